@@ -1,0 +1,3 @@
+pub mod Stamps
+pub mod Clocks
+pub mod Versions

@@ -1,0 +1,10 @@
+-- The order of stamps.
+use Rattle.std.specs.Prelude.{Bool, ◌&&◌, ◌||◌, ◌==◌, nat_lt}
+use Rattle.lamport_clock.specs.declared.stamp.Lamport.{Lamport}
+
+-- s is the greater: by value, then by replica
+unfoldable pub later : Lamport → Lamport → Bool
+later s t = nat_lt t.value s.value || (t.value == s.value && nat_lt t.replica s.replica)
+
+unfoldable pub same_stamp : Lamport → Lamport → Bool
+same_stamp s t = s.value == t.value && s.replica == t.replica

@@ -1,0 +1,48 @@
+-- A version: a finite map from replicas to values, 0 where absent, as the list of its entries.
+use Rattle.std.specs.Prelude.{◌≡◌, ℕ, suc, ◌<◌, ◌≤◌, ◌==◌, ◌&&◌, Bool, true, List, [], ◌∷◌, length, nat_lt, nat_le, if◌then◌else◌, slice_index_or}
+use Rattle.lamport_clock.specs.declared.stamp.Lamport.{Lamport}
+
+-- entries (replica, value)
+abbrev pub Entries : Type 0
+Entries = List (ℕ × ℕ)
+
+-- the replicas ascend from n on and are below 2^16, the values are above 0 and below 2^32
+abbrev pub IsVersionFrom : ℕ → Entries → Type 0
+IsVersionFrom n [] = Unit {0}
+IsVersionFrom n (e ∷ v) = (n ≤ e.0) × (e.0 < 65536) × (0 < e.1) × (e.1 < 4294967296) × IsVersionFrom (suc e.0) v
+
+abbrev pub IsVersion : Entries → Type 0
+IsVersion v = IsVersionFrom 0 v
+
+-- the value at replica r, 0 where it is absent
+abbrev pub entry : Entries → ℕ → ℕ
+entry [] r = 0
+entry (e ∷ v) r = if e.0 == r then e.1 else entry v r
+
+-- v sees the stamp t
+abbrev pub sees : Entries → Lamport → Bool
+sees v t = nat_le t.value (entry v t.replica)
+
+-- no entry of v passes that of u
+abbrev pub within : Entries → Entries → Bool
+within [] u = true
+within (e ∷ v) u = nat_le e.1 (entry u e.0) && within v u
+
+-- v with the value x at replica r
+abbrev pub put : ℕ → ℕ → Entries → Entries
+put r x [] = (r, x) ∷ []
+put r x (e ∷ v) = if nat_lt e.0 r then e ∷ put r x v else (if e.0 == r then (r, x) ∷ v else (r, x) ∷ e ∷ v)
+
+-- v with t seen too
+abbrev pub raise : Entries → Lamport → Entries
+raise v t = if sees v t then v else put t.replica t.value v
+
+-- ---- for private clauses
+
+-- the number of entries before replica r's place
+abbrev pub place_of : Entries → ℕ → ℕ
+place_of [] r = 0
+place_of (e ∷ v) r = if nat_lt e.0 r then suc (place_of v r) else 0
+
+abbrev pub IsAt : Entries → ℕ → ℕ → Type 0
+IsAt v i r = (i < length v) × ((slice_index_or v i (0, 0)).0 ≡ r)

@@ -1,0 +1,26 @@
+//! Lamport stamps, Lamport clocks, and versions.
+//!
+//! A stamp names an operation: the value of its author's clock, and the author's replica id. Stamps are totally
+//! ordered. (L. Lamport, "Time, Clocks, and the Ordering of Events in a Distributed System", CACM 21(7), 1978.)
+#![tactic(auto)]
+
+mod clock;
+mod stamp;
+mod version;
+
+pub use clock::{Clock, ClockEnd};
+pub use stamp::Lamport;
+pub use std::alloc::AllocError as OutOfMemory;
+pub use version::Version;
+
+fn sends<T: Send>(_value: &T) {}
+
+fn shares<T: Sync>(_value: &T) {}
+
+/// Clocks and versions may be sent to threads and be shared by them.
+pub fn crosses_threads(clock: &Clock, version: &Version) {
+    sends(clock);
+    shares(clock);
+    sends(version);
+    shares(version);
+}
