@@ -6,6 +6,8 @@
 
 mod clock;
 mod stamp;
+#[cfg(test)]
+mod tests;
 mod version;
 
 pub use clock::{Clock, ClockEnd};

@@ -1,5 +1,6 @@
 // Stamps.
-ghost use Rattle.std.specs.Prelude.{◌≡◌, ◌↔◌, IsTrue};
+ghost use Rattle.std.specs.Prelude.{Some};
+ghost use Rattle.lamport_clock.specs.Stamps.{stamp_text};
 
 use std::fmt;
 
@@ -11,6 +12,8 @@ pub struct Lamport {
 }
 
 impl fmt::Display for Lamport {
+    ghost output = { λ t. Some (stamp_text t) };
+
     fn fmt<W: fmt::Write>(&self, f: &mut fmt::Formatter<W>) -> fmt::Result {
         write!(f, "{}.{}", self.value, self.replica)
     }

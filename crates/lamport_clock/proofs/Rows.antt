@@ -1,0 +1,28 @@
+-- Worked rows of clocks and versions.
+use Rattle.std.proofs.Common.{◌≡◌, refl, [], ◌∷◌, true, false}
+use Rattle.lamport_clock.specs.Clocks.{observed}
+use Rattle.lamport_clock.specs.Versions.{Entries, entry, sees, within, raise}
+
+abbrev seen : Entries
+seen = (0, 1) ∷ (7, 9) ∷ []
+
+clocks : (observed 1 1 ≡ 2) × (observed 3 9 ≡ 10) × (observed 10 4294967294 ≡ 4294967295) × (observed 4294967295 1 ≡ 4294967295)
+clocks = (refl, refl, refl, refl)
+
+entries : (entry seen 7 ≡ 9) × (entry seen 3 ≡ 0)
+entries = (refl, refl)
+
+sight : (sees seen (record { value = 9; replica = 7 }) ≡ true) × (sees seen (record { value = 1; replica = 3 }) ≡ false)
+sight = (refl, refl)
+
+raised : raise seen (record { value = 4; replica = 3 }) ≡ (0, 1) ∷ (3, 4) ∷ (7, 9) ∷ []
+raised = refl
+
+raised_further : raise seen (record { value = 12; replica = 7 }) ≡ (0, 1) ∷ (7, 12) ∷ []
+raised_further = refl
+
+not_lowered : raise seen (record { value = 8; replica = 7 }) ≡ seen
+not_lowered = refl
+
+inside_one_another : (within ((7, 9) ∷ []) seen ≡ true) × (within seen ((7, 9) ∷ []) ≡ false)
+inside_one_another = (refl, refl)
