@@ -4,10 +4,22 @@
 #![tactic(auto)]
 
 mod faults;
+mod laws;
+mod limits;
 mod lists;
 mod operation;
 
 pub use faults::{EditFault, OpFault, UndoFault, Unit};
 pub use lamport_clock::OutOfMemory;
+pub use laws::{
+    anchors_stand_in_order, anchors_stand_where_made, boundaries_are_std, deleters_delete,
+    each_cell_once, edit_changes, edits_are_good, equal_operations_are_same, good_is_laid_in,
+    honest_sets_are_applied, left_neighbours, new_cells_shown, one_walk, parts_are_filtered,
+    replayed_by_stamps, right_anchors_are_known, runs_stay_lawful, same_sets_agree,
+    same_sets_answer_alike, set_is_applied_whole, set_is_never_refused, settling_ends,
+    settling_keeps_lawful, texts_are_shown_cells, texts_are_utf8, two_passes_are_enough,
+    undo_changes, undos_are_good,
+};
+pub use limits::Limits;
 pub use lists::{Counts, Pieces, Text};
 pub use operation::{EditOp, Operation, Piece, UndoCount, UndoOp};

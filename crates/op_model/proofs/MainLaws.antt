@@ -1,0 +1,131 @@
+-- The laws of histories, from the lemmas.
+use Rattle.std.proofs.Common.{List, ◌∙◌, true, ◌≡◌, ap, subst}
+use Rattle.op_model.specs.declared.operation.Operation.{Operation}
+use Rattle.op_model.specs.Histories.{History, newest_first}
+use Rattle.op_model.specs.Cells.{Place, everything, cells}
+use Rattle.op_model.specs.Shown.{byte, shown_where, shown, full_where, full}
+use Rattle.op_model.specs.Laws.{SameSetsAgree, PartsAreFiltered, GoodIsLaidIn, ReplayedByStamps, LeftNeighbours, EachCellOnce, DeletersDelete, EditChanges, NewCellsShown, UndoChanges, OneWalk, TextsAreUtf8, BoundariesAreStd, EqualOperationsAreSame, EditsAreGood, UndosAreGood, SettlingEnds, SettlingKeepsLawful, RunsStayLawful, TextsAreShownCells, SameSetsAnswerAlike, AnchorsStandWhereMade, AnchorsStandInOrder, RightAnchorsAreKnown, TwoPassesAreEnough, SetIsNeverRefused, SetIsAppliedWhole, HonestSetsAreApplied}
+use Rattle.op_model.proofs.SameSets.{newest_of_set, seq_seen}
+use Rattle.op_model.proofs.Parts.{shown_seen}
+use Rattle.op_model.proofs.Bytes.{text_seen, full_seen}
+use Rattle.op_model.proofs.Good.{lawful_same, lawful_ready, good_more}
+use Rattle.op_model.proofs.Replayed.{lawful_replay}
+use Rattle.op_model.proofs.Literal.{lawful_places, lawful_deleters}
+use Rattle.op_model.proofs.CellsOnce.{seq_ascends, once, all_cells}
+use Rattle.op_model.proofs.Counted.{lawful_counted}
+use Rattle.op_model.proofs.Changes.{edit_deleters, edit_shown, new_cells, undo_deleters, undo_shown}
+use Rattle.op_model.proofs.OnePass.{walk_seen}
+use Rattle.op_model.proofs.MoreLawful.{lawful_more}
+use Rattle.op_model.proofs.Proper.{utf8, edit_good, undo_good, same_is, is_same}
+use Rattle.op_model.proofs.WholeTexts.{boundary_of, of_boundary}
+use Rattle.op_model.specs.Answers.{same_op}
+use Rattle.op_model.specs.Steps.{opened}
+use Rattle.op_model.proofs.Settling.{settled_fixed, settled_misses, settled_lawful, run_holds, opened_holds}
+use Rattle.op_model.proofs.SameAnswers.{text_is, full_is, left_same, right_same, place_same, compare_same, known_same, since_same, text_at_same}
+use Rattle.std.specs.Prelude.{map}
+use Rattle.std.specs.List.{filter}
+use Rattle.op_model.proofs.AnchorPlaces.{left_place, right_place}
+use Rattle.op_model.proofs.AnchorOrder.{in_order}
+use Rattle.op_model.proofs.KnownAnchors.{right_known}
+use Rattle.op_model.proofs.TwoPasses.{two_passes}
+use Rattle.op_model.proofs.NeverRefused.{never_refused}
+use Rattle.op_model.proofs.AllApplied.{all_applied}
+use Rattle.op_model.proofs.HonestSets.{honest_whole}
+
+pub same_sets_agree : SameSetsAgree
+unfolding shown full
+same_sets_agree h g l m s =
+    let a = (lawful_ready h l).0 in
+    let b = (lawful_ready g m).0 in
+    let r = lawful_same h g l m s in
+    let n : newest_first h ≡ newest_first g = newest_of_set h g a.distinct b.distinct s in
+    (r.0, (λ c. ap (λ (x : History). shown_where everything x c) n), r.1, ap (full_where everything) n)
+
+pub parts_are_filtered : PartsAreFiltered
+parts_are_filtered h v = (seq_seen h v, (λ c. shown_seen h v c), text_seen h v, full_seen h v)
+
+pub good_is_laid_in : GoodIsLaidIn
+good_is_laid_in h op l e = (lawful_more h op l e, (good_more h op (lawful_ready h l) e).1)
+
+pub replayed_by_stamps : ReplayedByStamps
+replayed_by_stamps h l = lawful_replay h l
+
+pub left_neighbours : LeftNeighbours
+left_neighbours h l op i = lawful_places h l op i
+
+pub each_cell_once : EachCellOnce
+each_cell_once h l = let d = (lawful_ready h l).0.distinct in (seq_ascends h, once h d, all_cells h d)
+
+pub deleters_delete : DeletersDelete
+deleters_delete h l c = lawful_deleters h l c
+
+pub edit_changes : EditChanges
+edit_changes h op l g e c = let r = lawful_ready h l in let k = lawful_counted h l in (edit_deleters h op r k g e c, edit_shown h op r k g e c)
+
+pub new_cells_shown : NewCellsShown
+new_cells_shown h op l g e n = new_cells h op (lawful_ready h l) (lawful_counted h l) g e n
+
+pub undo_changes : UndoChanges
+undo_changes h op l g e c = let r = lawful_ready h l in let k = lawful_counted h l in (undo_deleters h op r k g e c, undo_shown h op r k g e c)
+
+pub one_walk : OneWalk
+one_walk h op rs l g e s t = walk_seen h op rs (lawful_ready h l) (lawful_counted h l) g e s t
+
+pub texts_are_utf8 : TextsAreUtf8
+texts_are_utf8 h l e = utf8 h l e
+
+pub boundaries_are_std : BoundariesAreStd
+boundaries_are_std bs i = (boundary_of bs i, of_boundary bs i)
+
+pub equal_operations_are_same : EqualOperationsAreSame
+equal_operations_are_same a b = (same_is a b, λ e. subst (λ (x : Operation). same_op a x ≡ true) e (is_same a))
+
+pub edits_are_good : EditsAreGood
+edits_are_good l h r ps w e i f = edit_good l h r ps w e i f
+
+pub undos_are_good : UndosAreGood
+undos_are_good l h r ts w e i f = undo_good l h r ts w e i f
+
+pub settling_ends : SettlingEnds
+settling_ends l h w = (settled_fixed l h w, settled_misses l h w)
+
+pub settling_keeps_lawful : SettlingKeepsLawful
+settling_keeps_lawful l h w p = settled_lawful l h w p
+
+pub runs_stay_lawful : RunsStayLawful
+runs_stay_lawful l r t cs i u p = (run_holds l r cs (opened t) i p (opened_holds t u)).0
+
+pub texts_are_shown_cells : TextsAreShownCells
+texts_are_shown_cells h l =
+    let d = (lawful_ready h l).0.distinct in
+    let r = lawful_replay h l in
+    (text_is h d, full_is h d, text_is h d ∙ ap (λ (s : List Place). map (byte h) (filter (shown h) (cells s))) r, full_is h d ∙ ap (λ (s : List Place). map (byte h) (cells s)) r)
+
+pub same_sets_answer_alike : SameSetsAnswerAlike
+same_sets_answer_alike h g l m s = (
+  (λ o. (left_same h g l m s o, right_same h g l m s o)),
+  (λ a. (known_same h g l m s a, place_same h g l m s a)),
+  (λ a b. compare_same h g l m s a b),
+  (λ v. (since_same h g l m s v, text_at_same h g l m s v)),
+)
+
+pub anchors_stand_where_made : AnchorsStandWhereMade
+anchors_stand_where_made h l o a = let d = (lawful_ready h l).0.distinct in ((λ e. left_place h d o a e), (λ e. right_place h d o a e))
+
+pub anchors_stand_in_order : AnchorsStandInOrder
+anchors_stand_in_order h a b = in_order h a b
+
+pub right_anchors_are_known : RightAnchorsAreKnown
+right_anchors_are_known h l o a b e = right_known h (lawful_ready h l).0.distinct o a b e
+
+pub two_passes_are_enough : TwoPassesAreEnough
+two_passes_are_enough l h w u = two_passes l h w u
+
+pub set_is_never_refused : SetIsNeverRefused
+set_is_never_refused g h w op lg lh part pw i = never_refused g h w op lg lh part pw i
+
+pub set_is_applied_whole : SetIsAppliedWhole
+set_is_applied_whole g h w l f m o i = all_applied g h w l f m o i
+
+pub honest_sets_are_applied : HonestSetsAreApplied
+honest_sets_are_applied l r t cs ops ir u p ho b bytes entries inside all = honest_whole l r t cs ops ir u p ho b bytes entries inside all

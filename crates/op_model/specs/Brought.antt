@@ -1,0 +1,20 @@
+-- What a list of calls of a buffer makes and takes.
+use Rattle.std.specs.Prelude.{ℕ, if◌then◌else◌, List, [], ◌∷◌, ◌++◌, Option, Some, None, is_some, option_to_list}
+use Rattle.op_model.specs.declared.operation.Operation.{Operation}
+use Rattle.op_model.specs.declared.limits.Limits.{Limits as LimitsType}
+use Rattle.op_model.specs.Made.{made, made_undo, local_edit_fault, local_undo_fault}
+use Rattle.op_model.specs.Settled.{State}
+use Rattle.op_model.specs.Steps.{Step, step}
+use Rattle.op_model.specs.Steps.Step.{Edits, Undoes, Takes, Settles}
+
+-- the operation that a call of replica r makes or takes at s, if it makes or takes one
+abbrev pub brought : LimitsType → ℕ → Step → State → Option Operation
+brought l r (Edits ps) s = if is_some (local_edit_fault l s.history ps) then None else Some (made s.history r ps)
+brought l r (Undoes ts) s = if is_some (local_undo_fault l s.history ts) then None else Some (made_undo s.history r ts)
+brought l r (Takes op) s = Some op
+brought l r Settles s = None
+
+-- all that a list of calls makes and takes
+abbrev pub all_brought : LimitsType → ℕ → List Step → State → List Operation
+all_brought l r [] s = []
+all_brought l r (c ∷ cs) s = option_to_list (brought l r c s) ++ all_brought l r cs (step l r c s)

@@ -1,0 +1,177 @@
+-- The laws of histories, which `src/laws.rt` shows.
+use Rattle.std.specs.Prelude.{◌⊎◌, None, Some, IsUtf8, IsCharBoundary, ◌≡◌, ◌↔◌, ℕ, ◌<◌, ◌≤◌, true, false, if◌then◌else◌, List, [], ◌∷◌, ◌++◌, map}
+use Rattle.std.specs.List.{filter}
+use Rattle.std.specs.declared.cmp.Ordering.TheVariants.{Less, Equal}
+use Rattle.lamport_clock.specs.Versions.{Entries, sees, within}
+use Rattle.op_model.specs.declared.operation.Operation.{Operation}
+use Rattle.op_model.specs.Sorted.{Each, EachPair, Member, Ascending}
+use Rattle.op_model.specs.Operations.{stamp_of, version_of, pieces_of, is_edit}
+use Rattle.op_model.specs.Histories.{base, History, In, SameSet, seen, newest_first, version, bytes_held, entries_held}
+use Rattle.op_model.specs.Cells.{Cell, Place, before, op_places, seq_where, seq, cells}
+use Rattle.op_model.specs.Laid.{lay, replayed}
+use Rattle.op_model.specs.Shown.{byte, IsCell, shown_where, shown, deleters, deletes, text_where, text, full_where, full}
+use Rattle.op_model.specs.Answers.Answer.{Good, Repeat, Waits}
+use Rattle.op_model.specs.Lawful.{Lawful, Honest}
+use Rattle.op_model.specs.Facts.{told, edit_marking, with_deletion, seen_by}
+use Rattle.op_model.specs.Walked.{Run, facts_of, walk}
+use Rattle.op_model.specs.Domains.{IsProper, IsReplica}
+use Rattle.op_model.specs.Edits.{is_boundary, replaced}
+use Rattle.op_model.specs.Answers.{answer, same_op}
+use Rattle.op_model.specs.declared.limits.Limits.{Limits as LimitsType}
+use Rattle.op_model.specs.declared.operation.Piece.{Piece}
+use Rattle.op_model.specs.Made.{made, made_undo, local_edit_fault, local_undo_fault}
+use Rattle.lamport_clock.specs.declared.stamp.Lamport.{Lamport}
+use Rattle.op_model.specs.Settled.{pass, passes, settled}
+use Rattle.op_model.specs.Steps.{older, Step, opened, run, settle_step, IsProperStep}
+use Rattle.op_model.specs.Anchors.{Anchor, left_anchor, right_anchor, place, compare_anchors, is_known}
+use Rattle.op_model.specs.Since.{since, text_at}
+use Rattle.op_model.specs.Brought.{all_brought}
+
+-- two lawful histories of the same operations, in whatever order, have the same sequence and show the same
+abbrev pub SameSetsAgree : Type 0
+SameSetsAgree = (h g : History) → Lawful h → Lawful g → SameSet h g
+    → (seq h ≡ seq g) × ((c : Cell) → shown h c ≡ shown g c) × (text h ≡ text g) × (full h ≡ full g)
+
+-- the definitions by a test of stamps are those of the filtered history
+abbrev pub PartsAreFiltered : Type 0
+PartsAreFiltered = (h : History) → (v : Entries) → (seq (seen h v) ≡ seq_where (sees v) (newest_first h))
+    × ((c : Cell) → shown (seen h v) c ≡ shown_where (sees v) (newest_first h) c)
+    × (text (seen h v) ≡ text_where (sees v) (newest_first h)) × (full (seen h v) ≡ full_where (sees v) (newest_first h))
+
+-- with a good operation at its end a history stays lawful, and its sequence is the old one with each text laid in after its
+-- left neighbour, past the cells there whose stamps are later
+abbrev pub GoodIsLaidIn : Type 0
+GoodIsLaidIn = (h : History) → (op : Operation) → Lawful h → answer h [] op ≡ Good
+    → Lawful (h ++ op ∷ []) × (seq (h ++ op ∷ []) ≡ lay (sees (version_of op)) (stamp_of op) 0 (pieces_of op) (seq h))
+
+-- a lawful history's sequence is its operations gone through by stamps, each text put directly after its left neighbour
+abbrev pub ReplayedByStamps : Type 0
+ReplayedByStamps = (h : History) → Lawful h → seq h ≡ replayed h
+
+-- the cells of an operation stand where the sequence of what its version sees puts them: a piece's first cell under the cell at
+-- start - 1 of that sequence, each other one under the cell before it
+abbrev pub LeftNeighbours : Type 0
+LeftNeighbours = (h : History) → Lawful h → (op : Operation) → In h op
+    → Each (λ (p : Place). Member p (seq h)) (op_places (seq (seen h (version_of op))) op)
+
+-- a sequence has each cell of its history once, in path order
+abbrev pub EachCellOnce : Type 0
+EachCellOnce = (h : History) → Lawful h
+    → Ascending before (seq h) × EachPair (λ (a b : Cell). a ≡ b → ⊥) (cells (seq h)) × ((c : Cell) → Member c (cells (seq h)) ↔ IsCell h c)
+
+-- an edit deletes exactly the cells at its ranges of the sequence of what its version sees that are shown there
+abbrev pub DeletersDelete : Type 0
+DeletersDelete = (h : History) → Lawful h → (c : Cell) → deleters h c ≡ map stamp_of (filter (λ op. deletes h op c) (newest_first h))
+
+-- an edit deletes, besides what was deleted, the cells at its ranges that were shown to its author; they are shown no longer
+abbrev pub EditChanges : Type 0
+EditChanges = (h : History) → (op : Operation) → Lawful h → answer h [] op ≡ Good → is_edit op ≡ true → (c : Cell)
+    → (deleters (h ++ op ∷ []) c ≡ (if deletes h op c then with_deletion (stamp_of op) (deleters h c) else deleters h c))
+    × (shown (h ++ op ∷ []) c ≡ (if deletes h op c then false else shown h c))
+
+-- no edit deletes a cell of a new edit, and it is shown
+abbrev pub NewCellsShown : Type 0
+NewCellsShown = (h : History) → (op : Operation) → Lawful h → answer h [] op ≡ Good → is_edit op ≡ true → (n : ℕ)
+    → (deleters (h ++ op ∷ []) (record { stamp = stamp_of op; k = n }) ≡ [])
+    × (shown (h ++ op ∷ []) (record { stamp = stamp_of op; k = n }) ≡ true)
+
+-- an undo deletes nothing; it shows and hides cells by the new counts of their edit and of those that delete them
+abbrev pub UndoChanges : Type 0
+UndoChanges = (h : History) → (op : Operation) → Lawful h → answer h [] op ≡ Good → is_edit op ≡ false → (c : Cell)
+    → (deleters (h ++ op ∷ []) c ≡ deleters h c) × (shown (h ++ op ∷ []) c ≡ seen_by (h ++ op ∷ []) c.stamp (deleters h c))
+
+-- one walk over runs of cells, from the first piece of a good edit to the last, makes runs that tell of the history with it
+-- from runs that tell of the history: a run is passed whole where it is later, and split at most at the ends of ranges
+abbrev pub OneWalk : Type 0
+OneWalk = (h : History) → (op : Operation) → (rs : List Run) → Lawful h → answer h [] op ≡ Good → is_edit op ≡ true
+    → Each (λ (r : Run). 0 < r.len) rs → facts_of rs ≡ told h
+    → facts_of (walk (edit_marking (stamp_of op) (seen h (version_of op)) (version_of op)) (sees (version_of op)) (stamp_of op) 0 0 (pieces_of op) rs)
+    ≡ told (h ++ op ∷ [])
+
+-- the text and the full text of a lawful history whose texts are UTF-8 are UTF-8
+abbrev pub TextsAreUtf8 : Type 0
+TextsAreUtf8 = (h : History) → Lawful h → Each IsProper h → IsUtf8 (text h) × IsUtf8 (full h)
+
+-- the test of a character boundary is std's definition of one
+abbrev pub BoundariesAreStd : Type 0
+BoundariesAreStd = (bs : List ℕ) → (i : ℕ) → (is_boundary bs i ≡ true) ↔ IsCharBoundary bs i
+
+-- the test of equality means equality
+abbrev pub EqualOperationsAreSame : Type 0
+EqualOperationsAreSame = (a b : Operation) → (same_op a b ≡ true) ↔ (a ≡ b)
+
+-- a local edit that meets no fault makes an operation that is good, and the new text is the old one with each range replaced
+abbrev pub EditsAreGood : Type 0
+EditsAreGood = (l : LimitsType) → (h : History) → (r : ℕ) → (ps : List Piece) → Lawful h → Each IsProper h → IsReplica r → local_edit_fault l h ps ≡ None
+    → (answer h [] (made h r ps) ≡ Good) × (text (h ++ made h r ps ∷ []) ≡ replaced ps (text h))
+
+-- a local undo that meets no fault makes an operation that is good
+abbrev pub UndosAreGood : Type 0
+UndosAreGood = (l : LimitsType) → (h : History) → (r : ℕ) → (ts : List Lamport) → Lawful h → Each IsProper h → IsReplica r → local_undo_fault l h ts ≡ None
+    → answer h [] (made_undo h r ts) ≡ Good
+
+-- after settling a further pass changes nothing, and each operation that waits misses a cause
+abbrev pub SettlingEnds : Type 0
+SettlingEnds = (l : LimitsType) → (h : History) → (w : List Operation)
+    → (pass l (settled l h w).history (settled l h w).waiting ≡ record { history = (settled l h w).history; waiting = (settled l h w).waiting; refused = [] })
+    × Each (λ (op : Operation). within (version_of op) (version (settled l h w).history) ≡ false) (settled l h w).waiting
+
+-- settling keeps a history lawful
+abbrev pub SettlingKeepsLawful : Type 0
+SettlingKeepsLawful = (l : LimitsType) → (h : History) → (w : List Operation) → Lawful h → Lawful (settled l h w).history
+
+-- after every list of calls of a buffer, its history is lawful
+abbrev pub RunsStayLawful : Type 0
+RunsStayLawful = (l : LimitsType) → (r : ℕ) → (t : List ℕ) → (cs : List Step) → IsReplica r → IsUtf8 t → Each IsProperStep cs → Lawful (run l r cs (opened t)).history
+
+-- the text is the bytes of the shown cells in order, the full text those of all; and both by the operations gone through by stamps
+abbrev pub TextsAreShownCells : Type 0
+TextsAreShownCells = (h : History) → Lawful h → (text h ≡ map (byte h) (filter (shown h) (cells (seq h)))) × (full h ≡ map (byte h) (cells (seq h)))
+    × (text h ≡ map (byte h) (filter (shown h) (cells (replayed h)))) × (full h ≡ map (byte h) (cells (replayed h)))
+
+-- two lawful histories of the same operations make and resolve anchors alike, order them alike, and tell the same edits since
+-- a version and the same text at it
+abbrev pub SameSetsAnswerAlike : Type 0
+SameSetsAnswerAlike = (h g : History) → Lawful h → Lawful g → SameSet h g
+    → ((o : ℕ) → (left_anchor h o ≡ left_anchor g o) × (right_anchor h o ≡ right_anchor g o))
+    × ((a : Anchor) → (is_known h a ≡ is_known g a) × (place h a ≡ place g a))
+    × ((a b : Anchor) → compare_anchors h a b ≡ compare_anchors g a b)
+    × ((v : Entries) → (since h v ≡ since g v) × (text_at h v ≡ text_at g v))
+
+-- an anchor that is made at a place of the text stands there
+abbrev pub AnchorsStandWhereMade : Type 0
+AnchorsStandWhereMade = (h : History) → Lawful h → (o : ℕ) → (a : Anchor)
+    → (left_anchor h o ≡ Some a → place h a ≡ o) × (right_anchor h o ≡ Some a → place h a ≡ o)
+
+-- a right anchor that is made at a boundary of the text is known
+abbrev pub RightAnchorsAreKnown : Type 0
+RightAnchorsAreKnown = (h : History) → Lawful h → (o : ℕ) → (a : Anchor) → is_boundary (text h) o ≡ true → right_anchor h o ≡ Some a → is_known h a ≡ true
+
+-- of two anchors the lesser never stands after the greater, and equal ones stand at one place
+abbrev pub AnchorsStandInOrder : Type 0
+AnchorsStandInOrder = (h : History) → (a b : Anchor) → (compare_anchors h a b ≡ Less → place h a ≤ place h b) × (compare_anchors h a b ≡ Equal → place h a ≡ place h b)
+
+-- over what waits by stamps two passes are enough: causes have smaller stamps, so the second pass applies nothing
+abbrev pub TwoPassesAreEnough : Type 0
+TwoPassesAreEnough = (l : LimitsType) → (h : History) → (w : List Operation) → Ascending older w → settled l h w ≡ passes 2 l h w
+
+-- an operation of a lawful set, but its base, is refused by no history of operations of the set, whatever of it waits: it is a
+-- repeat, it waits, or it is good
+abbrev pub SetIsNeverRefused : Type 0
+SetIsNeverRefused = (g h : History) → (w : List Operation) → (op : Operation) → Lawful g → Lawful h → ((o : Operation) → In h o → In g o) → ((o : Operation) → In w o → In g o) → In g op
+    → ((t : List ℕ) × (op ≡ base t)) ⊎ ((answer h w op ≡ Repeat) ⊎ (((e : ℕ × ℕ) × (answer h w op ≡ Waits e.0 e.1)) ⊎ (answer h w op ≡ Good)))
+
+-- where each operation of a lawful set is applied or waits, and each that waits misses a cause, as after settling, all are applied
+abbrev pub SetIsAppliedWhole : Type 0
+SetIsAppliedWhole = (g h : History) → (w : List Operation) → Lawful g → ((o : Operation) → In g o → In h o ⊎ In w o)
+    → Each (λ (op : Operation). within (version_of op) (version h) ≡ false) w → (o : Operation) → In g o → In h o
+
+-- an honest set of which each member was made or taken by the calls of a buffer, in any order and with any repeats, and besides
+-- which they made and took nothing, is applied whole after a last settling, where the limits hold all of it; the base counts as
+-- made
+abbrev pub HonestSetsAreApplied : Type 0
+HonestSetsAreApplied = (l : LimitsType) → (r : ℕ) → (t : List ℕ) → (cs : List Step) → (ops : List Operation) → IsReplica r → IsUtf8 t → Each IsProperStep cs
+    → Honest ops → In ops (base t) → bytes_held ops ≤ l.bytes → entries_held ops ≤ l.entries
+    → ((o : Operation) → Member o (all_brought l r cs (opened t)) → In ops o)
+    → ((o : Operation) → In ops o → (o ≡ base t) ⊎ Member o (all_brought l r cs (opened t)))
+    → SameSet (settle_step l (run l r cs (opened t))).history ops

@@ -1,0 +1,101 @@
+-- What the calls of a buffer make of what it holds.
+use Rattle.std.specs.Prelude.{⊤, IsUtf8, ℕ, ◌-◌, Bool, if◌then◌else◌, List, [], ◌∷◌, ◌++◌, length, Option, Some, None, is_some}
+use Rattle.lamport_clock.specs.declared.stamp.Lamport.{Lamport}
+use Rattle.lamport_clock.specs.Stamps.{later}
+use Rattle.op_model.specs.declared.operation.Piece.{Piece}
+use Rattle.op_model.specs.declared.operation.Operation.{Operation}
+use Rattle.op_model.specs.declared.limits.Limits.{Limits as LimitsType}
+use Rattle.op_model.specs.declared.faults.OpFault.{OpFault}
+use Rattle.op_model.specs.Sorted.{insert_by, Each}
+use Rattle.op_model.specs.Domains.{IsProper}
+use Rattle.op_model.specs.Operations.{stamp_of}
+use Rattle.op_model.specs.Histories.{base}
+use Rattle.op_model.specs.Limited.{Excess, excess}
+use Rattle.op_model.specs.Made.{made, made_undo, local_edit_fault, local_undo_fault}
+use Rattle.op_model.specs.Answers.{Answer, answer}
+use Rattle.op_model.specs.Answers.Answer.{Good, Repeat, Waits, Refused}
+use Rattle.op_model.specs.Settled.{State, settled, full_fault}
+
+-- the limit that a base passes: its bytes, with nothing held
+abbrev pub base_excess : LimitsType → List ℕ → Option Excess
+base_excess l t = excess l [] (length t) 0
+
+-- a new buffer over a base
+abbrev pub opened : List ℕ → State
+opened t = record { history = base t ∷ []; waiting = []; refused = [] }
+
+abbrev pub with_applied : Operation → State → State
+with_applied op s = record { history = s.history ++ op ∷ []; waiting = s.waiting; refused = s.refused }
+
+-- replica r edits: the edit that it makes is applied, unless it meets a fault
+abbrev pub edit_step : LimitsType → ℕ → List Piece → State → State
+edit_step l r ps s = if is_some (local_edit_fault l s.history ps) then s else with_applied (made s.history r ps) s
+
+-- replica r undoes
+abbrev pub undo_step : LimitsType → ℕ → List Lamport → State → State
+undo_step l r ts s = if is_some (local_undo_fault l s.history ts) then s else with_applied (made_undo s.history r ts) s
+
+-- what waits may be applied, refused or dropped
+abbrev pub settle_step : LimitsType → State → State
+settle_step l s = let n : State = settled l s.history s.waiting in
+    record { history = n.history; waiting = n.waiting; refused = s.refused ++ n.refused }
+
+abbrev pub or_full : Option OpFault → Answer
+or_full None = Good
+or_full (Some f) = Refused f
+
+-- the limits are asked where nothing else stands against it
+abbrev pub limited : Answer → Option OpFault → Answer
+limited Good full = or_full full
+limited Repeat full = Repeat
+limited (Waits r v) full = Waits r v
+limited (Refused f) full = Refused f
+
+-- the answer to a taken operation
+abbrev pub take_answer : LimitsType → State → Operation → Answer
+take_answer l s op = limited (answer s.history s.waiting op) (full_fault l s.history op)
+
+abbrev pub older : Operation → Operation → Bool
+older a b = later (stamp_of b) (stamp_of a)
+
+-- op joins what waits, by stamps
+abbrev pub with_deferred : Operation → State → State
+with_deferred op s = record { history = s.history; waiting = insert_by older op s.waiting; refused = s.refused }
+
+-- an operation is taken: applied, whereupon the buffer settles; kept waiting; or nothing changes
+abbrev pub take_step : LimitsType → Operation → State → State
+take_step l op s = elim (take_answer l s op) [
+  | Good ↦ settle_step l (with_applied op s)
+  | Repeat ↦ s
+  | Waits r v ↦ with_deferred op s
+  | Refused f ↦ s
+]
+
+-- how many operations were applied between two states
+abbrev pub growth : State → State → ℕ
+growth s n = length n.history - length s.history
+
+-- a call of the buffer
+pub data Step : Type 0 where
+  Edits : List Piece → Step
+  Undoes : List Lamport → Step
+  Takes : Operation → Step
+  Settles : Step
+
+abbrev pub step : LimitsType → ℕ → Step → State → State
+step l r (Edits ps) s = edit_step l r ps s
+step l r (Undoes ts) s = undo_step l r ts s
+step l r (Takes op) s = take_step l op s
+step l r Settles s = settle_step l s
+
+-- a list of calls of the buffer of replica r, 1 to 1023, one after the other
+abbrev pub run : LimitsType → ℕ → List Step → State → State
+run l r [] s = s
+run l r (c ∷ cs) s = run l r cs (step l r c s)
+
+-- the operation or texts that are handed to a call are proper
+abbrev pub IsProperStep : Step → Type 0
+IsProperStep (Edits ps) = Each (λ (p : Piece). IsUtf8 p.text) ps
+IsProperStep (Undoes ts) = ⊤
+IsProperStep (Takes op) = IsProper op
+IsProperStep Settles = ⊤
