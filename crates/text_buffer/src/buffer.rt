@@ -1,0 +1,221 @@
+// The buffer of one replica.
+ghost use Rattle.std.specs.Prelude.{◌≡◌, ◌≤◌, ◌^◌, ◌-◌, ◌+◌, ◌⊎◌, ◌++◌, ◌∷◌, [], length, IfOk, IfErr, OnErr, OnOk, None, Some, option_map, string_bytes};
+ghost use Rattle.op_model.specs.Histories.{base, clock, version};
+ghost use Rattle.op_model.specs.Limited.{excess};
+ghost use Rattle.op_model.specs.Edits.{replaced};
+ghost use Rattle.text_buffer.specs.Buffer.{BufferState, IsBuffer, edit_fault, edited, made, new_fault, over_base, plain_text};
+
+use crate::NewFault;
+use crate::pieces::{copied, piece_fault, replaced, text_total};
+use lamport_clock::{Clock, Lamport, Version};
+use op_model::{EditFault, EditOp, Limits, Operation, Piece, Pieces, Text, Unit};
+use std::alloc::{AllocError, Global};
+use std::marker::Model;
+
+/// A replica's text, and the operations that made it. Contracts see the operations in the order in which they were
+/// applied, the base first, with the replica's id and the limits; all else is a function of these.
+#[derive(Drop)]
+pub struct Buffer {
+    alloc: Global,
+    replica: u16,
+    clock: Clock,
+    version: Version,
+    operations: Vec<Operation>,
+    text: String,
+    bytes: u64,
+    entries: u64,
+    limits: Limits,
+}
+
+impl Model for Buffer {
+    ghost use Rattle.text_buffer.specs.Buffer.{BufferState};
+
+    ghost Value = { BufferState };
+
+    ghost use Rattle.text_buffer.specs.Fields.{state_of, AreKept};
+
+    ghost view = { state_of };
+
+    ghost invariant = { AreKept };
+}
+
+impl Buffer {
+    /// The buffer of a replica, 1 to 1023, over a base text, with limits of at most 2^40 bytes and 2^40 - 1 entries.
+    /// Linear in the base.
+    ///
+    /// # Errors
+    ///
+    /// `Full` exactly where the base has more bytes than the limit, with 0 held. `OutOfMemory` only where it has not.
+    pub fn new(alloc: Global, replica: u16, base: &str, limits: Limits) -> Result<Buffer, NewFault>
+        requires least { 1 ≤ replica }
+        requires greatest { replica ≤ 1023 }
+        requires bytes { limits.bytes ≤ 2 ^ 40 }
+        requires entries { limits.entries ≤ 2 ^ 40 - 1 }
+        ensures ok { OnOk result (new_fault limits base.now ≡ None) }
+        ensures new { IfOk result (λ b. b ≡ over_base replica base.now limits) }
+        ensures fault { IfErr result (λ e. (new_fault limits base.now ≡ Some e) ⊎ ((new_fault limits base.now ≡ None) × (e ≡ NewFault.OutOfMemory))) }
+    {
+        let len = base.len() as u64;
+        if limits.bytes < len {
+            return Err(NewFault::Full {
+                unit: Unit::Bytes,
+                held: 0,
+                adds: len,
+            });
+        }
+        let stamp = Lamport {
+            value: 1,
+            replica: 0,
+        };
+        let mut version = Version::new(alloc);
+        let mut clock = Clock::new(replica);
+        version.observe(stamp)?;
+        clock.observe(stamp);
+        let mut operations = Vec::new(alloc);
+        operations.push(base_operation(alloc, base)?)?;
+        Ok(Buffer {
+            alloc,
+            replica,
+            clock,
+            version,
+            operations,
+            text: String::from_str(alloc, base)?,
+            bytes: len,
+            entries: 0,
+            limits,
+        })
+    }
+
+    /// The text, copied. Linear in its length. What is true of every buffer, `IsBuffer`, is a clause for callers.
+    pub fn text(&self) -> Result<String, AllocError>
+        ensures text { IfOk result (λ s. string_bytes s ≡ plain_text self.now.history) }
+        ensures buffer { IsBuffer self.now }
+    {
+        self.text.clone()
+    }
+
+    /// The greatest stamp value applied of each replica, the base's among them.
+    pub fn version(&self) -> &Version
+        ensures version { result.now ≡ version self.now.history }
+        ensures buffer { IsBuffer self.now }
+    {
+        &self.version
+    }
+
+    /// Replaces ranges of the text, given in bytes and in order: each starts at or past the end of the one before it.
+    /// Gives the operation, with the pieces as they were given, and keeps an equal one. Linear in the text and in the
+    /// number of pieces.
+    ///
+    /// # Errors
+    ///
+    /// Of the faults that the pieces meet the first in the order of `EditFault`, each for the first piece that meets it:
+    /// `Reversed`, `Overlap` (with the piece before it), `PastEnd`, `InsideChar`; then `TextLimit` where the new texts
+    /// have more than 65,536 bytes, `ClockEnd`, and `Full` where bytes, then entries, pass their limit. `OutOfMemory` only
+    /// where there is none of these. The buffer is then as before.
+    pub fn edit(&mut self, changes: &[Piece]) -> Result<Operation, EditFault>
+        ensures ok { OnOk result (edit_fault self.old changes.now ≡ None) }
+        ensures made { IfOk result (λ op. op ≡ made self.old changes.now) }
+        ensures new { OnOk result (self.new ≡ edited self.old changes.now) }
+        ensures history { IfOk result (λ op. self.new.history ≡ self.old.history ++ op ∷ []) }
+        ensures text { OnOk result (plain_text self.new.history ≡ replaced changes.now (plain_text self.old.history)) }
+        ensures fault { IfErr result (λ e. (edit_fault self.old changes.now ≡ Some e) ⊎ ((edit_fault self.old changes.now ≡ None) × (e ≡ EditFault.OutOfMemory))) }
+        ensures err { OnErr result (self.new ≡ self.old) }
+    {
+        if let Some(fault) = self.fault(changes) {
+            return Err(fault);
+        }
+        let stamp = self.next_stamp();
+        let text = replaced(self.alloc, self.text.as_str(), changes)?;
+        let made = self.operation(changes)?;
+        let kept = self.operation(changes)?;
+        let mut version = self.version.copy(self.alloc)?;
+        version.observe(stamp)?;
+        self.operations.push(kept)?;
+        self.clock.observe(stamp);
+        self.version = version;
+        self.text = text;
+        self.bytes += text_total(changes) as u64;
+        self.entries += 1 + changes.len() as u64;
+        Ok(made)
+    }
+
+    // The fault that the pieces meet, if there is memory.
+    fn fault(&self, changes: &[Piece]) -> Option<EditFault>
+        ensures { result ≡ edit_fault self.now changes.now }
+    {
+        if let Some(fault) = piece_fault(self.text.as_str(), changes) {
+            return Some(fault);
+        }
+        let total = text_total(changes);
+        if total > 65_536 {
+            return Some(EditFault::TextLimit(total));
+        }
+        if self.clock.value() == u32::MAX {
+            return Some(EditFault::ClockEnd);
+        }
+        self.excess(total as u64, 1 + changes.len() as u64)
+    }
+
+    // The limit that so many bytes and entries more pass.
+    fn excess(&self, bytes: u64, entries: u64) -> Option<EditFault>
+        ensures { result ≡ option_map (λ e. EditFault.Full e.unit e.held e.adds) (excess self.now.limits self.now.history bytes entries) }
+    {
+        if self.limits.bytes - self.bytes < bytes {
+            return Some(EditFault::Full {
+                unit: Unit::Bytes,
+                held: self.bytes,
+                adds: bytes,
+            });
+        }
+        if self.limits.entries - self.entries < entries {
+            return Some(EditFault::Full {
+                unit: Unit::Entries,
+                held: self.entries,
+                adds: entries,
+            });
+        }
+        None
+    }
+
+    // The stamp of the next edit.
+    fn next_stamp(&self) -> Lamport
+        ensures { result ≡ record { value = clock self.now.history; replica = self.now.replica } }
+    {
+        Lamport {
+            value: self.clock.value(),
+            replica: self.replica,
+        }
+    }
+
+    // The operation of an edit.
+    fn operation(&self, changes: &[Piece]) -> Result<Operation, EditFault>
+        ensures made { IfOk result (λ op. op ≡ made self.now changes.now) }
+        ensures err { IfErr result (λ e. e ≡ EditFault.OutOfMemory) }
+    {
+        Ok(Operation::Edit(EditOp {
+            stamp: self.next_stamp(),
+            version: self.version.copy(self.alloc)?,
+            pieces: copied(self.alloc, changes)?,
+        }))
+    }
+}
+
+// The base as an operation.
+fn base_operation(alloc: Global, text: &str) -> Result<Operation, AllocError>
+    ensures { IfOk result (λ op. op ≡ base text.now) }
+{
+    let mut pieces = Vec::new(alloc);
+    pieces.push(Piece {
+        start: 0,
+        end: 0,
+        text: Text::new(String::from_str(alloc, text)?),
+    })?;
+    Ok(Operation::Edit(EditOp {
+        stamp: Lamport {
+            value: 1,
+            replica: 0,
+        },
+        version: Version::new(alloc),
+        pieces: Pieces::new(pieces),
+    }))
+}

@@ -1,0 +1,33 @@
+// Why a buffer is not made.
+ghost use Rattle.std.specs.Prelude.{◌≡◌};
+ghost use Rattle.text_buffer.specs.declared.faults.NewFault.{NewFault};
+
+use op_model::Unit;
+use std::alloc::{AllocError, AllocFailed};
+use thiserror::Error;
+
+/// Why a buffer is not made over a base.
+#[derive(Clone, Copy, Debug, PartialEq, Eq, Error)]
+pub enum NewFault {
+    /// The base passes the limit of bytes.
+    #[error("full: {held} {unit} are held, and {adds} more pass the limit")]
+    Full { unit: Unit, held: u64, adds: u64 },
+    #[error("out of memory")]
+    OutOfMemory,
+}
+
+impl From<AllocError> for NewFault {
+    ghost from_gives = { λ _ e. e ≡ NewFault.OutOfMemory };
+
+    fn from(_: AllocError) -> Self {
+        NewFault::OutOfMemory
+    }
+}
+
+impl<T: Drop> From<AllocFailed<T>> for NewFault {
+    ghost from_gives = { λ _ e. e ≡ NewFault.OutOfMemory };
+
+    fn from(_: AllocFailed<T>) -> Self {
+        NewFault::OutOfMemory
+    }
+}

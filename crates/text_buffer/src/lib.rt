@@ -1,0 +1,22 @@
+//! The buffer of one replica: a text, and the operations that made it.
+#![tactic(auto)]
+
+mod buffer;
+mod faults;
+mod pieces;
+#[cfg(test)]
+mod tests;
+
+pub use buffer::Buffer;
+pub use faults::NewFault;
+pub use op_model::{EditFault, Limits, OutOfMemory, Unit};
+
+fn sends<T: Send>(_value: &T) {}
+
+fn shares<T: Sync>(_value: &T) {}
+
+/// Buffers may be sent to threads and be shared by them.
+pub fn crosses_threads(buffer: &Buffer) {
+    sends(buffer);
+    shares(buffer);
+}

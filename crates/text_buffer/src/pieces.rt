@@ -1,0 +1,107 @@
+// Pieces against a text: their faults, their lengths and the text that they make.
+ghost use Rattle.std.specs.Prelude.{◌≡◌, ◌<◌, length, IfOk, string_bytes};
+ghost use Rattle.std.specs.List.{position};
+ghost use Rattle.op_model.specs.Operations.{text_total};
+ghost use Rattle.op_model.specs.Edits.{is_boundary, is_reversed, is_past, is_inside, overlap_from, piece_fault, replaced};
+ghost use Rattle.text_buffer.specs.Fit.{AreFit};
+
+use op_model::{EditFault, Piece, Pieces, Text};
+use std::alloc::{AllocError, Global};
+
+fn is_boundary(text: &str, i: u64) -> bool
+    ensures { result ≡ is_boundary text.now i }
+{
+    text.is_char_boundary(i as usize)
+}
+
+fn reversed(pieces: &[Piece]) -> Option<usize>
+    ensures { result ≡ position is_reversed pieces.now }
+{
+    pieces.iter().position(|p| p.end < p.start)
+}
+
+fn past_end(text: &str, pieces: &[Piece]) -> Option<usize>
+    ensures { result ≡ position (is_past (length text.now)) pieces.now }
+{
+    pieces.iter().position(|p| text.len() < p.end as usize)
+}
+
+fn inside_char(text: &str, pieces: &[Piece]) -> Option<usize>
+    ensures { result ≡ position (is_inside text.now) pieces.now }
+{
+    pieces.iter().position(|p| !(is_boundary(text, p.start) && is_boundary(text, p.end)))
+}
+
+fn overlap(pieces: &[Piece]) -> Option<usize>
+    ensures { result ≡ overlap_from 0 0 pieces.now }
+{
+    let mut at = 0;
+    for (i, p) in pieces.iter().enumerate() {
+        if p.start < at {
+            return Some(i);
+        }
+        at = p.end;
+    }
+    None
+}
+
+/// The first fault of the pieces against the text.
+pub fn piece_fault(text: &str, pieces: &[Piece]) -> Option<EditFault>
+    ensures { result ≡ piece_fault text.now pieces.now }
+{
+    if let Some(i) = reversed(pieces) {
+        return Some(EditFault::Reversed(i as u64));
+    }
+    if let Some(i) = overlap(pieces) {
+        return Some(EditFault::Overlap(i as u64));
+    }
+    if let Some(i) = past_end(text, pieces) {
+        return Some(EditFault::PastEnd(i as u64, text.len() as u64));
+    }
+    if let Some(i) = inside_char(text, pieces) {
+        return Some(EditFault::InsideChar(i as u64));
+    }
+    None
+}
+
+/// The bytes of all new texts.
+pub fn text_total(pieces: &[Piece]) -> u128
+    ensures { result ≡ text_total pieces.now }
+{
+    let mut sum = 0u128;
+    for p in pieces {
+        sum += p.text.as_str().len() as u128;
+    }
+    sum
+}
+
+/// The text with each range replaced, in one pass over the text.
+pub fn replaced(alloc: Global, text: &str, pieces: &[Piece]) -> Result<String, AllocError>
+    requires { AreFit 0 pieces.now text.now }
+    ensures { IfOk result (λ s. string_bytes s ≡ replaced pieces.now text.now) }
+{
+    let mut new = String::new(alloc);
+    let mut at = 0;
+    for p in pieces {
+        new.push_str(&text[at..p.start as usize])?;
+        new.push_str(p.text.as_str())?;
+        at = p.end as usize;
+    }
+    new.push_str(&text[at..])?;
+    Ok(new)
+}
+
+/// Equal pieces.
+pub fn copied(alloc: Global, pieces: &[Piece]) -> Result<Pieces, AllocError>
+    ensures { IfOk result (λ ps. ps ≡ pieces.now) }
+{
+    let mut copies = Vec::new(alloc);
+    for p in pieces {
+        copies.push(Piece {
+            start: p.start,
+            end: p.end,
+            text: Text::new(String::from_str(alloc, p.text.as_str())?),
+        })?;
+    }
+    Ok(Pieces::new(copies))
+}
