@@ -1,0 +1,89 @@
+-- What children have together.
+use Rattle.std.proofs.Common.{◌≡◌, ℕ, suc, ◌+◌, ◌*◌, ◌^◌, ◌<◌, ◌≤◌, List, [], ◌∷◌, ◌++◌, length, get_or, take, drop, sym, ap, subst, ◌∙◌, take-append-drop, arith, length-append, add-one}
+use Rattle.std.proofs.Math.Nat.{pow-succ', pow-le-pow_right, mul-le-mul_right, suc-mul, one-le-pow}
+use Rattle.std.proofs.lemmas.List.{take_more, append-nil}
+use Rattle.std.proofs.lemmas.List.Concat.{flat_map-append}
+use Rattle.std.specs.List.{All}
+use Rattle.sum_tree.specs.Laws.{SummaryLaws, fold}
+use Rattle.sum_tree.proofs.Folds.{fold-append, fits_left, fits_right}
+use Rattle.sum_tree.specs.Seen.{Seen}
+use Rattle.sum_tree.specs.Shape.{joined, IsChild}
+
+pub pow_more : (n : ℕ) → 6 ^ (n + 1) ≡ 6 * 6 ^ n
+pow_more n = rw add-one (pow-succ' 6 n)
+
+pub low : (n m : ℕ) → 6 ^ n ≤ m → m ≤ 2 ^ 40 → n ≤ 15
+low n m h k = let up : 16 ≤ n → 6 ^ 16 ≤ 6 ^ n = λ l. pow-le-pow_right (omega arith) l in grind (arith, up)
+
+pub low_twice : (n m : ℕ) → 2 * 6 ^ n ≤ m → m ≤ 2 ^ 40 → n ≤ 15
+low_twice n m h k = low n m (omega arith) k
+
+module _ {T : Type 0} where
+  pub joined-append : (ts us : List (Seen T)) → joined (ts ++ us) ≡ joined ts ++ joined us
+  joined-append ts us = flat_map-append (λ (t : Seen T). t.items) ts us
+
+  pub joined_single : (t : Seen T) → joined (t ∷ []) ≡ t.items
+  joined_single t = append-nil t.items
+
+  pub joined-take_more : (ts : List (Seen T)) (i : ℕ) (t : Seen T) → i < length ts → t ≡ get_or ts i t → joined (take (i + 1) ts) ≡ joined (take i ts) ++ t.items
+  joined-take_more ts i t within read =
+      let more : take (i + 1) ts ≡ take i ts ++ (t ∷ []) = take_more ts i t within ∙ ap (λ (y : Seen T). take i ts ++ (y ∷ [])) (sym read) in
+      ap joined more ∙ joined-append (take i ts) (t ∷ []) ∙ ap (λ (ys : List T). joined (take i ts) ++ ys) (joined_single t)
+
+  pub joined-split : (ts : List (Seen T)) (i : ℕ) → joined (take i ts) ++ joined (drop i ts) ≡ joined ts
+  joined-split ts i = sym (joined-append (take i ts) (drop i ts)) ∙ ap joined (take-append-drop i ts)
+
+  -- each child of a node of height h has 6 ^ h items at least
+  pub many_joined : (h : ℕ) (ts : List (Seen T)) → All (IsChild h) ts → length ts * 6 ^ h ≤ length (joined ts)
+  many_joined h [] a = omega arith
+  many_joined h (t ∷ ts) a =
+      let first : 6 ^ h ≤ length t.items = subst (λ (n : ℕ). 6 ^ n ≤ length t.items) (a 0 t (omega arith)).lower (a 0 t (omega arith)).many in
+      let rest : length ts * 6 ^ h ≤ length (joined ts) = many_joined h ts (λ k d p. a (suc k) d (omega (arith, p))) in
+      omega (arith, first, rest, suc-mul (length ts) (6 ^ h), length-append t.items (joined ts))
+
+  pub child_filled : (h : ℕ) (t : Seen T) → IsChild h t → 1 ≤ length t.items
+  child_filled h t c = omega (arith, c.many, one-le-pow (t.height + 1) 6 (omega arith))
+
+  -- six children of height h - 1 have enough for height h
+  pub many_enough : (h : ℕ) (ts : List (Seen T)) → All (IsChild h) ts → 6 ≤ length ts → 6 ^ (h + 1) ≤ length (joined ts)
+  many_enough h ts a l =
+      let all : length ts * 6 ^ h ≤ length (joined ts) = many_joined h ts a in
+      let six : 6 * 6 ^ h ≤ length ts * 6 ^ h = mul-le-mul_right (6 ^ h) l in
+      omega (arith, all, six, pow_more h)
+
+  -- what is joined so far is at most all
+  pub joined-take_le : (ts : List (Seen T)) (i : ℕ) → length (joined (take i ts)) ≤ length (joined ts)
+  joined-take_le ts i = omega (arith, ap length (joined-split ts i), length-append (joined (take i ts)) (joined (drop i ts)))
+
+  pub step_len : (ts : List (Seen T)) (i : ℕ) (t : Seen T) (m n : ℕ) → i < length ts → t ≡ get_or ts i t → m ≡ length (joined (take i ts)) → n ≡ length t.items → m + n ≡ length (joined (take (i + 1) ts))
+  step_len ts i t m n within read e f = omega (arith, ap length (joined-take_more ts i t within read), length-append (joined (take i ts)) t.items)
+
+  module _ {S : Type 0} {empty : S} {op : S → S → S} {admits fits : S → Type 0} (laws : SummaryLaws empty op admits fits) (sum_of : T → S) (admitted : (x : T) → admits (sum_of x)) where
+    -- a loop that adds up the sums of children
+    pub step_joined_sum : (ts : List (Seen T)) (i : ℕ) (t : Seen T) (s u : S) → i < length ts → t ≡ get_or ts i t → s ≡ fold empty op sum_of (joined (take i ts)) → u ≡ fold empty op sum_of t.items → op s u ≡ fold empty op sum_of (joined (take (i + 1) ts))
+    step_joined_sum ts i t s u within read e f = rw (e, f) (sym (ap (fold empty op sum_of) (joined-take_more ts i t within read) ∙ fold-append laws sum_of admitted (joined (take i ts)) t.items))
+
+    pub step_joined_fits : (all ts : List (Seen T)) (i : ℕ) (t : Seen T) (s u : S) → ts ≡ all → fits (fold empty op sum_of (joined all)) → i < length ts → t ≡ get_or ts i t → s ≡ fold empty op sum_of (joined (take i ts)) → u ≡ fold empty op sum_of t.items → fits (op s u)
+    step_joined_fits all ts i t s u same h within read e f =
+        let here : fits (fold empty op sum_of (joined ts)) = subst (λ (zs : List (Seen T)). fits (fold empty op sum_of (joined zs))) (sym same) h in
+        let split : fits (fold empty op sum_of (joined (take (i + 1) ts) ++ joined (drop (i + 1) ts))) = subst (λ (zs : List T). fits (fold empty op sum_of zs)) (sym (joined-split ts (i + 1))) here in
+        subst fits (sym (step_joined_sum ts i t s u within read e f)) (fits_left laws sum_of admitted (joined (take (i + 1) ts)) (joined (drop (i + 1) ts)) split)
+
+    pub fits_joined_take : (ts : List (Seen T)) (i : ℕ) → fits (fold empty op sum_of (joined ts)) → fits (fold empty op sum_of (joined (take i ts)))
+    fits_joined_take ts i h = fits_left laws sum_of admitted (joined (take i ts)) (joined (drop i ts)) (subst (λ (zs : List T). fits (fold empty op sum_of zs)) (sym (joined-split ts i)) h)
+
+    pub fits_joined_drop : (ts : List (Seen T)) (i : ℕ) → fits (fold empty op sum_of (joined ts)) → fits (fold empty op sum_of (joined (drop i ts)))
+    fits_joined_drop ts i h = fits_right laws sum_of admitted (joined (take i ts)) (joined (drop i ts)) (subst (λ (zs : List T). fits (fold empty op sum_of zs)) (sym (joined-split ts i)) h)
+
+  pub joined-drop_le : (ts : List (Seen T)) (i : ℕ) → length (joined (drop i ts)) ≤ length (joined ts)
+  joined-drop_le ts i = omega (arith, ap length (joined-split ts i), length-append (joined (take i ts)) (joined (drop i ts)))
+
+  -- a child of a short tree is low, and so is a node with two children
+  pub child_is_low : (h : ℕ) (t : Seen T) → IsChild h t → length t.items ≤ 2 ^ 40 → t.height + 1 ≤ 15
+  child_is_low h t c l = low (t.height + 1) (length t.items) c.many l
+
+  pub inner_is_low : (h : ℕ) (ts : List (Seen T)) → All (IsChild h) ts → 2 ≤ length ts → length (joined ts) ≤ 2 ^ 40 → h ≤ 15
+  inner_is_low h ts a l short =
+      let all : length ts * 6 ^ h ≤ length (joined ts) = many_joined h ts a in
+      let two : 2 * 6 ^ h ≤ length ts * 6 ^ h = mul-le-mul_right (6 ^ h) l in
+      low_twice h (length (joined ts)) (omega (arith, all, two)) short

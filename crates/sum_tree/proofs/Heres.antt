@@ -1,0 +1,94 @@
+-- What a push in place keeps of a node.
+use Rattle.std.proofs.Common.{◌≡◌, ℕ, ◌+◌, ◌-◌, ◌^◌, ◌<◌, ◌≤◌, List, [], ◌∷◌, ◌++◌, length, get_or, set, take, Vec, Global, Option, Some, None, sym, ap, subst, ◌∙◌, append_assoc, arith, length-append}
+use Rattle.std.proofs.lemmas.List.{take_all, take_more_set, length-set, set-get_or}
+use Rattle.std.proofs.lemmas.List.Elements.{All-set}
+use Rattle.std.specs.List.{All}
+use Rattle.sum_tree.specs.Laws.{SummaryLaws, fold}
+use Rattle.sum_tree.specs.Seen.{Seen}
+use Rattle.sum_tree.specs.Here.{IsPushedOr}
+use Rattle.sum_tree.specs.Shape.{joined, seen, content_items, content_width, IsChild, IsContent, IsNode}
+use Rattle.sum_tree.specs.declared.tree.Node.{Node}
+use Rattle.sum_tree.specs.declared.tree.Content.{Content}
+use Rattle.sum_tree.specs.declared.tree.Content.TheVariants.{Leaf, Inner}
+use Rattle.sum_tree.proofs.Folds.{fold_admitted, fold-append, fold_single}
+use Rattle.sum_tree.proofs.Children.{joined-append, joined_single}
+use Rattle.sum_tree.proofs.Opened.{joined-last, last_is_child}
+
+module _ {T : Type 0} where
+  pub set_last : (ts : List (Seen T)) (n : ℕ) (u : Seen T) → n ≡ length ts → 1 ≤ n → set ts (n - 1) u ≡ take (n - 1) ts ++ u ∷ []
+  set_last ts n u e l =
+      let all : take (n - 1 + 1) (set ts (n - 1) u) ≡ set ts (n - 1) u = take_all (n - 1 + 1) (set ts (n - 1) u) (omega (arith, length-set ts (n - 1) u)) in
+      sym all ∙ take_more_set ts (n - 1) u (omega arith)
+
+  -- the last child with one item more
+  pub joined-set_last : (ts : List (Seen T)) (n : ℕ) (t u : Seen T) (x : T) → n ≡ length ts → 1 ≤ n → t ≡ get_or ts (n - 1) t → u.items ≡ t.items ++ x ∷ [] → joined (set ts (n - 1) u) ≡ joined ts ++ x ∷ []
+  joined-set_last ts n t u x e l read grown =
+      ap joined (set_last ts n u e l) ∙ joined-append (take (n - 1) ts) (u ∷ []) ∙ ap (λ (ys : List T). joined (take (n - 1) ts) ++ ys) (joined_single u ∙ grown) ∙ sym (append_assoc (joined (take (n - 1) ts)) t.items (x ∷ [])) ∙ ap (λ (ys : List T). ys ++ x ∷ []) (sym (joined-last ts n t e l read))
+
+  pub pushed_none : (t u : Seen T) (x : T) (o : Option T) → o ≡ None → IsPushedOr t u x o → (u.items ≡ t.items ++ x ∷ []) × (u.height ≡ t.height) × (t.width ≤ u.width) × (u.width ≤ 12)
+  pushed_none t u x o e h = subst (λ (q : Option T). IsPushedOr t u x q) e h
+
+  pub pushed_some : (t u : Seen T) (x y : T) (o : Option T) → o ≡ Some y → IsPushedOr t u x o → (u ≡ t) × (y ≡ x)
+  pushed_some t u x y o e h = subst (λ (q : Option T). IsPushedOr t u x q) e h
+
+  -- the last child as it was
+  pub set_same : (ts : List (Seen T)) (n : ℕ) (t u : Seen T) → t ≡ get_or ts (n - 1) t → u ≡ t → set ts (n - 1) u ≡ ts
+  set_same ts n t u read same = ap (set ts (n - 1)) (same ∙ read) ∙ set-get_or ts (n - 1) t
+
+  pub grown_child : (h : ℕ) (t u : Seen T) (x : T) → IsChild h t → u.items ≡ t.items ++ x ∷ [] → u.height ≡ t.height → t.width ≤ u.width → u.width ≤ 12 → IsChild h u
+  grown_child h t u x c items height wide narrow = record {
+    lower = ap (λ (k : ℕ). k + 1) height ∙ c.lower;
+    wide = omega (arith, c.wide);
+    narrow = narrow;
+    many = subst (λ (k : ℕ). 6 ^ (k + 1) ≤ length u.items) (sym height) (omega (arith, c.many, ap length items, length-append t.items (x ∷ [])));
+  }
+
+module _ {S T : Type 0} {empty : S} {op : S → S → S} {admits fits : S → Type 0} (laws : SummaryLaws empty op admits fits) (sum_of : T → S) (admitted : (x : T) → admits (sum_of x)) where
+  -- the parts of IsNode
+  abbrev pub Held : ℕ → ℕ → S → Content T S → Type 0
+  Held h len s c = IsContent h c × (len ≡ length (content_items c)) × (s ≡ fold empty op sum_of (content_items c)) × fits (fold empty op sum_of (content_items c)) × (length (content_items c) ≤ 2 ^ 40)
+
+  pub held : (n m : Node T S) → m ≡ n → IsNode empty op fits sum_of n → Held m.height m.len m.sum m.content
+  held n m e h = subst (λ (x : Node T S). IsNode empty op fits sum_of x) (sym e) h
+
+  pub held_at : (n m : Node T S) (d : Content T S) → m ≡ n → m.content ≡ d → IsNode empty op fits sum_of n → Held m.height m.len m.sum d
+  held_at n m d e is h = subst (λ (c : Content T S). Held m.height m.len m.sum c) is (held n m e h)
+
+  pub start_sum : (n m : Node T S) (z : S) → m ≡ n → z ≡ empty → IsNode empty op fits sum_of n → op z m.sum ≡ fold empty op sum_of (content_items n.content)
+  start_sum n m z e f h =
+      let same : m.sum ≡ fold empty op sum_of (content_items n.content) = ap (λ (x : Node T S). x.sum) e ∙ h.2 in
+      rw (f, same) (laws.left_identity (fold empty op sum_of (content_items n.content)) (fold_admitted laws sum_of admitted (content_items n.content)))
+
+  pub start_fits : (n m : Node T S) (z : S) → m ≡ n → z ≡ empty → IsNode empty op fits sum_of n → fits (op z m.sum)
+  start_fits n m z e f h = subst fits (sym (start_sum n m z e f h)) h.3
+
+  pub next_sum : (xs : List T) (x : T) (s t : S) → s ≡ fold empty op sum_of xs → t ≡ sum_of x → op s t ≡ fold empty op sum_of (xs ++ x ∷ [])
+  next_sum xs x s t e f = rw (e, f) (sym (fold-append laws sum_of admitted xs (x ∷ []) ∙ ap (op (fold empty op sum_of xs)) (fold_single laws sum_of admitted x)))
+
+  pub next_fits : (xs : List T) (x : T) (s t : S) → s ≡ fold empty op sum_of xs → t ≡ sum_of x → fits (fold empty op sum_of (xs ++ x ∷ [])) → fits (op s t)
+  next_fits xs x s t e f h = subst fits (sym (next_sum xs x s t e f)) h
+
+  pub leaf_grown : (h len : ℕ) (s u : S) (v : Vec T Global) (us : List T) (x : T) → Held h len s (Leaf v) → us ≡ v.items ++ x ∷ [] → length v.items < 12 → u ≡ fold empty op sum_of (v.items ++ x ∷ []) → fits (fold empty op sum_of (v.items ++ x ∷ [])) → length v.items < 2 ^ 40 → ((h ≡ 0) × (length us ≤ 12)) × (len + 1 ≡ length us) × (u ≡ fold empty op sum_of us) × fits (fold empty op sum_of us) × (length us ≤ 2 ^ 40)
+  leaf_grown h len s u v us x k grown room sum ok short =
+      let more : length us ≡ length v.items + 1 = omega (arith, ap length grown, length-append v.items (x ∷ [])) in
+      ((k.0.0, omega (arith, more)), omega (arith, more, k.1), rw grown sum, rw grown ok, omega (arith, more))
+
+  abbrev pub HeldInner : ℕ → ℕ → S → List (Seen T) → Type 0
+  HeldInner h len s ts = (All (IsChild h) ts × (2 ≤ length ts) × (length ts ≤ 12)) × (len ≡ length (joined ts)) × (s ≡ fold empty op sum_of (joined ts)) × fits (fold empty op sum_of (joined ts)) × (length (joined ts) ≤ 2 ^ 40)
+
+  pub inner_same : (h len : ℕ) (s : S) (v : Vec (Seen T) Global) (n : ℕ) (t u : Seen T) → Held h len s (Inner v) → t ≡ get_or v.items (n - 1) t → u ≡ t → HeldInner h len s (set v.items (n - 1) u)
+  inner_same h len s v n t u k read same = subst (λ (ts : List (Seen T)). HeldInner h len s ts) (sym (set_same v.items n t u read same)) k
+
+  pub inner_grown : (h len : ℕ) (s r : S) (v : Vec (Seen T) Global) (n : ℕ) (t u : Seen T) (x : T) → Held h len s (Inner v) → n ≡ length v.items → t ≡ get_or v.items (n - 1) t → u.items ≡ t.items ++ x ∷ [] → u.height ≡ t.height → t.width ≤ u.width → u.width ≤ 12 → r ≡ fold empty op sum_of (joined v.items ++ x ∷ []) → fits (fold empty op sum_of (joined v.items ++ x ∷ [])) → length (joined v.items) < 2 ^ 40 → HeldInner h (len + 1) r (set v.items (n - 1) u)
+  inner_grown h len s r v n t u x k e read items height wide narrow sum ok short =
+      let l : 1 ≤ n = omega (arith, k.0.1) in
+      let grown : joined (set v.items (n - 1) u) ≡ joined v.items ++ x ∷ [] = joined-set_last v.items n t u x e l read items in
+      let child : IsChild h u = grown_child h t u x (last_is_child h v.items n t k.0.0 e l read) items height wide narrow in
+      let count : length (set v.items (n - 1) u) ≡ length v.items = length-set v.items (n - 1) u in
+      let more : length (joined (set v.items (n - 1) u)) ≡ length (joined v.items) + 1 = omega (arith, ap length grown, length-append (joined v.items) (x ∷ [])) in
+      ((All-set (IsChild h) v.items (n - 1) u child k.0.0, omega (arith, count, k.0.1), omega (arith, count, k.0.2)), omega (arith, more, k.1), rw grown sum, rw grown ok, omega (arith, more))
+
+pub same_seen : {T S : Type 0} (s : Seen T) (n m : Node T S) (v : Vec (Seen T) Global) (ts : List (Seen T)) → seen n ≡ s → m ≡ n → m.content ≡ Inner v → ts ≡ v.items → record { items = joined ts; height = m.height; width = length ts } ≡ s
+same_seen {T} {S} s n m v ts e f is g =
+    let here : seen m ≡ s = ap seen f ∙ e in
+    rw g (subst (λ (c : Content T S). record { items = content_items c; height = m.height; width = content_width c } ≡ s) is here)

@@ -1,0 +1,10 @@
+pub mod Folds
+pub mod Children
+pub mod Opened
+pub mod Fronts
+mod Heres
+mod Arounds
+mod Placeds
+pub mod Runs
+pub mod Keys
+mod Splices

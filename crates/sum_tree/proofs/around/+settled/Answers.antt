@@ -1,0 +1,41 @@
+use Rattle.std.proofs.Common.{rules, ◌≡◌, ◌<◌, List, [], ◌∷◌, ◌++◌, length, sym, ap, subst, ◌∙◌, refl, arith, length-append}
+use Rattle.sum_tree.specs.declared.around.Around.{Around}
+use Rattle.sum_tree.specs.Around.{outer_sums, Fitting}
+use Rattle.sum_tree.proofs.Arounds.{outer_sums-snoc, Fitting-last}
+use Rattle.sum_tree.proofs.around.+settled.Goals as goal
+
+pub add-requires : goal.add-requires
+add-requires g t c =
+    let a = c.in-Some.level in
+    let x = c.args.sum.now in
+    let op = g.S.Summary.op in
+    let split : c.args.around.items ≡ c.pop.new.self.items ++ a ∷ [] = c.in-Some.ensures.items in
+    (Fitting-last op g.S.Summary.fits c.pop.new.self.items a x (op (op a.before x) a.behind) refl (subst (λ (ls : List (Around _)). Fitting g.S.Summary.fits op ls x) split c.requires)).1
+
+pub add-requires-in-Some : goal.add-requires-in-Some
+add-requires-in-Some g t c =
+    let a = c.in-Some.level in
+    let x = c.args.sum.now in
+    let op = g.S.Summary.op in
+    let split : c.args.around.items ≡ c.pop.new.self.items ++ a ∷ [] = c.in-Some.ensures.items in
+    rw c.in_ok-add-in-Some.ensures ((Fitting-last op g.S.Summary.fits c.pop.new.self.items a x (op (op a.before x) a.behind) refl (subst (λ (ls : List (Around _)). Fitting g.S.Summary.fits op ls x) split c.requires)).2)
+
+pub settled-requires : goal.settled-requires
+settled-requires g t c κs within =
+    let a = c.in-Some.level in
+    let x = c.args.sum.now in
+    let op = g.S.Summary.op in
+    let split : c.args.around.items ≡ c.pop.new.self.items ++ a ∷ [] = c.in-Some.ensures.items in
+    let made : c.add-in-Some.new.self ≡ op (op a.before x) a.behind = c.in_ok-add-in-Some-2.ensures ∙ ap (λ s. op s a.behind) c.in_ok-add-in-Some.ensures in
+    let fitting = (Fitting-last op g.S.Summary.fits c.pop.new.self.items a x c.add-in-Some.new.self made (subst (λ (ls : List (Around _)). Fitting g.S.Summary.fits op ls x) split c.requires)).0 in
+    let shorter : length c.pop.new.self.items < length c.args.around.items = omega (arith, ap length split, length-append c.pop.new.self.items (a ∷ [])) in
+    search rules
+
+pub returns-in-Some : goal.returns-in-Some
+returns-in-Some g t c =
+    let a = c.in-Some.level in
+    let x = c.args.sum.now in
+    let op = g.S.Summary.op in
+    let split : c.args.around.items ≡ c.pop.new.self.items ++ a ∷ [] = c.in-Some.ensures.items in
+    let made : c.add-in-Some.new.self ≡ op (op a.before x) a.behind = c.in_ok-add-in-Some-2.ensures ∙ ap (λ s. op s a.behind) c.in_ok-add-in-Some.ensures in
+    c.in_ok-push-in-Some.ensures.items ∙ ap (λ ss. ss ++ c.add-in-Some.new.self ∷ []) c.in_ok-sums-in-Some.ensures ∙ sym (outer_sums-snoc op c.pop.new.self.items a x c.add-in-Some.new.self made) ∙ ap (λ (ls : List (Around _)). outer_sums op ls x) (sym split)

@@ -1,0 +1,34 @@
+-- Lists whose keys ascend.
+use Rattle.std.specs.Prelude.{◌≡◌, ℕ, ◌+◌, ◌<◌, ◌≤◌, List, ◌∷◌, ◌++◌, length, take, drop, get_or, Option, Some, None, Result, Ok, Err}
+use Rattle.std.specs.List.{AllPairs, filter, find}
+use Rattle.std.specs.Ordering.{is_lt, is_eq, is_gt}
+use Rattle.std.specs.declared.cmp.Ordering.{Ordering}
+use Rattle.std.specs.declared.cmp.Ordering.TheVariants.{Less}
+
+-- each item's key is less than those of all later items
+abbrev pub Ascending : {T K : Type 0} → (K → K → Ordering) → (T → K) → List T → Type 0
+Ascending cmp key xs = AllPairs (λ x y. cmp (key x) (key y) ≡ Less) xs
+
+-- the items whose keys are less than k, and those whose keys are greater
+abbrev pub below : {T K : Type 0} → (K → K → Ordering) → (T → K) → K → List T → List T
+below cmp key k xs = filter (λ x. is_lt (cmp (key x) k)) xs
+
+abbrev pub above : {T K : Type 0} → (K → K → Ordering) → (T → K) → K → List T → List T
+above cmp key k xs = filter (λ x. is_gt (cmp (key x) k)) xs
+
+-- the item whose key is equal to k, if there is one
+abbrev pub held : {T K : Type 0} → (K → K → Ordering) → (T → K) → K → List T → Option T
+held cmp key k xs = find (λ x. is_eq (cmp (key x) k)) xs
+
+-- the list with x at the place of its key, and without the item of an equal key
+abbrev pub inserted : {T K : Type 0} → (K → K → Ordering) → (T → K) → T → List T → List T
+inserted cmp key x xs = below cmp key (key x) xs ++ x ∷ above cmp key (key x) xs
+
+-- the list without the item whose key is equal to k
+abbrev pub removed : {T K : Type 0} → (K → K → Ordering) → (T → K) → K → List T → List T
+removed cmp key k xs = below cmp key k xs ++ above cmp key k xs
+
+-- the item of key k stands at i; or none does, and i is its place
+abbrev pub IsPlace : {T K : Type 0} → (K → K → Ordering) → (T → K) → K → List T → Result ℕ ℕ → Type 0
+IsPlace {T} cmp key k xs (Ok i) = (i < length xs) × (take i xs ≡ below cmp key k xs) × (drop (i + 1) xs ≡ above cmp key k xs) × ((d : T) → held cmp key k xs ≡ Some (get_or xs i d))
+IsPlace cmp key k xs (Err i) = (i ≤ length xs) × (take i xs ≡ below cmp key k xs) × (drop i xs ≡ above cmp key k xs) × (held cmp key k xs ≡ None)

@@ -1,0 +1,13 @@
+pub mod Laws
+pub mod Seen
+pub mod Shape
+pub mod Falls
+pub mod Grown
+pub mod Count
+pub mod Parts
+pub mod Here
+pub mod Groups
+pub mod Spliced
+pub mod Keyed
+pub mod Around
+pub mod Placed

@@ -1,0 +1,31 @@
+-- What a change within one leaf leaves of the nodes above it.
+use Rattle.std.specs.Prelude.{◌≡◌, ℕ, ◌+◌, ◌<◌, ◌^◌, ◌≤◌, List, ◌++◌, length, take, drop, get_or, Option, Some, None, Vec}
+use Rattle.std.specs.Global.{Global}
+use Rattle.sum_tree.specs.Seen.{Seen}
+use Rattle.sum_tree.specs.Shape.{IsChild, joined}
+use Rattle.sum_tree.specs.declared.splice.Splicing.{Splicing}
+use Rattle.sum_tree.specs.declared.splice.Splicing.TheVariants.{Done, Back}
+
+-- the list with ys in the place of what stands from i up to j
+abbrev pub spliced : {X : Type 0} → ℕ → ℕ → List X → List X → List X
+spliced i j ys xs = (take i xs ++ ys) ++ drop j xs
+
+-- a, and then b where there is one, stand at the height of a child of a node of height h. Alone, a may be narrow.
+abbrev pub IsPiece : {T : Type 0} → ℕ → Seen T → Option (Seen T) → Type 0
+IsPiece h a None = (a.height + 1 ≡ h) × (a.width ≤ 12) × (6 ≤ a.width → 6 ^ (a.height + 1) ≤ length a.items)
+IsPiece h a (Some b) = IsChild h a × IsChild h b
+
+-- a, and then b where there is one, have the items xs and stand in the place of a node of height h with w entries.
+-- Alone, a may be narrow, and lower where w is 2.
+abbrev pub IsSpliced : {T : Type 0} → ℕ → ℕ → List T → Seen T → Option (Seen T) → Type 0
+IsSpliced h w xs a None = (a.items ≡ xs) × (3 ≤ w → a.height ≡ h) × (a.width ≤ 12) × (6 ≤ a.width → 6 ^ (a.height + 1) ≤ length a.items)
+IsSpliced h w xs a (Some b) = (a.items ++ b.items ≡ xs) × IsChild (h + 1) a × IsChild (h + 1) b
+
+-- either that is done, or the new entries came back
+abbrev pub IsSplicing : {T : Type 0} → ℕ → ℕ → List T → List T → Splicing (Seen T) (Vec T Global) → Type 0
+IsSplicing h w xs ys (Done a b) = IsSpliced h w xs a b
+IsSplicing h w xs ys (Back es) = es.items ≡ ys
+
+-- from its item r on, child k holds the n items from i on
+abbrev pub IsWithin : {T : Type 0} → List (Seen T) → ℕ → ℕ → ℕ → ℕ → Type 0
+IsWithin {T} ts i n k r = (k < length ts) × ((d : Seen T) → r + n ≤ length (get_or ts k d).items) × (length (joined (take k ts)) + r ≡ i)

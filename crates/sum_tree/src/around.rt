@@ -1,0 +1,84 @@
+//! The sums of the nodes on a path, made before anything on it changes.
+ghost use Rattle.std.specs.Prelude.{◌≡◌, ◌<◌, length, take, drop, ◌+◌, IfOk};
+ghost use Rattle.sum_tree.specs.Laws.{fold};
+ghost use Rattle.sum_tree.specs.Shape.{joined};
+ghost use Rattle.sum_tree.specs.Around.{outer_sums, Fitting};
+
+use crate::entry::Entry;
+use crate::traits::{Item, Summary};
+use crate::tree::SumTree;
+use std::alloc::{AllocError, Global};
+
+// The sums of what stands before and behind the child on the path.
+#[derive(Drop)]
+pub(crate) struct Around<S: Drop> {
+    pub(crate) before: S,
+    pub(crate) behind: S,
+}
+
+// The sum of these entries.
+pub(crate) fn entries_sum<T: Item>(
+    alloc: Global,
+    entries: &[Entry<T>],
+) -> Result<T::Summary, AllocError>
+    requires fits { T.Summary.fits (fold T.Summary.empty T.Summary.op T.sum_of entries.now) }
+    ensures { IfOk result (λ s. s ≡ fold T.Summary.empty T.Summary.op T.sum_of entries.now) }
+{
+    let mut sum = T::Summary::zero(alloc);
+    for entry in entries {
+        sum.add(alloc, entry.sum())?;
+    }
+    Ok(sum)
+}
+
+// The sum of these trees.
+fn trees_sum<T: Item>(alloc: Global, trees: &[SumTree<T>]) -> Result<T::Summary, AllocError>
+    requires fits { T.Summary.fits (fold T.Summary.empty T.Summary.op T.sum_of (joined trees.now)) }
+    ensures { IfOk result (λ s. s ≡ fold T.Summary.empty T.Summary.op T.sum_of (joined trees.now)) }
+{
+    let mut sum = T::Summary::zero(alloc);
+    for tree in trees {
+        sum.add(alloc, tree.summary())?;
+    }
+    Ok(sum)
+}
+
+// What stands around child k.
+pub(crate) fn around_child<T: Item>(
+    alloc: Global,
+    nodes: &[SumTree<T>],
+    k: usize,
+) -> Result<Around<T::Summary>, AllocError>
+    requires within { k < length nodes.now }
+    requires fits { T.Summary.fits (fold T.Summary.empty T.Summary.op T.sum_of (joined nodes.now)) }
+    ensures before { IfOk result (λ a. a.before ≡ fold T.Summary.empty T.Summary.op T.sum_of (joined (take k nodes.now))) }
+    ensures behind { IfOk result (λ a. a.behind ≡ fold T.Summary.empty T.Summary.op T.sum_of (joined (drop (k + 1) nodes.now))) }
+{
+    let before = trees_sum(alloc, &nodes[..k])?;
+    let behind = trees_sum(alloc, &nodes[k + 1..])?;
+    Ok(Around { before, behind })
+}
+
+// The sums of the nodes above one with this sum, the root's first.
+pub(crate) fn settled<S: Summary>(
+    alloc: Global,
+    mut around: Vec<Around<S>>,
+    sum: &S,
+) -> Result<Vec<S>, AllocError>
+    requires { Fitting S.fits S.op around.items sum.now }
+    ensures { IfOk result (λ ss. ss.items ≡ outer_sums S.op around.items sum.now) }
+{
+    match around.pop() {
+        None => {
+            return Ok(Vec::with_capacity(alloc, around.capacity())?);
+        }
+        Some(level) => {
+            let Around { mut before, behind } = level;
+            before.add(alloc, sum)?;
+            before.add(alloc, &behind)?;
+            let mut sums = settled(alloc, around, &before)?;
+            sums.push(before)?;
+            return Ok(sums);
+        }
+    }
+}

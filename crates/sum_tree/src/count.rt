@@ -1,0 +1,35 @@
+//! The summary that counts items.
+ghost use Rattle.std.specs.Prelude.{◌≡◌, ◌^◌, ◌<◌};
+ghost use Rattle.sum_tree.specs.Count.{no_items, count_sum, CountFits, AnyCount, count_laws};
+
+use crate::traits::Summary;
+use std::alloc::{AllocError, Global};
+
+/// How many items there are.
+#[derive(Clone, Copy, Debug, PartialEq, Eq)]
+pub struct Count {
+    pub items: u64,
+}
+
+impl Summary for Count {
+    ghost empty = { no_items };
+
+    ghost op = { count_sum };
+
+    ghost admits = { AnyCount };
+
+    ghost fits = { CountFits };
+
+    ghost single = { AnyCount };
+
+    ghost laws = { count_laws };
+
+    fn zero(_alloc: Global) -> Count {
+        Count { items: 0 }
+    }
+
+    fn add(&mut self, _alloc: Global, other: &Count) -> Result<(), AllocError> {
+        self.items += other.items;
+        Ok(())
+    }
+}

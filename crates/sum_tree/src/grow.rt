@@ -1,0 +1,292 @@
+//! Trees put end to end, by new nodes along one side. What is not on that side is shared.
+ghost use Rattle.std.specs.Prelude.{◌≡◌, ℕ, ◌+◌, ◌^◌, ◌<◌, ◌≤◌, [], ◌∷◌, ◌++◌, length, IfOk, OnOk, OnErr, All};
+ghost use Rattle.sum_tree.specs.Laws.{fold};
+ghost use Rattle.sum_tree.specs.Shape.{IsChild, joined};
+ghost use Rattle.sum_tree.specs.Grown.{IsSplit, pair_list, with_pair, with_run};
+
+use crate::entry::Entry;
+use crate::traits::Item;
+use crate::tree::{Content, MOST, SumTree, inner, leaf, single};
+use std::alloc::{AllocError, Global};
+
+pub(crate) fn copy_onto<T: Item>(
+    alloc: Global,
+    entries: &[Entry<T>],
+    out: &mut Vec<Entry<T>>,
+) -> Result<(), AllocError>
+    ensures { OnOk result (out.new.items ≡ out.old.items ++ entries.now) }
+{
+    for entry in entries {
+        out.push(entry.copy(alloc)?)?;
+    }
+    Ok(())
+}
+
+pub(crate) fn share_onto<T: Item>(
+    children: &[SumTree<T>],
+    out: &mut Vec<SumTree<T>>,
+) -> Result<(), AllocError>
+    ensures { OnOk result (out.new.items ≡ out.old.items ++ children.now) }
+{
+    for child in children {
+        out.push(child.share()?)?;
+    }
+    Ok(())
+}
+
+// One leaf or two of these entries.
+pub(crate) fn leaves<T: Item>(
+    alloc: Global,
+    mut entries: Vec<Entry<T>>,
+) -> Result<(SumTree<T>, Option<SumTree<T>>), AllocError>
+    requires most { length entries.items ≤ 24 }
+    requires fits { T.Summary.fits (fold T.Summary.empty T.Summary.op T.sum_of entries.items) }
+    ensures { IfOk result (λ p. IsSplit 0 (length entries.items) entries.items p.0 p.1) }
+{
+    if entries.len() <= MOST {
+        return Ok((leaf(alloc, entries)?, None));
+    }
+    let half = entries.len() / 2;
+    let rest = entries.split_off(half)?;
+    let front = leaf(alloc, entries)?;
+    let back = leaf(alloc, rest)?;
+    Ok((front, Some(back)))
+}
+
+// One node or two of these children.
+pub(crate) fn inners<T: Item>(
+    alloc: Global,
+    height: u32,
+    mut children: Vec<SumTree<T>>,
+) -> Result<(SumTree<T>, Option<SumTree<T>>), AllocError>
+    requires children { All (IsChild height) children.items }
+    requires least { 2 ≤ length children.items }
+    requires most { length children.items ≤ 24 }
+    requires short { length (joined children.items) ≤ 2 ^ 40 }
+    requires fits { T.Summary.fits (fold T.Summary.empty T.Summary.op T.sum_of (joined children.items)) }
+    ensures { IfOk result (λ p. IsSplit height (length children.items) (joined children.items) p.0 p.1) }
+{
+    if children.len() <= MOST {
+        return Ok((inner(alloc, height, children)?, None));
+    }
+    let half = children.len() / 2;
+    let rest = children.split_off(half)?;
+    let front = inner(alloc, height, children)?;
+    let back = inner(alloc, height, rest)?;
+    Ok((front, Some(back)))
+}
+
+fn pair_onto<T: Item>(
+    front: SumTree<T>,
+    back: Option<SumTree<T>>,
+    out: &mut Vec<SumTree<T>>,
+) -> Result<(), AllocError>
+    ensures { OnOk result (out.new.items ≡ out.old.items ++ pair_list front back) }
+{
+    out.push(front)?;
+    match back {
+        None => Ok(()),
+        Some(back) => {
+            out.push(back)?;
+            Ok(())
+        }
+    }
+}
+
+// These children, where those from `from` up to `to` are replaced.
+pub(crate) fn gathered<T: Item>(
+    alloc: Global,
+    nodes: &[SumTree<T>],
+    from: usize,
+    to: usize,
+    front: SumTree<T>,
+    back: Option<SumTree<T>>,
+) -> Result<Vec<SumTree<T>>, AllocError>
+    requires order { from ≤ to }
+    requires within { to ≤ length nodes.now }
+    ensures { IfOk result (λ ts. ts.items ≡ with_run nodes.now from to front back) }
+{
+    let mut children = Vec::with_capacity(alloc, MOST + 1)?;
+    share_onto(&nodes[..from], &mut children)?;
+    pair_onto(front, back, &mut children)?;
+    share_onto(&nodes[to..], &mut children)?;
+    Ok(children)
+}
+
+// One node or two of these children, where the child at k is replaced by these.
+fn with_child<T: Item>(
+    alloc: Global,
+    height: u32,
+    nodes: &[SumTree<T>],
+    k: usize,
+    front: SumTree<T>,
+    back: Option<SumTree<T>>,
+) -> Result<(SumTree<T>, Option<SumTree<T>>), AllocError>
+    requires children { All (IsChild height) nodes.now }
+    requires least { 2 ≤ length nodes.now }
+    requires most { length nodes.now ≤ 12 }
+    requires within { k < length nodes.now }
+    requires pair { All (IsChild height) (pair_list front back) }
+    requires short { length (joined (with_pair nodes.now k front back)) ≤ 2 ^ 40 }
+    requires fits { T.Summary.fits (fold T.Summary.empty T.Summary.op T.sum_of (joined (with_pair nodes.now k front back))) }
+    ensures { IfOk result (λ p. IsSplit height (length nodes.now) (joined (with_pair nodes.now k front back)) p.0 p.1) }
+{
+    let children = gathered(alloc, nodes, k, k + 1, front, back)?;
+    Ok(inners(alloc, height, children)?)
+}
+
+impl<T: Item> SumTree<T> {
+    // Two trees of one height, end to end.
+    pub(crate) fn beside(
+        &self,
+        alloc: Global,
+        other: &SumTree<T>,
+    ) -> Result<(SumTree<T>, Option<SumTree<T>>), AllocError>
+        requires level { other.now.height ≡ self.now.height }
+        requires short { length (self.now.items ++ other.now.items) ≤ 2 ^ 40 }
+        requires fits { T.Summary.fits (fold T.Summary.empty T.Summary.op T.sum_of (self.now.items ++ other.now.items)) }
+        ensures { IfOk result (λ p. IsSplit self.now.height (self.now.width + other.now.width) (self.now.items ++ other.now.items) p.0 p.1) }
+    {
+        match (&self.node.content, &other.node.content) {
+            (Content::Leaf(front), Content::Leaf(back)) => {
+                let mut entries = Vec::with_capacity(alloc, front.len() + back.len())?;
+                copy_onto(alloc, front, &mut entries)?;
+                copy_onto(alloc, back, &mut entries)?;
+                Ok(leaves(alloc, entries)?)
+            }
+            (Content::Inner(front), Content::Inner(back)) => {
+                let mut children = Vec::with_capacity(alloc, front.len() + back.len())?;
+                share_onto(front, &mut children)?;
+                share_onto(back, &mut children)?;
+                Ok(inners(alloc, self.node.height, children)?)
+            }
+            _ => unreachable!(),
+        }
+    }
+
+    // This tree and then a lower one, at this height.
+    fn followed(
+        &self,
+        alloc: Global,
+        other: &SumTree<T>,
+    ) -> Result<(SumTree<T>, Option<SumTree<T>>), AllocError>
+        requires lower { other.now.height ≤ self.now.height }
+        requires short { length (self.now.items ++ other.now.items) ≤ 2 ^ 40 }
+        requires fits { T.Summary.fits (fold T.Summary.empty T.Summary.op T.sum_of (self.now.items ++ other.now.items)) }
+        ensures { IfOk result (λ p. IsSplit self.now.height self.now.width (self.now.items ++ other.now.items) p.0 p.1) }
+    {
+        if other.height() == self.height() {
+            return self.beside(alloc, other);
+        }
+        match &self.node.content {
+            Content::Leaf(_) => unreachable!(),
+            Content::Inner(nodes) => {
+                let last = nodes.len() - 1;
+                let (front, back) = nodes[last].followed(alloc, other)?;
+                Ok(with_child(alloc, self.node.height, nodes, last, front, back)?)
+            }
+        }
+    }
+
+    // A lower tree and then this one, at this height.
+    fn preceded(
+        &self,
+        alloc: Global,
+        other: &SumTree<T>,
+    ) -> Result<(SumTree<T>, Option<SumTree<T>>), AllocError>
+        requires lower { other.now.height ≤ self.now.height }
+        requires short { length (other.now.items ++ self.now.items) ≤ 2 ^ 40 }
+        requires fits { T.Summary.fits (fold T.Summary.empty T.Summary.op T.sum_of (other.now.items ++ self.now.items)) }
+        ensures { IfOk result (λ p. IsSplit self.now.height self.now.width (other.now.items ++ self.now.items) p.0 p.1) }
+    {
+        if other.height() == self.height() {
+            return other.beside(alloc, self);
+        }
+        match &self.node.content {
+            Content::Leaf(_) => unreachable!(),
+            Content::Inner(nodes) => {
+                let (front, back) = nodes[0].preceded(alloc, other)?;
+                Ok(with_child(alloc, self.node.height, nodes, 0, front, back)?)
+            }
+        }
+    }
+
+    /// Puts the items of `other` behind those of this tree. With h the greater height of the two, it makes at most
+    /// 2 (h + 1) + 1 nodes, those where the two trees meet; the others are shared. On want of memory this tree is as
+    /// before, and `other` is let go.
+    pub fn append(&mut self, alloc: Global, other: SumTree<T>) -> Result<(), AllocError>
+        requires short { length (self.old.items ++ other.items) ≤ 2 ^ 40 }
+        requires fits { T.Summary.fits (fold T.Summary.empty T.Summary.op T.sum_of (self.old.items ++ other.items)) }
+        ensures ok { OnOk result (self.new.items ≡ self.old.items ++ other.items) }
+        ensures err { OnErr result (self.new ≡ self.old) }
+    {
+        *self = both(alloc, self, &other)?;
+        Ok(())
+    }
+
+    /// Puts one item behind the others. Where no other tree shares the nodes of the last path and its leaf has room, no
+    /// node is made; else at most 2 (h + 2), with h the height. On want of memory the tree is as before, and the item is
+    /// let go.
+    pub fn push(&mut self, alloc: Global, item: T) -> Result<(), AllocError>
+        requires short { length self.old.items < 2 ^ 40 }
+        requires fits { T.Summary.fits (fold T.Summary.empty T.Summary.op T.sum_of (self.old.items ++ item ∷ [])) }
+        ensures ok { OnOk result (self.new.items ≡ self.old.items ++ item ∷ []) }
+        ensures err { OnErr result (self.new ≡ self.old) }
+    {
+        match self.push_here(alloc, Entry::new(alloc, item)?)? {
+            None => Ok(()),
+            Some(entry) => {
+                let other = single(alloc, entry)?;
+                self.append(alloc, other)
+            }
+        }
+    }
+}
+
+// Both trees in one.
+pub(crate) fn both<T: Item>(
+    alloc: Global,
+    front: &SumTree<T>,
+    back: &SumTree<T>,
+) -> Result<SumTree<T>, AllocError>
+    requires short { length (front.now.items ++ back.now.items) ≤ 2 ^ 40 }
+    requires fits { T.Summary.fits (fold T.Summary.empty T.Summary.op T.sum_of (front.now.items ++ back.now.items)) }
+    ensures { IfOk result (λ t. t.items ≡ front.now.items ++ back.now.items) }
+{
+    if back.is_empty() {
+        return Ok(front.share()?);
+    }
+    if front.is_empty() {
+        return Ok(back.share()?);
+    }
+    if back.height() <= front.height() {
+        let (a, b) = front.followed(alloc, back)?;
+        Ok(root(alloc, a, b)?)
+    } else {
+        let (a, b) = back.preceded(alloc, front)?;
+        Ok(root(alloc, a, b)?)
+    }
+}
+
+// One tree of one or two of the same height.
+pub(crate) fn root<T: Item>(
+    alloc: Global,
+    front: SumTree<T>,
+    back: Option<SumTree<T>>,
+) -> Result<SumTree<T>, AllocError>
+    requires pair { IsSplit front.height 0 (joined (pair_list front back)) front back }
+    requires short { length (joined (pair_list front back)) ≤ 2 ^ 40 }
+    requires fits { T.Summary.fits (fold T.Summary.empty T.Summary.op T.sum_of (joined (pair_list front back))) }
+    ensures { IfOk result (λ t. t.items ≡ joined (pair_list front back)) }
+{
+    match back {
+        None => Ok(front),
+        Some(back) => {
+            let height = front.height() + 1;
+            let mut children = Vec::with_capacity(alloc, 2)?;
+            children.push(front)?;
+            children.push(back)?;
+            Ok(inner(alloc, height, children)?)
+        }
+    }
+}

@@ -1,0 +1,161 @@
+//! Trees whose items' keys ascend.
+ghost use Rattle.std.specs.Prelude.{◌≡◌, ℕ, ◌+◌, ◌-◌, ◌^◌, ◌<◌, ◌≤◌, ◌++◌, length, take, drop, slice_index_or, IfOk, OnOk, OnErr, All, [], ◌∷◌};
+ghost use Rattle.std.specs.Ordering.{is_lt};
+ghost use Rattle.std.specs.declared.cmp.Ordering.TheVariants.{Less, Greater};
+ghost use Rattle.std.specs.Option.{option_copied};
+ghost use Rattle.sum_tree.specs.Laws.{fold};
+ghost use Rattle.sum_tree.specs.Shape.{IsChild, joined};
+ghost use Rattle.sum_tree.specs.Keyed.{Ascending, held, inserted, removed, IsPlace};
+
+use crate::entry::Entry;
+use crate::traits::{Item, KeyedItem, Summary};
+use crate::tree::{Content, SumTree};
+use std::alloc::{AllocError, Global};
+use std::cmp::Ordering;
+
+// Where a key stands among entries.
+fn place<T: KeyedItem>(entries: &[Entry<T>], key: &T::Key) -> Result<usize, usize>
+    requires ascending { Ascending T.Key.cmp T.key_of entries.now }
+    ensures { IsPlace T.Key.cmp T.key_of key.now entries.now result }
+{
+    for (i, entry) in entries.iter().enumerate() {
+        match entry.item().key().cmp(key) {
+            Ordering::Less => {}
+            Ordering::Equal => return Ok(i),
+            Ordering::Greater => return Err(i),
+        }
+    }
+    Err(entries.len())
+}
+
+// Whether the last item's key is less than this one.
+fn ends_before<T: KeyedItem>(tree: &SumTree<T>, key: &T::Key) -> bool
+    requires filled { 1 ≤ length tree.now.items }
+    ensures { (d : T) → result ≡ is_lt (T.Key.cmp (T.key_of (slice_index_or tree.now.items (length tree.now.items - 1) d)) key.now) }
+{
+    tree.end().key().cmp(key).is_lt()
+}
+
+// The child in which a key stands or would stand, and how many items lie before that child.
+fn child_for<T: KeyedItem>(children: &[SumTree<T>], key: &T::Key) -> (usize, u64)
+    requires least { 1 ≤ length children.now }
+    requires filled { All (λ t. 1 ≤ length t.items) children.now }
+    requires short { length (joined children.now) ≤ 2 ^ 40 }
+    requires ascending { Ascending T.Key.cmp T.key_of (joined children.now) }
+    ensures child { result.0 < length children.now }
+    ensures count { result.1 ≡ length (joined (take result.0 children.now)) }
+    ensures before { All (λ x. T.Key.cmp (T.key_of x) key.now ≡ Less) (joined (take result.0 children.now)) }
+    ensures behind { All (λ x. T.Key.cmp (T.key_of x) key.now ≡ Greater) (joined (drop (result.0 + 1) children.now)) }
+{
+    let last = children.len() - 1;
+    let mut before = 0;
+    for k in 0..last {
+        if !ends_before(&children[k], key) {
+            return (k, before);
+        }
+        before += children[k].len();
+    }
+    (last, before)
+}
+
+impl<T: KeyedItem> SumTree<T> {
+    // Where a key stands among the items.
+    fn position(&self, key: &T::Key) -> Result<u64, u64>
+        requires ascending { Ascending T.Key.cmp T.key_of self.now.items }
+        ensures { IsPlace T.Key.cmp T.key_of key.now self.now.items result }
+    {
+        self.known();
+        let mut node = self;
+        let mut before = 0;
+        loop {
+            match &node.node.content {
+                Content::Leaf(entries) => {
+                    return match place(entries, key) {
+                        Ok(i) => Ok(before + i as u64),
+                        Err(i) => Err(before + i as u64),
+                    };
+                }
+                Content::Inner(children) => {
+                    let (k, count) = child_for(children, key);
+                    before += count;
+                    node = &children[k];
+                }
+            }
+        }
+    }
+
+    /// The item with this key, if there is one. The keys of the items ascend strictly. Takes no memory: with h the
+    /// height it compares with at most 12 items a level, each of which is at most h nodes away.
+    pub fn find(&self, key: &T::Key) -> Option<&T>
+        requires ascending { Ascending T.Key.cmp T.key_of self.now.items }
+        ensures { option_copied result ≡ held T.Key.cmp T.key_of key.now self.now.items }
+    {
+        match self.position(key) {
+            Ok(i) => Some(self.at(i)),
+            Err(_) => None,
+        }
+    }
+
+    // Puts one item in the place of a range.
+    fn put_item(&mut self, alloc: Global, from: u64, to: u64, item: T) -> Result<(), AllocError>
+        requires order { from ≤ to }
+        requires within { to ≤ length self.old.items }
+        requires short { length ((take from self.old.items ++ item ∷ []) ++ drop to self.old.items) ≤ 2 ^ 40 }
+        requires fits { T.Summary.fits (fold T.Summary.empty T.Summary.op T.sum_of ((take from self.old.items ++ item ∷ []) ++ drop to self.old.items)) }
+        ensures ok { OnOk result (self.new.items ≡ (take from self.old.items ++ item ∷ []) ++ drop to self.old.items) }
+        ensures err { OnErr result (self.new ≡ self.old) }
+    {
+        let entry = Entry::new(alloc, item)?;
+        let mut entries = Vec::with_capacity(alloc, 1)?;
+        entries.push(entry)?;
+        self.put(alloc, from, to, entries)
+    }
+
+    /// Puts an item at the place of its key, and answers the item of an equal key that stood there. The keys of the
+    /// items ascend strictly. Where no other tree shares the nodes on the way and the leaf has room, no node is made;
+    /// else at most two nodes for each level, and one more for the root. On want of memory the tree is as before, and
+    /// the item is let go.
+    pub fn insert(&mut self, alloc: Global, item: T) -> Result<Option<T>, AllocError>
+        requires ascending { Ascending T.Key.cmp T.key_of self.old.items }
+        requires short { length (inserted T.Key.cmp T.key_of item self.old.items) ≤ 2 ^ 40 }
+        requires fits { T.Summary.fits (fold T.Summary.empty T.Summary.op T.sum_of (inserted T.Key.cmp T.key_of item self.old.items)) }
+        ensures replaced { IfOk result (λ o. o ≡ held T.Key.cmp T.key_of (T.key_of item) self.old.items) }
+        ensures ok { OnOk result (self.new.items ≡ inserted T.Key.cmp T.key_of item self.old.items) }
+        ensures err { OnErr result (self.new ≡ self.old) }
+        ensures ascending { Ascending T.Key.cmp T.key_of self.new.items }
+    {
+        match self.position(&item.key()) {
+            Ok(i) => {
+                let old = self.at(i).copy(alloc)?;
+                self.put_item(alloc, i, i + 1, item)?;
+                Ok(Some(old))
+            }
+            Err(i) => {
+                self.put_item(alloc, i, i, item)?;
+                Ok(None)
+            }
+        }
+    }
+
+    /// Takes the item with this key out, if there is one, and answers it. The keys of the items ascend strictly. Where
+    /// no other tree shares the nodes on the way and the leaf has more than 6 entries or is the root, no node is made;
+    /// else at most two nodes for each level, and one more for each child that became narrow. On want of memory the
+    /// tree is as before.
+    pub fn remove(&mut self, alloc: Global, key: &T::Key) -> Result<Option<T>, AllocError>
+        requires ascending { Ascending T.Key.cmp T.key_of self.old.items }
+        ensures removed { IfOk result (λ o. o ≡ held T.Key.cmp T.key_of key.now self.old.items) }
+        ensures ok { OnOk result (self.new.items ≡ removed T.Key.cmp T.key_of key.now self.old.items) }
+        ensures err { OnErr result (self.new ≡ self.old) }
+        ensures ascending { Ascending T.Key.cmp T.key_of self.new.items }
+    {
+        self.known();
+        match self.position(key) {
+            Ok(i) => {
+                let old = self.at(i).copy(alloc)?;
+                self.put(alloc, i, i + 1, Vec::new(alloc))?;
+                Ok(Some(old))
+            }
+            Err(_) => Ok(None),
+        }
+    }
+}

@@ -1,0 +1,25 @@
+//! A copy-on-write B-tree, generic over its items and their summaries.
+#![tactic(auto)]
+
+mod around;
+mod count;
+mod cut;
+mod entry;
+mod grow;
+mod here;
+mod keyed;
+mod list;
+mod parts;
+mod read;
+mod splice;
+mod threads;
+mod traits;
+mod tree;
+
+pub use count::Count;
+pub use entry::Entry;
+pub use parts::Parts;
+pub use std::alloc::AllocError as OutOfMemory;
+pub use threads::crosses_threads;
+pub use traits::{Item, KeyedItem, Summary};
+pub use tree::SumTree;

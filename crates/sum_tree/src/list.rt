@@ -1,0 +1,131 @@
+//! A tree made of a list, level by level.
+ghost use Rattle.std.specs.Prelude.{◌≡◌, ℕ, ◌+◌, ◌*◌, ◌^◌, ◌<◌, ◌≤◌, ◌++◌, length, IfOk, All};
+ghost use Rattle.sum_tree.specs.Laws.{fold};
+ghost use Rattle.sum_tree.specs.Shape.{IsChild, joined};
+ghost use Rattle.sum_tree.specs.Groups.{chained, IsGroup};
+
+use crate::entry::Entry;
+use crate::traits::Item;
+use crate::tree::{LEAST, MOST, SumTree, inner, leaf};
+use std::alloc::{AllocError, Global};
+
+// How many of the last elements of n are the last run, so that all runs but two at most are full.
+fn last_run(n: usize) -> usize
+    requires least { 6 ≤ n }
+    ensures least { 6 ≤ result }
+    ensures most { result ≤ 12 }
+    ensures within { result ≤ n }
+    ensures rest { result < n → 6 + result ≤ n }
+{
+    let over = n % MOST;
+    if n <= MOST {
+        n
+    } else if over == 0 {
+        MOST
+    } else if over < LEAST {
+        LEAST
+    } else {
+        over
+    }
+}
+
+// The elements in runs of 12, at most two of which are shorter, but of at least 6.
+fn groups<X: Drop>(alloc: Global, mut items: Vec<X>) -> Result<Vec<Vec<X>>, AllocError>
+    requires least { 6 ≤ length items.items }
+    ensures chained { IfOk result (λ gs. chained gs.items ≡ items.items) }
+    ensures sizes { IfOk result (λ gs. All IsGroup gs.items) }
+    ensures few { IfOk result (λ gs. 6 * length gs.items ≤ length items.items) }
+    ensures enough { IfOk result (λ gs. length items.items ≤ 12 * length gs.items) }
+{
+    let mut groups = Vec::with_capacity(alloc, items.len() / MOST + 1)?;
+    while !items.is_empty() {
+        let first = items.len() - last_run(items.len());
+        groups.push(items.split_off(first)?)?;
+    }
+    groups.reverse();
+    Ok(groups)
+}
+
+// An entry for each item.
+pub(crate) fn entries_of<T: Item>(alloc: Global, items: Vec<T>) -> Result<Vec<Entry<T>>, AllocError>
+    requires fits { T.Summary.fits (fold T.Summary.empty T.Summary.op T.sum_of items.items) }
+    ensures { IfOk result (λ es. es.items ≡ items.items) }
+{
+    let mut entries = Vec::with_capacity(alloc, items.len())?;
+    for item in items {
+        entries.push(Entry::new(alloc, item)?)?;
+    }
+    Ok(entries)
+}
+
+// A leaf for each run.
+fn leaf_level<T: Item>(
+    alloc: Global,
+    groups: Vec<Vec<Entry<T>>>,
+) -> Result<Vec<SumTree<T>>, AllocError>
+    requires sizes { All IsGroup groups.items }
+    requires fits { T.Summary.fits (fold T.Summary.empty T.Summary.op T.sum_of (chained groups.items)) }
+    ensures items { IfOk result (λ ts. joined ts.items ≡ chained groups.items) }
+    ensures children { IfOk result (λ ts. All (IsChild 1) ts.items) }
+    ensures fewer { IfOk result (λ ts. length ts.items ≡ length groups.items) }
+{
+    let mut nodes = Vec::with_capacity(alloc, groups.len())?;
+    for group in groups {
+        nodes.push(leaf(alloc, group)?)?;
+    }
+    Ok(nodes)
+}
+
+// A node for each run of nodes.
+fn inner_level<T: Item>(
+    alloc: Global,
+    height: u32,
+    groups: Vec<Vec<SumTree<T>>>,
+) -> Result<Vec<SumTree<T>>, AllocError>
+    requires sizes { All IsGroup groups.items }
+    requires children { All (IsChild height) (chained groups.items) }
+    requires short { length (joined (chained groups.items)) ≤ 2 ^ 40 }
+    requires fits { T.Summary.fits (fold T.Summary.empty T.Summary.op T.sum_of (joined (chained groups.items))) }
+    ensures items { IfOk result (λ ts. joined ts.items ≡ joined (chained groups.items)) }
+    ensures children { IfOk result (λ ts. All (IsChild (height + 1)) ts.items) }
+    ensures fewer { IfOk result (λ ts. length ts.items ≡ length groups.items) }
+{
+    let mut nodes = Vec::with_capacity(alloc, groups.len())?;
+    for group in groups {
+        nodes.push(inner(alloc, height, group)?)?;
+    }
+    Ok(nodes)
+}
+
+// The tree of these entries.
+pub(crate) fn from_entries<T: Item>(
+    alloc: Global,
+    entries: Vec<Entry<T>>,
+) -> Result<SumTree<T>, AllocError>
+    requires short { length entries.items ≤ 2 ^ 40 }
+    requires fits { T.Summary.fits (fold T.Summary.empty T.Summary.op T.sum_of entries.items) }
+    ensures { IfOk result (λ t. t.items ≡ entries.items) }
+{
+    if entries.len() <= MOST {
+        return Ok(leaf(alloc, entries)?);
+    }
+    let mut nodes = leaf_level(alloc, groups(alloc, entries)?)?;
+    let mut height = 1;
+    while nodes.len() > MOST {
+        nodes = inner_level(alloc, height, groups(alloc, nodes)?)?;
+        height += 1;
+    }
+    Ok(inner(alloc, height, nodes)?)
+}
+
+impl<T: Item> SumTree<T> {
+    /// The tree of these items, in time that grows with their number alone. Nodes are made level by level and are full,
+    /// but for two at most in each level. On want of memory the items are let go.
+    pub fn from_list(alloc: Global, items: Vec<T>) -> Result<SumTree<T>, AllocError>
+        requires short { length items.items ≤ 2 ^ 40 }
+        requires fits { T.Summary.fits (fold T.Summary.empty T.Summary.op T.sum_of items.items) }
+        ensures { IfOk result (λ t. t.items ≡ items.items) }
+    {
+        from_entries(alloc, entries_of(alloc, items)?)
+    }
+}

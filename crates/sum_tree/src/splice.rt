@@ -1,0 +1,255 @@
+//! Other items in the place of a range.
+ghost use Rattle.std.specs.Prelude.{◌≡◌, ℕ, ◌+◌, ◌-◌, ◌^◌, ◌<◌, ◌≤◌, ◌++◌, length, IfOk, OnOk, OnErr, IfSome, All};
+ghost use Rattle.sum_tree.specs.Laws.{fold};
+ghost use Rattle.sum_tree.specs.Shape.{IsChild, joined};
+ghost use Rattle.sum_tree.specs.Grown.{with_pair, with_run, pair_list};
+ghost use Rattle.sum_tree.specs.Spliced.{spliced, IsPiece, IsSpliced, IsSplicing, IsWithin};
+
+use crate::entry::Entry;
+use crate::grow::{both, copy_onto, gathered, inners, leaves, root};
+use crate::here::Placing;
+use crate::list::{entries_of, from_entries};
+use crate::traits::Item;
+use crate::tree::{Content, LEAST, MOST, SumTree};
+use std::alloc::{AllocError, Global};
+
+// What came of a change within one leaf: what stands in the node's place, or the new entries, where the range does not
+// lie in one leaf or they are too many for two.
+#[derive(Drop)]
+pub(crate) enum Splicing<N: Drop, E: Drop> {
+    Done(N, Option<N>),
+    Back(E),
+}
+
+// The first child that holds all of a range, and where the range begins there.
+pub(crate) fn child_with<T: Item>(
+    children: &[SumTree<T>],
+    from: u64,
+    count: u64,
+) -> Option<(usize, u64)>
+    ensures { IfSome result (λ p. IsWithin children.now from count p.0 p.1) }
+{
+    let mut rest = from;
+    for (k, child) in children.iter().enumerate() {
+        let len = child.len();
+        if rest <= len && count <= len - rest {
+            return Some((k, rest));
+        }
+        if rest < len {
+            return None;
+        }
+        rest -= len;
+    }
+    None
+}
+
+// Some entries, then others, then more.
+pub(crate) fn three_parts<T: Item>(
+    alloc: Global,
+    front: &[Entry<T>],
+    mut middle: Vec<Entry<T>>,
+    back: &[Entry<T>],
+) -> Result<Vec<Entry<T>>, AllocError>
+    requires front { length front.now ≤ 12 }
+    requires middle { length middle.items ≤ 24 }
+    requires back { length back.now ≤ 12 }
+    ensures { IfOk result (λ es. es.items ≡ (front.now ++ middle.items) ++ back.now) }
+{
+    let mut entries = Vec::with_capacity(alloc, front.len() + middle.len() + back.len())?;
+    copy_onto(alloc, front, &mut entries)?;
+    entries.append(&mut middle)?;
+    copy_onto(alloc, back, &mut entries)?;
+    Ok(entries)
+}
+
+// What stands in the place of a node whose children from `from` up to `to` are replaced.
+fn with_children<T: Item>(
+    alloc: Global,
+    height: u32,
+    nodes: &[SumTree<T>],
+    from: usize,
+    to: usize,
+    front: SumTree<T>,
+    back: Option<SumTree<T>>,
+) -> Result<(SumTree<T>, Option<SumTree<T>>), AllocError>
+    requires children { All (IsChild height) nodes.now }
+    requires least { 2 ≤ length nodes.now }
+    requires most { length nodes.now ≤ 12 }
+    requires order { from < to }
+    requires few { to ≤ from + 2 }
+    requires within { to ≤ length nodes.now }
+    requires pair { All (IsChild height) (pair_list front back) }
+    requires short { length (joined (with_run nodes.now from to front back)) ≤ 2 ^ 40 }
+    requires fits { T.Summary.fits (fold T.Summary.empty T.Summary.op T.sum_of (joined (with_run nodes.now from to front back))) }
+    ensures { IfOk result (λ p. IsSpliced height (length nodes.now) (joined (with_run nodes.now from to front back)) p.0 p.1) }
+{
+    if to - from == nodes.len() && back.is_none() {
+        return Ok((front, None));
+    }
+    let children = gathered(alloc, nodes, from, to, front, back)?;
+    Ok(inners(alloc, height, children)?)
+}
+
+// What stands in the place of a node whose child at k became `front` and `back`. A narrow child is joined with one
+// beside it.
+fn mended<T: Item>(
+    alloc: Global,
+    height: u32,
+    nodes: &[SumTree<T>],
+    k: usize,
+    front: SumTree<T>,
+    back: Option<SumTree<T>>,
+) -> Result<(SumTree<T>, Option<SumTree<T>>), AllocError>
+    requires children { All (IsChild height) nodes.now }
+    requires least { 2 ≤ length nodes.now }
+    requires most { length nodes.now ≤ 12 }
+    requires within { k < length nodes.now }
+    requires pair { IsPiece height front back }
+    requires short { length (joined (with_pair nodes.now k front back)) ≤ 2 ^ 40 }
+    requires fits { T.Summary.fits (fold T.Summary.empty T.Summary.op T.sum_of (joined (with_pair nodes.now k front back))) }
+    ensures { IfOk result (λ p. IsSpliced height (length nodes.now) (joined (with_pair nodes.now k front back)) p.0 p.1) }
+{
+    if back.is_some() || front.width() >= LEAST {
+        return with_children(alloc, height, nodes, k, k + 1, front, back);
+    }
+    if k > 0 {
+        let (front, back) = nodes[k - 1].beside(alloc, &front)?;
+        return with_children(alloc, height, nodes, k - 1, k + 1, front, back);
+    }
+    let (front, back) = front.beside(alloc, &nodes[1])?;
+    with_children(alloc, height, nodes, 0, 2, front, back)
+}
+
+impl<T: Item> SumTree<T> {
+    // How many entries the root has.
+    pub(crate) fn width(&self) -> usize
+        ensures { result ≡ self.now.width }
+    {
+        match &self.node.content {
+            Content::Leaf(entries) => entries.len(),
+            Content::Inner(children) => children.len(),
+        }
+    }
+
+    // The change within one leaf, where it is one: the nodes above it are made anew, this tree stays as it is.
+    fn spliced_leaf(
+        &self,
+        alloc: Global,
+        from: u64,
+        count: u64,
+        entries: Vec<Entry<T>>,
+    ) -> Result<Splicing<SumTree<T>, Vec<Entry<T>>>, AllocError>
+        requires within { from + count ≤ length self.now.items }
+        requires short { length (spliced from (from + count) entries.items self.now.items) ≤ 2 ^ 40 }
+        requires fits { T.Summary.fits (fold T.Summary.empty T.Summary.op T.sum_of (spliced from (from + count) entries.items self.now.items)) }
+        ensures { IfOk result (λ r. IsSplicing self.now.height self.now.width (spliced from (from + count) entries.items self.now.items) entries.items r) }
+    {
+        match &self.node.content {
+            Content::Leaf(old) => {
+                if entries.len() > MOST {
+                    return Ok(Splicing::Back(entries));
+                }
+                let first = from as usize;
+                let after = (from + count) as usize;
+                let all = three_parts(alloc, &old[..first], entries, &old[after..])?;
+                let (front, back) = leaves(alloc, all)?;
+                Ok(Splicing::Done(front, back))
+            }
+            Content::Inner(children) => {
+                let (k, first) = match child_with(children, from, count) {
+                    None => return Ok(Splicing::Back(entries)),
+                    Some(place) => place,
+                };
+                match children[k].spliced_leaf(alloc, first, count, entries)? {
+                    Splicing::Back(entries) => Ok(Splicing::Back(entries)),
+                    Splicing::Done(front, back) => {
+                        let (front, back) = mended(
+                            alloc,
+                            self.node.height,
+                            children,
+                            k,
+                            front,
+                            back,
+                        )?;
+                        Ok(Splicing::Done(front, back))
+                    }
+                }
+            }
+        }
+    }
+
+    // The tree with these entries in the place of a range.
+    fn with_splice(
+        &self,
+        alloc: Global,
+        from: u64,
+        to: u64,
+        entries: Vec<Entry<T>>,
+    ) -> Result<SumTree<T>, AllocError>
+        requires order { from ≤ to }
+        requires within { to ≤ length self.now.items }
+        requires short { length (spliced from to entries.items self.now.items) ≤ 2 ^ 40 }
+        requires fits { T.Summary.fits (fold T.Summary.empty T.Summary.op T.sum_of (spliced from to entries.items self.now.items)) }
+        ensures { IfOk result (λ t. t.items ≡ spliced from to entries.items self.now.items) }
+    {
+        match self.spliced_leaf(alloc, from, to - from, entries)? {
+            Splicing::Done(front, back) => Ok(root(alloc, front, back)?),
+            Splicing::Back(entries) => {
+                let front = self.taken(alloc, from)?;
+                let middle = from_entries(alloc, entries)?;
+                let back = self.dropped(alloc, to)?;
+                let front = both(alloc, &front, &middle)?;
+                Ok(both(alloc, &front, &back)?)
+            }
+        }
+    }
+
+    // Puts entries in the place of a range.
+    pub(crate) fn put(
+        &mut self,
+        alloc: Global,
+        from: u64,
+        to: u64,
+        entries: Vec<Entry<T>>,
+    ) -> Result<(), AllocError>
+        requires order { from ≤ to }
+        requires within { to ≤ length self.old.items }
+        requires short { length (spliced from to entries.items self.old.items) ≤ 2 ^ 40 }
+        requires fits { T.Summary.fits (fold T.Summary.empty T.Summary.op T.sum_of (spliced from to entries.items self.old.items)) }
+        ensures ok { OnOk result (self.new.items ≡ spliced from to entries.items self.old.items) }
+        ensures err { OnErr result (self.new ≡ self.old) }
+    {
+        let around = Vec::with_capacity(alloc, self.height() as usize)?;
+        match self.place_here(alloc, 0, from, to - from, entries, around)? {
+            Placing::Done(_) => return Ok(()),
+            Placing::Back(entries) => {
+                *self = self.with_splice(alloc, from, to, entries)?;
+                return Ok(());
+            }
+        }
+    }
+
+    /// Puts items in the place of those from `from` up to `to`. Where the range lies in one leaf, at most 12 items come,
+    /// that leaf keeps 6 to 12 entries (a root 0 to 12) and no other tree shares the nodes above it or itself, they are
+    /// changed in place and no node is made: the leaf gets a new list of entries, and each node on the path a new sum.
+    /// Else, where the range lies in one leaf and at most 12 items come, it is one descent that makes at most two nodes
+    /// for each level, and one more node for a child that became narrow; else a front, the new items and a rest are put
+    /// together. On want of memory the tree is as before, and the items are let go.
+    pub fn splice(
+        &mut self,
+        alloc: Global,
+        from: u64,
+        to: u64,
+        items: Vec<T>,
+    ) -> Result<(), AllocError>
+        requires order { from ≤ to }
+        requires within { to ≤ length self.old.items }
+        requires short { length (spliced from to items.items self.old.items) ≤ 2 ^ 40 }
+        requires fits { T.Summary.fits (fold T.Summary.empty T.Summary.op T.sum_of (spliced from to items.items self.old.items)) }
+        ensures ok { OnOk result (self.new.items ≡ spliced from to items.items self.old.items) }
+        ensures err { OnErr result (self.new ≡ self.old) }
+    {
+        let entries = entries_of(alloc, items)?;
+        self.put(alloc, from, to, entries)
+    }
+}

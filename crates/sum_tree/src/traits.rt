@@ -1,0 +1,66 @@
+//! What the tree asks of its items and of their summaries.
+ghost use Rattle.std.specs.Prelude.{◌≡◌, IfOk};
+ghost use Rattle.sum_tree.specs.Laws.{SummaryLaws};
+
+use std::alloc::{AllocError, Global};
+
+/// What is kept of a run of items: a sum, whose addition is associative and has a zero.
+///
+/// A sum may hold memory, so `zero` and `add` are passed the allocator, and `add` may answer want of memory. Contracts
+/// see the zero as `empty` and the addition as `op`. `fits` says of which sums the type has room for; it is what `add`
+/// asks. `admits` says which values the type has at all, as the lengths of some text; the laws speak of those alone.
+/// `single` says which sums a single item may have.
+pub trait Summary: Sized + Drop {
+    ghost empty: { Self };
+
+    ghost op: { Self → Self → Self };
+
+    ghost admits: { Self → Type 0 };
+
+    ghost fits: { Self → Type 0 };
+
+    ghost single: { Self → Type 0 };
+
+    /// The sum of no items.
+    fn zero(alloc: Global) -> Self
+        ensures { result ≡ empty };
+
+    /// Adds a sum behind this one.
+    fn add(&mut self, alloc: Global, other: &Self) -> Result<(), AllocError>
+        requires { fits (op self.old other.now) }
+        ensures { IfOk result (λ _. self.new ≡ op self.old other.now) };
+
+    ghost laws: { SummaryLaws empty op admits fits };
+}
+
+/// What stands in a tree: something with a summary, of which copies can be made.
+pub trait Item: Sized + Drop {
+    /// What is kept of a run of such items.
+    type Summary: Summary;
+
+    ghost sum_of: { Self → Self.Summary };
+
+    /// The summary of this item alone.
+    fn summary(&self, alloc: Global) -> Result<Self::Summary, AllocError>
+        ensures { IfOk result (λ s. s ≡ sum_of self.now) };
+
+    /// An item equal to this one.
+    fn copy(&self, alloc: Global) -> Result<Self, AllocError>
+        ensures { IfOk result (λ x. x ≡ self.now) };
+
+    ghost admitted: { (x : Self) → Self.Summary.admits (sum_of x) };
+
+    ghost is_single: { (x : Self) → Self.Summary.single (sum_of x) };
+}
+
+/// An item with a key, by which a tree can be ordered.
+pub trait KeyedItem: Item {
+    /// What the items are ordered by.
+    type Key: Ord + Copy;
+
+    ghost key_of: { Self → Self.Key };
+
+    /// The key of this item.
+    fn key(&self) -> Self::Key
+        ensures { result ≡ key_of self.now };
+}

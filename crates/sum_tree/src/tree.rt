@@ -1,0 +1,208 @@
+//! A copy-on-write tree, seen as the list of its items.
+ghost use Rattle.std.specs.Prelude.{◌≡◌, ℕ, ◌+◌, ◌^◌, ◌<◌, ◌≤◌, OnOk, All, [], ◌∷◌, ◌++◌, length, IfOk, IsTrue, ◌↔◌};
+ghost use Rattle.sum_tree.specs.Laws.{fold};
+ghost use Rattle.sum_tree.specs.Shape.{IsNode, IsChild, joined};
+ghost use Rattle.sum_tree.specs.Grown.{IsSplit};
+
+use crate::entry::Entry;
+use crate::traits::{Item, Summary};
+use std::alloc::{AllocError, Global};
+use std::marker::Model;
+use std::sync::Arc;
+
+/// The least entries of a node that is not a root.
+pub(crate) const LEAST: usize = 6;
+
+/// The most entries that a node has.
+pub(crate) const MOST: usize = 12;
+
+/// A shared B-tree of items, each node of which holds the sum of what lies below it.
+///
+/// Contracts see a tree as a record of its `items` in order, its `height` and its `width`, the number of its root's
+/// entries. Leaves have height 0 and lie at one depth. Every node but the root has 6 to 12 entries, an inner root at
+/// least 2, a leaf root 0 to 12; a tree has at most 2^40 items, so a height is at most 15. Nodes stand behind `Arc`:
+/// trees share them, and a change makes new nodes for those on its path.
+#[cycle(tree)]
+#[derive(Drop)]
+pub struct SumTree<T: Item> {
+    pub(crate) node: Arc<Node<T>>,
+}
+
+#[cycle(tree)]
+#[derive(Drop)]
+pub(crate) struct Node<T: Item> {
+    pub(crate) height: u32,
+    pub(crate) len: u64,
+    pub(crate) sum: T::Summary,
+    pub(crate) content: Content<T>,
+}
+
+#[cycle(tree)]
+#[derive(Drop)]
+pub(crate) enum Content<T: Item> {
+    Leaf(Vec<Entry<T>>),
+    Inner(Vec<SumTree<T>>),
+}
+
+impl<T: Item> Model for SumTree<T> {
+    ghost use Rattle.sum_tree.specs.Seen.{Seen};
+
+    ghost Value = { Seen T };
+
+    ghost use Rattle.std.specs.Arc.{arc_value};
+    ghost use Rattle.sum_tree.specs.Shape.{seen, IsNode};
+
+    ghost view = { λ a. seen (arc_value a.node) };
+
+    ghost invariant = { λ a. IsNode T.Summary.empty T.Summary.op T.Summary.fits T.sum_of (arc_value a.node) };
+
+    ghost size = { λ v. v.height };
+
+    ghost use Rattle.sum_tree.specs.Falls.{content_lower};
+    ghost use Rattle.std.proofs.Common.{arith};
+
+    ghost size_decreases = { λ a h. Prim.omega (arith, content_lower T.Item T.Summary.Summary (arc_value a.node).height (arc_value a.node).content h.0) };
+}
+
+impl<T: Item> SumTree<T> {
+    /// The tree without items: one node.
+    pub fn new(alloc: Global) -> Result<SumTree<T>, AllocError>
+        ensures items { IfOk result (λ t. t.items ≡ []) }
+        ensures height { IfOk result (λ t. t.height ≡ 0) }
+    {
+        let node = Node {
+            height: 0,
+            len: 0,
+            sum: T::Summary::zero(alloc),
+            content: Content::Leaf(Vec::new(alloc)),
+        };
+        let node = Arc::new(alloc, node)?;
+        Ok(SumTree { node })
+    }
+
+    /// How many levels lie below the root: 0 where the root is a leaf. Takes no memory.
+    pub fn height(&self) -> u32
+        ensures { result ≡ self.now.height }
+    {
+        self.node.height
+    }
+
+    /// How many items there are. Takes no memory, and looks at the root alone.
+    pub fn len(&self) -> u64
+        ensures { result ≡ length self.now.items }
+    {
+        self.node.len
+    }
+
+    /// Whether there are no items. Takes no memory.
+    pub fn is_empty(&self) -> bool
+        ensures { IsTrue result ↔ (self.now.items ≡ []) }
+    {
+        self.node.len == 0
+    }
+
+    /// The sum of the summaries of all items, from the first to the last. Takes no memory.
+    pub fn summary(&self) -> &T::Summary
+        ensures { result.now ≡ fold T.Summary.empty T.Summary.op T.sum_of self.now.items }
+    {
+        &self.node.sum
+    }
+
+    /// What holds of every tree, for callers that see its value alone. It does nothing when it runs.
+    pub fn known(&self)
+        ensures short { length self.now.items ≤ 2 ^ 40 }
+        ensures low { self.now.height ≤ 15 }
+        ensures fits { T.Summary.fits (fold T.Summary.empty T.Summary.op T.sum_of self.now.items) }
+    {
+        let _node = &self.node;
+    }
+
+    /// A second owner of the same nodes. No node is made; the count of owners can be refused.
+    pub fn share(&self) -> Result<SumTree<T>, AllocError>
+        ensures { IfOk result (λ t. t ≡ self.now) }
+    {
+        let node = Arc::try_clone(&self.node)?;
+        Ok(SumTree { node })
+    }
+
+    /// The tree of one item: one node.
+    pub fn from_item(alloc: Global, item: T) -> Result<SumTree<T>, AllocError>
+        requires { T.Summary.fits (fold T.Summary.empty T.Summary.op T.sum_of (item ∷ [])) }
+        ensures items { IfOk result (λ t. t.items ≡ item ∷ []) }
+        ensures height { IfOk result (λ t. t.height ≡ 0) }
+    {
+        single(alloc, Entry::new(alloc, item)?)
+    }
+}
+
+// The tree of one entry.
+pub(crate) fn single<T: Item>(alloc: Global, entry: Entry<T>) -> Result<SumTree<T>, AllocError>
+    requires { T.Summary.fits (fold T.Summary.empty T.Summary.op T.sum_of (entry ∷ [])) }
+    ensures items { IfOk result (λ t. t.items ≡ entry ∷ []) }
+    ensures height { IfOk result (λ t. t.height ≡ 0) }
+{
+    let mut entries = Vec::new(alloc);
+    entries.push(entry)?;
+    leaf(alloc, entries)
+}
+
+// The leaf of these entries.
+pub(crate) fn leaf<T: Item>(alloc: Global, entries: Vec<Entry<T>>) -> Result<SumTree<T>, AllocError>
+    requires narrow { length entries.items ≤ 12 }
+    requires fits { T.Summary.fits (fold T.Summary.empty T.Summary.op T.sum_of entries.items) }
+    ensures items { IfOk result (λ t. t.items ≡ entries.items) }
+    ensures height { IfOk result (λ t. t.height ≡ 0) }
+    ensures width { IfOk result (λ t. t.width ≡ length entries.items) }
+{
+    let mut sum = T::Summary::zero(alloc);
+    for entry in &entries {
+        sum.add(alloc, entry.sum())?;
+    }
+    let len = entries.len() as u64;
+    let content = Content::Leaf(entries);
+    let node = Arc::new(
+        alloc,
+        Node {
+            height: 0,
+            len,
+            sum,
+            content,
+        },
+    )?;
+    Ok(SumTree { node })
+}
+
+// The node of these children.
+pub(crate) fn inner<T: Item>(
+    alloc: Global,
+    height: u32,
+    children: Vec<SumTree<T>>,
+) -> Result<SumTree<T>, AllocError>
+    requires children { All (IsChild height) children.items }
+    requires least { 2 ≤ length children.items }
+    requires most { length children.items ≤ 12 }
+    requires short { length (joined children.items) ≤ 2 ^ 40 }
+    requires fits { T.Summary.fits (fold T.Summary.empty T.Summary.op T.sum_of (joined children.items)) }
+    ensures items { IfOk result (λ t. t.items ≡ joined children.items) }
+    ensures height { IfOk result (λ t. t.height ≡ height) }
+    ensures width { IfOk result (λ t. t.width ≡ length children.items) }
+    ensures many { IfOk result (λ t. 6 ≤ t.width → 6 ^ (t.height + 1) ≤ length t.items) }
+{
+    let mut sum = T::Summary::zero(alloc);
+    let mut len = 0;
+    for child in &children {
+        sum.add(alloc, child.summary())?;
+        len += child.len();
+    }
+    let content = Content::Inner(children);
+    let node = Arc::new(
+        alloc,
+        Node {
+            height,
+            len,
+            sum,
+            content,
+        },
+    )?;
+    Ok(SumTree { node })
+}
