@@ -1,0 +1,367 @@
+//! Trees against plain lists, and by their keys, with ample memory.
+ghost use Rattle.std.specs.Prelude.{◌≡◌, ◌<◌, ◌≤◌, List};
+ghost use Rattle.sum_tree.specs.Laws.{fold};
+ghost use Rattle.sum_tree.specs.Keyed.{Ascending};
+
+use crate::number::Number;
+use crate::numbered::Numbered;
+use crate::work::{insert_to, listed, made, pushed, splice_in, step};
+use std::alloc::{AllocError, Global};
+use sum_tree::{Parts, SumTree};
+
+fn number_of<T: Numbered>(item: Option<&T>) -> Option<u64> {
+    match item {
+        None => None,
+        Some(item) => Some(item.number()),
+    }
+}
+
+fn width<T: Numbered>(tree: &SumTree<T>) -> usize {
+    match tree.parts() {
+        Parts::Leaf(entries) => entries.len(),
+        Parts::Inner(children) => children.len(),
+    }
+}
+
+// Puts a node's children behind others, and tells whether they are of this height and have 6 to 12 entries each.
+fn children_onto<'a, T: Numbered>(
+    node: &'a SumTree<T>,
+    height: u32,
+    next: &mut Vec<&'a SumTree<T>>,
+) -> Result<bool, AllocError> {
+    match node.parts() {
+        Parts::Leaf(_) => Ok(false),
+        Parts::Inner(children) => {
+            let mut even = true;
+            for child in children {
+                let entries = width(child);
+                even = even && child.height() == height && entries >= 6 && entries <= 12;
+                next.push(child)?;
+            }
+            Ok(even)
+        }
+    }
+}
+
+// Whether all leaves lie at one depth, and each node below the root has 6 to 12 entries.
+fn is_even<T: Numbered>(alloc: Global, tree: &SumTree<T>) -> Result<bool, AllocError> {
+    let mut level = Vec::new(alloc);
+    level.push(tree)?;
+    let mut even = true;
+    for height in (0..tree.height()).rev() {
+        let mut next = Vec::new(alloc);
+        for node in &level {
+            even = children_onto(*node, height, &mut next)? && even;
+        }
+        level = next;
+    }
+    for leaf in &level {
+        even = even && leaf.height() == 0;
+    }
+    Ok(even)
+}
+
+// Whether a tree has these numbers, and nodes of the sizes that it should have.
+fn mirrors<T: Numbered>(
+    alloc: Global,
+    tree: &SumTree<T>,
+    numbers: &[u64],
+) -> Result<bool, AllocError> {
+    let n = numbers.len() as u64;
+    let mut same = tree.len() == n && tree.is_empty() == (n == 0) && tree.get(n).is_none();
+    for (i, number) in numbers.iter().enumerate() {
+        same = same && number_of(tree.get(i as u64)) == Some(*number);
+    }
+    let ends = number_of(tree.first()) == numbers.first().copied()
+        && number_of(tree.last()) == numbers.last().copied();
+    let root = width(tree) <= 12 && (tree.height() == 0 || width(tree) >= 2);
+    Ok(is_even(alloc, tree)? && same && ends && root)
+}
+
+// The numbers from 0 up to n.
+fn counting(alloc: Global, n: u64) -> Result<Vec<u64>, AllocError> {
+    let mut numbers = Vec::new(alloc);
+    for number in 0..n {
+        numbers.push(number)?;
+    }
+    Ok(numbers)
+}
+
+// Puts the items of another tree behind this one's, and tells whether they are these then.
+fn joined<T: Numbered>(
+    alloc: Global,
+    front: &mut SumTree<T>,
+    back: SumTree<T>,
+    numbers: &[u64],
+) -> Result<bool, AllocError>
+    requires { (xs : List T) → T.Summary.fits (fold T.Summary.empty T.Summary.op T.sum_of xs) }
+{
+    if front.len() < 1 << 39 && back.len() < 1 << 39 {
+        front.append(alloc, back)?;
+    }
+    mirrors(alloc, front, numbers)
+}
+
+// Cuts a tree into a front and a rest, and puts them end to end.
+fn rejoins<T: Numbered>(
+    alloc: Global,
+    tree: &SumTree<T>,
+    cut: usize,
+    numbers: &[u64],
+) -> Result<bool, AllocError>
+    requires { (xs : List T) → T.Summary.fits (fold T.Summary.empty T.Summary.op T.sum_of xs) }
+{
+    if cut > numbers.len() {
+        return Ok(true);
+    }
+    let mut front = tree.taken(alloc, cut as u64)?;
+    let back = tree.dropped(alloc, cut as u64)?;
+    let parts = mirrors(alloc, &front, &numbers[..cut])? && mirrors(alloc, &back, &numbers[cut..])?;
+    Ok(joined(alloc, &mut front, back, numbers)? && parts)
+}
+
+fn rejoins_everywhere<T: Numbered>(
+    alloc: Global,
+    tree: &SumTree<T>,
+    numbers: &[u64],
+) -> Result<bool, AllocError>
+    requires { (xs : List T) → T.Summary.fits (fold T.Summary.empty T.Summary.op T.sum_of xs) }
+{
+    let n = numbers.len();
+    let mut same = true;
+    for cut in [0, 1, 6, 12, 13, 72, n / 3, n / 2, n.saturating_sub(1), n] {
+        same = rejoins(alloc, tree, cut, numbers)? && same;
+    }
+    Ok(same)
+}
+
+// The numbers with others in the place of a range.
+fn replaced(
+    alloc: Global,
+    numbers: &[u64],
+    from: usize,
+    to: usize,
+    others: &[u64],
+) -> Result<Vec<u64>, AllocError> {
+    let mut all = Vec::new(alloc);
+    if from <= to && to <= numbers.len() {
+        all.extend_from_slice(&numbers[..from])?;
+        all.extend_from_slice(others)?;
+        all.extend_from_slice(&numbers[to..])?;
+    }
+    Ok(all)
+}
+
+// Puts n items in the place of a range, in a tree that another shares, and in a list.
+fn splices<T: Numbered>(
+    alloc: Global,
+    tree: &mut SumTree<T>,
+    numbers: &[u64],
+    range: (usize, usize),
+    n: u64,
+) -> Result<(bool, Vec<u64>), AllocError>
+    requires { (xs : List T) → T.Summary.fits (fold T.Summary.empty T.Summary.op T.sum_of xs) }
+{
+    let (from, to) = range;
+    let old = tree.share()?;
+    splice_in(alloc, tree, from as u64, to as u64, listed(alloc, 0, n)?)?;
+    let all = replaced(alloc, numbers, from, to, &counting(alloc, n)?)?;
+    let same = mirrors(alloc, tree, &all)? && old.len() == numbers.len() as u64;
+    Ok((same, all))
+}
+
+// Replaces ranges drawn by chance by runs of items drawn by chance.
+fn splices_often<T: Numbered>(
+    alloc: Global,
+    tree: &mut SumTree<T>,
+    mut numbers: Vec<u64>,
+) -> Result<bool, AllocError>
+    requires { (xs : List T) → T.Summary.fits (fold T.Summary.empty T.Summary.op T.sum_of xs) }
+{
+    let mut same = true;
+    let mut x = 1u64;
+    for round in 0..60usize {
+        x = step(x);
+        let len = numbers.len();
+        let from = (x >> 20) as usize % (len.saturating_add(1));
+        let to = from.saturating_add((x >> 40) as usize % 30).min(len);
+        let (right, all) = splices(alloc, tree, &numbers, (from, to), (x >> 50) % 27)?;
+        same = same && right && round < 60;
+        numbers = all;
+    }
+    Ok(same)
+}
+
+// Cuts a tree and puts it together again, and then replaces ranges of it.
+fn changes<T: Numbered>(
+    alloc: Global,
+    tree: &mut SumTree<T>,
+    numbers: Vec<u64>,
+) -> Result<bool, AllocError>
+    requires { (xs : List T) → T.Summary.fits (fold T.Summary.empty T.Summary.op T.sum_of xs) }
+{
+    let same = mirrors(alloc, tree, &numbers)?;
+    let cuts = rejoins_everywhere(alloc, tree, &numbers)?;
+    Ok(splices_often(alloc, tree, numbers)? && same && cuts)
+}
+
+fn pushed_changes<T: Numbered>(alloc: Global, n: u64) -> Result<bool, AllocError>
+    requires { (xs : List T) → T.Summary.fits (fold T.Summary.empty T.Summary.op T.sum_of xs) }
+{
+    let numbers = counting(alloc, n)?;
+    let mut tree: SumTree<T> = pushed(alloc, 0, n)?;
+    changes(alloc, &mut tree, numbers)
+}
+
+fn listed_changes<T: Numbered>(alloc: Global, n: u64) -> Result<bool, AllocError>
+    requires { (xs : List T) → T.Summary.fits (fold T.Summary.empty T.Summary.op T.sum_of xs) }
+{
+    let numbers = counting(alloc, n)?;
+    let mut tree: SumTree<T> = made(alloc, listed(alloc, 0, n)?)?;
+    changes(alloc, &mut tree, numbers)
+}
+
+#[test]
+fn trees_are_lists(rt: HostRuntime) -> Result<(), AllocError> {
+    for n in [0, 1, 6, 12, 13, 72, 73, 156, 157, 2000] {
+        assert!(rt;
+            pushed_changes::<Number>(rt.alloc(), n)?,
+            "{n} numbers pushed"
+        );
+        assert!(rt;
+            listed_changes::<Number>(rt.alloc(), n)?,
+            "{n} numbers listed"
+        );
+    }
+    Ok(())
+}
+
+// Takes the item of a key out, and answers its number.
+fn remove_from<T: Numbered>(
+    alloc: Global,
+    tree: &mut SumTree<T>,
+    number: u64,
+) -> Result<Option<u64>, AllocError>
+    requires ascending { Ascending T.Key.cmp T.key_of tree.old.items }
+    ensures ascending { Ascending T.Key.cmp T.key_of tree.new.items }
+{
+    match tree.remove(alloc, &T::key_at(number))? {
+        None => Ok(None),
+        Some(item) => Ok(Some(item.number())),
+    }
+}
+
+fn alone<T: Numbered>(alloc: Global, number: u64) -> Result<SumTree<T>, AllocError>
+    requires { (xs : List T) → T.Summary.fits (fold T.Summary.empty T.Summary.op T.sum_of xs) }
+{
+    let item = T::numbered(alloc, number)?;
+    SumTree::from_item(alloc, item)
+}
+
+// What the keyed calls answer for some numbers.
+fn keyed_rows<T: Numbered>(alloc: Global, tree: &mut SumTree<T>) -> Result<bool, AllocError>
+    requires fits { (xs : List T) → T.Summary.fits (fold T.Summary.empty T.Summary.op T.sum_of xs) }
+    requires ascending { Ascending T.Key.cmp T.key_of tree.old.items }
+{
+    let first = insert_to(alloc, tree, 2)?;
+    let second = insert_to(alloc, tree, 5)?;
+    let third = insert_to(alloc, tree, 3)?;
+    let again = insert_to(alloc, tree, 5)?;
+    let two = remove_from(alloc, tree, 2)?;
+    let nine = remove_from(alloc, tree, 9)?;
+    let there = number_of(tree.find(&T::key_at(3))) == Some(3)
+        && tree.find(&T::key_at(2)).is_none();
+    let inserted = first.is_none() && second.is_none() && third.is_none() && again == Some(5);
+    let more = alone(alloc, 8)?;
+    Ok(
+        joined(alloc, tree, more, &[3, 5, 8])?
+            && inserted
+            && there
+            && two == Some(2)
+            && nine.is_none(),
+    )
+}
+
+// Inserts the numbers below 1000 in a mixed order.
+fn fills<T: Numbered>(alloc: Global, tree: &mut SumTree<T>) -> Result<bool, AllocError>
+    requires fits { (xs : List T) → T.Summary.fits (fold T.Summary.empty T.Summary.op T.sum_of xs) }
+    requires ascending { Ascending T.Key.cmp T.key_of tree.old.items }
+    ensures ascending { Ascending T.Key.cmp T.key_of tree.new.items }
+{
+    let mut right = true;
+    for i in 0..1000u64 {
+        right = insert_to(alloc, tree, (i * 387) % 1000)?.is_none() && right;
+    }
+    Ok(right)
+}
+
+// Removes the even numbers below 1000.
+fn halves<T: Numbered>(alloc: Global, tree: &mut SumTree<T>) -> Result<bool, AllocError>
+    requires ascending { Ascending T.Key.cmp T.key_of tree.old.items }
+    ensures ascending { Ascending T.Key.cmp T.key_of tree.new.items }
+{
+    let mut right = true;
+    for i in 0..500u64 {
+        right = remove_from(alloc, tree, i * 2)? == Some(i * 2) && right;
+    }
+    Ok(right)
+}
+
+// Whether the numbers below 1000 are found that leave this rest by 2, and no others.
+fn finds<T: Numbered>(tree: &SumTree<T>, every: u64) -> bool
+    requires ascending { Ascending T.Key.cmp T.key_of tree.now.items }
+{
+    let mut right = true;
+    for i in 0..1001u64 {
+        let found = number_of(tree.find(&T::key_at(i)));
+        let there = i < 1000 && (every == 1 || i % 2 == 1);
+        right = right && found == (if there { Some(i) } else { None });
+    }
+    right
+}
+
+fn many_keys<T: Numbered>(alloc: Global, tree: &mut SumTree<T>) -> Result<bool, AllocError>
+    requires fits { (xs : List T) → T.Summary.fits (fold T.Summary.empty T.Summary.op T.sum_of xs) }
+    requires ascending { Ascending T.Key.cmp T.key_of tree.old.items }
+{
+    let filled = fills(alloc, tree)?;
+    let all = mirrors(alloc, tree, &counting(alloc, 1000)?)? && finds(tree, 1);
+    let halved = halves(alloc, tree)?;
+    Ok(filled && all && halved && tree.len() == 500 && is_even(alloc, tree)? && finds(tree, 2))
+}
+
+fn few_keyed<T: Numbered>(alloc: Global) -> Result<bool, AllocError>
+    requires { (xs : List T) → T.Summary.fits (fold T.Summary.empty T.Summary.op T.sum_of xs) }
+{
+    let mut tree: SumTree<T> = SumTree::new(alloc)?;
+    keyed_rows(alloc, &mut tree)
+}
+
+fn many_keyed<T: Numbered>(alloc: Global) -> Result<bool, AllocError>
+    requires { (xs : List T) → T.Summary.fits (fold T.Summary.empty T.Summary.op T.sum_of xs) }
+{
+    let mut tree: SumTree<T> = SumTree::new(alloc)?;
+    many_keys(alloc, &mut tree)
+}
+
+#[test]
+fn keys_ascend(rt: HostRuntime) -> Result<(), AllocError> {
+    assert!(rt; few_keyed::<Number>(rt.alloc())?);
+    assert!(rt; many_keyed::<Number>(rt.alloc())?);
+    Ok(())
+}
+
+// Whether n items of width 1 are n wide together, in a tree of this height.
+fn is_wide(alloc: Global, n: u64, height: u32) -> Result<bool, AllocError> {
+    let tree: SumTree<Number> = pushed(alloc, 0, n)?;
+    let span = *tree.summary();
+    Ok(span.items == n && span.width == n && tree.height() == height)
+}
+
+#[test]
+fn widths_are_added(rt: HostRuntime) -> Result<(), AllocError> {
+    for (n, height) in [(0, 0), (12, 0), (13, 1), (48, 1)] {
+        assert!(rt; is_wide(rt.alloc(), n, height)?, "{n} items");
+    }
+    Ok(())
+}
