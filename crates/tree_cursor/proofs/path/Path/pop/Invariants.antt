@@ -1,0 +1,12 @@
+use Rattle.std.proofs.Common.{◌≡◌, length}
+use Rattle.std.specs.Prelude.{reverse, ◌∷◌}
+use Rattle.tree_cursor.specs.Levels.{items_left, work_left, AreLevels}
+use Rattle.tree_cursor.proofs.path.Path.pop.Given as goal
+
+abbrev pub invariant-loop-part : goal.invariant-loop-part
+invariant-loop-part g l =
+    let ls = l.self-inside.level ∷ reverse l.self-inside.above.items in
+    (items_left ls ≡ l.fn.self.items) × (work_left ls ≡ l.fn.self.work) × AreLevels ls
+
+abbrev pub decreases-loop-part : goal.decreases-loop-part
+decreases-loop-part g l = length l.self-inside.above.items

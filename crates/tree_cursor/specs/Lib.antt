@@ -1,0 +1,11 @@
+pub mod Places
+pub mod Rest
+pub mod Levels
+pub mod Halts
+pub mod Place
+pub mod Walking
+pub mod Keys
+pub mod Counting
+pub mod Partly
+pub mod Joined
+pub mod Rules

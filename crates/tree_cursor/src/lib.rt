@@ -1,0 +1,26 @@
+//! Seeking, slicing and filtering a `SumTree` by any dimension.
+#![tactic(auto)]
+
+mod cursor;
+mod filter;
+mod path;
+mod ready;
+mod seek;
+mod traits;
+mod walk;
+
+pub use cursor::Cursor;
+pub use filter::FilterCursor;
+pub use ready::{Greatest, KeySummary};
+pub use seek::locate;
+pub use std::alloc::AllocError as OutOfMemory;
+pub use traits::{Bias, Dimension, Keep, Moves, Plain, Target};
+
+#[cfg(test)]
+mod number_tests;
+#[cfg(test)]
+mod numbers;
+#[cfg(test)]
+mod samples;
+#[cfg(test)]
+mod tests;
