@@ -1,0 +1,4 @@
+pub mod Singles
+pub mod Characters
+pub mod Walks
+mod Worked

@@ -1,0 +1,10 @@
+pub mod Points
+pub mod Counts
+pub mod Summaries
+pub mod Bytes
+pub mod Rows
+pub mod Greatest
+pub mod Concat
+pub mod Bounds
+pub mod Monoid
+pub mod Places
