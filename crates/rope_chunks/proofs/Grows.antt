@@ -1,0 +1,155 @@
+-- A text put behind a rope's chunks.
+use Rattle.std.specs.Prelude.{slice_get}
+use Rattle.std.proofs.Common.{◌≡◌, ℕ, zero, suc, ◌+◌, ◌-◌, ◌^◌, ◌<◌, ◌≤◌, Option, Some, None, List, [], ◌∷◌, ◌++◌, length, take, drop, refl, ap, sym, subst, ◌∙◌, arith, append_assoc, length-append, ⊎_elim}
+use Rattle.std.specs.List.{All, concat}
+use Rattle.std.proofs.lemmas.List.{append-nil, drop_all, take_all, take_more}
+use Rattle.std.proofs.lemmas.List.Elements.{All-append, All-take, All-drop, All-push, All-nil}
+use Rattle.std.proofs.lemmas.Str.{IsUtf8-append}
+use Rattle.std.proofs.lemmas.Bool.{cases_lt}
+use Rattle.std.proofs.lemmas.Option.{slice_get_within, get_or_from_slice_get, slice_get-get_or}
+use Rattle.sum_tree.specs.Laws.{fold}
+use Rattle.sum_tree.specs.Spliced.{spliced}
+use Rattle.text_dims.specs.Summaries.{summary_of, text_sum, no_text, TextFits}
+use Rattle.text_dims.proofs.Characters.{text_fits}
+use Rattle.rope_chunks.specs.Chunks.{IsChunk, AreChunks}
+use Rattle.rope_chunks.proofs.Texts.{each_head, each_tail, concat-append, concat-push, fold_is}
+
+few_chunks : (cs : List (List ℕ)) → All IsChunk cs → length cs ≤ length (concat cs)
+few_chunks [] a = omega arith
+few_chunks (c ∷ cs) a =
+    omega (arith, few_chunks cs (each_tail IsChunk c cs a), (each_head IsChunk c cs a).some, length-append c (concat cs))
+
+pub are_short : (cs : List (List ℕ)) → AreChunks cs → length cs ≤ 2 ^ 40
+are_short cs a = omega (arith, few_chunks cs a.each, a.few)
+
+pub are_fit : (cs : List (List ℕ)) → AreChunks cs → TextFits (fold no_text text_sum summary_of cs)
+are_fit cs a = rw (fold_is cs) (text_fits (concat cs) a.few)
+
+-- the chunks but the last, and the last
+pub concat-last : (cs : List (List ℕ)) (n : ℕ) (c : List ℕ) → n ≡ length cs → slice_get cs (n - 1) ≡ Some c → concat (take (n - 1) cs) ++ c ≡ concat cs
+concat-last cs n c e h =
+    let within : n - 1 < length cs = slice_get_within cs (n - 1) c h in
+    let is : take (n - 1 + 1) cs ≡ take (n - 1) cs ++ c ∷ [] = take_more cs (n - 1) c within ∙ ap (λ d. take (n - 1) cs ++ d ∷ []) (get_or_from_slice_get cs (n - 1) c c h) in
+    sym (concat-push (take (n - 1) cs) c) ∙ ap concat (sym is ∙ take_all (n - 1 + 1) cs (omega arith))
+
+some_none : {X : Type 0} (x : X) (o : Option X) → o ≡ Some x → o ≡ None → ⊥
+some_none x o e f = let g : Some x ≡ None = sym e ∙ f in cc
+
+pub no_last : (cs : List (List ℕ)) → slice_get cs (length cs - 1) ≡ None → cs ≡ []
+no_last [] h = refl
+no_last (c ∷ cs) h =
+    absurd (some_none _ (slice_get (c ∷ cs) (length (c ∷ cs) - 1)) (slice_get-get_or (c ∷ cs) (length (c ∷ cs) - 1) c (omega arith)) h)
+
+-- chunks in the place of the last ones
+spliced-end : (from n : ℕ) (ys xs : List (List ℕ)) → n ≡ length xs → spliced from n ys xs ≡ take from xs ++ ys
+spliced-end from n ys xs e = rw (drop_all n xs (omega arith)) (append-nil (take from xs ++ ys))
+
+-- ys in the place of the chunks from from on makes the text all
+pub record Grown (from n : ℕ) (ys xs : List (List ℕ)) (all : List ℕ) : Type 0 where
+  pub end : n ≡ length xs
+  pub new : All IsChunk ys
+  pub old : All IsChunk xs
+  pub text : concat (take from xs) ++ concat ys ≡ all
+  pub few : length all ≤ 2 ^ 40
+
+pub concat-grown : (from n : ℕ) (ys xs : List (List ℕ)) (all : List ℕ) → Grown from n ys xs all → concat (spliced from n ys xs) ≡ all
+concat-grown from n ys xs all g = ap concat (spliced-end from n ys xs g.end) ∙ concat-append (take from xs) ys ∙ g.text
+
+pub are_grown : (from n : ℕ) (ys xs : List (List ℕ)) (all : List ℕ) → Grown from n ys xs all → AreChunks (spliced from n ys xs)
+are_grown from n ys xs all g = record {
+  each = rw (spliced-end from n ys xs g.end) (All-append IsChunk (take from xs) ys (All-take IsChunk from xs g.old) g.new);
+  few = rw (concat-grown from n ys xs all g) g.few;
+}
+
+pub grown_is : (from n : ℕ) (ys xs : List (List ℕ)) (old text : List ℕ) → concat xs ≡ old → AreChunks xs → n ≡ length xs → All IsChunk ys → concat (take from xs) ++ concat ys ≡ concat xs ++ text → length old + length text ≤ 2 ^ 40 → Grown from n ys xs (old ++ text)
+grown_is from n ys xs old text v a e h t f = record {
+  end = e;
+  new = h;
+  old = a.each;
+  text = t ∙ ap (λ bs. bs ++ text) v;
+  few = omega (arith, length-append old text);
+}
+
+-- the chunks of a text
+pub are_cut : (cs ds : List (List ℕ)) (front text : List ℕ) → cs ≡ ds → All IsChunk ds → concat ds ≡ front ++ text → front ≡ [] → length text ≤ 2 ^ 40 → AreChunks cs
+are_cut cs ds front text e a t n f = record { each = rw e a; few = rw (e, t, n) f }
+
+-- a rope behind another
+pub are_beside : (cs ds : List (List ℕ)) → All IsChunk cs → All IsChunk ds → length (concat cs) + length (concat ds) ≤ 2 ^ 40 → AreChunks (cs ++ ds)
+are_beside cs ds a b f = record {
+  each = All-append IsChunk cs ds a b;
+  few = rw (concat-append cs ds) (omega (arith, length-append (concat cs) (concat ds)));
+}
+
+first_is : (ds : List (List ℕ)) (c : List ℕ) → slice_get ds 0 ≡ Some c → concat ds ≡ c ++ concat (drop 1 ds)
+first_is [] c h = absurd (let g : None ≡ Some c = h in cc)
+first_is (d ∷ ds) c h = let e : d ≡ c = cc in rw e refl
+
+chunk_at : (cs : List (List ℕ)) (i : ℕ) (c : List ℕ) → All IsChunk cs → slice_get cs i ≡ Some c → IsChunk c
+chunk_at cs i c a h =
+    subst (λ d. IsChunk d) (get_or_from_slice_get cs i c c h) (a i c (slice_get_within cs i c h))
+
+-- the chunks at a seam made one
+pub record Seam (n : ℕ) (ys cs ds : List (List ℕ)) (last first new : List ℕ) : Type 0 where
+  pub end : n ≡ length cs
+  pub front : AreChunks cs
+  pub back : AreChunks ds
+  pub at_last : slice_get cs (n - 1) ≡ Some last
+  pub at_first : slice_get ds 0 ≡ Some first
+  pub joined : new ≡ last ++ first
+  pub only : ys ≡ new ∷ []
+  pub small : length last + length first ≤ 128
+  pub few : length (concat cs) + length (concat ds) ≤ 2 ^ 40
+
+pub seam_grown : (n : ℕ) (ys cs ds : List (List ℕ)) (last first new : List ℕ) → Seam n ys cs ds last first new → Grown (n - 1) n ys cs (concat cs ++ first)
+seam_grown n ys cs ds last first new s =
+    let a : IsChunk last = chunk_at cs (n - 1) last s.front.each s.at_last in
+    let b : IsChunk first = chunk_at ds 0 first s.back.each s.at_first in
+    let one : IsChunk (last ++ first) = record {
+      text = IsUtf8-append last first a.text b.text;
+      some = omega (arith, length-append last first, a.some);
+      few = omega (arith, length-append last first, s.small);
+    } in
+    let ys_are : ys ≡ (last ++ first) ∷ [] = s.only ∙ ap (λ x. x ∷ []) s.joined in
+    record {
+      end = s.end;
+      new = subst (λ zs. All IsChunk zs) (sym ys_are) (All-push IsChunk [] (last ++ first) (All-nil IsChunk) one);
+      old = s.front.each;
+      text =
+          ap (λ zs. concat (take (n - 1) cs) ++ concat zs) ys_are
+          ∙ ap (λ t. concat (take (n - 1) cs) ++ t) (append-nil (last ++ first))
+          ∙ sym (append_assoc (concat (take (n - 1) cs)) last first)
+          ∙ ap (λ t. t ++ first) (concat-last cs n last s.end s.at_last);
+      few = omega (arith, length-append (concat cs) first, ap length (first_is ds first s.at_first), length-append first (concat (drop 1 ds)), s.few);
+    }
+
+pub seam_text : (n : ℕ) (ys cs ds : List (List ℕ)) (last first new : List ℕ) → Seam n ys cs ds last first new → concat (spliced (n - 1) n ys cs ++ drop 1 ds) ≡ concat cs ++ concat ds
+seam_text n ys cs ds last first new s =
+    concat-append (spliced (n - 1) n ys cs) (drop 1 ds)
+    ∙ ap (λ t. t ++ concat (drop 1 ds)) (concat-grown (n - 1) n ys cs (concat cs ++ first) (seam_grown n ys cs ds last first new s))
+    ∙ append_assoc (concat cs) first (concat (drop 1 ds))
+    ∙ ap (λ t. concat cs ++ t) (sym (first_is ds first s.at_first))
+
+pub seam_are : (n : ℕ) (ys cs ds : List (List ℕ)) (last first new : List ℕ) → Seam n ys cs ds last first new → AreChunks (spliced (n - 1) n ys cs ++ drop 1 ds)
+seam_are n ys cs ds last first new s = record {
+  each = All-append IsChunk (spliced (n - 1) n ys cs) (drop 1 ds) (are_grown (n - 1) n ys cs (concat cs ++ first) (seam_grown n ys cs ds last first new s)).each (All-drop IsChunk 1 ds s.back.each);
+  few = rw (seam_text n ys cs ds last first new s) (omega (arith, length-append (concat cs) (concat ds), s.few));
+}
+
+pub are_chained : (cs ds es : List (List ℕ)) → All IsChunk es → concat es ≡ concat cs ++ concat ds → length (concat cs) + length (concat ds) ≤ 2 ^ 40 → AreChunks es
+are_chained cs ds es a t f = record { each = a; few = rw t (omega (arith, length-append (concat cs) (concat ds))) }
+
+pub concat-more : (cs : List (List ℕ)) (i : ℕ) (c : List ℕ) → slice_get cs i ≡ Some c → concat (take (i + 1) cs) ≡ concat (take i cs) ++ c
+concat-more cs i c h =
+    ap concat (take_more cs i c (slice_get_within cs i c h) ∙ ap (λ d. take i cs ++ d ∷ []) (get_or_from_slice_get cs i c c h)) ∙ concat-push (take i cs) c
+
+pub get_some : (cs : List (List ℕ)) (i : ℕ) → i < length cs → slice_get cs i ≡ None → ⊥
+get_some cs i h e = some_none _ (slice_get cs i) (slice_get-get_or cs i [] h) e
+
+pub get_drop : (cs : List (List ℕ)) (i : ℕ) (c : List ℕ) → slice_get cs i ≡ Some c → drop i cs ≡ c ∷ drop (i + 1) cs
+get_drop [] i c h = absurd (let g : None ≡ Some c = h in cc)
+get_drop (d ∷ cs) zero c h = let e : d ≡ c = cc in ap (λ x. x ∷ cs) e
+get_drop (d ∷ cs) (suc i) c h = let more : suc i + 1 ≡ suc (i + 1) = omega arith in rw more (get_drop cs i c h)
+
+pub none_drop : (cs : List (List ℕ)) (i : ℕ) → slice_get cs i ≡ None → drop i cs ≡ []
+none_drop cs i h = ⊎_elim (λ (l : i < length cs). absurd (get_some cs i l h)) (λ (l : length cs ≤ i). drop_all i cs l) (cases_lt i (length cs))

@@ -1,0 +1,5 @@
+pub mod Texts
+pub mod Stops
+pub mod Named
+pub mod Grows
+pub mod Clipping

@@ -1,0 +1,6 @@
+pub mod Chunks
+pub mod At
+pub mod Targets
+pub mod Stops
+pub mod Offsets
+pub mod Clips

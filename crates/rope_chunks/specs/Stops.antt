@@ -1,0 +1,22 @@
+-- Where a look-up along places stops.
+use Rattle.std.specs.Prelude.{Bool, if◌then◌else◌, List, [], ◌∷◌, Option, Some, None, ℕ, ◌+◌, ◌*◌, ◌^◌, ◌<◌}
+use Rattle.text_dims.specs.declared.places.Place.{Place}
+use Rattle.rope_chunks.specs.declared.look.Stop.{Stop}
+use Rattle.rope_chunks.specs.At.{IsWithin}
+
+-- the first of the places that passes the test, and the one before it
+abbrev pub stop : (Place → Bool) → Place → List Place → Stop
+stop passes before [] = record { before = before; here = None }
+stop passes before (k ∷ ks) = if passes k then record { before = before; here = Some k } else stop passes k ks
+
+-- the place where a look-up stopped, unless it is strictly past the target
+abbrev pub picked : (Place → Bool) → Option Place → Option Place
+picked past None = None
+picked past (Some k) = if past k then None else Some k
+
+-- the type of places has room for n more bytes
+pub record HasRoom (a : Place) (n : ℕ) : Type 0 where
+  pub within : IsWithin a
+  pub offset : a.offset + n < 2 ^ 64
+  pub utf16 : a.utf16 + 2 * n < 2 ^ 64
+  pub row : a.row + n < 2 ^ 64

@@ -1,0 +1,168 @@
+//! How ropes grow.
+ghost use Rattle.std.specs.Prelude.{◌≡◌, ◌+◌, ◌-◌, ◌≤◌, ◌^◌, ◌++◌, length, take, slice_get, Some, All, IfOk, OnOk, OnErr};
+ghost use Rattle.std.specs.List.{concat};
+ghost use Rattle.std.specs.String.{string_bytes};
+ghost use Rattle.sum_tree.specs.Spliced.{spliced};
+ghost use Rattle.rope_chunks.specs.Chunks.{IsChunk, AreChunks};
+
+use crate::OutOfMemory;
+use crate::chunk::{CHUNK_BYTES, Chunk};
+use crate::pieces::{cut_up, filled};
+use crate::rope::Rope;
+use std::alloc::Global;
+use sum_tree::SumTree;
+
+impl Rope {
+    /// The rope of a text, in full chunks.
+    pub fn from_str(alloc: Global, text: &str) -> Result<Rope, OutOfMemory>
+        requires { length text.now ≤ 2 ^ 40 }
+        ensures { IfOk result (λ rope. rope ≡ text.now) }
+    {
+        let mut chunks = Vec::new(alloc);
+        cut_up(&mut chunks, text)?;
+        let chunks = tree_of(alloc, chunks)?;
+        Ok(Rope { chunks })
+    }
+
+    /// Puts a text behind. The last chunk is filled before a new one is begun. On want of memory the rope is as before.
+    pub fn push_str(&mut self, alloc: Global, text: &str) -> Result<(), OutOfMemory>
+        requires { length self.old + length text.now ≤ 2 ^ 40 }
+        ensures ok { OnOk result (self.new ≡ self.old ++ text.now) }
+        ensures err { OnErr result (self.new ≡ self.old) }
+    {
+        let (kept, chunks) = grown(alloc, &self.chunks, text)?;
+        let len = self.chunks.len();
+        put(&mut self.chunks, alloc, kept, len, chunks)?;
+        Ok(())
+    }
+}
+
+impl Rope {
+    /// Puts another rope's text behind, and shares its chunks. The last chunk and the other's first are made one where
+    /// they fit. On want of memory the rope is as before.
+    pub fn append(&mut self, alloc: Global, other: Rope) -> Result<(), OutOfMemory>
+        requires { length self.old + length other ≤ 2 ^ 40 }
+        ensures ok { OnOk result (self.new ≡ self.old ++ other) }
+        ensures err { OnErr result (self.new ≡ self.old) }
+    {
+        let chunks = chained(alloc, &self.chunks, &other.chunks)?;
+        self.chunks = chunks;
+        Ok(())
+    }
+
+    /// The text, copied.
+    pub fn to_string(&self, alloc: Global) -> Result<String, OutOfMemory>
+        ensures { IfOk result (λ text. string_bytes text ≡ self.now) }
+    {
+        let mut text = String::new(alloc);
+        for i in 0..self.chunks.len() {
+            match self.chunks.get(i) {
+                Some(chunk) => text.push_str(chunk.as_str())?,
+                None => {}
+            }
+        }
+        Ok(text)
+    }
+}
+
+// The chunks of two texts, one after the other. The chunks at the seam are made one where they fit.
+fn chained(
+    alloc: Global,
+    front: &SumTree<Chunk>,
+    back: &SumTree<Chunk>,
+) -> Result<SumTree<Chunk>, OutOfMemory>
+    requires front { AreChunks front.now.items }
+    requires back { AreChunks back.now.items }
+    requires few { length (concat front.now.items) + length (concat back.now.items) ≤ 2 ^ 40 }
+    ensures text { IfOk result (λ tree. concat tree.items ≡ concat front.now.items ++ concat back.now.items) }
+    ensures each { IfOk result (λ tree. All IsChunk tree.items) }
+{
+    if let (Some(last), Some(first)) = (front.last(), back.first()) {
+        if last.as_str().len() + first.as_str().len() <= CHUNK_BYTES {
+            return joined(alloc, front, back, last, first);
+        }
+    }
+    let mut whole = front.share()?;
+    join(&mut whole, alloc, back.share()?)?;
+    Ok(whole)
+}
+
+// The same, where the chunks at the seam fit one.
+fn joined(
+    alloc: Global,
+    front: &SumTree<Chunk>,
+    back: &SumTree<Chunk>,
+    last: &Chunk,
+    first: &Chunk,
+) -> Result<SumTree<Chunk>, OutOfMemory>
+    requires front { AreChunks front.now.items }
+    requires back { AreChunks back.now.items }
+    requires last { slice_get front.now.items (length front.now.items - 1) ≡ Some last.now }
+    requires first { slice_get back.now.items 0 ≡ Some first.now }
+    requires small { length last.now + length first.now ≤ 128 }
+    requires few { length (concat front.now.items) + length (concat back.now.items) ≤ 2 ^ 40 }
+    ensures text { IfOk result (λ tree. concat tree.items ≡ concat front.now.items ++ concat back.now.items) }
+    ensures each { IfOk result (λ tree. All IsChunk tree.items) }
+{
+    let mut seam = Vec::new(alloc);
+    seam.push(Chunk::joined(last.as_str(), first.as_str()))?;
+    let len = front.len();
+    let mut whole = front.share()?;
+    put(&mut whole, alloc, len - 1, len, seam)?;
+    join(&mut whole, alloc, back.dropped(alloc, 1)?)?;
+    Ok(whole)
+}
+
+// Puts a tree behind another.
+fn join(front: &mut SumTree<Chunk>, alloc: Global, back: SumTree<Chunk>) -> Result<(), OutOfMemory>
+    requires { AreChunks (front.old.items ++ back.items) }
+    ensures ok { OnOk result (front.new.items ≡ front.old.items ++ back.items) }
+    ensures err { OnErr result (front.new ≡ front.old) }
+{
+    front.append(alloc, back)
+}
+
+// The tree of some chunks.
+fn tree_of(alloc: Global, chunks: Vec<Chunk>) -> Result<SumTree<Chunk>, OutOfMemory>
+    requires { AreChunks chunks.items }
+    ensures { IfOk result (λ tree. tree.items ≡ chunks.items) }
+{
+    SumTree::from_list(alloc, chunks)
+}
+
+// Puts chunks in the place of those of a range.
+fn put(
+    tree: &mut SumTree<Chunk>,
+    alloc: Global,
+    from: u64,
+    to: u64,
+    chunks: Vec<Chunk>,
+) -> Result<(), OutOfMemory>
+    requires order { from ≤ to }
+    requires within { to ≤ length tree.old.items }
+    requires chunks { AreChunks (spliced from to chunks.items tree.old.items) }
+    ensures ok { OnOk result (tree.new.items ≡ spliced from to chunks.items tree.old.items) }
+    ensures err { OnErr result (tree.new ≡ tree.old) }
+{
+    tree.splice(alloc, from, to, chunks)
+}
+
+// How many chunks stay where a text is put behind, and those that follow them then.
+fn grown(alloc: Global, tree: &SumTree<Chunk>, text: &str) -> Result<(u64, Vec<Chunk>), OutOfMemory>
+    requires { All IsChunk tree.now.items }
+    ensures within { IfOk result (λ r. r.0 ≤ length tree.now.items) }
+    ensures text { IfOk result (λ r. concat (take r.0 tree.now.items) ++ concat r.1.items ≡ concat tree.now.items ++ text.now) }
+    ensures each { IfOk result (λ r. All IsChunk r.1.items) }
+{
+    match tree.last() {
+        None => {
+            let mut chunks = Vec::new(alloc);
+            cut_up(&mut chunks, text)?;
+            Ok((0, chunks))
+        }
+        Some(last) => {
+            let chunks = filled(alloc, last.as_str(), text)?;
+            Ok((tree.len() - 1, chunks))
+        }
+    }
+}

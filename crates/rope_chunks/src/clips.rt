@@ -1,0 +1,52 @@
+//! A rope's clips.
+ghost use Rattle.std.specs.Prelude.{◌≡◌};
+ghost use Rattle.text_dims.specs.Places.{offset_clipped_back, offset_clipped_on};
+ghost use Rattle.rope_chunks.specs.Clips.{offset_clipped};
+
+use crate::at::At;
+use crate::rope::Rope;
+use crate::targets::ByOffset;
+use text_dims::Place;
+use tree_cursor::{Bias, Target};
+
+impl Rope {
+    /// The byte offset itself where it is a position; past the text's end, the end; inside a character its start (Left) or
+    /// its end (Right).
+    pub fn clip_offset(&self, offset: u64, bias: Bias) -> u64
+        ensures { result ≡ (offset_clipped self.now offset bias).offset }
+    {
+        match bias {
+            Bias::Left => self.place_back(offset).offset,
+            Bias::Right => self.place_on(offset).offset,
+        }
+    }
+
+    // The last place at or before an offset.
+    fn place_back(&self, offset: u64) -> Place
+        ensures { result ≡ offset_clipped_back self.now offset }
+    {
+        self.known();
+        let target = ByOffset(offset);
+        let stop = self.stop(&target);
+        match stop.here {
+            None => stop.before,
+            Some(place) => {
+                if target.passed(At(place), Bias::Right) {
+                    return stop.before;
+                }
+                place
+            }
+        }
+    }
+
+    // The first place at or past an offset, or the last place.
+    fn place_on(&self, offset: u64) -> Place
+        ensures { result ≡ offset_clipped_on self.now offset }
+    {
+        let stop = self.stop(&ByOffset(offset));
+        match stop.here {
+            Some(place) => place,
+            None => stop.before,
+        }
+    }
+}

@@ -1,0 +1,22 @@
+//! A rope: a text as a tree of chunks, with positions in bytes, UTF-16 units and rows.
+#![tactic(auto)]
+
+mod at;
+mod build;
+mod chunk;
+mod clips;
+mod lent;
+mod look;
+mod pieces;
+mod positions;
+mod rope;
+mod targets;
+#[cfg(test)]
+mod tests;
+mod threads;
+
+pub use chunk::Chunk;
+pub use lent::Chunks;
+pub use rope::Rope;
+pub use std::alloc::AllocError as OutOfMemory;
+pub use threads::crosses_threads;

@@ -1,0 +1,99 @@
+//! The rope.
+ghost use Rattle.std.specs.Prelude.{◌≡◌, ◌≤◌, ◌^◌, length, [], IfOk};
+ghost use Rattle.text_dims.specs.Summaries.{summary_of};
+ghost use Rattle.text_dims.specs.Places.{end_place, places};
+ghost use Rattle.rope_chunks.specs.Stops.{stop, picked};
+ghost use Rattle.std.specs.Str.{IsUtf8};
+
+use crate::OutOfMemory;
+use crate::at::At;
+use crate::chunk::Chunk;
+use crate::look::{Stop, stop_in};
+use std::alloc::Global;
+use std::marker::Model;
+use sum_tree::SumTree;
+use text_dims::{Place, TextSummary};
+use tree_cursor::{Bias, Plain, Target, locate};
+
+/// A text as a tree of chunks of at most 128 bytes.
+///
+/// Contracts see a rope as its text, the list of its bytes in UTF-8. Its length is at most 2^40.
+#[derive(Drop)]
+pub struct Rope {
+    pub(crate) chunks: SumTree<Chunk>,
+}
+
+impl Model for Rope {
+    ghost use Rattle.std.specs.Prelude.{List, ℕ};
+
+    ghost Value = { List ℕ };
+
+    ghost use Rattle.std.specs.List.{concat};
+    ghost use Rattle.rope_chunks.specs.Chunks.{AreChunks};
+
+    ghost view = { λ rope. concat rope.chunks.items };
+
+    ghost invariant = { λ rope. AreChunks rope.chunks.items };
+}
+
+impl Rope {
+    /// The empty rope.
+    pub fn new(alloc: Global) -> Result<Rope, OutOfMemory>
+        ensures { IfOk result (λ rope. rope ≡ []) }
+    {
+        let chunks = SumTree::new(alloc)?;
+        Ok(Rope { chunks })
+    }
+
+    /// A rope of the same text, which shares all its chunks.
+    pub fn share(&self) -> Result<Rope, OutOfMemory>
+        ensures { IfOk result (λ rope. rope ≡ self.now) }
+    {
+        let chunks = self.chunks.share()?;
+        Ok(Rope { chunks })
+    }
+
+    /// What is counted of the text. Takes no memory.
+    pub fn summary(&self) -> &TextSummary
+        ensures { result.now ≡ summary_of self.now }
+    {
+        self.chunks.summary()
+    }
+
+    /// How many bytes the text has. Takes no memory.
+    pub fn len(&self) -> u64
+        ensures { result ≡ length self.now }
+    {
+        self.summary().len
+    }
+
+    /// Where a look-up in the text stops.
+    pub(crate) fn stop<G: Target<At>>(&self, target: &G) -> Stop
+        ensures { result ≡ stop (λ k. G.passes target.now k Bias.Left) (end_place []) (places self.now) }
+    {
+        let (chunk, start) = locate(&self.chunks, At::start(), target, Bias::Left);
+        match chunk {
+            Some(chunk) => stop_in(chunk.as_str(), start.0, target),
+            None => stop_in("", start.0, target),
+        }
+    }
+
+    /// The place of the text that a target names, if there is one.
+    pub(crate) fn place<G: Target<At>>(&self, target: &G) -> Option<Place>
+        ensures { result ≡ picked (λ k. G.passes target.now k Bias.Right) (stop (λ k. G.passes target.now k Bias.Left) (end_place []) (places self.now)).here }
+    {
+        let stop = self.stop(target);
+        match stop.here {
+            Some(place) if !target.passed(At(place), Bias::Right) => Some(place),
+            _ => None,
+        }
+    }
+
+    /// What holds of every rope, for callers that see its text alone. It does nothing when it runs.
+    pub fn known(&self)
+        ensures text { IsUtf8 self.now }
+        ensures few { length self.now ≤ 2 ^ 40 }
+    {
+        let _chunks = &self.chunks;
+    }
+}
