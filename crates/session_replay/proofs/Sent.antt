@@ -1,0 +1,113 @@
+-- What the status says once the answer to a source was sent.
+use Rattle.std.proofs.Common.{◌≡◌, ℕ, ◌<◌, ◌≤◌, ◌⊎◌, inl, inr, List, length, sym, ap, ◌∙◌, subst, arith, Option, None, Some, IfSome, Ok, Err}
+use Rattle.std.specs.Io.KnownBytes.{Appends}
+use Rattle.session_replay.specs.Causes.{Rose, RoseBy}
+use Rattle.session_replay.specs.Traffic.{AppendsFront, Had, WasRead, WasTaken}
+use Rattle.session_replay.specs.Session.{decoded}
+use Rattle.session_replay.specs.Replay.{answer_of, output_of, large_line, bad_line, Replays, Answered, report_of}
+use Rattle.session_replay.specs.declared.session.Session.{Session}
+use Rattle.session_replay.specs.declared.words.Command.{Command}
+use Rattle.session_replay.specs.declared.words.Command.TheVariants.{Replay}
+use Rattle.session_replay.specs.declared.top.Status.{Status}
+use Rattle.session_replay.specs.declared.top.Status.TheVariants as status
+use Rattle.session_replay.proofs.Outcome.{Told, told, session_answer}
+
+if_had : (left : Option (List ℕ)) (input : List ℕ) (P : List ℕ → Type 0) → Had left input → P input → IfSome left P
+if_had None input P h p = tt
+if_had (Some xs) input P h p = subst P h p
+
+module _ (left left_after : Option (List ℕ)) (given given_after ends ends_after : ℕ) (written written_after : Option (List ℕ)) (r st : Status) (shown text : List ℕ)
+    (is : shown ≡ text) (a : Answered left left_after given given_after ends ends_after st text) (either : (r ≡ st) ⊎ (r ≡ status.WriteFault))
+    (whole : r ≡ st → Appends written written_after shown) where
+  kept : Told a.input st text
+  kept = told a.input st text a.answer
+
+  same_by : (d : Status) → (r ≡ st) ⊎ (r ≡ status.WriteFault) → r ≡ d → (status.WriteFault ≡ d → ⊥) → (st ≡ d) × (r ≡ st)
+  same_by d (inl e) k n = (sym e ∙ k, e)
+  same_by d (inr e) k n = absurd (n (sym e ∙ k))
+
+  same : (d : Status) → r ≡ d → (status.WriteFault ≡ d → ⊥) → (st ≡ d) × (r ≡ st)
+  same d k n = same_by d either k n
+
+  wrote : r ≡ st → (t : List ℕ) → t ≡ text → Appends written written_after t
+  wrote e t k = subst (Appends written written_after) (is ∙ sym k) (whole e)
+
+  one_of : (d : Status) → (st ≡ status.Done) ⊎ ((st ≡ status.Session) ⊎ (st ≡ status.TooLarge)) → st ≡ d → (status.Done ≡ d → ⊥) → (status.Session ≡ d → ⊥) → (status.TooLarge ≡ d → ⊥) → ⊥
+  one_of d (inl e) k a b c = a (sym e ∙ k)
+  one_of d (inr (inl e)) k a b c = b (sym e ∙ k)
+  one_of d (inr (inr e)) k a b c = c (sym e ∙ k)
+
+  pub not_sent : (d : Status) → (status.Done ≡ d → ⊥) → (status.Session ≡ d → ⊥) → (status.TooLarge ≡ d → ⊥) → (status.WriteFault ≡ d → ⊥) → r ≡ d → ⊥
+  not_sent d a b c n k = one_of d kept.kinds (same d k n).0 a b c
+
+  pub sent_done : (workers : ℕ) → r ≡ status.Done → (input : List ℕ) × WasRead left left_after given given_after ends ends_after input
+      × ((output : List ℕ) × Appends written written_after output × Replays input output workers)
+  sent_done workers k =
+      let s = same status.Done k (λ x. cc) in
+      let f = kept.done s.0 in
+      (a.input, a.taken.whole f.0, (text, wrote s.1 text (λ i. text), (f.1.0, f.1.1, sym f.1.2)))
+
+  pub sent_session : r ≡ status.Session → (input : List ℕ) × WasRead left left_after given given_after ends ends_after input × ((n : ℕ) × (decoded input ≡ Err n) × Appends written written_after (bad_line n))
+  sent_session k =
+      let s = same status.Session k (λ x. cc) in
+      let f = kept.session s.0 in
+      (a.input, a.taken.whole f.0, (f.1.0, f.1.1, wrote s.1 (bad_line f.1.0) f.1.2))
+
+  pub sent_ended : (r ≡ status.Done) ⊎ (r ≡ status.Session) → Rose ends ends_after
+  sent_ended (inl k) = (a.taken.whole (kept.done (same status.Done k (λ x. cc)).0).0).ended
+  sent_ended (inr k) = (a.taken.whole (kept.session (same status.Session k (λ x. cc)).0).0).ended
+
+  pub sent_large : r ≡ status.TooLarge → IfSome left (λ input. 67108864 < length input) × Appends written written_after large_line
+  sent_large k =
+      let s = same status.TooLarge k (λ x. cc) in
+      let f = kept.large s.0 in
+      (if_had left a.input (λ input. 67108864 < length input) a.taken.had f.0, wrote s.1 large_line f.1)
+
+  pub sent_passed : r ≡ status.TooLarge → RoseBy 67108865 given given_after
+  sent_passed k = a.taken.large (kept.large (same status.TooLarge k (λ x. cc)).0).0
+
+  pub sent_front : AppendsFront written written_after shown → (input : List ℕ) × WasTaken left left_after given given_after ends ends_after input × AppendsFront written written_after (output_of input)
+  sent_front f = (a.input, a.taken, subst (AppendsFront written written_after) (is ∙ sym (ap (λ p. p.1) a.answer)) f)
+
+  is_status : (d : Status) (t : List ℕ) → answer_of a.input ≡ (d, t) → st ≡ d
+  is_status d t e = ap (λ p. p.0) (sym a.answer ∙ e)
+
+  module _ (no_fault : r ≡ status.WriteFault → ⊥) where
+    sent_by : (r ≡ st) ⊎ (r ≡ status.WriteFault) → r ≡ st
+    sent_by (inl e) = e
+    sent_by (inr e) = absurd (no_fault e)
+
+    sent : (d : Status) (t : List ℕ) → answer_of a.input ≡ (d, t) → r ≡ d
+    sent d t e = sent_by either ∙ is_status d t e
+
+    pub completes : IfSome left (λ input. length input ≤ 67108864 → (s : Session) → decoded input ≡ Ok s → (r ≡ status.Done) ⊎ (r ≡ status.Memory))
+    completes =
+        if_had left a.input (λ input. length input ≤ 67108864 → (s : Session) → decoded input ≡ Ok s → (r ≡ status.Done) ⊎ (r ≡ status.Memory)) a.taken.had
+        (λ le s e. inl (sent status.Done (report_of s) (session_answer a.input s le e)))
+
+    none_done : st ≡ status.Done → (67108864 < length a.input) ⊎ ((n : ℕ) × (decoded a.input ≡ Err n)) → ⊥
+    none_done k (inl h) = omega (arith, (kept.done k).0)
+    none_done k (inr h) = let e : Ok (kept.done k).1.0 ≡ Err h.0 = sym (kept.done k).1.1 ∙ h.1 in cc
+
+    by_kind : (st ≡ status.Done) ⊎ ((st ≡ status.Session) ⊎ (st ≡ status.TooLarge)) → (67108864 < length a.input) ⊎ ((n : ℕ) × (decoded a.input ≡ Err n))
+        → (r ≡ status.Session) ⊎ ((r ≡ status.TooLarge) ⊎ (r ≡ status.Memory))
+    by_kind (inl k) h = absurd (none_done k h)
+    by_kind (inr (inl k)) h = inl (sent_by either ∙ k)
+    by_kind (inr (inr k)) h = inr (inl (sent_by either ∙ k))
+
+    pub refuses : IfSome left (λ input. (67108864 < length input) ⊎ ((n : ℕ) × (decoded input ≡ Err n)) → (r ≡ status.Session) ⊎ ((r ≡ status.TooLarge) ⊎ (r ≡ status.Memory)))
+    refuses =
+        if_had left a.input (λ input. (67108864 < length input) ⊎ ((n : ℕ) × (decoded input ≡ Err n)) → (r ≡ status.Session) ⊎ ((r ≡ status.TooLarge) ⊎ (r ≡ status.Memory))) a.taken.had
+        (by_kind kept.kinds)
+
+no_fault_by : (st : Status) → (st ≡ status.Done) ⊎ ((st ≡ status.Session) ⊎ (st ≡ status.TooLarge)) → st ≡ status.WriteFault → ⊥
+no_fault_by st (inl e) k = let f : status.Done ≡ status.WriteFault = sym e ∙ k in cc
+no_fault_by st (inr (inl e)) k = let f : status.Session ≡ status.WriteFault = sym e ∙ k in cc
+no_fault_by st (inr (inr e)) k = let f : status.TooLarge ≡ status.WriteFault = sym e ∙ k in cc
+
+pub never_fails : (left left_after : Option (List ℕ)) (given given_after ends ends_after : ℕ) (st : Status) (text : List ℕ)
+    → Answered left left_after given given_after ends ends_after st text → st ≡ status.WriteFault → ⊥
+never_fails left left_after given given_after ends ends_after st text a = no_fault_by st (told a.input st text a.answer).kinds
+
+pub is_replay : (c : Command) (o : Option Command) → Some c ≡ o → (workers : ℕ) × (o ≡ Some (Replay workers))
+is_replay (Replay workers) o e = (workers, sym e)

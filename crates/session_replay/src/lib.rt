@@ -1,0 +1,25 @@
+//! The top call of the program: the words of a command line and a session's bytes in, its report's bytes and a status out.
+//!
+//! `run` does all that the program does. What it is handed are traits, which say what they mean by what they have left or
+//! hold, where they tell it, and by counts.
+#![tactic(auto)]
+
+mod counts;
+mod decode;
+mod line_value;
+mod memory;
+mod outside;
+mod replay;
+mod report;
+mod session;
+mod top;
+mod traffic;
+mod words;
+
+pub use counts::ReadCounts;
+pub use memory::{MemSink, MemSource, SureSink, SureSource};
+pub use outside::{Failed, Gate, Sink, Source};
+pub use top::{Status, run};
+
+#[cfg(test)]
+mod tests;

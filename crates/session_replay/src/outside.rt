@@ -1,0 +1,62 @@
+// What `run` is handed in place of the real input, output and clock of the threads.
+ghost use Rattle.std.specs.Prelude.{◌≡◌, ◌<◌, ℕ, List, Option, IfOk, length};
+ghost use Rattle.std.specs.Io.{ReadsAtMost, WritesAtMost};
+ghost use Rattle.std.specs.Io.KnownBytes.{ReadConsumes, WriteAppends};
+ghost use Rattle.session_replay.specs.Causes.{HasCause, counted, bytes_given, ends_met};
+
+use std::sync::Wait;
+use std::thread::Threads;
+use thiserror::Error;
+
+/// A call of a source or a sink failed.
+#[derive(Clone, Copy, Debug, PartialEq, Eq, Error)]
+#[error("a read or a write failed")]
+pub struct Failed;
+
+/// Where bytes are read from. Its three counts never fall, and each stands still at 2^64 - 1.
+pub trait Source {
+    /// The bytes that are left, where the source tells them.
+    ghost left: { Self → Option (List ℕ) };
+
+    /// How many bytes it has given.
+    ghost given: { Self → ℕ };
+
+    /// How many reads met its end: they had room, and gave nothing.
+    ghost ends: { Self → ℕ };
+
+    /// How many reads failed.
+    ghost faults: { Self → ℕ };
+
+    /// Gives the front of what is left, at most as many bytes as `into` has room for; 0 into a nonempty slice is the end.
+    fn read(&mut self, into: &mut [u8]) -> Result<usize, Failed>
+        ensures bound { ReadsAtMost result into.new }
+        ensures bytes { ReadConsumes (left self.old) (left self.new) result into.new }
+        ensures gave { given self.new ≡ counted (given self.old) (bytes_given result) }
+        ensures ended { ends self.new ≡ counted (ends self.old) (ends_met result into.new) }
+        ensures cause { HasCause (faults self.old) (faults self.new) result };
+}
+
+/// Where bytes are written to.
+pub trait Sink {
+    /// The bytes written, where the sink tells them.
+    ghost written: { Self → Option (List ℕ) };
+
+    /// How many writes failed. It never falls, and stands still at 2^64 - 1.
+    ghost faults: { Self → ℕ };
+
+    /// Takes bytes of the front of `piece`, at least one where there is one, and answers how many.
+    fn write(&mut self, piece: &[u8]) -> Result<usize, Failed>
+        ensures bound { WritesAtMost result piece.now }
+        ensures takes { IfOk result (λ n. 0 < length piece.now → 0 < n) }
+        ensures bytes { WriteAppends (written self.old) (written self.new) result piece.now }
+        ensures cause { HasCause (faults self.old) (faults self.new) result };
+}
+
+/// Where threads are held, by tests that say which of them goes first.
+pub trait Gate: Sync {
+    /// Called by a worker before it answers a job, and by the editor before it works a line.
+    fn hold<R: Threads + Wait + Sync>(&self, rt: &R, worker: u32, job: u64);
+
+    /// Called by a worker once it has answered a job.
+    fn done<R: Threads + Wait + Sync>(&self, rt: &R, worker: u32, job: u64);
+}

@@ -1,0 +1,160 @@
+// The top call.
+ghost use Rattle.std.specs.Prelude.{◌≡◌, ◌≤◌, ◌<◌, ◌+◌, ◌⊎◌, ℕ, List, length, string_bytes, IfOk, IfSome, IsErrOf, Ok, Err, Some, None};
+ghost use Rattle.std.specs.Io.KnownBytes.{Appends};
+ghost use Rattle.session_replay.specs.Causes.{Rose, RoseBy};
+ghost use Rattle.session_replay.specs.Traffic.{AppendsFront, WasRead, WasTaken};
+ghost use Rattle.session_replay.specs.Words.{command_of};
+ghost use Rattle.session_replay.specs.Session.{decoded};
+ghost use Rattle.session_replay.specs.Replay.{Answered, Replays, answer_of, bad_line, large_line, output_of, usage_line};
+ghost use Rattle.session_replay.specs.declared.session.Session.{Session};
+
+use crate::decode::{DecodeFault, decode};
+use crate::outside::{Gate, Sink, Source};
+use crate::replay::report;
+use crate::traffic::{InputFault, read_all, write_all};
+use crate::words::{Command, command_of};
+use std::alloc::{AllocError, Global};
+use std::sync::Wait;
+use std::thread::Threads;
+
+/// What the program ends with; its number is the exit status.
+#[derive(Clone, Copy, Debug, PartialEq, Eq)]
+pub enum Status {
+    /// The report was written whole.
+    Done = 0,
+    /// Memory was wanted; nothing was written.
+    Memory = 1,
+    /// The words are no command words; the usage line was written, and nothing read.
+    Usage = 2,
+    /// A read failed; nothing was written.
+    ReadFault = 3,
+    /// A write failed; a front of what was to be written was written.
+    WriteFault = 4,
+    /// The input is no session; the line that says so was written.
+    Session = 5,
+    /// The input is larger than a session; the line that says so was written.
+    TooLarge = 6,
+}
+
+const USAGE: &str =
+    "usage: zedbuf replay [--workers N] | check | make --seed N --replicas N --edits N\n";
+
+/// What is written for an input, with the status.
+#[tactic(auto, using(crate::proofs::Headers::decoded_fits), unfolding(crate::specs::Replay::answer_of))]
+fn answer(alloc: Global, input: &[u8]) -> Result<(Status, String), AllocError>
+    requires { length input.now ≤ 67108864 }
+    ensures { IfOk result (λ p. answer_of input.now ≡ (p.0, string_bytes p.1)) }
+{
+    match decode(alloc, input) {
+        Ok(session) => Ok((Status::Done, report(alloc, &session)?)),
+        Err(DecodeFault::Bad(n)) => {
+            Ok((
+                Status::Session,
+                format!(in alloc; "session line {n}: shape\n")?,
+            ))
+        }
+        Err(DecodeFault::OutOfMemory) => Err(AllocError),
+    }
+}
+
+/// Writes the text, and answers the status unless that fails.
+fn send<O: Sink>(out: &mut O, text: &str, status: Status) -> Status
+    requires { status ≡ Status.WriteFault → ⊥ }
+    ensures either { (result ≡ status) ⊎ (result ≡ Status.WriteFault) }
+    ensures whole { result ≡ status → Appends (O.written out.old) (O.written out.new) text.now }
+    ensures front { result ≡ Status.WriteFault → AppendsFront (O.written out.old) (O.written out.new) text.now }
+    ensures cause { result ≡ Status.WriteFault → Rose (O.faults out.old) (O.faults out.new) }
+{
+    match write_all(out, text.as_bytes()) {
+        Ok(()) => status,
+        Err(_) => Status::WriteFault,
+    }
+}
+
+/// Reads all that there is, at most one byte past the limit, and answers it.
+fn answer_source<I: Source>(alloc: Global, src: &mut I) -> Result<(Status, String), InputFault>
+    ensures answer { IfOk result (λ p. Answered (I.left src.old) (I.left src.new) (I.given src.old) (I.given src.new) (I.ends src.old) (I.ends src.new) p.0 (string_bytes p.1)) }
+    ensures failed { IsErrOf result InputFault.Failed → Rose (I.faults src.old) (I.faults src.new) }
+    ensures bounded { I.given src.new ≤ I.given src.old + 67108865 }
+{
+    match read_all(alloc, src) {
+        Ok(input) => Ok(answer(alloc, input.as_slice())?),
+        Err(InputFault::TooLarge) => Ok((
+            Status::TooLarge,
+            String::from_str(alloc, "too large: bytes\n")?,
+        )),
+        Err(fault) => Err(fault),
+    }
+}
+
+/// Does all that the program does: reads the words, then for `replay` the source to its end or to one byte past the
+/// limit of 67,108,864 bytes, works the session, and writes its report.
+///
+/// The input and the report are held whole. An edit costs as much as the text is long, and so does a line that shows it.
+pub fn run<R: Threads + Wait + Sync, I: Source, O: Sink, G: Gate>(
+    rt: &R,
+    alloc: Global,
+    words: &[String],
+    src: &mut I,
+    out: &mut O,
+    gate: &G,
+) -> Status
+    // Usage exactly by the words, and then nothing is read.
+    ensures usage { result ≡ Status.Usage → (command_of words.now ≡ None) × (src.new ≡ src.old)
+        × Appends (O.written out.old) (O.written out.new) usage_line }
+    ensures refused { command_of words.now ≡ None → (result ≡ Status.Usage) ⊎ (result ≡ Status.WriteFault) }
+
+    // Done: the input was read to its end, and its report written whole.
+    ensures done { result ≡ Status.Done → (workers : ℕ) × (command_of words.now ≡ Some (Command.Replay workers))
+        × ((input : List ℕ)
+        × WasRead (I.left src.old) (I.left src.new) (I.given src.old) (I.given src.new) (I.ends src.old) (I.ends src.new) input
+        × ((output : List ℕ) × Appends (O.written out.old) (O.written out.new) output × Replays input output workers)) }
+
+    // Session: the input was read to its end, and has a first bad line.
+    ensures session { result ≡ Status.Session → (input : List ℕ)
+        × WasRead (I.left src.old) (I.left src.new) (I.given src.old) (I.given src.new) (I.ends src.old) (I.ends src.new) input
+        × ((n : ℕ) × (decoded input ≡ Err n) × Appends (O.written out.old) (O.written out.new) (bad_line n)) }
+    ensures ended { (result ≡ Status.Done) ⊎ (result ≡ Status.Session) → Rose (I.ends src.old) (I.ends src.new) }
+
+    // TooLarge: more than the limit was read.
+    ensures large { result ≡ Status.TooLarge → IfSome (I.left src.old) (λ input. 67108864 < length input)
+        × Appends (O.written out.old) (O.written out.new) large_line }
+    ensures passed { result ≡ Status.TooLarge → RoseBy 67108865 (I.given src.old) (I.given src.new) }
+    ensures bounded { I.given src.new ≤ I.given src.old + 67108865 }
+
+    // Faults come only where a count rose.
+    ensures read_fault { result ≡ Status.ReadFault → Rose (I.faults src.old) (I.faults src.new) × (out.new ≡ out.old) }
+    ensures write_fault { result ≡ Status.WriteFault → Rose (O.faults out.old) (O.faults out.new) }
+    ensures usage_front { result ≡ Status.WriteFault → command_of words.now ≡ None → (src.new ≡ src.old)
+        × AppendsFront (O.written out.old) (O.written out.new) usage_line }
+    ensures report_front { result ≡ Status.WriteFault → (workers : ℕ) → command_of words.now ≡ Some (Command.Replay workers)
+        → (input : List ℕ)
+        × WasTaken (I.left src.old) (I.left src.new) (I.given src.old) (I.given src.new) (I.ends src.old) (I.ends src.new) input
+        × AppendsFront (O.written out.old) (O.written out.new) (output_of input) }
+
+    // Memory is free, and nothing was written.
+    ensures memory { result ≡ Status.Memory → out.new ≡ out.old }
+
+    // Where no fault was counted, a session within the limit gives its report, and without one it is refused.
+    ensures completes { (Rose (I.faults src.old) (I.faults src.new) → ⊥) → (Rose (O.faults out.old) (O.faults out.new) → ⊥)
+        → (workers : ℕ) → command_of words.now ≡ Some (Command.Replay workers)
+        → IfSome (I.left src.old) (λ input. length input ≤ 67108864 → (s : Session) → decoded input ≡ Ok s
+        → (result ≡ Status.Done) ⊎ (result ≡ Status.Memory)) }
+    ensures refuses { (Rose (I.faults src.old) (I.faults src.new) → ⊥) → (Rose (O.faults out.old) (O.faults out.new) → ⊥)
+        → (workers : ℕ) → command_of words.now ≡ Some (Command.Replay workers)
+        → IfSome (I.left src.old) (λ input. (67108864 < length input) ⊎ ((n : ℕ) × (decoded input ≡ Err n))
+        → (result ≡ Status.Session) ⊎ ((result ≡ Status.TooLarge) ⊎ (result ≡ Status.Memory))) }
+{
+    let Some(Command::Replay { workers }) = command_of(words) else {
+        return send(out, USAGE, Status::Usage);
+    };
+    // There are no queries yet: no worker is started, and the gate is not called.
+    let _ = rt;
+    let _ = gate;
+    let _ = workers;
+    match answer_source(alloc, src) {
+        Ok((status, text)) => send(out, text.as_str(), status),
+        Err(InputFault::Failed) => Status::ReadFault,
+        Err(_) => Status::Memory,
+    }
+}
