@@ -1,10 +1,9 @@
 -- What a join of two versions is.
-use Rattle.std.proofs.Common.{◌≡◌, ℕ, suc, ◌<◌, ◌≤◌, ◌≢◌, max, [], ◌∷◌, refl, sym, ap, ◌∙◌, arith, true, false, cond, eqb, ltb, leb, ◌&&◌, ne_eqb, eq-eqb, inl, inr, is_none, subst}
+use Rattle.std.proofs.Common.{◌≡◌, ℕ, suc, ◌≤◌, ◌≢◌, max, [], ◌∷◌, refl, sym, ap, ◌∙◌, arith, true, false, cond, eqb, ltb, leb, ne_eqb, eq-eqb, inl, inr, is_none, subst}
 use Rattle.std.proofs.lemmas.Bool.{le-leb, lt-leb, le-ltb, lt-ltb, leb-true, and_parts, and_from, cases_eq}
-use Rattle.std.proofs.lemmas.Bool.Decides.{nat_tests}
 use Rattle.lamport_clock.specs.declared.stamp.Lamport.{Lamport}
 use Rattle.lamport_clock.specs.Versions.{Entries, IsVersionFrom, IsVersion, entry, within, put, raise, first_unseen, joined}
-use Rattle.lamport_clock.proofs.Raises.{by_order, by_bound, raise_seen, raise_new, entry-put_at, entry-put_off}
+use Rattle.lamport_clock.proofs.Raises.{by_bound, raise_seen, raise_new, entry-put_at, entry-put_off}
 use Rattle.lamport_clock.proofs.Entries.{IsVersion-put}
 use Rattle.lamport_clock.proofs.Joining.{entry_below}
 

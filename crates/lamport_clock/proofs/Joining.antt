@@ -1,9 +1,7 @@
 -- Two versions gone through side by side.
 use Rattle.std.proofs.Common.{◌≡◌, ℕ, suc, ◌+◌, ◌<◌, ◌≤◌, max, [], ◌∷◌, ◌++◌, length, take, drop, refl, sym, ap, ◌∙◌, subst, arith, true, false, cond, eqb, ltb, leb, Some, ne_eqb, eq-eqb, Bool, zero, get_or, append_assoc}
 use Rattle.std.proofs.lemmas.List.{drop_more}
-use Rattle.std.proofs.lemmas.Bool.{lt-ltb, le-ltb, lt-leb, le-leb, ltb-true, ltb-false}
-use Rattle.std.proofs.lemmas.Bool.Decides.{nat_tests}
-use Rattle.lamport_clock.specs.declared.stamp.Lamport.{Lamport}
+use Rattle.std.proofs.lemmas.Bool.{lt-ltb, le-ltb, lt-leb, le-leb, ltb-true}
 use Rattle.lamport_clock.specs.Versions.{Entries, IsVersionFrom, entry, put, raise, place_of, front, behind, first_unseen, joined}
 use Rattle.lamport_clock.proofs.Raises.{by_order, by_bound}
 

@@ -1,4 +1,4 @@
-use Rattle.std.proofs.Common.{◌≡◌, ◌∙◌, ◌++◌, sym, ap, subst, max, [], ◌∷◌, get_or, drop, ◌+◌, List, ℕ}
+use Rattle.std.proofs.Common.{◌≡◌, ◌∙◌, ◌++◌, sym, ap, subst, max, [], ◌∷◌, get_or, drop, ◌+◌, ℕ}
 use Rattle.lamport_clock.specs.Versions.{Entries, IsVersion, behind, joined}
 use Rattle.lamport_clock.proofs.Joining.{joined_turn, version_drop, version_behind}
 use Rattle.lamport_clock.proofs.version.merged.Goals as goal

@@ -1,5 +1,4 @@
-use Rattle.std.proofs.Common.{sym, ◌∙◌, arith, subst}
-use Rattle.lamport_clock.specs.Versions.{IsVersion}
+use Rattle.std.proofs.Common.{sym, ◌∙◌, arith}
 use Rattle.lamport_clock.proofs.Joined.{joined_seen, entry_within, joined_version, joined_greater}
 use Rattle.lamport_clock.proofs.version.Version.join.Goals as goal
 
