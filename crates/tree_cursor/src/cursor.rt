@@ -89,11 +89,7 @@ impl<'a, T: Item, D: Dimension<'a, T::Summary>> Cursor<'a, T, D> {
         ensures ok { IsOk result }
         ensures moved { self.new ≡ record self.old { index = min (self.old.index + 1) (length self.old.items) } }
     {
-        self.tree.known();
-        if let Some(_item) = self.halt.item {
-            self.halt = walk(&mut self.path, self.halt.end, &Across { items: 0 });
-            self.index += 1;
-        }
+        self.go_on();
         Ok(())
     }
 
@@ -131,7 +127,7 @@ impl<'a, T: Item, D: Dimension<'a, T::Summary>> Cursor<'a, T, D> {
         ensures err { OnErr result (self.new ≡ self.old) }
     {
         let first = self.index;
-        self.pass(target, bias);
+        self.seek(target, bias)?;
         match cut(alloc, self.tree, first, self.index) {
             Ok(part) => Ok(part),
             Err(fault) => {
@@ -151,6 +147,17 @@ impl<'a, T: Item, D: Dimension<'a, T::Summary>> Cursor<'a, T, D> {
         let rest = self.tree.dropped(alloc, self.index)?;
         self.go_past();
         Ok(rest)
+    }
+
+    // Goes on to the next item, if it is on one.
+    fn go_on(&mut self)
+        ensures { self.new ≡ record self.old { index = min (self.old.index + 1) (length self.old.items) } }
+    {
+        self.tree.known();
+        if let Some(_item) = self.halt.item {
+            self.halt = walk(&mut self.path, self.halt.end, &Across { items: 0 });
+            self.index += 1;
+        }
     }
 
     // Goes forward to where a seek goes.

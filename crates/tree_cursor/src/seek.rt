@@ -6,7 +6,7 @@ ghost use Rattle.tree_cursor.specs.Places.{place_behind, seek_count};
 
 use crate::path::Path;
 use crate::traits::{Bias, Dimension, Moves, Plain, Target};
-use crate::walk::{Rule, entry_item, walk};
+use crate::walk::{Halt, Rule, entry_item, walk};
 use sum_tree::{Item, SumTree, Summary};
 
 // A walk that halts where a seek stops.
@@ -28,6 +28,22 @@ impl<'t, S: Summary, D: Plain, G: Target<D>> Rule<S, D> for Seeking<'t, G> {
     }
 }
 
+// Goes down to the first item at which a seek stops.
+fn descent<'a, T: Item, D: Dimension<'a, T::Summary>, G: Target<D>>(
+    tree: &'a SumTree<T>,
+    start: D,
+    target: &G,
+    bias: Bias,
+) -> Halt<'a, T, D>
+    requires { D.fits (D.plain start) (fold T.Summary.empty T.Summary.op T.sum_of tree.now.items) }
+    ensures item { option_copied result.item ≡ slice_get tree.now.items (seek_count D.moved T.sum_of (λ p. G.passes target.now p bias) (D.plain start) tree.now.items) }
+    ensures start { D.plain result.start ≡ place_behind D.moved T.sum_of (D.plain start) (take (seek_count D.moved T.sum_of (λ p. G.passes target.now p bias) (D.plain start) tree.now.items) tree.now.items) }
+{
+    tree.known();
+    let mut path = Path::new(tree);
+    walk(&mut path, start, &Seeking { target, bias })
+}
+
 /// The first item whose end is at or past the target (Left) or strictly past it (Right), and the place at which it
 /// starts; None, and the place at which all end, if there is none.
 ///
@@ -43,8 +59,6 @@ pub fn locate<'a, T: Item, D: Dimension<'a, T::Summary>, G: Target<D>>(
     ensures item { option_copied result.0 ≡ slice_get tree.now.items (seek_count D.moved T.sum_of (λ p. G.passes target.now p bias) (D.plain start) tree.now.items) }
     ensures place { D.plain result.1 ≡ place_behind D.moved T.sum_of (D.plain start) (take (seek_count D.moved T.sum_of (λ p. G.passes target.now p bias) (D.plain start) tree.now.items) tree.now.items) }
 {
-    tree.known();
-    let mut path = Path::new(tree);
-    let halt = walk(&mut path, start, &Seeking { target, bias });
+    let halt = descent(tree, start, target, bias);
     (entry_item(halt.item), halt.start)
 }

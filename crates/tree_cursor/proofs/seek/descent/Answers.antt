@@ -2,21 +2,21 @@ use Rattle.std.proofs.Common.{ℕ, take, ap, ◌∙◌}
 use Rattle.std.specs.List.{slice_get}
 use Rattle.tree_cursor.specs.Places.{place_behind, seek_count}
 use Rattle.tree_cursor.proofs.Counts.{seek_passes, get_ahead}
-use Rattle.tree_cursor.proofs.seek.locate.Goals as goal
+use Rattle.tree_cursor.proofs.seek.descent.Goals as goal
 
 pub returns-clause-item : goal.returns-clause-item
 returns-clause-item g c =
     let all = c.new-path.result.items in
     let stops = λ (p : g.row.D-Value.Denot). g.G.Target.passes c.args.target.now p c.args.bias in
-    let count = c.walk-halt.ensures.passed ∙ seek_passes g.D.Moves.moved g.T.Item.sum_of stops (g.D.Plain.plain c.args.start) 0 all in
-    c.entry_item.ensures ∙ get_ahead all _ c.walk-halt.result.item c.walk-halt.result.passed c.walk-halt.ensures.at.here ∙ ap (slice_get all) count
+    let count = c.walk.ensures.passed ∙ seek_passes g.D.Moves.moved g.T.Item.sum_of stops (g.D.Plain.plain c.args.start) 0 all in
+    get_ahead all _ c.walk.result.item c.walk.result.passed c.walk.ensures.at.here ∙ ap (slice_get all) count
     ∙ ap (λ xs. slice_get xs (seek_count g.D.Moves.moved g.T.Item.sum_of stops (g.D.Plain.plain c.args.start) xs)) c.new-path.ensures
 
-pub returns-clause-place : goal.returns-clause-place
-returns-clause-place g c =
+pub returns-clause-start : goal.returns-clause-start
+returns-clause-start g c =
     let all = c.new-path.result.items in
     let start = g.D.Plain.plain c.args.start in
     let stops = λ (p : g.row.D-Value.Denot). g.G.Target.passes c.args.target.now p c.args.bias in
-    let count = c.walk-halt.ensures.passed ∙ seek_passes g.D.Moves.moved g.T.Item.sum_of stops start 0 all in
-    c.walk-halt.ensures.at.starts ∙ ap (λ (n : ℕ). place_behind g.D.Moves.moved g.T.Item.sum_of start (take n all)) count
+    let count = c.walk.ensures.passed ∙ seek_passes g.D.Moves.moved g.T.Item.sum_of stops start 0 all in
+    c.walk.ensures.at.starts ∙ ap (λ (n : ℕ). place_behind g.D.Moves.moved g.T.Item.sum_of start (take n all)) count
     ∙ ap (λ xs. place_behind g.D.Moves.moved g.T.Item.sum_of start (take (seek_count g.D.Moves.moved g.T.Item.sum_of stops start xs) xs)) c.new-path.ensures
