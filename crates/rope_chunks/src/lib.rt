@@ -10,6 +10,7 @@ mod look;
 mod pieces;
 mod positions;
 mod rope;
+mod rows;
 mod targets;
 #[cfg(test)]
 mod tests;
