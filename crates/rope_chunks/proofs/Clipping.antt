@@ -1,6 +1,6 @@
 -- Where clips of offsets go.
-use Rattle.std.specs.Prelude.{if◌then◌else◌, find, filter, not, nat_le, nat_lt, ◌+◌, ◌≤◌}
-use Rattle.std.proofs.Common.{◌≡◌, ℕ, Bool, true, false, cond, Option, Some, None, List, [], ◌∷◌, refl, sym, ◌∙◌, arith}
+use Rattle.std.specs.Prelude.{find, filter, not, nat_le, nat_lt, ◌+◌, ◌≤◌}
+use Rattle.std.proofs.Common.{◌≡◌, ℕ, Bool, true, false, cond, Some, List, [], ◌∷◌, refl, sym, ◌∙◌, arith}
 use Rattle.std.specs.Option.{unwrap_or}
 use Rattle.std.specs.Str.{IsUtf8}
 use Rattle.std.proofs.lemmas.Bool.Decides.{nat_tests}
@@ -10,7 +10,7 @@ use Rattle.text_dims.specs.Counts.{begins_char, byte_units, is_newline}
 use Rattle.text_dims.specs.Places.{end_place, places, place_after, walk, last_place, offset_clipped_back, offset_clipped_on}
 use Rattle.text_dims.proofs.Walks.{places-walk}
 use Rattle.rope_chunks.specs.declared.look.Stop.{Stop}
-use Rattle.rope_chunks.specs.Stops.{stop}
+use Rattle.rope_chunks.specs.Stops.{stop, kept}
 use Rattle.rope_chunks.specs.Targets.{offset_passed, offset_stays}
 use Rattle.rope_chunks.proofs.Stops.{after-later, Begins, Begins-utf8, Stays}
 
@@ -34,11 +34,6 @@ clipped_on bs o s e =
     let p : Place → Bool = λ k. offset_passed o k Left in
     rw (e, places-walk bs, last-walk (end_place bs) (end_place []) (end_place []) bs) (sym (find-stop p (end_place []) (walk (end_place []) bs)))
 
--- the place itself, unless it is strictly past, or the one before
-abbrev pub kept : (Place → Bool) → Option Place → Place → Place
-kept past None before = before
-kept past (Some k) before = if past k then before else k
-
 -- From a row on, q tells which places are not strictly past a target. One that is at it is followed by places strictly past.
 pub record Upto (pl pr q : Place → Bool) (low : ℕ) : Type 0 where
   pub stays : Stays pr
@@ -60,23 +55,23 @@ none_upto pl pr q low u d a (b ∷ bs) l h =
 -- at one place, before those that follow it
 here : (pl pr q : Place → Bool) (low : ℕ) → Upto pl pr q low → (d a : Place) (us : List Place) (x y : Bool) → pl a ≡ x → pr a ≡ y → low ≤ a.row →
     (pr a ≡ true → last_place d (filter q us) ≡ d) → (pl a ≡ true → pr a ≡ false → last_place a (filter q us) ≡ a) →
-    last_place a (filter q us) ≡ kept pr (stop pl a us).here (stop pl a us).before →
-    last_place d (filter q (a ∷ us)) ≡ kept pr (stop pl d (a ∷ us)).here (stop pl d (a ∷ us)).before
+    last_place a (filter q us) ≡ kept pr (stop pl a us) →
+    last_place d (filter q (a ∷ us)) ≡ kept pr (stop pl d (a ∷ us))
 here pl pr q low u d a us true true e f l h k r = let no : q a ≡ false = u.is a l ∙ rw f refl in rw (e, f, no) (h f)
 here pl pr q low u d a us true false e f l h k r = let yes : q a ≡ true = u.is a l ∙ rw f refl in rw (e, f, yes) (k e f)
 here pl pr q low u d a us false true e f l h k r = let g = u.past a f in cc
 here pl pr q low u d a us false false e f l h k r = let yes : q a ≡ true = u.is a l ∙ rw f refl in rw (e, yes) r
 
 clip_step : (pl pr q : Place → Bool) (d a : Place) (us : List Place) (t : Bool) →
-    last_place d (filter q (a ∷ us)) ≡ kept pr (stop pl d (a ∷ us)).here (stop pl d (a ∷ us)).before →
-    last_place d (filter q us) ≡ kept pr (stop pl d us).here (stop pl d us).before →
-    last_place d (filter q (cond t (a ∷ us) us)) ≡ kept pr (stop pl d (cond t (a ∷ us) us)).here (stop pl d (cond t (a ∷ us) us)).before
+    last_place d (filter q (a ∷ us)) ≡ kept pr (stop pl d (a ∷ us)) →
+    last_place d (filter q us) ≡ kept pr (stop pl d us) →
+    last_place d (filter q (cond t (a ∷ us) us)) ≡ kept pr (stop pl d (cond t (a ∷ us) us))
 clip_step pl pr q d a us true h k = h
 clip_step pl pr q d a us false h k = k
 
 -- where a target is clipped back to, along a walk that has a place before its target
 pub clip-walk : (pl pr q : Place → Bool) (low : ℕ) → Upto pl pr q low → (d a : Place) (bs : List ℕ) → low ≤ a.row →
-    last_place d (filter q (walk a bs)) ≡ kept pr (stop pl d (walk a bs)).here (stop pl d (walk a bs)).before
+    last_place d (filter q (walk a bs)) ≡ kept pr (stop pl d (walk a bs))
 clip-walk pl pr q low u d a [] l = here pl pr q low u d a [] (pl a) (pr a) refl refl l (λ h. refl) (λ h k. refl) refl
 clip-walk pl pr q low u d a (b ∷ bs) l =
     let later = after-later a b in
@@ -118,9 +113,9 @@ at_zero : (o : ℕ) → nat_le (end_place []).offset o ≡ true
 unfolding end_place
 at_zero o = grind (arith, nat_tests)
 
-pub clipped_back : (bs : List ℕ) (o : ℕ) (s : Stop) → IsUtf8 bs → s ≡ stop (λ k. offset_passed o k Left) (end_place []) (places bs) → kept (λ k. offset_passed o k Right) s.here s.before ≡ offset_clipped_back bs o
-clipped_back bs o s u e =
+pub clipped_back : (bs : List ℕ) (o : ℕ) → IsUtf8 bs → kept (λ k. offset_passed o k Right) (stop (λ k. offset_passed o k Left) (end_place []) (places bs)) ≡ offset_clipped_back bs o
+clipped_back bs o u =
     let q : Place → Bool = λ k. nat_le k.offset o in
-    rw (e, places-walk bs)
+    rw (places-walk bs)
     (sym (either q (end_place bs) (end_place []) (end_place []) bs (Begins-utf8 bs u) (at_zero o)
     ∙ clip-walk (λ k. offset_passed o k Left) (λ k. offset_passed o k Right) q 0 (offset_upto o) (end_place []) (end_place []) bs (omega arith)))

@@ -14,10 +14,10 @@ use Rattle.text_dims.specs.Counts.{begins_char, is_newline, newline_count, rows,
 use Rattle.text_dims.specs.Places.{end_place, places, place_after, walk, last_place, point_clipped_back, point_clipped_on}
 use Rattle.text_dims.proofs.Walks.{places-walk, end_place-append}
 use Rattle.rope_chunks.specs.declared.look.Stop.{Stop}
-use Rattle.rope_chunks.specs.Stops.{stop}
+use Rattle.rope_chunks.specs.Stops.{stop, kept}
 use Rattle.rope_chunks.specs.Targets.{point_passed, point_stays}
 use Rattle.rope_chunks.proofs.Stops.{after-later, Begins, Begins-utf8, lead, walk_end, walk_end-is}
-use Rattle.rope_chunks.proofs.Clipping.{kept, Upto, clip-walk, either}
+use Rattle.rope_chunks.proofs.Clipping.{Upto, clip-walk, either}
 
 -- after each LF a character begins, or the text ends
 abbrev pub RowsBegin : List ℕ → Type 0
@@ -193,7 +193,7 @@ point_upto p = record {
 at_begin : (p : Point) (a : Place) → a.row ≡ p.row → a.column ≡ 0 → (a.row == p.row && nat_le a.column p.column) ≡ true
 at_begin p a r c = grind (arith, nat_tests)
 
-back_agrees : (p : Point) → Agrees p (λ s. kept (λ k. point_passed p k Right) s.here s.before) (back_clip p)
+back_agrees : (p : Point) → Agrees p (λ s. kept (λ k. point_passed p k Right) s) (back_clip p)
 back_agrees p = record {
   none = λ e. refl;
   row = λ e d a bs r c h.
@@ -203,5 +203,5 @@ back_agrees p = record {
       ∙ ap (last_place e) (sym (both (λ k. nat_le k.column p.column) (λ k. k.row == p.row) (walk a bs)));
 }
 
-pub point_back : (bs : List ℕ) (p : Point) (s : Stop) → IsUtf8 bs → s ≡ stop (λ k. point_passed p k Left) (end_place []) (places bs) → kept (λ k. point_passed p k Right) s.here s.before ≡ point_clipped_back bs p
-point_back bs p s u e = rw e (agree p (λ x. kept (λ k. point_passed p k Right) x.here x.before) (back_clip p) (back_agrees p) bs u)
+pub point_back : (bs : List ℕ) (p : Point) → IsUtf8 bs → kept (λ k. point_passed p k Right) (stop (λ k. point_passed p k Left) (end_place []) (places bs)) ≡ point_clipped_back bs p
+point_back bs p u = agree p (λ s. kept (λ k. point_passed p k Right) s) (back_clip p) (back_agrees p) bs u

@@ -5,6 +5,8 @@ mod at;
 mod build;
 mod chunk;
 mod clips;
+#[cfg(test)]
+mod counted_tests;
 mod lent;
 mod look;
 mod pieces;

@@ -3,11 +3,10 @@ ghost use Rattle.std.specs.Prelude.{◌≡◌};
 ghost use Rattle.text_dims.specs.Places.{point_of, row_len_of, point_clipped_back, point_clipped_on};
 ghost use Rattle.rope_chunks.specs.Clips.{point_clipped};
 
-use crate::at::At;
 use crate::rope::Rope;
 use crate::targets::{ByPoint, ByRow};
 use text_dims::{Place, Point};
-use tree_cursor::{Bias, Target};
+use tree_cursor::Bias;
 
 impl Rope {
     /// How many bytes a row has without its LF, or None if there is no such row. Takes no memory.
@@ -38,17 +37,7 @@ impl Rope {
         ensures { result ≡ point_clipped_back self.now point }
     {
         self.known();
-        let target = ByPoint(point);
-        let stop = self.stop(&target);
-        match stop.here {
-            None => stop.before,
-            Some(place) => {
-                if target.passed(At(place), Bias::Right) {
-                    return stop.before;
-                }
-                place
-            }
-        }
+        self.back(&ByPoint(point))
     }
 
     // The first place of its row at or past a point, or the row's last place, or the text's end where there is no such row.
