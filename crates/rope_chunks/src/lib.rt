@@ -5,11 +5,14 @@ mod at;
 mod build;
 mod chunk;
 mod clips;
+#[cfg(test)]
+mod counted_tests;
 mod lent;
 mod look;
 mod pieces;
 mod positions;
 mod rope;
+mod rows;
 mod targets;
 #[cfg(test)]
 mod tests;
