@@ -3,13 +3,17 @@
 
 mod at;
 mod build;
+mod change;
 mod chunk;
 mod clips;
+mod cut;
 mod lent;
 mod look;
 mod pieces;
 mod positions;
+mod replace;
 mod rope;
+mod spot;
 mod targets;
 #[cfg(test)]
 mod tests;
