@@ -5,3 +5,5 @@ pub mod Grows
 pub mod Clipping
 pub mod RowEnds
 pub mod PointClips
+pub mod Spots
+pub mod Changes

@@ -171,7 +171,7 @@ pub stop-found : (p : Place → Bool) → Stays p → (cs : List (List ℕ)) →
 stop-found p s cs each begin z text w k e o d =
     rw (e, d, ← w, places-walk (concat cs), ← z) (sym (stop-chunks p s begin cs each))
 
-front-short : (n : ℕ) (cs : List (List ℕ)) → length (concat (take n cs)) ≤ length (concat cs)
+pub front-short : (n : ℕ) (cs : List (List ℕ)) → length (concat (take n cs)) ≤ length (concat cs)
 front-short zero cs = omega arith
 front-short (suc n) [] = omega arith
 front-short (suc n) (c ∷ cs) =
