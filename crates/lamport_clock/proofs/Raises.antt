@@ -15,7 +15,7 @@ put_before : (e : ℕ × ℕ) (v : Entries) (r x : ℕ) → r < e.0 → put r x 
 put_before e v r x h = grind (arith, nat_tests)
 
 -- where a number stands against another
-by_order : (P : Type 0) (a b : ℕ) → (a < b → P) → (a ≡ b → P) → (b < a → P) → P
+pub by_order : (P : Type 0) (a b : ℕ) → (a < b → P) → (a ≡ b → P) → (b < a → P) → P
 by_order P a b low same high =
     elim (nat_lt a b) as (λ t. nat_lt a b ≡ t → P) [
       | true ↦ λ e. low (ltb-true a b e)
@@ -25,7 +25,7 @@ by_order P a b low same high =
       ] refl
     ] refl
 
-entry-put_at : (v : Entries) (r x : ℕ) → entry (put r x v) r ≡ x
+pub entry-put_at : (v : Entries) (r x : ℕ) → entry (put r x v) r ≡ x
 entry-put_at [] r x = grind (arith, nat_tests)
 entry-put_at (e ∷ v) r x =
     let ih = entry-put_at v r x in
@@ -34,7 +34,7 @@ entry-put_at (e ∷ v) r x =
     (λ h. ap (λ w. entry w r) (put_at e v r x h) ∙ grind (arith, nat_tests))
     (λ h. ap (λ w. entry w r) (put_before e v r x h) ∙ grind (arith, nat_tests))
 
-entry-put_off : (v : Entries) (r x q : ℕ) → q ≢ r → entry (put r x v) q ≡ entry v q
+pub entry-put_off : (v : Entries) (r x q : ℕ) → q ≢ r → entry (put r x v) q ≡ entry v q
 entry-put_off [] r x q n = grind (arith, nat_tests)
 entry-put_off (e ∷ v) r x q n =
     let ih = entry-put_off v r x q n in
@@ -67,13 +67,13 @@ put-put_less (e ∷ v) r x q y l =
 put-put_off : (v : Entries) (r x q y : ℕ) → r ≢ q → put r x (put q y v) ≡ put q y (put r x v)
 put-put_off v r x q y n = by_order _ r q (λ h. put-put_less v r x q y h) (λ h. absurd (n h)) (λ h. sym (put-put_less v q y r x h))
 
-raise_seen : (v : Entries) (t : Lamport) → t.value ≤ entry v t.replica → raise v t ≡ v
+pub raise_seen : (v : Entries) (t : Lamport) → t.value ≤ entry v t.replica → raise v t ≡ v
 raise_seen v t h = grind (arith, nat_tests)
 
-raise_new : (v : Entries) (t : Lamport) → entry v t.replica < t.value → raise v t ≡ put t.replica t.value v
+pub raise_new : (v : Entries) (t : Lamport) → entry v t.replica < t.value → raise v t ≡ put t.replica t.value v
 raise_new v t h = grind (arith, nat_tests)
 
-by_bound : (P : Type 0) (a b : ℕ) → (a ≤ b → P) → (b < a → P) → P
+pub by_bound : (P : Type 0) (a b : ℕ) → (a ≤ b → P) → (b < a → P) → P
 by_bound P a b low high = by_order P a b (λ h. low (omega arith)) (λ h. low (omega arith)) high
 
 -- one replica

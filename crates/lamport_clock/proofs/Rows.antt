@@ -1,7 +1,7 @@
 -- Worked rows of clocks and versions.
-use Rattle.std.proofs.Common.{◌≡◌, refl, [], ◌∷◌, true, false}
+use Rattle.std.proofs.Common.{◌≡◌, refl, [], ◌∷◌, true, false, Some, None}
 use Rattle.lamport_clock.specs.Clocks.{observed}
-use Rattle.lamport_clock.specs.Versions.{Entries, entry, sees, within, raise}
+use Rattle.lamport_clock.specs.Versions.{Entries, entry, sees, within, raise, first_unseen, joined}
 
 abbrev seen : Entries
 seen = (0, 1) ∷ (7, 9) ∷ []
@@ -26,3 +26,16 @@ not_lowered = refl
 
 inside_one_another : (within ((7, 9) ∷ []) seen ≡ true) × (within seen ((7, 9) ∷ []) ≡ false)
 inside_one_another = (refl, refl)
+
+-- what has seen 2.1 misses 3 of replica 1, and sees it after the join
+abbrev early : Entries
+early = (1, 2) ∷ []
+
+abbrev later_ones : Entries
+later_ones = (1, 3) ∷ (2, 1) ∷ []
+
+missing : (first_unseen early later_ones ≡ Some (1, 3)) × (first_unseen later_ones early ≡ None)
+missing = (refl, refl)
+
+joining : (joined early later_ones ≡ later_ones) × (joined later_ones early ≡ later_ones) × (joined early seen ≡ (0, 1) ∷ (1, 2) ∷ (7, 9) ∷ [])
+joining = (refl, refl, refl)

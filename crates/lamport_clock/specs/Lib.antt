@@ -1,3 +1,4 @@
 pub mod Stamps
 pub mod Clocks
 pub mod Versions
+pub mod Laws

@@ -1,5 +1,6 @@
 -- A version: a finite map from replicas to values, 0 where absent, as the list of its entries.
-use Rattle.std.specs.Prelude.{◌≡◌, ℕ, suc, ◌<◌, ◌≤◌, ◌==◌, ◌&&◌, Bool, true, List, [], ◌∷◌, length, nat_lt, nat_le, if◌then◌else◌, slice_index_or}
+use Rattle.std.specs.Prelude.{◌≡◌, ℕ, suc, ◌<◌, ◌≤◌, ◌==◌, ◌&&◌, Bool, true, List, [], ◌∷◌, length, nat_lt, nat_le, if◌then◌else◌, slice_index_or, Option}
+use Rattle.std.specs.List.{find}
 use Rattle.lamport_clock.specs.declared.stamp.Lamport.{Lamport}
 
 -- entries (replica, value)
@@ -37,12 +38,30 @@ put r x (e ∷ v) = if nat_lt e.0 r then e ∷ put r x v else (if e.0 == r then 
 abbrev pub raise : Entries → Lamport → Entries
 raise v t = if sees v t then v else put t.replica t.value v
 
+-- the first entry of v that passes that of u: at the least such replica, as the replicas of a version ascend
+abbrev pub first_unseen : Entries → Entries → Option (ℕ × ℕ)
+first_unseen u v = find (λ e. nat_lt (entry u e.0) e.1) v
+
+-- u with all that v sees seen too
+abbrev pub joined : Entries → Entries → Entries
+joined u [] = u
+joined u (e ∷ v) = joined (raise u (record { value = e.1; replica = e.0 })) v
+
 -- ---- for private clauses
 
 -- the number of entries before replica r's place
 abbrev pub place_of : Entries → ℕ → ℕ
 place_of [] r = 0
 place_of (e ∷ v) r = if nat_lt e.0 r then suc (place_of v r) else 0
+
+-- the first entry's value, where that is replica r's, and what stands behind it
+abbrev pub front : Entries → ℕ → ℕ
+front [] r = 0
+front (e ∷ v) r = if e.0 == r then e.1 else 0
+
+abbrev pub behind : Entries → ℕ → Entries
+behind [] r = []
+behind (e ∷ v) r = if e.0 == r then v else e ∷ v
 
 abbrev pub IsAt : Entries → ℕ → ℕ → Type 0
 IsAt v i r = (i < length v) × ((slice_index_or v i (0, 0)).0 ≡ r)

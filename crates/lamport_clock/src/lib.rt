@@ -5,13 +5,15 @@
 #![tactic(auto)]
 
 mod clock;
+mod laws;
 mod stamp;
 #[cfg(test)]
 mod tests;
 mod version;
 
 pub use clock::{Clock, ClockEnd};
-pub use stamp::Lamport;
+pub use laws::{join_is_least, nothing_is_missing};
+pub use stamp::{Lamport, is_later, is_same};
 pub use std::alloc::AllocError as OutOfMemory;
 pub use version::Version;
 

@@ -1,6 +1,6 @@
 // Stamps.
-ghost use Rattle.std.specs.Prelude.{Some};
-ghost use Rattle.lamport_clock.specs.Stamps.{stamp_text};
+ghost use Rattle.std.specs.Prelude.{◌≡◌, Some};
+ghost use Rattle.lamport_clock.specs.Stamps.{later, same_stamp, stamp_text};
 
 use std::fmt;
 
@@ -17,4 +17,19 @@ impl fmt::Display for Lamport {
     fn fmt<W: fmt::Write>(&self, f: &mut fmt::Formatter<W>) -> fmt::Result {
         write!(f, "{}.{}", self.value, self.replica)
     }
+}
+
+/// Whether `s` is the later of two stamps, which is what `>` says: it has the greater value, or the same value and the
+/// greater replica id.
+pub fn is_later(s: Lamport, t: Lamport) -> bool
+    ensures { result ≡ later s t }
+{
+    s > t
+}
+
+/// Whether two stamps are the same, which is what `==` says.
+pub fn is_same(s: Lamport, t: Lamport) -> bool
+    ensures { result ≡ same_stamp s t }
+{
+    s == t
 }

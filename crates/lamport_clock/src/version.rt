@@ -1,6 +1,6 @@
 // The greatest stamp value seen of each replica.
-ghost use Rattle.std.specs.Prelude.{◌≡◌, ◌<◌, ◌≤◌, [], IfOk, OnErr, OnOk, length, IsTrue, ◌↔◌};
-ghost use Rattle.lamport_clock.specs.Versions.{entry, raise, put, place_of, IsAt, IsVersion};
+ghost use Rattle.std.specs.Prelude.{◌≡◌, ℕ, ◌<◌, ◌≤◌, [], max, IsOk, IfOk, OnErr, OnOk, length, slice_get, IsTrue, ◌↔◌};
+ghost use Rattle.lamport_clock.specs.Versions.{entry, sees, within, first_unseen, raise, joined, put, place_of, front, behind, IsAt, IsVersion};
 
 use crate::Lamport;
 use smallvec::SmallVec;
@@ -52,15 +52,68 @@ impl Version {
         value_in(self.entries.as_slice(), r)
     }
 
+    /// The number of replicas seen.
+    pub fn len(&self) -> u64
+        ensures { result ≡ length self.now }
+    {
+        self.entries.as_slice().len() as u64
+    }
+
+    /// The entry of index `i`, counted from 0: a replica and the greatest value seen of it. Replicas ascend, values are
+    /// above 0. None exactly where `i` is no index.
+    pub fn entry(&self, i: u64) -> Option<(u16, u32)>
+        ensures { result ≡ slice_get self.now i }
+    {
+        self.entries.as_slice().get(i as usize).copied()
+    }
+
+    /// Whether the stamp is seen: its value is at most the one seen of its replica. Linear in the number of replicas.
+    pub fn sees(&self, t: Lamport) -> bool
+        ensures { result ≡ sees self.now t }
+    {
+        t.value <= self.get(t.replica)
+    }
+
+    /// Whether all is seen that the other version sees. Linear in the replicas of both.
+    pub fn sees_all(&self, o: &Version) -> bool
+        ensures { result ≡ within o.now self.now }
+    {
+        self.first_missing(o).is_none()
+    }
+
+    /// The least replica of which the other version has seen more, with the greatest value that it has seen. Linear in
+    /// the replicas of both.
+    pub fn first_missing(&self, o: &Version) -> Option<(u16, u32)>
+        ensures { result ≡ first_unseen self.now o.now }
+    {
+        unseen_in(self.entries.as_slice(), o.entries.as_slice())
+    }
+
     /// Takes the stamp's value as that of its replica where it is greater than the one seen.
     pub fn observe(&mut self, t: Lamport) -> Result<(), AllocError>
         ensures ok { OnOk result (self.new ≡ raise self.old t) }
         ensures err { OnErr result (self.new ≡ self.old) }
     {
-        if t.value <= self.get(t.replica) {
+        if self.sees(t) {
             return Ok(());
         }
         put(&mut self.entries, t)?;
+        Ok(())
+    }
+
+    /// Sees all that the other version has seen too: for each replica the greater value. Linear in the replicas of both,
+    /// and without memory where the other has seen nothing more.
+    pub fn join(&mut self, o: &Version) -> Result<(), AllocError>
+        ensures ok { OnOk result (self.new ≡ joined self.old o.now) }
+        ensures greater { OnOk result ((r : ℕ) → entry self.new r ≡ max (entry self.old r) (entry o.now r)) }
+        ensures seen { IsTrue (within o.now self.old) → IsOk result }
+        ensures err { OnErr result (self.new ≡ self.old) }
+    {
+        if self.sees_all(o) {
+            return Ok(());
+        }
+        let alloc = *self.entries.allocator();
+        self.entries = merged(alloc, self.entries.as_slice(), o.entries.as_slice())?;
         Ok(())
     }
 
@@ -96,6 +149,64 @@ fn place_in(entries: &[(u16, u32)], r: u16) -> usize
         at += 1;
     }
     at
+}
+
+// The value of the first entry, where that is the replica's, 0 where it is not.
+fn value_in_front(entries: &[(u16, u32)], r: u16) -> u32
+    ensures { result ≡ front entries.now r }
+{
+    match entries.first() {
+        Some(&(replica, value)) if replica == r => value,
+        _ => 0,
+    }
+}
+
+// What stands behind the first entry, where that is the replica's, all entries where it is not.
+fn behind(entries: &[(u16, u32)], r: u16) -> &[(u16, u32)]
+    ensures { result.now ≡ behind entries.now r }
+{
+    match entries.split_first() {
+        Some((&(replica, _), rest)) if replica == r => rest,
+        _ => entries,
+    }
+}
+
+// The first entry of theirs that passes that of ours.
+fn unseen_in(ours: &[(u16, u32)], theirs: &[(u16, u32)]) -> Option<(u16, u32)>
+    requires ours { IsVersion ours.now }
+    requires theirs { IsVersion theirs.now }
+    ensures { result ≡ first_unseen ours.now theirs.now }
+{
+    let mut rest = ours;
+    for &(replica, value) in theirs {
+        rest = rest.split_at(place_in(rest, replica)).1;
+        if value_in_front(rest, replica) < value {
+            return Some((replica, value));
+        }
+    }
+    None
+}
+
+// All entries of both, the greater value where a replica is in both.
+fn merged(
+    alloc: Global,
+    ours: &[(u16, u32)],
+    theirs: &[(u16, u32)],
+) -> Result<SmallVec<(u16, u32), 4>, AllocError>
+    requires ours { IsVersion ours.now }
+    requires theirs { IsVersion theirs.now }
+    ensures { IfOk result (λ all. all.items ≡ joined ours.now theirs.now) }
+{
+    let mut all = SmallVec::new(alloc);
+    let mut rest = ours;
+    for &(replica, value) in theirs {
+        let (before, from) = rest.split_at(place_in(rest, replica));
+        all.extend_from_slice(before)?;
+        all.push((replica, value_in_front(from, replica).max(value)))?;
+        rest = behind(from, replica);
+    }
+    all.extend_from_slice(rest)?;
+    Ok(all)
 }
 
 fn is_at(entries: &[(u16, u32)], at: usize, r: u16) -> bool

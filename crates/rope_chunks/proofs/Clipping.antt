@@ -1,18 +1,18 @@
 -- Where clips of offsets go.
-use Rattle.std.specs.Prelude.{if◌then◌else◌, find, filter, nat_le, nat_lt, ◌+◌, ◌<◌, ◌≤◌}
-use Rattle.std.proofs.Common.{◌≡◌, ℕ, Bool, true, false, cond, Option, Some, None, List, [], ◌∷◌, refl, sym, ◌∙◌, arith}
+use Rattle.std.specs.Prelude.{find, filter, not, nat_le, nat_lt, ◌+◌, ◌≤◌}
+use Rattle.std.proofs.Common.{◌≡◌, ℕ, Bool, true, false, cond, Some, List, [], ◌∷◌, refl, sym, ◌∙◌, arith}
 use Rattle.std.specs.Option.{unwrap_or}
 use Rattle.std.specs.Str.{IsUtf8}
-use Rattle.std.proofs.lemmas.Bool.{le-leb, lt-leb, ltb-true, leb-true, leb-false, ltb-false}
+use Rattle.std.proofs.lemmas.Bool.Decides.{nat_tests}
 use Rattle.tree_cursor.specs.declared.traits.Bias.TheVariants.{Left, Right}
 use Rattle.text_dims.specs.declared.places.Place.{Place}
 use Rattle.text_dims.specs.Counts.{begins_char, byte_units, is_newline}
 use Rattle.text_dims.specs.Places.{end_place, places, place_after, walk, last_place, offset_clipped_back, offset_clipped_on}
 use Rattle.text_dims.proofs.Walks.{places-walk}
 use Rattle.rope_chunks.specs.declared.look.Stop.{Stop}
-use Rattle.rope_chunks.specs.Stops.{stop}
-use Rattle.rope_chunks.specs.Targets.{offset_passed}
-use Rattle.rope_chunks.proofs.Stops.{after-later, Begins, Begins-utf8}
+use Rattle.rope_chunks.specs.Stops.{stop, kept}
+use Rattle.rope_chunks.specs.Targets.{offset_passed, offset_stays}
+use Rattle.rope_chunks.proofs.Stops.{after-later, Begins, Begins-utf8, Stays}
 
 -- what is found by a search is where a look-up stops
 find-stop : (p : Place → Bool) (d : Place) (ks : List Place) → unwrap_or (find p ks) (last_place d ks) ≡ unwrap_or (stop p d ks).here (stop p d ks).before
@@ -34,77 +34,88 @@ clipped_on bs o s e =
     let p : Place → Bool = λ k. offset_passed o k Left in
     rw (e, places-walk bs, last-walk (end_place bs) (end_place []) (end_place []) bs) (sym (find-stop p (end_place []) (walk (end_place []) bs)))
 
--- the place itself, unless it is strictly past, or the one before
-abbrev pub kept : (Place → Bool) → Option Place → Place → Place
-kept past None before = before
-kept past (Some k) before = if past k then before else k
+-- From a row on, q tells which places are not strictly past a target. One that is at it is followed by places strictly past.
+pub record Upto (pl pr q : Place → Bool) (low : ℕ) : Type 0 where
+  pub stays : Stays pr
+  pub past : (k : Place) → pr k ≡ true → pl k ≡ true
+  pub is : (k : Place) → low ≤ k.row → q k ≡ not (pr k)
+  pub alone : (k : Place) (b : ℕ) → pl k ≡ true → pr k ≡ false → pr (place_after k b) ≡ true
 
-at_most : ℕ → Place → Bool
-at_most o k = nat_le k.offset o
+none_step : (q : Place → Bool) (d a : Place) (us : List Place) (t : Bool) → q a ≡ false → last_place d (filter q us) ≡ d → last_place d (filter q (cond t (a ∷ us) us)) ≡ d
+none_step q d a us true e h = rw e h
+none_step q d a us false e h = h
 
-none_step : (d a : Place) (o : ℕ) (us : List Place) (t : Bool) → at_most o a ≡ false → last_place d (filter (at_most o) us) ≡ d → last_place d (filter (at_most o) (cond t (a ∷ us) us)) ≡ d
-none_step d a o us true e h = rw e h
-none_step d a o us false e h = h
-
-past : (o : ℕ) (a : Place) → o < a.offset → at_most o a ≡ false
-unfolding at_most
-past o a h = lt-leb a.offset o h
-
-upto : (o : ℕ) (a : Place) → a.offset ≤ o → at_most o a ≡ true
-unfolding at_most
-upto o a h = le-leb a.offset o h
-
-none_upto : (o : ℕ) (d a : Place) (bs : List ℕ) → o < a.offset → last_place d (filter (at_most o) (walk a bs)) ≡ d
-none_upto o d a [] h = rw (past o a h) refl
-none_upto o d a (b ∷ bs) h =
-    let l = after-later a b in
-    let next : o < (place_after a b).offset = omega (arith, l.offset) in
-    none_step d a o (walk (place_after a b) bs) (begins_char b) (past o a h) (none_upto o d (place_after a b) bs next)
-
-after-offset : (a : Place) (b : ℕ) → (place_after a b).offset ≡ a.offset + 1
-after-offset a b = elim (is_newline b) as (λ t. (cond {A = Place} t (record { offset = a.offset + 1; utf16 = a.utf16 + 1; row = a.row + 1; column = 0; column_utf16 = 0 }) (record { offset = a.offset + 1; utf16 = a.utf16 + byte_units b; row = a.row; column = a.column + 1; column_utf16 = a.column_utf16 + byte_units b })).offset ≡ a.offset + 1) [ true ↦ refl | false ↦ refl ]
+none_upto : (pl pr q : Place → Bool) (low : ℕ) → Upto pl pr q low → (d a : Place) (bs : List ℕ) → low ≤ a.row → pr a ≡ true → last_place d (filter q (walk a bs)) ≡ d
+none_upto pl pr q low u d a [] l h = let f : q a ≡ false = u.is a l ∙ rw h refl in rw f refl
+none_upto pl pr q low u d a (b ∷ bs) l h =
+    let later = after-later a b in
+    none_step q d a (walk (place_after a b) bs) (begins_char b) (u.is a l ∙ rw h refl)
+    (none_upto pl pr q low u d (place_after a b) bs (omega (arith, later.point.0)) (u.stays.stays a (place_after a b) h later))
 
 -- at one place, before those that follow it
-here : (o : ℕ) (d a : Place) (us : List Place) (x y : Bool) → nat_le o a.offset ≡ x → nat_lt o a.offset ≡ y →
-    (o < a.offset → last_place d (filter (at_most o) us) ≡ d) → (a.offset ≡ o → last_place a (filter (at_most o) us) ≡ a) →
-    last_place a (filter (at_most o) us) ≡ kept (λ k. nat_lt o k.offset) (stop (λ k. nat_le o k.offset) a us).here (stop (λ k. nat_le o k.offset) a us).before →
-    last_place d (filter (at_most o) (a ∷ us)) ≡ kept (λ k. nat_lt o k.offset) (stop (λ k. nat_le o k.offset) d (a ∷ us)).here (stop (λ k. nat_le o k.offset) d (a ∷ us)).before
-here o d a us true true e f p q r = let h : o < a.offset = ltb-true o a.offset f in rw (e, f, past o a h) (p h)
-here o d a us true false e f p q r =
-    let same : a.offset ≡ o = omega (arith, leb-true o a.offset e, ltb-false o a.offset f) in
-    let under : a.offset ≤ o = omega (arith, same) in
-    rw (e, f, upto o a under) (q same)
-here o d a us false y e f p q r = let under : a.offset ≤ o = omega (arith, leb-false o a.offset e) in rw (e, upto o a under) r
+here : (pl pr q : Place → Bool) (low : ℕ) → Upto pl pr q low → (d a : Place) (us : List Place) (x y : Bool) → pl a ≡ x → pr a ≡ y → low ≤ a.row →
+    (pr a ≡ true → last_place d (filter q us) ≡ d) → (pl a ≡ true → pr a ≡ false → last_place a (filter q us) ≡ a) →
+    last_place a (filter q us) ≡ kept pr (stop pl a us) →
+    last_place d (filter q (a ∷ us)) ≡ kept pr (stop pl d (a ∷ us))
+here pl pr q low u d a us true true e f l h k r = let no : q a ≡ false = u.is a l ∙ rw f refl in rw (e, f, no) (h f)
+here pl pr q low u d a us true false e f l h k r = let yes : q a ≡ true = u.is a l ∙ rw f refl in rw (e, f, yes) (k e f)
+here pl pr q low u d a us false true e f l h k r = let g = u.past a f in cc
+here pl pr q low u d a us false false e f l h k r = let yes : q a ≡ true = u.is a l ∙ rw f refl in rw (e, yes) r
 
-clip_step : (o : ℕ) (d a : Place) (us : List Place) (t : Bool) →
-    last_place d (filter (at_most o) (a ∷ us)) ≡ kept (λ k. nat_lt o k.offset) (stop (λ k. nat_le o k.offset) d (a ∷ us)).here (stop (λ k. nat_le o k.offset) d (a ∷ us)).before →
-    last_place d (filter (at_most o) us) ≡ kept (λ k. nat_lt o k.offset) (stop (λ k. nat_le o k.offset) d us).here (stop (λ k. nat_le o k.offset) d us).before →
-    last_place d (filter (at_most o) (cond t (a ∷ us) us)) ≡ kept (λ k. nat_lt o k.offset) (stop (λ k. nat_le o k.offset) d (cond t (a ∷ us) us)).here (stop (λ k. nat_le o k.offset) d (cond t (a ∷ us) us)).before
-clip_step o d a us true h k = h
-clip_step o d a us false h k = k
+clip_step : (pl pr q : Place → Bool) (d a : Place) (us : List Place) (t : Bool) →
+    last_place d (filter q (a ∷ us)) ≡ kept pr (stop pl d (a ∷ us)) →
+    last_place d (filter q us) ≡ kept pr (stop pl d us) →
+    last_place d (filter q (cond t (a ∷ us) us)) ≡ kept pr (stop pl d (cond t (a ∷ us) us))
+clip_step pl pr q d a us true h k = h
+clip_step pl pr q d a us false h k = k
 
-clip-walk : (o : ℕ) (d a : Place) (bs : List ℕ) →
-    last_place d (filter (at_most o) (walk a bs)) ≡ kept (λ k. nat_lt o k.offset) (stop (λ k. nat_le o k.offset) d (walk a bs)).here (stop (λ k. nat_le o k.offset) d (walk a bs)).before
-clip-walk o d a [] = here o d a [] (nat_le o a.offset) (nat_lt o a.offset) refl refl (λ h. refl) (λ h. refl) refl
-clip-walk o d a (b ∷ bs) =
+-- where a target is clipped back to, along a walk that has a place before its target
+pub clip-walk : (pl pr q : Place → Bool) (low : ℕ) → Upto pl pr q low → (d a : Place) (bs : List ℕ) → low ≤ a.row →
+    last_place d (filter q (walk a bs)) ≡ kept pr (stop pl d (walk a bs))
+clip-walk pl pr q low u d a [] l = here pl pr q low u d a [] (pl a) (pr a) refl refl l (λ h. refl) (λ h k. refl) refl
+clip-walk pl pr q low u d a (b ∷ bs) l =
+    let later = after-later a b in
     let us = walk (place_after a b) bs in
-    clip_step o d a us (begins_char b)
-    (here o d a us (nat_le o a.offset) (nat_lt o a.offset) refl refl
-    (λ h. let next : o < (place_after a b).offset = omega (arith, after-offset a b) in none_upto o d (place_after a b) bs next)
-    (λ h. let next : o < (place_after a b).offset = omega (arith, after-offset a b) in none_upto o a (place_after a b) bs next)
-    (clip-walk o a (place_after a b) bs))
-    (clip-walk o d (place_after a b) bs)
+    let low_next : low ≤ (place_after a b).row = omega (arith, later.point.0) in
+    clip_step pl pr q d a us (begins_char b)
+    (here pl pr q low u d a us (pl a) (pr a) refl refl l
+    (λ h. none_upto pl pr q low u d (place_after a b) bs low_next (u.stays.stays a (place_after a b) h later))
+    (λ h k. none_upto pl pr q low u a (place_after a b) bs low_next (u.alone a b h k))
+    (clip-walk pl pr q low u a (place_after a b) bs low_next))
+    (clip-walk pl pr q low u d (place_after a b) bs low_next)
 
-either : (o : ℕ) (d e a : Place) (bs : List ℕ) → Begins bs → a.offset ≤ o → last_place d (filter (at_most o) (walk a bs)) ≡ last_place e (filter (at_most o) (walk a bs))
-either o d e a [] h l = rw (upto o a l) refl
-either o d e a (b ∷ bs) h l = rw (h, upto o a l) refl
+-- a walk that begins with a place that passes does not ask what stands before
+pub either : (q : Place → Bool) (d e a : Place) (bs : List ℕ) → Begins bs → q a ≡ true → last_place d (filter q (walk a bs)) ≡ last_place e (filter q (walk a bs))
+either q d e a [] h t = rw t refl
+either q d e a (b ∷ bs) h t = rw (h, t) refl
 
-zero_offset : (end_place []).offset ≡ 0
+after_offset : (a : Place) (b : ℕ) → (place_after a b).offset ≡ a.offset + 1
+after_offset a b = elim (is_newline b) as (λ t. (cond {A = Place} t (record { offset = a.offset + 1; utf16 = a.utf16 + 1; row = a.row + 1; column = 0; column_utf16 = 0 }) (record { offset = a.offset + 1; utf16 = a.utf16 + byte_units b; row = a.row; column = a.column + 1; column_utf16 = a.column_utf16 + byte_units b })).offset ≡ a.offset + 1) [ true ↦ refl | false ↦ refl ]
+
+past_at : (o n : ℕ) → nat_lt o n ≡ true → nat_le o n ≡ true
+past_at o n h = grind (arith, nat_tests)
+
+upto_is : (o n : ℕ) → nat_le n o ≡ not (nat_lt o n)
+upto_is o n = grind (arith, nat_tests)
+
+past_next : (o n m : ℕ) → nat_le o n ≡ true → m ≡ n + 1 → nat_lt o m ≡ true
+past_next o n m h e = grind (arith, nat_tests)
+
+offset_upto : (o : ℕ) → Upto (λ k. offset_passed o k Left) (λ k. offset_passed o k Right) (λ k. nat_le k.offset o) 0
+offset_upto o = record {
+  stays = record { stays = λ a b e l. offset_stays o a b Right e l };
+  past = λ k h. past_at o k.offset h;
+  is = λ k l. upto_is o k.offset;
+  alone = λ k b h f. past_next o k.offset (place_after k b).offset h (after_offset k b);
+}
+
+at_zero : (o : ℕ) → nat_le (end_place []).offset o ≡ true
 unfolding end_place
-zero_offset = refl
+at_zero o = grind (arith, nat_tests)
 
-pub clipped_back : (bs : List ℕ) (o : ℕ) (s : Stop) → IsUtf8 bs → s ≡ stop (λ k. offset_passed o k Left) (end_place []) (places bs) → kept (λ k. offset_passed o k Right) s.here s.before ≡ offset_clipped_back bs o
-unfolding at_most
-clipped_back bs o s u e =
-    let first : (end_place []).offset ≤ o = omega (arith, zero_offset) in
-    rw (e, places-walk bs) (sym (either o (end_place bs) (end_place []) (end_place []) bs (Begins-utf8 bs u) first ∙ clip-walk o (end_place []) (end_place []) bs))
+pub clipped_back : (bs : List ℕ) (o : ℕ) → IsUtf8 bs → kept (λ k. offset_passed o k Right) (stop (λ k. offset_passed o k Left) (end_place []) (places bs)) ≡ offset_clipped_back bs o
+clipped_back bs o u =
+    let q : Place → Bool = λ k. nat_le k.offset o in
+    rw (places-walk bs)
+    (sym (either q (end_place bs) (end_place []) (end_place []) bs (Begins-utf8 bs u) (at_zero o)
+    ∙ clip-walk (λ k. offset_passed o k Left) (λ k. offset_passed o k Right) q 0 (offset_upto o) (end_place []) (end_place []) bs (omega arith)))

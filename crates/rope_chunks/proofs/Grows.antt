@@ -85,7 +85,7 @@ first_is : (ds : List (List ℕ)) (c : List ℕ) → slice_get ds 0 ≡ Some c �
 first_is [] c h = absurd (let g : None ≡ Some c = h in cc)
 first_is (d ∷ ds) c h = let e : d ≡ c = cc in rw e refl
 
-chunk_at : (cs : List (List ℕ)) (i : ℕ) (c : List ℕ) → All IsChunk cs → slice_get cs i ≡ Some c → IsChunk c
+pub chunk_at : (cs : List (List ℕ)) (i : ℕ) (c : List ℕ) → All IsChunk cs → slice_get cs i ≡ Some c → IsChunk c
 chunk_at cs i c a h =
     subst (λ d. IsChunk d) (get_or_from_slice_get cs i c c h) (a i c (slice_get_within cs i c h))
 

@@ -3,3 +3,7 @@ pub mod Stops
 pub mod Named
 pub mod Grows
 pub mod Clipping
+pub mod RowEnds
+pub mod PointClips
+pub mod Spots
+pub mod Changes

@@ -28,7 +28,7 @@ abbrev pub Begins : List ℕ → Type 0
 Begins [] = Unit {0}
 Begins (b ∷ bs) = begins_char b ≡ true
 
-lead : (b : ℕ) → (128 ≤ b → 192 ≤ b) → begins_char b ≡ true
+pub lead : (b : ℕ) → (128 ≤ b → 192 ≤ b) → begins_char b ≡ true
 lead b h = grind (arith, nat_tests)
 
 pub Begins-utf8 : (bs : List ℕ) → IsUtf8 bs → Begins bs
@@ -36,7 +36,7 @@ Begins-utf8 [] u = tt
 Begins-utf8 (b ∷ bs) u = lead b ((IsCharBoundary-start (b ∷ bs) u).1 (omega arith))
 
 -- where a walk along a text ends
-walk_end : Place → List ℕ → Place
+unfoldable pub walk_end : Place → List ℕ → Place
 walk_end a [] = a
 walk_end a (b ∷ bs) = walk_end (place_after a b) bs
 
@@ -65,7 +65,7 @@ walk_end-later a (b ∷ bs) = later-trans a (place_after a b) (walk_end (place_a
 nothing_past : (a : Place) → place_sum a (end_place []) ≡ a
 nothing_past a = ap (place_sum a) (sym (summary_end-is []) ∙ ap summary_end summary-nil) ∙ past_nothing a
 
-walk_end-is : (a : Place) (bs : List ℕ) → walk_end a bs ≡ place_sum a (end_place bs)
+pub walk_end-is : (a : Place) (bs : List ℕ) → walk_end a bs ≡ place_sum a (end_place bs)
 unfolding walk_end
 walk_end-is a [] = sym (nothing_past a)
 walk_end-is a (b ∷ bs) =
@@ -171,7 +171,7 @@ pub stop-found : (p : Place → Bool) → Stays p → (cs : List (List ℕ)) →
 stop-found p s cs each begin z text w k e o d =
     rw (e, d, ← w, places-walk (concat cs), ← z) (sym (stop-chunks p s begin cs each))
 
-front-short : (n : ℕ) (cs : List (List ℕ)) → length (concat (take n cs)) ≤ length (concat cs)
+pub front-short : (n : ℕ) (cs : List (List ℕ)) → length (concat (take n cs)) ≤ length (concat cs)
 front-short zero cs = omega arith
 front-short (suc n) [] = omega arith
 front-short (suc n) (c ∷ cs) =

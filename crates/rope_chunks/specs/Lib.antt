@@ -4,3 +4,4 @@ pub mod Targets
 pub mod Stops
 pub mod Offsets
 pub mod Clips
+pub mod Spots

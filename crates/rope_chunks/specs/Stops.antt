@@ -14,6 +14,14 @@ abbrev pub picked : (Place → Bool) → Option Place → Option Place
 picked past None = None
 picked past (Some k) = if past k then None else Some k
 
+-- the place where a look-up stopped, or the one before it where that is strictly past the target or there is none
+abbrev pub or_before : (Place → Bool) → Place → Option Place → Place
+or_before past before None = before
+or_before past before (Some k) = if past k then before else k
+
+abbrev pub kept : (Place → Bool) → Stop → Place
+kept past s = or_before past s.before s.here
+
 -- the type of places has room for n more bytes
 pub record HasRoom (a : Place) (n : ℕ) : Type 0 where
   pub within : IsWithin a

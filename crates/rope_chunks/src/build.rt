@@ -131,7 +131,7 @@ fn tree_of(alloc: Global, chunks: Vec<Chunk>) -> Result<SumTree<Chunk>, OutOfMem
 }
 
 // Puts chunks in the place of those of a range.
-fn put(
+pub(crate) fn put(
     tree: &mut SumTree<Chunk>,
     alloc: Global,
     from: u64,

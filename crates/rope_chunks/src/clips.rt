@@ -3,11 +3,10 @@ ghost use Rattle.std.specs.Prelude.{◌≡◌};
 ghost use Rattle.text_dims.specs.Places.{offset_clipped_back, offset_clipped_on};
 ghost use Rattle.rope_chunks.specs.Clips.{offset_clipped};
 
-use crate::at::At;
 use crate::rope::Rope;
 use crate::targets::ByOffset;
 use text_dims::Place;
-use tree_cursor::{Bias, Target};
+use tree_cursor::Bias;
 
 impl Rope {
     /// The byte offset itself where it is a position; past the text's end, the end; inside a character its start (Left) or
@@ -26,17 +25,7 @@ impl Rope {
         ensures { result ≡ offset_clipped_back self.now offset }
     {
         self.known();
-        let target = ByOffset(offset);
-        let stop = self.stop(&target);
-        match stop.here {
-            None => stop.before,
-            Some(place) => {
-                if target.passed(At(place), Bias::Right) {
-                    return stop.before;
-                }
-                place
-            }
-        }
+        self.back(&ByOffset(offset))
     }
 
     // The first place at or past an offset, or the last place.

@@ -3,13 +3,20 @@
 
 mod at;
 mod build;
+mod change;
 mod chunk;
 mod clips;
+#[cfg(test)]
+mod counted_tests;
+mod cut;
 mod lent;
 mod look;
 mod pieces;
 mod positions;
+mod replace;
 mod rope;
+mod rows;
+mod spot;
 mod targets;
 #[cfg(test)]
 mod tests;

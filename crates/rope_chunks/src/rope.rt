@@ -2,7 +2,7 @@
 ghost use Rattle.std.specs.Prelude.{◌≡◌, ◌≤◌, ◌^◌, length, [], IfOk};
 ghost use Rattle.text_dims.specs.Summaries.{summary_of};
 ghost use Rattle.text_dims.specs.Places.{end_place, places};
-ghost use Rattle.rope_chunks.specs.Stops.{stop, picked};
+ghost use Rattle.rope_chunks.specs.Stops.{stop, picked, kept};
 ghost use Rattle.std.specs.Str.{IsUtf8};
 
 use crate::OutOfMemory;
@@ -86,6 +86,17 @@ impl Rope {
         match stop.here {
             Some(place) if !target.passed(At(place), Bias::Right) => Some(place),
             _ => None,
+        }
+    }
+
+    /// The place of the text that a target names, or the last one before it where there is none.
+    pub(crate) fn back<G: Target<At>>(&self, target: &G) -> Place
+        ensures { result ≡ kept (λ k. G.passes target.now k Bias.Right) (stop (λ k. G.passes target.now k Bias.Left) (end_place []) (places self.now)) }
+    {
+        let stop = self.stop(target);
+        match stop.here {
+            Some(place) if !target.passed(At(place), Bias::Right) => place,
+            _ => stop.before,
         }
     }
 

@@ -1,0 +1,141 @@
+-- Two versions gone through side by side.
+use Rattle.std.proofs.Common.{◌≡◌, ℕ, suc, ◌+◌, ◌<◌, ◌≤◌, max, [], ◌∷◌, ◌++◌, length, take, drop, refl, sym, ap, ◌∙◌, subst, arith, true, false, cond, eqb, ltb, leb, Some, ne_eqb, eq-eqb, Bool, zero, get_or, append_assoc}
+use Rattle.std.proofs.lemmas.List.{drop_more}
+use Rattle.std.proofs.lemmas.Bool.{lt-ltb, le-ltb, lt-leb, le-leb, ltb-true}
+use Rattle.lamport_clock.specs.Versions.{Entries, IsVersionFrom, entry, put, raise, place_of, front, behind, first_unseen, joined}
+use Rattle.lamport_clock.proofs.Raises.{by_order, by_bound}
+
+pub entry_below : (n : ℕ) (v : Entries) (r : ℕ) → IsVersionFrom n v → r < n → entry v r ≡ 0
+entry_below n [] r h l = refl
+entry_below n (e ∷ v) r h l =
+    let ne : eqb e.0 r ≡ false = ne_eqb e.0 r (λ q. (let k = h.0 in absurd (omega (arith, q, k)))) in
+    let k = h.0 in
+    rw ne (entry_below (suc e.0) v r h.4 (omega arith))
+
+-- ---- what one version has of the entries of another
+
+-- an entry stands at its replica's place
+pub entry_by_place : (n : ℕ) (v : Entries) (r : ℕ) → IsVersionFrom n v → entry v r ≡ front (drop (place_of v r) v) r
+entry_by_place n [] r h = refl
+entry_by_place n (e ∷ v) r h =
+    let R : ℕ → ℕ = λ k. front (drop k (e ∷ v)) r in
+    let at : (b : Bool) → ltb e.0 r ≡ b → R (cond b (suc (place_of v r)) 0) ≡ R (place_of (e ∷ v) r) = λ b t. ap (λ c. R (cond c (suc (place_of v r)) 0)) (sym t) in
+    by_order _ e.0 r
+    (λ l. let ne : eqb e.0 r ≡ false = ne_eqb e.0 r (λ q. absurd (omega arith)) in
+    ap (λ b. cond b e.1 (entry v r)) ne ∙ entry_by_place (suc e.0) v r h.4 ∙ at true (lt-ltb e.0 r l))
+    (λ q. let t : eqb e.0 r ≡ true = eq-eqb e.0 r q in
+    ap (λ b. cond b e.1 (entry v r)) t ∙ sym (ap (λ b. cond b e.1 0) t) ∙ at false (le-ltb e.0 r (omega arith)))
+    (λ g. let ne : eqb e.0 r ≡ false = ne_eqb e.0 r (λ q. absurd (omega arith)) in
+    ap (λ b. cond b e.1 (entry v r)) ne ∙ entry_below (suc e.0) v r h.4 (omega arith) ∙ sym (ap (λ b. cond b e.1 0) ne) ∙ at false (le-ltb e.0 r (omega arith)))
+
+-- the entries before a replica's place are of no later one
+entry_later : (v : Entries) (r q : ℕ) → r < q → entry v q ≡ entry (drop (place_of v r) v) q
+entry_later [] r q l = refl
+entry_later (e ∷ v) r q l =
+    elim (ltb e.0 r) as (λ b. ltb e.0 r ≡ b → entry (e ∷ v) q ≡ entry (drop (cond b (suc (place_of v r)) 0) (e ∷ v)) q) [
+      | true ↦ λ t. let k = ltb-true e.0 r t in
+          let ne : eqb e.0 q ≡ false = ne_eqb e.0 q (λ p. absurd (omega arith)) in
+          rw ne (entry_later v r q l)
+      | false ↦ λ t. refl
+    ] refl
+
+pub unseen_later : (u v : Entries) (r n : ℕ) → r < n → IsVersionFrom n v → first_unseen u v ≡ first_unseen (drop (place_of u r) u) v
+unseen_later u [] r n l h = refl
+unseen_later u (e ∷ v) r n l h =
+    let a = h.0 in
+    rw (entry_later u r e.0 (omega arith), unseen_later u v r (suc e.0) (omega arith) h.4) refl
+
+-- ---- what both have
+
+raise_past : (d : ℕ × ℕ) (u : Entries) (e : ℕ × ℕ) → d.0 < e.0 → raise (d ∷ u) (record { value = e.1; replica = e.0 }) ≡ d ∷ raise u (record { value = e.1; replica = e.0 })
+raise_past d u e l =
+    let ne : eqb d.0 e.0 ≡ false = ne_eqb d.0 e.0 (λ q. absurd (omega arith)) in
+    rw (ne, lt-ltb d.0 e.0 l) (elim (leb e.1 (entry u e.0)) as (λ b. cond b (d ∷ u) (d ∷ put e.0 e.1 u) ≡ d ∷ cond b u (put e.0 e.1 u)) [ true ↦ refl | false ↦ refl ])
+
+pub joined_past : (d : ℕ × ℕ) (u v : Entries) (n : ℕ) → IsVersionFrom n v → d.0 < n → joined (d ∷ u) v ≡ d ∷ joined u v
+joined_past d u [] n h l = refl
+joined_past d u (e ∷ v) n h l =
+    let a = h.0 in
+    ap (λ w. joined w v) (raise_past d u e (omega arith)) ∙ joined_past d (raise u (record { value = e.1; replica = e.0 })) v (suc e.0) h.4 (omega arith)
+
+raise_here : (d : ℕ × ℕ) (u : Entries) (e : ℕ × ℕ) → d.0 ≡ e.0 → raise (d ∷ u) (record { value = e.1; replica = e.0 }) ≡ (e.0, max d.1 e.1) ∷ u
+raise_here d u e q =
+    let t : eqb d.0 e.0 ≡ true = eq-eqb d.0 e.0 q in
+    let f : ltb d.0 e.0 ≡ false = le-ltb d.0 e.0 (omega arith) in
+    by_bound _ e.1 d.1
+    (λ l. ap (λ b. cond (leb e.1 (cond b d.1 (entry u e.0))) (d ∷ u) (put e.0 e.1 (d ∷ u))) t ∙ rw (le-leb e.1 d.1 l) (ap (λ x. (x, d.1) ∷ u) q ∙ ap (λ x. (e.0, x) ∷ u) (omega arith)))
+    (λ l. ap (λ b. cond (leb e.1 (cond b d.1 (entry u e.0))) (d ∷ u) (put e.0 e.1 (d ∷ u))) t ∙ rw (lt-leb e.1 d.1 l, f, t) (ap (λ x. (e.0, x) ∷ u) (omega arith)))
+
+raise_before : (n : ℕ) (u : Entries) (e : ℕ × ℕ) → IsVersionFrom n u → e.0 < n → 0 < e.1 → raise u (record { value = e.1; replica = e.0 }) ≡ e ∷ u
+raise_before n [] e h l p = rw (lt-leb e.1 0 p) refl
+raise_before n (d ∷ u) e h l p =
+    let a = h.0 in
+    let ne : eqb d.0 e.0 ≡ false = ne_eqb d.0 e.0 (λ q. absurd (omega arith)) in
+    let none : entry (d ∷ u) e.0 ≡ 0 = entry_below n (d ∷ u) e.0 h l in
+    ap (λ x. cond (leb e.1 x) (d ∷ u) (put e.0 e.1 (d ∷ u))) none ∙ rw (lt-leb e.1 0 p, le-ltb d.0 e.0 (omega arith), ne) refl
+
+-- what both have, up to the second's first entry and behind it
+pub joined_along : (n m : ℕ) (u v : Entries) (e : ℕ × ℕ) → IsVersionFrom n u → IsVersionFrom m (e ∷ v)
+    → joined u (e ∷ v) ≡ take (place_of u e.0) u ++ (e.0, max (front (drop (place_of u e.0) u) e.0) e.1) ∷ joined (behind (drop (place_of u e.0) u) e.0) v
+joined_along n m [] v e hu hv = ap (λ w. joined w v) (raise_before (suc e.0) [] e tt (omega arith) hv.2) ∙ joined_past e [] v (suc e.0) hv.4 (omega arith) ∙ ap (λ x. (e.0, x) ∷ joined [] v) (omega arith)
+joined_along n m (d ∷ u) v e hu hv =
+    let R : ℕ → Entries = λ k. take k (d ∷ u) ++ (e.0, max (front (drop k (d ∷ u)) e.0) e.1) ∷ joined (behind (drop k (d ∷ u)) e.0) v in
+    let at : (b : Bool) → ltb d.0 e.0 ≡ b → R (cond b (suc (place_of u e.0)) 0) ≡ R (place_of (d ∷ u) e.0) = λ b t. ap (λ c. R (cond c (suc (place_of u e.0)) 0)) (sym t) in
+    let here : (b : Bool) → eqb d.0 e.0 ≡ b → (e.0, max (cond b d.1 0) e.1) ∷ joined (cond b u (d ∷ u)) v ≡ R 0 = λ b t. ap (λ c. (e.0, max (cond c d.1 0) e.1) ∷ joined (cond c u (d ∷ u)) v) (sym t) in
+    by_order _ d.0 e.0
+    (λ l. ap (λ w. joined w v) (raise_past d u e l) ∙ joined_past d (raise u (record { value = e.1; replica = e.0 })) v (suc e.0) hv.4 (omega arith) ∙ ap (λ w. d ∷ w) (joined_along (suc d.0) m u v e hu.4 hv) ∙ at true (lt-ltb d.0 e.0 l))
+    (λ q. ap (λ w. joined w v) (raise_here d u e q) ∙ joined_past (e.0, max d.1 e.1) u v (suc e.0) hv.4 (omega arith) ∙ here true (eq-eqb d.0 e.0 q) ∙ at false (le-ltb d.0 e.0 (omega arith)))
+    (λ g. ap (λ w. joined w v) (raise_before d.0 (d ∷ u) e (omega arith, hu.1, hu.2, hu.3, hu.4) g hv.2) ∙ joined_past e (d ∷ u) v (suc e.0) hv.4 (omega arith) ∙ ap (λ x. (e.0, x) ∷ joined (d ∷ u) v) (omega arith) ∙ here false (ne_eqb d.0 e.0 (λ q. absurd (omega arith))) ∙ at false (le-ltb d.0 e.0 (omega arith)))
+
+-- ---- one turn of a walk along the second's entries
+
+lower : (n m : ℕ) (v : Entries) → n ≤ m → IsVersionFrom m v → IsVersionFrom n v
+lower n m [] l h = tt
+lower n m (e ∷ v) l h = (let a = h.0 in omega arith, h.1, h.2, h.3, h.4)
+
+pub version_drop : (n k : ℕ) (v : Entries) → IsVersionFrom n v → IsVersionFrom n (drop k v)
+version_drop n zero v h = h
+version_drop n (suc k) [] h = tt
+version_drop n (suc k) (e ∷ v) h = lower n (suc e.0) (drop k v) (let a = h.0 in omega arith) (version_drop (suc e.0) k v h.4)
+
+pub version_behind : (n r : ℕ) (v : Entries) → IsVersionFrom n v → IsVersionFrom n (behind v r)
+version_behind n r [] h = tt
+version_behind n r (e ∷ v) h = elim (eqb e.0 r) as (λ b. IsVersionFrom n (cond b v (e ∷ v))) [
+  | true ↦ lower n (suc e.0) v (let a = h.0 in omega arith) h.4
+  | false ↦ h
+]
+
+abbrev At : Entries → ℕ → ℕ × ℕ
+At v i = get_or v i (0, 0)
+
+turned : (v : Entries) (i : ℕ) → IsVersionFrom 0 v → i < length v → IsVersionFrom 0 (At v i ∷ drop (i + 1) v)
+turned v i h l = subst (IsVersionFrom 0) (drop_more v i (0, 0) l) (version_drop 0 i v h)
+
+-- what is looked for among the entries from i on, with u left of the first's
+pub unseen_turn : (u v from : Entries) (i p : ℕ) → IsVersionFrom 0 u → IsVersionFrom 0 v → i < length v → p ≡ place_of u (At v i).0 → from ≡ drop p u
+    → (front from (At v i).0 < (At v i).1 → first_unseen u (drop i v) ≡ Some (At v i)) × ((At v i).1 ≤ front from (At v i).0 → first_unseen u (drop i v) ≡ first_unseen from (drop (i + 1) v))
+unseen_turn u v from i p hu hv l hp hf =
+    let e = At v i in
+    let w = drop (i + 1) v in
+    let here : first_unseen u (drop i v) ≡ cond (ltb (entry u e.0) e.1) (Some e) (first_unseen u w) = ap (first_unseen u) (drop_more v i (0, 0) l) in
+    let far : drop (place_of u e.0) u ≡ from = ap (λ k. drop k u) (sym hp) ∙ sym hf in
+    let value : entry u e.0 ≡ front from e.0 = entry_by_place 0 u e.0 hu ∙ ap (λ z. front z e.0) far in
+    let rest = turned v i hv l in
+    let later : first_unseen u w ≡ first_unseen from w = unseen_later u w e.0 (suc e.0) (omega arith) rest.4 ∙ ap (λ z. first_unseen z w) far in
+    let now : (b : Bool) → ltb (front from e.0) e.1 ≡ b → first_unseen u (drop i v) ≡ cond b (Some e) (first_unseen u w) = λ b t. here ∙ ap (λ x. cond (ltb x e.1) (Some e) (first_unseen u w)) value ∙ ap (λ c. cond c (Some e) (first_unseen u w)) t in
+    (λ a. now true (lt-ltb (front from e.0) e.1 a), λ a. now false (le-ltb (front from e.0) e.1 a) ∙ later)
+
+pub joined_turn : (u v all before from : Entries) (i p x : ℕ) → IsVersionFrom 0 u → IsVersionFrom 0 v → i < length v → p ≡ place_of u (At v i).0 → before ≡ take p u → from ≡ drop p u → x ≡ max (front from (At v i).0) (At v i).1
+    → all ++ joined u (drop i v) ≡ ((all ++ before) ++ ((At v i).0, x) ∷ []) ++ joined (behind from (At v i).0) (drop (i + 1) v)
+joined_turn u v all before from i p x hu hv l hp hb hf hx =
+    let e = At v i in
+    let w = drop (i + 1) v in
+    let near : take (place_of u e.0) u ≡ before = ap (λ k. take k u) (sym hp) ∙ sym hb in
+    let far : drop (place_of u e.0) u ≡ from = ap (λ k. drop k u) (sym hp) ∙ sym hf in
+    ap (λ z. all ++ joined u z) (drop_more v i (0, 0) l)
+    ∙ ap (λ z. all ++ z) (joined_along 0 0 u w e hu (turned v i hv l))
+    ∙ ap (λ z. all ++ (z ++ (e.0, max (front (drop (place_of u e.0) u) e.0) e.1) ∷ joined (behind (drop (place_of u e.0) u) e.0) w)) near
+    ∙ ap (λ z. all ++ (before ++ (e.0, max (front z e.0) e.1) ∷ joined (behind z e.0) w)) far
+    ∙ ap (λ z. all ++ (before ++ (e.0, z) ∷ joined (behind from e.0) w)) (sym hx)
+    ∙ sym (append_assoc all before ((e.0, x) ∷ joined (behind from e.0) w))
+    ∙ sym (append_assoc (all ++ before) ((e.0, x) ∷ []) (joined (behind from e.0) w))
