@@ -1,5 +1,6 @@
 //! Work on trees in plain Rust, the same as `crates/tree_bench` does: usage `tree tree|map COUNT`. `tree` is an `Arc` B-tree
-//! whose nodes hold 6 to 12 entries and the sum of what lies below them; `map` is the standard `BTreeMap`.
+//! whose nodes hold 6 to 12 entries and the sum of what lies below them; `map` is the standard `BTreeMap`. Nothing that is
+//! made before a work, or let go after it, is in its time.
 use std::collections::BTreeMap;
 use std::sync::Arc;
 use std::time::Instant;
@@ -19,40 +20,74 @@ impl Span {
     }
 }
 
+trait Item: Clone {
+    fn of(key: u64) -> Self;
+    fn key(&self) -> u64;
+    fn span(&self) -> Span;
+}
+
 #[derive(Clone, Copy)]
 struct Number {
     key: u64,
     width: u64,
 }
 
-impl Number {
+impl Item for Number {
     fn of(key: u64) -> Number {
         Number { key, width: 1 }
+    }
+    fn key(&self) -> u64 {
+        self.key
     }
     fn span(&self) -> Span {
         Span { items: 1, width: self.width }
     }
 }
 
-#[derive(Clone)]
-enum Content {
-    Leaf(Vec<(Number, Span)>),
-    Inner(Vec<Arc<Node>>),
+const TEXT: &str = "A line of a text, as one types it, of about as many bytes as a line has in a program.\n";
+
+// A line of a text, of at most 128 bytes, which lies in the item itself.
+#[derive(Clone, Copy)]
+struct Line {
+    number: u64,
+    len: u32,
+    text: [u8; 128],
+}
+
+impl Item for Line {
+    fn of(number: u64) -> Line {
+        let mut text = [0; 128];
+        text[..TEXT.len()].copy_from_slice(TEXT.as_bytes());
+        Line { number, len: TEXT.len() as u32, text }
+    }
+    fn key(&self) -> u64 {
+        self.number
+    }
+    fn span(&self) -> Span {
+        let text = &self.text[..self.len as usize];
+        Span { items: 1, width: text.len() as u64 }
+    }
 }
 
 #[derive(Clone)]
-struct Node {
+enum Content<T> {
+    Leaf(Vec<(T, Span)>),
+    Inner(Vec<Arc<Node<T>>>),
+}
+
+#[derive(Clone)]
+struct Node<T> {
     sum: Span,
-    content: Content,
+    content: Content<T>,
 }
 
-fn node(content: Content) -> Arc<Node> {
+fn node<T: Item>(content: Content<T>) -> Arc<Node<T>> {
     let mut node = Node { sum: Span::default(), content };
     node.renew();
     Arc::new(node)
 }
 
-impl Node {
+impl<T: Item> Node<T> {
     fn renew(&mut self) {
         let mut sum = Span::default();
         match &self.content {
@@ -69,12 +104,12 @@ impl Node {
     }
     fn last_key(&self) -> u64 {
         match &self.content {
-            Content::Leaf(entries) => entries[entries.len() - 1].0.key,
+            Content::Leaf(entries) => entries[entries.len() - 1].0.key(),
             Content::Inner(children) => children[children.len() - 1].last_key(),
         }
     }
     // Splits off the upper half where there are too many entries.
-    fn split(&mut self) -> Option<Arc<Node>> {
+    fn split(&mut self) -> Option<Arc<Node<T>>> {
         if self.width() <= MOST {
             self.renew();
             return None;
@@ -87,9 +122,10 @@ impl Node {
         self.renew();
         Some(node(back))
     }
-    fn push(&mut self, item: Number) -> Option<Arc<Node>> {
+    fn push(&mut self, item: T) -> Option<Arc<Node<T>>> {
+        let span = item.span();
         match &mut self.content {
-            Content::Leaf(entries) => entries.push((item, item.span())),
+            Content::Leaf(entries) => entries.push((item, span)),
             Content::Inner(children) => {
                 let last = children.len() - 1;
                 if let Some(back) = Arc::make_mut(&mut children[last]).push(item) {
@@ -98,22 +134,23 @@ impl Node {
             }
         }
         if self.width() <= MOST {
-            self.sum.add(item.span());
+            self.sum.add(span);
             return None;
         }
         self.split()
     }
-    fn insert(&mut self, item: Number, replaced: &mut bool) -> Option<Arc<Node>> {
+    fn insert(&mut self, item: T, replaced: &mut bool) -> Option<Arc<Node<T>>> {
+        let span = item.span();
         match &mut self.content {
-            Content::Leaf(entries) => match entries.binary_search_by_key(&item.key, |entry| entry.0.key) {
+            Content::Leaf(entries) => match entries.binary_search_by_key(&item.key(), |entry| entry.0.key()) {
                 Ok(i) => {
-                    entries[i] = (item, item.span());
+                    entries[i] = (item, span);
                     *replaced = true;
                 }
-                Err(i) => entries.insert(i, (item, item.span())),
+                Err(i) => entries.insert(i, (item, span)),
             },
             Content::Inner(children) => {
-                let k = child_for(children, item.key);
+                let k = child_for(children, item.key());
                 if let Some(back) = Arc::make_mut(&mut children[k]).insert(item, replaced) {
                     children.insert(k + 1, back);
                 }
@@ -124,7 +161,7 @@ impl Node {
     // Removes a key; a child that became narrow is joined with its neighbour.
     fn remove(&mut self, key: u64) -> bool {
         let there = match &mut self.content {
-            Content::Leaf(entries) => match entries.binary_search_by_key(&key, |entry| entry.0.key) {
+            Content::Leaf(entries) => match entries.binary_search_by_key(&key, |entry| entry.0.key()) {
                 Ok(i) => {
                     entries.remove(i);
                     true
@@ -143,9 +180,51 @@ impl Node {
         self.renew();
         there
     }
+    // Whether the `count` items from `at` on lie in one leaf.
+    fn in_one_leaf(&self, at: u64, count: u64) -> bool {
+        match &self.content {
+            Content::Leaf(entries) => at + count <= entries.len() as u64,
+            Content::Inner(children) => {
+                let (k, rest) = child_at(children, at);
+                children[k].in_one_leaf(rest, count)
+            }
+        }
+    }
+    // Puts items in the place of `count` from `at` on, which lie in one leaf.
+    fn splice(&mut self, at: u64, count: u64, items: Vec<T>) -> Option<Arc<Node<T>>> {
+        match &mut self.content {
+            Content::Leaf(entries) => {
+                let range = at as usize..(at + count) as usize;
+                let entry = |item: T| {
+                    let span = item.span();
+                    (item, span)
+                };
+                entries.splice(range, items.into_iter().map(entry));
+            }
+            Content::Inner(children) => {
+                let (k, rest) = child_at(children, at);
+                if let Some(back) = Arc::make_mut(&mut children[k]).splice(rest, count, items) {
+                    children.insert(k + 1, back);
+                } else if children[k].width() < MOST / 2 {
+                    join(children, if k > 0 { k - 1 } else { 0 });
+                }
+            }
+        }
+        self.split()
+    }
 }
 
-fn join(children: &mut Vec<Arc<Node>>, k: usize) {
+// The child that holds an item, and the item's place there.
+fn child_at<T: Item>(children: &[Arc<Node<T>>], mut at: u64) -> (usize, u64) {
+    let mut k = 0;
+    while at >= children[k].sum.items {
+        at -= children[k].sum.items;
+        k += 1;
+    }
+    (k, at)
+}
+
+fn join<T: Item>(children: &mut Vec<Arc<Node<T>>>, k: usize) {
     let back = children.remove(k + 1);
     let front = Arc::make_mut(&mut children[k]);
     match (&mut front.content, &back.content) {
@@ -158,48 +237,82 @@ fn join(children: &mut Vec<Arc<Node>>, k: usize) {
     }
 }
 
-fn child_for(children: &[Arc<Node>], key: u64) -> usize {
+fn child_for<T: Item>(children: &[Arc<Node<T>>], key: u64) -> usize {
     let last = children.len() - 1;
     (0..last).find(|&k| children[k].last_key() >= key).unwrap_or(last)
 }
 
-#[derive(Clone)]
-struct Tree {
-    root: Arc<Node>,
+// A level of nodes, each with as many parts as the sizes allow, and all about as full.
+fn level<T: Item, P>(parts: Vec<P>, content: impl Fn(Vec<P>) -> Content<T>) -> Vec<Arc<Node<T>>> {
+    let count = parts.len().div_ceil(MOST).max(1);
+    let (least, more) = (parts.len() / count, parts.len() % count);
+    let mut parts = parts.into_iter();
+    (0..count)
+        .map(|k| node(content(parts.by_ref().take(least + (k < more) as usize).collect())))
+        .collect()
 }
 
-impl Tree {
-    fn new() -> Tree {
+#[derive(Clone)]
+struct Tree<T> {
+    root: Arc<Node<T>>,
+}
+
+impl<T: Item> Tree<T> {
+    fn new() -> Tree<T> {
         Tree { root: node(Content::Leaf(Vec::new())) }
+    }
+    fn from_list(items: Vec<T>) -> Tree<T> {
+        let entries = items.into_iter().map(|item| {
+            let span = item.span();
+            (item, span)
+        });
+        let mut nodes = level(entries.collect(), Content::Leaf);
+        while nodes.len() > 1 {
+            nodes = level(nodes, Content::Inner);
+        }
+        Tree { root: nodes.remove(0) }
     }
     fn len(&self) -> u64 {
         self.root.sum.items
     }
-    fn grown(&mut self, back: Option<Arc<Node>>) {
+    fn grown(&mut self, back: Option<Arc<Node<T>>>) {
         if let Some(back) = back {
             self.root = node(Content::Inner(vec![self.root.clone(), back]));
         }
     }
-    fn push(&mut self, item: Number) {
+    fn push(&mut self, item: T) {
         let back = Arc::make_mut(&mut self.root).push(item);
         self.grown(back);
     }
-    fn insert(&mut self, item: Number) -> bool {
+    fn insert(&mut self, item: T) -> bool {
         let mut replaced = false;
         let back = Arc::make_mut(&mut self.root).insert(item, &mut replaced);
         self.grown(back);
         replaced
     }
-    fn remove(&mut self, key: u64) -> bool {
-        let there = Arc::make_mut(&mut self.root).remove(key);
+    fn shrunk(&mut self) {
         if let Content::Inner(children) = &self.root.content {
             if children.len() == 1 {
                 self.root = children[0].clone();
             }
         }
+    }
+    fn remove(&mut self, key: u64) -> bool {
+        let there = Arc::make_mut(&mut self.root).remove(key);
+        self.shrunk();
         there
     }
-    fn get(&self, mut index: u64) -> Option<&Number> {
+    // Where the items replaced do not lie in one leaf, all but the first are taken out one by one before.
+    fn splice(&mut self, at: u64, mut count: u64, items: Vec<T>) {
+        while count > 1 && !self.root.in_one_leaf(at, count) {
+            count -= 1;
+            self.splice(at + count, 1, Vec::new());
+        }
+        let back = Arc::make_mut(&mut self.root).splice(at, count, items);
+        self.grown(back);
+        self.shrunk();
+    }
+    fn get(&self, mut index: u64) -> Option<&T> {
         if index >= self.len() {
             return None;
         }
@@ -208,12 +321,8 @@ impl Tree {
             match &node.content {
                 Content::Leaf(entries) => return Some(&entries[index as usize].0),
                 Content::Inner(children) => {
-                    let mut k = 0;
-                    while index >= children[k].sum.items {
-                        index -= children[k].sum.items;
-                        k += 1;
-                    }
-                    node = &children[k];
+                    let (k, rest) = child_at(children, index);
+                    (node, index) = (&children[k], rest);
                 }
             }
         }
@@ -222,7 +331,7 @@ impl Tree {
         let mut node = &self.root;
         loop {
             match &node.content {
-                Content::Leaf(entries) => return entries.iter().any(|entry| entry.0.key == key),
+                Content::Leaf(entries) => return entries.iter().any(|entry| entry.0.key() == key),
                 Content::Inner(children) => node = &children[child_for(children, key)],
             }
         }
@@ -242,76 +351,110 @@ fn chance(mut x: u64, n: u64, bound: u64, mut each: impl FnMut(u64) -> bool) -> 
     count
 }
 
-fn report(name: &str, start: Instant, answer: u64) {
+// Does a work and writes what came of it and the microseconds that it took.
+fn timed(name: &str, work: impl FnOnce() -> u64) {
+    let start = Instant::now();
+    let answer = work();
     println!("{name} {answer} {}", start.elapsed().as_micros());
 }
 
-fn pushed(n: u64) -> Tree {
-    let mut tree = Tree::new();
-    (0..n).for_each(|key| tree.push(Number::of(key)));
-    tree
-}
-
-fn tree_list_work(n: u64) {
-    let start = Instant::now();
-    report("Push", start, pushed(n).len());
-    let start = Instant::now();
-    let tree = pushed(n);
-    let mut sum = 0u64;
-    chance(1, n, n, |i| {
-        sum = sum.wrapping_add(tree.get(i).map_or(0, |item| item.key));
-        true
+fn list_work(n: u64) {
+    let mut tree: Tree<Number> = Tree::new();
+    timed("Push", || {
+        (0..n).for_each(|key| tree.push(Number::of(key)));
+        tree.len()
     });
-    drop(tree);
-    report("Get", start, sum);
-    let start = Instant::now();
-    let mut tree = pushed(n);
-    let mut sum = 0;
-    for key in 0..n {
-        let old = tree.clone();
-        tree.push(Number::of(key));
-        sum += old.len();
-    }
-    drop(tree);
-    report("SharePush", start, sum);
+    timed("Get", || {
+        let mut sum = 0u64;
+        chance(1, n, n, |i| {
+            sum = sum.wrapping_add(tree.get(i).map_or(0, |item| item.key));
+            true
+        });
+        sum
+    });
+    timed("SharePush", || {
+        let mut sum = 0;
+        for key in 0..n / 10 {
+            let old = tree.clone();
+            tree.push(Number::of(key));
+            sum += old.len();
+        }
+        sum
+    });
+    let items: Vec<Number> = (0..n).map(Number::of).collect();
+    let mut made = None;
+    timed("FromList", || made.insert(Tree::from_list(items)).len());
 }
 
-fn tree_key_work(name: &str, n: u64, bound: u64) {
-    let start = Instant::now();
-    let mut tree = Tree::new();
-    let mut answer = chance(1, n, bound, |key| tree.insert(Number::of(key)));
-    match name {
-        "Find" => answer = chance(3, n, bound, |key| tree.find(key)),
-        "Remove" => answer = chance(7, n, bound, |key| tree.remove(key)),
-        _ => {}
-    }
-    drop(tree);
-    report(name, start, answer);
+// One change of a text, as typing makes it: mostly one item for one, now and then two for one or one for two.
+fn splice_at(tree: &mut Tree<Line>, x: u64) {
+    let len = tree.len();
+    let at = (x >> 20) % len;
+    let (replaced, count) = match x >> 61 {
+        0 => (1, 2),
+        1 if at + 1 < len => (2, 1),
+        _ => (1, 1),
+    };
+    tree.splice(at, replaced, (0..count).map(Line::of).collect());
 }
 
-fn map_key_work(name: &str, n: u64, bound: u64) {
-    let start = Instant::now();
+fn text_work(n: u64) {
+    let mut tree = Tree::from_list((0..n).map(Line::of).collect());
+    timed("Type", || {
+        let mut x = 1;
+        for _ in 0..n {
+            x = step(x);
+            splice_at(&mut tree, x);
+        }
+        tree.len()
+    });
+    timed("ShareType", || {
+        let mut x = 1;
+        for _ in 0..n {
+            x = step(x);
+            let _old = tree.clone();
+            splice_at(&mut tree, x);
+        }
+        tree.len()
+    });
+}
+
+fn key_work(n: u64) {
+    let bound = 2 * n + 1;
+    let mut tree: Tree<Number> = Tree::new();
+    timed("Fill", || {
+        for key in 0..n {
+            tree.insert(Number::of(2 * key));
+        }
+        tree.len()
+    });
+    timed("Find", || chance(3, n / 10, bound, |key| tree.find(key)));
+    timed("Insert", || chance(1, n / 10, bound, |key| tree.insert(Number::of(key))));
+    timed("Remove", || chance(7, n / 10, bound, |key| tree.remove(key)));
+}
+
+fn map_work(n: u64) {
+    let bound = 2 * n + 1;
     let mut map = BTreeMap::new();
-    let mut answer = chance(1, n, bound, |key| map.insert(key, Number::of(key)).is_some());
-    match name {
-        "Find" => answer = chance(3, n, bound, |key| map.contains_key(&key)),
-        "Remove" => answer = chance(7, n, bound, |key| map.remove(&key).is_some()),
-        _ => {}
-    }
-    drop(map);
-    report(name, start, answer);
+    timed("Fill", || {
+        for key in 0..n {
+            map.insert(2 * key, Number::of(2 * key));
+        }
+        map.len() as u64
+    });
+    timed("Find", || chance(3, n / 10, bound, |key| map.contains_key(&key)));
+    timed("Insert", || chance(1, n / 10, bound, |key| map.insert(key, Number::of(key)).is_some()));
+    timed("Remove", || chance(7, n / 10, bound, |key| map.remove(&key).is_some()));
 }
 
 fn main() {
     let words: Vec<String> = std::env::args().collect();
     let n: u64 = words[2].parse().expect("a count");
     if words[1] == "tree" {
-        tree_list_work(n);
-    }
-    for name in ["Insert", "Find", "Remove"] {
-        match words[1].as_str() {
-            "tree" => tree_key_work(name, n, 2 * n + 1),
-            _ => map_key_work(name, n, 2 * n + 1),
-        }
+        list_work(n);
+        text_work(n / 10);
+        key_work(n);
+    } else {
+        map_work(n);
     }
 }

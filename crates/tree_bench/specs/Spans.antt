@@ -1,5 +1,5 @@
 -- Spans, whose sums are modulo 2 ^ 64.
-use Rattle.std.specs.Prelude.{◌≡◌, ℕ, ◌+◌, ◌^◌, ◌<◌, ◌%◌}
+use Rattle.std.specs.Prelude.{◌≡◌, ℕ, ◌+◌, ◌^◌, ◌<◌, ◌%◌, List, length}
 use Rattle.std.proofs.Common.{arith, refl}
 use Rattle.sum_tree.specs.Laws.{SummaryLaws}
 use Rattle.tree_bench.specs.declared.span.Span.{Span}
@@ -49,3 +49,15 @@ number_key x = x.key
 
 pub number_admitted : (x : Number) → IsSpan (number_sum x)
 number_admitted x = record { items = omega arith; width = wrap-lt (0 + x.width) }
+
+abbrev pub line_sum : ℕ × List ℕ → Span
+line_sum line = record { items = 1; width = (0 + length line.1) % 2 ^ 64 }
+
+pub line_admitted : (line : ℕ × List ℕ) → IsSpan (line_sum line)
+line_admitted line = record { items = omega arith; width = wrap-lt (0 + length line.1) }
+
+abbrev pub bead_sum : ℕ → Span
+bead_sum n = record { items = 1; width = n % 3 + 1 }
+
+pub bead_admitted : (n : ℕ) → IsSpan (bead_sum n)
+bead_admitted n = record { items = omega arith; width = omega arith }

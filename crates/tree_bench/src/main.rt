@@ -2,17 +2,50 @@
 //! microseconds too.
 #![tactic(auto)]
 
+ghost use Rattle.std.specs.Prelude.{List};
+ghost use Rattle.sum_tree.specs.Laws.{fold};
+ghost use Rattle.sum_tree.specs.Keyed.{Ascending};
+
+#[cfg(test)]
+mod bead;
+mod line;
+#[cfg(test)]
+mod mirror;
 mod number;
 mod numbered;
+#[cfg(test)]
+mod refusals;
 mod span;
 #[cfg(test)]
 mod tests;
+#[cfg(test)]
+mod word;
 mod work;
 
+use line::Line;
 use number::Number;
+use numbered::Numbered;
 use std::time::Instant;
 use std::{env, io};
-use work::Work;
+use sum_tree::SumTree;
+use work::{
+    filled, found, got, inserted, listed, made, pushed, removed, shared, shared_typed, typed,
+};
+
+// What is timed.
+#[derive(Clone, Copy, Debug, PartialEq, Eq)]
+enum Timed {
+    Push,
+    Get,
+    SharePush,
+    FromList,
+    Type,
+    ShareType,
+    Fill,
+    Find,
+    Insert,
+    Remove,
+}
 
 // The count, and whether times are written.
 fn words(rt: &HostRuntime) -> io::Result<(u32, bool)> {
@@ -27,10 +60,8 @@ fn words(rt: &HostRuntime) -> io::Result<(u32, bool)> {
     Ok((count, timed))
 }
 
-// Times one work of trees.
-fn timed_work(rt: &HostRuntime, timed: bool, work: Work, count: u32) -> io::Result<()> {
-    let start = Instant::now(rt)?;
-    let answer = work::done::<Number>(rt.alloc(), work, count)?;
+// Writes what came of a work, and the time that it took.
+fn tell(rt: &HostRuntime, timed: bool, work: Timed, start: Instant, answer: u64) -> io::Result<()> {
     if timed {
         println!(rt; "{work:?} {answer} {}", start.elapsed(rt)?.as_micros())
     } else {
@@ -38,19 +69,113 @@ fn timed_work(rt: &HostRuntime, timed: bool, work: Work, count: u32) -> io::Resu
     }
 }
 
+// Looks by index, and pushes while another tree shares the nodes.
+fn listed_work<T: Numbered>(
+    rt: &HostRuntime,
+    timed: bool,
+    tree: &mut SumTree<T>,
+    n: u64,
+) -> io::Result<()>
+    requires { (xs : List T) → T.Summary.fits (fold T.Summary.empty T.Summary.op T.sum_of xs) }
+{
+    let start = Instant::now(rt)?;
+    let sum = got(tree, n);
+    tell(rt, timed, Timed::Get, start, sum)?;
+    let start = Instant::now(rt)?;
+    let sum = shared(rt.alloc(), tree, n / 10)?;
+    tell(rt, timed, Timed::SharePush, start, sum)
+}
+
+// A tree that grows by pushes.
+fn timed_pushes<T: Numbered>(rt: &HostRuntime, timed: bool, n: u64) -> io::Result<SumTree<T>>
+    requires { (xs : List T) → T.Summary.fits (fold T.Summary.empty T.Summary.op T.sum_of xs) }
+{
+    let start = Instant::now(rt)?;
+    let tree = pushed(rt.alloc(), 0, n)?;
+    tell(rt, timed, Timed::Push, start, tree.len())?;
+    Ok(tree)
+}
+
+// Works on such a tree.
+fn push_work<T: Numbered>(rt: &HostRuntime, timed: bool, n: u64) -> io::Result<()>
+    requires { (xs : List T) → T.Summary.fits (fold T.Summary.empty T.Summary.op T.sum_of xs) }
+{
+    let mut tree = timed_pushes::<T>(rt, timed, n)?;
+    listed_work(rt, timed, &mut tree, n)
+}
+
+// Makes a tree of a list.
+fn list_work<T: Numbered>(rt: &HostRuntime, timed: bool, n: u64) -> io::Result<()>
+    requires { (xs : List T) → T.Summary.fits (fold T.Summary.empty T.Summary.op T.sum_of xs) }
+{
+    let items: Vec<T> = listed(rt.alloc(), 0, n)?;
+    let start = Instant::now(rt)?;
+    let tree = made(rt.alloc(), items)?;
+    tell(rt, timed, Timed::FromList, start, tree.len())
+}
+
+// Replaces items as typing does, also while another tree shares the nodes.
+fn typed_work<T: Numbered>(
+    rt: &HostRuntime,
+    timed: bool,
+    tree: &mut SumTree<T>,
+    n: u64,
+) -> io::Result<()>
+    requires { (xs : List T) → T.Summary.fits (fold T.Summary.empty T.Summary.op T.sum_of xs) }
+{
+    let start = Instant::now(rt)?;
+    let len = typed(rt.alloc(), tree, n)?;
+    tell(rt, timed, Timed::Type, start, len)?;
+    let start = Instant::now(rt)?;
+    let len = shared_typed(rt.alloc(), tree, n)?;
+    tell(rt, timed, Timed::ShareType, start, len)
+}
+
+// Works on a tree as a text has it.
+fn text_work<T: Numbered>(rt: &HostRuntime, timed: bool, n: u64) -> io::Result<()>
+    requires { (xs : List T) → T.Summary.fits (fold T.Summary.empty T.Summary.op T.sum_of xs) }
+{
+    let mut tree: SumTree<T> = made(rt.alloc(), listed(rt.alloc(), 0, n)?)?;
+    typed_work(rt, timed, &mut tree, n)
+}
+
+// Works by keys, on a tree that had none at first.
+fn keyed<T: Numbered>(
+    rt: &HostRuntime,
+    timed: bool,
+    tree: &mut SumTree<T>,
+    count: u32,
+) -> io::Result<()>
+    requires fits { (xs : List T) → T.Summary.fits (fold T.Summary.empty T.Summary.op T.sum_of xs) }
+    requires ascending { Ascending T.Key.cmp T.key_of tree.old.items }
+{
+    let n = count as u64 / 10;
+    let bound = count as u64 * 2 + 1;
+    let start = Instant::now(rt)?;
+    let len = filled(rt.alloc(), tree, count)?;
+    tell(rt, timed, Timed::Fill, start, len)?;
+    let start = Instant::now(rt)?;
+    let there = found(tree, bound, n);
+    tell(rt, timed, Timed::Find, start, there)?;
+    let start = Instant::now(rt)?;
+    let replaced = inserted(rt.alloc(), tree, bound, n)?;
+    tell(rt, timed, Timed::Insert, start, replaced)?;
+    let start = Instant::now(rt)?;
+    let there = removed(rt.alloc(), tree, bound, n)?;
+    tell(rt, timed, Timed::Remove, start, there)
+}
+
+fn key_work<T: Numbered>(rt: &HostRuntime, timed: bool, count: u32) -> io::Result<()>
+    requires { (xs : List T) → T.Summary.fits (fold T.Summary.empty T.Summary.op T.sum_of xs) }
+{
+    let mut tree: SumTree<T> = SumTree::new(rt.alloc())?;
+    keyed(rt, timed, &mut tree, count)
+}
+
 fn main(rt: HostRuntime) -> io::Result<()> {
     let (count, timed) = words(&rt)?;
-    for work in [
-        Work::Push,
-        Work::Get,
-        Work::SharePush,
-        Work::Splice,
-        Work::FromList,
-        Work::Insert,
-        Work::Find,
-        Work::Remove,
-    ] {
-        timed_work(&rt, timed, work, count)?;
-    }
-    Ok(())
+    push_work::<Number>(&rt, timed, count as u64)?;
+    list_work::<Number>(&rt, timed, count as u64)?;
+    text_work::<Line>(&rt, timed, count as u64 / 10)?;
+    key_work::<Number>(&rt, timed, count)
 }

@@ -3,89 +3,13 @@ ghost use Rattle.std.specs.Prelude.{◌≡◌, ◌<◌, ◌≤◌, List};
 ghost use Rattle.sum_tree.specs.Laws.{fold};
 ghost use Rattle.sum_tree.specs.Keyed.{Ascending};
 
+use crate::mirror::{counting, is_even, mirrors, number_of, replaced};
 use crate::number::Number;
 use crate::numbered::Numbered;
+use crate::word::{Numbers, Word};
 use crate::work::{insert_to, listed, made, pushed, splice_in, step};
 use std::alloc::{AllocError, Global};
-use sum_tree::{Parts, SumTree};
-
-fn number_of<T: Numbered>(item: Option<&T>) -> Option<u64> {
-    match item {
-        None => None,
-        Some(item) => Some(item.number()),
-    }
-}
-
-fn width<T: Numbered>(tree: &SumTree<T>) -> usize {
-    match tree.parts() {
-        Parts::Leaf(entries) => entries.len(),
-        Parts::Inner(children) => children.len(),
-    }
-}
-
-// Puts a node's children behind others, and tells whether they are of this height and have 6 to 12 entries each.
-fn children_onto<'a, T: Numbered>(
-    node: &'a SumTree<T>,
-    height: u32,
-    next: &mut Vec<&'a SumTree<T>>,
-) -> Result<bool, AllocError> {
-    match node.parts() {
-        Parts::Leaf(_) => Ok(false),
-        Parts::Inner(children) => {
-            let mut even = true;
-            for child in children {
-                let entries = width(child);
-                even = even && child.height() == height && entries >= 6 && entries <= 12;
-                next.push(child)?;
-            }
-            Ok(even)
-        }
-    }
-}
-
-// Whether all leaves lie at one depth, and each node below the root has 6 to 12 entries.
-fn is_even<T: Numbered>(alloc: Global, tree: &SumTree<T>) -> Result<bool, AllocError> {
-    let mut level = Vec::new(alloc);
-    level.push(tree)?;
-    let mut even = true;
-    for height in (0..tree.height()).rev() {
-        let mut next = Vec::new(alloc);
-        for node in &level {
-            even = children_onto(*node, height, &mut next)? && even;
-        }
-        level = next;
-    }
-    for leaf in &level {
-        even = even && leaf.height() == 0;
-    }
-    Ok(even)
-}
-
-// Whether a tree has these numbers, and nodes of the sizes that it should have.
-fn mirrors<T: Numbered>(
-    alloc: Global,
-    tree: &SumTree<T>,
-    numbers: &[u64],
-) -> Result<bool, AllocError> {
-    let n = numbers.len() as u64;
-    let mut same = tree.len() == n && tree.is_empty() == (n == 0) && tree.get(n).is_none();
-    for (i, number) in numbers.iter().enumerate() {
-        same = same && number_of(tree.get(i as u64)) == Some(*number);
-    }
-    let ends = number_of(tree.first()) == numbers.first().copied()
-        && number_of(tree.last()) == numbers.last().copied();
-    let root = width(tree) <= 12 && (tree.height() == 0 || width(tree) >= 2);
-    Ok(is_even(alloc, tree)? && same && ends && root)
-}
-
-// The numbers from 0 up to n.
-fn counting(alloc: Global, n: u64) -> Result<Vec<u64>, AllocError> {
-    let mut numbers = Vec::new(alloc);
-    for number in 0..n {
-        numbers.push(number)?;
-    }
-    Ok(numbers)
-}
+use sum_tree::SumTree;
 
 // Puts the items of another tree behind this one's, and tells whether they are these then.
 fn joined<T: Numbered>(
@@ -133,23 +57,6 @@ fn rejoins_everywhere<T: Numbered>(
         same = rejoins(alloc, tree, cut, numbers)? && same;
     }
     Ok(same)
-}
-
-// The numbers with others in the place of a range.
-fn replaced(
-    alloc: Global,
-    numbers: &[u64],
-    from: usize,
-    to: usize,
-    others: &[u64],
-) -> Result<Vec<u64>, AllocError> {
-    let mut all = Vec::new(alloc);
-    if from <= to && to <= numbers.len() {
-        all.extend_from_slice(&numbers[..from])?;
-        all.extend_from_slice(others)?;
-        all.extend_from_slice(&numbers[to..])?;
-    }
-    Ok(all)
 }
 
 // Puts n items in the place of a range, in a tree that another shares, and in a list.
@@ -221,17 +128,35 @@ fn listed_changes<T: Numbered>(alloc: Global, n: u64) -> Result<bool, AllocError
     changes(alloc, &mut tree, numbers)
 }
 
+// Changes of trees of so many items, of which one was made by pushes and one of a list.
+fn grown_changes<T: Numbered>(alloc: Global, n: u64) -> Result<bool, AllocError>
+    requires { (xs : List T) → T.Summary.fits (fold T.Summary.empty T.Summary.op T.sum_of xs) }
+{
+    Ok(pushed_changes::<T>(alloc, n)? && listed_changes::<T>(alloc, n)?)
+}
+
 #[test]
 fn trees_are_lists(rt: HostRuntime) -> Result<(), AllocError> {
-    for n in [0, 1, 6, 12, 13, 72, 73, 156, 157, 2000] {
-        assert!(rt;
-            pushed_changes::<Number>(rt.alloc(), n)?,
-            "{n} numbers pushed"
-        );
-        assert!(rt;
-            listed_changes::<Number>(rt.alloc(), n)?,
-            "{n} numbers listed"
-        );
+    for n in [0, 1, 6, 12, 13, 72, 73, 156, 157, 2000, 5000] {
+        assert!(rt; grown_changes::<Number>(rt.alloc(), n)?, "{n} numbers");
+    }
+    for n in [0, 1, 12, 13, 72, 73, 156, 157, 1000] {
+        assert!(rt; grown_changes::<Word>(rt.alloc(), n)?, "{n} words");
+    }
+    Ok(())
+}
+
+// Whether the sum of so many words lists their numbers.
+fn lists_numbers(alloc: Global, n: u64) -> Result<bool, AllocError> {
+    let tree: SumTree<Word> = pushed(alloc, 0, n)?;
+    let numbers: &Numbers = tree.summary();
+    Ok(numbers.as_slice() == counting(alloc, n)?.as_slice())
+}
+
+#[test]
+fn sums_hold_lists(rt: HostRuntime) -> Result<(), AllocError> {
+    for n in [0, 1, 4, 5, 12, 13, 73, 157, 2000] {
+        assert!(rt; lists_numbers(rt.alloc(), n)?, "{n} words");
     }
     Ok(())
 }
@@ -348,6 +273,8 @@ fn many_keyed<T: Numbered>(alloc: Global) -> Result<bool, AllocError>
 fn keys_ascend(rt: HostRuntime) -> Result<(), AllocError> {
     assert!(rt; few_keyed::<Number>(rt.alloc())?);
     assert!(rt; many_keyed::<Number>(rt.alloc())?);
+    assert!(rt; few_keyed::<Word>(rt.alloc())?);
+    assert!(rt; many_keyed::<Word>(rt.alloc())?);
     Ok(())
 }
 

@@ -1,7 +1,8 @@
 //! The work that is timed. Each part answers a number that hangs on what it did.
-ghost use Rattle.std.specs.Prelude.{◌≡◌, ◌<◌, ◌≤◌, ◌^◌, List, IfOk, length};
+ghost use Rattle.std.specs.Prelude.{◌≡◌, ◌<◌, ◌≤◌, ◌^◌, ◌++◌, ◌∷◌, [], List, IfOk, OnOk, OnErr, length};
 ghost use Rattle.sum_tree.specs.Laws.{fold};
 ghost use Rattle.sum_tree.specs.Keyed.{Ascending};
+ghost use Rattle.sum_tree.specs.Spliced.{spliced};
 
 use crate::numbered::Numbered;
 use std::alloc::{AllocError, Global};
@@ -16,14 +17,16 @@ pub fn step(x: u64) -> u64 {
         .wrapping_add(1442695040888963407)
 }
 
-/// Pushes an item, where there is room for one.
+/// Pushes an item, where there is room for one. On want of memory the tree is as before.
 pub fn push_to<T: Item>(alloc: Global, tree: &mut SumTree<T>, item: T) -> Result<(), AllocError>
     requires { (xs : List T) → T.Summary.fits (fold T.Summary.empty T.Summary.op T.sum_of xs) }
+    ensures ok { OnOk result (length tree.old.items < 2 ^ 39 → tree.new.items ≡ tree.old.items ++ item ∷ []) }
+    ensures err { OnErr result (tree.new ≡ tree.old) }
 {
-    if tree.len() < MOST {
-        tree.push(alloc, item)?;
+    if tree.len() >= MOST {
+        return Ok(());
     }
-    Ok(())
+    tree.push(alloc, item)
 }
 
 /// The tree of the numbers from `from` up to `to`, pushed one by one.
@@ -49,6 +52,7 @@ pub fn listed<T: Numbered>(alloc: Global, from: u64, to: u64) -> Result<Vec<T>, 
 /// The tree of a list, where the list is not too long for one.
 pub fn made<T: Item>(alloc: Global, items: Vec<T>) -> Result<SumTree<T>, AllocError>
     requires { (xs : List T) → T.Summary.fits (fold T.Summary.empty T.Summary.op T.sum_of xs) }
+    ensures { length items.items ≤ 2 ^ 39 → IfOk result (λ tree. tree.items ≡ items.items) }
 {
     if items.len() as u64 <= MOST {
         SumTree::from_list(alloc, items)
@@ -93,7 +97,7 @@ pub fn shared<T: Numbered>(alloc: Global, tree: &mut SumTree<T>, n: u64) -> Resu
     Ok(sum)
 }
 
-/// Puts items in the place of a range, where there is room for them.
+/// Puts items in the place of a range, where there is room for them. On want of memory the tree is as before.
 #[tactic(auto, using(crate::proofs::Lengths::spliced_short))]
 pub fn splice_in<T: Item>(
     alloc: Global,
@@ -103,25 +107,65 @@ pub fn splice_in<T: Item>(
     items: Vec<T>,
 ) -> Result<(), AllocError>
     requires { (xs : List T) → T.Summary.fits (fold T.Summary.empty T.Summary.op T.sum_of xs) }
+    ensures ok { OnOk result (from ≤ to → to ≤ length tree.old.items → length tree.old.items < 2 ^ 39 → length items.items < 2 ^ 39 → tree.new.items ≡ spliced from to items.items tree.old.items) }
+    ensures err { OnErr result (tree.new ≡ tree.old) }
 {
-    if from <= to && to <= tree.len() && tree.len() < MOST && (items.len() as u64) < MOST {
-        tree.splice(alloc, from, to, items)?;
+    if from > to || to > tree.len() || tree.len() >= MOST || items.len() as u64 >= MOST {
+        return Ok(());
     }
-    Ok(())
+    tree.splice(alloc, from, to, items)
 }
 
-/// Puts two items in the place of one, n times.
-pub fn spliced<T: Numbered>(alloc: Global, tree: &mut SumTree<T>, n: u64) -> Result<u64, AllocError>
+// One change of a text, as typing makes it, at a place that x draws: mostly one item for one, now and then two for one
+// or one for two.
+fn splice_at<T: Numbered>(alloc: Global, tree: &mut SumTree<T>, x: u64) -> Result<(), AllocError>
+    requires { (xs : List T) → T.Summary.fits (fold T.Summary.empty T.Summary.op T.sum_of xs) }
+{
+    let len = tree.len();
+    if len == 0 || len >= MOST {
+        return Ok(());
+    }
+    let at = (x >> 20) % len;
+    let (replaced, count) = match x >> 61 {
+        0 => (1, 2),
+        1 if at + 1 < len => (2, 1),
+        _ => (1, 1),
+    };
+    splice_in(alloc, tree, at, at + replaced, listed(alloc, 0, count)?)
+}
+
+/// Replaces items as typing does, n times.
+pub fn typed<T: Numbered>(alloc: Global, tree: &mut SumTree<T>, n: u64) -> Result<u64, AllocError>
     requires { (xs : List T) → T.Summary.fits (fold T.Summary.empty T.Summary.op T.sum_of xs) }
 {
     let mut x = 1u64;
     for _ in 0..n {
         x = step(x);
-        let len = tree.len();
-        if len > 0 && len < MOST {
-            let at = (x >> 20) % len;
-            splice_in(alloc, tree, at, at + 1, listed(alloc, 0, 2)?)?;
-        }
+        splice_at(alloc, tree, x)?;
+    }
+    Ok(tree.len())
+}
+
+// Replaces items while another tree shares all nodes.
+fn type_shared<T: Numbered>(alloc: Global, tree: &mut SumTree<T>, x: u64) -> Result<(), AllocError>
+    requires { (xs : List T) → T.Summary.fits (fold T.Summary.empty T.Summary.op T.sum_of xs) }
+{
+    let _old = tree.share()?;
+    splice_at(alloc, tree, x)
+}
+
+/// Shares the tree and replaces items as typing does, n times.
+pub fn shared_typed<T: Numbered>(
+    alloc: Global,
+    tree: &mut SumTree<T>,
+    n: u64,
+) -> Result<u64, AllocError>
+    requires { (xs : List T) → T.Summary.fits (fold T.Summary.empty T.Summary.op T.sum_of xs) }
+{
+    let mut x = 1u64;
+    for _ in 0..n {
+        x = step(x);
+        type_shared(alloc, tree, x)?;
     }
     Ok(tree.len())
 }
@@ -144,6 +188,18 @@ pub fn insert_to<T: Numbered>(
         None => Ok(None),
         Some(old) => Ok(Some(old.number())),
     }
+}
+
+/// Inserts the items of the even numbers below 2 n, in their order.
+pub fn filled<T: Numbered>(alloc: Global, tree: &mut SumTree<T>, n: u32) -> Result<u64, AllocError>
+    requires fits { (xs : List T) → T.Summary.fits (fold T.Summary.empty T.Summary.op T.sum_of xs) }
+    requires ascending { Ascending T.Key.cmp T.key_of tree.old.items }
+    ensures ascending { Ascending T.Key.cmp T.key_of tree.new.items }
+{
+    for number in 0..n {
+        insert_to(alloc, tree, number as u64 * 2)?;
+    }
+    Ok(tree.len())
 }
 
 /// Inserts n items of numbers below `bound`, and answers how many replaced one.
@@ -205,66 +261,4 @@ pub fn found<T: Numbered>(tree: &SumTree<T>, bound: u64, n: u64) -> u64
         }
     }
     there
-}
-
-/// What is timed: each work begins with no tree, and all but the first three of lists begin with pushes or insertions.
-#[derive(Clone, Copy, Debug, PartialEq, Eq)]
-pub enum Work {
-    Push,
-    Get,
-    SharePush,
-    Splice,
-    FromList,
-    Insert,
-    Find,
-    Remove,
-}
-
-fn keyed_on<T: Numbered>(
-    alloc: Global,
-    tree: &mut SumTree<T>,
-    work: Work,
-    n: u64,
-    bound: u64,
-) -> Result<u64, AllocError>
-    requires fits { (xs : List T) → T.Summary.fits (fold T.Summary.empty T.Summary.op T.sum_of xs) }
-    requires bound { 0 < bound }
-    requires ascending { Ascending T.Key.cmp T.key_of tree.old.items }
-{
-    let replaced = inserted(alloc, tree, bound, n)?;
-    match work {
-        Work::Find => Ok(found(tree, bound, n)),
-        Work::Remove => removed(alloc, tree, bound, n),
-        _ => Ok(replaced),
-    }
-}
-
-fn keyed<T: Numbered>(alloc: Global, work: Work, n: u64, bound: u64) -> Result<u64, AllocError>
-    requires fits { (xs : List T) → T.Summary.fits (fold T.Summary.empty T.Summary.op T.sum_of xs) }
-    requires bound { 0 < bound }
-{
-    let mut tree: SumTree<T> = SumTree::new(alloc)?;
-    keyed_on(alloc, &mut tree, work, n, bound)
-}
-
-/// Does a work with `count` items, and answers a number that hangs on it.
-pub fn done<T: Numbered>(alloc: Global, work: Work, count: u32) -> Result<u64, AllocError>
-    requires fits { (xs : List T) → T.Summary.fits (fold T.Summary.empty T.Summary.op T.sum_of xs) }
-{
-    let n = count as u64;
-    match work {
-        Work::FromList => {
-            let tree: SumTree<T> = made(alloc, listed(alloc, 0, n)?)?;
-            return Ok(tree.len());
-        }
-        Work::Insert | Work::Find | Work::Remove => return keyed::<T>(alloc, work, n, n * 2 + 1),
-        _ => {}
-    }
-    let mut tree: SumTree<T> = pushed(alloc, 0, n)?;
-    match work {
-        Work::Get => Ok(got(&tree, n)),
-        Work::SharePush => shared(alloc, &mut tree, n),
-        Work::Splice => spliced(alloc, &mut tree, n),
-        _ => Ok(tree.len()),
-    }
 }
