@@ -315,13 +315,6 @@ fn inputs_at_the_limits(rt: HostRuntime) -> Result<(), Fail> {
             Status::TooLarge,
             "too large: lines\n",
         ),
-        (
-            (b'\n', LIMIT + 1),
-            &[][..],
-            &[][..],
-            Status::TooLarge,
-            "too large: bytes\n",
-        ),
     ] {
         of_copies(&rt, alloc, input, failing, writes, want, output)?;
     }

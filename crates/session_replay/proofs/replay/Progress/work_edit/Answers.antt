@@ -9,13 +9,13 @@ use Rattle.session_replay.proofs.replay.Progress.work_edit.Goals as goal
 pub returns-in_default-clause-report : goal.returns-in_default-clause-report
 returns-in_default-clause-report c =
     let bs = c.args.self.now.replicas.items in
-    let e : None ≡ position (λ (b : BufferState). b.replica == c.args.id) bs = cc (c.in_default.is, c.in_default.ensures, c.as_slice.ensures.value) in
+    let e : None ≡ position (λ (b : BufferState). b.replica == c.args.id) bs = cc (c.in_default.ensures, c.as_slice.ensures.value) in
     none_reported _ _ _ (not_found c.args.id (after_edit c.args.pieces.now) bs e).0
 
 pub returns-in_default-clause-state : goal.returns-in_default-clause-state
 returns-in_default-clause-state c =
     let bs = c.args.self.now.replicas.items in
-    let e : None ≡ position (λ (b : BufferState). b.replica == c.args.id) bs = cc (c.in_default.is, c.in_default.ensures, c.as_slice.ensures.value) in
+    let e : None ≡ position (λ (b : BufferState). b.replica == c.args.id) bs = cc (c.in_default.ensures, c.as_slice.ensures.value) in
     same_state _ _ _ (sym (not_found c.args.id (after_edit c.args.pieces.now) bs e).1)
 
 pub returns-clause-report : goal.returns-clause-report

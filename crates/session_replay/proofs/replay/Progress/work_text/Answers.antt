@@ -9,7 +9,7 @@ use Rattle.session_replay.proofs.replay.Progress.work_text.Goals as goal
 pub returns-in_default-clause-report : goal.returns-in_default-clause-report
 returns-in_default-clause-report c =
     let bs = c.args.self.now.replicas.items in
-    let e : None ≡ position (λ (b : BufferState). b.replica == c.args.id) bs = cc (c.in_default.is, c.in_default.ensures, c.as_slice.ensures.value) in
+    let e : None ≡ position (λ (b : BufferState). b.replica == c.args.id) bs = cc (c.in_default.ensures, c.as_slice.ensures.value) in
     none_reported _ _ _ (not_found c.args.id (λ (b : BufferState). b) bs e).0
 
 pub returns-clause-report : goal.returns-clause-report
