@@ -7,6 +7,8 @@ mod change;
 mod chunk;
 mod clips;
 mod cut;
+#[cfg(test)]
+mod cut_tests;
 mod lent;
 mod look;
 mod pieces;
