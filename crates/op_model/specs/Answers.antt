@@ -2,7 +2,7 @@
 use Rattle.std.specs.Prelude.{ℕ, ◌==◌, nat_lt, nat_le, Bool, true, false, not, ◌&&◌, ◌||◌, List, [], ◌∷◌, ◌++◌, length, Option, option_map, unwrap_or}
 use Rattle.std.specs.List.{find, list_any, position}
 use Rattle.lamport_clock.specs.Stamps.{same_stamp}
-use Rattle.lamport_clock.specs.Versions.{Entries, entry, within}
+use Rattle.lamport_clock.specs.Versions.{Entries, entry, within, first_unseen}
 use Rattle.op_model.specs.declared.operation.Piece.{Piece}
 use Rattle.op_model.specs.declared.operation.UndoCount.{UndoCount}
 use Rattle.op_model.specs.declared.operation.Operation.{Operation}
@@ -78,7 +78,7 @@ forked h op = let kept = entry (version h) (stamp_of op).replica in
 
 -- the first entry of v that passes that of h: at the least such replica, as the replicas of a version ascend
 abbrev pub first_missing : History → Entries → Option (ℕ × ℕ)
-first_missing h v = find (λ e. nat_lt (entry (version h) e.0) e.1) v
+first_missing h v = first_unseen (version h) v
 
 -- the operation that the entry names is in h, and its version lies within v
 abbrev pub entry_closed : History → Entries → ℕ × ℕ → Bool

@@ -19,3 +19,4 @@ pub mod Settled
 pub mod Steps
 pub mod Brought
 pub mod Laws
+pub mod Shapes

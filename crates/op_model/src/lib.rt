@@ -8,6 +8,11 @@ mod laws;
 mod limits;
 mod lists;
 mod operation;
+mod pieces;
+mod same;
+mod shapes;
+#[cfg(test)]
+mod tests;
 
 pub use faults::{EditFault, OpFault, UndoFault, Unit};
 pub use lamport_clock::OutOfMemory;
@@ -23,3 +28,5 @@ pub use laws::{
 pub use limits::Limits;
 pub use lists::{Counts, Pieces, Text};
 pub use operation::{EditOp, Operation, Piece, UndoCount, UndoOp};
+pub use pieces::{first_overlap, first_reversed, text_total};
+pub use shapes::{ShapeFault, shape};

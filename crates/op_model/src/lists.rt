@@ -1,7 +1,8 @@
 // Texts and the lists of an operation, which contracts see as lists.
-ghost use Rattle.std.specs.Prelude.{◌≡◌, string_bytes};
+ghost use Rattle.std.specs.Prelude.{◌≡◌, string_bytes, IfOk};
 
 use crate::{Piece, UndoCount};
+use std::alloc::{AllocError, Global};
 use std::marker::Model;
 
 /// A text, seen as its bytes.
@@ -49,6 +50,21 @@ impl Model for Pieces {
 }
 
 impl Pieces {
+    /// Equal pieces. Linear in their number and their texts.
+    pub fn copy_of(alloc: Global, pieces: &[Piece]) -> Result<Pieces, AllocError>
+        ensures { IfOk result (λ ps. ps ≡ pieces.now) }
+    {
+        let mut copies = Vec::new(alloc);
+        for p in pieces {
+            copies.push(Piece {
+                start: p.start,
+                end: p.end,
+                text: Text::new(String::from_str(alloc, p.text.as_str())?),
+            })?;
+        }
+        Ok(Pieces::new(copies))
+    }
+
     /// Makes a list of pieces of a vector, without memory.
     pub fn new(inner: Vec<Piece>) -> Pieces
         ensures { result ≡ inner.items }
@@ -79,6 +95,13 @@ impl Model for Counts {
 }
 
 impl Counts {
+    /// Equal counts. Linear in their number.
+    pub fn copy_of(alloc: Global, counts: &[UndoCount]) -> Result<Counts, AllocError>
+        ensures { IfOk result (λ cs. cs ≡ counts.now) }
+    {
+        Ok(Counts::new(Vec::from_slice(alloc, counts)?))
+    }
+
     /// Makes a list of counts of a vector, without memory.
     pub fn new(inner: Vec<UndoCount>) -> Counts
         ensures { result ≡ inner.items }

@@ -9,6 +9,8 @@ mod clips;
 #[cfg(test)]
 mod counted_tests;
 mod cut;
+#[cfg(test)]
+mod cut_tests;
 mod lent;
 mod look;
 mod pieces;

@@ -1,8 +1,6 @@
 pub mod Moved
-pub mod Lines
-pub mod Cut
-pub mod Strings
-pub mod Headers
+pub mod Buffers
+pub mod Steps
 pub mod Outcome
 pub mod Sent
 pub mod Rows

@@ -3,9 +3,16 @@ use Rattle.std.proofs.Common.{◌≡◌, ℕ, ◌<◌, ◌≤◌, ◌⊎◌, inl
 use Rattle.std.specs.Io.KnownBytes.{Appends}
 use Rattle.session_replay.specs.Causes.{Rose, RoseBy}
 use Rattle.session_replay.specs.Traffic.{AppendsFront, Had, WasRead, WasTaken}
-use Rattle.session_replay.specs.Session.{decoded}
-use Rattle.session_replay.specs.Replay.{answer_of, output_of, large_line, bad_line, Replays, Answered, report_of}
-use Rattle.session_replay.specs.declared.session.Session.{Session}
+use Rattle.session_lines.specs.Cut.{lines_of}
+use Rattle.session_lines.specs.Report.{report_text}
+use Rattle.session_lines.specs.Session.{decoded}
+use Rattle.session_lines.specs.Words.{bad_line, many_line}
+use Rattle.session_lines.specs.declared.session.Session.{Session}
+use Rattle.session_lines.specs.declared.fault.Word.{Word}
+use Rattle.session_lines.specs.declared.fault.DecodeFault.{DecodeFault}
+use Rattle.session_lines.specs.declared.fault.DecodeFault.TheVariants.{Bad}
+use Rattle.session_replay.specs.Work.{report_of}
+use Rattle.session_replay.specs.Replay.{answer_of, output_of, large_line, Replays, Answered}
 use Rattle.session_replay.specs.declared.words.Command.{Command}
 use Rattle.session_replay.specs.declared.words.Command.TheVariants.{Replay}
 use Rattle.session_replay.specs.declared.top.Status.{Status}
@@ -47,24 +54,29 @@ module _ (left left_after : Option (List ℕ)) (given given_after ends ends_afte
       let f = kept.done s.0 in
       (a.input, a.taken.whole f.0, (text, wrote s.1 text (λ i. text), (f.1.0, f.1.1, sym f.1.2)))
 
-  pub sent_session : r ≡ status.Session → (input : List ℕ) × WasRead left left_after given given_after ends ends_after input × ((n : ℕ) × (decoded input ≡ Err n) × Appends written written_after (bad_line n))
+  pub sent_session : r ≡ status.Session → (input : List ℕ) × WasRead left left_after given given_after ends ends_after input
+      × ((n : ℕ) × (w : Word) × (decoded input ≡ Err (Bad n w)) × Appends written written_after (bad_line n w))
   sent_session k =
       let s = same status.Session k (λ x. cc) in
       let f = kept.session s.0 in
-      (a.input, a.taken.whole f.0, (f.1.0, f.1.1, wrote s.1 (bad_line f.1.0) f.1.2))
+      (a.input, a.taken.whole f.0, (f.1.0, f.1.1, f.1.2, wrote s.1 (bad_line f.1.0 f.1.1) f.1.3))
 
   pub sent_ended : (r ≡ status.Done) ⊎ (r ≡ status.Session) → Rose ends ends_after
   sent_ended (inl k) = (a.taken.whole (kept.done (same status.Done k (λ x. cc)).0).0).ended
   sent_ended (inr k) = (a.taken.whole (kept.session (same status.Session k (λ x. cc)).0).0).ended
 
-  pub sent_large : r ≡ status.TooLarge → IfSome left (λ input. 67108864 < length input) × Appends written written_after large_line
-  sent_large k =
-      let s = same status.TooLarge k (λ x. cc) in
-      let f = kept.large s.0 in
-      (if_had left a.input (λ input. 67108864 < length input) a.taken.had f.0, wrote s.1 large_line f.1)
+  -- what is sent for too many bytes, or for too many lines
+  abbrev TooLarge : Type 0
+  TooLarge =
+      (IfSome left (λ input. 67108864 < length input) × RoseBy 67108865 given given_after × Appends written written_after large_line)
+      ⊎ ((input : List ℕ) × WasRead left left_after given given_after ends ends_after input × (1048576 < length (lines_of input)) × Appends written written_after many_line)
 
-  pub sent_passed : r ≡ status.TooLarge → RoseBy 67108865 given given_after
-  sent_passed k = a.taken.large (kept.large (same status.TooLarge k (λ x. cc)).0).0
+  large_by : r ≡ st → ((67108864 < length a.input) × (large_line ≡ text)) ⊎ ((length a.input ≤ 67108864) × (1048576 < length (lines_of a.input)) × (many_line ≡ text)) → TooLarge
+  large_by e (inl f) = inl (if_had left a.input (λ input. 67108864 < length input) a.taken.had f.0, a.taken.large f.0, wrote e large_line f.1)
+  large_by e (inr f) = inr (a.input, a.taken.whole f.0, f.1, wrote e many_line f.2)
+
+  pub sent_large : r ≡ status.TooLarge → TooLarge
+  sent_large k = let s = same status.TooLarge k (λ x. cc) in large_by s.1 (kept.large s.0)
 
   pub sent_front : AppendsFront written written_after shown → (input : List ℕ) × WasTaken left left_after given given_after ends ends_after input × AppendsFront written written_after (output_of input)
   sent_front f = (a.input, a.taken, subst (AppendsFront written written_after) (is ∙ sym (ap (λ p. p.1) a.answer)) f)
@@ -83,21 +95,21 @@ module _ (left left_after : Option (List ℕ)) (given given_after ends ends_afte
     pub completes : IfSome left (λ input. length input ≤ 67108864 → (s : Session) → decoded input ≡ Ok s → (r ≡ status.Done) ⊎ (r ≡ status.Memory))
     completes =
         if_had left a.input (λ input. length input ≤ 67108864 → (s : Session) → decoded input ≡ Ok s → (r ≡ status.Done) ⊎ (r ≡ status.Memory)) a.taken.had
-        (λ le s e. inl (sent status.Done (report_of s) (session_answer a.input s le e)))
+        (λ le s e. inl (sent status.Done (report_text (report_of s)) (session_answer a.input s le e)))
 
-    none_done : st ≡ status.Done → (67108864 < length a.input) ⊎ ((n : ℕ) × (decoded a.input ≡ Err n)) → ⊥
+    none_done : st ≡ status.Done → (67108864 < length a.input) ⊎ ((e : DecodeFault) × (decoded a.input ≡ Err e)) → ⊥
     none_done k (inl h) = omega (arith, (kept.done k).0)
     none_done k (inr h) = let e : Ok (kept.done k).1.0 ≡ Err h.0 = sym (kept.done k).1.1 ∙ h.1 in cc
 
-    by_kind : (st ≡ status.Done) ⊎ ((st ≡ status.Session) ⊎ (st ≡ status.TooLarge)) → (67108864 < length a.input) ⊎ ((n : ℕ) × (decoded a.input ≡ Err n))
+    by_kind : (st ≡ status.Done) ⊎ ((st ≡ status.Session) ⊎ (st ≡ status.TooLarge)) → (67108864 < length a.input) ⊎ ((e : DecodeFault) × (decoded a.input ≡ Err e))
         → (r ≡ status.Session) ⊎ ((r ≡ status.TooLarge) ⊎ (r ≡ status.Memory))
     by_kind (inl k) h = absurd (none_done k h)
     by_kind (inr (inl k)) h = inl (sent_by either ∙ k)
     by_kind (inr (inr k)) h = inr (inl (sent_by either ∙ k))
 
-    pub refuses : IfSome left (λ input. (67108864 < length input) ⊎ ((n : ℕ) × (decoded input ≡ Err n)) → (r ≡ status.Session) ⊎ ((r ≡ status.TooLarge) ⊎ (r ≡ status.Memory)))
+    pub refuses : IfSome left (λ input. (67108864 < length input) ⊎ ((e : DecodeFault) × (decoded input ≡ Err e)) → (r ≡ status.Session) ⊎ ((r ≡ status.TooLarge) ⊎ (r ≡ status.Memory)))
     refuses =
-        if_had left a.input (λ input. (67108864 < length input) ⊎ ((n : ℕ) × (decoded input ≡ Err n)) → (r ≡ status.Session) ⊎ ((r ≡ status.TooLarge) ⊎ (r ≡ status.Memory))) a.taken.had
+        if_had left a.input (λ input. (67108864 < length input) ⊎ ((e : DecodeFault) × (decoded input ≡ Err e)) → (r ≡ status.Session) ⊎ ((r ≡ status.TooLarge) ⊎ (r ≡ status.Memory))) a.taken.had
         (by_kind kept.kinds)
 
 no_fault_by : (st : Status) → (st ≡ status.Done) ⊎ ((st ≡ status.Session) ⊎ (st ≡ status.TooLarge)) → st ≡ status.WriteFault → ⊥

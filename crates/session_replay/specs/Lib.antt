@@ -2,7 +2,7 @@ pub mod Causes
 pub mod Words
 pub mod Traffic
 pub mod Memory
-pub mod Json
-pub mod Session
-pub mod Report
+pub mod Work
+pub mod Held
+pub mod Working
 pub mod Replay

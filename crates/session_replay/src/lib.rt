@@ -5,13 +5,10 @@
 #![tactic(auto)]
 
 mod counts;
-mod decode;
-mod line_value;
 mod memory;
 mod outside;
 mod replay;
-mod report;
-mod session;
+mod replica;
 mod top;
 mod traffic;
 mod words;

@@ -1,135 +1,133 @@
 // A session worked line by line, and its report.
-ghost use Rattle.std.specs.Prelude.{◌≡◌, ◌<◌, ◌≤◌, ◌+◌, ◌++◌, ◌∷◌, ◌^◌, List, length, string_bytes, if◌then◌else◌, IfOk, OnOk};
-ghost use Rattle.text_buffer.specs.Buffer.{edit_fault};
-ghost use Rattle.session_replay.specs.Replay.{after_edit, edit_line, report_from, report_of};
-ghost use Rattle.session_replay.specs.Session.{IsFitting};
-ghost use Rattle.session_replay.specs.declared.session.SessionLine.{SessionLine};
+ghost use Rattle.std.specs.Prelude.{◌≡◌, ◌<◌, ◌≤◌, ◌+◌, ◌++◌, ◌∷◌, ◌^◌, ◌==◌, List, [], length, map, ℕ, IfOk, OnOk};
+ghost use Rattle.std.specs.List.{All, flat_map, position};
+ghost use Rattle.text_buffer.specs.Buffer.{BufferState};
+ghost use Rattle.session_lines.specs.Report.{report_text};
+ghost use Rattle.session_lines.specs.Session.{IsSession};
+ghost use Rattle.session_lines.specs.declared.session.SessionLine.{SessionLine};
+ghost use Rattle.session_replay.specs.Work.{State, after_all, all_events, at_end, events, opened, opening, report_of, step};
+ghost use Rattle.session_replay.specs.Working.{IsCounted, state_of};
 
-use crate::report::{push_fault, push_made, push_replica, push_text};
-use crate::session::{Session, SessionLine};
-use op_model::{EditFault, Limits, Pieces};
+use crate::replica::Replica;
+use op_model::Pieces;
+use session_lines::{Report, Session, SessionLine, write_line};
 use std::alloc::{AllocError, Global};
-use text_buffer::Buffer;
-
-/// The limits of a session's buffers.
-const LIMITS: Limits = Limits {
-    bytes: 1 << 40,
-    entries: (1 << 40) - 1,
-};
-
-/// Works an edit line, and says whether it made an operation.
-fn work_edit(
-    alloc: Global,
-    buffer: &mut Buffer,
-    report: &mut String,
-    number: u64,
-    pieces: &Pieces,
-) -> Result<bool, AllocError>
-    ensures applied { IfOk result (λ made. length buffer.new.history ≡ length buffer.old.history + (if made then 1 else 0)) }
-    ensures buffer { OnOk result (buffer.new ≡ after_edit (edit_fault buffer.old pieces.now) buffer.old pieces.now) }
-    ensures report { OnOk result (string_bytes report.new ≡ string_bytes report.old ++ edit_line (edit_fault buffer.old pieces.now) buffer.old pieces.now number) }
-{
-    match buffer.edit(pieces.as_slice()) {
-        Ok(operation) => {
-            push_made(report, number, operation.stamp())?;
-            Ok(true)
-        }
-        Err(EditFault::OutOfMemory) => Err(AllocError),
-        Err(fault) => {
-            push_fault(alloc, report, number, fault)?;
-            Ok(false)
-        }
-    }
-}
 
 /// A session as far as it was worked.
 #[derive(Drop)]
-struct Progress {
-    replica: u16,
-    buffer: Buffer,
+pub struct Progress {
+    /// The replicas, in the header's order.
+    replicas: Vec<Replica>,
     /// How many operation lines there were.
-    number: u64,
-    /// How many operations were applied; the base is none.
-    applied: u64,
-    report: String,
+    operations: u64,
+    report: Vec<u8>,
+}
+
+/// The place of the replica with that id.
+fn place_of(replicas: &[Replica], id: u16) -> Option<usize>
+    ensures { result ≡ position (λ b. b.replica == id) replicas.now }
+{
+    replicas.iter().position(|replica| replica.has_id(id))
 }
 
 impl Progress {
-    /// Works a line: the report so far and what the lines from it on add to it stay the same together.
+    /// Works an edit line.
+    fn work_edit(&mut self, alloc: Global, id: u16, pieces: &Pieces) -> Result<(), AllocError>
+        requires number { self.old.operations < 2 ^ 63 }
+        requires counted { IsCounted (state_of self.old) }
+        ensures report { OnOk result (self.new.report.items ≡ self.old.report.items ++ report_text (events (SessionLine.Edit id pieces.now) (state_of self.old))) }
+        ensures state { OnOk result (state_of self.new ≡ step (SessionLine.Edit id pieces.now) (state_of self.old)) }
+    {
+        self.operations += 1;
+        let Some(place) = place_of(self.replicas.as_slice(), id) else {
+            return Ok(());
+        };
+        let report = self.replicas[place].edit(self.operations, pieces)?;
+        write_line(alloc, &mut self.report, &report)?;
+        Ok(())
+    }
+
+    /// Works a line that shows a text.
+    fn work_text(&mut self, alloc: Global, id: u16) -> Result<(), AllocError>
+        ensures report { OnOk result (self.new.report.items ≡ self.old.report.items ++ report_text (events (SessionLine.Text id) (state_of self.old))) }
+        ensures state { OnOk result (state_of self.new ≡ step (SessionLine.Text id) (state_of self.old)) }
+    {
+        let Some(place) = place_of(self.replicas.as_slice(), id) else {
+            return Ok(());
+        };
+        let text = self.replicas[place].text()?;
+        write_line(alloc, &mut self.report, &Report::Text { replica: id, text })?;
+        Ok(())
+    }
+
+    /// Works a line.
     fn work_line(&mut self, alloc: Global, line: &SessionLine) -> Result<(), AllocError>
-        requires number { self.old.number < 2 ^ 63 }
-        requires applied { self.old.applied < 2 ^ 63 }
-        ensures report { OnOk result ((ls : List SessionLine) →
-            string_bytes self.old.report ++ report_from self.old.replica (line.now ∷ ls) self.old.buffer self.old.number
-            ≡ string_bytes self.new.report ++ report_from self.new.replica ls self.new.buffer self.new.number) }
-        ensures number { self.new.number ≤ self.old.number + 1 }
-        ensures applied { self.new.applied ≤ self.old.applied + 1 }
-        ensures held { OnOk result (length self.old.buffer.history ≡ self.old.applied + 1 → length self.new.buffer.history ≡ self.new.applied + 1) }
-        ensures replica { self.new.replica ≡ self.old.replica }
+        requires number { self.old.operations < 2 ^ 63 }
+        requires counted { IsCounted (state_of self.old) }
+        ensures report { OnOk result (self.new.report.items ≡ self.old.report.items ++ report_text (events line.now (state_of self.old))) }
+        ensures state { OnOk result (state_of self.new ≡ step line.now (state_of self.old)) }
     {
         match line {
-            SessionLine::Text => {
-                let text = self.buffer.text()?;
-                push_text(alloc, &mut self.report, self.replica, text.as_str())?;
-                Ok(())
-            }
-            SessionLine::Edit(pieces) => {
-                self.number += 1;
-                let made = work_edit(
-                    alloc,
-                    &mut self.buffer,
-                    &mut self.report,
-                    self.number,
-                    pieces,
-                )?;
-                self.applied += u64::from(made);
-                Ok(())
-            }
+            SessionLine::Edit { replica, pieces } => self.work_edit(alloc, *replica, pieces)?,
+            SessionLine::Text { replica } => self.work_text(alloc, *replica)?,
         }
+        Ok(())
     }
 }
 
-/// The report of the lines, over a buffer that holds the base alone.
-fn report_lines(
+/// Works the lines.
+fn work_lines(
+    progress: &mut Progress,
     alloc: Global,
-    replica: u16,
-    buffer: Buffer,
     lines: &[SessionLine],
-) -> Result<String, AllocError>
+) -> Result<(), AllocError>
     requires few { length lines.now < 2 ^ 63 }
-    requires base { length buffer.history ≡ 1 }
-    ensures { IfOk result (λ s. string_bytes s ≡ report_from replica lines.now buffer 0) }
+    requires first { progress.old.operations ≡ 0 }
+    requires counted { IsCounted (state_of progress.old) }
+    ensures report { OnOk result (progress.new.report.items ≡ progress.old.report.items ++ report_text (all_events lines.now (state_of progress.old))) }
+    ensures state { OnOk result (state_of progress.new ≡ after_all lines.now (state_of progress.old)) }
 {
-    let mut progress = Progress {
-        replica,
-        buffer,
-        number: 0,
-        applied: 0,
-        report: String::new(alloc),
-    };
     for line in lines {
         progress.work_line(alloc, line)?;
     }
-    let text = progress.buffer.text()?;
-    push_replica(
-        alloc,
-        &mut progress.report,
-        replica,
-        text.as_str(),
-        progress.applied,
-    )?;
-    Ok(progress.report)
+    Ok(())
 }
 
-/// The report of a session.
-#[tactic(auto, unfolding(crate::specs::Replay::report_of))]
-pub fn report(alloc: Global, session: &Session) -> Result<String, AllocError>
-    requires { IsFitting 67108864 session.now.header }
-    ensures { IfOk result (λ s. string_bytes s ≡ report_of session.now) }
+/// The replicas over the base.
+fn replicas_over(alloc: Global, ids: &[u16], base: &str) -> Result<Vec<Replica>, AllocError>
+    requires ids { All (λ (r : ℕ). (1 ≤ r) × (r ≤ 1023)) ids.now }
+    requires base { length base.now ≤ 67108864 }
+    ensures { IfOk result (λ v. v.items ≡ map (opened base.now) ids.now) }
 {
-    let header = &session.header;
-    match Buffer::new(alloc, header.replica, header.base.as_str(), LIMITS) {
-        Ok(buffer) => report_lines(alloc, header.replica, buffer, session.lines.as_slice()),
-        Err(_) => Err(AllocError),
+    let mut replicas = Vec::new(alloc);
+    for id in ids {
+        replicas.push(Replica::new(alloc, *id, base)?)?;
     }
+    Ok(replicas)
+}
+
+/// What all replicas report at the end.
+fn write_ends(alloc: Global, replicas: &[Replica], out: &mut Vec<u8>) -> Result<(), AllocError>
+    ensures { OnOk result (out.new.items ≡ out.old.items ++ report_text (flat_map at_end replicas.now)) }
+{
+    for replica in replicas {
+        replica.write_end(alloc, out)?;
+    }
+    Ok(())
+}
+
+/// The text of a session's report.
+#[tactic(auto, unfolding(crate::specs::Work::report_of))]
+pub fn report(alloc: Global, session: &Session) -> Result<Vec<u8>, AllocError>
+    requires { IsSession 67108864 session.now }
+    ensures { IfOk result (λ v. v.items ≡ report_text (report_of session.now)) }
+{
+    let mut progress = Progress {
+        replicas: replicas_over(alloc, session.replicas.as_slice(), session.base.as_str())?,
+        operations: 0,
+        report: Vec::new(alloc),
+    };
+    work_lines(&mut progress, alloc, session.lines.as_slice())?;
+    write_ends(alloc, progress.replicas.as_slice(), &mut progress.report)?;
+    Ok(progress.report)
 }

@@ -18,9 +18,6 @@ impl Gate for Passing {
 
 const SESSION: &str = "[\"zedbuf\",1,\"ab\",[1]]\n[\"edit\",1,[[1,1,\"X\"]]]\n[\"text\",1]\n";
 
-const REPORT: &str =
-    "1: 2.1\ntext 1: 3 bytes, end 0:3, 1 rows, \"aXb\"\nreplica 1: 3 bytes, 1 rows, 1 applied, 0 waiting, 0 refused\nfinal 1: \"aXb\"\n";
-
 const USAGE: &str =
     "usage: zedbuf replay [--workers N] | check | make --seed N --replicas N --edits N\n";
 
@@ -74,39 +71,48 @@ fn replays<R: Threads + Wait + Sync + Abort>(
 #[test]
 fn sessions_and_their_reports(rt: HostRuntime) -> Result<(), Fail> {
     let alloc = rt.alloc();
-    for (lines, report) in [
+    for (input, report) in [
         // an edit and its text
         (
-            "\"ab\",[1]]\n[\"edit\",1,[[1,1,\"X\"]]]\n[\"text\",1]\n",
-            REPORT,
+            "[\"zedbuf\",1,\"ab\",[1]]\n[\"edit\",1,[[1,1,\"X\"]]]\n[\"text\",1]\n",
+            "1: 2.1\ntext 1: 3 bytes, end 0:3, 1 rows, \"aXb\"\nreplica 1: 3 bytes, 1 rows, 1 applied, 0 waiting, 0 refused\nfinal 1: \"aXb\"\n",
+        ),
+        // no line but the header
+        (
+            "[\"zedbuf\",1,\"ab\",[1,2]]\n",
+            "replica 1: 2 bytes, 1 rows, 0 applied, 0 waiting, 0 refused\nfinal 1: \"ab\"\nreplica 2: 2 bytes, 1 rows, 0 applied, 0 waiting, 0 refused\nfinal 2: \"ab\"\n",
         ),
         // a text of no bytes, and a last line without a line feed
         (
-            "\"\",[1]]\n[\"text\",1]",
-            "text 1: 0 bytes, end 0:0, 1 rows, \"\"\nreplica 1: 0 bytes, 1 rows, 0 applied, 0 waiting, 0 refused\nfinal 1: \"\"\n",
+            "[\"zedbuf\",1,\"\",[1,2]]\n[\"text\",1]",
+            "text 1: 0 bytes, end 0:0, 1 rows, \"\"\nreplica 1: 0 bytes, 1 rows, 0 applied, 0 waiting, 0 refused\nfinal 1: \"\"\nreplica 2: 0 bytes, 1 rows, 0 applied, 0 waiting, 0 refused\nfinal 2: \"\"\n",
         ),
         // two pieces at one place
         (
-            "\"ab\",[1]]\n[\"edit\",1,[[1,1,\"X\"],[1,2,\"Y\"]]]\n",
-            "1: 2.1\nreplica 1: 3 bytes, 1 rows, 1 applied, 0 waiting, 0 refused\nfinal 1: \"aXY\"\n",
+            "[\"zedbuf\",1,\"ab\",[1,2]]\n[\"edit\",1,[[1,1,\"X\"],[1,2,\"Y\"]]]\n",
+            "1: 2.1\nreplica 1: 3 bytes, 1 rows, 1 applied, 0 waiting, 0 refused\nfinal 1: \"aXY\"\nreplica 2: 2 bytes, 1 rows, 0 applied, 0 waiting, 0 refused\nfinal 2: \"ab\"\n",
         ),
-        // refused edits change nothing, and take a number; an edit without pieces is one
+        // refused edits change nothing, and take a number
         (
-            "\"ab\",[7]]\n[\"edit\",7,[[2,1,\"\"]]]\n[\"edit\",7,[[0,2,\"\"],[1,1,\"x\"]]]\n[\"edit\",7,[[0,9,\"\"]]]\n[\"edit\",7,[]]\n",
-            "1: reversed 0\n2: overlap 1\n3: pastend 0 2\n4: 2.7\nreplica 7: 2 bytes, 1 rows, 1 applied, 0 waiting, 0 refused\nfinal 7: \"ab\"\n",
+            "[\"zedbuf\",1,\"ab\",[1,2]]\n[\"edit\",1,[[2,1,\"\"]]]\n[\"edit\",1,[[0,2,\"\"],[1,1,\"x\"]]]\n[\"edit\",1,[[0,9,\"\"]]]\n[\"edit\",1,[]]\n",
+            "1: reversed 0\n2: overlap 1\n3: pastend 0 2\n4: 2.1\nreplica 1: 2 bytes, 1 rows, 1 applied, 0 waiting, 0 refused\nfinal 1: \"ab\"\nreplica 2: 2 bytes, 1 rows, 0 applied, 0 waiting, 0 refused\nfinal 2: \"ab\"\n",
+        ),
+        // each replica has a buffer of its own, and the operation lines of all are numbered together
+        (
+            "[\"zedbuf\",1,\"a\\nb\",[9,1023,2]]\n[\"edit\",2,[[0,1,\"\"]]]\n[\"edit\",9,[[3,3,\"c\"]]]\n[\"edit\",2,[[0,0,\"Z\"]]]\n[\"edit\",1023,[[7,7,\"c\"]]]\n[\"text\",9]\n[\"text\",2]\n[\"text\",1023]\n",
+            "1: 2.2\n2: 2.9\n3: 3.2\n4: pastend 0 3\ntext 9: 4 bytes, end 1:2, 2 rows, \"a\\nbc\"\ntext 2: 3 bytes, end 1:1, 2 rows, \"Z\\nb\"\ntext 1023: 3 bytes, end 1:1, 2 rows, \"a\\nb\"\nreplica 9: 4 bytes, 2 rows, 1 applied, 0 waiting, 0 refused\nfinal 9: \"a\\nbc\"\nreplica 1023: 3 bytes, 2 rows, 0 applied, 0 waiting, 0 refused\nfinal 1023: \"a\\nb\"\nreplica 2: 3 bytes, 2 rows, 2 applied, 0 waiting, 0 refused\nfinal 2: \"Z\\nb\"\n",
         ),
         // the greatest number, blanks, and a character of two bytes
         (
-            "\"\\u00e9\",[1023]]\n [ \"edit\" , 1023 , [ [ 18446744073709551615 , 18446744073709551615 , \"\" ] ] ] \n[\"edit\",1023,[[1,1,\"x\"]]]\n",
+            "[\"zedbuf\",1,\"\\u00e9\",[1023]]\n [ \"edit\" , 1023 , [ [ 18446744073709551615 , 18446744073709551615 , \"\" ] ] ] \n[\"edit\",1023,[[1,1,\"x\"]]]\n",
             "1: pastend 0 2\n2: insidechar 0\nreplica 1023: 2 bytes, 1 rows, 0 applied, 0 waiting, 0 refused\nfinal 1023: \"\u{e9}\"\n",
         ),
         // rows, columns in bytes, and a string's escapes
         (
-            "\"\\u00e9\\n\\\"\\\\\\u0001\\u007f\\/\\b\\f\\r\\t\\u001F\",[1]]\n[\"text\",1]\n",
+            "[\"zedbuf\",1,\"\\u00e9\\n\\\"\\\\\\u0001\\u007f\\/\\b\\f\\r\\t\\u001F\",[1]]\n[\"text\",1]\n",
             "text 1: 13 bytes, end 1:10, 2 rows, \"\u{e9}\\n\\\"\\\\\\u0001\u{7f}/\\b\\f\\r\\t\\u001f\"\nreplica 1: 13 bytes, 2 rows, 0 applied, 0 waiting, 0 refused\nfinal 1: \"\u{e9}\\n\\\"\\\\\\u0001\u{7f}/\\b\\f\\r\\t\\u001f\"\n",
         ),
     ] {
-        let input = format!(in alloc; "[\"zedbuf\",1,{lines}")?;
         replays(&rt, alloc, input.as_bytes(), Status::Done, report)?;
     }
     Ok(())
@@ -115,64 +121,54 @@ fn sessions_and_their_reports(rt: HostRuntime) -> Result<(), Fail> {
 #[test]
 fn inputs_that_are_no_sessions(rt: HostRuntime) -> Result<(), Fail> {
     let alloc = rt.alloc();
-    for input in [
-        "",
-        "\n",
-        "[\"zedbuf\",1,\"ab\",[1,2]]\n",
-        "[\"zedbuf\",1,\"ab\",[]]\n",
-        "[\"zedbuf\",1,\"ab\",[0]]\n",
-        "[\"zedbuf\",1,\"ab\",[1024]]\n",
-        "[\"zedbuf\",1,\"ab\",1]\n",
-        "[\"zedbuf\",2,\"ab\",[1]]\n",
-        "[\"zedbuf\",1,7,[1]]\n",
-        "[\"zedbuf\",1,\"ab\",[1],0]\n",
-        "[\"zedbuf\",1,\"ab\",[1]\n",
-        "[\"text\",1]\n",
+    for (input, line) in [
+        ("", "session line 1: header\n"),
+        ("\n", "session line 1: json\n"),
+        ("[\"zedbuf\",1,\"ab\",[1,1]]\n", "session line 1: header\n"),
+        ("[\"zedbuf\",1,\"ab\",[1,2]\n", "session line 1: json\n"),
+        (
+            "[\"zedbuf\",1,\"ab\",[1,2]]\n[\"text\",1]\n[\"text\",1",
+            "session line 3: json\n",
+        ),
+        (
+            "[\"zedbuf\",1,\"ab\",[1,2]]\n\n[\"text\",1]\n",
+            "session line 2: json\n",
+        ),
+        (
+            "[\"zedbuf\",1,\"ab\",[1,2]]\n[\"text\",3]\n",
+            "session line 2: replica\n",
+        ),
+        (
+            "[\"zedbuf\",1,\"ab\",[1,2]]\n[\"edit\",3,[]]\n",
+            "session line 2: replica\n",
+        ),
+        (
+            "[\"zedbuf\",1,\"ab\",[1,2]]\n[\"text\"]\n",
+            "session line 2: shape\n",
+        ),
+        (
+            "[\"zedbuf\",1,\"ab\",[1,2]]\n[\"jump\",1]\n",
+            "session line 2: shape\n",
+        ),
+        (
+            "[\"zedbuf\",1,\"ab\",[1,2]]\n[\"point\",1,1.0]\n",
+            "session line 2: shape\n",
+        ),
+        (
+            "[\"zedbuf\",1,\"ab\",[1,2]]\n[\"op\",[2,1],[[0,1],[0,1]],[]]\n",
+            "session line 2: shape\n",
+        ),
+        (
+            "[\"zedbuf\",1,\"ab\",[1,2]]\n[\"edit\",3,[[0,0]]]\n",
+            "session line 2: shape\n",
+        ),
+        (
+            "[\"zedbuf\",1,\"ab\",[1,2]]\n[\"undo\",1,[1]]\n",
+            "session line 2: shape\n",
+        ),
     ] {
-        replays(
-            &rt,
-            alloc,
-            input.as_bytes(),
-            Status::Session,
-            "session line 1: shape\n",
-        )?;
+        replays(&rt, alloc, input.as_bytes(), Status::Session, line)?;
     }
-    for line in [
-        "[\"undo\",1,[1]]",
-        "[\"text\",2]",
-        "[\"text\",1.0]",
-        "[\"text\",1e0]",
-        "[\"text\"]",
-        "[\"text\",1",
-        "[\"text\",1,1]",
-        "[\"jump\",1]",
-        "[\"edit\",1,[[-0,0,\"\"]]]",
-        "[\"edit\",1,[[0,18446744073709551616,\"\"]]]",
-        "[\"edit\",1,[[0,0]]]",
-        "[\"edit\",1,[[0,0,7]]]",
-        "{\"text\":1}",
-        "\"text\"",
-        "",
-    ] {
-        let input = format!(in alloc;
-            "[\"zedbuf\",1,\"ab\",[1]]\n[\"text\",1]\n{line}\n[\"text\",1]\n"
-        )?;
-        replays(
-            &rt,
-            alloc,
-            input.as_bytes(),
-            Status::Session,
-            "session line 3: shape\n",
-        )?;
-    }
-    let header = b"[\"zedbuf\",1,\"ab\",[1]]\n[\"text\",1]\n\"\xff\"\n";
-    replays(
-        &rt,
-        alloc,
-        header,
-        Status::Session,
-        "session line 3: shape\n",
-    )?;
     Ok(())
 }
 
@@ -184,10 +180,10 @@ fn new_texts_at_their_limit(rt: HostRuntime) -> Result<(), Fail> {
         return Ok(());
     };
     let input = format!(in alloc;
-        "[\"zedbuf\",1,\"ab\",[1]]\n[\"edit\",1,[[0,0,\"{letters}a\"]]]\n[\"edit\",1,[[0,0,\"{letters}\"]]]\n"
+        "[\"zedbuf\",1,\"ab\",[1,2]]\n[\"edit\",1,[[0,0,\"{letters}a\"]]]\n[\"edit\",1,[[0,0,\"{letters}\"]]]\n"
     )?;
     let report = format!(in alloc;
-        "1: textlimit 65537\n2: 2.1\nreplica 1: 65538 bytes, 1 rows, 1 applied, 0 waiting, 0 refused\nfinal 1: \"{letters}ab\"\n"
+        "1: textlimit 65537\n2: 2.1\nreplica 1: 65538 bytes, 1 rows, 1 applied, 0 waiting, 0 refused\nfinal 1: \"{letters}ab\"\nreplica 2: 2 bytes, 1 rows, 0 applied, 0 waiting, 0 refused\nfinal 2: \"ab\"\n"
     )?;
     replays(&rt, alloc, input.as_bytes(), Status::Done, report.as_str())?;
     Ok(())
@@ -228,6 +224,7 @@ fn reads_and_writes_that_fail(rt: HostRuntime) -> Result<(), Fail> {
     assert_eq!(rt; src.counts().faults, 1);
     for (word, input, want) in [
         ("replay", SESSION, "1: 2.1\nt"),
+        ("replay", "[\"zedbuf\",1,\"ab\",[1,2]]\n", "replica "),
         ("replay", "[\"zedbuf\"]", "session "),
         ("jump", SESSION, "usage: z"),
     ] {
@@ -252,18 +249,19 @@ fn reads_and_writes_that_fail(rt: HostRuntime) -> Result<(), Fail> {
     Ok(())
 }
 
-// An input of so many spaces, each read as large as `run` asks for, of which the reads listed fail.
-fn of_spaces<R: Threads + Wait + Sync + Abort>(
+// An input of so many copies of a byte, each read as large as `run` asks for, of which the reads listed fail.
+fn of_copies<R: Threads + Wait + Sync + Abort>(
     rt: &R,
     alloc: Global,
-    count: usize,
+    input: (u8, usize),
     failing: &[u64],
     writes: &[u64],
     want: Status,
     output: &str,
 ) -> Result<(), AllocError> {
+    let (byte, count) = input;
     let mut src = MemSource::new(
-        copies(alloc, b' ', count)?,
+        copies(alloc, byte, count)?,
         usize::MAX,
         failing.to_vec(alloc)?,
     );
@@ -278,42 +276,48 @@ fn of_spaces<R: Threads + Wait + Sync + Abort>(
 }
 
 #[test]
-fn inputs_at_the_limit(rt: HostRuntime) -> Result<(), Fail> {
+fn inputs_at_the_limits(rt: HostRuntime) -> Result<(), Fail> {
     let alloc = rt.alloc();
-    let bad = "session line 1: shape\n";
-    let large = "too large: bytes\n";
-    // 65,536 bytes are asked for at a time, and the last read meets the end
-    of_spaces(&rt, alloc, 131_073, &[4], &[], Status::ReadFault, "")?;
-    of_spaces(&rt, alloc, 131_073, &[5], &[], Status::Session, bad)?;
-    of_spaces(&rt, alloc, LIMIT, &[1026], &[], Status::Session, bad)?;
-    // one byte past the limit, and no further read
-    of_spaces(
-        &rt,
-        alloc,
-        LIMIT + 70_000,
-        &[1025],
-        &[],
-        Status::ReadFault,
-        "",
-    )?;
-    of_spaces(
-        &rt,
-        alloc,
-        LIMIT + 70_000,
-        &[1026],
-        &[],
-        Status::TooLarge,
-        large,
-    )?;
-    of_spaces(
-        &rt,
-        alloc,
-        LIMIT + 1,
-        &[1026],
-        &[2],
-        Status::WriteFault,
-        "too larg",
-    )?;
+    let bad = "session line 1: json\n";
+    for (input, failing, writes, want, output) in [
+        // 65,536 bytes are asked for at a time, and the last read meets the end
+        ((b' ', 131_073), &[4u64][..], &[][..], Status::ReadFault, ""),
+        ((b' ', 131_073), &[5][..], &[][..], Status::Session, bad),
+        ((b' ', LIMIT), &[1026][..], &[][..], Status::Session, bad),
+        // one byte past the limit, and no further read
+        (
+            (b' ', LIMIT + 70_000),
+            &[1025][..],
+            &[][..],
+            Status::ReadFault,
+            "",
+        ),
+        (
+            (b' ', LIMIT + 70_000),
+            &[1026][..],
+            &[][..],
+            Status::TooLarge,
+            "too large: bytes\n",
+        ),
+        (
+            (b' ', LIMIT + 1),
+            &[1026][..],
+            &[2u64][..],
+            Status::WriteFault,
+            "too larg",
+        ),
+        // lines are counted before any is read
+        ((b'\n', 1_048_576), &[][..], &[][..], Status::Session, bad),
+        (
+            (b'\n', 1_048_577),
+            &[][..],
+            &[][..],
+            Status::TooLarge,
+            "too large: lines\n",
+        ),
+    ] {
+        of_copies(&rt, alloc, input, failing, writes, want, output)?;
+    }
     Ok(())
 }
 

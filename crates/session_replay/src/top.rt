@@ -4,15 +4,19 @@ ghost use Rattle.std.specs.Io.KnownBytes.{Appends};
 ghost use Rattle.session_replay.specs.Causes.{Rose, RoseBy};
 ghost use Rattle.session_replay.specs.Traffic.{AppendsFront, WasRead, WasTaken};
 ghost use Rattle.session_replay.specs.Words.{command_of};
-ghost use Rattle.session_replay.specs.Session.{decoded};
-ghost use Rattle.session_replay.specs.Replay.{Answered, Replays, answer_of, bad_line, large_line, output_of, usage_line};
-ghost use Rattle.session_replay.specs.declared.session.Session.{Session};
+ghost use Rattle.session_lines.specs.Cut.{lines_of};
+ghost use Rattle.session_lines.specs.Session.{decoded};
+ghost use Rattle.session_lines.specs.Words.{bad_line, many_line};
+ghost use Rattle.session_replay.specs.Replay.{Answered, Replays, answer_of, large_line, output_of, usage_line};
+ghost use Rattle.session_lines.specs.declared.session.Session.{Session};
+ghost use Rattle.session_lines.specs.declared.fault.Word.{Word};
+ghost use Rattle.session_lines.specs.declared.fault.DecodeFault.{DecodeFault};
 
-use crate::decode::{DecodeFault, decode};
 use crate::outside::{Gate, Sink, Source};
 use crate::replay::report;
 use crate::traffic::{InputFault, read_all, write_all};
 use crate::words::{Command, command_of};
+use session_lines::{DecodeFault, Word, decode};
 use std::alloc::{AllocError, Global};
 use std::sync::Wait;
 use std::thread::Threads;
@@ -39,50 +43,62 @@ pub enum Status {
 const USAGE: &str =
     "usage: zedbuf replay [--workers N] | check | make --seed N --replicas N --edits N\n";
 
+fn bytes_of(alloc: Global, text: &str) -> Result<Vec<u8>, AllocError>
+    ensures { IfOk result (λ v. v.items ≡ text.now) }
+{
+    text.as_bytes().to_vec(alloc)
+}
+
+/// The line for an input whose first bad line is that one.
+#[tactic(auto, unfolding(session_lines::specs::Words::bad_line))]
+fn bad_line(alloc: Global, line: u64, word: Word) -> Result<String, AllocError>
+    ensures { IfOk result (λ s. string_bytes s ≡ bad_line line word) }
+{
+    format!(in alloc; "session line {line}: {word}\n")
+}
+
 /// What is written for an input, with the status.
-#[tactic(auto, using(crate::proofs::Headers::decoded_fits), unfolding(crate::specs::Replay::answer_of))]
-fn answer(alloc: Global, input: &[u8]) -> Result<(Status, String), AllocError>
+#[tactic(auto, unfolding(crate::specs::Replay::answer_of))]
+fn answer(alloc: Global, input: &[u8]) -> Result<(Status, Vec<u8>), AllocError>
     requires { length input.now ≤ 67108864 }
-    ensures { IfOk result (λ p. answer_of input.now ≡ (p.0, string_bytes p.1)) }
+    ensures { IfOk result (λ p. answer_of input.now ≡ (p.0, p.1.items)) }
 {
     match decode(alloc, input) {
         Ok(session) => Ok((Status::Done, report(alloc, &session)?)),
-        Err(DecodeFault::Bad(n)) => {
-            Ok((
-                Status::Session,
-                format!(in alloc; "session line {n}: shape\n")?,
-            ))
+        Err(DecodeFault::Lines(_)) => {
+            Ok((Status::TooLarge, bytes_of(alloc, "too large: lines\n")?))
+        }
+        Err(DecodeFault::Bad { line, word }) => {
+            let text = bad_line(alloc, line, word)?;
+            Ok((Status::Session, bytes_of(alloc, text.as_str())?))
         }
         Err(DecodeFault::OutOfMemory) => Err(AllocError),
     }
 }
 
 /// Writes the text, and answers the status unless that fails.
-fn send<O: Sink>(out: &mut O, text: &str, status: Status) -> Status
+fn send<O: Sink>(out: &mut O, text: &[u8], status: Status) -> Status
     requires { status ≡ Status.WriteFault → ⊥ }
     ensures either { (result ≡ status) ⊎ (result ≡ Status.WriteFault) }
     ensures whole { result ≡ status → Appends (O.written out.old) (O.written out.new) text.now }
     ensures front { result ≡ Status.WriteFault → AppendsFront (O.written out.old) (O.written out.new) text.now }
     ensures cause { result ≡ Status.WriteFault → Rose (O.faults out.old) (O.faults out.new) }
 {
-    match write_all(out, text.as_bytes()) {
+    match write_all(out, text) {
         Ok(()) => status,
         Err(_) => Status::WriteFault,
     }
 }
 
 /// Reads all that there is, at most one byte past the limit, and answers it.
-fn answer_source<I: Source>(alloc: Global, src: &mut I) -> Result<(Status, String), InputFault>
-    ensures answer { IfOk result (λ p. Answered (I.left src.old) (I.left src.new) (I.given src.old) (I.given src.new) (I.ends src.old) (I.ends src.new) p.0 (string_bytes p.1)) }
+fn answer_source<I: Source>(alloc: Global, src: &mut I) -> Result<(Status, Vec<u8>), InputFault>
+    ensures answer { IfOk result (λ p. Answered (I.left src.old) (I.left src.new) (I.given src.old) (I.given src.new) (I.ends src.old) (I.ends src.new) p.0 p.1.items) }
     ensures failed { IsErrOf result InputFault.Failed → Rose (I.faults src.old) (I.faults src.new) }
     ensures bounded { I.given src.new ≤ I.given src.old + 67108865 }
 {
     match read_all(alloc, src) {
         Ok(input) => Ok(answer(alloc, input.as_slice())?),
-        Err(InputFault::TooLarge) => Ok((
-            Status::TooLarge,
-            String::from_str(alloc, "too large: bytes\n")?,
-        )),
+        Err(InputFault::TooLarge) => Ok((Status::TooLarge, bytes_of(alloc, "too large: bytes\n")?)),
         Err(fault) => Err(fault),
     }
 }
@@ -113,13 +129,16 @@ pub fn run<R: Threads + Wait + Sync, I: Source, O: Sink, G: Gate>(
     // Session: the input was read to its end, and has a first bad line.
     ensures session { result ≡ Status.Session → (input : List ℕ)
         × WasRead (I.left src.old) (I.left src.new) (I.given src.old) (I.given src.new) (I.ends src.old) (I.ends src.new) input
-        × ((n : ℕ) × (decoded input ≡ Err n) × Appends (O.written out.old) (O.written out.new) (bad_line n)) }
+        × ((n : ℕ) × (w : Word) × (decoded input ≡ Err (DecodeFault.Bad n w)) × Appends (O.written out.old) (O.written out.new) (bad_line n w)) }
     ensures ended { (result ≡ Status.Done) ⊎ (result ≡ Status.Session) → Rose (I.ends src.old) (I.ends src.new) }
 
-    // TooLarge: more than the limit was read.
-    ensures large { result ≡ Status.TooLarge → IfSome (I.left src.old) (λ input. 67108864 < length input)
-        × Appends (O.written out.old) (O.written out.new) large_line }
-    ensures passed { result ≡ Status.TooLarge → RoseBy 67108865 (I.given src.old) (I.given src.new) }
+    // TooLarge: more bytes than the limit were read, or the input was read to its end and has more lines than the limit.
+    ensures large { result ≡ Status.TooLarge →
+        (IfSome (I.left src.old) (λ input. 67108864 < length input) × RoseBy 67108865 (I.given src.old) (I.given src.new)
+        × Appends (O.written out.old) (O.written out.new) large_line)
+        ⊎ ((input : List ℕ)
+        × WasRead (I.left src.old) (I.left src.new) (I.given src.old) (I.given src.new) (I.ends src.old) (I.ends src.new) input
+        × (1048576 < length (lines_of input)) × Appends (O.written out.old) (O.written out.new) many_line) }
     ensures bounded { I.given src.new ≤ I.given src.old + 67108865 }
 
     // Faults come only where a count rose.
@@ -142,18 +161,18 @@ pub fn run<R: Threads + Wait + Sync, I: Source, O: Sink, G: Gate>(
         → (result ≡ Status.Done) ⊎ (result ≡ Status.Memory)) }
     ensures refuses { (Rose (I.faults src.old) (I.faults src.new) → ⊥) → (Rose (O.faults out.old) (O.faults out.new) → ⊥)
         → (workers : ℕ) → command_of words.now ≡ Some (Command.Replay workers)
-        → IfSome (I.left src.old) (λ input. (67108864 < length input) ⊎ ((n : ℕ) × (decoded input ≡ Err n))
+        → IfSome (I.left src.old) (λ input. (67108864 < length input) ⊎ ((e : DecodeFault) × (decoded input ≡ Err e))
         → (result ≡ Status.Session) ⊎ ((result ≡ Status.TooLarge) ⊎ (result ≡ Status.Memory))) }
 {
     let Some(Command::Replay { workers }) = command_of(words) else {
-        return send(out, USAGE, Status::Usage);
+        return send(out, USAGE.as_bytes(), Status::Usage);
     };
     // There are no queries yet: no worker is started, and the gate is not called.
     let _ = rt;
     let _ = gate;
     let _ = workers;
     match answer_source(alloc, src) {
-        Ok((status, text)) => send(out, text.as_str(), status),
+        Ok((status, text)) => send(out, text.as_slice(), status),
         Err(InputFault::Failed) => Status::ReadFault,
         Err(_) => Status::Memory,
     }

@@ -1,0 +1,12 @@
+use Rattle.std.proofs.Common.{◌≡◌, ◌+◌, ◌-◌, ◌≤◌, length, drop}
+use Rattle.fragments.specs.Kept.{shown_offset}
+use Rattle.fragments.proofs.offsets.seek.Given as goal
+
+abbrev pub invariant-loop-at : goal.invariant-loop-at
+invariant-loop-at l = record {
+  place : l.at + shown_offset (drop l.at l.cells) l.left ≡ l.initial.at + shown_offset (drop l.initial.at l.cells) l.initial.left;
+  within : l.at ≤ length l.cells;
+}
+
+abbrev pub decreases-loop-at : goal.decreases-loop-at
+decreases-loop-at l = length l.cells - l.at

@@ -1,0 +1,54 @@
+-- Cells as they are kept, and what they are of a history.
+use Rattle.std.specs.Prelude.{◌≡◌, true, ℕ, zero, suc, ◌-◌, ◌==◌, false, if◌then◌else◌, List, [], ◌∷◌, map}
+use Rattle.std.specs.List.{filter, list_any}
+use Rattle.lamport_clock.specs.declared.stamp.Lamport.{Lamport}
+use Rattle.lamport_clock.specs.Stamps.{later}
+use Rattle.lamport_clock.specs.Versions.{Entries, sees}
+use Rattle.op_model.specs.declared.operation.Piece.{Piece}
+use Rattle.op_model.specs.declared.operation.Operation.{Operation}
+use Rattle.op_model.specs.Sorted.{Each}
+use Rattle.op_model.specs.Operations.{is_edit}
+use Rattle.op_model.specs.Histories.{History, newest_first}
+use Rattle.op_model.specs.Cells.{Cell, seq, cells}
+use Rattle.op_model.specs.Shown.{byte, shown, deleters}
+use Rattle.op_model.specs.Facts.{with_deletion}
+use Rattle.fragments.specs.declared.cell.KeptCell.{KeptCell}
+
+-- a cell of h: its byte, whether it is shown, and the edits that delete it
+abbrev pub kept_cell : History → Cell → KeptCell
+kept_cell h c = record { stamp = c.stamp; number = c.k; byte = byte (newest_first h) c; visible = shown h c; deletions = deleters h c }
+
+-- the cells of h in order, hidden ones too
+abbrev pub kept_cells : History → List KeptCell
+kept_cells h = map (kept_cell h) (cells (seq h))
+
+-- a history of edits alone
+abbrev pub AllEdits : History → Type 0
+AllEdits h = Each (λ (o : Operation). is_edit o ≡ true) h
+
+-- the bytes of the cells that are shown
+abbrev pub shown_bytes : List KeptCell → List ℕ
+shown_bytes s = map (λ (c : KeptCell). c.byte) (filter (λ (c : KeptCell). c.visible) s)
+
+-- a cell in a range of an edit t with version v, where nothing is undone: it is deleted where no edit that v sees deletes it
+abbrev pub marked : Lamport → Entries → KeptCell → KeptCell
+marked t v c = if list_any (λ u. sees v u) c.deletions then c
+    else record { stamp = c.stamp; number = c.number; byte = c.byte; visible = false; deletions = with_deletion t c.deletions }
+
+-- the number of stamps at the front that t is not later than
+abbrev pub place_of : Lamport → List Lamport → ℕ
+place_of t [] = 0
+place_of t (u ∷ s) = if later t u then 0 else suc (place_of t s)
+
+-- the number of all cells before shown cell o, or of all where there is none
+abbrev pub shown_offset : List KeptCell → ℕ → ℕ
+shown_offset [] o = 0
+shown_offset (c ∷ s) zero = if c.visible then 0 else suc (shown_offset s zero)
+shown_offset (c ∷ s) (suc o) = suc (shown_offset s (if c.visible then o else suc o))
+
+-- a piece whose range counts shown cells, taken to a range that counts all: an empty range stays empty, another ends one past its
+-- last shown cell
+abbrev pub full_range : List KeptCell → Piece → Piece
+full_range s p =
+    let at : ℕ → ℕ = shown_offset s in
+    record { start = at p.start; end = if p.start == p.end then at p.start else suc (at (p.end - 1)); text = p.text }

@@ -1,0 +1,52 @@
+-- One walk over cells, from the first piece of an edit to the last.
+use Rattle.std.specs.Prelude.{ℕ, zero, suc, ◌+◌, ◌-◌, Bool, true, false, if◌then◌else◌, List, [], ◌∷◌, ◌++◌, length}
+use Rattle.lamport_clock.specs.declared.stamp.Lamport.{Lamport}
+use Rattle.lamport_clock.specs.Stamps.{later}
+use Rattle.lamport_clock.specs.Versions.{Entries, sees}
+use Rattle.op_model.specs.declared.operation.Piece.{Piece}
+use Rattle.fragments.specs.declared.cell.KeptCell.{KeptCell}
+use Rattle.fragments.specs.Kept.{marked}
+
+-- what a walk has passed, and what is left
+pub record Passed : Type 0 where
+  pub out : List KeptCell
+  pub rest : List KeptCell
+
+abbrev pub push : KeptCell → Passed → Passed
+push c w = record { out = c ∷ w.out; rest = w.rest }
+
+abbrev pub touched : Bool → Lamport → Entries → KeptCell → KeptCell
+touched b t v c = if b then marked t v c else c
+
+-- over n cells that v sees, and what stands between them; those that v sees are marked where b says so
+abbrev pub pass_seen : Bool → Lamport → Entries → ℕ → List KeptCell → Passed
+pass_seen b t v zero s = record { out = []; rest = s }
+pass_seen b t v (suc n) [] = record { out = []; rest = [] }
+pass_seen b t v (suc n) (c ∷ s) =
+    if sees v c.stamp then push (touched b t v c) (pass_seen b t v n s)
+    else push c (pass_seen b t v (suc n) s)
+
+-- over the cells that are later than t
+abbrev pub pass_later : Lamport → List KeptCell → Passed
+pass_later t [] = record { out = []; rest = [] }
+pass_later t (c ∷ s) = if later c.stamp t then push c (pass_later t s) else record { out = []; rest = c ∷ s }
+
+-- the new cells of edit t from number k on
+abbrev pub new_cells : Lamport → ℕ → List ℕ → List KeptCell
+new_cells t k [] = []
+new_cells t k (b ∷ bs) = record { stamp = t; number = k; byte = b; visible = true; deletions = [] } ∷ new_cells t (suc k) bs
+
+-- from `at` cells that v sees to the end of a piece: to its start, past what is later, its text, and its range marked
+abbrev pub pass_piece : Lamport → Entries → ℕ → ℕ → Piece → List KeptCell → Passed
+pass_piece t v at k p s =
+    let a : Passed = pass_seen false t v (p.start - at) s in
+    let b : Passed = pass_later t a.rest in
+    let d : Passed = pass_seen true t v (p.end - p.start) b.rest in
+    record { out = a.out ++ (b.out ++ (new_cells t k p.text ++ d.out)); rest = d.rest }
+
+-- all pieces, from the first to the last, and the rest
+abbrev pub laid_from : Lamport → Entries → ℕ → ℕ → List Piece → List KeptCell → List KeptCell
+laid_from t v at k [] s = s
+laid_from t v at k (p ∷ ps) s =
+    let w : Passed = pass_piece t v at k p s in
+    w.out ++ laid_from t v p.end (k + length p.text) ps w.rest

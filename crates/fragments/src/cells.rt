@@ -1,0 +1,91 @@
+// The cells of a history, in order.
+ghost use Rattle.std.specs.Prelude.{◌≡◌, ◌≤◌, ◌++◌, ◌∷◌, [], true, length, map, IfOk, IsUtf8, string_bytes};
+ghost use Rattle.op_model.specs.Sorted.{Each};
+ghost use Rattle.op_model.specs.Operations.{is_edit, text_total};
+ghost use Rattle.op_model.specs.Histories.{History, base};
+ghost use Rattle.op_model.specs.declared.operation.Operation.TheVariants.{Edit};
+ghost use Rattle.op_model.specs.Answers.{answer};
+ghost use Rattle.op_model.specs.Answers.Answer.{Good};
+ghost use Rattle.op_model.specs.Lawful.{Lawful};
+ghost use Rattle.op_model.specs.Made.{full_piece};
+ghost use Rattle.op_model.specs.Walked.{Ordered};
+ghost use Rattle.fragments.specs.Kept.{kept_cells, shown_bytes, AllEdits};
+
+use crate::KeptCell;
+use crate::offsets::full_pieces;
+use crate::walk::{base_cells, laid};
+use op_model::{EditOp, Piece, Pieces};
+use std::alloc::{AllocError, Global};
+use std::marker::Model;
+
+/// The cells of a history in order, hidden ones too, seen as their list.
+#[derive(Drop)]
+pub struct Cells {
+    inner: Vec<KeptCell>,
+}
+
+impl Model for Cells {
+    ghost use Rattle.std.specs.Prelude.{List};
+    ghost use Rattle.fragments.specs.declared.cell.KeptCell.{KeptCell};
+
+    ghost Value = { List KeptCell };
+
+    ghost view = { λ c. c.inner.items };
+}
+
+impl Cells {
+    /// The cells of a base alone. Linear in the base.
+    pub fn over(alloc: Global, text: &str) -> Result<Cells, AllocError>
+        ensures { IfOk result (λ c. c ≡ kept_cells (base text.now ∷ [])) }
+    {
+        Ok(Cells {
+            inner: base_cells(alloc, text)?,
+        })
+    }
+
+    /// The cells, in order.
+    pub fn as_slice(&self) -> &[KeptCell]
+        ensures { result.now ≡ self.now }
+    {
+        self.inner.as_slice()
+    }
+
+    /// The bytes of the shown cells, which are UTF-8. Linear in the cells.
+    pub fn text(&self, alloc: Global) -> Result<String, AllocError>
+        requires { IsUtf8 (shown_bytes self.now) }
+        ensures { IfOk result (λ s. string_bytes s ≡ shown_bytes self.now) }
+    {
+        let bytes = shown_in(alloc, self.inner.as_slice())?;
+        // The bytes are UTF-8, as the call requires.
+        Ok(unsafe { String::from_utf8_unchecked(bytes) })
+    }
+
+    /// Changes of the shown text as pieces of an edit: ranges that count shown cells, none of them reversed, before the one before
+    /// it or past the end, with ranges that count all cells. Linear in cells and changes.
+    pub fn full_pieces(&self, alloc: Global, changes: &[Piece]) -> Result<Pieces, AllocError>
+        requires { Ordered 0 (length (shown_bytes self.now)) changes.now }
+        ensures { IfOk result (λ ps. (h : History) → self.now ≡ kept_cells h → ps ≡ map (full_piece h) changes.now) }
+    {
+        Ok(Pieces::new(full_pieces(alloc, self.inner.as_slice(), changes)?))
+    }
+
+    /// The cells with an edit laid in: where these are the cells of a lawful history of edits alone, and the edit is good there,
+    /// those of the history with the edit. Each new text stands after its left neighbour, past the cells there of later edits, and
+    /// the cells in the edit's ranges are deleted where they were shown to its author. One walk: linear in cells and pieces.
+    pub fn lay(&self, alloc: Global, edit: &EditOp) -> Result<Cells, AllocError>
+        requires { text_total edit.now.pieces ≤ 65536 }
+        ensures { IfOk result (λ c. (h : History) → self.now ≡ kept_cells h → Lawful h → AllEdits h → answer h [] (Edit edit.now) ≡ Good → c ≡ kept_cells (h ++ Edit edit.now ∷ [])) }
+    {
+        Ok(Cells {
+            inner: laid(alloc, edit, self.inner.as_slice())?,
+        })
+    }
+}
+
+// The bytes of the shown cells.
+fn shown_in(alloc: Global, cells: &[KeptCell]) -> Result<Vec<u8>, AllocError>
+    ensures { IfOk result (λ bytes. bytes.items ≡ shown_bytes cells.now) }
+{
+    let shown = cells.iter().filter(|cell| cell.visible);
+    shown.map(|cell| cell.byte).collect(alloc)
+}

@@ -1,0 +1,9 @@
+use Rattle.std.proofs.Common.{◌≡◌, length, drop}
+use Rattle.op_model.specs.Answers.{same_list, same_count}
+use Rattle.op_model.proofs.same.same_counts.Given as goal
+
+abbrev pub invariant-loop-i : goal.invariant-loop-i
+invariant-loop-i l = record {
+  long : length l.a ≡ length l.b;
+  same : same_list same_count l.a l.b ≡ same_list same_count (drop l.i l.a) (drop l.i l.b);
+}

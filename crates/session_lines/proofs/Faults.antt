@@ -1,0 +1,70 @@
+-- Which faults the reading of a text has.
+use Rattle.std.proofs.Common.{◌≡◌, ℕ, ◌+◌, ◌<◌, ◌≤◌, ◌⊎◌, inl, Bool, true, false, cond, nat_lt, List, [], ◌∷◌, ◌++◌, length, Result, Ok, Err, refl, sym, ap, ◌∙◌, subst, arith}
+use Rattle.std.specs.Prelude.{⊤}
+use Rattle.std.proofs.lemmas.Bool.{lt-ltb, le-ltb, ltb-true}
+use Rattle.session_lines.specs.Cut.{lines_of}
+use Rattle.session_lines.specs.Session.{then_from, with_header, rest_of, header_of, line_of, session_of, decoded}
+use Rattle.session_lines.specs.declared.header.Header.{Header}
+use Rattle.session_lines.specs.declared.session.SessionLine.{SessionLine}
+use Rattle.session_lines.specs.declared.session.Session.{Session}
+use Rattle.session_lines.specs.declared.fault.Word.{Word}
+use Rattle.session_lines.specs.declared.fault.DecodeFault.{DecodeFault}
+use Rattle.session_lines.specs.declared.fault.DecodeFault.TheVariants.{Lines, Bad, OutOfMemory}
+
+-- ---- lines are counted before any is read
+
+pub decoded_many : (input : List ℕ) → 1048576 < length (lines_of input) → decoded input ≡ Err (Lines (length (lines_of input)))
+unfolding decoded
+decoded_many input h = ap (λ b. cond b (Err (Lines (length (lines_of input)))) (session_of (lines_of input))) (lt-ltb 1048576 (length (lines_of input)) h)
+
+pub decoded_few : (input : List ℕ) → length (lines_of input) ≤ 1048576 → decoded input ≡ session_of (lines_of input)
+unfolding decoded
+decoded_few input h = ap (λ b. cond b (Err (Lines (length (lines_of input)))) (session_of (lines_of input))) (le-ltb 1048576 (length (lines_of input)) h)
+
+-- ---- else a line is bad
+
+abbrev IsBad : {A : Type 0} → Result A DecodeFault → Type 0
+IsBad (Ok x) = ⊤
+IsBad (Err (Lines n)) = ⊥
+IsBad (Err (Bad n w)) = ⊤
+IsBad (Err OutOfMemory) = ⊥
+
+then_bad : {A B : Type 0} (n : ℕ) (r : Result A Word) (next : A → Result B DecodeFault) → ((x : A) → IsBad (next x)) → IsBad (then_from n r next)
+then_bad n (Err w) next h = tt
+then_bad n (Ok x) next h = h x
+
+rest_bad : (ids : List ℕ) (before : List SessionLine) (ls : List (List ℕ)) → IsBad (rest_of ids before ls)
+rest_bad ids before [] = tt
+rest_bad ids before (l ∷ ls) = then_bad (2 + length before) (line_of ids l) (λ x. rest_of ids (before ++ x ∷ []) ls) (λ x. rest_bad ids (before ++ x ∷ []) ls)
+
+with_bad : (h : Header) (r : Result (List SessionLine) DecodeFault) → IsBad r → IsBad (with_header h r)
+with_bad h (Ok ls) b = tt
+with_bad h (Err (Lines n)) b = b
+with_bad h (Err (Bad n w)) b = tt
+with_bad h (Err OutOfMemory) b = b
+
+session_bad : (ls : List (List ℕ)) → IsBad (session_of ls)
+session_bad [] = tt
+session_bad (l ∷ ls) = then_bad 1 (header_of l) (λ h. with_header h (rest_of h.replicas [] ls)) (λ h. with_bad h (rest_of h.replicas [] ls) (rest_bad h.replicas [] ls))
+
+not_bad : (ls : List (List ℕ)) (e : DecodeFault) → session_of ls ≡ Err e → IsBad {A = Session} (Err e)
+not_bad ls e h = subst (IsBad {A = Session}) h (session_bad ls)
+
+-- too many lines are told only where there are too many
+lines_by : (input : List ℕ) (n : ℕ) (b : Bool) → nat_lt 1048576 (length (lines_of input)) ≡ b
+    → cond b (Err (Lines (length (lines_of input)))) (session_of (lines_of input)) ≡ Err (Lines n) → 1048576 < length (lines_of input)
+lines_by input n true l e = ltb-true 1048576 (length (lines_of input)) l
+lines_by input n false l e = absurd (not_bad (lines_of input) (Lines n) e)
+
+pub too_many : (input : List ℕ) (n : ℕ) → decoded input ≡ Err (Lines n) → 1048576 < length (lines_of input)
+unfolding decoded
+too_many input n e = lines_by input n (nat_lt 1048576 (length (lines_of input))) refl e
+
+never_by : (input : List ℕ) (b : Bool) → cond b (Err (Lines (length (lines_of input)))) (session_of (lines_of input)) ≡ Err OutOfMemory → ⊥
+never_by input true e = cc
+never_by input false e = not_bad (lines_of input) OutOfMemory e
+
+-- want of memory is no part of what a text is
+pub never_memory : (input : List ℕ) → decoded input ≡ Err OutOfMemory → ⊥
+unfolding decoded
+never_memory input e = never_by input (nat_lt 1048576 (length (lines_of input))) e

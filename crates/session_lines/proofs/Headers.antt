@@ -1,0 +1,157 @@
+-- What a session keeps of its header: a base no longer than the text, and 1 to 64 distinct ids of editors.
+use Rattle.std.proofs.Common.{◌≡◌, ℕ, suc, ◌≤◌, Bool, true, false, cond, ◌&&◌, ◌==◌, nat_le, List, [], ◌∷◌, length, get_or, Option, Some, None, option_map, option_and_then, Result, Ok, Err, refl, subst, arith}
+use Rattle.std.specs.Prelude.{⊤, codes}
+use Rattle.std.specs.List.{All, list_all}
+use Rattle.std.specs.Str.{is_utf8}
+use Rattle.std.proofs.lemmas.Bool.{and_parts, leb-true}
+use Rattle.std.proofs.lemmas.List.Sums.{AllPass-from_list_all}
+use Rattle.serde_json.specs.Data.{Data, Items, no_items, item}
+use Rattle.serde_json.specs.Find.{as_str, as_array}
+use Rattle.serde_json.specs.Read.{read}
+use Rattle.session_lines.specs.Json.{value_of, list_of, listed, is_text, is_number}
+use Rattle.session_lines.specs.Cut.{lines_of, onto_first}
+use Rattle.session_lines.specs.Forms.{all_of, id_of}
+use Rattle.session_lines.specs.Heading.{is_editor, are_distinct, are_replicas, replicas_from, header_with, header_from, headed}
+use Rattle.session_lines.specs.Session.{or_word, header_read, header_of, then_from, rest_of, with_header, session_of, IsSession}
+use Rattle.session_lines.specs.declared.header.Header.{Header}
+use Rattle.session_lines.specs.declared.session.SessionLine.{SessionLine}
+use Rattle.session_lines.specs.declared.session.Session.{Session}
+use Rattle.session_lines.specs.declared.fault.Word.{Word}
+use Rattle.session_lines.specs.declared.fault.Word.TheVariants as word
+use Rattle.session_lines.specs.declared.fault.DecodeFault.{DecodeFault}
+use Rattle.session_lines.proofs.Strings.{AtMost, ItemsOf, MembersOf, IsShortString, AreShortStrings, read-short}
+
+-- ---- the members of a line
+
+abbrev AreShortMembers : ℕ → List Data → Type 0
+AreShortMembers n [] = ⊤
+AreShortMembers n (d ∷ ds) = IsShortString n d × AreShortMembers n ds
+
+of_list : (n : ℕ) (ds : Items) → AreShortStrings n ds → AreShortMembers n (list_of ds)
+of_list n no_items h = tt
+of_list n (item d ds) h = (h.0, of_list n ds h.1)
+
+abbrev ListOf : ℕ → Option (List Data) → Type 0
+ListOf n None = ⊤
+ListOf n (Some ds) = AreShortMembers n ds
+
+of_items : (n : ℕ) (o : Option Items) → ItemsOf n o → ListOf n (option_map list_of o)
+of_items n None h = tt
+of_items n (Some ds) h = of_list n ds h
+
+value_short : (line : List ℕ) → MembersOf (length line) (value_of line)
+unfolding value_of
+value_short line = elim (is_utf8 line) as (λ b. MembersOf (length line) (cond b (read line) None)) [ true ↦ read-short line | false ↦ tt ]
+
+-- ---- the header
+
+abbrev Fits : ℕ → Header → Type 0
+Fits n h = (length h.base ≤ n) × (are_replicas h.replicas ≡ true)
+
+abbrev HeaderOf : ℕ → Option Header → Type 0
+HeaderOf n None = ⊤
+HeaderOf n (Some h) = Fits n h
+
+abbrev IdsOf : Option (List ℕ) → Type 0
+IdsOf None = ⊤
+IdsOf (Some ids) = are_replicas ids ≡ true
+
+checked : (ids : List ℕ) (b : Bool) → are_replicas ids ≡ b → IdsOf (cond b (Some ids) None)
+checked ids true e = e
+checked ids false e = tt
+
+ids_checked : (o : Option (List ℕ)) → IdsOf (option_and_then (λ ids. cond (are_replicas ids) (Some ids) None) o)
+ids_checked None = tt
+ids_checked (Some ids) = checked ids (are_replicas ids) refl
+
+ids_listed : (o : Option (List Data)) → IdsOf (option_and_then replicas_from o)
+ids_listed None = tt
+ids_listed (Some ds) = ids_checked (all_of id_of ds)
+
+with_both : (n : ℕ) (b : Option (List ℕ)) (rs : Option (List ℕ)) → AtMost n b → IdsOf rs → HeaderOf n (header_with b rs)
+with_both n None rs h i = tt
+with_both n (Some base) None h i = tt
+with_both n (Some base) (Some ids) h i = (h, i)
+
+either : (n : ℕ) (b : Bool) (h : Option Header) → HeaderOf n h → HeaderOf n (cond b h None)
+either n true h f = f
+either n false h f = tt
+
+from_members : (n : ℕ) (ds : List Data) → AreShortMembers n ds → HeaderOf n (header_from ds)
+from_members n [] h = tt
+from_members n (a ∷ []) h = tt
+from_members n (a ∷ b ∷ []) h = tt
+from_members n (a ∷ b ∷ c ∷ []) h = tt
+from_members n (w ∷ v ∷ b ∷ rs ∷ []) h =
+    either n (is_text (codes "zedbuf") w && is_number 1 v) _ (with_both n (as_str b) (option_and_then replicas_from (listed rs)) h.1.1.0 (ids_listed (listed rs)))
+from_members n (a ∷ b ∷ c ∷ d ∷ e ∷ ds) h = tt
+
+from_list : (n : ℕ) (o : Option (List Data)) → ListOf n o → HeaderOf n (option_and_then header_from o)
+from_list n None h = tt
+from_list n (Some ds) h = from_members n ds h
+
+headed_short : (n : ℕ) (d : Data) → MembersOf n (Some d) → HeaderOf n (headed d)
+unfolding headed
+headed_short n d h = from_list n (listed d) (of_items n (as_array d) h)
+
+abbrev HeaderRead : ℕ → Result Header Word → Type 0
+HeaderRead n (Err w) = ⊤
+HeaderRead n (Ok h) = Fits n h
+
+or_short : (n : ℕ) (w : Word) (o : Option Header) → HeaderOf n o → HeaderRead n (or_word w o)
+or_short n w None h = tt
+or_short n w (Some x) h = h
+
+read_short : (n : ℕ) (o : Option Data) → MembersOf n o → HeaderRead n (header_read o)
+read_short n None h = tt
+read_short n (Some d) h = or_short n word.Header (headed d) (headed_short n d h)
+
+header_short : (line : List ℕ) → HeaderRead (length line) (header_of line)
+unfolding header_of
+header_short line = read_short (length line) (value_of line) (value_short line)
+
+-- ---- the session
+
+abbrev IsFirst : ℕ → List (List ℕ) → Type 0
+IsFirst n [] = ⊤
+IsFirst n (l ∷ ls) = length l ≤ n
+
+one_longer : (x n : ℕ) (ls : List (List ℕ)) → IsFirst n ls → IsFirst (suc n) (onto_first x ls)
+one_longer x n [] h = omega arith
+one_longer x n (l ∷ ls) h = omega arith
+
+line_or : (b : Bool) (x n : ℕ) (ls : List (List ℕ)) → IsFirst n ls → IsFirst (suc n) (cond b ([] ∷ ls) (onto_first x ls))
+line_or true x n ls h = omega arith
+line_or false x n ls h = one_longer x n ls h
+
+first_short : (text : List ℕ) → IsFirst (length text) (lines_of text)
+first_short [] = tt
+first_short (x ∷ xs) = line_or (x == 10) x (length xs) (lines_of xs) (first_short xs)
+
+-- each of the ids is an editor's
+editors_of : (ids : List ℕ) → are_replicas ids ≡ true → All (λ (r : ℕ). (1 ≤ r) × (r ≤ 1023)) ids
+editors_of ids e =
+    let p = and_parts (nat_le 1 (length ids) && nat_le (length ids) 64) (list_all is_editor ids && are_distinct ids) e in
+    let q = and_parts (list_all is_editor ids) (are_distinct ids) p.1 in
+    λ k d l.
+    let x = and_parts (nat_le 1 (get_or ids k d)) (nat_le (get_or ids k d) 1023) (AllPass-from_list_all is_editor ids q.0 k d l) in
+    (leb-true 1 (get_or ids k d) x.0, leb-true (get_or ids k d) 1023 x.1)
+
+abbrev SessionOf : ℕ → Result Session DecodeFault → Type 0
+SessionOf n (Err e) = ⊤
+SessionOf n (Ok s) = IsSession n s
+
+with_lines : (n m : ℕ) (h : Header) (r : Result (List SessionLine) DecodeFault) → n ≤ m → Fits n h → SessionOf m (with_header h r)
+with_lines n m h (Err e) le f = tt
+with_lines n m h (Ok ls) le f = record { version = refl; base = omega (arith, f.0); replicas = f.1; editors = editors_of h.replicas f.1 }
+
+headed_lines : (n m : ℕ) (r : Result Header Word) (ls : List (List ℕ)) → n ≤ m → HeaderRead n r → SessionOf m (then_from 1 r (λ h. with_header h (rest_of h.replicas [] ls)))
+headed_lines n m (Err w) ls le f = tt
+headed_lines n m (Ok h) ls le f = with_lines n m h (rest_of h.replicas [] ls) le f
+
+from_lines : (n : ℕ) (ls : List (List ℕ)) → IsFirst n ls → SessionOf n (session_of ls)
+from_lines n [] h = tt
+from_lines n (l ∷ ls) h = headed_lines (length l) n (header_of l) ls h (header_short l)
+
+pub is_session : (input : List ℕ) (s : Session) → session_of (lines_of input) ≡ Ok s → IsSession (length input) s
+is_session input s e = subst (SessionOf (length input)) e (from_lines (length input) (lines_of input) (first_short input))

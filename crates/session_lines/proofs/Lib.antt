@@ -1,0 +1,6 @@
+pub mod Lines
+pub mod Cut
+pub mod Strings
+pub mod Headers
+pub mod Faults
+pub mod Rows

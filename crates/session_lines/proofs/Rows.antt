@@ -1,0 +1,58 @@
+-- Worked rows: which session a text is, or which line is bad, and how. The definitions compute.
+use Rattle.std.proofs.Common.{◌≡◌, [], ◌∷◌, Ok, Err, refl}
+use Rattle.std.specs.Prelude.{codes}
+use Rattle.std.specs.Str.{is_utf8, chars}
+use Rattle.serde_json.proofs.OnLiterals.{serde_json_on_literals}
+use Rattle.session_lines.specs.Json.{value_of}
+use Rattle.session_lines.specs.Cut.{lines_of}
+use Rattle.session_lines.specs.Forms.{shaped}
+use Rattle.session_lines.specs.Heading.{headed}
+use Rattle.session_lines.specs.Session.{decoded, header_of, line_of}
+use Rattle.session_lines.specs.declared.session.SessionLine.TheVariants.{Edit, Text}
+use Rattle.session_lines.specs.declared.fault.Word.TheVariants.{Json, Header, Shape, Replica}
+use Rattle.session_lines.specs.declared.fault.DecodeFault.TheVariants.{Bad}
+
+-- an empty line is one unless it is the last
+pub cut_lines : lines_of (codes "a\n\nb") ≡ codes "a" ∷ [] ∷ codes "b" ∷ []
+cut_lines = refl
+
+pub ended_lines : lines_of (codes "a\n") ≡ codes "a" ∷ []
+ended_lines = refl
+
+pub a_session : decoded (codes "[\"zedbuf\",1,\"ab\",[7,2]]\n[\"edit\",2,[[1,1,\"X\"]]]\n[\"text\",7]")
+    ≡ Ok (record { version = 1; base = codes "ab"; replicas = 7 ∷ 2 ∷ []; lines = Edit 2 (record { start = 1; end = 1; text = codes "X" } ∷ []) ∷ Text 7 ∷ [] })
+unfolding decoded value_of shaped headed header_of line_of is_utf8 chars serde_json_on_literals
+a_session = refl
+
+pub no_line : decoded (codes "") ≡ Err (Bad 1 Header)
+unfolding decoded
+no_line = refl
+
+pub an_empty_line : decoded (codes "\n") ≡ Err (Bad 1 Json)
+unfolding decoded value_of shaped headed header_of line_of is_utf8 chars serde_json_on_literals
+an_empty_line = refl
+
+pub no_replica : decoded (codes "[\"zedbuf\",1,\"ab\",[]]\n") ≡ Err (Bad 1 Header)
+unfolding decoded value_of shaped headed header_of line_of is_utf8 chars serde_json_on_literals
+no_replica = refl
+
+pub an_id_twice : decoded (codes "[\"zedbuf\",1,\"ab\",[1,1]]\n") ≡ Err (Bad 1 Header)
+unfolding decoded value_of shaped headed header_of line_of is_utf8 chars serde_json_on_literals
+an_id_twice = refl
+
+pub no_bracket : decoded (codes "[\"zedbuf\",1,\"ab\",[1]]\n[\"text\",1]\n[\"text\",1\n") ≡ Err (Bad 3 Json)
+unfolding decoded value_of shaped headed header_of line_of is_utf8 chars serde_json_on_literals
+no_bracket = refl
+
+pub a_fraction : decoded (codes "[\"zedbuf\",1,\"ab\",[1]]\n[\"text\",1.0]\n") ≡ Err (Bad 2 Shape)
+unfolding decoded value_of shaped headed header_of line_of is_utf8 chars serde_json_on_literals
+a_fraction = refl
+
+pub another_replica : decoded (codes "[\"zedbuf\",1,\"ab\",[1,2]]\n[\"text\",3]\n") ≡ Err (Bad 2 Replica)
+unfolding decoded value_of shaped headed header_of line_of is_utf8 chars serde_json_on_literals
+another_replica = refl
+
+-- a line of another replica that has no form of a line
+pub shape_first : decoded (codes "[\"zedbuf\",1,\"ab\",[1,2]]\n[\"edit\",3,[[0,0]]]\n") ≡ Err (Bad 2 Shape)
+unfolding decoded value_of shaped headed header_of line_of is_utf8 chars serde_json_on_literals
+shape_first = refl

@@ -1,0 +1,39 @@
+-- The header of a session.
+use Rattle.std.specs.Prelude.{ℕ, List, [], ◌∷◌, length, ◌&&◌, ◌==◌, not, nat_le, Bool, true, codes, Option, Some, None, option_map, option_and_then, if◌then◌else◌}
+use Rattle.std.specs.List.{list_any, list_all}
+use Rattle.serde_json.specs.Data.{Data}
+use Rattle.serde_json.specs.Find.{as_str}
+use Rattle.session_lines.specs.Json.{listed, is_text, is_number}
+use Rattle.session_lines.specs.Forms.{all_of, id_of}
+use Rattle.session_lines.specs.declared.header.Header.{Header}
+
+-- an editor's id
+abbrev pub is_editor : ℕ → Bool
+is_editor n = nat_le 1 n && nat_le n 1023
+
+-- r is one of the ids
+abbrev pub is_among : List ℕ → ℕ → Bool
+is_among ids r = list_any (λ x. x == r) ids
+
+abbrev pub are_distinct : List ℕ → Bool
+are_distinct [] = true
+are_distinct (r ∷ rs) = not (is_among rs r) && are_distinct rs
+
+-- 1 to 64 distinct ids of editors
+abbrev pub are_replicas : List ℕ → Bool
+are_replicas ids = (nat_le 1 (length ids) && nat_le (length ids) 64) && (list_all is_editor ids && are_distinct ids)
+
+-- the ids that the members are
+abbrev pub replicas_from : List Data → Option (List ℕ)
+replicas_from ds = option_and_then (λ ids. if are_replicas ids then Some ids else None) (all_of id_of ds)
+
+abbrev pub header_with : Option (List ℕ) → Option (List ℕ) → Option Header
+header_with b rs = option_and_then (λ base. option_map (λ ids. record { base = base; replicas = ids }) rs) b
+
+-- ["zedbuf", 1, BASE, [R, ..]]
+abbrev pub header_from : List Data → Option Header
+header_from (w ∷ v ∷ b ∷ rs ∷ []) = if is_text (codes "zedbuf") w && is_number 1 v then header_with (as_str b) (option_and_then replicas_from (listed rs)) else None
+header_from _ = None
+
+unfoldable pub headed : Data → Option Header
+headed d = option_and_then header_from (listed d)

@@ -1,0 +1,7 @@
+pub mod Json
+pub mod Words
+pub mod Cut
+pub mod Forms
+pub mod Heading
+pub mod Session
+pub mod Report

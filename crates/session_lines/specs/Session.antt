@@ -1,0 +1,89 @@
+-- Which session a text is, or its first bad line and the first word that applies to it.
+use Rattle.std.specs.Prelude.{◌≡◌, ℕ, ◌+◌, ◌≤◌, List, [], ◌∷◌, ◌++◌, length, not, nat_lt, Bool, true, Option, Some, None, Result, Ok, Err, if◌then◌else◌}
+use Rattle.std.specs.List.{All}
+use Rattle.op_model.specs.Choice.{first_of, when}
+use Rattle.serde_json.specs.Data.{Data}
+use Rattle.session_lines.specs.Json.{value_of}
+use Rattle.session_lines.specs.Cut.{lines_of}
+use Rattle.session_lines.specs.Forms.{shaped}
+use Rattle.session_lines.specs.Heading.{headed, is_among, are_replicas}
+use Rattle.session_lines.specs.declared.header.Header.{Header}
+use Rattle.session_lines.specs.declared.session.SessionLine.{SessionLine}
+use Rattle.session_lines.specs.declared.session.SessionLine.TheVariants.{Edit, Text}
+use Rattle.session_lines.specs.declared.session.Session.{Session}
+use Rattle.session_lines.specs.declared.fault.Word.{Word}
+use Rattle.session_lines.specs.declared.fault.Word.TheVariants as word
+use Rattle.session_lines.specs.declared.fault.DecodeFault.{DecodeFault}
+use Rattle.session_lines.specs.declared.fault.DecodeFault.TheVariants.{Lines, Bad}
+
+-- ---- one line
+
+-- the value, or the word for that there is none
+abbrev pub or_word : {A : Type 0} → Word → Option A → Result A Word
+or_word w None = Err w
+or_word w (Some x) = Ok x
+
+-- the header that a first line is
+abbrev pub header_read : Option Data → Result Header Word
+header_read None = Err word.Json
+header_read (Some d) = or_word word.Header (headed d)
+
+unfoldable pub header_of : List ℕ → Result Header Word
+header_of line = header_read (value_of line)
+
+-- the replica that acts in the line is in the header
+abbrev pub is_known : List ℕ → SessionLine → Bool
+is_known ids (Edit r ps) = is_among ids r
+is_known ids (Text r) = is_among ids r
+
+-- what is wrong with a line that has the form of one
+abbrev pub word_of : List ℕ → SessionLine → Option Word
+word_of ids line = first_of (when (not (is_known ids line)) word.Replica ∷ [])
+
+abbrev pub unless : {A : Type 0} → A → Option Word → Result A Word
+unless x None = Ok x
+unless x (Some w) = Err w
+
+abbrev pub formed : List ℕ → Option SessionLine → Result SessionLine Word
+formed ids None = Err word.Shape
+formed ids (Some line) = unless line (word_of ids line)
+
+abbrev pub line_read : List ℕ → Option Data → Result SessionLine Word
+line_read ids None = Err word.Json
+line_read ids (Some d) = formed ids (shaped d)
+
+-- the line of a session with these replicas that a later line is
+unfoldable pub line_of : List ℕ → List ℕ → Result SessionLine Word
+line_of ids line = line_read ids (value_of line)
+
+-- ---- all lines
+
+-- what comes of the line with number n: it is bad, or the lines go on behind what it is
+abbrev pub then_from : {A B : Type 0} → ℕ → Result A Word → (A → Result B DecodeFault) → Result B DecodeFault
+then_from n (Err w) next = Err (Bad n w)
+then_from n (Ok x) next = next x
+
+-- the lines behind the header, those `before` being read
+abbrev pub rest_of : List ℕ → List SessionLine → List (List ℕ) → Result (List SessionLine) DecodeFault
+rest_of ids before [] = Ok before
+rest_of ids before (l ∷ ls) = then_from (2 + length before) (line_of ids l) (λ x. rest_of ids (before ++ x ∷ []) ls)
+
+abbrev pub with_header : Header → Result (List SessionLine) DecodeFault → Result Session DecodeFault
+with_header h (Err e) = Err e
+with_header h (Ok ls) = Ok (record { version = 1; base = h.base; replicas = h.replicas; lines = ls })
+
+abbrev pub session_of : List (List ℕ) → Result Session DecodeFault
+session_of [] = Err (Bad 1 word.Header)
+session_of (l ∷ ls) = then_from 1 (header_of l) (λ h. with_header h (rest_of h.replicas [] ls))
+
+-- the session that a text is, or why it is none: lines are counted before any is read
+unfoldable pub decoded : List ℕ → Result Session DecodeFault
+decoded input = if nat_lt 1048576 (length (lines_of input)) then Err (Lines (length (lines_of input))) else session_of (lines_of input)
+
+-- ---- what every session is like that was read from so many bytes
+
+pub record IsSession (bytes : ℕ) (s : Session) : Type 0 where
+  pub version : s.version ≡ 1
+  pub base : length s.base ≤ bytes
+  pub replicas : are_replicas s.replicas ≡ true
+  pub editors : All (λ (r : ℕ). (1 ≤ r) × (r ≤ 1023)) s.replicas

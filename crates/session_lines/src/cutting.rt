@@ -1,0 +1,59 @@
+// The lines of a text.
+ghost use Rattle.std.specs.Prelude.{◌≡◌, ◌<◌, ◌∷◌, ◌==◌, ◌+◌, length};
+ghost use Rattle.std.specs.List.{position, position_or_len};
+ghost use Rattle.session_lines.specs.Cut.{feeds, lines_of};
+
+fn line_end(text: &[u8]) -> Option<usize>
+    ensures { result ≡ position (λ b. b == 10) text.now }
+{
+    text.iter().position(|b| *b == 10)
+}
+
+fn line_len(text: &[u8]) -> usize
+    ensures { result ≡ position_or_len (λ b. b == 10) text.now }
+{
+    match line_end(text) {
+        Some(end) => end,
+        None => text.len(),
+    }
+}
+
+/// The first line, and what stands behind it.
+pub fn first_line(text: &[u8]) -> (&[u8], &[u8])
+    requires { 0 < length text.now }
+    ensures cut { lines_of text.now ≡ result.0.now ∷ lines_of result.1.now }
+    ensures shorter { length result.1.now < length text.now }
+{
+    let end = line_len(text);
+    if end < text.len() {
+        (&text[..end], &text[end + 1..])
+    } else {
+        (text, &[])
+    }
+}
+
+/// How many line feeds a text has.
+pub fn feeds(text: &[u8]) -> usize
+    ensures { result ≡ feeds text.now }
+{
+    text.iter().filter(|b| **b == 10).count()
+}
+
+/// How many lines there are.
+#[tactic(auto, using(crate::proofs::Cut::lines_counted))]
+pub fn line_count(text: &[u8]) -> usize
+    ensures { result ≡ length (lines_of text.now) }
+{
+    if text.is_empty() {
+        return 0;
+    }
+    // a line feed at the end begins no line
+    1 + feeds(&text[..text.len() - 1])
+}
+
+/// How many rows a text has: one more than line feeds. Linear in the text.
+pub fn row_count(text: &str) -> u64
+    ensures { result ≡ feeds text.now + 1 }
+{
+    feeds(text.as_bytes()) as u64 + 1
+}

@@ -1,0 +1,138 @@
+// Reading a session from its bytes.
+ghost use Rattle.std.specs.Prelude.{◌≡◌, ◌<◌, ◌≤◌, ◌⊎◌, [], length, IfOk, IfErr, Ok, Err, None, Some};
+ghost use Rattle.session_lines.specs.Cut.{lines_of};
+ghost use Rattle.session_lines.specs.Heading.{is_among};
+ghost use Rattle.session_lines.specs.Session.{IsSession, decoded, header_of, is_known, line_of, rest_of, session_of, word_of};
+ghost use Rattle.session_lines.specs.declared.fault.Word.{Word};
+
+use crate::cutting::{first_line, line_count};
+use crate::fault::{DecodeFault, Word};
+use crate::forms::shaped;
+use crate::header::{Header, headed};
+use crate::line_value::{LineFault, value_of};
+use crate::session::{Session, SessionLine, SessionLines};
+use std::alloc::{AllocError, Global};
+
+/// The most lines of a session.
+const LINES: usize = 1_048_576;
+
+#[tactic(auto, unfolding(crate::specs::Session::header_of))]
+fn header_of(alloc: Global, line: &[u8]) -> Result<Header, LineFault>
+    ensures ok { IfOk result (λ h. header_of line.now ≡ Ok h) }
+    ensures bad { (w : Word) → result ≡ Err (LineFault.Bad w) → header_of line.now ≡ Err w }
+{
+    let value = value_of(alloc, line)?;
+    match headed(alloc, &value)? {
+        Some(header) => Ok(header),
+        None => Err(LineFault::Bad(Word::Header)),
+    }
+}
+
+// Whether the replica that acts in the line is in the header.
+fn is_known(replicas: &[u16], line: &SessionLine) -> bool
+    ensures { result ≡ is_known replicas.now line.now }
+{
+    match line {
+        SessionLine::Edit { replica, .. } => replicas.contains(replica),
+        SessionLine::Text { replica } => replicas.contains(replica),
+    }
+}
+
+fn word_of(replicas: &[u16], line: &SessionLine) -> Option<Word>
+    ensures { result ≡ word_of replicas.now line.now }
+{
+    if !is_known(replicas, line) {
+        return Some(Word::Replica);
+    }
+    None
+}
+
+#[tactic(auto, unfolding(crate::specs::Session::line_of))]
+fn line_of(alloc: Global, replicas: &[u16], line: &[u8]) -> Result<SessionLine, LineFault>
+    ensures ok { IfOk result (λ l. line_of replicas.now line.now ≡ Ok l) }
+    ensures bad { (w : Word) → result ≡ Err (LineFault.Bad w) → line_of replicas.now line.now ≡ Err w }
+{
+    let value = value_of(alloc, line)?;
+    let Some(line) = shaped(alloc, &value)? else {
+        return Err(LineFault::Bad(Word::Shape));
+    };
+    match word_of(replicas, &line) {
+        Some(word) => Err(LineFault::Bad(word)),
+        None => Ok(line),
+    }
+}
+
+fn rest_of(alloc: Global, replicas: &[u16], text: &[u8]) -> Result<SessionLines, DecodeFault>
+    ensures ok { IfOk result (λ ls. rest_of replicas.now [] (lines_of text.now) ≡ Ok ls) }
+    ensures fault { IfErr result (λ e. (rest_of replicas.now [] (lines_of text.now) ≡ Err e) ⊎ (e ≡ DecodeFault.OutOfMemory)) }
+{
+    let mut lines = Vec::new(alloc);
+    let mut rest = text;
+    while !rest.is_empty() {
+        let (line, after) = first_line(rest);
+        match line_of(alloc, replicas, line) {
+            Ok(line) => match lines.push(line) {
+                Ok(()) => {}
+                Err(_) => return Err(DecodeFault::OutOfMemory),
+            },
+            Err(LineFault::Bad(word)) => {
+                return Err(DecodeFault::Bad {
+                    line: 2 + lines.len() as u64,
+                    word,
+                });
+            }
+            Err(LineFault::OutOfMemory) => return Err(DecodeFault::OutOfMemory),
+        }
+        rest = after;
+    }
+    Ok(SessionLines::new(lines))
+}
+
+// The session that the lines of the text are, however many there are.
+fn session_of(alloc: Global, input: &[u8]) -> Result<Session, DecodeFault>
+    ensures ok { IfOk result (λ s. session_of (lines_of input.now) ≡ Ok s) }
+    ensures fault { IfErr result (λ e. (session_of (lines_of input.now) ≡ Err e) ⊎ (e ≡ DecodeFault.OutOfMemory)) }
+{
+    if input.is_empty() {
+        return Err(DecodeFault::Bad {
+            line: 1,
+            word: Word::Header,
+        });
+    }
+    let (line, after) = first_line(input);
+    match header_of(alloc, line) {
+        Ok(Header { base, replicas }) => {
+            let lines = rest_of(alloc, replicas.as_slice(), after)?;
+            Ok(Session {
+                version: 1,
+                base,
+                replicas,
+                lines,
+            })
+        }
+        Err(LineFault::Bad(word)) => Err(DecodeFault::Bad { line: 1, word }),
+        Err(LineFault::OutOfMemory) => Err(DecodeFault::OutOfMemory),
+    }
+}
+
+/// The session that the bytes are. Linear in their number; the session takes as much memory as the texts in it, and each
+/// line is read for itself.
+///
+/// # Errors
+///
+/// `Lines` exactly where there are more than 1,048,576 lines, with their number. Else `Bad` for the first bad line and the
+/// first word that applies to it; an input without a line is bad at line 1 with the word `header`. `OutOfMemory` only where
+/// there are not too many lines.
+#[tactic(auto, unfolding(crate::specs::Session::decoded), using(crate::proofs::Headers::is_session))]
+pub fn decode(alloc: Global, input: &[u8]) -> Result<Session, DecodeFault>
+    ensures ok { IfOk result (λ s. decoded input.now ≡ Ok s) }
+    ensures session { IfOk result (λ s. IsSession (length input.now) s) }
+    ensures lines { 1048576 < length (lines_of input.now) → result ≡ Err (DecodeFault.Lines (length (lines_of input.now))) }
+    ensures fault { IfErr result (λ e. (decoded input.now ≡ Err e) ⊎ ((length (lines_of input.now) ≤ 1048576) × (e ≡ DecodeFault.OutOfMemory))) }
+{
+    let count = line_count(input);
+    if count > LINES {
+        return Err(DecodeFault::Lines(count as u64));
+    }
+    session_of(alloc, input)
+}

@@ -1,0 +1,63 @@
+// Why an input is no session.
+ghost use Rattle.std.specs.Prelude.{◌≡◌, Some};
+ghost use Rattle.session_lines.specs.Words.{word_text};
+ghost use Rattle.session_lines.specs.declared.fault.DecodeFault.{DecodeFault};
+
+use std::alloc::{AllocError, AllocFailed};
+use std::fmt;
+use thiserror::Error;
+
+/// What is wrong with a bad line. Of several the first of these is told.
+#[derive(Clone, Copy, Debug, PartialEq, Eq)]
+pub enum Word {
+    /// The line is no JSON text.
+    Json,
+    /// It is the first line, and no header; or there is no line.
+    Header,
+    /// It is no line of any form.
+    Shape,
+    /// The replica that it names is not in the header.
+    Replica,
+}
+
+impl fmt::Display for Word {
+    ghost output = { λ w. Some (word_text w) };
+
+    fn fmt<W: fmt::Write>(&self, f: &mut fmt::Formatter<W>) -> fmt::Result {
+        match self {
+            Word::Json => write!(f, "json"),
+            Word::Header => write!(f, "header"),
+            Word::Shape => write!(f, "shape"),
+            Word::Replica => write!(f, "replica"),
+        }
+    }
+}
+
+/// Why an input is no session.
+#[derive(Clone, Copy, Debug, PartialEq, Eq, Error)]
+pub enum DecodeFault {
+    /// It has so many lines, more than 1,048,576.
+    #[error("{0} lines are more than 1048576")]
+    Lines(u64),
+    /// The number of its first bad line, counted from 1, and what is wrong with it.
+    #[error("line {line} is bad: {word}")]
+    Bad { line: u64, word: Word },
+    #[error("out of memory")]
+    OutOfMemory,
+}
+
+impl From<AllocError> for DecodeFault {
+    ghost from_gives = { λ _ e. e ≡ DecodeFault.OutOfMemory };
+
+    fn from(_: AllocError) -> Self {
+        DecodeFault::OutOfMemory
+    }
+}
+
+impl<T: Drop> From<AllocFailed<T>> for DecodeFault {
+    ghost from_gives = { λ _ e. e ≡ DecodeFault.OutOfMemory };
+
+    fn from(_: AllocFailed<T>) -> Self {
+        DecodeFault::OutOfMemory
+    }
+}

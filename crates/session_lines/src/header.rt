@@ -1,0 +1,115 @@
+// The header of a session.
+ghost use Rattle.std.specs.Prelude.{◌≡◌, map, option_map, option_and_then, IfOk, None, Some};
+ghost use Rattle.std.specs.List.{list_all};
+ghost use Rattle.serde_json.specs.View.{view};
+ghost use Rattle.session_lines.specs.Json.{listed};
+ghost use Rattle.session_lines.specs.Forms.{all_of, id_of};
+ghost use Rattle.session_lines.specs.Heading.{is_editor, are_distinct, are_replicas, replicas_from, header_from, headed};
+
+use crate::forms::id_of;
+use crate::line_value::{is_number, is_text, listed};
+use crate::session::Ids;
+use op_model::Text;
+use serde_json::Value;
+use std::alloc::{AllocError, Global};
+
+/// What the first line says.
+#[derive(Drop)]
+pub struct Header {
+    pub base: Text,
+    pub replicas: Ids,
+}
+
+fn are_editors(ids: &[u16]) -> bool
+    ensures { result ≡ list_all is_editor ids.now }
+{
+    ids.iter().all(|id| 1 <= *id && *id <= 1023)
+}
+
+fn are_distinct(ids: &[u16]) -> bool
+    ensures { result ≡ are_distinct ids.now }
+{
+    let mut rest = ids;
+    while let [first, others @ ..] = rest {
+        if others.contains(first) {
+            return false;
+        }
+        rest = others;
+    }
+    true
+}
+
+fn are_replicas(ids: &[u16]) -> bool
+    ensures { result ≡ are_replicas ids.now }
+{
+    (1 <= ids.len() && ids.len() <= 64) && (are_editors(ids) && are_distinct(ids))
+}
+
+fn ids_from(alloc: Global, members: &[Value]) -> Result<Option<Ids>, AllocError>
+    ensures { IfOk result (λ ids. ids ≡ all_of id_of (map view members.now)) }
+{
+    let mut ids = Vec::new(alloc);
+    for member in members {
+        match id_of(member) {
+            Some(id) => ids.push(id)?,
+            None => return Ok(None),
+        }
+    }
+    Ok(Some(Ids::new(ids)))
+}
+
+fn replicas_from(alloc: Global, members: &[Value]) -> Result<Option<Ids>, AllocError>
+    ensures { IfOk result (λ ids. ids ≡ replicas_from (map view members.now)) }
+{
+    match ids_from(alloc, members)? {
+        Some(ids) => {
+            if are_replicas(ids.as_slice()) {
+                Ok(Some(ids))
+            } else {
+                Ok(None)
+            }
+        }
+        None => Ok(None),
+    }
+}
+
+fn replicas_of(alloc: Global, value: &Value) -> Result<Option<Ids>, AllocError>
+    ensures { IfOk result (λ ids. ids ≡ option_and_then replicas_from (listed (view value.now))) }
+{
+    match listed(value) {
+        Some(members) => replicas_from(alloc, members),
+        None => Ok(None),
+    }
+}
+
+fn header_from(alloc: Global, members: &[Value]) -> Result<Option<Header>, AllocError>
+    ensures { IfOk result (λ h. h ≡ header_from (map view members.now)) }
+{
+    let [word, version, base, replicas] = members else {
+        return Ok(None);
+    };
+    if !(is_text(word, "zedbuf") && is_number(version, 1)) {
+        return Ok(None);
+    }
+    let Some(base) = base.as_str() else {
+        return Ok(None);
+    };
+    match replicas_of(alloc, replicas)? {
+        Some(replicas) => Ok(Some(Header {
+            base: Text::new(String::from_str(alloc, base)?),
+            replicas,
+        })),
+        None => Ok(None),
+    }
+}
+
+/// The header that a value is.
+#[tactic(auto, unfolding(crate::specs::Heading::headed))]
+pub fn headed(alloc: Global, value: &Value) -> Result<Option<Header>, AllocError>
+    ensures { IfOk result (λ h. h ≡ headed (view value.now)) }
+{
+    match listed(value) {
+        Some(members) => header_from(alloc, members),
+        None => Ok(None),
+    }
+}

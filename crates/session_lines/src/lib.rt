@@ -1,0 +1,24 @@
+//! The lines of a session and of its report: which session a text is, or its first bad line and what is wrong with it, and
+//! the text of each line that a report has.
+#![tactic(auto)]
+
+mod cutting;
+mod decoding;
+mod fault;
+mod forms;
+mod header;
+mod line_value;
+mod report;
+mod session;
+mod text;
+
+pub use cutting::row_count;
+pub use decoding::decode;
+pub use fault::{DecodeFault, Word};
+pub use lamport_clock::OutOfMemory;
+pub use report::Report;
+pub use session::{Ids, Session, SessionLine, SessionLines};
+pub use text::write_line;
+
+#[cfg(test)]
+mod tests;

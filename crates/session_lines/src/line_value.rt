@@ -1,0 +1,70 @@
+// A line as JSON.
+ghost use Rattle.std.specs.Prelude.{◌≡◌, map, option_map, IfOk, IsErrOf, None, Some, nat_eq, Err};
+ghost use Rattle.serde_json.specs.View.{view};
+ghost use Rattle.session_lines.specs.Json.{value_of, whole, listed, is_text, is_number};
+ghost use Rattle.session_lines.specs.declared.line_value.LineFault.{LineFault};
+ghost use Rattle.session_lines.specs.declared.fault.Word.{Word};
+
+use crate::fault::Word;
+use serde_json::Value;
+use std::alloc::{AllocError, Global};
+
+/// Why a line is none of a session.
+#[derive(Clone, Copy, Debug, PartialEq, Eq)]
+pub enum LineFault {
+    Bad(Word),
+    OutOfMemory,
+}
+
+impl From<AllocError> for LineFault {
+    ghost from_gives = { λ _ e. e ≡ LineFault.OutOfMemory };
+
+    fn from(_: AllocError) -> Self {
+        LineFault::OutOfMemory
+    }
+}
+
+/// The value that a line is.
+#[tactic(auto, unfolding(crate::specs::Json::value_of))]
+pub fn value_of(alloc: Global, line: &[u8]) -> Result<Value, LineFault>
+    ensures ok { IfOk result (λ v. value_of line.now ≡ Some (view v)) }
+    ensures bad { (w : Word) → result ≡ Err (LineFault.Bad w) → (w ≡ Word.Json) × (value_of line.now ≡ None) }
+{
+    match Value::from_slice(alloc, line) {
+        Ok(value) => Ok(value),
+        Err(error) => {
+            if error.is_memory() {
+                Err(LineFault::OutOfMemory)
+            } else {
+                Err(LineFault::Bad(Word::Json))
+            }
+        }
+    }
+}
+
+pub fn listed(value: &Value) -> Option<&[Value]>
+    ensures { option_map (λ vs. map view vs.now) result ≡ listed (view value.now) }
+{
+    match value.as_array() {
+        Some(list) => Some(list.as_slice()),
+        None => None,
+    }
+}
+
+pub fn is_text(value: &Value, text: &str) -> bool
+    ensures { result ≡ is_text text.now (view value.now) }
+{
+    match value.as_str() {
+        Some(s) => s == text,
+        None => false,
+    }
+}
+
+pub fn is_number(value: &Value, n: u64) -> bool
+    ensures { result ≡ is_number n (view value.now) }
+{
+    match value.as_u64() {
+        Some(m) => m == n,
+        None => false,
+    }
+}

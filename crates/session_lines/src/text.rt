@@ -1,0 +1,175 @@
+// The text of a report's line.
+ghost use Rattle.std.specs.Prelude.{◌≡◌, ◌++◌, ◌<◌, ◌^◌, ◌==◌, length, codes, decimal, reverse, count_by, string_bytes, OnOk, OnErr, IfOk};
+ghost use Rattle.std.specs.List.{position, position_or_len};
+ghost use Rattle.json.specs.Print.{quoted};
+ghost use Rattle.session_lines.specs.Cut.{feeds};
+ghost use Rattle.session_lines.specs.Report.{last_column, made_line, text_line, text_line_with, end_words, counts_words, waits_words, replica_line, final_line, final_line_with, fault_words, refused_line, unit_words, line_text};
+
+use crate::cutting::feeds;
+use crate::report::Report;
+use lamport_clock::Lamport;
+use op_model::{EditFault, Unit};
+use serde_json::Value;
+use std::alloc::{AllocError, Global};
+use std::fmt::Write;
+
+/// A text as a JSON string.
+fn quote(alloc: Global, text: &str) -> Result<String, AllocError>
+    ensures { IfOk result (λ s. string_bytes s ≡ quoted text.now) }
+{
+    Value::String(String::from_str(alloc, text)?).to_string(alloc)
+}
+
+#[tactic(auto, unfolding(crate::specs::Report::made_line))]
+fn push_made(out: &mut String, n: u64, stamp: Lamport) -> Result<(), AllocError>
+    ensures { OnOk result (string_bytes out.new ≡ string_bytes out.old ++ made_line n stamp) }
+{
+    let Lamport { value, replica } = stamp;
+    write!(out, "{n}: {value}.{replica}\n")
+}
+
+fn fault_text(alloc: Global, fault: EditFault) -> Result<String, AllocError>
+    ensures { IfOk result (λ s. string_bytes s ≡ fault_words fault) }
+{
+    match fault {
+        EditFault::Reversed(i) => format!(in alloc; "reversed {i}"),
+        EditFault::Overlap(i) => format!(in alloc; "overlap {i}"),
+        EditFault::PastEnd(i, len) => format!(in alloc; "pastend {i} {len}"),
+        EditFault::InsideChar(i) => format!(in alloc; "insidechar {i}"),
+        EditFault::TextLimit(total) => format!(in alloc; "textlimit {total}"),
+        EditFault::ClockEnd => String::from_str(alloc, "clockend"),
+        EditFault::Full { unit, held, adds } => match unit {
+            Unit::Bytes => format!(in alloc; "full bytes {held} {adds}"),
+            Unit::Entries => format!(in alloc; "full entries {held} {adds}"),
+        },
+        EditFault::OutOfMemory => Ok(String::new(alloc)),
+    }
+}
+
+#[tactic(auto, unfolding(crate::specs::Report::refused_line))]
+fn push_refused(alloc: Global, out: &mut String, n: u64, fault: EditFault) -> Result<(), AllocError>
+    ensures { OnOk result (string_bytes out.new ≡ string_bytes out.old ++ refused_line n fault) }
+{
+    let words = fault_text(alloc, fault)?;
+    write!(out, "{n}: {words}\n")
+}
+
+#[tactic(auto, unfolding(crate::specs::Report::text_line))]
+fn push_text(alloc: Global, out: &mut String, r: u16, text: &str) -> Result<(), AllocError>
+    ensures { OnOk result (string_bytes out.new ≡ string_bytes out.old ++ text_line r text.now) }
+{
+    let quoted = quote(alloc, text)?;
+    write_text(out, r, text, quoted.as_str())
+}
+
+fn write_text(out: &mut String, r: u16, text: &str, quoted: &str) -> Result<(), AllocError>
+    ensures { OnOk result (string_bytes out.new ≡ string_bytes out.old ++ text_line_with r text.now quoted.now) }
+{
+    let row = feeds(text.as_bytes());
+    let column = last_column(text.as_bytes());
+    write_end(out, r, text.len(), row, column)?;
+    let rows = row + 1;
+    write!(out, ", {rows} rows, {quoted}\n")
+}
+
+fn write_end(
+    out: &mut String,
+    r: u16,
+    bytes: usize,
+    row: usize,
+    column: usize,
+) -> Result<(), AllocError>
+    ensures { OnOk result (string_bytes out.new ≡ string_bytes out.old ++ end_words r bytes row column) }
+{
+    write!(out, "text {r}: {bytes} bytes, end {row}:{column}")
+}
+
+fn last_column(text: &[u8]) -> usize
+    ensures { result ≡ last_column text.now }
+{
+    match last_feed(text) {
+        Some(i) => i,
+        None => text.len(),
+    }
+}
+
+fn last_feed(text: &[u8]) -> Option<usize>
+    ensures { result ≡ position (λ b. b == 10) (reverse text.now) }
+{
+    text.iter().rev().position(|b| *b == 10)
+}
+
+// What is counted of a replica's text and of its operations.
+fn write_counts(
+    out: &mut String,
+    r: u16,
+    bytes: u64,
+    rows: u64,
+    applied: u64,
+) -> Result<(), AllocError>
+    ensures { OnOk result (string_bytes out.new ≡ string_bytes out.old ++ counts_words r bytes rows applied) }
+{
+    write!(
+        out,
+        "replica {r}: {bytes} bytes, {rows} rows, {applied} applied, "
+    )
+}
+
+fn write_waits(out: &mut String, waiting: u64, refused: u64) -> Result<(), AllocError>
+    ensures { OnOk result (string_bytes out.new ≡ string_bytes out.old ++ waits_words waiting refused) }
+{
+    write!(out, "{waiting} waiting, {refused} refused\n")
+}
+
+#[tactic(auto, unfolding(crate::specs::Report::final_line))]
+fn push_final(alloc: Global, out: &mut String, r: u16, text: &str) -> Result<(), AllocError>
+    ensures { OnOk result (string_bytes out.new ≡ string_bytes out.old ++ final_line r text.now) }
+{
+    let quoted = quote(alloc, text)?;
+    write_final(out, r, quoted.as_str())
+}
+
+fn write_final(out: &mut String, r: u16, quoted: &str) -> Result<(), AllocError>
+    ensures { OnOk result (string_bytes out.new ≡ string_bytes out.old ++ final_line_with r quoted.now) }
+{
+    write!(out, "final {r}: {quoted}\n")
+}
+
+#[tactic(auto, unfolding(crate::specs::Report::line_text, crate::specs::Report::replica_line))]
+fn push_line(alloc: Global, out: &mut String, line: &Report) -> Result<(), AllocError>
+    ensures { OnOk result (string_bytes out.new ≡ string_bytes out.old ++ line_text line.now) }
+{
+    match line {
+        Report::Made { number, stamp } => push_made(out, *number, *stamp),
+        Report::EditRefused { number, fault } => push_refused(alloc, out, *number, *fault),
+        Report::Text { replica, text } => push_text(alloc, out, *replica, text.as_str()),
+        Report::Replica {
+            replica,
+            bytes,
+            rows,
+            applied,
+            waiting,
+            refused,
+        } => {
+            write_counts(out, *replica, *bytes, *rows, *applied)?;
+            write_waits(out, *waiting, *refused)?;
+            Ok(())
+        }
+        Report::Final { replica, text } => push_final(alloc, out, *replica, text.as_str()),
+    }
+}
+
+/// Writes the line, with its line feed, at the end of `out`. Linear in the line.
+///
+/// # Errors
+///
+/// `OutOfMemory`; then nothing was written.
+pub fn write_line(alloc: Global, out: &mut Vec<u8>, line: &Report) -> Result<(), AllocError>
+    ensures ok { OnOk result (out.new.items ≡ out.old.items ++ line_text line.now) }
+    ensures err { OnErr result (out.new.items ≡ out.old.items) }
+{
+    let mut text = String::new(alloc);
+    push_line(alloc, &mut text, line)?;
+    out.extend_from_slice(text.as_bytes())?;
+    Ok(())
+}

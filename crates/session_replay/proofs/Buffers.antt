@@ -1,0 +1,69 @@
+-- The buffer of a replica among those of a session, by its place.
+use Rattle.std.proofs.Common.{◌≡◌, ℕ, suc, ◌+◌, ◌<◌, ◌≤◌, Bool, true, false, not, cond, ◌==◌, nat_lt, List, [], ◌∷◌, ◌++◌, length, get_or, set, Option, None, Some, refl, sym, ap, ◌∙◌, subst, arith, length-append}
+use Rattle.std.specs.List.{All, find, position, position_or_len}
+use Rattle.std.proofs.lemmas.Bool.{ltb-true, ltb-false}
+use Rattle.std.proofs.lemmas.List.Elements.{All-set}
+use Rattle.op_model.specs.declared.operation.Piece.{Piece}
+use Rattle.op_model.specs.declared.faults.EditFault.{EditFault}
+use Rattle.text_buffer.specs.Buffer.{BufferState, edit_fault, made}
+use Rattle.session_replay.specs.Work.{State, buffer_of, with_buffer, after_edit, after_edit_by}
+
+-- ---- the first of a list that passes a test
+
+at_some : (b : Bool) (k i : ℕ) → Some i ≡ cond b (Some k) None → (b ≡ true) × (i ≡ k)
+at_some true k i e = (refl, cc)
+at_some false k i e = cc
+
+at_none : (b : Bool) (k : ℕ) → None ≡ cond b (Some k) None → b ≡ false
+at_none true k e = cc
+at_none false k e = refl
+
+module _ (r : ℕ) (f : BufferState → BufferState) where
+  abbrev is_own : BufferState → Bool
+  is_own b = b.replica == r
+
+  abbrev place : List BufferState → ℕ
+  place bs = position_or_len is_own bs
+
+  -- what a place tells of the buffers, where it lies among them
+  abbrev Tells : BufferState → ℕ → List BufferState → Type 0
+  Tells d n bs = (buffer_of r bs ≡ Some (get_or bs n d)) × (with_buffer r f bs ≡ set bs n (f (get_or bs n d)))
+
+  more : (d b : BufferState) (bs : List BufferState) (m : ℕ) (t : Bool) → (m < length bs → Tells d m bs) → cond (not t) (1 + m) 0 < suc (length bs)
+      → (cond t (Some b) (buffer_of r bs) ≡ Some (get_or (b ∷ bs) (cond (not t) (1 + m) 0) d))
+      × (cond t (f b ∷ bs) (b ∷ with_buffer r f bs) ≡ set (b ∷ bs) (cond (not t) (1 + m) 0) (f (get_or (b ∷ bs) (cond (not t) (1 + m) 0) d)))
+  more d b bs m true h l = (refl, refl)
+  more d b bs m false h l =
+      let e : suc m ≡ 1 + m = omega arith in
+      let t = h (omega arith) in
+      subst (λ (k : ℕ). (buffer_of r bs ≡ Some (get_or (b ∷ bs) k d)) × (b ∷ with_buffer r f bs ≡ set (b ∷ bs) k (f (get_or (b ∷ bs) k d)))) e (t.0, ap (λ l. b ∷ l) t.1)
+
+  at_place : (d : BufferState) (bs : List BufferState) → place bs < length bs → Tells d (place bs) bs
+  at_place d [] l = absurd (omega arith)
+  at_place d (b ∷ bs) l = more d b bs (place bs) (is_own b) (at_place d bs) l
+
+  no_more : (b : BufferState) (bs : List BufferState) (m : ℕ) (t : Bool) → (length bs ≤ m → (buffer_of r bs ≡ None) × (with_buffer r f bs ≡ bs)) → suc (length bs) ≤ cond (not t) (1 + m) 0
+      → (cond t (Some b) (buffer_of r bs) ≡ None) × (cond t (f b ∷ bs) (b ∷ with_buffer r f bs) ≡ b ∷ bs)
+  no_more b bs m true h l = absurd (omega arith)
+  no_more b bs m false h l = let t = h (omega arith) in (t.0, ap (λ l. b ∷ l) t.1)
+
+  at_no_place : (bs : List BufferState) → length bs ≤ place bs → (buffer_of r bs ≡ None) × (with_buffer r f bs ≡ bs)
+  at_no_place [] l = (refl, refl)
+  at_no_place (b ∷ bs) l = no_more b bs (place bs) (is_own b) (at_no_place bs) l
+
+  pub found : (bs : List BufferState) (i : ℕ) (d : BufferState) → Some i ≡ position is_own bs → Tells d i bs
+  found bs i d e =
+      let p = at_some (nat_lt (place bs) (length bs)) (place bs) i e in
+      subst (λ (k : ℕ). Tells d k bs) (sym p.1) (at_place d bs (ltb-true (place bs) (length bs) p.0))
+
+  pub not_found : (bs : List BufferState) → None ≡ position is_own bs → (buffer_of r bs ≡ None) × (with_buffer r f bs ≡ bs)
+  not_found bs e = at_no_place bs (ltb-false (place bs) (length bs) (at_none (nat_lt (place bs) (length bs)) (place bs) e))
+
+-- ---- how many operations there are
+
+edited_length : (o : Option EditFault) (ps : List Piece) (b : BufferState) → length (after_edit_by o ps b).history ≤ length b.history + 1
+edited_length None ps b = omega (arith, length-append b.history (made b ps ∷ []))
+edited_length (Some e) ps b = omega arith
+
+pub after_edit_length : (ps : List Piece) (b : BufferState) → length (after_edit ps b).history ≤ length b.history + 1
+after_edit_length ps b = edited_length (edit_fault b ps) ps b

@@ -1,8 +1,0 @@
-use Rattle.session_replay.proofs.Cut.{at_some, len_of_none}
-use Rattle.session_replay.proofs.decode.line_len.Goals as goal
-
-pub returns-in-Some : goal.returns-in-Some
-returns-in-Some c = at_some _ _ _ c.in-Some.ensures
-
-pub returns-in-None : goal.returns-in-None
-returns-in-None c = len_of_none _ c.in-None.ensures

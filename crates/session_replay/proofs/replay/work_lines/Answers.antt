@@ -1,0 +1,24 @@
+use Rattle.std.proofs.Common.{◌≡◌, ◌++◌, ◌<◌, length, ap, ◌∙◌, arith, get_or}
+use Rattle.session_lines.specs.Report.{report_text}
+use Rattle.session_replay.specs.Work.{events, step}
+use Rattle.session_replay.specs.Working.{state_of}
+use Rattle.session_replay.proofs.Steps.{more_report, more_state, more_counted, more_operations, lines_done}
+use Rattle.session_replay.proofs.replay.work_lines.Goals as goal
+
+pub loop-line-preserved : goal.loop-line-preserved
+loop-line-preserved c =
+    let ls = c.args.lines.now in
+    let i = c.loop-line.line-index in
+    let s = state_of c.loop-line.progress in
+    let t = state_of c.work_line.new.self in
+    let lt : i < length ls = omega arith in
+    let is : t ≡ step (get_or ls i c.line-item.result) s = c.in_ok-work_line.ensures.state ∙ ap (λ l. step l s) c.line-item.is in
+    record {
+      report = more_report ls i c.line-item.result s t lt is _ _ _ c.loop-line.invariant.report (c.in_ok-work_line.ensures.report ∙ ap (λ l. c.loop-line.progress.report.items ++ report_text (events l s)) c.line-item.is);
+      state = more_state ls i c.line-item.result s t lt is _ c.loop-line.invariant.state;
+      counted = more_counted ls i c.line-item.result s t lt is c.loop-line.invariant.counted;
+      number = omega (arith, more_operations ls i c.line-item.result s t lt is, c.loop-line.invariant.number);
+    }
+
+pub returns-clause-report : goal.returns-clause-report
+returns-clause-report c = lines_done c.args.lines.now c.loop-line.line-index (state_of c.loop-line.progress) _ _ (omega arith) c.loop-line.invariant.report
