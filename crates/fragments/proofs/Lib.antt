@@ -2,3 +2,4 @@ pub mod Steps
 pub mod Told
 pub mod Counting
 pub mod Lengths
+pub mod Seen

@@ -1,5 +1,5 @@
 -- Cells as they are kept, and what they are of a history.
-use Rattle.std.specs.Prelude.{◌≡◌, true, ℕ, zero, suc, ◌-◌, ◌==◌, false, if◌then◌else◌, List, [], ◌∷◌, map}
+use Rattle.std.specs.Prelude.{◌≡◌, true, ℕ, zero, suc, ◌-◌, ◌==◌, Bool, false, if◌then◌else◌, List, [], ◌∷◌, map, Option, Some, None, nat_lt, nat_le, ◌||◌}
 use Rattle.std.specs.List.{filter, list_any}
 use Rattle.lamport_clock.specs.declared.stamp.Lamport.{Lamport}
 use Rattle.lamport_clock.specs.Stamps.{later}
@@ -40,11 +40,23 @@ abbrev pub place_of : Lamport → List Lamport → ℕ
 place_of t [] = 0
 place_of t (u ∷ s) = if later t u then 0 else suc (place_of t s)
 
--- the number of all cells before shown cell o, or of all where there is none
+-- which cells are counted: those that are shown, or those that a version sees
+abbrev pub counts : Option Entries → KeptCell → Bool
+counts None c = c.visible
+counts (Some v) c = sees v c.stamp
+
+-- the bytes of the cells that a version sees
+abbrev pub seen_bytes : Entries → List KeptCell → List ℕ
+seen_bytes v s = map (λ (c : KeptCell). c.byte) (filter (counts (Some v)) s)
+
+-- the number of all cells before counted cell o, or of all where there is none
+abbrev pub offset_by : (KeptCell → Bool) → List KeptCell → ℕ → ℕ
+offset_by f [] o = 0
+offset_by f (c ∷ s) zero = if f c then 0 else suc (offset_by f s zero)
+offset_by f (c ∷ s) (suc o) = suc (offset_by f s (if f c then o else suc o))
+
 abbrev pub shown_offset : List KeptCell → ℕ → ℕ
-shown_offset [] o = 0
-shown_offset (c ∷ s) zero = if c.visible then 0 else suc (shown_offset s zero)
-shown_offset (c ∷ s) (suc o) = suc (shown_offset s (if c.visible then o else suc o))
+shown_offset s o = offset_by (counts None) s o
 
 -- a piece whose range counts shown cells, taken to a range that counts all: an empty range stays empty, another ends one past its
 -- last shown cell
@@ -52,3 +64,9 @@ abbrev pub full_range : List KeptCell → Piece → Piece
 full_range s p =
     let at : ℕ → ℕ = shown_offset s in
     record { start = at p.start; end = if p.start == p.end then at p.start else suc (at (p.end - 1)); text = p.text }
+
+-- a character begins with the cell at a place, or the cells end there
+abbrev pub begins : List KeptCell → ℕ → Bool
+begins [] i = true
+begins (c ∷ s) zero = nat_lt c.byte 128 || nat_le 192 c.byte
+begins (c ∷ s) (suc i) = begins s i

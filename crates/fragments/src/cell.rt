@@ -52,16 +52,9 @@ impl KeptCell {
     }
 }
 
-/// Whether the version sees the stamp.
-pub fn sees(version: &Version, t: Lamport) -> bool
-    ensures { result ≡ sees version.now t }
-{
-    t.value <= version.get(t.replica)
-}
-
 // Whether the version sees one of the stamps.
 fn sees_any(version: &Version, stamps: &[Lamport]) -> bool
     ensures { result ≡ list_any (λ t. sees version.now t) stamps.now }
 {
-    stamps.iter().any(|t| sees(version, *t))
+    stamps.iter().any(|t| version.sees(*t))
 }

@@ -4,7 +4,11 @@ ghost use Rattle.op_model.specs.Sorted.{Each};
 ghost use Rattle.op_model.specs.Operations.{is_edit, text_total};
 ghost use Rattle.op_model.specs.Histories.{History, base};
 ghost use Rattle.op_model.specs.declared.operation.Operation.TheVariants.{Edit};
-ghost use Rattle.op_model.specs.Answers.{answer};
+ghost use Rattle.std.specs.List.{position};
+ghost use Rattle.op_model.specs.Histories.{seen};
+ghost use Rattle.op_model.specs.Shown.{full};
+ghost use Rattle.op_model.specs.Edits.{is_reversed, overlap_from};
+ghost use Rattle.op_model.specs.Answers.{answer, open_replica, range_fault};
 ghost use Rattle.op_model.specs.Answers.Answer.{Good};
 ghost use Rattle.op_model.specs.Lawful.{Lawful};
 ghost use Rattle.op_model.specs.Made.{full_piece};
@@ -13,8 +17,10 @@ ghost use Rattle.fragments.specs.Kept.{kept_cells, shown_bytes, AllEdits};
 
 use crate::KeptCell;
 use crate::offsets::full_pieces;
+use crate::ranges::range_fault;
 use crate::walk::{base_cells, laid};
-use op_model::{EditOp, Piece, Pieces};
+use lamport_clock::Version;
+use op_model::{EditOp, OpFault, Piece, Pieces};
 use std::alloc::{AllocError, Global};
 use std::marker::Model;
 
@@ -67,6 +73,17 @@ impl Cells {
         ensures { IfOk result (λ ps. (h : History) → self.now ≡ kept_cells h → ps ≡ map (full_piece h) changes.now) }
     {
         Ok(Pieces::new(full_pieces(alloc, self.inner.as_slice(), changes)?))
+    }
+
+    /// The fault of an edit's pieces, none of them reversed or before the end of the one before it, against all bytes that a
+    /// version sees, hidden ones too: where the cells are those of a lawful history in which the version is closed. One walk:
+    /// linear in cells and pieces, and without memory.
+    pub fn range_fault(&self, version: &Version, pieces: &[Piece]) -> Option<OpFault>
+        requires forward { position is_reversed pieces.now ≡ None }
+        requires apart { overlap_from 0 0 pieces.now ≡ None }
+        ensures { (h : History) → self.now ≡ kept_cells h → Lawful h → open_replica h version.now ≡ None → result ≡ range_fault (full (seen h version.now)) pieces.now }
+    {
+        range_fault(self.inner.as_slice(), version, pieces)
     }
 
     /// The cells with an edit laid in: where these are the cells of a lawful history of edits alone, and the edit is good there,

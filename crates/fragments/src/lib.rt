@@ -4,6 +4,7 @@
 mod cell;
 mod cells;
 mod offsets;
+mod ranges;
 mod stamps;
 mod walk;
 

@@ -1,22 +1,34 @@
-// Places among the shown cells, taken to places among all cells.
-ghost use Rattle.std.specs.Prelude.{◌≡◌, ◌+◌, ◌-◌, ◌≤◌, ◌==◌, suc, length, drop, map, if◌then◌else◌, IfOk};
+// Places among the cells that are counted, taken to places among all cells.
+ghost use Rattle.std.specs.Prelude.{◌≡◌, ◌+◌, ◌-◌, ◌≤◌, ◌==◌, suc, Some, None, length, drop, map, if◌then◌else◌, IfOk};
+ghost use Rattle.std.specs.Option.{option_copied};
 ghost use Rattle.op_model.specs.Walked.{Ordered};
-ghost use Rattle.fragments.specs.Kept.{shown_bytes, shown_offset, full_range};
+ghost use Rattle.fragments.specs.Kept.{counts, shown_bytes, offset_by, shown_offset, full_range};
 
 use crate::KeptCell;
+use lamport_clock::Version;
 use op_model::{Piece, Text};
 use std::alloc::{AllocError, Global};
 
-// The number of all cells before the `count`-th shown one of those from `from` on, or of all where there is none.
-fn seek(cells: &[KeptCell], from: usize, count: u64) -> usize
+// Whether a cell is counted: where there is a version, the cells that it sees are, else those that are shown.
+fn is_counted(cell: &KeptCell, by: Option<&Version>) -> bool
+    ensures { result ≡ counts (option_copied by.entry) cell.now }
+{
+    match by {
+        None => cell.visible,
+        Some(version) => version.sees(cell.stamp),
+    }
+}
+
+/// The number of all cells before the `count`-th counted one of those from `from` on, or of all where there is none.
+pub fn seek(cells: &[KeptCell], by: Option<&Version>, from: usize, count: u64) -> usize
     requires { from ≤ length cells.now }
-    ensures place { result ≡ from + shown_offset (drop from cells.now) count }
+    ensures place { result ≡ from + offset_by (counts (option_copied by.entry)) (drop from cells.now) count }
     ensures within { result ≤ length cells.now }
 {
     let mut at = from;
     let mut left = count;
     while at < cells.len() {
-        if cells[at].visible {
+        if is_counted(&cells[at], by) {
             if left == 0 {
                 return at;
             }
@@ -36,7 +48,7 @@ fn end_of(cells: &[KeptCell], start: usize, change: &Piece) -> usize
     if change.start == change.end {
         return start;
     }
-    seek(cells, start, change.end - change.start - 1) + 1
+    seek(cells, None, start, change.end - change.start - 1) + 1
 }
 
 /// The changes, whose ranges count shown cells, with ranges that count all cells: one walk over cells and changes.
@@ -52,7 +64,7 @@ pub fn full_pieces(
     let mut at = 0;
     let mut shown = 0;
     for change in changes {
-        let start = seek(cells, at, change.start - shown);
+        let start = seek(cells, None, at, change.start - shown);
         let end = end_of(cells, start, change);
         pieces.push(Piece {
             start: start as u64,

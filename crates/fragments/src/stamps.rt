@@ -1,10 +1,9 @@
 // The stamps of the edits that delete a cell.
 ghost use Rattle.std.specs.Prelude.{◌≡◌, ◌≤◌, [], length, IfOk, OnErr, OnOk};
-ghost use Rattle.lamport_clock.specs.Stamps.{later};
 ghost use Rattle.op_model.specs.Facts.{with_deletion};
 ghost use Rattle.fragments.specs.Kept.{place_of};
 
-use lamport_clock::Lamport;
+use lamport_clock::{Lamport, is_later};
 use std::alloc::{AllocError, Global};
 use std::marker::Model;
 
@@ -59,13 +58,6 @@ impl Stamps {
             Err(_) => Err(AllocError),
         }
     }
-}
-
-/// Whether `s` is the greater stamp: by value, then by replica.
-pub fn is_later(s: Lamport, t: Lamport) -> bool
-    ensures { result ≡ later s t }
-{
-    t.value < s.value || (t.value == s.value && t.replica < s.replica)
 }
 
 // The number of stamps at the front that `t` is not later than.

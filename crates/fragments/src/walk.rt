@@ -3,10 +3,8 @@ ghost use Rattle.std.specs.Prelude.{◌≡◌, ◌+◌, ◌<◌, ◌≤◌, ◌^
 ghost use Rattle.op_model.specs.Operations.{text_total};
 ghost use Rattle.fragments.specs.Passed.{touched, pass_seen, pass_later, new_cells, laid_from};
 
-use crate::cell::sees;
-use crate::stamps::is_later;
 use crate::{KeptCell, Stamps};
-use lamport_clock::Lamport;
+use lamport_clock::{Lamport, is_later};
 use op_model::EditOp;
 use std::alloc::{AllocError, Global};
 
@@ -36,7 +34,7 @@ impl Walk {
         let mut left = count;
         while left > 0 && self.at < cells.len() {
             let cell = &cells[self.at];
-            if sees(&edit.version, cell.stamp) {
+            if edit.version.sees(cell.stamp) {
                 self.out.push(touched(alloc, edit, cell, mark)?)?;
                 left -= 1;
             } else {

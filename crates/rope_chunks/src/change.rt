@@ -1,5 +1,5 @@
 //! Other chunks in the place of a range of a rope's chunks.
-ghost use Rattle.std.specs.Prelude.{◌≡◌, ◌+◌, ◌^◌, ◌<◌, ◌≤◌, ◌++◌, length, take, drop, All, IfOk, IfSome, OnOk, OnErr};
+ghost use Rattle.std.specs.Prelude.{◌≡◌, ◌+◌, ◌^◌, ◌<◌, ◌≤◌, ◌++◌, length, take, drop, All, IsTrue, IfOk, IfSome, OnOk, OnErr};
 ghost use Rattle.std.specs.List.{concat};
 ghost use Rattle.rope_chunks.specs.Chunks.{IsChunk, AreChunks};
 ghost use Rattle.rope_chunks.specs.Spots.{IsChange, text_with};
@@ -60,8 +60,8 @@ fn chunk_behind(tree: &SumTree<Chunk>, i: u64, len: usize) -> (u64, &str)
     (i, "")
 }
 
-// The chunk of three texts, or none where they are empty.
-fn one_chunk(
+/// The chunk of three texts, or none where they are empty.
+pub(crate) fn one_chunk(
     alloc: Global,
     front: &str,
     middle: &str,
@@ -73,12 +73,25 @@ fn one_chunk(
 {
     let front = Chunk::joined(front, middle);
     let chunk = Chunk::joined(front.as_str(), back);
-    let mut chunks = Vec::new(alloc);
+    let mut chunks = Vec::with_capacity(alloc, 1)?;
     if chunk.as_str().is_empty() {
         return Ok(chunks);
     }
     chunks.push(chunk)?;
     Ok(chunks)
+}
+
+/// Whether three texts make one chunk that is not small.
+pub(crate) fn fill_one(front: &str, middle: &str, back: &str) -> bool
+    requires front { length front.now ≤ 128 }
+    requires back { length back.now ≤ 128 }
+    ensures { IsTrue result → length front.now + length middle.now + length back.now ≤ 128 }
+{
+    if middle.len() > CHUNK_BYTES {
+        return false;
+    }
+    let len = front.len() + middle.len() + back.len();
+    len >= SMALL && len <= CHUNK_BYTES
 }
 
 // The halves of a text that needs two chunks, where each fits one.

@@ -8,7 +8,7 @@ ghost use Rattle.rope_chunks.specs.Chunks.{AreChunks};
 ghost use Rattle.rope_chunks.specs.Spots.{IsChange, IsSpot};
 
 use crate::OutOfMemory;
-use crate::change::{Change, change_to, make};
+use crate::change::{Change, change_to, fill_one, make, one_chunk};
 use crate::chunk::Chunk;
 use crate::rope::Rope;
 use crate::spot::{Spot, spot_of};
@@ -38,7 +38,11 @@ fn spot_behind<'a>(tree: &'a SumTree<Chunk>, first: &Spot<'a>, start: u64, bytes
 fn joined(alloc: Global, front: &str, middle: &str, back: &str) -> Result<String, OutOfMemory>
     ensures { IfOk result (λ text. string_bytes text ≡ (front.now ++ middle.now) ++ back.now) }
 {
-    let mut text = String::new(alloc);
+    let bytes = front
+        .len()
+        .saturating_add(middle.len())
+        .saturating_add(back.len());
+    let mut text = String::with_capacity(alloc, bytes)?;
     text.push_str(front)?;
     text.push_str(middle)?;
     text.push_str(back)?;
@@ -66,6 +70,14 @@ fn change_of(
     let last = spot_behind(tree, &first, start, end - start);
     let (front, _) = first.chunk.as_str().split_at(first.place as usize);
     let (_, back) = last.chunk.as_str().split_at(last.place as usize);
+    if fill_one(front, text, back) {
+        let chunks = one_chunk(alloc, front, text, back)?;
+        return Ok(Change {
+            from: first.index,
+            to: last.index + 1,
+            chunks,
+        });
+    }
     let whole = joined(alloc, front, text, back)?;
     Ok(change_to(alloc, tree, first.index, last.index + 1, whole.as_str())?)
 }

@@ -8,3 +8,4 @@ mod Placeds
 pub mod Runs
 pub mod Keys
 mod Splices
+mod Pairs

@@ -1,5 +1,5 @@
 -- What a change of one child in place leaves of a node.
-use Rattle.std.proofs.Common.{◌≡◌, ℕ, ◌+◌, ◌-◌, ◌^◌, ◌<◌, ◌≤◌, List, [], ◌∷◌, ◌++◌, length, get_or, set, take, drop, Vec, Global, sym, ap, subst, ◌∙◌, append_assoc, arith, length-append}
+use Rattle.std.proofs.Common.{◌≡◌, ℕ, ◌+◌, ◌-◌, ◌^◌, ◌<◌, ◌≤◌, List, [], ◌∷◌, ◌++◌, length, get_or, set, take, drop, Vec, Global, Option, Some, None, sym, ap, subst, ◌∙◌, append_assoc, arith, length-append}
 use Rattle.std.proofs.lemmas.List.{length-set, set-get_or, drop-set, take-set-le, length-take-le, length-drop, same_from_push}
 use Rattle.std.proofs.lemmas.List.Elements.{All-set}
 use Rattle.std.specs.List.{All}
@@ -8,10 +8,13 @@ use Rattle.sum_tree.specs.Seen.{Seen}
 use Rattle.sum_tree.specs.Shape.{joined, IsChild}
 use Rattle.sum_tree.specs.Spliced.{spliced}
 use Rattle.sum_tree.specs.Around.{outer_sums}
-use Rattle.sum_tree.specs.Placed.{IsPlaced, IsPlacing}
+use Rattle.sum_tree.specs.Grown.{IsSplit}
+use Rattle.sum_tree.specs.Placed.{IsPlaced, IsPlacing, IsLeafChange, IsPairingOr}
 use Rattle.sum_tree.specs.declared.around.Around.{Around}
 use Rattle.sum_tree.specs.declared.here.Placing.{Placing}
-use Rattle.sum_tree.specs.declared.here.Placing.TheVariants.{Done, Back}
+use Rattle.sum_tree.specs.declared.here.Placing.TheVariants.{Done, Split, Back}
+use Rattle.sum_tree.specs.declared.here.LeafChange.{LeafChange}
+use Rattle.sum_tree.specs.declared.here.LeafChange.TheVariants.{One, Two}
 use Rattle.sum_tree.specs.declared.tree.Content.TheVariants.{Inner}
 use Rattle.sum_tree.proofs.Folds.{fold-append, fits_left}
 use Rattle.sum_tree.proofs.Children.{joined-split, many_enough}
@@ -59,12 +62,40 @@ module _ {T : Type 0} where
       } in
       subst (λ (z : Seen T). IsPlaced w xs s z) (sym e) new
 
-module _ {S T : Type 0} (op : S → S → S) where
-  pub placing_back : (around : List (Around S)) (x : S) (w : ℕ) (xs ys : List T) (old new : Seen T) (p : Placing (Vec S Global) (Vec T Global)) (es : Vec T Global) → p ≡ Back es → IsPlacing op around x w xs ys old new p → (new ≡ old) × (es.items ≡ ys)
-  placing_back around x w xs ys old new p es e h = subst (λ (q : Placing (Vec S Global) (Vec T Global)). IsPlacing op around x w xs ys old new q) e h
+  pub pairing_none : (h : ℕ) (ts old new : List (Seen T)) (o : Option (Seen T × Seen T)) → o ≡ None → IsPairingOr h ts old new o → (new ≡ ts) × (length ts ≤ 12)
+  pairing_none h ts old new o e p = subst (λ (q : Option (Seen T × Seen T)). IsPairingOr h ts old new q) e p
 
-  pub placing_done : (around : List (Around S)) (x : S) (w : ℕ) (xs ys : List T) (old new : Seen T) (p : Placing (Vec S Global) (Vec T Global)) (sums : Vec S Global) → p ≡ Done sums → IsPlacing op around x w xs ys old new p → IsPlaced w xs old new × (sums.items ≡ outer_sums op around x)
-  placing_done around x w xs ys old new p sums e h = subst (λ (q : Placing (Vec S Global) (Vec T Global)). IsPlacing op around x w xs ys old new q) e h
+  pub pairing_some : (h : ℕ) (ts old new : List (Seen T)) (o : Option (Seen T × Seen T)) (a b : Seen T) → o ≡ Some (a, b) → IsPairingOr h ts old new o → (new ≡ old) × IsSplit h 0 (joined ts) a (Some b)
+  pairing_some h ts old new o a b e p = subst (λ (q : Option (Seen T × Seen T)). IsPairingOr h ts old new q) e p
+
+  -- a changed leaf
+  pub leaf_is_placed : (w h : ℕ) (s : Seen T) (us xs : List T) → us ≡ xs → h ≡ s.height → s.height ≡ 0 → w ≤ length xs → length xs ≤ 12 → IsPlaced w xs s (record { items = us; height = h; width = length us })
+  leaf_is_placed w h s us xs e height low wide narrow =
+      let same : length us ≡ length xs = ap length e in
+      let leaf : h ≡ 0 = height ∙ low in
+      record {
+        items = e;
+        height = height;
+        wide = omega (arith, same, wide);
+        narrow = omega (arith, same, narrow);
+        many = λ l. subst (λ (n : ℕ). 6 ^ (n + 1) ≤ length us) (sym leaf) (omega (arith, l));
+      }
+
+module _ {S T : Type 0} (op : S → S → S) where
+  pub placing_back : (around : List (Around S)) (x : S) (w : ℕ) (xs ys : List T) (old new : Seen T) (p : Placing (Vec S Global) (Vec T Global) (Seen T)) (es : Vec T Global) → p ≡ Back es → IsPlacing op around x w xs ys old new p → (new ≡ old) × (es.items ≡ ys)
+  placing_back around x w xs ys old new p es e h = subst (λ (q : Placing (Vec S Global) (Vec T Global) (Seen T)). IsPlacing op around x w xs ys old new q) e h
+
+  pub placing_done : (around : List (Around S)) (x : S) (w : ℕ) (xs ys : List T) (old new : Seen T) (p : Placing (Vec S Global) (Vec T Global) (Seen T)) (sums : Vec S Global) → p ≡ Done sums → IsPlacing op around x w xs ys old new p → IsPlaced w xs old new × (sums.items ≡ outer_sums op around x)
+  placing_done around x w xs ys old new p sums e h = subst (λ (q : Placing (Vec S Global) (Vec T Global) (Seen T)). IsPlacing op around x w xs ys old new q) e h
+
+  pub placing_split : (around : List (Around S)) (x : S) (w : ℕ) (xs ys : List T) (old new : Seen T) (p : Placing (Vec S Global) (Vec T Global) (Seen T)) (a b : Seen T) (sums : Vec S Global) → p ≡ Split a b sums → IsPlacing op around x w xs ys old new p → (new ≡ old) × IsSplit old.height 0 xs a (Some b) × (sums.items ≡ outer_sums op around x)
+  placing_split around x w xs ys old new p a b sums e h = subst (λ (q : Placing (Vec S Global) (Vec T Global) (Seen T)). IsPlacing op around x w xs ys old new q) e h
+
+  pub change_one : (around : List (Around S)) (x : S) (w : ℕ) (xs ys : List T) (p : LeafChange (Vec T Global) S (Vec S Global) (Seen T)) (es : Vec T Global) (s : S) (sums : Vec S Global) → p ≡ One es s sums → IsLeafChange op around x w xs ys p → (es.items ≡ xs) × (w ≤ length xs) × (length xs ≤ 12) × (s ≡ x) × (sums.items ≡ outer_sums op around x)
+  change_one around x w xs ys p es s sums e h = subst (λ (q : LeafChange (Vec T Global) S (Vec S Global) (Seen T)). IsLeafChange op around x w xs ys q) e h
+
+  pub change_two : (around : List (Around S)) (x : S) (w : ℕ) (xs ys : List T) (p : LeafChange (Vec T Global) S (Vec S Global) (Seen T)) (a b : Seen T) (sums : Vec S Global) → p ≡ Two a b sums → IsLeafChange op around x w xs ys p → IsSplit 0 0 xs a (Some b) × (sums.items ≡ outer_sums op around x)
+  change_two around x w xs ys p a b sums e h = subst (λ (q : LeafChange (Vec T Global) S (Vec S Global) (Seen T)). IsLeafChange op around x w xs ys q) e h
 
 module _ {S T : Type 0} {empty : S} {op : S → S → S} {admits fits : S → Type 0} (laws : SummaryLaws empty op admits fits) (sum_of : T → S) (admitted : (x : T) → admits (sum_of x)) where
   -- the sum of all is that of the child with what stands around it
@@ -85,3 +116,11 @@ module _ {S T : Type 0} {empty : S} {op : S → S → S} {admits fits : S → Ty
       let all : joined (set v.items k u) ≡ xs = placed_all v.items k 6 t u m xs lt p whole in
       let count : length (set v.items k u) ≡ length v.items = length-set v.items k u in
       ((All-set (IsChild h) v.items k u (placed_child h t u m child p) held.0.0, omega (arith, count, held.0.1), omega (arith, count, held.0.2)), rw all size, rw all sum, rw all ok, rw all short)
+
+  -- the children are as they were
+  pub same_inner : (h len : ℕ) (s : S) (v : Vec (Seen T) Global) (us : List (Seen T)) → Held laws sum_of admitted h len s (Inner v) → us ≡ v.items → HeldInner laws sum_of admitted h len s us
+  same_inner h len s v us held same = subst (λ (ts : List (Seen T)). HeldInner laws sum_of admitted h len s ts) (sym same) held
+
+  pub leaf_placed : (h len : ℕ) (u : S) (us xs : List T) → h ≡ 0 → us ≡ xs → length xs ≤ 12 → len ≡ length us → u ≡ fold empty op sum_of xs → fits (fold empty op sum_of xs) → length xs ≤ 2 ^ 40 → ((h ≡ 0) × (length us ≤ 12)) × (len ≡ length us) × (u ≡ fold empty op sum_of us) × fits (fold empty op sum_of us) × (length us ≤ 2 ^ 40)
+  leaf_placed h len u us xs low e narrow size sum ok short =
+      ((low, subst (λ (zs : List T). length zs ≤ 12) (sym e) narrow), size, rw e sum, rw e ok, rw e short)

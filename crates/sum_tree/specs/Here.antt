@@ -1,6 +1,8 @@
 -- What a change in place leaves.
-use Rattle.std.specs.Prelude.{◌≡◌, ◌≤◌, [], ◌∷◌, ◌++◌, Option, Some, None, Result, Ok, Err}
+use Rattle.std.specs.Prelude.{◌≡◌, ℕ, ◌≤◌, List, [], ◌∷◌, ◌++◌, length, Option, Some, None, Result, Ok, Err}
+use Rattle.std.specs.List.{All}
 use Rattle.sum_tree.specs.Seen.{Seen}
+use Rattle.sum_tree.specs.Shape.{IsChild, joined}
 
 -- the item is behind the others, in a tree of the same height; or it came back, and the tree is as it was
 abbrev pub IsPushedOr : {T : Type 0} → Seen T → Seen T → T → Option T → Type 0
@@ -10,3 +12,12 @@ IsPushedOr old new x (Some y) = (new ≡ old) × (y ≡ x)
 abbrev pub IsPushed : {T E : Type 0} → Seen T → Seen T → T → Result (Option T) E → Type 0
 IsPushed old new x (Ok o) = IsPushedOr old new x o
 IsPushed old new x (Err e) = new ≡ old
+
+-- the item is behind those of the old children of a node of height h; or it came back, and the children are as they were
+abbrev pub IsPushedBesideOr : {T : Type 0} → ℕ → List (Seen T) → List (Seen T) → T → Option T → Type 0
+IsPushedBesideOr h old new x None = (joined new ≡ joined old ++ x ∷ []) × All (IsChild h) new × (length old ≤ length new) × (length new ≤ 12)
+IsPushedBesideOr h old new x (Some y) = (new ≡ old) × (y ≡ x)
+
+abbrev pub IsPushedBeside : {T E : Type 0} → ℕ → List (Seen T) → List (Seen T) → T → Result (Option T) E → Type 0
+IsPushedBeside h old new x (Ok o) = IsPushedBesideOr h old new x o
+IsPushedBeside h old new x (Err e) = new ≡ old

@@ -165,7 +165,7 @@ impl<T: Item> SumTree<T> {
     }
 
     // This tree and then a lower one, at this height.
-    fn followed(
+    pub(crate) fn followed(
         &self,
         alloc: Global,
         other: &SumTree<T>,
@@ -224,9 +224,10 @@ impl<T: Item> SumTree<T> {
         Ok(())
     }
 
-    /// Puts one item behind the others. Where no other tree shares the nodes of the last path and its leaf has room, no
-    /// node is made; else at most 2 (h + 2), with h the height. On want of memory the tree is as before, and the item is
-    /// let go.
+    /// Puts one item behind the others. Nodes of the last path that no other tree shares, nor those above them, are
+    /// changed in place: where the leaf is one and has room, no node is made; else only below the lowest of them that has
+    /// room for one child more, at most two for each level and one more. Else at most 2 (h + 2), with h the height. On
+    /// want of memory the tree is as before, and the item is let go.
     pub fn push(&mut self, alloc: Global, item: T) -> Result<(), AllocError>
         requires short { length self.old.items < 2 ^ 40 }
         requires fits { T.Summary.fits (fold T.Summary.empty T.Summary.op T.sum_of (self.old.items ++ item ∷ [])) }

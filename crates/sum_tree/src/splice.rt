@@ -222,6 +222,10 @@ impl<T: Item> SumTree<T> {
         let around = Vec::with_capacity(alloc, self.height() as usize)?;
         match self.place_here(alloc, 0, from, to - from, entries, around)? {
             Placing::Done(_) => return Ok(()),
+            Placing::Split(front, back, _) => {
+                *self = root(alloc, front, Some(back))?;
+                return Ok(());
+            }
             Placing::Back(entries) => {
                 *self = self.with_splice(alloc, from, to, entries)?;
                 return Ok(());
@@ -230,11 +234,13 @@ impl<T: Item> SumTree<T> {
     }
 
     /// Puts items in the place of those from `from` up to `to`. Where the range lies in one leaf, at most 12 items come,
-    /// that leaf keeps 6 to 12 entries (a root 0 to 12) and no other tree shares the nodes above it or itself, they are
-    /// changed in place and no node is made: the leaf gets a new list of entries, and each node on the path a new sum.
-    /// Else, where the range lies in one leaf and at most 12 items come, it is one descent that makes at most two nodes
-    /// for each level, and one more node for a child that became narrow; else a front, the new items and a rest are put
-    /// together. On want of memory the tree is as before, and the items are let go.
+    /// that leaf keeps 6 entries or more (a root any number) and no other tree shares the nodes above it or itself, they
+    /// are changed in place: the leaf gets a new list of entries, and each node on the path a new sum. Where the leaf would
+    /// have more than 12 entries, two new ones stand in its place, and two in that of each node above it that has no
+    /// room for one child more, up to the first that has; no other node is made. Else, where the range lies in one leaf
+    /// and at most 12 items come, it is one descent that makes at most two nodes for each level, and one more node for a
+    /// child that became narrow; else a front, the new items and a rest are put together. On want of memory the tree is
+    /// as before, and the items are let go.
     pub fn splice(
         &mut self,
         alloc: Global,

@@ -4,6 +4,7 @@ ghost use Rattle.sum_tree.specs.Laws.{fold};
 ghost use Rattle.sum_tree.specs.Shape.{IsNode, IsChild, joined};
 ghost use Rattle.sum_tree.specs.Grown.{IsSplit};
 
+use crate::around::entries_sum;
 use crate::entry::Entry;
 use crate::traits::{Item, Summary};
 use std::alloc::{AllocError, Global};
@@ -154,10 +155,7 @@ pub(crate) fn leaf<T: Item>(alloc: Global, entries: Vec<Entry<T>>) -> Result<Sum
     ensures height { IfOk result (λ t. t.height ≡ 0) }
     ensures width { IfOk result (λ t. t.width ≡ length entries.items) }
 {
-    let mut sum = T::Summary::zero(alloc);
-    for entry in &entries {
-        sum.add(alloc, entry.sum())?;
-    }
+    let sum = entries_sum(alloc, &entries)?;
     let len = entries.len() as u64;
     let content = Content::Leaf(entries);
     let node = Arc::new(

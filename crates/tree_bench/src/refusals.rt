@@ -116,6 +116,29 @@ fn splice<T: Numbered>(
     account.look(alloc, tree, after, made)
 }
 
+// Cuts the tree into a front and a rest, which are trees of their own.
+fn cut<T: Numbered>(
+    alloc: Global,
+    tree: &SumTree<T>,
+    account: &mut Account,
+    at: usize,
+) -> Result<(), AllocError> {
+    let numbers = account.numbers.clone()?;
+    if at > numbers.len() {
+        return Ok(());
+    }
+    let parts = (tree.taken(alloc, at as u64), tree.dropped(alloc, at as u64));
+    let made = match &parts {
+        (Ok(front), Ok(rest)) => {
+            let front = mirrors(alloc, front, &numbers[..at])?;
+            account.right = mirrors(alloc, rest, &numbers[at..])? && front && account.right;
+            true
+        }
+        _ => false,
+    };
+    account.look(alloc, tree, numbers, made)
+}
+
 // A change that x draws, to a tree whose nodes are its own.
 fn change<T: Numbered>(
     alloc: Global,
@@ -134,6 +157,7 @@ fn change<T: Numbered>(
             let to = from.saturating_add((x >> 40) as usize % 30).min(len);
             splice(alloc, tree, account, (from, to), (x >> 50) % 30)
         }
+        4 => cut(alloc, tree, account, from),
         _ => {
             let to = from.saturating_add((x >> 40) as usize % 4).min(len);
             splice(alloc, tree, account, (from, to), (x >> 50) % 4)

@@ -1,7 +1,7 @@
-use Rattle.std.proofs.Common.{List, length, subst, ◌∙◌}
+use Rattle.std.proofs.Common.{List, None, length, subst, ◌∙◌}
 use Rattle.op_model.specs.declared.operation.Piece.{Piece}
 use Rattle.op_model.specs.Walked.{Ordered}
-use Rattle.fragments.specs.Kept.{shown_bytes, full_range}
+use Rattle.fragments.specs.Kept.{counts, shown_bytes, full_range}
 use Rattle.fragments.proofs.Steps.{drop_at}
 use Rattle.fragments.proofs.Counting.{turned, one_more, ordered_le}
 use Rattle.fragments.proofs.offsets.full_pieces.Goals as goal
@@ -13,7 +13,7 @@ loop-change-preserved c =
     let s = c.args.cells.now in
     let n = length (shown_bytes s) in
     let k = subst (λ (z : List Piece). Ordered l.shown n z) (drop_at c.args.changes.now l.change-index p c.loop-change-test.true c.change-item.is) l.invariant.ordered in
-    let t = turned s p l.shown l.at c.seek-start.result c.end_of-end.result l.invariant.place k.0 k.1 (ordered_le p.end n _ k.2) c.seek-start.ensures.place c.end_of-end.ensures in
+    let t = turned (counts None) s p l.shown l.at c.seek-start.result c.end_of-end.result l.invariant.place k.0 k.1 (ordered_le p.end n _ k.2) c.seek-start.ensures.place c.end_of-end.ensures in
     let x = c.new.ensures ∙ c.in_ok-from_str.ensures.ok ∙ c.as_str.ensures in
     record {
       pieces = one_more (full_range s) c.args.changes.now l.change-index p _ l.pieces.items c.push.new.self.items c.loop-change-test.true c.change-item.is l.invariant.pieces c.in_ok-push.ensures.items

@@ -1,6 +1,6 @@
-use Rattle.std.proofs.Common.{◌≡◌, ◌≤◌, length, drop, take, map}
+use Rattle.std.proofs.Common.{◌≡◌, ◌≤◌, length, drop, take, map, None}
 use Rattle.op_model.specs.Walked.{Ordered}
-use Rattle.fragments.specs.Kept.{shown_bytes, full_range}
+use Rattle.fragments.specs.Kept.{counts, shown_bytes, full_range}
 use Rattle.fragments.proofs.Counting.{CountsOn}
 use Rattle.fragments.proofs.offsets.full_pieces.Given as goal
 
@@ -8,6 +8,6 @@ abbrev pub invariant-loop-change : goal.invariant-loop-change
 invariant-loop-change l = record {
   pieces : l.pieces.items ≡ map (full_range l.cells) (take l.change-index l.changes);
   ordered : Ordered l.shown (length (shown_bytes l.cells)) (drop l.change-index l.changes);
-  place : CountsOn l.cells l.shown l.at;
+  place : CountsOn (counts None) l.cells l.shown l.at;
   within : l.at ≤ length l.cells;
 }

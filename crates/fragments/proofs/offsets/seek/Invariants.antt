@@ -1,10 +1,11 @@
 use Rattle.std.proofs.Common.{◌≡◌, ◌+◌, ◌-◌, ◌≤◌, length, drop}
-use Rattle.fragments.specs.Kept.{shown_offset}
+use Rattle.std.specs.Option.{option_copied}
+use Rattle.fragments.specs.Kept.{counts, offset_by}
 use Rattle.fragments.proofs.offsets.seek.Given as goal
 
 abbrev pub invariant-loop-at : goal.invariant-loop-at
 invariant-loop-at l = record {
-  place : l.at + shown_offset (drop l.at l.cells) l.left ≡ l.initial.at + shown_offset (drop l.initial.at l.cells) l.initial.left;
+  place : l.at + offset_by (counts (option_copied l.by)) (drop l.at l.cells) l.left ≡ l.initial.at + offset_by (counts (option_copied l.by)) (drop l.initial.at l.cells) l.initial.left;
   within : l.at ≤ length l.cells;
 }
 

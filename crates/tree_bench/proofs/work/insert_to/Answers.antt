@@ -1,4 +1,4 @@
-use Rattle.std.proofs.Common.{◌≤◌, ◌^◌, length, arith}
+use Rattle.std.proofs.Common.{arith}
 use Rattle.sum_tree.proofs.Keys.{inserted_short}
 use Rattle.tree_bench.proofs.work.insert_to.Goals as goal
 

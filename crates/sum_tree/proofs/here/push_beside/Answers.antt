@@ -1,0 +1,24 @@
+use Rattle.std.proofs.Common.{◌≡◌, ◌-◌, ◌<◌, ◌++◌, [], ◌∷◌, length, take, List, subst, arith}
+use Rattle.sum_tree.specs.Laws.{fold}
+use Rattle.sum_tree.specs.Shape.{joined}
+use Rattle.sum_tree.proofs.Folds.{fits_right}
+use Rattle.sum_tree.proofs.Pairs.{last_whole, pushed_beside}
+use Rattle.sum_tree.proofs.here.push_beside.Goals as goal
+
+pub followed-requires-clause-fits : goal.followed-requires-clause-fits
+followed-requires-clause-fits g c =
+    let ts = c.args.children.now.items in
+    let n = c.len-last.result in
+    let t = c.index.result.now in
+    let ys = c.in_ok-other.other.items in
+    let len : n ≡ length ts = omega (arith, c.len-last.ensures, c.args.children.now.ok) in
+    let whole : joined ts ++ c.args.entry ∷ [] ≡ joined (take (n - 1) ts) ++ (t.items ++ ys) = last_whole ts n t c.args.entry ys len c.requires.least c.index.ensures c.in_ok-other.ensures.items in
+    fits_right g.met.T.Summary.Summary.laws g.T.Item.sum_of g.met.T.Item.admitted (joined (take (n - 1) ts)) (t.items ++ ys) (subst (λ (zs : List _). g.T.Summary.Summary.fits (fold g.T.Summary.Summary.empty g.T.Summary.Summary.op g.T.Item.sum_of zs)) whole c.requires.fits)
+
+pub returns : goal.returns
+returns g c =
+    let ts = c.args.children.now.items in
+    let n = c.len-last.result in
+    let len : n ≡ length ts = omega (arith, c.len-last.ensures, c.args.children.now.ok) in
+    let few : length ts < 12 = omega (arith, c.if-len-ge-MOST.false, c.len.ensures, c.args.children.now.ok) in
+    pushed_beside c.args.height ts c.put_pair.new.children.items n c.index.result.now c.in_ok-front.front c.in_ok-front.back c.args.entry c.in_ok-other.other.items c.requires.children len c.requires.least few c.index.ensures c.in_ok-other.ensures.items c.in_ok-front.ensures c.in_ok-put_pair.ensures.ok

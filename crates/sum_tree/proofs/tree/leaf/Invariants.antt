@@ -1,6 +1,0 @@
-use Rattle.std.proofs.Common.{◌≡◌, take}
-use Rattle.sum_tree.specs.Laws.{fold}
-use Rattle.sum_tree.proofs.tree.leaf.Given as goal
-
-abbrev pub invariant-loop-entry : goal.invariant-loop-entry
-invariant-loop-entry g l = l.sum ≡ fold g.T.Summary.Summary.empty g.T.Summary.Summary.op g.T.Item.sum_of (take l.entry-index l.entry-items)
