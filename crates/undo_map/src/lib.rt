@@ -3,6 +3,8 @@
 
 mod entry;
 mod map;
+#[cfg(test)]
+mod tests;
 
 pub use entry::{UndoEntry, UndoKey};
 pub use lamport_clock::OutOfMemory;

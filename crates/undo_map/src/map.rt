@@ -1,5 +1,5 @@
 // The greatest counts of edits.
-ghost use Rattle.std.specs.Prelude.{◌≡◌, ℕ, ◌^◌, ◌<◌, ◌≤◌, [], max, true, false, slice_index_or, length, IsOk, IfOk, OnErr, OnOk, if◌then◌else◌, ◌&&◌, Bool};
+ghost use Rattle.std.specs.Prelude.{◌≡◌, ℕ, ◌+◌, ◌^◌, ◌<◌, ◌≤◌, [], max, true, false, slice_index_or, length, IsOk, IfOk, OnErr, OnOk, if◌then◌else◌, ◌&&◌, Bool};
 ghost use Rattle.std.specs.Option.{option_copied};
 ghost use Rattle.undo_map.specs.declared.entry.UndoEntry.{UndoEntry};
 ghost use Rattle.lamport_clock.specs.declared.stamp.Lamport.{Lamport};
@@ -51,6 +51,13 @@ impl UndoMap {
         })
     }
 
+    /// How many counts are kept.
+    pub fn len(&self) -> u64
+        ensures { result ≡ length self.now }
+    {
+        self.entries.len()
+    }
+
     /// Keeps the count that the undo `by` gives an edit, or the greater one that it gave before. Afterwards there are
     /// at most 2^40 entries. Logarithmic in their number; on want of memory all is as before.
     pub fn set(
@@ -62,6 +69,7 @@ impl UndoMap {
     ) -> Result<(), AllocError>
         requires { length (with_count (record { edit = edit; by = by; count = count }) self.old) ≤ 2 ^ 40 }
         ensures ok { OnOk result (self.new ≡ with_count (record { edit = edit; by = by; count = count }) self.old) }
+        ensures grows { OnOk result (length self.new ≤ length self.old + 1) }
         ensures counts { OnOk result ((t : Lamport) → count_of self.new t ≡ max (count_of self.old t) (if same_stamp edit t then count else 0)) }
         ensures counts_seen { OnOk result ((t : Lamport) (v : Entries) → count_seen self.new t v ≡ max (count_seen self.old t v) (if same_stamp edit t && sees v by then count else 0)) }
         ensures err { OnErr result (self.new ≡ self.old) }

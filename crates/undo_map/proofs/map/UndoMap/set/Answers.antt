@@ -1,6 +1,6 @@
 use Rattle.std.proofs.Common.{◌∙◌, ◌≤◌, ◌^◌, subst, sym, length, Some, None}
 use Rattle.undo_map.specs.declared.entry.UndoEntry.{UndoEntry}
-use Rattle.undo_map.proofs.Setting.{set_in, counts_fit, counts_set}
+use Rattle.undo_map.proofs.Setting.{set_in, counts_fit, counts_set, grown}
 use Rattle.undo_map.proofs.map.UndoMap.set.Goals as goal
 
 pub insert-requires-clause-short : goal.insert-requires-clause-short
@@ -27,3 +27,8 @@ pub returns-clause-counts_seen : goal.returns-clause-counts_seen
 returns-clause-counts_seen c =
     let e : UndoEntry = record { edit = c.args.edit; by = c.args.by; count = c.args.count } in
     λ t v. counts_set e c.args.self.now _ t (Some v) (c.in_ok-insert.ensures.ok ∙ set_in e _ _ _ _ c.self.view_is c.held-held.ensures c.max.ensures)
+
+pub returns-clause-grows : goal.returns-clause-grows
+returns-clause-grows c =
+    let e : UndoEntry = record { edit = c.args.edit; by = c.args.by; count = c.args.count } in
+    grown e c.args.self.now _ (c.in_ok-insert.ensures.ok ∙ set_in e _ _ _ _ c.self.view_is c.held-held.ensures c.max.ensures)
