@@ -1,13 +1,14 @@
 -- Which faults the reading of a text has.
-use Rattle.std.proofs.Common.{◌≡◌, ℕ, ◌+◌, ◌<◌, ◌≤◌, ◌⊎◌, inl, Bool, true, false, cond, nat_lt, List, [], ◌∷◌, ◌++◌, length, Result, Ok, Err, refl, sym, ap, ◌∙◌, subst, arith}
+use Rattle.std.proofs.Common.{◌≡◌, ℕ, ◌+◌, ◌<◌, ◌≤◌, Bool, true, false, cond, nat_lt, List, [], ◌∷◌, ◌++◌, length, Result, Ok, Err, refl, ap, subst, arith}
 use Rattle.std.specs.Prelude.{⊤}
 use Rattle.std.proofs.lemmas.Bool.{lt-ltb, le-ltb, ltb-true}
 use Rattle.session_lines.specs.Cut.{lines_of}
 use Rattle.session_lines.specs.Session.{then_from, with_header, rest_of, header_of, line_of, session_of, decoded}
-use Rattle.session_lines.specs.declared.header.Header.{Header}
+use Rattle.session_lines.specs.declared.header.Header.{Header as FirstLine}
 use Rattle.session_lines.specs.declared.session.SessionLine.{SessionLine}
 use Rattle.session_lines.specs.declared.session.Session.{Session}
 use Rattle.session_lines.specs.declared.fault.Word.{Word}
+use Rattle.session_lines.specs.declared.fault.Word.TheVariants.{Header}
 use Rattle.session_lines.specs.declared.fault.DecodeFault.{DecodeFault}
 use Rattle.session_lines.specs.declared.fault.DecodeFault.TheVariants.{Lines, Bad, OutOfMemory}
 
@@ -20,6 +21,12 @@ decoded_many input h = ap (λ b. cond b (Err (Lines (length (lines_of input)))) 
 pub decoded_few : (input : List ℕ) → length (lines_of input) ≤ 1048576 → decoded input ≡ session_of (lines_of input)
 unfolding decoded
 decoded_few input h = ap (λ b. cond b (Err (Lines (length (lines_of input)))) (session_of (lines_of input))) (le-ltb 1048576 (length (lines_of input)) h)
+
+-- a text without a byte has no line
+pub decoded_nothing : (input : List ℕ) → length input ≡ 0 → (decoded input ≡ Err (Bad 1 Header)) × (length (lines_of input) ≡ 0)
+unfolding decoded
+decoded_nothing [] h = (refl, refl)
+decoded_nothing (x ∷ xs) h = absurd (omega arith)
 
 -- ---- else a line is bad
 
@@ -37,7 +44,7 @@ rest_bad : (ids : List ℕ) (before : List SessionLine) (ls : List (List ℕ)) �
 rest_bad ids before [] = tt
 rest_bad ids before (l ∷ ls) = then_bad (2 + length before) (line_of ids l) (λ x. rest_of ids (before ++ x ∷ []) ls) (λ x. rest_bad ids (before ++ x ∷ []) ls)
 
-with_bad : (h : Header) (r : Result (List SessionLine) DecodeFault) → IsBad r → IsBad (with_header h r)
+with_bad : (h : FirstLine) (r : Result (List SessionLine) DecodeFault) → IsBad r → IsBad (with_header h r)
 with_bad h (Ok ls) b = tt
 with_bad h (Err (Lines n)) b = b
 with_bad h (Err (Bad n w)) b = tt

@@ -1,7 +1,6 @@
 // Reading a session from its bytes.
 ghost use Rattle.std.specs.Prelude.{◌≡◌, ◌<◌, ◌≤◌, ◌⊎◌, [], length, IfOk, IfErr, Ok, Err, None, Some};
 ghost use Rattle.session_lines.specs.Cut.{lines_of};
-ghost use Rattle.session_lines.specs.Heading.{is_among};
 ghost use Rattle.session_lines.specs.Session.{IsSession, decoded, header_of, is_known, line_of, rest_of, session_of, word_of};
 ghost use Rattle.session_lines.specs.declared.fault.Word.{Word};
 
@@ -90,15 +89,10 @@ fn rest_of(alloc: Global, replicas: &[u16], text: &[u8]) -> Result<SessionLines,
 
 // The session that the lines of the text are, however many there are.
 fn session_of(alloc: Global, input: &[u8]) -> Result<Session, DecodeFault>
+    requires { 0 < length input.now }
     ensures ok { IfOk result (λ s. session_of (lines_of input.now) ≡ Ok s) }
     ensures fault { IfErr result (λ e. (session_of (lines_of input.now) ≡ Err e) ⊎ (e ≡ DecodeFault.OutOfMemory)) }
 {
-    if input.is_empty() {
-        return Err(DecodeFault::Bad {
-            line: 1,
-            word: Word::Header,
-        });
-    }
     let (line, after) = first_line(input);
     match header_of(alloc, line) {
         Ok(Header { base, replicas }) => {
@@ -122,14 +116,20 @@ fn session_of(alloc: Global, input: &[u8]) -> Result<Session, DecodeFault>
 ///
 /// `Lines` exactly where there are more than 1,048,576 lines, with their number. Else `Bad` for the first bad line and the
 /// first word that applies to it; an input without a line is bad at line 1 with the word `header`. `OutOfMemory` only where
-/// there are not too many lines.
-#[tactic(auto, unfolding(crate::specs::Session::decoded), using(crate::proofs::Headers::is_session))]
+/// there is a line, and not too many.
+#[tactic(auto, unfolding(crate::specs::Session::decoded), using(crate::proofs::Headers::is_session, crate::proofs::Faults::decoded_nothing))]
 pub fn decode(alloc: Global, input: &[u8]) -> Result<Session, DecodeFault>
     ensures ok { IfOk result (λ s. decoded input.now ≡ Ok s) }
     ensures session { IfOk result (λ s. IsSession (length input.now) s) }
     ensures lines { 1048576 < length (lines_of input.now) → result ≡ Err (DecodeFault.Lines (length (lines_of input.now))) }
-    ensures fault { IfErr result (λ e. (decoded input.now ≡ Err e) ⊎ ((length (lines_of input.now) ≤ 1048576) × (e ≡ DecodeFault.OutOfMemory))) }
+    ensures fault { IfErr result (λ e. (decoded input.now ≡ Err e) ⊎ ((0 < length input.now) × (length (lines_of input.now) ≤ 1048576) × (e ≡ DecodeFault.OutOfMemory))) }
 {
+    if input.is_empty() {
+        return Err(DecodeFault::Bad {
+            line: 1,
+            word: Word::Header,
+        });
+    }
     let count = line_count(input);
     if count > LINES {
         return Err(DecodeFault::Lines(count as u64));

@@ -1,5 +1,5 @@
 // The forms of a line after the header.
-ghost use Rattle.std.specs.Prelude.{◌≡◌, map, option_map, option_and_then, IfOk, None, Some};
+ghost use Rattle.std.specs.Prelude.{◌≡◌, map, IfOk, None, Some};
 ghost use Rattle.serde_json.specs.View.{view};
 ghost use Rattle.session_lines.specs.Json.{listed};
 ghost use Rattle.session_lines.specs.Forms.{all_of, id_of, piece_from, piece_of, pieces_of, edit_from, text_from, line_from, shaped};

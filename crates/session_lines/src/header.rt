@@ -1,5 +1,5 @@
 // The header of a session.
-ghost use Rattle.std.specs.Prelude.{◌≡◌, map, option_map, option_and_then, IfOk, None, Some};
+ghost use Rattle.std.specs.Prelude.{◌≡◌, map, option_and_then, IfOk, None, Some};
 ghost use Rattle.std.specs.List.{list_all};
 ghost use Rattle.serde_json.specs.View.{view};
 ghost use Rattle.session_lines.specs.Json.{listed};

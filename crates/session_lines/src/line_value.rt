@@ -1,7 +1,7 @@
 // A line as JSON.
-ghost use Rattle.std.specs.Prelude.{◌≡◌, map, option_map, IfOk, IsErrOf, None, Some, nat_eq, Err};
+ghost use Rattle.std.specs.Prelude.{◌≡◌, map, option_map, IfOk, None, Some, Err};
 ghost use Rattle.serde_json.specs.View.{view};
-ghost use Rattle.session_lines.specs.Json.{value_of, whole, listed, is_text, is_number};
+ghost use Rattle.session_lines.specs.Json.{value_of, listed, is_text, is_number};
 ghost use Rattle.session_lines.specs.declared.line_value.LineFault.{LineFault};
 ghost use Rattle.session_lines.specs.declared.fault.Word.{Word};
 

@@ -1,9 +1,9 @@
 // The text of a report's line.
-ghost use Rattle.std.specs.Prelude.{◌≡◌, ◌++◌, ◌<◌, ◌^◌, ◌==◌, length, codes, decimal, reverse, count_by, string_bytes, OnOk, OnErr, IfOk};
-ghost use Rattle.std.specs.List.{position, position_or_len};
+ghost use Rattle.std.specs.Prelude.{◌≡◌, ◌++◌, ◌<◌, ◌==◌, reverse, string_bytes, OnOk, OnErr, IfOk};
+ghost use Rattle.std.specs.List.{position};
 ghost use Rattle.json.specs.Print.{quoted};
 ghost use Rattle.session_lines.specs.Cut.{feeds};
-ghost use Rattle.session_lines.specs.Report.{last_column, made_line, text_line, text_line_with, end_words, counts_words, waits_words, replica_line, final_line, final_line_with, fault_words, refused_line, unit_words, line_text};
+ghost use Rattle.session_lines.specs.Report.{last_column, made_line, text_line, text_line_with, end_words, counts_words, waits_words, replica_line, final_line, final_line_with, fault_words, refused_line, line_text};
 
 use crate::cutting::feeds;
 use crate::report::Report;

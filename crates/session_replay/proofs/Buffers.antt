@@ -1,12 +1,11 @@
 -- The buffer of a replica among those of a session, by its place.
-use Rattle.std.proofs.Common.{◌≡◌, ℕ, suc, ◌+◌, ◌<◌, ◌≤◌, Bool, true, false, not, cond, ◌==◌, nat_lt, List, [], ◌∷◌, ◌++◌, length, get_or, set, Option, None, Some, refl, sym, ap, ◌∙◌, subst, arith, length-append}
-use Rattle.std.specs.List.{All, find, position, position_or_len}
+use Rattle.std.proofs.Common.{◌≡◌, ℕ, suc, ◌+◌, ◌<◌, ◌≤◌, Bool, true, false, not, cond, ◌==◌, nat_lt, List, [], ◌∷◌, length, get_or, set, Option, None, Some, refl, sym, ap, subst, arith, length-append}
+use Rattle.std.specs.List.{position, position_or_len}
 use Rattle.std.proofs.lemmas.Bool.{ltb-true, ltb-false}
-use Rattle.std.proofs.lemmas.List.Elements.{All-set}
 use Rattle.op_model.specs.declared.operation.Piece.{Piece}
 use Rattle.op_model.specs.declared.faults.EditFault.{EditFault}
 use Rattle.text_buffer.specs.Buffer.{BufferState, edit_fault, made}
-use Rattle.session_replay.specs.Work.{State, buffer_of, with_buffer, after_edit, after_edit_by}
+use Rattle.session_replay.specs.Work.{buffer_of, with_buffer, after_edit, after_edit_by}
 
 -- ---- the first of a list that passes a test
 

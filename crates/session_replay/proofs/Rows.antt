@@ -1,5 +1,5 @@
 -- Worked rows, from the bytes of a session to those of its report: the definitions compute.
-use Rattle.std.proofs.Common.{◌≡◌, [], ◌∷◌, Some, None, refl}
+use Rattle.std.proofs.Common.{◌≡◌, ℕ, [], ◌∷◌, Some, None, refl}
 use Rattle.std.specs.Prelude.{codes}
 use Rattle.std.specs.Fmt.{digits}
 use Rattle.std.specs.Str.{is_utf8, chars}
@@ -16,6 +16,15 @@ use Rattle.session_replay.specs.Work.{report_of}
 use Rattle.session_replay.specs.Replay.{answer_of}
 use Rattle.session_replay.specs.declared.words.Command.TheVariants.{Replay}
 use Rattle.session_replay.specs.declared.top.Status.TheVariants as status
+use Rattle.lamport_clock.specs.Stamps.{later, same_stamp}
+use Rattle.op_model.specs.Cells.{same_cell, sibling_first, seq_where, seq}
+use Rattle.op_model.specs.Shown.{deleters_where, shown_where, shown, text_where, text}
+use Rattle.op_model.specs.Made.{made as made_at}
+
+-- what histories compute
+unfoldable open_histories : ℕ
+unfolding later same_stamp same_cell sibling_first seq_where seq deleters_where shown_where shown text_where text made_at
+open_histories = 0
 
 -- ---- words
 
@@ -29,27 +38,27 @@ other_words = refl
 
 pub one_edit : answer_of (codes "[\"zedbuf\",1,\"ab\",[1]]\n[\"edit\",1,[[1,1,\"X\"]]]\n[\"text\",1]\n")
     ≡ (status.Done, codes "1: 2.1\ntext 1: 3 bytes, end 0:3, 1 rows, \"aXb\"\nreplica 1: 3 bytes, 1 rows, 1 applied, 0 waiting, 0 refused\nfinal 1: \"aXb\"\n")
-unfolding answer_of report_of report_text decoded value_of shaped headed header_of line_of line_text made_line refused_line text_line replica_line final_line digits escape_byte is_utf8 chars serde_json_on_literals
+unfolding answer_of open_histories report_of report_text decoded value_of shaped headed header_of line_of line_text made_line refused_line text_line replica_line final_line digits escape_byte is_utf8 chars serde_json_on_literals
 one_edit = refl
 
 pub no_line_but_the_header : answer_of (codes "[\"zedbuf\",1,\"ab\",[1,2]]\n")
     ≡ (status.Done, codes "replica 1: 2 bytes, 1 rows, 0 applied, 0 waiting, 0 refused\nfinal 1: \"ab\"\nreplica 2: 2 bytes, 1 rows, 0 applied, 0 waiting, 0 refused\nfinal 2: \"ab\"\n")
-unfolding answer_of report_of report_text decoded value_of shaped headed header_of line_of line_text made_line refused_line text_line replica_line final_line digits escape_byte is_utf8 chars serde_json_on_literals
+unfolding answer_of open_histories report_of report_text decoded value_of shaped headed header_of line_of line_text made_line refused_line text_line replica_line final_line digits escape_byte is_utf8 chars serde_json_on_literals
 no_line_but_the_header = refl
 
 pub two_replicas : answer_of (codes "[\"zedbuf\",1,\"\",[2,1]]\n[\"edit\",1,[[0,0,\"X\"]]]\n[\"edit\",2,[[1,1,\"Y\"]]]\n[\"edit\",2,[[0,0,\"Z\"]]]\n[\"text\",1]\n")
     ≡ (status.Done, codes "1: 2.1\n2: pastend 0 0\n3: 2.2\ntext 1: 1 bytes, end 0:1, 1 rows, \"X\"\nreplica 2: 1 bytes, 1 rows, 1 applied, 0 waiting, 0 refused\nfinal 2: \"Z\"\nreplica 1: 1 bytes, 1 rows, 1 applied, 0 waiting, 0 refused\nfinal 1: \"X\"\n")
-unfolding answer_of report_of report_text decoded value_of shaped headed header_of line_of line_text made_line refused_line text_line replica_line final_line digits escape_byte is_utf8 chars serde_json_on_literals
+unfolding answer_of open_histories report_of report_text decoded value_of shaped headed header_of line_of line_text made_line refused_line text_line replica_line final_line digits escape_byte is_utf8 chars serde_json_on_literals
 two_replicas = refl
 
 pub refused_edits : answer_of (codes "[\"zedbuf\",1,\"ab\",[9]]\n[\"edit\",9,[[2,1,\"\"]]]\n[\"edit\",9,[[0,2,\"\"],[1,1,\"x\"]]]\n[\"edit\",9,[]]\n")
     ≡ (status.Done, codes "1: reversed 0\n2: overlap 1\n3: 2.9\nreplica 9: 2 bytes, 1 rows, 1 applied, 0 waiting, 0 refused\nfinal 9: \"ab\"\n")
-unfolding answer_of report_of report_text decoded value_of shaped headed header_of line_of line_text made_line refused_line text_line replica_line final_line digits escape_byte is_utf8 chars serde_json_on_literals
+unfolding answer_of open_histories report_of report_text decoded value_of shaped headed header_of line_of line_text made_line refused_line text_line replica_line final_line digits escape_byte is_utf8 chars serde_json_on_literals
 refused_edits = refl
 
 pub two_rows : answer_of (codes "[\"zedbuf\",1,\"a\\nbc\\\"\",[1]]\n[\"text\",1]\n")
     ≡ (status.Done, codes "text 1: 5 bytes, end 1:3, 2 rows, \"a\\nbc\\\"\"\nreplica 1: 5 bytes, 2 rows, 0 applied, 0 waiting, 0 refused\nfinal 1: \"a\\nbc\\\"\"\n")
-unfolding answer_of report_of report_text decoded value_of shaped headed header_of line_of line_text made_line refused_line text_line replica_line final_line digits escape_byte is_utf8 chars serde_json_on_literals
+unfolding answer_of open_histories report_of report_text decoded value_of shaped headed header_of line_of line_text made_line refused_line text_line replica_line final_line digits escape_byte is_utf8 chars serde_json_on_literals
 two_rows = refl
 
 -- ---- what is no session

@@ -1,5 +1,5 @@
 -- What an input comes to.
-use Rattle.std.specs.Prelude.{◌≡◌, ℕ, ◌<◌, List, length, nat_lt, codes, Option, Result, Ok, Err, if◌then◌else◌}
+use Rattle.std.specs.Prelude.{◌≡◌, ℕ, List, length, nat_lt, codes, Option, Result, Ok, Err, if◌then◌else◌}
 use Rattle.session_lines.specs.Report.{report_text}
 use Rattle.session_lines.specs.Session.{decoded}
 use Rattle.session_lines.specs.Words.{bad_line, many_line}

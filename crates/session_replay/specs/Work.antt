@@ -4,7 +4,8 @@ use Rattle.std.specs.List.{find, flat_map}
 use Rattle.op_model.specs.Operations.{stamp_of}
 use Rattle.op_model.specs.declared.operation.Piece.{Piece}
 use Rattle.op_model.specs.declared.faults.EditFault.{EditFault}
-use Rattle.text_buffer.specs.Buffer.{BufferState, edit_fault, edited, made, over_base, plain_text}
+use Rattle.op_model.specs.Shown.{text}
+use Rattle.text_buffer.specs.Buffer.{BufferState, edit_fault, edited, made, over_base}
 use Rattle.session_lines.specs.Cut.{feeds}
 use Rattle.session_lines.specs.declared.session.SessionLine.{SessionLine}
 use Rattle.session_lines.specs.declared.session.SessionLine.TheVariants as line
@@ -56,7 +57,7 @@ report_at f (Some b) = f b ∷ []
 -- what the line reports; a replica that is not there reports nothing, and no session has a line of one
 abbrev pub events : SessionLine → State → List Report
 events (line.Edit r ps) s = report_at (edit_report (s.operations + 1) ps) (buffer_of r s.buffers)
-events (line.Text r) s = report_at (λ b. report.Text r (plain_text b.history)) (buffer_of r s.buffers)
+events (line.Text r) s = report_at (λ b. report.Text r (text b.history)) (buffer_of r s.buffers)
 
 -- the session after the line
 abbrev pub step : SessionLine → State → State
@@ -76,7 +77,7 @@ after_all (l ∷ ls) s = after_all ls (step l s)
 -- what a replica reports at the end; the base is no applied operation
 abbrev pub at_end : BufferState → List Report
 at_end b =
-    report.Replica b.replica (length (plain_text b.history)) (feeds (plain_text b.history) + 1) (length b.history - 1) 0 0 ∷ report.Final b.replica (plain_text b.history) ∷ []
+    report.Replica b.replica (length (text b.history)) (feeds (text b.history) + 1) (length b.history - 1) 0 0 ∷ report.Final b.replica (text b.history) ∷ []
 
 -- a replica's buffer at first, with the limits of a session's buffers
 abbrev pub opened : List ℕ → ℕ → BufferState

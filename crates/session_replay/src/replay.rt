@@ -1,11 +1,10 @@
 // A session worked line by line, and its report.
-ghost use Rattle.std.specs.Prelude.{◌≡◌, ◌<◌, ◌≤◌, ◌+◌, ◌++◌, ◌∷◌, ◌^◌, ◌==◌, List, [], length, map, ℕ, IfOk, OnOk};
+ghost use Rattle.std.specs.Prelude.{◌≡◌, ◌<◌, ◌≤◌, ◌+◌, ◌++◌, ◌^◌, ◌==◌, length, map, ℕ, IfOk, OnOk};
 ghost use Rattle.std.specs.List.{All, flat_map, position};
-ghost use Rattle.text_buffer.specs.Buffer.{BufferState};
 ghost use Rattle.session_lines.specs.Report.{report_text};
 ghost use Rattle.session_lines.specs.Session.{IsSession};
 ghost use Rattle.session_lines.specs.declared.session.SessionLine.{SessionLine};
-ghost use Rattle.session_replay.specs.Work.{State, after_all, all_events, at_end, events, opened, opening, report_of, step};
+ghost use Rattle.session_replay.specs.Work.{after_all, all_events, at_end, events, opened, report_of, step};
 ghost use Rattle.session_replay.specs.Working.{IsCounted, state_of};
 
 use crate::replica::Replica;
@@ -117,7 +116,6 @@ fn write_ends(alloc: Global, replicas: &[Replica], out: &mut Vec<u8>) -> Result<
 }
 
 /// The text of a session's report.
-#[tactic(auto, unfolding(crate::specs::Work::report_of))]
 pub fn report(alloc: Global, session: &Session) -> Result<Vec<u8>, AllocError>
     requires { IsSession 67108864 session.now }
     ensures { IfOk result (λ v. v.items ≡ report_text (report_of session.now)) }

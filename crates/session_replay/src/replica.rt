@@ -1,7 +1,7 @@
 // A replica of a session: its buffer, and what it reports.
 ghost use Rattle.std.specs.Prelude.{◌≡◌, ◌≤◌, ◌^◌, ◌++◌, ◌==◌, length, IfOk, OnOk};
-ghost use Rattle.text_buffer.specs.Buffer.{plain_text};
-ghost use Rattle.session_lines.specs.Report.{line_text, report_text};
+ghost use Rattle.op_model.specs.Shown.{text};
+ghost use Rattle.session_lines.specs.Report.{report_text};
 ghost use Rattle.session_replay.specs.Work.{after_edit, at_end, edit_report, opened};
 ghost use Rattle.session_lines.specs.declared.report.Report.{Report};
 
@@ -84,7 +84,7 @@ impl Replica {
 
     /// Its text.
     pub fn text(&self) -> Result<Text, AllocError>
-        ensures { IfOk result (λ t. t ≡ plain_text self.now.history) }
+        ensures { IfOk result (λ t. t ≡ text self.now.history) }
     {
         Ok(Text::new(self.buffer.text()?))
     }

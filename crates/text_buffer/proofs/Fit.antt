@@ -8,17 +8,17 @@ use Rattle.std.proofs.lemmas.Str.{IsCharBoundary-start}
 use Rattle.std.specs.List.{slice_range, slice_index}
 use Rattle.std.specs.Str.{IsCharBoundary, IsUtf8}
 use Rattle.op_model.specs.declared.operation.Piece.{Piece}
-use Rattle.op_model.specs.declared.operation.Operation.{Operation}
 use Rattle.op_model.specs.declared.faults.EditFault.{EditFault}
 use Rattle.op_model.specs.declared.faults.EditFault.TheVariants.{Reversed, Overlap, PastEnd, InsideChar, TextLimit, ClockEnd, Full}
 use Rattle.op_model.specs.declared.faults.Unit.TheVariants.{Bytes, Entries}
 use Rattle.op_model.specs.Choice.{first_of, when}
-use Rattle.op_model.specs.Operations.{pieces_of, text_total}
+use Rattle.op_model.specs.Operations.{text_total}
 use Rattle.op_model.specs.Histories.{clock, bytes_held, entries_held}
 use Rattle.op_model.specs.Limited.{Excess, excess}
 use Rattle.op_model.specs.Edits.{is_boundary, is_reversed, is_past, is_inside, overlap_from, replaced, replaced_from, piece_fault}
 use Rattle.text_buffer.specs.Fit.{AreFit}
-use Rattle.text_buffer.specs.Buffer.{BufferState, plain_from, plain_text, edit_fault}
+use Rattle.op_model.specs.Shown.{text}
+use Rattle.text_buffer.specs.Buffer.{BufferState, edit_fault}
 
 all_none : {A : Type 0} (os : List (Option A)) → first_of os ≡ None → AllByRecursion (λ o. o ≡ None) os
 all_none [] h = tt
@@ -104,20 +104,20 @@ abbrev full : Excess → EditFault
 full e = Full e.unit e.held e.adds
 
 -- what an edit that meets no fault meets none of
-unmet : (b : BufferState) (ps : List Piece) → edit_fault b ps ≡ None → (piece_fault (plain_text b.history) ps ≡ None) × (excess b.limits b.history (text_total ps) (1 + length ps) ≡ None)
+unmet : (b : BufferState) (ps : List Piece) → edit_fault b ps ≡ None → (piece_fault (text b.history) ps ≡ None) × (excess b.limits b.history (text_total ps) (1 + length ps) ≡ None)
 unmet b ps e =
     let long = when (nat_lt 65536 (text_total ps)) (TextLimit (text_total ps)) in
     let late = when (clock b.history == 4294967295) ClockEnd in
     let over = excess b.limits b.history (text_total ps) (1 + length ps) in
-    let none = all_none (piece_fault (plain_text b.history) ps ∷ long ∷ late ∷ option_map full over ∷ []) e in
+    let none = all_none (piece_fault (text b.history) ps ∷ long ∷ late ∷ option_map full over ∷ []) e in
     (none.0, map_none full over none.1.1.1.0)
 
 -- an edit that meets no fault: its pieces stand on boundaries of the text, and what is held stays within the limits
-pub fits_of : (b : BufferState) (ps : List Piece) → edit_fault b ps ≡ None → IsUtf8 (plain_text b.history) → AreFit 0 ps (plain_text b.history)
-fits_of b ps e u = fits_of_none (plain_text b.history) ps (unmet b ps e).0 u
+pub fits_of : (b : BufferState) (ps : List Piece) → edit_fault b ps ≡ None → IsUtf8 (text b.history) → AreFit 0 ps (text b.history)
+fits_of b ps e u = fits_of_none (text b.history) ps (unmet b ps e).0 u
 
-pub length_edited : (b : BufferState) (ps : List Piece) → edit_fault b ps ≡ None → IsUtf8 (plain_text b.history) → length (replaced ps (plain_text b.history)) ≤ length (plain_text b.history) + text_total ps
-length_edited b ps e u = omega (arith, length_replaced 0 ps (plain_text b.history) (fits_of b ps e u))
+pub length_edited : (b : BufferState) (ps : List Piece) → edit_fault b ps ≡ None → IsUtf8 (text b.history) → length (replaced ps (text b.history)) ≤ length (text b.history) + text_total ps
+length_edited b ps e u = omega (arith, length_replaced 0 ps (text b.history) (fits_of b ps e u))
 
 pub room_of : (b : BufferState) (ps : List Piece) → edit_fault b ps ≡ None → (bytes_held b.history + text_total ps ≤ b.limits.bytes) × (entries_held b.history + (1 + length ps) ≤ b.limits.entries)
 room_of b ps e =
@@ -127,7 +127,3 @@ room_of b ps e =
     let more_entries : Excess = record { unit = Entries; held = entries_held b.history; adds = 1 + length ps } in
     let none = all_none (when bytes more_bytes ∷ when entries more_entries ∷ []) (unmet b ps e).1 in
     (ltb-false _ _ (when_none bytes more_bytes none.0), ltb-false _ _ (when_none entries more_entries none.1.0))
-
-pub plain_from-append : (h : List Operation) (op : Operation) (t : List ℕ) → plain_from t (h ++ op ∷ []) ≡ replaced (pieces_of op) (plain_from t h)
-plain_from-append [] op t = refl
-plain_from-append (o ∷ h) op t = plain_from-append h op (replaced (pieces_of o) t)

@@ -1,3 +1,4 @@
 pub mod Fit
 pub mod Edited
+pub mod Opened
 mod Rows

@@ -1,7 +1,9 @@
 -- What the fields of a buffer stand for.
 use Rattle.std.specs.Prelude.{◌≡◌, string_bytes}
 use Rattle.op_model.specs.Histories.{version, clock, bytes_held, entries_held}
-use Rattle.text_buffer.specs.Buffer.{BufferState, IsBuffer, plain_text}
+use Rattle.op_model.specs.Shown.{text}
+use Rattle.fragments.specs.Kept.{kept_cells}
+use Rattle.text_buffer.specs.Buffer.{BufferState, IsBuffer}
 use Rattle.text_buffer.specs.declared.buffer.Buffer.TheInside.{Inside}
 
 abbrev pub state_of : Inside → BufferState
@@ -10,7 +12,8 @@ state_of b = record { history = b.operations.items; replica = b.replica; limits 
 pub record AreKept (b : Inside) : Type 0 where
   pub clock : b.clock.value ≡ clock b.operations.items
   pub version : b.version ≡ version b.operations.items
-  pub text : string_bytes b.text ≡ plain_text b.operations.items
+  pub cells : b.cells ≡ kept_cells b.operations.items
+  pub text : string_bytes b.text ≡ text b.operations.items
   pub bytes : b.bytes ≡ bytes_held b.operations.items
   pub entries : b.entries ≡ entries_held b.operations.items
   pub state : IsBuffer (state_of b)

@@ -1,19 +1,23 @@
 // The buffer of one replica.
 ghost use Rattle.std.specs.Prelude.{◌≡◌, ◌≤◌, ◌^◌, ◌-◌, ◌+◌, ◌⊎◌, ◌++◌, ◌∷◌, [], length, IfOk, IfErr, OnErr, OnOk, None, Some, option_map, string_bytes};
-ghost use Rattle.op_model.specs.Histories.{base, clock, version};
+ghost use Rattle.op_model.specs.Histories.{SameSet, base, clock, version};
 ghost use Rattle.op_model.specs.Limited.{excess};
+ghost use Rattle.op_model.specs.declared.operation.Operation.TheVariants.{Edit};
 ghost use Rattle.op_model.specs.Edits.{replaced};
-ghost use Rattle.text_buffer.specs.Buffer.{BufferState, IsBuffer, edit_fault, edited, made, new_fault, over_base, plain_text};
+ghost use Rattle.op_model.specs.Shown.{text};
+ghost use Rattle.text_buffer.specs.Buffer.{BufferState, IsBuffer, edit_fault, edited, made, new_fault, over_base};
 
 use crate::NewFault;
-use crate::pieces::{copied, piece_fault, replaced, text_total};
+use crate::pieces::{piece_fault, replaced, text_total};
+use fragments::Cells;
 use lamport_clock::{Clock, Lamport, Version};
 use op_model::{EditFault, EditOp, Limits, Operation, Piece, Pieces, Text, Unit};
 use std::alloc::{AllocError, Global};
 use std::marker::Model;
 
 /// A replica's text, and the operations that made it. Contracts see the operations in the order in which they were
-/// applied, the base first, with the replica's id and the limits; all else is a function of these.
+/// applied, the base first, with the replica's id and the limits; all else is a function of these. Each operation is
+/// good against those before it.
 #[derive(Drop)]
 pub struct Buffer {
     alloc: Global,
@@ -21,6 +25,7 @@ pub struct Buffer {
     clock: Clock,
     version: Version,
     operations: Vec<Operation>,
+    cells: Cells,
     text: String,
     bytes: u64,
     entries: u64,
@@ -79,6 +84,7 @@ impl Buffer {
             clock,
             version,
             operations,
+            cells: Cells::over(alloc, base)?,
             text: String::from_str(alloc, base)?,
             bytes: len,
             entries: 0,
@@ -88,7 +94,7 @@ impl Buffer {
 
     /// The text, copied. Linear in its length. What is true of every buffer, `IsBuffer`, is a clause for callers.
     pub fn text(&self) -> Result<String, AllocError>
-        ensures text { IfOk result (λ s. string_bytes s ≡ plain_text self.now.history) }
+        ensures text { IfOk result (λ s. string_bytes s ≡ text self.now.history) }
         ensures buffer { IsBuffer self.now }
     {
         self.text.clone()
@@ -103,8 +109,8 @@ impl Buffer {
     }
 
     /// Replaces ranges of the text, given in bytes and in order: each starts at or past the end of the one before it.
-    /// Gives the operation, with the pieces as they were given, and keeps an equal one. Linear in the text and in the
-    /// number of pieces.
+    /// Gives the operation, whose pieces count hidden bytes too, and keeps an equal one. Linear in all bytes, hidden ones
+    /// too, and in the number of pieces.
     ///
     /// # Errors
     ///
@@ -117,7 +123,7 @@ impl Buffer {
         ensures made { IfOk result (λ op. op ≡ made self.old changes.now) }
         ensures new { OnOk result (self.new ≡ edited self.old changes.now) }
         ensures history { IfOk result (λ op. self.new.history ≡ self.old.history ++ op ∷ []) }
-        ensures text { OnOk result (plain_text self.new.history ≡ replaced changes.now (plain_text self.old.history)) }
+        ensures text { OnOk result (text self.new.history ≡ replaced changes.now (text self.old.history)) }
         ensures fault { IfErr result (λ e. (edit_fault self.old changes.now ≡ Some e) ⊎ ((edit_fault self.old changes.now ≡ None) × (e ≡ EditFault.OutOfMemory))) }
         ensures err { OnErr result (self.new ≡ self.old) }
     {
@@ -128,15 +134,17 @@ impl Buffer {
         let text = replaced(self.alloc, self.text.as_str(), changes)?;
         let made = self.operation(changes)?;
         let kept = self.operation(changes)?;
+        let cells = self.cells.lay(self.alloc, &made)?;
         let mut version = self.version.copy(self.alloc)?;
         version.observe(stamp)?;
-        self.operations.push(kept)?;
+        self.operations.push(Operation::Edit(kept))?;
         self.clock.observe(stamp);
         self.version = version;
+        self.cells = cells;
         self.text = text;
         self.bytes += text_total(changes) as u64;
         self.entries += 1 + changes.len() as u64;
-        Ok(made)
+        Ok(Operation::Edit(made))
     }
 
     // The fault that the pieces meet, if there is memory.
@@ -187,17 +195,26 @@ impl Buffer {
         }
     }
 
-    // The operation of an edit.
-    fn operation(&self, changes: &[Piece]) -> Result<Operation, EditFault>
-        ensures made { IfOk result (λ op. op ≡ made self.now changes.now) }
+    // The operation of an edit that meets no fault.
+    fn operation(&self, changes: &[Piece]) -> Result<EditOp, EditFault>
+        requires { edit_fault self.now changes.now ≡ None }
+        ensures made { IfOk result (λ op. Edit op ≡ made self.now changes.now) }
         ensures err { IfErr result (λ e. e ≡ EditFault.OutOfMemory) }
     {
-        Ok(Operation::Edit(EditOp {
+        Ok(EditOp {
             stamp: self.next_stamp(),
             version: self.version.copy(self.alloc)?,
-            pieces: copied(self.alloc, changes)?,
-        }))
+            pieces: self.cells.full_pieces(self.alloc, changes)?,
+        })
     }
+}
+
+/// Two buffers that have applied the same operations, in whatever order, show the same text.
+pub fn agree(a: &Buffer, b: &Buffer)
+    ensures { SameSet a.now.history b.now.history → text a.now.history ≡ text b.now.history }
+{
+    let _ = &a.version;
+    let _ = &b.version;
 }
 
 // The base as an operation.

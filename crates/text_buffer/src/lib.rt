@@ -7,7 +7,7 @@ mod pieces;
 #[cfg(test)]
 mod tests;
 
-pub use buffer::Buffer;
+pub use buffer::{Buffer, agree};
 pub use faults::NewFault;
 pub use op_model::{EditFault, Limits, OutOfMemory, Unit};
 

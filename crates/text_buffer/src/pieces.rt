@@ -3,9 +3,9 @@ ghost use Rattle.std.specs.Prelude.{◌≡◌, ◌<◌, length, IfOk, string_byt
 ghost use Rattle.std.specs.List.{position};
 ghost use Rattle.op_model.specs.Operations.{text_total};
 ghost use Rattle.op_model.specs.Edits.{is_boundary, is_reversed, is_past, is_inside, overlap_from, piece_fault, replaced};
-ghost use Rattle.text_buffer.specs.Fit.{AreFit};
+ghost use Rattle.text_buffer.specs.Fit.{AreFit, AreUtf8};
 
-use op_model::{EditFault, Piece, Pieces, Text};
+use op_model::{EditFault, Piece};
 use std::alloc::{AllocError, Global};
 
 fn is_boundary(text: &str, i: u64) -> bool
@@ -64,9 +64,10 @@ pub fn piece_fault(text: &str, pieces: &[Piece]) -> Option<EditFault>
     None
 }
 
-/// The bytes of all new texts.
+/// The bytes of all new texts. That these are UTF-8 is a clause for callers.
 pub fn text_total(pieces: &[Piece]) -> u128
-    ensures { result ≡ text_total pieces.now }
+    ensures total { result ≡ text_total pieces.now }
+    ensures utf8 { AreUtf8 pieces.now }
 {
     let mut sum = 0u128;
     for p in pieces {
@@ -89,19 +90,4 @@ pub fn replaced(alloc: Global, text: &str, pieces: &[Piece]) -> Result<String, A
     }
     new.push_str(&text[at..])?;
     Ok(new)
-}
-
-/// Equal pieces.
-pub fn copied(alloc: Global, pieces: &[Piece]) -> Result<Pieces, AllocError>
-    ensures { IfOk result (λ ps. ps ≡ pieces.now) }
-{
-    let mut copies = Vec::new(alloc);
-    for p in pieces {
-        copies.push(Piece {
-            start: p.start,
-            end: p.end,
-            text: Text::new(String::from_str(alloc, p.text.as_str())?),
-        })?;
-    }
-    Ok(Pieces::new(copies))
 }

@@ -1,5 +1,5 @@
 // Edits of a buffer, with ample memory.
-use crate::{Buffer, EditFault, Limits, NewFault, Unit};
+use crate::{Buffer, EditFault, Limits, NewFault, Unit, agree};
 use lamport_clock::Lamport;
 use op_model::{Operation, Piece, Text};
 use std::alloc::{AllocError, Global};
@@ -146,6 +146,63 @@ fn edits_and_their_faults(rt: HostRuntime) -> Result<(), Fail> {
     edit_in_turn(&rt, alloc, ample(alloc, "ab")?, PLACES)?;
     edit_in_turn(&rt, alloc, ample(alloc, "é😀\n")?, CHARACTERS)?;
     edit_in_turn(&rt, alloc, few(alloc, "abc")?, LIMITED)?;
+    Ok(())
+}
+
+// An edit of one range, that range as its operation has it, counted past hidden bytes, and the text after it.
+struct Counted {
+    changes: &'static [(u64, u64, &'static str)],
+    start: u64,
+    end: u64,
+    text: &'static str,
+}
+
+const AMONG_HIDDEN: &[Counted] = &[
+    Counted {
+        changes: &[(1, 2, "")],
+        start: 1,
+        end: 2,
+        text: "ac",
+    },
+    Counted {
+        changes: &[(1, 1, "Q")],
+        start: 2,
+        end: 2,
+        text: "aQc",
+    },
+    Counted {
+        changes: &[(0, 2, "")],
+        start: 0,
+        end: 3,
+        text: "c",
+    },
+    Counted {
+        changes: &[(1, 1, "d")],
+        start: 4,
+        end: 4,
+        text: "cd",
+    },
+];
+
+fn has_range(rt: &impl Abort, made: &Operation, start: u64, end: u64) {
+    if let Operation::Edit(edit) = made {
+        for piece in edit.pieces.as_slice() {
+            assert_eq!(rt; piece.start, start);
+            assert_eq!(rt; piece.end, end);
+        }
+    }
+}
+
+#[test]
+fn ranges_count_hidden_bytes(rt: HostRuntime) -> Result<(), Fail> {
+    let alloc = rt.alloc();
+    let mut buffer = ample(alloc, "abc")?;
+    for case in AMONG_HIDDEN {
+        let made = buffer.edit(pieces(alloc, case.changes)?.as_slice())?;
+        has_range(&rt, &made, case.start, case.end);
+        assert_eq!(rt; buffer.text()?.as_str(), case.text);
+    }
+    agree(&buffer, &buffer);
     Ok(())
 }
 

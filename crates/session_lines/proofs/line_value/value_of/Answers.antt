@@ -1,4 +1,3 @@
-use Rattle.std.proofs.Common.{refl}
 use Rattle.session_lines.proofs.Lines.{value_read, value_none}
 use Rattle.session_lines.proofs.line_value.value_of.Goals as goal
 

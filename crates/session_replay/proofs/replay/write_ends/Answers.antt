@@ -1,4 +1,4 @@
-use Rattle.std.proofs.Common.{◌≡◌, ◌++◌, ap, ◌∙◌, arith}
+use Rattle.std.proofs.Common.{◌++◌, ap, ◌∙◌, arith}
 use Rattle.session_lines.specs.Report.{report_text}
 use Rattle.session_replay.specs.Work.{at_end}
 use Rattle.session_replay.proofs.Steps.{more_ends, ends_done}

@@ -1,0 +1,4 @@
+pub mod Greatest
+pub mod Early
+pub mod Setting
+mod Rows

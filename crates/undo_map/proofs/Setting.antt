@@ -1,0 +1,110 @@
+-- One more count is kept.
+use Rattle.std.proofs.Common.{◌≡◌, ℕ, suc, ◌<◌, ◌≤◌, ◌^◌, max, Bool, true, false, cond, ◌&&◌, List, [], ◌∷◌, length, get_or, refl, sym, ap, ◌∙◌, inl, inr, ◌⊎◌, Option, None, Some, arith, eqb, length-append, ◌+◌, subst}
+use Rattle.std.proofs.lemmas.Bool.{cases_Bool, and_parts, eqb-true}
+use Rattle.std.proofs.lemmas.Cmp.{on_total, then_total, alike_right}
+use Rattle.std.specs.Cmp.{IsTotalOrder}
+use Rattle.std.specs.List.{find}
+use Rattle.std.specs.Ordering.{is_eq, is_lt, is_gt, ordering_then}
+use Rattle.std.specs.declared.cmp.Ordering.{Ordering}
+use Rattle.std.specs.declared.cmp.Ordering.TheVariants.{Less, Equal, Greater}
+use Rattle.sum_tree.specs.Keyed.{held, inserted, below, above}
+use Rattle.undo_map.specs.declared.entry.UndoKey.{UndoKey}
+use Rattle.undo_map.specs.declared.entry.UndoEntry.{UndoEntry}
+use Rattle.undo_map.specs.Counts.{key_of, key_cmp, greatest, IsAscending, count_at_key, with_count, stamp_cmp, counts_for}
+use Rattle.sum_tree.specs.Laws.{fold}
+use Rattle.sum_tree.specs.Count.{count_sum}
+use Rattle.tree_cursor.proofs.Counts.{fold_counts}
+use Rattle.lamport_clock.specs.declared.stamp.Lamport.{Lamport}
+use Rattle.lamport_clock.specs.Stamps.{same_stamp}
+use Rattle.lamport_clock.specs.Versions.{Entries, sees}
+use Rattle.lamport_clock.proofs.Order.{is_eq-same}
+use Rattle.undo_map.proofs.Greatest.{OfKeys, adds, greatest-with_count}
+use Rattle.undo_map.proofs.Early.{ordered, is_equal, none_counts}
+
+keys_ordered : IsTotalOrder key_cmp
+keys_ordered = then_total (on_total (λ (k : UndoKey). k.edit) ordered) (on_total (λ (k : UndoKey). k.by) ordered)
+
+-- the count of an entry, 0 where there is none
+abbrev pub count_in : Option UndoEntry → ℕ
+count_in None = 0
+count_in (Some e) = e.count
+
+tail_ascends : (e : UndoEntry) (w : List UndoEntry) → IsAscending (e ∷ w) → IsAscending w
+tail_ascends e w a = λ i j d l m. a (suc i) (suc j) d (omega arith) (omega arith)
+
+apart : (k : UndoKey) (e f : UndoEntry) → key_cmp (key_of e) (key_of f) ≡ Less → is_eq (key_cmp (key_of e) k) ≡ true → is_eq (key_cmp (key_of f) k) ≡ false
+apart k e f l q = go (cases_Bool (is_eq (key_cmp (key_of f) k)))
+  where
+    go : (is_eq (key_cmp (key_of f) k) ≡ true) ⊎ (is_eq (key_cmp (key_of f) k) ≡ false) → is_eq (key_cmp (key_of f) k) ≡ false
+    go (inr n) = n
+    go (inl y) = let same : key_cmp (key_of e) (key_of f) ≡ Equal = alike_right keys_ordered (key_of f) k (key_of e) (is_equal _ y) ∙ is_equal _ q in let bad : Less ≡ Equal = sym l ∙ same in cc
+
+pub count_held : (w : List UndoEntry) (k : UndoKey) → IsAscending w → count_at_key k w ≡ count_in (held key_cmp key_of k w)
+count_held [] k a = refl
+count_held (e ∷ w) k a =
+    let p : UndoEntry → Bool = λ f. is_eq (key_cmp (key_of f) k) in
+    elim (p e) as (λ b. p e ≡ b → cond b (max e.count (greatest p w)) (greatest p w) ≡ count_in (cond b (Some e) (find p w))) [
+      | true ↦ λ q. let none : greatest p w ≡ 0 = none_counts p w (λ i d l. apart k e (get_or w i d) (a 0 (suc i) d (omega arith) (omega arith)) q) in omega arith
+      | false ↦ λ q. count_held w k (tail_ascends e w a)
+    ] refl
+
+-- the entry that is put in
+pub set_in : (e : UndoEntry) (w u : List UndoEntry) (h x : ℕ) → w ≡ u → h ≡ count_at_key (key_of e) w → x ≡ max e.count h → inserted key_cmp key_of (record e { count = x }) w ≡ with_count e u
+set_in e w u h x v q r = ap (λ (y : ℕ). inserted key_cmp key_of (record e { count = y }) w) (r ∙ ap (max e.count) q) ∙ ap (with_count e) v
+
+pub counts_fit : (w : List UndoEntry) → length w ≤ 2 ^ 40 → (fold (record { items = 0 }) count_sum (λ (e : UndoEntry). record { items = 1 }) w).items < 2 ^ 64
+counts_fit w l = let e = fold_counts (λ (e : UndoEntry). record { items = 1 }) (λ e. refl) (record { items = 0 }) w in omega arith
+
+same_eq : (s t : Lamport) → same_stamp s t ≡ true → s ≡ t
+unfolding same_stamp
+same_eq s t h =
+    let k = and_parts (eqb s.value t.value) (eqb s.replica t.replica) h in
+    let v = eqb-true s.value t.value k.0 in
+    let r = eqb-true s.replica t.replica k.1 in
+    λ i. record { value = v i; replica = r i }
+
+then_equal : (a b : Ordering) → is_eq (ordering_then a b) ≡ true → (is_eq a ≡ true) × (is_eq b ≡ true)
+then_equal Less b h = cc
+then_equal Equal b h = (refl, h)
+then_equal Greater b h = cc
+
+-- what is counted for an edit depends on the keys alone
+of_keys : (t : Lamport) (at : Option Entries) → OfKeys (counts_for t at)
+of_keys t at e f h =
+    let k = then_equal (stamp_cmp e.edit f.edit) (stamp_cmp e.by f.by) h in
+    let x : e.edit ≡ f.edit = same_eq e.edit f.edit (sym (is_eq-same e.edit f.edit) ∙ k.0) in
+    let y : e.by ≡ f.by = same_eq e.by f.by (sym (is_eq-same e.by f.by) ∙ k.1) in
+    go at x y
+  where
+    go : (at : Option Entries) → e.edit ≡ f.edit → e.by ≡ f.by → counts_for t at e ≡ counts_for t at f
+    go None x y = ap (λ s. same_stamp s t) x
+    go (Some v) x y = ap (λ s. same_stamp s t && sees v e.by) x ∙ ap (λ b. same_stamp f.edit t && sees v b) y
+
+pub counts_set : (e : UndoEntry) (w n : List UndoEntry) (t : Lamport) (at : Option Entries) → n ≡ with_count e w → greatest (counts_for t at) n ≡ max (greatest (counts_for t at) w) (adds (counts_for t at) e)
+counts_set e w n t at q = ap (greatest (counts_for t at)) q ∙ greatest-with_count (counts_for t at) e w (of_keys t at)
+
+-- ---- how many there are
+
+parts_long : (k : UndoKey) (w : List UndoEntry) → length (below key_cmp key_of k w) + length (above key_cmp key_of k w) ≤ length w
+parts_long k [] = omega arith
+parts_long k (f ∷ w) =
+    let ih = parts_long k w in
+    let B : List UndoEntry = below key_cmp key_of k w in
+    let A : List UndoEntry = above key_cmp key_of k w in
+    elim (key_cmp (key_of f) k) as (λ r. length (cond (is_lt r) (f ∷ B) B) + length (cond (is_gt r) (f ∷ A) A) ≤ suc (length w)) [
+      | Less ↦ omega arith
+      | Equal ↦ omega arith
+      | Greater ↦ omega arith
+    ]
+
+pub with_count_long : (e : UndoEntry) (w : List UndoEntry) → length (with_count e w) ≤ length w + 1
+with_count_long e w =
+    let m : UndoEntry = record e { count = max e.count (count_at_key (key_of e) w) } in
+    let B : List UndoEntry = below key_cmp key_of (key_of e) w in
+    let A : List UndoEntry = above key_cmp key_of (key_of e) w in
+    let a = length-append B (m ∷ A) in
+    let b = parts_long (key_of e) w in
+    omega arith
+
+pub grown : (e : UndoEntry) (w n : List UndoEntry) → n ≡ with_count e w → length n ≤ length w + 1
+grown e w n q = subst (λ z. length z ≤ length w + 1) (sym q) (with_count_long e w)

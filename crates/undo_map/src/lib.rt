@@ -1,0 +1,21 @@
+//! Undo counts: which undo gives which count to which edit, and the greatest count of an edit, now and at a version.
+#![tactic(auto)]
+
+mod entry;
+mod map;
+#[cfg(test)]
+mod tests;
+
+pub use entry::{UndoEntry, UndoKey};
+pub use lamport_clock::OutOfMemory;
+pub use map::UndoMap;
+
+fn sends<T: Send>(_value: &T) {}
+
+fn shares<T: Sync>(_value: &T) {}
+
+/// Undo counts may be sent to threads and be shared by them.
+pub fn crosses_threads(map: &UndoMap) {
+    sends(map);
+    shares(map);
+}

@@ -1,0 +1,185 @@
+// The greatest counts of edits.
+ghost use Rattle.std.specs.Prelude.{◌≡◌, ℕ, ◌+◌, ◌^◌, ◌<◌, ◌≤◌, [], max, true, false, slice_index_or, length, IsOk, IfOk, OnErr, OnOk, if◌then◌else◌, ◌&&◌, Bool};
+ghost use Rattle.std.specs.Option.{option_copied};
+ghost use Rattle.undo_map.specs.declared.entry.UndoEntry.{UndoEntry};
+ghost use Rattle.lamport_clock.specs.declared.stamp.Lamport.{Lamport};
+ghost use Rattle.lamport_clock.specs.Stamps.{same_stamp};
+ghost use Rattle.lamport_clock.specs.Versions.{Entries, sees};
+ghost use Rattle.undo_map.specs.Counts.{count_of, count_seen, is_odd, with_count, count_at_key, greatest, counts_for, is_seen, is_earlier, IsAscending};
+
+use crate::{UndoEntry, UndoKey};
+use lamport_clock::{Lamport, Version, is_same};
+use std::alloc::{AllocError, Global};
+use std::marker::Model;
+use sum_tree::SumTree;
+
+/// Which undo gives which count to which edit. Contracts see it as the list of its entries, ascending by edit, then by
+/// undo.
+#[derive(Drop)]
+pub struct UndoMap {
+    entries: SumTree<UndoEntry>,
+}
+
+impl Model for UndoMap {
+    ghost use Rattle.std.specs.Prelude.{List};
+    ghost use Rattle.undo_map.specs.declared.entry.UndoEntry.{UndoEntry};
+    ghost use Rattle.undo_map.specs.Counts.{IsAscending};
+
+    ghost Value = { List UndoEntry };
+
+    ghost view = { λ m. m.entries.items };
+
+    ghost invariant = { λ m. IsAscending m.entries.items };
+}
+
+impl UndoMap {
+    /// No counts.
+    pub fn new(alloc: Global) -> Result<UndoMap, AllocError>
+        ensures { IfOk result (λ m. m ≡ []) }
+    {
+        Ok(UndoMap {
+            entries: SumTree::new(alloc)?,
+        })
+    }
+
+    /// A second owner of the same entries.
+    pub fn share(&self) -> Result<UndoMap, AllocError>
+        ensures { IfOk result (λ m. m ≡ self.now) }
+    {
+        Ok(UndoMap {
+            entries: self.entries.share()?,
+        })
+    }
+
+    /// How many counts are kept.
+    pub fn len(&self) -> u64
+        ensures { result ≡ length self.now }
+    {
+        self.entries.len()
+    }
+
+    /// Keeps the count that the undo `by` gives an edit, or the greater one that it gave before. Afterwards there are
+    /// at most 2^40 entries. Logarithmic in their number; on want of memory all is as before.
+    pub fn set(
+        &mut self,
+        alloc: Global,
+        edit: Lamport,
+        by: Lamport,
+        count: u32,
+    ) -> Result<(), AllocError>
+        requires { length (with_count (record { edit = edit; by = by; count = count }) self.old) ≤ 2 ^ 40 }
+        ensures ok { OnOk result (self.new ≡ with_count (record { edit = edit; by = by; count = count }) self.old) }
+        ensures grows { OnOk result (length self.new ≤ length self.old + 1) }
+        ensures counts { OnOk result ((t : Lamport) → count_of self.new t ≡ max (count_of self.old t) (if same_stamp edit t then count else 0)) }
+        ensures counts_seen { OnOk result ((t : Lamport) (v : Entries) → count_seen self.new t v ≡ max (count_seen self.old t v) (if same_stamp edit t && sees v by then count else 0)) }
+        ensures err { OnErr result (self.new ≡ self.old) }
+    {
+        let held = held(&self.entries, UndoKey { edit, by });
+        let entry = UndoEntry {
+            edit,
+            by,
+            count: count.max(held),
+        };
+        self.entries.insert(alloc, entry)?;
+        Ok(())
+    }
+
+    /// The greatest count that an undo gives an edit, 0 where none does. With n entries it looks at some log n nodes,
+    /// twice over, and at the counts of the edit.
+    pub fn count(&self, edit: Lamport) -> u32
+        ensures { result ≡ count_of self.now edit }
+    {
+        greatest(&self.entries, edit, None)
+    }
+
+    /// The greatest count that an undo which the version sees gives an edit.
+    pub fn count_at(&self, edit: Lamport, at: &Version) -> u32
+        ensures { result ≡ count_seen self.now edit at.now }
+    {
+        greatest(&self.entries, edit, Some(at))
+    }
+
+    /// Whether an edit is undone: its count is odd.
+    pub fn is_undone(&self, edit: Lamport) -> bool
+        ensures { result ≡ is_odd (count_of self.now edit) }
+    {
+        self.count(edit) % 2 == 1
+    }
+
+    /// Whether an edit was undone at the version.
+    pub fn was_undone(&self, edit: Lamport, at: &Version) -> bool
+        ensures { result ≡ is_odd (count_seen self.now edit at.now) }
+    {
+        self.count_at(edit, at) % 2 == 1
+    }
+}
+
+// The count that an undo has given an edit so far, 0 where none.
+fn held(entries: &SumTree<UndoEntry>, key: UndoKey) -> u32
+    requires ascending { IsAscending entries.now.items }
+    ensures { result ≡ count_at_key key entries.now.items }
+{
+    match entries.find(&key) {
+        Some(entry) => entry.count,
+        None => 0,
+    }
+}
+
+// Whether entry i is of an earlier edit.
+fn is_early(entries: &SumTree<UndoEntry>, i: u64, edit: Lamport) -> bool
+    requires { i < length entries.now.items }
+    ensures { (d : UndoEntry) → result ≡ is_earlier edit (slice_index_or entries.now.items i d) }
+{
+    match entries.get(i) {
+        Some(entry) => entry.edit.cmp(&edit).is_lt(),
+        None => false,
+    }
+}
+
+// The number of entries of earlier edits, all of which stand at the front.
+fn early(entries: &SumTree<UndoEntry>, edit: Lamport) -> u64
+    requires ascending { IsAscending entries.now.items }
+    ensures within { result ≤ length entries.now.items }
+    ensures early { (k : ℕ) (d : UndoEntry) → k < result → is_earlier edit (slice_index_or entries.now.items k d) ≡ true }
+    ensures late { (k : ℕ) (d : UndoEntry) → result ≤ k → k < length entries.now.items → is_earlier edit (slice_index_or entries.now.items k d) ≡ false }
+{
+    let mut from = 0;
+    let mut to = entries.len();
+    while from < to {
+        let middle = from + (to - from) / 2;
+        if is_early(entries, middle, edit) {
+            from = middle + 1;
+        } else {
+            to = middle;
+        }
+    }
+    from
+}
+
+// What an entry of the edit counts at the version.
+fn counted(entry: &UndoEntry, at: Option<&Version>) -> u32
+    ensures { result ≡ (if is_seen (option_copied at.entry) entry.now.by then entry.now.count else 0) }
+{
+    match at {
+        Some(version) if !version.sees(entry.by) => 0,
+        _ => entry.count,
+    }
+}
+
+// The greatest count of an edit at the version, where one is given.
+fn greatest(entries: &SumTree<UndoEntry>, edit: Lamport, at: Option<&Version>) -> u32
+    requires ascending { IsAscending entries.now.items }
+    ensures { result ≡ greatest (counts_for edit (option_copied at.entry)) entries.now.items }
+{
+    let mut greatest = 0;
+    for i in early(entries, edit)..entries.len() {
+        let Some(entry) = entries.get(i) else {
+            return greatest;
+        };
+        if !is_same(entry.edit, edit) {
+            return greatest;
+        }
+        greatest = greatest.max(counted(entry, at));
+    }
+    greatest
+}
