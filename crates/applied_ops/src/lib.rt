@@ -2,6 +2,8 @@
 #![tactic(auto)]
 
 mod applied;
+#[cfg(test)]
+mod tests;
 
 pub use applied::Applied;
 pub use op_model::OutOfMemory;

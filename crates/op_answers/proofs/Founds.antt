@@ -1,0 +1,71 @@
+-- What is found by a stamp, and what the definitions look for in the whole list.
+use Rattle.std.proofs.Common.{◌≡◌, ◌⊎◌, Bool, true, false, cond, ◌&&◌, ◌||◌, List, [], ◌∷◌, ◌++◌, refl, sym, ◌∙◌, ap, inl, inr, Some}
+use Rattle.std.specs.Prelude.{is_some}
+use Rattle.std.specs.List.{list_any}
+use Rattle.std.proofs.lemmas.Bool.{cases_Bool, and_parts}
+use Rattle.lamport_clock.specs.declared.stamp.Lamport.{Lamport}
+use Rattle.lamport_clock.specs.Stamps.{same_stamp}
+use Rattle.lamport_clock.specs.Versions.{Entries, within}
+use Rattle.op_model.specs.declared.operation.Operation.{Operation}
+use Rattle.op_model.specs.Operations.{stamp_of, version_of}
+use Rattle.op_model.specs.Histories.{History, Distinct, operation_at}
+use Rattle.op_model.specs.Answers.{same_op}
+use Rattle.op_model.proofs.Passed.{any_some}
+use Rattle.op_model.proofs.PathOrder.{same_stamp_eq, same_stamp_refl}
+use Rattle.op_model.proofs.Proper.{same_is}
+use Rattle.op_answers.specs.Verdicts.{equals, causes}
+
+pub any_append : (t : Operation → Bool) (h w : List Operation) → list_any t (h ++ w) ≡ (list_any t h || list_any t w)
+any_append t [] w = refl
+any_append t (o ∷ h) w = ap (λ (b : Bool). t o || b) (any_append t h w) ∙ more (t o) (list_any t h) (list_any t w)
+  where
+    more : (a b c : Bool) → (a || (b || c)) ≡ ((a || b) || c)
+    more true b c = refl
+    more false b c = refl
+
+no_more : (b c : Bool) → c ≡ false → (b || c) ≡ b
+no_more true c e = refl
+no_more false c e = e
+
+none_less : (b c : Bool) → b ≡ false → (b || c) ≡ c
+none_less true c e = cc
+none_less false c e = refl
+
+same_stamps : (o op : Operation) → same_op o op ≡ true → same_stamp (stamp_of o) (stamp_of op) ≡ true
+same_stamps o op e = ap (λ (x : Operation). same_stamp (stamp_of x) (stamp_of op)) (same_is o op e) ∙ same_stamp_refl (stamp_of op)
+
+not_same : (o op : Operation) → same_stamp (stamp_of o) (stamp_of op) ≡ false → same_op o op ≡ false
+not_same o op e = go (cases_Bool (same_op o op))
+  where
+    go : (same_op o op ≡ true) ⊎ (same_op o op ≡ false) → same_op o op ≡ false
+    go (inl k) = let g = same_stamps o op k in cc
+    go (inr k) = k
+
+-- the one of the stamp is equal where any is
+pub held : (h : History) (op : Operation) → Distinct h → equals (operation_at h (stamp_of op)) op ≡ list_any (λ o. same_op o op) h
+held [] op d = refl
+held (o ∷ h) op d = elim (cases_Bool (same_stamp (stamp_of o) (stamp_of op))) [
+  | inl e ↦ (let n : list_any (λ x. same_op x op) h ≡ false = any_some (λ x. same_op x op) (λ x. stamp_of x ≡ stamp_of o → ⊥) h
+      (λ x k f. f (same_stamp_eq (stamp_of x) (stamp_of op) (same_stamps x op k) ∙ sym (same_stamp_eq (stamp_of o) (stamp_of op) e))) d.0 in
+      ap (λ (b : Bool). equals (cond b (Some o) (operation_at h (stamp_of op))) op) e ∙ sym (no_more (same_op o op) (list_any (λ x. same_op x op) h) n))
+  | inr e ↦ ap (λ (b : Bool). equals (cond b (Some o) (operation_at h (stamp_of op))) op) e ∙ held h op d.1 ∙ sym (none_less (same_op o op) (list_any (λ x. same_op x op) h) (not_same o op e))
+]
+
+pub there : (h : History) (t : Lamport) → is_some (operation_at h t) ≡ list_any (λ o. same_stamp (stamp_of o) t) h
+there [] t = refl
+there (o ∷ h) t = elim (cases_Bool (same_stamp (stamp_of o) t)) [
+  | inl e ↦ rw e refl
+  | inr e ↦ rw e (there h t)
+]
+
+-- the one of the stamp is a cause that the version has seen
+pub caused : (h : History) (t : Lamport) (v : Entries) → Distinct h → causes (operation_at h t) v ≡ list_any (λ o. same_stamp (stamp_of o) t && within (version_of o) v) h
+caused [] t v d = refl
+caused (o ∷ h) t v d = elim (cases_Bool (same_stamp (stamp_of o) t)) [
+  | inl e ↦ (let n : list_any (λ x. same_stamp (stamp_of x) t && within (version_of x) v) h ≡ false = any_some (λ x. same_stamp (stamp_of x) t && within (version_of x) v) (λ x. stamp_of x ≡ stamp_of o → ⊥) h
+      (λ x k f. f (same_stamp_eq (stamp_of x) t (and_parts (same_stamp (stamp_of x) t) (within (version_of x) v) k).0 ∙ sym (same_stamp_eq (stamp_of o) t e))) d.0 in
+      ap (λ (b : Bool). causes (cond b (Some o) (operation_at h t)) v) e ∙ sym (ap (λ (b : Bool). (b && within (version_of o) v) || list_any (λ x. same_stamp (stamp_of x) t && within (version_of x) v) h) e
+      ∙ no_more (within (version_of o) v) (list_any (λ x. same_stamp (stamp_of x) t && within (version_of x) v) h) n))
+  | inr e ↦ ap (λ (b : Bool). causes (cond b (Some o) (operation_at h t)) v) e ∙ caused h t v d.1
+      ∙ sym (ap (λ (b : Bool). (b && within (version_of o) v) || list_any (λ x. same_stamp (stamp_of x) t && within (version_of x) v) h) e)
+]

@@ -1,0 +1,8 @@
+//! The answer to a taken edit: whether it is applied, waits, is a repeat or is refused.
+#![tactic(auto)]
+
+mod found;
+mod verdict;
+
+pub use op_model::OpFault;
+pub use verdict::{Verdict, judge};

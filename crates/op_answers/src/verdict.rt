@@ -1,0 +1,86 @@
+// The answer to a taken edit.
+ghost use Rattle.std.specs.Prelude.{◌≡◌, true, Some, None, List};
+ghost use Rattle.op_model.specs.declared.operation.Operation.{Operation};
+ghost use Rattle.op_model.specs.Operations.{is_edit, version_of, pieces_of};
+ghost use Rattle.op_model.specs.Histories.{Distinct, version, seen};
+ghost use Rattle.op_model.specs.Shown.{full};
+ghost use Rattle.op_model.specs.Lawful.{Lawful};
+ghost use Rattle.op_model.specs.Answers.{answer, shape_fault, open_replica, range_fault};
+ghost use Rattle.fragments.specs.Kept.{kept_cells};
+ghost use Rattle.op_answers.specs.Verdicts.{answer_of};
+
+use crate::found::{is_held, is_taken, open_replica};
+use applied_ops::Applied;
+use deferred_ops::Deferred;
+use fragments::Cells;
+use lamport_clock::Version;
+use op_model::{OpFault, Operation, shape};
+
+/// What becomes of an operation that is taken, if the limits hold it.
+#[derive(Clone, Copy, Debug, PartialEq, Eq)]
+pub enum Verdict {
+    /// It is good, and is applied.
+    Accept,
+    /// An equal one is applied or waits.
+    Repeated,
+    /// It waits: of all replicas of which it has seen more than is applied the least, and the value that it has seen.
+    Missing { replica: u16, value: u32 },
+    Refuse(OpFault),
+}
+
+// The fault of an edit's pieces against all bytes that its version sees.
+fn range_fault(cells: &Cells, op: &Operation) -> Option<OpFault>
+    requires edit { is_edit op.now ≡ true }
+    requires shaped { shape_fault op.now ≡ None }
+    ensures { (h : List Operation) → cells.now ≡ kept_cells h → Lawful h → open_replica h (version_of op.now) ≡ None → result ≡ range_fault (full (seen h (version_of op.now))) (pieces_of op.now) }
+{
+    match op {
+        Operation::Edit(edit) => cells.range_fault(&edit.version, edit.pieces.as_slice()),
+        Operation::Undo(_) => None,
+    }
+}
+
+/// The answer to an edit, where `applied` is a lawful history, `have` its version and `cells` its cells. It takes no memory.
+/// Logarithmic in what is applied and waits for each replica that the edit has seen, and one walk over cells and pieces.
+pub fn judge(
+    applied: &Applied,
+    waiting: &Deferred,
+    have: &Version,
+    cells: &Cells,
+    op: &Operation,
+) -> Verdict
+    requires edit { is_edit op.now ≡ true }
+    requires lawful { Lawful applied.now }
+    requires waiting { Distinct waiting.now }
+    requires version { have.now ≡ version applied.now }
+    requires cells { cells.now ≡ kept_cells applied.now }
+    ensures { answer_of result ≡ answer applied.now waiting.now op.now }
+{
+    if let Err(fault) = shape(op) {
+        return Verdict::Refuse(fault.into());
+    }
+    if is_held(applied, waiting, op) {
+        return Verdict::Repeated;
+    }
+    let stamp = op.stamp();
+    if is_taken(applied, waiting, op) {
+        return Verdict::Refuse(OpFault::Conflict(stamp));
+    }
+    let kept = have.get(stamp.replica);
+    if op.version().get(stamp.replica) < kept {
+        return Verdict::Refuse(OpFault::Forked(kept));
+    }
+    if let Some(missing) = have.first_missing(op.version()) {
+        return Verdict::Missing {
+            replica: missing.0,
+            value: missing.1,
+        };
+    }
+    if let Some(replica) = open_replica(applied, op.version()) {
+        return Verdict::Refuse(OpFault::OpenVersion(replica));
+    }
+    if let Some(fault) = range_fault(cells, op) {
+        return Verdict::Refuse(fault);
+    }
+    Verdict::Accept
+}
