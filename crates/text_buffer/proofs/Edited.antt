@@ -12,7 +12,7 @@ use Rattle.op_model.specs.declared.operation.Piece.{Piece}
 use Rattle.op_model.specs.Sorted.{Each}
 use Rattle.op_model.specs.Domains.{IsProper}
 use Rattle.op_model.specs.Operations.{text_total, stamp_of, pieces_of, is_edit}
-use Rattle.op_model.specs.Histories.{History, version, clock, bytes_held, entries_held}
+use Rattle.op_model.specs.Histories.{History, version, clock, bytes_held, entries_held, operation_at}
 use Rattle.op_model.specs.Edits.{replaced}
 use Rattle.op_model.specs.Shown.{text}
 use Rattle.op_model.specs.Made.{full_piece, made as made_at}
@@ -23,6 +23,10 @@ use Rattle.op_model.specs.Walked.{Ordered}
 use Rattle.op_model.proofs.Append.{version-append, clock-append, bytes_held-append, entries_held-append}
 use Rattle.op_model.proofs.Restricted.{each_append}
 use Rattle.op_model.proofs.MadeGood.{sound}
+use Rattle.std.specs.List.{list_any}
+use Rattle.lamport_clock.specs.Stamps.{same_stamp}
+use Rattle.op_model.proofs.Passed.{passed, none_find, any_none}
+use Rattle.op_model.proofs.Good.{append_nil}
 use Rattle.op_model.proofs.MoreLawful.{lawful_more}
 use Rattle.op_model.proofs.Proper.{edit_good, made_proper, utf8}
 use Rattle.fragments.specs.declared.cell.KeptCell.{KeptCell}
@@ -106,6 +110,16 @@ IsBuffer-edited b ps h e u =
       text_bytes = text_length (b.history ++ op ∷ []) law edits;
     }
 
+-- its stamp is new
+pub fresh_of : (b : BufferState) (ps : List Piece) (x : Operation) → IsBuffer b → edit_fault b ps ≡ None → x ≡ made b ps → operation_at b.history (stamp_of x) ≡ None
+fresh_of b ps x h e m =
+    let h0 : History = b.history in
+    let op : Operation = made b ps in
+    let f = (passed h0 [] op (good_of b ps h e).0).fresh in
+    let n : operation_at h0 (stamp_of op) ≡ None = none_find (λ o. same_stamp (stamp_of o) (stamp_of op)) h0
+    (any_none (λ o. same_stamp (stamp_of o) (stamp_of op)) h0 (ap (λ (z : History). list_any (λ o. same_stamp (stamp_of o) (stamp_of op)) z) (sym (append_nil h0)) ∙ f)) in
+    ap (λ (y : Operation). operation_at h0 (stamp_of y)) m ∙ n
+
 -- the cells that an edit is laid into
 abbrev pub Lays : List KeptCell → EditOp → List KeptCell → Type 0
 Lays s x n = (h : History) → s ≡ kept_cells h → Lawful h → AllEdits h → answer h [] (Edit x) ≡ Good → n ≡ kept_cells (h ++ Edit x ∷ [])
@@ -113,7 +127,7 @@ Lays s x n = (h : History) → s ≡ kept_cells h → Lawful h → AllEdits h �
 -- the clock observes its own stamp, the version takes it, the operation stands last, and its cells are laid in
 pub AreKept-edited : (i j : Inside) (ps : List Piece) (x : EditOp) (op : Operation) (s : Lamport) → AreKept i → edit_fault (state_of i) ps ≡ None → AreUtf8 ps
     → op ≡ made (state_of i) ps → Edit x ≡ made (state_of i) ps → s ≡ stamp_of (made (state_of i) ps)
-    → j.replica ≡ i.replica → j.limits ≡ i.limits → j.operations.items ≡ i.operations.items ++ op ∷ []
+    → j.replica ≡ i.replica → j.limits ≡ i.limits → j.operations ≡ i.operations ++ op ∷ []
     → j.clock.value ≡ observed i.clock.value s.value → j.version ≡ raise i.version s
     → Lays i.cells x j.cells
     → string_bytes j.text ≡ replaced ps (string_bytes i.text)
@@ -122,14 +136,14 @@ AreKept-edited i j ps x op s k e u m mx t replica limits items clocks versions l
     let b = state_of i in
     let own = stamp_of (made b ps) in
     let g = good_of b ps k.state e in
-    let h : j.operations.items ≡ i.operations.items ++ made b ps ∷ [] = items ∙ ap (λ o. i.operations.items ++ o ∷ []) m in
-    let cells : j.cells ≡ kept_cells (i.operations.items ++ made b ps ∷ []) =
-    lays i.operations.items k.cells k.state.lawful k.state.edits (ap (answer i.operations.items []) mx ∙ g.0) ∙ ap (λ (o : Operation). kept_cells (i.operations.items ++ o ∷ [])) mx in
+    let h : j.operations ≡ i.operations ++ made b ps ∷ [] = items ∙ ap (λ o. i.operations ++ o ∷ []) m in
+    let cells : j.cells ≡ kept_cells (i.operations ++ made b ps ∷ []) =
+    lays i.operations k.cells k.state.lawful k.state.edits (ap (answer i.operations []) mx ∙ g.0) ∙ ap (λ (o : Operation). kept_cells (i.operations ++ o ∷ [])) mx in
     let same_text : string_bytes j.text ≡ text (edited b ps).history = texts ∙ ap (replaced ps) k.text ∙ sym g.1 in
     let state : state_of j ≡ edited b ps = cc in
     record {
-      clock = clocks ∙ ap (λ (u : Lamport). observed i.clock.value u.value) t ∙ ap (λ c. observed c own.value) k.clock ∙ sym (clock-append i.operations.items (made b ps)) ∙ ap clock (sym h);
-      version = versions ∙ ap (raise i.version) t ∙ ap (λ v. raise v own) k.version ∙ sym (version-append i.operations.items (made b ps)) ∙ ap version (sym h);
+      clock = clocks ∙ ap (λ (u : Lamport). observed i.clock.value u.value) t ∙ ap (λ c. observed c own.value) k.clock ∙ sym (clock-append i.operations (made b ps)) ∙ ap clock (sym h);
+      version = versions ∙ ap (raise i.version) t ∙ ap (λ v. raise v own) k.version ∙ sym (version-append i.operations (made b ps)) ∙ ap version (sym h);
       cells = cells ∙ ap kept_cells (sym h);
       text = same_text ∙ ap text (sym h);
       bytes = omega (arith, bytes, k.bytes, bytes_held-made b ps, ap bytes_held h);

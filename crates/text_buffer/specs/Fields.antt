@@ -7,13 +7,13 @@ use Rattle.text_buffer.specs.Buffer.{BufferState, IsBuffer}
 use Rattle.text_buffer.specs.declared.buffer.Buffer.TheInside.{Inside}
 
 abbrev pub state_of : Inside → BufferState
-state_of b = record { history = b.operations.items; replica = b.replica; limits = b.limits }
+state_of b = record { history = b.operations; replica = b.replica; limits = b.limits }
 
 pub record AreKept (b : Inside) : Type 0 where
-  pub clock : b.clock.value ≡ clock b.operations.items
-  pub version : b.version ≡ version b.operations.items
-  pub cells : b.cells ≡ kept_cells b.operations.items
-  pub text : string_bytes b.text ≡ text b.operations.items
-  pub bytes : b.bytes ≡ bytes_held b.operations.items
-  pub entries : b.entries ≡ entries_held b.operations.items
+  pub clock : b.clock.value ≡ clock b.operations
+  pub version : b.version ≡ version b.operations
+  pub cells : b.cells ≡ kept_cells b.operations
+  pub text : string_bytes b.text ≡ text b.operations
+  pub bytes : b.bytes ≡ bytes_held b.operations
+  pub entries : b.entries ≡ entries_held b.operations
   pub state : IsBuffer (state_of b)

@@ -9,6 +9,7 @@ ghost use Rattle.text_buffer.specs.Buffer.{BufferState, IsBuffer, edit_fault, ed
 
 use crate::NewFault;
 use crate::pieces::{piece_fault, replaced, text_total};
+use applied_ops::Applied;
 use fragments::Cells;
 use lamport_clock::{Clock, Lamport, Version};
 use op_model::{EditFault, EditOp, Limits, Operation, Piece, Pieces, Text, Unit};
@@ -24,7 +25,7 @@ pub struct Buffer {
     replica: u16,
     clock: Clock,
     version: Version,
-    operations: Vec<Operation>,
+    operations: Applied,
     cells: Cells,
     text: String,
     bytes: u64,
@@ -76,7 +77,7 @@ impl Buffer {
         let mut clock = Clock::new(replica);
         version.observe(stamp)?;
         clock.observe(stamp);
-        let mut operations = Vec::new(alloc);
+        let mut operations = Applied::new(alloc);
         operations.push(base_operation(alloc, base)?)?;
         Ok(Buffer {
             alloc,

@@ -2,22 +2,16 @@
 ghost use Rattle.std.specs.Prelude.{◌≡◌, ◌<◌, length, IfOk, string_bytes};
 ghost use Rattle.std.specs.List.{position};
 ghost use Rattle.op_model.specs.Operations.{text_total};
-ghost use Rattle.op_model.specs.Edits.{is_boundary, is_reversed, is_past, is_inside, overlap_from, piece_fault, replaced};
+ghost use Rattle.op_model.specs.Edits.{is_boundary, is_past, is_inside, piece_fault, replaced};
 ghost use Rattle.text_buffer.specs.Fit.{AreFit, AreUtf8};
 
-use op_model::{EditFault, Piece};
+use op_model::{EditFault, Piece, first_overlap, first_reversed};
 use std::alloc::{AllocError, Global};
 
 fn is_boundary(text: &str, i: u64) -> bool
     ensures { result ≡ is_boundary text.now i }
 {
     text.is_char_boundary(i as usize)
-}
-
-fn reversed(pieces: &[Piece]) -> Option<usize>
-    ensures { result ≡ position is_reversed pieces.now }
-{
-    pieces.iter().position(|p| p.end < p.start)
 }
 
 fn past_end(text: &str, pieces: &[Piece]) -> Option<usize>
@@ -32,27 +26,14 @@ fn inside_char(text: &str, pieces: &[Piece]) -> Option<usize>
     pieces.iter().position(|p| !(is_boundary(text, p.start) && is_boundary(text, p.end)))
 }
 
-fn overlap(pieces: &[Piece]) -> Option<usize>
-    ensures { result ≡ overlap_from 0 0 pieces.now }
-{
-    let mut at = 0;
-    for (i, p) in pieces.iter().enumerate() {
-        if p.start < at {
-            return Some(i);
-        }
-        at = p.end;
-    }
-    None
-}
-
 /// The first fault of the pieces against the text.
 pub fn piece_fault(text: &str, pieces: &[Piece]) -> Option<EditFault>
     ensures { result ≡ piece_fault text.now pieces.now }
 {
-    if let Some(i) = reversed(pieces) {
+    if let Some(i) = first_reversed(pieces) {
         return Some(EditFault::Reversed(i as u64));
     }
-    if let Some(i) = overlap(pieces) {
+    if let Some(i) = first_overlap(pieces) {
         return Some(EditFault::Overlap(i as u64));
     }
     if let Some(i) = past_end(text, pieces) {

@@ -6,9 +6,9 @@ use Rattle.op_model.specs.declared.operation.Operation.{Operation}
 use Rattle.text_buffer.proofs.Opened.{AreKept-opened}
 use Rattle.text_buffer.proofs.buffer.Buffer.new.Goals as goal
 
-pub invariant_of-result-2 : goal.invariant_of-result-2
-invariant_of-result-2 c = AreKept-opened _ c.args.base.now c.utf8.base c.requires.least c.requires.greatest c.requires.bytes c.requires.entries c.if-limits-len.false
-    (c.in_ok-push.ensures.items ∙ ap (λ (z : List Operation). z ++ c.in_ok-base_operation.field-0 ∷ []) c.new-operations.ensures.items ∙ ap (λ (o : Operation). o ∷ []) c.in_ok-base_operation.ensures)
+pub invariant_of-result-3 : goal.invariant_of-result-3
+invariant_of-result-3 c = AreKept-opened _ c.args.base.now c.utf8.base c.requires.least c.requires.greatest c.requires.bytes c.requires.entries c.if-limits-len.false
+    (c.operations-2.view_is ∙ c.in_ok-push.ensures.ok ∙ ap (λ (z : List Operation). z ++ c.in_ok-base_operation.field-0 ∷ []) c.new-operations.ensures ∙ ap (λ (o : Operation). o ∷ []) c.in_ok-base_operation.ensures)
     (ap (λ (t : Lamport). t.value) c.observe-2.ensures ∙ ap (λ (t : Lamport). observed t.value 1) c.new-clock.ensures)
-    (c.version.view_is ∙ c.in_ok-observe.ensures.ok ∙ ap (λ (v : Entries). raise v (record { value = 1; replica = 0 })) c.new-version.ensures)
+    (c.version-2.view_is ∙ c.in_ok-observe.ensures.ok ∙ ap (λ (v : Entries). raise v (record { value = 1; replica = 0 })) c.new-version.ensures)
     c.in_ok-over.ensures c.in_ok-from_str.ensures.ok refl refl
