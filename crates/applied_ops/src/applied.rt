@@ -2,7 +2,8 @@
 ghost use Rattle.std.specs.Prelude.{◌≡◌, ◌++◌, ◌∷◌, [], None, IfOk, OnErr, OnOk};
 ghost use Rattle.std.specs.Option.{option_copied};
 ghost use Rattle.op_model.specs.Operations.{stamp_of};
-ghost use Rattle.op_model.specs.Histories.{operation_at};
+ghost use Rattle.op_model.specs.Histories.{Distinct, has_edit, operation_at};
+ghost use Rattle.applied_ops.specs.Placed.{is_edit_found};
 
 use lamport_clock::Lamport;
 use op_model::Operation;
@@ -58,6 +59,14 @@ impl Applied {
         }
     }
 
+    /// Whether the stamp is that of an applied edit. Logarithmic in the number of operations.
+    pub fn has_edit(&self, t: Lamport) -> bool
+        requires { Distinct self.now }
+        ensures { result ≡ has_edit self.now t }
+    {
+        is_edit(self.find(t))
+    }
+
     /// Puts an operation last; none with its stamp is there yet. Logarithmic in the number of operations. On want of memory
     /// the operation is dropped.
     pub fn push(&mut self, op: Operation) -> Result<(), AllocError>
@@ -75,5 +84,14 @@ impl Applied {
                 Err(AllocError)
             }
         }
+    }
+}
+
+fn is_edit(found: Option<&Operation>) -> bool
+    ensures { result ≡ is_edit_found (option_copied found.entry) }
+{
+    match found {
+        Some(Operation::Edit(_)) => true,
+        _ => false,
     }
 }

@@ -1,4 +1,5 @@
 pub mod Greatest
 pub mod Early
 pub mod Setting
+pub mod Entries
 mod Rows

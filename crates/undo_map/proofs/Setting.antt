@@ -1,10 +1,11 @@
 -- One more count is kept.
-use Rattle.std.proofs.Common.{◌≡◌, ℕ, suc, ◌<◌, ◌≤◌, ◌^◌, max, Bool, true, false, cond, ◌&&◌, List, [], ◌∷◌, length, get_or, refl, sym, ap, ◌∙◌, inl, inr, ◌⊎◌, Option, None, Some, arith, eqb, length-append, ◌+◌, subst}
-use Rattle.std.proofs.lemmas.Bool.{cases_Bool, and_parts, eqb-true}
+use Rattle.std.proofs.Common.{◌≡◌, ℕ, suc, ◌<◌, ◌≤◌, ◌^◌, max, Bool, true, false, cond, ◌&&◌, List, [], ◌∷◌, length, get_or, refl, sym, ap, ◌∙◌, inl, inr, ◌⊎◌, Option, None, Some, arith, length-append, ◌+◌, subst}
+use Rattle.std.proofs.lemmas.Bool.{cases_Bool}
 use Rattle.std.proofs.lemmas.Cmp.{on_total, then_total, alike_right}
+use Rattle.std.proofs.lemmas.Map.Lookups.{CmpEqualImpliesEq, exact_pairs, exact_unsigned}
 use Rattle.std.specs.Cmp.{IsTotalOrder}
 use Rattle.std.specs.List.{find}
-use Rattle.std.specs.Ordering.{is_eq, is_lt, is_gt, ordering_then}
+use Rattle.std.specs.Ordering.{is_eq, is_lt, is_gt, nat_cmp}
 use Rattle.std.specs.declared.cmp.Ordering.{Ordering}
 use Rattle.std.specs.declared.cmp.Ordering.TheVariants.{Less, Equal, Greater}
 use Rattle.sum_tree.specs.Keyed.{held, inserted, below, above}
@@ -17,7 +18,6 @@ use Rattle.tree_cursor.proofs.Counts.{fold_counts}
 use Rattle.lamport_clock.specs.declared.stamp.Lamport.{Lamport}
 use Rattle.lamport_clock.specs.Stamps.{same_stamp}
 use Rattle.lamport_clock.specs.Versions.{Entries, sees}
-use Rattle.lamport_clock.proofs.Order.{is_eq-same}
 use Rattle.undo_map.proofs.Greatest.{OfKeys, adds, greatest-with_count}
 use Rattle.undo_map.proofs.Early.{ordered, is_equal, none_counts}
 
@@ -55,30 +55,20 @@ set_in e w u h x v q r = ap (λ (y : ℕ). inserted key_cmp key_of (record e { c
 pub counts_fit : (w : List UndoEntry) → length w ≤ 2 ^ 40 → (fold (record { items = 0 }) count_sum (λ (e : UndoEntry). record { items = 1 }) w).items < 2 ^ 64
 counts_fit w l = let e = fold_counts (λ (e : UndoEntry). record { items = 1 }) (λ e. refl) (record { items = 0 }) w in omega arith
 
-same_eq : (s t : Lamport) → same_stamp s t ≡ true → s ≡ t
-unfolding same_stamp
-same_eq s t h =
-    let k = and_parts (eqb s.value t.value) (eqb s.replica t.replica) h in
-    let v = eqb-true s.value t.value k.0 in
-    let r = eqb-true s.replica t.replica k.1 in
-    λ i. record { value = v i; replica = r i }
+-- stamps and keys that compare alike are one
+exact_stamps : CmpEqualImpliesEq stamp_cmp
+exact_stamps s t h = ap (λ (p : ℕ × ℕ). record { value = p.0; replica = p.1 }) (exact_pairs nat_cmp nat_cmp exact_unsigned exact_unsigned (s.value, s.replica) (t.value, t.replica) h)
 
-then_equal : (a b : Ordering) → is_eq (ordering_then a b) ≡ true → (is_eq a ≡ true) × (is_eq b ≡ true)
-then_equal Less b h = cc
-then_equal Equal b h = (refl, h)
-then_equal Greater b h = cc
+exact_keys : CmpEqualImpliesEq key_cmp
+exact_keys k l h = ap (λ (p : Lamport × Lamport). record { edit = p.0; by = p.1 }) (exact_pairs stamp_cmp stamp_cmp exact_stamps exact_stamps (k.edit, k.by) (l.edit, l.by) h)
 
 -- what is counted for an edit depends on the keys alone
 of_keys : (t : Lamport) (at : Option Entries) → OfKeys (counts_for t at)
-of_keys t at e f h =
-    let k = then_equal (stamp_cmp e.edit f.edit) (stamp_cmp e.by f.by) h in
-    let x : e.edit ≡ f.edit = same_eq e.edit f.edit (sym (is_eq-same e.edit f.edit) ∙ k.0) in
-    let y : e.by ≡ f.by = same_eq e.by f.by (sym (is_eq-same e.by f.by) ∙ k.1) in
-    go at x y
+of_keys t at e f h = go at (exact_keys (key_of e) (key_of f) (is_equal _ h))
   where
-    go : (at : Option Entries) → e.edit ≡ f.edit → e.by ≡ f.by → counts_for t at e ≡ counts_for t at f
-    go None x y = ap (λ s. same_stamp s t) x
-    go (Some v) x y = ap (λ s. same_stamp s t && sees v e.by) x ∙ ap (λ b. same_stamp f.edit t && sees v b) y
+    go : (at : Option Entries) → key_of e ≡ key_of f → counts_for t at e ≡ counts_for t at f
+    go None k = ap (λ (l : UndoKey). same_stamp l.edit t) k
+    go (Some v) k = ap (λ (l : UndoKey). same_stamp l.edit t && sees v l.by) k
 
 pub counts_set : (e : UndoEntry) (w n : List UndoEntry) (t : Lamport) (at : Option Entries) → n ≡ with_count e w → greatest (counts_for t at) n ≡ max (greatest (counts_for t at) w) (adds (counts_for t at) e)
 counts_set e w n t at q = ap (greatest (counts_for t at)) q ∙ greatest-with_count (counts_for t at) e w (of_keys t at)

@@ -2,12 +2,15 @@
 #![tactic(auto)]
 
 mod entry;
+mod laws;
 mod map;
 #[cfg(test)]
 mod tests;
+mod undos;
 
 pub use entry::{UndoEntry, UndoKey};
 pub use lamport_clock::OutOfMemory;
+pub use laws::{counts_are_of_history, entries_are_held};
 pub use map::UndoMap;
 
 fn sends<T: Send>(_value: &T) {}

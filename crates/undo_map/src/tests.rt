@@ -1,6 +1,7 @@
 // Counts now and at versions, with ample memory.
 use crate::UndoMap;
 use lamport_clock::{Lamport, Version};
+use op_model::{Counts, UndoCount, UndoOp};
 use std::alloc::{AllocError, Global};
 use std::test::Fail;
 
@@ -52,5 +53,41 @@ fn greatest_and_no_sum(rt: HostRuntime) -> Result<(), Fail> {
     let early = seen(alloc, &[(3, 1), (3, 2)])?;
     assert_eq!(rt; shared.count_at(stamp((2, 1)), &early), 1);
     assert!(rt; shared.was_undone(stamp((2, 1)), &early));
+    Ok(())
+}
+
+fn undo(alloc: Global, rows: &[((u32, u16), u32)]) -> Result<UndoOp, AllocError> {
+    let mut counts = Vec::new(alloc);
+    for &(edit, count) in rows {
+        counts.push(UndoCount {
+            edit: stamp(edit),
+            count,
+        })?;
+    }
+    Ok(UndoOp {
+        stamp: stamp((5, 2)),
+        version: Version::new(alloc),
+        counts: Counts::new(counts),
+    })
+}
+
+// The map with the counts of an undo, where there are few.
+fn with_undo(alloc: Global, map: &UndoMap, undo: &UndoOp) -> Result<UndoMap, AllocError> {
+    if map.len() < 1000 && undo.counts.as_slice().len() < 1000 {
+        map.with_undo(alloc, undo)
+    } else {
+        map.share()
+    }
+}
+
+#[test]
+fn a_whole_undo(rt: HostRuntime) -> Result<(), Fail> {
+    let alloc = rt.alloc();
+    let before = made(alloc, &[((2, 1), (3, 1), 2)])?;
+    let undo = undo(alloc, &[((2, 1), 1), ((3, 1), 4), ((2, 1), 3)])?;
+    let after = with_undo(alloc, &before, &undo)?;
+    assert_eq!(rt; after.count(stamp((2, 1))), 3);
+    assert_eq!(rt; after.count(stamp((3, 1))), 4);
+    assert_eq!(rt; before.count(stamp((2, 1))), 2);
     Ok(())
 }

@@ -1,0 +1,21 @@
+-- Laws of the undo counts of a history.
+use Rattle.std.specs.Prelude.{◌≡◌, ◌≤◌, length}
+use Rattle.lamport_clock.specs.declared.stamp.Lamport.{Lamport}
+use Rattle.lamport_clock.specs.Versions.{Entries}
+use Rattle.op_model.specs.Histories.{History, seen, entries_held}
+use Rattle.op_model.specs.Shown.{count, undone}
+use Rattle.op_model.specs.Lawful.{Lawful}
+use Rattle.undo_map.specs.Counts.{count_of, count_seen, is_odd}
+use Rattle.undo_map.specs.Undos.{undo_entries}
+
+-- the entries of a history count as the history does, now and at each version
+abbrev pub CountsAreOfHistory : Type 0
+CountsAreOfHistory = (h : History) (t : Lamport)
+    → (count_of (undo_entries h) t ≡ count h t)
+    × (is_odd (count_of (undo_entries h) t) ≡ undone h t)
+    × ((v : Entries) → count_seen (undo_entries h) t v ≡ count (seen h v) t)
+    × ((v : Entries) → is_odd (count_seen (undo_entries h) t v) ≡ undone (seen h v) t)
+
+-- a lawful history has no more of them than it holds entries
+abbrev pub EntriesAreHeld : Type 0
+EntriesAreHeld = (h : History) → Lawful h → length (undo_entries h) ≤ entries_held h
