@@ -23,4 +23,4 @@ while [ "$round" -lt "$rounds" ]; do
     "$work/crope" "$bytes" "$count" | sed 's/^/crope /' >>"$work/times"
     round=$((round + 1))
 done
-awk -f "$here/rope.awk" "$work/times"
+awk -v peers="plain crope" -v width=14 -f "$here/medians.awk" "$work/times"

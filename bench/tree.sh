@@ -21,4 +21,4 @@ while [ "$round" -lt "$rounds" ]; do
     "$work/peer" map "$count" | sed 's/^/map /' >>"$work/times"
     round=$((round + 1))
 done
-awk -f "$here/medians.awk" "$work/times"
+awk -v peers="tree map" -v width=10 -f "$here/medians.awk" "$work/times"

@@ -1,5 +1,5 @@
 //! The work that is timed. Each part answers a number that hangs on what it did.
-ghost use Rattle.std.specs.Prelude.{◌≡◌, ◌<◌, ◌≤◌, ◌^◌, ◌++◌, ◌∷◌, [], List, IfOk, OnOk, OnErr, length};
+ghost use Rattle.std.specs.Prelude.{◌≡◌, ◌<◌, ◌≤◌, ◌^◌, ◌+◌, ◌-◌, ◌++◌, ◌∷◌, [], List, IfOk, OnOk, OnErr, length};
 ghost use Rattle.sum_tree.specs.Laws.{fold};
 ghost use Rattle.sum_tree.specs.Keyed.{Ascending};
 ghost use Rattle.sum_tree.specs.Spliced.{spliced};
@@ -32,6 +32,7 @@ pub fn push_to<T: Item>(alloc: Global, tree: &mut SumTree<T>, item: T) -> Result
 /// The tree of the numbers from `from` up to `to`, pushed one by one.
 pub fn pushed<T: Numbered>(alloc: Global, from: u64, to: u64) -> Result<SumTree<T>, AllocError>
     requires { (xs : List T) → T.Summary.fits (fold T.Summary.empty T.Summary.op T.sum_of xs) }
+    ensures { to - from ≤ 2 ^ 39 → IfOk result (λ tree. length tree.items ≡ to - from) }
 {
     let mut tree = SumTree::new(alloc)?;
     for number in from..to {
@@ -41,7 +42,9 @@ pub fn pushed<T: Numbered>(alloc: Global, from: u64, to: u64) -> Result<SumTree<
 }
 
 /// The same numbers as a list.
-pub fn listed<T: Numbered>(alloc: Global, from: u64, to: u64) -> Result<Vec<T>, AllocError> {
+pub fn listed<T: Numbered>(alloc: Global, from: u64, to: u64) -> Result<Vec<T>, AllocError>
+    ensures { IfOk result (λ items. length items.items ≡ to - from) }
+{
     let mut items = Vec::new(alloc);
     for number in from..to {
         items.push(T::numbered(alloc, number)?)?;
@@ -77,9 +80,12 @@ pub fn got<T: Numbered>(tree: &SumTree<T>, n: u64) -> u64 {
     sum
 }
 
-// Pushes an item while another tree shares all nodes.
+// Pushes an item while another tree shares all nodes, and answers the length of that.
 fn push_shared<T: Item>(alloc: Global, tree: &mut SumTree<T>, item: T) -> Result<u64, AllocError>
     requires { (xs : List T) → T.Summary.fits (fold T.Summary.empty T.Summary.op T.sum_of xs) }
+    ensures len { IfOk result (λ len. len ≡ length tree.old.items) }
+    ensures ok { OnOk result (length tree.old.items < 2 ^ 39 → tree.new.items ≡ tree.old.items ++ item ∷ []) }
+    ensures err { OnErr result (tree.new ≡ tree.old) }
 {
     let old = tree.share()?;
     push_to(alloc, tree, item)?;
@@ -89,6 +95,7 @@ fn push_shared<T: Item>(alloc: Global, tree: &mut SumTree<T>, item: T) -> Result
 /// Shares the tree and pushes an item to it, n times.
 pub fn shared<T: Numbered>(alloc: Global, tree: &mut SumTree<T>, n: u64) -> Result<u64, AllocError>
     requires { (xs : List T) → T.Summary.fits (fold T.Summary.empty T.Summary.op T.sum_of xs) }
+    ensures { OnOk result (length tree.old.items + n ≤ 2 ^ 39 → length tree.new.items ≡ length tree.old.items + n) }
 {
     let mut sum = 0u64;
     for number in 0..n {
@@ -120,6 +127,7 @@ pub fn splice_in<T: Item>(
 // or one for two.
 fn splice_at<T: Numbered>(alloc: Global, tree: &mut SumTree<T>, x: u64) -> Result<(), AllocError>
     requires { (xs : List T) → T.Summary.fits (fold T.Summary.empty T.Summary.op T.sum_of xs) }
+    ensures { OnErr result (tree.new ≡ tree.old) }
 {
     let len = tree.len();
     if len == 0 || len >= MOST {
@@ -134,9 +142,10 @@ fn splice_at<T: Numbered>(alloc: Global, tree: &mut SumTree<T>, x: u64) -> Resul
     splice_in(alloc, tree, at, at + replaced, listed(alloc, 0, count)?)
 }
 
-/// Replaces items as typing does, n times.
+/// Replaces items as typing does, n times, and answers how many there are then.
 pub fn typed<T: Numbered>(alloc: Global, tree: &mut SumTree<T>, n: u64) -> Result<u64, AllocError>
     requires { (xs : List T) → T.Summary.fits (fold T.Summary.empty T.Summary.op T.sum_of xs) }
+    ensures { IfOk result (λ len. len ≡ length tree.new.items) }
 {
     let mut x = 1u64;
     for _ in 0..n {
@@ -149,18 +158,20 @@ pub fn typed<T: Numbered>(alloc: Global, tree: &mut SumTree<T>, n: u64) -> Resul
 // Replaces items while another tree shares all nodes.
 fn type_shared<T: Numbered>(alloc: Global, tree: &mut SumTree<T>, x: u64) -> Result<(), AllocError>
     requires { (xs : List T) → T.Summary.fits (fold T.Summary.empty T.Summary.op T.sum_of xs) }
+    ensures { OnErr result (tree.new ≡ tree.old) }
 {
     let _old = tree.share()?;
     splice_at(alloc, tree, x)
 }
 
-/// Shares the tree and replaces items as typing does, n times.
+/// Shares the tree and replaces items as typing does, n times, and answers how many there are then.
 pub fn shared_typed<T: Numbered>(
     alloc: Global,
     tree: &mut SumTree<T>,
     n: u64,
 ) -> Result<u64, AllocError>
     requires { (xs : List T) → T.Summary.fits (fold T.Summary.empty T.Summary.op T.sum_of xs) }
+    ensures { IfOk result (λ len. len ≡ length tree.new.items) }
 {
     let mut x = 1u64;
     for _ in 0..n {
@@ -179,6 +190,7 @@ pub fn insert_to<T: Numbered>(
     requires fits { (xs : List T) → T.Summary.fits (fold T.Summary.empty T.Summary.op T.sum_of xs) }
     requires ascending { Ascending T.Key.cmp T.key_of tree.old.items }
     ensures ascending { Ascending T.Key.cmp T.key_of tree.new.items }
+    ensures err { OnErr result (tree.new ≡ tree.old) }
 {
     if tree.len() >= MOST {
         return Ok(None);
@@ -190,11 +202,12 @@ pub fn insert_to<T: Numbered>(
     }
 }
 
-/// Inserts the items of the even numbers below 2 n, in their order.
+/// Inserts the items of the even numbers below 2 n, in their order, and answers how many there are then.
 pub fn filled<T: Numbered>(alloc: Global, tree: &mut SumTree<T>, n: u32) -> Result<u64, AllocError>
     requires fits { (xs : List T) → T.Summary.fits (fold T.Summary.empty T.Summary.op T.sum_of xs) }
     requires ascending { Ascending T.Key.cmp T.key_of tree.old.items }
     ensures ascending { Ascending T.Key.cmp T.key_of tree.new.items }
+    ensures len { IfOk result (λ len. len ≡ length tree.new.items) }
 {
     for number in 0..n {
         insert_to(alloc, tree, number as u64 * 2)?;
@@ -213,6 +226,7 @@ pub fn inserted<T: Numbered>(
     requires bound { 0 < bound }
     requires ascending { Ascending T.Key.cmp T.key_of tree.old.items }
     ensures ascending { Ascending T.Key.cmp T.key_of tree.new.items }
+    ensures few { IfOk result (λ replaced. replaced ≤ n) }
 {
     let mut replaced = 0u64;
     let mut x = 1u64;
@@ -235,6 +249,7 @@ pub fn removed<T: Numbered>(
     requires bound { 0 < bound }
     requires ascending { Ascending T.Key.cmp T.key_of tree.old.items }
     ensures ascending { Ascending T.Key.cmp T.key_of tree.new.items }
+    ensures few { IfOk result (λ there. there ≤ n) }
 {
     let mut there = 0u64;
     let mut x = 7u64;
@@ -251,6 +266,7 @@ pub fn removed<T: Numbered>(
 pub fn found<T: Numbered>(tree: &SumTree<T>, bound: u64, n: u64) -> u64
     requires bound { 0 < bound }
     requires ascending { Ascending T.Key.cmp T.key_of tree.now.items }
+    ensures few { result ≤ n }
 {
     let mut there = 0u64;
     let mut x = 3u64;
