@@ -1,18 +1,21 @@
 -- The answer, case by case.
-use Rattle.std.proofs.Common.{◌≡◌, ℕ, Bool, true, false, List, ◌∷◌, ◌++◌, ltb, refl, sym, ◌∙◌, ap, Option, Some, None}
+use Rattle.std.proofs.Common.{◌≡◌, ℕ, Bool, true, false, List, [], ◌∷◌, ◌++◌, ltb, refl, sym, ◌∙◌, ap, Option, Some, None}
 use Rattle.std.specs.Prelude.{option_map, unwrap_or}
 use Rattle.lamport_clock.specs.Versions.{entry}
 use Rattle.op_model.specs.declared.operation.Operation.{Operation}
 use Rattle.op_model.specs.declared.operation.Operation.TheVariants.{Edit, Undo}
+use Rattle.op_model.specs.declared.operation.EditOp.{EditOp}
+use Rattle.op_model.specs.declared.operation.UndoOp.{UndoOp}
 use Rattle.op_model.specs.declared.faults.OpFault.{OpFault}
 use Rattle.op_model.specs.declared.faults.OpFault.TheVariants.{Conflict, Forked, OpenVersion}
 use Rattle.op_model.specs.Choice.{first_of, when}
-use Rattle.op_model.specs.Operations.{stamp_of, version_of, pieces_of, counts_of, is_edit}
+use Rattle.op_model.specs.Operations.{stamp_of, version_of, pieces_of, counts_of}
 use Rattle.op_model.specs.Histories.{History, version, seen}
 use Rattle.op_model.specs.Shown.{full}
 use Rattle.op_model.specs.Answers.{Answer, shape_fault, any_equal, any_stamp, forked, first_missing, open_replica, range_fault, count_fault, objection, answer}
 use Rattle.op_model.specs.Answers.Answer.{Good, Repeat, Waits, Refused}
 use Rattle.op_model.proofs.Passed.{first_past, none_map, none_when}
+use Rattle.op_answers.specs.Verdicts.{part_fault}
 
 first_here : {A : Type 0} (o : Option A) (r : List (Option A)) (a : A) → o ≡ Some a → first_of (o ∷ r) ≡ Some a
 first_here None r a e = cc
@@ -29,6 +32,32 @@ some_when false x e = cc
 objects : (h : History) (w : List Operation) (op : Operation) (a : Answer) → objection h w op ≡ Some a → answer h w op ≡ a
 unfolding answer
 objects h w op a e = ap (λ (o : Option Answer). unwrap_or o Good) e
+
+either_refused : (a b : Option OpFault) (f : OpFault) → first_of (a ∷ b ∷ []) ≡ Some f → first_of (option_map Refused a ∷ option_map Refused b ∷ []) ≡ Some (Refused f)
+either_refused (Some x) b f e = some_map Refused (Some x) f e
+either_refused None (Some y) f e = some_map Refused (Some y) f e
+either_refused None None f e = cc
+
+neither_refused : (a b : Option OpFault) → first_of (a ∷ b ∷ []) ≡ None → first_of (option_map Refused a ∷ option_map Refused b ∷ []) ≡ None
+neither_refused (Some x) b e = cc
+neither_refused None (Some y) e = cc
+neither_refused None None e = refl
+
+first_alone : (a : Option OpFault) → a ≡ first_of (a ∷ [])
+first_alone None = refl
+first_alone (Some x) = refl
+
+first_before : (a : Option OpFault) → a ≡ first_of (a ∷ None ∷ [])
+first_before None = refl
+first_before (Some x) = refl
+
+-- an edit has no counts
+pub edit_fault : (h : History) (e : EditOp) → range_fault (full (seen h e.version)) e.pieces ≡ part_fault h (Edit e)
+edit_fault h e = first_before (range_fault (full (seen h e.version)) e.pieces)
+
+-- an undo has no pieces
+pub undo_fault : (h : History) (u : UndoOp) → count_fault (seen h u.version) u.counts ≡ part_fault h (Undo u)
+undo_fault h u = first_alone (count_fault (seen h u.version) u.counts)
 
 module _ (h : History) (w : List Operation) (op : Operation) where
   pub shaped_badly : (f : OpFault) → shape_fault op ≡ Some f → answer h w op ≡ Refused f
@@ -68,16 +97,11 @@ module _ (h : History) (w : List Operation) (op : Operation) where
             opens r e = objects h w op (Refused (OpenVersion r)) (further _ ∙ first_here _ _ (Refused (OpenVersion r)) (some_map (λ (x : ℕ). Refused (OpenVersion x)) (open_replica h (version_of op)) r e))
 
             module _ (o : open_replica h (version_of op) ≡ None) where
-              pub ranges : (f : OpFault) → range_fault (full (seen h (version_of op))) (pieces_of op) ≡ Some f → answer h w op ≡ Refused f
-              ranges f e = objects h w op (Refused f) (further _ ∙ first_past _ _ (none_map (λ (x : ℕ). Refused (OpenVersion x)) (open_replica h (version_of op)) o)
-                  ∙ first_here _ _ (Refused f) (some_map Refused (range_fault (full (seen h (version_of op))) (pieces_of op)) f e))
+              pub parts : (f : OpFault) → part_fault h op ≡ Some f → answer h w op ≡ Refused f
+              parts f e = objects h w op (Refused f) (further _ ∙ first_past _ _ (none_map (λ (x : ℕ). Refused (OpenVersion x)) (open_replica h (version_of op)) o)
+                  ∙ either_refused (range_fault (full (seen h (version_of op))) (pieces_of op)) (count_fault (seen h (version_of op)) (counts_of op)) f e)
 
-              pub accepts : is_edit op ≡ true → range_fault (full (seen h (version_of op))) (pieces_of op) ≡ None → answer h w op ≡ Good
+              pub accepts : part_fault h op ≡ None → answer h w op ≡ Good
               unfolding answer
-              accepts i e = ap (λ (x : Option Answer). unwrap_or x Good) (further _ ∙ first_past _ _ (none_map (λ (x : ℕ). Refused (OpenVersion x)) (open_replica h (version_of op)) o)
-                  ∙ first_past _ _ (none_map Refused (range_fault (full (seen h (version_of op))) (pieces_of op)) e)
-                  ∙ first_past _ _ (none_map Refused (count_fault (seen h (version_of op)) (counts_of op)) (uncounted op i)))
-                where
-                  uncounted : (op : Operation) → is_edit op ≡ true → count_fault (seen h (version_of op)) (counts_of op) ≡ None
-                  uncounted (Edit x) i = refl
-                  uncounted (Undo x) i = cc
+              accepts e = ap (λ (x : Option Answer). unwrap_or x Good) (further _ ∙ first_past _ _ (none_map (λ (x : ℕ). Refused (OpenVersion x)) (open_replica h (version_of op)) o)
+                  ∙ neither_refused (range_fault (full (seen h (version_of op))) (pieces_of op)) (count_fault (seen h (version_of op)) (counts_of op)) e)

@@ -5,10 +5,10 @@ use Rattle.std.specs.List.{list_any}
 use Rattle.std.proofs.lemmas.Bool.{cases_Bool, and_parts}
 use Rattle.lamport_clock.specs.declared.stamp.Lamport.{Lamport}
 use Rattle.lamport_clock.specs.Stamps.{same_stamp}
-use Rattle.lamport_clock.specs.Versions.{Entries, within}
+use Rattle.lamport_clock.specs.Versions.{Entries, within, sees}
 use Rattle.op_model.specs.declared.operation.Operation.{Operation}
-use Rattle.op_model.specs.Operations.{stamp_of, version_of}
-use Rattle.op_model.specs.Histories.{History, Distinct, operation_at}
+use Rattle.op_model.specs.Operations.{stamp_of, version_of, is_edit}
+use Rattle.op_model.specs.Histories.{History, Distinct, operation_at, has_edit, seen}
 use Rattle.op_model.specs.Answers.{same_op}
 use Rattle.op_model.proofs.Passed.{any_some}
 use Rattle.op_model.proofs.PathOrder.{same_stamp_eq, same_stamp_refl}
@@ -69,3 +69,29 @@ caused (o ∷ h) t v d = elim (cases_Bool (same_stamp (stamp_of o) t)) [
   | inr e ↦ ap (λ (b : Bool). causes (cond b (Some o) (operation_at h t)) v) e ∙ caused h t v d.1
       ∙ sym (ap (λ (b : Bool). (b && within (version_of o) v) || list_any (λ x. same_stamp (stamp_of x) t && within (version_of x) v) h) e)
 ]
+
+-- a version sees an edit where it sees its stamp
+pub seen_edit : (h : History) (v : Entries) (t : Lamport) → has_edit (seen h v) t ≡ (sees v t && has_edit h t)
+seen_edit [] v t = none (sees v t)
+  where
+    none : (b : Bool) → false ≡ (b && false)
+    none true = refl
+    none false = refl
+seen_edit (o ∷ h) v t = elim (cases_Bool (same_stamp (stamp_of o) t)) [
+  | inl e ↦ (let s : sees v (stamp_of o) ≡ sees v t = ap (sees v) (same_stamp_eq (stamp_of o) t e) in
+      ap (λ (b : Bool). has_edit (cond b (o ∷ seen h v) (seen h v)) t) s ∙ kept (sees v t) (seen_edit h v t))
+  | inr e ↦ (let n : (is_edit o && same_stamp (stamp_of o) t) ≡ false = ap (λ (b : Bool). is_edit o && b) e ∙ no_edit (is_edit o) in
+      dropped (sees v (stamp_of o)) n ∙ seen_edit h v t ∙ sym (ap (λ (b : Bool). sees v t && (b || has_edit h t)) n))
+]
+  where
+    no_edit : (b : Bool) → (b && false) ≡ false
+    no_edit true = refl
+    no_edit false = refl
+
+    kept : (b : Bool) → has_edit (seen h v) t ≡ (b && has_edit h t) → has_edit (cond b (o ∷ seen h v) (seen h v)) t ≡ (b && (is_edit o && same_stamp (stamp_of o) t || has_edit h t))
+    kept true e = ap (λ (z : Bool). is_edit o && same_stamp (stamp_of o) t || z) e
+    kept false e = e
+
+    dropped : (b : Bool) → (is_edit o && same_stamp (stamp_of o) t) ≡ false → has_edit (cond b (o ∷ seen h v) (seen h v)) t ≡ has_edit (seen h v) t
+    dropped true n = ap (λ (z : Bool). z || has_edit (seen h v) t) n
+    dropped false n = refl

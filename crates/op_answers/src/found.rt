@@ -2,14 +2,14 @@
 ghost use Rattle.std.specs.Prelude.{◌≡◌, ◌++◌, nat_lt, not, ◌&&◌, ◌||◌, is_some, option_map};
 ghost use Rattle.std.specs.List.{find};
 ghost use Rattle.std.specs.Option.{option_copied};
-ghost use Rattle.op_model.specs.Histories.{Distinct};
-ghost use Rattle.op_model.specs.Answers.{any_equal, any_stamp, entry_closed, open_replica};
+ghost use Rattle.op_model.specs.Histories.{Distinct, has_edit, seen};
+ghost use Rattle.op_model.specs.Answers.{any_equal, any_stamp, count_fault, entry_closed, open_replica};
 ghost use Rattle.op_answers.specs.Verdicts.{equals, causes};
 
 use applied_ops::Applied;
 use deferred_ops::Deferred;
 use lamport_clock::{Lamport, Version};
-use op_model::Operation;
+use op_model::{OpFault, Operation, UndoCount};
 
 fn either(a: bool, b: bool) -> bool
     ensures { result ≡ (a || b) }
@@ -103,4 +103,27 @@ pub fn open_replica(applied: &Applied, version: &Version) -> Option<u16>
     ensures { result ≡ open_replica applied.now version.now }
 {
     first_open(applied, version, version.as_slice())
+}
+
+// Whether the stamp is that of an applied edit which the version sees.
+fn is_seen_edit(applied: &Applied, version: &Version, edit: Lamport) -> bool
+    requires { Distinct applied.now }
+    ensures { result ≡ has_edit (seen applied.now version.now) edit }
+{
+    let is_seen = version.sees(edit);
+    let is_edit = applied.has_edit(edit);
+    both(is_seen, is_edit)
+}
+
+/// The fault of an undo's counts: the first that is of no applied edit which the version sees.
+pub fn count_fault(applied: &Applied, version: &Version, counts: &[UndoCount]) -> Option<OpFault>
+    requires { Distinct applied.now }
+    ensures { result ≡ count_fault (seen applied.now version.now) counts.now }
+{
+    for count in counts {
+        if !is_seen_edit(applied, version, count.edit) {
+            return Some(OpFault::NoSuchEdit(count.edit));
+        }
+    }
+    None
 }

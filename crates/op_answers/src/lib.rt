@@ -2,6 +2,8 @@
 #![tactic(auto)]
 
 mod found;
+#[cfg(test)]
+mod tests;
 mod verdict;
 
 pub use op_model::OpFault;

@@ -1,15 +1,13 @@
 // The answer to a taken edit.
-ghost use Rattle.std.specs.Prelude.{◌≡◌, true, Some, None, List};
-ghost use Rattle.op_model.specs.declared.operation.Operation.{Operation};
-ghost use Rattle.op_model.specs.Operations.{is_edit, version_of, pieces_of};
-ghost use Rattle.op_model.specs.Histories.{Distinct, version, seen};
-ghost use Rattle.op_model.specs.Shown.{full};
+ghost use Rattle.std.specs.Prelude.{◌≡◌, None};
+ghost use Rattle.op_model.specs.Operations.{version_of};
+ghost use Rattle.op_model.specs.Histories.{Distinct, version};
 ghost use Rattle.op_model.specs.Lawful.{Lawful};
-ghost use Rattle.op_model.specs.Answers.{answer, shape_fault, open_replica, range_fault};
+ghost use Rattle.op_model.specs.Answers.{answer, shape_fault, open_replica};
 ghost use Rattle.fragments.specs.Kept.{kept_cells};
-ghost use Rattle.op_answers.specs.Verdicts.{answer_of};
+ghost use Rattle.op_answers.specs.Verdicts.{answer_of, part_fault};
 
-use crate::found::{is_held, is_taken, open_replica};
+use crate::found::{count_fault, is_held, is_taken, open_replica};
 use applied_ops::Applied;
 use deferred_ops::Deferred;
 use fragments::Cells;
@@ -28,20 +26,23 @@ pub enum Verdict {
     Refuse(OpFault),
 }
 
-// The fault of an edit's pieces against all bytes that its version sees.
-fn range_fault(cells: &Cells, op: &Operation) -> Option<OpFault>
-    requires edit { is_edit op.now ≡ true }
+// The fault of an operation's pieces or counts against what its version sees.
+fn part_fault(applied: &Applied, cells: &Cells, op: &Operation) -> Option<OpFault>
+    requires lawful { Lawful applied.now }
+    requires cells { cells.now ≡ kept_cells applied.now }
     requires shaped { shape_fault op.now ≡ None }
-    ensures { (h : List Operation) → cells.now ≡ kept_cells h → Lawful h → open_replica h (version_of op.now) ≡ None → result ≡ range_fault (full (seen h (version_of op.now))) (pieces_of op.now) }
+    requires closed { open_replica applied.now (version_of op.now) ≡ None }
+    ensures { result ≡ part_fault applied.now op.now }
 {
     match op {
         Operation::Edit(edit) => cells.range_fault(&edit.version, edit.pieces.as_slice()),
-        Operation::Undo(_) => None,
+        Operation::Undo(undo) => count_fault(applied, &undo.version, undo.counts.as_slice()),
     }
 }
 
-/// The answer to an edit, where `applied` is a lawful history, `have` its version and `cells` its cells. It takes no memory.
-/// Logarithmic in what is applied and waits for each replica that the edit has seen, and one walk over cells and pieces.
+/// The answer to an operation, where `applied` is a lawful history, `have` its version and `cells` its cells. It takes no
+/// memory. Logarithmic in what is applied and waits for each replica that the operation has seen and each count of an undo;
+/// for an edit one walk over cells and pieces.
 pub fn judge(
     applied: &Applied,
     waiting: &Deferred,
@@ -49,7 +50,6 @@ pub fn judge(
     cells: &Cells,
     op: &Operation,
 ) -> Verdict
-    requires edit { is_edit op.now ≡ true }
     requires lawful { Lawful applied.now }
     requires waiting { Distinct waiting.now }
     requires version { have.now ≡ version applied.now }
@@ -79,7 +79,7 @@ pub fn judge(
     if let Some(replica) = open_replica(applied, op.version()) {
         return Verdict::Refuse(OpFault::OpenVersion(replica));
     }
-    if let Some(fault) = range_fault(cells, op) {
+    if let Some(fault) = part_fault(applied, cells, op) {
         return Verdict::Refuse(fault);
     }
     Verdict::Accept

@@ -8,7 +8,7 @@ use Rattle.op_model.specs.Histories.{version}
 use Rattle.op_model.specs.Answers.{first_missing, open_replica}
 use Rattle.op_model.specs.Answers.Answer.{Refused}
 use Rattle.op_model.proofs.Good.{lawful_ready}
-use Rattle.op_answers.proofs.Answering.{shaped_badly, repeated, conflicts, forks, chained, misses, opens, ranges, accepts}
+use Rattle.op_answers.proofs.Answering.{shaped_badly, repeated, conflicts, forks, chained, misses, opens, parts, accepts}
 use Rattle.op_answers.proofs.verdict.judge.Goals as goal
 
 pub returns-in-Err : goal.returns-in-Err
@@ -70,8 +70,8 @@ returns-in-Some-open_replica c =
     let m : first_missing h (version_of op) ≡ None = sym (c.in_default-first_missing.ensures ∙ ap (λ (u : Entries). first_unseen u c.version-2.result.now) c.requires.version ∙ ap (first_unseen (version h)) c.version-2.ensures) in
     sym (opens h w op s n t f m c.in-Some-open_replica.replica (sym (c.in-Some-open_replica.ensures ∙ ap (open_replica h) c.version-3.ensures)))
 
-pub returns-in-Some-range_fault : goal.returns-in-Some-range_fault
-returns-in-Some-range_fault c =
+pub returns-in-Some-part_fault : goal.returns-in-Some-part_fault
+returns-in-Some-part_fault c =
     let h = c.args.applied.now in
     let w = c.args.waiting.now in
     let op = c.args.op.now in
@@ -84,7 +84,7 @@ returns-in-Some-range_fault c =
     let f = chained h w op s n t k q (ap (λ (x : ℕ). ltb x k) (sym g) ∙ le-ltb c.get.result k c.if-get-kept.false) in
     let m : first_missing h (version_of op) ≡ None = sym (c.in_default-first_missing.ensures ∙ ap (λ (u : Entries). first_unseen u c.version-2.result.now) c.requires.version ∙ ap (first_unseen (version h)) c.version-2.ensures) in
     let o : open_replica h (version_of op) ≡ None = sym (c.in_default-open_replica.ensures ∙ ap (open_replica h) c.version-3.ensures) in
-    sym (ranges h w op s n t f m o c.in-Some-range_fault.fault (sym (c.in-Some-range_fault.ensures h c.requires.cells c.requires.lawful o)))
+    sym (parts h w op s n t f m o c.in-Some-part_fault.fault (sym c.in-Some-part_fault.ensures))
 
 pub returns : goal.returns
 returns c =
@@ -100,4 +100,10 @@ returns c =
     let f = chained h w op s n t k q (ap (λ (x : ℕ). ltb x k) (sym g) ∙ le-ltb c.get.result k c.if-get-kept.false) in
     let m : first_missing h (version_of op) ≡ None = sym (c.in_default-first_missing.ensures ∙ ap (λ (u : Entries). first_unseen u c.version-2.result.now) c.requires.version ∙ ap (first_unseen (version h)) c.version-2.ensures) in
     let o : open_replica h (version_of op) ≡ None = sym (c.in_default-open_replica.ensures ∙ ap (open_replica h) c.version-3.ensures) in
-    sym (accepts h w op s n t f m o c.requires.edit (sym (c.in_default-range_fault.ensures h c.requires.cells c.requires.lawful o)))
+    sym (accepts h w op s n t f m o (sym c.in_default-part_fault.ensures))
+
+pub part_fault-requires-clause-shaped : goal.part_fault-requires-clause-shaped
+part_fault-requires-clause-shaped c = c.in_default.ensures.ok
+
+pub part_fault-requires-clause-closed : goal.part_fault-requires-clause-closed
+part_fault-requires-clause-closed c = sym (c.in_default-open_replica.ensures ∙ ap (open_replica c.args.applied.now) c.version-3.ensures)

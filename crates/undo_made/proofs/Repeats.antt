@@ -1,0 +1,69 @@
+-- The first stamp that stands before too, place by place.
+use Rattle.std.proofs.Common.{◌≡◌, ℕ, suc, ◌+◌, ◌<◌, Bool, true, false, cond, not, ◌||◌, List, [], ◌∷◌, length, get_or, take, drop, refl, sym, ◌∙◌, ap, Some, Option, drop-cons, arith, inl, inr, ◌⊎◌}
+use Rattle.std.specs.List.{list_any}
+use Rattle.std.specs.Ordering.{is_eq}
+use Rattle.std.proofs.lemmas.Bool.{cases_Bool}
+use Rattle.std.proofs.lemmas.List.{take_more}
+use Rattle.std.proofs.lemmas.List.Folds.{list_any-append}
+use Rattle.lamport_clock.specs.declared.stamp.Lamport.{Lamport}
+use Rattle.lamport_clock.specs.Stamps.{same_stamp}
+use Rattle.lamport_clock.proofs.Order.{stamp_cmp, is_eq-same}
+use Rattle.op_model.proofs.PathOrder.{same_stamp_eq, same_stamp_refl}
+use Rattle.op_model.specs.Made.{first_twice}
+
+-- what stands before counts by what it contains
+pub first_twice_same : (p q ts : List Lamport) → ((t : Lamport) → list_any (same_stamp t) p ≡ list_any (same_stamp t) q) → first_twice p ts ≡ first_twice q ts
+first_twice_same p q [] e = refl
+first_twice_same p q (t ∷ ts) e =
+    ap (λ (b : Bool). cond b (Some t) (first_twice (t ∷ p) ts)) (e t)
+    ∙ ap (cond (list_any (same_stamp t) q) (Some t)) (first_twice_same (t ∷ p) (t ∷ q) ts (λ u. ap (λ (b : Bool). same_stamp u t || b) (e u)))
+
+or_other : (a b : Bool) → (a || (b || false)) ≡ (b || a)
+or_other true true = refl
+or_other true false = refl
+or_other false true = refl
+or_other false false = refl
+
+-- one stamp more stands before
+pub any_more : (t : Lamport) (s : List Lamport) (i : ℕ) (d : Lamport) → i < length s → list_any (same_stamp t) (take (i + 1) s) ≡ (same_stamp t (get_or s i d) || list_any (same_stamp t) (take i s))
+any_more t s i d l = ap (list_any (same_stamp t)) (take_more s i d l) ∙ list_any-append (same_stamp t) (take i s) (get_or s i d ∷ []) ∙ or_other (list_any (same_stamp t) (take i s)) (same_stamp t (get_or s i d))
+
+-- from one place to the next
+pub at_place : (s : List Lamport) (i : ℕ) (d : Lamport) → i < length s
+    → first_twice (take i s) (drop i s) ≡ cond (list_any (same_stamp (get_or s i d)) (take i s)) (Some (get_or s i d)) (first_twice (take (i + 1) s) (drop (i + 1) s))
+at_place s i d l =
+    let x : Lamport = get_or s i d in
+    let e : suc i ≡ i + 1 = omega arith in
+    ap (first_twice (take i s)) (drop-cons s i d l)
+    ∙ ap (λ (k : ℕ). cond (list_any (same_stamp x) (take i s)) (Some x) (first_twice (x ∷ take i s) (drop k s))) e
+    ∙ ap (cond (list_any (same_stamp x) (take i s)) (Some x)) (first_twice_same (x ∷ take i s) (take (i + 1) s) (drop (i + 1) s) (λ t. sym (any_more t s i d l)))
+
+pub same_other : (s t : Lamport) → same_stamp s t ≡ same_stamp t s
+same_other s t = go (cases_Bool (same_stamp s t)) (cases_Bool (same_stamp t s))
+  where
+    go : (same_stamp s t ≡ true) ⊎ (same_stamp s t ≡ false) → (same_stamp t s ≡ true) ⊎ (same_stamp t s ≡ false) → same_stamp s t ≡ same_stamp t s
+    go (inl a) (inl b) = a ∙ sym b
+    go (inr a) (inr b) = a ∙ sym b
+    go (inl a) (inr b) = let z : same_stamp t s ≡ true = ap (λ (u : Lamport). same_stamp t u) (same_stamp_eq s t a) ∙ same_stamp_refl t in cc
+    go (inr a) (inl b) = let z : same_stamp s t ≡ true = ap (λ (u : Lamport). same_stamp s u) (same_stamp_eq t s b) ∙ same_stamp_refl s in cc
+
+-- a stamp that does not stand before
+pub goes_on : (s : List Lamport) (i : ℕ) (d : Lamport) (r : Option Lamport) (b : Bool) → i < length s → b ≡ list_any (same_stamp (get_or s i d)) (take i s) → b ≡ false
+    → first_twice (take i s) (drop i s) ≡ r → first_twice (take (i + 1) s) (drop (i + 1) s) ≡ r
+goes_on s i d r b l e f q =
+    sym (at_place s i d l ∙ ap (λ (b : Bool). cond b (Some (get_or s i d)) (first_twice (take (i + 1) s) (drop (i + 1) s))) (sym e ∙ f)) ∙ q
+
+pub not_new : (b : Bool) → true ≡ not b → b ≡ false
+not_new true e = cc
+not_new false e = refl
+
+cond_or : (a b : Bool) → cond a true b ≡ (a || b)
+cond_or true b = refl
+cond_or false b = refl
+
+-- a set that gains the stamp has what stands before the next place
+pub kept_on : (s : List Lamport) (i : ℕ) (d : Lamport) (old new : Lamport → Bool) → i < length s → ((t : Lamport) → old t ≡ list_any (same_stamp t) (take i s))
+    → ((t : Lamport) → new t ≡ cond (is_eq (stamp_cmp (get_or s i d) t)) true (old t)) → (t : Lamport) → new t ≡ list_any (same_stamp t) (take (i + 1) s)
+kept_on s i d old new l o n t =
+    n t ∙ ap (λ (b : Bool). cond b true (old t)) (is_eq-same (get_or s i d) t ∙ same_other (get_or s i d) t)
+    ∙ ap (cond (same_stamp t (get_or s i d)) true) (o t) ∙ cond_or (same_stamp t (get_or s i d)) (list_any (same_stamp t) (take i s)) ∙ sym (any_more t s i d l)

@@ -1,0 +1,2 @@
+pub mod Undos
+pub mod Sample
