@@ -8,12 +8,13 @@ use Rattle.std.proofs.lemmas.Str.{IsCharBoundary-start}
 use Rattle.std.specs.List.{slice_range, slice_index}
 use Rattle.std.specs.Str.{IsCharBoundary, IsUtf8}
 use Rattle.op_model.specs.declared.operation.Piece.{Piece}
+use Rattle.op_model.specs.declared.limits.Limits.{Limits as LimitsType}
 use Rattle.op_model.specs.declared.faults.EditFault.{EditFault}
 use Rattle.op_model.specs.declared.faults.EditFault.TheVariants.{Reversed, Overlap, PastEnd, InsideChar, TextLimit, ClockEnd, Full}
 use Rattle.op_model.specs.declared.faults.Unit.TheVariants.{Bytes, Entries}
 use Rattle.op_model.specs.Choice.{first_of, when}
 use Rattle.op_model.specs.Operations.{text_total}
-use Rattle.op_model.specs.Histories.{clock, bytes_held, entries_held}
+use Rattle.op_model.specs.Histories.{History, clock, bytes_held, entries_held}
 use Rattle.op_model.specs.Limited.{Excess, excess}
 use Rattle.op_model.specs.Edits.{is_boundary, is_reversed, is_past, is_inside, overlap_from, replaced, replaced_from, piece_fault}
 use Rattle.text_buffer.specs.Fit.{AreFit}
@@ -119,11 +120,15 @@ fits_of b ps e u = fits_of_none (text b.history) ps (unmet b ps e).0 u
 pub length_edited : (b : BufferState) (ps : List Piece) → edit_fault b ps ≡ None → IsUtf8 (text b.history) → length (replaced ps (text b.history)) ≤ length (text b.history) + text_total ps
 length_edited b ps e u = omega (arith, length_replaced 0 ps (text b.history) (fits_of b ps e u))
 
-pub room_of : (b : BufferState) (ps : List Piece) → edit_fault b ps ≡ None → (bytes_held b.history + text_total ps ≤ b.limits.bytes) × (entries_held b.history + (1 + length ps) ≤ b.limits.entries)
-room_of b ps e =
-    let bytes = nat_lt b.limits.bytes (bytes_held b.history + text_total ps) in
-    let entries = nat_lt b.limits.entries (entries_held b.history + (1 + length ps)) in
-    let more_bytes : Excess = record { unit = Bytes; held = bytes_held b.history; adds = text_total ps } in
-    let more_entries : Excess = record { unit = Entries; held = entries_held b.history; adds = 1 + length ps } in
-    let none = all_none (when bytes more_bytes ∷ when entries more_entries ∷ []) (unmet b ps e).1 in
+-- what passes no limit leaves what is held within them
+pub room_in : (l : LimitsType) (h : History) (n m : ℕ) → excess l h n m ≡ None → (bytes_held h + n ≤ l.bytes) × (entries_held h + m ≤ l.entries)
+room_in l h n m e =
+    let bytes = nat_lt l.bytes (bytes_held h + n) in
+    let entries = nat_lt l.entries (entries_held h + m) in
+    let more_bytes : Excess = record { unit = Bytes; held = bytes_held h; adds = n } in
+    let more_entries : Excess = record { unit = Entries; held = entries_held h; adds = m } in
+    let none = all_none (when bytes more_bytes ∷ when entries more_entries ∷ []) e in
     (ltb-false _ _ (when_none bytes more_bytes none.0), ltb-false _ _ (when_none entries more_entries none.1.0))
+
+pub room_of : (b : BufferState) (ps : List Piece) → edit_fault b ps ≡ None → excess b.limits b.history (text_total ps) (1 + length ps) ≡ None
+room_of b ps e = (unmet b ps e).1

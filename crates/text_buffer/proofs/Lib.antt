@@ -1,4 +1,12 @@
 pub mod Fit
 pub mod Edited
+pub mod Waiting
+pub mod Applied
+pub mod Taken
 pub mod Opened
 mod Rows
+pub mod Turns
+pub mod Settles
+pub mod Leaves
+pub mod OnWay
+pub mod Partly

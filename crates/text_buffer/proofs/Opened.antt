@@ -1,5 +1,5 @@
 -- The fields of a new buffer.
-use Rattle.std.proofs.Common.{◌≡◌, ℕ, suc, ◌-◌, ◌^◌, ◌≤◌, List, [], ◌∷◌, length, refl, sym, ap, subst, ◌∙◌, arith, string_bytes}
+use Rattle.std.proofs.Common.{◌≡◌, ℕ, suc, ◌-◌, ◌^◌, ◌≤◌, List, [], ◌∷◌, length, map, refl, sym, ap, subst, ◌∙◌, arith, string_bytes}
 use Rattle.std.specs.Str.{IsUtf8}
 use Rattle.lamport_clock.specs.declared.stamp.Lamport.{Lamport}
 use Rattle.op_model.specs.Sorted.{Each}
@@ -12,8 +12,9 @@ use Rattle.fragments.specs.Kept.{AllEdits, kept_cells, shown_bytes}
 use Rattle.fragments.specs.Passed.{new_cells}
 use Rattle.fragments.proofs.Told.{shown_text, base_kept}
 use Rattle.fragments.proofs.Lengths.{text_length}
-use Rattle.text_buffer.specs.Buffer.{IsBuffer}
-use Rattle.text_buffer.specs.Fields.{AreKept}
+use Rattle.text_buffer.specs.Buffer.{BufferState, IsBuffer}
+use Rattle.text_buffer.specs.Fields.{state_of, AreKept}
+use Rattle.text_buffer.specs.Outcomes.{pair_of}
 use Rattle.text_buffer.specs.declared.buffer.Buffer.TheInside.{Inside}
 
 new_bytes : (t : Lamport) (k : ℕ) (bs : List ℕ) → shown_bytes (new_cells t k bs) ≡ bs
@@ -24,18 +25,22 @@ pub text_base : (t : List ℕ) → text (base t ∷ []) ≡ t
 text_base t = sym (shown_text (base t ∷ [])) ∙ ap shown_bytes (sym (base_kept t)) ∙ new_bytes (record { value = 1; replica = 0 }) 0 t
 
 pub AreKept-opened : (j : Inside) (t : List ℕ) → IsUtf8 t → 1 ≤ j.replica → j.replica ≤ 1023 → j.limits.bytes ≤ 2 ^ 40 → j.limits.entries ≤ 2 ^ 40 - 1 → length t ≤ j.limits.bytes
-    → j.operations ≡ base t ∷ [] → j.clock.value ≡ 2 → j.version ≡ version (base t ∷ []) → j.cells ≡ kept_cells (base t ∷ []) → string_bytes j.text ≡ t → j.bytes ≡ length t → j.entries ≡ 0
+    → j.operations ≡ base t ∷ [] → j.waiting ≡ [] → map pair_of j.refused.items ≡ [] → j.clock.value ≡ 2 → j.version ≡ version (base t ∷ []) → j.cells ≡ kept_cells (base t ∷ []) → string_bytes j.text ≡ t → j.bytes ≡ length t → j.entries ≡ 0
     → AreKept j
-AreKept-opened j t u low high most_bytes most_entries room h clocks versions cells texts bytes entries =
+AreKept-opened j t u low high most_bytes most_entries room h waits refusals clocks versions cells texts bytes entries =
     let one : History = base t ∷ [] in
     let law : Lawful one = ((t, refl), tt) in
     let proper : Each IsProper one = ((omega arith, (u, tt)), tt) in
     let edits : AllEdits one = (refl, tt) in
     let held : bytes_held one ≡ length t = omega arith in
-    let state : IsBuffer (record { history = one; replica = j.replica; limits = j.limits }) = record {
+    let b : BufferState = record { history = one; waiting = []; refused = []; replica = j.replica; limits = j.limits } in
+    let same : b ≡ state_of j = λ i. record { history = sym h i; waiting = sym waits i; refused = sym refusals i; replica = j.replica; limits = j.limits } in
+    let state : IsBuffer b = record {
       lawful = law;
       proper = proper;
       edits = edits;
+      waiting_ascending = tt;
+      waiting_edits = tt;
       least_replica = low;
       greatest_replica = high;
       most_bytes = most_bytes;
@@ -52,5 +57,5 @@ AreKept-opened j t u low high most_bytes most_entries room h clocks versions cel
       text = texts ∙ sym (text_base t) ∙ ap text (sym h);
       bytes = bytes ∙ sym held ∙ ap bytes_held (sym h);
       entries = entries ∙ ap entries_held (sym h);
-      state = subst (λ (x : History). IsBuffer (record { history = x; replica = j.replica; limits = j.limits })) (sym h) state;
+      state = subst IsBuffer same state;
     }

@@ -1,31 +1,44 @@
--- What contracts see of a buffer, the fault that an edit meets, and what it makes.
-use Rattle.std.specs.Prelude.{ℕ, ◌≤◌, ◌-◌, ◌^◌, List, [], ◌∷◌, ◌++◌, length, nat_lt, Option}
+-- What contracts see of a buffer, the fault that an edit meets, what it makes, and the answer to a taken operation.
+use Rattle.std.specs.Prelude.{◌≡◌, ℕ, ◌≤◌, ◌-◌, ◌^◌, Bool, true, false, List, [], ◌∷◌, ◌++◌, length, drop, nat_lt, Option, None, Some}
 use Rattle.std.specs.Str.{IsUtf8}
 use Rattle.op_model.specs.declared.operation.Piece.{Piece}
 use Rattle.op_model.specs.declared.operation.Operation.{Operation}
 use Rattle.op_model.specs.declared.limits.Limits.{Limits as LimitsType}
 use Rattle.op_model.specs.declared.faults.EditFault.{EditFault}
+use Rattle.op_model.specs.declared.faults.OpFault.{OpFault}
 use Rattle.op_model.specs.declared.faults.Unit.TheVariants.{Bytes}
-use Rattle.op_model.specs.Sorted.{Each}
+use Rattle.lamport_clock.specs.declared.stamp.Lamport.{Lamport}
+use Rattle.lamport_clock.specs.Versions.{within}
+use Rattle.op_model.specs.Sorted.{Each, Ascending}
 use Rattle.op_model.specs.Choice.{when}
 use Rattle.op_model.specs.Domains.{IsProper}
-use Rattle.op_model.specs.Histories.{base, bytes_held, entries_held}
+use Rattle.op_model.specs.Operations.{stamp_of, version_of}
+use Rattle.op_model.specs.Histories.{base, version, bytes_held, entries_held, operation_at}
+use Rattle.op_model.specs.Answers.{Answer}
+use Rattle.op_model.specs.Answers.Answer.{Good, Repeat, Waits, Refused}
 use Rattle.op_model.specs.Lawful.{Lawful}
+use Rattle.op_model.specs.Settled.{State}
+use Rattle.op_model.specs.Steps.{older, take_answer, take_step, settle_step, growth}
 use Rattle.op_model.specs.Made.{made as made_at, local_edit_fault}
 use Rattle.op_model.specs.Shown.{text}
 use Rattle.fragments.specs.Kept.{AllEdits}
 use Rattle.text_buffer.specs.declared.faults.NewFault.{NewFault}
 use Rattle.text_buffer.specs.declared.faults.NewFault.TheVariants.{Full}
+use Rattle.text_buffer.specs.declared.outcomes.Took.{Took}
+use Rattle.text_buffer.specs.declared.outcomes.Took.TheVariants as took
 
--- the applied operations in the order of application, the base first; the author of its edits; its limits
+-- the applied operations in the order of application, the base first; those that wait, the least stamp first; the stamps of those
+-- that were refused while settling, each with its fault; the author of its edits; its limits
 pub record BufferState : Type 0 where
   pub history : List Operation
+  pub waiting : List Operation
+  pub refused : List (Lamport × OpFault)
   pub replica : ℕ
   pub limits : LimitsType
 
 -- the buffer over a base
 abbrev pub over_base : ℕ → List ℕ → LimitsType → BufferState
-over_base r t l = record { history = base t ∷ []; replica = r; limits = l }
+over_base r t l = record { history = base t ∷ []; waiting = []; refused = []; replica = r; limits = l }
 
 -- the fault that a base meets
 abbrev pub new_fault : LimitsType → List ℕ → Option NewFault
@@ -43,11 +56,72 @@ made b ps = made_at b.history b.replica ps
 abbrev pub edited : BufferState → List Piece → BufferState
 edited b ps = record b { history = b.history ++ made b ps ∷ [] }
 
+-- the buffer with one more operation applied
+abbrev pub applied : BufferState → Operation → BufferState
+applied b op = record b { history = b.history ++ op ∷ [] }
+
+-- what the calls of a buffer work on
+abbrev pub state : BufferState → State
+state b = record { history = b.history; waiting = b.waiting; refused = b.refused }
+
+abbrev pub with_state : State → BufferState → BufferState
+with_state s b = record b { history = s.history; waiting = s.waiting; refused = s.refused }
+
+-- the answer to a taken operation
+abbrev pub answer_to : BufferState → Operation → Answer
+answer_to b op = take_answer b.limits (state b) op
+
+-- the buffer after an operation is taken
+abbrev pub taken : BufferState → Operation → BufferState
+taken b op = with_state (take_step b.limits op (state b)) b
+
+-- the buffer after it settles
+abbrev pub settled : BufferState → BufferState
+settled b = with_state (settle_step b.limits (state b)) b
+
+-- how many operations were applied from one buffer to the next
+abbrev pub number_applied : BufferState → BufferState → ℕ
+number_applied b n = growth (state b) (state n)
+
+-- what is told of an answer that is no refusal, n operations being applied
+abbrev pub told : ℕ → Answer → Option Took
+told n Good = Some (took.Applied n)
+told n Repeat = Some took.Repeat
+told n (Waits r v) = Some (took.Waits r v)
+told n (Refused f) = None
+
+-- the operation is applied, or waits
+abbrev pub is_kept : Answer → Bool
+is_kept Good = true
+is_kept Repeat = false
+is_kept (Waits r v) = true
+is_kept (Refused f) = false
+
+-- each operation that waits misses a cause
+abbrev pub AllMiss : BufferState → Type 0
+AllMiss b = Each (λ (op : Operation). within (version_of op) (version b.history) ≡ false) b.waiting
+
+-- the operations that were applied from one buffer to the next
+abbrev pub newly_applied : BufferState → BufferState → List Operation
+newly_applied b n = drop (length b.history) n.history
+
+-- what is true of a buffer whose settling wanted memory: some operations are applied, each good at its turn; none of these waits,
+-- and nothing waits that did not wait before
+pub record IsPartly (b n : BufferState) : Type 0 where
+  pub lawful : Lawful n.history
+  pub prefix : n.history ≡ b.history ++ newly_applied b n
+  pub applied : Each (λ (op : Operation). operation_at n.waiting (stamp_of op) ≡ None) (newly_applied b n)
+  pub waiting : (t : Lamport) → operation_at b.waiting t ≡ None → operation_at n.waiting t ≡ None
+  pub replica : n.replica ≡ b.replica
+  pub limits : n.limits ≡ b.limits
+
 -- what is true of every buffer
 pub record IsBuffer (b : BufferState) : Type 0 where
   pub lawful : Lawful b.history
   pub proper : Each IsProper b.history
   pub edits : AllEdits b.history
+  pub waiting_ascending : Ascending older b.waiting
+  pub waiting_edits : AllEdits b.waiting
   pub least_replica : 1 ≤ b.replica
   pub greatest_replica : b.replica ≤ 1023
   pub most_bytes : b.limits.bytes ≤ 2 ^ 40

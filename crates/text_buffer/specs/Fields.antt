@@ -1,13 +1,14 @@
 -- What the fields of a buffer stand for.
-use Rattle.std.specs.Prelude.{◌≡◌, string_bytes}
+use Rattle.std.specs.Prelude.{◌≡◌, map, string_bytes}
 use Rattle.op_model.specs.Histories.{version, clock, bytes_held, entries_held}
 use Rattle.op_model.specs.Shown.{text}
 use Rattle.fragments.specs.Kept.{kept_cells}
 use Rattle.text_buffer.specs.Buffer.{BufferState, IsBuffer}
+use Rattle.text_buffer.specs.Outcomes.{pair_of}
 use Rattle.text_buffer.specs.declared.buffer.Buffer.TheInside.{Inside}
 
 abbrev pub state_of : Inside → BufferState
-state_of b = record { history = b.operations; replica = b.replica; limits = b.limits }
+state_of b = record { history = b.operations; waiting = b.waiting; refused = map pair_of b.refused.items; replica = b.replica; limits = b.limits }
 
 pub record AreKept (b : Inside) : Type 0 where
   pub clock : b.clock.value ≡ clock b.operations

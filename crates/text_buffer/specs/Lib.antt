@@ -1,3 +1,5 @@
+pub mod Outcomes
 pub mod Buffer
 pub mod Fit
 pub mod Fields
+pub mod Settling

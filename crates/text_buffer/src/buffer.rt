@@ -1,32 +1,40 @@
 // The buffer of one replica.
-ghost use Rattle.std.specs.Prelude.{◌≡◌, ◌≤◌, ◌^◌, ◌-◌, ◌+◌, ◌⊎◌, ◌++◌, ◌∷◌, [], length, IfOk, IfErr, OnErr, OnOk, None, Some, option_map, string_bytes};
+ghost use Rattle.std.specs.Prelude.{◌≡◌, ◌≤◌, ◌^◌, ◌-◌, ◌+◌, ◌⊎◌, ◌++◌, ◌∷◌, [], length, IfOk, IfErr, OnErr, OnOk, None, Some, option_map, string_bytes, true};
 ghost use Rattle.op_model.specs.Histories.{SameSet, base, clock, version};
 ghost use Rattle.op_model.specs.Limited.{excess};
-ghost use Rattle.op_model.specs.declared.operation.Operation.TheVariants.{Edit};
+ghost use Rattle.op_model.specs.Domains.{IsProper};
+ghost use Rattle.op_model.specs.Operations.{is_edit};
+ghost use Rattle.op_model.specs.Answers.{answer, shape_fault};
+ghost use Rattle.op_model.specs.Answers.Answer.{Good};
+ghost use Rattle.op_model.specs.Settled.{full_fault};
 ghost use Rattle.op_model.specs.Edits.{replaced};
 ghost use Rattle.op_model.specs.Shown.{text};
-ghost use Rattle.text_buffer.specs.Buffer.{BufferState, IsBuffer, edit_fault, edited, made, new_fault, over_base};
+ghost use Rattle.fragments.specs.Kept.{kept_cells};
+ghost use Rattle.text_buffer.specs.Buffer.{BufferState, IsBuffer, applied, edit_fault, edited, made, new_fault, over_base};
 
-use crate::NewFault;
-use crate::pieces::{piece_fault, replaced, text_total};
+use crate::pieces::{piece_fault, replaced, size, text_total};
+use crate::{NewFault, Refused};
 use applied_ops::Applied;
+use deferred_ops::Deferred;
 use fragments::Cells;
 use lamport_clock::{Clock, Lamport, Version};
-use op_model::{EditFault, EditOp, Limits, Operation, Piece, Pieces, Text, Unit};
+use op_model::{EditFault, EditOp, Limits, OpFault, Operation, Piece, Pieces, Text, Unit};
 use std::alloc::{AllocError, Global};
 use std::marker::Model;
 
 /// A replica's text, and the operations that made it. Contracts see the operations in the order in which they were
-/// applied, the base first, with the replica's id and the limits; all else is a function of these. Each operation is
-/// good against those before it.
+/// applied, the base first, those that wait, those that were refused while settling, the replica's id and the limits; all
+/// else is a function of these. Each applied operation is good against those before it.
 #[derive(Drop)]
 pub struct Buffer {
-    alloc: Global,
+    pub(crate) alloc: Global,
     replica: u16,
     clock: Clock,
-    version: Version,
-    operations: Applied,
-    cells: Cells,
+    pub(crate) version: Version,
+    pub(crate) operations: Applied,
+    pub(crate) waiting: Deferred,
+    pub(crate) refused: Vec<Refused>,
+    pub(crate) cells: Cells,
     text: String,
     bytes: u64,
     entries: u64,
@@ -85,6 +93,8 @@ impl Buffer {
             clock,
             version,
             operations,
+            waiting: Deferred::new(alloc)?,
+            refused: Vec::new(alloc),
             cells: Cells::over(alloc, base)?,
             text: String::from_str(alloc, base)?,
             bytes: len,
@@ -131,21 +141,12 @@ impl Buffer {
         if let Some(fault) = self.fault(changes) {
             return Err(fault);
         }
-        let stamp = self.next_stamp();
         let text = replaced(self.alloc, self.text.as_str(), changes)?;
         let made = self.operation(changes)?;
         let kept = self.operation(changes)?;
-        let cells = self.cells.lay(self.alloc, &made)?;
-        let mut version = self.version.copy(self.alloc)?;
-        version.observe(stamp)?;
-        self.operations.push(Operation::Edit(kept))?;
-        self.clock.observe(stamp);
-        self.version = version;
-        self.cells = cells;
-        self.text = text;
-        self.bytes += text_total(changes) as u64;
-        self.entries += 1 + changes.len() as u64;
-        Ok(Operation::Edit(made))
+        let cells = self.laid(&kept)?;
+        self.put(kept, cells, text)?;
+        Ok(made)
     }
 
     // The fault that the pieces meet, if there is memory.
@@ -163,6 +164,70 @@ impl Buffer {
             return Some(EditFault::ClockEnd);
         }
         self.excess(total as u64, 1 + changes.len() as u64)
+    }
+
+    // The limit that an operation passes. That its texts are UTF-8 is a clause for callers.
+    pub(crate) fn full(&self, op: &Operation) -> Option<OpFault>
+        requires { shape_fault op.now ≡ None }
+        ensures fault { result ≡ full_fault self.now.limits self.now.history op.now }
+        ensures proper { IsProper op.now }
+    {
+        let (bytes, entries) = size(op);
+        match self.excess(bytes as u64, entries) {
+            Some(EditFault::Full { unit, held, adds }) => Some(OpFault::Full { unit, held, adds }),
+            _ => None,
+        }
+    }
+
+    // Applies an edit that is good and passes no limit. Linear in all bytes, hidden ones too. On want of memory the edit is
+    // dropped.
+    pub(crate) fn apply(&mut self, op: Operation) -> Result<(), AllocError>
+        requires edit { is_edit op ≡ true }
+        requires proper { IsProper op }
+        requires good { answer self.old.history [] op ≡ Good }
+        requires room { full_fault self.old.limits self.old.history op ≡ None }
+        ensures ok { OnOk result (self.new ≡ applied self.old op) }
+        ensures err { OnErr result (self.new ≡ self.old) }
+    {
+        let cells = self.laid(&op)?;
+        let text = cells.text(self.alloc)?;
+        self.put(op, cells, text)
+    }
+
+    // The cells with an edit that is good laid in.
+    fn laid(&self, op: &Operation) -> Result<Cells, AllocError>
+        requires edit { is_edit op.now ≡ true }
+        requires good { answer self.now.history [] op.now ≡ Good }
+        ensures { IfOk result (λ c. c ≡ kept_cells (self.now.history ++ op.now ∷ [])) }
+    {
+        match op {
+            Operation::Edit(edit) => self.cells.lay(self.alloc, edit),
+            Operation::Undo(_) => Err(AllocError),
+        }
+    }
+
+    // Puts an edit last that is good and passes no limit, with the cells and the text that are then.
+    fn put(&mut self, op: Operation, cells: Cells, shown: String) -> Result<(), AllocError>
+        requires edit { is_edit op ≡ true }
+        requires good { answer self.old.history [] op ≡ Good }
+        requires room { full_fault self.old.limits self.old.history op ≡ None }
+        requires cells { cells ≡ kept_cells (self.old.history ++ op ∷ []) }
+        requires text { string_bytes shown ≡ text (self.old.history ++ op ∷ []) }
+        ensures ok { OnOk result (self.new ≡ applied self.old op) }
+        ensures err { OnErr result (self.new ≡ self.old) }
+    {
+        let stamp = op.stamp();
+        let (bytes, entries) = size(&op);
+        let mut version = self.version.copy(self.alloc)?;
+        version.observe(stamp)?;
+        self.operations.push(op)?;
+        self.clock.observe(stamp);
+        self.version = version;
+        self.cells = cells;
+        self.text = shown;
+        self.bytes += bytes as u64;
+        self.entries += entries;
+        Ok(())
     }
 
     // The limit that so many bytes and entries more pass.
@@ -197,16 +262,16 @@ impl Buffer {
     }
 
     // The operation of an edit that meets no fault.
-    fn operation(&self, changes: &[Piece]) -> Result<EditOp, EditFault>
+    fn operation(&self, changes: &[Piece]) -> Result<Operation, EditFault>
         requires { edit_fault self.now changes.now ≡ None }
-        ensures made { IfOk result (λ op. Edit op ≡ made self.now changes.now) }
+        ensures made { IfOk result (λ op. op ≡ made self.now changes.now) }
         ensures err { IfErr result (λ e. e ≡ EditFault.OutOfMemory) }
     {
-        Ok(EditOp {
+        Ok(Operation::Edit(EditOp {
             stamp: self.next_stamp(),
             version: self.version.copy(self.alloc)?,
             pieces: self.cells.full_pieces(self.alloc, changes)?,
-        })
+        }))
     }
 }
 

@@ -1,11 +1,12 @@
 // Pieces against a text: their faults, their lengths and the text that they make.
 ghost use Rattle.std.specs.Prelude.{◌≡◌, ◌<◌, length, IfOk, string_bytes};
 ghost use Rattle.std.specs.List.{position};
-ghost use Rattle.op_model.specs.Operations.{text_total};
+ghost use Rattle.op_model.specs.Domains.{IsProper};
+ghost use Rattle.op_model.specs.Operations.{text_total, bytes_of, entries_of};
 ghost use Rattle.op_model.specs.Edits.{is_boundary, is_past, is_inside, piece_fault, replaced};
 ghost use Rattle.text_buffer.specs.Fit.{AreFit, AreUtf8};
 
-use op_model::{EditFault, Piece, first_overlap, first_reversed};
+use op_model::{EditFault, Operation, Piece, first_overlap, first_reversed};
 use std::alloc::{AllocError, Global};
 
 fn is_boundary(text: &str, i: u64) -> bool
@@ -55,6 +56,23 @@ pub fn text_total(pieces: &[Piece]) -> u128
         sum += p.text.as_str().len() as u128;
     }
     sum
+}
+
+/// What an operation adds to the bytes and to the entries that a buffer holds. That its stamp's value is one of its type and its texts
+/// are UTF-8 is a clause for callers.
+pub fn size(op: &Operation) -> (u128, u64)
+    ensures bytes { result.0 ≡ bytes_of op.now }
+    ensures entries { result.1 ≡ entries_of op.now }
+    ensures proper { IsProper op.now }
+{
+    let _stamp = op.stamp();
+    match op {
+        Operation::Edit(edit) => {
+            let pieces = edit.pieces.as_slice();
+            (text_total(pieces), 1 + pieces.len() as u64)
+        }
+        Operation::Undo(undo) => (0, 1 + undo.counts.as_slice().len() as u64),
+    }
 }
 
 /// The text with each range replaced, in one pass over the text.

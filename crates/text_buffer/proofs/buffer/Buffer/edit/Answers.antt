@@ -1,15 +1,11 @@
-use Rattle.std.proofs.Common.{◌≡◌, ◌+◌, ◌∙◌, sym, ap, subst, refl, List, [], ◌∷◌, ◌++◌, ℕ, None}
-use Rattle.op_model.specs.Operations.{stamp_of}
-use Rattle.op_model.specs.declared.operation.Operation.{Operation}
-use Rattle.lamport_clock.specs.declared.stamp.Lamport.{Lamport}
+use Rattle.std.proofs.Common.{◌≡◌, ◌∙◌, sym, ap, subst, List, ℕ, None}
 use Rattle.op_model.specs.Edits.{replaced}
 use Rattle.op_model.specs.Shown.{text}
-use Rattle.lamport_clock.specs.Versions.{Entries, raise}
 use Rattle.text_buffer.specs.Fit.{AreFit}
-use Rattle.text_buffer.specs.Buffer.{BufferState, edit_fault, made}
+use Rattle.text_buffer.specs.Buffer.{BufferState, IsBuffer, edit_fault}
 use Rattle.text_buffer.specs.Fields.{state_of}
 use Rattle.text_buffer.proofs.Fit.{fits_of}
-use Rattle.text_buffer.proofs.Edited.{AreKept-edited, good_of, made_stamp, total_of, fresh_of}
+use Rattle.text_buffer.proofs.Edited.{made_good}
 use Rattle.text_buffer.proofs.buffer.Buffer.edit.Goals as goal
 
 pub replaced-requires : goal.replaced-requires
@@ -18,36 +14,35 @@ replaced-requires c =
     let t = c.as_str.ensures.value ∙ c.self.invariant.text in
     subst (λ (t : List ℕ). AreFit 0 c.args.changes.now t) (sym t) (fits_of (state_of c.self.inside) c.args.changes.now e c.self.invariant.state.utf8)
 
-pub lay-requires : goal.lay-requires
-lay-requires c =
-    let ps = c.args.changes.now in
-    let e : edit_fault (state_of c.self.inside) ps ≡ None = ap (λ (b : BufferState). edit_fault b ps) c.self.view_is ∙ sym c.in_default.ensures in
-    total_of (state_of c.self.inside) ps c.in_ok-made.made e (c.in_ok-made.ensures.made ∙ ap (λ (b : BufferState). made b ps) (sym c.self.view_is))
+pub laid-requires-clause-edit : goal.laid-requires-clause-edit
+laid-requires-clause-edit c =
+    (made_good c.args.self.now c.args.changes.now c.in_ok-kept.kept (subst IsBuffer c.self.view_is c.self.invariant.state) (sym c.in_default.ensures) c.in_ok-kept.ensures.made).0
 
-pub push-requires : goal.push-requires
-push-requires c =
-    let ps = c.args.changes.now in
-    let e : edit_fault (state_of c.self.inside) ps ≡ None = ap (λ (b : BufferState). edit_fault b ps) c.self.view_is ∙ sym c.in_default.ensures in
-    fresh_of (state_of c.self.inside) ps _ c.self.invariant.state e (c.in_ok-kept.ensures.made ∙ ap (λ (b : BufferState). made b ps) (sym c.self.view_is))
+pub laid-requires-clause-good : goal.laid-requires-clause-good
+laid-requires-clause-good c =
+    (made_good c.args.self.now c.args.changes.now c.in_ok-kept.kept (subst IsBuffer c.self.view_is c.self.invariant.state) (sym c.in_default.ensures) c.in_ok-kept.ensures.made).1
 
-pub invariant_of-self-2 : goal.invariant_of-self-2
-invariant_of-self-2 c =
-    let i = c.self.inside in
-    let ps = c.args.changes.now in
-    let e : edit_fault (state_of c.self.inside) ps ≡ None = ap (λ (b : BufferState). edit_fault b ps) c.self.view_is ∙ sym c.in_default.ensures in
-    let mx = c.in_ok-made.ensures.made ∙ ap (λ (b : BufferState). made b ps) (sym c.self.view_is) in
-    let m = c.in_ok-kept.ensures.made ∙ ap (λ (b : BufferState). made b ps) (sym c.self.view_is) in
-    let t = c.next_stamp-stamp.ensures ∙ sym (made_stamp c.args.self.now.history c.args.self.now.replica ps) ∙ ap (λ (b : BufferState). stamp_of (made b ps)) (sym c.self.view_is) in
-    let v = c.in_ok-observe.ensures.ok ∙ ap (λ (v : Entries). raise v c.next_stamp-stamp.result) c.in_ok-version.ensures in
-    AreKept-edited i _ ps c.in_ok-made.made _ c.next_stamp-stamp.result c.self.invariant e c.text_total.ensures.utf8 m mx t refl refl c.in_ok-push.ensures.ok (ap (λ (t : Lamport). t.value) c.observe-2.ensures) v
-    c.in_ok-cells.ensures (c.in_ok-text.ensures ∙ ap (replaced ps) c.as_str.ensures.value) (ap (λ (n : ℕ). c.self.inside.bytes + n) c.text_total.ensures.total) refl
+pub put-requires-clause-edit : goal.put-requires-clause-edit
+put-requires-clause-edit c =
+    (made_good c.args.self.now c.args.changes.now c.in_ok-kept.kept (subst IsBuffer c.self.view_is c.self.invariant.state) (sym c.in_default.ensures) c.in_ok-kept.ensures.made).0
+
+pub put-requires-clause-good : goal.put-requires-clause-good
+put-requires-clause-good c =
+    (made_good c.args.self.now c.args.changes.now c.in_ok-kept.kept (subst IsBuffer c.self.view_is c.self.invariant.state) (sym c.in_default.ensures) c.in_ok-kept.ensures.made).1
+
+pub put-requires-clause-room : goal.put-requires-clause-room
+put-requires-clause-room c =
+    (made_good c.args.self.now c.args.changes.now c.in_ok-kept.kept (subst IsBuffer c.self.view_is c.self.invariant.state) (sym c.in_default.ensures) c.in_ok-kept.ensures.made).2
+
+pub put-requires-clause-cells : goal.put-requires-clause-cells
+put-requires-clause-cells c = c.in_ok-cells.ensures
+
+pub put-requires-clause-text : goal.put-requires-clause-text
+put-requires-clause-text c =
+    let f = made_good c.args.self.now c.args.changes.now c.in_ok-kept.kept (subst IsBuffer c.self.view_is c.self.invariant.state) (sym c.in_default.ensures) c.in_ok-kept.ensures.made in
+    c.in_ok-text.ensures ∙ ap (replaced c.args.changes.now) (c.as_str.ensures.value ∙ c.self.invariant.text ∙ ap (λ (b : BufferState). text b.history) c.self.view_is) ∙ f.3
 
 pub returns-clause-text : goal.returns-clause-text
 returns-clause-text c =
-    let i = c.self.inside in
-    let ps = c.args.changes.now in
-    let e : edit_fault (state_of c.self.inside) ps ≡ None = ap (λ (b : BufferState). edit_fault b ps) c.self.view_is ∙ sym c.in_default.ensures in
-    let m = c.in_ok-kept.ensures.made ∙ ap (λ (b : BufferState). made b ps) (sym c.self.view_is) in
-    ap text (c.in_ok-push.ensures.ok ∙ ap (λ (op : Operation). c.self.inside.operations ++ op ∷ []) m)
-    ∙ (good_of (state_of c.self.inside) ps c.self.invariant.state e).1
-    ∙ ap (λ (b : BufferState). replaced ps (text b.history)) c.self.view_is
+    let f = made_good c.args.self.now c.args.changes.now c.in_ok-kept.kept (subst IsBuffer c.self.view_is c.self.invariant.state) (sym c.in_default.ensures) c.in_ok-kept.ensures.made in
+    ap (λ (b : BufferState). text b.history) c.in_ok-put.ensures.ok ∙ sym f.3

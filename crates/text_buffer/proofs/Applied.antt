@@ -1,0 +1,125 @@
+-- The fields of a buffer after an operation is applied.
+use Rattle.std.proofs.Common.{◌≡◌, ◌+◌, ◌≤◌, List, [], ◌∷◌, ◌++◌, sym, ap, subst, ◌∙◌, arith, true, false, None, string_bytes}
+use Rattle.std.proofs.lemmas.Bool.{ltb-false}
+use Rattle.std.specs.Str.{IsUtf8}
+use Rattle.std.specs.List.{list_any}
+use Rattle.lamport_clock.specs.declared.stamp.Lamport.{Lamport}
+use Rattle.lamport_clock.specs.Clocks.{observed}
+use Rattle.lamport_clock.specs.Stamps.{same_stamp}
+use Rattle.lamport_clock.specs.Versions.{raise}
+use Rattle.op_model.specs.declared.operation.Operation.{Operation}
+use Rattle.op_model.specs.declared.faults.OpFault.TheVariants.{Full}
+use Rattle.op_model.specs.Sorted.{Each, Ascending, insert_by}
+use Rattle.op_model.specs.Domains.{IsProper}
+use Rattle.op_model.specs.Operations.{text_total, stamp_of, pieces_of, is_edit, bytes_of, entries_of}
+use Rattle.op_model.specs.Histories.{History, version, clock, bytes_held, entries_held, operation_at}
+use Rattle.op_model.specs.Limited.{Excess, excess}
+use Rattle.op_model.specs.Shown.{text}
+use Rattle.op_model.specs.Answers.{answer, shape_fault, any_stamp}
+use Rattle.op_model.specs.Answers.Answer.{Good}
+use Rattle.op_model.specs.Lawful.{Lawful}
+use Rattle.op_model.specs.Settled.{full_fault}
+use Rattle.op_model.specs.Steps.{older}
+use Rattle.op_model.proofs.Insertion.{each_insert}
+use Rattle.op_model.proofs.Append.{version-append, clock-append, bytes_held-append, entries_held-append}
+use Rattle.op_model.proofs.Restricted.{each_append}
+use Rattle.op_model.proofs.Passed.{passed, shaped, map_none, none_find, any_none}
+use Rattle.op_model.proofs.Good.{append_nil, stamp_parts}
+use Rattle.op_model.proofs.MoreLawful.{lawful_more}
+use Rattle.op_model.proofs.Proper.{utf8}
+use Rattle.fragments.specs.Kept.{AllEdits, kept_cells, shown_bytes}
+use Rattle.fragments.proofs.Told.{shown_text}
+use Rattle.fragments.proofs.Lengths.{text_length}
+use Rattle.text_buffer.specs.Buffer.{BufferState, IsBuffer, applied}
+use Rattle.text_buffer.specs.Fields.{state_of, AreKept}
+use Rattle.text_buffer.specs.declared.buffer.Buffer.TheInside.{Inside}
+use Rattle.text_buffer.proofs.Fit.{room_in}
+use Rattle.text_buffer.proofs.Waiting.{ascends, unlike_waiting}
+
+-- what the shape of an operation bounds
+pub total_of : (op : Operation) → shape_fault op ≡ None → text_total (pieces_of op) ≤ 65536
+total_of op e = ltb-false 65536 (text_total (pieces_of op)) (shaped op e).limit
+
+pub shape_of : (h w : History) (op : Operation) → answer h w op ≡ Good → shape_fault op ≡ None
+shape_of h w op g = (passed h w op g).shape
+
+-- an operation that passes no limit leaves what is held within them
+pub room_of : (b : BufferState) (op : Operation) → full_fault b.limits b.history op ≡ None → (bytes_held b.history + bytes_of op ≤ b.limits.bytes) × (entries_held b.history + entries_of op ≤ b.limits.entries)
+room_of b op f = room_in b.limits b.history (bytes_of op) (entries_of op) (map_none (λ (e : Excess). Full e.unit e.held e.adds) (excess b.limits b.history (bytes_of op) (entries_of op)) f)
+
+entries_more : (h : History) (op : Operation) → answer h [] op ≡ Good → entries_held (h ++ op ∷ []) ≡ entries_held h + entries_of op
+entries_more h op g =
+    let e = entries_held-append h op in
+    let n = (stamp_parts op (shaped op (shape_of h [] op g)).stamp).2 in
+    rw n at e
+
+-- its stamp is new
+pub fresh_of : (h : History) (op : Operation) → answer h [] op ≡ Good → operation_at h (stamp_of op) ≡ None
+fresh_of h op g =
+    let same : Operation → Rattle.std.specs.Prelude.Bool = λ o. same_stamp (stamp_of o) (stamp_of op) in
+    none_find same h (any_none same h (ap (λ (z : History). list_any same z) (sym (append_nil h)) ∙ (passed h [] op g).fresh))
+
+-- the cells that show the text
+pub utf8_of : (b : BufferState) (op : Operation) → IsBuffer b → IsProper op → answer b.history [] op ≡ Good → IsUtf8 (shown_bytes (kept_cells (b.history ++ op ∷ [])))
+utf8_of b op k p g =
+    let h : History = b.history ++ op ∷ [] in
+    subst IsUtf8 (sym (shown_text h)) (utf8 h (lawful_more b.history op k.lawful g) (each_append IsProper b.history (op ∷ []) k.proper (p, tt))).0
+
+pub IsBuffer-applied : (b : BufferState) (op : Operation) → IsBuffer b → is_edit op ≡ true → IsProper op → answer b.history [] op ≡ Good → full_fault b.limits b.history op ≡ None → IsBuffer (applied b op)
+IsBuffer-applied b op k i p g f =
+    let room = room_of b op f in
+    let law : Lawful (b.history ++ op ∷ []) = lawful_more b.history op k.lawful g in
+    let proper : Each IsProper (b.history ++ op ∷ []) = each_append IsProper b.history (op ∷ []) k.proper (p, tt) in
+    let edits : AllEdits (b.history ++ op ∷ []) = each_append (λ (o : Operation). is_edit o ≡ true) b.history (op ∷ []) k.edits (i, tt) in
+    record {
+      lawful = law;
+      proper = proper;
+      edits = edits;
+      waiting_ascending = k.waiting_ascending;
+      waiting_edits = k.waiting_edits;
+      least_replica = k.least_replica;
+      greatest_replica = k.greatest_replica;
+      most_bytes = k.most_bytes;
+      most_entries = k.most_entries;
+      bytes = omega (arith, bytes_held-append b.history op, room.0);
+      entries = omega (arith, entries_more b.history op g, room.1);
+      utf8 = (utf8 (b.history ++ op ∷ []) law proper).0;
+      text_bytes = text_length (b.history ++ op ∷ []) law edits;
+    }
+
+-- the clock and the version observe its stamp, it stands last, and the cells and the text are those that are then
+pub AreKept-applied : (i j : Inside) (op : Operation) (s : Lamport) → AreKept i → is_edit op ≡ true → IsProper op → answer i.operations [] op ≡ Good → full_fault i.limits i.operations op ≡ None → s ≡ stamp_of op
+    → j.replica ≡ i.replica → j.limits ≡ i.limits → j.waiting ≡ i.waiting → j.refused.items ≡ i.refused.items
+    → j.operations ≡ i.operations ++ op ∷ [] → j.clock.value ≡ observed i.clock.value s.value → j.version ≡ raise i.version s
+    → j.cells ≡ kept_cells (i.operations ++ op ∷ []) → string_bytes j.text ≡ text (i.operations ++ op ∷ [])
+    → j.bytes ≡ i.bytes + bytes_of op → j.entries ≡ i.entries + entries_of op → AreKept j
+AreKept-applied i j op s k e p g f t replica limits waits refusals items clocks versions cells texts bytes entries =
+    let b = state_of i in
+    let same : state_of j ≡ applied b op = cc in
+    record {
+      clock = clocks ∙ ap (λ (u : Lamport). observed i.clock.value u.value) t ∙ ap (λ c. observed c (stamp_of op).value) k.clock ∙ sym (clock-append i.operations op) ∙ ap clock (sym items);
+      version = versions ∙ ap (raise i.version) t ∙ ap (λ v. raise v (stamp_of op)) k.version ∙ sym (version-append i.operations op) ∙ ap version (sym items);
+      cells = cells ∙ ap kept_cells (sym items);
+      text = texts ∙ ap text (sym items);
+      bytes = omega (arith, bytes, k.bytes, bytes_held-append i.operations op, ap bytes_held items);
+      entries = omega (arith, entries, k.entries, entries_more i.operations op g, ap entries_held items);
+      state = subst IsBuffer (sym same) (IsBuffer-applied b op k.state e p g f);
+    }
+
+-- one more waits
+pub IsBuffer-deferred : (b : BufferState) (op : Operation) (w : List Operation) → IsBuffer b → is_edit op ≡ true → any_stamp (b.history ++ b.waiting) op ≡ false → w ≡ insert_by older op b.waiting → IsBuffer (record b { waiting = w })
+IsBuffer-deferred b op w k i f e = record {
+  lawful = k.lawful;
+  proper = k.proper;
+  edits = k.edits;
+  waiting_ascending = subst (Ascending older) (sym e) (ascends op b.waiting (unlike_waiting b.history b.waiting op f) k.waiting_ascending);
+  waiting_edits = subst AllEdits (sym e) (each_insert (λ (o : Operation). is_edit o ≡ true) older op b.waiting i k.waiting_edits);
+  least_replica = k.least_replica;
+  greatest_replica = k.greatest_replica;
+  most_bytes = k.most_bytes;
+  most_entries = k.most_entries;
+  bytes = k.bytes;
+  entries = k.entries;
+  utf8 = k.utf8;
+  text_bytes = k.text_bytes;
+}

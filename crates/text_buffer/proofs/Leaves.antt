@@ -1,0 +1,150 @@
+-- What a pass that is stopped leaves: what it applied stands behind what was applied, and waits no longer.
+use Rattle.std.proofs.Common.{◌≡◌, ℕ, ◌≤◌, Bool, true, false, cond, List, [], ◌∷◌, ◌++◌, length, take, drop, refl, sym, ◌∙◌, ap, subst, append_assoc, arith, Option, Some, None, length-append, inl, inr}
+use Rattle.std.proofs.lemmas.List.{append-nil, take-append-drop}
+use Rattle.lamport_clock.specs.declared.stamp.Lamport.{Lamport}
+use Rattle.lamport_clock.specs.Stamps.{same_stamp}
+use Rattle.op_model.specs.declared.operation.Operation.{Operation}
+use Rattle.op_model.specs.declared.limits.Limits.{Limits as LimitsType}
+use Rattle.op_model.specs.Sorted.{Each, Ascending}
+use Rattle.op_model.specs.Operations.{stamp_of}
+use Rattle.op_model.specs.Histories.{History, In, operation_at}
+use Rattle.op_model.specs.Lawful.{Lawful}
+use Rattle.op_model.specs.Settled.{State, Turn, turn, pass}
+use Rattle.op_model.specs.Settled.Turn.{Append, Drop, Stay, Refuse}
+use Rattle.op_model.specs.Steps.{older}
+use Rattle.op_model.proofs.Insertion.{each_map}
+use Rattle.op_model.proofs.Restricted.{each_append}
+use Rattle.op_model.proofs.Passed.{none_find}
+use Rattle.op_model.proofs.SameSets.{each_in}
+use Rattle.op_model.proofs.MoreLawful.{lawful_more}
+use Rattle.op_model.proofs.Settling.{after, pass_is, pass_keeps}
+use Rattle.text_buffer.specs.Settling.{pass_until, pass_step}
+use Rattle.text_buffer.proofs.Turns.{pass_nil, differ}
+
+-- from what is applied and waits to what is applied and waits later
+pub record Leaves (h : History) (w : List Operation) (g : History) (v : List Operation) : Type 0 where
+  pub new : List Operation
+  pub history : g ≡ h ++ new
+  pub apart : Each (λ (op : Operation). operation_at v (stamp_of op) ≡ None) new
+  pub waiting : (t : Lamport) → operation_at w t ≡ None → operation_at v t ≡ None
+
+-- what is applied was waiting
+record Takes (h : History) (w : List Operation) (g : History) (v : List Operation) : Type 0 where
+  leaves : Leaves h w g v
+  from : Each (λ (op : Operation). In w op) leaves.new
+
+found_later : (b : Bool) (op : Operation) (o : Option Operation) → cond b (Some op) o ≡ None → (b ≡ false) × (o ≡ None)
+found_later true op o e = cc
+found_later false op o e = (refl, e)
+
+absent : (op : Operation) (w : List Operation) → Each (λ (o : Operation). older op o ≡ true) w → operation_at w (stamp_of op) ≡ None
+absent op w u = none_find (λ o. same_stamp (stamp_of o) (stamp_of op)) w
+    (each_map (λ (o : Operation). older op o ≡ true) (λ (o : Operation). same_stamp (stamp_of o) (stamp_of op) ≡ false) (λ o e. (differ (stamp_of op) (stamp_of o) e).1) w u)
+
+module _ (l : LimitsType) (rest : List Operation) where
+  abbrev Taken : History → List Operation → State → Type 0
+  Taken h w s = Takes h w s.history (s.waiting ++ rest)
+
+  takes : (h : History) (front : List Operation) → Ascending older (front ++ rest) → Taken h (front ++ rest) (pass l h front)
+  takes h [] u = subst (Taken h rest) (sym (pass_nil l h)) (record {
+    leaves = record { new = []; history = sym (append-nil h); apart = tt; waiting = λ t e. e };
+    from = tt;
+  })
+  takes h (op ∷ front) u = subst (Taken h (op ∷ (front ++ rest))) (sym (pass_is l h op front)) (go (turn l h op) (takes (h ++ op ∷ []) front u.1) (takes h front u.1))
+    where
+      go : (t : Turn) → Taken (h ++ op ∷ []) (front ++ rest) (pass l (h ++ op ∷ []) front) → Taken h (front ++ rest) (pass l h front) → Taken h (op ∷ (front ++ rest)) (after t l h op front)
+      go Append a b = let k = a.leaves in record {
+        leaves = record {
+          new = op ∷ k.new;
+          history = k.history ∙ append_assoc h (op ∷ []) k.new;
+          apart = (k.waiting (stamp_of op) (absent op (front ++ rest) u.0), k.apart);
+          waiting = λ t e. k.waiting t (found_later (same_stamp (stamp_of op) t) op (operation_at (front ++ rest) t) e).1;
+        };
+        from = (inl refl, each_map (λ (o : Operation). In (front ++ rest) o) (λ (o : Operation). In (op ∷ (front ++ rest)) o) (λ o i. inr i) k.new a.from);
+      }
+      go Drop a b = gone b
+        where
+          gone : Taken h (front ++ rest) (pass l h front) → Taken h (op ∷ (front ++ rest)) (pass l h front)
+          gone b = let k = b.leaves in record {
+            leaves = record {
+              new = k.new;
+              history = k.history;
+              apart = k.apart;
+              waiting = λ t e. k.waiting t (found_later (same_stamp (stamp_of op) t) op (operation_at (front ++ rest) t) e).1;
+            };
+            from = each_map (λ (o : Operation). In (front ++ rest) o) (λ (o : Operation). In (op ∷ (front ++ rest)) o) (λ o i. inr i) k.new b.from;
+          }
+      go Stay a b = let k = b.leaves in record {
+        leaves = record {
+          new = k.new;
+          history = k.history;
+          apart = both k.new k.apart b.from;
+          waiting = λ t e. let f = found_later (same_stamp (stamp_of op) t) op (operation_at (front ++ rest) t) e in rw f.0 (k.waiting t f.1);
+        };
+        from = each_map (λ (o : Operation). In (front ++ rest) o) (λ (o : Operation). In (op ∷ (front ++ rest)) o) (λ o i. inr i) k.new b.from;
+      }
+        where
+          both : (new : List Operation) → Each (λ (o : Operation). operation_at ((pass l h front).waiting ++ rest) (stamp_of o) ≡ None) new → Each (λ (o : Operation). In (front ++ rest) o) new
+              → Each (λ (o : Operation). operation_at (op ∷ ((pass l h front).waiting ++ rest)) (stamp_of o) ≡ None) new
+          both [] x y = tt
+          both (o ∷ new) x y = (rw (differ (stamp_of op) (stamp_of o) (each_in (λ (z : Operation). older op z ≡ true) (front ++ rest) o u.0 y.0)).0 x.0, both new x.1 y.1)
+      go (Refuse f) a b = let k = b.leaves in record {
+        leaves = record {
+          new = k.new;
+          history = k.history;
+          apart = k.apart;
+          waiting = λ t e. k.waiting t (found_later (same_stamp (stamp_of op) t) op (operation_at (front ++ rest) t) e).1;
+        };
+        from = each_map (λ (o : Operation). In (front ++ rest) o) (λ (o : Operation). In (op ∷ (front ++ rest)) o) (λ o i. inr i) k.new b.from;
+      }
+
+abbrev pub LeavesState : State → State → Type 0
+LeavesState s n = Leaves s.history s.waiting n.history n.waiting
+
+pub until_leaves : (k : ℕ) (l : LimitsType) (s : State) → Ascending older s.waiting → LeavesState s (pass_until k l s)
+until_leaves k l s u =
+    let e : take k s.waiting ++ drop k s.waiting ≡ s.waiting = take-append-drop k s.waiting in
+    let t = takes l (drop k s.waiting) s.history (take k s.waiting) (subst (Ascending older) (sym e) u) in
+    subst (λ (w : List Operation). Leaves s.history w (pass_until k l s).history (pass_until k l s).waiting) e t.leaves
+
+pub step_leaves : (l : LimitsType) (s : State) → Ascending older s.waiting → LeavesState s (pass_step l s)
+step_leaves l s u =
+    let e : s.waiting ++ [] ≡ s.waiting = append-nil s.waiting in
+    let t = takes l [] s.history s.waiting (subst (Ascending older) (sym e) u) in
+    subst (λ (w : List Operation). Leaves s.history w (pass_step l s).history (pass_step l s).waiting) e
+    (subst (λ (v : List Operation). Leaves s.history (s.waiting ++ []) (pass_step l s).history v) (append-nil (pass_step l s).waiting) t.leaves)
+
+-- one after the other
+pub leaves_both : (a b c : State) → LeavesState a b → LeavesState b c → LeavesState a c
+leaves_both a b c x y = record {
+  new = x.new ++ y.new;
+  history = y.history ∙ ap (λ (h : History). h ++ y.new) x.history ∙ append_assoc a.history x.new y.new;
+  apart = each_append (λ (op : Operation). operation_at c.waiting (stamp_of op) ≡ None) x.new y.new
+      (each_map (λ (op : Operation). operation_at b.waiting (stamp_of op) ≡ None) (λ (op : Operation). operation_at c.waiting (stamp_of op) ≡ None) (λ op e. y.waiting (stamp_of op) e) x.new x.apart) y.apart;
+  waiting = λ t e. y.waiting t (x.waiting t e);
+}
+
+pub leaves_longer : (h : History) (w : List Operation) (g : History) (v : List Operation) → Leaves h w g v → length h ≤ length g
+leaves_longer h w g v k = let e = ap length k.history in let a = length-append h k.new in omega arith
+
+-- ---- what passes keep
+
+anything : (w : List Operation) → Each (λ (op : Operation). Unit {0}) w
+anything [] = tt
+anything (op ∷ w) = (tt, anything w)
+
+each_kept : (Q : Operation → Type 0) (l : LimitsType) (h : History) (w : List Operation) → Each Q w → Each Q (pass l h w).waiting
+each_kept Q l h w e = (pass_keeps l (λ h. Unit {0}) Q (λ h op a b c. tt) h w tt e).1
+
+pub pass_up : (l : LimitsType) (h : History) (w : List Operation) → Ascending older w → Ascending older (pass l h w).waiting
+pass_up l h [] u = subst (λ (s : State). Ascending older s.waiting) (sym (pass_nil l h)) tt
+pass_up l h (op ∷ w) u = subst (λ (s : State). Ascending older s.waiting) (sym (pass_is l h op w)) (go (turn l h op) (pass_up l (h ++ op ∷ []) w u.1) (pass_up l h w u.1))
+  where
+    go : (t : Turn) → Ascending older (pass l (h ++ op ∷ []) w).waiting → Ascending older (pass l h w).waiting → Ascending older (after t l h op w).waiting
+    go Append a b = a
+    go Drop a b = b
+    go Stay a b = (each_kept (λ (o : Operation). older op o ≡ true) l h w u.0, b)
+    go (Refuse f) a b = b
+
+pub pass_lawful : (l : LimitsType) (h : History) (w : List Operation) → Lawful h → Lawful (pass l h w).history
+pass_lawful l h w p = (pass_keeps l Lawful (λ op. Unit {0}) (λ g op a b c. lawful_more g op a c) h w p (anything w)).0

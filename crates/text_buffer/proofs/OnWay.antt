@@ -1,0 +1,141 @@
+-- A buffer in the middle of a pass.
+use Rattle.std.proofs.Common.{◌≡◌, ◌<◌, Bool, true, cond, List, [], ◌∷◌, length, refl, sym, ◌∙◌, ap, subst, Option, None, Some, inl, inr}
+use Rattle.std.specs.Prelude.{option_map}
+use Rattle.std.specs.List.{filter}
+use Rattle.std.proofs.lemmas.Bool.{cases_Bool}
+use Rattle.lamport_clock.specs.declared.stamp.Lamport.{Lamport}
+use Rattle.op_model.specs.declared.operation.Operation.{Operation}
+use Rattle.op_model.specs.declared.limits.Limits.{Limits as LimitsType}
+use Rattle.op_model.specs.declared.faults.OpFault.{OpFault}
+use Rattle.op_model.specs.Sorted.{Ascending}
+use Rattle.op_model.specs.Operations.{stamp_of, is_edit}
+use Rattle.op_model.specs.Answers.{Answer, answer}
+use Rattle.op_model.specs.Answers.Answer.{Good, Repeat, Waits, Refused}
+use Rattle.op_model.specs.Settled.{State, Turn, turn, turn_of, full_fault}
+use Rattle.op_model.specs.Settled.Turn.{Append, Drop, Stay, Refuse}
+use Rattle.op_model.specs.Steps.{older, limited}
+use Rattle.op_model.proofs.Insertion.{each_filter}
+use Rattle.deferred_ops.specs.Deferred.{without}
+use Rattle.text_buffer.specs.Buffer.{BufferState, IsBuffer, state, with_state}
+use Rattle.text_buffer.specs.Fields.{state_of, AreKept}
+use Rattle.text_buffer.specs.declared.buffer.Buffer.TheInside.{Inside}
+use Rattle.text_buffer.specs.Settling.{after_turn, turned, pass_until, pass_step, next_ready, turn_made, turn_answer, met, without_waiting, passed, IsStopped}
+use Rattle.text_buffer.proofs.Turns.{IsAt, at_start, at_end, at_turn, at_until, fewer, not_stay, ready_within, ready_each}
+
+-- ---- a turn
+
+abbrev pub turn_for : Answer → Turn
+turn_for Good = Append
+turn_for Repeat = Drop
+turn_for (Waits r v) = Stay
+turn_for (Refused f) = Refuse f
+
+by_answer : (a : Answer) (f : Option OpFault) → turn_of a f ≡ turn_for (limited a f)
+by_answer Good None = refl
+by_answer Good (Some x) = refl
+by_answer Repeat f = refl
+by_answer (Waits r v) f = refl
+by_answer (Refused x) f = refl
+
+-- the turn of what is ready is told by the answer, the limits asked last
+pub turn_is : (after : Option Lamport) (b : BufferState) (op : Operation) (a : Answer) → next_ready after b ≡ Some op → a ≡ turn_answer b op → turn b.limits b.history op ≡ turn_for a
+turn_is after b op a e q =
+    let w = ready_within after b.history b.waiting op e in
+    ap (λ (x : Bool). cond x (turn_of (answer b.history [] op) (full_fault b.limits b.history op)) Stay) w ∙ by_answer (answer b.history [] op) (full_fault b.limits b.history op) ∙ ap turn_for (sym q)
+
+turn_makes : (after : Option Lamport) (b : BufferState) (op : Operation) (t : Turn) → next_ready after b ≡ Some op → turn b.limits b.history op ≡ t → with_state (after_turn t op (state b)) b ≡ turn_made (next_ready after b) b
+turn_makes after b op t e q = ap (λ (u : Turn). with_state (after_turn u op (state b)) b) (sym q) ∙ ap (λ (o : Option Operation). turn_made o b) (sym e)
+
+pub turn_done : (after : Option Lamport) (b m n : BufferState) (op : Operation) (t : Lamport) → next_ready after b ≡ Some op → t ≡ stamp_of op → m ≡ met (turn_answer b op) op b → n ≡ without_waiting t m → n ≡ turn_made (next_ready after b) b
+turn_done after b m n op t e s x y = y ∙ ap (λ (u : Lamport). without_waiting u m) s ∙ ap (without_waiting (stamp_of op)) x ∙ go (turn_answer b op) refl
+  where
+    go : (a : Answer) → turn_answer b op ≡ a → without_waiting (stamp_of op) (met a op b) ≡ turn_made (next_ready after b) b
+    go Good q = turn_makes after b op Append e (turn_is after b op Good e (sym q))
+    go Repeat q = turn_makes after b op Drop e (turn_is after b op Repeat e (sym q))
+    go (Waits r v) q = absurd (not_stay b.limits b.history op (ready_within after b.history b.waiting op e) (turn_is after b op (Waits r v) e (sym q)))
+    go (Refused f) q = turn_makes after b op (Refuse f) e (turn_is after b op (Refused f) e (sym q))
+
+up_filter : (p : Operation → Bool) (w : List Operation) → Ascending older w → Ascending older (filter p w)
+up_filter p [] u = tt
+up_filter p (o ∷ w) u = elim (cases_Bool (p o)) [
+  | inl y ↦ rw y (each_filter (λ (x : Operation). older o x ≡ true) p w u.0, up_filter p w u.1)
+  | inr n ↦ rw n (up_filter p w u.1)
+]
+
+-- an operation leaves
+IsBuffer-without : (b : BufferState) (t : Lamport) → IsBuffer b → IsBuffer (record b { waiting = without t b.waiting })
+IsBuffer-without b t k = record {
+  lawful = k.lawful;
+  proper = k.proper;
+  edits = k.edits;
+  waiting_ascending = up_filter _ b.waiting k.waiting_ascending;
+  waiting_edits = each_filter (λ (o : Operation). is_edit o ≡ true) _ b.waiting k.waiting_edits;
+  least_replica = k.least_replica;
+  greatest_replica = k.greatest_replica;
+  most_bytes = k.most_bytes;
+  most_entries = k.most_entries;
+  bytes = k.bytes;
+  entries = k.entries;
+  utf8 = k.utf8;
+  text_bytes = k.text_bytes;
+}
+
+-- the fields of a buffer from which an operation leaves
+pub AreKept-without : (i : Inside) (t : Lamport) (w : List Operation) → AreKept i → w ≡ without t i.waiting → AreKept (record i { waiting = w })
+AreKept-without i t w k e = record {
+  clock = k.clock;
+  version = k.version;
+  cells = k.cells;
+  text = k.text;
+  bytes = k.bytes;
+  entries = k.entries;
+  state = subst (λ (x : List Operation). IsBuffer (record (state_of i) { waiting = x })) (sym e) (IsBuffer-without (state_of i) t k.state);
+}
+
+-- what is ready is an edit
+pub ready_edit : (after : Option Lamport) (b : BufferState) (op : Operation) → IsBuffer b → next_ready after b ≡ Some op → is_edit op ≡ true
+ready_edit after b op k e = ready_each (λ (o : Operation). is_edit o ≡ true) after b.history b.waiting op e k.waiting_edits
+
+-- ---- a pass
+
+pub record OnWay (b : BufferState) (after : Option Lamport) (n : BufferState) : Type 0 where
+  pub at : IsAt b.limits (state b) after (state n)
+  pub replica : n.replica ≡ b.replica
+  pub limits : n.limits ≡ b.limits
+
+pub on_start : (b : BufferState) → OnWay b None b
+on_start b = record { at = at_start b.limits (state b); replica = refl; limits = refl }
+
+same_buffer : (b n : BufferState) (s : State) → n.replica ≡ b.replica → n.limits ≡ b.limits → state n ≡ s → n ≡ with_state s b
+same_buffer b n s r l e = λ i. record { history = (e i).history; waiting = (e i).waiting; refused = (e i).refused; replica = r i; limits = l i }
+
+pub on_stopped : (b : BufferState) (after : Option Lamport) (n m : BufferState) → OnWay b after n → m ≡ n → IsStopped b m
+on_stopped b after n m w e = let u = at_until b.limits (state b) after (state n) w.at in (u.0, e ∙ same_buffer b n (pass_until u.0 b.limits (state b)) w.replica w.limits u.1)
+
+abbrev Next : BufferState → BufferState → BufferState → Lamport → Type 0
+Next b n m t = OnWay b (Some t) m × (length m.waiting < length n.waiting)
+
+pub on_turn : (b : BufferState) (after : Option Lamport) (n m : BufferState) (t : Lamport) → OnWay b after n → Ascending older n.waiting → Some t ≡ option_map stamp_of (next_ready after n) → m ≡ turn_made (next_ready after n) n
+    → Next b n m t
+on_turn b after n m t w u s e = go (next_ready after n) refl s e
+  where
+    made : (op : Operation) → next_ready after n ≡ Some op → Next b n (with_state (turned n.limits op (state n)) n) (stamp_of op)
+    made op q = (
+      record {
+        at = subst (λ (l : LimitsType). IsAt b.limits (state b) (Some (stamp_of op)) (turned l op (state n))) (sym w.limits) (at_turn b.limits (state b) after (state n) op w.at u q);
+        replica = w.replica;
+        limits = w.limits;
+      },
+      fewer n.limits (state n) after op u q,
+    )
+
+    go : (o : Option Operation) → next_ready after n ≡ o → Some t ≡ option_map stamp_of o → m ≡ turn_made o n → Next b n m t
+    go None q s e = cc
+    go (Some op) q s e = let r : t ≡ stamp_of op = cc in subst (λ (x : BufferState). Next b n x t) (sym e) (subst (λ (x : Lamport). Next b n (with_state (turned n.limits op (state n)) n) x) (sym r) (made op q))
+
+pub on_end : (b : BufferState) (after : Option Lamport) (n m : BufferState) → OnWay b after n → None ≡ option_map stamp_of (next_ready after n) → m ≡ turn_made (next_ready after n) n → m ≡ passed b
+on_end b after n m w s e = go (next_ready after n) refl s e
+  where
+    go : (o : Option Operation) → next_ready after n ≡ o → None ≡ option_map stamp_of o → m ≡ turn_made o n → m ≡ passed b
+    go None q s e = e ∙ same_buffer b n (pass_step b.limits (state b)) w.replica w.limits (at_end b.limits (state b) after (state n) w.at q)
+    go (Some op) q s e = cc

@@ -1,0 +1,88 @@
+-- What a buffer is after it settled, or after its settling was stopped.
+use Rattle.std.proofs.Common.{◌≡◌, ◌<◌, ◌≤◌, List, ◌++◌, length, drop, refl, sym, ◌∙◌, ap, subst, arith, None}
+use Rattle.std.proofs.Math.Seq.{drop-append_seam}
+use Rattle.op_model.specs.declared.operation.Operation.{Operation}
+use Rattle.op_model.specs.Sorted.{Each, Ascending}
+use Rattle.op_model.specs.Operations.{stamp_of}
+use Rattle.op_model.specs.Histories.{operation_at}
+use Rattle.op_model.specs.Lawful.{Lawful}
+use Rattle.op_model.specs.Settled.{State}
+use Rattle.op_model.specs.Steps.{older}
+use Rattle.text_buffer.specs.Buffer.{BufferState, IsPartly, AllMiss, newly_applied, settled, state, with_state}
+use Rattle.text_buffer.specs.Fields.{state_of, AreKept}
+use Rattle.text_buffer.specs.declared.buffer.Buffer.TheInside.{Inside}
+use Rattle.text_buffer.specs.Settling.{pass_until, passed, IsStopped}
+use Rattle.text_buffer.proofs.Settles.{settled_once, settled_twice, settled_waits}
+use Rattle.text_buffer.proofs.Leaves.{LeavesState, until_leaves, step_leaves, leaves_both, leaves_longer, pass_up, pass_lawful}
+
+-- ---- it settled
+
+pub longer : (b : BufferState) → Ascending older b.waiting → length b.history ≤ length (passed b).history
+longer b u = leaves_longer b.history b.waiting (passed b).history (passed b).waiting (step_leaves b.limits (state b) u)
+
+pub passed_up : (b : BufferState) → Ascending older b.waiting → Ascending older (passed b).waiting
+passed_up b u = pass_up b.limits b.history b.waiting u
+
+pub longer_twice : (b : BufferState) → Ascending older b.waiting → length b.history ≤ length (passed (passed b)).history
+longer_twice b u = let x = longer b u in let y = longer (passed b) (passed_up b u) in omega arith
+
+pub once : (b : BufferState) → Ascending older b.waiting → length (passed b).history ≡ length b.history → settled b ≡ passed b
+once b u e = ap (λ (s : State). with_state s b) (settled_once b.limits (state b) u e)
+
+pub twice : (b : BufferState) → Ascending older b.waiting → (length (passed b).history ≡ length b.history → ⊥) → settled b ≡ passed (passed b)
+twice b u n = let x = longer b u in ap (λ (s : State). with_state s b) (settled_twice b.limits (state b) u (grows x n))
+  where
+    grows : (x : length b.history ≤ length (passed b).history) (n : length (passed b).history ≡ length b.history → ⊥) → length b.history < length (passed b).history
+    grows x n = omega arith
+
+pub all_miss : (b : BufferState) → AllMiss (settled b)
+all_miss b = settled_waits b.limits (state b)
+
+-- ---- its settling was stopped
+
+partly : (b n : BufferState) → Lawful n.history → LeavesState (state b) (state n) → n.replica ≡ b.replica → n.limits ≡ b.limits → IsPartly b n
+partly b n p k r l =
+    let d : newly_applied b n ≡ k.new = ap (drop (length b.history)) k.history ∙ drop-append_seam b.history k.new in
+    record {
+      lawful = p;
+      prefix = k.history ∙ ap (λ z. b.history ++ z) (sym d);
+      applied = subst (Each (λ (op : Operation). operation_at n.waiting (stamp_of op) ≡ None)) (sym d) k.apart;
+      waiting = k.waiting;
+      replica = r;
+      limits = l;
+    }
+
+pub stopped_partly : (b n : BufferState) → Lawful b.history → Ascending older b.waiting → IsStopped b n → IsPartly b n
+stopped_partly b n p u s = subst (IsPartly b) (sym s.1)
+    (partly b (with_state (pass_until s.0 b.limits (state b)) b) (pass_lawful b.limits b.history _ p) (until_leaves s.0 b.limits (state b) u) refl refl)
+
+pub stopped_later : (b n : BufferState) → Lawful b.history → Ascending older b.waiting → IsStopped (passed b) n → IsPartly b n
+stopped_later b n p u s = subst (IsPartly b) (sym s.1)
+    (partly b (with_state (pass_until s.0 b.limits (state (passed b))) (passed b)) (pass_lawful b.limits (passed b).history _ (pass_lawful b.limits b.history b.waiting p))
+    (leaves_both (state b) (state (passed b)) (pass_until s.0 b.limits (state (passed b))) (step_leaves b.limits (state b) u) (until_leaves s.0 b.limits (state (passed b)) (passed_up b u))) refl refl)
+
+-- ---- from the fields
+
+pub up : (i : Inside) (b : BufferState) → AreKept i → state_of i ≡ b → Ascending older b.waiting
+up i b k v = subst (λ (x : BufferState). Ascending older x.waiting) v k.state.waiting_ascending
+
+pub lawful : (i : Inside) (b : BufferState) → AreKept i → state_of i ≡ b → Lawful b.history
+lawful i b k v = subst (λ (x : BufferState). Lawful x.history) v k.state.lawful
+
+held : (i : Inside) (b : BufferState) (s : List Operation) → s ≡ i.operations → state_of i ≡ b → length s ≡ length b.history
+held i b s e v = ap (λ (x : List Operation). length x) e ∙ ap (λ (x : BufferState). length x.history) v
+
+-- the histories before and after the first pass
+module _ (i j : Inside) (b m : BufferState) (s r : List Operation) (k : AreKept i) (v : state_of i ≡ b) (w : state_of j ≡ m) (e : s ≡ i.operations) (f : r ≡ j.operations) (p : m ≡ passed b) where
+  pub after_one : length r ≡ length s → m ≡ settled b
+  after_one n = p ∙ sym (once b (up i b k v) (ap (λ (x : BufferState). length x.history) (sym p) ∙ sym (held j m r f w) ∙ n ∙ held i b s e v))
+
+  pub after_two : (n : BufferState) → (length r ≡ length s → ⊥) → n ≡ passed m → n ≡ settled b
+  after_two n d q = q ∙ ap passed p ∙ sym (twice b (up i b k v) (λ x. d (held j m r f w ∙ ap (λ (y : BufferState). length y.history) p ∙ x ∙ sym (held i b s e v))))
+
+pub grown : (i j : Inside) (b m n : BufferState) (s r : List Operation) → AreKept i → state_of i ≡ b → state_of j ≡ n → s ≡ i.operations → r ≡ j.operations → m ≡ passed b → n ≡ passed m → length s ≤ length r
+grown i j b m n s r k v w e f p q =
+    let x : length b.history ≤ length (passed (passed b)).history = longer_twice b (up i b k v) in
+    let y : length r ≡ length (passed (passed b)).history = held j n r f w ∙ ap (λ (z : BufferState). length z.history) (q ∙ ap passed p) in
+    let z : length s ≡ length b.history = held i b s e v in
+    omega arith

@@ -1,0 +1,63 @@
+-- What is known once a taken operation is applied and the buffer has settled, or memory is wanted.
+use Rattle.std.proofs.Common.{◌≡◌, ℕ, suc, ◌-◌, ◌≤◌, List, [], ◌∷◌, ◌++◌, length, drop, sym, ap, subst, ◌∙◌, arith, None, Result, Ok, Err}
+use Rattle.std.specs.Result.{OnErr}
+use Rattle.std.proofs.lemmas.List.{append_assoc, length-append}
+use Rattle.std.proofs.Math.Seq.{drop-append_seam}
+use Rattle.op_model.specs.declared.operation.Operation.{Operation}
+use Rattle.op_model.specs.declared.limits.Limits.{Limits as LimitsType}
+use Rattle.op_model.specs.Sorted.{Each}
+use Rattle.op_model.specs.Operations.{stamp_of}
+use Rattle.op_model.specs.Histories.{History, operation_at}
+use Rattle.op_model.specs.Settled.{settled as settled_at}
+use Rattle.op_model.specs.Answers.{answer}
+use Rattle.op_model.specs.Answers.Answer.{Good}
+use Rattle.op_model.proofs.Settling.{settled_keeps}
+use Rattle.op_model.proofs.Passed.{passed}
+use Rattle.text_buffer.specs.Buffer.{BufferState, IsPartly, applied, settled, newly_applied}
+use Rattle.text_buffer.specs.declared.outcomes.Took.TheVariants as took
+use Rattle.text_buffer.proofs.Waiting.{not_waiting}
+
+-- ---- how much settling applies
+
+grows : (l : LimitsType) (h : History) (w : List Operation) → length h ≤ length (settled_at l h w).history
+grows l h w = (settled_keeps l (λ (g : History). length h ≤ length g) (λ (op : Operation). Unit {0}) (λ g op p q e. let n = length-append g (op ∷ []) in omega arith) h w (omega arith) (all w)).0
+  where
+    all : (w : List Operation) → Each (λ (op : Operation). Unit {0}) w
+    all [] = tt
+    all (op ∷ w) = (tt, all w)
+
+pub more_applied : (b : BufferState) (op : Operation) → suc (length b.history) ≤ length (settled (applied b op)).history
+more_applied b op = let n = grows b.limits (b.history ++ op ∷ []) b.waiting in let m = length-append b.history (op ∷ []) in omega arith
+
+-- ---- where memory is wanted
+
+pub one_applied : (b n : BufferState) (op : Operation) → answer b.history b.waiting op ≡ Good → IsPartly (applied b op) n → IsPartly b n
+one_applied b n op g p =
+    let more : List Operation = newly_applied (applied b op) n in
+    let whole : n.history ≡ b.history ++ op ∷ more = p.prefix ∙ append_assoc b.history (op ∷ []) more in
+    let new : newly_applied b n ≡ op ∷ more = ap (drop (length b.history)) whole ∙ drop-append_seam b.history (op ∷ more) in
+    record {
+      lawful = p.lawful;
+      prefix = whole ∙ ap (λ (m : List Operation). b.history ++ m) (sym new);
+      applied = subst (Each (λ (o : Operation). operation_at n.waiting (stamp_of o) ≡ None)) (sym new)
+          (p.waiting (stamp_of op) (not_waiting b.history b.waiting op (passed b.history b.waiting op g).fresh), p.applied);
+      waiting = p.waiting;
+      replica = p.replica;
+      limits = p.limits;
+    }
+
+-- ---- what is told
+
+module _ (b : BufferState) (op : Operation) (h g : History) (e : h ≡ b.history) (f : g ≡ (settled (applied b op)).history) where
+  pub counts_up : suc (length h) ≤ length g
+  counts_up = let m = more_applied b op in let x = ap length e in let y = ap length f in omega arith
+
+  pub not_less : length h ≤ length g
+  not_less = let m = counts_up in omega arith
+
+  pub says : (P : Type 0) → P → (n : ℕ) → took.Applied (length g - length h) ≡ took.Applied n → (1 ≤ n) × P
+  says P p n q = let m = counts_up in let s : length g - length h ≡ n = cc in (omega arith, p)
+
+pub on_err : {T E : Type 0} (r : Result T E) (P : Type 0) → P → OnErr r P
+on_err (Ok x) P p = tt
+on_err (Err e) P p = p

@@ -1,0 +1,277 @@
+-- A pass, told by the least operation that misses nothing.
+use Rattle.std.proofs.Common.{◌≡◌, ℕ, ◌<◌, Bool, true, false, cond, ◌&&◌, List, [], ◌∷◌, ◌++◌, length, take, drop, refl, sym, ◌∙◌, ap, subst, append_assoc, arith, Option, Some, None, length-append, inl, inr}
+use Rattle.std.proofs.lemmas.List.{append-nil}
+use Rattle.std.proofs.lemmas.Bool.{cases_Bool, and_parts}
+use Rattle.std.proofs.lemmas.Bool.Decides.{nat_tests}
+use Rattle.std.proofs.Math.Seq.{take-append_seam, drop-append_seam}
+use Rattle.std.specs.List.{find}
+use Rattle.lamport_clock.specs.declared.stamp.Lamport.{Lamport}
+use Rattle.lamport_clock.specs.Stamps.{later, same_stamp}
+use Rattle.lamport_clock.specs.Versions.{within}
+use Rattle.op_model.specs.declared.operation.Operation.{Operation}
+use Rattle.op_model.specs.declared.limits.Limits.{Limits as LimitsType}
+use Rattle.op_model.specs.declared.faults.OpFault.{OpFault}
+use Rattle.op_model.specs.Sorted.{Each, Ascending}
+use Rattle.op_model.specs.Operations.{stamp_of, version_of}
+use Rattle.op_model.specs.Histories.{History, version}
+use Rattle.op_model.specs.Settled.{State, Turn, turn, with_waiting, pass}
+use Rattle.op_model.specs.Settled.Turn.{Append, Drop, Stay, Refuse}
+use Rattle.op_model.specs.Steps.{older}
+use Rattle.op_model.proofs.Insertion.{each_map}
+use Rattle.op_model.proofs.Passed.{find_none}
+use Rattle.op_model.proofs.PathOrder.{same_stamp_refl}
+use Rattle.op_model.proofs.SameSets.{one_way}
+use Rattle.op_model.proofs.Settling.{after, pass_is, stay_misses}
+use Rattle.deferred_ops.specs.Deferred.{is_past, least_ready, without}
+use Rattle.text_buffer.specs.Settling.{after_turn, turned, stopped, pass_until, pass_step}
+
+-- ---- a pass over a list in two parts
+
+-- what two parts of a pass make
+abbrev joined : State → State → State
+joined p q = record { history = q.history; waiting = p.waiting ++ q.waiting; refused = p.refused ++ q.refused }
+
+pub pass_nil : (l : LimitsType) (h : History) → pass l h [] ≡ record { history = h; waiting = []; refused = [] }
+unfolding pass
+pass_nil l h = refl
+
+pass_append : (l : LimitsType) (h : History) (v w : List Operation) → pass l h (v ++ w) ≡ joined (pass l h v) (pass l (pass l h v).history w)
+pass_append l h [] w = ap (λ (p : State). joined p (pass l p.history w)) (sym (pass_nil l h))
+pass_append l h (op ∷ v) w = pass_is l h op (v ++ w) ∙ go (turn l h op) (pass_append l (h ++ op ∷ []) v w) (pass_append l h v w) ∙ ap (λ (p : State). joined p (pass l p.history w)) (sym (pass_is l h op v))
+  where
+    go : (t : Turn) → pass l (h ++ op ∷ []) (v ++ w) ≡ joined (pass l (h ++ op ∷ []) v) (pass l (pass l (h ++ op ∷ []) v).history w)
+        → pass l h (v ++ w) ≡ joined (pass l h v) (pass l (pass l h v).history w)
+        → after t l h op (v ++ w) ≡ joined (after t l h op v) (pass l (after t l h op v).history w)
+    go Append a b = a
+    go Drop a b = b
+    go Stay a b = ap (with_waiting op) b
+    go (Refuse f) a b = ap (λ (s : State). record { history = s.history; waiting = s.waiting; refused = (stamp_of op, f) ∷ s.refused }) b
+
+-- ---- a pass over what misses a cause
+
+abbrev Missing : History → List Operation → Type 0
+Missing h w = Each (λ (o : Operation). within (version_of o) (version h) ≡ false) w
+
+turn_missing : (l : LimitsType) (h : History) (op : Operation) → within (version_of op) (version h) ≡ false → turn l h op ≡ Stay
+turn_missing l h op e = rw e refl
+
+pass_missing : (l : LimitsType) (h : History) (w : List Operation) → Missing h w → pass l h w ≡ record { history = h; waiting = w; refused = [] }
+pass_missing l h [] m = pass_nil l h
+pass_missing l h (op ∷ w) m = pass_is l h op w ∙ ap (λ (t : Turn). after t l h op w) (turn_missing l h op m.0) ∙ ap (with_waiting op) (pass_missing l h w m.1)
+
+-- ---- what is found
+
+record Parted (t : Operation → Bool) (w : List Operation) (op : Operation) : Type 0 where
+  missed : List Operation
+  behind : List Operation
+  is : w ≡ missed ++ op ∷ behind
+  misses : Each (λ (o : Operation). t o ≡ false) missed
+  hit : t op ≡ true
+
+parted : (t : Operation → Bool) (w : List Operation) (op : Operation) → find t w ≡ Some op → Parted t w op
+parted t [] op e = cc
+parted t (o ∷ w) op e = elim (cases_Bool (t o)) [
+  | inl y ↦ (let q : Some o ≡ Some op = subst (λ (b : Bool). cond b (Some o) (find t w) ≡ Some op) y e in let s : o ≡ op = cc in
+      record { missed = []; behind = w; is = ap (λ (x : Operation). x ∷ w) s; misses = tt; hit = ap t (sym s) ∙ y })
+  | inr n ↦ (let p = parted t w op (subst (λ (b : Bool). cond b (Some o) (find t w) ≡ Some op) n e) in
+      record { missed = o ∷ p.missed; behind = p.behind; is = ap (λ (x : List Operation). o ∷ x) p.is; misses = (n, p.misses); hit = p.hit })
+]
+
+found_past : (t : Operation → Bool) (v w : List Operation) → Each (λ (o : Operation). t o ≡ false) v → find t (v ++ w) ≡ find t w
+found_past t [] w e = refl
+found_past t (o ∷ v) w e = rw e.0 (found_past t v w e.1)
+
+-- ---- stamps ascend
+
+each_mid : {A : Type 0} (P : A → Type 0) (v w : List A) (x : A) → Each P (v ++ x ∷ w) → P x
+each_mid P [] w x e = e.0
+each_mid P (y ∷ v) w x e = each_mid P v w x e.1
+
+each_front : {A : Type 0} (P : A → Type 0) (v w : List A) → Each P (v ++ w) → Each P v
+each_front P [] w e = tt
+each_front P (x ∷ v) w e = (e.0, each_front P v w e.1)
+
+each_back : {A : Type 0} (P : A → Type 0) (v w : List A) → Each P (v ++ w) → Each P w
+each_back P [] w e = e
+each_back P (x ∷ v) w e = each_back P v w e.1
+
+around : (v : List Operation) (op : Operation) (w : List Operation) → Ascending older (v ++ op ∷ w) → Each (λ (o : Operation). older o op ≡ true) v × Each (λ (o : Operation). older op o ≡ true) w
+around [] op w u = (tt, u.0)
+around (o ∷ v) op w u = let r = around v op w u.1 in ((each_mid (λ (x : Operation). older o x ≡ true) v w op u.0, r.0), r.1)
+
+pub differ : (s t : Lamport) → later t s ≡ true → (same_stamp s t ≡ false) × (same_stamp t s ≡ false)
+unfolding later same_stamp
+differ s t e = (grind (arith, nat_tests), grind (arith, nat_tests))
+
+others : (t : Lamport) (w : List Operation) → Each (λ (o : Operation). same_stamp (stamp_of o) t ≡ false) w → without t w ≡ w
+others t [] e = refl
+others t (o ∷ w) e = rw e.0 (ap (λ (z : List Operation). o ∷ z) (others t w e.1))
+
+out_of : (t : Lamport) (v : List Operation) (op : Operation) (w : List Operation) → same_stamp (stamp_of op) t ≡ true → Each (λ (o : Operation). same_stamp (stamp_of o) t ≡ false) v
+    → Each (λ (o : Operation). same_stamp (stamp_of o) t ≡ false) w → without t (v ++ op ∷ w) ≡ v ++ w
+out_of t [] op w s e f = rw s (others t w f)
+out_of t (o ∷ v) op w s e f = rw e.0 (ap (λ (z : List Operation). o ∷ z) (out_of t v op w s e.1 f))
+
+without_mid : (v : List Operation) (op : Operation) (w : List Operation) → Ascending older (v ++ op ∷ w) → without (stamp_of op) (v ++ op ∷ w) ≡ v ++ w
+without_mid v op w u =
+    let a = around v op w u in
+    let t = stamp_of op in
+    out_of t v op w (same_stamp_refl t) (each_map (λ (o : Operation). older o op ≡ true) (λ (o : Operation). same_stamp (stamp_of o) t ≡ false) (λ o e. (differ (stamp_of o) t e).0) v a.0)
+    (each_map (λ (o : Operation). older op o ≡ true) (λ (o : Operation). same_stamp (stamp_of o) t ≡ false) (λ o e. (differ t (stamp_of o) e).1) w a.1)
+
+-- ---- what is ready
+
+abbrev is_ready : Option Lamport → History → Operation → Bool
+is_ready after h o = is_past after o && within (version_of o) (version h)
+
+pub ready_within : (after : Option Lamport) (h : History) (w : List Operation) (op : Operation) → least_ready after (version h) w ≡ Some op → within (version_of op) (version h) ≡ true
+ready_within after h w op e = let p = parted (is_ready after h) w op e in (and_parts (is_past after op) (within (version_of op) (version h)) p.hit).1
+
+pub ready_each : (P : Operation → Type 0) (after : Option Lamport) (h : History) (w : List Operation) (op : Operation) → least_ready after (version h) w ≡ Some op → Each P w → P op
+ready_each P after h w op e f = let p = parted (is_ready after h) w op e in each_mid P p.missed p.behind op (subst (Each P) p.is f)
+
+pub not_stay : (l : LimitsType) (h : History) (op : Operation) → within (version_of op) (version h) ≡ true → turn l h op ≡ Stay → ⊥
+not_stay l h op w e = let n = stay_misses l h op e in cc
+
+-- it leaves
+pub fewer : (l : LimitsType) (s : State) (after : Option Lamport) (op : Operation) → Ascending older s.waiting → least_ready after (version s.history) s.waiting ≡ Some op → length (turned l op s).waiting < length s.waiting
+fewer l s after op u e =
+    let p = parted (is_ready after s.history) s.waiting op e in
+    let d : without (stamp_of op) s.waiting ≡ p.missed ++ p.behind = ap (without (stamp_of op)) p.is ∙ without_mid p.missed op p.behind (subst (Ascending older) p.is u) in
+    let n : length (without (stamp_of op) s.waiting) < length s.waiting =
+    (let x = ap length d in let y = ap length p.is in let a = length-append p.missed p.behind in let b = length-append p.missed (op ∷ p.behind) in omega arith) in
+    go (turn l s.history op) refl n
+  where
+    go : (t : Turn) → turn l s.history op ≡ t → length (without (stamp_of op) s.waiting) < length s.waiting → length (after_turn t op s).waiting < length s.waiting
+    go Append q n = n
+    go Drop q n = n
+    go Stay q n = absurd (not_stay l s.history op (ready_within after s.history s.waiting op e) q)
+    go (Refuse f) q n = n
+
+-- ---- how far a pass over what b has is
+
+pub record IsAt (l : LimitsType) (b : State) (after : Option Lamport) (s : State) : Type 0 where
+  pub front : List Operation
+  pub rest : List Operation
+  pub split : b.waiting ≡ front ++ rest
+  pub is : s ≡ stopped l b front rest
+  pub behind : Each (λ (o : Operation). is_past after o ≡ false) (pass l b.history front).waiting
+  pub ahead : Each (λ (o : Operation). is_past after o ≡ true) rest
+
+all_past : (w : List Operation) → Each (λ (o : Operation). is_past None o ≡ true) w
+all_past [] = tt
+all_past (o ∷ w) = (refl, all_past w)
+
+pub at_start : (l : LimitsType) (b : State) → IsAt l b None b
+at_start l b = record {
+  front = [];
+  rest = b.waiting;
+  split = refl;
+  is = sym (ap (λ (p : State). record { history = p.history; waiting = p.waiting ++ b.waiting; refused = b.refused ++ p.refused }) (pass_nil l b.history) ∙ ap (λ z. record { history = b.history; waiting = b.waiting; refused = z }) (append-nil b.refused));
+  behind = subst (λ (p : State). Each (λ (o : Operation). is_past None o ≡ false) p.waiting) (sym (pass_nil l b.history)) tt;
+  ahead = all_past b.waiting;
+}
+
+-- it has ended where nothing more is ready
+past_missing : (after : Option Lamport) (h : History) (w : List Operation) → Each (λ (o : Operation). is_past after o ≡ true) w → Each (λ (o : Operation). is_ready after h o ≡ false) w → Missing h w
+past_missing after h [] a r = tt
+past_missing after h (o ∷ w) a r = (rw a.0 at r.0, past_missing after h w a.1 r.1)
+
+pub at_end : (l : LimitsType) (b : State) (after : Option Lamport) (s : State) → IsAt l b after s → least_ready after (version s.history) s.waiting ≡ None → s ≡ pass_step l b
+at_end l b after s i e =
+    let p : State = pass l b.history i.front in
+    let n : least_ready after (version p.history) (p.waiting ++ i.rest) ≡ None = subst (λ (z : State). least_ready after (version z.history) z.waiting ≡ None) i.is e in
+    let m : Missing p.history i.rest = past_missing after p.history i.rest i.ahead (each_back (λ (o : Operation). is_ready after p.history o ≡ false) p.waiting i.rest (find_none (is_ready after p.history) (p.waiting ++ i.rest) n)) in
+    let q : pass l b.history b.waiting ≡ record { history = p.history; waiting = p.waiting ++ i.rest; refused = p.refused } =
+    ap (pass l b.history) i.split ∙ pass_append l b.history i.front i.rest ∙ ap (joined p) (pass_missing l p.history i.rest m) ∙ ap (λ z. record { history = p.history; waiting = p.waiting ++ i.rest; refused = z }) (append-nil p.refused) in
+    i.is ∙ sym (ap (λ (z : State). record { history = z.history; waiting = z.waiting; refused = b.refused ++ z.refused }) q)
+
+pub at_until : (l : LimitsType) (b : State) (after : Option Lamport) (s : State) → IsAt l b after s → (k : ℕ) × (s ≡ pass_until k l b)
+at_until l b after s i =
+    let x : take (length i.front) b.waiting ≡ i.front = ap (take (length i.front)) i.split ∙ take-append_seam i.front i.rest in
+    let y : drop (length i.front) b.waiting ≡ i.rest = ap (drop (length i.front)) i.split ∙ drop-append_seam i.front i.rest in
+    (length i.front, i.is ∙ sym (λ j. stopped l b (x j) (y j)))
+
+-- ---- a turn
+
+-- what op leaves of itself
+abbrev left : Turn → History → Operation → State
+left Append h op = record { history = h ++ op ∷ []; waiting = []; refused = [] }
+left Drop h op = record { history = h; waiting = []; refused = [] }
+left Stay h op = record { history = h; waiting = op ∷ []; refused = [] }
+left (Refuse f) h op = record { history = h; waiting = []; refused = (stamp_of op, f) ∷ [] }
+
+pass_last : (l : LimitsType) (h : History) (op : Operation) (t : Turn) → turn l h op ≡ t → pass l h (op ∷ []) ≡ left t h op
+pass_last l h op t e = pass_is l h op [] ∙ ap (λ (u : Turn). after u l h op []) e ∙ go t
+  where
+    go : (t : Turn) → after t l h op [] ≡ left t h op
+    go Append = pass_nil l (h ++ op ∷ [])
+    go Drop = pass_nil l h
+    go Stay = ap (with_waiting op) (pass_nil l h)
+    go (Refuse f) = ap (λ (s : State). record { history = s.history; waiting = s.waiting; refused = (stamp_of op, f) ∷ s.refused }) (pass_nil l h)
+
+pass_more : (l : LimitsType) (h : History) (front missed : List Operation) (op : Operation) (t : Turn) → Missing (pass l h front).history missed → turn l (pass l h front).history op ≡ t
+    → pass l h (front ++ (missed ++ op ∷ [])) ≡ joined (pass l h front) (joined (record { history = (pass l h front).history; waiting = missed; refused = [] }) (left t (pass l h front).history op))
+pass_more l h front missed op t m e =
+    let p : State = pass l h front in
+    pass_append l h front (missed ++ op ∷ [])
+    ∙ ap (joined p) (pass_append l p.history missed (op ∷ []) ∙ ap (λ (z : State). joined z (pass l z.history (op ∷ []))) (pass_missing l p.history missed m) ∙ ap (joined (record { history = p.history; waiting = missed; refused = [] })) (pass_last l p.history op t e))
+
+module _ (l : LimitsType) (b : State) (front rest : List Operation) (op : Operation) (after : Option Lamport) where
+  abbrev p : State
+  p = pass l b.history front
+
+  abbrev kept : Parted (is_ready after p.history) rest op → List Operation
+  kept q = p.waiting ++ q.missed
+
+  whole : (q : Parted (is_ready after p.history) rest op) → p.waiting ++ rest ≡ kept q ++ op ∷ q.behind
+  whole q = ap (λ z. p.waiting ++ z) q.is ∙ sym (append_assoc p.waiting q.missed (op ∷ q.behind))
+
+  more : (q : Parted (is_ready after p.history) rest op) → b.waiting ≡ front ++ rest → b.waiting ≡ (front ++ (q.missed ++ op ∷ [])) ++ q.behind
+  more q s = s ∙ ap (λ z. front ++ z) (q.is ∙ sym (append_assoc q.missed (op ∷ []) q.behind)) ∙ sym (append_assoc front (q.missed ++ op ∷ []) q.behind)
+
+  -- with op's turn the pass is one operation further
+  further : (q : Parted (is_ready after p.history) rest op) (g : History) (x : List (Lamport × OpFault)) → b.waiting ≡ front ++ rest → Ascending older (p.waiting ++ rest)
+      → pass l b.history (front ++ (q.missed ++ op ∷ [])) ≡ record { history = g; waiting = p.waiting ++ (q.missed ++ []); refused = p.refused ++ x }
+      → IsAt l b (Some (stamp_of op)) (record { history = g; waiting = without (stamp_of op) (p.waiting ++ rest); refused = b.refused ++ (p.refused ++ x) })
+  further q g x s u e =
+      let a = around (kept q) op q.behind (subst (Ascending older) (whole q) u) in
+      let w : without (stamp_of op) (p.waiting ++ rest) ≡ (p.waiting ++ (q.missed ++ [])) ++ q.behind =
+      ap (without (stamp_of op)) (whole q) ∙ without_mid (kept q) op q.behind (subst (Ascending older) (whole q) u) ∙ ap (λ z. (p.waiting ++ z) ++ q.behind) (sym (append-nil q.missed)) in
+      let k : Each (λ (o : Operation). is_past (Some (stamp_of op)) o ≡ false) (p.waiting ++ (q.missed ++ [])) = subst (λ z. Each (λ (o : Operation). is_past (Some (stamp_of op)) o ≡ false) (p.waiting ++ z)) (sym (append-nil q.missed))
+      (each_map (λ (o : Operation). older o op ≡ true) (λ (o : Operation). is_past (Some (stamp_of op)) o ≡ false) (λ o y. one_way (stamp_of op) (stamp_of o) y) (kept q) a.0) in
+      record {
+        front = front ++ (q.missed ++ op ∷ []);
+        rest = q.behind;
+        split = more q s;
+        is = ap (λ z. record { history = g; waiting = z; refused = b.refused ++ (p.refused ++ x) }) w
+            ∙ sym (ap (λ (z : State). record { history = z.history; waiting = z.waiting ++ q.behind; refused = b.refused ++ z.refused }) e);
+        behind = subst (λ (z : State). Each (λ (o : Operation). is_past (Some (stamp_of op)) o ≡ false) z.waiting) (sym e) k;
+        ahead = a.1;
+      }
+
+  step_at : b.waiting ≡ front ++ rest → Each (λ (o : Operation). is_past after o ≡ false) p.waiting → Each (λ (o : Operation). is_past after o ≡ true) rest
+      → Ascending older (p.waiting ++ rest) → least_ready after (version p.history) (p.waiting ++ rest) ≡ Some op
+      → IsAt l b (Some (stamp_of op)) (turned l op (stopped l b front rest))
+  step_at s v a u e =
+      let f : find (is_ready after p.history) rest ≡ Some op =
+      sym (found_past (is_ready after p.history) p.waiting rest (each_map (λ (o : Operation). is_past after o ≡ false) (λ (o : Operation). is_ready after p.history o ≡ false) (λ o y. rw y refl) p.waiting v)) ∙ e in
+      let q = parted (is_ready after p.history) rest op f in
+      let m : Missing p.history q.missed = past_missing after p.history q.missed (each_front (λ (o : Operation). is_past after o ≡ true) q.missed (op ∷ q.behind) (subst (Each (λ (o : Operation). is_past after o ≡ true)) q.is a)) q.misses in
+      let y : within (version_of op) (version p.history) ≡ true = (and_parts (is_past after op) (within (version_of op) (version p.history)) q.hit).1 in
+      go q m y (turn l p.history op) refl
+    where
+      go : (q : Parted (is_ready after p.history) rest op) → Missing p.history q.missed → within (version_of op) (version p.history) ≡ true
+          → (t : Turn) → turn l p.history op ≡ t → IsAt l b (Some (stamp_of op)) (after_turn t op (stopped l b front rest))
+      go q m y Append t = subst (λ z. IsAt l b (Some (stamp_of op)) (record { history = p.history ++ op ∷ []; waiting = without (stamp_of op) (p.waiting ++ rest); refused = b.refused ++ z })) (append-nil p.refused)
+          (further q (p.history ++ op ∷ []) [] s u (pass_more l b.history front q.missed op Append m t))
+      go q m y Drop t = subst (λ z. IsAt l b (Some (stamp_of op)) (record { history = p.history; waiting = without (stamp_of op) (p.waiting ++ rest); refused = b.refused ++ z })) (append-nil p.refused)
+          (further q p.history [] s u (pass_more l b.history front q.missed op Drop m t))
+      go q m y Stay t = absurd (not_stay l p.history op y t)
+      go q m y (Refuse x) t = subst (λ z. IsAt l b (Some (stamp_of op)) (record { history = p.history; waiting = without (stamp_of op) (p.waiting ++ rest); refused = z })) (sym (append_assoc b.refused p.refused ((stamp_of op, x) ∷ [])))
+          (further q p.history ((stamp_of op, x) ∷ []) s u (pass_more l b.history front q.missed op (Refuse x) m t))
+
+pub at_turn : (l : LimitsType) (b : State) (after : Option Lamport) (s : State) (op : Operation) → IsAt l b after s → Ascending older s.waiting → least_ready after (version s.history) s.waiting ≡ Some op
+    → IsAt l b (Some (stamp_of op)) (turned l op s)
+at_turn l b after s op i = subst (λ (z : State). Ascending older z.waiting → least_ready after (version z.history) z.waiting ≡ Some op → IsAt l b (Some (stamp_of op)) (turned l op z)) (sym i.is)
+    (step_at l b i.front i.rest op after i.split i.behind i.ahead)

@@ -1,0 +1,27 @@
+use Rattle.std.proofs.Common.{◌∙◌, ap, subst}
+use Rattle.op_model.proofs.Settling.{good_alone}
+use Rattle.text_buffer.specs.Buffer.{BufferState, AllMiss, IsPartly, settled}
+use Rattle.text_buffer.proofs.Applied.{shape_of}
+use Rattle.text_buffer.proofs.Taken.{one_applied, not_less, says, on_err}
+use Rattle.text_buffer.proofs.buffer.Buffer.accept.Goals as goal
+
+pub full-requires : goal.full-requires
+full-requires c = shape_of c.args.self.now.history c.args.self.now.waiting c.args.op c.requires.good
+
+pub apply-requires-clause-good : goal.apply-requires-clause-good
+apply-requires-clause-good c = good_alone c.args.self.now.history c.args.self.now.waiting c.args.op c.requires.good
+
+pub returns-in_err-settle-clause-want : goal.returns-in_err-settle-clause-want
+returns-in_err-settle-clause-want c = on_err c.from_residual-in_err-settle.result (IsPartly c.args.self.now c.settle.new.self)
+    (one_applied c.args.self.now c.settle.new.self c.args.op c.requires.good (subst (λ (b : BufferState). IsPartly b c.settle.new.self) c.in_ok-apply.ensures.ok c.in_err-settle.ensures.want))
+
+pub overflow_sub-result : goal.overflow_sub-result
+overflow_sub-result c = not_less c.args.self.now c.args.op c.as_slice-before.result.now c.as_slice.result.now
+    (c.as_slice-before.ensures ∙ ap (λ (b : BufferState). b.history) c.self.view_is)
+    (c.as_slice.ensures ∙ ap (λ (b : BufferState). b.history) (c.self-2.view_is ∙ c.in_ok-settle.ensures.new ∙ ap settled c.in_ok-apply.ensures.ok))
+
+pub returns-clause-applied : goal.returns-clause-applied
+returns-clause-applied c = says c.args.self.now c.args.op c.as_slice-before.result.now c.as_slice.result.now
+    (c.as_slice-before.ensures ∙ ap (λ (b : BufferState). b.history) c.self.view_is)
+    (c.as_slice.ensures ∙ ap (λ (b : BufferState). b.history) (c.self-2.view_is ∙ c.in_ok-settle.ensures.new ∙ ap settled c.in_ok-apply.ensures.ok))
+    (AllMiss c.settle.new.self) c.in_ok-settle.ensures.waiting

@@ -1,0 +1,26 @@
+use Rattle.std.proofs.Common.{◌≡◌, ◌∙◌, ◌+◌, ℕ, [], ◌∷◌, ◌++◌, sym, ap, refl, None}
+use Rattle.lamport_clock.specs.declared.stamp.Lamport.{Lamport}
+use Rattle.lamport_clock.specs.Versions.{Entries, raise}
+use Rattle.op_model.specs.Answers.{answer}
+use Rattle.op_model.specs.Answers.Answer.{Good}
+use Rattle.op_model.specs.Shown.{text}
+use Rattle.op_model.specs.Settled.{full_fault}
+use Rattle.fragments.specs.Kept.{kept_cells}
+use Rattle.text_buffer.specs.Buffer.{BufferState}
+use Rattle.text_buffer.proofs.Applied.{AreKept-applied, fresh_of}
+use Rattle.text_buffer.proofs.buffer.Buffer.put.Goals as goal
+
+pub push-requires : goal.push-requires
+push-requires c = fresh_of c.self.inside.operations c.args.op (ap (λ (b : BufferState). answer b.history [] c.args.op) c.self.view_is ∙ c.requires.good)
+
+pub invariant_of-self-2 : goal.invariant_of-self-2
+invariant_of-self-2 c =
+    let op = c.args.op in
+    let good : answer c.self.inside.operations [] op ≡ Good = ap (λ (b : BufferState). answer b.history [] op) c.self.view_is ∙ c.requires.good in
+    let room : full_fault c.self.inside.limits c.self.inside.operations op ≡ None = ap (λ (b : BufferState). full_fault b.limits b.history op) c.self.view_is ∙ c.requires.room in
+    AreKept-applied c.self.inside _ op c.stamp-stamp.result c.self.invariant c.requires.edit c.size-bytes.ensures.proper good room c.stamp-stamp.ensures
+    refl refl refl refl c.in_ok-push.ensures.ok (ap (λ (t : Lamport). t.value) c.observe-2.ensures)
+    (c.in_ok-observe.ensures.ok ∙ ap (λ (v : Entries). raise v c.stamp-stamp.result) c.in_ok-version.ensures)
+    (c.requires.cells ∙ ap (λ (b : BufferState). kept_cells (b.history ++ op ∷ [])) (sym c.self.view_is))
+    (c.requires.text ∙ ap (λ (b : BufferState). text (b.history ++ op ∷ [])) (sym c.self.view_is))
+    (ap (λ (n : ℕ). c.self.inside.bytes + n) c.size-bytes.ensures.bytes) (ap (λ (n : ℕ). c.self.inside.entries + n) c.size-bytes.ensures.entries)

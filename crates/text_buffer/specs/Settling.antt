@@ -1,0 +1,72 @@
+-- Settling by turns and passes.
+use Rattle.std.specs.Prelude.{◌≡◌, ℕ, List, [], ◌∷◌, ◌++◌, take, drop, Option, None, Some}
+use Rattle.lamport_clock.specs.declared.stamp.Lamport.{Lamport}
+use Rattle.op_model.specs.declared.operation.Operation.{Operation}
+use Rattle.op_model.specs.declared.limits.Limits.{Limits as LimitsType}
+use Rattle.op_model.specs.Operations.{stamp_of}
+use Rattle.op_model.specs.Histories.{version}
+use Rattle.op_model.specs.declared.faults.OpFault.{OpFault}
+use Rattle.op_model.specs.Answers.{Answer, answer}
+use Rattle.op_model.specs.Answers.Answer.{Good, Repeat, Waits, Refused}
+use Rattle.op_model.specs.Settled.{State, Turn, turn, pass, full_fault}
+use Rattle.op_model.specs.Settled.Turn.{Append, Drop, Stay, Refuse}
+use Rattle.op_model.specs.Steps.{limited}
+use Rattle.deferred_ops.specs.Deferred.{least_ready, without}
+use Rattle.text_buffer.specs.Buffer.{BufferState, applied, state, with_state}
+
+-- what a turn of op makes
+abbrev pub after_turn : Turn → Operation → State → State
+after_turn Append op s = record { history = s.history ++ op ∷ []; waiting = without (stamp_of op) s.waiting; refused = s.refused }
+after_turn Drop op s = record { history = s.history; waiting = without (stamp_of op) s.waiting; refused = s.refused }
+after_turn Stay op s = s
+after_turn (Refuse f) op s = record { history = s.history; waiting = without (stamp_of op) s.waiting; refused = s.refused ++ (stamp_of op, f) ∷ [] }
+
+-- op has its turn
+abbrev pub turned : LimitsType → Operation → State → State
+turned l op s = after_turn (turn l s.history op) op s
+
+-- the operations of `front` had their turns in a pass, those of `rest` wait for theirs
+abbrev pub stopped : LimitsType → State → List Operation → List Operation → State
+stopped l s front rest = let p : State = pass l s.history front in record { history = p.history; waiting = p.waiting ++ rest; refused = s.refused ++ p.refused }
+
+-- a pass that was stopped after the first k of what waits
+abbrev pub pass_until : ℕ → LimitsType → State → State
+pass_until k l s = stopped l s (take k s.waiting) (drop k s.waiting)
+
+-- one pass
+abbrev pub pass_step : LimitsType → State → State
+pass_step l s = let p : State = pass l s.history s.waiting in record { history = p.history; waiting = p.waiting; refused = s.refused ++ p.refused }
+
+-- the least operation past a stamp that misses no cause
+abbrev pub next_ready : Option Lamport → BufferState → Option Operation
+next_ready after b = least_ready after (version b.history) b.waiting
+
+-- the buffer after the turn of an operation, if there is one
+abbrev pub turn_made : Option Operation → BufferState → BufferState
+turn_made None b = b
+turn_made (Some op) b = with_state (turned b.limits op (state b)) b
+
+-- the answer to an operation at its turn, the limits asked last
+abbrev pub turn_answer : BufferState → Operation → Answer
+turn_answer b op = limited (answer b.history [] op) (full_fault b.limits b.history op)
+
+abbrev pub with_refusal : Lamport × OpFault → BufferState → BufferState
+with_refusal r b = record b { refused = b.refused ++ r ∷ [] }
+
+abbrev pub without_waiting : Lamport → BufferState → BufferState
+without_waiting t b = record b { waiting = without t b.waiting }
+
+-- the buffer after an answer at a turn, before the operation leaves
+abbrev pub met : Answer → Operation → BufferState → BufferState
+met Good op b = applied b op
+met Repeat op b = b
+met (Waits r v) op b = b
+met (Refused f) op b = with_refusal (stamp_of op, f) b
+
+-- the buffer after one pass
+abbrev pub passed : BufferState → BufferState
+passed b = with_state (pass_step b.limits (state b)) b
+
+-- a pass was stopped: some operations, the least stamps first, had their turns, and the others wait on
+abbrev pub IsStopped : BufferState → BufferState → Type 0
+IsStopped b n = (k : ℕ) × (n ≡ with_state (pass_until k b.limits (state b)) b)

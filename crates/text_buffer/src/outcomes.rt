@@ -1,0 +1,24 @@
+// What becomes of taken operations.
+ghost use Rattle.std.specs.Prelude.{◌≡◌};
+
+use lamport_clock::Lamport;
+use op_model::OpFault;
+
+/// What became of an operation that was taken and not refused.
+#[derive(Clone, Copy, Debug, PartialEq, Eq)]
+pub enum Took {
+    /// An equal one is applied or waits. Nothing has changed.
+    Repeat,
+    /// It waits: of all replicas of which it has seen more than is applied this is the least, and the value is that which it
+    /// has seen.
+    Waits { replica: u16, value: u32 },
+    /// It is applied, and whatever waited for it: so many operations, at least 1.
+    Applied(u64),
+}
+
+/// An operation that waited and was refused while settling: its stamp, and its fault at its turn.
+#[derive(Clone, Copy, Debug, PartialEq, Eq)]
+pub struct Refused {
+    pub stamp: Lamport,
+    pub fault: OpFault,
+}

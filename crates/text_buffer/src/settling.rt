@@ -1,0 +1,129 @@
+// Settling: what waits is applied, refused or dropped.
+ghost use Rattle.std.specs.Prelude.{◌≡◌, ◌⊎◌, true, IfOk, OnErr, OnOk, option_map};
+ghost use Rattle.op_model.specs.Domains.{IsProper};
+ghost use Rattle.op_model.specs.Operations.{is_edit, stamp_of};
+ghost use Rattle.op_answers.specs.Verdicts.{answer_of};
+ghost use Rattle.text_buffer.specs.Outcomes.{pair_of};
+ghost use Rattle.text_buffer.specs.Buffer.{AllMiss, IsBuffer, IsPartly, number_applied, settled};
+ghost use Rattle.text_buffer.specs.Settling.{IsStopped, met, next_ready, passed, turn_answer, turn_made, with_refusal, without_waiting};
+
+use crate::{Buffer, Refused};
+use deferred_ops::Deferred;
+use lamport_clock::Lamport;
+use op_answers::{Verdict, judge};
+use op_model::Operation;
+use std::alloc::AllocError;
+
+impl Buffer {
+    /// Goes through what waits, the least stamp first, in passes, until one applies nothing. At its turn an operation that
+    /// misses no cause is applied where it is good, dropped where an equal one is applied, and else put on the refused list
+    /// with its fault. Gives how many are applied. Then each operation that waits misses a cause.
+    ///
+    /// # Errors
+    ///
+    /// Want of memory alone. What is then applied stays applied, and a later call goes on.
+    pub fn settle(&mut self) -> Result<u64, AllocError>
+        ensures new { OnOk result (self.new ≡ settled self.old) }
+        ensures applied { IfOk result (λ n. n ≡ number_applied self.old self.new) }
+        ensures waiting { OnOk result (AllMiss self.new) }
+        ensures want { OnErr result (IsPartly self.old self.new) }
+        ensures stopped { OnErr result (IsStopped self.old self.new ⊎ IsStopped (passed self.old) self.new) }
+    {
+        let before = self.operations.as_slice().len();
+        self.pass()?;
+        if self.operations.as_slice().len() == before {
+            return Ok(0);
+        }
+        // Causes have smaller stamps than what they are causes of, so this pass applies nothing.
+        self.pass()?;
+        Ok((self.operations.as_slice().len() - before) as u64)
+    }
+
+    // One pass over what waits.
+    fn pass(&mut self) -> Result<(), AllocError>
+        ensures ok { OnOk result (self.new ≡ passed self.old) }
+        ensures want { OnErr result (IsStopped self.old self.new) }
+    {
+        let mut after = None;
+        while let Some(stamp) = self.next_turn(after)? {
+            after = Some(stamp);
+        }
+        Ok(())
+    }
+
+    // The turn of the least operation past a stamp that misses no cause. Gives its stamp, or None where there is none.
+    fn next_turn(&mut self, after: Option<Lamport>) -> Result<Option<Lamport>, AllocError>
+        ensures ready { IfOk result (λ t. t ≡ option_map stamp_of (next_ready after self.old)) }
+        ensures turn { OnOk result (self.new ≡ turn_made (next_ready after self.old) self.old) }
+        ensures err { OnErr result (self.new ≡ self.old) }
+        ensures buffer { IsBuffer self.old }
+    {
+        let Some(op) = self.next_ready(after)? else {
+            return Ok(None);
+        };
+        let stamp = op.stamp();
+        self.meet(op)?;
+        self.leave(stamp);
+        Ok(Some(stamp))
+    }
+
+    // A copy of the least operation past a stamp that misses no cause, if there is one.
+    fn next_ready(&self, after: Option<Lamport>) -> Result<Option<Operation>, AllocError>
+        ensures ready { IfOk result (λ op. op ≡ next_ready after self.now) }
+        ensures buffer { IsBuffer self.now }
+    {
+        match self.waiting.ready(after, &self.version) {
+            Some(op) => Ok(Some(op.copy(self.alloc)?)),
+            None => Ok(None),
+        }
+    }
+
+    // Applies an operation or puts it on the refused list, by the answer at its turn.
+    fn meet(&mut self, op: Operation) -> Result<(), AllocError>
+        requires edit { is_edit op ≡ true }
+        ensures ok { OnOk result (self.new ≡ met (turn_answer self.old op) op self.old) }
+        ensures err { OnErr result (self.new ≡ self.old) }
+    {
+        match self.turn(&op)? {
+            Verdict::Accept => self.apply(op),
+            Verdict::Refuse(fault) => {
+                let stamp = op.stamp();
+                self.refuse(Refused { stamp, fault })
+            }
+            Verdict::Repeated | Verdict::Missing { .. } => Ok(()),
+        }
+    }
+
+    // The answer to an operation at its turn: with nothing waiting, the limits asked last. That its texts are UTF-8 is a clause
+    // for callers.
+    fn turn(&self, op: &Operation) -> Result<Verdict, AllocError>
+        requires edit { is_edit op.now ≡ true }
+        ensures answer { IfOk result (λ v. answer_of v ≡ turn_answer self.now op.now) }
+        ensures proper { IfOk result (λ v. v ≡ Verdict.Accept → IsProper op.now) }
+    {
+        let nothing = Deferred::new(self.alloc)?;
+        match judge(&self.operations, &nothing, &self.version, &self.cells, op) {
+            Verdict::Accept => match self.full(op) {
+                Some(fault) => Ok(Verdict::Refuse(fault)),
+                None => Ok(Verdict::Accept),
+            },
+            verdict => Ok(verdict),
+        }
+    }
+
+    // One more operation was refused while settling.
+    fn refuse(&mut self, refused: Refused) -> Result<(), AllocError>
+        ensures ok { OnOk result (self.new ≡ with_refusal (pair_of refused) self.old) }
+        ensures err { OnErr result (self.new ≡ self.old) }
+    {
+        self.refused.push(refused)?;
+        Ok(())
+    }
+
+    // The operation of a stamp waits no longer.
+    fn leave(&mut self, stamp: Lamport)
+        ensures { self.new ≡ without_waiting stamp self.old }
+    {
+        self.waiting.remove(stamp);
+    }
+}

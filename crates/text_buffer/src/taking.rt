@@ -1,0 +1,92 @@
+// Taking the operations of other replicas.
+ghost use Rattle.std.specs.Prelude.{ℕ, ◌≡◌, ◌≤◌, ◌⊎◌, true, map, Some, IfErr, IfOk, OnErr, OnOk};
+ghost use Rattle.op_model.specs.Operations.{is_edit};
+ghost use Rattle.op_model.specs.Answers.{answer};
+ghost use Rattle.op_model.specs.Answers.Answer.{Good, Refused as refused};
+ghost use Rattle.text_buffer.specs.Outcomes.{pair_of};
+ghost use Rattle.text_buffer.specs.Buffer.{AllMiss, IsPartly, answer_to, is_kept, number_applied, taken, told};
+
+use crate::{Buffer, Refused, Took};
+use deferred_ops::Deferred;
+use op_answers::{Verdict, judge};
+use op_model::{OpFault, Operation};
+
+impl Buffer {
+    /// Takes an edit of another replica. It is applied, whereupon the buffer settles; or it waits; or an equal one is applied or
+    /// waits already, and nothing changes. After `Applied` each operation that waits misses a cause. Linear in all bytes, hidden
+    /// ones too, for each operation that is applied.
+    ///
+    /// # Errors
+    ///
+    /// The first of these that the edit meets: `BadStamp`, `NoBase`, `TextLimit`, `Reversed`, `Overlap`; where none is equal to it
+    /// `Conflict` (with what is applied or waits), `Forked`; where it misses no cause `OpenVersion`, `PastEnd`, `InsideChar`,
+    /// then `Full` where bytes, then entries, pass their limit. The buffer is then as before, and the edit is dropped.
+    /// `OutOfMemory` only where there is none of these and no equal operation. The buffer is then as before, unless the edit was
+    /// applied and settling wanted memory: then what is applied stays applied, and a later `settle` goes on.
+    pub fn take(&mut self, op: Operation) -> Result<Took, OpFault>
+        requires edits_only { is_edit op ≡ true }
+        ensures ok { IfOk result (λ t. told (number_applied self.old self.new) (answer_to self.old op) ≡ Some t) }
+        ensures new { OnOk result (self.new ≡ taken self.old op) }
+        ensures applied { IfOk result (λ t. (n : ℕ) → t ≡ Took.Applied n → (1 ≤ n) × AllMiss self.new) }
+        ensures fault { IfErr result (λ e. (answer_to self.old op ≡ refused e) ⊎ ((is_kept (answer_to self.old op) ≡ true) × (e ≡ OpFault.OutOfMemory))) }
+        ensures err { OnErr result ((self.new ≡ self.old) ⊎ (answer_to self.old op ≡ Good)) }
+        ensures want { OnErr result (IsPartly self.old self.new) }
+    {
+        match judge(
+            &self.operations,
+            &self.waiting,
+            &self.version,
+            &self.cells,
+            &op,
+        ) {
+            Verdict::Accept => self.accept(op),
+            Verdict::Repeated => Ok(Took::Repeat),
+            Verdict::Missing { replica, value } => {
+                self.waiting.add(op)?;
+                Ok(Took::Waits { replica, value })
+            }
+            Verdict::Refuse(fault) => Err(fault),
+        }
+    }
+
+    // Applies an edit that is good, unless a limit holds it off, and settles.
+    fn accept(&mut self, op: Operation) -> Result<Took, OpFault>
+        requires edit { is_edit op ≡ true }
+        requires good { answer self.old.history self.old.waiting op ≡ Good }
+        ensures ok { IfOk result (λ t. told (number_applied self.old self.new) (answer_to self.old op) ≡ Some t) }
+        ensures new { OnOk result (self.new ≡ taken self.old op) }
+        ensures applied { IfOk result (λ t. (n : ℕ) → t ≡ Took.Applied n → (1 ≤ n) × AllMiss self.new) }
+        ensures fault { IfErr result (λ e. (answer_to self.old op ≡ refused e) ⊎ ((is_kept (answer_to self.old op) ≡ true) × (e ≡ OpFault.OutOfMemory))) }
+        ensures err { OnErr result ((self.new ≡ self.old) ⊎ (answer_to self.old op ≡ Good)) }
+        ensures want { OnErr result (IsPartly self.old self.new) }
+    {
+        if let Some(fault) = self.full(&op) {
+            return Err(fault);
+        }
+        let before = self.operations.as_slice().len();
+        self.apply(op)?;
+        self.settle()?;
+        Ok(Took::Applied((self.operations.as_slice().len() - before) as u64))
+    }
+
+    /// The operations that are applied, in their order, the base first, without memory.
+    pub fn applied(&self) -> &[Operation]
+        ensures { result.now ≡ self.now.history }
+    {
+        self.operations.as_slice()
+    }
+
+    /// The operations that wait, without memory.
+    pub fn deferred(&self) -> &Deferred
+        ensures { result.now ≡ self.now.waiting }
+    {
+        &self.waiting
+    }
+
+    /// The operations that were refused while settling, in the order of their turns, without memory.
+    pub fn refused(&self) -> &[Refused]
+        ensures { map pair_of result.now ≡ self.now.refused }
+    {
+        self.refused.as_slice()
+    }
+}
