@@ -10,8 +10,8 @@ use Rattle.serde_json.specs.Find.{as_str, as_array}
 use Rattle.serde_json.specs.Read.{read}
 use Rattle.session_lines.specs.Json.{value_of, list_of, listed, is_text, is_number}
 use Rattle.session_lines.specs.Cut.{lines_of, onto_first}
-use Rattle.session_lines.specs.Forms.{all_of, id_of}
-use Rattle.session_lines.specs.Heading.{is_editor, are_distinct, are_replicas, replicas_from, header_with, header_from, headed}
+use Rattle.session_lines.specs.Parts.{all_of, id_of, are_distinct}
+use Rattle.session_lines.specs.Heading.{is_editor, are_replicas, replicas_from, header_with, header_from, headed}
 use Rattle.session_lines.specs.Session.{or_word, header_read, header_of, then_from, rest_of, with_header, session_of, IsSession}
 use Rattle.session_lines.specs.declared.header.Header.{Header}
 use Rattle.session_lines.specs.declared.session.SessionLine.{SessionLine}

@@ -3,4 +3,5 @@ pub mod Cut
 pub mod Strings
 pub mod Headers
 pub mod Faults
+pub mod Versions
 pub mod Rows

@@ -8,8 +8,8 @@ use Rattle.session_lines.specs.Cut.{lines_of}
 use Rattle.session_lines.specs.Forms.{shaped}
 use Rattle.session_lines.specs.Heading.{headed}
 use Rattle.session_lines.specs.Session.{decoded, header_of, line_of}
-use Rattle.session_lines.specs.declared.session.SessionLine.TheVariants.{Edit, Text}
-use Rattle.session_lines.specs.declared.fault.Word.TheVariants.{Json, Header, Shape, Replica}
+use Rattle.session_lines.specs.declared.session.SessionLine.TheVariants.{Edit, Op, Give, Text}
+use Rattle.session_lines.specs.declared.fault.Word.TheVariants.{Json, Header, Shape, Replica, Number}
 use Rattle.session_lines.specs.declared.fault.DecodeFault.TheVariants.{Bad}
 
 -- an empty line is one unless it is the last
@@ -56,3 +56,31 @@ another_replica = refl
 pub shape_first : decoded (codes "[\"zedbuf\",1,\"ab\",[1,2]]\n[\"edit\",3,[[0,0]]]\n") ≡ Err (Bad 2 Shape)
 unfolding decoded value_of shaped headed header_of line_of is_utf8 chars serde_json_on_literals
 shape_first = refl
+
+-- an operation whose version stands in another order, and gives of both operation lines
+pub given : decoded (codes "[\"zedbuf\",1,\"\",[1]]\n[\"op\",[9,4],[[4,8],[0,1]],[[0,0,\"x\"]]]\n[\"give\",1,1]\n[\"edit\",1,[]]\n[\"give\",1,2]\n")
+    ≡ Ok (record {
+      version = 1;
+      base = [];
+      replicas = 1 ∷ [];
+      lines = Op (record { stamp = record { value = 9; replica = 4 }; version = (0, 1) ∷ (4, 8) ∷ []; pieces = record { start = 0; end = 0; text = codes "x" } ∷ [] }) ∷ Give 1 1 ∷ Edit 1 [] ∷ Give 1 2 ∷ [];
+    })
+unfolding decoded value_of shaped headed header_of line_of is_utf8 chars serde_json_on_literals
+given = refl
+
+pub a_version_id_twice : decoded (codes "[\"zedbuf\",1,\"ab\",[1]]\n[\"op\",[2,1],[[0,1],[3,1],[0,2]],[]]\n") ≡ Err (Bad 2 Shape)
+unfolding decoded value_of shaped headed header_of line_of is_utf8 chars serde_json_on_literals
+a_version_id_twice = refl
+
+pub a_version_value_zero : decoded (codes "[\"zedbuf\",1,\"ab\",[1]]\n[\"op\",[2,1],[[0,0]],[]]\n") ≡ Err (Bad 2 Shape)
+unfolding decoded value_of shaped headed header_of line_of is_utf8 chars serde_json_on_literals
+a_version_value_zero = refl
+
+-- a give of an operation line that is still to come
+pub a_later_number : decoded (codes "[\"zedbuf\",1,\"ab\",[1]]\n[\"give\",1,1]\n[\"edit\",1,[]]\n") ≡ Err (Bad 2 Number)
+unfolding decoded value_of shaped headed header_of line_of is_utf8 chars serde_json_on_literals
+a_later_number = refl
+
+pub replica_first : decoded (codes "[\"zedbuf\",1,\"ab\",[1]]\n[\"give\",3,0]\n") ≡ Err (Bad 2 Replica)
+unfolding decoded value_of shaped headed header_of line_of is_utf8 chars serde_json_on_literals
+replica_first = refl

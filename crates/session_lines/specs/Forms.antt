@@ -1,36 +1,13 @@
 -- The forms of a line after the header.
-use Rattle.std.specs.Prelude.{ℕ, List, [], ◌∷◌, nat_le, codes, Option, Some, None, option_map, option_and_then, if◌then◌else◌}
+use Rattle.std.specs.Prelude.{ℕ, List, [], ◌∷◌, codes, Option, None, option_map, option_and_then, if◌then◌else◌}
 use Rattle.serde_json.specs.Data.{Data}
-use Rattle.serde_json.specs.Find.{as_str}
+use Rattle.lamport_clock.specs.Versions.{Entries}
+use Rattle.lamport_clock.specs.declared.stamp.Lamport.{Lamport}
 use Rattle.op_model.specs.declared.operation.Piece.{Piece}
 use Rattle.session_lines.specs.Json.{whole, listed, is_text}
+use Rattle.session_lines.specs.Parts.{id_of, stamp_of, version_of, pieces_of}
 use Rattle.session_lines.specs.declared.session.SessionLine.{SessionLine}
-use Rattle.session_lines.specs.declared.session.SessionLine.TheVariants.{Edit, Text}
-
--- ---- parts of a line
-
--- what each member is, where each is something
-abbrev pub all_of : {A : Type 0} → (Data → Option A) → List Data → Option (List A)
-all_of f [] = Some []
-all_of f (d ∷ ds) = option_and_then (λ x. option_map (λ xs. x ∷ xs) (all_of f ds)) (f d)
-
--- the id of a replica, of a header or not: 0 to 65,535
-abbrev pub id_of : Data → Option ℕ
-id_of d = option_and_then (λ n. if nat_le n 65535 then Some n else None) (whole d)
-
-abbrev pub piece_with : Option ℕ → Option ℕ → Option (List ℕ) → Option Piece
-piece_with s e t = option_and_then (λ a. option_and_then (λ b. option_map (λ x. record { start = a; end = b; text = x }) t) e) s
-
--- [s, e, "t"]
-abbrev pub piece_from : List Data → Option Piece
-piece_from (s ∷ e ∷ t ∷ []) = piece_with (whole s) (whole e) (as_str t)
-piece_from _ = None
-
-abbrev pub piece_of : Data → Option Piece
-piece_of d = option_and_then piece_from (listed d)
-
-abbrev pub pieces_of : Data → Option (List Piece)
-pieces_of d = option_and_then (all_of piece_of) (listed d)
+use Rattle.session_lines.specs.declared.session.SessionLine.TheVariants.{Edit, Op, Give, Text}
 
 -- ---- the members behind the word
 
@@ -42,6 +19,22 @@ abbrev pub edit_from : List Data → Option SessionLine
 edit_from (r ∷ ps ∷ []) = edit_with (id_of r) (pieces_of ps)
 edit_from _ = None
 
+abbrev pub op_with : Option Lamport → Option Entries → Option (List Piece) → Option SessionLine
+op_with t v ps = option_and_then (λ s. option_and_then (λ u. option_map (λ x. Op (record { stamp = s; version = u; pieces = x })) ps) v) t
+
+-- [value, replica], [[r, v], ..], [[s, e, "t"], ..]
+abbrev pub op_from : List Data → Option SessionLine
+op_from (t ∷ v ∷ ps ∷ []) = op_with (stamp_of t) (version_of v) (pieces_of ps)
+op_from _ = None
+
+abbrev pub give_with : Option ℕ → Option ℕ → Option SessionLine
+give_with r n = option_and_then (λ id. option_map (Give id) n) r
+
+-- r, n
+abbrev pub give_from : List Data → Option SessionLine
+give_from (r ∷ n ∷ []) = give_with (id_of r) (whole n)
+give_from _ = None
+
 -- r
 abbrev pub text_from : List Data → Option SessionLine
 text_from (r ∷ []) = option_map Text (id_of r)
@@ -50,7 +43,11 @@ text_from _ = None
 -- ---- a line, by its word
 
 abbrev pub form_of : Data → List Data → Option SessionLine
-form_of w ds = if is_text (codes "edit") w then edit_from ds else if is_text (codes "text") w then text_from ds else None
+form_of w ds =
+    if is_text (codes "edit") w then edit_from ds else
+    if is_text (codes "op") w then op_from ds else
+    if is_text (codes "give") w then give_from ds else
+    if is_text (codes "text") w then text_from ds else None
 
 abbrev pub line_from : List Data → Option SessionLine
 line_from [] = None

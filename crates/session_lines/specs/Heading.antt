@@ -1,23 +1,15 @@
 -- The header of a session.
-use Rattle.std.specs.Prelude.{ℕ, List, [], ◌∷◌, length, ◌&&◌, ◌==◌, not, nat_le, Bool, true, codes, Option, Some, None, option_map, option_and_then, if◌then◌else◌}
-use Rattle.std.specs.List.{list_any, list_all}
+use Rattle.std.specs.Prelude.{ℕ, List, [], ◌∷◌, length, ◌&&◌, nat_le, Bool, codes, Option, Some, None, option_map, option_and_then, if◌then◌else◌}
+use Rattle.std.specs.List.{list_all}
 use Rattle.serde_json.specs.Data.{Data}
 use Rattle.serde_json.specs.Find.{as_str}
 use Rattle.session_lines.specs.Json.{listed, is_text, is_number}
-use Rattle.session_lines.specs.Forms.{all_of, id_of}
+use Rattle.session_lines.specs.Parts.{all_of, id_of, are_distinct}
 use Rattle.session_lines.specs.declared.header.Header.{Header}
 
 -- an editor's id
 abbrev pub is_editor : ℕ → Bool
 is_editor n = nat_le 1 n && nat_le n 1023
-
--- r is one of the ids
-abbrev pub is_among : List ℕ → ℕ → Bool
-is_among ids r = list_any (λ x. x == r) ids
-
-abbrev pub are_distinct : List ℕ → Bool
-are_distinct [] = true
-are_distinct (r ∷ rs) = not (is_among rs r) && are_distinct rs
 
 -- 1 to 64 distinct ids of editors
 abbrev pub are_replicas : List ℕ → Bool

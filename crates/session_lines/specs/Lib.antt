@@ -1,6 +1,7 @@
 pub mod Json
 pub mod Words
 pub mod Cut
+pub mod Parts
 pub mod Forms
 pub mod Heading
 pub mod Session

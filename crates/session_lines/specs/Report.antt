@@ -3,13 +3,20 @@ use Rattle.std.specs.Prelude.{ℕ, ◌+◌, ◌==◌, List, [], ◌++◌, length
 use Rattle.std.specs.List.{flat_map, position_or_len}
 use Rattle.json.specs.Print.{quoted}
 use Rattle.session_lines.specs.Cut.{feeds}
+use Rattle.lamport_clock.specs.Stamps.{stamp_text}
 use Rattle.lamport_clock.specs.declared.stamp.Lamport.{Lamport}
 use Rattle.op_model.specs.declared.faults.Unit.{Unit as LimitUnit}
 use Rattle.op_model.specs.declared.faults.Unit.TheVariants.{Bytes, Entries}
 use Rattle.op_model.specs.declared.faults.EditFault.{EditFault}
 use Rattle.op_model.specs.declared.faults.EditFault.TheVariants.{Reversed, Overlap, PastEnd, InsideChar, TextLimit, ClockEnd, Full, OutOfMemory}
+use Rattle.op_model.specs.declared.faults.OpFault.{OpFault}
+use Rattle.op_model.specs.declared.faults.OpFault.TheVariants as taken
+use Rattle.session_lines.specs.Session.{operation_count}
+use Rattle.session_lines.specs.declared.session.Session.{Session}
+use Rattle.session_lines.specs.declared.report.Given.{Given}
+use Rattle.session_lines.specs.declared.report.Given.TheVariants as given
 use Rattle.session_lines.specs.declared.report.Report.{Report}
-use Rattle.session_lines.specs.declared.report.Report.TheVariants.{Made, EditRefused, Text, Replica, Final}
+use Rattle.session_lines.specs.declared.report.Report.TheVariants.{Made, EditRefused, Settled, Give, Text, Replica, Refused, Final, Checked}
 
 -- ---- positions
 
@@ -49,8 +56,37 @@ fault_words ClockEnd = codes "clockend"
 fault_words (Full unit held adds) = unit_words unit ++ (decimal held ++ (codes " " ++ decimal adds))
 fault_words OutOfMemory = []
 
+-- the faults of taken operations; one that an edit has too is told by the same words
+abbrev pub op_fault_words : OpFault → List ℕ
+op_fault_words taken.BadStamp = codes "badstamp"
+op_fault_words taken.NoBase = codes "nobase"
+op_fault_words (taken.TextLimit n) = fault_words (TextLimit n)
+op_fault_words (taken.Reversed i) = fault_words (Reversed i)
+op_fault_words (taken.Overlap i) = fault_words (Overlap i)
+op_fault_words (taken.Conflict t) = codes "conflict " ++ stamp_text t
+op_fault_words (taken.Forked kept) = codes "forked " ++ decimal kept
+op_fault_words (taken.OpenVersion r) = codes "openversion " ++ decimal r
+op_fault_words (taken.PastEnd i len) = fault_words (PastEnd i len)
+op_fault_words (taken.InsideChar i) = fault_words (InsideChar i)
+op_fault_words (taken.NoSuchEdit t) = codes "nosuchedit " ++ stamp_text t
+op_fault_words (taken.Full unit held adds) = fault_words (Full unit held adds)
+op_fault_words taken.OutOfMemory = []
+
 unfoldable pub refused_line : ℕ → EditFault → List ℕ
 refused_line n e = decimal n ++ (codes ": " ++ (fault_words e ++ codes "\n"))
+
+unfoldable pub settled_line : ℕ → ℕ → List ℕ
+settled_line r count = codes "settled " ++ (decimal r ++ (codes ": " ++ (decimal count ++ codes "\n")))
+
+abbrev pub given_words : Given → List ℕ
+given_words (given.Applied count) = codes "applied " ++ decimal count
+given_words (given.Waits r v) = codes "waits " ++ (decimal r ++ (codes " " ++ decimal v))
+given_words given.Repeat = codes "repeat"
+given_words given.Nothing = codes "nothing"
+given_words (given.Fault e) = op_fault_words e
+
+unfoldable pub give_line : ℕ → ℕ → Given → List ℕ
+give_line n r answer = codes "give " ++ (decimal n ++ (codes " to " ++ (decimal r ++ (codes ": " ++ (given_words answer ++ codes "\n")))))
 
 abbrev pub counts_words : ℕ → ℕ → ℕ → ℕ → List ℕ
 counts_words r bytes rows applied = codes "replica " ++ (decimal r ++ (codes ": " ++ (decimal bytes ++ (codes " bytes, " ++ (decimal rows ++ (codes " rows, " ++ (decimal applied ++ codes " applied, ")))))))
@@ -61,21 +97,38 @@ waits_words waiting refused = decimal waiting ++ (codes " waiting, " ++ (decimal
 unfoldable pub replica_line : ℕ → ℕ → ℕ → ℕ → ℕ → ℕ → List ℕ
 replica_line r bytes rows applied waiting refused = counts_words r bytes rows applied ++ waits_words waiting refused
 
+unfoldable pub refused_op_line : ℕ → Lamport → OpFault → List ℕ
+refused_op_line r t e = codes "refused " ++ (decimal r ++ (codes ": " ++ (stamp_text t ++ (codes " " ++ (op_fault_words e ++ codes "\n")))))
+
 abbrev pub final_line_with : ℕ → List ℕ → List ℕ
 final_line_with r q = codes "final " ++ (decimal r ++ (codes ": " ++ (q ++ codes "\n")))
 
 unfoldable pub final_line : ℕ → List ℕ → List ℕ
 final_line r text = final_line_with r (quoted text)
 
+unfoldable pub checked_line : ℕ → ℕ → ℕ → ℕ → List ℕ
+checked_line lines replicas operations queries =
+    codes "session ok: " ++ (decimal lines ++ (codes " lines, " ++ (decimal replicas ++ (codes " replicas, " ++ (decimal operations ++ (codes " operations, " ++ (decimal queries ++ codes " queries\n")))))))
+
 -- ---- a line of each kind
 
 unfoldable pub line_text : Report → List ℕ
 line_text (Made n t) = made_line n t
 line_text (EditRefused n e) = refused_line n e
+line_text (Settled r count) = settled_line r count
+line_text (Give n r answer) = give_line n r answer
 line_text (Text r text) = text_line r text
 line_text (Replica r bytes rows applied waiting refused) = replica_line r bytes rows applied waiting refused
+line_text (Refused r t e) = refused_op_line r t e
 line_text (Final r text) = final_line r text
+line_text (Checked lines replicas operations queries) = checked_line lines replicas operations queries
 
 -- the text of a whole report
 unfoldable pub report_text : List Report → List ℕ
 report_text rs = flat_map line_text rs
+
+-- ---- what is counted of a session
+
+-- all its lines, the header too; ids; operation lines; queries, of which there are none
+abbrev pub checked : Session → Report
+checked s = Checked (1 + length s.lines) (length s.replicas) (operation_count s.lines) 0

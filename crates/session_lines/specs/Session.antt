@@ -1,15 +1,16 @@
 -- Which session a text is, or its first bad line and the first word that applies to it.
-use Rattle.std.specs.Prelude.{◌≡◌, ℕ, ◌+◌, ◌≤◌, List, [], ◌∷◌, ◌++◌, length, not, nat_lt, Bool, true, Option, Some, None, Result, Ok, Err, if◌then◌else◌}
-use Rattle.std.specs.List.{All}
+use Rattle.std.specs.Prelude.{◌≡◌, ℕ, ◌+◌, ◌≤◌, List, [], ◌∷◌, ◌++◌, length, not, ◌&&◌, nat_lt, nat_le, Bool, true, false, Option, Some, None, Result, Ok, Err, if◌then◌else◌}
+use Rattle.std.specs.List.{All, count_by}
 use Rattle.op_model.specs.Choice.{first_of, when}
 use Rattle.serde_json.specs.Data.{Data}
 use Rattle.session_lines.specs.Json.{value_of}
 use Rattle.session_lines.specs.Cut.{lines_of}
 use Rattle.session_lines.specs.Forms.{shaped}
-use Rattle.session_lines.specs.Heading.{headed, is_among, are_replicas}
+use Rattle.session_lines.specs.Parts.{is_among}
+use Rattle.session_lines.specs.Heading.{headed, are_replicas}
 use Rattle.session_lines.specs.declared.header.Header.{Header}
 use Rattle.session_lines.specs.declared.session.SessionLine.{SessionLine}
-use Rattle.session_lines.specs.declared.session.SessionLine.TheVariants.{Edit, Text}
+use Rattle.session_lines.specs.declared.session.SessionLine.TheVariants.{Edit, Op, Give, Text}
 use Rattle.session_lines.specs.declared.session.Session.{Session}
 use Rattle.session_lines.specs.declared.fault.Word.{Word}
 use Rattle.session_lines.specs.declared.fault.Word.TheVariants as word
@@ -31,30 +32,53 @@ header_read (Some d) = or_word word.Header (headed d)
 unfoldable pub header_of : List ℕ → Result Header Word
 header_of line = header_read (value_of line)
 
--- the replica that acts in the line is in the header
+-- ---- operation lines, which are numbered from 1 in their order, whatever comes of them
+
+abbrev pub is_operation : SessionLine → Bool
+is_operation (Edit r ps) = true
+is_operation (Op e) = true
+is_operation (Give r n) = false
+is_operation (Text r) = false
+
+-- how many of the lines are operation lines
+abbrev pub operation_count : List SessionLine → ℕ
+operation_count ls = count_by is_operation ls
+
+-- ---- a line behind others
+
+-- the replica that acts in the line, if one does, is in the header
 abbrev pub is_known : List ℕ → SessionLine → Bool
 is_known ids (Edit r ps) = is_among ids r
+is_known ids (Op e) = true
+is_known ids (Give r n) = is_among ids r
 is_known ids (Text r) = is_among ids r
 
--- what is wrong with a line that has the form of one
-abbrev pub word_of : List ℕ → SessionLine → Option Word
-word_of ids line = first_of (when (not (is_known ids line)) word.Replica ∷ [])
+-- the operation line that the line names, if it names one, is one of the `count` before it
+abbrev pub is_numbered : ℕ → SessionLine → Bool
+is_numbered count (Edit r ps) = true
+is_numbered count (Op e) = true
+is_numbered count (Give r n) = nat_le 1 n && nat_le n count
+is_numbered count (Text r) = true
+
+-- what is wrong with a line that has the form of one, behind so many operation lines
+abbrev pub word_of : List ℕ → ℕ → SessionLine → Option Word
+word_of ids count line = first_of (when (not (is_known ids line)) word.Replica ∷ when (not (is_numbered count line)) word.Number ∷ [])
 
 abbrev pub unless : {A : Type 0} → A → Option Word → Result A Word
 unless x None = Ok x
 unless x (Some w) = Err w
 
-abbrev pub formed : List ℕ → Option SessionLine → Result SessionLine Word
-formed ids None = Err word.Shape
-formed ids (Some line) = unless line (word_of ids line)
+abbrev pub formed : List ℕ → ℕ → Option SessionLine → Result SessionLine Word
+formed ids count None = Err word.Shape
+formed ids count (Some line) = unless line (word_of ids count line)
 
-abbrev pub line_read : List ℕ → Option Data → Result SessionLine Word
-line_read ids None = Err word.Json
-line_read ids (Some d) = formed ids (shaped d)
+abbrev pub line_read : List ℕ → ℕ → Option Data → Result SessionLine Word
+line_read ids count None = Err word.Json
+line_read ids count (Some d) = formed ids count (shaped d)
 
--- the line of a session with these replicas that a later line is
-unfoldable pub line_of : List ℕ → List ℕ → Result SessionLine Word
-line_of ids line = line_read ids (value_of line)
+-- the line of a session with these replicas that a later line is, behind so many operation lines
+unfoldable pub line_of : List ℕ → ℕ → List ℕ → Result SessionLine Word
+line_of ids count line = line_read ids count (value_of line)
 
 -- ---- all lines
 
@@ -66,7 +90,7 @@ then_from n (Ok x) next = next x
 -- the lines behind the header, those `before` being read
 abbrev pub rest_of : List ℕ → List SessionLine → List (List ℕ) → Result (List SessionLine) DecodeFault
 rest_of ids before [] = Ok before
-rest_of ids before (l ∷ ls) = then_from (2 + length before) (line_of ids l) (λ x. rest_of ids (before ++ x ∷ []) ls)
+rest_of ids before (l ∷ ls) = then_from (2 + length before) (line_of ids (operation_count before) l) (λ x. rest_of ids (before ++ x ∷ []) ls)
 
 abbrev pub with_header : Header → Result (List SessionLine) DecodeFault → Result Session DecodeFault
 with_header h (Err e) = Err e

@@ -1,7 +1,7 @@
 // Reading a session from its bytes.
 ghost use Rattle.std.specs.Prelude.{◌≡◌, ◌<◌, ◌≤◌, ◌⊎◌, [], length, IfOk, IfErr, Ok, Err, None, Some};
 ghost use Rattle.session_lines.specs.Cut.{lines_of};
-ghost use Rattle.session_lines.specs.Session.{IsSession, decoded, header_of, is_known, line_of, rest_of, session_of, word_of};
+ghost use Rattle.session_lines.specs.Session.{IsSession, decoded, header_of, is_known, is_numbered, line_of, rest_of, session_of, word_of};
 ghost use Rattle.session_lines.specs.declared.fault.Word.{Word};
 
 use crate::cutting::{first_line, line_count};
@@ -27,35 +27,57 @@ fn header_of(alloc: Global, line: &[u8]) -> Result<Header, LineFault>
     }
 }
 
-// Whether the replica that acts in the line is in the header.
+// Whether the replica that acts in the line, if one does, is in the header.
 fn is_known(replicas: &[u16], line: &SessionLine) -> bool
     ensures { result ≡ is_known replicas.now line.now }
 {
     match line {
         SessionLine::Edit { replica, .. } => replicas.contains(replica),
+        SessionLine::Op(_) => true,
+        SessionLine::Give { replica, .. } => replicas.contains(replica),
         SessionLine::Text { replica } => replicas.contains(replica),
     }
 }
 
-fn word_of(replicas: &[u16], line: &SessionLine) -> Option<Word>
-    ensures { result ≡ word_of replicas.now line.now }
+// Whether the operation line that the line names, if it names one, is one of the `operations` before it.
+fn is_numbered(operations: u64, line: &SessionLine) -> bool
+    ensures { result ≡ is_numbered operations line.now }
+{
+    match line {
+        SessionLine::Edit { .. } => true,
+        SessionLine::Op(_) => true,
+        SessionLine::Give { number, .. } => 1 <= *number && *number <= operations,
+        SessionLine::Text { .. } => true,
+    }
+}
+
+fn word_of(replicas: &[u16], operations: u64, line: &SessionLine) -> Option<Word>
+    ensures { result ≡ word_of replicas.now operations line.now }
 {
     if !is_known(replicas, line) {
         return Some(Word::Replica);
+    }
+    if !is_numbered(operations, line) {
+        return Some(Word::Number);
     }
     None
 }
 
 #[tactic(auto, unfolding(crate::specs::Session::line_of))]
-fn line_of(alloc: Global, replicas: &[u16], line: &[u8]) -> Result<SessionLine, LineFault>
-    ensures ok { IfOk result (λ l. line_of replicas.now line.now ≡ Ok l) }
-    ensures bad { (w : Word) → result ≡ Err (LineFault.Bad w) → line_of replicas.now line.now ≡ Err w }
+fn line_of(
+    alloc: Global,
+    replicas: &[u16],
+    operations: u64,
+    line: &[u8],
+) -> Result<SessionLine, LineFault>
+    ensures ok { IfOk result (λ l. line_of replicas.now operations line.now ≡ Ok l) }
+    ensures bad { (w : Word) → result ≡ Err (LineFault.Bad w) → line_of replicas.now operations line.now ≡ Err w }
 {
     let value = value_of(alloc, line)?;
     let Some(line) = shaped(alloc, &value)? else {
         return Err(LineFault::Bad(Word::Shape));
     };
-    match word_of(replicas, &line) {
+    match word_of(replicas, operations, &line) {
         Some(word) => Err(LineFault::Bad(word)),
         None => Ok(line),
     }
@@ -66,14 +88,18 @@ fn rest_of(alloc: Global, replicas: &[u16], text: &[u8]) -> Result<SessionLines,
     ensures fault { IfErr result (λ e. (rest_of replicas.now [] (lines_of text.now) ≡ Err e) ⊎ (e ≡ DecodeFault.OutOfMemory)) }
 {
     let mut lines = Vec::new(alloc);
+    let mut operations = 0u64;
     let mut rest = text;
     while !rest.is_empty() {
         let (line, after) = first_line(rest);
-        match line_of(alloc, replicas, line) {
-            Ok(line) => match lines.push(line) {
-                Ok(()) => {}
-                Err(_) => return Err(DecodeFault::OutOfMemory),
-            },
+        match line_of(alloc, replicas, operations, line) {
+            Ok(line) => {
+                operations += line.is_operation() as u64;
+                match lines.push(line) {
+                    Ok(()) => {}
+                    Err(_) => return Err(DecodeFault::OutOfMemory),
+                }
+            }
             Err(LineFault::Bad(word)) => {
                 return Err(DecodeFault::Bad {
                     line: 2 + lines.len() as u64,

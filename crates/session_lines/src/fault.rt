@@ -18,6 +18,8 @@ pub enum Word {
     Shape,
     /// The replica that it names is not in the header.
     Replica,
+    /// The number that it names is not that of an operation line before it.
+    Number,
 }
 
 impl fmt::Display for Word {
@@ -29,6 +31,7 @@ impl fmt::Display for Word {
             Word::Header => write!(f, "header"),
             Word::Shape => write!(f, "shape"),
             Word::Replica => write!(f, "replica"),
+            Word::Number => write!(f, "number"),
         }
     }
 }

@@ -2,70 +2,14 @@
 ghost use Rattle.std.specs.Prelude.{◌≡◌, map, IfOk, None, Some};
 ghost use Rattle.serde_json.specs.View.{view};
 ghost use Rattle.session_lines.specs.Json.{listed};
-ghost use Rattle.session_lines.specs.Forms.{all_of, id_of, piece_from, piece_of, pieces_of, edit_from, text_from, line_from, shaped};
+ghost use Rattle.session_lines.specs.Forms.{edit_from, op_from, give_from, text_from, line_from, shaped};
 
 use crate::line_value::{is_text, listed};
+use crate::parts::{id_of, pieces_of, stamp_of, version_of};
 use crate::session::SessionLine;
-use op_model::{Piece, Pieces, Text};
+use op_model::EditOp;
 use serde_json::Value;
 use std::alloc::{AllocError, Global};
-
-/// The id of a replica, of the header or not.
-pub fn id_of(value: &Value) -> Option<u16>
-    ensures { result ≡ id_of (view value.now) }
-{
-    match value.as_u64() {
-        Some(id) => { if id <= 65_535 { Some(id as u16) } else { None } }
-        None => None,
-    }
-}
-
-fn piece_from(alloc: Global, members: &[Value]) -> Result<Option<Piece>, AllocError>
-    ensures { IfOk result (λ p. p ≡ piece_from (map view members.now)) }
-{
-    let [start, end, text] = members else {
-        return Ok(None);
-    };
-    match (start.as_u64(), end.as_u64(), text.as_str()) {
-        (Some(start), Some(end), Some(text)) => Ok(Some(Piece {
-            start,
-            end,
-            text: Text::new(String::from_str(alloc, text)?),
-        })),
-        _ => Ok(None),
-    }
-}
-
-fn piece_of(alloc: Global, value: &Value) -> Result<Option<Piece>, AllocError>
-    ensures { IfOk result (λ p. p ≡ piece_of (view value.now)) }
-{
-    match listed(value) {
-        Some(members) => piece_from(alloc, members),
-        None => Ok(None),
-    }
-}
-
-fn pieces_from(alloc: Global, members: &[Value]) -> Result<Option<Pieces>, AllocError>
-    ensures { IfOk result (λ p. p ≡ all_of piece_of (map view members.now)) }
-{
-    let mut pieces = Vec::new(alloc);
-    for member in members {
-        match piece_of(alloc, member)? {
-            Some(piece) => pieces.push(piece)?,
-            None => return Ok(None),
-        }
-    }
-    Ok(Some(Pieces::new(pieces)))
-}
-
-fn pieces_of(alloc: Global, value: &Value) -> Result<Option<Pieces>, AllocError>
-    ensures { IfOk result (λ p. p ≡ pieces_of (view value.now)) }
-{
-    match listed(value) {
-        Some(members) => pieces_from(alloc, members),
-        None => Ok(None),
-    }
-}
 
 fn edit_from(alloc: Global, members: &[Value]) -> Result<Option<SessionLine>, AllocError>
     ensures { IfOk result (λ l. l ≡ edit_from (map view members.now)) }
@@ -79,6 +23,40 @@ fn edit_from(alloc: Global, members: &[Value]) -> Result<Option<SessionLine>, Al
     match pieces_of(alloc, pieces)? {
         Some(pieces) => Ok(Some(SessionLine::Edit { replica, pieces })),
         None => Ok(None),
+    }
+}
+
+fn op_from(alloc: Global, members: &[Value]) -> Result<Option<SessionLine>, AllocError>
+    ensures { IfOk result (λ l. l ≡ op_from (map view members.now)) }
+{
+    let [stamp, version, pieces] = members else {
+        return Ok(None);
+    };
+    let Some(stamp) = stamp_of(stamp) else {
+        return Ok(None);
+    };
+    let Some(version) = version_of(alloc, version)? else {
+        return Ok(None);
+    };
+    match pieces_of(alloc, pieces)? {
+        Some(pieces) => Ok(Some(SessionLine::Op(EditOp {
+            stamp,
+            version,
+            pieces,
+        }))),
+        None => Ok(None),
+    }
+}
+
+fn give_from(members: &[Value]) -> Option<SessionLine>
+    ensures { result ≡ give_from (map view members.now) }
+{
+    let [replica, number] = members else {
+        return None;
+    };
+    match (id_of(replica), number.as_u64()) {
+        (Some(replica), Some(number)) => Some(SessionLine::Give { replica, number }),
+        _ => None,
     }
 }
 
@@ -102,6 +80,12 @@ fn line_from(alloc: Global, members: &[Value]) -> Result<Option<SessionLine>, Al
     };
     if is_text(word, "edit") {
         return edit_from(alloc, members);
+    }
+    if is_text(word, "op") {
+        return op_from(alloc, members);
+    }
+    if is_text(word, "give") {
+        return Ok(give_from(members));
     }
     if is_text(word, "text") {
         return Ok(text_from(members));

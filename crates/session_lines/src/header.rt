@@ -3,11 +3,11 @@ ghost use Rattle.std.specs.Prelude.{◌≡◌, map, option_and_then, IfOk, None,
 ghost use Rattle.std.specs.List.{list_all};
 ghost use Rattle.serde_json.specs.View.{view};
 ghost use Rattle.session_lines.specs.Json.{listed};
-ghost use Rattle.session_lines.specs.Forms.{all_of, id_of};
-ghost use Rattle.session_lines.specs.Heading.{is_editor, are_distinct, are_replicas, replicas_from, header_from, headed};
+ghost use Rattle.session_lines.specs.Parts.{all_of, are_distinct, id_of};
+ghost use Rattle.session_lines.specs.Heading.{is_editor, are_replicas, replicas_from, header_from, headed};
 
-use crate::forms::id_of;
 use crate::line_value::{is_number, is_text, listed};
+use crate::parts::id_of;
 use crate::session::Ids;
 use op_model::Text;
 use serde_json::Value;

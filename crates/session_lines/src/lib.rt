@@ -8,6 +8,7 @@ mod fault;
 mod forms;
 mod header;
 mod line_value;
+mod parts;
 mod report;
 mod session;
 mod text;
@@ -16,7 +17,7 @@ pub use cutting::row_count;
 pub use decoding::decode;
 pub use fault::{DecodeFault, Word};
 pub use lamport_clock::OutOfMemory;
-pub use report::Report;
+pub use report::{Given, Report};
 pub use session::{Ids, Session, SessionLine, SessionLines};
 pub use text::write_line;
 

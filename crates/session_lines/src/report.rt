@@ -1,12 +1,30 @@
 // A line of a report, as a value.
+ghost use Rattle.std.specs.Prelude.{◌≡◌};
+ghost use Rattle.session_lines.specs.Report.{checked};
 
+use crate::session::Session;
 use lamport_clock::Lamport;
-use op_model::{EditFault, Text};
+use op_model::{EditFault, OpFault, Text};
+
+/// What a replica answers to an operation that it is given.
+#[derive(Clone, Copy, Debug, PartialEq, Eq)]
+pub enum Given {
+    /// `applied C`: it was applied, and with it others that waited, C in all.
+    Applied(u64),
+    /// `waits R V`: it waits for the operation with value V of replica R.
+    Waits { replica: u16, value: u32 },
+    /// `repeat`: an equal one is applied or waits.
+    Repeat,
+    /// `nothing`: no operation stands under the number.
+    Nothing,
+    /// `FAULT`: it was refused.
+    Fault(OpFault),
+}
 
 /// A line of a report, with what it prints.
 #[derive(Drop)]
 pub enum Report {
-    /// `N: V.R`: operation line N made the operation with that stamp.
+    /// `N: V.R`: the operation of operation line N has that stamp.
     Made {
         number: u64,
         stamp: Lamport,
@@ -15,6 +33,17 @@ pub enum Report {
     EditRefused {
         number: u64,
         fault: EditFault,
+    },
+    /// `settled R: C`: at replica R settling applied C operations that had waited.
+    Settled {
+        replica: u16,
+        count: u64,
+    },
+    /// `give N to R: ANSWER`: what replica R answers to the operation of operation line N.
+    Give {
+        number: u64,
+        replica: u16,
+        answer: Given,
     },
     /// `text R: B bytes, end ROW:COLUMN, K rows, STRING`: the text of replica R, with what is counted of it.
     Text {
@@ -30,9 +59,37 @@ pub enum Report {
         waiting: u64,
         refused: u64,
     },
+    /// `refused R: V.S FAULT`: replica R refused the operation with that stamp while it settled.
+    Refused {
+        replica: u16,
+        stamp: Lamport,
+        fault: OpFault,
+    },
     /// `final R: STRING`: the text of replica R at the end.
     Final {
         replica: u16,
         text: Text,
     },
+    /// `session ok: L lines, R replicas, P operations, Q queries`: what is counted of a session.
+    Checked {
+        lines: u64,
+        replicas: u64,
+        operations: u64,
+        queries: u64,
+    },
+}
+
+impl Report {
+    /// What is counted of the session: all its lines, the header too, the ids of its header, its operation lines and its
+    /// queries. Linear in its lines.
+    pub fn checked(session: &Session) -> Report
+        ensures { result ≡ checked session.now }
+    {
+        Report::Checked {
+            lines: 1 + session.lines.as_slice().len() as u64,
+            replicas: session.replicas.as_slice().len() as u64,
+            operations: session.operation_count(),
+            queries: 0,
+        }
+    }
 }

@@ -1,16 +1,36 @@
 // A session, as it is read.
 ghost use Rattle.std.specs.Prelude.{◌≡◌};
+ghost use Rattle.session_lines.specs.Session.{is_operation, operation_count};
 
-use op_model::{Pieces, Text};
+use op_model::{EditOp, Pieces, Text};
 use std::marker::Model;
 
-/// A line after the header. Its replica is one of the header's.
+/// A line after the header. A replica that acts in it is one of the header's.
 #[derive(Drop)]
 pub enum SessionLine {
     /// `["edit",r,[[s,e,"t"],..]]`: replica r replaces ranges of its text, each by a new one.
     Edit { replica: u16, pieces: Pieces },
+    /// `["op",[value,replica],[[r,v],..],[[s,e,"t"],..]]`: an edit operation as it stands, with its stamp, its version, whose
+    /// ids stand in any order, and its pieces. It is applied nowhere.
+    Op(EditOp),
+    /// `["give",r,n]`: replica r takes the operation of operation line n.
+    Give { replica: u16, number: u64 },
     /// `["text",r]`: the text of replica r is shown.
     Text { replica: u16 },
+}
+
+impl SessionLine {
+    /// Whether it is an operation line. These are numbered from 1 in their order.
+    pub fn is_operation(&self) -> bool
+        ensures { result ≡ is_operation self.now }
+    {
+        match self {
+            SessionLine::Edit { .. } => true,
+            SessionLine::Op(_) => true,
+            SessionLine::Give { .. } => false,
+            SessionLine::Text { .. } => false,
+        }
+    }
 }
 
 /// The lines after the header, seen as their list.
@@ -83,4 +103,14 @@ pub struct Session {
     pub replicas: Ids,
     /// The lines after the header.
     pub lines: SessionLines,
+}
+
+impl Session {
+    /// How many operation lines there are. Linear in the lines.
+    pub fn operation_count(&self) -> u64
+        ensures { result ≡ operation_count self.now.lines }
+    {
+        let lines = self.lines.as_slice();
+        lines.iter().filter(|line| line.is_operation()).count() as u64
+    }
 }

@@ -1,7 +1,9 @@
 // Sessions as they are read, inputs that are none, and the lines of reports.
-use crate::{DecodeFault, Report, Session, SessionLine, Word, decode, row_count, write_line};
-use lamport_clock::Lamport;
-use op_model::{EditFault, Text, Unit};
+use crate::{
+    DecodeFault, Given, Report, Session, SessionLine, Word, decode, row_count, write_line,
+};
+use lamport_clock::{Lamport, Version};
+use op_model::{EditFault, OpFault, Text, Unit};
 use std::alloc::{AllocError, Global};
 use std::process::Abort;
 use std::test::Fail;
@@ -18,33 +20,35 @@ fn bad(line: u64, word: Word) -> Option<DecodeFault> {
     Some(DecodeFault::Bad { line, word })
 }
 
-// How many lines a session has of each form: edits, texts.
-fn forms(session: &Session) -> (u64, u64) {
-    let mut edits = 0u64;
-    let mut texts = 0u64;
-    for line in session.lines.as_slice() {
-        match line {
-            SessionLine::Edit { .. } => edits = edits.saturating_add(1),
-            SessionLine::Text { .. } => texts = texts.saturating_add(1),
-        }
+// The word of a line.
+fn name_of(line: &SessionLine) -> &'static str {
+    match line {
+        SessionLine::Edit { .. } => "edit",
+        SessionLine::Op(_) => "op",
+        SessionLine::Give { .. } => "give",
+        SessionLine::Text { .. } => "text",
     }
-    (edits, texts)
 }
 
 #[test]
 fn sessions_are_read(rt: HostRuntime) -> Result<(), Fail> {
     let alloc = rt.alloc();
-    for (input, ids, counts) in [
-        ("[\"zedbuf\",1,\"ab\",[1]]", &[1u16][..], (0u64, 0u64)),
+    for (input, ids, words) in [
+        ("[\"zedbuf\",1,\"ab\",[1]]", &[1u16][..], &[][..]),
         (
             " [ \"zedbuf\" , 1 , \"\" , [ 1023 , 1 ] ] \n[\"text\",1]\n[\"text\",1023]\n",
             &[1023, 1][..],
-            (0, 2),
+            &["text", "text"][..],
         ),
         (
             "[\"zedbuf\",1,\"\\u00e9\",[2,3,1]]\r\n[\"edit\",3,[]]\n[\"edit\",2,[[0,18446744073709551615,\"\"]]]\n[\"text\",1]",
             &[2, 3, 1][..],
-            (2, 1),
+            &["edit", "edit", "text"][..],
+        ),
+        (
+            "[\"zedbuf\",1,\"ab\",[1,2]]\n[\"op\",[0,65535],[],[]]\n[\"edit\",1,[]]\n[\"give\",2,1]\n[\"give\",1,2]\n[\"op\",[4294967295,0],[[65535,4294967295],[0,1]],[[2,1,\"x\"]]]\n[\"give\",1,3]\n",
+            &[1, 2][..],
+            &["op", "edit", "give", "give", "op", "give"][..],
         ),
     ] {
         let session = match decode(alloc, input.as_bytes()) {
@@ -53,7 +57,65 @@ fn sessions_are_read(rt: HostRuntime) -> Result<(), Fail> {
         };
         assert_eq!(rt; session.version, 1);
         assert_eq!(rt; session.replicas.as_slice(), ids, "at {input}");
-        assert_eq!(rt; forms(&session), counts, "at {input}");
+        assert_eq!(rt; session.lines.as_slice().len(), words.len(), "at {input}");
+        for (line, word) in session.lines.as_slice().iter().zip(words) {
+            assert_eq!(rt; name_of(line), *word, "at {input}");
+        }
+    }
+    Ok(())
+}
+
+// The version of the first line, which is an operation.
+fn version_of(alloc: Global, version: &str) -> Result<Option<Version>, AllocError> {
+    let input = format!(in alloc; "[\"zedbuf\",1,\"\",[1]]\n[\"op\",[9,1],{version},[]]")?;
+    match decode(alloc, input.as_bytes()) {
+        Ok(session) => match session.lines.as_slice() {
+            [SessionLine::Op(edit)] => Ok(Some(edit.version.copy(alloc)?)),
+            _ => Ok(None),
+        },
+        Err(_) => Ok(None),
+    }
+}
+
+#[test]
+fn versions_in_any_order(rt: HostRuntime) -> Result<(), Fail> {
+    let alloc = rt.alloc();
+    for (version, want) in [
+        ("[]", &[][..]),
+        ("[[7,3]]", &[(7u16, 3u32)][..]),
+        ("[[7,3],[0,1]]", &[(0, 1), (7, 3)][..]),
+        (
+            "[[2,5],[65535,4294967295],[0,1],[1,5],[9,2]]",
+            &[(0, 1), (1, 5), (2, 5), (9, 2), (65_535, 4_294_967_295)][..],
+        ),
+    ] {
+        match version_of(alloc, version)? {
+            Some(found) => assert_eq!(rt; found.as_slice(), want, "at {version}"),
+            None => assert!(rt; false, "at {version}"),
+        }
+    }
+    Ok(())
+}
+
+#[test]
+fn versions_of_many(rt: HostRuntime) -> Result<(), Fail> {
+    let alloc = rt.alloc();
+    for count in [16u16, 17, 40] {
+        let mut version = format!(in alloc; "[{count},7]")?;
+        for id in 1..count {
+            version = format!(in alloc; "{version},[{id},9]")?;
+        }
+        let whole = format!(in alloc; "[{version}]")?;
+        match version_of(alloc, whole.as_str())? {
+            Some(found) => {
+                assert_eq!(rt; found.len(), count as u64, "at {count}");
+                assert_eq!(rt; found.get(1), 9, "at {count}");
+                assert_eq!(rt; found.get(count), 7, "at {count}");
+            }
+            None => assert!(rt; false, "at {count}"),
+        }
+        let twice = format!(in alloc; "[{version},[1,9]]")?;
+        assert!(rt; version_of(alloc, twice.as_str())?.is_none(), "at {count}");
     }
     Ok(())
 }
@@ -88,34 +150,9 @@ fn bad_headers(rt: HostRuntime) -> Result<(), Fail> {
     Ok(())
 }
 
-#[test]
-fn bad_lines(rt: HostRuntime) -> Result<(), Fail> {
-    let alloc = rt.alloc();
-    for (line, word) in [
-        ("", Word::Json),
-        ("[\"text\",1", Word::Json),
-        ("[\"text\",01]", Word::Json),
-        ("[\"text\"]", Word::Shape),
-        ("[\"text\",1,1]", Word::Shape),
-        ("[\"text\",1.0]", Word::Shape),
-        ("[\"text\",1e0]", Word::Shape),
-        ("[\"text\",-0]", Word::Shape),
-        ("[\"text\",65536]", Word::Shape),
-        ("[\"jump\",1]", Word::Shape),
-        ("[\"point\",1,1.0]", Word::Shape),
-        ("[\"op\",[2,1],[[0,1],[0,1]],[]]", Word::Shape),
-        ("[]", Word::Shape),
-        ("\"text\"", Word::Shape),
-        ("{\"text\":1}", Word::Shape),
-        ("[\"edit\",1,[[0,0]]]", Word::Shape),
-        ("[\"edit\",1,[[0,0,7]]]", Word::Shape),
-        ("[\"edit\",1,[[0,18446744073709551616,\"\"]]]", Word::Shape),
-        ("[\"edit\",3,[[0,0]]]", Word::Shape),
-        ("[\"edit\",3,[]]", Word::Replica),
-        ("[\"text\",3]", Word::Replica),
-        ("[\"text\",0]", Word::Replica),
-        ("[\"text\",65535]", Word::Replica),
-    ] {
+// Each of the lines is the first bad one of its session, for the word.
+fn are_bad<R: Abort>(rt: &R, alloc: Global, word: Word, lines: &[&str]) -> Result<(), AllocError> {
+    for line in lines {
         let input = format!(in alloc; "[\"zedbuf\",1,\"ab\",[1,2]]\n{line}\n[\"text\",4]\n")?;
         assert_eq!(rt;
             fault_of(alloc, input.as_bytes()),
@@ -123,8 +160,175 @@ fn bad_lines(rt: HostRuntime) -> Result<(), Fail> {
             "at {line}"
         );
     }
+    Ok(())
+}
+
+#[test]
+fn bad_lines(rt: HostRuntime) -> Result<(), Fail> {
+    let alloc = rt.alloc();
+    are_bad(
+        &rt,
+        alloc,
+        Word::Json,
+        &["", "[\"text\",1", "[\"text\",01]"],
+    )?;
+    are_bad(
+        &rt,
+        alloc,
+        Word::Shape,
+        &[
+            "[\"text\"]",
+            "[\"text\",1,1]",
+            "[\"text\",1.0]",
+            "[\"text\",1e0]",
+            "[\"text\",-0]",
+            "[\"text\",65536]",
+            "[\"jump\",1]",
+            "[\"point\",1,1.0]",
+            "[]",
+            "\"text\"",
+            "{\"text\":1}",
+            "[\"edit\",1,[[0,0]]]",
+            "[\"edit\",1,[[0,0,7]]]",
+            "[\"edit\",1,[[0,18446744073709551616,\"\"]]]",
+            "[\"edit\",3,[[0,0]]]",
+            "[\"uop\",[2,1],[],[]]",
+            "[\"undo\",1,[1]]",
+        ],
+    )?;
+    are_bad(
+        &rt,
+        alloc,
+        Word::Replica,
+        &[
+            "[\"edit\",3,[]]",
+            "[\"text\",3]",
+            "[\"text\",0]",
+            "[\"text\",65535]",
+        ],
+    )?;
     let input = b"[\"zedbuf\",1,\"ab\",[1]]\n[\"text\",1]\n\"\xff\"\n";
     assert_eq!(rt; fault_of(alloc, input), bad(3, Word::Json));
+    Ok(())
+}
+
+#[test]
+fn bad_operations(rt: HostRuntime) -> Result<(), Fail> {
+    let alloc = rt.alloc();
+    are_bad(
+        &rt,
+        alloc,
+        Word::Shape,
+        &[
+            "[\"op\",[2,1],[]]",
+            "[\"op\",[2,1],[],[],[]]",
+            "[\"op\",2,[],[]]",
+            "[\"op\",[2],[],[]]",
+            "[\"op\",[2,1,0],[],[]]",
+            "[\"op\",[4294967296,1],[],[]]",
+            "[\"op\",[2,65536],[],[]]",
+            "[\"op\",[2,1],0,[]]",
+            "[\"op\",[2,1],[0],[]]",
+            "[\"op\",[2,1],[[0]],[]]",
+            "[\"op\",[2,1],[[0,1,1]],[]]",
+            "[\"op\",[2,1],[[0,1.0]],[]]",
+            "[\"op\",[2,1],[[65536,1]],[]]",
+            "[\"op\",[2,1],[[0,4294967296]],[]]",
+            "[\"op\",[2,1],[[0,0]],[]]",
+            "[\"op\",[2,1],[[0,1],[0,1]],[]]",
+            "[\"op\",[2,1],[[3,1],[0,1],[3,2]],[]]",
+            "[\"op\",[2,1],[[3,2],[3,1],[0,1]],[]]",
+            "[\"op\",[2,1],[],[[0,0]]]",
+            "[\"op\",[2,1],[],0]",
+        ],
+    )?;
+    Ok(())
+}
+
+#[test]
+fn bad_gives(rt: HostRuntime) -> Result<(), Fail> {
+    let alloc = rt.alloc();
+    are_bad(
+        &rt,
+        alloc,
+        Word::Shape,
+        &[
+            "[\"give\",1]",
+            "[\"give\",1,1,1]",
+            "[\"give\",1,-1]",
+            "[\"give\",1,1.0]",
+            "[\"give\",1,\"1\"]",
+            "[\"give\",65536,1]",
+            "[\"give\",1,18446744073709551616]",
+            "[\"give\",3,0.0]",
+        ],
+    )?;
+    are_bad(
+        &rt,
+        alloc,
+        Word::Replica,
+        &["[\"give\",3,0]", "[\"give\",3,1]"],
+    )?;
+    are_bad(
+        &rt,
+        alloc,
+        Word::Number,
+        &[
+            "[\"give\",1,18446744073709551615]",
+            "[\"give\",1,1]",
+            "[\"give\",1,0]",
+        ],
+    )?;
+    Ok(())
+}
+
+#[test]
+fn numbers_of_operation_lines(rt: HostRuntime) -> Result<(), Fail> {
+    let alloc = rt.alloc();
+    let edit = "[\"edit\",1,[]]";
+    let op = "[\"op\",[2,9],[],[]]";
+    let text = "[\"text\",1]";
+    for (first, second, number, want) in [
+        (text, text, 1u64, bad(4, Word::Number)),
+        (edit, text, 0, bad(4, Word::Number)),
+        (edit, text, 1, bad(5, Word::Number)),
+        (text, op, 1, bad(5, Word::Number)),
+        (text, op, 2, bad(4, Word::Number)),
+        (edit, op, 2, bad(5, Word::Number)),
+        (op, edit, 1, bad(5, Word::Number)),
+        (op, op, 3, bad(4, Word::Number)),
+    ] {
+        // what stands behind the line has no number for it, and is no operation line's own
+        let input = format!(in alloc;
+            "[\"zedbuf\",1,\"ab\",[1]]\n{first}\n{second}\n[\"give\",1,{number}]\n[\"give\",1,3]\n{op}\n{op}\n"
+        )?;
+        assert_eq!(rt;
+            fault_of(alloc, input.as_bytes()),
+            want,
+            "at {first} {second} {number}"
+        );
+    }
+    Ok(())
+}
+
+#[test]
+fn lines_that_are_counted(rt: HostRuntime) -> Result<(), Fail> {
+    let alloc = rt.alloc();
+    for (input, want) in [
+        (
+            "[\"zedbuf\",1,\"ab\",[1]]",
+            "session ok: 1 lines, 1 replicas, 0 operations, 0 queries",
+        ),
+        (
+            "[\"zedbuf\",1,\"ab\",[1,2]]\n[\"edit\",1,[]]\n[\"give\",2,1]\n[\"op\",[9,9],[],[]]\n[\"text\",1]\n[\"edit\",2,[[9,0,\"\"]]]\n",
+            "session ok: 6 lines, 2 replicas, 3 operations, 0 queries",
+        ),
+    ] {
+        match decode(alloc, input.as_bytes()) {
+            Ok(session) => writes(&rt, alloc, &Report::checked(&session), want)?,
+            Err(_) => assert!(rt; false, "at {input}"),
+        }
+    }
     Ok(())
 }
 
@@ -218,6 +422,11 @@ fn lines_of_reports(rt: HostRuntime) -> Result<(), Fail> {
             want.as_str(),
         )?;
     }
+    let line = Report::Settled {
+        replica: 2,
+        count: 3,
+    };
+    writes(&rt, alloc, &line, "settled 2: 3")?;
     let shown = "\u{e9}\n\"\\\u{1}\u{7f}/\u{8}\u{c}\r\t\u{1f}";
     let quoted = "\"\u{e9}\\n\\\"\\\\\\u0001\u{7f}/\\b\\f\\r\\t\\u001f\"";
     let want = format!(in alloc; "text 1: 13 bytes, end 1:10, 2 rows, {quoted}")?;
@@ -245,5 +454,86 @@ fn lines_of_reports(rt: HostRuntime) -> Result<(), Fail> {
         text: text(alloc, "")?,
     };
     writes(&rt, alloc, &line, "final 2: \"\"")?;
+    Ok(())
+}
+
+#[test]
+fn answers_to_gives(rt: HostRuntime) -> Result<(), Fail> {
+    let alloc = rt.alloc();
+    for (answer, want) in [
+        (
+            Given::Applied(18_446_744_073_709_551_615),
+            "applied 18446744073709551615",
+        ),
+        (
+            Given::Waits {
+                replica: 1,
+                value: 2,
+            },
+            "waits 1 2",
+        ),
+        (Given::Repeat, "repeat"),
+        (Given::Nothing, "nothing"),
+        (Given::Fault(OpFault::BadStamp), "badstamp"),
+    ] {
+        let line = Report::Give {
+            number: 12,
+            replica: 1023,
+            answer,
+        };
+        let want = format!(in alloc; "give 12 to 1023: {want}")?;
+        writes(&rt, alloc, &line, want.as_str())?;
+    }
+    Ok(())
+}
+
+#[test]
+fn faults_of_taken_operations(rt: HostRuntime) -> Result<(), Fail> {
+    let alloc = rt.alloc();
+    let stamp = Lamport {
+        value: 3,
+        replica: 2,
+    };
+    let other = Lamport {
+        value: 7,
+        replica: 1,
+    };
+    for (fault, want) in [
+        (OpFault::BadStamp, "badstamp"),
+        (OpFault::NoBase, "nobase"),
+        (OpFault::TextLimit(65_537), "textlimit 65537"),
+        (OpFault::Reversed(0), "reversed 0"),
+        (OpFault::Overlap(1), "overlap 1"),
+        (OpFault::Conflict(other), "conflict 7.1"),
+        (OpFault::Forked(2), "forked 2"),
+        (OpFault::OpenVersion(1), "openversion 1"),
+        (OpFault::PastEnd(0, 2), "pastend 0 2"),
+        (OpFault::InsideChar(3), "insidechar 3"),
+        (OpFault::NoSuchEdit(other), "nosuchedit 7.1"),
+        (
+            OpFault::Full {
+                unit: Unit::Bytes,
+                held: 3,
+                adds: 4,
+            },
+            "full bytes 3 4",
+        ),
+        (
+            OpFault::Full {
+                unit: Unit::Entries,
+                held: 5,
+                adds: 6,
+            },
+            "full entries 5 6",
+        ),
+    ] {
+        let line = Report::Refused {
+            replica: 9,
+            stamp,
+            fault,
+        };
+        let want = format!(in alloc; "refused 9: 3.2 {want}")?;
+        writes(&rt, alloc, &line, want.as_str())?;
+    }
     Ok(())
 }

@@ -3,12 +3,12 @@ ghost use Rattle.std.specs.Prelude.{◌≡◌, ◌++◌, ◌<◌, ◌==◌, reve
 ghost use Rattle.std.specs.List.{position};
 ghost use Rattle.json.specs.Print.{quoted};
 ghost use Rattle.session_lines.specs.Cut.{feeds};
-ghost use Rattle.session_lines.specs.Report.{last_column, made_line, text_line, text_line_with, end_words, counts_words, waits_words, replica_line, final_line, final_line_with, fault_words, refused_line, line_text};
+ghost use Rattle.session_lines.specs.Report.{last_column, made_line, settled_line, given_words, give_line, text_line, text_line_with, end_words, counts_words, waits_words, replica_line, final_line, final_line_with, fault_words, op_fault_words, refused_line, refused_op_line, checked_line, line_text};
 
 use crate::cutting::feeds;
-use crate::report::Report;
+use crate::report::{Given, Report};
 use lamport_clock::Lamport;
-use op_model::{EditFault, Unit};
+use op_model::{EditFault, OpFault, Unit};
 use serde_json::Value;
 use std::alloc::{AllocError, Global};
 use std::fmt::Write;
@@ -46,12 +46,67 @@ fn fault_text(alloc: Global, fault: EditFault) -> Result<String, AllocError>
     }
 }
 
+// A fault that an edit has too is told by the same words.
+fn op_fault_text(alloc: Global, fault: OpFault) -> Result<String, AllocError>
+    ensures { IfOk result (λ s. string_bytes s ≡ op_fault_words fault) }
+{
+    let shared = match fault {
+        OpFault::BadStamp => return String::from_str(alloc, "badstamp"),
+        OpFault::NoBase => return String::from_str(alloc, "nobase"),
+        OpFault::Conflict(stamp) => return format!(in alloc; "conflict {stamp}"),
+        OpFault::Forked(kept) => return format!(in alloc; "forked {kept}"),
+        OpFault::OpenVersion(r) => return format!(in alloc; "openversion {r}"),
+        OpFault::NoSuchEdit(stamp) => return format!(in alloc; "nosuchedit {stamp}"),
+        OpFault::TextLimit(total) => EditFault::TextLimit(total),
+        OpFault::Reversed(i) => EditFault::Reversed(i),
+        OpFault::Overlap(i) => EditFault::Overlap(i),
+        OpFault::PastEnd(i, len) => EditFault::PastEnd(i, len),
+        OpFault::InsideChar(i) => EditFault::InsideChar(i),
+        OpFault::Full { unit, held, adds } => EditFault::Full { unit, held, adds },
+        OpFault::OutOfMemory => EditFault::OutOfMemory,
+    };
+    fault_text(alloc, shared)
+}
+
 #[tactic(auto, unfolding(crate::specs::Report::refused_line))]
 fn push_refused(alloc: Global, out: &mut String, n: u64, fault: EditFault) -> Result<(), AllocError>
     ensures { OnOk result (string_bytes out.new ≡ string_bytes out.old ++ refused_line n fault) }
 {
     let words = fault_text(alloc, fault)?;
     write!(out, "{n}: {words}\n")
+}
+
+#[tactic(auto, unfolding(crate::specs::Report::settled_line))]
+fn push_settled(out: &mut String, r: u16, count: u64) -> Result<(), AllocError>
+    ensures { OnOk result (string_bytes out.new ≡ string_bytes out.old ++ settled_line r count) }
+{
+    write!(out, "settled {r}: {count}\n")
+}
+
+fn given_text(alloc: Global, answer: Given) -> Result<String, AllocError>
+    ensures { IfOk result (λ s. string_bytes s ≡ given_words answer) }
+{
+    match answer {
+        Given::Applied(count) => format!(in alloc; "applied {count}"),
+        Given::Waits { replica, value } => format!(in alloc; "waits {replica} {value}"),
+        Given::Repeat => String::from_str(alloc, "repeat"),
+        Given::Nothing => String::from_str(alloc, "nothing"),
+        Given::Fault(fault) => op_fault_text(alloc, fault),
+    }
+}
+
+#[tactic(auto, unfolding(crate::specs::Report::give_line))]
+fn push_give(
+    alloc: Global,
+    out: &mut String,
+    n: u64,
+    r: u16,
+    answer: Given,
+) -> Result<(), AllocError>
+    ensures { OnOk result (string_bytes out.new ≡ string_bytes out.old ++ give_line n r answer) }
+{
+    let words = given_text(alloc, answer)?;
+    write!(out, "give {n} to {r}: {words}\n")
 }
 
 #[tactic(auto, unfolding(crate::specs::Report::text_line))]
@@ -121,6 +176,36 @@ fn write_waits(out: &mut String, waiting: u64, refused: u64) -> Result<(), Alloc
     write!(out, "{waiting} waiting, {refused} refused\n")
 }
 
+#[tactic(auto, unfolding(crate::specs::Report::refused_op_line))]
+fn push_refused_op(
+    alloc: Global,
+    out: &mut String,
+    r: u16,
+    stamp: Lamport,
+    fault: OpFault,
+) -> Result<(), AllocError>
+    ensures { OnOk result (string_bytes out.new ≡ string_bytes out.old ++ refused_op_line r stamp fault) }
+{
+    let words = op_fault_text(alloc, fault)?;
+    write!(out, "refused {r}: {stamp} {words}\n")
+}
+
+#[tactic(auto, unfolding(crate::specs::Report::checked_line))]
+fn push_checked(
+    out: &mut String,
+    lines: u64,
+    replicas: u64,
+    operations: u64,
+    queries: u64,
+) -> Result<(), AllocError>
+    ensures { OnOk result (string_bytes out.new ≡ string_bytes out.old ++ checked_line lines replicas operations queries) }
+{
+    write!(
+        out,
+        "session ok: {lines} lines, {replicas} replicas, {operations} operations, {queries} queries\n"
+    )
+}
+
 #[tactic(auto, unfolding(crate::specs::Report::final_line))]
 fn push_final(alloc: Global, out: &mut String, r: u16, text: &str) -> Result<(), AllocError>
     ensures { OnOk result (string_bytes out.new ≡ string_bytes out.old ++ final_line r text.now) }
@@ -142,6 +227,12 @@ fn push_line(alloc: Global, out: &mut String, line: &Report) -> Result<(), Alloc
     match line {
         Report::Made { number, stamp } => push_made(out, *number, *stamp),
         Report::EditRefused { number, fault } => push_refused(alloc, out, *number, *fault),
+        Report::Settled { replica, count } => push_settled(out, *replica, *count),
+        Report::Give {
+            number,
+            replica,
+            answer,
+        } => push_give(alloc, out, *number, *replica, *answer),
         Report::Text { replica, text } => push_text(alloc, out, *replica, text.as_str()),
         Report::Replica {
             replica,
@@ -155,7 +246,18 @@ fn push_line(alloc: Global, out: &mut String, line: &Report) -> Result<(), Alloc
             write_waits(out, *waiting, *refused)?;
             Ok(())
         }
+        Report::Refused {
+            replica,
+            stamp,
+            fault,
+        } => push_refused_op(alloc, out, *replica, *stamp, *fault),
         Report::Final { replica, text } => push_final(alloc, out, *replica, text.as_str()),
+        Report::Checked {
+            lines,
+            replicas,
+            operations,
+            queries,
+        } => push_checked(out, *lines, *replicas, *operations, *queries),
     }
 }
 

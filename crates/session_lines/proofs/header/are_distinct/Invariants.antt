@@ -1,5 +1,5 @@
 use Rattle.std.proofs.Common.{◌≡◌, length}
-use Rattle.session_lines.specs.Heading.{are_distinct}
+use Rattle.session_lines.specs.Parts.{are_distinct}
 use Rattle.session_lines.proofs.header.are_distinct.Given as goal
 
 abbrev pub invariant-loop-rest : goal.invariant-loop-rest

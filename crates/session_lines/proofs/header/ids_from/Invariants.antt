@@ -1,6 +1,6 @@
 use Rattle.std.proofs.Common.{◌≡◌, ◌++◌, drop, map, option_map}
 use Rattle.serde_json.specs.View.{view}
-use Rattle.session_lines.specs.Forms.{all_of, id_of}
+use Rattle.session_lines.specs.Parts.{all_of, id_of}
 use Rattle.session_lines.proofs.header.ids_from.Given as goal
 
 abbrev pub invariant-loop-member : goal.invariant-loop-member

@@ -1,0 +1,277 @@
+-- Versions made of entries in any order: there are as many of them in the version exactly where no id is there twice.
+use Rattle.std.proofs.Common.{◌≡◌, ℕ, suc, ◌+◌, ◌<◌, ◌≤◌, ◌≢◌, max, List, [], ◌∷◌, ◌++◌, length, map, refl, sym, ap, ◌∙◌, subst, arith, Bool, true, false, cond, eqb, leb, ◌&&◌, ◌==◌, not, Option, None, Some, option_map, option_and_then, inl, inr, take, drop, zero}
+use Rattle.std.specs.Prelude.{⊤}
+use Rattle.std.specs.List.{list_all}
+use Rattle.std.proofs.lemmas.List.{take-append-drop}
+use Rattle.std.proofs.lemmas.Bool.{lt-ltb, le-ltb, leb-true, cases_eq, ne_eqb, eq-eqb}
+use Rattle.lamport_clock.specs.declared.stamp.Lamport.{Lamport}
+use Rattle.lamport_clock.specs.Versions.{Entries, IsVersionFrom, IsVersion, entry, put, raise, joined}
+use Rattle.lamport_clock.proofs.Raises.{by_order, by_bound, raise_seen, raise_new, entry-put_at, entry-put_off}
+use Rattle.lamport_clock.proofs.Entries.{IsVersion-put}
+use Rattle.lamport_clock.proofs.Joined.{entry-joined, IsVersion-joined}
+use Rattle.lamport_clock.proofs.Joining.{entry_below}
+use Rattle.serde_json.specs.Data.{Data}
+use Rattle.session_lines.specs.Json.{whole, listed}
+use Rattle.session_lines.specs.Parts.{all_of, id_of, clock_value, is_among, are_distinct, entry_with, entry_from, entry_of, IsEntry, AreEntries}
+
+-- ---- how many entries a version has with one more
+
+length-put_new : (n : ℕ) (v : Entries) (r x : ℕ) → IsVersionFrom n v → entry v r ≡ 0 → length (put r x v) ≡ suc (length v)
+length-put_new n [] r x h z = refl
+length-put_new n (e ∷ v) r x h z =
+    let positive = h.2 in
+    by_order _ e.0 r
+    (λ l. let ne : eqb e.0 r ≡ false = ne_eqb e.0 r (λ q. absurd (omega arith)) in
+    let rest : entry v r ≡ 0 = sym (ap (λ b. cond b e.1 (entry v r)) ne) ∙ z in
+    rw (lt-ltb e.0 r l) (ap suc (length-put_new (suc e.0) v r x h.4 rest)))
+    (λ q. let same : e.1 ≡ 0 = sym (ap (λ b. cond b e.1 (entry v r)) (eq-eqb e.0 r q)) ∙ z in absurd (omega arith))
+    (λ g. let ne : eqb e.0 r ≡ false = ne_eqb e.0 r (λ q. absurd (omega arith)) in
+    rw (le-ltb e.0 r (omega arith), ne) refl)
+
+length-put_old : (n : ℕ) (v : Entries) (r x : ℕ) → IsVersionFrom n v → 0 < entry v r → length (put r x v) ≡ length v
+length-put_old n [] r x h z = absurd (omega arith)
+length-put_old n (e ∷ v) r x h z =
+    by_order _ e.0 r
+    (λ l. let ne : eqb e.0 r ≡ false = ne_eqb e.0 r (λ q. absurd (omega arith)) in
+    let rest : 0 < entry v r = subst (λ k. 0 < k) (ap (λ b. cond b e.1 (entry v r)) ne) z in
+    rw (lt-ltb e.0 r l) (ap suc (length-put_old (suc e.0) v r x h.4 rest)))
+    (λ q. rw (le-ltb e.0 r (omega arith), eq-eqb e.0 r q) refl)
+    (λ g. let none : entry (e ∷ v) r ≡ 0 = entry_below e.0 (e ∷ v) r (omega arith, h.1, h.2, h.3, h.4) g in absurd (omega arith))
+
+length-raise_new : (u : Entries) (e : ℕ × ℕ) → IsVersion u → 0 < e.1 → entry u e.0 ≡ 0 → length (raise u (record { value = e.1; replica = e.0 })) ≡ suc (length u)
+length-raise_new u e h p z = ap length (raise_new u (record { value = e.1; replica = e.0 }) (omega arith)) ∙ length-put_new 0 u e.0 e.1 h z
+
+length-raise_old : (u : Entries) (e : ℕ × ℕ) → IsVersion u → 0 < entry u e.0 → length (raise u (record { value = e.1; replica = e.0 })) ≡ length u
+length-raise_old u e h p = by_bound _ e.1 (entry u e.0)
+    (λ l. ap length (raise_seen u (record { value = e.1; replica = e.0 }) l))
+    (λ l. ap length (raise_new u (record { value = e.1; replica = e.0 }) l) ∙ length-put_old 0 u e.0 e.1 h p)
+
+IsVersion-raise : (u : Entries) (e : ℕ × ℕ) → IsVersion u → IsEntry e → IsVersion (raise u (record { value = e.1; replica = e.0 }))
+IsVersion-raise u e h v = by_bound _ e.1 (entry u e.0)
+    (λ l. subst IsVersion (sym (raise_seen u (record { value = e.1; replica = e.0 }) l)) h)
+    (λ l. subst IsVersion (sym (raise_new u (record { value = e.1; replica = e.0 }) l)) (IsVersion-put u e.0 e.1 v.0 v.1 v.2 h))
+
+-- ---- and with several more
+
+-- none of the entries is of an id that the version, or an entry before it, has
+abbrev all_new : Entries → Entries → Bool
+all_new u [] = true
+all_new u (e ∷ es) = (entry u e.0 == 0) && all_new (raise u (record { value = e.1; replica = e.0 })) es
+
+at_most_more : (u es : Entries) → IsVersion u → AreEntries es → length (joined u es) ≤ length u + length es
+at_most_more u [] h v = omega arith
+at_most_more u (e ∷ es) h v =
+    let ih = at_most_more (raise u (record { value = e.1; replica = e.0 })) es (IsVersion-raise u e h v.0) v.1 in
+    let positive = v.0.1 in
+    by_bound _ (entry u e.0) 0
+    (λ z. let k = length-raise_new u e h positive (omega arith) in omega arith)
+    (λ p. let k = length-raise_old u e h p in omega arith)
+
+as_many : (u es : Entries) → IsVersion u → AreEntries es → (length (joined u es) == length u + length es) ≡ all_new u es
+as_many u [] h v = eq-eqb (length u) (length u + 0) (omega arith)
+as_many u (e ∷ es) h v =
+    let w : Entries = raise u (record { value = e.1; replica = e.0 }) in
+    let more = IsVersion-raise u e h v.0 in
+    let positive = v.0.1 in
+    by_bound _ (entry u e.0) 0
+    (λ z. let k = length-raise_new u e h positive (omega arith) in
+    let same : length w + length es ≡ length u + suc (length es) = omega arith in
+    ap (λ n. length (joined w es) == n) (sym same) ∙ as_many w es more v.1 ∙ sym (ap (λ b. b && all_new w es) (eq-eqb (entry u e.0) 0 (omega arith))))
+    (λ p. let k = length-raise_old u e h p in
+    let b = at_most_more w es more v.1 in
+    ne_eqb (length (joined w es)) (length u + suc (length es)) (λ q. absurd (omega arith)) ∙ sym (ap (λ b. b && all_new w es) (ne_eqb (entry u e.0) 0 (λ q. absurd (omega arith)))))
+
+-- ---- ids that are new
+
+abbrev are_absent : Entries → List ℕ → Bool
+are_absent u rs = list_all (λ r. entry u r == 0) rs
+
+flip : (a b c : Bool) → (a && (b && c)) ≡ (b && (a && c))
+flip true b c = refl
+flip false true c = refl
+flip false false c = refl
+
+-- what a version has not with one entry more
+absent-raise : (u : Entries) (e : ℕ × ℕ) (rs : List ℕ) → 0 < e.1 → entry u e.0 ≡ 0
+    → are_absent (raise u (record { value = e.1; replica = e.0 })) rs ≡ (not (is_among rs e.0) && are_absent u rs)
+absent-raise u e [] p z = refl
+absent-raise u e (r ∷ rs) p z =
+    let t : Lamport = record { value = e.1; replica = e.0 } in
+    let put_there : raise u t ≡ put e.0 e.1 u = raise_new u t (omega arith) in
+    let ih = absent-raise u e rs p z in
+    elim (cases_eq r e.0) [
+      | inl q ↦
+          let has : entry (raise u t) r ≡ e.1 = ap (λ w. entry w r) put_there ∙ ap (entry (put e.0 e.1 u)) q ∙ entry-put_at u e.0 e.1 in
+          rw (ne_eqb (entry (raise u t) r) 0 (λ k. absurd (omega arith)), eq-eqb r e.0 q) refl
+      | inr n ↦
+          let off : entry (raise u t) r ≡ entry u r = ap (λ w. entry w r) put_there ∙ entry-put_off u e.0 e.1 r n in
+          rw (ne_eqb r e.0 n, off, ih) (flip (entry u r == 0) (not (is_among rs e.0)) (are_absent u rs))
+    ]
+
+never : (b : Bool) → (b && false) ≡ false
+never true = refl
+never false = refl
+
+turn : (n d a : Bool) → (d && (n && a)) ≡ ((n && d) && a)
+turn true d a = refl
+turn false true a = refl
+turn false false a = refl
+
+all_new-distinct : (u es : Entries) → AreEntries es → all_new u es ≡ (are_distinct (map (λ e. e.0) es) && are_absent u (map (λ e. e.0) es))
+all_new-distinct u [] v = refl
+all_new-distinct u (e ∷ es) v =
+    let w : Entries = raise u (record { value = e.1; replica = e.0 }) in
+    let rs : List ℕ = map (λ e. e.0) es in
+    let positive = v.0.1 in
+    by_bound _ (entry u e.0) 0
+    (λ z. let ih = all_new-distinct w es v.1 in
+    let yes = eq-eqb (entry u e.0) 0 (omega arith) in
+    let back = absent-raise u e rs positive (omega arith) in
+    rw yes (ih ∙ ap (λ b. are_distinct rs && b) back ∙ turn (not (is_among rs e.0)) (are_distinct rs) (are_absent u rs)))
+    (λ p. let no = ne_eqb (entry u e.0) 0 (λ q. absurd (omega arith)) in
+    rw no (sym (never (not (is_among rs e.0) && are_distinct rs))))
+
+all_absent : (rs : List ℕ) → are_absent [] rs ≡ true
+all_absent [] = refl
+all_absent (r ∷ rs) = all_absent rs
+
+alone : (b : Bool) → (b && true) ≡ b
+alone true = refl
+alone false = refl
+
+-- as many entries as were taken
+pub counted : (es : Entries) → AreEntries es → (length (joined [] es) == length es) ≡ are_distinct (map (λ e. e.0) es)
+counted es v =
+    let none : length es ≡ 0 + length es = omega arith in
+    ap (λ n. length (joined [] es) == n) none ∙ as_many [] es tt v ∙ all_new-distinct [] es v ∙ ap (λ b. are_distinct (map (λ e. e.0) es) && b) (all_absent (map (λ e. e.0) es)) ∙ alone (are_distinct (map (λ e. e.0) es))
+
+-- ---- entries taken in two halves
+
+-- versions with the same values are the same
+same_values : (n : ℕ) (u v : Entries) → IsVersionFrom n u → IsVersionFrom n v → ((r : ℕ) → entry u r ≡ entry v r) → u ≡ v
+same_values n [] [] a b f = refl
+same_values n [] (e ∷ v) a b f =
+    let at : entry (e ∷ v) e.0 ≡ e.1 = ap (λ c. cond c e.1 (entry v e.0)) (eq-eqb e.0 e.0 refl) in
+    let k = f e.0 in let p = b.2 in absurd (omega arith)
+same_values n (d ∷ u) [] a b f =
+    let at : entry (d ∷ u) d.0 ≡ d.1 = ap (λ c. cond c d.1 (entry u d.0)) (eq-eqb d.0 d.0 refl) in
+    let k = f d.0 in let p = a.2 in absurd (omega arith)
+same_values n (d ∷ u) (e ∷ v) a b f =
+    let at_d : entry (d ∷ u) d.0 ≡ d.1 = ap (λ c. cond c d.1 (entry u d.0)) (eq-eqb d.0 d.0 refl) in
+    let at_e : entry (e ∷ v) e.0 ≡ e.1 = ap (λ c. cond c e.1 (entry v e.0)) (eq-eqb e.0 e.0 refl) in
+    let p = a.2 in
+    let q = b.2 in
+    by_order _ d.0 e.0
+    (λ l. let none = entry_below e.0 (e ∷ v) d.0 (omega arith, b.1, b.2, b.3, b.4) l in let k = f d.0 in absurd (omega arith))
+    (λ same. let at_both : entry (e ∷ v) d.0 ≡ e.1 = ap (entry (e ∷ v)) same ∙ at_e in
+    let first : d ≡ e = (let k = f d.0 in ap (λ x. (x, d.1)) same ∙ ap (λ y. (e.0, y)) (omega arith)) in
+    let rest : u ≡ v = same_values (suc d.0) u v a.4 (subst (λ k. IsVersionFrom (suc k) v) (sym same) b.4) (λ r. by_bound _ r d.0
+    (λ low. entry_below (suc d.0) u r a.4 (omega arith) ∙ sym (entry_below (suc e.0) v r b.4 (omega arith)))
+    (λ high. sym (ap (λ c. cond c d.1 (entry u r)) (ne_eqb d.0 r (λ x. absurd (omega arith)))) ∙ f r ∙ ap (λ c. cond c e.1 (entry v r)) (ne_eqb e.0 r (λ x. absurd (omega arith))))) in
+    ap (λ x. x ∷ u) first ∙ ap (λ w. e ∷ w) rest)
+    (λ g. let none = entry_below d.0 (d ∷ u) e.0 (omega arith, a.1, a.2, a.3, a.4) g in let k = f e.0 in absurd (omega arith))
+
+value-raise_at : (u : Entries) (e : ℕ × ℕ) → entry (raise u (record { value = e.1; replica = e.0 })) e.0 ≡ max (entry u e.0) e.1
+value-raise_at u e = by_bound _ e.1 (entry u e.0)
+    (λ l. ap (λ w. entry w e.0) (raise_seen u (record { value = e.1; replica = e.0 }) l) ∙ omega arith)
+    (λ l. ap (λ w. entry w e.0) (raise_new u (record { value = e.1; replica = e.0 }) l) ∙ entry-put_at u e.0 e.1 ∙ omega arith)
+
+value-raise_off : (u : Entries) (e : ℕ × ℕ) (r : ℕ) → r ≢ e.0 → entry (raise u (record { value = e.1; replica = e.0 })) r ≡ entry u r
+value-raise_off u e r n = by_bound _ e.1 (entry u e.0)
+    (λ l. ap (λ w. entry w r) (raise_seen u (record { value = e.1; replica = e.0 }) l))
+    (λ l. ap (λ w. entry w r) (raise_new u (record { value = e.1; replica = e.0 }) l) ∙ entry-put_off u e.0 e.1 r n)
+
+joined-raise : (u v : Entries) (e : ℕ × ℕ) → IsVersion u → IsVersion v → IsEntry e
+    → joined u (raise v (record { value = e.1; replica = e.0 })) ≡ raise (joined u v) (record { value = e.1; replica = e.0 })
+joined-raise u v e a b i =
+    let w : Entries = raise v (record { value = e.1; replica = e.0 }) in
+    let raised = IsVersion-raise v e b i in
+    let both = IsVersion-joined 0 u v a b in
+    same_values 0 (joined u w) (raise (joined u v) (record { value = e.1; replica = e.0 })) (IsVersion-joined 0 u w a raised) (IsVersion-raise (joined u v) e both i) (λ r.
+    let left = entry-joined 0 u w r raised in
+    let right = entry-joined 0 u v r b in
+    elim (cases_eq r e.0) [
+      | inl q ↦ subst (λ k. entry (joined u w) k ≡ entry (raise (joined u v) (record { value = e.1; replica = e.0 })) k) (sym q)
+          (let x = value-raise_at v e in let y = value-raise_at (joined u v) e in
+          let l = entry-joined 0 u w e.0 raised in let m = entry-joined 0 u v e.0 b in omega arith)
+      | inr n ↦ let x = value-raise_off v e r n in let y = value-raise_off (joined u v) e r n in omega arith
+    ])
+
+-- a join with all that was taken takes it one by one
+joined-joined : (u v es : Entries) → IsVersion u → IsVersion v → AreEntries es → joined u (joined v es) ≡ joined (joined u v) es
+joined-joined u v [] a b i = refl
+joined-joined u v (e ∷ es) a b i =
+    joined-joined u (raise v (record { value = e.1; replica = e.0 })) es a (IsVersion-raise v e b i.0) i.1 ∙ ap (λ w. joined w es) (joined-raise u v e a b i.0)
+
+joined-append : (u xs ys : Entries) → joined u (xs ++ ys) ≡ joined (joined u xs) ys
+joined-append u [] ys = refl
+joined-append u (x ∷ xs) ys = joined-append (raise u (record { value = x.1; replica = x.0 })) xs ys
+
+IsVersion-taken : (u es : Entries) → IsVersion u → AreEntries es → IsVersion (joined u es)
+IsVersion-taken u [] a i = a
+IsVersion-taken u (e ∷ es) a i = IsVersion-taken (raise u (record { value = e.1; replica = e.0 })) es (IsVersion-raise u e a i.0) i.1
+
+entries_take : (k : ℕ) (es : Entries) → AreEntries es → AreEntries (take k es) × AreEntries (drop k es)
+entries_take zero es i = (tt, i)
+entries_take (suc k) [] i = (tt, tt)
+entries_take (suc k) (e ∷ es) i = let p = entries_take k es i.1 in ((i.0, p.0), p.1)
+
+pub entries_front : (k : ℕ) (es front : Entries) → AreEntries es → front ≡ take k es → AreEntries front
+entries_front k es front i e = subst AreEntries (sym e) (entries_take k es i).0
+
+pub entries_back : (k : ℕ) (es back : Entries) → AreEntries es → back ≡ drop k es → AreEntries back
+entries_back k es back i e = subst AreEntries (sym e) (entries_take k es i).1
+
+taken_twice : (k : ℕ) (es : Entries) → AreEntries es → joined (joined [] (take k es)) (joined [] (drop k es)) ≡ joined [] es
+taken_twice k es i =
+    let p = entries_take k es i in
+    let first = IsVersion-taken [] (take k es) tt p.0 in
+    joined-joined (joined [] (take k es)) [] (drop k es) first tt p.1 ∙ sym (joined-append [] (take k es) (drop k es)) ∙ ap (joined []) (take-append-drop k es)
+
+pub halves : (k : ℕ) (es front back : Entries) → AreEntries es → front ≡ take k es → back ≡ drop k es → joined (joined [] front) (joined [] back) ≡ joined [] es
+halves k es front back i f b = ap (λ x. joined (joined [] x) (joined [] back)) f ∙ ap (λ y. joined (joined [] (take k es)) (joined [] y)) b ∙ taken_twice k es i
+
+-- ---- what stands in a line
+
+abbrev Below : ℕ → Option ℕ → Type 0
+Below m None = ⊤
+Below m (Some n) = n ≤ m
+
+below : (m : ℕ) (o : Option ℕ) → Below m (option_and_then (λ n. cond (leb n m) (Some n) None) o)
+below m None = tt
+below m (Some n) = elim (leb n m) as (λ b. leb n m ≡ b → Below m (cond b (Some n) None)) [ true ↦ λ e. leb-true n m e | false ↦ λ e. tt ] refl
+
+abbrev EntryOf : Option (ℕ × ℕ) → Type 0
+EntryOf None = ⊤
+EntryOf (Some e) = IsEntry e
+
+with_both : (r v : Option ℕ) → Below 65535 r → Below 4294967295 v → EntryOf (entry_with r v)
+with_both None v a b = tt
+with_both (Some id) None a b = tt
+with_both (Some id) (Some x) a b = elim (leb 1 x) as (λ c. leb 1 x ≡ c → EntryOf (cond c (Some (id, x)) None)) [ true ↦ λ e. (let k = leb-true 1 x e in (omega arith, omega arith, omega arith)) | false ↦ λ e. tt ] refl
+
+from_members : (ds : List Data) → EntryOf (entry_from ds)
+from_members [] = tt
+from_members (r ∷ []) = tt
+from_members (r ∷ v ∷ []) = with_both (id_of r) (clock_value v) (below 65535 (whole r)) (below 4294967295 (whole v))
+from_members (r ∷ v ∷ d ∷ ds) = tt
+
+from_list : (o : Option (List Data)) → EntryOf (option_and_then entry_from o)
+from_list None = tt
+from_list (Some ds) = from_members ds
+
+abbrev EntriesOf : Option Entries → Type 0
+EntriesOf None = ⊤
+EntriesOf (Some es) = AreEntries es
+
+one_more : (o : Option (ℕ × ℕ)) (p : Option Entries) → EntryOf o → EntriesOf p → EntriesOf (option_and_then (λ x. option_map (λ xs. x ∷ xs) p) o)
+one_more None p a b = tt
+one_more (Some e) None a b = tt
+one_more (Some e) (Some es) a b = (a, b)
+
+all_entries : (ds : List Data) → EntriesOf (all_of entry_of ds)
+all_entries [] = tt
+all_entries (d ∷ ds) = one_more (entry_of d) (all_of entry_of ds) (from_list (listed d)) (all_entries ds)
+
+pub entries_of : (ds : List Data) (es : Entries) → Some es ≡ all_of entry_of ds → AreEntries es
+entries_of ds es e = subst EntriesOf (sym e) (all_entries ds)

@@ -1,0 +1,99 @@
+-- The parts of a line.
+use Rattle.std.specs.Prelude.{ℕ, ◌<◌, List, [], ◌∷◌, map, ◌&&◌, ◌==◌, not, nat_le, Bool, true, Option, Some, None, option_map, option_and_then, if◌then◌else◌}
+use Rattle.std.specs.List.{list_any}
+use Rattle.serde_json.specs.Data.{Data}
+use Rattle.serde_json.specs.Find.{as_str}
+use Rattle.lamport_clock.specs.Versions.{Entries, joined}
+use Rattle.lamport_clock.specs.declared.stamp.Lamport.{Lamport}
+use Rattle.op_model.specs.declared.operation.Piece.{Piece}
+use Rattle.session_lines.specs.Json.{whole, listed}
+
+-- what each member is, where each is something
+abbrev pub all_of : {A : Type 0} → (Data → Option A) → List Data → Option (List A)
+all_of f [] = Some []
+all_of f (d ∷ ds) = option_and_then (λ x. option_map (λ xs. x ∷ xs) (all_of f ds)) (f d)
+
+-- ---- numbers
+
+abbrev pub at_most : ℕ → Data → Option ℕ
+at_most m d = option_and_then (λ n. if nat_le n m then Some n else None) (whole d)
+
+-- the id of a replica, of a header or not
+abbrev pub id_of : Data → Option ℕ
+id_of d = at_most 65535 d
+
+-- the value of a stamp or of a version
+abbrev pub clock_value : Data → Option ℕ
+clock_value d = at_most 4294967295 d
+
+-- ---- lists of ids
+
+-- r is one of the ids
+abbrev pub is_among : List ℕ → ℕ → Bool
+is_among ids r = list_any (λ x. x == r) ids
+
+abbrev pub are_distinct : List ℕ → Bool
+are_distinct [] = true
+are_distinct (r ∷ rs) = not (is_among rs r) && are_distinct rs
+
+-- ---- stamps
+
+abbrev pub stamp_with : Option ℕ → Option ℕ → Option Lamport
+stamp_with v r = option_and_then (λ x. option_map (λ id. record { value = x; replica = id }) r) v
+
+-- [value, replica]
+abbrev pub stamp_from : List Data → Option Lamport
+stamp_from (v ∷ r ∷ []) = stamp_with (clock_value v) (id_of r)
+stamp_from _ = None
+
+abbrev pub stamp_of : Data → Option Lamport
+stamp_of d = option_and_then stamp_from (listed d)
+
+-- ---- versions
+
+-- a value of 0 makes no entry
+abbrev pub entry_with : Option ℕ → Option ℕ → Option (ℕ × ℕ)
+entry_with r v = option_and_then (λ id. option_and_then (λ x. if nat_le 1 x then Some (id, x) else None) v) r
+
+-- [r, v]
+abbrev pub entry_from : List Data → Option (ℕ × ℕ)
+entry_from (r ∷ v ∷ []) = entry_with (id_of r) (clock_value v)
+entry_from _ = None
+
+abbrev pub entry_of : Data → Option (ℕ × ℕ)
+entry_of d = option_and_then entry_from (listed d)
+
+-- for a private clause
+abbrev pub IsEntry : ℕ × ℕ → Type 0
+IsEntry e = (e.0 < 65536) × (0 < e.1) × (e.1 < 4294967296)
+
+abbrev pub AreEntries : Entries → Type 0
+AreEntries [] = Unit {0}
+AreEntries (e ∷ es) = IsEntry e × AreEntries es
+
+-- the version that has these entries, in whatever order they stand, where no id is there twice
+abbrev pub version_with : Entries → Option Entries
+version_with es = if are_distinct (map (λ e. e.0) es) then Some (joined [] es) else None
+
+-- [[r, v], ..]
+abbrev pub version_from : List Data → Option Entries
+version_from ds = option_and_then version_with (all_of entry_of ds)
+
+abbrev pub version_of : Data → Option Entries
+version_of d = option_and_then version_from (listed d)
+
+-- ---- pieces
+
+abbrev pub piece_with : Option ℕ → Option ℕ → Option (List ℕ) → Option Piece
+piece_with s e t = option_and_then (λ a. option_and_then (λ b. option_map (λ x. record { start = a; end = b; text = x }) t) e) s
+
+-- [s, e, "t"]
+abbrev pub piece_from : List Data → Option Piece
+piece_from (s ∷ e ∷ t ∷ []) = piece_with (whole s) (whole e) (as_str t)
+piece_from _ = None
+
+abbrev pub piece_of : Data → Option Piece
+piece_of d = option_and_then piece_from (listed d)
+
+abbrev pub pieces_of : Data → Option (List Piece)
+pieces_of d = option_and_then (all_of piece_of) (listed d)

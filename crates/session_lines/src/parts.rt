@@ -1,0 +1,218 @@
+// The parts of a line.
+ghost use Rattle.std.specs.Prelude.{◌≡◌, ◌<◌, ◌≤◌, [], length, map, option_map, IfOk, None, Some};
+ghost use Rattle.lamport_clock.specs.Versions.{joined};
+ghost use Rattle.serde_json.specs.View.{view};
+ghost use Rattle.session_lines.specs.Json.{listed};
+ghost use Rattle.session_lines.specs.Parts.{AreEntries, all_of, clock_value, entry_from, entry_of, id_of, piece_from, piece_of, pieces_of, stamp_from, stamp_of, version_from, version_of, version_with};
+
+use crate::line_value::listed;
+use lamport_clock::{Lamport, Version};
+use op_model::{Piece, Pieces, Text};
+use serde_json::Value;
+use std::alloc::{AllocError, Global};
+
+/// The id of a replica, of the header or not.
+pub fn id_of(value: &Value) -> Option<u16>
+    ensures { result ≡ id_of (view value.now) }
+{
+    match value.as_u64() {
+        Some(id) => { if id <= 65_535 { Some(id as u16) } else { None } }
+        None => None,
+    }
+}
+
+/// The value of a stamp or of a version.
+fn clock_value(value: &Value) -> Option<u32>
+    ensures { result ≡ clock_value (view value.now) }
+{
+    match value.as_u64() {
+        Some(n) => {
+            if n <= 4_294_967_295 {
+                Some(n as u32)
+            } else {
+                None
+            }
+        }
+        None => None,
+    }
+}
+
+fn stamp_from(members: &[Value]) -> Option<Lamport>
+    ensures { result ≡ stamp_from (map view members.now) }
+{
+    let [value, replica] = members else {
+        return None;
+    };
+    match (clock_value(value), id_of(replica)) {
+        (Some(value), Some(replica)) => Some(Lamport { value, replica }),
+        _ => None,
+    }
+}
+
+pub fn stamp_of(value: &Value) -> Option<Lamport>
+    ensures { result ≡ stamp_of (view value.now) }
+{
+    match listed(value) {
+        Some(members) => stamp_from(members),
+        None => None,
+    }
+}
+
+fn entry_from(members: &[Value]) -> Option<(u16, u32)>
+    ensures { result ≡ entry_from (map view members.now) }
+{
+    let [replica, value] = members else {
+        return None;
+    };
+    match (id_of(replica), clock_value(value)) {
+        (Some(replica), Some(value)) => {
+            if 1 <= value {
+                Some((replica, value))
+            } else {
+                None
+            }
+        }
+        _ => None,
+    }
+}
+
+fn entry_of(value: &Value) -> Option<(u16, u32)>
+    ensures { result ≡ entry_of (view value.now) }
+{
+    match listed(value) {
+        Some(members) => entry_from(members),
+        None => None,
+    }
+}
+
+fn piece_from(alloc: Global, members: &[Value]) -> Result<Option<Piece>, AllocError>
+    ensures { IfOk result (λ p. p ≡ piece_from (map view members.now)) }
+{
+    let [start, end, text] = members else {
+        return Ok(None);
+    };
+    match (start.as_u64(), end.as_u64(), text.as_str()) {
+        (Some(start), Some(end), Some(text)) => Ok(Some(Piece {
+            start,
+            end,
+            text: Text::new(String::from_str(alloc, text)?),
+        })),
+        _ => Ok(None),
+    }
+}
+
+fn piece_of(alloc: Global, value: &Value) -> Result<Option<Piece>, AllocError>
+    ensures { IfOk result (λ p. p ≡ piece_of (view value.now)) }
+{
+    match listed(value) {
+        Some(members) => piece_from(alloc, members),
+        None => Ok(None),
+    }
+}
+
+fn pieces_from(alloc: Global, members: &[Value]) -> Result<Option<Pieces>, AllocError>
+    ensures { IfOk result (λ p. p ≡ all_of piece_of (map view members.now)) }
+{
+    let mut pieces = Vec::new(alloc);
+    for member in members {
+        match piece_of(alloc, member)? {
+            Some(piece) => pieces.push(piece)?,
+            None => return Ok(None),
+        }
+    }
+    Ok(Some(Pieces::new(pieces)))
+}
+
+pub fn pieces_of(alloc: Global, value: &Value) -> Result<Option<Pieces>, AllocError>
+    ensures { IfOk result (λ p. p ≡ pieces_of (view value.now)) }
+{
+    match listed(value) {
+        Some(members) => pieces_from(alloc, members),
+        None => Ok(None),
+    }
+}
+
+fn entries_from(alloc: Global, members: &[Value]) -> Result<Option<Vec<(u16, u32)>>, AllocError>
+    ensures { IfOk result (λ o. option_map (λ v. v.items) o ≡ all_of entry_of (map view members.now)) }
+{
+    let mut entries = Vec::new(alloc);
+    for member in members {
+        match entry_of(member) {
+            Some(entry) => entries.push(entry)?,
+            None => return Ok(None),
+        }
+    }
+    Ok(Some(entries))
+}
+
+// The version that has seen each of the entries, taken one after another.
+fn observed(alloc: Global, entries: &[(u16, u32)]) -> Result<Version, AllocError>
+    ensures { IfOk result (λ v. v ≡ joined [] entries.now) }
+{
+    let mut version = Version::new(alloc);
+    for &(replica, value) in entries {
+        version.observe(Lamport { value, replica })?;
+    }
+    Ok(version)
+}
+
+#[tactic(auto, using(crate::proofs::Versions::halves, crate::proofs::Versions::entries_front, crate::proofs::Versions::entries_back))]
+fn halved(entries: &[(u16, u32)]) -> (&[(u16, u32)], &[(u16, u32)])
+    requires entries { AreEntries entries.now }
+    requires several { 2 ≤ length entries.now }
+    ensures front { AreEntries result.0.now }
+    ensures back { AreEntries result.1.now }
+    ensures shorter { (length result.0.now < length entries.now) × (length result.1.now < length entries.now) }
+    ensures whole { joined (joined [] result.0.now) (joined [] result.1.now) ≡ joined [] entries.now }
+{
+    entries.split_at(entries.len() / 2)
+}
+
+// The version that has seen each of the entries. Many are taken in halves, so that each is moved few times.
+fn joined(alloc: Global, entries: &[(u16, u32)]) -> Result<Version, AllocError>
+    requires { AreEntries entries.now }
+    ensures { IfOk result (λ v. v ≡ joined [] entries.now) }
+{
+    if entries.len() <= 16 {
+        return observed(alloc, entries);
+    }
+    let (front, back) = halved(entries);
+    let mut version = joined(alloc, front)?;
+    let other = joined(alloc, back)?;
+    version.join(&other)?;
+    Ok(version)
+}
+
+#[tactic(auto, using(crate::proofs::Versions::counted))]
+fn version_with(alloc: Global, entries: &[(u16, u32)]) -> Result<Option<Version>, AllocError>
+    requires { AreEntries entries.now }
+    ensures { IfOk result (λ v. v ≡ version_with entries.now) }
+{
+    let version = joined(alloc, entries)?;
+    // as many entries as the list has, where no id is there twice
+    if version.len() == entries.len() as u64 {
+        Ok(Some(version))
+    } else {
+        Ok(None)
+    }
+}
+
+#[tactic(auto, using(crate::proofs::Versions::entries_of))]
+fn version_from(alloc: Global, members: &[Value]) -> Result<Option<Version>, AllocError>
+    ensures { IfOk result (λ v. v ≡ version_from (map view members.now)) }
+{
+    match entries_from(alloc, members)? {
+        Some(entries) => version_with(alloc, entries.as_slice()),
+        None => Ok(None),
+    }
+}
+
+/// The version that the value is: ids of replicas, each once, with values of at least 1, in any order.
+pub fn version_of(alloc: Global, value: &Value) -> Result<Option<Version>, AllocError>
+    ensures { IfOk result (λ v. v ≡ version_of (view value.now)) }
+{
+    match listed(value) {
+        Some(members) => version_from(alloc, members),
+        None => Ok(None),
+    }
+}
