@@ -1,11 +1,9 @@
 -- The buffer of a replica among those of a session, by its place.
-use Rattle.std.proofs.Common.{◌≡◌, ℕ, suc, ◌+◌, ◌<◌, ◌≤◌, Bool, true, false, not, cond, ◌==◌, nat_lt, List, [], ◌∷◌, length, get_or, set, Option, None, Some, refl, sym, ap, subst, arith, length-append}
+use Rattle.std.proofs.Common.{◌≡◌, ℕ, suc, ◌+◌, ◌<◌, ◌≤◌, Bool, true, false, not, cond, ◌==◌, nat_lt, List, [], ◌∷◌, length, get_or, set, None, Some, refl, sym, ap, subst, arith}
 use Rattle.std.specs.List.{position, position_or_len}
 use Rattle.std.proofs.lemmas.Bool.{ltb-true, ltb-false}
-use Rattle.op_model.specs.declared.operation.Piece.{Piece}
-use Rattle.op_model.specs.declared.faults.EditFault.{EditFault}
-use Rattle.text_buffer.specs.Buffer.{BufferState, edit_fault, made}
-use Rattle.session_replay.specs.Work.{buffer_of, with_buffer, after_edit, after_edit_by}
+use Rattle.text_buffer.specs.Buffer.{BufferState}
+use Rattle.session_replay.specs.Work.{buffer_of, with_buffer}
 
 -- ---- the first of a list that passes a test
 
@@ -57,12 +55,3 @@ module _ (r : ℕ) (f : BufferState → BufferState) where
 
   pub not_found : (bs : List BufferState) → None ≡ position is_own bs → (buffer_of r bs ≡ None) × (with_buffer r f bs ≡ bs)
   not_found bs e = at_no_place bs (ltb-false (place bs) (length bs) (at_none (nat_lt (place bs) (length bs)) (place bs) e))
-
--- ---- how many operations there are
-
-edited_length : (o : Option EditFault) (ps : List Piece) (b : BufferState) → length (after_edit_by o ps b).history ≤ length b.history + 1
-edited_length None ps b = omega (arith, length-append b.history (made b ps ∷ []))
-edited_length (Some e) ps b = omega arith
-
-pub after_edit_length : (ps : List Piece) (b : BufferState) → length (after_edit ps b).history ≤ length b.history + 1
-after_edit_length ps b = edited_length (edit_fault b ps) ps b

@@ -10,20 +10,22 @@ use Rattle.session_lines.specs.Forms.{shaped}
 use Rattle.session_lines.specs.Heading.{headed}
 use Rattle.session_lines.specs.Session.{decoded, header_of, line_of}
 use Rattle.session_lines.specs.Words.{bad_line}
-use Rattle.session_lines.specs.Report.{report_text, line_text, made_line, refused_line, text_line, replica_line, final_line}
+use Rattle.session_lines.specs.Report.{report_text, line_text, made_line, refused_line, settled_line, give_line, text_line, replica_line, refused_op_line, final_line, checked_line}
 use Rattle.session_replay.specs.Words.{command_from}
 use Rattle.session_replay.specs.Work.{report_of}
 use Rattle.session_replay.specs.Replay.{answer_of}
-use Rattle.session_replay.specs.declared.words.Command.TheVariants.{Replay}
+use Rattle.session_replay.specs.declared.words.Command.TheVariants.{Check, Replay}
 use Rattle.session_replay.specs.declared.top.Status.TheVariants as status
 use Rattle.lamport_clock.specs.Stamps.{later, same_stamp}
 use Rattle.op_model.specs.Cells.{same_cell, sibling_first, seq_where, seq}
-use Rattle.op_model.specs.Shown.{deleters_where, shown_where, shown, text_where, text}
+use Rattle.op_model.specs.Shown.{deleters_where, full, full_where, shown_where, shown, text_where, text}
 use Rattle.op_model.specs.Made.{made as made_at}
+use Rattle.op_model.specs.Answers.{answer}
+use Rattle.op_model.specs.Settled.{pass, passes, settled}
 
 -- what histories compute
 unfoldable open_histories : ℕ
-unfolding later same_stamp same_cell sibling_first seq_where seq deleters_where shown_where shown text_where text made_at
+unfolding later same_stamp same_cell sibling_first seq_where seq deleters_where shown_where shown text_where text full_where full made_at answer pass passes settled
 open_histories = 0
 
 -- ---- words
@@ -31,46 +33,68 @@ open_histories = 0
 pub replay_words : command_from (codes "replay" ∷ []) ≡ Some (Replay 2)
 replay_words = refl
 
+pub check_words : command_from (codes "check" ∷ []) ≡ Some Check
+check_words = refl
+
 pub other_words : command_from (codes "replay" ∷ codes "--workers" ∷ []) ≡ None
 other_words = refl
 
 -- ---- sessions and their reports
 
-pub one_edit : answer_of (codes "[\"zedbuf\",1,\"ab\",[1]]\n[\"edit\",1,[[1,1,\"X\"]]]\n[\"text\",1]\n")
+pub one_edit : answer_of (Replay 2) (codes "[\"zedbuf\",1,\"ab\",[1]]\n[\"edit\",1,[[1,1,\"X\"]]]\n[\"text\",1]\n")
     ≡ (status.Done, codes "1: 2.1\ntext 1: 3 bytes, end 0:3, 1 rows, \"aXb\"\nreplica 1: 3 bytes, 1 rows, 1 applied, 0 waiting, 0 refused\nfinal 1: \"aXb\"\n")
 unfolding answer_of open_histories report_of report_text decoded value_of shaped headed header_of line_of line_text made_line refused_line text_line replica_line final_line digits escape_byte is_utf8 chars serde_json_on_literals
 one_edit = refl
 
-pub no_line_but_the_header : answer_of (codes "[\"zedbuf\",1,\"ab\",[1,2]]\n")
+pub no_line_but_the_header : answer_of (Replay 2) (codes "[\"zedbuf\",1,\"ab\",[1,2]]\n")
     ≡ (status.Done, codes "replica 1: 2 bytes, 1 rows, 0 applied, 0 waiting, 0 refused\nfinal 1: \"ab\"\nreplica 2: 2 bytes, 1 rows, 0 applied, 0 waiting, 0 refused\nfinal 2: \"ab\"\n")
 unfolding answer_of open_histories report_of report_text decoded value_of shaped headed header_of line_of line_text made_line refused_line text_line replica_line final_line digits escape_byte is_utf8 chars serde_json_on_literals
 no_line_but_the_header = refl
 
-pub two_replicas : answer_of (codes "[\"zedbuf\",1,\"\",[2,1]]\n[\"edit\",1,[[0,0,\"X\"]]]\n[\"edit\",2,[[1,1,\"Y\"]]]\n[\"edit\",2,[[0,0,\"Z\"]]]\n[\"text\",1]\n")
+pub two_replicas : answer_of (Replay 2) (codes "[\"zedbuf\",1,\"\",[2,1]]\n[\"edit\",1,[[0,0,\"X\"]]]\n[\"edit\",2,[[1,1,\"Y\"]]]\n[\"edit\",2,[[0,0,\"Z\"]]]\n[\"text\",1]\n")
     ≡ (status.Done, codes "1: 2.1\n2: pastend 0 0\n3: 2.2\ntext 1: 1 bytes, end 0:1, 1 rows, \"X\"\nreplica 2: 1 bytes, 1 rows, 1 applied, 0 waiting, 0 refused\nfinal 2: \"Z\"\nreplica 1: 1 bytes, 1 rows, 1 applied, 0 waiting, 0 refused\nfinal 1: \"X\"\n")
 unfolding answer_of open_histories report_of report_text decoded value_of shaped headed header_of line_of line_text made_line refused_line text_line replica_line final_line digits escape_byte is_utf8 chars serde_json_on_literals
 two_replicas = refl
 
-pub refused_edits : answer_of (codes "[\"zedbuf\",1,\"ab\",[9]]\n[\"edit\",9,[[2,1,\"\"]]]\n[\"edit\",9,[[0,2,\"\"],[1,1,\"x\"]]]\n[\"edit\",9,[]]\n")
+pub refused_edits : answer_of (Replay 2) (codes "[\"zedbuf\",1,\"ab\",[9]]\n[\"edit\",9,[[2,1,\"\"]]]\n[\"edit\",9,[[0,2,\"\"],[1,1,\"x\"]]]\n[\"edit\",9,[]]\n")
     ≡ (status.Done, codes "1: reversed 0\n2: overlap 1\n3: 2.9\nreplica 9: 2 bytes, 1 rows, 1 applied, 0 waiting, 0 refused\nfinal 9: \"ab\"\n")
 unfolding answer_of open_histories report_of report_text decoded value_of shaped headed header_of line_of line_text made_line refused_line text_line replica_line final_line digits escape_byte is_utf8 chars serde_json_on_literals
 refused_edits = refl
 
-pub two_rows : answer_of (codes "[\"zedbuf\",1,\"a\\nbc\\\"\",[1]]\n[\"text\",1]\n")
+pub two_rows : answer_of (Replay 2) (codes "[\"zedbuf\",1,\"a\\nbc\\\"\",[1]]\n[\"text\",1]\n")
     ≡ (status.Done, codes "text 1: 5 bytes, end 1:3, 2 rows, \"a\\nbc\\\"\"\nreplica 1: 5 bytes, 2 rows, 0 applied, 0 waiting, 0 refused\nfinal 1: \"a\\nbc\\\"\"\n")
 unfolding answer_of open_histories report_of report_text decoded value_of shaped headed header_of line_of line_text made_line refused_line text_line replica_line final_line digits escape_byte is_utf8 chars serde_json_on_literals
 two_rows = refl
 
+pub edits_at_one_place : answer_of (Replay 2) (codes "[\"zedbuf\",1,\"ab\",[1,2]]\n[\"edit\",1,[[1,1,\"X\"]]]\n[\"edit\",2,[[1,1,\"Y\"]]]\n[\"give\",2,1]\n[\"give\",1,2]\n")
+    ≡ (status.Done, codes "1: 2.1\n2: 2.2\ngive 1 to 2: applied 1\ngive 2 to 1: applied 1\nreplica 1: 4 bytes, 1 rows, 2 applied, 0 waiting, 0 refused\nfinal 1: \"aYXb\"\nreplica 2: 4 bytes, 1 rows, 2 applied, 0 waiting, 0 refused\nfinal 2: \"aYXb\"\n")
+unfolding answer_of open_histories report_of report_text decoded value_of shaped headed header_of line_of line_text made_line refused_line settled_line give_line text_line replica_line refused_op_line final_line digits escape_byte is_utf8 chars serde_json_on_literals
+edits_at_one_place = refl
+
+pub applied_behind_an_edit : answer_of (Replay 2) (codes "[\"zedbuf\",1,\"ab\",[1,2]]\n[\"op\",[3,2],[[0,1],[1,2]],[[0,0,\"q\"]]]\n[\"give\",1,1]\n[\"edit\",1,[[2,2,\"c\"]]]\n[\"text\",1]\n")
+    ≡ (status.Done, codes "1: 3.2\ngive 1 to 1: waits 1 2\n2: 2.1\nsettled 1: 1\ntext 1: 4 bytes, end 0:4, 1 rows, \"qabc\"\nreplica 1: 4 bytes, 1 rows, 2 applied, 0 waiting, 0 refused\nfinal 1: \"qabc\"\nreplica 2: 2 bytes, 1 rows, 0 applied, 0 waiting, 0 refused\nfinal 2: \"ab\"\n")
+unfolding answer_of open_histories report_of report_text decoded value_of shaped headed header_of line_of line_text made_line refused_line settled_line give_line text_line replica_line refused_op_line final_line digits escape_byte is_utf8 chars serde_json_on_literals
+applied_behind_an_edit = refl
+
+pub refused_while_settling : answer_of (Replay 2) (codes "[\"zedbuf\",1,\"ab\",[1,2]]\n[\"op\",[3,2],[[0,1],[3,2]],[[9,9,\"q\"]]]\n[\"give\",1,1]\n[\"op\",[2,3],[[0,1]],[]]\n[\"give\",1,2]\n")
+    ≡ (status.Done, codes "1: 3.2\ngive 1 to 1: waits 3 2\n2: 2.3\ngive 2 to 1: applied 1\nreplica 1: 2 bytes, 1 rows, 1 applied, 0 waiting, 1 refused\nrefused 1: 3.2 pastend 0 2\nfinal 1: \"ab\"\nreplica 2: 2 bytes, 1 rows, 0 applied, 0 waiting, 0 refused\nfinal 2: \"ab\"\n")
+unfolding answer_of open_histories report_of report_text decoded value_of shaped headed header_of line_of line_text made_line refused_line settled_line give_line text_line replica_line refused_op_line final_line digits escape_byte is_utf8 chars serde_json_on_literals
+refused_while_settling = refl
+
+pub counted : answer_of Check (codes "[\"zedbuf\",1,\"ab\",[1,2]]\n[\"edit\",1,[[1,1,\"X\"]]]\n[\"edit\",2,[[1,1,\"Y\"]]]\n[\"give\",2,1]\n[\"give\",1,2]\n") ≡ (status.Done, codes "session ok: 5 lines, 2 replicas, 2 operations, 0 queries\n")
+unfolding answer_of decoded value_of shaped headed header_of line_of line_text checked_line digits is_utf8 chars serde_json_on_literals
+counted = refl
+
 -- ---- what is no session
 
-pub no_line : answer_of (codes "") ≡ (status.Session, codes "session line 1: header\n")
+pub no_line : answer_of (Replay 2) (codes "") ≡ (status.Session, codes "session line 1: header\n")
 unfolding answer_of decoded value_of shaped headed header_of line_of bad_line digits is_utf8 chars serde_json_on_literals
 no_line = refl
 
-pub no_bracket : answer_of (codes "[\"zedbuf\",1,\"ab\",[1]]\n[\"text\",1]\n[\"text\",1\n") ≡ (status.Session, codes "session line 3: json\n")
+pub no_bracket : answer_of (Replay 2) (codes "[\"zedbuf\",1,\"ab\",[1]]\n[\"text\",1]\n[\"text\",1\n") ≡ (status.Session, codes "session line 3: json\n")
 unfolding answer_of decoded value_of shaped headed header_of line_of bad_line digits is_utf8 chars serde_json_on_literals
 no_bracket = refl
 
-pub another_replica : answer_of (codes "[\"zedbuf\",1,\"ab\",[1,2]]\n[\"text\",3]\n") ≡ (status.Session, codes "session line 2: replica\n")
+pub another_replica : answer_of (Replay 2) (codes "[\"zedbuf\",1,\"ab\",[1,2]]\n[\"text\",3]\n") ≡ (status.Session, codes "session line 2: replica\n")
 unfolding answer_of decoded value_of shaped headed header_of line_of bad_line digits is_utf8 chars serde_json_on_literals
 another_replica = refl

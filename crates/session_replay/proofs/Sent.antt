@@ -4,17 +4,15 @@ use Rattle.std.specs.Io.KnownBytes.{Appends}
 use Rattle.session_replay.specs.Causes.{Rose, RoseBy}
 use Rattle.session_replay.specs.Traffic.{AppendsFront, Had, WasRead, WasTaken}
 use Rattle.session_lines.specs.Cut.{lines_of}
-use Rattle.session_lines.specs.Report.{report_text}
 use Rattle.session_lines.specs.Session.{decoded}
 use Rattle.session_lines.specs.Words.{bad_line, many_line}
 use Rattle.session_lines.specs.declared.session.Session.{Session}
 use Rattle.session_lines.specs.declared.fault.Word.{Word}
 use Rattle.session_lines.specs.declared.fault.DecodeFault.{DecodeFault}
 use Rattle.session_lines.specs.declared.fault.DecodeFault.TheVariants.{Bad}
-use Rattle.session_replay.specs.Work.{report_of}
-use Rattle.session_replay.specs.Replay.{answer_of, output_of, large_line, Replays, Answered}
+use Rattle.session_replay.specs.Replay.{answer_of, output_of, large_line, written_for, Does, Answered}
 use Rattle.session_replay.specs.declared.words.Command.{Command}
-use Rattle.session_replay.specs.declared.words.Command.TheVariants.{Replay}
+use Rattle.session_replay.specs.declared.words.Command.TheVariants as command
 use Rattle.session_replay.specs.declared.top.Status.{Status}
 use Rattle.session_replay.specs.declared.top.Status.TheVariants as status
 use Rattle.session_replay.proofs.Outcome.{Told, told, session_answer}
@@ -23,11 +21,11 @@ if_had : (left : Option (List ℕ)) (input : List ℕ) (P : List ℕ → Type 0)
 if_had None input P h p = tt
 if_had (Some xs) input P h p = subst P h p
 
-module _ (left left_after : Option (List ℕ)) (given given_after ends ends_after : ℕ) (written written_after : Option (List ℕ)) (r st : Status) (shown text : List ℕ)
-    (is : shown ≡ text) (a : Answered left left_after given given_after ends ends_after st text) (either : (r ≡ st) ⊎ (r ≡ status.WriteFault))
+module _ (c : Command) (left left_after : Option (List ℕ)) (given given_after ends ends_after : ℕ) (written written_after : Option (List ℕ)) (r st : Status) (shown text : List ℕ)
+    (is : shown ≡ text) (a : Answered c left left_after given given_after ends ends_after st text) (either : (r ≡ st) ⊎ (r ≡ status.WriteFault))
     (whole : r ≡ st → Appends written written_after shown) where
-  kept : Told a.input st text
-  kept = told a.input st text a.answer
+  kept : Told c a.input st text
+  kept = told c a.input st text a.answer
 
   same_by : (d : Status) → (r ≡ st) ⊎ (r ≡ status.WriteFault) → r ≡ d → (status.WriteFault ≡ d → ⊥) → (st ≡ d) × (r ≡ st)
   same_by d (inl e) k n = (sym e ∙ k, e)
@@ -40,19 +38,23 @@ module _ (left left_after : Option (List ℕ)) (given given_after ends ends_afte
   wrote e t k = subst (Appends written written_after) (is ∙ sym k) (whole e)
 
   one_of : (d : Status) → (st ≡ status.Done) ⊎ ((st ≡ status.Session) ⊎ (st ≡ status.TooLarge)) → st ≡ d → (status.Done ≡ d → ⊥) → (status.Session ≡ d → ⊥) → (status.TooLarge ≡ d → ⊥) → ⊥
-  one_of d (inl e) k a b c = a (sym e ∙ k)
-  one_of d (inr (inl e)) k a b c = b (sym e ∙ k)
-  one_of d (inr (inr e)) k a b c = c (sym e ∙ k)
+  one_of d (inl e) k x y z = x (sym e ∙ k)
+  one_of d (inr (inl e)) k x y z = y (sym e ∙ k)
+  one_of d (inr (inr e)) k x y z = z (sym e ∙ k)
 
   pub not_sent : (d : Status) → (status.Done ≡ d → ⊥) → (status.Session ≡ d → ⊥) → (status.TooLarge ≡ d → ⊥) → (status.WriteFault ≡ d → ⊥) → r ≡ d → ⊥
-  not_sent d a b c n k = one_of d kept.kinds (same d k n).0 a b c
+  not_sent d x y z n k = one_of d kept.kinds (same d k n).0 x y z
 
-  pub sent_done : (workers : ℕ) → r ≡ status.Done → (input : List ℕ) × WasRead left left_after given given_after ends ends_after input
-      × ((output : List ℕ) × Appends written written_after output × Replays input output workers)
-  sent_done workers k =
+  does : (c : Command) (s : Session) → decoded a.input ≡ Ok s → written_for c s ≡ text → Does c a.input text
+  does (command.Replay workers) s d w = (s, d, sym w)
+  does command.Check s d w = (s, d, sym w)
+
+  pub sent_done : r ≡ status.Done → (input : List ℕ) × WasRead left left_after given given_after ends ends_after input
+      × ((output : List ℕ) × Appends written written_after output × Does c input output)
+  sent_done k =
       let s = same status.Done k (λ x. cc) in
       let f = kept.done s.0 in
-      (a.input, a.taken.whole f.0, (text, wrote s.1 text (λ i. text), (f.1.0, f.1.1, sym f.1.2)))
+      (a.input, a.taken.whole f.0, (text, wrote s.1 text (λ i. text), does c f.1.0 f.1.1 f.1.2))
 
   pub sent_session : r ≡ status.Session → (input : List ℕ) × WasRead left left_after given given_after ends ends_after input
       × ((n : ℕ) × (w : Word) × (decoded input ≡ Err (Bad n w)) × Appends written written_after (bad_line n w))
@@ -78,10 +80,12 @@ module _ (left left_after : Option (List ℕ)) (given given_after ends ends_afte
   pub sent_large : r ≡ status.TooLarge → TooLarge
   sent_large k = let s = same status.TooLarge k (λ x. cc) in large_by s.1 (kept.large s.0)
 
-  pub sent_front : AppendsFront written written_after shown → (input : List ℕ) × WasTaken left left_after given given_after ends ends_after input × AppendsFront written written_after (output_of input)
-  sent_front f = (a.input, a.taken, subst (AppendsFront written written_after) (is ∙ sym (ap (λ p. p.1) a.answer)) f)
+  pub sent_front : (d : Command) → d ≡ c → AppendsFront written written_after shown → (input : List ℕ) × WasTaken left left_after given given_after ends ends_after input × AppendsFront written written_after (output_of d input)
+  sent_front d e f =
+      let same : shown ≡ output_of d a.input = is ∙ sym (ap (λ p. p.1) a.answer) ∙ ap (λ d. output_of d a.input) (sym e) in
+      (a.input, a.taken, subst (AppendsFront written written_after) same f)
 
-  is_status : (d : Status) (t : List ℕ) → answer_of a.input ≡ (d, t) → st ≡ d
+  is_status : (d : Status) (t : List ℕ) → answer_of c a.input ≡ (d, t) → st ≡ d
   is_status d t e = ap (λ p. p.0) (sym a.answer ∙ e)
 
   module _ (no_fault : r ≡ status.WriteFault → ⊥) where
@@ -89,13 +93,13 @@ module _ (left left_after : Option (List ℕ)) (given given_after ends ends_afte
     sent_by (inl e) = e
     sent_by (inr e) = absurd (no_fault e)
 
-    sent : (d : Status) (t : List ℕ) → answer_of a.input ≡ (d, t) → r ≡ d
+    sent : (d : Status) (t : List ℕ) → answer_of c a.input ≡ (d, t) → r ≡ d
     sent d t e = sent_by either ∙ is_status d t e
 
     pub completes : IfSome left (λ input. length input ≤ 67108864 → (s : Session) → decoded input ≡ Ok s → (r ≡ status.Done) ⊎ (r ≡ status.Memory))
     completes =
         if_had left a.input (λ input. length input ≤ 67108864 → (s : Session) → decoded input ≡ Ok s → (r ≡ status.Done) ⊎ (r ≡ status.Memory)) a.taken.had
-        (λ le s e. inl (sent status.Done (report_text (report_of s)) (session_answer a.input s le e)))
+        (λ le s e. inl (sent status.Done (written_for c s) (session_answer c a.input s le e)))
 
     none_done : st ≡ status.Done → (67108864 < length a.input) ⊎ ((e : DecodeFault) × (decoded a.input ≡ Err e)) → ⊥
     none_done k (inl h) = omega (arith, (kept.done k).0)
@@ -117,9 +121,6 @@ no_fault_by st (inl e) k = let f : status.Done ≡ status.WriteFault = sym e ∙
 no_fault_by st (inr (inl e)) k = let f : status.Session ≡ status.WriteFault = sym e ∙ k in cc
 no_fault_by st (inr (inr e)) k = let f : status.TooLarge ≡ status.WriteFault = sym e ∙ k in cc
 
-pub never_fails : (left left_after : Option (List ℕ)) (given given_after ends ends_after : ℕ) (st : Status) (text : List ℕ)
-    → Answered left left_after given given_after ends ends_after st text → st ≡ status.WriteFault → ⊥
-never_fails left left_after given given_after ends ends_after st text a = no_fault_by st (told a.input st text a.answer).kinds
-
-pub is_replay : (c : Command) (o : Option Command) → Some c ≡ o → (workers : ℕ) × (o ≡ Some (Replay workers))
-is_replay (Replay workers) o e = (workers, sym e)
+pub never_fails : (c : Command) (left left_after : Option (List ℕ)) (given given_after ends ends_after : ℕ) (st : Status) (text : List ℕ)
+    → Answered c left left_after given given_after ends ends_after st text → st ≡ status.WriteFault → ⊥
+never_fails c left left_after given given_after ends ends_after st text a = no_fault_by st (told c a.input st text a.answer).kinds

@@ -1,7 +1,7 @@
 -- What the fields of a replica stand for.
-use Rattle.std.specs.Prelude.{◌≡◌, ◌+◌, length}
+use Rattle.std.specs.Prelude.{◌≡◌}
 use Rattle.session_replay.specs.declared.replica.Replica.TheInside.{Inside}
 
-pub record IsReplica (r : Inside) : Type 0 where
-  pub id : r.buffer.replica ≡ r.id
-  pub applied : length r.buffer.history ≡ r.applied + 1
+-- the replica goes by its buffer's id
+abbrev pub IsReplica : Inside → Type 0
+IsReplica r = r.buffer.replica ≡ r.id

@@ -1,6 +1,6 @@
 -- What an input comes to.
 use Rattle.std.specs.Prelude.{◌≡◌, ℕ, List, length, nat_lt, codes, Option, Result, Ok, Err, if◌then◌else◌}
-use Rattle.session_lines.specs.Report.{report_text}
+use Rattle.session_lines.specs.Report.{checked, line_text, report_text}
 use Rattle.session_lines.specs.Session.{decoded}
 use Rattle.session_lines.specs.Words.{bad_line, many_line}
 use Rattle.session_lines.specs.declared.session.Session.{Session}
@@ -8,12 +8,23 @@ use Rattle.session_lines.specs.declared.fault.DecodeFault.{DecodeFault}
 use Rattle.session_lines.specs.declared.fault.DecodeFault.TheVariants.{Lines, Bad, OutOfMemory}
 use Rattle.session_replay.specs.Traffic.{WasTaken}
 use Rattle.session_replay.specs.Work.{report_of}
+use Rattle.session_replay.specs.declared.words.Command.{Command}
+use Rattle.session_replay.specs.declared.words.Command.TheVariants as command
 use Rattle.session_replay.specs.declared.top.Status.{Status}
 use Rattle.session_replay.specs.declared.top.Status.TheVariants as status
 
 -- the input is a session, and the output is its report; without queries the workers have nothing to do
 abbrev pub Replays : List ℕ → List ℕ → ℕ → Type 0
 Replays input output workers = (s : Session) × (decoded input ≡ Ok s) × (output ≡ report_text (report_of s))
+
+-- the input is a session, and the output is the line with what is counted of it
+abbrev pub Checks : List ℕ → List ℕ → Type 0
+Checks input output = (s : Session) × (decoded input ≡ Ok s) × (output ≡ line_text (checked s))
+
+-- the output is what the command makes of the input
+abbrev pub Does : Command → List ℕ → List ℕ → Type 0
+Does (command.Replay workers) input output = Replays input output workers
+Does command.Check input output = Checks input output
 
 -- ---- the lines without a report
 
@@ -31,20 +42,25 @@ refusal (Lines n) = (status.TooLarge, many_line)
 refusal (Bad n w) = (status.Session, bad_line n w)
 refusal OutOfMemory = (status.Memory, codes "")
 
-abbrev pub answer_with : Result Session DecodeFault → Status × List ℕ
-answer_with (Ok s) = (status.Done, report_text (report_of s))
-answer_with (Err e) = refusal e
+-- what a command writes for a session
+abbrev pub written_for : Command → Session → List ℕ
+written_for (command.Replay workers) s = report_text (report_of s)
+written_for command.Check s = line_text (checked s)
 
-unfoldable pub answer_of : List ℕ → Status × List ℕ
-answer_of input = if nat_lt 67108864 (length input) then (status.TooLarge, large_line) else answer_with (decoded input)
+abbrev pub answer_with : Command → Result Session DecodeFault → Status × List ℕ
+answer_with c (Ok s) = (status.Done, written_for c s)
+answer_with c (Err e) = refusal e
 
-abbrev pub output_of : List ℕ → List ℕ
-output_of input = (answer_of input).1
+unfoldable pub answer_of : Command → List ℕ → Status × List ℕ
+answer_of c input = if nat_lt 67108864 (length input) then (status.TooLarge, large_line) else answer_with c (decoded input)
+
+abbrev pub output_of : Command → List ℕ → List ℕ
+output_of c input = (answer_of c input).1
 
 -- ---- for private clauses
 
 -- the status and the text that answer what a source had left
-pub record Answered (left left_after : Option (List ℕ)) (given given_after ends ends_after : ℕ) (status : Status) (text : List ℕ) : Type 0 where
+pub record Answered (c : Command) (left left_after : Option (List ℕ)) (given given_after ends ends_after : ℕ) (status : Status) (text : List ℕ) : Type 0 where
   pub input : List ℕ
   pub taken : WasTaken left left_after given given_after ends ends_after input
-  pub answer : answer_of input ≡ (status, text)
+  pub answer : answer_of c input ≡ (status, text)

@@ -19,4 +19,8 @@ pub use outside::{Failed, Gate, Sink, Source};
 pub use top::{Status, run};
 
 #[cfg(test)]
+mod long_tests;
+#[cfg(test)]
+mod merging_tests;
+#[cfg(test)]
 mod tests;

@@ -53,16 +53,28 @@ fn call<R: Threads + Wait + Sync, I: Source, O: Sink>(
 }
 
 // Replays the input, and compares the status and all that was written.
-fn replays<R: Threads + Wait + Sync + Abort>(
+pub fn replays<R: Threads + Wait + Sync + Abort>(
     rt: &R,
     alloc: Global,
     input: &[u8],
     want: Status,
     output: &str,
 ) -> Result<(), AllocError> {
+    comes_to(rt, alloc, "replay", input, want, output)
+}
+
+// Runs a command on the input, and compares the status and all that was written.
+fn comes_to<R: Threads + Wait + Sync + Abort>(
+    rt: &R,
+    alloc: Global,
+    word: &str,
+    input: &[u8],
+    want: Status,
+    output: &str,
+) -> Result<(), AllocError> {
     let mut src = source(alloc, input, 8, &[])?;
     let mut out = sink(alloc, &[])?;
-    let status = call(rt, alloc, &["replay"], &mut src, &mut out)?;
+    let status = call(rt, alloc, &[word], &mut src, &mut out)?;
     assert_eq!(rt; status, want, "where {output} is wanted");
     assert_eq!(rt; out.bytes(), output.as_bytes());
     Ok(())
@@ -143,6 +155,10 @@ fn inputs_that_are_no_sessions(rt: HostRuntime) -> Result<(), Fail> {
             "session line 2: replica\n",
         ),
         (
+            "[\"zedbuf\",1,\"ab\",[1,2]]\n[\"edit\",1,[]]\n[\"give\",1,2]\n",
+            "session line 3: number\n",
+        ),
+        (
             "[\"zedbuf\",1,\"ab\",[1,2]]\n[\"text\"]\n",
             "session line 2: shape\n",
         ),
@@ -173,6 +189,44 @@ fn inputs_that_are_no_sessions(rt: HostRuntime) -> Result<(), Fail> {
 }
 
 #[test]
+fn what_is_counted_of_a_session(rt: HostRuntime) -> Result<(), Fail> {
+    let alloc = rt.alloc();
+    for (input, want, line) in [
+        (
+            r#"["zedbuf",1,"ab",[1,2]]
+["edit",1,[[1,1,"X"]]]
+["edit",2,[[1,1,"Y"]]]
+["give",2,1]
+["give",1,2]
+"#,
+            Status::Done,
+            "session ok: 5 lines, 2 replicas, 2 operations, 0 queries\n",
+        ),
+        // operation lines are counted whatever they come to, and no line is worked
+        (
+            r#"["zedbuf",1,"",[7,2,9]]
+["op",[0,0],[],[[2,1,""]]]
+["edit",2,[[9,9,"Y"]]]
+["give",7,1]
+["text",9]"#,
+            Status::Done,
+            "session ok: 5 lines, 3 replicas, 2 operations, 0 queries\n",
+        ),
+        ("", Status::Session, "session line 1: header\n"),
+        (
+            r#"["zedbuf",1,"ab",[1,2]]
+["give",1,1]
+"#,
+            Status::Session,
+            "session line 2: number\n",
+        ),
+    ] {
+        comes_to(&rt, alloc, "check", input.as_bytes(), want, line)?;
+    }
+    Ok(())
+}
+
+#[test]
 fn new_texts_at_their_limit(rt: HostRuntime) -> Result<(), Fail> {
     let alloc = rt.alloc();
     let letters = String::from_utf8(copies(alloc, b'a', 65_536)?);
@@ -194,12 +248,14 @@ fn words(rt: HostRuntime) -> Result<(), Fail> {
     let alloc = rt.alloc();
     for words in [
         &[][..],
-        &["check"][..],
+        &["check", "check"][..],
+        &["Check"][..],
         &["--help"][..],
         &["--version"][..],
         &["Replay"][..],
         &["replay", "replay"][..],
         &["replay", "--workers", "2"][..],
+        &["replay", "--workers", "17"][..],
     ] {
         let mut src = source(alloc, SESSION.as_bytes(), 8, &[1])?;
         let mut out = sink(alloc, &[])?;
@@ -226,6 +282,7 @@ fn reads_and_writes_that_fail(rt: HostRuntime) -> Result<(), Fail> {
         ("replay", SESSION, "1: 2.1\nt"),
         ("replay", "[\"zedbuf\",1,\"ab\",[1,2]]\n", "replica "),
         ("replay", "[\"zedbuf\"]", "session "),
+        ("check", SESSION, "session "),
         ("jump", SESSION, "usage: z"),
     ] {
         let mut src = source(alloc, input.as_bytes(), 8, &[])?;

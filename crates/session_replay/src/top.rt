@@ -5,9 +5,10 @@ ghost use Rattle.session_replay.specs.Causes.{Rose, RoseBy};
 ghost use Rattle.session_replay.specs.Traffic.{AppendsFront, WasRead, WasTaken};
 ghost use Rattle.session_replay.specs.Words.{command_of};
 ghost use Rattle.session_lines.specs.Cut.{lines_of};
-ghost use Rattle.session_lines.specs.Session.{decoded};
+ghost use Rattle.session_lines.specs.Session.{IsSession, decoded};
 ghost use Rattle.session_lines.specs.Words.{bad_line, many_line};
-ghost use Rattle.session_replay.specs.Replay.{Answered, Replays, answer_of, large_line, output_of, usage_line};
+ghost use Rattle.session_lines.specs.Report.{checked, line_text};
+ghost use Rattle.session_replay.specs.Replay.{Answered, Does, answer_of, large_line, output_of, usage_line, written_for};
 ghost use Rattle.session_lines.specs.declared.session.Session.{Session};
 ghost use Rattle.session_lines.specs.declared.fault.Word.{Word};
 ghost use Rattle.session_lines.specs.declared.fault.DecodeFault.{DecodeFault};
@@ -16,7 +17,7 @@ use crate::outside::{Gate, Sink, Source};
 use crate::replay::report;
 use crate::traffic::{InputFault, read_all, write_all};
 use crate::words::{Command, command_of};
-use session_lines::{DecodeFault, Word, decode};
+use session_lines::{DecodeFault, Report, Session, Word, decode, write_line};
 use std::alloc::{AllocError, Global};
 use std::sync::Wait;
 use std::thread::Threads;
@@ -57,14 +58,35 @@ fn bad_line(alloc: Global, line: u64, word: Word) -> Result<String, AllocError>
     format!(in alloc; "session line {line}: {word}\n")
 }
 
-/// What is written for an input, with the status.
+/// The line with what is counted of a session.
+fn check(alloc: Global, session: &Session) -> Result<Vec<u8>, AllocError>
+    ensures { IfOk result (λ v. v.items ≡ line_text (checked session.now)) }
+{
+    let mut line = Vec::new(alloc);
+    write_line(alloc, &mut line, &Report::checked(session))?;
+    Ok(line)
+}
+
+/// What the command writes for a session.
+fn written(alloc: Global, command: Command, session: &Session) -> Result<Vec<u8>, AllocError>
+    requires { IsSession 67108864 session.now }
+    ensures { IfOk result (λ v. v.items ≡ written_for command session.now) }
+{
+    match command {
+        // There are no queries yet: no worker is started.
+        Command::Replay { workers: _ } => report(alloc, session),
+        Command::Check => check(alloc, session),
+    }
+}
+
+/// What the command writes for an input, with the status.
 #[tactic(auto, unfolding(crate::specs::Replay::answer_of))]
-fn answer(alloc: Global, input: &[u8]) -> Result<(Status, Vec<u8>), AllocError>
+fn answer(alloc: Global, command: Command, input: &[u8]) -> Result<(Status, Vec<u8>), AllocError>
     requires { length input.now ≤ 67108864 }
-    ensures { IfOk result (λ p. answer_of input.now ≡ (p.0, p.1.items)) }
+    ensures { IfOk result (λ p. answer_of command input.now ≡ (p.0, p.1.items)) }
 {
     match decode(alloc, input) {
-        Ok(session) => Ok((Status::Done, report(alloc, &session)?)),
+        Ok(session) => Ok((Status::Done, written(alloc, command, &session)?)),
         Err(DecodeFault::Lines(_)) => {
             Ok((Status::TooLarge, bytes_of(alloc, "too large: lines\n")?))
         }
@@ -91,22 +113,29 @@ fn send<O: Sink>(out: &mut O, text: &[u8], status: Status) -> Status
 }
 
 /// Reads all that there is, at most one byte past the limit, and answers it.
-fn answer_source<I: Source>(alloc: Global, src: &mut I) -> Result<(Status, Vec<u8>), InputFault>
-    ensures answer { IfOk result (λ p. Answered (I.left src.old) (I.left src.new) (I.given src.old) (I.given src.new) (I.ends src.old) (I.ends src.new) p.0 p.1.items) }
+fn answer_source<I: Source>(
+    alloc: Global,
+    command: Command,
+    src: &mut I,
+) -> Result<(Status, Vec<u8>), InputFault>
+    ensures answer { IfOk result (λ p. Answered command (I.left src.old) (I.left src.new) (I.given src.old) (I.given src.new) (I.ends src.old) (I.ends src.new) p.0 p.1.items) }
     ensures failed { IsErrOf result InputFault.Failed → Rose (I.faults src.old) (I.faults src.new) }
+    ensures answered { IsErrOf result InputFault.TooLarge → ⊥ }
     ensures bounded { I.given src.new ≤ I.given src.old + 67108865 }
 {
     match read_all(alloc, src) {
-        Ok(input) => Ok(answer(alloc, input.as_slice())?),
+        Ok(input) => Ok(answer(alloc, command, input.as_slice())?),
         Err(InputFault::TooLarge) => Ok((Status::TooLarge, bytes_of(alloc, "too large: bytes\n")?)),
         Err(fault) => Err(fault),
     }
 }
 
-/// Does all that the program does: reads the words, then for `replay` the source to its end or to one byte past the
-/// limit of 67,108,864 bytes, works the session, and writes its report.
+/// Does all that the program does: reads the words, then the source to its end or to one byte past the limit of
+/// 67,108,864 bytes, decodes the session, and writes its report, for which it works the session, or for `check` what is
+/// counted of it.
 ///
-/// The input and the report are held whole. An edit costs as much as the text is long, and so does a line that shows it.
+/// The input and the report are held whole. An edit, made or taken, costs as much as all its replica's texts are long,
+/// hidden ones too, and a line that shows a text as much as the text. A `give` copies the one operation that it names.
 pub fn run<R: Threads + Wait + Sync, I: Source, O: Sink, G: Gate>(
     rt: &R,
     alloc: Global,
@@ -120,11 +149,11 @@ pub fn run<R: Threads + Wait + Sync, I: Source, O: Sink, G: Gate>(
         × Appends (O.written out.old) (O.written out.new) usage_line }
     ensures refused { command_of words.now ≡ None → (result ≡ Status.Usage) ⊎ (result ≡ Status.WriteFault) }
 
-    // Done: the input was read to its end, and its report written whole.
-    ensures done { result ≡ Status.Done → (workers : ℕ) × (command_of words.now ≡ Some (Command.Replay workers))
+    // Done: the input was read to its end, and what the command makes of it was written whole.
+    ensures done { result ≡ Status.Done → (command : Command) × (command_of words.now ≡ Some command)
         × ((input : List ℕ)
         × WasRead (I.left src.old) (I.left src.new) (I.given src.old) (I.given src.new) (I.ends src.old) (I.ends src.new) input
-        × ((output : List ℕ) × Appends (O.written out.old) (O.written out.new) output × Replays input output workers)) }
+        × ((output : List ℕ) × Appends (O.written out.old) (O.written out.new) output × Does command input output)) }
 
     // Session: the input was read to its end, and has a first bad line.
     ensures session { result ≡ Status.Session → (input : List ℕ)
@@ -146,32 +175,31 @@ pub fn run<R: Threads + Wait + Sync, I: Source, O: Sink, G: Gate>(
     ensures write_fault { result ≡ Status.WriteFault → Rose (O.faults out.old) (O.faults out.new) }
     ensures usage_front { result ≡ Status.WriteFault → command_of words.now ≡ None → (src.new ≡ src.old)
         × AppendsFront (O.written out.old) (O.written out.new) usage_line }
-    ensures report_front { result ≡ Status.WriteFault → (workers : ℕ) → command_of words.now ≡ Some (Command.Replay workers)
+    ensures report_front { result ≡ Status.WriteFault → (command : Command) → command_of words.now ≡ Some command
         → (input : List ℕ)
         × WasTaken (I.left src.old) (I.left src.new) (I.given src.old) (I.given src.new) (I.ends src.old) (I.ends src.new) input
-        × AppendsFront (O.written out.old) (O.written out.new) (output_of input) }
+        × AppendsFront (O.written out.old) (O.written out.new) (output_of command input) }
 
     // Memory is free, and nothing was written.
     ensures memory { result ≡ Status.Memory → out.new ≡ out.old }
 
-    // Where no fault was counted, a session within the limit gives its report, and without one it is refused.
+    // Where no fault was counted, a session within the limit is worked or checked, and without one the input is refused.
     ensures completes { (Rose (I.faults src.old) (I.faults src.new) → ⊥) → (Rose (O.faults out.old) (O.faults out.new) → ⊥)
-        → (workers : ℕ) → command_of words.now ≡ Some (Command.Replay workers)
+        → (command : Command) → command_of words.now ≡ Some command
         → IfSome (I.left src.old) (λ input. length input ≤ 67108864 → (s : Session) → decoded input ≡ Ok s
         → (result ≡ Status.Done) ⊎ (result ≡ Status.Memory)) }
     ensures refuses { (Rose (I.faults src.old) (I.faults src.new) → ⊥) → (Rose (O.faults out.old) (O.faults out.new) → ⊥)
-        → (workers : ℕ) → command_of words.now ≡ Some (Command.Replay workers)
+        → (command : Command) → command_of words.now ≡ Some command
         → IfSome (I.left src.old) (λ input. (67108864 < length input) ⊎ ((e : DecodeFault) × (decoded input ≡ Err e))
         → (result ≡ Status.Session) ⊎ ((result ≡ Status.TooLarge) ⊎ (result ≡ Status.Memory))) }
 {
-    let Some(Command::Replay { workers }) = command_of(words) else {
+    let Some(command) = command_of(words) else {
         return send(out, USAGE.as_bytes(), Status::Usage);
     };
-    // There are no queries yet: no worker is started, and the gate is not called.
+    // There are no queries yet: the gate is not called.
     let _ = rt;
     let _ = gate;
-    let _ = workers;
-    match answer_source(alloc, src) {
+    match answer_source(alloc, command, src) {
         Ok((status, text)) => send(out, text.as_slice(), status),
         Err(InputFault::Failed) => Status::ReadFault,
         Err(_) => Status::Memory,

@@ -1,38 +1,40 @@
+use Rattle.std.proofs.Common.{◌≡◌, sym}
 use Rattle.session_replay.specs.declared.top.Status.TheVariants as status
-use Rattle.session_replay.proofs.Sent.{is_replay, never_fails, not_sent, sent_done, sent_session, sent_ended, sent_large, sent_front, completes, refuses}
+use Rattle.session_replay.proofs.Sent.{never_fails, not_sent, sent_done, sent_session, sent_ended, sent_large, sent_front, completes, refuses}
 use Rattle.session_replay.proofs.top.run.Goals as goal
 
 pub send-requires-in-Ok : goal.send-requires-in-Ok
-send-requires-in-Ok g c = never_fails _ _ _ _ _ _ _ _ c.in-Ok.ensures.answer
+send-requires-in-Ok g c = never_fails _ _ _ _ _ _ _ _ _ c.in-Ok.ensures.answer
 
 pub returns-in-Ok-clause-usage : goal.returns-in-Ok-clause-usage
-returns-in-Ok-clause-usage g c = λ k. absurd (not_sent _ _ _ _ _ _ _ _ _ _ _ _ c.as_slice.ensures.value c.in-Ok.ensures.answer c.send-in-Ok.ensures.either c.send-in-Ok.ensures.whole status.Usage (λ x. cc) (λ x. cc) (λ x. cc) (λ x. cc) k)
+returns-in-Ok-clause-usage g c = λ k. absurd (not_sent _ _ _ _ _ _ _ _ _ _ _ _ _ c.as_slice.ensures.value c.in-Ok.ensures.answer c.send-in-Ok.ensures.either c.send-in-Ok.ensures.whole status.Usage (λ x. cc) (λ x. cc) (λ x. cc) (λ x. cc) k)
 
 pub returns-in-Ok-clause-done : goal.returns-in-Ok-clause-done
 returns-in-Ok-clause-done g c = λ k.
-    let w = is_replay _ _ c.in-Some-Replay.ensures in
-    (w.0, w.1, sent_done _ _ _ _ _ _ _ _ _ _ _ _ c.as_slice.ensures.value c.in-Ok.ensures.answer c.send-in-Ok.ensures.either c.send-in-Ok.ensures.whole w.0 k)
+    (c.in-Some.command, sym c.in-Some.ensures, sent_done _ _ _ _ _ _ _ _ _ _ _ _ _ c.as_slice.ensures.value c.in-Ok.ensures.answer c.send-in-Ok.ensures.either c.send-in-Ok.ensures.whole k)
 
 pub returns-in-Ok-clause-session : goal.returns-in-Ok-clause-session
-returns-in-Ok-clause-session g c = sent_session _ _ _ _ _ _ _ _ _ _ _ _ c.as_slice.ensures.value c.in-Ok.ensures.answer c.send-in-Ok.ensures.either c.send-in-Ok.ensures.whole
+returns-in-Ok-clause-session g c = sent_session _ _ _ _ _ _ _ _ _ _ _ _ _ c.as_slice.ensures.value c.in-Ok.ensures.answer c.send-in-Ok.ensures.either c.send-in-Ok.ensures.whole
 
 pub returns-in-Ok-clause-ended : goal.returns-in-Ok-clause-ended
-returns-in-Ok-clause-ended g c = sent_ended _ _ _ _ _ _ _ _ _ _ _ _ c.as_slice.ensures.value c.in-Ok.ensures.answer c.send-in-Ok.ensures.either c.send-in-Ok.ensures.whole
+returns-in-Ok-clause-ended g c = sent_ended _ _ _ _ _ _ _ _ _ _ _ _ _ c.as_slice.ensures.value c.in-Ok.ensures.answer c.send-in-Ok.ensures.either c.send-in-Ok.ensures.whole
 
 pub returns-in-Ok-clause-large : goal.returns-in-Ok-clause-large
-returns-in-Ok-clause-large g c = sent_large _ _ _ _ _ _ _ _ _ _ _ _ c.as_slice.ensures.value c.in-Ok.ensures.answer c.send-in-Ok.ensures.either c.send-in-Ok.ensures.whole
+returns-in-Ok-clause-large g c = sent_large _ _ _ _ _ _ _ _ _ _ _ _ _ c.as_slice.ensures.value c.in-Ok.ensures.answer c.send-in-Ok.ensures.either c.send-in-Ok.ensures.whole
 
 pub returns-in-Ok-clause-read_fault : goal.returns-in-Ok-clause-read_fault
-returns-in-Ok-clause-read_fault g c = λ k. absurd (not_sent _ _ _ _ _ _ _ _ _ _ _ _ c.as_slice.ensures.value c.in-Ok.ensures.answer c.send-in-Ok.ensures.either c.send-in-Ok.ensures.whole status.ReadFault (λ x. cc) (λ x. cc) (λ x. cc) (λ x. cc) k)
+returns-in-Ok-clause-read_fault g c = λ k. absurd (not_sent _ _ _ _ _ _ _ _ _ _ _ _ _ c.as_slice.ensures.value c.in-Ok.ensures.answer c.send-in-Ok.ensures.either c.send-in-Ok.ensures.whole status.ReadFault (λ x. cc) (λ x. cc) (λ x. cc) (λ x. cc) k)
 
 pub returns-in-Ok-clause-memory : goal.returns-in-Ok-clause-memory
-returns-in-Ok-clause-memory g c = λ k. absurd (not_sent _ _ _ _ _ _ _ _ _ _ _ _ c.as_slice.ensures.value c.in-Ok.ensures.answer c.send-in-Ok.ensures.either c.send-in-Ok.ensures.whole status.Memory (λ x. cc) (λ x. cc) (λ x. cc) (λ x. cc) k)
+returns-in-Ok-clause-memory g c = λ k. absurd (not_sent _ _ _ _ _ _ _ _ _ _ _ _ _ c.as_slice.ensures.value c.in-Ok.ensures.answer c.send-in-Ok.ensures.either c.send-in-Ok.ensures.whole status.Memory (λ x. cc) (λ x. cc) (λ x. cc) (λ x. cc) k)
 
 pub returns-in-Ok-clause-report_front : goal.returns-in-Ok-clause-report_front
-returns-in-Ok-clause-report_front g c = λ k workers e. sent_front _ _ _ _ _ _ _ _ _ _ _ _ c.as_slice.ensures.value c.in-Ok.ensures.answer c.send-in-Ok.ensures.either c.send-in-Ok.ensures.whole (c.send-in-Ok.ensures.front k)
+returns-in-Ok-clause-report_front g c = λ k command e.
+    let same : command ≡ c.in-Some.command = cc (e, c.in-Some.ensures) in
+    sent_front _ _ _ _ _ _ _ _ _ _ _ _ _ c.as_slice.ensures.value c.in-Ok.ensures.answer c.send-in-Ok.ensures.either c.send-in-Ok.ensures.whole command same (c.send-in-Ok.ensures.front k)
 
 pub returns-in-Ok-clause-completes : goal.returns-in-Ok-clause-completes
-returns-in-Ok-clause-completes g c = λ reads writes workers e. completes _ _ _ _ _ _ _ _ _ _ _ _ c.as_slice.ensures.value c.in-Ok.ensures.answer c.send-in-Ok.ensures.either c.send-in-Ok.ensures.whole (λ k. writes (c.send-in-Ok.ensures.cause k))
+returns-in-Ok-clause-completes g c = λ reads writes command e. completes _ _ _ _ _ _ _ _ _ _ _ _ _ c.as_slice.ensures.value c.in-Ok.ensures.answer c.send-in-Ok.ensures.either c.send-in-Ok.ensures.whole (λ k. writes (c.send-in-Ok.ensures.cause k))
 
 pub returns-in-Ok-clause-refuses : goal.returns-in-Ok-clause-refuses
-returns-in-Ok-clause-refuses g c = λ reads writes workers e. refuses _ _ _ _ _ _ _ _ _ _ _ _ c.as_slice.ensures.value c.in-Ok.ensures.answer c.send-in-Ok.ensures.either c.send-in-Ok.ensures.whole (λ k. writes (c.send-in-Ok.ensures.cause k))
+returns-in-Ok-clause-refuses g c = λ reads writes command e. refuses _ _ _ _ _ _ _ _ _ _ _ _ _ c.as_slice.ensures.value c.in-Ok.ensures.answer c.send-in-Ok.ensures.either c.send-in-Ok.ensures.whole (λ k. writes (c.send-in-Ok.ensures.cause k))

@@ -1,0 +1,88 @@
+-- What one replica reports of an edit, of settling, and at the end.
+use Rattle.std.proofs.Common.{◌≡◌, ℕ, ◌+◌, ◌==◌, cond, if◌then◌else◌, ◌<◌, ◌≤◌, List, [], ◌∷◌, ◌++◌, length, drop, get_or, map, None, refl, sym, ap, ◌∙◌, append_assoc, append-nil}
+use Rattle.std.proofs.lemmas.List.{drop_all}
+use Rattle.std.proofs.lemmas.Bool.{ne_eqb}
+use Rattle.lamport_clock.specs.declared.stamp.Lamport.{Lamport}
+use Rattle.op_model.specs.Operations.{stamp_of}
+use Rattle.op_model.specs.Shown.{text}
+use Rattle.op_model.specs.declared.operation.Piece.{Piece}
+use Rattle.op_model.specs.declared.operation.Operation.{Operation}
+use Rattle.op_model.specs.declared.faults.OpFault.{OpFault}
+use Rattle.text_buffer.specs.Buffer.{BufferState, edit_fault, edited, made, number_applied, settled}
+use Rattle.text_buffer.specs.Outcomes.{pair_of}
+use Rattle.text_buffer.specs.declared.outcomes.Refused.{Refused as Entry}
+use Rattle.session_lines.specs.Report.{line_text, report_text}
+use Rattle.session_lines.specs.declared.report.Report.{Report}
+use Rattle.session_lines.specs.declared.report.Report.TheVariants as report
+use Rattle.session_replay.specs.Work.{at_end, counts_report, edit_reports, edit_reports_by, refused_report, settled_reports}
+use Rattle.session_replay.proofs.Steps.{all_written, behind, line_reported, text-append, text-none, written}
+
+-- a line, and what follows it
+pub more_reported : (r : Report) (rs : List Report) (out mid new : List ℕ) → mid ≡ out ++ line_text r → new ≡ mid ++ report_text rs → new ≡ out ++ report_text (r ∷ rs)
+unfolding report_text
+more_reported r rs out mid new m n = n ∙ ap (λ t. t ++ report_text rs) m ∙ append_assoc out (line_text r) (report_text rs)
+
+-- ---- settling
+
+abbrev settled_of : ℕ → ℕ → List Report
+settled_of r c = if c == 0 then [] else report.Settled r c ∷ []
+
+some_of : (r c : ℕ) (out new : List ℕ) → (c ≡ 0 → ⊥) → new ≡ out ++ line_text (report.Settled r c) → new ≡ out ++ report_text (settled_of r c)
+some_of r c out new h e =
+    line_reported (report.Settled r c) (report.Settled r c) out new refl e ∙ ap (λ t. out ++ report_text (cond t [] (report.Settled r c ∷ []))) (sym (ne_eqb c 0 h))
+
+none_of : (r c : ℕ) (out : List ℕ) → c ≡ 0 → out ≡ out ++ report_text (settled_of r c)
+none_of r c out e = sym (append-nil out) ∙ ap (λ t. out ++ t) (sym text-none) ∙ ap (λ c. out ++ report_text (settled_of r c)) (sym e)
+
+module _ (b after : BufferState) (c : ℕ) (is : after ≡ settled b) (count : c ≡ number_applied b after) where
+  same_count : c ≡ number_applied b (settled b)
+  same_count = count ∙ ap (number_applied b) is
+
+  pub none_settled : (out : List ℕ) → c ≡ 0 → out ≡ out ++ report_text (settled_reports b)
+  none_settled out e = none_of b.replica (number_applied b (settled b)) out (sym same_count ∙ e)
+
+  pub some_settled : (r : ℕ) (out new : List ℕ) → (c ≡ 0 → ⊥) → b.replica ≡ r → new ≡ out ++ line_text (report.Settled r c) → new ≡ out ++ report_text (settled_reports b)
+  some_settled r out new h i e =
+      let line : report.Settled r c ≡ report.Settled b.replica (number_applied b (settled b)) = cc (i, same_count) in
+      some_of b.replica (number_applied b (settled b)) out new (λ z. h (same_count ∙ z)) (e ∙ ap (λ q. out ++ line_text q) line)
+
+-- ---- an edit
+
+-- the buffer and the pieces may go by other names
+same_edit : {A : Type 0} (f : List Piece → BufferState → A) (qs ps : List Piece) (d b : BufferState) → qs ≡ ps → d ≡ b → f qs d ≡ f ps b
+same_edit f qs ps d b q e = ap (λ l. f l d) q ∙ ap (f ps) e
+
+module _ (n : ℕ) (qs ps : List Piece) (d b : BufferState) (pieces : qs ≡ ps) (buffer : d ≡ b) where
+  pub made_reported : (t : Lamport) (op : Operation) (after : BufferState) (out mid new : List ℕ) → edit_fault d qs ≡ None → t ≡ stamp_of op → op ≡ made d qs → after ≡ edited d qs
+      → mid ≡ out ++ line_text (report.Made n t) → new ≡ mid ++ report_text (settled_reports after) → new ≡ out ++ report_text (edit_reports n ps b)
+  made_reported t op after out mid new f s m e w z =
+      let line : report.Made n t ≡ report.Made n (stamp_of (made d qs)) = ap (report.Made n) (s ∙ ap stamp_of m) in
+      more_reported (report.Made n (stamp_of (made d qs))) (settled_reports (edited d qs)) out mid new (w ∙ ap (λ q. out ++ line_text q) line) (z ∙ ap (λ b. mid ++ report_text (settled_reports b)) e)
+      ∙ ap (λ f. out ++ report_text (edit_reports_by f n qs d)) (sym f) ∙ same_edit (λ l b. out ++ report_text (edit_reports n l b)) qs ps d b pieces buffer
+
+-- ---- at the end
+
+abbrev pub refusals : ℕ → List Entry → List Report
+refusals r es = map (refused_report r) (map pair_of es)
+
+pub more_refused : (r : ℕ) (es : List Entry) (i : ℕ) (d : Entry) (out new all : List ℕ) → i < length es → out ++ report_text (refusals r (drop i es)) ≡ all
+    → new ≡ out ++ line_text (report.Refused r (get_or es i d).stamp (get_or es i d).fault) → new ++ report_text (refusals r (drop (i + 1) es)) ≡ all
+more_refused r es i d out new all lt e n =
+    let line : Report = report.Refused r (get_or es i d).stamp (get_or es i d).fault in
+    written (line ∷ []) (refusals r (drop (i + 1) es)) out new all (ap (λ l. out ++ report_text (refusals r l)) (sym (behind es i d lt)) ∙ e) (line_reported line line out new refl n)
+
+pub refused_done : (r : ℕ) (es : List Entry) (i : ℕ) (out all : List ℕ) → length es ≤ i → out ++ report_text (refusals r (drop i es)) ≡ all → out ≡ all
+refused_done r es i out all le e = all_written out all (ap (λ l. out ++ report_text (refusals r l)) (sym (drop_all i es le)) ∙ e)
+
+parts_reported : (rs qs : List Report) (out mid new : List ℕ) → mid ≡ out ++ report_text rs → new ≡ mid ++ report_text qs → new ≡ out ++ report_text (rs ++ qs)
+parts_reported rs qs out mid new m n = n ∙ ap (λ t. t ++ report_text qs) m ∙ append_assoc out (report_text rs) (report_text qs) ∙ ap (λ t. out ++ t) (sym (text-append rs qs))
+
+pub end_reported : (b : BufferState) (r : ℕ) (fs : List (Lamport × OpFault)) (t out one two new : List ℕ) → b.replica ≡ r → fs ≡ b.refused → t ≡ text b.history
+    → one ≡ out ++ line_text (counts_report b) → two ≡ one ++ report_text (map (refused_report r) fs) → new ≡ two ++ line_text (report.Final r t) → new ≡ out ++ report_text (at_end b)
+end_reported b r fs t out one two new i f e h k l =
+    let last : Report = report.Final b.replica (text b.history) in
+    let same : report.Final r t ≡ last = cc in
+    let middle : two ≡ one ++ report_text (map (refused_report b.replica) b.refused) =
+    k ∙ ap (λ q. one ++ report_text (map (refused_report q) fs)) (sym i) ∙ ap (λ fs. one ++ report_text (map (refused_report b.replica) fs)) f in
+    more_reported (counts_report b) (map (refused_report b.replica) b.refused ++ last ∷ []) out one new h
+    (parts_reported (map (refused_report b.replica) b.refused) (last ∷ []) one two new middle (line_reported (report.Final r t) last two new same l))

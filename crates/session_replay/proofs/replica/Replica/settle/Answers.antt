@@ -1,0 +1,18 @@
+use Rattle.std.proofs.Common.{◌≡◌, ◌++◌, ap, ◌∙◌}
+use Rattle.session_lines.specs.Report.{report_text}
+use Rattle.text_buffer.specs.Buffer.{BufferState}
+use Rattle.session_replay.specs.Work.{settled_reports}
+use Rattle.session_replay.proofs.Replicas.{none_settled, some_settled}
+use Rattle.session_replay.proofs.replica.Replica.settle.Goals as goal
+
+pub returns-then-count-eq0-clause-report : goal.returns-then-count-eq0-clause-report
+returns-then-count-eq0-clause-report c =
+    let same : c.self.inside.buffer ≡ c.args.self.now = cc c.self.view_is in
+    none_settled _ _ _ c.in_ok-count.ensures.new c.in_ok-count.ensures.applied c.args.out.now.items c.if-count-eq0.true
+    ∙ ap (λ (b : BufferState). c.args.out.now.items ++ report_text (settled_reports b)) same
+
+pub returns-clause-report : goal.returns-clause-report
+returns-clause-report c =
+    let same : c.self.inside.buffer ≡ c.args.self.now = cc c.self.view_is in
+    some_settled _ _ _ c.in_ok-count.ensures.new c.in_ok-count.ensures.applied _ _ _ c.if-count-eq0.false c.self.invariant c.in_ok-write_line.ensures.ok
+    ∙ ap (λ (b : BufferState). c.args.out.now.items ++ report_text (settled_reports b)) same
