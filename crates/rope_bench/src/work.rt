@@ -1,5 +1,5 @@
 //! The work that is timed. Each part answers a number that hangs on what it did.
-ghost use Rattle.std.specs.Prelude.{◌≡◌, ◌+◌, ◌^◌, ◌≤◌, length, IfOk};
+ghost use Rattle.std.specs.Prelude.{◌≡◌, ◌+◌, ◌*◌, ◌^◌, ◌≤◌, ◌<◌, ◌++◌, ◌%◌, length, slice_range, IfOk, OnOk, OnErr};
 ghost use Rattle.std.specs.Str.{IsAscii};
 
 use crate::text::{short, step};
@@ -12,7 +12,8 @@ const MOST: u64 = 1 << 39;
 
 /// The rope of a text, where that is ASCII and not too long; else the empty rope.
 pub fn made(alloc: Global, text: &str) -> Result<Rope, AllocError>
-    ensures { IfOk result (λ rope. IsAscii rope) }
+    ensures ascii { IfOk result (λ rope. IsAscii rope) }
+    ensures whole { IsAscii text.now → length text.now < 2 ^ 39 → IfOk result (λ rope. rope ≡ text.now) }
 {
     if text.is_ascii() && (text.len() as u64) < MOST {
         Rope::from_str(alloc, text)
@@ -70,7 +71,8 @@ fn part(alloc: Global, rope: &Rope, start: u64, end: u64) -> Result<Rope, AllocE
     requires ascii { IsAscii rope.now }
     requires order { start ≤ end }
     requires within { end ≤ length rope.now }
-    ensures { IfOk result (λ part. IsAscii part) }
+    ensures ascii { IfOk result (λ part. IsAscii part) }
+    ensures part { IfOk result (λ part. part ≡ slice_range rope.now start end) }
 {
     rope.slice(alloc, start, end)
 }
@@ -79,7 +81,9 @@ fn part(alloc: Global, rope: &Rope, start: u64, end: u64) -> Result<Rope, AllocE
 fn join(alloc: Global, front: &mut Rope, back: Rope) -> Result<(), AllocError>
     requires front { IsAscii front.old }
     requires back { IsAscii back }
-    ensures { IfOk result (λ _. IsAscii front.new) }
+    ensures ascii { IfOk result (λ _. IsAscii front.new) }
+    ensures ok { OnOk result (length front.old < 2 ^ 39 → length back < 2 ^ 39 → front.new ≡ front.old ++ back) }
+    ensures err { OnErr result (front.new ≡ front.old) }
 {
     if front.len() < MOST && back.len() < MOST {
         front.append(alloc, back)?;
@@ -122,10 +126,11 @@ fn replace(alloc: Global, rope: &mut Rope, x: u64) -> Result<(), AllocError>
     Ok(())
 }
 
-/// Replaces n ranges.
+/// Replaces n ranges, and answers the rope's length.
 pub fn replaces(alloc: Global, rope: &mut Rope, n: u64) -> Result<u64, AllocError>
     requires { IsAscii rope.old }
-    ensures { IfOk result (λ _. IsAscii rope.new) }
+    ensures ascii { IfOk result (λ _. IsAscii rope.new) }
+    ensures len { IfOk result (λ len. len ≡ length rope.new) }
 {
     let mut x = 1u64;
     for _ in 0..n {
@@ -165,13 +170,18 @@ pub fn puts_together(alloc: Global, rope: &Rope, n: u64) -> Result<u64, AllocErr
 }
 
 // The length of a rope, told by another that shares its chunks.
-fn shared_len(rope: &Rope) -> Result<u64, AllocError> {
+fn shared_len(rope: &Rope) -> Result<u64, AllocError>
+    ensures { IfOk result (λ len. len ≡ length rope.now) }
+{
     let other = rope.share()?;
     Ok(other.len())
 }
 
-/// Shares a rope n times.
-pub fn shares(rope: &Rope, n: u64) -> Result<u64, AllocError> {
+/// Shares a rope n times, and answers the sum of the lengths of those that share it.
+#[tactic(auto, using(crate::proofs::Sums::one_more))]
+pub fn shares(rope: &Rope, n: u64) -> Result<u64, AllocError>
+    ensures { IfOk result (λ sum. sum ≡ (n * length rope.now) % 2 ^ 64) }
+{
     let mut sum = 0u64;
     for _ in 0..n {
         sum = sum.wrapping_add(shared_len(rope)?);
