@@ -170,16 +170,16 @@ module _ (f : KeptCell → Bool) where
           apart : (a b : ℕ) → a ≤ b → eqb a b ≡ false → a < b
           apart a b h e = grind (arith, nat_tests)
 
--- the changes that are gone through
-taken : (f : Piece → Piece) (s : List Piece) (i : ℕ) (c : Piece) → i < length s → c ≡ get_or s i c → map f (take (suc i) s) ≡ map f (take i s) ++ f c ∷ []
+-- what is gone through
+taken : {A B : Type 0} (f : A → B) (s : List A) (i : ℕ) (c : A) → i < length s → c ≡ get_or s i c → map f (take (suc i) s) ≡ map f (take i s) ++ f c ∷ []
 taken f [] i c h e = absurd (omega arith)
-taken f (x ∷ s) zero c h e = ap (λ (z : Piece). f z ∷ []) (sym e)
+taken f (x ∷ s) zero c h e = ap (λ z. f z ∷ []) (sym e)
 taken f (x ∷ s) (suc i) c h e = ap (λ z. f x ∷ z) (taken f s i c (omega arith) e)
 
-pub one_more : (f : Piece → Piece) (s : List Piece) (i : ℕ) (c q : Piece) (old new : List Piece) → i < length s → c ≡ get_or s i c → old ≡ map f (take i s) → new ≡ old ++ q ∷ [] → q ≡ f c → new ≡ map f (take (i + 1) s)
+pub one_more : {A B : Type 0} (f : A → B) (s : List A) (i : ℕ) (c : A) (q : B) (old new : List B) → i < length s → c ≡ get_or s i c → old ≡ map f (take i s) → new ≡ old ++ q ∷ [] → q ≡ f c → new ≡ map f (take (i + 1) s)
 one_more f s i c q old new h e o n g =
     let t : map f (take (i + 1) s) ≡ map f (take i s) ++ f c ∷ [] = rw add-one (taken f s i c h e) in
-    n ∙ ap (λ (z : List Piece). z ++ q ∷ []) o ∙ ap (λ (z : Piece). map f (take i s) ++ z ∷ []) g ∙ sym t
+    n ∙ ap (λ z. z ++ q ∷ []) o ∙ ap (λ z. map f (take i s) ++ z ∷ []) g ∙ sym t
 
 pub ordered_le : (at end : ℕ) (ps : List Piece) → Ordered at end ps → at ≤ end
 ordered_le at end [] o = o

@@ -1,3 +1,4 @@
+pub mod Undone
 pub mod Steps
 pub mod Told
 pub mod Counting

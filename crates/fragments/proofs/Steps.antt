@@ -1,5 +1,5 @@
 -- Steps of a walk over cells.
-use Rattle.std.proofs.Common.{◌≡◌, ℕ, zero, suc, ◌+◌, ◌<◌, ◌≤◌, ◌⊎◌, Bool, true, false, List, [], ◌∷◌, ◌++◌, length, get_or, drop, refl, sym, ◌∙◌, ap, inl, inr, arith, append_assoc, add-one}
+use Rattle.std.proofs.Common.{◌≡◌, ℕ, zero, suc, ◌+◌, ◌<◌, ◌≤◌, ◌⊎◌, true, false, List, [], ◌∷◌, ◌++◌, length, get_or, drop, refl, sym, ◌∙◌, ap, inl, inr, arith, append_assoc, add-one, Option}
 use Rattle.std.proofs.Math.Seq.{drop-cons}
 use Rattle.std.proofs.lemmas.List.{drop_all}
 use Rattle.std.specs.List.{insert}
@@ -8,6 +8,7 @@ use Rattle.lamport_clock.specs.Stamps.{later}
 use Rattle.lamport_clock.specs.Versions.{Entries, sees}
 use Rattle.std.proofs.lemmas.Bool.{cases_Bool}
 use Rattle.op_model.specs.Facts.{with_deletion}
+use Rattle.undo_map.specs.declared.entry.UndoEntry.{UndoEntry}
 use Rattle.fragments.specs.declared.cell.KeptCell.{KeptCell}
 use Rattle.fragments.specs.Kept.{place_of}
 use Rattle.fragments.specs.Passed.{Passed, touched, pass_seen, pass_later}
@@ -33,7 +34,7 @@ drop_at s i c h e = let g : get_or s i c ∷ drop (suc i) s ≡ c ∷ drop (i + 
 over : (items : List KeptCell) (c : KeptCell) (xs : List KeptCell) → (items ++ c ∷ []) ++ xs ≡ items ++ c ∷ xs
 over items c xs = append_assoc items (c ∷ []) xs
 
-pub seen_step : (b : Bool) (t : Lamport) (v : Entries) (m n : ℕ) (s : List KeptCell) (i : ℕ) (c : KeptCell) → i < length s → c ≡ get_or s i c → sees v c.stamp ≡ true → m ≡ suc n
+pub seen_step : (b : Option (List UndoEntry)) (t : Lamport) (v : Entries) (m n : ℕ) (s : List KeptCell) (i : ℕ) (c : KeptCell) → i < length s → c ≡ get_or s i c → sees v c.stamp ≡ true → m ≡ suc n
     → (items : List KeptCell) → ((items ++ touched b t v c ∷ []) ++ (pass_seen b t v n (drop (i + 1) s)).out ≡ items ++ (pass_seen b t v m (drop i s)).out)
     × ((pass_seen b t v n (drop (i + 1) s)).rest ≡ (pass_seen b t v m (drop i s)).rest)
 seen_step b t v m n s i c h e k q items =
@@ -42,7 +43,7 @@ seen_step b t v m n s i c h e k q items =
     ap (λ x. pass_seen b t v x (drop i s)) q ∙ ap (pass_seen b t v (suc n)) (drop_at s i c h e) ∙ rw k refl in
     (over items (touched b t v c) (pass_seen b t v n r).out ∙ ap (λ (w : Passed). items ++ w.out) (sym g), ap (λ (w : Passed). w.rest) (sym g))
 
-pub unseen_step : (b : Bool) (t : Lamport) (v : Entries) (m : ℕ) (s : List KeptCell) (i : ℕ) (c : KeptCell) → i < length s → c ≡ get_or s i c → sees v c.stamp ≡ false → 0 < m
+pub unseen_step : (b : Option (List UndoEntry)) (t : Lamport) (v : Entries) (m : ℕ) (s : List KeptCell) (i : ℕ) (c : KeptCell) → i < length s → c ≡ get_or s i c → sees v c.stamp ≡ false → 0 < m
     → (items : List KeptCell) → ((items ++ c ∷ []) ++ (pass_seen b t v m (drop (i + 1) s)).out ≡ items ++ (pass_seen b t v m (drop i s)).out)
     × ((pass_seen b t v m (drop (i + 1) s)).rest ≡ (pass_seen b t v m (drop i s)).rest)
 unseen_step b t v zero s i c h e k q items = absurd (omega arith)
@@ -52,7 +53,7 @@ unseen_step b t v (suc n) s i c h e k q items =
     ap (pass_seen b t v (suc n)) (drop_at s i c h e) ∙ rw k refl in
     (over items c (pass_seen b t v (suc n) r).out ∙ ap (λ (w : Passed). items ++ w.out) (sym g), ap (λ (w : Passed). w.rest) (sym g))
 
-pub seen_end : (b : Bool) (t : Lamport) (v : Entries) (m : ℕ) (s : List KeptCell) (i : ℕ) → (m ≡ 0) ⊎ (length s ≤ i) → pass_seen b t v m (drop i s) ≡ record { out = []; rest = drop i s }
+pub seen_end : (b : Option (List UndoEntry)) (t : Lamport) (v : Entries) (m : ℕ) (s : List KeptCell) (i : ℕ) → (m ≡ 0) ⊎ (length s ≤ i) → pass_seen b t v m (drop i s) ≡ record { out = []; rest = drop i s }
 seen_end b t v m s i (inl e) = ap (λ x. pass_seen b t v x (drop i s)) e
 seen_end b t v m s i (inr e) = let g : drop i s ≡ [] = drop_all i s e in rw g (none m)
   where
@@ -84,7 +85,7 @@ pub record Kept (o r items : List KeptCell) (w : Passed) (i : ℕ) (s : List Kep
   pub rest : w.rest ≡ r
   pub within : i ≤ length s
 
-pub after_seen : (b : Bool) (t : Lamport) (v : Entries) (m n : ℕ) (s : List KeptCell) (i j : ℕ) (c x : KeptCell) (items new out rest : List KeptCell)
+pub after_seen : (b : Option (List UndoEntry)) (t : Lamport) (v : Entries) (m n : ℕ) (s : List KeptCell) (i j : ℕ) (c x : KeptCell) (items new out rest : List KeptCell)
     → i < length s → c ≡ get_or s i c → sees v c.stamp ≡ true → m ≡ suc n → j ≡ i + 1 → x ≡ touched b t v c → new ≡ items ++ x ∷ []
     → items ++ (pass_seen b t v m (drop i s)).out ≡ out → (pass_seen b t v m (drop i s)).rest ≡ rest
     → Kept out rest new (pass_seen b t v n (drop j s)) j s
@@ -93,7 +94,7 @@ after_seen b t v m n s i j c x items new out rest h e k q g f d o r =
     let y : new ≡ items ++ touched b t v c ∷ [] = d ∙ ap (λ x. items ++ x ∷ []) f in
     rw (g, y) (record { out = z.0 ∙ o; rest = z.1 ∙ r; within = omega arith })
 
-pub after_unseen : (b : Bool) (t : Lamport) (v : Entries) (m : ℕ) (s : List KeptCell) (i j : ℕ) (c x : KeptCell) (items new out rest : List KeptCell)
+pub after_unseen : (b : Option (List UndoEntry)) (t : Lamport) (v : Entries) (m : ℕ) (s : List KeptCell) (i j : ℕ) (c x : KeptCell) (items new out rest : List KeptCell)
     → i < length s → c ≡ get_or s i c → sees v c.stamp ≡ false → 0 < m → j ≡ i + 1 → x ≡ c → new ≡ items ++ x ∷ []
     → items ++ (pass_seen b t v m (drop i s)).out ≡ out → (pass_seen b t v m (drop i s)).rest ≡ rest
     → Kept out rest new (pass_seen b t v m (drop j s)) j s

@@ -1,6 +1,6 @@
 -- The walk lays an edit into the cells of a history: the cells of the history with the edit.
-use Rattle.std.proofs.Common.{◌≡◌, ℕ, zero, suc, ◌+◌, ◌-◌, ◌%◌, ◌<◌, Bool, true, false, cond, not, leb, eqb, List, [], ◌∷◌, ◌++◌, length, map, get_or, refl, sym, ◌∙◌, ap, inl, inr, arith, append_assoc}
-use Rattle.std.specs.List.{filter, list_any}
+use Rattle.std.proofs.Common.{◌≡◌, ℕ, zero, suc, ◌+◌, ◌-◌, ◌%◌, ◌<◌, Bool, true, false, cond, leb, eqb, List, [], ◌∷◌, ◌++◌, length, map, get_or, refl, sym, ◌∙◌, ap, inl, inr, arith, append_assoc, Option, None, Some}
+use Rattle.std.specs.List.{filter}
 use Rattle.std.proofs.lemmas.Bool.{cases_Bool, le-leb}
 use Rattle.std.proofs.lemmas.List.{append-nil, map-append, length-append}
 use Rattle.lamport_clock.specs.declared.stamp.Lamport.{Lamport}
@@ -8,69 +8,42 @@ use Rattle.lamport_clock.specs.Stamps.{later}
 use Rattle.lamport_clock.specs.Versions.{Entries, sees}
 use Rattle.op_model.specs.declared.operation.Piece.{Piece}
 use Rattle.op_model.specs.declared.operation.Operation.{Operation}
-use Rattle.op_model.specs.declared.operation.Operation.TheVariants.{Edit, Undo}
 use Rattle.op_model.specs.Sorted.{Each}
-use Rattle.op_model.specs.Operations.{stamp_of, version_of, pieces_of, counts_of, is_edit}
-use Rattle.op_model.specs.Histories.{History, Distinct, base, newest_first, seen}
+use Rattle.op_model.specs.Operations.{stamp_of, version_of, pieces_of, is_edit}
+use Rattle.op_model.specs.Histories.{History, Distinct, base, newest_first, by_stamp, seen}
 use Rattle.op_model.specs.Cells.{Cell, Place, cells, seq, seq_where, text_places, everything}
 use Rattle.op_model.specs.Shown.{count, undone, all_undone, texts, byte, shown, shown_where, deleters_where, text, text_where}
 use Rattle.op_model.specs.Laid.{lay}
-use Rattle.op_model.specs.Facts.{Fact, fact, told, alike, Marking, was_visible, with_deletion, edit_marking}
+use Rattle.op_model.specs.Facts.{Fact, fact, told, alike, Marking, with_deletion, edit_marking, seen_by}
 use Rattle.op_model.specs.Walked.{Run, run_facts, facts_of, Walked, none_out, advance, skip_later, placed, walk, front, back, push as push_run, touched as touched_run}
 use Rattle.op_model.specs.Answers.{answer}
 use Rattle.op_model.specs.Answers.Answer.{Good}
 use Rattle.op_model.specs.Lawful.{Lawful}
-use Rattle.op_model.proofs.Insertion.{each_filter}
 use Rattle.op_model.proofs.Good.{Ready, lawful_ready, good_more, base_fits}
-use Rattle.op_model.proofs.OneMore.{one_more, none_yet}
+use Rattle.op_model.proofs.OneMore.{newest_append, one_more, none_yet}
 use Rattle.op_model.proofs.Counted.{lawful_counted}
-use Rattle.op_model.proofs.OnePass.{walk_seen}
+use Rattle.op_model.proofs.OnePass.{walk_seen, count_newest}
+use Rattle.op_model.proofs.UndoTold.{fact_anew, undo_told}
 use Rattle.op_model.proofs.WholeTexts.{byte_of, byte_is, bytes_told, in_last, get_append}
+use Rattle.undo_map.specs.declared.entry.UndoEntry.{UndoEntry}
 use Rattle.fragments.specs.declared.cell.KeptCell.{KeptCell}
-use Rattle.fragments.specs.Kept.{AllEdits, kept_cell, kept_cells, shown_bytes}
+use Rattle.undo_map.specs.Undos.{undo_entries}
+use Rattle.fragments.specs.Kept.{kept_cell, kept_cells, shown_bytes, was_shown, is_shown, anew}
 use Rattle.fragments.specs.Passed.{Passed, push, touched, pass_seen, pass_later, new_cells, laid_from}
+use Rattle.fragments.proofs.Undone.{was_kept, is_kept}
 
--- ---- where nothing is undone
+-- ---- marks by undo counts
 
-edit_counts : (o : Operation) → is_edit o ≡ true → counts_of o ≡ []
-edit_counts (Edit x) e = refl
-edit_counts (Undo x) e = cc
-
-count_edits : (h : History) (u : Lamport) → AllEdits h → count h u ≡ 0
-count_edits [] u e = refl
-count_edits (o ∷ h) u e = let a = edit_counts o e.0 in let b = count_edits h u e.1 in rw (a, b) refl
-
-none_undone : (h : History) (u : Lamport) → AllEdits h → undone h u ≡ false
-none_undone h u e = ap (λ (n : ℕ). eqb (n % 2) 1) (count_edits h u e)
-
-seen_edits : (h : History) (v : Entries) → AllEdits h → AllEdits (seen h v)
-seen_edits h v e = each_filter (λ (o : Operation). is_edit o ≡ true) (λ (o : Operation). sees v (stamp_of o)) h e
-
-any_seen : Entries → List Lamport → Bool
-any_seen v d = list_any (λ u. sees v u) d
-
-module _ (w : History) (v : Entries) (n : (u : Lamport) → undone w u ≡ false) where
-  all_plain : (d : List Lamport) → all_undone w (filter (sees v) d) ≡ not (any_seen v d)
-  unfolding any_seen
-  all_plain [] = refl
-  all_plain (x ∷ d) = elim (cases_Bool (sees v x)) [
-    | inl e ↦ (let k = n x in rw (e, k) refl)
-    | inr e ↦ rw e (all_plain d)
-  ]
-
-  was_plain : (u : Lamport) (d : List Lamport) → was_visible w v u d ≡ not (any_seen v d)
-  was_plain u d = let k = n u in rw k (all_plain d)
-
-abbrev plain : Lamport → Entries → Marking
-plain t v = record {
-  visible = λ u b d. cond (not (any_seen v d)) false b;
-  deletions = λ u d. cond (not (any_seen v d)) (with_deletion t d) d;
+abbrev by_entries : List UndoEntry → Lamport → Entries → Marking
+by_entries w t v = record {
+  visible = λ u b d. cond (was_shown w v u d) false b;
+  deletions = λ u d. cond (was_shown w v u d) (with_deletion t d) d;
 }
 
-marking_plain : (t : Lamport) (w : History) (v : Entries) → ((u : Lamport) → undone w u ≡ false) → edit_marking t w v ≡ plain t v
-marking_plain t w v n = λ i. record {
-  visible = λ u b d. cond (was_plain w v n u d i) false b;
-  deletions = λ u d. cond (was_plain w v n u d i) (with_deletion t d) d;
+marking_kept : (t : Lamport) (h : History) (v : Entries) → edit_marking t (seen h v) v ≡ by_entries (undo_entries h) t v
+marking_kept t h v = λ i. record {
+  visible = λ u b d. cond (was_kept h v u d i) false b;
+  deletions = λ u d. cond (was_kept h v u d i) (with_deletion t d) d;
 }
 
 -- ---- cells as runs of one cell
@@ -121,29 +94,33 @@ step_kept m keep b n r rs e l = rw e (go (leb r.len (suc n)) (le-leb r.len (suc 
     go true e y f = ap (λ k. push_run (touched_run m b r) (advance m keep b k rs)) f
     go false e y f = cc
 
-module _ (t : Lamport) (v : Entries) where
+module _ (w : List UndoEntry) (t : Lamport) (v : Entries) where
   abbrev keep : Lamport → Bool
   keep = sees v
 
-  touch_run : (b : Bool) (c : KeptCell) → touched_run (plain t v) b (run_of c) ≡ run_of (touched b t v c)
-  unfolding any_seen
+  -- whether cells are marked
+  abbrev by : Bool → Option (List UndoEntry)
+  by true = Some w
+  by false = None
+
+  touch_run : (b : Bool) (c : KeptCell) → touched_run (by_entries w t v) b (run_of c) ≡ run_of (touched (by b) t v c)
   touch_run false c = refl
-  touch_run true c = pick (list_any (λ u. sees v u) c.deletions)
+  touch_run true c = pick (was_shown w v c.stamp c.deletions)
     where
-      pick : (x : Bool) → record { stamp = c.stamp; offset = c.number; len = 1; visible = cond (not x) false c.visible; deletions = cond (not x) (with_deletion t c.deletions) c.deletions }
-          ≡ run_of (cond x c (record { stamp = c.stamp; number = c.number; byte = c.byte; visible = false; deletions = with_deletion t c.deletions }))
+      pick : (x : Bool) → record { stamp = c.stamp; offset = c.number; len = 1; visible = cond x false c.visible; deletions = cond x (with_deletion t c.deletions) c.deletions }
+          ≡ run_of (cond x (record { stamp = c.stamp; number = c.number; byte = c.byte; visible = false; deletions = with_deletion t c.deletions }) c)
       pick true = refl
       pick false = refl
 
-  seen_runs : (b : Bool) (n : ℕ) (s : List KeptCell) → advance (plain t v) keep b n (runs s) ≡ as_runs (pass_seen b t v n s)
+  seen_runs : (b : Bool) (n : ℕ) (s : List KeptCell) → advance (by_entries w t v) keep b n (runs s) ≡ as_runs (pass_seen (by b) t v n s)
   seen_runs b zero s = refl
   seen_runs b (suc n) [] = refl
   seen_runs b (suc n) (c ∷ s) = elim (cases_Bool (sees v c.stamp)) [
-    | inl e ↦ (let y : pass_seen b t v (suc n) (c ∷ s) ≡ push (touched b t v c) (pass_seen b t v n s) = rw e refl in
-        step_kept (plain t v) keep b n (run_of c) (runs s) e refl ∙ ap (λ (r : Run). push_run r (advance (plain t v) keep b n (runs s))) (touch_run b c)
-        ∙ ap (push_run (run_of (touched b t v c))) (seen_runs b n s) ∙ ap as_runs (sym y))
-    | inr e ↦ (let y : pass_seen b t v (suc n) (c ∷ s) ≡ push c (pass_seen b t v (suc n) s) = rw e refl in
-        let z : advance (plain t v) keep b (suc n) (run_of c ∷ runs s) ≡ push_run (run_of c) (advance (plain t v) keep b (suc n) (runs s)) = rw e refl in
+    | inl e ↦ (let y : pass_seen (by b) t v (suc n) (c ∷ s) ≡ push (touched (by b) t v c) (pass_seen (by b) t v n s) = rw e refl in
+        step_kept (by_entries w t v) keep b n (run_of c) (runs s) e refl ∙ ap (λ (r : Run). push_run r (advance (by_entries w t v) keep b n (runs s))) (touch_run b c)
+        ∙ ap (push_run (run_of (touched (by b) t v c))) (seen_runs b n s) ∙ ap as_runs (sym y))
+    | inr e ↦ (let y : pass_seen (by b) t v (suc n) (c ∷ s) ≡ push c (pass_seen (by b) t v (suc n) s) = rw e refl in
+        let z : advance (by_entries w t v) keep b (suc n) (run_of c ∷ runs s) ≡ push_run (run_of c) (advance (by_entries w t v) keep b (suc n) (runs s)) = rw e refl in
         z ∙ ap (push_run (run_of c)) (seen_runs b (suc n) s) ∙ ap as_runs (sym y))
   ]
 
@@ -155,22 +132,22 @@ module _ (t : Lamport) (v : Entries) where
   ]
 
   -- the walk over runs, and the walk over cells
-  walk_cells : (at k : ℕ) (ps : List Piece) (s : List KeptCell) → facts_of (walk (plain t v) keep t at k ps (runs s)) ≡ map fact_of (laid_from t v at k ps s)
+  walk_cells : (at k : ℕ) (ps : List Piece) (s : List KeptCell) → facts_of (walk (by_entries w t v) keep t at k ps (runs s)) ≡ map fact_of (laid_from w t v at k ps s)
   walk_cells at k [] s = facts_runs s
   walk_cells at k (p ∷ ps) s =
       let len : ℕ = length p.text in
-      let a : Passed = pass_seen false t v (p.start - at) s in
+      let a : Passed = pass_seen None t v (p.start - at) s in
       let b : Passed = pass_later t a.rest in
-      let d : Passed = pass_seen true t v (p.end - p.start) b.rest in
-      let aa : Walked = advance (plain t v) keep false (p.start - at) (runs s) in
+      let d : Passed = pass_seen (Some w) t v (p.end - p.start) b.rest in
+      let aa : Walked = advance (by_entries w t v) keep false (p.start - at) (runs s) in
       let bb : Walked = skip_later t aa.rest in
-      let dd : Walked = advance (plain t v) keep true (p.end - p.start) bb.rest in
-      let all : Walked → Walked → Walked → List Fact = λ x y z. facts_of ((x.out ++ (y.out ++ (placed t k len ++ z.out))) ++ walk (plain t v) keep t p.end (k + len) ps z.rest) in
+      let dd : Walked = advance (by_entries w t v) keep true (p.end - p.start) bb.rest in
+      let all : Walked → Walked → Walked → List Fact = λ x y z. facts_of ((x.out ++ (y.out ++ (placed t k len ++ z.out))) ++ walk (by_entries w t v) keep t p.end (k + len) ps z.rest) in
       let e1 : aa ≡ as_runs a = seen_runs false (p.start - at) s in
       let e2 : bb ≡ as_runs b = ap (λ (x : Walked). skip_later t x.rest) e1 ∙ later_runs a.rest in
-      let e3 : dd ≡ as_runs d = ap (λ (x : Walked). advance (plain t v) keep true (p.end - p.start) x.rest) e2 ∙ seen_runs true (p.end - p.start) b.rest in
+      let e3 : dd ≡ as_runs d = ap (λ (x : Walked). advance (by_entries w t v) keep true (p.end - p.start) x.rest) e2 ∙ seen_runs true (p.end - p.start) b.rest in
       ap (λ (x : Walked). all x bb dd) e1 ∙ ap (λ (x : Walked). all (as_runs a) x dd) e2 ∙ ap (λ (x : Walked). all (as_runs a) (as_runs b) x) e3
-      ∙ joined (runs a.out ++ (runs b.out ++ (placed t k len ++ runs d.out))) (a.out ++ (b.out ++ (new_cells t k p.text ++ d.out))) (walk (plain t v) keep t p.end (k + len) ps (runs d.rest)) (laid_from t v p.end (k + len) ps d.rest)
+      ∙ joined (runs a.out ++ (runs b.out ++ (placed t k len ++ runs d.out))) (a.out ++ (b.out ++ (new_cells t k p.text ++ d.out))) (walk (by_entries w t v) keep t p.end (k + len) ps (runs d.rest)) (laid_from w t v p.end (k + len) ps d.rest)
       (joined (runs a.out) a.out (runs b.out ++ (placed t k len ++ runs d.out)) (b.out ++ (new_cells t k p.text ++ d.out)) (facts_runs a.out)
       (joined (runs b.out) b.out (placed t k len ++ runs d.out) (new_cells t k p.text ++ d.out) (facts_runs b.out)
       (joined (placed t k len) (new_cells t k p.text) (runs d.out) d.out (placed_facts t k len ∙ new_facts t k p.text) (facts_runs d.out))))
@@ -182,18 +159,18 @@ module _ (t : Lamport) (v : Entries) where
     abbrev Has : KeptCell → Type 0
     Has c = c.byte ≡ f (cell_of c)
 
-    has_touched : (b : Bool) (c : KeptCell) → Has c → Has (touched b t v c)
-    has_touched false c e = e
-    has_touched true c e = pick (list_any (λ u. sees v u) c.deletions)
+    has_touched : (m : Option (List UndoEntry)) (c : KeptCell) → Has c → Has (touched m t v c)
+    has_touched None c e = e
+    has_touched (Some z) c e = pick (was_shown z v c.stamp c.deletions)
       where
-        pick : (x : Bool) → Has (cond x c (record { stamp = c.stamp; number = c.number; byte = c.byte; visible = false; deletions = with_deletion t c.deletions }))
+        pick : (x : Bool) → Has (cond x (record { stamp = c.stamp; number = c.number; byte = c.byte; visible = false; deletions = with_deletion t c.deletions }) c)
         pick true = e
         pick false = e
 
     abbrev Both : Passed → Type 0
     Both p = Each Has p.out × Each Has p.rest
 
-    has_seen : (b : Bool) (n : ℕ) (s : List KeptCell) → Each Has s → Both (pass_seen b t v n s)
+    has_seen : (b : Option (List UndoEntry)) (n : ℕ) (s : List KeptCell) → Each Has s → Both (pass_seen b t v n s)
     has_seen b zero s e = (tt, e)
     has_seen b (suc n) [] e = (tt, tt)
     has_seen b (suc n) (c ∷ s) e = elim (cases_Bool (sees v c.stamp)) [
@@ -219,17 +196,17 @@ module _ (t : Lamport) (v : Entries) where
     each_append [] ys e g = g
     each_append (x ∷ xs) ys e g = (e.0, each_append xs ys e.1 g)
 
-    has_laid : (at k : ℕ) (ps : List Piece) (pre : List ℕ) (s : List KeptCell) → whole ≡ pre ++ texts ps → k ≡ length pre → Each Has s → Each Has (laid_from t v at k ps s)
+    has_laid : (at k : ℕ) (ps : List Piece) (pre : List ℕ) (s : List KeptCell) → whole ≡ pre ++ texts ps → k ≡ length pre → Each Has s → Each Has (laid_from w t v at k ps s)
     has_laid at k [] pre s e l h = h
     has_laid at k (p ∷ ps) pre s e l h =
-        let a : Passed = pass_seen false t v (p.start - at) s in
+        let a : Passed = pass_seen None t v (p.start - at) s in
         let b : Passed = pass_later t a.rest in
-        let d : Passed = pass_seen true t v (p.end - p.start) b.rest in
-        let ha = has_seen false (p.start - at) s h in
+        let d : Passed = pass_seen (Some w) t v (p.end - p.start) b.rest in
+        let ha = has_seen None (p.start - at) s h in
         let hb = has_later a.rest ha.1 in
-        let hd = has_seen true (p.end - p.start) b.rest hb.1 in
+        let hd = has_seen (Some w) (p.end - p.start) b.rest hb.1 in
         let hn = has_new k p.text pre (texts ps) e l in
-        each_append (a.out ++ (b.out ++ (new_cells t k p.text ++ d.out))) (laid_from t v p.end (k + length p.text) ps d.rest)
+        each_append (a.out ++ (b.out ++ (new_cells t k p.text ++ d.out))) (laid_from w t v p.end (k + length p.text) ps d.rest)
         (each_append a.out (b.out ++ (new_cells t k p.text ++ d.out)) ha.0 (each_append b.out (new_cells t k p.text ++ d.out) hb.0 (each_append (new_cells t k p.text) d.out hn hd.0)))
         (has_laid p.end (k + length p.text) ps (pre ++ p.text) d.rest (e ∙ sym (append_assoc pre p.text (texts ps))) (let g = length-append pre p.text in omega arith) hd.1)
 
@@ -259,9 +236,10 @@ old_bytes : (h g : History) (s : List Cell) → Each (λ (q : Fact). byte_of h q
 old_bytes h g [] e = tt
 old_bytes h g (c ∷ s) e = (e.0, old_bytes h g s e.1)
 
-pub laid_kept : (h : History) (op : Operation) → Lawful h → AllEdits h → answer h [] op ≡ Good → is_edit op ≡ true
-    → laid_from (stamp_of op) (version_of op) 0 0 (pieces_of op) (kept_cells h) ≡ kept_cells (h ++ op ∷ [])
-laid_kept h op l a g e =
+pub laid_kept : (h : History) (op : Operation) → Lawful h → answer h [] op ≡ Good → is_edit op ≡ true
+    → laid_from (undo_entries h) (stamp_of op) (version_of op) 0 0 (pieces_of op) (kept_cells h) ≡ kept_cells (h ++ op ∷ [])
+laid_kept h op l g e =
+    let w : List UndoEntry = undo_entries h in
     let t : Lamport = stamp_of op in
     let v : Entries = version_of op in
     let ps : List Piece = pieces_of op in
@@ -270,12 +248,44 @@ laid_kept h op l a g e =
     let d = r.0.distinct in
     let d2 : Distinct g2 = (good_more h op r g).0.0.distinct in
     let s : List KeptCell = kept_cells h in
-    let n : (u : Lamport) → undone (seen h v) u ≡ false = λ u. none_undone (seen h v) u (seen_edits h v a) in
-    let facts : map fact_of (laid_from t v 0 0 ps s) ≡ told g2 =
-    sym (walk_cells t v 0 0 ps s) ∙ ap (λ (m : Marking). facts_of (walk m (sees v) t 0 0 ps (runs s))) (sym (marking_plain t (seen h v) v n))
+    let facts : map fact_of (laid_from w t v 0 0 ps s) ≡ told g2 =
+    sym (walk_cells w t v 0 0 ps s) ∙ ap (λ (m : Marking). facts_of (walk m (sees v) t 0 0 ps (runs s))) (sym (marking_kept t h v))
     ∙ walk_seen h op (runs s) r (lawful_counted h l) g e (some_runs s) (facts_runs s ∙ told_kept h (cells (seq h))) in
-    all_kept g2 (laid_from t v 0 0 ps s) (cells (seq g2)) facts
-    (has_laid t v (byte_of g2) (texts ps) (λ k. byte_is g2 d2 op (in_last h op) k) 0 0 ps [] s refl refl (old_bytes h g2 (cells (seq h)) (bytes_told h op d d2)))
+    all_kept g2 (laid_from w t v 0 0 ps s) (cells (seq g2)) facts
+    (has_laid w t v (byte_of g2) (texts ps) (λ k. byte_is g2 d2 op (in_last h op) k) 0 0 ps [] s refl refl (old_bytes h g2 (cells (seq h)) (bytes_told h op d d2)))
+
+-- ---- an undo
+
+anew_facts : (e : History) (w : List UndoEntry) → ((u : Lamport) (d : List Lamport) → seen_by e u d ≡ is_shown w u d) → (s : List KeptCell) → map fact_of (map (anew w) s) ≡ map (fact_anew e) (map fact_of s)
+anew_facts e w k [] = refl
+anew_facts e w k (c ∷ s) = ap (λ (b : Bool). record { cell = cell_of c; visible = b; deletions = c.deletions } ∷ map fact_of (map (anew w) s)) (sym (k c.stamp c.deletions))
+    ∙ ap (λ (z : List Fact). fact_anew e (fact_of c) ∷ z) (anew_facts e w k s)
+
+anew_bytes : (f : Cell → ℕ) (w : List UndoEntry) (s : List KeptCell) → Each (λ (c : KeptCell). c.byte ≡ f (cell_of c)) s → Each (λ (c : KeptCell). c.byte ≡ f (cell_of c)) (map (anew w) s)
+anew_bytes f w [] e = tt
+anew_bytes f w (c ∷ s) e = (e.0, anew_bytes f w s e.1)
+
+-- the counts do not hang on the order
+sorted_undone : (h : History) (op : Operation) (u : Lamport) → undone (by_stamp op (newest_first h)) u ≡ undone (h ++ op ∷ []) u
+sorted_undone h op u = ap (λ (n : ℕ). eqb (n % 2) 1) (ap (λ (x : History). count x u) (sym (newest_append h op)) ∙ count_newest (h ++ op ∷ []) u)
+
+sorted_all : (h : History) (op : Operation) (d : List Lamport) → all_undone (by_stamp op (newest_first h)) d ≡ all_undone (h ++ op ∷ []) d
+sorted_all h op [] = refl
+sorted_all h op (x ∷ d) = rw (sorted_undone h op x, sorted_all h op d) refl
+
+seen_sorted : (h : History) (op : Operation) (u : Lamport) (d : List Lamport) → seen_by (by_stamp op (newest_first h)) u d ≡ seen_by (h ++ op ∷ []) u d
+seen_sorted h op u d = rw (sorted_undone h op u, sorted_all h op d) refl
+
+pub anew_kept : (h : History) (op : Operation) → Lawful h → answer h [] op ≡ Good → is_edit op ≡ false → map (anew (undo_entries (h ++ op ∷ []))) (kept_cells h) ≡ kept_cells (h ++ op ∷ [])
+anew_kept h op l g e =
+    let g2 : History = h ++ op ∷ [] in
+    let w : List UndoEntry = undo_entries g2 in
+    let r : Ready h = lawful_ready h l in
+    let d2 : Distinct g2 = (good_more h op r g).0.0.distinct in
+    let now : History = by_stamp op (newest_first h) in
+    all_kept g2 (map (anew w) (kept_cells h)) (cells (seq g2))
+    (anew_facts now w (λ u d. seen_sorted h op u d ∙ is_kept g2 u d) (kept_cells h) ∙ ap (map (fact_anew now)) (told_kept h (cells (seq h))) ∙ sym (undo_told h op r g e))
+    (anew_bytes (byte_of g2) w (kept_cells h) (old_bytes h g2 (cells (seq h)) (bytes_told h op r.0.distinct d2)))
 
 -- ---- the base
 
@@ -303,7 +313,7 @@ base_kept b =
     let d : Distinct h = (tt, tt) in
     all_kept h (new_cells t 0 b) (cells (seq h))
     (sym (new_facts t 0 b) ∙ sym (base_facts (fact h) (base_fact b) [] t 0 b) ∙ ap (λ (x : List Place). map (fact h) (cells x)) (sym (base_seq b)))
-    (has_new t [] (byte_of h) (texts (pieces_of (base b))) (λ k. byte_is h d (base b) (inl refl) k) 0 b [] [] refl refl)
+    (has_new [] t [] (byte_of h) (texts (pieces_of (base b))) (λ k. byte_is h d (base b) (inl refl) k) 0 b [] [] refl refl)
 
 -- ---- the text
 

@@ -1,17 +1,16 @@
 -- Cells as they are kept, and what they are of a history.
-use Rattle.std.specs.Prelude.{◌≡◌, true, ℕ, zero, suc, ◌-◌, ◌==◌, Bool, false, if◌then◌else◌, List, [], ◌∷◌, map, Option, Some, None, nat_lt, nat_le, ◌||◌}
-use Rattle.std.specs.List.{filter, list_any}
+use Rattle.std.specs.Prelude.{ℕ, zero, suc, ◌-◌, ◌==◌, Bool, true, false, if◌then◌else◌, not, ◌&&◌, ◌||◌, List, [], ◌∷◌, map, Option, Some, None, nat_lt, nat_le}
+use Rattle.std.specs.List.{filter, list_all}
 use Rattle.lamport_clock.specs.declared.stamp.Lamport.{Lamport}
 use Rattle.lamport_clock.specs.Stamps.{later}
 use Rattle.lamport_clock.specs.Versions.{Entries, sees}
 use Rattle.op_model.specs.declared.operation.Piece.{Piece}
-use Rattle.op_model.specs.declared.operation.Operation.{Operation}
-use Rattle.op_model.specs.Sorted.{Each}
-use Rattle.op_model.specs.Operations.{is_edit}
 use Rattle.op_model.specs.Histories.{History, newest_first}
 use Rattle.op_model.specs.Cells.{Cell, seq, cells}
 use Rattle.op_model.specs.Shown.{byte, shown, deleters}
 use Rattle.op_model.specs.Facts.{with_deletion}
+use Rattle.undo_map.specs.declared.entry.UndoEntry.{UndoEntry}
+use Rattle.undo_map.specs.Counts.{count_of, count_seen, is_odd}
 use Rattle.fragments.specs.declared.cell.KeptCell.{KeptCell}
 
 -- a cell of h: its byte, whether it is shown, and the edits that delete it
@@ -22,18 +21,26 @@ kept_cell h c = record { stamp = c.stamp; number = c.k; byte = byte (newest_firs
 abbrev pub kept_cells : History → List KeptCell
 kept_cells h = map (kept_cell h) (cells (seq h))
 
--- a history of edits alone
-abbrev pub AllEdits : History → Type 0
-AllEdits h = Each (λ (o : Operation). is_edit o ≡ true) h
-
 -- the bytes of the cells that are shown
 abbrev pub shown_bytes : List KeptCell → List ℕ
 shown_bytes s = map (λ (c : KeptCell). c.byte) (filter (λ (c : KeptCell). c.visible) s)
 
--- a cell in a range of an edit t with version v, where nothing is undone: it is deleted where no edit that v sees deletes it
-abbrev pub marked : Lamport → Entries → KeptCell → KeptCell
-marked t v c = if list_any (λ u. sees v u) c.deletions then c
-    else record { stamp = c.stamp; number = c.number; byte = c.byte; visible = false; deletions = with_deletion t c.deletions }
+-- by undo counts w: a cell of edit u that d delete was shown at v, as u was not undone there, and each of d that v sees was
+abbrev pub was_shown : List UndoEntry → Entries → Lamport → List Lamport → Bool
+was_shown w v u d = not (is_odd (count_seen w u v)) && list_all (λ t. not (sees v t) || is_odd (count_seen w t v)) d
+
+-- by undo counts w: a cell of edit u that d delete is shown, as u is not undone, and each of d is
+abbrev pub is_shown : List UndoEntry → Lamport → List Lamport → Bool
+is_shown w u d = not (is_odd (count_of w u)) && list_all (λ t. is_odd (count_of w t)) d
+
+-- a cell in a range of an edit t with version v: it is deleted where it was shown at v
+abbrev pub marked : List UndoEntry → Lamport → Entries → KeptCell → KeptCell
+marked w t v c = if was_shown w v c.stamp c.deletions
+    then record { stamp = c.stamp; number = c.number; byte = c.byte; visible = false; deletions = with_deletion t c.deletions } else c
+
+-- a cell, shown or hidden anew
+abbrev pub anew : List UndoEntry → KeptCell → KeptCell
+anew w c = record { stamp = c.stamp; number = c.number; byte = c.byte; visible = is_shown w c.stamp c.deletions; deletions = c.deletions }
 
 -- the number of stamps at the front that t is not later than
 abbrev pub place_of : Lamport → List Lamport → ℕ

@@ -1,9 +1,10 @@
 -- One walk over cells, from the first piece of an edit to the last.
-use Rattle.std.specs.Prelude.{ℕ, zero, suc, ◌+◌, ◌-◌, Bool, true, false, if◌then◌else◌, List, [], ◌∷◌, ◌++◌, length}
+use Rattle.std.specs.Prelude.{ℕ, zero, suc, ◌+◌, ◌-◌, true, if◌then◌else◌, List, [], ◌∷◌, ◌++◌, length, Option, Some, None}
 use Rattle.lamport_clock.specs.declared.stamp.Lamport.{Lamport}
 use Rattle.lamport_clock.specs.Stamps.{later}
 use Rattle.lamport_clock.specs.Versions.{Entries, sees}
 use Rattle.op_model.specs.declared.operation.Piece.{Piece}
+use Rattle.undo_map.specs.declared.entry.UndoEntry.{UndoEntry}
 use Rattle.fragments.specs.declared.cell.KeptCell.{KeptCell}
 use Rattle.fragments.specs.Kept.{marked}
 
@@ -15,16 +16,18 @@ pub record Passed : Type 0 where
 abbrev pub push : KeptCell → Passed → Passed
 push c w = record { out = c ∷ w.out; rest = w.rest }
 
-abbrev pub touched : Bool → Lamport → Entries → KeptCell → KeptCell
-touched b t v c = if b then marked t v c else c
+-- marked by undo counts, where they are given
+abbrev pub touched : Option (List UndoEntry) → Lamport → Entries → KeptCell → KeptCell
+touched None t v c = c
+touched (Some w) t v c = marked w t v c
 
--- over n cells that v sees, and what stands between them; those that v sees are marked where b says so
-abbrev pub pass_seen : Bool → Lamport → Entries → ℕ → List KeptCell → Passed
-pass_seen b t v zero s = record { out = []; rest = s }
-pass_seen b t v (suc n) [] = record { out = []; rest = [] }
-pass_seen b t v (suc n) (c ∷ s) =
-    if sees v c.stamp then push (touched b t v c) (pass_seen b t v n s)
-    else push c (pass_seen b t v (suc n) s)
+-- over n cells that v sees, and what stands between them; those that v sees are marked where undo counts are given
+abbrev pub pass_seen : Option (List UndoEntry) → Lamport → Entries → ℕ → List KeptCell → Passed
+pass_seen m t v zero s = record { out = []; rest = s }
+pass_seen m t v (suc n) [] = record { out = []; rest = [] }
+pass_seen m t v (suc n) (c ∷ s) =
+    if sees v c.stamp then push (touched m t v c) (pass_seen m t v n s)
+    else push c (pass_seen m t v (suc n) s)
 
 -- over the cells that are later than t
 abbrev pub pass_later : Lamport → List KeptCell → Passed
@@ -37,16 +40,16 @@ new_cells t k [] = []
 new_cells t k (b ∷ bs) = record { stamp = t; number = k; byte = b; visible = true; deletions = [] } ∷ new_cells t (suc k) bs
 
 -- from `at` cells that v sees to the end of a piece: to its start, past what is later, its text, and its range marked
-abbrev pub pass_piece : Lamport → Entries → ℕ → ℕ → Piece → List KeptCell → Passed
-pass_piece t v at k p s =
-    let a : Passed = pass_seen false t v (p.start - at) s in
+abbrev pub pass_piece : List UndoEntry → Lamport → Entries → ℕ → ℕ → Piece → List KeptCell → Passed
+pass_piece w t v at k p s =
+    let a : Passed = pass_seen None t v (p.start - at) s in
     let b : Passed = pass_later t a.rest in
-    let d : Passed = pass_seen true t v (p.end - p.start) b.rest in
+    let d : Passed = pass_seen (Some w) t v (p.end - p.start) b.rest in
     record { out = a.out ++ (b.out ++ (new_cells t k p.text ++ d.out)); rest = d.rest }
 
 -- all pieces, from the first to the last, and the rest
-abbrev pub laid_from : Lamport → Entries → ℕ → ℕ → List Piece → List KeptCell → List KeptCell
-laid_from t v at k [] s = s
-laid_from t v at k (p ∷ ps) s =
-    let w : Passed = pass_piece t v at k p s in
-    w.out ++ laid_from t v p.end (k + length p.text) ps w.rest
+abbrev pub laid_from : List UndoEntry → Lamport → Entries → ℕ → ℕ → List Piece → List KeptCell → List KeptCell
+laid_from w t v at k [] s = s
+laid_from w t v at k (p ∷ ps) s =
+    let a : Passed = pass_piece w t v at k p s in
+    a.out ++ laid_from w t v p.end (k + length p.text) ps a.rest

@@ -1,9 +1,9 @@
 // The cells of a history, in order.
 ghost use Rattle.std.specs.Prelude.{◌≡◌, ◌≤◌, ◌++◌, ◌∷◌, [], true, length, map, IfOk, IsUtf8, string_bytes};
-ghost use Rattle.op_model.specs.Sorted.{Each};
-ghost use Rattle.op_model.specs.Operations.{is_edit, text_total};
+ghost use Rattle.op_model.specs.Operations.{text_total};
 ghost use Rattle.op_model.specs.Histories.{History, base};
-ghost use Rattle.op_model.specs.declared.operation.Operation.TheVariants.{Edit};
+ghost use Rattle.op_model.specs.declared.operation.Operation.TheVariants.{Edit, Undo};
+ghost use Rattle.op_model.specs.declared.operation.UndoOp.{UndoOp};
 ghost use Rattle.std.specs.List.{position};
 ghost use Rattle.op_model.specs.Histories.{seen};
 ghost use Rattle.op_model.specs.Shown.{full};
@@ -13,7 +13,8 @@ ghost use Rattle.op_model.specs.Answers.Answer.{Good};
 ghost use Rattle.op_model.specs.Lawful.{Lawful};
 ghost use Rattle.op_model.specs.Made.{full_piece};
 ghost use Rattle.op_model.specs.Walked.{Ordered};
-ghost use Rattle.fragments.specs.Kept.{kept_cells, shown_bytes, AllEdits};
+ghost use Rattle.undo_map.specs.Undos.{undo_entries};
+ghost use Rattle.fragments.specs.Kept.{kept_cells, shown_bytes, anew};
 
 use crate::KeptCell;
 use crate::offsets::full_pieces;
@@ -23,6 +24,7 @@ use lamport_clock::Version;
 use op_model::{EditOp, OpFault, Piece, Pieces};
 use std::alloc::{AllocError, Global};
 use std::marker::Model;
+use undo_map::UndoMap;
 
 /// The cells of a history in order, hidden ones too, seen as their list.
 #[derive(Drop)]
@@ -86,21 +88,44 @@ impl Cells {
         range_fault(self.inner.as_slice(), version, pieces)
     }
 
-    /// The cells with an edit laid in: where these are the cells of a lawful history of edits alone, and the edit is good there,
-    /// those of the history with the edit. Each new text stands after its left neighbour, past the cells there of later edits, and
-    /// the cells in the edit's ranges are deleted where they were shown to its author. One walk: linear in cells and pieces.
-    pub fn lay(&self, alloc: Global, edit: &EditOp) -> Result<Cells, AllocError>
+    /// The cells with an edit laid in: where these are the cells of a lawful history, the map has its undo counts, and the edit
+    /// is good there, those of the history with the edit. Each new text stands after its left neighbour, past the cells there of
+    /// later edits, and the cells in the edit's ranges are deleted where they were shown to its author. One walk: linear in cells
+    /// and pieces; the map is asked for cells in ranges alone.
+    pub fn lay(&self, alloc: Global, undos: &UndoMap, edit: &EditOp) -> Result<Cells, AllocError>
         requires { text_total edit.now.pieces ≤ 65536 }
-        ensures { IfOk result (λ c. (h : History) → self.now ≡ kept_cells h → Lawful h → AllEdits h → answer h [] (Edit edit.now) ≡ Good → c ≡ kept_cells (h ++ Edit edit.now ∷ [])) }
+        ensures { IfOk result (λ c. (h : History) → self.now ≡ kept_cells h → undos.now ≡ undo_entries h → Lawful h → answer h [] (Edit edit.now) ≡ Good → c ≡ kept_cells (h ++ Edit edit.now ∷ [])) }
     {
         Ok(Cells {
-            inner: laid(alloc, edit, self.inner.as_slice())?,
+            inner: laid(alloc, undos, edit, self.inner.as_slice())?,
+        })
+    }
+
+    /// The cells, each shown or hidden anew: where these are the cells of a lawful history, an undo is good there, and the map
+    /// has the undo counts of the history with it, those of the history with the undo. Linear in the cells, each of which asks
+    /// the map for its edit and for those that delete it.
+    pub fn mark(&self, alloc: Global, undos: &UndoMap) -> Result<Cells, AllocError>
+        ensures { IfOk result (λ c. (h : History) (undo : UndoOp) → self.now ≡ kept_cells h → undos.now ≡ undo_entries (h ++ Undo undo ∷ []) → Lawful h → answer h [] (Undo undo) ≡ Good → c ≡ kept_cells (h ++ Undo undo ∷ [])) }
+    {
+        Ok(Cells {
+            inner: all_anew(alloc, undos, self.inner.as_slice())?,
         })
     }
 }
 
+// The cells, shown or hidden anew.
+fn all_anew(alloc: Global, undos: &UndoMap, cells: &[KeptCell]) -> Result<Vec<KeptCell>, AllocError>
+    ensures { IfOk result (λ out. out.items ≡ map (anew undos.now) cells.now) }
+{
+    let mut out = Vec::with_capacity(alloc, cells.len())?;
+    for cell in cells {
+        out.push(cell.anew(alloc, undos)?)?;
+    }
+    Ok(out)
+}
+
 // The bytes of the shown cells.
-fn shown_in(alloc: Global, cells: &[KeptCell]) -> Result<Vec<u8>, AllocError>
+pub fn shown_in(alloc: Global, cells: &[KeptCell]) -> Result<Vec<u8>, AllocError>
     ensures { IfOk result (λ bytes. bytes.items ≡ shown_bytes cells.now) }
 {
     let shown = cells.iter().filter(|cell| cell.visible);

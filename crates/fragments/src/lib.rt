@@ -6,6 +6,8 @@ mod cells;
 mod offsets;
 mod ranges;
 mod stamps;
+#[cfg(test)]
+mod tests;
 mod walk;
 
 pub use cell::KeptCell;

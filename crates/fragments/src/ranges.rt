@@ -41,7 +41,7 @@ fn count_seen(cells: &[KeptCell], version: &Version) -> u64
     cells.iter().filter(|cell| version.sees(cell.stamp)).count() as u64
 }
 
-fn past_end(len: u64, pieces: &[Piece]) -> Option<usize>
+pub fn past_end(len: u64, pieces: &[Piece]) -> Option<usize>
     ensures { result ≡ position (is_past len) pieces.now }
 {
     pieces.iter().position(|piece| len < piece.end)

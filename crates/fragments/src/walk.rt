@@ -1,5 +1,6 @@
 // One walk over cells, from the first piece of an edit to the last.
 ghost use Rattle.std.specs.Prelude.{◌≡◌, ◌+◌, ◌<◌, ◌≤◌, ◌^◌, ◌++◌, ◌∷◌, [], length, drop, IfOk};
+ghost use Rattle.std.specs.Option.{option_copied};
 ghost use Rattle.op_model.specs.Operations.{text_total};
 ghost use Rattle.fragments.specs.Passed.{touched, pass_seen, pass_later, new_cells, laid_from};
 
@@ -7,6 +8,7 @@ use crate::{KeptCell, Stamps};
 use lamport_clock::{Lamport, is_later};
 use op_model::EditOp;
 use std::alloc::{AllocError, Global};
+use undo_map::UndoMap;
 
 // How many cells the walk has passed, and the cells that it has put out.
 #[derive(Drop)]
@@ -17,25 +19,25 @@ struct Walk {
 
 impl Walk {
     // Over `count` cells that the edit's version sees, and what stands between them; those that it sees are marked where
-    // `mark` says so.
+    // undo counts are given.
     fn pass_seen(
         &mut self,
         alloc: Global,
         edit: &EditOp,
         cells: &[KeptCell],
         count: u64,
-        mark: bool,
+        marks: Option<&UndoMap>,
     ) -> Result<(), AllocError>
         requires { self.old.at ≤ length cells.now }
-        ensures out { IfOk result (λ _. self.new.out.items ≡ self.old.out.items ++ (pass_seen mark edit.now.stamp edit.now.version count (drop self.old.at cells.now)).out) }
-        ensures rest { IfOk result (λ _. drop self.new.at cells.now ≡ (pass_seen mark edit.now.stamp edit.now.version count (drop self.old.at cells.now)).rest) }
+        ensures out { IfOk result (λ _. self.new.out.items ≡ self.old.out.items ++ (pass_seen (option_copied marks.entry) edit.now.stamp edit.now.version count (drop self.old.at cells.now)).out) }
+        ensures rest { IfOk result (λ _. drop self.new.at cells.now ≡ (pass_seen (option_copied marks.entry) edit.now.stamp edit.now.version count (drop self.old.at cells.now)).rest) }
         ensures within { IfOk result (λ _. self.new.at ≤ length cells.now) }
     {
         let mut left = count;
         while left > 0 && self.at < cells.len() {
             let cell = &cells[self.at];
             if edit.version.sees(cell.stamp) {
-                self.out.push(touched(alloc, edit, cell, mark)?)?;
+                self.out.push(touched(alloc, edit, cell, marks)?)?;
                 left -= 1;
             } else {
                 self.out.push(cell.copy(alloc)?)?;
@@ -95,25 +97,30 @@ impl Walk {
     }
 }
 
-// A cell that the edit's version sees, marked where `mark` says so.
+// A cell that the edit's version sees, marked where undo counts are given.
 fn touched(
     alloc: Global,
     edit: &EditOp,
     cell: &KeptCell,
-    mark: bool,
+    marks: Option<&UndoMap>,
 ) -> Result<KeptCell, AllocError>
-    ensures { IfOk result (λ c. c ≡ touched mark edit.now.stamp edit.now.version cell.now) }
+    ensures { IfOk result (λ c. c ≡ touched (option_copied marks.entry) edit.now.stamp edit.now.version cell.now) }
 {
-    if mark {
-        return cell.marked(alloc, edit.stamp, &edit.version);
+    match marks {
+        None => cell.copy(alloc),
+        Some(undos) => cell.marked(alloc, undos, edit.stamp, &edit.version),
     }
-    cell.copy(alloc)
 }
 
 /// The cells with those of an edit laid in, and those in its ranges marked: one walk over cells and pieces.
-pub fn laid(alloc: Global, edit: &EditOp, cells: &[KeptCell]) -> Result<Vec<KeptCell>, AllocError>
+pub fn laid(
+    alloc: Global,
+    undos: &UndoMap,
+    edit: &EditOp,
+    cells: &[KeptCell],
+) -> Result<Vec<KeptCell>, AllocError>
     requires { text_total edit.now.pieces < 2 ^ 64 }
-    ensures { IfOk result (λ out. out.items ≡ laid_from edit.now.stamp edit.now.version 0 0 edit.now.pieces cells.now) }
+    ensures { IfOk result (λ out. out.items ≡ laid_from undos.now edit.now.stamp edit.now.version 0 0 edit.now.pieces cells.now) }
 {
     let mut walk = Walk {
         at: 0,
@@ -122,7 +129,7 @@ pub fn laid(alloc: Global, edit: &EditOp, cells: &[KeptCell]) -> Result<Vec<Kept
     let mut place = 0;
     let mut number = 0;
     for piece in edit.pieces.as_slice() {
-        walk.pass_seen(alloc, edit, cells, piece.start.saturating_sub(place), false)?;
+        walk.pass_seen(alloc, edit, cells, piece.start.saturating_sub(place), None)?;
         walk.pass_later(alloc, edit.stamp, cells)?;
         walk.put(alloc, edit.stamp, number, piece.text.as_str())?;
         walk.pass_seen(
@@ -130,7 +137,7 @@ pub fn laid(alloc: Global, edit: &EditOp, cells: &[KeptCell]) -> Result<Vec<Kept
             edit,
             cells,
             piece.end.saturating_sub(piece.start),
-            true,
+            Some(undos),
         )?;
         place = piece.end;
         number += piece.text.as_str().len() as u64;

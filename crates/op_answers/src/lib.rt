@@ -1,4 +1,4 @@
-//! The answer to a taken edit: whether it is applied, waits, is a repeat or is refused.
+//! The answer to a taken operation: whether it is applied, waits, is a repeat or is refused.
 #![tactic(auto)]
 
 mod found;

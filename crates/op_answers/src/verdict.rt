@@ -1,4 +1,4 @@
-// The answer to a taken edit.
+// The answer to a taken operation.
 ghost use Rattle.std.specs.Prelude.{◌≡◌, None};
 ghost use Rattle.op_model.specs.Operations.{version_of};
 ghost use Rattle.op_model.specs.Histories.{Distinct, version};

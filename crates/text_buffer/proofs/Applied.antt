@@ -1,5 +1,5 @@
 -- The fields of a buffer after an operation is applied.
-use Rattle.std.proofs.Common.{◌≡◌, ◌+◌, ◌≤◌, List, [], ◌∷◌, ◌++◌, sym, ap, subst, ◌∙◌, arith, true, false, None, string_bytes}
+use Rattle.std.proofs.Common.{◌≡◌, ℕ, ◌+◌, ◌^◌, ◌≤◌, List, [], ◌∷◌, ◌++◌, length, sym, ap, subst, ◌∙◌, arith, true, false, None, string_bytes}
 use Rattle.std.proofs.lemmas.Bool.{ltb-false}
 use Rattle.std.specs.Str.{IsUtf8}
 use Rattle.std.specs.List.{list_any}
@@ -8,6 +8,9 @@ use Rattle.lamport_clock.specs.Clocks.{observed}
 use Rattle.lamport_clock.specs.Stamps.{same_stamp}
 use Rattle.lamport_clock.specs.Versions.{raise}
 use Rattle.op_model.specs.declared.operation.Operation.{Operation}
+use Rattle.op_model.specs.declared.operation.Operation.TheVariants.{Edit, Undo}
+use Rattle.op_model.specs.declared.operation.EditOp.{EditOp}
+use Rattle.op_model.specs.declared.operation.UndoOp.{UndoOp}
 use Rattle.op_model.specs.declared.faults.OpFault.TheVariants.{Full}
 use Rattle.op_model.specs.Sorted.{Each, Ascending, insert_by}
 use Rattle.op_model.specs.Domains.{IsProper}
@@ -20,14 +23,17 @@ use Rattle.op_model.specs.Answers.Answer.{Good}
 use Rattle.op_model.specs.Lawful.{Lawful}
 use Rattle.op_model.specs.Settled.{full_fault}
 use Rattle.op_model.specs.Steps.{older}
-use Rattle.op_model.proofs.Insertion.{each_insert}
 use Rattle.op_model.proofs.Append.{version-append, clock-append, bytes_held-append, entries_held-append}
 use Rattle.op_model.proofs.Restricted.{each_append}
-use Rattle.op_model.proofs.Passed.{passed, shaped, map_none, none_find, any_none}
+use Rattle.op_model.proofs.Passed.{passed, shaped, map_none, none_map, none_find, any_none}
 use Rattle.op_model.proofs.Good.{append_nil, stamp_parts}
 use Rattle.op_model.proofs.MoreLawful.{lawful_more}
 use Rattle.op_model.proofs.Proper.{utf8}
-use Rattle.fragments.specs.Kept.{AllEdits, kept_cells, shown_bytes}
+use Rattle.undo_map.specs.declared.entry.UndoEntry.{UndoEntry}
+use Rattle.undo_map.specs.Undos.{undo_entries}
+use Rattle.undo_map.proofs.Entries.{entries_within}
+use Rattle.fragments.specs.Kept.{kept_cells, shown_bytes}
+use Rattle.fragments.proofs.Undone.{entries_edit}
 use Rattle.fragments.proofs.Told.{shown_text}
 use Rattle.fragments.proofs.Lengths.{text_length}
 use Rattle.text_buffer.specs.Buffer.{BufferState, IsBuffer, applied}
@@ -47,11 +53,27 @@ shape_of h w op g = (passed h w op g).shape
 pub room_of : (b : BufferState) (op : Operation) → full_fault b.limits b.history op ≡ None → (bytes_held b.history + bytes_of op ≤ b.limits.bytes) × (entries_held b.history + entries_of op ≤ b.limits.entries)
 room_of b op f = room_in b.limits b.history (bytes_of op) (entries_of op) (map_none (λ (e : Excess). Full e.unit e.held e.adds) (excess b.limits b.history (bytes_of op) (entries_of op)) f)
 
+-- and an operation passes no limit where what it adds passes none
+pub within_limits : (b : BufferState) (op : Operation) (n m : ℕ) → bytes_of op ≡ n → entries_of op ≡ m → excess b.limits b.history n m ≡ None → full_fault b.limits b.history op ≡ None
+within_limits b op n m x y e = none_map (λ (e : Excess). Full e.unit e.held e.adds) (excess b.limits b.history (bytes_of op) (entries_of op))
+    (ap (λ z. excess b.limits b.history z (entries_of op)) x ∙ ap (λ z. excess b.limits b.history n z) y ∙ e)
+
 entries_more : (h : History) (op : Operation) → answer h [] op ≡ Good → entries_held (h ++ op ∷ []) ≡ entries_held h + entries_of op
 entries_more h op g =
     let e = entries_held-append h op in
     let n = (stamp_parts op (shaped op (shape_of h [] op g)).stamp).2 in
     rw n at e
+
+-- an edit leaves the undo counts as they are
+pub counts_same : (h : History) (op : Operation) (e : EditOp) (w v : List UndoEntry) → op ≡ Edit e → v ≡ w → w ≡ undo_entries h → v ≡ undo_entries (h ++ op ∷ [])
+counts_same h op e w v i s q = s ∙ q ∙ sym (entries_edit h op (ap is_edit i))
+
+-- there is room for the counts of an undo that passes no limit
+pub counts_fit : (b : BufferState) (u : UndoOp) (w : List UndoEntry) → IsBuffer b → w ≡ undo_entries b.history → full_fault b.limits b.history (Undo u) ≡ None → length w + length u.counts ≤ 2 ^ 40
+counts_fit b u w k e f =
+    let held = entries_within b.history k.lawful in
+    let same : length w ≡ length (undo_entries b.history) = ap length e in
+    omega (arith, held, same, (room_of b (Undo u) f).1, k.most_entries)
 
 -- its stamp is new
 pub fresh_of : (h : History) (op : Operation) → answer h [] op ≡ Good → operation_at h (stamp_of op) ≡ None
@@ -65,18 +87,15 @@ utf8_of b op k p g =
     let h : History = b.history ++ op ∷ [] in
     subst IsUtf8 (sym (shown_text h)) (utf8 h (lawful_more b.history op k.lawful g) (each_append IsProper b.history (op ∷ []) k.proper (p, tt))).0
 
-pub IsBuffer-applied : (b : BufferState) (op : Operation) → IsBuffer b → is_edit op ≡ true → IsProper op → answer b.history [] op ≡ Good → full_fault b.limits b.history op ≡ None → IsBuffer (applied b op)
-IsBuffer-applied b op k i p g f =
+pub IsBuffer-applied : (b : BufferState) (op : Operation) → IsBuffer b → IsProper op → answer b.history [] op ≡ Good → full_fault b.limits b.history op ≡ None → IsBuffer (applied b op)
+IsBuffer-applied b op k p g f =
     let room = room_of b op f in
     let law : Lawful (b.history ++ op ∷ []) = lawful_more b.history op k.lawful g in
     let proper : Each IsProper (b.history ++ op ∷ []) = each_append IsProper b.history (op ∷ []) k.proper (p, tt) in
-    let edits : AllEdits (b.history ++ op ∷ []) = each_append (λ (o : Operation). is_edit o ≡ true) b.history (op ∷ []) k.edits (i, tt) in
     record {
       lawful = law;
       proper = proper;
-      edits = edits;
       waiting_ascending = k.waiting_ascending;
-      waiting_edits = k.waiting_edits;
       least_replica = k.least_replica;
       greatest_replica = k.greatest_replica;
       most_bytes = k.most_bytes;
@@ -84,36 +103,41 @@ IsBuffer-applied b op k i p g f =
       bytes = omega (arith, bytes_held-append b.history op, room.0);
       entries = omega (arith, entries_more b.history op g, room.1);
       utf8 = (utf8 (b.history ++ op ∷ []) law proper).0;
-      text_bytes = text_length (b.history ++ op ∷ []) law edits;
+      text_bytes = text_length (b.history ++ op ∷ []) law;
     }
 
--- the clock and the version observe its stamp, it stands last, and the cells and the text are those that are then
-pub AreKept-applied : (i j : Inside) (op : Operation) (s : Lamport) → AreKept i → is_edit op ≡ true → IsProper op → answer i.operations [] op ≡ Good → full_fault i.limits i.operations op ≡ None → s ≡ stamp_of op
+-- what is held stays far below the end of its type
+pub stay_few : (i : Inside) (op : Operation) (n m : ℕ) → AreKept i → full_fault i.limits i.operations op ≡ None → n ≡ bytes_of op → m ≡ entries_of op → (i.bytes + n ≤ 2 ^ 40) × (i.entries + m ≤ 2 ^ 40)
+stay_few i op n m k f x y =
+    let r = room_of (state_of i) op f in
+    (omega (arith, k.bytes, r.0, k.state.most_bytes, x), omega (arith, k.entries, r.1, k.state.most_entries, y))
+
+-- the clock and the version observe its stamp, it stands last, and the undo counts, the cells and the text are those that are then
+pub AreKept-applied : (i j : Inside) (op : Operation) (s : Lamport) → AreKept i → IsProper op → answer i.operations [] op ≡ Good → full_fault i.limits i.operations op ≡ None → s ≡ stamp_of op
     → j.replica ≡ i.replica → j.limits ≡ i.limits → j.waiting ≡ i.waiting → j.refused.items ≡ i.refused.items
     → j.operations ≡ i.operations ++ op ∷ [] → j.clock.value ≡ observed i.clock.value s.value → j.version ≡ raise i.version s
-    → j.cells ≡ kept_cells (i.operations ++ op ∷ []) → string_bytes j.text ≡ text (i.operations ++ op ∷ [])
+    → j.undos ≡ undo_entries (i.operations ++ op ∷ []) → j.cells ≡ kept_cells (i.operations ++ op ∷ []) → string_bytes j.text ≡ text (i.operations ++ op ∷ [])
     → j.bytes ≡ i.bytes + bytes_of op → j.entries ≡ i.entries + entries_of op → AreKept j
-AreKept-applied i j op s k e p g f t replica limits waits refusals items clocks versions cells texts bytes entries =
+AreKept-applied i j op s k p g f t replica limits waits refusals items clocks versions counts cells texts bytes entries =
     let b = state_of i in
     let same : state_of j ≡ applied b op = cc in
     record {
       clock = clocks ∙ ap (λ (u : Lamport). observed i.clock.value u.value) t ∙ ap (λ c. observed c (stamp_of op).value) k.clock ∙ sym (clock-append i.operations op) ∙ ap clock (sym items);
       version = versions ∙ ap (raise i.version) t ∙ ap (λ v. raise v (stamp_of op)) k.version ∙ sym (version-append i.operations op) ∙ ap version (sym items);
+      undos = counts ∙ ap undo_entries (sym items);
       cells = cells ∙ ap kept_cells (sym items);
       text = texts ∙ ap text (sym items);
       bytes = omega (arith, bytes, k.bytes, bytes_held-append i.operations op, ap bytes_held items);
       entries = omega (arith, entries, k.entries, entries_more i.operations op g, ap entries_held items);
-      state = subst IsBuffer (sym same) (IsBuffer-applied b op k.state e p g f);
+      state = subst IsBuffer (sym same) (IsBuffer-applied b op k.state p g f);
     }
 
 -- one more waits
-pub IsBuffer-deferred : (b : BufferState) (op : Operation) (w : List Operation) → IsBuffer b → is_edit op ≡ true → any_stamp (b.history ++ b.waiting) op ≡ false → w ≡ insert_by older op b.waiting → IsBuffer (record b { waiting = w })
-IsBuffer-deferred b op w k i f e = record {
+pub IsBuffer-deferred : (b : BufferState) (op : Operation) (w : List Operation) → IsBuffer b → any_stamp (b.history ++ b.waiting) op ≡ false → w ≡ insert_by older op b.waiting → IsBuffer (record b { waiting = w })
+IsBuffer-deferred b op w k f e = record {
   lawful = k.lawful;
   proper = k.proper;
-  edits = k.edits;
   waiting_ascending = subst (Ascending older) (sym e) (ascends op b.waiting (unlike_waiting b.history b.waiting op f) k.waiting_ascending);
-  waiting_edits = subst AllEdits (sym e) (each_insert (λ (o : Operation). is_edit o ≡ true) older op b.waiting i k.waiting_edits);
   least_replica = k.least_replica;
   greatest_replica = k.greatest_replica;
   most_bytes = k.most_bytes;

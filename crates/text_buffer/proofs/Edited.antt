@@ -1,29 +1,27 @@
 -- The fields of a buffer after an edit.
-use Rattle.std.proofs.Common.{◌≡◌, ℕ, suc, ◌+◌, List, [], ◌∷◌, ◌++◌, length, map, refl, sym, ap, subst, ◌∙◌, arith, true, None}
+use Rattle.std.proofs.Common.{◌≡◌, ℕ, suc, ◌+◌, List, [], ◌∷◌, ◌++◌, length, map, refl, sym, ap, subst, ◌∙◌, arith, None}
 use Rattle.lamport_clock.specs.declared.stamp.Lamport.{Lamport}
 use Rattle.lamport_clock.specs.Versions.{Entries}
 use Rattle.op_model.specs.declared.operation.Operation.{Operation}
 use Rattle.op_model.specs.declared.operation.Operation.TheVariants.{Edit}
 use Rattle.op_model.specs.declared.operation.Piece.{Piece}
-use Rattle.op_model.specs.Operations.{text_total, pieces_of, is_edit, bytes_of, entries_of}
+use Rattle.op_model.specs.Operations.{text_total, pieces_of, entries_of}
 use Rattle.op_model.specs.Histories.{History, version, clock}
 use Rattle.op_model.specs.Edits.{replaced}
 use Rattle.op_model.specs.Shown.{text}
 use Rattle.op_model.specs.Made.{full_piece, made as made_at}
 use Rattle.op_model.specs.Answers.{answer}
 use Rattle.op_model.specs.Answers.Answer.{Good}
-use Rattle.op_model.specs.declared.faults.OpFault.TheVariants.{Full}
-use Rattle.op_model.specs.Limited.{Excess, excess}
 use Rattle.op_model.specs.Settled.{full_fault}
 use Rattle.op_model.specs.Walked.{Ordered}
 use Rattle.op_model.proofs.MadeGood.{sound}
-use Rattle.op_model.proofs.Passed.{none_map}
 use Rattle.op_model.proofs.Proper.{edit_good}
 use Rattle.fragments.specs.declared.cell.KeptCell.{KeptCell}
 use Rattle.fragments.specs.Kept.{kept_cells, shown_bytes}
 use Rattle.fragments.proofs.Told.{shown_text}
 use Rattle.text_buffer.specs.Buffer.{BufferState, IsBuffer, edit_fault, made}
 use Rattle.text_buffer.proofs.Fit.{room_of}
+use Rattle.text_buffer.proofs.Applied.{within_limits}
 
 total_full : (h : History) (ps : List Piece) → text_total (map (full_piece h) ps) ≡ text_total ps
 total_full h [] = refl
@@ -38,10 +36,6 @@ pub op_is : (h : History) (r : ℕ) (ps : List Piece) (s : Lamport) (v : Entries
     → Edit (record { stamp = s; version = v; pieces = q }) ≡ made_at h r ps
 unfolding made_at
 op_is h r ps s v q a b d = λ i. Edit (record { stamp = a i; version = b i; pieces = d i })
-
-made_edit : (h : History) (r : ℕ) (ps : List Piece) → is_edit (made_at h r ps) ≡ true
-unfolding made_at
-made_edit h r ps = refl
 
 made_total : (h : History) (r : ℕ) (ps : List Piece) → text_total (pieces_of (made_at h r ps)) ≡ text_total ps
 unfolding made_at
@@ -61,16 +55,12 @@ good_of b ps h e = edit_good b.limits b.history b.replica ps h.lawful h.proper (
 
 -- its operation passes no limit
 pub room_made : (b : BufferState) (ps : List Piece) → edit_fault b ps ≡ None → full_fault b.limits b.history (made b ps) ≡ None
-room_made b ps e =
-    let n : bytes_of (made b ps) ≡ text_total ps = made_total b.history b.replica ps in
-    let m : entries_of (made b ps) ≡ 1 + length ps = made_entries b.history b.replica ps in
-    none_map (λ (e : Excess). Full e.unit e.held e.adds) (excess b.limits b.history (bytes_of (made b ps)) (entries_of (made b ps)))
-    (ap (λ x. excess b.limits b.history x (entries_of (made b ps))) n ∙ ap (λ x. excess b.limits b.history (text_total ps) x) m ∙ room_of b ps e)
+room_made b ps e = within_limits b (made b ps) (text_total ps) (1 + length ps) (made_total b.history b.replica ps) (made_entries b.history b.replica ps) (room_of b ps e)
 
 -- an edit that is good, if it is the one that the buffer makes, and what the text is then
 pub made_good : (b : BufferState) (ps : List Piece) (op : Operation) → IsBuffer b → edit_fault b ps ≡ None → op ≡ made b ps
-    → (is_edit op ≡ true) × (answer b.history [] op ≡ Good) × (full_fault b.limits b.history op ≡ None) × (replaced ps (text b.history) ≡ text (b.history ++ op ∷ []))
+    → (answer b.history [] op ≡ Good) × (full_fault b.limits b.history op ≡ None) × (replaced ps (text b.history) ≡ text (b.history ++ op ∷ []))
 made_good b ps op k e m =
     let g = good_of b ps k e in
-    subst (λ (o : Operation). (is_edit o ≡ true) × (answer b.history [] o ≡ Good) × (full_fault b.limits b.history o ≡ None) × (replaced ps (text b.history) ≡ text (b.history ++ o ∷ []))) (sym m)
-    (made_edit b.history b.replica ps, g.0, room_made b ps e, sym g.1)
+    subst (λ (o : Operation). (answer b.history [] o ≡ Good) × (full_fault b.limits b.history o ≡ None) × (replaced ps (text b.history) ≡ text (b.history ++ o ∷ []))) (sym m)
+    (g.0, room_made b ps e, sym g.1)

@@ -2,6 +2,7 @@ pub mod Fit
 pub mod Edited
 pub mod Waiting
 pub mod Applied
+pub mod Undone
 pub mod Taken
 pub mod Opened
 mod Rows

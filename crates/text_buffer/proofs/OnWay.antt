@@ -8,7 +8,7 @@ use Rattle.op_model.specs.declared.operation.Operation.{Operation}
 use Rattle.op_model.specs.declared.limits.Limits.{Limits as LimitsType}
 use Rattle.op_model.specs.declared.faults.OpFault.{OpFault}
 use Rattle.op_model.specs.Sorted.{Ascending}
-use Rattle.op_model.specs.Operations.{stamp_of, is_edit}
+use Rattle.op_model.specs.Operations.{stamp_of}
 use Rattle.op_model.specs.Answers.{Answer, answer}
 use Rattle.op_model.specs.Answers.Answer.{Good, Repeat, Waits, Refused}
 use Rattle.op_model.specs.Settled.{State, Turn, turn, turn_of, full_fault}
@@ -20,7 +20,7 @@ use Rattle.text_buffer.specs.Buffer.{BufferState, IsBuffer, state, with_state}
 use Rattle.text_buffer.specs.Fields.{state_of, AreKept}
 use Rattle.text_buffer.specs.declared.buffer.Buffer.TheInside.{Inside}
 use Rattle.text_buffer.specs.Settling.{after_turn, turned, pass_until, pass_step, next_ready, turn_made, turn_answer, met, without_waiting, passed, IsStopped}
-use Rattle.text_buffer.proofs.Turns.{IsAt, at_start, at_end, at_turn, at_until, fewer, not_stay, ready_within, ready_each}
+use Rattle.text_buffer.proofs.Turns.{IsAt, at_start, at_end, at_turn, at_until, fewer, not_stay, ready_within}
 
 -- ---- a turn
 
@@ -67,9 +67,7 @@ IsBuffer-without : (b : BufferState) (t : Lamport) → IsBuffer b → IsBuffer (
 IsBuffer-without b t k = record {
   lawful = k.lawful;
   proper = k.proper;
-  edits = k.edits;
   waiting_ascending = up_filter _ b.waiting k.waiting_ascending;
-  waiting_edits = each_filter (λ (o : Operation). is_edit o ≡ true) _ b.waiting k.waiting_edits;
   least_replica = k.least_replica;
   greatest_replica = k.greatest_replica;
   most_bytes = k.most_bytes;
@@ -85,16 +83,13 @@ pub AreKept-without : (i : Inside) (t : Lamport) (w : List Operation) → AreKep
 AreKept-without i t w k e = record {
   clock = k.clock;
   version = k.version;
+  undos = k.undos;
   cells = k.cells;
   text = k.text;
   bytes = k.bytes;
   entries = k.entries;
   state = subst (λ (x : List Operation). IsBuffer (record (state_of i) { waiting = x })) (sym e) (IsBuffer-without (state_of i) t k.state);
 }
-
--- what is ready is an edit
-pub ready_edit : (after : Option Lamport) (b : BufferState) (op : Operation) → IsBuffer b → next_ready after b ≡ Some op → is_edit op ≡ true
-ready_edit after b op k e = ready_each (λ (o : Operation). is_edit o ≡ true) after b.history b.waiting op e k.waiting_edits
 
 -- ---- a pass
 

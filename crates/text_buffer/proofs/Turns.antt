@@ -127,9 +127,6 @@ is_ready after h o = is_past after o && within (version_of o) (version h)
 pub ready_within : (after : Option Lamport) (h : History) (w : List Operation) (op : Operation) → least_ready after (version h) w ≡ Some op → within (version_of op) (version h) ≡ true
 ready_within after h w op e = let p = parted (is_ready after h) w op e in (and_parts (is_past after op) (within (version_of op) (version h)) p.hit).1
 
-pub ready_each : (P : Operation → Type 0) (after : Option Lamport) (h : History) (w : List Operation) (op : Operation) → least_ready after (version h) w ≡ Some op → Each P w → P op
-ready_each P after h w op e f = let p = parted (is_ready after h) w op e in each_mid P p.missed p.behind op (subst (Each P) p.is f)
-
 pub not_stay : (l : LimitsType) (h : History) (op : Operation) → within (version_of op) (version h) ≡ true → turn l h op ≡ Stay → ⊥
 not_stay l h op w e = let n = stay_misses l h op e in cc
 

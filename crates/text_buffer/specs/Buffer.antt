@@ -1,10 +1,11 @@
--- What contracts see of a buffer, the fault that an edit meets, what it makes, and the answer to a taken operation.
+-- What contracts see of a buffer, the faults that edits and undos meet, what they make, and the answer to a taken operation.
 use Rattle.std.specs.Prelude.{◌≡◌, ℕ, ◌≤◌, ◌-◌, ◌^◌, Bool, true, false, List, [], ◌∷◌, ◌++◌, length, drop, nat_lt, Option, None, Some}
 use Rattle.std.specs.Str.{IsUtf8}
 use Rattle.op_model.specs.declared.operation.Piece.{Piece}
 use Rattle.op_model.specs.declared.operation.Operation.{Operation}
 use Rattle.op_model.specs.declared.limits.Limits.{Limits as LimitsType}
 use Rattle.op_model.specs.declared.faults.EditFault.{EditFault}
+use Rattle.op_model.specs.declared.faults.UndoFault.{UndoFault}
 use Rattle.op_model.specs.declared.faults.OpFault.{OpFault}
 use Rattle.op_model.specs.declared.faults.Unit.TheVariants.{Bytes}
 use Rattle.lamport_clock.specs.declared.stamp.Lamport.{Lamport}
@@ -19,16 +20,15 @@ use Rattle.op_model.specs.Answers.Answer.{Good, Repeat, Waits, Refused}
 use Rattle.op_model.specs.Lawful.{Lawful}
 use Rattle.op_model.specs.Settled.{State}
 use Rattle.op_model.specs.Steps.{older, take_answer, take_step, settle_step, growth}
-use Rattle.op_model.specs.Made.{made as made_at, local_edit_fault}
+use Rattle.op_model.specs.Made.{made as made_at, made_undo as made_undo_at, local_edit_fault, local_undo_fault}
 use Rattle.op_model.specs.Shown.{text}
-use Rattle.fragments.specs.Kept.{AllEdits}
 use Rattle.text_buffer.specs.declared.faults.NewFault.{NewFault}
 use Rattle.text_buffer.specs.declared.faults.NewFault.TheVariants.{Full}
 use Rattle.text_buffer.specs.declared.outcomes.Took.{Took}
 use Rattle.text_buffer.specs.declared.outcomes.Took.TheVariants as took
 
 -- the applied operations in the order of application, the base first; those that wait, the least stamp first; the stamps of those
--- that were refused while settling, each with its fault; the author of its edits; its limits
+-- that were refused while settling, each with its fault; the author of its edits and undos; its limits
 pub record BufferState : Type 0 where
   pub history : List Operation
   pub waiting : List Operation
@@ -55,6 +55,18 @@ made b ps = made_at b.history b.replica ps
 -- the buffer after an edit
 abbrev pub edited : BufferState → List Piece → BufferState
 edited b ps = record b { history = b.history ++ made b ps ∷ [] }
+
+-- the fault that an undo meets
+abbrev pub undo_fault : BufferState → List Lamport → Option UndoFault
+undo_fault b ts = local_undo_fault b.limits b.history ts
+
+-- the operation of an undo
+abbrev pub made_undo : BufferState → List Lamport → Operation
+made_undo b ts = made_undo_at b.history b.replica ts
+
+-- the buffer after an undo
+abbrev pub undone : BufferState → List Lamport → BufferState
+undone b ts = record b { history = b.history ++ made_undo b ts ∷ [] }
 
 -- the buffer with one more operation applied
 abbrev pub applied : BufferState → Operation → BufferState
@@ -119,9 +131,7 @@ pub record IsPartly (b n : BufferState) : Type 0 where
 pub record IsBuffer (b : BufferState) : Type 0 where
   pub lawful : Lawful b.history
   pub proper : Each IsProper b.history
-  pub edits : AllEdits b.history
   pub waiting_ascending : Ascending older b.waiting
-  pub waiting_edits : AllEdits b.waiting
   pub least_replica : 1 ≤ b.replica
   pub greatest_replica : b.replica ≤ 1023
   pub most_bytes : b.limits.bytes ≤ 2 ^ 40

@@ -2,6 +2,7 @@
 use Rattle.std.specs.Prelude.{◌≡◌, map, string_bytes}
 use Rattle.op_model.specs.Histories.{version, clock, bytes_held, entries_held}
 use Rattle.op_model.specs.Shown.{text}
+use Rattle.undo_map.specs.Undos.{undo_entries}
 use Rattle.fragments.specs.Kept.{kept_cells}
 use Rattle.text_buffer.specs.Buffer.{BufferState, IsBuffer}
 use Rattle.text_buffer.specs.Outcomes.{pair_of}
@@ -13,6 +14,7 @@ state_of b = record { history = b.operations; waiting = b.waiting; refused = map
 pub record AreKept (b : Inside) : Type 0 where
   pub clock : b.clock.value ≡ clock b.operations
   pub version : b.version ≡ version b.operations
+  pub undos : b.undos ≡ undo_entries b.operations
   pub cells : b.cells ≡ kept_cells b.operations
   pub text : string_bytes b.text ≡ text b.operations
   pub bytes : b.bytes ≡ bytes_held b.operations

@@ -3,12 +3,12 @@ ghost use Rattle.std.specs.Prelude.{◌≡◌, ◌≤◌, ◌^◌, ◌-◌, ◌+
 ghost use Rattle.op_model.specs.Histories.{SameSet, base, clock, version};
 ghost use Rattle.op_model.specs.Limited.{excess};
 ghost use Rattle.op_model.specs.Domains.{IsProper};
-ghost use Rattle.op_model.specs.Operations.{is_edit};
 ghost use Rattle.op_model.specs.Answers.{answer, shape_fault};
 ghost use Rattle.op_model.specs.Answers.Answer.{Good};
 ghost use Rattle.op_model.specs.Settled.{full_fault};
 ghost use Rattle.op_model.specs.Edits.{replaced};
 ghost use Rattle.op_model.specs.Shown.{text};
+ghost use Rattle.undo_map.specs.Undos.{undo_entries};
 ghost use Rattle.fragments.specs.Kept.{kept_cells};
 ghost use Rattle.text_buffer.specs.Buffer.{BufferState, IsBuffer, applied, edit_fault, edited, made, new_fault, over_base};
 
@@ -21,6 +21,7 @@ use lamport_clock::{Clock, Lamport, Version};
 use op_model::{EditFault, EditOp, Limits, OpFault, Operation, Piece, Pieces, Text, Unit};
 use std::alloc::{AllocError, Global};
 use std::marker::Model;
+use undo_map::UndoMap;
 
 /// A replica's text, and the operations that made it. Contracts see the operations in the order in which they were
 /// applied, the base first, those that wait, those that were refused while settling, the replica's id and the limits; all
@@ -29,11 +30,12 @@ use std::marker::Model;
 pub struct Buffer {
     pub(crate) alloc: Global,
     replica: u16,
-    clock: Clock,
+    pub(crate) clock: Clock,
     pub(crate) version: Version,
     pub(crate) operations: Applied,
     pub(crate) waiting: Deferred,
     pub(crate) refused: Vec<Refused>,
+    pub(crate) undos: UndoMap,
     pub(crate) cells: Cells,
     text: String,
     bytes: u64,
@@ -95,6 +97,7 @@ impl Buffer {
             operations,
             waiting: Deferred::new(alloc)?,
             refused: Vec::new(alloc),
+            undos: UndoMap::new(alloc)?,
             cells: Cells::over(alloc, base)?,
             text: String::from_str(alloc, base)?,
             bytes: len,
@@ -144,8 +147,9 @@ impl Buffer {
         let text = replaced(self.alloc, self.text.as_str(), changes)?;
         let made = self.operation(changes)?;
         let kept = self.operation(changes)?;
-        let cells = self.laid(&kept)?;
-        self.put(kept, cells, text)?;
+        let undos = self.undos_with(&kept)?;
+        let cells = self.cells_with(&kept, &undos)?;
+        self.put(kept, undos, cells, text)?;
         Ok(made)
     }
 
@@ -179,38 +183,55 @@ impl Buffer {
         }
     }
 
-    // Applies an edit that is good and passes no limit. Linear in all bytes, hidden ones too. On want of memory the edit is
-    // dropped.
+    // Applies an operation that is good and passes no limit. Linear in all bytes, hidden ones too. On want of memory the operation
+    // is dropped.
     pub(crate) fn apply(&mut self, op: Operation) -> Result<(), AllocError>
-        requires edit { is_edit op ≡ true }
         requires proper { IsProper op }
         requires good { answer self.old.history [] op ≡ Good }
         requires room { full_fault self.old.limits self.old.history op ≡ None }
         ensures ok { OnOk result (self.new ≡ applied self.old op) }
         ensures err { OnErr result (self.new ≡ self.old) }
     {
-        let cells = self.laid(&op)?;
+        let undos = self.undos_with(&op)?;
+        let cells = self.cells_with(&op, &undos)?;
         let text = cells.text(self.alloc)?;
-        self.put(op, cells, text)
+        self.put(op, undos, cells, text)
     }
 
-    // The cells with an edit that is good laid in.
-    fn laid(&self, op: &Operation) -> Result<Cells, AllocError>
-        requires edit { is_edit op.now ≡ true }
-        requires good { answer self.now.history [] op.now ≡ Good }
-        ensures { IfOk result (λ c. c ≡ kept_cells (self.now.history ++ op.now ∷ [])) }
+    // The undo counts with an operation that passes no limit.
+    fn undos_with(&self, op: &Operation) -> Result<UndoMap, AllocError>
+        requires { full_fault self.now.limits self.now.history op.now ≡ None }
+        ensures { IfOk result (λ w. w ≡ undo_entries (self.now.history ++ op.now ∷ [])) }
     {
         match op {
-            Operation::Edit(edit) => self.cells.lay(self.alloc, edit),
-            Operation::Undo(_) => Err(AllocError),
+            Operation::Edit(_) => self.undos.share(),
+            Operation::Undo(undo) => self.undos.with_undo(self.alloc, undo),
         }
     }
 
-    // Puts an edit last that is good and passes no limit, with the cells and the text that are then.
-    fn put(&mut self, op: Operation, cells: Cells, shown: String) -> Result<(), AllocError>
-        requires edit { is_edit op ≡ true }
+    // The cells with an operation that is good, by the undo counts that are then.
+    fn cells_with(&self, op: &Operation, undos: &UndoMap) -> Result<Cells, AllocError>
+        requires good { answer self.now.history [] op.now ≡ Good }
+        requires undos { undos.now ≡ undo_entries (self.now.history ++ op.now ∷ []) }
+        ensures { IfOk result (λ c. c ≡ kept_cells (self.now.history ++ op.now ∷ [])) }
+    {
+        match op {
+            Operation::Edit(edit) => self.cells.lay(self.alloc, undos, edit),
+            Operation::Undo(_) => self.cells.mark(self.alloc, undos),
+        }
+    }
+
+    // Puts an operation last that is good and passes no limit, with the undo counts, the cells and the text that are then.
+    fn put(
+        &mut self,
+        op: Operation,
+        undos: UndoMap,
+        cells: Cells,
+        shown: String,
+    ) -> Result<(), AllocError>
         requires good { answer self.old.history [] op ≡ Good }
         requires room { full_fault self.old.limits self.old.history op ≡ None }
+        requires undos { undos ≡ undo_entries (self.old.history ++ op ∷ []) }
         requires cells { cells ≡ kept_cells (self.old.history ++ op ∷ []) }
         requires text { string_bytes shown ≡ text (self.old.history ++ op ∷ []) }
         ensures ok { OnOk result (self.new ≡ applied self.old op) }
@@ -223,6 +244,7 @@ impl Buffer {
         self.operations.push(op)?;
         self.clock.observe(stamp);
         self.version = version;
+        self.undos = undos;
         self.cells = cells;
         self.text = shown;
         self.bytes += bytes as u64;
@@ -231,7 +253,7 @@ impl Buffer {
     }
 
     // The limit that so many bytes and entries more pass.
-    fn excess(&self, bytes: u64, entries: u64) -> Option<EditFault>
+    pub(crate) fn excess(&self, bytes: u64, entries: u64) -> Option<EditFault>
         ensures { result ≡ option_map (λ e. EditFault.Full e.unit e.held e.adds) (excess self.now.limits self.now.history bytes entries) }
     {
         if self.limits.bytes - self.bytes < bytes {
@@ -251,8 +273,8 @@ impl Buffer {
         None
     }
 
-    // The stamp of the next edit.
-    fn next_stamp(&self) -> Lamport
+    // The stamp of the next edit or undo.
+    pub(crate) fn next_stamp(&self) -> Lamport
         ensures { result ≡ record { value = clock self.now.history; replica = self.now.replica } }
     {
         Lamport {

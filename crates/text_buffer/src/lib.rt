@@ -6,17 +6,14 @@ mod faults;
 mod outcomes;
 mod pieces;
 mod settling;
-#[cfg(test)]
-mod settling_tests;
 mod taking;
 #[cfg(test)]
-mod taking_tests;
-#[cfg(test)]
 mod tests;
+mod undoing;
 
 pub use buffer::{Buffer, agree};
 pub use faults::NewFault;
-pub use op_model::{EditFault, Limits, OpFault, OutOfMemory, Unit};
+pub use op_model::{EditFault, Limits, OpFault, OutOfMemory, UndoFault, Unit};
 pub use outcomes::{Refused, Took};
 
 fn sends<T: Send>(_value: &T) {}

@@ -1,7 +1,7 @@
 // Settling: what waits is applied, refused or dropped.
-ghost use Rattle.std.specs.Prelude.{◌≡◌, ◌⊎◌, true, IfOk, OnErr, OnOk, option_map};
+ghost use Rattle.std.specs.Prelude.{◌≡◌, ◌⊎◌, IfOk, OnErr, OnOk, option_map};
 ghost use Rattle.op_model.specs.Domains.{IsProper};
-ghost use Rattle.op_model.specs.Operations.{is_edit, stamp_of};
+ghost use Rattle.op_model.specs.Operations.{stamp_of};
 ghost use Rattle.op_answers.specs.Verdicts.{answer_of};
 ghost use Rattle.text_buffer.specs.Outcomes.{pair_of};
 ghost use Rattle.text_buffer.specs.Buffer.{AllMiss, IsBuffer, IsPartly, number_applied, settled};
@@ -80,7 +80,6 @@ impl Buffer {
 
     // Applies an operation or puts it on the refused list, by the answer at its turn.
     fn meet(&mut self, op: Operation) -> Result<(), AllocError>
-        requires edit { is_edit op ≡ true }
         ensures ok { OnOk result (self.new ≡ met (turn_answer self.old op) op self.old) }
         ensures err { OnErr result (self.new ≡ self.old) }
     {
@@ -97,7 +96,6 @@ impl Buffer {
     // The answer to an operation at its turn: with nothing waiting, the limits asked last. That its texts are UTF-8 is a clause
     // for callers.
     fn turn(&self, op: &Operation) -> Result<Verdict, AllocError>
-        requires edit { is_edit op.now ≡ true }
         ensures answer { IfOk result (λ v. answer_of v ≡ turn_answer self.now op.now) }
         ensures proper { IfOk result (λ v. v ≡ Verdict.Accept → IsProper op.now) }
     {

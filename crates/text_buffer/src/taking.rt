@@ -1,6 +1,5 @@
 // Taking the operations of other replicas.
 ghost use Rattle.std.specs.Prelude.{ℕ, ◌≡◌, ◌≤◌, ◌⊎◌, true, map, Some, IfErr, IfOk, OnErr, OnOk};
-ghost use Rattle.op_model.specs.Operations.{is_edit};
 ghost use Rattle.op_model.specs.Answers.{answer};
 ghost use Rattle.op_model.specs.Answers.Answer.{Good, Refused as refused};
 ghost use Rattle.text_buffer.specs.Outcomes.{pair_of};
@@ -12,19 +11,19 @@ use op_answers::{Verdict, judge};
 use op_model::{OpFault, Operation};
 
 impl Buffer {
-    /// Takes an edit of another replica. It is applied, whereupon the buffer settles; or it waits; or an equal one is applied or
-    /// waits already, and nothing changes. After `Applied` each operation that waits misses a cause. Linear in all bytes, hidden
+    /// Takes an operation of another replica. It is applied, whereupon the buffer settles; or it waits; or an equal one is applied
+    /// or waits already, and nothing changes. After `Applied` each operation that waits misses a cause. Linear in all bytes, hidden
     /// ones too, for each operation that is applied.
     ///
     /// # Errors
     ///
-    /// The first of these that the edit meets: `BadStamp`, `NoBase`, `TextLimit`, `Reversed`, `Overlap`; where none is equal to it
-    /// `Conflict` (with what is applied or waits), `Forked`; where it misses no cause `OpenVersion`, `PastEnd`, `InsideChar`,
-    /// then `Full` where bytes, then entries, pass their limit. The buffer is then as before, and the edit is dropped.
-    /// `OutOfMemory` only where there is none of these and no equal operation. The buffer is then as before, unless the edit was
-    /// applied and settling wanted memory: then what is applied stays applied, and a later `settle` goes on.
+    /// The first of these that the operation meets: `BadStamp`, `NoBase`, `TextLimit`, `Reversed`, `Overlap`; where none is equal to
+    /// it `Conflict` (with what is applied or waits), `Forked`; where it misses no cause `OpenVersion`, `PastEnd`, `InsideChar`,
+    /// `NoSuchEdit` (a count of no edit that the operation has seen), then `Full` where bytes, then entries, pass their limit. The
+    /// buffer is then as before, and the operation is dropped. `OutOfMemory` only where there is none of these and no equal
+    /// operation. The buffer is then as before, unless the operation was applied and settling wanted memory: then what is applied
+    /// stays applied, and a later `settle` goes on.
     pub fn take(&mut self, op: Operation) -> Result<Took, OpFault>
-        requires edits_only { is_edit op ≡ true }
         ensures ok { IfOk result (λ t. told (number_applied self.old self.new) (answer_to self.old op) ≡ Some t) }
         ensures new { OnOk result (self.new ≡ taken self.old op) }
         ensures applied { IfOk result (λ t. (n : ℕ) → t ≡ Took.Applied n → (1 ≤ n) × AllMiss self.new) }
@@ -49,9 +48,8 @@ impl Buffer {
         }
     }
 
-    // Applies an edit that is good, unless a limit holds it off, and settles.
+    // Applies an operation that is good, unless a limit holds it off, and settles.
     fn accept(&mut self, op: Operation) -> Result<Took, OpFault>
-        requires edit { is_edit op ≡ true }
         requires good { answer self.old.history self.old.waiting op ≡ Good }
         ensures ok { IfOk result (λ t. told (number_applied self.old self.new) (answer_to self.old op) ≡ Some t) }
         ensures new { OnOk result (self.new ≡ taken self.old op) }

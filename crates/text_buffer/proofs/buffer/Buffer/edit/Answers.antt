@@ -14,25 +14,24 @@ replaced-requires c =
     let t = c.as_str.ensures.value ∙ c.self.invariant.text in
     subst (λ (t : List ℕ). AreFit 0 c.args.changes.now t) (sym t) (fits_of (state_of c.self.inside) c.args.changes.now e c.self.invariant.state.utf8)
 
-pub laid-requires-clause-edit : goal.laid-requires-clause-edit
-laid-requires-clause-edit c =
+pub cells_with-requires-clause-good : goal.cells_with-requires-clause-good
+cells_with-requires-clause-good c =
     (made_good c.args.self.now c.args.changes.now c.in_ok-kept.kept (subst IsBuffer c.self.view_is c.self.invariant.state) (sym c.in_default.ensures) c.in_ok-kept.ensures.made).0
 
-pub laid-requires-clause-good : goal.laid-requires-clause-good
-laid-requires-clause-good c =
+pub undos_with-requires : goal.undos_with-requires
+undos_with-requires c =
     (made_good c.args.self.now c.args.changes.now c.in_ok-kept.kept (subst IsBuffer c.self.view_is c.self.invariant.state) (sym c.in_default.ensures) c.in_ok-kept.ensures.made).1
-
-pub put-requires-clause-edit : goal.put-requires-clause-edit
-put-requires-clause-edit c =
-    (made_good c.args.self.now c.args.changes.now c.in_ok-kept.kept (subst IsBuffer c.self.view_is c.self.invariant.state) (sym c.in_default.ensures) c.in_ok-kept.ensures.made).0
 
 pub put-requires-clause-good : goal.put-requires-clause-good
 put-requires-clause-good c =
-    (made_good c.args.self.now c.args.changes.now c.in_ok-kept.kept (subst IsBuffer c.self.view_is c.self.invariant.state) (sym c.in_default.ensures) c.in_ok-kept.ensures.made).1
+    (made_good c.args.self.now c.args.changes.now c.in_ok-kept.kept (subst IsBuffer c.self.view_is c.self.invariant.state) (sym c.in_default.ensures) c.in_ok-kept.ensures.made).0
 
 pub put-requires-clause-room : goal.put-requires-clause-room
 put-requires-clause-room c =
-    (made_good c.args.self.now c.args.changes.now c.in_ok-kept.kept (subst IsBuffer c.self.view_is c.self.invariant.state) (sym c.in_default.ensures) c.in_ok-kept.ensures.made).2
+    (made_good c.args.self.now c.args.changes.now c.in_ok-kept.kept (subst IsBuffer c.self.view_is c.self.invariant.state) (sym c.in_default.ensures) c.in_ok-kept.ensures.made).1
+
+pub put-requires-clause-undos : goal.put-requires-clause-undos
+put-requires-clause-undos c = c.in_ok-undos.ensures
 
 pub put-requires-clause-cells : goal.put-requires-clause-cells
 put-requires-clause-cells c = c.in_ok-cells.ensures
@@ -40,9 +39,9 @@ put-requires-clause-cells c = c.in_ok-cells.ensures
 pub put-requires-clause-text : goal.put-requires-clause-text
 put-requires-clause-text c =
     let f = made_good c.args.self.now c.args.changes.now c.in_ok-kept.kept (subst IsBuffer c.self.view_is c.self.invariant.state) (sym c.in_default.ensures) c.in_ok-kept.ensures.made in
-    c.in_ok-text.ensures ∙ ap (replaced c.args.changes.now) (c.as_str.ensures.value ∙ c.self.invariant.text ∙ ap (λ (b : BufferState). text b.history) c.self.view_is) ∙ f.3
+    c.in_ok-text.ensures ∙ ap (replaced c.args.changes.now) (c.as_str.ensures.value ∙ c.self.invariant.text ∙ ap (λ (b : BufferState). text b.history) c.self.view_is) ∙ f.2
 
 pub returns-clause-text : goal.returns-clause-text
 returns-clause-text c =
     let f = made_good c.args.self.now c.args.changes.now c.in_ok-kept.kept (subst IsBuffer c.self.view_is c.self.invariant.state) (sym c.in_default.ensures) c.in_ok-kept.ensures.made in
-    ap (λ (b : BufferState). text b.history) c.in_ok-put.ensures.ok ∙ sym f.3
+    ap (λ (b : BufferState). text b.history) c.in_ok-put.ensures.ok ∙ sym f.2

@@ -17,9 +17,10 @@ invariant_of-self-in-Missing c =
     record {
       clock = k.clock;
       version = k.version;
+      undos = k.undos;
       cells = k.cells;
       text = k.text;
       bytes = k.bytes;
       entries = k.entries;
-      state = IsBuffer-deferred (state_of c.self.inside) c.args.op _ k.state c.requires.edits_only n c.in_ok-add-in-Missing.ensures.ok;
+      state = IsBuffer-deferred (state_of c.self.inside) c.args.op _ k.state n c.in_ok-add-in-Missing.ensures.ok;
     }

@@ -1,0 +1,71 @@
+// Undo and redo.
+ghost use Rattle.std.specs.Prelude.{◌≡◌, ◌⊎◌, ◌++◌, ◌∷◌, [], None, Some, IfErr, IfOk, OnErr, OnOk};
+ghost use Rattle.text_buffer.specs.Buffer.{made_undo, undo_fault, undone};
+
+use crate::Buffer;
+use lamport_clock::Lamport;
+use op_model::{EditFault, Operation, UndoFault, UndoOp};
+use std::alloc::AllocError;
+use undo_made::{next_counts, undo_fault};
+
+impl Buffer {
+    /// Undoes edits, or redoes those that are undone: gives each of them one more than its present undo count. The base, 1.0, may
+    /// be among them, and edits of other replicas. An empty list makes an operation without counts. Gives the operation, and keeps
+    /// an equal one. Linear in all bytes, hidden ones too, each of which asks for the counts of its edit and of those that delete
+    /// it.
+    ///
+    /// # Errors
+    ///
+    /// Of the faults in the order of `UndoFault` the first, each for the first stamp in the list that meets it: `NoSuchEdit` (it is
+    /// no applied edit), `Twice` (it stands in the list before), `CountEnd` (its count is 4,294,967,295), each asked of the whole
+    /// list before the next; then `ClockEnd`, and `Full` where entries pass their limit. `OutOfMemory` only where there is none of
+    /// these. The buffer is then as before.
+    pub fn undo(&mut self, edits: &[Lamport]) -> Result<Operation, UndoFault>
+        ensures ok { OnOk result (undo_fault self.old edits.now ≡ None) }
+        ensures made { IfOk result (λ op. op ≡ made_undo self.old edits.now) }
+        ensures new { OnOk result (self.new ≡ undone self.old edits.now) }
+        ensures history { IfOk result (λ op. self.new.history ≡ self.old.history ++ op ∷ []) }
+        ensures fault { IfErr result (λ e. (undo_fault self.old edits.now ≡ Some e) ⊎ ((undo_fault self.old edits.now ≡ None) × (e ≡ UndoFault.OutOfMemory))) }
+        ensures err { OnErr result (self.new ≡ self.old) }
+    {
+        if let Some(fault) = self.undo_fault(edits) {
+            return Err(fault);
+        }
+        let made = self.undo_operation(edits)?;
+        let kept = made.copy(self.alloc)?;
+        self.apply(kept)?;
+        Ok(made)
+    }
+
+    // The fault that an undo of the edits meets, if there is memory.
+    fn undo_fault(&self, edits: &[Lamport]) -> Option<UndoFault>
+        ensures { result ≡ undo_fault self.now edits.now }
+    {
+        if let Some(fault) = undo_fault(self.alloc, &self.operations, &self.undos, edits) {
+            return Some(fault);
+        }
+        if self.clock.value() == u32::MAX {
+            return Some(UndoFault::ClockEnd);
+        }
+        match self.excess(0, 1 + edits.len() as u64) {
+            Some(EditFault::Full { unit, held, adds }) => Some(UndoFault::Full {
+                unit,
+                held,
+                adds,
+            }),
+            _ => None,
+        }
+    }
+
+    // The operation of an undo that meets no fault.
+    fn undo_operation(&self, edits: &[Lamport]) -> Result<Operation, AllocError>
+        requires { undo_fault self.now edits.now ≡ None }
+        ensures { IfOk result (λ op. op ≡ made_undo self.now edits.now) }
+    {
+        Ok(Operation::Undo(UndoOp {
+            stamp: self.next_stamp(),
+            version: self.version.copy(self.alloc)?,
+            counts: next_counts(self.alloc, &self.undos, edits)?,
+        }))
+    }
+}
