@@ -8,7 +8,7 @@ use Rattle.session_lines.specs.Cut.{lines_of}
 use Rattle.session_lines.specs.Forms.{shaped}
 use Rattle.session_lines.specs.Heading.{headed}
 use Rattle.session_lines.specs.Session.{decoded, header_of, line_of}
-use Rattle.session_lines.specs.declared.session.SessionLine.TheVariants.{Edit, Op, Give, Text}
+use Rattle.session_lines.specs.declared.session.SessionLine.TheVariants.{Edit, Undo, Op, Uop, Give, Text}
 use Rattle.session_lines.specs.declared.fault.Word.TheVariants.{Json, Header, Shape, Replica, Number}
 use Rattle.session_lines.specs.declared.fault.DecodeFault.TheVariants.{Bad}
 
@@ -84,3 +84,19 @@ a_later_number = refl
 pub replica_first : decoded (codes "[\"zedbuf\",1,\"ab\",[1]]\n[\"give\",3,0]\n") ≡ Err (Bad 2 Replica)
 unfolding decoded value_of shaped headed header_of line_of is_utf8 chars serde_json_on_literals
 replica_first = refl
+
+-- an undo operation as it stands, and an undo of both operation lines before
+pub undos : decoded (codes "[\"zedbuf\",1,\"\",[1]]\n[\"edit\",1,[]]\n[\"uop\",[9,4],[[0,1]],[[2,1,1]]]\n[\"undo\",1,[2,1]]\n")
+    ≡ Ok (record {
+      version = 1;
+      base = [];
+      replicas = 1 ∷ [];
+      lines = Edit 1 [] ∷ Uop (record { stamp = record { value = 9; replica = 4 }; version = (0, 1) ∷ []; counts = record { edit = record { value = 2; replica = 1 }; count = 1 } ∷ [] }) ∷ Undo 1 (2 ∷ 1 ∷ []) ∷ [];
+    })
+unfolding decoded value_of shaped headed header_of line_of is_utf8 chars serde_json_on_literals
+undos = refl
+
+-- an undo that names itself
+pub its_own_number : decoded (codes "[\"zedbuf\",1,\"\",[1]]\n[\"edit\",1,[]]\n[\"undo\",1,[1,2]]\n") ≡ Err (Bad 3 Number)
+unfolding decoded value_of shaped headed header_of line_of is_utf8 chars serde_json_on_literals
+its_own_number = refl

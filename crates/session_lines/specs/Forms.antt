@@ -4,10 +4,11 @@ use Rattle.serde_json.specs.Data.{Data}
 use Rattle.lamport_clock.specs.Versions.{Entries}
 use Rattle.lamport_clock.specs.declared.stamp.Lamport.{Lamport}
 use Rattle.op_model.specs.declared.operation.Piece.{Piece}
+use Rattle.op_model.specs.declared.operation.UndoCount.{UndoCount}
 use Rattle.session_lines.specs.Json.{whole, listed, is_text}
-use Rattle.session_lines.specs.Parts.{id_of, stamp_of, version_of, pieces_of}
+use Rattle.session_lines.specs.Parts.{id_of, stamp_of, version_of, pieces_of, counts_of, numbers_of}
 use Rattle.session_lines.specs.declared.session.SessionLine.{SessionLine}
-use Rattle.session_lines.specs.declared.session.SessionLine.TheVariants.{Edit, Op, Give, Text}
+use Rattle.session_lines.specs.declared.session.SessionLine.TheVariants.{Edit, Undo, Op, Uop, Give, Text}
 
 -- ---- the members behind the word
 
@@ -19,6 +20,14 @@ abbrev pub edit_from : List Data → Option SessionLine
 edit_from (r ∷ ps ∷ []) = edit_with (id_of r) (pieces_of ps)
 edit_from _ = None
 
+abbrev pub undo_with : Option ℕ → Option (List ℕ) → Option SessionLine
+undo_with r ns = option_and_then (λ id. option_map (Undo id) ns) r
+
+-- r, [n, ..]
+abbrev pub undo_from : List Data → Option SessionLine
+undo_from (r ∷ ns ∷ []) = undo_with (id_of r) (numbers_of ns)
+undo_from _ = None
+
 abbrev pub op_with : Option Lamport → Option Entries → Option (List Piece) → Option SessionLine
 op_with t v ps = option_and_then (λ s. option_and_then (λ u. option_map (λ x. Op (record { stamp = s; version = u; pieces = x })) ps) v) t
 
@@ -26,6 +35,14 @@ op_with t v ps = option_and_then (λ s. option_and_then (λ u. option_map (λ x.
 abbrev pub op_from : List Data → Option SessionLine
 op_from (t ∷ v ∷ ps ∷ []) = op_with (stamp_of t) (version_of v) (pieces_of ps)
 op_from _ = None
+
+abbrev pub uop_with : Option Lamport → Option Entries → Option (List UndoCount) → Option SessionLine
+uop_with t v cs = option_and_then (λ s. option_and_then (λ u. option_map (λ x. Uop (record { stamp = s; version = u; counts = x })) cs) v) t
+
+-- [value, replica], [[r, v], ..], [[value, replica, count], ..]
+abbrev pub uop_from : List Data → Option SessionLine
+uop_from (t ∷ v ∷ cs ∷ []) = uop_with (stamp_of t) (version_of v) (counts_of cs)
+uop_from _ = None
 
 abbrev pub give_with : Option ℕ → Option ℕ → Option SessionLine
 give_with r n = option_and_then (λ id. option_map (Give id) n) r
@@ -45,7 +62,9 @@ text_from _ = None
 abbrev pub form_of : Data → List Data → Option SessionLine
 form_of w ds =
     if is_text (codes "edit") w then edit_from ds else
+    if is_text (codes "undo") w then undo_from ds else
     if is_text (codes "op") w then op_from ds else
+    if is_text (codes "uop") w then uop_from ds else
     if is_text (codes "give") w then give_from ds else
     if is_text (codes "text") w then text_from ds else None
 

@@ -6,6 +6,7 @@ use Rattle.serde_json.specs.Find.{as_str}
 use Rattle.lamport_clock.specs.Versions.{Entries, joined}
 use Rattle.lamport_clock.specs.declared.stamp.Lamport.{Lamport}
 use Rattle.op_model.specs.declared.operation.Piece.{Piece}
+use Rattle.op_model.specs.declared.operation.UndoCount.{UndoCount}
 use Rattle.session_lines.specs.Json.{whole, listed}
 
 -- what each member is, where each is something
@@ -22,7 +23,7 @@ at_most m d = option_and_then (λ n. if nat_le n m then Some n else None) (whole
 abbrev pub id_of : Data → Option ℕ
 id_of d = at_most 65535 d
 
--- the value of a stamp or of a version
+-- the value of a stamp or of a version, or an undo count
 abbrev pub clock_value : Data → Option ℕ
 clock_value d = at_most 4294967295 d
 
@@ -97,3 +98,24 @@ piece_of d = option_and_then piece_from (listed d)
 
 abbrev pub pieces_of : Data → Option (List Piece)
 pieces_of d = option_and_then (all_of piece_of) (listed d)
+
+-- ---- undo counts
+
+abbrev pub count_with : Option Lamport → Option ℕ → Option UndoCount
+count_with t c = option_and_then (λ s. option_map (λ n. record { edit = s; count = n }) c) t
+
+-- [value, replica, count]
+abbrev pub count_from : List Data → Option UndoCount
+count_from (v ∷ r ∷ c ∷ []) = count_with (stamp_with (clock_value v) (id_of r)) (clock_value c)
+count_from _ = None
+
+abbrev pub count_of : Data → Option UndoCount
+count_of d = option_and_then count_from (listed d)
+
+abbrev pub counts_of : Data → Option (List UndoCount)
+counts_of d = option_and_then (all_of count_of) (listed d)
+
+-- ---- numbers of operation lines
+
+abbrev pub numbers_of : Data → Option (List ℕ)
+numbers_of d = option_and_then (all_of whole) (listed d)

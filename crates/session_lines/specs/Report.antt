@@ -9,6 +9,8 @@ use Rattle.op_model.specs.declared.faults.Unit.{Unit as LimitUnit}
 use Rattle.op_model.specs.declared.faults.Unit.TheVariants.{Bytes, Entries}
 use Rattle.op_model.specs.declared.faults.EditFault.{EditFault}
 use Rattle.op_model.specs.declared.faults.EditFault.TheVariants.{Reversed, Overlap, PastEnd, InsideChar, TextLimit, ClockEnd, Full, OutOfMemory}
+use Rattle.op_model.specs.declared.faults.UndoFault.{UndoFault}
+use Rattle.op_model.specs.declared.faults.UndoFault.TheVariants as undo
 use Rattle.op_model.specs.declared.faults.OpFault.{OpFault}
 use Rattle.op_model.specs.declared.faults.OpFault.TheVariants as taken
 use Rattle.session_lines.specs.Session.{operation_count}
@@ -16,7 +18,7 @@ use Rattle.session_lines.specs.declared.session.Session.{Session}
 use Rattle.session_lines.specs.declared.report.Given.{Given}
 use Rattle.session_lines.specs.declared.report.Given.TheVariants as given
 use Rattle.session_lines.specs.declared.report.Report.{Report}
-use Rattle.session_lines.specs.declared.report.Report.TheVariants.{Made, EditRefused, Settled, Give, Text, Replica, Refused, Final, Checked}
+use Rattle.session_lines.specs.declared.report.Report.TheVariants.{Made, EditRefused, UndoRefused, Unnamed, Settled, Give, Text, Replica, Refused, Final, Checked}
 
 -- ---- positions
 
@@ -72,8 +74,23 @@ op_fault_words (taken.NoSuchEdit t) = codes "nosuchedit " ++ stamp_text t
 op_fault_words (taken.Full unit held adds) = fault_words (Full unit held adds)
 op_fault_words taken.OutOfMemory = []
 
+-- the faults of undos; one that an edit or a taken operation has too is told by the same words
+abbrev pub undo_fault_words : UndoFault → List ℕ
+undo_fault_words (undo.NoSuchEdit t) = op_fault_words (taken.NoSuchEdit t)
+undo_fault_words (undo.Twice t) = codes "twice " ++ stamp_text t
+undo_fault_words (undo.CountEnd t) = codes "countend " ++ stamp_text t
+undo_fault_words undo.ClockEnd = fault_words ClockEnd
+undo_fault_words (undo.Full unit held adds) = fault_words (Full unit held adds)
+undo_fault_words undo.OutOfMemory = []
+
 unfoldable pub refused_line : ℕ → EditFault → List ℕ
 refused_line n e = decimal n ++ (codes ": " ++ (fault_words e ++ codes "\n"))
+
+unfoldable pub refused_undo_line : ℕ → UndoFault → List ℕ
+refused_undo_line n e = decimal n ++ (codes ": " ++ (undo_fault_words e ++ codes "\n"))
+
+unfoldable pub unnamed_line : ℕ → ℕ → List ℕ
+unnamed_line n named = decimal n ++ (codes ": nothing " ++ (decimal named ++ codes "\n"))
 
 unfoldable pub settled_line : ℕ → ℕ → List ℕ
 settled_line r count = codes "settled " ++ (decimal r ++ (codes ": " ++ (decimal count ++ codes "\n")))
@@ -115,6 +132,8 @@ checked_line lines replicas operations queries =
 unfoldable pub line_text : Report → List ℕ
 line_text (Made n t) = made_line n t
 line_text (EditRefused n e) = refused_line n e
+line_text (UndoRefused n e) = refused_undo_line n e
+line_text (Unnamed n named) = unnamed_line n named
 line_text (Settled r count) = settled_line r count
 line_text (Give n r answer) = give_line n r answer
 line_text (Text r text) = text_line r text

@@ -1,6 +1,6 @@
 -- Which session a text is, or its first bad line and the first word that applies to it.
 use Rattle.std.specs.Prelude.{◌≡◌, ℕ, ◌+◌, ◌≤◌, List, [], ◌∷◌, ◌++◌, length, not, ◌&&◌, nat_lt, nat_le, Bool, true, false, Option, Some, None, Result, Ok, Err, if◌then◌else◌}
-use Rattle.std.specs.List.{All, count_by}
+use Rattle.std.specs.List.{All, count_by, list_all}
 use Rattle.op_model.specs.Choice.{first_of, when}
 use Rattle.serde_json.specs.Data.{Data}
 use Rattle.session_lines.specs.Json.{value_of}
@@ -10,7 +10,7 @@ use Rattle.session_lines.specs.Parts.{is_among}
 use Rattle.session_lines.specs.Heading.{headed, are_replicas}
 use Rattle.session_lines.specs.declared.header.Header.{Header}
 use Rattle.session_lines.specs.declared.session.SessionLine.{SessionLine}
-use Rattle.session_lines.specs.declared.session.SessionLine.TheVariants.{Edit, Op, Give, Text}
+use Rattle.session_lines.specs.declared.session.SessionLine.TheVariants.{Edit, Undo, Op, Uop, Give, Text}
 use Rattle.session_lines.specs.declared.session.Session.{Session}
 use Rattle.session_lines.specs.declared.fault.Word.{Word}
 use Rattle.session_lines.specs.declared.fault.Word.TheVariants as word
@@ -36,7 +36,9 @@ header_of line = header_read (value_of line)
 
 abbrev pub is_operation : SessionLine → Bool
 is_operation (Edit r ps) = true
+is_operation (Undo r ns) = true
 is_operation (Op e) = true
+is_operation (Uop u) = true
 is_operation (Give r n) = false
 is_operation (Text r) = false
 
@@ -49,24 +51,33 @@ operation_count ls = count_by is_operation ls
 -- the replica that acts in the line, if one does, is in the header
 abbrev pub is_known : List ℕ → SessionLine → Bool
 is_known ids (Edit r ps) = is_among ids r
+is_known ids (Undo r ns) = is_among ids r
 is_known ids (Op e) = true
+is_known ids (Uop u) = true
 is_known ids (Give r n) = is_among ids r
 is_known ids (Text r) = is_among ids r
 
--- the operation line that the line names, if it names one, is one of the `count` before it
+-- n is the number of one of the `count` operation lines before
+abbrev pub is_number_of : ℕ → ℕ → Bool
+is_number_of count n = nat_le 1 n && nat_le n count
+
+-- each operation line that the line names is one of the `count` before it
 abbrev pub is_numbered : ℕ → SessionLine → Bool
 is_numbered count (Edit r ps) = true
+is_numbered count (Undo r ns) = list_all (is_number_of count) ns
 is_numbered count (Op e) = true
-is_numbered count (Give r n) = nat_le 1 n && nat_le n count
+is_numbered count (Uop u) = true
+is_numbered count (Give r n) = is_number_of count n
 is_numbered count (Text r) = true
 
 -- what is wrong with a line that has the form of one, behind so many operation lines
 abbrev pub word_of : List ℕ → ℕ → SessionLine → Option Word
 word_of ids count line = first_of (when (not (is_known ids line)) word.Replica ∷ when (not (is_numbered count line)) word.Number ∷ [])
 
-abbrev pub unless : {A : Type 0} → A → Option Word → Result A Word
+-- x, unless there is something against it
+abbrev pub unless : {A E : Type 0} → A → Option E → Result A E
 unless x None = Ok x
-unless x (Some w) = Err w
+unless x (Some e) = Err e
 
 abbrev pub formed : List ℕ → ℕ → Option SessionLine → Result SessionLine Word
 formed ids count None = Err word.Shape

@@ -1,7 +1,8 @@
 // Reading a session from its bytes.
 ghost use Rattle.std.specs.Prelude.{◌≡◌, ◌<◌, ◌≤◌, ◌⊎◌, [], length, IfOk, IfErr, Ok, Err, None, Some};
+ghost use Rattle.std.specs.List.{list_all};
 ghost use Rattle.session_lines.specs.Cut.{lines_of};
-ghost use Rattle.session_lines.specs.Session.{IsSession, decoded, header_of, is_known, is_numbered, line_of, rest_of, session_of, word_of};
+ghost use Rattle.session_lines.specs.Session.{IsSession, decoded, header_of, is_known, is_number_of, is_numbered, line_of, rest_of, session_of, word_of};
 ghost use Rattle.session_lines.specs.declared.fault.Word.{Word};
 
 use crate::cutting::{first_line, line_count};
@@ -33,20 +34,37 @@ fn is_known(replicas: &[u16], line: &SessionLine) -> bool
 {
     match line {
         SessionLine::Edit { replica, .. } => replicas.contains(replica),
+        SessionLine::Undo { replica, .. } => replicas.contains(replica),
         SessionLine::Op(_) => true,
+        SessionLine::Uop(_) => true,
         SessionLine::Give { replica, .. } => replicas.contains(replica),
         SessionLine::Text { replica } => replicas.contains(replica),
     }
 }
 
-// Whether the operation line that the line names, if it names one, is one of the `operations` before it.
+// Whether it is the number of one of the `operations` before.
+fn is_number_of(operations: u64, number: u64) -> bool
+    ensures { result ≡ is_number_of operations number }
+{
+    1 <= number && number <= operations
+}
+
+fn are_numbers_of(operations: u64, numbers: &[u64]) -> bool
+    ensures { result ≡ list_all (is_number_of operations) numbers.now }
+{
+    numbers.iter().all(|n| is_number_of(operations, *n))
+}
+
+// Whether each operation line that the line names is one of the `operations` before it.
 fn is_numbered(operations: u64, line: &SessionLine) -> bool
     ensures { result ≡ is_numbered operations line.now }
 {
     match line {
         SessionLine::Edit { .. } => true,
+        SessionLine::Undo { numbers, .. } => are_numbers_of(operations, numbers.as_slice()),
         SessionLine::Op(_) => true,
-        SessionLine::Give { number, .. } => 1 <= *number && *number <= operations,
+        SessionLine::Uop(_) => true,
+        SessionLine::Give { number, .. } => is_number_of(operations, *number),
         SessionLine::Text { .. } => true,
     }
 }

@@ -2,12 +2,12 @@
 ghost use Rattle.std.specs.Prelude.{◌≡◌, map, IfOk, None, Some};
 ghost use Rattle.serde_json.specs.View.{view};
 ghost use Rattle.session_lines.specs.Json.{listed};
-ghost use Rattle.session_lines.specs.Forms.{edit_from, op_from, give_from, text_from, line_from, shaped};
+ghost use Rattle.session_lines.specs.Forms.{edit_from, undo_from, op_from, uop_from, give_from, text_from, line_from, shaped};
 
 use crate::line_value::{is_text, listed};
-use crate::parts::{id_of, pieces_of, stamp_of, version_of};
+use crate::parts::{counts_of, id_of, numbers_of, pieces_of, stamp_of, version_of};
 use crate::session::SessionLine;
-use op_model::EditOp;
+use op_model::{EditOp, UndoOp};
 use serde_json::Value;
 use std::alloc::{AllocError, Global};
 
@@ -22,6 +22,21 @@ fn edit_from(alloc: Global, members: &[Value]) -> Result<Option<SessionLine>, Al
     };
     match pieces_of(alloc, pieces)? {
         Some(pieces) => Ok(Some(SessionLine::Edit { replica, pieces })),
+        None => Ok(None),
+    }
+}
+
+fn undo_from(alloc: Global, members: &[Value]) -> Result<Option<SessionLine>, AllocError>
+    ensures { IfOk result (λ l. l ≡ undo_from (map view members.now)) }
+{
+    let [replica, numbers] = members else {
+        return Ok(None);
+    };
+    let Some(replica) = id_of(replica) else {
+        return Ok(None);
+    };
+    match numbers_of(alloc, numbers)? {
+        Some(numbers) => Ok(Some(SessionLine::Undo { replica, numbers })),
         None => Ok(None),
     }
 }
@@ -43,6 +58,28 @@ fn op_from(alloc: Global, members: &[Value]) -> Result<Option<SessionLine>, Allo
             stamp,
             version,
             pieces,
+        }))),
+        None => Ok(None),
+    }
+}
+
+fn uop_from(alloc: Global, members: &[Value]) -> Result<Option<SessionLine>, AllocError>
+    ensures { IfOk result (λ l. l ≡ uop_from (map view members.now)) }
+{
+    let [stamp, version, counts] = members else {
+        return Ok(None);
+    };
+    let Some(stamp) = stamp_of(stamp) else {
+        return Ok(None);
+    };
+    let Some(version) = version_of(alloc, version)? else {
+        return Ok(None);
+    };
+    match counts_of(alloc, counts)? {
+        Some(counts) => Ok(Some(SessionLine::Uop(UndoOp {
+            stamp,
+            version,
+            counts,
         }))),
         None => Ok(None),
     }
@@ -81,8 +118,14 @@ fn line_from(alloc: Global, members: &[Value]) -> Result<Option<SessionLine>, Al
     if is_text(word, "edit") {
         return edit_from(alloc, members);
     }
+    if is_text(word, "undo") {
+        return undo_from(alloc, members);
+    }
     if is_text(word, "op") {
         return op_from(alloc, members);
+    }
+    if is_text(word, "uop") {
+        return uop_from(alloc, members);
     }
     if is_text(word, "give") {
         return Ok(give_from(members));

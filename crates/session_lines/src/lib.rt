@@ -18,7 +18,7 @@ pub use decoding::decode;
 pub use fault::{DecodeFault, Word};
 pub use lamport_clock::OutOfMemory;
 pub use report::{Given, Report};
-pub use session::{Ids, Session, SessionLine, SessionLines};
+pub use session::{Ids, Numbers, Session, SessionLine, SessionLines};
 pub use text::write_line;
 
 #[cfg(test)]

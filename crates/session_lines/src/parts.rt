@@ -2,12 +2,13 @@
 ghost use Rattle.std.specs.Prelude.{◌≡◌, ◌<◌, ◌≤◌, [], length, map, option_map, IfOk, None, Some};
 ghost use Rattle.lamport_clock.specs.Versions.{joined};
 ghost use Rattle.serde_json.specs.View.{view};
-ghost use Rattle.session_lines.specs.Json.{listed};
-ghost use Rattle.session_lines.specs.Parts.{AreEntries, all_of, clock_value, entry_from, entry_of, id_of, piece_from, piece_of, pieces_of, stamp_from, stamp_of, version_from, version_of, version_with};
+ghost use Rattle.session_lines.specs.Json.{listed, whole};
+ghost use Rattle.session_lines.specs.Parts.{AreEntries, all_of, clock_value, count_from, count_of, counts_of, entry_from, entry_of, id_of, numbers_of, piece_from, piece_of, pieces_of, stamp_from, stamp_of, version_from, version_of, version_with};
 
 use crate::line_value::listed;
+use crate::session::Numbers;
 use lamport_clock::{Lamport, Version};
-use op_model::{Piece, Pieces, Text};
+use op_model::{Counts, Piece, Pieces, Text, UndoCount};
 use serde_json::Value;
 use std::alloc::{AllocError, Global};
 
@@ -21,7 +22,7 @@ pub fn id_of(value: &Value) -> Option<u16>
     }
 }
 
-/// The value of a stamp or of a version.
+/// The value of a stamp or of a version, or an undo count.
 fn clock_value(value: &Value) -> Option<u32>
     ensures { result ≡ clock_value (view value.now) }
 {
@@ -213,6 +214,74 @@ pub fn version_of(alloc: Global, value: &Value) -> Result<Option<Version>, Alloc
 {
     match listed(value) {
         Some(members) => version_from(alloc, members),
+        None => Ok(None),
+    }
+}
+
+fn count_from(members: &[Value]) -> Option<UndoCount>
+    ensures { result ≡ count_from (map view members.now) }
+{
+    let [value, replica, count] = members else {
+        return None;
+    };
+    match (clock_value(value), id_of(replica), clock_value(count)) {
+        (Some(value), Some(replica), Some(count)) => Some(UndoCount {
+            edit: Lamport { value, replica },
+            count,
+        }),
+        _ => None,
+    }
+}
+
+fn count_of(value: &Value) -> Option<UndoCount>
+    ensures { result ≡ count_of (view value.now) }
+{
+    match listed(value) {
+        Some(members) => count_from(members),
+        None => None,
+    }
+}
+
+fn counts_from(alloc: Global, members: &[Value]) -> Result<Option<Counts>, AllocError>
+    ensures { IfOk result (λ c. c ≡ all_of count_of (map view members.now)) }
+{
+    let mut counts = Vec::new(alloc);
+    for member in members {
+        match count_of(member) {
+            Some(count) => counts.push(count)?,
+            None => return Ok(None),
+        }
+    }
+    Ok(Some(Counts::new(counts)))
+}
+
+pub fn counts_of(alloc: Global, value: &Value) -> Result<Option<Counts>, AllocError>
+    ensures { IfOk result (λ c. c ≡ counts_of (view value.now)) }
+{
+    match listed(value) {
+        Some(members) => counts_from(alloc, members),
+        None => Ok(None),
+    }
+}
+
+fn numbers_from(alloc: Global, members: &[Value]) -> Result<Option<Numbers>, AllocError>
+    ensures { IfOk result (λ ns. ns ≡ all_of whole (map view members.now)) }
+{
+    let mut numbers = Vec::new(alloc);
+    for member in members {
+        match member.as_u64() {
+            Some(number) => numbers.push(number)?,
+            None => return Ok(None),
+        }
+    }
+    Ok(Some(Numbers::new(numbers)))
+}
+
+pub fn numbers_of(alloc: Global, value: &Value) -> Result<Option<Numbers>, AllocError>
+    ensures { IfOk result (λ ns. ns ≡ numbers_of (view value.now)) }
+{
+    match listed(value) {
+        Some(members) => numbers_from(alloc, members),
         None => Ok(None),
     }
 }

@@ -4,7 +4,7 @@ ghost use Rattle.session_lines.specs.Report.{checked};
 
 use crate::session::Session;
 use lamport_clock::Lamport;
-use op_model::{EditFault, OpFault, Text};
+use op_model::{EditFault, OpFault, Text, UndoFault};
 
 /// What a replica answers to an operation that it is given.
 #[derive(Clone, Copy, Debug, PartialEq, Eq)]
@@ -33,6 +33,16 @@ pub enum Report {
     EditRefused {
         number: u64,
         fault: EditFault,
+    },
+    /// `N: FAULT`: the undo of operation line N was refused.
+    UndoRefused {
+        number: u64,
+        fault: UndoFault,
+    },
+    /// `N: nothing n`: the undo of operation line N names a number under which no operation stands, the first such.
+    Unnamed {
+        number: u64,
+        named: u64,
     },
     /// `settled R: C`: at replica R settling applied C operations that had waited.
     Settled {

@@ -2,7 +2,7 @@
 ghost use Rattle.std.specs.Prelude.{◌≡◌};
 ghost use Rattle.session_lines.specs.Session.{is_operation, operation_count};
 
-use op_model::{EditOp, Pieces, Text};
+use op_model::{EditOp, Pieces, Text, UndoOp};
 use std::marker::Model;
 
 /// A line after the header. A replica that acts in it is one of the header's.
@@ -10,9 +10,14 @@ use std::marker::Model;
 pub enum SessionLine {
     /// `["edit",r,[[s,e,"t"],..]]`: replica r replaces ranges of its text, each by a new one.
     Edit { replica: u16, pieces: Pieces },
+    /// `["undo",r,[n,..]]`: replica r undoes or redoes the edits made by operation lines n.
+    Undo { replica: u16, numbers: Numbers },
     /// `["op",[value,replica],[[r,v],..],[[s,e,"t"],..]]`: an edit operation as it stands, with its stamp, its version, whose
     /// ids stand in any order, and its pieces. It is applied nowhere.
     Op(EditOp),
+    /// `["uop",[value,replica],[[r,v],..],[[value,replica,count],..]]`: an undo operation as it stands, with its stamp, its
+    /// version, whose ids stand in any order, and its counts. It is applied nowhere.
+    Uop(UndoOp),
     /// `["give",r,n]`: replica r takes the operation of operation line n.
     Give { replica: u16, number: u64 },
     /// `["text",r]`: the text of replica r is shown.
@@ -26,7 +31,9 @@ impl SessionLine {
     {
         match self {
             SessionLine::Edit { .. } => true,
+            SessionLine::Undo { .. } => true,
             SessionLine::Op(_) => true,
+            SessionLine::Uop(_) => true,
             SessionLine::Give { .. } => false,
             SessionLine::Text { .. } => false,
         }
@@ -92,6 +99,35 @@ impl Ids {
     }
 }
 
+/// The numbers of operation lines, seen as their list.
+#[derive(Drop)]
+pub struct Numbers {
+    inner: Vec<u64>,
+}
+
+impl Model for Numbers {
+    ghost use Rattle.std.specs.Prelude.{List, ℕ};
+
+    ghost Value = { List ℕ };
+
+    ghost view = { λ n. n.inner.items };
+}
+
+impl Numbers {
+    /// Makes a list of numbers of a vector, without memory.
+    pub fn new(inner: Vec<u64>) -> Numbers
+        ensures { result ≡ inner.items }
+    {
+        Numbers { inner }
+    }
+
+    pub fn as_slice(&self) -> &[u64]
+        ensures { result.now ≡ self.now }
+    {
+        &self.inner
+    }
+}
+
 /// What a session's bytes say: a base text, replicas that each have a buffer over it, and what they do, line by line.
 #[derive(Drop)]
 pub struct Session {
@@ -111,6 +147,10 @@ impl Session {
         ensures { result ≡ operation_count self.now.lines }
     {
         let lines = self.lines.as_slice();
-        lines.iter().filter(|line| line.is_operation()).count() as u64
+        let mut count = 0;
+        for line in lines {
+            count += line.is_operation() as u64;
+        }
+        count
     }
 }

@@ -3,7 +3,7 @@ use crate::{
     DecodeFault, Given, Report, Session, SessionLine, Word, decode, row_count, write_line,
 };
 use lamport_clock::{Lamport, Version};
-use op_model::{EditFault, OpFault, Text, Unit};
+use op_model::{EditFault, OpFault, Text, UndoFault, Unit};
 use std::alloc::{AllocError, Global};
 use std::process::Abort;
 use std::test::Fail;
@@ -24,7 +24,9 @@ fn bad(line: u64, word: Word) -> Option<DecodeFault> {
 fn name_of(line: &SessionLine) -> &'static str {
     match line {
         SessionLine::Edit { .. } => "edit",
+        SessionLine::Undo { .. } => "undo",
         SessionLine::Op(_) => "op",
+        SessionLine::Uop(_) => "uop",
         SessionLine::Give { .. } => "give",
         SessionLine::Text { .. } => "text",
     }
@@ -49,6 +51,11 @@ fn sessions_are_read(rt: HostRuntime) -> Result<(), Fail> {
             "[\"zedbuf\",1,\"ab\",[1,2]]\n[\"op\",[0,65535],[],[]]\n[\"edit\",1,[]]\n[\"give\",2,1]\n[\"give\",1,2]\n[\"op\",[4294967295,0],[[65535,4294967295],[0,1]],[[2,1,\"x\"]]]\n[\"give\",1,3]\n",
             &[1, 2][..],
             &["op", "edit", "give", "give", "op", "give"][..],
+        ),
+        (
+            "[\"zedbuf\",1,\"ab\",[1,2]]\n[\"undo\",1,[]]\n[\"uop\",[4294967295,65535],[],[[4294967295,65535,4294967295],[0,0,0]]]\n[\"undo\",2,[2,1,2]]\n[\"give\",1,3]\n",
+            &[1, 2][..],
+            &["undo", "uop", "undo", "give"][..],
         ),
     ] {
         let session = match decode(alloc, input.as_bytes()) {
@@ -192,8 +199,6 @@ fn bad_lines(rt: HostRuntime) -> Result<(), Fail> {
             "[\"edit\",1,[[0,0,7]]]",
             "[\"edit\",1,[[0,18446744073709551616,\"\"]]]",
             "[\"edit\",3,[[0,0]]]",
-            "[\"uop\",[2,1],[],[]]",
-            "[\"undo\",1,[1]]",
         ],
     )?;
     are_bad(
@@ -246,6 +251,50 @@ fn bad_operations(rt: HostRuntime) -> Result<(), Fail> {
 }
 
 #[test]
+fn bad_undos(rt: HostRuntime) -> Result<(), Fail> {
+    let alloc = rt.alloc();
+    are_bad(
+        &rt,
+        alloc,
+        Word::Shape,
+        &[
+            "[\"uop\",[2,1],[]]",
+            "[\"uop\",[2,1],[],[],[]]",
+            "[\"uop\",[4294967296,1],[],[]]",
+            "[\"uop\",[2,1],[[0,0]],[]]",
+            "[\"uop\",[2,1],[[0,1],[0,1]],[]]",
+            "[\"uop\",[2,1],[],[[2,1]]]",
+            "[\"uop\",[2,1],[],[[2,1,1,1]]]",
+            "[\"uop\",[2,1],[],[[4294967296,1,1]]]",
+            "[\"uop\",[2,1],[],[[2,65536,1]]]",
+            "[\"uop\",[2,1],[],[[2,1,4294967296]]]",
+            "[\"uop\",[2,1],[],[[0,0,\"\"]]]",
+            "[\"uop\",[2,1],[],2]",
+            "[\"undo\",1]",
+            "[\"undo\",1,[],1]",
+            "[\"undo\",1,1]",
+            "[\"undo\",1,[1.0]]",
+            "[\"undo\",1,[18446744073709551616]]",
+            "[\"undo\",65536,[]]",
+            "[\"undo\",3,[1,[]]]",
+        ],
+    )?;
+    are_bad(
+        &rt,
+        alloc,
+        Word::Replica,
+        &["[\"undo\",3,[1]]", "[\"undo\",3,[]]"],
+    )?;
+    are_bad(
+        &rt,
+        alloc,
+        Word::Number,
+        &["[\"undo\",1,[1]]", "[\"undo\",1,[0]]"],
+    )?;
+    Ok(())
+}
+
+#[test]
 fn bad_gives(rt: HostRuntime) -> Result<(), Fail> {
     let alloc = rt.alloc();
     are_bad(
@@ -288,8 +337,15 @@ fn numbers_of_operation_lines(rt: HostRuntime) -> Result<(), Fail> {
     let edit = "[\"edit\",1,[]]";
     let op = "[\"op\",[2,9],[],[]]";
     let text = "[\"text\",1]";
+    let undo = "[\"undo\",1,[]]";
+    let uop = "[\"uop\",[2,9],[],[]]";
     for (first, second, number, want) in [
-        (text, text, 1u64, bad(4, Word::Number)),
+        (undo, uop, 2u64, bad(5, Word::Number)),
+        (undo, uop, 3, bad(4, Word::Number)),
+        (edit, "[\"undo\",1,[1,1]]", 2, bad(5, Word::Number)),
+        (edit, "[\"undo\",1,[1,2]]", 2, bad(3, Word::Number)),
+        (edit, "[\"undo\",1,[0,1]]", 2, bad(3, Word::Number)),
+        (text, text, 1, bad(4, Word::Number)),
         (edit, text, 0, bad(4, Word::Number)),
         (edit, text, 1, bad(5, Word::Number)),
         (text, op, 1, bad(5, Word::Number)),
@@ -535,5 +591,38 @@ fn faults_of_taken_operations(rt: HostRuntime) -> Result<(), Fail> {
         let want = format!(in alloc; "refused 9: 3.2 {want}")?;
         writes(&rt, alloc, &line, want.as_str())?;
     }
+    Ok(())
+}
+
+#[test]
+fn faults_of_undos(rt: HostRuntime) -> Result<(), Fail> {
+    let alloc = rt.alloc();
+    let stamp = Lamport {
+        value: 7,
+        replica: 1,
+    };
+    for (fault, want) in [
+        (UndoFault::NoSuchEdit(stamp), "nosuchedit 7.1"),
+        (UndoFault::Twice(stamp), "twice 7.1"),
+        (UndoFault::CountEnd(stamp), "countend 7.1"),
+        (UndoFault::ClockEnd, "clockend"),
+        (
+            UndoFault::Full {
+                unit: Unit::Entries,
+                held: 5,
+                adds: 6,
+            },
+            "full entries 5 6",
+        ),
+    ] {
+        let line = Report::UndoRefused { number: 4, fault };
+        let want = format!(in alloc; "4: {want}")?;
+        writes(&rt, alloc, &line, want.as_str())?;
+    }
+    let line = Report::Unnamed {
+        number: 4,
+        named: 2,
+    };
+    writes(&rt, alloc, &line, "4: nothing 2")?;
     Ok(())
 }

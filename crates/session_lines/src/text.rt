@@ -3,12 +3,12 @@ ghost use Rattle.std.specs.Prelude.{◌≡◌, ◌++◌, ◌<◌, ◌==◌, reve
 ghost use Rattle.std.specs.List.{position};
 ghost use Rattle.json.specs.Print.{quoted};
 ghost use Rattle.session_lines.specs.Cut.{feeds};
-ghost use Rattle.session_lines.specs.Report.{last_column, made_line, settled_line, given_words, give_line, text_line, text_line_with, end_words, counts_words, waits_words, replica_line, final_line, final_line_with, fault_words, op_fault_words, refused_line, refused_op_line, checked_line, line_text};
+ghost use Rattle.session_lines.specs.Report.{last_column, made_line, settled_line, given_words, give_line, text_line, text_line_with, end_words, counts_words, waits_words, replica_line, final_line, final_line_with, fault_words, op_fault_words, undo_fault_words, refused_line, refused_undo_line, unnamed_line, refused_op_line, checked_line, line_text};
 
 use crate::cutting::feeds;
 use crate::report::{Given, Report};
 use lamport_clock::Lamport;
-use op_model::{EditFault, OpFault, Unit};
+use op_model::{EditFault, OpFault, UndoFault, Unit};
 use serde_json::Value;
 use std::alloc::{AllocError, Global};
 use std::fmt::Write;
@@ -68,12 +68,48 @@ fn op_fault_text(alloc: Global, fault: OpFault) -> Result<String, AllocError>
     fault_text(alloc, shared)
 }
 
+// A fault that an edit or a taken operation has too is told by the same words.
+fn undo_fault_text(alloc: Global, fault: UndoFault) -> Result<String, AllocError>
+    ensures { IfOk result (λ s. string_bytes s ≡ undo_fault_words fault) }
+{
+    match fault {
+        UndoFault::NoSuchEdit(stamp) => op_fault_text(alloc, OpFault::NoSuchEdit(stamp)),
+        UndoFault::Twice(stamp) => format!(in alloc; "twice {stamp}"),
+        UndoFault::CountEnd(stamp) => format!(in alloc; "countend {stamp}"),
+        UndoFault::ClockEnd => fault_text(alloc, EditFault::ClockEnd),
+        UndoFault::Full { unit, held, adds } => {
+            fault_text(alloc, EditFault::Full { unit, held, adds })
+        }
+        UndoFault::OutOfMemory => fault_text(alloc, EditFault::OutOfMemory),
+    }
+}
+
 #[tactic(auto, unfolding(crate::specs::Report::refused_line))]
 fn push_refused(alloc: Global, out: &mut String, n: u64, fault: EditFault) -> Result<(), AllocError>
     ensures { OnOk result (string_bytes out.new ≡ string_bytes out.old ++ refused_line n fault) }
 {
     let words = fault_text(alloc, fault)?;
     write!(out, "{n}: {words}\n")
+}
+
+#[tactic(auto, unfolding(crate::specs::Report::refused_undo_line))]
+fn push_refused_undo(
+    alloc: Global,
+    out: &mut String,
+    n: u64,
+    fault: UndoFault,
+) -> Result<(), AllocError>
+    ensures { OnOk result (string_bytes out.new ≡ string_bytes out.old ++ refused_undo_line n fault) }
+{
+    let words = undo_fault_text(alloc, fault)?;
+    write!(out, "{n}: {words}\n")
+}
+
+#[tactic(auto, unfolding(crate::specs::Report::unnamed_line))]
+fn push_unnamed(out: &mut String, n: u64, named: u64) -> Result<(), AllocError>
+    ensures { OnOk result (string_bytes out.new ≡ string_bytes out.old ++ unnamed_line n named) }
+{
+    write!(out, "{n}: nothing {named}\n")
 }
 
 #[tactic(auto, unfolding(crate::specs::Report::settled_line))]
@@ -227,6 +263,8 @@ fn push_line(alloc: Global, out: &mut String, line: &Report) -> Result<(), Alloc
     match line {
         Report::Made { number, stamp } => push_made(out, *number, *stamp),
         Report::EditRefused { number, fault } => push_refused(alloc, out, *number, *fault),
+        Report::UndoRefused { number, fault } => push_refused_undo(alloc, out, *number, *fault),
+        Report::Unnamed { number, named } => push_unnamed(out, *number, *named),
         Report::Settled { replica, count } => push_settled(out, *replica, *count),
         Report::Give {
             number,

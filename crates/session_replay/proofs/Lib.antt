@@ -1,6 +1,7 @@
 pub mod Moved
 pub mod Buffers
 pub mod Steps
+pub mod OperationLines
 pub mod Replicas
 pub mod Outcome
 pub mod Sent

@@ -1,20 +1,17 @@
--- What one replica reports of an edit, of settling, and at the end.
-use Rattle.std.proofs.Common.{◌≡◌, ℕ, ◌+◌, ◌==◌, cond, if◌then◌else◌, ◌<◌, ◌≤◌, List, [], ◌∷◌, ◌++◌, length, drop, get_or, map, None, refl, sym, ap, ◌∙◌, append_assoc, append-nil}
+-- What one replica reports of settling, and at the end.
+use Rattle.std.proofs.Common.{◌≡◌, ℕ, ◌+◌, ◌==◌, cond, if◌then◌else◌, ◌<◌, ◌≤◌, List, [], ◌∷◌, ◌++◌, length, drop, get_or, map, refl, sym, ap, ◌∙◌, append_assoc, append-nil}
 use Rattle.std.proofs.lemmas.List.{drop_all}
 use Rattle.std.proofs.lemmas.Bool.{ne_eqb}
 use Rattle.lamport_clock.specs.declared.stamp.Lamport.{Lamport}
-use Rattle.op_model.specs.Operations.{stamp_of}
 use Rattle.op_model.specs.Shown.{text}
-use Rattle.op_model.specs.declared.operation.Piece.{Piece}
-use Rattle.op_model.specs.declared.operation.Operation.{Operation}
 use Rattle.op_model.specs.declared.faults.OpFault.{OpFault}
-use Rattle.text_buffer.specs.Buffer.{BufferState, edit_fault, edited, made, number_applied, settled}
+use Rattle.text_buffer.specs.Buffer.{BufferState, number_applied, settled}
 use Rattle.text_buffer.specs.Outcomes.{pair_of}
 use Rattle.text_buffer.specs.declared.outcomes.Refused.{Refused as Entry}
 use Rattle.session_lines.specs.Report.{line_text, report_text}
 use Rattle.session_lines.specs.declared.report.Report.{Report}
 use Rattle.session_lines.specs.declared.report.Report.TheVariants as report
-use Rattle.session_replay.specs.Work.{at_end, counts_report, edit_reports, edit_reports_by, refused_report, settled_reports}
+use Rattle.session_replay.specs.Work.{at_end, counts_report, refused_report, settled_reports}
 use Rattle.session_replay.proofs.Steps.{all_written, behind, line_reported, text-append, text-none, written}
 
 -- a line, and what follows it
@@ -45,20 +42,6 @@ module _ (b after : BufferState) (c : ℕ) (is : after ≡ settled b) (count : c
   some_settled r out new h i e =
       let line : report.Settled r c ≡ report.Settled b.replica (number_applied b (settled b)) = cc (i, same_count) in
       some_of b.replica (number_applied b (settled b)) out new (λ z. h (same_count ∙ z)) (e ∙ ap (λ q. out ++ line_text q) line)
-
--- ---- an edit
-
--- the buffer and the pieces may go by other names
-same_edit : {A : Type 0} (f : List Piece → BufferState → A) (qs ps : List Piece) (d b : BufferState) → qs ≡ ps → d ≡ b → f qs d ≡ f ps b
-same_edit f qs ps d b q e = ap (λ l. f l d) q ∙ ap (f ps) e
-
-module _ (n : ℕ) (qs ps : List Piece) (d b : BufferState) (pieces : qs ≡ ps) (buffer : d ≡ b) where
-  pub made_reported : (t : Lamport) (op : Operation) (after : BufferState) (out mid new : List ℕ) → edit_fault d qs ≡ None → t ≡ stamp_of op → op ≡ made d qs → after ≡ edited d qs
-      → mid ≡ out ++ line_text (report.Made n t) → new ≡ mid ++ report_text (settled_reports after) → new ≡ out ++ report_text (edit_reports n ps b)
-  made_reported t op after out mid new f s m e w z =
-      let line : report.Made n t ≡ report.Made n (stamp_of (made d qs)) = ap (report.Made n) (s ∙ ap stamp_of m) in
-      more_reported (report.Made n (stamp_of (made d qs))) (settled_reports (edited d qs)) out mid new (w ∙ ap (λ q. out ++ line_text q) line) (z ∙ ap (λ b. mid ++ report_text (settled_reports b)) e)
-      ∙ ap (λ f. out ++ report_text (edit_reports_by f n qs d)) (sym f) ∙ same_edit (λ l b. out ++ report_text (edit_reports n l b)) qs ps d b pieces buffer
 
 -- ---- at the end
 

@@ -10,7 +10,7 @@ use Rattle.session_lines.specs.Forms.{shaped}
 use Rattle.session_lines.specs.Heading.{headed}
 use Rattle.session_lines.specs.Session.{decoded, header_of, line_of}
 use Rattle.session_lines.specs.Words.{bad_line}
-use Rattle.session_lines.specs.Report.{report_text, line_text, made_line, refused_line, settled_line, give_line, text_line, replica_line, refused_op_line, final_line, checked_line}
+use Rattle.session_lines.specs.Report.{report_text, line_text, made_line, refused_line, refused_undo_line, unnamed_line, settled_line, give_line, text_line, replica_line, refused_op_line, final_line, checked_line}
 use Rattle.session_replay.specs.Words.{command_from}
 use Rattle.session_replay.specs.Work.{report_of}
 use Rattle.session_replay.specs.Replay.{answer_of}
@@ -19,13 +19,13 @@ use Rattle.session_replay.specs.declared.top.Status.TheVariants as status
 use Rattle.lamport_clock.specs.Stamps.{later, same_stamp}
 use Rattle.op_model.specs.Cells.{same_cell, sibling_first, seq_where, seq}
 use Rattle.op_model.specs.Shown.{deleters_where, full, full_where, shown_where, shown, text_where, text}
-use Rattle.op_model.specs.Made.{made as made_at}
+use Rattle.op_model.specs.Made.{made as made_at, made_undo}
 use Rattle.op_model.specs.Answers.{answer}
 use Rattle.op_model.specs.Settled.{pass, passes, settled}
 
 -- what histories compute
 unfoldable open_histories : ℕ
-unfolding later same_stamp same_cell sibling_first seq_where seq deleters_where shown_where shown text_where text full_where full made_at answer pass passes settled
+unfolding later same_stamp same_cell sibling_first seq_where seq deleters_where shown_where shown text_where text full_where full made_at made_undo answer pass passes settled
 open_histories = 0
 
 -- ---- words
@@ -80,6 +80,17 @@ pub refused_while_settling : answer_of (Replay 2) (codes "[\"zedbuf\",1,\"ab\",[
     ≡ (status.Done, codes "1: 3.2\ngive 1 to 1: waits 3 2\n2: 2.3\ngive 2 to 1: applied 1\nreplica 1: 2 bytes, 1 rows, 1 applied, 0 waiting, 1 refused\nrefused 1: 3.2 pastend 0 2\nfinal 1: \"ab\"\nreplica 2: 2 bytes, 1 rows, 0 applied, 0 waiting, 0 refused\nfinal 2: \"ab\"\n")
 unfolding answer_of open_histories report_of report_text decoded value_of shaped headed header_of line_of line_text made_line refused_line settled_line give_line text_line replica_line refused_op_line final_line digits escape_byte is_utf8 chars serde_json_on_literals
 refused_while_settling = refl
+
+-- two undos of one edit that have not seen each other, and a redo
+pub undos_count_once : answer_of (Replay 2) (codes "[\"zedbuf\",1,\"ab\",[1,2]]\n[\"edit\",1,[[1,1,\"X\"]]]\n[\"give\",2,1]\n[\"undo\",1,[1]]\n[\"undo\",2,[1]]\n[\"give\",1,3]\n[\"text\",1]\n[\"undo\",1,[1]]\n")
+    ≡ (status.Done, codes "1: 2.1\ngive 1 to 2: applied 1\n2: 3.1\n3: 3.2\ngive 3 to 1: applied 1\ntext 1: 2 bytes, end 0:2, 1 rows, \"ab\"\n4: 5.1\nreplica 1: 3 bytes, 1 rows, 4 applied, 0 waiting, 0 refused\nfinal 1: \"aXb\"\nreplica 2: 2 bytes, 1 rows, 2 applied, 0 waiting, 0 refused\nfinal 2: \"ab\"\n")
+unfolding answer_of open_histories report_of report_text decoded value_of shaped headed header_of line_of line_text made_line refused_line refused_undo_line unnamed_line settled_line give_line text_line replica_line refused_op_line final_line digits escape_byte is_utf8 chars serde_json_on_literals
+undos_count_once = refl
+
+pub refused_undos : answer_of (Replay 2) (codes "[\"zedbuf\",1,\"ab\",[1,2]]\n[\"edit\",1,[[1,1,\"X\"]]]\n[\"undo\",2,[1]]\n[\"undo\",1,[1,1]]\n[\"undo\",1,[1,1,2]]\n[\"uop\",[3,2],[[0,1],[1,2]],[[2,1,4294967295]]]\n[\"give\",1,5]\n[\"undo\",1,[1]]\n")
+    ≡ (status.Done, codes "1: 2.1\n2: nosuchedit 2.1\n3: twice 2.1\n4: nothing 2\n5: 3.2\ngive 5 to 1: applied 1\n6: countend 2.1\nreplica 1: 2 bytes, 1 rows, 2 applied, 0 waiting, 0 refused\nfinal 1: \"ab\"\nreplica 2: 2 bytes, 1 rows, 0 applied, 0 waiting, 0 refused\nfinal 2: \"ab\"\n")
+unfolding answer_of open_histories report_of report_text decoded value_of shaped headed header_of line_of line_text made_line refused_line refused_undo_line unnamed_line settled_line give_line text_line replica_line refused_op_line final_line digits escape_byte is_utf8 chars serde_json_on_literals
+refused_undos = refl
 
 pub counted : answer_of Check (codes "[\"zedbuf\",1,\"ab\",[1,2]]\n[\"edit\",1,[[1,1,\"X\"]]]\n[\"edit\",2,[[1,1,\"Y\"]]]\n[\"give\",2,1]\n[\"give\",1,2]\n") ≡ (status.Done, codes "session ok: 5 lines, 2 replicas, 2 operations, 0 queries\n")
 unfolding answer_of decoded value_of shaped headed header_of line_of line_text checked_line digits is_utf8 chars serde_json_on_literals

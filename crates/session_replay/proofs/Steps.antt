@@ -4,19 +4,13 @@ use Rattle.std.proofs.Math.Seq.{drop-cons}
 use Rattle.std.specs.List.{flat_map}
 use Rattle.std.proofs.lemmas.List.{drop_all}
 use Rattle.std.proofs.lemmas.Grind.{flat_map-append}
-use Rattle.op_model.specs.Made.{made as made_at}
-use Rattle.op_model.specs.declared.operation.Piece.{Piece}
 use Rattle.op_model.specs.declared.operation.Operation.{Operation}
-use Rattle.op_model.specs.declared.operation.Operation.TheVariants as operation
-use Rattle.op_model.specs.declared.faults.EditFault.{EditFault}
-use Rattle.text_buffer.specs.Buffer.{BufferState, edit_fault}
+use Rattle.text_buffer.specs.Buffer.{BufferState}
 use Rattle.session_lines.specs.Report.{line_text, report_text}
 use Rattle.session_lines.specs.declared.report.Report.{Report}
 use Rattle.session_lines.specs.declared.session.SessionLine.{SessionLine}
 use Rattle.session_lines.specs.declared.session.Session.{Session}
-use Rattle.session_lines.specs.declared.session.SessionLine.TheVariants as line
-use Rattle.session_replay.specs.Work.{State, reports_at, events, step, all_events, after_all, at_end, opened, opening, report_of, buffer_of, edit_made, edit_made_by, operation_of}
-use Rattle.session_replay.specs.Working.{AreEdits, IsEdit}
+use Rattle.session_replay.specs.Work.{State, reports_at, events, step, all_events, after_all, at_end, opened, opening, report_of}
 
 -- ---- texts of reports
 
@@ -40,27 +34,6 @@ written rs qs out new all e n =
 -- nothing is left to be written
 pub all_written : (out all : List ℕ) → out ++ report_text [] ≡ all → out ≡ all
 all_written out all e = sym (append-nil out) ∙ ap (λ t. out ++ t) (sym text-none) ∙ e
-
--- ---- what stands under the numbers
-
-made_is_edit : (o : Option EditFault) (ps : List Piece) (b : BufferState) → IsEdit (edit_made_by o ps b)
-unfolding made_at
-made_is_edit None ps b = refl
-made_is_edit (Some e) ps b = tt
-
-at_is_edit : (ps : List Piece) (o : Option BufferState) → IsEdit (option_and_then (edit_made ps) o)
-at_is_edit ps None = tt
-at_is_edit ps (Some b) = made_is_edit (edit_fault b ps) ps b
-
-one_more : (ops : List (Option Operation)) (o : Option Operation) → AreEdits ops → IsEdit o → AreEdits (ops ++ o ∷ [])
-one_more [] o h e = (e, tt)
-one_more (p ∷ ops) o h e = (h.0, one_more ops o h.1 e)
-
-pub step_edits : (l : SessionLine) (s : State) → AreEdits s.operations → AreEdits (step l s).operations
-step_edits (line.Edit r ps) s h = one_more s.operations (option_and_then (edit_made ps) (buffer_of r s.buffers)) h (at_is_edit ps (buffer_of r s.buffers))
-step_edits (line.Op e) s h = one_more s.operations (Some (operation.Edit e)) h refl
-step_edits (line.Give r n) s h = h
-step_edits (line.Text r) s h = h
 
 -- ---- one line
 
@@ -96,9 +69,6 @@ module _ (ls : List SessionLine) (i : ℕ) (d : SessionLine) (s t : State) (lt :
 
   pub more_state : (all : State) → after_all (drop i ls) s ≡ all → after_all (drop (i + 1) ls) t ≡ all
   more_state all e = ap (after_all (drop (i + 1) ls)) is ∙ ap (λ l. after_all l s) (sym (behind ls i d lt)) ∙ e
-
-  pub more_edits : AreEdits s.operations → AreEdits t.operations
-  more_edits h = subst (λ (u : State). AreEdits u.operations) (sym is) (step_edits (get_or ls i d) s h)
 
 -- no line is left
 pub lines_done : (ls : List SessionLine) (i : ℕ) (s : State) (out all : List ℕ) → length ls ≤ i → out ++ report_text (all_events (drop i ls) s) ≡ all → out ≡ all

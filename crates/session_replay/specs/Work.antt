@@ -1,18 +1,20 @@
 -- What the lines of a session report, and what they do to the buffers of its replicas.
-use Rattle.std.specs.Prelude.{ℕ, ◌+◌, ◌-◌, ◌^◌, ◌==◌, List, [], ◌∷◌, ◌++◌, length, map, get_or, Option, Some, None, option_and_then, if◌then◌else◌}
+use Rattle.std.specs.Prelude.{ℕ, ◌+◌, ◌-◌, ◌^◌, ◌==◌, List, [], ◌∷◌, ◌++◌, length, map, get_or, Option, Some, None, is_none, option_and_then, option_map, Result, Ok, Err, if◌then◌else◌}
 use Rattle.std.specs.List.{find, flat_map}
+use Rattle.std.specs.Result.{result_ok}
 use Rattle.lamport_clock.specs.declared.stamp.Lamport.{Lamport}
 use Rattle.op_model.specs.Operations.{stamp_of}
 use Rattle.op_model.specs.declared.operation.Piece.{Piece}
 use Rattle.op_model.specs.declared.operation.Operation.{Operation}
 use Rattle.op_model.specs.declared.operation.Operation.TheVariants as operation
-use Rattle.op_model.specs.declared.faults.EditFault.{EditFault}
 use Rattle.op_model.specs.declared.faults.OpFault.{OpFault}
 use Rattle.op_model.specs.Answers.{Answer}
 use Rattle.op_model.specs.Answers.Answer.{Good, Repeat, Waits, Refused}
+use Rattle.op_model.specs.Choice.{first_of}
 use Rattle.op_model.specs.Shown.{text}
-use Rattle.text_buffer.specs.Buffer.{BufferState, answer_to, edit_fault, edited, made, number_applied, over_base, settled, taken}
+use Rattle.text_buffer.specs.Buffer.{BufferState, answer_to, applied, edit_fault, made, made_undo, number_applied, over_base, settled, taken, undo_fault}
 use Rattle.session_lines.specs.Cut.{feeds}
+use Rattle.session_lines.specs.Session.{unless}
 use Rattle.session_lines.specs.declared.session.SessionLine.{SessionLine}
 use Rattle.session_lines.specs.declared.session.SessionLine.TheVariants as line
 use Rattle.session_lines.specs.declared.session.Session.{Session}
@@ -42,35 +44,52 @@ with_buffer r f (b ∷ bs) = if b.replica == r then f b ∷ bs else b ∷ with_b
 abbrev pub operation_of : ℕ → List (Option Operation) → Option Operation
 operation_of n ops = get_or ops (n - 1) None
 
--- ---- an edit at a buffer, by the fault that it meets there
+-- the number of the operation line that comes next
+abbrev pub next_number : State → ℕ
+next_number s = length s.operations + 1
+
+-- ---- an operation line at a buffer: it makes an operation there, or reports what refuses it
+
+-- what comes of an edit as operation line n
+abbrev pub edit_outcome : ℕ → List Piece → BufferState → Result Operation Report
+edit_outcome n ps b = unless (made b ps) (option_map (report.EditRefused n) (edit_fault b ps))
+
+-- the first of the numbers under which no operation stands
+abbrev pub first_unnamed : List (Option Operation) → List ℕ → Option ℕ
+first_unnamed ops ms = find (λ m. is_none (operation_of m ops)) ms
+
+abbrev pub stamps_in : Option Operation → List Lamport
+stamps_in None = []
+stamps_in (Some op) = stamp_of op ∷ []
+
+-- the stamps of the operations that stand under the numbers
+abbrev pub stamps_under : List (Option Operation) → List ℕ → List Lamport
+stamps_under ops ms = flat_map (λ m. stamps_in (operation_of m ops)) ms
+
+-- what refuses it, if anything does; a number without an operation does before every fault
+abbrev pub undo_refusal : ℕ → List (Option Operation) → List ℕ → BufferState → Option Report
+undo_refusal n ops ms b = first_of (
+    option_map (report.Unnamed n) (first_unnamed ops ms)
+    ∷ option_map (report.UndoRefused n) (undo_fault b (stamps_under ops ms))
+    ∷ [])
+
+-- what comes of an undo as operation line n
+abbrev pub undo_outcome : ℕ → List (Option Operation) → List ℕ → BufferState → Result Operation Report
+undo_outcome n ops ms b = unless (made_undo b (stamps_under ops ms)) (undo_refusal n ops ms b)
 
 -- what settling reports, where it applied any
 abbrev pub settled_reports : BufferState → List Report
 settled_reports b = let c = number_applied b (settled b) in if c == 0 then [] else report.Settled b.replica c ∷ []
 
-abbrev pub edit_reports_by : Option EditFault → ℕ → List Piece → BufferState → List Report
-edit_reports_by None n ps b = report.Made n (stamp_of (made b ps)) ∷ settled_reports (edited b ps)
-edit_reports_by (Some e) n ps b = report.EditRefused n e ∷ []
+-- what operation line n reports, by what came of it
+abbrev pub outcome_reports : ℕ → Result Operation Report → BufferState → List Report
+outcome_reports n (Ok op) b = report.Made n (stamp_of op) ∷ settled_reports (applied b op)
+outcome_reports n (Err r) b = r ∷ []
 
--- what it reports as operation line n
-abbrev pub edit_reports : ℕ → List Piece → BufferState → List Report
-edit_reports n ps b = edit_reports_by (edit_fault b ps) n ps b
-
-abbrev pub after_edit_by : Option EditFault → List Piece → BufferState → BufferState
-after_edit_by None ps b = settled (edited b ps)
-after_edit_by (Some e) ps b = b
-
--- the buffer after it, which settles where an operation was made
-abbrev pub after_edit : List Piece → BufferState → BufferState
-after_edit ps b = after_edit_by (edit_fault b ps) ps b
-
-abbrev pub edit_made_by : Option EditFault → List Piece → BufferState → Option Operation
-edit_made_by None ps b = Some (made b ps)
-edit_made_by (Some e) ps b = None
-
--- the operation that it makes
-abbrev pub edit_made : List Piece → BufferState → Option Operation
-edit_made ps b = edit_made_by (edit_fault b ps) ps b
+-- the buffer after it: an operation that was made is applied, and the buffer settles
+abbrev pub after_outcome : Result Operation Report → BufferState → BufferState
+after_outcome (Ok op) b = settled (applied b op)
+after_outcome (Err r) b = b
 
 -- ---- what stands under a number is given to a buffer: an operation, or nothing
 
@@ -96,18 +115,33 @@ abbrev pub reports_at : (BufferState → List Report) → Option BufferState →
 reports_at f None = []
 reports_at f (Some b) = f b
 
+-- what the next operation line reports, f being what comes of it at the buffer of replica r
+abbrev pub line_events : ℕ → (BufferState → Result Operation Report) → State → List Report
+line_events r f s = reports_at (λ b. outcome_reports (next_number s) (f b) b) (buffer_of r s.buffers)
+
 -- what the line reports; a replica that is not there reports nothing, and no session has a line of one
 abbrev pub events : SessionLine → State → List Report
-events (line.Edit r ps) s = reports_at (edit_reports (length s.operations + 1) ps) (buffer_of r s.buffers)
-events (line.Op e) s = report.Made (length s.operations + 1) e.stamp ∷ []
+events (line.Edit r ps) s = line_events r (edit_outcome (next_number s) ps) s
+events (line.Undo r ms) s = line_events r (undo_outcome (next_number s) s.operations ms) s
+events (line.Op e) s = report.Made (next_number s) e.stamp ∷ []
+events (line.Uop u) s = report.Made (next_number s) u.stamp ∷ []
 events (line.Give r n) s = reports_at (λ b. report.Give n r (give_answer (operation_of n s.operations) b) ∷ []) (buffer_of r s.buffers)
 events (line.Text r) s = reports_at (λ b. report.Text r (text b.history) ∷ []) (buffer_of r s.buffers)
 
+-- the session with these buffers after one more operation line, and with what stands under its number
+abbrev pub numbered : List BufferState → Option Operation → State → State
+numbered bs o s = record { buffers = bs; operations = s.operations ++ o ∷ [] }
+
+-- the session after the next operation line, f being what comes of it at the buffer of replica r
+abbrev pub after_line : ℕ → (BufferState → Result Operation Report) → State → State
+after_line r f s = numbered (with_buffer r (λ b. after_outcome (f b) b) s.buffers) (option_and_then (λ b. result_ok (f b)) (buffer_of r s.buffers)) s
+
 -- the session after the line
 abbrev pub step : SessionLine → State → State
-step (line.Edit r ps) s =
-    record { buffers = with_buffer r (after_edit ps) s.buffers; operations = s.operations ++ option_and_then (edit_made ps) (buffer_of r s.buffers) ∷ [] }
-step (line.Op e) s = record { buffers = s.buffers; operations = s.operations ++ Some (operation.Edit e) ∷ [] }
+step (line.Edit r ps) s = after_line r (edit_outcome (next_number s) ps) s
+step (line.Undo r ms) s = after_line r (undo_outcome (next_number s) s.operations ms) s
+step (line.Op e) s = numbered s.buffers (Some (operation.Edit e)) s
+step (line.Uop u) s = numbered s.buffers (Some (operation.Undo u)) s
 step (line.Give r n) s = record { buffers = with_buffer r (after_give (operation_of n s.operations)) s.buffers; operations = s.operations }
 step (line.Text r) s = s
 

@@ -24,3 +24,5 @@ mod long_tests;
 mod merging_tests;
 #[cfg(test)]
 mod tests;
+#[cfg(test)]
+mod undoing_tests;

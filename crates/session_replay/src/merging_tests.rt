@@ -107,10 +107,12 @@ final 2: "aRPQb"
 ["give",2,6]
 ["op",[9,4],[[0,1],[1,1]],[]]
 ["give",2,7]
-["op",[9,4],[[0,1]],[[2,1,""]]]
+["uop",[9,4],[[0,1]],[[7,1,1]]]
 ["give",2,8]
-["op",[9,4],[[0,1]],[[0,2,""],[1,1,"x"]]]
+["op",[9,4],[[0,1]],[[2,1,""]]]
 ["give",2,9]
+["op",[9,4],[[0,1]],[[0,2,""],[1,1,"x"]]]
+["give",2,10]
 "#,
         r#"1: 4294967295.1
 give 1 to 2: badstamp
@@ -127,9 +129,11 @@ give 6 to 2: nobase
 7: 9.4
 give 7 to 2: openversion 1
 8: 9.4
-give 8 to 2: reversed 0
+give 8 to 2: nosuchedit 7.1
 9: 9.4
-give 9 to 2: overlap 1
+give 9 to 2: reversed 0
+10: 9.4
+give 10 to 2: overlap 1
 replica 1: 3 bytes, 1 rows, 1 applied, 0 waiting, 0 refused
 final 1: "Pab"
 replica 2: 3 bytes, 1 rows, 1 applied, 0 waiting, 0 refused

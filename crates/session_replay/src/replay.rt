@@ -1,16 +1,19 @@
 // A session worked line by line, and its report.
-ghost use Rattle.std.specs.Prelude.{◌≡◌, ◌≤◌, ◌+◌, ◌++◌, ◌==◌, length, map, ℕ, IfOk, OnOk};
+ghost use Rattle.std.specs.Prelude.{◌≡◌, ◌≤◌, ◌+◌, ◌++◌, ◌==◌, [], ◌∷◌, length, map, ℕ, Some, IfOk, OnOk};
+ghost use Rattle.std.specs.Option.{option_copied};
 ghost use Rattle.std.specs.List.{All, flat_map, position};
-ghost use Rattle.op_model.specs.declared.operation.Operation.TheVariants.{Edit};
+ghost use Rattle.op_model.specs.Operations.{stamp_of};
+ghost use Rattle.op_model.specs.declared.operation.Operation.TheVariants.{Edit, Undo};
 ghost use Rattle.session_lines.specs.Report.{report_text};
 ghost use Rattle.session_lines.specs.Session.{IsSession};
+ghost use Rattle.session_lines.specs.declared.report.Report.{Report};
 ghost use Rattle.session_lines.specs.declared.session.SessionLine.{SessionLine};
-ghost use Rattle.session_replay.specs.Work.{after_all, all_events, at_end, events, opened, operation_of, report_of, step};
-ghost use Rattle.session_replay.specs.Working.{AreEdits, state_of};
+ghost use Rattle.session_replay.specs.Work.{after_all, all_events, at_end, events, next_number, numbered, opened, report_of, step};
+ghost use Rattle.session_replay.specs.Working.{state_of};
 
-use crate::replica::Replica;
-use op_model::{EditOp, Operation, Pieces};
-use session_lines::{Report, Session, SessionLine, write_line};
+use crate::replica::{Replica, operation_of};
+use op_model::{Counts, EditOp, Operation, Pieces, UndoOp};
+use session_lines::{Numbers, Report, Session, SessionLine, write_line};
 use std::alloc::{AllocError, Global};
 
 /// A session as far as it was worked.
@@ -30,17 +33,13 @@ fn place_of(replicas: &[Replica], id: u16) -> Option<usize>
     replicas.iter().position(|replica| replica.has_id(id))
 }
 
-/// A copy of the operation that stands under that number, which counts from 1, if one does.
-fn operation_of(
-    alloc: Global,
-    operations: &[Option<Operation>],
-    number: u64,
-) -> Result<Option<Operation>, AllocError>
-    ensures { IfOk result (λ o. o ≡ operation_of number operations.now) }
+/// A copy of the operation, where there is one.
+fn copy_of(alloc: Global, operation: Option<&Operation>) -> Result<Option<Operation>, AllocError>
+    ensures { IfOk result (λ o. o ≡ option_copied operation.entry) }
 {
-    match operations.get(number.saturating_sub(1) as usize) {
-        Some(Some(operation)) => Ok(Some(operation.copy(alloc)?)),
-        _ => Ok(None),
+    match operation {
+        Some(operation) => Ok(Some(operation.copy(alloc)?)),
+        None => Ok(None),
     }
 }
 
@@ -52,6 +51,17 @@ fn edit_operation(alloc: Global, edit: &EditOp) -> Result<Operation, AllocError>
         stamp: edit.stamp,
         version: edit.version.copy(alloc)?,
         pieces: Pieces::copy_of(alloc, edit.pieces.as_slice())?,
+    }))
+}
+
+/// The undo as an operation of its own.
+fn undo_operation(alloc: Global, undo: &UndoOp) -> Result<Operation, AllocError>
+    ensures { IfOk result (λ op. op ≡ Undo undo.now) }
+{
+    Ok(Operation::Undo(UndoOp {
+        stamp: undo.stamp,
+        version: undo.version.copy(alloc)?,
+        counts: Counts::copy_of(alloc, undo.counts.as_slice())?,
     }))
 }
 
@@ -78,28 +88,48 @@ impl Progress {
         Ok(())
     }
 
+    /// Works an undo line.
+    fn work_undo(&mut self, alloc: Global, id: u16, numbers: &Numbers) -> Result<(), AllocError>
+        ensures report { OnOk result (self.new.report.items ≡ self.old.report.items ++ report_text (events (SessionLine.Undo id numbers.now) (state_of self.old))) }
+        ensures state { OnOk result (state_of self.new ≡ step (SessionLine.Undo id numbers.now) (state_of self.old)) }
+    {
+        let Some(place) = place_of(self.replicas.as_slice(), id) else {
+            self.operations.push(None)?;
+            return Ok(());
+        };
+        let number = self.next_number();
+        let made = self.replicas[place].undo(
+            alloc,
+            number,
+            self.operations.as_slice(),
+            numbers.as_slice(),
+            &mut self.report,
+        )?;
+        self.operations.push(made)?;
+        Ok(())
+    }
+
     /// Works a line with an operation as it stands.
-    fn work_op(&mut self, alloc: Global, edit: &EditOp) -> Result<(), AllocError>
-        ensures report { OnOk result (self.new.report.items ≡ self.old.report.items ++ report_text (events (SessionLine.Op edit.now) (state_of self.old))) }
-        ensures state { OnOk result (state_of self.new ≡ step (SessionLine.Op edit.now) (state_of self.old)) }
+    fn work_operation(&mut self, alloc: Global, operation: Operation) -> Result<(), AllocError>
+        ensures report { OnOk result (self.new.report.items ≡ self.old.report.items ++ report_text (Report.Made (next_number (state_of self.old)) (stamp_of operation) ∷ [])) }
+        ensures state { OnOk result (state_of self.new ≡ numbered self.old.replicas.items (Some operation) (state_of self.old)) }
     {
         let number = self.next_number();
-        let stamp = edit.stamp;
-        self.operations.push(Some(edit_operation(alloc, edit)?))?;
+        let stamp = operation.stamp();
+        self.operations.push(Some(operation))?;
         write_line(alloc, &mut self.report, &Report::Made { number, stamp })?;
         Ok(())
     }
 
     /// Works a line that gives an operation to a replica.
     fn work_give(&mut self, alloc: Global, id: u16, number: u64) -> Result<(), AllocError>
-        requires { AreEdits self.old.operations.items }
         ensures report { OnOk result (self.new.report.items ≡ self.old.report.items ++ report_text (events (SessionLine.Give id number) (state_of self.old))) }
         ensures state { OnOk result (state_of self.new ≡ step (SessionLine.Give id number) (state_of self.old)) }
     {
         let Some(place) = place_of(self.replicas.as_slice(), id) else {
             return Ok(());
         };
-        let operation = operation_of(alloc, self.operations.as_slice(), number)?;
+        let operation = copy_of(alloc, operation_of(self.operations.as_slice(), number))?;
         let answer = self.replicas[place].give(operation)?;
         let report = Report::Give {
             number,
@@ -125,13 +155,14 @@ impl Progress {
 
     /// Works a line.
     fn work_line(&mut self, alloc: Global, line: &SessionLine) -> Result<(), AllocError>
-        requires { AreEdits self.old.operations.items }
         ensures report { OnOk result (self.new.report.items ≡ self.old.report.items ++ report_text (events line.now (state_of self.old))) }
         ensures state { OnOk result (state_of self.new ≡ step line.now (state_of self.old)) }
     {
         match line {
             SessionLine::Edit { replica, pieces } => self.work_edit(alloc, *replica, pieces)?,
-            SessionLine::Op(edit) => self.work_op(alloc, edit)?,
+            SessionLine::Undo { replica, numbers } => self.work_undo(alloc, *replica, numbers)?,
+            SessionLine::Op(edit) => self.work_operation(alloc, edit_operation(alloc, edit)?)?,
+            SessionLine::Uop(undo) => self.work_operation(alloc, undo_operation(alloc, undo)?)?,
             SessionLine::Give { replica, number } => self.work_give(alloc, *replica, *number)?,
             SessionLine::Text { replica } => self.work_text(alloc, *replica)?,
         }
@@ -145,7 +176,6 @@ fn work_lines(
     alloc: Global,
     lines: &[SessionLine],
 ) -> Result<(), AllocError>
-    requires { AreEdits progress.old.operations.items }
     ensures report { OnOk result (progress.new.report.items ≡ progress.old.report.items ++ report_text (all_events lines.now (state_of progress.old))) }
     ensures state { OnOk result (state_of progress.new ≡ after_all lines.now (state_of progress.old)) }
 {

@@ -1,15 +1,17 @@
 // A replica of a session: its buffer, and what it reports.
-ghost use Rattle.std.specs.Prelude.{◌≡◌, ◌≤◌, ◌++◌, ◌==◌, [], ◌∷◌, length, map, Some, None, true, IfOk, OnOk};
-ghost use Rattle.op_model.specs.Operations.{is_edit};
+ghost use Rattle.std.specs.Prelude.{◌≡◌, ◌≤◌, ◌++◌, ◌==◌, [], ◌∷◌, length, map, is_none, Some, None, IfOk, OnOk};
+ghost use Rattle.std.specs.Option.{option_copied};
+ghost use Rattle.std.specs.Result.{result_ok};
+ghost use Rattle.op_model.specs.Operations.{stamp_of};
 ghost use Rattle.op_model.specs.Shown.{text};
 ghost use Rattle.session_lines.specs.Report.{line_text, report_text};
 ghost use Rattle.session_lines.specs.declared.report.Report.{Report};
 ghost use Rattle.text_buffer.specs.Buffer.{settled};
 ghost use Rattle.text_buffer.specs.Outcomes.{pair_of};
-ghost use Rattle.session_replay.specs.Work.{after_edit, after_give, at_end, counts_report, edit_made, edit_reports, give_answer, opened, refused_report, settled_reports};
-ghost use Rattle.session_replay.specs.Working.{IsEdit};
+ghost use Rattle.session_replay.specs.Work.{after_give, after_outcome, at_end, counts_report, edit_outcome, first_unnamed, give_answer, operation_of, opened, outcome_reports, refused_report, settled_reports, stamps_under, undo_outcome};
 
-use op_model::{EditFault, Limits, OpFault, Operation, Pieces, Text};
+use lamport_clock::Lamport;
+use op_model::{EditFault, Limits, OpFault, Operation, Pieces, Text, UndoFault};
 use session_lines::{Given, Report, row_count, write_line};
 use std::alloc::{AllocError, Global};
 use std::marker::Model;
@@ -61,7 +63,7 @@ impl Replica {
         self.id == id
     }
 
-    /// Edits its text, as the operation line with that number, and settles where that made an operation, which it gives.
+    /// Edits its text, as the operation line with that number. Gives the operation, where one is made.
     pub fn edit(
         &mut self,
         alloc: Global,
@@ -69,23 +71,58 @@ impl Replica {
         pieces: &Pieces,
         out: &mut Vec<u8>,
     ) -> Result<Option<Operation>, AllocError>
-        ensures report { OnOk result (out.new.items ≡ out.old.items ++ report_text (edit_reports number pieces.now self.old)) }
-        ensures after { OnOk result (self.new ≡ after_edit pieces.now self.old) }
-        ensures made { IfOk result (λ o. o ≡ edit_made pieces.now self.old) }
+        ensures report { OnOk result (out.new.items ≡ out.old.items ++ report_text (outcome_reports number (edit_outcome number pieces.now self.old) self.old)) }
+        ensures after { OnOk result (self.new ≡ after_outcome (edit_outcome number pieces.now self.old) self.old) }
+        ensures made { IfOk result (λ o. o ≡ result_ok (edit_outcome number pieces.now self.old)) }
     {
         match self.buffer.edit(pieces.as_slice()) {
-            Ok(operation) => {
-                let stamp = operation.stamp();
-                write_line(alloc, out, &Report::Made { number, stamp })?;
-                self.settle(alloc, out)?;
-                Ok(Some(operation))
-            }
+            Ok(operation) => self.made(alloc, number, operation, out),
             Err(EditFault::OutOfMemory) => Err(AllocError),
-            Err(fault) => {
-                write_refusal(alloc, number, fault, out)?;
-                Ok(None)
-            }
+            Err(fault) => refused(alloc, &Report::EditRefused { number, fault }, out),
         }
+    }
+
+    /// Undoes or redoes what stands under the numbers among the operations, as the operation line with that number. Gives the
+    /// undo, where one is made.
+    pub fn undo(
+        &mut self,
+        alloc: Global,
+        number: u64,
+        operations: &[Option<Operation>],
+        numbers: &[u64],
+        out: &mut Vec<u8>,
+    ) -> Result<Option<Operation>, AllocError>
+        ensures report { OnOk result (out.new.items ≡ out.old.items ++ report_text (outcome_reports number (undo_outcome number operations.now numbers.now self.old) self.old)) }
+        ensures after { OnOk result (self.new ≡ after_outcome (undo_outcome number operations.now numbers.now self.old) self.old) }
+        ensures made { IfOk result (λ o. o ≡ result_ok (undo_outcome number operations.now numbers.now self.old)) }
+    {
+        if let Some(named) = first_unnamed(operations, numbers) {
+            return refused(alloc, &Report::Unnamed { number, named }, out);
+        }
+        let edits = stamps_under(alloc, operations, numbers)?;
+        match self.buffer.undo(edits.as_slice()) {
+            Ok(operation) => self.made(alloc, number, operation, out),
+            Err(UndoFault::OutOfMemory) => Err(AllocError),
+            Err(fault) => refused(alloc, &Report::UndoRefused { number, fault }, out),
+        }
+    }
+
+    // Reports the operation that was made, as the operation line with that number, and settles.
+    fn made(
+        &mut self,
+        alloc: Global,
+        number: u64,
+        operation: Operation,
+        out: &mut Vec<u8>,
+    ) -> Result<Option<Operation>, AllocError>
+        ensures report { OnOk result (out.new.items ≡ out.old.items ++ report_text (Report.Made number (stamp_of operation) ∷ settled_reports self.old)) }
+        ensures after { OnOk result (self.new ≡ settled self.old) }
+        ensures made { IfOk result (λ o. o ≡ Some operation) }
+    {
+        let stamp = operation.stamp();
+        write_line(alloc, out, &Report::Made { number, stamp })?;
+        self.settle(alloc, out)?;
+        Ok(Some(operation))
     }
 
     /// Settles, and reports it where that applied any.
@@ -104,7 +141,6 @@ impl Replica {
 
     /// Takes what stands under a number: an operation, or nothing.
     pub fn give(&mut self, operation: Option<Operation>) -> Result<Given, AllocError>
-        requires { IsEdit operation }
         ensures answer { IfOk result (λ g. g ≡ give_answer operation self.old) }
         ensures after { OnOk result (self.new ≡ after_give operation self.old) }
     {
@@ -115,7 +151,6 @@ impl Replica {
     }
 
     fn take(&mut self, operation: Operation) -> Result<Given, AllocError>
-        requires { is_edit operation ≡ true }
         ensures answer { IfOk result (λ g. g ≡ give_answer (Some operation) self.old) }
         ensures after { OnOk result (self.new ≡ after_give (Some operation) self.old) }
     {
@@ -164,17 +199,17 @@ impl Replica {
     }
 }
 
-/// Writes that the edit of an operation line was refused.
-fn write_refusal(
+// Reports what refuses an operation line, which then makes no operation.
+fn refused(
     alloc: Global,
-    number: u64,
-    fault: EditFault,
+    refusal: &Report,
     out: &mut Vec<u8>,
-) -> Result<(), AllocError>
-    ensures { OnOk result (out.new.items ≡ out.old.items ++ report_text (Report.EditRefused number fault ∷ [])) }
+) -> Result<Option<Operation>, AllocError>
+    ensures report { OnOk result (out.new.items ≡ out.old.items ++ report_text (refusal.now ∷ [])) }
+    ensures made { IfOk result (λ o. o ≡ None) }
 {
-    write_line(alloc, out, &Report::EditRefused { number, fault })?;
-    Ok(())
+    write_line(alloc, out, refusal)?;
+    Ok(None)
 }
 
 /// Writes a line for each operation that a replica refused while it settled.
@@ -199,4 +234,45 @@ fn write_refused(
         )?;
     }
     Ok(())
+}
+
+/// The operation that stands under that number, which counts from 1, if one does.
+pub fn operation_of(operations: &[Option<Operation>], number: u64) -> Option<&Operation>
+    ensures { option_copied result ≡ operation_of number operations.now }
+{
+    match operations.get(number.saturating_sub(1) as usize) {
+        Some(Some(operation)) => Some(operation),
+        _ => None,
+    }
+}
+
+// Whether no operation stands under that number.
+fn is_unnamed(operations: &[Option<Operation>], number: u64) -> bool
+    ensures { result ≡ is_none (operation_of number operations.now) }
+{
+    operation_of(operations, number).is_none()
+}
+
+// The first of the numbers under which no operation stands.
+fn first_unnamed(operations: &[Option<Operation>], numbers: &[u64]) -> Option<u64>
+    ensures { result ≡ first_unnamed operations.now numbers.now }
+{
+    numbers.iter().copied().find(|n| is_unnamed(operations, *n))
+}
+
+// The stamps of the operations that stand under the numbers.
+fn stamps_under(
+    alloc: Global,
+    operations: &[Option<Operation>],
+    numbers: &[u64],
+) -> Result<Vec<Lamport>, AllocError>
+    ensures { IfOk result (λ v. v.items ≡ stamps_under operations.now numbers.now) }
+{
+    let mut stamps = Vec::new(alloc);
+    for number in numbers {
+        if let Some(operation) = operation_of(operations, *number) {
+            stamps.push(operation.stamp())?;
+        }
+    }
+    Ok(stamps)
 }

@@ -179,8 +179,8 @@ fn inputs_that_are_no_sessions(rt: HostRuntime) -> Result<(), Fail> {
             "session line 2: shape\n",
         ),
         (
-            "[\"zedbuf\",1,\"ab\",[1,2]]\n[\"undo\",1,[1]]\n",
-            "session line 2: shape\n",
+            "[\"zedbuf\",1,\"ab\",[1,2]]\n[\"edit\",1,[]]\n[\"undo\",1,[1,2]]\n",
+            "session line 3: number\n",
         ),
     ] {
         replays(&rt, alloc, input.as_bytes(), Status::Session, line)?;

@@ -2,7 +2,7 @@ use Rattle.std.proofs.Common.{◌≡◌, ◌++◌, ◌<◌, length, ap, ◌∙�
 use Rattle.session_lines.specs.Report.{report_text}
 use Rattle.session_replay.specs.Work.{events, step}
 use Rattle.session_replay.specs.Working.{state_of}
-use Rattle.session_replay.proofs.Steps.{more_report, more_state, more_edits, lines_done}
+use Rattle.session_replay.proofs.Steps.{more_report, more_state, lines_done}
 use Rattle.session_replay.proofs.replay.work_lines.Goals as goal
 
 pub loop-line-preserved : goal.loop-line-preserved
@@ -16,7 +16,6 @@ loop-line-preserved c =
     record {
       report = more_report ls i c.line-item.result s t lt is _ _ _ c.loop-line.invariant.report (c.in_ok-work_line.ensures.report ∙ ap (λ l. c.loop-line.progress.report.items ++ report_text (events l s)) c.line-item.is);
       state = more_state ls i c.line-item.result s t lt is _ c.loop-line.invariant.state;
-      edits = more_edits ls i c.line-item.result s t lt is c.loop-line.invariant.edits;
     }
 
 pub returns-clause-report : goal.returns-clause-report

@@ -1,39 +1,38 @@
-use Rattle.std.proofs.Common.{◌≡◌, ◌+◌, ◌++◌, ◌==◌, [], ◌∷◌, length, sym, ap, ◌∙◌, set, None, Some, option_and_then}
+use Rattle.std.proofs.Common.{◌≡◌, ◌++◌, ◌==◌, ap, ◌∙◌, None, Some}
+use Rattle.std.specs.Result.{result_ok}
 use Rattle.std.specs.List.{position}
 use Rattle.session_lines.specs.Report.{report_text}
 use Rattle.text_buffer.specs.Buffer.{BufferState}
-use Rattle.session_replay.specs.Work.{after_edit, buffer_of, edit_made, edit_reports}
-use Rattle.session_replay.proofs.Buffers.{found, not_found}
-use Rattle.session_replay.proofs.Steps.{none_reported, one_reported, same_state}
+use Rattle.session_replay.specs.Work.{after_outcome, edit_outcome, next_number, outcome_reports}
+use Rattle.session_replay.specs.Working.{state_of}
+use Rattle.session_replay.proofs.OperationLines.{there_reported, there_after, nowhere_reported, nowhere_after}
 use Rattle.session_replay.proofs.replay.Progress.work_edit.Goals as goal
 
 pub returns-in_default-clause-report : goal.returns-in_default-clause-report
 returns-in_default-clause-report c =
-    let bs = c.args.self.now.replicas.items in
-    let e : None ≡ position (λ (b : BufferState). b.replica == c.args.id) bs = cc (c.in_default.ensures, c.as_slice.ensures.value) in
-    none_reported _ _ _ (not_found c.args.id (after_edit c.args.pieces.now) bs e).0
+    let s = state_of c.args.self.now in
+    let e : None ≡ position (λ (b : BufferState). b.replica == c.args.id) s.buffers = cc (c.in_default.ensures, c.as_slice.ensures.value) in
+    nowhere_reported c.args.id (edit_outcome (next_number s) c.args.pieces.now) s e _
 
 pub returns-in_default-clause-state : goal.returns-in_default-clause-state
 returns-in_default-clause-state c =
-    let bs = c.args.self.now.replicas.items in
-    let e : None ≡ position (λ (b : BufferState). b.replica == c.args.id) bs = cc (c.in_default.ensures, c.as_slice.ensures.value) in
-    let f = not_found c.args.id (after_edit c.args.pieces.now) bs e in
-    same_state _ _ _ _ (sym f.1) (c.in_ok-push.ensures.items ∙ ap (λ b. c.args.self.now.operations.items ++ option_and_then (edit_made c.args.pieces.now) b ∷ []) (sym f.0))
+    let s = state_of c.args.self.now in
+    let e : None ≡ position (λ (b : BufferState). b.replica == c.args.id) s.buffers = cc (c.in_default.ensures, c.as_slice.ensures.value) in
+    nowhere_after c.args.id (edit_outcome (next_number s) c.args.pieces.now) s e _ c.in_ok-push.ensures.items
 
 pub returns-clause-report : goal.returns-clause-report
 returns-clause-report c =
-    let bs = c.args.self.now.replicas.items in
-    let e : Some c.in-Some.place ≡ position (λ (b : BufferState). b.replica == c.args.id) bs = cc (c.in-Some.ensures, c.as_slice.ensures.value) in
-    let f = found c.args.id (after_edit c.args.pieces.now) bs c.in-Some.place c.index_mut.result.now e in
-    let numbered = c.in_ok-made.ensures.report ∙ ap (λ n. c.args.self.now.report.items ++ report_text (edit_reports n c.args.pieces.now c.index_mut.result.now)) c.next_number-number.ensures in
-    one_reported (edit_reports (length c.args.self.now.operations.items + 1) c.args.pieces.now) _ c.index_mut.result.now _ _ (f.0 ∙ ap Some (sym c.index_mut.ensures.value)) numbered
+    let s = state_of c.args.self.now in
+    let b = c.index_mut.result.now in
+    let e : Some c.in-Some.place ≡ position (λ (b : BufferState). b.replica == c.args.id) s.buffers = cc (c.in-Some.ensures, c.as_slice.ensures.value) in
+    let written = c.in_ok-made.ensures.report ∙ ap (λ n. c.args.self.now.report.items ++ report_text (outcome_reports n (edit_outcome n c.args.pieces.now b) b)) c.next_number-number.ensures in
+    there_reported c.args.id (edit_outcome (next_number s) c.args.pieces.now) s c.in-Some.place b e c.index_mut.ensures.value _ _ written
 
 pub returns-clause-state : goal.returns-clause-state
 returns-clause-state c =
-    let bs = c.args.self.now.replicas.items in
-    let e : Some c.in-Some.place ≡ position (λ (b : BufferState). b.replica == c.args.id) bs = cc (c.in-Some.ensures, c.as_slice.ensures.value) in
-    let f = found c.args.id (after_edit c.args.pieces.now) bs c.in-Some.place c.index_mut.result.now e in
-    let there : buffer_of c.args.id bs ≡ Some c.index_mut.result.now = f.0 ∙ ap Some (sym c.index_mut.ensures.value) in
-    same_state _ _ _ _ (ap (set bs c.in-Some.place) (c.in_ok-made.ensures.after ∙ ap (after_edit c.args.pieces.now) c.index_mut.ensures.value) ∙ sym f.1)
-    (c.in_ok-push-2.ensures.items
-    ∙ ap (λ o. c.args.self.now.operations.items ++ o ∷ []) (c.in_ok-made.ensures.made ∙ ap (option_and_then (edit_made c.args.pieces.now)) (sym there)))
+    let s = state_of c.args.self.now in
+    let b = c.index_mut.result.now in
+    let e : Some c.in-Some.place ≡ position (λ (b : BufferState). b.replica == c.args.id) s.buffers = cc (c.in-Some.ensures, c.as_slice.ensures.value) in
+    let after = c.in_ok-made.ensures.after ∙ ap (λ n. after_outcome (edit_outcome n c.args.pieces.now b) b) c.next_number-number.ensures in
+    let made = c.in_ok-made.ensures.made ∙ ap (λ n. result_ok (edit_outcome n c.args.pieces.now b)) c.next_number-number.ensures in
+    there_after c.args.id (edit_outcome (next_number s) c.args.pieces.now) s c.in-Some.place b e c.index_mut.ensures.value _ _ _ after made c.in_ok-push-2.ensures.items

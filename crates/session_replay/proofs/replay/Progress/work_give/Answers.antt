@@ -26,7 +26,7 @@ returns-clause-report c =
     let n = c.args.number in
     let e : Some c.in-Some.place ≡ position (λ (b : BufferState). b.replica == c.args.id) bs = cc (c.in-Some.ensures, c.as_slice.ensures.value) in
     let f = found c.args.id (after_give (operation_of n ops)) bs c.in-Some.place c.index_mut.result.now e in
-    let op : c.in_ok-operation.operation ≡ operation_of n ops = c.in_ok-operation.ensures ∙ ap (operation_of n) c.as_slice-2.ensures.value in
+    let op : c.in_ok-operation.operation ≡ operation_of n ops = c.in_ok-operation.ensures ∙ c.operation_of.ensures ∙ ap (operation_of n) c.as_slice-2.ensures.value in
     let answer : c.in_ok-answer.answer ≡ give_answer (operation_of n ops) c.index_mut.result.now = c.in_ok-answer.ensures.answer ∙ ap (λ o. give_answer o c.index_mut.result.now) op in
     one_reported (λ (b : BufferState). report.Give n c.args.id (give_answer (operation_of n ops) b) ∷ []) _ c.index_mut.result.now _ _ (f.0 ∙ ap Some (sym c.index_mut.ensures.value))
     (line_reported _ _ _ _ (ap (report.Give n c.args.id) answer) c.in_ok-write_line.ensures.ok)
@@ -38,6 +38,6 @@ returns-clause-state c =
     let n = c.args.number in
     let e : Some c.in-Some.place ≡ position (λ (b : BufferState). b.replica == c.args.id) bs = cc (c.in-Some.ensures, c.as_slice.ensures.value) in
     let f = found c.args.id (after_give (operation_of n ops)) bs c.in-Some.place c.index_mut.result.now e in
-    let op : c.in_ok-operation.operation ≡ operation_of n ops = c.in_ok-operation.ensures ∙ ap (operation_of n) c.as_slice-2.ensures.value in
+    let op : c.in_ok-operation.operation ≡ operation_of n ops = c.in_ok-operation.ensures ∙ c.operation_of.ensures ∙ ap (operation_of n) c.as_slice-2.ensures.value in
     let after : c.give.new.self ≡ after_give (operation_of n ops) c.index_mut.result.now = c.in_ok-answer.ensures.after ∙ ap (λ o. after_give o c.index_mut.result.now) op in
     same_state _ _ _ _ (ap (set bs c.in-Some.place) (after ∙ ap (after_give (operation_of n ops)) c.index_mut.ensures.value) ∙ sym f.1) refl
