@@ -1,8 +1,6 @@
 -- Where the first line of a text ends.
 use Rattle.std.proofs.Common.{◌≡◌, ℕ, suc, ◌+◌, ◌-◌, ◌<◌, ◌≤◌, List, [], ◌∷◌, length, take, drop, refl, subst, sym, ap, ◌∙◌, arith, cond, Bool, true, false, not, ◌==◌, length-drop, add-one, None, Some, nat_lt}
 use Rattle.std.proofs.lemmas.Bool.{ltb-false}
-use Rattle.std.proofs.lemmas.List.{length-reverse}
-use Rattle.std.proofs.Common.{reverse}
 use Rattle.std.proofs.lemmas.List.Sums.{prefix_len-le-length, sum_by-cons}
 use Rattle.std.proofs.lemmas.List.{take_all, drop_all}
 use Rattle.std.specs.List.{position, position_or_len, prefix_len}
@@ -39,9 +37,6 @@ whole_line text n e h le = cut_here text [] n e h (sym (drop_all (n + 1) text (o
 
 pub behind : (text : List ℕ) (i : ℕ) → take (length text - i) (drop i text) ≡ drop i text
 behind text i = take_all _ _ (omega (arith, length-drop i text))
-
-pub len_of_none_back : (text : List ℕ) → None ≡ position (λ b. b == 10) (reverse text) → length text ≡ position_or_len (λ b. b == 10) (reverse text)
-len_of_none_back text e = sym (length-reverse text) ∙ len_of_none (reverse text) e
 
 -- ---- how many lines there are
 

@@ -2,7 +2,6 @@
 use Rattle.std.specs.Prelude.{ℕ, ◌+◌, ◌==◌, List, [], ◌++◌, length, reverse, codes, decimal}
 use Rattle.std.specs.List.{flat_map, position_or_len}
 use Rattle.json.specs.Print.{quoted}
-use Rattle.session_lines.specs.Cut.{feeds}
 use Rattle.lamport_clock.specs.Stamps.{stamp_text}
 use Rattle.lamport_clock.specs.declared.stamp.Lamport.{Lamport}
 use Rattle.op_model.specs.declared.faults.Unit.{Unit as LimitUnit}
@@ -37,12 +36,8 @@ end_words r bytes row column = codes "text " ++ (decimal r ++ (codes ": " ++ (de
 abbrev pub rows_words : ℕ → List ℕ → List ℕ
 rows_words rows q = codes ", " ++ (decimal rows ++ (codes " rows, " ++ (q ++ codes "\n")))
 
--- q is the text in quotes
-abbrev pub text_line_with : ℕ → List ℕ → List ℕ → List ℕ
-text_line_with r text q = end_words r (length text) (feeds text) (last_column text) ++ rows_words (feeds text + 1) q
-
-unfoldable pub text_line : ℕ → List ℕ → List ℕ
-text_line r text = text_line_with r text (quoted text)
+unfoldable pub text_line : ℕ → ℕ → ℕ → ℕ → ℕ → List ℕ → List ℕ
+text_line r bytes row column rows text = end_words r bytes row column ++ rows_words rows (quoted text)
 
 abbrev pub unit_words : LimitUnit → List ℕ
 unit_words Bytes = codes "full bytes "
@@ -136,7 +131,7 @@ line_text (UndoRefused n e) = refused_undo_line n e
 line_text (Unnamed n named) = unnamed_line n named
 line_text (Settled r count) = settled_line r count
 line_text (Give n r answer) = give_line n r answer
-line_text (Text r text) = text_line r text
+line_text (Text r bytes row column rows text) = text_line r bytes row column rows text
 line_text (Replica r bytes rows applied waiting refused) = replica_line r bytes rows applied waiting refused
 line_text (Refused r t e) = refused_op_line r t e
 line_text (Final r text) = final_line r text

@@ -50,10 +50,3 @@ pub fn line_count(text: &[u8]) -> usize
     // a line feed at the end begins no line
     1 + feeds(&text[..text.len() - 1])
 }
-
-/// How many rows a text has: one more than line feeds. Linear in the text.
-pub fn row_count(text: &str) -> u64
-    ensures { result ≡ feeds text.now + 1 }
-{
-    feeds(text.as_bytes()) as u64 + 1
-}

@@ -13,7 +13,6 @@ mod report;
 mod session;
 mod text;
 
-pub use cutting::row_count;
 pub use decoding::decode;
 pub use fault::{DecodeFault, Word};
 pub use lamport_clock::OutOfMemory;

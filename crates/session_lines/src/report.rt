@@ -58,6 +58,10 @@ pub enum Report {
     /// `text R: B bytes, end ROW:COLUMN, K rows, STRING`: the text of replica R, with what is counted of it.
     Text {
         replica: u16,
+        bytes: u64,
+        row: u64,
+        column: u64,
+        rows: u64,
         text: Text,
     },
     /// `replica R: B bytes, K rows, A applied, W waiting, F refused`: what replica R holds at the end.

@@ -1,7 +1,5 @@
 // Sessions as they are read, inputs that are none, and the lines of reports.
-use crate::{
-    DecodeFault, Given, Report, Session, SessionLine, Word, decode, row_count, write_line,
-};
+use crate::{DecodeFault, Given, Report, Session, SessionLine, Word, decode, write_line};
 use lamport_clock::{Lamport, Version};
 use op_model::{EditFault, OpFault, Text, UndoFault, Unit};
 use std::alloc::{AllocError, Global};
@@ -488,13 +486,17 @@ fn lines_of_reports(rt: HostRuntime) -> Result<(), Fail> {
     let want = format!(in alloc; "text 1: 13 bytes, end 1:10, 2 rows, {quoted}")?;
     let line = Report::Text {
         replica: 1,
+        bytes: 13,
+        row: 1,
+        column: 10,
+        rows: 2,
         text: text(alloc, shown)?,
     };
     writes(&rt, alloc, &line, want.as_str())?;
     let line = Report::Replica {
         replica: 1023,
         bytes: 3,
-        rows: row_count("a\n"),
+        rows: 2,
         applied: 4,
         waiting: 5,
         refused: 6,

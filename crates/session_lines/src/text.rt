@@ -1,11 +1,8 @@
 // The text of a report's line.
-ghost use Rattle.std.specs.Prelude.{◌≡◌, ◌++◌, ◌<◌, ◌==◌, reverse, string_bytes, OnOk, OnErr, IfOk};
-ghost use Rattle.std.specs.List.{position};
+ghost use Rattle.std.specs.Prelude.{◌≡◌, ◌++◌, string_bytes, OnOk, OnErr, IfOk};
 ghost use Rattle.json.specs.Print.{quoted};
-ghost use Rattle.session_lines.specs.Cut.{feeds};
-ghost use Rattle.session_lines.specs.Report.{last_column, made_line, settled_line, given_words, give_line, text_line, text_line_with, end_words, counts_words, waits_words, replica_line, final_line, final_line_with, fault_words, op_fault_words, undo_fault_words, refused_line, refused_undo_line, unnamed_line, refused_op_line, checked_line, line_text};
+ghost use Rattle.session_lines.specs.Report.{made_line, settled_line, given_words, give_line, end_words, rows_words, counts_words, waits_words, replica_line, final_line, final_line_with, fault_words, op_fault_words, undo_fault_words, refused_line, refused_undo_line, unnamed_line, refused_op_line, checked_line, line_text};
 
-use crate::cutting::feeds;
 use crate::report::{Given, Report};
 use lamport_clock::Lamport;
 use op_model::{EditFault, OpFault, UndoFault, Unit};
@@ -145,49 +142,17 @@ fn push_give(
     write!(out, "give {n} to {r}: {words}\n")
 }
 
-#[tactic(auto, unfolding(crate::specs::Report::text_line))]
-fn push_text(alloc: Global, out: &mut String, r: u16, text: &str) -> Result<(), AllocError>
-    ensures { OnOk result (string_bytes out.new ≡ string_bytes out.old ++ text_line r text.now) }
-{
-    let quoted = quote(alloc, text)?;
-    write_text(out, r, text, quoted.as_str())
-}
-
-fn write_text(out: &mut String, r: u16, text: &str, quoted: &str) -> Result<(), AllocError>
-    ensures { OnOk result (string_bytes out.new ≡ string_bytes out.old ++ text_line_with r text.now quoted.now) }
-{
-    let row = feeds(text.as_bytes());
-    let column = last_column(text.as_bytes());
-    write_end(out, r, text.len(), row, column)?;
-    let rows = row + 1;
-    write!(out, ", {rows} rows, {quoted}\n")
-}
-
-fn write_end(
-    out: &mut String,
-    r: u16,
-    bytes: usize,
-    row: usize,
-    column: usize,
-) -> Result<(), AllocError>
+fn write_end(out: &mut String, r: u16, bytes: u64, row: u64, column: u64) -> Result<(), AllocError>
     ensures { OnOk result (string_bytes out.new ≡ string_bytes out.old ++ end_words r bytes row column) }
 {
     write!(out, "text {r}: {bytes} bytes, end {row}:{column}")
 }
 
-fn last_column(text: &[u8]) -> usize
-    ensures { result ≡ last_column text.now }
+fn push_rows(alloc: Global, out: &mut String, rows: u64, text: &str) -> Result<(), AllocError>
+    ensures { OnOk result (string_bytes out.new ≡ string_bytes out.old ++ rows_words rows (quoted text.now)) }
 {
-    match last_feed(text) {
-        Some(i) => i,
-        None => text.len(),
-    }
-}
-
-fn last_feed(text: &[u8]) -> Option<usize>
-    ensures { result ≡ position (λ b. b == 10) (reverse text.now) }
-{
-    text.iter().rev().position(|b| *b == 10)
+    let quoted = quote(alloc, text)?;
+    write!(out, ", {rows} rows, {quoted}\n")
 }
 
 // What is counted of a replica's text and of its operations.
@@ -256,7 +221,7 @@ fn write_final(out: &mut String, r: u16, quoted: &str) -> Result<(), AllocError>
     write!(out, "final {r}: {quoted}\n")
 }
 
-#[tactic(auto, unfolding(crate::specs::Report::line_text, crate::specs::Report::replica_line))]
+#[tactic(auto, unfolding(crate::specs::Report::line_text, crate::specs::Report::text_line, crate::specs::Report::replica_line))]
 fn push_line(alloc: Global, out: &mut String, line: &Report) -> Result<(), AllocError>
     ensures { OnOk result (string_bytes out.new ≡ string_bytes out.old ++ line_text line.now) }
 {
@@ -271,7 +236,17 @@ fn push_line(alloc: Global, out: &mut String, line: &Report) -> Result<(), Alloc
             replica,
             answer,
         } => push_give(alloc, out, *number, *replica, *answer),
-        Report::Text { replica, text } => push_text(alloc, out, *replica, text.as_str()),
+        Report::Text {
+            replica,
+            bytes,
+            row,
+            column,
+            rows,
+            text,
+        } => {
+            write_end(out, *replica, *bytes, *row, *column)?;
+            push_rows(alloc, out, *rows, text.as_str())
+        }
         Report::Replica {
             replica,
             bytes,

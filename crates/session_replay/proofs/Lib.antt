@@ -1,5 +1,6 @@
 pub mod Moved
 pub mod Buffers
+pub mod Ends
 pub mod Steps
 pub mod OperationLines
 pub mod Replicas

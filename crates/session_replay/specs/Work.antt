@@ -14,6 +14,7 @@ use Rattle.op_model.specs.Choice.{first_of}
 use Rattle.op_model.specs.Shown.{text}
 use Rattle.text_buffer.specs.Buffer.{BufferState, answer_to, applied, edit_fault, made, made_undo, number_applied, over_base, settled, taken, undo_fault}
 use Rattle.session_lines.specs.Cut.{feeds}
+use Rattle.session_lines.specs.Report.{last_column}
 use Rattle.session_lines.specs.Session.{unless}
 use Rattle.session_lines.specs.declared.session.SessionLine.{SessionLine}
 use Rattle.session_lines.specs.declared.session.SessionLine.TheVariants as line
@@ -109,6 +110,12 @@ abbrev pub after_give : Option Operation → BufferState → BufferState
 after_give None b = b
 after_give (Some op) b = taken b op
 
+-- ---- a text is shown, with its bytes, its line feeds, the bytes behind the last of them, and its rows
+
+abbrev pub text_report : BufferState → Report
+text_report b =
+    let t = text b.history in report.Text b.replica (length t) (feeds t) (last_column t) (feeds t + 1) t
+
 -- ---- a line
 
 abbrev pub reports_at : (BufferState → List Report) → Option BufferState → List Report
@@ -126,7 +133,7 @@ events (line.Undo r ms) s = line_events r (undo_outcome (next_number s) s.operat
 events (line.Op e) s = report.Made (next_number s) e.stamp ∷ []
 events (line.Uop u) s = report.Made (next_number s) u.stamp ∷ []
 events (line.Give r n) s = reports_at (λ b. report.Give n r (give_answer (operation_of n s.operations) b) ∷ []) (buffer_of r s.buffers)
-events (line.Text r) s = reports_at (λ b. report.Text r (text b.history) ∷ []) (buffer_of r s.buffers)
+events (line.Text r) s = reports_at (λ b. text_report b ∷ []) (buffer_of r s.buffers)
 
 -- the session with these buffers after one more operation line, and with what stands under its number
 abbrev pub numbered : List BufferState → Option Operation → State → State

@@ -148,8 +148,8 @@ impl Progress {
         let Some(place) = place_of(self.replicas.as_slice(), id) else {
             return Ok(());
         };
-        let text = self.replicas[place].text()?;
-        write_line(alloc, &mut self.report, &Report::Text { replica: id, text })?;
+        let shown = self.replicas[place].shown()?;
+        write_line(alloc, &mut self.report, &shown)?;
         Ok(())
     }
 

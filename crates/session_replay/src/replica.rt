@@ -1,18 +1,19 @@
 // A replica of a session: its buffer, and what it reports.
-ghost use Rattle.std.specs.Prelude.{◌≡◌, ◌≤◌, ◌++◌, ◌==◌, [], ◌∷◌, length, map, is_none, Some, None, IfOk, OnOk};
+ghost use Rattle.std.specs.Prelude.{◌≡◌, ◌≤◌, ◌+◌, ◌++◌, ◌==◌, [], ◌∷◌, length, map, is_none, Some, None, IfOk, OnOk};
 ghost use Rattle.std.specs.Option.{option_copied};
 ghost use Rattle.std.specs.Result.{result_ok};
 ghost use Rattle.op_model.specs.Operations.{stamp_of};
 ghost use Rattle.op_model.specs.Shown.{text};
+ghost use Rattle.session_lines.specs.Cut.{feeds};
 ghost use Rattle.session_lines.specs.Report.{line_text, report_text};
 ghost use Rattle.session_lines.specs.declared.report.Report.{Report};
 ghost use Rattle.text_buffer.specs.Buffer.{settled};
 ghost use Rattle.text_buffer.specs.Outcomes.{pair_of};
-ghost use Rattle.session_replay.specs.Work.{after_give, after_outcome, at_end, counts_report, edit_outcome, first_unnamed, give_answer, operation_of, opened, outcome_reports, refused_report, settled_reports, stamps_under, undo_outcome};
+ghost use Rattle.session_replay.specs.Work.{after_give, after_outcome, at_end, counts_report, edit_outcome, first_unnamed, give_answer, operation_of, opened, outcome_reports, refused_report, settled_reports, stamps_under, text_report, undo_outcome};
 
 use lamport_clock::Lamport;
 use op_model::{EditFault, Limits, OpFault, Operation, Pieces, Text, UndoFault};
-use session_lines::{Given, Report, row_count, write_line};
+use session_lines::{Given, Report, write_line};
 use std::alloc::{AllocError, Global};
 use std::marker::Model;
 use text_buffer::{Buffer, Refused, Took};
@@ -170,15 +171,36 @@ impl Replica {
         Ok(Text::new(self.buffer.text()?))
     }
 
-    /// What it counts at the end, its text being this.
-    fn counts(&self, shown: &str) -> Report
-        requires { shown.now ≡ text self.now.history }
+    /// Its text, with what is counted of it, as a line of a report.
+    pub fn shown(&self) -> Result<Report, AllocError>
+        ensures { IfOk result (λ line. line ≡ text_report self.now) }
+    {
+        let counted = self.buffer.summary();
+        Ok(Report::Text {
+            replica: self.id,
+            bytes: counted.len,
+            row: counted.lines.row,
+            column: counted.lines.column,
+            rows: self.row_count(),
+            text: self.text()?,
+        })
+    }
+
+    // How many rows its text has.
+    fn row_count(&self) -> u64
+        ensures { result ≡ feeds (text self.now.history) + 1 }
+    {
+        self.buffer.summary().lines.row + 1
+    }
+
+    /// What it counts at the end.
+    fn counts(&self) -> Report
         ensures { result ≡ counts_report self.now }
     {
         Report::Replica {
             replica: self.id,
-            bytes: shown.len() as u64,
-            rows: row_count(shown),
+            bytes: self.buffer.summary().len,
+            rows: self.row_count(),
             // the base is none
             applied: (self.buffer.applied().len() as u64).saturating_sub(1),
             waiting: self.buffer.deferred().len(),
@@ -191,7 +213,7 @@ impl Replica {
         ensures { OnOk result (out.new.items ≡ out.old.items ++ report_text (at_end self.now)) }
     {
         let text = self.text()?;
-        write_line(alloc, out, &self.counts(text.as_str()))?;
+        write_line(alloc, out, &self.counts())?;
         let replica = self.id;
         write_refused(alloc, replica, self.buffer.refused(), out)?;
         write_line(alloc, out, &Report::Final { replica, text })?;

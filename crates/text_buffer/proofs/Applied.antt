@@ -1,5 +1,5 @@
 -- The fields of a buffer after an operation is applied.
-use Rattle.std.proofs.Common.{◌≡◌, ℕ, ◌+◌, ◌^◌, ◌≤◌, List, [], ◌∷◌, ◌++◌, length, sym, ap, subst, ◌∙◌, arith, true, false, None, string_bytes}
+use Rattle.std.proofs.Common.{◌≡◌, ℕ, ◌+◌, ◌^◌, ◌≤◌, List, [], ◌∷◌, ◌++◌, length, sym, ap, subst, ◌∙◌, arith, false, None}
 use Rattle.std.proofs.lemmas.Bool.{ltb-false}
 use Rattle.std.specs.Str.{IsUtf8}
 use Rattle.std.specs.List.{list_any}
@@ -32,6 +32,7 @@ use Rattle.op_model.proofs.Proper.{utf8}
 use Rattle.undo_map.specs.declared.entry.UndoEntry.{UndoEntry}
 use Rattle.undo_map.specs.Undos.{undo_entries}
 use Rattle.undo_map.proofs.Entries.{entries_within}
+use Rattle.fragments.specs.declared.cell.KeptCell.{KeptCell}
 use Rattle.fragments.specs.Kept.{kept_cells, shown_bytes}
 use Rattle.fragments.proofs.Undone.{entries_edit}
 use Rattle.fragments.proofs.Told.{shown_text}
@@ -81,12 +82,6 @@ fresh_of h op g =
     let same : Operation → Rattle.std.specs.Prelude.Bool = λ o. same_stamp (stamp_of o) (stamp_of op) in
     none_find same h (any_none same h (ap (λ (z : History). list_any same z) (sym (append_nil h)) ∙ (passed h [] op g).fresh))
 
--- the cells that show the text
-pub utf8_of : (b : BufferState) (op : Operation) → IsBuffer b → IsProper op → answer b.history [] op ≡ Good → IsUtf8 (shown_bytes (kept_cells (b.history ++ op ∷ [])))
-utf8_of b op k p g =
-    let h : History = b.history ++ op ∷ [] in
-    subst IsUtf8 (sym (shown_text h)) (utf8 h (lawful_more b.history op k.lawful g) (each_append IsProper b.history (op ∷ []) k.proper (p, tt))).0
-
 pub IsBuffer-applied : (b : BufferState) (op : Operation) → IsBuffer b → IsProper op → answer b.history [] op ≡ Good → full_fault b.limits b.history op ≡ None → IsBuffer (applied b op)
 IsBuffer-applied b op k p g f =
     let room = room_of b op f in
@@ -106,6 +101,20 @@ IsBuffer-applied b op k p g f =
       text_bytes = text_length (b.history ++ op ∷ []) law;
     }
 
+-- what the cells show then
+pub record Shows (s : List KeptCell) : Type 0 where
+  pub utf8 : IsUtf8 (shown_bytes s)
+  pub few : length (shown_bytes s) ≤ 2 ^ 40
+
+pub shown_after : (b : BufferState) (op : Operation) (s : List KeptCell) → IsBuffer b → IsProper op → answer b.history [] op ≡ Good → full_fault b.limits b.history op ≡ None → s ≡ kept_cells (b.history ++ op ∷ []) → Shows s
+shown_after b op s k p g f e =
+    let n = IsBuffer-applied b op k p g f in
+    let same : shown_bytes s ≡ text (b.history ++ op ∷ []) = ap shown_bytes e ∙ shown_text (b.history ++ op ∷ []) in
+    record {
+      utf8 = subst IsUtf8 (sym same) n.utf8;
+      few = omega (arith, ap length same, n.text_bytes, n.bytes, n.most_bytes);
+    }
+
 -- what is held stays far below the end of its type
 pub stay_few : (i : Inside) (op : Operation) (n m : ℕ) → AreKept i → full_fault i.limits i.operations op ≡ None → n ≡ bytes_of op → m ≡ entries_of op → (i.bytes + n ≤ 2 ^ 40) × (i.entries + m ≤ 2 ^ 40)
 stay_few i op n m k f x y =
@@ -116,7 +125,7 @@ stay_few i op n m k f x y =
 pub AreKept-applied : (i j : Inside) (op : Operation) (s : Lamport) → AreKept i → IsProper op → answer i.operations [] op ≡ Good → full_fault i.limits i.operations op ≡ None → s ≡ stamp_of op
     → j.replica ≡ i.replica → j.limits ≡ i.limits → j.waiting ≡ i.waiting → j.refused.items ≡ i.refused.items
     → j.operations ≡ i.operations ++ op ∷ [] → j.clock.value ≡ observed i.clock.value s.value → j.version ≡ raise i.version s
-    → j.undos ≡ undo_entries (i.operations ++ op ∷ []) → j.cells ≡ kept_cells (i.operations ++ op ∷ []) → string_bytes j.text ≡ text (i.operations ++ op ∷ [])
+    → j.undos ≡ undo_entries (i.operations ++ op ∷ []) → j.cells ≡ kept_cells (i.operations ++ op ∷ []) → j.text ≡ text (i.operations ++ op ∷ [])
     → j.bytes ≡ i.bytes + bytes_of op → j.entries ≡ i.entries + entries_of op → AreKept j
 AreKept-applied i j op s k p g f t replica limits waits refusals items clocks versions counts cells texts bytes entries =
     let b = state_of i in

@@ -1,105 +1,19 @@
--- Pieces without a fault stand in order on boundaries, and how long the text is that they make.
-use Rattle.std.proofs.Common.{◌≡◌, ℕ, suc, ◌+◌, ◌-◌, ◌<◌, ◌≤◌, List, [], ◌∷◌, ◌++◌, length, drop, refl, sym, ◌∙◌, arith, Bool, true, false, not, cond, ◌&&◌, ◌||◌, ◌==◌, Option, None, Some, option_map, nat_lt, nat_le, length-append, length-drop}
-use Rattle.std.proofs.lemmas.Bool.{ltb-true, ltb-false, leb-true}
-use Rattle.std.proofs.lemmas.List.{length-take-le}
-use Rattle.std.proofs.lemmas.Iterator.Adapters.{position_from-zero}
-use Rattle.std.specs.List.{AllByRecursion, position, position_from}
-use Rattle.std.proofs.lemmas.Str.{IsCharBoundary-start}
-use Rattle.std.specs.List.{slice_range, slice_index}
-use Rattle.std.specs.Str.{IsCharBoundary, IsUtf8}
+-- What an edit without fault says of its pieces and of the limits.
+use Rattle.std.proofs.Common.{◌≡◌, ℕ, ◌+◌, ◌≤◌, ◌^◌, List, ◌∷◌, [], length, sym, subst, arith, ◌==◌, None, option_map, nat_lt}
+use Rattle.std.proofs.lemmas.Bool.{ltb-false}
 use Rattle.op_model.specs.declared.operation.Piece.{Piece}
 use Rattle.op_model.specs.declared.limits.Limits.{Limits as LimitsType}
 use Rattle.op_model.specs.declared.faults.EditFault.{EditFault}
-use Rattle.op_model.specs.declared.faults.EditFault.TheVariants.{Reversed, Overlap, PastEnd, InsideChar, TextLimit, ClockEnd, Full}
+use Rattle.op_model.specs.declared.faults.EditFault.TheVariants.{TextLimit, ClockEnd, Full}
 use Rattle.op_model.specs.declared.faults.Unit.TheVariants.{Bytes, Entries}
-use Rattle.op_model.specs.Choice.{first_of, when}
+use Rattle.op_model.specs.Choice.{when}
 use Rattle.op_model.specs.Operations.{text_total}
 use Rattle.op_model.specs.Histories.{History, clock, bytes_held, entries_held}
 use Rattle.op_model.specs.Limited.{Excess, excess}
-use Rattle.op_model.specs.Edits.{is_boundary, is_reversed, is_past, is_inside, overlap_from, replaced, replaced_from, piece_fault}
-use Rattle.text_buffer.specs.Fit.{AreFit}
+use Rattle.op_model.specs.Edits.{piece_fault}
 use Rattle.op_model.specs.Shown.{text}
-use Rattle.text_buffer.specs.Buffer.{BufferState, edit_fault}
-
-all_none : {A : Type 0} (os : List (Option A)) → first_of os ≡ None → AllByRecursion (λ o. o ≡ None) os
-all_none [] h = tt
-all_none (None ∷ os) h = (refl, all_none os h)
-all_none (Some x ∷ os) h = cc
-
-map_none : {A B : Type 0} (f : A → B) (o : Option A) → option_map f o ≡ None → o ≡ None
-map_none f None h = refl
-map_none f (Some x) h = cc
-
-when_none : {A : Type 0} (b : Bool) (x : A) → when b x ≡ None → b ≡ false
-when_none true x h = cc
-when_none false x h = refl
-
-none_from : (t : Piece → Bool) (i : ℕ) (ps : List Piece) → position_from t i ps ≡ None → AllByRecursion (λ p. t p ≡ false) ps
-none_from t i [] h = tt
-none_from t i (p ∷ ps) h =
-    elim (t p) as (λ b. t p ≡ b → cond b (Some i) (position_from t (i + 1) ps) ≡ None → (t p ≡ false) × AllByRecursion (λ p. t p ≡ false) ps) [
-      | true ↦ λ e h. cc
-      | false ↦ λ e h. (e, none_from t (i + 1) ps h)
-    ] refl h
-
-none_at : (t : Piece → Bool) (ps : List Piece) → position t ps ≡ None → AllByRecursion (λ p. t p ≡ false) ps
-none_at t ps h = none_from t 0 ps (sym (position_from-zero t ps) ∙ h)
-
-and_both : (a b : Bool) → (a && b) ≡ true → (a ≡ true) × (b ≡ true)
-and_both true b h = (refl, h)
-and_both false b h = cc
-
-neither : (a b : Bool) → not (a && b) ≡ false → (a ≡ true) × (b ≡ true)
-neither true true h = (refl, refl)
-neither true false h = cc
-neither false b h = cc
-
-in_order : (b : Bool) (i : ℕ) (o : Option ℕ) → cond b (Some i) o ≡ None → (b ≡ false) × (o ≡ None)
-in_order true i o h = cc
-in_order false i o h = (refl, h)
-
-or_cases : (a b c : Bool) → (a || (b || c)) ≡ true → (P : Type 0) → (a ≡ true → P) → (b ≡ true → P) → (c ≡ true → P) → P
-or_cases true b c h P x y z = x refl
-or_cases false true c h P x y z = y refl
-or_cases false false c h P x y z = z h
-
-boundary : (text : List ℕ) (i : ℕ) → is_boundary text i ≡ true → IsCharBoundary text i
-boundary text i h =
-    let k = and_both (nat_le i (length text)) _ h in
-    (leb-true _ _ k.0, λ lt high. or_cases (nat_le (length text) i) (nat_lt (slice_index text i) 128) (nat_le 192 (slice_index text i)) k.1 (192 ≤ slice_index text i) (λ e. let q : length text ≤ i = leb-true _ _ e in absurd (omega arith)) (λ e. let q : slice_index text i < 128 = ltb-true _ _ e in absurd (omega arith)) (λ e. leb-true _ _ e))
-
-fits : (at i : ℕ) (ps : List Piece) (text : List ℕ) → IsCharBoundary text at → AllByRecursion (λ p. is_reversed p ≡ false) ps → overlap_from at i ps ≡ None → AllByRecursion (λ p. is_inside text p ≡ false) ps → AreFit at ps text
-fits at i [] text h r o b = h
-fits at i (p ∷ ps) text h r o b =
-    let n = neither (is_boundary text p.start) (is_boundary text p.end) b.0 in
-    let k = in_order (nat_lt p.start at) i (overlap_from p.end (suc i) ps) o in
-    (h, ltb-false _ _ k.0, boundary text p.start n.0, ltb-false _ _ r.0, fits p.end (suc i) ps text (boundary text p.end n.1) r.1 k.1 b.1)
-
--- the new text is no longer than the old and the new texts together
-length_replaced : (at : ℕ) (ps : List Piece) (text : List ℕ) → AreFit at ps text → length (replaced_from at ps text) + at ≤ length text + text_total ps
-length_replaced at [] text h = omega (arith, length-drop at text, h.0)
-length_replaced at (p ∷ ps) text h =
-    let more = p.text ++ replaced_from p.end ps text in
-    let rest = length_replaced p.end ps text h.4 in
-    let in_text : p.start ≤ length text = h.2.0 in
-    let part : length (slice_range text at p.start) ≡ p.start - at = length-take-le (p.start - at) (drop at text) (omega (arith, length-drop at text, in_text)) in
-    let whole : length (replaced_from at (p ∷ ps) text) ≡ length (slice_range text at p.start) + length more = length-append (slice_range text at p.start) more in
-    let both : length more ≡ length p.text + length (replaced_from p.end ps text) = length-append p.text (replaced_from p.end ps text) in
-    let up : at ≤ p.start = h.1 in
-    let on : p.start ≤ p.end = h.3 in
-    omega (arith, rest, part, whole, both, up, on)
-
-fits_of_none : (text : List ℕ) (ps : List Piece) → piece_fault text ps ≡ None → IsUtf8 text → AreFit 0 ps text
-fits_of_none text ps e u =
-    let reversed = option_map Reversed (position is_reversed ps) in
-    let overlap = option_map Overlap (overlap_from 0 0 ps) in
-    let past = option_map (λ (i : ℕ). PastEnd i (length text)) (position (is_past (length text)) ps) in
-    let inside = option_map InsideChar (position (is_inside text) ps) in
-    let none = all_none (reversed ∷ overlap ∷ past ∷ inside ∷ []) e in
-    let ordered = map_none Reversed (position is_reversed ps) none.0 in
-    let sorted = map_none Overlap (overlap_from 0 0 ps) none.1.0 in
-    let cut = map_none InsideChar (position (is_inside text) ps) none.1.1.1.0 in
-    fits 0 0 ps text (IsCharBoundary-start text u) (none_at _ ps ordered) sorted (none_at _ ps cut)
+use Rattle.rope_edits.proofs.Fit.{all_none, map_none, when_none}
+use Rattle.text_buffer.specs.Buffer.{BufferState, IsBuffer, edit_fault}
 
 abbrev full : Excess → EditFault
 full e = Full e.unit e.held e.adds
@@ -113,13 +27,6 @@ unmet b ps e =
     let none = all_none (piece_fault (text b.history) ps ∷ long ∷ late ∷ option_map full over ∷ []) e in
     (none.0, map_none full over none.1.1.1.0)
 
--- an edit that meets no fault: its pieces stand on boundaries of the text, and what is held stays within the limits
-pub fits_of : (b : BufferState) (ps : List Piece) → edit_fault b ps ≡ None → IsUtf8 (text b.history) → AreFit 0 ps (text b.history)
-fits_of b ps e u = fits_of_none (text b.history) ps (unmet b ps e).0 u
-
-pub length_edited : (b : BufferState) (ps : List Piece) → edit_fault b ps ≡ None → IsUtf8 (text b.history) → length (replaced ps (text b.history)) ≤ length (text b.history) + text_total ps
-length_edited b ps e u = omega (arith, length_replaced 0 ps (text b.history) (fits_of b ps e u))
-
 -- what passes no limit leaves what is held within them
 pub room_in : (l : LimitsType) (h : History) (n m : ℕ) → excess l h n m ≡ None → (bytes_held h + n ≤ l.bytes) × (entries_held h + m ≤ l.entries)
 room_in l h n m e =
@@ -132,3 +39,14 @@ room_in l h n m e =
 
 pub room_of : (b : BufferState) (ps : List Piece) → edit_fault b ps ≡ None → excess b.limits b.history (text_total ps) (1 + length ps) ≡ None
 room_of b ps e = (unmet b ps e).1
+
+-- the pieces of an edit that meets no fault have none against the text, and their texts fit a rope beside it
+pub record Fits (t : List ℕ) (ps : List Piece) : Type 0 where
+  pub fit : piece_fault t ps ≡ None
+  pub room : length t + text_total ps ≤ 2 ^ 40
+
+pub fits_on : (t : List ℕ) (b : BufferState) (ps : List Piece) → t ≡ text b.history → IsBuffer b → edit_fault b ps ≡ None → Fits t ps
+fits_on t b ps same k e = subst (λ z. Fits z ps) (sym same) (record {
+  fit = (unmet b ps e).0;
+  room = omega (arith, k.text_bytes, k.most_bytes, (room_in b.limits b.history (text_total ps) (1 + length ps) (room_of b ps e)).0);
+})

@@ -1,5 +1,5 @@
 -- The fields of a new buffer.
-use Rattle.std.proofs.Common.{◌≡◌, ℕ, suc, ◌-◌, ◌^◌, ◌≤◌, List, [], ◌∷◌, length, map, refl, sym, ap, subst, ◌∙◌, arith, string_bytes}
+use Rattle.std.proofs.Common.{◌≡◌, ℕ, suc, ◌-◌, ◌^◌, ◌≤◌, List, [], ◌∷◌, length, map, refl, sym, ap, subst, ◌∙◌, arith}
 use Rattle.std.specs.Str.{IsUtf8}
 use Rattle.lamport_clock.specs.declared.stamp.Lamport.{Lamport}
 use Rattle.op_model.specs.Sorted.{Each}
@@ -26,7 +26,7 @@ pub text_base : (t : List ℕ) → text (base t ∷ []) ≡ t
 text_base t = sym (shown_text (base t ∷ [])) ∙ ap shown_bytes (sym (base_kept t)) ∙ new_bytes (record { value = 1; replica = 0 }) 0 t
 
 pub AreKept-opened : (j : Inside) (t : List ℕ) → IsUtf8 t → 1 ≤ j.replica → j.replica ≤ 1023 → j.limits.bytes ≤ 2 ^ 40 → j.limits.entries ≤ 2 ^ 40 - 1 → length t ≤ j.limits.bytes
-    → j.operations ≡ base t ∷ [] → j.waiting ≡ [] → map pair_of j.refused.items ≡ [] → j.clock.value ≡ 2 → j.version ≡ version (base t ∷ []) → j.undos ≡ [] → j.cells ≡ kept_cells (base t ∷ []) → string_bytes j.text ≡ t → j.bytes ≡ length t → j.entries ≡ 0
+    → j.operations ≡ base t ∷ [] → j.waiting ≡ [] → map pair_of j.refused.items ≡ [] → j.clock.value ≡ 2 → j.version ≡ version (base t ∷ []) → j.undos ≡ [] → j.cells ≡ kept_cells (base t ∷ []) → j.text ≡ t → j.bytes ≡ length t → j.entries ≡ 0
     → AreKept j
 AreKept-opened j t u low high most_bytes most_entries room h waits refusals clocks versions counts cells texts bytes entries =
     let one : History = base t ∷ [] in

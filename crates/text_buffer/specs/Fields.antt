@@ -1,5 +1,5 @@
 -- What the fields of a buffer stand for.
-use Rattle.std.specs.Prelude.{◌≡◌, map, string_bytes}
+use Rattle.std.specs.Prelude.{◌≡◌, map}
 use Rattle.op_model.specs.Histories.{version, clock, bytes_held, entries_held}
 use Rattle.op_model.specs.Shown.{text}
 use Rattle.undo_map.specs.Undos.{undo_entries}
@@ -16,7 +16,7 @@ pub record AreKept (b : Inside) : Type 0 where
   pub version : b.version ≡ version b.operations
   pub undos : b.undos ≡ undo_entries b.operations
   pub cells : b.cells ≡ kept_cells b.operations
-  pub text : string_bytes b.text ≡ text b.operations
+  pub text : b.text ≡ text b.operations
   pub bytes : b.bytes ≡ bytes_held b.operations
   pub entries : b.entries ≡ entries_held b.operations
   pub state : IsBuffer (state_of b)

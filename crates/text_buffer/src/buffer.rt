@@ -8,19 +8,23 @@ ghost use Rattle.op_model.specs.Answers.Answer.{Good};
 ghost use Rattle.op_model.specs.Settled.{full_fault};
 ghost use Rattle.op_model.specs.Edits.{replaced};
 ghost use Rattle.op_model.specs.Shown.{text};
+ghost use Rattle.text_dims.specs.Summaries.{summary_of};
 ghost use Rattle.undo_map.specs.Undos.{undo_entries};
 ghost use Rattle.fragments.specs.Kept.{kept_cells};
 ghost use Rattle.text_buffer.specs.Buffer.{BufferState, IsBuffer, applied, edit_fault, edited, made, new_fault, over_base};
 
-use crate::pieces::{piece_fault, replaced, size, text_total};
+use crate::pieces::{size, text_total};
 use crate::{NewFault, Refused};
 use applied_ops::Applied;
 use deferred_ops::Deferred;
 use fragments::Cells;
 use lamport_clock::{Clock, Lamport, Version};
 use op_model::{EditFault, EditOp, Limits, OpFault, Operation, Piece, Pieces, Text, Unit};
+use rope_chunks::Rope;
+use rope_edits::{follow, piece_fault, replaced};
 use std::alloc::{AllocError, Global};
 use std::marker::Model;
+use text_dims::TextSummary;
 use undo_map::UndoMap;
 
 /// A replica's text, and the operations that made it. Contracts see the operations in the order in which they were
@@ -37,7 +41,7 @@ pub struct Buffer {
     pub(crate) refused: Vec<Refused>,
     pub(crate) undos: UndoMap,
     pub(crate) cells: Cells,
-    text: String,
+    text: Rope,
     bytes: u64,
     entries: u64,
     limits: Limits,
@@ -99,7 +103,7 @@ impl Buffer {
             refused: Vec::new(alloc),
             undos: UndoMap::new(alloc)?,
             cells: Cells::over(alloc, base)?,
-            text: String::from_str(alloc, base)?,
+            text: Rope::from_str(alloc, base)?,
             bytes: len,
             entries: 0,
             limits,
@@ -111,7 +115,15 @@ impl Buffer {
         ensures text { IfOk result (λ s. string_bytes s ≡ text self.now.history) }
         ensures buffer { IsBuffer self.now }
     {
-        self.text.clone()
+        self.text.to_string(self.alloc)
+    }
+
+    /// What is counted of the text: its bytes, its rows, where it ends. Takes no memory, and no time by the text's length.
+    pub fn summary(&self) -> &TextSummary
+        ensures summary { result.now ≡ summary_of (text self.now.history) }
+        ensures buffer { IsBuffer self.now }
+    {
+        self.text.summary()
     }
 
     /// The greatest stamp value applied of each replica, the base's among them.
@@ -144,7 +156,7 @@ impl Buffer {
         if let Some(fault) = self.fault(changes) {
             return Err(fault);
         }
-        let text = replaced(self.alloc, self.text.as_str(), changes)?;
+        let text = replaced(self.alloc, &self.text, changes)?;
         let made = self.operation(changes)?;
         let kept = self.operation(changes)?;
         let undos = self.undos_with(&kept)?;
@@ -157,7 +169,7 @@ impl Buffer {
     fn fault(&self, changes: &[Piece]) -> Option<EditFault>
         ensures { result ≡ edit_fault self.now changes.now }
     {
-        if let Some(fault) = piece_fault(self.text.as_str(), changes) {
+        if let Some(fault) = piece_fault(&self.text, changes) {
             return Some(fault);
         }
         let total = text_total(changes);
@@ -194,7 +206,12 @@ impl Buffer {
     {
         let undos = self.undos_with(&op)?;
         let cells = self.cells_with(&op, &undos)?;
-        let text = cells.text(self.alloc)?;
+        let text = follow(
+            self.alloc,
+            &self.text,
+            self.cells.as_slice(),
+            cells.as_slice(),
+        )?;
         self.put(op, undos, cells, text)
     }
 
@@ -227,13 +244,13 @@ impl Buffer {
         op: Operation,
         undos: UndoMap,
         cells: Cells,
-        shown: String,
+        shown: Rope,
     ) -> Result<(), AllocError>
         requires good { answer self.old.history [] op ≡ Good }
         requires room { full_fault self.old.limits self.old.history op ≡ None }
         requires undos { undos ≡ undo_entries (self.old.history ++ op ∷ []) }
         requires cells { cells ≡ kept_cells (self.old.history ++ op ∷ []) }
-        requires text { string_bytes shown ≡ text (self.old.history ++ op ∷ []) }
+        requires text { shown ≡ text (self.old.history ++ op ∷ []) }
         ensures ok { OnOk result (self.new ≡ applied self.old op) }
         ensures err { OnErr result (self.new ≡ self.old) }
     {

@@ -1,6 +1,6 @@
 use Rattle.std.proofs.Common.{◌≡◌, ◌+◌, ◌≤◌, ◌*◌, ◌-◌, ◌^◌, drop, take}
 use Rattle.op_model.specs.Operations.{text_total}
-use Rattle.text_buffer.specs.Fit.{AreUtf8}
+use Rattle.rope_edits.specs.Fit.{AreUtf8}
 use Rattle.text_buffer.proofs.pieces.text_total.Given as goal
 
 abbrev pub invariant-loop-p : goal.invariant-loop-p

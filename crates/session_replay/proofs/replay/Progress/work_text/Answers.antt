@@ -1,8 +1,7 @@
 use Rattle.std.proofs.Common.{◌≡◌, ◌==◌, [], ◌∷◌, sym, ap, ◌∙◌, None, Some}
 use Rattle.std.specs.List.{position}
-use Rattle.op_model.specs.Shown.{text}
 use Rattle.text_buffer.specs.Buffer.{BufferState}
-use Rattle.session_lines.specs.declared.report.Report.TheVariants as report
+use Rattle.session_replay.specs.Work.{text_report}
 use Rattle.session_replay.proofs.Buffers.{found, not_found}
 use Rattle.session_replay.proofs.Steps.{line_reported, none_reported, one_reported}
 use Rattle.session_replay.proofs.replay.Progress.work_text.Goals as goal
@@ -18,4 +17,4 @@ returns-clause-report c =
     let bs = c.args.self.now.replicas.items in
     let e : Some c.in-Some.place ≡ position (λ (b : BufferState). b.replica == c.args.id) bs = cc (c.in-Some.ensures, c.as_slice.ensures.value) in
     let f = found c.args.id (λ (b : BufferState). b) bs c.in-Some.place c.index.result.now e in
-    one_reported (λ (b : BufferState). report.Text c.args.id (text b.history) ∷ []) _ c.index.result.now _ _ (f.0 ∙ ap Some (sym c.index.ensures)) (line_reported _ _ _ _ (ap (report.Text c.args.id) c.in_ok-text.ensures) c.in_ok-write_line.ensures.ok)
+    one_reported (λ (b : BufferState). text_report b ∷ []) _ c.index.result.now _ _ (f.0 ∙ ap Some (sym c.index.ensures)) (line_reported _ _ _ _ c.in_ok-shown.ensures c.in_ok-write_line.ensures.ok)

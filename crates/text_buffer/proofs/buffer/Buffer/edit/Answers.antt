@@ -1,18 +1,19 @@
-use Rattle.std.proofs.Common.{◌≡◌, ◌∙◌, sym, ap, subst, List, ℕ, None}
+use Rattle.std.proofs.Common.{◌∙◌, sym, ap, subst}
 use Rattle.op_model.specs.Edits.{replaced}
 use Rattle.op_model.specs.Shown.{text}
-use Rattle.text_buffer.specs.Fit.{AreFit}
 use Rattle.text_buffer.specs.Buffer.{BufferState, IsBuffer, edit_fault}
 use Rattle.text_buffer.specs.Fields.{state_of}
-use Rattle.text_buffer.proofs.Fit.{fits_of}
+use Rattle.text_buffer.proofs.Fit.{fits_on}
 use Rattle.text_buffer.proofs.Edited.{made_good}
 use Rattle.text_buffer.proofs.buffer.Buffer.edit.Goals as goal
 
-pub replaced-requires : goal.replaced-requires
-replaced-requires c =
-    let e : edit_fault (state_of c.self.inside) c.args.changes.now ≡ None = ap (λ (b : BufferState). edit_fault b c.args.changes.now) c.self.view_is ∙ sym c.in_default.ensures in
-    let t = c.as_str.ensures.value ∙ c.self.invariant.text in
-    subst (λ (t : List ℕ). AreFit 0 c.args.changes.now t) (sym t) (fits_of (state_of c.self.inside) c.args.changes.now e c.self.invariant.state.utf8)
+pub replaced-requires-clause-fit : goal.replaced-requires-clause-fit
+replaced-requires-clause-fit c =
+    (fits_on c.self.inside.text (state_of c.self.inside) c.args.changes.now c.self.invariant.text c.self.invariant.state (ap (λ (b : BufferState). edit_fault b c.args.changes.now) c.self.view_is ∙ sym c.in_default.ensures)).fit
+
+pub replaced-requires-clause-room : goal.replaced-requires-clause-room
+replaced-requires-clause-room c =
+    (fits_on c.self.inside.text (state_of c.self.inside) c.args.changes.now c.self.invariant.text c.self.invariant.state (ap (λ (b : BufferState). edit_fault b c.args.changes.now) c.self.view_is ∙ sym c.in_default.ensures)).room
 
 pub cells_with-requires-clause-good : goal.cells_with-requires-clause-good
 cells_with-requires-clause-good c =
@@ -39,7 +40,7 @@ put-requires-clause-cells c = c.in_ok-cells.ensures
 pub put-requires-clause-text : goal.put-requires-clause-text
 put-requires-clause-text c =
     let f = made_good c.args.self.now c.args.changes.now c.in_ok-kept.kept (subst IsBuffer c.self.view_is c.self.invariant.state) (sym c.in_default.ensures) c.in_ok-kept.ensures.made in
-    c.in_ok-text.ensures ∙ ap (replaced c.args.changes.now) (c.as_str.ensures.value ∙ c.self.invariant.text ∙ ap (λ (b : BufferState). text b.history) c.self.view_is) ∙ f.2
+    c.in_ok-text.ensures ∙ ap (replaced c.args.changes.now) (c.self.invariant.text ∙ ap (λ (b : BufferState). text b.history) c.self.view_is) ∙ f.2
 
 pub returns-clause-text : goal.returns-clause-text
 returns-clause-text c =

@@ -13,4 +13,4 @@ invariant_of-result-3 c = AreKept-opened _ c.args.base.now c.utf8.base c.require
     c.in_ok-new.ensures.empty (ap (map pair_of) c.new-2.ensures.items)
     (ap (λ (t : Lamport). t.value) c.observe-2.ensures ∙ ap (λ (t : Lamport). observed t.value 1) c.new-clock.ensures)
     (c.version-2.view_is ∙ c.in_ok-observe.ensures.ok ∙ ap (λ (v : Entries). raise v (record { value = 1; replica = 0 })) c.new-version.ensures)
-    c.in_ok-new-2.ensures c.in_ok-over.ensures c.in_ok-from_str.ensures.ok refl refl
+    c.in_ok-new-2.ensures c.in_ok-over.ensures c.in_ok-from_str.ensures refl refl

@@ -38,6 +38,9 @@ same-self-in_err-observe c = refl
 pub same-cells : goal.same-cells
 same-cells c = refl
 
+pub same-shown : goal.same-shown
+same-shown c = refl
+
 pub invariant_of-self : goal.invariant_of-self
 invariant_of-self c = subst (λ (h : History). AreKept (record c.self.inside { operations = h })) (sym c.in_err-push.ensures.err) c.self.invariant
 

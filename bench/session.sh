@@ -1,0 +1,42 @@
+#!/bin/bash
+# Times the program on a session of one replica: short edits at places drawn by chance in a long text.
+# usage: bench/session.sh [BYTES] [COUNT]     for the base alone and with the edits: seconds, processor seconds, peak memory
+set -euo pipefail
+here=$(cd "$(dirname "$0")" && pwd)
+bytes=${1:-1048576}
+count=${2:-20000}
+program=${ZEDBUF:-$here/../zedbuf}
+[ -x "$program" ] || { echo "no program $program: name it in ZEDBUF" >&2; exit 1; }
+work=$(mktemp -d)
+trap 'rm -rf "$work"' EXIT
+# the launcher builds the program first, where that is still to be done
+echo '["zedbuf",1,"",[1]]' | "$program" replay >/dev/null
+
+# run NAME COUNT: a session with so many edits
+run() {
+    awk -v bytes="$bytes" -v count="$2" -f "$here/session.awk" >"$work/session"
+    TIMEFORMAT='%R %U'
+    {
+        time {
+            "$program" replay <"$work/session" >"$work/report" &
+            pid=$!
+            while peak=$(awk '/^VmHWM/ { print $2 }' "/proc/$pid/status" 2>/dev/null) && [ -n "$peak" ]; do
+                echo "$peak" >"$work/peak"
+                sleep 0.02
+            done
+            wait "$pid"
+        }
+    } 2>"$work/time"
+    # processor seconds take in those of the watch, which are few
+    read -r whole user <"$work/time"
+    echo "$1 $2 $whole $user $(cat "$work/peak")"
+    grep '^replica 1:' "$work/report" >&2
+}
+
+{
+    run base 0
+    run edits "$count"
+} | awk '
+    { printf "%-6s %7d edits: %8.2f s, %8.2f s of a processor, %8d KiB\n", $1, $2, $3, $4, $5 }
+    NR == 1 { user = $4 }
+    NR == 2 && $2 > 0 { printf "an edit: %.0f microseconds of a processor\n", ($4 - user) / $2 * 1000000 }'

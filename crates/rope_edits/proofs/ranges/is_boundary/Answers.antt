@@ -1,0 +1,5 @@
+use Rattle.rope_edits.proofs.Ropes.{boundary_is}
+use Rattle.rope_edits.proofs.ranges.is_boundary.Goals as goal
+
+pub returns : goal.returns
+returns c = boundary_is c.args.rope.now c.args.i c.is_char_boundary.result c.is_char_boundary.ensures
