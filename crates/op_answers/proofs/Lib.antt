@@ -1,3 +1,5 @@
 pub mod Founds
 pub mod Answering
+pub mod LocalUndo
+pub mod Repeats
 pub mod Sampled

@@ -1,10 +1,14 @@
-//! The answer to a taken operation: whether it is applied, waits, is a repeat or is refused.
+//! The answer to a taken operation: whether it is applied, waits, is a repeat or is refused; and the fault that a
+//! local undo meets.
 #![tactic(auto)]
 
 mod found;
+mod local_undo;
 #[cfg(test)]
 mod tests;
+mod twice;
 mod verdict;
 
-pub use op_model::OpFault;
+pub use local_undo::undo_fault;
+pub use op_model::{OpFault, UndoFault};
 pub use verdict::{Verdict, judge};

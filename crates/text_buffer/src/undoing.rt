@@ -4,9 +4,10 @@ ghost use Rattle.text_buffer.specs.Buffer.{made_undo, undo_fault, undone};
 
 use crate::Buffer;
 use lamport_clock::Lamport;
+use op_answers::undo_fault;
 use op_model::{EditFault, Operation, UndoFault, UndoOp};
 use std::alloc::AllocError;
-use undo_made::{next_counts, undo_fault};
+use undo_map::next_counts;
 
 impl Buffer {
     /// Undoes edits, or redoes those that are undone: gives each of them one more than its present undo count. The base, 1.0, may

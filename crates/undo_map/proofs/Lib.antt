@@ -2,4 +2,5 @@ pub mod Greatest
 pub mod Early
 pub mod Setting
 pub mod Entries
+pub mod NextCounts
 mod Rows

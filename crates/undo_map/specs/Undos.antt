@@ -1,12 +1,12 @@
 -- The undo counts of a history.
-use Rattle.std.specs.Prelude.{List, [], ◌∷◌}
+use Rattle.std.specs.Prelude.{◌+◌, List, [], ◌∷◌}
 use Rattle.lamport_clock.specs.declared.stamp.Lamport.{Lamport}
 use Rattle.op_model.specs.declared.operation.UndoCount.{UndoCount}
 use Rattle.op_model.specs.declared.operation.Operation.{Operation}
 use Rattle.op_model.specs.Operations.{stamp_of, counts_of}
 use Rattle.op_model.specs.Histories.{History}
 use Rattle.undo_map.specs.declared.entry.UndoEntry.{UndoEntry}
-use Rattle.undo_map.specs.Counts.{with_count}
+use Rattle.undo_map.specs.Counts.{count_of, with_count}
 
 -- w with the counts of the undo `by`, kept one by one
 abbrev pub with_counts : Lamport → List UndoCount → List UndoEntry → List UndoEntry
@@ -21,3 +21,7 @@ with_undos (op ∷ h) w = with_undos h (with_counts (stamp_of op) (counts_of op)
 -- the counts of all undos of h
 abbrev pub undo_entries : History → List UndoEntry
 undo_entries h = with_undos h []
+
+-- the next count of t after the counts w
+abbrev pub next_of : List UndoEntry → Lamport → UndoCount
+next_of w t = record { edit = t; count = count_of w t + 1 }

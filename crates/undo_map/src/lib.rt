@@ -1,9 +1,11 @@
-//! Undo counts: which undo gives which count to which edit, and the greatest count of an edit, now and at a version.
+//! Undo counts: which undo gives which count to which edit, the greatest count of an edit, now and at a version, and the
+//! counts that a local undo gives.
 #![tactic(auto)]
 
 mod entry;
 mod laws;
 mod map;
+mod next;
 #[cfg(test)]
 mod tests;
 mod undos;
@@ -12,6 +14,7 @@ pub use entry::{UndoEntry, UndoKey};
 pub use lamport_clock::OutOfMemory;
 pub use laws::{counts_are_of_history, entries_are_held};
 pub use map::UndoMap;
+pub use next::next_counts;
 
 fn sends<T: Send>(_value: &T) {}
 

@@ -1,0 +1,79 @@
+-- The fault of a local undo, case by case.
+use Rattle.std.proofs.Common.{◌≡◌, ℕ, ◌+◌, Bool, cond, eqb, List, [], ◌∷◌, length, refl, sym, ◌∙◌, ap, Some, None, Option}
+use Rattle.std.specs.Prelude.{option_map, not}
+use Rattle.std.specs.List.{find}
+use Rattle.lamport_clock.specs.declared.stamp.Lamport.{Lamport}
+use Rattle.op_model.specs.declared.faults.UndoFault.{UndoFault}
+use Rattle.op_model.specs.declared.faults.UndoFault.TheVariants.{NoSuchEdit, Twice, CountEnd, ClockEnd, Full}
+use Rattle.op_model.specs.declared.limits.Limits.{Limits as LimitsType}
+use Rattle.op_model.specs.Limited.{excess}
+use Rattle.op_model.specs.Choice.{first_of, when}
+use Rattle.op_model.specs.Histories.{History, clock, has_edit}
+use Rattle.op_model.specs.Shown.{count}
+use Rattle.op_model.specs.Made.{first_twice, local_undo_fault}
+use Rattle.op_model.proofs.Passed.{map_none}
+use Rattle.undo_map.specs.declared.entry.UndoEntry.{UndoEntry}
+use Rattle.undo_map.specs.Counts.{count_of}
+use Rattle.undo_map.specs.Undos.{undo_entries}
+use Rattle.undo_map.proofs.Entries.{count_kept}
+use Rattle.op_answers.specs.LocalUndo.{undo_fault}
+
+-- what stands behind the first three
+pub grouped : {A : Type 0} (a b c : Option A) (r : List (Option A)) → first_of (a ∷ b ∷ c ∷ r) ≡ first_of (first_of (a ∷ b ∷ c ∷ []) ∷ r)
+grouped (Some x) b c r = refl
+grouped None (Some x) c r = refl
+grouped None None (Some x) r = refl
+grouped None None None r = refl
+
+find_same : (p q : Lamport → Bool) (ts : List Lamport) → ((t : Lamport) → p t ≡ q t) → find p ts ≡ find q ts
+find_same p q [] e = refl
+find_same p q (t ∷ ts) e = ap (λ (b : Bool). cond b (Some t) (find p ts)) (e t) ∙ ap (cond (q t) (Some t)) (find_same p q ts e)
+
+-- the entries of a history tell which count stands at its end
+pub at_end : (h : History) (w : List UndoEntry) (ts : List Lamport) → w ≡ undo_entries h → find (λ t. eqb (count_of w t) 4294967295) ts ≡ find (λ t. eqb (count h t) 4294967295) ts
+at_end h w ts q = find_same (λ t. eqb (count_of w t) 4294967295) (λ t. eqb (count h t) 4294967295) ts
+    (λ t. ap (λ (z : List UndoEntry). eqb (count_of z t) 4294967295) q ∙ ap (λ (n : ℕ). eqb n 4294967295) (count_kept h t))
+
+module _ (h : History) (ts : List Lamport) where
+  pub unknown : (t : Lamport) → find (λ t. not (has_edit h t)) ts ≡ Some t → Some (NoSuchEdit t) ≡ undo_fault h ts
+  unknown t e = sym (ap (λ (o : Option Lamport). first_of (option_map NoSuchEdit o ∷ option_map Twice (first_twice [] ts) ∷ option_map CountEnd (find (λ t. eqb (count h t) 4294967295) ts) ∷ [])) e)
+
+  module _ (k : find (λ t. not (has_edit h t)) ts ≡ None) where
+    behind : (o : Option Lamport) → first_of (option_map NoSuchEdit (find (λ t. not (has_edit h t)) ts) ∷ option_map Twice o ∷ option_map CountEnd (find (λ t. eqb (count h t) 4294967295) ts) ∷ [])
+        ≡ first_of (option_map Twice o ∷ option_map CountEnd (find (λ t. eqb (count h t) 4294967295) ts) ∷ [])
+    behind o = ap (λ (u : Option Lamport). first_of (option_map NoSuchEdit u ∷ option_map Twice o ∷ option_map CountEnd (find (λ t. eqb (count h t) 4294967295) ts) ∷ [])) k
+
+    pub twice : (t : Lamport) → first_twice [] ts ≡ Some t → Some (Twice t) ≡ undo_fault h ts
+    twice t e = sym (behind (first_twice [] ts) ∙ ap (λ (o : Option Lamport). first_of (option_map Twice o ∷ option_map CountEnd (find (λ t. eqb (count h t) 4294967295) ts) ∷ [])) e)
+
+    module _ (d : first_twice [] ts ≡ None) where
+      last : undo_fault h ts ≡ first_of (option_map CountEnd (find (λ t. eqb (count h t) 4294967295) ts) ∷ [])
+      last = behind (first_twice [] ts) ∙ ap (λ (o : Option Lamport). first_of (option_map Twice o ∷ option_map CountEnd (find (λ t. eqb (count h t) 4294967295) ts) ∷ [])) d
+
+      pub ended : (t : Lamport) → find (λ t. eqb (count h t) 4294967295) ts ≡ Some t → Some (CountEnd t) ≡ undo_fault h ts
+      ended t e = sym (last ∙ ap (λ (o : Option Lamport). first_of (option_map CountEnd o ∷ [])) e)
+
+      pub faultless : find (λ t. eqb (count h t) 4294967295) ts ≡ None → None ≡ undo_fault h ts
+      faultless e = sym (last ∙ ap (λ (o : Option Lamport). first_of (option_map CountEnd o ∷ [])) e)
+
+third_none : {A : Type 0} (a b c : Option A) → first_of (a ∷ b ∷ c ∷ []) ≡ None → c ≡ None
+third_none (Some x) b c e = cc
+third_none None (Some x) c e = cc
+third_none None None (Some x) e = cc
+third_none None None None e = refl
+
+-- without a fault no count stands at its end
+pub room : (h : History) (w : List UndoEntry) (ts : List Lamport) → w ≡ undo_entries h → undo_fault h ts ≡ None → find (λ t. eqb (count_of w t) 4294967295) ts ≡ None
+room h w ts q e = at_end h w ts q ∙ map_none CountEnd (find (λ t. eqb (count h t) 4294967295) ts)
+    (third_none (option_map NoSuchEdit (find (λ t. not (has_edit h t)) ts)) (option_map Twice (first_twice [] ts)) (option_map CountEnd (find (λ t. eqb (count h t) 4294967295) ts)) e)
+
+-- what stands behind the fault
+pub local_of : (l : LimitsType) (h : History) (ts : List Lamport) (r : Option UndoFault) → r ≡ undo_fault h ts
+    → local_undo_fault l h ts ≡ first_of (r ∷ when (eqb (clock h) 4294967295) ClockEnd ∷ option_map (λ e. Full e.unit e.held e.adds) (excess l h 0 (1 + length ts)) ∷ [])
+local_of l h ts r e =
+    let rest : List (Option UndoFault) = when (eqb (clock h) 4294967295) ClockEnd ∷ option_map (λ e. Full e.unit e.held e.adds) (excess l h 0 (1 + length ts)) ∷ [] in
+    grouped (option_map NoSuchEdit (find (λ t. not (has_edit h t)) ts)) (option_map Twice (first_twice [] ts)) (option_map CountEnd (find (λ t. eqb (count h t) 4294967295) ts)) rest
+    ∙ ap (λ (o : Option UndoFault). first_of (o ∷ rest)) (sym e)
+
+pub room_of : (h : History) (w : List UndoEntry) (ts : List Lamport) (r : Option UndoFault) → w ≡ undo_entries h → r ≡ undo_fault h ts → r ≡ None → find (λ t. eqb (count_of w t) 4294967295) ts ≡ None
+room_of h w ts r q e n = room h w ts q (sym e ∙ n)

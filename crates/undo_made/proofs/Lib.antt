@@ -1,3 +1,0 @@
-pub mod Repeats
-pub mod Faults
-pub mod Sampled

@@ -1,2 +1,0 @@
-pub mod Undos
-pub mod Sample
