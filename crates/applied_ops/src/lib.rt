@@ -2,8 +2,6 @@
 #![tactic(auto)]
 
 mod applied;
-#[cfg(test)]
-mod tests;
 
 pub use applied::Applied;
 pub use op_model::OutOfMemory;

@@ -2,8 +2,6 @@
 #![tactic(auto)]
 
 mod deferred;
-#[cfg(test)]
-mod tests;
 
 pub use deferred::Deferred;
 pub use op_model::OutOfMemory;

@@ -6,8 +6,6 @@ mod cells;
 mod offsets;
 mod ranges;
 mod stamps;
-#[cfg(test)]
-mod tests;
 mod walk;
 
 pub use cell::KeptCell;

@@ -7,8 +7,6 @@
 mod clock;
 mod laws;
 mod stamp;
-#[cfg(test)]
-mod tests;
 mod version;
 
 pub use clock::{Clock, ClockEnd};

@@ -14,6 +14,9 @@ before_a_longer_one = refl
 after_the_last : between_digits (65535 ∷ []) greatest_digits ≡ 131070 ∷ []
 after_the_last = refl
 
+after_seven_digits : between_digits (1 ∷ 2 ∷ 3 ∷ 4 ∷ 5 ∷ 6 ∷ 7 ∷ []) (1 ∷ 2 ∷ 3 ∷ 4 ∷ 5 ∷ 6 ∷ 8 ∷ []) ≡ 1 ∷ 2 ∷ 3 ∷ 4 ∷ 5 ∷ 6 ∷ 7 ∷ 65535 ∷ []
+after_seven_digits = refl
+
 -- past both ends the digit is 65535, also where nothing lies between
 between_one_and_itself : between_digits (7 ∷ []) (7 ∷ []) ≡ 7 ∷ 65535 ∷ []
 between_one_and_itself = refl

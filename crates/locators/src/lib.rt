@@ -14,7 +14,7 @@
 //! | before the last one put | `n` |
 //! | between the last two put, in turn below and above | 1 + `n` / 2, rounded down |
 //!
-//! The test `grows_as_documented` measures these numbers. A digit moves up by a 2^48th part of the way to the upper
+//! The test `grows_as_documented` of `buffer_tests` measures these numbers. A digit moves up by a 2^48th part of the way to the upper
 //! neighbour's, so there is room for 2^48 texts one after another before a digit is added. It never
 //! moves down, so a text put before the last one costs a digit. Up to [`INLINE_DIGITS`] digits lie in the value itself.
 #![tactic(auto)]
@@ -176,6 +176,3 @@ fn crosses_threads(locator: &Locator) {
     sends(locator);
     shares(locator);
 }
-
-#[cfg(test)]
-mod tests;

@@ -2,4 +2,3 @@ pub mod Founds
 pub mod Answering
 pub mod LocalUndo
 pub mod Repeats
-pub mod Sampled

@@ -4,8 +4,6 @@
 
 mod found;
 mod local_undo;
-#[cfg(test)]
-mod tests;
 mod twice;
 mod verdict;
 

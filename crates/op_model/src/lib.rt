@@ -11,8 +11,6 @@ mod operation;
 mod pieces;
 mod same;
 mod shapes;
-#[cfg(test)]
-mod tests;
 
 pub use faults::{EditFault, OpFault, UndoFault, Unit};
 pub use lamport_clock::OutOfMemory;

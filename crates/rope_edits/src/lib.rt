@@ -4,8 +4,6 @@
 mod following;
 mod ranges;
 mod script;
-#[cfg(test)]
-mod tests;
 
 pub use following::follow;
 pub use ranges::{piece_fault, replaced};

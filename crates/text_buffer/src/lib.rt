@@ -7,8 +7,6 @@ mod outcomes;
 mod pieces;
 mod settling;
 mod taking;
-#[cfg(test)]
-mod tests;
 mod undoing;
 
 pub use buffer::{Buffer, agree};

@@ -6,8 +6,6 @@ mod entry;
 mod laws;
 mod map;
 mod next;
-#[cfg(test)]
-mod tests;
 mod undos;
 
 pub use entry::{UndoEntry, UndoKey};

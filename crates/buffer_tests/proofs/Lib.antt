@@ -1,0 +1,2 @@
+pub mod AnswerSampled
+pub mod UndoSampled

@@ -1,0 +1,2 @@
+pub mod AnswerSample
+pub mod UndoSample

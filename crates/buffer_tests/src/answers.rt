@@ -1,0 +1,277 @@
+// The answer to operations, with ample memory: where a base, an edit without pieces and its undo are applied, and an edit
+// waits.
+ghost use Rattle.std.specs.Prelude.{◌≡◌, [], ◌∷◌, IfOk};
+ghost use Rattle.op_model.specs.Histories.{Distinct, base};
+ghost use Rattle.buffer_tests.specs.AnswerSample.{base_seen, edit_seen, edit_applied, undo_applied, sample};
+
+use crate::operations::{Entries, Parts, Stamp, operation, stamp};
+use applied_ops::Applied;
+use deferred_ops::Deferred;
+use fragments::Cells;
+use lamport_clock::{Lamport, Version};
+use op_answers::Verdict::{Accept, Missing, Refuse, Repeated};
+use op_answers::{Verdict, judge};
+use op_model::OpFault::{
+    BadStamp, Conflict, Forked, InsideChar, NoBase, NoSuchEdit, OpenVersion, Overlap, PastEnd,
+    Reversed, TextLimit,
+};
+use op_model::{Counts, EditOp, Operation, Piece, Pieces, Text, UndoCount, UndoOp};
+use std::alloc::{AllocError, Global};
+use std::test::Fail;
+
+const FIRST: Lamport = Lamport {
+    value: 1,
+    replica: 0,
+};
+
+const EDIT: Lamport = Lamport {
+    value: 2,
+    replica: 1,
+};
+
+const UNDO: Lamport = Lamport {
+    value: 3,
+    replica: 1,
+};
+
+const WAITS: Lamport = Lamport {
+    value: 9,
+    replica: 3,
+};
+
+const NOWHERE: Lamport = Lamport {
+    value: 7,
+    replica: 1,
+};
+
+const BASE: Entries = &[(0, 1)];
+
+const EDITED: Entries = &[(0, 1), (1, 2)];
+
+const NONE: Parts = Parts::Pieces(&[]);
+
+// A stamp, a version's entries, the parts, and what the answer is.
+const ROWS: &[(Stamp, Entries, Parts, Verdict)] = &[
+    ((4_294_967_295, 4), BASE, NONE, Refuse(BadStamp)),
+    ((1, 0), &[], NONE, Refuse(BadStamp)),
+    ((9, 4), &[(1, 2)], Parts::Counts(&[]), Refuse(NoBase)),
+    (
+        (9, 4),
+        BASE,
+        Parts::Letters(65_537),
+        Refuse(TextLimit(65_537)),
+    ),
+    ((9, 4), BASE, Parts::Letters(65_536), Accept),
+    (
+        (9, 4),
+        BASE,
+        Parts::Pieces(&[(2, 1, "")]),
+        Refuse(Reversed(0)),
+    ),
+    (
+        (9, 4),
+        BASE,
+        Parts::Pieces(&[(0, 1, ""), (0, 1, "x")]),
+        Refuse(Overlap(1)),
+    ),
+    // equal ones are applied or wait
+    ((2, 1), BASE, NONE, Repeated),
+    ((3, 1), EDITED, Parts::Counts(&[(EDIT, 1)]), Repeated),
+    ((9, 3), &[(0, 1), (2, 4)], NONE, Repeated),
+    // others of their stamps
+    (
+        (2, 1),
+        BASE,
+        Parts::Pieces(&[(0, 0, "W")]),
+        Refuse(Conflict(EDIT)),
+    ),
+    (
+        (3, 1),
+        EDITED,
+        Parts::Counts(&[(EDIT, 2)]),
+        Refuse(Conflict(UNDO)),
+    ),
+    ((9, 3), BASE, NONE, Refuse(Conflict(WAITS))),
+    // the author's last operation is not seen
+    ((4, 1), BASE, NONE, Refuse(Forked(3))),
+    ((4, 1), EDITED, Parts::Counts(&[]), Refuse(Forked(3))),
+    // causes are missing
+    (
+        (9, 4),
+        &[(0, 1), (1, 4), (2, 5)],
+        NONE,
+        Missing {
+            replica: 1,
+            value: 4,
+        },
+    ),
+    (
+        (9, 4),
+        &[(0, 1), (1, 3), (2, 5)],
+        Parts::Counts(&[(NOWHERE, 1)]),
+        Missing {
+            replica: 2,
+            value: 5,
+        },
+    ),
+    // an entry is no operation
+    ((9, 4), &[(0, 1), (1, 1)], NONE, Refuse(OpenVersion(1))),
+    (
+        (9, 4),
+        &[(0, 1), (1, 1)],
+        Parts::Counts(&[(NOWHERE, 1)]),
+        Refuse(OpenVersion(1)),
+    ),
+    // the base has an `a` and a character of two bytes
+    (
+        (9, 4),
+        BASE,
+        Parts::Pieces(&[(0, 2, ""), (3, 4, "q")]),
+        Refuse(PastEnd(1, 3)),
+    ),
+    (
+        (9, 4),
+        BASE,
+        Parts::Pieces(&[(0, 1, ""), (1, 2, "q")]),
+        Refuse(InsideChar(1)),
+    ),
+    (
+        (9, 4),
+        BASE,
+        Parts::Pieces(&[(0, 0, "p"), (1, 3, "q")]),
+        Accept,
+    ),
+    // the edit is not seen, there is none, or it is an undo
+    (
+        (9, 4),
+        BASE,
+        Parts::Counts(&[(FIRST, 1), (EDIT, 2)]),
+        Refuse(NoSuchEdit(EDIT)),
+    ),
+    (
+        (9, 4),
+        EDITED,
+        Parts::Counts(&[(NOWHERE, 1), (WAITS, 1)]),
+        Refuse(NoSuchEdit(NOWHERE)),
+    ),
+    (
+        (9, 4),
+        &[(0, 1), (1, 3)],
+        Parts::Counts(&[(UNDO, 1)]),
+        Refuse(NoSuchEdit(UNDO)),
+    ),
+    (
+        (9, 4),
+        EDITED,
+        Parts::Counts(&[(EDIT, 2), (FIRST, 7), (EDIT, 2)]),
+        Accept,
+    ),
+    ((9, 4), BASE, Parts::Counts(&[]), Accept),
+];
+
+// ---- what is applied and what waits
+
+fn base_seen(alloc: Global) -> Result<Version, AllocError>
+    ensures { IfOk result (λ v. v ≡ base_seen) }
+{
+    let mut version = Version::new(alloc);
+    version.observe(FIRST)?;
+    Ok(version)
+}
+
+fn edit_seen(alloc: Global) -> Result<Version, AllocError>
+    ensures { IfOk result (λ v. v ≡ edit_seen) }
+{
+    let mut version = base_seen(alloc)?;
+    version.observe(EDIT)?;
+    Ok(version)
+}
+
+fn undo_seen(alloc: Global) -> Result<Version, AllocError>
+    ensures { IfOk result (λ v. v ≡ (0, 1) ∷ (1, 3) ∷ []) }
+{
+    let mut version = edit_seen(alloc)?;
+    version.observe(UNDO)?;
+    Ok(version)
+}
+
+fn base(alloc: Global, text: &str) -> Result<Operation, AllocError>
+    ensures { IfOk result (λ op. op ≡ base text.now) }
+{
+    let mut pieces = Vec::new(alloc);
+    pieces.push(Piece {
+        start: 0,
+        end: 0,
+        text: Text::new(String::from_str(alloc, text)?),
+    })?;
+    Ok(Operation::Edit(EditOp {
+        stamp: FIRST,
+        version: Version::new(alloc),
+        pieces: Pieces::new(pieces),
+    }))
+}
+
+fn edit(alloc: Global) -> Result<Operation, AllocError>
+    ensures { IfOk result (λ op. op ≡ edit_applied) }
+{
+    Ok(Operation::Edit(EditOp {
+        stamp: EDIT,
+        version: base_seen(alloc)?,
+        pieces: Pieces::new(Vec::new(alloc)),
+    }))
+}
+
+fn undo(alloc: Global) -> Result<Operation, AllocError>
+    ensures { IfOk result (λ op. op ≡ undo_applied) }
+{
+    let mut counts = Vec::new(alloc);
+    counts.push(UndoCount {
+        edit: EDIT,
+        count: 1,
+    })?;
+    Ok(Operation::Undo(UndoOp {
+        stamp: UNDO,
+        version: edit_seen(alloc)?,
+        counts: Counts::new(counts),
+    }))
+}
+
+fn applied(alloc: Global) -> Result<Applied, AllocError>
+    ensures { IfOk result (λ a. a ≡ sample) }
+{
+    let mut applied = Applied::new(alloc);
+    applied.push(base(alloc, "aé")?)?;
+    applied.push(edit(alloc)?)?;
+    applied.push(undo(alloc)?)?;
+    Ok(applied)
+}
+
+fn waiting(alloc: Global) -> Result<Deferred, AllocError>
+    ensures { IfOk result (λ w. Distinct w) }
+{
+    let mut waiting = Deferred::new(alloc)?;
+    waiting.add(operation(alloc, WAITS, &[(0, 1), (2, 4)], NONE)?)?;
+    Ok(waiting)
+}
+
+fn answer_to(
+    alloc: Global,
+    at: Stamp,
+    entries: Entries,
+    parts: Parts,
+) -> Result<Verdict, AllocError> {
+    let applied = applied(alloc)?;
+    let waiting = waiting(alloc)?;
+    let have = undo_seen(alloc)?;
+    let cells = Cells::over(alloc, "aé")?;
+    let op = operation(alloc, stamp(at), entries, parts)?;
+    Ok(judge(&applied, &waiting, &have, &cells, &op))
+}
+
+#[test]
+fn each_answer(rt: HostRuntime) -> Result<(), Fail> {
+    for &(at, entries, parts, want) in ROWS {
+        assert_eq!(rt; answer_to(rt.alloc(), at, entries, parts)?, want);
+    }
+    Ok(())
+}

@@ -1,0 +1,698 @@
+// Calls of buffers, with ample memory.
+use crate::operations::{Change, Entries, Parts, operation, pieces};
+use Call::{Edit, Settle, Take, Undo};
+use Came::{Made, NoEdit, NoUndo, NotTaken, Settles, Taken};
+use Parts::{Counts, Letters, Pieces};
+use Took::{Applied, Repeat, Waits};
+use lamport_clock::Lamport;
+use op_model::Operation;
+use std::alloc::{AllocError, Global};
+use std::process::Abort;
+use std::test::Fail;
+use text_buffer::EditFault::InsideChar;
+use text_buffer::UndoFault::{ClockEnd, NoSuchEdit, Twice};
+use text_buffer::{
+    Buffer, EditFault, Limits, NewFault, OpFault, Refused, Took, UndoFault, Unit, agree,
+};
+
+const BASE: Lamport = Lamport {
+    value: 1,
+    replica: 0,
+};
+
+const EDIT: Lamport = Lamport {
+    value: 2,
+    replica: 9,
+};
+
+const NEXT: Lamport = Lamport {
+    value: 3,
+    replica: 9,
+};
+
+const SIXTH: Lamport = Lamport {
+    value: 6,
+    replica: 9,
+};
+
+const BY_ONE: Lamport = Lamport {
+    value: 2,
+    replica: 1,
+};
+
+const NEXT_BY_ONE: Lamport = Lamport {
+    value: 3,
+    replica: 1,
+};
+
+const THIRD_BY_ONE: Lamport = Lamport {
+    value: 4,
+    replica: 1,
+};
+
+const LAST_BY_ONE: Lamport = Lamport {
+    value: 4_294_967_294,
+    replica: 1,
+};
+
+const BY_TWO: Lamport = Lamport {
+    value: 2,
+    replica: 2,
+};
+
+const NEXT_BY_TWO: Lamport = Lamport {
+    value: 3,
+    replica: 2,
+};
+
+const FOURTH_BY_TWO: Lamport = Lamport {
+    value: 4,
+    replica: 2,
+};
+
+const BY_SEVEN: Lamport = Lamport {
+    value: 4,
+    replica: 7,
+};
+
+const BY_EIGHT: Lamport = Lamport {
+    value: 3,
+    replica: 8,
+};
+
+const SEES_BASE: Entries = &[(0, 1)];
+
+const SEES_ONE: Entries = &[(0, 1), (1, 2)];
+
+const SEES_TWO: Entries = &[(0, 1), (2, 2)];
+
+const SEES_EDIT: Entries = &[(0, 1), (9, 2)];
+
+// A call of replica 9's buffer. A taken operation has a stamp, what it has seen, and its parts.
+#[derive(Clone, Copy)]
+enum Call {
+    Edit(&'static [Change]),
+    Undo(&'static [Lamport]),
+    Take(Lamport, Entries, Parts),
+    Settle,
+}
+
+// What a call answers: of an operation that it makes the stamp's value.
+#[derive(Clone, Copy, Debug, PartialEq, Eq)]
+enum Came {
+    Made(u32),
+    NoEdit(EditFault),
+    NoUndo(UndoFault),
+    Taken(Took),
+    NotTaken(OpFault),
+    Settles(u64),
+}
+
+// A call, what it answers, and the text after it.
+type Row = (Call, Came, &'static str);
+
+// A base, calls over it, and then how many operations wait, and which were refused while settling.
+type Case = (&'static str, &'static [Row], u64, &'static [Refused]);
+
+const FIRST: Call = Take(BY_ONE, SEES_BASE, Pieces(&[(0, 0, "P")]));
+
+const LATE: Call = Take(NEXT_BY_TWO, SEES_TWO, Pieces(&[(0, 1, ""), (3, 3, "!")]));
+
+const MISSES_ONE: Came = Taken(Waits {
+    replica: 1,
+    value: 2,
+});
+
+const MISSES_NEXT_BY_ONE: Came = Taken(Waits {
+    replica: 1,
+    value: 3,
+});
+
+const MISSES_TWO: Came = Taken(Waits {
+    replica: 2,
+    value: 2,
+});
+
+const MISSES_EDIT: Came = Taken(Waits {
+    replica: 9,
+    value: 2,
+});
+
+const INSIDE_A_CHARACTER: Case = (
+    "é😀\n",
+    &[
+        (
+            Edit(&[(2, 2, "x"), (3, 6, "")]),
+            NoEdit(InsideChar(1)),
+            "é😀\n",
+        ),
+        (Edit(&[(0, 2, "e"), (6, 7, "")]), Made(2), "e😀"),
+        (
+            Take(BY_ONE, SEES_BASE, Pieces(&[(1, 1, "x")])),
+            NotTaken(OpFault::InsideChar(0)),
+            "e😀",
+        ),
+        (Settle, Settles(0), "e😀"),
+    ],
+    0,
+    &[],
+);
+
+const LEFT: Call = Take(BY_ONE, SEES_BASE, Pieces(&[(1, 1, "X")]));
+
+const RIGHT: Call = Take(BY_TWO, SEES_BASE, Pieces(&[(1, 1, "Y")]));
+
+const TWO_AT_ONE_PLACE: Case = (
+    "ab",
+    &[
+        (LEFT, Taken(Applied(1)), "aXb"),
+        (RIGHT, Taken(Applied(1)), "aYXb"),
+    ],
+    0,
+    &[],
+);
+
+const IN_THE_OTHER_ORDER: Case = (
+    "ab",
+    &[
+        (RIGHT, Taken(Applied(1)), "aYb"),
+        (LEFT, Taken(Applied(1)), "aYXb"),
+    ],
+    0,
+    &[],
+);
+
+const CAUSES_COME_LAST: Case = (
+    "",
+    &[
+        (
+            Take(THIRD_BY_ONE, &[(0, 1), (1, 3)], Pieces(&[(0, 0, "c")])),
+            MISSES_NEXT_BY_ONE,
+            "",
+        ),
+        (
+            Take(NEXT_BY_ONE, SEES_ONE, Pieces(&[(0, 0, "b")])),
+            MISSES_ONE,
+            "",
+        ),
+        (
+            Take(BY_ONE, SEES_BASE, Pieces(&[(0, 0, "a")])),
+            Taken(Applied(3)),
+            "cba",
+        ),
+    ],
+    0,
+    &[],
+);
+
+const IN_WRONG_ORDER: Case = (
+    "ab",
+    &[
+        (LATE, MISSES_TWO, "ab"),
+        (LATE, Taken(Repeat), "ab"),
+        (
+            Take(NEXT_BY_TWO, SEES_TWO, Pieces(&[])),
+            NotTaken(OpFault::Conflict(NEXT_BY_TWO)),
+            "ab",
+        ),
+        (FIRST, Taken(Applied(1)), "Pab"),
+        (Settle, Settles(0), "Pab"),
+        (
+            Take(BY_TWO, SEES_BASE, Pieces(&[(1, 1, "R")])),
+            Taken(Applied(2)),
+            "PRb!",
+        ),
+        (LATE, Taken(Repeat), "PRb!"),
+    ],
+    0,
+    &[],
+);
+
+// Two have seen the edit that comes next, of which the second is past the end.
+const APPLIED_AND_REFUSED: Case = (
+    "",
+    &[
+        (
+            Take(BY_EIGHT, SEES_EDIT, Pieces(&[(0, 0, "b")])),
+            MISSES_EDIT,
+            "",
+        ),
+        (
+            Take(BY_SEVEN, SEES_EDIT, Pieces(&[(2, 2, "c")])),
+            MISSES_EDIT,
+            "",
+        ),
+        (
+            Take(THIRD_BY_ONE, &[(0, 1), (1, 3)], Pieces(&[(0, 0, "d")])),
+            MISSES_NEXT_BY_ONE,
+            "",
+        ),
+        (Edit(&[(0, 0, "a")]), Made(2), "a"),
+        (Settle, Settles(1), "ba"),
+    ],
+    1,
+    &[Refused {
+        stamp: BY_SEVEN,
+        fault: OpFault::PastEnd(0, 1),
+    }],
+);
+
+const REFUSED_AFTER_TAKING: Case = (
+    "ab",
+    &[
+        (
+            Take(NEXT_BY_TWO, SEES_ONE, Pieces(&[(0, 9, "")])),
+            MISSES_ONE,
+            "ab",
+        ),
+        (FIRST, Taken(Applied(1)), "Pab"),
+        (Settle, Settles(0), "Pab"),
+    ],
+    0,
+    &[Refused {
+        stamp: NEXT_BY_TWO,
+        fault: OpFault::PastEnd(0, 3),
+    }],
+);
+
+// An operation of the buffer's own replica waits, and an equal edit is made.
+const EQUAL_IS_DROPPED: Case = (
+    "",
+    &[
+        (
+            Take(NEXT, SEES_EDIT, Pieces(&[(0, 0, "b")])),
+            MISSES_EDIT,
+            "",
+        ),
+        (Edit(&[(0, 0, "a")]), Made(2), "a"),
+        (Edit(&[(0, 0, "b")]), Made(3), "ba"),
+        (Settle, Settles(0), "ba"),
+    ],
+    0,
+    &[],
+);
+
+const UNDO_AND_REDO: Case = (
+    "ab",
+    &[
+        (Edit(&[(1, 1, "X")]), Made(2), "aXb"),
+        (Undo(&[EDIT]), Made(3), "ab"),
+        (Undo(&[EDIT]), Made(4), "aXb"),
+        (Undo(&[BASE]), Made(5), "X"),
+        (Edit(&[(0, 1, "Y")]), Made(6), "Y"),
+        (Undo(&[BASE, SIXTH]), Made(7), "aXb"),
+        (Undo(&[]), Made(8), "aXb"),
+    ],
+    0,
+    &[],
+);
+
+// The edit is applied, and the undo that counts it has not seen it.
+const FAULTS_OF_UNDOS: Case = (
+    "ab",
+    &[
+        (Edit(&[(0, 1, "")]), Made(2), "b"),
+        (Undo(&[EDIT]), Made(3), "ab"),
+        (Undo(&[NEXT]), NoUndo(NoSuchEdit(NEXT)), "ab"),
+        (
+            Undo(&[BASE, BASE, BY_ONE]),
+            NoUndo(NoSuchEdit(BY_ONE)),
+            "ab",
+        ),
+        (Undo(&[BASE, EDIT, EDIT, BASE]), NoUndo(Twice(EDIT)), "ab"),
+        (
+            Take(BY_ONE, SEES_BASE, Counts(&[(BASE, 1), (EDIT, 1)])),
+            NotTaken(OpFault::NoSuchEdit(EDIT)),
+            "ab",
+        ),
+        (
+            Take(LAST_BY_ONE, SEES_BASE, Counts(&[(BASE, 1)])),
+            Taken(Applied(1)),
+            "",
+        ),
+        (Undo(&[BASE]), NoUndo(ClockEnd), ""),
+        (Undo(&[BY_TWO]), NoUndo(NoSuchEdit(BY_TWO)), ""),
+    ],
+    0,
+    &[],
+);
+
+const DELETED_BY_TWO: Case = (
+    "abc",
+    &[
+        (
+            Take(BY_ONE, SEES_BASE, Pieces(&[(1, 2, "")])),
+            Taken(Applied(1)),
+            "ac",
+        ),
+        (
+            Take(BY_TWO, SEES_BASE, Pieces(&[(1, 2, "")])),
+            Taken(Applied(1)),
+            "ac",
+        ),
+        (Undo(&[BY_ONE]), Made(4), "ac"),
+        (Undo(&[BY_TWO]), Made(5), "abc"),
+    ],
+    0,
+    &[],
+);
+
+// Each of two authors undoes what the other did.
+const UNDONE_BY_BOTH: Case = (
+    "ab",
+    &[
+        (Edit(&[(0, 0, "X")]), Made(2), "Xab"),
+        (
+            Take(BY_TWO, SEES_BASE, Pieces(&[(0, 1, "Y")])),
+            Taken(Applied(1)),
+            "XYb",
+        ),
+        (Undo(&[BY_TWO]), Made(4), "Xab"),
+        (
+            Take(
+                FOURTH_BY_TWO,
+                &[(0, 1), (2, 2), (9, 2)],
+                Counts(&[(EDIT, 1)]),
+            ),
+            Taken(Applied(1)),
+            "ab",
+        ),
+    ],
+    0,
+    &[],
+);
+
+const WAITS_FOR_ITS_EDIT: Case = (
+    "ab",
+    &[
+        (
+            Take(NEXT_BY_TWO, SEES_ONE, Counts(&[(BY_ONE, 1)])),
+            MISSES_ONE,
+            "ab",
+        ),
+        (
+            Take(BY_ONE, SEES_BASE, Pieces(&[(0, 1, "X")])),
+            Taken(Applied(2)),
+            "ab",
+        ),
+    ],
+    0,
+    &[],
+);
+
+const BYTES: Unit = Unit::Bytes;
+
+const ENTRIES: Unit = Unit::Entries;
+
+// Of a buffer that may hold 5 bytes and 2 entries.
+const EDITS_AT_THE_LIMITS: Case = (
+    "abc",
+    &[
+        (
+            Edit(&[(0, 0, "xyz")]),
+            NoEdit(EditFault::Full {
+                unit: BYTES,
+                held: 3,
+                adds: 3,
+            }),
+            "abc",
+        ),
+        (Edit(&[(0, 0, "x")]), Made(2), "xabc"),
+        (
+            Edit(&[(0, 1, "")]),
+            NoEdit(EditFault::Full {
+                unit: ENTRIES,
+                held: 2,
+                adds: 2,
+            }),
+            "xabc",
+        ),
+        (
+            Undo(&[BASE, EDIT]),
+            NoUndo(UndoFault::Full {
+                unit: ENTRIES,
+                held: 2,
+                adds: 3,
+            }),
+            "xabc",
+        ),
+    ],
+    0,
+    &[],
+);
+
+const TAKEN_AT_THE_LIMITS: Case = (
+    "abc",
+    &[
+        (
+            Take(BY_ONE, SEES_BASE, Pieces(&[(0, 0, "xyz")])),
+            NotTaken(OpFault::Full {
+                unit: BYTES,
+                held: 3,
+                adds: 3,
+            }),
+            "abc",
+        ),
+        (FIRST, Taken(Applied(1)), "Pabc"),
+        (
+            Take(BY_TWO, SEES_BASE, Pieces(&[(0, 1, "")])),
+            NotTaken(OpFault::Full {
+                unit: ENTRIES,
+                held: 2,
+                adds: 2,
+            }),
+            "Pabc",
+        ),
+    ],
+    0,
+    &[],
+);
+
+const UNDOS_AT_THE_LIMITS: Case = (
+    "ab",
+    &[
+        (
+            Take(BY_ONE, SEES_BASE, Counts(&[(BASE, 1), (BASE, 1)])),
+            NotTaken(OpFault::Full {
+                unit: ENTRIES,
+                held: 0,
+                adds: 3,
+            }),
+            "ab",
+        ),
+        (Undo(&[BASE]), Made(2), ""),
+        (
+            Undo(&[]),
+            NoUndo(UndoFault::Full {
+                unit: ENTRIES,
+                held: 2,
+                adds: 1,
+            }),
+            "",
+        ),
+    ],
+    0,
+    &[],
+);
+
+const AMPLE: Limits = Limits {
+    bytes: 1 << 40,
+    entries: (1 << 40) - 1,
+};
+
+const FEW: Limits = Limits {
+    bytes: 5,
+    entries: 2,
+};
+
+fn ample(alloc: Global, base: &str) -> Result<Buffer, NewFault> {
+    Buffer::new(alloc, 9, base, AMPLE)
+}
+
+fn few(alloc: Global, base: &str) -> Result<Buffer, NewFault> {
+    Buffer::new(alloc, 9, base, FEW)
+}
+
+fn edit(alloc: Global, buffer: &mut Buffer, changes: &[Change]) -> Result<Came, AllocError> {
+    match buffer.edit(pieces(alloc, changes)?.as_slice()) {
+        Ok(operation) => Ok(Made(operation.stamp().value)),
+        Err(fault) => Ok(NoEdit(fault)),
+    }
+}
+
+fn undo(buffer: &mut Buffer, edits: &[Lamport]) -> Came {
+    match buffer.undo(edits) {
+        Ok(operation) => Made(operation.stamp().value),
+        Err(fault) => NoUndo(fault),
+    }
+}
+
+fn take(buffer: &mut Buffer, operation: Operation) -> Came {
+    match buffer.take(operation) {
+        Ok(took) => Taken(took),
+        Err(fault) => NotTaken(fault),
+    }
+}
+
+fn settle(buffer: &mut Buffer) -> Result<Came, AllocError> {
+    Ok(Settles(buffer.settle()?))
+}
+
+fn answer(alloc: Global, buffer: &mut Buffer, call: Call) -> Result<Came, AllocError> {
+    match call {
+        Edit(changes) => edit(alloc, buffer, changes),
+        Undo(edits) => Ok(undo(buffer, edits)),
+        Take(stamp, entries, parts) => Ok(take(buffer, operation(alloc, stamp, entries, parts)?)),
+        Settle => settle(buffer),
+    }
+}
+
+fn shown(buffer: &Buffer) -> Result<String, AllocError> {
+    buffer.text()
+}
+
+fn shows(rt: &impl Abort, buffer: &Buffer, text: &str) -> Result<(), AllocError> {
+    assert_eq!(rt; shown(buffer)?.as_str(), text);
+    Ok(())
+}
+
+fn keeps(rt: &impl Abort, buffer: &Buffer, waits: u64, refused: &[Refused]) {
+    assert_eq!(rt; buffer.deferred().len(), waits);
+    assert_eq!(rt; buffer.refused(), refused);
+}
+
+fn agrees(buffer: &Buffer) {
+    agree(buffer, buffer);
+}
+
+fn play(rt: &impl Abort, alloc: Global, mut buffer: Buffer, case: &Case) -> Result<(), AllocError> {
+    for &(call, came, text) in case.1 {
+        assert_eq!(rt; answer(alloc, &mut buffer, call)?, came, "before {text}");
+        shows(rt, &buffer, text)?;
+    }
+    keeps(rt, &buffer, case.2, case.3);
+    agrees(&buffer);
+    Ok(())
+}
+
+#[test]
+fn calls_and_their_answers(rt: HostRuntime) -> Result<(), Fail> {
+    let alloc = rt.alloc();
+    for case in [
+        INSIDE_A_CHARACTER,
+        TWO_AT_ONE_PLACE,
+        IN_THE_OTHER_ORDER,
+        CAUSES_COME_LAST,
+        IN_WRONG_ORDER,
+        APPLIED_AND_REFUSED,
+        REFUSED_AFTER_TAKING,
+        EQUAL_IS_DROPPED,
+        UNDO_AND_REDO,
+        FAULTS_OF_UNDOS,
+        DELETED_BY_TWO,
+        UNDONE_BY_BOTH,
+        WAITS_FOR_ITS_EDIT,
+    ] {
+        play(&rt, alloc, ample(alloc, case.0)?, &case)?;
+    }
+    Ok(())
+}
+
+#[test]
+fn calls_at_the_limits(rt: HostRuntime) -> Result<(), Fail> {
+    let alloc = rt.alloc();
+    for case in [
+        EDITS_AT_THE_LIMITS,
+        TAKEN_AT_THE_LIMITS,
+        UNDOS_AT_THE_LIMITS,
+    ] {
+        play(&rt, alloc, few(alloc, case.0)?, &case)?;
+    }
+    Ok(())
+}
+
+#[test]
+fn a_base_past_the_limit(rt: HostRuntime) -> Result<(), Fail> {
+    let fault = few(rt.alloc(), "abcdef")
+        .err()
+        .ok_or("a base past the limit")?;
+    let told = format!(in rt.alloc(); "{fault}")?;
+    assert_eq!(rt;
+        told.as_str(),
+        "full: 0 bytes are held, and 6 more pass the limit"
+    );
+    Ok(())
+}
+
+// A range that is edited; that range as its operation has it, counted past hidden bytes, with the value that its version has
+// of its own replica; and the text after it.
+type Counting = (Change, (u64, u64, u32), &'static str);
+
+const AMONG_HIDDEN: &[Counting] = &[
+    ((1, 2, ""), (1, 2, 0), "ac"),
+    ((1, 1, "Q"), (2, 2, 2), "aQc"),
+    ((0, 2, ""), (0, 3, 3), "c"),
+    ((1, 1, "d"), (4, 4, 4), "cd"),
+];
+
+// The range of an edit's first piece, and the value that its version has of replica 9.
+fn counted(operation: &Operation) -> (u64, u64, u32) {
+    let seen = operation.version().get(9);
+    match operation {
+        Operation::Edit(edit) => match edit.pieces.as_slice() {
+            [piece] => (piece.start, piece.end, seen),
+            _ => (0, 0, seen),
+        },
+        Operation::Undo(_) => (0, 0, seen),
+    }
+}
+
+fn made(alloc: Global, buffer: &mut Buffer, change: Change) -> Result<Operation, EditFault> {
+    buffer.edit(pieces(alloc, [change].as_slice())?.as_slice())
+}
+
+fn edit_counted(
+    alloc: Global,
+    buffer: &mut Buffer,
+    change: Change,
+) -> Result<(u64, u64, u32), EditFault> {
+    let made = made(alloc, buffer, change)?;
+    Ok(counted(&made))
+}
+
+fn applied(buffer: &Buffer) -> usize {
+    buffer.applied().len()
+}
+
+fn seen(buffer: &Buffer) -> &[(u16, u32)] {
+    buffer.version().as_slice()
+}
+
+fn count_hidden(rt: &impl Abort, alloc: Global, mut buffer: Buffer) -> Result<(), EditFault> {
+    for &(change, want, text) in AMONG_HIDDEN {
+        assert_eq!(rt; edit_counted(alloc, &mut buffer, change)?, want);
+        shows(rt, &buffer, text)?;
+    }
+    assert_eq!(rt; seen(&buffer), [(0, 1), (9, 5)].as_slice());
+    assert_eq!(rt; applied(&buffer), 5);
+    Ok(())
+}
+
+#[test]
+fn ranges_count_hidden_bytes(rt: HostRuntime) -> Result<(), Fail> {
+    count_hidden(&rt, rt.alloc(), ample(rt.alloc(), "abc")?)?;
+    Ok(())
+}
+
+fn take_letters(rt: &impl Abort, alloc: Global, mut buffer: Buffer) -> Result<(), AllocError> {
+    let long = operation(alloc, BY_ONE, SEES_BASE, Letters(65_537))?;
+    let came = take(&mut buffer, long);
+    assert_eq!(rt; came, NotTaken(OpFault::TextLimit(65_537)));
+    Ok(())
+}
+
+#[test]
+fn a_taken_text_that_is_too_long(rt: HostRuntime) -> Result<(), Fail> {
+    take_letters(&rt, rt.alloc(), ample(rt.alloc(), "ab")?)?;
+    Ok(())
+}

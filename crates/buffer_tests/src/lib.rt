@@ -1,0 +1,27 @@
+//! Tests of clocks, locators, operations and buffers, by their public calls.
+#![tactic(auto)]
+
+#[cfg(test)]
+mod answers;
+#[cfg(test)]
+mod applying;
+#[cfg(test)]
+mod buffers;
+#[cfg(test)]
+mod cells;
+#[cfg(test)]
+mod clocks;
+#[cfg(test)]
+mod names;
+#[cfg(test)]
+mod operations;
+#[cfg(test)]
+mod ropes;
+#[cfg(test)]
+mod shapes;
+#[cfg(test)]
+mod undo_counts;
+#[cfg(test)]
+mod undo_faults;
+#[cfg(test)]
+mod waiting;

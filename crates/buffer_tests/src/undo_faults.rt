@@ -1,0 +1,126 @@
+// The fault of a local undo and its counts, with ample memory: two edits are applied, and an undo of each.
+ghost use Rattle.std.specs.Prelude.{◌≡◌, IfOk};
+ghost use Rattle.op_model.specs.Histories.{Distinct};
+ghost use Rattle.undo_map.specs.Undos.{undo_entries};
+ghost use Rattle.buffer_tests.specs.UndoSample.{edit_at, undo_at, sample};
+
+use applied_ops::Applied;
+use lamport_clock::{Lamport, Version};
+use op_answers::UndoFault::{CountEnd, NoSuchEdit, Twice};
+use op_answers::{UndoFault, undo_fault};
+use op_model::{Counts, EditOp, Operation, Pieces, UndoCount, UndoOp};
+use std::alloc::{AllocError, Global};
+use std::test::Fail;
+use undo_map::{UndoMap, next_counts};
+
+const FIRST: Lamport = Lamport {
+    value: 2,
+    replica: 1,
+};
+
+const SECOND: Lamport = Lamport {
+    value: 3,
+    replica: 1,
+};
+
+const UNDO: Lamport = Lamport {
+    value: 4,
+    replica: 1,
+};
+
+const LAST: Lamport = Lamport {
+    value: 5,
+    replica: 2,
+};
+
+const NOWHERE: Lamport = Lamport {
+    value: 2,
+    replica: 3,
+};
+
+// Stamps, and the fault of their undo.
+const ROWS: &[(&[Lamport], Option<UndoFault>)] = &[
+    (&[], None),
+    (&[FIRST], None),
+    (&[FIRST, NOWHERE, UNDO], Some(NoSuchEdit(NOWHERE))),
+    (&[UNDO], Some(NoSuchEdit(UNDO))),
+    (&[FIRST, FIRST, SECOND, LAST], Some(NoSuchEdit(LAST))),
+    (&[FIRST, SECOND, SECOND, FIRST], Some(Twice(SECOND))),
+    (&[SECOND, FIRST, FIRST], Some(Twice(FIRST))),
+    (&[FIRST, SECOND], Some(CountEnd(SECOND))),
+];
+
+fn edit(alloc: Global, stamp: Lamport) -> Operation
+    ensures { result ≡ edit_at stamp }
+{
+    Operation::Edit(EditOp {
+        stamp,
+        version: Version::new(alloc),
+        pieces: Pieces::new(Vec::new(alloc)),
+    })
+}
+
+fn undo(alloc: Global, stamp: Lamport, edit: Lamport, count: u32) -> Result<UndoOp, AllocError>
+    ensures { IfOk result (λ u. u ≡ undo_at stamp edit count) }
+{
+    let mut counts = Vec::new(alloc);
+    counts.push(UndoCount { edit, count })?;
+    Ok(UndoOp {
+        stamp,
+        version: Version::new(alloc),
+        counts: Counts::new(counts),
+    })
+}
+
+fn applied(alloc: Global) -> Result<Applied, AllocError>
+    ensures { IfOk result (λ a. a ≡ sample) }
+{
+    let mut applied = Applied::new(alloc);
+    applied.push(edit(alloc, FIRST))?;
+    applied.push(edit(alloc, SECOND))?;
+    applied.push(Operation::Undo(undo(alloc, UNDO, FIRST, 1)?))?;
+    applied.push(Operation::Undo(undo(alloc, LAST, SECOND, u32::MAX)?))?;
+    Ok(applied)
+}
+
+fn undos(alloc: Global) -> Result<UndoMap, AllocError>
+    ensures { IfOk result (λ m. m ≡ undo_entries sample) }
+{
+    let none = UndoMap::new(alloc)?;
+    let one = none.with_undo(alloc, &undo(alloc, UNDO, FIRST, 1)?)?;
+    one.with_undo(alloc, &undo(alloc, LAST, SECOND, u32::MAX)?)
+}
+
+#[test]
+fn each_fault(rt: HostRuntime) -> Result<(), Fail> {
+    let alloc = rt.alloc();
+    let applied = applied(alloc)?;
+    let undos = undos(alloc)?;
+    for &(edits, want) in ROWS {
+        assert_eq!(rt; undo_fault(alloc, &applied, &undos, edits), want);
+    }
+    Ok(())
+}
+
+// The counts that an undo of edits gives where no count stands at its end.
+fn counts(alloc: Global, edits: &[Lamport]) -> Result<Option<Counts>, AllocError> {
+    let applied = applied(alloc)?;
+    let undos = undos(alloc)?;
+    match undo_fault(alloc, &applied, &undos, edits) {
+        Some(_) => Ok(None),
+        None => Ok(Some(next_counts(alloc, &undos, edits)?)),
+    }
+}
+
+#[test]
+fn one_more(rt: HostRuntime) -> Result<(), Fail> {
+    let want = UndoCount {
+        edit: FIRST,
+        count: 2,
+    };
+    let made = counts(rt.alloc(), &[FIRST])?;
+    assert!(rt; made.is_some_and(|counts| counts.as_slice() == [want].as_slice()));
+    let none = counts(rt.alloc(), &[])?;
+    assert!(rt; none.is_some_and(|counts| counts.as_slice().is_empty()));
+    Ok(())
+}
