@@ -19,6 +19,3 @@ pub use lamport_clock::OutOfMemory;
 pub use report::{Given, Report};
 pub use session::{Ids, Numbers, Session, SessionLine, SessionLines};
 pub use text::write_line;
-
-#[cfg(test)]
-mod tests;

@@ -17,12 +17,3 @@ pub use counts::ReadCounts;
 pub use memory::{MemSink, MemSource, SureSink, SureSource};
 pub use outside::{Failed, Gate, Sink, Source};
 pub use top::{Status, run};
-
-#[cfg(test)]
-mod long_tests;
-#[cfg(test)]
-mod merging_tests;
-#[cfg(test)]
-mod tests;
-#[cfg(test)]
-mod undoing_tests;

@@ -1,6 +1,5 @@
-// Sessions of replicas that take each other's operations, and their reports.
-use crate::Status;
-use crate::tests::replays;
+//! Sessions of replicas that take each other's operations, and their reports.
+use crate::replaying::replay_all;
 use std::test::Fail;
 
 const SESSIONS: &[(&str, &str)] = &[
@@ -298,9 +297,6 @@ final 2: "X\né"
 
 #[test]
 fn replicas_that_take_operations(rt: HostRuntime) -> Result<(), Fail> {
-    let alloc = rt.alloc();
-    for (session, report) in SESSIONS {
-        replays(&rt, alloc, session.as_bytes(), Status::Done, report)?;
-    }
+    replay_all(&rt, rt.alloc(), SESSIONS)?;
     Ok(())
 }

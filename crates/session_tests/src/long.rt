@@ -1,6 +1,5 @@
-// A long session of three replicas that take all operations, each in an order of its own.
-use crate::Status;
-use crate::tests::replays;
+//! A long session of three replicas that take all operations, each in an order of its own.
+use crate::replaying::replay_all;
 use std::test::Fail;
 
 const SESSION: &str = r#"["zedbuf",1,"one\ntwo\nthree\n",[3,1,7]]
@@ -622,6 +621,6 @@ final 7: "o bfcxeadbyz\neegéé\"dfc\nbyc\"fcd efzfdd abdaaafxébfe cxxx gddfday
 
 #[test]
 fn three_replicas_that_end_with_one_text(rt: HostRuntime) -> Result<(), Fail> {
-    replays(&rt, rt.alloc(), SESSION.as_bytes(), Status::Done, REPORT)?;
+    replay_all(&rt, rt.alloc(), &[(SESSION, REPORT)])?;
     Ok(())
 }

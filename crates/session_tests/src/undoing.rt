@@ -1,6 +1,5 @@
-// Sessions with undo and redo, and their reports.
-use crate::Status;
-use crate::tests::replays;
+//! Sessions with undo and redo, and their reports.
+use crate::replaying::replay_all;
 use std::test::Fail;
 
 const SESSIONS: &[(&str, &str)] = &[
@@ -199,9 +198,6 @@ final 2: "ab"
 
 #[test]
 fn replicas_that_undo(rt: HostRuntime) -> Result<(), Fail> {
-    let alloc = rt.alloc();
-    for (session, report) in SESSIONS {
-        replays(&rt, alloc, session.as_bytes(), Status::Done, report)?;
-    }
+    replay_all(&rt, rt.alloc(), SESSIONS)?;
     Ok(())
 }

@@ -1,0 +1,20 @@
+//! Tests of sessions, through what `session_lines` and `session_replay` show: lines that are read and written, inputs that
+//! are no sessions, and whole sessions with their reports.
+#![tactic(auto)]
+
+#[cfg(test)]
+mod ends;
+#[cfg(test)]
+mod examples;
+#[cfg(test)]
+mod long;
+#[cfg(test)]
+mod merging;
+#[cfg(test)]
+mod reading;
+#[cfg(test)]
+mod replaying;
+#[cfg(test)]
+mod undoing;
+#[cfg(test)]
+mod writing;

@@ -1,0 +1,400 @@
+//! Sessions as they are read, and inputs that are no sessions.
+use session_lines::{DecodeFault, SessionLine, Word, decode};
+use std::alloc::{AllocError, Global};
+use std::process::Abort;
+use std::test::Fail;
+
+// Whether the input is no session, and why: its first bad line, and the word for it.
+fn is_bad(alloc: Global, input: &[u8], line: u64, word: Word) -> bool {
+    match decode(alloc, input) {
+        Err(DecodeFault::Bad { line: l, word: w }) => l == line && w == word,
+        _ => false,
+    }
+}
+
+// The word of a line.
+fn name_of(line: &SessionLine) -> &'static str {
+    match line {
+        SessionLine::Edit { .. } => "edit",
+        SessionLine::Undo { .. } => "undo",
+        SessionLine::Op(_) => "op",
+        SessionLine::Uop(_) => "uop",
+        SessionLine::Give { .. } => "give",
+        SessionLine::Text { .. } => "text",
+    }
+}
+
+// Inputs that are sessions, with the ids of their replicas and the words of their lines.
+const SESSIONS: &[(&str, &[u16], &[&str])] = &[
+    (r#"["zedbuf",1,"ab",[1]]"#, &[1], &[]),
+    (
+        " [ \"zedbuf\" , 1 , \"\" , [ 1023 , 1 ] ] \n[\"text\",1]\n[\"text\",1023]\n",
+        &[1023, 1],
+        &["text", "text"],
+    ),
+    (
+        "[\"zedbuf\",1,\"\\u00e9\",[2,3,1]]\r\n[\"edit\",3,[]]\n[\"edit\",2,[[0,18446744073709551615,\"\"]]]\n[\"text\",1]",
+        &[2, 3, 1],
+        &["edit", "edit", "text"],
+    ),
+    (
+        r#"["zedbuf",1,"ab",[1,2]]
+["op",[0,65535],[],[]]
+["edit",1,[]]
+["give",2,1]
+["give",1,2]
+["op",[4294967295,0],[[65535,4294967295],[0,1]],[[2,1,"x"]]]
+["give",1,3]
+"#,
+        &[1, 2],
+        &["op", "edit", "give", "give", "op", "give"],
+    ),
+    (
+        r#"["zedbuf",1,"ab",[1,2]]
+["undo",1,[]]
+["uop",[4294967295,65535],[],[[4294967295,65535,4294967295],[0,0,0]]]
+["undo",2,[2,1,2]]
+["give",1,3]
+"#,
+        &[1, 2],
+        &["undo", "uop", "undo", "give"],
+    ),
+];
+
+fn have_words(lines: &[SessionLine], words: &[&str]) -> bool {
+    for (line, word) in lines.iter().zip(words) {
+        if name_of(line) != *word {
+            return false;
+        }
+    }
+    lines.len() == words.len()
+}
+
+// Whether the input is a session with these replicas and lines of these words.
+fn reads(alloc: Global, input: &str, ids: &[u16], words: &[&str]) -> bool {
+    match decode(alloc, input.as_bytes()) {
+        Ok(session) => {
+            session.version == 1
+                && session.replicas.as_slice() == ids
+                && have_words(session.lines.as_slice(), words)
+        }
+        Err(_) => false,
+    }
+}
+
+#[test]
+fn sessions_are_read(rt: HostRuntime) {
+    for (input, ids, words) in SESSIONS {
+        assert!(rt; reads(rt.alloc(), input, ids, words), "at {input}");
+    }
+}
+
+// Whether the version of an operation line is read as these entries.
+fn reads_version(alloc: Global, version: &str, want: &[(u16, u32)]) -> Result<bool, AllocError> {
+    let input = format!(in alloc; "[\"zedbuf\",1,\"\",[1]]\n[\"op\",[9,1],{version},[]]")?;
+    Ok(match decode(alloc, input.as_bytes()) {
+        Ok(session) => match session.lines.as_slice() {
+            [SessionLine::Op(edit)] => edit.version.as_slice() == want,
+            _ => false,
+        },
+        Err(_) => false,
+    })
+}
+
+// Versions as they stand in a line, and their entries.
+const VERSIONS: &[(&str, &[(u16, u32)])] = &[
+    ("[]", &[]),
+    ("[[7,3]]", &[(7, 3)]),
+    ("[[7,3],[0,1]]", &[(0, 1), (7, 3)]),
+    (
+        "[[2,5],[65535,4294967295],[0,1],[1,5],[9,2]]",
+        &[(0, 1), (1, 5), (2, 5), (9, 2), (65_535, 4_294_967_295)],
+    ),
+];
+
+#[test]
+fn versions_in_any_order(rt: HostRuntime) -> Result<(), Fail> {
+    for (version, want) in VERSIONS {
+        assert!(rt; reads_version(rt.alloc(), version, want)?, "at {version}");
+    }
+    Ok(())
+}
+
+// The entries of a version as they stand in a line: that many ids, the greatest first, with the value 7, the others with 9.
+fn entries_text(alloc: Global, count: u16) -> Result<String, AllocError> {
+    let mut text = format!(in alloc; "[{count},7]")?;
+    for id in 1..count {
+        text = format!(in alloc; "{text},[{id},9]")?;
+    }
+    Ok(text)
+}
+
+// These entries in the order of their ids.
+fn entries(alloc: Global, count: u16) -> Result<Vec<(u16, u32)>, AllocError> {
+    let mut entries = Vec::new(alloc);
+    for id in 1..count {
+        entries.push((id, 9))?;
+    }
+    entries.push((count, 7))?;
+    Ok(entries)
+}
+
+#[test]
+fn versions_of_many(rt: HostRuntime) -> Result<(), Fail> {
+    let alloc = rt.alloc();
+    for count in [16u16, 17, 40] {
+        let text = entries_text(alloc, count)?;
+        let version = format!(in alloc; "[{text}]")?;
+        let want = entries(alloc, count)?;
+        assert!(rt;
+            reads_version(alloc, version.as_str(), &want)?,
+            "at {count}"
+        );
+    }
+    Ok(())
+}
+
+#[test]
+fn an_id_twice_among_many(rt: HostRuntime) -> Result<(), Fail> {
+    let alloc = rt.alloc();
+    for count in [16u16, 17, 40] {
+        let text = entries_text(alloc, count)?;
+        let line = format!(in alloc; "[\"op\",[9,1],[{text},[1,9]],[]]")?;
+        are_bad(&rt, alloc, Word::Shape, &[line.as_str()])?;
+    }
+    Ok(())
+}
+
+// Inputs whose first line is bad.
+const BAD_HEADERS: &[(&str, Word)] = &[
+    ("", Word::Header),
+    ("\n", Word::Json),
+    ("\n\n", Word::Json),
+    ("[\"zedbuf\",1,\"ab\",[1]\n", Word::Json),
+    ("[\"text\",1]\n", Word::Header),
+    ("{}\n", Word::Header),
+    ("[\"zedbuf\",2,\"ab\",[1]]\n", Word::Header),
+    ("[\"zedbuf\",1.0,\"ab\",[1]]\n", Word::Header),
+    ("[\"zedbuf\",1,7,[1]]\n", Word::Header),
+    ("[\"zedbuf\",1,\"ab\",1]\n", Word::Header),
+    ("[\"zedbuf\",1,\"ab\",[1],0]\n", Word::Header),
+    ("[\"zedbuf\",1,\"ab\",[]]\n", Word::Header),
+    ("[\"zedbuf\",1,\"ab\",[0]]\n", Word::Header),
+    ("[\"zedbuf\",1,\"ab\",[1024]]\n", Word::Header),
+    ("[\"zedbuf\",1,\"ab\",[1,1]]\n", Word::Header),
+    ("[\"zedbuf\",1,\"ab\",[1,2,\"3\"]]\n", Word::Header),
+];
+
+// Lines that are bad as the second of a session, each the first bad one of it, by their word.
+const BAD_LINES: &[(Word, &[&str])] = &[
+    (Word::Json, &["", r#"["text",1"#, r#"["text",01]"#]),
+    (
+        Word::Shape,
+        &[
+            r#"["text"]"#,
+            r#"["text",1,1]"#,
+            r#"["text",1.0]"#,
+            r#"["text",1e0]"#,
+            r#"["text",-0]"#,
+            r#"["text",65536]"#,
+            r#"["jump",1]"#,
+            r#"["point",1,1.0]"#,
+            "[]",
+            r#""text""#,
+            r#"{"text":1}"#,
+            r#"["edit",1,[[0,0]]]"#,
+            r#"["edit",1,[[0,0,7]]]"#,
+            r#"["edit",1,[[0,18446744073709551616,""]]]"#,
+            r#"["edit",3,[[0,0]]]"#,
+            r#"["op",[2,1],[]]"#,
+            r#"["op",[2,1],[],[],[]]"#,
+            r#"["op",2,[],[]]"#,
+            r#"["op",[2],[],[]]"#,
+            r#"["op",[2,1,0],[],[]]"#,
+            r#"["op",[4294967296,1],[],[]]"#,
+            r#"["op",[2,65536],[],[]]"#,
+            r#"["op",[2,1],0,[]]"#,
+            r#"["op",[2,1],[0],[]]"#,
+            r#"["op",[2,1],[[0]],[]]"#,
+            r#"["op",[2,1],[[0,1,1]],[]]"#,
+            r#"["op",[2,1],[[0,1.0]],[]]"#,
+            r#"["op",[2,1],[[65536,1]],[]]"#,
+            r#"["op",[2,1],[[0,4294967296]],[]]"#,
+            r#"["op",[2,1],[[0,0]],[]]"#,
+            r#"["op",[2,1],[[0,1],[0,1]],[]]"#,
+            r#"["op",[2,1],[[3,1],[0,1],[3,2]],[]]"#,
+            r#"["op",[2,1],[[3,2],[3,1],[0,1]],[]]"#,
+            r#"["op",[2,1],[],[[0,0]]]"#,
+            r#"["op",[2,1],[],0]"#,
+            r#"["uop",[2,1],[]]"#,
+            r#"["uop",[2,1],[],[],[]]"#,
+            r#"["uop",[4294967296,1],[],[]]"#,
+            r#"["uop",[2,1],[[0,0]],[]]"#,
+            r#"["uop",[2,1],[[0,1],[0,1]],[]]"#,
+            r#"["uop",[2,1],[],[[2,1]]]"#,
+            r#"["uop",[2,1],[],[[2,1,1,1]]]"#,
+            r#"["uop",[2,1],[],[[4294967296,1,1]]]"#,
+            r#"["uop",[2,1],[],[[2,65536,1]]]"#,
+            r#"["uop",[2,1],[],[[2,1,4294967296]]]"#,
+            r#"["uop",[2,1],[],[[0,0,""]]]"#,
+            r#"["uop",[2,1],[],2]"#,
+            r#"["undo",1]"#,
+            r#"["undo",1,[],1]"#,
+            r#"["undo",1,1]"#,
+            r#"["undo",1,[1.0]]"#,
+            r#"["undo",1,[18446744073709551616]]"#,
+            r#"["undo",65536,[]]"#,
+            r#"["undo",3,[1,[]]]"#,
+            r#"["give",1]"#,
+            r#"["give",1,1,1]"#,
+            r#"["give",1,-1]"#,
+            r#"["give",1,1.0]"#,
+            r#"["give",1,"1"]"#,
+            r#"["give",65536,1]"#,
+            r#"["give",1,18446744073709551616]"#,
+            r#"["give",3,0.0]"#,
+        ],
+    ),
+    (
+        Word::Replica,
+        &[
+            r#"["edit",3,[]]"#,
+            r#"["text",3]"#,
+            r#"["text",0]"#,
+            r#"["text",65535]"#,
+            r#"["undo",3,[1]]"#,
+            r#"["undo",3,[]]"#,
+            r#"["give",3,0]"#,
+            r#"["give",3,1]"#,
+        ],
+    ),
+    (
+        Word::Number,
+        &[
+            r#"["undo",1,[1]]"#,
+            r#"["undo",1,[0]]"#,
+            r#"["give",1,18446744073709551615]"#,
+            r#"["give",1,1]"#,
+            r#"["give",1,0]"#,
+        ],
+    ),
+];
+
+#[test]
+fn bad_headers(rt: HostRuntime) {
+    for (input, word) in BAD_HEADERS {
+        assert!(rt;
+            is_bad(rt.alloc(), input.as_bytes(), 1, *word),
+            "at {input}"
+        );
+    }
+    let no_text = b"[\"zedbuf\",1,\"ab\",[1]]\n[\"text\",1]\n\"\xff\"\n";
+    assert!(rt; is_bad(rt.alloc(), no_text, 3, Word::Json));
+}
+
+// Each of the lines is the first bad one of its session, for the word.
+fn are_bad<R: Abort>(rt: &R, alloc: Global, word: Word, lines: &[&str]) -> Result<(), AllocError> {
+    for line in lines {
+        let input = format!(in alloc; "[\"zedbuf\",1,\"ab\",[1,2]]\n{line}\n[\"text\",4]\n")?;
+        assert!(rt; is_bad(alloc, input.as_bytes(), 2, word), "at {line}");
+    }
+    Ok(())
+}
+
+#[test]
+fn bad_lines(rt: HostRuntime) -> Result<(), Fail> {
+    for (word, lines) in BAD_LINES {
+        are_bad(&rt, rt.alloc(), *word, lines)?;
+    }
+    Ok(())
+}
+
+const EDIT: &str = r#"["edit",1,[]]"#;
+
+const OP: &str = r#"["op",[2,9],[],[]]"#;
+
+const TEXT: &str = r#"["text",1]"#;
+
+const UNDO: &str = r#"["undo",1,[]]"#;
+
+const UOP: &str = r#"["uop",[2,9],[],[]]"#;
+
+// Two lines, the number that a line behind them names, and the bad line of the session.
+const NUMBERS: &[(&str, &str, u64, u64)] = &[
+    (UNDO, UOP, 2, 5),
+    (UNDO, UOP, 3, 4),
+    (EDIT, r#"["undo",1,[1,1]]"#, 2, 5),
+    (EDIT, r#"["undo",1,[1,2]]"#, 2, 3),
+    (EDIT, r#"["undo",1,[0,1]]"#, 2, 3),
+    (TEXT, TEXT, 1, 4),
+    (EDIT, TEXT, 0, 4),
+    (EDIT, TEXT, 1, 5),
+    (TEXT, OP, 1, 5),
+    (TEXT, OP, 2, 4),
+    (EDIT, OP, 2, 5),
+    (OP, EDIT, 1, 5),
+    (OP, OP, 3, 4),
+];
+
+#[test]
+fn numbers_of_operation_lines(rt: HostRuntime) -> Result<(), Fail> {
+    let alloc = rt.alloc();
+    for (first, second, number, line) in NUMBERS {
+        // what stands after the line has no number for it, and is no operation line's own
+        let input = format!(in alloc;
+            "[\"zedbuf\",1,\"ab\",[1]]\n{first}\n{second}\n[\"give\",1,{number}]\n[\"give\",1,3]\n{OP}\n{OP}\n"
+        )?;
+        assert!(rt;
+            is_bad(alloc, input.as_bytes(), *line, Word::Number),
+            "at {input}"
+        );
+    }
+    Ok(())
+}
+
+// A header of that many ids.
+fn header(alloc: Global, count: u64) -> Result<String, AllocError> {
+    let mut ids = format!(in alloc; "1023")?;
+    for id in 1..count {
+        ids = format!(in alloc; "{id},{ids}")?;
+    }
+    format!(in alloc; "[\"zedbuf\",1,\"\",[{ids}]]\n")
+}
+
+#[test]
+fn headers_of_many_ids(rt: HostRuntime) -> Result<(), Fail> {
+    let most = header(rt.alloc(), 64)?;
+    assert!(rt; decode(rt.alloc(), most.as_bytes()).is_ok());
+    let more = header(rt.alloc(), 65)?;
+    assert!(rt; is_bad(rt.alloc(), more.as_bytes(), 1, Word::Header));
+    Ok(())
+}
+
+// That many line feeds, and a last line without one.
+fn feeds(alloc: Global, count: usize, last: &str) -> Result<Vec<u8>, AllocError> {
+    let mut input = vec![in alloc; b'\n'; count]?;
+    input.extend_from_slice(last.as_bytes())?;
+    Ok(input)
+}
+
+#[test]
+fn as_many_lines_as_there_may_be(rt: HostRuntime) -> Result<(), Fail> {
+    for (count, last) in [(1_048_576usize, ""), (1_048_575, " ")] {
+        let input = feeds(rt.alloc(), count, last)?;
+        assert!(rt; is_bad(rt.alloc(), &input, 1, Word::Json), "at {count}");
+    }
+    Ok(())
+}
+
+#[test]
+fn one_line_too_many(rt: HostRuntime) -> Result<(), Fail> {
+    // a last line without a line feed is one more
+    for (count, last) in [(1_048_577usize, ""), (1_048_576, " ")] {
+        let input = feeds(rt.alloc(), count, last)?;
+        match decode(rt.alloc(), &input) {
+            Err(DecodeFault::Lines(lines)) => assert_eq!(rt; lines, 1_048_577),
+            _ => assert!(rt; false, "at {count}"),
+        }
+    }
+    Ok(())
+}

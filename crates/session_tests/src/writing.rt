@@ -1,0 +1,272 @@
+//! The lines of reports as they are written.
+use lamport_clock::Lamport;
+use op_model::{EditFault, OpFault, Text, UndoFault, Unit};
+use session_lines::{Given, Report, decode, write_line};
+use std::alloc::{AllocError, Global};
+use std::process::Abort;
+use std::test::Fail;
+
+// Writes the line after another text, and compares both: the line is the front and then what is wanted.
+fn writes<R: Abort>(
+    rt: &R,
+    alloc: Global,
+    line: Report,
+    front: &str,
+    want: &str,
+) -> Result<(), AllocError> {
+    let mut out = b"before\n".to_vec(alloc)?;
+    write_line(alloc, &mut out, &line)?;
+    let whole = format!(in alloc; "before\n{front}{want}\n")?;
+    assert_eq!(rt; out.as_slice(), whole.as_bytes());
+    Ok(())
+}
+
+const STAMP: Lamport = Lamport {
+    value: 3,
+    replica: 2,
+};
+
+const OTHER: Lamport = Lamport {
+    value: 7,
+    replica: 1,
+};
+
+const EDIT_FAULTS: &[(EditFault, &str)] = &[
+    (EditFault::Reversed(0), "reversed 0"),
+    (EditFault::Overlap(1), "overlap 1"),
+    (EditFault::PastEnd(0, 2), "pastend 0 2"),
+    (EditFault::InsideChar(3), "insidechar 3"),
+    (EditFault::TextLimit(65_537), "textlimit 65537"),
+    (EditFault::ClockEnd, "clockend"),
+    (
+        EditFault::Full {
+            unit: Unit::Bytes,
+            held: 3,
+            adds: 4,
+        },
+        "full bytes 3 4",
+    ),
+    (
+        EditFault::Full {
+            unit: Unit::Entries,
+            held: 5,
+            adds: 6,
+        },
+        "full entries 5 6",
+    ),
+];
+
+const UNDO_FAULTS: &[(UndoFault, &str)] = &[
+    (UndoFault::NoSuchEdit(OTHER), "nosuchedit 7.1"),
+    (UndoFault::Twice(OTHER), "twice 7.1"),
+    (UndoFault::CountEnd(OTHER), "countend 7.1"),
+    (UndoFault::ClockEnd, "clockend"),
+    (
+        UndoFault::Full {
+            unit: Unit::Entries,
+            held: 5,
+            adds: 6,
+        },
+        "full entries 5 6",
+    ),
+];
+
+const OP_FAULTS: &[(OpFault, &str)] = &[
+    (OpFault::BadStamp, "badstamp"),
+    (OpFault::NoBase, "nobase"),
+    (OpFault::TextLimit(65_537), "textlimit 65537"),
+    (OpFault::Reversed(0), "reversed 0"),
+    (OpFault::Overlap(1), "overlap 1"),
+    (OpFault::Conflict(OTHER), "conflict 7.1"),
+    (OpFault::Forked(2), "forked 2"),
+    (OpFault::OpenVersion(1), "openversion 1"),
+    (OpFault::PastEnd(0, 2), "pastend 0 2"),
+    (OpFault::InsideChar(3), "insidechar 3"),
+    (OpFault::NoSuchEdit(OTHER), "nosuchedit 7.1"),
+    (
+        OpFault::Full {
+            unit: Unit::Bytes,
+            held: 3,
+            adds: 4,
+        },
+        "full bytes 3 4",
+    ),
+    (
+        OpFault::Full {
+            unit: Unit::Entries,
+            held: 5,
+            adds: 6,
+        },
+        "full entries 5 6",
+    ),
+];
+
+const ANSWERS: &[(Given, &str)] = &[
+    (
+        Given::Applied(18_446_744_073_709_551_615),
+        "applied 18446744073709551615",
+    ),
+    (
+        Given::Waits {
+            replica: 1,
+            value: 2,
+        },
+        "waits 1 2",
+    ),
+    (Given::Repeat, "repeat"),
+    (Given::Nothing, "nothing"),
+    (Given::Fault(OpFault::BadStamp), "badstamp"),
+];
+
+#[test]
+fn faults_of_edits(rt: HostRuntime) -> Result<(), Fail> {
+    for (fault, want) in EDIT_FAULTS {
+        let line = Report::EditRefused {
+            number: 3,
+            fault: *fault,
+        };
+        writes(&rt, rt.alloc(), line, "3: ", want)?;
+    }
+    Ok(())
+}
+
+#[test]
+fn faults_of_undos(rt: HostRuntime) -> Result<(), Fail> {
+    for (fault, want) in UNDO_FAULTS {
+        let line = Report::UndoRefused {
+            number: 4,
+            fault: *fault,
+        };
+        writes(&rt, rt.alloc(), line, "4: ", want)?;
+    }
+    Ok(())
+}
+
+#[test]
+fn faults_of_taken_operations(rt: HostRuntime) -> Result<(), Fail> {
+    for (fault, want) in OP_FAULTS {
+        let line = Report::Refused {
+            replica: 9,
+            stamp: STAMP,
+            fault: *fault,
+        };
+        writes(&rt, rt.alloc(), line, "refused 9: 3.2 ", want)?;
+    }
+    Ok(())
+}
+
+#[test]
+fn answers_to_gives(rt: HostRuntime) -> Result<(), Fail> {
+    for (answer, want) in ANSWERS {
+        let line = Report::Give {
+            number: 12,
+            replica: 1023,
+            answer: *answer,
+        };
+        writes(&rt, rt.alloc(), line, "give 12 to 1023: ", want)?;
+    }
+    Ok(())
+}
+
+#[test]
+fn lines_of_operations(rt: HostRuntime) -> Result<(), Fail> {
+    let line = Report::Made {
+        number: 12,
+        stamp: Lamport {
+            value: 4_294_967_294,
+            replica: 7,
+        },
+    };
+    writes(&rt, rt.alloc(), line, "", "12: 4294967294.7")?;
+    let line = Report::Unnamed {
+        number: 4,
+        named: 2,
+    };
+    writes(&rt, rt.alloc(), line, "", "4: nothing 2")?;
+    let line = Report::Settled {
+        replica: 2,
+        count: 3,
+    };
+    writes(&rt, rt.alloc(), line, "", "settled 2: 3")?;
+    Ok(())
+}
+
+fn text(alloc: Global, text: &str) -> Result<Text, AllocError> {
+    Ok(Text::new(String::from_str(alloc, text)?))
+}
+
+#[test]
+fn lines_of_texts(rt: HostRuntime) -> Result<(), Fail> {
+    let line = Report::Text {
+        replica: 1,
+        bytes: 13,
+        row: 1,
+        column: 10,
+        rows: 2,
+        text: text(rt.alloc(), "\u{e9}\n\"\\\u{1}\u{7f}/\u{8}\u{c}\r\t\u{1f}")?,
+    };
+    let quoted = "\"\u{e9}\\n\\\"\\\\\\u0001\u{7f}/\\b\\f\\r\\t\\u001f\"";
+    writes(
+        &rt,
+        rt.alloc(),
+        line,
+        "text 1: 13 bytes, end 1:10, 2 rows, ",
+        quoted,
+    )?;
+    Ok(())
+}
+
+#[test]
+fn lines_of_replicas(rt: HostRuntime) -> Result<(), Fail> {
+    let line = Report::Replica {
+        replica: 1023,
+        bytes: 3,
+        rows: 2,
+        applied: 4,
+        waiting: 5,
+        refused: 6,
+    };
+    let want = "3 bytes, 2 rows, 4 applied, 5 waiting, 6 refused";
+    writes(&rt, rt.alloc(), line, "replica 1023: ", want)?;
+    let line = Report::Final {
+        replica: 2,
+        text: text(rt.alloc(), "")?,
+    };
+    writes(&rt, rt.alloc(), line, "final 2: ", r#""""#)?;
+    Ok(())
+}
+
+// Sessions, and the line with what is counted of each.
+const COUNTED: &[(&str, &str)] = &[
+    (
+        r#"["zedbuf",1,"ab",[1]]"#,
+        "1 lines, 1 replicas, 0 operations, 0 queries",
+    ),
+    (
+        r#"["zedbuf",1,"ab",[1,2]]
+["edit",1,[]]
+["give",2,1]
+["op",[9,9],[],[]]
+["text",1]
+["edit",2,[[9,0,""]]]
+"#,
+        "6 lines, 2 replicas, 3 operations, 0 queries",
+    ),
+];
+
+#[test]
+fn counted_sessions(rt: HostRuntime) -> Result<(), Fail> {
+    for (input, want) in COUNTED {
+        match decode(rt.alloc(), input.as_bytes()) {
+            Ok(session) => writes(
+                &rt,
+                rt.alloc(),
+                Report::checked(&session),
+                "session ok: ",
+                want,
+            )?,
+            Err(_) => assert!(rt; false, "at {input}"),
+        }
+    }
+    Ok(())
+}
