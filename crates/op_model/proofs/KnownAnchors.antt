@@ -9,8 +9,10 @@ use Rattle.op_model.specs.Edits.{is_boundary}
 use Rattle.op_model.specs.Histories.{History, Distinct, has_edit}
 use Rattle.op_model.specs.Cells.{Cell, seq, cells}
 use Rattle.op_model.specs.Shown.{texts, new_bytes, IsCell, byte, shown, text}
-use Rattle.op_model.specs.Anchors.{Anchor, shown_cells, right_anchor, is_known}
-use Rattle.op_model.specs.Anchors.Anchor.{Greatest, Right}
+use Rattle.op_model.specs.declared.anchor.Anchor.{Anchor}
+use Rattle.op_model.specs.Anchors.{shown_cells, right_anchor, is_known}
+use Rattle.op_model.specs.declared.anchor.Anchor.TheVariants.{Greatest, At}
+use Rattle.op_model.specs.declared.anchor.Bias.TheVariants.{Right}
 use Rattle.op_model.proofs.CellsOnce.{all_cells}
 use Rattle.op_model.proofs.WholeTexts.{boundary_of, of_boundary}
 use Rattle.op_model.proofs.SameAnswers.{text_is}
@@ -39,10 +41,10 @@ pub right_known : (h : History) → Distinct h → (o : ℕ) (a : Anchor) → is
 unfolding right_anchor is_known
 right_known h d o a b e = at_end (cases_Bool (eqb o (length (text h))))
   where
-    go : (g : Option Cell) → slice_get (shown_cells h) o ≡ g → option_map (λ (c : Cell). Right c.stamp c.k) g ≡ Some a → is_known h a ≡ true
+    go : (g : Option Cell) → slice_get (shown_cells h) o ≡ g → option_map (λ (c : Cell). At c.stamp c.k Right) g ≡ Some a → is_known h a ≡ true
     go None q e = cc
     go (Some c) q e =
-        let i : Right c.stamp c.k ≡ a = cc in
+        let i : At c.stamp c.k Right ≡ a = cc in
         let n : IsCell h c = (all_cells h d c).0 (got_member (shown h) (cells (seq h)) o c q) in
         let m = got_map (byte h) (shown_cells h) o c q in
         let t : text h ≡ map (byte h) (shown_cells h) = text_is h d in

@@ -23,7 +23,8 @@ use Rattle.op_model.specs.Made.{made, made_undo, local_edit_fault, local_undo_fa
 use Rattle.lamport_clock.specs.declared.stamp.Lamport.{Lamport}
 use Rattle.op_model.specs.Settled.{pass, passes, settled}
 use Rattle.op_model.specs.Steps.{older, Step, opened, run, settle_step, IsProperStep}
-use Rattle.op_model.specs.Anchors.{Anchor, left_anchor, right_anchor, place, compare_anchors, is_known}
+use Rattle.op_model.specs.declared.anchor.Anchor.{Anchor}
+use Rattle.op_model.specs.Anchors.{left_anchor, right_anchor, place, compare_anchors, is_known}
 use Rattle.op_model.specs.Since.{since, text_at}
 use Rattle.op_model.specs.Brought.{all_brought}
 

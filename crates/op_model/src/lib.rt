@@ -3,6 +3,7 @@
 //! The meaning of a list of operations, a history, stands in this crate's specs/.
 #![tactic(auto)]
 
+mod anchor;
 mod faults;
 mod laws;
 mod limits;
@@ -14,7 +15,8 @@ mod shapes;
 #[cfg(test)]
 mod tests;
 
-pub use faults::{EditFault, OpFault, UndoFault, Unit};
+pub use anchor::{Anchor, Bias, TextEdit};
+pub use faults::{EditFault, OpFault, PlaceFault, SinceFault, UndoFault, Unit};
 pub use lamport_clock::OutOfMemory;
 pub use laws::{
     anchors_stand_in_order, anchors_stand_where_made, boundaries_are_std, deleters_delete,
