@@ -19,7 +19,7 @@ use Rattle.op_model.proofs.SameAnswers.{text_is}
 use Rattle.op_model.proofs.AnchorPlaces.{got_member}
 
 -- a stamp with new bytes is that of an edit
-edit_there : (h : History) (t : Lamport) (k : ℕ) → k < length (new_bytes h t) → has_edit h t ≡ true
+pub edit_there : (h : History) (t : Lamport) (k : ℕ) → k < length (new_bytes h t) → has_edit h t ≡ true
 edit_there [] t k l = absurd (omega arith)
 edit_there (Edit e ∷ h) t k l = go (same_stamp e.stamp t) l (edit_there h t k)
   where
@@ -32,7 +32,7 @@ edit_there (Undo u ∷ h) t k l = go (same_stamp u.stamp t) l (edit_there h t k)
     go true l f = absurd (omega arith)
     go false l f = f l
 
-got_map : (g : Cell → ℕ) (s : List Cell) (o : ℕ) (c : Cell) → slice_get s o ≡ Some c → (o < length (map g s)) × (get_or (map g s) o 0 ≡ g c)
+pub got_map : (g : Cell → ℕ) (s : List Cell) (o : ℕ) (c : Cell) → slice_get s o ≡ Some c → (o < length (map g s)) × (get_or (map g s) o 0 ≡ g c)
 got_map g [] o c e = cc
 got_map g (d ∷ s) zero c e = let i : d ≡ c = cc in (omega arith, ap g i)
 got_map g (d ∷ s) (suc o) c e = let k = got_map g s o c e in (let n = k.0 in omega arith, k.1)

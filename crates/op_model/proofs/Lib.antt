@@ -54,3 +54,13 @@ pub mod AllApplied
 pub mod NeverRefused
 pub mod HonestRuns
 mod HonestSets
+mod Causes
+mod Appending
+mod ClosedVersions
+mod SameVersions
+mod KeptOrder
+mod Followed
+mod WholeRuns
+mod WholeWalks
+mod LeftAnchors
+mod SinceBoundaries

@@ -103,7 +103,7 @@ has_stamp (o ∷ h) t = go (cases_Bool (same_stamp (stamp_of o) t)) (has_stamp h
         other : stamp_of o ≡ t → same_stamp (stamp_of o) t ≡ false → ⊥
         other q e = let f : same_stamp t t ≡ false = subst (λ (x : Lamport). same_stamp x t ≡ false) q e in let g = same_stamp_refl t in cc
 
-bytes_same : (h g : History) → Distinct h → Distinct g → SameSet h g → (t : Lamport) → new_bytes h t ≡ new_bytes g t
+pub bytes_same : (h g : History) → Distinct h → Distinct g → SameSet h g → (t : Lamport) → new_bytes h t ≡ new_bytes g t
 bytes_same h g d e s t = elim (has_stamp h t) [
   | inl w ↦ subst (λ (x : Lamport). new_bytes h x ≡ new_bytes g x) w.2 (bytes_of_one h w.0 d w.1 ∙ sym (bytes_of_one g w.0 e ((s w.0).0 w.1)))
   | inr n ↦ no_bytes h t n ∙ sym (no_bytes g t (λ o i q. n o ((s o).1 i) q))

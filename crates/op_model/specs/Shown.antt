@@ -101,3 +101,7 @@ text h = text_where everything (newest_first h)
 -- the bytes of all cells of h in order
 unfoldable pub full : History → List ℕ
 full h = full_where everything (newest_first h)
+
+-- the bytes of the hidden cells of h in order
+abbrev pub hidden : History → List ℕ
+hidden h = map (byte h) (filter (λ (c : Cell). not (shown h c)) (cells (seq h)))

@@ -1,5 +1,5 @@
 -- Edits since a version.
-use Rattle.std.specs.Prelude.{ℕ, suc, ◌+◌, Bool, true, false, ◌&&◌, if◌then◌else◌, List, [], ◌∷◌, map, Option, option_map}
+use Rattle.std.specs.Prelude.{ℕ, suc, ◌+◌, Bool, true, false, ◌&&◌, if◌then◌else◌, List, [], ◌∷◌, ◌++◌, map, drop, slice_range, Option, option_map}
 use Rattle.lamport_clock.specs.Versions.{Entries, sees}
 use Rattle.op_model.specs.Histories.{History, seen}
 use Rattle.op_model.specs.Cells.{Cell, seq, cells}
@@ -83,3 +83,8 @@ since_fault h v = first_of (
     option_map Unseen (unseen_replica h v)
     ∷ option_map OpenVersion (open_replica h v)
     ∷ [])
+
+-- the text then from a place on, with the old range of each edit replaced by its new range of the text now
+abbrev pub followed : ℕ → List TextEdit → List ℕ → List ℕ → List ℕ
+followed at [] then_text now_text = drop at then_text
+followed at (e ∷ es) then_text now_text = slice_range then_text at e.old.0 ++ (slice_range now_text e.new.0 e.new.1 ++ followed e.old.1 es then_text now_text)
