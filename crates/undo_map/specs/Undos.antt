@@ -1,5 +1,5 @@
 -- The undo counts of a history.
-use Rattle.std.specs.Prelude.{List, [], ◌∷◌}
+use Rattle.std.specs.Prelude.{ℕ, ◌+◌, List, [], ◌∷◌, length}
 use Rattle.lamport_clock.specs.declared.stamp.Lamport.{Lamport}
 use Rattle.op_model.specs.declared.operation.UndoCount.{UndoCount}
 use Rattle.op_model.specs.declared.operation.Operation.{Operation}
@@ -21,3 +21,8 @@ with_undos (op ∷ h) w = with_undos h (with_counts (stamp_of op) (counts_of op)
 -- the counts of all undos of h
 abbrev pub undo_entries : History → List UndoEntry
 undo_entries h = with_undos h []
+
+-- how many counts the undos of h have
+abbrev pub number_of_counts : History → ℕ
+number_of_counts [] = 0
+number_of_counts (op ∷ h) = length (counts_of op) + number_of_counts h
