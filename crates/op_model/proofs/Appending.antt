@@ -1,10 +1,13 @@
 -- Settling and calls append to a history.
-use Rattle.std.proofs.Common.{◌≡◌, ℕ, List, [], ◌∷◌, ◌++◌, refl, sym, ◌∙◌, ap, inl, inr, append_assoc}
+use Rattle.std.proofs.Common.{◌≡◌, ℕ, List, [], ◌∷◌, ◌++◌, refl, sym, ◌∙◌, ap, subst, true, None, inl, inr, append_assoc}
+use Rattle.std.specs.Prelude.{is_some}
+use Rattle.lamport_clock.specs.declared.stamp.Lamport.{Lamport}
 use Rattle.op_model.specs.declared.operation.Operation.{Operation}
+use Rattle.op_model.specs.declared.operation.Piece.{Piece}
 use Rattle.op_model.specs.declared.limits.Limits.{Limits as LimitsType}
 use Rattle.op_model.specs.Sorted.{Each, Member}
 use Rattle.op_model.specs.Histories.{History}
-use Rattle.op_model.specs.Made.{local_edit_fault, local_undo_fault}
+use Rattle.op_model.specs.Made.{made, made_undo, local_edit_fault, local_undo_fault}
 use Rattle.op_model.specs.Answers.{Answer}
 use Rattle.op_model.specs.Answers.Answer.{Good, Repeat, Waits, Refused}
 use Rattle.op_model.specs.Settled.{State, settled}
@@ -47,14 +50,27 @@ settle_grows l s = let k = settled_longer l s.history s.waiting in (k.0, k.1)
 applied_grows : (op : Operation) (s : State) → Grows s (with_applied op s)
 applied_grows op s = (op ∷ [], refl)
 
+-- an edit or undo that meets no fault is applied, and one that meets a fault changes nothing
+pub edit_made : (l : LimitsType) (r : ℕ) (ps : List Piece) (s : State) → local_edit_fault l s.history ps ≡ None → step l r (Edits ps) s ≡ with_applied (made s.history r ps) s
+edit_made l r ps s e = rw e refl
+
+pub edit_refused : (l : LimitsType) (r : ℕ) (ps : List Piece) (s : State) → is_some (local_edit_fault l s.history ps) ≡ true → step l r (Edits ps) s ≡ s
+edit_refused l r ps s e = rw e refl
+
+pub undo_made : (l : LimitsType) (r : ℕ) (ts : List Lamport) (s : State) → local_undo_fault l s.history ts ≡ None → step l r (Undoes ts) s ≡ with_applied (made_undo s.history r ts) s
+undo_made l r ts s e = rw e refl
+
+pub undo_refused : (l : LimitsType) (r : ℕ) (ts : List Lamport) (s : State) → is_some (local_undo_fault l s.history ts) ≡ true → step l r (Undoes ts) s ≡ s
+undo_refused l r ts s e = rw e refl
+
 pub step_grows : (l : LimitsType) (r : ℕ) (c : Step) (s : State) → Grows s (step l r c s)
 step_grows l r (Edits ps) s = elim (none_or (local_edit_fault l s.history ps)) [
-  | inl e ↦ rw e (applied_grows (Rattle.op_model.specs.Made.made s.history r ps) s)
-  | inr e ↦ rw e (still s)
+  | inl e ↦ subst (Grows s) (sym (edit_made l r ps s e)) (applied_grows (made s.history r ps) s)
+  | inr e ↦ subst (Grows s) (sym (edit_refused l r ps s e)) (still s)
 ]
 step_grows l r (Undoes ts) s = elim (none_or (local_undo_fault l s.history ts)) [
-  | inl e ↦ rw e (applied_grows (Rattle.op_model.specs.Made.made_undo s.history r ts) s)
-  | inr e ↦ rw e (still s)
+  | inl e ↦ subst (Grows s) (sym (undo_made l r ts s e)) (applied_grows (made_undo s.history r ts) s)
+  | inr e ↦ subst (Grows s) (sym (undo_refused l r ts s e)) (still s)
 ]
 step_grows l r (Takes op) s = go (take_answer l s op)
   where

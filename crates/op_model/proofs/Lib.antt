@@ -54,13 +54,13 @@ pub mod AllApplied
 pub mod NeverRefused
 pub mod HonestRuns
 mod HonestSets
-mod Causes
-mod Appending
-mod ClosedVersions
+pub mod Causes
+pub mod Appending
+pub mod ClosedVersions
 mod SameVersions
 mod KeptOrder
 mod Followed
-mod WholeRuns
+pub mod WholeRuns
 mod WholeWalks
 mod LeftAnchors
 mod SinceBoundaries

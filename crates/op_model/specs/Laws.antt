@@ -153,7 +153,7 @@ RightAnchorsAreKnown = (h : History) → Lawful h → (o : ℕ) → (a : Anchor)
 abbrev pub AnchorsStandInOrder : Type 0
 AnchorsStandInOrder = (h : History) → (a b : Anchor) → (compare_anchors h a b ≡ Less → place h a ≤ place h b) × (compare_anchors h a b ≡ Equal → place h a ≡ place h b)
 
--- over what waits by stamps two passes are enough: causes have smaller stamps, so the second pass applies nothing
+-- settling what waits by stamps is done with at most two passes, since causes have smaller stamps
 abbrev pub TwoPassesAreEnough : Type 0
 TwoPassesAreEnough = (l : LimitsType) → (h : History) → (w : List Operation) → Ascending older w → settled l h w ≡ passes 2 l h w
 
