@@ -16,7 +16,7 @@ use Rattle.op_model.proofs.Passed.{passed, find_none}
 use Rattle.op_model.proofs.VersionLaws.{has_greatest}
 
 -- a part has no greater value
-greatest_part : (p h : History) (r : ℕ) → ((o : Operation) → In p o → In h o) → greatest p r ≤ greatest h r
+pub greatest_part : (p h : History) (r : ℕ) → ((o : Operation) → In p o → In h o) → greatest p r ≤ greatest h r
 greatest_part p h r f = elim (cases_lt 0 (greatest p r)) [
   | inl q ↦ (let w = has_greatest p r q in
       let v : (stamp_of w.0).value ≡ greatest p r = ap (λ (t : Lamport). t.value) w.2 in

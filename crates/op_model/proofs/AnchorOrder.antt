@@ -8,8 +8,10 @@ use Rattle.std.specs.declared.cmp.Ordering.TheVariants.{Less, Equal}
 use Rattle.op_model.specs.Histories.{History}
 use Rattle.op_model.specs.Cells.{Cell, Place, same_cell, seq, cells}
 use Rattle.op_model.specs.Shown.{shown}
-use Rattle.op_model.specs.Anchors.{Anchor, cells_upto, cells_before, place, gap, compare_anchors}
-use Rattle.op_model.specs.Anchors.Anchor.{Least, Greatest, Left, Right}
+use Rattle.op_model.specs.declared.anchor.Anchor.{Anchor}
+use Rattle.op_model.specs.Anchors.{cells_upto, cells_before, place, gap, compare_anchors}
+use Rattle.op_model.specs.declared.anchor.Anchor.TheVariants.{Least, Greatest, At}
+use Rattle.op_model.specs.declared.anchor.Bias.TheVariants.{Left, Right}
 use Rattle.op_model.proofs.AnchorPlaces.{number}
 use Rattle.op_model.proofs.MadeGood.{text_number}
 
@@ -36,8 +38,8 @@ gap_place : (h : History) (a : Anchor) → place h a ≡ number (shown h) (take 
 unfolding place gap
 gap_place h Least = refl
 gap_place h Greatest = text_number h ∙ ap (number (shown h)) (sym (take_all (length (seq h)) (cells (seq h)) (let n = length-map (seq h) (λ (p : Place). p.cell) in omega arith)))
-gap_place h (Left t k) = ap (number (shown h)) (upto_take (cells (seq h)) (record { stamp = t; k = k - 1 }))
-gap_place h (Right t k) = ap (number (shown h)) (before_take (cells (seq h)) (record { stamp = t; k = k }))
+gap_place h (At t k Left) = ap (number (shown h)) (upto_take (cells (seq h)) (record { stamp = t; k = k - 1 }))
+gap_place h (At t k Right) = ap (number (shown h)) (before_take (cells (seq h)) (record { stamp = t; k = k }))
 
 ordered : (x y : ℕ) (q : Ordering) → (ordering_then (nat_cmp x y) q ≡ Less → x ≤ y) × (ordering_then (nat_cmp x y) q ≡ Equal → x ≡ y)
 ordered x y q = go (cases_Bool (ltb x y)) (cases_Bool (eqb x y))

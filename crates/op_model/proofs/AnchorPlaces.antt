@@ -7,8 +7,10 @@ use Rattle.op_model.specs.Sorted.{EachPair, Member}
 use Rattle.op_model.specs.Histories.{History, Distinct}
 use Rattle.op_model.specs.Cells.{Cell, same_cell, seq, cells}
 use Rattle.op_model.specs.Shown.{shown, text}
-use Rattle.op_model.specs.Anchors.{Anchor, shown_cells, left_anchor, right_anchor, cells_upto, cells_before, number_shown, place}
-use Rattle.op_model.specs.Anchors.Anchor.{Least, Greatest, Left, Right}
+use Rattle.op_model.specs.declared.anchor.Anchor.{Anchor}
+use Rattle.op_model.specs.Anchors.{shown_cells, left_anchor, right_anchor, cells_upto, cells_before, number_shown, place}
+use Rattle.op_model.specs.declared.anchor.Anchor.TheVariants.{Least, Greatest, At}
+use Rattle.op_model.specs.declared.anchor.Bias.TheVariants.{Left, Right}
 use Rattle.op_model.proofs.PathOrder.{same_cell_eq, same_cell_refl}
 use Rattle.op_model.proofs.CellsOnce.{once, each_member}
 
@@ -70,9 +72,9 @@ unfolding left_anchor place
 left_place h d zero a e = let i : Least ≡ a = cc in subst (λ (x : Anchor). place h x ≡ 0) i refl
 left_place h d (suc o) a e = go (slice_get (shown_cells h) o) refl e
   where
-    go : (g : Option Cell) → slice_get (shown_cells h) o ≡ g → option_map (λ (c : Cell). Left c.stamp (suc c.k)) g ≡ Some a → place h a ≡ suc o
+    go : (g : Option Cell) → slice_get (shown_cells h) o ≡ g → option_map (λ (c : Cell). At c.stamp (suc c.k) Left) g ≡ Some a → place h a ≡ suc o
     go None q e = cc
-    go (Some c) q e = let i : Left c.stamp (suc c.k) ≡ a = cc in
+    go (Some c) q e = let i : At c.stamp (suc c.k) Left ≡ a = cc in
         let r : record { stamp = c.stamp; k = suc c.k - 1 } ≡ c = same_record c (suc c.k - 1) (omega arith) in
         subst (λ (x : Anchor). place h x ≡ suc o) i (ap (λ (x : Cell). number_shown h (cells_upto (cells (seq h)) x)) r ∙ upto_count (shown h) (cells (seq h)) o c (once h d) q)
 
@@ -80,9 +82,9 @@ pub right_place : (h : History) → Distinct h → (o : ℕ) (a : Anchor) → ri
 unfolding right_anchor place
 right_place h d o a e = at_end (cases_Bool (eqb o (length (text h))))
   where
-    go : (g : Option Cell) → slice_get (shown_cells h) o ≡ g → option_map (λ (c : Cell). Right c.stamp c.k) g ≡ Some a → place h a ≡ o
+    go : (g : Option Cell) → slice_get (shown_cells h) o ≡ g → option_map (λ (c : Cell). At c.stamp c.k Right) g ≡ Some a → place h a ≡ o
     go None q e = cc
-    go (Some c) q e = let i : Right c.stamp c.k ≡ a = cc in subst (λ (x : Anchor). place h x ≡ o) i (before_count (shown h) (cells (seq h)) o c (once h d) q)
+    go (Some c) q e = let i : At c.stamp c.k Right ≡ a = cc in subst (λ (x : Anchor). place h x ≡ o) i (before_count (shown h) (cells (seq h)) o c (once h d) q)
 
     at_end : (eqb o (length (text h)) ≡ true) ⊎ (eqb o (length (text h)) ≡ false) → place h a ≡ o
     at_end (inl t) = let s : Some Greatest ≡ Some a = rw t at e in let i : Greatest ≡ a = cc in

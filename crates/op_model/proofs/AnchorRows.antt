@@ -6,10 +6,11 @@ use Rattle.op_model.specs.Histories.{History, base}
 use Rattle.op_model.specs.Shown.{text}
 use Rattle.op_model.specs.Made.{made}
 use Rattle.op_model.specs.Anchors.{left_anchor, right_anchor, place, compare_anchors, is_known, resolved, compared, place_fault}
-use Rattle.op_model.specs.Anchors.Anchor.{Least, Greatest, Left, Right}
+use Rattle.op_model.specs.declared.anchor.Anchor.TheVariants.{Least, Greatest, At}
+use Rattle.op_model.specs.declared.anchor.Bias.TheVariants.{Left, Right}
 use Rattle.op_model.specs.Since.{since, since_fault}
-use Rattle.op_model.specs.Since.SinceFault.{Unseen, OpenVersion}
-use Rattle.op_model.specs.Anchors.PlaceFault.{PastEnd, InsideChar}
+use Rattle.op_model.specs.declared.faults.SinceFault.TheVariants.{Unseen, OpenVersion}
+use Rattle.op_model.specs.declared.faults.PlaceFault.TheVariants.{PastEnd, InsideChar}
 use Rattle.op_model.proofs.Worked.{stamp, piece, edit, v0, open_all}
 
 abbrev start : History
@@ -21,7 +22,7 @@ x_in = base (97 ∷ 98 ∷ []) ∷ edit 2 1 v0 (piece 1 1 (88 ∷ []) ∷ []) �
 abbrev x_alone : History
 x_alone = base (97 ∷ 98 ∷ []) ∷ edit 2 1 v0 (piece 1 1 (88 ∷ []) ∷ []) ∷ edit 3 1 ((0, 1) ∷ (1, 2) ∷ []) (piece 0 1 [] ∷ piece 2 3 [] ∷ []) ∷ []
 
-made_left_and_right : (left_anchor start 1 ≡ Some (Left (stamp 1 0) 1)) × (right_anchor start 1 ≡ Some (Right (stamp 1 0) 1))
+made_left_and_right : (left_anchor start 1 ≡ Some (At (stamp 1 0) 1 Left)) × (right_anchor start 1 ≡ Some (At (stamp 1 0) 1 Right))
 unfolding open_all
 made_left_and_right = (refl, refl)
 
@@ -29,33 +30,33 @@ made_at_the_ends : (left_anchor start 0 ≡ Some Least) × (right_anchor start 2
 unfolding open_all
 made_at_the_ends = (refl, refl)
 
-left_stays_before_an_insertion : (place x_in (Left (stamp 1 0) 1) ≡ 1) × (place x_in (Right (stamp 1 0) 1) ≡ 2)
+left_stays_before_an_insertion : (place x_in (At (stamp 1 0) 1 Left) ≡ 1) × (place x_in (At (stamp 1 0) 1 Right) ≡ 2)
 unfolding open_all
 left_stays_before_an_insertion = (refl, refl)
 
-deleted_around : (place x_alone (Left (stamp 1 0) 1) ≡ 0) × (place x_alone (Right (stamp 1 0) 1) ≡ 1)
+deleted_around : (place x_alone (At (stamp 1 0) 1 Left) ≡ 0) × (place x_alone (At (stamp 1 0) 1 Right) ≡ 1)
 unfolding open_all
 deleted_around = (refl, refl)
 
-at_the_other_replica : place start (Right (stamp 1 0) 1) ≡ 1
+at_the_other_replica : place start (At (stamp 1 0) 1 Right) ≡ 1
 unfolding open_all
 at_the_other_replica = refl
 
-left_less_than_right : (compare_anchors start (Left (stamp 1 0) 1) (Right (stamp 1 0) 1) ≡ Less) × (compare_anchors x_in (Left (stamp 1 0) 1) (Right (stamp 1 0) 1) ≡ Less)
-    × (compare_anchors x_alone (Left (stamp 1 0) 1) (Right (stamp 1 0) 1) ≡ Less)
+left_less_than_right : (compare_anchors start (At (stamp 1 0) 1 Left) (At (stamp 1 0) 1 Right) ≡ Less) × (compare_anchors x_in (At (stamp 1 0) 1 Left) (At (stamp 1 0) 1 Right) ≡ Less)
+    × (compare_anchors x_alone (At (stamp 1 0) 1 Left) (At (stamp 1 0) 1 Right) ≡ Less)
 unfolding open_all
 left_less_than_right = (refl, refl, refl)
 
-equal_to_itself : compare_anchors x_alone (Left (stamp 1 0) 1) (Left (stamp 1 0) 1) ≡ Equal
+equal_to_itself : compare_anchors x_alone (At (stamp 1 0) 1 Left) (At (stamp 1 0) 1 Left) ≡ Equal
 unfolding open_all
 equal_to_itself = refl
 
-unknown_edit : (is_known start (Left (stamp 2 1) 1) ≡ false) × (is_known x_in (Left (stamp 2 1) 1) ≡ true) × (is_known x_in (Right (stamp 2 1) 1) ≡ false)
+unknown_edit : (is_known start (At (stamp 2 1) 1 Left) ≡ false) × (is_known x_in (At (stamp 2 1) 1 Left) ≡ true) × (is_known x_in (At (stamp 2 1) 1 Right) ≡ false)
 unfolding open_all
 unknown_edit = (refl, refl, refl)
 
-not_known_not_resolved : (resolved start (Left (stamp 2 1) 1) ≡ None) × (resolved x_in (Left (stamp 1 0) 1) ≡ Some 1)
-    × (compared start (Left (stamp 2 1) 1) Least ≡ None) × (compared start Least (Left (stamp 1 0) 1) ≡ Some Less)
+not_known_not_resolved : (resolved start (At (stamp 2 1) 1 Left) ≡ None) × (resolved x_in (At (stamp 1 0) 1 Left) ≡ Some 1)
+    × (compared start (At (stamp 2 1) 1 Left) Least ≡ None) × (compared start Least (At (stamp 1 0) 1 Left) ≡ Some Less)
 unfolding open_all
 not_known_not_resolved = (refl, refl, refl, refl)
 
@@ -78,7 +79,7 @@ insert_x = edit 2 1 v0 (piece 2 2 (88 ∷ []) ∷ [])
 abbrev delete_rest : Operation
 delete_rest = edit 3 1 ((0, 1) ∷ (1, 2) ∷ []) (piece 1 5 [] ∷ [])
 
-left_at_three : left_anchor four 3 ≡ Some (Left (stamp 1 0) 3)
+left_at_three : left_anchor four 3 ≡ Some (At (stamp 1 0) 3 Left)
 unfolding open_all
 left_at_three = refl
 
@@ -86,11 +87,11 @@ both_made : (made four 1 (piece 2 2 (88 ∷ []) ∷ []) ≡ insert_x) × (made (
 unfolding open_all
 both_made = (refl, refl)
 
-moved_by_an_insertion : place (base (97 ∷ 98 ∷ 99 ∷ 100 ∷ []) ∷ insert_x ∷ []) (Left (stamp 1 0) 3) ≡ 4
+moved_by_an_insertion : place (base (97 ∷ 98 ∷ 99 ∷ 100 ∷ []) ∷ insert_x ∷ []) (At (stamp 1 0) 3 Left) ≡ 4
 unfolding open_all
 moved_by_an_insertion = refl
 
-moved_by_a_deletion : (place (base (97 ∷ 98 ∷ 99 ∷ 100 ∷ []) ∷ insert_x ∷ delete_rest ∷ []) (Left (stamp 1 0) 3) ≡ 1)
+moved_by_a_deletion : (place (base (97 ∷ 98 ∷ 99 ∷ 100 ∷ []) ∷ insert_x ∷ delete_rest ∷ []) (At (stamp 1 0) 3 Left) ≡ 1)
     × (text (base (97 ∷ 98 ∷ 99 ∷ 100 ∷ []) ∷ insert_x ∷ delete_rest ∷ []) ≡ 97 ∷ [])
 unfolding open_all
 moved_by_a_deletion = (refl, refl)

@@ -12,7 +12,8 @@ use Rattle.op_model.specs.Made.{made, local_edit_fault, local_undo_fault}
 use Rattle.op_model.specs.Answers.{answer}
 use Rattle.op_model.specs.Answers.Answer.{Good, Repeat, Waits, Refused}
 use Rattle.op_model.specs.Lawful.{unseen_replica}
-use Rattle.op_model.specs.Steps.{opened, take_answer, base_excess}
+use Rattle.op_model.specs.Steps.{opened, take_answer}
+use Rattle.op_model.specs.Limited.{excess}
 use Rattle.op_model.proofs.Worked.{stamp, piece, edit, undo, counts, v0, ample, open_all}
 
 abbrev ab : History
@@ -173,7 +174,7 @@ limits_of_an_edit : (local_edit_fault small abc (piece 0 0 (120 ∷ 121 ∷ 122 
 unfolding open_all
 limits_of_an_edit = (refl, refl, refl)
 
-limits_of_a_base : (base_excess small (97 ∷ 98 ∷ 99 ∷ 100 ∷ 101 ∷ 102 ∷ []) ≡ Some (record { unit = Bytes; held = 0; adds = 6 })) × (base_excess small (97 ∷ 98 ∷ 99 ∷ []) ≡ None)
+limits_of_a_base : (excess small [] 6 0 ≡ Some (record { unit = Bytes; held = 0; adds = 6 })) × (excess small [] 3 0 ≡ None)
 unfolding open_all
 limits_of_a_base = (refl, refl)
 

@@ -40,7 +40,7 @@ new_within s t k (p ∷ ps) =
     (each_map (Within t (k + length p.text) (length (texts ps))) (Within t k (length (p.text ++ texts ps))) (λ q w. (w.0, (let a = w.1 in omega arith), (let a = w.2 in omega arith)))
     (new_places s t (k + length p.text) ps) (new_within s t (k + length p.text) ps))
 
-member_append : {A : Type 0} (x : A) (xs ys : List A) → Member x xs ⊎ Member x ys → Member x (xs ++ ys)
+pub member_append : {A : Type 0} (x : A) (xs ys : List A) → Member x xs ⊎ Member x ys → Member x (xs ++ ys)
 member_append x [] ys m = elim m [ inl n ↦ absurd n | inr n ↦ n ]
 member_append x (y ∷ xs) ys m = elim m [ inl n ↦ elim n [ inl e ↦ inl e | inr i ↦ inr (member_append x xs ys (inl i)) ] | inr n ↦ inr (member_append x xs ys (inr n)) ]
 

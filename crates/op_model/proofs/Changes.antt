@@ -1,5 +1,5 @@
 -- What one operation more changes of the cells: which an edit deletes, and which an undo shows and hides.
-use Rattle.std.proofs.Common.{◌≡◌, ℕ, ◌%◌, Bool, List, [], ◌∷◌, ◌++◌, refl, sym, ◌∙◌, ap, true, false, cond, ◌&&◌, eqb}
+use Rattle.std.proofs.Common.{◌≡◌, ℕ, ◌%◌, Bool, List, [], ◌∷◌, ◌++◌, map, refl, sym, ◌∙◌, ap, true, false, cond, ◌&&◌, eqb}
 use Rattle.lamport_clock.specs.declared.stamp.Lamport.{Lamport}
 use Rattle.lamport_clock.specs.Versions.{sees}
 use Rattle.op_model.specs.declared.operation.Operation.{Operation}
@@ -7,7 +7,7 @@ use Rattle.op_model.specs.Operations.{stamp_of, version_of, pieces_of, is_edit}
 use Rattle.op_model.specs.Histories.{History, newest_first, by_stamp, seen}
 use Rattle.op_model.specs.Cells.{Cell, Place, everything, seq}
 use Rattle.op_model.specs.Shown.{count, undone, all_undone, in_ranges, shown_where, shown, deleters_where, deleters, deletes}
-use Rattle.op_model.specs.Facts.{with_deletion, seen_by}
+use Rattle.op_model.specs.Facts.{Fact, told, with_deletion, seen_by}
 use Rattle.op_model.specs.Answers.{answer}
 use Rattle.op_model.specs.Answers.Answer.{Good}
 use Rattle.op_model.proofs.SameSets.{newest_desc, seq_seen}
@@ -18,7 +18,7 @@ use Rattle.op_model.proofs.Deletions.{late_deletions}
 use Rattle.op_model.proofs.Good.{Ready, checked_of, fits_of}
 use Rattle.op_model.proofs.Counted.{Counted, uncounted_new}
 use Rattle.op_model.proofs.EditTold.{hit_is, shown_now, deleters_now, new_none, new_shown}
-use Rattle.op_model.proofs.UndoTold.{hits_none, no_pieces}
+use Rattle.op_model.proofs.UndoTold.{fact_anew, hits_none, no_pieces, undo_told}
 use Rattle.op_model.proofs.OnePass.{no_counts, count_newest}
 
 -- the test by sorted history is the one by what the version sees
@@ -67,3 +67,10 @@ module _ (h : History) (op : Operation) (r : Ready h) (k : Counted h) (g : answe
   pub undo_shown : is_edit op ≡ false → (c : Cell) → shown (h ++ op ∷ []) c ≡ seen_by (h ++ op ∷ []) c.stamp (deleters h c)
   undo_shown e c = shown_more h op c fits
       ∙ rw (hits_none op (newest_first h) c (no_pieces op e), undone_now c.stamp, all_now (deleters_where everything (newest_first h) c)) refl
+
+  -- what is told of each cell by the new counts
+  pub told_anew : is_edit op ≡ false → told (h ++ op ∷ []) ≡ map (fact_anew (h ++ op ∷ [])) (told h)
+  told_anew e = undo_told h op r g e ∙ ap (λ (f : Fact → Fact). map f (told h)) (λ i q. record { cell = q.cell; visible = now q i; deletions = q.deletions })
+    where
+      now : (q : Fact) → seen_by (by_stamp op (newest_first h)) q.cell.stamp q.deletions ≡ seen_by (h ++ op ∷ []) q.cell.stamp q.deletions
+      now q = rw (undone_now q.cell.stamp, all_now q.deletions) refl

@@ -78,7 +78,7 @@ seen_there v (o ∷ h) t e = elim (cases_Bool (sees v (stamp_of o))) [
     both true f x = refl
     both false f x = f x
 
-more_there : (h g : History) (t : Lamport) → has_edit h t ≡ true → has_edit (h ++ g) t ≡ true
+pub more_there : (h g : History) (t : Lamport) → has_edit h t ≡ true → has_edit (h ++ g) t ≡ true
 more_there [] g t e = cc
 more_there (o ∷ h) g t e = one (is_edit o && same_stamp (stamp_of o) t) (more_there h g t) e
   where

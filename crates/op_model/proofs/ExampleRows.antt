@@ -5,7 +5,8 @@ use Rattle.op_model.specs.Histories.{History, base}
 use Rattle.op_model.specs.Shown.{text, full}
 use Rattle.op_model.specs.Made.{made, made_undo}
 use Rattle.op_model.specs.Anchors.{left_anchor, right_anchor, place}
-use Rattle.op_model.specs.Anchors.Anchor.{Left, Right}
+use Rattle.op_model.specs.declared.anchor.Anchor.TheVariants.{At}
+use Rattle.op_model.specs.declared.anchor.Bias.TheVariants.{Left, Right}
 use Rattle.op_model.specs.Since.{since}
 use Rattle.op_model.proofs.Worked.{stamp, piece, edit, undo, counts, v0, open_all}
 
@@ -54,8 +55,8 @@ second_merged : (text (base (103 ∷ 111 ∷ []) ∷ insert_a ∷ insert_b ∷ i
 unfolding open_all
 second_merged = (refl, refl)
 
-second_anchors : (left_anchor go 1 ≡ Some (Left (stamp 1 0) 1)) × (right_anchor go 1 ≡ Some (Right (stamp 1 0) 1))
-    × (place (base (103 ∷ 111 ∷ []) ∷ insert_x ∷ insert_a ∷ insert_b ∷ []) (Left (stamp 1 0) 1) ≡ 1)
-    × (place (base (103 ∷ 111 ∷ []) ∷ insert_x ∷ insert_a ∷ insert_b ∷ []) (Right (stamp 1 0) 1) ≡ 4)
+second_anchors : (left_anchor go 1 ≡ Some (At (stamp 1 0) 1 Left)) × (right_anchor go 1 ≡ Some (At (stamp 1 0) 1 Right))
+    × (place (base (103 ∷ 111 ∷ []) ∷ insert_x ∷ insert_a ∷ insert_b ∷ []) (At (stamp 1 0) 1 Left) ≡ 1)
+    × (place (base (103 ∷ 111 ∷ []) ∷ insert_x ∷ insert_a ∷ insert_b ∷ []) (At (stamp 1 0) 1 Right) ≡ 4)
 unfolding open_all
 second_anchors = (refl, refl, refl, refl)

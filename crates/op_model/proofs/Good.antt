@@ -146,7 +146,7 @@ not_true false e = cc
 positive : (x : ℕ) → eqb x 0 ≡ false → 0 < x
 positive x e = grind (arith, nat_tests)
 
-named : (b : Bool) (x : ℕ) → 0 < x → (ltb 0 x && not b) ≡ false → b ≡ true
+pub named : (b : Bool) (x : ℕ) → 0 < x → (ltb 0 x && not b) ≡ false → b ≡ true
 named b x h e = let l : ltb 0 x ≡ true = lt-ltb 0 x h in not_true b (rw l at e)
 
 assemble : (h : History) (op : Operation) → 0 < (stamp_of op).value → Each (λ (x : ℕ × ℕ). leb (stamp_of op).value x.1 ≡ false) (version_of op)

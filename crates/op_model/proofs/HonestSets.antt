@@ -12,7 +12,7 @@ use Rattle.op_model.specs.Domains.{IsReplica}
 use Rattle.op_model.specs.Lawful.{Lawful, Honest}
 use Rattle.op_model.specs.Settled.{full_fault}
 use Rattle.op_model.specs.Steps.{Step, opened, run, settle_step, IsProperStep}
-use Rattle.op_model.specs.Brought.{all_brought}
+use Rattle.op_model.specs.Brought.{all_brought, NoFull}
 use Rattle.op_model.proofs.SameSets.{each_in, newest_same}
 use Rattle.op_model.proofs.Lawful.{in_append}
 use Rattle.op_model.proofs.Good.{lawful_ready, stamp_parts}
@@ -20,7 +20,7 @@ use Rattle.op_model.proofs.MoreLawful.{lawful_more}
 use Rattle.op_model.proofs.VersionLaws.{shaped_good}
 use Rattle.op_model.proofs.Append.{bytes_held-append, entries_held-append}
 use Rattle.op_model.proofs.WholeTexts.{in_more, in_last}
-use Rattle.op_model.proofs.HonestRuns.{Roomy, applied_whole}
+use Rattle.op_model.proofs.HonestRuns.{Roomy, room_enough, applied_whole}
 
 -- ---- the list by stamps has the same operations
 
@@ -97,13 +97,22 @@ roomy l ops g lg f b e h op p i a = holds_more l h op
     own : counted op ≡ entries_of op
     own = rw ((stamp_parts op (shaped_good h op a)).2) refl
 
-pub honest_whole : (l : LimitsType) (r : ℕ) (t : List ℕ) (cs : List Step) (ops : List Operation) → IsReplica r → IsUtf8 t → Each IsProperStep cs
-    → Honest ops → In ops (base t) → bytes_held ops ≤ l.bytes → entries_held ops ≤ l.entries
-    → ((o : Operation) → Member o (all_brought l r cs (opened t)) → In ops o)
-    → ((o : Operation) → In ops o → (o ≡ base t) ⊎ Member o (all_brought l r cs (opened t)))
-    → SameSet (settle_step l (run l r cs (opened t))).history ops
-honest_whole l r t cs ops ir u p ho b bytes entries inside all =
-    let same = oldest_same ops in
-    let room : Roomy l (oldest_first ops) ho = roomy l ops (oldest_first ops) ho (λ o i. (same o).0 i) bytes entries in
-    let whole = applied_whole l r t cs (oldest_first ops) ir u p ho ((same (base t)).1 b) room (λ o m. (same o).1 (inside o m)) (λ o i. all o ((same o).0 i)) in
-    λ o. ((λ i. (same o).0 ((whole o).0 i)), (λ i. (whole o).1 ((same o).1 i)))
+module _ (l : LimitsType) (r : ℕ) (t : List ℕ) (cs : List Step) (ops : List Operation) (ir : IsReplica r) (u : IsUtf8 t) (p : Each IsProperStep cs) (ho : Honest ops) (b : In ops (base t))
+    (inside : (o : Operation) → Member o (all_brought l r cs (opened t)) → In ops o) (all : (o : Operation) → In ops o → (o ≡ base t) ⊎ Member o (all_brought l r cs (opened t))) where
+  abbrev sorted : History
+  sorted = oldest_first ops
+
+  first : In sorted (base t)
+  first = (oldest_same ops (base t)).1 b
+
+  of_sorted : (o : Operation) → Member o (all_brought l r cs (opened t)) → In sorted o
+  of_sorted o m = (oldest_same ops o).1 (inside o m)
+
+  pub honest_applied : NoFull l r cs (opened t) → SameSet (settle_step l (run l r cs (opened t))).history ops
+  honest_applied nf =
+      let same = oldest_same ops in
+      let whole = applied_whole l r t cs sorted ir u p ho first of_sorted nf (λ o i. all o ((same o).0 i)) in
+      λ o. ((λ i. (same o).0 ((whole o).0 i)), (λ i. (whole o).1 ((same o).1 i)))
+
+  pub honest_whole : bytes_held ops ≤ l.bytes → entries_held ops ≤ l.entries → SameSet (settle_step l (run l r cs (opened t))).history ops
+  honest_whole bytes entries = honest_applied (room_enough l r t cs sorted ir u p ho first of_sorted (roomy l ops sorted ho (λ o i. (oldest_same ops o).0 i) bytes entries))

@@ -9,15 +9,17 @@ use Rattle.op_model.specs.Edits.{is_boundary}
 use Rattle.op_model.specs.Histories.{History, Distinct, has_edit}
 use Rattle.op_model.specs.Cells.{Cell, seq, cells}
 use Rattle.op_model.specs.Shown.{texts, new_bytes, IsCell, byte, shown, text}
-use Rattle.op_model.specs.Anchors.{Anchor, shown_cells, right_anchor, is_known}
-use Rattle.op_model.specs.Anchors.Anchor.{Greatest, Right}
+use Rattle.op_model.specs.declared.anchor.Anchor.{Anchor}
+use Rattle.op_model.specs.Anchors.{shown_cells, right_anchor, is_known}
+use Rattle.op_model.specs.declared.anchor.Anchor.TheVariants.{Greatest, At}
+use Rattle.op_model.specs.declared.anchor.Bias.TheVariants.{Right}
 use Rattle.op_model.proofs.CellsOnce.{all_cells}
 use Rattle.op_model.proofs.WholeTexts.{boundary_of, of_boundary}
 use Rattle.op_model.proofs.SameAnswers.{text_is}
 use Rattle.op_model.proofs.AnchorPlaces.{got_member}
 
 -- a stamp with new bytes is that of an edit
-edit_there : (h : History) (t : Lamport) (k : ℕ) → k < length (new_bytes h t) → has_edit h t ≡ true
+pub edit_there : (h : History) (t : Lamport) (k : ℕ) → k < length (new_bytes h t) → has_edit h t ≡ true
 edit_there [] t k l = absurd (omega arith)
 edit_there (Edit e ∷ h) t k l = go (same_stamp e.stamp t) l (edit_there h t k)
   where
@@ -30,7 +32,7 @@ edit_there (Undo u ∷ h) t k l = go (same_stamp u.stamp t) l (edit_there h t k)
     go true l f = absurd (omega arith)
     go false l f = f l
 
-got_map : (g : Cell → ℕ) (s : List Cell) (o : ℕ) (c : Cell) → slice_get s o ≡ Some c → (o < length (map g s)) × (get_or (map g s) o 0 ≡ g c)
+pub got_map : (g : Cell → ℕ) (s : List Cell) (o : ℕ) (c : Cell) → slice_get s o ≡ Some c → (o < length (map g s)) × (get_or (map g s) o 0 ≡ g c)
 got_map g [] o c e = cc
 got_map g (d ∷ s) zero c e = let i : d ≡ c = cc in (omega arith, ap g i)
 got_map g (d ∷ s) (suc o) c e = let k = got_map g s o c e in (let n = k.0 in omega arith, k.1)
@@ -39,10 +41,10 @@ pub right_known : (h : History) → Distinct h → (o : ℕ) (a : Anchor) → is
 unfolding right_anchor is_known
 right_known h d o a b e = at_end (cases_Bool (eqb o (length (text h))))
   where
-    go : (g : Option Cell) → slice_get (shown_cells h) o ≡ g → option_map (λ (c : Cell). Right c.stamp c.k) g ≡ Some a → is_known h a ≡ true
+    go : (g : Option Cell) → slice_get (shown_cells h) o ≡ g → option_map (λ (c : Cell). At c.stamp c.k Right) g ≡ Some a → is_known h a ≡ true
     go None q e = cc
     go (Some c) q e =
-        let i : Right c.stamp c.k ≡ a = cc in
+        let i : At c.stamp c.k Right ≡ a = cc in
         let n : IsCell h c = (all_cells h d c).0 (got_member (shown h) (cells (seq h)) o c q) in
         let m = got_map (byte h) (shown_cells h) o c q in
         let t : text h ≡ map (byte h) (shown_cells h) = text_is h d in

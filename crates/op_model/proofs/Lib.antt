@@ -54,3 +54,13 @@ pub mod AllApplied
 pub mod NeverRefused
 pub mod HonestRuns
 mod HonestSets
+pub mod Causes
+pub mod Appending
+pub mod ClosedVersions
+mod SameVersions
+mod KeptOrder
+mod Followed
+pub mod WholeRuns
+mod WholeWalks
+mod LeftAnchors
+mod SinceBoundaries

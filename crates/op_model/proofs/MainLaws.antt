@@ -1,10 +1,10 @@
 -- The laws of histories, from the lemmas.
-use Rattle.std.proofs.Common.{List, ◌∙◌, true, ◌≡◌, ap, subst}
+use Rattle.std.proofs.Common.{suc, List, [], ◌∷◌, ◌∙◌, true, ◌≡◌, ap, subst}
 use Rattle.op_model.specs.declared.operation.Operation.{Operation}
 use Rattle.op_model.specs.Histories.{History, newest_first}
 use Rattle.op_model.specs.Cells.{Place, everything, cells}
-use Rattle.op_model.specs.Shown.{byte, shown_where, shown, full_where, full}
-use Rattle.op_model.specs.Laws.{SameSetsAgree, PartsAreFiltered, GoodIsLaidIn, ReplayedByStamps, LeftNeighbours, EachCellOnce, DeletersDelete, EditChanges, NewCellsShown, UndoChanges, OneWalk, TextsAreUtf8, BoundariesAreStd, EqualOperationsAreSame, EditsAreGood, UndosAreGood, SettlingEnds, SettlingKeepsLawful, RunsStayLawful, TextsAreShownCells, SameSetsAnswerAlike, AnchorsStandWhereMade, AnchorsStandInOrder, RightAnchorsAreKnown, TwoPassesAreEnough, SetIsNeverRefused, SetIsAppliedWhole, HonestSetsAreApplied}
+use Rattle.op_model.specs.Shown.{new_bytes, byte, shown_where, shown, text, full_where, full}
+use Rattle.op_model.specs.Laws.{SameSetsAgree, PartsAreFiltered, GoodIsLaidIn, ReplayedByStamps, LeftNeighbours, EachCellOnce, DeletersDelete, EditChanges, NewCellsShown, UndoChanges, OneWalk, TextsAreUtf8, BoundariesAreStd, EqualOperationsAreSame, EditsAreGood, UndosAreGood, SettlingEnds, SettlingKeepsLawful, RunsStayLawful, TextsAreShownCells, SameSetsAnswerAlike, AnchorsStandWhereMade, AnchorsStandInOrder, RightAnchorsAreKnown, TwoPassesAreEnough, SetIsNeverRefused, SetIsAppliedWhole, HonestSetsAreApplied, SettlingAppends, RunsAppend, FrontsAreLawful, FrontsAreSeen, ClosedParts, SameSetsRefuseAlike, AnchorsKeepTheirOrder, UndoIsTold, WalksLeaveCells, EditsSinceTellTheChange, HiddenTextsAreUtf8, FactsChangeAtBoundaries, WalksKeepRunsWhole, AnchorsResolve, HonestSetsAreAppliedWhole, EditsSinceAreAtBoundaries, LawfulIsHistory}
 use Rattle.op_model.proofs.SameSets.{newest_of_set, seq_seen}
 use Rattle.op_model.proofs.Parts.{shown_seen}
 use Rattle.op_model.proofs.Bytes.{text_seen, full_seen}
@@ -13,16 +13,19 @@ use Rattle.op_model.proofs.Replayed.{lawful_replay}
 use Rattle.op_model.proofs.Literal.{lawful_places, lawful_deleters}
 use Rattle.op_model.proofs.CellsOnce.{seq_ascends, once, all_cells}
 use Rattle.op_model.proofs.Counted.{lawful_counted}
-use Rattle.op_model.proofs.Changes.{edit_deleters, edit_shown, new_cells, undo_deleters, undo_shown}
+use Rattle.op_model.proofs.Changes.{edit_deleters, edit_shown, new_cells, undo_deleters, undo_shown, told_anew}
 use Rattle.op_model.proofs.OnePass.{walk_seen}
 use Rattle.op_model.proofs.MoreLawful.{lawful_more}
 use Rattle.op_model.proofs.Proper.{utf8, edit_good, undo_good, same_is, is_same}
 use Rattle.op_model.proofs.WholeTexts.{boundary_of, of_boundary}
+use Rattle.op_model.specs.declared.anchor.TextEdit.{TextEdit}
+use Rattle.op_model.specs.Edits.{is_boundary}
+use Rattle.op_model.specs.Since.{since, text_at}
 use Rattle.op_model.specs.Answers.{same_op}
 use Rattle.op_model.specs.Steps.{opened}
 use Rattle.op_model.proofs.Settling.{settled_fixed, settled_misses, settled_lawful, run_holds, opened_holds}
 use Rattle.op_model.proofs.SameAnswers.{text_is, full_is, left_same, right_same, place_same, compare_same, known_same, since_same, text_at_same}
-use Rattle.std.specs.Prelude.{map}
+use Rattle.std.specs.Prelude.{map, IsCharBoundary}
 use Rattle.std.specs.List.{filter}
 use Rattle.op_model.proofs.AnchorPlaces.{left_place, right_place}
 use Rattle.op_model.proofs.AnchorOrder.{in_order}
@@ -30,7 +33,20 @@ use Rattle.op_model.proofs.KnownAnchors.{right_known}
 use Rattle.op_model.proofs.TwoPasses.{two_passes}
 use Rattle.op_model.proofs.NeverRefused.{never_refused}
 use Rattle.op_model.proofs.AllApplied.{all_applied}
-use Rattle.op_model.proofs.HonestSets.{honest_whole}
+use Rattle.op_model.proofs.HonestSets.{honest_applied, honest_whole}
+use Rattle.op_model.proofs.MoreLawful.{lawful_parts}
+use Rattle.op_model.proofs.Appending.{settled_longer, run_grows}
+use Rattle.op_model.proofs.ClosedVersions.{fronts_seen, seen_or_empty, seq_closed, deleters_closed}
+use Rattle.op_model.proofs.KeptOrder.{order_kept}
+use Rattle.op_model.proofs.Followed.{since_told}
+use Rattle.op_model.proofs.SinceBoundaries.{since_bounded}
+use Rattle.op_model.proofs.Insertion.{each_map}
+use Rattle.op_model.proofs.WholeTexts.{lawful_whole}
+use Rattle.op_model.proofs.WholeRuns.{hidden_utf8, told_apart, told_first, told_last}
+use Rattle.op_model.proofs.WholeWalks.{texts_of, walk_cut}
+use Rattle.op_model.proofs.LeftAnchors.{both_resolve}
+use Rattle.op_model.proofs.Walking.{walk_some}
+use Rattle.op_model.proofs.SameVersions.{version_same, since_fault_same, place_fault_same, resolved_same, compared_same}
 
 pub same_sets_agree : SameSetsAgree
 unfolding shown full
@@ -128,4 +144,71 @@ pub set_is_applied_whole : SetIsAppliedWhole
 set_is_applied_whole g h w l f m o i = all_applied g h w l f m o i
 
 pub honest_sets_are_applied : HonestSetsAreApplied
-honest_sets_are_applied l r t cs ops ir u p ho b bytes entries inside all = honest_whole l r t cs ops ir u p ho b bytes entries inside all
+honest_sets_are_applied l r t cs ops ir u p ho b bytes entries inside all = honest_whole l r t cs ops ir u p ho b inside all bytes entries
+
+pub settling_appends : SettlingAppends
+settling_appends l h w = settled_longer l h w
+
+pub runs_append : RunsAppend
+runs_append l r cs s = run_grows l r cs s
+
+pub fronts_are_lawful : FrontsAreLawful
+fronts_are_lawful op h g l = (l.0, (lawful_parts (op ∷ []) h g l.1).0)
+
+pub fronts_are_seen : FrontsAreSeen
+fronts_are_seen h g l m = fronts_seen h g l m
+
+pub closed_parts : ClosedParts
+closed_parts h v l c = ((λ i. seen_or_empty h l v c i), seq_closed h l v c, (λ d. deleters_closed h l v c d))
+
+pub same_sets_refuse_alike : SameSetsRefuseAlike
+same_sets_refuse_alike h g l m s = (
+  version_same h g l m s,
+  (λ v. since_fault_same h g l m s v),
+  (λ o. place_fault_same h g l m s o),
+  (λ a b. (resolved_same h g l m s a, compared_same h g l m s a b)),
+)
+
+pub anchors_keep_their_order : AnchorsKeepTheirOrder
+anchors_keep_their_order h g l m a b i j = order_kept h g l m a b i j
+
+pub undo_is_told : UndoIsTold
+undo_is_told h op l g e = told_anew h op (lawful_ready h l) (lawful_counted h l) g e
+
+pub walks_leave_cells : WalksLeaveCells
+walks_leave_cells m keep t at k ps rs e = walk_some m keep t at k ps rs e
+
+pub edits_since_tell_the_change : EditsSinceTellTheChange
+edits_since_tell_the_change h v l c = since_told h v l c
+
+pub hidden_texts_are_utf8 : HiddenTextsAreUtf8
+hidden_texts_are_utf8 h l e = hidden_utf8 h (lawful_ready h l).0.distinct (lawful_whole h l (texts_of h e))
+
+pub facts_change_at_boundaries : FactsChangeAtBoundaries
+facts_change_at_boundaries h l e =
+    let d = (lawful_ready h l).0.distinct in
+    let u = texts_of h e in
+    let w = lawful_whole h l u in (
+      (λ xs ys p q i n. let k = told_apart h d u w xs ys p q i n in (of_boundary (new_bytes h p.cell.stamp) (suc p.cell.k) k.0, of_boundary (new_bytes h q.cell.stamp) q.cell.k k.1)),
+      (λ ys q i. of_boundary (new_bytes h q.cell.stamp) q.cell.k (told_first h d u w ys q i)),
+      (λ xs p i. of_boundary (new_bytes h p.cell.stamp) (suc p.cell.k) (told_last h d u w xs p i)),
+    )
+
+pub walks_keep_runs_whole : WalksKeepRunsWhole
+walks_keep_runs_whole h op rs l e f g i s t w = walk_cut h op rs l e f g i s t w
+
+pub anchors_resolve : AnchorsResolve
+anchors_resolve h l e o n = both_resolve h l e o n
+
+pub honest_sets_are_applied_whole : HonestSetsAreAppliedWhole
+honest_sets_are_applied_whole l r t cs ops ir u p ho b nf inside all = honest_applied l r t cs ops ir u p ho b inside all nf
+
+pub edits_since_are_at_boundaries : EditsSinceAreAtBoundaries
+edits_since_are_at_boundaries h v l e c = each_map
+    (λ (x : TextEdit). (IsCharBoundary (text_at h v) x.old.0 × IsCharBoundary (text_at h v) x.old.1) × (IsCharBoundary (text h) x.new.0 × IsCharBoundary (text h) x.new.1))
+    (λ (x : TextEdit). (is_boundary (text_at h v) x.old.0 ≡ true) × (is_boundary (text_at h v) x.old.1 ≡ true) × (is_boundary (text h) x.new.0 ≡ true) × (is_boundary (text h) x.new.1 ≡ true))
+    (λ x b. (of_boundary (text_at h v) x.old.0 b.0.0, of_boundary (text_at h v) x.old.1 b.0.1, of_boundary (text h) x.new.0 b.1.0, of_boundary (text h) x.new.1 b.1.1)) (since h v) (since_bounded h l e v c)
+
+pub lawful_is_history : LawfulIsHistory
+lawful_is_history [] l = absurd l
+lawful_is_history (op ∷ ops) l = (l.0, (lawful_ready (op ∷ ops) l).0.distinct)

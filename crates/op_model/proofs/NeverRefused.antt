@@ -1,5 +1,5 @@
 -- An operation of a lawful set is never refused by a history of operations of the set.
-use Rattle.std.proofs.Common.{◌≡◌, ℕ, zero, suc, ◌<◌, ◌≤◌, ◌⊎◌, Bool, List, [], ◌∷◌, ◌++◌, refl, sym, ◌∙◌, ap, subst, inl, inr, true, false, cond, not, ◌&&◌, ltb, arith, append_assoc, Some, None, Option}
+use Rattle.std.proofs.Common.{◌≡◌, ℕ, zero, suc, ◌<◌, ◌≤◌, ◌⊎◌, Bool, List, [], ◌∷◌, ◌++◌, refl, sym, ◌∙◌, ap, subst, inl, inr, true, false, cond, not, ◌&&◌, ltb, arith, Some, None, Option}
 use Rattle.std.specs.Prelude.{option_map, unwrap_or}
 use Rattle.std.specs.List.{find}
 use Rattle.std.proofs.lemmas.Bool.{cases_Bool, and_parts, leb-true, ltb-false, le-ltb, cases_lt}
@@ -25,13 +25,14 @@ use Rattle.op_model.proofs.Lawful.{LawInv, Checked, greatest, entry_version, dis
 use Rattle.op_model.proofs.Passed.{Passed, passed, good, first_past, none_map, map_none, none_when, none_find, find_none}
 use Rattle.op_model.proofs.Good.{checked_of, each_entry, lawful_ready}
 use Rattle.op_model.proofs.MoreLawful.{lawful_more}
+use Rattle.op_model.proofs.Causes.{named_at, lawful_opens}
 use Rattle.op_model.proofs.VersionLaws.{has_greatest}
 use Rattle.op_model.proofs.Proper.{is_same}
 use Rattle.op_model.proofs.SameAnswers.{any_in, any_from, any_same}
 
 -- ---- parts of a history
 
-in_part : (keep : Lamport → Bool) (h : History) (o : Operation) → In (kept keep h) o → In h o × (keep (stamp_of o) ≡ true)
+pub in_part : (keep : Lamport → Bool) (h : History) (o : Operation) → In (kept keep h) o → In h o × (keep (stamp_of o) ≡ true)
 in_part keep [] o i = absurd i
 in_part keep (p ∷ h) o i = go (cases_Bool (keep (stamp_of p))) (in_part keep h o)
   where
@@ -40,7 +41,7 @@ in_part keep (p ∷ h) o i = go (cases_Bool (keep (stamp_of p))) (in_part keep h
         elim j [ inl e ↦ (inl e, subst (λ (x : Operation). keep (stamp_of x) ≡ true) (sym e) k) | inr n ↦ (let w = f n in (inr w.0, w.1)) ]
     go (inr k) f = let w = f (rw k at i) in (inr w.0, w.1)
 
-part_in : (keep : Lamport → Bool) (h : History) (o : Operation) → In h o → keep (stamp_of o) ≡ true → In (kept keep h) o
+pub part_in : (keep : Lamport → Bool) (h : History) (o : Operation) → In h o → keep (stamp_of o) ≡ true → In (kept keep h) o
 part_in keep [] o i k = absurd i
 part_in keep (p ∷ h) o i k = go (cases_Bool (keep (stamp_of p))) (λ n. part_in keep h o n k)
   where
@@ -62,42 +63,6 @@ full_of_set : (h g : History) → Distinct h → Distinct g → SameSet h g → 
 unfolding full
 full_of_set h g d e s = ap (full_where everything) (newest_of_set h g d e s)
 
--- ---- what a lawful history has seen is in it
-
-abbrev NamedIn : History → Operation → Type 0
-NamedIn h o = (r : ℕ) → 0 < entry (version_of o) r → (m : Operation) × In h m × (stamp_of m ≡ record { value = entry (version_of o) r; replica = r })
-
-in_longer : (h : History) (op o : Operation) → In h o → In (h ++ op ∷ []) o
-in_longer [] op o i = absurd i
-in_longer (p ∷ h) op o i = elim i [ inl e ↦ inl e | inr n ↦ inr (in_longer h op o n) ]
-
-named_from : (h : History) (ops : List Operation) → ((o : Operation) → In h o → NamedIn h o) → LawfulFrom h ops → (o : Operation) → In (h ++ ops) o → NamedIn (h ++ ops) o
-named_from h [] f l = subst (λ (x : History). (o : Operation) → In x o → NamedIn x o) (sym (nil h)) f
-  where
-    nil : (g : History) → g ++ [] ≡ g
-    nil [] = refl
-    nil (o ∷ g) = ap (λ (x : History). o ∷ x) (nil g)
-named_from h (op ∷ ops) f l = subst (λ (x : History). (o : Operation) → In x o → NamedIn x o) (append_assoc h (op ∷ []) ops) (named_from (h ++ op ∷ []) ops one l.1)
-  where
-    longer : (o : Operation) → NamedIn h o → NamedIn (h ++ op ∷ []) o
-    longer o n r p = let w = n r p in (w.0, in_longer h op w.0 w.1, w.2)
-
-    own : NamedIn h op
-    own r p = let w = (checked_of h op l.0).0.closed r p in (w.0, w.1, w.2)
-
-    one : (o : Operation) → In (h ++ op ∷ []) o → NamedIn (h ++ op ∷ []) o
-    one o i = elim (in_append h op o i) [ inl j ↦ longer o (f o j) | inr e ↦ longer o (subst (NamedIn h) (sym e) own) ]
-
-lawful_named : (h : History) → Lawful h → (o : Operation) → In h o → NamedIn h o
-lawful_named [] l = absurd l
-lawful_named (op ∷ ops) l = named_from (op ∷ []) ops none l.1
-  where
-    none : (o : Operation) → In (op ∷ []) o → NamedIn (op ∷ []) o
-    none o i r p = elim i [
-      | inl e ↦ (let z : entry (version_of o) r ≡ 0 = ap (λ (x : Operation). entry (version_of x) r) (e ∙ l.0.1) in absurd (omega arith))
-      | inr n ↦ absurd n
-    ]
-
 stamp_is : (s t : Lamport) → s.value ≡ t.value → s.replica ≡ t.replica → s ≡ t
 stamp_is s t e f = λ i. record { value = e i; replica = f i }
 
@@ -118,7 +83,7 @@ module _ (g : History) (lg : Lawful g) where
     down (suc n) m o b i j s =
         let p = positive o j in
         let x : ℕ = entry (version_of m) (stamp_of o).replica in
-        let w = lawful_named h lh m i (stamp_of o).replica (omega arith) in
+        let w = named_at h (version_of m) (lawful_opens h lh m i) (stamp_of o).replica (omega arith) in
         let v : (stamp_of w.0).value ≡ x = ap (λ (t : Lamport). t.value) w.2 in
         let r : (stamp_of w.0).replica ≡ (stamp_of o).replica = ap (λ (t : Lamport). t.replica) w.2 in
         let a = low.above m i (stamp_of o).replica in

@@ -12,8 +12,10 @@ use Rattle.op_model.specs.Histories.{History, In, SameSet, Distinct, has_edit, n
 use Rattle.op_model.specs.Cells.{Cell, Place, everything, seq_where, seq, cells}
 use Rattle.op_model.specs.Shown.{texts, new_bytes, byte, shown_where, shown, text, text_where, full, full_where}
 use Rattle.op_model.specs.Lawful.{Lawful}
-use Rattle.op_model.specs.Anchors.{Anchor, left_anchor, right_anchor, place, gap, compare_anchors, is_known}
-use Rattle.op_model.specs.Anchors.Anchor.{Least, Greatest, Left, Right}
+use Rattle.op_model.specs.declared.anchor.Anchor.{Anchor}
+use Rattle.op_model.specs.Anchors.{left_anchor, right_anchor, place, gap, compare_anchors, is_known}
+use Rattle.op_model.specs.declared.anchor.Anchor.TheVariants.{Least, Greatest, At}
+use Rattle.op_model.specs.declared.anchor.Bias.TheVariants.{Left, Right}
 use Rattle.op_model.specs.Since.{Fate, fate, was_shown, fates, since, text_at}
 use Rattle.op_model.proofs.PathOrder.{same_stamp_eq, same_stamp_refl}
 use Rattle.op_model.proofs.SameSets.{newest_of_set, newest_same}
@@ -101,7 +103,7 @@ has_stamp (o ∷ h) t = go (cases_Bool (same_stamp (stamp_of o) t)) (has_stamp h
         other : stamp_of o ≡ t → same_stamp (stamp_of o) t ≡ false → ⊥
         other q e = let f : same_stamp t t ≡ false = subst (λ (x : Lamport). same_stamp x t ≡ false) q e in let g = same_stamp_refl t in cc
 
-bytes_same : (h g : History) → Distinct h → Distinct g → SameSet h g → (t : Lamport) → new_bytes h t ≡ new_bytes g t
+pub bytes_same : (h g : History) → Distinct h → Distinct g → SameSet h g → (t : Lamport) → new_bytes h t ≡ new_bytes g t
 bytes_same h g d e s t = elim (has_stamp h t) [
   | inl w ↦ subst (λ (x : Lamport). new_bytes h x ≡ new_bytes g x) w.2 (bytes_of_one h w.0 d w.1 ∙ sym (bytes_of_one g w.0 e ((s w.0).0 w.1)))
   | inr n ↦ no_bytes h t n ∙ sym (no_bytes g t (λ o i q. n o ((s o).1 i) q))
@@ -140,15 +142,15 @@ module _ (h g : History) (l : Lawful h) (m : Lawful g) (s : SameSet h g) where
   unfolding place
   place_same Least = refl
   place_same Greatest = ap length texts_same
-  place_same (Left t k) = rw (shows, seqs) refl
-  place_same (Right t k) = rw (shows, seqs) refl
+  place_same (At t k Left) = rw (shows, seqs) refl
+  place_same (At t k Right) = rw (shows, seqs) refl
 
   pub gap_same : (a : Anchor) → gap h a ≡ gap g a
   unfolding gap
   gap_same Least = refl
   gap_same Greatest = rw seqs refl
-  gap_same (Left t k) = rw seqs refl
-  gap_same (Right t k) = rw seqs refl
+  gap_same (At t k Left) = rw seqs refl
+  gap_same (At t k Right) = rw seqs refl
 
   pub compare_same : (a b : Anchor) → compare_anchors h a b ≡ compare_anchors g a b
   unfolding compare_anchors
@@ -158,8 +160,8 @@ module _ (h g : History) (l : Lawful h) (m : Lawful g) (s : SameSet h g) where
   unfolding is_known
   known_same Least = refl
   known_same Greatest = refl
-  known_same (Left t k) = rw (edits t, bytes t) refl
-  known_same (Right t k) = rw (edits t, bytes t) refl
+  known_same (At t k Left) = rw (edits t, bytes t) refl
+  known_same (At t k Right) = rw (edits t, bytes t) refl
 
   was : (v : Entries) (c : Cell) → was_shown h v c ≡ was_shown g v c
   was v c = ap (λ (b : Bool). sees v c.stamp && b) (shown_seen h v c ∙ ap (λ (x : History). shown_where (sees v) x c) newest ∙ sym (shown_seen g v c))

@@ -223,7 +223,7 @@ not_waits h w op r v m e = unwrapped (objection h w op) (Waits r v) (λ q. cc) (
     none : first_missing h (version_of op) ≡ None → option_map (λ (e : ℕ × ℕ). Waits e.0 e.1) (first_missing h (version_of op)) ≡ Some (Waits r v) → ⊥
     none m q = let z : option_map (λ (e : ℕ × ℕ). Waits e.0 e.1) None ≡ Some (Waits r v) = subst (λ (o : Option (ℕ × ℕ)). option_map (λ (e : ℕ × ℕ). Waits e.0 e.1) o ≡ Some (Waits r v)) m q in cc
 
-within_none : (h : History) (v : Entries) → within v (version h) ≡ true → first_missing h v ≡ None
+pub within_none : (h : History) (v : Entries) → within v (version h) ≡ true → first_missing h v ≡ None
 within_none h v e = none_find (λ e. ltb (entry (version h) e.0) e.1) v (go v e)
   where
     go : (u : Entries) → within u (version h) ≡ true → Each (λ (e : ℕ × ℕ). ltb (entry (version h) e.0) e.1 ≡ false) u

@@ -1,8 +1,11 @@
 -- What worked histories show. Letters: a 97, b 98, c 99, d 100, P 80, Q 81, R 82, X 88, Y 89.
 use Rattle.std.proofs.Common.{◌≡◌, [], ◌∷◌, refl, true, false}
 use Rattle.op_model.specs.declared.operation.Operation.{Operation}
+use Rattle.std.specs.List.{filter}
+use Rattle.op_model.specs.Operations.{version_of}
 use Rattle.op_model.specs.Histories.{History, base, seen}
-use Rattle.op_model.specs.Shown.{text, count, undone, deleters, deleted}
+use Rattle.op_model.specs.Cells.{seq, cells}
+use Rattle.op_model.specs.Shown.{text, count, undone, deleters, deletes}
 use Rattle.op_model.specs.Made.{made, made_undo}
 use Rattle.op_model.specs.Since.{since, text_at}
 use Rattle.op_model.proofs.Worked.{stamp, piece, edit, undo, counts, v0, open_all}
@@ -93,7 +96,7 @@ delete_over_hidden_text : text twice_deleted ≡ 98 ∷ []
 unfolding open_all
 delete_over_hidden_text = refl
 
-delete_over_hidden_cells : deleted twice_deleted delete_over_hidden ≡ record { stamp = stamp 1 0; k = 0 } ∷ record { stamp = stamp 1 0; k = 2 } ∷ []
+delete_over_hidden_cells : filter (deletes twice_deleted delete_over_hidden) (cells (seq (seen twice_deleted (version_of delete_over_hidden)))) ≡ record { stamp = stamp 1 0; k = 0 } ∷ record { stamp = stamp 1 0; k = 2 } ∷ []
 unfolding open_all
 delete_over_hidden_cells = refl
 

@@ -21,12 +21,12 @@ pub map_append : {A C : Type 0} (f : A → C) (xs ys : List A) → map f (xs ++ 
 map_append f [] ys = refl
 map_append f (x ∷ xs) ys = ap (λ z. f x ∷ z) (map_append f xs ys)
 
-take_front : {A : Type 0} (xs ys : List A) (n : ℕ) → n ≡ length xs → take n (xs ++ ys) ≡ xs
+pub take_front : {A : Type 0} (xs ys : List A) (n : ℕ) → n ≡ length xs → take n (xs ++ ys) ≡ xs
 take_front [] ys n e = rw e refl
 take_front (x ∷ xs) ys zero e = absurd (omega arith)
 take_front (x ∷ xs) ys (suc n) e = ap (λ z. x ∷ z) (take_front xs ys n (omega arith))
 
-drop_front : {A : Type 0} (xs ys : List A) (n : ℕ) → n ≡ length xs → drop n (xs ++ ys) ≡ ys
+pub drop_front : {A : Type 0} (xs ys : List A) (n : ℕ) → n ≡ length xs → drop n (xs ++ ys) ≡ ys
 drop_front [] ys n e = rw e refl
 drop_front (x ∷ xs) ys zero e = absurd (omega arith)
 drop_front (x ∷ xs) ys (suc n) e = drop_front xs ys n (omega arith)
@@ -52,7 +52,7 @@ get_drop [] (suc a) n m e = refl
 get_drop (x ∷ xs) (suc a) zero m e = absurd (omega arith)
 get_drop (x ∷ xs) (suc a) (suc n) m e = get_drop xs a n m (omega arith)
 
-length_drop : (xs : List ℕ) (a : ℕ) → length (drop a xs) ≡ length xs - a
+pub length_drop : (xs : List ℕ) (a : ℕ) → length (drop a xs) ≡ length xs - a
 length_drop xs zero = omega arith
 length_drop [] (suc a) = omega arith
 length_drop (x ∷ xs) (suc a) = let e = length_drop xs a in omega arith

@@ -1,5 +1,5 @@
 -- What the version and the clock of a lawful history say of its operations.
-use Rattle.std.proofs.Common.{◌≡◌, ℕ, suc, ◌+◌, ◌<◌, ◌≤◌, ◌⊎◌, max, min, Bool, List, [], ◌∷◌, ◌++◌, refl, sym, ap, subst, inl, inr, true, false, ◌||◌, eqb, ltb, leb, arith, append_assoc}
+use Rattle.std.proofs.Common.{◌≡◌, ℕ, suc, ◌+◌, ◌<◌, ◌≤◌, ◌⊎◌, max, min, Bool, List, [], ◌∷◌, ◌++◌, refl, sym, ap, subst, inl, inr, true, false, ◌||◌, eqb, ltb, leb, arith}
 use Rattle.std.proofs.lemmas.Bool.{cases_Bool, eqb-true, leb-false, ltb-false, le-leb, cases_lt}
 use Rattle.std.proofs.lemmas.Bool.Decides.{nat_tests}
 use Rattle.std.specs.List.{list_any}
@@ -15,8 +15,9 @@ use Rattle.op_model.specs.Answers.{answer, bad_stamp}
 use Rattle.op_model.specs.Answers.Answer.{Good}
 use Rattle.op_model.specs.Lawful.{Lawful, LawfulFrom}
 use Rattle.op_model.proofs.Insertion.{each_map}
-use Rattle.op_model.proofs.Lawful.{greatest, entry_version, greatest_in, greatest_more, each_of_in, in_append}
+use Rattle.op_model.proofs.Lawful.{greatest, entry_version, greatest_in, greatest_more, each_of_in}
 use Rattle.op_model.proofs.Passed.{passed, shaped, find_none, or_parts, any_none}
+use Rattle.op_model.proofs.MoreLawful.{each_of_lawful}
 
 -- ---- the clock
 
@@ -156,27 +157,8 @@ caused_good h o e = each_map (λ (x : ℕ × ℕ). ltb (entry (version h) x.0) x
 caused_more : (h : History) (op o : Operation) → Caused h o → Caused (h ++ op ∷ []) o
 caused_more h op o c = each_map (λ (x : ℕ × ℕ). x.1 ≤ greatest h x.0) (λ (x : ℕ × ℕ). x.1 ≤ greatest (h ++ op ∷ []) x.0) (λ x n. (let g = greatest_more h op x.0 in omega arith)) (version_of o) c
 
-caused_from : (h : History) (ops : List Operation) → ((o : Operation) → In h o → Caused h o) → LawfulFrom h ops → (o : Operation) → In (h ++ ops) o → Caused (h ++ ops) o
-caused_from h [] f l = subst (λ (x : History). (o : Operation) → In x o → Caused x o) (sym (nil h)) f
-  where
-    nil : (g : History) → g ++ [] ≡ g
-    nil [] = refl
-    nil (o ∷ g) = ap (λ (x : History). o ∷ x) (nil g)
-caused_from h (op ∷ ops) f l = subst (λ (x : History). (o : Operation) → In x o → Caused x o) (append_assoc h (op ∷ []) ops)
-    (caused_from (h ++ op ∷ []) ops one l.1)
-  where
-    one : (o : Operation) → In (h ++ op ∷ []) o → Caused (h ++ op ∷ []) o
-    one o i = elim (in_append h op o i) [
-      | inl j ↦ caused_more h op o (f o j)
-      | inr e ↦ caused_more h op o (subst (Caused h) (sym e) (caused_good h op l.0))
-    ]
-
 pub lawful_caused : (h : History) → Lawful h → (o : Operation) → In h o → Caused h o
-lawful_caused [] l = absurd l
-lawful_caused (op ∷ ops) l = caused_from (op ∷ []) ops none l.1
-  where
-    none : (o : Operation) → In (op ∷ []) o → Caused (op ∷ []) o
-    none o i = elim i [ inl e ↦ subst (Caused (op ∷ [])) (sym e) (subst (λ (x : Operation). Each (λ (y : ℕ × ℕ). y.1 ≤ greatest (op ∷ []) y.0) (version_of x)) (sym l.0.1) tt) | inr n ↦ absurd n ]
+lawful_caused h l o i = each_of_lawful Caused (λ t. tt) (λ g op a. caused_more g op op (caused_good g op a)) caused_more h l o i
 
 pub caused_within : (h : History) (o : Operation) → Caused h o → within (version_of o) (version h) ≡ true
 caused_within h o c = go (version_of o) c

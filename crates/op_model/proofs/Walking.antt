@@ -8,6 +8,7 @@ use Rattle.op_model.specs.Sorted.{Each}
 use Rattle.op_model.specs.Shown.{in_pieces}
 use Rattle.op_model.specs.Facts.{Fact, alike, Marking, lay_facts, mark, marks}
 use Rattle.op_model.specs.Walked.{Run, facts_of, kept_len, Ordered, back, Walked, advance, skip_later, placed, walk}
+use Rattle.op_model.proofs.Restricted.{each_append}
 use Rattle.op_model.proofs.Facts.{From, from_after, from_down, Stops, run_kept, run_unkept, run_later, step_piece, marks_none}
 
 no_or : (b : Bool) → b ≡ false → (c : Bool) → (c || b) ≡ c
@@ -37,6 +38,49 @@ pub run_add : (u : Lamport) (o m n : ℕ) (v : Bool) (d : List Lamport) (l : ℕ
 run_add u o zero n v d l i = let e : l ≡ n = omega arith in let g : o + 0 ≡ o = omega arith in rw (e, g) refl
 run_add u o (suc m) n v d l i = let e : l ≡ suc (m + n) = omega arith in let g : o + suc m ≡ suc o + m = omega arith in
     rw (e, g) (ap (λ (x : List Fact). record { cell = record { stamp = u; k = o }; visible = v; deletions = d } ∷ x) (run_add u (suc o) m n v d (m + n) refl))
+
+-- ---- no run without a cell
+
+abbrev Filled : List Run → Type 0
+Filled rs = Each (λ (r : Run). 0 < r.len) rs
+
+advance_some : (m : Marking) (keep : Lamport → Bool) (b : Bool) (n : ℕ) (rs : List Run) → Filled rs → Filled (advance m keep b n rs).out × Filled (advance m keep b n rs).rest
+advance_some m keep b zero rs e = (tt, e)
+advance_some m keep b (suc n) [] e = (tt, tt)
+advance_some m keep b (suc n) (r ∷ rs) e = go (cases_Bool (keep r.stamp)) (cases_Bool (leb r.len (suc n))) (λ k. advance_some m keep b k rs e.1)
+  where
+    go : (keep r.stamp ≡ true) ⊎ (keep r.stamp ≡ false) → (leb r.len (suc n) ≡ true) ⊎ (leb r.len (suc n) ≡ false)
+        → ((k : ℕ) → Filled (advance m keep b k rs).out × Filled (advance m keep b k rs).rest)
+        → Filled (advance m keep b (suc n) (r ∷ rs)).out × Filled (advance m keep b (suc n) (r ∷ rs)).rest
+    go (inl k) (inl l) f = let w = f (suc n - r.len) in rw (k, l) ((e.0, w.0), w.1)
+    go (inl k) (inr l) f = let g = leb-false r.len (suc n) l in rw (k, l) (((omega arith), tt), ((omega arith), e.1))
+    go (inr k) l f = let w = f (suc n) in rw k ((e.0, w.0), w.1)
+
+skip_some : (t : Lamport) (rs : List Run) → Filled rs → Filled (skip_later t rs).out × Filled (skip_later t rs).rest
+skip_some t [] e = (tt, tt)
+skip_some t (r ∷ rs) e = elim (cases_Bool (later r.stamp t)) [ inl l ↦ (let w = skip_some t rs e.1 in rw l ((e.0, w.0), w.1)) | inr l ↦ rw l (tt, e) ]
+
+placed_some : (t : Lamport) (k n : ℕ) → Filled (placed t k n)
+placed_some t k zero = tt
+placed_some t k (suc n) = (omega arith, tt)
+
+pub walk_some : (m : Marking) (keep : Lamport → Bool) (t : Lamport) (at k : ℕ) (ps : List Piece) (rs : List Run) → Filled rs → Filled (walk m keep t at k ps rs)
+walk_some m keep t at k [] rs e = e
+walk_some m keep t at k (p ∷ ps) rs e =
+    let a : Walked = advance m keep false (p.start - at) rs in
+    let s : Walked = skip_later t a.rest in
+    let d : Walked = advance m keep true (p.end - p.start) s.rest in
+    let x = advance_some m keep false (p.start - at) rs e in
+    let y = skip_some t a.rest x.1 in
+    let z = advance_some m keep true (p.end - p.start) s.rest y.1 in
+    let is : Run → Type 0 = λ (r : Run). 0 < r.len in
+    each_append is (a.out ++ (s.out ++ (placed t k (length p.text) ++ d.out))) (walk m keep t p.end (k + length p.text) ps d.rest)
+    (each_append is a.out (s.out ++ (placed t k (length p.text) ++ d.out)) x.0
+    (each_append is s.out (placed t k (length p.text) ++ d.out) y.0
+    (each_append is (placed t k (length p.text)) d.out (placed_some t k (length p.text)) z.0)))
+    (walk_some m keep t p.end (k + length p.text) ps d.rest z.1)
+
+-- ---- all pieces laid in
 
 module _ (mk : Marking) (keep : Lamport → Bool) (t : Lamport) where
   module _ (hit : ℕ → Bool) where
@@ -126,10 +170,6 @@ module _ (mk : Marking) (keep : Lamport → Bool) (t : Lamport) where
       skip_kept [] = refl
       skip_kept (x ∷ fs) = elim (cases_Bool (later x.stamp t)) [ inl l ↦ (let u = newer_unkept x.stamp l in rw (l, u) (skip_kept fs)) | inr l ↦ rw l refl ]
 
-      skip_some : (fs : List Run) → Each (λ (x : Run). 0 < x.len) fs → Each (λ (x : Run). 0 < x.len) (skip_later t fs).rest
-      skip_some [] e = tt
-      skip_some (x ∷ fs) e = elim (cases_Bool (later x.stamp t)) [ inl l ↦ rw l (skip_some fs e.1) | inr l ↦ rw l e ]
-
       advance_kept : (b : Bool) (n : ℕ) (fs : List Run) → n ≤ kept_len keep fs → kept_len keep (advance mk keep b n fs).rest + n ≡ kept_len keep fs
       advance_kept b zero fs h = omega arith
       advance_kept b (suc n) [] h = absurd (omega arith)
@@ -143,20 +183,6 @@ module _ (mk : Marking) (keep : Lamport → Bool) (t : Lamport) where
               → kept_len keep (advance mk keep b (suc n) (x ∷ fs)).rest + suc n ≡ kept_len keep (x ∷ fs)
           long kp g (inl l) ih = let m = leb-true x.len (suc n) l in let q = ih (omega arith) in rw (kp, l) (omega arith)
           long kp g (inr l) ih = let m = leb-false x.len (suc n) l in rw (kp, l, kp) (omega arith)
-
-      advance_some : (b : Bool) (n : ℕ) (fs : List Run) → Each (λ (x : Run). 0 < x.len) fs → Each (λ (x : Run). 0 < x.len) (advance mk keep b n fs).rest
-      advance_some b zero fs e = e
-      advance_some b (suc n) [] e = tt
-      advance_some b (suc n) (x ∷ fs) e = elim (cases_Bool (keep x.stamp)) [
-        | inl kp ↦ long kp (cases_Bool (leb x.len (suc n))) (advance_some b (suc n - x.len) fs e.1)
-        | inr kp ↦ rw kp (advance_some b (suc n) fs e.1)
-      ]
-        where
-          long : keep x.stamp ≡ true → (leb x.len (suc n) ≡ true) ⊎ (leb x.len (suc n) ≡ false)
-              → Each (λ (y : Run). 0 < y.len) (advance mk keep b (suc n - x.len) fs).rest
-              → Each (λ (y : Run). 0 < y.len) (advance mk keep b (suc n) (x ∷ fs)).rest
-          long kp (inl l) ih = rw (kp, l) ih
-          long kp (inr l) ih = let m = leb-false x.len (suc n) l in rw (kp, l) (omega arith, e.1)
 
       facts_append : (xs ys : List Run) → facts_of (xs ++ ys) ≡ facts_of xs ++ facts_of ys
       facts_append [] ys = refl
@@ -205,9 +231,9 @@ module _ (mk : Marking) (keep : Lamport → Bool) (t : Lamport) where
           let ka : kept_len keep a.rest + (p.start - at) ≡ kept_len keep fs = advance_kept false (p.start - at) fs (omega arith) in
           let kb : kept_len keep b.rest ≡ kept_len keep a.rest = skip_kept a.rest in
           let kd : kept_len keep d.rest + (p.end - p.start) ≡ kept_len keep b.rest = advance_kept true (p.end - p.start) b.rest (omega arith) in
-          let ea = advance_some false (p.start - at) fs e in
-          let eb = skip_some a.rest ea in
-          let ed = advance_some true (p.end - p.start) b.rest eb in
+          let ea = (advance_some mk keep false (p.start - at) fs e).1 in
+          let eb = (skip_some t a.rest ea).1 in
+          let ed = (advance_some mk keep true (p.end - p.start) b.rest eb).1 in
           let fr : From p.end ps = from_ordered p.end (at + kept_len keep fs) ps o.2 in
           let s1 = advance_lays false (p.start - at) at p.start k (p ∷ ps) fs (omega arith) (omega arith) (omega arith, from_down p.start p.end ps (omega arith) fr)
           (λ i x y. f i x ∙ out_of i p.start (p ∷ ps) y (omega arith, from_down p.start p.end ps o1 fr)) in

@@ -104,11 +104,11 @@ pub same_bytes : (f g : Cell → ℕ) (s : List Fact) → Each (λ (q : Fact). f
 same_bytes f g [] e = refl
 same_bytes f g (q ∷ s) e = ap (λ x. x ∷ bytes f s) e.0 ∙ ap (λ z. g q.cell ∷ z) (same_bytes f g s e.1)
 
-each_left : {A : Type 0} (P : A → Type 0) (xs ys : List A) → Each P (xs ++ ys) → Each P xs
+pub each_left : {A : Type 0} (P : A → Type 0) (xs ys : List A) → Each P (xs ++ ys) → Each P xs
 each_left P [] ys e = tt
 each_left P (x ∷ xs) ys e = (e.0, each_left P xs ys e.1)
 
-each_right : {A : Type 0} (P : A → Type 0) (xs ys : List A) → Each P (xs ++ ys) → Each P ys
+pub each_right : {A : Type 0} (P : A → Type 0) (xs ys : List A) → Each P (xs ++ ys) → Each P ys
 each_right P [] ys e = e
 each_right P (x ∷ xs) ys e = each_right P xs ys e.1
 
@@ -143,18 +143,18 @@ empty_run r e = go r.len e
     go zero i = refl
     go (suc n) i = let t : leb 1 (suc n) ≡ true = le-leb 1 (suc n) (omega arith) in cc
 
-some_facts : (rs : List Run) → facts_of (some_runs rs) ≡ facts_of rs
+pub some_facts : (rs : List Run) → facts_of (some_runs rs) ≡ facts_of rs
 some_facts [] = refl
 some_facts (r ∷ rs) = elim (cases_Bool (leb 1 r.len)) [
   | inl e ↦ rw e (ap (λ z. run_facts r ++ z) (some_facts rs))
   | inr e ↦ rw e (some_facts rs ∙ ap (λ z. z ++ facts_of rs) (sym (empty_run r e)))
 ]
 
-some_some : (rs : List Run) → Each (λ (r : Run). 0 < r.len) (some_runs rs)
+pub some_some : (rs : List Run) → Each (λ (r : Run). 0 < r.len) (some_runs rs)
 some_some [] = tt
 some_some (r ∷ rs) = elim (cases_Bool (leb 1 r.len)) [ inl e ↦ rw e (leb-true 1 r.len e, some_some rs) | inr e ↦ rw e (some_some rs) ]
 
-some_utf8 : (f : Cell → ℕ) (rs : List Run) → Utf8 f rs → Utf8 f (some_runs rs)
+pub some_utf8 : (f : Cell → ℕ) (rs : List Run) → Utf8 f rs → Utf8 f (some_runs rs)
 some_utf8 f [] u = tt
 some_utf8 f (r ∷ rs) u = elim (cases_Bool (leb 1 r.len)) [ inl e ↦ rw e (u.0, some_utf8 f rs u.1) | inr e ↦ rw e (some_utf8 f rs u.1) ]
 
@@ -234,29 +234,25 @@ kept_full h op f rs e =
     sym (facts_kept (byte_of h) v rs) ∙ ap (λ (s : List Fact). bytes (byte_of h) (filter (λ (q : Fact). v q.cell.stamp) s)) e ∙ kept_told h v (seq h)
     ∙ ap (λ (s : List Place). map (byte_of h) (cells s)) (restrict v (newest_first h) f.closed) ∙ sym (full_seen h (version_of op))
 
-whole_edit : (h : History) (op : Operation) → Ready h → Counted h → Whole h → answer h [] op ≡ Good → is_edit op ≡ true → Each (λ (p : Piece). IsUtf8 p.text) (pieces_of op) → Whole (h ++ op ∷ [])
-whole_edit h op r c w g e u =
+-- a walk over runs of UTF-8 makes runs of UTF-8
+pub walk_whole : (h : History) (op : Operation) (rs : List Run) → Ready h → answer h [] op ≡ Good → Each (λ (p : Piece). IsUtf8 p.text) (pieces_of op) → facts_of rs ≡ told h → Utf8 (byte_of h) rs
+    → Utf8 (byte_of (h ++ op ∷ [])) (walk (edit_marking (stamp_of op) (kept (sees (version_of op)) (newest_first h)) (version_of op)) (sees (version_of op)) (stamp_of op) 0 0 (pieces_of op) rs)
+walk_whole h op rs r g u t w =
     let k = checked_of h op g in
     let f : Fits h op = fits_of h op r.0 k.0 k.1 in
     let h2 : History = h ++ op ∷ [] in
     let d2 : Distinct h2 = (good_more h op r g).0.0.distinct in
-    let rs : List Run = some_runs w.runs in
-    let t : facts_of rs ≡ told h = some_facts w.runs ∙ w.tell in
     let nu : (x : Lamport) → later x (stamp_of op) ≡ true → sees (version_of op) x ≡ false = λ x. passed_unseen (version_of op) (stamp_of op) x f.above in
     let m : Marking = edit_marking (stamp_of op) (kept (sees (version_of op)) (newest_first h)) (version_of op) in
     let kb : kept_bytes (byte_of h) (sees (version_of op)) rs ≡ full (seen h (version_of op)) = kept_full h op f rs t in
     let a = bytes_told h op r.0.distinct d2 in
     let ag : Each (λ (q : Fact). byte_of h q.cell ≡ byte_of h2 q.cell) (facts_of rs) = subst (λ (s : List Fact). Each (λ (q : Fact). byte_of h q.cell ≡ byte_of h2 q.cell) s) (sym t) a in
-    let u2 : Utf8 (byte_of h2) rs = utf8_agree (byte_of h) (byte_of h2) rs ag (some_utf8 (byte_of h) w.runs w.utf8) in
+    let u2 : Utf8 (byte_of h2) rs = utf8_agree (byte_of h) (byte_of h2) rs ag w in
     let kb2 : kept_bytes (byte_of h2) (sees (version_of op)) rs ≡ full (seen h (version_of op)) = sym (kept_agree (byte_of h) (byte_of h2) (sees (version_of op)) rs ag) ∙ kb in
     let o = good_ordered h op g in
-    record {
-      runs = walk m (sees (version_of op)) (stamp_of op) 0 0 (pieces_of op) rs;
-      tell = walk_told h op rs r c g e (some_some w.runs) t;
-      utf8 = walk_utf8 (byte_of h2) m (sees (version_of op)) (stamp_of op) nu (full (seen h (version_of op))) (length (seq_where (sees (version_of op)) (newest_first h))) 0 0 (pieces_of op) rs kb2 o
-          (bounds_of (full (seen h (version_of op))) (pieces_of op) (ranged (full (seen h (version_of op))) (pieces_of op) (passed h [] op g).ranges).1)
-          (new_utf8 (byte_of h2) m (sees (version_of op)) (stamp_of op) nu (texts (pieces_of op)) (λ n. byte_is h2 d2 op (in_last h op) n) [] (pieces_of op) 0 refl refl u) u2;
-    }
+    walk_utf8 (byte_of h2) m (sees (version_of op)) (stamp_of op) nu (full (seen h (version_of op))) (length (seq_where (sees (version_of op)) (newest_first h))) 0 0 (pieces_of op) rs kb2 o
+    (bounds_of (full (seen h (version_of op))) (pieces_of op) (ranged (full (seen h (version_of op))) (pieces_of op) (passed h [] op g).ranges).1)
+    (new_utf8 (byte_of h2) m (sees (version_of op)) (stamp_of op) nu (texts (pieces_of op)) (λ n. byte_is h2 d2 op (in_last h op) n) [] (pieces_of op) 0 refl refl u) u2
   where
     kept_agree : (x y : Cell → ℕ) (keep : Lamport → Bool) (s : List Run) → Each (λ (q : Fact). x q.cell ≡ y q.cell) (facts_of s) → kept_bytes x keep s ≡ kept_bytes y keep s
     kept_agree x y keep [] e = refl
@@ -264,6 +260,16 @@ whole_edit h op r c w g e u =
       same_bytes x y (run_facts r) (each_left (λ (q : Fact). x q.cell ≡ y q.cell) (run_facts r) (facts_of s) e),
       kept_agree x y keep s (each_right (λ (q : Fact). x q.cell ≡ y q.cell) (run_facts r) (facts_of s) e),
     ) refl
+
+whole_edit : (h : History) (op : Operation) → Ready h → Counted h → Whole h → answer h [] op ≡ Good → is_edit op ≡ true → Each (λ (p : Piece). IsUtf8 p.text) (pieces_of op) → Whole (h ++ op ∷ [])
+whole_edit h op r c w g e u =
+    let rs : List Run = some_runs w.runs in
+    let t : facts_of rs ≡ told h = some_facts w.runs ∙ w.tell in
+    record {
+      runs = walk (edit_marking (stamp_of op) (kept (sees (version_of op)) (newest_first h)) (version_of op)) (sees (version_of op)) (stamp_of op) 0 0 (pieces_of op) rs;
+      tell = walk_told h op rs r c g e (some_some w.runs) t;
+      utf8 = walk_whole h op rs r g u t (some_utf8 (byte_of h) w.runs w.utf8);
+    }
 
 set_anew : History → Run → Run
 set_anew e r = record { stamp = r.stamp; offset = r.offset; len = r.len; visible = seen_by e r.stamp r.deletions; deletions = r.deletions }

@@ -3,17 +3,18 @@ use Rattle.std.specs.Prelude.{ℕ, zero, suc, not, ◌-◌, ◌==◌, Bool, true
 use Rattle.std.specs.List.{filter}
 use Rattle.std.specs.Ordering.{nat_cmp, ordering_then}
 use Rattle.std.specs.declared.cmp.Ordering.{Ordering}
-use Rattle.lamport_clock.specs.declared.stamp.Lamport.{Lamport}
 use Rattle.op_model.specs.Histories.{History, has_edit}
 use Rattle.op_model.specs.Choice.{first_of, when}
 use Rattle.op_model.specs.Edits.{is_boundary}
 use Rattle.op_model.specs.Cells.{Cell, same_cell, seq, cells}
 use Rattle.op_model.specs.Shown.{shown, text, new_bytes}
+use Rattle.op_model.specs.declared.anchor.Anchor.{Anchor}
+use Rattle.op_model.specs.declared.anchor.Anchor.TheVariants.{Least, Greatest, At}
+use Rattle.op_model.specs.declared.anchor.Bias.TheVariants.{Left, Right}
+use Rattle.op_model.specs.declared.faults.PlaceFault.{PlaceFault}
+use Rattle.op_model.specs.declared.faults.PlaceFault.TheVariants.{PastEnd, InsideChar}
 
--- Left (t, k) stands behind byte k - 1 of edit t, Right (t, k) before byte k; Least and Greatest name no byte
-pub data Anchor : Type 0 where
-  Least Greatest : Anchor
-  Left Right : Lamport → ℕ → Anchor
+-- At t k Left stands behind byte k - 1 of edit t, At t k Right before byte k; Least and Greatest name no byte
 
 -- the shown cells in order
 abbrev pub shown_cells : History → List Cell
@@ -23,11 +24,11 @@ shown_cells h = filter (shown h) (cells (seq h))
 -- the end; else Left names shown cell o - 1, Right shown cell o. None past the end
 unfoldable pub left_anchor : History → ℕ → Option Anchor
 left_anchor h zero = Some Least
-left_anchor h (suc o) = option_map (λ (c : Cell). Left c.stamp (suc c.k)) (slice_get (shown_cells h) o)
+left_anchor h (suc o) = option_map (λ (c : Cell). At c.stamp (suc c.k) Left) (slice_get (shown_cells h) o)
 
 unfoldable pub right_anchor : History → ℕ → Option Anchor
 right_anchor h o = if o == length (text h) then Some Greatest
-    else option_map (λ (c : Cell). Right c.stamp c.k) (slice_get (shown_cells h) o)
+    else option_map (λ (c : Cell). At c.stamp c.k Right) (slice_get (shown_cells h) o)
 
 -- the cells of s before c
 abbrev pub cells_before : List Cell → Cell → List Cell
@@ -46,15 +47,15 @@ number_shown h s = length (filter (shown h) s)
 unfoldable pub place : History → Anchor → ℕ
 place h Least = 0
 place h Greatest = length (text h)
-place h (Left t k) = number_shown h (cells_upto (cells (seq h)) (record { stamp = t; k = k - 1 }))
-place h (Right t k) = number_shown h (cells_before (cells (seq h)) (record { stamp = t; k = k }))
+place h (At t k Left) = number_shown h (cells_upto (cells (seq h)) (record { stamp = t; k = k - 1 }))
+place h (At t k Right) = number_shown h (cells_before (cells (seq h)) (record { stamp = t; k = k }))
 
 -- a known anchor's gap among all cells, and 0 for Left, 1 for Right
 unfoldable pub gap : History → Anchor → ℕ × ℕ
 gap h Least = (0, 0)
 gap h Greatest = (length (seq h), 1)
-gap h (Left t k) = (length (cells_upto (cells (seq h)) (record { stamp = t; k = k - 1 })), 0)
-gap h (Right t k) = (length (cells_before (cells (seq h)) (record { stamp = t; k = k })), 1)
+gap h (At t k Left) = (length (cells_upto (cells (seq h)) (record { stamp = t; k = k - 1 })), 0)
+gap h (At t k Right) = (length (cells_before (cells (seq h)) (record { stamp = t; k = k })), 1)
 
 -- anchors are ordered by their gaps, Left before Right in one gap
 unfoldable pub compare_anchors : History → Anchor → Anchor → Ordering
@@ -65,14 +66,10 @@ compare_anchors h a b = ordering_then (nat_cmp (gap h a).0 (gap h b).0) (nat_cmp
 unfoldable pub is_known : History → Anchor → Bool
 is_known h Least = true
 is_known h Greatest = true
-is_known h (Left t k) = has_edit h t && is_boundary (new_bytes h t) k && nat_le 1 k && nat_le k (length (new_bytes h t))
-is_known h (Right t k) = has_edit h t && is_boundary (new_bytes h t) k && nat_lt k (length (new_bytes h t))
+is_known h (At t k Left) = has_edit h t && is_boundary (new_bytes h t) k && nat_le 1 k && nat_le k (length (new_bytes h t))
+is_known h (At t k Right) = has_edit h t && is_boundary (new_bytes h t) k && nat_lt k (length (new_bytes h t))
 
 -- why no anchor is made at an offset: it passes the text's length, or it is inside a character
-pub data PlaceFault : Type 0 where
-  PastEnd : ℕ → PlaceFault
-  InsideChar : PlaceFault
-
 abbrev pub place_fault : History → ℕ → Option PlaceFault
 place_fault h o = first_of (
     when (nat_lt (length (text h)) o) (PastEnd (length (text h)))

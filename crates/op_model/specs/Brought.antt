@@ -1,10 +1,15 @@
 -- What a list of calls of a buffer makes and takes.
-use Rattle.std.specs.Prelude.{ℕ, if◌then◌else◌, List, [], ◌∷◌, ◌++◌, Option, Some, None, is_some, option_to_list}
+use Rattle.std.specs.Prelude.{⊤, ◌≡◌, ℕ, if◌then◌else◌, List, [], ◌∷◌, ◌++◌, Option, Some, None, is_some, option_to_list}
+use Rattle.lamport_clock.specs.declared.stamp.Lamport.{Lamport}
 use Rattle.op_model.specs.declared.operation.Operation.{Operation}
 use Rattle.op_model.specs.declared.limits.Limits.{Limits as LimitsType}
+use Rattle.op_model.specs.declared.faults.Unit.{Unit as LimitUnit}
+use Rattle.op_model.specs.declared.faults.OpFault.TheVariants.{Full}
+use Rattle.op_model.specs.Sorted.{Member}
+use Rattle.op_model.specs.Answers.Answer.{Refused}
 use Rattle.op_model.specs.Made.{made, made_undo, local_edit_fault, local_undo_fault}
 use Rattle.op_model.specs.Settled.{State}
-use Rattle.op_model.specs.Steps.{Step, step}
+use Rattle.op_model.specs.Steps.{Step, step, settle_step, take_answer}
 use Rattle.op_model.specs.Steps.Step.{Edits, Undoes, Takes, Settles}
 
 -- the operation that a call of replica r makes or takes at s, if it makes or takes one
@@ -18,3 +23,15 @@ brought l r Settles s = None
 abbrev pub all_brought : LimitsType → ℕ → List Step → State → List Operation
 all_brought l r [] s = []
 all_brought l r (c ∷ cs) s = option_to_list (brought l r c s) ++ all_brought l r cs (step l r c s)
+
+-- the limits are not why an operation is refused that a call takes at s; an edit or undo that they refuse is not made
+abbrev pub TakesNoFull : LimitsType → Step → State → Type 0
+TakesNoFull l (Edits ps) s = ⊤
+TakesNoFull l (Undoes ts) s = ⊤
+TakesNoFull l (Takes op) s = (u : LimitUnit) → (n m : ℕ) → take_answer l s op ≡ Refused (Full u n m) → ⊥
+TakesNoFull l Settles s = ⊤
+
+-- nor of one that a list of calls takes from s on, nor of one that was refused while settling, a last settling behind them too
+abbrev pub NoFull : LimitsType → ℕ → List Step → State → Type 0
+NoFull l r [] s = (u : LimitUnit) → (n m : ℕ) → (t : Lamport) → Member (t, Full u n m) (settle_step l s).refused → ⊥
+NoFull l r (c ∷ cs) s = TakesNoFull l c s × NoFull l r cs (step l r c s)

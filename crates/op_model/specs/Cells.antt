@@ -1,5 +1,5 @@
 -- Cells, left neighbours, paths, and the order of all cells.
-use Rattle.std.specs.Prelude.{ℕ, zero, suc, ◌+◌, ◌==◌, nat_lt, Bool, true, false, if◌then◌else◌, ◌&&◌, ◌||◌, List, [], ◌∷◌, ◌++◌, length, map, Option, Some, None}
+use Rattle.std.specs.Prelude.{ℕ, zero, suc, ◌+◌, ◌==◌, nat_lt, Bool, true, false, if◌then◌else◌, ◌&&◌, ◌||◌, List, [], ◌∷◌, ◌++◌, length, map}
 use Rattle.lamport_clock.specs.declared.stamp.Lamport.{Lamport}
 use Rattle.lamport_clock.specs.Stamps.{later, same_stamp}
 use Rattle.lamport_clock.specs.Versions.{Entries, sees}
@@ -26,11 +26,6 @@ pub record Place : Type 0 where
   pub above : List Cell
   pub cell : Cell
 
-abbrev pub last_of : List Cell → Option Cell
-last_of [] = None
-last_of (c ∷ []) = Some c
-last_of (c ∷ d ∷ s) = last_of (d ∷ s)
-
 abbrev pub path : Place → List Cell
 path p = p.above ++ p.cell ∷ []
 
@@ -52,10 +47,6 @@ abbrev pub path_at : List Place → ℕ → List Cell
 path_at [] i = []
 path_at (p ∷ s) zero = path p
 path_at (p ∷ s) (suc i) = path_at s i
-
--- the left neighbour of a cell, None for the root
-abbrev pub left_neighbour : Place → Option Cell
-left_neighbour p = last_of p.above
 
 -- the path down to the left neighbour of a piece's first cell: the root where start is 0, else the cell at start - 1 of s
 abbrev pub left_path : List Place → ℕ → List Cell

@@ -1,5 +1,5 @@
 -- What is told of each cell, and how one operation changes it: one pass over the cells in order.
-use Rattle.std.specs.Prelude.{ℕ, zero, suc, ◌+◌, ◌-◌, Bool, true, false, not, ◌&&◌, if◌then◌else◌, List, [], ◌∷◌, ◌++◌, length, map}
+use Rattle.std.specs.Prelude.{◌≡◌, ℕ, zero, suc, ◌+◌, ◌-◌, Bool, true, false, not, ◌&&◌, if◌then◌else◌, List, [], ◌∷◌, ◌++◌, length, map}
 use Rattle.std.specs.List.{filter}
 use Rattle.lamport_clock.specs.declared.stamp.Lamport.{Lamport}
 use Rattle.lamport_clock.specs.Stamps.{later}
@@ -22,6 +22,10 @@ fact h c = record { cell = c; visible = shown h c; deletions = deleters h c }
 -- all cells of h in order, with what is told of them
 abbrev pub told : History → List Fact
 told h = map (fact h) (cells (seq h))
+
+-- the cell of q stands directly behind that of p in the texts of one edit, and the same is told of both
+abbrev pub Continues : Fact → Fact → Type 0
+Continues p q = q ≡ record { cell = record { stamp = p.cell.stamp; k = suc p.cell.k }; visible = p.visible; deletions = p.deletions }
 
 -- n cells of edit t from k on, of which one thing is told
 abbrev pub alike : Lamport → ℕ → ℕ → Bool → List Lamport → List Fact

@@ -1,31 +1,33 @@
 -- The laws of histories, which `src/laws.rt` shows.
-use Rattle.std.specs.Prelude.{◌⊎◌, None, Some, IsUtf8, IsCharBoundary, ◌≡◌, ◌↔◌, ℕ, ◌<◌, ◌≤◌, true, false, if◌then◌else◌, List, [], ◌∷◌, ◌++◌, map}
+use Rattle.std.specs.Prelude.{Bool, ◌⊎◌, None, Some, is_some, IsUtf8, IsCharBoundary, ◌≡◌, ◌↔◌, ℕ, suc, ◌<◌, ◌≤◌, true, false, if◌then◌else◌, List, [], ◌∷◌, ◌++◌, map}
 use Rattle.std.specs.List.{filter}
 use Rattle.std.specs.declared.cmp.Ordering.TheVariants.{Less, Equal}
-use Rattle.lamport_clock.specs.Versions.{Entries, sees, within}
+use Rattle.lamport_clock.specs.Versions.{Entries, IsVersion, sees, within}
 use Rattle.op_model.specs.declared.operation.Operation.{Operation}
 use Rattle.op_model.specs.Sorted.{Each, EachPair, Member, Ascending}
 use Rattle.op_model.specs.Operations.{stamp_of, version_of, pieces_of, is_edit}
 use Rattle.op_model.specs.Histories.{base, History, In, SameSet, seen, newest_first, version, bytes_held, entries_held}
 use Rattle.op_model.specs.Cells.{Cell, Place, before, op_places, seq_where, seq, cells}
-use Rattle.op_model.specs.Laid.{lay, replayed}
-use Rattle.op_model.specs.Shown.{byte, IsCell, shown_where, shown, deleters, deletes, text_where, text, full_where, full}
+use Rattle.op_model.specs.Laid.{only, lay, replayed}
+use Rattle.op_model.specs.Shown.{byte, IsCell, shown_where, shown, deleters, deletes, text_where, text, full_where, full, hidden, new_bytes}
 use Rattle.op_model.specs.Answers.Answer.{Good, Repeat, Waits}
-use Rattle.op_model.specs.Lawful.{Lawful, Honest}
-use Rattle.op_model.specs.Facts.{told, edit_marking, with_deletion, seen_by}
-use Rattle.op_model.specs.Walked.{Run, facts_of, walk}
-use Rattle.op_model.specs.Domains.{IsProper, IsReplica}
+use Rattle.op_model.specs.Lawful.{Lawful, Honest, IsClosed}
+use Rattle.op_model.specs.Facts.{Fact, Marking, Continues, told, edit_marking, with_deletion, seen_by}
+use Rattle.op_model.specs.Walked.{Run, IsWhole, facts_of, walk}
+use Rattle.op_model.specs.Domains.{IsProper, IsReplica, IsHistory}
 use Rattle.op_model.specs.Edits.{is_boundary, replaced}
 use Rattle.op_model.specs.Answers.{answer, same_op}
 use Rattle.op_model.specs.declared.limits.Limits.{Limits as LimitsType}
 use Rattle.op_model.specs.declared.operation.Piece.{Piece}
 use Rattle.op_model.specs.Made.{made, made_undo, local_edit_fault, local_undo_fault}
 use Rattle.lamport_clock.specs.declared.stamp.Lamport.{Lamport}
-use Rattle.op_model.specs.Settled.{pass, passes, settled}
+use Rattle.op_model.specs.Settled.{State, pass, passes, settled}
 use Rattle.op_model.specs.Steps.{older, Step, opened, run, settle_step, IsProperStep}
-use Rattle.op_model.specs.Anchors.{Anchor, left_anchor, right_anchor, place, compare_anchors, is_known}
-use Rattle.op_model.specs.Since.{since, text_at}
-use Rattle.op_model.specs.Brought.{all_brought}
+use Rattle.op_model.specs.declared.anchor.Anchor.{Anchor}
+use Rattle.op_model.specs.declared.anchor.TextEdit.{TextEdit}
+use Rattle.op_model.specs.Anchors.{left_anchor, right_anchor, place, compare_anchors, is_known, place_fault, resolved, compared}
+use Rattle.op_model.specs.Since.{since, text_at, since_fault, followed}
+use Rattle.op_model.specs.Brought.{all_brought, NoFull}
 
 -- two lawful histories of the same operations, in whatever order, have the same sequence and show the same
 abbrev pub SameSetsAgree : Type 0
@@ -151,7 +153,7 @@ RightAnchorsAreKnown = (h : History) → Lawful h → (o : ℕ) → (a : Anchor)
 abbrev pub AnchorsStandInOrder : Type 0
 AnchorsStandInOrder = (h : History) → (a b : Anchor) → (compare_anchors h a b ≡ Less → place h a ≤ place h b) × (compare_anchors h a b ≡ Equal → place h a ≡ place h b)
 
--- over what waits by stamps two passes are enough: causes have smaller stamps, so the second pass applies nothing
+-- settling what waits by stamps is done with at most two passes, since causes have smaller stamps
 abbrev pub TwoPassesAreEnough : Type 0
 TwoPassesAreEnough = (l : LimitsType) → (h : History) → (w : List Operation) → Ascending older w → settled l h w ≡ passes 2 l h w
 
@@ -167,11 +169,103 @@ SetIsAppliedWhole = (g h : History) → (w : List Operation) → Lawful g → ((
     → Each (λ (op : Operation). within (version_of op) (version h) ≡ false) w → (o : Operation) → In g o → In h o
 
 -- an honest set of which each member was made or taken by the calls of a buffer, in any order and with any repeats, and besides
--- which they made and took nothing, is applied whole after a last settling, where the limits hold all of it; the base counts as
--- made
+-- which they made and took nothing, is applied whole after a last settling, where no Full came; the base counts as made
+abbrev pub HonestSetsAreAppliedWhole : Type 0
+HonestSetsAreAppliedWhole = (l : LimitsType) → (r : ℕ) → (t : List ℕ) → (cs : List Step) → (ops : List Operation) → IsReplica r → IsUtf8 t → Each IsProperStep cs
+    → Honest ops → In ops (base t) → NoFull l r cs (opened t)
+    → ((o : Operation) → Member o (all_brought l r cs (opened t)) → In ops o)
+    → ((o : Operation) → In ops o → (o ≡ base t) ⊎ Member o (all_brought l r cs (opened t)))
+    → SameSet (settle_step l (run l r cs (opened t))).history ops
+
+-- and so it is where the limits hold all of it, since then no Full comes
 abbrev pub HonestSetsAreApplied : Type 0
 HonestSetsAreApplied = (l : LimitsType) → (r : ℕ) → (t : List ℕ) → (cs : List Step) → (ops : List Operation) → IsReplica r → IsUtf8 t → Each IsProperStep cs
     → Honest ops → In ops (base t) → bytes_held ops ≤ l.bytes → entries_held ops ≤ l.entries
     → ((o : Operation) → Member o (all_brought l r cs (opened t)) → In ops o)
     → ((o : Operation) → In ops o → (o ≡ base t) ⊎ Member o (all_brought l r cs (opened t)))
     → SameSet (settle_step l (run l r cs (opened t))).history ops
+
+-- settling appends operations that waited
+abbrev pub SettlingAppends : Type 0
+SettlingAppends = (l : LimitsType) → (h : History) → (w : List Operation)
+    → (g : List Operation) × ((settled l h w).history ≡ h ++ g) × Each (λ (op : Operation). Member op w) g
+
+-- every list of calls of a buffer appends to its history
+abbrev pub RunsAppend : Type 0
+RunsAppend = (l : LimitsType) → (r : ℕ) → (cs : List Step) → (s : State) → (g : List Operation) × ((run l r cs s).history ≡ s.history ++ g)
+
+-- the front of a lawful history, with its base, is lawful
+abbrev pub FrontsAreLawful : Type 0
+FrontsAreLawful = (op : Operation) → (h g : History) → Lawful (op ∷ h ++ g) → Lawful (op ∷ h)
+
+-- the version of a front is closed in the whole and sees that front alone
+abbrev pub FrontsAreSeen : Type 0
+FrontsAreSeen = (h g : History) → Lawful h → Lawful (h ++ g) → IsClosed (h ++ g) (version h) × (seen (h ++ g) (version h) ≡ h)
+
+-- what a closed version sees is lawful, unless the version is empty; it has the cells that the version sees, with the deletions
+-- that it sees
+abbrev pub ClosedParts : Type 0
+ClosedParts = (h : History) → (v : Entries) → Lawful h → IsClosed h v
+    → (IsVersion v → (v ≡ []) ⊎ Lawful (seen h v)) × (seq (seen h v) ≡ only (sees v) (seq h))
+    × ((c : Cell) → deleters (seen h v) c ≡ filter (sees v) (deleters h c))
+
+-- two lawful histories of the same operations have one version, refuse the same places and versions, and resolve and order the
+-- same anchors, alike
+abbrev pub SameSetsRefuseAlike : Type 0
+SameSetsRefuseAlike = (h g : History) → Lawful h → Lawful g → SameSet h g
+    → (version h ≡ version g) × ((v : Entries) → since_fault h v ≡ since_fault g v) × ((o : ℕ) → place_fault h o ≡ place_fault g o)
+    × ((a b : Anchor) → (resolved h a ≡ resolved g a) × (compared h a b ≡ compared g a b))
+
+-- anchors that are known stay known, and keep their order, when a history grows
+abbrev pub AnchorsKeepTheirOrder : Type 0
+AnchorsKeepTheirOrder = (h g : History) → Lawful h → Lawful (h ++ g) → (a b : Anchor) → is_known h a ≡ true → is_known h b ≡ true
+    → (is_known (h ++ g) a ≡ true) × (compare_anchors (h ++ g) a b ≡ compare_anchors h a b)
+
+-- an undo tells of the same cells, in their order, with their deletions; whether they are shown, by the new counts
+abbrev pub UndoIsTold : Type 0
+UndoIsTold = (h : History) → (op : Operation) → Lawful h → answer h [] op ≡ Good → is_edit op ≡ false
+    → told (h ++ op ∷ []) ≡ map (λ (q : Fact). record { cell = q.cell; visible = seen_by (h ++ op ∷ []) q.cell.stamp q.deletions; deletions = q.deletions }) (told h)
+
+-- a walk leaves no run without cells
+abbrev pub WalksLeaveCells : Type 0
+WalksLeaveCells = (m : Marking) → (keep : Lamport → Bool) → (t : Lamport) → (at k : ℕ) → (ps : List Piece) → (rs : List Run)
+    → Each (λ (r : Run). 0 < r.len) rs → Each (λ (r : Run). 0 < r.len) (walk m keep t at k ps rs)
+
+-- the edits since a version take the text then to the text now
+abbrev pub EditsSinceTellTheChange : Type 0
+EditsSinceTellTheChange = (h : History) → (v : Entries) → Lawful h → IsClosed h v → followed 0 (since h v) (text_at h v) (text h) ≡ text h
+
+-- the hidden bytes of a lawful history whose texts are UTF-8 are UTF-8, as the shown ones are
+abbrev pub HiddenTextsAreUtf8 : Type 0
+HiddenTextsAreUtf8 = (h : History) → Lawful h → Each IsProper h → IsUtf8 (hidden h)
+
+-- each run of alike facts begins and ends on a boundary of its edit's texts: so do the first and the last, and where two neighbours
+-- are not of one run, a character ends behind the one and one begins at the other
+abbrev pub FactsChangeAtBoundaries : Type 0
+FactsChangeAtBoundaries = (h : History) → Lawful h → Each IsProper h
+    → ((xs ys : List Fact) → (p q : Fact) → told h ≡ xs ++ p ∷ q ∷ ys → (Continues p q → ⊥)
+    → (is_boundary (new_bytes h p.cell.stamp) (suc p.cell.k) ≡ true) × (is_boundary (new_bytes h q.cell.stamp) q.cell.k ≡ true))
+    × ((ys : List Fact) → (q : Fact) → told h ≡ q ∷ ys → is_boundary (new_bytes h q.cell.stamp) q.cell.k ≡ true)
+    × ((xs : List Fact) → (p : Fact) → told h ≡ xs ++ p ∷ [] → is_boundary (new_bytes h p.cell.stamp) (suc p.cell.k) ≡ true)
+
+-- a walk over runs that begin and end on boundaries makes such runs
+abbrev pub WalksKeepRunsWhole : Type 0
+WalksKeepRunsWhole = (h : History) → (op : Operation) → (rs : List Run) → Lawful h → Each IsProper h → IsProper op → answer h [] op ≡ Good → is_edit op ≡ true
+    → Each (λ (r : Run). 0 < r.len) rs → facts_of rs ≡ told h → Each (IsWhole h) rs
+    → Each (IsWhole (h ++ op ∷ [])) (walk (edit_marking (stamp_of op) (seen h (version_of op)) (version_of op)) (sees (version_of op)) (stamp_of op) 0 0 (pieces_of op) rs)
+
+-- where there is no fault, anchors are made on both sides of a place, and they resolve to it
+abbrev pub AnchorsResolve : Type 0
+AnchorsResolve = (h : History) → Lawful h → Each IsProper h → (o : ℕ) → place_fault h o ≡ None
+    → (is_some (left_anchor h o) ≡ true) × (is_some (right_anchor h o) ≡ true)
+    × ((a : Anchor) → left_anchor h o ≡ Some a → resolved h a ≡ Some o) × ((a : Anchor) → right_anchor h o ≡ Some a → resolved h a ≡ Some o)
+
+-- the edits since a version begin and end at character boundaries of the text then and of the text now
+abbrev pub EditsSinceAreAtBoundaries : Type 0
+EditsSinceAreAtBoundaries = (h : History) → (v : Entries) → Lawful h → Each IsProper h → IsClosed h v
+    → Each (λ (e : TextEdit). (is_boundary (text_at h v) e.old.0 ≡ true) × (is_boundary (text_at h v) e.old.1 ≡ true)
+    × (is_boundary (text h) e.new.0 ≡ true) × (is_boundary (text h) e.new.1 ≡ true)) (since h v)
+
+-- a lawful history is one: its stamps are distinct, and its base stands first
+abbrev pub LawfulIsHistory : Type 0
+LawfulIsHistory = (h : History) → Lawful h → IsHistory h

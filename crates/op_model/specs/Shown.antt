@@ -67,10 +67,6 @@ shown h c = shown_where everything (newest_first h) c
 abbrev pub deletes : History → Operation → Cell → Bool
 deletes h op c = in_ranges (seq (seen h (version_of op))) 0 (pieces_of op) c && shown (seen h (version_of op)) c
 
--- the cells that op, of h, deletes
-abbrev pub deleted : History → Operation → List Cell
-deleted h op = filter (deletes h op) (cells (seq (seen h (version_of op))))
-
 abbrev pub texts : List Piece → List ℕ
 texts [] = []
 texts (p ∷ ps) = p.text ++ texts ps
@@ -101,3 +97,7 @@ text h = text_where everything (newest_first h)
 -- the bytes of all cells of h in order
 unfoldable pub full : History → List ℕ
 full h = full_where everything (newest_first h)
+
+-- the bytes of the hidden cells of h in order
+abbrev pub hidden : History → List ℕ
+hidden h = map (byte h) (filter (λ (c : Cell). not (shown h c)) (cells (seq h)))

@@ -1,5 +1,5 @@
 -- Edits since a version.
-use Rattle.std.specs.Prelude.{ℕ, suc, ◌+◌, Bool, true, false, ◌&&◌, if◌then◌else◌, List, [], ◌∷◌, map, Option, option_map}
+use Rattle.std.specs.Prelude.{ℕ, suc, ◌+◌, Bool, true, false, ◌&&◌, if◌then◌else◌, List, [], ◌∷◌, ◌++◌, map, drop, slice_range, Option, option_map}
 use Rattle.lamport_clock.specs.Versions.{Entries, sees}
 use Rattle.op_model.specs.Histories.{History, seen}
 use Rattle.op_model.specs.Cells.{Cell, seq, cells}
@@ -7,11 +7,9 @@ use Rattle.op_model.specs.Shown.{shown, text}
 use Rattle.op_model.specs.Choice.{first_of}
 use Rattle.op_model.specs.Answers.{open_replica}
 use Rattle.op_model.specs.Lawful.{unseen_replica}
-
--- a range of the old text, and the range of the new text in its place
-pub record TextEdit : Type 0 where
-  pub old : ℕ × ℕ
-  pub new : ℕ × ℕ
+use Rattle.op_model.specs.declared.anchor.TextEdit.{TextEdit}
+use Rattle.op_model.specs.declared.faults.SinceFault.{SinceFault}
+use Rattle.op_model.specs.declared.faults.SinceFault.TheVariants.{Unseen, OpenVersion}
 
 -- what became of a cell: shown then and now, then alone, now alone, neither
 pub data Fate : Type 0 where
@@ -80,11 +78,13 @@ abbrev pub text_at : History → Entries → List ℕ
 text_at h v = text (seen h v)
 
 -- why there is no answer at v: the least replica of which v has more than h, or that at which v is not closed
-pub data SinceFault : Type 0 where
-  Unseen OpenVersion : ℕ → SinceFault
-
 abbrev pub since_fault : History → Entries → Option SinceFault
 since_fault h v = first_of (
     option_map Unseen (unseen_replica h v)
     ∷ option_map OpenVersion (open_replica h v)
     ∷ [])
+
+-- the text then from a place on, with the old range of each edit replaced by its new range of the text now
+abbrev pub followed : ℕ → List TextEdit → List ℕ → List ℕ → List ℕ
+followed at [] then_text now_text = drop at then_text
+followed at (e ∷ es) then_text now_text = slice_range then_text at e.old.0 ++ (slice_range now_text e.new.0 e.new.1 ++ followed e.old.1 es then_text now_text)

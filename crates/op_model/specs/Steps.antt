@@ -10,15 +10,10 @@ use Rattle.op_model.specs.Sorted.{insert_by, Each}
 use Rattle.op_model.specs.Domains.{IsProper}
 use Rattle.op_model.specs.Operations.{stamp_of}
 use Rattle.op_model.specs.Histories.{base}
-use Rattle.op_model.specs.Limited.{Excess, excess}
 use Rattle.op_model.specs.Made.{made, made_undo, local_edit_fault, local_undo_fault}
 use Rattle.op_model.specs.Answers.{Answer, answer}
 use Rattle.op_model.specs.Answers.Answer.{Good, Repeat, Waits, Refused}
 use Rattle.op_model.specs.Settled.{State, settled, full_fault}
-
--- the limit that a base passes: its bytes, with nothing held
-abbrev pub base_excess : LimitsType → List ℕ → Option Excess
-base_excess l t = excess l [] (length t) 0
 
 -- a new buffer over a base
 abbrev pub opened : List ℕ → State

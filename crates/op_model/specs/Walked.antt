@@ -1,8 +1,11 @@
 -- One walk over runs of cells, from the first piece of an edit to the last.
-use Rattle.std.specs.Prelude.{ℕ, zero, suc, ◌+◌, ◌-◌, ◌≤◌, nat_le, Bool, true, false, if◌then◌else◌, List, [], ◌∷◌, ◌++◌, length}
+use Rattle.std.specs.Prelude.{◌≡◌, ℕ, zero, suc, ◌+◌, ◌-◌, ◌≤◌, nat_le, Bool, true, false, if◌then◌else◌, List, [], ◌∷◌, ◌++◌, length}
 use Rattle.lamport_clock.specs.declared.stamp.Lamport.{Lamport}
 use Rattle.lamport_clock.specs.Stamps.{later}
 use Rattle.op_model.specs.declared.operation.Piece.{Piece}
+use Rattle.op_model.specs.Histories.{History}
+use Rattle.op_model.specs.Edits.{is_boundary}
+use Rattle.op_model.specs.Shown.{new_bytes}
 use Rattle.op_model.specs.Facts.{Fact, alike, Marking}
 
 -- len cells of one edit from offset on, of which one thing is told
@@ -20,6 +23,10 @@ run_facts r = alike r.stamp r.offset r.len r.visible r.deletions
 abbrev pub facts_of : List Run → List Fact
 facts_of [] = []
 facts_of (r ∷ rs) = run_facts r ++ facts_of rs
+
+-- a run begins and ends where characters of its edit's texts do
+abbrev pub IsWhole : History → Run → Type 0
+IsWhole h r = (is_boundary (new_bytes h r.stamp) r.offset ≡ true) × (is_boundary (new_bytes h r.stamp) (r.offset + r.len) ≡ true)
 
 -- the cells of the runs that pass
 abbrev pub kept_len : (Lamport → Bool) → List Run → ℕ

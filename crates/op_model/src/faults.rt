@@ -3,6 +3,7 @@ ghost use Rattle.std.specs.Prelude.{◌≡◌};
 ghost use Rattle.op_model.specs.declared.faults.EditFault.{EditFault};
 ghost use Rattle.op_model.specs.declared.faults.UndoFault.{UndoFault};
 ghost use Rattle.op_model.specs.declared.faults.OpFault.{OpFault};
+ghost use Rattle.op_model.specs.declared.faults.SinceFault.{SinceFault};
 
 use lamport_clock::{ClockEnd, Lamport};
 use std::alloc::{AllocError, AllocFailed};
@@ -99,6 +100,29 @@ pub enum OpFault {
     OutOfMemory,
 }
 
+/// Why no anchor is made at an offset.
+#[derive(Clone, Copy, Debug, PartialEq, Eq, Error)]
+pub enum PlaceFault {
+    /// The text's length in bytes.
+    #[error("the offset passes the text's {0} bytes")]
+    PastEnd(u64),
+    #[error("the offset is inside a character")]
+    InsideChar,
+}
+
+/// Why a version has no text and no edits since it.
+#[derive(Clone, Copy, Debug, PartialEq, Eq, Error)]
+pub enum SinceFault {
+    /// The least replica of which the version has more than is applied.
+    #[error("of replica {0} the version has more than is applied")]
+    Unseen(u16),
+    /// The least replica at which the version is not closed.
+    #[error("what the version has of replica {0} is no operation whose causes it has seen")]
+    OpenVersion(u16),
+    #[error("out of memory")]
+    OutOfMemory,
+}
+
 impl From<AllocError> for EditFault {
     ghost from_gives = { λ _ e. e ≡ EditFault.OutOfMemory };
 
@@ -160,5 +184,21 @@ impl<T: Drop> From<AllocFailed<T>> for OpFault {
 
     fn from(_: AllocFailed<T>) -> Self {
         OpFault::OutOfMemory
+    }
+}
+
+impl From<AllocError> for SinceFault {
+    ghost from_gives = { λ _ e. e ≡ SinceFault.OutOfMemory };
+
+    fn from(_: AllocError) -> Self {
+        SinceFault::OutOfMemory
+    }
+}
+
+impl<T: Drop> From<AllocFailed<T>> for SinceFault {
+    ghost from_gives = { λ _ e. e ≡ SinceFault.OutOfMemory };
+
+    fn from(_: AllocFailed<T>) -> Self {
+        SinceFault::OutOfMemory
     }
 }

@@ -1,5 +1,5 @@
 // The laws of histories, shown by functions that do nothing.
-ghost use Rattle.op_model.specs.Laws.{SameSetsAgree, PartsAreFiltered, GoodIsLaidIn, ReplayedByStamps, LeftNeighbours, EachCellOnce, DeletersDelete, EditChanges, NewCellsShown, UndoChanges, OneWalk, TextsAreUtf8, BoundariesAreStd, EqualOperationsAreSame, EditsAreGood, UndosAreGood, SettlingEnds, SettlingKeepsLawful, RunsStayLawful, TextsAreShownCells, SameSetsAnswerAlike, AnchorsStandWhereMade, AnchorsStandInOrder, RightAnchorsAreKnown, TwoPassesAreEnough, SetIsNeverRefused, SetIsAppliedWhole, HonestSetsAreApplied};
+ghost use Rattle.op_model.specs.Laws.{SameSetsAgree, PartsAreFiltered, GoodIsLaidIn, ReplayedByStamps, LeftNeighbours, EachCellOnce, DeletersDelete, EditChanges, NewCellsShown, UndoChanges, OneWalk, TextsAreUtf8, BoundariesAreStd, EqualOperationsAreSame, EditsAreGood, UndosAreGood, SettlingEnds, SettlingKeepsLawful, RunsStayLawful, TextsAreShownCells, SameSetsAnswerAlike, AnchorsStandWhereMade, AnchorsStandInOrder, RightAnchorsAreKnown, TwoPassesAreEnough, SetIsNeverRefused, SetIsAppliedWhole, HonestSetsAreApplied, SettlingAppends, RunsAppend, FrontsAreLawful, FrontsAreSeen, ClosedParts, SameSetsRefuseAlike, AnchorsKeepTheirOrder, UndoIsTold, WalksLeaveCells, EditsSinceTellTheChange, HiddenTextsAreUtf8, FactsChangeAtBoundaries, WalksKeepRunsWhole, AnchorsResolve, HonestSetsAreAppliedWhole, EditsSinceAreAtBoundaries, LawfulIsHistory};
 
 /// Two lawful histories of the same operations show the same.
 pub fn same_sets_agree()
@@ -139,4 +139,89 @@ pub fn set_is_applied_whole()
 /// An honest set that the limits hold is applied whole.
 pub fn honest_sets_are_applied()
     ensures { HonestSetsAreApplied }
+{}
+
+/// Settling appends operations that waited.
+pub fn settling_appends()
+    ensures { SettlingAppends }
+{}
+
+/// Every list of calls appends.
+pub fn runs_append()
+    ensures { RunsAppend }
+{}
+
+/// The front of a lawful history is lawful.
+pub fn fronts_are_lawful()
+    ensures { FrontsAreLawful }
+{}
+
+/// The version of a front sees that front.
+pub fn fronts_are_seen()
+    ensures { FrontsAreSeen }
+{}
+
+/// What a closed version sees is lawful, with the cells and the deletions that it sees.
+pub fn closed_parts()
+    ensures { ClosedParts }
+{}
+
+/// Versions, faults and answers about anchors hang on the set of operations alone.
+pub fn same_sets_refuse_alike()
+    ensures { SameSetsRefuseAlike }
+{}
+
+/// Known anchors stay known and keep their order.
+pub fn anchors_keep_their_order()
+    ensures { AnchorsKeepTheirOrder }
+{}
+
+/// An undo tells the same cells anew.
+pub fn undo_is_told()
+    ensures { UndoIsTold }
+{}
+
+/// A walk leaves no run without cells.
+pub fn walks_leave_cells()
+    ensures { WalksLeaveCells }
+{}
+
+/// The edits since a version take the text then to the text now.
+pub fn edits_since_tell_the_change()
+    ensures { EditsSinceTellTheChange }
+{}
+
+/// Hidden bytes are UTF-8.
+pub fn hidden_texts_are_utf8()
+    ensures { HiddenTextsAreUtf8 }
+{}
+
+/// Runs of alike facts begin and end on boundaries.
+pub fn facts_change_at_boundaries()
+    ensures { FactsChangeAtBoundaries }
+{}
+
+/// A walk over runs that begin and end on boundaries makes such runs.
+pub fn walks_keep_runs_whole()
+    ensures { WalksKeepRunsWhole }
+{}
+
+/// An anchor that is made at a boundary resolves to it.
+pub fn anchors_resolve()
+    ensures { AnchorsResolve }
+{}
+
+/// An honest set is applied whole where no Full came.
+pub fn honest_sets_are_applied_whole()
+    ensures { HonestSetsAreAppliedWhole }
+{}
+
+/// The edits since a version begin and end at character boundaries.
+pub fn edits_since_are_at_boundaries()
+    ensures { EditsSinceAreAtBoundaries }
+{}
+
+/// A lawful history has distinct stamps, the base first.
+pub fn lawful_is_history()
+    ensures { LawfulIsHistory }
 {}

@@ -3,6 +3,7 @@
 //! The meaning of a list of operations, a history, stands in this crate's specs/.
 #![tactic(auto)]
 
+mod anchor;
 mod faults;
 mod laws;
 mod limits;
@@ -12,16 +13,21 @@ mod pieces;
 mod same;
 mod shapes;
 
-pub use faults::{EditFault, OpFault, UndoFault, Unit};
+pub use anchor::{Anchor, Bias, TextEdit};
+pub use faults::{EditFault, OpFault, PlaceFault, SinceFault, UndoFault, Unit};
 pub use lamport_clock::OutOfMemory;
 pub use laws::{
-    anchors_stand_in_order, anchors_stand_where_made, boundaries_are_std, deleters_delete,
-    each_cell_once, edit_changes, edits_are_good, equal_operations_are_same, good_is_laid_in,
-    honest_sets_are_applied, left_neighbours, new_cells_shown, one_walk, parts_are_filtered,
-    replayed_by_stamps, right_anchors_are_known, runs_stay_lawful, same_sets_agree,
-    same_sets_answer_alike, set_is_applied_whole, set_is_never_refused, settling_ends,
-    settling_keeps_lawful, texts_are_shown_cells, texts_are_utf8, two_passes_are_enough,
-    undo_changes, undos_are_good,
+    anchors_keep_their_order, anchors_resolve, anchors_stand_in_order, anchors_stand_where_made,
+    boundaries_are_std, closed_parts, deleters_delete, each_cell_once, edit_changes,
+    edits_are_good, edits_since_are_at_boundaries, edits_since_tell_the_change,
+    equal_operations_are_same, facts_change_at_boundaries, fronts_are_lawful, fronts_are_seen,
+    good_is_laid_in, hidden_texts_are_utf8, honest_sets_are_applied, honest_sets_are_applied_whole,
+    lawful_is_history, left_neighbours, new_cells_shown, one_walk, parts_are_filtered,
+    replayed_by_stamps, right_anchors_are_known, runs_append, runs_stay_lawful, same_sets_agree,
+    same_sets_answer_alike, same_sets_refuse_alike, set_is_applied_whole, set_is_never_refused,
+    settling_appends, settling_ends, settling_keeps_lawful, texts_are_shown_cells, texts_are_utf8,
+    two_passes_are_enough, undo_changes, undo_is_told, undos_are_good, walks_keep_runs_whole,
+    walks_leave_cells,
 };
 pub use limits::Limits;
 pub use lists::{Counts, Pieces, Text};

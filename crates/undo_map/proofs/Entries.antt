@@ -1,5 +1,5 @@
 -- The undo counts of a history, by the entries that are kept of them.
-use Rattle.std.proofs.Common.{◌≡◌, ℕ, suc, ◌+◌, ◌<◌, ◌≤◌, ◌^◌, ◌%◌, max, Bool, true, false, cond, ◌&&◌, eqb, List, [], ◌∷◌, ◌++◌, length, get_or, drop, drop-cons, Option, None, Some, append_assoc, refl, sym, subst, ◌∙◌, ap, arith}
+use Rattle.std.proofs.Common.{◌≡◌, ℕ, suc, ◌+◌, ◌<◌, ◌≤◌, ◌^◌, ◌%◌, max, Bool, true, false, cond, ◌&&◌, eqb, List, [], ◌∷◌, ◌++◌, length, get_or, drop, drop-cons, Option, None, Some, refl, sym, subst, ◌∙◌, ap, arith}
 use Rattle.std.proofs.lemmas.List.{drop_all}
 use Rattle.lamport_clock.specs.declared.stamp.Lamport.{Lamport}
 use Rattle.lamport_clock.specs.Stamps.{same_stamp}
@@ -8,19 +8,17 @@ use Rattle.op_model.specs.declared.operation.UndoCount.{UndoCount}
 use Rattle.op_model.specs.declared.operation.Operation.{Operation}
 use Rattle.op_model.specs.declared.operation.Operation.TheVariants.{Undo}
 use Rattle.op_model.specs.declared.operation.UndoOp.{UndoOp}
-use Rattle.op_model.specs.Operations.{stamp_of, pieces_of, counts_of, entries_of}
+use Rattle.op_model.specs.Sorted.{Each}
+use Rattle.op_model.specs.Operations.{stamp_of, pieces_of, counts_of}
 use Rattle.op_model.specs.Histories.{History, kept, seen, base, entries_held}
 use Rattle.op_model.specs.Shown.{given, count, undone}
-use Rattle.op_model.specs.Answers.{answer}
-use Rattle.op_model.specs.Answers.Answer.{Good}
-use Rattle.op_model.specs.Lawful.{Lawful, LawfulFrom}
-use Rattle.op_model.proofs.Append.{entries_held-append}
-use Rattle.op_model.proofs.Good.{append_nil, stamp_parts}
-use Rattle.op_model.proofs.VersionLaws.{shaped_good}
+use Rattle.op_model.specs.Lawful.{Lawful}
+use Rattle.op_model.proofs.Good.{stamp_parts}
+use Rattle.op_model.proofs.VersionLaws.{shaped_good, each_lawful}
 use Rattle.undo_map.specs.declared.entry.UndoEntry.{UndoEntry}
 use Rattle.undo_map.specs.Counts.{with_count, greatest, counts_for, is_seen, count_of, count_seen, is_odd}
 use Rattle.undo_map.specs.Laws.{CountsAreOfHistory}
-use Rattle.undo_map.specs.Undos.{with_counts, with_undos, undo_entries}
+use Rattle.undo_map.specs.Undos.{with_counts, with_undos, undo_entries, number_of_counts}
 use Rattle.undo_map.proofs.Greatest.{adds}
 use Rattle.undo_map.proofs.Setting.{counts_set, with_count_long}
 
@@ -129,22 +127,29 @@ counts_long by (c ∷ cs) w =
     let b = with_count_long e w in
     omega (arith, a, b)
 
--- one operation more adds no more than it adds to the entries that are held
-held_more : (h : History) (op : Operation) → answer h [] op ≡ Good → length (undo_entries h) ≤ entries_held h → length (undo_entries (h ++ op ∷ [])) ≤ entries_held (h ++ op ∷ [])
-held_more h op g l =
-    let r : eqb (stamp_of op).replica 0 ≡ false = (stamp_parts op (shaped_good h op g)).2 in
-    let a = counts_long (stamp_of op) (counts_of op) (undo_entries h) in
-    let m : entries_held (h ++ op ∷ []) ≡ entries_held h + entries_of op = entries_held-append h op ∙ ap (λ (b : Bool). entries_held h + cond b 0 (entries_of op)) r in
-    let n : length (with_counts (stamp_of op) (counts_of op) (undo_entries h)) ≤ entries_held h + entries_of op = omega (arith, a, l) in
-    subst (λ (w : List UndoEntry). length w ≤ entries_held (h ++ op ∷ [])) (sym (entries_more h op)) (subst (λ (x : ℕ). length (with_counts (stamp_of op) (counts_of op) (undo_entries h)) ≤ x) (sym m) n)
+undos_long : (h : History) (w : List UndoEntry) → length (with_undos h w) ≤ length w + number_of_counts h
+undos_long [] w = omega arith
+undos_long (op ∷ h) w =
+    let a = undos_long h (with_counts (stamp_of op) (counts_of op) w) in
+    let b = counts_long (stamp_of op) (counts_of op) w in
+    omega (arith, a, b)
 
-held_from : (h : History) (ops : List Operation) → LawfulFrom h ops → length (undo_entries h) ≤ entries_held h → length (undo_entries (h ++ ops)) ≤ entries_held (h ++ ops)
-held_from h [] f l = subst (λ (x : History). length (undo_entries x) ≤ entries_held x) (sym (append_nil h)) l
-held_from h (op ∷ ops) f l = subst (λ (x : History). length (undo_entries x) ≤ entries_held x) (append_assoc h (op ∷ []) ops) (held_from (h ++ op ∷ []) ops f.1 (held_more h op f.0 l))
+pub entries_counted : (h : History) → length (undo_entries h) ≤ number_of_counts h
+entries_counted h = let a = undos_long h [] in omega (arith, a)
+
+-- operations but the base hold an entry for each of their counts
+counts_held : (h : History) → Each (λ (op : Operation). eqb (stamp_of op).replica 0 ≡ false) h → number_of_counts h ≤ entries_held h
+counts_held [] e = omega arith
+counts_held (op ∷ h) e = let r = e.0 in let a = counts_held h e.1 in rw r (omega (arith, a))
 
 pub entries_within : (h : History) → Lawful h → length (undo_entries h) ≤ entries_held h
 entries_within [] l = absurd l
-entries_within (op ∷ ops) l = held_from (op ∷ []) ops l.1 (subst (λ (x : Operation). length (undo_entries (x ∷ [])) ≤ entries_held (x ∷ [])) (sym l.0.1) (omega arith))
+entries_within (op ∷ ops) l =
+    let a = entries_counted (op ∷ ops) in
+    let b = counts_held ops (each_lawful (λ (o : Operation). eqb (stamp_of o).replica 0 ≡ false) (op ∷ []) ops (λ g o n. (stamp_parts o (shaped_good g o n)).2) l.1) in
+    let f : number_of_counts (base l.0.0 ∷ ops) ≤ entries_held (base l.0.0 ∷ ops) = omega (arith, b) in
+    let c : number_of_counts (op ∷ ops) ≤ entries_held (op ∷ ops) = subst (λ (x : Operation). number_of_counts (x ∷ ops) ≤ entries_held (x ∷ ops)) (sym l.0.1) f in
+    omega (arith, a, c)
 
 -- ---- the laws
 

@@ -1,5 +1,5 @@
 -- The undo counts of a history.
-use Rattle.std.specs.Prelude.{◌+◌, List, [], ◌∷◌}
+use Rattle.std.specs.Prelude.{ℕ, ◌+◌, List, [], ◌∷◌, length}
 use Rattle.lamport_clock.specs.declared.stamp.Lamport.{Lamport}
 use Rattle.op_model.specs.declared.operation.UndoCount.{UndoCount}
 use Rattle.op_model.specs.declared.operation.Operation.{Operation}
@@ -25,3 +25,8 @@ undo_entries h = with_undos h []
 -- the next count of t after the counts w
 abbrev pub next_of : List UndoEntry → Lamport → UndoCount
 next_of w t = record { edit = t; count = count_of w t + 1 }
+
+-- how many counts the undos of h have
+abbrev pub number_of_counts : History → ℕ
+number_of_counts [] = 0
+number_of_counts (op ∷ h) = length (counts_of op) + number_of_counts h

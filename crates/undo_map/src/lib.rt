@@ -10,7 +10,7 @@ mod undos;
 
 pub use entry::{UndoEntry, UndoKey};
 pub use lamport_clock::OutOfMemory;
-pub use laws::{counts_are_of_history, entries_are_held};
+pub use laws::{counts_are_of_history, entries_are_counts, entries_are_held};
 pub use map::UndoMap;
 pub use next::next_counts;
 
