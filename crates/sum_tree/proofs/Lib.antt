@@ -9,3 +9,4 @@ pub mod Runs
 pub mod Keys
 mod Splices
 mod Pairs
+mod Widths

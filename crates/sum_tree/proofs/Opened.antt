@@ -99,6 +99,13 @@ leaf_height {T} {S} s n m v e f q h =
     let held : IsContent n.height leaf = subst (λ (k : Content T S). IsContent n.height k) is h in
     sym (ap (λ (x : Seen T). x.height) e) ∙ held.0
 
+pub leaf_width : {T S : Type 0} (s : Seen T) (n m : Node T S) (v : Vec T Global) → seen n ≡ s → m ≡ n → m.content ≡ Leaf v → IsContent n.height n.content → (s.width ≡ length v.items) × (length v.items ≤ 12)
+leaf_width {T} {S} s n m v e f q h =
+    let is : n.content ≡ Leaf v = subst (λ (x : Node T S). x.content ≡ Leaf v) f q in
+    let leaf : Content T S = Leaf v in
+    let held : IsContent n.height leaf = subst (λ (k : Content T S). IsContent n.height k) is h in
+    (sym (ap (λ (x : Seen T). x.width) e) ∙ ap content_width is, held.1)
+
 -- no node is higher than 15
 pub node_is_low : {S T : Type 0} (h : ℕ) (c : Content T S) → IsContent h c → length (content_items c) ≤ 2 ^ 40 → h ≤ 15
 node_is_low h (Leaf v) k short = omega (arith, k.0)

@@ -70,7 +70,7 @@ pub(crate) fn settled<S: Summary>(
 {
     match around.pop() {
         None => {
-            return Ok(Vec::with_capacity(alloc, around.capacity())?);
+            return Vec::with_capacity(alloc, around.capacity());
         }
         Some(level) => {
             let Around { mut before, behind } = level;

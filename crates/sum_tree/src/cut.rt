@@ -3,6 +3,7 @@ ghost use Rattle.std.specs.Prelude.{◌≡◌, ℕ, ◌+◌, ◌^◌, ◌<◌, �
 ghost use Rattle.sum_tree.specs.Laws.{fold};
 ghost use Rattle.sum_tree.specs.Shape.{IsChild, joined};
 
+use crate::entry::Entry;
 use crate::grow::{copy_onto, share_onto};
 use crate::read::child_at;
 use crate::traits::Item;
@@ -18,14 +19,25 @@ fn run<T: Item>(alloc: Global, height: u32, nodes: &[SumTree<T>]) -> Result<SumT
     ensures { IfOk result (λ t. t.items ≡ joined nodes.now) }
 {
     if nodes.len() == 0 {
-        return Ok(SumTree::new(alloc)?);
+        return SumTree::new(alloc);
     }
     if nodes.len() == 1 {
-        return Ok(nodes[0].share()?);
+        return nodes[0].share();
     }
     let mut children = Vec::with_capacity(alloc, nodes.len())?;
     share_onto(nodes, &mut children)?;
-    Ok(inner(alloc, height, children)?)
+    inner(alloc, height, children)
+}
+
+// A leaf of copies of these entries.
+fn copied_leaf<T: Item>(alloc: Global, entries: &[Entry<T>]) -> Result<SumTree<T>, AllocError>
+    requires narrow { length entries.now ≤ 12 }
+    requires fits { T.Summary.fits (fold T.Summary.empty T.Summary.op T.sum_of entries.now) }
+    ensures { IfOk result (λ t. t.items ≡ entries.now) }
+{
+    let mut copies = Vec::with_capacity(alloc, entries.len())?;
+    copy_onto(alloc, entries, &mut copies)?;
+    leaf(alloc, copies)
 }
 
 impl<T: Item> SumTree<T> {
@@ -35,17 +47,13 @@ impl<T: Item> SumTree<T> {
         ensures { IfOk result (λ t. t.items ≡ take n self.now.items) }
     {
         if n >= self.len() {
-            return Ok(self.share()?);
+            return self.share();
         }
         if n == 0 {
-            return Ok(SumTree::new(alloc)?);
+            return SumTree::new(alloc);
         }
         match &self.node.content {
-            Content::Leaf(entries) => {
-                let mut front = Vec::with_capacity(alloc, n as usize)?;
-                copy_onto(alloc, &entries[..n as usize], &mut front)?;
-                Ok(leaf(alloc, front)?)
-            }
+            Content::Leaf(entries) => copied_leaf(alloc, &entries[..n as usize]),
             Content::Inner(children) => {
                 let (k, rest) = child_at(children, n);
                 let last = children[k].taken(alloc, rest)?;
@@ -62,17 +70,13 @@ impl<T: Item> SumTree<T> {
         ensures { IfOk result (λ t. t.items ≡ drop n self.now.items) }
     {
         if n >= self.len() {
-            return Ok(SumTree::new(alloc)?);
+            return SumTree::new(alloc);
         }
         if n == 0 {
-            return Ok(self.share()?);
+            return self.share();
         }
         match &self.node.content {
-            Content::Leaf(entries) => {
-                let mut rest = Vec::with_capacity(alloc, entries.len() - n as usize)?;
-                copy_onto(alloc, &entries[n as usize..], &mut rest)?;
-                Ok(leaf(alloc, rest)?)
-            }
+            Content::Leaf(entries) => copied_leaf(alloc, &entries[n as usize..]),
             Content::Inner(children) => {
                 let (k, passed) = child_at(children, n);
                 let mut rest = children[k].dropped(alloc, passed)?;

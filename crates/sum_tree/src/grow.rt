@@ -132,7 +132,7 @@ fn with_child<T: Item>(
     ensures { IfOk result (λ p. IsSplit height (length nodes.now) (joined (with_pair nodes.now k front back)) p.0 p.1) }
 {
     let children = gathered(alloc, nodes, k, k + 1, front, back)?;
-    Ok(inners(alloc, height, children)?)
+    inners(alloc, height, children)
 }
 
 impl<T: Item> SumTree<T> {
@@ -152,13 +152,13 @@ impl<T: Item> SumTree<T> {
                 let mut entries = Vec::with_capacity(alloc, front.len() + back.len())?;
                 copy_onto(alloc, front, &mut entries)?;
                 copy_onto(alloc, back, &mut entries)?;
-                Ok(leaves(alloc, entries)?)
+                leaves(alloc, entries)
             }
             (Content::Inner(front), Content::Inner(back)) => {
                 let mut children = Vec::with_capacity(alloc, front.len() + back.len())?;
                 share_onto(front, &mut children)?;
                 share_onto(back, &mut children)?;
-                Ok(inners(alloc, self.node.height, children)?)
+                inners(alloc, self.node.height, children)
             }
             _ => unreachable!(),
         }
@@ -183,7 +183,7 @@ impl<T: Item> SumTree<T> {
             Content::Inner(nodes) => {
                 let last = nodes.len() - 1;
                 let (front, back) = nodes[last].followed(alloc, other)?;
-                Ok(with_child(alloc, self.node.height, nodes, last, front, back)?)
+                with_child(alloc, self.node.height, nodes, last, front, back)
             }
         }
     }
@@ -206,7 +206,7 @@ impl<T: Item> SumTree<T> {
             Content::Leaf(_) => unreachable!(),
             Content::Inner(nodes) => {
                 let (front, back) = nodes[0].preceded(alloc, other)?;
-                Ok(with_child(alloc, self.node.height, nodes, 0, front, back)?)
+                with_child(alloc, self.node.height, nodes, 0, front, back)
             }
         }
     }
@@ -255,17 +255,17 @@ pub(crate) fn both<T: Item>(
     ensures { IfOk result (λ t. t.items ≡ front.now.items ++ back.now.items) }
 {
     if back.is_empty() {
-        return Ok(front.share()?);
+        return front.share();
     }
     if front.is_empty() {
-        return Ok(back.share()?);
+        return back.share();
     }
     if back.height() <= front.height() {
         let (a, b) = front.followed(alloc, back)?;
-        Ok(root(alloc, a, b)?)
+        root(alloc, a, b)
     } else {
         let (a, b) = back.preceded(alloc, front)?;
-        Ok(root(alloc, a, b)?)
+        root(alloc, a, b)
     }
 }
 
@@ -287,7 +287,7 @@ pub(crate) fn root<T: Item>(
             let mut children = Vec::with_capacity(alloc, 2)?;
             children.push(front)?;
             children.push(back)?;
-            Ok(inner(alloc, height, children)?)
+            inner(alloc, height, children)
         }
     }
 }

@@ -107,7 +107,7 @@ pub(crate) fn from_entries<T: Item>(
     ensures { IfOk result (λ t. t.items ≡ entries.items) }
 {
     if entries.len() <= MOST {
-        return Ok(leaf(alloc, entries)?);
+        return leaf(alloc, entries);
     }
     let mut nodes = leaf_level(alloc, groups(alloc, entries)?)?;
     let mut height = 1;
@@ -115,7 +115,7 @@ pub(crate) fn from_entries<T: Item>(
         nodes = inner_level(alloc, height, groups(alloc, nodes)?)?;
         height += 1;
     }
-    Ok(inner(alloc, height, nodes)?)
+    inner(alloc, height, nodes)
 }
 
 impl<T: Item> SumTree<T> {

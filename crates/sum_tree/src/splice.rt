@@ -6,7 +6,7 @@ ghost use Rattle.sum_tree.specs.Grown.{with_pair, with_run, pair_list};
 ghost use Rattle.sum_tree.specs.Spliced.{spliced, IsPiece, IsSpliced, IsSplicing, IsWithin};
 
 use crate::entry::Entry;
-use crate::grow::{both, copy_onto, gathered, inners, leaves, root};
+use crate::grow::{copy_onto, gathered, inners, leaves, root};
 use crate::here::Placing;
 use crate::list::{entries_of, from_entries};
 use crate::traits::Item;
@@ -87,7 +87,7 @@ fn with_children<T: Item>(
         return Ok((front, None));
     }
     let children = gathered(alloc, nodes, from, to, front, back)?;
-    Ok(inners(alloc, height, children)?)
+    inners(alloc, height, children)
 }
 
 // What stands in the place of a node whose child at k became `front` and `back`. A narrow child is joined with one
@@ -193,13 +193,12 @@ impl<T: Item> SumTree<T> {
         ensures { IfOk result (λ t. t.items ≡ spliced from to entries.items self.now.items) }
     {
         match self.spliced_leaf(alloc, from, to - from, entries)? {
-            Splicing::Done(front, back) => Ok(root(alloc, front, back)?),
+            Splicing::Done(front, back) => root(alloc, front, back),
             Splicing::Back(entries) => {
-                let front = self.taken(alloc, from)?;
-                let middle = from_entries(alloc, entries)?;
-                let back = self.dropped(alloc, to)?;
-                let front = both(alloc, &front, &middle)?;
-                Ok(both(alloc, &front, &back)?)
+                let mut whole = self.taken(alloc, from)?;
+                whole.append(alloc, from_entries(alloc, entries)?)?;
+                whole.append(alloc, self.dropped(alloc, to)?)?;
+                Ok(whole)
             }
         }
     }

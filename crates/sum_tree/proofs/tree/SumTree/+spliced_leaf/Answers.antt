@@ -1,13 +1,15 @@
-use Rattle.std.proofs.Common.{rules, ◌≡◌, ◌+◌, ◌^◌, ◌<◌, ◌≤◌, ◌++◌, length, take, drop, sym, subst, ap, refl, arith, length-append}
+use Rattle.std.proofs.Common.{rules, ◌≡◌, ℕ, ◌+◌, ◌-◌, ◌^◌, ◌<◌, ◌≤◌, ◌++◌, length, take, drop, sym, subst, ap, refl, ◌∙◌, arith, length-append}
+use Rattle.std.proofs.lemmas.List.{length-take, length-drop}
 use Rattle.sum_tree.specs.Seen.{Seen}
 use Rattle.sum_tree.specs.Shape.{joined, IsChild}
 use Rattle.sum_tree.specs.Grown.{with_pair}
-use Rattle.sum_tree.specs.Spliced.{spliced, IsSplicing, IsWithin}
+use Rattle.sum_tree.specs.Spliced.{spliced, IsPiece, IsSplicing, IsWithin}
 use Rattle.sum_tree.specs.declared.splice.Splicing.{Splicing}
 use Rattle.sum_tree.specs.declared.splice.Splicing.TheVariants.{Done}
 use Rattle.sum_tree.proofs.Runs.{fits_middle}
-use Rattle.sum_tree.proofs.Opened.{IsInner, opened, opened_leaf, leaf_height}
-use Rattle.sum_tree.proofs.Splices.{spliced_child, spliced-joined, spliced_within, split_spliced, leaf_spliced}
+use Rattle.sum_tree.proofs.Opened.{IsInner, opened, opened_leaf, leaf_height, leaf_width}
+use Rattle.sum_tree.proofs.Placeds.{spliced_length}
+use Rattle.sum_tree.proofs.Splices.{spliced_child, spliced_piece, spliced-joined, spliced_within, split_spliced, leaf_spliced}
 use Rattle.sum_tree.proofs.tree.SumTree.+spliced_leaf.Goals as goal
 
 pub spliced_leaf-requires : goal.spliced_leaf-requires
@@ -88,3 +90,86 @@ returns-in_ok-front-in-Leaf g t' c =
     let low : s.height ≡ 0 = leaf_height s c.self.inside.node.value c.deref.result.now c.in-Leaf.old c.self.view_is c.deref.ensures c.in-Leaf.is c.self.invariant.0 in
     let all : c.in_ok-all-in-Leaf.all.items ≡ spliced i j ys s.items = leaf_spliced i j s.items old c.deref-in-Leaf.result.now c.deref-in-Leaf-2.result.now ys c.in_ok-all-in-Leaf.all.items whole c.deref-in-Leaf.ensures.value c.deref-in-Leaf-2.ensures.value c.in_ok-all-in-Leaf.ensures in
     split_spliced 0 s.height (length c.in_ok-all-in-Leaf.all.items) s.width c.in_ok-all-in-Leaf.all.items (spliced i j ys s.items) c.in_ok-front-in-Leaf.front c.in_ok-front-in-Leaf.back (sym low) all c.in_ok-front-in-Leaf.ensures
+
+pub mended-requires-clause-children : goal.mended-requires-clause-children
+mended-requires-clause-children g t' c =
+    let s = c.args.self.now in
+    let ts = c.in-Inner.children.items in
+    let o : IsInner s ts = opened s c.self.inside.node.value c.deref.result.now c.in-Inner.children c.self.view_is c.deref.ensures c.in-Inner.is c.self.invariant.0 in
+    let height : c.deref-in-Done.result.now.height ≡ s.height = ap (λ (q : _). q.height) c.deref-in-Done.ensures ∙ ap (λ (q : Seen _). q.height) c.self.view_is in
+    rw (height, c.deref-in-Done-2.ensures.value) o.children
+
+pub mended-requires-clause-least : goal.mended-requires-clause-least
+mended-requires-clause-least g t' c =
+    let s = c.args.self.now in
+    let ts = c.in-Inner.children.items in
+    let o : IsInner s ts = opened s c.self.inside.node.value c.deref.result.now c.in-Inner.children c.self.view_is c.deref.ensures c.in-Inner.is c.self.invariant.0 in
+    rw c.deref-in-Done-2.ensures.value o.least
+
+pub mended-requires-clause-most : goal.mended-requires-clause-most
+mended-requires-clause-most g t' c =
+    let s = c.args.self.now in
+    let ts = c.in-Inner.children.items in
+    let o : IsInner s ts = opened s c.self.inside.node.value c.deref.result.now c.in-Inner.children c.self.view_is c.deref.ensures c.in-Inner.is c.self.invariant.0 in
+    rw c.deref-in-Done-2.ensures.value o.most
+
+pub mended-requires-clause-within : goal.mended-requires-clause-within
+mended-requires-clause-within g t' c =
+    let n = c.args.count in
+    let ts = c.in-Inner.children.items in
+    let k = c.in-Some.place.0 in
+    let r = c.in-Some.place.1 in
+    let w : IsWithin ts c.args.from n k r = rw c.deref-in-Inner.ensures.value at c.in-Some.ensures in
+    rw c.deref-in-Done-2.ensures.value w.0
+
+pub mended-requires-clause-pair : goal.mended-requires-clause-pair
+mended-requires-clause-pair g t' c =
+    let s = c.args.self.now in
+    let ts = c.in-Inner.children.items in
+    let ys = c.args.entries.items in
+    let n = c.args.count in
+    let o : IsInner s ts = opened s c.self.inside.node.value c.deref.result.now c.in-Inner.children c.self.view_is c.deref.ensures c.in-Inner.is c.self.invariant.0 in
+    let k = c.in-Some.place.0 in
+    let r = c.in-Some.place.1 in
+    let t = c.index.result.now in
+    let w : IsWithin ts c.args.from n k r = rw c.deref-in-Inner.ensures.value at c.in-Some.ensures in
+    let done : IsSplicing t.height t.width (spliced r (r + n) ys t.items) ys (Done c.in-Done.front c.in-Done.back) = subst (λ (q : Splicing (Seen _) _). IsSplicing t.height t.width (spliced r (r + n) ys t.items) ys q) c.in-Done.is c.in_ok-entries-in-Inner.ensures in
+    let child : IsChild s.height t = subst (λ (u : Seen _). IsChild s.height u) (sym c.index.ensures) (o.children k t w.0) in
+    let height : c.deref-in-Done.result.now.height ≡ s.height = ap (λ (q : _). q.height) c.deref-in-Done.ensures ∙ ap (λ (q : Seen _). q.height) c.self.view_is in
+    rw height (subst (λ (i : ℕ). IsPiece i c.in-Done.front c.in-Done.back) child.lower (spliced_piece t.height t.width (spliced r (r + n) ys t.items) c.in-Done.front c.in-Done.back done (omega (arith, child.wide))))
+
+pub three_parts-requires-clause-front : goal.three_parts-requires-clause-front
+three_parts-requires-clause-front g t' c =
+    let s = c.args.self.now in
+    let wide = leaf_width s c.self.inside.node.value c.deref.result.now c.in-Leaf.old c.self.view_is c.deref.ensures c.in-Leaf.is c.self.invariant.0 in
+    omega (arith, length-take c.args.from c.deref-in-Leaf.result.now, ap length c.deref-in-Leaf.ensures.value, wide.1)
+
+pub three_parts-requires-clause-back : goal.three_parts-requires-clause-back
+three_parts-requires-clause-back g t' c =
+    let s = c.args.self.now in
+    let wide = leaf_width s c.self.inside.node.value c.deref.result.now c.in-Leaf.old c.self.view_is c.deref.ensures c.in-Leaf.is c.self.invariant.0 in
+    omega (arith, length-take (length c.deref-in-Leaf-2.result.now - (c.args.from + c.args.count)) (drop (c.args.from + c.args.count) c.deref-in-Leaf-2.result.now), length-drop (c.args.from + c.args.count) c.deref-in-Leaf-2.result.now, ap length c.deref-in-Leaf-2.ensures.value, wide.1)
+
+pub leaves-requires-clause-most : goal.leaves-requires-clause-most
+leaves-requires-clause-most g t' c =
+    let s = c.args.self.now in
+    let old = c.in-Leaf.old.items in
+    let ys = c.args.entries.items in
+    let i = c.args.from in
+    let j = c.args.from + c.args.count in
+    let whole : s.items ≡ old = opened_leaf s c.self.inside.node.value c.deref.result.now c.in-Leaf.old c.self.view_is c.deref.ensures c.in-Leaf.is in
+    let low : s.height ≡ 0 = leaf_height s c.self.inside.node.value c.deref.result.now c.in-Leaf.old c.self.view_is c.deref.ensures c.in-Leaf.is c.self.invariant.0 in
+    let all : c.in_ok-all-in-Leaf.all.items ≡ spliced i j ys s.items = leaf_spliced i j s.items old c.deref-in-Leaf.result.now c.deref-in-Leaf-2.result.now ys c.in_ok-all-in-Leaf.all.items whole c.deref-in-Leaf.ensures.value c.deref-in-Leaf-2.ensures.value c.in_ok-all-in-Leaf.ensures in
+    let wide = leaf_width s c.self.inside.node.value c.deref.result.now c.in-Leaf.old c.self.view_is c.deref.ensures c.in-Leaf.is c.self.invariant.0 in
+    omega (arith, ap length all, spliced_length c.args.from c.args.count ys s.items c.requires.within, ap length whole, wide.1, c.args.entries.ok)
+
+pub leaves-requires-clause-fits : goal.leaves-requires-clause-fits
+leaves-requires-clause-fits g t' c =
+    let s = c.args.self.now in
+    let old = c.in-Leaf.old.items in
+    let ys = c.args.entries.items in
+    let i = c.args.from in
+    let j = c.args.from + c.args.count in
+    let whole : s.items ≡ old = opened_leaf s c.self.inside.node.value c.deref.result.now c.in-Leaf.old c.self.view_is c.deref.ensures c.in-Leaf.is in
+    let all : c.in_ok-all-in-Leaf.all.items ≡ spliced i j ys s.items = leaf_spliced i j s.items old c.deref-in-Leaf.result.now c.deref-in-Leaf-2.result.now ys c.in_ok-all-in-Leaf.all.items whole c.deref-in-Leaf.ensures.value c.deref-in-Leaf-2.ensures.value c.in_ok-all-in-Leaf.ensures in
+    rw all c.requires.fits
