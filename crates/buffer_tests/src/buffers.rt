@@ -400,6 +400,17 @@ const WAITS_FOR_ITS_EDIT: Case = (
     &[],
 );
 
+const A_TEXT_THAT_IS_TOO_LONG: Case = (
+    "ab",
+    &[(
+        Take(BY_ONE, SEES_BASE, Letters(65_537)),
+        NotTaken(OpFault::TextLimit(65_537)),
+        "ab",
+    )],
+    0,
+    &[],
+);
+
 const BYTES: Unit = Unit::Bytes;
 
 const ENTRIES: Unit = Unit::Entries;
@@ -575,38 +586,41 @@ fn play(rt: &impl Abort, alloc: Global, mut buffer: Buffer, case: &Case) -> Resu
     Ok(())
 }
 
+const CASES: &[Case] = &[
+    INSIDE_A_CHARACTER,
+    TWO_AT_ONE_PLACE,
+    IN_THE_OTHER_ORDER,
+    CAUSES_COME_LAST,
+    IN_WRONG_ORDER,
+    APPLIED_AND_REFUSED,
+    REFUSED_AFTER_TAKING,
+    EQUAL_IS_DROPPED,
+    UNDO_AND_REDO,
+    FAULTS_OF_UNDOS,
+    DELETED_BY_TWO,
+    UNDONE_BY_BOTH,
+    WAITS_FOR_ITS_EDIT,
+    A_TEXT_THAT_IS_TOO_LONG,
+];
+
+const CASES_OF_FEW: &[Case] = &[
+    EDITS_AT_THE_LIMITS,
+    TAKEN_AT_THE_LIMITS,
+    UNDOS_AT_THE_LIMITS,
+];
+
 #[test]
 fn calls_and_their_answers(rt: HostRuntime) -> Result<(), Fail> {
-    let alloc = rt.alloc();
-    for case in [
-        INSIDE_A_CHARACTER,
-        TWO_AT_ONE_PLACE,
-        IN_THE_OTHER_ORDER,
-        CAUSES_COME_LAST,
-        IN_WRONG_ORDER,
-        APPLIED_AND_REFUSED,
-        REFUSED_AFTER_TAKING,
-        EQUAL_IS_DROPPED,
-        UNDO_AND_REDO,
-        FAULTS_OF_UNDOS,
-        DELETED_BY_TWO,
-        UNDONE_BY_BOTH,
-        WAITS_FOR_ITS_EDIT,
-    ] {
-        play(&rt, alloc, ample(alloc, case.0)?, &case)?;
+    for case in CASES {
+        play(&rt, rt.alloc(), ample(rt.alloc(), case.0)?, case)?;
     }
     Ok(())
 }
 
 #[test]
 fn calls_at_the_limits(rt: HostRuntime) -> Result<(), Fail> {
-    let alloc = rt.alloc();
-    for case in [
-        EDITS_AT_THE_LIMITS,
-        TAKEN_AT_THE_LIMITS,
-        UNDOS_AT_THE_LIMITS,
-    ] {
-        play(&rt, alloc, few(alloc, case.0)?, &case)?;
+    for case in CASES_OF_FEW {
+        play(&rt, rt.alloc(), few(rt.alloc(), case.0)?, case)?;
     }
     Ok(())
 }
@@ -681,18 +695,5 @@ fn count_hidden(rt: &impl Abort, alloc: Global, mut buffer: Buffer) -> Result<()
 #[test]
 fn ranges_count_hidden_bytes(rt: HostRuntime) -> Result<(), Fail> {
     count_hidden(&rt, rt.alloc(), ample(rt.alloc(), "abc")?)?;
-    Ok(())
-}
-
-fn take_letters(rt: &impl Abort, alloc: Global, mut buffer: Buffer) -> Result<(), AllocError> {
-    let long = operation(alloc, BY_ONE, SEES_BASE, Letters(65_537))?;
-    let came = take(&mut buffer, long);
-    assert_eq!(rt; came, NotTaken(OpFault::TextLimit(65_537)));
-    Ok(())
-}
-
-#[test]
-fn a_taken_text_that_is_too_long(rt: HostRuntime) -> Result<(), Fail> {
-    take_letters(&rt, rt.alloc(), ample(rt.alloc(), "ab")?)?;
     Ok(())
 }

@@ -186,14 +186,21 @@ fn text_of(alloc: Global, cells: &Cells) -> Result<Option<String>, AllocError> {
     }
 }
 
+fn shows(alloc: Global, cells: &Cells, want: &str) -> Result<bool, AllocError> {
+    match text_of(alloc, cells)? {
+        Some(text) => Ok(text.as_str() == want),
+        None => Ok(false),
+    }
+}
+
 // A history's texts, operation by operation.
 fn each_text(rt: &impl Abort, alloc: Global, base: &str, rows: &[Row]) -> Result<(), AllocError> {
     let mut cells = Cells::over(alloc, base)?;
     let mut undos = UndoMap::new(alloc)?;
-    assert_eq!(rt; text_of(alloc, &cells)?.as_deref(), Some(base));
+    assert!(rt; shows(alloc, &cells, base)?, "{base}");
     for row in rows {
         cells = step(alloc, &mut undos, cells, row)?;
-        assert_eq!(rt; text_of(alloc, &cells)?.as_deref(), Some(row.3));
+        assert!(rt; shows(alloc, &cells, row.3)?, "{}", row.3);
     }
     Ok(())
 }

@@ -56,14 +56,17 @@ fn seeing(alloc: Global, stamps: &[(u32, u16)]) -> Result<Version, AllocError> {
     Ok(version)
 }
 
+fn is_of_five(rt: &impl Abort, version: &Version) {
+    assert_eq!(rt; version.as_slice(), ENTRIES);
+    let values = (version.get(1023), version.get(9), version.get(2));
+    assert_eq!(rt; values, (1, 8, 0));
+}
+
 #[test]
 fn a_version_of_five_replicas(rt: HostRuntime) -> Result<(), Fail> {
-    let alloc = rt.alloc();
-    let version = seeing(alloc, STAMPS)?;
-    let copy = version.copy(alloc)?;
-    assert_eq!(rt; version.as_slice(), ENTRIES);
-    assert_eq!(rt; copy.as_slice(), ENTRIES);
-    assert_eq!(rt; (copy.get(1023), copy.get(9), copy.get(2)), (1, 8, 0));
+    let version = seeing(rt.alloc(), STAMPS)?;
+    is_of_five(&rt, &version);
+    is_of_five(&rt, &version.copy(rt.alloc())?);
     Ok(())
 }
 
@@ -71,31 +74,42 @@ fn sees(version: &Version, value: u32, replica: u16) -> bool {
     version.sees(Lamport { value, replica })
 }
 
+// Whether a version sees 1.1 and 3.1, whether it sees all that another one sees, and what it misses first.
+fn sight(version: &Version, other: &Version) -> (bool, bool, bool, Option<(u16, u32)>) {
+    (
+        sees(version, 1, 1),
+        sees(version, 3, 1),
+        version.sees_all(other),
+        version.first_missing(other),
+    )
+}
+
 #[test]
 fn what_a_version_sees_and_misses(rt: HostRuntime) -> Result<(), Fail> {
-    let alloc = rt.alloc();
-    let mut version = seeing(alloc, &[(2, 1)])?;
-    assert!(rt; sees(&version, 1, 1));
-    assert!(rt; !sees(&version, 3, 1));
-    let other = seeing(alloc, &[(3, 1), (1, 2)])?;
-    assert!(rt; !version.sees_all(&other));
-    assert_eq!(rt; version.first_missing(&other), Some((1, 3)));
+    let mut version = seeing(rt.alloc(), &[(2, 1)])?;
+    let other = seeing(rt.alloc(), &[(3, 1), (1, 2)])?;
+    let before = sight(&version, &other);
+    assert_eq!(rt; before, (true, false, false, Some((1, 3))));
     version.join(&other)?;
-    assert!(rt; sees(&version, 3, 1));
-    assert!(rt; version.sees_all(&other));
-    assert_eq!(rt; version.first_missing(&other), None);
+    assert_eq!(rt; sight(&version, &other), (true, true, true, None));
     assert_eq!(rt; version.as_slice(), other.as_slice());
     Ok(())
 }
+
+const BY_INDEX: &[(u64, Option<(u16, u32)>)] = &[
+    (0, Some((0, 5))),
+    (4, Some((1023, 1))),
+    (5, None),
+    (u64::MAX, None),
+];
 
 #[test]
 fn entries_by_index(rt: HostRuntime) -> Result<(), Fail> {
     let version = seeing(rt.alloc(), STAMPS)?;
     assert_eq!(rt; version.len(), 5);
-    assert_eq!(rt; version.entry(0), Some((0, 5)));
-    assert_eq!(rt; version.entry(4), Some((1023, 1)));
-    assert_eq!(rt; version.entry(5), None);
-    assert_eq!(rt; version.entry(u64::MAX), None);
+    for &(i, want) in BY_INDEX {
+        assert_eq!(rt; version.entry(i), want);
+    }
     Ok(())
 }
 
@@ -104,19 +118,44 @@ const LEFT: &[(u32, u16)] = &[(4, 1), (9, 3), (2, 5), (6, 9)];
 
 const RIGHT: &[(u32, u16)] = &[(7, 0), (5, 1), (1, 3), (3, 4), (8, 12)];
 
+const BOTH: &[(u32, u16)] = &[(7, 0), (5, 1), (9, 3), (3, 4), (2, 5), (6, 9), (8, 12)];
+
 const JOINED: &[(u16, u32)] = &[(0, 7), (1, 5), (3, 9), (4, 3), (5, 2), (9, 6), (12, 8)];
+
+// What one version sees, what the other one sees, and the first that the one misses of it.
+type Join = (
+    &'static [(u32, u16)],
+    &'static [(u32, u16)],
+    Option<(u16, u32)>,
+);
+
+const JOINS: &[Join] = &[
+    (LEFT, RIGHT, Some((0, 7))),
+    (RIGHT, LEFT, Some((3, 9))),
+    (RIGHT, BOTH, Some((3, 9))),
+    (BOTH, LEFT, None),
+];
+
+// The first that a version misses of another one, and their join.
+fn join_of(
+    alloc: Global,
+    left: &[(u32, u16)],
+    right: &[(u32, u16)],
+) -> Result<(Option<(u16, u32)>, Version), AllocError> {
+    let mut version = seeing(alloc, left)?;
+    let other = seeing(alloc, right)?;
+    let missing = version.first_missing(&other);
+    version.join(&other)?;
+    Ok((missing, version))
+}
 
 #[test]
 fn joins_of_two_versions(rt: HostRuntime) -> Result<(), Fail> {
-    let alloc = rt.alloc();
-    let mut left = seeing(alloc, LEFT)?;
-    let mut right = seeing(alloc, RIGHT)?;
-    assert_eq!(rt; left.first_missing(&right), Some((0, 7)));
-    assert_eq!(rt; right.first_missing(&left), Some((3, 9)));
-    left.join(&right)?;
-    assert_eq!(rt; left.as_slice(), JOINED);
-    right.join(&left)?;
-    assert_eq!(rt; right.as_slice(), JOINED);
+    for &(left, right, want) in JOINS {
+        let (missing, joined) = join_of(rt.alloc(), left, right)?;
+        assert_eq!(rt; missing, want);
+        assert_eq!(rt; joined.as_slice(), JOINED);
+    }
     Ok(())
 }
 

@@ -4,14 +4,19 @@ use std::alloc::Global;
 use std::cmp::Ordering;
 use std::test::Fail;
 
-// Where a further locator lies, after the least and the greatest one: between those of two indexes; and its digits.
-const BETWEEN: &[(usize, usize, &[u64])] = &[
-    (0, 1, &[65535]),
-    (0, 2, &[0, 65535]),
-    (2, 1, &[131070]),
-    (2, 4, &[65535, 65535]),
-    (2, 5, &[65535, 0, 65535]),
-    (4, 5, &[131070, 0, 65535]),
+// Where a further locator lies, after the least and the greatest one: between those of two indexes.
+const BETWEEN: &[(usize, usize)] = &[(0, 1), (0, 2), (2, 1), (2, 4), (2, 5), (4, 5)];
+
+// The digits of all.
+const DIGITS: &[&[u64]] = &[
+    &[0],
+    &[u64::MAX],
+    &[65535],
+    &[0, 65535],
+    &[131070],
+    &[65535, 65535],
+    &[65535, 0, 65535],
+    &[131070, 0, 65535],
 ];
 
 // The least locator, the greatest one, and those of the table.
@@ -19,7 +24,7 @@ fn locators(alloc: Global) -> Result<Vec<Locator>, OutOfMemory> {
     let mut all = Vec::new(alloc);
     all.push(Locator::least(alloc)?)?;
     all.push(Locator::greatest(alloc)?)?;
-    for &(low, high, _) in BETWEEN {
+    for &(low, high) in BETWEEN {
         if let (Some(low), Some(high)) = (all.get(low), all.get(high)) {
             let between = Locator::between(alloc, low, high)?;
             all.push(between)?;
@@ -36,15 +41,18 @@ fn told_of(alloc: Global, digits: &[u64]) -> Result<String, OutOfMemory> {
     format!(in alloc; "Locator {{ digits: {digits:?} }}")
 }
 
+// Whether a locator has these digits, and so has its copy.
+fn is_of(alloc: Global, locator: &Locator, digits: &[u64]) -> Result<bool, OutOfMemory> {
+    let is_told = told(alloc, locator)? == told_of(alloc, digits)?;
+    Ok(is_told && locator.copy(alloc)? == *locator)
+}
+
 #[test]
 fn gives_the_digits_between(rt: HostRuntime) -> Result<(), Fail> {
-    let alloc = rt.alloc();
-    let all = locators(alloc)?;
-    assert_eq!(rt; all.len(), 2 + BETWEEN.len());
-    let ends = [(0, 0, [0].as_slice()), (1, 1, [u64::MAX].as_slice())];
-    for (locator, row) in all.iter().zip(ends.iter().chain(BETWEEN)) {
-        assert_eq!(rt; told(alloc, locator)?, told_of(alloc, row.2)?);
-        assert_eq!(rt; &locator.copy(alloc)?, locator);
+    let all = locators(rt.alloc())?;
+    assert_eq!(rt; all.len(), DIGITS.len());
+    for (locator, digits) in all.iter().zip(DIGITS) {
+        assert!(rt; is_of(rt.alloc(), locator, digits)?, "{digits:?}");
     }
     Ok(())
 }

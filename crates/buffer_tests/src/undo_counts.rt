@@ -39,19 +39,43 @@ fn made(alloc: Global, rows: &[(Stamp, Stamp, u32)]) -> Result<UndoMap, AllocErr
     Ok(map)
 }
 
+// The count of the first edit and whether it is undone, now, and at a version that has seen 3.1 and 3.2.
+fn counted(
+    alloc: Global,
+    rows: &[(Stamp, Stamp, u32)],
+) -> Result<(u32, bool, u32, bool), AllocError> {
+    let map = made(alloc, rows)?.share()?;
+    let early = version(alloc, &[(1, 3), (2, 3)])?;
+    Ok((
+        map.count(FIRST),
+        map.is_undone(FIRST),
+        map.count_at(FIRST, &early),
+        map.was_undone(FIRST, &early),
+    ))
+}
+
+// Edits, undos and the counts that they give; and what is counted then.
+const COUNTED: &[(&[(Stamp, Stamp, u32)], (u32, bool, u32, bool))] = &[
+    (&[], (0, false, 0, false)),
+    (
+        &[((2, 1), (3, 1), 1), ((2, 1), (3, 2), 1)],
+        (1, true, 1, true),
+    ),
+    (
+        &[
+            ((2, 1), (3, 1), 1),
+            ((2, 1), (3, 2), 1),
+            ((2, 1), (5, 1), 2),
+        ],
+        (2, false, 1, true),
+    ),
+];
+
 #[test]
 fn greatest_and_no_sum(rt: HostRuntime) -> Result<(), Fail> {
-    let alloc = rt.alloc();
-    let mut map = made(alloc, &[((2, 1), (3, 1), 1), ((2, 1), (3, 2), 1)])?;
-    assert_eq!(rt; map.count(FIRST), 1);
-    assert!(rt; map.is_undone(FIRST));
-    keep(&mut map, alloc, FIRST, stamp((5, 1)), 2)?;
-    let shared = map.share()?;
-    assert_eq!(rt; shared.count(FIRST), 2);
-    assert!(rt; !shared.is_undone(FIRST));
-    let early = version(alloc, &[(1, 3), (2, 3)])?;
-    assert_eq!(rt; shared.count_at(FIRST, &early), 1);
-    assert!(rt; shared.was_undone(FIRST, &early));
+    for &(rows, want) in COUNTED {
+        assert_eq!(rt; counted(rt.alloc(), rows)?, want);
+    }
     Ok(())
 }
 
@@ -72,15 +96,16 @@ fn with_undo(alloc: Global, map: &UndoMap, undo: &UndoOp) -> Result<UndoMap, All
     }
 }
 
+// The counts of the first and the second edit after an undo, and that of the first before it.
+fn counted_after(alloc: Global) -> Result<(u32, u32, u32), AllocError> {
+    let before = made(alloc, &[((2, 1), (3, 1), 2)])?;
+    let undo = undo(alloc, &[(FIRST, 1), (SECOND, 4), (FIRST, 3)])?;
+    let after = with_undo(alloc, &before, &undo)?;
+    Ok((after.count(FIRST), after.count(SECOND), before.count(FIRST)))
+}
+
 #[test]
 fn a_whole_undo(rt: HostRuntime) -> Result<(), Fail> {
-    let alloc = rt.alloc();
-    let before = made(alloc, &[((2, 1), (3, 1), 2)])?;
-    let counts = [(FIRST, 1), (SECOND, 4), (FIRST, 3)];
-    let undo = undo(alloc, counts.as_slice())?;
-    let after = with_undo(alloc, &before, &undo)?;
-    assert_eq!(rt; after.count(FIRST), 3);
-    assert_eq!(rt; after.count(SECOND), 4);
-    assert_eq!(rt; before.count(FIRST), 2);
+    assert_eq!(rt; counted_after(rt.alloc())?, (3, 4, 2));
     Ok(())
 }
