@@ -13,7 +13,7 @@ use Rattle.op_model.specs.Answers.{entry_closed, open_replica}
 use Rattle.op_model.specs.Lawful.{Lawful}
 use Rattle.op_model.proofs.Insertion.{each_map}
 use Rattle.op_model.proofs.PathOrder.{same_stamp_eq}
-use Rattle.op_model.proofs.Lawful.{LawInv, distinct_same}
+use Rattle.op_model.proofs.Lawful.{LawInv, stamp_is, distinct_same}
 use Rattle.op_model.proofs.Passed.{passed, map_none, none_map, find_none, none_find}
 use Rattle.op_model.proofs.Good.{each_entry, within_entry, named, lawful_ready}
 use Rattle.op_model.proofs.MoreLawful.{each_of_lawful}
@@ -29,9 +29,6 @@ opens_of h v o = find_none (λ e. ltb 0 e.1 && not (entry_closed h v e)) v (map_
 
 pub of_opens : (h : History) (v : Entries) → Opens h v → open_replica h v ≡ None
 of_opens h v o = none_map (λ e. e.0) (find (λ e. ltb 0 e.1 && not (entry_closed h v e)) v) (none_find (λ e. ltb 0 e.1 && not (entry_closed h v e)) v o)
-
-stamp_is : (s t : Lamport) → s.value ≡ t.value → s.replica ≡ t.replica → s ≡ t
-stamp_is s t e f = λ i. record { value = e i; replica = f i }
 
 -- the operation that an entry names
 pub names : (h : History) (v : Entries) (e : ℕ × ℕ) → 0 < e.1 → (ltb 0 e.1 && not (entry_closed h v e)) ≡ false

@@ -13,7 +13,8 @@ use Rattle.op_model.specs.Operations.{stamp_of, version_of}
 use Rattle.op_model.specs.Histories.{History, In, base, version, kept, seen, newest_first}
 use Rattle.op_model.specs.Cells.{Cell, Place, everything, seq, cells}
 use Rattle.op_model.specs.Laid.{only}
-use Rattle.op_model.specs.Shown.{deleters_where, deleters}
+use Rattle.op_model.specs.Shown.{undone, all_undone, shown_by, deleters_where, deleters, shown_where, shown}
+use Rattle.op_model.specs.Facts.{was_visible}
 use Rattle.op_model.specs.Answers.{answer, entry_closed}
 use Rattle.op_model.specs.Answers.Answer.{Good}
 use Rattle.op_model.specs.Lawful.{Lawful, LawfulFrom, IsClosed}
@@ -21,6 +22,9 @@ use Rattle.op_model.proofs.PathOrder.{same_stamp_refl}
 use Rattle.op_model.proofs.Restricted.{Closed, restrict}
 use Rattle.op_model.proofs.SameSets.{each_in, newest_seen, newest_same, seq_seen}
 use Rattle.op_model.proofs.Lawful.{greatest, entry_version, greatest_in, greatest_more}
+use Rattle.op_model.proofs.CellsOnce.{member_append}
+use Rattle.op_model.proofs.Deleters.{kept_all}
+use Rattle.op_model.proofs.OnePass.{undone_newest, all_newest}
 use Rattle.op_model.proofs.Parts.{deleters_part}
 use Rattle.op_model.proofs.Passed.{passed, shaped}
 use Rattle.op_model.proofs.Good.{in_tail, checked_of, stamp_parts, within_entry, append_nil}
@@ -55,8 +59,7 @@ named_version (o ∷ h) = each_raise (Named (o ∷ h)) (version h) (stamp_of o) 
     (Rattle.op_model.proofs.Insertion.each_map (Named h) (Named (o ∷ h)) (λ e w. (w.0, inr w.1, w.2)) (version h) (named_version h))
 
 pub in_front : (h g : History) (o : Operation) → In h o → In (h ++ g) o
-in_front [] g o i = absurd i
-in_front (x ∷ h) g o i = elim i [ inl e ↦ inl e | inr n ↦ inr (in_front h g o n) ]
+in_front h g o i = member_append o h g (inl i)
 
 front_opens : (h g : History) → Lawful h → Opens (h ++ g) (version h)
 front_opens h g l = Rattle.op_model.proofs.Insertion.each_map (Named h) (λ (e : ℕ × ℕ). (ltb 0 e.1 && not (entry_closed (h ++ g) (version h) e)) ≡ false)
@@ -135,6 +138,15 @@ module _ (h : History) (l : Lawful h) (v : Entries) (c : IsClosed h v) where
   pub deleters_closed : (d : Cell) → deleters (seen h v) d ≡ filter (sees v) (deleters h d)
   deleters_closed d = ap (λ (x : History). deleters_where everything x d) (newest_seen h v) ∙ deleters_part everything (sees v) (newest_first h) d
       ∙ sym (deleters_restrict (sees v) (newest_first h) d closed_part)
+
+  -- whether a cell was shown, by its deletions in the whole and the counts of what v sees
+  pub shown_closed : (d : Cell) → shown (seen h v) d ≡ was_visible (seen h v) v d.stamp (deleters h d)
+  unfolding shown shown_where
+  shown_closed d =
+      ap (λ (x : History). shown_by x (deleters (seen h v) d) d) (kept_all (newest_first (seen h v)))
+      ∙ ap (λ (b : Bool). not b && all_undone (newest_first (seen h v)) (deleters (seen h v) d)) (undone_newest (seen h v) d.stamp)
+      ∙ ap (λ (b : Bool). not (undone (seen h v) d.stamp) && b) (all_newest (seen h v) (deleters (seen h v) d))
+      ∙ ap (λ (e : List Lamport). not (undone (seen h v) d.stamp) && all_undone (seen h v) e) (deleters_closed d)
 
   -- a good operation that v sees is good against what v sees before it
   good_in_part : (p : History) (op : Operation) → Lawful p → answer p [] op ≡ Good → Lawful (seen p v) → within (version_of op) v ≡ true → answer (seen p v) [] op ≡ Good

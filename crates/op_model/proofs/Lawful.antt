@@ -96,7 +96,7 @@ pub record LawInv (h : History) : Type 0 where
       → (stamp_of o).value ≤ entry (version_of m) (stamp_of o).replica
   pub closed : (o m : Operation) → In h o → In h m → sees (version_of m) (stamp_of o) ≡ true → (r : ℕ) → entry (version_of o) r ≤ entry (version_of m) r
 
-stamp_is : (s t : Lamport) → s.value ≡ t.value → s.replica ≡ t.replica → s ≡ t
+pub stamp_is : (s t : Lamport) → s.value ≡ t.value → s.replica ≡ t.replica → s ≡ t
 stamp_is s t e f = λ i. record { value = e i; replica = f i }
 
 pub distinct_same : (h : History) (o m : Operation) → Distinct h → In h o → In h m → stamp_of o ≡ stamp_of m → o ≡ m

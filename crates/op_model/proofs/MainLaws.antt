@@ -1,10 +1,10 @@
 -- The laws of histories, from the lemmas.
-use Rattle.std.proofs.Common.{suc, List, [], ◌∷◌, ◌∙◌, true, ◌≡◌, ap, subst}
+use Rattle.std.proofs.Common.{ℕ, suc, List, [], ◌∷◌, ◌∙◌, true, ◌≡◌, ap, subst}
 use Rattle.op_model.specs.declared.operation.Operation.{Operation}
 use Rattle.op_model.specs.Histories.{History, newest_first}
-use Rattle.op_model.specs.Cells.{Place, everything, cells}
+use Rattle.op_model.specs.Cells.{Cell, Place, everything, seq, cells}
 use Rattle.op_model.specs.Shown.{new_bytes, byte, shown_where, shown, text, full_where, full}
-use Rattle.op_model.specs.Laws.{SameSetsAgree, PartsAreFiltered, GoodIsLaidIn, ReplayedByStamps, LeftNeighbours, EachCellOnce, DeletersDelete, EditChanges, NewCellsShown, UndoChanges, OneWalk, TextsAreUtf8, BoundariesAreStd, EqualOperationsAreSame, EditsAreGood, UndosAreGood, SettlingEnds, SettlingKeepsLawful, RunsStayLawful, TextsAreShownCells, SameSetsAnswerAlike, AnchorsStandWhereMade, AnchorsStandInOrder, RightAnchorsAreKnown, TwoPassesAreEnough, SetIsNeverRefused, SetIsAppliedWhole, HonestSetsAreApplied, SettlingAppends, RunsAppend, FrontsAreLawful, FrontsAreSeen, ClosedParts, SameSetsRefuseAlike, AnchorsKeepTheirOrder, UndoIsTold, WalksLeaveCells, EditsSinceTellTheChange, HiddenTextsAreUtf8, FactsChangeAtBoundaries, WalksKeepRunsWhole, AnchorsResolve, HonestSetsAreAppliedWhole, EditsSinceAreAtBoundaries, LawfulIsHistory}
+use Rattle.op_model.specs.Laws.{SameSetsAgree, PartsAreFiltered, GoodIsLaidIn, ReplayedByStamps, LeftNeighbours, EachCellOnce, DeletersDelete, EditChanges, NewCellsShown, UndoChanges, OneWalk, TextsAreUtf8, BoundariesAreStd, EqualOperationsAreSame, EditsAreGood, UndosAreGood, SettlingEnds, SettlingKeepsLawful, RunsStayLawful, TextsAreShownCells, SameSetsAnswerAlike, AnchorsStandWhereMade, AnchorsStandInOrder, RightAnchorsAreKnown, TwoPassesAreEnough, SetIsNeverRefused, SetIsAppliedWhole, HonestSetsAreApplied, SettlingAppends, RunsAppend, FrontsAreLawful, FrontsAreSeen, ClosedParts, SameSetsRefuseAlike, AnchorsKeepTheirOrder, UndoIsTold, WalksLeaveCells, EditsSinceTellTheChange, HiddenTextsAreUtf8, FactsChangeAtBoundaries, WalksKeepRunsWhole, AnchorsResolve, HonestSetsAreAppliedWhole, EditsSinceAreAtBoundaries, LawfulIsHistory, TextsAtClosedVersions}
 use Rattle.op_model.proofs.SameSets.{newest_of_set, seq_seen}
 use Rattle.op_model.proofs.Parts.{shown_seen}
 use Rattle.op_model.proofs.Bytes.{text_seen, full_seen}
@@ -20,7 +20,7 @@ use Rattle.op_model.proofs.Proper.{utf8, edit_good, undo_good, same_is, is_same}
 use Rattle.op_model.proofs.WholeTexts.{boundary_of, of_boundary}
 use Rattle.op_model.specs.declared.anchor.TextEdit.{TextEdit}
 use Rattle.op_model.specs.Edits.{is_boundary}
-use Rattle.op_model.specs.Since.{since, text_at}
+use Rattle.op_model.specs.Since.{was_shown, since, text_at}
 use Rattle.op_model.specs.Answers.{same_op}
 use Rattle.op_model.specs.Steps.{opened}
 use Rattle.op_model.proofs.Settling.{settled_fixed, settled_misses, settled_lawful, run_holds, opened_holds}
@@ -36,13 +36,13 @@ use Rattle.op_model.proofs.AllApplied.{all_applied}
 use Rattle.op_model.proofs.HonestSets.{honest_applied, honest_whole}
 use Rattle.op_model.proofs.MoreLawful.{lawful_parts}
 use Rattle.op_model.proofs.Appending.{settled_longer, run_grows}
-use Rattle.op_model.proofs.ClosedVersions.{fronts_seen, seen_or_empty, seq_closed, deleters_closed}
+use Rattle.op_model.proofs.ClosedVersions.{fronts_seen, seen_or_empty, seq_closed, deleters_closed, shown_closed}
 use Rattle.op_model.proofs.KeptOrder.{order_kept}
-use Rattle.op_model.proofs.Followed.{since_told}
+use Rattle.op_model.proofs.Followed.{text_then, since_told}
 use Rattle.op_model.proofs.SinceBoundaries.{since_bounded}
 use Rattle.op_model.proofs.Insertion.{each_map}
 use Rattle.op_model.proofs.WholeTexts.{lawful_whole}
-use Rattle.op_model.proofs.WholeRuns.{hidden_utf8, told_apart, told_first, told_last}
+use Rattle.op_model.proofs.WholeRuns.{hidden_utf8, byte_new, told_apart, told_first, told_last}
 use Rattle.op_model.proofs.WholeWalks.{texts_of, walk_cut}
 use Rattle.op_model.proofs.LeftAnchors.{both_resolve}
 use Rattle.op_model.proofs.Walking.{walk_some}
@@ -212,3 +212,9 @@ edits_since_are_at_boundaries h v l e c = each_map
 pub lawful_is_history : LawfulIsHistory
 lawful_is_history [] l = absurd l
 lawful_is_history (op ∷ ops) l = (l.0, (lawful_ready (op ∷ ops) l).0.distinct)
+
+pub texts_at_closed_versions : TextsAtClosedVersions
+texts_at_closed_versions h v l c = (
+  (λ d. shown_closed h l v c d),
+  text_then h l v c ∙ ap (λ (f : Cell → ℕ). map f (filter (was_shown h v) (cells (seq h)))) (λ i d. byte_new h (lawful_ready h l).0.distinct d.stamp d.k i),
+)

@@ -21,7 +21,7 @@ use Rattle.op_model.specs.Lawful.{Lawful, LawfulFrom}
 use Rattle.op_model.proofs.Insertion.{each_map, each_filter}
 use Rattle.op_model.proofs.PathOrder.{same_stamp_eq}
 use Rattle.op_model.proofs.SameSets.{newest_of_set}
-use Rattle.op_model.proofs.Lawful.{LawInv, Checked, greatest, entry_version, distinct_same, in_append}
+use Rattle.op_model.proofs.Lawful.{LawInv, Checked, greatest, entry_version, stamp_is, distinct_same, in_append}
 use Rattle.op_model.proofs.Passed.{Passed, passed, good, first_past, none_map, map_none, none_when, none_find, find_none}
 use Rattle.op_model.proofs.Good.{checked_of, each_entry, lawful_ready}
 use Rattle.op_model.proofs.MoreLawful.{lawful_more}
@@ -62,9 +62,6 @@ distinct_part keep (p ∷ h) d = elim (keep (stamp_of p)) as (λ b. Distinct (co
 full_of_set : (h g : History) → Distinct h → Distinct g → SameSet h g → full h ≡ full g
 unfolding full
 full_of_set h g d e s = ap (full_where everything) (newest_of_set h g d e s)
-
-stamp_is : (s t : Lamport) → s.value ≡ t.value → s.replica ≡ t.replica → s ≡ t
-stamp_is s t e f = λ i. record { value = e i; replica = f i }
 
 module _ (g : History) (lg : Lawful g) where
   inv : LawInv g

@@ -94,6 +94,12 @@ all_same : (a b : History) → ((t : Lamport) → count a t ≡ count b t) → (
 all_same a b f [] = refl
 all_same a b f (t ∷ d) = rw (same_undone a b f t, all_same a b f d) refl
 
+pub undone_newest : (h : History) (t : Lamport) → undone (newest_first h) t ≡ undone h t
+undone_newest h t = same_undone (newest_first h) h (count_newest h) t
+
+pub all_newest : (h : History) (d : List Lamport) → all_undone (newest_first h) d ≡ all_undone h d
+all_newest h d = all_same (newest_first h) h (count_newest h) d
+
 visible_same : (a b : History) (v : Entries) → ((t : Lamport) → count a t ≡ count b t) → (u : Lamport) (d : List Lamport) → was_visible a v u d ≡ was_visible b v u d
 visible_same a b v f u d = rw (same_undone a b f u, all_same a b f (filter (sees v) d)) refl
 

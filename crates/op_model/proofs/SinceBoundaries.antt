@@ -1,5 +1,5 @@
 -- The edits since a version begin and end at character boundaries of both texts.
-use Rattle.std.proofs.Common.{◌≡◌, ℕ, suc, ◌+◌, ◌-◌, ◌≤◌, ◌⊎◌, Bool, List, [], ◌∷◌, ◌++◌, length, map, drop, refl, sym, ◌∙◌, ap, subst, inl, inr, true, false, cond, not, ◌&&◌, arith, append_assoc}
+use Rattle.std.proofs.Common.{◌≡◌, ℕ, suc, ◌+◌, ◌-◌, ◌≤◌, ◌⊎◌, Bool, List, [], ◌∷◌, ◌++◌, length, map, drop, refl, sym, ◌∙◌, ap, subst, inl, inr, true, false, cond, ◌&&◌, arith, append_assoc}
 use Rattle.std.specs.Prelude.{IsUtf8, IsCharBoundary}
 use Rattle.std.specs.List.{filter}
 use Rattle.std.proofs.lemmas.Bool.{cases_Bool}
@@ -10,11 +10,11 @@ use Rattle.lamport_clock.specs.declared.stamp.Lamport.{Lamport}
 use Rattle.lamport_clock.specs.Versions.{Entries, sees}
 use Rattle.op_model.specs.declared.anchor.TextEdit.{TextEdit}
 use Rattle.op_model.specs.Sorted.{Each}
-use Rattle.op_model.specs.Histories.{History, Distinct, newest_first, kept, seen}
+use Rattle.op_model.specs.Histories.{History, Distinct, seen}
 use Rattle.op_model.specs.Domains.{IsProper}
-use Rattle.op_model.specs.Cells.{Cell, everything, seq, cells}
-use Rattle.op_model.specs.Shown.{undone, all_undone, shown_where, shown, text}
-use Rattle.op_model.specs.Facts.{Fact, fact, told}
+use Rattle.op_model.specs.Cells.{Cell, seq, cells}
+use Rattle.op_model.specs.Shown.{shown, text}
+use Rattle.op_model.specs.Facts.{Fact, fact, told, was_visible}
 use Rattle.op_model.specs.Walked.{Run, facts_of}
 use Rattle.op_model.specs.Lawful.{Lawful, IsClosed}
 use Rattle.op_model.specs.Since.{Fate, fates, was_shown, runs, number_gone, number_new, changes, edits_of, since, text_at}
@@ -23,7 +23,7 @@ use Rattle.op_model.proofs.Utf8Runs.{drop_past, drop_more, length_drop, bytes, U
 use Rattle.op_model.proofs.WholeTexts.{byte_of, Whole, lawful_whole}
 use Rattle.op_model.proofs.WholeRuns.{passes, utf8_where, told_where, told_parted}
 use Rattle.op_model.proofs.WholeWalks.{texts_of}
-use Rattle.op_model.proofs.ClosedVersions.{deleters_closed}
+use Rattle.op_model.proofs.ClosedVersions.{shown_closed}
 use Rattle.op_model.proofs.Followed.{was, now, fates_of, Unkept, Cut, cut, gone_is, new_is, text_then, text_now}
 
 module _ {A : Type 0} (f : A → ℕ) where
@@ -170,16 +170,12 @@ module _ (h : History) (l : Lawful h) (proper : Each IsProper h) (v : Entries) (
   d : Distinct h
   d = (lawful_ready h l).0.distinct
 
-  abbrev then_part : History
-  then_part = kept everything (newest_first (seen h v))
-
   -- whether a cell was shown, by what is told of it
   abbrev was_told : Lamport → Bool → List Lamport → Bool
-  was_told t x e = sees v t && (not (undone then_part t) && all_undone then_part (filter (sees v) e))
+  was_told t x e = sees v t && was_visible (seen h v) v t e
 
   was_is : (x : Cell) → was_shown h v x ≡ passes (byte_of h) was_told (fact h x)
-  unfolding shown shown_where
-  was_is x = ap (λ (e : List Lamport). sees v x.stamp && (not (undone then_part x.stamp) && all_undone then_part e)) (deleters_closed h l v c x)
+  was_is x = ap (λ (e : Bool). sees v x.stamp && e) (shown_closed h l v c x)
 
   fine_told : (rs : List Run) (s : List Cell) → Utf8 (byte_of h) rs → facts_of rs ≡ map (fact h) s → Fine (byte_of h) (was_shown h v) (shown h) (cells (seq h)) s
   fine_told rs s u e = (

@@ -55,7 +55,7 @@ module _ (f : Cell → ℕ) (test : Lamport → Bool → List Lamport → Bool) 
   ]
 
 module _ (h : History) (d : Distinct h) where
-  byte_new : (t : Lamport) (k : ℕ) → byte_of h (record { stamp = t; k = k }) ≡ get_or (new_bytes h t) k 0
+  pub byte_new : (t : Lamport) (k : ℕ) → byte_of h (record { stamp = t; k = k }) ≡ get_or (new_bytes h t) k 0
   byte_new t k = ap (λ (x : List ℕ). get_or x k 0) (bytes_same (newest_first h) h (desc_distinct (newest_first h) (newest_desc h d)) d (newest_same h) t)
 
   -- the bytes of the cells of which a thing is told

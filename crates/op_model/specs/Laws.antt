@@ -12,7 +12,7 @@ use Rattle.op_model.specs.Laid.{only, lay, replayed}
 use Rattle.op_model.specs.Shown.{byte, IsCell, shown_where, shown, deleters, deletes, text_where, text, full_where, full, hidden, new_bytes}
 use Rattle.op_model.specs.Answers.Answer.{Good, Repeat, Waits}
 use Rattle.op_model.specs.Lawful.{Lawful, Honest, IsClosed}
-use Rattle.op_model.specs.Facts.{Fact, Marking, Continues, told, edit_marking, with_deletion, seen_by}
+use Rattle.op_model.specs.Facts.{Fact, Marking, Continues, was_visible, told, edit_marking, with_deletion, seen_by}
 use Rattle.op_model.specs.Walked.{Run, IsWhole, facts_of, walk}
 use Rattle.op_model.specs.Domains.{IsProper, IsReplica, IsHistory}
 use Rattle.op_model.specs.Edits.{is_boundary, replaced}
@@ -26,7 +26,7 @@ use Rattle.op_model.specs.Steps.{older, Step, opened, run, settle_step, IsProper
 use Rattle.op_model.specs.declared.anchor.Anchor.{Anchor}
 use Rattle.op_model.specs.declared.anchor.TextEdit.{TextEdit}
 use Rattle.op_model.specs.Anchors.{left_anchor, right_anchor, place, compare_anchors, is_known, place_fault, resolved, compared}
-use Rattle.op_model.specs.Since.{since, text_at, since_fault, followed}
+use Rattle.op_model.specs.Since.{was_shown, since, text_at, since_fault, followed}
 use Rattle.op_model.specs.Brought.{all_brought, NoFull}
 
 -- two lawful histories of the same operations, in whatever order, have the same sequence and show the same
@@ -208,6 +208,13 @@ abbrev pub ClosedParts : Type 0
 ClosedParts = (h : History) → (v : Entries) → Lawful h → IsClosed h v
     → (IsVersion v → (v ≡ []) ⊎ Lawful (seen h v)) × (seq (seen h v) ≡ only (sees v) (seq h))
     × ((c : Cell) → deleters (seen h v) c ≡ filter (sees v) (deleters h c))
+
+-- a cell was shown at a closed version by its deletions in the whole history and the counts of what the version sees; the text at
+-- the version is the bytes of the cells that were shown, in the order of the whole
+abbrev pub TextsAtClosedVersions : Type 0
+TextsAtClosedVersions = (h : History) → (v : Entries) → Lawful h → IsClosed h v
+    → ((c : Cell) → shown (seen h v) c ≡ was_visible (seen h v) v c.stamp (deleters h c))
+    × (text_at h v ≡ map (byte h) (filter (was_shown h v) (cells (seq h))))
 
 -- two lawful histories of the same operations have one version, refuse the same places and versions, and resolve and order the
 -- same anchors, alike

@@ -26,8 +26,8 @@ pub use laws::{
     replayed_by_stamps, right_anchors_are_known, runs_append, runs_stay_lawful, same_sets_agree,
     same_sets_answer_alike, same_sets_refuse_alike, set_is_applied_whole, set_is_never_refused,
     settling_appends, settling_ends, settling_keeps_lawful, texts_are_shown_cells, texts_are_utf8,
-    two_passes_are_enough, undo_changes, undo_is_told, undos_are_good, walks_keep_runs_whole,
-    walks_leave_cells,
+    texts_at_closed_versions, two_passes_are_enough, undo_changes, undo_is_told, undos_are_good,
+    walks_keep_runs_whole, walks_leave_cells,
 };
 pub use limits::Limits;
 pub use lists::{Counts, Pieces, Text};
