@@ -1,5 +1,5 @@
 // An operation is found, with ample memory.
-use crate::Applied;
+use crate::AppliedList;
 use lamport_clock::{Lamport, Version};
 use op_model::{EditOp, Operation, Pieces};
 use std::alloc::Global;
@@ -21,10 +21,10 @@ fn edit(alloc: Global) -> Operation {
 #[test]
 fn an_operation_is_found(rt: HostRuntime) -> Result<(), Fail> {
     let alloc = rt.alloc();
-    let mut applied = Applied::new(alloc);
+    let mut applied = AppliedList::new(alloc)?;
     assert!(rt; applied.find(STAMP).is_none());
-    applied.push(edit(alloc))?;
-    assert_eq!(rt; applied.as_slice().len(), 1);
+    applied.push(alloc, edit(alloc))?;
+    assert_eq!(rt; applied.len(), 1);
     let found = applied.find(STAMP).map(|op| op.stamp());
     assert_eq!(rt; found, Some(STAMP));
     Ok(())
