@@ -1,113 +1,230 @@
 -- Operations at the places of their stamps.
-use Rattle.std.proofs.Common.{◌≡◌, ℕ, zero, suc, ◌+◌, ◌<◌, ◌⊎◌, Bool, true, false, cond, List, [], ◌∷◌, ◌++◌, length, get_or, refl, sym, ◌∙◌, ap, inl, inr, arith, Option, Some, None}
-use Rattle.std.specs.List.{find, position_from}
-use Rattle.std.specs.BTreeMap.{is_at}
-use Rattle.std.specs.Map.{lookup}
-use Rattle.std.proofs.lemmas.Bool.{cases_Bool}
-use Rattle.std.proofs.lemmas.Iterator.Adapters.{position_from-zero}
+use Rattle.std.proofs.Common.{◌≡◌, ℕ, zero, suc, ◌+◌, ◌<◌, ◌≤◌, ◌^◌, ◌⊎◌, Bool, true, false, cond, List, [], ◌∷◌, ◌++◌, length, length-append, get_or, refl, sym, ◌∙◌, ap, subst, inl, inr, arith, Option, Some, None}
+use Rattle.std.specs.List.{filter, find, slice_get}
+use Rattle.std.specs.Option.{option_or}
+use Rattle.std.specs.Ordering.{is_lt, is_eq, is_gt}
+use Rattle.std.specs.declared.cmp.Ordering.{Ordering}
+use Rattle.std.specs.declared.cmp.Ordering.TheVariants.{Less, Equal, Greater}
+use Rattle.std.proofs.lemmas.Bool.{cases_Bool, cases_lt}
+use Rattle.std.proofs.lemmas.Option.{slice_get_within, get_or_from_slice_get, slice_get-get_or}
+use Rattle.std.proofs.lemmas.List.{get_or_append_left, get_or-append-add}
+use Rattle.std.proofs.lemmas.List.Folds.{find-append}
+use Rattle.sum_tree.specs.Laws.{fold}
+use Rattle.sum_tree.specs.Count.{count_sum}
+use Rattle.sum_tree.specs.Keyed.{Ascending, below, above, inserted}
 use Rattle.lamport_clock.specs.declared.stamp.Lamport.{Lamport}
 use Rattle.lamport_clock.specs.Stamps.{same_stamp}
 use Rattle.lamport_clock.proofs.Order.{stamp_cmp, is_eq-same}
 use Rattle.op_model.specs.declared.operation.Operation.{Operation}
 use Rattle.op_model.specs.Operations.{stamp_of}
-use Rattle.op_model.specs.Histories.{operation_at}
-use Rattle.op_model.proofs.PathOrder.{same_stamp_eq}
-use Rattle.applied_ops.specs.Placed.{place_of, ArePlaced}
-
-abbrev pub Places : Type 0
-Places = List (Lamport × ℕ)
+use Rattle.op_model.specs.Histories.{History, operation_at}
+use Rattle.op_model.proofs.PathOrder.{same_stamp_eq, same_stamp_refl}
+use Rattle.applied_ops.specs.declared.place.Place.{Place}
+use Rattle.applied_ops.specs.Placed.{stamp_at, place_at, ArePlaced}
 
 abbrev has : Lamport → Operation → Bool
 has t o = same_stamp (stamp_of o) t
 
-pub looked_up : (es : Places) (t : Lamport) → lookup (is_at (stamp_cmp t)) es ≡ lookup (λ (s : Lamport). same_stamp t s) es
-looked_up [] t = refl
-looked_up (e ∷ es) t = ap (λ (b : Bool). cond b (Some e.1) (lookup (is_at (stamp_cmp t)) es)) (is_eq-same t e.0) ∙ ap (cond (same_stamp t e.0) (Some e.1)) (looked_up es t)
+-- ---- where the operation of a stamp stands
 
--- ---- one more at the end
+record StandsAt (h : History) (t : Lamport) : Type 0 where
+  pub op : Operation
+  pub index : ℕ
+  pub is : operation_at h t ≡ Some op
+  pub stamp : stamp_of op ≡ t
+  pub within : index < length h
+  pub at : (d : Operation) → get_or h index d ≡ op
 
-abbrev pub or_else : Option ℕ → Option ℕ → Option ℕ
-or_else None o = o
-or_else (Some n) o = Some n
-
-from_more : (p : Operation → Bool) (i : ℕ) (h : List Operation) (x : Operation) → position_from p i (h ++ x ∷ []) ≡ or_else (position_from p i h) (cond (p x) (Some (i + length h)) None)
-from_more p i [] x = let e : i ≡ i + 0 = omega arith in ap (λ (n : ℕ). cond (p x) (Some n) None) e
-from_more p i (o ∷ h) x = elim (cases_Bool (p o)) [
-  | inl e ↦ rw e refl
-  | inr e ↦ (let g : (i + 1) + length h ≡ i + suc (length h) = omega arith in rw e (from_more p (i + 1) h x ∙ ap (λ (n : ℕ). or_else (position_from p (i + 1) h) (cond (p x) (Some n) None)) g))
-]
-
-pub more : (h : List Operation) (x : Operation) (t : Lamport) → place_of (h ++ x ∷ []) t ≡ or_else (place_of h t) (cond (has t x) (Some (length h)) None)
-more h x t =
-    let e : 0 + length h ≡ length h = omega arith in
-    position_from-zero (has t) (h ++ x ∷ []) ∙ from_more (has t) 0 h x ∙ ap (λ (o : Option ℕ). or_else o (cond (has t x) (Some (0 + length h)) None)) (sym (position_from-zero (has t) h))
-    ∙ ap (λ (n : ℕ). or_else (place_of h t) (cond (has t x) (Some n) None)) e
-
--- ---- look-ups
-
-abbrev pub Stands : (Operation → Bool) → List Operation → ℕ → Type 0
-Stands p h n = (n < length h) × ((x : Operation) → x ≡ get_or h n x → find p h ≡ Some x)
-
-found_from : (p : Operation → Bool) (i : ℕ) (h : List Operation) (n m : ℕ) → position_from p i h ≡ Some n → n ≡ i + m → Stands p h m
-found_from p i [] n m e q = cc
-found_from p i (o ∷ h) n m e q = go m (p o) refl q e (λ k g. found_from p (i + 1) h n k g)
+stands : (h : History) (t : Lamport) → StandsAt h t ⊎ (operation_at h t ≡ None)
+stands [] t = inr refl
+stands (o ∷ h) t = go (cases_Bool (has t o)) (stands h t)
   where
-    go : (m : ℕ) (b : Bool) → p o ≡ b → n ≡ i + m → cond b (Some i) (position_from p (i + 1) h) ≡ Some n
-        → ((k : ℕ) → position_from p (i + 1) h ≡ Some n → n ≡ (i + 1) + k → Stands p h k) → Stands p (o ∷ h) m
-    go zero true j q e ih = (omega arith, λ x y. rw j (ap Some (sym y)))
-    go (suc m) true j q e ih = let z : i ≡ n = cc in absurd (omega arith)
-    go zero false j q e ih = absurd (low h (i + 1) n e (omega arith))
-      where
-        low : (h : List Operation) (a n : ℕ) → position_from p a h ≡ Some n → n < a → ⊥
-        low [] a n e l = cc
-        low (o ∷ h) a n e l = one (p o) e (λ g. low h (a + 1) n g (omega arith))
-          where
-            one : (b : Bool) → cond b (Some a) (position_from p (a + 1) h) ≡ Some n → (position_from p (a + 1) h ≡ Some n → ⊥) → ⊥
-            one true e f = let z : a ≡ n = cc in absurd (omega arith)
-            one false e f = f e
-    go (suc m) false j q e ih = let r = ih m e (omega arith) in let l : m < length h = r.0 in (omega arith, λ x y. rw j (r.1 x y))
+    go : (has t o ≡ true) ⊎ (has t o ≡ false) → StandsAt h t ⊎ (operation_at h t ≡ None) → StandsAt (o ∷ h) t ⊎ (operation_at (o ∷ h) t ≡ None)
+    go (inl e) r = inl (record { op = o; index = 0; is = ap (λ (b : Bool). cond b (Some o) (operation_at h t)) e; stamp = same_stamp_eq (stamp_of o) t e; within = omega arith; at = λ d. refl })
+    go (inr e) (inl f) = let l = f.within in inl (record { op = f.op; index = suc f.index; is = ap (λ (b : Bool). cond b (Some o) (operation_at h t)) e ∙ f.is; stamp = f.stamp; within = omega arith; at = f.at })
+    go (inr e) (inr n) = inr (ap (λ (b : Bool). cond b (Some o) (operation_at h t)) e ∙ n)
 
-missing_from : (p : Operation → Bool) (i : ℕ) (h : List Operation) → position_from p i h ≡ None → find p h ≡ None
-missing_from p i [] e = refl
-missing_from p i (o ∷ h) e = go (p o) refl e (missing_from p (i + 1) h)
+-- where no operation has the stamp, none that stands anywhere has
+other_stamp : (h : History) (t : Lamport) (i : ℕ) (d : Operation) → operation_at h t ≡ None → i < length h → has t (get_or h i d) ≡ false
+other_stamp [] t i d n l = absurd (omega arith)
+other_stamp (o ∷ h) t i d n l = go i (has t o) refl n l (other_stamp h t)
   where
-    go : (b : Bool) → p o ≡ b → cond b (Some i) (position_from p (i + 1) h) ≡ None → (position_from p (i + 1) h ≡ None → find p h ≡ None) → find p (o ∷ h) ≡ None
-    go true j e f = cc
-    go false j e f = rw j (f e)
+    go : (i : ℕ) (b : Bool) → has t o ≡ b → cond b (Some o) (operation_at h t) ≡ None → i < suc (length h)
+        → ((i : ℕ) (d : Operation) → operation_at h t ≡ None → i < length h → has t (get_or h i d) ≡ false) → has t (get_or (o ∷ h) i d) ≡ false
+    go i true e n l f = cc
+    go zero false e n l f = e
+    go (suc i) false e n l f = f i d n (omega arith)
 
-unplaced_from : (p : Operation → Bool) (i : ℕ) (h : List Operation) → find p h ≡ None → position_from p i h ≡ None
-unplaced_from p i [] e = refl
-unplaced_from p i (o ∷ h) e = go (p o) refl e (unplaced_from p (i + 1) h)
+-- ---- what places tell
+
+module _ (ps : List Place) (h : History) (t : Lamport) (k : ArePlaced ps h) where
+  led : (f : StandsAt h t) → place_at ps t ≡ Some (record { stamp = t; index = f.index })
+  led f = subst (λ (s : Lamport). place_at ps s ≡ Some (record { stamp = s; index = f.index })) (ap stamp_of (f.at f.op) ∙ f.stamp) (k.1 f.index f.op f.within)
+
+  pub unplaced : None ≡ place_at ps t → operation_at h t ≡ None
+  unplaced e = elim (stands h t) [
+    | inl f ↦ let q = e ∙ led f in cc
+    | inr n ↦ n
+  ]
+
+  module _ (p : Place) (e : Some p ≡ place_at ps t) where
+    index_is : (f : StandsAt h t) → p.index ≡ f.index
+    index_is f = let q : Some p ≡ Some (record { stamp = t; index = f.index }) = e ∙ led f in let r : p ≡ record { stamp = t; index = f.index } = cc in ap (λ (x : Place). x.index) r
+
+    pub past : None ≡ slice_get h p.index → operation_at h t ≡ None
+    past n = elim (stands h t) [
+      | inl f ↦ let some = slice_get-get_or h f.index f.op f.within in let q = n ∙ ap (slice_get h) (index_is f) ∙ some in cc
+      | inr m ↦ m
+    ]
+
+    module _ (o : Operation) (g : Some o ≡ slice_get h p.index) where
+      op_is : (f : StandsAt h t) → o ≡ f.op
+      op_is f = sym (get_or_from_slice_get h p.index o f.op (sym g)) ∙ ap (λ (i : ℕ). get_or h i f.op) (index_is f) ∙ f.at f.op
+
+      pub found : has t o ≡ true → Some o ≡ operation_at h t
+      found s = elim (stands h t) [
+        | inl f ↦ ap Some (op_is f) ∙ sym f.is
+        | inr n ↦
+            let other = other_stamp h t p.index o n (slice_get_within h p.index o (sym g)) in
+            let q = sym s ∙ ap (has t) (sym (get_or_from_slice_get h p.index o o (sym g))) ∙ other in
+            cc
+      ]
+
+      pub another : has t o ≡ false → operation_at h t ≡ None
+      another s = elim (stands h t) [
+        | inl f ↦ let q = sym (same_stamp_refl t) ∙ ap (λ (u : Lamport). same_stamp u t) (sym f.stamp) ∙ ap (has t) (sym (op_is f)) ∙ s in cc
+        | inr n ↦ n
+      ]
+
+-- ---- one place more
+
+module _ {X : Type 0} (q f : X → Bool) (b : Bool) (w : (x : X) → q x ≡ true → f x ≡ b) where
+  -- a filter that does not tell apart what a search finds
+  find_filter : (xs : List X) → find q (filter f xs) ≡ cond b (find q xs) None
+  find_filter [] = elim b as (λ (c : Bool). ◌≡◌ {A = Option X} None (cond c None None)) [ true ↦ refl | false ↦ refl ]
+  find_filter (x ∷ xs) = go (cases_Bool (q x)) (find_filter xs)
+    where
+      go : (q x ≡ true) ⊎ (q x ≡ false) → find q (filter f xs) ≡ cond b (find q xs) None → find q (filter f (x ∷ xs)) ≡ cond b (find q (x ∷ xs)) None
+      go (inl e) r = rw (w x e, e) (kept b r)
+        where
+          kept : (c : Bool) → find q (filter f xs) ≡ cond c (find q xs) None → find q (cond c (x ∷ filter f xs) (filter f xs)) ≡ cond c (Some x) None
+          kept true r = rw e refl
+          kept false r = r
+      go (inr e) r = rw e (skipped (f x) ∙ r)
+        where
+          skipped : (c : Bool) → find q (cond c (x ∷ filter f xs) (filter f xs)) ≡ find q (filter f xs)
+          skipped true = rw e refl
+          skipped false = refl
+
+abbrev is_at : Lamport → Place → Bool
+is_at t p = is_eq (stamp_cmp p.stamp t)
+
+at_stamp : (t : Lamport) (p : Place) → is_at t p ≡ true → p.stamp ≡ t
+at_stamp t p e = same_stamp_eq p.stamp t (sym (is_eq-same p.stamp t) ∙ e)
+
+cmp_same : (t : Lamport) → stamp_cmp t t ≡ Equal
+cmp_same t = go (stamp_cmp t t) (is_eq-same t t ∙ same_stamp_refl t)
   where
-    go : (b : Bool) → p o ≡ b → cond b (Some o) (find p h) ≡ None → (find p h ≡ None → position_from p (i + 1) h ≡ None) → position_from p i (o ∷ h) ≡ None
-    go true j e f = cc
-    go false j e f = rw j (f e)
+    go : (o : Ordering) → is_eq o ≡ true → o ≡ Equal
+    go Less e = cc
+    go Equal e = refl
+    go Greater e = cc
 
-pub found : (h : List Operation) (t : Lamport) (n : ℕ) → place_of h t ≡ Some n → Stands (has t) h n
-found h t n e = found_from (has t) 0 h n n (sym (position_from-zero (has t) h) ∙ e) (omega arith)
+or_none : (o : Option Place) → option_or o None ≡ o
+or_none None = refl
+or_none (Some p) = refl
 
-pub missing : (h : List Operation) (t : Lamport) → place_of h t ≡ None → operation_at h t ≡ None
-missing h t e = missing_from (has t) 0 h (sym (position_from-zero (has t) h) ∙ e)
+module _ (p : Place) (ps : List Place) where
+  low_found : (t : Lamport) → place_at (below stamp_cmp stamp_at p.stamp ps) t ≡ cond (is_lt (stamp_cmp t p.stamp)) (place_at ps t) None
+  low_found t = find_filter (is_at t) (λ x. is_lt (stamp_cmp x.stamp p.stamp)) (is_lt (stamp_cmp t p.stamp)) (λ x e. ap (λ (s : Lamport). is_lt (stamp_cmp s p.stamp)) (at_stamp t x e)) ps
 
-unplaced : (h : List Operation) (t : Lamport) → operation_at h t ≡ None → place_of h t ≡ None
-unplaced h t e = position_from-zero (has t) h ∙ unplaced_from (has t) 0 h e
+  high_found : (t : Lamport) → place_at (above stamp_cmp stamp_at p.stamp ps) t ≡ cond (is_gt (stamp_cmp t p.stamp)) (place_at ps t) None
+  high_found t = find_filter (is_at t) (λ x. is_gt (stamp_cmp x.stamp p.stamp)) (is_gt (stamp_cmp t p.stamp)) (λ x e. ap (λ (s : Lamport). is_gt (stamp_cmp s p.stamp)) (at_stamp t x e)) ps
 
--- ---- one more is placed
+  -- its stamp leads to it
+  pub put_at : place_at (inserted stamp_cmp stamp_at p ps) p.stamp ≡ Some p
+  put_at = find-append (is_at p.stamp) (below stamp_cmp stamp_at p.stamp ps) (p ∷ above stamp_cmp stamp_at p.stamp ps)
+      ∙ ap (λ (o : Option Place). option_or o (place_at (p ∷ above stamp_cmp stamp_at p.stamp ps) p.stamp)) (low_found p.stamp ∙ ap (λ (o : Ordering). cond (is_lt o) (place_at ps p.stamp) None) (cmp_same p.stamp))
+      ∙ ap (λ (o : Ordering). cond (is_eq o) (Some p) (place_at (above stamp_cmp stamp_at p.stamp ps) p.stamp)) (cmp_same p.stamp)
 
-pub placed : (es fs : Places) (h : List Operation) (x : Operation) (s : Lamport) → ArePlaced es h → s ≡ stamp_of x → operation_at h (stamp_of x) ≡ None
-    → ((t : Lamport) → lookup (is_at (stamp_cmp t)) fs ≡ cond (is_at (stamp_cmp s) t) (Some (length h)) (lookup (is_at (stamp_cmp t)) es))
-    → ArePlaced fs (h ++ x ∷ [])
-placed es fs h x s a q n u t =
-    sym (looked_up fs t) ∙ u t ∙ ap (λ (b : Bool). cond b (Some (length h)) (lookup (is_at (stamp_cmp t)) es)) (is_eq-same s t)
-    ∙ ap (cond (same_stamp s t) (Some (length h))) (looked_up es t ∙ a t) ∙ go (cases_Bool (same_stamp s t)) ∙ sym (more h x t)
-  where
-    go : (same_stamp s t ≡ true) ⊎ (same_stamp s t ≡ false) → cond (same_stamp s t) (Some (length h)) (place_of h t) ≡ or_else (place_of h t) (cond (has t x) (Some (length h)) None)
-    go (inl e) =
-        let k : has t x ≡ true = ap (λ (z : Lamport). same_stamp z t) (sym q) ∙ e in
-        let o : place_of h t ≡ None = ap (place_of h) (sym (same_stamp_eq s t e) ∙ q) ∙ unplaced h (stamp_of x) n in
-        rw (e, k, o) refl
-    go (inr e) = let k : has t x ≡ false = ap (λ (z : Lamport). same_stamp z t) (sym q) ∙ e in rw (e, k) (keeps (place_of h t))
-      where
-        keeps : (o : Option ℕ) → o ≡ or_else o None
-        keeps None = refl
-        keeps (Some n) = refl
+  -- all others lead where they led
+  pub put_beside : (t : Lamport) → (p.stamp ≡ t → ⊥) → place_at (inserted stamp_cmp stamp_at p ps) t ≡ place_at ps t
+  put_beside t n =
+      find-append (is_at t) (below stamp_cmp stamp_at p.stamp ps) (p ∷ above stamp_cmp stamp_at p.stamp ps)
+      ∙ ap (λ (o : Option Place). option_or o (place_at (p ∷ above stamp_cmp stamp_at p.stamp ps) t)) (low_found t)
+      ∙ ap (λ (o : Option Place). option_or (cond (is_lt (stamp_cmp t p.stamp)) (place_at ps t) None) o) (passed (cases_Bool (is_at t p)) ∙ high_found t)
+      ∙ one (stamp_cmp t p.stamp) refl
+    where
+      passed : (is_at t p ≡ true) ⊎ (is_at t p ≡ false) → place_at (p ∷ above stamp_cmp stamp_at p.stamp ps) t ≡ place_at (above stamp_cmp stamp_at p.stamp ps) t
+      passed (inl e) = absurd (n (at_stamp t p e))
+      passed (inr e) = rw e refl
+
+      one : (o : Ordering) → stamp_cmp t p.stamp ≡ o → option_or (cond (is_lt o) (place_at ps t) None) (cond (is_gt o) (place_at ps t) None) ≡ place_at ps t
+      one Less e = or_none (place_at ps t)
+      one Equal e = absurd (n (sym (same_stamp_eq t p.stamp (sym (is_eq-same t p.stamp) ∙ ap is_eq e))))
+      one Greater e = refl
+
+abbrev Leads : List Place → ℕ → Operation → Type 0
+Leads ps i o = place_at ps (stamp_of o) ≡ Some (record { stamp = stamp_of o; index = i })
+
+pub none_placed : (ps : List Place) (h : History) → ps ≡ [] → h ≡ [] → ArePlaced ps h
+none_placed ps h e g = rw (e, g) ((λ i j d l m. absurd (omega arith)), λ i d l. absurd (omega arith))
+
+module _ (ps new : List Place) (h : History) (p : Place) (k : ArePlaced ps h) (n : operation_at h p.stamp ≡ None) (a : Ascending stamp_cmp stamp_at new) (e : new ≡ inserted stamp_cmp stamp_at p ps) where
+  -- a further place changes nothing
+  pub kept : ArePlaced new h
+  kept = (a, λ i d l. ap (λ (qs : List Place). place_at qs (stamp_of (get_or h i d))) e ∙ put_beside p ps (stamp_of (get_or h i d)) (λ s. apart i d l s) ∙ k.1 i d l)
+    where
+      apart : (i : ℕ) (d : Operation) → i < length h → p.stamp ≡ stamp_of (get_or h i d) → ⊥
+      apart i d l s = let q = sym (same_stamp_refl p.stamp) ∙ ap (λ (u : Lamport). same_stamp u p.stamp) s ∙ other_stamp h p.stamp i d n l in cc
+
+  -- and leads to a further operation
+  pub placed : (x : Operation) → p.stamp ≡ stamp_of x → p.index ≡ length h → ArePlaced new (h ++ x ∷ [])
+  placed x s j = (a, λ i d l. at i d l)
+    where
+      last : Leads new (length h) x
+      last = ap (λ (qs : List Place). place_at qs (stamp_of x)) e ∙ ap (place_at (inserted stamp_cmp stamp_at p ps)) (sym s) ∙ put_at p ps
+          ∙ ap Some (λ i. record { stamp = s i; index = j i })
+
+      at : (i : ℕ) (d : Operation) → i < length (h ++ x ∷ []) → Leads new i (get_or (h ++ x ∷ []) i d)
+      at i d l = go (cases_lt i (length h))
+        where
+          go : (i < length h) ⊎ (length h ≤ i) → Leads new i (get_or (h ++ x ∷ []) i d)
+          go (inl m) = subst (Leads new i) (sym (get_or_append_left h (x ∷ []) d i m)) (kept.1 i d m)
+          go (inr m) =
+              let long = length-append h (x ∷ []) in
+              let q : length h + 0 ≡ i = omega arith in
+              let here : get_or (h ++ x ∷ []) i d ≡ x = ap (λ (k : ℕ). get_or (h ++ x ∷ []) k d) (sym q) ∙ get_or-append-add h (x ∷ []) 0 d in
+              let r : length h ≡ i = omega arith in
+              subst (Leads new i) (sym here) (subst (λ (k : ℕ). Leads new k x) r last)
+
+-- ---- how many there are
+
+counted : {X : Type 0} (n : ℕ) (xs : List X) → (fold (record { items = n }) count_sum (λ (x : X). record { items = 1 }) xs).items ≡ n + length xs
+counted n [] = omega arith
+counted n (x ∷ xs) = let e = counted (n + 1) xs in omega arith
+
+-- so many are counted
+pub counts_fit : {X : Type 0} (xs : List X) → length xs ≤ 2 ^ 40 → (fold (record { items = 0 }) count_sum (λ (x : X). record { items = 1 }) xs).items < 2 ^ 64
+counts_fit xs l = let e = counted 0 xs in omega arith
+
+parts_long : (t : Lamport) (ps : List Place) → length (below stamp_cmp stamp_at t ps) + length (above stamp_cmp stamp_at t ps) ≤ length ps
+parts_long t [] = omega arith
+parts_long t (p ∷ ps) =
+    let ih = parts_long t ps in
+    let B : List Place = below stamp_cmp stamp_at t ps in
+    let A : List Place = above stamp_cmp stamp_at t ps in
+    elim (stamp_cmp p.stamp t) as (λ r. length (cond (is_lt r) (p ∷ B) B) + length (cond (is_gt r) (p ∷ A) A) ≤ suc (length ps)) [
+      | Less ↦ omega arith
+      | Equal ↦ omega arith
+      | Greater ↦ omega arith
+    ]
+
+pub inserted_long : (p : Place) (ps : List Place) → length ps < 2 ^ 40 → length (inserted stamp_cmp stamp_at p ps) ≤ 2 ^ 40
+inserted_long p ps l =
+    let long = length-append (below stamp_cmp stamp_at p.stamp ps) (p ∷ above stamp_cmp stamp_at p.stamp ps) in
+    let parts = parts_long p.stamp ps in
+    omega arith
+
+pub pushed_long : (h : History) (x : Operation) → length h < 2 ^ 40 → length (h ++ x ∷ []) ≤ 2 ^ 40
+pushed_long h x l = let long = length-append h (x ∷ []) in omega arith

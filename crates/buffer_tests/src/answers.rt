@@ -5,7 +5,7 @@ ghost use Rattle.op_model.specs.Histories.{Distinct, base};
 ghost use Rattle.buffer_tests.specs.AnswerSample.{base_seen, edit_seen, edit_applied, undo_applied, sample};
 
 use crate::operations::{Entries, Parts, Stamp, operation, stamp};
-use applied_ops::Applied;
+use applied_ops::AppliedList;
 use deferred_ops::Deferred;
 use fragments::Cells;
 use lamport_clock::{Lamport, Version};
@@ -236,13 +236,13 @@ fn undo(alloc: Global) -> Result<Operation, AllocError>
     }))
 }
 
-fn applied(alloc: Global) -> Result<Applied, AllocError>
+fn applied(alloc: Global) -> Result<AppliedList, AllocError>
     ensures { IfOk result (λ a. a ≡ sample) }
 {
-    let mut applied = Applied::new(alloc);
-    applied.push(base(alloc, "aé")?)?;
-    applied.push(edit(alloc)?)?;
-    applied.push(undo(alloc)?)?;
+    let mut applied = AppliedList::new(alloc)?;
+    applied.push(alloc, base(alloc, "aé")?)?;
+    applied.push(alloc, edit(alloc)?)?;
+    applied.push(alloc, undo(alloc)?)?;
     Ok(applied)
 }
 

@@ -674,7 +674,7 @@ fn edit_counted(
     Ok(counted(&made))
 }
 
-fn applied(buffer: &Buffer) -> usize {
+fn applied(buffer: &Buffer) -> u64 {
     buffer.applied().len()
 }
 

@@ -20,6 +20,8 @@ mod ropes;
 #[cfg(test)]
 mod shapes;
 #[cfg(test)]
+mod snapshots;
+#[cfg(test)]
 mod undo_counts;
 #[cfg(test)]
 mod undo_faults;

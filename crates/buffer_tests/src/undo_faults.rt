@@ -4,7 +4,7 @@ ghost use Rattle.op_model.specs.Histories.{Distinct};
 ghost use Rattle.undo_map.specs.Undos.{undo_entries};
 ghost use Rattle.buffer_tests.specs.UndoSample.{edit_at, undo_at, sample};
 
-use applied_ops::Applied;
+use applied_ops::AppliedList;
 use lamport_clock::{Lamport, Version};
 use op_answers::UndoFault::{CountEnd, NoSuchEdit, Twice};
 use op_answers::{UndoFault, undo_fault};
@@ -72,14 +72,14 @@ fn undo(alloc: Global, stamp: Lamport, edit: Lamport, count: u32) -> Result<Undo
     })
 }
 
-fn applied(alloc: Global) -> Result<Applied, AllocError>
+fn applied(alloc: Global) -> Result<AppliedList, AllocError>
     ensures { IfOk result (λ a. a ≡ sample) }
 {
-    let mut applied = Applied::new(alloc);
-    applied.push(edit(alloc, FIRST))?;
-    applied.push(edit(alloc, SECOND))?;
-    applied.push(Operation::Undo(undo(alloc, UNDO, FIRST, 1)?))?;
-    applied.push(Operation::Undo(undo(alloc, LAST, SECOND, u32::MAX)?))?;
+    let mut applied = AppliedList::new(alloc)?;
+    applied.push(alloc, edit(alloc, FIRST))?;
+    applied.push(alloc, edit(alloc, SECOND))?;
+    applied.push(alloc, Operation::Undo(undo(alloc, UNDO, FIRST, 1)?))?;
+    applied.push(alloc, Operation::Undo(undo(alloc, LAST, SECOND, u32::MAX)?))?;
     Ok(applied)
 }
 

@@ -6,7 +6,7 @@ ghost use Rattle.op_model.specs.Histories.{Distinct, has_edit, seen};
 ghost use Rattle.op_model.specs.Answers.{any_equal, any_stamp, count_fault, entry_closed, open_replica};
 ghost use Rattle.op_answers.specs.Verdicts.{equals, causes};
 
-use applied_ops::Applied;
+use applied_ops::AppliedList;
 use deferred_ops::Deferred;
 use lamport_clock::{Lamport, Version};
 use op_model::{OpFault, Operation, UndoCount};
@@ -45,7 +45,7 @@ fn is_cause(found: Option<&Operation>, version: &Version) -> bool
 }
 
 /// Whether an equal operation is applied or waits.
-pub fn is_held(applied: &Applied, waiting: &Deferred, op: &Operation) -> bool
+pub fn is_held(applied: &AppliedList, waiting: &Deferred, op: &Operation) -> bool
     requires applied { Distinct applied.now }
     requires waiting { Distinct waiting.now }
     ensures { result ≡ any_equal (applied.now ++ waiting.now) op.now }
@@ -57,7 +57,7 @@ pub fn is_held(applied: &Applied, waiting: &Deferred, op: &Operation) -> bool
 }
 
 /// Whether an operation with the same stamp is applied or waits.
-pub fn is_taken(applied: &Applied, waiting: &Deferred, op: &Operation) -> bool
+pub fn is_taken(applied: &AppliedList, waiting: &Deferred, op: &Operation) -> bool
     ensures { result ≡ any_stamp (applied.now ++ waiting.now) op.now }
 {
     let stamp = op.stamp();
@@ -72,7 +72,7 @@ fn both(a: bool, b: bool) -> bool
     a && b
 }
 
-fn is_open(applied: &Applied, version: &Version, entry: (u16, u32)) -> bool
+fn is_open(applied: &AppliedList, version: &Version, entry: (u16, u32)) -> bool
     requires { Distinct applied.now }
     ensures { result ≡ (nat_lt 0 entry.1 && not (entry_closed applied.now version.now entry)) }
 {
@@ -85,7 +85,7 @@ fn is_open(applied: &Applied, version: &Version, entry: (u16, u32)) -> bool
 }
 
 // The first of the entries that names no applied operation whose causes the version has seen.
-fn first_open(applied: &Applied, version: &Version, entries: &[(u16, u32)]) -> Option<u16>
+fn first_open(applied: &AppliedList, version: &Version, entries: &[(u16, u32)]) -> Option<u16>
     requires { Distinct applied.now }
     ensures { result ≡ option_map (λ e. e.0) (find (λ e. nat_lt 0 e.1 && not (entry_closed applied.now version.now e)) entries.now) }
 {
@@ -98,7 +98,7 @@ fn first_open(applied: &Applied, version: &Version, entries: &[(u16, u32)]) -> O
 }
 
 /// The least replica of which the version has an entry that names no applied operation whose causes it has seen.
-pub fn open_replica(applied: &Applied, version: &Version) -> Option<u16>
+pub fn open_replica(applied: &AppliedList, version: &Version) -> Option<u16>
     requires { Distinct applied.now }
     ensures { result ≡ open_replica applied.now version.now }
 {
@@ -106,7 +106,7 @@ pub fn open_replica(applied: &Applied, version: &Version) -> Option<u16>
 }
 
 // Whether the stamp is that of an applied edit which the version sees.
-fn is_seen_edit(applied: &Applied, version: &Version, edit: Lamport) -> bool
+fn is_seen_edit(applied: &AppliedList, version: &Version, edit: Lamport) -> bool
     requires { Distinct applied.now }
     ensures { result ≡ has_edit (seen applied.now version.now) edit }
 {
@@ -116,7 +116,11 @@ fn is_seen_edit(applied: &Applied, version: &Version, edit: Lamport) -> bool
 }
 
 /// The fault of an undo's counts: the first that is of no applied edit which the version sees.
-pub fn count_fault(applied: &Applied, version: &Version, counts: &[UndoCount]) -> Option<OpFault>
+pub fn count_fault(
+    applied: &AppliedList,
+    version: &Version,
+    counts: &[UndoCount],
+) -> Option<OpFault>
     requires { Distinct applied.now }
     ensures { result ≡ count_fault (seen applied.now version.now) counts.now }
 {

@@ -12,14 +12,14 @@ ghost use Rattle.undo_map.specs.Undos.{undo_entries};
 ghost use Rattle.op_answers.specs.LocalUndo.{undo_fault};
 
 use crate::twice::first_twice;
-use applied_ops::Applied;
+use applied_ops::AppliedList;
 use lamport_clock::Lamport;
 use op_model::UndoFault;
 use std::alloc::Global;
 use undo_map::UndoMap;
 
 // The first stamp that is no applied edit.
-fn first_unknown(applied: &Applied, edits: &[Lamport]) -> Option<Lamport>
+fn first_unknown(applied: &AppliedList, edits: &[Lamport]) -> Option<Lamport>
     requires { Distinct applied.now }
     ensures { result ≡ find (λ t. not (has_edit applied.now t)) edits.now }
 {
@@ -49,7 +49,7 @@ fn first_at_end(undos: &UndoMap, edits: &[Lamport]) -> Option<Lamport>
 /// twice. Linear in the list times the logarithm of what is applied.
 pub fn undo_fault(
     alloc: Global,
-    applied: &Applied,
+    applied: &AppliedList,
     undos: &UndoMap,
     edits: &[Lamport],
 ) -> Option<UndoFault>

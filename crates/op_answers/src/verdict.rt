@@ -8,7 +8,7 @@ ghost use Rattle.fragments.specs.Kept.{kept_cells};
 ghost use Rattle.op_answers.specs.Verdicts.{answer_of, part_fault};
 
 use crate::found::{count_fault, is_held, is_taken, open_replica};
-use applied_ops::Applied;
+use applied_ops::AppliedList;
 use deferred_ops::Deferred;
 use fragments::Cells;
 use lamport_clock::Version;
@@ -27,7 +27,7 @@ pub enum Verdict {
 }
 
 // The fault of an operation's pieces or counts against what its version sees.
-fn part_fault(applied: &Applied, cells: &Cells, op: &Operation) -> Option<OpFault>
+fn part_fault(applied: &AppliedList, cells: &Cells, op: &Operation) -> Option<OpFault>
     requires lawful { Lawful applied.now }
     requires cells { cells.now ≡ kept_cells applied.now }
     requires shaped { shape_fault op.now ≡ None }
@@ -44,7 +44,7 @@ fn part_fault(applied: &Applied, cells: &Cells, op: &Operation) -> Option<OpFaul
 /// memory. Logarithmic in what is applied and waits for each replica that the operation has seen and each count of an undo;
 /// for an edit one walk over cells and pieces.
 pub fn judge(
-    applied: &Applied,
+    applied: &AppliedList,
     waiting: &Deferred,
     have: &Version,
     cells: &Cells,

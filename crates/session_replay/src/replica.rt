@@ -202,7 +202,7 @@ impl Replica {
             bytes: self.buffer.summary().len,
             rows: self.row_count(),
             // the base is none
-            applied: (self.buffer.applied().len() as u64).saturating_sub(1),
+            applied: self.buffer.applied().len().saturating_sub(1),
             waiting: self.buffer.deferred().len(),
             refused: self.buffer.refused().len() as u64,
         }

@@ -1,6 +1,7 @@
--- The fields of a buffer after an operation is applied.
+-- A document and a buffer after an operation is applied.
 use Rattle.std.proofs.Common.{◌≡◌, ℕ, ◌+◌, ◌^◌, ◌≤◌, List, [], ◌∷◌, ◌++◌, length, sym, ap, subst, ◌∙◌, arith, false, None}
 use Rattle.std.proofs.lemmas.Bool.{ltb-false}
+use Rattle.std.specs.Arc.{arc_value}
 use Rattle.std.specs.Str.{IsUtf8}
 use Rattle.std.specs.List.{list_any}
 use Rattle.lamport_clock.specs.declared.stamp.Lamport.{Lamport}
@@ -37,9 +38,10 @@ use Rattle.fragments.specs.Kept.{kept_cells, shown_bytes}
 use Rattle.fragments.proofs.Undone.{entries_edit}
 use Rattle.fragments.proofs.Told.{shown_text}
 use Rattle.fragments.proofs.Lengths.{text_length}
-use Rattle.text_buffer.specs.Buffer.{BufferState, IsBuffer, applied}
-use Rattle.text_buffer.specs.Fields.{state_of, AreKept}
-use Rattle.text_buffer.specs.declared.buffer.Buffer.TheInside.{Inside}
+use Rattle.text_buffer.specs.Buffer.{BufferState, IsBuffer}
+use Rattle.text_buffer.specs.Document.{IsHistory, HasRoom}
+use Rattle.text_buffer.specs.Told.{AreTold}
+use Rattle.text_buffer.specs.declared.document.Document.TheInside.{Inside}
 use Rattle.text_buffer.proofs.Fit.{room_in}
 use Rattle.text_buffer.proofs.Waiting.{ascends, unlike_waiting}
 
@@ -69,12 +71,12 @@ entries_more h op g =
 pub counts_same : (h : History) (op : Operation) (e : EditOp) (w v : List UndoEntry) → op ≡ Edit e → v ≡ w → w ≡ undo_entries h → v ≡ undo_entries (h ++ op ∷ [])
 counts_same h op e w v i s q = s ∙ q ∙ sym (entries_edit h op (ap is_edit i))
 
--- there is room for the counts of an undo that passes no limit
-pub counts_fit : (b : BufferState) (u : UndoOp) (w : List UndoEntry) → IsBuffer b → w ≡ undo_entries b.history → full_fault b.limits b.history (Undo u) ≡ None → length w + length u.counts ≤ 2 ^ 40
-counts_fit b u w k e f =
-    let held = entries_within b.history k.lawful in
-    let same : length w ≡ length (undo_entries b.history) = ap length e in
-    omega (arith, held, same, (room_of b (Undo u) f).1, k.most_entries)
+-- there is room for the counts of an undo
+pub counts_fit : (h : History) (u : UndoOp) (w : List UndoEntry) → IsHistory h → w ≡ undo_entries h → HasRoom h (Undo u) → length w + length u.counts ≤ 2 ^ 40
+counts_fit h u w k e r =
+    let held = entries_within h k.lawful in
+    let same : length w ≡ length (undo_entries h) = ap length e in
+    omega (arith, held, same, r.entries)
 
 -- its stamp is new
 pub fresh_of : (h : History) (op : Operation) → answer h [] op ≡ Good → operation_at h (stamp_of op) ≡ None
@@ -82,23 +84,23 @@ fresh_of h op g =
     let same : Operation → Rattle.std.specs.Prelude.Bool = λ o. same_stamp (stamp_of o) (stamp_of op) in
     none_find same h (any_none same h (ap (λ (z : History). list_any same z) (sym (append_nil h)) ∙ (passed h [] op g).fresh))
 
-pub IsBuffer-applied : (b : BufferState) (op : Operation) → IsBuffer b → IsProper op → answer b.history [] op ≡ Good → full_fault b.limits b.history op ≡ None → IsBuffer (applied b op)
-IsBuffer-applied b op k p g f =
-    let room = room_of b op f in
-    let law : Lawful (b.history ++ op ∷ []) = lawful_more b.history op k.lawful g in
-    let proper : Each IsProper (b.history ++ op ∷ []) = each_append IsProper b.history (op ∷ []) k.proper (p, tt) in
+-- an operation that passes no limit finds room
+pub room_for : (b : BufferState) (op : Operation) → IsBuffer b → full_fault b.limits b.history op ≡ None → HasRoom b.history op
+room_for b op k f =
+    let r = room_of b op f in
+    record { bytes = omega (arith, r.0, k.most_bytes); entries = omega (arith, r.1, k.most_entries) }
+
+pub IsHistory-applied : (h : History) (op : Operation) → IsHistory h → IsProper op → answer h [] op ≡ Good → HasRoom h op → IsHistory (h ++ op ∷ [])
+IsHistory-applied h op k p g r =
+    let law : Lawful (h ++ op ∷ []) = lawful_more h op k.lawful g in
+    let proper : Each IsProper (h ++ op ∷ []) = each_append IsProper h (op ∷ []) k.proper (p, tt) in
     record {
       lawful = law;
       proper = proper;
-      waiting_ascending = k.waiting_ascending;
-      least_replica = k.least_replica;
-      greatest_replica = k.greatest_replica;
-      most_bytes = k.most_bytes;
-      most_entries = k.most_entries;
-      bytes = omega (arith, bytes_held-append b.history op, room.0);
-      entries = omega (arith, entries_more b.history op g, room.1);
-      utf8 = (utf8 (b.history ++ op ∷ []) law proper).0;
-      text_bytes = text_length (b.history ++ op ∷ []) law;
+      bytes = omega (arith, bytes_held-append h op, r.bytes);
+      entries = omega (arith, entries_more h op g, r.entries);
+      utf8 = (utf8 (h ++ op ∷ []) law proper).0;
+      text_bytes = text_length (h ++ op ∷ []) law;
     }
 
 -- what the cells show then
@@ -106,39 +108,56 @@ pub record Shows (s : List KeptCell) : Type 0 where
   pub utf8 : IsUtf8 (shown_bytes s)
   pub few : length (shown_bytes s) ≤ 2 ^ 40
 
-pub shown_after : (b : BufferState) (op : Operation) (s : List KeptCell) → IsBuffer b → IsProper op → answer b.history [] op ≡ Good → full_fault b.limits b.history op ≡ None → s ≡ kept_cells (b.history ++ op ∷ []) → Shows s
-shown_after b op s k p g f e =
-    let n = IsBuffer-applied b op k p g f in
-    let same : shown_bytes s ≡ text (b.history ++ op ∷ []) = ap shown_bytes e ∙ shown_text (b.history ++ op ∷ []) in
+pub shown_after : (h : History) (op : Operation) (s : List KeptCell) → IsHistory h → IsProper op → answer h [] op ≡ Good → HasRoom h op → s ≡ kept_cells (h ++ op ∷ []) → Shows s
+shown_after h op s k p g r e =
+    let n = IsHistory-applied h op k p g r in
+    let same : shown_bytes s ≡ text (h ++ op ∷ []) = ap shown_bytes e ∙ shown_text (h ++ op ∷ []) in
     record {
       utf8 = subst IsUtf8 (sym same) n.utf8;
-      few = omega (arith, ap length same, n.text_bytes, n.bytes, n.most_bytes);
+      few = omega (arith, ap length same, n.text_bytes, n.bytes);
     }
 
 -- what is held stays far below the end of its type
-pub stay_few : (i : Inside) (op : Operation) (n m : ℕ) → AreKept i → full_fault i.limits i.operations op ≡ None → n ≡ bytes_of op → m ≡ entries_of op → (i.bytes + n ≤ 2 ^ 40) × (i.entries + m ≤ 2 ^ 40)
-stay_few i op n m k f x y =
-    let r = room_of (state_of i) op f in
-    (omega (arith, k.bytes, r.0, k.state.most_bytes, x), omega (arith, k.entries, r.1, k.state.most_entries, y))
+pub stay_few : (i : Inside) (h : History) (op : Operation) (n m : ℕ) → AreTold i → i.operations ≡ h → HasRoom h op → n ≡ bytes_of op → m ≡ entries_of op → (i.bytes + n ≤ 2 ^ 40) × (i.entries + m ≤ 2 ^ 40)
+stay_few i h op n m k e r x y =
+    let b : bytes_held i.operations ≡ bytes_held h = ap bytes_held e in
+    let f : entries_held i.operations ≡ entries_held h = ap entries_held e in
+    (omega (arith, k.bytes, b, r.bytes, x), omega (arith, k.entries, f, r.entries, y))
 
 -- the clock and the version observe its stamp, it stands last, and the undo counts, the cells and the text are those that are then
-pub AreKept-applied : (i j : Inside) (op : Operation) (s : Lamport) → AreKept i → IsProper op → answer i.operations [] op ≡ Good → full_fault i.limits i.operations op ≡ None → s ≡ stamp_of op
-    → j.replica ≡ i.replica → j.limits ≡ i.limits → j.waiting ≡ i.waiting → j.refused.items ≡ i.refused.items
-    → j.operations ≡ i.operations ++ op ∷ [] → j.clock.value ≡ observed i.clock.value s.value → j.version ≡ raise i.version s
-    → j.undos ≡ undo_entries (i.operations ++ op ∷ []) → j.cells ≡ kept_cells (i.operations ++ op ∷ []) → j.text ≡ text (i.operations ++ op ∷ [])
-    → j.bytes ≡ i.bytes + bytes_of op → j.entries ≡ i.entries + entries_of op → AreKept j
-AreKept-applied i j op s k p g f t replica limits waits refusals items clocks versions counts cells texts bytes entries =
-    let b = state_of i in
-    let same : state_of j ≡ applied b op = cc in
+pub AreTold-applied : (i j : Inside) (op : Operation) (s : Lamport) → AreTold i → IsProper op → answer i.operations [] op ≡ Good → HasRoom i.operations op → s ≡ stamp_of op
+    → j.operations ≡ i.operations ++ op ∷ [] → j.clock ≡ observed i.clock s.value → arc_value j.version ≡ raise (version i.operations) s
+    → j.undos ≡ undo_entries (i.operations ++ op ∷ []) → arc_value j.cells ≡ kept_cells (i.operations ++ op ∷ []) → j.text ≡ text (i.operations ++ op ∷ [])
+    → j.bytes ≡ i.bytes + bytes_of op → j.entries ≡ i.entries + entries_of op → AreTold j
+AreTold-applied i j op s k p g r t items clocks versions counts cells texts bytes entries =
     record {
-      clock = clocks ∙ ap (λ (u : Lamport). observed i.clock.value u.value) t ∙ ap (λ c. observed c (stamp_of op).value) k.clock ∙ sym (clock-append i.operations op) ∙ ap clock (sym items);
-      version = versions ∙ ap (raise i.version) t ∙ ap (λ v. raise v (stamp_of op)) k.version ∙ sym (version-append i.operations op) ∙ ap version (sym items);
+      clock = clocks ∙ ap (λ (u : Lamport). observed i.clock u.value) t ∙ ap (λ c. observed c (stamp_of op).value) k.clock ∙ sym (clock-append i.operations op) ∙ ap clock (sym items);
+      version = versions ∙ ap (raise (version i.operations)) t ∙ sym (version-append i.operations op) ∙ ap version (sym items);
       undos = counts ∙ ap undo_entries (sym items);
       cells = cells ∙ ap kept_cells (sym items);
       text = texts ∙ ap text (sym items);
       bytes = omega (arith, bytes, k.bytes, bytes_held-append i.operations op, ap bytes_held items);
       entries = omega (arith, entries, k.entries, entries_more i.operations op g, ap entries_held items);
-      state = subst IsBuffer (sym same) (IsBuffer-applied b op k.state p g f);
+      history = subst IsHistory (sym items) (IsHistory-applied i.operations op k.history p g r);
+    }
+
+-- a buffer whose document has one operation more
+pub IsBuffer-put : (b : BufferState) (op : Operation) (h : History) → IsBuffer b → IsHistory h → answer b.history [] op ≡ Good → full_fault b.limits b.history op ≡ None → h ≡ b.history ++ op ∷ []
+    → IsBuffer (record b { history = h })
+IsBuffer-put b op h k n g f e =
+    let room = room_of b op f in
+    record {
+      lawful = n.lawful;
+      proper = n.proper;
+      waiting_ascending = k.waiting_ascending;
+      least_replica = k.least_replica;
+      greatest_replica = k.greatest_replica;
+      most_bytes = k.most_bytes;
+      most_entries = k.most_entries;
+      bytes = omega (arith, ap bytes_held e, bytes_held-append b.history op, room.0);
+      entries = omega (arith, ap entries_held e, entries_more b.history op g, room.1);
+      utf8 = n.utf8;
+      text_bytes = n.text_bytes;
     }
 
 -- one more waits

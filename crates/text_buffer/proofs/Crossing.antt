@@ -1,5 +1,5 @@
--- A buffer may go to another thread, and be shared with one. It has two trees in it, that of the undo counts and that of the rope:
--- so its fields are gone through one by one.
+-- A buffer and a snapshot may go to another thread, and be shared with one. A document has trees in it, those of the applied
+-- operations, that of the undo counts and that of the rope: so its fields are gone through one by one.
 use denote.Param.Send.{IsSend, IsSync, sendable}
 use denote.Param.SendFields.{declared_send, declared_sync}
 use Rattle.std.proofs.Crossing.{crosses}
@@ -7,6 +7,15 @@ use Rattle.std.proofs.MapsCrossing as maps
 use Rattle.rope_chunks.below.sum_tree.proofs.tree.SumTree.TheLaws.TheKnot as knot
 use Rattle.rope_chunks.specs.contracts.rope.Rope as rope
 use Rattle.undo_map.specs.contracts.map.UndoMap as undos
+use Rattle.op_model.specs.contracts.operation.Operation as operation
+use Rattle.applied_ops.specs.contracts.operation.Applied as applied
+use Rattle.applied_ops.specs.contracts.operation.Applied.TheInside as shared
+use Rattle.applied_ops.specs.contracts.list.AppliedList as list
+use Rattle.applied_ops.specs.contracts.list.AppliedList.TheInside as held
+use Rattle.text_buffer.specs.contracts.document.Document as document
+use Rattle.text_buffer.specs.contracts.document.Document.TheInside as fields
+use Rattle.text_buffer.specs.contracts.snapshot.Snapshot as snapshot
+use Rattle.text_buffer.specs.contracts.snapshot.Snapshot.TheInside as still
 use Rattle.text_buffer.specs.contracts.buffer.Buffer as buffer
 use Rattle.text_buffer.specs.contracts.buffer.Buffer.TheInside as inside
 
@@ -26,14 +35,70 @@ undos_sent = search trees depth 60 fits 20000
 undos_shared : IsSync undos.the_row
 undos_shared = search trees depth 60 fits 20000
 
+operation_sent : IsSend operation.the_row
+operation_sent = search plain depth 60 fits 20000
+
+operation_shared : IsSync operation.the_row
+operation_shared = search plain depth 60 fits 20000
+
+shared_sent : IsSend shared.the_row
+shared_sent = declared_send shared.the_type (search (operation_sent, operation_shared, crosses, sendable) depth 60 fits 20000, tt)
+
+shared_shared : IsSync shared.the_row
+shared_shared = declared_sync shared.the_type (search (operation_sent, operation_shared, crosses, sendable) depth 60 fits 20000, tt)
+
+applied_sent : IsSend applied.the_row
+applied_sent = search (shared_sent, sendable) depth 60 fits 20000
+
+applied_shared : IsSync applied.the_row
+applied_shared = search (shared_shared, sendable) depth 60 fits 20000
+
+ruleset operations = (applied_sent, applied_shared, knot.crosses, crosses, sendable)
+
+held_sent : IsSend held.the_row
+held_sent = declared_send held.the_type (search operations depth 60 fits 20000, (search trees depth 60 fits 20000, tt))
+
+held_shared : IsSync held.the_row
+held_shared = declared_sync held.the_type (search operations depth 60 fits 20000, (search trees depth 60 fits 20000, tt))
+
+list_sent : IsSend list.the_row
+list_sent = search (held_sent, sendable) depth 60 fits 20000
+
+list_shared : IsSync list.the_row
+list_shared = search (held_shared, sendable) depth 60 fits 20000
+
+fields_sent : IsSend fields.the_row
+fields_sent = declared_send fields.the_type (search plain depth 60 fits 20000, (list_sent, (search plain depth 60 fits 20000, (search plain depth 60 fits 20000, (undos_sent, (search plain depth 60 fits 20000, (rope_sent, (search plain depth 60 fits 20000, (search plain depth 60 fits 20000, tt)))))))))
+
+fields_shared : IsSync fields.the_row
+fields_shared = declared_sync fields.the_type (search plain depth 60 fits 20000, (list_shared, (search plain depth 60 fits 20000, (search plain depth 60 fits 20000, (undos_shared, (search plain depth 60 fits 20000, (rope_shared, (search plain depth 60 fits 20000, (search plain depth 60 fits 20000, tt)))))))))
+
+document_sent : IsSend document.the_row
+document_sent = search (fields_sent, sendable) depth 60 fits 20000
+
+document_shared : IsSync document.the_row
+document_shared = search (fields_shared, sendable) depth 60 fits 20000
+
 inside_sent : IsSend inside.the_row
-inside_sent = declared_send inside.the_type (search plain depth 60 fits 20000, (search plain depth 60 fits 20000, (search plain depth 60 fits 20000, (search plain depth 60 fits 20000, (search plain depth 60 fits 20000, (search plain depth 60 fits 20000, (search plain depth 60 fits 20000, (undos_sent, (search plain depth 60 fits 20000, (rope_sent, (search plain depth 60 fits 20000, (search plain depth 60 fits 20000, (search plain depth 60 fits 20000, tt)))))))))))))
+inside_sent = declared_send inside.the_type (search plain depth 60 fits 20000, (search plain depth 60 fits 20000, (document_sent, (search plain depth 60 fits 20000, (search plain depth 60 fits 20000, (search plain depth 60 fits 20000, tt))))))
 
 inside_shared : IsSync inside.the_row
-inside_shared = declared_sync inside.the_type (search plain depth 60 fits 20000, (search plain depth 60 fits 20000, (search plain depth 60 fits 20000, (search plain depth 60 fits 20000, (search plain depth 60 fits 20000, (search plain depth 60 fits 20000, (search plain depth 60 fits 20000, (undos_shared, (search plain depth 60 fits 20000, (rope_shared, (search plain depth 60 fits 20000, (search plain depth 60 fits 20000, (search plain depth 60 fits 20000, tt)))))))))))))
+inside_shared = declared_sync inside.the_type (search plain depth 60 fits 20000, (search plain depth 60 fits 20000, (document_shared, (search plain depth 60 fits 20000, (search plain depth 60 fits 20000, (search plain depth 60 fits 20000, tt))))))
 
 pub buffer_sent : IsSend buffer.the_row
 buffer_sent = search (inside_sent, sendable) depth 60 fits 20000
 
 pub buffer_shared : IsSync buffer.the_row
 buffer_shared = search (inside_shared, sendable) depth 60 fits 20000
+
+still_sent : IsSend still.the_row
+still_sent = declared_send still.the_type (document_sent, tt)
+
+still_shared : IsSync still.the_row
+still_shared = declared_sync still.the_type (document_shared, tt)
+
+pub snapshot_sent : IsSend snapshot.the_row
+snapshot_sent = search (still_sent, sendable) depth 60 fits 20000
+
+pub snapshot_shared : IsSync snapshot.the_row
+snapshot_shared = search (still_shared, sendable) depth 60 fits 20000

@@ -80,16 +80,7 @@ IsBuffer-without b t k = record {
 
 -- the fields of a buffer from which an operation leaves
 pub AreKept-without : (i : Inside) (t : Lamport) (w : List Operation) → AreKept i → w ≡ without t i.waiting → AreKept (record i { waiting = w })
-AreKept-without i t w k e = record {
-  clock = k.clock;
-  version = k.version;
-  undos = k.undos;
-  cells = k.cells;
-  text = k.text;
-  bytes = k.bytes;
-  entries = k.entries;
-  state = subst (λ (x : List Operation). IsBuffer (record (state_of i) { waiting = x })) (sym e) (IsBuffer-without (state_of i) t k.state);
-}
+AreKept-without i t w k e = subst (λ (x : List Operation). IsBuffer (record (state_of i) { waiting = x })) (sym e) (IsBuffer-without (state_of i) t k)
 
 -- ---- a pass
 

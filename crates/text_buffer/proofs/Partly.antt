@@ -1,5 +1,5 @@
 -- What a buffer is after it settled, or after its settling was stopped.
-use Rattle.std.proofs.Common.{◌≡◌, ◌<◌, ◌≤◌, List, ◌++◌, length, drop, refl, sym, ◌∙◌, ap, subst, arith, None}
+use Rattle.std.proofs.Common.{◌≡◌, ℕ, ◌<◌, ◌≤◌, ◌++◌, length, drop, refl, sym, ◌∙◌, ap, subst, arith, None}
 use Rattle.std.proofs.Math.Seq.{drop-append_seam}
 use Rattle.op_model.specs.declared.operation.Operation.{Operation}
 use Rattle.op_model.specs.Sorted.{Each, Ascending}
@@ -64,25 +64,25 @@ stopped_later b n p u s = subst (IsPartly b) (sym s.1)
 -- ---- from the fields
 
 pub up : (i : Inside) (b : BufferState) → AreKept i → state_of i ≡ b → Ascending older b.waiting
-up i b k v = subst (λ (x : BufferState). Ascending older x.waiting) v k.state.waiting_ascending
+up i b k v = subst (λ (x : BufferState). Ascending older x.waiting) v k.waiting_ascending
 
 pub lawful : (i : Inside) (b : BufferState) → AreKept i → state_of i ≡ b → Lawful b.history
-lawful i b k v = subst (λ (x : BufferState). Lawful x.history) v k.state.lawful
+lawful i b k v = subst (λ (x : BufferState). Lawful x.history) v k.lawful
 
-held : (i : Inside) (b : BufferState) (s : List Operation) → s ≡ i.operations → state_of i ≡ b → length s ≡ length b.history
-held i b s e v = ap (λ (x : List Operation). length x) e ∙ ap (λ (x : BufferState). length x.history) v
+held : (i : Inside) (b : BufferState) (s : ℕ) → s ≡ length i.document → state_of i ≡ b → s ≡ length b.history
+held i b s e v = e ∙ ap (λ (x : BufferState). length x.history) v
 
 -- the histories before and after the first pass
-module _ (i j : Inside) (b m : BufferState) (s r : List Operation) (k : AreKept i) (v : state_of i ≡ b) (w : state_of j ≡ m) (e : s ≡ i.operations) (f : r ≡ j.operations) (p : m ≡ passed b) where
-  pub after_one : length r ≡ length s → m ≡ settled b
+module _ (i j : Inside) (b m : BufferState) (s r : ℕ) (k : AreKept i) (v : state_of i ≡ b) (w : state_of j ≡ m) (e : s ≡ length i.document) (f : r ≡ length j.document) (p : m ≡ passed b) where
+  pub after_one : r ≡ s → m ≡ settled b
   after_one n = p ∙ sym (once b (up i b k v) (ap (λ (x : BufferState). length x.history) (sym p) ∙ sym (held j m r f w) ∙ n ∙ held i b s e v))
 
-  pub after_two : (n : BufferState) → (length r ≡ length s → ⊥) → n ≡ passed m → n ≡ settled b
+  pub after_two : (n : BufferState) → (r ≡ s → ⊥) → n ≡ passed m → n ≡ settled b
   after_two n d q = q ∙ ap passed p ∙ sym (twice b (up i b k v) (λ x. d (held j m r f w ∙ ap (λ (y : BufferState). length y.history) p ∙ x ∙ sym (held i b s e v))))
 
-pub grown : (i j : Inside) (b m n : BufferState) (s r : List Operation) → AreKept i → state_of i ≡ b → state_of j ≡ n → s ≡ i.operations → r ≡ j.operations → m ≡ passed b → n ≡ passed m → length s ≤ length r
+pub grown : (i j : Inside) (b m n : BufferState) (s r : ℕ) → AreKept i → state_of i ≡ b → state_of j ≡ n → s ≡ length i.document → r ≡ length j.document → m ≡ passed b → n ≡ passed m → s ≤ r
 grown i j b m n s r k v w e f p q =
     let x : length b.history ≤ length (passed (passed b)).history = longer_twice b (up i b k v) in
-    let y : length r ≡ length (passed (passed b)).history = held j n r f w ∙ ap (λ (z : BufferState). length z.history) (q ∙ ap passed p) in
-    let z : length s ≡ length b.history = held i b s e v in
+    let y : r ≡ length (passed (passed b)).history = held j n r f w ∙ ap (λ (z : BufferState). length z.history) (q ∙ ap passed p) in
+    let z : s ≡ length b.history = held i b s e v in
     omega arith

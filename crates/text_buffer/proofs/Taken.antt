@@ -48,15 +48,15 @@ one_applied b n op g p =
 
 -- ---- what is told
 
-module _ (b : BufferState) (op : Operation) (h g : History) (e : h ≡ b.history) (f : g ≡ (settled (applied b op)).history) where
-  pub counts_up : suc (length h) ≤ length g
-  counts_up = let m = more_applied b op in let x = ap length e in let y = ap length f in omega arith
+module _ (b : BufferState) (op : Operation) (h g : ℕ) (e : h ≡ length b.history) (f : g ≡ length (settled (applied b op)).history) where
+  pub counts_up : suc h ≤ g
+  counts_up = let m = more_applied b op in omega arith
 
-  pub not_less : length h ≤ length g
+  pub not_less : h ≤ g
   not_less = let m = counts_up in omega arith
 
-  pub says : (P : Type 0) → P → (n : ℕ) → took.Applied (length g - length h) ≡ took.Applied n → (1 ≤ n) × P
-  says P p n q = let m = counts_up in let s : length g - length h ≡ n = cc in (omega arith, p)
+  pub says : (P : Type 0) → P → (n : ℕ) → took.Applied (g - h) ≡ took.Applied n → (1 ≤ n) × P
+  says P p n q = let m = counts_up in let s : g - h ≡ n = cc in (omega arith, p)
 
 pub on_err : {T E : Type 0} (r : Result T E) (P : Type 0) → P → OnErr r P
 on_err (Ok x) P p = tt

@@ -1,5 +1,5 @@
 -- A local undo: its fault, its operation, and what is true of it.
-use Rattle.std.proofs.Common.{◌≡◌, ℕ, ◌+◌, eqb, List, [], ◌∷◌, ◌++◌, length, map, refl, sym, ap, subst, ◌∙◌, arith, Option, None, Some}
+use Rattle.std.proofs.Common.{◌≡◌, ℕ, ◌+◌, eqb, List, [], ◌∷◌, length, map, refl, sym, subst, ◌∙◌, arith, Option, None}
 use Rattle.std.specs.Prelude.{option_map}
 use Rattle.std.specs.List.{find}
 use Rattle.std.proofs.lemmas.List.{length-map}
@@ -11,12 +11,12 @@ use Rattle.op_model.specs.declared.operation.UndoCount.{UndoCount}
 use Rattle.op_model.specs.declared.limits.Limits.{Limits as LimitsType}
 use Rattle.op_model.specs.declared.faults.UndoFault.{UndoFault}
 use Rattle.op_model.specs.declared.faults.UndoFault.TheVariants.{ClockEnd, Full}
-use Rattle.op_model.specs.Choice.{first_of, when}
+use Rattle.op_model.specs.Choice.{when}
 use Rattle.op_model.specs.Domains.{IsProper}
 use Rattle.op_model.specs.Operations.{bytes_of, entries_of}
 use Rattle.op_model.specs.Histories.{History, version, clock}
 use Rattle.op_model.specs.Limited.{Excess, excess}
-use Rattle.op_model.specs.Made.{next_count, made_undo as made_undo_at, local_undo_fault}
+use Rattle.op_model.specs.Made.{next_count, made_undo as made_undo_at}
 use Rattle.op_model.specs.Answers.{answer}
 use Rattle.op_model.specs.Answers.Answer.{Good}
 use Rattle.op_model.specs.Settled.{full_fault}

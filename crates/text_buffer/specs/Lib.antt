@@ -1,4 +1,6 @@
 pub mod Outcomes
 pub mod Buffer
+pub mod Document
+pub mod Told
 pub mod Fields
 pub mod Settling

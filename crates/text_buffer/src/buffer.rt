@@ -1,6 +1,6 @@
 // The buffer of one replica.
 ghost use Rattle.std.specs.Prelude.{◌≡◌, ◌≤◌, ◌^◌, ◌-◌, ◌+◌, ◌⊎◌, ◌++◌, ◌∷◌, [], length, IfOk, IfErr, OnErr, OnOk, None, Some, option_map, string_bytes, true};
-ghost use Rattle.op_model.specs.Histories.{SameSet, base, clock, version};
+ghost use Rattle.op_model.specs.Histories.{SameSet, clock, version};
 ghost use Rattle.op_model.specs.Limited.{excess};
 ghost use Rattle.op_model.specs.Domains.{IsProper};
 ghost use Rattle.op_model.specs.Answers.{answer, shape_fault};
@@ -9,23 +9,18 @@ ghost use Rattle.op_model.specs.Settled.{full_fault};
 ghost use Rattle.op_model.specs.Edits.{replaced};
 ghost use Rattle.op_model.specs.Shown.{text};
 ghost use Rattle.text_dims.specs.Summaries.{summary_of};
-ghost use Rattle.undo_map.specs.Undos.{undo_entries};
-ghost use Rattle.fragments.specs.Kept.{kept_cells};
 ghost use Rattle.text_buffer.specs.Buffer.{BufferState, IsBuffer, applied, edit_fault, edited, made, new_fault, over_base};
 
+use crate::document::Document;
 use crate::pieces::{size, text_total};
 use crate::{NewFault, Refused};
-use applied_ops::Applied;
 use deferred_ops::Deferred;
-use fragments::Cells;
-use lamport_clock::{Clock, Lamport, Version};
-use op_model::{EditFault, EditOp, Limits, OpFault, Operation, Piece, Pieces, Text, Unit};
-use rope_chunks::Rope;
-use rope_edits::{follow, piece_fault, replaced};
+use lamport_clock::{Lamport, Version};
+use op_model::{EditFault, EditOp, Limits, OpFault, Operation, Piece, Unit};
+use rope_edits::{piece_fault, replaced};
 use std::alloc::{AllocError, Global};
 use std::marker::Model;
 use text_dims::TextSummary;
-use undo_map::UndoMap;
 
 /// A replica's text, and the operations that made it. Contracts see the operations in the order in which they were
 /// applied, the base first, those that wait, those that were refused while settling, the replica's id and the limits; all
@@ -34,16 +29,9 @@ use undo_map::UndoMap;
 pub struct Buffer {
     pub(crate) alloc: Global,
     replica: u16,
-    pub(crate) clock: Clock,
-    pub(crate) version: Version,
-    pub(crate) operations: Applied,
+    pub(crate) document: Document,
     pub(crate) waiting: Deferred,
     pub(crate) refused: Vec<Refused>,
-    pub(crate) undos: UndoMap,
-    pub(crate) cells: Cells,
-    text: Rope,
-    bytes: u64,
-    entries: u64,
     limits: Limits,
 }
 
@@ -83,31 +71,21 @@ impl Buffer {
                 adds: len,
             });
         }
-        let stamp = Lamport {
-            value: 1,
-            replica: 0,
-        };
-        let mut version = Version::new(alloc);
-        let mut clock = Clock::new(replica);
-        version.observe(stamp)?;
-        clock.observe(stamp);
-        let mut operations = Applied::new(alloc);
-        operations.push(base_operation(alloc, base)?)?;
         Ok(Buffer {
             alloc,
             replica,
-            clock,
-            version,
-            operations,
+            document: Document::over(alloc, base)?,
             waiting: Deferred::new(alloc)?,
             refused: Vec::new(alloc),
-            undos: UndoMap::new(alloc)?,
-            cells: Cells::over(alloc, base)?,
-            text: Rope::from_str(alloc, base)?,
-            bytes: len,
-            entries: 0,
             limits,
         })
+    }
+
+    /// What holds of every buffer, for callers that see its value alone. It does nothing when it runs.
+    pub fn known(&self)
+        ensures { IsBuffer self.now }
+    {
+        let _alloc = &self.alloc;
     }
 
     /// The text, copied. Linear in its length. What is true of every buffer, `IsBuffer`, is a clause for callers.
@@ -115,7 +93,7 @@ impl Buffer {
         ensures text { IfOk result (λ s. string_bytes s ≡ text self.now.history) }
         ensures buffer { IsBuffer self.now }
     {
-        self.text.to_string(self.alloc)
+        self.document.text().to_string(self.alloc)
     }
 
     /// What is counted of the text: its bytes, its rows, where it ends. Takes no memory, and no time by the text's length.
@@ -123,7 +101,7 @@ impl Buffer {
         ensures summary { result.now ≡ summary_of (text self.now.history) }
         ensures buffer { IsBuffer self.now }
     {
-        self.text.summary()
+        self.document.text().summary()
     }
 
     /// The greatest stamp value applied of each replica, the base's among them.
@@ -131,7 +109,7 @@ impl Buffer {
         ensures version { result.now ≡ version self.now.history }
         ensures buffer { IsBuffer self.now }
     {
-        &self.version
+        self.document.version()
     }
 
     /// Replaces ranges of the text, given in bytes and in order: each starts at or past the end of the one before it.
@@ -156,12 +134,11 @@ impl Buffer {
         if let Some(fault) = self.fault(changes) {
             return Err(fault);
         }
-        let text = replaced(self.alloc, &self.text, changes)?;
+        let shown = replaced(self.alloc, self.document.text(), changes)?;
         let made = self.operation(changes)?;
         let kept = self.operation(changes)?;
-        let undos = self.undos_with(&kept)?;
-        let cells = self.cells_with(&kept, &undos)?;
-        self.put(kept, undos, cells, text)?;
+        self.document.apply_with(kept, shown)?;
+        self.document.known();
         Ok(made)
     }
 
@@ -169,14 +146,14 @@ impl Buffer {
     fn fault(&self, changes: &[Piece]) -> Option<EditFault>
         ensures { result ≡ edit_fault self.now changes.now }
     {
-        if let Some(fault) = piece_fault(&self.text, changes) {
+        if let Some(fault) = piece_fault(self.document.text(), changes) {
             return Some(fault);
         }
         let total = text_total(changes);
         if total > 65_536 {
             return Some(EditFault::TextLimit(total));
         }
-        if self.clock.value() == u32::MAX {
+        if self.document.clock() == u32::MAX {
             return Some(EditFault::ClockEnd);
         }
         self.excess(total as u64, 1 + changes.len() as u64)
@@ -204,68 +181,8 @@ impl Buffer {
         ensures ok { OnOk result (self.new ≡ applied self.old op) }
         ensures err { OnErr result (self.new ≡ self.old) }
     {
-        let undos = self.undos_with(&op)?;
-        let cells = self.cells_with(&op, &undos)?;
-        let text = follow(
-            self.alloc,
-            &self.text,
-            self.cells.as_slice(),
-            cells.as_slice(),
-        )?;
-        self.put(op, undos, cells, text)
-    }
-
-    // The undo counts with an operation that passes no limit.
-    fn undos_with(&self, op: &Operation) -> Result<UndoMap, AllocError>
-        requires { full_fault self.now.limits self.now.history op.now ≡ None }
-        ensures { IfOk result (λ w. w ≡ undo_entries (self.now.history ++ op.now ∷ [])) }
-    {
-        match op {
-            Operation::Edit(_) => self.undos.share(),
-            Operation::Undo(undo) => self.undos.with_undo(self.alloc, undo),
-        }
-    }
-
-    // The cells with an operation that is good, by the undo counts that are then.
-    fn cells_with(&self, op: &Operation, undos: &UndoMap) -> Result<Cells, AllocError>
-        requires good { answer self.now.history [] op.now ≡ Good }
-        requires undos { undos.now ≡ undo_entries (self.now.history ++ op.now ∷ []) }
-        ensures { IfOk result (λ c. c ≡ kept_cells (self.now.history ++ op.now ∷ [])) }
-    {
-        match op {
-            Operation::Edit(edit) => self.cells.lay(self.alloc, undos, edit),
-            Operation::Undo(_) => self.cells.mark(self.alloc, undos),
-        }
-    }
-
-    // Puts an operation last that is good and passes no limit, with the undo counts, the cells and the text that are then.
-    fn put(
-        &mut self,
-        op: Operation,
-        undos: UndoMap,
-        cells: Cells,
-        shown: Rope,
-    ) -> Result<(), AllocError>
-        requires good { answer self.old.history [] op ≡ Good }
-        requires room { full_fault self.old.limits self.old.history op ≡ None }
-        requires undos { undos ≡ undo_entries (self.old.history ++ op ∷ []) }
-        requires cells { cells ≡ kept_cells (self.old.history ++ op ∷ []) }
-        requires text { shown ≡ text (self.old.history ++ op ∷ []) }
-        ensures ok { OnOk result (self.new ≡ applied self.old op) }
-        ensures err { OnErr result (self.new ≡ self.old) }
-    {
-        let stamp = op.stamp();
-        let (bytes, entries) = size(&op);
-        let mut version = self.version.copy(self.alloc)?;
-        version.observe(stamp)?;
-        self.operations.push(op)?;
-        self.clock.observe(stamp);
-        self.version = version;
-        self.undos = undos;
-        self.cells = cells;
-        self.text = shown;
-        self.bytes += bytes as u64;
-        self.entries += entries;
+        self.document.apply(op)?;
+        self.document.known();
         Ok(())
     }
 
@@ -273,21 +190,7 @@ impl Buffer {
     pub(crate) fn excess(&self, bytes: u64, entries: u64) -> Option<EditFault>
         ensures { result ≡ option_map (λ e. EditFault.Full e.unit e.held e.adds) (excess self.now.limits self.now.history bytes entries) }
     {
-        if self.limits.bytes - self.bytes < bytes {
-            return Some(EditFault::Full {
-                unit: Unit::Bytes,
-                held: self.bytes,
-                adds: bytes,
-            });
-        }
-        if self.limits.entries - self.entries < entries {
-            return Some(EditFault::Full {
-                unit: Unit::Entries,
-                held: self.entries,
-                adds: entries,
-            });
-        }
-        None
+        self.document.excess(&self.limits, bytes, entries)
     }
 
     // The stamp of the next edit or undo.
@@ -295,7 +198,7 @@ impl Buffer {
         ensures { result ≡ record { value = clock self.now.history; replica = self.now.replica } }
     {
         Lamport {
-            value: self.clock.value(),
+            value: self.document.clock(),
             replica: self.replica,
         }
     }
@@ -308,8 +211,8 @@ impl Buffer {
     {
         Ok(Operation::Edit(EditOp {
             stamp: self.next_stamp(),
-            version: self.version.copy(self.alloc)?,
-            pieces: self.cells.full_pieces(self.alloc, changes)?,
+            version: self.document.version().copy(self.alloc)?,
+            pieces: self.document.cells().full_pieces(self.alloc, changes)?,
         }))
     }
 }
@@ -318,26 +221,6 @@ impl Buffer {
 pub fn agree(a: &Buffer, b: &Buffer)
     ensures { SameSet a.now.history b.now.history → text a.now.history ≡ text b.now.history }
 {
-    let _ = &a.version;
-    let _ = &b.version;
-}
-
-// The base as an operation.
-fn base_operation(alloc: Global, text: &str) -> Result<Operation, AllocError>
-    ensures { IfOk result (λ op. op ≡ base text.now) }
-{
-    let mut pieces = Vec::new(alloc);
-    pieces.push(Piece {
-        start: 0,
-        end: 0,
-        text: Text::new(String::from_str(alloc, text)?),
-    })?;
-    Ok(Operation::Edit(EditOp {
-        stamp: Lamport {
-            value: 1,
-            replica: 0,
-        },
-        version: Version::new(alloc),
-        pieces: Pieces::new(pieces),
-    }))
+    a.document.known();
+    b.document.known();
 }

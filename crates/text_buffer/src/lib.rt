@@ -2,10 +2,12 @@
 #![tactic(auto)]
 
 mod buffer;
+mod document;
 mod faults;
 mod outcomes;
 mod pieces;
 mod settling;
+mod snapshot;
 mod taking;
 mod undoing;
 
@@ -13,13 +15,16 @@ pub use buffer::{Buffer, agree};
 pub use faults::NewFault;
 pub use op_model::{EditFault, Limits, OpFault, OutOfMemory, UndoFault, Unit};
 pub use outcomes::{Refused, Took};
+pub use snapshot::{Snapshot, snapshots_agree};
 
 fn sends<T: Send>(_value: &T) {}
 
 fn shares<T: Sync>(_value: &T) {}
 
-/// Buffers may be sent to threads and be shared by them.
-pub fn crosses_threads(buffer: &Buffer) {
+/// Buffers and snapshots may be sent to threads and be shared by them.
+pub fn crosses_threads(buffer: &Buffer, snapshot: &Snapshot) {
     sends(buffer);
     shares(buffer);
+    sends(snapshot);
+    shares(snapshot);
 }

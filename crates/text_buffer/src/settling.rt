@@ -29,14 +29,14 @@ impl Buffer {
         ensures want { OnErr result (IsPartly self.old self.new) }
         ensures stopped { OnErr result (IsStopped self.old self.new ⊎ IsStopped (passed self.old) self.new) }
     {
-        let before = self.operations.as_slice().len();
+        let before = self.document.operations().len();
         self.pass()?;
-        if self.operations.as_slice().len() == before {
+        if self.document.operations().len() == before {
             return Ok(0);
         }
         // Causes have smaller stamps than what they are causes of, so this pass applies nothing.
         self.pass()?;
-        Ok((self.operations.as_slice().len() - before) as u64)
+        Ok(self.document.operations().len() - before)
     }
 
     // One pass over what waits.
@@ -72,7 +72,7 @@ impl Buffer {
         ensures ready { IfOk result (λ op. op ≡ next_ready after self.now) }
         ensures buffer { IsBuffer self.now }
     {
-        match self.waiting.ready(after, &self.version) {
+        match self.waiting.ready(after, self.document.version()) {
             Some(op) => Ok(Some(op.copy(self.alloc)?)),
             None => Ok(None),
         }
@@ -100,7 +100,13 @@ impl Buffer {
         ensures proper { IfOk result (λ v. v ≡ Verdict.Accept → IsProper op.now) }
     {
         let nothing = Deferred::new(self.alloc)?;
-        match judge(&self.operations, &nothing, &self.version, &self.cells, op) {
+        match judge(
+            self.document.operations(),
+            &nothing,
+            self.document.version(),
+            self.document.cells(),
+            op,
+        ) {
             Verdict::Accept => match self.full(op) {
                 Some(fault) => Ok(Verdict::Refuse(fault)),
                 None => Ok(Verdict::Accept),

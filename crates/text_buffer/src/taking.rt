@@ -6,9 +6,11 @@ ghost use Rattle.text_buffer.specs.Outcomes.{pair_of};
 ghost use Rattle.text_buffer.specs.Buffer.{AllMiss, IsPartly, answer_to, is_kept, number_applied, taken, told};
 
 use crate::{Buffer, Refused, Took};
+use applied_ops::Applied;
 use deferred_ops::Deferred;
 use op_answers::{Verdict, judge};
 use op_model::{OpFault, Operation};
+use sum_tree::SumTree;
 
 impl Buffer {
     /// Takes an operation of another replica. It is applied, whereupon the buffer settles; or it waits; or an equal one is applied
@@ -32,10 +34,10 @@ impl Buffer {
         ensures want { OnErr result (IsPartly self.old self.new) }
     {
         match judge(
-            &self.operations,
+            self.document.operations(),
             &self.waiting,
-            &self.version,
-            &self.cells,
+            self.document.version(),
+            self.document.cells(),
             &op,
         ) {
             Verdict::Accept => self.accept(op),
@@ -61,17 +63,17 @@ impl Buffer {
         if let Some(fault) = self.full(&op) {
             return Err(fault);
         }
-        let before = self.operations.as_slice().len();
+        let before = self.document.operations().len();
         self.apply(op)?;
         self.settle()?;
-        Ok(Took::Applied((self.operations.as_slice().len() - before) as u64))
+        Ok(Took::Applied(self.document.operations().len() - before))
     }
 
     /// The operations that are applied, in their order, the base first, without memory.
-    pub fn applied(&self) -> &[Operation]
-        ensures { result.now ≡ self.now.history }
+    pub fn applied(&self) -> &SumTree<Applied>
+        ensures { result.now.items ≡ self.now.history }
     {
-        self.operations.as_slice()
+        self.document.operations().tree()
     }
 
     /// The operations that wait, without memory.

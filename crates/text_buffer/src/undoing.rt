@@ -42,10 +42,15 @@ impl Buffer {
     fn undo_fault(&self, edits: &[Lamport]) -> Option<UndoFault>
         ensures { result ≡ undo_fault self.now edits.now }
     {
-        if let Some(fault) = undo_fault(self.alloc, &self.operations, &self.undos, edits) {
+        if let Some(fault) = undo_fault(
+            self.alloc,
+            self.document.operations(),
+            self.document.undos(),
+            edits,
+        ) {
             return Some(fault);
         }
-        if self.clock.value() == u32::MAX {
+        if self.document.clock() == u32::MAX {
             return Some(UndoFault::ClockEnd);
         }
         match self.excess(0, 1 + edits.len() as u64) {
@@ -65,8 +70,8 @@ impl Buffer {
     {
         Ok(Operation::Undo(UndoOp {
             stamp: self.next_stamp(),
-            version: self.version.copy(self.alloc)?,
-            counts: next_counts(self.alloc, &self.undos, edits)?,
+            version: self.document.version().copy(self.alloc)?,
+            counts: next_counts(self.alloc, self.document.undos(), edits)?,
         }))
     }
 }

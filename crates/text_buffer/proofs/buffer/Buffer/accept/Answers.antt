@@ -1,4 +1,4 @@
-use Rattle.std.proofs.Common.{◌∙◌, ap, subst}
+use Rattle.std.proofs.Common.{◌∙◌, ap, subst, length}
 use Rattle.op_model.proofs.Settling.{good_alone}
 use Rattle.text_buffer.specs.Buffer.{BufferState, AllMiss, IsPartly, settled}
 use Rattle.text_buffer.proofs.Applied.{shape_of}
@@ -16,12 +16,12 @@ returns-in_err-settle-clause-want c = on_err c.from_residual-in_err-settle.resul
     (one_applied c.args.self.now c.settle.new.self c.args.op c.requires.good (subst (λ (b : BufferState). IsPartly b c.settle.new.self) c.in_ok-apply.ensures.ok c.in_err-settle.ensures.want))
 
 pub overflow_sub-result : goal.overflow_sub-result
-overflow_sub-result c = not_less c.args.self.now c.args.op c.as_slice-before.result.now c.as_slice.result.now
-    (c.as_slice-before.ensures ∙ ap (λ (b : BufferState). b.history) c.self.view_is)
-    (c.as_slice.ensures ∙ ap (λ (b : BufferState). b.history) (c.self-2.view_is ∙ c.in_ok-settle.ensures.new ∙ ap settled c.in_ok-apply.ensures.ok))
+overflow_sub-result c = not_less c.args.self.now c.args.op c.len-before.result c.len.result
+    (c.len-before.ensures ∙ ap length c.operations.ensures ∙ ap (λ (b : BufferState). length b.history) c.self.view_is)
+    (c.len.ensures ∙ ap length c.operations-2.ensures ∙ ap (λ (b : BufferState). length b.history) (c.self-2.view_is ∙ c.in_ok-settle.ensures.new ∙ ap settled c.in_ok-apply.ensures.ok))
 
 pub returns-clause-applied : goal.returns-clause-applied
-returns-clause-applied c = says c.args.self.now c.args.op c.as_slice-before.result.now c.as_slice.result.now
-    (c.as_slice-before.ensures ∙ ap (λ (b : BufferState). b.history) c.self.view_is)
-    (c.as_slice.ensures ∙ ap (λ (b : BufferState). b.history) (c.self-2.view_is ∙ c.in_ok-settle.ensures.new ∙ ap settled c.in_ok-apply.ensures.ok))
+returns-clause-applied c = says c.args.self.now c.args.op c.len-before.result c.len.result
+    (c.len-before.ensures ∙ ap length c.operations.ensures ∙ ap (λ (b : BufferState). length b.history) c.self.view_is)
+    (c.len.ensures ∙ ap length c.operations-2.ensures ∙ ap (λ (b : BufferState). length b.history) (c.self-2.view_is ∙ c.in_ok-settle.ensures.new ∙ ap settled c.in_ok-apply.ensures.ok))
     (AllMiss c.settle.new.self) c.in_ok-settle.ensures.waiting

@@ -1,24 +1,19 @@
-use Rattle.std.proofs.Common.{◌∙◌, [], ◌∷◌, ◌++◌, refl, sym, ap, subst}
-use Rattle.fragments.specs.Kept.{shown_bytes}
-use Rattle.fragments.proofs.Told.{shown_text}
-use Rattle.text_buffer.specs.Buffer.{IsBuffer}
-use Rattle.text_buffer.proofs.Applied.{shown_after}
+use Rattle.std.proofs.Common.{◌∙◌, [], ap}
+use Rattle.op_model.specs.Answers.{answer}
+use Rattle.op_model.specs.Settled.{full_fault}
+use Rattle.text_buffer.specs.Buffer.{BufferState}
+use Rattle.text_buffer.specs.Fields.{state_of}
+use Rattle.text_buffer.proofs.Applied.{IsBuffer-put, room_for}
 use Rattle.text_buffer.proofs.buffer.Buffer.apply.Goals as goal
 
-pub follow-requires-clause-text : goal.follow-requires-clause-text
-follow-requires-clause-text c = c.self.invariant.text ∙ sym (shown_text c.self.inside.operations) ∙ ap shown_bytes (sym (c.as_slice.ensures ∙ c.self.invariant.cells))
+pub apply-requires-clause-good : goal.apply-requires-clause-good
+apply-requires-clause-good c = ap (λ (b : BufferState). answer b.history [] c.args.op) c.self.view_is ∙ c.requires.good
 
-pub follow-requires-clause-utf8 : goal.follow-requires-clause-utf8
-follow-requires-clause-utf8 c = (shown_after c.args.self.now c.args.op c.as_slice-2.result.now (subst IsBuffer c.self.view_is c.self.invariant.state) c.requires.proper c.requires.good c.requires.room (c.as_slice-2.ensures ∙ c.in_ok-cells.ensures)).utf8
+pub apply-requires-clause-room : goal.apply-requires-clause-room
+apply-requires-clause-room c = room_for (state_of c.self.inside) c.args.op c.self.invariant (ap (λ (b : BufferState). full_fault b.limits b.history c.args.op) c.self.view_is ∙ c.requires.room)
 
-pub follow-requires-clause-few : goal.follow-requires-clause-few
-follow-requires-clause-few c = (shown_after c.args.self.now c.args.op c.as_slice-2.result.now (subst IsBuffer c.self.view_is c.self.invariant.state) c.requires.proper c.requires.good c.requires.room (c.as_slice-2.ensures ∙ c.in_ok-cells.ensures)).few
-
-pub put-requires-clause-text : goal.put-requires-clause-text
-put-requires-clause-text c = c.in_ok-text.ensures ∙ ap shown_bytes (c.as_slice-2.ensures ∙ c.in_ok-cells.ensures) ∙ shown_text (c.args.self.now.history ++ c.args.op ∷ [])
-
-pub same-self-in_err-text : goal.same-self-in_err-text
-same-self-in_err-text c = refl
-
-pub same-self-in_err-cells : goal.same-self-in_err-cells
-same-self-in_err-cells c = refl
+pub invariant_of-self-2 : goal.invariant_of-self-2
+invariant_of-self-2 c =
+    IsBuffer-put (state_of c.self.inside) c.args.op c.apply.new.self c.self.invariant c.known.ensures
+    (ap (λ (b : BufferState). answer b.history [] c.args.op) c.self.view_is ∙ c.requires.good)
+    (ap (λ (b : BufferState). full_fault b.limits b.history c.args.op) c.self.view_is ∙ c.requires.room) c.in_ok-apply.ensures.ok

@@ -1,5 +1,7 @@
+use Rattle.std.proofs.Common.{sym, subst}
+use Rattle.op_model.specs.Histories.{Distinct}
 use Rattle.op_model.proofs.Good.{lawful_ready}
 use Rattle.text_buffer.proofs.buffer.Buffer.undo_fault.Goals as goal
 
 pub undo_fault-requires-clause-distinct : goal.undo_fault-requires-clause-distinct
-undo_fault-requires-clause-distinct c = (lawful_ready c.self.inside.operations c.self.invariant.state.lawful).0.distinct
+undo_fault-requires-clause-distinct c = subst Distinct (sym c.operations.ensures) (lawful_ready c.self.inside.document c.self.invariant.lawful).0.distinct

@@ -6,11 +6,11 @@ use Rattle.text_buffer.proofs.Undone.{undo_is, counts_open}
 use Rattle.text_buffer.proofs.buffer.Buffer.undo_operation.Goals as goal
 
 pub next_counts-requires : goal.next_counts-requires
-next_counts-requires c = counts_open c.args.self.now c.args.edits.now _ (c.self.invariant.undos ∙ ap (λ (b : BufferState). undo_entries b.history) c.self.view_is) c.requires
+next_counts-requires c = counts_open c.args.self.now c.args.edits.now _ (c.undos.ensures ∙ ap (λ (b : BufferState). undo_entries b.history) c.self.view_is) c.requires
 
 pub returns : goal.returns
 returns c =
     let h = c.args.self.now.history in
     undo_is h c.args.self.now.replica c.args.edits.now _ _ _ c.next_stamp.ensures
-    (c.in_ok-copy.ensures ∙ c.self.invariant.version ∙ ap (λ (b : BufferState). version b.history) c.self.view_is)
-    (c.in_ok-next_counts.ensures.history h (c.self.invariant.undos ∙ ap (λ (b : BufferState). undo_entries b.history) c.self.view_is))
+    (c.in_ok-copy.ensures ∙ c.version.ensures ∙ ap (λ (b : BufferState). version b.history) c.self.view_is)
+    (c.in_ok-next_counts.ensures.history h (c.undos.ensures ∙ ap (λ (b : BufferState). undo_entries b.history) c.self.view_is))

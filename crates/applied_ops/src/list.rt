@@ -1,0 +1,129 @@
+// The applied operations in their order, found by their stamps.
+ghost use Rattle.std.specs.Prelude.{◌≡◌, ◌++◌, ◌∷◌, [], None, length, IfOk, OnErr, OnOk};
+ghost use Rattle.std.specs.Option.{option_copied};
+ghost use Rattle.op_model.specs.Operations.{stamp_of};
+ghost use Rattle.op_model.specs.Histories.{Distinct, has_edit, operation_at};
+ghost use Rattle.applied_ops.specs.Placed.{is_edit_found};
+
+use crate::operation::Applied;
+use crate::place::Place;
+use lamport_clock::{Lamport, is_same};
+use op_model::Operation;
+use std::alloc::{AllocError, Global};
+use std::marker::Model;
+use sum_tree::SumTree;
+
+/// The most operations of a list.
+const MOST: u64 = 1 << 40;
+
+/// Operations in the order of their application, no two with one stamp, seen as their list: a tree, and beside it one of
+/// their places by their stamps. Lists share their nodes and their operations.
+#[derive(Drop)]
+pub struct AppliedList {
+    operations: SumTree<Applied>,
+    places: SumTree<Place>,
+}
+
+impl Model for AppliedList {
+    ghost use Rattle.std.specs.Prelude.{List};
+    ghost use Rattle.op_model.specs.declared.operation.Operation.{Operation};
+
+    ghost Value = { List Operation };
+
+    ghost use Rattle.applied_ops.specs.Placed.{ArePlaced};
+
+    ghost view = { λ a. a.operations.items };
+
+    ghost invariant = { λ a. ArePlaced a.places.items a.operations.items };
+}
+
+impl AppliedList {
+    /// Nothing is applied.
+    pub fn new(alloc: Global) -> Result<AppliedList, AllocError>
+        ensures { IfOk result (λ a. a ≡ []) }
+    {
+        Ok(AppliedList {
+            operations: SumTree::new(alloc)?,
+            places: SumTree::new(alloc)?,
+        })
+    }
+
+    /// A second owner of the same nodes. No node is made.
+    pub fn share(&self) -> Result<AppliedList, AllocError>
+        ensures { IfOk result (λ a. a ≡ self.now) }
+    {
+        Ok(AppliedList {
+            operations: self.operations.share()?,
+            places: self.places.share()?,
+        })
+    }
+
+    /// The operations, in their order.
+    pub fn tree(&self) -> &SumTree<Applied>
+        ensures { result.now.items ≡ self.now }
+    {
+        &self.operations
+    }
+
+    /// How many operations there are.
+    pub fn len(&self) -> u64
+        ensures { result ≡ length self.now }
+    {
+        self.operations.len()
+    }
+
+    /// The operation that has the stamp, if it is applied. Logarithmic in the number of operations.
+    pub fn find(&self, t: Lamport) -> Option<&Operation>
+        ensures { option_copied result ≡ operation_at self.now t }
+    {
+        let Some(place) = self.places.find(&t) else {
+            return None;
+        };
+        let Some(applied) = self.operations.get(place.index) else {
+            return None;
+        };
+        // A push that wanted memory may have left the place of an operation that is not applied.
+        let op = applied.op();
+        if is_same(op.stamp(), t) {
+            Some(op)
+        } else {
+            None
+        }
+    }
+
+    /// Whether the stamp is that of an applied edit. Logarithmic in the number of operations.
+    pub fn has_edit(&self, t: Lamport) -> bool
+        requires { Distinct self.now }
+        ensures { result ≡ has_edit self.now t }
+    {
+        is_edit(self.find(t))
+    }
+
+    /// Puts an operation last; none with its stamp is there yet. Logarithmic in the number of operations; what no other list
+    /// shares is changed in place. On want of memory the operation is dropped, and the list is as before; past 2^40
+    /// operations it always wants memory.
+    pub fn push(&mut self, alloc: Global, op: Operation) -> Result<(), AllocError>
+        requires { operation_at self.old (stamp_of op) ≡ None }
+        ensures ok { OnOk result (self.new ≡ self.old ++ op ∷ []) }
+        ensures err { OnErr result (self.new ≡ self.old) }
+    {
+        let index = self.operations.len();
+        if index >= MOST || self.places.len() >= MOST {
+            return Err(AllocError);
+        }
+        let stamp = op.stamp();
+        let applied = Applied::new(alloc, op)?;
+        self.places.insert(alloc, Place { stamp, index })?;
+        self.operations.push(alloc, applied)?;
+        Ok(())
+    }
+}
+
+fn is_edit(found: Option<&Operation>) -> bool
+    ensures { result ≡ is_edit_found (option_copied found.entry) }
+{
+    match found {
+        Some(Operation::Edit(_)) => true,
+        _ => false,
+    }
+}

@@ -1,0 +1,89 @@
+// What a buffer was.
+ghost use Rattle.std.specs.Prelude.{◌≡◌, IfOk};
+ghost use Rattle.op_model.specs.Histories.{SameSet, version};
+ghost use Rattle.op_model.specs.Shown.{text};
+ghost use Rattle.text_buffer.specs.Document.{IsHistory};
+
+use crate::Buffer;
+use crate::document::Document;
+use applied_ops::Applied;
+use lamport_clock::Version;
+use rope_chunks::Rope;
+use std::alloc::AllocError;
+use std::marker::Model;
+use sum_tree::SumTree;
+
+/// What a buffer was at one time: its applied operations, and what they come to. Contracts see it as the list of its applied
+/// operations, the base first, which is lawful; all its answers are functions of this list. It shares everything with the
+/// buffer and with other snapshots, and never changes.
+#[derive(Drop)]
+pub struct Snapshot {
+    document: Document,
+}
+
+impl Model for Snapshot {
+    ghost use Rattle.std.specs.Prelude.{List};
+    ghost use Rattle.op_model.specs.declared.operation.Operation.{Operation};
+
+    ghost Value = { List Operation };
+
+    ghost view = { λ s. s.document };
+}
+
+impl Buffer {
+    /// What the buffer is now. Everything is shared and nothing is copied, so the time does not grow with the text or with what is
+    /// applied.
+    pub fn snapshot(&self) -> Result<Snapshot, AllocError>
+        ensures { IfOk result (λ s. s ≡ self.now.history) }
+    {
+        let document = self.document.share()?;
+        Ok(Snapshot { document })
+    }
+}
+
+impl Snapshot {
+    /// A second owner of all of it. Nothing is copied.
+    pub fn share(&self) -> Result<Snapshot, AllocError>
+        ensures { IfOk result (λ s. s ≡ self.now) }
+    {
+        Ok(Snapshot {
+            document: self.document.share()?,
+        })
+    }
+
+    /// The text, without memory.
+    pub fn text(&self) -> &Rope
+        ensures { result.now ≡ text self.now }
+    {
+        self.document.text()
+    }
+
+    /// The applied operations, in their order, the base first, without memory.
+    pub fn applied(&self) -> &SumTree<Applied>
+        ensures { result.now.items ≡ self.now }
+    {
+        self.document.operations().tree()
+    }
+
+    /// The greatest stamp value applied of each replica, the base's among them, without memory.
+    pub fn version(&self) -> &Version
+        ensures { result.now ≡ version self.now }
+    {
+        self.document.version()
+    }
+
+    /// What holds of every snapshot: its list is lawful, and more. It does nothing when it runs.
+    pub fn known(&self)
+        ensures { IsHistory self.now }
+    {
+        self.document.known()
+    }
+}
+
+/// Two snapshots of the same operations, in whatever order, show the same text.
+pub fn snapshots_agree(a: &Snapshot, b: &Snapshot)
+    ensures { SameSet a.now b.now → text a.now ≡ text b.now }
+{
+    a.known();
+    b.known();
+}
