@@ -8,7 +8,7 @@ use Rattle.lamport_clock.specs.Stamps.{later, same_stamp}
 use Rattle.op_model.specs.Cells.{same_cell, sibling_first, seq_where, seq}
 use Rattle.op_model.specs.Shown.{deleters_where, shown_where, shown, full_where, full}
 use Rattle.op_model.specs.Answers.{answer}
-use Rattle.fragments.specs.Kept.{kept_cells}
+use Rattle.cells.specs.Kept.{kept_cells}
 use Rattle.buffer_tests.specs.AnswerSample.{base_text, edit_applied, undo_applied, sample}
 
 pub sample_lawful : Lawful sample

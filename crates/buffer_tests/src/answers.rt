@@ -6,8 +6,8 @@ ghost use Rattle.buffer_tests.specs.AnswerSample.{base_seen, edit_seen, edit_app
 
 use crate::operations::{Entries, Parts, Stamp, operation, stamp};
 use applied_ops::AppliedList;
+use cells::Cells;
 use deferred_ops::Deferred;
-use fragments::Cells;
 use lamport_clock::{Lamport, Version};
 use op_answers::Verdict::{Accept, Missing, Refuse, Repeated};
 use op_answers::{Verdict, judge};

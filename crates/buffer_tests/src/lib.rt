@@ -8,9 +8,9 @@ mod applying;
 #[cfg(test)]
 mod buffers;
 #[cfg(test)]
-mod cells;
-#[cfg(test)]
 mod clocks;
+#[cfg(test)]
+mod laid_cells;
 #[cfg(test)]
 mod names;
 #[cfg(test)]

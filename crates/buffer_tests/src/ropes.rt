@@ -1,10 +1,10 @@
 // Texts kept as ropes, with ample memory.
 ghost use Rattle.std.specs.Prelude.{◌≡◌, IfOk, string_bytes};
-ghost use Rattle.fragments.specs.Kept.{shown_bytes};
+ghost use Rattle.cells.specs.Kept.{shown_bytes};
 
-use crate::cells::shown_in;
+use crate::laid_cells::shown_in;
 use crate::operations::{Change, pieces};
-use fragments::{KeptCell, Stamps};
+use cells::{KeptCell, Stamps};
 use lamport_clock::Lamport;
 use op_model::{EditFault, Piece, text_total};
 use rope_chunks::Rope;

@@ -4,13 +4,13 @@ ghost use Rattle.op_model.specs.Operations.{version_of};
 ghost use Rattle.op_model.specs.Histories.{Distinct, version};
 ghost use Rattle.op_model.specs.Lawful.{Lawful};
 ghost use Rattle.op_model.specs.Answers.{answer, shape_fault, open_replica};
-ghost use Rattle.fragments.specs.Kept.{kept_cells};
+ghost use Rattle.cells.specs.Kept.{kept_cells};
 ghost use Rattle.op_answers.specs.Verdicts.{answer_of, part_fault};
 
 use crate::found::{count_fault, is_held, is_taken, open_replica};
 use applied_ops::AppliedList;
+use cells::Cells;
 use deferred_ops::Deferred;
-use fragments::Cells;
 use lamport_clock::Version;
 use op_model::{OpFault, Operation, shape};
 

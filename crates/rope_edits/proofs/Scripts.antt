@@ -11,8 +11,8 @@ use Rattle.std.specs.Prelude.{nat_lt, nat_le}
 use Rattle.op_model.specs.declared.operation.Piece.{Piece}
 use Rattle.op_model.specs.Edits.{replaced, replaced_from}
 use Rattle.op_model.proofs.Restricted.{each_append}
-use Rattle.fragments.specs.declared.cell.KeptCell.{KeptCell}
-use Rattle.fragments.specs.Kept.{shown_bytes}
+use Rattle.cells.specs.declared.cell.KeptCell.{KeptCell}
+use Rattle.cells.specs.Kept.{shown_bytes}
 use Rattle.rope_edits.specs.Fit.{AreFit, AreUtf8}
 use Rattle.rope_edits.specs.Script.{ScriptState, empty_script, is_first, changes_with, told, skipped, added, kept, passing, FitTo, Tells}
 use Rattle.rope_edits.proofs.Ropes.{take_split}

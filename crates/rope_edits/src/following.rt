@@ -2,12 +2,12 @@
 ghost use Rattle.std.specs.Prelude.{◌≡◌, ◌≤◌, ◌^◌, ◌++◌, ◌∷◌, [], true, false, length, take, IfOk, IsTrue, IsUtf8};
 ghost use Rattle.std.specs.List.{count_by};
 ghost use Rattle.op_model.specs.Edits.{replaced};
-ghost use Rattle.fragments.specs.Kept.{shown_bytes};
+ghost use Rattle.cells.specs.Kept.{shown_bytes};
 ghost use Rattle.rope_edits.specs.Fit.{AreFit};
 ghost use Rattle.rope_edits.specs.Script.{Tells};
 
 use crate::script::Script;
-use fragments::KeptCell;
+use cells::KeptCell;
 use op_model::Piece;
 use rope_chunks::Rope;
 use std::alloc::{AllocError, Global};

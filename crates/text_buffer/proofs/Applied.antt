@@ -33,11 +33,11 @@ use Rattle.op_model.proofs.Proper.{utf8}
 use Rattle.undo_map.specs.declared.entry.UndoEntry.{UndoEntry}
 use Rattle.undo_map.specs.Undos.{undo_entries}
 use Rattle.undo_map.proofs.Entries.{entries_within}
-use Rattle.fragments.specs.declared.cell.KeptCell.{KeptCell}
-use Rattle.fragments.specs.Kept.{kept_cells, shown_bytes}
-use Rattle.fragments.proofs.Undone.{entries_edit}
-use Rattle.fragments.proofs.Told.{shown_text}
-use Rattle.fragments.proofs.Lengths.{text_length}
+use Rattle.cells.specs.declared.cell.KeptCell.{KeptCell}
+use Rattle.cells.specs.Kept.{kept_cells, shown_bytes}
+use Rattle.cells.proofs.Undone.{entries_edit}
+use Rattle.cells.proofs.Told.{shown_text}
+use Rattle.cells.proofs.Lengths.{text_length}
 use Rattle.text_buffer.specs.Buffer.{BufferState, IsBuffer}
 use Rattle.text_buffer.specs.Document.{IsHistory, HasRoom}
 use Rattle.text_buffer.specs.Told.{AreTold}

@@ -16,9 +16,9 @@ use Rattle.op_model.specs.Settled.{full_fault}
 use Rattle.op_model.specs.Walked.{Ordered}
 use Rattle.op_model.proofs.MadeGood.{sound}
 use Rattle.op_model.proofs.Proper.{edit_good}
-use Rattle.fragments.specs.declared.cell.KeptCell.{KeptCell}
-use Rattle.fragments.specs.Kept.{kept_cells, shown_bytes}
-use Rattle.fragments.proofs.Told.{shown_text}
+use Rattle.cells.specs.declared.cell.KeptCell.{KeptCell}
+use Rattle.cells.specs.Kept.{kept_cells, shown_bytes}
+use Rattle.cells.proofs.Told.{shown_text}
 use Rattle.text_buffer.specs.Buffer.{BufferState, IsBuffer, edit_fault, made}
 use Rattle.text_buffer.proofs.Fit.{room_of}
 use Rattle.text_buffer.proofs.Applied.{within_limits}

@@ -13,10 +13,10 @@ use Rattle.op_model.specs.Lawful.{Lawful}
 use Rattle.op_model.specs.Shown.{text}
 use Rattle.op_model.proofs.Proper.{utf8}
 use Rattle.undo_map.specs.Undos.{undo_entries}
-use Rattle.fragments.specs.Kept.{kept_cells, shown_bytes}
-use Rattle.fragments.specs.Passed.{new_cells}
-use Rattle.fragments.proofs.Told.{shown_text, base_kept}
-use Rattle.fragments.proofs.Lengths.{text_length}
+use Rattle.cells.specs.Kept.{kept_cells, shown_bytes}
+use Rattle.cells.specs.Passed.{new_cells}
+use Rattle.cells.proofs.Told.{shown_text, base_kept}
+use Rattle.cells.proofs.Lengths.{text_length}
 use Rattle.text_buffer.specs.Buffer.{BufferState, IsBuffer}
 use Rattle.text_buffer.specs.Document.{IsHistory}
 use Rattle.text_buffer.specs.Told.{AreTold}

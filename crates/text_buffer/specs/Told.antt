@@ -4,7 +4,7 @@ use Rattle.std.specs.Arc.{arc_value}
 use Rattle.op_model.specs.Histories.{version, clock, bytes_held, entries_held}
 use Rattle.op_model.specs.Shown.{text}
 use Rattle.undo_map.specs.Undos.{undo_entries}
-use Rattle.fragments.specs.Kept.{kept_cells}
+use Rattle.cells.specs.Kept.{kept_cells}
 use Rattle.text_buffer.specs.Document.{IsHistory}
 use Rattle.text_buffer.specs.declared.document.Document.TheInside.{Inside}
 

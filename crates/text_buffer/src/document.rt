@@ -10,12 +10,12 @@ ghost use Rattle.op_model.specs.Shown.{text};
 ghost use Rattle.op_model.specs.Answers.{answer};
 ghost use Rattle.op_model.specs.Answers.Answer.{Good};
 ghost use Rattle.undo_map.specs.Undos.{undo_entries};
-ghost use Rattle.fragments.specs.Kept.{kept_cells};
+ghost use Rattle.cells.specs.Kept.{kept_cells};
 ghost use Rattle.text_buffer.specs.Document.{HasRoom, IsHistory};
 
 use crate::pieces::size;
 use applied_ops::AppliedList;
-use fragments::Cells;
+use cells::Cells;
 use lamport_clock::{Lamport, Version};
 use op_model::{EditFault, EditOp, Limits, Operation, Piece, Pieces, Text, Unit};
 use rope_chunks::Rope;

@@ -1,6 +1,6 @@
 use Rattle.std.proofs.Common.{subst, sym, ap, ◌∙◌}
 use Rattle.op_model.specs.Lawful.{Lawful}
-use Rattle.fragments.specs.Kept.{kept_cells}
+use Rattle.cells.specs.Kept.{kept_cells}
 use Rattle.buffer_tests.proofs.AnswerSampled.{sample_lawful, sample_cells}
 use Rattle.buffer_tests.proofs.answers.answer_to.Goals as goal
 

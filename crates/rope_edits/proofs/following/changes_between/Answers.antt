@@ -1,7 +1,7 @@
 use Rattle.std.proofs.Common.{◌∙◌, List, ap, sym, subst}
 use Rattle.op_model.specs.declared.operation.Piece.{Piece}
 use Rattle.op_model.specs.Edits.{replaced}
-use Rattle.fragments.specs.Kept.{shown_bytes}
+use Rattle.cells.specs.Kept.{shown_bytes}
 use Rattle.rope_edits.specs.Fit.{AreFit}
 use Rattle.rope_edits.specs.Script.{ScriptState}
 use Rattle.rope_edits.proofs.Scripts.{fresh_utf8, ends}

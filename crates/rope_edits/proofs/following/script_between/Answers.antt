@@ -1,5 +1,5 @@
 use Rattle.std.proofs.Common.{◌+◌, ◌∙◌, [], take, drop, ap, sym, subst, arith}
-use Rattle.fragments.specs.Kept.{shown_bytes}
+use Rattle.cells.specs.Kept.{shown_bytes}
 use Rattle.rope_edits.specs.Script.{ScriptState, Tells}
 use Rattle.rope_edits.proofs.Scripts.{tells_empty, fresh_utf8, passes, turn, left, none_left, shown_count, shown_rest, count_rest}
 use Rattle.rope_edits.proofs.following.script_between.Goals as goal

@@ -1,5 +1,5 @@
 use Rattle.std.proofs.Common.{◌≡◌, ◌≤◌, length, take}
-use Rattle.fragments.specs.Kept.{shown_bytes}
+use Rattle.cells.specs.Kept.{shown_bytes}
 use Rattle.rope_edits.specs.Script.{Tells}
 use Rattle.rope_edits.proofs.following.script_between.Given as goal
 

@@ -1,6 +1,6 @@
 use Rattle.std.proofs.Common.{◌∙◌, ap}
 use Rattle.op_model.specs.Histories.{version}
-use Rattle.fragments.specs.Kept.{kept_cells}
+use Rattle.cells.specs.Kept.{kept_cells}
 use Rattle.text_buffer.specs.Buffer.{BufferState, edit_fault}
 use Rattle.text_buffer.specs.Fields.{state_of}
 use Rattle.text_buffer.proofs.Edited.{op_is, ordered_of}

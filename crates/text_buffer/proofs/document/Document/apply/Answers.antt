@@ -1,6 +1,6 @@
 use Rattle.std.proofs.Common.{◌∙◌, [], ◌∷◌, ◌++◌, refl, sym, ap, subst}
-use Rattle.fragments.specs.Kept.{shown_bytes}
-use Rattle.fragments.proofs.Told.{shown_text}
+use Rattle.cells.specs.Kept.{shown_bytes}
+use Rattle.cells.proofs.Told.{shown_text}
 use Rattle.text_buffer.specs.Document.{IsHistory}
 use Rattle.text_buffer.proofs.Applied.{shown_after}
 use Rattle.text_buffer.proofs.document.Document.apply.Goals as goal

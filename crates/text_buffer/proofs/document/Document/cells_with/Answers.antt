@@ -4,8 +4,8 @@ use Rattle.op_model.specs.declared.operation.Operation.{Operation}
 use Rattle.op_model.specs.Operations.{text_total, pieces_of, is_edit}
 use Rattle.op_model.specs.Answers.{answer}
 use Rattle.undo_map.specs.Undos.{undo_entries}
-use Rattle.fragments.specs.Kept.{kept_cells}
-use Rattle.fragments.proofs.Undone.{entries_edit}
+use Rattle.cells.specs.Kept.{kept_cells}
+use Rattle.cells.proofs.Undone.{entries_edit}
 use Rattle.text_buffer.specs.Document.{IsHistory}
 use Rattle.text_buffer.proofs.Applied.{shape_of, total_of}
 use Rattle.text_buffer.proofs.document.Document.cells_with.Goals as goal

@@ -5,7 +5,7 @@ use Rattle.op_model.specs.Answers.Answer.{Good}
 use Rattle.op_model.specs.Shown.{text}
 use Rattle.lamport_clock.specs.Versions.{raise}
 use Rattle.undo_map.specs.Undos.{undo_entries}
-use Rattle.fragments.specs.Kept.{kept_cells}
+use Rattle.cells.specs.Kept.{kept_cells}
 use Rattle.text_buffer.specs.Document.{HasRoom}
 use Rattle.text_buffer.specs.Told.{AreTold}
 use Rattle.text_buffer.proofs.Applied.{AreTold-applied, fresh_of, stay_few}
