@@ -70,6 +70,13 @@ impl<'a, T: Item, D: Dimension<'a, T::Summary>> Cursor<'a, T, D> {
         entry_item(self.halt.item)
     }
 
+    /// The number of items before the one that the cursor is on; past the last, the number of all. Takes no memory.
+    pub fn index(&self) -> u64
+        ensures { result ≡ self.now.index }
+    {
+        self.index
+    }
+
     /// The place at which that item starts; past the last, the place at which all end. Takes no memory.
     pub fn start(&self) -> D
         ensures { D.plain result ≡ place_behind D.moved T.sum_of (D.plain self.now.from) (take self.now.index self.now.items) }
