@@ -5,13 +5,13 @@ use Rattle.std.proofs.lemmas.Bool.Decides.{nat_tests}
 use Rattle.lamport_clock.specs.declared.stamp.Lamport.{Lamport}
 use Rattle.lamport_clock.specs.Versions.{Entries, entry, put, raise}
 
-put_past : (e : ℕ × ℕ) (v : Entries) (r x : ℕ) → e.0 < r → put r x (e ∷ v) ≡ e ∷ put r x v
+pub put_past : (e : ℕ × ℕ) (v : Entries) (r x : ℕ) → e.0 < r → put r x (e ∷ v) ≡ e ∷ put r x v
 put_past e v r x h = grind (arith, nat_tests)
 
-put_at : (e : ℕ × ℕ) (v : Entries) (r x : ℕ) → e.0 ≡ r → put r x (e ∷ v) ≡ (r, x) ∷ v
+pub put_at : (e : ℕ × ℕ) (v : Entries) (r x : ℕ) → e.0 ≡ r → put r x (e ∷ v) ≡ (r, x) ∷ v
 put_at e v r x h = grind (arith, nat_tests)
 
-put_before : (e : ℕ × ℕ) (v : Entries) (r x : ℕ) → r < e.0 → put r x (e ∷ v) ≡ (r, x) ∷ e ∷ v
+pub put_before : (e : ℕ × ℕ) (v : Entries) (r x : ℕ) → r < e.0 → put r x (e ∷ v) ≡ (r, x) ∷ e ∷ v
 put_before e v r x h = grind (arith, nat_tests)
 
 -- where a number stands against another

@@ -15,6 +15,14 @@ IsVersionFrom n (e ∷ v) = (n ≤ e.0) × (e.0 < 65536) × (0 < e.1) × (e.1 < 
 abbrev pub IsVersion : Entries → Type 0
 IsVersion v = IsVersionFrom 0 v
 
+-- the replicas ascend from n on and the values are above 0, of any size
+abbrev pub AreEntriesFrom : ℕ → Entries → Type 0
+AreEntriesFrom n [] = Unit {0}
+AreEntriesFrom n (e ∷ v) = (n ≤ e.0) × (0 < e.1) × AreEntriesFrom (suc e.0) v
+
+abbrev pub AreEntries : Entries → Type 0
+AreEntries v = AreEntriesFrom 0 v
+
 -- the value at replica r, 0 where it is absent
 abbrev pub entry : Entries → ℕ → ℕ
 entry [] r = 0

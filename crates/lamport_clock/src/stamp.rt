@@ -4,8 +4,8 @@ ghost use Rattle.lamport_clock.specs.Stamps.{later, same_stamp, stamp_text};
 
 use std::fmt;
 
-/// A stamp: ordered by value, then by replica. It is written `value.replica`.
-#[derive(Clone, Copy, Debug, PartialEq, Eq, PartialOrd, Ord, Hash)]
+/// A stamp: ordered by value, then by replica. It is written `value.replica`. The default one, 0.0, is no operation's.
+#[derive(Clone, Copy, Debug, Default, PartialEq, Eq, PartialOrd, Ord, Hash)]
 pub struct Lamport {
     pub value: u32,
     pub replica: u16,

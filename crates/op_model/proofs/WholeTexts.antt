@@ -328,6 +328,12 @@ append_none : (s : List Fact) → s ++ [] ≡ s
 append_none [] = refl
 append_none (x ∷ s) = ap (λ z. x ∷ z) (append_none s)
 
+-- the base alone tells of its bytes in order
+pub base_told : (t : List ℕ) → told (base t ∷ []) ≡ alike (record { value = 1; replica = 0 }) 0 (length t) true []
+base_told t =
+    let h : History = base t ∷ [] in
+    ap (λ (x : List Place). map (fact h) (cells x)) (base_seq t) ∙ base_facts (fact h) (base_fact t) [] (record { value = 1; replica = 0 }) 0 t
+
 whole_base : (t : List ℕ) → IsUtf8 t → Whole (base t ∷ [])
 whole_base t u =
     let h : History = base t ∷ [] in
@@ -337,7 +343,7 @@ whole_base t u =
     let w : texts (pieces_of (base t)) ≡ t = nil t in
     record {
       runs = r ∷ [];
-      tell = append_none (run_facts r) ∙ sym (ap (λ (x : List Place). map (fact h) (cells x)) (base_seq t) ∙ base_facts (fact h) (base_fact t) [] s 0 t);
+      tell = append_none (run_facts r) ∙ sym (base_told t);
       utf8 = (subst IsUtf8 (sym (new_text (byte_of h) s (t ++ []) (λ k. byte_is h d (base t) (inl refl) k) [] t [] 0 refl refl)) u, tt);
     }
   where
