@@ -1,0 +1,51 @@
+-- The places behind fragments count their cells.
+use Rattle.std.proofs.Common.{◌≡◌, ℕ, ◌+◌, Bool, true, false, cond, List, [], ◌∷◌, Option, refl, ap, ◌∙◌, arith, inl, inr}
+use Rattle.std.proofs.lemmas.Bool.{cases_Bool, and_from, leb-false, lt-ltb}
+use Rattle.lamport_clock.specs.Versions.{Entries, sees, entry}
+use Rattle.tree_cursor.specs.Places.{behind, place_behind}
+use Rattle.op_model.specs.Walked.{kept_len}
+use Rattle.fragments.specs.declared.fragment.Fragment.{Fragment}
+use Rattle.fragments.specs.Summaries.{summary_of}
+use Rattle.fragments.specs.SummaryLaws.{one_admitted}
+use Rattle.fragments.specs.SeenPlaces.{At, cells_of, move_full, move_visible, move_at, all_in, none_in}
+use Rattle.fragments.specs.Stand.{runs}
+use Rattle.fragments.specs.Laws.{PlacesCountCells, shown_len}
+
+all_or_none : (b : Bool) (n : ℕ) → cond b n 0 + cond b 0 n ≡ n
+all_or_none true n = omega arith
+all_or_none false n = omega arith
+
+own_cells : (f : Fragment) → cells_of (summary_of f) ≡ f.len
+own_cells f = all_or_none f.visible f.len
+
+full_behind : (fs : List Fragment) (n : ℕ) → place_behind move_full summary_of n fs ≡ n + kept_len (λ t. true) (runs fs)
+full_behind [] n = omega arith
+full_behind (f ∷ fs) n = let c = own_cells f in full_behind fs (n + cells_of (summary_of f)) ∙ omega arith
+
+visible_at : (b : Bool) (n k m : ℕ) → n + cond b k 0 + m ≡ n + cond b (k + m) m
+visible_at true n k m = omega arith
+visible_at false n k m = omega arith
+
+visible_behind : (fs : List Fragment) (n : ℕ) → place_behind move_visible summary_of n fs ≡ n + shown_len fs
+visible_behind [] n = omega arith
+visible_behind (f ∷ fs) n = visible_behind fs (n + cond f.visible f.len 0) ∙ visible_at f.visible n f.len (shown_len fs)
+
+place : Entries → ℕ → At
+place v n = (v, n)
+
+seen_behind : (v : Entries) (fs : List Fragment) (n : ℕ) → place_behind move_at summary_of (v, n) fs ≡ (v, n + kept_len (sees v) (runs fs))
+unfolding place
+seen_behind v [] n = ap (place v) (omega arith)
+seen_behind v (f ∷ fs) n = elim (cases_Bool (sees v f.stamp)) [
+  | inl h ↦ (let c = own_cells f in
+      let k : kept_len (sees v) (runs (f ∷ fs)) ≡ f.len + kept_len (sees v) (runs fs) = rw h refl in
+      ap (λ (q : Option At). place_behind move_at summary_of (behind (place v n) q) fs) (all_in (v, n) (summary_of f) (and_from _ _ h refl))
+      ∙ seen_behind v fs (n + cells_of (summary_of f)) ∙ ap (place v) (omega arith))
+  | inr h ↦ (let k : kept_len (sees v) (runs (f ∷ fs)) ≡ kept_len (sees v) (runs fs) = rw h refl in
+      ap (λ (q : Option At). place_behind move_at summary_of (behind (place v n) q) fs)
+      (none_in (v, n) (summary_of f) (one_admitted f) (and_from _ _ (lt-ltb (entry v f.stamp.replica) f.stamp.value (leb-false _ _ h)) refl))
+      ∙ seen_behind v fs n ∙ ap (place v) (omega arith))
+]
+
+pub places_count_cells : PlacesCountCells
+places_count_cells fs n = (full_behind fs n, visible_behind fs n, λ v. seen_behind v fs n)

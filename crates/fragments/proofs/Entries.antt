@@ -1,0 +1,119 @@
+-- An index with an entry more.
+use Rattle.std.proofs.Common.{◌≡◌, ℕ, suc, ◌+◌, ◌≤◌, ◌⊎◌, Bool, true, false, cond, eqb, nat_lt, List, [], ◌∷◌, ◌++◌, length, length-append, refl, sym, ap, ◌∙◌, arith, subst, inl, inr}
+use Rattle.std.proofs.lemmas.Bool.{cases_Bool}
+use Rattle.std.proofs.lemmas.Bool.Decides.{nat_tests}
+use Rattle.std.proofs.lemmas.Cmp.{tied_itself}
+use Rattle.std.specs.Ordering.{nat_cmp, ordering_then, is_lt, is_eq, is_gt}
+use Rattle.std.specs.declared.cmp.Ordering.{Ordering}
+use Rattle.std.specs.declared.cmp.Ordering.TheVariants.{Less, Equal, Greater}
+use Rattle.std.specs.List.{filter}
+use Rattle.sum_tree.specs.Keyed.{below, above}
+use Rattle.sum_tree.proofs.Keys.{ascending_inserted}
+use Rattle.lamport_clock.specs.declared.stamp.Lamport.{Lamport}
+use Rattle.lamport_clock.proofs.Order.{is_eq-same}
+use Rattle.op_model.specs.Sorted.{Member}
+use Rattle.op_model.proofs.PathOrder.{same_stamp_eq}
+use Rattle.fragments.specs.declared.index_entry.IndexKey.{IndexKey}
+use Rattle.fragments.specs.declared.index_entry.IndexEntry.{IndexEntry}
+use Rattle.fragments.specs.Index.{key_of, stamp_cmp, key_cmp, key_order, with_entry}
+use Rattle.fragments.specs.Laws.{EntryTakesItsPlace}
+
+pub member_left : {A : Type 0} (x : A) (xs ys : List A) → Member x xs → Member x (xs ++ ys)
+member_left x [] ys m = absurd m
+member_left x (y ∷ xs) ys (inl e) = inl e
+member_left x (y ∷ xs) ys (inr m) = inr (member_left x xs ys m)
+
+pub member_right : {A : Type 0} (x : A) (xs ys : List A) → Member x ys → Member x (xs ++ ys)
+member_right x [] ys m = m
+member_right x (y ∷ xs) ys m = inr (member_right x xs ys m)
+
+pub member_either : {A : Type 0} (x : A) (xs ys : List A) → Member x (xs ++ ys) → Member x xs ⊎ Member x ys
+member_either x [] ys m = inr m
+member_either x (y ∷ xs) ys (inl e) = inl (inl e)
+member_either x (y ∷ xs) ys (inr m) = elim (member_either x xs ys m) [ inl k ↦ inl (inr k) | inr k ↦ inr k ]
+
+filter_has : {A : Type 0} (p : A → Bool) (x : A) (xs : List A) → Member x xs → p x ≡ true → Member x (filter p xs)
+filter_has p x [] m e = m
+filter_has p x (y ∷ xs) (inl q) e = let k : p y ≡ true = ap p (sym q) ∙ e in rw k (inl q)
+filter_has p x (y ∷ xs) (inr m) e = elim (cases_Bool (p y)) [ inl k ↦ rw k (inr (filter_has p x xs m e)) | inr k ↦ rw k (filter_has p x xs m e) ]
+
+filter_of : {A : Type 0} (p : A → Bool) (x : A) (xs : List A) → Member x (filter p xs) → Member x xs × (p x ≡ true)
+filter_of p x [] m = absurd m
+filter_of {A} p x (y ∷ xs) m = go (p y) refl m (filter_of p x xs)
+  where
+    go : (b : Bool) → p y ≡ b → Member x (cond b (y ∷ filter p xs) (filter p xs)) → (Member x (filter p xs) → Member x xs × (p x ≡ true)) → Member x (y ∷ xs) × (p x ≡ true)
+    go true e (inl q) rest = (inl q, ap p q ∙ e)
+    go true e (inr n) rest = let k = rest n in (inr k.0, k.1)
+    go false e n rest = let k = rest n in (inr k.0, k.1)
+
+equal_is : (a b : ℕ) → nat_cmp a b ≡ Equal → a ≡ b
+equal_is a b h = go (nat_lt a b) refl (eqb a b) refl h
+  where
+    go : (l : Bool) → nat_lt a b ≡ l → (e : Bool) → eqb a b ≡ e → cond l Less (cond e Equal Greater) ≡ Equal → a ≡ b
+    go true p e q k = cc
+    go false p true q k = grind (arith, nat_tests)
+    go false p false q k = cc
+
+then_equal : (a b : Ordering) → ordering_then a b ≡ Equal → (a ≡ Equal) × (b ≡ Equal)
+then_equal Less b h = cc
+then_equal Equal b h = (refl, h)
+then_equal Greater b h = cc
+
+abbrev key : Lamport → ℕ → IndexKey
+key s o = record { stamp = s; offset = record { 0 = o } }
+
+key_is : (a b : IndexKey) → key_cmp a b ≡ Equal → a ≡ b
+key_is a b h =
+    let k = then_equal (stamp_cmp a.stamp b.stamp) (nat_cmp b.offset.0 a.offset.0) h in
+    let s : a.stamp ≡ b.stamp = same_stamp_eq a.stamp b.stamp (sym (is_eq-same a.stamp b.stamp) ∙ ap is_eq k.0) in
+    ap (λ z. key z a.offset.0) s ∙ ap (key b.stamp) (sym (equal_is b.offset.0 a.offset.0 k.1))
+
+abbrev to : IndexEntry → IndexEntry → Ordering
+to x e = key_cmp (key_of e) (key_of x)
+
+self_equal : (x e : IndexEntry) → key_of e ≡ key_of x → to x e ≡ Equal
+self_equal x e q = ap (λ k. key_cmp k (key_of x)) q ∙ tied_itself key_order (key_of x)
+
+more_of : (x e : IndexEntry) (w : List IndexEntry) → Member e (with_entry x w) → (e ≡ x) ⊎ (Member e w × (key_of e ≡ key_of x → ⊥))
+more_of x e w m = elim (member_either e (filter (λ z. is_lt (to x z)) w) (x ∷ filter (λ z. is_gt (to x z)) w) m) [
+  | inl n ↦ (let k = filter_of (λ z. is_lt (to x z)) e w n in inr (k.0, λ q. let f : is_lt Equal ≡ true = ap is_lt (sym (self_equal x e q)) ∙ k.1 in cc))
+  | inr (inl q) ↦ inl q
+  | inr (inr n) ↦ (let k = filter_of (λ z. is_gt (to x z)) e w n in inr (k.0, λ q. let f : is_gt Equal ≡ true = ap is_gt (sym (self_equal x e q)) ∙ k.1 in cc))
+]
+
+more_has : (x e : IndexEntry) (w : List IndexEntry) → (e ≡ x) ⊎ (Member e w × (key_of e ≡ key_of x → ⊥)) → Member e (with_entry x w)
+more_has x e w (inl q) = member_right e (filter (λ z. is_lt (to x z)) w) (x ∷ filter (λ z. is_gt (to x z)) w) (inl q)
+more_has x e w (inr h) = go (to x e) refl
+  where
+    go : (c : Ordering) → to x e ≡ c → Member e (with_entry x w)
+    go Less q = member_left e (filter (λ z. is_lt (to x z)) w) (x ∷ filter (λ z. is_gt (to x z)) w) (filter_has (λ z. is_lt (to x z)) e w h.0 (ap is_lt q))
+    go Equal q = absurd (h.1 (key_is (key_of e) (key_of x) q))
+    go Greater q = member_right e (filter (λ z. is_lt (to x z)) w) (x ∷ filter (λ z. is_gt (to x z)) w) (inr (filter_has (λ z. is_gt (to x z)) e w h.0 (ap is_gt q)))
+
+pub entry_takes_its_place : EntryTakesItsPlace
+entry_takes_its_place x w a = (ascending_inserted key_cmp key_of key_order x w a, λ e. (more_of x e w, more_has x e w))
+
+-- ---- how many entries
+
+parts_long : (k : IndexKey) (w : List IndexEntry) → length (below key_cmp key_of k w) + length (above key_cmp key_of k w) ≤ length w
+parts_long k [] = omega arith
+parts_long k (f ∷ w) =
+    let ih = parts_long k w in
+    let b : List IndexEntry = below key_cmp key_of k w in
+    let a : List IndexEntry = above key_cmp key_of k w in
+    elim (key_cmp (key_of f) k) as (λ r. length (cond (is_lt r) (f ∷ b) b) + length (cond (is_gt r) (f ∷ a) a) ≤ suc (length w)) [
+      | Less ↦ omega arith
+      | Equal ↦ omega arith
+      | Greater ↦ omega arith
+    ]
+
+pub with_entry_long : (e : IndexEntry) (w : List IndexEntry) → length (with_entry e w) ≤ length w + 1
+with_entry_long e w =
+    let b : List IndexEntry = below key_cmp key_of (key_of e) w in
+    let a : List IndexEntry = above key_cmp key_of (key_of e) w in
+    let n = length-append b (e ∷ a) in
+    let m = parts_long (key_of e) w in
+    omega arith
+
+pub grown : (e : IndexEntry) (w n : List IndexEntry) → n ≡ with_entry e w → length n ≤ length w + 1
+grown e w n q = subst (λ z. length z ≤ length w + 1) (sym q) (with_entry_long e w)

@@ -1,0 +1,212 @@
+-- Where a seek for a key stops: at the entry with the greatest offset at most the key's, if the edit has one.
+use Rattle.std.proofs.Common.{◌≡◌, ℕ, suc, ◌+◌, ◌<◌, ◌≤◌, ◌⊎◌, Bool, true, false, cond, List, [], ◌∷◌, length, get_or, slice_get, option_map, refl, sym, ap, ◌∙◌, inl, inr, Option, None, Some, arith, leb, eqb, nat_lt}
+use Rattle.std.proofs.lemmas.Bool.{cases_Bool, cases_lt, and_from, and_left, and_parts, both_ways, le-leb, leb-true, ltb-true, lt-ltb, le-ltb}
+use Rattle.std.proofs.lemmas.Cmp.{alike_right}
+use Rattle.std.specs.Ordering.{nat_cmp, ordering_then, ordering_reverse, is_lt, is_eq}
+use Rattle.std.specs.declared.cmp.Ordering.{Ordering}
+use Rattle.std.specs.declared.cmp.Ordering.TheVariants.{Less, Equal, Greater}
+use Rattle.tree_cursor.specs.Places.{seek_count}
+use Rattle.tree_cursor.specs.Keys.{greater, key_less, key_passes, cmp_less, order_less, IsLess}
+use Rattle.tree_cursor.specs.declared.traits.Bias.TheVariants.{Left}
+use Rattle.lamport_clock.specs.declared.stamp.Lamport.{Lamport}
+use Rattle.lamport_clock.specs.Stamps.{same_stamp}
+use Rattle.lamport_clock.proofs.Order.{is_eq-same}
+use Rattle.fragments.specs.declared.index_entry.IndexKey.{IndexKey}
+use Rattle.fragments.specs.declared.index_entry.IndexEntry.{IndexEntry}
+use Rattle.fragments.specs.declared.index_entry.LastKey.{LastKey}
+use Rattle.fragments.specs.Index.{key_of, stamp_cmp, key_cmp, stamp_order, key_order, IsAscending, first_from, covers, nearest, entry_for, id_for}
+
+abbrev less : IndexKey → IndexKey → Bool
+less a b = cmp_less key_cmp a b
+
+order : IsLess less
+order = order_less key_cmp key_order
+
+abbrev key_sum : IndexEntry → LastKey
+key_sum e = record { key = Some (key_of e) }
+
+-- ---- the seek
+
+-- a key that is less than k does not hide one that is not
+on_at : (a b k : IndexKey) (ab : Bool) → less a b ≡ ab → less a k ≡ true → key_less less (cond ab (Some b) (Some a)) (Some k) ≡ less b k
+on_at a b k true e h = refl
+on_at a b k false e h = elim (cases_Bool (less b k)) [
+  | inl l ↦ h ∙ sym l
+  | inr l ↦ absurd (both_ways _ (order.down a b k e l) h)
+]
+
+on : (p : Option IndexKey) (b k : IndexKey) → key_less less p (Some k) ≡ true → key_less less (greater less p (Some b)) (Some k) ≡ less b k
+on None b k h = refl
+on (Some a) b k h = on_at a b k (less a b) refl h
+
+abbrev move : Option IndexKey → LastKey → Option (Option IndexKey)
+move p s = Some (greater less p s.key)
+
+step : (e : IndexEntry) (w : List IndexEntry) (n : ℕ) → slice_get (e ∷ w) (1 + n) ≡ slice_get w n
+step e w n = ap (slice_get (e ∷ w)) (let q : 1 + n ≡ suc n = omega arith in q)
+
+pub sought : (k : IndexKey) (p : Option IndexKey) (w : List IndexEntry) → key_less less p (Some k) ≡ true
+    → slice_get w (seek_count move key_sum (λ q. key_passes less (Some k) q Left) p w) ≡ first_from k w
+sought k p [] h = refl
+sought k p (e ∷ w) h = elim (cases_Bool (less (key_of e) k)) [
+  | inl l ↦ (let q = on p (key_of e) k h ∙ l in
+      let next : Option IndexKey = greater less p (Some (key_of e)) in
+      rw (q, l) (step e w (seek_count move key_sum (λ r. key_passes less (Some k) r Left) next w) ∙ sought k next w q))
+  | inr l ↦ (let q = on p (key_of e) k h ∙ l in rw (q, l) refl)
+]
+
+-- ---- the entry of an edit
+
+eq_is : (o : Ordering) → is_eq o ≡ true → o ≡ Equal
+eq_is Less h = cc
+eq_is Equal h = refl
+eq_is Greater h = cc
+
+lt_is : (o : Ordering) → is_lt o ≡ true → o ≡ Less
+lt_is Less h = refl
+lt_is Equal h = cc
+lt_is Greater h = cc
+
+same_is : (s t : Lamport) → same_stamp s t ≡ true → stamp_cmp s t ≡ Equal
+same_is s t h = eq_is _ (is_eq-same s t ∙ h)
+
+less_at : (x y : Bool) → cond x Less (cond y Equal Greater) ≡ Less → x ≡ true
+less_at true y h = refl
+less_at false true h = cc
+less_at false false h = cc
+
+below_is : (a b : ℕ) → nat_cmp a b ≡ Less → a < b
+below_is a b h = ltb-true a b (less_at (nat_lt a b) (eqb a b) h)
+
+less_of : (a b : ℕ) → a < b → nat_cmp a b ≡ Less
+less_of a b h = rw (lt-ltb a b h) refl
+
+abbrev at : Lamport → ℕ → IndexKey
+at t o = record { stamp = t; offset = record { 0 = o } }
+
+-- of one edit, keys are compared by their offsets, the greatest first
+same_edit : (a b : IndexKey) → same_stamp a.stamp b.stamp ≡ true → key_cmp a b ≡ nat_cmp b.offset.0 a.offset.0
+same_edit a b s = ap (λ (c : Ordering). ordering_then c (nat_cmp b.offset.0 a.offset.0)) (same_is a.stamp b.stamp s)
+
+-- an entry whose key is less than the cell's does not cover the cell
+past_covers : (t : Lamport) (o : ℕ) (e : IndexEntry) → less (key_of e) (at t o) ≡ true → covers t o e ≡ false
+past_covers t o e l = elim (cases_Bool (covers t o e)) [
+  | inr f ↦ f
+  | inl c ↦ (let k = and_parts (same_stamp e.stamp t) (leb e.offset o) c in
+      let m : o < e.offset = below_is o e.offset (sym (same_edit (key_of e) (at t o) k.0) ∙ lt_is _ l) in
+      let n : e.offset ≤ o = leb-true _ _ k.1 in absurd (omega arith))
+]
+
+-- an entry of the edit whose key is not less does
+up_to_covers : (t : Lamport) (o : ℕ) (e : IndexEntry) → less (key_of e) (at t o) ≡ false → same_stamp e.stamp t ≡ true → covers t o e ≡ true
+up_to_covers t o e l s = elim (cases_lt o e.offset) [
+  | inl m ↦ absurd (both_ways _ l (ap is_lt (same_edit (key_of e) (at t o) s ∙ less_of o e.offset m)))
+  | inr m ↦ and_from _ _ s (le-leb e.offset o m)
+]
+
+-- what stands behind an entry
+abbrev Behind : IndexEntry → List IndexEntry → Type 0
+Behind x w = (j : ℕ) (d : IndexEntry) → j < length w → key_cmp (key_of x) (key_of (get_or w j d)) ≡ Less
+
+behind_first : (x : IndexEntry) (w : List IndexEntry) → IsAscending (x ∷ w) → Behind x w
+behind_first x w a = λ j d l. a 0 (suc j) d (omega arith) (omega arith)
+
+ascending_rest : (x : IndexEntry) (w : List IndexEntry) → IsAscending (x ∷ w) → IsAscending w
+ascending_rest x w a = λ i j d l m. a (suc i) (suc j) d (omega arith) (omega arith)
+
+behind_rest : (x y : IndexEntry) (w : List IndexEntry) → Behind x (y ∷ w) → Behind x w
+behind_rest x y w a = λ j d l. a (suc j) d (omega arith)
+
+-- no entry has a greater offset than x
+abbrev NoneNearer : IndexEntry → Option IndexEntry → Type 0
+NoneNearer x None = Unit {0}
+NoneNearer x (Some y) = nat_lt x.offset y.offset ≡ false
+
+nearest_first : (x : IndexEntry) (o : Option IndexEntry) → NoneNearer x o → nearest x o ≡ x
+nearest_first x None h = refl
+nearest_first x (Some y) h = rw h refl
+
+nearer : (x y : IndexEntry) (o : Option IndexEntry) → nat_lt x.offset y.offset ≡ false → NoneNearer x o → nat_lt x.offset (nearest y o).offset ≡ false
+nearer x y None l h = l
+nearer x y (Some z) l h = elim (cases_Bool (nat_lt y.offset z.offset)) [ inl e ↦ rw e h | inr e ↦ rw e l ]
+
+not_below : (a b : ℕ) → b < a → nat_lt a b ≡ false
+not_below a b l = le-ltb a b (omega arith)
+
+same_with : (s t u : Lamport) → same_stamp s t ≡ true → same_stamp u t ≡ true → stamp_cmp s u ≡ Equal
+same_with s t u h k = stamp_order.congr s t u (same_is s t h) ∙ stamp_order.antisymm t u ∙ ap ordering_reverse (same_is u t k)
+
+-- of the entries of an edit behind one of its entries, none has a greater offset
+none_nearer : (t : Lamport) (o : ℕ) (x : IndexEntry) (w : List IndexEntry) → same_stamp x.stamp t ≡ true → Behind x w → NoneNearer x (entry_for t o w)
+none_nearer t o x [] s b = tt
+none_nearer t o x (y ∷ w) s b = elim (cases_Bool (covers t o y)) [
+  | inr c ↦ rw c (none_nearer t o x w s (behind_rest x y w b))
+  | inl c ↦ (let k = and_parts (same_stamp y.stamp t) (leb y.offset o) c in
+      let e : key_cmp (key_of x) (key_of y) ≡ nat_cmp y.offset x.offset = ap (λ (z : Ordering). ordering_then z (nat_cmp y.offset x.offset)) (same_with x.stamp t y.stamp s k.0) in
+      let l = not_below x.offset y.offset (below_is y.offset x.offset (sym e ∙ b 0 y (omega arith))) in
+      rw c (nearer x y (entry_for t o w) l (none_nearer t o x w s (behind_rest x y w b))))
+]
+
+-- a later edit's entry is behind all entries of the edit
+then_less : (a b : Ordering) → ordering_then a b ≡ Less → (a ≡ Less) ⊎ (a ≡ Equal)
+then_less Less b h = inl refl
+then_less Equal b h = inr refl
+then_less Greater b h = cc
+
+later_of : (a b : Ordering) → is_lt (ordering_then a b) ≡ false → is_eq a ≡ false → a ≡ Greater
+later_of Less b h e = cc
+later_of Equal b h e = cc
+later_of Greater b h e = refl
+
+apart : (t u : Lamport) → stamp_cmp t u ≡ Less → same_stamp u t ≡ false
+apart t u h = sym (is_eq-same u t) ∙ ap is_eq (stamp_order.antisymm u t ∙ ap ordering_reverse h)
+
+none_behind : (t : Lamport) (o : ℕ) (x : IndexEntry) (w : List IndexEntry) → stamp_cmp t x.stamp ≡ Less → Behind x w → entry_for t o w ≡ None
+none_behind t o x [] s b = refl
+none_behind t o x (y ∷ w) s b =
+    let after : stamp_cmp t y.stamp ≡ Less = elim (then_less _ _ (b 0 y (omega arith))) [
+      | inl l ↦ stamp_order.trans t x.stamp y.stamp s l
+      | inr e ↦ sym (alike_right stamp_order x.stamp y.stamp t e) ∙ s
+    ] in
+    rw (and_left (same_stamp y.stamp t) (leb y.offset o) (apart t y.stamp after)) (none_behind t o x w s (behind_rest x y w b))
+
+-- an entry, where it is of the edit
+abbrev pub of_edit : Lamport → Option IndexEntry → Option IndexEntry
+of_edit t None = None
+of_edit t (Some e) = cond (same_stamp e.stamp t) (Some e) None
+
+pub front_entry : (t : Lamport) (o : ℕ) (w : List IndexEntry) → IsAscending w → of_edit t (first_from (at t o) w) ≡ entry_for t o w
+front_entry t o [] a = refl
+front_entry t o (x ∷ w) a = elim (cases_Bool (less (key_of x) (at t o))) [
+  | inl l ↦ (let c = past_covers t o x l in rw (l, c) (front_entry t o w (ascending_rest x w a)))
+  | inr l ↦ elim (cases_Bool (same_stamp x.stamp t)) [
+    | inl s ↦ (let c = up_to_covers t o x l s in
+        let n = nearest_first x (entry_for t o w) (none_nearer t o x w s (behind_first x w a)) in
+        rw (l, c, s) (ap (λ (z : IndexEntry). Some z) (sym n)))
+    | inr s ↦ (let g : stamp_cmp x.stamp t ≡ Greater = later_of (stamp_cmp x.stamp t) (nat_cmp o x.offset) l (is_eq-same x.stamp t ∙ s) in
+        let c = and_left (same_stamp x.stamp t) (leb x.offset o) s in
+        let n = none_behind t o x w (stamp_order.antisymm t x.stamp ∙ ap ordering_reverse g) (behind_first x w a) in
+        rw (l, c, s) (sym n))
+  ]
+]
+
+-- ---- what is found
+
+of_same : (t : Lamport) (e : IndexEntry) → same_stamp e.stamp t ≡ true → of_edit t (Some e) ≡ Some e
+of_same t e s = rw s refl
+
+of_other : (t : Lamport) (e : IndexEntry) → same_stamp e.stamp t ≡ false → of_edit t (Some e) ≡ None
+of_other t e s = rw s refl
+
+found : (t : Lamport) (o : ℕ) (w v : List IndexEntry) (r found : Option IndexEntry) → IsAscending w → w ≡ v → r ≡ first_from (at t o) w → of_edit t r ≡ found → option_map (λ (e : IndexEntry). e.id) found ≡ id_for t o v
+found t o w v r f a q h e = ap (option_map (λ (x : IndexEntry). x.id)) (sym e ∙ ap (of_edit t) h ∙ front_entry t o w a ∙ ap (entry_for t o) q)
+
+-- an entry of the edit, another edit's, and none
+pub found_same : (t : Lamport) (o : ℕ) (w v : List IndexEntry) (e : IndexEntry) → IsAscending w → w ≡ v → Some e ≡ first_from (at t o) w → same_stamp e.stamp t ≡ true → Some e.id ≡ id_for t o v
+found_same t o w v e a q h s = found t o w v (Some e) (Some e) a q h (of_same t e s)
+
+pub found_other : (t : Lamport) (o : ℕ) (w v : List IndexEntry) (e : IndexEntry) → IsAscending w → w ≡ v → Some e ≡ first_from (at t o) w → same_stamp e.stamp t ≡ false → None ≡ id_for t o v
+found_other t o w v e a q h s = found t o w v (Some e) None a q h (of_other t e s)
+
+pub found_none : (t : Lamport) (o : ℕ) (w v : List IndexEntry) → IsAscending w → w ≡ v → None ≡ first_from (at t o) w → None ≡ id_for t o v
+found_none t o w v a q h = found t o w v None None a q h refl

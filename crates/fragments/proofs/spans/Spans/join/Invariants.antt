@@ -1,0 +1,8 @@
+use Rattle.std.proofs.Common.{◌≡◌, drop}
+use Rattle.fragments.specs.Spans.{join_spans}
+use Rattle.fragments.proofs.spans.Spans.join.Given as goal
+
+abbrev pub invariant-loop-span : goal.invariant-loop-span
+invariant-loop-span l = record {
+  joined : join_spans l.self (drop l.span-index l.span-items) ≡ join_spans l.initial.self l.others;
+}

@@ -1,0 +1,84 @@
+-- An index of fragments: entries ascending by stamp, then descending by offset.
+use Rattle.std.specs.Prelude.{ℕ, nat_le, nat_lt, Bool, ◌&&◌, if◌then◌else◌, List, [], ◌∷◌, Option, Some, None, option_map, refl}
+use Rattle.std.specs.Ordering.{nat_cmp, ordering_then}
+use Rattle.std.specs.Cmp.{IsTotalOrder}
+use Rattle.std.specs.declared.cmp.Ordering.{Ordering}
+use Rattle.std.proofs.Common.{ap}
+use Rattle.std.proofs.lemmas.Cmp.{nat_cmp_total, on_total, back_total, then_total}
+use Rattle.sum_tree.specs.Keyed.{Ascending, inserted}
+use Rattle.sum_tree.specs.Laws.{SummaryLaws}
+use Rattle.tree_cursor.specs.Keys.{greater, greater_none, greater_assoc, cmp_less, order_less}
+use Rattle.lamport_clock.specs.declared.stamp.Lamport.{Lamport}
+use Rattle.lamport_clock.specs.Stamps.{same_stamp}
+use Rattle.fragments.specs.declared.index_entry.IndexKey.{IndexKey}
+use Rattle.fragments.specs.declared.index_entry.IndexEntry.{IndexEntry}
+use Rattle.fragments.specs.declared.index_entry.LastKey.{LastKey}
+
+abbrev pub key_of : IndexEntry → IndexKey
+key_of e = record { stamp = e.stamp; offset = record { 0 = e.offset } }
+
+-- by value, then by replica
+abbrev pub stamp_cmp : Lamport → Lamport → Ordering
+stamp_cmp s t = ordering_then (nat_cmp s.value t.value) (nat_cmp s.replica t.replica)
+
+-- by stamp, then by offset, the greatest first
+abbrev pub key_cmp : IndexKey → IndexKey → Ordering
+key_cmp a b = ordering_then (stamp_cmp a.stamp b.stamp) (nat_cmp b.offset.0 a.offset.0)
+
+-- the keys ascend
+abbrev pub IsAscending : List IndexEntry → Type 0
+IsAscending w = Ascending key_cmp key_of w
+
+-- w with an entry, in the place of one with its key
+abbrev pub with_entry : IndexEntry → List IndexEntry → List IndexEntry
+with_entry e w = inserted key_cmp key_of e w
+
+-- the entry begins at cell o of edit t or before it
+abbrev pub covers : Lamport → ℕ → IndexEntry → Bool
+covers t o e = same_stamp e.stamp t && nat_le e.offset o
+
+-- of two entries the one with the greater offset
+abbrev pub nearest : IndexEntry → Option IndexEntry → IndexEntry
+nearest e None = e
+nearest e (Some f) = if nat_lt e.offset f.offset then f else e
+
+-- the entry of edit t with the greatest offset at most o
+abbrev pub entry_for : Lamport → ℕ → List IndexEntry → Option IndexEntry
+entry_for t o [] = None
+entry_for t o (e ∷ w) = if covers t o e then Some (nearest e (entry_for t o w)) else entry_for t o w
+
+-- its id
+abbrev pub id_for : Lamport → ℕ → List IndexEntry → Option (List ℕ)
+id_for t o w = option_map (λ e. e.id) (entry_for t o w)
+
+-- ---- for private clauses
+
+-- the first entry whose key is not less than k
+abbrev pub first_from : IndexKey → List IndexEntry → Option IndexEntry
+first_from k [] = None
+first_from k (e ∷ w) = if cmp_less key_cmp (key_of e) k then first_from k w else Some e
+
+-- ---- the greatest key
+
+abbrev pub no_key : LastKey
+no_key = record { key = None }
+
+abbrev pub last_key : LastKey → LastKey → LastKey
+last_key a b = record { key = greater (cmp_less key_cmp) a.key b.key }
+
+pub stamp_order : IsTotalOrder stamp_cmp
+stamp_order = then_total (on_total (λ (s : Lamport). s.value) nat_cmp_total) (on_total (λ (s : Lamport). s.replica) nat_cmp_total)
+
+pub key_order : IsTotalOrder key_cmp
+key_order = then_total (on_total (λ (k : IndexKey). k.stamp) stamp_order) (on_total (λ (k : IndexKey). k.offset.0) (back_total nat_cmp_total))
+
+pub last_key_laws : SummaryLaws no_key last_key (λ a. Unit) (λ a. Unit)
+last_key_laws = record {
+  empty_admitted = tt;
+  op_admitted = λ a b p q. tt;
+  left_identity = λ a p. refl;
+  right_identity = λ a p. ap (λ k. record { key = k }) (greater_none (cmp_less key_cmp) a.key);
+  assoc = λ a b c p q r. ap (λ k. record { key = k }) (greater_assoc (cmp_less key_cmp) (order_less key_cmp key_order) a.key b.key c.key);
+  empty_fits = tt;
+  fits_parts = λ a b c p q r h. tt;
+}

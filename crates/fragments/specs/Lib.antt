@@ -1,0 +1,9 @@
+pub mod Stamps
+pub mod Spans
+pub mod SpanLaws
+pub mod Summaries
+pub mod SummaryLaws
+pub mod SeenPlaces
+pub mod Index
+pub mod Stand
+pub mod Laws

@@ -1,0 +1,155 @@
+// Fragments, and what is kept of a run of them.
+ghost use Rattle.std.specs.Prelude.{◌≡◌, IfOk, if◌then◌else◌};
+ghost use Rattle.std.specs.Option.{option_copied};
+ghost use Rattle.fragments.specs.Summaries.{no_fragments, summaries, IsSummary, SummaryFits, IsOne, summary_of, with_stamps, greater_id};
+ghost use Rattle.fragments.specs.SummaryLaws.{summary_laws, one_admitted, one_single};
+
+use crate::{Span, Spans, Stamps};
+use lamport_clock::{Lamport, Version};
+use locators::Locator;
+use std::alloc::{AllocError, Global};
+use sum_tree::{Item, Summary};
+
+/// A run of cells of one edit of which one thing is told.
+///
+/// A cell is a byte that an edit brought, hidden or not, and has the number that it has among all bytes of that edit.
+#[derive(Drop)]
+pub struct Fragment {
+    /// Its place among all fragments: their ids ascend.
+    pub id: Locator,
+    /// The edit that brought the cells.
+    pub stamp: Lamport,
+    /// The number of the first cell.
+    pub offset: u64,
+    /// How many cells, at least one.
+    pub len: u64,
+    /// Whether the cells are shown.
+    pub visible: bool,
+    /// The edits that delete the cells, the greatest stamp first.
+    pub deletions: Stamps,
+    /// A version that sees every undo that counts the edit or one of the deletions.
+    pub max_undos: Version,
+}
+
+/// What is kept of a run of fragments.
+#[derive(Drop)]
+pub struct FragmentSummary {
+    /// How many cells are shown.
+    pub visible: u64,
+    /// How many cells are hidden.
+    pub hidden: u64,
+    /// The greatest id, None where there is no fragment.
+    pub last_id: Option<Locator>,
+    /// The least and the greatest value of the fragments' stamps, for each replica.
+    pub span: Spans,
+    /// A version that sees the stamps, the deletions and the undos.
+    pub greatest: Version,
+}
+
+impl Summary for FragmentSummary {
+    ghost empty = { no_fragments };
+
+    ghost op = { summaries };
+
+    ghost admits = { IsSummary };
+
+    ghost fits = { SummaryFits };
+
+    ghost single = { IsOne };
+
+    ghost laws = { summary_laws };
+
+    fn zero(alloc: Global) -> FragmentSummary {
+        FragmentSummary {
+            visible: 0,
+            hidden: 0,
+            last_id: None,
+            span: Spans::new(alloc),
+            greatest: Version::new(alloc),
+        }
+    }
+
+    fn add(&mut self, alloc: Global, other: &FragmentSummary) -> Result<(), AllocError> {
+        let last_id = copy_id(
+            alloc,
+            greater_id(self.last_id.as_ref(), other.last_id.as_ref()),
+        )?;
+        self.span.join(&other.span)?;
+        self.greatest.join(&other.greatest)?;
+        self.visible += other.visible;
+        self.hidden += other.hidden;
+        self.last_id = last_id;
+        Ok(())
+    }
+}
+
+// The greater of two ids, the first where they are equal.
+pub(crate) fn greater_id<'a>(a: Option<&'a Locator>, b: Option<&'a Locator>) -> Option<&'a Locator>
+    ensures { option_copied result ≡ greater_id (option_copied a.entry) (option_copied b.entry) }
+{
+    match (a, b) {
+        (None, b) => b,
+        (a, None) => a,
+        (Some(x), Some(y)) if x.cmp(y).is_lt() => Some(y),
+        (Some(x), Some(_)) => Some(x),
+    }
+}
+
+fn copy_id(alloc: Global, id: Option<&Locator>) -> Result<Option<Locator>, AllocError>
+    ensures { IfOk result (λ o. o ≡ option_copied id.entry) }
+{
+    match id {
+        None => Ok(None),
+        Some(id) => Ok(Some(id.copy(alloc)?)),
+    }
+}
+
+impl Item for Fragment {
+    type Summary = FragmentSummary;
+
+    ghost sum_of = { summary_of };
+
+    ghost admitted = { one_admitted };
+
+    ghost is_single = { one_single };
+
+    fn summary(&self, alloc: Global) -> Result<FragmentSummary, AllocError> {
+        let span = Span {
+            replica: self.stamp.replica,
+            least: self.stamp.value,
+            greatest: self.stamp.value,
+        };
+        Ok(FragmentSummary {
+            visible: if self.visible { self.len } else { 0 },
+            hidden: if self.visible { 0 } else { self.len },
+            last_id: Some(self.id.copy(alloc)?),
+            span: Spans::of(alloc, span)?,
+            greatest: greatest_of(alloc, self)?,
+        })
+    }
+
+    fn copy(&self, alloc: Global) -> Result<Fragment, AllocError> {
+        Ok(Fragment {
+            id: self.id.copy(alloc)?,
+            stamp: self.stamp,
+            offset: self.offset,
+            len: self.len,
+            visible: self.visible,
+            deletions: self.deletions.copy(alloc)?,
+            max_undos: self.max_undos.copy(alloc)?,
+        })
+    }
+}
+
+// A version that sees a fragment's stamp, its deletions and its undos.
+fn greatest_of(alloc: Global, fragment: &Fragment) -> Result<Version, AllocError>
+    ensures { IfOk result (λ v. v ≡ (summary_of fragment.now).greatest) }
+{
+    let _kept = fragment.max_undos.as_slice();
+    let mut version = fragment.max_undos.copy(alloc)?;
+    version.observe(fragment.stamp)?;
+    for stamp in fragment.deletions.as_slice() {
+        version.observe(*stamp)?;
+    }
+    Ok(version)
+}

@@ -1,0 +1,81 @@
+// The stamps of the edits that delete a cell.
+ghost use Rattle.std.specs.Prelude.{◌≡◌, ◌≤◌, [], length, IsOk, IfOk, OnErr, OnOk};
+ghost use Rattle.op_model.specs.Facts.{with_deletion};
+ghost use Rattle.fragments.specs.Stamps.{place_of};
+
+use lamport_clock::{Lamport, is_later};
+use smallvec::SmallVec;
+use std::alloc::{AllocError, Global};
+use std::marker::Model;
+
+/// How many stamps take no memory of their own.
+pub const INLINE_STAMPS: usize = 1;
+
+/// Stamps, the greatest first. Contracts see them as their list.
+///
+/// Up to [`INLINE_STAMPS`] take no memory of their own.
+#[derive(Drop)]
+pub struct Stamps {
+    inner: SmallVec<Lamport, INLINE_STAMPS>,
+}
+
+impl Model for Stamps {
+    ghost use Rattle.std.specs.Prelude.{List};
+    ghost use Rattle.lamport_clock.specs.declared.stamp.Lamport.{Lamport};
+
+    ghost Value = { List Lamport };
+
+    ghost view = { λ s. s.inner.items };
+}
+
+impl Stamps {
+    /// No stamps.
+    pub fn new(alloc: Global) -> Stamps
+        ensures { result ≡ [] }
+    {
+        Stamps {
+            inner: SmallVec::new(alloc),
+        }
+    }
+
+    /// The stamps.
+    pub fn as_slice(&self) -> &[Lamport]
+        ensures { result.now ≡ self.now }
+    {
+        self.inner.as_slice()
+    }
+
+    /// Equal stamps. It takes memory only for more than [`INLINE_STAMPS`].
+    pub fn copy(&self, alloc: Global) -> Result<Stamps, AllocError>
+        ensures stamps { IfOk result (λ s. s ≡ self.now) }
+        ensures short { length self.now ≤ INLINE_STAMPS → IsOk result }
+    {
+        Ok(Stamps {
+            inner: SmallVec::from_slice(alloc, self.inner.as_slice())?,
+        })
+    }
+
+    /// Puts a stamp among stamps that descend. Linear in their number.
+    pub fn insert(&mut self, t: Lamport) -> Result<(), AllocError>
+        ensures ok { OnOk result (self.new ≡ with_deletion t self.old) }
+        ensures err { OnErr result (self.new ≡ self.old) }
+    {
+        let at = place_in(self.inner.as_slice(), t);
+        match self.inner.insert(at, t) {
+            Ok(()) => Ok(()),
+            Err(_) => Err(AllocError),
+        }
+    }
+}
+
+// The number of stamps at the front that `t` is not later than.
+fn place_in(stamps: &[Lamport], t: Lamport) -> usize
+    ensures place { result ≡ place_of t stamps.now }
+    ensures within { result ≤ length stamps.now }
+{
+    let mut at = 0;
+    while at < stamps.len() && !is_later(t, stamps[at]) {
+        at += 1;
+    }
+    at
+}
