@@ -524,6 +524,14 @@ fn few(alloc: Global, base: &str) -> Result<Buffer, NewFault> {
     Buffer::new(alloc, 9, base, FEW)
 }
 
+fn buffer(alloc: Global, is_ample: bool, base: &str) -> Result<Buffer, NewFault> {
+    if is_ample {
+        ample(alloc, base)
+    } else {
+        few(alloc, base)
+    }
+}
+
 fn edit(alloc: Global, buffer: &mut Buffer, changes: &[Change]) -> Result<Came, AllocError> {
     match buffer.edit(pieces(alloc, changes)?.as_slice()) {
         Ok(operation) => Ok(Made(operation.stamp().value)),
@@ -609,19 +617,27 @@ const CASES_OF_FEW: &[Case] = &[
     UNDOS_AT_THE_LIMITS,
 ];
 
-#[test]
-fn calls_and_their_answers(rt: HostRuntime) -> Result<(), Fail> {
-    for case in CASES {
-        play(&rt, rt.alloc(), ample(rt.alloc(), case.0)?, case)?;
+fn play_all(
+    rt: &impl Abort,
+    alloc: Global,
+    is_ample: bool,
+    cases: &[Case],
+) -> Result<(), NewFault> {
+    for case in cases {
+        play(rt, alloc, buffer(alloc, is_ample, case.0)?, case)?;
     }
     Ok(())
 }
 
 #[test]
+fn calls_and_their_answers(rt: HostRuntime) -> Result<(), Fail> {
+    play_all(&rt, rt.alloc(), true, CASES)?;
+    Ok(())
+}
+
+#[test]
 fn calls_at_the_limits(rt: HostRuntime) -> Result<(), Fail> {
-    for case in CASES_OF_FEW {
-        play(&rt, rt.alloc(), few(rt.alloc(), case.0)?, case)?;
-    }
+    play_all(&rt, rt.alloc(), false, CASES_OF_FEW)?;
     Ok(())
 }
 

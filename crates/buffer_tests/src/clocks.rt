@@ -75,7 +75,9 @@ fn sees(version: &Version, value: u32, replica: u16) -> bool {
 }
 
 // Whether a version sees 1.1 and 3.1, whether it sees all that another one sees, and what it misses first.
-fn sight(version: &Version, other: &Version) -> (bool, bool, bool, Option<(u16, u32)>) {
+type Sight = (bool, bool, bool, Option<(u16, u32)>);
+
+fn sight(version: &Version, other: &Version) -> Sight {
     (
         sees(version, 1, 1),
         sees(version, 3, 1),
@@ -84,15 +86,22 @@ fn sight(version: &Version, other: &Version) -> (bool, bool, bool, Option<(u16, 
     )
 }
 
+// What a version sees before and after it joins another one, and whether both have the same entries then.
+fn joining(alloc: Global) -> Result<(Sight, Sight, bool), AllocError> {
+    let mut version = seeing(alloc, &[(2, 1)])?;
+    let other = seeing(alloc, &[(3, 1), (1, 2)])?;
+    let before = sight(&version, &other);
+    version.join(&other)?;
+    let is_same = version.as_slice() == other.as_slice();
+    Ok((before, sight(&version, &other), is_same))
+}
+
 #[test]
 fn what_a_version_sees_and_misses(rt: HostRuntime) -> Result<(), Fail> {
-    let mut version = seeing(rt.alloc(), &[(2, 1)])?;
-    let other = seeing(rt.alloc(), &[(3, 1), (1, 2)])?;
-    let before = sight(&version, &other);
+    let (before, after, is_same) = joining(rt.alloc())?;
     assert_eq!(rt; before, (true, false, false, Some((1, 3))));
-    version.join(&other)?;
-    assert_eq!(rt; sight(&version, &other), (true, true, true, None));
-    assert_eq!(rt; version.as_slice(), other.as_slice());
+    assert_eq!(rt; after, (true, true, true, None));
+    assert!(rt; is_same);
     Ok(())
 }
 
