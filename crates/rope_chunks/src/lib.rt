@@ -6,11 +6,7 @@ mod build;
 mod change;
 mod chunk;
 mod clips;
-#[cfg(test)]
-mod counted_tests;
 mod cut;
-#[cfg(test)]
-mod cut_tests;
 mod lent;
 mod look;
 mod pieces;
@@ -20,8 +16,6 @@ mod rope;
 mod rows;
 mod spot;
 mod targets;
-#[cfg(test)]
-mod tests;
 mod threads;
 
 pub use chunk::Chunk;

@@ -12,8 +12,6 @@ mod bytes;
 mod places;
 mod points;
 mod summary;
-#[cfg(test)]
-mod tests;
 mod threads;
 
 pub use bytes::{is_char_start, units_at};

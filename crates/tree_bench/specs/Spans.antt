@@ -55,9 +55,3 @@ line_sum line = record { items = 1; width = (0 + length line.1) % 2 ^ 64 }
 
 pub line_admitted : (line : ℕ × List ℕ) → IsSpan (line_sum line)
 line_admitted line = record { items = omega arith; width = wrap-lt (0 + length line.1) }
-
-abbrev pub bead_sum : ℕ → Span
-bead_sum n = record { items = 1; width = n % 3 + 1 }
-
-pub bead_admitted : (n : ℕ) → IsSpan (bead_sum n)
-bead_admitted n = record { items = omega arith; width = omega arith }

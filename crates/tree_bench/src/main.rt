@@ -6,20 +6,10 @@ ghost use Rattle.std.specs.Prelude.{List};
 ghost use Rattle.sum_tree.specs.Laws.{fold};
 ghost use Rattle.sum_tree.specs.Keyed.{Ascending};
 
-#[cfg(test)]
-mod bead;
 mod line;
-#[cfg(test)]
-mod mirror;
 mod number;
 mod numbered;
-#[cfg(test)]
-mod refusals;
 mod span;
-#[cfg(test)]
-mod tests;
-#[cfg(test)]
-mod word;
 mod work;
 
 use line::Line;

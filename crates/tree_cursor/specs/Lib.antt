@@ -6,6 +6,4 @@ pub mod Place
 pub mod Walking
 pub mod Keys
 pub mod Counting
-pub mod Partly
-pub mod Joined
 pub mod Rules

@@ -15,12 +15,3 @@ pub use ready::{Greatest, KeySummary};
 pub use seek::locate;
 pub use std::alloc::AllocError as OutOfMemory;
 pub use traits::{Bias, Dimension, Keep, Moves, Plain, Target};
-
-#[cfg(test)]
-mod number_tests;
-#[cfg(test)]
-mod numbers;
-#[cfg(test)]
-mod samples;
-#[cfg(test)]
-mod tests;

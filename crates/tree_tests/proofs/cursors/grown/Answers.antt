@@ -1,0 +1,10 @@
+use Rattle.std.proofs.Common.{ap, refl, arith}
+use Rattle.tree_cursor.proofs.Counts.{fold_more}
+use Rattle.tree_tests.proofs.cursors.grown.Goals as goal
+
+pub push-requires-clause-fits : goal.push-requires-clause-fits
+push-requires-clause-fits c =
+    rw (fold_more _ _ _ c.args.tree.items _) (omega (arith, ap (λ s. s.items) c.summary-sum.ensures), omega (arith, ap (λ s. s.width) c.summary-sum.ensures), omega (arith, ap (λ s. s.odd) c.summary-sum.ensures))
+
+pub same-tree : goal.same-tree
+same-tree c = refl

@@ -1,0 +1,35 @@
+//! The tests of trees, cursors, texts and ropes, by what these crates show to all.
+#![tactic(auto)]
+
+#[cfg(test)]
+mod bead;
+#[cfg(test)]
+mod chance;
+#[cfg(test)]
+mod changes;
+#[cfg(test)]
+mod cursors;
+#[cfg(test)]
+mod keys;
+#[cfg(test)]
+mod mirror;
+#[cfg(test)]
+mod numbered;
+#[cfg(test)]
+mod parts;
+#[cfg(test)]
+mod positions;
+#[cfg(test)]
+mod ranked;
+#[cfg(test)]
+mod refusals;
+#[cfg(test)]
+mod ropes;
+#[cfg(test)]
+mod texts;
+#[cfg(test)]
+mod trees;
+#[cfg(test)]
+mod wide;
+#[cfg(test)]
+mod word;

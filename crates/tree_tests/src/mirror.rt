@@ -1,0 +1,101 @@
+//! Trees beside plain lists of their numbers.
+use crate::numbered::Numbered;
+use std::alloc::{AllocError, Global};
+use sum_tree::{Parts, SumTree};
+
+// The number of an item.
+pub(crate) fn number_of<T: Numbered>(item: Option<&T>) -> Option<u64> {
+    match item {
+        None => None,
+        Some(item) => Some(item.number()),
+    }
+}
+
+// How many entries the root has.
+fn width<T: Numbered>(tree: &SumTree<T>) -> usize {
+    match tree.parts() {
+        Parts::Leaf(entries) => entries.len(),
+        Parts::Inner(children) => children.len(),
+    }
+}
+
+// Puts a node's children behind others, and tells whether they are of this height and have 6 to 12 entries each.
+fn children_onto<'a, T: Numbered>(
+    node: &'a SumTree<T>,
+    height: u32,
+    next: &mut Vec<&'a SumTree<T>>,
+) -> Result<bool, AllocError> {
+    match node.parts() {
+        Parts::Leaf(_) => Ok(false),
+        Parts::Inner(children) => {
+            let mut even = true;
+            for child in children {
+                let entries = width(child);
+                even = even && child.height() == height && entries >= 6 && entries <= 12;
+                next.push(child)?;
+            }
+            Ok(even)
+        }
+    }
+}
+
+// Whether all leaves lie at one depth, and each node below the root has 6 to 12 entries.
+pub(crate) fn is_even<T: Numbered>(alloc: Global, tree: &SumTree<T>) -> Result<bool, AllocError> {
+    let mut level = Vec::new(alloc);
+    level.push(tree)?;
+    let mut even = true;
+    for height in (0..tree.height()).rev() {
+        let mut next = Vec::new(alloc);
+        for node in &level {
+            even = children_onto(*node, height, &mut next)? && even;
+        }
+        level = next;
+    }
+    for leaf in &level {
+        even = even && leaf.height() == 0;
+    }
+    Ok(even)
+}
+
+// Whether a tree has these numbers, and nodes of the sizes that it should have.
+pub(crate) fn mirrors<T: Numbered>(
+    alloc: Global,
+    tree: &SumTree<T>,
+    numbers: &[u64],
+) -> Result<bool, AllocError> {
+    let n = numbers.len() as u64;
+    let mut same = tree.len() == n && tree.is_empty() == (n == 0) && tree.get(n).is_none();
+    for (i, number) in numbers.iter().enumerate() {
+        same = same && number_of(tree.get(i as u64)) == Some(*number);
+    }
+    let ends = number_of(tree.first()) == numbers.first().copied()
+        && number_of(tree.last()) == numbers.last().copied();
+    let root = width(tree) <= 12 && (tree.height() == 0 || width(tree) >= 2);
+    Ok(is_even(alloc, tree)? && same && ends && root)
+}
+
+// The numbers from 0 up to n.
+pub(crate) fn counting(alloc: Global, n: u64) -> Result<Vec<u64>, AllocError> {
+    let mut numbers = Vec::new(alloc);
+    for number in 0..n {
+        numbers.push(number)?;
+    }
+    Ok(numbers)
+}
+
+// The numbers with others in the place of a range.
+pub(crate) fn replaced(
+    alloc: Global,
+    numbers: &[u64],
+    range: (usize, usize),
+    others: &[u64],
+) -> Result<Vec<u64>, AllocError> {
+    let (from, to) = range;
+    let mut all = Vec::new(alloc);
+    if from <= to && to <= numbers.len() {
+        all.extend_from_slice(&numbers[..from])?;
+        all.extend_from_slice(others)?;
+        all.extend_from_slice(&numbers[to..])?;
+    }
+    Ok(all)
+}

@@ -1,0 +1,15 @@
+//! Items that are made of numbers.
+use std::alloc::{AllocError, Global};
+use sum_tree::KeyedItem;
+
+/// An item that can be made of a number, and tells it.
+pub(crate) trait Numbered: KeyedItem {
+    /// The item of this number.
+    fn numbered(alloc: Global, number: u64) -> Result<Self, AllocError>;
+
+    /// The key of the item of this number.
+    fn key_at(number: u64) -> Self::Key;
+
+    /// The number that the item was made of.
+    fn number(&self) -> u64;
+}
