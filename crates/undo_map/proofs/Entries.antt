@@ -9,7 +9,7 @@ use Rattle.op_model.specs.declared.operation.Operation.{Operation}
 use Rattle.op_model.specs.declared.operation.Operation.TheVariants.{Undo}
 use Rattle.op_model.specs.declared.operation.UndoOp.{UndoOp}
 use Rattle.op_model.specs.Sorted.{Each}
-use Rattle.op_model.specs.Operations.{stamp_of, pieces_of, counts_of}
+use Rattle.op_model.specs.Operations.{stamp_of, counts_of}
 use Rattle.op_model.specs.Histories.{History, kept, seen, base, entries_held}
 use Rattle.op_model.specs.Shown.{given, count, undone}
 use Rattle.op_model.specs.Lawful.{Lawful}
