@@ -10,15 +10,15 @@ work=$(mktemp -d)
 trap 'rm -rf "$work"' EXIT
 rustc -O --edition 2021 -o "$work/plain" "$here/rope.rs"
 g++ -O2 -w -o "$work/crope" "$here/rope.cc"
-proved=${ROPE_BENCH:-}
+proved=${BENCH:-}
 if [ -z "$proved" ]; then
-    (cd "$here/../crates/rope_bench" && rt run -- 1000 10 >/dev/null)
-    proved=$here/../crates/rope_bench/out/rope_bench
+    (cd "$here/../crates/bench" && rt run -- rope 1000 10 >/dev/null)
+    proved=$here/../crates/bench/out/bench
 fi
-[ -x "$proved" ] || { echo "no program $proved: name it in ROPE_BENCH" >&2; exit 1; }
+[ -x "$proved" ] || { echo "no program $proved: name it in BENCH" >&2; exit 1; }
 round=0
 while [ "$round" -lt "$rounds" ]; do
-    "$proved" "$bytes" "$count" timed | sed 's/^/proved /' >>"$work/times"
+    "$proved" rope "$bytes" "$count" timed | sed 's/^/proved /' >>"$work/times"
     "$work/plain" "$bytes" "$count" | sed 's/^/plain /' >>"$work/times"
     "$work/crope" "$bytes" "$count" | sed 's/^/crope /' >>"$work/times"
     round=$((round + 1))

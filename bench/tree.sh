@@ -8,15 +8,15 @@ rounds=${2:-5}
 work=$(mktemp -d)
 trap 'rm -rf "$work"' EXIT
 rustc -O --edition 2021 -o "$work/peer" "$here/tree.rs"
-proved=${TREE_BENCH:-}
+proved=${BENCH:-}
 if [ -z "$proved" ]; then
-    (cd "$here/../crates/tree_bench" && rt run -- 1 >/dev/null)
-    proved=$here/../crates/tree_bench/out/tree_bench
+    (cd "$here/../crates/bench" && rt run -- tree 1 >/dev/null)
+    proved=$here/../crates/bench/out/bench
 fi
-[ -x "$proved" ] || { echo "no program $proved: name it in TREE_BENCH" >&2; exit 1; }
+[ -x "$proved" ] || { echo "no program $proved: name it in BENCH" >&2; exit 1; }
 round=0
 while [ "$round" -lt "$rounds" ]; do
-    "$proved" "$count" timed | sed 's/^/proved /' >>"$work/times"
+    "$proved" tree "$count" timed | sed 's/^/proved /' >>"$work/times"
     "$work/peer" tree "$count" | sed 's/^/tree /' >>"$work/times"
     "$work/peer" map "$count" | sed 's/^/map /' >>"$work/times"
     round=$((round + 1))

@@ -1,0 +1,132 @@
+//! Works on trees.
+ghost use Rattle.std.specs.Prelude.{List};
+ghost use Rattle.sum_tree.specs.Laws.{fold};
+ghost use Rattle.sum_tree.specs.Keyed.{Ascending};
+
+mod line;
+mod number;
+mod numbered;
+mod span;
+mod work;
+
+use crate::report::tell;
+use line::Line;
+use number::Number;
+use numbered::Numbered;
+use std::io;
+use std::time::Instant;
+use sum_tree::SumTree;
+use work::{
+    filled, found, got, inserted, listed, made, pushed, removed, shared, shared_typed, typed,
+};
+
+// Looks by index, and pushes while another tree shares the nodes.
+fn listed_work<T: Numbered>(
+    rt: &HostRuntime,
+    timed: bool,
+    tree: &mut SumTree<T>,
+    n: u64,
+) -> io::Result<()>
+    requires { (xs : List T) → T.Summary.fits (fold T.Summary.empty T.Summary.op T.sum_of xs) }
+{
+    let start = Instant::now(rt)?;
+    let sum = got(tree, n);
+    tell(rt, timed, "Get", start, sum)?;
+    let start = Instant::now(rt)?;
+    let sum = shared(rt.alloc(), tree, n / 10)?;
+    tell(rt, timed, "SharePush", start, sum)
+}
+
+// A tree that grows by pushes.
+fn timed_pushes<T: Numbered>(rt: &HostRuntime, timed: bool, n: u64) -> io::Result<SumTree<T>>
+    requires { (xs : List T) → T.Summary.fits (fold T.Summary.empty T.Summary.op T.sum_of xs) }
+{
+    let start = Instant::now(rt)?;
+    let tree = pushed(rt.alloc(), 0, n)?;
+    tell(rt, timed, "Push", start, tree.len())?;
+    Ok(tree)
+}
+
+// Works on such a tree.
+fn push_work<T: Numbered>(rt: &HostRuntime, timed: bool, n: u64) -> io::Result<()>
+    requires { (xs : List T) → T.Summary.fits (fold T.Summary.empty T.Summary.op T.sum_of xs) }
+{
+    let mut tree = timed_pushes::<T>(rt, timed, n)?;
+    listed_work(rt, timed, &mut tree, n)
+}
+
+// Makes a tree of a list.
+fn list_work<T: Numbered>(rt: &HostRuntime, timed: bool, n: u64) -> io::Result<()>
+    requires { (xs : List T) → T.Summary.fits (fold T.Summary.empty T.Summary.op T.sum_of xs) }
+{
+    let items: Vec<T> = listed(rt.alloc(), 0, n)?;
+    let start = Instant::now(rt)?;
+    let tree = made(rt.alloc(), items)?;
+    tell(rt, timed, "FromList", start, tree.len())
+}
+
+// Replaces items as typing does, also while another tree shares the nodes.
+fn typed_work<T: Numbered>(
+    rt: &HostRuntime,
+    timed: bool,
+    tree: &mut SumTree<T>,
+    n: u64,
+) -> io::Result<()>
+    requires { (xs : List T) → T.Summary.fits (fold T.Summary.empty T.Summary.op T.sum_of xs) }
+{
+    let start = Instant::now(rt)?;
+    let len = typed(rt.alloc(), tree, n)?;
+    tell(rt, timed, "Type", start, len)?;
+    let start = Instant::now(rt)?;
+    let len = shared_typed(rt.alloc(), tree, n)?;
+    tell(rt, timed, "ShareType", start, len)
+}
+
+// Works on a tree as a text has it.
+fn text_work<T: Numbered>(rt: &HostRuntime, timed: bool, n: u64) -> io::Result<()>
+    requires { (xs : List T) → T.Summary.fits (fold T.Summary.empty T.Summary.op T.sum_of xs) }
+{
+    let mut tree: SumTree<T> = made(rt.alloc(), listed(rt.alloc(), 0, n)?)?;
+    typed_work(rt, timed, &mut tree, n)
+}
+
+// Works by keys, on a tree that had none at first.
+fn keyed<T: Numbered>(
+    rt: &HostRuntime,
+    timed: bool,
+    tree: &mut SumTree<T>,
+    count: u32,
+) -> io::Result<()>
+    requires fits { (xs : List T) → T.Summary.fits (fold T.Summary.empty T.Summary.op T.sum_of xs) }
+    requires ascending { Ascending T.Key.cmp T.key_of tree.old.items }
+{
+    let n = count as u64 / 10;
+    let bound = count as u64 * 2 + 1;
+    let start = Instant::now(rt)?;
+    let len = filled(rt.alloc(), tree, count)?;
+    tell(rt, timed, "Fill", start, len)?;
+    let start = Instant::now(rt)?;
+    let there = found(tree, bound, n);
+    tell(rt, timed, "Find", start, there)?;
+    let start = Instant::now(rt)?;
+    let replaced = inserted(rt.alloc(), tree, bound, n)?;
+    tell(rt, timed, "Insert", start, replaced)?;
+    let start = Instant::now(rt)?;
+    let there = removed(rt.alloc(), tree, bound, n)?;
+    tell(rt, timed, "Remove", start, there)
+}
+
+fn key_work<T: Numbered>(rt: &HostRuntime, timed: bool, count: u32) -> io::Result<()>
+    requires { (xs : List T) → T.Summary.fits (fold T.Summary.empty T.Summary.op T.sum_of xs) }
+{
+    let mut tree: SumTree<T> = SumTree::new(rt.alloc())?;
+    keyed(rt, timed, &mut tree, count)
+}
+
+/// Works on a tree that gets so many items.
+pub fn works(rt: &HostRuntime, timed: bool, count: u32) -> io::Result<()> {
+    push_work::<Number>(rt, timed, count as u64)?;
+    list_work::<Number>(rt, timed, count as u64)?;
+    text_work::<Line>(rt, timed, count as u64 / 10)?;
+    key_work::<Number>(rt, timed, count)
+}

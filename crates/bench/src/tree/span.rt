@@ -1,0 +1,36 @@
+//! A summary that counts items and adds their widths, modulo 2^64.
+ghost use Rattle.bench.specs.Spans.{no_span, span_sum, IsSpan, AnySpan, span_laws};
+
+use std::alloc::{AllocError, Global};
+use sum_tree::Summary;
+
+/// How many items there are, and how wide they are together.
+#[derive(Clone, Copy, Debug, PartialEq, Eq)]
+pub struct Span {
+    pub items: u64,
+    pub width: u64,
+}
+
+impl Summary for Span {
+    ghost empty = { no_span };
+
+    ghost op = { span_sum };
+
+    ghost admits = { IsSpan };
+
+    ghost fits = { AnySpan };
+
+    ghost single = { AnySpan };
+
+    ghost laws = { span_laws };
+
+    fn zero(_alloc: Global) -> Span {
+        Span { items: 0, width: 0 }
+    }
+
+    fn add(&mut self, _alloc: Global, other: &Span) -> Result<(), AllocError> {
+        self.items = self.items.wrapping_add(other.items);
+        self.width = self.width.wrapping_add(other.width);
+        Ok(())
+    }
+}

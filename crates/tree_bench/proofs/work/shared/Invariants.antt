@@ -1,5 +1,0 @@
-use Rattle.std.proofs.Common.{◌≡◌, ◌≤◌, ◌+◌, ◌^◌, length}
-use Rattle.tree_bench.proofs.work.shared.Given as goal
-
-abbrev pub invariant-loop-number : goal.invariant-loop-number
-invariant-loop-number g l = length l.fn.tree.items + l.n ≤ 2 ^ 39 → length l.tree.items ≡ length l.fn.tree.items + l.number
