@@ -15,7 +15,7 @@ all_or_none : (b : Bool) (n : ℕ) → cond b n 0 + cond b 0 n ≡ n
 all_or_none true n = omega arith
 all_or_none false n = omega arith
 
-own_cells : (f : Fragment) → cells_of (summary_of f) ≡ f.len
+pub own_cells : (f : Fragment) → cells_of (summary_of f) ≡ f.len
 own_cells f = all_or_none f.visible f.len
 
 full_behind : (fs : List Fragment) (n : ℕ) → place_behind move_full summary_of n fs ≡ n + kept_len (λ t. true) (runs fs)
