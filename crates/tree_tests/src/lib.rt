@@ -1,4 +1,4 @@
-//! The tests of trees, cursors, texts and ropes, by what these crates show to all.
+//! The tests of trees, cursors, texts, ropes and searches, by what these crates show to all.
 #![tactic(auto)]
 
 #[cfg(test)]
@@ -25,6 +25,8 @@ mod ranked;
 mod refusals;
 #[cfg(test)]
 mod ropes;
+#[cfg(test)]
+mod search;
 #[cfg(test)]
 mod texts;
 #[cfg(test)]
