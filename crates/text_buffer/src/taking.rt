@@ -4,6 +4,7 @@ ghost use Rattle.op_model.specs.Answers.{answer};
 ghost use Rattle.op_model.specs.Answers.Answer.{Good, Refused as refused};
 ghost use Rattle.op_model.specs.Steps.Step.{Takes};
 ghost use Rattle.text_buffer.specs.Outcomes.{pair_of};
+ghost use Rattle.text_buffer.specs.Settling.{IsTakenPartly};
 ghost use Rattle.text_buffer.specs.Buffer.{AllMiss, IsPartly, after_call, answer_to, is_kept, number_applied, taken, told};
 
 use crate::{Buffer, Refused, Took};
@@ -33,6 +34,7 @@ impl Buffer {
         ensures fault { IfErr result (λ e. (answer_to self.old op ≡ refused e) ⊎ ((is_kept (answer_to self.old op) ≡ true) × (e ≡ OpFault.OutOfMemory))) }
         ensures err { OnErr result ((self.new ≡ self.old) ⊎ (answer_to self.old op ≡ Good)) }
         ensures want { OnErr result (IsPartly self.old self.new) }
+        ensures stopped { OnErr result (IsTakenPartly op self.old self.new) }
         ensures step { OnOk result (self.new ≡ after_call (Takes op) self.old) }
         ensures refused { IfErr result (λ e. (self.new ≡ after_call (Takes op) self.old) ⊎ (e ≡ OpFault.OutOfMemory)) }
     {
@@ -62,6 +64,7 @@ impl Buffer {
         ensures fault { IfErr result (λ e. (answer_to self.old op ≡ refused e) ⊎ ((is_kept (answer_to self.old op) ≡ true) × (e ≡ OpFault.OutOfMemory))) }
         ensures err { OnErr result ((self.new ≡ self.old) ⊎ (answer_to self.old op ≡ Good)) }
         ensures want { OnErr result (IsPartly self.old self.new) }
+        ensures stopped { OnErr result (IsTakenPartly op self.old self.new) }
         ensures step { OnOk result (self.new ≡ after_call (Takes op) self.old) }
         ensures refused { IfErr result (λ e. (self.new ≡ after_call (Takes op) self.old) ⊎ (e ≡ OpFault.OutOfMemory)) }
     {
