@@ -8,12 +8,13 @@ use Rattle.op_model.specs.declared.limits.Limits.{Limits as LimitsType}
 use Rattle.op_model.specs.Sorted.{Each}
 use Rattle.op_model.specs.Operations.{stamp_of}
 use Rattle.op_model.specs.Histories.{History, operation_at}
-use Rattle.op_model.specs.Settled.{settled as settled_at}
-use Rattle.op_model.specs.Answers.{answer}
+use Rattle.op_model.specs.Settled.{settled as settled_at, full_fault}
+use Rattle.op_model.specs.Steps.{limited, or_full}
+use Rattle.op_model.specs.Answers.{Answer, answer}
 use Rattle.op_model.specs.Answers.Answer.{Good}
 use Rattle.op_model.proofs.Settling.{settled_keeps}
 use Rattle.op_model.proofs.Passed.{passed}
-use Rattle.text_buffer.specs.Buffer.{BufferState, IsPartly, applied, settled, newly_applied}
+use Rattle.text_buffer.specs.Buffer.{BufferState, IsPartly, answer_to, applied, settled, newly_applied}
 use Rattle.text_buffer.specs.declared.outcomes.Took.TheVariants as took
 use Rattle.text_buffer.proofs.Waiting.{not_waiting}
 
@@ -45,6 +46,10 @@ one_applied b n op g p =
       replica = p.replica;
       limits = p.limits;
     }
+
+-- an operation that is good and passes no limit has that answer
+pub answer_good : (b : BufferState) (op : Operation) → answer b.history b.waiting op ≡ Good → full_fault b.limits b.history op ≡ None → answer_to b op ≡ Good
+answer_good b op g f = ap (λ (a : Answer). limited a (full_fault b.limits b.history op)) g ∙ ap or_full f
 
 -- ---- what is told
 

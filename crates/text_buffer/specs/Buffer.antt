@@ -19,7 +19,7 @@ use Rattle.op_model.specs.Answers.{Answer}
 use Rattle.op_model.specs.Answers.Answer.{Good, Repeat, Waits, Refused}
 use Rattle.op_model.specs.Lawful.{Lawful}
 use Rattle.op_model.specs.Settled.{State}
-use Rattle.op_model.specs.Steps.{older, take_answer, take_step, settle_step, growth}
+use Rattle.op_model.specs.Steps.{older, take_answer, take_step, settle_step, growth, Step, step, run}
 use Rattle.op_model.specs.Made.{made as made_at, made_undo as made_undo_at, local_edit_fault, local_undo_fault}
 use Rattle.op_model.specs.Shown.{text}
 use Rattle.text_buffer.specs.declared.faults.NewFault.{NewFault}
@@ -78,6 +78,14 @@ state b = record { history = b.history; waiting = b.waiting; refused = b.refused
 
 abbrev pub with_state : State → BufferState → BufferState
 with_state s b = record b { history = s.history; waiting = s.waiting; refused = s.refused }
+
+-- the buffer after the call of a step
+abbrev pub after_call : Step → BufferState → BufferState
+after_call c b = with_state (step b.limits b.replica c (state b)) b
+
+-- the buffer after a list of calls
+abbrev pub after_calls : List Step → BufferState → BufferState
+after_calls cs b = with_state (run b.limits b.replica cs (state b)) b
 
 -- the answer to a taken operation
 abbrev pub answer_to : BufferState → Operation → Answer

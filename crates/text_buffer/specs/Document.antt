@@ -1,5 +1,5 @@
 -- What is true of the history of a document.
-use Rattle.std.specs.Prelude.{◌+◌, ◌-◌, ◌^◌, ◌≤◌, List, length}
+use Rattle.std.specs.Prelude.{◌≡◌, ◌+◌, ◌-◌, ◌^◌, ◌≤◌, List, ◌++◌, length}
 use Rattle.std.specs.Str.{IsUtf8}
 use Rattle.op_model.specs.declared.operation.Operation.{Operation}
 use Rattle.op_model.specs.Sorted.{Each}
@@ -22,3 +22,7 @@ pub record IsHistory (h : List Operation) : Type 0 where
 pub record HasRoom (h : List Operation) (op : Operation) : Type 0 where
   pub bytes : bytes_held h + bytes_of op ≤ 2 ^ 40
   pub entries : entries_held h + entries_of op ≤ 2 ^ 40 - 1
+
+-- the history g is h with operations behind it
+abbrev pub IsFront : List Operation → List Operation → Type 0
+IsFront h g = (more : List Operation) × (g ≡ h ++ more)

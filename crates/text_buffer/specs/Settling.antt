@@ -1,5 +1,5 @@
 -- Settling by turns and passes.
-use Rattle.std.specs.Prelude.{◌≡◌, ℕ, List, [], ◌∷◌, ◌++◌, take, drop, Option, None, Some}
+use Rattle.std.specs.Prelude.{◌≡◌, ◌⊎◌, ℕ, List, [], ◌∷◌, ◌++◌, take, drop, Option, None, Some}
 use Rattle.lamport_clock.specs.declared.stamp.Lamport.{Lamport}
 use Rattle.op_model.specs.declared.operation.Operation.{Operation}
 use Rattle.op_model.specs.declared.limits.Limits.{Limits as LimitsType}
@@ -12,7 +12,7 @@ use Rattle.op_model.specs.Settled.{State, Turn, turn, pass, full_fault}
 use Rattle.op_model.specs.Settled.Turn.{Append, Drop, Stay, Refuse}
 use Rattle.op_model.specs.Steps.{limited}
 use Rattle.deferred_ops.specs.Deferred.{least_ready, without}
-use Rattle.text_buffer.specs.Buffer.{BufferState, applied, state, with_state}
+use Rattle.text_buffer.specs.Buffer.{BufferState, answer_to, applied, state, with_state}
 
 -- what a turn of op makes
 abbrev pub after_turn : Turn → Operation → State → State
@@ -70,3 +70,11 @@ passed b = with_state (pass_step b.limits (state b)) b
 -- a pass was stopped: some operations, the least stamps first, had their turns, and the others wait on
 abbrev pub IsStopped : BufferState → BufferState → Type 0
 IsStopped b n = (k : ℕ) × (n ≡ with_state (pass_until k b.limits (state b)) b)
+
+-- settling was stopped, in its first pass or in its second
+abbrev pub IsHalted : BufferState → BufferState → Type 0
+IsHalted b n = IsStopped b n ⊎ IsStopped (passed b) n
+
+-- memory ran out while an operation was taken: the buffer is as before, or the operation is applied and settling was stopped
+abbrev pub IsTakenPartly : Operation → BufferState → BufferState → Type 0
+IsTakenPartly op b n = (n ≡ b) ⊎ ((answer_to b op ≡ Good) × IsHalted (applied b op) n)

@@ -7,9 +7,11 @@ ghost use Rattle.op_model.specs.Answers.{answer, shape_fault};
 ghost use Rattle.op_model.specs.Answers.Answer.{Good};
 ghost use Rattle.op_model.specs.Settled.{full_fault};
 ghost use Rattle.op_model.specs.Edits.{replaced};
+ghost use Rattle.op_model.specs.Steps.{opened};
+ghost use Rattle.op_model.specs.Steps.Step.{Edits};
 ghost use Rattle.op_model.specs.Shown.{text};
 ghost use Rattle.text_dims.specs.Summaries.{summary_of};
-ghost use Rattle.text_buffer.specs.Buffer.{BufferState, IsBuffer, applied, edit_fault, edited, made, new_fault, over_base};
+ghost use Rattle.text_buffer.specs.Buffer.{BufferState, IsBuffer, after_call, applied, edit_fault, edited, made, new_fault, over_base, state};
 
 use crate::document::Document;
 use crate::pieces::{size, text_total};
@@ -61,6 +63,7 @@ impl Buffer {
         requires entries { limits.entries ≤ 2 ^ 40 - 1 }
         ensures ok { OnOk result (new_fault limits base.now ≡ None) }
         ensures new { IfOk result (λ b. b ≡ over_base replica base.now limits) }
+        ensures opened { IfOk result (λ b. state b ≡ opened base.now) }
         ensures fault { IfErr result (λ e. (new_fault limits base.now ≡ Some e) ⊎ ((new_fault limits base.now ≡ None) × (e ≡ NewFault.OutOfMemory))) }
     {
         let len = base.len() as u64;
@@ -130,6 +133,8 @@ impl Buffer {
         ensures text { OnOk result (text self.new.history ≡ replaced changes.now (text self.old.history)) }
         ensures fault { IfErr result (λ e. (edit_fault self.old changes.now ≡ Some e) ⊎ ((edit_fault self.old changes.now ≡ None) × (e ≡ EditFault.OutOfMemory))) }
         ensures err { OnErr result (self.new ≡ self.old) }
+        ensures step { OnOk result (self.new ≡ after_call (Edits changes.now) self.old) }
+        ensures refused { IfErr result (λ e. (self.new ≡ after_call (Edits changes.now) self.old) ⊎ (e ≡ EditFault.OutOfMemory)) }
     {
         if let Some(fault) = self.fault(changes) {
             return Err(fault);

@@ -15,7 +15,7 @@ pub use buffer::{Buffer, agree};
 pub use faults::NewFault;
 pub use op_model::{EditFault, Limits, OpFault, OutOfMemory, UndoFault, Unit};
 pub use outcomes::{Refused, Took};
-pub use snapshot::{Snapshot, snapshots_agree};
+pub use snapshot::{Snapshot, snapshots_agree, snapshots_append};
 
 fn sends<T: Send>(_value: &T) {}
 

@@ -1,11 +1,12 @@
 // Settling: what waits is applied, refused or dropped.
-ghost use Rattle.std.specs.Prelude.{◌≡◌, ◌⊎◌, IfOk, OnErr, OnOk, option_map};
+ghost use Rattle.std.specs.Prelude.{◌≡◌, IfOk, OnErr, OnOk, option_map};
 ghost use Rattle.op_model.specs.Domains.{IsProper};
 ghost use Rattle.op_model.specs.Operations.{stamp_of};
+ghost use Rattle.op_model.specs.Steps.Step.{Settles};
 ghost use Rattle.op_answers.specs.Verdicts.{answer_of};
 ghost use Rattle.text_buffer.specs.Outcomes.{pair_of};
-ghost use Rattle.text_buffer.specs.Buffer.{AllMiss, IsBuffer, IsPartly, number_applied, settled};
-ghost use Rattle.text_buffer.specs.Settling.{IsStopped, met, next_ready, passed, turn_answer, turn_made, with_refusal, without_waiting};
+ghost use Rattle.text_buffer.specs.Buffer.{AllMiss, IsBuffer, IsPartly, after_call, number_applied, settled};
+ghost use Rattle.text_buffer.specs.Settling.{IsHalted, IsStopped, met, next_ready, passed, turn_answer, turn_made, with_refusal, without_waiting};
 
 use crate::{Buffer, Refused};
 use deferred_ops::Deferred;
@@ -27,7 +28,8 @@ impl Buffer {
         ensures applied { IfOk result (λ n. n ≡ number_applied self.old self.new) }
         ensures waiting { OnOk result (AllMiss self.new) }
         ensures want { OnErr result (IsPartly self.old self.new) }
-        ensures stopped { OnErr result (IsStopped self.old self.new ⊎ IsStopped (passed self.old) self.new) }
+        ensures stopped { OnErr result (IsHalted self.old self.new) }
+        ensures step { OnOk result (self.new ≡ after_call Settles self.old) }
     {
         let before = self.document.operations().len();
         self.pass()?;

@@ -1,8 +1,10 @@
 // What a buffer was.
-ghost use Rattle.std.specs.Prelude.{◌≡◌, IfOk};
+ghost use Rattle.std.specs.Prelude.{◌≡◌, List, IfOk};
+ghost use Rattle.op_model.specs.Steps.{Step};
 ghost use Rattle.op_model.specs.Histories.{SameSet, version};
 ghost use Rattle.op_model.specs.Shown.{text};
-ghost use Rattle.text_buffer.specs.Document.{IsHistory};
+ghost use Rattle.text_buffer.specs.Buffer.{BufferState, IsPartly, after_calls};
+ghost use Rattle.text_buffer.specs.Document.{IsFront, IsHistory};
 
 use crate::Buffer;
 use crate::document::Document;
@@ -86,4 +88,14 @@ pub fn snapshots_agree(a: &Snapshot, b: &Snapshot)
 {
     a.known();
     b.known();
+}
+
+/// A snapshot that was taken earlier from a buffer has a front of the list of a later one, whatever calls came between them, and
+/// where a call between them wanted memory.
+pub fn snapshots_append(earlier: &Snapshot, later: &Snapshot)
+    ensures calls { (b : BufferState) → (cs : List Step) → earlier.now ≡ b.history → later.now ≡ (after_calls cs b).history → IsFront earlier.now later.now }
+    ensures want { (b n : BufferState) → IsPartly b n → earlier.now ≡ b.history → later.now ≡ n.history → IsFront earlier.now later.now }
+{
+    earlier.known();
+    later.known();
 }

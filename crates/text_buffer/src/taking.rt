@@ -2,8 +2,10 @@
 ghost use Rattle.std.specs.Prelude.{ℕ, ◌≡◌, ◌≤◌, ◌⊎◌, true, map, Some, IfErr, IfOk, OnErr, OnOk};
 ghost use Rattle.op_model.specs.Answers.{answer};
 ghost use Rattle.op_model.specs.Answers.Answer.{Good, Refused as refused};
+ghost use Rattle.op_model.specs.Steps.Step.{Takes};
 ghost use Rattle.text_buffer.specs.Outcomes.{pair_of};
-ghost use Rattle.text_buffer.specs.Buffer.{AllMiss, IsPartly, answer_to, is_kept, number_applied, taken, told};
+ghost use Rattle.text_buffer.specs.Settling.{IsTakenPartly};
+ghost use Rattle.text_buffer.specs.Buffer.{AllMiss, IsPartly, after_call, answer_to, is_kept, number_applied, taken, told};
 
 use crate::{Buffer, Refused, Took};
 use applied_ops::Applied;
@@ -32,6 +34,9 @@ impl Buffer {
         ensures fault { IfErr result (λ e. (answer_to self.old op ≡ refused e) ⊎ ((is_kept (answer_to self.old op) ≡ true) × (e ≡ OpFault.OutOfMemory))) }
         ensures err { OnErr result ((self.new ≡ self.old) ⊎ (answer_to self.old op ≡ Good)) }
         ensures want { OnErr result (IsPartly self.old self.new) }
+        ensures stopped { OnErr result (IsTakenPartly op self.old self.new) }
+        ensures step { OnOk result (self.new ≡ after_call (Takes op) self.old) }
+        ensures refused { IfErr result (λ e. (self.new ≡ after_call (Takes op) self.old) ⊎ (e ≡ OpFault.OutOfMemory)) }
     {
         match judge(
             self.document.operations(),
@@ -59,6 +64,9 @@ impl Buffer {
         ensures fault { IfErr result (λ e. (answer_to self.old op ≡ refused e) ⊎ ((is_kept (answer_to self.old op) ≡ true) × (e ≡ OpFault.OutOfMemory))) }
         ensures err { OnErr result ((self.new ≡ self.old) ⊎ (answer_to self.old op ≡ Good)) }
         ensures want { OnErr result (IsPartly self.old self.new) }
+        ensures stopped { OnErr result (IsTakenPartly op self.old self.new) }
+        ensures step { OnOk result (self.new ≡ after_call (Takes op) self.old) }
+        ensures refused { IfErr result (λ e. (self.new ≡ after_call (Takes op) self.old) ⊎ (e ≡ OpFault.OutOfMemory)) }
     {
         if let Some(fault) = self.full(&op) {
             return Err(fault);

@@ -1,6 +1,7 @@
 // Undo and redo.
 ghost use Rattle.std.specs.Prelude.{◌≡◌, ◌⊎◌, ◌++◌, ◌∷◌, [], None, Some, IfErr, IfOk, OnErr, OnOk};
-ghost use Rattle.text_buffer.specs.Buffer.{made_undo, undo_fault, undone};
+ghost use Rattle.op_model.specs.Steps.Step.{Undoes};
+ghost use Rattle.text_buffer.specs.Buffer.{after_call, made_undo, undo_fault, undone};
 
 use crate::Buffer;
 use lamport_clock::Lamport;
@@ -28,6 +29,8 @@ impl Buffer {
         ensures history { IfOk result (λ op. self.new.history ≡ self.old.history ++ op ∷ []) }
         ensures fault { IfErr result (λ e. (undo_fault self.old edits.now ≡ Some e) ⊎ ((undo_fault self.old edits.now ≡ None) × (e ≡ UndoFault.OutOfMemory))) }
         ensures err { OnErr result (self.new ≡ self.old) }
+        ensures step { OnOk result (self.new ≡ after_call (Undoes edits.now) self.old) }
+        ensures refused { IfErr result (λ e. (self.new ≡ after_call (Undoes edits.now) self.old) ⊎ (e ≡ UndoFault.OutOfMemory)) }
     {
         if let Some(fault) = self.undo_fault(edits) {
             return Err(fault);

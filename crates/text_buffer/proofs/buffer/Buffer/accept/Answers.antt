@@ -1,8 +1,9 @@
-use Rattle.std.proofs.Common.{◌∙◌, ap, subst, length}
+use Rattle.std.proofs.Common.{inr, sym, ◌∙◌, ap, subst, length}
 use Rattle.op_model.proofs.Settling.{good_alone}
 use Rattle.text_buffer.specs.Buffer.{BufferState, AllMiss, IsPartly, settled}
+use Rattle.text_buffer.specs.Settling.{IsHalted, IsTakenPartly}
 use Rattle.text_buffer.proofs.Applied.{shape_of}
-use Rattle.text_buffer.proofs.Taken.{one_applied, not_less, says, on_err}
+use Rattle.text_buffer.proofs.Taken.{answer_good, one_applied, not_less, says, on_err}
 use Rattle.text_buffer.proofs.buffer.Buffer.accept.Goals as goal
 
 pub full-requires : goal.full-requires
@@ -25,3 +26,7 @@ returns-clause-applied c = says c.args.self.now c.args.op c.len-before.result c.
     (c.len-before.ensures ∙ ap length c.operations.ensures ∙ ap (λ (b : BufferState). length b.history) c.self.view_is)
     (c.len.ensures ∙ ap length c.operations-2.ensures ∙ ap (λ (b : BufferState). length b.history) (c.self-2.view_is ∙ c.in_ok-settle.ensures.new ∙ ap settled c.in_ok-apply.ensures.ok))
     (AllMiss c.settle.new.self) c.in_ok-settle.ensures.waiting
+
+pub returns-in_err-settle-clause-stopped : goal.returns-in_err-settle-clause-stopped
+returns-in_err-settle-clause-stopped c = on_err c.from_residual-in_err-settle.result (IsTakenPartly c.args.op c.args.self.now c.settle.new.self)
+    (inr (answer_good c.args.self.now c.args.op c.requires.good (sym c.in_default.ensures.fault), subst (λ (b : BufferState). IsHalted b c.settle.new.self) c.in_ok-apply.ensures.ok c.in_err-settle.ensures.stopped))

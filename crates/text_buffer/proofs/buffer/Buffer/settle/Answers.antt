@@ -29,3 +29,9 @@ returns-clause-new c = after_two c.self.inside c.self-2.inside c.args.self.now c
 
 pub returns-clause-waiting : goal.returns-clause-waiting
 returns-clause-waiting c = subst AllMiss (sym (returns-clause-new c)) (all_miss c.args.self.now)
+
+pub returns-then-len-before-clause-step : goal.returns-then-len-before-clause-step
+returns-then-len-before-clause-step c = returns-then-len-before-clause-new c
+
+pub returns-clause-step : goal.returns-clause-step
+returns-clause-step c = returns-clause-new c
