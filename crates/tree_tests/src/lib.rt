@@ -1,4 +1,4 @@
-//! The tests of trees, cursors, texts, ropes and searches, by what these crates show to all.
+//! The tests of trees, cursors, texts, ropes, searches and fragments, by what these crates show to all.
 #![tactic(auto)]
 
 #[cfg(test)]
@@ -9,6 +9,8 @@ mod chance;
 mod changes;
 #[cfg(test)]
 mod cursors;
+#[cfg(test)]
+mod fragment_trees;
 #[cfg(test)]
 mod keys;
 #[cfg(test)]
