@@ -1,5 +1,5 @@
 -- The locator between two lies strictly between them and does not end in 0.
-use Rattle.std.proofs.Common.{◌≡◌, ℕ, suc, ◌+◌, ◌≤◌, ◌<◌, ◌⊎◌, List, [], ◌∷◌, refl, sym, ap, subst, inl, inr, true, false, length, max, arith}
+use Rattle.std.proofs.Common.{◌≡◌, ℕ, zero, suc, ◌+◌, ◌≤◌, ◌<◌, ◌⊎◌, List, [], ◌∷◌, ◌++◌, refl, sym, ap, subst, inl, inr, true, false, length, replicate, max, ◌∙◌, arith}
 use Rattle.std.proofs.lemmas.Bool.{cases_Bool, ltb-true, ltb-false, lt-ltb, cases_lt}
 use Rattle.std.proofs.lemmas.Bool.Decides.{nat_tests}
 use Rattle.std.specs.Prelude.{nat_lt}
@@ -153,3 +153,74 @@ length-between_digits (x ∷ a) [] = let rest = length-between_digits a [] in
     let all : length (between_digits (x ∷ a) []) ≤ suc (length a) + 1 = length_step x greatest_digit (between_digits a []) (length a) (omega (arith, rest)) in omega (arith, all)
 length-between_digits (x ∷ a) (y ∷ b) = let rest = length-between_digits a b in
     let all : length (between_digits (x ∷ a) (y ∷ b)) ≤ suc (max (length a) (length b)) + 1 = length_step x y (between_digits a b) (max (length a) (length b)) rest in omega (arith, all)
+
+-- where nothing lies between, the digits stay
+pub same_digits : (n x y : ℕ) (a b : List ℕ) → middle x y ≡ x → between_digits (replicate n x ++ a) (replicate n y ++ b) ≡ replicate n x ++ between_digits a b
+same_digits zero x y a b e = refl
+same_digits (suc n) x y a b e = go (same_digits n x y a b e) (last_or_same x y (between_digits (replicate n x ++ a) (replicate n y ++ b)))
+  where
+    go : between_digits (replicate n x ++ a) (replicate n y ++ b) ≡ replicate n x ++ between_digits a b → LastOrSame x y (between_digits (replicate n x ++ a) (replicate n y ++ b)) → between_digits (replicate (suc n) x ++ a) (replicate (suc n) y ++ b) ≡ replicate (suc n) x ++ between_digits a b
+    go rest (inl p) = absurd (omega (arith, p.0, e))
+    go rest (inr p) = p.1 ∙ ap (λ z. x ∷ z) rest
+
+-- where something lies between, the digit there is the last
+pub last_digit : (n m x y : ℕ) (a b : List ℕ) → 0 < n → 0 < m → x < middle x y → between_digits (replicate n x ++ a) (replicate m y ++ b) ≡ middle x y ∷ []
+last_digit zero m x y a b p q h = absurd (omega arith)
+last_digit (suc n) zero x y a b p q h = absurd (omega arith)
+last_digit (suc n) (suc m) x y a b p q h = go (last_or_same x y (between_digits (replicate n x ++ a) (replicate m y ++ b)))
+  where
+    go : LastOrSame x y (between_digits (replicate n x ++ a) (replicate m y ++ b)) → between_digits (replicate (suc n) x ++ a) (replicate (suc m) y ++ b) ≡ middle x y ∷ []
+    go (inl p) = p.1
+    go (inr p) = absurd (omega (arith, h, p.0))
+
+-- digits 0 behind the first, and greatest ones behind the second, change nothing
+zeros_behind_none : (n : ℕ) (b : List ℕ) → between_digits (replicate n 0) b ≡ between_digits [] b
+zeros_behind_none zero b = refl
+zeros_behind_none (suc n) [] = refl
+zeros_behind_none (suc n) (y ∷ b) = rw (zeros_behind_none n b) refl
+
+pub zeros_behind : (n : ℕ) (a b : List ℕ) → between_digits (a ++ replicate n 0) b ≡ between_digits a b
+zeros_behind n [] b = zeros_behind_none n b
+zeros_behind n (x ∷ a) [] = rw (zeros_behind n a []) refl
+zeros_behind n (x ∷ a) (y ∷ b) = rw (zeros_behind n a b) refl
+
+greatest_behind_none : (n : ℕ) (a : List ℕ) → between_digits a (replicate n greatest_digit) ≡ between_digits a []
+greatest_behind_none zero a = refl
+greatest_behind_none (suc n) [] = refl
+greatest_behind_none (suc n) (x ∷ a) = rw (greatest_behind_none n a) refl
+
+pub greatest_behind : (n : ℕ) (a b : List ℕ) → between_digits a (b ++ replicate n greatest_digit) ≡ between_digits a b
+greatest_behind n a [] = greatest_behind_none n a
+greatest_behind n [] (y ∷ b) = rw (greatest_behind n [] b) refl
+greatest_behind n (x ∷ a) (y ∷ b) = rw (greatest_behind n a b) refl
+
+pub some_digit : (a b : List ℕ) → 0 < length (between_digits a b)
+some_digit [] [] = omega arith
+some_digit [] (y ∷ b) = omega arith
+some_digit (x ∷ a) [] = omega arith
+some_digit (x ∷ a) (y ∷ b) = omega arith
+
+-- equal digits before both do not change the order; two that differ decide it
+pub cmp-same : (n x : ℕ) (a b : List ℕ) → slice_cmp nat_cmp (replicate n x ++ a) (replicate n x ++ b) ≡ slice_cmp nat_cmp a b
+cmp-same zero x a b = refl
+cmp-same (suc n) x a b = rw (nat_cmp-same x) (cmp-same n x a b)
+
+pub cmp-other : (n m x y : ℕ) (a b : List ℕ) → 0 < n → 0 < m → (x ≡ y → ⊥) → nat_cmp x y ≡ slice_cmp nat_cmp (replicate n x ++ a) (replicate m y ++ b)
+cmp-other zero m x y a b p q h = absurd (omega arith)
+cmp-other (suc n) zero x y a b p q h = absurd (omega arith)
+cmp-other (suc n) (suc m) x y a b p q h = go (nat_cmp x y) refl
+  where
+    go : (o : Ordering) → nat_cmp x y ≡ o → o ≡ ordering_then o (slice_cmp nat_cmp (replicate n x ++ a) (replicate m y ++ b))
+    go Less e = refl
+    go Equal e = absurd (h (nat_cmp-Equal x y e))
+    go Greater e = refl
+
+pub cmp-ends : (n m x y : ℕ) (a b : List ℕ) → (n ≡ 0) ⊎ (m ≡ 0) → (n ≡ 0 → a ≡ []) → (m ≡ 0 → b ≡ []) → nat_cmp n m ≡ slice_cmp nat_cmp (replicate n x ++ a) (replicate m y ++ b)
+cmp-ends zero zero x y a b o p q = rw (p refl, q refl) refl
+cmp-ends zero (suc m) x y a b o p q = rw (p refl, nat_cmp-below 0 (suc m) (omega arith)) refl
+cmp-ends (suc n) zero x y a b o p q = rw (q refl) (above_zero n)
+  where
+    above_zero : (n : ℕ) → nat_cmp (suc n) 0 ≡ Greater
+    above_zero n = grind (arith, nat_tests)
+cmp-ends (suc n) (suc m) x y a b (inl o) p q = absurd (omega arith)
+cmp-ends (suc n) (suc m) x y a b (inr o) p q = absurd (omega arith)

@@ -1,2 +1,4 @@
 pub mod Between
+pub mod Reading
 mod Rows
+pub mod RunLists

@@ -1,1 +1,3 @@
 pub mod Locator
+pub mod Reading
+pub mod Runs

@@ -16,30 +16,39 @@
 //!
 //! The test `grows_as_documented` of `buffer_tests` measures these numbers. A digit moves up by a 2^48th part of the way to the upper
 //! neighbour's, so there is room for 2^48 texts one after another before a digit is added. It never
-//! moves down, so a text put before the last one costs a digit. Up to [`INLINE_DIGITS`] digits lie in the value itself.
+//! moves down, so a text put before the last one costs a digit.
+//!
+//! A locator keeps runs of equal digits once, with their count: those of the table have three runs at most. Up to
+//! [`INLINE_RUNS`] runs lie in the value itself; the front of more is shared among those that begin alike.
 #![tactic(auto)]
 
-ghost use Rattle.std.specs.Prelude.{◌≡◌, ◌+◌, ◌≤◌, ◌==◌, max, Some, length, refl, IsOk, IfOk};
+ghost use Rattle.std.specs.Prelude.{◌≡◌, ◌+◌, ◌^◌, ◌≤◌, ◌==◌, max, Some, length, refl, IsOk, IfOk, MatchOption};
 ghost use Rattle.std.specs.Cmp as Cmp;
 ghost use Rattle.std.specs.Cmp.Lexicographic.{pointwise, slice_cmp, nat_list_eq_equiv, nat_list_cmp_total, texts_po, texts_ties};
 ghost use Rattle.std.specs.Ordering.{nat_cmp};
-ghost use Rattle.locators.specs.Locator.{middle, between_digits, least_digits, greatest_digits, IsLess, IsProper, EndsAboveZero};
+ghost use Rattle.locators.specs.Locator.{between_digits, least_digits, greatest_digits, IsLess, IsProper, EndsAboveZero};
+ghost use Rattle.locators.specs.Reading.{digits_to, runs_ahead, AreFull, IsContinued};
+ghost use Rattle.locators.specs.Runs.{count_runs, kept_runs, run_digits, IsKept, LieInline};
 
-use smallvec::SmallVec;
+mod reader;
+mod runs;
+
+use crate::reader::{Ahead, Reader, meet, order, pass_same};
+use crate::runs::{Run, Runs};
 pub use std::alloc::AllocError as OutOfMemory;
 use std::alloc::Global;
 use std::cmp::Ordering;
 use std::marker::Model;
 
-/// How many digits a locator holds with no allocation.
-pub const INLINE_DIGITS: usize = 6;
+/// How many runs of equal digits a locator holds with no allocation.
+pub const INLINE_RUNS: usize = 3;
 
 /// A name that says where its bearer stands among all others: a list of digits, ordered lexicographically.
 ///
-/// Comparisons take no memory, and time by the digits that they look at.
+/// Comparisons take no memory, and time by the runs of equal digits that they look at.
 #[derive(Debug, Drop)]
 pub struct Locator {
-    digits: SmallVec<u64, INLINE_DIGITS>,
+    runs: Runs,
 }
 
 impl Model for Locator {
@@ -47,42 +56,47 @@ impl Model for Locator {
 
     ghost Value = { List ℕ };
 
-    ghost view = { λ locator. locator.digits.items };
+    ghost use Rattle.locators.specs.Runs.{kept_runs, run_digits, IsKept};
+
+    ghost view = { λ locator. run_digits (kept_runs locator.runs) };
+
+    ghost invariant = { λ locator. IsKept locator.runs };
 }
 
 impl Locator {
     /// The least of the locators in use: `[0]`, below all that `between` answers. It takes no memory.
-    pub fn least(alloc: Global) -> Result<Locator, OutOfMemory>
+    pub fn least(_alloc: Global) -> Result<Locator, OutOfMemory>
         ensures digits { IfOk result (λ least. least ≡ least_digits) }
         ensures succeeds { IsOk result }
     {
-        let digits = SmallVec::from_slice(alloc, &[0])?;
-        Ok(Locator { digits })
+        let runs = Runs::one(0);
+        Ok(Locator { runs })
     }
 
     /// The greatest of the locators in use: `[u64::MAX]`. It takes no memory.
-    pub fn greatest(alloc: Global) -> Result<Locator, OutOfMemory>
+    pub fn greatest(_alloc: Global) -> Result<Locator, OutOfMemory>
         ensures digits { IfOk result (λ greatest. greatest ≡ greatest_digits) }
         ensures succeeds { IsOk result }
     {
-        let digits = SmallVec::from_slice(alloc, &[u64::MAX])?;
-        Ok(Locator { digits })
+        let runs = Runs::one(u64::MAX);
+        Ok(Locator { runs })
     }
 
-    /// A locator with the same digits. It takes memory only for more than [`INLINE_DIGITS`].
-    pub fn copy(&self, alloc: Global) -> Result<Locator, OutOfMemory>
+    /// A locator with the same digits. It does not allocate: what does not lie in the value is shared, and only the
+    /// count of those that share it can be refused.
+    pub fn copy(&self, _alloc: Global) -> Result<Locator, OutOfMemory>
         ensures digits { IfOk result (λ copy. copy ≡ self.now) }
-        ensures short { length self.now ≤ INLINE_DIGITS → IsOk result }
+        ensures short { count_runs self.now ≤ INLINE_RUNS → IsOk result }
     {
-        let digits = SmallVec::from_slice(alloc, self.digits.as_slice())?;
-        Ok(Locator { digits })
+        let runs = self.runs.share()?;
+        Ok(Locator { runs })
     }
 
     /// A locator between `a` and `b`, which it reads digit by digit, `a` continued by 0 and `b` by `u64::MAX`.
     ///
     /// Each digit is `x + ((y - x) >> 48)`, where `x` and `y` are the digits of `a` and `b` and the difference is 0
     /// where `y` is below `x`. The first digit above `x` is the last one. It takes memory only for more than
-    /// [`INLINE_DIGITS`] digits, and time by the digits that it gives.
+    /// [`INLINE_RUNS`] runs of equal digits, and time by the runs that it reads and gives.
     pub fn between(alloc: Global, a: &Locator, b: &Locator) -> Result<Locator, OutOfMemory>
         ensures digits { IfOk result (λ between. between ≡ between_digits a.now b.now) }
 
@@ -93,40 +107,103 @@ impl Locator {
         ensures ends { IfOk result EndsAboveZero }
         ensures grows_by_one { IfOk result (λ between. length between ≤ max (length a.now) (length b.now) + 1) }
 
-        ensures short { length (between_digits a.now b.now) ≤ INLINE_DIGITS → IsOk result }
+        ensures short { LieInline (between_digits a.now b.now) → IsOk result }
     {
-        let digits = digits_between(alloc, a.digits.as_slice(), b.digits.as_slice())?;
-        Ok(Locator { digits })
+        let runs = runs_between(alloc, &a.runs, &b.runs)?;
+        Ok(Locator { runs })
     }
 }
 
-// The digits of `between`.
-fn digits_between(
-    alloc: Global,
-    a: &[u64],
-    b: &[u64],
-) -> Result<SmallVec<u64, INLINE_DIGITS>, OutOfMemory>
-    ensures digits { IfOk result (λ digits. digits.items ≡ between_digits a.now b.now) }
-    ensures short { length (between_digits a.now b.now) ≤ INLINE_DIGITS → IsOk result }
+// Where the digits between two others leave those of the first: behind so many of its runs and a part of the next
+// comes the last digit.
+#[derive(Clone, Copy)]
+struct Place {
+    count: usize,
+    part: Run,
+    digit: u64,
+}
+
+// Where `between` leaves the digits of `a`; none where there would be 2^64 digits or more.
+fn place_between(a: &Runs, b: &Runs) -> Option<Place>
+    requires a_kept { IsKept a.now }
+    requires b_kept { IsKept b.now }
+    ensures { MatchOption result
+        (2 ^ 64 ≤ length (between_digits (run_digits (kept_runs a.now)) (run_digits (kept_runs b.now))))
+        (λ place. (place.count ≤ length (kept_runs a.now))
+        × (digits_to (kept_runs a.now) place
+        ≡ between_digits (run_digits (kept_runs a.now)) (run_digits (kept_runs b.now)))) }
 {
-    let mut digits = SmallVec::new(alloc);
-    let mut place = 0;
-    loop {
-        let low = a.get(place).copied().unwrap_or(0);
-        let high = b.get(place).copied().unwrap_or(u64::MAX);
-        let digit = digit_between(low, high);
-        digits.push(digit)?;
-        if low < digit {
-            return Ok(digits);
-        }
-        place += 1;
+    match meet(continued(a, 0), continued(b, u64::MAX)) {
+        None => None,
+        Some((met, digit)) => Some(Place {
+            count: a.len() - met.ahead.len(),
+            part: Run {
+                digit: met.run.digit,
+                count: met.taken,
+            },
+            digit,
+        }),
     }
 }
 
-fn digit_between(low: u64, high: u64) -> u64
-    ensures { result ≡ middle low high }
+// The runs of `between`.
+fn runs_between(alloc: Global, a: &Runs, b: &Runs) -> Result<Runs, OutOfMemory>
+    requires a_kept { IsKept a.now }
+    requires b_kept { IsKept b.now }
+    ensures digits { IfOk result (λ runs. run_digits (kept_runs runs)
+        ≡ between_digits (run_digits (kept_runs a.now)) (run_digits (kept_runs b.now))) }
+    ensures kept { IfOk result IsKept }
+    ensures short { LieInline (between_digits (run_digits (kept_runs a.now)) (run_digits (kept_runs b.now)))
+        → IsOk result }
 {
-    low + (high.saturating_sub(low) >> 48)
+    let place = place_between(a, b).ok_or(OutOfMemory)?;
+    runs_to(alloc, a, place)
+}
+
+// The runs up to a place, and the digit behind it.
+fn runs_to(alloc: Global, runs: &Runs, place: Place) -> Result<Runs, OutOfMemory>
+    requires kept { IsKept runs.now }
+    requires within { place.count ≤ length (kept_runs runs.now) }
+    ensures digits { IfOk result (λ all. run_digits (kept_runs all) ≡ digits_to (kept_runs runs.now) place) }
+    ensures kept { IfOk result IsKept }
+    ensures short { LieInline (digits_to (kept_runs runs.now) place) → IsOk result }
+{
+    let one = Run {
+        digit: place.digit,
+        count: 1,
+    };
+    if place.part.count == 0 {
+        return runs.with_run(alloc, place.count, one);
+    }
+    let front = runs.with_run(alloc, place.count, place.part)?;
+    front.with_run(alloc, front.len(), one)
+}
+
+// The runs from the first digit on, and behind them one digit again and again.
+fn continued(runs: &Runs, digit: u64) -> Reader<'_>
+    requires { IsKept runs.now }
+    ensures { IsContinued (kept_runs runs.now) digit result }
+{
+    let (front, last) = runs.parts();
+    let pad = Some(Run {
+        digit,
+        count: u64::MAX,
+    });
+    Reader::new(Ahead { front, last, pad })
+}
+
+// All runs.
+fn whole(runs: &Runs) -> Ahead<'_>
+    requires { IsKept runs.now }
+    ensures full { AreFull (runs_ahead result) }
+    ensures runs { runs_ahead result ≡ kept_runs runs.now }
+{
+    let (front, last) = runs.parts();
+    Ahead {
+        front,
+        last,
+        pad: None,
+    }
 }
 
 impl PartialEq for Locator {
@@ -135,7 +212,7 @@ impl PartialEq for Locator {
     ghost laws = { Cmp.partial_equiv_from_equiv nat_list_eq_equiv };
 
     fn eq(&self, other: &Locator) -> bool {
-        self.digits.as_slice() == other.digits.as_slice()
+        self.cmp(other).is_eq()
     }
 }
 
@@ -163,7 +240,9 @@ impl Ord for Locator {
     ghost matches_eq = { texts_ties };
 
     fn cmp(&self, other: &Locator) -> Ordering {
-        self.digits.as_slice().cmp(&other.digits.as_slice())
+        let (mut a, mut b) = (whole(&self.runs), whole(&other.runs));
+        pass_same(&mut a, &mut b);
+        order(Reader::new(a), Reader::new(b))
     }
 }
 
