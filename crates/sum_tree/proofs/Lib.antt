@@ -1,3 +1,4 @@
+pub mod Lists
 pub mod Folds
 pub mod Children
 pub mod Opened
@@ -9,4 +10,7 @@ pub mod Runs
 pub mod Keys
 mod Splices
 mod Pairs
+mod Steps
 mod Widths
+mod Sums
+mod Made

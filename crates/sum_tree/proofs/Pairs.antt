@@ -1,5 +1,5 @@
 -- What stands in the place of one child, or of two, where a node is changed in place.
-use Rattle.std.proofs.Common.{◌≡◌, ℕ, ◌+◌, ◌-◌, ◌^◌, ◌<◌, ◌≤◌, List, [], ◌∷◌, ◌++◌, length, get_or, set, take, drop, Vec, Global, Option, Some, None, sym, ap, subst, ◌∙◌, append_assoc, take-append-drop, arith, length-append}
+use Rattle.std.proofs.Common.{refl, ◌≡◌, ℕ, ◌+◌, ◌-◌, ◌^◌, ◌<◌, ◌≤◌, List, [], ◌∷◌, ◌++◌, length, get_or, set, take, drop, Vec, Global, Option, Some, None, sym, ap, subst, ◌∙◌, append_assoc, take-append-drop, arith, length-append}
 use Rattle.std.proofs.lemmas.List.{drop-set, drop_all, drop-append-le, take-set-le, take-take, take-append-le, length-take-le, length-drop}
 use Rattle.std.proofs.lemmas.List.Elements.{All-append, All-cons, All-nil, All-take, All-drop}
 use Rattle.std.specs.List.{All, insert}
@@ -8,7 +8,7 @@ use Rattle.sum_tree.specs.Seen.{Seen}
 use Rattle.sum_tree.specs.Shape.{joined, IsChild}
 use Rattle.sum_tree.specs.Grown.{IsSplit, pair_list, with_pair, with_run}
 use Rattle.sum_tree.specs.Here.{IsPushedBesideOr}
-use Rattle.sum_tree.specs.Placed.{IsPlaced}
+use Rattle.sum_tree.specs.Placed.{IsPlaced, inner_seen, AreChildren}
 use Rattle.sum_tree.specs.declared.tree.Content.TheVariants.{Inner}
 use Rattle.sum_tree.proofs.Children.{many_enough}
 use Rattle.sum_tree.proofs.Opened.{joined-last, with_last-joined, pair-joined, last_is_child}
@@ -98,25 +98,23 @@ module _ {T : Type 0} where
   paired_children h ts us k t a b w m all child made split =
       subst (λ (vs : List (Seen T)). All (IsChild h) vs) (sym made) (run_children h ts k (k + 1) a (Some b) all (split_children h t.height 6 m a (Some b) child.lower (omega arith) split))
 
-  pub paired_node : (h w : ℕ) (s v : Seen T) (ts us : List (Seen T)) (k : ℕ) (t a b : Seen T) (m xs : List T) → k < length ts → All (IsChild h) ts → IsChild h t → w ≤ length ts → us ≡ with_pair ts k a (Some b) → length us ≤ 12 → IsSplit t.height 0 m a (Some b) → joined (take k ts) ++ (m ++ joined (drop (k + 1) ts)) ≡ xs → h ≡ s.height → v ≡ record { items = joined us; height = h; width = length us } → IsPlaced w xs s v
-  paired_node h w s v ts us k t a b m xs lt all child wide made narrow split whole height e =
+  -- a pair that there is room for
+  pub paired_placed : (h : ℕ) (ts us : List (Seen T)) (k : ℕ) (a b : Seen T) → k < length ts → length ts < 12 → AreChildren h ts → IsChild h a → IsChild h b → us ≡ with_pair ts k a (Some b) → AreChildren h us × IsPlaced (length ts) (joined (with_pair ts k a (Some b))) (inner_seen h ts) (inner_seen h us)
+  paired_placed h ts us k a b lt few all p q made =
       let size : length us ≡ length ts - 1 + 2 = ap length made ∙ pair_length ts k a (Some b) lt in
-      let new : IsPlaced w xs s (record { items = joined us; height = h; width = length us }) = record {
-        items = paired_all ts us k t.height 0 a b m xs made split whole;
-        height = height;
-        wide = omega (arith, size, wide, lt);
-        narrow = narrow;
-        many = λ l. many_enough h us (paired_children h ts us k t a b 0 m all child made split) l;
-      } in
-      subst (λ (z : Seen T). IsPlaced w xs s z) (sym e) new
+      let pair : All (IsChild h) (pair_list a (Some b)) = All-cons (IsChild h) a (b ∷ []) p (All-cons (IsChild h) b [] q (All-nil (IsChild h))) in
+      let children : All (IsChild h) us = subst (λ (vs : List (Seen T)). All (IsChild h) vs) (sym made) (run_children h ts k (k + 1) a (Some b) all.0 pair) in (
+        (children, omega (arith, size, all.1), omega (arith, size, few)),
+        record {
+          items = ap joined made;
+          height = refl;
+          wide = omega (arith, size, lt);
+          narrow = omega (arith, size, few);
+          many = λ l. many_enough h us children l;
+        },
+      )
 
 module _ {S T : Type 0} {empty : S} {op : S → S → S} {admits fits : S → Type 0} (laws : SummaryLaws empty op admits fits) (sum_of : T → S) (admitted : (x : T) → admits (sum_of x)) where
-  pub paired_inner : (h len len' : ℕ) (s s' : S) (v : Vec (Seen T) Global) (us : List (Seen T)) (k : ℕ) (t a b : Seen T) (m xs : List T) → Held laws sum_of admitted h len s (Inner v) → k < length v.items → IsChild h t → us ≡ with_pair v.items k a (Some b) → length us ≤ 12 → IsSplit t.height 0 m a (Some b) → joined (take k v.items) ++ (m ++ joined (drop (k + 1) v.items)) ≡ xs → len' ≡ length xs → s' ≡ fold empty op sum_of xs → fits (fold empty op sum_of xs) → length xs ≤ 2 ^ 40 → HeldInner laws sum_of admitted h len' s' us
-  paired_inner h len len' s s' v us k t a b m xs held lt child made narrow split whole size sum ok short =
-      let all : joined us ≡ xs = paired_all v.items us k t.height 0 a b m xs made split whole in
-      let count : length us ≡ length v.items - 1 + 2 = ap length made ∙ pair_length v.items k a (Some b) lt in
-      ((paired_children h v.items us k t a b 0 m held.0.0 child made split, omega (arith, count, held.0.1), narrow), rw all size, rw all sum, rw all ok, rw all short)
-
   -- one item more behind those of the children
   pub pushed_inner : (h len : ℕ) (s r : S) (v : Vec (Seen T) Global) (us : List (Seen T)) (x : T) → Held laws sum_of admitted h len s (Inner v) → IsPushedBesideOr h v.items us x None → r ≡ fold empty op sum_of (joined v.items ++ x ∷ []) → fits (fold empty op sum_of (joined v.items ++ x ∷ [])) → length (joined v.items) < 2 ^ 40 → HeldInner laws sum_of admitted h (len + 1) r us
   pushed_inner h len s r v us x held p sum ok short =

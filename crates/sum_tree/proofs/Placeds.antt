@@ -1,22 +1,22 @@
 -- What a change of one child in place leaves of a node.
-use Rattle.std.proofs.Common.{◌≡◌, ℕ, ◌+◌, ◌-◌, ◌^◌, ◌<◌, ◌≤◌, List, [], ◌∷◌, ◌++◌, length, get_or, set, take, drop, Vec, Global, Option, Some, None, sym, ap, subst, ◌∙◌, append_assoc, arith, length-append}
+use Rattle.std.proofs.Common.{refl, ◌≡◌, ℕ, ◌+◌, ◌-◌, ◌^◌, ◌<◌, ◌≤◌, List, [], ◌∷◌, ◌++◌, length, get_or, set, take, drop, Vec, Global, Some, sym, ap, subst, ◌∙◌, append_assoc, arith, length-append}
 use Rattle.std.proofs.lemmas.List.{length-set, set-get_or, drop-set, take-set-le, length-take-le, length-drop, same_from_push}
 use Rattle.std.proofs.lemmas.List.Elements.{All-set}
 use Rattle.std.specs.List.{All}
 use Rattle.sum_tree.specs.Laws.{SummaryLaws, fold}
 use Rattle.sum_tree.specs.Seen.{Seen}
-use Rattle.sum_tree.specs.Shape.{joined, IsChild}
+use Rattle.std.specs.Prelude.{Result}
+use Rattle.sum_tree.specs.Shape.{joined, content_items, IsChild, IsContent, IsNode}
+use Rattle.sum_tree.specs.declared.tree.Content.{Content}
 use Rattle.sum_tree.specs.Spliced.{spliced}
-use Rattle.sum_tree.specs.Around.{outer_sums}
 use Rattle.sum_tree.specs.Grown.{IsSplit}
-use Rattle.sum_tree.specs.Placed.{IsPlaced, IsPlacing, IsLeafChange, IsPairingOr}
+use Rattle.sum_tree.specs.Placed.{IsPlaced, IsPlacing, IsPlacingOr, IsNoted, content_seen, inner_seen}
 use Rattle.sum_tree.specs.declared.around.Around.{Around}
 use Rattle.sum_tree.specs.declared.here.Placing.{Placing}
 use Rattle.sum_tree.specs.declared.here.Placing.TheVariants.{Done, Split, Back}
-use Rattle.sum_tree.specs.declared.here.LeafChange.{LeafChange}
-use Rattle.sum_tree.specs.declared.here.LeafChange.TheVariants.{One, Two}
 use Rattle.sum_tree.specs.declared.tree.Content.TheVariants.{Inner}
 use Rattle.sum_tree.proofs.Folds.{fold-append, fits_left}
+use Rattle.sum_tree.proofs.Lists.{popped}
 use Rattle.sum_tree.proofs.Children.{joined-split, many_enough}
 use Rattle.sum_tree.proofs.Heres.{Held, HeldInner}
 
@@ -62,12 +62,6 @@ module _ {T : Type 0} where
       } in
       subst (λ (z : Seen T). IsPlaced w xs s z) (sym e) new
 
-  pub pairing_none : (h : ℕ) (ts old new : List (Seen T)) (o : Option (Seen T × Seen T)) → o ≡ None → IsPairingOr h ts old new o → (new ≡ ts) × (length ts ≤ 12)
-  pairing_none h ts old new o e p = subst (λ (q : Option (Seen T × Seen T)). IsPairingOr h ts old new q) e p
-
-  pub pairing_some : (h : ℕ) (ts old new : List (Seen T)) (o : Option (Seen T × Seen T)) (a b : Seen T) → o ≡ Some (a, b) → IsPairingOr h ts old new o → (new ≡ old) × IsSplit h 0 (joined ts) a (Some b)
-  pairing_some h ts old new o a b e p = subst (λ (q : Option (Seen T × Seen T)). IsPairingOr h ts old new q) e p
-
   -- a changed leaf
   pub leaf_is_placed : (w h : ℕ) (s : Seen T) (us xs : List T) → us ≡ xs → h ≡ s.height → s.height ≡ 0 → w ≤ length xs → length xs ≤ 12 → IsPlaced w xs s (record { items = us; height = h; width = length us })
   leaf_is_placed w h s us xs e height low wide narrow =
@@ -81,21 +75,37 @@ module _ {T : Type 0} where
         many = λ l. subst (λ (n : ℕ). 6 ^ (n + 1) ≤ length us) (sym leaf) (omega (arith, l));
       }
 
-module _ {S T : Type 0} (op : S → S → S) where
-  pub placing_back : (around : List (Around S)) (x : S) (w : ℕ) (xs ys : List T) (old new : Seen T) (p : Placing (Vec S Global) (Vec T Global) (Seen T)) (es : Vec T Global) → p ≡ Back es → IsPlacing op around x w xs ys old new p → (new ≡ old) × (es.items ≡ ys)
-  placing_back around x w xs ys old new p es e h = subst (λ (q : Placing (Vec S Global) (Vec T Global) (Seen T)). IsPlacing op around x w xs ys old new q) e h
+module _ {S E N : Type 0} where
+  -- the sum that is taken off is written where the change is made
+  pub noted_done : (n len : ℕ) (s : S) (p : Placing (Vec S Global) E N) (sums rest : Vec S Global) (last : S) → p ≡ Done sums → sums.items ≡ rest.items ++ last ∷ [] → IsNoted n len n s last p (Done rest)
+  noted_done n len s p sums rest last e f =
+      rw e (λ xs x g. (refl, same_last rest.items xs sums.items last x f g, (rest, refl, same_front rest.items xs sums.items last x f g)))
 
-  pub placing_done : (around : List (Around S)) (x : S) (w : ℕ) (xs ys : List T) (old new : Seen T) (p : Placing (Vec S Global) (Vec T Global) (Seen T)) (sums : Vec S Global) → p ≡ Done sums → IsPlacing op around x w xs ys old new p → IsPlaced w xs old new × (sums.items ≡ outer_sums op around x)
-  placing_done around x w xs ys old new p sums e h = subst (λ (q : Placing (Vec S Global) (Vec T Global) (Seen T)). IsPlacing op around x w xs ys old new q) e h
+  pub noted_split : (n len : ℕ) (s : S) (p : Placing (Vec S Global) E N) (a b : N) (sums rest : Vec S Global) (m : ℕ) → p ≡ Split a b sums → m ≡ length sums.items → rest.items ≡ take (m - 1) sums.items → IsNoted n len len s s p (Split a b rest)
+  noted_split n len s p a b sums rest m e f g = rw e (refl, refl, λ xs x h. (rest, refl, popped xs sums.items rest.items m x f g h))
 
-  pub placing_split : (around : List (Around S)) (x : S) (w : ℕ) (xs ys : List T) (old new : Seen T) (p : Placing (Vec S Global) (Vec T Global) (Seen T)) (a b : Seen T) (sums : Vec S Global) → p ≡ Split a b sums → IsPlacing op around x w xs ys old new p → (new ≡ old) × IsSplit old.height 0 xs a (Some b) × (sums.items ≡ outer_sums op around x)
-  placing_split around x w xs ys old new p a b sums e h = subst (λ (q : Placing (Vec S Global) (Vec T Global) (Seen T)). IsPlacing op around x w xs ys old new q) e h
+module _ {S T : Type 0} where
+  pub placing_back : (ss : List S) (w : ℕ) (xs ys : List T) (old new : Seen T) (p : Placing (Vec S Global) (Vec T Global) (Seen T)) (es : Vec T Global) → p ≡ Back es → IsPlacing ss w xs ys old new p → (new ≡ old) × (es.items ≡ ys)
+  placing_back ss w xs ys old new p es e h = subst (λ (q : Placing (Vec S Global) (Vec T Global) (Seen T)). IsPlacing ss w xs ys old new q) e h
 
-  pub change_one : (around : List (Around S)) (x : S) (w : ℕ) (xs ys : List T) (p : LeafChange (Vec T Global) S (Vec S Global) (Seen T)) (es : Vec T Global) (s : S) (sums : Vec S Global) → p ≡ One es s sums → IsLeafChange op around x w xs ys p → (es.items ≡ xs) × (w ≤ length xs) × (length xs ≤ 12) × (s ≡ x) × (sums.items ≡ outer_sums op around x)
-  change_one around x w xs ys p es s sums e h = subst (λ (q : LeafChange (Vec T Global) S (Vec S Global) (Seen T)). IsLeafChange op around x w xs ys q) e h
+  pub placing_done : (ss : List S) (w : ℕ) (xs ys : List T) (old new : Seen T) (p : Placing (Vec S Global) (Vec T Global) (Seen T)) (sums : Vec S Global) → p ≡ Done sums → IsPlacing ss w xs ys old new p → IsPlaced w xs old new × (sums.items ≡ ss)
+  placing_done ss w xs ys old new p sums e h = subst (λ (q : Placing (Vec S Global) (Vec T Global) (Seen T)). IsPlacing ss w xs ys old new q) e h
 
-  pub change_two : (around : List (Around S)) (x : S) (w : ℕ) (xs ys : List T) (p : LeafChange (Vec T Global) S (Vec S Global) (Seen T)) (a b : Seen T) (sums : Vec S Global) → p ≡ Two a b sums → IsLeafChange op around x w xs ys p → IsSplit 0 0 xs a (Some b) × (sums.items ≡ outer_sums op around x)
-  change_two around x w xs ys p a b sums e h = subst (λ (q : LeafChange (Vec T Global) S (Vec S Global) (Seen T)). IsLeafChange op around x w xs ys q) e h
+  pub placing_split : (ss : List S) (w : ℕ) (xs ys : List T) (old new : Seen T) (p : Placing (Vec S Global) (Vec T Global) (Seen T)) (a b : Seen T) (sums : Vec S Global) → p ≡ Split a b sums → IsPlacing ss w xs ys old new p → (new ≡ old) × IsSplit old.height 0 xs a (Some b) × (sums.items ≡ ss)
+  placing_split ss w xs ys old new p a b sums e h = subst (λ (q : Placing (Vec S Global) (Vec T Global) (Seen T)). IsPlacing ss w xs ys old new q) e h
+
+  pub noted_placing : (n len len' : ℕ) (s s' x : S) (ss : List S) (w : ℕ) (xs ys : List T) (old new : Seen T) (p q : Placing (Vec S Global) (Vec T Global) (Seen T)) → IsPlacing (ss ++ x ∷ []) w xs ys old new p → IsNoted n len len' s s' p q → IsPlacing ss w xs ys old new q
+  noted_placing n len len' s s' x ss w xs ys old new (Done sums) q h k =
+      let d = k ss x h.1 in
+      rw d.2.1 (h.0, d.2.2)
+  noted_placing n len len' s s' x ss w xs ys old new (Split a b sums) q h k =
+      let d = k.2 ss x h.2 in
+      rw d.1 (h.0, h.1, d.2)
+  noted_placing n len len' s s' x ss w xs ys old new (Back es) q h k = rw k.2 h
+
+  pub placing_moved : {E : Type 0} (h : ℕ) (ss zs : List S) (ts us : List (Seen T)) (xs vs ys : List T) (new : Seen T) (r : Result (Placing (Vec S Global) (Vec T Global) (Seen T)) E) → ss ≡ zs → us ≡ ts → vs ≡ xs → IsPlacingOr ss (length us) vs ys (inner_seen h us) new r → IsPlacingOr zs (length ts) xs ys (inner_seen h ts) new r
+  placing_moved {E} h ss zs ts us xs vs ys new r e f g p =
+      subst (λ (q : List S). IsPlacingOr q (length ts) xs ys (inner_seen h ts) new r) e (subst (λ (q : List (Seen T)). IsPlacingOr ss (length q) xs ys (inner_seen h q) new r) f (subst (λ (q : List T). IsPlacingOr ss (length us) q ys (inner_seen h us) new r) g p))
 
 module _ {S T : Type 0} {empty : S} {op : S → S → S} {admits fits : S → Type 0} (laws : SummaryLaws empty op admits fits) (sum_of : T → S) (admitted : (x : T) → admits (sum_of x)) where
   -- the sum of all is that of the child with what stands around it
@@ -107,20 +117,24 @@ module _ {S T : Type 0} {empty : S} {op : S → S → S} {admits fits : S → Ty
   around_fits f m z all a b e h =
       rw b (subst fits (fold-append laws sum_of admitted f m) (fits_left laws sum_of admitted (f ++ m) z (subst (λ (us : List T). fits (fold empty op sum_of us)) (sym e ∙ sym (append_assoc f m z)) h)))
 
-  pub kept_inner : (h len : ℕ) (s : S) (v : Vec (Seen T) Global) (k : ℕ) (t u : Seen T) → Held laws sum_of admitted h len s (Inner v) → t ≡ get_or v.items k t → u ≡ t → HeldInner laws sum_of admitted h len s (set v.items k u)
-  kept_inner h len s v k t u held read same = subst (λ (ts : List (Seen T)). HeldInner laws sum_of admitted h len s ts) (sym (set_same_at v.items k t u read same)) held
-
-  pub placed_inner : (h len len' : ℕ) (s s' : S) (v : Vec (Seen T) Global) (k : ℕ) (t u : Seen T) (m xs : List T) → Held laws sum_of admitted h len s (Inner v) → k < length v.items → t ≡ get_or v.items k t → IsPlaced 6 m t u → joined (take k v.items) ++ (m ++ joined (drop (k + 1) v.items)) ≡ xs → len' ≡ length xs → s' ≡ fold empty op sum_of xs → fits (fold empty op sum_of xs) → length xs ≤ 2 ^ 40 → HeldInner laws sum_of admitted h len' s' (set v.items k u)
-  placed_inner h len len' s s' v k t u m xs held lt read p whole size sum ok short =
-      let child : IsChild h t = subst (λ (w : Seen T). IsChild h w) (sym read) (held.0.0 k t lt) in
-      let all : joined (set v.items k u) ≡ xs = placed_all v.items k 6 t u m xs lt p whole in
-      let count : length (set v.items k u) ≡ length v.items = length-set v.items k u in
-      ((All-set (IsChild h) v.items k u (placed_child h t u m child p) held.0.0, omega (arith, count, held.0.1), omega (arith, count, held.0.2)), rw all size, rw all sum, rw all ok, rw all short)
-
   -- the children are as they were
   pub same_inner : (h len : ℕ) (s : S) (v : Vec (Seen T) Global) (us : List (Seen T)) → Held laws sum_of admitted h len s (Inner v) → us ≡ v.items → HeldInner laws sum_of admitted h len s us
   same_inner h len s v us held same = subst (λ (ts : List (Seen T)). HeldInner laws sum_of admitted h len s ts) (sym same) held
 
-  pub leaf_placed : (h len : ℕ) (u : S) (us xs : List T) → h ≡ 0 → us ≡ xs → length xs ≤ 12 → len ≡ length us → u ≡ fold empty op sum_of xs → fits (fold empty op sum_of xs) → length xs ≤ 2 ^ 40 → ((h ≡ 0) × (length us ≤ 12)) × (len ≡ length us) × (u ≡ fold empty op sum_of us) × fits (fold empty op sum_of us) × (length us ≤ 2 ^ 40)
-  leaf_placed h len u us xs low e narrow size sum ok short =
-      ((low, subst (λ (zs : List T). length zs ≤ 12) (sym e) narrow), size, rw e sum, rw e ok, rw e short)
+  -- a node in which a change was noted
+  pub noted_node : (n len len' h w : ℕ) (s s' x : S) (c d : Content T S) (ss : List S) (xs ys : List T) (p q : Placing (Vec S Global) (Vec T Global) (Seen T)) → IsNode empty op fits sum_of (record { height = h; len = len; sum = s; content = c }) → IsContent h d → IsPlacing (ss ++ x ∷ []) w xs ys (content_seen h c) (content_seen h d) p → IsNoted n len len' s s' p q → n ≡ length xs → x ≡ fold empty op sum_of xs → fits (fold empty op sum_of xs) → length xs ≤ 2 ^ 40 → IsNode empty op fits sum_of (record { height = h; len = len'; sum = s'; content = d })
+  noted_node n len len' h w s s' x c d ss xs ys (Done sums) q node held p k size sum ok short =
+      let e = k ss x p.1 in
+      let all : content_items d ≡ xs = p.0.items in
+      (held, rw all (e.0 ∙ size), rw all (e.1 ∙ sum), rw all ok, rw all short)
+  noted_node n len len' h w s s' x c d ss xs ys (Split a b sums) q node held p k size sum ok short =
+      let all : content_items d ≡ content_items c = ap (λ (z : Seen T). z.items) p.0 in
+      (held, rw all (k.0 ∙ node.1), rw all (k.1 ∙ node.2), rw all node.3, rw all node.4)
+  noted_node n len len' h w s s' x c d ss xs ys (Back es) q node held p k size sum ok short =
+      let all : content_items d ≡ content_items c = ap (λ (z : Seen T). z.items) p.0 in
+      (held, rw all (k.0 ∙ node.1), rw all (k.1 ∙ node.2), rw all node.3, rw all node.4)
+
+  pub kept_node : (len h : ℕ) (s : S) (c d : Content T S) → IsNode empty op fits sum_of (record { height = h; len = len; sum = s; content = c }) → IsContent h d → content_seen h d ≡ content_seen h c → IsNode empty op fits sum_of (record { height = h; len = len; sum = s; content = d })
+  kept_node len h s c d node held same =
+      let all : content_items d ≡ content_items c = ap (λ (z : Seen T). z.items) same in
+      (held, rw all node.1, rw all node.2, rw all node.3, rw all node.4)

@@ -1,5 +1,5 @@
 -- The sums of the nodes above one that changes.
-use Rattle.std.specs.Prelude.{List, [], ◌∷◌}
+use Rattle.std.specs.Prelude.{List, [], ◌∷◌, ◌++◌}
 use Rattle.sum_tree.specs.declared.around.Around.{Around}
 
 -- the sum of the highest of these nodes, the lowest of which has a child with the sum x
@@ -11,6 +11,10 @@ outer_sum op (a ∷ rest) x = op (op a.before (outer_sum op rest x)) a.behind
 abbrev pub outer_sums : {S : Type 0} → (S → S → S) → List (Around S) → S → List S
 outer_sums op [] x = []
 outer_sums op (a ∷ rest) x = outer_sum op (a ∷ rest) x ∷ outer_sums op rest x
+
+-- these, and then the sum x itself
+abbrev pub path_sums : {S : Type 0} → (S → S → S) → List (Around S) → S → List S
+path_sums op around x = outer_sums op around x ++ x ∷ []
 
 -- the type has room for each of these sums, also half made
 abbrev pub Fitting : {S : Type 0} → (S → Type 0) → (S → S → S) → List (Around S) → S → Type 0

@@ -1,8 +1,8 @@
 //! The sums of the nodes on a path, made before anything on it changes.
-ghost use Rattle.std.specs.Prelude.{◌≡◌, ◌<◌, length, take, drop, ◌+◌, IfOk};
+ghost use Rattle.std.specs.Prelude.{◌≡◌, ◌<◌, ◌++◌, length, take, drop, ◌+◌, IfOk};
 ghost use Rattle.sum_tree.specs.Laws.{fold};
 ghost use Rattle.sum_tree.specs.Shape.{joined};
-ghost use Rattle.sum_tree.specs.Around.{outer_sums, Fitting};
+ghost use Rattle.sum_tree.specs.Around.{path_sums, Fitting};
 
 use crate::entry::Entry;
 use crate::traits::{Item, Summary};
@@ -59,25 +59,45 @@ pub(crate) fn around_child<T: Item>(
     Ok(Around { before, behind })
 }
 
-// The sums of the nodes above one with this sum, the root's first.
+// The sum of these entries, then those, then more.
+pub(crate) fn three_sum<T: Item>(
+    alloc: Global,
+    front: &[Entry<T>],
+    middle: &[Entry<T>],
+    back: &[Entry<T>],
+) -> Result<T::Summary, AllocError>
+    requires { T.Summary.fits (fold T.Summary.empty T.Summary.op T.sum_of ((front.now ++ middle.now) ++ back.now)) }
+    ensures { IfOk result (λ s. s ≡ fold T.Summary.empty T.Summary.op T.sum_of ((front.now ++ middle.now) ++ back.now)) }
+{
+    let mut sum = entries_sum(alloc, front)?;
+    let new = entries_sum(alloc, middle)?;
+    sum.add(alloc, &new)?;
+    let rest = entries_sum(alloc, back)?;
+    sum.add(alloc, &rest)?;
+    Ok(sum)
+}
+
+// The sums of the nodes above one with this sum, the root's first, and then that sum.
 pub(crate) fn settled<S: Summary>(
     alloc: Global,
     mut around: Vec<Around<S>>,
-    sum: &S,
+    sum: S,
 ) -> Result<Vec<S>, AllocError>
-    requires { Fitting S.fits S.op around.items sum.now }
-    ensures { IfOk result (λ ss. ss.items ≡ outer_sums S.op around.items sum.now) }
+    requires { Fitting S.fits S.op around.items sum }
+    ensures { IfOk result (λ ss. ss.items ≡ path_sums S.op around.items sum) }
 {
     match around.pop() {
         None => {
-            return Vec::with_capacity(alloc, around.capacity());
+            let mut sums = Vec::with_capacity(alloc, around.capacity() + 1)?;
+            sums.push(sum)?;
+            return Ok(sums);
         }
         Some(level) => {
             let Around { mut before, behind } = level;
-            before.add(alloc, sum)?;
+            before.add(alloc, &sum)?;
             before.add(alloc, &behind)?;
-            let mut sums = settled(alloc, around, &before)?;
-            sums.push(before)?;
+            let mut sums = settled(alloc, around, before)?;
+            sums.push(sum)?;
             return Ok(sums);
         }
     }

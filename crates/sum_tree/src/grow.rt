@@ -1,5 +1,5 @@
 //! Trees put end to end, by new nodes along one side. What is not on that side is shared.
-ghost use Rattle.std.specs.Prelude.{◌≡◌, ℕ, ◌+◌, ◌^◌, ◌<◌, ◌≤◌, [], ◌∷◌, ◌++◌, length, IfOk, OnOk, OnErr, All};
+ghost use Rattle.std.specs.Prelude.{◌≡◌, ℕ, ◌+◌, ◌^◌, ◌<◌, ◌≤◌, [], ◌∷◌, ◌++◌, length, Some, IfOk, OnOk, OnErr, All};
 ghost use Rattle.sum_tree.specs.Laws.{fold};
 ghost use Rattle.sum_tree.specs.Shape.{IsChild, joined};
 ghost use Rattle.sum_tree.specs.Grown.{IsSplit, pair_list, with_pair, with_run};
@@ -34,10 +34,27 @@ pub(crate) fn share_onto<T: Item>(
     Ok(())
 }
 
+// Two leaves of these entries.
+pub(crate) fn two_leaves<T: Item>(
+    alloc: Global,
+    mut entries: Vec<Entry<T>>,
+) -> Result<(SumTree<T>, SumTree<T>), AllocError>
+    requires many { 12 < length entries.items }
+    requires most { length entries.items ≤ 24 }
+    requires fits { T.Summary.fits (fold T.Summary.empty T.Summary.op T.sum_of entries.items) }
+    ensures { IfOk result (λ p. IsSplit 0 0 entries.items p.0 (Some p.1)) }
+{
+    let half = entries.len() / 2;
+    let rest = entries.split_off(half)?;
+    let front = leaf(alloc, entries)?;
+    let back = leaf(alloc, rest)?;
+    Ok((front, back))
+}
+
 // One leaf or two of these entries.
 pub(crate) fn leaves<T: Item>(
     alloc: Global,
-    mut entries: Vec<Entry<T>>,
+    entries: Vec<Entry<T>>,
 ) -> Result<(SumTree<T>, Option<SumTree<T>>), AllocError>
     requires most { length entries.items ≤ 24 }
     requires fits { T.Summary.fits (fold T.Summary.empty T.Summary.op T.sum_of entries.items) }
@@ -46,18 +63,35 @@ pub(crate) fn leaves<T: Item>(
     if entries.len() <= MOST {
         return Ok((leaf(alloc, entries)?, None));
     }
-    let half = entries.len() / 2;
-    let rest = entries.split_off(half)?;
-    let front = leaf(alloc, entries)?;
-    let back = leaf(alloc, rest)?;
+    let (front, back) = two_leaves(alloc, entries)?;
     Ok((front, Some(back)))
+}
+
+// Two nodes of these children.
+pub(crate) fn two_inners<T: Item>(
+    alloc: Global,
+    height: u32,
+    mut children: Vec<SumTree<T>>,
+) -> Result<(SumTree<T>, SumTree<T>), AllocError>
+    requires children { All (IsChild height) children.items }
+    requires many { 12 < length children.items }
+    requires most { length children.items ≤ 24 }
+    requires short { length (joined children.items) ≤ 2 ^ 40 }
+    requires fits { T.Summary.fits (fold T.Summary.empty T.Summary.op T.sum_of (joined children.items)) }
+    ensures { IfOk result (λ p. IsSplit height 0 (joined children.items) p.0 (Some p.1)) }
+{
+    let half = children.len() / 2;
+    let rest = children.split_off(half)?;
+    let front = inner(alloc, height, children)?;
+    let back = inner(alloc, height, rest)?;
+    Ok((front, back))
 }
 
 // One node or two of these children.
 pub(crate) fn inners<T: Item>(
     alloc: Global,
     height: u32,
-    mut children: Vec<SumTree<T>>,
+    children: Vec<SumTree<T>>,
 ) -> Result<(SumTree<T>, Option<SumTree<T>>), AllocError>
     requires children { All (IsChild height) children.items }
     requires least { 2 ≤ length children.items }
@@ -69,10 +103,7 @@ pub(crate) fn inners<T: Item>(
     if children.len() <= MOST {
         return Ok((inner(alloc, height, children)?, None));
     }
-    let half = children.len() / 2;
-    let rest = children.split_off(half)?;
-    let front = inner(alloc, height, children)?;
-    let back = inner(alloc, height, rest)?;
+    let (front, back) = two_inners(alloc, height, children)?;
     Ok((front, Some(back)))
 }
 

@@ -1,16 +1,16 @@
 //! Changes in place, where no other tree shares the nodes on the way.
-ghost use Rattle.std.specs.Prelude.{◌≡◌, ℕ, ◌+◌, ◌^◌, ◌<◌, ◌≤◌, [], ◌∷◌, ◌++◌, length, All, Some, IfOk, OnOk, OnErr};
+ghost use Rattle.std.specs.Prelude.{◌≡◌, ℕ, List, ◌+◌, ◌^◌, ◌<◌, ◌≤◌, [], ◌∷◌, ◌++◌, length, All, Some, IfOk, OnOk, OnErr};
 ghost use Rattle.sum_tree.specs.Laws.{fold};
-ghost use Rattle.sum_tree.specs.Shape.{IsChild, joined};
+ghost use Rattle.sum_tree.specs.Shape.{IsChild, IsContent, joined, content_items, content_width};
 ghost use Rattle.sum_tree.specs.Grown.{with_pair};
 ghost use Rattle.sum_tree.specs.Here.{IsPushed, IsPushedBeside};
-ghost use Rattle.sum_tree.specs.Around.{Fitting};
-ghost use Rattle.sum_tree.specs.Placed.{IsLeafChange, IsPairing, IsPlacingOr};
+ghost use Rattle.sum_tree.specs.Around.{Fitting, outer_sums, path_sums};
+ghost use Rattle.sum_tree.specs.Placed.{AreChildren, IsNoted, IsPlacing, IsPlacingOr, content_seen, inner_seen, leaf_seen};
 ghost use Rattle.sum_tree.specs.Spliced.{spliced};
 
-use crate::around::{Around, around_child, entries_sum, settled};
+use crate::around::{Around, around_child, entries_sum, settled, three_sum};
 use crate::entry::Entry;
-use crate::grow::{gathered, inners, leaves};
+use crate::grow::{gathered, two_inners, two_leaves};
 use crate::splice::{child_with, three_parts};
 use crate::traits::{Item, Summary};
 use crate::tree::{Content, LEAST, MOST, SumTree, single};
@@ -27,48 +27,87 @@ pub(crate) enum Placing<S: Drop, E: Drop, N: Drop> {
     Back(E),
 }
 
-// What a leaf becomes: its new entries, their sum and the sums of the nodes above; or two leaves, and the sums of the
-// nodes above; or nothing, and the new entries come back.
-#[derive(Drop)]
-pub(crate) enum LeafChange<E: Drop, S: Drop, U: Drop, N: Drop> {
-    One(E, S, U),
-    Two(N, N, U),
-    Kept(E),
+// Puts these in the place of a range, in the list's own block once there is room.
+fn put_run<X: Drop>(
+    list: &mut Vec<X>,
+    from: usize,
+    to: usize,
+    mut run: Vec<X>,
+) -> Result<(), AllocError>
+    requires order { from ≤ to }
+    requires within { to ≤ length list.old.items }
+    ensures ok { OnOk result (list.new.items ≡ spliced from to run.items list.old.items) }
+    ensures err { OnErr result (list.new.items ≡ list.old.items) }
+{
+    let count = to - from;
+    let behind = list.len() - to;
+    list.reserve(run.len().saturating_sub(count))?;
+    list.rotate_left(to);
+    list.truncate(behind + from);
+    match list.append(&mut run) {
+        Ok(()) => {}
+        Err(_) => unreachable!(),
+    }
+    list.rotate_left(behind);
+    Ok(())
 }
 
-// Makes all that a leaf with these entries becomes where entries are put in the place of a range. They come back where
-// they are more than 12, or where the leaf would have fewer than `least`.
-fn leaf_change<T: Item>(
+// Two leaves of a leaf's entries where others are put in the place of a range.
+fn split_leaf<T: Item>(
+    alloc: Global,
+    old: &[Entry<T>],
+    from: usize,
+    to: usize,
+    entries: Vec<Entry<T>>,
+    around: Vec<Around<T::Summary>>,
+) -> Result<Placing<Vec<T::Summary>, Vec<Entry<T>>, SumTree<T>>, AllocError>
+    requires order { from ≤ to }
+    requires within { to ≤ length old.now }
+    requires most { length old.now ≤ 12 }
+    requires few { length entries.items ≤ 12 }
+    requires many { 12 < length (spliced from to entries.items old.now) }
+    requires fits { T.Summary.fits (fold T.Summary.empty T.Summary.op T.sum_of (spliced from to entries.items old.now)) }
+    requires fitting { Fitting T.Summary.fits T.Summary.op around.items (fold T.Summary.empty T.Summary.op T.sum_of (spliced from to entries.items old.now)) }
+    ensures { IfOk result (λ p. IsPlacing (path_sums T.Summary.op around.items (fold T.Summary.empty T.Summary.op T.sum_of (spliced from to entries.items old.now))) 0 (spliced from to entries.items old.now) entries.items (leaf_seen old.now) (leaf_seen old.now) p) }
+{
+    let all = three_parts(alloc, &old[..from], entries, &old[to..])?;
+    let sum = entries_sum(alloc, &all)?;
+    let sums = settled(alloc, around, sum)?;
+    let (front, back) = two_leaves(alloc, all)?;
+    Ok(Placing::Split(front, back, sums))
+}
+
+// Puts entries in the place of a range of a leaf's. They come back where they are more than 12, or where the leaf would
+// have fewer than `least`.
+fn place_in_leaf<T: Item>(
     alloc: Global,
     least: usize,
-    old: &[Entry<T>],
+    old: &mut Vec<Entry<T>>,
     from: u64,
     count: u64,
     entries: Vec<Entry<T>>,
     around: Vec<Around<T::Summary>>,
-) -> Result<LeafChange<Vec<Entry<T>>, T::Summary, Vec<T::Summary>, SumTree<T>>, AllocError>
-    requires within { from + count ≤ length old.now }
-    requires most { length old.now ≤ 12 }
-    requires fits { T.Summary.fits (fold T.Summary.empty T.Summary.op T.sum_of (spliced from (from + count) entries.items old.now)) }
-    requires fitting { Fitting T.Summary.fits T.Summary.op around.items (fold T.Summary.empty T.Summary.op T.sum_of (spliced from (from + count) entries.items old.now)) }
-    ensures { IfOk result (λ c. IsLeafChange T.Summary.op around.items (fold T.Summary.empty T.Summary.op T.sum_of (spliced from (from + count) entries.items old.now)) least (spliced from (from + count) entries.items old.now) entries.items c) }
+) -> Result<Placing<Vec<T::Summary>, Vec<Entry<T>>, SumTree<T>>, AllocError>
+    requires within { from + count ≤ length old.old.items }
+    requires most { length old.old.items ≤ 12 }
+    requires fits { T.Summary.fits (fold T.Summary.empty T.Summary.op T.sum_of (spliced from (from + count) entries.items old.old.items)) }
+    requires fitting { Fitting T.Summary.fits T.Summary.op around.items (fold T.Summary.empty T.Summary.op T.sum_of (spliced from (from + count) entries.items old.old.items)) }
+    ensures most { length old.new.items ≤ 12 }
+    ensures placing { IsPlacingOr (path_sums T.Summary.op around.items (fold T.Summary.empty T.Summary.op T.sum_of (spliced from (from + count) entries.items old.old.items))) least (spliced from (from + count) entries.items old.old.items) entries.items (leaf_seen old.old.items) (leaf_seen old.new.items) result }
 {
     let first = from as usize;
     let after = (from + count) as usize;
     let kept = first + (old.len() - after);
     if entries.len() > MOST || kept + entries.len() < least {
-        return Ok(LeafChange::Kept(entries));
+        return Ok(Placing::Back(entries));
     }
-    let all = three_parts(alloc, &old[..first], entries, &old[after..])?;
-    let sum = entries_sum(alloc, &all)?;
-    let sums = settled(alloc, around, &sum)?;
-    if all.len() <= MOST {
-        return Ok(LeafChange::One(all, sum, sums));
+    if kept + entries.len() > MOST {
+        return split_leaf(alloc, old, first, after, entries, around);
     }
-    match leaves(alloc, all)? {
-        (front, Some(back)) => Ok(LeafChange::Two(front, back, sums)),
-        (_, None) => unreachable!(),
-    }
+    let sum = three_sum(alloc, &old[..first], &entries, &old[after..])?;
+    let sums = settled(alloc, around, sum)?;
+    put_run(old, first, after, entries)?;
+    Ok(Placing::Done(sums))
 }
 
 // Puts these in the place of child k.
@@ -95,6 +134,125 @@ fn put_pair<T: Item>(
     }
 }
 
+// Puts a pair in the place of child k; or, where there is no room for one more, leaves the children as they are and
+// makes the pair that is to stand in the place of their node. With the sums of the nodes on the path.
+fn pair_in_place<T: Item>(
+    alloc: Global,
+    height: u32,
+    children: &mut Vec<SumTree<T>>,
+    k: usize,
+    front: SumTree<T>,
+    back: SumTree<T>,
+    sums: Vec<T::Summary>,
+) -> Result<Placing<Vec<T::Summary>, Vec<Entry<T>>, SumTree<T>>, AllocError>
+    requires children { AreChildren height children.old.items }
+    requires within { k < length children.old.items }
+    requires front { IsChild height front }
+    requires back { IsChild height back }
+    requires short { length (joined (with_pair children.old.items k front (Some back))) ≤ 2 ^ 40 }
+    requires fits { T.Summary.fits (fold T.Summary.empty T.Summary.op T.sum_of (joined (with_pair children.old.items k front (Some back)))) }
+    ensures children { AreChildren height children.new.items }
+    ensures placing { (ys : List T) → IsPlacingOr sums.items (length children.old.items) (joined (with_pair children.old.items k front (Some back))) ys (inner_seen height children.old.items) (inner_seen height children.new.items) result }
+{
+    if children.len() < MOST {
+        put_pair(children, k, front, Some(back))?;
+        return Ok(Placing::Done(sums));
+    }
+    let all = gathered(alloc, children, k, k + 1, front, Some(back))?;
+    let (front, back) = two_inners(alloc, height, all)?;
+    Ok(Placing::Split(front, back, sums))
+}
+
+// Puts entries in the place of a range of the items below a node's children, where the range lies in one leaf.
+#[cycle(placing)]
+fn place_in_children<T: Item>(
+    alloc: Global,
+    height: u32,
+    children: &mut Vec<SumTree<T>>,
+    from: u64,
+    count: u64,
+    entries: Vec<Entry<T>>,
+    mut around: Vec<Around<T::Summary>>,
+) -> Result<Placing<Vec<T::Summary>, Vec<Entry<T>>, SumTree<T>>, AllocError>
+    requires children { AreChildren height children.old.items }
+    requires old_fits { T.Summary.fits (fold T.Summary.empty T.Summary.op T.sum_of (joined children.old.items)) }
+    requires within { from + count ≤ length (joined children.old.items) }
+    requires short { length (spliced from (from + count) entries.items (joined children.old.items)) ≤ 2 ^ 40 }
+    requires fits { T.Summary.fits (fold T.Summary.empty T.Summary.op T.sum_of (spliced from (from + count) entries.items (joined children.old.items))) }
+    requires fitting { Fitting T.Summary.fits T.Summary.op around.items (fold T.Summary.empty T.Summary.op T.sum_of (spliced from (from + count) entries.items (joined children.old.items))) }
+    ensures children { AreChildren height children.new.items }
+    ensures placing { IsPlacingOr (path_sums T.Summary.op around.items (fold T.Summary.empty T.Summary.op T.sum_of (spliced from (from + count) entries.items (joined children.old.items)))) (length children.old.items) (spliced from (from + count) entries.items (joined children.old.items)) entries.items (inner_seen height children.old.items) (inner_seen height children.new.items) result }
+{
+    let (k, first) = match child_with(children, from, count) {
+        None => return Ok(Placing::Back(entries)),
+        Some(place) => place,
+    };
+    around.push(around_child(alloc, children, k)?)?;
+    match children[k].place_here(alloc, LEAST, first, count, entries, around)? {
+        Placing::Done(sums) => return Ok(Placing::Done(sums)),
+        Placing::Split(front, back, sums) => {
+            return pair_in_place(alloc, height, children, k, front, back, sums);
+        }
+        Placing::Back(entries) => return Ok(Placing::Back(entries)),
+    }
+}
+
+// The same in what a node of this height holds.
+#[cycle(placing)]
+fn place_in<T: Item>(
+    alloc: Global,
+    height: u32,
+    content: &mut Content<T>,
+    least: usize,
+    from: u64,
+    count: u64,
+    entries: Vec<Entry<T>>,
+    around: Vec<Around<T::Summary>>,
+) -> Result<Placing<Vec<T::Summary>, Vec<Entry<T>>, SumTree<T>>, AllocError>
+    requires content { IsContent height content.old }
+    requires wide { least ≤ content_width content.old }
+    requires old_fits { T.Summary.fits (fold T.Summary.empty T.Summary.op T.sum_of (content_items content.old)) }
+    requires within { from + count ≤ length (content_items content.old) }
+    requires short { length (spliced from (from + count) entries.items (content_items content.old)) ≤ 2 ^ 40 }
+    requires fits { T.Summary.fits (fold T.Summary.empty T.Summary.op T.sum_of (spliced from (from + count) entries.items (content_items content.old))) }
+    requires fitting { Fitting T.Summary.fits T.Summary.op around.items (fold T.Summary.empty T.Summary.op T.sum_of (spliced from (from + count) entries.items (content_items content.old))) }
+    ensures content { IsContent height content.new }
+    ensures placing { IsPlacingOr (path_sums T.Summary.op around.items (fold T.Summary.empty T.Summary.op T.sum_of (spliced from (from + count) entries.items (content_items content.old)))) least (spliced from (from + count) entries.items (content_items content.old)) entries.items (content_seen height content.old) (content_seen height content.new) result }
+{
+    match content {
+        Content::Leaf(old) => return place_in_leaf(alloc, least, old, from, count, entries, around),
+        Content::Inner(children) => {
+            return place_in_children(alloc, height, children, from, count, entries, around);
+        }
+    }
+}
+
+// Takes the last sum off. Where the change is made, it is the node's new sum, and `count` its new length.
+fn noted<S: Drop, E: Drop, N: Drop>(
+    count: u64,
+    len: &mut u64,
+    sum: &mut S,
+    placing: Placing<Vec<S>, E, N>,
+) -> Placing<Vec<S>, E, N>
+    ensures { IsNoted count len.old len.new sum.old sum.new placing result }
+{
+    match placing {
+        Placing::Done(mut sums) => match sums.pop() {
+            None => return Placing::Done(sums),
+            Some(last) => {
+                *len = count;
+                *sum = last;
+                return Placing::Done(sums);
+            }
+        },
+        Placing::Split(front, back, mut sums) => {
+            let _last = sums.pop();
+            return Placing::Split(front, back, sums);
+        }
+        Placing::Back(entries) => return Placing::Back(entries),
+    }
+}
+
 // Puts the entry behind the items of these children, in a copy of the last child and of its last path; or hands it back,
 // where there is no room for one child more.
 fn push_beside<T: Item>(
@@ -117,37 +275,6 @@ fn push_beside<T: Item>(
     let (front, back) = children[last].followed(alloc, &other)?;
     put_pair(children, last, front, back)?;
     Ok(None)
-}
-
-// Puts a pair in the place of child k; or, where there is no room for one more, leaves the children as they are and
-// makes the pair that is to stand in the place of their node.
-fn pair_in_place<T: Item>(
-    alloc: Global,
-    height: u32,
-    children: &mut Vec<SumTree<T>>,
-    k: usize,
-    front: SumTree<T>,
-    back: SumTree<T>,
-) -> Result<Option<(SumTree<T>, SumTree<T>)>, AllocError>
-    requires children { All (IsChild height) children.old.items }
-    requires least { 2 ≤ length children.old.items }
-    requires most { length children.old.items ≤ 12 }
-    requires within { k < length children.old.items }
-    requires front { IsChild height front }
-    requires back { IsChild height back }
-    requires short { length (joined (with_pair children.old.items k front (Some back))) ≤ 2 ^ 40 }
-    requires fits { T.Summary.fits (fold T.Summary.empty T.Summary.op T.sum_of (joined (with_pair children.old.items k front (Some back)))) }
-    ensures { IsPairing height (with_pair children.old.items k front (Some back)) children.old.items children.new.items result }
-{
-    if children.len() < MOST {
-        put_pair(children, k, front, Some(back))?;
-        return Ok(None);
-    }
-    let all = gathered(alloc, children, k, k + 1, front, Some(back))?;
-    match inners(alloc, height, all)? {
-        (front, Some(back)) => Ok(Some((front, back))),
-        (_, None) => unreachable!(),
-    }
 }
 
 impl<T: Item> SumTree<T> {
@@ -201,6 +328,7 @@ impl<T: Item> SumTree<T> {
 
     // Puts entries in the place of a range of one leaf, or hands them back where a node is shared, where the range does
     // not lie in one leaf, or where the leaf would have more than 12 entries or fewer than `least`.
+    #[cycle(placing)]
     pub(crate) fn place_here(
         &mut self,
         alloc: Global,
@@ -208,68 +336,30 @@ impl<T: Item> SumTree<T> {
         from: u64,
         count: u64,
         entries: Vec<Entry<T>>,
-        mut around: Vec<Around<T::Summary>>,
+        around: Vec<Around<T::Summary>>,
     ) -> Result<Placing<Vec<T::Summary>, Vec<Entry<T>>, SumTree<T>>, AllocError>
         requires wide { least ≤ self.old.width }
         requires within { from + count ≤ length self.old.items }
         requires short { length (spliced from (from + count) entries.items self.old.items) ≤ 2 ^ 40 }
         requires fits { T.Summary.fits (fold T.Summary.empty T.Summary.op T.sum_of (spliced from (from + count) entries.items self.old.items)) }
         requires fitting { Fitting T.Summary.fits T.Summary.op around.items (fold T.Summary.empty T.Summary.op T.sum_of (spliced from (from + count) entries.items self.old.items)) }
-        ensures { IsPlacingOr T.Summary.op around.items (fold T.Summary.empty T.Summary.op T.sum_of (spliced from (from + count) entries.items self.old.items)) least (spliced from (from + count) entries.items self.old.items) entries.items self.old self.new result }
+        ensures { IsPlacingOr (outer_sums T.Summary.op around.items (fold T.Summary.empty T.Summary.op T.sum_of (spliced from (from + count) entries.items self.old.items))) least (spliced from (from + count) entries.items self.old.items) entries.items self.old self.new result }
     {
         let node = match Arc::get_mut(&mut self.node) {
             None => return Ok(Placing::Back(entries)),
             Some(node) => node,
         };
-        match &mut node.content {
-            Content::Leaf(old) => {
-                match leaf_change(alloc, least, old, from, count, entries, around)? {
-                    LeafChange::Kept(entries) => return Ok(Placing::Back(entries)),
-                    LeafChange::Two(front, back, sums) => {
-                        return Ok(Placing::Split(front, back, sums));
-                    }
-                    LeafChange::One(all, sum, sums) => {
-                        node.len = all.len() as u64;
-                        node.sum = sum;
-                        *old = all;
-                        return Ok(Placing::Done(sums));
-                    }
-                }
-            }
-            Content::Inner(children) => {
-                let (k, first) = match child_with(children, from, count) {
-                    None => return Ok(Placing::Back(entries)),
-                    Some(place) => place,
-                };
-                let len = node.len - count + entries.len() as u64;
-                around.push(around_child(alloc, children, k)?)?;
-                match children[k].place_here(alloc, LEAST, first, count, entries, around)? {
-                    Placing::Back(entries) => return Ok(Placing::Back(entries)),
-                    Placing::Done(mut sums) => match sums.pop() {
-                        None => unreachable!(),
-                        Some(sum) => {
-                            node.len = len;
-                            node.sum = sum;
-                            return Ok(Placing::Done(sums));
-                        }
-                    },
-                    Placing::Split(front, back, mut sums) => match sums.pop() {
-                        None => unreachable!(),
-                        Some(sum) => {
-                            match pair_in_place(alloc, node.height, children, k, front, back)? {
-                                Some((front, back)) => {
-                                    return Ok(Placing::Split(front, back, sums));
-                                }
-                                None => {
-                                    node.len = len;
-                                    node.sum = sum;
-                                    return Ok(Placing::Done(sums));
-                                }
-                            }
-                        }
-                    },
-                }
-            }
-        }
+        let len = node.len - count + entries.len() as u64;
+        let placing = place_in(
+            alloc,
+            node.height,
+            &mut node.content,
+            least,
+            from,
+            count,
+            entries,
+            around,
+        )?;
+        Ok(noted(len, &mut node.len, &mut node.sum, placing))
     }
 }

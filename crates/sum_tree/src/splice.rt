@@ -234,7 +234,7 @@ impl<T: Item> SumTree<T> {
 
     /// Puts items in the place of those from `from` up to `to`. Where the range lies in one leaf, at most 12 items come,
     /// that leaf keeps 6 entries or more (a root any number) and no other tree shares the nodes above it or itself, they
-    /// are changed in place: the leaf gets a new list of entries, and each node on the path a new sum. Where the leaf would
+    /// are changed in place: the leaf's own list takes the items, and each node on the path a new sum. Where the leaf would
     /// have more than 12 entries, two new ones stand in its place, and two in that of each node above it that has no
     /// room for one child more, up to the first that has; no other node is made. Else, where the range lies in one leaf
     /// and at most 12 items come, it is one descent that makes at most two nodes for each level, and one more node for a

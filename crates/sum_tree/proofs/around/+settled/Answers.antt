@@ -7,7 +7,7 @@ use Rattle.sum_tree.proofs.around.+settled.Goals as goal
 pub add-requires : goal.add-requires
 add-requires g t c =
     let a = c.in-Some.level in
-    let x = c.args.sum.now in
+    let x = c.args.sum in
     let op = g.S.Summary.op in
     let split : c.args.around.items ≡ c.pop.new.self.items ++ a ∷ [] = c.in-Some.ensures.items in
     (Fitting-last op g.S.Summary.fits c.pop.new.self.items a x (op (op a.before x) a.behind) refl (subst (λ (ls : List (Around _)). Fitting g.S.Summary.fits op ls x) split c.requires)).1
@@ -15,7 +15,7 @@ add-requires g t c =
 pub add-requires-in-Some : goal.add-requires-in-Some
 add-requires-in-Some g t c =
     let a = c.in-Some.level in
-    let x = c.args.sum.now in
+    let x = c.args.sum in
     let op = g.S.Summary.op in
     let split : c.args.around.items ≡ c.pop.new.self.items ++ a ∷ [] = c.in-Some.ensures.items in
     rw c.in_ok-add-in-Some.ensures ((Fitting-last op g.S.Summary.fits c.pop.new.self.items a x (op (op a.before x) a.behind) refl (subst (λ (ls : List (Around _)). Fitting g.S.Summary.fits op ls x) split c.requires)).2)
@@ -23,7 +23,7 @@ add-requires-in-Some g t c =
 pub settled-requires : goal.settled-requires
 settled-requires g t c κs within =
     let a = c.in-Some.level in
-    let x = c.args.sum.now in
+    let x = c.args.sum in
     let op = g.S.Summary.op in
     let split : c.args.around.items ≡ c.pop.new.self.items ++ a ∷ [] = c.in-Some.ensures.items in
     let made : c.add-in-Some.new.self ≡ op (op a.before x) a.behind = c.in_ok-add-in-Some-2.ensures ∙ ap (λ s. op s a.behind) c.in_ok-add-in-Some.ensures in
@@ -34,8 +34,9 @@ settled-requires g t c κs within =
 pub returns-in-Some : goal.returns-in-Some
 returns-in-Some g t c =
     let a = c.in-Some.level in
-    let x = c.args.sum.now in
+    let x = c.args.sum in
     let op = g.S.Summary.op in
     let split : c.args.around.items ≡ c.pop.new.self.items ++ a ∷ [] = c.in-Some.ensures.items in
     let made : c.add-in-Some.new.self ≡ op (op a.before x) a.behind = c.in_ok-add-in-Some-2.ensures ∙ ap (λ s. op s a.behind) c.in_ok-add-in-Some.ensures in
-    c.in_ok-push-in-Some.ensures.items ∙ ap (λ ss. ss ++ c.add-in-Some.new.self ∷ []) c.in_ok-sums-in-Some.ensures ∙ sym (outer_sums-snoc op c.pop.new.self.items a x c.add-in-Some.new.self made) ∙ ap (λ (ls : List (Around _)). outer_sums op ls x) (sym split)
+    let front = c.in_ok-sums-in-Some.ensures ∙ sym (outer_sums-snoc op c.pop.new.self.items a x c.add-in-Some.new.self made) ∙ ap (λ (ls : List (Around _)). outer_sums op ls x) (sym split) in
+    c.in_ok-push-in-Some.ensures.items ∙ ap (λ ss. ss ++ x ∷ []) front

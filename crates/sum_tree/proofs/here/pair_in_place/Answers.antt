@@ -1,41 +1,39 @@
-use Rattle.std.proofs.Common.{◌≡◌, ◌+◌, List, Some, length, ap, ◌∙◌, arith}
+use Rattle.std.proofs.Common.{◌≡◌, ◌+◌, List, Some, length, ap, refl, ◌∙◌, arith}
 use Rattle.sum_tree.specs.Seen.{Seen}
-use Rattle.sum_tree.specs.Shape.{joined}
 use Rattle.sum_tree.specs.Grown.{with_pair}
-use Rattle.sum_tree.proofs.Pairs.{run_children, pair_length}
-use Rattle.sum_tree.proofs.Widths.{both_children, not_alone}
+use Rattle.sum_tree.proofs.Pairs.{run_children, pair_length, paired_placed}
+use Rattle.sum_tree.proofs.Widths.{both_children}
 use Rattle.sum_tree.proofs.here.pair_in_place.Goals as goal
 
-pub returns-then-len-lt-MOST : goal.returns-then-len-lt-MOST
-returns-then-len-lt-MOST g c =
-    (c.in_ok-put_pair.ensures.ok, omega (arith, pair_length c.args.children.now.items c.args.k c.args.front (Some c.args.back) c.requires.within, c.if-len-lt-MOST.true, c.len.ensures, c.args.children.now.ok))
+pub returns-then-len-lt-MOST-clause-children : goal.returns-then-len-lt-MOST-clause-children
+returns-then-len-lt-MOST-clause-children g c =
+    (paired_placed c.args.height c.args.children.now.items c.put_pair.new.children.items c.args.k c.args.front c.args.back c.requires.within (omega (arith, c.if-len-lt-MOST.true, c.len.ensures, c.args.children.now.ok)) c.requires.children c.requires.front c.requires.back c.in_ok-put_pair.ensures.ok).0
 
-pub inners-requires-clause-children : goal.inners-requires-clause-children
-inners-requires-clause-children g c =
+pub returns-then-len-lt-MOST-clause-placing : goal.returns-then-len-lt-MOST-clause-placing
+returns-then-len-lt-MOST-clause-placing g c ys =
+    ((paired_placed c.args.height c.args.children.now.items c.put_pair.new.children.items c.args.k c.args.front c.args.back c.requires.within (omega (arith, c.if-len-lt-MOST.true, c.len.ensures, c.args.children.now.ok)) c.requires.children c.requires.front c.requires.back c.in_ok-put_pair.ensures.ok).1, refl)
+
+pub two_inners-requires-clause-children : goal.two_inners-requires-clause-children
+two_inners-requires-clause-children g c =
     let all : c.in_ok-all.all.items ≡ with_pair c.args.children.now.items c.args.k c.args.front (Some c.args.back) = c.in_ok-all.ensures ∙ ap (λ (ts : List (Seen _)). with_pair ts c.args.k c.args.front (Some c.args.back)) c.deref.ensures.value in
-    rw all (run_children c.args.height c.args.children.now.items c.args.k (c.args.k + 1) c.args.front (Some c.args.back) c.requires.children (both_children c.args.height c.args.front c.args.back c.requires.front c.requires.back))
+    rw all (run_children c.args.height c.args.children.now.items c.args.k (c.args.k + 1) c.args.front (Some c.args.back) c.requires.children.0 (both_children c.args.height c.args.front c.args.back c.requires.front c.requires.back))
 
-pub inners-requires-clause-least : goal.inners-requires-clause-least
-inners-requires-clause-least g c =
+pub two_inners-requires-clause-many : goal.two_inners-requires-clause-many
+two_inners-requires-clause-many g c =
     let all : c.in_ok-all.all.items ≡ with_pair c.args.children.now.items c.args.k c.args.front (Some c.args.back) = c.in_ok-all.ensures ∙ ap (λ (ts : List (Seen _)). with_pair ts c.args.k c.args.front (Some c.args.back)) c.deref.ensures.value in
-    omega (arith, ap length all, pair_length c.args.children.now.items c.args.k c.args.front (Some c.args.back) c.requires.within, c.requires.least)
+    omega (arith, ap length all, pair_length c.args.children.now.items c.args.k c.args.front (Some c.args.back) c.requires.within, c.if-len-lt-MOST.false, c.len.ensures, c.args.children.now.ok)
 
-pub inners-requires-clause-most : goal.inners-requires-clause-most
-inners-requires-clause-most g c =
+pub two_inners-requires-clause-most : goal.two_inners-requires-clause-most
+two_inners-requires-clause-most g c =
     let all : c.in_ok-all.all.items ≡ with_pair c.args.children.now.items c.args.k c.args.front (Some c.args.back) = c.in_ok-all.ensures ∙ ap (λ (ts : List (Seen _)). with_pair ts c.args.k c.args.front (Some c.args.back)) c.deref.ensures.value in
-    omega (arith, ap length all, pair_length c.args.children.now.items c.args.k c.args.front (Some c.args.back) c.requires.within, c.requires.most)
+    omega (arith, ap length all, pair_length c.args.children.now.items c.args.k c.args.front (Some c.args.back) c.requires.within, c.requires.children.2)
 
-pub inners-requires-clause-short : goal.inners-requires-clause-short
-inners-requires-clause-short g c =
+pub two_inners-requires-clause-short : goal.two_inners-requires-clause-short
+two_inners-requires-clause-short g c =
     let all : c.in_ok-all.all.items ≡ with_pair c.args.children.now.items c.args.k c.args.front (Some c.args.back) = c.in_ok-all.ensures ∙ ap (λ (ts : List (Seen _)). with_pair ts c.args.k c.args.front (Some c.args.back)) c.deref.ensures.value in
     rw all c.requires.short
 
-pub inners-requires-clause-fits : goal.inners-requires-clause-fits
-inners-requires-clause-fits g c =
+pub two_inners-requires-clause-fits : goal.two_inners-requires-clause-fits
+two_inners-requires-clause-fits g c =
     let all : c.in_ok-all.all.items ≡ with_pair c.args.children.now.items c.args.k c.args.front (Some c.args.back) = c.in_ok-all.ensures ∙ ap (λ (ts : List (Seen _)). with_pair ts c.args.k c.args.front (Some c.args.back)) c.deref.ensures.value in
     rw all c.requires.fits
-
-pub unreachable-requires : goal.unreachable-requires
-unreachable-requires g c =
-    let all : c.in_ok-all.all.items ≡ with_pair c.args.children.now.items c.args.k c.args.front (Some c.args.back) = c.in_ok-all.ensures ∙ ap (λ (ts : List (Seen _)). with_pair ts c.args.k c.args.front (Some c.args.back)) c.deref.ensures.value in
-    omega (arith, not_alone c.args.height (length c.in_ok-all.all.items) (joined c.in_ok-all.all.items) c.in_ok-front.field-0.0 c.in_ok-front.field-0.1 c.in_default-None.is-1 c.in_ok-front.ensures, ap length all, pair_length c.args.children.now.items c.args.k c.args.front (Some c.args.back) c.requires.within, c.if-len-lt-MOST.false, c.len.ensures, c.args.children.now.ok)

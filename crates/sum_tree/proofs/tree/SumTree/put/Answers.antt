@@ -3,6 +3,7 @@ use Rattle.sum_tree.specs.Laws.{fold}
 use Rattle.sum_tree.specs.Shape.{joined}
 use Rattle.sum_tree.specs.Grown.{pair_list}
 use Rattle.sum_tree.specs.Spliced.{spliced}
+use Rattle.sum_tree.specs.Around.{outer_sums}
 use Rattle.sum_tree.proofs.Opened.{pair-joined}
 use Rattle.sum_tree.proofs.Placeds.{placing_split}
 use Rattle.sum_tree.proofs.Pairs.{split_root}
@@ -23,7 +24,7 @@ root-requires-clause-pair g c =
     let x = fold g.T.Summary.Summary.empty g.T.Summary.Summary.op g.T.Item.sum_of xs in
     let a = c.in-Split.front in
     let b = c.in-Split.back in
-    let split = placing_split g.T.Summary.Summary.op c.in_ok-around.around.items x 0 xs ys s c.place_here.new.self _ a b _ c.in-Split.is c.in_ok-place_here.ensures in
+    let split = placing_split (outer_sums g.T.Summary.Summary.op c.in_ok-around.around.items x) 0 xs ys s c.place_here.new.self _ a b _ c.in-Split.is c.in_ok-place_here.ensures in
     split_root s.height 0 xs a b split.1
 
 pub root-requires-clause-short : goal.root-requires-clause-short
@@ -35,7 +36,7 @@ root-requires-clause-short g c =
     let x = fold g.T.Summary.Summary.empty g.T.Summary.Summary.op g.T.Item.sum_of xs in
     let a = c.in-Split.front in
     let b = c.in-Split.back in
-    let split = placing_split g.T.Summary.Summary.op c.in_ok-around.around.items x 0 xs ys s c.place_here.new.self _ a b _ c.in-Split.is c.in_ok-place_here.ensures in
+    let split = placing_split (outer_sums g.T.Summary.Summary.op c.in_ok-around.around.items x) 0 xs ys s c.place_here.new.self _ a b _ c.in-Split.is c.in_ok-place_here.ensures in
     let made : joined (pair_list a (Some b)) ≡ spliced c.args.from c.args.to ys s.items = pair-joined s.height 0 xs a (Some b) split.1 ∙ ap (λ (j : ℕ). spliced c.args.from j ys s.items) one in
     subst (λ (zs : List _). length zs ≤ 2 ^ 40) (sym made) c.requires.short
 
@@ -48,7 +49,7 @@ root-requires-clause-fits g c =
     let x = fold g.T.Summary.Summary.empty g.T.Summary.Summary.op g.T.Item.sum_of xs in
     let a = c.in-Split.front in
     let b = c.in-Split.back in
-    let split = placing_split g.T.Summary.Summary.op c.in_ok-around.around.items x 0 xs ys s c.place_here.new.self _ a b _ c.in-Split.is c.in_ok-place_here.ensures in
+    let split = placing_split (outer_sums g.T.Summary.Summary.op c.in_ok-around.around.items x) 0 xs ys s c.place_here.new.self _ a b _ c.in-Split.is c.in_ok-place_here.ensures in
     let made : joined (pair_list a (Some b)) ≡ spliced c.args.from c.args.to ys s.items = pair-joined s.height 0 xs a (Some b) split.1 ∙ ap (λ (j : ℕ). spliced c.args.from j ys s.items) one in
     subst (λ (zs : List _). g.T.Summary.Summary.fits (fold g.T.Summary.Summary.empty g.T.Summary.Summary.op g.T.Item.sum_of zs)) (sym made) c.requires.fits
 
@@ -61,6 +62,6 @@ returns-in-Split-clause-ok g c =
     let x = fold g.T.Summary.Summary.empty g.T.Summary.Summary.op g.T.Item.sum_of xs in
     let a = c.in-Split.front in
     let b = c.in-Split.back in
-    let split = placing_split g.T.Summary.Summary.op c.in_ok-around.around.items x 0 xs ys s c.place_here.new.self _ a b _ c.in-Split.is c.in_ok-place_here.ensures in
+    let split = placing_split (outer_sums g.T.Summary.Summary.op c.in_ok-around.around.items x) 0 xs ys s c.place_here.new.self _ a b _ c.in-Split.is c.in_ok-place_here.ensures in
     let made : joined (pair_list a (Some b)) ≡ spliced c.args.from c.args.to ys s.items = pair-joined s.height 0 xs a (Some b) split.1 ∙ ap (λ (j : ℕ). spliced c.args.from j ys s.items) one in
     rw (← made) (search rules)
