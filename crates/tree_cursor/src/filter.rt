@@ -100,12 +100,28 @@ impl<'a, T: Item, D: Dimension<'a, T::Summary>, K: Keep<T::Summary>> FilterCurso
         Ok(entry_item(halt.item))
     }
 
+    /// The index of the item that was given last: before the first `next` 0, and after None the number of all. Takes no
+    /// memory.
+    pub fn index(&self) -> u64
+        ensures { result ≡ self.now.given }
+    {
+        self.given
+    }
+
     /// The place at which the item starts that was given last: before the first `next` the place at which the first
     /// item starts, and after None the place at which all end. Takes no memory.
     pub fn start(&self) -> D
         ensures { D.plain result ≡ place_behind D.moved T.sum_of (D.plain self.now.from) (take self.now.given self.now.items) }
     {
         self.start
+    }
+
+    /// The place at which that item ends: before the first `next` the place at which the first item starts, and after
+    /// None the place at which all end. Takes no memory.
+    pub fn end(&self) -> D
+        ensures { D.plain result ≡ place_behind D.moved T.sum_of (D.plain self.now.from) (take self.now.next self.now.items) }
+    {
+        self.end
     }
 }
 

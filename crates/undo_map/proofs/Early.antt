@@ -1,9 +1,8 @@
 -- Where the counts of one edit stand.
 use Rattle.std.proofs.Common.{◌≡◌, ℕ, suc, ◌+◌, ◌<◌, ◌≤◌, max, Bool, true, false, cond, ◌&&◌, List, [], ◌∷◌, ◌++◌, length, take, drop, get_or, refl, sym, ap, ◌∙◌, subst, inl, inr, ◌⊎◌, Option, None, Some, arith, get_or-drop, length-drop, take-append-drop}
 use Rattle.std.proofs.lemmas.Bool.{cases_Bool, cases_lt, and_left, both_ways}
-use Rattle.std.proofs.lemmas.Cmp.{nat_cmp_total, on_total, then_total, alike_right}
+use Rattle.std.proofs.lemmas.Cmp.{alike_right}
 use Rattle.std.proofs.lemmas.List.{length-take-le, get_or-take, take_more}
-use Rattle.std.specs.Cmp.{IsTotalOrder}
 use Rattle.std.specs.Ordering.{ordering_then, is_lt, is_eq, is_gt}
 use Rattle.std.specs.declared.cmp.Ordering.{Ordering}
 use Rattle.std.specs.declared.cmp.Ordering.TheVariants.{Less, Equal, Greater}
@@ -12,11 +11,9 @@ use Rattle.lamport_clock.specs.Stamps.{same_stamp}
 use Rattle.lamport_clock.specs.Versions.{Entries, sees}
 use Rattle.lamport_clock.proofs.Order.{is_eq-same}
 use Rattle.undo_map.specs.declared.entry.UndoEntry.{UndoEntry}
+use Rattle.undo_map.specs.Keys.{stamp_order}
 use Rattle.undo_map.specs.Counts.{stamp_cmp, greatest, IsAscending, is_earlier, counts_for, is_seen}
 use Rattle.undo_map.proofs.Greatest.{greatest-append, greatest-cons, adds}
-
-pub ordered : IsTotalOrder stamp_cmp
-ordered = then_total (on_total (λ (s : Lamport). s.value) nat_cmp_total) (on_total (λ (s : Lamport). s.replica) nat_cmp_total)
 
 then_less : (a b : Ordering) → ordering_then a b ≡ Less → is_gt a ≡ false
 then_less Less b h = refl
@@ -28,8 +25,8 @@ earlier_still : (s u t : Lamport) → is_gt (stamp_cmp s u) ≡ false → is_lt 
 earlier_still s u t g l = go (stamp_cmp s u) (stamp_cmp u t) refl refl g l
   where
     go : (a b : Ordering) → stamp_cmp s u ≡ a → stamp_cmp u t ≡ b → is_gt a ≡ false → is_lt b ≡ true → is_lt (stamp_cmp s t) ≡ true
-    go Less Less p q g l = ap is_lt (ordered.trans s u t p q)
-    go Equal Less p q g l = ap is_lt (ordered.congr s u t p ∙ q)
+    go Less Less p q g l = ap is_lt (stamp_order.trans s u t p q)
+    go Equal Less p q g l = ap is_lt (stamp_order.congr s u t p ∙ q)
     go Greater b p q g l = cc
     go Less Equal p q g l = cc
     go Less Greater p q g l = cc
@@ -38,13 +35,6 @@ earlier_still s u t g l = go (stamp_cmp s u) (stamp_cmp u t) refl refl g l
 
 pub early_before : (w : List UndoEntry) (t : Lamport) (i j : ℕ) (d : UndoEntry) → IsAscending w → i < j → j < length w → is_earlier t (get_or w j d) ≡ true → is_earlier t (get_or w i d) ≡ true
 early_before w t i j d a l m h = earlier_still (get_or w i d).edit (get_or w j d).edit t (then_less _ _ (a i j d l m)) h
-
-pub early_step : (w : List UndoEntry) (t : Lamport) (m : ℕ) → IsAscending w → m < length w → ((d : UndoEntry) → is_earlier t (get_or w m d) ≡ true) → (k : ℕ) (d : UndoEntry) → k < m + 1 → is_earlier t (get_or w k d) ≡ true
-early_step w t m a l e k d h = go (cases_lt k m)
-  where
-    go : (k < m) ⊎ (m ≤ k) → is_earlier t (get_or w k d) ≡ true
-    go (inl s) = early_before w t k m d a s l (e d)
-    go (inr s) = subst (λ j. is_earlier t (get_or w j d) ≡ true) (let q : m ≡ k = omega arith in q) (e d)
 
 pub late_after : (w : List UndoEntry) (t : Lamport) (i j : ℕ) (d : UndoEntry) → IsAscending w → i ≤ j → j < length w → is_earlier t (get_or w i d) ≡ false → is_earlier t (get_or w j d) ≡ false
 late_after w t i j d a l m h = go (cases_Bool (is_earlier t (get_or w j d))) (cases_lt i j)
@@ -89,7 +79,7 @@ later_still s u t l e g = go (cases_Bool (is_eq (stamp_cmp u t)))
   where
     go : (is_eq (stamp_cmp u t) ≡ true) ⊎ (is_eq (stamp_cmp u t) ≡ false) → is_eq (stamp_cmp u t) ≡ false
     go (inr f) = f
-    go (inl q) = absurd (one_of_three (stamp_cmp s t) l e (ap is_gt (sym (alike_right ordered u t s (is_equal _ q))) ∙ g))
+    go (inl q) = absurd (one_of_three (stamp_cmp s t) l e (ap is_gt (sym (alike_right stamp_order u t s (is_equal _ q))) ∙ g))
 
 -- an entry that is neither earlier nor of the edit is later, and so are all behind it
 later_apart : (w : List UndoEntry) (t : Lamport) (at : Option Entries) (i k : ℕ) (d : UndoEntry) → IsAscending w → i ≤ k → k < length w → is_earlier t (get_or w i d) ≡ false → same_stamp (get_or w i d).edit t ≡ false → counts_for t at (get_or w k d) ≡ false

@@ -1,9 +1,8 @@
 -- One more count is kept.
 use Rattle.std.proofs.Common.{◌≡◌, ℕ, suc, ◌<◌, ◌≤◌, ◌^◌, max, Bool, true, false, cond, ◌&&◌, List, [], ◌∷◌, length, get_or, refl, sym, ap, ◌∙◌, inl, inr, ◌⊎◌, Option, None, Some, arith, length-append, ◌+◌, subst}
 use Rattle.std.proofs.lemmas.Bool.{cases_Bool}
-use Rattle.std.proofs.lemmas.Cmp.{on_total, then_total, alike_right}
+use Rattle.std.proofs.lemmas.Cmp.{alike_right}
 use Rattle.std.proofs.lemmas.Map.Lookups.{CmpEqualImpliesEq, exact_pairs, exact_unsigned}
-use Rattle.std.specs.Cmp.{IsTotalOrder}
 use Rattle.std.specs.List.{find}
 use Rattle.std.specs.Ordering.{is_eq, is_lt, is_gt, nat_cmp}
 use Rattle.std.specs.declared.cmp.Ordering.{Ordering}
@@ -12,17 +11,12 @@ use Rattle.sum_tree.specs.Keyed.{held, inserted, below, above}
 use Rattle.undo_map.specs.declared.entry.UndoKey.{UndoKey}
 use Rattle.undo_map.specs.declared.entry.UndoEntry.{UndoEntry}
 use Rattle.undo_map.specs.Counts.{key_of, key_cmp, greatest, IsAscending, count_at_key, with_count, stamp_cmp, counts_for}
-use Rattle.sum_tree.specs.Laws.{fold}
-use Rattle.sum_tree.specs.Count.{count_sum}
-use Rattle.tree_cursor.proofs.Counts.{fold_counts}
 use Rattle.lamport_clock.specs.declared.stamp.Lamport.{Lamport}
 use Rattle.lamport_clock.specs.Stamps.{same_stamp}
 use Rattle.lamport_clock.specs.Versions.{Entries, sees}
 use Rattle.undo_map.proofs.Greatest.{OfKeys, adds, greatest-with_count}
-use Rattle.undo_map.proofs.Early.{ordered, is_equal, none_counts}
-
-keys_ordered : IsTotalOrder key_cmp
-keys_ordered = then_total (on_total (λ (k : UndoKey). k.edit) ordered) (on_total (λ (k : UndoKey). k.by) ordered)
+use Rattle.undo_map.specs.Keys.{key_order}
+use Rattle.undo_map.proofs.Early.{is_equal, none_counts}
 
 -- the count of an entry, 0 where there is none
 abbrev pub count_in : Option UndoEntry → ℕ
@@ -37,7 +31,7 @@ apart k e f l q = go (cases_Bool (is_eq (key_cmp (key_of f) k)))
   where
     go : (is_eq (key_cmp (key_of f) k) ≡ true) ⊎ (is_eq (key_cmp (key_of f) k) ≡ false) → is_eq (key_cmp (key_of f) k) ≡ false
     go (inr n) = n
-    go (inl y) = let same : key_cmp (key_of e) (key_of f) ≡ Equal = alike_right keys_ordered (key_of f) k (key_of e) (is_equal _ y) ∙ is_equal _ q in let bad : Less ≡ Equal = sym l ∙ same in cc
+    go (inl y) = let same : key_cmp (key_of e) (key_of f) ≡ Equal = alike_right key_order (key_of f) k (key_of e) (is_equal _ y) ∙ is_equal _ q in let bad : Less ≡ Equal = sym l ∙ same in cc
 
 pub count_held : (w : List UndoEntry) (k : UndoKey) → IsAscending w → count_at_key k w ≡ count_in (held key_cmp key_of k w)
 count_held [] k a = refl
@@ -51,9 +45,6 @@ count_held (e ∷ w) k a =
 -- the entry that is put in
 pub set_in : (e : UndoEntry) (w u : List UndoEntry) (h x : ℕ) → w ≡ u → h ≡ count_at_key (key_of e) w → x ≡ max e.count h → inserted key_cmp key_of (record e { count = x }) w ≡ with_count e u
 set_in e w u h x v q r = ap (λ (y : ℕ). inserted key_cmp key_of (record e { count = y }) w) (r ∙ ap (max e.count) q) ∙ ap (with_count e) v
-
-pub counts_fit : (w : List UndoEntry) → length w ≤ 2 ^ 40 → (fold (record { items = 0 }) count_sum (λ (e : UndoEntry). record { items = 1 }) w).items < 2 ^ 64
-counts_fit w l = let e = fold_counts (λ (e : UndoEntry). record { items = 1 }) (λ e. refl) (record { items = 0 }) w in omega arith
 
 -- stamps and keys that compare alike are one
 exact_stamps : CmpEqualImpliesEq stamp_cmp

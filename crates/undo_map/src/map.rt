@@ -12,6 +12,7 @@ use lamport_clock::{Lamport, Version, is_same};
 use std::alloc::{AllocError, Global};
 use std::marker::Model;
 use sum_tree::SumTree;
+use tree_cursor::{Bias, Cursor, Greatest};
 
 /// Which undo gives which count to which edit. Contracts see it as the list of its entries, ascending by edit, then by
 /// undo.
@@ -84,15 +85,15 @@ impl UndoMap {
         Ok(())
     }
 
-    /// The greatest count that an undo gives an edit, 0 where none does. With n entries it looks at some log n nodes,
-    /// twice over, and at the counts of the edit.
+    /// The greatest count that an undo gives an edit, 0 where none does. One descent to the edit's first entry, and then
+    /// the edit's entries alone. It takes no memory.
     pub fn count(&self, edit: Lamport) -> u32
         ensures { result ≡ count_of self.now edit }
     {
         greatest(&self.entries, edit, None)
     }
 
-    /// The greatest count that an undo which the version sees gives an edit.
+    /// The greatest count that an undo which the version sees gives an edit. It looks where `count` does.
     pub fn count_at(&self, edit: Lamport, at: &Version) -> u32
         ensures { result ≡ count_seen self.now edit at.now }
     {
@@ -125,35 +126,31 @@ fn held(entries: &SumTree<UndoEntry>, key: UndoKey) -> u32
     }
 }
 
-// Whether entry i is of an earlier edit.
-fn is_early(entries: &SumTree<UndoEntry>, i: u64, edit: Lamport) -> bool
-    requires { i < length entries.now.items }
-    ensures { (d : UndoEntry) → result ≡ is_earlier edit (slice_index_or entries.now.items i d) }
-{
-    match entries.get(i) {
-        Some(entry) => entry.edit.cmp(&edit).is_lt(),
-        None => false,
-    }
-}
-
-// The number of entries of earlier edits, all of which stand at the front.
-fn early(entries: &SumTree<UndoEntry>, edit: Lamport) -> u64
+// A cursor on the first entry that is of no earlier edit. All entries of earlier ones stand before it.
+fn entries_from(
+    entries: &SumTree<UndoEntry>,
+    edit: Lamport,
+) -> Cursor<'_, UndoEntry, Greatest<UndoKey>>
     requires ascending { IsAscending entries.now.items }
-    ensures within { result ≤ length entries.now.items }
-    ensures early { (k : ℕ) (d : UndoEntry) → k < result → is_earlier edit (slice_index_or entries.now.items k d) ≡ true }
-    ensures late { (k : ℕ) (d : UndoEntry) → result ≤ k → k < length entries.now.items → is_earlier edit (slice_index_or entries.now.items k d) ≡ false }
+    ensures items { result.items ≡ entries.now.items }
+    ensures within { result.index ≤ length entries.now.items }
+    ensures early { (k : ℕ) (d : UndoEntry) → k < result.index → is_earlier edit (slice_index_or entries.now.items k d) ≡ true }
+    ensures late { (k : ℕ) (d : UndoEntry) → result.index ≤ k → k < length entries.now.items → is_earlier edit (slice_index_or entries.now.items k d) ≡ false }
 {
-    let mut from = 0;
-    let mut to = entries.len();
-    while from < to {
-        let middle = from + (to - from) / 2;
-        if is_early(entries, middle, edit) {
-            from = middle + 1;
-        } else {
-            to = middle;
-        }
-    }
-    from
+    let Ok(mut cursor) = Cursor::new(entries, Greatest { key: None }) else {
+        unreachable!()
+    };
+    let first = UndoKey {
+        edit,
+        by: Lamport {
+            value: 0,
+            replica: 0,
+        },
+    };
+    let Ok(()) = cursor.seek(&Greatest { key: Some(first) }, Bias::Left) else {
+        unreachable!()
+    };
+    cursor
 }
 
 // What an entry of the edit counts at the version.
@@ -172,14 +169,15 @@ fn greatest(entries: &SumTree<UndoEntry>, edit: Lamport, at: Option<&Version>) -
     ensures { result ≡ greatest (counts_for edit (option_copied at.entry)) entries.now.items }
 {
     let mut greatest = 0;
-    for i in early(entries, edit)..entries.len() {
-        let Some(entry) = entries.get(i) else {
-            return greatest;
-        };
+    let mut cursor = entries_from(entries, edit);
+    while let Some(entry) = cursor.item() {
         if !is_same(entry.edit, edit) {
             return greatest;
         }
         greatest = greatest.max(counted(entry, at));
+        let Ok(()) = cursor.next() else {
+            unreachable!()
+        };
     }
     greatest
 }

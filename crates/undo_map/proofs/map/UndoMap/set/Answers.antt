@@ -1,17 +1,12 @@
 use Rattle.std.proofs.Common.{◌∙◌, ◌≤◌, ◌^◌, subst, sym, length, Some, None}
 use Rattle.undo_map.specs.declared.entry.UndoEntry.{UndoEntry}
-use Rattle.undo_map.proofs.Setting.{set_in, counts_fit, counts_set, grown}
+use Rattle.undo_map.proofs.Setting.{set_in, counts_set, grown}
 use Rattle.undo_map.proofs.map.UndoMap.set.Goals as goal
 
 pub insert-requires-clause-short : goal.insert-requires-clause-short
 insert-requires-clause-short c =
     let e : UndoEntry = record { edit = c.args.edit; by = c.args.by; count = c.args.count } in
     subst (λ w. length w ≤ 2 ^ 40) (sym (set_in e _ _ _ _ c.self.view_is c.held-held.ensures c.max.ensures)) c.requires
-
-pub insert-requires-clause-fits : goal.insert-requires-clause-fits
-insert-requires-clause-fits c =
-    let e : UndoEntry = record { edit = c.args.edit; by = c.args.by; count = c.args.count } in
-    counts_fit _ (subst (λ w. length w ≤ 2 ^ 40) (sym (set_in e _ _ _ _ c.self.view_is c.held-held.ensures c.max.ensures)) c.requires)
 
 pub returns-clause-ok : goal.returns-clause-ok
 returns-clause-ok c =
