@@ -9,7 +9,7 @@ use std::alloc::{AllocError, Global};
 use std::marker::Model;
 
 /// How many stamps take no memory of their own.
-pub const INLINE_STAMPS: usize = 1;
+pub const INLINE_STAMPS: usize = 2;
 
 /// Stamps, the greatest first. Contracts see them as their list.
 ///
