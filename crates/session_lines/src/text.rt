@@ -1,11 +1,11 @@
 // The text of a report's line.
 ghost use Rattle.std.specs.Prelude.{◌≡◌, ◌++◌, string_bytes, OnOk, OnErr, IfOk};
 ghost use Rattle.json.specs.Print.{quoted};
-ghost use Rattle.session_lines.specs.Report.{made_line, settled_line, given_words, give_line, end_words, rows_words, counts_words, waits_words, replica_line, final_line, final_line_with, fault_words, op_fault_words, undo_fault_words, refused_line, refused_undo_line, unnamed_line, refused_op_line, checked_line, line_text};
+ghost use Rattle.session_lines.specs.Report.{made_line, settled_line, given_words, give_line, end_words, rows_words, text_line, counts_words, waits_words, replica_line, final_line, final_line_with, fault_words, op_fault_words, undo_fault_words, refused_line, refused_undo_line, unnamed_line, refused_op_line, checked_line, line_text};
 
 use crate::report::{Given, Report};
 use lamport_clock::Lamport;
-use op_model::{EditFault, OpFault, UndoFault, Unit};
+use op_model::{EditFault, OpFault, Text, UndoFault, Unit};
 use serde_json::Value;
 use std::alloc::{AllocError, Global};
 use std::fmt::Write;
@@ -155,6 +155,39 @@ fn push_rows(alloc: Global, out: &mut String, rows: u64, text: &str) -> Result<(
     write!(out, ", {rows} rows, {quoted}\n")
 }
 
+#[tactic(auto, unfolding(crate::specs::Report::text_line))]
+fn push_text(
+    alloc: Global,
+    out: &mut String,
+    r: u16,
+    bytes: u64,
+    row: u64,
+    column: u64,
+    rows: u64,
+    text: &Text,
+) -> Result<(), AllocError>
+    ensures { OnOk result (string_bytes out.new ≡ string_bytes out.old ++ text_line r bytes row column rows text.now) }
+{
+    write_end(out, r, bytes, row, column)?;
+    push_rows(alloc, out, rows, text.as_str())
+}
+
+#[tactic(auto, unfolding(crate::specs::Report::replica_line))]
+fn push_replica(
+    out: &mut String,
+    r: u16,
+    bytes: u64,
+    rows: u64,
+    applied: u64,
+    waiting: u64,
+    refused: u64,
+) -> Result<(), AllocError>
+    ensures { OnOk result (string_bytes out.new ≡ string_bytes out.old ++ replica_line r bytes rows applied waiting refused) }
+{
+    write_counts(out, r, bytes, rows, applied)?;
+    write_waits(out, waiting, refused)
+}
+
 // What is counted of a replica's text and of its operations.
 fn write_counts(
     out: &mut String,
@@ -221,7 +254,7 @@ fn write_final(out: &mut String, r: u16, quoted: &str) -> Result<(), AllocError>
     write!(out, "final {r}: {quoted}\n")
 }
 
-#[tactic(auto, unfolding(crate::specs::Report::line_text, crate::specs::Report::text_line, crate::specs::Report::replica_line))]
+#[tactic(auto, unfolding(crate::specs::Report::line_text))]
 fn push_line(alloc: Global, out: &mut String, line: &Report) -> Result<(), AllocError>
     ensures { OnOk result (string_bytes out.new ≡ string_bytes out.old ++ line_text line.now) }
 {
@@ -243,10 +276,7 @@ fn push_line(alloc: Global, out: &mut String, line: &Report) -> Result<(), Alloc
             column,
             rows,
             text,
-        } => {
-            write_end(out, *replica, *bytes, *row, *column)?;
-            push_rows(alloc, out, *rows, text.as_str())
-        }
+        } => push_text(alloc, out, *replica, *bytes, *row, *column, *rows, text),
         Report::Replica {
             replica,
             bytes,
@@ -254,11 +284,7 @@ fn push_line(alloc: Global, out: &mut String, line: &Report) -> Result<(), Alloc
             applied,
             waiting,
             refused,
-        } => {
-            write_counts(out, *replica, *bytes, *rows, *applied)?;
-            write_waits(out, *waiting, *refused)?;
-            Ok(())
-        }
+        } => push_replica(out, *replica, *bytes, *rows, *applied, *waiting, *refused),
         Report::Refused {
             replica,
             stamp,

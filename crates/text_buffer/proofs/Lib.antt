@@ -1,5 +1,5 @@
 pub mod Fit
-mod Crossing
+pub mod Crossing
 pub mod Edited
 pub mod Waiting
 pub mod Applied

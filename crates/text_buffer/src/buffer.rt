@@ -136,12 +136,23 @@ impl Buffer {
         ensures step { OnOk result (self.new ≡ after_call (Edits changes.now) self.old) }
         ensures refused { IfErr result (λ e. (self.new ≡ after_call (Edits changes.now) self.old) ⊎ (e ≡ EditFault.OutOfMemory)) }
     {
-        if let Some(fault) = self.fault(changes) {
-            return Err(fault);
+        match self.fault(changes) {
+            Some(fault) => Err(fault),
+            None => Ok(self.make_edit(changes)?),
         }
+    }
+
+    // Makes an edit that meets no fault.
+    fn make_edit(&mut self, changes: &[Piece]) -> Result<Operation, AllocError>
+        requires { edit_fault self.old changes.now ≡ None }
+        ensures made { IfOk result (λ op. op ≡ made self.old changes.now) }
+        ensures new { OnOk result (self.new ≡ edited self.old changes.now) }
+        ensures text { OnOk result (text self.new.history ≡ replaced changes.now (text self.old.history)) }
+        ensures err { OnErr result (self.new ≡ self.old) }
+    {
         let shown = replaced(self.alloc, self.document.text(), changes)?;
         let made = self.operation(changes)?;
-        let kept = self.operation(changes)?;
+        let kept = made.copy(self.alloc)?;
         self.document.apply_with(kept, shown)?;
         self.document.known();
         Ok(made)
@@ -209,10 +220,9 @@ impl Buffer {
     }
 
     // The operation of an edit that meets no fault.
-    fn operation(&self, changes: &[Piece]) -> Result<Operation, EditFault>
+    fn operation(&self, changes: &[Piece]) -> Result<Operation, AllocError>
         requires { edit_fault self.now changes.now ≡ None }
-        ensures made { IfOk result (λ op. op ≡ made self.now changes.now) }
-        ensures err { IfErr result (λ e. e ≡ EditFault.OutOfMemory) }
+        ensures { IfOk result (λ op. op ≡ made self.now changes.now) }
     {
         Ok(Operation::Edit(EditOp {
             stamp: self.next_stamp(),

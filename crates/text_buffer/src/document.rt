@@ -54,6 +54,14 @@ impl Model for Document {
     ghost invariant = { AreTold };
 }
 
+// What changes with an operation more, and takes time by the text.
+#[derive(Drop)]
+struct Parts {
+    undos: UndoMap,
+    cells: Cells,
+    text: Rope,
+}
+
 impl Document {
     /// The base alone. Linear in its text.
     pub fn over(alloc: Global, text: &str) -> Result<Document, AllocError>
@@ -191,7 +199,7 @@ impl Document {
             self.cells.as_slice(),
             cells.as_slice(),
         )?;
-        self.put(op, undos, cells, text)
+        self.put(op, Parts { undos, cells, text })
     }
 
     /// Puts an operation last that is good, where the text that is shown then is at hand.
@@ -204,7 +212,8 @@ impl Document {
     {
         let undos = self.undos_with(&op)?;
         let cells = self.cells_with(&op, &undos)?;
-        self.put(op, undos, cells, shown)
+        let text = shown;
+        self.put(op, Parts { undos, cells, text })
     }
 
     // The undo counts with an operation for which there is room.
@@ -239,32 +248,26 @@ impl Document {
         Ok(version)
     }
 
-    // Puts an operation last that is good, with the undo counts, the cells and the text that are then.
-    fn put(
-        &mut self,
-        op: Operation,
-        undos: UndoMap,
-        cells: Cells,
-        shown: Rope,
-    ) -> Result<(), AllocError>
+    // Puts an operation last that is good, with the parts that are then.
+    fn put(&mut self, op: Operation, parts: Parts) -> Result<(), AllocError>
         requires good { answer self.old [] op ≡ Good }
         requires room { HasRoom self.old op }
-        requires undos { undos ≡ undo_entries (self.old ++ op ∷ []) }
-        requires cells { cells ≡ kept_cells (self.old ++ op ∷ []) }
-        requires text { shown ≡ text (self.old ++ op ∷ []) }
+        requires undos { parts.undos ≡ undo_entries (self.old ++ op ∷ []) }
+        requires cells { parts.cells ≡ kept_cells (self.old ++ op ∷ []) }
+        requires text { parts.text ≡ text (self.old ++ op ∷ []) }
         ensures ok { OnOk result (self.new ≡ self.old ++ op ∷ []) }
         ensures err { OnErr result (self.new ≡ self.old) }
     {
         let stamp = op.stamp();
         let (bytes, entries) = size(&op);
         let version = Arc::new(self.alloc, self.version_with(stamp)?)?;
-        let cells = Arc::new(self.alloc, cells)?;
+        let cells = Arc::new(self.alloc, parts.cells)?;
         self.operations.push(self.alloc, op)?;
         self.clock = after(self.clock, stamp);
         self.version = version;
-        self.undos = undos;
+        self.undos = parts.undos;
         self.cells = cells;
-        self.text = shown;
+        self.text = parts.text;
         self.bytes += bytes as u64;
         self.entries += entries;
         Ok(())

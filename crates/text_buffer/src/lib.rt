@@ -13,7 +13,10 @@ mod undoing;
 
 pub use buffer::{Buffer, agree};
 pub use faults::NewFault;
-pub use op_model::{EditFault, Limits, OpFault, OutOfMemory, UndoFault, Unit};
+pub use op_model::{
+    Anchor, Bias, EditFault, Limits, OpFault, OutOfMemory, PlaceFault, SinceFault, TextEdit,
+    UndoFault, Unit,
+};
 pub use outcomes::{Refused, Took};
 pub use snapshot::{Snapshot, snapshots_agree, snapshots_append};
 

@@ -32,9 +32,19 @@ impl Buffer {
         ensures step { OnOk result (self.new ≡ after_call (Undoes edits.now) self.old) }
         ensures refused { IfErr result (λ e. (self.new ≡ after_call (Undoes edits.now) self.old) ⊎ (e ≡ UndoFault.OutOfMemory)) }
     {
-        if let Some(fault) = self.undo_fault(edits) {
-            return Err(fault);
+        match self.undo_fault(edits) {
+            Some(fault) => Err(fault),
+            None => Ok(self.make_undo(edits)?),
         }
+    }
+
+    // Makes an undo that meets no fault.
+    fn make_undo(&mut self, edits: &[Lamport]) -> Result<Operation, AllocError>
+        requires { undo_fault self.old edits.now ≡ None }
+        ensures made { IfOk result (λ op. op ≡ made_undo self.old edits.now) }
+        ensures new { OnOk result (self.new ≡ undone self.old edits.now) }
+        ensures err { OnErr result (self.new ≡ self.old) }
+    {
         let made = self.undo_operation(edits)?;
         let kept = made.copy(self.alloc)?;
         self.apply(kept)?;

@@ -39,9 +39,6 @@ same-self-in_err-version c = refl
 pub same-self-in_err-cells : goal.same-self-in_err-cells
 same-self-in_err-cells c = refl
 
-pub same-shown : goal.same-shown
-same-shown c = refl
-
 pub overflow_cast-self : goal.overflow_cast-self
 overflow_cast-self c = omega (arith, (stay_few c.self.inside c.args.self.now c.args.op c.size-bytes.result.0 c.size-bytes.result.1 c.self.invariant c.self.view_is c.requires.room c.size-bytes.ensures.bytes c.size-bytes.ensures.entries).0)
 
