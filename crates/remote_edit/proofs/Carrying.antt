@@ -1,0 +1,224 @@
+-- Moves carry bytes along with a walk over fragments.
+use Rattle.std.proofs.Common.{◌≡◌, ℕ, zero, suc, ◌+◌, ◌≤◌, ◌<◌, Bool, true, false, cond, not, List, [], ◌∷◌, ◌++◌, length, map, take, drop, get_or, refl, sym, ap, ◌∙◌, subst, arith, append_assoc, length-append, drop-cons, ◌-◌, append-nil, Option, Some, None}
+use Rattle.std.specs.List.{filter}
+use Rattle.std.proofs.lemmas.List.{drop-drop}
+use Rattle.lamport_clock.specs.declared.stamp.Lamport.{Lamport}
+use Rattle.op_model.specs.Cells.{Cell}
+use Rattle.op_model.specs.Facts.{Fact, alike}
+use Rattle.op_model.specs.Walked.{facts_of}
+use Rattle.op_model.proofs.Utf8Runs.{take_front, drop_front}
+use Rattle.fragments.specs.declared.fragment.Fragment.{Fragment}
+use Rattle.fragments.specs.Stand.{runs}
+use Rattle.fragments.specs.Laws.{shown_len}
+use Rattle.remote_edit.specs.declared.moves.Move.{Move}
+use Rattle.remote_edit.specs.declared.moves.Move.TheVariants.{Visible, Hidden, Insert}
+use Rattle.remote_edit.specs.Moves.{texts_of, followed_by, with_move, HaveMoved}
+use Rattle.remote_edit.specs.Walk.{front, back, new_fragment}
+use Rattle.lamport_clock.specs.Versions.{Entries}
+use Rattle.op_model.specs.Facts.{with_deletion}
+use Rattle.undo_map.specs.declared.entry.UndoEntry.{UndoEntry}
+use Rattle.remote_edit.specs.Marks.{was_shown, touch}
+use Rattle.remote_edit.specs.Carried.{CarryOn, move_for, shown_bytes, hidden_bytes, both_bytes, hidden_len, Carried}
+use Rattle.remote_edit.proofs.Stepping.{step, keep}
+
+-- two fragments have the same cells
+abbrev pub SameCells : Fragment → Fragment → Type 0
+SameCells f g = (g.stamp ≡ f.stamp) × (g.offset ≡ f.offset) × (g.len ≡ f.len)
+
+module _ (byte : Cell → ℕ) where
+  -- the bytes of n cells of an edit from k on
+  abbrev pub cell_bytes : Lamport → ℕ → ℕ → List ℕ
+  cell_bytes t k zero = []
+  cell_bytes t k (suc n) = byte (record { stamp = t; k = k }) ∷ cell_bytes t (suc k) n
+
+  abbrev pub bytes_of : Fragment → List ℕ
+  bytes_of f = cell_bytes f.stamp f.offset f.len
+
+  pub long : (t : Lamport) (k n : ℕ) → n ≡ length (cell_bytes t k n)
+  long t k zero = refl
+  long t k (suc n) = ap suc (long t (suc k) n)
+
+  -- the bytes of which p holds, by whether they are visible
+  abbrev picked : (Bool → Bool) → List Fact → List ℕ
+  picked p s = map (λ (q : Fact). byte q.cell) (filter (λ (q : Fact). p q.visible) s)
+
+  pick_alike : (p : Bool → Bool) (t : Lamport) (k n : ℕ) (v : Bool) (d : List Lamport) (s : List Fact) → picked p (alike t k n v d ++ s) ≡ cond (p v) (cell_bytes t k n ++ picked p s) (picked p s)
+  pick_alike p t k n v d s = go (p v) refl k n
+    where
+      go : (b : Bool) → p v ≡ b → (k n : ℕ) → picked p (alike t k n v d ++ s) ≡ cond b (cell_bytes t k n ++ picked p s) (picked p s)
+      go true e k zero = refl
+      go true e k (suc n) = rw e (ap (λ z. byte (record { stamp = t; k = k }) ∷ z) (go true e (suc k) n))
+      go false e k zero = refl
+      go false e k (suc n) = rw e (go false e (suc k) n)
+
+  pub shown_first : (f : Fragment) (fs : List Fragment) → shown_bytes byte (f ∷ fs) ≡ cond f.visible (bytes_of f ++ shown_bytes byte fs) (shown_bytes byte fs)
+  shown_first f fs = pick_alike (λ b. b) f.stamp f.offset f.len f.visible f.deletions (facts_of (runs fs))
+
+  pub hidden_first : (f : Fragment) (fs : List Fragment) → hidden_bytes byte (f ∷ fs) ≡ cond (not f.visible) (bytes_of f ++ hidden_bytes byte fs) (hidden_bytes byte fs)
+  hidden_first f fs = pick_alike not f.stamp f.offset f.len f.visible f.deletions (facts_of (runs fs))
+
+  parts : (b : Bool) (x y z : List ℕ) → cond b (x ++ (y ++ z)) (y ++ z) ≡ cond b (x ++ y) y ++ z
+  parts true x y z = sym (append_assoc x y z)
+  parts false x y z = refl
+
+  pub shown_append : (xs ys : List Fragment) → shown_bytes byte (xs ++ ys) ≡ shown_bytes byte xs ++ shown_bytes byte ys
+  shown_append [] ys = refl
+  shown_append (x ∷ xs) ys = shown_first x (xs ++ ys) ∙ ap (λ z. cond x.visible (bytes_of x ++ z) z) (shown_append xs ys)
+      ∙ parts x.visible (bytes_of x) (shown_bytes byte xs) (shown_bytes byte ys) ∙ ap (λ z. z ++ shown_bytes byte ys) (sym (shown_first x xs))
+
+  pub hidden_append : (xs ys : List Fragment) → hidden_bytes byte (xs ++ ys) ≡ hidden_bytes byte xs ++ hidden_bytes byte ys
+  hidden_append [] ys = refl
+  hidden_append (x ∷ xs) ys = hidden_first x (xs ++ ys) ∙ ap (λ z. cond (not x.visible) (bytes_of x ++ z) z) (hidden_append xs ys)
+      ∙ parts (not x.visible) (bytes_of x) (hidden_bytes byte xs) (hidden_bytes byte ys) ∙ ap (λ z. z ++ hidden_bytes byte ys) (sym (hidden_first x xs))
+
+  pub both_append : (xs ys : List Fragment) → both_bytes byte (xs ++ ys) ≡ followed_by (shown_bytes byte xs) (hidden_bytes byte xs) (both_bytes byte ys)
+  both_append xs ys = rw (shown_append xs ys, hidden_append xs ys) refl
+
+  -- a move behind others, where it takes what stands between pre and rest
+  pub one_move : {t : Lamport} {s h n : List ℕ} {ms : List Move} {pre rest : List Fragment} {k : ℕ} (m : Move) (gs rest2 : List Fragment) (j : ℕ)
+      → Carried byte t s h n ms pre rest k
+      → HaveMoved (shown_bytes byte rest) (hidden_bytes byte rest) (drop k n) (m ∷ []) (both_bytes byte gs) (both_bytes byte rest2) (drop j n)
+      → Carried byte t s h n (with_move ms m) (pre ++ gs) rest2 j
+  one_move {t} {s} {h} {n} {ms} {pre} {rest} {k} m gs rest2 j c a = record {
+    moves = rw (both_append pre gs) (step s h n ms (both_bytes byte pre) (both_bytes byte rest) (drop k n) m (both_bytes byte gs) (both_bytes byte rest2) (drop j n) c.moves a);
+    text = c.text;
+  }
+
+  taken : (f : Fragment) (x : List ℕ) → take f.len (bytes_of f ++ x) ≡ bytes_of f
+  taken f x = take_front (bytes_of f) x f.len (long f.stamp f.offset f.len)
+
+  left_of : (f : Fragment) (x : List ℕ) → drop f.len (bytes_of f ++ x) ≡ x
+  left_of f x = drop_front (bytes_of f) x f.len (long f.stamp f.offset f.len)
+
+  same_cells : (f g : Fragment) → SameCells f g → bytes_of g ≡ bytes_of f
+  same_cells f g e = rw (e.0, e.1, e.2) refl
+
+  -- f becomes g
+  becomes : (f g : Fragment) (rest : List Fragment) (x : List ℕ) → SameCells f g
+      → HaveMoved (shown_bytes byte (f ∷ rest)) (hidden_bytes byte (f ∷ rest)) x (move_for f.visible g.visible f.len ∷ []) (both_bytes byte (g ∷ [])) (both_bytes byte rest) x
+  becomes f g rest x e = rw (shown_first f rest, hidden_first f rest, shown_first g [], hidden_first g [], same_cells f g e) (go f.visible g.visible)
+    where
+      s : List ℕ
+      s = shown_bytes byte rest
+
+      h : List ℕ
+      h = hidden_bytes byte rest
+
+      b : List ℕ
+      b = bytes_of f
+
+      zero_more : (n : ℕ) → n + 0 ≡ n
+      zero_more n = omega arith
+
+      go : (was now : Bool) → HaveMoved (cond was (b ++ s) s) (cond (not was) (b ++ h) h) x (move_for was now f.len ∷ []) (texts_of (cond now (b ++ []) []) (cond (not now) (b ++ []) [])) (both_bytes byte rest) x
+      go true true = record { put = rw (taken f s) refl; left_shown = rw (zero_more f.len) (left_of f s); left_hidden = refl; news = refl }
+      go true false = record { put = rw (taken f s) refl; left_shown = rw (zero_more f.len) (left_of f s); left_hidden = refl; news = refl }
+      go false true = record { put = rw (taken f h) refl; left_shown = refl; left_hidden = rw (zero_more f.len) (left_of f h); news = refl }
+      go false false = record { put = rw (taken f h) refl; left_shown = refl; left_hidden = rw (zero_more f.len) (left_of f h); news = refl }
+
+  -- one fragment is put out, shown or hidden as it was or anew
+  pub carried_one : {t : Lamport} {s h n : List ℕ} {ms : List Move} {pre : List Fragment} (f g : Fragment) (rest : List Fragment) {k : ℕ}
+      → Carried byte t s h n ms pre (f ∷ rest) k → SameCells f g → Carried byte t s h n (with_move ms (move_for f.visible g.visible f.len)) (pre ++ g ∷ []) rest k
+  carried_one {t} {s} {h} {n} {ms} {pre} f g rest {k} c e = one_move (move_for f.visible g.visible f.len) (g ∷ []) rest k c (becomes f g rest (drop k n) e)
+
+  -- a stretch of fragments is passed
+  pub shown_long : (xs : List Fragment) → shown_len xs ≡ length (shown_bytes byte xs)
+  shown_long [] = refl
+  shown_long (x ∷ xs) = rw (shown_first x xs) (go x.visible (shown_long xs))
+    where
+      go : (b : Bool) → shown_len xs ≡ length (shown_bytes byte xs) → cond b (x.len + shown_len xs) (shown_len xs) ≡ length (cond b (bytes_of x ++ shown_bytes byte xs) (shown_bytes byte xs))
+      go true e = let a = length-append (bytes_of x) (shown_bytes byte xs) in let l = long x.stamp x.offset x.len in omega (arith, a, l, e)
+      go false e = e
+
+  hidden_long : (xs : List Fragment) → hidden_len xs ≡ length (hidden_bytes byte xs)
+  hidden_long [] = refl
+  hidden_long (x ∷ xs) = rw (hidden_first x xs) (go x.visible (hidden_long xs))
+    where
+      go : (b : Bool) → hidden_len xs ≡ length (hidden_bytes byte xs) → cond b (hidden_len xs) (x.len + hidden_len xs) ≡ length (cond (not b) (bytes_of x ++ hidden_bytes byte xs) (hidden_bytes byte xs))
+      go true e = e
+      go false e = let a = length-append (bytes_of x) (hidden_bytes byte xs) in let l = long x.stamp x.offset x.len in omega (arith, a, l, e)
+
+  pub carried_stretch : {t : Lamport} {s h n : List ℕ} {ms : List Move} {pre : List Fragment} (xs rest : List Fragment) {k : ℕ}
+      → Carried byte t s h n ms pre (xs ++ rest) k → Carried byte t s h n (with_move (with_move ms (Visible (shown_len xs))) (Hidden (hidden_len xs))) (pre ++ xs) rest k
+  carried_stretch {t} {s} {h} {n} {ms} {pre} xs rest {k} c = record {
+    moves = rw (both_append pre xs) (keep s h n ms (both_bytes byte pre) (shown_bytes byte xs) (shown_bytes byte rest) (hidden_bytes byte xs) (hidden_bytes byte rest) (drop k n)
+        (shown_len xs) (hidden_len xs) (shown_long xs) (hidden_long xs) (subst (λ z. HaveMoved s h n ms (both_bytes byte pre) z (drop k n)) (both_append xs rest) c.moves));
+    text = c.text;
+  }
+
+  text_from : (t : Lamport) (n : List ℕ) → ((j : ℕ) → byte (record { stamp = t; k = j }) ≡ get_or n j 0) → (k l : ℕ) → k + l ≤ length n → cell_bytes t k l ≡ take l (drop k n)
+  text_from t n e k zero h = refl
+  text_from t n e k (suc l) h = let i : k < length n = omega (arith, h) in rw (drop-cons n k 0, e k) (ap (λ z. get_or n k 0 ∷ z) (text_from t n e (suc k) l (omega (arith, h))))
+
+  -- new cells are put out
+  pub carried_new : {t : Lamport} {s h n : List ℕ} {ms : List Move} {pre : List Fragment} (rest : List Fragment) (k l : ℕ) (id : List ℕ)
+      → Carried byte t s h n ms pre rest k → k + l ≤ length n → Carried byte t s h n (with_move ms (Insert l)) (pre ++ new_fragment t k l id ∷ []) rest (k + l)
+  carried_new {t} {s} {h} {n} {ms} {pre} rest k l id c e = one_move (Insert l) (new_fragment t k l id ∷ []) rest (k + l) c (record {
+    put = rw (shown_first (new_fragment t k l id) [], hidden_first (new_fragment t k l id) [], text_from t n c.text k l e) refl;
+    left_shown = refl;
+    left_hidden = refl;
+    news = let z : l + 0 ≡ l = omega arith in rw z (drop-drop l k n);
+  })
+
+  cells_add : (t : Lamport) (k m n l : ℕ) → l ≡ m + n → cell_bytes t k l ≡ cell_bytes t k m ++ cell_bytes t (k + m) n
+  cells_add t k zero n l e = let i : k + 0 ≡ k = omega arith in let j : l ≡ n = omega (arith, e) in rw (i, j) refl
+  cells_add t k (suc m) n zero e = absurd (omega (arith, e))
+  cells_add t k (suc m) n (suc l) e = let i : k + suc m ≡ suc k + m = omega arith in rw i (ap (λ z. byte (record { stamp = t; k = k }) ∷ z) (cells_add t (suc k) m n l (omega (arith, e))))
+
+  twice : (b : Bool) (w x y z : List ℕ) → w ≡ x ++ y → cond b (w ++ z) z ≡ cond b (x ++ cond b (y ++ z) z) (cond b (y ++ z) z)
+  twice true w x y z e = rw e (append_assoc x y z)
+  twice false w x y z e = refl
+
+  split_shown : (f : Fragment) (rest : List Fragment) (m : ℕ) (id : List ℕ) → m ≤ f.len → shown_bytes byte (f ∷ rest) ≡ shown_bytes byte (front f m id ∷ back f m ∷ rest)
+  split_shown f rest m id e = rw (shown_first f rest, shown_first (front f m id) (back f m ∷ rest), shown_first (back f m) rest)
+      (twice f.visible (bytes_of f) (bytes_of (front f m id)) (bytes_of (back f m)) (shown_bytes byte rest) (cells_add f.stamp f.offset m (f.len - m) f.len (omega (arith, e))))
+
+  split_hidden : (f : Fragment) (rest : List Fragment) (m : ℕ) (id : List ℕ) → m ≤ f.len → hidden_bytes byte (f ∷ rest) ≡ hidden_bytes byte (front f m id ∷ back f m ∷ rest)
+  split_hidden f rest m id e = rw (hidden_first f rest, hidden_first (front f m id) (back f m ∷ rest), hidden_first (back f m) rest)
+      (twice (not f.visible) (bytes_of f) (bytes_of (front f m id)) (bytes_of (back f m)) (hidden_bytes byte rest) (cells_add f.stamp f.offset m (f.len - m) f.len (omega (arith, e))))
+
+  pub both_split : (f : Fragment) (rest : List Fragment) (m : ℕ) (id : List ℕ) → m ≤ f.len → both_bytes byte (f ∷ rest) ≡ both_bytes byte (front f m id ∷ back f m ∷ rest)
+  both_split f rest m id e = rw (split_shown f rest m id e, split_hidden f rest m id e) refl
+
+  -- a fragment is split
+  pub carried_split : {t : Lamport} {s h n : List ℕ} {ms : List Move} {pre : List Fragment} (f : Fragment) (rest : List Fragment) {k : ℕ} (m : ℕ) (id : List ℕ)
+      → Carried byte t s h n ms pre (f ∷ rest) k → m ≤ f.len → Carried byte t s h n ms pre (front f m id ∷ back f m ∷ rest) k
+  carried_split {t} {s} {h} {n} {ms} {pre} f rest {k} m id c e = record {
+    moves = subst (λ z. HaveMoved s h n ms (both_bytes byte pre) z (drop k n)) (both_split f rest m id e) c.moves;
+    text = c.text;
+  }
+
+-- ---- going on
+
+pub go_on : {t : Lamport} {ms ms2 ms3 : List Move} {pre rest pre2 rest2 pre3 rest3 : List Fragment} {k k2 k3 : ℕ} → k2 ≤ k3
+    → CarryOn t ms pre rest k ms2 pre2 rest2 k2 → CarryOn t ms2 pre2 rest2 k2 ms3 pre3 rest3 k3 → CarryOn t ms pre rest k ms3 pre3 rest3 k3
+go_on {k2 = k2} {k3 = k3} o a b byte s h n l c = b byte s h n l (a byte s h n (omega (arith, o, l)) c)
+
+pub stay : {t : Lamport} {ms : List Move} {pre rest : List Fragment} {k : ℕ} → CarryOn t ms pre rest k ms pre rest k
+stay byte s h n l c = c
+
+-- the cells of a fragment that is touched are those that it had
+pub touch_cells : (m : Option (List UndoEntry)) (t : Lamport) (v : Entries) (f : Fragment) → SameCells f (touch m t v f)
+touch_cells None t v f = (refl, refl, refl)
+touch_cells (Some w) t v f = elim (was_shown w v f.stamp f.deletions) as (λ b. SameCells f (cond b (record { id = f.id; stamp = f.stamp; offset = f.offset; len = f.len; visible = false; deletions = with_deletion t f.deletions; max_undos = f.max_undos }) f))
+    [ true ↦ (refl, refl, refl) | false ↦ (refl, refl, refl) ]
+
+pub on_one : {t : Lamport} {ms : List Move} {pre : List Fragment} (f g : Fragment) (rest : List Fragment) {k : ℕ} → SameCells f g
+    → CarryOn t ms pre (f ∷ rest) k (with_move ms (move_for f.visible g.visible f.len)) (pre ++ g ∷ []) rest k
+on_one f g rest e byte s h n l c = carried_one byte f g rest c e
+
+pub on_front : {t : Lamport} {ms : List Move} {pre : List Fragment} (f : Fragment) (rest : List Fragment) {k : ℕ} (i : ℕ) (id : List ℕ) (m : Option (List UndoEntry)) (u : Lamport) (v : Entries) → i ≤ f.len
+    → CarryOn t ms pre (f ∷ rest) k (with_move ms (move_for f.visible (touch m u v (front f i id)).visible i)) (pre ++ touch m u v (front f i id) ∷ []) (back f i ∷ rest) k
+on_front f rest i id m u v o byte s h n l c = carried_one byte (front f i id) (touch m u v (front f i id)) (back f i ∷ rest) (carried_split byte f rest i id c o) (touch_cells m u v (front f i id))
+
+pub on_stretch : {t : Lamport} {ms : List Move} {pre : List Fragment} (xs rest : List Fragment) {k : ℕ}
+    → CarryOn t ms pre (xs ++ rest) k (with_move (with_move ms (Visible (shown_len xs))) (Hidden (hidden_len xs))) (pre ++ xs) rest k
+on_stretch xs rest byte s h n l c = carried_stretch byte xs rest c
+
+pub on_last : {t : Lamport} {ms : List Move} {pre : List Fragment} (xs : List Fragment) {k : ℕ}
+    → CarryOn t ms pre xs k (with_move (with_move ms (Visible (shown_len xs))) (Hidden (hidden_len xs))) (pre ++ xs) [] k
+on_last {t} {ms} {pre} xs {k} byte s h n l c = carried_stretch byte xs [] (subst (λ z. Carried byte t s h n ms pre z k) (sym (append-nil xs)) c)
+
+pub on_new : {t : Lamport} {ms : List Move} {pre : List Fragment} (rest : List Fragment) (k i : ℕ) (id : List ℕ)
+    → CarryOn t ms pre rest k (with_move ms (Insert i)) (pre ++ new_fragment t k i id ∷ []) rest (k + i)
+on_new rest k i id byte s h n l c = carried_new byte rest k i id c l

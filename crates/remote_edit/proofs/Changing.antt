@@ -1,0 +1,147 @@
+-- A piece without range and text changes nothing that is told of the cells.
+use Rattle.std.proofs.Common.{◌≡◌, ℕ, zero, suc, ◌+◌, ◌-◌, ◌<◌, ◌≤◌, Bool, List, [], ◌∷◌, ◌++◌, length, map, refl, sym, ap, ◌∙◌, arith, subst, cond, ◌&&◌, ◌||◌, true, false, inl, inr, leb, ltb}
+use Rattle.std.proofs.lemmas.Bool.{cases_Bool, leb-true, le-ltb, ltb-false}
+use Rattle.std.specs.List.{filter}
+use Rattle.lamport_clock.specs.declared.stamp.Lamport.{Lamport}
+use Rattle.lamport_clock.specs.Stamps.{later}
+use Rattle.lamport_clock.specs.Versions.{sees}
+use Rattle.op_model.specs.declared.operation.Piece.{Piece}
+use Rattle.op_model.specs.declared.operation.Operation.{Operation}
+use Rattle.op_model.specs.Operations.{stamp_of, version_of, pieces_of}
+use Rattle.op_model.specs.Histories.{History, newest_first}
+use Rattle.op_model.specs.Cells.{Place, seq, seq_where, cells}
+use Rattle.op_model.specs.Laid.{only}
+use Rattle.op_model.specs.Shown.{in_pieces}
+use Rattle.op_model.specs.Answers.{answer}
+use Rattle.op_model.specs.Answers.Answer.{Good}
+use Rattle.op_model.specs.Lawful.{Lawful}
+use Rattle.op_model.specs.Sorted.{Each}
+use Rattle.op_model.specs.Facts.{Fact, fact, told, alike, Marking, lay_facts, marks, past_later, put_at, nth_kept}
+use Rattle.op_model.specs.Walked.{Run, facts_of, kept_len, Ordered, walk}
+use Rattle.op_model.proofs.Walking.{walk_lays}
+use Rattle.op_model.proofs.Counted.{good_ordered}
+use Rattle.op_model.proofs.PathOrder.{later_irrefl}
+use Rattle.op_model.proofs.Groups.{passed_unseen}
+use Rattle.op_model.proofs.Restricted.{restrict}
+use Rattle.op_model.proofs.OnePass.{not_self}
+use Rattle.op_model.proofs.OneMore.{Fits}
+use Rattle.op_model.proofs.Good.{lawful_ready, checked_of, fits_of}
+use Rattle.remote_edit.specs.Walk.{changes}
+
+-- the pieces that change something
+abbrev pub changing : List Piece → List Piece
+changing ps = filter changes ps
+
+-- ---- no text is laid in
+
+past_none : (t : Lamport) (s : List Fact) → past_later t [] s ≡ s
+past_none t [] = refl
+past_none t (q ∷ s) = elim (cases_Bool (later q.cell.stamp t)) [ inl e ↦ rw e (ap (λ (z : List Fact). q ∷ z) (past_none t s)) | inr e ↦ rw e refl ]
+
+put_none : (i : ℕ) (t : Lamport) (s : List Fact) → put_at i t [] s ≡ s
+put_none zero t s = past_none t s
+put_none (suc i) t [] = refl
+put_none (suc i) t (q ∷ s) = ap (λ (z : List Fact). q ∷ z) (put_none i t s)
+
+pub no_text : (p : Piece) → changes p ≡ false → length p.text ≡ 0
+no_text p e = go (ltb p.start p.end) (ltb 0 (length p.text)) e refl
+  where
+    go : (a b : Bool) → (a || b) ≡ false → ltb 0 (length p.text) ≡ b → length p.text ≡ 0
+    go true b e f = cc
+    go false true e f = cc
+    go false false e f = let k = ltb-false 0 (length p.text) f in omega arith
+
+no_range : (p : Piece) → changes p ≡ false → p.end ≤ p.start
+no_range p e = go (ltb p.start p.end) (ltb 0 (length p.text)) e refl
+  where
+    go : (a b : Bool) → (a || b) ≡ false → ltb p.start p.end ≡ a → p.end ≤ p.start
+    go true b e f = cc
+    go false b e f = ltb-false p.start p.end f
+
+lay_changing : (keep : Lamport → Bool) (t : Lamport) (at k : ℕ) (ps : List Piece) (s : List Fact) → lay_facts keep t at k (changing ps) s ≡ lay_facts keep t at k ps s
+lay_changing keep t at k [] s = refl
+lay_changing keep t at k (p ∷ ps) s = elim (cases_Bool (changes p)) [
+  | inl e ↦ rw e (ap (λ (r : List Fact). put_at (nth_kept keep r (p.start - at)) t (alike t k (length p.text) true []) r) (lay_changing keep t at (k + length p.text) ps s))
+  | inr e ↦ rw e (
+      let n = no_text p e in
+      let r : List Fact = lay_facts keep t at (k + length p.text) ps s in
+      let z : k ≡ k + length p.text = omega arith in
+      lay_changing keep t at k ps s ∙ ap (λ (j : ℕ). lay_facts keep t at j ps s) z ∙ sym (put_none (nth_kept keep r (p.start - at)) t r)
+      ∙ ap (λ (j : ℕ). put_at (nth_kept keep r (p.start - at)) t (alike t k j true []) r) (sym n))
+]
+
+-- ---- no cell is in its range
+
+outside : (i a z : ℕ) → z ≤ a → (leb a i && ltb i z) ≡ false
+outside i a z h = elim (cases_Bool (leb a i)) [ inl e ↦ (let k = leb-true a i e in rw e (le-ltb i z (omega arith))) | inr e ↦ rw e refl ]
+
+in_changing : (ps : List Piece) (i : ℕ) → in_pieces ps i ≡ in_pieces (changing ps) i
+in_changing [] i = refl
+in_changing (p ∷ ps) i = elim (cases_Bool (changes p)) [
+  | inl e ↦ rw e (ap (λ (b : Bool). (leb p.start i && ltb i p.end) || b) (in_changing ps i))
+  | inr e ↦ rw e (ap (λ (b : Bool). b || in_pieces ps i) (outside i p.start p.end (no_range p e)) ∙ in_changing ps i)
+]
+
+-- ---- the others stand in order
+
+ordered_down : (at from end : ℕ) (ps : List Piece) → at ≤ from → Ordered from end ps → Ordered at end ps
+ordered_down at from end [] h o = omega arith
+ordered_down at from end (p ∷ ps) h o = let k = o.0 in ((omega arith), o.1, o.2)
+
+ordered_changing : (at end : ℕ) (ps : List Piece) → Ordered at end ps → Ordered at end (changing ps)
+ordered_changing at end [] o = o
+ordered_changing at end (p ∷ ps) o = elim (cases_Bool (changes p)) [
+  | inl e ↦ rw e ((o.0, o.1, ordered_changing p.end end ps o.2))
+  | inr e ↦ rw e (ordered_changing at end ps (let k = o.0 in let l = o.1 in ordered_down at p.end end ps (omega arith) o.2))
+]
+
+-- ---- how many cells a version sees
+
+count_facts : (Lamport → Bool) → List Fact → ℕ
+count_facts keep [] = 0
+count_facts keep (q ∷ s) = cond (keep q.cell.stamp) (suc (count_facts keep s)) (count_facts keep s)
+
+count_alike : (keep : Lamport → Bool) (u : Lamport) (o n : ℕ) (v : Bool) (d : List Lamport) (s : List Fact)
+    → count_facts keep (alike u o n v d ++ s) ≡ cond (keep u) (n + count_facts keep s) (count_facts keep s)
+unfolding count_facts
+count_alike keep u o zero v d s = elim (cases_Bool (keep u)) [ inl k ↦ rw k (omega arith) | inr k ↦ rw k refl ]
+count_alike keep u o (suc n) v d s = let ih = count_alike keep u (suc o) n v d s in
+    elim (cases_Bool (keep u)) [ inl k ↦ (let g = rw k at ih in rw k (omega arith)) | inr k ↦ (let g = rw k at ih in rw k g) ]
+
+count_runs : (keep : Lamport → Bool) (rs : List Run) → count_facts keep (facts_of rs) ≡ kept_len keep rs
+unfolding count_facts
+count_runs keep [] = refl
+count_runs keep (r ∷ rs) = count_alike keep r.stamp r.offset r.len r.visible r.deletions (facts_of rs) ∙ rw (count_runs keep rs) refl
+
+count_places : (h : History) (keep : Lamport → Bool) (s : List Place) → count_facts keep (map (fact h) (cells s)) ≡ length (only keep s)
+unfolding count_facts
+count_places h keep [] = refl
+count_places h keep (q ∷ s) = elim (cases_Bool (keep q.cell.stamp)) [ inl k ↦ rw k (ap suc (count_places h keep s)) | inr k ↦ rw k (count_places h keep s) ]
+
+-- the cells of a history that the version of an operation sees
+pub count_seen : (h : History) (op : Operation) (rs : List Run) → Lawful h → answer h [] op ≡ Good → facts_of rs ≡ told h
+    → kept_len (sees (version_of op)) rs ≡ length (seq_where (sees (version_of op)) (newest_first h))
+unfolding seq
+count_seen h op rs l g s =
+    let v : Lamport → Bool = sees (version_of op) in
+    let k = checked_of h op g in
+    let f : Fits h op = fits_of h op (lawful_ready h l).0 k.0 k.1 in
+    sym (count_runs v rs) ∙ ap (count_facts v) s ∙ count_places h v (seq h) ∙ ap length (restrict v (newest_first h) f.closed)
+
+-- the walk with and without them
+pub walk_changing : (h : History) (op : Operation) (m : Marking) (rs : List Run) → Lawful h → answer h [] op ≡ Good → Each (λ (r : Run). 0 < r.len) rs → facts_of rs ≡ told h
+    → facts_of (walk m (sees (version_of op)) (stamp_of op) 0 0 (changing (pieces_of op)) rs) ≡ facts_of (walk m (sees (version_of op)) (stamp_of op) 0 0 (pieces_of op) rs)
+walk_changing h op m rs l g some s =
+    let v : Lamport → Bool = sees (version_of op) in
+    let ps : List Piece = pieces_of op in
+    let t : Lamport = stamp_of op in
+    let k = checked_of h op g in
+    let f : Fits h op = fits_of h op (lawful_ready h l).0 k.0 k.1 in
+    let n = count_seen h op rs l g s in
+    let o : Ordered 0 (0 + kept_len v rs) ps = subst (λ z. Ordered 0 z ps) (omega arith) (good_ordered h op g) in
+    let lays : (qs : List Piece) → Ordered 0 (0 + kept_len v rs) qs → ((j : ℕ) → in_pieces ps j ≡ in_pieces qs j)
+    → lay_facts v t 0 0 qs (marks m v (in_pieces ps) 0 (facts_of rs)) ≡ facts_of (walk m v t 0 0 qs rs)
+    = λ qs w i. walk_lays m v t (in_pieces ps) (not_self h op f) (later_irrefl t) (λ u. passed_unseen (version_of op) t u f.above) 0 0 qs rs some w (λ j x. i j) in
+    sym (lays (changing ps) (ordered_changing 0 (0 + kept_len v rs) ps o) (in_changing ps))
+    ∙ lay_changing v t 0 0 ps (marks m v (in_pieces ps) 0 (facts_of rs))
+    ∙ lays ps o (λ j. refl)

@@ -1,0 +1,60 @@
+-- A local edit without fault has its ranges in the text, and the operation with full ranges is the one that is made.
+use Rattle.std.proofs.Common.{◌≡◌, ℕ, ◌+◌, ◌≤◌, false, List, [], ◌∷◌, length, map, Option, None, refl, sym, ap, ◌∙◌, arith}
+use Rattle.std.proofs.lemmas.Bool.{ltb-false}
+use Rattle.std.specs.Prelude.{nat_lt, ◌==◌, option_map}
+use Rattle.std.specs.List.{position}
+use Rattle.lamport_clock.specs.declared.stamp.Lamport.{Lamport}
+use Rattle.lamport_clock.specs.Versions.{Entries}
+use Rattle.op_model.specs.declared.operation.Piece.{Piece}
+use Rattle.op_model.specs.declared.operation.Operation.TheVariants.{Edit}
+use Rattle.op_model.specs.declared.limits.Limits.{Limits as LimitsType}
+use Rattle.op_model.specs.declared.faults.EditFault.TheVariants.{Reversed, Overlap, PastEnd, InsideChar, TextLimit, ClockEnd, Full}
+use Rattle.op_model.specs.Choice.{first_of, when}
+use Rattle.op_model.specs.Sorted.{Each}
+use Rattle.op_model.specs.Operations.{text_total}
+use Rattle.op_model.specs.Histories.{History, version, clock}
+use Rattle.op_model.specs.Shown.{text}
+use Rattle.op_model.specs.Edits.{is_reversed, is_past, is_inside, overlap_from, piece_fault}
+use Rattle.op_model.specs.Limited.{excess}
+use Rattle.op_model.specs.Made.{made, full_piece, local_edit_fault}
+use Rattle.op_model.proofs.Passed.{first_none, map_none, position_none}
+use Rattle.op_model.proofs.WholeTexts.{byte_of}
+use Rattle.fragments.specs.declared.fragment.Fragment.{Fragment}
+use Rattle.fragments.specs.Stand.{Tell}
+use Rattle.fragments.specs.Laws.{shown_len}
+use Rattle.remote_edit.specs.Offsets.{IsInText}
+use Rattle.remote_edit.proofs.Carrying.{shown_long}
+use Rattle.remote_edit.proofs.Texts.{text_bytes}
+
+text_long : (h : History) (fs : List Fragment) → Tell fs h → length (text h) ≡ shown_len fs
+text_long h fs e = sym (shown_long (byte_of h) fs ∙ ap length (text_bytes h fs e))
+
+ranges_in : (fs : List Fragment) (n : ℕ) (ps : List Piece) → n ≡ shown_len fs → Each (λ (p : Piece). is_reversed p ≡ false) ps → Each (λ (p : Piece). is_past n p ≡ false) ps → Each (IsInText fs) ps
+ranges_in fs n [] q a b = tt
+ranges_in fs n (p ∷ ps) q a b =
+    let f : p.start ≤ p.end = ltb-false p.end p.start a.0 in
+    let w : p.end ≤ n = ltb-false n p.end b.0 in
+    (record { forward = f; within = omega (arith, w, q) }, ranges_in fs n ps q a.1 b.1)
+
+two_none : {A : Type 0} (a b c d : Option A) → first_of (a ∷ b ∷ c ∷ d ∷ []) ≡ None → (a ≡ None) × (c ≡ None)
+two_none a b c d e =
+    let x = first_none a (b ∷ c ∷ d ∷ []) e in
+    let y = first_none b (c ∷ d ∷ []) x.1 in
+    let z = first_none c (d ∷ []) y.1 in (x.0, z.0)
+
+pub in_text : (l : LimitsType) (h : History) (fs : List Fragment) (ps : List Piece) → Tell fs h → local_edit_fault l h ps ≡ None → Each (IsInText fs) ps
+in_text l h fs ps e g =
+    let n : ℕ = length (text h) in
+    let a = first_none (piece_fault (text h) ps) (when (nat_lt 65536 (text_total ps)) (TextLimit (text_total ps)) ∷ when (clock h == 4294967295) ClockEnd
+    ∷ option_map (λ x. Full x.unit x.held x.adds) (excess l h (text_total ps) (1 + length ps)) ∷ []) g in
+    let b = two_none (option_map Reversed (position is_reversed ps)) (option_map Overlap (overlap_from 0 0 ps)) (option_map (λ i. PastEnd i n) (position (is_past n) ps)) (option_map InsideChar (position (is_inside (text h)) ps)) a.0 in
+    ranges_in fs n ps (text_long h fs e) (position_none is_reversed ps (map_none Reversed (position is_reversed ps) b.0)) (position_none (is_past n) ps (map_none (λ i. PastEnd i n) (position (is_past n) ps) b.1))
+
+pub made_is : (h : History) (stamp : Lamport) (ps qs : List Piece) (v : Entries) → stamp.value ≡ clock h → v ≡ version h → qs ≡ map (full_piece h) ps
+    → Edit (record { stamp = stamp; version = v; pieces = qs }) ≡ made h stamp.replica ps
+unfolding made
+made_is h stamp ps qs v e f g = rw (f, g, ← e) refl
+
+pub same_total : (h : History) (ps : List Piece) → text_total (map (full_piece h) ps) ≡ text_total ps
+same_total h [] = refl
+same_total h (p ∷ ps) = ap (λ n. length p.text + n) (same_total h ps)

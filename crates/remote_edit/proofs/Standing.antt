@@ -1,0 +1,103 @@
+-- What stands for a history in which an edit is good: there is room for the walk, and an index to begin with.
+use Rattle.std.proofs.Common.{◌≡◌, ℕ, zero, suc, ◌+◌, ◌<◌, ◌≤◌, ◌^◌, Bool, false, List, [], ◌∷◌, ◌++◌, length, map, refl, sym, ap, ◌∙◌, arith, subst, inl, inr}
+use Rattle.std.proofs.lemmas.Bool.{cases_Bool}
+use Rattle.std.proofs.lemmas.List.{length-map, length-append}
+use Rattle.lamport_clock.specs.declared.stamp.Lamport.{Lamport}
+use Rattle.lamport_clock.specs.Stamps.{same_stamp}
+use Rattle.lamport_clock.specs.Versions.{sees}
+use Rattle.locators.specs.Locator.{least_digits}
+use Rattle.op_model.specs.declared.operation.Operation.{Operation}
+use Rattle.op_model.specs.Operations.{stamp_of, version_of, pieces_of, text_total}
+use Rattle.op_model.specs.Histories.{History, newest_first}
+use Rattle.op_model.specs.Cells.{Cell, Place, seq, cells, everything}
+use Rattle.op_model.specs.Shown.{new_bytes, IsCell, full}
+use Rattle.op_model.specs.Answers.{answer}
+use Rattle.op_model.specs.Answers.Answer.{Good}
+use Rattle.op_model.specs.Lawful.{Lawful}
+use Rattle.op_model.specs.Sorted.{Each, Member}
+use Rattle.op_model.specs.Facts.{Fact, fact, alike}
+use Rattle.op_model.specs.Walked.{facts_of}
+use Rattle.op_model.proofs.CellsOnce.{all_cells}
+use Rattle.op_model.proofs.PathOrder.{same_stamp_eq}
+use Rattle.op_model.proofs.OnePass.{not_self}
+use Rattle.op_model.proofs.Good.{lawful_ready, checked_of, fits_of, full_length}
+use Rattle.undo_map.specs.declared.entry.UndoEntry.{UndoEntry}
+use Rattle.fragments.specs.declared.fragment.Fragment.{Fragment}
+use Rattle.fragments.specs.declared.index_entry.IndexEntry.{IndexEntry}
+use Rattle.fragments.specs.Stand.{Stand, Tell, IsFilled, runs}
+use Rattle.fragments.proofs.Founds.{index_finds_fragments}
+use Rattle.remote_edit.specs.Walk.{bytes, Fit}
+use Rattle.remote_edit.specs.Indexes.{EndsBefore, IsIndexed}
+use Rattle.remote_edit.specs.Placing.{MayPlace}
+use Rattle.remote_edit.proofs.Indexing.{apart_start}
+
+-- ---- how many cells
+
+length_alike : (t : Lamport) (k n : ℕ) (v : Bool) (d : List Lamport) → length (alike t k n v d) ≡ n
+length_alike t k zero v d = refl
+length_alike t k (suc n) v d = ap suc (length_alike t (suc k) n v d)
+
+length_facts : (fs : List Fragment) → length (facts_of (runs fs)) ≡ bytes fs
+length_facts [] = refl
+length_facts (f ∷ fs) =
+    let a = length-append (alike f.stamp f.offset f.len f.visible f.deletions) (facts_of (runs fs)) in
+    let b = length_alike f.stamp f.offset f.len f.visible f.deletions in
+    let ih = length_facts fs in omega arith
+
+length_cells : (s : List Place) → length (cells s) ≡ length s
+length_cells s = length-map s (λ (p : Place). p.cell)
+
+pub bytes_told : (fs : List Fragment) (h : History) → Tell fs h → bytes fs ≡ length (full h)
+unfolding full seq
+bytes_told fs h e = sym (length_facts fs) ∙ ap length e ∙ length-map (cells (seq h)) (fact h) ∙ length_cells (seq h) ∙ sym (full_length everything (newest_first h))
+
+-- ---- an edit's stamp is new
+
+no_bytes : (h : History) (t : Lamport) → Each (λ (o : Operation). stamp_of o ≡ t → ⊥) h → new_bytes h t ≡ []
+no_bytes [] t n = refl
+no_bytes (o ∷ h) t n = elim (cases_Bool (same_stamp (stamp_of o) t)) [ inl e ↦ absurd (n.0 (same_stamp_eq (stamp_of o) t e)) | inr e ↦ rw e (no_bytes h t n.1) ]
+
+abbrev cell_at : Lamport → ℕ → Cell
+cell_at t k = record { stamp = t; k = k }
+
+cell_in : (n : ℕ) (t : Lamport) (k : ℕ) (v : Bool) (d : List Lamport) (s : List Fact) → 0 < n → Member (cell_at t k) (map (λ (q : Fact). q.cell) (alike t k n v d ++ s))
+cell_in zero t k v d s h = absurd (omega arith)
+cell_in (suc n) t k v d s h = inl refl
+
+told_cells : (h : History) (s : List Cell) → map (λ (q : Fact). q.cell) (map (fact h) s) ≡ s
+told_cells h [] = refl
+told_cells h (c ∷ s) = ap (λ z. c ∷ z) (told_cells h s)
+
+in_more : (c : Cell) (a s : List Fact) → Member c (map (λ (q : Fact). q.cell) s) → Member c (map (λ (q : Fact). q.cell) (a ++ s))
+in_more c [] s m = m
+in_more c (x ∷ a) s m = inr (in_more c a s m)
+
+all_new : (h : History) (op : Operation) → Lawful h → Each (λ (o : Operation). stamp_of o ≡ stamp_of op → ⊥) h → (fs : List Fragment) → Each IsFilled fs
+    → ((c : Cell) → Member c (map (λ (q : Fact). q.cell) (facts_of (runs fs))) → IsCell h c) → Each (EndsBefore (stamp_of op) 0) fs
+all_new h op l n [] fl m = tt
+all_new h op l n (f ∷ fs) fl m = (
+  λ e. (let c = m (cell_at f.stamp f.offset) (cell_in f.len f.stamp f.offset f.visible f.deletions (facts_of (runs fs)) fl.0.0) in
+      let z : length (new_bytes h f.stamp) ≡ 0 = ap (λ (t : Lamport). length (new_bytes h t)) e ∙ ap length (no_bytes h (stamp_of op) n) in
+      absurd (omega arith)),
+  all_new h op l n fs fl.1 (λ c k. m c (in_more c (alike f.stamp f.offset f.len f.visible f.deletions) (facts_of (runs fs)) k)),
+)
+
+-- ---- before the walk
+
+pub indexed_start : (fs : List Fragment) (w : List IndexEntry) (u : List UndoEntry) (h : History) (op : Operation) → Stand fs w u h → Lawful h → answer h [] op ≡ Good → IsIndexed (stamp_of op) 0 fs w
+indexed_start fs w u h op s l g = record {
+  ascending = s.ascending;
+  entries = s.index;
+  apart = apart_start least_digits fs w s.ids s.filled (index_finds_fragments fs w u h l s).0;
+  before = all_new h op l (checked_of h op g).0.new fs s.filled
+      (λ c m. (all_cells h (lawful_ready h l).0.distinct c).0 (subst (Member c) (ap (map (λ (q : Fact). q.cell)) s.cells ∙ told_cells h (cells (seq h))) m));
+}
+
+pub unseen_self : (h : History) (op : Operation) → Lawful h → answer h [] op ≡ Good → sees (version_of op) (stamp_of op) ≡ false
+unseen_self h op l g = let k = checked_of h op g in not_self h op (fits_of h op (lawful_ready h l).0 k.0 k.1)
+
+pub fit_start : (fs : List Fragment) (w : List IndexEntry) (u : List UndoEntry) (op : Operation) → MayPlace fs w u op → Fit fs × (bytes fs + text_total (pieces_of op) ≤ 2 ^ 40)
+fit_start fs w u op m =
+    let b = bytes_told fs m.history m.stands.cells in
+    let r = m.room in
+    ((m.stands.filled, (omega arith)), (omega arith))

@@ -1,0 +1,208 @@
+-- Fragments where an undo counts edits stand for the history with the undo.
+use Rattle.std.proofs.Common.{◌≡◌, ℕ, zero, suc, ◌%◌, ◌<◌, ◌⊎◌, ◌↔◌, max, eqb, Bool, true, false, List, [], ◌∷◌, ◌++◌, map, refl, sym, ap, ◌∙◌, arith, subst, inl, inr}
+use Rattle.std.proofs.lemmas.Bool.{cases_Bool}
+use Rattle.std.specs.List.{list_any, list_all}
+use Rattle.lamport_clock.specs.declared.stamp.Lamport.{Lamport}
+use Rattle.lamport_clock.specs.Stamps.{same_stamp}
+use Rattle.lamport_clock.specs.Versions.{raise, sees}
+use Rattle.locators.specs.Locator.{least_digits}
+use Rattle.op_model.specs.declared.operation.Operation.{Operation}
+use Rattle.op_model.specs.declared.operation.UndoCount.{UndoCount}
+use Rattle.op_model.specs.declared.operation.UndoOp.{UndoOp}
+use Rattle.op_model.specs.declared.operation.Operation.TheVariants.{Undo}
+use Rattle.op_model.specs.Sorted.{Each, Member}
+use Rattle.op_model.specs.Operations.{stamp_of, counts_of, is_edit}
+use Rattle.op_model.specs.Histories.{History, In, newest_first}
+use Rattle.op_model.specs.Cells.{Cell, Place, cells, seq}
+use Rattle.op_model.specs.Shown.{given, count, undone, all_undone, deleters, shown, shown_where}
+use Rattle.op_model.specs.Answers.{answer}
+use Rattle.op_model.specs.Answers.Answer.{Good}
+use Rattle.op_model.specs.Lawful.{Lawful}
+use Rattle.op_model.specs.Facts.{Fact, fact, alike, seen_by}
+use Rattle.op_model.specs.Walked.{Run, run_facts, facts_of}
+use Rattle.op_model.proofs.Deleters.{kept_all}
+use Rattle.op_model.proofs.OnePass.{undone_newest, all_newest}
+use Rattle.op_model.proofs.MainLaws.{undo_is_told}
+use Rattle.op_model.proofs.PathOrder.{same_stamp_refl}
+use Rattle.undo_map.specs.declared.entry.UndoEntry.{UndoEntry}
+use Rattle.undo_map.specs.Counts.{count_of, is_odd}
+use Rattle.undo_map.specs.Undos.{undo_entries}
+use Rattle.undo_map.proofs.Entries.{undone_kept}
+use Rattle.fragments.specs.declared.fragment.Fragment.{Fragment}
+use Rattle.fragments.specs.declared.index_entry.IndexEntry.{IndexEntry}
+use Rattle.fragments.specs.Stand.{run_of, runs, Tell, IsFilled, Rise, entry_of, SeesUndos, Stand}
+use Rattle.remote_edit.specs.Marks.{is_shown}
+use Rattle.remote_edit.specs.Anew.{concerns, counted, anew, all_anew, Counts}
+use Rattle.remote_edit.specs.SeesLaws.{raise_sees, sees_raise, any_member}
+
+-- ---- what is told of a cell is told by the counts
+
+shown_seen : (h : History) (c : Cell) → shown h c ≡ seen_by h c.stamp (deleters h c)
+unfolding shown shown_where
+shown_seen h c = rw (kept_all (newest_first h), undone_newest h c.stamp, all_newest h (deleters h c)) refl
+
+abbrev ByCounts : History → Fact → Type 0
+ByCounts h q = q.visible ≡ seen_by h q.cell.stamp q.deletions
+
+told_by_counts : (h : History) (s : List Place) → Each (ByCounts h) (map (fact h) (cells s))
+told_by_counts h [] = tt
+told_by_counts h (p ∷ s) = (shown_seen h p.cell, told_by_counts h s)
+
+abbrev pub IsByCounts : History → Fragment → Type 0
+IsByCounts h f = f.visible ≡ seen_by h f.stamp f.deletions
+
+each_right : {A : Type 0} (P : A → Type 0) (xs ys : List A) → Each P (xs ++ ys) → Each P ys
+each_right P [] ys e = e
+each_right P (x ∷ xs) ys e = each_right P xs ys e.1
+
+first_told : (h : History) (t : Lamport) (k n : ℕ) (v : Bool) (d : List Lamport) (s : List Fact) → 0 < n → Each (ByCounts h) (alike t k n v d ++ s) → v ≡ seen_by h t d
+first_told h t k zero v d s l e = absurd (omega arith)
+first_told h t k (suc n) v d s l e = e.0
+
+by_counts : (h : History) (fs : List Fragment) → Each IsFilled fs → Each (ByCounts h) (facts_of (runs fs)) → Each (IsByCounts h) fs
+by_counts h [] l e = tt
+by_counts h (f ∷ fs) l e = (
+  first_told h f.stamp f.offset f.len f.visible f.deletions (facts_of (runs fs)) l.0.0 e,
+  by_counts h fs l.1 (each_right (ByCounts h) (run_facts (run_of f)) (facts_of (runs fs)) e),
+)
+
+-- ---- counts with an undo more
+
+count_more : (h : History) (op : Operation) (t : Lamport) → count (h ++ op ∷ []) t ≡ max (count h t) (given (counts_of op) t)
+count_more [] op t = omega arith
+count_more (o ∷ h) op t = let ih = count_more h op t in omega arith
+
+given_none : (cs : List UndoCount) (t : Lamport) → ((c : UndoCount) → Member c cs → same_stamp c.edit t ≡ false) → given cs t ≡ 0
+given_none [] t f = refl
+given_none (c ∷ cs) t f = rw (f c (inl refl)) (given_none cs t (λ d m. f d (inr m)))
+
+undone_same : (h : History) (op : Operation) (t : Lamport) → ((c : UndoCount) → Member c (counts_of op) → same_stamp c.edit t ≡ false) → undone (h ++ op ∷ []) t ≡ undone h t
+undone_same h op t f =
+    let z = given_none (counts_of op) t f in
+    let e : count (h ++ op ∷ []) t ≡ count h t = count_more h op t ∙ ap (max (count h t)) z ∙ omega arith in
+    ap (λ (n : ℕ). eqb (n % 2) 1) e
+
+all_same : (h : History) (op : Operation) (d : List Lamport) → ((c : UndoCount) (t : Lamport) → Member c (counts_of op) → Member t d → same_stamp c.edit t ≡ false) → all_undone (h ++ op ∷ []) d ≡ all_undone h d
+all_same h op [] f = refl
+all_same h op (t ∷ d) f = rw (undone_same h op t (λ c m. f c t m (inl refl)), all_same h op d (λ c s m n. f c s m (inr n))) refl
+
+-- ---- is_shown is the history's
+
+shown_kept : (h : History) (u : Lamport) (d : List Lamport) → is_shown (undo_entries h) u d ≡ seen_by h u d
+shown_kept h u d = rw (undone_kept h u, all d) refl
+  where
+    all : (d : List Lamport) → list_all (λ t. is_odd (count_of (undo_entries h) t)) d ≡ all_undone h d
+    all [] = refl
+    all (x ∷ d) = rw (undone_kept h x, all d) refl
+
+module _ (h : History) (op : Operation) (w : List UndoEntry) (ts : List Lamport) (lawful : Lawful h) (good : answer h [] op ≡ Good) (undo : is_edit op ≡ false)
+    (now : w ≡ undo_entries (h ++ op ∷ [])) (all : Counts op ts) where
+  abbrev next : History
+  next = h ++ op ∷ []
+
+  abbrev m : Fragment → Fragment
+  m = anew w (stamp_of op) ts
+
+  -- a fragment that no edit of the list concerns is not counted
+  uncounted : (f : Fragment) → list_any (concerns f) ts ≡ false → (c : UndoCount) (t : Lamport) → Member c (counts_of op) → Member t (f.stamp ∷ f.deletions) → same_stamp c.edit t ≡ false
+  uncounted f n c t i j = elim (cases_Bool (same_stamp c.edit t)) [
+    | inl e ↦ (let k : concerns f c.edit ≡ true = any_member (same_stamp c.edit) (f.stamp ∷ f.deletions) t j e in
+        let g : list_any (concerns f) ts ≡ true = any_member (concerns f) ts c.edit (all c i) k in cc)
+    | inr e ↦ e
+  ]
+
+  run_anew : (f : Fragment) → IsByCounts h f → run_of (m f) ≡ record { stamp = f.stamp; offset = f.offset; len = f.len; visible = seen_by next f.stamp f.deletions; deletions = f.deletions }
+  run_anew f e = elim (cases_Bool (list_any (concerns f) ts)) [
+    | inl k ↦ rw k (ap (λ (b : Bool). as_run f b) (ap (λ (x : List UndoEntry). is_shown x f.stamp f.deletions) now ∙ shown_kept next f.stamp f.deletions))
+    | inr k ↦ (let n = uncounted f k in
+        let a = undone_same h op f.stamp (λ c i. n c f.stamp i (inl refl)) in
+        let b = all_same h op f.deletions (λ c t i j. n c t i (inr j)) in
+        let s : seen_by next f.stamp f.deletions ≡ seen_by h f.stamp f.deletions = rw (a, b) refl in
+        rw k (ap (λ (b : Bool). as_run f b) (e ∙ sym s)))
+  ]
+    where
+      as_run : Fragment → Bool → Run
+      as_run f b = record { stamp = f.stamp; offset = f.offset; len = f.len; visible = b; deletions = f.deletions }
+
+  abbrev told_anew : Fact → Fact
+  told_anew q = record { cell = q.cell; visible = seen_by next q.cell.stamp q.deletions; deletions = q.deletions }
+
+  facts_anew : (t : Lamport) (k n : ℕ) (v : Bool) (d : List Lamport) (s : List Fact) → alike t k n (seen_by next t d) d ++ map told_anew s ≡ map told_anew (alike t k n v d ++ s)
+  facts_anew t k zero v d s = refl
+  facts_anew t k (suc n) v d s = ap (λ (z : List Fact). record { cell = record { stamp = t; k = k }; visible = seen_by next t d; deletions = d } ∷ z) (facts_anew t (suc k) n v d s)
+
+  all_told : (fs : List Fragment) → Each (IsByCounts h) fs → facts_of (runs (map m fs)) ≡ map told_anew (facts_of (runs fs))
+  all_told [] e = refl
+  all_told (f ∷ fs) e =
+      ap (λ (r : Run). run_facts r ++ facts_of (runs (map m fs))) (run_anew f e.0)
+      ∙ ap (λ (z : List Fact). alike f.stamp f.offset f.len (seen_by next f.stamp f.deletions) f.deletions ++ z) (all_told fs e.1)
+      ∙ facts_anew f.stamp f.offset f.len f.visible f.deletions (facts_of (runs fs))
+
+  cells_told : (fs : List Fragment) → Each IsFilled fs → Tell fs h → Tell (map m fs) next
+  cells_told fs l t = all_told fs (by_counts h fs l (subst (Each (ByCounts h)) (sym t) (told_by_counts h (seq h)))) ∙ ap (map told_anew) t ∙ sym (undo_is_told h op lawful good undo)
+
+  -- ---- what stays
+
+  -- a property of what stays
+  kept_by : (P : Fragment → Type 0) (f : Fragment) → P (counted w (stamp_of op) f) → P f → P (m f)
+  kept_by P f a b = elim (cases_Bool (list_any (concerns f) ts)) [ inl k ↦ rw k a | inr k ↦ rw k b ]
+
+  same_id : (f : Fragment) → (m f).id ≡ f.id
+  same_id f = kept_by (λ (g : Fragment). g.id ≡ f.id) f refl refl
+
+  all_filled : (fs : List Fragment) → Each IsFilled fs → Each IsFilled (map m fs)
+  all_filled [] e = tt
+  all_filled (f ∷ fs) e = (kept_by IsFilled f e.0 e.0, all_filled fs e.1)
+
+  all_rise : (low : List ℕ) (fs : List Fragment) → Rise low fs → Rise low (map m fs)
+  all_rise low [] r = r
+  all_rise low (f ∷ fs) r = rw (same_id f) (r.0, r.1, all_rise f.id fs r.2)
+
+  all_entries : (fs : List Fragment) → map entry_of (map m fs) ≡ map entry_of fs
+  all_entries [] = refl
+  all_entries (f ∷ fs) = rw (kept_by (λ (g : Fragment). entry_of g ≡ entry_of f) f refl refl) (ap (λ (z : List IndexEntry). entry_of f ∷ z) (all_entries fs))
+
+  in_more : (h : History) (o : Operation) → In (h ++ op ∷ []) o → In h o ⊎ (o ≡ op)
+  in_more [] o (inl e) = inr e
+  in_more [] o (inr i) = absurd i
+  in_more (p ∷ h) o (inl e) = inl (inl e)
+  in_more (p ∷ h) o (inr i) = elim (in_more h o i) [ inl j ↦ inl (inr j) | inr e ↦ inr e ]
+
+  -- the undos that a fragment's counts come from are seen
+  sees_counted : (f : Fragment) → SeesUndos h f → SeesUndos next (counted w (stamp_of op) f)
+  sees_counted f s o i c j k = elim (in_more h o i) [
+    | inl n ↦ sees_raise f.max_undos (stamp_of op) (stamp_of o) (s o n c j k)
+    | inr e ↦ subst (λ (p : Operation). sees (raise f.max_undos (stamp_of op)) (stamp_of p) ≡ true) (sym e) (raise_sees f.max_undos (stamp_of op))
+  ]
+
+  sees_same : (f : Fragment) → list_any (concerns f) ts ≡ false → SeesUndos h f → SeesUndos next f
+  sees_same f n s o i c j k = elim (in_more h o i) [
+    | inl l ↦ s o l c j k
+    | inr e ↦ (let d = uncounted f n c c.edit (subst (λ (p : Operation). Member c (counts_of p)) e j) k in let r = same_stamp_refl c.edit in cc)
+  ]
+
+  one_sees : (f : Fragment) → SeesUndos h f → SeesUndos next (m f)
+  one_sees f s = elim (cases_Bool (list_any (concerns f) ts)) [ inl k ↦ rw k (sees_counted f s) | inr k ↦ rw k (sees_same f k s) ]
+
+  all_see : (fs : List Fragment) → Each (SeesUndos h) fs → Each (SeesUndos next) (map m fs)
+  all_see [] e = tt
+  all_see (f ∷ fs) e = (one_sees f e.0, all_see fs e.1)
+
+  pub undo_stands : (fs : List Fragment) (i : List IndexEntry) (v : List UndoEntry) → Stand fs i v h → Stand (all_anew w (stamp_of op) ts fs) i w next
+  undo_stands fs i v s = record {
+    cells = cells_told fs s.filled s.cells;
+    filled = all_filled fs s.filled;
+    ids = all_rise least_digits fs s.ids;
+    ascending = s.ascending;
+    index = λ e. subst (λ (z : List IndexEntry). Member e i ↔ Member e z) (sym (all_entries fs)) (s.index e);
+    counts = now;
+    undos = all_see fs s.undos;
+  }
+
+pub undo_stood : (h : History) (u : UndoOp) (w : List UndoEntry) (ts : List Lamport) (by : Lamport) (fs gs : List Fragment) (i j : List IndexEntry) → u.stamp ≡ by → Counts (Undo u) ts → Lawful h → answer h [] (Undo u) ≡ Good
+    → w ≡ undo_entries (h ++ Undo u ∷ []) → Stand fs i (undo_entries h) h → gs ≡ all_anew w by ts fs → j ≡ i → Stand gs j w (h ++ Undo u ∷ [])
+undo_stood h u w ts by fs gs i j e k l g n s p q =
+    let a : Stand (all_anew w u.stamp ts fs) i w (h ++ Undo u ∷ []) = undo_stands h (Undo u) w ts l g refl n k fs i (undo_entries h) s in
+    let b : Stand (all_anew w by ts fs) i w (h ++ Undo u ∷ []) = subst (λ (t : Lamport). Stand (all_anew w t ts fs) i w (h ++ Undo u ∷ [])) e a in
+    let c : Stand gs i w (h ++ Undo u ∷ []) = subst (λ (z : List Fragment). Stand z i w (h ++ Undo u ∷ [])) (sym p) b in
+    subst (λ (z : List IndexEntry). Stand gs z w (h ++ Undo u ∷ [])) (sym q) c

@@ -1,0 +1,53 @@
+-- Moves on the way: what they have done where a walk over fragments has put some out and has the others before it.
+use Rattle.std.specs.Prelude.{◌≡◌, ℕ, ◌+◌, ◌≤◌, Bool, not, if◌then◌else◌, List, [], ◌∷◌, ◌++◌, map, drop, length, slice_index}
+use Rattle.std.specs.List.{filter}
+use Rattle.lamport_clock.specs.declared.stamp.Lamport.{Lamport}
+use Rattle.op_model.specs.declared.operation.Operation.{Operation}
+use Rattle.op_model.specs.Operations.{stamp_of, pieces_of}
+use Rattle.op_model.specs.Histories.{History}
+use Rattle.op_model.specs.Cells.{Cell}
+use Rattle.op_model.specs.Shown.{text, hidden, texts}
+use Rattle.op_model.specs.Facts.{Fact}
+use Rattle.op_model.specs.Walked.{facts_of}
+use Rattle.fragments.specs.declared.fragment.Fragment.{Fragment}
+use Rattle.fragments.specs.Stand.{runs}
+use Rattle.remote_edit.specs.declared.moves.Move.{Move}
+use Rattle.remote_edit.specs.declared.moves.Move.TheVariants.{Visible, Hidden, Hide, Show}
+use Rattle.remote_edit.specs.Moves.{Texts, texts_of, moved, HaveMoved}
+
+-- moves take the shown and the hidden text of h, with the new text of op, to those of the history with op
+abbrev pub AreMovesOf : List Move → History → Operation → Type 0
+AreMovesOf ms h op = moved ms (text h) (hidden h) (texts (pieces_of op)) ≡ texts_of (text (h ++ op ∷ [])) (hidden (h ++ op ∷ []))
+
+-- what becomes of n bytes by whether they were shown before, and are now
+abbrev pub move_for : Bool → Bool → ℕ → Move
+move_for was now n = if was then (if now then Visible n else Hide n) else (if now then Show n else Hidden n)
+
+-- the bytes of the cells that are shown, and of those that are hidden, byte giving that of each
+abbrev pub shown_bytes : (Cell → ℕ) → List Fragment → List ℕ
+shown_bytes byte fs = map (λ (q : Fact). byte q.cell) (filter (λ (q : Fact). q.visible) (facts_of (runs fs)))
+
+abbrev pub hidden_bytes : (Cell → ℕ) → List Fragment → List ℕ
+hidden_bytes byte fs = map (λ (q : Fact). byte q.cell) (filter (λ (q : Fact). not q.visible) (facts_of (runs fs)))
+
+abbrev pub both_bytes : (Cell → ℕ) → List Fragment → Texts
+both_bytes byte fs = texts_of (shown_bytes byte fs) (hidden_bytes byte fs)
+
+-- how many cells are hidden
+abbrev pub hidden_len : List Fragment → ℕ
+hidden_len [] = 0
+hidden_len (f ∷ fs) = if f.visible then hidden_len fs else f.len + hidden_len fs
+
+-- of the texts s and h and of n, the new text of edit t, the moves ms have put out the bytes of the fragments pre; those to come
+-- find the bytes of rest, and of the new text those from k on
+pub record Carried (byte : Cell → ℕ) (t : Lamport) (s h n : List ℕ) (ms : List Move) (pre rest : List Fragment) (k : ℕ) : Type 0 where
+  pub moves : HaveMoved s h n ms (both_bytes byte pre) (both_bytes byte rest) (drop k n)
+  pub text : (j : ℕ) → byte (record { stamp = t; k = j }) ≡ slice_index n j
+
+-- moves that go on as a walk over fragments goes on, putting in new cells of edit t
+abbrev pub CarryOn : Lamport → List Move → List Fragment → List Fragment → ℕ → List Move → List Fragment → List Fragment → ℕ → Type 0
+CarryOn t ms pre rest k ms2 pre2 rest2 k2 = (byte : Cell → ℕ) → (s h n : List ℕ) → k2 ≤ length n → Carried byte t s h n ms pre rest k → Carried byte t s h n ms2 pre2 rest2 k2
+
+-- moves that carry the bytes of all fragments fs along to gs, where op puts in all its new cells
+abbrev pub Carry : List Move → Operation → List Fragment → List Fragment → Type 0
+Carry ms op fs gs = CarryOn (stamp_of op) [] [] fs 0 ms gs [] (length (texts (pieces_of op)))

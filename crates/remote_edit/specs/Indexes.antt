@@ -1,0 +1,23 @@
+-- An index of fragments among which an edit is placed.
+use Rattle.std.specs.Prelude.{◌≡◌, ◌⊎◌, ℕ, ◌+◌, ◌≤◌, List}
+use Rattle.lamport_clock.specs.declared.stamp.Lamport.{Lamport}
+use Rattle.op_model.specs.Sorted.{Each, EachPair}
+use Rattle.fragments.specs.declared.fragment.Fragment.{Fragment}
+use Rattle.fragments.specs.declared.index_entry.IndexEntry.{IndexEntry}
+use Rattle.fragments.specs.Index.{IsAscending}
+use Rattle.fragments.specs.Stand.{IsIndexOf}
+
+-- no cell is in both
+abbrev pub IsApart : Fragment → Fragment → Type 0
+IsApart f g = f.stamp ≡ g.stamp → (f.offset + f.len ≤ g.offset) ⊎ (g.offset + g.len ≤ f.offset)
+
+-- all cells of edit t are before its cell k
+abbrev pub EndsBefore : Lamport → ℕ → Fragment → Type 0
+EndsBefore t k f = f.stamp ≡ t → f.offset + f.len ≤ k
+
+-- w has the entries of fragments with different cells, of which those of edit t are before its cell k
+pub record IsIndexed (t : Lamport) (k : ℕ) (fs : List Fragment) (w : List IndexEntry) : Type 0 where
+  pub ascending : IsAscending w
+  pub entries : IsIndexOf fs w
+  pub apart : EachPair IsApart fs
+  pub before : Each (EndsBefore t k) fs

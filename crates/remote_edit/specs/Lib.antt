@@ -1,0 +1,15 @@
+pub mod Moves
+pub mod Marks
+pub mod Walk
+pub mod Beside
+pub mod Passed
+pub mod Carried
+pub mod CarriedLaws
+pub mod Offsets
+pub mod SeesLaws
+pub mod Anew
+pub mod Undoing
+pub mod Steps
+pub mod Gathers
+pub mod Indexes
+pub mod Placing

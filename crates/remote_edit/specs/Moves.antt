@@ -1,0 +1,110 @@
+-- Moves: what becomes of the bytes of a shown and of a hidden text, in order.
+use Rattle.std.specs.Prelude.{◌≡◌, ℕ, ◌+◌, ◌^◌, ◌==◌, nat_lt, if◌then◌else◌, List, [], ◌∷◌, ◌++◌, take, drop, Option, Some, None}
+use Rattle.remote_edit.specs.declared.moves.Move.{Move}
+use Rattle.remote_edit.specs.declared.moves.Move.TheVariants.{Visible, Hidden, Hide, Show, Insert}
+
+-- a shown and a hidden text
+pub record Texts : Type 0 where
+  pub shown : List ℕ
+  pub hidden : List ℕ
+
+abbrev pub texts_of : List ℕ → List ℕ → Texts
+texts_of s h = record { shown = s; hidden = h }
+
+-- s and h, and behind them two other texts
+abbrev pub followed_by : List ℕ → List ℕ → Texts → Texts
+followed_by s h r = texts_of (s ++ r.shown) (h ++ r.hidden)
+
+-- what moves make of a shown text s, a hidden text h and a new text n: each takes the next bytes of one of the three to the shown
+-- or to the hidden text; bytes of which no move tells are in neither
+abbrev pub moved : List Move → List ℕ → List ℕ → List ℕ → Texts
+moved [] s h n = texts_of [] []
+moved (Visible k ∷ ms) s h n = followed_by (take k s) [] (moved ms (drop k s) h n)
+moved (Hidden k ∷ ms) s h n = followed_by [] (take k h) (moved ms s (drop k h) n)
+moved (Hide k ∷ ms) s h n = followed_by [] (take k s) (moved ms (drop k s) h n)
+moved (Show k ∷ ms) s h n = followed_by (take k h) [] (moved ms s (drop k h) n)
+moved (Insert k ∷ ms) s h n = followed_by (take k n) [] (moved ms s h (drop k n))
+
+-- two lists of moves do the same to all texts
+abbrev pub DoTheSame : List Move → List Move → Type 0
+DoTheSame ms ns = (s h n : List ℕ) → moved ms s h n ≡ moved ns s h n
+
+-- how many bytes a move takes
+abbrev pub length_of : Move → ℕ
+length_of (Visible k) = k
+length_of (Hidden k) = k
+length_of (Hide k) = k
+length_of (Show k) = k
+length_of (Insert k) = k
+
+-- two moves of a kind as one, where the length of that is a u64
+abbrev pub as_one : Move → Move → Option Move
+as_one (Visible a) (Visible b) = if nat_lt (a + b) (2 ^ 64) then Some (Visible (a + b)) else None
+as_one (Hidden a) (Hidden b) = if nat_lt (a + b) (2 ^ 64) then Some (Hidden (a + b)) else None
+as_one (Hide a) (Hide b) = if nat_lt (a + b) (2 ^ 64) then Some (Hide (a + b)) else None
+as_one (Show a) (Show b) = if nat_lt (a + b) (2 ^ 64) then Some (Show (a + b)) else None
+as_one (Insert a) (Insert b) = if nat_lt (a + b) (2 ^ 64) then Some (Insert (a + b)) else None
+as_one a b = None
+
+-- a move and another behind it, as one where they are of a kind
+abbrev pub joined : Option Move → Move → Move → List Move
+joined (Some one) last next = one ∷ []
+joined None last next = last ∷ next ∷ []
+
+-- moves and another behind them: one of no bytes changes nothing, one of the last one's kind lengthens it
+abbrev pub with_last : List Move → Move → List Move
+with_last [] next = next ∷ []
+with_last (m ∷ []) next = joined (as_one m next) m next
+with_last (m ∷ k ∷ ms) next = m ∷ with_last (k ∷ ms) next
+
+abbrev pub with_move : List Move → Move → List Move
+with_move ms next = if length_of next == 0 then ms else with_last ms next
+
+-- how many bytes moves take of the shown, of the hidden and of the new text
+abbrev pub from_shown : List Move → ℕ
+from_shown [] = 0
+from_shown (Visible k ∷ ms) = k + from_shown ms
+from_shown (Hidden k ∷ ms) = from_shown ms
+from_shown (Hide k ∷ ms) = k + from_shown ms
+from_shown (Show k ∷ ms) = from_shown ms
+from_shown (Insert k ∷ ms) = from_shown ms
+
+abbrev pub from_hidden : List Move → ℕ
+from_hidden [] = 0
+from_hidden (Visible k ∷ ms) = from_hidden ms
+from_hidden (Hidden k ∷ ms) = k + from_hidden ms
+from_hidden (Hide k ∷ ms) = from_hidden ms
+from_hidden (Show k ∷ ms) = k + from_hidden ms
+from_hidden (Insert k ∷ ms) = from_hidden ms
+
+abbrev pub from_new : List Move → ℕ
+from_new [] = 0
+from_new (Visible k ∷ ms) = from_new ms
+from_new (Hidden k ∷ ms) = from_new ms
+from_new (Hide k ∷ ms) = from_new ms
+from_new (Show k ∷ ms) = from_new ms
+from_new (Insert k ∷ ms) = k + from_new ms
+
+-- ---- laws, which src/laws.rt shows
+
+-- moves behind others find the texts that those leave, and put behind what those put
+abbrev pub MovesCompose : Type 0
+MovesCompose = (ms ns : List Move) → (s h n : List ℕ)
+    → moved (ms ++ ns) s h n ≡ followed_by (moved ms s h n).shown (moved ms s h n).hidden (moved ns (drop (from_shown ms) s) (drop (from_hidden ms) h) (drop (from_new ms) n))
+
+-- a move that is put behind others does the same where it is made one with the last
+abbrev pub JoinedMovesDoTheSame : Type 0
+JoinedMovesDoTheSame = (ms : List Move) → (next : Move) → DoTheSame (with_move ms next) (ms ++ next ∷ [])
+
+-- whether shown bytes or hidden ones are kept first does not matter
+abbrev pub KeptBytesCommute : Type 0
+KeptBytesCommute = (ms ns : List Move) → (a b : ℕ) → DoTheSame (ms ++ Visible a ∷ Hidden b ∷ ns) (ms ++ Hidden b ∷ Visible a ∷ ns)
+
+-- ---- moves on the way
+
+-- what moves have made of the texts s, h and n so far, and what those to come find of them
+pub record HaveMoved (s h n : List ℕ) (ms : List Move) (out left : Texts) (left_new : List ℕ) : Type 0 where
+  pub put : moved ms s h n ≡ out
+  pub left_shown : drop (from_shown ms) s ≡ left.shown
+  pub left_hidden : drop (from_hidden ms) h ≡ left.hidden
+  pub news : drop (from_new ms) n ≡ left_new

@@ -1,0 +1,52 @@
+-- When an edit may be placed, and what placing gives.
+use Rattle.std.specs.Prelude.{◌≡◌, ◌+◌, ◌≤◌, ◌^◌, List, [], ◌∷◌, ◌++◌, length, None}
+use Rattle.lamport_clock.specs.declared.stamp.Lamport.{Lamport}
+use Rattle.lamport_clock.specs.Versions.{Entries}
+use Rattle.op_model.specs.declared.operation.Operation.{Operation}
+use Rattle.op_model.specs.declared.operation.Piece.{Piece}
+use Rattle.op_model.specs.declared.limits.Limits.{Limits as LimitsType}
+use Rattle.op_model.specs.Sorted.{Each}
+use Rattle.op_model.specs.Domains.{IsProper, IsReplica}
+use Rattle.op_model.specs.Made.{made, local_edit_fault}
+use Rattle.op_model.specs.Operations.{pieces_of, text_total}
+use Rattle.op_model.specs.Histories.{History, version, clock}
+use Rattle.op_model.specs.Shown.{full}
+use Rattle.op_model.specs.Lawful.{Lawful}
+use Rattle.op_model.specs.Answers.{answer}
+use Rattle.op_model.specs.Answers.Answer.{Good}
+use Rattle.undo_map.specs.declared.entry.UndoEntry.{UndoEntry}
+use Rattle.fragments.specs.declared.fragment.Fragment.{Fragment}
+use Rattle.fragments.specs.declared.index_entry.IndexEntry.{IndexEntry}
+use Rattle.fragments.specs.Stand.{Stand}
+
+-- the fragments, the index and the undo counts stand for a lawful history in which the edit is good, and whose bytes and the new
+-- ones are at most 2^40
+pub record MayPlace (fs : List Fragment) (w : List IndexEntry) (u : List UndoEntry) (op : Operation) : Type 0 where
+  pub history : History
+  pub stands : Stand fs w u history
+  pub lawful : Lawful history
+  pub good : answer history [] op ≡ Good
+  pub room : length (full history) + text_total (pieces_of op) ≤ 2 ^ 40
+
+-- for each lawful history in which the operation is good and for which the old ones stand, the new ones stand for it with the operation
+abbrev pub ArePlaced : List Fragment → List IndexEntry → List UndoEntry → Operation → List Fragment → List IndexEntry → Type 0
+ArePlaced fs w u op gs v = (h : History) → Stand fs w u h → Lawful h → answer h [] op ≡ Good → Stand gs v u (h ++ op ∷ [])
+
+-- the fragments, the index and the undo counts stand for a lawful history, the stamp t and the version v are those of what a
+-- replica makes there, the changes meet no fault, and the bytes of the history and the new ones are at most 2^40
+pub record MayMake (fs : List Fragment) (w : List IndexEntry) (u : List UndoEntry) (t : Lamport) (v : Entries) (changes : List Piece) : Type 0 where
+  pub history : History
+  pub stands : Stand fs w u history
+  pub lawful : Lawful history
+  pub proper : Each IsProper history
+  pub replica : IsReplica t.replica
+  pub value : t.value ≡ clock history
+  pub sees : v ≡ version history
+  pub limits : LimitsType
+  pub faultless : local_edit_fault limits history changes ≡ None
+  pub room : length (full history) + text_total changes ≤ 2 ^ 40
+
+-- for each history for which the fragments stand, and of which the stamp t and the version v are what a replica makes there, the
+-- operation is the one that is made
+abbrev pub IsMade : List Fragment → List IndexEntry → List UndoEntry → Lamport → Entries → List Piece → Operation → Type 0
+IsMade fs w u t v changes op = (h : History) → Stand fs w u h → t.value ≡ clock h → v ≡ version h → op ≡ made h t.replica changes

@@ -1,0 +1,121 @@
+-- What sums of fragments see, where they take more stamps.
+use Rattle.std.proofs.Common.{◌≡◌, ℕ, ◌<◌, ◌≤◌, Bool, true, false, ◌||◌, List, [], ◌∷◌, refl, sym, ap, ◌∙◌, arith, subst, inl, inr}
+use Rattle.std.proofs.lemmas.Bool.{cases_Bool, leb-true, le-leb}
+use Rattle.std.proofs.lemmas.Bool.Decides.{nat_tests}
+use Rattle.std.specs.List.{list_any}
+use Rattle.lamport_clock.specs.declared.stamp.Lamport.{Lamport}
+use Rattle.lamport_clock.specs.Stamps.{same_stamp}
+use Rattle.lamport_clock.specs.Versions.{Entries, entry, put, raise, joined, sees}
+use Rattle.lamport_clock.proofs.Raises.{by_bound, by_order, raise_seen, raise_new, entry-put_at, entry-put_off}
+use Rattle.op_model.proofs.PathOrder.{same_stamp_eq}
+use Rattle.op_model.specs.Sorted.{Member}
+use Rattle.fragments.specs.declared.fragment.FragmentSummary.{FragmentSummary}
+use Rattle.fragments.specs.Summaries.{summaries, with_stamps}
+
+-- an entry never falls
+raise_up : (v : Entries) (t : Lamport) (r : ℕ) → entry v r ≤ entry (raise v t) r
+raise_up v t r = by_bound _ t.value (entry v t.replica)
+    (λ h. let e = ap (λ (w : Entries). entry w r) (raise_seen v t h) in omega arith)
+    (λ h. let e = ap (λ (w : Entries). entry w r) (raise_new v t h) in by_order _ r t.replica
+    (λ k. let o = entry-put_off v t.replica t.value r (λ q. absurd (omega arith)) in omega arith)
+    (λ k. let a = ap (entry (put t.replica t.value v)) k ∙ entry-put_at v t.replica t.value in let b = ap (entry v) k in omega arith)
+    (λ k. let o = entry-put_off v t.replica t.value r (λ q. absurd (omega arith)) in omega arith))
+
+raise_at : (v : Entries) (t : Lamport) → t.value ≤ entry (raise v t) t.replica
+raise_at v t = by_bound _ t.value (entry v t.replica)
+    (λ h. let e = ap (λ (w : Entries). entry w t.replica) (raise_seen v t h) in omega arith)
+    (λ h. let e = ap (λ (w : Entries). entry w t.replica) (raise_new v t h) ∙ entry-put_at v t.replica t.value in omega arith)
+
+-- the stamp that is taken in is seen
+pub raise_sees : (v : Entries) (t : Lamport) → sees (raise v t) t ≡ true
+raise_sees v t = le-leb t.value (entry (raise v t) t.replica) (raise_at v t)
+
+-- what is seen stays seen
+pub sees_raise : (v : Entries) (s t : Lamport) → sees v t ≡ true → sees (raise v s) t ≡ true
+sees_raise v s t h = le-leb t.value (entry (raise v s) t.replica) (let a = leb-true t.value (entry v t.replica) h in let b = raise_up v s t.replica in omega arith)
+
+pub sees_stamps : (d : List Lamport) (v : Entries) (t : Lamport) → sees v t ≡ true → sees (with_stamps d v) t ≡ true
+sees_stamps [] v t h = h
+sees_stamps (s ∷ d) v t h = sees_stamps d (raise v s) t (sees_raise v s t h)
+
+-- each of the stamps that are taken in is seen
+pub stamps_seen : (d : List Lamport) (v : Entries) (t : Lamport) → list_any (same_stamp t) d ≡ true → sees (with_stamps d v) t ≡ true
+stamps_seen [] v t h = cc
+stamps_seen (s ∷ d) v t h = elim (cases_Bool (same_stamp t s)) [
+  | inl e ↦ sees_stamps d (raise v s) t (subst (λ (x : Lamport). sees (raise v x) t ≡ true) (same_stamp_eq t s e) (raise_sees v t))
+  | inr e ↦ stamps_seen d (raise v s) t (ap (λ (b : Bool). b || list_any (same_stamp t) d) (sym e) ∙ h)
+]
+
+joined_up : (u v : Entries) (r : ℕ) → entry u r ≤ entry (joined u v) r
+joined_up u [] r = omega arith
+joined_up u (e ∷ v) r =
+    let s : Lamport = record { value = e.1; replica = e.0 } in
+    let a = raise_up u s r in let b = joined_up (raise u s) v r in omega arith
+
+joined_on : (u v : Entries) (r : ℕ) → entry v r ≤ entry (joined u v) r
+joined_on u [] r = omega arith
+joined_on u (e ∷ v) r =
+    let s : Lamport = record { value = e.1; replica = e.0 } in
+    let ih = joined_on (raise u s) v r in
+    by_order _ e.0 r
+    (λ k. let o : entry (e ∷ v) r ≡ entry v r = other k in omega arith)
+    (λ k. let o : entry (e ∷ v) r ≡ e.1 = same k in
+    let a : e.1 ≤ entry (raise u s) r = subst (λ (q : ℕ). e.1 ≤ entry (raise u s) q) k (raise_at u s) in
+    let b = joined_up (raise u s) v r in omega arith)
+    (λ k. let o : entry (e ∷ v) r ≡ entry v r = above k in omega arith)
+  where
+    other : e.0 < r → entry (e ∷ v) r ≡ entry v r
+    other k = grind (arith, nat_tests)
+
+    same : e.0 ≡ r → entry (e ∷ v) r ≡ e.1
+    same k = grind (arith, nat_tests)
+
+    above : r < e.0 → entry (e ∷ v) r ≡ entry v r
+    above k = grind (arith, nat_tests)
+
+-- what either sees, both together see
+pub sees_joined : (u v : Entries) (t : Lamport) → (sees u t ≡ true → sees (joined u v) t ≡ true) × (sees v t ≡ true → sees (joined u v) t ≡ true)
+sees_joined u v t = (
+  (λ h. le-leb t.value (entry (joined u v) t.replica) (let a = leb-true t.value (entry u t.replica) h in let b = joined_up u v t.replica in omega arith)),
+  (λ h. le-leb t.value (entry (joined u v) t.replica) (let a = leb-true t.value (entry v t.replica) h in let b = joined_on u v t.replica in omega arith)),
+)
+
+-- ---- tests of lists
+
+pub any_member : {A : Type 0} (p : A → Bool) (xs : List A) (x : A) → Member x xs → p x ≡ true → list_any p xs ≡ true
+any_member p [] x m h = absurd m
+any_member p (y ∷ xs) x (inl e) h = let k : p y ≡ true = ap p (sym e) ∙ h in rw k refl
+any_member p (y ∷ xs) x (inr m) h = rw (any_member p xs x m h) (or_true (p y))
+  where
+    or_true : (b : Bool) → (b || true) ≡ true
+    or_true true = refl
+    or_true false = refl
+
+any_up : {A : Type 0} (p q : A → Bool) → ((x : A) → p x ≡ true → q x ≡ true) → (xs : List A) → list_any p xs ≡ true → list_any q xs ≡ true
+any_up p q f [] h = h
+any_up p q f (x ∷ xs) h = elim (cases_Bool (p x)) [
+  | inl e ↦ rw (f x e) refl
+  | inr e ↦ rw (any_up p q f xs (ap (λ (b : Bool). b || list_any p xs) (sym e) ∙ h)) (or_true (q x))
+]
+  where
+    or_true : (b : Bool) → (b || true) ≡ true
+    or_true true = refl
+    or_true false = refl
+
+pub none_up : {A : Type 0} (p q : A → Bool) → ((x : A) → p x ≡ true → q x ≡ true) → (xs : List A) → list_any q xs ≡ false → list_any p xs ≡ false
+none_up p q f xs h = elim (cases_Bool (list_any p xs)) [
+  | inl e ↦ (let k = any_up p q f xs e in cc)
+  | inr e ↦ e
+]
+
+-- ---- which runs are passed over
+
+-- a sum sees one of the edits
+abbrev pub sees_one : List Lamport → FragmentSummary → Bool
+sees_one ts s = list_any (sees s.greatest) ts
+
+pub sees_parts : (ts : List Lamport) (a b : FragmentSummary) → sees_one ts (summaries a b) ≡ false → (sees_one ts a ≡ false) × (sees_one ts b ≡ false)
+sees_parts ts a b h = (
+  none_up (sees a.greatest) (sees (joined a.greatest b.greatest)) (λ t. (sees_joined a.greatest b.greatest t).0) ts h,
+  none_up (sees b.greatest) (sees (joined a.greatest b.greatest)) (λ t. (sees_joined a.greatest b.greatest t).1) ts h,
+)

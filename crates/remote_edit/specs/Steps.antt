@@ -1,0 +1,54 @@
+-- Steps of the walk over a tree.
+use Rattle.std.specs.Prelude.{◌≡◌, ℕ, ◌+◌, ◌<◌, ◌≤◌, ◌&&◌, not, Bool, false, List, [], ◌∷◌, ◌++◌, length, take, drop, Option, Some, None}
+use Rattle.lamport_clock.specs.declared.stamp.Lamport.{Lamport}
+use Rattle.lamport_clock.specs.Stamps.{later}
+use Rattle.lamport_clock.specs.Versions.{Entries, sees}
+use Rattle.undo_map.specs.declared.entry.UndoEntry.{UndoEntry}
+use Rattle.fragments.specs.declared.fragment.Fragment.{Fragment}
+use Rattle.remote_edit.specs.Walk.{bytes, seen_bytes, Fit, Zip, zip, advance}
+
+abbrev pub left_over : Option Fragment → List Fragment
+left_over None = []
+left_over (Some f) = f ∷ []
+
+abbrev pub head : List Fragment → Option Fragment
+head [] = None
+head (f ∷ fs) = Some f
+
+abbrev pub tail : List Fragment → List Fragment
+tail [] = []
+tail (f ∷ fs) = fs
+
+-- of a tree's fragments xs, the first i and those that were made lie before the place
+abbrev pub before : List Fragment → ℕ → List Fragment → List Fragment
+before xs i made = take i xs ++ made
+
+-- what is left of one, and those from j on, lie behind it
+abbrev pub after : List Fragment → ℕ → Option Fragment → List Fragment
+after xs j back = left_over back ++ drop j xs
+
+-- the first of fragments is later than t, and v does not see it
+abbrev pub later_first : Lamport → Entries → List Fragment → Bool
+later_first t v [] = false
+later_first t v (f ∷ fs) = later f.stamp t && not (sees v f.stamp)
+
+-- from one place with n cells to pass to another with k of them, on one way
+pub record IsOnWay (m : Option (List UndoEntry)) (t : Lamport) (v : Entries) (n : ℕ) (pre rest : List Fragment) (k : ℕ) (pre2 rest2 : List Fragment) (p : ℕ) : Type 0 where
+  pub place : p ≡ seen_bytes v pre2
+  pub goes : advance m t v k pre2 rest2 ≡ advance m t v n pre rest
+  pub fit : Fit (pre2 ++ rest2)
+  pub same : bytes (pre2 ++ rest2) ≡ bytes (pre ++ rest)
+  pub less : k + length rest2 < n + length rest
+
+-- the place z is reached, with n cells in all
+pub record IsAt (v : Entries) (z : Zip) (n : ℕ) (pre rest : List Fragment) (p : ℕ) : Type 0 where
+  pub place : p ≡ seen_bytes v pre
+  pub goes : zip pre rest ≡ z
+  pub fit : Fit (pre ++ rest)
+  pub same : bytes (pre ++ rest) ≡ n
+
+-- from place i of xs with n cells to pass to place j with k of them, on one way over whole fragments
+pub record IsSought (t : Lamport) (v : Entries) (xs : List Fragment) (n : ℕ) (i : ℕ) (k : ℕ) (j p : ℕ) : Type 0 where
+  pub goes : advance None t v k (take j xs) (drop j xs) ≡ advance None t v n (take i xs) (drop i xs)
+  pub within : j ≤ length xs
+  pub place : p ≡ seen_bytes v (take j xs)

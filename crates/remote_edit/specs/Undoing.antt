@@ -1,0 +1,35 @@
+-- What an undo has to be among fragments, and what is made of them by it.
+use Rattle.std.specs.Prelude.{◌≡◌, List, [], ◌∷◌, ◌++◌}
+use Rattle.lamport_clock.specs.declared.stamp.Lamport.{Lamport}
+use Rattle.op_model.specs.declared.operation.UndoOp.{UndoOp}
+use Rattle.op_model.specs.declared.operation.Operation.TheVariants.{Undo}
+use Rattle.op_model.specs.Histories.{History}
+use Rattle.op_model.specs.Answers.{answer}
+use Rattle.op_model.specs.Answers.Answer.{Good}
+use Rattle.op_model.specs.Lawful.{Lawful}
+use Rattle.undo_map.specs.declared.entry.UndoEntry.{UndoEntry}
+use Rattle.undo_map.specs.Undos.{undo_entries}
+use Rattle.fragments.specs.declared.fragment.Fragment.{Fragment}
+use Rattle.fragments.specs.declared.index_entry.IndexEntry.{IndexEntry}
+use Rattle.fragments.specs.Stand.{Stand}
+use Rattle.remote_edit.specs.declared.moves.Move.{Move}
+use Rattle.remote_edit.specs.Carried.{AreMovesOf}
+use Rattle.remote_edit.specs.Anew.{Counts}
+
+-- the fragments fs and the index w stand for the lawful history h, in which the undo u with stamp `by` is good; it counts edits of
+-- ts alone, and us are the counts with it
+pub record MayMark (fs : List Fragment) (w : List IndexEntry) (us : List UndoEntry) (by : Lamport) (ts : List Lamport) (h : History) (u : UndoOp) : Type 0 where
+  pub stamp : u.stamp ≡ by
+  pub counts : Counts (Undo u) ts
+  pub lawful : Lawful h
+  pub good : answer h [] (Undo u) ≡ Good
+  pub entries : us ≡ undo_entries (h ++ Undo u ∷ [])
+  pub stands : Stand fs w (undo_entries h) h
+
+-- the fragments gs and the index x stand for each such history with the undo
+abbrev pub StandWithUndo : List Fragment → List IndexEntry → List UndoEntry → Lamport → List Lamport → List Fragment → List IndexEntry → Type 0
+StandWithUndo fs w us by ts gs x = (h : History) → (u : UndoOp) → MayMark fs w us by ts h u → Stand gs x us (h ++ Undo u ∷ [])
+
+-- the moves take the texts of each such history to those of it with the undo
+abbrev pub MoveWithUndo : List Fragment → List IndexEntry → List UndoEntry → Lamport → List Lamport → List Move → Type 0
+MoveWithUndo fs w us by ts ms = (h : History) → (u : UndoOp) → MayMark fs w us by ts h u → AreMovesOf ms h (Undo u)

@@ -1,0 +1,287 @@
+// What a piece of an edit makes of a range of a tree.
+ghost use Rattle.std.specs.Prelude.{◌≡◌, ℕ, ◌+◌, ◌-◌, ◌<◌, ◌≤◌, ◌^◌, ◌++◌, ◌∷◌, ◌&&◌, not, false, [], length, take, None, IfOk};
+ghost use Rattle.std.specs.Option.{option_copied};
+ghost use Rattle.lamport_clock.specs.Versions.{sees};
+ghost use Rattle.lamport_clock.specs.Stamps.{later};
+ghost use Rattle.locators.specs.Locator.{between_digits};
+ghost use Rattle.fragments.specs.Index.{with_entry};
+ghost use Rattle.fragments.specs.Stand.{entry_of};
+ghost use Rattle.remote_edit.specs.Indexes.{IsIndexed};
+ghost use Rattle.remote_edit.specs.Walk.{bytes, seen_bytes, Fit, last_id, next_id, new_fragment, advance, skip_later, put_new};
+ghost use Rattle.remote_edit.specs.Steps.{later_first, head, tail, IsOnWay, IsAt};
+ghost use Rattle.remote_edit.specs.Gathers.{so_far, ahead};
+
+use crate::mark::touch;
+use crate::parts::{back, front, new_fragment};
+use fragments::{Fragment, InsertionIndex};
+use lamport_clock::is_later;
+use locators::Locator;
+use op_model::EditOp;
+use std::alloc::{AllocError, Global};
+use sum_tree::{Item, SumTree};
+use undo_map::UndoMap;
+
+// The fragments made so far stand in the place of those from `from` up to `at`; `back` is what is left of the last of these.
+// `place` tells how many cells lie before that the edit's version sees, `number` how many of the edit's new cells; `index` is
+// that of all fragments, those that were made among them.
+#[derive(Drop)]
+pub struct Gather {
+    pub from: u64,
+    pub at: u64,
+    pub made: Vec<Fragment>,
+    pub back: Option<Fragment>,
+    pub place: u64,
+    pub number: u64,
+    pub index: InsertionIndex,
+}
+
+impl Gather {
+    // The fragment that comes next.
+    fn first<'a>(&'a self, tree: &'a SumTree<Fragment>) -> Option<&'a Fragment>
+        ensures { option_copied result ≡ head (ahead tree.now.items self.now) }
+    {
+        match &self.back {
+            Some(fragment) => Some(fragment),
+            None => tree.get(self.at),
+        }
+    }
+
+    // The id of the fragment before the place, or the least.
+    fn low(&self, alloc: Global, tree: &SumTree<Fragment>) -> Result<Locator, AllocError>
+        requires { self.now.from ≤ length tree.now.items }
+        ensures { IfOk result (λ id. id ≡ last_id (so_far tree.now.items self.now)) }
+    {
+        match self.made.last() {
+            Some(fragment) => Ok(fragment.id.copy(alloc)?),
+            None => id_before(alloc, tree, self.from),
+        }
+    }
+
+    // The id of the fragment that comes next, or the greatest.
+    fn high(&self, alloc: Global, tree: &SumTree<Fragment>) -> Result<Locator, AllocError>
+        ensures { IfOk result (λ id. id ≡ next_id (ahead tree.now.items self.now)) }
+    {
+        match self.first(tree) {
+            None => Locator::greatest(alloc),
+            Some(fragment) => Ok(fragment.id.copy(alloc)?),
+        }
+    }
+
+    // Puts a fragment in the place of the one that comes next.
+    fn go_on(&mut self, tree: &SumTree<Fragment>, fragment: Fragment) -> Result<(), AllocError>
+        requires some { (ahead tree.now.items self.old ≡ []) → ⊥ }
+        ensures made { IfOk result (λ _. self.new.made.items ≡ self.old.made.items ++ fragment ∷ []) }
+        ensures rest { IfOk result (λ _. ahead tree.now.items self.new ≡ tail (ahead tree.now.items self.old)) }
+        ensures from { self.new.from ≡ self.old.from }
+        ensures order { self.old.at ≤ self.new.at }
+        ensures place { self.new.place ≡ self.old.place }
+        ensures none { IfOk result (λ _. self.new.back ≡ None) }
+        ensures number { self.new.number ≡ self.old.number }
+        ensures index { self.new.index ≡ self.old.index }
+    {
+        tree.known();
+        self.made.push(fragment)?;
+        match self.back {
+            Some(_) => self.back = None,
+            None => self.at += 1,
+        }
+        Ok(())
+    }
+
+    // Over the fragment that comes next, of which at most `left` cells that the version sees are passed. Answers how many are
+    // left to pass.
+    fn pass_one(
+        &mut self,
+        alloc: Global,
+        tree: &SumTree<Fragment>,
+        edit: &EditOp,
+        left: u64,
+        marks: Option<&UndoMap>,
+    ) -> Result<u64, AllocError>
+        requires within { self.old.from ≤ length tree.now.items }
+        requires some { 0 < left }
+        requires fit { Fit (so_far tree.now.items self.old ++ ahead tree.now.items self.old) }
+        requires place { self.old.place ≡ seen_bytes edit.now.version (so_far tree.now.items self.old) }
+        requires indexed { IsIndexed edit.now.stamp self.old.number (so_far tree.now.items self.old ++ ahead tree.now.items self.old) self.old.index }
+        ensures from { self.new.from ≡ self.old.from }
+        ensures order { self.old.at ≤ self.new.at }
+        ensures passed { IfOk result (λ n. IsOnWay (option_copied marks.entry) edit.now.stamp edit.now.version
+            left (so_far tree.now.items self.old) (ahead tree.now.items self.old)
+            n (so_far tree.now.items self.new) (ahead tree.now.items self.new) self.new.place) }
+        ensures number { self.new.number ≡ self.old.number }
+        ensures indexed { IfOk result (λ _. IsIndexed edit.now.stamp self.new.number (so_far tree.now.items self.new ++ ahead tree.now.items self.new) self.new.index) }
+    {
+        let Some(first) = self.first(tree) else {
+            return Ok(0);
+        };
+        if !edit.version.sees(first.stamp) {
+            let same = first.copy(alloc)?;
+            self.go_on(tree, same)?;
+            return Ok(left);
+        }
+        let len = first.len;
+        if left < len {
+            let low = self.low(alloc, tree)?;
+            let back = back(alloc, first, left)?;
+            let front = front(alloc, first, left, &low)?;
+            enter(&mut self.index, alloc, &front)?;
+            enter(&mut self.index, alloc, &back)?;
+            let front = touch(alloc, edit, &front, marks)?;
+            self.go_on(tree, front)?;
+            self.back = Some(back);
+            self.place += left;
+            return Ok(0);
+        }
+        let whole = touch(alloc, edit, first, marks)?;
+        self.go_on(tree, whole)?;
+        self.place += len;
+        Ok(left - len)
+    }
+
+    // Over `count` cells that the edit's version sees, and what stands between them; those that it sees are marked where
+    // undo counts are given.
+    pub fn pass(
+        &mut self,
+        alloc: Global,
+        tree: &SumTree<Fragment>,
+        edit: &EditOp,
+        count: u64,
+        marks: Option<&UndoMap>,
+    ) -> Result<(), AllocError>
+        requires within { self.old.from ≤ length tree.now.items }
+        requires fit { Fit (so_far tree.now.items self.old ++ ahead tree.now.items self.old) }
+        requires place { self.old.place ≡ seen_bytes edit.now.version (so_far tree.now.items self.old) }
+        requires indexed { IsIndexed edit.now.stamp self.old.number (so_far tree.now.items self.old ++ ahead tree.now.items self.old) self.old.index }
+        ensures from { self.new.from ≡ self.old.from }
+        ensures order { self.old.at ≤ self.new.at }
+        ensures gathered { IfOk result (λ _. IsAt edit.now.version
+            (advance (option_copied marks.entry) edit.now.stamp edit.now.version count (so_far tree.now.items self.old) (ahead tree.now.items self.old))
+            (bytes (so_far tree.now.items self.old ++ ahead tree.now.items self.old))
+            (so_far tree.now.items self.new) (ahead tree.now.items self.new) self.new.place) }
+        ensures number { self.new.number ≡ self.old.number }
+        ensures indexed { IfOk result (λ _. IsIndexed edit.now.stamp self.new.number (so_far tree.now.items self.new ++ ahead tree.now.items self.new) self.new.index) }
+    {
+        let mut left = count;
+        while left > 0 {
+            left = self.pass_one(alloc, tree, edit, left, marks)?;
+        }
+        Ok(())
+    }
+
+    // Whether the fragment that comes next is later than the edit, which has not seen it.
+    fn is_later(&self, tree: &SumTree<Fragment>, edit: &EditOp) -> bool
+        ensures { result ≡ later_first edit.now.stamp edit.now.version (ahead tree.now.items self.now) }
+    {
+        match self.first(tree) {
+            None => false,
+            Some(fragment) => is_past(fragment, edit),
+        }
+    }
+
+    // Over the fragment that comes next, as it is.
+    fn keep(&mut self, alloc: Global, tree: &SumTree<Fragment>) -> Result<(), AllocError>
+        ensures from { self.new.from ≡ self.old.from }
+        ensures order { self.old.at ≤ self.new.at }
+        ensures place { self.new.place ≡ self.old.place }
+        ensures before { IfOk result (λ _. so_far tree.now.items self.new ≡ so_far tree.now.items self.old ++ take 1 (ahead tree.now.items self.old)) }
+        ensures after { IfOk result (λ _. ahead tree.now.items self.new ≡ tail (ahead tree.now.items self.old)) }
+        ensures number { self.new.number ≡ self.old.number }
+        ensures index { self.new.index ≡ self.old.index }
+    {
+        if let Some(first) = self.first(tree) {
+            let same = first.copy(alloc)?;
+            self.go_on(tree, same)?;
+        }
+        Ok(())
+    }
+
+    // Over the fragments that are later than the edit, which has not seen them.
+    pub fn skip_later(
+        &mut self,
+        alloc: Global,
+        tree: &SumTree<Fragment>,
+        edit: &EditOp,
+    ) -> Result<(), AllocError>
+        requires within { self.old.from ≤ length tree.now.items }
+        requires fit { Fit (so_far tree.now.items self.old ++ ahead tree.now.items self.old) }
+        requires place { self.old.place ≡ seen_bytes edit.now.version (so_far tree.now.items self.old) }
+        requires indexed { IsIndexed edit.now.stamp self.old.number (so_far tree.now.items self.old ++ ahead tree.now.items self.old) self.old.index }
+        ensures from { self.new.from ≡ self.old.from }
+        ensures order { self.old.at ≤ self.new.at }
+        ensures gathered { IfOk result (λ _. IsAt edit.now.version
+            (skip_later edit.now.stamp edit.now.version (so_far tree.now.items self.old) (ahead tree.now.items self.old))
+            (bytes (so_far tree.now.items self.old ++ ahead tree.now.items self.old))
+            (so_far tree.now.items self.new) (ahead tree.now.items self.new) self.new.place) }
+        ensures number { self.new.number ≡ self.old.number }
+        ensures indexed { IfOk result (λ _. IsIndexed edit.now.stamp self.new.number (so_far tree.now.items self.new ++ ahead tree.now.items self.new) self.new.index) }
+    {
+        while self.is_later(tree, edit) {
+            self.keep(alloc, tree)?;
+        }
+        Ok(())
+    }
+
+    // Over n new cells of the edit, which are put here where there are some.
+    pub fn put_new(
+        &mut self,
+        alloc: Global,
+        tree: &SumTree<Fragment>,
+        edit: &EditOp,
+        n: u64,
+    ) -> Result<(), AllocError>
+        requires unseen { sees edit.now.version edit.now.stamp ≡ false }
+        requires room { bytes (so_far tree.now.items self.old ++ ahead tree.now.items self.old) + n ≤ 2 ^ 40 }
+        requires numbers { self.old.number + n < 2 ^ 64 }
+        requires within { self.old.from ≤ length tree.now.items }
+        requires fit { Fit (so_far tree.now.items self.old ++ ahead tree.now.items self.old) }
+        requires place { self.old.place ≡ seen_bytes edit.now.version (so_far tree.now.items self.old) }
+        requires indexed { IsIndexed edit.now.stamp self.old.number (so_far tree.now.items self.old ++ ahead tree.now.items self.old) self.old.index }
+        ensures from { self.new.from ≡ self.old.from }
+        ensures order { self.old.at ≤ self.new.at }
+        ensures gathered { IfOk result (λ _. IsAt edit.now.version
+            (put_new edit.now.stamp self.old.number n (so_far tree.now.items self.old) (ahead tree.now.items self.old))
+            (bytes (so_far tree.now.items self.old ++ ahead tree.now.items self.old) + n)
+            (so_far tree.now.items self.new) (ahead tree.now.items self.new) self.new.place) }
+        ensures number { IfOk result (λ _. self.new.number ≡ self.old.number + n) }
+        ensures indexed { IfOk result (λ _. IsIndexed edit.now.stamp self.new.number (so_far tree.now.items self.new ++ ahead tree.now.items self.new) self.new.index) }
+    {
+        if n > 0 {
+            let low = self.low(alloc, tree)?;
+            let high = self.high(alloc, tree)?;
+            let made = new_fragment(alloc, edit.stamp, self.number, n, &low, &high)?;
+            enter(&mut self.index, alloc, &made)?;
+            self.made.push(made)?;
+            self.number += n;
+        }
+        Ok(())
+    }
+}
+
+// Whether a fragment is later than an edit that has not seen it.
+fn is_past(fragment: &Fragment, edit: &EditOp) -> bool
+    ensures { result ≡ (later fragment.now.stamp edit.now.stamp && not (sees edit.now.version fragment.now.stamp)) }
+{
+    is_later(fragment.stamp, edit.stamp) && !edit.version.sees(fragment.stamp)
+}
+
+// Enters a fragment in an index, in the place of the one that began with the same cell.
+fn enter(index: &mut InsertionIndex, alloc: Global, fragment: &Fragment) -> Result<(), AllocError>
+    requires { length (with_entry (entry_of fragment.now) index.old) ≤ 2 ^ 40 }
+    ensures { IfOk result (λ _. index.new ≡ with_entry (entry_of fragment.now) index.old) }
+{
+    let id = fragment.id.copy(alloc)?;
+    index.add(alloc, fragment.stamp, fragment.offset, id)
+}
+
+// The id of the fragment before place `at` of the tree, or the least.
+fn id_before(alloc: Global, tree: &SumTree<Fragment>, at: u64) -> Result<Locator, AllocError>
+    requires { at ≤ length tree.now.items }
+    ensures { IfOk result (λ id. id ≡ last_id (take at tree.now.items)) }
+{
+    if at > 0 {
+        if let Some(fragment) = tree.get(at - 1) {
+            return Ok(fragment.id.copy(alloc)?);
+        }
+    }
+    Locator::least(alloc)
+}

@@ -1,0 +1,64 @@
+// Fragments in the ranges of an edit.
+ghost use Rattle.std.specs.Prelude.{◌≡◌, ◌||◌, not, IfOk};
+ghost use Rattle.std.specs.Option.{option_copied};
+ghost use Rattle.std.specs.List.{list_all};
+ghost use Rattle.lamport_clock.specs.Versions.{sees};
+ghost use Rattle.undo_map.specs.Counts.{count_seen, is_odd};
+ghost use Rattle.remote_edit.specs.Marks.{was_shown, mark, touch};
+
+use fragments::Fragment;
+use lamport_clock::{Lamport, Version};
+use op_model::EditOp;
+use std::alloc::{AllocError, Global};
+use sum_tree::Item;
+use undo_map::UndoMap;
+
+// The fragment, where undo counts are given as it is in a range of the edit.
+pub fn touch(
+    alloc: Global,
+    edit: &EditOp,
+    fragment: &Fragment,
+    marks: Option<&UndoMap>,
+) -> Result<Fragment, AllocError>
+    ensures { IfOk result (λ f. f ≡ touch (option_copied marks.entry) edit.now.stamp edit.now.version fragment.now) }
+{
+    match marks {
+        None => fragment.copy(alloc),
+        Some(undos) => mark(alloc, edit, fragment, undos),
+    }
+}
+
+// The fragment in a range of the edit: deleted by it where it was shown to its author.
+fn mark(
+    alloc: Global,
+    edit: &EditOp,
+    fragment: &Fragment,
+    undos: &UndoMap,
+) -> Result<Fragment, AllocError>
+    ensures { IfOk result (λ f. f ≡ mark undos.now edit.now.stamp edit.now.version fragment.now) }
+{
+    let mut marked = fragment.copy(alloc)?;
+    if was_shown(fragment, undos, &edit.version) {
+        marked.visible = false;
+        marked.deletions.insert(edit.stamp)?;
+    }
+    Ok(marked)
+}
+
+// Whether it was shown at the version: its edit was not undone there, and each edit that deletes it and that the version
+// sees was.
+fn was_shown(fragment: &Fragment, undos: &UndoMap, version: &Version) -> bool
+    ensures { result ≡ was_shown undos.now version.now fragment.now.stamp fragment.now.deletions }
+{
+    !undos.was_undone(fragment.stamp, version)
+        && all_were_undone(undos, fragment.deletions.as_slice(), version)
+}
+
+// Whether each edit that the version sees was undone at it.
+fn all_were_undone(undos: &UndoMap, edits: &[Lamport], version: &Version) -> bool
+    ensures { result ≡ list_all (λ t. not (sees version.now t) || is_odd (count_seen undos.now t version.now)) edits.now }
+{
+    edits
+        .iter()
+        .all(|t| !version.sees(*t) || undos.was_undone(*t, version))
+}

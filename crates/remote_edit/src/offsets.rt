@@ -1,0 +1,66 @@
+// Places among the shown cells, taken to places among all cells.
+ghost use Rattle.std.specs.Prelude.{◌≡◌, ◌++◌, ◌≤◌, ◌^◌, map, IfOk};
+ghost use Rattle.op_model.specs.Sorted.{Each};
+ghost use Rattle.op_model.specs.Histories.{History};
+ghost use Rattle.op_model.specs.Made.{full_piece};
+ghost use Rattle.fragments.specs.Laws.{shown_len};
+ghost use Rattle.fragments.specs.Stand.{Tell};
+ghost use Rattle.remote_edit.specs.Walk.{bytes};
+ghost use Rattle.remote_edit.specs.Offsets.{full_in, piece_in, IsInText};
+
+use crate::Passed;
+use fragments::{Fragment, Visible};
+use op_model::{Piece, Pieces, Text};
+use std::alloc::{AllocError, Global};
+use sum_tree::SumTree;
+use tree_cursor::{Bias, Cursor};
+
+// The number of all cells before shown cell `offset`, or of all where the text ends there: one descent.
+fn full_offset(tree: &SumTree<Fragment>, offset: u64) -> Result<u64, AllocError>
+    requires room { bytes tree.now.items ≤ 2 ^ 40 }
+    requires within { offset ≤ shown_len tree.now.items }
+    ensures { IfOk result (λ n. n ≡ full_in tree.now.items offset) }
+{
+    let start = Passed {
+        visible: 0,
+        hidden: 0,
+    };
+    let mut cursor = Cursor::new(tree, start)?;
+    cursor.seek(&Visible { bytes: offset }, Bias::Right)?;
+    let hidden = cursor.start().hidden;
+    Ok(offset + hidden)
+}
+
+// A change, whose range counts shown cells, with a range that counts all cells.
+fn full_piece(alloc: Global, tree: &SumTree<Fragment>, change: &Piece) -> Result<Piece, AllocError>
+    requires room { bytes tree.now.items ≤ 2 ^ 40 }
+    requires range { IsInText tree.now.items change.now }
+    ensures { IfOk result (λ p. p ≡ piece_in tree.now.items change.now) }
+{
+    let start = full_offset(tree, change.start)?;
+    let end = if change.start == change.end {
+        start
+    } else {
+        full_offset(tree, change.end - 1)? + 1
+    };
+    let text = Text::new(String::from_str(alloc, change.text.as_str())?);
+    Ok(Piece { start, end, text })
+}
+
+/// The changes of a text, whose ranges count its bytes, as pieces, whose ranges count all bytes of the history: two descents a
+/// change.
+pub fn full_pieces(
+    alloc: Global,
+    tree: &SumTree<Fragment>,
+    changes: &[Piece],
+) -> Result<Pieces, AllocError>
+    requires room { bytes tree.now.items ≤ 2 ^ 40 }
+    requires ranges { Each (IsInText tree.now.items) changes.now }
+    ensures { IfOk result (λ ps. (h : History) → Tell tree.now.items h → ps ≡ map (full_piece h) changes.now) }
+{
+    let mut pieces = Vec::new(alloc);
+    for change in changes {
+        pieces.push(full_piece(alloc, tree, change)?)?;
+    }
+    Ok(Pieces::new(pieces))
+}

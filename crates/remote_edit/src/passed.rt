@@ -1,0 +1,120 @@
+// How many cells are passed in a walk over fragments.
+ghost use Rattle.remote_edit.specs.Passed.{move_passed, IsLaterPassed, PassedFits, passed_laws, move_seen, IsLaterSeen, SeenFits, seen_laws};
+
+use fragments::{FragmentSummary, Full, Visible};
+use lamport_clock::Version;
+use tree_cursor::{Bias, Dimension, Moves, Plain, Target};
+
+/// How many shown and how many hidden cells lie before.
+#[derive(Clone, Copy, Debug, PartialEq, Eq)]
+pub struct Passed {
+    pub visible: u64,
+    pub hidden: u64,
+}
+
+impl Plain for Passed {
+    type Value = (u64, u64);
+
+    ghost plain = { λ d. (d.visible, d.hidden) };
+
+    ghost later = { IsLaterPassed };
+}
+
+impl Moves<FragmentSummary> for Passed {
+    ghost moved = { move_passed };
+
+    ghost fits = { PassedFits };
+
+    ghost laws = { passed_laws };
+}
+
+impl<'a> Dimension<'a, FragmentSummary> for Passed {
+    fn try_add(self, s: &'a FragmentSummary) -> Option<Passed> {
+        Some(Passed {
+            visible: self.visible + s.visible,
+            hidden: self.hidden + s.hidden,
+        })
+    }
+}
+
+/// How many cells that a version sees lie before, and how many shown and hidden ones. As with [`fragments::FullAt`], a run
+/// of fragments is added whole where the version sees all of it or none of it.
+#[derive(Clone, Copy)]
+pub struct SeenPassed<'v> {
+    pub version: &'v Version,
+    pub bytes: u64,
+    pub visible: u64,
+    pub hidden: u64,
+}
+
+impl<'v> Plain for SeenPassed<'v> {
+    type Value = (((Version, u64), u64), u64);
+
+    ghost plain = { λ d. (((d.version.now, d.bytes), d.visible), d.hidden) };
+
+    ghost later = { IsLaterSeen };
+}
+
+impl<'v> Moves<FragmentSummary> for SeenPassed<'v> {
+    ghost moved = { move_seen };
+
+    ghost fits = { SeenFits };
+
+    ghost laws = { seen_laws };
+}
+
+impl<'a, 'v> Dimension<'a, FragmentSummary> for SeenPassed<'v> {
+    fn try_add(self, s: &'a FragmentSummary) -> Option<SeenPassed<'v>> {
+        let visible = self.visible + s.visible;
+        let hidden = self.hidden + s.hidden;
+        if s.span.lie_within(self.version) {
+            Some(SeenPassed {
+                version: self.version,
+                bytes: self.bytes + (s.visible + s.hidden),
+                visible,
+                hidden,
+            })
+        } else if s.span.lie_outside(self.version) {
+            Some(SeenPassed {
+                version: self.version,
+                bytes: self.bytes,
+                visible,
+                hidden,
+            })
+        } else {
+            None
+        }
+    }
+}
+
+/// A number of cells that a version sees is a target.
+impl<'v> Target<SeenPassed<'v>> for Full {
+    ghost use Rattle.tree_cursor.specs.Counting.{number_passes, number_stays};
+
+    ghost passes = { λ g p b. number_passes g.bytes p.0.0.1 b };
+
+    ghost stays = { λ g p q b h l. number_stays g.bytes p.0.0.1 q.0.0.1 b h l.0.0.1 };
+
+    fn passed(&self, at: SeenPassed<'v>, bias: Bias) -> bool {
+        match bias {
+            Bias::Left => self.bytes <= at.bytes,
+            Bias::Right => self.bytes < at.bytes,
+        }
+    }
+}
+
+/// A number of shown cells is a target.
+impl Target<Passed> for Visible {
+    ghost use Rattle.tree_cursor.specs.Counting.{number_passes, number_stays};
+
+    ghost passes = { λ g p b. number_passes g.bytes p.0 b };
+
+    ghost stays = { λ g p q b h l. number_stays g.bytes p.0 q.0 b h l.0 };
+
+    fn passed(&self, at: Passed, bias: Bias) -> bool {
+        match bias {
+            Bias::Left => self.bytes <= at.visible,
+            Bias::Right => self.bytes < at.visible,
+        }
+    }
+}

@@ -1,0 +1,71 @@
+// Edits placed among fragments.
+ghost use Rattle.std.specs.Prelude.{IfOk};
+ghost use Rattle.op_model.specs.declared.operation.Operation.TheVariants.{Edit};
+ghost use Rattle.remote_edit.specs.Placing.{MayPlace, ArePlaced, MayMake, IsMade};
+
+use crate::offsets::full_pieces;
+use crate::walk::walk_in;
+use fragments::{Fragment, InsertionIndex};
+use lamport_clock::{Lamport, Version};
+use op_model::{EditOp, Piece};
+use std::alloc::{AllocError, Global};
+use sum_tree::SumTree;
+use undo_map::UndoMap;
+
+/// Fragments and their index, which stand for a history with an operation more.
+#[derive(Drop)]
+pub struct IndexedFragments {
+    pub fragments: SumTree<Fragment>,
+    pub index: InsertionIndex,
+}
+
+/// The fragments and the index with an edit, where these and the undo counts stand for a lawful history in which it is good.
+///
+/// Each new text stands at its range's start, past the fragments there of later edits that its author had not seen, and what
+/// was shown to the author in the ranges is deleted; a piece without range and text changes and splits nothing. One walk over
+/// fragments and pieces: each piece costs a descent, the fragments in its range, and one change of the tree. The tree and the
+/// index that are given stay as they are, and share all that does not change with the new ones. What the edit does to the shown
+/// and to the hidden text is not told.
+pub fn place_remote(
+    alloc: Global,
+    tree: &SumTree<Fragment>,
+    index: &InsertionIndex,
+    undos: &UndoMap,
+    op: &EditOp,
+) -> Result<IndexedFragments, AllocError>
+    requires { MayPlace tree.now.items index.now undos.now (Edit op.now) }
+    ensures { IfOk result (λ p. ArePlaced tree.now.items index.now undos.now (Edit op.now) p.fragments.items p.index) }
+{
+    let walk = walk_in(alloc, tree, index, undos, op)?;
+    Ok(IndexedFragments {
+        fragments: walk.tree,
+        index: walk.index,
+    })
+}
+
+/// The edit that a replica makes of changes of its text, and the fragments and the index with it. The ranges of the changes count
+/// the bytes of the text; the stamp and the version are those of what the replica makes, and the changes meet no fault.
+///
+/// Two descents a change find the ranges among all bytes; then it is placed as a remote one. The texts are copied.
+pub fn place_local(
+    alloc: Global,
+    tree: &SumTree<Fragment>,
+    index: &InsertionIndex,
+    undos: &UndoMap,
+    stamp: Lamport,
+    version: Version,
+    changes: &[Piece],
+) -> Result<(EditOp, IndexedFragments), AllocError>
+    requires { MayMake tree.now.items index.now undos.now stamp version changes.now }
+    ensures made { IfOk result (λ r. IsMade tree.now.items index.now undos.now stamp version changes.now (Edit r.0)) }
+    ensures stands { IfOk result (λ r. ArePlaced tree.now.items index.now undos.now (Edit r.0) r.1.fragments.items r.1.index) }
+{
+    let pieces = full_pieces(alloc, tree, changes)?;
+    let op = EditOp {
+        stamp,
+        version,
+        pieces,
+    };
+    let placed = place_remote(alloc, tree, index, undos, &op)?;
+    Ok((op, placed))
+}

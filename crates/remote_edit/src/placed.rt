@@ -1,0 +1,13 @@
+// What an operation makes.
+use crate::Moves;
+use fragments::{Fragment, InsertionIndex};
+use sum_tree::SumTree;
+
+/// Fragments and an index that stand for a history with one operation more, and what the operation does to the shown and
+/// to the hidden text.
+#[derive(Drop)]
+pub struct Placed {
+    pub fragments: SumTree<Fragment>,
+    pub index: InsertionIndex,
+    pub moves: Moves,
+}

@@ -1,0 +1,188 @@
+// What an undo shows and hides.
+ghost use Rattle.std.specs.Prelude.{◌≡◌, ◌+◌, ◌≤◌, ◌∷◌, [], Some, length, slice_get, IfOk, OnOk};
+ghost use Rattle.std.specs.List.{list_any, list_all};
+ghost use Rattle.sum_tree.specs.Laws.{fold};
+ghost use Rattle.sum_tree.specs.Spliced.{spliced};
+ghost use Rattle.lamport_clock.specs.Stamps.{same_stamp};
+ghost use Rattle.undo_map.specs.Counts.{count_of, is_odd};
+ghost use Rattle.fragments.specs.Summaries.{no_fragments, summaries, summary_of, SummaryFits};
+ghost use Rattle.remote_edit.specs.Marks.{is_shown};
+ghost use Rattle.remote_edit.specs.Anew.{concerns, counted, anew, all_anew};
+ghost use Rattle.remote_edit.specs.Undoing.{StandWithUndo, MoveWithUndo};
+
+use crate::Placed;
+use crate::undo_moves::undo_moves;
+use fragments::{Fragment, FragmentSummary, Full, InsertionIndex};
+use lamport_clock::{Lamport, is_same};
+use std::alloc::{AllocError, Global};
+use sum_tree::{Item, SumTree};
+use tree_cursor::{FilterCursor, Keep};
+use undo_map::UndoMap;
+
+// Which runs of fragments may have cells that one of the edits brought or deletes: those that have seen it.
+#[derive(Drop)]
+pub(crate) struct SeesOne<'e> {
+    pub(crate) edits: &'e [Lamport],
+}
+
+impl<'e> Keep<FragmentSummary> for SeesOne<'e> {
+    ghost use Rattle.remote_edit.specs.SeesLaws.{sees_one, sees_parts};
+
+    ghost keeps = { λ k s. sees_one k.edits.now s };
+
+    ghost parts = { λ k a b f g h. sees_parts k.edits.now a b h };
+
+    fn keep(&self, s: &FragmentSummary) -> bool {
+        self.edits.iter().any(|t| s.greatest.sees(*t))
+    }
+}
+
+// Whether an edit brought the cells of a fragment, or deletes them.
+fn concerns(fragment: &Fragment, edit: Lamport) -> bool
+    ensures { result ≡ concerns fragment.now edit }
+{
+    is_same(edit, fragment.stamp) || stands_in(fragment.deletions.as_slice(), edit)
+}
+
+fn stands_in(stamps: &[Lamport], stamp: Lamport) -> bool
+    ensures { result ≡ list_any (same_stamp stamp) stamps.now }
+{
+    stamps.iter().any(|other| is_same(stamp, *other))
+}
+
+// Whether one of the edits brought the cells of a fragment, or deletes them.
+pub(crate) fn is_concerned(fragment: &Fragment, edits: &[Lamport]) -> bool
+    ensures { result ≡ list_any (concerns fragment.now) edits.now }
+{
+    edits.iter().any(|t| concerns(fragment, *t))
+}
+
+fn all_are_undone(undos: &UndoMap, edits: &[Lamport]) -> bool
+    ensures { result ≡ list_all (λ t. is_odd (count_of undos.now t)) edits.now }
+{
+    edits.iter().all(|t| undos.is_undone(*t))
+}
+
+// Whether the counts show a fragment.
+pub(crate) fn is_shown(undos: &UndoMap, fragment: &Fragment) -> bool
+    ensures { result ≡ is_shown undos.now fragment.now.stamp fragment.now.deletions }
+{
+    !undos.is_undone(fragment.stamp) && all_are_undone(undos, fragment.deletions.as_slice())
+}
+
+// A fragment as the counts show it, of which the undo `by` gave some.
+fn counted(
+    alloc: Global,
+    fragment: &Fragment,
+    undos: &UndoMap,
+    by: Lamport,
+) -> Result<Fragment, AllocError>
+    ensures { IfOk result (λ f. f ≡ counted undos.now by fragment.now) }
+{
+    let mut anew = fragment.copy(alloc)?;
+    anew.visible = is_shown(undos, fragment);
+    anew.max_undos.observe(by)?;
+    Ok(anew)
+}
+
+fn list_of(alloc: Global, fragment: Fragment) -> Result<Vec<Fragment>, AllocError>
+    ensures { IfOk result (λ v. v.items ≡ fragment ∷ []) }
+{
+    let mut list = Vec::with_capacity(alloc, 1)?;
+    list.push(fragment)?;
+    Ok(list)
+}
+
+// Puts a fragment in the place of another.
+fn replace(
+    alloc: Global,
+    fragments: &mut SumTree<Fragment>,
+    i: u64,
+    fragment: Fragment,
+) -> Result<(), AllocError>
+    requires within { i + 1 ≤ length fragments.old.items }
+    requires fits { SummaryFits (fold no_fragments summaries summary_of (spliced i (i + 1) (fragment ∷ []) fragments.old.items)) }
+    ensures { OnOk result (fragments.new.items ≡ spliced i (i + 1) (fragment ∷ []) fragments.old.items) }
+{
+    fragments.known();
+    let one = list_of(alloc, fragment)?;
+    fragments.splice(alloc, i, i + 1, one)
+}
+
+// Puts what an undo of edits makes of fragment i in its place.
+fn put_anew(
+    alloc: Global,
+    fragments: &mut SumTree<Fragment>,
+    i: u64,
+    fragment: &Fragment,
+    undos: &UndoMap,
+    by: Lamport,
+    edits: &[Lamport],
+) -> Result<(), AllocError>
+    requires stands { slice_get fragments.old.items i ≡ Some fragment.now }
+    requires fits { SummaryFits (fold no_fragments summaries summary_of (spliced i (i + 1) (anew undos.now by edits.now fragment.now ∷ []) fragments.old.items)) }
+    ensures { OnOk result (fragments.new.items ≡ spliced i (i + 1) (anew undos.now by edits.now fragment.now ∷ []) fragments.old.items) }
+{
+    if !is_concerned(fragment, edits) {
+        return Ok(());
+    }
+    let one = counted(alloc, fragment, undos, by)?;
+    replace(alloc, fragments, i, one)
+}
+
+// The fragments of a history with an undo that counts edits.
+fn with_undo(
+    alloc: Global,
+    tree: &SumTree<Fragment>,
+    undos: &UndoMap,
+    by: Lamport,
+    edits: &[Lamport],
+) -> Result<SumTree<Fragment>, AllocError>
+    ensures { IfOk result (λ t. t.items ≡ all_anew undos.now by edits.now tree.now.items) }
+{
+    tree.known();
+    let mut fragments = tree.share()?;
+    let mut found = FilterCursor::new(tree, Full { bytes: 0 }, SeesOne { edits })?;
+    while let Some(fragment) = found.next()? {
+        put_anew(
+            alloc,
+            &mut fragments,
+            found.index(),
+            fragment,
+            undos,
+            by,
+            edits,
+        )?;
+    }
+    Ok(fragments)
+}
+
+/// Shows and hides fragments anew where the undo `by` counts edits: those that one of the edits brought or deletes. The
+/// map is the one that has the undo's counts already. The edits are those that it counts, in any order; one may be there
+/// twice, and others with them change nothing that is shown.
+///
+/// Runs of fragments that have seen none of the edits are passed over whole and stay shared. So the cost grows with the
+/// number of fragments that one of the edits brought or deletes, or that have seen something later by the author of one,
+/// times the height. It answers want of memory alone.
+pub fn mark_undo(
+    alloc: Global,
+    tree: &SumTree<Fragment>,
+    index: &InsertionIndex,
+    undos: &UndoMap,
+    by: Lamport,
+    edits: &[Lamport],
+) -> Result<Placed, AllocError>
+    ensures fragments { IfOk result (λ p. p.fragments.items ≡ all_anew undos.now by edits.now tree.now.items) }
+    ensures index { IfOk result (λ p. p.index ≡ index.now) }
+    ensures stands { IfOk result (λ p. StandWithUndo tree.now.items index.now undos.now by edits.now p.fragments.items p.index) }
+    ensures moves { IfOk result (λ p. MoveWithUndo tree.now.items index.now undos.now by edits.now p.moves) }
+{
+    let fragments = with_undo(alloc, tree, undos, by, edits)?;
+    let index = index.share()?;
+    let moves = undo_moves(alloc, tree, undos, edits)?;
+    Ok(Placed {
+        fragments,
+        index,
+        moves,
+    })
+}

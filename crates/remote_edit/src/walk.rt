@@ -1,0 +1,272 @@
+// One walk over a tree of fragments, from the first piece of an edit to the last.
+ghost use Rattle.std.specs.Prelude.{◌≡◌, ℕ, ◌+◌, ◌-◌, ◌<◌, ◌≤◌, ◌^◌, ◌++◌, false, [], length, take, drop, IfOk};
+ghost use Rattle.lamport_clock.specs.Versions.{sees};
+ghost use Rattle.op_model.specs.Operations.{text_total};
+ghost use Rattle.sum_tree.specs.Spliced.{spliced};
+ghost use Rattle.remote_edit.specs.Indexes.{IsIndexed};
+ghost use Rattle.remote_edit.specs.Walk.{bytes, seen_bytes, Fit, one_piece, changes, walk};
+ghost use Rattle.remote_edit.specs.Steps.{before, after, IsSought, IsAt};
+ghost use Rattle.remote_edit.specs.Gathers.{so_far, ahead};
+
+use crate::gather::Gather;
+use fragments::{Fragment, Full, FullAt, InsertionIndex};
+use op_model::{EditOp, Piece};
+use std::alloc::{AllocError, Global};
+use sum_tree::SumTree;
+use tree_cursor::{Bias, Cursor};
+use undo_map::UndoMap;
+
+// A tree has no more cells.
+const MOST_CELLS: u64 = 1 << 40;
+
+// How many fragments are passed, how many cells of these the edit's version sees and how many are its own, all fragments, and
+// their index.
+#[derive(Drop)]
+pub struct Walk {
+    pub tree: SumTree<Fragment>,
+    pub at: u64,
+    pub place: u64,
+    pub number: u64,
+    pub index: InsertionIndex,
+}
+
+impl Walk {
+    // To the fragment in which `count` more cells are passed that the edit's version sees, over whole nodes of the tree.
+    // Answers how many are left to pass.
+    fn seek(&mut self, edit: &EditOp, count: u64) -> Result<u64, AllocError>
+        requires within { self.old.at ≤ length self.old.tree.items }
+        requires fit { Fit self.old.tree.items }
+        requires place { self.old.place ≡ seen_bytes edit.now.version (take self.old.at self.old.tree.items) }
+        ensures tree { self.new.tree ≡ self.old.tree }
+        ensures number { self.new.number ≡ self.old.number }
+        ensures index { self.new.index ≡ self.old.index }
+        ensures sought { IfOk result (λ n. IsSought edit.now.stamp edit.now.version self.old.tree.items count self.old.at n self.new.at self.new.place) }
+    {
+        if count == 0 || count > MOST_CELLS {
+            return Ok(count);
+        }
+        let target = Full {
+            bytes: self.place + count,
+        };
+        let start = FullAt {
+            version: &edit.version,
+            bytes: 0,
+        };
+        let mut cursor = Cursor::new(&self.tree, start)?;
+        cursor.seek(&target, Bias::Left)?;
+        let at = cursor.index();
+        let place = cursor.start().bytes;
+        self.at = at;
+        self.place = place;
+        Ok(target.bytes - place)
+    }
+
+    // What a piece makes of the range that begins here, where `left` more cells are passed before its text.
+    fn gather(
+        &self,
+        alloc: Global,
+        undos: &UndoMap,
+        edit: &EditOp,
+        left: u64,
+        piece: &Piece,
+    ) -> Result<Gather, AllocError>
+        requires unseen { sees edit.now.version edit.now.stamp ≡ false }
+        requires within { self.now.at ≤ length self.now.tree.items }
+        requires fit { Fit self.now.tree.items }
+        requires place { self.now.place ≡ seen_bytes edit.now.version (take self.now.at self.now.tree.items) }
+        requires room { bytes self.now.tree.items + length piece.now.text ≤ 2 ^ 40 }
+        requires numbers { self.now.number + length piece.now.text < 2 ^ 64 }
+        requires indexed { IsIndexed edit.now.stamp self.now.number (take self.now.at self.now.tree.items ++ drop self.now.at self.now.tree.items) self.now.index }
+        ensures from { IfOk result (λ g. g.from ≡ self.now.at) }
+        ensures order { IfOk result (λ g. self.now.at ≤ g.at) }
+        ensures gathered { IfOk result (λ g. IsAt edit.now.version
+            (one_piece undos.now edit.now.stamp edit.now.version left self.now.number piece.now (take self.now.at self.now.tree.items) (drop self.now.at self.now.tree.items))
+            (bytes self.now.tree.items + length piece.now.text)
+            (so_far self.now.tree.items g) (ahead self.now.tree.items g) g.place) }
+        ensures number { IfOk result (λ g. g.number ≡ self.now.number + length piece.now.text) }
+        ensures indexed { IfOk result (λ g. IsIndexed edit.now.stamp g.number (so_far self.now.tree.items g ++ ahead self.now.tree.items g) g.index) }
+    {
+        let mut gather = Gather {
+            from: self.at,
+            at: self.at,
+            made: Vec::new(alloc),
+            back: None,
+            place: self.place,
+            number: self.number,
+            index: self.index.share()?,
+        };
+        let text = piece.text.as_str().len() as u64;
+        let range = piece.end.saturating_sub(piece.start);
+        gather.pass(alloc, &self.tree, edit, left, None)?;
+        gather.skip_later(alloc, &self.tree, edit)?;
+        gather.put_new(alloc, &self.tree, edit, text)?;
+        gather.pass(alloc, &self.tree, edit, range, Some(undos))?;
+        Ok(gather)
+    }
+
+    // Puts what was gathered in the place of its range.
+    fn change(&mut self, alloc: Global, gather: Gather) -> Result<(), AllocError>
+        requires order { gather.from ≤ gather.at }
+        requires within { gather.from ≤ length self.old.tree.items }
+        requires fit { Fit (so_far self.old.tree.items gather ++ ahead self.old.tree.items gather) }
+        ensures before { IfOk result (λ _. take self.new.at self.new.tree.items ≡ so_far self.old.tree.items gather) }
+        ensures after { IfOk result (λ _. drop self.new.at self.new.tree.items ≡ ahead self.old.tree.items gather) }
+        ensures within { IfOk result (λ _. self.new.at ≤ length self.new.tree.items) }
+        ensures place { IfOk result (λ _. self.new.place ≡ gather.place) }
+        ensures number { IfOk result (λ _. self.new.number ≡ gather.number) }
+        ensures index { IfOk result (λ _. self.new.index ≡ gather.index) }
+    {
+        self.index = gather.index.share()?;
+        self.number = gather.number;
+        self.place = gather.place;
+        let at = put_back(
+            &mut self.tree,
+            alloc,
+            gather.from,
+            gather.at,
+            gather.made,
+            gather.back,
+        )?;
+        self.at = at;
+        Ok(())
+    }
+
+    // Over one piece, whose range begins `count` cells that the edit's version sees behind this place.
+    fn piece(
+        &mut self,
+        alloc: Global,
+        undos: &UndoMap,
+        edit: &EditOp,
+        count: u64,
+        piece: &Piece,
+    ) -> Result<(), AllocError>
+        requires unseen { sees edit.now.version edit.now.stamp ≡ false }
+        requires within { self.old.at ≤ length self.old.tree.items }
+        requires fit { Fit self.old.tree.items }
+        requires place { self.old.place ≡ seen_bytes edit.now.version (take self.old.at self.old.tree.items) }
+        requires room { bytes self.old.tree.items + length piece.now.text ≤ 2 ^ 40 }
+        requires numbers { self.old.number + length piece.now.text < 2 ^ 64 }
+        requires indexed { IsIndexed edit.now.stamp self.old.number self.old.tree.items self.old.index }
+        ensures within { IfOk result (λ _. self.new.at ≤ length self.new.tree.items) }
+        ensures passed { IfOk result (λ _. IsAt edit.now.version
+            (one_piece undos.now edit.now.stamp edit.now.version count self.old.number piece.now (take self.old.at self.old.tree.items) (drop self.old.at self.old.tree.items))
+            (bytes self.old.tree.items + length piece.now.text)
+            (take self.new.at self.new.tree.items) (drop self.new.at self.new.tree.items) self.new.place) }
+        ensures number { IfOk result (λ _. self.new.number ≡ self.old.number + length piece.now.text) }
+        ensures indexed { IfOk result (λ _. IsIndexed edit.now.stamp self.new.number self.new.tree.items self.new.index) }
+    {
+        let left = self.seek(edit, count)?;
+        let gather = self.gather(alloc, undos, edit, left, piece)?;
+        self.change(alloc, gather)
+    }
+
+    // Over all pieces of the edit, from the beginning.
+    fn pass_pieces(
+        &mut self,
+        alloc: Global,
+        undos: &UndoMap,
+        edit: &EditOp,
+    ) -> Result<(), AllocError>
+        requires start { self.old.at ≡ 0 }
+        requires place { self.old.place ≡ 0 }
+        requires number { self.old.number ≡ 0 }
+        requires fit { Fit self.old.tree.items }
+        requires unseen { sees edit.now.version edit.now.stamp ≡ false }
+        requires room { bytes self.old.tree.items + text_total edit.now.pieces ≤ 2 ^ 40 }
+        requires indexed { IsIndexed edit.now.stamp 0 self.old.tree.items self.old.index }
+        ensures walked { IfOk result (λ _. self.new.tree.items ≡ walk undos.now edit.now.stamp edit.now.version 0 0 edit.now.pieces [] self.old.tree.items) }
+        ensures fit { IfOk result (λ _. Fit self.new.tree.items) }
+        ensures indexed { IfOk result (λ _. IsIndexed edit.now.stamp self.new.number self.new.tree.items self.new.index) }
+    {
+        let mut place = 0;
+        for piece in edit.pieces.as_slice() {
+            if changes(piece) {
+                let count = piece.start.saturating_sub(place);
+                self.piece(alloc, undos, edit, count, piece)?;
+                place = piece.end;
+            }
+        }
+        Ok(())
+    }
+}
+
+// Puts fragments, and what is left of one, in the place of those from `from` up to `at`. Answers how many are before what is
+// left.
+fn put_back(
+    tree: &mut SumTree<Fragment>,
+    alloc: Global,
+    from: u64,
+    at: u64,
+    made: Vec<Fragment>,
+    back: Option<Fragment>,
+) -> Result<u64, AllocError>
+    requires order { from ≤ at }
+    requires within { from ≤ length tree.old.items }
+    requires fit { Fit (before tree.old.items from made.items ++ after tree.old.items at back) }
+    ensures before { IfOk result (λ n. take n tree.new.items ≡ before tree.old.items from made.items) }
+    ensures after { IfOk result (λ n. drop n tree.new.items ≡ after tree.old.items at back) }
+    ensures within { IfOk result (λ n. n ≤ length tree.new.items) }
+{
+    tree.known();
+    let mut all = made;
+    let count = all.len() as u64;
+    if let Some(rest) = back {
+        all.push(rest)?;
+    }
+    let to = at.min(tree.len());
+    put(tree, alloc, from, to, all)?;
+    Ok(from + count)
+}
+
+// Puts fragments in the place of a range. No node of the tree is made elsewhere: with height h, at most 3 * (h + 1) + 1 where
+// the range lies in one leaf and at most 12 fragments come, and else those of the parts before and after the range and of
+// the new fragments, put together.
+fn put(
+    tree: &mut SumTree<Fragment>,
+    alloc: Global,
+    from: u64,
+    to: u64,
+    fragments: Vec<Fragment>,
+) -> Result<(), AllocError>
+    requires order { from ≤ to }
+    requires within { to ≤ length tree.old.items }
+    requires fit { Fit (spliced from to fragments.items tree.old.items) }
+    ensures { IfOk result (λ _. tree.new.items ≡ spliced from to fragments.items tree.old.items) }
+{
+    tree.splice(alloc, from, to, fragments)?;
+    Ok(())
+}
+
+// Whether a piece has a range or a text.
+fn changes(piece: &Piece) -> bool
+    ensures { result ≡ changes piece.now }
+{
+    piece.start < piece.end || !piece.text.as_str().is_empty()
+}
+
+// The walk over all pieces of an edit.
+pub fn walk_in(
+    alloc: Global,
+    tree: &SumTree<Fragment>,
+    index: &InsertionIndex,
+    undos: &UndoMap,
+    edit: &EditOp,
+) -> Result<Walk, AllocError>
+    requires fit { Fit tree.now.items }
+    requires unseen { sees edit.now.version edit.now.stamp ≡ false }
+    requires room { bytes tree.now.items + text_total edit.now.pieces ≤ 2 ^ 40 }
+    requires indexed { IsIndexed edit.now.stamp 0 tree.now.items index.now }
+    ensures walked { IfOk result (λ w. w.tree.items ≡ walk undos.now edit.now.stamp edit.now.version 0 0 edit.now.pieces [] tree.now.items) }
+    ensures fit { IfOk result (λ w. Fit w.tree.items) }
+    ensures indexed { IfOk result (λ w. IsIndexed edit.now.stamp w.number w.tree.items w.index) }
+{
+    let mut state = Walk {
+        tree: tree.share()?,
+        at: 0,
+        place: 0,
+        number: 0,
+        index: index.share()?,
+    };
+    state.pass_pieces(alloc, undos, edit)?;
+    Ok(state)
+}
