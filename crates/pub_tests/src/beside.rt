@@ -1,0 +1,130 @@
+// A publisher beside a reader's loop, in two threads.
+ghost use Rattle.std.specs.Prelude.{◌≡◌, ◌∷◌, [], List, OnOk};
+ghost use Rattle.op_model.specs.declared.operation.Operation.{Operation};
+ghost use Rattle.text_buffer.specs.Document.{IsFront};
+
+use crate::pairs::AMPLE;
+use snapshot_pub::{Publisher, SnapReader, open_pairs};
+use std::alloc::{AllocError, Global};
+use std::sync::Wait;
+use std::thread::{Threads, join};
+use text_buffer::{Buffer, EditFault, NewFault, Snapshot};
+
+// How many snapshots are published after the first.
+const COUNT: u64 = 100_000;
+
+// An edit without ranges, which changes nothing and counts as an operation.
+fn edit(buffer: &mut Buffer) -> Result<(), EditFault>
+    ensures { OnOk result (IsFront buffer.old.history buffer.new.history) }
+{
+    let _made = buffer.edit(&[])?;
+    Ok(())
+}
+
+fn publish<R: Wait>(rt: &R, publisher: &mut Publisher, buffer: &Buffer) -> Result<(), AllocError>
+    requires { (first : List Operation) × (publisher.old.published ≡ first ∷ []) × IsFront first buffer.now.history }
+    ensures { OnOk result (publisher.new.published ≡ buffer.now.history ∷ []) }
+{
+    let snapshot = buffer.snapshot()?;
+    publisher.publish(rt, 0, &snapshot)
+}
+
+// Publishes what the buffer is after each of so many edits.
+fn publish_all<R: Wait>(
+    rt: &R,
+    publisher: &mut Publisher,
+    buffer: &mut Buffer,
+) -> Result<(), EditFault>
+    requires { publisher.old.published ≡ buffer.old.history ∷ [] }
+{
+    for _i in 0..COUNT {
+        edit(buffer)?;
+        publish(rt, publisher, buffer)?;
+    }
+    Ok(())
+}
+
+// How many operations `latest` shows; none for want of memory.
+fn shown(reader: &mut SnapReader) -> u64 {
+    match reader.latest() {
+        Ok(snapshot) => snapshot.applied().len(),
+        Err(_) => 0,
+    }
+}
+
+// Looks until the last snapshot is there: how often it stepped back, and how often it did not enter.
+fn watch(reader: &mut SnapReader) -> (u64, u64) {
+    let mut last: u64 = 1;
+    let mut back: u64 = 0;
+    let mut unentered: u64 = 0;
+    for _i in 0..1_000_000_000u64 {
+        let length = shown(reader);
+        back = back.saturating_add((length < last) as u64);
+        unentered = unentered.saturating_add(!reader.entered() as u64);
+        last = length;
+        if last > COUNT {
+            break;
+        }
+    }
+    (back, unentered)
+}
+
+fn run_both<R: Threads + Wait + Sync>(
+    rt: &R,
+    publisher: &mut Publisher,
+    buffer: &mut Buffer,
+    reader: &mut SnapReader,
+) -> bool
+    requires { publisher.old.published ≡ buffer.old.history ∷ [] }
+{
+    let (published, watched) = join(
+        rt,
+        || -> Result<(), EditFault>
+            requires { publisher.now.published ≡ buffer.now.history ∷ [] }
+        { publish_all(rt, publisher, buffer) },
+        || watch(reader),
+    );
+    published == Ok(()) && watched == (0, 0) && shown(reader) == COUNT + 1
+}
+
+fn opens<R: Threads + Wait + Sync>(
+    rt: &R,
+    alloc: Global,
+    buffer: &mut Buffer,
+    first: Snapshot,
+) -> bool
+    requires { first ≡ buffer.old.history }
+{
+    let Ok((mut publisher, mut readers)) = open_pairs(rt, alloc, first, 1) else {
+        return false;
+    };
+    let right = match readers.pop() {
+        Some(mut reader) => run_both(rt, &mut publisher, buffer, &mut reader),
+        None => false,
+    };
+    publisher.close(rt);
+    right
+}
+
+fn opened<R: Threads + Wait + Sync>(
+    rt: &R,
+    alloc: Global,
+    buffer: Result<Buffer, NewFault>,
+) -> bool {
+    let Ok(mut buffer) = buffer else {
+        return false;
+    };
+    match buffer.snapshot() {
+        Ok(first) => opens(rt, alloc, &mut buffer, first),
+        Err(_) => false,
+    }
+}
+
+fn over_base<R: Threads + Wait + Sync>(rt: &R, alloc: Global) -> bool {
+    opened(rt, alloc, Buffer::new(alloc, 1, "ab", AMPLE))
+}
+
+#[test]
+fn a_reader_beside_a_publisher_never_steps_back(rt: HostRuntime) {
+    assert!(rt; over_base(&rt, rt.alloc()));
+}

@@ -1,0 +1,146 @@
+// What readers show of what is published, on one thread, with ample memory.
+ghost use Rattle.std.specs.Prelude.{◌≡◌, ◌∷◌, [], List, OnOk};
+ghost use Rattle.logbook.specs.Pages.{Book};
+ghost use Rattle.op_model.specs.declared.operation.Operation.{Operation};
+ghost use Rattle.text_buffer.specs.Document.{IsFront};
+
+use op_model::{Limits, Piece, Text};
+use snapshot_pub::{Publisher, SnapReader, open_pairs};
+use std::alloc::{AllocError, Global};
+use std::sync::Wait;
+use text_buffer::{Buffer, EditFault, NewFault, Snapshot};
+
+pub(crate) const AMPLE: Limits = Limits {
+    bytes: 1 << 40,
+    entries: (1 << 40) - 1,
+};
+
+// Puts X between the two letters.
+fn insert(alloc: Global, buffer: &mut Buffer) -> Result<(), EditFault>
+    ensures { OnOk result (IsFront buffer.old.history buffer.new.history) }
+{
+    let text = Text::new(String::from_str(alloc, "X")?);
+    let piece = Piece {
+        start: 1,
+        end: 1,
+        text,
+    };
+    let _made = buffer.edit(&[piece])?;
+    Ok(())
+}
+
+fn is_text(alloc: Global, snapshot: &Snapshot, want: &str) -> Result<bool, AllocError> {
+    Ok(snapshot.text().to_string(alloc)?.as_str() == want)
+}
+
+// Whether `latest` gives the text.
+fn gives(alloc: Global, reader: &mut SnapReader, want: &str) -> Result<bool, AllocError>
+    ensures { reader.new.pair ≡ reader.old.pair }
+{
+    let snapshot = reader.latest()?;
+    is_text(alloc, &snapshot, want)
+}
+
+// Whether `latest` gives the text, and enters as it is to.
+fn shows(alloc: Global, reader: &mut SnapReader, want: &str, enters: bool) -> bool
+    ensures { reader.new.pair ≡ reader.old.pair }
+{
+    gives(alloc, reader, want) == Ok(true) && reader.entered() == enters
+}
+
+fn publish_both<R: Wait>(
+    rt: &R,
+    publisher: &mut Publisher,
+    snapshot: &Snapshot,
+) -> Result<(), AllocError>
+    requires { (first : List Operation) × (publisher.old.published ≡ first ∷ first ∷ []) × IsFront first snapshot.now }
+    ensures pairs { publisher.new.pairs ≡ publisher.old.pairs }
+    ensures published { OnOk result (publisher.new.published ≡ snapshot.now ∷ snapshot.now ∷ []) }
+{
+    publisher.publish(rt, 0, snapshot)?;
+    publisher.publish(rt, 1, snapshot)
+}
+
+// Publishes the snapshot to both, and tells the first reader alone.
+fn publish_and_tell<R: Wait>(
+    rt: &R,
+    publisher: &mut Publisher,
+    snapshot: &Snapshot,
+    told: &mut SnapReader,
+) -> Result<(), AllocError>
+    requires published { (first : List Operation) × (publisher.old.published ≡ first ∷ first ∷ []) × IsFront first snapshot.now }
+    requires pair { (other : Book) × (publisher.old.pairs ≡ told.old.pair ∷ other ∷ []) }
+{
+    publish_both(rt, publisher, snapshot)?;
+    told.learn(publisher.tell(0)?);
+    Ok(())
+}
+
+// Publishes what the buffer is after an insertion.
+fn publish_next<R: Wait>(
+    rt: &R,
+    alloc: Global,
+    buffer: &mut Buffer,
+    publisher: &mut Publisher,
+    told: &mut SnapReader,
+) -> Result<(), EditFault>
+    requires published { publisher.old.published ≡ buffer.old.history ∷ buffer.old.history ∷ [] }
+    requires pair { (other : Book) × (publisher.old.pairs ≡ told.old.pair ∷ other ∷ []) }
+{
+    insert(alloc, buffer)?;
+    let snapshot = buffer.snapshot()?;
+    Ok(publish_and_tell(rt, publisher, &snapshot, told)?)
+}
+
+// Whether both readers show what is published before an insertion, after it, and once the writers are gone.
+fn both_show<R: Wait>(
+    rt: &R,
+    alloc: Global,
+    buffer: &mut Buffer,
+    mut publisher: Publisher,
+    told: &mut SnapReader,
+    untold: &mut SnapReader,
+) -> bool
+    requires published { publisher.published ≡ buffer.old.history ∷ buffer.old.history ∷ [] }
+    requires pairs { publisher.pairs ≡ told.old.pair ∷ untold.old.pair ∷ [] }
+{
+    let looked = told.entered() || untold.entered();
+    let before = shows(alloc, told, "ab", true) && shows(alloc, untold, "ab", true);
+    let published = publish_next(rt, alloc, buffer, &mut publisher, told) == Ok(());
+    let after = shows(alloc, told, "aXb", true) && shows(alloc, untold, "aXb", true);
+    publisher.close(rt);
+    let closed = shows(alloc, told, "aXb", false) && shows(alloc, untold, "aXb", false);
+    !looked && before && published && after && closed
+}
+
+fn opens<R: Wait>(rt: &R, alloc: Global, buffer: &mut Buffer, first: Snapshot) -> bool
+    requires { first ≡ buffer.old.history }
+{
+    let Ok((publisher, mut readers)) = open_pairs(rt, alloc, first, 2) else {
+        return false;
+    };
+    let (Some(mut untold), Some(mut told)) = (readers.pop(), readers.pop()) else {
+        publisher.close(rt);
+        return false;
+    };
+    both_show(rt, alloc, buffer, publisher, &mut told, &mut untold)
+}
+
+fn opened<R: Wait>(rt: &R, alloc: Global, buffer: Result<Buffer, NewFault>) -> bool {
+    let Ok(mut buffer) = buffer else {
+        return false;
+    };
+    match buffer.snapshot() {
+        Ok(first) => opens(rt, alloc, &mut buffer, first),
+        Err(_) => false,
+    }
+}
+
+fn over_base<R: Wait>(rt: &R, alloc: Global) -> bool {
+    opened(rt, alloc, Buffer::new(alloc, 1, "ab", AMPLE))
+}
+
+#[test]
+fn readers_show_what_is_published(rt: HostRuntime) {
+    assert!(rt; over_base(&rt, rt.alloc()));
+}

@@ -1,0 +1,13 @@
+use Rattle.std.proofs.Common.{◌≡◌, [], ◌∷◌, refl, ap, sym, ◌∙◌}
+use Rattle.logbook.specs.Pages.{Book}
+use Rattle.snapshot_pub.specs.States.{ReaderState, ToldState}
+use Rattle.snapshot_pub.proofs.reader.SnapReader.learn.Goals as goal
+
+pub invariant_of-self : goal.invariant_of-self
+invariant_of-self c =
+    let pair : c.self.inside.longest.reached.book ≡ c.told.inside.kept.reached.book =
+    ap (λ (r : ReaderState). r.pair) c.self.view_is ∙ (sym c.requires ∙ sym (ap (λ (t : ToldState). t.pair) c.told.view_is)) in
+    c.self.invariant ∙ ap (λ (b : Book). b ∷ []) pair
+
+pub same-self : goal.same-self
+same-self c = refl

@@ -1,0 +1,4 @@
+pub mod Logs
+pub mod Rule
+pub mod States
+pub mod Fields

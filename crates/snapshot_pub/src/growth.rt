@@ -1,0 +1,125 @@
+// How far the list of a pair has grown: a log of all that was ever to be shown there. It is there for proofs; what is kept of it
+// is the number of its operations.
+ghost use Rattle.std.specs.Prelude.{◌≡◌, [], length, MatchResult};
+ghost use Rattle.text_buffer.specs.Document.{IsFront};
+ghost use Rattle.snapshot_pub.specs.Logs.{joined, word_of};
+
+use crate::kept::Kept;
+use logbook::{Gain, Offer, Plain, Play, Rule, Seen, Start, Word};
+use op_model::Operation;
+use std::alloc::AllocError;
+use text_buffer::Snapshot;
+
+/// What one snapshot adds to a log. No value of it is made: clauses read an array as a list, of any length.
+pub type Added = [Operation; 0];
+
+/// A log that was reached. It has no bytes.
+pub type Reached = Seen<Added, u64, Counted>;
+
+/// The rule of a log: a word has the number of its operations.
+pub struct Counted;
+
+impl Rule<Added, u64> for Counted {
+    ghost use Rattle.std.specs.Prelude.{[]};
+    ghost use base.Fml.{ftrue};
+    ghost use Rattle.snapshot_pub.specs.Logs.{IsCounted};
+
+    ghost holds = { λ cells log. IsCounted cells log };
+
+    ghost first = { [] };
+
+    ghost hinted = { λ n log. Unit {0} };
+
+    ghost shows = { λ log. [] };
+
+    ghost keeps = { λ names log. ftrue };
+
+    ghost moves = { λ ask before after answer. Unit {0} };
+}
+
+/// Nothing is traded for a step.
+pub struct Nothing;
+
+impl Gain<Added, u64> for Nothing {
+    ghost use base.Fml.{ftrue};
+
+    ghost after = { λ names about answer. ftrue };
+}
+
+/// The step that adds what a snapshot has beyond so many operations.
+pub struct Add;
+
+impl Play<Added, u64> for Add {
+    ghost use Rattle.snapshot_pub.specs.Logs.{Adds};
+
+    ghost then = { Adds };
+}
+
+impl Plain<(u64, Snapshot), Added, u64> for Add {
+    ghost use Rattle.std.specs.Prelude.{None, drop};
+
+    ghost ask = { λ x. drop x.0 x.1 };
+
+    ghost state = { λ x. None };
+}
+
+/// The log of a pair, and the right to add to it.
+#[derive(Drop)]
+pub struct Growth {
+    word: Word<Added, u64, Counted>,
+    operations: u64,
+    pub(crate) reached: Reached,
+    ghost word_is: { word ≡ word_of reached.book },
+    ghost counted: { operations ≡ length (joined reached.log) },
+}
+
+impl Growth {
+    /// Of no operation.
+    pub fn new() -> Growth
+        ensures { joined result.reached.log ≡ [] }
+    {
+        let (reached, mut first, _second) = Seen::open(Start::alone(), 0, 0);
+        Growth {
+            word: Word::tracked(0, &mut first),
+            operations: 0,
+            reached,
+        }
+    }
+
+    /// Adds what the snapshot has beyond the log. On want of memory the log is as before.
+    pub fn grow(&mut self, snapshot: Snapshot) -> Result<Kept, AllocError>
+        requires { IsFront (joined self.old.reached.log) snapshot }
+        ensures book { self.new.reached.book ≡ self.old.reached.book }
+        ensures grown { MatchResult result (λ k. (k.snapshot ≡ snapshot) × (k.reached ≡ self.new.reached)) (λ _. self.new.reached ≡ self.old.reached) }
+    {
+        let operations = snapshot.applied().len();
+        let more = (self.operations, snapshot);
+        let mut reached = self.reached.again();
+        let mut offer: Offer<Added, u64, Counted, Nothing> = reached.plain::<
+            Nothing,
+            (u64, Snapshot),
+            Add,
+        >(&more);
+        let mut pen = reached.no_pen();
+        let expected = more.0;
+        let found = self
+            .word
+            .compare_exchange::<Add, Nothing>(
+                expected,
+                operations,
+                &mut reached,
+                &mut offer,
+                &mut pen,
+            );
+        // It never is: nobody else has the word, which its type cannot say.
+        if found != expected {
+            return Err(AllocError);
+        }
+        self.operations = operations;
+        self.reached = reached.again();
+        Ok(Kept {
+            snapshot: more.1,
+            reached,
+        })
+    }
+}

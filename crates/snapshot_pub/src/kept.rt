@@ -1,0 +1,58 @@
+// A snapshot that remembers how far its pair had grown.
+ghost use Rattle.std.specs.Prelude.{◌≡◌, IfOk, MatchBool};
+ghost use Rattle.text_buffer.specs.Document.{IsFront};
+ghost use Rattle.snapshot_pub.specs.Logs.{joined};
+
+use crate::growth::Reached;
+use left_right::Absorb;
+use std::alloc::AllocError;
+use text_buffer::Snapshot;
+
+/// A snapshot that is or was shown, and the log of its pair as it was then: it comes to the snapshot's own list.
+#[derive(Drop)]
+pub struct Kept {
+    pub(crate) snapshot: Snapshot,
+    pub(crate) reached: Reached,
+    ghost whole: { joined reached.log ≡ snapshot },
+}
+
+impl Kept {
+    /// A second owner of the same snapshot.
+    pub fn share(&self) -> Result<Kept, AllocError>
+        ensures { IfOk result (λ k. k ≡ self.now) }
+    {
+        Ok(Kept {
+            snapshot: self.snapshot.share()?,
+            reached: self.reached.again(),
+        })
+    }
+
+    /// Whether it begins with the other one of the same pair, as the longer of two does: both begin what the log was since.
+    pub fn begins_with(&self, other: &Kept) -> bool
+        requires { other.now.reached.book ≡ self.now.reached.book }
+        ensures { MatchBool result (IsFront other.now.snapshot self.now.snapshot) (IsFront self.now.snapshot other.now.snapshot) }
+    {
+        let mut both = self.reached.again();
+        both.learn(&other.reached);
+        other.snapshot.applied().len() <= self.snapshot.applied().len()
+    }
+}
+
+/// What is absorbed is the snapshot that comes in place of the one there.
+impl Absorb<Kept> for Kept {
+    type State = Kept;
+
+    ghost state = { λ s. s };
+
+    ghost applied = { λ _ s. s };
+
+    fn absorb_first(&mut self, operation: &Kept, _other: &Kept) -> Result<(), AllocError> {
+        *self = operation.share()?;
+        Ok(())
+    }
+
+    fn absorb_second(&mut self, operation: Kept, _other: &Kept) -> Result<(), Kept> {
+        *self = operation;
+        Ok(())
+    }
+}

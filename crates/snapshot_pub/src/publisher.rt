@@ -1,0 +1,143 @@
+// The publisher: the writer's ends of all pairs.
+ghost use Rattle.std.specs.Prelude.{◌≡◌, false, ◌<◌, [], ◌∷◌, length, IfOk, MatchResult, slice_set, slice_index_or};
+ghost use Rattle.left_right.specs.Sides.{view};
+ghost use Rattle.text_buffer.specs.Document.{IsFront};
+ghost use Rattle.snapshot_pub.specs.Logs.{joined};
+
+use crate::growth::Growth;
+use crate::kept::Kept;
+use crate::steps::{WriteEnd, show_in};
+use std::alloc::AllocError;
+use std::marker::Model;
+use std::sync::Wait;
+use text_buffer::Snapshot;
+
+/// What was published to one pair, for its reader to learn. Contracts see the pair and the list. Any thread may have it.
+#[derive(Drop)]
+pub struct Told {
+    pub(crate) kept: Kept,
+}
+
+impl Model for Told {
+    ghost use Rattle.snapshot_pub.specs.States.{ToldState};
+
+    ghost Value = { ToldState };
+
+    ghost use Rattle.snapshot_pub.specs.Fields.{told_state};
+
+    ghost view = { told_state };
+}
+
+/// The publisher's side of a pair, in which something is shown.
+pub struct Side {
+    pub(crate) end: WriteEnd,
+    pub(crate) growth: Growth,
+    /// Whether the log has more than what is shown: memory ran out between the two. Nothing is published from then on.
+    pub(crate) is_ahead: bool,
+    ghost seen: { view end.desk.place ≡ end.desk.shown.value ∷ [] },
+    ghost own: { end.desk.shown.value.reached.book ≡ growth.reached.book },
+    ghost level: { is_ahead ≡ false → joined growth.reached.log ≡ end.desk.shown.value.snapshot },
+}
+
+impl Side {
+    /// Shows the snapshot. On want of memory readers see what they saw.
+    pub(crate) fn publish<R: Wait>(&mut self, rt: &R, snapshot: &Snapshot) -> Result<(), AllocError>
+        requires { IsFront self.old.end.desk.shown.value.snapshot snapshot.now }
+        ensures own { self.new.growth.reached.book ≡ self.old.growth.reached.book }
+        ensures shown { MatchResult result (λ _. self.new.end.desk.shown.value.snapshot ≡ snapshot.now) (λ _. self.new.end.desk.shown.value.snapshot ≡ self.old.end.desk.shown.value.snapshot) }
+    {
+        if self.is_ahead {
+            return Err(AllocError);
+        }
+        let kept = self.growth.grow(snapshot.share()?)?;
+        let shown = show_in(&mut self.end, rt, kept);
+        self.is_ahead = shown.is_err();
+        shown
+    }
+
+    /// What is shown.
+    pub(crate) fn tell(&self) -> Result<Told, AllocError>
+        ensures pair { IfOk result (λ t. t.pair ≡ self.now.growth.reached.book) }
+        ensures list { IfOk result (λ t. t.list ≡ self.now.end.desk.shown.value.snapshot) }
+    {
+        Ok(Told {
+            kept: self.end.published().share()?,
+        })
+    }
+
+    /// Ends the writer.
+    pub(crate) fn close<R: Wait>(self, rt: &R) {
+        let Side {
+            end,
+            growth: _growth,
+            is_ahead: _,
+        } = self;
+        end.take(rt);
+    }
+}
+
+/// Shows snapshots to readers, each in a pair of its own. Contracts see which pairs there are, and the list that was last published
+/// to each. It is not `Drop`: end it by `close`.
+pub struct Publisher {
+    pub(crate) sides: Vec<Side>,
+}
+
+impl Model for Publisher {
+    ghost use Rattle.snapshot_pub.specs.States.{PublisherState};
+
+    ghost Value = { PublisherState };
+
+    ghost use Rattle.snapshot_pub.specs.Fields.{publisher_state};
+
+    ghost view = { publisher_state };
+}
+
+impl Publisher {
+    /// Shows the snapshot in pair `i` alone, counted from 0: by one exchange, after which it waits until that pair's reader has left
+    /// what was shown before. Nothing is copied.
+    ///
+    /// # Errors
+    ///
+    /// `OutOfMemory` alone. What is published is then as before; where the memory ran out late, nothing is published to this pair
+    /// any more.
+    pub fn publish<R: Wait>(
+        &mut self,
+        rt: &R,
+        i: u32,
+        snapshot: &Snapshot,
+    ) -> Result<(), AllocError>
+        requires pair { i < length self.old.published }
+        requires grows { IsFront (slice_index_or self.old.published i []) snapshot.now }
+        ensures pairs { self.new.pairs ≡ self.old.pairs }
+        ensures published { MatchResult result (λ _. self.new.published ≡ slice_set self.old.published i snapshot.now) (λ _. self.new.published ≡ self.old.published) }
+    {
+        self.sides[i as usize].publish(rt, snapshot)
+    }
+
+    /// What was last published to pair `i`, counted from 0. Waits for nobody.
+    ///
+    /// # Errors
+    ///
+    /// `OutOfMemory` alone.
+    pub fn tell(&self, i: u32) -> Result<Told, AllocError>
+        requires { i < length self.now.published }
+        ensures pair { IfOk result (λ t. t.pair ≡ slice_index_or self.now.pairs i t.pair) }
+        ensures list { IfOk result (λ t. t.list ≡ slice_index_or self.now.published i []) }
+    {
+        self.sides[i as usize].tell()
+    }
+
+    /// Ends the writer of each pair. Readers then give the longest that they gave or learned.
+    pub fn close<R: Wait>(self, rt: &R) {
+        let Publisher { sides } = self;
+        close_all(rt, sides);
+    }
+}
+
+/// Ends the writer of each side.
+pub(crate) fn close_all<R: Wait>(rt: &R, mut sides: Vec<Side>) {
+    while let Some(side) = sides.pop() {
+        side.close(rt);
+    }
+    sides.destroy_empty();
+}
