@@ -254,24 +254,39 @@ fn waiting(alloc: Global) -> Result<Deferred, AllocError>
     Ok(waiting)
 }
 
+fn judged(
+    alloc: Global,
+    applied: &AppliedList,
+    waiting: &Deferred,
+    op: &Operation,
+) -> Result<Verdict, AllocError>
+    requires applied { applied.now ≡ sample }
+    requires waiting { Distinct waiting.now }
+{
+    let have = undo_seen(alloc)?;
+    let cells = Cells::over(alloc, "aé")?;
+    Ok(judge(applied, waiting, &have, &cells, op))
+}
+
 fn answer_to(
     alloc: Global,
     at: Stamp,
     entries: Entries,
     parts: Parts,
 ) -> Result<Verdict, AllocError> {
+    let op = operation(alloc, stamp(at), entries, parts)?;
     let applied = applied(alloc)?;
     let waiting = waiting(alloc)?;
-    let have = undo_seen(alloc)?;
-    let cells = Cells::over(alloc, "aé")?;
-    let op = operation(alloc, stamp(at), entries, parts)?;
-    Ok(judge(&applied, &waiting, &have, &cells, &op))
+    judged(alloc, &applied, &waiting, &op)
 }
 
 #[test]
 fn each_answer(rt: HostRuntime) -> Result<(), Fail> {
     for &(at, entries, parts, want) in ROWS {
-        assert_eq!(rt; answer_to(rt.alloc(), at, entries, parts)?, want);
+        assert!(rt;
+            answer_to(rt.alloc(), at, entries, parts)? == want,
+            "to {at:?} where {want:?} is wanted"
+        );
     }
     Ok(())
 }

@@ -7,8 +7,6 @@ use Took::{Applied, Repeat, Waits};
 use lamport_clock::Lamport;
 use op_model::Operation;
 use std::alloc::{AllocError, Global};
-use std::process::Abort;
-use std::test::Fail;
 use text_buffer::EditFault::InsideChar;
 use text_buffer::UndoFault::{ClockEnd, NoSuchEdit, Twice};
 use text_buffer::{
@@ -98,7 +96,7 @@ enum Call {
 }
 
 // What a call answers: of an operation that it makes the stamp's value.
-#[derive(Clone, Copy, Debug, PartialEq, Eq)]
+#[derive(Clone, Copy, PartialEq, Eq)]
 enum Came {
     Made(u32),
     NoEdit(EditFault),
@@ -524,14 +522,6 @@ fn few(alloc: Global, base: &str) -> Result<Buffer, NewFault> {
     Buffer::new(alloc, 9, base, FEW)
 }
 
-fn buffer(alloc: Global, is_ample: bool, base: &str) -> Result<Buffer, NewFault> {
-    if is_ample {
-        ample(alloc, base)
-    } else {
-        few(alloc, base)
-    }
-}
-
 fn edit(alloc: Global, buffer: &mut Buffer, changes: &[Change]) -> Result<Came, AllocError> {
     match buffer.edit(pieces(alloc, changes)?.as_slice()) {
         Ok(operation) => Ok(Made(operation.stamp().value)),
@@ -566,32 +556,31 @@ fn answer(alloc: Global, buffer: &mut Buffer, call: Call) -> Result<Came, AllocE
     }
 }
 
-fn shown(buffer: &Buffer) -> Result<String, AllocError> {
-    buffer.text()
+// Whether a call answers what it should, and the text after it is that of the row.
+fn comes(alloc: Global, buffer: &mut Buffer, row: &Row) -> Result<bool, AllocError> {
+    let came = answer(alloc, buffer, row.0)?;
+    Ok(buffer.text()?.as_str() == row.2 && came == row.1)
 }
 
-fn shows(rt: &impl Abort, buffer: &Buffer, text: &str) -> Result<(), AllocError> {
-    assert_eq!(rt; shown(buffer)?.as_str(), text);
-    Ok(())
-}
-
-fn keeps(rt: &impl Abort, buffer: &Buffer, waits: u64, refused: &[Refused]) {
-    assert_eq!(rt; buffer.deferred().len(), waits);
-    assert_eq!(rt; buffer.refused(), refused);
-}
-
-fn agrees(buffer: &Buffer) {
+fn keeps(buffer: &Buffer, waits: u64, refused: &[Refused]) -> bool {
     agree(buffer, buffer);
+    buffer.deferred().len() == waits && buffer.refused() == refused
 }
 
-fn play(rt: &impl Abort, alloc: Global, mut buffer: Buffer, case: &Case) -> Result<(), AllocError> {
-    for &(call, came, text) in case.1 {
-        assert_eq!(rt; answer(alloc, &mut buffer, call)?, came, "before {text}");
-        shows(rt, &buffer, text)?;
+// Whether a case comes out as it should, in a buffer of its base.
+fn all_come(alloc: Global, buffer: &mut Buffer, case: &Case) -> Result<bool, AllocError> {
+    let mut right = true;
+    for row in case.1 {
+        right = comes(alloc, buffer, row)? && right;
     }
-    keeps(rt, &buffer, case.2, case.3);
-    agrees(&buffer);
-    Ok(())
+    Ok(right && keeps(buffer, case.2, case.3))
+}
+
+fn play(alloc: Global, opened: Result<Buffer, NewFault>, case: &Case) -> Result<bool, AllocError> {
+    match opened {
+        Ok(mut buffer) => all_come(alloc, &mut buffer, case),
+        Err(_) => Ok(false),
+    }
 }
 
 const CASES: &[Case] = &[
@@ -617,40 +606,40 @@ const CASES_OF_FEW: &[Case] = &[
     UNDOS_AT_THE_LIMITS,
 ];
 
-fn play_all(
-    rt: &impl Abort,
-    alloc: Global,
-    is_ample: bool,
-    cases: &[Case],
-) -> Result<(), NewFault> {
-    for case in cases {
-        play(rt, alloc, buffer(alloc, is_ample, case.0)?, case)?;
+#[test]
+fn calls_and_their_answers(rt: HostRuntime) -> Result<(), AllocError> {
+    for case in CASES {
+        let opened = ample(rt.alloc(), case.0);
+        assert!(rt; play(rt.alloc(), opened, case)?, "over {}", case.0);
     }
     Ok(())
 }
 
 #[test]
-fn calls_and_their_answers(rt: HostRuntime) -> Result<(), Fail> {
-    play_all(&rt, rt.alloc(), true, CASES)?;
+fn calls_at_the_limits(rt: HostRuntime) -> Result<(), AllocError> {
+    for case in CASES_OF_FEW {
+        let opened = few(rt.alloc(), case.0);
+        assert!(rt; play(rt.alloc(), opened, case)?, "over {}", case.0);
+    }
     Ok(())
 }
 
-#[test]
-fn calls_at_the_limits(rt: HostRuntime) -> Result<(), Fail> {
-    play_all(&rt, rt.alloc(), false, CASES_OF_FEW)?;
-    Ok(())
+// Whether no buffer is opened, and its fault is told in these words.
+fn is_refused(
+    alloc: Global,
+    opened: Result<Buffer, NewFault>,
+    words: &str,
+) -> Result<bool, AllocError> {
+    match opened {
+        Ok(_) => Ok(false),
+        Err(fault) => Ok(format!(in alloc; "{fault}")?.as_str() == words),
+    }
 }
 
 #[test]
-fn a_base_past_the_limit(rt: HostRuntime) -> Result<(), Fail> {
-    let fault = few(rt.alloc(), "abcdef")
-        .err()
-        .ok_or("a base past the limit")?;
-    let told = format!(in rt.alloc(); "{fault}")?;
-    assert_eq!(rt;
-        told.as_str(),
-        "full: 0 bytes are held, and 6 more pass the limit"
-    );
+fn a_base_past_the_limit(rt: HostRuntime) -> Result<(), AllocError> {
+    let words = "full: 0 bytes are held, and 6 more pass the limit";
+    assert!(rt; is_refused(rt.alloc(), few(rt.alloc(), "abcdef"), words)?);
     Ok(())
 }
 
@@ -681,35 +670,30 @@ fn made(alloc: Global, buffer: &mut Buffer, change: Change) -> Result<Operation,
     buffer.edit(pieces(alloc, [change].as_slice())?.as_slice())
 }
 
-fn edit_counted(
-    alloc: Global,
-    buffer: &mut Buffer,
-    change: Change,
-) -> Result<(u64, u64, u32), EditFault> {
-    let made = made(alloc, buffer, change)?;
-    Ok(counted(&made))
+// Whether the range of an edit is counted so, and the text is then that of the row.
+fn is_counted(alloc: Global, buffer: &mut Buffer, row: &Counting) -> Result<bool, EditFault> {
+    let range = counted(&made(alloc, buffer, row.0)?);
+    Ok(buffer.text()?.as_str() == row.2 && range == row.1)
 }
 
-fn applied(buffer: &Buffer) -> u64 {
-    buffer.applied().len()
-}
-
-fn seen(buffer: &Buffer) -> &[(u16, u32)] {
-    buffer.version().as_slice()
-}
-
-fn count_hidden(rt: &impl Abort, alloc: Global, mut buffer: Buffer) -> Result<(), EditFault> {
-    for &(change, want, text) in AMONG_HIDDEN {
-        assert_eq!(rt; edit_counted(alloc, &mut buffer, change)?, want);
-        shows(rt, &buffer, text)?;
+fn are_counted(alloc: Global, buffer: &mut Buffer) -> Result<bool, EditFault> {
+    let mut right = true;
+    for row in AMONG_HIDDEN {
+        right = is_counted(alloc, buffer, row)? && right;
     }
-    assert_eq!(rt; seen(&buffer), [(0, 1), (9, 5)].as_slice());
-    assert_eq!(rt; applied(&buffer), 5);
-    Ok(())
+    let seen = buffer.version().as_slice() == [(0, 1), (9, 5)].as_slice();
+    Ok(right && seen && buffer.applied().len() == 5)
+}
+
+fn count_hidden(alloc: Global, opened: Result<Buffer, NewFault>) -> Result<bool, EditFault> {
+    match opened {
+        Ok(mut buffer) => are_counted(alloc, &mut buffer),
+        Err(_) => Ok(false),
+    }
 }
 
 #[test]
-fn ranges_count_hidden_bytes(rt: HostRuntime) -> Result<(), Fail> {
-    count_hidden(&rt, rt.alloc(), ample(rt.alloc(), "abc")?)?;
-    Ok(())
+fn ranges_count_hidden_bytes(rt: HostRuntime) {
+    let counted = count_hidden(rt.alloc(), ample(rt.alloc(), "abc"));
+    assert!(rt; counted == Ok(true));
 }

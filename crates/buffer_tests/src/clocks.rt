@@ -1,7 +1,6 @@
 // Clocks, stamps and versions, with ample memory.
 use lamport_clock::{Clock, ClockEnd, Lamport, Version, is_later};
 use std::alloc::{AllocError, Global};
-use std::process::Abort;
 use std::test::Fail;
 
 #[derive(Clone, Copy)]
@@ -26,20 +25,26 @@ const STEPS: &[(Step, u32)] = &[
     (Step::Observe(1, 1), 4_294_967_295),
 ];
 
-fn step_on(rt: &impl Abort, clock: &mut Clock, step: Step) {
+// Makes a step, and tells whether it answers what it should.
+fn step_on(clock: &mut Clock, step: Step) -> bool {
     match step {
-        Step::Observe(value, replica) => clock.observe(Lamport { value, replica }),
-        Step::Tick(want) => assert_eq!(rt; clock.tick(), want),
+        Step::Observe(value, replica) => {
+            clock.observe(Lamport { value, replica });
+            true
+        }
+        Step::Tick(want) => clock.tick() == want,
     }
 }
 
 #[test]
 fn a_clock_and_its_end(rt: HostRuntime) {
     let mut clock = Clock::new(7);
-    assert_eq!(rt; clock.value(), 1);
+    assert!(rt; clock.value() == 1);
     for &(step, value) in STEPS {
-        step_on(&rt, &mut clock, step);
-        assert_eq!(rt; clock.value(), value);
+        assert!(rt;
+            step_on(&mut clock, step) && clock.value() == value,
+            "at {value}"
+        );
     }
 }
 
@@ -56,17 +61,35 @@ fn seeing(alloc: Global, stamps: &[(u32, u16)]) -> Result<Version, AllocError> {
     Ok(version)
 }
 
-fn is_of_five(rt: &impl Abort, version: &Version) {
-    assert_eq!(rt; version.as_slice(), ENTRIES);
+// Entries by their indexes.
+const BY_INDEX: &[(u64, Option<(u16, u32)>)] = &[
+    (0, Some((0, 5))),
+    (4, Some((1023, 1))),
+    (5, None),
+    (u64::MAX, None),
+];
+
+fn has_entries(version: &Version) -> bool {
+    let mut right = version.len() == 5;
+    for &(i, want) in BY_INDEX {
+        right = right && version.entry(i) == want;
+    }
+    right
+}
+
+fn is_of_five(version: &Version) -> bool {
     let values = (version.get(1023), version.get(9), version.get(2));
-    assert_eq!(rt; values, (1, 8, 0));
+    version.as_slice() == ENTRIES && values == (1, 8, 0) && has_entries(version)
+}
+
+fn are_of_five(alloc: Global) -> Result<bool, AllocError> {
+    let version = seeing(alloc, STAMPS)?;
+    Ok(is_of_five(&version.copy(alloc)?) && is_of_five(&version))
 }
 
 #[test]
 fn a_version_of_five_replicas(rt: HostRuntime) -> Result<(), Fail> {
-    let version = seeing(rt.alloc(), STAMPS)?;
-    is_of_five(&rt, &version);
-    is_of_five(&rt, &version.copy(rt.alloc())?);
+    assert!(rt; are_of_five(rt.alloc())?);
     Ok(())
 }
 
@@ -99,26 +122,8 @@ fn joining(alloc: Global) -> Result<(Sight, Sight, bool), AllocError> {
 #[test]
 fn what_a_version_sees_and_misses(rt: HostRuntime) -> Result<(), Fail> {
     let (before, after, is_same) = joining(rt.alloc())?;
-    assert_eq!(rt; before, (true, false, false, Some((1, 3))));
-    assert_eq!(rt; after, (true, true, true, None));
-    assert!(rt; is_same);
-    Ok(())
-}
-
-const BY_INDEX: &[(u64, Option<(u16, u32)>)] = &[
-    (0, Some((0, 5))),
-    (4, Some((1023, 1))),
-    (5, None),
-    (u64::MAX, None),
-];
-
-#[test]
-fn entries_by_index(rt: HostRuntime) -> Result<(), Fail> {
-    let version = seeing(rt.alloc(), STAMPS)?;
-    assert_eq!(rt; version.len(), 5);
-    for &(i, want) in BY_INDEX {
-        assert_eq!(rt; version.entry(i), want);
-    }
+    assert!(rt; before == (true, false, false, Some((1, 3))));
+    assert!(rt; is_same && after == (true, true, true, None));
     Ok(())
 }
 
@@ -145,25 +150,19 @@ const JOINS: &[Join] = &[
     (BOTH, LEFT, None),
 ];
 
-// The first that a version misses of another one, and their join.
-fn join_of(
-    alloc: Global,
-    left: &[(u32, u16)],
-    right: &[(u32, u16)],
-) -> Result<(Option<(u16, u32)>, Version), AllocError> {
-    let mut version = seeing(alloc, left)?;
-    let other = seeing(alloc, right)?;
+// Whether this is the first that a version misses of another one, and their join has all entries.
+fn joins(alloc: Global, join: &Join) -> Result<bool, AllocError> {
+    let mut version = seeing(alloc, join.0)?;
+    let other = seeing(alloc, join.1)?;
     let missing = version.first_missing(&other);
     version.join(&other)?;
-    Ok((missing, version))
+    Ok(missing == join.2 && version.as_slice() == JOINED)
 }
 
 #[test]
 fn joins_of_two_versions(rt: HostRuntime) -> Result<(), Fail> {
-    for &(left, right, want) in JOINS {
-        let (missing, joined) = join_of(rt.alloc(), left, right)?;
-        assert_eq!(rt; missing, want);
-        assert_eq!(rt; joined.as_slice(), JOINED);
+    for join in JOINS {
+        assert!(rt; joins(rt.alloc(), join)?, "before {:?}", join.2);
     }
     Ok(())
 }
@@ -180,18 +179,12 @@ fn stamps_in_order(rt: HostRuntime) {
             replica: 1,
         },
     );
-    assert!(rt; is_later(late, early));
-    assert!(rt; !is_later(early, late));
-    assert!(rt; !is_later(late, late));
-    assert!(rt;
-        is_later(
-            late,
-            Lamport {
-                value: 3,
-                replica: 0
-            }
-        )
-    );
+    let same = Lamport {
+        value: 3,
+        replica: 0,
+    };
+    assert!(rt; is_later(late, early) && !is_later(early, late));
+    assert!(rt; is_later(late, same) && !is_later(late, late));
 }
 
 #[test]
@@ -201,6 +194,6 @@ fn a_stamp_is_told(rt: HostRuntime) -> Result<(), Fail> {
         replica: 7,
     };
     let told = format!(in rt.alloc(); "{stamp}: {ClockEnd}")?;
-    assert_eq!(rt; told.as_str(), "2.7: the clock stands at its end");
+    assert!(rt; told.as_str() == "2.7: the clock stands at its end");
     Ok(())
 }

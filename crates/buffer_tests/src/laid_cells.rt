@@ -10,7 +10,6 @@ use cells::{Cells, KeptCell};
 use lamport_clock::{Lamport, Version};
 use op_model::{EditOp, OpFault, Piece, Pieces, first_overlap, first_reversed, text_total};
 use std::alloc::{AllocError, Global};
-use std::process::Abort;
 use std::test::Fail;
 use undo_map::UndoMap;
 
@@ -193,22 +192,33 @@ fn shows(alloc: Global, cells: &Cells, want: &str) -> Result<bool, AllocError> {
     }
 }
 
-// A history's texts, operation by operation.
-fn each_text(rt: &impl Abort, alloc: Global, base: &str, rows: &[Row]) -> Result<(), AllocError> {
+// The first text that a history does not show, if there is one, operation by operation.
+fn first_wrong(
+    alloc: Global,
+    base: &'static str,
+    rows: &'static [Row],
+) -> Result<Option<&'static str>, AllocError> {
     let mut cells = Cells::over(alloc, base)?;
     let mut undos = UndoMap::new(alloc)?;
-    assert!(rt; shows(alloc, &cells, base)?, "{base}");
+    let mut wrong = if shows(alloc, &cells, base)? {
+        None
+    } else {
+        Some(base)
+    };
     for row in rows {
         cells = step(alloc, &mut undos, cells, row)?;
-        assert!(rt; shows(alloc, &cells, row.3)?, "{}", row.3);
+        if wrong.is_none() && !shows(alloc, &cells, row.3)? {
+            wrong = Some(row.3);
+        }
     }
-    Ok(())
+    Ok(wrong)
 }
 
 #[test]
 fn histories(rt: HostRuntime) -> Result<(), Fail> {
     for &(base, rows) in HISTORIES {
-        each_text(&rt, rt.alloc(), base, rows)?;
+        let wrong = first_wrong(rt.alloc(), base, rows)?;
+        assert!(rt; wrong.is_none(), "{wrong:?} over {base}");
     }
     Ok(())
 }
@@ -256,13 +266,17 @@ fn ranges(alloc: Global, pieces: &Pieces) -> Result<Vec<(u64, u64)>, AllocError>
     pieces.map(|piece| (piece.start, piece.end)).collect(alloc)
 }
 
+// The ranges of changes among all cells.
+fn full_ranges(alloc: Global, changes: &[Change]) -> Result<Vec<(u64, u64)>, AllocError> {
+    let changes = pieces(alloc, changes)?;
+    let cells = with_hidden(alloc)?;
+    ranges(alloc, &full(alloc, &cells, changes.as_slice())?)
+}
+
 #[test]
 fn ranges_among_all(rt: HostRuntime) -> Result<(), Fail> {
-    let cells = with_hidden(rt.alloc())?;
-    let changes = pieces(rt.alloc(), &[(1, 1, "y"), (1, 3, ""), (4, 4, "z")])?;
-    let made = full(rt.alloc(), &cells, &changes)?;
-    let found = ranges(rt.alloc(), &made)?;
-    assert_eq!(rt; found.as_slice(), &[(2, 2), (2, 4), (5, 5)][..]);
+    let found = full_ranges(rt.alloc(), &[(1, 1, "y"), (1, 3, ""), (4, 4, "z")])?;
+    assert!(rt; found.as_slice() == &[(2, 2), (2, 4), (5, 5)][..]);
     Ok(())
 }
 
@@ -287,13 +301,22 @@ fn fault(cells: &Cells, version: &Version, ranges: &[Piece]) -> Option<OpFault> 
     cells.range_fault(version, ranges)
 }
 
+fn fault_of(
+    alloc: Global,
+    entries: Entries,
+    rows: &[Change],
+) -> Result<Option<OpFault>, AllocError> {
+    let version = version(alloc, entries)?;
+    let ranges = pieces(alloc, rows)?;
+    let cells = with_hidden(alloc)?;
+    Ok(fault(&cells, &version, ranges.as_slice()))
+}
+
 #[test]
 fn ranges_among_what_is_seen(rt: HostRuntime) -> Result<(), Fail> {
-    let cells = with_hidden(rt.alloc())?;
     for &(entries, rows, want) in FAULTS {
-        let version = version(rt.alloc(), entries)?;
-        let ranges = pieces(rt.alloc(), rows)?;
-        assert_eq!(rt; fault(&cells, &version, &ranges), want);
+        let fault = fault_of(rt.alloc(), entries, rows)?;
+        assert!(rt; fault == want, "where {want:?} is wanted");
     }
     Ok(())
 }

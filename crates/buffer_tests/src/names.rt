@@ -7,16 +7,23 @@ use std::test::Fail;
 // Where a further locator lies, after the least and the greatest one: between those of two indexes.
 const BETWEEN: &[(usize, usize)] = &[(0, 1), (0, 2), (2, 1), (2, 4), (2, 5), (4, 5)];
 
-// The digits of all.
-const DIGITS: &[&[u64]] = &[
-    &[0],
-    &[u64::MAX],
-    &[65535],
-    &[0, 65535],
-    &[131070],
-    &[65535, 65535],
-    &[65535, 0, 65535],
-    &[131070, 0, 65535],
+// Equal digits in a row, told as a locator's are.
+#[derive(Debug, Clone, Copy)]
+struct Run {
+    digit: u64,
+    count: u64,
+}
+
+// The digits of all, in runs of equal ones.
+const DIGITS: &[&[(u64, u64)]] = &[
+    &[(0, 1)],
+    &[(u64::MAX, 1)],
+    &[(65535, 1)],
+    &[(0, 1), (65535, 1)],
+    &[(131070, 1)],
+    &[(65535, 2)],
+    &[(65535, 1), (0, 1), (65535, 1)],
+    &[(131070, 1), (0, 1), (65535, 1)],
 ];
 
 // The least locator, the greatest one, and those of the table.
@@ -37,24 +44,26 @@ fn told(alloc: Global, locator: &Locator) -> Result<String, OutOfMemory> {
     format!(in alloc; "{locator:?}")
 }
 
-fn told_of(alloc: Global, digits: &[u64]) -> Result<String, OutOfMemory> {
-    format!(in alloc; "Locator {{ digits: {digits:?} }}")
+fn told_of(alloc: Global, runs: &[(u64, u64)]) -> Result<String, OutOfMemory> {
+    let mut all = Vec::new(alloc);
+    for &(digit, count) in runs {
+        all.push(Run { digit, count })?;
+    }
+    format!(in alloc; "Locator {{ runs: Inline({all:?}) }}")
 }
 
 // Whether a locator has these digits, and so has its copy.
-fn is_of(alloc: Global, locator: &Locator, digits: &[u64]) -> Result<bool, OutOfMemory> {
-    let is_told = told(alloc, locator)? == told_of(alloc, digits)?;
+fn is_of(alloc: Global, locator: &Locator, runs: &[(u64, u64)]) -> Result<bool, OutOfMemory> {
+    let is_told = told(alloc, locator)? == told_of(alloc, runs)?;
     Ok(is_told && locator.copy(alloc)? == *locator)
 }
 
-#[test]
-fn gives_the_digits_between(rt: HostRuntime) -> Result<(), Fail> {
-    let all = locators(rt.alloc())?;
-    assert_eq!(rt; all.len(), DIGITS.len());
+fn are_of(alloc: Global, all: &[Locator]) -> Result<bool, OutOfMemory> {
+    let mut right = all.len() == DIGITS.len();
     for (locator, digits) in all.iter().zip(DIGITS) {
-        assert!(rt; is_of(rt.alloc(), locator, digits)?, "{digits:?}");
+        right = is_of(alloc, locator, digits)? && right;
     }
-    Ok(())
+    Ok(right)
 }
 
 fn order<T: Ord>(a: &T, b: &T) -> Ordering {
@@ -72,80 +81,143 @@ fn are_equal<T: Eq>(a: &T, b: &T) -> bool {
 // Indexes of locators that ascend: [0], [0, 65535], [65535], [65535, 0, 65535], the greatest.
 const ASCENDING: &[usize] = &[0, 3, 2, 6, 1];
 
-#[test]
-fn orders_by_the_first_digit_that_differs(rt: HostRuntime) -> Result<(), Fail> {
-    let all = locators(rt.alloc())?;
+fn is_ordered(low: &Locator, high: &Locator, want: Ordering) -> bool {
+    order(low, high) == want
+        && partial_order(low, high) == Some(want)
+        && are_equal(low, high) == want.is_eq()
+}
+
+fn are_ordered(all: &[Locator]) -> bool {
+    let mut right = true;
     for (i, &low) in ASCENDING.iter().enumerate() {
         for (j, &high) in ASCENDING.iter().enumerate() {
-            let low = all.get(low).ok_or("no locator")?;
-            let high = all.get(high).ok_or("no locator")?;
-            assert_eq!(rt; order(low, high), i.cmp(&j));
-            assert_eq!(rt; partial_order(low, high), Some(i.cmp(&j)));
-            assert_eq!(rt; are_equal(low, high), i == j);
+            right = right
+                && match (all.get(low), all.get(high)) {
+                    (Some(low), Some(high)) => is_ordered(low, high, i.cmp(&j)),
+                    _ => false,
+                };
         }
     }
+    right
+}
+
+#[test]
+fn gives_the_digits_between_in_their_order(rt: HostRuntime) -> Result<(), Fail> {
+    let all = locators(rt.alloc())?;
+    assert!(rt; are_of(rt.alloc(), all.as_slice())? && are_ordered(all.as_slice()));
     Ok(())
 }
 
-// Where each further text stands: after the last one put, before it, or between the last two.
+// Where each further text stands: after the last one put, before it, between the last two, or twice below and once above.
 #[derive(Clone, Copy)]
 enum Habit {
     After,
     Before,
     InTurn,
+    Twice,
 }
 
-// The last of `count` names, the first of which lies between `low` and `high`.
+impl Habit {
+    // Whether the next text stands before the one put in this turn.
+    fn is_before(self, turn: u64) -> bool {
+        match self {
+            Habit::After => false,
+            Habit::Before => true,
+            Habit::InTurn => turn % 2 == 1,
+            Habit::Twice => turn % 3 > 0,
+        }
+    }
+}
+
+// The last of `count` names, the first of which lies between `low` and `high`, if each lies between its neighbours.
 fn last_of(
     alloc: Global,
     habit: Habit,
     mut low: Locator,
     mut high: Locator,
     count: u64,
-) -> Result<Locator, OutOfMemory> {
+) -> Result<Option<Locator>, OutOfMemory> {
     for turn in 1..count {
         let between = Locator::between(alloc, &low, &high)?;
-        match habit {
-            Habit::After => low = between,
-            Habit::Before => high = between,
-            Habit::InTurn if turn % 2 == 1 => high = between,
-            Habit::InTurn => low = between,
+        if between <= low || high <= between {
+            return Ok(None);
+        }
+        if habit.is_before(turn) {
+            high = between;
+        } else {
+            low = between;
         }
     }
-    Locator::between(alloc, &low, &high)
+    Ok(Some(Locator::between(alloc, &low, &high)?))
 }
 
-// How many digits are told.
-fn count_digits(alloc: Global, locator: &Locator) -> Result<usize, OutOfMemory> {
-    let told = told(alloc, locator)?;
-    Ok(told.as_str().bytes().filter(|byte| *byte == b',').count() + 1)
-}
+// What a million texts one after another come to.
+const MILLION: u64 = 65_535_000_000;
 
-const GROWTH: &[(Habit, u64, usize)] = &[
-    (Habit::After, 1, 1),
-    (Habit::After, 1_000_000, 1),
-    (Habit::Before, 1, 1),
-    (Habit::Before, 10, 10),
-    (Habit::Before, 1_000, 1_000),
-    (Habit::InTurn, 1, 1),
-    (Habit::InTurn, 2, 2),
-    (Habit::InTurn, 3, 2),
-    (Habit::InTurn, 100, 51),
-    (Habit::InTurn, 1_000, 501),
+// The indexes of the locators between which the first name lies, how many names there are, and the digits of the last.
+type Growth = (Habit, (usize, usize), u64, &'static [(u64, u64)]);
+
+const GROWTH: &[Growth] = &[
+    (Habit::After, (0, 1), 1, &[(65535, 1)]),
+    (Habit::After, (0, 1), 1_000_000, &[(MILLION, 1)]),
+    (Habit::Before, (0, 1), 1, &[(65535, 1)]),
+    (Habit::Before, (0, 1), 10, &[(0, 9), (65535, 1)]),
+    (Habit::Before, (0, 1), 1_000, &[(0, 999), (65535, 1)]),
+    (Habit::Before, (0, 1), 70_001, &[(0, 70_000), (65535, 1)]),
+    (Habit::InTurn, (0, 1), 1, &[(65535, 1)]),
+    (Habit::InTurn, (0, 1), 2, &[(0, 1), (65535, 1)]),
+    (Habit::InTurn, (0, 1), 3, &[(0, 1), (131070, 1)]),
+    (Habit::InTurn, (0, 1), 100, &[(0, 1), (65535, 50)]),
+    (Habit::InTurn, (0, 1), 1_000, &[(0, 1), (65535, 500)]),
+    (Habit::InTurn, (0, 1), 140_000, &[(0, 1), (65535, 70_000)]),
+    (Habit::After, (2, 4), 1_000_000, &[(65535, 1), (MILLION, 1)]),
 ];
+
+// The last of the names, if each lies between its neighbours.
+fn grown(
+    alloc: Global,
+    habit: Habit,
+    (low, high): (usize, usize),
+    count: u64,
+) -> Result<Option<Locator>, OutOfMemory> {
+    let all = locators(alloc)?;
+    match (all.get(low), all.get(high)) {
+        (Some(low), Some(high)) => last_of(
+            alloc,
+            habit,
+            low.copy(alloc)?,
+            high.copy(alloc)?,
+            count,
+        ),
+        _ => Ok(None),
+    }
+}
+
+fn grows_to(alloc: Global, &(habit, between, count, want): &Growth) -> Result<bool, OutOfMemory> {
+    match grown(alloc, habit, between, count)? {
+        Some(last) => is_of(alloc, &last, want),
+        None => Ok(false),
+    }
+}
 
 #[test]
 fn grows_as_documented(rt: HostRuntime) -> Result<(), Fail> {
-    let alloc = rt.alloc();
-    for &(habit, count, want) in GROWTH {
-        let (low, high) = (Locator::least(alloc)?, Locator::greatest(alloc)?);
-        let last = last_of(alloc, habit, low, high, count)?;
-        assert_eq!(rt; count_digits(alloc, &last)?, want);
+    for row in GROWTH {
+        assert!(rt; grows_to(rt.alloc(), row)?, "{} names", row.2);
     }
-    let (least, greatest) = (Locator::least(alloc)?, Locator::greatest(alloc)?);
-    let low = Locator::between(alloc, &least, &greatest)?;
-    let high = Locator::between(alloc, &low, &greatest)?;
-    let last = last_of(alloc, Habit::After, low, high, 1_000_000)?;
-    assert_eq!(rt; count_digits(alloc, &last)?, 2);
+    Ok(())
+}
+
+// Whether each of so many names whose digits do not lie in the value is between its neighbours, and the last is as its copy.
+fn long_ones_are_ordered(alloc: Global, count: u64) -> Result<bool, OutOfMemory> {
+    match grown(alloc, Habit::Twice, (0, 1), count)? {
+        Some(last) => Ok(last.copy(alloc)? == last),
+        None => Ok(false),
+    }
+}
+
+#[test]
+fn orders_those_of_many_runs(rt: HostRuntime) -> Result<(), Fail> {
+    assert!(rt; long_ones_are_ordered(rt.alloc(), 300)?);
     Ok(())
 }

@@ -69,15 +69,23 @@ fn text_with(alloc: Global, text: &str, changes: &[Piece]) -> Result<String, Edi
     Ok(replaced(alloc, &rope, changes)?.to_string(alloc)?)
 }
 
+// Whether a case comes to its answer.
+fn is_changed(alloc: Global, case: &Changed) -> Result<bool, AllocError> {
+    let changes = pieces(alloc, case.changes)?;
+    Ok(match text_with(alloc, case.text, changes.as_slice()) {
+        Ok(text) => case.answer == Ok(text.as_str()),
+        Err(fault) => case.answer == Err(fault),
+    })
+}
+
 #[test]
 fn replaces_ranges(rt: HostRuntime) -> Result<(), Fail> {
-    let alloc = rt.alloc();
     for case in CHANGED {
-        let changes = pieces(alloc, case.changes)?;
-        match text_with(alloc, case.text, changes.as_slice()) {
-            Ok(text) => assert_eq!(rt; Ok(text.as_str()), case.answer),
-            Err(fault) => assert_eq!(rt; Err(fault), case.answer),
-        }
+        assert!(rt;
+            is_changed(rt.alloc(), case)?,
+            "where {:?} is wanted",
+            case.answer
+        );
     }
     Ok(())
 }
@@ -181,14 +189,17 @@ fn text_after(
     Ok(follow(alloc, &rope, before, after)?.to_string(alloc)?)
 }
 
+fn is_followed(alloc: Global, case: &Followed) -> Result<bool, AllocError> {
+    let before = cells(alloc, case.before)?;
+    let after = cells(alloc, case.after)?;
+    let text = text_after(alloc, before.as_slice(), after.as_slice())?;
+    Ok(text.as_str() == case.text)
+}
+
 #[test]
 fn follows_cells(rt: HostRuntime) -> Result<(), Fail> {
-    let alloc = rt.alloc();
     for case in FOLLOWED {
-        let before = cells(alloc, case.before)?;
-        let after = cells(alloc, case.after)?;
-        let text = text_after(alloc, before.as_slice(), after.as_slice())?;
-        assert_eq!(rt; text.as_str(), case.text);
+        assert!(rt; is_followed(rt.alloc(), case)?, "to {}", case.text);
     }
     Ok(())
 }

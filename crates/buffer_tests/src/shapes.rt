@@ -3,7 +3,6 @@ use crate::operations::{Entries, Parts, Stamp, edit_of, operation, pieces, stamp
 use lamport_clock::Lamport;
 use op_model::{Operation, ShapeFault, shape};
 use std::alloc::{AllocError, Global};
-use std::process::Abort;
 use std::test::Fail;
 
 // A stamp, a version's entries, the parts, and what `shape` answers.
@@ -88,45 +87,70 @@ const ROWS: &[Row] = &[
     ((9, 4), BASE, Parts::Counts(&[(SEVENTH, 2)]), Ok(())),
 ];
 
-fn operations(alloc: Global) -> Result<Vec<Operation>, AllocError> {
-    let mut all = Vec::new(alloc);
-    for &(at, entries, parts, _) in ROWS {
-        all.push(operation(alloc, stamp(at), entries, parts)?)?;
-    }
-    Ok(all)
+fn operation_of(alloc: Global, row: &Row) -> Result<Operation, AllocError> {
+    let &(at, entries, parts, _) = row;
+    operation(alloc, stamp(at), entries, parts)
+}
+
+fn is_shaped(alloc: Global, row: &Row) -> Result<bool, AllocError> {
+    Ok(shape(&operation_of(alloc, row)?) == row.3)
 }
 
 #[test]
 fn shapes(rt: HostRuntime) -> Result<(), Fail> {
-    let all = operations(rt.alloc())?;
-    for (op, row) in all.iter().zip(ROWS) {
-        assert_eq!(rt; shape(op), row.3);
+    for row in ROWS {
+        assert!(rt; is_shaped(rt.alloc(), row)?, "{:?}", row.0);
     }
     Ok(())
 }
 
-fn same_alone(rt: &impl Abort, all: &[Operation], op: &Operation, at: usize) {
-    for (i, other) in all.iter().enumerate() {
-        assert_eq!(rt; op.same(other), i == at);
+fn operations(alloc: Global) -> Result<Vec<Operation>, AllocError> {
+    let mut all = Vec::new(alloc);
+    for row in ROWS {
+        all.push(operation_of(alloc, row)?)?;
     }
+    Ok(all)
+}
+
+// Whether an operation is the same as that of this index alone.
+fn is_same_alone(all: &[Operation], op: &Operation, at: usize) -> bool {
+    let mut right = true;
+    for (i, other) in all.iter().enumerate() {
+        right = right && op.same(other) == (i == at);
+    }
+    right
+}
+
+fn copies_are_same(alloc: Global) -> Result<bool, AllocError> {
+    let all = operations(alloc)?;
+    let mut right = true;
+    for (i, op) in all.iter().enumerate() {
+        right = is_same_alone(all.as_slice(), &op.copy(alloc)?, i) && right;
+    }
+    Ok(right)
 }
 
 #[test]
 fn copies_are_the_same_and_no_others(rt: HostRuntime) -> Result<(), Fail> {
-    let all = operations(rt.alloc())?;
-    for (i, op) in all.iter().enumerate() {
-        same_alone(&rt, &all, &op.copy(rt.alloc())?, i);
-    }
+    assert!(rt; copies_are_same(rt.alloc())?);
     Ok(())
+}
+
+// The shape of an edit of that many pieces of sixteen letters.
+fn shape_of_letters(alloc: Global, count: usize) -> Result<Result<(), ShapeFault>, AllocError> {
+    let rows = Vec::from_elem(alloc, (0, 0, "sixteen letters."), count)?;
+    let pieces = pieces(alloc, &rows)?;
+    let op = edit_of(stamp((2, 1)), version(alloc, BASE)?, pieces);
+    Ok(shape(&op))
 }
 
 #[test]
 fn texts_at_their_limit(rt: HostRuntime) -> Result<(), Fail> {
     for (count, want) in [(4096, Ok(())), (4097, Err(ShapeFault::TextLimit(65_552)))] {
-        let rows = Vec::from_elem(rt.alloc(), (0, 0, "sixteen letters."), count)?;
-        let pieces = pieces(rt.alloc(), &rows)?;
-        let op = edit_of(stamp((2, 1)), version(rt.alloc(), BASE)?, pieces);
-        assert_eq!(rt; shape(&op), want);
+        assert!(rt;
+            shape_of_letters(rt.alloc(), count)? == want,
+            "{count} pieces"
+        );
     }
     Ok(())
 }

@@ -2,9 +2,9 @@
 use lamport_clock::Lamport;
 use op_model::{Limits, Piece, Text};
 use std::alloc::{AllocError, Global};
-use std::process::Abort;
-use std::test::Fail;
-use text_buffer::{Buffer, EditFault, NewFault, Snapshot, UndoFault, snapshots_agree};
+use text_buffer::{
+    Buffer, EditFault, NewFault, Snapshot, UndoFault, snapshots_agree, snapshots_append,
+};
 
 const AMPLE: Limits = Limits {
     bytes: 1 << 40,
@@ -48,6 +48,11 @@ fn edit(alloc: Global, buffer: &mut Buffer, row: &Row) -> Result<(), EditFault> 
     Ok(())
 }
 
+fn undo(buffer: &mut Buffer, edits: &[Lamport]) -> Result<(), UndoFault> {
+    let _undone = buffer.undo(edits)?;
+    Ok(())
+}
+
 // A snapshot of the buffer as it was opened, and one after each edit.
 fn taken(alloc: Global, buffer: &mut Buffer) -> Result<Vec<Snapshot>, EditFault> {
     let mut snapshots = Vec::new(alloc);
@@ -59,59 +64,76 @@ fn taken(alloc: Global, buffer: &mut Buffer) -> Result<Vec<Snapshot>, EditFault>
     Ok(snapshots)
 }
 
-fn shows(
-    rt: &impl Abort,
-    alloc: Global,
-    snapshot: &Snapshot,
-    want: &Want,
-) -> Result<(), AllocError> {
-    let text = snapshot.text().to_string(alloc)?;
-    assert_eq!(rt; text.as_str(), want.0);
-    assert_eq!(rt; snapshot.applied().len(), want.1);
-    assert_eq!(rt; snapshot.version().get(9), want.2);
-    let base = snapshot
-        .applied()
-        .first()
-        .map(|applied| applied.op().stamp().replica);
-    assert_eq!(rt; base, Some(0));
-    Ok(())
-}
-
-fn all_show(rt: &impl Abort, alloc: Global, snapshots: &[Snapshot]) -> Result<(), AllocError> {
-    assert_eq!(rt; snapshots.len(), WANTS.len());
-    for (snapshot, want) in snapshots.iter().zip(WANTS.iter()) {
-        shows(rt, alloc, snapshot, want)?;
-        let shared = snapshot.share()?;
-        shows(rt, alloc, &shared, want)?;
-        snapshots_agree(snapshot, &shared);
+// Whether the first operation is the base.
+fn has_base(snapshot: &Snapshot) -> bool {
+    match snapshot.applied().first() {
+        None => false,
+        Some(applied) => applied.op().stamp().replica == 0,
     }
-    Ok(())
 }
 
-#[test]
-fn snapshots_stay_as_they_were(rt: HostRuntime) -> Result<(), Fail> {
-    let alloc = rt.alloc();
-    let mut buffer = buffer(alloc)?;
-    let snapshots = taken(alloc, &mut buffer)?;
-    all_show(&rt, alloc, snapshots.as_slice())?;
-    let _undone = buffer.undo([FIRST, LAST].as_slice())?;
-    all_show(&rt, alloc, snapshots.as_slice())?;
-    shows(&rt, alloc, &buffer.snapshot()?, &("ébc", 5, 5))?;
-    Ok(())
+fn is_as_wanted(alloc: Global, snapshot: &Snapshot, want: &Want) -> Result<bool, AllocError> {
+    let text = snapshot.text().to_string(alloc)?;
+    let seen = (snapshot.applied().len(), snapshot.version().get(9));
+    Ok(text.as_str() == want.0 && seen == (want.1, want.2))
 }
 
-// A snapshot outlives its buffer.
-fn outlived(alloc: Global) -> Result<Snapshot, UndoFault> {
-    let Ok(mut buffer) = buffer(alloc) else {
-        return Err(UndoFault::OutOfMemory);
+// Whether a share of a snapshot is as wanted.
+fn shares(alloc: Global, snapshot: &Snapshot, want: &Want) -> Result<bool, AllocError> {
+    let shared = snapshot.share()?;
+    snapshots_agree(snapshot, &shared);
+    snapshots_append(snapshot, &shared);
+    Ok(is_as_wanted(alloc, &shared, want)? && has_base(&shared))
+}
+
+fn all_show(alloc: Global, snapshots: &[Snapshot]) -> Result<bool, AllocError> {
+    let mut right = snapshots.len() == WANTS.len();
+    for (snapshot, want) in snapshots.iter().zip(WANTS.iter()) {
+        let shown = is_as_wanted(alloc, snapshot, want)? && has_base(snapshot);
+        right = shares(alloc, snapshot, want)? && shown && right;
+    }
+    Ok(right)
+}
+
+// Whether the snapshots are as wanted, before and after the buffer undoes two of its edits, and the buffer is as it is then.
+fn all_stay(alloc: Global, buffer: &mut Buffer, snapshots: &[Snapshot]) -> Result<bool, UndoFault> {
+    let before = all_show(alloc, snapshots)?;
+    undo(buffer, &[FIRST, LAST])?;
+    let after = all_show(alloc, snapshots)?;
+    Ok(shares(alloc, &buffer.snapshot()?, &("ébc", 5, 5))? && before && after)
+}
+
+fn stay(alloc: Global, opened: Result<Buffer, NewFault>) -> Result<bool, UndoFault> {
+    let Ok(mut buffer) = opened else {
+        return Ok(false);
     };
-    let _undone = buffer.undo([].as_slice())?;
+    let Ok(snapshots) = taken(alloc, &mut buffer) else {
+        return Ok(false);
+    };
+    all_stay(alloc, &mut buffer, snapshots.as_slice())
+}
+
+fn last_of(buffer: &mut Buffer) -> Result<Snapshot, UndoFault> {
+    undo(buffer, &[])?;
     Ok(buffer.snapshot()?)
 }
 
+// A snapshot outlives its buffer.
+fn outlived(opened: Result<Buffer, NewFault>) -> Result<Snapshot, UndoFault> {
+    match opened {
+        Ok(mut buffer) => last_of(&mut buffer),
+        Err(_) => Err(UndoFault::OutOfMemory),
+    }
+}
+
+fn outlives(alloc: Global) -> Result<bool, UndoFault> {
+    let snapshot = outlived(buffer(alloc))?;
+    Ok(shares(alloc, &snapshot, &("abc", 2, 2))?)
+}
+
 #[test]
-fn a_snapshot_outlives_its_buffer(rt: HostRuntime) -> Result<(), Fail> {
-    let snapshot = outlived(rt.alloc())?;
-    shows(&rt, rt.alloc(), &snapshot, &("abc", 2, 2))?;
-    Ok(())
+fn snapshots_stay_as_they_were(rt: HostRuntime) {
+    let stayed = stay(rt.alloc(), buffer(rt.alloc()));
+    assert!(rt; stayed == Ok(true));
+    assert!(rt; outlives(rt.alloc()) == Ok(true));
 }

@@ -91,13 +91,20 @@ fn undos(alloc: Global) -> Result<UndoMap, AllocError>
     one.with_undo(alloc, &undo(alloc, LAST, SECOND, u32::MAX)?)
 }
 
+// The fault of an undo of edits.
+fn fault(alloc: Global, edits: &[Lamport]) -> Result<Option<UndoFault>, AllocError> {
+    let undos = undos(alloc)?;
+    let applied = applied(alloc)?;
+    Ok(undo_fault(alloc, &applied, &undos, edits))
+}
+
 #[test]
 fn each_fault(rt: HostRuntime) -> Result<(), Fail> {
-    let alloc = rt.alloc();
-    let applied = applied(alloc)?;
-    let undos = undos(alloc)?;
     for &(edits, want) in ROWS {
-        assert_eq!(rt; undo_fault(alloc, &applied, &undos, edits), want);
+        assert!(rt;
+            fault(rt.alloc(), edits)? == want,
+            "where {want:?} is wanted"
+        );
     }
     Ok(())
 }
@@ -112,15 +119,21 @@ fn counts(alloc: Global, edits: &[Lamport]) -> Result<Option<Counts>, AllocError
     }
 }
 
+// Whether an undo of edits gives these counts.
+fn gives(alloc: Global, edits: &[Lamport], want: &[UndoCount]) -> Result<bool, AllocError> {
+    match counts(alloc, edits)? {
+        None => Ok(false),
+        Some(counts) => Ok(counts.as_slice() == want),
+    }
+}
+
 #[test]
 fn one_more(rt: HostRuntime) -> Result<(), Fail> {
     let want = UndoCount {
         edit: FIRST,
         count: 2,
     };
-    let made = counts(rt.alloc(), &[FIRST])?;
-    assert!(rt; made.is_some_and(|counts| counts.as_slice() == [want].as_slice()));
-    let none = counts(rt.alloc(), &[])?;
-    assert!(rt; none.is_some_and(|counts| counts.as_slice().is_empty()));
+    assert!(rt; gives(rt.alloc(), &[FIRST], &[want])?);
+    assert!(rt; gives(rt.alloc(), &[], &[])?);
     Ok(())
 }

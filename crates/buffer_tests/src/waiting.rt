@@ -1,9 +1,9 @@
 // What waits and what is ready, with ample memory.
 use crate::operations::{Entries, Parts, Stamp, operation, stamp, version};
 use deferred_ops::Deferred;
+use lamport_clock::Lamport;
 use op_model::Operation;
 use std::alloc::{AllocError, Global};
-use std::process::Abort;
 use std::test::Fail;
 
 const EDIT: Parts = Parts::Pieces(&[]);
@@ -34,31 +34,40 @@ fn waiting(alloc: Global) -> Result<Deferred, AllocError> {
     Ok(deferred)
 }
 
-fn is(rt: &impl Abort, op: Option<&Operation>, want: Option<Stamp>) {
-    let stamps = op.map(|op| op.stamp());
-    assert_eq!(rt; stamps, want.map(stamp));
+// The stamp of an operation.
+fn stamp_of(op: Option<&Operation>) -> Option<Lamport> {
+    match op {
+        None => None,
+        Some(op) => Some(op.stamp()),
+    }
 }
 
-#[test]
-fn nothing_waits(rt: HostRuntime) -> Result<(), Fail> {
-    let mut deferred = Deferred::new(rt.alloc())?;
-    assert_eq!(rt; deferred.len(), 0);
-    is(&rt, deferred.get(stamp((1, 0))), None);
-    is(&rt, deferred.ready(None, &version(rt.alloc(), &[])?), None);
-    assert!(rt; deferred.remove(stamp((1, 0))).is_none());
-    Ok(())
+fn is(op: Option<&Operation>, want: Option<Stamp>) -> bool {
+    stamp_of(op) == want.map(stamp)
+}
+
+// Whether nothing waits, nor is ready.
+fn is_without(alloc: Global) -> Result<bool, AllocError> {
+    let none = version(alloc, &[])?;
+    let mut deferred = Deferred::new(alloc)?;
+    let empty = deferred.len() == 0 && is(deferred.get(stamp((1, 0))), None);
+    Ok(is(deferred.ready(None, &none), None) && empty && deferred.remove(stamp((1, 0))).is_none())
+}
+
+// Whether what waits is found by its stamp, until it is taken out.
+fn is_by_stamps(alloc: Global) -> Result<bool, AllocError> {
+    let mut deferred = waiting(alloc)?;
+    let there = is(deferred.get(stamp((3, 1))), Some((3, 1)));
+    let before = deferred.len() == 4 && there && is(deferred.get(stamp((1, 3))), None);
+    let taken = is(deferred.remove(stamp((3, 1))).as_ref(), Some((3, 1)));
+    let after = deferred.len() == 3 && is(deferred.get(stamp((3, 1))), None);
+    Ok(before && taken && after)
 }
 
 #[test]
 fn by_stamps(rt: HostRuntime) -> Result<(), Fail> {
-    let mut deferred = waiting(rt.alloc())?;
-    assert_eq!(rt; deferred.len(), 4);
-    is(&rt, deferred.get(stamp((3, 1))), Some((3, 1)));
-    is(&rt, deferred.get(stamp((1, 3))), None);
-    let taken = deferred.remove(stamp((3, 1)));
-    is(&rt, taken.as_ref(), Some((3, 1)));
-    is(&rt, deferred.get(stamp((3, 1))), None);
-    assert_eq!(rt; deferred.len(), 3);
+    assert!(rt; is_without(rt.alloc())?);
+    assert!(rt; is_by_stamps(rt.alloc())?);
     Ok(())
 }
 
@@ -74,12 +83,22 @@ const READY: &[(Option<Stamp>, Entries, Option<Stamp>)] = &[
     (Some((4, 3)), &[(0, 1), (1, 3)], None),
 ];
 
+// What is ready for whoever has seen these entries.
+fn ready(
+    alloc: Global,
+    after: Option<Stamp>,
+    have: Entries,
+) -> Result<Option<Lamport>, AllocError> {
+    let have = version(alloc, have)?;
+    let deferred = waiting(alloc)?;
+    Ok(stamp_of(deferred.ready(after.map(stamp), &have)))
+}
+
 #[test]
 fn the_least_that_misses_nothing(rt: HostRuntime) -> Result<(), Fail> {
-    let deferred = waiting(rt.alloc())?;
     for &(after, have, want) in READY {
-        let have = version(rt.alloc(), have)?;
-        is(&rt, deferred.ready(after.map(stamp), &have), want);
+        let found = ready(rt.alloc(), after, have)?;
+        assert!(rt; found == want.map(stamp), "after {after:?}");
     }
     Ok(())
 }

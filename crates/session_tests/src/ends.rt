@@ -2,7 +2,6 @@
 use crate::replaying::call;
 use session_replay::{Failed, MemSink, MemSource, Source, Status, SureSink, SureSource};
 use std::alloc::{AllocError, Global};
-use std::process::Abort;
 use std::sync::Wait;
 use std::test::Fail;
 use std::thread::Threads;
@@ -24,24 +23,22 @@ fn faults(status: Status) -> (u64, u64) {
     }
 }
 
-// Runs these words on the input, 8 bytes a call, where the read and the write with these numbers fail, which count from 1.
-fn ends_with<R: Threads + Wait + Sync + Abort>(
+// Whether these words on the input, 8 bytes a call, end with this status and write this, where the read and the write with
+// these numbers fail, which count from 1.
+fn ends_with<R: Threads + Wait + Sync>(
     rt: &R,
     alloc: Global,
     words: &[&str],
-    input: &str,
     failing: (u64, u64),
     want: Status,
-    output: &str,
-) -> Result<(), AllocError> {
+    (input, output): (&str, &str),
+) -> Result<bool, AllocError> {
     let reads = vec![in alloc; failing.0]?;
     let mut source = MemSource::new(input.as_bytes().to_vec(alloc)?, 8, reads);
     let mut sink = MemSink::new(alloc, 200, 8, vec![in alloc; failing.1]?)?;
     let status = call(rt, alloc, words, &mut source, &mut sink)?;
-    assert_eq!(rt; status, want, "where {output} is wanted");
-    assert_eq!(rt; sink.bytes(), output.as_bytes());
-    assert!(rt; (source.counts().faults, sink.faults()) == faults(status));
-    Ok(())
+    let seen = (source.counts().faults, sink.faults());
+    Ok(status == want && sink.bytes() == output.as_bytes() && seen == faults(want))
 }
 
 const NO_COMMANDS: &[&[&str]] = &[
@@ -60,30 +57,12 @@ const NO_COMMANDS: &[&[&str]] = &[
 fn words_that_are_no_command(rt: HostRuntime) -> Result<(), Fail> {
     for words in NO_COMMANDS {
         // the first read would fail, and none is made
-        ends_with(
-            &rt,
-            rt.alloc(),
-            words,
-            SESSION,
-            (1, 0),
-            Status::Usage,
-            USAGE,
-        )?;
+        let texts = (SESSION, USAGE);
+        assert!(rt;
+            ends_with(&rt, rt.alloc(), words, (1, 0), Status::Usage, texts)?,
+            "{words:?}"
+        );
     }
-    Ok(())
-}
-
-#[test]
-fn a_read_that_fails(rt: HostRuntime) -> Result<(), Fail> {
-    ends_with(
-        &rt,
-        rt.alloc(),
-        &["replay"],
-        SESSION,
-        (2, 0),
-        Status::ReadFault,
-        "",
-    )?;
     Ok(())
 }
 
@@ -97,36 +76,55 @@ const HALF_WRITTEN: &[(&str, &str, &str)] = &[
 ];
 
 #[test]
-fn writes_that_fail(rt: HostRuntime) -> Result<(), Fail> {
-    for (word, input, front) in HALF_WRITTEN {
+fn reads_and_writes_that_fail(rt: HostRuntime) -> Result<(), Fail> {
+    let texts = (SESSION, "");
+    assert!(rt;
         ends_with(
             &rt,
             rt.alloc(),
-            &[*word],
-            input,
-            (0, 2),
-            Status::WriteFault,
-            front,
-        )?;
+            &["replay"],
+            (2, 0),
+            Status::ReadFault,
+            texts
+        )?,
+        "where a read fails"
+    );
+    for (word, input, front) in HALF_WRITTEN {
+        let texts = (*input, *front);
+        assert!(rt;
+            ends_with(&rt, rt.alloc(), &[*word], (0, 2), Status::WriteFault, texts)?,
+            "where {front} is written"
+        );
     }
     Ok(())
 }
 
-#[test]
-fn a_piece_into_full_room(rt: HostRuntime) -> Result<(), Fail> {
-    let alloc = rt.alloc();
+// Whether a piece that is longer than the room fills it, and counts as a failure.
+fn fills_the_room<R: Threads + Wait + Sync>(rt: &R, alloc: Global) -> Result<bool, AllocError> {
     let mut source = MemSource::new(SESSION.as_bytes().to_vec(alloc)?, 8, Vec::new(alloc));
     let mut sink = MemSink::new(alloc, 5, 8, Vec::new(alloc))?;
-    let status = call(&rt, alloc, &["replay"], &mut source, &mut sink)?;
-    assert_eq!(rt; status, Status::WriteFault);
-    assert_eq!(rt; sink.bytes(), b"1: 2.".as_slice());
+    let status = call(rt, alloc, &["replay"], &mut source, &mut sink)?;
+    Ok(status == Status::WriteFault && sink.bytes() == b"1: 2.".as_slice())
+}
+
+#[test]
+fn a_piece_into_full_room(rt: HostRuntime) -> Result<(), Fail> {
+    assert!(rt; fills_the_room(&rt, rt.alloc())?);
     Ok(())
 }
 
 const LIMIT: usize = 67_108_864;
 
 // That many copies of a byte, the reads and writes that fail, the status, and what is written.
-const COPIES: &[((u8, usize), &[u64], &[u64], Status, &str)] = &[
+type Copies = (
+    (u8, usize),
+    &'static [u64],
+    &'static [u64],
+    Status,
+    &'static str,
+);
+
+const COPIES: &[Copies] = &[
     // 65,536 bytes are asked for at a time, and the last read meets the end
     ((b' ', 131_073), &[4], &[], Status::ReadFault, ""),
     (
@@ -176,42 +174,62 @@ const COPIES: &[((u8, usize), &[u64], &[u64], Status, &str)] = &[
     ),
 ];
 
+fn ends_at_the_limits<R: Threads + Wait + Sync>(
+    rt: &R,
+    alloc: Global,
+    copies: &Copies,
+) -> Result<bool, AllocError> {
+    let ((byte, count), reads, writes, want, output) = copies;
+    let input = vec![in alloc; *byte; *count]?;
+    let mut source = MemSource::new(input, usize::MAX, reads.to_vec(alloc)?);
+    let mut sink = MemSink::new(alloc, 200, 8, writes.to_vec(alloc)?)?;
+    let status = call(rt, alloc, &["replay"], &mut source, &mut sink)?;
+    Ok(status == *want && sink.bytes() == output.as_bytes())
+}
+
 #[test]
 fn inputs_at_the_limits(rt: HostRuntime) -> Result<(), Fail> {
-    let alloc = rt.alloc();
-    for ((byte, count), reads, writes, want, output) in COPIES {
-        let copies = vec![in alloc; *byte; *count]?;
-        let mut source = MemSource::new(copies, usize::MAX, reads.to_vec(alloc)?);
-        let mut sink = MemSink::new(alloc, 200, 8, writes.to_vec(alloc)?)?;
-        let status = call(&rt, alloc, &["replay"], &mut source, &mut sink)?;
-        assert_eq!(rt; status, *want, "at {count}");
-        assert_eq!(rt; sink.bytes(), output.as_bytes());
+    for copies in COPIES {
+        assert!(rt;
+            ends_at_the_limits(&rt, rt.alloc(), copies)?,
+            "at {:?}",
+            copies.0
+        );
     }
     Ok(())
 }
 
+// Whether a session comes to its end where neither reads nor writes fail, and its source is read to its end then.
+fn is_done<R: Threads + Wait + Sync>(rt: &R, alloc: Global) -> Result<bool, AllocError> {
+    let mut source = SureSource::new(SESSION.as_bytes().to_vec(alloc)?);
+    let status = call(rt, alloc, &["replay"], &mut source, &mut SureSink)?;
+    Ok(status == Status::Done && source.read(&mut [0u8; 4]) == Ok(0))
+}
+
 #[test]
 fn ends_that_never_fail(rt: HostRuntime) -> Result<(), Fail> {
-    let alloc = rt.alloc();
-    let mut source = SureSource::new(SESSION.as_bytes().to_vec(alloc)?);
-    let status = call(&rt, alloc, &["replay"], &mut source, &mut SureSink)?;
-    assert_eq!(rt; status, Status::Done);
-    let mut into = [0u8; 4];
-    assert_eq!(rt; source.read(&mut into), Ok(0));
+    assert!(rt; is_done(&rt, rt.alloc())?);
     Ok(())
+}
+
+// What a source of five bytes, whose third read fails, answers to reads of up to four, and the first four bytes.
+fn reads(alloc: Global) -> Result<([Result<usize, Failed>; 4], [u8; 4], MemSource), AllocError> {
+    let mut source = MemSource::new(b"abcde".to_vec(alloc)?, 8, [3].to_vec(alloc)?);
+    let (mut first, mut rest) = ([0u8; 4], [0u8; 4]);
+    let answers = [
+        source.read(&mut first),
+        source.read(&mut rest),
+        source.read(&mut rest),
+        source.read(&mut rest),
+    ];
+    Ok((answers, first, source))
 }
 
 #[test]
 fn reads_of_a_source_in_memory(rt: HostRuntime) -> Result<(), Fail> {
-    let alloc = rt.alloc();
-    let mut into = [0u8; 4];
-    let mut source = MemSource::new(b"abcde".to_vec(alloc)?, 8, [3].to_vec(alloc)?);
-    assert_eq!(rt; source.read(&mut into), Ok(4));
-    assert_eq!(rt; into.as_slice(), b"abcd".as_slice());
-    assert_eq!(rt; source.read(&mut into), Ok(1));
-    assert_eq!(rt; source.read(&mut into), Err(Failed));
-    assert_eq!(rt; source.read(&mut into), Ok(0));
+    let (answers, first, source) = reads(rt.alloc())?;
     let counts = source.counts();
-    assert_eq!(rt; (counts.given, counts.ends, counts.faults), (5, 1, 1));
+    assert!(rt; answers == [Ok(4), Ok(1), Err(Failed), Ok(0)] && first == *b"abcd");
+    assert!(rt; (counts.given, counts.ends, counts.faults) == (5, 1, 1));
     Ok(())
 }

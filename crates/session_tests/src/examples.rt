@@ -184,8 +184,11 @@ final 2: "one three\n"
 
 #[test]
 fn examples_and_their_reports(rt: HostRuntime) -> Result<(), Fail> {
-    for (_name, session, status, report) in EXAMPLES {
-        comes_to(&rt, rt.alloc(), "replay", session, *status, report)?;
+    for (name, session, status, report) in EXAMPLES {
+        assert!(rt;
+            comes_to(&rt, rt.alloc(), "replay", session, *status, report)?,
+            "of {name}"
+        );
     }
     Ok(())
 }

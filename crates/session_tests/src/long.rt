@@ -1,5 +1,6 @@
 //! A long session of three replicas that take all operations, each in an order of its own.
-use crate::replaying::replay_all;
+use crate::replaying::comes_to;
+use session_replay::Status;
 use std::test::Fail;
 
 const SESSION: &str = r#"["zedbuf",1,"one\ntwo\nthree\n",[3,1,7]]
@@ -621,6 +622,6 @@ final 7: "o bfcxeadbyz\neegéé\"dfc\nbyc\"fcd efzfdd abdaaafxébfe cxxx gddfday
 
 #[test]
 fn three_replicas_that_end_with_one_text(rt: HostRuntime) -> Result<(), Fail> {
-    replay_all(&rt, rt.alloc(), &[(SESSION, REPORT)])?;
+    assert!(rt; comes_to(&rt, rt.alloc(), "replay", SESSION, Status::Done, REPORT)?);
     Ok(())
 }

@@ -1,5 +1,5 @@
 //! Sessions of replicas that take each other's operations, and their reports.
-use crate::replaying::replay_all;
+use crate::replaying::first_wrong;
 use std::test::Fail;
 
 const SESSIONS: &[(&str, &str)] = &[
@@ -297,6 +297,7 @@ final 2: "X\né"
 
 #[test]
 fn replicas_that_take_operations(rt: HostRuntime) -> Result<(), Fail> {
-    replay_all(&rt, rt.alloc(), SESSIONS)?;
+    let wrong = first_wrong(&rt, rt.alloc(), SESSIONS)?;
+    assert!(rt; wrong.is_none(), "{wrong:?}");
     Ok(())
 }

@@ -1,7 +1,6 @@
 //! Sessions as they are read, and inputs that are no sessions.
 use session_lines::{DecodeFault, SessionLine, Word, decode};
 use std::alloc::{AllocError, Global};
-use std::process::Abort;
 use std::test::Fail;
 
 // Whether the input is no session, and why: its first bad line, and the word for it.
@@ -139,28 +138,20 @@ fn entries(alloc: Global, count: u16) -> Result<Vec<(u16, u32)>, AllocError> {
     Ok(entries)
 }
 
-#[test]
-fn versions_of_many(rt: HostRuntime) -> Result<(), Fail> {
-    let alloc = rt.alloc();
-    for count in [16u16, 17, 40] {
-        let text = entries_text(alloc, count)?;
-        let version = format!(in alloc; "[{text}]")?;
-        let want = entries(alloc, count)?;
-        assert!(rt;
-            reads_version(alloc, version.as_str(), &want)?,
-            "at {count}"
-        );
-    }
-    Ok(())
+// Whether a version of that many ids is read, and one with a further entry of the first is refused.
+fn reads_many(alloc: Global, count: u16) -> Result<bool, AllocError> {
+    let text = entries_text(alloc, count)?;
+    let version = format!(in alloc; "[{text}]")?;
+    let line = format!(in alloc; "[\"op\",[9,1],[{text},[1,9]],[]]")?;
+    let want = entries(alloc, count)?;
+    let read = reads_version(alloc, version.as_str(), want.as_slice())?;
+    Ok(is_bad_line(alloc, Word::Shape, line.as_str())? && read)
 }
 
 #[test]
-fn an_id_twice_among_many(rt: HostRuntime) -> Result<(), Fail> {
-    let alloc = rt.alloc();
+fn versions_of_many(rt: HostRuntime) -> Result<(), Fail> {
     for count in [16u16, 17, 40] {
-        let text = entries_text(alloc, count)?;
-        let line = format!(in alloc; "[\"op\",[9,1],[{text},[1,9]],[]]")?;
-        are_bad(&rt, alloc, Word::Shape, &[line.as_str()])?;
+        assert!(rt; reads_many(rt.alloc(), count)?, "at {count}");
     }
     Ok(())
 }
@@ -292,19 +283,18 @@ fn bad_headers(rt: HostRuntime) {
     assert!(rt; is_bad(rt.alloc(), no_text, 3, Word::Json));
 }
 
-// Each of the lines is the first bad one of its session, for the word.
-fn are_bad<R: Abort>(rt: &R, alloc: Global, word: Word, lines: &[&str]) -> Result<(), AllocError> {
-    for line in lines {
-        let input = format!(in alloc; "[\"zedbuf\",1,\"ab\",[1,2]]\n{line}\n[\"text\",4]\n")?;
-        assert!(rt; is_bad(alloc, input.as_bytes(), 2, word), "at {line}");
-    }
-    Ok(())
+// Whether a line is the first bad one of its session, for the word.
+fn is_bad_line(alloc: Global, word: Word, line: &str) -> Result<bool, AllocError> {
+    let input = format!(in alloc; "[\"zedbuf\",1,\"ab\",[1,2]]\n{line}\n[\"text\",4]\n")?;
+    Ok(is_bad(alloc, input.as_bytes(), 2, word))
 }
 
 #[test]
 fn bad_lines(rt: HostRuntime) -> Result<(), Fail> {
     for (word, lines) in BAD_LINES {
-        are_bad(&rt, rt.alloc(), *word, lines)?;
+        for line in *lines {
+            assert!(rt; is_bad_line(rt.alloc(), *word, line)?, "at {line}");
+        }
     }
     Ok(())
 }
@@ -320,7 +310,9 @@ const UNDO: &str = r#"["undo",1,[]]"#;
 const UOP: &str = r#"["uop",[2,9],[],[]]"#;
 
 // Two lines, the number that a line behind them names, and the bad line of the session.
-const NUMBERS: &[(&str, &str, u64, u64)] = &[
+type Numbered = (&'static str, &'static str, u64, u64);
+
+const NUMBERS: &[Numbered] = &[
     (UNDO, UOP, 2, 5),
     (UNDO, UOP, 3, 4),
     (EDIT, r#"["undo",1,[1,1]]"#, 2, 5),
@@ -336,18 +328,19 @@ const NUMBERS: &[(&str, &str, u64, u64)] = &[
     (OP, OP, 3, 4),
 ];
 
+fn is_bad_there(alloc: Global, row: &Numbered) -> Result<bool, AllocError> {
+    let (first, second, number, line) = row;
+    // what stands after the line has no number for it, and is no operation line's own
+    let input = format!(in alloc;
+        "[\"zedbuf\",1,\"ab\",[1]]\n{first}\n{second}\n[\"give\",1,{number}]\n[\"give\",1,3]\n{OP}\n{OP}\n"
+    )?;
+    Ok(is_bad(alloc, input.as_bytes(), *line, Word::Number))
+}
+
 #[test]
 fn numbers_of_operation_lines(rt: HostRuntime) -> Result<(), Fail> {
-    let alloc = rt.alloc();
-    for (first, second, number, line) in NUMBERS {
-        // what stands after the line has no number for it, and is no operation line's own
-        let input = format!(in alloc;
-            "[\"zedbuf\",1,\"ab\",[1]]\n{first}\n{second}\n[\"give\",1,{number}]\n[\"give\",1,3]\n{OP}\n{OP}\n"
-        )?;
-        assert!(rt;
-            is_bad(alloc, input.as_bytes(), *line, Word::Number),
-            "at {input}"
-        );
+    for row in NUMBERS {
+        assert!(rt; is_bad_there(rt.alloc(), row)?, "at {row:?}");
     }
     Ok(())
 }
@@ -361,12 +354,20 @@ fn header(alloc: Global, count: u64) -> Result<String, AllocError> {
     format!(in alloc; "[\"zedbuf\",1,\"\",[{ids}]]\n")
 }
 
+fn is_header_bad(alloc: Global, count: u64) -> Result<bool, AllocError> {
+    let input = header(alloc, count)?;
+    Ok(is_bad(alloc, input.as_bytes(), 1, Word::Header))
+}
+
+fn is_read(alloc: Global, count: u64) -> Result<bool, AllocError> {
+    let input = header(alloc, count)?;
+    Ok(decode(alloc, input.as_bytes()).is_ok())
+}
+
 #[test]
 fn headers_of_many_ids(rt: HostRuntime) -> Result<(), Fail> {
-    let most = header(rt.alloc(), 64)?;
-    assert!(rt; decode(rt.alloc(), most.as_bytes()).is_ok());
-    let more = header(rt.alloc(), 65)?;
-    assert!(rt; is_bad(rt.alloc(), more.as_bytes(), 1, Word::Header));
+    assert!(rt; is_read(rt.alloc(), 64)?);
+    assert!(rt; is_header_bad(rt.alloc(), 65)?);
     Ok(())
 }
 
@@ -377,24 +378,40 @@ fn feeds(alloc: Global, count: usize, last: &str) -> Result<Vec<u8>, AllocError>
     Ok(input)
 }
 
-#[test]
-fn as_many_lines_as_there_may_be(rt: HostRuntime) -> Result<(), Fail> {
-    for (count, last) in [(1_048_576usize, ""), (1_048_575, " ")] {
-        let input = feeds(rt.alloc(), count, last)?;
-        assert!(rt; is_bad(rt.alloc(), &input, 1, Word::Json), "at {count}");
+// What an input of that many line feeds, and a last line, is refused for.
+fn fault_of(alloc: Global, count: usize, last: &str) -> Result<Option<DecodeFault>, AllocError> {
+    let input = feeds(alloc, count, last)?;
+    Ok(decode(alloc, input.as_slice()).err())
+}
+
+fn is_of_bad_json(fault: Option<DecodeFault>) -> bool {
+    match fault {
+        Some(DecodeFault::Bad { line, word }) => line == 1 && word == Word::Json,
+        _ => false,
     }
-    Ok(())
+}
+
+fn is_of_lines(fault: Option<DecodeFault>) -> bool {
+    match fault {
+        Some(DecodeFault::Lines(lines)) => lines == 1_048_577,
+        _ => false,
+    }
 }
 
 #[test]
-fn one_line_too_many(rt: HostRuntime) -> Result<(), Fail> {
+fn as_many_lines_as_there_may_be_and_one_more(rt: HostRuntime) -> Result<(), Fail> {
     // a last line without a line feed is one more
+    for (count, last) in [(1_048_576usize, ""), (1_048_575, " ")] {
+        assert!(rt;
+            is_of_bad_json(fault_of(rt.alloc(), count, last)?),
+            "at {count}"
+        );
+    }
     for (count, last) in [(1_048_577usize, ""), (1_048_576, " ")] {
-        let input = feeds(rt.alloc(), count, last)?;
-        match decode(rt.alloc(), &input) {
-            Err(DecodeFault::Lines(lines)) => assert_eq!(rt; lines, 1_048_577),
-            _ => assert!(rt; false, "at {count}"),
-        }
+        assert!(rt;
+            is_of_lines(fault_of(rt.alloc(), count, last)?),
+            "at {count}"
+        );
     }
     Ok(())
 }

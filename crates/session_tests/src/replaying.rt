@@ -1,7 +1,6 @@
 //! Single sessions with their reports, inputs that are no sessions, and what is counted of a session.
 use session_replay::{Gate, MemSink, MemSource, Sink, Source, Status, run};
 use std::alloc::{AllocError, Global};
-use std::process::Abort;
 use std::sync::Wait;
 use std::test::Fail;
 use std::thread::Threads;
@@ -29,33 +28,33 @@ pub fn call<R: Threads + Wait + Sync, I: Source, O: Sink>(
     Ok(run(rt, alloc, texts.as_slice(), source, sink, &Passing))
 }
 
-// Runs a command on the input, 8 bytes a call, and compares the status and all that was written.
-pub fn comes_to<R: Threads + Wait + Sync + Abort>(
+// Whether a command on the input, 8 bytes a call, ends with this status, and writes this.
+pub fn comes_to<R: Threads + Wait + Sync>(
     rt: &R,
     alloc: Global,
     command: &str,
     input: &str,
     want: Status,
     output: &str,
-) -> Result<(), AllocError> {
+) -> Result<bool, AllocError> {
     let mut source = MemSource::new(input.as_bytes().to_vec(alloc)?, 8, Vec::new(alloc));
     let mut sink = MemSink::new(alloc, 200_000, 8, Vec::new(alloc))?;
     let status = call(rt, alloc, &[command], &mut source, &mut sink)?;
-    assert_eq!(rt; status, want, "where {output} is wanted");
-    assert_eq!(rt; sink.bytes(), output.as_bytes());
-    Ok(())
+    Ok(status == want && sink.bytes() == output.as_bytes())
 }
 
-// Replays each session, and compares what was written with its report.
-pub fn replay_all<R: Threads + Wait + Sync + Abort>(
+// The first of the sessions whose replay does not write its report.
+pub fn first_wrong<'a, R: Threads + Wait + Sync>(
     rt: &R,
     alloc: Global,
-    sessions: &[(&str, &str)],
-) -> Result<(), AllocError> {
+    sessions: &'a [(&'a str, &'a str)],
+) -> Result<Option<&'a str>, AllocError> {
     for (session, report) in sessions {
-        comes_to(rt, alloc, "replay", session, Status::Done, report)?;
+        if !comes_to(rt, alloc, "replay", session, Status::Done, report)? {
+            return Ok(Some(*session));
+        }
     }
-    Ok(())
+    Ok(None)
 }
 
 // Sessions of single lines, and their reports.
@@ -256,14 +255,18 @@ const CHECKED: &[(&str, Status, &str)] = &[
 
 #[test]
 fn sessions_and_their_reports(rt: HostRuntime) -> Result<(), Fail> {
-    replay_all(&rt, rt.alloc(), SESSIONS)?;
+    let wrong = first_wrong(&rt, rt.alloc(), SESSIONS)?;
+    assert!(rt; wrong.is_none(), "{wrong:?}");
     Ok(())
 }
 
 #[test]
 fn inputs_that_are_no_sessions(rt: HostRuntime) -> Result<(), Fail> {
     for (input, line) in NO_SESSIONS {
-        comes_to(&rt, rt.alloc(), "replay", input, Status::Session, line)?;
+        assert!(rt;
+            comes_to(&rt, rt.alloc(), "replay", input, Status::Session, line)?,
+            "of {input}"
+        );
     }
     Ok(())
 }
@@ -271,18 +274,20 @@ fn inputs_that_are_no_sessions(rt: HostRuntime) -> Result<(), Fail> {
 #[test]
 fn sessions_that_are_only_checked(rt: HostRuntime) -> Result<(), Fail> {
     for (input, want, line) in CHECKED {
-        comes_to(&rt, rt.alloc(), "check", input, *want, line)?;
+        assert!(rt;
+            comes_to(&rt, rt.alloc(), "check", input, *want, line)?,
+            "of {input}"
+        );
     }
     Ok(())
 }
 
-#[test]
-fn new_texts_at_their_limit(rt: HostRuntime) -> Result<(), Fail> {
-    let alloc = rt.alloc();
-    let letters = String::from_utf8(vec![in alloc; b'a'; 65_536]?);
-    let Ok(letters) = letters else {
-        return Ok(assert!(rt; false));
-    };
+// Whether an edit by so many letters and one more is refused, and one by so many is made.
+fn is_at_the_limit<R: Threads + Wait + Sync>(
+    rt: &R,
+    alloc: Global,
+    letters: &str,
+) -> Result<bool, AllocError> {
     let input = format!(in alloc;
         "[\"zedbuf\",1,\"ab\",[1,2]]\n[\"edit\",1,[[0,0,\"{letters}a\"]]]\n[\"edit\",1,[[0,0,\"{letters}\"]]]\n"
     )?;
@@ -290,12 +295,21 @@ fn new_texts_at_their_limit(rt: HostRuntime) -> Result<(), Fail> {
         "1: textlimit 65537\n2: 2.1\nreplica 1: 65538 bytes, 1 rows, 1 applied, 0 waiting, 0 refused\nfinal 1: \"{letters}ab\"\nreplica 2: 2 bytes, 1 rows, 0 applied, 0 waiting, 0 refused\nfinal 2: \"ab\"\n"
     )?;
     comes_to(
-        &rt,
+        rt,
         alloc,
         "replay",
         input.as_str(),
         Status::Done,
         report.as_str(),
-    )?;
+    )
+}
+
+#[test]
+fn new_texts_at_their_limit(rt: HostRuntime) -> Result<(), Fail> {
+    let letters = String::from_utf8(vec![in rt.alloc(); b'a'; 65_536]?);
+    let Ok(letters) = letters else {
+        return Ok(assert!(rt; false));
+    };
+    assert!(rt; is_at_the_limit(&rt, rt.alloc(), letters.as_str())?);
     Ok(())
 }

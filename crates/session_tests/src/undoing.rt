@@ -1,5 +1,5 @@
 //! Sessions with undo and redo, and their reports.
-use crate::replaying::replay_all;
+use crate::replaying::first_wrong;
 use std::test::Fail;
 
 const SESSIONS: &[(&str, &str)] = &[
@@ -198,6 +198,7 @@ final 2: "ab"
 
 #[test]
 fn replicas_that_undo(rt: HostRuntime) -> Result<(), Fail> {
-    replay_all(&rt, rt.alloc(), SESSIONS)?;
+    let wrong = first_wrong(&rt, rt.alloc(), SESSIONS)?;
+    assert!(rt; wrong.is_none(), "{wrong:?}");
     Ok(())
 }

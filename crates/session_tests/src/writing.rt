@@ -3,22 +3,14 @@ use lamport_clock::Lamport;
 use op_model::{EditFault, OpFault, Text, UndoFault, Unit};
 use session_lines::{Given, Report, decode, write_line};
 use std::alloc::{AllocError, Global};
-use std::process::Abort;
 use std::test::Fail;
 
-// Writes the line after another text, and compares both: the line is the front and then what is wanted.
-fn writes<R: Abort>(
-    rt: &R,
-    alloc: Global,
-    line: Report,
-    front: &str,
-    want: &str,
-) -> Result<(), AllocError> {
+// Whether the line is written after another text: the line is the front and then what is wanted.
+fn writes(alloc: Global, line: Report, front: &str, want: &str) -> Result<bool, AllocError> {
     let mut out = b"before\n".to_vec(alloc)?;
     write_line(alloc, &mut out, &line)?;
     let whole = format!(in alloc; "before\n{front}{want}\n")?;
-    assert_eq!(rt; out.as_slice(), whole.as_bytes());
-    Ok(())
+    Ok(out.as_slice() == whole.as_bytes())
 }
 
 const STAMP: Lamport = Lamport {
@@ -125,7 +117,7 @@ fn faults_of_edits(rt: HostRuntime) -> Result<(), Fail> {
             number: 3,
             fault: *fault,
         };
-        writes(&rt, rt.alloc(), line, "3: ", want)?;
+        assert!(rt; writes(rt.alloc(), line, "3: ", want)?, "{want}");
     }
     Ok(())
 }
@@ -137,7 +129,7 @@ fn faults_of_undos(rt: HostRuntime) -> Result<(), Fail> {
             number: 4,
             fault: *fault,
         };
-        writes(&rt, rt.alloc(), line, "4: ", want)?;
+        assert!(rt; writes(rt.alloc(), line, "4: ", want)?, "{want}");
     }
     Ok(())
 }
@@ -150,7 +142,10 @@ fn faults_of_taken_operations(rt: HostRuntime) -> Result<(), Fail> {
             stamp: STAMP,
             fault: *fault,
         };
-        writes(&rt, rt.alloc(), line, "refused 9: 3.2 ", want)?;
+        assert!(rt;
+            writes(rt.alloc(), line, "refused 9: 3.2 ", want)?,
+            "{want}"
+        );
     }
     Ok(())
 }
@@ -163,31 +158,32 @@ fn answers_to_gives(rt: HostRuntime) -> Result<(), Fail> {
             replica: 1023,
             answer: *answer,
         };
-        writes(&rt, rt.alloc(), line, "give 12 to 1023: ", want)?;
+        assert!(rt;
+            writes(rt.alloc(), line, "give 12 to 1023: ", want)?,
+            "{want}"
+        );
     }
     Ok(())
 }
 
 #[test]
 fn lines_of_operations(rt: HostRuntime) -> Result<(), Fail> {
-    let line = Report::Made {
-        number: 12,
-        stamp: Lamport {
-            value: 4_294_967_294,
-            replica: 7,
-        },
+    let stamp = Lamport {
+        value: 4_294_967_294,
+        replica: 7,
     };
-    writes(&rt, rt.alloc(), line, "", "12: 4294967294.7")?;
-    let line = Report::Unnamed {
+    let made = Report::Made { number: 12, stamp };
+    assert!(rt; writes(rt.alloc(), made, "", "12: 4294967294.7")?);
+    let unnamed = Report::Unnamed {
         number: 4,
         named: 2,
     };
-    writes(&rt, rt.alloc(), line, "", "4: nothing 2")?;
-    let line = Report::Settled {
+    assert!(rt; writes(rt.alloc(), unnamed, "", "4: nothing 2")?);
+    let settled = Report::Settled {
         replica: 2,
         count: 3,
     };
-    writes(&rt, rt.alloc(), line, "", "settled 2: 3")?;
+    assert!(rt; writes(rt.alloc(), settled, "", "settled 2: 3")?);
     Ok(())
 }
 
@@ -195,30 +191,32 @@ fn text(alloc: Global, text: &str) -> Result<Text, AllocError> {
     Ok(Text::new(String::from_str(alloc, text)?))
 }
 
-#[test]
-fn lines_of_texts(rt: HostRuntime) -> Result<(), Fail> {
+fn writes_text(alloc: Global) -> Result<bool, AllocError> {
     let line = Report::Text {
         replica: 1,
         bytes: 13,
         row: 1,
         column: 10,
         rows: 2,
-        text: text(rt.alloc(), "\u{e9}\n\"\\\u{1}\u{7f}/\u{8}\u{c}\r\t\u{1f}")?,
+        text: text(alloc, "\u{e9}\n\"\\\u{1}\u{7f}/\u{8}\u{c}\r\t\u{1f}")?,
     };
     let quoted = "\"\u{e9}\\n\\\"\\\\\\u0001\u{7f}/\\b\\f\\r\\t\\u001f\"";
-    writes(
-        &rt,
-        rt.alloc(),
-        line,
-        "text 1: 13 bytes, end 1:10, 2 rows, ",
-        quoted,
-    )?;
-    Ok(())
+    writes(alloc, line, "text 1: 13 bytes, end 1:10, 2 rows, ", quoted)
+}
+
+fn writes_final(alloc: Global) -> Result<bool, AllocError> {
+    let line = Report::Final {
+        replica: 2,
+        text: text(alloc, "")?,
+    };
+    writes(alloc, line, "final 2: ", r#""""#)
 }
 
 #[test]
-fn lines_of_replicas(rt: HostRuntime) -> Result<(), Fail> {
-    let line = Report::Replica {
+fn lines_of_texts(rt: HostRuntime) -> Result<(), Fail> {
+    assert!(rt; writes_text(rt.alloc())?);
+    assert!(rt; writes_final(rt.alloc())?);
+    let replica = Report::Replica {
         replica: 1023,
         bytes: 3,
         rows: 2,
@@ -227,12 +225,7 @@ fn lines_of_replicas(rt: HostRuntime) -> Result<(), Fail> {
         refused: 6,
     };
     let want = "3 bytes, 2 rows, 4 applied, 5 waiting, 6 refused";
-    writes(&rt, rt.alloc(), line, "replica 1023: ", want)?;
-    let line = Report::Final {
-        replica: 2,
-        text: text(rt.alloc(), "")?,
-    };
-    writes(&rt, rt.alloc(), line, "final 2: ", r#""""#)?;
+    assert!(rt; writes(rt.alloc(), replica, "replica 1023: ", want)?);
     Ok(())
 }
 
@@ -254,19 +247,17 @@ const COUNTED: &[(&str, &str)] = &[
     ),
 ];
 
+fn is_counted(alloc: Global, input: &str, want: &str) -> Result<bool, AllocError> {
+    match decode(alloc, input.as_bytes()) {
+        Ok(session) => writes(alloc, Report::checked(&session), "session ok: ", want),
+        Err(_) => Ok(false),
+    }
+}
+
 #[test]
 fn counted_sessions(rt: HostRuntime) -> Result<(), Fail> {
     for (input, want) in COUNTED {
-        match decode(rt.alloc(), input.as_bytes()) {
-            Ok(session) => writes(
-                &rt,
-                rt.alloc(),
-                Report::checked(&session),
-                "session ok: ",
-                want,
-            )?,
-            Err(_) => assert!(rt; false, "at {input}"),
-        }
+        assert!(rt; is_counted(rt.alloc(), input, want)?, "at {input}");
     }
     Ok(())
 }

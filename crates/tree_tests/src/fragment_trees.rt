@@ -10,7 +10,7 @@ use sum_tree::{Item, SumTree};
 use tree_cursor::{Bias, Cursor, locate};
 
 // A stamp's value and replica.
-type Pair = (u32, u16);
+pub(crate) type Pair = (u32, u16);
 
 // A fragment without its id.
 struct Row {
@@ -57,7 +57,7 @@ const ROWS: [Row; 4] = [
     },
 ];
 
-fn stamp((value, replica): Pair) -> Lamport {
+pub(crate) fn stamp((value, replica): Pair) -> Lamport {
     Lamport { value, replica }
 }
 
@@ -100,7 +100,11 @@ fn id(alloc: Global, n: u64) -> Result<Locator, OutOfMemory> {
 }
 
 // Adds a fragment where the tree is small.
-fn add(alloc: Global, tree: &mut SumTree<Fragment>, fragment: Fragment) -> Result<(), OutOfMemory> {
+pub(crate) fn add(
+    alloc: Global,
+    tree: &mut SumTree<Fragment>,
+    fragment: Fragment,
+) -> Result<(), OutOfMemory> {
     let count = tree.len();
     let sum = tree.summary();
     if count >= 1_000 {
@@ -134,21 +138,12 @@ fn add_rows(
     alloc: Global,
     tree: &mut SumTree<Fragment>,
     last: &mut Locator,
-) -> Result<(), OutOfMemory> {
-    for row in &ROWS {
-        add_row(alloc, tree, last, row)?;
-    }
-    Ok(())
-}
-
-fn fill(
-    alloc: Global,
-    tree: &mut SumTree<Fragment>,
-    last: &mut Locator,
     times: u64,
 ) -> Result<(), OutOfMemory> {
     for _time in 0..times {
-        add_rows(alloc, tree, last)?;
+        for row in &ROWS {
+            add_row(alloc, tree, last, row)?;
+        }
     }
     Ok(())
 }
@@ -157,7 +152,7 @@ fn fill(
 fn tree_of(alloc: Global, times: u64) -> Result<SumTree<Fragment>, OutOfMemory> {
     let mut last = Locator::least(alloc)?;
     let mut tree = SumTree::new(alloc)?;
-    fill(alloc, &mut tree, &mut last, times)?;
+    add_rows(alloc, &mut tree, &mut last, times)?;
     Ok(tree)
 }
 

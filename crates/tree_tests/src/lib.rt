@@ -12,6 +12,8 @@ mod cursors;
 #[cfg(test)]
 mod fragment_trees;
 #[cfg(test)]
+mod fragment_undos;
+#[cfg(test)]
 mod keys;
 #[cfg(test)]
 mod mirror;

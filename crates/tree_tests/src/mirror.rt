@@ -57,21 +57,31 @@ pub(crate) fn is_even<T: Numbered>(alloc: Global, tree: &SumTree<T>) -> Result<b
     Ok(even)
 }
 
+// Whether these are the numbers of a tree.
+fn has_numbers<T: Numbered>(tree: &SumTree<T>, numbers: &[u64]) -> bool {
+    let n = numbers.len() as u64;
+    let mut same = tree.len() == n && tree.is_empty() == (n == 0) && tree.get(n).is_none();
+    for (i, number) in numbers.iter().enumerate() {
+        same = same && number_of(tree.get(i as u64)) == Some(*number);
+    }
+    same
+}
+
+// Whether they are the first and the last ones of a tree, and its root has no more entries than it may, nor fewer.
+fn has_ends<T: Numbered>(tree: &SumTree<T>, numbers: &[u64]) -> bool {
+    let ends = number_of(tree.first()) == numbers.first().copied()
+        && number_of(tree.last()) == numbers.last().copied();
+    let entries = width(tree);
+    ends && entries <= 12 && (tree.height() == 0 || entries >= 2)
+}
+
 // Whether a tree has these numbers, and nodes of the sizes that it should have.
 pub(crate) fn mirrors<T: Numbered>(
     alloc: Global,
     tree: &SumTree<T>,
     numbers: &[u64],
 ) -> Result<bool, AllocError> {
-    let n = numbers.len() as u64;
-    let mut same = tree.len() == n && tree.is_empty() == (n == 0) && tree.get(n).is_none();
-    for (i, number) in numbers.iter().enumerate() {
-        same = same && number_of(tree.get(i as u64)) == Some(*number);
-    }
-    let ends = number_of(tree.first()) == numbers.first().copied()
-        && number_of(tree.last()) == numbers.last().copied();
-    let root = width(tree) <= 12 && (tree.height() == 0 || width(tree) >= 2);
-    Ok(is_even(alloc, tree)? && same && ends && root)
+    Ok(is_even(alloc, tree)? && has_numbers(tree, numbers) && has_ends(tree, numbers))
 }
 
 // The numbers from 0 up to n.

@@ -257,38 +257,46 @@ fn everywhere(rope: &Rope, text: &str, places: &[Place]) -> Result<(), Wrong> {
     rows(rope, text)
 }
 
-// What the ropes of a text answer wrong, one of full chunks and one of pieces.
-fn first_wrong(alloc: Global, text: &str) -> Result<Option<Wrong>, AllocError> {
-    let places = places_of(alloc, text)?;
-    let whole = rope_of(alloc, text)?;
-    let pieces = from_pieces(alloc, text)?;
-    if !has(alloc, &whole, text)? || !has(alloc, &pieces, text)? {
+// What a rope answers wrong of its text.
+fn wrong(alloc: Global, rope: &Rope, text: &str) -> Result<Option<Wrong>, AllocError> {
+    if !has(alloc, rope, text)? {
         return Ok(Some(("to_string", 0, 0)));
     }
-    if let Err(wrong) = everywhere(&whole, text, &places) {
-        return Ok(Some(wrong));
-    }
-    Ok(everywhere(&pieces, text, &places).err())
+    let places = places_of(alloc, text)?;
+    Ok(everywhere(rope, text, &places).err())
+}
+
+fn wrong_of_whole(alloc: Global, text: &str) -> Result<Option<Wrong>, AllocError> {
+    let rope = rope_of(alloc, text)?;
+    wrong(alloc, &rope, text)
+}
+
+fn wrong_of_pieces(alloc: Global, text: &str) -> Result<Option<Wrong>, AllocError> {
+    let rope = from_pieces(alloc, text)?;
+    wrong(alloc, &rope, text)
 }
 
 #[test]
 fn answers_as_counted(rt: HostRuntime) -> Result<(), AllocError> {
     for text in texts() {
-        assert_eq!(rt; first_wrong(rt.alloc(), text)?, None, "of {text:?}");
+        let wrong = wrong_of_whole(rt.alloc(), text)?;
+        assert!(rt; wrong.is_none(), "{wrong:?} of {text:?}");
+        let wrong = wrong_of_pieces(rt.alloc(), text)?;
+        assert!(rt; wrong.is_none(), "{wrong:?} of {text:?}, in pieces");
     }
     Ok(())
 }
 
-// Where a point of a text is clipped to, as a row and a column.
-fn clip(
+// Where a point of a text is clipped to on each side, as rows and columns.
+fn clips(
     alloc: Global,
     text: &str,
-    point: (u64, u64),
-    bias: Bias,
-) -> Result<(u64, u64), AllocError> {
-    let (row, column) = point;
-    let point = rope_of(alloc, text)?.clip_point(Point { row, column }, bias);
-    Ok((point.row, point.column))
+    (row, column): (u64, u64),
+) -> Result<((u64, u64), (u64, u64)), AllocError> {
+    let rope = rope_of(alloc, text)?;
+    let left = rope.clip_point(Point { row, column }, Bias::Left);
+    let right = rope.clip_point(Point { row, column }, Bias::Right);
+    Ok(((left.row, left.column), (right.row, right.column)))
 }
 
 #[test]
@@ -303,16 +311,8 @@ fn clips_points(rt: HostRuntime) -> Result<(), AllocError> {
         ("é😀\n", (0, 3), (0, 2), (0, 6)),
     ];
     for (text, point, left, right) in rows {
-        assert_eq!(rt;
-            clip(rt.alloc(), text, point, Bias::Left)?,
-            left,
-            "{point:?}"
-        );
-        assert_eq!(rt;
-            clip(rt.alloc(), text, point, Bias::Right)?,
-            right,
-            "{point:?}"
-        );
+        let clipped = clips(rt.alloc(), text, point)?;
+        assert!(rt; clipped == (left, right), "{point:?}");
     }
     Ok(())
 }

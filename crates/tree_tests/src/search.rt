@@ -1,4 +1,6 @@
 //! Searches for needles, against one that looks at each place by itself.
+use crate::chance::step;
+use crate::parts::rope_of;
 use rope_chunks::Rope;
 use snapshot_search::{FindFault, find_all, find_all_par};
 use std::alloc::{AllocError, Global};
@@ -24,27 +26,48 @@ fn plain(alloc: Global, text: &str, needle: &str) -> Result<Vec<u64>, AllocError
     Ok(places)
 }
 
-// Whether a rope of the text gives the places of the plain search, by one thread and in parts.
+// Whether a rope gives these places, by one thread and in parts.
+fn gives<R: Threads + Sync>(
+    rt: &R,
+    alloc: Global,
+    rope: &Rope,
+    needle: &str,
+    places: &[u64],
+) -> Result<bool, FindFault> {
+    let mut alike = find_all(alloc, rope, needle)?.as_slice() == places;
+    for parts in PARTS {
+        if parts > 0 {
+            let found = find_all_par(rt, alloc, rope, needle, parts)?;
+            alike = alike && found.as_slice() == places;
+        }
+    }
+    Ok(alike)
+}
+
+// Whether a rope of the text gives the places of the plain search.
 fn alike<R: Threads + Sync>(
     rt: &R,
     alloc: Global,
     text: &str,
     needle: &str,
 ) -> Result<bool, FindFault> {
-    if text.len() > 1_000_000 {
-        return Ok(false);
-    }
-    let rope = Rope::from_str(alloc, text)?;
+    let rope = rope_of(alloc, text)?;
     let places = plain(alloc, text, needle)?;
-    let found = find_all(alloc, &rope, needle)?;
-    let mut alike = found.as_slice() == places.as_slice();
-    for parts in PARTS {
-        if parts > 0 {
-            let found = find_all_par(rt, alloc, &rope, needle, parts)?;
-            alike = alike && found.as_slice() == places.as_slice();
-        }
+    gives(rt, alloc, &rope, needle, places.as_slice())
+}
+
+// Whether it does for each of the needles.
+fn all_alike<R: Threads + Sync>(
+    rt: &R,
+    alloc: Global,
+    text: &str,
+    needles: &[&str],
+) -> Result<bool, FindFault> {
+    let mut same = true;
+    for needle in needles {
+        same = alike(rt, alloc, text, needle)? && same;
     }
-    Ok(alike)
+    Ok(same)
 }
 
 // A text of so many bytes, of a few letters in turn.
@@ -69,9 +92,7 @@ fn planted(
     let mut x = 7u64;
     for place in places {
         for _ in text.len()..*place {
-            x = x
-                .wrapping_mul(6364136223846793005)
-                .wrapping_add(1442695040888963407);
+            x = step(x);
             text.push((b'a' + ((x >> 40) % 26) as u8) as char)?;
         }
         text.push_str(needle)?;
@@ -82,62 +103,77 @@ fn planted(
     Ok(text)
 }
 
-#[test]
-fn finds_across_a_chunk(rt: HostRuntime) -> Result<(), Fail> {
-    let mut text = turns(rt.alloc(), b"b", 127)?;
-    text.push_str("aaaa")?;
-    let few = text.len() == 131;
-    assert_eq!(rt; few, true);
-    if few {
-        let rope = Rope::from_str(rt.alloc(), text.as_str())?;
-        let found = find_all(rt.alloc(), &rope, "aa")?;
-        assert_eq!(rt; found.as_slice(), [127u64, 128, 129].as_slice());
-        assert_eq!(rt; find_all(rt.alloc(), &rope, "c")?.len(), 0);
-        assert_eq!(rt;
-            find_all(rt.alloc(), &rope, "").err(),
-            Some(FindFault::EmptyNeedle)
-        );
-        for parts in [1, 2, 16] {
-            if parts > 0 {
-                let found = find_all_par(&rt, rt.alloc(), &rope, "aa", parts)?;
-                assert_eq!(rt;
-                    found.as_slice(),
-                    [127u64, 128, 129].as_slice(),
-                    "{parts} parts"
-                );
-                let found = find_all_par(&rt, rt.alloc(), &rope, "c", parts)?;
-                assert_eq!(rt; found.len(), 0, "{parts} parts");
-                let found = find_all_par(&rt, rt.alloc(), &rope, "", parts);
-                assert_eq!(rt; found.err(), Some(FindFault::EmptyNeedle), "{parts} parts");
-            }
+// A run of one letter, and a text behind it.
+fn behind(alloc: Global, before: usize, text: &str) -> Result<String, AllocError> {
+    let mut whole = turns(alloc, b"b", before)?;
+    whole.push_str(text)?;
+    Ok(whole)
+}
+
+// Whether no search is made for a needle without bytes.
+fn refuses_no_needle<R: Threads + Sync>(rt: &R, alloc: Global, rope: &Rope) -> bool {
+    let mut refused = find_all(alloc, rope, "").err() == Some(FindFault::EmptyNeedle);
+    for parts in PARTS {
+        if parts > 0 {
+            let found = find_all_par(rt, alloc, rope, "", parts);
+            refused = refused && found.err() == Some(FindFault::EmptyNeedle);
         }
     }
+    refused
+}
+
+// Whether a match across two chunks is found, and those that overlap it, and nothing else.
+fn across_a_chunk<R: Threads + Sync>(rt: &R, alloc: Global) -> Result<bool, FindFault> {
+    let rope = rope_of(alloc, behind(alloc, 127, "aaaa")?.as_str())?;
+    let found = gives(rt, alloc, &rope, "aa", &[127, 128, 129])?;
+    let none = gives(rt, alloc, &rope, "c", &[])?;
+    Ok(found && none && rope.len() == 131 && refuses_no_needle(rt, alloc, &rope))
+}
+
+#[test]
+fn finds_across_a_chunk(rt: HostRuntime) -> Result<(), Fail> {
+    assert!(rt; across_a_chunk(&rt, rt.alloc())?);
     Ok(())
+}
+
+const AT_SEAMS: &[&str] = &["a", "aa", "aaaa", "aaaaa", "ba", "ab", "aab", "baab", "c"];
+
+fn at_a_seam<R: Threads + Sync>(rt: &R, alloc: Global, before: usize) -> Result<bool, FindFault> {
+    let text = behind(alloc, before, "aaaabaab")?;
+    all_alike(rt, alloc, text.as_str(), AT_SEAMS)
 }
 
 #[test]
 fn finds_at_each_seam(rt: HostRuntime) -> Result<(), Fail> {
     for before in [0, 1, 124, 125, 126, 127, 128, 129, 254, 255, 256, 65_530] {
-        let mut text = turns(rt.alloc(), b"b", before)?;
-        text.push_str("aaaabaab")?;
-        for needle in ["a", "aa", "aaaa", "aaaaa", "ba", "ab", "aab", "baab", "c"] {
-            let same = alike(&rt, rt.alloc(), text.as_str(), needle)?;
-            assert_eq!(rt; same, true, "{needle} behind {before}");
-        }
+        assert!(rt; at_a_seam(&rt, rt.alloc(), before)?, "behind {before}");
     }
     Ok(())
+}
+
+// Whether a needle of so many bytes is found where it stands at these places of a text.
+fn where_planted<R: Threads + Sync>(
+    rt: &R,
+    alloc: Global,
+    letters: &str,
+    len: usize,
+    places: &[usize],
+    whole: usize,
+) -> Result<bool, FindFault> {
+    let needle = turns(alloc, letters.as_bytes(), len)?;
+    let text = planted(alloc, needle.as_str(), places, whole)?;
+    alike(rt, alloc, text.as_str(), needle.as_str())
 }
 
 #[test]
 fn finds_needles_of_each_length(rt: HostRuntime) -> Result<(), Fail> {
     for len in LENGTHS {
         for letters in ["abcdefg", "ab", "a", "aaaaaaaaaaab"] {
-            let needle = turns(rt.alloc(), letters.as_bytes(), len)?;
-            let middle = 1500_usize.saturating_sub(len / 2);
-            let places = [128, 640, 1000, middle, 2900];
-            let text = planted(rt.alloc(), needle.as_str(), &places, 3000)?;
-            let same = alike(&rt, rt.alloc(), text.as_str(), needle.as_str())?;
-            assert_eq!(rt; same, true, "{len} of {letters}");
+            let places = [128, 640, 1000, 1500_usize.saturating_sub(len / 2), 2900];
+            assert!(rt;
+                where_planted(&rt, rt.alloc(), letters, len, &places, 3000)?,
+                "{len} of {letters}"
+            );
         }
     }
     Ok(())
@@ -146,60 +182,81 @@ fn finds_needles_of_each_length(rt: HostRuntime) -> Result<(), Fail> {
 #[test]
 fn finds_across_windows(rt: HostRuntime) -> Result<(), Fail> {
     for len in [1, 2, 33, 129, 300] {
-        let needle = turns(rt.alloc(), b"aaaaaaaaaaab", len)?;
         let places = [
             65_536_usize.saturating_sub(len / 2),
             69_999,
             131_072_usize.saturating_sub(len),
             131_072,
         ];
-        let text = planted(rt.alloc(), needle.as_str(), &places, 140_000)?;
-        let same = alike(&rt, rt.alloc(), text.as_str(), needle.as_str())?;
-        assert_eq!(rt; same, true, "{len}");
+        assert!(rt;
+            where_planted(&rt, rt.alloc(), "aaaaaaaaaaab", len, &places, 140_000)?,
+            "{len}"
+        );
     }
     Ok(())
+}
+
+// Whether the matches of a needle are found that overlap each other, in a text of the same letters.
+fn overlapping<R: Threads + Sync>(
+    rt: &R,
+    alloc: Global,
+    letters: &str,
+    len: usize,
+) -> Result<bool, FindFault> {
+    let text = turns(alloc, letters.as_bytes(), 3000)?;
+    let needle = turns(alloc, letters.as_bytes(), len)?;
+    alike(rt, alloc, text.as_str(), needle.as_str())
 }
 
 #[test]
 fn finds_overlapping_matches(rt: HostRuntime) -> Result<(), Fail> {
     for letters in ["a", "ab", "aab", "abaab"] {
-        let text = turns(rt.alloc(), letters.as_bytes(), 3000)?;
         for len in [1, 2, 3, 5, 16, 40, 300, 2999, 3000, 3001] {
-            let needle = turns(rt.alloc(), letters.as_bytes(), len)?;
-            let same = alike(&rt, rt.alloc(), text.as_str(), needle.as_str())?;
-            assert_eq!(rt; same, true, "{len} of {letters}");
+            assert!(rt;
+                overlapping(&rt, rt.alloc(), letters, len)?,
+                "{len} of {letters}"
+            );
         }
     }
     Ok(())
 }
 
-#[test]
-fn finds_characters_of_several_bytes(rt: HostRuntime) -> Result<(), Fail> {
-    let mut text = String::new(rt.alloc());
+// Characters of each length, fifty times each.
+fn characters(alloc: Global) -> Result<String, AllocError> {
+    let mut text = String::new(alloc);
     for piece in ["é", "😀", "€", "a", "éé", "😀😀", "\r\n", "€é"] {
         for _ in 0..50 {
             text.push_str(piece)?;
             text.push_str("é€😀")?;
         }
     }
-    for needle in ["é", "€", "😀", "€😀", "😀é", "é€😀é", "a", "\n", "ß", "😀😀😀"] {
-        let same = alike(&rt, rt.alloc(), text.as_str(), needle)?;
-        assert_eq!(rt; same, true, "{needle}");
-    }
+    Ok(text)
+}
+
+const OF_SEVERAL_BYTES: &[&str] = &["é", "€", "😀", "€😀", "😀é", "é€😀é", "a", "\n", "ß", "😀😀😀"];
+
+fn in_characters<R: Threads + Sync>(rt: &R, alloc: Global) -> Result<bool, FindFault> {
+    all_alike(rt, alloc, characters(alloc)?.as_str(), OF_SEVERAL_BYTES)
+}
+
+#[test]
+fn finds_characters_of_several_bytes(rt: HostRuntime) -> Result<(), Fail> {
+    assert!(rt; in_characters(&rt, rt.alloc())?);
     for short in ["", "é", "😀", "aaa"] {
-        for needle in ["a", "é", "😀", "aa", "aaaa"] {
-            let same = alike(&rt, rt.alloc(), short, needle)?;
-            assert_eq!(rt; same, true, "{needle} in {short}");
-        }
+        let needles = ["a", "é", "😀", "aa", "aaaa"];
+        assert!(rt; all_alike(&rt, rt.alloc(), short, &needles)?, "in {short}");
     }
     Ok(())
 }
 
+// Whether a fault is told in these words.
+fn is_told(alloc: Global, fault: FindFault, words: &str) -> Result<bool, AllocError> {
+    Ok(format!(in alloc; "{fault}")?.as_str() == words)
+}
+
 #[test]
-fn tells_what_is_wrong(rt: HostRuntime) -> Result<(), Fail> {
-    let empty = format!(in rt.alloc(); "{}", FindFault::EmptyNeedle)?;
-    assert_eq!(rt; empty.as_str(), "the needle is empty");
-    let memory = format!(in rt.alloc(); "{}", FindFault::OutOfMemory)?;
-    assert_eq!(rt; memory.as_str(), "out of memory");
+fn tells_what_is_wrong(rt: HostRuntime) -> Result<(), AllocError> {
+    assert!(rt; is_told(rt.alloc(), FindFault::EmptyNeedle, "the needle is empty")?);
+    assert!(rt; is_told(rt.alloc(), FindFault::OutOfMemory, "out of memory")?);
     Ok(())
 }

@@ -86,14 +86,11 @@ fn splices_often<T: Numbered>(
     Ok(same)
 }
 
-// Cuts a tree and puts it together again, and then replaces ranges of it.
-fn changes<T: Numbered>(
-    alloc: Global,
-    tree: &mut SumTree<T>,
-    numbers: Vec<u64>,
-) -> Result<bool, AllocError>
+// Cuts a tree of the numbers up to n and puts it together again, and then replaces ranges of it.
+fn changes<T: Numbered>(alloc: Global, tree: &mut SumTree<T>, n: u64) -> Result<bool, AllocError>
     requires { (xs : List T) → T.Summary.fits (fold T.Summary.empty T.Summary.op T.sum_of xs) }
 {
+    let numbers = counting(alloc, n)?;
     let same = mirrors(alloc, tree, &numbers)?;
     let cuts = rejoins_everywhere(alloc, tree, &numbers)?;
     Ok(splices_often(alloc, tree, numbers)? && same && cuts)
@@ -102,33 +99,33 @@ fn changes<T: Numbered>(
 fn pushed_changes<T: Numbered>(alloc: Global, n: u64) -> Result<bool, AllocError>
     requires { (xs : List T) → T.Summary.fits (fold T.Summary.empty T.Summary.op T.sum_of xs) }
 {
-    let numbers = counting(alloc, n)?;
     let mut tree: SumTree<T> = pushed(alloc, n)?;
-    changes(alloc, &mut tree, numbers)
+    changes(alloc, &mut tree, n)
 }
 
 fn listed_changes<T: Numbered>(alloc: Global, n: u64) -> Result<bool, AllocError>
     requires { (xs : List T) → T.Summary.fits (fold T.Summary.empty T.Summary.op T.sum_of xs) }
 {
-    let numbers = counting(alloc, n)?;
     let mut tree: SumTree<T> = made(alloc, n)?;
-    changes(alloc, &mut tree, numbers)
+    changes(alloc, &mut tree, n)
 }
 
-// Changes of trees of so many items, of which one was made by pushes and one of a list.
-fn grown_changes<T: Numbered>(alloc: Global, n: u64) -> Result<bool, AllocError>
-    requires { (xs : List T) → T.Summary.fits (fold T.Summary.empty T.Summary.op T.sum_of xs) }
-{
-    Ok(pushed_changes::<T>(alloc, n)? && listed_changes::<T>(alloc, n)?)
-}
-
+// Trees of so many items are made by pushes, and of a list.
 #[test]
 fn trees_are_lists(rt: HostRuntime) -> Result<(), AllocError> {
     for n in [0, 1, 6, 12, 13, 72, 73, 156, 157, 2000, 5000] {
-        assert!(rt; grown_changes::<Ranked>(rt.alloc(), n)?, "{n} numbers");
+        assert!(rt;
+            pushed_changes::<Ranked>(rt.alloc(), n)?,
+            "{n} numbers, pushed"
+        );
+        assert!(rt;
+            listed_changes::<Ranked>(rt.alloc(), n)?,
+            "{n} numbers, listed"
+        );
     }
     for n in [0, 1, 12, 13, 72, 73, 156, 157, 1000] {
-        assert!(rt; grown_changes::<Word>(rt.alloc(), n)?, "{n} words");
+        assert!(rt; pushed_changes::<Word>(rt.alloc(), n)?, "{n} words, pushed");
+        assert!(rt; listed_changes::<Word>(rt.alloc(), n)?, "{n} words, listed");
     }
     Ok(())
 }
@@ -154,10 +151,14 @@ fn alone<T: Numbered>(alloc: Global, number: u64) -> Result<SumTree<T>, AllocErr
     SumTree::from_item(alloc, item)
 }
 
-// What the keyed calls answer for some numbers.
-fn keyed_rows<T: Numbered>(alloc: Global, tree: &mut SumTree<T>) -> Result<bool, AllocError>
+// What is answered where some numbers are inserted and taken out.
+fn keyed_answers<T: Numbered>(
+    alloc: Global,
+    tree: &mut SumTree<T>,
+) -> Result<[Option<u64>; 6], AllocError>
     requires fits { (xs : List T) → T.Summary.fits (fold T.Summary.empty T.Summary.op T.sum_of xs) }
     requires ascending { Ascending T.Key.cmp T.key_of tree.old.items }
+    ensures ascending { Ascending T.Key.cmp T.key_of tree.new.items }
 {
     let first = insert_to(alloc, tree, 2)?;
     let second = insert_to(alloc, tree, 5)?;
@@ -165,11 +166,24 @@ fn keyed_rows<T: Numbered>(alloc: Global, tree: &mut SumTree<T>) -> Result<bool,
     let again = insert_to(alloc, tree, 5)?;
     let two = remove_from(alloc, tree, 2)?;
     let nine = remove_from(alloc, tree, 9)?;
-    let there = number_of(tree.find(&T::key_at(3))) == Some(3)
-        && tree.find(&T::key_at(2)).is_none();
-    let inserted = first.is_none() && second.is_none() && third.is_none() && again == Some(5);
+    Ok([first, second, third, again, two, nine])
+}
+
+fn finds_three<T: Numbered>(tree: &SumTree<T>) -> bool
+    requires ascending { Ascending T.Key.cmp T.key_of tree.now.items }
+{
+    number_of(tree.find(&T::key_at(3))) == Some(3) && tree.find(&T::key_at(2)).is_none()
+}
+
+// Whether these are the answers, and the tree has what is left, and then one number more.
+fn keyed_rows<T: Numbered>(alloc: Global, tree: &mut SumTree<T>) -> Result<bool, AllocError>
+    requires fits { (xs : List T) → T.Summary.fits (fold T.Summary.empty T.Summary.op T.sum_of xs) }
+    requires ascending { Ascending T.Key.cmp T.key_of tree.old.items }
+{
+    let answers = keyed_answers(alloc, tree)?;
+    let right = finds_three(tree) && answers == [None, None, None, Some(5), Some(2), None];
     append_to(alloc, tree, alone(alloc, 8)?)?;
-    Ok(mirrors(alloc, tree, &[3, 5, 8])? && inserted && there && two == Some(2) && nine.is_none())
+    Ok(mirrors(alloc, tree, &[3, 5, 8])? && right)
 }
 
 // Inserts the numbers below 1000 in a mixed order.
@@ -217,7 +231,8 @@ fn many_keys<T: Numbered>(alloc: Global, tree: &mut SumTree<T>) -> Result<bool, 
     let filled = fills(alloc, tree)?;
     let all = mirrors(alloc, tree, &counting(alloc, 1000)?)? && finds(tree, 1);
     let halved = halves(alloc, tree)?;
-    Ok(filled && all && halved && tree.len() == 500 && is_even(alloc, tree)? && finds(tree, 2))
+    let half = finds(tree, 2) && tree.len() == 500;
+    Ok(is_even(alloc, tree)? && half && halved && all && filled)
 }
 
 fn few_keyed<T: Numbered>(alloc: Global) -> Result<bool, AllocError>
