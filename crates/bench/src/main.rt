@@ -1,13 +1,20 @@
-//! Works on trees and on ropes, and times it: `bench tree ITEMS` on a tree that gets so many items, `bench rope BYTES TIMES` on
-//! a rope of so many bytes, so many times, `bench search BYTES` searches ropes of so many bytes. What came of each work is
-//! written, and with a further word `timed` the microseconds too. All can be asked for at once.
+//! Works on trees, ropes and buffers, and times it: `bench tree ITEMS` on a tree that gets so many items, `bench rope BYTES TIMES`
+//! on a rope of so many bytes, so many times, `bench search BYTES` searches ropes of so many bytes, `bench snapshot BYTES` takes
+//! snapshots of a buffer over so many bytes, `bench leaf EDITS` copies leaves of the fragments that so many edits make, `bench undo
+//! FRAGMENTS` undoes edits among so many fragments, `bench locators` makes locators as the standard input says. What came of each
+//! work is written, and with a further word `timed` the
+//! microseconds too. All can be asked for at once.
 #![tactic(auto)]
 
 mod chance;
+mod leaf;
+mod naming;
 mod report;
 mod rope;
 mod search;
+mod snapshots;
 mod tree;
+mod undo;
 
 use std::{env, io};
 
@@ -18,17 +25,24 @@ enum Next {
     Bytes,
     Times,
     Searched,
+    Opened,
+    Edits,
+    Fragments,
 }
 
 // What is asked for: how many items the tree gets, how long the rope is and how often it is worked on, how long the ropes that
-// are searched are, and whether times are
-// written. A tree that gets no items and ropes without bytes are not asked for.
+// are searched are and the text of the buffer, how many edits make fragments, among how many fragments edits are undone, whether
+// locators are made, and whether times are written. Work on no items, no bytes, no edits or no fragments is not asked for.
 #[derive(Clone, Copy)]
 struct Asked {
     items: u32,
     bytes: u32,
     times: u32,
     searched: u32,
+    opened: u32,
+    edits: u32,
+    fragments: u32,
+    locators: bool,
     timed: bool,
     next: Next,
 }
@@ -40,6 +54,10 @@ impl Asked {
             "tree" => self.next = Next::Items,
             "rope" => self.next = Next::Bytes,
             "search" => self.next = Next::Searched,
+            "snapshot" => self.next = Next::Opened,
+            "leaf" => self.next = Next::Edits,
+            "undo" => self.next = Next::Fragments,
+            "locators" => self.locators = true,
             "timed" => self.timed = true,
             number => self.size(number.parse().unwrap_or(0)),
         }
@@ -54,6 +72,9 @@ impl Asked {
             }
             Next::Times => self.times = number,
             Next::Searched => self.searched = number,
+            Next::Opened => self.opened = number,
+            Next::Edits => self.edits = number,
+            Next::Fragments => self.fragments = number,
         }
     }
 }
@@ -64,6 +85,10 @@ fn words(rt: &HostRuntime) -> io::Result<Asked> {
         bytes: 0,
         times: 0,
         searched: 0,
+        opened: 0,
+        edits: 0,
+        fragments: 0,
+        locators: false,
         timed: false,
         next: Next::Items,
     };
@@ -83,6 +108,18 @@ fn main(rt: HostRuntime) -> io::Result<()> {
     }
     if asked.searched > 0 {
         search::works(&rt, &rt, asked.timed, asked.searched)?;
+    }
+    if asked.opened > 0 {
+        snapshots::works(&rt, asked.timed, asked.opened)?;
+    }
+    if asked.edits > 0 {
+        leaf::works(&rt, asked.timed, asked.edits)?;
+    }
+    if asked.fragments > 0 {
+        undo::works(&rt, asked.timed, asked.fragments)?;
+    }
+    if asked.locators {
+        naming::works(&rt, asked.timed)?;
     }
     Ok(())
 }

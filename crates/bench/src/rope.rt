@@ -2,7 +2,7 @@
 ghost use Rattle.std.specs.Prelude.{IfOk};
 ghost use Rattle.std.specs.Str.{IsAscii};
 
-mod text;
+pub mod text;
 mod work;
 
 use crate::report::tell;

@@ -1,0 +1,70 @@
+//! Locators that are made as lines of two indexes say: 0 is the least one, 1 the greatest, and each line makes one more, which
+//! lies between the two that it names.
+use crate::report::tell;
+use locators::Locator;
+use std::alloc::{AllocError, Global};
+use std::io;
+use std::time::Instant;
+
+// Two indexes of locators.
+type Pair = (usize, usize);
+
+/// Reads the lines from the standard input, makes the locators, copies them and compares each with the two beside it.
+pub fn works(rt: &HostRuntime, timed: bool) -> io::Result<()> {
+    let text = io::read_to_string(rt.alloc(), rt.reader())?;
+    let pairs = pairs(rt.alloc(), text.as_str())?;
+    let start = Instant::now(rt)?;
+    let all = made(rt.alloc(), &pairs)?;
+    tell(rt, timed, "Between", start, all.len() as u64)?;
+    let start = Instant::now(rt)?;
+    let copies = copied(rt.alloc(), &all)?;
+    tell(rt, timed, "Copy", start, copies.len() as u64)?;
+    let start = Instant::now(rt)?;
+    let less = count_less(&all, &pairs);
+    tell(rt, timed, "Compare", start, less)
+}
+
+// The pairs of a text; a line that has no two numbers names 0 in their place.
+fn pairs(alloc: Global, text: &str) -> Result<Vec<Pair>, AllocError> {
+    let mut pairs = Vec::new(alloc);
+    for line in text.lines() {
+        if let Some((low, high)) = line.split_once(' ') {
+            pairs.push((low.parse().unwrap_or(0), high.parse().unwrap_or(0)))?;
+        }
+    }
+    Ok(pairs)
+}
+
+// All locators, as far as the pairs name some that are made.
+fn made(alloc: Global, pairs: &[Pair]) -> Result<Vec<Locator>, AllocError> {
+    let mut all = Vec::with_capacity(alloc, pairs.len().saturating_add(2))?;
+    all.push(Locator::least(alloc)?)?;
+    all.push(Locator::greatest(alloc)?)?;
+    for &(low, high) in pairs {
+        if let (Some(low), Some(high)) = (all.get(low), all.get(high)) {
+            let between = Locator::between(alloc, low, high)?;
+            all.push(between)?;
+        }
+    }
+    Ok(all)
+}
+
+fn copied(alloc: Global, all: &[Locator]) -> Result<Vec<Locator>, AllocError> {
+    let mut copies = Vec::with_capacity(alloc, all.len())?;
+    for locator in all {
+        copies.push(locator.copy(alloc)?)?;
+    }
+    Ok(copies)
+}
+
+// How often a locator is above the one that it was put behind, and below the one that it was put before.
+fn count_less(all: &[Locator], pairs: &[Pair]) -> u64 {
+    let mut less: u64 = 0;
+    for (between, &(low, high)) in all.iter().skip(2).zip(pairs) {
+        if let (Some(low), Some(high)) = (all.get(low), all.get(high)) {
+            let both = u64::from(low < between) + u64::from(between < high);
+            less = less.saturating_add(both);
+        }
+    }
+    less
+}
