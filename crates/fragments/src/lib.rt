@@ -1,8 +1,8 @@
 //! Fragments: runs of cells of which one thing is told, as the items of a tree, with the places among them and an index
 //! that finds the fragment of a cell.
 //!
-//! A fragment with an id of up to six digits, two deletions, and undos and a summary of up to four replicas lies in the
-//! value itself.
+//! A fragment with an id of up to three runs of equal digits, two deletions, and undos and a summary of up to four replicas
+//! lies in the value itself.
 #![tactic(auto)]
 
 mod dimensions;
