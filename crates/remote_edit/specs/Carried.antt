@@ -8,16 +8,22 @@ use Rattle.op_model.specs.Histories.{History}
 use Rattle.op_model.specs.Cells.{Cell}
 use Rattle.op_model.specs.Shown.{text, hidden, texts}
 use Rattle.op_model.specs.Facts.{Fact}
-use Rattle.op_model.specs.Walked.{facts_of}
+use Rattle.op_model.specs.Sorted.{Each}
+use Rattle.op_model.specs.Walked.{IsWhole, facts_of}
 use Rattle.fragments.specs.declared.fragment.Fragment.{Fragment}
 use Rattle.fragments.specs.Stand.{runs}
 use Rattle.remote_edit.specs.declared.moves.Move.{Move}
 use Rattle.remote_edit.specs.declared.moves.Move.TheVariants.{Visible, Hidden, Hide, Show}
-use Rattle.remote_edit.specs.Moves.{Texts, texts_of, moved, HaveMoved}
+use Rattle.remote_edit.specs.Moves.{Texts, texts_of, moved, TakeTexts, HaveMoved}
 
 -- moves take the shown and the hidden text of h, with the new text of op, to those of the history with op
 abbrev pub AreMovesOf : List Move → History → Operation → Type 0
 AreMovesOf ms h op = moved ms (text h) (hidden h) (texts (pieces_of op)) ≡ texts_of (text (h ++ op ∷ [])) (hidden (h ++ op ∷ []))
+
+-- where the fragments fs begin and end between characters, so do gs of h with op, and the moves take whole characters
+abbrev pub KeepCharacters : List Fragment → List Fragment → List Move → History → Operation → Type 0
+KeepCharacters fs gs ms h op = Each (IsWhole h) (runs fs)
+    → Each (IsWhole (h ++ op ∷ [])) (runs gs) × TakeTexts ms (text h) (hidden h) (texts (pieces_of op))
 
 -- what becomes of n bytes by whether they were shown before, and are now
 abbrev pub move_for : Bool → Bool → ℕ → Move

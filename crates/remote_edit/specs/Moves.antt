@@ -1,5 +1,6 @@
 -- Moves: what becomes of the bytes of a shown and of a hidden text, in order.
-use Rattle.std.specs.Prelude.{◌≡◌, ℕ, ◌+◌, ◌^◌, ◌==◌, nat_lt, if◌then◌else◌, List, [], ◌∷◌, ◌++◌, take, drop, Option, Some, None}
+use Rattle.std.specs.Prelude.{◌≡◌, ℕ, ◌+◌, ◌^◌, ◌==◌, nat_lt, if◌then◌else◌, List, [], ◌∷◌, ◌++◌, take, drop, Option, Some, None, ⊤}
+use Rattle.std.specs.Str.{IsUtf8}
 use Rattle.remote_edit.specs.declared.moves.Move.{Move}
 use Rattle.remote_edit.specs.declared.moves.Move.TheVariants.{Visible, Hidden, Hide, Show, Insert}
 
@@ -24,6 +25,15 @@ moved (Hidden k ∷ ms) s h n = followed_by [] (take k h) (moved ms s (drop k h)
 moved (Hide k ∷ ms) s h n = followed_by [] (take k s) (moved ms (drop k s) h n)
 moved (Show k ∷ ms) s h n = followed_by (take k h) [] (moved ms s (drop k h) n)
 moved (Insert k ∷ ms) s h n = followed_by (take k n) [] (moved ms s h (drop k n))
+
+-- each move takes whole characters: its bytes are UTF-8
+abbrev pub TakeTexts : List Move → List ℕ → List ℕ → List ℕ → Type 0
+TakeTexts [] s h n = ⊤
+TakeTexts (Visible k ∷ ms) s h n = IsUtf8 (take k s) × TakeTexts ms (drop k s) h n
+TakeTexts (Hidden k ∷ ms) s h n = IsUtf8 (take k h) × TakeTexts ms s (drop k h) n
+TakeTexts (Hide k ∷ ms) s h n = IsUtf8 (take k s) × TakeTexts ms (drop k s) h n
+TakeTexts (Show k ∷ ms) s h n = IsUtf8 (take k h) × TakeTexts ms s (drop k h) n
+TakeTexts (Insert k ∷ ms) s h n = IsUtf8 (take k n) × TakeTexts ms s h (drop k n)
 
 -- two lists of moves do the same to all texts
 abbrev pub DoTheSame : List Move → List Move → Type 0
