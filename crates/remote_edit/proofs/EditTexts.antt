@@ -100,13 +100,13 @@ module _ (h : History) (op : Operation) (u : List UndoEntry) (fs : List Fragment
   abbrev pub placed_fragments : List Fragment
   placed_fragments = walk u t v 0 0 (pieces_of op) [] fs
 
-  fits : Fits h op
+  pub fits : Fits h op
   fits = let k = checked_of h op g in fits_of h op (lawful_ready h l).0 k.0 k.1
 
   old : Each (IsOld u t) (runs fs)
   old = others h t l fits.fresh u fs s.filled (indexed_start fs i u h op s l g).before (undeleted_all h t l fits.fresh fs s.filled s.cells) (shown_by_counts h u fs s.counts s.filled s.cells)
 
-  placed_runs : runs placed_fragments ≡ W.walk (marking u t v) (sees v) t 0 0 (changing (pieces_of op)) (runs fs)
+  pub placed_runs : runs placed_fragments ≡ W.walk (marking u t v) (sees v) t 0 0 (changing (pieces_of op)) (runs fs)
   placed_runs = walk_as u t v (λ x. passed_unseen v t x fits.above) 0 0 (pieces_of op) [] fs
 
   pub told_before : Tell (before_edit u t placed_fragments) h

@@ -1,5 +1,6 @@
 pub mod Joining
 pub mod Stepping
+pub mod Characters
 pub mod Carrying
 pub mod Texts
 pub mod Beside
@@ -27,3 +28,5 @@ pub mod Making
 pub mod BeforeEdit
 pub mod EditMoves
 pub mod EditTexts
+pub mod WholeFragments
+pub mod UndoCharacters

@@ -136,7 +136,7 @@ module _ {A S : Type 0} (keeps : S → Bool) (sum_of : A → S) where
 -- ---- the walk
 
 -- the cells of a fragment stay
-same_cells : (w : List UndoEntry) (by : Lamport) (ts : List Lamport) (f : Fragment) → SameCells f (anew w by ts f)
+pub same_cells : (w : List UndoEntry) (by : Lamport) (ts : List Lamport) (f : Fragment) → SameCells f (anew w by ts f)
 same_cells w by ts f = elim (cases_Bool (list_any (concerns f) ts)) [
   | inl h ↦ subst (SameCells f) (sym (concerned w by ts f h)) (refl, refl, refl)
   | inr h ↦ subst (SameCells f) (sym (unconcerned w by ts f h)) (refl, refl, refl)

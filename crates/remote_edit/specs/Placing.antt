@@ -19,7 +19,7 @@ use Rattle.fragments.specs.declared.fragment.Fragment.{Fragment}
 use Rattle.fragments.specs.declared.index_entry.IndexEntry.{IndexEntry}
 use Rattle.fragments.specs.Stand.{Stand}
 use Rattle.remote_edit.specs.declared.moves.Move.{Move}
-use Rattle.remote_edit.specs.Carried.{AreMovesOf}
+use Rattle.remote_edit.specs.Carried.{AreMovesOf, KeepCharacters}
 
 -- the fragments, the index and the undo counts stand for a lawful history in which the edit is good, and whose bytes and the new
 -- ones are at most 2^40
@@ -37,6 +37,10 @@ ArePlaced fs w u op gs v = (h : History) → Stand fs w u h → Lawful h → ans
 -- for each such history, the moves take its texts to those of it with the operation
 abbrev pub MoveWithEdit : List Fragment → List IndexEntry → List UndoEntry → Operation → List Move → Type 0
 MoveWithEdit fs w u op ms = (h : History) → Stand fs w u h → Lawful h → answer h [] op ≡ Good → AreMovesOf ms h op
+
+-- for each such history, where the texts are UTF-8, whole fragments stay whole and the moves take whole characters
+abbrev pub KeepCharactersWithEdit : List Fragment → List IndexEntry → List UndoEntry → Operation → List Fragment → List Move → Type 0
+KeepCharactersWithEdit fs w u op gs ms = (h : History) → Stand fs w u h → Lawful h → Each IsProper h → IsProper op → answer h [] op ≡ Good → KeepCharacters fs gs ms h op
 
 -- the fragments, the index and the undo counts stand for a lawful history, the stamp t and the version v are those of what a
 -- replica makes there, the changes meet no fault, and the bytes of the history and the new ones are at most 2^40

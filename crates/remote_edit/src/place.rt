@@ -1,7 +1,7 @@
 // Edits placed among fragments.
 ghost use Rattle.std.specs.Prelude.{IfOk};
 ghost use Rattle.op_model.specs.declared.operation.Operation.TheVariants.{Edit};
-ghost use Rattle.remote_edit.specs.Placing.{MayPlace, ArePlaced, MoveWithEdit, MayMake, IsMade};
+ghost use Rattle.remote_edit.specs.Placing.{MayPlace, ArePlaced, MoveWithEdit, KeepCharactersWithEdit, MayMake, IsMade};
 
 use crate::Placed;
 use crate::edit_moves::edit_moves;
@@ -32,6 +32,7 @@ pub fn place_remote(
     requires { MayPlace tree.now.items index.now undos.now (Edit op.now) }
     ensures stands { IfOk result (λ p. ArePlaced tree.now.items index.now undos.now (Edit op.now) p.fragments.items p.index) }
     ensures moves { IfOk result (λ p. MoveWithEdit tree.now.items index.now undos.now (Edit op.now) p.moves) }
+    ensures characters { IfOk result (λ p. KeepCharactersWithEdit tree.now.items index.now undos.now (Edit op.now) p.fragments.items p.moves) }
 {
     let walk = walk_in(alloc, tree, index, undos, op)?;
     let moves = edit_moves(alloc, &walk.tree, undos, op)?;
@@ -59,6 +60,7 @@ pub fn place_local(
     ensures made { IfOk result (λ r. IsMade tree.now.items index.now undos.now stamp version changes.now (Edit r.0)) }
     ensures stands { IfOk result (λ r. ArePlaced tree.now.items index.now undos.now (Edit r.0) r.1.fragments.items r.1.index) }
     ensures moves { IfOk result (λ r. MoveWithEdit tree.now.items index.now undos.now (Edit r.0) r.1.moves) }
+    ensures characters { IfOk result (λ r. KeepCharactersWithEdit tree.now.items index.now undos.now (Edit r.0) r.1.fragments.items r.1.moves) }
 {
     let pieces = full_pieces(alloc, tree, changes)?;
     let op = EditOp {

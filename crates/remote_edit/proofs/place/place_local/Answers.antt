@@ -19,3 +19,6 @@ returns-clause-stands c = c.in_ok-placed.ensures.stands
 
 pub returns-clause-moves : goal.returns-clause-moves
 returns-clause-moves c = c.in_ok-placed.ensures.moves
+
+pub returns-clause-characters : goal.returns-clause-characters
+returns-clause-characters c = c.in_ok-placed.ensures.characters
