@@ -1,6 +1,7 @@
 -- Fragments that begin and end between characters, through an operation.
-use Rattle.std.proofs.Common.{◌≡◌, ℕ, zero, suc, ◌+◌, Bool, true, false, List, [], ◌∷◌, ◌++◌, length, map, get_or, refl, sym, ap, ◌∙◌, arith, subst, inl, inr, append_assoc, length-append}
+use Rattle.std.proofs.Common.{◌≡◌, ℕ, zero, suc, ◌+◌, Bool, true, false, cond, append-nil, List, [], ◌∷◌, ◌++◌, length, map, get_or, refl, sym, ap, ◌∙◌, arith, subst, inl, inr, append_assoc, length-append}
 use Rattle.std.proofs.lemmas.Bool.{cases_Bool}
+use Rattle.std.proofs.lemmas.Str.{IsCharBoundary-start}
 use Rattle.std.specs.List.{filter}
 use Rattle.std.specs.Str.{IsUtf8}
 use Rattle.std.specs.Prelude.{IsCharBoundary}
@@ -12,7 +13,9 @@ use Rattle.op_model.specs.declared.operation.Piece.{Piece}
 use Rattle.op_model.specs.Operations.{stamp_of, version_of, pieces_of}
 use Rattle.op_model.specs.Sorted.{Each}
 use Rattle.op_model.specs.Domains.{IsProper}
-use Rattle.op_model.specs.Histories.{History, Distinct, newest_first, seen}
+use Rattle.op_model.specs.Edits.{is_boundary}
+use Rattle.op_model.proofs.PathOrder.{same_stamp_refl}
+use Rattle.op_model.specs.Histories.{base, History, Distinct, newest_first, seen}
 use Rattle.op_model.specs.Cells.{Cell, Place, seq, seq_where, cells}
 use Rattle.op_model.specs.Shown.{texts, new_bytes, IsCell, full, full_where}
 use Rattle.op_model.specs.Answers.{answer}
@@ -38,6 +41,7 @@ use Rattle.fragments.specs.Stand.{runs, Tell, IsFilled, Stand}
 use Rattle.remote_edit.specs.Marks.{marking}
 use Rattle.remote_edit.specs.Walk.{changes}
 use Rattle.remote_edit.specs.Carried.{cell_bytes, IsText}
+use Rattle.remote_edit.specs.CarriedLaws.{BaseIsWhole}
 use Rattle.remote_edit.proofs.Changing.{changing, no_text, ordered_changing}
 use Rattle.remote_edit.proofs.Runs.{filled_runs}
 use Rattle.remote_edit.proofs.Texts.{each_kept, old_bytes}
@@ -73,6 +77,14 @@ whole_fragments h l u fs f s w =
     let d : Distinct h = (lawful_ready h l).0.distinct in
     let k = cut_runs h d u (runs fs) (filled_runs fs f) (subst (λ (x : List Fact). Each (λ (y : Fact). IsCell h y.cell) x) (sym s) (told_cells h d)) w in
     each_map (λ (x : Run). Cut h d x.stamp x.offset x.len) (IsWhole h) (λ x b. (of_boundary (new_bytes h x.stamp) x.offset b.0, of_boundary (new_bytes h x.stamp) (x.offset + x.len) b.1)) (runs fs) k
+
+pub base_whole : BaseIsWhole
+base_whole id t u =
+    let s : Lamport = record { value = 1; replica = 0 } in
+    let n : new_bytes (base t ∷ []) s ≡ t = ap (λ (b : Bool). cond b (t ++ []) []) (same_stamp_refl s) ∙ append-nil t in
+    let e : 0 + length t ≡ length t = omega arith in
+    let last : IsCharBoundary t (0 + length t) = (omega (arith, e), λ l g. absurd (omega (arith, e, l))) in
+    ((ap (λ (x : List ℕ). is_boundary x 0) n ∙ of_boundary t 0 (IsCharBoundary-start t u), ap (λ (x : List ℕ). is_boundary x (0 + length t)) n ∙ of_boundary t (0 + length t) last), tt)
 
 -- ---- the bytes in the history with one operation more
 

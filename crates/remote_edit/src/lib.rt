@@ -16,7 +16,8 @@ mod undo_moves;
 mod walk;
 
 pub use laws::{
-    carried_texts_are_those, joined_moves_do_the_same, kept_bytes_commute, moves_compose,
+    base_is_whole, carried_texts_are_those, joined_moves_do_the_same, kept_bytes_commute,
+    moves_compose,
 };
 pub use moves::{Move, Moves};
 pub use offsets::full_pieces;
