@@ -8,6 +8,7 @@ use Rattle.lamport_clock.specs.Stamps.{same_stamp}
 use Rattle.lamport_clock.specs.Versions.{joined, sees}
 use Rattle.op_model.specs.Sorted.{Each}
 use Rattle.op_model.proofs.PathOrder.{same_stamp_eq}
+use Rattle.op_model.proofs.WholeTexts.{each_left, each_right}
 use Rattle.undo_map.specs.declared.entry.UndoEntry.{UndoEntry}
 use Rattle.fragments.specs.declared.fragment.Fragment.{Fragment}
 use Rattle.fragments.specs.Summaries.{summary_of}
@@ -24,14 +25,6 @@ use Rattle.remote_edit.specs.BeforeEdit.{without, undeleted, before_edit, edit_m
 use Rattle.remote_edit.proofs.Carrying.{go_on, stay, on_one, on_stretch, on_insert}
 use Rattle.remote_edit.proofs.BeforeEdit.{none_without, or_parts}
 use Rattle.remote_edit.proofs.UndoMoves.{both, shown_append, hidden_append, IsBehind, behind_place, Unkept, find_next, find_none}
-
-each_right : {A : Type 0} (P : A → Type 0) (xs ys : List A) → Each P (xs ++ ys) → Each P ys
-each_right P [] ys e = e
-each_right P (x ∷ xs) ys e = each_right P xs ys e.1
-
-each_left : {A : Type 0} (P : A → Type 0) (xs ys : List A) → Each P (xs ++ ys) → Each P xs
-each_left P [] ys e = tt
-each_left P (x ∷ xs) ys e = (e.0, each_left P xs ys e.1)
 
 module _ (w : List UndoEntry) (t : Lamport) where
   -- the sum of a fragment does not see the edit

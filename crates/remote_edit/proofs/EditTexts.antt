@@ -35,7 +35,8 @@ use Rattle.remote_edit.proofs.Marks.{is_told}
 use Rattle.remote_edit.proofs.Changing.{changing}
 use Rattle.remote_edit.proofs.Runs.{walk_as}
 use Rattle.remote_edit.proofs.Standing.{indexed_start}
-use Rattle.remote_edit.proofs.UndoStands.{each_right, told_by_counts}
+use Rattle.op_model.proofs.WholeTexts.{each_right}
+use Rattle.remote_edit.proofs.UndoStands.{told_by_counts}
 use Rattle.remote_edit.proofs.BeforeEdit.{IsOld, old_runs, runs_before, walk_kept, text_totals}
 
 -- what is told of the cells of fragments is told of the fragments
