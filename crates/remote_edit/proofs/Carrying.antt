@@ -13,7 +13,7 @@ use Rattle.fragments.specs.Laws.{shown_len}
 use Rattle.remote_edit.specs.declared.moves.Move.{Move}
 use Rattle.remote_edit.specs.declared.moves.Move.TheVariants.{Visible, Hidden, Insert}
 use Rattle.remote_edit.specs.Moves.{texts_of, followed_by, with_move, HaveMoved}
-use Rattle.remote_edit.specs.Walk.{front, back, new_fragment}
+use Rattle.remote_edit.specs.Walk.{front, back}
 use Rattle.lamport_clock.specs.Versions.{Entries}
 use Rattle.op_model.specs.Facts.{with_deletion}
 use Rattle.undo_map.specs.declared.entry.UndoEntry.{UndoEntry}
@@ -151,13 +151,13 @@ module _ (byte : Cell → ℕ) where
   text_from t n e k (suc l) h = let i : k < length n = omega (arith, h) in rw (drop-cons n k 0, e k) (ap (λ z. get_or n k 0 ∷ z) (text_from t n e (suc k) l (omega (arith, h))))
 
   -- new cells are put out
-  pub carried_new : {t : Lamport} {s h n : List ℕ} {ms : List Move} {pre : List Fragment} (rest : List Fragment) (k l : ℕ) (id : List ℕ)
-      → Carried byte t s h n ms pre rest k → k + l ≤ length n → Carried byte t s h n (with_move ms (Insert l)) (pre ++ new_fragment t k l id ∷ []) rest (k + l)
-  carried_new {t} {s} {h} {n} {ms} {pre} rest k l id c e = one_move (Insert l) (new_fragment t k l id ∷ []) rest (k + l) c (record {
-    put = rw (shown_first (new_fragment t k l id) [], hidden_first (new_fragment t k l id) [], text_from t n c.text k l e) refl;
+  pub carried_insert : {t : Lamport} {s h n : List ℕ} {ms : List Move} {pre : List Fragment} (rest : List Fragment) (k : ℕ) (f : Fragment) → f.stamp ≡ t → f.offset ≡ k → f.visible ≡ true
+      → Carried byte t s h n ms pre rest k → k + f.len ≤ length n → Carried byte t s h n (with_move ms (Insert f.len)) (pre ++ f ∷ []) rest (k + f.len)
+  carried_insert {t} {s} {h} {n} {ms} {pre} rest k f is from shown c e = one_move (Insert f.len) (f ∷ []) rest (k + f.len) c (record {
+    put = rw (shown_first f [], hidden_first f [], shown, is, from, text_from t n c.text k f.len e) refl;
     left_shown = refl;
     left_hidden = refl;
-    news = let z : l + 0 ≡ l = omega arith in rw z (drop-drop l k n);
+    news = let z : f.len + 0 ≡ f.len = omega arith in rw z (drop-drop f.len k n);
   })
 
   cells_add : (t : Lamport) (k m n l : ℕ) → l ≡ m + n → cell_bytes t k l ≡ cell_bytes t k m ++ cell_bytes t (k + m) n
@@ -219,6 +219,6 @@ pub on_last : {t : Lamport} {ms : List Move} {pre : List Fragment} (xs : List Fr
     → CarryOn t ms pre xs k (with_move (with_move ms (Visible (shown_len xs))) (Hidden (hidden_len xs))) (pre ++ xs) [] k
 on_last {t} {ms} {pre} xs {k} byte s h n l c = carried_stretch byte xs [] (subst (λ z. Carried byte t s h n ms pre z k) (sym (append-nil xs)) c)
 
-pub on_new : {t : Lamport} {ms : List Move} {pre : List Fragment} (rest : List Fragment) (k i : ℕ) (id : List ℕ)
-    → CarryOn t ms pre rest k (with_move ms (Insert i)) (pre ++ new_fragment t k i id ∷ []) rest (k + i)
-on_new rest k i id byte s h n l c = carried_new byte rest k i id c l
+pub on_insert : {t : Lamport} {ms : List Move} {pre : List Fragment} (rest : List Fragment) (k : ℕ) (f : Fragment) → f.stamp ≡ t → f.offset ≡ k → f.visible ≡ true
+    → CarryOn t ms pre rest k (with_move ms (Insert f.len)) (pre ++ f ∷ []) rest (k + f.len)
+on_insert rest k f is from shown byte s h n l c = carried_insert byte rest k f is from shown c l

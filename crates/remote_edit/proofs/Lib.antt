@@ -25,3 +25,6 @@ pub mod Standing
 pub mod Entering
 pub mod Undos
 pub mod Making
+pub mod BeforeEdit
+pub mod EditMoves
+pub mod EditTexts

@@ -40,11 +40,11 @@ Both = ℕ × ℕ
 abbrev pub both : ℕ → ℕ → Both
 both v h = (v, h)
 
-shown_append : (xs ys : List Fragment) → shown_len (xs ++ ys) ≡ shown_len xs + shown_len ys
+pub shown_append : (xs ys : List Fragment) → shown_len (xs ++ ys) ≡ shown_len xs + shown_len ys
 shown_append [] ys = omega arith
 shown_append (f ∷ xs) ys = let ih = shown_append xs ys in elim (f.visible) as (λ b. cond b (f.len + shown_len (xs ++ ys)) (shown_len (xs ++ ys)) ≡ cond b (f.len + shown_len xs) (shown_len xs) + shown_len ys) [ true ↦ omega arith | false ↦ omega arith ]
 
-hidden_append : (xs ys : List Fragment) → hidden_len (xs ++ ys) ≡ hidden_len xs + hidden_len ys
+pub hidden_append : (xs ys : List Fragment) → hidden_len (xs ++ ys) ≡ hidden_len xs + hidden_len ys
 hidden_append [] ys = omega arith
 hidden_append (f ∷ xs) ys = let ih = hidden_append xs ys in elim (f.visible) as (λ b. cond b (hidden_len (xs ++ ys)) (f.len + hidden_len (xs ++ ys)) ≡ cond b (hidden_len xs) (f.len + hidden_len xs) + hidden_len ys) [ true ↦ omega arith | false ↦ omega arith ]
 

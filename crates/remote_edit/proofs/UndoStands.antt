@@ -35,7 +35,8 @@ use Rattle.fragments.specs.Stand.{run_of, runs, Tell, IsFilled, Rise, entry_of, 
 use Rattle.remote_edit.specs.Marks.{is_shown}
 use Rattle.remote_edit.specs.Anew.{concerns, counted, anew, all_anew, Counts}
 use Rattle.remote_edit.specs.SeesLaws.{raise_sees, sees_raise, any_member}
-use Rattle.remote_edit.proofs.LaterDeletions.{HasLaterDeletions, each_right, late_deletions}
+use Rattle.remote_edit.proofs.LaterDeletions.{HasLaterDeletions, late_deletions}
+pub use Rattle.remote_edit.proofs.LaterDeletions.{each_right}
 
 -- ---- what is told of a cell is told by the counts
 
@@ -46,7 +47,7 @@ shown_seen h c = rw (kept_all (newest_first h), undone_newest h c.stamp, all_new
 abbrev ByCounts : History → Fact → Type 0
 ByCounts h q = q.visible ≡ seen_by h q.cell.stamp q.deletions
 
-told_by_counts : (h : History) (s : List Place) → Each (ByCounts h) (map (fact h) (cells s))
+pub told_by_counts : (h : History) (s : List Place) → Each (ByCounts h) (map (fact h) (cells s))
 told_by_counts h [] = tt
 told_by_counts h (p ∷ s) = (shown_seen h p.cell, told_by_counts h s)
 
@@ -57,7 +58,7 @@ first_told : (h : History) (t : Lamport) (k n : ℕ) (v : Bool) (d : List Lampor
 first_told h t k zero v d s l e = absurd (omega arith)
 first_told h t k (suc n) v d s l e = e.0
 
-by_counts : (h : History) (fs : List Fragment) → Each IsFilled fs → Each (ByCounts h) (facts_of (runs fs)) → Each (IsByCounts h) fs
+pub by_counts : (h : History) (fs : List Fragment) → Each IsFilled fs → Each (ByCounts h) (facts_of (runs fs)) → Each (IsByCounts h) fs
 by_counts h [] l e = tt
 by_counts h (f ∷ fs) l e = (
   first_told h f.stamp f.offset f.len f.visible f.deletions (facts_of (runs fs)) l.0.0 e,

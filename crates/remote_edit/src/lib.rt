@@ -1,6 +1,7 @@
 //! What an operation does among fragments, and to the shown and the hidden text.
 #![tactic(auto)]
 
+mod edit_moves;
 mod gather;
 mod laws;
 mod mark;
@@ -20,7 +21,7 @@ pub use laws::{
 pub use moves::{Move, Moves};
 pub use offsets::full_pieces;
 pub use passed::{Passed, SeenPassed};
-pub use place::{IndexedFragments, place_local, place_remote};
+pub use place::{place_local, place_remote};
 pub use placed::Placed;
 pub use std::alloc::AllocError as OutOfMemory;
 pub use undo::mark_undo;
