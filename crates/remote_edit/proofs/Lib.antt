@@ -7,6 +7,7 @@ pub mod Beside
 pub mod PassedPlaces
 pub mod Anew
 pub mod Halves
+pub mod LaterDeletions
 pub mod UndoStands
 pub mod UndoMoves
 pub mod FullIn

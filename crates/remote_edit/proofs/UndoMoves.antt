@@ -25,12 +25,12 @@ use Rattle.remote_edit.specs.declared.moves.Move.TheVariants.{Visible, Hidden}
 use Rattle.remote_edit.specs.Moves.{with_move}
 use Rattle.remote_edit.specs.Carried.{move_for, hidden_len, CarryOn, AreMovesOf}
 use Rattle.remote_edit.specs.Passed.{move_passed}
-use Rattle.remote_edit.specs.SeesLaws.{sees_one}
+use Rattle.remote_edit.specs.SeesLaws.{may_concern}
 use Rattle.remote_edit.specs.Anew.{anew, concerns, all_anew, Counts}
 use Rattle.remote_edit.proofs.Carrying.{SameCells, go_on, stay, on_one, on_stretch}
 use Rattle.remote_edit.proofs.Texts.{carried_texts}
 use Rattle.remote_edit.proofs.UndoStands.{undo_stands}
-use Rattle.remote_edit.proofs.Anew.{concerned, unconcerned, unseen_kept}
+use Rattle.remote_edit.proofs.Anew.{concerned, unconcerned, unmet_kept}
 
 -- ---- places
 
@@ -166,13 +166,13 @@ module _ (w : List UndoEntry) (ts us : List Lamport) (fs items : List Fragment) 
   dropped = ap (drop next) (items_are ∙ p.whole) ∙ ap (λ (k : ℕ). drop k (p.pre ++ p.rest)) p.count ∙ drop-append_seam p.pre p.rest
 
   abbrev over : ℕ
-  over = filter_count (sees_one us) summary_of (drop next items)
+  over = filter_count (may_concern us) summary_of (drop next items)
 
   abbrev rest_over : ℕ
-  rest_over = filter_count (sees_one us) summary_of p.rest
+  rest_over = filter_count (may_concern us) summary_of p.rest
 
   over_is : over ≡ rest_over
-  over_is = ap (filter_count (sees_one us) summary_of) dropped
+  over_is = ap (filter_count (may_concern us) summary_of) dropped
 
   get_ahead : (pre : List Fragment) (i n : ℕ) → i ≡ length pre + n → slice_get (pre ++ p.rest) i ≡ slice_get p.rest n
   get_ahead [] i n e = ap (slice_get p.rest) (let q : i ≡ n = omega arith in q)
@@ -183,13 +183,13 @@ module _ (w : List UndoEntry) (ts us : List Lamport) (fs items : List Fragment) 
   get_rest o h = sym (get_ahead p.pre (next + over) rest_over (let a = over_is in let b = p.count in omega arith)) ∙ ap (λ (z : List Fragment). slice_get z (next + over)) (sym (items_are ∙ p.whole)) ∙ h
 
   -- bytes that are kept up to a place
-  stretch : (xs ys : List Fragment) (s h : ℕ) → p.rest ≡ xs ++ ys → Each (Unkept (sees_one us) summary_of) xs → IsBehind s h (p.pre ++ xs) → (by t : Lamport)
+  stretch : (xs ys : List Fragment) (s h : ℕ) → p.rest ≡ xs ++ ys → Each (Unkept (may_concern us) summary_of) xs → IsBehind s h (p.pre ++ xs) → (by t : Lamport)
       → CarryOn t [] [] fs 0 (with_move (with_move ms (Visible (s - shown))) (Hidden (h - hidden))) (map (anew w by ts) (p.pre ++ xs)) ys 0
   stretch xs ys s h e u b by t =
       let m : Fragment → Fragment = anew w by ts in
       let c : CarryOn t [] [] fs 0 ms (map m p.pre) (xs ++ ys) 0 = subst (λ (z : List Fragment). CarryOn t [] [] fs 0 ms (map m p.pre) z 0) e (p.carry by t) in
       let d : CarryOn t [] [] fs 0 (with_move (with_move ms (Visible (shown_len xs))) (Hidden (hidden_len xs))) (map m p.pre ++ xs) ys 0 = go_on (omega arith) c (on_stretch xs ys) in
-      let out : map m p.pre ++ xs ≡ map m (p.pre ++ xs) = ap (λ (z : List Fragment). map m p.pre ++ z) (sym (all_stay (sees_one us) summary_of m (unseen_kept w by ts us us_is) xs u)) ∙ sym (map-append m p.pre xs) in
+      let out : map m p.pre ++ xs ≡ map m (p.pre ++ xs) = ap (λ (z : List Fragment). map m p.pre ++ z) (sym (all_stay (may_concern us) summary_of m (unmet_kept w by ts us us_is) xs u)) ∙ sym (map-append m p.pre xs) in
       let x : shown_len xs ≡ s - shown = let a = b.shown_is in let o = p.at.shown_is in let q = shown_append p.pre xs in omega arith in
       let y : hidden_len xs ≡ h - hidden = let a = b.hidden_is in let o = p.at.hidden_is in let q = hidden_append p.pre xs in omega arith in
       let f : CarryOn t [] [] fs 0 (with_move (with_move ms (Visible (s - shown))) (Hidden (hidden_len xs))) (map m p.pre ++ xs) ys 0 = subst (λ (k : ℕ). CarryOn t [] [] fs 0 (with_move (with_move ms (Visible k)) (Hidden (hidden_len xs))) (map m p.pre ++ xs) ys 0) x d in
@@ -219,7 +219,7 @@ module _ (w : List UndoEntry) (ts us : List Lamport) (fs items : List Fragment) 
   pub come : (x : Fragment) (items2 : List Fragment) (i s h s2 h2 v0 h0 after : ℕ) → items2 ≡ items → slice_get items (next + over) ≡ Some x → i ≡ next + over → after ≡ min (i + 1) (length items) → v0 ≡ 0 → h0 ≡ 0
       → both s h ≡ place_behind move_passed summary_of (both v0 h0) (take i items2) → both s2 h2 ≡ place_behind move_passed summary_of (both v0 h0) (take after items2) → Come x i s h s2 h2 after
   come x items2 i s h s2 h2 v0 h0 after same g e o a b q r =
-      let k = find_next (sees_one us) summary_of p.rest x (get_rest (Some x) g) in
+      let k = find_next (may_concern us) summary_of p.rest x (get_rest (Some x) g) in
       let before : List Fragment = p.pre ++ k.over in
       let whole : fs ≡ before ++ x ∷ k.ahead = p.whole ∙ ap (λ (z : List Fragment). p.pre ++ z) k.parts ∙ sym (append_assoc p.pre k.over (x ∷ k.ahead)) in
       let long = length-append p.pre k.over in
@@ -255,7 +255,7 @@ module _ (w : List UndoEntry) (ts us : List Lamport) (fs items : List Fragment) 
   pub start : (x : Fragment) (items2 : List Fragment) (i s h v0 h0 : ℕ) → items2 ≡ items → slice_get items (next + over) ≡ Some x → i ≡ next + over → v0 ≡ 0 → h0 ≡ 0
       → both s h ≡ place_behind move_passed summary_of (both v0 h0) (take i items2) → Started s h
   start x items2 i s h v0 h0 same g e a b q =
-      let k = find_next (sees_one us) summary_of p.rest x (get_rest (Some x) g) in
+      let k = find_next (may_concern us) summary_of p.rest x (get_rest (Some x) g) in
       let before : List Fragment = p.pre ++ k.over in
       let whole : fs ≡ before ++ x ∷ k.ahead = p.whole ∙ ap (λ (z : List Fragment). p.pre ++ z) k.parts ∙ sym (append_assoc p.pre k.over (x ∷ k.ahead)) in
       let long = length-append p.pre k.over in
@@ -274,7 +274,7 @@ module _ (w : List UndoEntry) (ts us : List Lamport) (fs items : List Fragment) 
 
   pub end : (items2 : List Fragment) (i s h v0 h0 : ℕ) → items2 ≡ items → slice_get items (next + over) ≡ None → i ≡ next + over → v0 ≡ 0 → h0 ≡ 0 → both s h ≡ place_behind move_passed summary_of (both v0 h0) (take i items2) → Ended s h
   end items2 i s h v0 h0 same g e a b q =
-      let k = find_none (sees_one us) summary_of p.rest (get_rest None g) in
+      let k = find_none (may_concern us) summary_of p.rest (get_rest None g) in
       let none : p.rest ≡ p.rest ++ [] = sym (append-nil p.rest) in
       let whole : fs ≡ (p.pre ++ p.rest) ++ [] = p.whole ∙ sym (append-nil (p.pre ++ p.rest)) in
       let long = length-append p.pre p.rest in

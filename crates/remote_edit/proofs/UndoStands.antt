@@ -1,6 +1,6 @@
 -- Fragments where an undo counts edits stand for the history with the undo.
-use Rattle.std.proofs.Common.{◌≡◌, ℕ, zero, suc, ◌%◌, ◌<◌, ◌⊎◌, ◌↔◌, max, eqb, Bool, true, false, List, [], ◌∷◌, ◌++◌, map, refl, sym, ap, ◌∙◌, arith, subst, inl, inr}
-use Rattle.std.proofs.lemmas.Bool.{cases_Bool}
+use Rattle.std.proofs.Common.{◌≡◌, ℕ, zero, suc, ◌%◌, ◌<◌, ◌⊎◌, ◌↔◌, max, eqb, leb, Bool, true, false, List, [], ◌∷◌, ◌++◌, map, refl, sym, ap, ◌∙◌, arith, subst, inl, inr}
+use Rattle.std.proofs.lemmas.Bool.{cases_Bool, and_from, le-leb}
 use Rattle.std.specs.List.{list_any, list_all}
 use Rattle.lamport_clock.specs.declared.stamp.Lamport.{Lamport}
 use Rattle.lamport_clock.specs.Stamps.{same_stamp}
@@ -23,7 +23,8 @@ use Rattle.op_model.specs.Walked.{Run, run_facts, facts_of}
 use Rattle.op_model.proofs.Deleters.{kept_all}
 use Rattle.op_model.proofs.OnePass.{undone_newest, all_newest}
 use Rattle.op_model.proofs.MainLaws.{undo_is_told}
-use Rattle.op_model.proofs.PathOrder.{same_stamp_refl}
+use Rattle.op_model.proofs.PathOrder.{same_stamp_eq, same_stamp_refl}
+use Rattle.op_model.proofs.CellsOnce.{each_member}
 use Rattle.undo_map.specs.declared.entry.UndoEntry.{UndoEntry}
 use Rattle.undo_map.specs.Counts.{count_of, is_odd}
 use Rattle.undo_map.specs.Undos.{undo_entries}
@@ -34,6 +35,8 @@ use Rattle.fragments.specs.Stand.{run_of, runs, Tell, IsFilled, Rise, entry_of, 
 use Rattle.remote_edit.specs.Marks.{is_shown}
 use Rattle.remote_edit.specs.Anew.{concerns, counted, anew, all_anew, Counts}
 use Rattle.remote_edit.specs.SeesLaws.{raise_sees, sees_raise, any_member}
+use Rattle.remote_edit.proofs.LaterDeletions.{HasLaterDeletions, late_deletions}
+pub use Rattle.remote_edit.proofs.LaterDeletions.{each_right}
 
 -- ---- what is told of a cell is told by the counts
 
@@ -50,10 +53,6 @@ told_by_counts h (p ∷ s) = (shown_seen h p.cell, told_by_counts h s)
 
 abbrev pub IsByCounts : History → Fragment → Type 0
 IsByCounts h f = f.visible ≡ seen_by h f.stamp f.deletions
-
-pub each_right : {A : Type 0} (P : A → Type 0) (xs ys : List A) → Each P (xs ++ ys) → Each P ys
-each_right P [] ys e = e
-each_right P (x ∷ xs) ys e = each_right P xs ys e.1
 
 first_told : (h : History) (t : Lamport) (k n : ℕ) (v : Bool) (d : List Lamport) (s : List Fact) → 0 < n → Each (ByCounts h) (alike t k n v d ++ s) → v ≡ seen_by h t d
 first_told h t k zero v d s l e = absurd (omega arith)
@@ -103,18 +102,23 @@ module _ (h : History) (op : Operation) (w : List UndoEntry) (ts : List Lamport)
   abbrev m : Fragment → Fragment
   m = anew w (stamp_of op) ts
 
+  -- the edit and the deletions of a fragment are not earlier than it
+  as_late : (f : Fragment) → HasLaterDeletions f → (t : Lamport) → Member t (f.stamp ∷ f.deletions) → leb f.stamp.value t.value ≡ true
+  as_late f d t (inl e) = subst (λ (x : Lamport). leb f.stamp.value x.value ≡ true) (sym e) (le-leb f.stamp.value f.stamp.value (omega arith))
+  as_late f d t (inr i) = let l = each_member (λ (x : Lamport). f.stamp.value < x.value) f.deletions t d i in le-leb f.stamp.value t.value (omega arith)
+
   -- a fragment that no edit of the list concerns is not counted
-  uncounted : (f : Fragment) → list_any (concerns f) ts ≡ false → (c : UndoCount) (t : Lamport) → Member c (counts_of op) → Member t (f.stamp ∷ f.deletions) → same_stamp c.edit t ≡ false
-  uncounted f n c t i j = elim (cases_Bool (same_stamp c.edit t)) [
-    | inl e ↦ (let k : concerns f c.edit ≡ true = any_member (same_stamp c.edit) (f.stamp ∷ f.deletions) t j e in
+  uncounted : (f : Fragment) → HasLaterDeletions f → list_any (concerns f) ts ≡ false → (c : UndoCount) (t : Lamport) → Member c (counts_of op) → Member t (f.stamp ∷ f.deletions) → same_stamp c.edit t ≡ false
+  uncounted f d n c t i j = elim (cases_Bool (same_stamp c.edit t)) [
+    | inl e ↦ (let k : concerns f c.edit ≡ true = and_from _ _ (subst (λ (x : Lamport). leb f.stamp.value x.value ≡ true) (sym (same_stamp_eq c.edit t e)) (as_late f d t j)) (any_member (same_stamp c.edit) (f.stamp ∷ f.deletions) t j e) in
         let g : list_any (concerns f) ts ≡ true = any_member (concerns f) ts c.edit (all c i) k in cc)
     | inr e ↦ e
   ]
 
-  run_anew : (f : Fragment) → IsByCounts h f → run_of (m f) ≡ record { stamp = f.stamp; offset = f.offset; len = f.len; visible = seen_by next f.stamp f.deletions; deletions = f.deletions }
-  run_anew f e = elim (cases_Bool (list_any (concerns f) ts)) [
+  run_anew : (f : Fragment) → HasLaterDeletions f → IsByCounts h f → run_of (m f) ≡ record { stamp = f.stamp; offset = f.offset; len = f.len; visible = seen_by next f.stamp f.deletions; deletions = f.deletions }
+  run_anew f z e = elim (cases_Bool (list_any (concerns f) ts)) [
     | inl k ↦ rw k (ap (λ (b : Bool). as_run f b) (ap (λ (x : List UndoEntry). is_shown x f.stamp f.deletions) now ∙ shown_kept next f.stamp f.deletions))
-    | inr k ↦ (let n = uncounted f k in
+    | inr k ↦ (let n = uncounted f z k in
         let a = undone_same h op f.stamp (λ c i. n c f.stamp i (inl refl)) in
         let b = all_same h op f.deletions (λ c t i j. n c t i (inr j)) in
         let s : seen_by next f.stamp f.deletions ≡ seen_by h f.stamp f.deletions = rw (a, b) refl in
@@ -131,15 +135,15 @@ module _ (h : History) (op : Operation) (w : List UndoEntry) (ts : List Lamport)
   facts_anew t k zero v d s = refl
   facts_anew t k (suc n) v d s = ap (λ (z : List Fact). record { cell = record { stamp = t; k = k }; visible = seen_by next t d; deletions = d } ∷ z) (facts_anew t (suc k) n v d s)
 
-  all_told : (fs : List Fragment) → Each (IsByCounts h) fs → facts_of (runs (map m fs)) ≡ map told_anew (facts_of (runs fs))
-  all_told [] e = refl
-  all_told (f ∷ fs) e =
-      ap (λ (r : Run). run_facts r ++ facts_of (runs (map m fs))) (run_anew f e.0)
-      ∙ ap (λ (z : List Fact). alike f.stamp f.offset f.len (seen_by next f.stamp f.deletions) f.deletions ++ z) (all_told fs e.1)
+  all_told : (fs : List Fragment) → Each HasLaterDeletions fs → Each (IsByCounts h) fs → facts_of (runs (map m fs)) ≡ map told_anew (facts_of (runs fs))
+  all_told [] z e = refl
+  all_told (f ∷ fs) z e =
+      ap (λ (r : Run). run_facts r ++ facts_of (runs (map m fs))) (run_anew f z.0 e.0)
+      ∙ ap (λ (z : List Fact). alike f.stamp f.offset f.len (seen_by next f.stamp f.deletions) f.deletions ++ z) (all_told fs z.1 e.1)
       ∙ facts_anew f.stamp f.offset f.len f.visible f.deletions (facts_of (runs fs))
 
   cells_told : (fs : List Fragment) → Each IsFilled fs → Tell fs h → Tell (map m fs) next
-  cells_told fs l t = all_told fs (by_counts h fs l (subst (Each (ByCounts h)) (sym t) (told_by_counts h (seq h)))) ∙ ap (map told_anew) t ∙ sym (undo_is_told h op lawful good undo)
+  cells_told fs l t = all_told fs (late_deletions h lawful fs l t) (by_counts h fs l (subst (Each (ByCounts h)) (sym t) (told_by_counts h (seq h)))) ∙ ap (map told_anew) t ∙ sym (undo_is_told h op lawful good undo)
 
   -- ---- what stays
 
@@ -175,18 +179,18 @@ module _ (h : History) (op : Operation) (w : List UndoEntry) (ts : List Lamport)
     | inr e ↦ subst (λ (p : Operation). sees (raise f.max_undos (stamp_of op)) (stamp_of p) ≡ true) (sym e) (raise_sees f.max_undos (stamp_of op))
   ]
 
-  sees_same : (f : Fragment) → list_any (concerns f) ts ≡ false → SeesUndos h f → SeesUndos next f
-  sees_same f n s o i c j k = elim (in_more h o i) [
+  sees_same : (f : Fragment) → HasLaterDeletions f → list_any (concerns f) ts ≡ false → SeesUndos h f → SeesUndos next f
+  sees_same f z n s o i c j k = elim (in_more h o i) [
     | inl l ↦ s o l c j k
-    | inr e ↦ (let d = uncounted f n c c.edit (subst (λ (p : Operation). Member c (counts_of p)) e j) k in let r = same_stamp_refl c.edit in cc)
+    | inr e ↦ (let d = uncounted f z n c c.edit (subst (λ (p : Operation). Member c (counts_of p)) e j) k in let r = same_stamp_refl c.edit in cc)
   ]
 
-  one_sees : (f : Fragment) → SeesUndos h f → SeesUndos next (m f)
-  one_sees f s = elim (cases_Bool (list_any (concerns f) ts)) [ inl k ↦ rw k (sees_counted f s) | inr k ↦ rw k (sees_same f k s) ]
+  one_sees : (f : Fragment) → HasLaterDeletions f → SeesUndos h f → SeesUndos next (m f)
+  one_sees f z s = elim (cases_Bool (list_any (concerns f) ts)) [ inl k ↦ rw k (sees_counted f s) | inr k ↦ rw k (sees_same f z k s) ]
 
-  all_see : (fs : List Fragment) → Each (SeesUndos h) fs → Each (SeesUndos next) (map m fs)
-  all_see [] e = tt
-  all_see (f ∷ fs) e = (one_sees f e.0, all_see fs e.1)
+  all_see : (fs : List Fragment) → Each HasLaterDeletions fs → Each (SeesUndos h) fs → Each (SeesUndos next) (map m fs)
+  all_see [] z e = tt
+  all_see (f ∷ fs) z e = (one_sees f z.0 e.0, all_see fs z.1 e.1)
 
   pub undo_stands : (fs : List Fragment) (i : List IndexEntry) (v : List UndoEntry) → Stand fs i v h → Stand (all_anew w (stamp_of op) ts fs) i w next
   undo_stands fs i v s = record {
@@ -196,7 +200,7 @@ module _ (h : History) (op : Operation) (w : List UndoEntry) (ts : List Lamport)
     ascending = s.ascending;
     index = λ e. subst (λ (z : List IndexEntry). Member e i ↔ Member e z) (sym (all_entries fs)) (s.index e);
     counts = now;
-    undos = all_see fs s.undos;
+    undos = all_see fs (late_deletions h lawful fs s.filled s.cells) s.undos;
   }
 
 pub undo_stood : (h : History) (u : UndoOp) (w : List UndoEntry) (ts : List Lamport) (by : Lamport) (fs gs : List Fragment) (i j : List IndexEntry) → u.stamp ≡ by → Counts (Undo u) ts → Lawful h → answer h [] (Undo u) ≡ Good

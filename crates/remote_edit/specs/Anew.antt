@@ -1,5 +1,5 @@
 -- What an undo makes of fragments.
-use Rattle.std.specs.Prelude.{Bool, if◌then◌else◌, List, ◌∷◌, map}
+use Rattle.std.specs.Prelude.{Bool, ◌&&◌, nat_le, if◌then◌else◌, List, ◌∷◌, map}
 use Rattle.std.specs.List.{list_any}
 use Rattle.lamport_clock.specs.declared.stamp.Lamport.{Lamport}
 use Rattle.lamport_clock.specs.Stamps.{same_stamp}
@@ -12,9 +12,9 @@ use Rattle.undo_map.specs.declared.entry.UndoEntry.{UndoEntry}
 use Rattle.fragments.specs.declared.fragment.Fragment.{Fragment}
 use Rattle.remote_edit.specs.Marks.{is_shown}
 
--- edit t brought the cells of the fragment, or deletes them
+-- edit t, not earlier than the cells of the fragment, brought them or deletes them
 abbrev pub concerns : Fragment → Lamport → Bool
-concerns f t = list_any (same_stamp t) (f.stamp ∷ f.deletions)
+concerns f t = nat_le f.stamp.value t.value && list_any (same_stamp t) (f.stamp ∷ f.deletions)
 
 -- a fragment that is shown by undo counts w, of which the undo `by` gave some
 abbrev pub counted : List UndoEntry → Lamport → Fragment → Fragment

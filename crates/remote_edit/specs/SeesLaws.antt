@@ -1,6 +1,6 @@
 -- What sums of fragments see, where they take more stamps.
-use Rattle.std.proofs.Common.{◌≡◌, ℕ, ◌<◌, ◌≤◌, Bool, true, false, ◌||◌, List, [], ◌∷◌, refl, sym, ap, ◌∙◌, arith, subst, inl, inr}
-use Rattle.std.proofs.lemmas.Bool.{cases_Bool, leb-true, le-leb}
+use Rattle.std.proofs.Common.{◌≡◌, ℕ, ◌<◌, ◌≤◌, Bool, true, false, ◌||◌, ◌&&◌, min, leb, List, [], ◌∷◌, refl, sym, ap, ◌∙◌, arith, subst, inl, inr}
+use Rattle.std.proofs.lemmas.Bool.{cases_Bool, leb-true, leb-false, le-leb, lt-leb, or_parts, or_from}
 use Rattle.std.proofs.lemmas.Bool.Decides.{nat_tests}
 use Rattle.std.specs.List.{list_any}
 use Rattle.lamport_clock.specs.declared.stamp.Lamport.{Lamport}
@@ -11,6 +11,8 @@ use Rattle.op_model.proofs.PathOrder.{same_stamp_eq}
 use Rattle.op_model.specs.Sorted.{Member}
 use Rattle.fragments.specs.declared.fragment.FragmentSummary.{FragmentSummary}
 use Rattle.fragments.specs.Summaries.{summaries, with_stamps}
+use Rattle.fragments.specs.declared.spans.Span.{Span}
+use Rattle.fragments.specs.Spans.{hull, with_span, join_spans}
 
 -- an entry never falls
 raise_up : (v : Entries) (t : Lamport) (r : ℕ) → entry v r ≤ entry (raise v t) r
@@ -119,3 +121,61 @@ sees_parts ts a b h = (
   none_up (sees a.greatest) (sees (joined a.greatest b.greatest)) (λ t. (sees_joined a.greatest b.greatest t).0) ts h,
   none_up (sees b.greatest) (sees (joined a.greatest b.greatest)) (λ t. (sees_joined a.greatest b.greatest t).1) ts h,
 )
+
+-- the spans begin no later than t
+abbrev pub begins_by : Lamport → List Span → Bool
+begins_by t u = list_any (λ x. leb x.least t.value) u
+
+-- a run of fragments may have cells that edit t brought or deletes: some stand as early as t, and t was seen
+abbrev pub may_touch : FragmentSummary → Lamport → Bool
+may_touch s t = begins_by t s.span && sees s.greatest t
+
+-- the same of one of the edits
+abbrev pub may_concern : List Lamport → FragmentSummary → Bool
+may_concern ts s = list_any (may_touch s) ts
+
+past : (y : Span) (u : List Span) (x : Span) → y.replica < x.replica → with_span x (y ∷ u) ≡ y ∷ with_span x u
+past y u x h = grind (arith, nat_tests)
+
+at : (y : Span) (u : List Span) (x : Span) → y.replica ≡ x.replica → with_span x (y ∷ u) ≡ hull y x ∷ u
+at y u x h = grind (arith, nat_tests)
+
+before : (y : Span) (u : List Span) (x : Span) → x.replica < y.replica → with_span x (y ∷ u) ≡ x ∷ y ∷ u
+before y u x h = grind (arith, nat_tests)
+
+-- with a span taken in, spans begin no later
+wide_later : (t : Lamport) (x : Span) (u : List Span) → begins_by t (with_span x u) ≡ false → (t.value < x.least) × (begins_by t u ≡ false)
+wide_later t x [] e = (leb-false x.least t.value (or_parts _ _ e).0, refl)
+wide_later t x (y ∷ u) e = by_order _ y.replica x.replica
+    (λ l. let k = or_parts _ _ (ap (begins_by t) (sym (past y u x l)) ∙ e) in let ih = wide_later t x u k.1 in (ih.0, or_from _ _ k.0 ih.1))
+    (λ l. let k = or_parts _ _ (ap (begins_by t) (sym (at y u x l)) ∙ e) in let m : t.value < min y.least x.least = leb-false _ _ k.0 in
+    ((omega arith), or_from _ _ (lt-leb y.least t.value (omega arith)) k.1))
+    (λ l. let k = or_parts _ _ (ap (begins_by t) (sym (before y u x l)) ∙ e) in (leb-false _ _ k.0, k.1))
+
+joined_later : (t : Lamport) (u v : List Span) → begins_by t (join_spans u v) ≡ false → (begins_by t u ≡ false) × (begins_by t v ≡ false)
+joined_later t u [] e = (e, refl)
+joined_later t u (x ∷ v) e =
+    let ih = joined_later t (with_span x u) v e in
+    let k = wide_later t x u ih.0 in
+    (k.1, or_from _ _ (lt-leb x.least t.value k.0) ih.1)
+
+touch_parts : (a b : FragmentSummary) (t : Lamport) → may_touch (summaries a b) t ≡ false → (may_touch a t ≡ false) × (may_touch b t ≡ false)
+touch_parts a b t h = elim (cases_Bool (begins_by t (join_spans a.span b.span))) [
+  | inr e ↦ (let k = joined_later t a.span b.span e in (rw k.0 refl, rw k.1 refl))
+  | inl e ↦ (let s : sees (joined a.greatest b.greatest) t ≡ false = ap (λ (x : Bool). x && sees (joined a.greatest b.greatest) t) (sym e) ∙ h in
+      let j = sees_joined a.greatest b.greatest t in
+      (unseen (begins_by t a.span) (sees a.greatest t) j.0 s, unseen (begins_by t b.span) (sees b.greatest t) j.1 s))
+]
+  where
+    unseen : (x y : Bool) → {z : Bool} → (y ≡ true → z ≡ true) → z ≡ false → (x && y) ≡ false
+    unseen false y f e = refl
+    unseen true false f e = refl
+    unseen true true f e = let k = f refl in cc
+
+pub concern_parts : (ts : List Lamport) (a b : FragmentSummary) → may_concern ts (summaries a b) ≡ false → (may_concern ts a ≡ false) × (may_concern ts b ≡ false)
+concern_parts [] a b h = (refl, refl)
+concern_parts (t ∷ ts) a b h =
+    let k = or_parts (may_touch (summaries a b) t) (may_concern ts (summaries a b)) h in
+    let i = touch_parts a b t k.0 in
+    let ih = concern_parts ts a b k.1 in
+    (or_from _ _ i.0 ih.0, or_from _ _ i.1 ih.1)

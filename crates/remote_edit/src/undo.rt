@@ -7,12 +7,13 @@ ghost use Rattle.lamport_clock.specs.Stamps.{same_stamp};
 ghost use Rattle.undo_map.specs.Counts.{count_of, is_odd};
 ghost use Rattle.fragments.specs.Summaries.{no_fragments, summaries, summary_of, SummaryFits};
 ghost use Rattle.remote_edit.specs.Marks.{is_shown};
+ghost use Rattle.remote_edit.specs.SeesLaws.{begins_by, may_touch};
 ghost use Rattle.remote_edit.specs.Anew.{concerns, counted, anew, all_anew};
 ghost use Rattle.remote_edit.specs.Undoing.{StandWithUndo, MoveWithUndo, KeepCharactersWithUndo};
 
 use crate::Placed;
 use crate::undo_moves::undo_moves;
-use fragments::{Fragment, FragmentSummary, Full, InsertionIndex};
+use fragments::{Fragment, FragmentSummary, Full, InsertionIndex, Span};
 use lamport_clock::{Lamport, is_same};
 use std::alloc::{AllocError, Global};
 use sum_tree::{Item, SumTree};
@@ -37,11 +38,45 @@ impl<'e> Keep<FragmentSummary> for SeesOne<'e> {
     }
 }
 
-// Whether an edit brought the cells of a fragment, or deletes them.
+// Which runs of fragments may have cells that one of the edits brought or deletes: those that have seen it and have
+// stamps as early. What an edit deletes is earlier than it, so runs of later cells have nothing of it.
+#[derive(Drop)]
+pub(crate) struct MayConcern<'e> {
+    pub(crate) edits: &'e [Lamport],
+}
+
+impl<'e> Keep<FragmentSummary> for MayConcern<'e> {
+    ghost use Rattle.remote_edit.specs.SeesLaws.{may_concern, concern_parts};
+
+    ghost keeps = { λ k s. may_concern k.edits.now s };
+
+    ghost parts = { λ k a b f g h. concern_parts k.edits.now a b h };
+
+    fn keep(&self, s: &FragmentSummary) -> bool {
+        self.edits.iter().any(|t| may_touch(s, *t))
+    }
+}
+
+// Whether a run of fragments may have cells that the edit brought or deletes.
+fn may_touch(s: &FragmentSummary, edit: Lamport) -> bool
+    ensures { result ≡ may_touch s.now edit }
+{
+    begins_by(s.span.as_slice(), edit) && s.greatest.sees(edit)
+}
+
+// Whether some of the stamps are no later than the edit's.
+fn begins_by(spans: &[Span], edit: Lamport) -> bool
+    ensures { result ≡ begins_by edit spans.now }
+{
+    spans.iter().any(|span| span.least <= edit.value)
+}
+
+// Whether an edit, not earlier than the cells of a fragment, brought them or deletes them.
 fn concerns(fragment: &Fragment, edit: Lamport) -> bool
     ensures { result ≡ concerns fragment.now edit }
 {
-    is_same(edit, fragment.stamp) || stands_in(fragment.deletions.as_slice(), edit)
+    fragment.stamp.value <= edit.value
+        && (is_same(edit, fragment.stamp) || stands_in(fragment.deletions.as_slice(), edit))
 }
 
 fn stands_in(stamps: &[Lamport], stamp: Lamport) -> bool
@@ -142,7 +177,7 @@ fn with_undo(
 {
     tree.known();
     let mut fragments = tree.share()?;
-    let mut found = FilterCursor::new(tree, Full { bytes: 0 }, SeesOne { edits })?;
+    let mut found = FilterCursor::new(tree, Full { bytes: 0 }, MayConcern { edits })?;
     while let Some(fragment) = found.next()? {
         put_anew(
             alloc,
@@ -161,9 +196,10 @@ fn with_undo(
 /// map is the one that has the undo's counts already. The edits are those that it counts, in any order; one may be there
 /// twice, and others with them change nothing that is shown.
 ///
-/// Runs of fragments that have seen none of the edits are passed over whole and stay shared. So the cost grows with the
-/// number of fragments that one of the edits brought or deletes, or that have seen something later by the author of one,
-/// times the height. It answers want of memory alone.
+/// An edit is later than what it deletes. So runs of fragments that have not seen it, or are all later than it, are
+/// passed over whole and stay shared; the index is not asked. The cost grows with the number of fragments that one of
+/// the edits brought or deletes, and of those as early as one whose neighbours were changed since by its author, times
+/// the height. It answers want of memory alone.
 pub fn mark_undo(
     alloc: Global,
     tree: &SumTree<Fragment>,

@@ -7,7 +7,7 @@ ghost use Rattle.remote_edit.specs.Carried.{move_for, CarryOn};
 ghost use Rattle.remote_edit.specs.Anew.{anew, all_anew};
 
 use crate::passed::Passed;
-use crate::undo::{SeesOne, is_concerned, is_shown};
+use crate::undo::{MayConcern, is_concerned, is_shown};
 use crate::{Move, Moves};
 use fragments::Fragment;
 use lamport_clock::Lamport;
@@ -37,7 +37,8 @@ pub(crate) fn keep(moves: &mut Moves, from: Passed, to: Passed) -> Result<(), Al
     moves.keep(to.visible - from.visible, to.hidden - from.hidden)
 }
 
-// What an undo of edits does to the two texts. Runs of fragments that have seen none of the edits are passed whole.
+// What an undo of edits does to the two texts. Runs of fragments that none of the edits can
+// concern are passed whole.
 pub(crate) fn undo_moves(
     alloc: Global,
     tree: &SumTree<Fragment>,
@@ -52,7 +53,7 @@ pub(crate) fn undo_moves(
         visible: 0,
         hidden: 0,
     };
-    let mut found = FilterCursor::new(tree, at, SeesOne { edits })?;
+    let mut found = FilterCursor::new(tree, at, MayConcern { edits })?;
     while let Some(fragment) = found.next()? {
         let from = found.start();
         keep(&mut moves, at, from)?;
