@@ -1,6 +1,6 @@
 -- Without an edit, fragments that it was walked into tell what they told before it.
 use Rattle.std.proofs.Common.{◌≡◌, ℕ, zero, suc, ◌+◌, ◌-◌, ◌≤◌, Bool, true, false, cond, not, ◌||◌, ◌&&◌, List, [], ◌∷◌, ◌++◌, length, refl, sym, ap, ◌∙◌, arith, subst, inl, inr, leb, append_assoc, append-nil, length-append}
-use Rattle.std.proofs.lemmas.Bool.{cases_Bool, leb-false}
+use Rattle.std.proofs.lemmas.Bool.{cases_Bool, leb-false, or_parts}
 use Rattle.std.specs.List.{list_any, list_all}
 use Rattle.lamport_clock.specs.declared.stamp.Lamport.{Lamport}
 use Rattle.lamport_clock.specs.Stamps.{same_stamp, later}
@@ -24,10 +24,6 @@ use Rattle.remote_edit.specs.BeforeEdit.{without, before_edit, brought, InOrder}
 use Rattle.remote_edit.proofs.Changing.{changing, no_text}
 
 -- ---- deletions
-
-pub or_parts : (a b : Bool) → (a || b) ≡ false → (a ≡ false) × (b ≡ false)
-or_parts true b e = (e, cc)
-or_parts false b e = (refl, e)
 
 pub none_without : (t : Lamport) (d : List Lamport) → list_any (same_stamp t) d ≡ false → without t d ≡ d
 none_without t [] h = refl

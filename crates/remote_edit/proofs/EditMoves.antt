@@ -1,14 +1,14 @@
 -- What an edit does to the two texts, on the way over the fragments that tell of it.
-use Rattle.std.proofs.Common.{◌≡◌, ℕ, zero, suc, ◌+◌, ◌-◌, ◌<◌, ◌≤◌, min, Bool, true, false, cond, List, [], ◌∷◌, ◌++◌, length, take, drop, refl, sym, ap, ◌∙◌, arith, subst, Option, Some, None, append_assoc, length-append, append-nil}
+use Rattle.std.proofs.Common.{◌≡◌, ℕ, zero, suc, ◌+◌, ◌-◌, ◌<◌, ◌≤◌, min, Bool, true, false, cond, List, [], ◌∷◌, ◌++◌, length, take, drop, inl, inr, refl, sym, ap, ◌∙◌, arith, subst, Option, Some, None, append_assoc, length-append, append-nil}
 use Rattle.std.proofs.Math.Seq.{drop-append_seam}
 use Rattle.std.specs.List.{slice_get, list_any}
+use Rattle.std.proofs.lemmas.Bool.{cases_Bool, or_parts}
 use Rattle.tree_cursor.specs.Places.{place_behind, filter_count}
 use Rattle.lamport_clock.specs.declared.stamp.Lamport.{Lamport}
 use Rattle.lamport_clock.specs.Stamps.{same_stamp}
-use Rattle.lamport_clock.specs.Versions.{joined, sees}
+use Rattle.lamport_clock.specs.Versions.{joined}
 use Rattle.op_model.specs.Sorted.{Each}
 use Rattle.op_model.proofs.PathOrder.{same_stamp_eq}
-use Rattle.op_model.proofs.WholeTexts.{each_left, each_right}
 use Rattle.undo_map.specs.declared.entry.UndoEntry.{UndoEntry}
 use Rattle.fragments.specs.declared.fragment.Fragment.{Fragment}
 use Rattle.fragments.specs.Summaries.{summary_of}
@@ -20,20 +20,23 @@ use Rattle.remote_edit.specs.Moves.{with_move}
 use Rattle.remote_edit.specs.Marks.{is_shown}
 use Rattle.remote_edit.specs.Carried.{move_for, hidden_len, CarryOn}
 use Rattle.remote_edit.specs.Passed.{move_passed}
-use Rattle.remote_edit.specs.SeesLaws.{sees_one, none_up, stamps_seen}
+use Rattle.remote_edit.specs.SeesLaws.{sees_edit, stamps_seen}
 use Rattle.remote_edit.specs.BeforeEdit.{without, undeleted, before_edit, edit_move, IsByCounts, brought, InOrder, Brings}
 use Rattle.remote_edit.proofs.Carrying.{go_on, stay, on_one, on_stretch, on_insert}
-use Rattle.remote_edit.proofs.BeforeEdit.{none_without, or_parts}
+use Rattle.op_model.proofs.WholeTexts.{each_left, each_right}
+use Rattle.remote_edit.proofs.BeforeEdit.{none_without}
 use Rattle.remote_edit.proofs.UndoMoves.{both, shown_append, hidden_append, IsBehind, behind_place, Unkept, find_next, find_none}
 
 module _ (w : List UndoEntry) (t : Lamport) where
   -- the sum of a fragment does not see the edit
   abbrev Unseen : Fragment → Type 0
-  Unseen f = Unkept (sees_one (t ∷ [])) summary_of f
+  Unseen f = Unkept (sees_edit t) summary_of f
 
   unseen_parts : (f : Fragment) → Unseen f → (same_stamp t f.stamp ≡ false) × (list_any (same_stamp t) f.deletions ≡ false)
-  unseen_parts f u = or_parts (same_stamp t f.stamp) (list_any (same_stamp t) f.deletions)
-      (or_parts (list_any (same_stamp t) (f.stamp ∷ f.deletions)) false (none_up (λ s. list_any (same_stamp s) (f.stamp ∷ f.deletions)) (sees (summary_of f).greatest) (λ s. stamps_seen (f.stamp ∷ f.deletions) (joined [] f.max_undos) s) (t ∷ []) u)).0
+  unseen_parts f u = or_parts (same_stamp t f.stamp) (list_any (same_stamp t) f.deletions) (elim (cases_Bool (list_any (same_stamp t) (f.stamp ∷ f.deletions))) [
+    | inl e ↦ (let k = stamps_seen (f.stamp ∷ f.deletions) (joined [] f.max_undos) t e in cc)
+    | inr e ↦ e
+  ])
 
   same_undeleted : (f : Fragment) → IsByCounts w f → list_any (same_stamp t) f.deletions ≡ false → undeleted w t f ≡ f
   same_undeleted f s n =
@@ -102,18 +105,18 @@ module _ (w : List UndoEntry) (t : Lamport) where
       }
       go false e i c = record { k = k; brings = i; carry = go_on (omega arith) c (on_one (undeleted w t x) x old (refl, refl, refl)) }
 
-  module _ (m : ℕ) (us : List Lamport) (fs items : List Fragment) (ms : List Move) (shown hidden next : ℕ) (us_is : us ≡ t ∷ []) (items_are : items ≡ fs) (all : Each (IsByCounts w) fs) (p : Passing m fs ms shown hidden next) where
+  module _ (m : ℕ) (us : Lamport) (fs items : List Fragment) (ms : List Move) (shown hidden next : ℕ) (us_is : us ≡ t) (items_are : items ≡ fs) (all : Each (IsByCounts w) fs) (p : Passing m fs ms shown hidden next) where
     dropped : drop next items ≡ p.rest
     dropped = ap (drop next) (items_are ∙ p.whole) ∙ ap (λ (k : ℕ). drop k (p.pre ++ p.rest)) p.count ∙ drop-append_seam p.pre p.rest
 
     abbrev over : ℕ
-    over = filter_count (sees_one us) summary_of (drop next items)
+    over = filter_count (sees_edit us) summary_of (drop next items)
 
     abbrev rest_over : ℕ
-    rest_over = filter_count (sees_one us) summary_of p.rest
+    rest_over = filter_count (sees_edit us) summary_of p.rest
 
     over_is : over ≡ rest_over
-    over_is = ap (filter_count (sees_one us) summary_of) dropped
+    over_is = ap (filter_count (sees_edit us) summary_of) dropped
 
     get_ahead : (pre : List Fragment) (i n : ℕ) → i ≡ length pre + n → slice_get (pre ++ p.rest) i ≡ slice_get p.rest n
     get_ahead [] i n e = ap (slice_get p.rest) (let q : i ≡ n = omega arith in q)
@@ -124,14 +127,14 @@ module _ (w : List UndoEntry) (t : Lamport) where
     get_rest o h = sym (get_ahead p.pre (next + over) rest_over (let a = over_is in let b = p.count in omega arith)) ∙ ap (λ (z : List Fragment). slice_get z (next + over)) (sym (items_are ∙ p.whole)) ∙ h
 
     -- those before the next that is kept have not seen the edit
-    unseen : (xs : List Fragment) → Each (Unkept (sees_one us) summary_of) xs → Each Unseen xs
-    unseen xs u = subst (λ (z : List Lamport). Each (Unkept (sees_one z) summary_of) xs) us_is u
+    unseen : (xs : List Fragment) → Each (Unkept (sees_edit us) summary_of) xs → Each Unseen xs
+    unseen xs u = subst (λ (z : Lamport). Each (Unkept (sees_edit z) summary_of) xs) us_is u
 
     shown_rest : Each (IsByCounts w) p.rest
     shown_rest = each_right (IsByCounts w) p.pre p.rest (subst (Each (IsByCounts w)) p.whole all)
 
     -- bytes that are kept up to a place
-    stretch : (xs ys : List Fragment) (s h : ℕ) → p.rest ≡ xs ++ ys → Each (Unkept (sees_one us) summary_of) xs → IsBehind s h (p.pre ++ xs)
+    stretch : (xs ys : List Fragment) (s h : ℕ) → p.rest ≡ xs ++ ys → Each (Unkept (sees_edit us) summary_of) xs → IsBehind s h (p.pre ++ xs)
         → CarryOn t [] [] (before_edit w t fs) 0 (with_move (with_move ms (Visible (s - shown))) (Hidden (h - hidden))) (p.pre ++ xs) (before_edit w t ys) p.k
     stretch xs ys s h e u b =
         let o : List Fragment = before_edit w t fs in
@@ -158,7 +161,7 @@ module _ (w : List UndoEntry) (t : Lamport) where
     pub start : (x : Fragment) (items2 : List Fragment) (i s h v0 h0 : ℕ) → items2 ≡ items → slice_get items (next + over) ≡ Some x → i ≡ next + over → v0 ≡ 0 → h0 ≡ 0
         → both s h ≡ place_behind move_passed summary_of (both v0 h0) (take i items2) → Started s h
     start x items2 i s h v0 h0 same g e a b q =
-        let k = find_next (sees_one us) summary_of p.rest x (get_rest (Some x) g) in
+        let k = find_next (sees_edit us) summary_of p.rest x (get_rest (Some x) g) in
         let before : List Fragment = p.pre ++ k.over in
         let whole : fs ≡ before ++ x ∷ k.ahead = p.whole ∙ ap (λ (z : List Fragment). p.pre ++ z) k.parts ∙ sym (append_assoc p.pre k.over (x ∷ k.ahead)) in
         let long = length-append p.pre k.over in
@@ -172,7 +175,7 @@ module _ (w : List UndoEntry) (t : Lamport) where
     pub come : (x : Fragment) (items2 : List Fragment) (i s h s2 h2 v0 h0 after : ℕ) → items2 ≡ items → slice_get items (next + over) ≡ Some x → i ≡ next + over → after ≡ min (i + 1) (length items) → v0 ≡ 0 → h0 ≡ 0
         → both s h ≡ place_behind move_passed summary_of (both v0 h0) (take i items2) → both s2 h2 ≡ place_behind move_passed summary_of (both v0 h0) (take after items2) → Come x i s h s2 h2 after
     come x items2 i s h s2 h2 v0 h0 after same g e o a b q r =
-        let k = find_next (sees_one us) summary_of p.rest x (get_rest (Some x) g) in
+        let k = find_next (sees_edit us) summary_of p.rest x (get_rest (Some x) g) in
         let before : List Fragment = p.pre ++ k.over in
         let whole : fs ≡ before ++ x ∷ k.ahead = p.whole ∙ ap (λ (z : List Fragment). p.pre ++ z) k.parts ∙ sym (append_assoc p.pre k.over (x ∷ k.ahead)) in
         let long = length-append p.pre k.over in
@@ -212,7 +215,7 @@ module _ (w : List UndoEntry) (t : Lamport) where
 
     pub end : (items2 : List Fragment) (i s h v0 h0 : ℕ) → items2 ≡ items → slice_get items (next + over) ≡ None → i ≡ next + over → v0 ≡ 0 → h0 ≡ 0 → both s h ≡ place_behind move_passed summary_of (both v0 h0) (take i items2) → Ended s h
     end items2 i s h v0 h0 same g e a b q =
-        let k = find_none (sees_one us) summary_of p.rest (get_rest None g) in
+        let k = find_none (sees_edit us) summary_of p.rest (get_rest None g) in
         let none : p.rest ≡ p.rest ++ [] = sym (append-nil p.rest) in
         let whole : fs ≡ (p.pre ++ p.rest) ++ [] = p.whole ∙ sym (append-nil (p.pre ++ p.rest)) in
         let long = length-append p.pre p.rest in

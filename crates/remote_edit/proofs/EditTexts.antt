@@ -1,5 +1,5 @@
 -- Fragments that an edit was walked into: what they were before it, and how they are shown.
-use Rattle.std.proofs.Common.{◌≡◌, ℕ, zero, suc, ◌+◌, ◌<◌, Bool, false, List, [], ◌∷◌, ◌++◌, length, map, refl, sym, ap, ◌∙◌, arith, subst, inl, inr}
+use Rattle.std.proofs.Common.{◌≡◌, ℕ, ◌+◌, Bool, false, List, [], ◌∷◌, length, map, refl, sym, ap, ◌∙◌, arith, subst, inl, inr}
 use Rattle.std.proofs.lemmas.Bool.{cases_Bool}
 use Rattle.std.specs.List.{filter, list_any}
 use Rattle.lamport_clock.specs.declared.stamp.Lamport.{Lamport}
@@ -14,7 +14,7 @@ use Rattle.op_model.specs.Shown.{texts, deleters, deletes}
 use Rattle.op_model.specs.Answers.{answer}
 use Rattle.op_model.specs.Answers.Answer.{Good}
 use Rattle.op_model.specs.Lawful.{Lawful}
-use Rattle.op_model.specs.Facts.{Fact, fact, alike, seen_by}
+use Rattle.op_model.specs.Facts.{Fact, fact, seen_by}
 use Rattle.op_model.specs.Walked.{Run, run_facts, facts_of}
 use Rattle.op_model.specs.Walked as W
 use Rattle.op_model.proofs.Groups.{passed_unseen}
@@ -26,7 +26,7 @@ use Rattle.undo_map.specs.declared.entry.UndoEntry.{UndoEntry}
 use Rattle.undo_map.specs.Undos.{undo_entries}
 use Rattle.fragments.specs.declared.fragment.Fragment.{Fragment}
 use Rattle.fragments.specs.declared.index_entry.IndexEntry.{IndexEntry}
-use Rattle.fragments.specs.Stand.{run_of, runs, Tell, IsFilled, Stand}
+use Rattle.fragments.specs.Stand.{runs, Tell, IsFilled, Stand}
 use Rattle.remote_edit.specs.Marks.{is_shown, marking}
 use Rattle.remote_edit.specs.Walk.{walk}
 use Rattle.remote_edit.specs.Indexes.{EndsBefore}
@@ -35,25 +35,9 @@ use Rattle.remote_edit.proofs.Marks.{is_told}
 use Rattle.remote_edit.proofs.Changing.{changing}
 use Rattle.remote_edit.proofs.Runs.{walk_as}
 use Rattle.remote_edit.proofs.Standing.{indexed_start}
-use Rattle.op_model.proofs.WholeTexts.{each_right}
+use Rattle.remote_edit.proofs.OfFacts.{of_facts}
 use Rattle.remote_edit.proofs.UndoStands.{told_by_counts}
 use Rattle.remote_edit.proofs.BeforeEdit.{IsOld, old_runs, runs_before, walk_kept, text_totals}
-
--- what is told of the cells of fragments is told of the fragments
-module _ (P : Lamport → Bool → List Lamport → Type 0) where
-  abbrev OfFact : Fact → Type 0
-  OfFact q = P q.cell.stamp q.visible q.deletions
-
-  first_fact : (t : Lamport) (k n : ℕ) (v : Bool) (d : List Lamport) (s : List Fact) → 0 < n → Each OfFact (alike t k n v d ++ s) → P t v d
-  first_fact t k zero v d s l e = absurd (omega arith)
-  first_fact t k (suc n) v d s l e = e.0
-
-  of_facts : (fs : List Fragment) → Each IsFilled fs → Each OfFact (facts_of (runs fs)) → Each (λ (f : Fragment). P f.stamp f.visible f.deletions) fs
-  of_facts [] l e = tt
-  of_facts (f ∷ fs) l e = (
-    first_fact f.stamp f.offset f.len f.visible f.deletions (facts_of (runs fs)) l.0.0 e,
-    of_facts fs l.1 (each_right OfFact (run_facts (run_of f)) (facts_of (runs fs)) e),
-  )
 
 -- fragments that tell of a history are shown by its counts
 pub shown_by_counts : (h : History) (u : List UndoEntry) (fs : List Fragment) → u ≡ undo_entries h → Each IsFilled fs → Tell fs h → Each (IsByCounts u) fs

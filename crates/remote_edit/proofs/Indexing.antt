@@ -10,7 +10,6 @@ use Rattle.lamport_clock.specs.declared.stamp.Lamport.{Lamport}
 use Rattle.locators.specs.Locator.{IsLess}
 use Rattle.op_model.specs.Sorted.{Each, EachPair, Member}
 use Rattle.op_model.proofs.CellsOnce.{each_member}
-use Rattle.op_model.proofs.WholeTexts.{each_left, each_right}
 use Rattle.fragments.specs.declared.fragment.Fragment.{Fragment}
 use Rattle.fragments.specs.declared.index_entry.IndexEntry.{IndexEntry}
 use Rattle.fragments.specs.declared.index_entry.IndexKey.{IndexKey}
@@ -18,17 +17,12 @@ use Rattle.fragments.specs.Index.{key_of, key_cmp, key_order, IsAscending, with_
 use Rattle.fragments.specs.Stand.{IsFilled, Rise, entry_of, IsIndexOf}
 use Rattle.fragments.proofs.Entries.{entry_takes_its_place, member_left, member_right, member_either}
 use Rattle.remote_edit.specs.Walk.{front, back, new_fragment}
+use Rattle.op_model.proofs.Insertion.{each_map}
+use Rattle.op_model.proofs.Restricted.{each_append}
+use Rattle.op_model.proofs.WholeTexts.{each_left, each_right}
 use Rattle.remote_edit.specs.Indexes.{IsApart, EndsBefore, IsIndexed}
 
 -- ---- lists
-
-each_append : {A : Type 0} (P : A → Type 0) (xs ys : List A) → Each P xs → Each P ys → Each P (xs ++ ys)
-each_append P [] ys h k = k
-each_append P (x ∷ xs) ys h k = (h.0, each_append P xs ys h.1 k)
-
-each_map : {A : Type 0} (P Q : A → Type 0) (f : (x : A) → P x → Q x) (xs : List A) → Each P xs → Each Q xs
-each_map P Q f [] h = tt
-each_map P Q f (x ∷ xs) h = (f x h.0, each_map P Q f xs h.1)
 
 -- one is put in
 pairs_in : {A : Type 0} (R : A → A → Type 0) (xs ys : List A) (a : A) → EachPair R (xs ++ ys) → Each (λ x. R x a) xs → Each (R a) ys → EachPair R (xs ++ a ∷ ys)

@@ -1,5 +1,5 @@
 -- An edit is later than the cells that it deletes.
-use Rattle.std.proofs.Common.{◌≡◌, ℕ, zero, suc, ◌<◌, ◌⊎◌, eqb, Bool, true, false, cond, ◌&&◌, ◌||◌, List, [], ◌∷◌, ◌++◌, map, refl, sym, ap, ◌∙◌, arith, inl, inr}
+use Rattle.std.proofs.Common.{◌≡◌, ℕ, suc, ◌<◌, ◌⊎◌, eqb, Bool, true, false, cond, ◌&&◌, ◌||◌, List, [], ◌∷◌, map, refl, sym, ap, ◌∙◌, arith, inl, inr}
 use Rattle.std.proofs.lemmas.Bool.{cases_Bool, and_parts, leb-true}
 use Rattle.lamport_clock.specs.declared.stamp.Lamport.{Lamport}
 use Rattle.lamport_clock.specs.Stamps.{same_stamp}
@@ -12,16 +12,15 @@ use Rattle.op_model.specs.Histories.{History, In, newest_first}
 use Rattle.op_model.specs.Cells.{Cell, same_cell, Place, both, everything, seq_where, seq, cells}
 use Rattle.op_model.specs.Shown.{in_pieces, in_ranges, deleters_where}
 use Rattle.op_model.specs.Lawful.{Lawful}
-use Rattle.op_model.specs.Facts.{Fact, fact, alike}
-use Rattle.op_model.specs.Walked.{run_facts, facts_of}
+use Rattle.op_model.specs.Facts.{Fact, fact}
 use Rattle.op_model.proofs.PathOrder.{same_stamp_eq}
 use Rattle.op_model.proofs.Bytes.{passing}
 use Rattle.op_model.proofs.SameSets.{newest_same}
 use Rattle.op_model.proofs.Deleters.{hits, deleters_kept, deleters_unkept}
 use Rattle.op_model.proofs.Good.{lawful_ready}
-use Rattle.op_model.proofs.WholeTexts.{each_right}
 use Rattle.fragments.specs.declared.fragment.Fragment.{Fragment}
-use Rattle.fragments.specs.Stand.{run_of, runs, Tell, IsFilled}
+use Rattle.fragments.specs.Stand.{Tell, IsFilled}
+use Rattle.remote_edit.proofs.OfFacts.{of_facts}
 
 -- the edits d are later than the cells of u
 abbrev pub AreLater : Lamport → List Lamport → Type 0
@@ -69,20 +68,9 @@ told_late : (h : History) → Lawful h → (s : List Place) → Each IsLate (map
 told_late h l [] = tt
 told_late h l (p ∷ s) = (deleters_later everything (newest_first h) p.cell (λ o i. (lawful_ready h l).0.above o ((newest_same h o).0 i)), told_late h l s)
 
-first_late : (t : Lamport) (k n : ℕ) (v : Bool) (d : List Lamport) (s : List Fact) → 0 < n → Each IsLate (alike t k n v d ++ s) → AreLater t d
-first_late t k zero v d s l e = absurd (omega arith)
-first_late t k (suc n) v d s l e = e.0
-
 abbrev pub HasLaterDeletions : Fragment → Type 0
 HasLaterDeletions f = AreLater f.stamp f.deletions
 
-all_late : (fs : List Fragment) → Each IsFilled fs → Each IsLate (facts_of (runs fs)) → Each HasLaterDeletions fs
-all_late [] l e = tt
-all_late (f ∷ fs) l e = (
-  first_late f.stamp f.offset f.len f.visible f.deletions (facts_of (runs fs)) l.0.0 e,
-  all_late fs l.1 (each_right IsLate (run_facts (run_of f)) (facts_of (runs fs)) e),
-)
-
 -- the deletions of fragments that tell of a lawful history are later than what they delete
 pub late_deletions : (h : History) → Lawful h → (fs : List Fragment) → Each IsFilled fs → Tell fs h → Each HasLaterDeletions fs
-late_deletions h l fs f t = all_late fs f (rw t (told_late h l (seq h)))
+late_deletions h l fs f t = of_facts (λ u v d. AreLater u d) fs f (rw t (told_late h l (seq h)))

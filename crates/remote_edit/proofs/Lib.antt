@@ -6,6 +6,7 @@ pub mod Texts
 pub mod Beside
 pub mod PassedPlaces
 pub mod Anew
+pub mod OfFacts
 pub mod Halves
 pub mod LaterDeletions
 pub mod UndoStands

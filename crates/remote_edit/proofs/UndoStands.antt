@@ -25,7 +25,6 @@ use Rattle.op_model.proofs.OnePass.{undone_newest, all_newest}
 use Rattle.op_model.proofs.MainLaws.{undo_is_told}
 use Rattle.op_model.proofs.PathOrder.{same_stamp_eq, same_stamp_refl}
 use Rattle.op_model.proofs.CellsOnce.{each_member}
-use Rattle.op_model.proofs.WholeTexts.{each_right}
 use Rattle.undo_map.specs.declared.entry.UndoEntry.{UndoEntry}
 use Rattle.undo_map.specs.Counts.{count_of, is_odd}
 use Rattle.undo_map.specs.Undos.{undo_entries}
@@ -37,6 +36,7 @@ use Rattle.remote_edit.specs.Marks.{is_shown}
 use Rattle.remote_edit.specs.Anew.{concerns, counted, anew, all_anew, Counts}
 use Rattle.remote_edit.specs.SeesLaws.{raise_sees, sees_raise, any_member}
 use Rattle.remote_edit.proofs.LaterDeletions.{HasLaterDeletions, late_deletions}
+use Rattle.remote_edit.proofs.OfFacts.{of_facts}
 
 -- ---- what is told of a cell is told by the counts
 
@@ -54,16 +54,8 @@ told_by_counts h (p ∷ s) = (shown_seen h p.cell, told_by_counts h s)
 abbrev pub IsByCounts : History → Fragment → Type 0
 IsByCounts h f = f.visible ≡ seen_by h f.stamp f.deletions
 
-first_told : (h : History) (t : Lamport) (k n : ℕ) (v : Bool) (d : List Lamport) (s : List Fact) → 0 < n → Each (ByCounts h) (alike t k n v d ++ s) → v ≡ seen_by h t d
-first_told h t k zero v d s l e = absurd (omega arith)
-first_told h t k (suc n) v d s l e = e.0
-
-pub by_counts : (h : History) (fs : List Fragment) → Each IsFilled fs → Each (ByCounts h) (facts_of (runs fs)) → Each (IsByCounts h) fs
-by_counts h [] l e = tt
-by_counts h (f ∷ fs) l e = (
-  first_told h f.stamp f.offset f.len f.visible f.deletions (facts_of (runs fs)) l.0.0 e,
-  by_counts h fs l.1 (each_right (ByCounts h) (run_facts (run_of f)) (facts_of (runs fs)) e),
-)
+by_counts : (h : History) (fs : List Fragment) → Each IsFilled fs → Each (ByCounts h) (facts_of (runs fs)) → Each (IsByCounts h) fs
+by_counts h fs l e = of_facts (λ t v d. v ≡ seen_by h t d) fs l e
 
 -- ---- counts with an undo more
 

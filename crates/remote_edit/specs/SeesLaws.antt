@@ -112,15 +112,18 @@ none_up p q f xs h = elim (cases_Bool (list_any p xs)) [
 
 -- ---- which runs are passed over
 
--- a sum sees one of the edits
-abbrev pub sees_one : List Lamport → FragmentSummary → Bool
-sees_one ts s = list_any (sees s.greatest) ts
+-- a sum has seen edit t
+abbrev pub sees_edit : Lamport → FragmentSummary → Bool
+sees_edit t s = sees s.greatest t
 
-pub sees_parts : (ts : List Lamport) (a b : FragmentSummary) → sees_one ts (summaries a b) ≡ false → (sees_one ts a ≡ false) × (sees_one ts b ≡ false)
-sees_parts ts a b h = (
-  none_up (sees a.greatest) (sees (joined a.greatest b.greatest)) (λ t. (sees_joined a.greatest b.greatest t).0) ts h,
-  none_up (sees b.greatest) (sees (joined a.greatest b.greatest)) (λ t. (sees_joined a.greatest b.greatest t).1) ts h,
-)
+unseen : (x y : Bool) → (x ≡ true → y ≡ true) → y ≡ false → x ≡ false
+unseen false y f e = refl
+unseen true y f e = let k = f refl in cc
+
+pub sees_parts : (t : Lamport) (a b : FragmentSummary) → sees_edit t (summaries a b) ≡ false → (sees_edit t a ≡ false) × (sees_edit t b ≡ false)
+sees_parts t a b h =
+    let j = sees_joined a.greatest b.greatest t in
+    (unseen (sees a.greatest t) (sees (joined a.greatest b.greatest) t) j.0 h, unseen (sees b.greatest t) (sees (joined a.greatest b.greatest) t) j.1 h)
 
 -- the spans begin no later than t
 abbrev pub begins_by : Lamport → List Span → Bool

@@ -10,16 +10,33 @@ ghost use Rattle.remote_edit.specs.Carried.{CarryOn};
 ghost use Rattle.remote_edit.specs.BeforeEdit.{without, before_edit, edit_move, IsByCounts, Brings};
 
 use crate::passed::Passed;
-use crate::undo::SeesOne;
 use crate::undo_moves::keep;
 use crate::{Move, Moves};
-use fragments::Fragment;
+use fragments::{Fragment, FragmentSummary};
 use lamport_clock::{Lamport, is_same};
 use op_model::EditOp;
 use std::alloc::{AllocError, Global};
 use sum_tree::SumTree;
-use tree_cursor::FilterCursor;
+use tree_cursor::{FilterCursor, Keep};
 use undo_map::UndoMap;
+
+// Which runs of fragments may have cells that an edit brought or deletes: those that have seen it.
+#[derive(Clone, Copy)]
+struct SeesEdit {
+    edit: Lamport,
+}
+
+impl Keep<FragmentSummary> for SeesEdit {
+    ghost use Rattle.remote_edit.specs.SeesLaws.{sees_edit, sees_parts};
+
+    ghost keeps = { λ k s. sees_edit k.edit s };
+
+    ghost parts = { λ k a b f g h. sees_parts k.edit a b h };
+
+    fn keep(&self, s: &FragmentSummary) -> bool {
+        s.greatest.sees(self.edit)
+    }
+}
 
 // Whether each edit of a list but one is undone.
 fn all_others_are_undone(undos: &UndoMap, edits: &[Lamport], edit: Lamport) -> bool
@@ -70,8 +87,7 @@ pub(crate) fn edit_moves(
         visible: 0,
         hidden: 0,
     };
-    let edits = [edit.stamp];
-    let mut found = FilterCursor::new(tree, at, SeesOne { edits: &edits })?;
+    let mut found = FilterCursor::new(tree, at, SeesEdit { edit: edit.stamp })?;
     while let Some(fragment) = found.next()? {
         let from = found.start();
         keep(&mut moves, at, from)?;

@@ -20,24 +20,6 @@ use sum_tree::{Item, SumTree};
 use tree_cursor::{FilterCursor, Keep};
 use undo_map::UndoMap;
 
-// Which runs of fragments may have cells that one of the edits brought or deletes: those that have seen it.
-#[derive(Drop)]
-pub(crate) struct SeesOne<'e> {
-    pub(crate) edits: &'e [Lamport],
-}
-
-impl<'e> Keep<FragmentSummary> for SeesOne<'e> {
-    ghost use Rattle.remote_edit.specs.SeesLaws.{sees_one, sees_parts};
-
-    ghost keeps = { λ k s. sees_one k.edits.now s };
-
-    ghost parts = { λ k a b f g h. sees_parts k.edits.now a b h };
-
-    fn keep(&self, s: &FragmentSummary) -> bool {
-        self.edits.iter().any(|t| s.greatest.sees(*t))
-    }
-}
-
 // Which runs of fragments may have cells that one of the edits brought or deletes: those that have seen it and have
 // stamps as early. What an edit deletes is earlier than it, so runs of later cells have nothing of it.
 #[derive(Drop)]

@@ -1,4 +1,4 @@
-use Rattle.std.proofs.Common.{◌≡◌, ◌≤◌, ◌-◌, ◌∷◌, [], length}
+use Rattle.std.proofs.Common.{◌≡◌, ◌≤◌, ◌-◌, length}
 use Rattle.op_model.specs.Shown.{texts}
 use Rattle.remote_edit.proofs.EditMoves.{Passing}
 use Rattle.remote_edit.proofs.edit_moves.edit_moves.Given as goal
@@ -6,7 +6,7 @@ use Rattle.remote_edit.proofs.edit_moves.edit_moves.Given as goal
 abbrev pub invariant-loop-moves : goal.invariant-loop-moves
 invariant-loop-moves l = record {
   items : l.found.items ≡ l.tree.items;
-  keep : l.found.keep.edits.now ≡ l.edit.stamp ∷ [];
+  keep : l.found.keep.edit ≡ l.edit.stamp;
   visible : l.found.from.visible ≡ 0;
   hidden : l.found.from.hidden ≡ 0;
   within : l.found.next ≤ length l.tree.items;
