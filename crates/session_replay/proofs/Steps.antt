@@ -26,6 +26,10 @@ pub text-none : report_text [] ≡ []
 unfolding report_text
 text-none = refl
 
+-- no line is written
+pub nothing_written : (out : List ℕ) → out ≡ out ++ report_text []
+nothing_written out = sym (append-nil out) ∙ ap (λ t. out ++ t) (sym text-none)
+
 -- what is still to be written, with one more part of it written
 pub written : (rs qs : List Report) (out new all : List ℕ) → out ++ report_text (rs ++ qs) ≡ all → new ≡ out ++ report_text rs → new ++ report_text qs ≡ all
 written rs qs out new all e n =

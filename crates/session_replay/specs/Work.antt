@@ -134,6 +134,9 @@ events (line.Op e) s = report.Made (next_number s) e.stamp ∷ []
 events (line.Uop u) s = report.Made (next_number s) u.stamp ∷ []
 events (line.Give r n) s = reports_at (λ b. report.Give n r (give_answer (operation_of n s.operations) b) ∷ []) (buffer_of r s.buffers)
 events (line.Text r) s = reports_at (λ b. text_report b ∷ []) (buffer_of r s.buffers)
+events (line.Find r needle) s = []
+events (line.Point r o) s = []
+events (line.Offset r row column) s = []
 
 -- the session with these buffers after one more operation line, and with what stands under its number
 abbrev pub numbered : List BufferState → Option Operation → State → State
@@ -151,6 +154,9 @@ step (line.Op e) s = numbered s.buffers (Some (operation.Edit e)) s
 step (line.Uop u) s = numbered s.buffers (Some (operation.Undo u)) s
 step (line.Give r n) s = record { buffers = with_buffer r (after_give (operation_of n s.operations)) s.buffers; operations = s.operations }
 step (line.Text r) s = s
+step (line.Find r needle) s = s
+step (line.Point r o) s = s
+step (line.Offset r row column) s = s
 
 -- ---- all lines
 

@@ -154,6 +154,7 @@ impl Progress {
     }
 
     /// Works a line.
+    #[tactic(auto, using(crate::proofs::Steps::nothing_written))]
     fn work_line(&mut self, alloc: Global, line: &SessionLine) -> Result<(), AllocError>
         ensures report { OnOk result (self.new.report.items ≡ self.old.report.items ++ report_text (events line.now (state_of self.old))) }
         ensures state { OnOk result (state_of self.new ≡ step line.now (state_of self.old)) }
@@ -165,6 +166,9 @@ impl Progress {
             SessionLine::Uop(undo) => self.work_operation(alloc, undo_operation(alloc, undo)?)?,
             SessionLine::Give { replica, number } => self.work_give(alloc, *replica, *number)?,
             SessionLine::Text { replica } => self.work_text(alloc, *replica)?,
+            SessionLine::Find { .. } => {}
+            SessionLine::Point { .. } => {}
+            SessionLine::Offset { .. } => {}
         }
         Ok(())
     }

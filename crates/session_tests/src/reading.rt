@@ -20,6 +20,9 @@ fn name_of(line: &SessionLine) -> &'static str {
         SessionLine::Uop(_) => "uop",
         SessionLine::Give { .. } => "give",
         SessionLine::Text { .. } => "text",
+        SessionLine::Find { .. } => "find",
+        SessionLine::Point { .. } => "point",
+        SessionLine::Offset { .. } => "offset",
     }
 }
 
@@ -57,6 +60,18 @@ const SESSIONS: &[(&str, &[u16], &[&str])] = &[
 "#,
         &[1, 2],
         &["undo", "uop", "undo", "give"],
+    ),
+    (
+        r#"["zedbuf",1,"ab",[1,2]]
+["find",2,""]
+["point",1,18446744073709551615]
+["offset",2,18446744073709551615,0]
+["edit",1,[]]
+["find",1,"\ud83d\ude00"]
+["give",2,1]
+"#,
+        &[1, 2],
+        &["find", "point", "offset", "edit", "find", "give"],
     ),
 ];
 
