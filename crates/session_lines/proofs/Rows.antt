@@ -14,6 +14,7 @@ use Rattle.session_lines.specs.Report.{report_text, line_text, query_line}
 use Rattle.session_lines.specs.declared.report.FindAnswer.TheVariants.{Starts, EmptyNeedle}
 use Rattle.session_lines.specs.declared.report.PointAnswer.TheVariants as point
 use Rattle.session_lines.specs.declared.report.OffsetAnswer.TheVariants as offset
+use Rattle.session_lines.specs.declared.report.QueryAnswer.TheVariants as query
 use Rattle.session_lines.specs.declared.report.Report.TheVariants as report
 use Rattle.session_lines.specs.declared.fault.Word.TheVariants.{Json, Header, Shape, Replica, Number}
 use Rattle.session_lines.specs.declared.fault.DecodeFault.TheVariants.{Bad}
@@ -124,15 +125,15 @@ a_point_past_its_range = refl
 
 -- ---- their lines in a report
 
-pub places_found : report_text (report.Find 1 0 (Starts (127 ∷ 128 ∷ [])) ∷ report.Find 2 3 (Starts []) ∷ report.Find 3 3 EmptyNeedle ∷ []) ≡ codes "find 1 at 0: 127 128\nfind 2 at 3: none\nfind 3 at 3: empty needle\n"
+pub places_found : report_text (report.Query 1 0 (query.Find (Starts (127 ∷ 128 ∷ []))) ∷ report.Query 2 3 (query.Find (Starts [])) ∷ report.Query 3 3 (query.Find EmptyNeedle) ∷ []) ≡ codes "find 1 at 0: 127 128\nfind 2 at 3: none\nfind 3 at 3: empty needle\n"
 unfolding report_text line_text query_line digits
 places_found = refl
 
 pub points_found : report_text (
-    report.Point 1 0 (point.Place (record { row = 0; column = 6 }) (record { 0 = 3 }) (record { row = 1; column = 3 }))
-    ∷ report.Point 2 0 (point.Clips 2 6)
-    ∷ report.Offset 3 0 (offset.Place 6)
-    ∷ report.Offset 4 0 (offset.Clips (record { row = 0; column = 2 }) (record { row = 0; column = 6 }))
+    report.Query 1 0 (query.Point (point.Place (record { row = 0; column = 6 }) (record { 0 = 3 }) (record { row = 1; column = 3 })))
+    ∷ report.Query 2 0 (query.Point (point.Clips 2 6))
+    ∷ report.Query 3 0 (query.Offset (offset.Place 6))
+    ∷ report.Query 4 0 (query.Offset (offset.Clips (record { row = 0; column = 2 }) (record { row = 0; column = 6 })))
     ∷ [])
     ≡ codes "point 1 at 0: 0:6 3 1:3\npoint 2 at 0: none 2 6\noffset 3 at 0: 6\noffset 4 at 0: none 0:2 0:6\n"
 unfolding report_text line_text query_line digits

@@ -22,8 +22,10 @@ use Rattle.session_lines.specs.declared.report.PointAnswer.{PointAnswer}
 use Rattle.session_lines.specs.declared.report.PointAnswer.TheVariants as point
 use Rattle.session_lines.specs.declared.report.OffsetAnswer.{OffsetAnswer}
 use Rattle.session_lines.specs.declared.report.OffsetAnswer.TheVariants as offset
+use Rattle.session_lines.specs.declared.report.QueryAnswer.{QueryAnswer}
+use Rattle.session_lines.specs.declared.report.QueryAnswer.TheVariants as query
 use Rattle.session_lines.specs.declared.report.Report.{Report}
-use Rattle.session_lines.specs.declared.report.Report.TheVariants.{Made, EditRefused, UndoRefused, Unnamed, Settled, Give, Text, Find, Point, Offset, Replica, Refused, Final, Checked}
+use Rattle.session_lines.specs.declared.report.Report.TheVariants.{Made, EditRefused, UndoRefused, Unnamed, Settled, Give, Text, Query, Replica, Refused, Final, Checked}
 
 -- ---- positions
 
@@ -134,9 +136,19 @@ abbrev pub offset_words : OffsetAnswer → List ℕ
 offset_words (offset.Place o) = decimal o
 offset_words (offset.Clips left right) = clips_words (place_words left.row left.column) (place_words right.row right.column)
 
+abbrev pub query_word : QueryAnswer → List ℕ
+query_word (query.Find a) = codes "find"
+query_word (query.Point a) = codes "point"
+query_word (query.Offset a) = codes "offset"
+
+abbrev pub query_words : QueryAnswer → List ℕ
+query_words (query.Find a) = find_words a
+query_words (query.Point a) = point_words a
+query_words (query.Offset a) = offset_words a
+
 -- query q, which was answered on n operations
-unfoldable pub query_line : List ℕ → ℕ → ℕ → List ℕ → List ℕ
-query_line word q n answer = word ++ (codes " " ++ (decimal q ++ (codes " at " ++ (decimal n ++ (codes ": " ++ (answer ++ codes "\n"))))))
+unfoldable pub query_line : ℕ → ℕ → QueryAnswer → List ℕ
+query_line q n a = query_word a ++ (codes " " ++ (decimal q ++ (codes " at " ++ (decimal n ++ (codes ": " ++ (query_words a ++ codes "\n"))))))
 
 -- ---- replicas at the end
 
@@ -172,9 +184,7 @@ line_text (Unnamed n named) = unnamed_line n named
 line_text (Settled r count) = settled_line r count
 line_text (Give n r answer) = give_line n r answer
 line_text (Text r bytes row column rows text) = text_line r bytes row column rows text
-line_text (Find q n answer) = query_line (codes "find") q n (find_words answer)
-line_text (Point q n answer) = query_line (codes "point") q n (point_words answer)
-line_text (Offset q n answer) = query_line (codes "offset") q n (offset_words answer)
+line_text (Query q n answer) = query_line q n answer
 line_text (Replica r bytes rows applied waiting refused) = replica_line r bytes rows applied waiting refused
 line_text (Refused r t e) = refused_op_line r t e
 line_text (Final r text) = final_line r text

@@ -56,6 +56,14 @@ pub enum OffsetAnswer {
     Clips { left: Point, right: Point },
 }
 
+/// What a query is answered.
+#[derive(Drop)]
+pub enum QueryAnswer {
+    Find(FindAnswer),
+    Point(PointAnswer),
+    Offset(OffsetAnswer),
+}
+
 /// A line of a report, with what it prints.
 #[derive(Drop)]
 pub enum Report {
@@ -99,23 +107,11 @@ pub enum Report {
         rows: u64,
         text: Text,
     },
-    /// `find Q at N: ANSWER`: query Q, answered on a text of N operations.
-    Find {
+    /// `WORD Q at N: ANSWER`: query Q, which has the word, is answered on what N operations come to, the base not counted.
+    Query {
         number: u64,
         applied: u64,
-        answer: FindAnswer,
-    },
-    /// `point Q at N: ANSWER`: query Q, answered on a text of N operations.
-    Point {
-        number: u64,
-        applied: u64,
-        answer: PointAnswer,
-    },
-    /// `offset Q at N: ANSWER`: query Q, answered on a text of N operations.
-    Offset {
-        number: u64,
-        applied: u64,
-        answer: OffsetAnswer,
+        answer: QueryAnswer,
     },
     /// `replica R: B bytes, K rows, A applied, W waiting, F refused`: what replica R holds at the end.
     Replica {

@@ -1,9 +1,9 @@
 // The text of a report's line.
 ghost use Rattle.std.specs.Prelude.{◌≡◌, ◌++◌, string_bytes, OnOk, OnErr, IfOk};
 ghost use Rattle.json.specs.Print.{quoted};
-ghost use Rattle.session_lines.specs.Report.{made_line, settled_line, given_words, give_line, end_words, rows_words, text_line, starts_words, find_words, place_words, clips_words, point_words, offset_words, query_line, counts_words, waits_words, replica_line, final_line, final_line_with, fault_words, op_fault_words, undo_fault_words, refused_line, refused_undo_line, unnamed_line, refused_op_line, checked_line, line_text};
+ghost use Rattle.session_lines.specs.Report.{made_line, settled_line, given_words, give_line, end_words, rows_words, text_line, starts_words, find_words, place_words, clips_words, point_words, offset_words, query_word, query_words, query_line, counts_words, waits_words, replica_line, final_line, final_line_with, fault_words, op_fault_words, undo_fault_words, refused_line, refused_undo_line, unnamed_line, refused_op_line, checked_line, line_text};
 
-use crate::report::{FindAnswer, Given, OffsetAnswer, PointAnswer, Report};
+use crate::report::{FindAnswer, Given, OffsetAnswer, PointAnswer, QueryAnswer, Report};
 use lamport_clock::Lamport;
 use op_model::{EditFault, OpFault, Text, UndoFault, Unit};
 use serde_json::Value;
@@ -237,18 +237,39 @@ fn offset_text(alloc: Global, answer: OffsetAnswer) -> Result<String, AllocError
     }
 }
 
-// The line of a query, with its word and its answer.
+fn query_word(answer: &QueryAnswer) -> &'static str
+    ensures { result.now ≡ query_word answer.now }
+{
+    match answer {
+        QueryAnswer::Find(_) => "find",
+        QueryAnswer::Point(_) => "point",
+        QueryAnswer::Offset(_) => "offset",
+    }
+}
+
+fn query_text(alloc: Global, answer: &QueryAnswer) -> Result<String, AllocError>
+    ensures { IfOk result (λ s. string_bytes s ≡ query_words answer.now) }
+{
+    match answer {
+        QueryAnswer::Find(found) => find_text(alloc, found),
+        QueryAnswer::Point(point) => point_text(alloc, *point),
+        QueryAnswer::Offset(offset) => offset_text(alloc, *offset),
+    }
+}
+
 #[tactic(auto, unfolding(crate::specs::Report::query_line))]
 fn push_query(
+    alloc: Global,
     out: &mut String,
-    word: &str,
     number: u64,
     applied: u64,
-    answer: &str,
+    answer: &QueryAnswer,
 ) -> Result<(), AllocError>
-    ensures { OnOk result (string_bytes out.new ≡ string_bytes out.old ++ query_line word.now number applied answer.now) }
+    ensures { OnOk result (string_bytes out.new ≡ string_bytes out.old ++ query_line number applied answer.now) }
 {
-    write!(out, "{word} {number} at {applied}: {answer}\n")
+    let word = query_word(answer);
+    let words = query_text(alloc, answer)?;
+    write!(out, "{word} {number} at {applied}: {words}\n")
 }
 
 #[tactic(auto, unfolding(crate::specs::Report::replica_line))]
@@ -356,30 +377,11 @@ fn push_line(alloc: Global, out: &mut String, line: &Report) -> Result<(), Alloc
             rows,
             text,
         } => push_text(alloc, out, *replica, *bytes, *row, *column, *rows, text),
-        Report::Find {
+        Report::Query {
             number,
             applied,
             answer,
-        } => {
-            let answer = find_text(alloc, answer)?;
-            push_query(out, "find", *number, *applied, answer.as_str())
-        }
-        Report::Point {
-            number,
-            applied,
-            answer,
-        } => {
-            let answer = point_text(alloc, *answer)?;
-            push_query(out, "point", *number, *applied, answer.as_str())
-        }
-        Report::Offset {
-            number,
-            applied,
-            answer,
-        } => {
-            let answer = offset_text(alloc, *answer)?;
-            push_query(out, "offset", *number, *applied, answer.as_str())
-        }
+        } => push_query(alloc, out, *number, *applied, answer),
         Report::Replica {
             replica,
             bytes,

@@ -126,7 +126,8 @@ reports_at f (Some b) = f b
 abbrev pub line_events : ℕ → (BufferState → Result Operation Report) → State → List Report
 line_events r f s = reports_at (λ b. outcome_reports (next_number s) (f b) b) (buffer_of r s.buffers)
 
--- what the line reports; a replica that is not there reports nothing, and no session has a line of one
+-- what the line reports as an event, which a query does not; a replica that is not there reports nothing, and no session has a
+-- line of one
 abbrev pub events : SessionLine → State → List Report
 events (line.Edit r ps) s = line_events r (edit_outcome (next_number s) ps) s
 events (line.Undo r ms) s = line_events r (undo_outcome (next_number s) s.operations ms) s
@@ -187,7 +188,3 @@ opened base r = over_base r base (record { bytes = 2 ^ 40; entries = 2 ^ 40 - 1 
 
 abbrev pub opening : Session → State
 opening s = record { buffers = map (opened s.base) s.replicas; operations = [] }
-
--- the report: the lines of the events, then those of the replicas in the header's order
-unfoldable pub report_of : Session → List Report
-report_of s = all_events s.lines (opening s) ++ flat_map at_end (after_all s.lines (opening s)).buffers
