@@ -1,6 +1,7 @@
 -- Worked rows: which session a text is, or which line is bad, and how. The definitions compute.
 use Rattle.std.proofs.Common.{◌≡◌, [], ◌∷◌, Ok, Err, refl}
 use Rattle.std.specs.Prelude.{codes}
+use Rattle.std.specs.Fmt.{digits}
 use Rattle.std.specs.Str.{is_utf8, chars}
 use Rattle.serde_json.proofs.OnLiterals.{serde_json_on_literals}
 use Rattle.session_lines.specs.Json.{value_of}
@@ -8,7 +9,13 @@ use Rattle.session_lines.specs.Cut.{lines_of}
 use Rattle.session_lines.specs.Forms.{shaped}
 use Rattle.session_lines.specs.Heading.{headed}
 use Rattle.session_lines.specs.Session.{decoded, header_of, line_of}
-use Rattle.session_lines.specs.declared.session.SessionLine.TheVariants.{Edit, Undo, Op, Uop, Give, Text}
+use Rattle.session_lines.specs.declared.session.SessionLine.TheVariants.{Edit, Undo, Op, Uop, Give, Text, Find, Point, Offset}
+use Rattle.session_lines.specs.Report.{report_text, line_text, query_line}
+use Rattle.session_lines.specs.declared.report.FindAnswer.TheVariants.{Starts, EmptyNeedle}
+use Rattle.session_lines.specs.declared.report.PointAnswer.TheVariants as point
+use Rattle.session_lines.specs.declared.report.OffsetAnswer.TheVariants as offset
+use Rattle.session_lines.specs.declared.report.QueryAnswer.TheVariants as query
+use Rattle.session_lines.specs.declared.report.Report.TheVariants as report
 use Rattle.session_lines.specs.declared.fault.Word.TheVariants.{Json, Header, Shape, Replica, Number}
 use Rattle.session_lines.specs.declared.fault.DecodeFault.TheVariants.{Bad}
 
@@ -100,3 +107,34 @@ undos = refl
 pub its_own_number : decoded (codes "[\"zedbuf\",1,\"\",[1]]\n[\"edit\",1,[]]\n[\"undo\",1,[1,2]]\n") ≡ Err (Bad 3 Number)
 unfolding decoded value_of shaped headed header_of line_of is_utf8 chars serde_json_on_literals
 its_own_number = refl
+
+-- ---- queries
+
+pub queries : decoded (codes "[\"zedbuf\",1,\"ab\",[7,2]]\n[\"find\",2,\"\"]\n[\"point\",7,18446744073709551615]\n[\"offset\",2,0,1]\n")
+    ≡ Ok (record { version = 1; base = codes "ab"; replicas = 7 ∷ 2 ∷ []; lines = Find 2 [] ∷ Point 7 18446744073709551615 ∷ Offset 2 0 1 ∷ [] })
+unfolding decoded value_of shaped headed header_of line_of is_utf8 chars serde_json_on_literals
+queries = refl
+
+pub a_query_of_another_replica : decoded (codes "[\"zedbuf\",1,\"ab\",[1,2]]\n[\"find\",1,\"a\"]\n[\"offset\",3,0,0]\n") ≡ Err (Bad 3 Replica)
+unfolding decoded value_of shaped headed header_of line_of is_utf8 chars serde_json_on_literals
+a_query_of_another_replica = refl
+
+pub a_point_past_its_range : decoded (codes "[\"zedbuf\",1,\"ab\",[1]]\n[\"point\",1,18446744073709551616]\n") ≡ Err (Bad 2 Shape)
+unfolding decoded value_of shaped headed header_of line_of is_utf8 chars serde_json_on_literals
+a_point_past_its_range = refl
+
+-- ---- their lines in a report
+
+pub places_found : report_text (report.Query 1 0 (query.Find (Starts (127 ∷ 128 ∷ []))) ∷ report.Query 2 3 (query.Find (Starts [])) ∷ report.Query 3 3 (query.Find EmptyNeedle) ∷ []) ≡ codes "find 1 at 0: 127 128\nfind 2 at 3: none\nfind 3 at 3: empty needle\n"
+unfolding report_text line_text query_line digits
+places_found = refl
+
+pub points_found : report_text (
+    report.Query 1 0 (query.Point (point.Place (record { row = 0; column = 6 }) (record { 0 = 3 }) (record { row = 1; column = 3 })))
+    ∷ report.Query 2 0 (query.Point (point.Clips 2 6))
+    ∷ report.Query 3 0 (query.Offset (offset.Place 6))
+    ∷ report.Query 4 0 (query.Offset (offset.Clips (record { row = 0; column = 2 }) (record { row = 0; column = 6 })))
+    ∷ [])
+    ≡ codes "point 1 at 0: 0:6 3 1:3\npoint 2 at 0: none 2 6\noffset 3 at 0: 6\noffset 4 at 0: none 0:2 0:6\n"
+unfolding report_text line_text query_line digits
+points_found = refl

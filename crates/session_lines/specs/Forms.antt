@@ -1,6 +1,7 @@
 -- The forms of a line after the header.
 use Rattle.std.specs.Prelude.{ℕ, List, [], ◌∷◌, codes, Option, None, option_map, option_and_then, if◌then◌else◌}
 use Rattle.serde_json.specs.Data.{Data}
+use Rattle.serde_json.specs.Find.{as_str}
 use Rattle.lamport_clock.specs.Versions.{Entries}
 use Rattle.lamport_clock.specs.declared.stamp.Lamport.{Lamport}
 use Rattle.op_model.specs.declared.operation.Piece.{Piece}
@@ -8,7 +9,7 @@ use Rattle.op_model.specs.declared.operation.UndoCount.{UndoCount}
 use Rattle.session_lines.specs.Json.{whole, listed, is_text}
 use Rattle.session_lines.specs.Parts.{id_of, stamp_of, version_of, pieces_of, counts_of, numbers_of}
 use Rattle.session_lines.specs.declared.session.SessionLine.{SessionLine}
-use Rattle.session_lines.specs.declared.session.SessionLine.TheVariants.{Edit, Undo, Op, Uop, Give, Text}
+use Rattle.session_lines.specs.declared.session.SessionLine.TheVariants.{Edit, Undo, Op, Uop, Give, Text, Find, Point, Offset}
 
 -- ---- the members behind the word
 
@@ -57,6 +58,30 @@ abbrev pub text_from : List Data → Option SessionLine
 text_from (r ∷ []) = option_map Text (id_of r)
 text_from _ = None
 
+abbrev pub find_with : Option ℕ → Option (List ℕ) → Option SessionLine
+find_with r t = option_and_then (λ id. option_map (Find id) t) r
+
+-- r, "needle"
+abbrev pub find_from : List Data → Option SessionLine
+find_from (r ∷ t ∷ []) = find_with (id_of r) (as_str t)
+find_from _ = None
+
+abbrev pub point_with : Option ℕ → Option ℕ → Option SessionLine
+point_with r o = option_and_then (λ id. option_map (Point id) o) r
+
+-- r, o
+abbrev pub point_from : List Data → Option SessionLine
+point_from (r ∷ o ∷ []) = point_with (id_of r) (whole o)
+point_from _ = None
+
+abbrev pub offset_with : Option ℕ → Option ℕ → Option ℕ → Option SessionLine
+offset_with r k c = option_and_then (λ id. option_and_then (λ row. option_map (Offset id row) c) k) r
+
+-- r, row, column
+abbrev pub offset_from : List Data → Option SessionLine
+offset_from (r ∷ k ∷ c ∷ []) = offset_with (id_of r) (whole k) (whole c)
+offset_from _ = None
+
 -- ---- a line, by its word
 
 abbrev pub form_of : Data → List Data → Option SessionLine
@@ -66,7 +91,10 @@ form_of w ds =
     if is_text (codes "op") w then op_from ds else
     if is_text (codes "uop") w then uop_from ds else
     if is_text (codes "give") w then give_from ds else
-    if is_text (codes "text") w then text_from ds else None
+    if is_text (codes "text") w then text_from ds else
+    if is_text (codes "find") w then find_from ds else
+    if is_text (codes "point") w then point_from ds else
+    if is_text (codes "offset") w then offset_from ds else None
 
 abbrev pub line_from : List Data → Option SessionLine
 line_from [] = None

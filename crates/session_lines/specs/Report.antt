@@ -1,6 +1,6 @@
 -- The lines of a report.
-use Rattle.std.specs.Prelude.{ℕ, ◌+◌, ◌==◌, List, [], ◌++◌, length, reverse, codes, decimal}
-use Rattle.std.specs.List.{flat_map, position_or_len}
+use Rattle.std.specs.Prelude.{ℕ, ◌+◌, ◌==◌, List, [], ◌∷◌, ◌++◌, length, reverse, codes, decimal}
+use Rattle.std.specs.List.{flat_map, join_by, position_or_len}
 use Rattle.json.specs.Print.{quoted}
 use Rattle.lamport_clock.specs.Stamps.{stamp_text}
 use Rattle.lamport_clock.specs.declared.stamp.Lamport.{Lamport}
@@ -12,12 +12,20 @@ use Rattle.op_model.specs.declared.faults.UndoFault.{UndoFault}
 use Rattle.op_model.specs.declared.faults.UndoFault.TheVariants as undo
 use Rattle.op_model.specs.declared.faults.OpFault.{OpFault}
 use Rattle.op_model.specs.declared.faults.OpFault.TheVariants as taken
-use Rattle.session_lines.specs.Session.{operation_count}
+use Rattle.session_lines.specs.Session.{operation_count, query_count}
 use Rattle.session_lines.specs.declared.session.Session.{Session}
 use Rattle.session_lines.specs.declared.report.Given.{Given}
 use Rattle.session_lines.specs.declared.report.Given.TheVariants as given
+use Rattle.session_lines.specs.declared.report.FindAnswer.{FindAnswer}
+use Rattle.session_lines.specs.declared.report.FindAnswer.TheVariants.{Starts, EmptyNeedle}
+use Rattle.session_lines.specs.declared.report.PointAnswer.{PointAnswer}
+use Rattle.session_lines.specs.declared.report.PointAnswer.TheVariants as point
+use Rattle.session_lines.specs.declared.report.OffsetAnswer.{OffsetAnswer}
+use Rattle.session_lines.specs.declared.report.OffsetAnswer.TheVariants as offset
+use Rattle.session_lines.specs.declared.report.QueryAnswer.{QueryAnswer}
+use Rattle.session_lines.specs.declared.report.QueryAnswer.TheVariants as query
 use Rattle.session_lines.specs.declared.report.Report.{Report}
-use Rattle.session_lines.specs.declared.report.Report.TheVariants.{Made, EditRefused, UndoRefused, Unnamed, Settled, Give, Text, Replica, Refused, Final, Checked}
+use Rattle.session_lines.specs.declared.report.Report.TheVariants.{Made, EditRefused, UndoRefused, Unnamed, Settled, Give, Text, Query, Replica, Refused, Final, Checked}
 
 -- ---- positions
 
@@ -100,6 +108,50 @@ given_words (given.Fault e) = op_fault_words e
 unfoldable pub give_line : ℕ → ℕ → Given → List ℕ
 give_line n r answer = codes "give " ++ (decimal n ++ (codes " to " ++ (decimal r ++ (codes ": " ++ (given_words answer ++ codes "\n")))))
 
+-- ---- answers to queries
+
+-- the places with one space between them
+abbrev pub starts_words : List ℕ → List ℕ
+starts_words [] = codes "none"
+starts_words (n ∷ ns) = join_by decimal (codes " ") (n ∷ ns)
+
+abbrev pub find_words : FindAnswer → List ℕ
+find_words (Starts ns) = starts_words ns
+find_words EmptyNeedle = codes "empty needle"
+
+-- a row and a column
+abbrev pub place_words : ℕ → ℕ → List ℕ
+place_words row column = decimal row ++ (codes ":" ++ decimal column)
+
+-- none, and where a position is clipped to
+abbrev pub clips_words : List ℕ → List ℕ → List ℕ
+clips_words left right = codes "none " ++ (left ++ (codes " " ++ right))
+
+-- the point, the UTF-16 offset and the UTF-16 point
+abbrev pub point_words : PointAnswer → List ℕ
+point_words (point.Place p u q) = place_words p.row p.column ++ (codes " " ++ (decimal u.0 ++ (codes " " ++ place_words q.row q.column)))
+point_words (point.Clips left right) = clips_words (decimal left) (decimal right)
+
+abbrev pub offset_words : OffsetAnswer → List ℕ
+offset_words (offset.Place o) = decimal o
+offset_words (offset.Clips left right) = clips_words (place_words left.row left.column) (place_words right.row right.column)
+
+abbrev pub query_word : QueryAnswer → List ℕ
+query_word (query.Find a) = codes "find"
+query_word (query.Point a) = codes "point"
+query_word (query.Offset a) = codes "offset"
+
+abbrev pub query_words : QueryAnswer → List ℕ
+query_words (query.Find a) = find_words a
+query_words (query.Point a) = point_words a
+query_words (query.Offset a) = offset_words a
+
+-- query q, which was answered on n operations
+unfoldable pub query_line : ℕ → ℕ → QueryAnswer → List ℕ
+query_line q n a = query_word a ++ (codes " " ++ (decimal q ++ (codes " at " ++ (decimal n ++ (codes ": " ++ (query_words a ++ codes "\n"))))))
+
+-- ---- replicas at the end
+
 abbrev pub counts_words : ℕ → ℕ → ℕ → ℕ → List ℕ
 counts_words r bytes rows applied = codes "replica " ++ (decimal r ++ (codes ": " ++ (decimal bytes ++ (codes " bytes, " ++ (decimal rows ++ (codes " rows, " ++ (decimal applied ++ codes " applied, ")))))))
 
@@ -132,6 +184,7 @@ line_text (Unnamed n named) = unnamed_line n named
 line_text (Settled r count) = settled_line r count
 line_text (Give n r answer) = give_line n r answer
 line_text (Text r bytes row column rows text) = text_line r bytes row column rows text
+line_text (Query q n answer) = query_line q n answer
 line_text (Replica r bytes rows applied waiting refused) = replica_line r bytes rows applied waiting refused
 line_text (Refused r t e) = refused_op_line r t e
 line_text (Final r text) = final_line r text
@@ -143,6 +196,6 @@ report_text rs = flat_map line_text rs
 
 -- ---- what is counted of a session
 
--- all its lines, the header too; ids; operation lines; queries, of which there are none
+-- all its lines, the header too; ids; operation lines; queries
 abbrev pub checked : Session → Report
-checked s = Checked (1 + length s.lines) (length s.replicas) (operation_count s.lines) 0
+checked s = Checked (1 + length s.lines) (length s.replicas) (operation_count s.lines) (query_count s.lines)

@@ -10,7 +10,7 @@ use Rattle.session_lines.specs.Parts.{is_among}
 use Rattle.session_lines.specs.Heading.{headed, are_replicas}
 use Rattle.session_lines.specs.declared.header.Header.{Header}
 use Rattle.session_lines.specs.declared.session.SessionLine.{SessionLine}
-use Rattle.session_lines.specs.declared.session.SessionLine.TheVariants.{Edit, Undo, Op, Uop, Give, Text}
+use Rattle.session_lines.specs.declared.session.SessionLine.TheVariants.{Edit, Undo, Op, Uop, Give, Text, Find, Point, Offset}
 use Rattle.session_lines.specs.declared.session.Session.{Session}
 use Rattle.session_lines.specs.declared.fault.Word.{Word}
 use Rattle.session_lines.specs.declared.fault.Word.TheVariants as word
@@ -41,10 +41,30 @@ is_operation (Op e) = true
 is_operation (Uop u) = true
 is_operation (Give r n) = false
 is_operation (Text r) = false
+is_operation (Find r t) = false
+is_operation (Point r o) = false
+is_operation (Offset r k c) = false
 
 -- how many of the lines are operation lines
 abbrev pub operation_count : List SessionLine → ℕ
 operation_count ls = count_by is_operation ls
+
+-- ---- queries, which are numbered from 1 in their order, apart from operation lines
+
+abbrev pub is_query : SessionLine → Bool
+is_query (Edit r ps) = false
+is_query (Undo r ns) = false
+is_query (Op e) = false
+is_query (Uop u) = false
+is_query (Give r n) = false
+is_query (Text r) = false
+is_query (Find r t) = true
+is_query (Point r o) = true
+is_query (Offset r k c) = true
+
+-- how many of the lines are queries
+abbrev pub query_count : List SessionLine → ℕ
+query_count ls = count_by is_query ls
 
 -- ---- a line behind others
 
@@ -56,6 +76,9 @@ is_known ids (Op e) = true
 is_known ids (Uop u) = true
 is_known ids (Give r n) = is_among ids r
 is_known ids (Text r) = is_among ids r
+is_known ids (Find r t) = is_among ids r
+is_known ids (Point r o) = is_among ids r
+is_known ids (Offset r k c) = is_among ids r
 
 -- n is the number of one of the `count` operation lines before
 abbrev pub is_number_of : ℕ → ℕ → Bool
@@ -69,6 +92,9 @@ is_numbered count (Op e) = true
 is_numbered count (Uop u) = true
 is_numbered count (Give r n) = is_number_of count n
 is_numbered count (Text r) = true
+is_numbered count (Find r t) = true
+is_numbered count (Point r o) = true
+is_numbered count (Offset r k c) = true
 
 -- what is wrong with a line that has the form of one, behind so many operation lines
 abbrev pub word_of : List ℕ → ℕ → SessionLine → Option Word

@@ -39,6 +39,9 @@ fn is_known(replicas: &[u16], line: &SessionLine) -> bool
         SessionLine::Uop(_) => true,
         SessionLine::Give { replica, .. } => replicas.contains(replica),
         SessionLine::Text { replica } => replicas.contains(replica),
+        SessionLine::Find { replica, .. } => replicas.contains(replica),
+        SessionLine::Point { replica, .. } => replicas.contains(replica),
+        SessionLine::Offset { replica, .. } => replicas.contains(replica),
     }
 }
 
@@ -66,6 +69,9 @@ fn is_numbered(operations: u64, line: &SessionLine) -> bool
         SessionLine::Uop(_) => true,
         SessionLine::Give { number, .. } => is_number_of(operations, *number),
         SessionLine::Text { .. } => true,
+        SessionLine::Find { .. } => true,
+        SessionLine::Point { .. } => true,
+        SessionLine::Offset { .. } => true,
     }
 }
 

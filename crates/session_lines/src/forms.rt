@@ -2,12 +2,12 @@
 ghost use Rattle.std.specs.Prelude.{◌≡◌, map, IfOk, None, Some};
 ghost use Rattle.serde_json.specs.View.{view};
 ghost use Rattle.session_lines.specs.Json.{listed};
-ghost use Rattle.session_lines.specs.Forms.{edit_from, undo_from, op_from, uop_from, give_from, text_from, line_from, shaped};
+ghost use Rattle.session_lines.specs.Forms.{edit_from, undo_from, op_from, uop_from, give_from, text_from, find_from, point_from, offset_from, line_from, shaped};
 
 use crate::line_value::{is_text, listed};
 use crate::parts::{counts_of, id_of, numbers_of, pieces_of, stamp_of, version_of};
 use crate::session::SessionLine;
-use op_model::{EditOp, UndoOp};
+use op_model::{EditOp, Text, UndoOp};
 use serde_json::Value;
 use std::alloc::{AllocError, Global};
 
@@ -109,6 +109,49 @@ fn text_from(members: &[Value]) -> Option<SessionLine>
     }
 }
 
+fn find_from(alloc: Global, members: &[Value]) -> Result<Option<SessionLine>, AllocError>
+    ensures { IfOk result (λ l. l ≡ find_from (map view members.now)) }
+{
+    let [replica, needle] = members else {
+        return Ok(None);
+    };
+    match (id_of(replica), needle.as_str()) {
+        (Some(replica), Some(needle)) => Ok(Some(SessionLine::Find {
+            replica,
+            needle: Text::new(String::from_str(alloc, needle)?),
+        })),
+        _ => Ok(None),
+    }
+}
+
+fn point_from(members: &[Value]) -> Option<SessionLine>
+    ensures { result ≡ point_from (map view members.now) }
+{
+    let [replica, offset] = members else {
+        return None;
+    };
+    match (id_of(replica), offset.as_u64()) {
+        (Some(replica), Some(offset)) => Some(SessionLine::Point { replica, offset }),
+        _ => None,
+    }
+}
+
+fn offset_from(members: &[Value]) -> Option<SessionLine>
+    ensures { result ≡ offset_from (map view members.now) }
+{
+    let [replica, row, column] = members else {
+        return None;
+    };
+    match (id_of(replica), row.as_u64(), column.as_u64()) {
+        (Some(replica), Some(row), Some(column)) => Some(SessionLine::Offset {
+            replica,
+            row,
+            column,
+        }),
+        _ => None,
+    }
+}
+
 fn line_from(alloc: Global, members: &[Value]) -> Result<Option<SessionLine>, AllocError>
     ensures { IfOk result (λ l. l ≡ line_from (map view members.now)) }
 {
@@ -132,6 +175,15 @@ fn line_from(alloc: Global, members: &[Value]) -> Result<Option<SessionLine>, Al
     }
     if is_text(word, "text") {
         return Ok(text_from(members));
+    }
+    if is_text(word, "find") {
+        return find_from(alloc, members);
+    }
+    if is_text(word, "point") {
+        return Ok(point_from(members));
+    }
+    if is_text(word, "offset") {
+        return Ok(offset_from(members));
     }
     Ok(None)
 }

@@ -16,6 +16,6 @@ mod text;
 pub use decoding::decode;
 pub use fault::{DecodeFault, Word};
 pub use lamport_clock::OutOfMemory;
-pub use report::{Given, Report};
+pub use report::{FindAnswer, Given, OffsetAnswer, PointAnswer, QueryAnswer, Report};
 pub use session::{Ids, Numbers, Session, SessionLine, SessionLines};
 pub use text::write_line;

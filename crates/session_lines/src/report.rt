@@ -2,9 +2,10 @@
 ghost use Rattle.std.specs.Prelude.{◌≡◌};
 ghost use Rattle.session_lines.specs.Report.{checked};
 
-use crate::session::Session;
+use crate::session::{Numbers, Session};
 use lamport_clock::Lamport;
 use op_model::{EditFault, OpFault, Text, UndoFault};
+use text_dims::{OffsetUtf16, Point, PointUtf16};
 
 /// What a replica answers to an operation that it is given.
 #[derive(Clone, Copy, Debug, PartialEq, Eq)]
@@ -19,6 +20,48 @@ pub enum Given {
     Nothing,
     /// `FAULT`: it was refused.
     Fault(OpFault),
+}
+
+/// Where a needle stands in a text.
+#[derive(Drop)]
+pub enum FindAnswer {
+    /// `S S ..`: at these byte offsets; `none`, where there are none.
+    Starts(Numbers),
+    /// `empty needle`: no places are told of an empty needle.
+    EmptyNeedle,
+}
+
+/// Which point of a text is at a byte offset.
+#[derive(Clone, Copy, Debug, PartialEq, Eq)]
+pub enum PointAnswer {
+    /// `ROW:COLUMN U ROW:UCOLUMN`: the point, the offset in UTF-16 units, and the point in UTF-16 units.
+    Place {
+        point: Point,
+        utf16: OffsetUtf16,
+        point_utf16: PointUtf16,
+    },
+    /// `none A B`: the offset is no position of the text; clipped Left and Right it is A and B.
+    Clips {
+        left: u64,
+        right: u64,
+    },
+}
+
+/// Which byte offset of a text is at a point.
+#[derive(Clone, Copy, Debug, PartialEq, Eq)]
+pub enum OffsetAnswer {
+    /// `O`: the byte offset.
+    Place { offset: u64 },
+    /// `none ROW:COLUMN ROW:COLUMN`: the point is no position of the text; clipped Left and Right it is these.
+    Clips { left: Point, right: Point },
+}
+
+/// What a query is answered.
+#[derive(Drop)]
+pub enum QueryAnswer {
+    Find(FindAnswer),
+    Point(PointAnswer),
+    Offset(OffsetAnswer),
 }
 
 /// A line of a report, with what it prints.
@@ -64,6 +107,12 @@ pub enum Report {
         rows: u64,
         text: Text,
     },
+    /// `WORD Q at N: ANSWER`: query Q, which has the word, is answered on what N operations come to, the base not counted.
+    Query {
+        number: u64,
+        applied: u64,
+        answer: QueryAnswer,
+    },
     /// `replica R: B bytes, K rows, A applied, W waiting, F refused`: what replica R holds at the end.
     Replica {
         replica: u16,
@@ -103,7 +152,7 @@ impl Report {
             lines: 1 + session.lines.as_slice().len() as u64,
             replicas: session.replicas.as_slice().len() as u64,
             operations: session.operation_count(),
-            queries: 0,
+            queries: session.query_count(),
         }
     }
 }

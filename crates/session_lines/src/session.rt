@@ -1,6 +1,6 @@
 // A session, as it is read.
 ghost use Rattle.std.specs.Prelude.{◌≡◌};
-ghost use Rattle.session_lines.specs.Session.{is_operation, operation_count};
+ghost use Rattle.session_lines.specs.Session.{is_operation, is_query, operation_count, query_count};
 
 use op_model::{EditOp, Pieces, Text, UndoOp};
 use std::marker::Model;
@@ -22,6 +22,12 @@ pub enum SessionLine {
     Give { replica: u16, number: u64 },
     /// `["text",r]`: the text of replica r is shown.
     Text { replica: u16 },
+    /// `["find",r,"needle"]`: asks where the needle stands in the text of replica r.
+    Find { replica: u16, needle: Text },
+    /// `["point",r,o]`: asks for the point of the byte offset o in the text of replica r.
+    Point { replica: u16, offset: u64 },
+    /// `["offset",r,row,column]`: asks for the byte offset of the point in the text of replica r, its column in bytes.
+    Offset { replica: u16, row: u64, column: u64 },
 }
 
 impl SessionLine {
@@ -36,6 +42,26 @@ impl SessionLine {
             SessionLine::Uop(_) => true,
             SessionLine::Give { .. } => false,
             SessionLine::Text { .. } => false,
+            SessionLine::Find { .. } => false,
+            SessionLine::Point { .. } => false,
+            SessionLine::Offset { .. } => false,
+        }
+    }
+
+    /// Whether it is a query. These are numbered from 1 in their order, apart from operation lines.
+    pub fn is_query(&self) -> bool
+        ensures { result ≡ is_query self.now }
+    {
+        match self {
+            SessionLine::Edit { .. } => false,
+            SessionLine::Undo { .. } => false,
+            SessionLine::Op(_) => false,
+            SessionLine::Uop(_) => false,
+            SessionLine::Give { .. } => false,
+            SessionLine::Text { .. } => false,
+            SessionLine::Find { .. } => true,
+            SessionLine::Point { .. } => true,
+            SessionLine::Offset { .. } => true,
         }
     }
 }
@@ -99,7 +125,7 @@ impl Ids {
     }
 }
 
-/// The numbers of operation lines, seen as their list.
+/// Numbers, as those of operation lines or the places of a text, seen as their list.
 #[derive(Drop)]
 pub struct Numbers {
     inner: Vec<u64>,
@@ -150,6 +176,18 @@ impl Session {
         let mut count = 0;
         for line in lines {
             count += line.is_operation() as u64;
+        }
+        count
+    }
+
+    /// How many queries there are. Linear in the lines.
+    pub fn query_count(&self) -> u64
+        ensures { result ≡ query_count self.now.lines }
+    {
+        let lines = self.lines.as_slice();
+        let mut count = 0;
+        for line in lines {
+            count += line.is_query() as u64;
         }
         count
     }

@@ -1,9 +1,9 @@
 // The text of a report's line.
 ghost use Rattle.std.specs.Prelude.{◌≡◌, ◌++◌, string_bytes, OnOk, OnErr, IfOk};
 ghost use Rattle.json.specs.Print.{quoted};
-ghost use Rattle.session_lines.specs.Report.{made_line, settled_line, given_words, give_line, end_words, rows_words, text_line, counts_words, waits_words, replica_line, final_line, final_line_with, fault_words, op_fault_words, undo_fault_words, refused_line, refused_undo_line, unnamed_line, refused_op_line, checked_line, line_text};
+ghost use Rattle.session_lines.specs.Report.{made_line, settled_line, given_words, give_line, end_words, rows_words, text_line, starts_words, find_words, place_words, clips_words, point_words, offset_words, query_word, query_words, query_line, counts_words, waits_words, replica_line, final_line, final_line_with, fault_words, op_fault_words, undo_fault_words, refused_line, refused_undo_line, unnamed_line, refused_op_line, checked_line, line_text};
 
-use crate::report::{Given, Report};
+use crate::report::{FindAnswer, Given, OffsetAnswer, PointAnswer, QueryAnswer, Report};
 use lamport_clock::Lamport;
 use op_model::{EditFault, OpFault, Text, UndoFault, Unit};
 use serde_json::Value;
@@ -172,6 +172,106 @@ fn push_text(
     push_rows(alloc, out, rows, text.as_str())
 }
 
+fn starts_text(alloc: Global, starts: &[u64]) -> Result<String, AllocError>
+    ensures { IfOk result (λ s. string_bytes s ≡ starts_words starts.now) }
+{
+    let [first, others @ ..] = starts else {
+        return String::from_str(alloc, "none");
+    };
+    let mut text = format!(in alloc; "{first}")?;
+    for start in others {
+        write!(text, " {start}")?;
+    }
+    Ok(text)
+}
+
+fn find_text(alloc: Global, answer: &FindAnswer) -> Result<String, AllocError>
+    ensures { IfOk result (λ s. string_bytes s ≡ find_words answer.now) }
+{
+    match answer {
+        FindAnswer::Starts(starts) => starts_text(alloc, starts.as_slice()),
+        FindAnswer::EmptyNeedle => String::from_str(alloc, "empty needle"),
+    }
+}
+
+fn place_text(alloc: Global, row: u64, column: u64) -> Result<String, AllocError>
+    ensures { IfOk result (λ s. string_bytes s ≡ place_words row column) }
+{
+    format!(in alloc; "{row}:{column}")
+}
+
+fn clips_text(alloc: Global, left: &str, right: &str) -> Result<String, AllocError>
+    ensures { IfOk result (λ s. string_bytes s ≡ clips_words left.now right.now) }
+{
+    format!(in alloc; "none {left} {right}")
+}
+
+fn point_text(alloc: Global, answer: PointAnswer) -> Result<String, AllocError>
+    ensures { IfOk result (λ s. string_bytes s ≡ point_words answer) }
+{
+    match answer {
+        PointAnswer::Place {
+            point,
+            utf16,
+            point_utf16,
+        } => {
+            let place = place_text(alloc, point.row, point.column)?;
+            let units = utf16.0;
+            let place_utf16 = place_text(alloc, point_utf16.row, point_utf16.column)?;
+            format!(in alloc; "{place} {units} {place_utf16}")
+        }
+        PointAnswer::Clips { left, right } => format!(in alloc; "none {left} {right}"),
+    }
+}
+
+fn offset_text(alloc: Global, answer: OffsetAnswer) -> Result<String, AllocError>
+    ensures { IfOk result (λ s. string_bytes s ≡ offset_words answer) }
+{
+    match answer {
+        OffsetAnswer::Place { offset } => format!(in alloc; "{offset}"),
+        OffsetAnswer::Clips { left, right } => {
+            let left = place_text(alloc, left.row, left.column)?;
+            let right = place_text(alloc, right.row, right.column)?;
+            clips_text(alloc, left.as_str(), right.as_str())
+        }
+    }
+}
+
+fn query_word(answer: &QueryAnswer) -> &'static str
+    ensures { result.now ≡ query_word answer.now }
+{
+    match answer {
+        QueryAnswer::Find(_) => "find",
+        QueryAnswer::Point(_) => "point",
+        QueryAnswer::Offset(_) => "offset",
+    }
+}
+
+fn query_text(alloc: Global, answer: &QueryAnswer) -> Result<String, AllocError>
+    ensures { IfOk result (λ s. string_bytes s ≡ query_words answer.now) }
+{
+    match answer {
+        QueryAnswer::Find(found) => find_text(alloc, found),
+        QueryAnswer::Point(point) => point_text(alloc, *point),
+        QueryAnswer::Offset(offset) => offset_text(alloc, *offset),
+    }
+}
+
+#[tactic(auto, unfolding(crate::specs::Report::query_line))]
+fn push_query(
+    alloc: Global,
+    out: &mut String,
+    number: u64,
+    applied: u64,
+    answer: &QueryAnswer,
+) -> Result<(), AllocError>
+    ensures { OnOk result (string_bytes out.new ≡ string_bytes out.old ++ query_line number applied answer.now) }
+{
+    let word = query_word(answer);
+    let words = query_text(alloc, answer)?;
+    write!(out, "{word} {number} at {applied}: {words}\n")
+}
+
 #[tactic(auto, unfolding(crate::specs::Report::replica_line))]
 fn push_replica(
     out: &mut String,
@@ -277,6 +377,11 @@ fn push_line(alloc: Global, out: &mut String, line: &Report) -> Result<(), Alloc
             rows,
             text,
         } => push_text(alloc, out, *replica, *bytes, *row, *column, *rows, text),
+        Report::Query {
+            number,
+            applied,
+            answer,
+        } => push_query(alloc, out, *number, *applied, answer),
         Report::Replica {
             replica,
             bytes,

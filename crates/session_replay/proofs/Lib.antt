@@ -2,6 +2,10 @@ pub mod Moved
 pub mod Buffers
 pub mod Ends
 pub mod Steps
+pub mod QueryLines
+pub mod Growth
+pub mod Replies
+pub mod Places
 pub mod OperationLines
 pub mod Replicas
 pub mod Outcome

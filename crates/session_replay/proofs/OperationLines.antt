@@ -1,5 +1,5 @@
 -- An operation line, which is worked at the buffer of its replica, if that is there.
-use Rattle.std.proofs.Common.{◌≡◌, ℕ, ◌+◌, Bool, ◌==◌, List, [], ◌∷◌, ◌++◌, length, get_or, set, Option, None, Some, option_and_then, Result, sym, ap, ◌∙◌}
+use Rattle.std.proofs.Common.{◌≡◌, ℕ, Bool, ◌==◌, List, [], ◌∷◌, ◌++◌, get_or, set, Option, None, Some, option_and_then, Result, sym, ap, ◌∙◌}
 use Rattle.std.specs.Result.{result_ok}
 use Rattle.std.specs.List.{position}
 use Rattle.op_model.specs.declared.operation.Operation.{Operation}

@@ -2,7 +2,7 @@
 use Rattle.std.proofs.Common.{◌≡◌, ℕ, ◌<◌, ◌≤◌, ◌⊎◌, inl, inr, List, length, refl, sym, ap, ◌∙◌, cond, Bool, true, false, nat_lt, arith, Option, Result, Ok, Err}
 use Rattle.std.proofs.lemmas.Bool.{lt-ltb, le-ltb, ltb-true, ltb-false}
 use Rattle.session_lines.specs.Cut.{lines_of}
-use Rattle.session_lines.specs.Session.{decoded}
+use Rattle.session_lines.specs.Session.{decoded, session_of}
 use Rattle.session_lines.specs.Words.{bad_line, many_line}
 use Rattle.session_lines.specs.declared.session.Session.{Session}
 use Rattle.session_lines.specs.declared.fault.Word.{Word}
@@ -31,6 +31,10 @@ session_answer c input s le e = small_answer c input le ∙ ap (answer_with c) e
 
 pub refused_answer : (c : Command) (input : List ℕ) (e : DecodeFault) → length input ≤ 67108864 → decoded input ≡ Err e → answer_of c input ≡ refusal e
 refused_answer c input e le d = small_answer c input le ∙ ap (answer_with c) d
+
+pub many_decoded : (input : List ℕ) → 1048576 < length (lines_of input) → decoded input ≡ Err (Lines (length (lines_of input)))
+unfolding decoded
+many_decoded input h = ap (λ b. cond b (Err (Lines (length (lines_of input)))) (session_of (lines_of input))) (lt-ltb 1048576 (length (lines_of input)) h)
 
 -- ---- what a status tells
 

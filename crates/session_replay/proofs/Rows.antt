@@ -10,9 +10,12 @@ use Rattle.session_lines.specs.Forms.{shaped}
 use Rattle.session_lines.specs.Heading.{headed}
 use Rattle.session_lines.specs.Session.{decoded, header_of, line_of}
 use Rattle.session_lines.specs.Words.{bad_line}
-use Rattle.session_lines.specs.Report.{report_text, line_text, made_line, refused_line, refused_undo_line, unnamed_line, settled_line, give_line, text_line, replica_line, refused_op_line, final_line, checked_line}
+use Rattle.session_lines.specs.Report.{report_text, line_text, made_line, refused_line, refused_undo_line, unnamed_line, settled_line, give_line, text_line, replica_line, refused_op_line, query_line, final_line, checked_line}
+use Rattle.text_dims.specs.Counts.{utf16_count, newline_count, rows, last_row}
+use Rattle.text_dims.specs.Places.{end_place, places}
+use Rattle.snapshot_search.specs.Starts.{starts}
 use Rattle.session_replay.specs.Words.{command_from}
-use Rattle.session_replay.specs.Work.{report_of}
+use Rattle.session_replay.specs.Queries.{report_of}
 use Rattle.session_replay.specs.Replay.{answer_of}
 use Rattle.session_replay.specs.declared.words.Command.TheVariants.{Check, Replay}
 use Rattle.session_replay.specs.declared.top.Status.TheVariants as status
@@ -38,6 +41,26 @@ check_words = refl
 
 pub other_words : command_from (codes "replay" ∷ codes "--workers" ∷ []) ≡ None
 other_words = refl
+
+pub words_of_no_worker : command_from (codes "replay" ∷ codes "--workers" ∷ codes "0" ∷ []) ≡ Some (Replay 0)
+unfolding digits
+words_of_no_worker = refl
+
+pub words_of_all_workers : command_from (codes "replay" ∷ codes "--workers" ∷ codes "16" ∷ []) ≡ Some (Replay 16)
+unfolding digits
+words_of_all_workers = refl
+
+pub words_of_too_many : command_from (codes "replay" ∷ codes "--workers" ∷ codes "17" ∷ []) ≡ None
+unfolding digits
+words_of_too_many = refl
+
+pub words_with_a_leading_zero : command_from (codes "replay" ∷ codes "--workers" ∷ codes "02" ∷ []) ≡ None
+unfolding digits
+words_with_a_leading_zero = refl
+
+pub words_of_a_checked_worker : command_from (codes "check" ∷ codes "--workers" ∷ codes "2" ∷ []) ≡ None
+unfolding digits
+words_of_a_checked_worker = refl
 
 -- ---- sessions and their reports
 
@@ -91,6 +114,17 @@ pub refused_undos : answer_of (Replay 2) (codes "[\"zedbuf\",1,\"ab\",[1,2]]\n[\
     ≡ (status.Done, codes "1: 2.1\n2: nosuchedit 2.1\n3: twice 2.1\n4: nothing 2\n5: 3.2\ngive 5 to 1: applied 1\n6: countend 2.1\nreplica 1: 2 bytes, 1 rows, 2 applied, 0 waiting, 0 refused\nfinal 1: \"ab\"\nreplica 2: 2 bytes, 1 rows, 0 applied, 0 waiting, 0 refused\nfinal 2: \"ab\"\n")
 unfolding answer_of open_histories report_of report_text decoded value_of shaped headed header_of line_of line_text made_line refused_line refused_undo_line unnamed_line settled_line give_line text_line replica_line refused_op_line final_line digits escape_byte is_utf8 chars serde_json_on_literals
 refused_undos = refl
+
+-- queries before an edit and behind it, in an order of their own behind the events
+pub queries_in_order : answer_of (Replay 2) (codes "[\"zedbuf\",1,\"ab\",[1]]\n[\"find\",1,\"a\"]\n[\"edit\",1,[[2,2,\"a\"]]]\n[\"find\",1,\"a\"]\n[\"find\",1,\"c\"]\n[\"find\",1,\"\"]\n")
+    ≡ (status.Done, codes "1: 2.1\nfind 1 at 0: 0\nfind 2 at 1: 0 2\nfind 3 at 1: none\nfind 4 at 1: empty needle\nreplica 1: 3 bytes, 1 rows, 1 applied, 0 waiting, 0 refused\nfinal 1: \"aba\"\n")
+unfolding answer_of open_histories report_of report_text decoded value_of shaped headed header_of line_of line_text made_line query_line replica_line final_line digits escape_byte is_utf8 chars starts serde_json_on_literals
+queries_in_order = refl
+
+pub places_of_queries : answer_of (Replay 0) (codes "[\"zedbuf\",1,\"a\\nbc\",[1]]\n[\"point\",1,3]\n[\"point\",1,5]\n[\"offset\",1,1,1]\n[\"offset\",1,0,9]\n")
+    ≡ (status.Done, codes "point 1 at 0: 1:1 3 1:1\npoint 2 at 0: none 4 4\noffset 3 at 0: 3\noffset 4 at 0: none 0:1 0:1\nreplica 1: 4 bytes, 2 rows, 0 applied, 0 waiting, 0 refused\nfinal 1: \"a\\nbc\"\n")
+unfolding answer_of open_histories report_of report_text decoded value_of shaped headed header_of line_of line_text query_line replica_line final_line digits escape_byte is_utf8 chars places end_place utf16_count newline_count rows last_row serde_json_on_literals
+places_of_queries = refl
 
 pub counted : answer_of Check (codes "[\"zedbuf\",1,\"ab\",[1,2]]\n[\"edit\",1,[[1,1,\"X\"]]]\n[\"edit\",2,[[1,1,\"Y\"]]]\n[\"give\",2,1]\n[\"give\",1,2]\n") ≡ (status.Done, codes "session ok: 5 lines, 2 replicas, 2 operations, 0 queries\n")
 unfolding answer_of decoded value_of shaped headed header_of line_of line_text checked_line digits is_utf8 chars serde_json_on_literals

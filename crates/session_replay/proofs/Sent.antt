@@ -9,13 +9,14 @@ use Rattle.session_lines.specs.Words.{bad_line, many_line}
 use Rattle.session_lines.specs.declared.session.Session.{Session}
 use Rattle.session_lines.specs.declared.fault.Word.{Word}
 use Rattle.session_lines.specs.declared.fault.DecodeFault.{DecodeFault}
-use Rattle.session_lines.specs.declared.fault.DecodeFault.TheVariants.{Bad}
-use Rattle.session_replay.specs.Replay.{answer_of, output_of, large_line, written_for, Does, Answered}
+use Rattle.session_lines.specs.declared.fault.DecodeFault.TheVariants.{Bad, Lines}
+use Rattle.session_replay.specs.Replay.{answer_of, large_line, written_for, Does, IsOutput, Replays, Answered}
 use Rattle.session_replay.specs.declared.words.Command.{Command}
 use Rattle.session_replay.specs.declared.words.Command.TheVariants as command
 use Rattle.session_replay.specs.declared.top.Status.{Status}
 use Rattle.session_replay.specs.declared.top.Status.TheVariants as status
-use Rattle.session_replay.proofs.Outcome.{Told, told, session_answer}
+use Rattle.session_replay.proofs.Outcome.{Told, many_decoded, told, session_answer}
+use Rattle.session_replay.proofs.Replies.{plain_with_workers}
 
 if_had : (left : Option (List ℕ)) (input : List ℕ) (P : List ℕ → Type 0) → Had left input → P input → IfSome left P
 if_had None input P h p = tt
@@ -46,7 +47,7 @@ module _ (c : Command) (left left_after : Option (List ℕ)) (given given_after 
   not_sent d x y z n k = one_of d kept.kinds (same d k n).0 x y z
 
   does : (c : Command) (s : Session) → decoded a.input ≡ Ok s → written_for c s ≡ text → Does c a.input text
-  does (command.Replay workers) s d w = (s, d, sym w)
+  does (command.Replay workers) s d w = subst (λ (out : List ℕ). Replays a.input out workers) w (plain_with_workers a.input s workers d)
   does command.Check s d w = (s, d, sym w)
 
   pub sent_done : r ≡ status.Done → (input : List ℕ) × WasRead left left_after given given_after ends ends_after input
@@ -80,10 +81,18 @@ module _ (c : Command) (left left_after : Option (List ℕ)) (given given_after 
   pub sent_large : r ≡ status.TooLarge → TooLarge
   sent_large k = let s = same status.TooLarge k (λ x. cc) in large_by s.1 (kept.large s.0)
 
-  pub sent_front : (d : Command) → d ≡ c → AppendsFront written written_after shown → (input : List ℕ) × WasTaken left left_after given given_after ends ends_after input × AppendsFront written written_after (output_of d input)
-  sent_front d e f =
-      let same : shown ≡ output_of d a.input = is ∙ sym (ap (λ p. p.1) a.answer) ∙ ap (λ d. output_of d a.input) (sym e) in
-      (a.input, a.taken, subst (AppendsFront written written_after) same f)
+  large_output : ((67108864 < length a.input) × (large_line ≡ text)) ⊎ ((length a.input ≤ 67108864) × (1048576 < length (lines_of a.input)) × (many_line ≡ text)) → IsOutput c a.input text
+  large_output (inl f) = inr (inl (f.0, sym f.1))
+  large_output (inr f) = inr (inr (f.0, (Lines (length (lines_of a.input)), many_decoded a.input f.1, sym f.2)))
+
+  output_by : (st ≡ status.Done) ⊎ ((st ≡ status.Session) ⊎ (st ≡ status.TooLarge)) → IsOutput c a.input text
+  output_by (inl k) = let f = kept.done k in inl (f.0, does c f.1.0 f.1.1 f.1.2)
+  output_by (inr (inl k)) = let f = kept.session k in inr (inr (f.0, (Bad f.1.0 f.1.1, f.1.2, sym f.1.3)))
+  output_by (inr (inr k)) = large_output (kept.large k)
+
+  pub sent_front : (d : Command) → d ≡ c → AppendsFront written written_after shown → (input : List ℕ) × WasTaken left left_after given given_after ends ends_after input
+      × ((output : List ℕ) × IsOutput d input output × AppendsFront written written_after output)
+  sent_front d e f = (a.input, a.taken, (text, subst (λ (d : Command). IsOutput d a.input text) (sym e) (output_by kept.kinds), subst (AppendsFront written written_after) is f))
 
   is_status : (d : Status) (t : List ℕ) → answer_of c a.input ≡ (d, t) → st ≡ d
   is_status d t e = ap (λ p. p.0) (sym a.answer ∙ e)

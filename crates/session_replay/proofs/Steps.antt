@@ -1,5 +1,5 @@
 -- Lines worked one after another.
-use Rattle.std.proofs.Common.{◌≡◌, ℕ, zero, suc, ◌+◌, ◌-◌, ◌<◌, ◌≤◌, List, [], ◌∷◌, ◌++◌, length, drop, get_or, map, Option, None, Some, option_and_then, refl, sym, ap, ◌∙◌, subst, append_assoc, append-nil, add-one}
+use Rattle.std.proofs.Common.{◌≡◌, ℕ, ◌+◌, ◌<◌, ◌≤◌, List, [], ◌∷◌, ◌++◌, length, drop, get_or, map, Option, None, Some, refl, sym, ap, ◌∙◌, append_assoc, append-nil, add-one}
 use Rattle.std.proofs.Math.Seq.{drop-cons}
 use Rattle.std.specs.List.{flat_map}
 use Rattle.std.proofs.lemmas.List.{drop_all}
@@ -10,7 +10,8 @@ use Rattle.session_lines.specs.Report.{line_text, report_text}
 use Rattle.session_lines.specs.declared.report.Report.{Report}
 use Rattle.session_lines.specs.declared.session.SessionLine.{SessionLine}
 use Rattle.session_lines.specs.declared.session.Session.{Session}
-use Rattle.session_replay.specs.Work.{State, reports_at, events, step, all_events, after_all, at_end, opened, opening, report_of}
+use Rattle.session_replay.specs.Work.{State, reports_at, events, step, all_events, after_all, at_end, opened, opening}
+use Rattle.session_replay.specs.Queries.{plain_line, queries_from, queries_of, report_of}
 
 -- ---- texts of reports
 
@@ -25,6 +26,10 @@ text-one r = append-nil (line_text r)
 pub text-none : report_text [] ≡ []
 unfolding report_text
 text-none = refl
+
+-- no line is written
+pub nothing_written : (out : List ℕ) → out ≡ out ++ report_text []
+nothing_written out = sym (append-nil out) ∙ ap (λ t. out ++ t) (sym text-none)
 
 -- what is still to be written, with one more part of it written
 pub written : (rs qs : List Report) (out new all : List ℕ) → out ++ report_text (rs ++ qs) ≡ all → new ≡ out ++ report_text rs → new ++ report_text qs ≡ all
@@ -83,16 +88,42 @@ more_ends bs i d out new all lt e n = written (at_end (get_or bs i d)) (flat_map
 pub ends_done : (bs : List BufferState) (i : ℕ) (out all : List ℕ) → length bs ≤ i → out ++ report_text (flat_map at_end (drop i bs)) ≡ all → out ≡ all
 ends_done bs i out all le e = all_written out all (ap (λ l. out ++ report_text (flat_map at_end l)) (sym (drop_all i bs le)) ∙ e)
 
+-- ---- lines that are written one after another
+
+pub more_lines : (rs : List Report) (i : ℕ) (d : Report) (out new all : List ℕ) → i < length rs → out ++ report_text (drop i rs) ≡ all → new ≡ out ++ line_text (get_or rs i d) → new ++ report_text (drop (i + 1) rs) ≡ all
+more_lines rs i d out new all lt e n =
+    let l : Report = get_or rs i d in
+    written (l ∷ []) (drop (i + 1) rs) out new all (ap (λ l. out ++ report_text l) (sym (behind rs i d lt)) ∙ e) (line_reported l l out new refl n)
+
+pub all_lines : (rs : List Report) (i : ℕ) (out all : List ℕ) → length rs ≤ i → out ++ report_text (drop i rs) ≡ all → out ≡ all
+all_lines rs i out all le e = all_written out all (ap (λ l. out ++ report_text l) (sym (drop_all i rs le)) ∙ e)
+
 -- ---- the whole report
 
-pub whole_report : (s : Session) (bs : List BufferState) (ls : List SessionLine) (ops : List (Option Operation)) (out0 out new : List ℕ) (t : State) → bs ≡ map (opened s.base) s.replicas → ls ≡ s.lines → ops ≡ [] → out0 ≡ []
-    → out ≡ out0 ++ report_text (all_events ls (record { buffers = bs; operations = ops })) → t ≡ after_all ls (record { buffers = bs; operations = ops })
-    → new ≡ out ++ report_text (flat_map at_end t.buffers) → new ≡ report_text (report_of s)
-unfolding report_of
-whole_report s bs ls ops out0 out new t b l z o e f n =
-    let first : State = record { buffers = bs; operations = ops } in
-    let same : first ≡ opening s = same_state bs (map (opened s.base) s.replicas) ops [] b z in
-    let events : out ≡ report_text (all_events s.lines (opening s)) = e ∙ ap (λ x. x ++ report_text (all_events ls first)) o ∙ ap (λ l. report_text (all_events l first)) l ∙ ap (λ u. report_text (all_events s.lines u)) same in
-    let after : t ≡ after_all s.lines (opening s) = f ∙ ap (λ l. after_all l first) l ∙ ap (after_all s.lines) same in
-    n ∙ ap (λ x. x ++ report_text (flat_map at_end t.buffers)) events ∙ ap (λ (u : State). report_text (all_events s.lines (opening s)) ++ report_text (flat_map at_end u.buffers)) after
-    ∙ sym (text-append (all_events s.lines (opening s)) (flat_map at_end (after_all s.lines (opening s)).buffers))
+-- what is written of events, of queries and at the end
+three_parts : (es qs rs : List Report) (mid out new : List ℕ) → mid ≡ report_text es → out ≡ mid ++ report_text qs → new ≡ out ++ report_text rs → new ≡ report_text (es ++ (qs ++ rs))
+three_parts es qs rs mid out new m o n =
+    n ∙ ap (λ x. x ++ report_text rs) (o ∙ ap (λ x. x ++ report_text qs) m) ∙ append_assoc (report_text es) (report_text qs) (report_text rs)
+    ∙ ap (λ x. report_text es ++ x) (sym (text-append qs rs)) ∙ sym (text-append es (qs ++ rs))
+
+module _ (s : Session) (bs : List BufferState) (ls : List SessionLine) (ops : List (Option Operation)) (b : bs ≡ map (opened s.base) s.replicas) (l : ls ≡ s.lines) (z : ops ≡ []) where
+  abbrev first : State
+  first = record { buffers = bs; operations = ops }
+
+  same_first : first ≡ opening s
+  same_first = same_state bs (map (opened s.base) s.replicas) ops [] b z
+
+  all_answers : (old new : List Report) → old ≡ [] → new ≡ old ++ map plain_line (queries_from (length old + 1) ls first) → new ≡ map plain_line (queries_of s)
+  all_answers old new o n =
+      n ∙ ap (λ (rs : List Report). rs ++ map plain_line (queries_from (length rs + 1) ls first)) o
+      ∙ ap (λ l. map plain_line (queries_from 1 l first)) l ∙ ap (λ u. map plain_line (queries_from 1 s.lines u)) same_first
+
+  pub whole_report : (none mid out new : List ℕ) (t : State) (old answers : List Report) → none ≡ [] → old ≡ []
+      → mid ≡ none ++ report_text (all_events ls first) → t ≡ after_all ls first → answers ≡ old ++ map plain_line (queries_from (length old + 1) ls first)
+      → out ≡ mid ++ report_text answers → new ≡ out ++ report_text (flat_map at_end t.buffers) → new ≡ report_text (report_of s)
+  unfolding report_of
+  whole_report none mid out new t old answers z0 o e f a w n =
+      let events : mid ≡ report_text (all_events s.lines (opening s)) = e ∙ ap (λ x. x ++ report_text (all_events ls first)) z0 ∙ ap (λ l. report_text (all_events l first)) l ∙ ap (λ u. report_text (all_events s.lines u)) same_first in
+      let after : t ≡ after_all s.lines (opening s) = f ∙ ap (λ l. after_all l first) l ∙ ap (after_all s.lines) same_first in
+      three_parts (all_events s.lines (opening s)) (map plain_line (queries_of s)) (flat_map at_end (after_all s.lines (opening s)).buffers) mid out new events
+      (w ∙ ap (λ (rs : List Report). mid ++ report_text rs) (all_answers old answers o a)) (n ∙ ap (λ (u : State). out ++ report_text (flat_map at_end u.buffers)) after)

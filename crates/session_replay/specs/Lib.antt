@@ -3,6 +3,8 @@ pub mod Words
 pub mod Traffic
 pub mod Memory
 pub mod Work
+pub mod Queries
 pub mod Held
 pub mod Working
 pub mod Replay
+pub mod Laws

@@ -1,5 +1,5 @@
 -- What an input comes to.
-use Rattle.std.specs.Prelude.{◌≡◌, ℕ, List, length, nat_lt, codes, Option, Result, Ok, Err, if◌then◌else◌}
+use Rattle.std.specs.Prelude.{◌≡◌, ℕ, ◌<◌, ◌≤◌, ◌⊎◌, List, length, map, nat_lt, codes, Option, Result, Ok, Err, if◌then◌else◌}
 use Rattle.session_lines.specs.Report.{checked, line_text, report_text}
 use Rattle.session_lines.specs.Session.{decoded}
 use Rattle.session_lines.specs.Words.{bad_line, many_line}
@@ -7,15 +7,16 @@ use Rattle.session_lines.specs.declared.session.Session.{Session}
 use Rattle.session_lines.specs.declared.fault.DecodeFault.{DecodeFault}
 use Rattle.session_lines.specs.declared.fault.DecodeFault.TheVariants.{Lines, Bad, OutOfMemory}
 use Rattle.session_replay.specs.Traffic.{WasTaken}
-use Rattle.session_replay.specs.Work.{report_of}
+use Rattle.session_replay.specs.Queries.{AreReplies, Reply, end_of, reply_line, report_of, report_with}
 use Rattle.session_replay.specs.declared.words.Command.{Command}
 use Rattle.session_replay.specs.declared.words.Command.TheVariants as command
 use Rattle.session_replay.specs.declared.top.Status.{Status}
 use Rattle.session_replay.specs.declared.top.Status.TheVariants as status
 
--- the input is a session, and the output is its report; without queries the workers have nothing to do
+-- the input is a session, and the output is its report with some replies to its queries that so many workers may give
 abbrev pub Replays : List ℕ → List ℕ → ℕ → Type 0
-Replays input output workers = (s : Session) × (decoded input ≡ Ok s) × (output ≡ report_text (report_of s))
+Replays input output workers = (s : Session) × (decoded input ≡ Ok s)
+    × ((ps : List Reply) × AreReplies s workers ps × (output ≡ report_text (report_with s (map (reply_line (end_of s)) ps))))
 
 -- the input is a session, and the output is the line with what is counted of it
 abbrev pub Checks : List ℕ → List ℕ → Type 0
@@ -34,7 +35,7 @@ usage_line = codes "usage: zedbuf replay [--workers N] | check | make --seed N -
 abbrev pub large_line : List ℕ
 large_line = codes "too large: bytes\n"
 
--- ---- the answer to an input: the status and the output
+-- ---- the plain answer to an input: the status and the output, each query of a session being answered on the spot
 
 -- want of memory is no part of what an input is
 abbrev pub refusal : DecodeFault → Status × List ℕ
@@ -54,12 +55,21 @@ answer_with c (Err e) = refusal e
 unfoldable pub answer_of : Command → List ℕ → Status × List ℕ
 answer_of c input = if nat_lt 67108864 (length input) then (status.TooLarge, large_line) else answer_with c (decoded input)
 
-abbrev pub output_of : Command → List ℕ → List ℕ
-output_of c input = (answer_of c input).1
+-- ---- what may be written for an input
+
+-- the input is no session, and the output is the line that says why
+abbrev pub Refuses : List ℕ → List ℕ → Type 0
+Refuses input output =
+    ((67108864 < length input) × (output ≡ large_line))
+    ⊎ ((length input ≤ 67108864) × ((e : DecodeFault) × (decoded input ≡ Err e) × (output ≡ (refusal e).1)))
+
+-- the output is one for the input: what the command makes of a session, or the line that refuses what is none
+abbrev pub IsOutput : Command → List ℕ → List ℕ → Type 0
+IsOutput c input output = ((length input ≤ 67108864) × Does c input output) ⊎ Refuses input output
 
 -- ---- for private clauses
 
--- the status and the text that answer what a source had left
+-- the status and the text that plainly answer what a source had left
 pub record Answered (c : Command) (left left_after : Option (List ℕ)) (given given_after ends ends_after : ℕ) (status : Status) (text : List ℕ) : Type 0 where
   pub input : List ℕ
   pub taken : WasTaken left left_after given given_after ends ends_after input

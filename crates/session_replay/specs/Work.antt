@@ -126,7 +126,8 @@ reports_at f (Some b) = f b
 abbrev pub line_events : ℕ → (BufferState → Result Operation Report) → State → List Report
 line_events r f s = reports_at (λ b. outcome_reports (next_number s) (f b) b) (buffer_of r s.buffers)
 
--- what the line reports; a replica that is not there reports nothing, and no session has a line of one
+-- what the line reports as an event, which a query does not; a replica that is not there reports nothing, and no session has a
+-- line of one
 abbrev pub events : SessionLine → State → List Report
 events (line.Edit r ps) s = line_events r (edit_outcome (next_number s) ps) s
 events (line.Undo r ms) s = line_events r (undo_outcome (next_number s) s.operations ms) s
@@ -134,6 +135,9 @@ events (line.Op e) s = report.Made (next_number s) e.stamp ∷ []
 events (line.Uop u) s = report.Made (next_number s) u.stamp ∷ []
 events (line.Give r n) s = reports_at (λ b. report.Give n r (give_answer (operation_of n s.operations) b) ∷ []) (buffer_of r s.buffers)
 events (line.Text r) s = reports_at (λ b. text_report b ∷ []) (buffer_of r s.buffers)
+events (line.Find r needle) s = []
+events (line.Point r o) s = []
+events (line.Offset r row column) s = []
 
 -- the session with these buffers after one more operation line, and with what stands under its number
 abbrev pub numbered : List BufferState → Option Operation → State → State
@@ -151,6 +155,9 @@ step (line.Op e) s = numbered s.buffers (Some (operation.Edit e)) s
 step (line.Uop u) s = numbered s.buffers (Some (operation.Undo u)) s
 step (line.Give r n) s = record { buffers = with_buffer r (after_give (operation_of n s.operations)) s.buffers; operations = s.operations }
 step (line.Text r) s = s
+step (line.Find r needle) s = s
+step (line.Point r o) s = s
+step (line.Offset r row column) s = s
 
 -- ---- all lines
 
@@ -181,7 +188,3 @@ opened base r = over_base r base (record { bytes = 2 ^ 40; entries = 2 ^ 40 - 1 
 
 abbrev pub opening : Session → State
 opening s = record { buffers = map (opened s.base) s.replicas; operations = [] }
-
--- the report: the lines of the events, then those of the replicas in the header's order
-unfoldable pub report_of : Session → List Report
-report_of s = all_events s.lines (opening s) ++ flat_map at_end (after_all s.lines (opening s)).buffers

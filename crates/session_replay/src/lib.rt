@@ -5,8 +5,10 @@
 #![tactic(auto)]
 
 mod counts;
+mod laws;
 mod memory;
 mod outside;
+mod queries;
 mod replay;
 mod replica;
 mod top;
@@ -14,6 +16,7 @@ mod traffic;
 mod words;
 
 pub use counts::ReadCounts;
+pub use laws::{plain_with_workers, plain_without_queries, plain_without_workers};
 pub use memory::{MemSink, MemSource, SureSink, SureSource};
 pub use outside::{Failed, Gate, Sink, Source};
 pub use top::{Status, run};

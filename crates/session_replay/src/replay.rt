@@ -1,6 +1,6 @@
 // A session worked line by line, and its report.
 ghost use Rattle.std.specs.Prelude.{◌≡◌, ◌≤◌, ◌+◌, ◌++◌, ◌==◌, [], ◌∷◌, length, map, ℕ, Some, IfOk, OnOk};
-ghost use Rattle.std.specs.Option.{option_copied};
+ghost use Rattle.std.specs.Option.{option_copied, option_map};
 ghost use Rattle.std.specs.List.{All, flat_map, position};
 ghost use Rattle.op_model.specs.Operations.{stamp_of};
 ghost use Rattle.op_model.specs.declared.operation.Operation.TheVariants.{Edit, Undo};
@@ -8,13 +8,16 @@ ghost use Rattle.session_lines.specs.Report.{report_text};
 ghost use Rattle.session_lines.specs.Session.{IsSession};
 ghost use Rattle.session_lines.specs.declared.report.Report.{Report};
 ghost use Rattle.session_lines.specs.declared.session.SessionLine.{SessionLine};
-ghost use Rattle.session_replay.specs.Work.{after_all, all_events, at_end, events, next_number, numbered, opened, report_of, step};
+ghost use Rattle.session_replay.specs.Work.{after_all, all_events, at_end, buffer_of, events, next_number, numbered, opened, step};
+ghost use Rattle.session_replay.specs.Queries.{plain_line, queries_from, query_at, report_of};
 ghost use Rattle.session_replay.specs.Working.{state_of};
+ghost use Rattle.text_buffer.specs.Buffer.{BufferState};
 
 use crate::replica::{Replica, operation_of};
 use op_model::{Counts, EditOp, Operation, Pieces, UndoOp};
 use session_lines::{Numbers, Report, Session, SessionLine, write_line};
 use std::alloc::{AllocError, Global};
+use text_buffer::Snapshot;
 
 /// A session as far as it was worked.
 #[derive(Drop)]
@@ -23,6 +26,7 @@ pub struct Progress {
     replicas: Vec<Replica>,
     /// The operation of each operation line, in their order; `None` where the line was refused.
     operations: Vec<Option<Operation>>,
+    /// The lines of the events.
     report: Vec<u8>,
 }
 
@@ -71,6 +75,16 @@ impl Progress {
         ensures { result ≡ length self.now.operations.items + 1 }
     {
         self.operations.len() as u64 + 1
+    }
+
+    /// What the replica with that id is now, where it is there.
+    pub fn snapshot_of(&self, id: u16) -> Result<Option<Snapshot>, AllocError>
+        ensures { IfOk result (λ s. s ≡ option_map (λ (b : BufferState). b.history) (buffer_of id self.now.replicas.items)) }
+    {
+        let Some(place) = place_of(self.replicas.as_slice(), id) else {
+            return Ok(None);
+        };
+        Ok(Some(self.replicas[place].snapshot()?))
     }
 
     /// Works an edit line.
@@ -154,6 +168,7 @@ impl Progress {
     }
 
     /// Works a line.
+    #[tactic(auto, using(crate::proofs::Steps::nothing_written))]
     fn work_line(&mut self, alloc: Global, line: &SessionLine) -> Result<(), AllocError>
         ensures report { OnOk result (self.new.report.items ≡ self.old.report.items ++ report_text (events line.now (state_of self.old))) }
         ensures state { OnOk result (state_of self.new ≡ step line.now (state_of self.old)) }
@@ -165,21 +180,44 @@ impl Progress {
             SessionLine::Uop(undo) => self.work_operation(alloc, undo_operation(alloc, undo)?)?,
             SessionLine::Give { replica, number } => self.work_give(alloc, *replica, *number)?,
             SessionLine::Text { replica } => self.work_text(alloc, *replica)?,
+            // queries change nothing, and are answered apart
+            SessionLine::Find { .. } => {}
+            SessionLine::Point { .. } => {}
+            SessionLine::Offset { .. } => {}
         }
         Ok(())
     }
 }
 
-/// Works the lines.
+/// Answers the line on the spot, where it is a query.
+fn answer_line(
+    progress: &Progress,
+    alloc: Global,
+    line: &SessionLine,
+    answers: &mut Vec<Report>,
+) -> Result<(), AllocError>
+    ensures { OnOk result (answers.new.items ≡ answers.old.items ++ map plain_line (query_at (length answers.old.items + 1) line.now (state_of progress.now))) }
+{
+    let number = answers.len() as u64 + 1;
+    if let Some(answer) = progress.answer(alloc, number, line)? {
+        answers.push(answer)?;
+    }
+    Ok(())
+}
+
+/// Works the lines, and answers those that are queries.
 fn work_lines(
     progress: &mut Progress,
     alloc: Global,
     lines: &[SessionLine],
+    answers: &mut Vec<Report>,
 ) -> Result<(), AllocError>
     ensures report { OnOk result (progress.new.report.items ≡ progress.old.report.items ++ report_text (all_events lines.now (state_of progress.old))) }
     ensures state { OnOk result (state_of progress.new ≡ after_all lines.now (state_of progress.old)) }
+    ensures answers { OnOk result (answers.new.items ≡ answers.old.items ++ map plain_line (queries_from (length answers.old.items + 1) lines.now (state_of progress.old))) }
 {
     for line in lines {
+        answer_line(progress, alloc, line, answers)?;
         progress.work_line(alloc, line)?;
     }
     Ok(())
@@ -196,6 +234,16 @@ fn replicas_over(alloc: Global, ids: &[u16], base: &str) -> Result<Vec<Replica>,
         replicas.push(Replica::new(alloc, *id, base)?)?;
     }
     Ok(replicas)
+}
+
+/// Writes the lines of all queries.
+fn write_answers(alloc: Global, answers: &[Report], out: &mut Vec<u8>) -> Result<(), AllocError>
+    ensures { OnOk result (out.new.items ≡ out.old.items ++ report_text answers.now) }
+{
+    for answer in answers {
+        write_line(alloc, out, answer)?;
+    }
+    Ok(())
 }
 
 /// What all replicas report at the end.
@@ -218,7 +266,9 @@ pub fn report(alloc: Global, session: &Session) -> Result<Vec<u8>, AllocError>
         operations: Vec::new(alloc),
         report: Vec::new(alloc),
     };
-    work_lines(&mut progress, alloc, session.lines.as_slice())?;
+    let mut answers = Vec::new(alloc);
+    work_lines(&mut progress, alloc, session.lines.as_slice(), &mut answers)?;
+    write_answers(alloc, answers.as_slice(), &mut progress.report)?;
     write_ends(alloc, progress.replicas.as_slice(), &mut progress.report)?;
     Ok(progress.report)
 }

@@ -16,7 +16,7 @@ use op_model::{EditFault, Limits, OpFault, Operation, Pieces, Text, UndoFault};
 use session_lines::{Given, Report, write_line};
 use std::alloc::{AllocError, Global};
 use std::marker::Model;
-use text_buffer::{Buffer, Refused, Took};
+use text_buffer::{Buffer, Refused, Snapshot, Took};
 
 /// The limits of a session's buffers.
 const LIMITS: Limits = Limits {
@@ -162,6 +162,13 @@ impl Replica {
             Err(OpFault::OutOfMemory) => Err(AllocError),
             Err(fault) => Ok(Given::Fault(fault)),
         }
+    }
+
+    /// What it is now.
+    pub fn snapshot(&self) -> Result<Snapshot, AllocError>
+        ensures { IfOk result (λ s. s ≡ self.now.history) }
+    {
+        self.buffer.snapshot()
     }
 
     /// Its text.

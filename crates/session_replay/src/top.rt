@@ -8,7 +8,7 @@ ghost use Rattle.session_lines.specs.Cut.{lines_of};
 ghost use Rattle.session_lines.specs.Session.{IsSession, decoded};
 ghost use Rattle.session_lines.specs.Words.{bad_line, many_line};
 ghost use Rattle.session_lines.specs.Report.{checked, line_text};
-ghost use Rattle.session_replay.specs.Replay.{Answered, Does, answer_of, large_line, output_of, usage_line, written_for};
+ghost use Rattle.session_replay.specs.Replay.{Answered, Does, IsOutput, answer_of, large_line, usage_line, written_for};
 ghost use Rattle.session_lines.specs.declared.session.Session.{Session};
 ghost use Rattle.session_lines.specs.declared.fault.Word.{Word};
 ghost use Rattle.session_lines.specs.declared.fault.DecodeFault.{DecodeFault};
@@ -73,7 +73,7 @@ fn written(alloc: Global, command: Command, session: &Session) -> Result<Vec<u8>
     ensures { IfOk result (λ v. v.items ≡ written_for command session.now) }
 {
     match command {
-        // There are no queries yet: no worker is started.
+        // No worker is started yet: every query is answered on the spot.
         Command::Replay { workers: _ } => report(alloc, session),
         Command::Check => check(alloc, session),
     }
@@ -178,7 +178,7 @@ pub fn run<R: Threads + Wait + Sync, I: Source, O: Sink, G: Gate>(
     ensures report_front { result ≡ Status.WriteFault → (command : Command) → command_of words.now ≡ Some command
         → (input : List ℕ)
         × WasTaken (I.left src.old) (I.left src.new) (I.given src.old) (I.given src.new) (I.ends src.old) (I.ends src.new) input
-        × AppendsFront (O.written out.old) (O.written out.new) (output_of command input) }
+        × ((output : List ℕ) × IsOutput command input output × AppendsFront (O.written out.old) (O.written out.new) output) }
 
     // Memory is free, and nothing was written.
     ensures memory { result ≡ Status.Memory → out.new ≡ out.old }
@@ -196,7 +196,7 @@ pub fn run<R: Threads + Wait + Sync, I: Source, O: Sink, G: Gate>(
     let Some(command) = command_of(words) else {
         return send(out, USAGE.as_bytes(), Status::Usage);
     };
-    // There are no queries yet: the gate is not called.
+    // No worker is started yet: the gate is not called.
     let _ = rt;
     let _ = gate;
     match answer_source(alloc, command, src) {

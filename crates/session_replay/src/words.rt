@@ -1,6 +1,12 @@
 // The words of the command line.
-ghost use Rattle.std.specs.Prelude.{◌≡◌};
-ghost use Rattle.session_replay.specs.Words.{command_of, command_with};
+ghost use Rattle.std.specs.Prelude.{◌≡◌, decimal, nat_eq};
+ghost use Rattle.std.specs.Cmp.Lexicographic.{pointwise};
+ghost use Rattle.session_replay.specs.Words.{command_of, command_with, replay_with, workers_of};
+
+use itoa::Buffer;
+
+/// The most workers.
+const MOST_WORKERS: u32 = 16;
 
 /// What the words ask for.
 #[derive(Clone, Copy, Debug, PartialEq, Eq)]
@@ -17,6 +23,7 @@ pub fn command_of(words: &[String]) -> Option<Command>
 {
     match words {
         [word] => command_with(word.as_str()),
+        [word, option, number] => replay_with(word.as_str(), option.as_str(), number.as_str()),
         _ => None,
     }
 }
@@ -31,4 +38,29 @@ fn command_with(word: &str) -> Option<Command>
     } else {
         None
     }
+}
+
+fn replay_with(word: &str, option: &str, number: &str) -> Option<Command>
+    ensures { result ≡ replay_with word.now option.now number.now }
+{
+    if word == "replay" && option == "--workers" {
+        let workers = workers_of(number)?;
+        Some(Command::Replay { workers })
+    } else {
+        None
+    }
+}
+
+// The number of workers that the word is, in decimal digits without leading zeros.
+fn workers_of(word: &str) -> Option<u32>
+    ensures { result ≡ workers_of word.now }
+{
+    (0..MOST_WORKERS + 1).find(|n| is_number(word, *n))
+}
+
+fn is_number(word: &str, n: u32) -> bool
+    ensures { result ≡ pointwise nat_eq word.now (decimal n) }
+{
+    let mut buffer = Buffer::new();
+    word == buffer.format(n)
 }

@@ -49,8 +49,18 @@ const NO_COMMANDS: &[&[&str]] = &[
     &["--version"],
     &["Replay"],
     &["replay", "replay"],
-    &["replay", "--workers", "2"],
+    &["replay", "--workers"],
+    &["replay", "--workers=2"],
     &["replay", "--workers", "17"],
+    &["replay", "--workers", "02"],
+    &["replay", "--workers", ""],
+    &["replay", "--workers", "+2"],
+    &["replay", "--workers", "2 "],
+    &["replay", "--workers", "two"],
+    &["replay", "--workers", "2", "2"],
+    &["replay", "--Workers", "2"],
+    &["--workers", "2", "replay"],
+    &["check", "--workers", "2"],
 ];
 
 #[test]

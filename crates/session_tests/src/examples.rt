@@ -160,6 +160,41 @@ final 2: "one three\n"
 "#,
     ),
     (
+        "queries",
+        r#"["zedbuf",1,"to do: tea 😀\ntea again\n",[1,2]]
+["find",1,"tea"]
+["point",1,16]
+["point",1,13]
+["edit",1,[[7,10,"coffee"]]]
+["find",1,"tea"]
+["find",2,"tea"]
+["give",2,1]
+["find",2,"tea"]
+["offset",2,1,4]
+["offset",2,0,99]
+["find",2,"e"]
+["find",2,""]
+"#,
+        Status::Done,
+        r#"1: 2.1
+give 1 to 2: applied 1
+find 1 at 0: 7 16
+point 2 at 0: 1:0 14 1:0
+point 3 at 0: none 11 15
+find 4 at 1: 19
+find 5 at 0: 7 16
+find 6 at 1: 19
+offset 7 at 1: 23
+offset 8 at 1: none 0:18 0:18
+find 9 at 1: 11 12 20
+find 10 at 1: empty needle
+replica 1: 29 bytes, 3 rows, 1 applied, 0 waiting, 0 refused
+final 1: "to do: coffee 😀\ntea again\n"
+replica 2: 29 bytes, 3 rows, 1 applied, 0 waiting, 0 refused
+final 2: "to do: coffee 😀\ntea again\n"
+"#,
+    ),
+    (
         "broken",
         r#"["zedbuf",1,"ab",[1]]
 ["text",1]

@@ -20,6 +20,9 @@ fn name_of(line: &SessionLine) -> &'static str {
         SessionLine::Uop(_) => "uop",
         SessionLine::Give { .. } => "give",
         SessionLine::Text { .. } => "text",
+        SessionLine::Find { .. } => "find",
+        SessionLine::Point { .. } => "point",
+        SessionLine::Offset { .. } => "offset",
     }
 }
 
@@ -57,6 +60,18 @@ const SESSIONS: &[(&str, &[u16], &[&str])] = &[
 "#,
         &[1, 2],
         &["undo", "uop", "undo", "give"],
+    ),
+    (
+        r#"["zedbuf",1,"ab",[1,2]]
+["find",2,""]
+["point",1,18446744073709551615]
+["offset",2,18446744073709551615,0]
+["edit",1,[]]
+["find",1,"\ud83d\ude00"]
+["give",2,1]
+"#,
+        &[1, 2],
+        &["find", "point", "offset", "edit", "find", "give"],
     ),
 ];
 
@@ -244,6 +259,18 @@ const BAD_LINES: &[(Word, &[&str])] = &[
             r#"["give",65536,1]"#,
             r#"["give",1,18446744073709551616]"#,
             r#"["give",3,0.0]"#,
+            r#"["find",1]"#,
+            r#"["find",1,7]"#,
+            r#"["find",1,"a",0]"#,
+            r#"["find",3,null]"#,
+            r#"["point",1]"#,
+            r#"["point",1,-1]"#,
+            r#"["point",1,"1"]"#,
+            r#"["point",65536,0]"#,
+            r#"["offset",1,0]"#,
+            r#"["offset",1,0,0,0]"#,
+            r#"["offset",1,0.0,0]"#,
+            r#"["offset",1,0,18446744073709551616]"#,
         ],
     ),
     (
@@ -257,6 +284,9 @@ const BAD_LINES: &[(Word, &[&str])] = &[
             r#"["undo",3,[]]"#,
             r#"["give",3,0]"#,
             r#"["give",3,1]"#,
+            r#"["find",3,""]"#,
+            r#"["point",0,0]"#,
+            r#"["offset",65535,0,0]"#,
         ],
     ),
     (
@@ -307,6 +337,8 @@ const TEXT: &str = r#"["text",1]"#;
 
 const UNDO: &str = r#"["undo",1,[]]"#;
 
+const FIND: &str = r#"["find",1,""]"#;
+
 const UOP: &str = r#"["uop",[2,9],[],[]]"#;
 
 // Two lines, the number that a line behind them names, and the bad line of the session.
@@ -326,6 +358,8 @@ const NUMBERS: &[Numbered] = &[
     (EDIT, OP, 2, 5),
     (OP, EDIT, 1, 5),
     (OP, OP, 3, 4),
+    (FIND, EDIT, 1, 5),
+    (FIND, EDIT, 2, 4),
 ];
 
 fn is_bad_there(alloc: Global, row: &Numbered) -> Result<bool, AllocError> {

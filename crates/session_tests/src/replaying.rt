@@ -37,9 +37,21 @@ pub fn comes_to<R: Threads + Wait + Sync>(
     want: Status,
     output: &str,
 ) -> Result<bool, AllocError> {
+    come_to(rt, alloc, &[command], input, want, output)
+}
+
+// Whether these words on the input, 8 bytes a call, end with this status, and write this.
+pub fn come_to<R: Threads + Wait + Sync>(
+    rt: &R,
+    alloc: Global,
+    words: &[&str],
+    input: &str,
+    want: Status,
+    output: &str,
+) -> Result<bool, AllocError> {
     let mut source = MemSource::new(input.as_bytes().to_vec(alloc)?, 8, Vec::new(alloc));
     let mut sink = MemSink::new(alloc, 200_000, 8, Vec::new(alloc))?;
-    let status = call(rt, alloc, &[command], &mut source, &mut sink)?;
+    let status = call(rt, alloc, words, &mut source, &mut sink)?;
     Ok(status == want && sink.bytes() == output.as_bytes())
 }
 
@@ -204,6 +216,10 @@ const NO_SESSIONS: &[(&str, &str)] = &[
         "session line 2: shape\n",
     ),
     (
+        "[\"zedbuf\",1,\"ab\",[1,2]]\n[\"find\",1,\"a\"]\n[\"offset\",3,0,0]\n",
+        "session line 3: replica\n",
+    ),
+    (
         "[\"zedbuf\",1,\"ab\",[1,2]]\n[\"point\",1,1.0]\n",
         "session line 2: shape\n",
     ),
@@ -242,6 +258,18 @@ const CHECKED: &[(&str, Status, &str)] = &[
 ["text",9]"#,
         Status::Done,
         "session ok: 5 lines, 3 replicas, 2 operations, 0 queries\n",
+    ),
+    // queries are counted apart from operation lines
+    (
+        r#"["zedbuf",1,"ab",[1,2]]
+["find",1,""]
+["edit",1,[]]
+["point",2,9]
+["offset",1,0,0]
+["give",2,1]
+"#,
+        Status::Done,
+        "session ok: 6 lines, 2 replicas, 1 operations, 3 queries\n",
     ),
     ("", Status::Session, "session line 1: header\n"),
     (

@@ -1,9 +1,12 @@
 //! The lines of reports as they are written.
 use lamport_clock::Lamport;
 use op_model::{EditFault, OpFault, Text, UndoFault, Unit};
-use session_lines::{Given, Report, decode, write_line};
+use session_lines::{
+    FindAnswer, Given, Numbers, OffsetAnswer, PointAnswer, QueryAnswer, Report, decode, write_line,
+};
 use std::alloc::{AllocError, Global};
 use std::test::Fail;
+use text_dims::{OffsetUtf16, Point, PointUtf16};
 
 // Whether the line is written after another text: the line is the front and then what is wanted.
 fn writes(alloc: Global, line: Report, front: &str, want: &str) -> Result<bool, AllocError> {
@@ -187,6 +190,91 @@ fn lines_of_operations(rt: HostRuntime) -> Result<(), Fail> {
     Ok(())
 }
 
+// Places where a needle stands, and how they are written.
+const STARTS: &[(&[u64], &str)] = &[
+    (&[], "none"),
+    (&[7], "7"),
+    (&[127, 128, 129], "127 128 129"),
+    (&[0, 18_446_744_073_709_551_615], "0 18446744073709551615"),
+];
+
+const POINTS: &[(PointAnswer, &str)] = &[
+    (
+        PointAnswer::Place {
+            point: Point { row: 1, column: 2 },
+            utf16: OffsetUtf16(3),
+            point_utf16: PointUtf16 { row: 1, column: 4 },
+        },
+        "1:2 3 1:4",
+    ),
+    (PointAnswer::Clips { left: 2, right: 6 }, "none 2 6"),
+];
+
+const OFFSETS: &[(OffsetAnswer, &str)] = &[
+    (
+        OffsetAnswer::Place {
+            offset: 18_446_744_073_709_551_615,
+        },
+        "18446744073709551615",
+    ),
+    (
+        OffsetAnswer::Clips {
+            left: Point { row: 0, column: 2 },
+            right: Point { row: 3, column: 6 },
+        },
+        "none 0:2 3:6",
+    ),
+];
+
+// Whether the line of a query with that answer is written: query 12, answered on 34 operations.
+fn writes_answer(
+    alloc: Global,
+    answer: QueryAnswer,
+    front: &str,
+    want: &str,
+) -> Result<bool, AllocError> {
+    let line = Report::Query {
+        number: 12,
+        applied: 34,
+        answer,
+    };
+    writes(alloc, line, front, want)
+}
+
+fn writes_starts(alloc: Global, starts: &[u64], want: &str) -> Result<bool, AllocError> {
+    let found = FindAnswer::Starts(Numbers::new(starts.to_vec(alloc)?));
+    writes_answer(alloc, QueryAnswer::Find(found), "find 12 at 34: ", want)
+}
+
+#[test]
+fn answers_to_finds(rt: HostRuntime) -> Result<(), Fail> {
+    for (starts, want) in STARTS {
+        assert!(rt; writes_starts(rt.alloc(), starts, want)?, "{want}");
+    }
+    let empty = QueryAnswer::Find(FindAnswer::EmptyNeedle);
+    assert!(rt; writes_answer(rt.alloc(), empty, "find 12 at 34: ", "empty needle")?);
+    Ok(())
+}
+
+#[test]
+fn answers_to_points_and_offsets(rt: HostRuntime) -> Result<(), Fail> {
+    for (answer, want) in POINTS {
+        let answer = QueryAnswer::Point(*answer);
+        assert!(rt;
+            writes_answer(rt.alloc(), answer, "point 12 at 34: ", want)?,
+            "{want}"
+        );
+    }
+    for (answer, want) in OFFSETS {
+        let answer = QueryAnswer::Offset(*answer);
+        assert!(rt;
+            writes_answer(rt.alloc(), answer, "offset 12 at 34: ", want)?,
+            "{want}"
+        );
+    }
+    Ok(())
+}
+
 fn text(alloc: Global, text: &str) -> Result<Text, AllocError> {
     Ok(Text::new(String::from_str(alloc, text)?))
 }
@@ -244,6 +332,16 @@ const COUNTED: &[(&str, &str)] = &[
 ["edit",2,[[9,0,""]]]
 "#,
         "6 lines, 2 replicas, 3 operations, 0 queries",
+    ),
+    (
+        r#"["zedbuf",1,"ab",[1,2]]
+["find",1,""]
+["edit",1,[]]
+["point",2,0]
+["offset",1,9,9]
+["find",1,""]
+"#,
+        "6 lines, 2 replicas, 1 operations, 4 queries",
     ),
 ];
 

@@ -1,0 +1,126 @@
+-- What a replica has applied at one line of a session begins what it has applied at each later one.
+use Rattle.std.proofs.Common.{◌≡◌, ℕ, ◌≤◌, Bool, true, false, cond, ◌==◌, List, [], ◌∷◌, ◌++◌, length, Option, None, Some, Result, Ok, Err, refl, sym, ap, ◌∙◌, subst, arith, append_assoc, append-nil}
+use Rattle.std.proofs.lemmas.List.{length-append}
+use Rattle.std.specs.Prelude.{⊤}
+use Rattle.op_model.specs.declared.operation.Operation.{Operation}
+use Rattle.op_model.specs.Steps.{Step, Settles, Takes}
+use Rattle.op_model.proofs.MainLaws.{runs_append}
+use Rattle.text_buffer.specs.Buffer.{BufferState, after_calls, applied, settled, state}
+use Rattle.text_buffer.specs.Document.{IsFront}
+use Rattle.session_lines.specs.declared.report.Report.{Report}
+use Rattle.session_lines.specs.declared.session.SessionLine.{SessionLine}
+use Rattle.session_lines.specs.declared.session.SessionLine.TheVariants as line
+use Rattle.session_replay.specs.Work.{State, after_all, after_give, after_outcome, buffer_of, edit_outcome, next_number, operation_of, step, undo_outcome, with_buffer}
+
+-- ---- one buffer
+
+-- n is a later buffer of the same replica
+abbrev pub Grows : BufferState → BufferState → Type 0
+Grows b n = (n.replica ≡ b.replica) × IsFront b.history n.history
+
+grows_itself : (b : BufferState) → Grows b b
+grows_itself b = (refl, ([], sym (append-nil b.history)))
+
+grows_trans : (a b c : BufferState) → Grows a b → Grows b c → Grows a c
+grows_trans a b c f g =
+    (g.0 ∙ f.0, (f.1.0 ++ g.1.0, g.1.1 ∙ ap (λ (h : List Operation). h ++ g.1.0) f.1.1 ∙ append_assoc a.history f.1.0 g.1.0))
+
+calls_grow : (cs : List Step) (b : BufferState) → Grows b (after_calls cs b)
+calls_grow cs b = (refl, runs_append b.limits b.replica cs (state b))
+
+outcome_grows : (o : Result Operation Report) (b : BufferState) → Grows b (after_outcome o b)
+outcome_grows (Ok op) b = grows_trans b (applied b op) (settled (applied b op)) (refl, (op ∷ [], refl)) (calls_grow (Settles ∷ []) (applied b op))
+outcome_grows (Err r) b = grows_itself b
+
+give_grows : (o : Option Operation) (b : BufferState) → Grows b (after_give o b)
+give_grows None b = grows_itself b
+give_grows (Some op) b = calls_grow (Takes op ∷ []) b
+
+-- ---- the buffers of all replicas
+
+abbrev pub AllGrow : List BufferState → List BufferState → Type 0
+AllGrow [] [] = ⊤
+AllGrow [] (c ∷ cs) = ⊥
+AllGrow (b ∷ bs) [] = ⊥
+AllGrow (b ∷ bs) (c ∷ cs) = Grows b c × AllGrow bs cs
+
+all_themselves : (bs : List BufferState) → AllGrow bs bs
+all_themselves [] = tt
+all_themselves (b ∷ bs) = (grows_itself b, all_themselves bs)
+
+all_trans : (bs cs ds : List BufferState) → AllGrow bs cs → AllGrow cs ds → AllGrow bs ds
+all_trans [] [] [] f g = tt
+all_trans [] [] (d ∷ ds) f g = g
+all_trans [] (c ∷ cs) ds f g = absurd f
+all_trans (b ∷ bs) [] ds f g = absurd f
+all_trans (b ∷ bs) (c ∷ cs) [] f g = g
+all_trans (b ∷ bs) (c ∷ cs) (d ∷ ds) f g = (grows_trans b c d f.0 g.0, all_trans bs cs ds f.1 g.1)
+
+one_grows : (r : ℕ) (f : BufferState → BufferState) (g : (b : BufferState) → Grows b (f b)) (bs : List BufferState) → AllGrow bs (with_buffer r f bs)
+one_grows r f g [] = tt
+one_grows r f g (b ∷ bs) =
+    elim (b.replica == r) as (λ (t : Bool). AllGrow (b ∷ bs) (cond t (f b ∷ bs) (b ∷ with_buffer r f bs))) [
+      | true ↦ (g b, all_themselves bs)
+      | false ↦ (grows_itself b, one_grows r f g bs)
+    ]
+
+step_grows : (l : SessionLine) (s : State) → AllGrow s.buffers (step l s).buffers
+step_grows (line.Edit r ps) s = one_grows r (λ b. after_outcome (edit_outcome (next_number s) ps b) b) (λ b. outcome_grows (edit_outcome (next_number s) ps b) b) s.buffers
+step_grows (line.Undo r ms) s = one_grows r (λ b. after_outcome (undo_outcome (next_number s) s.operations ms b) b) (λ b. outcome_grows (undo_outcome (next_number s) s.operations ms b) b) s.buffers
+step_grows (line.Op e) s = all_themselves s.buffers
+step_grows (line.Uop u) s = all_themselves s.buffers
+step_grows (line.Give r n) s = one_grows r (after_give (operation_of n s.operations)) (give_grows (operation_of n s.operations)) s.buffers
+step_grows (line.Text r) s = all_themselves s.buffers
+step_grows (line.Find r t) s = all_themselves s.buffers
+step_grows (line.Point r o) s = all_themselves s.buffers
+step_grows (line.Offset r k c) s = all_themselves s.buffers
+
+pub lines_grow : (ls : List SessionLine) (s : State) → AllGrow s.buffers (after_all ls s).buffers
+lines_grow [] s = all_themselves s.buffers
+lines_grow (l ∷ ls) s = all_trans s.buffers (step l s).buffers (after_all ls (step l s)).buffers (step_grows l s) (lines_grow ls (step l s))
+
+pub step_keeps : (l : SessionLine) (s : State) → AllGrow s.buffers (step l s).buffers
+step_keeps l s = step_grows l s
+
+-- ---- the buffer of one replica among them
+
+-- the later buffer of a replica
+abbrev pub Later : ℕ → List BufferState → BufferState → Type 0
+Later r cs b = (n : BufferState) × (buffer_of r cs ≡ Some n) × IsFront b.history n.history
+
+module _ (r : ℕ) where
+  later_by : (b c d : BufferState) (bs cs : List BufferState) (t u : Bool) → u ≡ t → IsFront b.history c.history → (buffer_of r bs ≡ Some d → Later r cs d)
+      → cond t (Some b) (buffer_of r bs) ≡ Some d → (n : BufferState) × (cond u (Some c) (buffer_of r cs) ≡ Some n) × IsFront d.history n.history
+  later_by b c d bs cs true true e f h k = let same : b ≡ d = cc k in (c, refl, subst (λ (x : BufferState). IsFront x.history c.history) same f)
+  later_by b c d bs cs false false e f h k = h k
+  later_by b c d bs cs true false e f h k = absurd (cc e)
+  later_by b c d bs cs false true e f h k = absurd (cc e)
+
+  pub later : (bs cs : List BufferState) (d : BufferState) → AllGrow bs cs → buffer_of r bs ≡ Some d → Later r cs d
+  later [] cs d g k = absurd (cc k)
+  later (b ∷ bs) [] d g k = absurd g
+  later (b ∷ bs) (c ∷ cs) d g k =
+      later_by b c d bs cs (b.replica == r) (c.replica == r) (ap (λ q. q == r) g.0.0) g.0.1 (later bs cs d g.1) k
+
+-- ---- each has its base
+
+abbrev pub AreBased : List BufferState → Type 0
+AreBased [] = ⊤
+AreBased (b ∷ bs) = (1 ≤ length b.history) × AreBased bs
+
+front_longer : (h g : List Operation) → IsFront h g → length h ≤ length g
+front_longer h g f = omega (arith, ap (λ (x : List Operation). length x) f.1, length-append h f.0)
+
+pub based_grow : (bs cs : List BufferState) → AllGrow bs cs → AreBased bs → AreBased cs
+based_grow [] [] g a = tt
+based_grow [] (c ∷ cs) g a = absurd g
+based_grow (b ∷ bs) [] g a = absurd g
+based_grow (b ∷ bs) (c ∷ cs) g a = (omega (arith, front_longer b.history c.history g.0.1, a.0), based_grow bs cs g.1 a.1)
+
+based_by : (r : ℕ) (b d : BufferState) (bs : List BufferState) (t : Bool) → 1 ≤ length b.history → (buffer_of r bs ≡ Some d → 1 ≤ length d.history) → cond t (Some b) (buffer_of r bs) ≡ Some d → 1 ≤ length d.history
+based_by r b d bs true l h k = let same : b ≡ d = cc k in subst (λ (x : BufferState). 1 ≤ length x.history) same l
+based_by r b d bs false l h k = h k
+
+pub based_one : (r : ℕ) (bs : List BufferState) (d : BufferState) → AreBased bs → buffer_of r bs ≡ Some d → 1 ≤ length d.history
+based_one r [] d a k = absurd (cc k)
+based_one r (b ∷ bs) d a k = based_by r b d bs (b.replica == r) a.0 (based_one r bs d a.1) k

@@ -1,0 +1,234 @@
+-- The queries of a session that are answered on the spot: what they are answered on is the front of what is applied at the end.
+use Rattle.std.proofs.Common.{◌≡◌, Bool, true, false, cond, Ok, ℕ, ◌+◌, ◌≤◌, List, [], ◌∷◌, ◌++◌, length, map, take, Option, None, Some, refl, sym, ap, ◌∙◌, subst, arith, append_assoc}
+use Rattle.std.specs.List.{All, AllPairs}
+use Rattle.std.proofs.lemmas.List.{length-append}
+use Rattle.std.proofs.Math.Seq.{take-append_seam}
+use Rattle.std.proofs.lemmas.List.Elements.{All-append, All-cons, All-head, All-map, All-nil, All-same, All-tail, All-weaker}
+use Rattle.std.proofs.lemmas.List.Kept.{AllPairs-cons}
+use Rattle.std.proofs.lemmas.List.Sums.{sum_by-cons}
+use Rattle.sum_tree.proofs.Keys.{AllPairs-append, AllPairs-cross, AllPairs-right}
+use Rattle.op_model.specs.declared.operation.Operation.{Operation}
+use Rattle.op_model.specs.Shown.{text}
+use Rattle.text_buffer.specs.Buffer.{BufferState}
+use Rattle.text_buffer.specs.Document.{IsFront}
+use Rattle.session_lines.specs.Report.{report_text}
+use Rattle.session_lines.specs.Session.{is_query, query_count}
+use Rattle.session_lines.specs.declared.report.Report.{Report}
+use Rattle.session_lines.specs.declared.session.Session.{Session}
+use Rattle.session_lines.specs.declared.session.SessionLine.{SessionLine}
+use Rattle.session_lines.specs.declared.session.SessionLine.TheVariants as line
+use Rattle.session_replay.specs.Work.{State, after_all, buffer_of, opened, opening, step}
+use Rattle.session_replay.specs.Queries.{AreReplies, IsWithin, NeverFalls, Query, Question, Reply, answer_line, count_of, end_of, history_of, plain_line, queries_from, queries_of, query_at, query_of, query_with, question_of, reply_line, report_of, report_with}
+use Rattle.session_replay.specs.Laws.{PlainWithWorkers, PlainWithoutQueries, PlainWithoutWorkers}
+use Rattle.session_replay.proofs.Growth.{AllGrow, AreBased, based_grow, based_one, later, lines_grow, step_keeps}
+
+-- ---- fronts
+
+front_count : (h g : List Operation) → IsFront h g → count_of h ≤ count_of g
+front_count h g f = omega (arith, ap (λ (x : List Operation). length x) f.1, length-append h f.0)
+
+front_trans : (h g k : List Operation) → IsFront h g → IsFront g k → IsFront h k
+front_trans h g k f e = (f.0 ++ e.0, e.1 ∙ ap (λ (x : List Operation). x ++ e.0) f.1 ∙ append_assoc h f.0 e.0)
+
+-- the front of a list with as many operations as one that begins it
+front_taken : (h g : List Operation) → IsFront h g → 1 ≤ length h → take (count_of h + 1) g ≡ h
+front_taken h g f l =
+    let n : count_of h + 1 ≡ length h = omega arith in
+    ap (λ (m : ℕ). take m g) n ∙ ap (λ (x : List Operation). take (length h) x) f.1 ∙ take-append_seam h f.0
+
+-- ---- queries among the lines of a session
+
+-- the query's history begins what its replica has applied in a later state
+abbrev pub IsPlaced : State → Query → Type 0
+IsPlaced end c = IsFront c.history (history_of (buffer_of c.replica end.buffers)) × (1 ≤ length c.history)
+
+module _ (q : ℕ) (s end : State) (g : AllGrow s.buffers end.buffers) (a : AreBased s.buffers) where
+  one_placed : (r : ℕ) (ask : Question) (o : Option BufferState) → buffer_of r s.buffers ≡ o → All (IsPlaced end) (query_of q r ask o)
+  one_placed r ask None e = All-nil (IsPlaced end)
+  one_placed r ask (Some b) e =
+      let n = later r s.buffers end.buffers b g e in
+      All-cons (IsPlaced end) (record { number = q; replica = r; history = b.history; question = ask }) []
+      (subst (λ (o : Option BufferState). IsFront b.history (history_of o)) (sym n.1) n.2, based_one r s.buffers b a e) (All-nil (IsPlaced end))
+
+  query_placed : (o : Option (ℕ × Question)) → All (IsPlaced end) (query_with q s o)
+  query_placed None = All-nil (IsPlaced end)
+  query_placed (Some (r, ask)) = one_placed r ask (buffer_of r s.buffers) refl
+
+all_placed : (q : ℕ) (ls : List SessionLine) (s : State) → AreBased s.buffers → All (IsPlaced (after_all ls s)) (queries_from q ls s)
+all_placed q [] s a = All-nil (IsPlaced s)
+all_placed q (l ∷ ls) s a =
+    let end : State = after_all ls (step l s) in
+    let next : ℕ = q + length (query_at q l s) in
+    All-append (IsPlaced end) (query_at q l s) (queries_from next ls (step l s)) (query_placed q s end (lines_grow (l ∷ ls) s) a (question_of l))
+    (all_placed next ls (step l s) (based_grow s.buffers (step l s).buffers (step_keeps l s) a))
+
+-- ---- a later query of a replica finds no fewer operations
+
+-- what a query of replica r finds, if this asks r
+abbrev Finds : ℕ → List Operation → Query → Type 0
+Finds r h d = r ≡ d.replica → count_of h ≤ count_of d.history
+
+module _ (r : ℕ) (h : List Operation) where
+  same_buffer : (i : ℕ) (s : State) (b n : BufferState) → buffer_of r s.buffers ≡ Some b → buffer_of i s.buffers ≡ Some n → r ≡ i → b ≡ n
+  same_buffer i s b n e f k = let same : Some b ≡ Some n = sym e ∙ ap (λ (j : ℕ). buffer_of j s.buffers) k ∙ f in cc same
+
+  module _ (q : ℕ) (s : State) (b : BufferState) (e : buffer_of r s.buffers ≡ Some b) (f : IsFront h b.history) where
+    one_finds : (i : ℕ) (ask : Question) (o : Option BufferState) → buffer_of i s.buffers ≡ o → All (Finds r h) (query_of q i ask o)
+    one_finds i ask None k = All-nil (Finds r h)
+    one_finds i ask (Some n) k =
+        All-cons (Finds r h) (record { number = q; replica = i; history = n.history; question = ask }) []
+        (λ t. front_count h n.history (subst (λ (x : BufferState). IsFront h x.history) (same_buffer i s b n e k t) f)) (All-nil (Finds r h))
+
+    query_finds : (o : Option (ℕ × Question)) → All (Finds r h) (query_with q s o)
+    query_finds None = All-nil (Finds r h)
+    query_finds (Some (i, ask)) = one_finds i ask (buffer_of i s.buffers) refl
+
+  all_find : (q : ℕ) (ls : List SessionLine) (s : State) (b : BufferState) → buffer_of r s.buffers ≡ Some b → IsFront h b.history → All (Finds r h) (queries_from q ls s)
+  all_find q [] s b e f = All-nil (Finds r h)
+  all_find q (l ∷ ls) s b e f =
+      let n = later r s.buffers (step l s).buffers b (step_keeps l s) e in
+      let next : ℕ = q + length (query_at q l s) in
+      All-append (Finds r h) (query_at q l s) (queries_from next ls (step l s)) (query_finds q s b e f (question_of l))
+      (all_find next ls (step l s) n.0 n.1 (front_trans h b.history n.0.history f n.2))
+
+abbrev Follows : Query → Query → Type 0
+Follows c d = Finds c.replica c.history d
+
+no_pairs : {A : Type 0} (R : A → A → Type 0) → AllPairs R []
+no_pairs R = λ i j d lt within. absurd (omega arith)
+
+module _ (q next : ℕ) (l : SessionLine) (ls : List SessionLine) (s : State) where
+  abbrev rest : List Query
+  rest = queries_from next ls (step l s)
+
+  one_pair : (r : ℕ) (ask : Question) (o : Option BufferState) → AllPairs Follows (query_of q r ask o)
+  one_pair r ask None = no_pairs Follows
+  one_pair r ask (Some b) =
+      let c : Query = record { number = q; replica = r; history = b.history; question = ask } in
+      AllPairs-cons Follows c [] (All-nil (Follows c)) (no_pairs Follows)
+
+  query_pair : (o : Option (ℕ × Question)) → AllPairs Follows (query_with q s o)
+  query_pair None = no_pairs Follows
+  query_pair (Some (r, ask)) = one_pair r ask (buffer_of r s.buffers)
+
+  one_first : (r : ℕ) (ask : Question) (o : Option BufferState) → buffer_of r s.buffers ≡ o → All (λ c. All (Follows c) rest) (query_of q r ask o)
+  one_first r ask None e = All-nil (λ c. All (Follows c) rest)
+  one_first r ask (Some b) e =
+      let n = later r s.buffers (step l s).buffers b (step_keeps l s) e in
+      All-cons (λ c. All (Follows c) rest) (record { number = q; replica = r; history = b.history; question = ask }) []
+      (all_find r b.history next ls (step l s) n.0 n.1 n.2) (All-nil (λ c. All (Follows c) rest))
+
+  query_first : (o : Option (ℕ × Question)) → All (λ c. All (Follows c) rest) (query_with q s o)
+  query_first None = All-nil (λ c. All (Follows c) rest)
+  query_first (Some (r, ask)) = one_first r ask (buffer_of r s.buffers) refl
+
+all_follow : (q : ℕ) (ls : List SessionLine) (s : State) → AllPairs Follows (queries_from q ls s)
+all_follow q [] s = no_pairs Follows
+all_follow q (l ∷ ls) s =
+    let next : ℕ = q + length (query_at q l s) in
+    AllPairs-append Follows (query_at q l s) (queries_from next ls (step l s)) (query_pair q next l ls s (question_of l)) (all_follow next ls (step l s)) (query_first q next l ls s (question_of l))
+
+-- ---- replies on the spot
+
+abbrev on_the_spot : Query → Reply
+on_the_spot c = record { query = c; count = count_of c.history }
+
+their_queries : (cs : List Query) → map (λ (p : Reply). p.query) (map on_the_spot cs) ≡ cs
+their_queries [] = refl
+their_queries (c ∷ cs) = ap (λ (ds : List Query). c ∷ ds) (their_queries cs)
+
+pairs_of : (workers : ℕ) (cs : List Query) → AllPairs Follows cs → AllPairs (NeverFalls workers) (map on_the_spot cs)
+pairs_of workers [] a = no_pairs (NeverFalls workers)
+pairs_of workers (c ∷ cs) a =
+    let first : All (Follows c) cs = AllPairs-cross Follows (c ∷ []) cs 0 c a (omega arith) in
+    AllPairs-cons (NeverFalls workers) (on_the_spot c) (map on_the_spot cs)
+    (All-map (NeverFalls workers (on_the_spot c)) on_the_spot cs (All-weaker (Follows c) (λ d. NeverFalls workers (on_the_spot c) (on_the_spot d)) (λ d f k w. f k) cs first))
+    (pairs_of workers cs (AllPairs-right Follows (c ∷ []) cs a))
+
+opened_based : (t : List ℕ) (rs : List ℕ) → AreBased (map (opened t) rs)
+opened_based t [] = tt
+opened_based t (r ∷ rs) = (omega arith, opened_based t rs)
+
+placed : (s : Session) → All (IsPlaced (end_of s)) (queries_of s)
+placed s = all_placed 1 s.lines (opening s) (opened_based s.base s.replicas)
+
+spot_replies : (s : Session) (workers : ℕ) → AreReplies s workers (map on_the_spot (queries_of s))
+spot_replies s workers = record {
+  queries = their_queries (queries_of s);
+  within = All-map (IsWithin (end_of s)) on_the_spot (queries_of s)
+      (All-weaker (IsPlaced (end_of s)) (λ c. IsWithin (end_of s) (on_the_spot c)) (λ c f. (omega arith, front_count c.history (history_of (buffer_of c.replica (end_of s).buffers)) f.0)) (queries_of s) (placed s));
+  on_the_spot = λ z. All-map (λ (p : Reply). p.count ≡ count_of p.query.history) on_the_spot (queries_of s) (λ k d lt. refl);
+  never_falls = pairs_of workers (queries_of s) (all_follow 1 s.lines (opening s));
+}
+
+-- ---- their lines
+
+one_line : (end : State) (p : Reply) → p.count ≡ count_of p.query.history → IsPlaced end p.query → reply_line end p ≡ plain_line p.query
+one_line end p e f =
+    let final : List Operation = history_of (buffer_of p.query.replica end.buffers) in
+    ap (λ (n : ℕ). answer_line p.query.number n p.query.question (text (take (n + 1) final))) e
+    ∙ ap (λ (h : List Operation). answer_line p.query.number (count_of p.query.history) p.query.question (text h)) (front_taken p.query.history final f.0 f.1)
+
+same_lines : (end : State) (ps : List Reply) → All (λ (p : Reply). p.count ≡ count_of p.query.history) ps → All (IsPlaced end) (map (λ (p : Reply). p.query) ps)
+    → map (reply_line end) ps ≡ map plain_line (map (λ (p : Reply). p.query) ps)
+same_lines end [] a f = refl
+same_lines end (p ∷ ps) a f =
+    let head = one_line end p (All-head (λ (p : Reply). p.count ≡ count_of p.query.history) p ps a) (All-head (IsPlaced end) p.query (map (λ (p : Reply). p.query) ps) f) in
+    let tail = same_lines end ps (All-tail (λ (p : Reply). p.count ≡ count_of p.query.history) p ps a) (All-tail (IsPlaced end) p.query (map (λ (p : Reply). p.query) ps) f) in
+    cc (head, tail)
+
+plain_lines : (s : Session) (ps : List Reply) → map (λ (p : Reply). p.query) ps ≡ queries_of s → All (λ (p : Reply). p.count ≡ count_of p.query.history) ps
+    → map (reply_line (end_of s)) ps ≡ map plain_line (queries_of s)
+plain_lines s ps e a = same_lines (end_of s) ps a (All-same (IsPlaced (end_of s)) (map (λ (p : Reply). p.query) ps) (queries_of s) e (placed s)) ∙ ap (map plain_line) e
+
+plain_text : (s : Session) (ps : List Reply) → map (λ (p : Reply). p.query) ps ≡ queries_of s → All (λ (p : Reply). p.count ≡ count_of p.query.history) ps
+    → report_text (report_with s (map (reply_line (end_of s)) ps)) ≡ report_text (report_of s)
+unfolding report_of
+plain_text s ps e a = ap (λ (rs : List Report). report_text (report_with s rs)) (plain_lines s ps e a)
+
+pub plain_with_workers : PlainWithWorkers
+plain_with_workers input s workers d =
+    let ps : List Reply = map on_the_spot (queries_of s) in
+    (s, d, (ps, spot_replies s workers, sym (plain_text s ps (their_queries (queries_of s)) ((spot_replies s 0).on_the_spot refl))))
+
+pub plain_without_workers : PlainWithoutWorkers
+plain_without_workers input output r = (r.0, r.1, r.2.2 ∙ plain_text r.0 r.2.0 r.2.1.queries (r.2.1.on_the_spot refl))
+
+-- ---- sessions without queries
+
+no_query_of : (q : ℕ) (l : SessionLine) (s : State) → is_query l ≡ false → query_at q l s ≡ []
+no_query_of q (line.Edit r ps) s e = refl
+no_query_of q (line.Undo r ms) s e = refl
+no_query_of q (line.Op o) s e = refl
+no_query_of q (line.Uop u) s e = refl
+no_query_of q (line.Give r n) s e = refl
+no_query_of q (line.Text r) s e = refl
+no_query_of q (line.Find r t) s e = absurd (cc e)
+no_query_of q (line.Point r o) s e = absurd (cc e)
+no_query_of q (line.Offset r k c) s e = absurd (cc e)
+
+none_first : (t : Bool) (n : ℕ) → cond t 1 0 + n ≡ 0 → (t ≡ false) × (n ≡ 0)
+none_first true n e = absurd (omega arith)
+none_first false n e = (refl, omega arith)
+
+no_queries : (q : ℕ) (ls : List SessionLine) (s : State) → query_count ls ≡ 0 → queries_from q ls s ≡ []
+no_queries q [] s e = refl
+no_queries q (l ∷ ls) s e =
+    let f = none_first (is_query l) (query_count ls) (sym (sum_by-cons (λ (k : SessionLine). cond (is_query k) 1 0) l ls) ∙ e) in
+    ap (λ (cs : List Query). cs ++ queries_from (q + length cs) ls (step l s)) (no_query_of q l s f.0) ∙ no_queries (q + 0) ls (step l s) f.1
+
+no_reply : (ps : List Reply) → map (λ (p : Reply). p.query) ps ≡ [] → ps ≡ []
+no_reply [] e = refl
+no_reply (p ∷ ps) e = absurd (cc e)
+
+one_report : (s : Session) (ps : List Reply) → query_count s.lines ≡ 0 → map (λ (p : Reply). p.query) ps ≡ queries_of s → report_text (report_with s (map (reply_line (end_of s)) ps)) ≡ report_text (report_of s)
+unfolding report_of
+one_report s ps n e =
+    let none : queries_of s ≡ [] = no_queries 1 s.lines (opening s) n in
+    ap (λ (ps : List Reply). report_text (report_with s (map (reply_line (end_of s)) ps))) (no_reply ps (e ∙ none)) ∙ ap (λ (cs : List Query). report_text (report_with s (map plain_line cs))) (sym none)
+
+pub plain_without_queries : PlainWithoutQueries
+plain_without_queries input output workers r s d n =
+    let same : Ok r.0 ≡ Ok s = sym r.1 ∙ d in
+    let is : r.0 ≡ s = cc same in
+    r.2.2 ∙ one_report r.0 r.2.0 (ap (λ (t : Session). query_count t.lines) is ∙ n) r.2.1.queries ∙ ap (λ (t : Session). report_text (report_of t)) is

@@ -1,0 +1,163 @@
+-- The queries of a session: what they ask, the plain answers, and on which text each may be answered.
+use Rattle.std.specs.Prelude.{◌≡◌, ℕ, ◌+◌, ◌-◌, ◌%◌, ◌≤◌, ◌==◌, List, [], ◌∷◌, ◌++◌, length, map, take, Option, None, Some, if◌then◌else◌}
+use Rattle.std.specs.List.{All, AllPairs, flat_map}
+use Rattle.std.specs.Option.{option_map, unwrap_or}
+use Rattle.text_dims.specs.declared.points.Point.{Point}
+use Rattle.text_dims.specs.declared.places.Place.{Place}
+use Rattle.text_dims.specs.Places.{place_at_offset, place_at_point, offset_clipped_back, offset_clipped_on, point_clipped_back, point_clipped_on, point_of, offset_utf16_of, point_utf16_of}
+use Rattle.snapshot_search.specs.Starts.{starts}
+use Rattle.op_model.specs.declared.operation.Operation.{Operation}
+use Rattle.op_model.specs.Shown.{text}
+use Rattle.text_buffer.specs.Buffer.{BufferState}
+use Rattle.session_lines.specs.declared.session.SessionLine.{SessionLine}
+use Rattle.session_lines.specs.declared.session.SessionLine.TheVariants as line
+use Rattle.session_lines.specs.declared.session.Session.{Session}
+use Rattle.session_lines.specs.declared.report.FindAnswer.{FindAnswer}
+use Rattle.session_lines.specs.declared.report.FindAnswer.TheVariants.{Starts, EmptyNeedle}
+use Rattle.session_lines.specs.declared.report.PointAnswer.{PointAnswer}
+use Rattle.session_lines.specs.declared.report.PointAnswer.TheVariants as point
+use Rattle.session_lines.specs.declared.report.OffsetAnswer.{OffsetAnswer}
+use Rattle.session_lines.specs.declared.report.OffsetAnswer.TheVariants as offset
+use Rattle.session_lines.specs.declared.report.QueryAnswer.{QueryAnswer}
+use Rattle.session_lines.specs.declared.report.QueryAnswer.TheVariants as query
+use Rattle.session_lines.specs.declared.report.Report.{Report}
+use Rattle.session_lines.specs.declared.report.Report.TheVariants as report
+use Rattle.session_replay.specs.Work.{State, after_all, all_events, at_end, buffer_of, opening, step}
+
+-- ---- the plain answers, on a text
+
+-- all places of the needle
+abbrev pub find_answer : List ℕ → List ℕ → FindAnswer
+find_answer needle t = if length needle == 0 then EmptyNeedle else Starts (starts t needle)
+
+-- a place as a point, as an offset in UTF-16 units and as a point in UTF-16 units
+abbrev pub place_answer : Place → PointAnswer
+place_answer k = point.Place (point_of k) (offset_utf16_of k) (point_utf16_of k)
+
+-- the place at a byte offset, or where that is clipped to
+abbrev pub point_answer : ℕ → List ℕ → PointAnswer
+point_answer o t = unwrap_or (option_map place_answer (place_at_offset t o)) (point.Clips (offset_clipped_back t o).offset (offset_clipped_on t o).offset)
+
+-- the place at a point, or where that is clipped to
+abbrev pub offset_answer : Point → List ℕ → OffsetAnswer
+offset_answer p t =
+    unwrap_or (option_map (λ (k : Place). offset.Place k.offset) (place_at_point t p)) (offset.Clips (point_of (point_clipped_back t p)) (point_of (point_clipped_on t p)))
+
+-- what a query asks of a text
+pub data Question : Type 0 where
+  StartsOf : List ℕ → Question
+  PointOf : ℕ → Question
+  OffsetOf : Point → Question
+
+-- the plain answer
+abbrev pub answer_on : Question → List ℕ → QueryAnswer
+answer_on (StartsOf needle) t = query.Find (find_answer needle t)
+answer_on (PointOf o) t = query.Point (point_answer o t)
+answer_on (OffsetOf p) t = query.Offset (offset_answer p t)
+
+-- the line of query q, plainly answered on a text of n operations
+abbrev pub answer_line : ℕ → ℕ → Question → List ℕ → Report
+answer_line q n ask t = report.Query q n (answer_on ask t)
+
+-- the replica that a line asks, and what it asks, where the line is a query
+abbrev pub question_of : SessionLine → Option (ℕ × Question)
+question_of (line.Edit r ps) = None
+question_of (line.Undo r ms) = None
+question_of (line.Op e) = None
+question_of (line.Uop u) = None
+question_of (line.Give r n) = None
+question_of (line.Text r) = None
+question_of (line.Find r needle) = Some (r, StartsOf needle)
+question_of (line.Point r o) = Some (r, PointOf o)
+question_of (line.Offset r row column) = Some (r, OffsetOf (record { row = row; column = column }))
+
+-- ---- the queries of a session
+
+-- a query: its number, the replica that it asks, what that has applied at the query's place in the session, and what it asks
+pub record Query : Type 0 where
+  pub number : ℕ
+  pub replica : ℕ
+  pub history : List Operation
+  pub question : Question
+
+-- how many operations a history has, the base not counted
+abbrev pub count_of : List Operation → ℕ
+count_of h = length h - 1
+
+-- what a replica has applied, the base first
+abbrev pub history_of : Option BufferState → List Operation
+history_of None = []
+history_of (Some b) = b.history
+
+-- query q of a replica's buffer; a replica that is not there is not asked
+abbrev pub query_of : ℕ → ℕ → Question → Option BufferState → List Query
+query_of q r ask None = []
+query_of q r ask (Some b) = record { number = q; replica = r; history = b.history; question = ask } ∷ []
+
+abbrev pub query_with : ℕ → State → Option (ℕ × Question) → List Query
+query_with q s None = []
+query_with q s (Some a) = query_of q a.0 a.1 (buffer_of a.0 s.buffers)
+
+-- the query that a line is, as query q
+abbrev pub query_at : ℕ → SessionLine → State → List Query
+query_at q l s = query_with q s (question_of l)
+
+-- the queries of the lines, numbered from q
+abbrev pub queries_from : ℕ → List SessionLine → State → List Query
+queries_from q [] s = []
+queries_from q (l ∷ ls) s = query_at q l s ++ queries_from (q + length (query_at q l s)) ls (step l s)
+
+abbrev pub queries_of : Session → List Query
+queries_of s = queries_from 1 s.lines (opening s)
+
+-- ---- reports
+
+-- the state at the end of a session
+abbrev pub end_of : Session → State
+end_of s = after_all s.lines (opening s)
+
+-- the report with these lines for its queries: those of the events, those of the queries, those of the replicas
+abbrev pub report_with : Session → List Report → List Report
+report_with s answers = all_events s.lines (opening s) ++ (answers ++ flat_map at_end (end_of s).buffers)
+
+-- the line of a query that is answered on the spot, at its place in the session
+abbrev pub plain_line : Query → Report
+plain_line c = answer_line c.number (count_of c.history) c.question (text c.history)
+
+-- the plain report: each query is answered on the spot
+unfoldable pub report_of : Session → List Report
+report_of s = report_with s (map plain_line (queries_of s))
+
+-- ---- queries that are answered later than at their place
+
+-- a query, and the number of the operations on which it is answered, the base not counted
+pub record Reply : Type 0 where
+  pub query : Query
+  pub count : ℕ
+
+-- what the replica of a reply has applied at the end of the session
+abbrev pub final_of : State → Reply → List Operation
+final_of end p = history_of (buffer_of p.query.replica end.buffers)
+
+-- the line of a reply: the plain answer on the text of the base and the first `count` operations behind it at the end
+abbrev pub reply_line : State → Reply → Report
+reply_line end p = answer_line p.query.number p.count p.query.question (text (take (p.count + 1) (final_of end p)))
+
+-- a reply counts no less than was applied at its query's place, and no more than is applied at the end
+abbrev pub IsWithin : State → Reply → Type 0
+IsWithin end p = (count_of p.query.history ≤ p.count) × (p.count ≤ count_of (final_of end p))
+
+-- the worker that a query goes to, of so many
+abbrev pub worker_of : ℕ → Query → ℕ
+worker_of workers c = (c.number - 1) % workers
+
+-- where two queries of one replica go to one worker, the later is not answered on fewer operations
+abbrev pub NeverFalls : ℕ → Reply → Reply → Type 0
+NeverFalls workers p q = p.query.replica ≡ q.query.replica → worker_of workers p.query ≡ worker_of workers q.query → p.count ≤ q.count
+
+-- the replies to the queries of a session, in their order, with so many workers; with none each query is answered on the spot
+pub record AreReplies (s : Session) (workers : ℕ) (ps : List Reply) : Type 0 where
+  pub queries : map (λ (p : Reply). p.query) ps ≡ queries_of s
+  pub within : All (IsWithin (end_of s)) ps
+  pub on_the_spot : workers ≡ 0 → All (λ (p : Reply). p.count ≡ count_of p.query.history) ps
+  pub never_falls : AllPairs (NeverFalls workers) ps

@@ -1,0 +1,184 @@
+// The answers to queries, from what a replica was.
+ghost use Rattle.std.specs.Prelude.{◌≡◌, map, IfOk};
+ghost use Rattle.std.specs.Option.{option_map, option_to_list};
+ghost use Rattle.op_model.specs.Shown.{text};
+ghost use Rattle.text_dims.specs.Places.{place_at_offset};
+ghost use Rattle.session_lines.specs.declared.session.SessionLine.{SessionLine};
+ghost use Rattle.session_lines.specs.declared.report.Report.{Report};
+ghost use Rattle.session_replay.specs.Working.{state_of};
+ghost use Rattle.session_replay.specs.Queries.{answer_line, count_of, find_answer, offset_answer, place_answer, plain_line, point_answer, query_at};
+ghost use Rattle.session_replay.specs.Queries.Question.{OffsetOf, PointOf, StartsOf};
+
+use crate::replay::Progress;
+use op_model::Text;
+use rope_chunks::Rope;
+use session_lines::{
+    FindAnswer, Numbers, OffsetAnswer, PointAnswer, QueryAnswer, Report, SessionLine,
+};
+use snapshot_search::{FindFault, find_all};
+use std::alloc::{AllocError, Global};
+use text_buffer::Snapshot;
+use text_dims::Point;
+use tree_cursor::Bias;
+
+// How many operations it has, the base not counted.
+fn applied_count(snapshot: &Snapshot) -> u64
+    ensures { result ≡ count_of snapshot.now }
+{
+    snapshot.applied().len().saturating_sub(1)
+}
+
+fn find_answer(alloc: Global, rope: &Rope, needle: &str) -> Result<FindAnswer, AllocError>
+    ensures { IfOk result (λ a. a ≡ find_answer needle.now rope.now) }
+{
+    match find_all(alloc, rope, needle) {
+        Ok(starts) => Ok(FindAnswer::Starts(Numbers::new(starts))),
+        Err(FindFault::EmptyNeedle) => Ok(FindAnswer::EmptyNeedle),
+        Err(FindFault::OutOfMemory) => Err(AllocError),
+    }
+}
+
+// The place at the offset, in all kinds of position, where there is one.
+fn place_answer(rope: &Rope, offset: u64) -> Option<PointAnswer>
+    ensures { result ≡ option_map place_answer (place_at_offset rope.now offset) }
+{
+    let point = rope.offset_to_point(offset)?;
+    let utf16 = rope.offset_to_utf16(offset)?;
+    let point_utf16 = rope.point_to_utf16(point)?;
+    Some(PointAnswer::Place {
+        point,
+        utf16,
+        point_utf16,
+    })
+}
+
+fn point_answer(rope: &Rope, offset: u64) -> PointAnswer
+    ensures { result ≡ point_answer offset rope.now }
+{
+    match place_answer(rope, offset) {
+        Some(answer) => answer,
+        None => PointAnswer::Clips {
+            left: rope.clip_offset(offset, Bias::Left),
+            right: rope.clip_offset(offset, Bias::Right),
+        },
+    }
+}
+
+fn offset_answer(rope: &Rope, point: Point) -> OffsetAnswer
+    ensures { result ≡ offset_answer point rope.now }
+{
+    match rope.point_to_offset(point) {
+        Some(offset) => OffsetAnswer::Place { offset },
+        None => OffsetAnswer::Clips {
+            left: rope.clip_point(point, Bias::Left),
+            right: rope.clip_point(point, Bias::Right),
+        },
+    }
+}
+
+// The line of a query with that number, which was answered so on the snapshot.
+fn query_line(number: u64, answer: QueryAnswer, snapshot: &Snapshot) -> Report
+    ensures { result ≡ Report.Query number (count_of snapshot.now) answer }
+{
+    Report::Query {
+        number,
+        applied: applied_count(snapshot),
+        answer,
+    }
+}
+
+// Where the needle stands in the snapshot's text.
+fn find_line(
+    alloc: Global,
+    number: u64,
+    needle: &str,
+    snapshot: &Snapshot,
+) -> Result<Report, AllocError>
+    ensures { IfOk result (λ line. line ≡ answer_line number (count_of snapshot.now) (StartsOf needle.now) (text snapshot.now)) }
+{
+    let answer = find_answer(alloc, snapshot.text(), needle)?;
+    Ok(query_line(number, QueryAnswer::Find(answer), snapshot))
+}
+
+// The point at a byte offset of the snapshot's text.
+fn point_line(number: u64, offset: u64, snapshot: &Snapshot) -> Report
+    ensures { result ≡ answer_line number (count_of snapshot.now) (PointOf offset) (text snapshot.now) }
+{
+    let answer = point_answer(snapshot.text(), offset);
+    query_line(number, QueryAnswer::Point(answer), snapshot)
+}
+
+// The byte offset at a point of the snapshot's text.
+fn offset_line(number: u64, point: Point, snapshot: &Snapshot) -> Report
+    ensures { result ≡ answer_line number (count_of snapshot.now) (OffsetOf point) (text snapshot.now) }
+{
+    let answer = offset_answer(snapshot.text(), point);
+    query_line(number, QueryAnswer::Offset(answer), snapshot)
+}
+
+impl Progress {
+    /// The line of the query that a line is, answered on the spot as query `number`, if it is one.
+    pub fn answer(
+        &self,
+        alloc: Global,
+        number: u64,
+        line: &SessionLine,
+    ) -> Result<Option<Report>, AllocError>
+        ensures { IfOk result (λ r. option_to_list r ≡ map plain_line (query_at number line.now (state_of self.now))) }
+    {
+        match line {
+            SessionLine::Edit { .. } => Ok(None),
+            SessionLine::Undo { .. } => Ok(None),
+            SessionLine::Op(_) => Ok(None),
+            SessionLine::Uop(_) => Ok(None),
+            SessionLine::Give { .. } => Ok(None),
+            SessionLine::Text { .. } => Ok(None),
+            SessionLine::Find { replica, needle } => self.find(alloc, number, *replica, needle),
+            SessionLine::Point { replica, offset } => self.point(number, *replica, *offset),
+            SessionLine::Offset {
+                replica,
+                row,
+                column,
+            } => {
+                let point = Point {
+                    row: *row,
+                    column: *column,
+                };
+                self.offset(number, *replica, point)
+            }
+        }
+    }
+
+    fn find(
+        &self,
+        alloc: Global,
+        number: u64,
+        id: u16,
+        needle: &Text,
+    ) -> Result<Option<Report>, AllocError>
+        ensures { IfOk result (λ r. option_to_list r ≡ map plain_line (query_at number (SessionLine.Find id needle.now) (state_of self.now))) }
+    {
+        match self.snapshot_of(id)? {
+            Some(snapshot) => Ok(Some(find_line(alloc, number, needle.as_str(), &snapshot)?)),
+            None => Ok(None),
+        }
+    }
+
+    fn point(&self, number: u64, id: u16, offset: u64) -> Result<Option<Report>, AllocError>
+        ensures { IfOk result (λ r. option_to_list r ≡ map plain_line (query_at number (SessionLine.Point id offset) (state_of self.now))) }
+    {
+        match self.snapshot_of(id)? {
+            Some(snapshot) => Ok(Some(point_line(number, offset, &snapshot))),
+            None => Ok(None),
+        }
+    }
+
+    fn offset(&self, number: u64, id: u16, point: Point) -> Result<Option<Report>, AllocError>
+        ensures { IfOk result (λ r. option_to_list r ≡ map plain_line (query_at number (SessionLine.Offset id point.row point.column) (state_of self.now))) }
+    {
+        match self.snapshot_of(id)? {
+            Some(snapshot) => Ok(Some(offset_line(number, point, &snapshot))),
+            None => Ok(None),
+        }
+    }
+}
