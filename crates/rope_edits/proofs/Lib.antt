@@ -1,3 +1,4 @@
 pub mod Fit
 pub mod Ropes
 pub mod Scripts
+pub mod Sides

@@ -2,8 +2,11 @@
 #![tactic(auto)]
 
 mod following;
+mod moving;
 mod ranges;
 mod script;
+mod side;
 
 pub use following::follow;
+pub use moving::{TextRopes, apply_moves};
 pub use ranges::{piece_fault, replaced};
