@@ -1,40 +1,35 @@
 -- Moves carry bytes along with a walk over fragments.
-use Rattle.std.proofs.Common.{◌≡◌, ℕ, zero, suc, ◌+◌, ◌≤◌, ◌<◌, Bool, true, false, cond, not, List, [], ◌∷◌, ◌++◌, length, map, take, drop, get_or, refl, sym, ap, ◌∙◌, subst, arith, append_assoc, length-append, drop-cons, ◌-◌, append-nil, Option, Some, None}
+use Rattle.std.proofs.Common.{◌≡◌, ℕ, zero, suc, ◌+◌, ◌≤◌, ◌<◌, Bool, true, false, cond, not, List, [], ◌∷◌, ◌++◌, length, map, take, drop, get_or, refl, sym, ap, ◌∙◌, subst, arith, append_assoc, length-append, drop-cons}
 use Rattle.std.specs.List.{filter}
+use Rattle.std.specs.Str.{IsUtf8}
+use Rattle.std.proofs.lemmas.Str.{IsUtf8-nil, IsUtf8-append}
 use Rattle.std.proofs.lemmas.List.{drop-drop}
 use Rattle.lamport_clock.specs.declared.stamp.Lamport.{Lamport}
 use Rattle.op_model.specs.Cells.{Cell}
 use Rattle.op_model.specs.Facts.{Fact, alike}
+use Rattle.op_model.specs.Sorted.{Each}
 use Rattle.op_model.specs.Walked.{facts_of}
 use Rattle.op_model.proofs.Utf8Runs.{take_front, drop_front}
+use Rattle.op_model.proofs.WholeTexts.{each_left, each_right}
 use Rattle.fragments.specs.declared.fragment.Fragment.{Fragment}
 use Rattle.fragments.specs.Stand.{runs}
 use Rattle.fragments.specs.Laws.{shown_len}
 use Rattle.remote_edit.specs.declared.moves.Move.{Move}
 use Rattle.remote_edit.specs.declared.moves.Move.TheVariants.{Visible, Hidden, Insert}
-use Rattle.remote_edit.specs.Moves.{texts_of, followed_by, with_move, HaveMoved}
-use Rattle.remote_edit.specs.Walk.{front, back, new_fragment}
-use Rattle.lamport_clock.specs.Versions.{Entries}
-use Rattle.op_model.specs.Facts.{with_deletion}
-use Rattle.undo_map.specs.declared.entry.UndoEntry.{UndoEntry}
-use Rattle.remote_edit.specs.Marks.{was_shown, touch}
-use Rattle.remote_edit.specs.Carried.{CarryOn, move_for, shown_bytes, hidden_bytes, both_bytes, hidden_len, Carried}
+use Rattle.remote_edit.specs.Moves.{texts_of, followed_by, with_move, TakeTexts, HaveMoved}
+use Rattle.remote_edit.specs.Carried.{CarryOn, move_for, shown_bytes, hidden_bytes, both_bytes, hidden_len, cell_bytes, IsText, Carried}
 use Rattle.remote_edit.proofs.Stepping.{step, keep}
+use Rattle.remote_edit.proofs.Characters.{take_more, take_kept}
 
 -- two fragments have the same cells
 abbrev pub SameCells : Fragment → Fragment → Type 0
 SameCells f g = (g.stamp ≡ f.stamp) × (g.offset ≡ f.offset) × (g.len ≡ f.len)
 
 module _ (byte : Cell → ℕ) where
-  -- the bytes of n cells of an edit from k on
-  abbrev pub cell_bytes : Lamport → ℕ → ℕ → List ℕ
-  cell_bytes t k zero = []
-  cell_bytes t k (suc n) = byte (record { stamp = t; k = k }) ∷ cell_bytes t (suc k) n
-
   abbrev pub bytes_of : Fragment → List ℕ
-  bytes_of f = cell_bytes f.stamp f.offset f.len
+  bytes_of f = cell_bytes byte f.stamp f.offset f.len
 
-  pub long : (t : Lamport) (k n : ℕ) → n ≡ length (cell_bytes t k n)
+  pub long : (t : Lamport) (k n : ℕ) → n ≡ length (cell_bytes byte t k n)
   long t k zero = refl
   long t k (suc n) = ap suc (long t (suc k) n)
 
@@ -42,10 +37,10 @@ module _ (byte : Cell → ℕ) where
   abbrev picked : (Bool → Bool) → List Fact → List ℕ
   picked p s = map (λ (q : Fact). byte q.cell) (filter (λ (q : Fact). p q.visible) s)
 
-  pick_alike : (p : Bool → Bool) (t : Lamport) (k n : ℕ) (v : Bool) (d : List Lamport) (s : List Fact) → picked p (alike t k n v d ++ s) ≡ cond (p v) (cell_bytes t k n ++ picked p s) (picked p s)
+  pick_alike : (p : Bool → Bool) (t : Lamport) (k n : ℕ) (v : Bool) (d : List Lamport) (s : List Fact) → picked p (alike t k n v d ++ s) ≡ cond (p v) (cell_bytes byte t k n ++ picked p s) (picked p s)
   pick_alike p t k n v d s = go (p v) refl k n
     where
-      go : (b : Bool) → p v ≡ b → (k n : ℕ) → picked p (alike t k n v d ++ s) ≡ cond b (cell_bytes t k n ++ picked p s) (picked p s)
+      go : (b : Bool) → p v ≡ b → (k n : ℕ) → picked p (alike t k n v d ++ s) ≡ cond b (cell_bytes byte t k n ++ picked p s) (picked p s)
       go true e k zero = refl
       go true e k (suc n) = rw e (ap (λ z. byte (record { stamp = t; k = k }) ∷ z) (go true e (suc k) n))
       go false e k zero = refl
@@ -75,13 +70,15 @@ module _ (byte : Cell → ℕ) where
   both_append xs ys = rw (shown_append xs ys, hidden_append xs ys) refl
 
   -- a move behind others, where it takes what stands between pre and rest
-  pub one_move : {t : Lamport} {s h n : List ℕ} {ms : List Move} {pre rest : List Fragment} {k : ℕ} (m : Move) (gs rest2 : List Fragment) (j : ℕ)
+  pub one_move : {t : Lamport} {s h n : List ℕ} {ms : List Move} {pre rest : List Fragment} {k : ℕ} (m : Move) (g : Fragment) (rest2 : List Fragment) (j : ℕ)
       → Carried byte t s h n ms pre rest k
-      → HaveMoved (shown_bytes byte rest) (hidden_bytes byte rest) (drop k n) (m ∷ []) (both_bytes byte gs) (both_bytes byte rest2) (drop j n)
-      → Carried byte t s h n (with_move ms m) (pre ++ gs) rest2 j
-  one_move {t} {s} {h} {n} {ms} {pre} {rest} {k} m gs rest2 j c a = record {
-    moves = rw (both_append pre gs) (step s h n ms (both_bytes byte pre) (both_bytes byte rest) (drop k n) m (both_bytes byte gs) (both_bytes byte rest2) (drop j n) c.moves a);
+      → HaveMoved (shown_bytes byte rest) (hidden_bytes byte rest) (drop k n) (m ∷ []) (both_bytes byte (g ∷ [])) (both_bytes byte rest2) (drop j n)
+      → (IsText byte g → TakeTexts (m ∷ []) (shown_bytes byte rest) (hidden_bytes byte rest) (drop k n))
+      → Carried byte t s h n (with_move ms m) (pre ++ g ∷ []) rest2 j
+  one_move {t} {s} {h} {n} {ms} {pre} {rest} {k} m g rest2 j c a w = record {
+    moves = rw (both_append pre (g ∷ [])) (step s h n ms (both_bytes byte pre) (both_bytes byte rest) (drop k n) m (both_bytes byte (g ∷ [])) (both_bytes byte rest2) (drop j n) c.moves a);
     text = c.text;
+    characters = λ u. take_more ms m s h n (c.characters (each_left (IsText byte) pre (g ∷ []) u)) (rw (c.moves.left_shown, c.moves.left_hidden, c.moves.news) (w (each_right (IsText byte) pre (g ∷ []) u).0));
   }
 
   taken : (f : Fragment) (x : List ℕ) → take f.len (bytes_of f ++ x) ≡ bytes_of f
@@ -116,10 +113,26 @@ module _ (byte : Cell → ℕ) where
       go false true = record { put = rw (taken f h) refl; left_shown = refl; left_hidden = rw (zero_more f.len) (left_of f h); news = refl }
       go false false = record { put = rw (taken f h) refl; left_shown = refl; left_hidden = rw (zero_more f.len) (left_of f h); news = refl }
 
+  -- whole characters
+  takes : (f g : Fragment) (rest : List Fragment) (x : List ℕ) → SameCells f g → IsText byte g → TakeTexts (move_for f.visible g.visible f.len ∷ []) (shown_bytes byte (f ∷ rest)) (hidden_bytes byte (f ∷ rest)) x
+  takes f g rest x e u = rw (shown_first f rest, hidden_first f rest) (go f.visible g.visible)
+    where
+      w : IsUtf8 (bytes_of f)
+      w = subst IsUtf8 (same_cells f g e) u
+
+      first : (z : List ℕ) → IsUtf8 (take f.len (bytes_of f ++ z))
+      first z = subst IsUtf8 (sym (taken f z)) w
+
+      go : (was now : Bool) → TakeTexts (move_for was now f.len ∷ []) (cond was (bytes_of f ++ shown_bytes byte rest) (shown_bytes byte rest)) (cond (not was) (bytes_of f ++ hidden_bytes byte rest) (hidden_bytes byte rest)) x
+      go true true = (first (shown_bytes byte rest), tt)
+      go true false = (first (shown_bytes byte rest), tt)
+      go false true = (first (hidden_bytes byte rest), tt)
+      go false false = (first (hidden_bytes byte rest), tt)
+
   -- one fragment is put out, shown or hidden as it was or anew
   pub carried_one : {t : Lamport} {s h n : List ℕ} {ms : List Move} {pre : List Fragment} (f g : Fragment) (rest : List Fragment) {k : ℕ}
       → Carried byte t s h n ms pre (f ∷ rest) k → SameCells f g → Carried byte t s h n (with_move ms (move_for f.visible g.visible f.len)) (pre ++ g ∷ []) rest k
-  carried_one {t} {s} {h} {n} {ms} {pre} f g rest {k} c e = one_move (move_for f.visible g.visible f.len) (g ∷ []) rest k c (becomes f g rest (drop k n) e)
+  carried_one {t} {s} {h} {n} {ms} {pre} f g rest {k} c e = one_move (move_for f.visible g.visible f.len) g rest k c (becomes f g rest (drop k n) e) (takes f g rest (drop k n) e)
 
   -- a stretch of fragments is passed
   pub shown_long : (xs : List Fragment) → shown_len xs ≡ length (shown_bytes byte xs)
@@ -138,55 +151,53 @@ module _ (byte : Cell → ℕ) where
       go true e = e
       go false e = let a = length-append (bytes_of x) (hidden_bytes byte xs) in let l = long x.stamp x.offset x.len in omega (arith, a, l, e)
 
+  shown_text : (xs : List Fragment) → Each (IsText byte) xs → IsUtf8 (shown_bytes byte xs)
+  shown_text [] u = IsUtf8-nil
+  shown_text (x ∷ xs) u = subst IsUtf8 (sym (shown_first x xs)) (go x.visible (shown_text xs u.1))
+    where
+      go : (b : Bool) → IsUtf8 (shown_bytes byte xs) → IsUtf8 (cond b (bytes_of x ++ shown_bytes byte xs) (shown_bytes byte xs))
+      go true w = IsUtf8-append (bytes_of x) (shown_bytes byte xs) u.0 w
+      go false w = w
+
+  hidden_text : (xs : List Fragment) → Each (IsText byte) xs → IsUtf8 (hidden_bytes byte xs)
+  hidden_text [] u = IsUtf8-nil
+  hidden_text (x ∷ xs) u = subst IsUtf8 (sym (hidden_first x xs)) (go (not x.visible) (hidden_text xs u.1))
+    where
+      go : (b : Bool) → IsUtf8 (hidden_bytes byte xs) → IsUtf8 (cond b (bytes_of x ++ hidden_bytes byte xs) (hidden_bytes byte xs))
+      go true w = IsUtf8-append (bytes_of x) (hidden_bytes byte xs) u.0 w
+      go false w = w
+
   pub carried_stretch : {t : Lamport} {s h n : List ℕ} {ms : List Move} {pre : List Fragment} (xs rest : List Fragment) {k : ℕ}
       → Carried byte t s h n ms pre (xs ++ rest) k → Carried byte t s h n (with_move (with_move ms (Visible (shown_len xs))) (Hidden (hidden_len xs))) (pre ++ xs) rest k
   carried_stretch {t} {s} {h} {n} {ms} {pre} xs rest {k} c = record {
     moves = rw (both_append pre xs) (keep s h n ms (both_bytes byte pre) (shown_bytes byte xs) (shown_bytes byte rest) (hidden_bytes byte xs) (hidden_bytes byte rest) (drop k n)
-        (shown_len xs) (hidden_len xs) (shown_long xs) (hidden_long xs) (subst (λ z. HaveMoved s h n ms (both_bytes byte pre) z (drop k n)) (both_append xs rest) c.moves));
+        (shown_len xs) (hidden_len xs) (shown_long xs) (hidden_long xs) found);
     text = c.text;
+    characters = λ u. take_kept ms s h n (shown_bytes byte xs) (shown_bytes byte rest) (hidden_bytes byte xs) (hidden_bytes byte rest) (shown_len xs) (hidden_len xs) (shown_long xs) (hidden_long xs)
+        found.left_shown found.left_hidden (shown_text xs (each_right (IsText byte) pre xs u)) (hidden_text xs (each_right (IsText byte) pre xs u)) (c.characters (each_left (IsText byte) pre xs u));
   }
+    where
+      found : HaveMoved s h n ms (both_bytes byte pre) (texts_of (shown_bytes byte xs ++ shown_bytes byte rest) (hidden_bytes byte xs ++ hidden_bytes byte rest)) (drop k n)
+      found = subst (λ z. HaveMoved s h n ms (both_bytes byte pre) z (drop k n)) (both_append xs rest) c.moves
 
-  text_from : (t : Lamport) (n : List ℕ) → ((j : ℕ) → byte (record { stamp = t; k = j }) ≡ get_or n j 0) → (k l : ℕ) → k + l ≤ length n → cell_bytes t k l ≡ take l (drop k n)
+  text_from : (t : Lamport) (n : List ℕ) → ((j : ℕ) → byte (record { stamp = t; k = j }) ≡ get_or n j 0) → (k l : ℕ) → k + l ≤ length n → cell_bytes byte t k l ≡ take l (drop k n)
   text_from t n e k zero h = refl
   text_from t n e k (suc l) h = let i : k < length n = omega (arith, h) in rw (drop-cons n k 0, e k) (ap (λ z. get_or n k 0 ∷ z) (text_from t n e (suc k) l (omega (arith, h))))
 
   -- new cells are put out
-  pub carried_new : {t : Lamport} {s h n : List ℕ} {ms : List Move} {pre : List Fragment} (rest : List Fragment) (k l : ℕ) (id : List ℕ)
-      → Carried byte t s h n ms pre rest k → k + l ≤ length n → Carried byte t s h n (with_move ms (Insert l)) (pre ++ new_fragment t k l id ∷ []) rest (k + l)
-  carried_new {t} {s} {h} {n} {ms} {pre} rest k l id c e = one_move (Insert l) (new_fragment t k l id ∷ []) rest (k + l) c (record {
-    put = rw (shown_first (new_fragment t k l id) [], hidden_first (new_fragment t k l id) [], text_from t n c.text k l e) refl;
-    left_shown = refl;
-    left_hidden = refl;
-    news = let z : l + 0 ≡ l = omega arith in rw z (drop-drop l k n);
-  })
-
-  cells_add : (t : Lamport) (k m n l : ℕ) → l ≡ m + n → cell_bytes t k l ≡ cell_bytes t k m ++ cell_bytes t (k + m) n
-  cells_add t k zero n l e = let i : k + 0 ≡ k = omega arith in let j : l ≡ n = omega (arith, e) in rw (i, j) refl
-  cells_add t k (suc m) n zero e = absurd (omega (arith, e))
-  cells_add t k (suc m) n (suc l) e = let i : k + suc m ≡ suc k + m = omega arith in rw i (ap (λ z. byte (record { stamp = t; k = k }) ∷ z) (cells_add t (suc k) m n l (omega (arith, e))))
-
-  twice : (b : Bool) (w x y z : List ℕ) → w ≡ x ++ y → cond b (w ++ z) z ≡ cond b (x ++ cond b (y ++ z) z) (cond b (y ++ z) z)
-  twice true w x y z e = rw e (append_assoc x y z)
-  twice false w x y z e = refl
-
-  split_shown : (f : Fragment) (rest : List Fragment) (m : ℕ) (id : List ℕ) → m ≤ f.len → shown_bytes byte (f ∷ rest) ≡ shown_bytes byte (front f m id ∷ back f m ∷ rest)
-  split_shown f rest m id e = rw (shown_first f rest, shown_first (front f m id) (back f m ∷ rest), shown_first (back f m) rest)
-      (twice f.visible (bytes_of f) (bytes_of (front f m id)) (bytes_of (back f m)) (shown_bytes byte rest) (cells_add f.stamp f.offset m (f.len - m) f.len (omega (arith, e))))
-
-  split_hidden : (f : Fragment) (rest : List Fragment) (m : ℕ) (id : List ℕ) → m ≤ f.len → hidden_bytes byte (f ∷ rest) ≡ hidden_bytes byte (front f m id ∷ back f m ∷ rest)
-  split_hidden f rest m id e = rw (hidden_first f rest, hidden_first (front f m id) (back f m ∷ rest), hidden_first (back f m) rest)
-      (twice (not f.visible) (bytes_of f) (bytes_of (front f m id)) (bytes_of (back f m)) (hidden_bytes byte rest) (cells_add f.stamp f.offset m (f.len - m) f.len (omega (arith, e))))
-
-  pub both_split : (f : Fragment) (rest : List Fragment) (m : ℕ) (id : List ℕ) → m ≤ f.len → both_bytes byte (f ∷ rest) ≡ both_bytes byte (front f m id ∷ back f m ∷ rest)
-  both_split f rest m id e = rw (split_shown f rest m id e, split_hidden f rest m id e) refl
-
-  -- a fragment is split
-  pub carried_split : {t : Lamport} {s h n : List ℕ} {ms : List Move} {pre : List Fragment} (f : Fragment) (rest : List Fragment) {k : ℕ} (m : ℕ) (id : List ℕ)
-      → Carried byte t s h n ms pre (f ∷ rest) k → m ≤ f.len → Carried byte t s h n ms pre (front f m id ∷ back f m ∷ rest) k
-  carried_split {t} {s} {h} {n} {ms} {pre} f rest {k} m id c e = record {
-    moves = subst (λ z. HaveMoved s h n ms (both_bytes byte pre) z (drop k n)) (both_split f rest m id e) c.moves;
-    text = c.text;
-  }
+  pub carried_insert : {t : Lamport} {s h n : List ℕ} {ms : List Move} {pre : List Fragment} (rest : List Fragment) (k : ℕ) (f : Fragment) → f.stamp ≡ t → f.offset ≡ k → f.visible ≡ true
+      → Carried byte t s h n ms pre rest k → k + f.len ≤ length n → Carried byte t s h n (with_move ms (Insert f.len)) (pre ++ f ∷ []) rest (k + f.len)
+  carried_insert {t} {s} {h} {n} {ms} {pre} rest k f is from shown c e = one_move (Insert f.len) f rest (k + f.len) c
+      (record {
+        put = rw (shown_first f [], hidden_first f [], shown, is, from, cells) refl;
+        left_shown = refl;
+        left_hidden = refl;
+        news = let z : f.len + 0 ≡ f.len = omega arith in rw z (drop-drop f.len k n);
+      })
+      (λ u. (subst IsUtf8 (ap (λ x. cell_bytes byte x f.offset f.len) is ∙ ap (λ x. cell_bytes byte t x f.len) from ∙ cells) u, tt))
+    where
+      cells : cell_bytes byte t k f.len ≡ take f.len (drop k n)
+      cells = text_from t n c.text k f.len e
 
 -- ---- going on
 
@@ -197,28 +208,14 @@ go_on {k2 = k2} {k3 = k3} o a b byte s h n l c = b byte s h n l (a byte s h n (o
 pub stay : {t : Lamport} {ms : List Move} {pre rest : List Fragment} {k : ℕ} → CarryOn t ms pre rest k ms pre rest k
 stay byte s h n l c = c
 
--- the cells of a fragment that is touched are those that it had
-pub touch_cells : (m : Option (List UndoEntry)) (t : Lamport) (v : Entries) (f : Fragment) → SameCells f (touch m t v f)
-touch_cells None t v f = (refl, refl, refl)
-touch_cells (Some w) t v f = elim (was_shown w v f.stamp f.deletions) as (λ b. SameCells f (cond b (record { id = f.id; stamp = f.stamp; offset = f.offset; len = f.len; visible = false; deletions = with_deletion t f.deletions; max_undos = f.max_undos }) f))
-    [ true ↦ (refl, refl, refl) | false ↦ (refl, refl, refl) ]
-
 pub on_one : {t : Lamport} {ms : List Move} {pre : List Fragment} (f g : Fragment) (rest : List Fragment) {k : ℕ} → SameCells f g
     → CarryOn t ms pre (f ∷ rest) k (with_move ms (move_for f.visible g.visible f.len)) (pre ++ g ∷ []) rest k
 on_one f g rest e byte s h n l c = carried_one byte f g rest c e
-
-pub on_front : {t : Lamport} {ms : List Move} {pre : List Fragment} (f : Fragment) (rest : List Fragment) {k : ℕ} (i : ℕ) (id : List ℕ) (m : Option (List UndoEntry)) (u : Lamport) (v : Entries) → i ≤ f.len
-    → CarryOn t ms pre (f ∷ rest) k (with_move ms (move_for f.visible (touch m u v (front f i id)).visible i)) (pre ++ touch m u v (front f i id) ∷ []) (back f i ∷ rest) k
-on_front f rest i id m u v o byte s h n l c = carried_one byte (front f i id) (touch m u v (front f i id)) (back f i ∷ rest) (carried_split byte f rest i id c o) (touch_cells m u v (front f i id))
 
 pub on_stretch : {t : Lamport} {ms : List Move} {pre : List Fragment} (xs rest : List Fragment) {k : ℕ}
     → CarryOn t ms pre (xs ++ rest) k (with_move (with_move ms (Visible (shown_len xs))) (Hidden (hidden_len xs))) (pre ++ xs) rest k
 on_stretch xs rest byte s h n l c = carried_stretch byte xs rest c
 
-pub on_last : {t : Lamport} {ms : List Move} {pre : List Fragment} (xs : List Fragment) {k : ℕ}
-    → CarryOn t ms pre xs k (with_move (with_move ms (Visible (shown_len xs))) (Hidden (hidden_len xs))) (pre ++ xs) [] k
-on_last {t} {ms} {pre} xs {k} byte s h n l c = carried_stretch byte xs [] (subst (λ z. Carried byte t s h n ms pre z k) (sym (append-nil xs)) c)
-
-pub on_new : {t : Lamport} {ms : List Move} {pre : List Fragment} (rest : List Fragment) (k i : ℕ) (id : List ℕ)
-    → CarryOn t ms pre rest k (with_move ms (Insert i)) (pre ++ new_fragment t k i id ∷ []) rest (k + i)
-on_new rest k i id byte s h n l c = carried_new byte rest k i id c l
+pub on_insert : {t : Lamport} {ms : List Move} {pre : List Fragment} (rest : List Fragment) (k : ℕ) (f : Fragment) → f.stamp ≡ t → f.offset ≡ k → f.visible ≡ true
+    → CarryOn t ms pre rest k (with_move ms (Insert f.len)) (pre ++ f ∷ []) rest (k + f.len)
+on_insert rest k f is from shown byte s h n l c = carried_insert byte rest k f is from shown c l

@@ -88,7 +88,7 @@ ordered_down : (at from end : ℕ) (ps : List Piece) → at ≤ from → Ordered
 ordered_down at from end [] h o = omega arith
 ordered_down at from end (p ∷ ps) h o = let k = o.0 in ((omega arith), o.1, o.2)
 
-ordered_changing : (at end : ℕ) (ps : List Piece) → Ordered at end ps → Ordered at end (changing ps)
+pub ordered_changing : (at end : ℕ) (ps : List Piece) → Ordered at end ps → Ordered at end (changing ps)
 ordered_changing at end [] o = o
 ordered_changing at end (p ∷ ps) o = elim (cases_Bool (changes p)) [
   | inl e ↦ rw e ((o.0, o.1, ordered_changing p.end end ps o.2))

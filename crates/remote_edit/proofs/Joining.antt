@@ -83,7 +83,7 @@ to_shown a b s f = rw (take-add a b s, ← dropped a b s) (sym (twice (take a s)
 to_hidden : (a b : ℕ) (s : List ℕ) (f : List ℕ → Texts) → followed_by [] (take (a + b) s) (f (drop (a + b) s)) ≡ followed_by [] (take a s) (followed_by [] (take b (drop a s)) (f (drop b (drop a s))))
 to_hidden a b s f = rw (take-add a b s, ← dropped a b s) (sym (twice [] (take a s) [] (take b (drop a s)) (f (drop b (drop a s)))))
 
-fitted : {A : Type 0} (b : Bool) (x y : A) → cond b (Some x) None ≡ Some y → x ≡ y
+pub fitted : {A : Type 0} (b : Bool) (x y : A) → cond b (Some x) None ≡ Some y → x ≡ y
 fitted true x y e = cc
 fitted false x y e = cc
 

@@ -1,5 +1,6 @@
 pub mod Joining
 pub mod Stepping
+pub mod Characters
 pub mod Carrying
 pub mod Texts
 pub mod Beside
@@ -24,3 +25,8 @@ pub mod Standing
 pub mod Entering
 pub mod Undos
 pub mod Making
+pub mod BeforeEdit
+pub mod EditMoves
+pub mod EditTexts
+pub mod WholeFragments
+pub mod UndoCharacters

@@ -111,7 +111,7 @@ module _ (w : List UndoEntry) (t : Lamport) (v : Entries) (new : (u : Lamport) �
         ∙ ap (λ (x : List Run). x ++ f (runs z.rest)) e.before ∙ ap (λ (x : List Run). (runs pre ++ o.out) ++ f x) e.behind ∙ append_assoc (runs pre) o.out (f o.rest)))
   ]
 
-filled_runs : (fs : List Fragment) → Each IsFilled fs → Each (λ (r : Run). 0 < r.len) (runs fs)
+pub filled_runs : (fs : List Fragment) → Each IsFilled fs → Each (λ (r : Run). 0 < r.len) (runs fs)
 filled_runs [] h = tt
 filled_runs (f ∷ fs) h = (h.0.0, filled_runs fs h.1)
 

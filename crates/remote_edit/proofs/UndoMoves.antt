@@ -40,11 +40,11 @@ Both = ℕ × ℕ
 abbrev pub both : ℕ → ℕ → Both
 both v h = (v, h)
 
-shown_append : (xs ys : List Fragment) → shown_len (xs ++ ys) ≡ shown_len xs + shown_len ys
+pub shown_append : (xs ys : List Fragment) → shown_len (xs ++ ys) ≡ shown_len xs + shown_len ys
 shown_append [] ys = omega arith
 shown_append (f ∷ xs) ys = let ih = shown_append xs ys in elim (f.visible) as (λ b. cond b (f.len + shown_len (xs ++ ys)) (shown_len (xs ++ ys)) ≡ cond b (f.len + shown_len xs) (shown_len xs) + shown_len ys) [ true ↦ omega arith | false ↦ omega arith ]
 
-hidden_append : (xs ys : List Fragment) → hidden_len (xs ++ ys) ≡ hidden_len xs + hidden_len ys
+pub hidden_append : (xs ys : List Fragment) → hidden_len (xs ++ ys) ≡ hidden_len xs + hidden_len ys
 hidden_append [] ys = omega arith
 hidden_append (f ∷ xs) ys = let ih = hidden_append xs ys in elim (f.visible) as (λ b. cond b (hidden_len (xs ++ ys)) (f.len + hidden_len (xs ++ ys)) ≡ cond b (hidden_len xs) (f.len + hidden_len xs) + hidden_len ys) [ true ↦ omega arith | false ↦ omega arith ]
 
@@ -136,7 +136,7 @@ module _ {A S : Type 0} (keeps : S → Bool) (sum_of : A → S) where
 -- ---- the walk
 
 -- the cells of a fragment stay
-same_cells : (w : List UndoEntry) (by : Lamport) (ts : List Lamport) (f : Fragment) → SameCells f (anew w by ts f)
+pub same_cells : (w : List UndoEntry) (by : Lamport) (ts : List Lamport) (f : Fragment) → SameCells f (anew w by ts f)
 same_cells w by ts f = elim (cases_Bool (list_any (concerns f) ts)) [
   | inl h ↦ subst (SameCells f) (sym (concerned w by ts f h)) (refl, refl, refl)
   | inr h ↦ subst (SameCells f) (sym (unconcerned w by ts f h)) (refl, refl, refl)

@@ -44,14 +44,14 @@ shown_seen h c = rw (kept_all (newest_first h), undone_newest h c.stamp, all_new
 abbrev ByCounts : History → Fact → Type 0
 ByCounts h q = q.visible ≡ seen_by h q.cell.stamp q.deletions
 
-told_by_counts : (h : History) (s : List Place) → Each (ByCounts h) (map (fact h) (cells s))
+pub told_by_counts : (h : History) (s : List Place) → Each (ByCounts h) (map (fact h) (cells s))
 told_by_counts h [] = tt
 told_by_counts h (p ∷ s) = (shown_seen h p.cell, told_by_counts h s)
 
 abbrev pub IsByCounts : History → Fragment → Type 0
 IsByCounts h f = f.visible ≡ seen_by h f.stamp f.deletions
 
-each_right : {A : Type 0} (P : A → Type 0) (xs ys : List A) → Each P (xs ++ ys) → Each P ys
+pub each_right : {A : Type 0} (P : A → Type 0) (xs ys : List A) → Each P (xs ++ ys) → Each P ys
 each_right P [] ys e = e
 each_right P (x ∷ xs) ys e = each_right P xs ys e.1
 
@@ -59,7 +59,7 @@ first_told : (h : History) (t : Lamport) (k n : ℕ) (v : Bool) (d : List Lampor
 first_told h t k zero v d s l e = absurd (omega arith)
 first_told h t k (suc n) v d s l e = e.0
 
-by_counts : (h : History) (fs : List Fragment) → Each IsFilled fs → Each (ByCounts h) (facts_of (runs fs)) → Each (IsByCounts h) fs
+pub by_counts : (h : History) (fs : List Fragment) → Each IsFilled fs → Each (ByCounts h) (facts_of (runs fs)) → Each (IsByCounts h) fs
 by_counts h [] l e = tt
 by_counts h (f ∷ fs) l e = (
   first_told h f.stamp f.offset f.len f.visible f.deletions (facts_of (runs fs)) l.0.0 e,

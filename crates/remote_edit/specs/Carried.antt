@@ -1,6 +1,7 @@
 -- Moves on the way: what they have done where a walk over fragments has put some out and has the others before it.
-use Rattle.std.specs.Prelude.{◌≡◌, ℕ, ◌+◌, ◌≤◌, Bool, not, if◌then◌else◌, List, [], ◌∷◌, ◌++◌, map, drop, length, slice_index}
+use Rattle.std.specs.Prelude.{◌≡◌, ℕ, zero, suc, ◌+◌, ◌≤◌, Bool, not, if◌then◌else◌, List, [], ◌∷◌, ◌++◌, map, drop, length, slice_index}
 use Rattle.std.specs.List.{filter}
+use Rattle.std.specs.Str.{IsUtf8}
 use Rattle.lamport_clock.specs.declared.stamp.Lamport.{Lamport}
 use Rattle.op_model.specs.declared.operation.Operation.{Operation}
 use Rattle.op_model.specs.Operations.{stamp_of, pieces_of}
@@ -44,11 +45,21 @@ abbrev pub hidden_len : List Fragment → ℕ
 hidden_len [] = 0
 hidden_len (f ∷ fs) = if f.visible then hidden_len fs else f.len + hidden_len fs
 
--- of the texts s and h and of n, the new text of edit t, the moves ms have put out the bytes of the fragments pre; those to come
--- find the bytes of rest, and of the new text those from k on
+-- the bytes of n cells of edit t from k on
+abbrev pub cell_bytes : (Cell → ℕ) → Lamport → ℕ → ℕ → List ℕ
+cell_bytes byte t k zero = []
+cell_bytes byte t k (suc n) = byte (record { stamp = t; k = k }) ∷ cell_bytes byte t (suc k) n
+
+-- the bytes of a fragment are UTF-8
+abbrev pub IsText : (Cell → ℕ) → Fragment → Type 0
+IsText byte f = IsUtf8 (cell_bytes byte f.stamp f.offset f.len)
+
+-- of the texts s and h and of n, the new text of edit t, the moves ms have put out the bytes of the fragments pre, whole characters
+-- where each of these is UTF-8; those to come find the bytes of rest, and of the new text those from k on
 pub record Carried (byte : Cell → ℕ) (t : Lamport) (s h n : List ℕ) (ms : List Move) (pre rest : List Fragment) (k : ℕ) : Type 0 where
   pub moves : HaveMoved s h n ms (both_bytes byte pre) (both_bytes byte rest) (drop k n)
   pub text : (j : ℕ) → byte (record { stamp = t; k = j }) ≡ slice_index n j
+  pub characters : Each (IsText byte) pre → TakeTexts ms s h n
 
 -- moves that go on as a walk over fragments goes on, putting in new cells of edit t
 abbrev pub CarryOn : Lamport → List Move → List Fragment → List Fragment → ℕ → List Move → List Fragment → List Fragment → ℕ → Type 0

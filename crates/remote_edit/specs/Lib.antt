@@ -8,6 +8,7 @@ pub mod CarriedLaws
 pub mod Offsets
 pub mod SeesLaws
 pub mod Anew
+pub mod BeforeEdit
 pub mod Undoing
 pub mod Steps
 pub mod Gathers

@@ -18,6 +18,8 @@ use Rattle.undo_map.specs.declared.entry.UndoEntry.{UndoEntry}
 use Rattle.fragments.specs.declared.fragment.Fragment.{Fragment}
 use Rattle.fragments.specs.declared.index_entry.IndexEntry.{IndexEntry}
 use Rattle.fragments.specs.Stand.{Stand}
+use Rattle.remote_edit.specs.declared.moves.Move.{Move}
+use Rattle.remote_edit.specs.Carried.{AreMovesOf, KeepCharacters}
 
 -- the fragments, the index and the undo counts stand for a lawful history in which the edit is good, and whose bytes and the new
 -- ones are at most 2^40
@@ -31,6 +33,14 @@ pub record MayPlace (fs : List Fragment) (w : List IndexEntry) (u : List UndoEnt
 -- for each lawful history in which the operation is good and for which the old ones stand, the new ones stand for it with the operation
 abbrev pub ArePlaced : List Fragment → List IndexEntry → List UndoEntry → Operation → List Fragment → List IndexEntry → Type 0
 ArePlaced fs w u op gs v = (h : History) → Stand fs w u h → Lawful h → answer h [] op ≡ Good → Stand gs v u (h ++ op ∷ [])
+
+-- for each such history, the moves take its texts to those of it with the operation
+abbrev pub MoveWithEdit : List Fragment → List IndexEntry → List UndoEntry → Operation → List Move → Type 0
+MoveWithEdit fs w u op ms = (h : History) → Stand fs w u h → Lawful h → answer h [] op ≡ Good → AreMovesOf ms h op
+
+-- for each such history, where the texts are UTF-8, whole fragments stay whole and the moves take whole characters
+abbrev pub KeepCharactersWithEdit : List Fragment → List IndexEntry → List UndoEntry → Operation → List Fragment → List Move → Type 0
+KeepCharactersWithEdit fs w u op gs ms = (h : History) → Stand fs w u h → Lawful h → Each IsProper h → IsProper op → answer h [] op ≡ Good → KeepCharacters fs gs ms h op
 
 -- the fragments, the index and the undo counts stand for a lawful history, the stamp t and the version v are those of what a
 -- replica makes there, the changes meet no fault, and the bytes of the history and the new ones are at most 2^40

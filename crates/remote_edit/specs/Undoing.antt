@@ -3,6 +3,8 @@ use Rattle.std.specs.Prelude.{◌≡◌, List, [], ◌∷◌, ◌++◌}
 use Rattle.lamport_clock.specs.declared.stamp.Lamport.{Lamport}
 use Rattle.op_model.specs.declared.operation.UndoOp.{UndoOp}
 use Rattle.op_model.specs.declared.operation.Operation.TheVariants.{Undo}
+use Rattle.op_model.specs.Sorted.{Each}
+use Rattle.op_model.specs.Domains.{IsProper}
 use Rattle.op_model.specs.Histories.{History}
 use Rattle.op_model.specs.Answers.{answer}
 use Rattle.op_model.specs.Answers.Answer.{Good}
@@ -13,7 +15,7 @@ use Rattle.fragments.specs.declared.fragment.Fragment.{Fragment}
 use Rattle.fragments.specs.declared.index_entry.IndexEntry.{IndexEntry}
 use Rattle.fragments.specs.Stand.{Stand}
 use Rattle.remote_edit.specs.declared.moves.Move.{Move}
-use Rattle.remote_edit.specs.Carried.{AreMovesOf}
+use Rattle.remote_edit.specs.Carried.{AreMovesOf, KeepCharacters}
 use Rattle.remote_edit.specs.Anew.{Counts}
 
 -- the fragments fs and the index w stand for the lawful history h, in which the undo u with stamp `by` is good; it counts edits of
@@ -33,3 +35,7 @@ StandWithUndo fs w us by ts gs x = (h : History) → (u : UndoOp) → MayMark fs
 -- the moves take the texts of each such history to those of it with the undo
 abbrev pub MoveWithUndo : List Fragment → List IndexEntry → List UndoEntry → Lamport → List Lamport → List Move → Type 0
 MoveWithUndo fs w us by ts ms = (h : History) → (u : UndoOp) → MayMark fs w us by ts h u → AreMovesOf ms h (Undo u)
+
+-- where the texts of each such history are UTF-8, whole fragments stay whole and the moves take whole characters
+abbrev pub KeepCharactersWithUndo : List Fragment → List IndexEntry → List UndoEntry → Lamport → List Lamport → List Fragment → List Move → Type 0
+KeepCharactersWithUndo fs w us by ts gs ms = (h : History) → (u : UndoOp) → MayMark fs w us by ts h u → Each IsProper h → KeepCharacters fs gs ms h (Undo u)

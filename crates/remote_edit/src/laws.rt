@@ -1,6 +1,6 @@
-// The laws of moves, shown by functions that do nothing.
+// The laws of moves and of whole fragments, shown by functions that do nothing.
 ghost use Rattle.remote_edit.specs.Moves.{MovesCompose, JoinedMovesDoTheSame, KeptBytesCommute};
-ghost use Rattle.remote_edit.specs.CarriedLaws.{CarriedTextsAreThose};
+ghost use Rattle.remote_edit.specs.CarriedLaws.{CarriedTextsAreThose, BaseIsWhole};
 
 /// Moves behind others find what those leave.
 pub fn moves_compose()
@@ -20,4 +20,9 @@ pub fn kept_bytes_commute()
 /// Moves that carry the bytes of fragments along take the texts along.
 pub fn carried_texts_are_those()
     ensures { CarriedTextsAreThose }
+{}
+
+/// The fragment of a base begins and ends between characters.
+pub fn base_is_whole()
+    ensures { BaseIsWhole }
 {}

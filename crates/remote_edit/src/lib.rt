@@ -1,6 +1,7 @@
 //! What an operation does among fragments, and to the shown and the hidden text.
 #![tactic(auto)]
 
+mod edit_moves;
 mod gather;
 mod laws;
 mod mark;
@@ -15,12 +16,13 @@ mod undo_moves;
 mod walk;
 
 pub use laws::{
-    carried_texts_are_those, joined_moves_do_the_same, kept_bytes_commute, moves_compose,
+    base_is_whole, carried_texts_are_those, joined_moves_do_the_same, kept_bytes_commute,
+    moves_compose,
 };
 pub use moves::{Move, Moves};
 pub use offsets::full_pieces;
 pub use passed::{Passed, SeenPassed};
-pub use place::{IndexedFragments, place_local, place_remote};
+pub use place::{place_local, place_remote};
 pub use placed::Placed;
 pub use std::alloc::AllocError as OutOfMemory;
 pub use undo::mark_undo;

@@ -1,8 +1,10 @@
 // Edits placed among fragments.
 ghost use Rattle.std.specs.Prelude.{IfOk};
 ghost use Rattle.op_model.specs.declared.operation.Operation.TheVariants.{Edit};
-ghost use Rattle.remote_edit.specs.Placing.{MayPlace, ArePlaced, MayMake, IsMade};
+ghost use Rattle.remote_edit.specs.Placing.{MayPlace, ArePlaced, MoveWithEdit, KeepCharactersWithEdit, MayMake, IsMade};
 
+use crate::Placed;
+use crate::edit_moves::edit_moves;
 use crate::offsets::full_pieces;
 use crate::walk::walk_in;
 use fragments::{Fragment, InsertionIndex};
@@ -12,34 +14,32 @@ use std::alloc::{AllocError, Global};
 use sum_tree::SumTree;
 use undo_map::UndoMap;
 
-/// Fragments and their index, which stand for a history with an operation more.
-#[derive(Drop)]
-pub struct IndexedFragments {
-    pub fragments: SumTree<Fragment>,
-    pub index: InsertionIndex,
-}
-
-/// The fragments and the index with an edit, where these and the undo counts stand for a lawful history in which it is good.
+/// The fragments and the index with an edit, where these and the undo counts stand for a lawful history in which it is good, and
+/// what it does to the shown and to the hidden text.
 ///
 /// Each new text stands at its range's start, past the fragments there of later edits that its author had not seen, and what
 /// was shown to the author in the ranges is deleted; a piece without range and text changes and splits nothing. One walk over
 /// fragments and pieces: each piece costs a descent, the fragments in its range, and one change of the tree. The tree and the
-/// index that are given stay as they are, and share all that does not change with the new ones. What the edit does to the shown
-/// and to the hidden text is not told.
+/// index that are given stay as they are, and share all that does not change with the new ones. Then the moves are read from the
+/// new fragments: runs of these that have not seen the edit are passed whole.
 pub fn place_remote(
     alloc: Global,
     tree: &SumTree<Fragment>,
     index: &InsertionIndex,
     undos: &UndoMap,
     op: &EditOp,
-) -> Result<IndexedFragments, AllocError>
+) -> Result<Placed, AllocError>
     requires { MayPlace tree.now.items index.now undos.now (Edit op.now) }
-    ensures { IfOk result (λ p. ArePlaced tree.now.items index.now undos.now (Edit op.now) p.fragments.items p.index) }
+    ensures stands { IfOk result (λ p. ArePlaced tree.now.items index.now undos.now (Edit op.now) p.fragments.items p.index) }
+    ensures moves { IfOk result (λ p. MoveWithEdit tree.now.items index.now undos.now (Edit op.now) p.moves) }
+    ensures characters { IfOk result (λ p. KeepCharactersWithEdit tree.now.items index.now undos.now (Edit op.now) p.fragments.items p.moves) }
 {
     let walk = walk_in(alloc, tree, index, undos, op)?;
-    Ok(IndexedFragments {
+    let moves = edit_moves(alloc, &walk.tree, undos, op)?;
+    Ok(Placed {
         fragments: walk.tree,
         index: walk.index,
+        moves,
     })
 }
 
@@ -55,10 +55,12 @@ pub fn place_local(
     stamp: Lamport,
     version: Version,
     changes: &[Piece],
-) -> Result<(EditOp, IndexedFragments), AllocError>
+) -> Result<(EditOp, Placed), AllocError>
     requires { MayMake tree.now.items index.now undos.now stamp version changes.now }
     ensures made { IfOk result (λ r. IsMade tree.now.items index.now undos.now stamp version changes.now (Edit r.0)) }
     ensures stands { IfOk result (λ r. ArePlaced tree.now.items index.now undos.now (Edit r.0) r.1.fragments.items r.1.index) }
+    ensures moves { IfOk result (λ r. MoveWithEdit tree.now.items index.now undos.now (Edit r.0) r.1.moves) }
+    ensures characters { IfOk result (λ r. KeepCharactersWithEdit tree.now.items index.now undos.now (Edit r.0) r.1.fragments.items r.1.moves) }
 {
     let pieces = full_pieces(alloc, tree, changes)?;
     let op = EditOp {

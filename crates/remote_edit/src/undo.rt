@@ -8,7 +8,7 @@ ghost use Rattle.undo_map.specs.Counts.{count_of, is_odd};
 ghost use Rattle.fragments.specs.Summaries.{no_fragments, summaries, summary_of, SummaryFits};
 ghost use Rattle.remote_edit.specs.Marks.{is_shown};
 ghost use Rattle.remote_edit.specs.Anew.{concerns, counted, anew, all_anew};
-ghost use Rattle.remote_edit.specs.Undoing.{StandWithUndo, MoveWithUndo};
+ghost use Rattle.remote_edit.specs.Undoing.{StandWithUndo, MoveWithUndo, KeepCharactersWithUndo};
 
 use crate::Placed;
 use crate::undo_moves::undo_moves;
@@ -176,6 +176,7 @@ pub fn mark_undo(
     ensures index { IfOk result (λ p. p.index ≡ index.now) }
     ensures stands { IfOk result (λ p. StandWithUndo tree.now.items index.now undos.now by edits.now p.fragments.items p.index) }
     ensures moves { IfOk result (λ p. MoveWithUndo tree.now.items index.now undos.now by edits.now p.moves) }
+    ensures characters { IfOk result (λ p. KeepCharactersWithUndo tree.now.items index.now undos.now by edits.now p.fragments.items p.moves) }
 {
     let fragments = with_undo(alloc, tree, undos, by, edits)?;
     let index = index.share()?;

@@ -29,7 +29,7 @@ fn move_of(fragment: &Fragment, undos: &UndoMap, edits: &[Lamport]) -> Move
 }
 
 // The bytes between two places stay as they are.
-fn keep(moves: &mut Moves, from: Passed, to: Passed) -> Result<(), AllocError>
+pub(crate) fn keep(moves: &mut Moves, from: Passed, to: Passed) -> Result<(), AllocError>
     requires visible { from.visible ≤ to.visible }
     requires hidden { from.hidden ≤ to.hidden }
     ensures { OnOk result (moves.new ≡ with_move (with_move moves.old (Visible (to.visible - from.visible))) (Hidden (to.hidden - from.hidden))) }

@@ -15,4 +15,10 @@ pub returns-clause-made : goal.returns-clause-made
 returns-clause-made c = λ h s e f. made_is h c.args.stamp c.args.changes.now c.in_ok-pieces.pieces c.args.version e f (c.in_ok-pieces.ensures h s.cells)
 
 pub returns-clause-stands : goal.returns-clause-stands
-returns-clause-stands c = c.in_ok-placed.ensures
+returns-clause-stands c = c.in_ok-placed.ensures.stands
+
+pub returns-clause-moves : goal.returns-clause-moves
+returns-clause-moves c = c.in_ok-placed.ensures.moves
+
+pub returns-clause-characters : goal.returns-clause-characters
+returns-clause-characters c = c.in_ok-placed.ensures.characters

@@ -1,16 +1,29 @@
-use Rattle.std.proofs.Common.{◌++◌, ◌∷◌, [], List, sym, subst, ◌∙◌, refl}
+use Rattle.std.proofs.Common.{◌++◌, ◌∷◌, [], List, length, sym, subst, ◌∙◌, refl}
 use Rattle.locators.specs.Locator.{least_digits}
 use Rattle.op_model.specs.declared.operation.Operation.TheVariants.{Edit}
 use Rattle.op_model.specs.Sorted.{Each}
+use Rattle.op_model.specs.Shown.{texts}
+use Rattle.op_model.specs.Domains.{IsProper}
+use Rattle.op_model.specs.Histories.{History}
+use Rattle.op_model.specs.Walked.{IsWhole}
+use Rattle.op_model.proofs.Restricted.{each_append}
+use Rattle.op_model.proofs.MoreLawful.{lawful_more}
+use Rattle.op_model.proofs.Utf8Runs.{Utf8}
+use Rattle.op_model.proofs.WholeTexts.{byte_of}
 use Rattle.undo_map.specs.declared.entry.UndoEntry.{UndoEntry}
 use Rattle.fragments.specs.declared.fragment.Fragment.{Fragment}
-use Rattle.fragments.specs.Stand.{Tell, Rise, SeesUndos}
+use Rattle.fragments.specs.Stand.{runs, IsFilled, Tell, Rise, SeesUndos}
 use Rattle.remote_edit.specs.Walk.{walk}
+use Rattle.remote_edit.specs.Carried.{CarryOn}
+use Rattle.remote_edit.specs.BeforeEdit.{before_edit, Brings}
 use Rattle.remote_edit.proofs.Marks.{entries_edit}
 use Rattle.remote_edit.proofs.Rises.{walk_rises}
 use Rattle.remote_edit.proofs.Runs.{walk_tells}
 use Rattle.remote_edit.proofs.Undos.{walk_undos}
 use Rattle.remote_edit.proofs.Standing.{indexed_start, unseen_self, fit_start}
+use Rattle.remote_edit.proofs.EditTexts.{told_before, brings, shown_by_counts}
+use Rattle.remote_edit.proofs.Texts.{carried_texts, carried_characters}
+use Rattle.remote_edit.proofs.WholeFragments.{proper_texts, texts_are, whole_fragments, utf8_more, placed_utf8}
 use Rattle.remote_edit.proofs.place.place_remote.Goals as goal
 
 pub walk_in-requires-clause-fit : goal.walk_in-requires-clause-fit
@@ -25,8 +38,24 @@ walk_in-requires-clause-room c = (fit_start c.args.tree.now.items c.args.index.n
 pub walk_in-requires-clause-indexed : goal.walk_in-requires-clause-indexed
 walk_in-requires-clause-indexed c = indexed_start c.args.tree.now.items c.args.index.now c.args.undos.now c.requires.history (Edit c.args.op.now) c.requires.stands c.requires.lawful c.requires.good
 
-pub returns : goal.returns
-returns c = λ h s l g.
+pub edit_moves-requires-clause-shown : goal.edit_moves-requires-clause-shown
+edit_moves-requires-clause-shown c =
+    let r = c.requires in
+    let e = c.args.op.now in
+    let u = c.args.undos.now in
+    let w = c.in_ok-walk.ensures in
+    let tells = walk_tells r.history (Edit e) c.args.tree.now.items r.lawful r.good refl r.stands.filled r.stands.cells in
+    shown_by_counts (r.history ++ Edit e ∷ []) u c.in_ok-walk.walk.tree.items (r.stands.counts ∙ sym (entries_edit r.history (Edit e) refl)) w.fit.0
+    (subst (λ (z : List Fragment). Tell z (r.history ++ Edit e ∷ [])) (sym w.walked) (subst (λ (v : List UndoEntry). Tell (walk v e.stamp e.version 0 0 e.pieces [] c.args.tree.now.items) (r.history ++ Edit e ∷ [])) (sym r.stands.counts) tells))
+
+pub edit_moves-requires-clause-brought : goal.edit_moves-requires-clause-brought
+edit_moves-requires-clause-brought c =
+    let r = c.requires in
+    let e = c.args.op.now in
+    subst (Brings e.stamp 0 (length (texts e.pieces))) (sym c.in_ok-walk.ensures.walked) (brings r.history (Edit e) c.args.undos.now c.args.tree.now.items c.args.index.now r.stands r.lawful r.good)
+
+pub returns-clause-stands : goal.returns-clause-stands
+returns-clause-stands c = λ h s l g.
     let e = c.args.op.now in
     let fs = c.args.tree.now.items in
     let u = c.args.undos.now in
@@ -41,3 +70,35 @@ returns c = λ h s l g.
       counts = s.counts ∙ sym (entries_edit h (Edit e) refl);
       undos = subst (Each (SeesUndos (h ++ Edit e ∷ []))) (sym w.walked) (walk_undos h (Edit e) u fs l g refl s.undos);
     }
+
+pub returns-clause-moves : goal.returns-clause-moves
+returns-clause-moves c = λ h s l g.
+    let e = c.args.op.now in
+    let fs = c.args.tree.now.items in
+    let u = c.args.undos.now in
+    let w = c.in_ok-walk.ensures in
+    let gs : List Fragment = walk u e.stamp e.version 0 0 e.pieces [] fs in
+    let tells = walk_tells h (Edit e) fs l g refl s.filled s.cells in
+    carried_texts h (Edit e) (before_edit u e.stamp gs) gs c.in_ok-moves.moves l g (told_before h (Edit e) u fs c.args.index.now s l g)
+    (subst (λ (v : List UndoEntry). Tell (walk v e.stamp e.version 0 0 e.pieces [] fs) (h ++ Edit e ∷ [])) (sym s.counts) tells)
+    (subst (λ (z : List Fragment). CarryOn e.stamp [] [] (before_edit u e.stamp z) 0 c.in_ok-moves.moves z [] (length (texts e.pieces))) w.walked c.in_ok-moves.ensures)
+
+pub returns-clause-characters : goal.returns-clause-characters
+returns-clause-characters c = λ h s l p q g k.
+    let e = c.args.op.now in
+    let fs = c.args.tree.now.items in
+    let u = c.args.undos.now in
+    let i = c.args.index.now in
+    let w = c.in_ok-walk.ensures in
+    let gs : List Fragment = walk u e.stamp e.version 0 0 e.pieces [] fs in
+    let next : History = h ++ Edit e ∷ [] in
+    let tells : Tell gs next = subst (λ (v : List UndoEntry). Tell (walk v e.stamp e.version 0 0 e.pieces [] fs) next) (sym s.counts) (walk_tells h (Edit e) fs l g refl s.filled s.cells) in
+    let old : Utf8 (byte_of next) (runs fs) = utf8_more h (Edit e) fs l (proper_texts h p) g s.cells k in
+    let new : Utf8 (byte_of next) (runs gs) = placed_utf8 h (Edit e) u fs i s l g q.1 old in
+    let proper : Each IsProper next = each_append IsProper h (Edit e ∷ []) p (q, tt) in (
+      subst (λ (z : List Fragment). Each (IsWhole next) (runs z)) (sym w.walked)
+          (whole_fragments next (lawful_more h (Edit e) l g) (proper_texts next proper) gs (subst (Each IsFilled) w.walked w.fit.0) tells new),
+      carried_characters h (Edit e) (before_edit u e.stamp gs) gs c.in_ok-moves.moves l g (told_before h (Edit e) u fs i s l g)
+          (subst (λ (z : List Fragment). CarryOn e.stamp [] [] (before_edit u e.stamp z) 0 c.in_ok-moves.moves z [] (length (texts e.pieces))) w.walked c.in_ok-moves.ensures)
+          (texts_are (byte_of next) gs new),
+    )

@@ -1,0 +1,157 @@
+-- Fragments that begin and end between characters, through an operation.
+use Rattle.std.proofs.Common.{◌≡◌, ℕ, zero, suc, ◌+◌, Bool, true, false, cond, append-nil, List, [], ◌∷◌, ◌++◌, length, map, get_or, refl, sym, ap, ◌∙◌, arith, subst, inl, inr, append_assoc, length-append}
+use Rattle.std.proofs.lemmas.Bool.{cases_Bool}
+use Rattle.std.proofs.lemmas.Str.{IsCharBoundary-start}
+use Rattle.std.specs.List.{filter}
+use Rattle.std.specs.Str.{IsUtf8}
+use Rattle.std.specs.Prelude.{IsCharBoundary}
+use Rattle.lamport_clock.specs.declared.stamp.Lamport.{Lamport}
+use Rattle.lamport_clock.specs.Stamps.{later}
+use Rattle.lamport_clock.specs.Versions.{sees}
+use Rattle.op_model.specs.declared.operation.Operation.{Operation}
+use Rattle.op_model.specs.declared.operation.Piece.{Piece}
+use Rattle.op_model.specs.Operations.{stamp_of, version_of, pieces_of}
+use Rattle.op_model.specs.Sorted.{Each}
+use Rattle.op_model.specs.Domains.{IsProper}
+use Rattle.op_model.specs.Edits.{is_boundary}
+use Rattle.op_model.proofs.PathOrder.{same_stamp_refl}
+use Rattle.op_model.specs.Histories.{base, History, Distinct, newest_first, seen}
+use Rattle.op_model.specs.Cells.{Cell, Place, seq, seq_where, cells}
+use Rattle.op_model.specs.Shown.{texts, new_bytes, IsCell, full, full_where}
+use Rattle.op_model.specs.Answers.{answer}
+use Rattle.op_model.specs.Answers.Answer.{Good}
+use Rattle.op_model.specs.Lawful.{Lawful}
+use Rattle.op_model.specs.Facts.{Fact, alike, Marking}
+use Rattle.op_model.specs.Walked.{Run, IsWhole, run_facts, facts_of}
+use Rattle.op_model.proofs.Insertion.{each_map}
+use Rattle.op_model.proofs.Restricted.{restrict}
+use Rattle.op_model.proofs.Groups.{passed_unseen}
+use Rattle.op_model.proofs.OneMore.{Fits}
+use Rattle.op_model.proofs.Bytes.{full_seen}
+use Rattle.op_model.proofs.Passed.{passed, ranged}
+use Rattle.op_model.proofs.Counted.{good_ordered}
+use Rattle.op_model.proofs.Good.{lawful_ready, good_more}
+use Rattle.op_model.proofs.Utf8Runs.{bytes, kept_bytes, Utf8, NewUtf8, walk_utf8, facts_kept}
+use Rattle.op_model.proofs.WholeTexts.{byte_of, byte_is, in_last, bytes_told, same_bytes, each_left, each_right, kept_told, new_text, boundary_of, of_boundary, bounds_of}
+use Rattle.op_model.proofs.WholeRuns.{Texts, Cut, told_cells, cut_runs, utf8_runs}
+use Rattle.undo_map.specs.declared.entry.UndoEntry.{UndoEntry}
+use Rattle.fragments.specs.declared.fragment.Fragment.{Fragment}
+use Rattle.fragments.specs.declared.index_entry.IndexEntry.{IndexEntry}
+use Rattle.fragments.specs.Stand.{runs, Tell, IsFilled, Stand}
+use Rattle.remote_edit.specs.Marks.{marking}
+use Rattle.remote_edit.specs.Walk.{changes}
+use Rattle.remote_edit.specs.Carried.{cell_bytes, IsText}
+use Rattle.remote_edit.specs.CarriedLaws.{BaseIsWhole}
+use Rattle.remote_edit.proofs.Changing.{changing, no_text, ordered_changing}
+use Rattle.remote_edit.proofs.Runs.{filled_runs}
+use Rattle.remote_edit.proofs.Texts.{each_kept, old_bytes}
+use Rattle.remote_edit.proofs.EditTexts.{placed_fragments, placed_runs, fits}
+
+-- ---- bytes of runs and of fragments
+
+same_cells : (f : Cell → ℕ) (t : Lamport) (k n : ℕ) (v : Bool) (d : List Lamport) → bytes f (alike t k n v d) ≡ cell_bytes f t k n
+same_cells f t k zero v d = refl
+same_cells f t k (suc n) v d = ap (λ (z : List ℕ). f (record { stamp = t; k = k }) ∷ z) (same_cells f t (suc k) n v d)
+
+pub texts_are : (f : Cell → ℕ) (fs : List Fragment) → Utf8 f (runs fs) → Each (IsText f) fs
+texts_are f [] u = tt
+texts_are f (x ∷ fs) u = (subst IsUtf8 (same_cells f x.stamp x.offset x.len x.visible x.deletions) u.0, texts_are f fs u.1)
+
+pub texts_of_runs : (f : Cell → ℕ) (fs : List Fragment) → Each (IsText f) fs → Utf8 f (runs fs)
+texts_of_runs f [] u = tt
+texts_of_runs f (x ∷ fs) u = (subst IsUtf8 (sym (same_cells f x.stamp x.offset x.len x.visible x.deletions)) u.0, texts_of_runs f fs u.1)
+
+-- ---- whole fragments have bytes of UTF-8, and those alone
+
+pub proper_texts : (h : History) → Each IsProper h → Texts h
+proper_texts h e = each_map IsProper (λ (o : Operation). Each (λ (p : Piece). IsUtf8 p.text) (pieces_of o)) (λ o p. p.1) h e
+
+pub whole_runs : (h : History) → Lawful h → Texts h → (rs : List Run) → Each (IsWhole h) rs → Utf8 (byte_of h) rs
+whole_runs h l u rs w =
+    let d : Distinct h = (lawful_ready h l).0.distinct in
+    utf8_runs h d u rs (each_map (IsWhole h) (λ (x : Run). Cut h d x.stamp x.offset x.len)
+    (λ x k. (boundary_of (new_bytes h x.stamp) x.offset k.0, boundary_of (new_bytes h x.stamp) (x.offset + x.len) k.1)) rs w)
+
+pub whole_fragments : (h : History) → Lawful h → Texts h → (fs : List Fragment) → Each IsFilled fs → Tell fs h → Utf8 (byte_of h) (runs fs) → Each (IsWhole h) (runs fs)
+whole_fragments h l u fs f s w =
+    let d : Distinct h = (lawful_ready h l).0.distinct in
+    let k = cut_runs h d u (runs fs) (filled_runs fs f) (subst (λ (x : List Fact). Each (λ (y : Fact). IsCell h y.cell) x) (sym s) (told_cells h d)) w in
+    each_map (λ (x : Run). Cut h d x.stamp x.offset x.len) (IsWhole h) (λ x b. (of_boundary (new_bytes h x.stamp) x.offset b.0, of_boundary (new_bytes h x.stamp) (x.offset + x.len) b.1)) (runs fs) k
+
+pub base_whole : BaseIsWhole
+base_whole id t u =
+    let s : Lamport = record { value = 1; replica = 0 } in
+    let n : new_bytes (base t ∷ []) s ≡ t = ap (λ (b : Bool). cond b (t ++ []) []) (same_stamp_refl s) ∙ append-nil t in
+    let e : 0 + length t ≡ length t = omega arith in
+    let last : IsCharBoundary t (0 + length t) = (omega (arith, e), λ l g. absurd (omega (arith, e, l))) in
+    ((ap (λ (x : List ℕ). is_boundary x 0) n ∙ of_boundary t 0 (IsCharBoundary-start t u), ap (λ (x : List ℕ). is_boundary x (0 + length t)) n ∙ of_boundary t (0 + length t) last), tt)
+
+-- ---- the bytes in the history with one operation more
+
+utf8_agree : (f g : Cell → ℕ) (rs : List Run) → Each (λ (q : Fact). f q.cell ≡ g q.cell) (facts_of rs) → Utf8 f rs → Utf8 g rs
+utf8_agree f g [] e u = tt
+utf8_agree f g (r ∷ rs) e u = (
+  subst IsUtf8 (same_bytes f g (run_facts r) (each_left (λ (q : Fact). f q.cell ≡ g q.cell) (run_facts r) (facts_of rs) e)) u.0,
+  utf8_agree f g rs (each_right (λ (q : Fact). f q.cell ≡ g q.cell) (run_facts r) (facts_of rs) e) u.1,
+)
+
+-- whole fragments have bytes of UTF-8 there too
+pub utf8_more : (h : History) (op : Operation) (fs : List Fragment) → Lawful h → Texts h → answer h [] op ≡ Good → Tell fs h → Each (IsWhole h) (runs fs) → Utf8 (byte_of (h ++ op ∷ [])) (runs fs)
+utf8_more h op fs l u g s w =
+    let r = lawful_ready h l in
+    let e = subst (λ (x : List Fact). Each (λ (q : Fact). byte_of h q.cell ≡ byte_of (h ++ op ∷ []) q.cell) x) (sym s) (bytes_told h op r.0.distinct (good_more h op r g).0.0.distinct) in
+    utf8_agree (byte_of h) (byte_of (h ++ op ∷ [])) (runs fs) e (whole_runs h l u (runs fs) w)
+
+-- ---- an edit
+
+none_in : (x : List ℕ) → length x ≡ 0 → x ≡ []
+none_in [] e = refl
+none_in (y ∷ x) e = absurd (omega (arith, e))
+
+new_changing : (f : Cell → ℕ) (m : Marking) (keep : Lamport → Bool) (t : Lamport) (nu : (u : Lamport) → later u t ≡ true → keep u ≡ false) (whole : List ℕ)
+    → ((k : ℕ) → f (record { stamp = t; k = k }) ≡ get_or whole k 0)
+    → (pre : List ℕ) (ps : List Piece) (k : ℕ) → whole ≡ pre ++ texts ps → k ≡ length pre → Each (λ (p : Piece). IsUtf8 p.text) ps → NewUtf8 f m keep t nu k (changing ps)
+new_changing f m keep t nu whole g pre [] k e l u = tt
+new_changing f m keep t nu whole g pre (p ∷ ps) k e l u = elim (cases_Bool (changes p)) [
+  | inl c ↦ (let n : length (pre ++ p.text) ≡ length pre + length p.text = length-append pre p.text in
+      rw c ((
+        subst IsUtf8 (sym (new_text f t whole g pre p.text (texts ps) k e l)) u.0,
+        new_changing f m keep t nu whole g (pre ++ p.text) ps (k + length p.text) (e ∙ sym (append_assoc pre p.text (texts ps))) (omega (arith, l, n)) u.1,
+      )))
+  | inr c ↦ rw c (new_changing f m keep t nu whole g pre ps k (e ∙ ap (λ (x : List ℕ). pre ++ (x ++ texts ps)) (none_in p.text (no_text p c))) l u.1)
+]
+
+module _ (h : History) (op : Operation) (u : List UndoEntry) (fs : List Fragment) (i : List IndexEntry) (s : Stand fs i u h) (l : Lawful h) (g : answer h [] op ≡ Good) where
+  abbrev next : History
+  next = h ++ op ∷ []
+
+  abbrev keep : Lamport → Bool
+  keep = sees (version_of op)
+
+  d : Distinct h
+  d = (lawful_ready h l).0.distinct
+
+  d2 : Distinct next
+  d2 = (good_more h op (lawful_ready h l) g).0.0.distinct
+
+  -- the bytes that the edit's version sees
+  kept_full : kept_bytes (byte_of next) keep (runs fs) ≡ full (seen h (version_of op))
+  unfolding seq full_where
+  kept_full =
+      sym (facts_kept (byte_of next) keep (runs fs)) ∙ old_bytes h op d d2 (λ q. keep q.cell.stamp) fs s.cells
+      ∙ ap (λ (x : List Fact). bytes (byte_of h) (filter (λ (q : Fact). keep q.cell.stamp) x)) s.cells ∙ kept_told h keep (seq h)
+      ∙ ap (λ (x : List Place). map (byte_of h) (cells x)) (restrict keep (newest_first h) (fits h op u fs i s l g).closed) ∙ sym (full_seen h (version_of op))
+
+  pub placed_utf8 : Each (λ (p : Piece). IsUtf8 p.text) (pieces_of op) → Utf8 (byte_of next) (runs fs) → Utf8 (byte_of next) (runs (placed_fragments h op u fs i s l g))
+  placed_utf8 e w =
+      let t : Lamport = stamp_of op in
+      let m : Marking = marking u t (version_of op) in
+      let f : Fits h op = fits h op u fs i s l g in
+      let ps : List Piece = pieces_of op in
+      let bs : List ℕ = full (seen h (version_of op)) in
+      let nu : (x : Lamport) → later x t ≡ true → keep x ≡ false = λ x. passed_unseen (version_of op) t x f.above in
+      let n : ℕ = length (seq_where keep (newest_first h)) in
+      let b = each_kept (λ (p : Piece). IsCharBoundary bs p.start × IsCharBoundary bs p.end) changes ps (bounds_of bs ps (ranged bs ps (passed h [] op g).ranges).1) in
+      subst (Utf8 (byte_of next)) (sym (placed_runs h op u fs i s l g))
+      (walk_utf8 (byte_of next) m keep t nu bs n 0 0 (changing ps) (runs fs) kept_full (ordered_changing 0 n ps (good_ordered h op g)) b
+      (new_changing (byte_of next) m keep t nu (texts ps) (λ k. byte_is next d2 op (in_last h op) k) [] ps 0 refl refl e) w)

@@ -1,0 +1,47 @@
+-- What fragments were before an edit: its cells are not there, and it deletes none.
+use Rattle.std.specs.Prelude.{◌≡◌, ℕ, ◌+◌, true, not, if◌then◌else◌, List, [], ◌∷◌}
+use Rattle.std.specs.List.{filter}
+use Rattle.lamport_clock.specs.declared.stamp.Lamport.{Lamport}
+use Rattle.lamport_clock.specs.Stamps.{same_stamp}
+use Rattle.op_model.specs.Walked.{Run}
+use Rattle.undo_map.specs.declared.entry.UndoEntry.{UndoEntry}
+use Rattle.fragments.specs.declared.fragment.Fragment.{Fragment}
+use Rattle.fragments.specs.Stand.{runs}
+use Rattle.remote_edit.specs.declared.moves.Move.{Move}
+use Rattle.remote_edit.specs.declared.moves.Move.TheVariants.{Insert}
+use Rattle.remote_edit.specs.Marks.{is_shown}
+use Rattle.remote_edit.specs.Carried.{move_for}
+
+-- stamps without that of edit t
+abbrev pub without : Lamport → List Lamport → List Lamport
+without t d = filter (λ s. not (same_stamp t s)) d
+
+-- a fragment that edit t does not delete, shown by undo counts w
+abbrev pub undeleted : List UndoEntry → Lamport → Fragment → Fragment
+undeleted w t f = record { id = f.id; stamp = f.stamp; offset = f.offset; len = f.len; visible = is_shown w f.stamp (without t f.deletions); deletions = without t f.deletions; max_undos = f.max_undos }
+
+-- fragments before edit t
+abbrev pub before_edit : List UndoEntry → Lamport → List Fragment → List Fragment
+before_edit w t [] = []
+before_edit w t (f ∷ fs) = if same_stamp t f.stamp then before_edit w t fs else undeleted w t f ∷ before_edit w t fs
+
+-- what edit t does to the bytes of a fragment
+abbrev pub edit_move : List UndoEntry → Lamport → Fragment → Move
+edit_move w t f = if same_stamp t f.stamp then Insert f.len else move_for (is_shown w f.stamp (without t f.deletions)) f.visible f.len
+
+-- a fragment is shown as undo counts w have it
+abbrev pub IsByCounts : List UndoEntry → Fragment → Type 0
+IsByCounts w f = f.visible ≡ is_shown w f.stamp f.deletions
+
+-- the runs of edit t
+abbrev pub brought : Lamport → List Run → List Run
+brought t rs = filter (λ r. same_stamp t r.stamp) rs
+
+-- runs that are shown, and that have the cells from k up to m in order
+abbrev pub InOrder : ℕ → ℕ → List Run → Type 0
+InOrder k m [] = k ≡ m
+InOrder k m (r ∷ rs) = (r.visible ≡ true) × (r.offset ≡ k) × InOrder (k + r.len) m rs
+
+-- the cells of edit t in fragments are shown, and are those from k up to m in order
+abbrev pub Brings : Lamport → ℕ → ℕ → List Fragment → Type 0
+Brings t k m fs = InOrder k m (brought t (runs fs))
