@@ -1,0 +1,8 @@
+//! What a version sees of a text that is kept as fragments and two ropes, hidden bytes too.
+#![tactic(auto)]
+
+mod boundary;
+mod count;
+
+pub use boundary::is_seen_boundary;
+pub use count::seen_len;
