@@ -4,6 +4,7 @@
 
 mod found;
 mod local_undo;
+mod ranges;
 mod twice;
 mod verdict;
 

@@ -1,18 +1,21 @@
 // The answer to a taken operation.
-ghost use Rattle.std.specs.Prelude.{◌≡◌, None};
+ghost use Rattle.std.specs.Prelude.{◌≡◌};
 ghost use Rattle.op_model.specs.Operations.{version_of};
 ghost use Rattle.op_model.specs.Histories.{Distinct, version};
-ghost use Rattle.op_model.specs.Lawful.{Lawful};
-ghost use Rattle.op_model.specs.Answers.{answer, shape_fault, open_replica};
-ghost use Rattle.cells.specs.Kept.{kept_cells};
+ghost use Rattle.op_model.specs.Lawful.{Lawful, IsClosed};
+ghost use Rattle.op_model.specs.Answers.{answer};
+ghost use Rattle.seen_text.specs.Texts.{TellTexts};
 ghost use Rattle.op_answers.specs.Verdicts.{answer_of, part_fault};
 
 use crate::found::{count_fault, is_held, is_taken, open_replica};
+use crate::ranges::range_fault;
 use applied_ops::AppliedList;
-use cells::Cells;
 use deferred_ops::Deferred;
+use fragments::Fragment;
 use lamport_clock::Version;
 use op_model::{OpFault, Operation, shape};
+use rope_chunks::Rope;
+use sum_tree::SumTree;
 
 /// What becomes of an operation that is taken, if the limits hold it.
 #[derive(Clone, Copy, Debug, PartialEq, Eq)]
@@ -27,33 +30,51 @@ pub enum Verdict {
 }
 
 // The fault of an operation's pieces or counts against what its version sees.
-fn part_fault(applied: &AppliedList, cells: &Cells, op: &Operation) -> Option<OpFault>
+fn part_fault(
+    applied: &AppliedList,
+    fragments: &SumTree<Fragment>,
+    shown: &Rope,
+    hidden: &Rope,
+    op: &Operation,
+) -> Option<OpFault>
     requires lawful { Lawful applied.now }
-    requires cells { cells.now ≡ kept_cells applied.now }
-    requires shaped { shape_fault op.now ≡ None }
-    requires closed { open_replica applied.now (version_of op.now) ≡ None }
+    requires texts { TellTexts fragments.now.items shown.now hidden.now applied.now }
+    requires closed { IsClosed applied.now (version_of op.now) }
     ensures { result ≡ part_fault applied.now op.now }
 {
     match op {
-        Operation::Edit(edit) => cells.range_fault(&edit.version, edit.pieces.as_slice()),
+        Operation::Edit(edit) => {
+            range_fault(
+                fragments,
+                shown,
+                hidden,
+                &edit.version,
+                edit.pieces.as_slice(),
+            )
+        }
         Operation::Undo(undo) => count_fault(applied, &undo.version, undo.counts.as_slice()),
     }
 }
 
-/// The answer to an operation, where `applied` is a lawful history, `have` its version and `cells` its cells. It takes no
-/// memory. Logarithmic in what is applied and waits for each replica that the operation has seen and each count of an undo;
-/// for an edit one walk over cells and pieces.
+/// The answer to an operation, where `applied` is a lawful history, `have` its version, and `fragments`, `shown` and `hidden`
+/// its cells, its text and its hidden text. It takes no memory.
+///
+/// Logarithmic in what is applied and waits for each replica that the operation has seen and each count of an undo. For an edit
+/// one descent among the fragments and two for each end of a range, which go round each run of fragments of which the
+/// operation has seen all or none; no text is walked.
 pub fn judge(
     applied: &AppliedList,
     waiting: &Deferred,
     have: &Version,
-    cells: &Cells,
+    fragments: &SumTree<Fragment>,
+    shown: &Rope,
+    hidden: &Rope,
     op: &Operation,
 ) -> Verdict
     requires lawful { Lawful applied.now }
     requires waiting { Distinct waiting.now }
     requires version { have.now ≡ version applied.now }
-    requires cells { cells.now ≡ kept_cells applied.now }
+    requires texts { TellTexts fragments.now.items shown.now hidden.now applied.now }
     ensures { answer_of result ≡ answer applied.now waiting.now op.now }
 {
     if let Err(fault) = shape(op) {
@@ -79,7 +100,7 @@ pub fn judge(
     if let Some(replica) = open_replica(applied, op.version()) {
         return Verdict::Refuse(OpFault::OpenVersion(replica));
     }
-    if let Some(fault) = part_fault(applied, cells, op) {
+    if let Some(fault) = part_fault(applied, fragments, shown, hidden, op) {
         return Verdict::Refuse(fault);
     }
     Verdict::Accept

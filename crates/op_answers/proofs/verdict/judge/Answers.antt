@@ -1,7 +1,9 @@
 use Rattle.std.proofs.Common.{◌≡◌, ℕ, Some, None, ltb, sym, ap, ◌∙◌}
+use Rattle.std.specs.Prelude.{is_none}
 use Rattle.std.proofs.lemmas.Bool.{lt-ltb, le-ltb}
 use Rattle.lamport_clock.specs.declared.stamp.Lamport.{Lamport}
 use Rattle.lamport_clock.specs.Versions.{Entries, entry, first_unseen}
+use Rattle.lamport_clock.proofs.Joined.{none_unseen}
 use Rattle.op_model.specs.declared.faults.OpFault.TheVariants.{Conflict}
 use Rattle.op_model.specs.Operations.{version_of}
 use Rattle.op_model.specs.Histories.{version}
@@ -102,8 +104,9 @@ returns c =
     let o : open_replica h (version_of op) ≡ None = sym (c.in_default-open_replica.ensures ∙ ap (open_replica h) c.version-3.ensures) in
     sym (accepts h w op s n t f m o (sym c.in_default-part_fault.ensures))
 
-pub part_fault-requires-clause-shaped : goal.part_fault-requires-clause-shaped
-part_fault-requires-clause-shaped c = c.in_default.ensures.ok
-
 pub part_fault-requires-clause-closed : goal.part_fault-requires-clause-closed
-part_fault-requires-clause-closed c = sym (c.in_default-open_replica.ensures ∙ ap (open_replica c.args.applied.now) c.version-3.ensures)
+part_fault-requires-clause-closed c =
+    let h = c.args.applied.now in
+    let op = c.args.op.now in
+    let m : first_missing h (version_of op) ≡ None = sym (c.in_default-first_missing.ensures ∙ ap (λ (u : Entries). first_unseen u c.version-2.result.now) c.requires.version ∙ ap (first_unseen (version h)) c.version-2.ensures) in
+    (sym (none_unseen (version h) (version_of op)) ∙ ap is_none m, sym (c.in_default-open_replica.ensures ∙ ap (open_replica h) c.version-3.ensures))

@@ -1,11 +1,12 @@
-use Rattle.std.proofs.Common.{List, sym, ap, ◌∙◌}
+use Rattle.std.proofs.Common.{List, sym, ap, ◌∙◌, subst}
 use Rattle.op_model.specs.declared.operation.Operation.{Operation}
 use Rattle.op_model.specs.declared.operation.UndoCount.{UndoCount}
 use Rattle.op_model.specs.declared.operation.Piece.{Piece}
 use Rattle.op_model.specs.Operations.{version_of}
 use Rattle.op_model.specs.Histories.{seen}
 use Rattle.op_model.specs.Shown.{full}
-use Rattle.op_model.specs.Answers.{open_replica, range_fault, count_fault}
+use Rattle.op_model.specs.Answers.{range_fault, count_fault}
+use Rattle.op_model.specs.Lawful.{IsClosed}
 use Rattle.op_model.proofs.Good.{lawful_ready}
 use Rattle.op_answers.specs.Verdicts.{part_fault}
 use Rattle.op_answers.proofs.Answering.{edit_fault, undo_fault}
@@ -15,7 +16,7 @@ pub returns-in-Edit : goal.returns-in-Edit
 returns-in-Edit c =
     let h = c.args.applied.now in
     let v = c.in-Edit.edit.version in
-    c.range_fault.ensures h c.requires.cells c.requires.lawful (ap (λ (x : Operation). open_replica h (version_of x)) (sym c.in-Edit.is) ∙ c.requires.closed)
+    c.range_fault.ensures h c.requires.texts c.requires.lawful (subst (λ (x : Operation). IsClosed h (version_of x)) c.in-Edit.is c.requires.closed)
     ∙ ap (λ (ps : List Piece). range_fault (full (seen h v)) ps) c.as_slice.ensures
     ∙ edit_fault h c.in-Edit.edit
     ∙ ap (part_fault h) (sym c.in-Edit.is)

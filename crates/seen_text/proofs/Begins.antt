@@ -1,0 +1,193 @@
+-- A character begins with a byte that a version sees where it does in the text in which the byte lies.
+use Rattle.std.proofs.Common.{◌≡◌, ℕ, suc, ◌+◌, ◌-◌, ◌<◌, ◌≤◌, ◌^◌, ◌↔◌, IsTrue, ◌==◌, List, ◌∷◌, ◌++◌, length, take, drop, get_or, refl, sym, ap, ◌∙◌, arith, true, false, ◌||◌, ◌&&◌, Bool, ltb, leb, Some, None}
+use Rattle.std.specs.List.{slice_get}
+use Rattle.std.specs.Str.{IsCharBoundary}
+use Rattle.std.proofs.lemmas.Bool.{le-leb}
+use Rattle.std.proofs.lemmas.Bool.Decides.{nat_tests}
+use Rattle.sum_tree.specs.Laws.{fold}
+use Rattle.tree_cursor.specs.Places.{place_behind, seek_count}
+use Rattle.tree_cursor.specs.Counting.{number_passes}
+use Rattle.tree_cursor.specs.declared.traits.Bias.TheVariants.{Right}
+use Rattle.lamport_clock.specs.Versions.{Entries, sees}
+use Rattle.op_model.specs.Histories.{History, seen}
+use Rattle.op_model.specs.Shown.{full, text, hidden}
+use Rattle.op_model.specs.Edits.{is_boundary}
+use Rattle.op_model.specs.Lawful.{Lawful, IsClosed}
+use Rattle.op_model.proofs.Good.{lawful_ready}
+use Rattle.op_model.proofs.WholeTexts.{byte_of}
+use Rattle.fragments.specs.declared.fragment.Fragment.{Fragment}
+use Rattle.fragments.specs.Summaries.{no_fragments, summaries, summary_of, SummaryFits}
+use Rattle.fragments.specs.Stand.{Tell}
+use Rattle.fragments.specs.Laws.{shown_len}
+use Rattle.remote_edit.specs.Walk.{seen_bytes}
+use Rattle.remote_edit.specs.Passed.{SeenPlace, move_seen}
+use Rattle.remote_edit.specs.Carried.{shown_bytes, hidden_bytes, hidden_len}
+use Rattle.remote_edit.proofs.Passing.{seen_cons, seen_append, seen_own, seen_within}
+use Rattle.remote_edit.proofs.PassedPlaces.{seek_seen, seen_behind, shown_append_len, hidden_append_len, whole_sum, all_cells}
+use Rattle.remote_edit.proofs.Texts.{text_bytes, hidden_text_bytes}
+use Rattle.remote_edit.proofs.Carrying.{shown_long}
+use Rattle.seen_text.proofs.Found.{sought, Found, found, Ended, ended}
+use Rattle.seen_text.proofs.Bytes.{boundary_is, same_byte, seen_full, seen_in, seen_long, hidden_long, seen_at, shown_at, hidden_at}
+
+abbrev pub start : Entries → SeenPlace
+start v = (((v, 0), 0), 0)
+
+abbrev pub count : Entries → List Fragment → ℕ → ℕ
+count v fs place = seek_count move_seen summary_of (λ p. number_passes place p.0.0.1 Right) (start v) fs
+
+-- the byte at a place lies in f, before which so many cells are seen, shown and hidden
+pub record Lies (v : Entries) (fs : List Fragment) (place : ℕ) (f : Fragment) (bytes visible hidden : ℕ) : Type 0 where
+  pub pre : List Fragment
+  pub post : List Fragment
+  pub parts : fs ≡ pre ++ f ∷ post
+  pub seen : sees v f.stamp ≡ true
+  pub low : bytes ≤ place
+  pub high : place < bytes + f.len
+  pub bytes_before : bytes ≡ seen_bytes v pre
+  pub shown_before : visible ≡ shown_len pre
+  pub hidden_before : hidden ≡ hidden_len pre
+
+module _ (v : Entries) (fs : List Fragment) (place : ℕ) where
+  same_count : count v fs place ≡ sought v place 0 fs
+  same_count = seek_seen (λ p. number_passes place p.1 Right) (v, 0) 0 0 fs
+
+  behind : (w : Entries) (b a d : ℕ) → (((w, b), a), d) ≡ place_behind move_seen summary_of (start v) (take (count v fs place) fs)
+      → (b ≡ seen_bytes v (take (sought v place 0 fs) fs)) × (a ≡ shown_len (take (sought v place 0 fs) fs)) × (d ≡ hidden_len (take (sought v place 0 fs) fs))
+  behind w b a d e =
+      let pre : List Fragment = take (sought v place 0 fs) fs in
+      let g : (((w, b), a), d) ≡ (((v, 0 + seen_bytes v pre), 0 + shown_len pre), 0 + hidden_len pre) = e ∙ ap (λ (k : ℕ). place_behind move_seen summary_of (start v) (take k fs)) same_count ∙ seen_behind v 0 0 0 pre in
+      let x : b ≡ 0 + seen_bytes v pre = ap (λ (q : SeenPlace). q.0.0.1) g in
+      let y : a ≡ 0 + shown_len pre = ap (λ (q : SeenPlace). q.0.1) g in
+      let z : d ≡ 0 + hidden_len pre = ap (λ (q : SeenPlace). q.1) g in
+      (drop_zero b (seen_bytes v pre) x, drop_zero a (shown_len pre) y, drop_zero d (hidden_len pre) z)
+    where
+      drop_zero : (m n : ℕ) → m ≡ 0 + n → m ≡ n
+      drop_zero m n e = omega (arith, e)
+
+  -- what a seek that stops tells
+  pub lies : (f : Fragment) (w : Entries) (b a d : ℕ) → Some f ≡ slice_get fs (count v fs place) → (((w, b), a), d) ≡ place_behind move_seen summary_of (start v) (take (count v fs place) fs) → Lies v fs place f b a d
+  lies f w b a d i e =
+      let o : Found v place 0 fs f (sought v place 0 fs) = found v place 0 fs f (omega arith) (sym (i ∙ ap (slice_get fs) same_count)) in
+      let n = behind w b a d e in
+      let x = n.0 in
+      let l = o.low in
+      let h = o.high in
+      record {
+        pre = take (sought v place 0 fs) fs;
+        post = drop (suc (sought v place 0 fs)) fs;
+        parts = o.parts;
+        seen = o.seen;
+        low = omega (arith, x, l);
+        high = omega (arith, x, h);
+        bytes_before = x;
+        shown_before = n.1;
+        hidden_before = n.2;
+      }
+
+  -- one that does not stop has counted all
+  pub past : (w : Entries) (b a d : ℕ) → None ≡ slice_get fs (count v fs place) → (((w, b), a), d) ≡ place_behind move_seen summary_of (start v) (take (count v fs place) fs) → (b ≡ seen_bytes v fs) × (b ≤ place)
+  past w b a d i e =
+      let o : Ended v place 0 fs (sought v place 0 fs) = ended v place 0 fs (omega arith) (sym (i ∙ ap (slice_get fs) same_count)) in
+      let n = behind w b a d e in
+      let x : b ≡ seen_bytes v fs = n.0 ∙ ap (seen_bytes v) o.all in
+      let l = o.low in
+      (x, omega (arith, x, l))
+
+-- ---- sums
+
+pub fewer : (v : Entries) (fs : List Fragment) → SummaryFits (fold no_fragments summaries summary_of fs) → seen_bytes v fs < 2 ^ 64
+fewer v fs h = let a = (whole_sum fs).0 in let b = (whole_sum fs).1 in let c = all_cells fs in let d = seen_within v fs in omega (arith, a, b, c, d, h)
+
+module _ (v : Entries) (fs : List Fragment) (place : ℕ) (f : Fragment) (b a d : ℕ) (w : Lies v fs place f b a d) where
+  pub shown_more : f.visible ≡ true → a + (place - b) < shown_len fs
+  shown_more u =
+      let x = w.shown_before in
+      let y = w.low in
+      let z = w.high in
+      let n : shown_len fs ≡ shown_len w.pre + shown_len (f ∷ w.post) = ap shown_len w.parts ∙ shown_append_len w.pre (f ∷ w.post) in
+      let m : shown_len (f ∷ w.post) ≡ f.len + shown_len w.post = rw u refl in
+      omega (arith, x, y, z, n, m)
+
+  pub hidden_more : f.visible ≡ false → d + (place - b) < hidden_len fs
+  hidden_more u =
+      let x = w.hidden_before in
+      let y = w.low in
+      let z = w.high in
+      let n : hidden_len fs ≡ hidden_len w.pre + hidden_len (f ∷ w.post) = ap hidden_len w.parts ∙ hidden_append_len w.pre (f ∷ w.post) in
+      let m : hidden_len (f ∷ w.post) ≡ f.len + hidden_len w.post = rw u refl in
+      omega (arith, x, y, z, n, m)
+
+pub shown_fits : (fs : List Fragment) → SummaryFits (fold no_fragments summaries summary_of fs) → (n : ℕ) → n < shown_len fs → n < 2 ^ 64
+shown_fits fs h n l = let e = (whole_sum fs).0 in omega (arith, e, h, l)
+
+pub hidden_fits : (fs : List Fragment) → SummaryFits (fold no_fragments summaries summary_of fs) → (n : ℕ) → n < hidden_len fs → n < 2 ^ 64
+hidden_fits fs h n l = let e = (whole_sum fs).1 in omega (arith, e, h, l)
+
+-- ---- the answer
+
+module _ (h : History) (v : Entries) (fs : List Fragment) (t : Tell fs h) (l : Lawful h) (c : IsClosed h v) where
+  pub seen_len_is : seen_bytes v fs ≡ length (full (seen h v))
+  seen_len_is = seen_long (byte_of h) v fs ∙ ap length (seen_full h v fs t l c)
+
+  module _ (place : ℕ) (f : Fragment) (b a d : ℕ) (w : Lies v fs place f b a d) where
+    in_seen : (seen_bytes v w.pre + (place - b) < length (seen_in (byte_of h) v fs)) × (seen_bytes v w.pre + (place - b) ≡ place) × (place - b < f.len)
+    in_seen =
+        let x = w.bytes_before in
+        let y = w.low in
+        let z = w.high in
+        let n : seen_bytes v fs ≡ seen_bytes v w.pre + seen_bytes v (f ∷ w.post) = ap (seen_bytes v) w.parts ∙ seen_append v w.pre (f ∷ w.post) in
+        let m = seen_cons v f w.post in
+        let o = seen_own v f w.seen in
+        let k = seen_long (byte_of h) v fs in
+        (omega (arith, x, y, z, n, m, o, k), omega (arith, x, y), omega (arith, y, z))
+
+    -- from a text with the same byte
+    from_text : (xs : List ℕ) (i : ℕ) → i < length xs → get_or xs i 0 ≡ get_or (seen_in (byte_of h) v fs) (seen_bytes v w.pre + (place - b)) 0 → is_boundary xs i ≡ is_boundary (full (seen h v)) place
+    from_text xs i r e =
+        let k = in_seen in
+        same_byte xs (seen_in (byte_of h) v fs) i (seen_bytes v w.pre + (place - b)) r k.0 e
+        ∙ ap (λ (z : List ℕ). is_boundary z (seen_bytes v w.pre + (place - b))) (seen_full h v fs t l c)
+        ∙ ap (is_boundary (full (seen h v))) k.1
+
+    pub in_shown : (s : List ℕ) (r : Bool) → s ≡ text h → f.visible ≡ true → (IsTrue r ↔ IsCharBoundary s (a + (place - b))) → r ≡ is_boundary (full (seen h v)) place
+    in_shown s r e u q =
+        let k = in_seen in
+        let i : ℕ = place - b in
+        let x = w.shown_before in
+        let e2 : shown_bytes (byte_of h) fs ≡ s = text_bytes h fs t ∙ sym e in
+        let n = shown_more v fs place f b a d w u in
+        let j = shown_long (byte_of h) fs in
+        let g : length (shown_bytes (byte_of h) fs) ≡ length s = ap length e2 in
+        let o : a + i ≡ shown_len w.pre + i = omega (arith, x) in
+        let r1 : get_or s (a + i) 0 ≡ get_or (seen_in (byte_of h) v fs) (seen_bytes v w.pre + i) 0 =
+        ap (λ (z : List ℕ). get_or z (a + i) 0) (sym e2) ∙ ap (λ (n : ℕ). get_or (shown_bytes (byte_of h) fs) n 0) o
+        ∙ ap (λ (z : List Fragment). get_or (shown_bytes (byte_of h) z) (shown_len w.pre + i) 0) w.parts
+        ∙ shown_at (byte_of h) v w.pre w.post f i k.2 u ∙ sym (seen_at (byte_of h) v w.pre w.post f i k.2 w.seen)
+        ∙ sym (ap (λ (z : List Fragment). get_or (seen_in (byte_of h) v z) (seen_bytes v w.pre + i) 0) w.parts) in
+        boundary_is s (a + i) r q ∙ from_text s (a + i) (omega (arith, n, j, g)) r1
+
+    pub in_hidden : (s : List ℕ) (r : Bool) → s ≡ hidden h → f.visible ≡ false → (IsTrue r ↔ IsCharBoundary s (d + (place - b))) → r ≡ is_boundary (full (seen h v)) place
+    in_hidden s r e u q =
+        let k = in_seen in
+        let i : ℕ = place - b in
+        let x = w.hidden_before in
+        let e2 : hidden_bytes (byte_of h) fs ≡ s = hidden_text_bytes h fs (lawful_ready h l).0.distinct t ∙ sym e in
+        let n = hidden_more v fs place f b a d w u in
+        let j = hidden_long (byte_of h) fs in
+        let g : length (hidden_bytes (byte_of h) fs) ≡ length s = ap length e2 in
+        let o : d + i ≡ hidden_len w.pre + i = omega (arith, x) in
+        let r1 : get_or s (d + i) 0 ≡ get_or (seen_in (byte_of h) v fs) (seen_bytes v w.pre + i) 0 =
+        ap (λ (z : List ℕ). get_or z (d + i) 0) (sym e2) ∙ ap (λ (n : ℕ). get_or (hidden_bytes (byte_of h) fs) n 0) o
+        ∙ ap (λ (z : List Fragment). get_or (hidden_bytes (byte_of h) z) (hidden_len w.pre + i) 0) w.parts
+        ∙ hidden_at (byte_of h) v w.pre w.post f i k.2 u ∙ sym (seen_at (byte_of h) v w.pre w.post f i k.2 w.seen)
+        ∙ sym (ap (λ (z : List Fragment). get_or (seen_in (byte_of h) v z) (seen_bytes v w.pre + i) 0) w.parts) in
+        boundary_is s (d + i) r q ∙ from_text s (d + i) (omega (arith, n, j, g)) r1
+
+  pub at_end : (place n : ℕ) → n ≡ seen_bytes v fs → n ≤ place → (place == n) ≡ is_boundary (full (seen h v)) place
+  at_end place n e o =
+      let k : n ≡ length (full (seen h v)) = e ∙ seen_len_is in
+      let g : leb (length (full (seen h v))) place ≡ true = le-leb (length (full (seen h v))) place (omega (arith, k, o)) in
+      ap (λ (m : ℕ). place == m) k ∙ exact (length (full (seen h v))) (get_or (full (seen h v)) place 0) g
+    where
+      exact : (m y : ℕ) → leb m place ≡ true → (place == m) ≡ (leb place m && (leb m place || (ltb y 128 || leb 192 y)))
+      exact m y g = grind (arith, nat_tests)

@@ -1,0 +1,119 @@
+-- The bytes of the cells that a version sees, and where each lies in the shown or the hidden text.
+use Rattle.std.proofs.Common.{◌≡◌, ℕ, zero, suc, ◌+◌, ◌<◌, ◌↔◌, IsTrue, List, [], ◌∷◌, ◌++◌, length, map, get_or, refl, sym, ap, ◌∙◌, arith, cond, true, false, not, ◌||◌, Bool, ltb, leb, append_assoc}
+use Rattle.std.specs.List.{filter}
+use Rattle.std.specs.Str.{IsCharBoundary}
+use Rattle.std.proofs.lemmas.Bool.{le-leb, lt-leb, false_from_ne_true, false≢true}
+use Rattle.std.proofs.lemmas.List.{length-append}
+use Rattle.lamport_clock.specs.declared.stamp.Lamport.{Lamport}
+use Rattle.lamport_clock.specs.Versions.{Entries, sees}
+use Rattle.op_model.specs.Histories.{History, newest_first, seen}
+use Rattle.op_model.specs.Cells.{Cell, Place, cells, seq, seq_where, everything}
+use Rattle.op_model.specs.Shown.{full, full_where}
+use Rattle.op_model.specs.Facts.{Fact, told, alike}
+use Rattle.op_model.specs.Edits.{is_boundary}
+use Rattle.op_model.specs.Lawful.{Lawful, IsClosed}
+use Rattle.op_model.proofs.Restricted.{restrict}
+use Rattle.op_model.proofs.Bytes.{full_seen}
+use Rattle.op_model.proofs.ClosedVersions.{closed_part}
+use Rattle.op_model.proofs.Utf8Runs.{bytes, kept_bytes, facts_kept, get_right}
+use Rattle.op_model.proofs.WholeTexts.{byte_of, kept_told, boundary_of, of_boundary}
+use Rattle.fragments.specs.declared.fragment.Fragment.{Fragment}
+use Rattle.fragments.specs.Stand.{runs, Tell}
+use Rattle.fragments.specs.Laws.{shown_len}
+use Rattle.remote_edit.specs.Walk.{seen_bytes}
+use Rattle.remote_edit.specs.Carried.{cell_bytes, shown_bytes, hidden_bytes, hidden_len}
+use Rattle.remote_edit.proofs.Carrying.{bytes_of, long, shown_first, hidden_first, shown_append, hidden_append, shown_long}
+
+-- ---- boundaries
+
+-- the test of a boundary is std's
+pub boundary_is : (bs : List ℕ) (i : ℕ) (b : Bool) → (IsTrue b ↔ IsCharBoundary bs i) → b ≡ is_boundary bs i
+boundary_is bs i true h = sym (of_boundary bs i (h.0 refl))
+boundary_is bs i false h = sym (false_from_ne_true (is_boundary bs i) (λ e. false≢true (h.1 (boundary_of bs i e))))
+
+within : (bs : List ℕ) (i : ℕ) → i < length bs → is_boundary bs i ≡ (ltb (get_or bs i 0) 128 || leb 192 (get_or bs i 0))
+within bs i h = rw (le-leb i (length bs) (omega (arith, h)), lt-leb (length bs) i h) refl
+
+-- two places with one byte
+pub same_byte : (xs ys : List ℕ) (i j : ℕ) → i < length xs → j < length ys → get_or xs i 0 ≡ get_or ys j 0 → is_boundary xs i ≡ is_boundary ys j
+same_byte xs ys i j h k e = within xs i h ∙ ap (λ (b : ℕ). ltb b 128 || leb 192 b) e ∙ sym (within ys j k)
+
+-- ---- what a closed version sees of a history
+
+pub seen_told : (h : History) (v : Entries) → Lawful h → IsClosed h v → full (seen h v) ≡ bytes (byte_of h) (filter (λ (q : Fact). sees v q.cell.stamp) (told h))
+unfolding seq full_where
+seen_told h v l c = full_seen h v
+    ∙ ap (λ (s : List Place). map (byte_of h) (cells s)) (sym (restrict (sees v) (newest_first h) (closed_part h l v c)))
+    ∙ sym (kept_told h (sees v) (seq_where everything (newest_first h)))
+
+pub seen_full : (h : History) (v : Entries) (fs : List Fragment) → Tell fs h → Lawful h → IsClosed h v → kept_bytes (byte_of h) (sees v) (runs fs) ≡ full (seen h v)
+seen_full h v fs t l c = sym (facts_kept (byte_of h) (sees v) (runs fs)) ∙ ap (λ (s : List Fact). bytes (byte_of h) (filter (λ (q : Fact). sees v q.cell.stamp) s)) t ∙ sym (seen_told h v l c)
+
+-- ---- the bytes of fragments
+
+module _ (byte : Cell → ℕ) where
+  pub cell_at : Fragment → ℕ → ℕ
+  cell_at f d = byte (record { stamp = f.stamp; k = f.offset + d })
+
+  nth : (t : Lamport) (k n d : ℕ) (s : List ℕ) → d < n → get_or (cell_bytes byte t k n ++ s) d 0 ≡ byte (record { stamp = t; k = k + d })
+  nth t k zero d s h = absurd (omega (arith, h))
+  nth t k (suc n) zero s h = let e : k ≡ k + 0 = omega arith in ap (λ (j : ℕ). byte (record { stamp = t; k = j })) e
+  nth t k (suc n) (suc d) s h = let e : suc k + d ≡ k + suc d = omega arith in nth t (suc k) n d s (omega (arith, h)) ∙ ap (λ (j : ℕ). byte (record { stamp = t; k = j })) e
+
+  alike_bytes : (t : Lamport) (k n : ℕ) (b : Bool) (d : List Lamport) → bytes byte (alike t k n b d) ≡ cell_bytes byte t k n
+  alike_bytes t k zero b d = refl
+  alike_bytes t k (suc n) b d = ap (λ (z : List ℕ). byte (record { stamp = t; k = k }) ∷ z) (alike_bytes t (suc k) n b d)
+
+  pub hidden_long : (xs : List Fragment) → hidden_len xs ≡ length (hidden_bytes byte xs)
+  hidden_long [] = refl
+  hidden_long (x ∷ xs) = go x.visible (hidden_long xs) ∙ ap length (sym (hidden_first byte x xs))
+    where
+      go : (b : Bool) → hidden_len xs ≡ length (hidden_bytes byte xs) → cond b (hidden_len xs) (x.len + hidden_len xs) ≡ length (cond (not b) (bytes_of byte x ++ hidden_bytes byte xs) (hidden_bytes byte xs))
+      go true e = e
+      go false e = let a = length-append (bytes_of byte x) (hidden_bytes byte xs) in let l = long byte x.stamp x.offset x.len in omega (arith, a, l, e)
+
+  module _ (v : Entries) where
+    abbrev pub seen_in : List Fragment → List ℕ
+    seen_in fs = kept_bytes byte (sees v) (runs fs)
+
+    seen_first : (f : Fragment) (fs : List Fragment) → seen_in (f ∷ fs) ≡ cond (sees v f.stamp) (bytes_of byte f ++ seen_in fs) (seen_in fs)
+    seen_first f fs = ap (λ (z : List ℕ). cond (sees v f.stamp) (z ++ seen_in fs) (seen_in fs)) (alike_bytes f.stamp f.offset f.len f.visible f.deletions)
+
+    pub seen_in_append : (xs ys : List Fragment) → seen_in (xs ++ ys) ≡ seen_in xs ++ seen_in ys
+    seen_in_append [] ys = refl
+    seen_in_append (x ∷ xs) ys = seen_first x (xs ++ ys) ∙ ap (λ (z : List ℕ). cond (sees v x.stamp) (bytes_of byte x ++ z) z) (seen_in_append xs ys) ∙ go (sees v x.stamp) ∙ ap (λ (z : List ℕ). z ++ seen_in ys) (sym (seen_first x xs))
+      where
+        go : (b : Bool) → cond b (bytes_of byte x ++ (seen_in xs ++ seen_in ys)) (seen_in xs ++ seen_in ys) ≡ cond b (bytes_of byte x ++ seen_in xs) (seen_in xs) ++ seen_in ys
+        go true = sym (append_assoc (bytes_of byte x) (seen_in xs) (seen_in ys))
+        go false = refl
+
+    pub seen_long : (xs : List Fragment) → seen_bytes v xs ≡ length (seen_in xs)
+    seen_long [] = refl
+    seen_long (x ∷ xs) = go (sees v x.stamp) (seen_long xs) ∙ ap length (sym (seen_first x xs))
+      where
+        go : (b : Bool) → seen_bytes v xs ≡ length (seen_in xs) → cond b (x.len + seen_bytes v xs) (seen_bytes v xs) ≡ length (cond b (bytes_of byte x ++ seen_in xs) (seen_in xs))
+        go true e = let a = length-append (bytes_of byte x) (seen_in xs) in let l = long byte x.stamp x.offset x.len in omega (arith, a, l, e)
+        go false e = e
+
+    -- the byte at d of f, with pre before it
+    module _ (pre post : List Fragment) (f : Fragment) (d : ℕ) (h : d < f.len) where
+      pub seen_at : sees v f.stamp ≡ true → get_or (seen_in (pre ++ f ∷ post)) (seen_bytes v pre + d) 0 ≡ cell_at f d
+      unfolding cell_at
+      seen_at s = ap (λ (z : List ℕ). get_or z (seen_bytes v pre + d) 0) (seen_in_append pre (f ∷ post))
+          ∙ get_right (seen_in pre) (seen_in (f ∷ post)) (seen_bytes v pre + d) d (ap (λ (n : ℕ). n + d) (seen_long pre))
+          ∙ ap (λ (z : List ℕ). get_or z d 0) (seen_first f post ∙ ap (λ (b : Bool). cond b (bytes_of byte f ++ seen_in post) (seen_in post)) s)
+          ∙ nth f.stamp f.offset f.len d (seen_in post) h
+
+      pub shown_at : f.visible ≡ true → get_or (shown_bytes byte (pre ++ f ∷ post)) (shown_len pre + d) 0 ≡ cell_at f d
+      unfolding cell_at
+      shown_at s = ap (λ (z : List ℕ). get_or z (shown_len pre + d) 0) (shown_append byte pre (f ∷ post))
+          ∙ get_right (shown_bytes byte pre) (shown_bytes byte (f ∷ post)) (shown_len pre + d) d (ap (λ (n : ℕ). n + d) (shown_long byte pre))
+          ∙ ap (λ (z : List ℕ). get_or z d 0) (shown_first byte f post ∙ ap (λ (b : Bool). cond b (bytes_of byte f ++ shown_bytes byte post) (shown_bytes byte post)) s)
+          ∙ nth f.stamp f.offset f.len d (shown_bytes byte post) h
+
+      pub hidden_at : f.visible ≡ false → get_or (hidden_bytes byte (pre ++ f ∷ post)) (hidden_len pre + d) 0 ≡ cell_at f d
+      unfolding cell_at
+      hidden_at s = ap (λ (z : List ℕ). get_or z (hidden_len pre + d) 0) (hidden_append byte pre (f ∷ post))
+          ∙ get_right (hidden_bytes byte pre) (hidden_bytes byte (f ∷ post)) (hidden_len pre + d) d (ap (λ (n : ℕ). n + d) (hidden_long pre))
+          ∙ ap (λ (z : List ℕ). get_or z d 0) (hidden_first byte f post ∙ ap (λ (b : Bool). cond (not b) (bytes_of byte f ++ hidden_bytes byte post) (hidden_bytes byte post)) s)
+          ∙ nth f.stamp f.offset f.len d (hidden_bytes byte post) h

@@ -1,0 +1,12 @@
+-- What fragments and two texts are of a history.
+use Rattle.std.specs.Prelude.{◌≡◌, ℕ, List}
+use Rattle.op_model.specs.Histories.{History}
+use Rattle.op_model.specs.Shown.{text, hidden}
+use Rattle.fragments.specs.declared.fragment.Fragment.{Fragment}
+use Rattle.fragments.specs.Stand.{Tell}
+
+-- the fragments fs tell of the cells of h, s is the text of its shown cells, and d that of its hidden ones
+pub record TellTexts (fs : List Fragment) (s d : List ℕ) (h : History) : Type 0 where
+  pub cells : Tell fs h
+  pub shown : s ≡ text h
+  pub hidden : d ≡ hidden h
