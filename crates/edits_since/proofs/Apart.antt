@@ -1,12 +1,11 @@
 -- The edits since a version are apart, and take the text then to the text now.
-use Rattle.std.proofs.Common.{◌≡◌, ℕ, suc, ◌+◌, ◌≤◌, Bool, true, false, cond, List, [], ◌∷◌, sym, ap, ◌∙◌, subst, arith}
+use Rattle.std.proofs.Common.{◌≡◌, ℕ, suc, ◌+◌, ◌≤◌, true, false, cond, List, [], ◌∷◌, sym, ap, ◌∙◌, subst, arith}
 use Rattle.lamport_clock.specs.Versions.{Entries}
 use Rattle.op_model.specs.declared.anchor.TextEdit.{TextEdit}
 use Rattle.op_model.specs.Histories.{History}
 use Rattle.op_model.specs.Shown.{text}
 use Rattle.op_model.specs.Since.{Fate, fates, runs, number_gone, number_new, changes, edits_of, since, text_at, followed}
 use Rattle.op_model.proofs.MainLaws.{edits_since_tell_the_change}
-use Rattle.edits_since.specs.Telling.{MayTell, AreSince}
 use Rattle.edits_since.specs.Laws.{AreApartFrom, AreApart, EditsTakeThenToNow}
 
 sooner : (old new a b : ℕ) (es : List TextEdit) → old ≤ a → new ≤ b → AreApartFrom a b es → AreApartFrom old new es

@@ -8,7 +8,7 @@ use Rattle.lamport_clock.specs.Versions.{Entries}
 use Rattle.op_model.specs.declared.anchor.TextEdit.{TextEdit}
 use Rattle.op_model.specs.Sorted.{Each}
 use Rattle.op_model.specs.Since.{Fate, fate, runs, edits_of}
-use Rattle.op_model.specs.Since.Fate.{Kept, Never}
+use Rattle.op_model.specs.Since.Fate.{Kept}
 use Rattle.undo_map.specs.declared.entry.UndoEntry.{UndoEntry}
 use Rattle.fragments.specs.declared.fragment.Fragment.{Fragment}
 use Rattle.fragments.specs.Summaries.{no_fragments, summaries, summary_of, SummaryFits}
