@@ -1,4 +1,3 @@
 pub mod Fit
 pub mod Ropes
-pub mod Scripts
 pub mod Sides

@@ -21,8 +21,8 @@ use Rattle.fragments.specs.declared.fragment.Fragment.{Fragment}
 use Rattle.fragments.specs.Stand.{runs, Tell}
 use Rattle.fragments.specs.Laws.{shown_len}
 use Rattle.remote_edit.specs.Walk.{seen_bytes}
-use Rattle.remote_edit.specs.Carried.{shown_bytes, hidden_bytes, hidden_len}
-use Rattle.remote_edit.proofs.Carrying.{cell_bytes, bytes_of, long, shown_first, hidden_first, shown_append, hidden_append, shown_long}
+use Rattle.remote_edit.specs.Carried.{cell_bytes, shown_bytes, hidden_bytes, hidden_len}
+use Rattle.remote_edit.proofs.Carrying.{bytes_of, long, shown_first, hidden_first, shown_append, hidden_append, shown_long}
 
 -- ---- boundaries
 

@@ -3,6 +3,8 @@
 
 mod boundary;
 mod count;
+mod laws;
 
 pub use boundary::is_seen_boundary;
 pub use count::seen_len;
+pub use laws::cells_begin_as_in_their_edits;

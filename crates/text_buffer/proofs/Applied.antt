@@ -9,16 +9,14 @@ use Rattle.lamport_clock.specs.Clocks.{observed}
 use Rattle.lamport_clock.specs.Stamps.{same_stamp}
 use Rattle.lamport_clock.specs.Versions.{raise}
 use Rattle.op_model.specs.declared.operation.Operation.{Operation}
-use Rattle.op_model.specs.declared.operation.Operation.TheVariants.{Edit, Undo}
-use Rattle.op_model.specs.declared.operation.EditOp.{EditOp}
+use Rattle.op_model.specs.declared.operation.Operation.TheVariants.{Undo}
 use Rattle.op_model.specs.declared.operation.UndoOp.{UndoOp}
 use Rattle.op_model.specs.declared.faults.OpFault.TheVariants.{Full}
 use Rattle.op_model.specs.Sorted.{Each, Ascending, insert_by}
 use Rattle.op_model.specs.Domains.{IsProper}
-use Rattle.op_model.specs.Operations.{text_total, stamp_of, pieces_of, is_edit, bytes_of, entries_of}
+use Rattle.op_model.specs.Operations.{text_total, stamp_of, pieces_of, bytes_of, entries_of}
 use Rattle.op_model.specs.Histories.{History, version, clock, bytes_held, entries_held, operation_at}
 use Rattle.op_model.specs.Limited.{Excess, excess}
-use Rattle.op_model.specs.Shown.{text}
 use Rattle.op_model.specs.Answers.{answer, shape_fault, any_stamp}
 use Rattle.op_model.specs.Answers.Answer.{Good}
 use Rattle.op_model.specs.Lawful.{Lawful}
@@ -33,16 +31,12 @@ use Rattle.op_model.proofs.Proper.{utf8}
 use Rattle.undo_map.specs.declared.entry.UndoEntry.{UndoEntry}
 use Rattle.undo_map.specs.Undos.{undo_entries}
 use Rattle.undo_map.proofs.Entries.{entries_within}
-use Rattle.cells.specs.declared.cell.KeptCell.{KeptCell}
-use Rattle.cells.specs.Kept.{kept_cells, shown_bytes}
-use Rattle.cells.proofs.Undone.{entries_edit}
-use Rattle.cells.proofs.Told.{shown_text}
-use Rattle.cells.proofs.Lengths.{text_length}
 use Rattle.text_buffer.specs.Buffer.{BufferState, IsBuffer}
-use Rattle.text_buffer.specs.Document.{IsHistory, HasRoom}
+use Rattle.text_buffer.specs.Document.{IsContent, IsHistory, HasRoom}
 use Rattle.text_buffer.specs.Told.{AreTold}
 use Rattle.text_buffer.specs.declared.document.Document.TheInside.{Inside}
 use Rattle.text_buffer.proofs.Fit.{room_in}
+use Rattle.text_buffer.proofs.Lengths.{text_length}
 use Rattle.text_buffer.proofs.Waiting.{ascends, unlike_waiting}
 
 -- what the shape of an operation bounds
@@ -66,10 +60,6 @@ entries_more h op g =
     let e = entries_held-append h op in
     let n = (stamp_parts op (shaped op (shape_of h [] op g)).stamp).2 in
     rw n at e
-
--- an edit leaves the undo counts as they are
-pub counts_same : (h : History) (op : Operation) (e : EditOp) (w v : List UndoEntry) → op ≡ Edit e → v ≡ w → w ≡ undo_entries h → v ≡ undo_entries (h ++ op ∷ [])
-counts_same h op e w v i s q = s ∙ q ∙ sym (entries_edit h op (ap is_edit i))
 
 -- there is room for the counts of an undo
 pub counts_fit : (h : History) (u : UndoOp) (w : List UndoEntry) → IsHistory h → w ≡ undo_entries h → HasRoom h (Undo u) → length w + length u.counts ≤ 2 ^ 40
@@ -100,21 +90,7 @@ IsHistory-applied h op k p g r =
       bytes = omega (arith, bytes_held-append h op, r.bytes);
       entries = omega (arith, entries_more h op g, r.entries);
       utf8 = (utf8 (h ++ op ∷ []) law proper).0;
-      text_bytes = text_length (h ++ op ∷ []) law;
-    }
-
--- what the cells show then
-pub record Shows (s : List KeptCell) : Type 0 where
-  pub utf8 : IsUtf8 (shown_bytes s)
-  pub few : length (shown_bytes s) ≤ 2 ^ 40
-
-pub shown_after : (h : History) (op : Operation) (s : List KeptCell) → IsHistory h → IsProper op → answer h [] op ≡ Good → HasRoom h op → s ≡ kept_cells (h ++ op ∷ []) → Shows s
-shown_after h op s k p g r e =
-    let n = IsHistory-applied h op k p g r in
-    let same : shown_bytes s ≡ text (h ++ op ∷ []) = ap shown_bytes e ∙ shown_text (h ++ op ∷ []) in
-    record {
-      utf8 = subst IsUtf8 (sym same) n.utf8;
-      few = omega (arith, ap length same, n.text_bytes, n.bytes);
+      text_bytes = text_length (h ++ op ∷ []);
     }
 
 -- what is held stays far below the end of its type
@@ -124,18 +100,15 @@ stay_few i h op n m k e r x y =
     let f : entries_held i.operations ≡ entries_held h = ap entries_held e in
     (omega (arith, k.bytes, b, r.bytes, x), omega (arith, k.entries, f, r.entries, y))
 
--- the clock and the version observe its stamp, it stands last, and the undo counts, the cells and the text are those that are then
+-- the clock and the version observe its stamp, it stands last, and the content is that which is then
 pub AreTold-applied : (i j : Inside) (op : Operation) (s : Lamport) → AreTold i → IsProper op → answer i.operations [] op ≡ Good → HasRoom i.operations op → s ≡ stamp_of op
     → j.operations ≡ i.operations ++ op ∷ [] → j.clock ≡ observed i.clock s.value → arc_value j.version ≡ raise (version i.operations) s
-    → j.undos ≡ undo_entries (i.operations ++ op ∷ []) → arc_value j.cells ≡ kept_cells (i.operations ++ op ∷ []) → j.text ≡ text (i.operations ++ op ∷ [])
-    → j.bytes ≡ i.bytes + bytes_of op → j.entries ≡ i.entries + entries_of op → AreTold j
-AreTold-applied i j op s k p g r t items clocks versions counts cells texts bytes entries =
+    → IsContent j.content (i.operations ++ op ∷ []) → j.bytes ≡ i.bytes + bytes_of op → j.entries ≡ i.entries + entries_of op → AreTold j
+AreTold-applied i j op s k p g r t items clocks versions content bytes entries =
     record {
       clock = clocks ∙ ap (λ (u : Lamport). observed i.clock u.value) t ∙ ap (λ c. observed c (stamp_of op).value) k.clock ∙ sym (clock-append i.operations op) ∙ ap clock (sym items);
       version = versions ∙ ap (raise (version i.operations)) t ∙ sym (version-append i.operations op) ∙ ap version (sym items);
-      undos = counts ∙ ap undo_entries (sym items);
-      cells = cells ∙ ap kept_cells (sym items);
-      text = texts ∙ ap text (sym items);
+      content = subst (IsContent j.content) (sym items) content;
       bytes = omega (arith, bytes, k.bytes, bytes_held-append i.operations op, ap bytes_held items);
       entries = omega (arith, entries, k.entries, entries_more i.operations op g, ap entries_held items);
       history = subst IsHistory (sym items) (IsHistory-applied i.operations op k.history p g r);

@@ -1,5 +1,5 @@
 -- A buffer and a snapshot may go to another thread, and be shared with one. A document has trees in it, those of the applied
--- operations, that of the undo counts and that of the rope: so its fields are gone through one by one.
+-- operations, of the undo counts, of the fragments and their index, and of the ropes: so its fields are gone through one by one.
 use denote.Param.Send.{IsSend, IsSync, sendable}
 use denote.Param.SendFields.{declared_send, declared_sync}
 use Rattle.std.proofs.Crossing.{crosses}
@@ -12,6 +12,10 @@ use Rattle.applied_ops.specs.contracts.operation.Applied as applied
 use Rattle.applied_ops.specs.contracts.operation.Applied.TheInside as shared
 use Rattle.applied_ops.specs.contracts.list.AppliedList as list
 use Rattle.applied_ops.specs.contracts.list.AppliedList.TheInside as held
+use Rattle.fragments.specs.contracts.fragment.Fragment as fragment
+use Rattle.fragments.specs.contracts.fragment.FragmentSummary as summary
+use Rattle.fragments.specs.contracts.index.InsertionIndex as index
+use Rattle.text_buffer.specs.contracts.content.Content as content
 use Rattle.text_buffer.specs.contracts.document.Document as document
 use Rattle.text_buffer.specs.contracts.document.Document.TheInside as fields
 use Rattle.text_buffer.specs.contracts.snapshot.Snapshot as snapshot
@@ -67,11 +71,37 @@ list_sent = search (held_sent, sendable) depth 60 fits 20000
 list_shared : IsSync list.the_row
 list_shared = search (held_shared, sendable) depth 60 fits 20000
 
+fragment_sent : IsSend fragment.the_row
+fragment_sent = search plain depth 60 fits 20000
+
+fragment_shared : IsSync fragment.the_row
+fragment_shared = search plain depth 60 fits 20000
+
+summary_sent : IsSend summary.the_row
+summary_sent = search plain depth 60 fits 20000
+
+summary_shared : IsSync summary.the_row
+summary_shared = search plain depth 60 fits 20000
+
+index_sent : IsSend index.the_row
+index_sent = search trees depth 60 fits 20000
+
+index_shared : IsSync index.the_row
+index_shared = search trees depth 60 fits 20000
+
+ruleset fragments = (fragment_sent, fragment_shared, summary_sent, summary_shared, knot.crosses, crosses, sendable)
+
+content_sent : IsSend content.the_row
+content_sent = declared_send content.the_type (search fragments depth 60 fits 20000, (index_sent, (undos_sent, (rope_sent, (rope_sent, tt)))))
+
+content_shared : IsSync content.the_row
+content_shared = declared_sync content.the_type (search fragments depth 60 fits 20000, (index_shared, (undos_shared, (rope_shared, (rope_shared, tt)))))
+
 fields_sent : IsSend fields.the_row
-fields_sent = declared_send fields.the_type (search plain depth 60 fits 20000, (list_sent, (search plain depth 60 fits 20000, (search plain depth 60 fits 20000, (undos_sent, (search plain depth 60 fits 20000, (rope_sent, (search plain depth 60 fits 20000, (search plain depth 60 fits 20000, tt)))))))))
+fields_sent = declared_send fields.the_type (search plain depth 60 fits 20000, (list_sent, (search plain depth 60 fits 20000, (search plain depth 60 fits 20000, (content_sent, (search plain depth 60 fits 20000, (search plain depth 60 fits 20000, tt)))))))
 
 fields_shared : IsSync fields.the_row
-fields_shared = declared_sync fields.the_type (search plain depth 60 fits 20000, (list_shared, (search plain depth 60 fits 20000, (search plain depth 60 fits 20000, (undos_shared, (search plain depth 60 fits 20000, (rope_shared, (search plain depth 60 fits 20000, (search plain depth 60 fits 20000, tt)))))))))
+fields_shared = declared_sync fields.the_type (search plain depth 60 fits 20000, (list_shared, (search plain depth 60 fits 20000, (search plain depth 60 fits 20000, (content_shared, (search plain depth 60 fits 20000, (search plain depth 60 fits 20000, tt)))))))
 
 document_sent : IsSend document.the_row
 document_sent = search (fields_sent, sendable) depth 60 fits 20000

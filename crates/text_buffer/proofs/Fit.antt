@@ -1,5 +1,5 @@
 -- What an edit without fault says of its pieces and of the limits.
-use Rattle.std.proofs.Common.{◌≡◌, ℕ, ◌+◌, ◌≤◌, ◌^◌, List, ◌∷◌, [], length, sym, subst, arith, ◌==◌, None, option_map, nat_lt}
+use Rattle.std.proofs.Common.{◌≡◌, ℕ, ◌+◌, ◌≤◌, List, ◌∷◌, [], length, ◌==◌, None, option_map, nat_lt}
 use Rattle.std.proofs.lemmas.Bool.{ltb-false}
 use Rattle.op_model.specs.declared.operation.Piece.{Piece}
 use Rattle.op_model.specs.declared.limits.Limits.{Limits as LimitsType}
@@ -13,7 +13,7 @@ use Rattle.op_model.specs.Limited.{Excess, excess}
 use Rattle.op_model.specs.Edits.{piece_fault}
 use Rattle.op_model.specs.Shown.{text}
 use Rattle.rope_edits.proofs.Fit.{all_none, map_none, when_none}
-use Rattle.text_buffer.specs.Buffer.{BufferState, IsBuffer, edit_fault}
+use Rattle.text_buffer.specs.Buffer.{BufferState, edit_fault}
 
 abbrev full : Excess → EditFault
 full e = Full e.unit e.held e.adds
@@ -39,14 +39,3 @@ room_in l h n m e =
 
 pub room_of : (b : BufferState) (ps : List Piece) → edit_fault b ps ≡ None → excess b.limits b.history (text_total ps) (1 + length ps) ≡ None
 room_of b ps e = (unmet b ps e).1
-
--- the pieces of an edit that meets no fault have none against the text, and their texts fit a rope beside it
-pub record Fits (t : List ℕ) (ps : List Piece) : Type 0 where
-  pub fit : piece_fault t ps ≡ None
-  pub room : length t + text_total ps ≤ 2 ^ 40
-
-pub fits_on : (t : List ℕ) (b : BufferState) (ps : List Piece) → t ≡ text b.history → IsBuffer b → edit_fault b ps ≡ None → Fits t ps
-fits_on t b ps same k e = subst (λ z. Fits z ps) (sym same) (record {
-  fit = (unmet b ps e).0;
-  room = omega (arith, k.text_bytes, k.most_bytes, (room_in b.limits b.history (text_total ps) (1 + length ps) (room_of b ps e)).0);
-})

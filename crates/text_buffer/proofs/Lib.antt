@@ -1,6 +1,8 @@
 pub mod Fit
+pub mod Lengths
 pub mod Crossing
 pub mod Edited
+pub mod Contents
 pub mod Waiting
 pub mod Applied
 pub mod Undone

@@ -1,5 +1,5 @@
 -- The fields of a new document and of a new buffer.
-use Rattle.std.proofs.Common.{◌≡◌, ℕ, suc, ◌-◌, ◌^◌, ◌≤◌, List, [], ◌∷◌, length, refl, sym, ap, subst, ◌∙◌, arith}
+use Rattle.std.proofs.Common.{◌≡◌, ℕ, ◌-◌, ◌^◌, ◌≤◌, List, [], ◌∷◌, length, refl, sym, ap, subst, ◌∙◌, arith}
 use Rattle.std.specs.Arc.{arc_value}
 use Rattle.std.specs.Str.{IsUtf8}
 use Rattle.lamport_clock.specs.declared.stamp.Lamport.{Lamport}
@@ -10,24 +10,12 @@ use Rattle.op_model.specs.Sorted.{Each}
 use Rattle.op_model.specs.Domains.{IsProper}
 use Rattle.op_model.specs.Histories.{History, base, version, clock, bytes_held, entries_held}
 use Rattle.op_model.specs.Lawful.{Lawful}
-use Rattle.op_model.specs.Shown.{text}
 use Rattle.op_model.proofs.Proper.{utf8}
-use Rattle.undo_map.specs.Undos.{undo_entries}
-use Rattle.cells.specs.Kept.{kept_cells, shown_bytes}
-use Rattle.cells.specs.Passed.{new_cells}
-use Rattle.cells.proofs.Told.{shown_text, base_kept}
-use Rattle.cells.proofs.Lengths.{text_length}
 use Rattle.text_buffer.specs.Buffer.{BufferState, IsBuffer}
-use Rattle.text_buffer.specs.Document.{IsHistory}
+use Rattle.text_buffer.specs.Document.{IsContent, IsHistory}
 use Rattle.text_buffer.specs.Told.{AreTold}
 use Rattle.text_buffer.specs.declared.document.Document.TheInside.{Inside as DocumentInside}
-
-new_bytes : (t : Lamport) (k : ℕ) (bs : List ℕ) → shown_bytes (new_cells t k bs) ≡ bs
-new_bytes t k [] = refl
-new_bytes t k (b ∷ bs) = ap (λ z. b ∷ z) (new_bytes t (suc k) bs)
-
-pub text_base : (t : List ℕ) → text (base t ∷ []) ≡ t
-text_base t = sym (shown_text (base t ∷ [])) ∙ ap shown_bytes (sym (base_kept t)) ∙ new_bytes (record { value = 1; replica = 0 }) 0 t
+use Rattle.text_buffer.proofs.Lengths.{text_length}
 
 pub history_opened : (t : List ℕ) → IsUtf8 t → length t ≤ 2 ^ 40 → IsHistory (base t ∷ [])
 history_opened t u l =
@@ -40,21 +28,19 @@ history_opened t u l =
       bytes = (let held : bytes_held one ≡ length t = omega arith in omega arith);
       entries = omega arith;
       utf8 = (utf8 one law proper).0;
-      text_bytes = text_length one law;
+      text_bytes = text_length one;
     }
 
 pub AreTold-opened : (j : DocumentInside) (t : List ℕ) → IsUtf8 t → length t ≤ 2 ^ 40
-    → j.operations ≡ base t ∷ [] → j.clock ≡ 2 → arc_value j.version ≡ version (base t ∷ []) → j.undos ≡ [] → arc_value j.cells ≡ kept_cells (base t ∷ []) → j.text ≡ t → j.bytes ≡ length t → j.entries ≡ 0
+    → j.operations ≡ base t ∷ [] → j.clock ≡ 2 → arc_value j.version ≡ version (base t ∷ []) → IsContent j.content (base t ∷ []) → j.bytes ≡ length t → j.entries ≡ 0
     → AreTold j
-AreTold-opened j t u l h clocks versions counts cells texts bytes entries =
+AreTold-opened j t u l h clocks versions content bytes entries =
     let one : History = base t ∷ [] in
     let held : bytes_held one ≡ length t = omega arith in
     record {
       clock = clocks ∙ ap clock (sym h);
       version = versions ∙ ap version (sym h);
-      undos = counts ∙ ap undo_entries (sym h);
-      cells = cells ∙ ap kept_cells (sym h);
-      text = texts ∙ sym (text_base t) ∙ ap text (sym h);
+      content = subst (IsContent j.content) (sym h) content;
       bytes = bytes ∙ sym held ∙ ap bytes_held (sym h);
       entries = entries ∙ ap entries_held (sym h);
       history = subst IsHistory (sym h) (history_opened t u l);

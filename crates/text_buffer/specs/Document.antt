@@ -1,13 +1,24 @@
 -- What is true of the history of a document.
-use Rattle.std.specs.Prelude.{◌≡◌, ◌+◌, ◌-◌, ◌^◌, ◌≤◌, List, ◌++◌, length}
+use Rattle.std.specs.Prelude.{◌≡◌, ℕ, ◌+◌, ◌-◌, ◌^◌, ◌≤◌, List, [], ◌++◌, length, None}
 use Rattle.std.specs.Str.{IsUtf8}
+use Rattle.op_model.specs.declared.limits.Limits.{Limits as LimitsType}
 use Rattle.op_model.specs.declared.operation.Operation.{Operation}
+use Rattle.op_model.specs.declared.operation.Piece.{Piece}
 use Rattle.op_model.specs.Sorted.{Each}
-use Rattle.op_model.specs.Domains.{IsProper}
+use Rattle.op_model.specs.Answers.{answer}
+use Rattle.op_model.specs.Answers.Answer.{Good}
+use Rattle.op_model.specs.Domains.{IsProper, IsReplica}
 use Rattle.op_model.specs.Operations.{bytes_of, entries_of}
 use Rattle.op_model.specs.Histories.{bytes_held, entries_held}
 use Rattle.op_model.specs.Lawful.{Lawful}
-use Rattle.op_model.specs.Shown.{text}
+use Rattle.op_model.specs.Made.{local_edit_fault}
+use Rattle.op_model.specs.Shown.{text, hidden}
+use Rattle.op_model.specs.Walked.{IsWhole}
+use Rattle.undo_map.specs.declared.entry.UndoEntry.{UndoEntry}
+use Rattle.fragments.specs.Stand.{Stand, runs}
+use Rattle.remote_edit.specs.declared.placed.Placed.{Placed}
+use Rattle.remote_edit.specs.Moves.{moved, texts_of}
+use Rattle.text_buffer.specs.declared.content.Content.{Content}
 
 -- what is true of the history of every buffer and of every snapshot
 pub record IsHistory (h : List Operation) : Type 0 where
@@ -26,3 +37,33 @@ pub record HasRoom (h : List Operation) (op : Operation) : Type 0 where
 -- the history g is h with operations behind it
 abbrev pub IsFront : List Operation → List Operation → Type 0
 IsFront h g = (more : List Operation) × (g ≡ h ++ more)
+
+-- the content is that of h: its fragments, which begin and end between characters, their index and the undo counts stand for h,
+-- and its texts are those of h
+pub record IsContent (c : Content) (h : List Operation) : Type 0 where
+  pub stand : Stand c.fragments.items c.index c.undos h
+  pub whole : Each (IsWhole h) (runs c.fragments.items)
+  pub shown : c.text ≡ text h
+  pub hidden : c.hidden ≡ hidden h
+
+-- the content has the fragments and the index of what an operation made of those of h, the undo counts u, and both texts of h after
+-- its moves, n being its new text
+pub record IsMoved (c : Content) (p : Placed) (u : List UndoEntry) (h : List Operation) (n : List ℕ) : Type 0 where
+  pub fragments : c.fragments.items ≡ p.fragments.items
+  pub index : c.index ≡ p.index
+  pub undos : c.undos ≡ u
+  pub texts : texts_of c.text c.hidden ≡ moved p.moves (text h) (hidden h) n
+
+-- op is good behind h, and there is room for it
+pub record MayGrow (h : List Operation) (op : Operation) : Type 0 where
+  pub proper : IsProper op
+  pub good : answer h [] op ≡ Good
+  pub room : HasRoom h op
+
+-- replica r may edit the text of h by changes: under some limits they meet no fault
+pub record MayEdit (h : List Operation) (r : ℕ) (changes : List Piece) : Type 0 where
+  pub replica : IsReplica r
+  pub limits : LimitsType
+  pub most_bytes : limits.bytes ≤ 2 ^ 40
+  pub most_entries : limits.entries ≤ 2 ^ 40 - 1
+  pub faultless : local_edit_fault limits h changes ≡ None

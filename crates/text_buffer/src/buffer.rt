@@ -18,8 +18,8 @@ use crate::pieces::{size, text_total};
 use crate::{NewFault, Refused};
 use deferred_ops::Deferred;
 use lamport_clock::{Lamport, Version};
-use op_model::{EditFault, EditOp, Limits, OpFault, Operation, Piece, Unit};
-use rope_edits::{piece_fault, replaced};
+use op_model::{EditFault, Limits, OpFault, Operation, Piece, Unit};
+use rope_edits::piece_fault;
 use std::alloc::{AllocError, Global};
 use std::marker::Model;
 use text_dims::TextSummary;
@@ -116,8 +116,8 @@ impl Buffer {
     }
 
     /// Replaces ranges of the text, given in bytes and in order: each starts at or past the end of the one before it.
-    /// Gives the operation, whose pieces count hidden bytes too, and keeps an equal one. Linear in all bytes, hidden ones
-    /// too, and in the number of pieces.
+    /// Gives the operation, whose pieces count hidden bytes too, and keeps an equal one. Each range costs a few descents,
+    /// what lies in it and its new text; the length of the whole text does not matter.
     ///
     /// # Errors
     ///
@@ -150,10 +150,7 @@ impl Buffer {
         ensures text { OnOk result (text self.new.history ≡ replaced changes.now (text self.old.history)) }
         ensures err { OnErr result (self.new ≡ self.old) }
     {
-        let shown = replaced(self.alloc, self.document.text(), changes)?;
-        let made = self.operation(changes)?;
-        let kept = made.copy(self.alloc)?;
-        self.document.apply_with(kept, shown)?;
+        let made = self.document.make_edit(self.replica, changes)?;
         self.document.known();
         Ok(made)
     }
@@ -188,8 +185,7 @@ impl Buffer {
         }
     }
 
-    // Applies an operation that is good and passes no limit. Linear in all bytes, hidden ones too. On want of memory the operation
-    // is dropped.
+    // Applies an operation that is good and passes no limit. On want of memory the operation is dropped.
     pub(crate) fn apply(&mut self, op: Operation) -> Result<(), AllocError>
         requires proper { IsProper op }
         requires good { answer self.old.history [] op ≡ Good }
@@ -217,18 +213,6 @@ impl Buffer {
             value: self.document.clock(),
             replica: self.replica,
         }
-    }
-
-    // The operation of an edit that meets no fault.
-    fn operation(&self, changes: &[Piece]) -> Result<Operation, AllocError>
-        requires { edit_fault self.now changes.now ≡ None }
-        ensures { IfOk result (λ op. op ≡ made self.now changes.now) }
-    {
-        Ok(Operation::Edit(EditOp {
-            stamp: self.next_stamp(),
-            version: self.document.version().copy(self.alloc)?,
-            pieces: self.document.cells().full_pieces(self.alloc, changes)?,
-        }))
     }
 }
 

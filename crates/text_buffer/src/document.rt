@@ -1,42 +1,48 @@
 // What a history comes to.
-ghost use Rattle.std.specs.Prelude.{◌≡◌, ◌+◌, ◌-◌, ◌^◌, ◌≤◌, ◌++◌, ◌∷◌, [], length, IfOk, OnErr, OnOk, option_map};
+ghost use Rattle.std.specs.Prelude.{◌≡◌, ◌+◌, ◌-◌, ◌^◌, ◌≤◌, ◌++◌, ◌∷◌, [], length, map, IfOk, OnErr, OnOk, option_map};
 ghost use Rattle.lamport_clock.specs.Clocks.{observed};
 ghost use Rattle.lamport_clock.specs.Versions.{raise};
+ghost use Rattle.op_model.specs.declared.operation.Operation.TheVariants.{Edit, Undo};
 ghost use Rattle.op_model.specs.Domains.{IsProper};
-ghost use Rattle.op_model.specs.Operations.{bytes_of, entries_of};
-ghost use Rattle.op_model.specs.Histories.{base, bytes_held, clock, entries_held, version};
+ghost use Rattle.op_model.specs.Operations.{bytes_of, entries_of, text_total};
+ghost use Rattle.op_model.specs.Histories.{Distinct, base, bytes_held, clock, version};
 ghost use Rattle.op_model.specs.Limited.{excess};
-ghost use Rattle.op_model.specs.Shown.{text};
+ghost use Rattle.op_model.specs.Made.{made};
+ghost use Rattle.op_model.specs.Shown.{hidden, text, texts};
 ghost use Rattle.op_model.specs.Answers.{answer};
 ghost use Rattle.op_model.specs.Answers.Answer.{Good};
 ghost use Rattle.undo_map.specs.Undos.{undo_entries};
-ghost use Rattle.cells.specs.Kept.{kept_cells};
-ghost use Rattle.text_buffer.specs.Document.{HasRoom, IsHistory};
+ghost use Rattle.op_answers.specs.Verdicts.{answer_of};
+ghost use Rattle.remote_edit.specs.Moves.{TakeTexts};
+ghost use Rattle.text_buffer.specs.Document.{IsContent, IsHistory, IsMoved, MayEdit, MayGrow};
 
+use crate::content::{BASE, Content};
 use crate::pieces::size;
 use applied_ops::AppliedList;
-use cells::Cells;
+use deferred_ops::Deferred;
 use lamport_clock::{Lamport, Version};
-use op_model::{EditFault, EditOp, Limits, Operation, Piece, Pieces, Text, Unit};
+use op_answers::{Verdict, judge};
+use op_model::{
+    EditFault, EditOp, Limits, Operation, Piece, Pieces, Text, UndoCount, UndoOp, Unit,
+};
+use remote_edit::{Placed, mark_undo, place_local, place_remote};
 use rope_chunks::Rope;
-use rope_edits::follow;
+use rope_edits::apply_moves;
 use std::alloc::{AllocError, Global};
 use std::marker::Model;
 use std::sync::Arc;
 use undo_map::UndoMap;
 
-/// The applied operations, and all that they come to: the clock and the version, the undo counts, the cells, the text, and how
-/// many bytes and entries are held. Contracts see it as the list of operations, the history; it is lawful. Documents share
-/// what they have in common.
+/// The applied operations, and all that they come to: the clock and the version, the fragments with their index and the undo
+/// counts, the shown and the hidden text, and how many bytes and entries are held. Contracts see it as the list of operations, the
+/// history; it is lawful. Documents share what they have in common.
 #[derive(Drop)]
 pub struct Document {
     alloc: Global,
     operations: AppliedList,
     clock: u32,
     version: Arc<Version>,
-    undos: UndoMap,
-    cells: Arc<Cells>,
-    text: Rope,
+    content: Content,
     bytes: u64,
     entries: u64,
 }
@@ -54,40 +60,24 @@ impl Model for Document {
     ghost invariant = { AreTold };
 }
 
-// What changes with an operation more, and takes time by the text.
-#[derive(Drop)]
-struct Parts {
-    undos: UndoMap,
-    cells: Cells,
-    text: Rope,
-}
-
 impl Document {
     /// The base alone. Linear in its text.
     pub fn over(alloc: Global, text: &str) -> Result<Document, AllocError>
         requires { length text.now ≤ 2 ^ 40 }
         ensures { IfOk result (λ d. d ≡ base text.now ∷ []) }
     {
-        let stamp = Lamport {
-            value: 1,
-            replica: 0,
-        };
         let mut version = Version::new(alloc);
-        version.observe(stamp)?;
+        version.observe(BASE)?;
         let version = Arc::new(alloc, version)?;
         let mut operations = AppliedList::new(alloc)?;
         operations.push(alloc, base_operation(alloc, text)?)?;
-        let undos = UndoMap::new(alloc)?;
-        let cells = Arc::new(alloc, Cells::over(alloc, text)?)?;
-        let rope = Rope::from_str(alloc, text)?;
+        let content = Content::over(alloc, text)?;
         Ok(Document {
             alloc,
             operations,
             clock: 2,
             version,
-            undos,
-            cells,
-            text: rope,
+            content,
             bytes: text.len() as u64,
             entries: 0,
         })
@@ -99,17 +89,13 @@ impl Document {
     {
         let operations = self.operations.share()?;
         let version = Arc::try_clone(&self.version)?;
-        let undos = self.undos.share()?;
-        let cells = Arc::try_clone(&self.cells)?;
-        let text = self.text.share()?;
+        let content = self.content.share()?;
         Ok(Document {
             alloc: self.alloc,
             operations,
             clock: self.clock,
             version,
-            undos,
-            cells,
-            text,
+            content,
             bytes: self.bytes,
             entries: self.entries,
         })
@@ -146,19 +132,13 @@ impl Document {
     pub fn undos(&self) -> &UndoMap
         ensures { result.now ≡ undo_entries self.now }
     {
-        &self.undos
-    }
-
-    pub fn cells(&self) -> &Cells
-        ensures { result.now ≡ kept_cells self.now }
-    {
-        &self.cells
+        &self.content.undos
     }
 
     pub fn text(&self) -> &Rope
         ensures { result.now ≡ text self.now }
     {
-        &self.text
+        &self.content.text
     }
 
     /// The limit that so many bytes and entries more pass.
@@ -182,61 +162,133 @@ impl Document {
         None
     }
 
-    /// Puts an operation last that is good. Linear in all bytes, hidden ones too. On want of memory the operation is dropped, and
-    /// all is as before.
+    /// The answer to an operation that is taken while others wait.
+    pub fn judge(&self, waiting: &Deferred, op: &Operation) -> Verdict
+        requires { Distinct waiting.now }
+        ensures { answer_of result ≡ answer self.now waiting.now op.now }
+    {
+        judge(
+            &self.operations,
+            waiting,
+            &self.version,
+            &self.content.fragments,
+            &self.content.text,
+            &self.content.hidden,
+            op,
+        )
+    }
+
+    /// Puts an operation last that is good. A few descents for each of its pieces, the fragments in their ranges and those that its
+    /// counts concern; what does not change is shared. On want of memory the operation is dropped, and all is as before.
     pub fn apply(&mut self, op: Operation) -> Result<(), AllocError>
-        requires proper { IsProper op }
-        requires good { answer self.old [] op ≡ Good }
-        requires room { HasRoom self.old op }
+        requires grows { MayGrow self.old op }
         ensures ok { OnOk result (self.new ≡ self.old ++ op ∷ []) }
         ensures err { OnErr result (self.new ≡ self.old) }
     {
-        let undos = self.undos_with(&op)?;
-        let cells = self.cells_with(&op, &undos)?;
-        let text = follow(
+        let adds = size(&op);
+        let content = self.content_with(&op)?;
+        self.put(op, adds, content)
+    }
+
+    /// Makes an edit of changes that meet no fault, and puts it last. Gives the edit; a copy is kept. It costs what `apply` does, and
+    /// two descents for each change.
+    pub fn make_edit(&mut self, replica: u16, changes: &[Piece]) -> Result<Operation, AllocError>
+        requires { MayEdit self.old replica changes.now }
+        ensures made { IfOk result (λ op. op ≡ made self.old replica changes.now) }
+        ensures new { OnOk result (self.new ≡ self.old ++ made self.old replica changes.now ∷ []) }
+        ensures err { OnErr result (self.new ≡ self.old) }
+    {
+        let stamp = Lamport {
+            value: self.clock,
+            replica,
+        };
+        let (edit, placed) = place_local(
             self.alloc,
-            &self.text,
-            self.cells.as_slice(),
-            cells.as_slice(),
+            &self.content.fragments,
+            &self.content.index,
+            &self.content.undos,
+            stamp,
+            self.version.copy(self.alloc)?,
+            changes,
         )?;
-        self.put(op, Parts { undos, cells, text })
+        let made = Operation::Edit(edit);
+        let adds = size(&made);
+        let undos = self.content.undos.share()?;
+        let content = self.content_of(placed, undos, changes)?;
+        let kept = made.copy(self.alloc)?;
+        self.put(kept, adds, content)?;
+        Ok(made)
     }
 
-    /// Puts an operation last that is good, where the text that is shown then is at hand.
-    pub fn apply_with(&mut self, op: Operation, shown: Rope) -> Result<(), AllocError>
-        requires good { answer self.old [] op ≡ Good }
-        requires room { HasRoom self.old op }
-        requires text { shown ≡ text (self.old ++ op ∷ []) }
-        ensures ok { OnOk result (self.new ≡ self.old ++ op ∷ []) }
-        ensures err { OnErr result (self.new ≡ self.old) }
-    {
-        let undos = self.undos_with(&op)?;
-        let cells = self.cells_with(&op, &undos)?;
-        let text = shown;
-        self.put(op, Parts { undos, cells, text })
-    }
-
-    // The undo counts with an operation for which there is room.
-    fn undos_with(&self, op: &Operation) -> Result<UndoMap, AllocError>
-        requires { HasRoom self.now op.now }
-        ensures { IfOk result (λ w. w ≡ undo_entries (self.now ++ op.now ∷ [])) }
+    // What the history comes to with an operation that is good.
+    fn content_with(&self, op: &Operation) -> Result<Content, AllocError>
+        requires { MayGrow self.now op.now }
+        ensures { IfOk result (λ c. IsContent c (self.now ++ op.now ∷ [])) }
     {
         match op {
-            Operation::Edit(_) => self.undos.share(),
-            Operation::Undo(undo) => self.undos.with_undo(self.alloc, undo),
+            Operation::Edit(edit) => self.with_edit(edit),
+            Operation::Undo(undo) => self.with_undo(undo),
         }
     }
 
-    // The cells with an operation that is good, by the undo counts that are then.
-    fn cells_with(&self, op: &Operation, undos: &UndoMap) -> Result<Cells, AllocError>
-        requires good { answer self.now [] op.now ≡ Good }
-        requires undos { undos.now ≡ undo_entries (self.now ++ op.now ∷ []) }
-        ensures { IfOk result (λ c. c ≡ kept_cells (self.now ++ op.now ∷ [])) }
+    // What the history comes to with an edit that is good.
+    fn with_edit(&self, edit: &EditOp) -> Result<Content, AllocError>
+        requires { MayGrow self.now (Edit edit.now) }
+        ensures { IfOk result (λ c. IsContent c (self.now ++ Edit edit.now ∷ [])) }
     {
-        match op {
-            Operation::Edit(edit) => self.cells.lay(self.alloc, undos, edit),
-            Operation::Undo(_) => self.cells.mark(self.alloc, undos),
-        }
+        let placed = place_remote(
+            self.alloc,
+            &self.content.fragments,
+            &self.content.index,
+            &self.content.undos,
+            edit,
+        )?;
+        self.content_of(placed, self.content.undos.share()?, edit.pieces.as_slice())
+    }
+
+    // What the history comes to with an undo that is good.
+    fn with_undo(&self, undo: &UndoOp) -> Result<Content, AllocError>
+        requires { MayGrow self.now (Undo undo.now) }
+        ensures { IfOk result (λ c. IsContent c (self.now ++ Undo undo.now ∷ [])) }
+    {
+        let undos = self.content.undos.with_undo(self.alloc, undo)?;
+        let edits = edits_of(self.alloc, undo.counts.as_slice())?;
+        let placed = mark_undo(
+            self.alloc,
+            &self.content.fragments,
+            &self.content.index,
+            &undos,
+            undo.stamp,
+            edits.as_slice(),
+        )?;
+        self.content_of(placed, undos, &[])
+    }
+
+    // The fragments and the index that an operation makes, with both texts after its moves.
+    fn content_of(
+        &self,
+        placed: Placed,
+        undos: UndoMap,
+        pieces: &[Piece],
+    ) -> Result<Content, AllocError>
+        requires texts { TakeTexts placed.moves (text self.now) (hidden self.now) (texts pieces.now) }
+        requires room { bytes_held self.now + text_total pieces.now ≤ 2 ^ 40 }
+        ensures { IfOk result (λ c. IsMoved c placed undos self.now (texts pieces.now)) }
+    {
+        let texts = apply_moves(
+            self.alloc,
+            &self.content.text,
+            &self.content.hidden,
+            placed.moves.as_slice(),
+            pieces,
+        )?;
+        Ok(Content {
+            fragments: placed.fragments,
+            index: placed.index,
+            undos,
+            text: texts.shown,
+            hidden: texts.hidden,
+        })
     }
 
     // The version with a stamp.
@@ -248,30 +300,37 @@ impl Document {
         Ok(version)
     }
 
-    // Puts an operation last that is good, with the parts that are then.
-    fn put(&mut self, op: Operation, parts: Parts) -> Result<(), AllocError>
-        requires good { answer self.old [] op ≡ Good }
-        requires room { HasRoom self.old op }
-        requires undos { parts.undos ≡ undo_entries (self.old ++ op ∷ []) }
-        requires cells { parts.cells ≡ kept_cells (self.old ++ op ∷ []) }
-        requires text { parts.text ≡ text (self.old ++ op ∷ []) }
+    // Puts an operation last that is good, which adds so many bytes and entries, with what the history comes to then.
+    fn put(&mut self, op: Operation, adds: (u128, u64), content: Content) -> Result<(), AllocError>
+        requires grows { MayGrow self.old op }
+        requires bytes { adds.0 ≡ bytes_of op }
+        requires entries { adds.1 ≡ entries_of op }
+        requires content { IsContent content (self.old ++ op ∷ []) }
         ensures ok { OnOk result (self.new ≡ self.old ++ op ∷ []) }
         ensures err { OnErr result (self.new ≡ self.old) }
     {
         let stamp = op.stamp();
-        let (bytes, entries) = size(&op);
+        let (bytes, entries) = adds;
         let version = Arc::new(self.alloc, self.version_with(stamp)?)?;
-        let cells = Arc::new(self.alloc, parts.cells)?;
         self.operations.push(self.alloc, op)?;
         self.clock = after(self.clock, stamp);
         self.version = version;
-        self.undos = parts.undos;
-        self.cells = cells;
-        self.text = parts.text;
+        self.content = content;
         self.bytes += bytes as u64;
         self.entries += entries;
         Ok(())
     }
+}
+
+// The edits that counts are of.
+fn edits_of(alloc: Global, counts: &[UndoCount]) -> Result<Vec<Lamport>, AllocError>
+    ensures { IfOk result (λ ts. ts.items ≡ map (λ c. c.edit) counts.now) }
+{
+    let mut edits = Vec::with_capacity(alloc, counts.len())?;
+    for count in counts {
+        edits.push(count.edit)?;
+    }
+    Ok(edits)
 }
 
 // The value of a clock that has seen a stamp.
@@ -292,10 +351,7 @@ fn base_operation(alloc: Global, text: &str) -> Result<Operation, AllocError>
         text: Text::new(String::from_str(alloc, text)?),
     })?;
     Ok(Operation::Edit(EditOp {
-        stamp: Lamport {
-            value: 1,
-            replica: 0,
-        },
+        stamp: BASE,
         version: Version::new(alloc),
         pieces: Pieces::new(pieces),
     }))

@@ -2,6 +2,7 @@
 #![tactic(auto)]
 
 mod buffer;
+mod content;
 mod document;
 mod faults;
 mod outcomes;

@@ -11,7 +11,7 @@ ghost use Rattle.text_buffer.specs.Settling.{IsHalted, IsStopped, met, next_read
 use crate::{Buffer, Refused};
 use deferred_ops::Deferred;
 use lamport_clock::Lamport;
-use op_answers::{Verdict, judge};
+use op_answers::Verdict;
 use op_model::Operation;
 use std::alloc::AllocError;
 
@@ -102,13 +102,7 @@ impl Buffer {
         ensures proper { IfOk result (λ v. v ≡ Verdict.Accept → IsProper op.now) }
     {
         let nothing = Deferred::new(self.alloc)?;
-        match judge(
-            self.document.operations(),
-            &nothing,
-            self.document.version(),
-            self.document.cells(),
-            op,
-        ) {
+        match self.document.judge(&nothing, op) {
             Verdict::Accept => match self.full(op) {
                 Some(fault) => Ok(Verdict::Refuse(fault)),
                 None => Ok(Verdict::Accept),

@@ -10,14 +10,14 @@ ghost use Rattle.text_buffer.specs.Buffer.{AllMiss, IsPartly, after_call, answer
 use crate::{Buffer, Refused, Took};
 use applied_ops::Applied;
 use deferred_ops::Deferred;
-use op_answers::{Verdict, judge};
+use op_answers::Verdict;
 use op_model::{OpFault, Operation};
 use sum_tree::SumTree;
 
 impl Buffer {
     /// Takes an operation of another replica. It is applied, whereupon the buffer settles; or it waits; or an equal one is applied
-    /// or waits already, and nothing changes. After `Applied` each operation that waits misses a cause. Linear in all bytes, hidden
-    /// ones too, for each operation that is applied.
+    /// or waits already, and nothing changes. After `Applied` each operation that waits misses a cause. An operation that is
+    /// judged or applied costs a few descents for each of its ranges or counts, and what it touches, not the whole text.
     ///
     /// # Errors
     ///
@@ -38,13 +38,7 @@ impl Buffer {
         ensures step { OnOk result (self.new ≡ after_call (Takes op) self.old) }
         ensures refused { IfErr result (λ e. (self.new ≡ after_call (Takes op) self.old) ⊎ (e ≡ OpFault.OutOfMemory)) }
     {
-        match judge(
-            self.document.operations(),
-            &self.waiting,
-            self.document.version(),
-            self.document.cells(),
-            &op,
-        ) {
+        match self.document.judge(&self.waiting, &op) {
             Verdict::Accept => self.accept(op),
             Verdict::Repeated => Ok(Took::Repeat),
             Verdict::Missing { replica, value } => {

@@ -13,8 +13,8 @@ use undo_map::next_counts;
 impl Buffer {
     /// Undoes edits, or redoes those that are undone: gives each of them one more than its present undo count. The base, 1.0, may
     /// be among them, and edits of other replicas. An empty list makes an operation without counts. Gives the operation, and keeps
-    /// an equal one. Linear in all bytes, hidden ones too, each of which asks for the counts of its edit and of those that delete
-    /// it.
+    /// an equal one. The cost grows with the fragments that the edits brought or delete, and others that the sums of their runs do
+    /// not tell from these, not with the whole text.
     ///
     /// # Errors
     ///

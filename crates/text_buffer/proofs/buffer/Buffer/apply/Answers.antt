@@ -6,11 +6,14 @@ use Rattle.text_buffer.specs.Fields.{state_of}
 use Rattle.text_buffer.proofs.Applied.{IsBuffer-put, room_for}
 use Rattle.text_buffer.proofs.buffer.Buffer.apply.Goals as goal
 
-pub apply-requires-clause-good : goal.apply-requires-clause-good
-apply-requires-clause-good c = ap (λ (b : BufferState). answer b.history [] c.args.op) c.self.view_is ∙ c.requires.good
-
-pub apply-requires-clause-room : goal.apply-requires-clause-room
-apply-requires-clause-room c = room_for (state_of c.self.inside) c.args.op c.self.invariant (ap (λ (b : BufferState). full_fault b.limits b.history c.args.op) c.self.view_is ∙ c.requires.room)
+pub apply-requires : goal.apply-requires
+apply-requires c = record {
+  grows = record {
+    proper = c.requires.proper;
+    good = ap (λ (b : BufferState). answer b.history [] c.args.op) c.self.view_is ∙ c.requires.good;
+    room = room_for (state_of c.self.inside) c.args.op c.self.invariant (ap (λ (b : BufferState). full_fault b.limits b.history c.args.op) c.self.view_is ∙ c.requires.room);
+  };
+}
 
 pub invariant_of-self-2 : goal.invariant_of-self-2
 invariant_of-self-2 c =

@@ -9,4 +9,4 @@ invariant_of-result c = AreTold-opened _ c.args.text.now c.utf8.text c.requires
     (c.in_ok-push.ensures.ok ∙ ap (λ (z : List Operation). z ++ c.in_ok-base_operation.field-0 ∷ []) c.in_ok-operations.ensures ∙ ap (λ (o : Operation). o ∷ []) c.in_ok-base_operation.ensures)
     refl
     (c.in_ok-version.ensures.ok ∙ c.in_ok-observe.ensures.ok ∙ ap (λ (v : Entries). raise v (record { value = 1; replica = 0 })) c.new-version.ensures)
-    c.in_ok-undos.ensures (c.in_ok-cells.ensures.ok ∙ c.in_ok-over.ensures) c.in_ok-rope.ensures refl refl
+    c.in_ok-content.ensures refl refl

@@ -2,30 +2,25 @@ use Rattle.std.proofs.Common.{◌≡◌, ◌∙◌, ◌+◌, ℕ, [], ◌∷◌,
 use Rattle.op_model.specs.Histories.{History, version}
 use Rattle.op_model.specs.Answers.{answer}
 use Rattle.op_model.specs.Answers.Answer.{Good}
-use Rattle.op_model.specs.Shown.{text}
 use Rattle.lamport_clock.specs.Versions.{raise}
-use Rattle.undo_map.specs.Undos.{undo_entries}
-use Rattle.cells.specs.Kept.{kept_cells}
-use Rattle.text_buffer.specs.Document.{HasRoom}
+use Rattle.text_buffer.specs.Document.{HasRoom, IsContent}
 use Rattle.text_buffer.specs.Told.{AreTold}
 use Rattle.text_buffer.proofs.Applied.{AreTold-applied, fresh_of, stay_few}
 use Rattle.text_buffer.proofs.document.Document.put.Goals as goal
 
 pub push-requires : goal.push-requires
-push-requires c = fresh_of c.self.inside.operations c.args.op (ap (λ (h : History). answer h [] c.args.op) c.self.view_is ∙ c.requires.good)
+push-requires c = fresh_of c.self.inside.operations c.args.op (ap (λ (h : History). answer h [] c.args.op) c.self.view_is ∙ c.requires.grows.good)
 
 pub invariant_of-self-2 : goal.invariant_of-self-2
 invariant_of-self-2 c =
     let op = c.args.op in
-    let good : answer c.self.inside.operations [] op ≡ Good = ap (λ (h : History). answer h [] op) c.self.view_is ∙ c.requires.good in
-    let room : HasRoom c.self.inside.operations op = subst (λ (h : History). HasRoom h op) (sym c.self.view_is) c.requires.room in
-    AreTold-applied c.self.inside _ op c.stamp-stamp.result c.self.invariant c.size-bytes.ensures.proper good room c.stamp-stamp.ensures
+    let good : answer c.self.inside.operations [] op ≡ Good = ap (λ (h : History). answer h [] op) c.self.view_is ∙ c.requires.grows.good in
+    let room : HasRoom c.self.inside.operations op = subst (λ (h : History). HasRoom h op) (sym c.self.view_is) c.requires.grows.room in
+    AreTold-applied c.self.inside _ op c.stamp-stamp.result c.self.invariant c.requires.grows.proper good room c.stamp-stamp.ensures
     c.in_ok-push.ensures.ok c.after-self-inside.ensures
     (c.in_ok-version.ensures.ok ∙ c.in_ok-version_with.ensures ∙ ap (λ (h : History). raise (version h) c.stamp-stamp.result) (sym c.self.view_is))
-    (c.requires.undos ∙ ap (λ (h : History). undo_entries (h ++ op ∷ [])) (sym c.self.view_is))
-    (c.in_ok-cells.ensures.ok ∙ c.requires.cells ∙ ap (λ (h : History). kept_cells (h ++ op ∷ [])) (sym c.self.view_is))
-    (c.requires.text ∙ ap (λ (h : History). text (h ++ op ∷ [])) (sym c.self.view_is))
-    (ap (λ (n : ℕ). c.self.inside.bytes + n) c.size-bytes.ensures.bytes) (ap (λ (n : ℕ). c.self.inside.entries + n) c.size-bytes.ensures.entries)
+    (subst (λ (h : History). IsContent c.args.content (h ++ op ∷ [])) (sym c.self.view_is) c.requires.content)
+    (ap (λ (n : ℕ). c.self.inside.bytes + n) c.requires.bytes) (ap (λ (n : ℕ). c.self.inside.entries + n) c.requires.entries)
 
 pub invariant_of-self : goal.invariant_of-self
 invariant_of-self c = subst (λ (h : History). AreTold (record c.self.inside { operations = h })) (sym c.in_err-push.ensures.err) c.self.invariant
@@ -36,14 +31,11 @@ same-self c = refl
 pub same-self-in_err-version : goal.same-self-in_err-version
 same-self-in_err-version c = refl
 
-pub same-self-in_err-cells : goal.same-self-in_err-cells
-same-self-in_err-cells c = refl
-
 pub overflow_cast-self : goal.overflow_cast-self
-overflow_cast-self c = omega (arith, (stay_few c.self.inside c.args.self.now c.args.op c.size-bytes.result.0 c.size-bytes.result.1 c.self.invariant c.self.view_is c.requires.room c.size-bytes.ensures.bytes c.size-bytes.ensures.entries).0)
+overflow_cast-self c = omega (arith, (stay_few c.self.inside c.args.self.now c.args.op c.args.adds.0 c.args.adds.1 c.self.invariant c.self.view_is c.requires.grows.room c.requires.bytes c.requires.entries).0)
 
 pub overflow_add-self : goal.overflow_add-self
-overflow_add-self c = omega (arith, (stay_few c.self.inside c.args.self.now c.args.op c.size-bytes.result.0 c.size-bytes.result.1 c.self.invariant c.self.view_is c.requires.room c.size-bytes.ensures.bytes c.size-bytes.ensures.entries).0)
+overflow_add-self c = omega (arith, (stay_few c.self.inside c.args.self.now c.args.op c.args.adds.0 c.args.adds.1 c.self.invariant c.self.view_is c.requires.grows.room c.requires.bytes c.requires.entries).0)
 
 pub overflow_add-self-2 : goal.overflow_add-self-2
-overflow_add-self-2 c = omega (arith, (stay_few c.self.inside c.args.self.now c.args.op c.size-bytes.result.0 c.size-bytes.result.1 c.self.invariant c.self.view_is c.requires.room c.size-bytes.ensures.bytes c.size-bytes.ensures.entries).1)
+overflow_add-self-2 c = omega (arith, (stay_few c.self.inside c.args.self.now c.args.op c.args.adds.0 c.args.adds.1 c.self.invariant c.self.view_is c.requires.grows.room c.requires.bytes c.requires.entries).1)

@@ -1,0 +1,176 @@
+-- What a history comes to, cell by cell: that of a base, and after one operation more.
+use Rattle.std.proofs.Common.{◌≡◌, ℕ, ◌+◌, ◌≤◌, ◌^◌, List, [], ◌∷◌, ◌++◌, length, map, refl, sym, ap, subst, ◌∙◌, arith, inl, inr}
+use Rattle.std.specs.Str.{IsUtf8}
+use Rattle.lamport_clock.specs.declared.stamp.Lamport.{Lamport}
+use Rattle.lamport_clock.specs.Versions.{Entries}
+use Rattle.locators.specs.Locator.{IsLess, EndsAboveZero, least_digits, greatest_digits}
+use Rattle.op_model.specs.declared.operation.Operation.{Operation}
+use Rattle.op_model.specs.declared.operation.Operation.TheVariants.{Undo}
+use Rattle.op_model.specs.declared.operation.UndoCount.{UndoCount}
+use Rattle.op_model.specs.declared.operation.UndoOp.{UndoOp}
+use Rattle.op_model.specs.declared.operation.Piece.{Piece}
+use Rattle.op_model.specs.Sorted.{Each, Member}
+use Rattle.op_model.specs.Domains.{IsProper}
+use Rattle.op_model.specs.Operations.{pieces_of, text_total}
+use Rattle.op_model.specs.Histories.{History, base, bytes_held, clock, version}
+use Rattle.op_model.specs.Made.{full_piece, made as made_at}
+use Rattle.op_model.specs.Shown.{hidden, text, texts}
+use Rattle.op_model.specs.Walked.{IsWhole}
+use Rattle.op_model.specs.Answers.{answer}
+use Rattle.op_model.proofs.Proper.{edit_good}
+use Rattle.undo_map.specs.declared.entry.UndoEntry.{UndoEntry}
+use Rattle.undo_map.specs.Undos.{undo_entries}
+use Rattle.fragments.specs.declared.fragment.Fragment.{Fragment}
+use Rattle.fragments.specs.declared.index_entry.IndexEntry.{IndexEntry}
+use Rattle.fragments.specs.Laws.{whole_base}
+use Rattle.fragments.specs.Stand.{Stand, entry_of, runs}
+use Rattle.fragments.proofs.Founds.{base_stands}
+use Rattle.remote_edit.specs.declared.moves.Move.{Move}
+use Rattle.remote_edit.specs.declared.placed.Placed.{Placed}
+use Rattle.remote_edit.specs.Carried.{AreMovesOf}
+use Rattle.remote_edit.specs.Moves.{Texts, TakeTexts, moved}
+use Rattle.remote_edit.specs.Placing.{MayMake, MayPlace}
+use Rattle.remote_edit.specs.Undoing.{MayMark}
+use Rattle.remote_edit.proofs.WholeFragments.{base_whole}
+use Rattle.text_buffer.specs.declared.content.Content.{Content}
+use Rattle.text_buffer.specs.Buffer.{BufferState}
+use Rattle.text_buffer.specs.Document.{IsContent, IsHistory, IsMoved, HasRoom, MayEdit, MayGrow}
+use Rattle.text_buffer.proofs.Edited.{made_entries, made_total}
+use Rattle.text_buffer.proofs.Fit.{room_in, room_of}
+use Rattle.text_buffer.proofs.Lengths.{both_bytes, full_bytes, text_base}
+
+stand_is : (fs gs : List Fragment) (w v : List IndexEntry) (u s : List UndoEntry) (h : History) → fs ≡ gs → w ≡ v → u ≡ s → Stand gs v s h → Stand fs w u h
+stand_is fs gs w v u s h a b c k =
+    subst (λ (x : List Fragment). Stand x w u h) (sym a) (subst (λ (x : List IndexEntry). Stand gs x u h) (sym b) (subst (λ (x : List UndoEntry). Stand gs v x h) (sym c) k))
+
+-- ---- a base
+
+no_bytes : (h : List ℕ) → length h ≡ 0 → h ≡ []
+no_bytes [] e = refl
+no_bytes (b ∷ h) e = absurd (omega (arith, e))
+
+pub empty_base : (fs : List Fragment) (w : List IndexEntry) (t : List ℕ) → length t ≡ 0 → fs ≡ [] → w ≡ [] → Stand fs w [] (base t ∷ [])
+empty_base fs w t e f g = subst (λ (x : List ℕ). Stand fs w [] (base x ∷ [])) (sym (no_bytes t e)) (stand_is fs [] w [] [] [] (base [] ∷ []) f g refl base_stands.1)
+
+pub one_base : (fs : List Fragment) (w : List IndexEntry) (f : Fragment) (t : List ℕ) → (length t ≡ 0 → ⊥) → length t ≤ 2 ^ 40 → f ≡ whole_base f.id t → IsLess least_digits f.id → IsLess f.id greatest_digits → EndsAboveZero f.id
+    → fs ≡ f ∷ [] → w ≡ entry_of (whole_base f.id t) ∷ [] → Stand fs w [] (base t ∷ [])
+one_base fs w f t some few e low high ends a b =
+    stand_is fs (whole_base f.id t ∷ []) w (entry_of (whole_base f.id t) ∷ []) [] [] (base t ∷ []) (a ∙ ap (λ (g : Fragment). g ∷ []) e) b refl
+    (base_stands.0 f.id t (omega (arith, some)) (omega (arith, few)) low high ends)
+
+pub whole_one : (fs : List Fragment) (f : Fragment) (t : List ℕ) → IsUtf8 t → f ≡ whole_base f.id t → fs ≡ f ∷ [] → Each (IsWhole (base t ∷ [])) (runs fs)
+whole_one fs f t u e a = subst (λ (x : List Fragment). Each (IsWhole (base t ∷ [])) (runs x)) (sym (a ∙ ap (λ (g : Fragment). g ∷ []) e)) (base_whole f.id t u)
+
+pub base_content : (c : Content) (t : List ℕ) → Stand c.fragments.items c.index [] (base t ∷ []) → Each (IsWhole (base t ∷ [])) (runs c.fragments.items) → c.undos ≡ [] → c.text ≡ t → c.hidden ≡ [] → IsContent c (base t ∷ [])
+base_content c t s w u e f =
+    let h : History = base t ∷ [] in
+    let b = both_bytes h in
+    let l = ap length (text_base t) in
+    let held : bytes_held h ≡ length t = omega arith in
+    record {
+      stand = subst (λ (x : List UndoEntry). Stand c.fragments.items c.index x h) (sym u) s;
+      whole = w;
+      shown = e ∙ sym (text_base t);
+      hidden = f ∙ sym (no_bytes (hidden h) (omega (arith, b, l, held)));
+    }
+
+-- ---- what an operation asks
+
+pub may_place : (c : Content) (h : History) (op : Operation) → IsContent c h → IsHistory h → MayGrow h op → MayPlace c.fragments.items c.index c.undos op
+may_place c h op k s g = record {
+  history = h;
+  stands = k.stand;
+  lawful = s.lawful;
+  good = g.good;
+  room = (let f = full_bytes h in let r = g.room.bytes in omega (arith, f, r));
+}
+
+-- a buffer of the history, with nothing waiting
+abbrev bare : (h : History) (r : ℕ) (ps : List Piece) → MayEdit h r ps → BufferState
+bare h r ps m = record { history = h; waiting = []; refused = []; replica = r; limits = m.limits }
+
+pub edit_room : (h : History) (r : ℕ) (ps : List Piece) → MayEdit h r ps → bytes_held h + text_total ps ≤ 2 ^ 40
+edit_room h r ps m =
+    let n = (room_in m.limits h (text_total ps) (1 + length ps) (room_of (bare h r ps m) ps m.faultless)).0 in
+    let l = m.most_bytes in
+    omega (arith, n, l)
+
+pub may_make : (c : Content) (h : History) (t : Lamport) (v : Entries) (ps : List Piece) → IsContent c h → IsHistory h → MayEdit h t.replica ps → t.value ≡ clock h → v ≡ version h → MayMake c.fragments.items c.index c.undos t v ps
+may_make c h t v ps k s m e f = record {
+  history = h;
+  stands = k.stand;
+  lawful = s.lawful;
+  proper = s.proper;
+  replica = m.replica;
+  value = e;
+  sees = f;
+  limits = m.limits;
+  faultless = m.faultless;
+  room = (let n = full_bytes h in let r = edit_room h t.replica ps m in omega (arith, n, r));
+}
+
+counted : (c : UndoCount) (cs : List UndoCount) → Member c cs → Member c.edit (map (λ (x : UndoCount). x.edit) cs)
+counted c [] m = absurd m
+counted c (x ∷ cs) (inl e) = inl (ap (λ (z : UndoCount). z.edit) e)
+counted c (x ∷ cs) (inr m) = inr (counted c cs m)
+
+pub may_mark : (c : Content) (h : History) (u : UndoOp) (w : List UndoEntry) (ts : List Lamport) → IsContent c h → IsHistory h → MayGrow h (Undo u) → w ≡ undo_entries (h ++ Undo u ∷ []) → ts ≡ map (λ (x : UndoCount). x.edit) u.counts
+    → MayMark c.fragments.items c.index w u.stamp ts h u
+may_mark c h u w ts k s g e f = record {
+  stamp = refl;
+  counts = λ x m. subst (λ (z : List Lamport). Member x.edit z) (sym f) (counted x u.counts m);
+  lawful = s.lawful;
+  good = g.good;
+  entries = e;
+  stands = subst (λ (x : List UndoEntry). Stand c.fragments.items c.index x h) k.stand.counts k.stand;
+}
+
+-- the bytes of both texts and the new ones
+pub moves_room : (c : Content) (h : History) (n : ℕ) → IsContent c h → bytes_held h + n ≤ 2 ^ 40 → length c.text + length c.hidden + n ≤ 2 ^ 40
+moves_room c h n k r = let a = ap length k.shown in let b = ap length k.hidden in let d = both_bytes h in omega (arith, a, b, d, r)
+
+pub same_moved : (c : Content) (h : History) (ms : List Move) (n : List ℕ) → IsContent c h → moved ms c.text c.hidden n ≡ moved ms (text h) (hidden h) n
+same_moved c h ms n k = ap (λ z. moved ms z c.hidden n) k.shown ∙ ap (λ z. moved ms (text h) z n) k.hidden
+
+pub same_taken : (c : Content) (h : History) (ms : List Move) (n : List ℕ) → IsContent c h → TakeTexts ms (text h) (hidden h) n → TakeTexts ms c.text c.hidden n
+same_taken c h ms n k t = subst (λ z. TakeTexts ms z c.hidden n) (sym k.shown) (subst (λ z. TakeTexts ms (text h) z n) (sym k.hidden) t)
+
+-- ---- after an operation
+
+pub content_after : (c : Content) (p : Placed) (h : History) (op : Operation) (u w : List UndoEntry) (n : List ℕ) → IsMoved c p w h n → n ≡ texts (pieces_of op)
+    → w ≡ u → Stand p.fragments.items p.index u (h ++ op ∷ []) → Each (IsWhole (h ++ op ∷ [])) (runs p.fragments.items) → AreMovesOf p.moves h op → IsContent c (h ++ op ∷ [])
+content_after c p h op u w n k t e s d m =
+    let f = k.texts ∙ ap (moved p.moves (text h) (hidden h)) t ∙ m in
+    record {
+      stand = stand_is c.fragments.items p.fragments.items c.index p.index c.undos u (h ++ op ∷ []) k.fragments k.index (k.undos ∙ e) s;
+      whole = subst (λ (x : List Fragment). Each (IsWhole (h ++ op ∷ [])) (runs x)) (sym k.fragments) d;
+      shown = ap (λ (x : Texts). x.shown) f;
+      hidden = ap (λ (x : Texts). x.hidden) f;
+    }
+
+-- the new texts of a local edit are those of its changes
+full_texts : (h : History) (ps : List Piece) → texts (map (full_piece h) ps) ≡ texts ps
+full_texts h [] = refl
+full_texts h (p ∷ ps) = ap (λ z. p.text ++ z) (full_texts h ps)
+
+pub made_texts : (h : History) (r : ℕ) (ps : List Piece) → texts (pieces_of (made_at h r ps)) ≡ texts ps
+unfolding made_at
+made_texts h r ps = full_texts h ps
+
+-- there is room for it
+pub made_room : (h : History) (r : ℕ) (ps : List Piece) → MayEdit h r ps → HasRoom h (made_at h r ps)
+made_room h r ps m =
+    let n = room_in m.limits h (text_total ps) (1 + length ps) (room_of (bare h r ps m) ps m.faultless) in
+    let b = made_total h r ps in
+    let e = made_entries h r ps in
+    let x = m.most_bytes in
+    let y = m.most_entries in
+    record { bytes = omega (arith, n.0, b, x); entries = omega (arith, n.1, e, y) }
+
+-- the edit op that is made may grow the history
+pub made_grows : (h : History) (r : ℕ) (ps : List Piece) (op : Operation) → IsHistory h → MayEdit h r ps → op ≡ made_at h r ps → IsProper op → MayGrow h op
+made_grows h r ps op s m e p = record {
+  proper = p;
+  good = ap (answer h []) e ∙ (edit_good m.limits h r ps s.lawful s.proper m.replica m.faultless).0;
+  room = subst (HasRoom h) (sym e) (made_room h r ps m);
+}

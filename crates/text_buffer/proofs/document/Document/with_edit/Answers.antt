@@ -1,0 +1,42 @@
+use Rattle.std.proofs.Common.{List, ◌+◌, ◌≤◌, ◌^◌, sym, ap, subst, arith}
+use Rattle.std.proofs.lemmas.Result.{IfOk-weaker}
+use Rattle.op_model.specs.declared.operation.Operation.TheVariants.{Edit}
+use Rattle.op_model.specs.declared.operation.Piece.{Piece}
+use Rattle.op_model.specs.Operations.{text_total}
+use Rattle.op_model.specs.Histories.{bytes_held}
+use Rattle.op_model.specs.Shown.{hidden, text, texts}
+use Rattle.remote_edit.specs.Moves.{TakeTexts}
+use Rattle.text_buffer.specs.Document.{IsContent, IsHistory}
+use Rattle.text_buffer.proofs.Contents.{content_after, may_place}
+use Rattle.text_buffer.proofs.document.Document.with_edit.Goals as goal
+
+pub place_remote-requires : goal.place_remote-requires
+place_remote-requires c =
+    let h = c.args.self.now in
+    let k : IsContent c.self.inside.content h = subst (IsContent c.self.inside.content) c.self.view_is c.self.invariant.content in
+    let s : IsHistory h = subst IsHistory c.self.view_is c.self.invariant.history in
+    may_place c.self.inside.content h (Edit c.args.edit.now) k s c.requires
+
+pub content_of-requires-clause-texts : goal.content_of-requires-clause-texts
+content_of-requires-clause-texts c =
+    let h = c.args.self.now in
+    let k : IsContent c.self.inside.content h = subst (IsContent c.self.inside.content) c.self.view_is c.self.invariant.content in
+    let s : IsHistory h = subst IsHistory c.self.view_is c.self.invariant.history in
+    subst (λ (ps : List Piece). TakeTexts c.in_ok-placed.placed.moves (text h) (hidden h) (texts ps)) (sym c.as_slice.ensures)
+    (c.in_ok-placed.ensures.characters h k.stand s.lawful s.proper c.requires.proper c.requires.good k.whole).1
+
+pub content_of-requires-clause-room : goal.content_of-requires-clause-room
+content_of-requires-clause-room c =
+    let e = ap text_total c.as_slice.ensures in
+    let r : bytes_held c.args.self.now + text_total c.args.edit.now.pieces ≤ 2 ^ 40 = c.requires.room.bytes in
+    omega (arith, e, r)
+
+pub returns : goal.returns
+returns c =
+    let h = c.args.self.now in
+    let k : IsContent c.self.inside.content h = subst (IsContent c.self.inside.content) c.self.view_is c.self.invariant.content in
+    let s : IsHistory h = subst IsHistory c.self.view_is c.self.invariant.history in
+    IfOk-weaker c.content_of.result _ _ (λ x m. content_after x c.in_ok-placed.placed h (Edit c.args.edit.now) c.self.inside.content.undos c.in_ok-share.field-0 (texts c.as_slice.result.now) m (ap texts c.as_slice.ensures) c.in_ok-share.ensures
+    (c.in_ok-placed.ensures.stands h k.stand s.lawful c.requires.good)
+    (c.in_ok-placed.ensures.characters h k.stand s.lawful s.proper c.requires.proper c.requires.good k.whole).0
+    (c.in_ok-placed.ensures.moves h k.stand s.lawful c.requires.good)) c.content_of.ensures
