@@ -1,0 +1,7 @@
+pub mod Splits
+pub mod Runs
+pub mod Seeking
+pub mod Found
+pub mod Known
+pub mod Made
+pub mod Orders

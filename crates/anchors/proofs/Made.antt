@@ -1,0 +1,105 @@
+-- Anchors made at shown cells.
+use Rattle.std.proofs.Common.{◌≡◌, ℕ, zero, suc, ◌+◌, ◌-◌, ◌<◌, ◌≤◌, ◌⊎◌, Bool, true, false, cond, eqb, ltb, List, ◌∷◌, ◌++◌, length, Some, None, refl, sym, ap, ◌∙◌, arith, subst, inl, inr}
+use Rattle.std.specs.Prelude.{slice_get, get_or}
+use Rattle.std.specs.Option.{option_map}
+use Rattle.std.proofs.lemmas.Bool.{cases_Bool, cases_lt, ltb-false, eqb-true, eq-eqb, false_from_ne_true}
+use Rattle.std.proofs.lemmas.List.{length-map}
+use Rattle.std.proofs.lemmas.Option.{slice_get_past, slice_get_within, slice_get-get_or, none-some}
+use Rattle.op_model.specs.Histories.{History}
+use Rattle.op_model.specs.Cells.{Cell}
+use Rattle.op_model.specs.Shown.{shown, text, byte}
+use Rattle.op_model.specs.Lawful.{Lawful}
+use Rattle.op_model.specs.declared.anchor.Anchor.TheVariants.{Least, Greatest, At}
+use Rattle.op_model.specs.declared.anchor.Bias.TheVariants.{Left, Right}
+use Rattle.op_model.specs.declared.faults.PlaceFault.TheVariants.{PastEnd}
+use Rattle.op_model.specs.Anchors.{shown_cells, left_anchor, right_anchor, place_fault, number_shown}
+use Rattle.op_model.proofs.MainLaws.{texts_are_shown_cells}
+use Rattle.undo_map.specs.declared.entry.UndoEntry.{UndoEntry}
+use Rattle.fragments.specs.declared.fragment.Fragment.{Fragment}
+use Rattle.fragments.specs.declared.index_entry.IndexEntry.{IndexEntry}
+use Rattle.fragments.specs.Stand.{Stand, Tell}
+use Rattle.fragments.specs.Laws.{shown_len}
+use Rattle.anchors.specs.declared.making.Byte.{Byte}
+use Rattle.anchors.specs.Making.{cell_of}
+use Rattle.anchors.proofs.Splits.{got_shown}
+use Rattle.anchors.proofs.Runs.{cell_at, before, behind, cells_split, is_shown, shown_before, all_visible}
+use Rattle.anchors.proofs.Seeking.{ByteAt, seek_none, shown_sought}
+
+-- ---- shown cells among fragments
+
+shown_number : (fs : List Fragment) (h : History) → Tell fs h → length (shown_cells h) ≡ shown_len fs
+shown_number fs h e = all_visible h fs e
+
+-- behind the last there is none
+pub no_byte : (fs : List Fragment) (w : List IndexEntry) (u : List UndoEntry) (h : History) (o : ℕ) → Stand fs w u h → None ≡ slice_get fs (shown_sought o 0 fs) → None ≡ slice_get (shown_cells h) o
+no_byte fs w u h o s e =
+    let k = seek_none fs o 0 (omega arith) (sym e) in
+    let n = shown_number fs h s.cells in
+    sym (slice_get_past (shown_cells h) o (omega (arith, k, n)))
+
+-- the cell that a fragment has there
+pub byte_is : (fs : List Fragment) (w : List IndexEntry) (u : List UndoEntry) (h : History) (o b : ℕ) (f : Fragment) → Stand fs w u h → Lawful h → ByteAt fs o f b
+    → Some (cell_at f.stamp (f.offset + (o - b))) ≡ slice_get (shown_cells h) o
+byte_is fs w u h o b f s l a =
+    let lo = a.low in let hi = a.high in let ct = a.count in
+    let m : o - b < f.len = omega (arith, lo, hi) in
+    let t : Tell (a.pre ++ f ∷ a.post) h = subst (λ (z : List Fragment). Tell z h) a.parts s.cells in
+    let c : Cell = cell_at f.stamp (f.offset + (o - b)) in
+    let cs : List Cell = before h a.pre a.post f (o - b) t m in
+    let v : shown h c ≡ true = sym (is_shown h a.pre a.post f (o - b) t m) ∙ a.visible in
+    let n : number_shown h cs ≡ shown_len a.pre + cond f.visible (o - b) 0 = shown_before h a.pre a.post f (o - b) t m in
+    let x : cond f.visible (o - b) 0 ≡ o - b = ap (λ (z : Bool). cond z (o - b) 0) a.visible in
+    let q : number_shown h cs ≡ o = omega (arith, n, x, ct, lo) in
+    sym (got_shown h l cs c (behind h a.pre a.post f (o - b) t m) (cells_split h a.pre a.post f (o - b) t m) v) ∙ ap (slice_get (shown_cells h)) q
+
+-- ---- anchors
+
+text_length : (h : History) → Lawful h → length (text h) ≡ length (shown_cells h)
+text_length h l = ap length (texts_are_shown_cells h l).0 ∙ length-map (shown_cells h) (byte h)
+
+got_none : (s : List Cell) (o : ℕ) → None ≡ slice_get s o → length s ≤ o
+got_none s o e = elim (cases_lt o (length s)) [
+  | inl l ↦ (let c : Cell = cell_at (record { value = 0; replica = 0 }) 0 in absurd (none-some (get_or s o c) (e ∙ slice_get-get_or s o c l)))
+  | inr l ↦ l
+]
+
+pub left_start : (h : History) (o : ℕ) → o ≡ 0 → left_anchor h o ≡ Some Least
+unfolding left_anchor
+left_start h zero e = refl
+left_start h (suc o) e = absurd (omega (arith, e))
+
+pub left_within : (h : History) (o : ℕ) → Lawful h → (o ≡ 0 → ⊥) → o ≤ length (text h) → None ≡ slice_get (shown_cells h) (o - 1) → ⊥
+left_within h o l z m e = let n = got_none (shown_cells h) (o - 1) e in let t = text_length h l in
+    elim (cases_lt 0 o) [ inl p ↦ absurd (omega (arith, n, t, m, p)) | inr p ↦ z (omega (arith, p)) ]
+
+pub left_some : (h : History) (o : ℕ) (b : Byte) → (o ≡ 0 → ⊥) → Some (cell_of b) ≡ slice_get (shown_cells h) (o - 1) → left_anchor h o ≡ Some (At b.stamp (b.k + 1) Left)
+unfolding left_anchor
+left_some h zero b z e = absurd (z refl)
+left_some h (suc o) b z e =
+    let q : suc o - 1 ≡ o = omega arith in
+    let k : b.k + 1 ≡ suc b.k = omega arith in
+    ap (option_map (λ (c : Cell). At c.stamp (suc c.k) Left)) (sym (e ∙ ap (slice_get (shown_cells h)) q)) ∙ ap (λ (n : ℕ). Some (At b.stamp n Left)) (sym k)
+
+pub right_end : (h : History) (o : ℕ) → Lawful h → o ≤ length (text h) → None ≡ slice_get (shown_cells h) o → right_anchor h o ≡ Some Greatest
+unfolding right_anchor
+right_end h o l m e =
+    let n = got_none (shown_cells h) o e in let t = text_length h l in
+    let q : o ≡ length (text h) = omega (arith, n, t, m) in
+    ap (λ (b : Bool). cond b (Some Greatest) (option_map (λ (c : Cell). At c.stamp c.k Right) (slice_get (shown_cells h) o))) (eq-eqb o (length (text h)) q)
+
+pub right_some : (h : History) (o : ℕ) (b : Byte) → Lawful h → Some (cell_of b) ≡ slice_get (shown_cells h) o → right_anchor h o ≡ Some (At b.stamp b.k Right)
+unfolding right_anchor
+right_some h o b l e =
+    let n = slice_get_within (shown_cells h) o (cell_of b) (sym e) in let t = text_length h l in
+    ap (λ (x : Bool). cond x (Some Greatest) (option_map (λ (c : Cell). At c.stamp c.k Right) (slice_get (shown_cells h) o)))
+    (false_from_ne_true (eqb o (length (text h))) (λ q. let i = eqb-true o (length (text h)) q in absurd (omega (arith, i, n, t))))
+    ∙ ap (option_map (λ (c : Cell). At c.stamp c.k Right)) (sym e)
+
+-- ---- faults
+
+pub faultless_within : (h : History) (o : ℕ) → place_fault h o ≡ None → o ≤ length (text h)
+faultless_within h o e = go (cases_Bool (ltb (length (text h)) o)) e
+  where
+    go : (ltb (length (text h)) o ≡ true) ⊎ (ltb (length (text h)) o ≡ false) → place_fault h o ≡ None → o ≤ length (text h)
+    go (inl t) e = let q : Some (PastEnd (length (text h))) ≡ None = rw t at e in absurd (none-some (PastEnd (length (text h))) (sym q))
+    go (inr t) e = ltb-false (length (text h)) o t

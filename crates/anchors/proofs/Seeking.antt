@@ -1,0 +1,290 @@
+-- Seeks among fragments: by an id, and by shown cells.
+use Rattle.std.proofs.Common.{◌≡◌, ℕ, zero, suc, ◌+◌, ◌<◌, ◌≤◌, ◌^◌, ◌⊎◌, Bool, true, false, cond, not, nat_lt, List, [], ◌∷◌, ◌++◌, length, take, Option, Some, None, refl, sym, ap, ◌∙◌, arith, subst, inl, inr}
+use Rattle.std.specs.Prelude.{slice_get}
+use Rattle.std.specs.Cmp.Lexicographic.{slice_cmp}
+use Rattle.std.specs.Ordering.{nat_cmp, is_lt, ordering_reverse}
+use Rattle.std.specs.declared.cmp.Ordering.{Ordering}
+use Rattle.std.specs.declared.cmp.Ordering.TheVariants.{Less, Equal, Greater}
+use Rattle.std.proofs.lemmas.Cmp.{nat_list_cmp_total}
+use Rattle.std.proofs.lemmas.Bool.{cases_Bool, ltb-true, ltb-false, false_from_ne_true}
+use Rattle.sum_tree.specs.Laws.{fold}
+use Rattle.tree_cursor.specs.Places.{behind, place_behind, seek_count}
+use Rattle.tree_cursor.specs.Keys.{key_passes}
+use Rattle.tree_cursor.specs.Counting.{number_passes}
+use Rattle.tree_cursor.specs.declared.traits.Bias.TheVariants.{Left, Right}
+use Rattle.locators.specs.Locator.{IsLess, least_digits}
+use Rattle.fragments.specs.declared.fragment.Fragment.{Fragment}
+use Rattle.fragments.specs.declared.fragment.FragmentSummary.{FragmentSummary}
+use Rattle.fragments.specs.Summaries.{no_fragments, summaries, summary_of, id_less, greater_id, SummaryFits}
+use Rattle.fragments.specs.SummaryLaws.{id_order}
+use Rattle.fragments.specs.SeenPlaces.{cells_of, move_visible}
+use Rattle.fragments.specs.Stand.{Rise, IsFilled}
+use Rattle.fragments.specs.Laws.{shown_len}
+use Rattle.fragments.proofs.Counts.{own_cells, places_count_cells}
+use Rattle.anchors.specs.Before.{Place, move_before, BeforeFits}
+use Rattle.lamport_clock.specs.declared.stamp.Lamport.{Lamport}
+use Rattle.std.proofs.lemmas.Option.{same_Some, none-some}
+use Rattle.op_model.specs.Sorted.{Each}
+use Rattle.anchors.specs.Spots.{cells_len, spot_in}
+
+-- ---- ids
+
+not_self_at : (o : Ordering) → o ≡ ordering_reverse o → is_lt o ≡ false
+not_self_at Less e = cc
+not_self_at Equal e = refl
+not_self_at Greater e = refl
+
+not_self : (a : List ℕ) → id_less a a ≡ false
+not_self a = not_self_at (slice_cmp nat_cmp a a) (nat_list_cmp_total.antisymm a a)
+
+less_is : (a b : List ℕ) → IsLess a b → id_less a b ≡ true
+less_is a b e = ap is_lt e
+
+not_back : (a b : List ℕ) → id_less a b ≡ true → id_less b a ≡ false
+not_back a b e = false_from_ne_true (id_less b a) (λ f. let u = id_order.up a b a e f in let v = not_self a in absurd (cc))
+
+below : (low : List ℕ) (pre post : List Fragment) (f : Fragment) → Rise low (pre ++ f ∷ post) → id_less low f.id ≡ true
+below low [] post f r = less_is low f.id r.0
+below low (g ∷ pre) post f r = id_order.up low g.id f.id (less_is low g.id r.0) (below g.id pre post f r.2)
+
+-- the greatest id so far is the last one
+abbrev IsLast : List ℕ → Option (List ℕ) → Type 0
+IsLast low k = (k ≡ None) ⊎ (k ≡ Some low)
+
+next_key : (low i : List ℕ) (k : Option (List ℕ)) → IsLast low k → id_less low i ≡ true → greater_id k (Some i) ≡ Some i
+next_key low i k (inl e) l = ap (λ z. greater_id z (Some i)) e
+next_key low i k (inr e) l = ap (λ z. greater_id z (Some i)) e ∙ ap (λ b. cond b (Some i) (Some low)) l
+
+stops_at : (i : List ℕ) (k : Option (List ℕ)) → k ≡ Some i → key_passes id_less (Some i) k Left ≡ true
+stops_at i k e = ap (λ z. key_passes id_less (Some i) z Left) e ∙ ap not (not_self i)
+
+goes_on : (i j : List ℕ) (k : Option (List ℕ)) → k ≡ Some j → id_less j i ≡ true → key_passes id_less (Some i) k Left ≡ false
+goes_on i j k e l = ap (λ z. key_passes id_less (Some i) z Left) e ∙ ap not l
+
+abbrev pub sought : List ℕ → Place → List Fragment → ℕ
+sought i p fs = seek_count move_before summary_of (λ q. key_passes id_less (Some i) q.0.0 Left) p fs
+
+pub seek_id : (pre post : List Fragment) (f : Fragment) (low : List ℕ) (p : Place) → Rise low (pre ++ f ∷ post) → IsLast low p.0.0 → sought f.id p (pre ++ f ∷ post) ≡ length pre
+seek_id [] post f low p r k =
+    let e = stops_at f.id (greater_id p.0.0 (Some f.id)) (next_key low f.id p.0.0 k (less_is low f.id r.0)) in
+    ap (λ b. cond b 0 (1 + sought f.id (behind p (move_before p (summary_of f))) post)) e
+seek_id (g ∷ pre) post f low p r k =
+    let n = next_key low g.id p.0.0 k (less_is low g.id r.0) in
+    let e = goes_on f.id g.id (greater_id p.0.0 (Some g.id)) n (below g.id pre post f r.2) in
+    let q : Place = behind p (move_before p (summary_of g)) in
+    let ih = seek_id pre post f g.id q r.2 (inr n) in
+    ap (λ b. cond b 0 (1 + sought f.id q (pre ++ f ∷ post))) e ∙ ap (λ m. 1 + m) ih ∙ omega arith
+
+-- ---- places
+
+shown_more : (f : Fragment) (fs : List Fragment) (n : ℕ) → n + (summary_of f).visible + shown_len fs ≡ n + shown_len (f ∷ fs)
+shown_more f fs n = go f.visible
+  where
+    go : (b : Bool) → n + cond b f.len 0 + shown_len fs ≡ n + cond b (f.len + shown_len fs) (shown_len fs)
+    go true = omega arith
+    go false = omega arith
+
+pub shown_behind : (p : Place) (fs : List Fragment) → (place_behind move_before summary_of p fs).0.1 ≡ p.0.1 + shown_len fs
+shown_behind p [] = omega arith
+shown_behind p (f ∷ fs) = shown_behind (behind p (move_before p (summary_of f))) fs ∙ shown_more f fs p.0.1
+
+pub cells_behind : (p : Place) (fs : List Fragment) → (place_behind move_before summary_of p fs).1 ≡ p.1 + cells_len fs
+cells_behind p [] = omega arith
+cells_behind p (f ∷ fs) = let c = own_cells f in cells_behind (behind p (move_before p (summary_of f))) fs ∙ omega (arith, c)
+
+visible_sum : (s : FragmentSummary) (fs : List Fragment) → (fold s summaries summary_of fs).visible ≡ s.visible + shown_len fs
+visible_sum s [] = omega arith
+visible_sum s (f ∷ fs) = visible_sum (summaries s (summary_of f)) fs ∙ shown_more f fs s.visible
+
+cells_sum : (s : FragmentSummary) (fs : List Fragment) → cells_of (fold s summaries summary_of fs) ≡ cells_of s + cells_len fs
+cells_sum s [] = omega arith
+cells_sum s (f ∷ fs) = let c = own_cells f in cells_sum (summaries s (summary_of f)) fs ∙ omega (arith, c)
+
+abbrev pub whole : List Fragment → FragmentSummary
+whole fs = fold no_fragments summaries summary_of fs
+
+pub whole_cells : (fs : List Fragment) → SummaryFits (whole fs) → cells_len fs < 2 ^ 64
+whole_cells fs h = let a = cells_sum no_fragments fs in omega (arith, a, h)
+
+pub shown_less : (fs : List Fragment) → shown_len fs ≤ cells_len fs
+shown_less [] = omega arith
+shown_less (f ∷ fs) = go f.visible (shown_less fs)
+  where
+    go : (b : Bool) → shown_len fs ≤ cells_len fs → cond b (f.len + shown_len fs) (shown_len fs) ≤ f.len + cells_len fs
+    go true h = omega (arith, h)
+    go false h = omega (arith, h)
+
+pub cells_append : (xs ys : List Fragment) → cells_len (xs ++ ys) ≡ cells_len xs + cells_len ys
+cells_append [] ys = omega arith
+cells_append (x ∷ xs) ys = let ih = cells_append xs ys in omega (arith, ih)
+
+pub before_fits : (fs : List Fragment) → SummaryFits (whole fs) → BeforeFits ((None, 0), 0) (whole fs)
+before_fits fs h = (omega (arith, h), omega (arith, h))
+
+pub visible_fits : (fs : List Fragment) → SummaryFits (whole fs) → 0 + (whole fs).visible < 2 ^ 64
+visible_fits fs h = omega (arith, h)
+
+-- ---- what stands at an index
+
+pub record At (fs : List Fragment) (n : ℕ) (f : Fragment) : Type 0 where
+  pub post : List Fragment
+  pub parts : fs ≡ take n fs ++ f ∷ post
+
+pub at_index : (fs : List Fragment) (n : ℕ) (f : Fragment) → slice_get fs n ≡ Some f → At fs n f
+at_index [] n f e = absurd (cc)
+at_index (g ∷ fs) zero f e = let i : g ≡ f = cc in record { post = fs; parts = ap (λ z. z ∷ fs) i }
+at_index (g ∷ fs) (suc n) f e = let k = at_index fs n f e in record { post = k.post; parts = ap (λ z. g ∷ z) k.parts }
+
+pub got_middle : (pre : List Fragment) (f : Fragment) (post : List Fragment) → (slice_get (pre ++ f ∷ post) (length pre) ≡ Some f) × (take (length pre) (pre ++ f ∷ post) ≡ pre)
+got_middle [] f post = (refl, refl)
+got_middle (g ∷ pre) f post = let k = got_middle pre f post in (k.0, ap (λ z. g ∷ z) k.1)
+
+-- ---- shown cells
+
+abbrev pub shown_sought : ℕ → ℕ → List Fragment → ℕ
+shown_sought o n fs = seek_count move_visible summary_of (λ p. number_passes o p Right) n fs
+
+-- a seek from n on to shown cell o stops at the fragment f that has it
+pub record HasShown (o n : ℕ) (fs : List Fragment) (f : Fragment) : Type 0 where
+  pub low : n + shown_len (take (shown_sought o n fs) fs) ≤ o
+  pub high : o < n + shown_len (take (shown_sought o n fs) fs) + f.len
+  pub visible : f.visible ≡ true
+
+has_more : (o n : ℕ) (g : Fragment) (fs : List Fragment) (f : Fragment) → nat_lt o (n + (summary_of g).visible) ≡ false → HasShown o (n + (summary_of g).visible) fs f → HasShown o n (g ∷ fs) f
+has_more o n g fs f t k =
+    let m : ℕ = shown_sought o (n + (summary_of g).visible) fs in
+    let q : shown_sought o n (g ∷ fs) ≡ suc m = ap (λ b. cond b 0 (1 + m)) t ∙ omega arith in
+    let e : n + shown_len (take (shown_sought o n (g ∷ fs)) (g ∷ fs)) ≡ n + (summary_of g).visible + shown_len (take m fs) =
+    ap (λ i. n + shown_len (take i (g ∷ fs))) q ∙ sym (shown_more g (take m fs) n) in
+    let a = k.low in let b = k.high in
+    record { low = omega (arith, e, a); high = omega (arith, e, b); visible = k.visible }
+
+has_here : (o n : ℕ) (f : Fragment) (fs : List Fragment) → n ≤ o → nat_lt o (n + (summary_of f).visible) ≡ true → HasShown o n (f ∷ fs) f
+has_here o n f fs h t =
+    let m : ℕ = shown_sought o (n + (summary_of f).visible) fs in
+    let q : shown_sought o n (f ∷ fs) ≡ 0 = ap (λ b. cond b 0 (1 + m)) t in
+    let e : n + shown_len (take (shown_sought o n (f ∷ fs)) (f ∷ fs)) ≡ n = ap (λ i. n + shown_len (take i (f ∷ fs))) q ∙ omega arith in
+    let l = ltb-true o (n + (summary_of f).visible) t in
+    let v = some f.visible l in
+    let u = own v l in
+    record { low = omega (arith, e, h); high = omega (arith, e, u); visible = v }
+  where
+    some : (b : Bool) → o < n + cond b f.len 0 → b ≡ true
+    some true l = refl
+    some false l = absurd (omega (arith, l, h))
+
+    own : f.visible ≡ true → o < n + cond f.visible f.len 0 → o < n + f.len
+    own v l = subst (λ (b : Bool). o < n + cond b f.len 0) v l
+
+pub seek_shown : (fs : List Fragment) (o n : ℕ) (f : Fragment) → n ≤ o → slice_get fs (shown_sought o n fs) ≡ Some f → HasShown o n fs f
+seek_shown [] o n f h e = absurd (cc)
+seek_shown (g ∷ fs) o n f h e = elim (cases_Bool (nat_lt o (n + (summary_of g).visible))) [
+  | inl t ↦ (let q : shown_sought o n (g ∷ fs) ≡ 0 = ap (λ b. cond b 0 (1 + shown_sought o (n + (summary_of g).visible) fs)) t in
+      let i : Some g ≡ Some f = ap (slice_get (g ∷ fs)) (sym q) ∙ e in
+      let j : g ≡ f = cc in
+      subst (λ (z : Fragment). HasShown o n (g ∷ fs) z) j (has_here o n g fs h t))
+  | inr t ↦ (let m : ℕ = shown_sought o (n + (summary_of g).visible) fs in
+      let q : shown_sought o n (g ∷ fs) ≡ suc m = ap (λ b. cond b 0 (1 + m)) t ∙ omega arith in
+      let i : slice_get fs m ≡ Some f = ap (slice_get (g ∷ fs)) (sym q) ∙ e in
+      has_more o n g fs f t (seek_shown fs o (n + (summary_of g).visible) f (ltb-false o (n + (summary_of g).visible) t) i))
+]
+
+-- a seek that finds nothing passes all shown cells
+pub seek_none : (fs : List Fragment) (o n : ℕ) → n ≤ o → slice_get fs (shown_sought o n fs) ≡ None → n + shown_len fs ≤ o
+seek_none [] o n h e = omega (arith, h)
+seek_none (g ∷ fs) o n h e = elim (cases_Bool (nat_lt o (n + (summary_of g).visible))) [
+  | inl t ↦ (let q : shown_sought o n (g ∷ fs) ≡ 0 = ap (λ b. cond b 0 (1 + shown_sought o (n + (summary_of g).visible) fs)) t in
+      let i : Some g ≡ None = ap (slice_get (g ∷ fs)) (sym q) ∙ e in absurd (cc))
+  | inr t ↦ (let m : ℕ = shown_sought o (n + (summary_of g).visible) fs in
+      let q : shown_sought o n (g ∷ fs) ≡ suc m = ap (λ b. cond b 0 (1 + m)) t ∙ omega arith in
+      let i : slice_get fs m ≡ None = ap (slice_get (g ∷ fs)) (sym q) ∙ e in
+      let k = seek_none fs o (n + (summary_of g).visible) (ltb-false o (n + (summary_of g).visible) t) i in
+      sym_le (shown_more g fs n) k)
+]
+  where
+    sym_le : {a b : ℕ} → a ≡ b → a ≤ o → b ≤ o
+    sym_le e k = omega (arith, e, k)
+
+-- ---- what a seek by an id gives
+
+abbrev pub start : Place
+start = ((None, 0), 0)
+
+pub seek_finds : (fs : List Fragment) (i : List ℕ) (pre post : List Fragment) (f : Fragment) → fs ≡ pre ++ f ∷ post → Rise least_digits fs → f.id ≡ i
+    → (slice_get fs (sought i start fs) ≡ Some f) × (take (sought i start fs) fs ≡ pre)
+seek_finds fs i pre post f e r d =
+    let q : sought i start fs ≡ length pre = ap (λ x. sought x start fs) (sym d) ∙ ap (sought f.id start) e ∙ seek_id pre post f least_digits start (subst (Rise least_digits) e r) (inl refl) in
+    let g = got_middle pre f post in
+    (ap (slice_get fs) q ∙ ap (λ z. slice_get z (length pre)) e ∙ g.0, ap (λ m. take m fs) q ∙ ap (take (length pre)) e ∙ g.1)
+
+pub seek_not_none : (fs : List Fragment) (i : List ℕ) (pre post : List Fragment) (f : Fragment) → fs ≡ pre ++ f ∷ post → Rise least_digits fs → f.id ≡ i → None ≡ slice_get fs (sought i start fs) → ⊥
+seek_not_none fs i pre post f e r d n = none-some f (n ∙ (seek_finds fs i pre post f e r d).0)
+
+pub record Room (p : Place) (f : Fragment) : Type 0 where
+  pub shown : p.0.1 + f.len < 2 ^ 64
+  pub cells : p.1 + f.len < 2 ^ 64
+  pub fewer : p.0.1 ≤ p.1
+
+pub seek_room : (fs : List Fragment) (n : ℕ) (f : Fragment) (p : Place) → slice_get fs n ≡ Some f → p ≡ place_behind move_before summary_of start (take n fs) → SummaryFits (whole fs) → Room p f
+seek_room fs n f p e q h =
+    let a = at_index fs n f e in
+    let s : p.0.1 ≡ 0 + shown_len (take n fs) = ap (λ (z : Place). z.0.1) q ∙ shown_behind start (take n fs) in
+    let c : p.1 ≡ 0 + cells_len (take n fs) = ap (λ (z : Place). z.1) q ∙ cells_behind start (take n fs) in
+    let l = shown_less (take n fs) in
+    let w = whole_cells fs h in
+    let t : cells_len fs ≡ cells_len (take n fs) + (f.len + cells_len a.post) = ap cells_len a.parts ∙ cells_append (take n fs) (f ∷ a.post) in
+    record { shown = omega (arith, s, l, w, t); cells = omega (arith, c, w, t); fewer = omega (arith, s, c, l) }
+
+same_spot : (f g : Fragment) (v w m n : ℕ) (t : Lamport) (k : ℕ) → f ≡ g → v ≡ w → m ≡ n → spot_in f v m t k ≡ spot_in g w n t k
+same_spot f g v w m n t k a b c = ap (λ (z : Fragment). spot_in z v m t k) a ∙ ap (λ (z : ℕ). spot_in g z m t k) b ∙ ap (λ (z : ℕ). spot_in g w z t k) c
+
+pub seek_spot : (fs : List Fragment) (i : List ℕ) (pre post : List Fragment) (f : Fragment) → fs ≡ pre ++ f ∷ post → Rise least_digits fs → f.id ≡ i
+    → (g : Fragment) (p : Place) → slice_get fs (sought i start fs) ≡ Some g → p ≡ place_behind move_before summary_of start (take (sought i start fs) fs)
+    → (t : Lamport) (k : ℕ) → spot_in g p.0.1 p.1 t k ≡ spot_in f (shown_len pre) (cells_len pre) t k
+seek_spot fs i pre post f e r d g p a q t k =
+    let z = seek_finds fs i pre post f e r d in
+    let m : List Fragment = take (sought i start fs) fs in
+    let s : p.0.1 ≡ 0 + shown_len m = ap (λ (x : Place). x.0.1) q ∙ shown_behind start m in
+    let c : p.1 ≡ 0 + cells_len m = ap (λ (x : Place). x.1) q ∙ cells_behind start m in
+    let u = ap shown_len z.1 in
+    let v = ap cells_len z.1 in
+    same_spot g f p.0.1 (shown_len pre) p.1 (cells_len pre) t k (same_Some g f (sym a ∙ z.0)) (omega (arith, s, u)) (omega (arith, c, v))
+
+-- ---- what a seek of a shown cell gives
+
+-- fragment f has shown cell o, and b shown cells stand before it
+pub record ByteAt (fs : List Fragment) (o : ℕ) (f : Fragment) (b : ℕ) : Type 0 where
+  pub pre : List Fragment
+  pub post : List Fragment
+  pub parts : fs ≡ pre ++ f ∷ post
+  pub count : shown_len pre ≡ b
+  pub low : b ≤ o
+  pub high : o < b + f.len
+  pub visible : f.visible ≡ true
+  pub filled : f.offset + f.len < 2 ^ 64
+
+each_middle : (fs pre post : List Fragment) (f : Fragment) → fs ≡ pre ++ f ∷ post → Each IsFilled fs → IsFilled f
+each_middle fs pre post f e h = go pre (subst (Each IsFilled) e h)
+  where
+    go : (pre : List Fragment) → Each IsFilled (pre ++ f ∷ post) → IsFilled f
+    go [] k = k.0
+    go (x ∷ pre) k = go pre k.1
+
+pub byte_at : (fs : List Fragment) (o : ℕ) (f : Fragment) (b : ℕ) → Each IsFilled fs → slice_get fs (shown_sought o 0 fs) ≡ Some f
+    → b ≡ place_behind move_visible summary_of 0 (take (shown_sought o 0 fs) fs) → ByteAt fs o f b
+byte_at fs o f b h e q =
+    let m : List Fragment = take (shown_sought o 0 fs) fs in
+    let k = seek_shown fs o 0 f (omega arith) e in
+    let a = at_index fs (shown_sought o 0 fs) f e in
+    let c : b ≡ 0 + shown_len m = q ∙ (places_count_cells m 0).1 in
+    let l = k.low in let u = k.high in
+    record {
+      pre = m;
+      post = a.post;
+      parts = a.parts;
+      count = omega (arith, c);
+      low = omega (arith, c, l);
+      high = omega (arith, c, u);
+      visible = k.visible;
+      filled = (each_middle fs m a.post f a.parts h).1;
+    }

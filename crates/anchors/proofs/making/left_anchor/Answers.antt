@@ -1,0 +1,14 @@
+use Rattle.std.proofs.Common.{sym, ap, ◌∙◌}
+use Rattle.std.specs.Option.{option_map}
+use Rattle.anchors.specs.Making.{cell_of}
+use Rattle.anchors.proofs.Made.{left_start, left_within, left_some}
+use Rattle.anchors.proofs.making.left_anchor.Goals as goal
+
+pub returns-then-o-eq0 : goal.returns-then-o-eq0
+returns-then-o-eq0 c = λ w u h s l m. left_start h c.args.o c.if-o-eq0.true
+
+pub returns-in-None : goal.returns-in-None
+returns-in-None c = λ w u h s l m. absurd (left_within h c.args.o l c.if-o-eq0.false m (sym (ap (option_map cell_of) c.in-None.is) ∙ c.shown_byte.ensures.byte w u h s l))
+
+pub returns-in-Some : goal.returns-in-Some
+returns-in-Some c = λ w u h s l m. left_some h c.args.o c.in-Some.byte c.if-o-eq0.false (sym (ap (option_map cell_of) c.in-Some.is) ∙ c.shown_byte.ensures.byte w u h s l)

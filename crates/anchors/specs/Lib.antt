@@ -1,0 +1,5 @@
+pub mod Before
+pub mod Making
+pub mod Spots
+pub mod Standing
+pub mod Laws

@@ -1,0 +1,46 @@
+-- What fragments, an index and two texts are of a history, where anchors of it are made and found, and where an anchor stands.
+use Rattle.std.specs.Prelude.{◌≡◌, ℕ, List, Option, Some, None, if◌then◌else◌}
+use Rattle.op_model.specs.Histories.{History}
+use Rattle.op_model.specs.Lawful.{Lawful}
+use Rattle.op_model.specs.Shown.{text, hidden}
+use Rattle.op_model.specs.Anchors.{place, gap, is_known}
+use Rattle.op_model.specs.declared.anchor.Anchor.{Anchor}
+use Rattle.op_model.specs.declared.anchor.Anchor.TheVariants.{Least, Greatest, At}
+use Rattle.op_model.specs.declared.anchor.Bias.{Bias}
+use Rattle.op_model.specs.declared.anchor.Bias.TheVariants.{Left, Right}
+use Rattle.undo_map.specs.declared.entry.UndoEntry.{UndoEntry}
+use Rattle.fragments.specs.declared.fragment.Fragment.{Fragment}
+use Rattle.fragments.specs.declared.index_entry.IndexEntry.{IndexEntry}
+use Rattle.fragments.specs.Stand.{Stand}
+use Rattle.anchors.specs.declared.standing.Standing.{Standing}
+
+-- the fragments fs and the index w stand for the lawful history h, with some undo counts, and v and n are its shown and its
+-- hidden text
+pub record StandFor (fs : List Fragment) (w : List IndexEntry) (v n : List ℕ) (h : History) : Type 0 where
+  pub undos : List UndoEntry
+  pub stands : Stand fs w undos h
+  pub lawful : Lawful h
+  pub shows : v ≡ text h
+  pub hides : n ≡ hidden h
+
+-- they do for some history
+pub record StandForSome (fs : List Fragment) (w : List IndexEntry) (v n : List ℕ) : Type 0 where
+  pub history : History
+  pub stands : StandFor fs w v n history
+
+-- ---- for private clauses
+
+-- the side of its gap that an anchor keeps to
+abbrev pub bias_of : Anchor → Bias
+bias_of Least = Left
+bias_of Greatest = Right
+bias_of (At t k b) = b
+
+-- 0 before the gap, 1 behind it
+abbrev pub side : Bias → ℕ
+side Left = 0
+side Right = 1
+
+-- where a known anchor stands, None for one that is not known
+abbrev pub standing_of : History → Anchor → Option Standing
+standing_of h a = if is_known h a then Some (record { place = place h a; gap = (gap h a).0; bias = bias_of a }) else None

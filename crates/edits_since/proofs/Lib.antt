@@ -1,0 +1,4 @@
+pub mod Runs
+pub mod Walking
+pub mod Standing
+pub mod Apart

@@ -1,0 +1,166 @@
+-- What fragments that stand for a history say of its fates.
+use Rattle.std.proofs.Common.{◌≡◌, ℕ, zero, suc, ◌%◌, ◌<◌, ◌⊎◌, max, eqb, Bool, true, false, ◌&&◌, List, [], ◌∷◌, ◌++◌, map, refl, sym, ap, ◌∙◌, subst, arith, inl, inr}
+use Rattle.std.specs.List.{filter}
+use Rattle.std.proofs.lemmas.Bool.{cases_Bool}
+use Rattle.lamport_clock.specs.declared.stamp.Lamport.{Lamport}
+use Rattle.lamport_clock.specs.Stamps.{same_stamp}
+use Rattle.lamport_clock.specs.Versions.{Entries, joined, sees}
+use Rattle.op_model.specs.declared.anchor.TextEdit.{TextEdit}
+use Rattle.op_model.specs.declared.operation.Operation.{Operation}
+use Rattle.op_model.specs.declared.operation.UndoCount.{UndoCount}
+use Rattle.op_model.specs.Sorted.{Each, Member}
+use Rattle.op_model.specs.Operations.{stamp_of, counts_of}
+use Rattle.op_model.specs.Histories.{History, In, newest_first, seen}
+use Rattle.op_model.specs.Cells.{Cell, seq, cells}
+use Rattle.op_model.specs.Shown.{given, count, undone, all_undone, deleters, shown, shown_where}
+use Rattle.op_model.specs.Facts.{Fact, fact, told, alike as alike_facts, seen_by, was_visible}
+use Rattle.op_model.specs.Walked.{run_facts, facts_of}
+use Rattle.op_model.specs.Lawful.{Lawful, IsClosed}
+use Rattle.op_model.specs.Since.{Fate, fate, fates, was_shown as was_shown_in, runs as fate_runs, edits_of, since}
+use Rattle.op_model.proofs.Deleters.{kept_all}
+use Rattle.op_model.proofs.OnePass.{undone_newest, all_newest}
+use Rattle.op_model.proofs.ClosedVersions.{shown_closed}
+use Rattle.op_model.proofs.PathOrder.{same_stamp_eq, same_stamp_refl}
+use Rattle.undo_map.specs.declared.entry.UndoEntry.{UndoEntry}
+use Rattle.undo_map.specs.Undos.{undo_entries}
+use Rattle.fragments.specs.declared.fragment.Fragment.{Fragment}
+use Rattle.fragments.specs.Stand.{run_of, runs, IsFilled, SeesUndos}
+use Rattle.fragments.specs.Summaries.{summary_of}
+use Rattle.remote_edit.specs.Marks.{was_shown}
+use Rattle.remote_edit.specs.SeesLaws.{sees_joined, sees_stamps, stamps_seen, any_member}
+use Rattle.remote_edit.proofs.Marks.{was_told}
+use Rattle.edits_since.specs.Fates.{was_in_text, alike, fates_of}
+use Rattle.edits_since.specs.Differs.{may_differ, sees_within, all_within}
+use Rattle.edits_since.specs.Telling.{MayTell}
+use Rattle.edits_since.proofs.Walking.{IsSettled}
+
+-- ---- the fates of a history are those of its fragments
+
+abbrev told_fate : List UndoEntry → Entries → Fact → Fate
+told_fate u v q = fate (sees v q.cell.stamp && was_shown u v q.cell.stamp q.deletions) q.visible
+
+told_fates : (h : History) (v : Entries) → Lawful h → IsClosed h v → fates h v ≡ map (told_fate (undo_entries h) v) (told h)
+told_fates h v l k = go (cells (seq h))
+  where
+    was_is : (c : Cell) → was_shown_in h v c ≡ (sees v c.stamp && was_shown (undo_entries h) v c.stamp (deleters h c))
+    was_is c = ap (λ (b : Bool). sees v c.stamp && b) (shown_closed h l v k c ∙ was_told h v c.stamp (deleters h c))
+
+    go : (s : List Cell) → map (λ (c : Cell). fate (was_shown_in h v c) (shown h c)) s ≡ map (told_fate (undo_entries h) v) (map (fact h) s)
+    go [] = refl
+    go (c ∷ s) = ap (λ (b : Bool). fate b (shown h c) ∷ map (λ (d : Cell). fate (was_shown_in h v d) (shown h d)) s) (was_is c)
+        ∙ ap (λ (z : List Fate). told_fate (undo_entries h) v (fact h c) ∷ z) (go s)
+
+alike_fates : (u : List UndoEntry) (v : Entries) (t : Lamport) (k n : ℕ) (b : Bool) (d : List Lamport) (s : List Fact)
+    → map (told_fate u v) (alike_facts t k n b d ++ s) ≡ alike n (fate (sees v t && was_shown u v t d) b) ++ map (told_fate u v) s
+alike_fates u v t k zero b d s = refl
+alike_fates u v t k (suc n) b d s = ap (λ (z : List Fate). fate (sees v t && was_shown u v t d) b ∷ z) (alike_fates u v t (suc k) n b d s)
+
+run_fates : (u : List UndoEntry) (v : Entries) (fs : List Fragment) → map (told_fate u v) (facts_of (runs fs)) ≡ fates_of u v fs
+run_fates u v [] = refl
+run_fates u v (f ∷ fs) = alike_fates u v f.stamp f.offset f.len f.visible f.deletions (facts_of (runs fs))
+    ∙ ap (λ (z : List Fate). alike f.len (fate (was_in_text u v f) f.visible) ++ z) (run_fates u v fs)
+
+fates_are : (fs : List Fragment) (u : List UndoEntry) (v : Entries) (h : History) → MayTell fs u v h → fates h v ≡ fates_of u v fs
+fates_are fs u v h m =
+    told_fates h v m.lawful m.closed
+    ∙ ap (map (told_fate (undo_entries h) v)) (sym m.stands.cells)
+    ∙ run_fates (undo_entries h) v fs
+    ∙ ap (λ (w : List UndoEntry). fates_of w v fs) (sym m.stands.counts)
+
+-- ---- each fragment has a cell
+
+abbrev IsTold : History → Fact → Type 0
+IsTold h q = (q.visible ≡ shown h q.cell) × (q.deletions ≡ deleters h q.cell)
+
+abbrev HasCell : History → Fragment → Type 0
+HasCell h f = (c : Cell) × (c.stamp ≡ f.stamp) × (f.visible ≡ shown h c) × (f.deletions ≡ deleters h c)
+
+all_told : (h : History) (s : List Cell) → Each (IsTold h) (map (fact h) s)
+all_told h [] = tt
+all_told h (c ∷ s) = ((refl, refl), all_told h s)
+
+each_right : {A : Type 0} (P : A → Type 0) (xs ys : List A) → Each P (xs ++ ys) → Each P ys
+each_right P [] ys e = e
+each_right P (x ∷ xs) ys e = each_right P xs ys e.1
+
+first_cell : (h : History) (t : Lamport) (k n : ℕ) (b : Bool) (d : List Lamport) (s : List Fact) → 0 < n → Each (IsTold h) (alike_facts t k n b d ++ s)
+    → (c : Cell) × (c.stamp ≡ t) × (b ≡ shown h c) × (d ≡ deleters h c)
+first_cell h t k zero b d s l e = absurd (omega arith)
+first_cell h t k (suc n) b d s l e = (record { stamp = t; k = k }, refl, e.0.0, e.0.1)
+
+have_cells : (h : History) (fs : List Fragment) → Each IsFilled fs → Each (IsTold h) (facts_of (runs fs)) → Each (HasCell h) fs
+have_cells h [] l e = tt
+have_cells h (f ∷ fs) l e = (
+  first_cell h f.stamp f.offset f.len f.visible f.deletions (facts_of (runs fs)) l.0.0 e,
+  have_cells h fs l.1 (each_right (IsTold h) (run_facts (run_of f)) (facts_of (runs fs)) e),
+)
+
+-- ---- what was counted at a version
+
+given_none : (cs : List UndoCount) (t : Lamport) → ((c : UndoCount) → Member c cs → c.edit ≡ t → ⊥) → given cs t ≡ 0
+given_none [] t f = refl
+given_none (c ∷ cs) t f = elim (cases_Bool (same_stamp c.edit t)) [
+  | inl e ↦ absurd (f c (inl refl) (same_stamp_eq c.edit t e))
+  | inr e ↦ rw e (given_none cs t (λ d m. f d (inr m)))
+]
+
+-- a version that sees all undos that count an edit counts it as all do
+count_seen : (h : History) (v : Entries) (t : Lamport) → ((op : Operation) → In h op → (c : UndoCount) → Member c (counts_of op) → c.edit ≡ t → sees v (stamp_of op) ≡ true) → count (seen h v) t ≡ count h t
+count_seen [] v t f = refl
+count_seen (op ∷ h) v t f = go (cases_Bool (sees v (stamp_of op))) (count_seen h v t (λ o i c m e. f o (inr i) c m e))
+  where
+    go : (sees v (stamp_of op) ≡ true) ⊎ (sees v (stamp_of op) ≡ false) → count (seen h v) t ≡ count h t → count (seen (op ∷ h) v) t ≡ count (op ∷ h) t
+    go (inl e) ih = rw e (ap (max (given (counts_of op) t)) ih)
+    go (inr e) ih =
+        let z : given (counts_of op) t ≡ 0 = given_none (counts_of op) t (λ c m q. let s = f op (inl refl) c m q in cc) in
+        rw e (let g : count h t ≡ max (given (counts_of op) t) (count h t) = omega (arith, z) in ih ∙ g)
+
+undone_seen : (h : History) (v : Entries) (t : Lamport) → count (seen h v) t ≡ count h t → undone (seen h v) t ≡ undone h t
+undone_seen h v t e = ap (λ (n : ℕ). eqb (n % 2) 1) e
+
+all_seen : (h : History) (v : Entries) (d : List Lamport) → ((t : Lamport) → Member t d → (sees v t ≡ true) × (count (seen h v) t ≡ count h t)) → all_undone (seen h v) (filter (sees v) d) ≡ all_undone h d
+all_seen h v [] f = refl
+all_seen h v (t ∷ d) f = rw ((f t (inl refl)).0, undone_seen h v t (f t (inl refl)).1, all_seen h v d (λ s m. f s (inr m))) refl
+
+-- ---- a fragment of which a version has seen all was in its text where it is shown now
+
+shown_now : (h : History) (c : Cell) → shown h c ≡ seen_by h c.stamp (deleters h c)
+unfolding shown shown_where
+shown_now h c = rw (kept_all (newest_first h), undone_newest h c.stamp, all_newest h (deleters h c)) refl
+
+module _ (h : History) (v : Entries) (f : Fragment) (u : List UndoEntry) (counts : u ≡ undo_entries h) (undos : SeesUndos h f) (unchanged : may_differ v (summary_of f) ≡ false) where
+  in_version : (t : Lamport) → sees (summary_of f).greatest t ≡ true → sees v t ≡ true
+  in_version t s = sees_within (summary_of f).greatest v t (all_within v (summary_of f) unchanged) s
+
+  sees_edit : (t : Lamport) → Member t (f.stamp ∷ f.deletions) → sees v t ≡ true
+  sees_edit t m = in_version t (stamps_seen (f.stamp ∷ f.deletions) (joined [] f.max_undos) t (any_member (same_stamp t) (f.stamp ∷ f.deletions) t m (same_stamp_refl t)))
+
+  sees_undo : (t : Lamport) → sees f.max_undos t ≡ true → sees v t ≡ true
+  sees_undo t s = in_version t (sees_stamps (f.stamp ∷ f.deletions) (joined [] f.max_undos) t ((sees_joined [] f.max_undos t).1 s))
+
+  counts_same : (t : Lamport) → Member t (f.stamp ∷ f.deletions) → count (seen h v) t ≡ count h t
+  counts_same t m = count_seen h v t (λ op i c k e. sees_undo (stamp_of op) (undos op i c k (subst (λ (s : Lamport). Member s (f.stamp ∷ f.deletions)) (sym e) m)))
+
+  was_now : was_visible (seen h v) v f.stamp f.deletions ≡ seen_by h f.stamp f.deletions
+  was_now = rw (undone_seen h v f.stamp (counts_same f.stamp (inl refl)), all_seen h v f.deletions (λ t m. (sees_edit t (inr m), counts_same t (inr m)))) refl
+
+  by_counts : HasCell h f → f.visible ≡ seen_by h f.stamp f.deletions
+  by_counts k = k.2 ∙ shown_now h k.0 ∙ ap (λ (t : Lamport). seen_by h t (deleters h k.0)) k.1 ∙ ap (seen_by h f.stamp) (sym k.3)
+
+  same_then : HasCell h f → was_in_text u v f ≡ f.visible
+  same_then k =
+      ap (λ (w : List UndoEntry). sees v f.stamp && was_shown w v f.stamp f.deletions) counts
+      ∙ ap (λ (b : Bool). b && was_shown (undo_entries h) v f.stamp f.deletions) (sees_edit f.stamp (inl refl))
+      ∙ sym (was_told h v f.stamp f.deletions) ∙ was_now ∙ sym (by_counts k)
+
+all_settled : (h : History) (v : Entries) (u : List UndoEntry) (fs : List Fragment) → u ≡ undo_entries h → Each (HasCell h) fs → Each (SeesUndos h) fs → Each (IsSettled u v) fs
+all_settled h v u [] e c s = tt
+all_settled h v u (f ∷ fs) e c s = ((λ n. same_then h v f u e s.0 n c.0), all_settled h v u fs e c.1 s.1)
+
+settled : (fs : List Fragment) (u : List UndoEntry) (v : Entries) (h : History) → MayTell fs u v h → Each (IsSettled u v) fs
+settled fs u v h m = all_settled h v u fs m.stands.counts (have_cells h fs m.stands.filled (subst (Each (IsTold h)) (sym m.stands.cells) (all_told h (cells (seq h))))) m.stands.undos
+
+pub since_is : (fs : List Fragment) (u : List UndoEntry) (v : Entries) (es : List TextEdit) → (Each (IsSettled u v) fs → es ≡ edits_of 0 0 (fate_runs (fates_of u v fs)))
+    → (h : History) → MayTell fs u v h → es ≡ since h v
+unfolding since
+since_is fs u v es f h m = f (settled fs u v h m) ∙ ap (λ (s : List Fate). edits_of 0 0 (fate_runs s)) (sym (fates_are fs u v h m))

@@ -1,0 +1,5 @@
+pub mod Fates
+pub mod Differs
+pub mod Opened
+pub mod Telling
+pub mod Laws

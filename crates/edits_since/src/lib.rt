@@ -1,0 +1,23 @@
+//! Edits since a version: what took the text that the version saw to the text now, found among fragments.
+#![tactic(auto)]
+
+mod differ;
+mod edits;
+mod laws;
+mod open_run;
+mod telling;
+
+pub use edits::Edits;
+pub use laws::edits_take_then_to_now;
+pub use std::alloc::AllocError as OutOfMemory;
+pub use telling::since;
+
+fn sends<T: Send>(_value: &T) {}
+
+fn shares<T: Sync>(_value: &T) {}
+
+/// Edits may be sent to threads and be shared by them.
+pub fn crosses_threads(edits: &Edits) {
+    sends(edits);
+    shares(edits);
+}
