@@ -1,10 +1,11 @@
 -- Anchors made at shown cells.
-use Rattle.std.proofs.Common.{◌≡◌, ℕ, zero, suc, ◌+◌, ◌-◌, ◌<◌, ◌≤◌, ◌⊎◌, Bool, true, false, cond, eqb, ltb, List, ◌∷◌, ◌++◌, length, Some, None, refl, sym, ap, ◌∙◌, arith, subst, inl, inr}
+use Rattle.std.proofs.Common.{[], min, ◌^◌, ◌≡◌, ℕ, zero, suc, ◌+◌, ◌-◌, ◌<◌, ◌≤◌, ◌⊎◌, Bool, true, false, cond, eqb, ltb, List, ◌∷◌, ◌++◌, length, Some, None, refl, sym, ap, ◌∙◌, arith, subst, inl, inr}
 use Rattle.std.specs.Prelude.{slice_get, get_or}
 use Rattle.std.specs.Option.{option_map}
 use Rattle.std.proofs.lemmas.Bool.{cases_Bool, cases_lt, ltb-false, eqb-true, eq-eqb, false_from_ne_true}
 use Rattle.std.proofs.lemmas.List.{length-map}
 use Rattle.std.proofs.lemmas.Option.{slice_get_past, slice_get_within, slice_get-get_or, none-some}
+use Rattle.op_model.specs.Sorted.{Each}
 use Rattle.op_model.specs.Histories.{History}
 use Rattle.op_model.specs.Cells.{Cell}
 use Rattle.op_model.specs.Shown.{shown, text, byte}
@@ -17,7 +18,7 @@ use Rattle.op_model.proofs.MainLaws.{texts_are_shown_cells}
 use Rattle.undo_map.specs.declared.entry.UndoEntry.{UndoEntry}
 use Rattle.fragments.specs.declared.fragment.Fragment.{Fragment}
 use Rattle.fragments.specs.declared.index_entry.IndexEntry.{IndexEntry}
-use Rattle.fragments.specs.Stand.{Stand, Tell}
+use Rattle.fragments.specs.Stand.{Stand, Tell, IsFilled}
 use Rattle.fragments.specs.Laws.{shown_len}
 use Rattle.anchors.specs.declared.making.Byte.{Byte}
 use Rattle.anchors.specs.Making.{cell_of}
@@ -37,20 +38,39 @@ no_byte fs w u h o s e =
     let n = shown_number fs h s.cells in
     sym (slice_get_past (shown_cells h) o (omega (arith, k, n)))
 
+-- its fragment is filled
+filled_at : (fs : List Fragment) (w : List IndexEntry) (u : List UndoEntry) (h : History) (o b : ℕ) (f : Fragment) → Stand fs w u h → ByteAt fs o f b → f.offset + f.len < 2 ^ 64
+filled_at fs w u h o b f s a = (go a.pre (subst (Each IsFilled) a.parts s.filled)).1
+  where
+    go : (pre : List Fragment) → Each IsFilled (pre ++ f ∷ a.post) → IsFilled f
+    go [] k = k.0
+    go (x ∷ pre) k = go pre k.1
+
+-- the number that a fragment's cell has there
+number_is : (fs : List Fragment) (w : List IndexEntry) (u : List UndoEntry) (h : History) (o b n : ℕ) (f : Fragment) → Stand fs w u h → ByteAt fs o f b
+    → n ≡ min (f.offset + (o - b)) (2 ^ 64 - 1) → (n ≡ f.offset + (o - b)) × (n + 1 < 2 ^ 64)
+number_is fs w u h o b n f s a e = let l = a.low in let m = a.high in let g = filled_at fs w u h o b f s a in (omega (arith, e, l, m, g), omega (arith, e, l, m, g))
+
 -- the cell that a fragment has there
-pub byte_is : (fs : List Fragment) (w : List IndexEntry) (u : List UndoEntry) (h : History) (o b : ℕ) (f : Fragment) → Stand fs w u h → Lawful h → ByteAt fs o f b
-    → Some (cell_at f.stamp (f.offset + (o - b))) ≡ slice_get (shown_cells h) o
-byte_is fs w u h o b f s l a =
-    let lo = a.low in let hi = a.high in let ct = a.count in
+pub byte_is : (fs : List Fragment) (w : List IndexEntry) (u : List UndoEntry) (h : History) (o b n : ℕ) (f : Fragment) → Stand fs w u h → Lawful h → ByteAt fs o f b
+    → n ≡ min (f.offset + (o - b)) (2 ^ 64 - 1) → Some (cell_at f.stamp n) ≡ slice_get (shown_cells h) o
+byte_is fs w u h o b n f s l a e =
+    let lo = a.low in
+    let hi = a.high in
+    let ct = a.count in
     let m : o - b < f.len = omega (arith, lo, hi) in
     let t : Tell (a.pre ++ f ∷ a.post) h = subst (λ (z : List Fragment). Tell z h) a.parts s.cells in
     let c : Cell = cell_at f.stamp (f.offset + (o - b)) in
     let cs : List Cell = before h a.pre a.post f (o - b) t m in
     let v : shown h c ≡ true = sym (is_shown h a.pre a.post f (o - b) t m) ∙ a.visible in
-    let n : number_shown h cs ≡ shown_len a.pre + cond f.visible (o - b) 0 = shown_before h a.pre a.post f (o - b) t m in
+    let k : number_shown h cs ≡ shown_len a.pre + cond f.visible (o - b) 0 = shown_before h a.pre a.post f (o - b) t m in
     let x : cond f.visible (o - b) 0 ≡ o - b = ap (λ (z : Bool). cond z (o - b) 0) a.visible in
-    let q : number_shown h cs ≡ o = omega (arith, n, x, ct, lo) in
-    sym (got_shown h l cs c (behind h a.pre a.post f (o - b) t m) (cells_split h a.pre a.post f (o - b) t m) v) ∙ ap (slice_get (shown_cells h)) q
+    let q : number_shown h cs ≡ o = omega (arith, k, x, ct, lo) in
+    ap (λ (z : ℕ). Some (cell_at f.stamp z)) (number_is fs w u h o b n f s a e).0
+    ∙ sym (got_shown h l cs c (behind h a.pre a.post f (o - b) t m) (cells_split h a.pre a.post f (o - b) t m) v) ∙ ap (slice_get (shown_cells h)) q
+
+pub byte_room : (fs : List Fragment) (w : List IndexEntry) (u : List UndoEntry) (h : History) (o b n : ℕ) (f : Fragment) → Stand fs w u h → ByteAt fs o f b → n ≡ min (f.offset + (o - b)) (2 ^ 64 - 1) → n + 1 < 2 ^ 64
+byte_room fs w u h o b n f s a e = (number_is fs w u h o b n f s a e).1
 
 -- ---- anchors
 
@@ -72,13 +92,14 @@ pub left_within : (h : History) (o : ℕ) → Lawful h → (o ≡ 0 → ⊥) →
 left_within h o l z m e = let n = got_none (shown_cells h) (o - 1) e in let t = text_length h l in
     elim (cases_lt 0 o) [ inl p ↦ absurd (omega (arith, n, t, m, p)) | inr p ↦ z (omega (arith, p)) ]
 
-pub left_some : (h : History) (o : ℕ) (b : Byte) → (o ≡ 0 → ⊥) → Some (cell_of b) ≡ slice_get (shown_cells h) (o - 1) → left_anchor h o ≡ Some (At b.stamp (b.k + 1) Left)
+pub left_some : (h : History) (o : ℕ) (b : Byte) (n : ℕ) → (o ≡ 0 → ⊥) → Some (cell_of b) ≡ slice_get (shown_cells h) (o - 1) → b.k + 1 < 2 ^ 64 → n ≡ min (b.k + 1) (2 ^ 64 - 1)
+    → left_anchor h o ≡ Some (At b.stamp n Left)
 unfolding left_anchor
-left_some h zero b z e = absurd (z refl)
-left_some h (suc o) b z e =
+left_some h zero b n z e m i = absurd (z refl)
+left_some h (suc o) b n z e m i =
     let q : suc o - 1 ≡ o = omega arith in
-    let k : b.k + 1 ≡ suc b.k = omega arith in
-    ap (option_map (λ (c : Cell). At c.stamp (suc c.k) Left)) (sym (e ∙ ap (slice_get (shown_cells h)) q)) ∙ ap (λ (n : ℕ). Some (At b.stamp n Left)) (sym k)
+    let k : n ≡ suc b.k = omega (arith, m, i) in
+    ap (option_map (λ (c : Cell). At c.stamp (suc c.k) Left)) (sym (e ∙ ap (slice_get (shown_cells h)) q)) ∙ ap (λ (x : ℕ). Some (At b.stamp x Left)) (sym k)
 
 pub right_end : (h : History) (o : ℕ) → Lawful h → o ≤ length (text h) → None ≡ slice_get (shown_cells h) o → right_anchor h o ≡ Some Greatest
 unfolding right_anchor

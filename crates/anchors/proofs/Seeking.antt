@@ -18,13 +18,12 @@ use Rattle.fragments.specs.declared.fragment.FragmentSummary.{FragmentSummary}
 use Rattle.fragments.specs.Summaries.{no_fragments, summaries, summary_of, id_less, greater_id, SummaryFits}
 use Rattle.fragments.specs.SummaryLaws.{id_order}
 use Rattle.fragments.specs.SeenPlaces.{cells_of, move_visible}
-use Rattle.fragments.specs.Stand.{Rise, IsFilled}
+use Rattle.fragments.specs.Stand.{Rise}
 use Rattle.fragments.specs.Laws.{shown_len}
 use Rattle.fragments.proofs.Counts.{own_cells, places_count_cells}
 use Rattle.anchors.specs.Before.{Place, move_before, BeforeFits}
 use Rattle.lamport_clock.specs.declared.stamp.Lamport.{Lamport}
 use Rattle.std.proofs.lemmas.Option.{same_Some, none-some}
-use Rattle.op_model.specs.Sorted.{Each}
 use Rattle.anchors.specs.Spots.{cells_len, spot_in}
 
 -- ---- ids
@@ -261,18 +260,10 @@ pub record ByteAt (fs : List Fragment) (o : ℕ) (f : Fragment) (b : ℕ) : Type
   pub low : b ≤ o
   pub high : o < b + f.len
   pub visible : f.visible ≡ true
-  pub filled : f.offset + f.len < 2 ^ 64
 
-each_middle : (fs pre post : List Fragment) (f : Fragment) → fs ≡ pre ++ f ∷ post → Each IsFilled fs → IsFilled f
-each_middle fs pre post f e h = go pre (subst (Each IsFilled) e h)
-  where
-    go : (pre : List Fragment) → Each IsFilled (pre ++ f ∷ post) → IsFilled f
-    go [] k = k.0
-    go (x ∷ pre) k = go pre k.1
-
-pub byte_at : (fs : List Fragment) (o : ℕ) (f : Fragment) (b : ℕ) → Each IsFilled fs → slice_get fs (shown_sought o 0 fs) ≡ Some f
+pub byte_at : (fs : List Fragment) (o : ℕ) (f : Fragment) (b : ℕ) → slice_get fs (shown_sought o 0 fs) ≡ Some f
     → b ≡ place_behind move_visible summary_of 0 (take (shown_sought o 0 fs) fs) → ByteAt fs o f b
-byte_at fs o f b h e q =
+byte_at fs o f b e q =
     let m : List Fragment = take (shown_sought o 0 fs) fs in
     let k = seek_shown fs o 0 f (omega arith) e in
     let a = at_index fs (shown_sought o 0 fs) f e in
@@ -286,5 +277,4 @@ byte_at fs o f b h e q =
       low = omega (arith, c, l);
       high = omega (arith, c, u);
       visible = k.visible;
-      filled = (each_middle fs m a.post f a.parts h).1;
     }

@@ -23,11 +23,6 @@ pub record StandFor (fs : List Fragment) (w : List IndexEntry) (v n : List ℕ) 
   pub shows : v ≡ text h
   pub hides : n ≡ hidden h
 
--- they do for some history
-pub record StandForSome (fs : List Fragment) (w : List IndexEntry) (v n : List ℕ) : Type 0 where
-  pub history : History
-  pub stands : StandFor fs w v n history
-
 -- ---- for private clauses
 
 -- the side of its gap that an anchor keeps to

@@ -10,9 +10,9 @@ ghost use Rattle.op_model.specs.Shown.{text};
 ghost use Rattle.op_model.specs.Anchors.{place_fault, shown_cells, left_anchor, right_anchor, resolved};
 ghost use Rattle.undo_map.specs.declared.entry.UndoEntry.{UndoEntry};
 ghost use Rattle.fragments.specs.declared.index_entry.IndexEntry.{IndexEntry};
-ghost use Rattle.fragments.specs.Stand.{Stand, IsFilled};
+ghost use Rattle.fragments.specs.Stand.{Stand};
 ghost use Rattle.anchors.specs.Making.{cell_of, HasRoom, made_anchor};
-ghost use Rattle.anchors.specs.Standing.{StandFor, StandForSome};
+ghost use Rattle.anchors.specs.Standing.{StandFor};
 
 use fragments::{Fragment, InsertionIndex, Visible};
 use lamport_clock::Lamport;
@@ -30,9 +30,8 @@ pub struct Byte {
 
 // A shown byte, where the text is not at its end before it: one descent.
 fn shown_byte(tree: &SumTree<Fragment>, o: u64) -> Option<Byte>
-    requires { Each IsFilled tree.now.items }
     ensures byte { (w : List IndexEntry) → (u : List UndoEntry) → (h : History) → Stand tree.now.items w u h → Lawful h → option_map cell_of result ≡ slice_get (shown_cells h) o }
-    ensures room { IfSome result HasRoom }
+    ensures room { (w : List IndexEntry) → (u : List UndoEntry) → (h : History) → Stand tree.now.items w u h → IfSome result HasRoom }
 {
     tree.known();
     let start = Visible { bytes: 0 };
@@ -41,15 +40,16 @@ fn shown_byte(tree: &SumTree<Fragment>, o: u64) -> Option<Byte>
     let Some(fragment) = found else {
         return None;
     };
+    // No number of a byte passes u64.
+    let k = fragment.offset.saturating_add(o - before.bytes);
     Some(Byte {
         stamp: fragment.stamp,
-        k: fragment.offset + (o - before.bytes),
+        k,
     })
 }
 
 // The anchor behind the byte before an offset.
 fn left_anchor(tree: &SumTree<Fragment>, o: u64) -> Anchor
-    requires { Each IsFilled tree.now.items }
     ensures { (w : List IndexEntry) → (u : List UndoEntry) → (h : History) → Stand tree.now.items w u h → Lawful h → o ≤ length (text h) → left_anchor h o ≡ Some result }
 {
     if o == 0 {
@@ -59,7 +59,7 @@ fn left_anchor(tree: &SumTree<Fragment>, o: u64) -> Anchor
         None => Anchor::Least,
         Some(byte) => Anchor::At {
             stamp: byte.stamp,
-            offset: byte.k + 1,
+            offset: byte.k.saturating_add(1),
             bias: Bias::Left,
         },
     }
@@ -67,7 +67,6 @@ fn left_anchor(tree: &SumTree<Fragment>, o: u64) -> Anchor
 
 // The anchor before the byte at an offset.
 fn right_anchor(tree: &SumTree<Fragment>, o: u64) -> Anchor
-    requires { Each IsFilled tree.now.items }
     ensures { (w : List IndexEntry) → (u : List UndoEntry) → (h : History) → Stand tree.now.items w u h → Lawful h → o ≤ length (text h) → right_anchor h o ≡ Some result }
 {
     match shown_byte(tree, o) {
@@ -107,7 +106,6 @@ pub fn anchor_at(
     o: u64,
     b: Bias,
 ) -> Result<Anchor, PlaceFault>
-    requires { StandForSome tree.now.items index.now visible.now hidden.now }
     ensures fault { (h : History) → StandFor tree.now.items index.now visible.now hidden.now h → result_err result ≡ place_fault h o }
     ensures anchor { IfOk result (λ a. (h : History) → StandFor tree.now.items index.now visible.now hidden.now h → made_anchor h o b ≡ Some a) }
     ensures place { IfOk result (λ a. (h : History) → StandFor tree.now.items index.now visible.now hidden.now h → Each IsProper h → resolved h a ≡ Some o) }

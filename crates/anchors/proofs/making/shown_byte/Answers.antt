@@ -1,28 +1,25 @@
 use Rattle.std.proofs.Common.{sym, ap, ◌∙◌, arith}
 use Rattle.std.specs.Option.{option_copied}
 use Rattle.anchors.proofs.Seeking.{byte_at}
-use Rattle.anchors.proofs.Made.{no_byte, byte_is}
+use Rattle.anchors.proofs.Made.{no_byte, byte_is, byte_room}
 use Rattle.anchors.proofs.making.shown_byte.Goals as goal
 
 pub returns-in_default-clause-byte : goal.returns-in_default-clause-byte
 returns-in_default-clause-byte c = λ w u h s l. no_byte c.args.tree.now.items w u h c.args.o s (sym (ap option_copied c.in_default.is) ∙ c.locate.ensures.item)
 
-pub overflow_sub-result : goal.overflow_sub-result
-overflow_sub-result c =
-    let a = byte_at c.args.tree.now.items c.args.o c.in-Some.fragment.now c.locate.result.1.bytes c.requires (sym c.locate.ensures.item ∙ ap option_copied c.in-Some.is) c.locate.ensures.place in
+pub overflow_sub-o : goal.overflow_sub-o
+overflow_sub-o c =
+    let a = byte_at c.args.tree.now.items c.args.o c.in-Some.fragment.now c.locate.result.1.bytes (sym c.locate.ensures.item ∙ ap option_copied c.in-Some.is) c.locate.ensures.place in
     let l = a.low in omega (arith, l)
-
-pub overflow_add-result : goal.overflow_add-result
-overflow_add-result c =
-    let a = byte_at c.args.tree.now.items c.args.o c.in-Some.fragment.now c.locate.result.1.bytes c.requires (sym c.locate.ensures.item ∙ ap option_copied c.in-Some.is) c.locate.ensures.place in
-    let l = a.low in let u = a.high in let f = a.filled in omega (arith, l, u, f)
 
 pub returns-clause-byte : goal.returns-clause-byte
 returns-clause-byte c = λ w u h s l.
-    byte_is c.args.tree.now.items w u h c.args.o c.locate.result.1.bytes c.in-Some.fragment.now s l
-    (byte_at c.args.tree.now.items c.args.o c.in-Some.fragment.now c.locate.result.1.bytes c.requires (sym c.locate.ensures.item ∙ ap option_copied c.in-Some.is) c.locate.ensures.place)
+    byte_is c.args.tree.now.items w u h c.args.o c.locate.result.1.bytes c.saturating_add-k.result c.in-Some.fragment.now s l
+    (byte_at c.args.tree.now.items c.args.o c.in-Some.fragment.now c.locate.result.1.bytes (sym c.locate.ensures.item ∙ ap option_copied c.in-Some.is) c.locate.ensures.place)
+    c.saturating_add-k.ensures
 
 pub returns-clause-room : goal.returns-clause-room
-returns-clause-room c =
-    let a = byte_at c.args.tree.now.items c.args.o c.in-Some.fragment.now c.locate.result.1.bytes c.requires (sym c.locate.ensures.item ∙ ap option_copied c.in-Some.is) c.locate.ensures.place in
-    let l = a.low in let u = a.high in let f = a.filled in omega (arith, l, u, f)
+returns-clause-room c = λ w u h s.
+    byte_room c.args.tree.now.items w u h c.args.o c.locate.result.1.bytes c.saturating_add-k.result c.in-Some.fragment.now s
+    (byte_at c.args.tree.now.items c.args.o c.in-Some.fragment.now c.locate.result.1.bytes (sym c.locate.ensures.item ∙ ap option_copied c.in-Some.is) c.locate.ensures.place)
+    c.saturating_add-k.ensures
