@@ -23,7 +23,7 @@ edits_apart old new (r ∷ rs) =
       | false ↦ sooner old new (suc a) (suc b) (edits_of (suc a) (suc b) rs) (omega arith) (omega arith) ih
     ]
 
-since_apart : (h : History) (v : Entries) → AreApart (since h v)
+pub since_apart : (h : History) (v : Entries) → AreApart (since h v)
 unfolding since
 since_apart h v = edits_apart 0 0 (runs (fates h v))
 

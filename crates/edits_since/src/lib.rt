@@ -7,6 +7,7 @@ mod laws;
 mod open_run;
 mod telling;
 
+pub use differ::was_in_text;
 pub use edits::Edits;
 pub use laws::edits_take_then_to_now;
 pub use std::alloc::AllocError as OutOfMemory;

@@ -8,6 +8,7 @@ mod ranges;
 mod twice;
 mod verdict;
 
+pub use found::open_replica;
 pub use local_undo::undo_fault;
 pub use op_model::{OpFault, UndoFault};
 pub use verdict::{Verdict, judge};

@@ -14,3 +14,6 @@ pub mod Settles
 pub mod Leaves
 pub mod OnWay
 pub mod Partly
+pub mod Standing
+pub mod Back
+pub mod Alike

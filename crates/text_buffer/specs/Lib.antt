@@ -4,3 +4,5 @@ pub mod Document
 pub mod Told
 pub mod Fields
 pub mod Settling
+pub mod Past
+pub mod SnapshotLaws

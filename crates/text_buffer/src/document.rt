@@ -38,7 +38,7 @@ use undo_map::UndoMap;
 /// history; it is lawful. Documents share what they have in common.
 #[derive(Drop)]
 pub struct Document {
-    alloc: Global,
+    pub(crate) alloc: Global,
     operations: AppliedList,
     clock: u32,
     version: Arc<Version>,
@@ -133,6 +133,13 @@ impl Document {
         ensures { result.now ≡ undo_entries self.now }
     {
         &self.content.undos
+    }
+
+    /// What the operations come to.
+    pub fn content(&self) -> &Content
+        ensures { IsContent result.now self.now }
+    {
+        &self.content
     }
 
     pub fn text(&self) -> &Rope

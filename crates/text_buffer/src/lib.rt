@@ -5,15 +5,21 @@ mod buffer;
 mod content;
 mod document;
 mod faults;
+mod laws;
 mod outcomes;
+mod past;
 mod pieces;
+mod places;
 mod settling;
 mod snapshot;
 mod taking;
 mod undoing;
 
+pub use anchors::UnknownAnchor;
 pub use buffer::{Buffer, agree};
+pub use edits_since::Edits;
 pub use faults::NewFault;
+pub use laws::{anchors_stay, edits_make_the_text, snapshots_answer_alike};
 pub use op_model::{
     Anchor, Bias, EditFault, Limits, OpFault, OutOfMemory, PlaceFault, SinceFault, TextEdit,
     UndoFault, Unit,

@@ -20,7 +20,7 @@ use sum_tree::SumTree;
 /// buffer and with other snapshots, and never changes.
 #[derive(Drop)]
 pub struct Snapshot {
-    document: Document,
+    pub(crate) document: Document,
 }
 
 impl Model for Snapshot {
