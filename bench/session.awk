@@ -1,5 +1,11 @@
-# A session of one replica: a base of small letters in lines, and short edits at places drawn by chance.
-# usage: awk -v bytes=N -v count=N -f session.awk
+# A session over a base of small letters in lines, with `count` edits of a kind:
+#   random   one replica, short edits at places drawn by chance
+#   typing   one replica, single letters one behind the other, with a jump now and then
+#   remote   as random, each edit given to a second replica at once
+#   late     two replicas, random insertions of both without exchange, then all is given
+#   authors  four replicas, random insertions in rounds of ten each, exchanged after each round
+#   reverse  as typing, and then all is given to a second replica from the last to the first
+# usage: awk -v bytes=N -v count=N -v kind=NAME -f session.awk
 
 # the next number below n, by the generator of Park and Miller
 function below(n) {
@@ -14,22 +20,95 @@ function letters(n,    text) {
     return text
 }
 
+function edit(replica, start, end, text) {
+    printf "[\"edit\",%d,[[%d,%d,\"%s\"]]]\n", replica, start, end, text
+    made++
+}
+
+function give(replica, number) {
+    printf "[\"give\",%d,%d]\n", replica, number
+}
+
+# a short edit of replica 1 at a place drawn by chance
+function short_edit(    start, gone, new) {
+    start = below(len + 1)
+    gone = below(5)
+    if (start + gone > len)
+        gone = len - start
+    new = 1 + below(8)
+    edit(1, start, start + gone, letters(new))
+    len += new - gone
+}
+
+function type_letter() {
+    if (below(50) == 0)
+        caret = below(len + 1)
+    edit(1, caret, caret, letters(1))
+    caret++
+    len++
+}
+
+function insert_at(replica, length_there,    start, new) {
+    start = below(length_there + 1)
+    new = 1 + below(8)
+    edit(replica, start, start, letters(new))
+    return new
+}
+
 BEGIN {
     drawn = 1
     printf "[\"zedbuf\",1,\""
-    for (made = 0; made < bytes; made += 60) {
-        line = bytes - made < 60 ? bytes - made : 60
+    for (i = 0; i < bytes; i += 60) {
+        line = bytes - i < 60 ? bytes - i : 60
         printf "%s\\n", letters(line - 1)
     }
-    print "\",[1]]"
+    replicas = kind == "authors" ? 4 : kind == "random" || kind == "typing" ? 1 : 2
+    ids = "1"
+    for (r = 2; r <= replicas; r++)
+        ids = ids "," r
+    print "\",[" ids "]]"
     len = bytes
-    for (i = 0; i < count; i++) {
-        start = below(len + 1)
-        gone = below(5)
-        if (start + gone > len)
-            gone = len - start
-        new = 1 + below(8)
-        printf "[\"edit\",1,[[%d,%d,\"%s\"]]]\n", start, start + gone, letters(new)
-        len += new - gone
+    made = 0
+    if (kind == "random")
+        while (made < count)
+            short_edit()
+    if (kind == "typing")
+        while (made < count)
+            type_letter()
+    if (kind == "remote")
+        while (made < count) {
+            short_edit()
+            give(2, made)
+        }
+    if (kind == "late") {
+        one = two = len
+        while (made < count) {
+            one += insert_at(1, one)
+            two += insert_at(2, two)
+        }
+        for (i = 1; i <= made; i++)
+            give(1 + i % 2, i)
+    }
+    if (kind == "authors")
+        while (made < count) {
+            from = made + 1
+            grown = 0
+            for (r = 1; r <= 4; r++) {
+                here = len
+                for (i = 0; i < 10; i++)
+                    here += insert_at(r, here)
+                grown += here - len
+            }
+            len += grown
+            for (i = from; i <= made; i++)
+                for (r = 1; r <= 4; r++)
+                    if (r != 1 + int((i - from) / 10))
+                        give(r, i)
+        }
+    if (kind == "reverse") {
+        while (made < count)
+            type_letter()
+        for (i = made; i >= 1; i--)
+            give(2, i)
     }
 }

@@ -1,10 +1,11 @@
 #!/bin/bash
-# Times the program on a session of one replica: short edits at places drawn by chance in a long text.
-# usage: bench/session.sh [BYTES] [COUNT]     for the base alone and with the edits: seconds, processor seconds, peak memory
+# Times the program on a session with edits of a kind, which session.awk lists.
+# usage: bench/session.sh [BYTES] [COUNT] [KIND]     for the base alone and with the edits: seconds, processor seconds, peak memory
 set -euo pipefail
 here=$(cd "$(dirname "$0")" && pwd)
 bytes=${1:-1048576}
 count=${2:-20000}
+kind=${3:-random}
 program=${ZEDBUF:-$here/../zedbuf}
 [ -x "$program" ] || { echo "no program $program: name it in ZEDBUF" >&2; exit 1; }
 work=$(mktemp -d)
@@ -14,7 +15,7 @@ echo '["zedbuf",1,"",[1]]' | "$program" replay >/dev/null
 
 # run NAME COUNT: a session with so many edits
 run() {
-    awk -v bytes="$bytes" -v count="$2" -f "$here/session.awk" >"$work/session"
+    awk -v bytes="$bytes" -v count="$2" -v kind="$kind" -f "$here/session.awk" >"$work/session"
     TIMEFORMAT='%R %U'
     {
         time {
@@ -30,7 +31,7 @@ run() {
     # processor seconds take in those of the watch, which are few
     read -r whole user <"$work/time"
     echo "$1 $2 $whole $user $(cat "$work/peak")"
-    grep '^replica 1:' "$work/report" >&2
+    grep '^replica ' "$work/report" >&2
 }
 
 {
@@ -38,5 +39,7 @@ run() {
     run edits "$count"
 } | awk '
     { printf "%-6s %7d edits: %8.2f s, %8.2f s of a processor, %8d KiB\n", $1, $2, $3, $4, $5 }
-    NR == 1 { user = $4 }
-    NR == 2 && $2 > 0 { printf "an edit: %.0f microseconds of a processor\n", ($4 - user) / $2 * 1000000 }'
+    NR == 1 { user = $4; peak = $5 }
+    NR == 2 && $2 > 0 {
+        printf "an edit: %.1f microseconds of a processor, %.0f bytes at the peak\n", ($4 - user) / $2 * 1000000, ($5 - peak) / $2 * 1024
+    }'
