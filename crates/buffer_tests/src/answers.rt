@@ -2,13 +2,15 @@
 // waits.
 ghost use Rattle.std.specs.Prelude.{◌≡◌, [], ◌∷◌, IfOk};
 ghost use Rattle.op_model.specs.Histories.{Distinct, base};
-ghost use Rattle.buffer_tests.specs.AnswerSample.{base_seen, edit_seen, edit_applied, undo_applied, sample};
+ghost use Rattle.fragments.specs.Stand.{Tell, run_of};
+ghost use Rattle.buffer_tests.specs.AnswerSample.{base_run, base_seen, edit_seen, edit_applied, undo_applied, sample};
 
 use crate::operations::{Entries, Parts, Stamp, operation, stamp};
 use applied_ops::AppliedList;
-use cells::Cells;
 use deferred_ops::Deferred;
+use fragments::{Fragment, Stamps};
 use lamport_clock::{Lamport, Version};
+use locators::Locator;
 use op_answers::Verdict::{Accept, Missing, Refuse, Repeated};
 use op_answers::{Verdict, judge};
 use op_model::OpFault::{
@@ -16,8 +18,10 @@ use op_model::OpFault::{
     Reversed, TextLimit,
 };
 use op_model::{Counts, EditOp, Operation, Piece, Pieces, Text, UndoCount, UndoOp};
+use rope_chunks::Rope;
 use std::alloc::{AllocError, Global};
 use std::test::Fail;
+use sum_tree::SumTree;
 
 const FIRST: Lamport = Lamport {
     value: 1,
@@ -254,6 +258,30 @@ fn waiting(alloc: Global) -> Result<Deferred, AllocError>
     Ok(waiting)
 }
 
+// The base's bytes as one fragment.
+fn whole_base(alloc: Global) -> Result<Fragment, AllocError>
+    ensures { IfOk result (λ f. run_of f ≡ base_run) }
+{
+    let id = Locator::between(alloc, &Locator::least(alloc)?, &Locator::greatest(alloc)?)?;
+    Ok(Fragment {
+        id,
+        stamp: FIRST,
+        offset: 0,
+        len: 3,
+        visible: true,
+        deletions: Stamps::new(alloc),
+        max_undos: Version::new(alloc),
+    })
+}
+
+fn base_fragments(alloc: Global) -> Result<SumTree<Fragment>, AllocError>
+    ensures { IfOk result (λ t. Tell t.items sample) }
+{
+    let mut tree = SumTree::new(alloc)?;
+    tree.push(alloc, whole_base(alloc)?)?;
+    Ok(tree)
+}
+
 fn judged(
     alloc: Global,
     applied: &AppliedList,
@@ -264,8 +292,10 @@ fn judged(
     requires waiting { Distinct waiting.now }
 {
     let have = undo_seen(alloc)?;
-    let cells = Cells::over(alloc, "aé")?;
-    Ok(judge(applied, waiting, &have, &cells, op))
+    let tree = base_fragments(alloc)?;
+    let shown = Rope::from_str(alloc, "aé")?;
+    let hidden = Rope::new(alloc)?;
+    Ok(judge(applied, waiting, &have, &tree, &shown, &hidden, op))
 }
 
 fn answer_to(

@@ -697,3 +697,48 @@ fn ranges_count_hidden_bytes(rt: HostRuntime) {
     let counted = count_hidden(rt.alloc(), ample(rt.alloc(), "abc"));
     assert!(rt; counted == Ok(true));
 }
+
+// Digits, 2,000 of them but for those of a range.
+fn digits(alloc: Global, from: u32, to: u32) -> Result<String, AllocError> {
+    let mut text = String::new(alloc);
+    for n in 0..2_000u32 {
+        if n < from || to <= n {
+            text.push(char::from(b'0' + (n % 10) as u8))?;
+        }
+    }
+    Ok(text)
+}
+
+// A call over 2,000 digits, and the range of those that are gone after it: more than lies in one chunk.
+type Hiding = (Call, u32, u32);
+
+const LONG_PARTS: &[Hiding] = &[
+    (Edit(&[(100, 1_500, "")]), 100, 1_500),
+    (Undo(&[EDIT]), 0, 0),
+    (Undo(&[EDIT]), 100, 1_500),
+];
+
+fn hides(alloc: Global, buffer: &mut Buffer, row: &Hiding) -> Result<bool, AllocError> {
+    answer(alloc, buffer, row.0)?;
+    let wanted = digits(alloc, row.1, row.2)?;
+    Ok(buffer.text()?.as_str() == wanted.as_str())
+}
+
+fn all_hide(alloc: Global, opened: Result<Buffer, NewFault>) -> Result<bool, AllocError> {
+    let Ok(mut buffer) = opened else {
+        return Ok(false);
+    };
+    let mut right = true;
+    for row in LONG_PARTS {
+        right = hides(alloc, &mut buffer, row)? && right;
+    }
+    Ok(right)
+}
+
+#[test]
+fn long_parts_change_sides(rt: HostRuntime) -> Result<(), AllocError> {
+    let base = digits(rt.alloc(), 0, 0)?;
+    let opened = ample(rt.alloc(), base.as_str());
+    assert!(rt; all_hide(rt.alloc(), opened)?);
+    Ok(())
+}

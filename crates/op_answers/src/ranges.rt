@@ -29,7 +29,8 @@ fn is_inside(
     version: &Version,
     piece: &Piece,
 ) -> bool
-    ensures { (h : History) → TellTexts fragments.now.items shown.now hidden.now h → Lawful h → IsClosed h version.now → result ≡ is_inside (full (seen h version.now)) piece.now }
+    ensures { (h : History) → TellTexts fragments.now.items shown.now hidden.now h
+        → Lawful h → IsClosed h version.now → result ≡ is_inside (full (seen h version.now)) piece.now }
 {
     if !is_seen_boundary(fragments, shown, hidden, version, piece.start) {
         return true;
@@ -48,7 +49,8 @@ fn inside_char(
     version: &Version,
     pieces: &[Piece],
 ) -> Option<usize>
-    ensures { (h : History) → TellTexts fragments.now.items shown.now hidden.now h → Lawful h → IsClosed h version.now → result ≡ position (is_inside (full (seen h version.now))) pieces.now }
+    ensures { (h : History) → TellTexts fragments.now.items shown.now hidden.now h
+        → Lawful h → IsClosed h version.now → result ≡ position (is_inside (full (seen h version.now))) pieces.now }
 {
     for (i, piece) in pieces.iter().enumerate() {
         if is_inside(fragments, shown, hidden, version, piece) {
@@ -66,7 +68,8 @@ pub fn range_fault(
     version: &Version,
     pieces: &[Piece],
 ) -> Option<OpFault>
-    ensures { (h : History) → TellTexts fragments.now.items shown.now hidden.now h → Lawful h → IsClosed h version.now → result ≡ range_fault (full (seen h version.now)) pieces.now }
+    ensures { (h : History) → TellTexts fragments.now.items shown.now hidden.now h
+        → Lawful h → IsClosed h version.now → result ≡ range_fault (full (seen h version.now)) pieces.now }
 {
     let len = seen_len(fragments, version);
     if let Some(i) = past_end(len, pieces) {

@@ -25,7 +25,8 @@ fn seen_cells(fragments: &SumTree<Fragment>, version: &Version) -> u64
 ///
 /// One plain descent, without memory: it looks into no run of fragments of which the version sees all or none.
 pub fn seen_len(fragments: &SumTree<Fragment>, version: &Version) -> u64
-    ensures { (h : History) → Tell fragments.now.items h → Lawful h → IsClosed h version.now → result ≡ length (full (seen h version.now)) }
+    ensures { (h : History) → Tell fragments.now.items h → Lawful h → IsClosed h version.now
+        → result ≡ length (full (seen h version.now)) }
 {
     seen_cells(fragments, version)
 }
