@@ -2,6 +2,8 @@
 #![tactic(auto)]
 
 #[cfg(test)]
+mod anchored;
+#[cfg(test)]
 mod answers;
 #[cfg(test)]
 mod applying;
@@ -15,6 +17,8 @@ mod laid_cells;
 mod names;
 #[cfg(test)]
 mod operations;
+#[cfg(test)]
+mod pasts;
 #[cfg(test)]
 mod ropes;
 #[cfg(test)]
