@@ -67,6 +67,32 @@ replica 2: 3 bytes, 1 rows, 0 applied, 0 waiting, 0 refused
 final 2: "abc"
 "#,
     ),
+    // a text put between bytes that another edit deletes stays there when these are shown again
+    (
+        r#"["zedbuf",1,"abcd",[1,2]]
+["edit",1,[[1,3,"X"]]]
+["edit",2,[[2,2,"Y"]]]
+["give",2,1]
+["give",1,2]
+["text",1]
+["text",2]
+["undo",1,[1]]
+["give",2,3]
+"#,
+        r#"1: 2.1
+2: 2.2
+give 1 to 2: applied 1
+give 2 to 1: applied 1
+text 1: 4 bytes, end 0:4, 1 rows, "aXYd"
+text 2: 4 bytes, end 0:4, 1 rows, "aXYd"
+3: 4.1
+give 3 to 2: applied 1
+replica 1: 5 bytes, 1 rows, 3 applied, 0 waiting, 0 refused
+final 1: "abYcd"
+replica 2: 5 bytes, 1 rows, 3 applied, 0 waiting, 0 refused
+final 2: "abYcd"
+"#,
+    ),
     // an edit is undone at the version of an operation that has seen the undo alone, also where it is redone by then: what it
     // inserted is not deleted
     (
