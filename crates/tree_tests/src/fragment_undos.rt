@@ -217,7 +217,7 @@ fn keep(
     Ok(())
 }
 
-fn map_of(alloc: Global, counts: &[(Pair, Pair, u32)]) -> Result<UndoMap, OutOfMemory> {
+pub(crate) fn map_of(alloc: Global, counts: &[(Pair, Pair, u32)]) -> Result<UndoMap, OutOfMemory> {
     let mut map = UndoMap::new(alloc)?;
     for &(edit, by, count) in counts {
         keep(alloc, &mut map, stamp(edit), stamp(by), count)?;

@@ -10,6 +10,10 @@ mod changes;
 #[cfg(test)]
 mod cursors;
 #[cfg(test)]
+mod fragment_anchors;
+#[cfg(test)]
+mod fragment_edits;
+#[cfg(test)]
 mod fragment_trees;
 #[cfg(test)]
 mod fragment_undos;
@@ -31,6 +35,8 @@ mod refusals;
 mod ropes;
 #[cfg(test)]
 mod search;
+#[cfg(test)]
+mod seen_texts;
 #[cfg(test)]
 mod texts;
 #[cfg(test)]

@@ -1,0 +1,201 @@
+//! Edits since a version, among fragments.
+use crate::fragment_trees::{Pair, add, stamp};
+use crate::fragment_undos::map_of;
+use edits_since::{Edits, since};
+use fragments::{Fragment, OutOfMemory, Stamps};
+use lamport_clock::Version;
+use locators::Locator;
+use op_model::TextEdit;
+use std::alloc::Global;
+use sum_tree::SumTree;
+
+// A fragment: its edit, the number of its first cell, how many it has, whether they are shown, the edits that delete it, and
+// the undos of these.
+type Run = (Pair, u64, u64, bool, &'static [Pair], &'static [Pair]);
+
+// Fragments and what is counted (edit, undo, count); what the version has seen; each edit, the old range and the new one.
+struct Row {
+    runs: &'static [Run],
+    counts: &'static [(Pair, Pair, u32)],
+    version: &'static [Pair],
+    edits: &'static [((u64, u64), (u64, u64))],
+}
+
+// X is put between a and b, and b is deleted.
+const PUT_AND_DELETED: &[Run] = &[
+    ((1, 0), 0, 1, true, &[], &[]),
+    ((2, 1), 0, 1, true, &[], &[]),
+    ((1, 0), 1, 1, false, &[(3, 1)], &[]),
+];
+
+// Two bytes of 2.1 that are deleted again stand behind a new one, and before one that is gone.
+const NEVER_BETWEEN: &[Run] = &[
+    ((1, 0), 0, 2, true, &[], &[]),
+    ((4, 1), 0, 1, true, &[], &[]),
+    ((2, 1), 0, 2, false, &[(3, 1)], &[]),
+    ((1, 0), 2, 3, false, &[(5, 1)], &[]),
+    ((1, 0), 5, 1, true, &[], &[]),
+    ((6, 2), 0, 4, true, &[], &[]),
+];
+
+// The base is undone and done again, and its last byte is deleted.
+const UNDONE: &[Run] = &[
+    ((1, 0), 0, 2, true, &[], &[(2, 1), (3, 1)]),
+    ((1, 0), 2, 1, false, &[(4, 1)], &[(2, 1), (3, 1)]),
+];
+
+const BASE_COUNTS: &[(Pair, Pair, u32)] = &[((1, 0), (2, 1), 1), ((1, 0), (3, 1), 2)];
+
+// A deletion is undone.
+const SHOWN_AGAIN: &[Run] = &[
+    ((1, 0), 0, 3, true, &[], &[]),
+    ((1, 0), 3, 2, true, &[(2, 1)], &[(3, 2)]),
+    ((1, 0), 5, 1, true, &[], &[]),
+];
+
+const DELETION_COUNTS: &[(Pair, Pair, u32)] = &[((2, 1), (3, 2), 1)];
+
+const ROWS: &[Row] = &[
+    Row {
+        runs: PUT_AND_DELETED,
+        counts: &[],
+        version: &[(1, 0)],
+        edits: &[((1, 2), (1, 2))],
+    },
+    Row {
+        runs: PUT_AND_DELETED,
+        counts: &[],
+        version: &[(1, 0), (2, 1)],
+        edits: &[((2, 3), (2, 2))],
+    },
+    Row {
+        runs: PUT_AND_DELETED,
+        counts: &[],
+        version: &[(1, 0), (3, 1)],
+        edits: &[],
+    },
+    // Bytes that were never shown join nothing and part nothing.
+    Row {
+        runs: NEVER_BETWEEN,
+        counts: &[],
+        version: &[(1, 0)],
+        edits: &[((2, 5), (2, 3)), ((6, 6), (4, 8))],
+    },
+    // They were shown once.
+    Row {
+        runs: NEVER_BETWEEN,
+        counts: &[],
+        version: &[(1, 0), (2, 1)],
+        edits: &[((2, 7), (2, 3)), ((8, 8), (4, 8))],
+    },
+    Row {
+        runs: NEVER_BETWEEN,
+        counts: &[],
+        version: &[(1, 0), (5, 1)],
+        edits: &[((4, 4), (4, 8))],
+    },
+    // Across an undo and its redo, between the two, and behind both.
+    Row {
+        runs: UNDONE,
+        counts: BASE_COUNTS,
+        version: &[(1, 0)],
+        edits: &[((2, 3), (2, 2))],
+    },
+    Row {
+        runs: UNDONE,
+        counts: BASE_COUNTS,
+        version: &[(1, 0), (2, 1)],
+        edits: &[((0, 0), (0, 2))],
+    },
+    Row {
+        runs: UNDONE,
+        counts: BASE_COUNTS,
+        version: &[(1, 0), (3, 1)],
+        edits: &[((2, 3), (2, 2))],
+    },
+    Row {
+        runs: SHOWN_AGAIN,
+        counts: DELETION_COUNTS,
+        version: &[(1, 0), (2, 1)],
+        edits: &[((3, 3), (3, 5))],
+    },
+    Row {
+        runs: SHOWN_AGAIN,
+        counts: DELETION_COUNTS,
+        version: &[(1, 0)],
+        edits: &[],
+    },
+    Row {
+        runs: &[],
+        counts: &[],
+        version: &[],
+        edits: &[],
+    },
+];
+
+fn version_of(alloc: Global, pairs: &[Pair]) -> Result<Version, OutOfMemory> {
+    let mut version = Version::new(alloc);
+    for pair in pairs {
+        version.observe(stamp(*pair))?;
+    }
+    Ok(version)
+}
+
+fn fragment(alloc: Global, id: Locator, run: &Run) -> Result<Fragment, OutOfMemory> {
+    let mut deletions = Stamps::new(alloc);
+    for pair in run.4 {
+        deletions.insert(stamp(*pair))?;
+    }
+    Ok(Fragment {
+        id,
+        stamp: stamp(run.0),
+        offset: run.1,
+        len: run.2,
+        visible: run.3,
+        deletions,
+        max_undos: version_of(alloc, run.5)?,
+    })
+}
+
+fn tree_of(alloc: Global, runs: &[Run]) -> Result<SumTree<Fragment>, OutOfMemory> {
+    let greatest = Locator::greatest(alloc)?;
+    let mut last = Locator::least(alloc)?;
+    let mut tree = SumTree::new(alloc)?;
+    for run in runs {
+        let id = Locator::between(alloc, &last, &greatest)?;
+        last = id.copy(alloc)?;
+        add(alloc, &mut tree, fragment(alloc, id, run)?)?;
+    }
+    Ok(tree)
+}
+
+fn edits_of(alloc: Global, ranges: &[((u64, u64), (u64, u64))]) -> Result<Edits, OutOfMemory> {
+    let mut edits = Vec::with_capacity(alloc, ranges.len())?;
+    for &(old, new) in ranges {
+        edits.push(TextEdit { old, new })?;
+    }
+    Ok(Edits::of(edits))
+}
+
+fn tells(alloc: Global, row: &Row) -> Result<bool, OutOfMemory> {
+    let tree = tree_of(alloc, row.runs)?;
+    let undos = map_of(alloc, row.counts)?;
+    let version = version_of(alloc, row.version)?;
+    let edits = since(alloc, &tree, &undos, &version)?;
+    Ok(edits.as_slice() == edits_of(alloc, row.edits)?.as_slice())
+}
+
+fn tells_all(alloc: Global) -> Result<bool, OutOfMemory> {
+    for row in ROWS {
+        if !tells(alloc, row)? {
+            return Ok(false);
+        }
+    }
+    Ok(true)
+}
+
+#[test]
+fn edits_since_versions_are_found(rt: HostRuntime) -> Result<(), OutOfMemory> {
+    assert!(rt; tells_all(rt.alloc())?);
+    Ok(())
+}
