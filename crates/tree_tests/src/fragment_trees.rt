@@ -90,7 +90,7 @@ fn fragment(alloc: Global, id: Locator, row: &Row) -> Result<Fragment, OutOfMemo
 }
 
 // Id number `n`, counted from 0: each lies between the one before it and the greatest.
-pub(crate) fn id(alloc: Global, n: u64) -> Result<Locator, OutOfMemory> {
+fn id(alloc: Global, n: u64) -> Result<Locator, OutOfMemory> {
     let greatest = Locator::greatest(alloc)?;
     let mut id = Locator::between(alloc, &Locator::least(alloc)?, &greatest)?;
     for _i in 0..n {
@@ -368,7 +368,7 @@ fn a_cursor_tells_its_index(rt: HostRuntime) -> Result<(), OutOfMemory> {
 }
 
 // Keeps an id where there are few.
-pub(crate) fn keep(
+fn keep(
     alloc: Global,
     index: &mut InsertionIndex,
     at: Lamport,

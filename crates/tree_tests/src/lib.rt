@@ -10,8 +10,6 @@ mod changes;
 #[cfg(test)]
 mod cursors;
 #[cfg(test)]
-mod fragment_anchors;
-#[cfg(test)]
 mod fragment_edits;
 #[cfg(test)]
 mod fragment_trees;
@@ -35,8 +33,6 @@ mod refusals;
 mod ropes;
 #[cfg(test)]
 mod search;
-#[cfg(test)]
-mod seen_texts;
 #[cfg(test)]
 mod texts;
 #[cfg(test)]
