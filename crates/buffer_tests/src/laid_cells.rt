@@ -5,7 +5,6 @@ ghost use Rattle.op_model.specs.Edits.{is_past};
 ghost use Rattle.cells.specs.Kept.{shown_bytes};
 
 use crate::operations::{Change, Entries, Parts, Stamp, pieces, stamp, version as version_of};
-use crate::undo_counts::keep;
 use cells::{Cells, KeptCell};
 use lamport_clock::{Lamport, Version};
 use op_model::{EditOp, OpFault, Piece, Pieces, first_overlap, first_reversed, text_total};
@@ -144,6 +143,20 @@ fn count_all(
 ) -> Result<(), AllocError> {
     for &(edit, count) in counts {
         keep(undos, alloc, edit, by, count)?;
+    }
+    Ok(())
+}
+
+// Keeps a count where few are kept.
+fn keep(
+    undos: &mut UndoMap,
+    alloc: Global,
+    edit: Lamport,
+    by: Lamport,
+    count: u32,
+) -> Result<(), AllocError> {
+    if undos.len() < 1000 {
+        undos.set(alloc, edit, by, count)?;
     }
     Ok(())
 }
