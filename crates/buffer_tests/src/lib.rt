@@ -1,28 +1,20 @@
-//! Tests of locators, operations and buffers, by their public calls.
+//! The tests of locators, of operations, of what is applied and what waits, of answers and of texts kept as ropes, by what these
+//! crates show to all; and operations by tables, which the tests of buffers take too.
 #![tactic(auto)]
 
-#[cfg(test)]
-mod anchored;
 #[cfg(test)]
 mod answers;
 #[cfg(test)]
 mod applying;
 #[cfg(test)]
-mod buffers;
-#[cfg(test)]
 mod laid_cells;
 #[cfg(test)]
 mod names;
-#[cfg(test)]
-mod operations;
-#[cfg(test)]
-mod pasts;
+pub mod operations;
 #[cfg(test)]
 mod ropes;
 #[cfg(test)]
 mod shapes;
-#[cfg(test)]
-mod snapshots;
 #[cfg(test)]
 mod undo_faults;
 #[cfg(test)]

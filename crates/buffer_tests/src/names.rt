@@ -1,4 +1,4 @@
-// Locators: the digits that calls give, as they are told, the order of locators, and how long they grow.
+//! Locators: the digits that calls give, as they are told, the order of locators, and how long they grow.
 use locators::{Locator, OutOfMemory};
 use std::alloc::Global;
 use std::cmp::Ordering;

@@ -1,4 +1,4 @@
-// Operations by tables.
+//! Operations by tables.
 use lamport_clock::{Lamport, Version};
 use op_model::{Counts, EditOp, Operation, Piece, Pieces, Text, UndoCount, UndoOp};
 use std::alloc::{AllocError, Global};
@@ -20,6 +20,7 @@ pub enum Parts {
     Counts(&'static [(Lamport, u32)]),
 }
 
+/// The stamp of this value and replica.
 pub fn stamp((value, replica): Stamp) -> Lamport {
     Lamport { value, replica }
 }
@@ -33,6 +34,7 @@ pub fn version(alloc: Global, entries: &[(u16, u32)]) -> Result<Version, AllocEr
     Ok(version)
 }
 
+/// The pieces of these changes.
 pub fn pieces(alloc: Global, changes: &[Change]) -> Result<Vec<Piece>, AllocError> {
     let mut pieces = Vec::new(alloc);
     for &(start, end, text) in changes {
@@ -60,6 +62,7 @@ fn letters(alloc: Global, count: usize) -> Result<Vec<Piece>, AllocError> {
     Ok(pieces)
 }
 
+/// What an undo counts.
 pub fn counts(alloc: Global, rows: &[(Lamport, u32)]) -> Result<Counts, AllocError> {
     let mut counts = Vec::new(alloc);
     for &(edit, count) in rows {
@@ -86,6 +89,7 @@ pub fn undo_of(stamp: Lamport, version: Version, counts: Counts) -> Operation {
     })
 }
 
+/// The operation of this stamp that has seen these entries and has these parts.
 pub fn operation(
     alloc: Global,
     stamp: Lamport,

@@ -1,10 +1,9 @@
-//! The tests of trees, cursors, texts, ropes and searches, by what these crates show to all.
+//! The tests of trees and cursors, by what these crates show to all; and numbers as if drawn by chance, which other tests take too.
 #![tactic(auto)]
 
 #[cfg(test)]
 mod bead;
-#[cfg(test)]
-mod chance;
+pub mod chance;
 #[cfg(test)]
 mod changes;
 #[cfg(test)]
@@ -16,19 +15,9 @@ mod mirror;
 #[cfg(test)]
 mod numbered;
 #[cfg(test)]
-mod parts;
-#[cfg(test)]
-mod positions;
-#[cfg(test)]
 mod ranked;
 #[cfg(test)]
 mod refusals;
-#[cfg(test)]
-mod ropes;
-#[cfg(test)]
-mod search;
-#[cfg(test)]
-mod texts;
 #[cfg(test)]
 mod trees;
 #[cfg(test)]

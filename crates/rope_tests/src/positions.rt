@@ -9,22 +9,20 @@ use tree_cursor::Bias;
 const MIXED: &str =
     "The first row is plain.\r\n\né😀€z: naïve čeština, 日本語\nThe longest row, in the middle: 0123456789 abcdefghijklmnop ßßß €€€ 😀😀\n\n\r\nshort\ntwo rows of equal length: é\ntwo rows of equal length: €\r\n😀😀😀😀😀😀😀😀😀\n\u{7f}\u{80}\u{7ff}\u{800}\u{ffff}\u{10000}\u{10ffff}\nno LF at the end é";
 
-fn texts() -> [&'static str; 12] {
-    [
-        "",
-        "a",
-        "😀",
-        "\n",
-        "a\nbc",
-        "é😀\n",
-        "\n\n\n",
-        "ab\r\ncd\n\nxyz\npqr",
-        "a\nbcd\nef\nghi\n",
-        "€uro\nß\r",
-        "a\n😀é€z\nbcd\nwxyz",
-        MIXED,
-    ]
-}
+const TEXTS: &[&str] = &[
+    "",
+    "a",
+    "😀",
+    "\n",
+    "a\nbc",
+    "é😀\n",
+    "\n\n\n",
+    "ab\r\ncd\n\nxyz\npqr",
+    "a\nbcd\nef\nghi\n",
+    "€uro\nß\r",
+    "a\n😀é€z\nbcd\nwxyz",
+    MIXED,
+];
 
 // The place past a character.
 fn past(place: Place, character: char) -> Place {
@@ -278,7 +276,7 @@ fn wrong_of_pieces(alloc: Global, text: &str) -> Result<Option<Wrong>, AllocErro
 
 #[test]
 fn answers_as_counted(rt: HostRuntime) -> Result<(), AllocError> {
-    for text in texts() {
+    for &text in TEXTS {
         let wrong = wrong_of_whole(rt.alloc(), text)?;
         assert!(rt; wrong.is_none(), "{wrong:?} of {text:?}");
         let wrong = wrong_of_pieces(rt.alloc(), text)?;

@@ -1,16 +1,16 @@
-// Anchors, each asked of a snapshot that is taken while the buffer goes on.
-use crate::operations::{Change, pieces};
+//! Anchors, each asked of a snapshot that is taken while the buffer goes on.
 use Anchor::{Greatest, Least};
 use Bias::{Left, Right};
 use Ordering::{Equal, Greater, Less};
 use Step::{Compare, Edit, Make, Resolve, Undo};
+use buffer_tests::operations::{Change, pieces};
 use lamport_clock::Lamport;
 use std::alloc::{AllocError, Global};
 use std::cmp::Ordering;
 use text_buffer::PlaceFault::{InsideChar, PastEnd};
 use text_buffer::{
-    Anchor, Bias, Buffer, EditFault, Limits, NewFault, PlaceFault, Snapshot, UndoFault,
-    UnknownAnchor, anchors_stay, snapshots_answer_alike,
+    Anchor, Bias, Buffer, Limits, NewFault, PlaceFault, Snapshot, UnknownAnchor, anchors_stay,
+    snapshots_answer_alike,
 };
 
 const AMPLE: Limits = Limits {
@@ -191,14 +191,15 @@ const WIDE_CHARACTERS: Case = (
 
 const CASES: &[Case] = &[BOTH_SIDES, OVER_A_DELETION, EMPTY, WIDE_CHARACTERS];
 
-fn edits(alloc: Global, buffer: &mut Buffer, changes: &[Change]) -> Result<bool, EditFault> {
-    let _made = buffer.edit(pieces(alloc, changes)?.as_slice())?;
-    Ok(true)
+// Whether an edit is made.
+fn edits(alloc: Global, buffer: &mut Buffer, changes: &[Change]) -> Result<bool, AllocError> {
+    let pieces = pieces(alloc, changes)?;
+    Ok(buffer.edit(pieces.as_slice()).is_ok())
 }
 
-fn undoes(buffer: &mut Buffer, edits: &[Lamport]) -> Result<bool, UndoFault> {
-    let _made = buffer.undo(edits)?;
-    Ok(true)
+// Whether an undo is made.
+fn undoes(buffer: &mut Buffer, edits: &[Lamport]) -> bool {
+    buffer.undo(edits).is_ok()
 }
 
 // What is wanted of a call that knows its anchors, or the first that it does not know.
@@ -233,8 +234,8 @@ fn answers(snapshot: &Snapshot, step: Step) -> bool {
 // Whether a call comes out as it should.
 fn comes(alloc: Global, buffer: &mut Buffer, step: Step) -> Result<bool, AllocError> {
     match step {
-        Edit(changes) => Ok(edits(alloc, buffer, changes) == Ok(true)),
-        Undo(undone) => Ok(undoes(buffer, undone) == Ok(true)),
+        Edit(changes) => edits(alloc, buffer, changes),
+        Undo(undone) => Ok(undoes(buffer, undone)),
         Make(_, _, _) | Resolve(_, _) | Compare(_, _, _) => Ok(answers(&buffer.snapshot()?, step)),
     }
 }
@@ -254,11 +255,14 @@ fn play(alloc: Global, opened: Result<Buffer, NewFault>, case: &Case) -> Result<
     }
 }
 
+fn plays(alloc: Global, case: &Case) -> Result<bool, AllocError> {
+    play(alloc, Buffer::new(alloc, 9, case.0, AMPLE), case)
+}
+
 #[test]
 fn anchors_keep_to_their_bytes(rt: HostRuntime) -> Result<(), AllocError> {
     for case in CASES {
-        let opened = Buffer::new(rt.alloc(), 9, case.0, AMPLE);
-        assert!(rt; play(rt.alloc(), opened, case)?, "over {}", case.0);
+        assert!(rt; plays(rt.alloc(), case)?, "over {}", case.0);
     }
     Ok(())
 }

@@ -1,9 +1,9 @@
 //! Parts of ropes and replacements, against plain texts, and how full chunks are.
 ghost use Rattle.std.specs.Prelude.{◌≤◌};
 
-use crate::chance::step;
 use rope_chunks::{OutOfMemory, Rope};
 use std::alloc::Global;
+use tree_tests::chance::step;
 
 // Texts of 1 to 8 bytes, of characters of 1 to 4 bytes.
 const PIECES: [&str; 8] = ["a", "é", "€", "😀", "b😀", "\r\n", "x\ny", "éé\n€"];
@@ -60,13 +60,19 @@ fn cuts_everywhere(alloc: Global, text: &str) -> Result<bool, OutOfMemory> {
     Ok(alike)
 }
 
-// The text of a part, where there is such a part.
+// The part of a rope, where there is such a part, and else no text.
+fn part_of(alloc: Global, rope: &Rope, start: u64, end: u64) -> Result<Rope, OutOfMemory> {
+    if start > end || !rope.is_char_boundary(start) || !rope.is_char_boundary(end) {
+        return Rope::new(alloc);
+    }
+    rope.slice(alloc, start, end)
+}
+
+// The text of that part.
 fn part(alloc: Global, text: &str, start: u64, end: u64) -> Result<String, OutOfMemory> {
     let rope = rope_of(alloc, text)?;
-    if start > end || !rope.is_char_boundary(start) || !rope.is_char_boundary(end) {
-        return Ok(String::new(alloc));
-    }
-    rope.slice(alloc, start, end)?.to_string(alloc)
+    let part = part_of(alloc, &rope, start, end)?;
+    part.to_string(alloc)
 }
 
 #[test]
@@ -76,32 +82,54 @@ fn cuts_out_parts(rt: HostRuntime) -> Result<(), OutOfMemory> {
     Ok(())
 }
 
+// A text with a piece in the place of a range.
+fn text_with(alloc: Global, parts: [&str; 3]) -> Result<String, OutOfMemory> {
+    let mut new = String::new(alloc);
+    for part in parts {
+        new.push_str(part)?;
+    }
+    Ok(new)
+}
+
+// Replaces a range of a rope, where it may be.
+fn replace(
+    alloc: Global,
+    rope: &mut Rope,
+    start: u64,
+    end: u64,
+    piece: &str,
+) -> Result<(), OutOfMemory> {
+    if start <= end
+        && rope.is_char_boundary(start)
+        && rope.is_char_boundary(end)
+        && rope.len() < 1 << 30
+        && piece.len() < 1 << 20
+    {
+        rope.replace(alloc, start, end, piece)?;
+    }
+    Ok(())
+}
+
+// Whether a rope has the text of these parts after a range of it is replaced, and that text.
+fn has_parts(alloc: Global, rope: &Rope, parts: [&str; 3]) -> Result<(bool, String), OutOfMemory> {
+    let new = text_with(alloc, parts)?;
+    let same = has(alloc, rope, new.as_str())?;
+    Ok((same, new))
+}
+
 // Replaces a range in a rope and in a text, where it may be, and answers whether both have the same text then.
 fn replaces_alike(
     alloc: Global,
     rope: &mut Rope,
-    text: String,
-    start: usize,
-    end: usize,
+    text: &str,
+    (start, end): (usize, usize),
     piece: &str,
 ) -> Result<(bool, String), OutOfMemory> {
-    let old = text.as_str();
-    if start > end || !old.is_char_boundary(start) || !old.is_char_boundary(end) {
-        return Ok((true, text));
+    if start > end || !text.is_char_boundary(start) || !text.is_char_boundary(end) {
+        return has_parts(alloc, rope, [text, "", ""]);
     }
-    let mut new = String::new(alloc);
-    new.push_str(&old[..start])?;
-    new.push_str(piece)?;
-    new.push_str(&old[end..])?;
-    if rope.is_char_boundary(start as u64)
-        && rope.is_char_boundary(end as u64)
-        && rope.len() < 1 << 30
-        && piece.len() < 1 << 20
-    {
-        rope.replace(alloc, start as u64, end as u64, piece)?;
-    }
-    let same = has(alloc, rope, new.as_str())?;
-    Ok((same, new))
+    replace(alloc, rope, start as u64, end as u64, piece)?;
+    has_parts(alloc, rope, [&text[..start], piece, &text[end..]])
 }
 
 // Replaces n ranges of up to `most` bytes, drawn by chance.
@@ -117,20 +145,25 @@ fn replaces_often(alloc: Global, rope: &mut Rope, n: u64, most: usize) -> Result
         let start = (x >> 20) as usize % len.saturating_add(1);
         let end = start.saturating_add((x >> 8) as usize % most).min(len);
         let piece = PIECES[(x >> 40) as usize % 8];
-        let (same, new) = replaces_alike(alloc, rope, text, start, end, piece)?;
+        let (same, new) = replaces_alike(alloc, rope, text.as_str(), (start, end), piece)?;
         alike = alike && same;
         text = new;
     }
     Ok(alike)
 }
 
+// Replaces short ranges, and then long ones.
+fn replaces_both(alloc: Global, rope: &mut Rope) -> Result<bool, OutOfMemory> {
+    let short = replaces_often(alloc, rope, 400, 9)?;
+    Ok(replaces_often(alloc, rope, 200, 300)? && short)
+}
+
 // Replaces ranges of a rope while another shares its chunks, which keeps its text.
 fn replaces_shared(alloc: Global, text: &str) -> Result<bool, OutOfMemory> {
     let mut rope = rope_of(alloc, text)?;
     let shared = rope.share()?;
-    let short = replaces_often(alloc, &mut rope, 400, 9)?;
-    let long = replaces_often(alloc, &mut rope, 200, 300)?;
-    Ok(has(alloc, &shared, text)? && short && long)
+    let alike = replaces_both(alloc, &mut rope)?;
+    Ok(has(alloc, &shared, text)? && alike)
 }
 
 fn replaces_in_empty(alloc: Global) -> Result<bool, OutOfMemory> {
@@ -182,15 +215,30 @@ fn is_filled_at_once(alloc: Global, text: &str) -> Result<bool, OutOfMemory> {
     holds_filled(alloc, &rope, text)
 }
 
+// Whether a rope is filled that has this text, and so is the rope that is made of it at once.
+fn hold_filled(alloc: Global, joined: &Rope, text: &str) -> Result<bool, OutOfMemory> {
+    let joined = holds_filled(alloc, joined, text)?;
+    Ok(is_filled_at_once(alloc, text)? && joined)
+}
+
+// Whether ropes of one text are filled that have more bytes than the least.
+fn are_filled(
+    alloc: Global,
+    pushed: &Rope,
+    joined: &Rope,
+    least: u64,
+) -> Result<bool, OutOfMemory> {
+    let text = pushed.to_string(alloc)?;
+    let filled = is_filled(pushed) && pushed.len() > least;
+    Ok(hold_filled(alloc, joined, text.as_str())? && filled)
+}
+
 // Whether ropes that grew so are filled, and so is the rope that is made of the same text at once.
 fn stays_filled(alloc: Global, n: u64, least: u64) -> Result<bool, OutOfMemory> {
     let mut pushed = Rope::new(alloc)?;
     let mut joined = Rope::new(alloc)?;
     grow(alloc, &mut pushed, &mut joined, n)?;
-    let text = pushed.to_string(alloc)?;
-    let filled = is_filled(&pushed) && pushed.len() > least;
-    let joined = holds_filled(alloc, &joined, text.as_str())?;
-    Ok(is_filled_at_once(alloc, text.as_str())? && joined && filled)
+    are_filled(alloc, &pushed, &joined, least)
 }
 
 #[test]

@@ -1,4 +1,4 @@
-// Snapshots of a buffer, each taken before an edit, with ample memory.
+//! Snapshots of a buffer, each taken before an edit, with ample memory.
 use lamport_clock::Lamport;
 use op_model::{Limits, Piece, Text};
 use std::alloc::{AllocError, Global};

@@ -1,9 +1,9 @@
-// Calls of buffers, with ample memory.
-use crate::operations::{Change, Entries, Parts, operation, pieces};
+//! Calls of buffers, with ample memory.
 use Call::{Edit, Settle, Take, Undo};
 use Came::{Made, NoEdit, NoUndo, NotTaken, Settles, Taken};
 use Parts::{Counts, Letters, Pieces};
 use Took::{Applied, Repeat, Waits};
+use buffer_tests::operations::{Change, Entries, Parts, operation, pieces};
 use lamport_clock::Lamport;
 use op_model::Operation;
 use std::alloc::{AllocError, Global};
@@ -583,6 +583,14 @@ fn play(alloc: Global, opened: Result<Buffer, NewFault>, case: &Case) -> Result<
     }
 }
 
+fn plays(alloc: Global, case: &Case) -> Result<bool, AllocError> {
+    play(alloc, ample(alloc, case.0), case)
+}
+
+fn plays_in_few(alloc: Global, case: &Case) -> Result<bool, AllocError> {
+    play(alloc, few(alloc, case.0), case)
+}
+
 const CASES: &[Case] = &[
     INSIDE_A_CHARACTER,
     TWO_AT_ONE_PLACE,
@@ -609,8 +617,7 @@ const CASES_OF_FEW: &[Case] = &[
 #[test]
 fn calls_and_their_answers(rt: HostRuntime) -> Result<(), AllocError> {
     for case in CASES {
-        let opened = ample(rt.alloc(), case.0);
-        assert!(rt; play(rt.alloc(), opened, case)?, "over {}", case.0);
+        assert!(rt; plays(rt.alloc(), case)?, "over {}", case.0);
     }
     Ok(())
 }
@@ -618,28 +625,27 @@ fn calls_and_their_answers(rt: HostRuntime) -> Result<(), AllocError> {
 #[test]
 fn calls_at_the_limits(rt: HostRuntime) -> Result<(), AllocError> {
     for case in CASES_OF_FEW {
-        let opened = few(rt.alloc(), case.0);
-        assert!(rt; play(rt.alloc(), opened, case)?, "over {}", case.0);
+        assert!(rt; plays_in_few(rt.alloc(), case)?, "over {}", case.0);
     }
     Ok(())
 }
 
-// Whether no buffer is opened, and its fault is told in these words.
-fn is_refused(
-    alloc: Global,
-    opened: Result<Buffer, NewFault>,
-    words: &str,
-) -> Result<bool, AllocError> {
-    match opened {
-        Ok(_) => Ok(false),
-        Err(fault) => Ok(format!(in alloc; "{fault}")?.as_str() == words),
+fn is_told(alloc: Global, fault: NewFault, words: &str) -> Result<bool, AllocError> {
+    Ok(format!(in alloc; "{fault}")?.as_str() == words)
+}
+
+// Whether no buffer of few bytes is opened, and its fault is told in these words.
+fn is_refused(alloc: Global, base: &str, words: &str) -> Result<bool, AllocError> {
+    match few(alloc, base).err() {
+        None => Ok(false),
+        Some(fault) => is_told(alloc, fault, words),
     }
 }
 
 #[test]
 fn a_base_past_the_limit(rt: HostRuntime) -> Result<(), AllocError> {
     let words = "full: 0 bytes are held, and 6 more pass the limit";
-    assert!(rt; is_refused(rt.alloc(), few(rt.alloc(), "abcdef"), words)?);
+    assert!(rt; is_refused(rt.alloc(), "abcdef", words)?);
     Ok(())
 }
 
@@ -685,17 +691,16 @@ fn are_counted(alloc: Global, buffer: &mut Buffer) -> Result<bool, EditFault> {
     Ok(right && seen && buffer.applied().len() == 5)
 }
 
-fn count_hidden(alloc: Global, opened: Result<Buffer, NewFault>) -> Result<bool, EditFault> {
+fn count_hidden(alloc: Global, opened: Result<Buffer, NewFault>) -> bool {
     match opened {
-        Ok(mut buffer) => are_counted(alloc, &mut buffer),
-        Err(_) => Ok(false),
+        Ok(mut buffer) => are_counted(alloc, &mut buffer) == Ok(true),
+        Err(_) => false,
     }
 }
 
 #[test]
 fn ranges_count_hidden_bytes(rt: HostRuntime) {
-    let counted = count_hidden(rt.alloc(), ample(rt.alloc(), "abc"));
-    assert!(rt; counted == Ok(true));
+    assert!(rt; count_hidden(rt.alloc(), ample(rt.alloc(), "abc")));
 }
 
 // Digits, 2,000 of them but for those of a range.
@@ -724,21 +729,28 @@ fn hides(alloc: Global, buffer: &mut Buffer, row: &Hiding) -> Result<bool, Alloc
     Ok(buffer.text()?.as_str() == wanted.as_str())
 }
 
-fn all_hide(alloc: Global, opened: Result<Buffer, NewFault>) -> Result<bool, AllocError> {
-    let Ok(mut buffer) = opened else {
-        return Ok(false);
-    };
+fn each_hides(alloc: Global, buffer: &mut Buffer) -> Result<bool, AllocError> {
     let mut right = true;
     for row in LONG_PARTS {
-        right = hides(alloc, &mut buffer, row)? && right;
+        right = hides(alloc, buffer, row)? && right;
     }
     Ok(right)
 }
 
+fn all_hide(alloc: Global, opened: Result<Buffer, NewFault>) -> Result<bool, AllocError> {
+    match opened {
+        Ok(mut buffer) => each_hides(alloc, &mut buffer),
+        Err(_) => Ok(false),
+    }
+}
+
+fn hide_long(alloc: Global) -> Result<bool, AllocError> {
+    let base = digits(alloc, 0, 0)?;
+    all_hide(alloc, ample(alloc, base.as_str()))
+}
+
 #[test]
 fn long_parts_change_sides(rt: HostRuntime) -> Result<(), AllocError> {
-    let base = digits(rt.alloc(), 0, 0)?;
-    let opened = ample(rt.alloc(), base.as_str());
-    assert!(rt; all_hide(rt.alloc(), opened)?);
+    assert!(rt; hide_long(rt.alloc())?);
     Ok(())
 }

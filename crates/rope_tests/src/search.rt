@@ -1,11 +1,11 @@
 //! Searches for needles, against one that looks at each place by itself.
-use crate::chance::step;
 use crate::parts::rope_of;
 use rope_chunks::Rope;
 use snapshot_search::{FindFault, find_all, find_all_par};
 use std::alloc::{AllocError, Global};
 use std::test::Fail;
 use std::thread::Threads;
+use tree_tests::chance::step;
 
 const PARTS: [u32; 6] = [1, 2, 3, 16, 1000, u32::MAX];
 

@@ -1,12 +1,11 @@
-// Texts at versions and edits since them, each asked of a snapshot that is taken while the buffer goes on.
-use crate::operations::{Change, Entries, pieces, version};
+//! Texts at versions and edits since them, each asked of a snapshot that is taken while the buffer goes on.
 use Step::{Edit, Tell, Undo};
+use buffer_tests::operations::{Change, Entries, pieces, version};
 use lamport_clock::{Lamport, Version};
 use std::alloc::{AllocError, Global};
 use text_buffer::SinceFault::{OpenVersion, Unseen};
 use text_buffer::{
-    Buffer, EditFault, Limits, NewFault, SinceFault, Snapshot, TextEdit, UndoFault,
-    edits_make_the_text,
+    Buffer, Edits, Limits, NewFault, SinceFault, Snapshot, TextEdit, edits_make_the_text,
 };
 
 const AMPLE: Limits = Limits {
@@ -152,31 +151,48 @@ const NEVER_SHOWN: Case = (
 
 const CASES: &[Case] = &[MARKS, NEVER_SHOWN];
 
-fn edits(alloc: Global, buffer: &mut Buffer, changes: &[Change]) -> Result<bool, EditFault> {
-    let _made = buffer.edit(pieces(alloc, changes)?.as_slice())?;
-    Ok(true)
+// Whether an edit is made.
+fn edits(alloc: Global, buffer: &mut Buffer, changes: &[Change]) -> Result<bool, AllocError> {
+    let pieces = pieces(alloc, changes)?;
+    Ok(buffer.edit(pieces.as_slice()).is_ok())
 }
 
-fn undoes(buffer: &mut Buffer, edits: &[Lamport]) -> Result<bool, UndoFault> {
-    let _made = buffer.undo(edits)?;
-    Ok(true)
+// Whether an undo is made.
+fn undoes(buffer: &mut Buffer, edits: &[Lamport]) -> bool {
+    buffer.undo(edits).is_ok()
+}
+
+fn is_text(text: Result<String, SinceFault>, want: &str) -> bool {
+    match text {
+        Ok(text) => text.as_str() == want,
+        Err(_) => false,
+    }
+}
+
+fn are_edits(edits: Result<Edits, SinceFault>, want: &[TextEdit]) -> bool {
+    match edits {
+        Ok(edits) => edits.as_slice() == want,
+        Err(_) => false,
+    }
+}
+
+fn is_fault<T: Drop>(told: Result<T, SinceFault>, want: SinceFault) -> bool {
+    told.err() == Some(want)
 }
 
 // Whether the text that a version saw is as wanted.
 fn text_is(snapshot: &Snapshot, version: &Version, told: Told) -> bool {
-    match (snapshot.text_at(version), told) {
-        (Ok(text), Ok((want, _))) => text.as_str() == want,
-        (Err(fault), Err(want)) => fault == want,
-        _ => false,
+    match told {
+        Ok((want, _)) => is_text(snapshot.text_at(version), want),
+        Err(want) => is_fault(snapshot.text_at(version), want),
     }
 }
 
 // Whether the edits since a version are as wanted.
 fn edits_are(snapshot: &Snapshot, version: &Version, told: Told) -> bool {
-    match (snapshot.since(version), told) {
-        (Ok(edits), Ok((_, want))) => edits.as_slice() == want,
-        (Err(fault), Err(want)) => fault == want,
-        _ => false,
+    match told {
+        Ok((_, want)) => are_edits(snapshot.since(version), want),
+        Err(want) => is_fault(snapshot.since(version), want),
     }
 }
 
@@ -194,8 +210,8 @@ fn tells(
 // Whether a call comes out as it should.
 fn comes(alloc: Global, buffer: &mut Buffer, step: Step) -> Result<bool, AllocError> {
     match step {
-        Edit(changes) => Ok(edits(alloc, buffer, changes) == Ok(true)),
-        Undo(undone) => Ok(undoes(buffer, undone) == Ok(true)),
+        Edit(changes) => edits(alloc, buffer, changes),
+        Undo(undone) => Ok(undoes(buffer, undone)),
         Tell(entries, told) => tells(alloc, &buffer.snapshot()?, entries, told),
     }
 }
@@ -215,11 +231,14 @@ fn play(alloc: Global, opened: Result<Buffer, NewFault>, case: &Case) -> Result<
     }
 }
 
+fn plays(alloc: Global, case: &Case) -> Result<bool, AllocError> {
+    play(alloc, Buffer::new(alloc, 9, case.0, AMPLE), case)
+}
+
 #[test]
 fn versions_have_texts_and_edits_since(rt: HostRuntime) -> Result<(), AllocError> {
     for case in CASES {
-        let opened = Buffer::new(rt.alloc(), 9, case.0, AMPLE);
-        assert!(rt; play(rt.alloc(), opened, case)?, "over {}", case.0);
+        assert!(rt; plays(rt.alloc(), case)?, "over {}", case.0);
     }
     Ok(())
 }
