@@ -1,5 +1,5 @@
--- Moves that carry the bytes of fragments back to what a version saw give the text that it saw.
-use Rattle.std.proofs.Common.{◌≡◌, ℕ, zero, suc, ◌+◌, ◌<◌, ◌≤◌, Bool, true, false, ◌&&◌, cond, List, [], ◌∷◌, ◌++◌, length, map, take, drop, get_or, slice_get, None, Some, refl, sym, ap, ◌∙◌, subst, arith, inl, inr, ◌⊎◌}
+-- Moves that carry the bytes of fragments back to what a version saw make the text that it saw.
+use Rattle.std.proofs.Common.{◌≡◌, ℕ, zero, suc, Bool, true, false, ◌&&◌, cond, List, [], ◌∷◌, ◌++◌, map, get_or, refl, sym, ap, ◌∙◌, arith, inl, inr, ◌⊎◌}
 use Rattle.std.specs.List.{filter}
 use Rattle.std.proofs.lemmas.Bool.{cases_Bool}
 use Rattle.lamport_clock.specs.declared.stamp.Lamport.{Lamport}
@@ -31,62 +31,16 @@ use Rattle.fragments.specs.declared.fragment.Fragment.{Fragment}
 use Rattle.fragments.specs.Stand.{runs}
 use Rattle.remote_edit.specs.declared.moves.Move.{Move}
 use Rattle.remote_edit.specs.Marks.{was_shown}
-use Rattle.remote_edit.specs.Moves.{Texts, texts_of, moved, with_move, TakeTexts}
-use Rattle.remote_edit.specs.Carried.{Carried, CarryOn, IsText, move_for, shown_bytes}
-use Rattle.remote_edit.proofs.Carrying.{go_on, on_one, stay}
+use Rattle.remote_edit.specs.Moves.{Texts, moved, TakeTexts}
+use Rattle.remote_edit.specs.Carried.{Carried, IsText, shown_bytes}
 use Rattle.remote_edit.proofs.Marks.{was_told}
 use Rattle.remote_edit.proofs.Texts.{text_bytes, hidden_text_bytes}
 use Rattle.remote_edit.proofs.WholeFragments.{proper_texts, texts_are, whole_runs}
 use Rattle.edits_since.specs.Fates.{was_in_text}
-use Rattle.text_buffer.specs.Past.{as_seen, CarryBack}
-
--- ---- the walk
-
--- the moves of the first i fragments are put
-abbrev pub Going : List UndoEntry → Entries → List Fragment → List Move → ℕ → Type 0
-Going u v fs ms i = (t : Lamport) → CarryOn t [] [] fs 0 ms (map (as_seen u v) (take i fs)) (drop i fs) 0
-
-pub none_put : (u : List UndoEntry) (v : Entries) (fs : List Fragment) (ms : List Move) → ms ≡ [] → Going u v fs ms 0
-none_put u v fs ms e t = subst (λ (z : List Move). CarryOn t [] [] fs 0 z [] fs 0) (sym e) stay
-
-parts : (fs : List Fragment) (i : ℕ) (f : Fragment) → slice_get fs i ≡ Some f → (take (suc i) fs ≡ take i fs ++ f ∷ []) × (drop i fs ≡ f ∷ drop (suc i) fs)
-parts [] i f e = cc
-parts (x ∷ fs) zero f e = let q : x ≡ f = cc in (ap (λ (y : Fragment). y ∷ []) q, ap (λ (y : Fragment). y ∷ fs) q)
-parts (x ∷ fs) (suc i) f e = let r = parts fs i f e in (ap (λ (z : List Fragment). x ∷ z) r.0, r.1)
-
-map_last : (u : List UndoEntry) (v : Entries) (xs : List Fragment) (f : Fragment) → map (as_seen u v) (xs ++ f ∷ []) ≡ map (as_seen u v) xs ++ as_seen u v f ∷ []
-map_last u v [] f = refl
-map_last u v (x ∷ xs) f = ap (λ (z : List Fragment). as_seen u v x ∷ z) (map_last u v xs f)
-
-pub one_put : (u : List UndoEntry) (v : Entries) (fs : List Fragment) (ms ns : List Move) (i : ℕ) (f : Fragment) → slice_get fs i ≡ Some f
-    → ns ≡ with_move ms (move_for f.visible (was_in_text u v f) f.len) → Going u v fs ms i → Going u v fs ns (i + 1)
-one_put u v fs ms ns i f g e c t =
-    let p = parts fs i f g in
-    let one : CarryOn t [] [] fs 0 ms (map (as_seen u v) (take i fs)) (f ∷ drop (suc i) fs) 0 = subst (λ (z : List Fragment). CarryOn t [] [] fs 0 ms (map (as_seen u v) (take i fs)) z 0) p.1 (c t) in
-    let next : CarryOn t [] [] fs 0 (with_move ms (move_for f.visible (was_in_text u v f) f.len)) (map (as_seen u v) (take i fs) ++ as_seen u v f ∷ []) (drop (suc i) fs) 0
-    = go_on (omega arith) one (on_one f (as_seen u v f) (drop (suc i) fs) (refl, refl, refl)) in
-    let moves : CarryOn t [] [] fs 0 ns (map (as_seen u v) (take i fs) ++ as_seen u v f ∷ []) (drop (suc i) fs) 0
-    = subst (λ (z : List Move). CarryOn t [] [] fs 0 z (map (as_seen u v) (take i fs) ++ as_seen u v f ∷ []) (drop (suc i) fs) 0) (sym e) next in
-    let all : CarryOn t [] [] fs 0 ns (map (as_seen u v) (take (suc i) fs)) (drop (suc i) fs) 0
-    = subst (λ (z : List Fragment). CarryOn t [] [] fs 0 ns z (drop (suc i) fs) 0) (sym (ap (map (as_seen u v)) p.0 ∙ map_last u v (take i fs) f)) moves in
-    subst (λ (k : ℕ). CarryOn t [] [] fs 0 ns (map (as_seen u v) (take k fs)) (drop k fs) 0) (let q : suc i ≡ i + 1 = omega arith in q) all
-
-pub within : (fs : List Fragment) (i : ℕ) → i < length fs → slice_get fs i ≡ None → ⊥
-within [] i l e = absurd (omega arith)
-within (x ∷ fs) zero l e = cc
-within (x ∷ fs) (suc i) l e = within fs i (omega arith) e
-
-past : (fs : List Fragment) (i : ℕ) → length fs ≤ i → (take i fs ≡ fs) × (drop i fs ≡ [])
-past [] zero l = (refl, refl)
-past [] (suc i) l = (refl, refl)
-past (x ∷ fs) zero l = absurd (omega arith)
-past (x ∷ fs) (suc i) l = let r = past fs i (omega arith) in (ap (λ (z : List Fragment). x ∷ z) r.0, r.1)
-
-pub all_put : (u : List UndoEntry) (v : Entries) (fs : List Fragment) (ms : List Move) (i : ℕ) → length fs ≤ i → Going u v fs ms i → CarryBack fs u v ms
-all_put u v fs ms i l c t =
-    let p = past fs i l in
-    let front : CarryOn t [] [] fs 0 ms (map (as_seen u v) fs) (drop i fs) 0 = subst (λ (z : List Fragment). CarryOn t [] [] fs 0 ms (map (as_seen u v) z) (drop i fs) 0) p.0 (c t) in
-    subst (λ (z : List Fragment). CarryOn t [] [] fs 0 ms (map (as_seen u v) fs) z 0) p.1 front
+use Rattle.edits_since.specs.Back.{AreMovesBack, TakeCharacters}
+use Rattle.edits_since.proofs.Walking.{IsSettled}
+use Rattle.edits_since.proofs.Standing.{settled}
+use Rattle.edits_since.proofs.Moving.{as_seen, CarryBack}
 
 -- ---- the text at a version
 
@@ -163,12 +117,21 @@ module _ (h : History) (v : Entries) (l : Lawful h) (k : IsClosed h v) where
       characters = λ x. tt;
     })
 
-    pub text_back : (s n : List ℕ) → texts_of s n ≡ moved ms (text h) (hidden h) [] → s ≡ text_at h v
-    text_back s n e = ap (λ (x : Texts). x.shown) (e ∙ carried.moves.put) ∙ text_seen fs u counts tell
+    text_back : (moved ms (text h) (hidden h) []).shown ≡ text_at h v
+    text_back = ap (λ (x : Texts). x.shown) carried.moves.put ∙ text_seen fs u counts tell
 
     each_seen : (gs : List Fragment) → Each (IsText (byte_of h)) gs → Each (IsText (byte_of h)) (map (as_seen u v) gs)
     each_seen [] e = tt
     each_seen (g ∷ gs) e = (e.0, each_seen gs e.1)
 
-    pub take_texts : Each IsProper h → Each (IsWhole h) (runs fs) → TakeTexts ms (text h) (hidden h) []
+    take_texts : Each IsProper h → Each (IsWhole h) (runs fs) → TakeTexts ms (text h) (hidden h) []
     take_texts p w = carried.characters (each_seen fs (texts_are (byte_of h) fs (whole_runs h l (proper_texts h p) (runs fs) w)))
+
+-- ---- where the fragments stand for the history
+
+module _ (fs : List Fragment) (u : List UndoEntry) (v : Entries) (ms : List Move) (c : Each (IsSettled u v) fs → CarryBack fs u v ms) where
+  pub moves_are_back : AreMovesBack fs u v ms
+  moves_are_back h m = text_back h v m.lawful m.closed fs u ms m.stands.counts m.stands.cells (c (settled fs u v h m))
+
+  pub characters_are_whole : TakeCharacters fs u v ms
+  characters_are_whole h m p w = take_texts h v m.lawful m.closed fs u ms m.stands.counts m.stands.cells (c (settled fs u v h m)) p w
