@@ -12,8 +12,6 @@ mod buffers;
 #[cfg(test)]
 mod clocks;
 #[cfg(test)]
-mod laid_cells;
-#[cfg(test)]
 mod names;
 #[cfg(test)]
 mod operations;
