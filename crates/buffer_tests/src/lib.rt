@@ -1,4 +1,4 @@
-//! Tests of clocks, locators, operations and buffers, by their public calls.
+//! Tests of locators, operations and buffers, by their public calls.
 #![tactic(auto)]
 
 #[cfg(test)]
@@ -9,8 +9,6 @@ mod answers;
 mod applying;
 #[cfg(test)]
 mod buffers;
-#[cfg(test)]
-mod clocks;
 #[cfg(test)]
 mod names;
 #[cfg(test)]
@@ -23,8 +21,6 @@ mod ropes;
 mod shapes;
 #[cfg(test)]
 mod snapshots;
-#[cfg(test)]
-mod undo_counts;
 #[cfg(test)]
 mod undo_faults;
 #[cfg(test)]

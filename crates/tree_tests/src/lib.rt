@@ -1,4 +1,4 @@
-//! The tests of trees, cursors, texts, ropes, searches and fragments, by what these crates show to all.
+//! The tests of trees, cursors, texts, ropes and searches, by what these crates show to all.
 #![tactic(auto)]
 
 #[cfg(test)]
@@ -9,12 +9,6 @@ mod chance;
 mod changes;
 #[cfg(test)]
 mod cursors;
-#[cfg(test)]
-mod fragment_edits;
-#[cfg(test)]
-mod fragment_trees;
-#[cfg(test)]
-mod fragment_undos;
 #[cfg(test)]
 mod keys;
 #[cfg(test)]

@@ -1,7 +1,7 @@
-// Counts now and at versions, with ample memory.
-use crate::operations::{Stamp, counts, stamp, version};
+//! Undo counts, now and at versions, with ample memory.
+use crate::runs::{Pair, stamp, version};
 use lamport_clock::{Lamport, Version};
-use op_model::UndoOp;
+use op_model::{Counts, UndoCount, UndoOp};
 use std::alloc::{AllocError, Global};
 use std::test::Fail;
 use undo_map::UndoMap;
@@ -16,10 +16,13 @@ const SECOND: Lamport = Lamport {
     replica: 1,
 };
 
-/// Keeps a count where few are kept.
-pub fn keep(
-    map: &mut UndoMap,
+/// An edit, an undo, and the count that it gives.
+pub(crate) type Count = (Pair, Pair, u32);
+
+// Keeps a count where few are kept.
+fn keep(
     alloc: Global,
+    map: &mut UndoMap,
     edit: Lamport,
     by: Lamport,
     count: u32,
@@ -30,22 +33,19 @@ pub fn keep(
     Ok(())
 }
 
-// Edits, undos and the counts that they give.
-fn made(alloc: Global, rows: &[(Stamp, Stamp, u32)]) -> Result<UndoMap, AllocError> {
+/// The map of these counts.
+pub(crate) fn map_of(alloc: Global, counts: &[Count]) -> Result<UndoMap, AllocError> {
     let mut map = UndoMap::new(alloc)?;
-    for &(edit, by, count) in rows {
-        keep(&mut map, alloc, stamp(edit), stamp(by), count)?;
+    for &(edit, by, count) in counts {
+        keep(alloc, &mut map, stamp(edit), stamp(by), count)?;
     }
     Ok(map)
 }
 
 // The count of the first edit and whether it is undone, now, and at a version that has seen 3.1 and 3.2.
-fn counted(
-    alloc: Global,
-    rows: &[(Stamp, Stamp, u32)],
-) -> Result<(u32, bool, u32, bool), AllocError> {
-    let map = made(alloc, rows)?.share()?;
-    let early = version(alloc, &[(1, 3), (2, 3)])?;
+fn counted(alloc: Global, rows: &[Count]) -> Result<(u32, bool, u32, bool), AllocError> {
+    let map = map_of(alloc, rows)?.share()?;
+    let early = version(alloc, &[(3, 1), (3, 2)])?;
     Ok((
         map.count(FIRST),
         map.is_undone(FIRST),
@@ -55,7 +55,7 @@ fn counted(
 }
 
 // Edits, undos and the counts that they give; and what is counted then.
-const COUNTED: &[(&[(Stamp, Stamp, u32)], (u32, bool, u32, bool))] = &[
+const COUNTED: &[(&[Count], (u32, bool, u32, bool))] = &[
     (&[], (0, false, 0, false)),
     (
         &[((2, 1), (3, 1), 1), ((2, 1), (3, 2), 1)],
@@ -79,6 +79,14 @@ fn greatest_and_no_sum(rt: HostRuntime) -> Result<(), Fail> {
     Ok(())
 }
 
+fn counts(alloc: Global, rows: &[(Lamport, u32)]) -> Result<Counts, AllocError> {
+    let mut counts = Vec::new(alloc);
+    for &(edit, count) in rows {
+        counts.push(UndoCount { edit, count })?;
+    }
+    Ok(Counts::new(counts))
+}
+
 fn undo(alloc: Global, rows: &[(Lamport, u32)]) -> Result<UndoOp, AllocError> {
     Ok(UndoOp {
         stamp: stamp((5, 2)),
@@ -98,7 +106,7 @@ fn with_undo(alloc: Global, map: &UndoMap, undo: &UndoOp) -> Result<UndoMap, All
 
 // The counts of the first and the second edit after an undo, and that of the first before it.
 fn counted_after(alloc: Global) -> Result<(u32, u32, u32), AllocError> {
-    let before = made(alloc, &[((2, 1), (3, 1), 2)])?;
+    let before = map_of(alloc, &[((2, 1), (3, 1), 2)])?;
     let undo = undo(alloc, &[(FIRST, 1), (SECOND, 4), (FIRST, 3)])?;
     let after = with_undo(alloc, &before, &undo)?;
     Ok((after.count(FIRST), after.count(SECOND), before.count(FIRST)))

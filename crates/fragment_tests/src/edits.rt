@@ -1,59 +1,52 @@
 //! Edits since a version, among fragments.
-use crate::fragment_trees::{Pair, add, stamp};
-use crate::fragment_undos::map_of;
+use crate::runs::{Pair, Run, tree_of, version};
+use crate::undo_counts::{Count, map_of};
 use edits_since::{Edits, since};
-use fragments::{Fragment, OutOfMemory, Stamps};
-use lamport_clock::Version;
-use locators::Locator;
+use fragments::OutOfMemory;
 use op_model::TextEdit;
 use std::alloc::Global;
-use sum_tree::SumTree;
-
-// A fragment: its edit, the number of its first cell, how many it has, whether they are shown, the edits that delete it, and
-// the undos of these.
-type Run = (Pair, u64, u64, bool, &'static [Pair], &'static [Pair]);
 
 // Fragments and what is counted (edit, undo, count); what the version has seen; each edit, the old range and the new one.
 struct Row {
     runs: &'static [Run],
-    counts: &'static [(Pair, Pair, u32)],
+    counts: &'static [Count],
     version: &'static [Pair],
     edits: &'static [((u64, u64), (u64, u64))],
 }
 
 // X is put between a and b, and b is deleted.
 const PUT_AND_DELETED: &[Run] = &[
-    ((1, 0), 0, 1, true, &[], &[]),
-    ((2, 1), 0, 1, true, &[], &[]),
-    ((1, 0), 1, 1, false, &[(3, 1)], &[]),
+    ((1, 0), 0, "a", true, &[], &[]),
+    ((2, 1), 0, "X", true, &[], &[]),
+    ((1, 0), 1, "b", false, &[(3, 1)], &[]),
 ];
 
 // Two bytes of 2.1 that are deleted again stand behind a new one, and before one that is gone.
 const NEVER_BETWEEN: &[Run] = &[
-    ((1, 0), 0, 2, true, &[], &[]),
-    ((4, 1), 0, 1, true, &[], &[]),
-    ((2, 1), 0, 2, false, &[(3, 1)], &[]),
-    ((1, 0), 2, 3, false, &[(5, 1)], &[]),
-    ((1, 0), 5, 1, true, &[], &[]),
-    ((6, 2), 0, 4, true, &[], &[]),
+    ((1, 0), 0, "ab", true, &[], &[]),
+    ((4, 1), 0, "P", true, &[], &[]),
+    ((2, 1), 0, "QR", false, &[(3, 1)], &[]),
+    ((1, 0), 2, "cde", false, &[(5, 1)], &[]),
+    ((1, 0), 5, "f", true, &[], &[]),
+    ((6, 2), 0, "STUV", true, &[], &[]),
 ];
 
 // The base is undone and done again, and its last byte is deleted.
 const UNDONE: &[Run] = &[
-    ((1, 0), 0, 2, true, &[], &[(2, 1), (3, 1)]),
-    ((1, 0), 2, 1, false, &[(4, 1)], &[(2, 1), (3, 1)]),
+    ((1, 0), 0, "ab", true, &[], &[(2, 1), (3, 1)]),
+    ((1, 0), 2, "c", false, &[(4, 1)], &[(2, 1), (3, 1)]),
 ];
 
-const BASE_COUNTS: &[(Pair, Pair, u32)] = &[((1, 0), (2, 1), 1), ((1, 0), (3, 1), 2)];
+const BASE_COUNTS: &[Count] = &[((1, 0), (2, 1), 1), ((1, 0), (3, 1), 2)];
 
 // A deletion is undone.
 const SHOWN_AGAIN: &[Run] = &[
-    ((1, 0), 0, 3, true, &[], &[]),
-    ((1, 0), 3, 2, true, &[(2, 1)], &[(3, 2)]),
-    ((1, 0), 5, 1, true, &[], &[]),
+    ((1, 0), 0, "abc", true, &[], &[]),
+    ((1, 0), 3, "de", true, &[(2, 1)], &[(3, 2)]),
+    ((1, 0), 5, "f", true, &[], &[]),
 ];
 
-const DELETION_COUNTS: &[(Pair, Pair, u32)] = &[((2, 1), (3, 2), 1)];
+const DELETION_COUNTS: &[Count] = &[((2, 1), (3, 2), 1)];
 
 const ROWS: &[Row] = &[
     Row {
@@ -133,42 +126,6 @@ const ROWS: &[Row] = &[
     },
 ];
 
-fn version_of(alloc: Global, pairs: &[Pair]) -> Result<Version, OutOfMemory> {
-    let mut version = Version::new(alloc);
-    for pair in pairs {
-        version.observe(stamp(*pair))?;
-    }
-    Ok(version)
-}
-
-fn fragment(alloc: Global, id: Locator, run: &Run) -> Result<Fragment, OutOfMemory> {
-    let mut deletions = Stamps::new(alloc);
-    for pair in run.4 {
-        deletions.insert(stamp(*pair))?;
-    }
-    Ok(Fragment {
-        id,
-        stamp: stamp(run.0),
-        offset: run.1,
-        len: run.2,
-        visible: run.3,
-        deletions,
-        max_undos: version_of(alloc, run.5)?,
-    })
-}
-
-fn tree_of(alloc: Global, runs: &[Run]) -> Result<SumTree<Fragment>, OutOfMemory> {
-    let greatest = Locator::greatest(alloc)?;
-    let mut last = Locator::least(alloc)?;
-    let mut tree = SumTree::new(alloc)?;
-    for run in runs {
-        let id = Locator::between(alloc, &last, &greatest)?;
-        last = id.copy(alloc)?;
-        add(alloc, &mut tree, fragment(alloc, id, run)?)?;
-    }
-    Ok(tree)
-}
-
 fn edits_of(alloc: Global, ranges: &[((u64, u64), (u64, u64))]) -> Result<Edits, OutOfMemory> {
     let mut edits = Vec::with_capacity(alloc, ranges.len())?;
     for &(old, new) in ranges {
@@ -178,9 +135,9 @@ fn edits_of(alloc: Global, ranges: &[((u64, u64), (u64, u64))]) -> Result<Edits,
 }
 
 fn tells(alloc: Global, row: &Row) -> Result<bool, OutOfMemory> {
-    let tree = tree_of(alloc, row.runs)?;
+    let tree = tree_of(alloc, row.runs, 1)?;
     let undos = map_of(alloc, row.counts)?;
-    let version = version_of(alloc, row.version)?;
+    let version = version(alloc, row.version)?;
     let edits = since(alloc, &tree, &undos, &version)?;
     Ok(edits.as_slice() == edits_of(alloc, row.edits)?.as_slice())
 }

@@ -1,7 +1,7 @@
 use Rattle.std.proofs.Common.{arith}
 use Rattle.fragments.specs.declared.index_entry.IndexEntry.{IndexEntry}
 use Rattle.fragments.proofs.Entries.{with_entry_long}
-use Rattle.tree_tests.proofs.fragment_trees.keep.Goals as goal
+use Rattle.fragment_tests.proofs.trees.keep.Goals as goal
 
 pub add-requires : goal.add-requires
 add-requires c =

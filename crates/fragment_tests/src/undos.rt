@@ -1,21 +1,18 @@
 //! Undos among fragments: what they show and hide, what is seen of them, and what becomes of the texts.
-use crate::fragment_trees::{Pair, add, stamp};
-use fragments::{Fragment, InsertionIndex, OutOfMemory, Stamps};
-use lamport_clock::{Lamport, Version};
-use locators::Locator;
-use remote_edit::{Move, mark_undo};
+use crate::runs::{Pair, Run, stamp, tree_of};
+use crate::undo_counts::{Count, map_of};
+use fragments::{Fragment, InsertionIndex, OutOfMemory};
+use lamport_clock::Lamport;
+use remote_edit::{Move, Placed, mark_undo};
 use std::alloc::Global;
 use sum_tree::SumTree;
 use undo_map::UndoMap;
-
-// A fragment: its edit, the number of its first cell, its text, whether it is shown, and the edits that delete it.
-type Run = (Pair, u64, &'static str, bool, &'static [Pair]);
 
 // Fragments and what is counted with the undo (edit, undo, count); the undo and the edits that it counts; the text that is
 // shown then, how many fragments have seen the undo, and the moves.
 struct Row {
     runs: &'static [Run],
-    counts: &'static [(Pair, Pair, u32)],
+    counts: &'static [Count],
     by: Pair,
     edits: &'static [Pair],
     text: &'static str,
@@ -25,41 +22,41 @@ struct Row {
 
 // A deletion of b, and Q put behind it where it is hidden.
 const AMONG_HIDDEN: &[Run] = &[
-    ((1, 0), 0, "a", true, &[]),
-    ((1, 0), 1, "b", false, &[(2, 1)]),
-    ((3, 1), 0, "Q", true, &[]),
-    ((1, 0), 2, "c", true, &[]),
+    ((1, 0), 0, "a", true, &[], &[]),
+    ((1, 0), 1, "b", false, &[(2, 1)], &[]),
+    ((3, 1), 0, "Q", true, &[], &[]),
+    ((1, 0), 2, "c", true, &[], &[]),
 ];
 
 // X between the cells of the base, hidden and shown.
 const HIDDEN_X: &[Run] = &[
-    ((1, 0), 0, "a", true, &[]),
-    ((2, 1), 0, "X", false, &[]),
-    ((1, 0), 1, "b", true, &[]),
+    ((1, 0), 0, "a", true, &[], &[]),
+    ((2, 1), 0, "X", false, &[], &[]),
+    ((1, 0), 1, "b", true, &[], &[]),
 ];
 
 // b is deleted by the first edit, what is shown then by the second.
 const ALL_DELETED: &[Run] = &[
-    ((1, 0), 0, "a", false, &[(3, 1)]),
-    ((1, 0), 1, "b", false, &[(2, 1)]),
-    ((1, 0), 2, "c", false, &[(3, 1)]),
+    ((1, 0), 0, "a", false, &[(3, 1)], &[]),
+    ((1, 0), 1, "b", false, &[(2, 1)], &[]),
+    ((1, 0), 2, "c", false, &[(3, 1)], &[]),
 ];
 
 // X in the place of bc, and Y put between b and c by an author who had not seen that.
 const TWO_AUTHORS: &[Run] = &[
-    ((1, 0), 0, "a", true, &[]),
-    ((2, 1), 0, "X", true, &[]),
-    ((1, 0), 1, "b", false, &[(2, 1)]),
-    ((2, 2), 0, "Y", true, &[]),
-    ((1, 0), 2, "c", false, &[(2, 1)]),
-    ((1, 0), 3, "d", true, &[]),
+    ((1, 0), 0, "a", true, &[], &[]),
+    ((2, 1), 0, "X", true, &[], &[]),
+    ((1, 0), 1, "b", false, &[(2, 1)], &[]),
+    ((2, 2), 0, "Y", true, &[], &[]),
+    ((1, 0), 2, "c", false, &[(2, 1)], &[]),
+    ((1, 0), 3, "d", true, &[], &[]),
 ];
 
 // b is deleted by two edits that have not seen one another.
 const TWICE_DELETED: &[Run] = &[
-    ((1, 0), 0, "a", true, &[]),
-    ((1, 0), 1, "b", false, &[(2, 2), (2, 1)]),
-    ((1, 0), 2, "c", true, &[]),
+    ((1, 0), 0, "a", true, &[], &[]),
+    ((1, 0), 1, "b", false, &[(2, 2), (2, 1)], &[]),
+    ((1, 0), 2, "c", true, &[], &[]),
 ];
 
 const ROWS: &[Row] = &[
@@ -136,7 +133,7 @@ const ROWS: &[Row] = &[
         ],
     },
     Row {
-        runs: &[((1, 0), 0, "ab", false, &[])],
+        runs: &[((1, 0), 0, "ab", false, &[], &[])],
         counts: &[((1, 0), (2, 1), 1), ((1, 0), (3, 1), 2)],
         by: (3, 1),
         edits: &[(1, 0)],
@@ -175,56 +172,6 @@ const ROWS: &[Row] = &[
     },
 ];
 
-fn fragment(alloc: Global, id: Locator, run: &Run) -> Result<Fragment, OutOfMemory> {
-    let mut deletions = Stamps::new(alloc);
-    for pair in run.4 {
-        deletions.insert(stamp(*pair))?;
-    }
-    Ok(Fragment {
-        id,
-        stamp: stamp(run.0),
-        offset: run.1,
-        len: run.2.len() as u64,
-        visible: run.3,
-        deletions,
-        max_undos: Version::new(alloc),
-    })
-}
-
-fn tree_of(alloc: Global, runs: &[Run]) -> Result<SumTree<Fragment>, OutOfMemory> {
-    let greatest = Locator::greatest(alloc)?;
-    let mut last = Locator::least(alloc)?;
-    let mut tree = SumTree::new(alloc)?;
-    for run in runs {
-        let id = Locator::between(alloc, &last, &greatest)?;
-        last = id.copy(alloc)?;
-        add(alloc, &mut tree, fragment(alloc, id, run)?)?;
-    }
-    Ok(tree)
-}
-
-// Keeps a count where few are kept.
-fn keep(
-    alloc: Global,
-    map: &mut UndoMap,
-    edit: Lamport,
-    by: Lamport,
-    count: u32,
-) -> Result<(), OutOfMemory> {
-    if map.len() < 1000 {
-        map.set(alloc, edit, by, count)?;
-    }
-    Ok(())
-}
-
-pub(crate) fn map_of(alloc: Global, counts: &[(Pair, Pair, u32)]) -> Result<UndoMap, OutOfMemory> {
-    let mut map = UndoMap::new(alloc)?;
-    for &(edit, by, count) in counts {
-        keep(alloc, &mut map, stamp(edit), stamp(by), count)?;
-    }
-    Ok(map)
-}
-
 fn stamps(alloc: Global, pairs: &[Pair]) -> Result<Vec<Lamport>, OutOfMemory> {
     let mut stamps = Vec::with_capacity(alloc, pairs.len())?;
     for pair in pairs {
@@ -233,36 +180,67 @@ fn stamps(alloc: Global, pairs: &[Pair]) -> Result<Vec<Lamport>, OutOfMemory> {
     Ok(stamps)
 }
 
-// The text that is shown, and how many fragments have seen an undo.
-fn told(
-    alloc: Global,
-    tree: &SumTree<Fragment>,
-    runs: &[Run],
-    by: Lamport,
-) -> Result<(String, u64), OutOfMemory> {
+// Whether the fragment of an index is shown.
+fn is_shown(tree: &SumTree<Fragment>, i: u64) -> bool {
+    match tree.get(i) {
+        None => false,
+        Some(fragment) => fragment.visible,
+    }
+}
+
+// Whether the fragment of an index has seen an undo.
+fn has_seen(tree: &SumTree<Fragment>, i: u64, by: Lamport) -> bool {
+    match tree.get(i) {
+        None => false,
+        Some(fragment) => fragment.max_undos.sees(by),
+    }
+}
+
+// The text that is shown.
+fn shown(alloc: Global, tree: &SumTree<Fragment>, runs: &[Run]) -> Result<String, OutOfMemory> {
     let mut text = String::new(alloc);
-    let mut seen = 0u64;
     for (i, run) in runs.iter().enumerate() {
-        if let Some(fragment) = tree.get(i as u64) {
-            if fragment.visible {
-                text.push_str(run.2)?;
-            }
-            if fragment.max_undos.sees(by) {
-                seen = seen.saturating_add(1);
-            }
+        if is_shown(tree, i as u64) {
+            text.push_str(run.2)?;
         }
     }
-    Ok((text, seen))
+    Ok(text)
+}
+
+// How many fragments have seen an undo.
+fn seen(tree: &SumTree<Fragment>, by: Lamport) -> u64 {
+    let mut seen = 0u64;
+    for i in 0..tree.len() {
+        if has_seen(tree, i, by) {
+            seen = seen.saturating_add(1);
+        }
+    }
+    seen
+}
+
+fn is_as_wanted(alloc: Global, placed: &Placed, row: &Row) -> Result<bool, OutOfMemory> {
+    let text = shown(alloc, &placed.fragments, row.runs)?;
+    let told = (text.as_str(), seen(&placed.fragments, stamp(row.by)));
+    Ok(told == (row.text, row.seen) && placed.moves.as_slice() == row.moves)
+}
+
+// Whether the undo of a row leaves what is wanted, among its fragments and with its counts.
+fn marks(
+    alloc: Global,
+    tree: &SumTree<Fragment>,
+    undos: &UndoMap,
+    row: &Row,
+) -> Result<bool, OutOfMemory> {
+    let edits = stamps(alloc, row.edits)?;
+    let index = InsertionIndex::new(alloc)?;
+    let placed = mark_undo(alloc, tree, &index, undos, stamp(row.by), &edits)?;
+    is_as_wanted(alloc, &placed, row)
 }
 
 fn undoes(alloc: Global, row: &Row) -> Result<bool, OutOfMemory> {
-    let tree = tree_of(alloc, row.runs)?;
+    let tree = tree_of(alloc, row.runs, 1)?;
     let undos = map_of(alloc, row.counts)?;
-    let edits = stamps(alloc, row.edits)?;
-    let index = InsertionIndex::new(alloc)?;
-    let placed = mark_undo(alloc, &tree, &index, &undos, stamp(row.by), &edits)?;
-    let (text, seen) = told(alloc, &placed.fragments, row.runs, stamp(row.by))?;
-    Ok(text.as_str() == row.text && seen == row.seen && placed.moves.as_slice() == row.moves)
+    marks(alloc, &tree, &undos, row)
 }
 
 fn undoes_all(alloc: Global) -> Result<bool, OutOfMemory> {

@@ -1,7 +1,7 @@
 use Rattle.std.proofs.Common.{arith}
 use Rattle.undo_map.specs.declared.entry.UndoEntry.{UndoEntry}
 use Rattle.undo_map.proofs.Setting.{with_count_long}
-use Rattle.tree_tests.proofs.fragment_undos.keep.Goals as goal
+use Rattle.fragment_tests.proofs.undo_counts.keep.Goals as goal
 
 pub set-requires : goal.set-requires
 set-requires c =

@@ -1,5 +1,5 @@
 use Rattle.std.proofs.Common.{refl}
-use Rattle.tree_tests.proofs.fragment_trees.tree_of.Goals as goal
+use Rattle.fragment_tests.proofs.runs.tree_of.Goals as goal
 
 pub same-tree : goal.same-tree
 same-tree c = refl

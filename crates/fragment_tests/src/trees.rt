@@ -1,7 +1,7 @@
 //! Fragments in a tree: their sums, the places among them, and the index that finds them.
+use crate::runs::{Pair, Run, fragment, stamp, tree_of, version};
 use fragments::{
-    ById, Fragment, FragmentSummary, Full, FullAt, InsertionIndex, OutOfMemory, Span, Stamps,
-    Visible,
+    ById, Fragment, FragmentSummary, Full, FullAt, InsertionIndex, OutOfMemory, Span, Visible,
 };
 use lamport_clock::{Lamport, Version};
 use locators::Locator;
@@ -9,85 +9,12 @@ use std::alloc::Global;
 use sum_tree::{Item, SumTree};
 use tree_cursor::{Bias, Cursor, locate};
 
-// A stamp's value and replica.
-pub(crate) type Pair = (u32, u16);
-
-// A fragment without its id.
-struct Row {
-    stamp: Pair,
-    offset: u64,
-    len: u64,
-    visible: bool,
-    deletion: Option<Pair>,
-    undo: Option<Pair>,
-}
-
-const ROWS: [Row; 4] = [
-    Row {
-        stamp: (2, 1),
-        offset: 0,
-        len: 3,
-        visible: true,
-        deletion: None,
-        undo: None,
-    },
-    Row {
-        stamp: (3, 2),
-        offset: 0,
-        len: 2,
-        visible: false,
-        deletion: Some((5, 1)),
-        undo: None,
-    },
-    Row {
-        stamp: (2, 1),
-        offset: 3,
-        len: 4,
-        visible: true,
-        deletion: None,
-        undo: Some((7, 3)),
-    },
-    Row {
-        stamp: (6, 1),
-        offset: 0,
-        len: 1,
-        visible: true,
-        deletion: None,
-        undo: None,
-    },
+const ROWS: &[Run] = &[
+    ((2, 1), 0, "abc", true, &[], &[]),
+    ((3, 2), 0, "de", false, &[(5, 1)], &[]),
+    ((2, 1), 3, "fghi", true, &[], &[(7, 3)]),
+    ((6, 1), 0, "j", true, &[], &[]),
 ];
-
-pub(crate) fn stamp((value, replica): Pair) -> Lamport {
-    Lamport { value, replica }
-}
-
-fn version(alloc: Global, pairs: &[Pair]) -> Result<Version, OutOfMemory> {
-    let mut version = Version::new(alloc);
-    for pair in pairs {
-        version.observe(stamp(*pair))?;
-    }
-    Ok(version)
-}
-
-fn fragment(alloc: Global, id: Locator, row: &Row) -> Result<Fragment, OutOfMemory> {
-    let mut deletions = Stamps::new(alloc);
-    if let Some(pair) = row.deletion {
-        deletions.insert(stamp(pair))?;
-    }
-    let mut max_undos = Version::new(alloc);
-    if let Some(pair) = row.undo {
-        max_undos.observe(stamp(pair))?;
-    }
-    Ok(Fragment {
-        id,
-        stamp: stamp(row.stamp),
-        offset: row.offset,
-        len: row.len,
-        visible: row.visible,
-        deletions,
-        max_undos,
-    })
-}
 
 // Id number `n`, counted from 0: each lies between the one before it and the greatest.
 fn id(alloc: Global, n: u64) -> Result<Locator, OutOfMemory> {
@@ -97,63 +24,6 @@ fn id(alloc: Global, n: u64) -> Result<Locator, OutOfMemory> {
         id = Locator::between(alloc, &id, &greatest)?;
     }
     Ok(id)
-}
-
-// Adds a fragment where the tree is small.
-pub(crate) fn add(
-    alloc: Global,
-    tree: &mut SumTree<Fragment>,
-    fragment: Fragment,
-) -> Result<(), OutOfMemory> {
-    let count = tree.len();
-    let sum = tree.summary();
-    if count >= 1_000 {
-        return Ok(());
-    }
-    if sum.visible >= 1_000_000 {
-        return Ok(());
-    }
-    if sum.hidden >= 1_000_000 {
-        return Ok(());
-    }
-    if fragment.len >= 1_000 {
-        return Ok(());
-    }
-    tree.push(alloc, fragment)
-}
-
-// Adds a row, with an id between the last one and the greatest, which is then the last.
-fn add_row(
-    alloc: Global,
-    tree: &mut SumTree<Fragment>,
-    last: &mut Locator,
-    row: &Row,
-) -> Result<(), OutOfMemory> {
-    let id = Locator::between(alloc, last, &Locator::greatest(alloc)?)?;
-    *last = id.copy(alloc)?;
-    add(alloc, tree, fragment(alloc, id, row)?)
-}
-
-fn add_rows(
-    alloc: Global,
-    tree: &mut SumTree<Fragment>,
-    last: &mut Locator,
-    times: u64,
-) -> Result<(), OutOfMemory> {
-    for _time in 0..times {
-        for row in &ROWS {
-            add_row(alloc, tree, last, row)?;
-        }
-    }
-    Ok(())
-}
-
-// The rows as fragments, again and again.
-fn tree_of(alloc: Global, times: u64) -> Result<SumTree<Fragment>, OutOfMemory> {
-    let mut last = Locator::least(alloc)?;
-    let mut tree = SumTree::new(alloc)?;
-    add_rows(alloc, &mut tree, &mut last, times)?;
-    Ok(tree)
 }
 
 // What tells a fragment of the rows: its stamp's value, and the number of its first cell.
@@ -202,7 +72,7 @@ fn is_of_rows(sum: &FragmentSummary, last: &Locator) -> bool {
 
 fn sums_the_rows(alloc: Global) -> Result<bool, OutOfMemory> {
     let last = id(alloc, 3)?;
-    let tree = tree_of(alloc, 1)?;
+    let tree = tree_of(alloc, ROWS, 1)?;
     Ok(is_of_rows(tree.summary(), &last))
 }
 
@@ -298,7 +168,7 @@ const EARLY_OF_MANY: [Sought; 2] = [
 
 fn finds_the_rows(alloc: Global) -> Result<bool, OutOfMemory> {
     let early = version(alloc, &[(2, 1)])?;
-    let tree = tree_of(alloc, 1)?;
+    let tree = tree_of(alloc, ROWS, 1)?;
     Ok(
         finds_full(&tree, &FULL)
             && finds_visible(&tree, &VISIBLE)
@@ -308,7 +178,7 @@ fn finds_the_rows(alloc: Global) -> Result<bool, OutOfMemory> {
 
 fn finds_many(alloc: Global) -> Result<bool, OutOfMemory> {
     let early = version(alloc, &[(2, 1)])?;
-    let tree = tree_of(alloc, 100)?;
+    let tree = tree_of(alloc, ROWS, 100)?;
     Ok(finds_at(&tree, &early, &EARLY_OF_MANY))
 }
 
@@ -322,7 +192,7 @@ fn places_count_the_cells_that_are_meant(rt: HostRuntime) -> Result<(), OutOfMem
 fn finds_ids(alloc: Global) -> Result<bool, OutOfMemory> {
     let second = id(alloc, 2)?;
     let fourth = id(alloc, 4)?;
-    let tree = tree_of(alloc, 1)?;
+    let tree = tree_of(alloc, ROWS, 1)?;
     Ok(
         spot_id(&tree, &second, Bias::Left) == Some((2, 3))
             && spot_id(&tree, &second, Bias::Right) == Some((6, 0))
@@ -357,7 +227,7 @@ fn has_indexes(tree: &SumTree<Fragment>, rows: &[(u64, u64)]) -> Result<bool, Ou
 }
 
 fn tells_indexes(alloc: Global) -> Result<bool, OutOfMemory> {
-    let tree = tree_of(alloc, 100)?;
+    let tree = tree_of(alloc, ROWS, 100)?;
     has_indexes(&tree, &INDEXES)
 }
 
@@ -367,8 +237,8 @@ fn a_cursor_tells_its_index(rt: HostRuntime) -> Result<(), OutOfMemory> {
     Ok(())
 }
 
-// Keeps an id where there are few.
-fn keep(
+/// Keeps an id where there are few.
+pub(crate) fn keep(
     alloc: Global,
     index: &mut InsertionIndex,
     at: Lamport,
@@ -449,8 +319,8 @@ fn an_index_finds_the_fragment_of_a_cell(rt: HostRuntime) -> Result<(), OutOfMem
     Ok(())
 }
 
-fn is_copied(alloc: Global, row: &Row) -> Result<bool, OutOfMemory> {
-    let fragment = fragment(alloc, id(alloc, 0)?, row)?;
+fn is_copied(alloc: Global, run: &Run) -> Result<bool, OutOfMemory> {
+    let fragment = fragment(alloc, id(alloc, 0)?, run)?;
     let copy = fragment.copy(alloc)?;
     Ok(
         is_id(Some(&copy.id), &fragment.id)
@@ -461,8 +331,8 @@ fn is_copied(alloc: Global, row: &Row) -> Result<bool, OutOfMemory> {
 
 #[test]
 fn a_copy_has_the_same_deletions_and_undos(rt: HostRuntime) -> Result<(), OutOfMemory> {
-    for row in &ROWS {
-        assert!(rt; is_copied(rt.alloc(), row)?);
+    for run in ROWS {
+        assert!(rt; is_copied(rt.alloc(), run)?);
     }
     Ok(())
 }

@@ -1,4 +1,4 @@
-// Clocks, stamps and versions, with ample memory.
+//! Clocks, stamps and versions, with ample memory.
 use lamport_clock::{Clock, ClockEnd, Lamport, Version, is_later};
 use std::alloc::{AllocError, Global};
 use std::test::Fail;
