@@ -7,6 +7,7 @@ pub mod Growth
 pub mod Replies
 pub mod Places
 pub mod OperationLines
+pub mod Named
 pub mod Replicas
 pub mod Outcome
 pub mod Sent

@@ -2,6 +2,7 @@ pub mod Causes
 pub mod Words
 pub mod Traffic
 pub mod Memory
+pub mod Names
 pub mod Work
 pub mod Queries
 pub mod Held

@@ -7,6 +7,7 @@
 mod counts;
 mod laws;
 mod memory;
+mod names;
 mod outside;
 mod queries;
 mod replay;

@@ -13,10 +13,13 @@ ghost use Rattle.session_replay.specs.Queries.{plain_line, queries_from, query_a
 ghost use Rattle.session_replay.specs.Working.{state_of};
 ghost use Rattle.text_buffer.specs.Buffer.{BufferState};
 
+use crate::names;
 use crate::replica::{Replica, operation_of};
-use op_model::{Counts, EditOp, Operation, Pieces, UndoOp};
+use lamport_clock::Version;
+use op_model::{Anchor, Bias, Counts, EditOp, Operation, Pieces, Text, UndoOp};
 use session_lines::{Numbers, Report, Session, SessionLine, write_line};
 use std::alloc::{AllocError, Global};
+use std::collections::BTreeMap;
 use text_buffer::Snapshot;
 
 /// A session as far as it was worked.
@@ -26,6 +29,10 @@ pub struct Progress {
     replicas: Vec<Replica>,
     /// The operation of each operation line, in their order; `None` where the line was refused.
     operations: Vec<Option<Operation>>,
+    /// The anchors that are kept under names.
+    anchors: BTreeMap<String, Anchor>,
+    /// The versions that are kept under names.
+    marks: BTreeMap<String, Version>,
     /// The lines of the events.
     report: Vec<u8>,
 }
@@ -167,6 +174,80 @@ impl Progress {
         Ok(())
     }
 
+    /// Works a line that makes an anchor.
+    fn work_anchor(
+        &mut self,
+        alloc: Global,
+        id: u16,
+        name: &Text,
+        offset: u64,
+        bias: Bias,
+    ) -> Result<(), AllocError>
+        ensures report { OnOk result (self.new.report.items ≡ self.old.report.items ++ report_text (events (SessionLine.Anchor id name.now offset bias) (state_of self.old))) }
+        ensures state { OnOk result (state_of self.new ≡ step (SessionLine.Anchor id name.now offset bias) (state_of self.old)) }
+    {
+        let Some(snapshot) = self.snapshot_of(id)? else {
+            return Ok(());
+        };
+        let made = snapshot.anchor(offset, bias);
+        let answer = names::keep_anchor(alloc, &mut self.anchors, name, made)?;
+        let name = names::copy_of(alloc, name)?;
+        write_line(alloc, &mut self.report, &Report::Anchor { name, answer })?;
+        Ok(())
+    }
+
+    /// Works a line that asks where an anchor is.
+    fn work_where(&mut self, alloc: Global, id: u16, name: &Text) -> Result<(), AllocError>
+        ensures report { OnOk result (self.new.report.items ≡ self.old.report.items ++ report_text (events (SessionLine.Where id name.now) (state_of self.old))) }
+        ensures state { OnOk result (state_of self.new ≡ step (SessionLine.Where id name.now) (state_of self.old)) }
+    {
+        let Some(snapshot) = self.snapshot_of(id)? else {
+            return Ok(());
+        };
+        let report = Report::Where {
+            name: names::copy_of(alloc, name)?,
+            replica: id,
+            answer: names::where_answer(&snapshot, names::find(&self.anchors, name)),
+        };
+        write_line(alloc, &mut self.report, &report)?;
+        Ok(())
+    }
+
+    /// Works a line that keeps a version.
+    fn work_mark(&mut self, alloc: Global, id: u16, name: &Text) -> Result<(), AllocError>
+        ensures report { OnOk result (self.new.report.items ≡ self.old.report.items ++ report_text (events (SessionLine.Mark id name.now) (state_of self.old))) }
+        ensures state { OnOk result (state_of self.new ≡ step (SessionLine.Mark id name.now) (state_of self.old)) }
+    {
+        let Some(snapshot) = self.snapshot_of(id)? else {
+            return Ok(());
+        };
+        let version = snapshot.version().copy(alloc)?;
+        names::keep(alloc, &mut self.marks, name, version)?;
+        let name = names::copy_of(alloc, name)?;
+        write_line(alloc, &mut self.report, &Report::Mark { name })?;
+        Ok(())
+    }
+
+    /// Works a line that asks what changed since a version.
+    fn work_since(&mut self, alloc: Global, id: u16, name: &Text) -> Result<(), AllocError>
+        ensures report { OnOk result (self.new.report.items ≡ self.old.report.items ++ report_text (events (SessionLine.Since id name.now) (state_of self.old))) }
+        ensures state { OnOk result (state_of self.new ≡ step (SessionLine.Since id name.now) (state_of self.old)) }
+    {
+        let Some(snapshot) = self.snapshot_of(id)? else {
+            return Ok(());
+        };
+        let Some(version) = names::find(&self.marks, name) else {
+            return Ok(());
+        };
+        let report = Report::Since {
+            name: names::copy_of(alloc, name)?,
+            replica: id,
+            answer: names::since_answer(alloc, &snapshot, version)?,
+        };
+        write_line(alloc, &mut self.report, &report)?;
+        Ok(())
+    }
+
     /// Works a line.
     #[tactic(auto, using(crate::proofs::Steps::nothing_written))]
     fn work_line(&mut self, alloc: Global, line: &SessionLine) -> Result<(), AllocError>
@@ -180,6 +261,15 @@ impl Progress {
             SessionLine::Uop(undo) => self.work_operation(alloc, undo_operation(alloc, undo)?)?,
             SessionLine::Give { replica, number } => self.work_give(alloc, *replica, *number)?,
             SessionLine::Text { replica } => self.work_text(alloc, *replica)?,
+            SessionLine::Anchor {
+                replica,
+                name,
+                offset,
+                bias,
+            } => self.work_anchor(alloc, *replica, name, *offset, *bias)?,
+            SessionLine::Where { replica, name } => self.work_where(alloc, *replica, name)?,
+            SessionLine::Mark { replica, name } => self.work_mark(alloc, *replica, name)?,
+            SessionLine::Since { replica, name } => self.work_since(alloc, *replica, name)?,
             // queries change nothing, and are answered apart
             SessionLine::Find { .. } => {}
             SessionLine::Point { .. } => {}
@@ -264,6 +354,8 @@ pub fn report(alloc: Global, session: &Session) -> Result<Vec<u8>, AllocError>
     let mut progress = Progress {
         replicas: replicas_over(alloc, session.replicas.as_slice(), session.base.as_str())?,
         operations: Vec::new(alloc),
+        anchors: BTreeMap::new(alloc),
+        marks: BTreeMap::new(alloc),
         report: Vec::new(alloc),
     };
     let mut answers = Vec::new(alloc);

@@ -11,6 +11,8 @@ mod long;
 #[cfg(test)]
 mod merging;
 #[cfg(test)]
+mod names;
+#[cfg(test)]
 mod queries;
 #[cfg(test)]
 mod reading;
