@@ -1,5 +1,5 @@
 -- Maps by the bytes of their names, and the anchor that is made where there is no fault.
-use Rattle.std.proofs.Common.{◌≡◌, ℕ, cond, List, [], ◌∷◌, Option, None, Some, Result, Ok, Err, String, string_bytes, is_none, IfOk, refl, sym, ap, ◌∙◌}
+use Rattle.std.proofs.Common.{◌≡◌, ℕ, cond, List, [], ◌∷◌, None, Some, Result, Ok, Err, String, string_bytes, is_none, IfOk, refl, sym, ap, ◌∙◌}
 use Rattle.std.specs.BTreeMap.{insert_entry, is_at}
 use Rattle.std.specs.Map.{lookup}
 use Rattle.std.specs.Ordering.{match_ordering, nat_cmp}
@@ -16,7 +16,7 @@ use Rattle.op_model.specs.Histories.{History}
 use Rattle.op_model.specs.declared.anchor.Anchor.{Anchor}
 use Rattle.op_model.specs.declared.anchor.Bias.{Bias}
 use Rattle.op_model.specs.declared.faults.PlaceFault.{PlaceFault}
-use Rattle.session_replay.specs.Names.{Names, anchor_made, by_bytes, under, with_name}
+use Rattle.session_replay.specs.Names.{anchor_made, by_bytes, under, with_name}
 
 module _ {X Y : Type 0} where
   -- what a map has at the bytes of a name

@@ -1,5 +1,5 @@
 -- What a session keeps under names, for all its replicas: anchors and versions.
-use Rattle.std.specs.Prelude.{ℕ, List, [], map, Option, None, Some, String, string_bytes, is_none, if◌then◌else◌}
+use Rattle.std.specs.Prelude.{ℕ, List, map, Option, None, Some, String, string_bytes, is_none, if◌then◌else◌}
 use Rattle.std.specs.BTreeMap.{insert_entry}
 use Rattle.std.specs.Map.{lookup}
 use Rattle.std.specs.Ordering.{nat_cmp}

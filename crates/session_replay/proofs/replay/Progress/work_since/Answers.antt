@@ -1,8 +1,8 @@
-use Rattle.std.proofs.Common.{◌≡◌, ◌++◌, [], ◌∷◌, None, Some, sym, ap, ◌∙◌}
+use Rattle.std.proofs.Common.{◌≡◌, ◌++◌, None, Some, sym, ap, ◌∙◌}
 use Rattle.std.specs.Option.{option_copied}
 use Rattle.session_lines.specs.Report.{report_text}
 use Rattle.session_lines.specs.declared.report.Report.TheVariants as report
-use Rattle.session_replay.specs.Names.{since_answer, under}
+use Rattle.session_replay.specs.Names.{under}
 use Rattle.session_replay.specs.Work.{history_at, since_reports}
 use Rattle.session_replay.specs.Working.{state_of}
 use Rattle.session_replay.proofs.Steps.{line_reported, nothing_written, of_history, of_no_history}
