@@ -6,7 +6,7 @@ use Rattle.session_lines.specs.declared.session.SessionLine.TheVariants.{Edit, G
 use Rattle.session_maker.specs.Draws.{drawn, next}
 use Rattle.session_maker.specs.Made.{made_lines}
 
--- the numbers that are drawn from by seed 1
+-- what is drawn by the seed of one
 pub third_draw : next (next (next 1)) / 65536 ≡ 10113
 third_draw = refl
 

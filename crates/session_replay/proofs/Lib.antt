@@ -10,4 +10,5 @@ pub mod OperationLines
 pub mod Replicas
 pub mod Outcome
 pub mod Sent
+pub mod Rounds
 pub mod Rows

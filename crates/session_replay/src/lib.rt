@@ -6,6 +6,7 @@
 
 mod counts;
 mod laws;
+mod making;
 mod memory;
 mod outside;
 mod queries;
@@ -13,7 +14,6 @@ mod replay;
 mod replica;
 mod top;
 mod traffic;
-mod words;
 
 pub use counts::ReadCounts;
 pub use laws::{plain_with_workers, plain_without_queries, plain_without_workers};
