@@ -11,4 +11,5 @@ pub mod Named
 pub mod Replicas
 pub mod Outcome
 pub mod Sent
+pub mod Rounds
 pub mod Rows

@@ -1,5 +1,5 @@
 -- Worked rows, from the bytes of a session to those of its report: the definitions compute.
-use Rattle.std.proofs.Common.{◌≡◌, ℕ, [], ◌∷◌, Some, None, refl}
+use Rattle.std.proofs.Common.{◌≡◌, ℕ, [], ◌∷◌, refl}
 use Rattle.std.specs.Prelude.{codes}
 use Rattle.std.specs.Fmt.{digits}
 use Rattle.std.specs.Str.{is_utf8, chars}
@@ -14,10 +14,9 @@ use Rattle.session_lines.specs.Report.{report_text, line_text, made_line, refuse
 use Rattle.text_dims.specs.Counts.{utf16_count, newline_count, rows, last_row}
 use Rattle.text_dims.specs.Places.{end_place, places}
 use Rattle.snapshot_search.specs.Starts.{starts}
-use Rattle.session_replay.specs.Words.{command_from}
 use Rattle.session_replay.specs.Queries.{report_of}
 use Rattle.session_replay.specs.Replay.{answer_of}
-use Rattle.session_replay.specs.declared.words.Command.TheVariants.{Check, Replay}
+use Rattle.command_words.specs.declared.command.Task.TheVariants.{Check, Replay}
 use Rattle.session_replay.specs.declared.top.Status.TheVariants as status
 use Rattle.lamport_clock.specs.Stamps.{later, same_stamp}
 use Rattle.op_model.specs.Cells.{same_cell, sibling_first, seq_where, seq}
@@ -32,37 +31,6 @@ use Rattle.op_model.specs.Settled.{pass, passes, settled}
 unfoldable open_histories : ℕ
 unfolding later same_stamp same_cell sibling_first seq_where seq deleters_where shown_where shown text_where text full_where full made_at made_undo answer pass passes settled
 open_histories = 0
-
--- ---- words
-
-pub replay_words : command_from (codes "replay" ∷ []) ≡ Some (Replay 2)
-replay_words = refl
-
-pub check_words : command_from (codes "check" ∷ []) ≡ Some Check
-check_words = refl
-
-pub other_words : command_from (codes "replay" ∷ codes "--workers" ∷ []) ≡ None
-other_words = refl
-
-pub words_of_no_worker : command_from (codes "replay" ∷ codes "--workers" ∷ codes "0" ∷ []) ≡ Some (Replay 0)
-unfolding digits
-words_of_no_worker = refl
-
-pub words_of_all_workers : command_from (codes "replay" ∷ codes "--workers" ∷ codes "16" ∷ []) ≡ Some (Replay 16)
-unfolding digits
-words_of_all_workers = refl
-
-pub words_of_too_many : command_from (codes "replay" ∷ codes "--workers" ∷ codes "17" ∷ []) ≡ None
-unfolding digits
-words_of_too_many = refl
-
-pub words_with_a_leading_zero : command_from (codes "replay" ∷ codes "--workers" ∷ codes "02" ∷ []) ≡ None
-unfolding digits
-words_with_a_leading_zero = refl
-
-pub words_of_a_checked_worker : command_from (codes "check" ∷ codes "--workers" ∷ codes "2" ∷ []) ≡ None
-unfolding digits
-words_of_a_checked_worker = refl
 
 -- ---- sessions and their reports
 

@@ -1,7 +1,7 @@
 // A session worked line by line, and its report.
-ghost use Rattle.std.specs.Prelude.{◌≡◌, ◌≤◌, ◌+◌, ◌++◌, ◌==◌, [], ◌∷◌, length, map, ℕ, Some, IfOk, OnOk};
+ghost use Rattle.std.specs.Prelude.{◌≡◌, ◌≤◌, ◌+◌, ◌^◌, ◌++◌, ◌==◌, [], ◌∷◌, is_some, length, map, ℕ, Some, IfOk, OnOk};
 ghost use Rattle.std.specs.Option.{option_copied, option_map};
-ghost use Rattle.std.specs.List.{All, flat_map, position};
+ghost use Rattle.std.specs.List.{All, count_by, flat_map, position};
 ghost use Rattle.op_model.specs.Operations.{stamp_of};
 ghost use Rattle.op_model.specs.declared.operation.Operation.TheVariants.{Edit, Undo};
 ghost use Rattle.session_lines.specs.Report.{report_text};
@@ -10,6 +10,7 @@ ghost use Rattle.session_lines.specs.declared.report.Report.{Report};
 ghost use Rattle.session_lines.specs.declared.session.SessionLine.{SessionLine};
 ghost use Rattle.session_replay.specs.Work.{after_all, all_events, at_end, buffer_of, events, next_number, numbered, opened, step};
 ghost use Rattle.session_replay.specs.Queries.{plain_line, queries_from, query_at, report_of};
+ghost use Rattle.session_replay.specs.Making.{text_len};
 ghost use Rattle.session_replay.specs.Working.{state_of};
 ghost use Rattle.text_buffer.specs.Buffer.{BufferState};
 
@@ -250,7 +251,7 @@ impl Progress {
 
     /// Works a line.
     #[tactic(auto, using(crate::proofs::Steps::nothing_written))]
-    fn work_line(&mut self, alloc: Global, line: &SessionLine) -> Result<(), AllocError>
+    pub fn work_line(&mut self, alloc: Global, line: &SessionLine) -> Result<(), AllocError>
         ensures report { OnOk result (self.new.report.items ≡ self.old.report.items ++ report_text (events line.now (state_of self.old))) }
         ensures state { OnOk result (state_of self.new ≡ step line.now (state_of self.old)) }
     {
@@ -276,6 +277,51 @@ impl Progress {
             SessionLine::Offset { .. } => {}
         }
         Ok(())
+    }
+}
+
+impl Progress {
+    /// Replicas over a base, which have done nothing yet.
+    pub fn new(alloc: Global, ids: &[u16], base: &str) -> Result<Progress, AllocError>
+        requires ids { All (λ (r : ℕ). (1 ≤ r) × (r ≤ 1023)) ids.now }
+        requires base { length base.now ≤ 67108864 }
+        ensures buffers { IfOk result (λ p. p.replicas.items ≡ map (opened base.now) ids.now) }
+        ensures operations { IfOk result (λ p. p.operations.items ≡ []) }
+    {
+        Ok(Progress {
+            replicas: replicas_over(alloc, ids, base)?,
+            operations: Vec::new(alloc),
+            report: Vec::new(alloc),
+        })
+    }
+
+    /// How many bytes the text of the replica with that id has, if it is there.
+    pub fn text_len(&self, id: u16) -> u64
+        ensures len { result ≡ text_len (buffer_of id self.now.replicas.items) }
+        ensures bound { result ≤ 2 ^ 40 }
+    {
+        match place_of(self.replicas.as_slice(), id) {
+            Some(place) => self.replicas[place].text_len(),
+            None => 0,
+        }
+    }
+
+    /// The replicas, in the header's order.
+    pub fn replicas(&self) -> &[Replica]
+        ensures { result.now ≡ self.now.replicas.items }
+    {
+        self.replicas.as_slice()
+    }
+
+    /// How many operation lines made an operation.
+    pub fn made_count(&self) -> u64
+        ensures { result ≡ count_by is_some self.now.operations.items }
+    {
+        let mut count = 0;
+        for operation in &self.operations {
+            count += operation.is_some() as u64;
+        }
+        count
     }
 }
 

@@ -9,6 +9,8 @@ mod examples;
 #[cfg(test)]
 mod long;
 #[cfg(test)]
+mod making;
+#[cfg(test)]
 mod merging;
 #[cfg(test)]
 mod names;
@@ -20,5 +22,7 @@ mod reading;
 mod replaying;
 #[cfg(test)]
 mod undoing;
+#[cfg(test)]
+mod words;
 #[cfg(test)]
 mod writing;
