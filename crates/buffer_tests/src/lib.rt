@@ -7,8 +7,6 @@ mod answers;
 #[cfg(test)]
 mod applying;
 #[cfg(test)]
-mod laid_cells;
-#[cfg(test)]
 mod names;
 pub mod operations;
 #[cfg(test)]

@@ -157,7 +157,7 @@ all_settled : (h : History) (v : Entries) (u : List UndoEntry) (fs : List Fragme
 all_settled h v u [] e c s = tt
 all_settled h v u (f ∷ fs) e c s = ((λ n. same_then h v f u e s.0 n c.0), all_settled h v u fs e c.1 s.1)
 
-settled : (fs : List Fragment) (u : List UndoEntry) (v : Entries) (h : History) → MayTell fs u v h → Each (IsSettled u v) fs
+pub settled : (fs : List Fragment) (u : List UndoEntry) (v : Entries) (h : History) → MayTell fs u v h → Each (IsSettled u v) fs
 settled fs u v h m = all_settled h v u fs m.stands.counts (have_cells h fs m.stands.filled (subst (Each (IsTold h)) (sym m.stands.cells) (all_told h (cells (seq h))))) m.stands.undos
 
 pub since_is : (fs : List Fragment) (u : List UndoEntry) (v : Entries) (es : List TextEdit) → (Each (IsSettled u v) fs → es ≡ edits_of 0 0 (fate_runs (fates_of u v fs)))

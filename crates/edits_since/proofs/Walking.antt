@@ -1,12 +1,12 @@
 -- One walk over fragments, which goes over those of which the version has seen all in one step.
-use Rattle.std.proofs.Common.{◌≡◌, ℕ, zero, suc, ◌+◌, ◌-◌, ◌<◌, ◌≤◌, ◌^◌, min, Bool, true, false, cond, List, [], ◌∷◌, ◌++◌, length, take, drop, refl, sym, ap, ◌∙◌, arith, subst, Option, Some, None, append_assoc, append-nil, length-append, ne_eqb}
-use Rattle.std.proofs.Math.Seq.{drop-append_seam}
+use Rattle.std.proofs.Common.{◌≡◌, ℕ, zero, suc, ◌+◌, ◌-◌, ◌<◌, ◌≤◌, ◌^◌, min, Bool, true, false, cond, List, [], ◌∷◌, ◌++◌, length, take, drop, refl, sym, ap, ◌∙◌, arith, subst, Some, None, append_assoc, append-nil, ne_eqb}
 use Rattle.std.specs.List.{slice_get}
 use Rattle.sum_tree.specs.Laws.{fold}
 use Rattle.tree_cursor.specs.Places.{place_behind, filter_count}
 use Rattle.lamport_clock.specs.Versions.{Entries}
 use Rattle.op_model.specs.declared.anchor.TextEdit.{TextEdit}
 use Rattle.op_model.specs.Sorted.{Each}
+use Rattle.op_model.proofs.WholeTexts.{each_left, each_right}
 use Rattle.op_model.specs.Since.{Fate, fate, runs, edits_of}
 use Rattle.op_model.specs.Since.Fate.{Kept}
 use Rattle.undo_map.specs.declared.entry.UndoEntry.{UndoEntry}
@@ -16,11 +16,12 @@ use Rattle.fragments.specs.Laws.{shown_len}
 use Rattle.remote_edit.specs.Carried.{hidden_len}
 use Rattle.remote_edit.specs.Passed.{move_passed}
 use Rattle.remote_edit.proofs.PassedPlaces.{shown_append_len, hidden_append_len, whole_sum}
-use Rattle.remote_edit.proofs.UndoMoves.{both, IsBehind, behind_place, Unkept, find_next, find_none}
+use Rattle.remote_edit.proofs.UndoMoves.{both, IsBehind, Unkept}
 use Rattle.edits_since.specs.declared.open_run.OpenRun.{OpenRun}
 use Rattle.edits_since.specs.Fates.{was_in_text, alike, fates_of}
 use Rattle.edits_since.specs.Differs.{may_differ}
 use Rattle.edits_since.specs.Opened.{at_start, all_edits, old_end, new_end, with_kept, with_bytes}
+use Rattle.edits_since.proofs.Finding.{Place, find, stop, find_end}
 use Rattle.edits_since.proofs.Runs.{edits_on, with_fates, over_kept, over_bytes, from_start, at_end, Same, same_after, alike_more, never_on}
 
 -- a fragment of which v has seen all was in its text where it is shown now
@@ -83,21 +84,11 @@ module _ (u : List UndoEntry) (v : Entries) where
           ∙ ap (λ (z : List Fate). edits_on old new g m z) (alike_more x.len (shown_len xs) Kept s)
       go false ih old new g m = never_on x.len old new g m (f_of xs ++ s) ∙ ih old new g m
 
-each_left : {A : Type 0} (P : A → Type 0) (xs ys : List A) → Each P (xs ++ ys) → Each P xs
-each_left P [] ys e = tt
-each_left P (x ∷ xs) ys e = (e.0, each_left P xs ys e.1)
-
-each_right : {A : Type 0} (P : A → Type 0) (xs ys : List A) → Each P (xs ++ ys) → Each P ys
-each_right P [] ys e = e
-each_right P (x ∷ xs) ys e = each_right P xs ys e.1
-
 -- the edits of the fragments before a place, and those to come
 pub record Walking (u : List UndoEntry) (v : Entries) (fs : List Fragment) (r : OpenRun) (shown hidden next : ℕ) : Type 0 where
   pub pre : List Fragment
   pub rest : List Fragment
-  pub whole : fs ≡ pre ++ rest
-  pub count : next ≡ length pre
-  pub at : IsBehind shown hidden pre
+  pub place : Place fs pre rest shown hidden next
   pub old_low : old_end r ≤ total pre
   pub new_low : new_end r ≡ shown_len pre
   pub edits : Each (IsSettled u v) fs → with_fates r (fates_of u v rest) ≡ edits_of 0 0 (runs (fates_of u v fs))
@@ -106,9 +97,7 @@ pub begin : (u : List UndoEntry) (v : Entries) (fs : List Fragment) (r : OpenRun
 begin u v fs r shown hidden next a b c d = record {
   pre = [];
   rest = fs;
-  whole = refl;
-  count = d;
-  at = record { shown_is = b; hidden_is = c };
+  place = record { whole = refl; count = d; at = record { shown_is = b; hidden_is = c } };
   old_low = let e = ap old_end a in omega (arith, e);
   new_low = let e = ap new_end a in omega (arith, e);
   edits = λ e. ap (λ (x : OpenRun). with_fates x (fates_of u v fs)) a ∙ from_start (fates_of u v fs);
@@ -116,25 +105,8 @@ begin u v fs r shown hidden next a b c d = record {
 
 module _ (u : List UndoEntry) (v w : Entries) (fs items : List Fragment) (r : OpenRun) (shown hidden next : ℕ) (fits : SummaryFits (fold no_fragments summaries summary_of fs)) (w_is : w ≡ v) (items_are : items ≡ fs)
     (p : Walking u v fs r shown hidden next) where
-  dropped : drop next items ≡ p.rest
-  dropped = ap (drop next) (items_are ∙ p.whole) ∙ ap (λ (k : ℕ). drop k (p.pre ++ p.rest)) p.count ∙ drop-append_seam p.pre p.rest
-
   abbrev over : ℕ
   over = filter_count (may_differ w) summary_of (drop next items)
-
-  abbrev rest_over : ℕ
-  rest_over = filter_count (may_differ v) summary_of p.rest
-
-  over_is : over ≡ rest_over
-  over_is = ap (filter_count (may_differ w) summary_of) dropped ∙ ap (λ (x : Entries). filter_count (may_differ x) summary_of p.rest) w_is
-
-  get_ahead : (pre : List Fragment) (i n : ℕ) → i ≡ length pre + n → slice_get (pre ++ p.rest) i ≡ slice_get p.rest n
-  get_ahead [] i n e = ap (slice_get p.rest) (let q : i ≡ n = omega arith in q)
-  get_ahead (y ∷ pre) zero n e = absurd (omega arith)
-  get_ahead (y ∷ pre) (suc i) n e = get_ahead pre i n (omega arith)
-
-  get_rest : (o : Option Fragment) → slice_get items (next + over) ≡ o → slice_get p.rest rest_over ≡ o
-  get_rest o h = sym (get_ahead p.pre (next + over) rest_over (let a = over_is in let b = p.count in omega arith)) ∙ ap (λ (z : List Fragment). slice_get z (next + over)) (sym (items_are ∙ p.whole)) ∙ h
 
   -- a stretch that is gone over: the bytes from the place to s, h are kept
   pub record Over (xs ys : List Fragment) (s : ℕ) : Type 0 where
@@ -147,9 +119,9 @@ module _ (u : List UndoEntry) (v w : Entries) (fs items : List Fragment) (r : Op
 
   stretch : (xs ys : List Fragment) (s h : ℕ) → p.rest ≡ xs ++ ys → Each (Unkept (may_differ v) summary_of) xs → IsBehind s h (p.pre ++ xs) → Over xs ys s
   stretch xs ys s h e n b =
-      let a = b.shown_is in let o = p.at.shown_is in let q = shown_append_len p.pre xs in let l = hidden_append_len p.pre xs in
+      let a = b.shown_is in let o = p.place.at.shown_is in let q = shown_append_len p.pre xs in let l = hidden_append_len p.pre xs in
       let t = total_fits fs fits in
-      let z : total fs ≡ total p.pre + total (xs ++ ys) = ap total p.whole ∙ total_append p.pre p.rest ∙ ap (λ (k : List Fragment). total p.pre + total k) e in
+      let z : total fs ≡ total p.pre + total (xs ++ ys) = ap total p.place.whole ∙ total_append p.pre p.rest ∙ ap (λ (k : List Fragment). total p.pre + total k) e in
       let y = total_append xs ys in
       let i = p.old_low in let j = p.new_low in
       let x : s - shown ≡ shown_len xs = omega (arith, a, o, q) in
@@ -160,7 +132,7 @@ module _ (u : List UndoEntry) (v w : Entries) (fs items : List Fragment) (r : Op
         old_low = omega (arith, i, x, q, l);
         new_low = omega (arith, j, x, q);
         edits = λ k.
-            let m : Each (IsSettled u v) xs = each_left (IsSettled u v) xs ys (subst (Each (IsSettled u v)) e (each_right (IsSettled u v) p.pre p.rest (subst (Each (IsSettled u v)) p.whole k))) in
+            let m : Each (IsSettled u v) xs = each_left (IsSettled u v) xs ys (subst (Each (IsSettled u v)) e (each_right (IsSettled u v) p.pre p.rest (subst (Each (IsSettled u v)) p.place.whole k))) in
             over_kept (s - shown) r (fates_of u v ys)
             ∙ ap (λ (c : ℕ). with_fates r (alike c Kept ++ fates_of u v ys)) x
             ∙ ap (λ (c : List TextEdit). r.edits ++ c) (sym (same_over u v xs (fates_of u v ys) n m r.old_start r.new_start r.gone r.fresh))
@@ -177,35 +149,23 @@ module _ (u : List UndoEntry) (v w : Entries) (fs items : List Fragment) (r : Op
   pub come : (x : Fragment) (items2 : List Fragment) (i s h s2 h2 v0 h0 after : ℕ) → items2 ≡ items → slice_get items (next + over) ≡ Some x → i ≡ next + over → after ≡ min (i + 1) (length items) → v0 ≡ 0 → h0 ≡ 0
       → both s h ≡ place_behind move_passed summary_of (both v0 h0) (take i items2) → both s2 h2 ≡ place_behind move_passed summary_of (both v0 h0) (take after items2) → Come x i s s2 h2 after
   come x items2 i s h s2 h2 v0 h0 after same g e o a b q t =
-      let k = find_next (may_differ v) summary_of p.rest x (get_rest (Some x) g) in
-      let before : List Fragment = p.pre ++ k.over in
-      let whole : fs ≡ before ++ x ∷ k.ahead = p.whole ∙ ap (λ (z : List Fragment). p.pre ++ z) k.parts ∙ sym (append_assoc p.pre k.over (x ∷ k.ahead)) in
-      let long = length-append p.pre k.over in
-      let count : i ≡ length before = let y = p.count in let z = k.count in let m = over_is in omega (arith, e, y, z, m, long) in
-      let start : IsBehind s h before = behind_place s h v0 h0 i items2 fs before (x ∷ k.ahead) (same ∙ items_are) whole count a b q in
-      let all = ap length whole ∙ length-append before (x ∷ k.ahead) in
-      let many = ap length items_are in
-      let next_is : after ≡ i + 1 = omega (arith, o, all, many, count) in
-      let whole2 : fs ≡ (before ++ x ∷ []) ++ k.ahead = whole ∙ sym (append_assoc before (x ∷ []) k.ahead) in
-      let long2 = length-append before (x ∷ []) in
-      let count2 : after ≡ length (before ++ x ∷ []) = omega (arith, next_is, count, long2) in
-      let end : IsBehind s2 h2 (before ++ x ∷ []) = behind_place s2 h2 v0 h0 after items2 fs (before ++ x ∷ []) k.ahead (same ∙ items_are) whole2 count2 a b t in
-      let y = stretch k.over (x ∷ k.ahead) s h k.parts k.unkept start in
+      let k = find v w fs items p.pre p.rest shown hidden next w_is items_are p.place x items2 i s h v0 h0 same g e a b q in
+      let before : List Fragment = p.pre ++ k.xs in
+      let z = stop v w fs items p.pre p.rest shown hidden next w_is items_are p.place x items2 i s h s2 h2 v0 h0 after k same o a b t in
+      let y = stretch k.xs (x ∷ k.ahead) s h k.parts k.unkept k.start in
       let kept = kept_ends (s - shown) r in
       let ends = passed_ends x.len (was_in_text u v x) x.visible (with_kept (s - shown) r) in
       record {
-        within = omega (arith, all, count);
-        forward = omega (arith, e);
-        after_is = next_is;
+        within = k.within;
+        forward = k.forward;
+        after_is = z.after_is;
         on = λ r2 f. record {
           pre = before ++ x ∷ [];
           rest = k.ahead;
-          whole = whole2;
-          count = count2;
-          at = end;
-          old_low = let m = ap old_end f in let n = ends.0 in let j = kept.0 in let z = y.old_low in let g1 = total_append before (x ∷ []) in let g2 = one_len x [] in omega (arith, m, n, j, z, g1, g2);
-          new_low = let m = ap new_end f in let n = ends.1 in let j = kept.1 in let z = y.new_low in let g1 = shown_append_len before (x ∷ []) in let g2 = one_shown x in omega (arith, m, n, j, z, g1, g2);
-          edits = λ z. ap (λ (c : OpenRun). with_fates c (fates_of u v k.ahead)) f ∙ over_bytes x.len (was_in_text u v x) x.visible (with_kept (s - shown) r) (fates_of u v k.ahead) ∙ y.edits z;
+          place = z.place;
+          old_low = let m = ap old_end f in let n = ends.0 in let j = kept.0 in let l = y.old_low in let g1 = total_append before (x ∷ []) in let g2 = one_len x [] in omega (arith, m, n, j, l, g1, g2);
+          new_low = let m = ap new_end f in let n = ends.1 in let j = kept.1 in let l = y.new_low in let g1 = shown_append_len before (x ∷ []) in let g2 = one_shown x in omega (arith, m, n, j, l, g1, g2);
+          edits = λ n. ap (λ (c : OpenRun). with_fates c (fates_of u v k.ahead)) f ∙ over_bytes x.len (was_in_text u v x) x.visible (with_kept (s - shown) r) (fates_of u v k.ahead) ∙ y.edits n;
         };
       }
 
@@ -218,12 +178,8 @@ module _ (u : List UndoEntry) (v w : Entries) (fs items : List Fragment) (r : Op
   pub start : (x : Fragment) (items2 : List Fragment) (i s h v0 h0 : ℕ) → items2 ≡ items → slice_get items (next + over) ≡ Some x → i ≡ next + over → v0 ≡ 0 → h0 ≡ 0
       → both s h ≡ place_behind move_passed summary_of (both v0 h0) (take i items2) → Started x s
   start x items2 i s h v0 h0 same g e a b q =
-      let k = find_next (may_differ v) summary_of p.rest x (get_rest (Some x) g) in
-      let before : List Fragment = p.pre ++ k.over in
-      let whole : fs ≡ before ++ x ∷ k.ahead = p.whole ∙ ap (λ (z : List Fragment). p.pre ++ z) k.parts ∙ sym (append_assoc p.pre k.over (x ∷ k.ahead)) in
-      let long = length-append p.pre k.over in
-      let count : i ≡ length before = let y = p.count in let z = k.count in let m = over_is in omega (arith, e, y, z, m, long) in
-      let y = stretch k.over (x ∷ k.ahead) s h k.parts k.unkept (behind_place s h v0 h0 i items2 fs before (x ∷ k.ahead) (same ∙ items_are) whole count a b q) in
+      let k = find v w fs items p.pre p.rest shown hidden next w_is items_are p.place x items2 i s h v0 h0 same g e a b q in
+      let y = stretch k.xs (x ∷ k.ahead) s h k.parts k.unkept k.start in
       let l = one_len x k.ahead in
       let c = y.old_room in let d = y.new_room in
       record { low = y.low; old_room = omega (arith, c, l); new_room = omega (arith, d, l) }
@@ -237,13 +193,8 @@ module _ (u : List UndoEntry) (v w : Entries) (fs items : List Fragment) (r : Op
 
   pub end : (items2 : List Fragment) (i s h v0 h0 : ℕ) → items2 ≡ items → slice_get items (next + over) ≡ None → i ≡ next + over → v0 ≡ 0 → h0 ≡ 0 → both s h ≡ place_behind move_passed summary_of (both v0 h0) (take i items2) → Ended s
   end items2 i s h v0 h0 same g e a b q =
-      let k = find_none (may_differ v) summary_of p.rest (get_rest None g) in
-      let none : p.rest ≡ p.rest ++ [] = sym (append-nil p.rest) in
-      let whole : fs ≡ (p.pre ++ p.rest) ++ [] = p.whole ∙ sym (append-nil (p.pre ++ p.rest)) in
-      let long = length-append p.pre p.rest in
-      let count : i ≡ length (p.pre ++ p.rest) = let y = p.count in let z = k.count in let m = over_is in omega (arith, e, y, z, m, long) in
-      let start : IsBehind s h (p.pre ++ p.rest) = behind_place s h v0 h0 i items2 fs (p.pre ++ p.rest) [] (same ∙ items_are) whole count a b q in
-      let y = stretch p.rest [] s h none k.unkept start in
+      let k = find_end v w fs items p.pre p.rest shown hidden next w_is items_are p.place items2 i s h v0 h0 same g e a b q in
+      let y = stretch p.rest [] s h (sym (append-nil p.rest)) k.unkept k.start in
       let c = y.old_room in let d = y.new_room in
       record {
         low = y.low;

@@ -3,3 +3,4 @@ pub mod Differs
 pub mod Opened
 pub mod Telling
 pub mod Laws
+pub mod Back

@@ -29,9 +29,9 @@ impl<'v> Keep<FragmentSummary> for MayDiffer<'v> {
     }
 }
 
-/// Whether a fragment was in the text that the version saw: the version sees its edit, which was not undone there, and each
-/// edit that deletes it and that the version sees was. It is a look-up of the undo counts for each of these edits, without memory.
-pub fn was_in_text(fragment: &Fragment, undos: &UndoMap, version: &Version) -> bool
+// Whether a fragment was in the text that the version saw: the version sees its edit, which was not undone there, and each
+// edit that deletes it and that the version sees was. It is a look-up of the undo counts for each of these edits, without memory.
+pub(crate) fn was_in_text(fragment: &Fragment, undos: &UndoMap, version: &Version) -> bool
     ensures { result ≡ was_in_text undos.now version.now fragment.now }
 {
     version.sees(fragment.stamp)

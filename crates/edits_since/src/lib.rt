@@ -1,4 +1,4 @@
-//! Edits since a version: what took the text that the version saw to the text now, found among fragments.
+//! Edits since a version: what took the text that the version saw to the text now, and what takes it back, found among fragments.
 #![tactic(auto)]
 
 mod differ;
@@ -6,12 +6,13 @@ mod edits;
 mod laws;
 mod open_run;
 mod telling;
+mod way_back;
 
-pub use differ::was_in_text;
 pub use edits::Edits;
 pub use laws::edits_take_then_to_now;
 pub use std::alloc::AllocError as OutOfMemory;
 pub use telling::since;
+pub use way_back::moves_back;
 
 fn sends<T: Send>(_value: &T) {}
 

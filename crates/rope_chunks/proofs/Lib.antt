@@ -7,3 +7,4 @@ pub mod RowEnds
 pub mod PointClips
 pub mod Spots
 pub mod Changes
+pub mod Tails

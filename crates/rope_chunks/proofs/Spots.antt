@@ -79,7 +79,7 @@ part_whole cs o some within = record {
 regroup : (a j t k b : List (List ℕ)) → a ++ ((j ++ (t ++ k)) ++ b) ≡ (a ++ j) ++ (t ++ (k ++ b))
 regroup a j t k b = rw (append_assoc j (t ++ k) b, append_assoc t k b, append_assoc a j (t ++ (k ++ b))) refl
 
-around_child : (ts : List (Seen (List ℕ))) (k : ℕ) (t : Seen (List ℕ)) → k < length ts → t ≡ get_or ts k t → joined ts ≡ joined (take k ts) ++ (t.items ++ joined (drop (k + 1) ts))
+pub around_child : (ts : List (Seen (List ℕ))) (k : ℕ) (t : Seen (List ℕ)) → k < length ts → t ≡ get_or ts k t → joined ts ≡ joined (take k ts) ++ (t.items ++ joined (drop (k + 1) ts))
 around_child ts k t within read =
     sym (joined-split ts (k + 1))
     ∙ ap (λ xs. xs ++ joined (drop (k + 1) ts)) (joined-take_more ts k t within read)

@@ -6,7 +6,7 @@ ghost use Rattle.sum_tree.specs.Spliced.{spliced};
 ghost use Rattle.rope_chunks.specs.Chunks.{IsChunk, AreChunks};
 
 use crate::OutOfMemory;
-use crate::chunk::{CHUNK_BYTES, Chunk};
+use crate::chunk::{CHUNK_BYTES, Chunk, LEAST_BYTES};
 use crate::pieces::{cut_up, filled};
 use crate::rope::Rope;
 use std::alloc::Global;
@@ -18,9 +18,9 @@ impl Rope {
         requires { length text.now ≤ 2 ^ 40 }
         ensures { IfOk result (λ rope. rope ≡ text.now) }
     {
-        let mut chunks = Vec::new(alloc);
-        cut_up(&mut chunks, text)?;
-        let chunks = tree_of(alloc, chunks)?;
+        let mut pieces = Vec::with_capacity(alloc, text.len() / LEAST_BYTES + 1)?;
+        cut_up(&mut pieces, text)?;
+        let chunks = tree_of(alloc, pieces)?;
         Ok(Rope { chunks })
     }
 
@@ -54,12 +54,9 @@ impl Rope {
     pub fn to_string(&self, alloc: Global) -> Result<String, OutOfMemory>
         ensures { IfOk result (λ text. string_bytes text ≡ self.now) }
     {
-        let mut text = String::new(alloc);
-        for i in 0..self.chunks.len() {
-            match self.chunks.get(i) {
-                Some(chunk) => text.push_str(chunk.as_str())?,
-                None => {}
-            }
+        let mut text = String::with_capacity(alloc, self.len() as usize)?;
+        for chunk in self.chunks() {
+            text.push_str(chunk)?;
         }
         Ok(text)
     }

@@ -1,29 +1,33 @@
 //! A rope's chunks, lent one by one.
-ghost use Rattle.std.specs.Prelude.{◌≡◌};
+ghost use Rattle.std.specs.Prelude.{◌≡◌, ◌+◌, ◌<◌, ◌++◌, List, ℕ, length, take, drop, slice_index_or};
 ghost use Rattle.std.specs.Iterator.{YieldsFirstRef, item_count};
 ghost use Rattle.std.specs.List.{concat};
+ghost use Rattle.sum_tree.specs.Seen.{Seen};
+ghost use Rattle.sum_tree.specs.Shape.{joined};
 
 use crate::chunk::Chunk;
 use crate::rope::Rope;
 use std::marker::Model;
-use sum_tree::SumTree;
+use sum_tree::{Entry, Parts, SumTree};
 
 /// The texts of a rope's chunks, from the first to the last: one after the other they are the rope's text.
 ///
-/// Each step is a plain descent to the chunk; nothing is copied, and no memory is taken. Contracts see the texts that are
-/// left.
+/// They are lent leaf by leaf, with one plain descent for each leaf; nothing is copied, and no memory is taken. Contracts see
+/// the texts that are left.
 #[derive(Drop)]
 pub struct Chunks<'a> {
     chunks: &'a SumTree<Chunk>,
+    // What is left of a leaf, and the index of the chunk that follows it.
+    entries: &'a [Entry<Chunk>],
     next: u64,
 }
 
 impl<'a> Model for Chunks<'a> {
-    ghost use Rattle.std.specs.Prelude.{List, ℕ, drop};
+    ghost use Rattle.std.specs.Prelude.{List, ℕ, ◌++◌, drop};
 
     ghost Value = { List (List ℕ) };
 
-    ghost view = { λ chunks. drop chunks.next chunks.chunks.now.items };
+    ghost view = { λ left. left.entries.now ++ drop left.next left.chunks.now.items };
 }
 
 impl<'a> Iterator for Chunks<'a> {
@@ -34,12 +38,58 @@ impl<'a> Iterator for Chunks<'a> {
     ghost remaining = { item_count (λ left. left) };
 
     fn next(&mut self) -> Option<&'a str> {
-        self.chunks.known();
-        match self.chunks.get(self.next) {
-            None => None,
-            Some(chunk) => {
-                self.next += 1;
-                Some(chunk.as_str())
+        match self.entries.split_first() {
+            Some((entry, rest)) => {
+                self.entries = rest;
+                Some(entry.item().as_str())
+            }
+            None => {
+                self.chunks.known();
+                if self.next >= self.chunks.len() {
+                    return None;
+                }
+                let entries = leaf_from(self.chunks, self.next);
+                self.next += entries.len() as u64;
+                self.entries = &entries[1..];
+                Some(entries[0].item().as_str())
+            }
+        }
+    }
+}
+
+// The child that holds chunk i of them all, and the chunk's index there.
+fn child_with(children: &[SumTree<Chunk>], i: u64) -> (usize, u64)
+    requires { i < length (joined children.now) }
+    ensures child { result.0 < length children.now }
+    ensures within { (d : Seen (List ℕ)) → result.1 < length (slice_index_or children.now result.0 d).items }
+    ensures before { length (joined (take result.0 children.now)) + result.1 ≡ i }
+{
+    let mut rest = i;
+    for (k, child) in children.iter().enumerate() {
+        let len = child.len();
+        if rest < len {
+            return (k, rest);
+        }
+        rest -= len;
+    }
+    unreachable!()
+}
+
+// What is left of a leaf from chunk `index` on.
+fn leaf_from(tree: &SumTree<Chunk>, index: u64) -> &[Entry<Chunk>]
+    requires { index < length tree.now.items }
+    ensures some { 0 < length result.now }
+    ensures rest { drop index tree.now.items ≡ result.now ++ drop (index + length result.now) tree.now.items }
+{
+    let mut node = tree;
+    let mut rest = index;
+    loop {
+        match node.parts() {
+            Parts::Leaf(entries) => return &entries[rest as usize..],
+            Parts::Inner(children) => {
+                let (k, i) = child_with(children, rest);
+                node = &children[k];
+                rest = i;
             }
         }
     }
@@ -52,6 +102,7 @@ impl Rope {
     {
         Chunks {
             chunks: &self.chunks,
+            entries: &[],
             next: 0,
         }
     }

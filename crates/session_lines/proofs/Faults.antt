@@ -3,7 +3,7 @@ use Rattle.std.proofs.Common.{◌≡◌, ℕ, ◌+◌, ◌<◌, ◌≤◌, Bool,
 use Rattle.std.specs.Prelude.{⊤}
 use Rattle.std.proofs.lemmas.Bool.{lt-ltb, le-ltb, ltb-true}
 use Rattle.session_lines.specs.Cut.{lines_of}
-use Rattle.session_lines.specs.Session.{then_from, with_header, rest_of, operation_count, header_of, line_of, session_of, decoded}
+use Rattle.session_lines.specs.Session.{then_from, with_header, rest_of, header_of, line_of, session_of, decoded}
 use Rattle.session_lines.specs.declared.header.Header.{Header as FirstLine}
 use Rattle.session_lines.specs.declared.session.SessionLine.{SessionLine}
 use Rattle.session_lines.specs.declared.session.Session.{Session}
@@ -42,7 +42,7 @@ then_bad n (Ok x) next h = h x
 
 rest_bad : (ids : List ℕ) (before : List SessionLine) (ls : List (List ℕ)) → IsBad (rest_of ids before ls)
 rest_bad ids before [] = tt
-rest_bad ids before (l ∷ ls) = then_bad (2 + length before) (line_of ids (operation_count before) l) (λ x. rest_of ids (before ++ x ∷ []) ls) (λ x. rest_bad ids (before ++ x ∷ []) ls)
+rest_bad ids before (l ∷ ls) = then_bad (2 + length before) (line_of ids before l) (λ x. rest_of ids (before ++ x ∷ []) ls) (λ x. rest_bad ids (before ++ x ∷ []) ls)
 
 with_bad : (h : FirstLine) (r : Result (List SessionLine) DecodeFault) → IsBad r → IsBad (with_header h r)
 with_bad h (Ok ls) b = tt

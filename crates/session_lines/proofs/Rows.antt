@@ -9,14 +9,21 @@ use Rattle.session_lines.specs.Cut.{lines_of}
 use Rattle.session_lines.specs.Forms.{shaped}
 use Rattle.session_lines.specs.Heading.{headed}
 use Rattle.session_lines.specs.Session.{decoded, header_of, line_of}
-use Rattle.session_lines.specs.declared.session.SessionLine.TheVariants.{Edit, Undo, Op, Uop, Give, Text, Find, Point, Offset}
-use Rattle.session_lines.specs.Report.{report_text, line_text, query_line}
+use Rattle.session_lines.specs.declared.session.SessionLine.TheVariants.{Edit, Undo, Op, Uop, Give, Text, Anchor, Where, Mark, Since, Find, Point, Offset}
+use Rattle.op_model.specs.declared.anchor.Bias.TheVariants.{Left, Right}
+use Rattle.op_model.specs.declared.faults.PlaceFault.TheVariants.{PastEnd}
+use Rattle.op_model.specs.declared.faults.SinceFault.TheVariants.{Unseen}
+use Rattle.json.specs.Print.{escape_byte}
+use Rattle.session_lines.specs.Report.{report_text, line_text, query_line, anchor_line, where_line, mark_line, since_line}
+use Rattle.session_lines.specs.declared.report.AnchorAnswer.TheVariants as anchor
+use Rattle.session_lines.specs.declared.report.WhereAnswer.TheVariants as position
+use Rattle.session_lines.specs.declared.report.SinceAnswer.TheVariants as edits
 use Rattle.session_lines.specs.declared.report.FindAnswer.TheVariants.{Starts, EmptyNeedle}
 use Rattle.session_lines.specs.declared.report.PointAnswer.TheVariants as point
 use Rattle.session_lines.specs.declared.report.OffsetAnswer.TheVariants as offset
 use Rattle.session_lines.specs.declared.report.QueryAnswer.TheVariants as query
 use Rattle.session_lines.specs.declared.report.Report.TheVariants as report
-use Rattle.session_lines.specs.declared.fault.Word.TheVariants.{Json, Header, Shape, Replica, Number}
+use Rattle.session_lines.specs.declared.fault.Word.TheVariants.{Json, Header, Shape, Replica, Number, Name}
 use Rattle.session_lines.specs.declared.fault.DecodeFault.TheVariants.{Bad}
 
 -- an empty line is one unless it is the last
@@ -138,3 +145,42 @@ pub points_found : report_text (
     ≡ codes "point 1 at 0: 0:6 3 1:3\npoint 2 at 0: none 2 6\noffset 3 at 0: 6\noffset 4 at 0: none 0:2 0:6\n"
 unfolding report_text line_text query_line digits
 points_found = refl
+
+-- ---- names
+
+-- an anchor line may be refused when it is worked, and keeps its name for the lines behind it
+pub names : decoded (codes "[\"zedbuf\",1,\"ab\",[1,2]]\n[\"anchor\",1,\"a\",9,\"left\"]\n[\"anchor\",2,\"\",0,\"right\"]\n[\"where\",2,\"a\"]\n[\"mark\",2,\"a\"]\n[\"since\",1,\"a\"]\n")
+    ≡ Ok (record {
+      version = 1;
+      base = codes "ab";
+      replicas = 1 ∷ 2 ∷ [];
+      lines = Anchor 1 (codes "a") 9 Left ∷ Anchor 2 [] 0 Right ∷ Where 2 (codes "a") ∷ Mark 2 (codes "a") ∷ Since 1 (codes "a") ∷ [];
+    })
+unfolding decoded value_of shaped headed header_of line_of is_utf8 chars serde_json_on_literals
+names = refl
+
+-- the name of a mark is none of an anchor
+pub a_name_of_a_mark : decoded (codes "[\"zedbuf\",1,\"ab\",[1]]\n[\"mark\",1,\"a\"]\n[\"where\",1,\"a\"]\n") ≡ Err (Bad 3 Name)
+unfolding decoded value_of shaped headed header_of line_of is_utf8 chars serde_json_on_literals
+a_name_of_a_mark = refl
+
+pub a_longer_name : decoded (codes "[\"zedbuf\",1,\"ab\",[1]]\n[\"mark\",1,\"a\"]\n[\"since\",1,\"ab\"]\n") ≡ Err (Bad 3 Name)
+unfolding decoded value_of shaped headed header_of line_of is_utf8 chars serde_json_on_literals
+a_longer_name = refl
+
+pub a_third_side : decoded (codes "[\"zedbuf\",1,\"ab\",[1]]\n[\"anchor\",1,\"a\",0,\"middle\"]\n") ≡ Err (Bad 2 Shape)
+unfolding decoded value_of shaped headed header_of line_of is_utf8 chars serde_json_on_literals
+a_third_side = refl
+
+pub names_told : report_text (
+    report.Anchor (codes "a") anchor.Set
+    ∷ report.Anchor (codes "\"") (anchor.Fault (PastEnd 12))
+    ∷ report.Where (codes "a") 7 (position.Place 30)
+    ∷ report.Where [] 7 position.Unknown
+    ∷ report.Mark (codes "m")
+    ∷ report.Since (codes "m") 7 (edits.Edits (record { old = (1, 2); new = (3, 4) } ∷ record { old = (5, 6); new = (7, 8) } ∷ []))
+    ∷ report.Since (codes "m") 7 (edits.Fault (Unseen 9))
+    ∷ [])
+    ≡ codes "anchor \"a\": set\nanchor \"\\\"\": pastend 12\nwhere \"a\" at 7: 30\nwhere \"\" at 7: unknown\nmark \"m\": set\nsince \"m\" at 7: 1..2 -> 3..4, 5..6 -> 7..8\nsince \"m\" at 7: unseen 9\n"
+unfolding report_text line_text anchor_line where_line mark_line since_line digits escape_byte
+names_told = refl

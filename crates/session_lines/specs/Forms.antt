@@ -7,9 +7,10 @@ use Rattle.lamport_clock.specs.declared.stamp.Lamport.{Lamport}
 use Rattle.op_model.specs.declared.operation.Piece.{Piece}
 use Rattle.op_model.specs.declared.operation.UndoCount.{UndoCount}
 use Rattle.session_lines.specs.Json.{whole, listed, is_text}
-use Rattle.session_lines.specs.Parts.{id_of, stamp_of, version_of, pieces_of, counts_of, numbers_of}
+use Rattle.op_model.specs.declared.anchor.Bias.{Bias}
+use Rattle.session_lines.specs.Parts.{id_of, stamp_of, version_of, pieces_of, counts_of, numbers_of, bias_of}
 use Rattle.session_lines.specs.declared.session.SessionLine.{SessionLine}
-use Rattle.session_lines.specs.declared.session.SessionLine.TheVariants.{Edit, Undo, Op, Uop, Give, Text, Find, Point, Offset}
+use Rattle.session_lines.specs.declared.session.SessionLine.TheVariants.{Edit, Undo, Op, Uop, Give, Text, Anchor, Where, Mark, Since, Find, Point, Offset}
 
 -- ---- the members behind the word
 
@@ -58,6 +59,31 @@ abbrev pub text_from : List Data → Option SessionLine
 text_from (r ∷ []) = option_map Text (id_of r)
 text_from _ = None
 
+abbrev pub anchor_with : Option ℕ → Option (List ℕ) → Option ℕ → Option Bias → Option SessionLine
+anchor_with r t o b = option_and_then (λ id. option_and_then (λ name. option_and_then (λ place. option_map (Anchor id name place) b) o) t) r
+
+-- r, "name", o, "left" or "right"
+abbrev pub anchor_from : List Data → Option SessionLine
+anchor_from (r ∷ t ∷ o ∷ b ∷ []) = anchor_with (id_of r) (as_str t) (whole o) (bias_of b)
+anchor_from _ = None
+
+abbrev pub name_with : Option ℕ → Option (List ℕ) → Option (ℕ × List ℕ)
+name_with r t = option_and_then (λ id. option_map (λ name. (id, name)) t) r
+
+-- r, "name"
+abbrev pub name_from : List Data → Option (ℕ × List ℕ)
+name_from (r ∷ t ∷ []) = name_with (id_of r) (as_str t)
+name_from _ = None
+
+abbrev pub where_from : List Data → Option SessionLine
+where_from ds = option_map (λ p. Where p.0 p.1) (name_from ds)
+
+abbrev pub mark_from : List Data → Option SessionLine
+mark_from ds = option_map (λ p. Mark p.0 p.1) (name_from ds)
+
+abbrev pub since_from : List Data → Option SessionLine
+since_from ds = option_map (λ p. Since p.0 p.1) (name_from ds)
+
 abbrev pub find_with : Option ℕ → Option (List ℕ) → Option SessionLine
 find_with r t = option_and_then (λ id. option_map (Find id) t) r
 
@@ -84,6 +110,17 @@ offset_from _ = None
 
 -- ---- a line, by its word
 
+-- lines that keep or ask for something under a name, and queries
+abbrev pub asking_form : Data → List Data → Option SessionLine
+asking_form w ds =
+    if is_text (codes "anchor") w then anchor_from ds else
+    if is_text (codes "where") w then where_from ds else
+    if is_text (codes "mark") w then mark_from ds else
+    if is_text (codes "since") w then since_from ds else
+    if is_text (codes "find") w then find_from ds else
+    if is_text (codes "point") w then point_from ds else
+    if is_text (codes "offset") w then offset_from ds else None
+
 abbrev pub form_of : Data → List Data → Option SessionLine
 form_of w ds =
     if is_text (codes "edit") w then edit_from ds else
@@ -91,10 +128,7 @@ form_of w ds =
     if is_text (codes "op") w then op_from ds else
     if is_text (codes "uop") w then uop_from ds else
     if is_text (codes "give") w then give_from ds else
-    if is_text (codes "text") w then text_from ds else
-    if is_text (codes "find") w then find_from ds else
-    if is_text (codes "point") w then point_from ds else
-    if is_text (codes "offset") w then offset_from ds else None
+    if is_text (codes "text") w then text_from ds else asking_form w ds
 
 abbrev pub line_from : List Data → Option SessionLine
 line_from [] = None

@@ -5,4 +5,5 @@ pub mod Parts
 pub mod Forms
 pub mod Heading
 pub mod Session
+pub mod Earlier
 pub mod Report

@@ -1,5 +1,5 @@
 -- The parts of a line.
-use Rattle.std.specs.Prelude.{ℕ, ◌<◌, List, [], ◌∷◌, map, ◌&&◌, ◌==◌, not, nat_le, Bool, true, Option, Some, None, option_map, option_and_then, if◌then◌else◌}
+use Rattle.std.specs.Prelude.{ℕ, ◌<◌, List, [], ◌∷◌, codes, map, ◌&&◌, ◌==◌, not, nat_le, Bool, true, Option, Some, None, option_map, option_and_then, if◌then◌else◌}
 use Rattle.std.specs.List.{list_any}
 use Rattle.serde_json.specs.Data.{Data}
 use Rattle.serde_json.specs.Find.{as_str}
@@ -7,7 +7,9 @@ use Rattle.lamport_clock.specs.Versions.{Entries, joined}
 use Rattle.lamport_clock.specs.declared.stamp.Lamport.{Lamport}
 use Rattle.op_model.specs.declared.operation.Piece.{Piece}
 use Rattle.op_model.specs.declared.operation.UndoCount.{UndoCount}
-use Rattle.session_lines.specs.Json.{whole, listed}
+use Rattle.op_model.specs.declared.anchor.Bias.{Bias}
+use Rattle.op_model.specs.declared.anchor.Bias.TheVariants.{Left, Right}
+use Rattle.session_lines.specs.Json.{whole, listed, is_text}
 
 -- what each member is, where each is something
 abbrev pub all_of : {A : Type 0} → (Data → Option A) → List Data → Option (List A)
@@ -119,3 +121,9 @@ counts_of d = option_and_then (all_of count_of) (listed d)
 
 abbrev pub numbers_of : Data → Option (List ℕ)
 numbers_of d = option_and_then (all_of whole) (listed d)
+
+-- ---- anchors
+
+-- the side of its place that an anchor keeps to
+abbrev pub bias_of : Data → Option Bias
+bias_of d = if is_text (codes "left") d then Some Left else if is_text (codes "right") d then Some Right else None

@@ -12,10 +12,21 @@ use Rattle.op_model.specs.declared.faults.UndoFault.{UndoFault}
 use Rattle.op_model.specs.declared.faults.UndoFault.TheVariants as undo
 use Rattle.op_model.specs.declared.faults.OpFault.{OpFault}
 use Rattle.op_model.specs.declared.faults.OpFault.TheVariants as taken
+use Rattle.op_model.specs.declared.faults.PlaceFault.{PlaceFault}
+use Rattle.op_model.specs.declared.faults.PlaceFault.TheVariants as place
+use Rattle.op_model.specs.declared.faults.SinceFault.{SinceFault}
+use Rattle.op_model.specs.declared.faults.SinceFault.TheVariants as since
+use Rattle.op_model.specs.declared.anchor.TextEdit.{TextEdit}
 use Rattle.session_lines.specs.Session.{operation_count, query_count}
 use Rattle.session_lines.specs.declared.session.Session.{Session}
 use Rattle.session_lines.specs.declared.report.Given.{Given}
 use Rattle.session_lines.specs.declared.report.Given.TheVariants as given
+use Rattle.session_lines.specs.declared.report.AnchorAnswer.{AnchorAnswer}
+use Rattle.session_lines.specs.declared.report.AnchorAnswer.TheVariants as anchor
+use Rattle.session_lines.specs.declared.report.WhereAnswer.{WhereAnswer}
+use Rattle.session_lines.specs.declared.report.WhereAnswer.TheVariants as position
+use Rattle.session_lines.specs.declared.report.SinceAnswer.{SinceAnswer}
+use Rattle.session_lines.specs.declared.report.SinceAnswer.TheVariants as edits
 use Rattle.session_lines.specs.declared.report.FindAnswer.{FindAnswer}
 use Rattle.session_lines.specs.declared.report.FindAnswer.TheVariants.{Starts, EmptyNeedle}
 use Rattle.session_lines.specs.declared.report.PointAnswer.{PointAnswer}
@@ -25,7 +36,7 @@ use Rattle.session_lines.specs.declared.report.OffsetAnswer.TheVariants as offse
 use Rattle.session_lines.specs.declared.report.QueryAnswer.{QueryAnswer}
 use Rattle.session_lines.specs.declared.report.QueryAnswer.TheVariants as query
 use Rattle.session_lines.specs.declared.report.Report.{Report}
-use Rattle.session_lines.specs.declared.report.Report.TheVariants.{Made, EditRefused, UndoRefused, Unnamed, Settled, Give, Text, Query, Replica, Refused, Final, Checked}
+use Rattle.session_lines.specs.declared.report.Report.TheVariants.{Made, EditRefused, UndoRefused, Unnamed, Settled, Give, Text, Anchor, Where, Mark, Since, Query, Replica, Refused, Final, Checked}
 
 -- ---- positions
 
@@ -108,6 +119,51 @@ given_words (given.Fault e) = op_fault_words e
 unfoldable pub give_line : ℕ → ℕ → Given → List ℕ
 give_line n r answer = codes "give " ++ (decimal n ++ (codes " to " ++ (decimal r ++ (codes ": " ++ (given_words answer ++ codes "\n")))))
 
+-- ---- anchors and marks, by their names, which are written as JSON strings
+
+abbrev pub place_fault_words : PlaceFault → List ℕ
+place_fault_words (place.PastEnd len) = codes "pastend " ++ decimal len
+place_fault_words place.InsideChar = codes "insidechar"
+
+abbrev pub anchor_words : AnchorAnswer → List ℕ
+anchor_words anchor.Set = codes "set"
+anchor_words (anchor.Fault e) = place_fault_words e
+
+unfoldable pub anchor_line : List ℕ → AnchorAnswer → List ℕ
+anchor_line name answer = codes "anchor " ++ (quoted name ++ (codes ": " ++ (anchor_words answer ++ codes "\n")))
+
+abbrev pub where_words : WhereAnswer → List ℕ
+where_words (position.Place o) = decimal o
+where_words position.Unknown = codes "unknown"
+where_words position.Nothing = codes "nothing"
+
+unfoldable pub where_line : List ℕ → ℕ → WhereAnswer → List ℕ
+where_line name r answer = codes "where " ++ (quoted name ++ (codes " at " ++ (decimal r ++ (codes ": " ++ (where_words answer ++ codes "\n")))))
+
+unfoldable pub mark_line : List ℕ → List ℕ
+mark_line name = codes "mark " ++ (quoted name ++ codes ": set\n")
+
+-- the old range and the new one
+abbrev pub edit_words : TextEdit → List ℕ
+edit_words e = decimal e.old.0 ++ (codes ".." ++ (decimal e.old.1 ++ (codes " -> " ++ (decimal e.new.0 ++ (codes ".." ++ decimal e.new.1)))))
+
+-- the edits with a comma and a space between them
+abbrev pub edits_words : List TextEdit → List ℕ
+edits_words [] = codes "none"
+edits_words (e ∷ es) = join_by edit_words (codes ", ") (e ∷ es)
+
+abbrev pub since_fault_words : SinceFault → List ℕ
+since_fault_words (since.Unseen r) = codes "unseen " ++ decimal r
+since_fault_words (since.OpenVersion r) = codes "openversion " ++ decimal r
+since_fault_words since.OutOfMemory = []
+
+abbrev pub since_words : SinceAnswer → List ℕ
+since_words (edits.Edits es) = edits_words es
+since_words (edits.Fault e) = since_fault_words e
+
+unfoldable pub since_line : List ℕ → ℕ → SinceAnswer → List ℕ
+since_line name r answer = codes "since " ++ (quoted name ++ (codes " at " ++ (decimal r ++ (codes ": " ++ (since_words answer ++ codes "\n")))))
+
 -- ---- answers to queries
 
 -- the places with one space between them
@@ -184,6 +240,10 @@ line_text (Unnamed n named) = unnamed_line n named
 line_text (Settled r count) = settled_line r count
 line_text (Give n r answer) = give_line n r answer
 line_text (Text r bytes row column rows text) = text_line r bytes row column rows text
+line_text (Anchor name answer) = anchor_line name answer
+line_text (Where name r answer) = where_line name r answer
+line_text (Mark name) = mark_line name
+line_text (Since name r answer) = since_line name r answer
 line_text (Query q n answer) = query_line q n answer
 line_text (Replica r bytes rows applied waiting refused) = replica_line r bytes rows applied waiting refused
 line_text (Refused r t e) = refused_op_line r t e

@@ -1,6 +1,7 @@
 -- Which session a text is, or its first bad line and the first word that applies to it.
 use Rattle.std.specs.Prelude.{◌≡◌, ℕ, ◌+◌, ◌≤◌, List, [], ◌∷◌, ◌++◌, length, not, ◌&&◌, nat_lt, nat_le, Bool, true, false, Option, Some, None, Result, Ok, Err, if◌then◌else◌}
-use Rattle.std.specs.List.{All, count_by, list_all}
+use Rattle.std.specs.List.{All, count_by, list_all, list_any}
+use Rattle.std.specs.Str.{bytes_eq}
 use Rattle.op_model.specs.Choice.{first_of, when}
 use Rattle.serde_json.specs.Data.{Data}
 use Rattle.session_lines.specs.Json.{value_of}
@@ -10,7 +11,7 @@ use Rattle.session_lines.specs.Parts.{is_among}
 use Rattle.session_lines.specs.Heading.{headed, are_replicas}
 use Rattle.session_lines.specs.declared.header.Header.{Header}
 use Rattle.session_lines.specs.declared.session.SessionLine.{SessionLine}
-use Rattle.session_lines.specs.declared.session.SessionLine.TheVariants.{Edit, Undo, Op, Uop, Give, Text, Find, Point, Offset}
+use Rattle.session_lines.specs.declared.session.SessionLine.TheVariants.{Edit, Undo, Op, Uop, Give, Text, Anchor, Where, Mark, Since, Find, Point, Offset}
 use Rattle.session_lines.specs.declared.session.Session.{Session}
 use Rattle.session_lines.specs.declared.fault.Word.{Word}
 use Rattle.session_lines.specs.declared.fault.Word.TheVariants as word
@@ -41,6 +42,10 @@ is_operation (Op e) = true
 is_operation (Uop u) = true
 is_operation (Give r n) = false
 is_operation (Text r) = false
+is_operation (Anchor r n o b) = false
+is_operation (Where r n) = false
+is_operation (Mark r n) = false
+is_operation (Since r n) = false
 is_operation (Find r t) = false
 is_operation (Point r o) = false
 is_operation (Offset r k c) = false
@@ -58,6 +63,10 @@ is_query (Op e) = false
 is_query (Uop u) = false
 is_query (Give r n) = false
 is_query (Text r) = false
+is_query (Anchor r n o b) = false
+is_query (Where r n) = false
+is_query (Mark r n) = false
+is_query (Since r n) = false
 is_query (Find r t) = true
 is_query (Point r o) = true
 is_query (Offset r k c) = true
@@ -76,6 +85,10 @@ is_known ids (Op e) = true
 is_known ids (Uop u) = true
 is_known ids (Give r n) = is_among ids r
 is_known ids (Text r) = is_among ids r
+is_known ids (Anchor r n o b) = is_among ids r
+is_known ids (Where r n) = is_among ids r
+is_known ids (Mark r n) = is_among ids r
+is_known ids (Since r n) = is_among ids r
 is_known ids (Find r t) = is_among ids r
 is_known ids (Point r o) = is_among ids r
 is_known ids (Offset r k c) = is_among ids r
@@ -92,30 +105,99 @@ is_numbered count (Op e) = true
 is_numbered count (Uop u) = true
 is_numbered count (Give r n) = is_number_of count n
 is_numbered count (Text r) = true
+is_numbered count (Anchor r n o b) = true
+is_numbered count (Where r n) = true
+is_numbered count (Mark r n) = true
+is_numbered count (Since r n) = true
 is_numbered count (Find r t) = true
 is_numbered count (Point r o) = true
 is_numbered count (Offset r k c) = true
 
--- what is wrong with a line that has the form of one, behind so many operation lines
-abbrev pub word_of : List ℕ → ℕ → SessionLine → Option Word
-word_of ids count line = first_of (when (not (is_known ids line)) word.Replica ∷ when (not (is_numbered count line)) word.Number ∷ [])
+-- the name under which the line keeps an anchor, if it does
+abbrev pub anchor_name : SessionLine → Option (List ℕ)
+anchor_name (Edit r ps) = None
+anchor_name (Undo r ns) = None
+anchor_name (Op e) = None
+anchor_name (Uop u) = None
+anchor_name (Give r n) = None
+anchor_name (Text r) = None
+anchor_name (Anchor r n o b) = Some n
+anchor_name (Where r n) = None
+anchor_name (Mark r n) = None
+anchor_name (Since r n) = None
+anchor_name (Find r t) = None
+anchor_name (Point r o) = None
+anchor_name (Offset r k c) = None
+
+-- the name under which the line keeps a version, if it does
+abbrev pub mark_name : SessionLine → Option (List ℕ)
+mark_name (Edit r ps) = None
+mark_name (Undo r ns) = None
+mark_name (Op e) = None
+mark_name (Uop u) = None
+mark_name (Give r n) = None
+mark_name (Text r) = None
+mark_name (Anchor r n o b) = None
+mark_name (Where r n) = None
+mark_name (Mark r n) = Some n
+mark_name (Since r n) = None
+mark_name (Find r t) = None
+mark_name (Point r o) = None
+mark_name (Offset r k c) = None
+
+-- the name is this one, where there is one
+abbrev pub is_name : List ℕ → Option (List ℕ) → Bool
+is_name name None = false
+is_name name (Some n) = bytes_eq n name
+
+-- one of the lines keeps an anchor under the name
+abbrev pub has_anchor : List SessionLine → List ℕ → Bool
+has_anchor ls name = list_any (λ l. is_name name (anchor_name l)) ls
+
+-- one of the lines keeps a version under the name
+abbrev pub has_mark : List SessionLine → List ℕ → Bool
+has_mark ls name = list_any (λ l. is_name name (mark_name l)) ls
+
+-- under the name that the line asks for, if it does, one of the lines before keeps what it asks for
+abbrev pub is_named : List SessionLine → SessionLine → Bool
+is_named before (Edit r ps) = true
+is_named before (Undo r ns) = true
+is_named before (Op e) = true
+is_named before (Uop u) = true
+is_named before (Give r n) = true
+is_named before (Text r) = true
+is_named before (Anchor r n o b) = true
+is_named before (Where r n) = has_anchor before n
+is_named before (Mark r n) = true
+is_named before (Since r n) = has_mark before n
+is_named before (Find r t) = true
+is_named before (Point r o) = true
+is_named before (Offset r k c) = true
+
+-- what is wrong with a line that has the form of one, behind the lines before
+abbrev pub word_of : List ℕ → List SessionLine → SessionLine → Option Word
+word_of ids before line = first_of (
+    when (not (is_known ids line)) word.Replica
+    ∷ when (not (is_numbered (operation_count before) line)) word.Number
+    ∷ when (not (is_named before line)) word.Name
+    ∷ [])
 
 -- x, unless there is something against it
 abbrev pub unless : {A E : Type 0} → A → Option E → Result A E
 unless x None = Ok x
 unless x (Some e) = Err e
 
-abbrev pub formed : List ℕ → ℕ → Option SessionLine → Result SessionLine Word
-formed ids count None = Err word.Shape
-formed ids count (Some line) = unless line (word_of ids count line)
+abbrev pub formed : List ℕ → List SessionLine → Option SessionLine → Result SessionLine Word
+formed ids before None = Err word.Shape
+formed ids before (Some line) = unless line (word_of ids before line)
 
-abbrev pub line_read : List ℕ → ℕ → Option Data → Result SessionLine Word
-line_read ids count None = Err word.Json
-line_read ids count (Some d) = formed ids count (shaped d)
+abbrev pub line_read : List ℕ → List SessionLine → Option Data → Result SessionLine Word
+line_read ids before None = Err word.Json
+line_read ids before (Some d) = formed ids before (shaped d)
 
--- the line of a session with these replicas that a later line is, behind so many operation lines
-unfoldable pub line_of : List ℕ → ℕ → List ℕ → Result SessionLine Word
-line_of ids count line = line_read ids count (value_of line)
+-- the line of a session with these replicas that a later line is, behind the lines before
+unfoldable pub line_of : List ℕ → List SessionLine → List ℕ → Result SessionLine Word
+line_of ids before line = line_read ids before (value_of line)
 
 -- ---- all lines
 
@@ -127,7 +209,7 @@ then_from n (Ok x) next = next x
 -- the lines behind the header, those `before` being read
 abbrev pub rest_of : List ℕ → List SessionLine → List (List ℕ) → Result (List SessionLine) DecodeFault
 rest_of ids before [] = Ok before
-rest_of ids before (l ∷ ls) = then_from (2 + length before) (line_of ids (operation_count before) l) (λ x. rest_of ids (before ++ x ∷ []) ls)
+rest_of ids before (l ∷ ls) = then_from (2 + length before) (line_of ids before l) (λ x. rest_of ids (before ++ x ∷ []) ls)
 
 abbrev pub with_header : Header → Result (List SessionLine) DecodeFault → Result Session DecodeFault
 with_header h (Err e) = Err e

@@ -6,6 +6,7 @@ ghost use Rattle.session_lines.specs.Session.{IsSession, decoded, header_of, is_
 ghost use Rattle.session_lines.specs.declared.fault.Word.{Word};
 
 use crate::cutting::{first_line, line_count};
+use crate::earlier::EarlierLines;
 use crate::fault::{DecodeFault, Word};
 use crate::forms::shaped;
 use crate::header::{Header, headed};
@@ -39,6 +40,10 @@ fn is_known(replicas: &[u16], line: &SessionLine) -> bool
         SessionLine::Uop(_) => true,
         SessionLine::Give { replica, .. } => replicas.contains(replica),
         SessionLine::Text { replica } => replicas.contains(replica),
+        SessionLine::Anchor { replica, .. } => replicas.contains(replica),
+        SessionLine::Where { replica, .. } => replicas.contains(replica),
+        SessionLine::Mark { replica, .. } => replicas.contains(replica),
+        SessionLine::Since { replica, .. } => replicas.contains(replica),
         SessionLine::Find { replica, .. } => replicas.contains(replica),
         SessionLine::Point { replica, .. } => replicas.contains(replica),
         SessionLine::Offset { replica, .. } => replicas.contains(replica),
@@ -69,20 +74,27 @@ fn is_numbered(operations: u64, line: &SessionLine) -> bool
         SessionLine::Uop(_) => true,
         SessionLine::Give { number, .. } => is_number_of(operations, *number),
         SessionLine::Text { .. } => true,
+        SessionLine::Anchor { .. } => true,
+        SessionLine::Where { .. } => true,
+        SessionLine::Mark { .. } => true,
+        SessionLine::Since { .. } => true,
         SessionLine::Find { .. } => true,
         SessionLine::Point { .. } => true,
         SessionLine::Offset { .. } => true,
     }
 }
 
-fn word_of(replicas: &[u16], operations: u64, line: &SessionLine) -> Option<Word>
-    ensures { result ≡ word_of replicas.now operations line.now }
+fn word_of(replicas: &[u16], before: &EarlierLines, line: &SessionLine) -> Option<Word>
+    ensures { result ≡ word_of replicas.now before.now line.now }
 {
     if !is_known(replicas, line) {
         return Some(Word::Replica);
     }
-    if !is_numbered(operations, line) {
+    if !is_numbered(before.operation_count(), line) {
         return Some(Word::Number);
+    }
+    if !before.is_named(line) {
+        return Some(Word::Name);
     }
     None
 }
@@ -91,17 +103,17 @@ fn word_of(replicas: &[u16], operations: u64, line: &SessionLine) -> Option<Word
 fn line_of(
     alloc: Global,
     replicas: &[u16],
-    operations: u64,
+    before: &EarlierLines,
     line: &[u8],
 ) -> Result<SessionLine, LineFault>
-    ensures ok { IfOk result (λ l. line_of replicas.now operations line.now ≡ Ok l) }
-    ensures bad { (w : Word) → result ≡ Err (LineFault.Bad w) → line_of replicas.now operations line.now ≡ Err w }
+    ensures ok { IfOk result (λ l. line_of replicas.now before.now line.now ≡ Ok l) }
+    ensures bad { (w : Word) → result ≡ Err (LineFault.Bad w) → line_of replicas.now before.now line.now ≡ Err w }
 {
     let value = value_of(alloc, line)?;
     let Some(line) = shaped(alloc, &value)? else {
         return Err(LineFault::Bad(Word::Shape));
     };
-    match word_of(replicas, operations, &line) {
+    match word_of(replicas, before, &line) {
         Some(word) => Err(LineFault::Bad(word)),
         None => Ok(line),
     }
@@ -111,22 +123,15 @@ fn rest_of(alloc: Global, replicas: &[u16], text: &[u8]) -> Result<SessionLines,
     ensures ok { IfOk result (λ ls. rest_of replicas.now [] (lines_of text.now) ≡ Ok ls) }
     ensures fault { IfErr result (λ e. (rest_of replicas.now [] (lines_of text.now) ≡ Err e) ⊎ (e ≡ DecodeFault.OutOfMemory)) }
 {
-    let mut lines = Vec::new(alloc);
-    let mut operations = 0u64;
+    let mut lines = EarlierLines::new(alloc);
     let mut rest = text;
     while !rest.is_empty() {
         let (line, after) = first_line(rest);
-        match line_of(alloc, replicas, operations, line) {
-            Ok(line) => {
-                operations += line.is_operation() as u64;
-                match lines.push(line) {
-                    Ok(()) => {}
-                    Err(_) => return Err(DecodeFault::OutOfMemory),
-                }
-            }
+        match line_of(alloc, replicas, &lines, line) {
+            Ok(line) => lines = lines.with(alloc, line)?,
             Err(LineFault::Bad(word)) => {
                 return Err(DecodeFault::Bad {
-                    line: 2 + lines.len() as u64,
+                    line: 2 + lines.len(),
                     word,
                 });
             }
@@ -134,7 +139,7 @@ fn rest_of(alloc: Global, replicas: &[u16], text: &[u8]) -> Result<SessionLines,
         }
         rest = after;
     }
-    Ok(SessionLines::new(lines))
+    Ok(lines.into_lines())
 }
 
 // The session that the lines of the text are, however many there are.

@@ -20,6 +20,8 @@ pub enum Word {
     Replica,
     /// The number that it names is not that of an operation line before it.
     Number,
+    /// No line before it keeps an anchor, or a version, under the name that it asks for.
+    Name,
 }
 
 impl fmt::Display for Word {
@@ -32,6 +34,7 @@ impl fmt::Display for Word {
             Word::Shape => write!(f, "shape"),
             Word::Replica => write!(f, "replica"),
             Word::Number => write!(f, "number"),
+            Word::Name => write!(f, "name"),
         }
     }
 }

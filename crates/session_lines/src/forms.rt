@@ -2,10 +2,10 @@
 ghost use Rattle.std.specs.Prelude.{◌≡◌, map, IfOk, None, Some};
 ghost use Rattle.serde_json.specs.View.{view};
 ghost use Rattle.session_lines.specs.Json.{listed};
-ghost use Rattle.session_lines.specs.Forms.{edit_from, undo_from, op_from, uop_from, give_from, text_from, find_from, point_from, offset_from, line_from, shaped};
+ghost use Rattle.session_lines.specs.Forms.{edit_from, undo_from, op_from, uop_from, give_from, text_from, anchor_from, name_from, where_from, mark_from, since_from, find_from, point_from, offset_from, asking_form, line_from, shaped};
 
 use crate::line_value::{is_text, listed};
-use crate::parts::{counts_of, id_of, numbers_of, pieces_of, stamp_of, version_of};
+use crate::parts::{bias_of, counts_of, id_of, numbers_of, pieces_of, stamp_of, version_of};
 use crate::session::SessionLine;
 use op_model::{EditOp, Text, UndoOp};
 use serde_json::Value;
@@ -109,6 +109,70 @@ fn text_from(members: &[Value]) -> Option<SessionLine>
     }
 }
 
+fn anchor_from(alloc: Global, members: &[Value]) -> Result<Option<SessionLine>, AllocError>
+    ensures { IfOk result (λ l. l ≡ anchor_from (map view members.now)) }
+{
+    let [replica, name, offset, bias] = members else {
+        return Ok(None);
+    };
+    match (
+        id_of(replica),
+        name.as_str(),
+        offset.as_u64(),
+        bias_of(bias),
+    ) {
+        (Some(replica), Some(name), Some(offset), Some(bias)) => Ok(Some(SessionLine::Anchor {
+            replica,
+            name: Text::new(String::from_str(alloc, name)?),
+            offset,
+            bias,
+        })),
+        _ => Ok(None),
+    }
+}
+
+// A replica and a name.
+fn name_from(alloc: Global, members: &[Value]) -> Result<Option<(u16, Text)>, AllocError>
+    ensures { IfOk result (λ p. p ≡ name_from (map view members.now)) }
+{
+    let [replica, name] = members else {
+        return Ok(None);
+    };
+    match (id_of(replica), name.as_str()) {
+        (Some(replica), Some(name)) => {
+            Ok(Some((replica, Text::new(String::from_str(alloc, name)?))))
+        }
+        _ => Ok(None),
+    }
+}
+
+fn where_from(alloc: Global, members: &[Value]) -> Result<Option<SessionLine>, AllocError>
+    ensures { IfOk result (λ l. l ≡ where_from (map view members.now)) }
+{
+    match name_from(alloc, members)? {
+        Some((replica, name)) => Ok(Some(SessionLine::Where { replica, name })),
+        None => Ok(None),
+    }
+}
+
+fn mark_from(alloc: Global, members: &[Value]) -> Result<Option<SessionLine>, AllocError>
+    ensures { IfOk result (λ l. l ≡ mark_from (map view members.now)) }
+{
+    match name_from(alloc, members)? {
+        Some((replica, name)) => Ok(Some(SessionLine::Mark { replica, name })),
+        None => Ok(None),
+    }
+}
+
+fn since_from(alloc: Global, members: &[Value]) -> Result<Option<SessionLine>, AllocError>
+    ensures { IfOk result (λ l. l ≡ since_from (map view members.now)) }
+{
+    match name_from(alloc, members)? {
+        Some((replica, name)) => Ok(Some(SessionLine::Since { replica, name })),
+        None => Ok(None),
+    }
+}
+
 fn find_from(alloc: Global, members: &[Value]) -> Result<Option<SessionLine>, AllocError>
     ensures { IfOk result (λ l. l ≡ find_from (map view members.now)) }
 {
@@ -152,6 +216,38 @@ fn offset_from(members: &[Value]) -> Option<SessionLine>
     }
 }
 
+// The line of the word, where it keeps or asks for something under a name, or is a query.
+fn asking_from(
+    alloc: Global,
+    word: &Value,
+    members: &[Value],
+) -> Result<Option<SessionLine>, AllocError>
+    ensures { IfOk result (λ l. l ≡ asking_form (view word.now) (map view members.now)) }
+{
+    if is_text(word, "anchor") {
+        return anchor_from(alloc, members);
+    }
+    if is_text(word, "where") {
+        return where_from(alloc, members);
+    }
+    if is_text(word, "mark") {
+        return mark_from(alloc, members);
+    }
+    if is_text(word, "since") {
+        return since_from(alloc, members);
+    }
+    if is_text(word, "find") {
+        return find_from(alloc, members);
+    }
+    if is_text(word, "point") {
+        return Ok(point_from(members));
+    }
+    if is_text(word, "offset") {
+        return Ok(offset_from(members));
+    }
+    Ok(None)
+}
+
 fn line_from(alloc: Global, members: &[Value]) -> Result<Option<SessionLine>, AllocError>
     ensures { IfOk result (λ l. l ≡ line_from (map view members.now)) }
 {
@@ -176,16 +272,7 @@ fn line_from(alloc: Global, members: &[Value]) -> Result<Option<SessionLine>, Al
     if is_text(word, "text") {
         return Ok(text_from(members));
     }
-    if is_text(word, "find") {
-        return find_from(alloc, members);
-    }
-    if is_text(word, "point") {
-        return Ok(point_from(members));
-    }
-    if is_text(word, "offset") {
-        return Ok(offset_from(members));
-    }
-    Ok(None)
+    asking_from(alloc, word, members)
 }
 
 /// The line that a value is, where it has the form of one.

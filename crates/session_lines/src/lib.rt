@@ -4,6 +4,7 @@
 
 mod cutting;
 mod decoding;
+mod earlier;
 mod fault;
 mod forms;
 mod header;
@@ -16,6 +17,9 @@ mod text;
 pub use decoding::decode;
 pub use fault::{DecodeFault, Word};
 pub use lamport_clock::OutOfMemory;
-pub use report::{FindAnswer, Given, OffsetAnswer, PointAnswer, QueryAnswer, Report};
+pub use report::{
+    AnchorAnswer, FindAnswer, Given, OffsetAnswer, PointAnswer, QueryAnswer, Report, SinceAnswer,
+    TextEdits, WhereAnswer,
+};
 pub use session::{Ids, Numbers, Session, SessionLine, SessionLines};
 pub use text::write_line;

@@ -3,12 +3,12 @@ ghost use Rattle.std.specs.Prelude.{◌≡◌, ◌<◌, ◌≤◌, [], length, m
 ghost use Rattle.lamport_clock.specs.Versions.{joined};
 ghost use Rattle.serde_json.specs.View.{view};
 ghost use Rattle.session_lines.specs.Json.{listed, whole};
-ghost use Rattle.session_lines.specs.Parts.{AreEntries, all_of, clock_value, count_from, count_of, counts_of, entry_from, entry_of, id_of, numbers_of, piece_from, piece_of, pieces_of, stamp_from, stamp_of, version_from, version_of, version_with};
+ghost use Rattle.session_lines.specs.Parts.{AreEntries, all_of, bias_of, clock_value, count_from, count_of, counts_of, entry_from, entry_of, id_of, numbers_of, piece_from, piece_of, pieces_of, stamp_from, stamp_of, version_from, version_of, version_with};
 
-use crate::line_value::listed;
+use crate::line_value::{is_text, listed};
 use crate::session::Numbers;
 use lamport_clock::{Lamport, Version};
-use op_model::{Counts, Piece, Pieces, Text, UndoCount};
+use op_model::{Bias, Counts, Piece, Pieces, Text, UndoCount};
 use serde_json::Value;
 use std::alloc::{AllocError, Global};
 
@@ -284,4 +284,17 @@ pub fn numbers_of(alloc: Global, value: &Value) -> Result<Option<Numbers>, Alloc
         Some(members) => numbers_from(alloc, members),
         None => Ok(None),
     }
+}
+
+/// The side of its place that an anchor keeps to, by its word.
+pub fn bias_of(value: &Value) -> Option<Bias>
+    ensures { result ≡ bias_of (view value.now) }
+{
+    if is_text(value, "left") {
+        return Some(Bias::Left);
+    }
+    if is_text(value, "right") {
+        return Some(Bias::Right);
+    }
+    None
 }

@@ -4,7 +4,8 @@ ghost use Rattle.session_lines.specs.Report.{checked};
 
 use crate::session::{Numbers, Session};
 use lamport_clock::Lamport;
-use op_model::{EditFault, OpFault, Text, UndoFault};
+use op_model::{EditFault, OpFault, PlaceFault, SinceFault, Text, TextEdit, UndoFault};
+use std::marker::Model;
 use text_dims::{OffsetUtf16, Point, PointUtf16};
 
 /// What a replica answers to an operation that it is given.
@@ -20,6 +21,66 @@ pub enum Given {
     Nothing,
     /// `FAULT`: it was refused.
     Fault(OpFault),
+}
+
+/// What comes of a line that makes an anchor.
+#[derive(Clone, Copy, Debug, PartialEq, Eq)]
+pub enum AnchorAnswer {
+    /// `set`: it is kept.
+    Set,
+    /// `FAULT`: none is made there, and what is kept under the name stays.
+    Fault(PlaceFault),
+}
+
+/// Where an anchor is.
+#[derive(Clone, Copy, Debug, PartialEq, Eq)]
+pub enum WhereAnswer {
+    /// `O`: at this byte offset.
+    Place(u64),
+    /// `unknown`: the replica does not know the byte that it keeps to.
+    Unknown,
+    /// `nothing`: no anchor is kept under the name.
+    Nothing,
+}
+
+/// Edits of a text, in its order, seen as their list.
+#[derive(Drop)]
+pub struct TextEdits {
+    inner: Vec<TextEdit>,
+}
+
+impl Model for TextEdits {
+    ghost use Rattle.std.specs.Prelude.{List};
+    ghost use Rattle.op_model.specs.declared.anchor.TextEdit.{TextEdit};
+
+    ghost Value = { List TextEdit };
+
+    ghost view = { λ e. e.inner.items };
+}
+
+impl TextEdits {
+    /// The edits of a vector. It does not allocate.
+    pub fn new(inner: Vec<TextEdit>) -> TextEdits
+        ensures { result ≡ inner.items }
+    {
+        TextEdits { inner }
+    }
+
+    pub fn as_slice(&self) -> &[TextEdit]
+        ensures { result.now ≡ self.now }
+    {
+        &self.inner
+    }
+}
+
+/// What changed in a text since a version.
+#[derive(Drop)]
+pub enum SinceAnswer {
+    /// `a..b -> c..d, ..`: these edits, each by its range in the text then and its range in the text now; `none`, where there
+    /// are none.
+    Edits(TextEdits),
+    /// `FAULT`: the replica has no answer for the version.
+    Fault(SinceFault),
 }
 
 /// Where a needle stands in a text.
@@ -106,6 +167,27 @@ pub enum Report {
         column: u64,
         rows: u64,
         text: Text,
+    },
+    /// `anchor NAME: ANSWER`: what comes of making an anchor under the name.
+    Anchor {
+        name: Text,
+        answer: AnchorAnswer,
+    },
+    /// `where NAME at R: ANSWER`: where the anchor under the name is in the text of replica R.
+    Where {
+        name: Text,
+        replica: u16,
+        answer: WhereAnswer,
+    },
+    /// `mark NAME: set`: a version is kept under the name.
+    Mark {
+        name: Text,
+    },
+    /// `since NAME at R: ANSWER`: what changed in the text of replica R since the version under the name.
+    Since {
+        name: Text,
+        replica: u16,
+        answer: SinceAnswer,
     },
     /// `WORD Q at N: ANSWER`: query Q, which has the word, is answered on what N operations come to, the base not counted.
     Query {

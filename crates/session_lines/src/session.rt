@@ -1,17 +1,24 @@
 // A session, as it is read.
 ghost use Rattle.std.specs.Prelude.{◌≡◌};
-ghost use Rattle.session_lines.specs.Session.{is_operation, is_query, operation_count, query_count};
+ghost use Rattle.std.specs.Option.{option_copied};
+ghost use Rattle.session_lines.specs.Session.{anchor_name, is_operation, is_query, mark_name, operation_count, query_count};
 
-use op_model::{EditOp, Pieces, Text, UndoOp};
+use op_model::{Bias, EditOp, Pieces, Text, UndoOp};
 use std::marker::Model;
 
 /// A line after the header. A replica that acts in it is one of the header's.
 #[derive(Drop)]
 pub enum SessionLine {
     /// `["edit",r,[[s,e,"t"],..]]`: replica r replaces ranges of its text, each by a new one.
-    Edit { replica: u16, pieces: Pieces },
+    Edit {
+        replica: u16,
+        pieces: Pieces,
+    },
     /// `["undo",r,[n,..]]`: replica r undoes or redoes the edits made by operation lines n.
-    Undo { replica: u16, numbers: Numbers },
+    Undo {
+        replica: u16,
+        numbers: Numbers,
+    },
     /// `["op",[value,replica],[[r,v],..],[[s,e,"t"],..]]`: an edit operation as it stands, with its stamp, its version, whose
     /// ids stand in any order, and its pieces. It is applied nowhere.
     Op(EditOp),
@@ -19,15 +26,53 @@ pub enum SessionLine {
     /// version, whose ids stand in any order, and its counts. It is applied nowhere.
     Uop(UndoOp),
     /// `["give",r,n]`: replica r takes the operation of operation line n.
-    Give { replica: u16, number: u64 },
+    Give {
+        replica: u16,
+        number: u64,
+    },
     /// `["text",r]`: the text of replica r is shown.
-    Text { replica: u16 },
+    Text {
+        replica: u16,
+    },
+    /// `["anchor",r,"name",o,"left"]`, or `"right"`: an anchor is made at the byte offset o in the text of replica r, and kept under
+    /// the name for all replicas.
+    Anchor {
+        replica: u16,
+        name: Text,
+        offset: u64,
+        bias: Bias,
+    },
+    /// `["where",r,"name"]`: the place of the anchor under the name in the text of replica r.
+    Where {
+        replica: u16,
+        name: Text,
+    },
+    /// `["mark",r,"name"]`: the version of replica r is kept under the name for all replicas. Marks and anchors have separate names.
+    Mark {
+        replica: u16,
+        name: Text,
+    },
+    /// `["since",r,"name"]`: the edits that took the text at the mark of that name to the text of replica r.
+    Since {
+        replica: u16,
+        name: Text,
+    },
     /// `["find",r,"needle"]`: asks where the needle stands in the text of replica r.
-    Find { replica: u16, needle: Text },
+    Find {
+        replica: u16,
+        needle: Text,
+    },
     /// `["point",r,o]`: asks for the point of the byte offset o in the text of replica r.
-    Point { replica: u16, offset: u64 },
+    Point {
+        replica: u16,
+        offset: u64,
+    },
     /// `["offset",r,row,column]`: asks for the byte offset of the point in the text of replica r, its column in bytes.
-    Offset { replica: u16, row: u64, column: u64 },
+    Offset {
+        replica: u16,
+        row: u64,
+        column: u64,
+    },
 }
 
 impl SessionLine {
@@ -42,6 +87,10 @@ impl SessionLine {
             SessionLine::Uop(_) => true,
             SessionLine::Give { .. } => false,
             SessionLine::Text { .. } => false,
+            SessionLine::Anchor { .. } => false,
+            SessionLine::Where { .. } => false,
+            SessionLine::Mark { .. } => false,
+            SessionLine::Since { .. } => false,
             SessionLine::Find { .. } => false,
             SessionLine::Point { .. } => false,
             SessionLine::Offset { .. } => false,
@@ -59,9 +108,55 @@ impl SessionLine {
             SessionLine::Uop(_) => false,
             SessionLine::Give { .. } => false,
             SessionLine::Text { .. } => false,
+            SessionLine::Anchor { .. } => false,
+            SessionLine::Where { .. } => false,
+            SessionLine::Mark { .. } => false,
+            SessionLine::Since { .. } => false,
             SessionLine::Find { .. } => true,
             SessionLine::Point { .. } => true,
             SessionLine::Offset { .. } => true,
+        }
+    }
+
+    /// The name under which it keeps an anchor, if it does.
+    pub fn anchor_name(&self) -> Option<&str>
+        ensures { option_copied result ≡ anchor_name self.now }
+    {
+        match self {
+            SessionLine::Edit { .. } => None,
+            SessionLine::Undo { .. } => None,
+            SessionLine::Op(_) => None,
+            SessionLine::Uop(_) => None,
+            SessionLine::Give { .. } => None,
+            SessionLine::Text { .. } => None,
+            SessionLine::Anchor { name, .. } => Some(name.as_str()),
+            SessionLine::Where { .. } => None,
+            SessionLine::Mark { .. } => None,
+            SessionLine::Since { .. } => None,
+            SessionLine::Find { .. } => None,
+            SessionLine::Point { .. } => None,
+            SessionLine::Offset { .. } => None,
+        }
+    }
+
+    /// The name under which it keeps a version, if it does.
+    pub fn mark_name(&self) -> Option<&str>
+        ensures { option_copied result ≡ mark_name self.now }
+    {
+        match self {
+            SessionLine::Edit { .. } => None,
+            SessionLine::Undo { .. } => None,
+            SessionLine::Op(_) => None,
+            SessionLine::Uop(_) => None,
+            SessionLine::Give { .. } => None,
+            SessionLine::Text { .. } => None,
+            SessionLine::Anchor { .. } => None,
+            SessionLine::Where { .. } => None,
+            SessionLine::Mark { name, .. } => Some(name.as_str()),
+            SessionLine::Since { .. } => None,
+            SessionLine::Find { .. } => None,
+            SessionLine::Point { .. } => None,
+            SessionLine::Offset { .. } => None,
         }
     }
 }

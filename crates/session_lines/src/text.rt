@@ -1,11 +1,14 @@
 // The text of a report's line.
 ghost use Rattle.std.specs.Prelude.{◌≡◌, ◌++◌, string_bytes, OnOk, OnErr, IfOk};
 ghost use Rattle.json.specs.Print.{quoted};
-ghost use Rattle.session_lines.specs.Report.{made_line, settled_line, given_words, give_line, end_words, rows_words, text_line, starts_words, find_words, place_words, clips_words, point_words, offset_words, query_word, query_words, query_line, counts_words, waits_words, replica_line, final_line, final_line_with, fault_words, op_fault_words, undo_fault_words, refused_line, refused_undo_line, unnamed_line, refused_op_line, checked_line, line_text};
+ghost use Rattle.session_lines.specs.Report.{made_line, settled_line, given_words, give_line, end_words, rows_words, text_line, place_fault_words, anchor_words, anchor_line, where_words, where_line, mark_line, edit_words, edits_words, since_fault_words, since_words, since_line, starts_words, find_words, place_words, clips_words, point_words, offset_words, query_word, query_words, query_line, counts_words, waits_words, replica_line, final_line, final_line_with, fault_words, op_fault_words, undo_fault_words, refused_line, refused_undo_line, unnamed_line, refused_op_line, checked_line, line_text};
 
-use crate::report::{FindAnswer, Given, OffsetAnswer, PointAnswer, QueryAnswer, Report};
+use crate::report::{
+    AnchorAnswer, FindAnswer, Given, OffsetAnswer, PointAnswer, QueryAnswer, Report, SinceAnswer,
+    WhereAnswer,
+};
 use lamport_clock::Lamport;
-use op_model::{EditFault, OpFault, Text, UndoFault, Unit};
+use op_model::{EditFault, OpFault, PlaceFault, SinceFault, Text, TextEdit, UndoFault, Unit};
 use serde_json::Value;
 use std::alloc::{AllocError, Global};
 use std::fmt::Write;
@@ -170,6 +173,127 @@ fn push_text(
 {
     write_end(out, r, bytes, row, column)?;
     push_rows(alloc, out, rows, text.as_str())
+}
+
+fn place_fault_text(alloc: Global, fault: PlaceFault) -> Result<String, AllocError>
+    ensures { IfOk result (λ s. string_bytes s ≡ place_fault_words fault) }
+{
+    match fault {
+        PlaceFault::PastEnd(len) => format!(in alloc; "pastend {len}"),
+        PlaceFault::InsideChar => String::from_str(alloc, "insidechar"),
+    }
+}
+
+fn anchor_text(alloc: Global, answer: AnchorAnswer) -> Result<String, AllocError>
+    ensures { IfOk result (λ s. string_bytes s ≡ anchor_words answer) }
+{
+    match answer {
+        AnchorAnswer::Set => String::from_str(alloc, "set"),
+        AnchorAnswer::Fault(fault) => place_fault_text(alloc, fault),
+    }
+}
+
+#[tactic(auto, unfolding(crate::specs::Report::anchor_line))]
+fn push_anchor(
+    alloc: Global,
+    out: &mut String,
+    name: &str,
+    answer: AnchorAnswer,
+) -> Result<(), AllocError>
+    ensures { OnOk result (string_bytes out.new ≡ string_bytes out.old ++ anchor_line name.now answer) }
+{
+    let quoted = quote(alloc, name)?;
+    let words = anchor_text(alloc, answer)?;
+    write!(out, "anchor {quoted}: {words}\n")
+}
+
+fn where_text(alloc: Global, answer: WhereAnswer) -> Result<String, AllocError>
+    ensures { IfOk result (λ s. string_bytes s ≡ where_words answer) }
+{
+    match answer {
+        WhereAnswer::Place(offset) => format!(in alloc; "{offset}"),
+        WhereAnswer::Unknown => String::from_str(alloc, "unknown"),
+        WhereAnswer::Nothing => String::from_str(alloc, "nothing"),
+    }
+}
+
+#[tactic(auto, unfolding(crate::specs::Report::where_line))]
+fn push_where(
+    alloc: Global,
+    out: &mut String,
+    name: &str,
+    r: u16,
+    answer: WhereAnswer,
+) -> Result<(), AllocError>
+    ensures { OnOk result (string_bytes out.new ≡ string_bytes out.old ++ where_line name.now r answer) }
+{
+    let quoted = quote(alloc, name)?;
+    let words = where_text(alloc, answer)?;
+    write!(out, "where {quoted} at {r}: {words}\n")
+}
+
+#[tactic(auto, unfolding(crate::specs::Report::mark_line))]
+fn push_mark(alloc: Global, out: &mut String, name: &str) -> Result<(), AllocError>
+    ensures { OnOk result (string_bytes out.new ≡ string_bytes out.old ++ mark_line name.now) }
+{
+    let quoted = quote(alloc, name)?;
+    write!(out, "mark {quoted}: set\n")
+}
+
+fn edit_text(alloc: Global, edit: &TextEdit) -> Result<String, AllocError>
+    ensures { IfOk result (λ s. string_bytes s ≡ edit_words edit.now) }
+{
+    let (start, end) = edit.old;
+    let (new_start, new_end) = edit.new;
+    format!(in alloc; "{start}..{end} -> {new_start}..{new_end}")
+}
+
+fn edits_text(alloc: Global, edits: &[TextEdit]) -> Result<String, AllocError>
+    ensures { IfOk result (λ s. string_bytes s ≡ edits_words edits.now) }
+{
+    let [first, others @ ..] = edits else {
+        return String::from_str(alloc, "none");
+    };
+    let mut text = edit_text(alloc, first)?;
+    for edit in others {
+        let words = edit_text(alloc, edit)?;
+        write!(text, ", {words}")?;
+    }
+    Ok(text)
+}
+
+fn since_fault_text(alloc: Global, fault: SinceFault) -> Result<String, AllocError>
+    ensures { IfOk result (λ s. string_bytes s ≡ since_fault_words fault) }
+{
+    match fault {
+        SinceFault::Unseen(r) => format!(in alloc; "unseen {r}"),
+        SinceFault::OpenVersion(r) => format!(in alloc; "openversion {r}"),
+        SinceFault::OutOfMemory => Ok(String::new(alloc)),
+    }
+}
+
+fn since_text(alloc: Global, answer: &SinceAnswer) -> Result<String, AllocError>
+    ensures { IfOk result (λ s. string_bytes s ≡ since_words answer.now) }
+{
+    match answer {
+        SinceAnswer::Edits(edits) => edits_text(alloc, edits.as_slice()),
+        SinceAnswer::Fault(fault) => since_fault_text(alloc, *fault),
+    }
+}
+
+#[tactic(auto, unfolding(crate::specs::Report::since_line))]
+fn push_since(
+    alloc: Global,
+    out: &mut String,
+    name: &str,
+    r: u16,
+    answer: &SinceAnswer,
+) -> Result<(), AllocError>
+    ensures { OnOk result (string_bytes out.new ≡ string_bytes out.old ++ since_line name.now r answer.now) }
+{
+    let quoted = quote(alloc, name)?;
+    let words = since_text(alloc, answer)?;
+    write!(out, "since {quoted} at {r}: {words}\n")
 }
 
 fn starts_text(alloc: Global, starts: &[u64]) -> Result<String, AllocError>
@@ -377,6 +501,18 @@ fn push_line(alloc: Global, out: &mut String, line: &Report) -> Result<(), Alloc
             rows,
             text,
         } => push_text(alloc, out, *replica, *bytes, *row, *column, *rows, text),
+        Report::Anchor { name, answer } => push_anchor(alloc, out, name.as_str(), *answer),
+        Report::Where {
+            name,
+            replica,
+            answer,
+        } => push_where(alloc, out, name.as_str(), *replica, *answer),
+        Report::Mark { name } => push_mark(alloc, out, name.as_str()),
+        Report::Since {
+            name,
+            replica,
+            answer,
+        } => push_since(alloc, out, name.as_str(), *replica, answer),
         Report::Query {
             number,
             applied,

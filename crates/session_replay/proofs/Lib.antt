@@ -7,7 +7,9 @@ pub mod Growth
 pub mod Replies
 pub mod Places
 pub mod OperationLines
+pub mod Named
 pub mod Replicas
 pub mod Outcome
 pub mod Sent
+pub mod Rounds
 pub mod Rows

@@ -26,7 +26,7 @@ module _ (r : ℕ) (f : BufferState → Result Operation Report) (s : State) whe
     there_reported out new w = one_reported (λ b. outcome_reports (next_number s) (f b) b) (buffer_of r s.buffers) b out new there w
 
     pub there_after : (c : BufferState) (o : Option Operation) (ops : List (Option Operation)) → c ≡ after b → o ≡ result_ok (f b) → ops ≡ s.operations ++ o ∷ []
-        → ◌≡◌ {A = State} (record { buffers = set s.buffers i c; operations = ops }) (after_line r f s)
+        → ◌≡◌ {A = State} (record s { buffers = set s.buffers i c; operations = ops }) (after_line r f s)
     there_after c o ops a k p =
         same_state _ _ _ _ (ap (set s.buffers i) (a ∙ ap after is) ∙ sym (found r after s.buffers i b at).1)
         (p ∙ ap (λ o. s.operations ++ o ∷ []) (k ∙ ap (option_and_then (λ b. result_ok (f b))) (sym there)))
@@ -35,7 +35,7 @@ module _ (r : ℕ) (f : BufferState → Result Operation Report) (s : State) whe
     pub nowhere_reported : (out : List ℕ) → out ≡ out ++ report_text (line_events r f s)
     nowhere_reported out = none_reported (λ b. outcome_reports (next_number s) (f b) b) (buffer_of r s.buffers) out (not_found r after s.buffers at).0
 
-    pub nowhere_after : (ops : List (Option Operation)) → ops ≡ s.operations ++ None ∷ [] → ◌≡◌ {A = State} (record { buffers = s.buffers; operations = ops }) (after_line r f s)
+    pub nowhere_after : (ops : List (Option Operation)) → ops ≡ s.operations ++ None ∷ [] → ◌≡◌ {A = State} (record s { operations = ops }) (after_line r f s)
     nowhere_after ops p =
         let n = not_found r after s.buffers at in
         same_state _ _ _ _ (sym n.1) (p ∙ ap (λ b. s.operations ++ option_and_then (λ b. result_ok (f b)) b ∷ []) (sym n.0))

@@ -12,24 +12,24 @@ use Rattle.session_lines.proofs.Faults.{too_many, never_memory}
 use Rattle.session_replay.specs.Causes.{RoseBy}
 use Rattle.session_replay.specs.Traffic.{Had}
 use Rattle.session_replay.specs.Replay.{answer_of, answer_with, large_line, refusal, written_for, Answered}
-use Rattle.session_replay.specs.declared.words.Command.{Command}
+use Rattle.command_words.specs.declared.command.Task.{Task}
 use Rattle.session_replay.specs.declared.top.Status.{Status}
 use Rattle.session_replay.specs.declared.top.Status.TheVariants as status
 
 -- ---- the answer to an input
 
-pub large_answer : (c : Command) (input : List ℕ) → 67108864 < length input → answer_of c input ≡ (status.TooLarge, large_line)
+pub large_answer : (c : Task) (input : List ℕ) → 67108864 < length input → answer_of c input ≡ (status.TooLarge, large_line)
 unfolding answer_of
 large_answer c input h = ap (λ b. cond b (status.TooLarge, large_line) (answer_with c (decoded input))) (lt-ltb 67108864 (length input) h)
 
-small_answer : (c : Command) (input : List ℕ) → length input ≤ 67108864 → answer_of c input ≡ answer_with c (decoded input)
+small_answer : (c : Task) (input : List ℕ) → length input ≤ 67108864 → answer_of c input ≡ answer_with c (decoded input)
 unfolding answer_of
 small_answer c input le = ap (λ b. cond b (status.TooLarge, large_line) (answer_with c (decoded input))) (le-ltb 67108864 (length input) le)
 
-pub session_answer : (c : Command) (input : List ℕ) (s : Session) → length input ≤ 67108864 → decoded input ≡ Ok s → answer_of c input ≡ (status.Done, written_for c s)
+pub session_answer : (c : Task) (input : List ℕ) (s : Session) → length input ≤ 67108864 → decoded input ≡ Ok s → answer_of c input ≡ (status.Done, written_for c s)
 session_answer c input s le e = small_answer c input le ∙ ap (answer_with c) e
 
-pub refused_answer : (c : Command) (input : List ℕ) (e : DecodeFault) → length input ≤ 67108864 → decoded input ≡ Err e → answer_of c input ≡ refusal e
+pub refused_answer : (c : Task) (input : List ℕ) (e : DecodeFault) → length input ≤ 67108864 → decoded input ≡ Err e → answer_of c input ≡ refusal e
 refused_answer c input e le d = small_answer c input le ∙ ap (answer_with c) d
 
 pub many_decoded : (input : List ℕ) → 1048576 < length (lines_of input) → decoded input ≡ Err (Lines (length (lines_of input)))
@@ -38,7 +38,7 @@ many_decoded input h = ap (λ b. cond b (Err (Lines (length (lines_of input)))) 
 
 -- ---- what a status tells
 
-pub record Told (c : Command) (input : List ℕ) (st : Status) (text : List ℕ) : Type 0 where
+pub record Told (c : Task) (input : List ℕ) (st : Status) (text : List ℕ) : Type 0 where
   pub done : st ≡ status.Done → (length input ≤ 67108864) × ((s : Session) × (decoded input ≡ Ok s) × (written_for c s ≡ text))
   pub session : st ≡ status.Session → (length input ≤ 67108864) × ((n : ℕ) × (w : Word) × (decoded input ≡ Err (Bad n w)) × (bad_line n w ≡ text))
   pub large : st ≡ status.TooLarge → ((67108864 < length input) × (large_line ≡ text)) ⊎ ((length input ≤ 67108864) × (1048576 < length (lines_of input)) × (many_line ≡ text))
@@ -53,7 +53,7 @@ first a st t text e = ap (λ p. p.0) e
 second : (a st : Status) (t text : List ℕ) → ◌≡◌ {A = Status × List ℕ} (a, t) (st, text) → t ≡ text
 second a st t text e = ap (λ p. p.1) e
 
-told_by : (c : Command) (input : List ℕ) (b : Bool) (r : Result Session DecodeFault) (st : Status) (text : List ℕ) → nat_lt 67108864 (length input) ≡ b → decoded input ≡ r
+told_by : (c : Task) (input : List ℕ) (b : Bool) (r : Result Session DecodeFault) (st : Status) (text : List ℕ) → nat_lt 67108864 (length input) ≡ b → decoded input ≡ r
     → cond b (status.TooLarge, large_line) (answer_with c r) ≡ (st, text) → Told c input st text
 told_by c input true r st text l d e =
     let f = first status.TooLarge st large_line text e in record {
@@ -85,13 +85,13 @@ told_by c input false (Err (Bad n w)) st text l d e =
     }
 told_by c input false (Err OutOfMemory) st text l d e = absurd (never_memory input d)
 
-pub told : (c : Command) (input : List ℕ) (st : Status) (text : List ℕ) → answer_of c input ≡ (st, text) → Told c input st text
+pub told : (c : Task) (input : List ℕ) (st : Status) (text : List ℕ) → answer_of c input ≡ (st, text) → Told c input st text
 unfolding answer_of
 told c input st text e = told_by c input (nat_lt 67108864 (length input)) (decoded input) st text refl refl e
 
 -- ---- what was answered for a source
 
-module _ (c : Command) (left left_after : Option (List ℕ)) (given given_after ends ends_after : ℕ) where
+module _ (c : Task) (left left_after : Option (List ℕ)) (given given_after ends ends_after : ℕ) where
   abbrev Answer : Status → List ℕ → Type 0
   Answer st text = Answered c left left_after given given_after ends ends_after st text
 

@@ -1,5 +1,5 @@
 -- Worked rows, from the bytes of a session to those of its report: the definitions compute.
-use Rattle.std.proofs.Common.{◌≡◌, ℕ, [], ◌∷◌, Some, None, refl}
+use Rattle.std.proofs.Common.{◌≡◌, ℕ, [], ◌∷◌, refl}
 use Rattle.std.specs.Prelude.{codes}
 use Rattle.std.specs.Fmt.{digits}
 use Rattle.std.specs.Str.{is_utf8, chars}
@@ -10,57 +10,27 @@ use Rattle.session_lines.specs.Forms.{shaped}
 use Rattle.session_lines.specs.Heading.{headed}
 use Rattle.session_lines.specs.Session.{decoded, header_of, line_of}
 use Rattle.session_lines.specs.Words.{bad_line}
-use Rattle.session_lines.specs.Report.{report_text, line_text, made_line, refused_line, refused_undo_line, unnamed_line, settled_line, give_line, text_line, replica_line, refused_op_line, query_line, final_line, checked_line}
+use Rattle.session_lines.specs.Report.{report_text, line_text, made_line, refused_line, refused_undo_line, unnamed_line, settled_line, give_line, text_line, replica_line, refused_op_line, query_line, anchor_line, where_line, mark_line, since_line, final_line, checked_line}
 use Rattle.text_dims.specs.Counts.{utf16_count, newline_count, rows, last_row}
 use Rattle.text_dims.specs.Places.{end_place, places}
 use Rattle.snapshot_search.specs.Starts.{starts}
-use Rattle.session_replay.specs.Words.{command_from}
 use Rattle.session_replay.specs.Queries.{report_of}
 use Rattle.session_replay.specs.Replay.{answer_of}
-use Rattle.session_replay.specs.declared.words.Command.TheVariants.{Check, Replay}
+use Rattle.command_words.specs.declared.command.Task.TheVariants.{Check, Replay}
 use Rattle.session_replay.specs.declared.top.Status.TheVariants as status
 use Rattle.lamport_clock.specs.Stamps.{later, same_stamp}
 use Rattle.op_model.specs.Cells.{same_cell, sibling_first, seq_where, seq}
 use Rattle.op_model.specs.Shown.{deleters_where, full, full_where, shown_where, shown, text_where, text}
 use Rattle.op_model.specs.Made.{made as made_at, made_undo}
+use Rattle.op_model.specs.Anchors.{left_anchor, right_anchor, is_known, place}
 use Rattle.op_model.specs.Answers.{answer}
+use Rattle.op_model.specs.Since.{since}
 use Rattle.op_model.specs.Settled.{pass, passes, settled}
 
 -- what histories compute
 unfoldable open_histories : ℕ
 unfolding later same_stamp same_cell sibling_first seq_where seq deleters_where shown_where shown text_where text full_where full made_at made_undo answer pass passes settled
 open_histories = 0
-
--- ---- words
-
-pub replay_words : command_from (codes "replay" ∷ []) ≡ Some (Replay 2)
-replay_words = refl
-
-pub check_words : command_from (codes "check" ∷ []) ≡ Some Check
-check_words = refl
-
-pub other_words : command_from (codes "replay" ∷ codes "--workers" ∷ []) ≡ None
-other_words = refl
-
-pub words_of_no_worker : command_from (codes "replay" ∷ codes "--workers" ∷ codes "0" ∷ []) ≡ Some (Replay 0)
-unfolding digits
-words_of_no_worker = refl
-
-pub words_of_all_workers : command_from (codes "replay" ∷ codes "--workers" ∷ codes "16" ∷ []) ≡ Some (Replay 16)
-unfolding digits
-words_of_all_workers = refl
-
-pub words_of_too_many : command_from (codes "replay" ∷ codes "--workers" ∷ codes "17" ∷ []) ≡ None
-unfolding digits
-words_of_too_many = refl
-
-pub words_with_a_leading_zero : command_from (codes "replay" ∷ codes "--workers" ∷ codes "02" ∷ []) ≡ None
-unfolding digits
-words_with_a_leading_zero = refl
-
-pub words_of_a_checked_worker : command_from (codes "check" ∷ codes "--workers" ∷ codes "2" ∷ []) ≡ None
-unfolding digits
-words_of_a_checked_worker = refl
 
 -- ---- sessions and their reports
 
@@ -129,6 +99,21 @@ places_of_queries = refl
 pub counted : answer_of Check (codes "[\"zedbuf\",1,\"ab\",[1,2]]\n[\"edit\",1,[[1,1,\"X\"]]]\n[\"edit\",2,[[1,1,\"Y\"]]]\n[\"give\",2,1]\n[\"give\",1,2]\n") ≡ (status.Done, codes "session ok: 5 lines, 2 replicas, 2 operations, 0 queries\n")
 unfolding answer_of decoded value_of shaped headed header_of line_of line_text checked_line digits is_utf8 chars serde_json_on_literals
 counted = refl
+
+pub anchors_of_two_replicas : answer_of (Replay 0) (codes "[\"zedbuf\",1,\"ab\",[1,2]]\n[\"anchor\",1,\"l\",1,\"left\"]\n[\"anchor\",1,\"r\",1,\"right\"]\n[\"edit\",1,[[1,1,\"X\"]]]\n[\"where\",1,\"l\"]\n[\"where\",1,\"r\"]\n[\"where\",2,\"r\"]\n")
+    ≡ (status.Done, codes "anchor \"l\": set\nanchor \"r\": set\n1: 2.1\nwhere \"l\" at 1: 1\nwhere \"r\" at 1: 2\nwhere \"r\" at 2: 1\nreplica 1: 3 bytes, 1 rows, 1 applied, 0 waiting, 0 refused\nfinal 1: \"aXb\"\nreplica 2: 2 bytes, 1 rows, 0 applied, 0 waiting, 0 refused\nfinal 2: \"ab\"\n")
+unfolding answer_of open_histories left_anchor right_anchor is_known place report_of report_text decoded value_of shaped headed header_of line_of line_text made_line anchor_line where_line replica_line final_line digits escape_byte is_utf8 chars serde_json_on_literals
+anchors_of_two_replicas = refl
+
+pub a_refused_anchor : answer_of (Replay 0) (codes "[\"zedbuf\",1,\"ab\",[1]]\n[\"anchor\",1,\"p\",3,\"left\"]\n[\"where\",1,\"p\"]\n[\"anchor\",1,\"p\",0,\"left\"]\n[\"anchor\",1,\"p\",3,\"left\"]\n[\"where\",1,\"p\"]\n")
+    ≡ (status.Done, codes "anchor \"p\": pastend 2\nwhere \"p\" at 1: nothing\nanchor \"p\": set\nanchor \"p\": pastend 2\nwhere \"p\" at 1: 0\nreplica 1: 2 bytes, 1 rows, 0 applied, 0 waiting, 0 refused\nfinal 1: \"ab\"\n")
+unfolding answer_of open_histories left_anchor right_anchor is_known place report_of report_text decoded value_of shaped headed header_of line_of line_text anchor_line where_line replica_line final_line digits escape_byte is_utf8 chars serde_json_on_literals
+a_refused_anchor = refl
+
+pub marks_of_two_replicas : answer_of (Replay 0) (codes "[\"zedbuf\",1,\"ab\",[1,2]]\n[\"mark\",1,\"m\"]\n[\"edit\",1,[[1,1,\"X\"]]]\n[\"edit\",1,[[2,3,\"\"]]]\n[\"since\",1,\"m\"]\n[\"mark\",1,\"n\"]\n[\"since\",2,\"n\"]\n")
+    ≡ (status.Done, codes "mark \"m\": set\n1: 2.1\n2: 3.1\nsince \"m\" at 1: 1..2 -> 1..2\nmark \"n\": set\nsince \"n\" at 2: unseen 1\nreplica 1: 2 bytes, 1 rows, 2 applied, 0 waiting, 0 refused\nfinal 1: \"aX\"\nreplica 2: 2 bytes, 1 rows, 0 applied, 0 waiting, 0 refused\nfinal 2: \"ab\"\n")
+unfolding answer_of open_histories since report_of report_text decoded value_of shaped headed header_of line_of line_text made_line mark_line since_line replica_line final_line digits escape_byte is_utf8 chars serde_json_on_literals
+marks_of_two_replicas = refl
 
 -- ---- what is no session
 

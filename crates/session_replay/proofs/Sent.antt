@@ -11,8 +11,8 @@ use Rattle.session_lines.specs.declared.fault.Word.{Word}
 use Rattle.session_lines.specs.declared.fault.DecodeFault.{DecodeFault}
 use Rattle.session_lines.specs.declared.fault.DecodeFault.TheVariants.{Bad, Lines}
 use Rattle.session_replay.specs.Replay.{answer_of, large_line, written_for, Does, IsOutput, Replays, Answered}
-use Rattle.session_replay.specs.declared.words.Command.{Command}
-use Rattle.session_replay.specs.declared.words.Command.TheVariants as command
+use Rattle.command_words.specs.declared.command.Task.{Task}
+use Rattle.command_words.specs.declared.command.Task.TheVariants as task
 use Rattle.session_replay.specs.declared.top.Status.{Status}
 use Rattle.session_replay.specs.declared.top.Status.TheVariants as status
 use Rattle.session_replay.proofs.Outcome.{Told, many_decoded, told, session_answer}
@@ -22,7 +22,7 @@ if_had : (left : Option (List ℕ)) (input : List ℕ) (P : List ℕ → Type 0)
 if_had None input P h p = tt
 if_had (Some xs) input P h p = subst P h p
 
-module _ (c : Command) (left left_after : Option (List ℕ)) (given given_after ends ends_after : ℕ) (written written_after : Option (List ℕ)) (r st : Status) (shown text : List ℕ)
+module _ (c : Task) (left left_after : Option (List ℕ)) (given given_after ends ends_after : ℕ) (written written_after : Option (List ℕ)) (r st : Status) (shown text : List ℕ)
     (is : shown ≡ text) (a : Answered c left left_after given given_after ends ends_after st text) (either : (r ≡ st) ⊎ (r ≡ status.WriteFault))
     (whole : r ≡ st → Appends written written_after shown) where
   kept : Told c a.input st text
@@ -46,9 +46,9 @@ module _ (c : Command) (left left_after : Option (List ℕ)) (given given_after 
   pub not_sent : (d : Status) → (status.Done ≡ d → ⊥) → (status.Session ≡ d → ⊥) → (status.TooLarge ≡ d → ⊥) → (status.WriteFault ≡ d → ⊥) → r ≡ d → ⊥
   not_sent d x y z n k = one_of d kept.kinds (same d k n).0 x y z
 
-  does : (c : Command) (s : Session) → decoded a.input ≡ Ok s → written_for c s ≡ text → Does c a.input text
-  does (command.Replay workers) s d w = subst (λ (out : List ℕ). Replays a.input out workers) w (plain_with_workers a.input s workers d)
-  does command.Check s d w = (s, d, sym w)
+  does : (c : Task) (s : Session) → decoded a.input ≡ Ok s → written_for c s ≡ text → Does c a.input text
+  does (task.Replay workers) s d w = subst (λ (out : List ℕ). Replays a.input out workers) w (plain_with_workers a.input s workers d)
+  does task.Check s d w = (s, d, sym w)
 
   pub sent_done : r ≡ status.Done → (input : List ℕ) × WasRead left left_after given given_after ends ends_after input
       × ((output : List ℕ) × Appends written written_after output × Does c input output)
@@ -90,9 +90,9 @@ module _ (c : Command) (left left_after : Option (List ℕ)) (given given_after 
   output_by (inr (inl k)) = let f = kept.session k in inr (inr (f.0, (Bad f.1.0 f.1.1, f.1.2, sym f.1.3)))
   output_by (inr (inr k)) = large_output (kept.large k)
 
-  pub sent_front : (d : Command) → d ≡ c → AppendsFront written written_after shown → (input : List ℕ) × WasTaken left left_after given given_after ends ends_after input
+  pub sent_front : (d : Task) → d ≡ c → AppendsFront written written_after shown → (input : List ℕ) × WasTaken left left_after given given_after ends ends_after input
       × ((output : List ℕ) × IsOutput d input output × AppendsFront written written_after output)
-  sent_front d e f = (a.input, a.taken, (text, subst (λ (d : Command). IsOutput d a.input text) (sym e) (output_by kept.kinds), subst (AppendsFront written written_after) is f))
+  sent_front d e f = (a.input, a.taken, (text, subst (λ (d : Task). IsOutput d a.input text) (sym e) (output_by kept.kinds), subst (AppendsFront written written_after) is f))
 
   is_status : (d : Status) (t : List ℕ) → answer_of c a.input ≡ (d, t) → st ≡ d
   is_status d t e = ap (λ p. p.0) (sym a.answer ∙ e)
@@ -130,6 +130,6 @@ no_fault_by st (inl e) k = let f : status.Done ≡ status.WriteFault = sym e ∙
 no_fault_by st (inr (inl e)) k = let f : status.Session ≡ status.WriteFault = sym e ∙ k in cc
 no_fault_by st (inr (inr e)) k = let f : status.TooLarge ≡ status.WriteFault = sym e ∙ k in cc
 
-pub never_fails : (c : Command) (left left_after : Option (List ℕ)) (given given_after ends ends_after : ℕ) (st : Status) (text : List ℕ)
+pub never_fails : (c : Task) (left left_after : Option (List ℕ)) (given given_after ends ends_after : ℕ) (st : Status) (text : List ℕ)
     → Answered c left left_after given given_after ends ends_after st text → st ≡ status.WriteFault → ⊥
 never_fails c left left_after given given_after ends ends_after st text a = no_fault_by st (told c a.input st text a.answer).kinds

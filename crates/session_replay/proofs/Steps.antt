@@ -4,12 +4,15 @@ use Rattle.std.proofs.Math.Seq.{drop-cons}
 use Rattle.std.specs.List.{flat_map}
 use Rattle.std.proofs.lemmas.List.{drop_all}
 use Rattle.std.proofs.lemmas.Grind.{flat_map-append}
+use Rattle.lamport_clock.specs.Versions.{Entries}
+use Rattle.op_model.specs.declared.anchor.Anchor.{Anchor}
 use Rattle.op_model.specs.declared.operation.Operation.{Operation}
 use Rattle.text_buffer.specs.Buffer.{BufferState}
 use Rattle.session_lines.specs.Report.{line_text, report_text}
 use Rattle.session_lines.specs.declared.report.Report.{Report}
 use Rattle.session_lines.specs.declared.session.SessionLine.{SessionLine}
 use Rattle.session_lines.specs.declared.session.Session.{Session}
+use Rattle.session_replay.specs.Names.{Names}
 use Rattle.session_replay.specs.Work.{State, reports_at, events, step, all_events, after_all, at_end, opened, opening}
 use Rattle.session_replay.specs.Queries.{plain_line, queries_from, queries_of, report_of}
 
@@ -42,12 +45,19 @@ all_written out all e = sym (append-nil out) ∙ ap (λ t. out ++ t) (sym text-n
 
 -- ---- one line
 
-pub same_state : (bs cs : List BufferState) (os ps : List (Option Operation)) → bs ≡ cs → os ≡ ps
-    → ◌≡◌ {A = State} (record { buffers = bs; operations = os }) (record { buffers = cs; operations = ps })
-same_state bs cs os ps d e =
-    let by_buffers : List BufferState → State = λ bs. record { buffers = bs; operations = os } in
-    let by_operations : List (Option Operation) → State = λ os. record { buffers = cs; operations = os } in
+pub same_state : {ns : Names Anchor} {ms : Names Entries} (bs cs : List BufferState) (os ps : List (Option Operation)) → bs ≡ cs → os ≡ ps
+    → ◌≡◌ {A = State} (record { buffers = bs; operations = os; anchors = ns; marks = ms }) (record { buffers = cs; operations = ps; anchors = ns; marks = ms })
+same_state {ns} {ms} bs cs os ps d e =
+    let by_buffers : List BufferState → State = λ bs. record { buffers = bs; operations = os; anchors = ns; marks = ms } in
+    let by_operations : List (Option Operation) → State = λ os. record { buffers = cs; operations = os; anchors = ns; marks = ms } in
     ap by_buffers d ∙ ap by_operations e
+
+-- what is kept under names goes by other lists
+pub same_names : (s : State) (ns ls : Names Anchor) (ms ks : Names Entries) → ns ≡ ls → ms ≡ ks → ◌≡◌ {A = State} (record s { anchors = ns; marks = ms }) (record s { anchors = ls; marks = ks })
+same_names s ns ls ms ks d e =
+    let by_anchors : Names Anchor → State = λ ns. record s { anchors = ns; marks = ms } in
+    let by_marks : Names Entries → State = λ ms. record s { anchors = ls; marks = ms } in
+    ap by_anchors d ∙ ap by_marks e
 
 -- a line of a report is written
 pub line_reported : (r q : Report) (out new : List ℕ) → r ≡ q → new ≡ out ++ line_text r → new ≡ out ++ report_text (q ∷ [])
@@ -60,6 +70,14 @@ one_reported g o b out new e n = n ∙ ap (λ o. out ++ report_text (reports_at 
 -- it is not there, and nothing is written
 pub none_reported : (g : BufferState → List Report) (o : Option BufferState) (out : List ℕ) → o ≡ None → out ≡ out ++ report_text (reports_at g o)
 none_reported g o out e = sym (append-nil out) ∙ ap (λ t. out ++ t) (sym text-none) ∙ ap (λ o. out ++ report_text (reports_at g o)) (sym e)
+
+-- the replica is there, and what is reported of what it has applied is written
+pub of_history : (g : List Operation → List Report) (o : Option (List Operation)) (h : List Operation) (out new : List ℕ) → Some h ≡ o → new ≡ out ++ report_text (g h) → new ≡ out ++ report_text (reports_at g o)
+of_history g o h out new e n = n ∙ ap (λ o. out ++ report_text (reports_at g o)) e
+
+-- it is not there, and nothing is written
+pub of_no_history : (g : List Operation → List Report) (o : Option (List Operation)) (out : List ℕ) → None ≡ o → out ≡ out ++ report_text (reports_at g o)
+of_no_history g o out e = nothing_written out ∙ ap (λ o. out ++ report_text (reports_at g o)) e
 
 -- ---- one line more
 
@@ -106,12 +124,13 @@ three_parts es qs rs mid out new m o n =
     n ∙ ap (λ x. x ++ report_text rs) (o ∙ ap (λ x. x ++ report_text qs) m) ∙ append_assoc (report_text es) (report_text qs) (report_text rs)
     ∙ ap (λ x. report_text es ++ x) (sym (text-append qs rs)) ∙ sym (text-append es (qs ++ rs))
 
-module _ (s : Session) (bs : List BufferState) (ls : List SessionLine) (ops : List (Option Operation)) (b : bs ≡ map (opened s.base) s.replicas) (l : ls ≡ s.lines) (z : ops ≡ []) where
+module _ (s : Session) (bs : List BufferState) (ls : List SessionLine) (ops : List (Option Operation)) (ns : Names Anchor) (ms : Names Entries)
+    (b : bs ≡ map (opened s.base) s.replicas) (l : ls ≡ s.lines) (z : ops ≡ []) (y : ns ≡ []) (x : ms ≡ []) where
   abbrev first : State
-  first = record { buffers = bs; operations = ops }
+  first = record { buffers = bs; operations = ops; anchors = ns; marks = ms }
 
   same_first : first ≡ opening s
-  same_first = same_state bs (map (opened s.base) s.replicas) ops [] b z
+  same_first = same_state bs (map (opened s.base) s.replicas) ops [] b z ∙ same_names (opening s) ns [] ms [] y x
 
   all_answers : (old new : List Report) → old ≡ [] → new ≡ old ++ map plain_line (queries_from (length old + 1) ls first) → new ≡ map plain_line (queries_of s)
   all_answers old new o n =

@@ -1,10 +1,12 @@
 pub mod Causes
-pub mod Words
 pub mod Traffic
 pub mod Memory
+pub mod Names
 pub mod Work
 pub mod Queries
 pub mod Held
 pub mod Working
+pub mod Making
+pub mod MakingOn
 pub mod Replay
 pub mod Laws

@@ -67,6 +67,10 @@ question_of (line.Op e) = None
 question_of (line.Uop u) = None
 question_of (line.Give r n) = None
 question_of (line.Text r) = None
+question_of (line.Anchor r n o b) = None
+question_of (line.Where r n) = None
+question_of (line.Mark r n) = None
+question_of (line.Since r n) = None
 question_of (line.Find r needle) = Some (r, StartsOf needle)
 question_of (line.Point r o) = Some (r, PointOf o)
 question_of (line.Offset r row column) = Some (r, OffsetOf (record { row = row; column = column }))

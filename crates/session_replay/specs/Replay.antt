@@ -6,10 +6,13 @@ use Rattle.session_lines.specs.Words.{bad_line, many_line}
 use Rattle.session_lines.specs.declared.session.Session.{Session}
 use Rattle.session_lines.specs.declared.fault.DecodeFault.{DecodeFault}
 use Rattle.session_lines.specs.declared.fault.DecodeFault.TheVariants.{Lines, Bad, OutOfMemory}
-use Rattle.session_replay.specs.Traffic.{WasTaken}
+use Rattle.session_replay.specs.Traffic.{WasRead, WasTaken}
+use Rattle.session_replay.specs.Making.{Makes}
 use Rattle.session_replay.specs.Queries.{AreReplies, Reply, end_of, reply_line, report_of, report_with}
-use Rattle.session_replay.specs.declared.words.Command.{Command}
-use Rattle.session_replay.specs.declared.words.Command.TheVariants as command
+use Rattle.command_words.specs.declared.command.Command.{Command}
+use Rattle.command_words.specs.declared.command.Command.TheVariants as command
+use Rattle.command_words.specs.declared.command.Task.{Task}
+use Rattle.command_words.specs.declared.command.Task.TheVariants as task
 use Rattle.session_replay.specs.declared.top.Status.{Status}
 use Rattle.session_replay.specs.declared.top.Status.TheVariants as status
 
@@ -22,10 +25,10 @@ Replays input output workers = (s : Session) × (decoded input ≡ Ok s)
 abbrev pub Checks : List ℕ → List ℕ → Type 0
 Checks input output = (s : Session) × (decoded input ≡ Ok s) × (output ≡ line_text (checked s))
 
--- the output is what the command makes of the input
-abbrev pub Does : Command → List ℕ → List ℕ → Type 0
-Does (command.Replay workers) input output = Replays input output workers
-Does command.Check input output = Checks input output
+-- the output is what the task makes of the input
+abbrev pub Does : Task → List ℕ → List ℕ → Type 0
+Does (task.Replay workers) input output = Replays input output workers
+Does task.Check input output = Checks input output
 
 -- ---- the lines without a report
 
@@ -43,16 +46,16 @@ refusal (Lines n) = (status.TooLarge, many_line)
 refusal (Bad n w) = (status.Session, bad_line n w)
 refusal OutOfMemory = (status.Memory, codes "")
 
--- what a command writes for a session
-abbrev pub written_for : Command → Session → List ℕ
-written_for (command.Replay workers) s = report_text (report_of s)
-written_for command.Check s = line_text (checked s)
+-- what a task writes for a session
+abbrev pub written_for : Task → Session → List ℕ
+written_for (task.Replay workers) s = report_text (report_of s)
+written_for task.Check s = line_text (checked s)
 
-abbrev pub answer_with : Command → Result Session DecodeFault → Status × List ℕ
+abbrev pub answer_with : Task → Result Session DecodeFault → Status × List ℕ
 answer_with c (Ok s) = (status.Done, written_for c s)
 answer_with c (Err e) = refusal e
 
-unfoldable pub answer_of : Command → List ℕ → Status × List ℕ
+unfoldable pub answer_of : Task → List ℕ → Status × List ℕ
 answer_of c input = if nat_lt 67108864 (length input) then (status.TooLarge, large_line) else answer_with c (decoded input)
 
 -- ---- what may be written for an input
@@ -63,14 +66,21 @@ Refuses input output =
     ((67108864 < length input) × (output ≡ large_line))
     ⊎ ((length input ≤ 67108864) × ((e : DecodeFault) × (decoded input ≡ Err e) × (output ≡ (refusal e).1)))
 
--- the output is one for the input: what the command makes of a session, or the line that refuses what is none
-abbrev pub IsOutput : Command → List ℕ → List ℕ → Type 0
+-- the output is one for the input: what the task makes of a session, or the line that refuses what is none
+abbrev pub IsOutput : Task → List ℕ → List ℕ → Type 0
 IsOutput c input output = ((length input ≤ 67108864) × Does c input output) ⊎ Refuses input output
+
+-- ---- what a command ends with
+
+-- the input was read to its end, and the output is what the task makes of it; a session that is made is not read
+abbrev pub Ends : Command → (left left_after : Option (List ℕ)) → (given given_after ends ends_after : ℕ) → List ℕ → Type 0
+Ends (command.Read t) left left_after given given_after ends ends_after output = (input : List ℕ) × WasRead left left_after given given_after ends ends_after input × Does t input output
+Ends (command.Make seed n edits) left left_after given given_after ends ends_after output = Makes seed n edits output
 
 -- ---- for private clauses
 
 -- the status and the text that plainly answer what a source had left
-pub record Answered (c : Command) (left left_after : Option (List ℕ)) (given given_after ends ends_after : ℕ) (status : Status) (text : List ℕ) : Type 0 where
+pub record Answered (c : Task) (left left_after : Option (List ℕ)) (given given_after ends ends_after : ℕ) (status : Status) (text : List ℕ) : Type 0 where
   pub input : List ℕ
   pub taken : WasTaken left left_after given given_after ends ends_after input
   pub answer : answer_of c input ≡ (status, text)

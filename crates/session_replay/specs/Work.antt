@@ -2,7 +2,11 @@
 use Rattle.std.specs.Prelude.{ℕ, ◌+◌, ◌-◌, ◌^◌, ◌==◌, List, [], ◌∷◌, ◌++◌, length, map, get_or, Option, Some, None, is_none, option_and_then, option_map, Result, Ok, Err, if◌then◌else◌}
 use Rattle.std.specs.List.{find, flat_map}
 use Rattle.std.specs.Result.{result_ok}
+use Rattle.lamport_clock.specs.Versions.{Entries}
 use Rattle.lamport_clock.specs.declared.stamp.Lamport.{Lamport}
+use Rattle.op_model.specs.Anchors.{place_fault}
+use Rattle.op_model.specs.Histories.{History, version}
+use Rattle.op_model.specs.declared.anchor.Anchor.{Anchor}
 use Rattle.op_model.specs.Operations.{stamp_of}
 use Rattle.op_model.specs.declared.operation.Piece.{Piece}
 use Rattle.op_model.specs.declared.operation.Operation.{Operation}
@@ -23,18 +27,25 @@ use Rattle.session_lines.specs.declared.report.Given.{Given}
 use Rattle.session_lines.specs.declared.report.Given.TheVariants as given
 use Rattle.session_lines.specs.declared.report.Report.{Report}
 use Rattle.session_lines.specs.declared.report.Report.TheVariants as report
+use Rattle.session_replay.specs.Names.{Names, anchor_answer, anchor_made, since_answer, under, where_answer, with_name}
 
 -- ---- the buffers of a session
 
 -- a session as far as it was worked: the buffers of its replicas, in the header's order, and the operation of each operation
--- line, in their order, None where the line was refused
+-- line, in their order, None where the line was refused; and the anchors and the versions that it keeps under names
 pub record State : Type 0 where
   pub buffers : List BufferState
   pub operations : List (Option Operation)
+  pub anchors : Names Anchor
+  pub marks : Names Entries
 
 -- the buffer of replica r
 abbrev pub buffer_of : ℕ → List BufferState → Option BufferState
 buffer_of r bs = find (λ b. b.replica == r) bs
+
+-- what replica r has applied, the base first, where the replica is there
+abbrev pub history_at : ℕ → State → Option History
+history_at r s = option_map (λ b. b.history) (buffer_of r s.buffers)
 
 -- the buffers, that of replica r changed by f
 abbrev pub with_buffer : ℕ → (BufferState → BufferState) → List BufferState → List BufferState
@@ -118,13 +129,18 @@ text_report b =
 
 -- ---- a line
 
-abbrev pub reports_at : (BufferState → List Report) → Option BufferState → List Report
+abbrev pub reports_at : {A : Type 0} → (A → List Report) → Option A → List Report
 reports_at f None = []
 reports_at f (Some b) = f b
 
 -- what the next operation line reports, f being what comes of it at the buffer of replica r
 abbrev pub line_events : ℕ → (BufferState → Result Operation Report) → State → List Report
 line_events r f s = reports_at (λ b. outcome_reports (next_number s) (f b) b) (buffer_of r s.buffers)
+
+-- what changed since a version, if one is under the name; no session asks for a name without one
+abbrev pub since_reports : List ℕ → ℕ → Option Entries → History → List Report
+since_reports name r None h = []
+since_reports name r (Some v) h = report.Since name r (since_answer v h) ∷ []
 
 -- what the line reports as an event, which a query does not; a replica that is not there reports nothing, and no session has a
 -- line of one
@@ -135,13 +151,17 @@ events (line.Op e) s = report.Made (next_number s) e.stamp ∷ []
 events (line.Uop u) s = report.Made (next_number s) u.stamp ∷ []
 events (line.Give r n) s = reports_at (λ b. report.Give n r (give_answer (operation_of n s.operations) b) ∷ []) (buffer_of r s.buffers)
 events (line.Text r) s = reports_at (λ b. text_report b ∷ []) (buffer_of r s.buffers)
+events (line.Anchor r name o b) s = reports_at (λ h. report.Anchor name (anchor_answer (place_fault h o)) ∷ []) (history_at r s)
+events (line.Where r name) s = reports_at (λ h. report.Where name r (where_answer (under name s.anchors) h) ∷ []) (history_at r s)
+events (line.Mark r name) s = reports_at (λ h. report.Mark name ∷ []) (history_at r s)
+events (line.Since r name) s = reports_at (since_reports name r (under name s.marks)) (history_at r s)
 events (line.Find r needle) s = []
 events (line.Point r o) s = []
 events (line.Offset r row column) s = []
 
 -- the session with these buffers after one more operation line, and with what stands under its number
 abbrev pub numbered : List BufferState → Option Operation → State → State
-numbered bs o s = record { buffers = bs; operations = s.operations ++ o ∷ [] }
+numbered bs o s = record s { buffers = bs; operations = s.operations ++ o ∷ [] }
 
 -- the session after the next operation line, f being what comes of it at the buffer of replica r
 abbrev pub after_line : ℕ → (BufferState → Result Operation Report) → State → State
@@ -153,8 +173,12 @@ step (line.Edit r ps) s = after_line r (edit_outcome (next_number s) ps) s
 step (line.Undo r ms) s = after_line r (undo_outcome (next_number s) s.operations ms) s
 step (line.Op e) s = numbered s.buffers (Some (operation.Edit e)) s
 step (line.Uop u) s = numbered s.buffers (Some (operation.Undo u)) s
-step (line.Give r n) s = record { buffers = with_buffer r (after_give (operation_of n s.operations)) s.buffers; operations = s.operations }
+step (line.Give r n) s = record s { buffers = with_buffer r (after_give (operation_of n s.operations)) s.buffers }
 step (line.Text r) s = s
+step (line.Anchor r name o b) s = record s { anchors = with_name name (option_and_then (anchor_made o b) (history_at r s)) s.anchors }
+step (line.Where r name) s = s
+step (line.Mark r name) s = record s { marks = with_name name (option_map version (history_at r s)) s.marks }
+step (line.Since r name) s = s
 step (line.Find r needle) s = s
 step (line.Point r o) s = s
 step (line.Offset r row column) s = s
@@ -187,4 +211,4 @@ abbrev pub opened : List ℕ → ℕ → BufferState
 opened base r = over_base r base (record { bytes = 2 ^ 40; entries = 2 ^ 40 - 1 })
 
 abbrev pub opening : Session → State
-opening s = record { buffers = map (opened s.base) s.replicas; operations = [] }
+opening s = record { buffers = map (opened s.base) s.replicas; operations = []; anchors = []; marks = [] }

@@ -6,14 +6,15 @@
 
 mod counts;
 mod laws;
+mod making;
 mod memory;
+mod names;
 mod outside;
 mod queries;
 mod replay;
 mod replica;
 mod top;
 mod traffic;
-mod words;
 
 pub use counts::ReadCounts;
 pub use laws::{plain_with_workers, plain_without_queries, plain_without_workers};

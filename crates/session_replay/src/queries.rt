@@ -133,6 +133,10 @@ impl Progress {
             SessionLine::Uop(_) => Ok(None),
             SessionLine::Give { .. } => Ok(None),
             SessionLine::Text { .. } => Ok(None),
+            SessionLine::Anchor { .. } => Ok(None),
+            SessionLine::Where { .. } => Ok(None),
+            SessionLine::Mark { .. } => Ok(None),
+            SessionLine::Since { .. } => Ok(None),
             SessionLine::Find { replica, needle } => self.find(alloc, number, *replica, needle),
             SessionLine::Point { replica, offset } => self.point(number, *replica, *offset),
             SessionLine::Offset {

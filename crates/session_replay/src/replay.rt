@@ -1,7 +1,7 @@
 // A session worked line by line, and its report.
-ghost use Rattle.std.specs.Prelude.{◌≡◌, ◌≤◌, ◌+◌, ◌++◌, ◌==◌, [], ◌∷◌, length, map, ℕ, Some, IfOk, OnOk};
+ghost use Rattle.std.specs.Prelude.{◌≡◌, ◌≤◌, ◌+◌, ◌^◌, ◌++◌, ◌==◌, [], ◌∷◌, is_some, length, map, ℕ, Some, IfOk, OnOk};
 ghost use Rattle.std.specs.Option.{option_copied, option_map};
-ghost use Rattle.std.specs.List.{All, flat_map, position};
+ghost use Rattle.std.specs.List.{All, count_by, flat_map, position};
 ghost use Rattle.op_model.specs.Operations.{stamp_of};
 ghost use Rattle.op_model.specs.declared.operation.Operation.TheVariants.{Edit, Undo};
 ghost use Rattle.session_lines.specs.Report.{report_text};
@@ -10,13 +10,17 @@ ghost use Rattle.session_lines.specs.declared.report.Report.{Report};
 ghost use Rattle.session_lines.specs.declared.session.SessionLine.{SessionLine};
 ghost use Rattle.session_replay.specs.Work.{after_all, all_events, at_end, buffer_of, events, next_number, numbered, opened, step};
 ghost use Rattle.session_replay.specs.Queries.{plain_line, queries_from, query_at, report_of};
+ghost use Rattle.session_replay.specs.Making.{text_len};
 ghost use Rattle.session_replay.specs.Working.{state_of};
 ghost use Rattle.text_buffer.specs.Buffer.{BufferState};
 
+use crate::names;
 use crate::replica::{Replica, operation_of};
-use op_model::{Counts, EditOp, Operation, Pieces, UndoOp};
+use lamport_clock::Version;
+use op_model::{Anchor, Bias, Counts, EditOp, Operation, Pieces, Text, UndoOp};
 use session_lines::{Numbers, Report, Session, SessionLine, write_line};
 use std::alloc::{AllocError, Global};
+use std::collections::BTreeMap;
 use text_buffer::Snapshot;
 
 /// A session as far as it was worked.
@@ -26,6 +30,10 @@ pub struct Progress {
     replicas: Vec<Replica>,
     /// The operation of each operation line, in their order; `None` where the line was refused.
     operations: Vec<Option<Operation>>,
+    /// The anchors that are kept under names.
+    anchors: BTreeMap<String, Anchor>,
+    /// The versions that are kept under names.
+    marks: BTreeMap<String, Version>,
     /// The lines of the events.
     report: Vec<u8>,
 }
@@ -167,9 +175,83 @@ impl Progress {
         Ok(())
     }
 
+    /// Works a line that makes an anchor.
+    fn work_anchor(
+        &mut self,
+        alloc: Global,
+        id: u16,
+        name: &Text,
+        offset: u64,
+        bias: Bias,
+    ) -> Result<(), AllocError>
+        ensures report { OnOk result (self.new.report.items ≡ self.old.report.items ++ report_text (events (SessionLine.Anchor id name.now offset bias) (state_of self.old))) }
+        ensures state { OnOk result (state_of self.new ≡ step (SessionLine.Anchor id name.now offset bias) (state_of self.old)) }
+    {
+        let Some(snapshot) = self.snapshot_of(id)? else {
+            return Ok(());
+        };
+        let made = snapshot.anchor(offset, bias);
+        let answer = names::keep_anchor(alloc, &mut self.anchors, name, made)?;
+        let name = names::copy_of(alloc, name)?;
+        write_line(alloc, &mut self.report, &Report::Anchor { name, answer })?;
+        Ok(())
+    }
+
+    /// Works a line that asks where an anchor is.
+    fn work_where(&mut self, alloc: Global, id: u16, name: &Text) -> Result<(), AllocError>
+        ensures report { OnOk result (self.new.report.items ≡ self.old.report.items ++ report_text (events (SessionLine.Where id name.now) (state_of self.old))) }
+        ensures state { OnOk result (state_of self.new ≡ step (SessionLine.Where id name.now) (state_of self.old)) }
+    {
+        let Some(snapshot) = self.snapshot_of(id)? else {
+            return Ok(());
+        };
+        let report = Report::Where {
+            name: names::copy_of(alloc, name)?,
+            replica: id,
+            answer: names::where_answer(&snapshot, names::find(&self.anchors, name)),
+        };
+        write_line(alloc, &mut self.report, &report)?;
+        Ok(())
+    }
+
+    /// Works a line that keeps a version.
+    fn work_mark(&mut self, alloc: Global, id: u16, name: &Text) -> Result<(), AllocError>
+        ensures report { OnOk result (self.new.report.items ≡ self.old.report.items ++ report_text (events (SessionLine.Mark id name.now) (state_of self.old))) }
+        ensures state { OnOk result (state_of self.new ≡ step (SessionLine.Mark id name.now) (state_of self.old)) }
+    {
+        let Some(snapshot) = self.snapshot_of(id)? else {
+            return Ok(());
+        };
+        let version = snapshot.version().copy(alloc)?;
+        names::keep(alloc, &mut self.marks, name, version)?;
+        let name = names::copy_of(alloc, name)?;
+        write_line(alloc, &mut self.report, &Report::Mark { name })?;
+        Ok(())
+    }
+
+    /// Works a line that asks what changed since a version.
+    fn work_since(&mut self, alloc: Global, id: u16, name: &Text) -> Result<(), AllocError>
+        ensures report { OnOk result (self.new.report.items ≡ self.old.report.items ++ report_text (events (SessionLine.Since id name.now) (state_of self.old))) }
+        ensures state { OnOk result (state_of self.new ≡ step (SessionLine.Since id name.now) (state_of self.old)) }
+    {
+        let Some(snapshot) = self.snapshot_of(id)? else {
+            return Ok(());
+        };
+        let Some(version) = names::find(&self.marks, name) else {
+            return Ok(());
+        };
+        let report = Report::Since {
+            name: names::copy_of(alloc, name)?,
+            replica: id,
+            answer: names::since_answer(alloc, &snapshot, version)?,
+        };
+        write_line(alloc, &mut self.report, &report)?;
+        Ok(())
+    }
+
     /// Works a line.
     #[tactic(auto, using(crate::proofs::Steps::nothing_written))]
-    fn work_line(&mut self, alloc: Global, line: &SessionLine) -> Result<(), AllocError>
+    pub fn work_line(&mut self, alloc: Global, line: &SessionLine) -> Result<(), AllocError>
         ensures report { OnOk result (self.new.report.items ≡ self.old.report.items ++ report_text (events line.now (state_of self.old))) }
         ensures state { OnOk result (state_of self.new ≡ step line.now (state_of self.old)) }
     {
@@ -180,12 +262,66 @@ impl Progress {
             SessionLine::Uop(undo) => self.work_operation(alloc, undo_operation(alloc, undo)?)?,
             SessionLine::Give { replica, number } => self.work_give(alloc, *replica, *number)?,
             SessionLine::Text { replica } => self.work_text(alloc, *replica)?,
+            SessionLine::Anchor {
+                replica,
+                name,
+                offset,
+                bias,
+            } => self.work_anchor(alloc, *replica, name, *offset, *bias)?,
+            SessionLine::Where { replica, name } => self.work_where(alloc, *replica, name)?,
+            SessionLine::Mark { replica, name } => self.work_mark(alloc, *replica, name)?,
+            SessionLine::Since { replica, name } => self.work_since(alloc, *replica, name)?,
             // queries change nothing, and are answered apart
             SessionLine::Find { .. } => {}
             SessionLine::Point { .. } => {}
             SessionLine::Offset { .. } => {}
         }
         Ok(())
+    }
+}
+
+impl Progress {
+    /// Replicas over a base, which have done nothing yet.
+    pub fn new(alloc: Global, ids: &[u16], base: &str) -> Result<Progress, AllocError>
+        requires ids { All (λ (r : ℕ). (1 ≤ r) × (r ≤ 1023)) ids.now }
+        requires base { length base.now ≤ 67108864 }
+        ensures buffers { IfOk result (λ p. p.replicas.items ≡ map (opened base.now) ids.now) }
+        ensures operations { IfOk result (λ p. p.operations.items ≡ []) }
+    {
+        Ok(Progress {
+            replicas: replicas_over(alloc, ids, base)?,
+            operations: Vec::new(alloc),
+            report: Vec::new(alloc),
+        })
+    }
+
+    /// How many bytes the text of the replica with that id has, if it is there.
+    pub fn text_len(&self, id: u16) -> u64
+        ensures len { result ≡ text_len (buffer_of id self.now.replicas.items) }
+        ensures bound { result ≤ 2 ^ 40 }
+    {
+        match place_of(self.replicas.as_slice(), id) {
+            Some(place) => self.replicas[place].text_len(),
+            None => 0,
+        }
+    }
+
+    /// The replicas, in the header's order.
+    pub fn replicas(&self) -> &[Replica]
+        ensures { result.now ≡ self.now.replicas.items }
+    {
+        self.replicas.as_slice()
+    }
+
+    /// How many operation lines made an operation.
+    pub fn made_count(&self) -> u64
+        ensures { result ≡ count_by is_some self.now.operations.items }
+    {
+        let mut count = 0;
+        for operation in &self.operations {
+            count += operation.is_some() as u64;
+        }
+        count
     }
 }
 
@@ -264,6 +400,8 @@ pub fn report(alloc: Global, session: &Session) -> Result<Vec<u8>, AllocError>
     let mut progress = Progress {
         replicas: replicas_over(alloc, session.replicas.as_slice(), session.base.as_str())?,
         operations: Vec::new(alloc),
+        anchors: BTreeMap::new(alloc),
+        marks: BTreeMap::new(alloc),
         report: Vec::new(alloc),
     };
     let mut answers = Vec::new(alloc);

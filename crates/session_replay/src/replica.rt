@@ -1,5 +1,5 @@
 // A replica of a session: its buffer, and what it reports.
-ghost use Rattle.std.specs.Prelude.{◌≡◌, ◌≤◌, ◌+◌, ◌++◌, ◌==◌, [], ◌∷◌, length, map, is_none, Some, None, IfOk, OnOk};
+ghost use Rattle.std.specs.Prelude.{◌≡◌, ◌≤◌, ◌+◌, ◌^◌, ◌++◌, ◌==◌, [], ◌∷◌, length, map, is_none, Some, None, IfOk, OnOk};
 ghost use Rattle.std.specs.Option.{option_copied};
 ghost use Rattle.std.specs.Result.{result_ok};
 ghost use Rattle.op_model.specs.Operations.{stamp_of};
@@ -193,6 +193,14 @@ impl Replica {
         })
     }
 
+    /// How many bytes its text has.
+    pub fn text_len(&self) -> u64
+        ensures len { result ≡ length (text self.now.history) }
+        ensures bound { result ≤ 2 ^ 40 }
+    {
+        self.buffer.summary().len
+    }
+
     // How many rows its text has.
     fn row_count(&self) -> u64
         ensures { result ≡ feeds (text self.now.history) + 1 }
@@ -201,7 +209,7 @@ impl Replica {
     }
 
     /// What it counts at the end.
-    fn counts(&self) -> Report
+    pub fn counts(&self) -> Report
         ensures { result ≡ counts_report self.now }
     {
         Report::Replica {

@@ -3,20 +3,24 @@ ghost use Rattle.std.specs.Prelude.{◌≡◌, ◌≤◌, ◌<◌, ◌+◌, ◌�
 ghost use Rattle.std.specs.Io.KnownBytes.{Appends};
 ghost use Rattle.session_replay.specs.Causes.{Rose, RoseBy};
 ghost use Rattle.session_replay.specs.Traffic.{AppendsFront, WasRead, WasTaken};
-ghost use Rattle.session_replay.specs.Words.{command_of};
+ghost use Rattle.command_words.specs.Words.{command_of};
+ghost use Rattle.command_words.specs.declared.command.Command.{Command};
+ghost use Rattle.command_words.specs.declared.command.Task.{Task};
 ghost use Rattle.session_lines.specs.Cut.{lines_of};
 ghost use Rattle.session_lines.specs.Session.{IsSession, decoded};
 ghost use Rattle.session_lines.specs.Words.{bad_line, many_line};
 ghost use Rattle.session_lines.specs.Report.{checked, line_text};
-ghost use Rattle.session_replay.specs.Replay.{Answered, Does, IsOutput, answer_of, large_line, usage_line, written_for};
+ghost use Rattle.session_replay.specs.Making.{Makes};
+ghost use Rattle.session_replay.specs.Replay.{Answered, Does, Ends, IsOutput, answer_of, large_line, usage_line, written_for};
 ghost use Rattle.session_lines.specs.declared.session.Session.{Session};
 ghost use Rattle.session_lines.specs.declared.fault.Word.{Word};
 ghost use Rattle.session_lines.specs.declared.fault.DecodeFault.{DecodeFault};
 
+use crate::making::make;
 use crate::outside::{Gate, Sink, Source};
 use crate::replay::report;
 use crate::traffic::{InputFault, read_all, write_all};
-use crate::words::{Command, command_of};
+use command_words::{Command, Task, command_of};
 use session_lines::{DecodeFault, Report, Session, Word, decode, write_line};
 use std::alloc::{AllocError, Global};
 use std::sync::Wait;
@@ -67,26 +71,26 @@ fn check(alloc: Global, session: &Session) -> Result<Vec<u8>, AllocError>
     Ok(line)
 }
 
-/// What the command writes for a session.
-fn written(alloc: Global, command: Command, session: &Session) -> Result<Vec<u8>, AllocError>
+/// What the task writes for a session.
+fn written(alloc: Global, task: Task, session: &Session) -> Result<Vec<u8>, AllocError>
     requires { IsSession 67108864 session.now }
-    ensures { IfOk result (λ v. v.items ≡ written_for command session.now) }
+    ensures { IfOk result (λ v. v.items ≡ written_for task session.now) }
 {
-    match command {
+    match task {
         // No worker is started yet: every query is answered on the spot.
-        Command::Replay { workers: _ } => report(alloc, session),
-        Command::Check => check(alloc, session),
+        Task::Replay { workers: _ } => report(alloc, session),
+        Task::Check => check(alloc, session),
     }
 }
 
-/// What the command writes for an input, with the status.
+/// What the task writes for an input, with the status.
 #[tactic(auto, unfolding(crate::specs::Replay::answer_of))]
-fn answer(alloc: Global, command: Command, input: &[u8]) -> Result<(Status, Vec<u8>), AllocError>
+fn answer(alloc: Global, task: Task, input: &[u8]) -> Result<(Status, Vec<u8>), AllocError>
     requires { length input.now ≤ 67108864 }
-    ensures { IfOk result (λ p. answer_of command input.now ≡ (p.0, p.1.items)) }
+    ensures { IfOk result (λ p. answer_of task input.now ≡ (p.0, p.1.items)) }
 {
     match decode(alloc, input) {
-        Ok(session) => Ok((Status::Done, written(alloc, command, &session)?)),
+        Ok(session) => Ok((Status::Done, written(alloc, task, &session)?)),
         Err(DecodeFault::Lines(_)) => {
             Ok((Status::TooLarge, bytes_of(alloc, "too large: lines\n")?))
         }
@@ -115,24 +119,79 @@ fn send<O: Sink>(out: &mut O, text: &[u8], status: Status) -> Status
 /// Reads all that there is, at most one byte past the limit, and answers it.
 fn answer_source<I: Source>(
     alloc: Global,
-    command: Command,
+    task: Task,
     src: &mut I,
 ) -> Result<(Status, Vec<u8>), InputFault>
-    ensures answer { IfOk result (λ p. Answered command (I.left src.old) (I.left src.new) (I.given src.old) (I.given src.new) (I.ends src.old) (I.ends src.new) p.0 p.1.items) }
+    ensures answer { IfOk result (λ p. Answered task (I.left src.old) (I.left src.new) (I.given src.old) (I.given src.new) (I.ends src.old) (I.ends src.new) p.0 p.1.items) }
     ensures failed { IsErrOf result InputFault.Failed → Rose (I.faults src.old) (I.faults src.new) }
     ensures answered { IsErrOf result InputFault.TooLarge → ⊥ }
     ensures bounded { I.given src.new ≤ I.given src.old + 67108865 }
 {
     match read_all(alloc, src) {
-        Ok(input) => Ok(answer(alloc, command, input.as_slice())?),
+        Ok(input) => Ok(answer(alloc, task, input.as_slice())?),
         Err(InputFault::TooLarge) => Ok((Status::TooLarge, bytes_of(alloc, "too large: bytes\n")?)),
         Err(fault) => Err(fault),
     }
 }
 
+/// Reads a session, and writes what the task makes of it.
+fn work<I: Source, O: Sink>(alloc: Global, task: Task, src: &mut I, out: &mut O) -> Status
+    ensures usage { result ≡ Status.Usage → ⊥ }
+    ensures done { result ≡ Status.Done → (input : List ℕ)
+        × WasRead (I.left src.old) (I.left src.new) (I.given src.old) (I.given src.new) (I.ends src.old) (I.ends src.new) input
+        × ((output : List ℕ) × Appends (O.written out.old) (O.written out.new) output × Does task input output) }
+    ensures session { result ≡ Status.Session → (input : List ℕ)
+        × WasRead (I.left src.old) (I.left src.new) (I.given src.old) (I.given src.new) (I.ends src.old) (I.ends src.new) input
+        × ((n : ℕ) × (w : Word) × (decoded input ≡ Err (DecodeFault.Bad n w)) × Appends (O.written out.old) (O.written out.new) (bad_line n w)) }
+    ensures ended { (result ≡ Status.Done) ⊎ (result ≡ Status.Session) → Rose (I.ends src.old) (I.ends src.new) }
+    ensures large { result ≡ Status.TooLarge →
+        (IfSome (I.left src.old) (λ input. 67108864 < length input) × RoseBy 67108865 (I.given src.old) (I.given src.new)
+        × Appends (O.written out.old) (O.written out.new) large_line)
+        ⊎ ((input : List ℕ)
+        × WasRead (I.left src.old) (I.left src.new) (I.given src.old) (I.given src.new) (I.ends src.old) (I.ends src.new) input
+        × (1048576 < length (lines_of input)) × Appends (O.written out.old) (O.written out.new) many_line) }
+    ensures bounded { I.given src.new ≤ I.given src.old + 67108865 }
+    ensures read_fault { result ≡ Status.ReadFault → Rose (I.faults src.old) (I.faults src.new) × (out.new ≡ out.old) }
+    ensures write_fault { result ≡ Status.WriteFault → Rose (O.faults out.old) (O.faults out.new) }
+    ensures report_front { result ≡ Status.WriteFault → (input : List ℕ)
+        × WasTaken (I.left src.old) (I.left src.new) (I.given src.old) (I.given src.new) (I.ends src.old) (I.ends src.new) input
+        × ((output : List ℕ) × IsOutput task input output × AppendsFront (O.written out.old) (O.written out.new) output) }
+    ensures memory { result ≡ Status.Memory → out.new ≡ out.old }
+    ensures completes { (Rose (I.faults src.old) (I.faults src.new) → ⊥) → (Rose (O.faults out.old) (O.faults out.new) → ⊥)
+        → IfSome (I.left src.old) (λ input. length input ≤ 67108864 → (s : Session) → decoded input ≡ Ok s
+        → (result ≡ Status.Done) ⊎ (result ≡ Status.Memory)) }
+    ensures refuses { (Rose (I.faults src.old) (I.faults src.new) → ⊥) → (Rose (O.faults out.old) (O.faults out.new) → ⊥)
+        → IfSome (I.left src.old) (λ input. (67108864 < length input) ⊎ ((e : DecodeFault) × (decoded input ≡ Err e))
+        → (result ≡ Status.Session) ⊎ ((result ≡ Status.TooLarge) ⊎ (result ≡ Status.Memory))) }
+{
+    match answer_source(alloc, task, src) {
+        Ok((status, text)) => send(out, text.as_slice(), status),
+        Err(InputFault::Failed) => Status::ReadFault,
+        Err(_) => Status::Memory,
+    }
+}
+
+/// Makes a session, and writes its summary.
+fn make_session<O: Sink>(alloc: Global, seed: u32, replicas: u16, edits: u32, out: &mut O) -> Status
+    requires some { 1 ≤ replicas }
+    requires few { replicas ≤ 1023 }
+    ensures done { result ≡ Status.Done → (output : List ℕ)
+        × Appends (O.written out.old) (O.written out.new) output × Makes seed replicas edits output }
+    ensures memory { result ≡ Status.Memory → out.new ≡ out.old }
+    ensures front { result ≡ Status.WriteFault → (output : List ℕ)
+        × Makes seed replicas edits output × AppendsFront (O.written out.old) (O.written out.new) output }
+    ensures write_fault { result ≡ Status.WriteFault → Rose (O.faults out.old) (O.faults out.new) }
+    ensures whole { (result ≡ Status.Done) ⊎ ((result ≡ Status.Memory) ⊎ (result ≡ Status.WriteFault)) }
+{
+    match make(alloc, seed, replicas, edits) {
+        Ok(summary) => send(out, summary.as_slice(), Status::Done),
+        Err(_) => Status::Memory,
+    }
+}
+
 /// Does all that the program does: reads the words, then the source to its end or to one byte past the limit of
 /// 67,108,864 bytes, decodes the session, and writes its report, for which it works the session, or for `check` what is
-/// counted of it.
+/// counted of it. For `make` it reads no source: it makes a session, works it and writes its summary.
 ///
 /// The input and the report are held whole. An edit or undo, made or taken, costs a few descents for each of its pieces and for
 /// each run of bytes that it shows or hides, and a line that shows a text as much as the text. A `give` copies the one operation that
@@ -149,19 +208,23 @@ pub fn run<R: Threads + Wait + Sync, I: Source, O: Sink, G: Gate>(
     // Usage exactly by the words, and then nothing is read.
     ensures usage { result ≡ Status.Usage → (command_of words.now ≡ None) × (src.new ≡ src.old)
         × Appends (O.written out.old) (O.written out.new) usage_line }
-    ensures refused { command_of words.now ≡ None → (result ≡ Status.Usage) ⊎ (result ≡ Status.WriteFault) }
+    ensures refused { command_of words.now ≡ None → (result ≡ Status.Usage) ⊎ ((result ≡ Status.WriteFault) ⊎ (result ≡ Status.Memory)) }
 
-    // Done: the input was read to its end, and what the command makes of it was written whole.
+    // Done: what the command makes was written whole; where it reads a session, the input was read to its end.
     ensures done { result ≡ Status.Done → (command : Command) × (command_of words.now ≡ Some command)
-        × ((input : List ℕ)
-        × WasRead (I.left src.old) (I.left src.new) (I.given src.old) (I.given src.new) (I.ends src.old) (I.ends src.new) input
-        × ((output : List ℕ) × Appends (O.written out.old) (O.written out.new) output × Does command input output)) }
+        × ((output : List ℕ) × Appends (O.written out.old) (O.written out.new) output
+        × Ends command (I.left src.old) (I.left src.new) (I.given src.old) (I.given src.new) (I.ends src.old) (I.ends src.new) output) }
+
+    // A session that is made is not read, and never refused.
+    ensures made { (seed n edits : ℕ) → command_of words.now ≡ Some (Command.Make seed n edits) → (src.new ≡ src.old)
+        × ((result ≡ Status.Done) ⊎ ((result ≡ Status.Memory) ⊎ (result ≡ Status.WriteFault))) }
 
     // Session: the input was read to its end, and has a first bad line.
     ensures session { result ≡ Status.Session → (input : List ℕ)
         × WasRead (I.left src.old) (I.left src.new) (I.given src.old) (I.given src.new) (I.ends src.old) (I.ends src.new) input
         × ((n : ℕ) × (w : Word) × (decoded input ≡ Err (DecodeFault.Bad n w)) × Appends (O.written out.old) (O.written out.new) (bad_line n w)) }
-    ensures ended { (result ≡ Status.Done) ⊎ (result ≡ Status.Session) → Rose (I.ends src.old) (I.ends src.new) }
+    ensures ended { (result ≡ Status.Done) ⊎ (result ≡ Status.Session) → (task : Task) → command_of words.now ≡ Some (Command.Read task)
+        → Rose (I.ends src.old) (I.ends src.new) }
 
     // TooLarge: more bytes than the limit were read, or the input was read to its end and has more lines than the limit.
     ensures large { result ≡ Status.TooLarge →
@@ -177,33 +240,40 @@ pub fn run<R: Threads + Wait + Sync, I: Source, O: Sink, G: Gate>(
     ensures write_fault { result ≡ Status.WriteFault → Rose (O.faults out.old) (O.faults out.new) }
     ensures usage_front { result ≡ Status.WriteFault → command_of words.now ≡ None → (src.new ≡ src.old)
         × AppendsFront (O.written out.old) (O.written out.new) usage_line }
-    ensures report_front { result ≡ Status.WriteFault → (command : Command) → command_of words.now ≡ Some command
+    ensures report_front { result ≡ Status.WriteFault → (task : Task) → command_of words.now ≡ Some (Command.Read task)
         → (input : List ℕ)
         × WasTaken (I.left src.old) (I.left src.new) (I.given src.old) (I.given src.new) (I.ends src.old) (I.ends src.new) input
-        × ((output : List ℕ) × IsOutput command input output × AppendsFront (O.written out.old) (O.written out.new) output) }
+        × ((output : List ℕ) × IsOutput task input output × AppendsFront (O.written out.old) (O.written out.new) output) }
+    ensures summary_front { result ≡ Status.WriteFault → (seed n edits : ℕ) → command_of words.now ≡ Some (Command.Make seed n edits)
+        → (output : List ℕ) × Makes seed n edits output × AppendsFront (O.written out.old) (O.written out.new) output }
 
     // Memory is free, and nothing was written.
     ensures memory { result ≡ Status.Memory → out.new ≡ out.old }
 
     // Where no fault was counted, a session within the limit is worked or checked, and without one the input is refused.
     ensures completes { (Rose (I.faults src.old) (I.faults src.new) → ⊥) → (Rose (O.faults out.old) (O.faults out.new) → ⊥)
-        → (command : Command) → command_of words.now ≡ Some command
+        → (task : Task) → command_of words.now ≡ Some (Command.Read task)
         → IfSome (I.left src.old) (λ input. length input ≤ 67108864 → (s : Session) → decoded input ≡ Ok s
         → (result ≡ Status.Done) ⊎ (result ≡ Status.Memory)) }
     ensures refuses { (Rose (I.faults src.old) (I.faults src.new) → ⊥) → (Rose (O.faults out.old) (O.faults out.new) → ⊥)
-        → (command : Command) → command_of words.now ≡ Some command
+        → (task : Task) → command_of words.now ≡ Some (Command.Read task)
         → IfSome (I.left src.old) (λ input. (67108864 < length input) ⊎ ((e : DecodeFault) × (decoded input ≡ Err e))
         → (result ≡ Status.Session) ⊎ ((result ≡ Status.TooLarge) ⊎ (result ≡ Status.Memory))) }
 {
-    let Some(command) = command_of(words) else {
-        return send(out, USAGE.as_bytes(), Status::Usage);
+    let command = match command_of(alloc, words) {
+        Ok(Some(command)) => command,
+        Ok(None) => return send(out, USAGE.as_bytes(), Status::Usage),
+        Err(_) => return Status::Memory,
     };
     // No worker is started yet: the gate is not called.
     let _ = rt;
     let _ = gate;
-    match answer_source(alloc, command, src) {
-        Ok((status, text)) => send(out, text.as_slice(), status),
-        Err(InputFault::Failed) => Status::ReadFault,
-        Err(_) => Status::Memory,
+    match command {
+        Command::Read(task) => work(alloc, task, src, out),
+        Command::Make {
+            seed,
+            replicas,
+            edits,
+        } => make_session(alloc, seed, replicas, edits, out),
     }
 }

@@ -1,4 +1,4 @@
-//! Words that are no command, reads and writes that fail, inputs at the limits, and the sources and sinks themselves.
+//! Reads and writes that fail, inputs at the limits, and the sources and sinks themselves.
 use crate::replaying::call;
 use session_replay::{Failed, MemSink, MemSource, Source, Status, SureSink, SureSource};
 use std::alloc::{AllocError, Global};
@@ -11,7 +11,8 @@ const SESSION: &str = r#"["zedbuf",1,"ab",[1]]
 ["text",1]
 "#;
 
-const USAGE: &str =
+/// What is written for words that are no command.
+pub const USAGE: &str =
     "usage: zedbuf replay [--workers N] | check | make --seed N --replicas N --edits N\n";
 
 // The reads and the writes that failed in a run with this status.
@@ -25,7 +26,7 @@ fn faults(status: Status) -> (u64, u64) {
 
 // Whether these words on the input, 8 bytes a call, end with this status and write this, where the read and the write with
 // these numbers fail, which count from 1.
-fn ends_with<R: Threads + Wait + Sync>(
+pub fn ends_with<R: Threads + Wait + Sync>(
     rt: &R,
     alloc: Global,
     words: &[&str],
@@ -39,41 +40,6 @@ fn ends_with<R: Threads + Wait + Sync>(
     let status = call(rt, alloc, words, &mut source, &mut sink)?;
     let seen = (source.counts().faults, sink.faults());
     Ok(status == want && sink.bytes() == output.as_bytes() && seen == faults(want))
-}
-
-const NO_COMMANDS: &[&[&str]] = &[
-    &[],
-    &["check", "check"],
-    &["Check"],
-    &["--help"],
-    &["--version"],
-    &["Replay"],
-    &["replay", "replay"],
-    &["replay", "--workers"],
-    &["replay", "--workers=2"],
-    &["replay", "--workers", "17"],
-    &["replay", "--workers", "02"],
-    &["replay", "--workers", ""],
-    &["replay", "--workers", "+2"],
-    &["replay", "--workers", "2 "],
-    &["replay", "--workers", "two"],
-    &["replay", "--workers", "2", "2"],
-    &["replay", "--Workers", "2"],
-    &["--workers", "2", "replay"],
-    &["check", "--workers", "2"],
-];
-
-#[test]
-fn words_that_are_no_command(rt: HostRuntime) -> Result<(), Fail> {
-    for words in NO_COMMANDS {
-        // the first read would fail, and none is made
-        let texts = (SESSION, USAGE);
-        assert!(rt;
-            ends_with(&rt, rt.alloc(), words, (1, 0), Status::Usage, texts)?,
-            "{words:?}"
-        );
-    }
-    Ok(())
 }
 
 // A command, its input, and what is written where the second write fails.

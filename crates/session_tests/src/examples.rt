@@ -195,6 +195,57 @@ final 2: "to do: coffee 😀\ntea again\n"
 "#,
     ),
     (
+        "caret",
+        r#"["zedbuf",1,"The quick fox.\n",[1,2]]
+["anchor",1,"caret",9,"left"]
+["anchor",1,"from",10,"right"]
+["anchor",1,"to",13,"left"]
+["mark",1,"seen"]
+["edit",2,[[4,4,"very "],[10,10,"brown "]]]
+["edit",2,[[9,15,""]]]
+["give",1,1]
+["where",1,"caret"]
+["where",1,"from"]
+["where",1,"to"]
+["give",1,2]
+["where",1,"caret"]
+["where",1,"from"]
+["where",1,"to"]
+["since",1,"seen"]
+["undo",2,[2]]
+["give",1,3]
+["where",1,"caret"]
+["since",1,"seen"]
+["text",1]
+"#,
+        Status::Done,
+        r#"anchor "caret": set
+anchor "from": set
+anchor "to": set
+mark "seen": set
+1: 2.2
+2: 3.2
+give 1 to 1: applied 1
+where "caret" at 1: 14
+where "from" at 1: 21
+where "to" at 1: 24
+give 2 to 1: applied 1
+where "caret" at 1: 9
+where "from" at 1: 15
+where "to" at 1: 18
+since "seen" at 1: 4..10 -> 4..15
+3: 4.2
+give 3 to 1: applied 1
+where "caret" at 1: 14
+since "seen" at 1: 4..4 -> 4..9, 10..10 -> 15..21
+text 1: 26 bytes, end 1:0, 2 rows, "The very quick brown fox.\n"
+replica 1: 26 bytes, 2 rows, 3 applied, 0 waiting, 0 refused
+final 1: "The very quick brown fox.\n"
+replica 2: 26 bytes, 2 rows, 3 applied, 0 waiting, 0 refused
+final 2: "The very quick brown fox.\n"
+"#,
+    ),
+    (
         "broken",
         r#"["zedbuf",1,"ab",[1]]
 ["text",1]

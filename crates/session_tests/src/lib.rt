@@ -9,7 +9,11 @@ mod examples;
 #[cfg(test)]
 mod long;
 #[cfg(test)]
+mod making;
+#[cfg(test)]
 mod merging;
+#[cfg(test)]
+mod names;
 #[cfg(test)]
 mod queries;
 #[cfg(test)]
@@ -18,5 +22,7 @@ mod reading;
 mod replaying;
 #[cfg(test)]
 mod undoing;
+#[cfg(test)]
+mod words;
 #[cfg(test)]
 mod writing;

@@ -20,6 +20,10 @@ fn name_of(line: &SessionLine) -> &'static str {
         SessionLine::Uop(_) => "uop",
         SessionLine::Give { .. } => "give",
         SessionLine::Text { .. } => "text",
+        SessionLine::Anchor { .. } => "anchor",
+        SessionLine::Where { .. } => "where",
+        SessionLine::Mark { .. } => "mark",
+        SessionLine::Since { .. } => "since",
         SessionLine::Find { .. } => "find",
         SessionLine::Point { .. } => "point",
         SessionLine::Offset { .. } => "offset",
@@ -72,6 +76,22 @@ const SESSIONS: &[(&str, &[u16], &[&str])] = &[
 "#,
         &[1, 2],
         &["find", "point", "offset", "edit", "find", "give"],
+    ),
+    (
+        r#"["zedbuf",1,"ab",[1,2]]
+["anchor",1,"",18446744073709551615,"left"]
+["where",2,""]
+["mark",2,"\u0061"]
+["anchor",1,"é",0,"right"]
+["since",1,"a"]
+["where",1,"\u00e9"]
+["mark",1,"a"]
+["since",2,"a"]
+"#,
+        &[1, 2],
+        &[
+            "anchor", "where", "mark", "anchor", "since", "where", "mark", "since",
+        ],
     ),
 ];
 
@@ -271,6 +291,26 @@ const BAD_LINES: &[(Word, &[&str])] = &[
             r#"["offset",1,0,0,0]"#,
             r#"["offset",1,0.0,0]"#,
             r#"["offset",1,0,18446744073709551616]"#,
+            r#"["anchor",1,"a",0]"#,
+            r#"["anchor",1,"a",0,"left",0]"#,
+            r#"["anchor",1,"a",0,"middle"]"#,
+            r#"["anchor",1,"a",0,"Left"]"#,
+            r#"["anchor",1,"a",0,0]"#,
+            r#"["anchor",1,"a",0.0,"left"]"#,
+            r#"["anchor",1,"a",18446744073709551616,"left"]"#,
+            r#"["anchor",1,7,0,"left"]"#,
+            r#"["anchor",65536,"a",0,"left"]"#,
+            r#"["where",1]"#,
+            r#"["where",1,7]"#,
+            r#"["where",1,"a",0]"#,
+            r#"["where",3,null]"#,
+            r#"["mark",1]"#,
+            r#"["mark",1,7]"#,
+            r#"["mark",1,"a",0]"#,
+            r#"["mark",65536,"a"]"#,
+            r#"["since",1]"#,
+            r#"["since",1,7]"#,
+            r#"["since",1,"a","a"]"#,
         ],
     ),
     (
@@ -287,6 +327,10 @@ const BAD_LINES: &[(Word, &[&str])] = &[
             r#"["find",3,""]"#,
             r#"["point",0,0]"#,
             r#"["offset",65535,0,0]"#,
+            r#"["anchor",3,"a",0,"left"]"#,
+            r#"["where",3,"a"]"#,
+            r#"["mark",3,"a"]"#,
+            r#"["since",0,"a"]"#,
         ],
     ),
     (
@@ -297,6 +341,15 @@ const BAD_LINES: &[(Word, &[&str])] = &[
             r#"["give",1,18446744073709551615]"#,
             r#"["give",1,1]"#,
             r#"["give",1,0]"#,
+        ],
+    ),
+    (
+        Word::Name,
+        &[
+            r#"["where",1,"a"]"#,
+            r#"["where",2,""]"#,
+            r#"["since",1,"a"]"#,
+            r#"["since",2,""]"#,
         ],
     ),
 ];
@@ -375,6 +428,54 @@ fn is_bad_there(alloc: Global, row: &Numbered) -> Result<bool, AllocError> {
 fn numbers_of_operation_lines(rt: HostRuntime) -> Result<(), Fail> {
     for row in NUMBERS {
         assert!(rt; is_bad_there(rt.alloc(), row)?, "at {row:?}");
+    }
+    Ok(())
+}
+
+// Two lines, and a line behind them that asks for a name; whether it is the first bad one.
+const NAMES: &[(&str, &str, &str, bool)] = &[
+    (ANCHOR, TEXT, r#"["where",2,"a"]"#, false),
+    (ANCHOR, TEXT, r#"["where",2,"A"]"#, true),
+    (ANCHOR, TEXT, r#"["where",2,"ab"]"#, true),
+    (ANCHOR, TEXT, r#"["where",2,""]"#, true),
+    (ANCHOR, TEXT, r#"["since",2,"a"]"#, true),
+    (TEXT, MARK, r#"["since",2,"a"]"#, false),
+    (TEXT, MARK, r#"["since",2,"aa"]"#, true),
+    (TEXT, MARK, r#"["where",2,"a"]"#, true),
+    (MARK, ANCHOR, r#"["where",2,"a"]"#, false),
+    (ANCHOR, MARK, r#"["since",1,"a"]"#, false),
+    (
+        ANCHOR,
+        r#"["anchor",2,"b",9,"right"]"#,
+        r#"["where",1,"b"]"#,
+        false,
+    ),
+    (
+        ANCHOR,
+        r#"["anchor",2,"b",9,"right"]"#,
+        r#"["where",1,"a"]"#,
+        false,
+    ),
+];
+
+const ANCHOR: &str = r#"["anchor",1,"a",0,"left"]"#;
+
+const MARK: &str = r#"["mark",1,"a"]"#;
+
+fn is_named_so(alloc: Global, row: &(&str, &str, &str, bool)) -> Result<bool, AllocError> {
+    let (first, second, third, bad) = row;
+    let input = format!(in alloc; "[\"zedbuf\",1,\"ab\",[1,2]]\n{first}\n{second}\n{third}\n")?;
+    Ok(if *bad {
+        is_bad(alloc, input.as_bytes(), 4, Word::Name)
+    } else {
+        decode(alloc, input.as_bytes()).is_ok()
+    })
+}
+
+#[test]
+fn names_of_earlier_lines(rt: HostRuntime) -> Result<(), Fail> {
+    for row in NAMES {
+        assert!(rt; is_named_so(rt.alloc(), row)?, "at {row:?}");
     }
     Ok(())
 }

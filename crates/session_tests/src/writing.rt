@@ -1,8 +1,9 @@
 //! The lines of reports as they are written.
 use lamport_clock::Lamport;
-use op_model::{EditFault, OpFault, Text, UndoFault, Unit};
+use op_model::{EditFault, OpFault, PlaceFault, SinceFault, Text, TextEdit, UndoFault, Unit};
 use session_lines::{
-    FindAnswer, Given, Numbers, OffsetAnswer, PointAnswer, QueryAnswer, Report, decode, write_line,
+    AnchorAnswer, FindAnswer, Given, Numbers, OffsetAnswer, PointAnswer, QueryAnswer, Report,
+    SinceAnswer, TextEdits, WhereAnswer, decode, write_line,
 };
 use std::alloc::{AllocError, Global};
 use std::test::Fail;
@@ -279,6 +280,106 @@ fn text(alloc: Global, text: &str) -> Result<Text, AllocError> {
     Ok(Text::new(String::from_str(alloc, text)?))
 }
 
+const ANCHORS: &[(AnchorAnswer, &str)] = &[
+    (AnchorAnswer::Set, "set"),
+    (AnchorAnswer::Fault(PlaceFault::PastEnd(20)), "pastend 20"),
+    (AnchorAnswer::Fault(PlaceFault::InsideChar), "insidechar"),
+];
+
+const PLACES: &[(WhereAnswer, &str)] = &[
+    (WhereAnswer::Place(0), "0"),
+    (
+        WhereAnswer::Place(18_446_744_073_709_551_615),
+        "18446744073709551615",
+    ),
+    (WhereAnswer::Unknown, "unknown"),
+    (WhereAnswer::Nothing, "nothing"),
+];
+
+const EDITS: &[(&[TextEdit], &str)] = &[
+    (&[], "none"),
+    (
+        &[TextEdit {
+            old: (1, 2),
+            new: (3, 4),
+        }],
+        "1..2 -> 3..4",
+    ),
+    (
+        &[
+            TextEdit {
+                old: (0, 0),
+                new: (0, 10),
+            },
+            TextEdit {
+                old: (5, 70),
+                new: (15, 15),
+            },
+        ],
+        "0..0 -> 0..10, 5..70 -> 15..15",
+    ),
+];
+
+const SINCE_FAULTS: &[(SinceFault, &str)] = &[
+    (SinceFault::Unseen(0), "unseen 0"),
+    (SinceFault::OpenVersion(65_535), "openversion 65535"),
+];
+
+fn writes_anchor(alloc: Global, answer: AnchorAnswer, want: &str) -> Result<bool, AllocError> {
+    let name = text(alloc, "a\"\n")?;
+    let line = Report::Anchor { name, answer };
+    writes(alloc, line, "anchor \"a\\\"\\n\": ", want)
+}
+
+fn writes_where(alloc: Global, answer: WhereAnswer, want: &str) -> Result<bool, AllocError> {
+    let line = Report::Where {
+        name: text(alloc, "")?,
+        replica: 1023,
+        answer,
+    };
+    writes(alloc, line, "where \"\" at 1023: ", want)
+}
+
+fn writes_mark(alloc: Global) -> Result<bool, AllocError> {
+    let name = text(alloc, "\u{e9}")?;
+    writes(alloc, Report::Mark { name }, "mark \"\u{e9}\": ", "set")
+}
+
+fn writes_since(alloc: Global, answer: SinceAnswer, want: &str) -> Result<bool, AllocError> {
+    let line = Report::Since {
+        name: text(alloc, "m")?,
+        replica: 2,
+        answer,
+    };
+    writes(alloc, line, "since \"m\" at 2: ", want)
+}
+
+fn writes_edits(alloc: Global, edits: &[TextEdit], want: &str) -> Result<bool, AllocError> {
+    let edits = TextEdits::new(edits.to_vec(alloc)?);
+    writes_since(alloc, SinceAnswer::Edits(edits), want)
+}
+
+#[test]
+fn lines_of_anchors_and_marks(rt: HostRuntime) -> Result<(), Fail> {
+    for (answer, want) in ANCHORS {
+        assert!(rt; writes_anchor(rt.alloc(), *answer, want)?, "{want}");
+    }
+    for (answer, want) in PLACES {
+        assert!(rt; writes_where(rt.alloc(), *answer, want)?, "{want}");
+    }
+    assert!(rt; writes_mark(rt.alloc())?);
+    for (edits, want) in EDITS {
+        assert!(rt; writes_edits(rt.alloc(), edits, want)?, "{want}");
+    }
+    for (fault, want) in SINCE_FAULTS {
+        assert!(rt;
+            writes_since(rt.alloc(), SinceAnswer::Fault(*fault), want)?,
+            "{want}"
+        );
+    }
+    Ok(())
+}
+
 fn writes_text(alloc: Global) -> Result<bool, AllocError> {
     let line = Report::Text {
         replica: 1,
@@ -342,6 +443,16 @@ const COUNTED: &[(&str, &str)] = &[
 ["find",1,""]
 "#,
         "6 lines, 2 replicas, 1 operations, 4 queries",
+    ),
+    (
+        r#"["zedbuf",1,"ab",[1,2]]
+["anchor",1,"a",0,"left"]
+["where",2,"a"]
+["mark",1,"a"]
+["since",2,"a"]
+["find",1,""]
+"#,
+        "6 lines, 2 replicas, 0 operations, 1 queries",
     ),
 ];
 

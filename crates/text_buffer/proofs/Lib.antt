@@ -15,5 +15,4 @@ pub mod Leaves
 pub mod OnWay
 pub mod Partly
 pub mod Standing
-pub mod Back
 pub mod Alike

@@ -4,5 +4,4 @@ pub mod Document
 pub mod Told
 pub mod Fields
 pub mod Settling
-pub mod Past
 pub mod SnapshotLaws

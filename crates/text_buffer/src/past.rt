@@ -3,37 +3,13 @@ ghost use Rattle.std.specs.Prelude.{◌≡◌, ◌⊎◌, None, Some, IfErr, IfO
 ghost use Rattle.op_model.specs.Answers.{open_replica};
 ghost use Rattle.op_model.specs.Lawful.{IsClosed, unseen_replica};
 ghost use Rattle.op_model.specs.Since.{since, since_fault, text_at};
-ghost use Rattle.text_buffer.specs.Past.{CarryBack};
 
 use crate::{Edits, SinceFault, Snapshot};
-use edits_since::was_in_text;
-use fragments::Fragment;
+use edits_since::moves_back;
 use lamport_clock::Version;
 use op_answers::open_replica;
-use remote_edit::{Move, Moves};
 use rope_edits::apply_moves;
-use std::alloc::{AllocError, Global};
-use sum_tree::SumTree;
-use undo_map::UndoMap;
-
-// What takes the texts of fragments back to those that a version saw.
-fn moves_back(
-    alloc: Global,
-    fragments: &SumTree<Fragment>,
-    undos: &UndoMap,
-    version: &Version,
-) -> Result<Moves, AllocError>
-    ensures { IfOk result (λ ms. CarryBack fragments.now.items undos.now version.now ms) }
-{
-    let mut moves = Moves::new(alloc);
-    for i in 0..fragments.len() {
-        if let Some(fragment) = fragments.get(i) {
-            let was = was_in_text(fragment, undos, version);
-            moves.push(Move::of(fragment.visible, was, fragment.len))?;
-        }
-    }
-    Ok(moves)
-}
+use std::alloc::AllocError;
 
 impl Snapshot {
     // Why there is no answer at a version.
@@ -77,7 +53,8 @@ impl Snapshot {
         Ok(edits)
     }
 
-    /// The text that a version saw, copied. It goes over all fragments; bytes that lie together are taken together, by a few descents.
+    /// The text that a version saw, copied. Bytes that lie between fragments that changed since are taken together. The cost grows
+    /// with the fragments that changed since, times the height, and with the length of that text, which is copied.
     ///
     /// # Errors
     ///

@@ -1,17 +1,16 @@
 use Rattle.std.proofs.Common.{◌≡◌, ◌∙◌, ℕ, List, [], length, ap, refl, subst, arith}
 use Rattle.op_model.specs.Shown.{text, hidden}
-use Rattle.remote_edit.specs.Moves.{moved}
+use Rattle.remote_edit.specs.Moves.{Texts, moved}
 use Rattle.text_buffer.specs.Document.{IsContent}
 use Rattle.text_buffer.proofs.Lengths.{both_bytes}
-use Rattle.text_buffer.proofs.Back.{text_back, take_texts}
+use Rattle.text_buffer.proofs.Standing.{may_tell}
 use Rattle.text_buffer.proofs.snapshot.Snapshot.text_back.Goals as goal
 
 pub apply_moves-requires-clause-texts : goal.apply_moves-requires-clause-texts
 apply_moves-requires-clause-texts c =
     let h = c.args.self.now in
     let k : IsContent c.content-content.result.now h = subst (IsContent c.content-content.result.now) c.self.view_is c.content-content.ensures in
-    rw (c.as_slice.ensures, k.shown, k.hidden) (take_texts h c.args.version.now c.known.ensures.lawful c.requires c.content-content.result.now.fragments.items c.content-content.result.now.undos c.in_ok-moves.moves
-    k.stand.counts k.stand.cells c.in_ok-moves.ensures c.known.ensures.proper k.whole)
+    rw (c.as_slice.ensures, k.shown, k.hidden) (c.in_ok-moves.ensures.characters h (may_tell c.content-content.result.now h c.args.version.now k c.known.ensures.lawful c.requires) c.known.ensures.proper k.whole)
 
 pub apply_moves-requires-clause-room : goal.apply_moves-requires-clause-room
 apply_moves-requires-clause-room c =
@@ -28,5 +27,5 @@ returns c =
     let h = c.args.self.now in
     let k : IsContent c.content-content.result.now h = subst (IsContent c.content-content.result.now) c.self.view_is c.content-content.ensures in
     let same : moved c.as_slice.result.now c.content-content.result.now.text c.content-content.result.now.hidden [] ≡ moved c.in_ok-moves.moves (text h) (hidden h) [] = rw (c.as_slice.ensures, k.shown, k.hidden) refl in
-    c.in_ok-to_string.ensures ∙ text_back h c.args.version.now c.known.ensures.lawful c.requires c.content-content.result.now.fragments.items c.content-content.result.now.undos c.in_ok-moves.moves
-    k.stand.counts k.stand.cells c.in_ok-moves.ensures c.in_ok-texts.texts.shown c.in_ok-texts.texts.hidden (c.in_ok-texts.ensures ∙ same)
+    c.in_ok-to_string.ensures ∙ ap (λ (x : Texts). x.shown) (c.in_ok-texts.ensures ∙ same)
+    ∙ c.in_ok-moves.ensures.text h (may_tell c.content-content.result.now h c.args.version.now k c.known.ensures.lawful c.requires)

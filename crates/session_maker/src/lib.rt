@@ -1,0 +1,11 @@
+//! Sessions made by a seed: what is drawn, and the line of each turn.
+//!
+//! A line goes by the length of its replica's text, so whoever makes a session works it line by line.
+#![tactic(auto)]
+
+mod draws;
+mod turns;
+
+pub use draws::Draws;
+pub use std::alloc::AllocError as OutOfMemory;
+pub use turns::{author, turn};
