@@ -2,10 +2,10 @@
 #   random   one replica, short edits at places drawn by chance
 #   typing   one replica, single letters one behind the other, with a jump now and then
 #   remote   as random, each edit given to a second replica at once
-#   late     two replicas, random insertions of both without exchange, then all is given
+#   late     two replicas, random insertions in rounds of `lag` of each, given to the other after each round
 #   authors  four replicas, random insertions in rounds of ten each, exchanged after each round
 #   reverse  as typing, and then all is given to a second replica from the last to the first
-# usage: awk -v bytes=N -v count=N -v kind=NAME -f session.awk
+# usage: awk -v bytes=N -v count=N -v kind=NAME [-v lag=N] -f session.awk     without a lag all edits are one round
 
 # the next number below n, by the generator of Park and Miller
 function below(n) {
@@ -80,15 +80,18 @@ BEGIN {
             short_edit()
             give(2, made)
         }
-    if (kind == "late") {
-        one = two = len
+    if (kind == "late")
         while (made < count) {
-            one += insert_at(1, one)
-            two += insert_at(2, two)
+            from = made + 1
+            one = two = len
+            while (made < count && (!lag || made + 1 - from < 2 * lag)) {
+                one += insert_at(1, one)
+                two += insert_at(2, two)
+            }
+            for (i = from; i <= made; i++)
+                give(1 + (i - from + 1) % 2, i)
+            len = one + two - len
         }
-        for (i = 1; i <= made; i++)
-            give(1 + i % 2, i)
-    }
     if (kind == "authors")
         while (made < count) {
             from = made + 1

@@ -1,11 +1,12 @@
 #!/bin/bash
 # Times the program on a session with edits of a kind, which session.awk lists.
-# usage: bench/session.sh [BYTES] [COUNT] [KIND]     for the base alone and with the edits: seconds, processor seconds, peak memory
+# usage: bench/session.sh [BYTES] [COUNT] [KIND] [LAG]     for the base alone and with the edits: seconds, processor seconds, peak memory
 set -euo pipefail
 here=$(cd "$(dirname "$0")" && pwd)
 bytes=${1:-1048576}
 count=${2:-20000}
 kind=${3:-random}
+lag=${4:-0}
 program=${ZEDBUF:-$here/../zedbuf}
 [ -x "$program" ] || { echo "no program $program: name it in ZEDBUF" >&2; exit 1; }
 work=$(mktemp -d)
@@ -15,7 +16,7 @@ echo '["zedbuf",1,"",[1]]' | "$program" replay >/dev/null
 
 # run NAME COUNT: a session with so many edits
 run() {
-    awk -v bytes="$bytes" -v count="$2" -v kind="$kind" -f "$here/session.awk" >"$work/session"
+    awk -v bytes="$bytes" -v count="$2" -v kind="$kind" -v lag="$lag" -f "$here/session.awk" >"$work/session"
     TIMEFORMAT='%R %U'
     {
         time {

@@ -1,17 +1,22 @@
 //! Works on trees, ropes and buffers, and times it: `bench tree ITEMS` on a tree that gets so many items, `bench rope BYTES TIMES`
 //! on a rope of so many bytes, so many times, `bench search BYTES` searches ropes of so many bytes, `bench snapshot BYTES` takes
-//! snapshots of a buffer over so many bytes, `bench leaf EDITS` copies leaves of the fragments that so many edits make, `bench undo
-//! FRAGMENTS` undoes edits among so many fragments, `bench locators` makes locators as the standard input says. What came of each
-//! work is written, and with a further word `timed` the
-//! microseconds too. All can be asked for at once.
+//! snapshots of a buffer over so many bytes, `bench publish BYTES TIMES` publishes one of a buffer over so many bytes, so many times,
+//! `bench leaf EDITS` copies leaves of the fragments that so many edits make, `bench undo FRAGMENTS` undoes edits among so many
+//! fragments, `bench anchors FRAGMENTS` resolves and compares anchors among some so many, `bench since FRAGMENTS` asks there for the
+//! edits since a version, `bench locators` makes locators as the standard input says. What came of each work is written, and with a
+//! further word `timed` the microseconds too. All can be asked for at once.
 #![tactic(auto)]
 
+mod anchor;
+mod buffers;
 mod chance;
 mod leaf;
 mod naming;
+mod publish;
 mod report;
 mod rope;
 mod search;
+mod since;
 mod snapshots;
 mod tree;
 mod undo;
@@ -26,13 +31,18 @@ enum Next {
     Times,
     Searched,
     Opened,
+    Published,
+    Publishes,
     Edits,
     Fragments,
+    Anchored,
+    Since,
 }
 
 // What is asked for: how many items the tree gets, how long the rope is and how often it is worked on, how long the ropes that
-// are searched are and the text of the buffer, how many edits make fragments, among how many fragments edits are undone, whether
-// locators are made, and whether times are written. Work on no items, no bytes, no edits or no fragments is not asked for.
+// are searched are and the text of the buffer, how long the buffer is of which a snapshot is published and how often it is, how many
+// edits make fragments, among how many fragments edits are undone, anchors asked for and edits since a version told,
+// whether locators are made, and whether times are written. Work on no items, no bytes, no edits or no fragments is not asked for.
 #[derive(Clone, Copy)]
 struct Asked {
     items: u32,
@@ -40,8 +50,12 @@ struct Asked {
     times: u32,
     searched: u32,
     opened: u32,
+    published: u32,
+    publishes: u32,
     edits: u32,
     fragments: u32,
+    anchored: u32,
+    since: u32,
     locators: bool,
     timed: bool,
     next: Next,
@@ -55,8 +69,11 @@ impl Asked {
             "rope" => self.next = Next::Bytes,
             "search" => self.next = Next::Searched,
             "snapshot" => self.next = Next::Opened,
+            "publish" => self.next = Next::Published,
             "leaf" => self.next = Next::Edits,
             "undo" => self.next = Next::Fragments,
+            "anchors" => self.next = Next::Anchored,
+            "since" => self.next = Next::Since,
             "locators" => self.locators = true,
             "timed" => self.timed = true,
             number => self.size(number.parse().unwrap_or(0)),
@@ -73,8 +90,15 @@ impl Asked {
             Next::Times => self.times = number,
             Next::Searched => self.searched = number,
             Next::Opened => self.opened = number,
+            Next::Published => {
+                self.published = number;
+                self.next = Next::Publishes;
+            }
+            Next::Publishes => self.publishes = number,
             Next::Edits => self.edits = number,
             Next::Fragments => self.fragments = number,
+            Next::Anchored => self.anchored = number,
+            Next::Since => self.since = number,
         }
     }
 }
@@ -86,8 +110,12 @@ fn words(rt: &HostRuntime) -> io::Result<Asked> {
         times: 0,
         searched: 0,
         opened: 0,
+        published: 0,
+        publishes: 0,
         edits: 0,
         fragments: 0,
+        anchored: 0,
+        since: 0,
         locators: false,
         timed: false,
         next: Next::Items,
@@ -112,14 +140,29 @@ fn main(rt: HostRuntime) -> io::Result<()> {
     if asked.opened > 0 {
         snapshots::works(&rt, asked.timed, asked.opened)?;
     }
+    if asked.published > 0 {
+        publish::works(&rt, &rt, asked.timed, asked.published, asked.publishes)?;
+    }
     if asked.edits > 0 {
         leaf::works(&rt, asked.timed, asked.edits)?;
     }
-    if asked.fragments > 0 {
-        undo::works(&rt, asked.timed, asked.fragments)?;
-    }
+    among_fragments(&rt, asked)?;
     if asked.locators {
         naming::works(&rt, asked.timed)?;
+    }
+    Ok(())
+}
+
+// The works among fragments.
+fn among_fragments(rt: &HostRuntime, asked: Asked) -> io::Result<()> {
+    if asked.fragments > 0 {
+        undo::works(rt, asked.timed, asked.fragments)?;
+    }
+    if asked.anchored > 0 {
+        anchor::works(rt, asked.timed, asked.anchored)?;
+    }
+    if asked.since > 0 {
+        since::works(rt, asked.timed, asked.since)?;
     }
     Ok(())
 }

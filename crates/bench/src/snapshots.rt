@@ -1,12 +1,12 @@
 //! Snapshots of a buffer, and edits of it while one is kept and while none is.
+use crate::buffers::{edit, opened};
 use crate::chance::step;
 use crate::report::tell;
 use crate::rope::text::long;
-use op_model::{Piece, Text};
 use std::alloc::{AllocError, Global};
 use std::io;
 use std::time::Instant;
-use text_buffer::{Buffer, Limits, Snapshot};
+use text_buffer::{Buffer, Snapshot};
 
 // How many snapshots are taken, and how often one is shared.
 const SHARES: u64 = 100_000;
@@ -14,24 +14,12 @@ const SHARES: u64 = 100_000;
 // How many edits are made.
 const EDITS: u64 = 4;
 
-const AMPLE: Limits = Limits {
-    bytes: 1 << 40,
-    entries: (1 << 40) - 1,
-};
-
 /// Takes snapshots of a buffer over a text of so many bytes, shares one, and edits the buffer.
 pub fn works(rt: &HostRuntime, timed: bool, bytes: u32) -> io::Result<()> {
     let text = long(rt.alloc(), bytes as u64)?;
-    let mut buffer = opened(rt.alloc(), text.as_str())?;
+    let mut buffer = opened(rt.alloc(), 1, text.as_str())?;
     reads(rt, timed, &buffer)?;
     edits(rt, timed, &mut buffer)
-}
-
-fn opened(alloc: Global, base: &str) -> Result<Buffer, AllocError> {
-    match Buffer::new(alloc, 1, base, AMPLE) {
-        Ok(buffer) => Ok(buffer),
-        Err(_) => Err(AllocError),
-    }
 }
 
 fn reads(rt: &HostRuntime, timed: bool, buffer: &Buffer) -> io::Result<()> {
@@ -93,29 +81,20 @@ fn edited_beside_snapshots(alloc: Global, buffer: &mut Buffer) -> Result<u64, Al
 
 fn edited_beside(alloc: Global, buffer: &mut Buffer, number: u64) -> Result<u64, AllocError> {
     let kept = buffer.snapshot()?;
-    edit(alloc, buffer, number)?;
+    put(alloc, buffer, number)?;
     Ok(kept.text().len())
 }
 
 // Makes the edits, and answers how many bytes the text has then.
 fn edited(alloc: Global, buffer: &mut Buffer) -> Result<u64, AllocError> {
     for number in 0..EDITS {
-        edit(alloc, buffer, number)?;
+        put(alloc, buffer, number)?;
     }
     Ok(buffer.summary().len)
 }
 
 // Puts a letter at a place that the number draws.
-fn edit(alloc: Global, buffer: &mut Buffer, number: u64) -> Result<(), AllocError> {
-    let at = (step(number) >> 20) % buffer.summary().len.max(1);
-    let mut changes = Vec::new(alloc);
-    changes.push(Piece {
-        start: at,
-        end: at,
-        text: Text::new(String::from_str(alloc, "a")?),
-    })?;
-    match buffer.edit(changes.as_slice()) {
-        Ok(_) => Ok(()),
-        Err(_) => Err(AllocError),
-    }
+fn put(alloc: Global, buffer: &mut Buffer, number: u64) -> Result<(), AllocError> {
+    edit(alloc, buffer, step(number) >> 20, 0, "a")?;
+    Ok(())
 }

@@ -11,6 +11,7 @@ ghost use Rattle.session_lines.specs.declared.session.SessionLine.{SessionLine};
 ghost use Rattle.session_replay.specs.Work.{after_all, all_events, at_end, buffer_of, events, next_number, numbered, opened, step};
 ghost use Rattle.session_replay.specs.Queries.{plain_line, queries_from, query_at, report_of};
 ghost use Rattle.session_replay.specs.Making.{text_len};
+ghost use Rattle.session_replay.specs.Names.{by_bytes};
 ghost use Rattle.session_replay.specs.Working.{state_of};
 ghost use Rattle.text_buffer.specs.Buffer.{BufferState};
 
@@ -287,10 +288,14 @@ impl Progress {
         requires base { length base.now ≤ 67108864 }
         ensures buffers { IfOk result (λ p. p.replicas.items ≡ map (opened base.now) ids.now) }
         ensures operations { IfOk result (λ p. p.operations.items ≡ []) }
+        ensures anchors { IfOk result (λ p. by_bytes p.anchors.entries ≡ []) }
+        ensures marks { IfOk result (λ p. by_bytes p.marks.entries ≡ []) }
     {
         Ok(Progress {
             replicas: replicas_over(alloc, ids, base)?,
             operations: Vec::new(alloc),
+            anchors: BTreeMap::new(alloc),
+            marks: BTreeMap::new(alloc),
             report: Vec::new(alloc),
         })
     }

@@ -1,0 +1,131 @@
+//! Anchors among fragments.
+use crate::buffers::among;
+use crate::chance::step;
+use crate::report::tell;
+use std::alloc::{AllocError, Global};
+use std::cmp::Ordering;
+use std::io;
+use std::time::Instant;
+use text_buffer::{Anchor, Bias, Snapshot};
+
+// How many anchors are made.
+const ANCHORS: u64 = 10_000;
+
+// How often each is asked for.
+const ROUNDS: u32 = 10;
+
+/// Makes anchors at places drawn by chance among so many fragments, resolves each and compares each with the next, and then
+/// resolves anchors that stand one behind another.
+pub fn works(rt: &HostRuntime, timed: bool, fragments: u32) -> io::Result<()> {
+    let snapshot = snapshot_of(rt.alloc(), fragments)?;
+    draw(rt, timed, &snapshot)?;
+    let row = row(rt.alloc(), &snapshot)?;
+    resolve(rt, timed, "ResolveRow", &snapshot, row.as_slice())
+}
+
+fn snapshot_of(alloc: Global, fragments: u32) -> Result<Snapshot, AllocError> {
+    let buffer = among(alloc, fragments)?;
+    buffer.snapshot()
+}
+
+fn draw(rt: &HostRuntime, timed: bool, snapshot: &Snapshot) -> io::Result<()> {
+    let start = Instant::now(rt)?;
+    let drawn = drawn(rt.alloc(), snapshot)?;
+    tell(rt, timed, "Anchors", start, drawn.len() as u64)?;
+    resolve(rt, timed, "Resolve", snapshot, drawn.as_slice())?;
+    compare(rt, timed, snapshot, drawn.as_slice())
+}
+
+fn resolve(
+    rt: &HostRuntime,
+    timed: bool,
+    name: &str,
+    snapshot: &Snapshot,
+    anchors: &[Anchor],
+) -> io::Result<()> {
+    let start = Instant::now(rt)?;
+    let answer = resolved(snapshot, anchors);
+    tell(rt, timed, name, start, answer)
+}
+
+fn compare(
+    rt: &HostRuntime,
+    timed: bool,
+    snapshot: &Snapshot,
+    anchors: &[Anchor],
+) -> io::Result<()> {
+    let start = Instant::now(rt)?;
+    let answer = compared(snapshot, anchors);
+    tell(rt, timed, "Compare", start, answer)
+}
+
+// Anchors at places drawn by chance, of both kinds.
+fn drawn(alloc: Global, snapshot: &Snapshot) -> Result<Vec<Anchor>, AllocError> {
+    let len = snapshot.text().len();
+    let mut anchors = Vec::new(alloc);
+    let mut x = 1u64;
+    for _ in 0..ANCHORS {
+        x = step(x);
+        let bias = bias(x >> 10);
+        put(&mut anchors, snapshot, (x >> 20) % len.max(1), bias)?;
+    }
+    Ok(anchors)
+}
+
+// Anchors at places that ascend evenly, of both kinds in turn.
+fn row(alloc: Global, snapshot: &Snapshot) -> Result<Vec<Anchor>, AllocError> {
+    let len = snapshot.text().len();
+    let mut anchors = Vec::new(alloc);
+    for number in 0..ANCHORS {
+        let at = number.wrapping_mul(len) / ANCHORS;
+        put(&mut anchors, snapshot, at, bias(number))?;
+    }
+    Ok(anchors)
+}
+
+fn bias(number: u64) -> Bias {
+    if number % 2 == 0 {
+        Bias::Left
+    } else {
+        Bias::Right
+    }
+}
+
+// Adds the anchor at a place.
+fn put(
+    anchors: &mut Vec<Anchor>,
+    snapshot: &Snapshot,
+    at: u64,
+    bias: Bias,
+) -> Result<(), AllocError> {
+    if let Ok(anchor) = snapshot.anchor(at, bias) {
+        anchors.push(anchor)?;
+    }
+    Ok(())
+}
+
+// The places of all anchors added up, again and again.
+fn resolved(snapshot: &Snapshot, anchors: &[Anchor]) -> u64 {
+    let mut sum = 0u64;
+    for _ in 0..ROUNDS {
+        for anchor in anchors {
+            sum = sum.wrapping_add(snapshot.resolve(anchor).unwrap_or(0));
+        }
+    }
+    sum
+}
+
+// How many anchors stand before the next one, again and again.
+fn compared(snapshot: &Snapshot, anchors: &[Anchor]) -> u64 {
+    let mut count = 0u64;
+    for _ in 0..ROUNDS {
+        for (one, next) in anchors.iter().zip(anchors.iter().skip(1)) {
+            count = count.wrapping_add(is_before(snapshot, one, next) as u64);
+        }
+    }
+    count
+}
+
+fn is_before(snapshot: &Snapshot, one: &Anchor, next: &Anchor) -> bool {
+    snapshot.compare(one, next) == Ok(Ordering::Less)
+}

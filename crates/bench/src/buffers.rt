@@ -1,0 +1,95 @@
+//! Buffers that are worked on, and edits of them.
+ghost use Rattle.std.specs.Prelude.{◌≤◌};
+
+use crate::chance::step;
+use crate::rope::text::{long, short};
+use op_model::{Operation, Piece, Text};
+use std::alloc::{AllocError, Global};
+use text_buffer::{Buffer, Limits};
+
+const AMPLE: Limits = Limits {
+    bytes: 1 << 40,
+    entries: (1 << 40) - 1,
+};
+
+/// A replica's buffer over a text.
+pub fn opened(alloc: Global, replica: u16, base: &str) -> Result<Buffer, AllocError>
+    requires least { 1 ≤ replica }
+    requires greatest { replica ≤ 1023 }
+{
+    match Buffer::new(alloc, replica, base, AMPLE) {
+        Ok(buffer) => Ok(buffer),
+        Err(_) => Err(AllocError),
+    }
+}
+
+/// Where edits are made.
+#[derive(Clone, Copy)]
+pub enum Place {
+    /// A letter is put at a place drawn by chance.
+    Letter,
+    /// At a place drawn by chance up to 4 bytes are deleted and 1 to 8 put.
+    Random,
+    /// A letter is put behind the last one.
+    Typed,
+}
+
+/// A buffer of some so many fragments: letters were put into its base one by one, each at a place drawn by chance.
+pub fn among(alloc: Global, fragments: u32) -> Result<Buffer, AllocError> {
+    let base = long(alloc, fragments as u64 * 8)?;
+    let mut buffer = opened(alloc, 1, base.as_str())?;
+    made(alloc, &mut buffer, fragments / 2, Place::Letter)?;
+    Ok(buffer)
+}
+
+/// Makes so many edits, and gives their operations.
+pub fn made(
+    alloc: Global,
+    buffer: &mut Buffer,
+    count: u32,
+    place: Place,
+) -> Result<Vec<Operation>, AllocError> {
+    let mut operations = Vec::new(alloc);
+    let mut x = 1u64;
+    for number in 0..count {
+        x = step(x);
+        operations.push(make(alloc, buffer, number as u64, x, place)?)?;
+    }
+    Ok(operations)
+}
+
+fn make(
+    alloc: Global,
+    buffer: &mut Buffer,
+    number: u64,
+    x: u64,
+    place: Place,
+) -> Result<Operation, AllocError> {
+    match place {
+        Place::Letter => edit(alloc, buffer, x >> 20, 0, "a"),
+        Place::Random => edit(alloc, buffer, x >> 20, (x >> 50) % 5, short(x >> 56)),
+        Place::Typed => edit(alloc, buffer, number.saturating_add(1_000), 0, "a"),
+    }
+}
+
+/// Deletes so many bytes, fewer at the end, and puts a text there. The place is a number, taken by the length of the text.
+pub fn edit(
+    alloc: Global,
+    buffer: &mut Buffer,
+    place: u64,
+    gone: u64,
+    text: &str,
+) -> Result<Operation, AllocError> {
+    let len = buffer.summary().len;
+    let start = place % len.max(1);
+    let mut changes = Vec::new(alloc);
+    changes.push(Piece {
+        start,
+        end: start.saturating_add(gone).min(len).max(start),
+        text: Text::new(String::from_str(alloc, text)?),
+    })?;
+    match buffer.edit(changes.as_slice()) {
+        Ok(operation) => Ok(operation),
+        Err(_) => Err(AllocError),
+    }
+}

@@ -1,0 +1,69 @@
+//! Edits since a version, among fragments.
+use crate::buffers::{Place, among, made};
+use crate::report::tell;
+use lamport_clock::{Lamport, Version};
+use std::alloc::{AllocError, Global};
+use std::io;
+use std::time::Instant;
+use text_buffer::Snapshot;
+
+// How many edits a buffer gets after the version.
+const EDITS: u32 = 10;
+
+// How often the edits since a version are asked for.
+const TIMES: u32 = 10;
+
+/// Makes a few edits among so many fragments, and asks for the edits since the version before them, and since the base.
+pub fn works(rt: &HostRuntime, timed: bool, fragments: u32) -> io::Result<()> {
+    let (before, snapshot) = edited(rt.alloc(), fragments)?;
+    ask(rt, timed, "Since", &snapshot, &before)?;
+    let base = base(rt.alloc())?;
+    ask(rt, timed, "SinceBase", &snapshot, &base)
+}
+
+// The version before a few edits, and the snapshot after them.
+fn edited(alloc: Global, fragments: u32) -> Result<(Version, Snapshot), AllocError> {
+    let mut buffer = among(alloc, fragments)?;
+    let before = buffer.version().copy(alloc)?;
+    made(alloc, &mut buffer, EDITS, Place::Random)?;
+    let snapshot = buffer.snapshot()?;
+    Ok((before, snapshot))
+}
+
+fn ask(
+    rt: &HostRuntime,
+    timed: bool,
+    name: &str,
+    snapshot: &Snapshot,
+    version: &Version,
+) -> io::Result<()> {
+    let start = Instant::now(rt)?;
+    let answer = told(snapshot, version);
+    tell(rt, timed, name, start, answer)
+}
+
+// The version that has the base alone.
+fn base(alloc: Global) -> Result<Version, AllocError> {
+    let mut version = Version::new(alloc);
+    version.observe(Lamport {
+        value: 1,
+        replica: 0,
+    })?;
+    Ok(version)
+}
+
+// How many edits there are since a version, asked for again and again.
+fn told(snapshot: &Snapshot, version: &Version) -> u64 {
+    let mut count = 0u64;
+    for _ in 0..TIMES {
+        count = count.wrapping_add(told_once(snapshot, version));
+    }
+    count
+}
+
+fn told_once(snapshot: &Snapshot, version: &Version) -> u64 {
+    match snapshot.since(version) {
+        Ok(edits) => edits.as_slice().len() as u64,
+        Err(_) => 0,
+    }
+}
