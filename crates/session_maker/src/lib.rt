@@ -4,8 +4,10 @@
 #![tactic(auto)]
 
 mod draws;
+mod laws;
 mod turns;
 
 pub use draws::Draws;
+pub use laws::made_sessions_decode;
 pub use std::alloc::AllocError as OutOfMemory;
 pub use turns::{author, turn};
