@@ -24,7 +24,7 @@ put-insert (y ∷ v) r x d =
       | false ↦ λ b h. let q : eqb y.0 r ≡ false = ne_eqb y.0 r (h (omega arith)) in ap (λ t. cond t ((r, x) ∷ v) ((r, x) ∷ y ∷ v)) (sym q)
     ] refl
 
-refilled : (v w : Entries) → length w ≡ length v → refill (length v) v w ≡ w
+pub refilled : (v w : Entries) → length w ≡ length v → refill (length v) v w ≡ w
 refilled v w e = ap (λ l. take (length v) (w ++ l)) (drop_all (length w) v (omega arith)) ∙ ap (take (length v)) (append-nil w) ∙ take_all (length v) w (omega arith)
 
 pub set_here : (v s1 s2 s3 : Entries) (i r x : ℕ) → s1 ≡ v → s2 ≡ v → s3 ≡ v → i ≡ place_of s1 r → IsAt s2 i r → refill (length v) v (set s3 i (r, x)) ≡ put r x v

@@ -1,6 +1,6 @@
 -- Two versions gone through side by side.
-use Rattle.std.proofs.Common.{◌≡◌, ℕ, suc, ◌+◌, ◌<◌, ◌≤◌, max, [], ◌∷◌, ◌++◌, length, take, drop, refl, sym, ap, ◌∙◌, subst, arith, true, false, cond, eqb, ltb, leb, Some, ne_eqb, eq-eqb, Bool, zero, get_or, append_assoc}
-use Rattle.std.proofs.lemmas.List.{drop_more}
+use Rattle.std.proofs.Common.{◌≡◌, ℕ, suc, ◌+◌, ◌<◌, ◌≤◌, max, [], ◌∷◌, ◌++◌, length, take, drop, refl, sym, ap, ◌∙◌, subst, arith, true, false, cond, eqb, ltb, leb, Some, ne_eqb, eq-eqb, Bool, zero, get_or, set, append_assoc}
+use Rattle.std.proofs.lemmas.List.{drop_more, take_more_set, drop-set-lt}
 use Rattle.std.proofs.lemmas.Bool.{lt-ltb, le-ltb, lt-leb, le-leb, ltb-true}
 use Rattle.lamport_clock.specs.Versions.{Entries, IsVersionFrom, entry, put, raise, place_of, front, behind, first_unseen, joined}
 use Rattle.lamport_clock.proofs.Raises.{by_order, by_bound}
@@ -139,3 +139,43 @@ joined_turn u v all before from i p x hu hv l hp hb hf hx =
     ∙ ap (λ z. all ++ (before ++ (e.0, z) ∷ joined (behind from e.0) w)) (sym hx)
     ∙ sym (append_assoc all before ((e.0, x) ∷ joined (behind from e.0) w))
     ∙ sym (append_assoc (all ++ before) ((e.0, x) ∷ []) (joined (behind from e.0) w))
+
+-- ---- two versions of the same replicas
+
+joined_here : (d : ℕ × ℕ) (u : Entries) (e : ℕ × ℕ) (v : Entries) (m : ℕ) → d.0 ≡ e.0 → IsVersionFrom m (e ∷ v) → joined (d ∷ u) (e ∷ v) ≡ (e.0, max d.1 e.1) ∷ joined u v
+joined_here d u e v m q h = ap (λ w. joined w v) (raise_here d u e q) ∙ joined_past (e.0, max d.1 e.1) u v (suc e.0) h.4 (omega arith)
+
+-- one entry raised where it lies, behind those that are
+pub joined_each : (u v : Entries) (i x : ℕ) → IsVersionFrom 0 v → i < length v → length u ≡ length v → (At u i).0 ≡ (At v i).0 → x ≡ max (At u i).1 (At v i).1
+    → take i u ++ joined (drop i u) (drop i v) ≡ take (i + 1) (set u i ((At v i).0, x)) ++ joined (drop (i + 1) (set u i ((At v i).0, x))) (drop (i + 1) v)
+joined_each u v i x h l long same greater =
+    let d = At u i in
+    let e = At v i in
+    let a : ℕ × ℕ = (e.0, x) in
+    let us = drop (i + 1) u in
+    let vs = drop (i + 1) v in
+    let within : i < length u = omega (arith, l, long) in
+    let here : joined (drop i u) (drop i v) ≡ a ∷ joined us vs =
+    ap (λ z. joined z (drop i v)) (drop_more u i (0, 0) within)
+    ∙ ap (λ z. joined (d ∷ us) z) (drop_more v i (0, 0) l)
+    ∙ joined_here d us e vs 0 same (turned v i h l)
+    ∙ ap (λ y. (e.0, y) ∷ joined us vs) (sym greater) in
+    let front : take (i + 1) (set u i a) ≡ take i u ++ a ∷ [] = take_more_set u i a within in
+    let back : drop (i + 1) (set u i a) ≡ us = drop-set-lt (i + 1) u i a (omega arith) in
+    ap (λ z. take i u ++ z) here
+    ∙ sym (append_assoc (take i u) (a ∷ []) (joined us vs))
+    ∙ ap (λ z. z ++ joined us vs) (sym front)
+    ∙ ap (λ z. take (i + 1) (set u i a) ++ joined z vs) (sym back)
+
+heads : (d e : ℕ × ℕ) (u v : Entries) → d ∷ u ≡ e ∷ v → d ≡ e
+heads d e u v q = cc
+
+tails : (d e : ℕ × ℕ) (u v : Entries) → d ∷ u ≡ e ∷ v → u ≡ v
+tails d e u v q = cc
+
+-- what is not raised yet is as it was, its first entry and what is behind it
+pub same_head : (u w : Entries) (i : ℕ) → i < length u → i < length w → drop i u ≡ drop i w → At u i ≡ At w i
+same_head u w i l m e = heads (At u i) (At w i) (drop (i + 1) u) (drop (i + 1) w) (sym (drop_more u i (0, 0) l) ∙ e ∙ drop_more w i (0, 0) m)
+
+pub same_rest : (u w : Entries) (i : ℕ) (a : ℕ × ℕ) → i < length u → i < length w → drop i u ≡ drop i w → drop (i + 1) (set u i a) ≡ drop (i + 1) w
+same_rest u w i a l m e = drop-set-lt (i + 1) u i a (omega arith) ∙ tails (At u i) (At w i) (drop (i + 1) u) (drop (i + 1) w) (sym (drop_more u i (0, 0) l) ∙ e ∙ drop_more w i (0, 0) m)

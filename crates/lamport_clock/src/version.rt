@@ -1,6 +1,6 @@
 // The greatest stamp value seen of each replica.
 ghost use Rattle.std.specs.Prelude.{◌≡◌, ℕ, ◌<◌, ◌≤◌, [], max, IsOk, IfOk, OnErr, OnOk, length, slice_get, IsTrue, ◌↔◌};
-ghost use Rattle.lamport_clock.specs.Versions.{entry, sees, within, first_unseen, raise, joined, put, place_of, front, behind, IsAt, IsVersion};
+ghost use Rattle.lamport_clock.specs.Versions.{entry, sees, within, first_unseen, raise, joined, put, place_of, front, behind, IsAt, IsVersion, OfSameReplicas};
 
 use crate::Lamport;
 use smallvec::SmallVec;
@@ -102,7 +102,8 @@ impl Version {
     }
 
     /// Sees all that the other version has seen too: for each replica the greater value. Linear in the replicas of both,
-    /// and without memory where the other has seen nothing more.
+    /// and without memory where the other has seen nothing more. Where both have seen the same replicas, the values are
+    /// raised in place.
     pub fn join(&mut self, o: &Version) -> Result<(), AllocError>
         ensures ok { OnOk result (self.new ≡ joined self.old o.now) }
         ensures greater { OnOk result ((r : ℕ) → entry self.new r ≡ max (entry self.old r) (entry o.now r)) }
@@ -112,8 +113,7 @@ impl Version {
         if self.sees_all(o) {
             return Ok(());
         }
-        let alloc = *self.entries.allocator();
-        self.entries = merged(alloc, self.entries.as_slice(), o.entries.as_slice())?;
+        join_entries(&mut self.entries, o.entries.as_slice())?;
         Ok(())
     }
 
@@ -185,6 +185,53 @@ fn unseen_in(ours: &[(u16, u32)], theirs: &[(u16, u32)]) -> Option<(u16, u32)>
         }
     }
     None
+}
+
+// Takes all entries of theirs: in place where both have the same replicas.
+fn join_entries(
+    entries: &mut SmallVec<(u16, u32), 4>,
+    theirs: &[(u16, u32)],
+) -> Result<(), AllocError>
+    requires ours { IsVersion entries.old.items }
+    requires theirs { IsVersion theirs.now }
+    ensures ok { OnOk result (entries.new.items ≡ joined entries.old.items theirs.now) }
+    ensures err { OnErr result (entries.new.items ≡ entries.old.items) }
+{
+    if same_replicas(entries.as_slice(), theirs) {
+        raise_each(entries.as_mut_slice(), theirs);
+        return Ok(());
+    }
+    let alloc = *entries.allocator();
+    *entries = merged(alloc, entries.as_slice(), theirs)?;
+    Ok(())
+}
+
+// Whether both have entries of the same replicas. Where it says so, they have.
+fn same_replicas(ours: &[(u16, u32)], theirs: &[(u16, u32)]) -> bool
+    ensures { IsTrue result → OfSameReplicas ours.now theirs.now }
+{
+    if ours.len() != theirs.len() {
+        return false;
+    }
+    for i in 0..theirs.len() {
+        if ours[i].0 != theirs[i].0 {
+            return false;
+        }
+    }
+    true
+}
+
+// Raises each value of ours to that of theirs, where both have the same replicas.
+fn raise_each(ours: &mut [(u16, u32)], theirs: &[(u16, u32)])
+    requires theirs { IsVersion theirs.now }
+    requires same { OfSameReplicas ours.old theirs.now }
+    ensures { ours.new ≡ joined ours.old theirs.now }
+{
+    for i in 0..theirs.len() {
+        let (replica, value) = theirs[i];
+        let greater = ours[i].1.max(value);
+        ours[i] = (replica, greater);
+    }
 }
 
 // All entries of both, the greater value where a replica is in both.

@@ -1,6 +1,7 @@
 -- A run of a list in the place of another.
-use Rattle.std.proofs.Common.{◌≡◌, ℕ, ◌+◌, ◌-◌, ◌≤◌, List, [], ◌∷◌, ◌++◌, length, take, drop, sym, ap, ◌∙◌, append_assoc, arith, length-append}
-use Rattle.std.proofs.lemmas.List.{length-take-le, length-drop, take-take}
+use Rattle.std.proofs.Common.{◌≡◌, ℕ, suc, ◌+◌, ◌-◌, ◌≤◌, List, [], ◌∷◌, ◌++◌, length, take, drop, refl, sym, ap, ◌∙◌, append_assoc, arith, length-append}
+use Rattle.std.specs.List.{remove}
+use Rattle.std.proofs.lemmas.List.{append-nil, length-take-le, length-drop, take-take}
 use Rattle.std.proofs.Math.Seq.{take-append-add, take-append_seam, drop-append_seam}
 use Rattle.sum_tree.specs.Spliced.{spliced}
 
@@ -23,3 +24,10 @@ module _ {X : Type 0} where
   popped xs all rest n x e f g =
       let size : n - 1 ≡ length xs = omega (arith, e, ap length g, length-append xs (x ∷ [])) in
       f ∙ ap (λ (m : ℕ). take m all) size ∙ ap (take (length xs)) g ∙ take-append_seam xs (x ∷ [])
+
+  -- a list without one of its elements
+  pub taken_out : (from to : ℕ) (xs run : List X) → from ≤ to → to - from ≡ 1 → length run ≡ 0 → remove xs from ≡ spliced from to run xs
+  taken_out from to xs [] le one none =
+      let next : to ≡ suc from = omega arith in
+      rw (next, append-nil (take from xs)) refl
+  taken_out from to xs (x ∷ run) le one none = absurd (omega arith)

@@ -27,8 +27,8 @@ pub(crate) enum Placing<S: Drop, E: Drop, N: Drop> {
     Back(E),
 }
 
-// Puts these in the place of a range, in the list's own block once there is room.
-fn put_run<X: Drop>(
+// Puts these in the place of a range, in the list's own block once there is room, by two turns of the list.
+fn turn_run<X: Drop>(
     list: &mut Vec<X>,
     from: usize,
     to: usize,
@@ -50,6 +50,35 @@ fn put_run<X: Drop>(
     }
     list.rotate_left(behind);
     Ok(())
+}
+
+// The same. Where one goes at most, and one comes or a second beside it, only what follows them moves.
+fn put_run<X: Drop>(
+    list: &mut Vec<X>,
+    from: usize,
+    to: usize,
+    mut run: Vec<X>,
+) -> Result<(), AllocError>
+    requires order { from ≤ to }
+    requires within { to ≤ length list.old.items }
+    ensures ok { OnOk result (list.new.items ≡ spliced from to run.items list.old.items) }
+    ensures err { OnErr result (list.new.items ≡ list.old.items) }
+{
+    match (to - from, run.len()) {
+        (1, 0) => {
+            let _old = list.remove(from);
+            return Ok(());
+        }
+        (0, 1) => {
+            list.insert(from, run.remove(0))?;
+            return Ok(());
+        }
+        (1, 1 | 2) => {
+            let front = run.remove(0);
+            return put_pair(list, from, front, run.pop());
+        }
+        _ => return turn_run(list, from, to, run),
+    }
 }
 
 // Two leaves of a leaf's entries where others are put in the place of a range.
@@ -110,25 +139,25 @@ fn place_in_leaf<T: Item>(
     Ok(Placing::Done(sums))
 }
 
-// Puts these in the place of child k.
-fn put_pair<T: Item>(
-    children: &mut Vec<SumTree<T>>,
+// Puts these in the place of the k-th.
+fn put_pair<X: Drop>(
+    list: &mut Vec<X>,
     k: usize,
-    front: SumTree<T>,
-    back: Option<SumTree<T>>,
+    front: X,
+    back: Option<X>,
 ) -> Result<(), AllocError>
-    requires { k < length children.old.items }
-    ensures ok { OnOk result (children.new.items ≡ with_pair children.old.items k front back) }
-    ensures err { OnErr result (children.new.items ≡ children.old.items) }
+    requires { k < length list.old.items }
+    ensures ok { OnOk result (list.new.items ≡ with_pair list.old.items k front back) }
+    ensures err { OnErr result (list.new.items ≡ list.old.items) }
 {
     match back {
         None => {
-            children[k] = front;
+            list[k] = front;
             Ok(())
         }
         Some(back) => {
-            children.insert(k + 1, back)?;
-            children[k] = front;
+            list.insert(k + 1, back)?;
+            list[k] = front;
             Ok(())
         }
     }

@@ -7,11 +7,11 @@ use Rattle.sum_tree.proofs.here.pair_in_place.Goals as goal
 
 pub returns-then-len-lt-MOST-clause-children : goal.returns-then-len-lt-MOST-clause-children
 returns-then-len-lt-MOST-clause-children g c =
-    (paired_placed c.args.height c.args.children.now.items c.put_pair.new.children.items c.args.k c.args.front c.args.back c.requires.within (omega (arith, c.if-len-lt-MOST.true, c.len.ensures, c.args.children.now.ok)) c.requires.children c.requires.front c.requires.back c.in_ok-put_pair.ensures.ok).0
+    (paired_placed c.args.height c.args.children.now.items c.put_pair.new.list.items c.args.k c.args.front c.args.back c.requires.within (omega (arith, c.if-len-lt-MOST.true, c.len.ensures, c.args.children.now.ok)) c.requires.children c.requires.front c.requires.back c.in_ok-put_pair.ensures.ok).0
 
 pub returns-then-len-lt-MOST-clause-placing : goal.returns-then-len-lt-MOST-clause-placing
 returns-then-len-lt-MOST-clause-placing g c ys =
-    ((paired_placed c.args.height c.args.children.now.items c.put_pair.new.children.items c.args.k c.args.front c.args.back c.requires.within (omega (arith, c.if-len-lt-MOST.true, c.len.ensures, c.args.children.now.ok)) c.requires.children c.requires.front c.requires.back c.in_ok-put_pair.ensures.ok).1, refl)
+    ((paired_placed c.args.height c.args.children.now.items c.put_pair.new.list.items c.args.k c.args.front c.args.back c.requires.within (omega (arith, c.if-len-lt-MOST.true, c.len.ensures, c.args.children.now.ok)) c.requires.children c.requires.front c.requires.back c.in_ok-put_pair.ensures.ok).1, refl)
 
 pub two_inners-requires-clause-children : goal.two_inners-requires-clause-children
 two_inners-requires-clause-children g c =

@@ -21,4 +21,4 @@ returns g c =
     let n = c.len-last.result in
     let len : n ≡ length ts = omega (arith, c.len-last.ensures, c.args.children.now.ok) in
     let few : length ts < 12 = omega (arith, c.if-len-ge-MOST.false, c.len.ensures, c.args.children.now.ok) in
-    pushed_beside c.args.height ts c.put_pair.new.children.items n c.index.result.now c.in_ok-front.front c.in_ok-front.back c.args.entry c.in_ok-other.other.items c.requires.children len c.requires.least few c.index.ensures c.in_ok-other.ensures.items c.in_ok-front.ensures c.in_ok-put_pair.ensures.ok
+    pushed_beside c.args.height ts c.put_pair.new.list.items n c.index.result.now c.in_ok-front.front c.in_ok-front.back c.args.entry c.in_ok-other.other.items c.requires.children len c.requires.least few c.index.ensures c.in_ok-other.ensures.items c.in_ok-front.ensures c.in_ok-put_pair.ensures.ok
