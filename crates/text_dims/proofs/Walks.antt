@@ -1,11 +1,11 @@
 -- The places of a text are those that a walk along it meets.
-use Rattle.std.specs.Prelude.{if◌then◌else◌, map, filter}
+use Rattle.std.specs.Prelude.{map, filter}
 use Rattle.std.proofs.Common.{◌≡◌, ℕ, suc, ◌+◌, ◌≤◌, Bool, true, false, cond, eqb, List, [], ◌∷◌, ◌++◌, length, take, get_or, refl, ap, sym, ◌∙◌, arith, append_assoc, length-append}
 use Rattle.std.specs.List.{range_with_len}
 use Rattle.std.proofs.lemmas.Bool.{eqb-true, le-leb}
 use Rattle.std.proofs.lemmas.List.{take_at, get_or-append-add}
 use Rattle.text_dims.specs.declared.places.Place.{Place}
-use Rattle.text_dims.specs.Bytes.{newline_summary, byte_summary}
+use Rattle.text_dims.specs.Bytes.{newline_summary, run_summary}
 use Rattle.text_dims.specs.Counts.{begins_char, byte_units, utf16_count}
 use Rattle.text_dims.specs.Summaries.{summary_of, end_point}
 use Rattle.text_dims.specs.Concat.{newline_count-append, utf16_count-append, last_row-append, length_adds, units_add}
@@ -27,7 +27,7 @@ sum_newline a b e = rw e refl
 no_row : (a : Place) → a.row + 0 ≡ a.row
 no_row a = omega arith
 
-sum_other : (a : Place) (b k : ℕ) → eqb b 10 ≡ false → place_sum a (summary_end (byte_summary k (byte_units b))) ≡ place_after a b
+sum_other : (a : Place) (b k : ℕ) → eqb b 10 ≡ false → place_sum a (summary_end (run_summary 1 k (byte_units b))) ≡ place_after a b
 sum_other a b k e = rw (e, no_row a) refl
 
 pub by_byte : (a : Place) (b : ℕ) (t : Bool) → eqb b 10 ≡ t → place_sum a (end_place (b ∷ [])) ≡ place_after a b

@@ -1,4 +1,4 @@
--- The summaries of single bytes.
+-- The summaries of an LF, and of bytes without one.
 use Rattle.std.specs.Prelude.{ℕ}
 use Rattle.text_dims.specs.declared.summary.TextSummary.{TextSummary}
 
@@ -16,13 +16,13 @@ newline_summary = record {
   longest_row_chars = 0;
 }
 
--- of another byte, which begins this many characters, 0 or 1, of this many UTF-16 units
-abbrev pub byte_summary : ℕ → ℕ → TextSummary
-byte_summary chars units = record {
-  len = 1;
+-- of bytes without an LF: how many there are, how many characters they begin, and how many UTF-16 units these have
+abbrev pub run_summary : ℕ → ℕ → ℕ → TextSummary
+run_summary len chars units = record {
+  len = len;
   len_utf16 = units;
   chars = chars;
-  lines = record { row = 0; column = 1 };
+  lines = record { row = 0; column = len };
   first_row_chars = chars;
   last_row_chars = chars;
   last_row_len_utf16 = units;

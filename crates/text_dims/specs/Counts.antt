@@ -15,6 +15,10 @@ char_units c = if nat_lt c 65536 then 1 else 2
 abbrev pub byte_units : ℕ → ℕ
 byte_units b = if begins_char b then (if nat_lt b 240 then 1 else 2) else 0
 
+-- whether the byte begins a character of two UTF-16 units
+abbrev pub begins_wide : ℕ → Bool
+begins_wide b = byte_units b == 2
+
 abbrev pub is_newline : ℕ → Bool
 is_newline b = b == 10
 

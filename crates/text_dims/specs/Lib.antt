@@ -1,5 +1,6 @@
 pub mod Points
 pub mod Counts
+pub mod Masks
 pub mod Summaries
 pub mod Bytes
 pub mod Rows

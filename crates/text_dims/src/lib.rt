@@ -9,12 +9,14 @@
 #![tactic(auto)]
 
 mod bytes;
+mod lanes;
 mod places;
 mod points;
 mod summary;
 mod threads;
 
 pub use bytes::{is_char_start, units_at};
+pub use lanes::{LANES, LaneMasks};
 pub use places::Place;
 pub use points::{OffsetUtf16, Point, PointUtf16};
 pub use summary::TextSummary;

@@ -1,12 +1,13 @@
 //! What is counted of a whole text.
-ghost use Rattle.std.specs.Prelude.{◌≡◌, ◌<◌, ◌≤◌, ◌^◌, [], ◌∷◌, length, sum_by, IfOk};
-ghost use Rattle.std.specs.Str.{chars};
+ghost use Rattle.std.specs.Prelude.{◌≡◌, ◌+◌, ◌<◌, ◌≤◌, ◌^◌, [], ◌∷◌, length, take, sum_by, IfOk};
+ghost use Rattle.std.specs.Str.{IsUtf8, chars};
 ghost use Rattle.text_dims.specs.Counts.{char_units};
 ghost use Rattle.text_dims.specs.Summaries.{summary_of, text_sum, no_text, longer, longest, IsOfText, TextFits};
-ghost use Rattle.text_dims.specs.Bytes.{newline_summary, byte_summary};
+ghost use Rattle.text_dims.specs.Bytes.{newline_summary, run_summary};
 ghost use Rattle.text_dims.specs.Monoid.{text_laws};
 
 use crate::bytes::{is_char_start, units_at};
+use crate::lanes::{LANES, run_at};
 use crate::points::Point;
 use std::alloc::{AllocError, Global};
 use sum_tree::Summary;
@@ -52,9 +53,15 @@ impl TextSummary {
         ensures characters { result.chars ≡ length (chars text.now) }
         ensures units { result.len_utf16 ≡ sum_by char_units (chars text.now) }
     {
+        let bytes = text.as_bytes();
         let mut summary = TextSummary::empty();
-        for byte in text.as_bytes() {
-            summary.push_byte(*byte);
+        let mut at = 0;
+        while bytes.len() - at >= LANES {
+            at = summary.push_lanes(bytes, at);
+        }
+        while at < bytes.len() {
+            summary.push_byte(bytes[at]);
+            at += 1;
         }
         summary
     }
@@ -75,6 +82,28 @@ impl TextSummary {
         }
     }
 
+    /// Counts some bytes behind those before `at`, which are counted: 16, or those up to the first LF with it. Answers how
+    /// many are counted then.
+    #[inline(always)]
+    fn push_lanes(&mut self, bytes: &[u8], at: usize) -> usize
+        requires within { at + LANES ≤ length bytes.now }
+        requires text { IsUtf8 bytes.now }
+        requires short { length bytes.now < 2 ^ 64 }
+        requires before { self.old ≡ summary_of (take at bytes.now) }
+        ensures after { self.new ≡ summary_of (take result bytes.now) }
+        ensures more { at < result }
+        ensures within { result ≤ length bytes.now }
+    {
+        let run = run_at(bytes, at);
+        self.push_run(run.len as u64, run.chars, run.units);
+        let end = at + run.len;
+        if run.len == LANES {
+            return end;
+        }
+        self.push_byte(bytes[end]);
+        end + 1
+    }
+
     fn push_byte(&mut self, byte: u8)
         requires longest { self.old.last_row_chars ≤ self.old.longest_row_chars }
         requires fits { TextFits (text_sum self.old (summary_of (byte ∷ []))) }
@@ -83,7 +112,7 @@ impl TextSummary {
         if byte == b'\n' {
             self.push_newline();
         } else {
-            self.push_other(u64::from(is_char_start(byte)), units_at(byte));
+            self.push_run(1, u64::from(is_char_start(byte)), units_at(byte));
         }
     }
 
@@ -103,17 +132,17 @@ impl TextSummary {
         self.last_row_len_utf16 = 0;
     }
 
-    /// Goes on by a byte that is no LF, which begins `chars` characters of `units` UTF-16 units.
+    /// Goes on by `len` bytes without an LF, which begin `chars` characters of `units` UTF-16 units.
     #[inline(always)]
-    fn push_other(&mut self, chars: u64, units: u64)
+    fn push_run(&mut self, len: u64, chars: u64, units: u64)
         requires longest { self.old.last_row_chars ≤ self.old.longest_row_chars }
-        requires fits { TextFits (text_sum self.old (byte_summary chars units)) }
-        ensures { self.new ≡ text_sum self.old (byte_summary chars units) }
+        requires fits { TextFits (text_sum self.old (run_summary len chars units)) }
+        ensures { self.new ≡ text_sum self.old (run_summary len chars units) }
     {
-        self.len += 1;
+        self.len += len;
         self.len_utf16 += units;
         self.chars += chars;
-        self.lines.column += 1;
+        self.lines.column += len;
         if self.lines.row == 0 {
             self.first_row_chars += chars;
         }

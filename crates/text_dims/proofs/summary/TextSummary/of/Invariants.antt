@@ -1,6 +1,21 @@
-use Rattle.std.proofs.Common.{◌≡◌, take}
+use Rattle.std.proofs.Common.{◌≡◌, ◌-◌, ◌≤◌, length, take}
 use Rattle.text_dims.specs.Summaries.{summary_of}
 use Rattle.text_dims.proofs.summary.TextSummary.of.Given as goal
 
-abbrev pub invariant-loop-byte : goal.invariant-loop-byte
-invariant-loop-byte l = l.summary ≡ summary_of (take l.byte-index l.byte-items)
+abbrev pub invariant-loop-at : goal.invariant-loop-at
+invariant-loop-at l = record {
+  within : l.at ≤ length l.bytes;
+  counted : l.summary ≡ summary_of (take l.at l.bytes);
+}
+
+abbrev pub decreases-loop-at : goal.decreases-loop-at
+decreases-loop-at l = length l.bytes - l.at
+
+abbrev pub invariant-loop-at-2 : goal.invariant-loop-at-2
+invariant-loop-at-2 l = record {
+  within : l.at ≤ length l.bytes;
+  counted : l.summary ≡ summary_of (take l.at l.bytes);
+}
+
+abbrev pub decreases-loop-at-2 : goal.decreases-loop-at-2
+decreases-loop-at-2 l = length l.bytes - l.at
