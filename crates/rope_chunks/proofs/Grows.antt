@@ -71,8 +71,8 @@ grown_is from n ys xs old text v a e h t f = record {
 }
 
 -- the chunks of a text
-pub are_cut : (cs ds : List (List ℕ)) (front text : List ℕ) → cs ≡ ds → All IsChunk ds → concat ds ≡ front ++ text → front ≡ [] → length text ≤ 2 ^ 40 → AreChunks cs
-are_cut cs ds front text e a t n f = record { each = rw e a; few = rw (e, t, n) f }
+pub are_cut : (cs : List (List ℕ)) (rest text : List ℕ) → concat cs ++ rest ≡ text → All IsChunk cs → length text ≤ 2 ^ 40 → AreChunks cs
+are_cut cs rest text e each few = record { each = each; few = omega (arith, few, ap length e, length-append (concat cs) rest) }
 
 -- a rope behind another
 pub are_beside : (cs ds : List (List ℕ)) → All IsChunk cs → All IsChunk ds → length (concat cs) + length (concat ds) ≤ 2 ^ 40 → AreChunks (cs ++ ds)
@@ -153,3 +153,11 @@ get_drop (d ∷ cs) (suc i) c h = let more : suc i + 1 ≡ suc (i + 1) = omega a
 
 pub none_drop : (cs : List (List ℕ)) (i : ℕ) → slice_get cs i ≡ None → drop i cs ≡ []
 none_drop cs i h = ⊎_elim (λ (l : i < length cs). absurd (get_some cs i l h)) (λ (l : length cs ≤ i). drop_all i cs l) (cases_lt i (length cs))
+
+-- a block of chunks, put behind others, and the rest of the text
+pub block_beside : (cs ds : List (List ℕ)) (text rest : List ℕ) → concat ds ++ rest ≡ text → length (concat cs) + length text ≤ 2 ^ 40 → All IsChunk cs → All IsChunk ds → AreChunks (cs ++ ds)
+block_beside cs ds text rest e few front back =
+    are_beside cs ds front back (omega (arith, few, ap length e, length-append (concat ds) rest))
+
+pub block_text : (cs ds : List (List ℕ)) (text rest : List ℕ) → concat ds ++ rest ≡ text → concat (cs ++ ds) ++ rest ≡ concat cs ++ text
+block_text cs ds text rest e = rw (concat-append cs ds, append_assoc (concat cs) (concat ds) rest, e) refl

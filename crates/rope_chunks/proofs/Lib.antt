@@ -8,3 +8,4 @@ pub mod PointClips
 pub mod Spots
 pub mod Changes
 pub mod Tails
+pub mod Bits

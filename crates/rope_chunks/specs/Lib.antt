@@ -1,4 +1,5 @@
 pub mod Chunks
+pub mod Masks
 pub mod At
 pub mod Targets
 pub mod Stops

@@ -1,13 +1,14 @@
 //! How ropes grow.
-ghost use Rattle.std.specs.Prelude.{◌≡◌, ◌+◌, ◌-◌, ◌≤◌, ◌^◌, ◌++◌, length, take, slice_get, Some, All, IfOk, OnOk, OnErr};
+ghost use Rattle.std.specs.Prelude.{◌≡◌, ◌+◌, ◌-◌, ◌<◌, ◌≤◌, ◌^◌, ◌++◌, length, take, slice_get, Some, All, IfOk, OnOk, OnErr};
 ghost use Rattle.std.specs.List.{concat};
+ghost use Rattle.std.specs.Str.{IsUtf8};
 ghost use Rattle.std.specs.String.{string_bytes};
 ghost use Rattle.sum_tree.specs.Spliced.{spliced};
 ghost use Rattle.rope_chunks.specs.Chunks.{IsChunk, AreChunks};
 
 use crate::OutOfMemory;
 use crate::chunk::{CHUNK_BYTES, Chunk, LEAST_BYTES};
-use crate::pieces::{cut_up, filled};
+use crate::pieces::{BLOCK, cut_block, cut_up, filled};
 use crate::rope::Rope;
 use std::alloc::Global;
 use sum_tree::SumTree;
@@ -18,9 +19,11 @@ impl Rope {
         requires { length text.now ≤ 2 ^ 40 }
         ensures { IfOk result (λ rope. rope ≡ text.now) }
     {
-        let mut pieces = Vec::with_capacity(alloc, text.len() / LEAST_BYTES + 1)?;
-        cut_up(&mut pieces, text)?;
-        let chunks = tree_of(alloc, pieces)?;
+        let mut chunks = SumTree::new(alloc)?;
+        let mut rest = text;
+        while !rest.is_empty() {
+            rest = push_block(&mut chunks, alloc, rest)?;
+        }
         Ok(Rope { chunks })
     }
 
@@ -60,6 +63,27 @@ impl Rope {
         }
         Ok(text)
     }
+}
+
+// Puts the first block of a text behind some chunks, and answers the rest of the text.
+fn push_block<'a>(
+    chunks: &mut SumTree<Chunk>,
+    alloc: Global,
+    text: &'a str,
+) -> Result<&'a str, OutOfMemory>
+    requires each { All IsChunk chunks.old.items }
+    requires some { 0 < length text.now }
+    requires few { length (concat chunks.old.items) + length text.now ≤ 2 ^ 40 }
+    ensures text { IfOk result (λ rest. concat chunks.new.items ++ rest.now ≡ concat chunks.old.items ++ text.now) }
+    ensures each { IfOk result (λ _. All IsChunk chunks.new.items) }
+    ensures rest { IfOk result (λ rest. IsUtf8 rest.now) }
+    ensures shorter { IfOk result (λ rest. length rest.now < length text.now) }
+{
+    let mut pieces = Vec::with_capacity(alloc, BLOCK.min(text.len() / LEAST_BYTES + 1))?;
+    let rest = cut_block(&mut pieces, text)?;
+    let block = tree_of(alloc, pieces)?;
+    join(chunks, alloc, block)?;
+    Ok(rest)
 }
 
 // The chunks of two texts, one after the other. The chunks at the seam are made one where they fit.

@@ -9,6 +9,7 @@ mod clips;
 mod cut;
 mod lent;
 mod look;
+mod masks;
 mod pieces;
 mod positions;
 mod replace;
@@ -20,6 +21,7 @@ mod threads;
 
 pub use chunk::Chunk;
 pub use lent::Chunks;
+pub use masks::Masks;
 pub use rope::Rope;
 pub use std::alloc::AllocError as OutOfMemory;
 pub use threads::crosses_threads;

@@ -8,6 +8,9 @@ use crate::OutOfMemory;
 use crate::chunk::{CHUNK_BYTES, Chunk};
 use std::alloc::Global;
 
+/// How many chunks are made a tree at a time: those of a full tree of three levels, whose lists stay in the cache.
+pub(crate) const BLOCK: usize = 12 * 12 * 12;
+
 /// Cuts a text into chunks, each as full as the characters allow, and puts them behind others.
 pub(crate) fn cut_up(chunks: &mut Vec<Chunk>, text: &str) -> Result<(), OutOfMemory>
     requires { All IsChunk chunks.old.items }
@@ -16,11 +19,40 @@ pub(crate) fn cut_up(chunks: &mut Vec<Chunk>, text: &str) -> Result<(), OutOfMem
 {
     let mut rest = text;
     while !rest.is_empty() {
-        let (piece, after) = first_piece(rest);
-        chunks.push(Chunk::new(piece))?;
-        rest = after;
+        rest = push_piece(chunks, rest)?;
     }
     Ok(())
+}
+
+/// Cuts chunks, each as full as the characters allow, from the begin of a text, at least one and no more than a block,
+/// and puts them into an empty list. Answers the rest of the text.
+pub(crate) fn cut_block<'a>(chunks: &mut Vec<Chunk>, text: &'a str) -> Result<&'a str, OutOfMemory>
+    requires new { chunks.old.items ≡ [] }
+    requires some { 0 < length text.now }
+    ensures text { IfOk result (λ rest. concat chunks.new.items ++ rest.now ≡ text.now) }
+    ensures each { IfOk result (λ _. All IsChunk chunks.new.items) }
+    ensures rest { IfOk result (λ rest. IsUtf8 rest.now) }
+    ensures shorter { IfOk result (λ rest. length rest.now < length text.now) }
+{
+    let mut rest = push_piece(chunks, text)?;
+    while !rest.is_empty() && chunks.len() < BLOCK {
+        rest = push_piece(chunks, rest)?;
+    }
+    Ok(rest)
+}
+
+// Puts as much of a text as a chunk has room for behind other chunks, and answers the rest.
+fn push_piece<'a>(chunks: &mut Vec<Chunk>, text: &'a str) -> Result<&'a str, OutOfMemory>
+    requires each { All IsChunk chunks.old.items }
+    requires some { 0 < length text.now }
+    ensures text { IfOk result (λ rest. concat chunks.new.items ++ rest.now ≡ concat chunks.old.items ++ text.now) }
+    ensures each { IfOk result (λ _. All IsChunk chunks.new.items) }
+    ensures rest { IfOk result (λ rest. IsUtf8 rest.now) }
+    ensures shorter { IfOk result (λ rest. length rest.now < length text.now) }
+{
+    let (piece, rest) = first_piece(text);
+    chunks.push(Chunk::new(piece))?;
+    Ok(rest)
 }
 
 // As much of a text as a chunk has room for, and the rest.

@@ -1,8 +1,12 @@
-use Rattle.std.proofs.Common.{ap}
-use Rattle.std.specs.List.{concat}
-use Rattle.rope_chunks.proofs.Grows.{are_cut}
+use Rattle.std.proofs.Common.{◌∙◌, refl}
 use Rattle.rope_chunks.proofs.rope.Rope.from_str.Goals as goal
 
-pub invariant_of-result : goal.invariant_of-result
-invariant_of-result c =
-    are_cut c.in_ok-chunks.chunks.items c.cut_up.new.chunks.items (concat c.in_ok-pieces.pieces.items) c.args.text.now c.in_ok-chunks.ensures c.in_ok-cut_up.ensures.each c.in_ok-cut_up.ensures.text (ap concat c.in_ok-pieces.ensures.items) c.requires
+pub same-chunks : goal.same-chunks
+same-chunks c = refl
+
+pub loop-rest-smaller : goal.loop-rest-smaller
+loop-rest-smaller c = c.in_ok-rest.ensures.shorter
+
+pub loop-rest-preserved : goal.loop-rest-preserved
+loop-rest-preserved c =
+    (c.in_ok-rest.ensures.rest, c.in_ok-rest.ensures.text ∙ c.loop-rest.invariant.1, c.in_ok-rest.ensures.each)
