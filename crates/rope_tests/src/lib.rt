@@ -2,6 +2,8 @@
 #![tactic(auto)]
 
 #[cfg(test)]
+mod masks;
+#[cfg(test)]
 mod parts;
 #[cfg(test)]
 mod positions;
