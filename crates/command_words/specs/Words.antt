@@ -1,5 +1,5 @@
 -- Which words are command words, and which command they are: `clap` takes them.
-use Rattle.std.specs.Prelude.{◌<◌, ◌≤◌, ◌^◌, ⊤, ℕ, List, [], ◌∷◌, map, codes, Option, Some, None, option_and_then, option_map, if◌then◌else◌, true, String, string_bytes}
+use Rattle.std.specs.Prelude.{◌<◌, ◌≤◌, ◌^◌, ⊤, ℕ, List, [], ◌∷◌, map, codes, Option, Some, None, option_and_then, option_map, if◌then◌else◌, Bool, true, String, string_bytes}
 use Rattle.std.specs.declared.alloc.Global.{Global}
 use Rattle.std.specs.Str.{bytes_eq}
 use Rattle.std.specs.Str.Parse.{digits_value, without_leading_plus}
@@ -63,13 +63,17 @@ abbrev pub command_from : Text → List Row → Option Command
 command_from name found =
     if bytes_eq name (codes "replay") then replay_from found else if bytes_eq name (codes "check") then Some (Read Check) else if bytes_eq name (codes "make") then make_from found else None
 
--- the command of the words, None where they are no command words: `clap` finds a fault in them
+-- the command of the words where `clap` finds no fault in them
 abbrev pub command_with : List Text → Option Command
 command_with words =
     if is_empty (fault_of command_line words) then option_and_then (λ p. command_from p.0 p.1) (subcommand_of command_line words) else None
 
 abbrev pub command_of : List (String Global) → Option Command
 command_of words = command_with (map string_bytes words)
+
+-- `clap` finds no fault in the words
+abbrev pub clap_takes : List (String Global) → Bool
+clap_takes words = is_empty (fault_of command_line (map string_bytes words))
 
 -- ---- what is known of each command
 

@@ -1,7 +1,7 @@
 // The command that words are.
-ghost use Rattle.std.specs.Prelude.{◌≡◌, ◌≤◌, ◌&&◌, nat_le, false, true, IfOk, IfSome, option_and_then};
+ghost use Rattle.std.specs.Prelude.{◌≡◌, ◌≤◌, ◌&&◌, nat_le, false, true, IfOk, IfSome, is_some, option_and_then};
 ghost use Rattle.clap.specs.Words.{found_of, kind_of, rows_of, subcommand_rows_of};
-ghost use Rattle.command_words.specs.Words.{IsInRange, command_from, command_of, make_from, number_of, replay_from};
+ghost use Rattle.command_words.specs.Words.{IsInRange, clap_takes, command_from, command_of, make_from, number_of, replay_from};
 
 use crate::command::{Command, Task};
 use crate::line::command_line;
@@ -78,13 +78,14 @@ fn is_memory(error: &Error) -> bool
 }
 
 /// The command of the words, which stand without the program's name; `None` exactly where they are no command words: where
-/// `clap` does not take them, a request for help among them. Linear in the words.
+/// `clap` finds a fault in them, as a request for help or a number that is out of its option's range. Linear in the words.
 ///
 /// # Errors
 ///
 /// Want of memory alone.
 pub fn command_of(alloc: Global, words: &[String]) -> Result<Option<Command>, AllocError>
     ensures command { IfOk result (λ c. c ≡ command_of words.now) }
+    ensures taken { IfOk result (λ c. is_some c ≡ clap_takes words.now) }
     ensures within { IfOk result (λ c. IfSome c IsInRange) }
 {
     match command_line(alloc)?.try_get_matches_from(words) {
