@@ -24,7 +24,7 @@ pub(crate) fn cut_up(chunks: &mut Vec<Chunk>, text: &str) -> Result<(), OutOfMem
     Ok(())
 }
 
-/// Cuts chunks, each as full as the characters allow, from the begin of a text, at least one and no more than a block,
+/// Cuts chunks, each as full as the characters allow, from the start of a text, at least one and no more than a block,
 /// and puts them into an empty list. Answers the rest of the text.
 pub(crate) fn cut_block<'a>(chunks: &mut Vec<Chunk>, text: &'a str) -> Result<&'a str, OutOfMemory>
     requires new { chunks.old.items ≡ [] }
