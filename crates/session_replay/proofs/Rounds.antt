@@ -14,7 +14,8 @@ use Rattle.session_maker.specs.Turns.{author_of, turn_of}
 use Rattle.op_model.specs.Shown.{text}
 use Rattle.text_buffer.specs.Buffer.{BufferState}
 use Rattle.session_lines.specs.Report.{line_text}
-use Rattle.session_replay.specs.Making.{count_lines, have_text, length_at, made_opening, made_session, summary_of, summary_with}
+use Rattle.session_maker.proofs.Decoding.{made_sessions_decode}
+use Rattle.session_replay.specs.Making.{Makes, count_lines, have_text, length_at, made_opening, made_session, summary_of, summary_with}
 use Rattle.session_replay.specs.MakingOn.{Leaves, TakesTurn, Works, WorksRound, worked}
 use Rattle.session_replay.specs.Work.{State, after_all, counts_report, step}
 use Rattle.session_replay.specs.declared.making.Making.{Making}
@@ -187,6 +188,10 @@ module _ (m a b : Making) (seed n edits : ℕ) (ids ns : List ℕ) where
       let state_is : worked b ≡ after_all all (made_opening n) =
       w.state ∙ ap (after_all (flat_map (gives_to ns) ids)) state ∙ sym (after_all-append rounds (flat_map (gives_to ns) ids) (worked m)) ∙ ap₂ after_all together start in
       ap₂ (λ ls s. summary_with (length ls) s) lines_are state_is
+
+-- the summary of a session that is made; its text decodes to it
+pub makes : (seed n edits : ℕ) (output : List ℕ) → 1 ≤ n → n ≤ 16 → edits ≤ 20000 → output ≡ summary_of (made_session seed n edits) → Makes seed n edits output
+makes seed n edits output some few at_most is = (is, made_sessions_decode State after_all length_at (made_opening n) seed n edits some few at_most)
 
 -- ---- ids
 

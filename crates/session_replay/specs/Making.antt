@@ -1,12 +1,14 @@
 -- A session that is made by a seed, and its summary.
-use Rattle.std.specs.Prelude.{◌≡◌, ℕ, ◌+◌, List, [], ◌∷◌, ◌++◌, length, map, nat_eq, codes, decimal, Bool, true, Option, None, Some, is_some, if◌then◌else◌}
+use Rattle.std.specs.Prelude.{◌≡◌, ℕ, ◌+◌, List, [], ◌∷◌, ◌++◌, length, map, nat_eq, codes, decimal, Bool, true, Option, None, Some, Ok, is_some, if◌then◌else◌}
 use Rattle.std.specs.List.{count_by, flat_map, list_all}
 use Rattle.std.specs.Cmp.Lexicographic.{pointwise}
 use Rattle.op_model.specs.Shown.{text}
 use Rattle.text_buffer.specs.Buffer.{BufferState}
 use Rattle.session_lines.specs.Report.{line_text}
+use Rattle.session_lines.specs.Session.{decoded}
 use Rattle.session_lines.specs.declared.session.Session.{Session}
 use Rattle.session_maker.specs.Made.{made_lines, session_with}
+use Rattle.session_maker.specs.Written.{session_text}
 use Rattle.session_replay.specs.Work.{State, after_all, buffer_of, counts_report, opening}
 use Rattle.session_replay.specs.Queries.{end_of}
 
@@ -60,6 +62,8 @@ summary_with lines s = made_line (1 + lines) (made_count s) ++ (count_lines s.bu
 unfoldable pub summary_of : Session → List ℕ
 summary_of s = summary_with (length s.lines) (end_of s)
 
--- the output is the summary of the session that is made
+-- the output is the summary of the session that is made, which is what its text decodes to
 abbrev pub Makes : ℕ → ℕ → ℕ → List ℕ → Type 0
-Makes seed n edits output = output ≡ summary_of (made_session seed n edits)
+Makes seed n edits output =
+    let session = made_session seed n edits in
+    (output ≡ summary_of session) × (decoded (session_text session) ≡ Ok session)

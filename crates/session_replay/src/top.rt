@@ -1,9 +1,9 @@
 // The top call.
-ghost use Rattle.std.specs.Prelude.{◌≡◌, ◌≤◌, ◌<◌, ◌+◌, ◌⊎◌, ℕ, List, length, string_bytes, IfOk, IfSome, IsErrOf, Ok, Err, Some, None};
+ghost use Rattle.std.specs.Prelude.{◌≡◌, ◌≤◌, ◌<◌, ◌+◌, ◌⊎◌, ℕ, List, length, string_bytes, false, IfOk, IfSome, IsErrOf, Ok, Err, Some, None};
 ghost use Rattle.std.specs.Io.KnownBytes.{Appends};
 ghost use Rattle.session_replay.specs.Causes.{Rose, RoseBy};
 ghost use Rattle.session_replay.specs.Traffic.{AppendsFront, WasRead, WasTaken};
-ghost use Rattle.command_words.specs.Words.{command_of};
+ghost use Rattle.command_words.specs.Words.{clap_takes, command_of};
 ghost use Rattle.command_words.specs.declared.command.Command.{Command};
 ghost use Rattle.command_words.specs.declared.command.Task.{Task};
 ghost use Rattle.session_lines.specs.Cut.{lines_of};
@@ -172,9 +172,11 @@ fn work<I: Source, O: Sink>(alloc: Global, task: Task, src: &mut I, out: &mut O)
 }
 
 /// Makes a session, and writes its summary.
+#[tactic(auto, using(crate::proofs::Rounds::makes))]
 fn make_session<O: Sink>(alloc: Global, seed: u32, replicas: u16, edits: u32, out: &mut O) -> Status
     requires some { 1 ≤ replicas }
-    requires few { replicas ≤ 1023 }
+    requires few { replicas ≤ 16 }
+    requires edits { edits ≤ 20000 }
     ensures done { result ≡ Status.Done → (output : List ℕ)
         × Appends (O.written out.old) (O.written out.new) output × Makes seed replicas edits output }
     ensures memory { result ≡ Status.Memory → out.new ≡ out.old }
@@ -209,6 +211,9 @@ pub fn run<R: Threads + Wait + Sync, I: Source, O: Sink, G: Gate>(
     ensures usage { result ≡ Status.Usage → (command_of words.now ≡ None) × (src.new ≡ src.old)
         × Appends (O.written out.old) (O.written out.new) usage_line }
     ensures refused { command_of words.now ≡ None → (result ≡ Status.Usage) ⊎ ((result ≡ Status.WriteFault) ⊎ (result ≡ Status.Memory)) }
+    // These are the words in which `clap` finds a fault.
+    ensures faulty { result ≡ Status.Usage → clap_takes words.now ≡ false }
+    ensures untaken { clap_takes words.now ≡ false → (result ≡ Status.Usage) ⊎ ((result ≡ Status.WriteFault) ⊎ (result ≡ Status.Memory)) }
 
     // Done: what the command makes was written whole; where it reads a session, the input was read to its end.
     ensures done { result ≡ Status.Done → (command : Command) × (command_of words.now ≡ Some command)
