@@ -1,4 +1,4 @@
-// The cells of a history in order, by the definitions: a plain slow list, with which buffers are compared.
+// The cells of a history in order, by the definitions: a plain slow list, with which fragments are compared.
 ghost use Rattle.std.specs.Prelude.{◌≡◌, ◌≤◌, length, map};
 ghost use Rattle.op_model.specs.Cells.{Cell as CellType, path_before, same_cell, sibling_first};
 ghost use Rattle.placing_tests.specs.declared.cells.Name.{Name as NameType};
@@ -7,24 +7,19 @@ use lamport_clock::{Lamport, Version, is_later, is_same};
 use op_model::{EditOp, Operation, Piece, UndoOp};
 use std::alloc::{AllocError, Global};
 
-const BASE: Lamport = Lamport {
-    value: 1,
-    replica: 0,
-};
-
-// A byte's edit, and the byte's number among those that the edit brought, from 0.
+/// A byte's edit, and the byte's number among those that the edit brought, from 0.
 #[derive(Clone, Copy)]
-struct Name {
-    stamp: Lamport,
-    number: u64,
+pub struct Name {
+    pub stamp: Lamport,
+    pub number: u64,
 }
 
-// A byte, shown or hidden, and the edits that delete it.
+/// A byte, shown or hidden, and the edits that delete it, the greatest stamp first.
 #[derive(Drop)]
-struct Cell {
-    name: Name,
-    byte: u8,
-    deletions: Vec<Lamport>,
+pub struct Cell {
+    pub name: Name,
+    pub byte: u8,
+    pub deletions: Vec<Lamport>,
     // Its left neighbours, from the first cell of the text down, and itself.
     path: Vec<Name>,
 }
@@ -45,25 +40,22 @@ pub struct Cells {
 }
 
 impl Cells {
-    /// The cells of a base.
-    pub fn over(alloc: Global, text: &str) -> Result<Cells, AllocError> {
-        let mut cells = Cells {
+    /// The cells of a history without text.
+    pub fn new(alloc: Global) -> Cells {
+        Cells {
             list: Vec::new(alloc),
             counts: Vec::new(alloc),
-        };
-        cells.put(alloc, BASE, 0, Vec::new(alloc), text)?;
-        Ok(cells)
+        }
     }
 
-    /// The bytes that are shown, in order.
-    pub fn text(&self, alloc: Global) -> Result<Vec<u8>, AllocError> {
-        let mut text = Vec::new(alloc);
-        for cell in &self.list {
-            if is_shown(self.counts.as_slice(), cell, None) {
-                text.push(cell.byte)?;
-            }
-        }
-        Ok(text)
+    /// The cells in order.
+    pub fn as_slice(&self) -> &[Cell] {
+        self.list.as_slice()
+    }
+
+    /// Whether a cell is shown.
+    pub fn is_shown(&self, cell: &Cell) -> bool {
+        is_shown(self.counts.as_slice(), cell, None)
     }
 
     /// Takes one operation more.
@@ -106,7 +98,7 @@ impl Cells {
                 if is_in_range(edit.pieces.as_slice(), place)
                     && is_shown(counts, cell, Some(&edit.version))
                 {
-                    cell.deletions.push(edit.stamp)?;
+                    insert(&mut cell.deletions, edit.stamp)?;
                 }
                 place = after(place, 1);
             }
@@ -233,5 +225,17 @@ fn is_seen(version: Option<&Version>, stamp: Lamport) -> bool {
     match version {
         Some(version) => version.sees(stamp),
         None => true,
+    }
+}
+
+// Puts a stamp among stamps that descend.
+fn insert(stamps: &mut Vec<Lamport>, stamp: Lamport) -> Result<(), AllocError> {
+    let at = stamps
+        .iter()
+        .position(|one| is_later(stamp, *one))
+        .unwrap_or(stamps.len());
+    match stamps.insert(at, stamp) {
+        Ok(()) => Ok(()),
+        Err(_) => Err(AllocError),
     }
 }

@@ -3,8 +3,7 @@ use crate::group::Group;
 use crate::replica::{Change, Replica};
 use lamport_clock::Lamport;
 use op_model::Operation;
-use std::alloc::{AllocError, Global};
-use std::test::Fail;
+use std::io;
 
 const STEPS: u32 = 80;
 
@@ -34,51 +33,55 @@ fn change(x: u64, len: u64) -> Change {
 
 // The stamp of a drawn edit that is applied, if it is one.
 fn edit_of(replica: &Replica, x: u64) -> Option<Lamport> {
-    match replica.operation((x >> 20) % replica.count().max(1)) {
-        Some(Operation::Edit(edit)) => Some(edit.stamp),
-        _ => None,
+    let count = replica.applied().len().max(1);
+    match replica.applied().get((x >> 20) % count) {
+        Some(applied) => match applied.op() {
+            Operation::Edit(edit) => Some(edit.stamp),
+            Operation::Undo(_) => None,
+        },
+        None => None,
     }
 }
 
-fn edit(alloc: Global, group: &mut Group, i: usize, x: u64) -> Result<(), AllocError> {
+fn edit(rt: &HostRuntime, group: &mut Group, i: usize, x: u64) -> io::Result<()> {
     let len = match group.get(i) {
         Some(replica) => replica.len(),
         None => 0,
     };
-    group.edit(alloc, i, &[change(x, len)])
+    group.edit(rt, i, &[change(x, len)])
 }
 
-fn undo(alloc: Global, group: &mut Group, i: usize, x: u64) -> Result<(), AllocError> {
+fn undo(rt: &HostRuntime, group: &mut Group, i: usize, x: u64) -> io::Result<()> {
     let edit = match group.get(i) {
         Some(replica) => edit_of(replica, x),
         None => None,
     };
     match edit {
-        Some(stamp) => group.undo(alloc, i, &[stamp]),
+        Some(stamp) => group.undo(rt, i, &[stamp]),
         None => Ok(()),
     }
 }
 
-fn step(alloc: Global, group: &mut Group, x: u64) -> Result<(), AllocError> {
+fn step(rt: &HostRuntime, group: &mut Group, x: u64) -> io::Result<()> {
     let i = ((x >> 10) % 3) as usize;
     match (x >> 14) % 8 {
-        0 => group.take(alloc, i, i.wrapping_add(1) % 3),
-        1 => group.take(alloc, i, i.wrapping_add(2) % 3),
-        2 | 3 => undo(alloc, group, i, x),
-        _ => edit(alloc, group, i, x),
+        0 => group.take(rt, i, i.wrapping_add(1) % 3),
+        1 => group.take(rt, i, i.wrapping_add(2) % 3),
+        2 | 3 => undo(rt, group, i, x),
+        _ => edit(rt, group, i, x),
     }
 }
 
 // Each takes what the others have.
-fn exchange(alloc: Global, group: &mut Group) -> Result<(), AllocError> {
+fn exchange(rt: &HostRuntime, group: &mut Group) -> io::Result<()> {
     for (i, j) in [(0, 1), (0, 2), (1, 0), (2, 0)] {
-        group.take(alloc, i, j)?;
+        group.take(rt, i, j)?;
     }
     Ok(())
 }
 
 // Whether all are there, have agreed and show one text.
-fn are_alike(group: &Group) -> Result<bool, AllocError> {
+fn are_alike(group: &Group) -> io::Result<bool> {
     let Some(first) = group.get(0) else {
         return Ok(false);
     };
@@ -90,21 +93,21 @@ fn are_alike(group: &Group) -> Result<bool, AllocError> {
     )
 }
 
-fn agree_on(alloc: Global, seed: u64) -> Result<bool, AllocError> {
-    let mut group = Group::new(alloc, "base")?;
+fn agree_on(rt: &HostRuntime, seed: u64) -> io::Result<bool> {
+    let mut group = Group::new(rt.alloc())?;
     let mut x = seed;
     for _ in 0..STEPS {
         x = next(x);
-        step(alloc, &mut group, x)?;
+        step(rt, &mut group, x)?;
     }
-    exchange(alloc, &mut group)?;
+    exchange(rt, &mut group)?;
     are_alike(&group)
 }
 
 #[test]
-fn draws(rt: HostRuntime) -> Result<(), Fail> {
+fn draws(rt: HostRuntime) -> io::Result<()> {
     for seed in 0..SEEDS {
-        let agree = agree_on(rt.alloc(), seed)?;
+        let agree = agree_on(&rt, seed)?;
         assert!(rt; agree, "seed {seed}");
     }
     Ok(())

@@ -1,69 +1,74 @@
 // Three replicas that work on one text.
 use crate::replica::{Change, Replica};
 use lamport_clock::Lamport;
-use op_model::Operation;
 use std::alloc::{AllocError, Global};
+use std::io;
 
-/// Replicas 1 to 3 at places 0 to 2.
+/// Replicas 1 to 3 at places 0 to 2, each there but while it works. A call that meets a fault is an error.
 #[derive(Drop)]
 pub struct Group {
-    replicas: Vec<Replica>,
+    replicas: Vec<Option<Replica>>,
 }
 
 impl Group {
-    /// Over a base.
-    pub fn new(alloc: Global, base: &str) -> Result<Group, AllocError> {
+    /// Without text.
+    pub fn new(alloc: Global) -> Result<Group, AllocError> {
         let mut replicas = Vec::new(alloc);
-        replicas.push(Replica::new(alloc, 1, base)?)?;
-        replicas.push(Replica::new(alloc, 2, base)?)?;
-        replicas.push(Replica::new(alloc, 3, base)?)?;
+        replicas.push(Some(Replica::new(alloc, 1)?))?;
+        replicas.push(Some(Replica::new(alloc, 2)?))?;
+        replicas.push(Some(Replica::new(alloc, 3)?))?;
         Ok(Group { replicas })
     }
 
     pub fn get(&self, i: usize) -> Option<&Replica> {
-        self.replicas.get(i)
-    }
-
-    pub fn edit(&mut self, alloc: Global, i: usize, changes: &[Change]) -> Result<(), AllocError> {
-        match self.replicas.get_mut(i) {
-            Some(replica) => replica.edit(alloc, changes),
-            None => Ok(()),
+        match self.replicas.get(i) {
+            Some(Some(replica)) => Some(replica),
+            _ => None,
         }
     }
 
-    pub fn undo(&mut self, alloc: Global, i: usize, edits: &[Lamport]) -> Result<(), AllocError> {
+    fn take_out(&mut self, i: usize) -> Option<Replica> {
         match self.replicas.get_mut(i) {
-            Some(replica) => replica.undo(alloc, edits),
-            None => Ok(()),
+            Some(slot) => slot.take(),
+            None => None,
         }
     }
 
-    /// Replica i takes all that replica j has.
-    pub fn take(&mut self, alloc: Global, i: usize, j: usize) -> Result<(), AllocError> {
-        let operations = self.operations(alloc, j)?;
-        if let Some(replica) = self.replicas.get_mut(i) {
-            for op in &operations {
-                replica.take(alloc, op)?;
-            }
+    fn put(&mut self, i: usize, replica: Replica) {
+        if let Some(slot) = self.replicas.get_mut(i) {
+            *slot = Some(replica);
+        }
+    }
+
+    pub fn edit(&mut self, rt: &HostRuntime, i: usize, changes: &[Change]) -> io::Result<()> {
+        if let Some(replica) = self.take_out(i) {
+            self.put(i, replica.edit(rt, changes)?);
         }
         Ok(())
     }
 
-    fn operations(&self, alloc: Global, i: usize) -> Result<Vec<Operation>, AllocError> {
-        let mut operations = Vec::new(alloc);
-        if let Some(replica) = self.replicas.get(i) {
-            for k in 0..replica.count() {
-                if let Some(op) = replica.operation(k) {
-                    operations.push(op.copy(alloc)?)?;
-                }
-            }
+    pub fn undo(&mut self, rt: &HostRuntime, i: usize, edits: &[Lamport]) -> io::Result<()> {
+        if let Some(replica) = self.take_out(i) {
+            self.put(i, replica.undo(rt, edits)?);
         }
-        Ok(operations)
+        Ok(())
     }
 
-    /// Whether a replica has agreed, and shows this text.
+    /// Replica i takes all that replica j has.
+    pub fn take(&mut self, rt: &HostRuntime, i: usize, j: usize) -> io::Result<()> {
+        if let Some(replica) = self.take_out(i) {
+            let next = match self.get(j) {
+                Some(other) => replica.take_all(rt, other)?,
+                None => replica,
+            };
+            self.put(i, next);
+        }
+        Ok(())
+    }
+
+    /// Whether a replica is there and has agreed, and shows this text.
     pub fn shows(&self, i: usize, text: &str) -> Result<bool, AllocError> {
-        match self.replicas.get(i) {
+        match self.get(i) {
             Some(replica) => Ok(replica.agrees && replica.text()?.as_str() == text),
             None => Ok(false),
         }

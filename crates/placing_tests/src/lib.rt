@@ -1,4 +1,4 @@
-//! Tests of edits and undos that are placed in buffers, with ample memory: texts are compared with those of plain cells.
+//! Tests of edits and undos placed among fragments, with ample memory: fragments and moves are compared with plain cells.
 #![tactic(auto)]
 
 #[cfg(test)]
@@ -11,3 +11,5 @@ mod group;
 mod replica;
 #[cfg(test)]
 mod rows;
+#[cfg(test)]
+mod texts;

@@ -1,114 +1,91 @@
-// A buffer with plain cells beside it, which are to tell the same text.
+// A replica: a buffer with fragments beside it and with plain cells, which are to tell the same.
 ghost use Rattle.std.specs.Prelude.{◌≤◌};
 
-use crate::cells::Cells;
-use lamport_clock::Lamport;
+use crate::cells::{Cell, Cells};
+use crate::texts::{do_move, texts_of};
+use applied_ops::Applied;
+use fragments::Fragment;
+use lamport_clock::{Lamport, is_same};
 use op_model::{Operation, Piece, Text};
+use placed_buffer::PlacedBuffer;
 use std::alloc::{AllocError, Global};
-use text_buffer::{Buffer, Limits, Took};
+use std::io;
+use sum_tree::SumTree;
 
 /// A range of the text and the text in its place.
 pub type Change = (u64, u64, &'static str);
 
-const AMPLE: Limits = Limits {
-    bytes: 1 << 40,
-    entries: (1 << 40) - 1,
-};
-
-/// A replica, and whether each call succeeded and left the text that the plain cells have.
+/// A replica, and whether its fragments have told what the plain cells tell, and their moves what became of the texts.
 #[derive(Drop)]
 pub struct Replica {
-    buffer: Buffer,
+    placed: PlacedBuffer,
     cells: Cells,
     pub agrees: bool,
 }
 
 impl Replica {
-    /// Over a base.
-    pub fn new(alloc: Global, replica: u16, base: &str) -> Result<Replica, AllocError>
+    /// Without text.
+    pub fn new(alloc: Global, replica: u16) -> Result<Replica, AllocError>
         requires least { 1 ≤ replica }
         requires greatest { replica ≤ 1023 }
     {
-        let cells = Cells::over(alloc, base)?;
-        match Buffer::new(alloc, replica, base, AMPLE) {
-            Ok(buffer) => Ok(Replica {
-                buffer,
-                cells,
-                agrees: true,
-            }),
-            Err(_) => Err(AllocError),
+        Ok(Replica {
+            placed: PlacedBuffer::new(alloc, replica)?,
+            cells: Cells::new(alloc),
+            agrees: true,
+        })
+    }
+
+    /// The replica with an edit. A fault is an error.
+    pub fn edit(self, rt: &HostRuntime, changes: &[Change]) -> io::Result<Replica> {
+        let changes = pieces(rt.alloc(), changes)?;
+        let placed = there(self.placed.edit(rt, changes.as_slice())?)?;
+        follow(rt.alloc(), placed, self.cells, self.agrees)
+    }
+
+    /// The replica with an undo. A fault is an error.
+    pub fn undo(self, rt: &HostRuntime, edits: &[Lamport]) -> io::Result<Replica> {
+        let placed = there(self.placed.undo(rt, edits)?)?;
+        follow(rt.alloc(), placed, self.cells, self.agrees)
+    }
+
+    /// The replica with all operations of another that it has not. One that is not applied at once is an error.
+    pub fn take_all(self, rt: &HostRuntime, other: &Replica) -> io::Result<Replica> {
+        let mut replica = self;
+        for i in 0..other.applied().len() {
+            if let Some(applied) = other.applied().get(i) {
+                replica = replica.take_new(rt, applied.op())?;
+            }
         }
+        Ok(replica)
     }
 
-    pub fn edit(&mut self, alloc: Global, changes: &[Change]) -> Result<(), AllocError> {
-        let changes = pieces(alloc, changes)?;
-        let is_made = is_edited(&mut self.buffer, changes.as_slice());
-        self.follow(alloc, is_made)
-    }
-
-    pub fn undo(&mut self, alloc: Global, edits: &[Lamport]) -> Result<(), AllocError> {
-        let is_made = is_undone(&mut self.buffer, edits);
-        self.follow(alloc, is_made)
-    }
-
-    /// Takes an operation of another, unless it has it.
-    pub fn take(&mut self, alloc: Global, op: &Operation) -> Result<(), AllocError> {
-        if self.buffer.version().sees(op.stamp()) {
-            return Ok(());
+    // The replica with an operation, if it has it not.
+    fn take_new(self, rt: &HostRuntime, op: &Operation) -> io::Result<Replica> {
+        if self.placed.buffer().version().sees(op.stamp()) {
+            return Ok(self);
         }
-        let is_taken = is_applied(&mut self.buffer, op.copy(alloc)?);
-        self.follow(alloc, is_taken)
+        self.take(rt, op)
     }
 
-    // The cells take the buffer's last operation, where it has made or taken one.
-    fn follow(&mut self, alloc: Global, has_one: bool) -> Result<(), AllocError> {
-        let applied = self.buffer.applied();
-        if let Some(last) = applied.get(applied.len().saturating_sub(1)) {
-            self.cells.apply(alloc, last.op())?;
-        }
-        let is_same = self.shows_cells(alloc)?;
-        self.agrees = self.agrees && has_one && is_same;
-        Ok(())
+    fn take(self, rt: &HostRuntime, op: &Operation) -> io::Result<Replica> {
+        let placed = there(self.placed.take(rt, op)?)?;
+        follow(rt.alloc(), placed, self.cells, self.agrees)
     }
 
-    fn shows_cells(&self, alloc: Global) -> Result<bool, AllocError> {
-        let cells = self.cells.text(alloc)?;
-        Ok(self.buffer.text()?.as_bytes() == cells.as_slice())
-    }
-
-    /// How many operations it has.
-    pub fn count(&self) -> u64 {
-        self.buffer.applied().len()
-    }
-
-    /// Operation i.
-    pub fn operation(&self, i: u64) -> Option<&Operation> {
-        match self.buffer.applied().get(i) {
-            Some(applied) => Some(applied.op()),
-            None => None,
-        }
+    /// The operations in their order.
+    pub fn applied(&self) -> &SumTree<Applied> {
+        self.placed.buffer().applied()
     }
 
     pub fn text(&self) -> Result<String, AllocError> {
-        self.buffer.text()
+        self.placed.buffer().text()
     }
 
     /// How many bytes the text has.
     pub fn len(&self) -> u64 {
-        self.buffer.summary().len
+        self.placed.buffer().summary().len
     }
-}
-
-fn is_edited(buffer: &mut Buffer, changes: &[Piece]) -> bool {
-    buffer.edit(changes).is_ok()
-}
-
-fn is_undone(buffer: &mut Buffer, edits: &[Lamport]) -> bool {
-    buffer.undo(edits).is_ok()
-}
-
-fn is_applied(buffer: &mut Buffer, op: Operation) -> bool {
-    matches!(buffer.take(op), Ok(Took::Applied(_)))
 }
 
 fn pieces(alloc: Global, changes: &[Change]) -> Result<Vec<Piece>, AllocError> {
@@ -121,4 +98,86 @@ fn pieces(alloc: Global, changes: &[Change]) -> Result<Vec<Piece>, AllocError> {
         })?;
     }
     Ok(pieces)
+}
+
+fn there(placed: Option<PlacedBuffer>) -> io::Result<PlacedBuffer> {
+    match placed {
+        Some(placed) => Ok(placed),
+        None => Err(io::Error::from(io::ErrorKind::InvalidInput)),
+    }
+}
+
+// The replica whose buffer has an operation more than the cells.
+fn follow(alloc: Global, placed: PlacedBuffer, cells: Cells, agreed: bool) -> io::Result<Replica> {
+    let mut cells = cells;
+    let agrees = agree_on_last(alloc, &placed, &mut cells)?;
+    Ok(Replica {
+        placed,
+        cells,
+        agrees: agreed && agrees,
+    })
+}
+
+// Gives the cells the last operation, and tells whether the fragments and their moves agree with them then.
+fn agree_on_last(
+    alloc: Global,
+    placed: &PlacedBuffer,
+    cells: &mut Cells,
+) -> Result<bool, AllocError> {
+    let applied = placed.buffer().applied();
+    match applied.get(applied.len().saturating_sub(1)) {
+        Some(last) => agree_on(alloc, placed, cells, last.op()),
+        None => Ok(false),
+    }
+}
+
+fn agree_on(
+    alloc: Global,
+    placed: &PlacedBuffer,
+    cells: &mut Cells,
+    op: &Operation,
+) -> Result<bool, AllocError> {
+    let before = texts_of(alloc, cells)?;
+    cells.apply(alloc, op)?;
+    let after = texts_of(alloc, cells)?;
+    let moves = do_move(alloc, placed.moves().as_slice(), op, &before, &after)?;
+    let shown = after.shows(placed.buffer().text()?.as_str());
+    Ok(moves && shown && tell_the_same(placed.fragments(), cells))
+}
+
+// Whether fragments tell of these cells, cell by cell.
+fn tell_the_same(fragments: &SumTree<Fragment>, cells: &Cells) -> bool {
+    let mut rest = cells.as_slice();
+    for i in 0..fragments.len() {
+        if let Some(fragment) = fragments.get(i) {
+            match behind(fragment, cells, rest) {
+                Some(next) => rest = next,
+                None => return false,
+            }
+        }
+    }
+    rest.is_empty()
+}
+
+// The cells behind those of a fragment, where these are told of.
+fn behind<'c>(fragment: &Fragment, all: &Cells, cells: &'c [Cell]) -> Option<&'c [Cell]> {
+    let mut rest = cells;
+    for k in 0..fragment.len {
+        let Some((cell, next)) = rest.split_first() else {
+            return None;
+        };
+        if !is_told(fragment, k, cell, all.is_shown(cell)) {
+            return None;
+        }
+        rest = next;
+    }
+    Some(rest)
+}
+
+// Whether cell k of a fragment is this one.
+fn is_told(fragment: &Fragment, k: u64, cell: &Cell, is_shown: bool) -> bool {
+    is_same(fragment.stamp, cell.name.stamp)
+        && fragment.offset.wrapping_add(k) == cell.name.number
+        && fragment.visible == is_shown
+        && fragment.deletions.as_slice() == cell.deletions.as_slice()
 }

@@ -3,7 +3,7 @@ use crate::group::Group;
 use crate::replica::Change;
 use lamport_clock::Lamport;
 use std::alloc::{AllocError, Global};
-use std::test::Fail;
+use std::io;
 
 // A stamp's value and replica.
 type Stamp = (u32, u16);
@@ -15,7 +15,7 @@ enum Step {
     Take(usize, usize),
 }
 
-// The base, the steps, and the texts of replicas 1 and 2, at places 0 and 1.
+// Replica 0 begins with a text, edit 2.1, which replica 1 takes; then the steps, and the text of both.
 type Row = (&'static str, &'static [Step], [&'static str; 2]);
 
 const ROWS: &[Row] = &[
@@ -37,7 +37,7 @@ const ROWS: &[Row] = &[
             Step::Edit(0, &[(1, 2, "")]),
             Step::Edit(0, &[(1, 1, "Q")]),
             Step::Take(1, 0),
-            Step::Undo(0, &[(2, 1)]),
+            Step::Undo(0, &[(3, 1)]),
         ],
         ["abQc", "aQc"],
     ),
@@ -53,11 +53,11 @@ const ROWS: &[Row] = &[
         &[
             Step::Edit(0, &[(1, 1, "X")]),
             Step::Take(1, 0),
-            Step::Undo(0, &[(2, 1)]),
-            Step::Undo(1, &[(2, 1)]),
+            Step::Undo(0, &[(3, 1)]),
+            Step::Undo(1, &[(3, 1)]),
             Step::Take(0, 1),
             Step::Take(1, 0),
-            Step::Undo(0, &[(2, 1)]),
+            Step::Undo(0, &[(3, 1)]),
         ],
         ["aXb", "ab"],
     ),
@@ -67,7 +67,7 @@ const ROWS: &[Row] = &[
         &[
             Step::Edit(0, &[(1, 2, "")]),
             Step::Edit(0, &[(0, 2, "")]),
-            Step::Undo(0, &[(2, 1)]),
+            Step::Undo(0, &[(3, 1)]),
         ],
         ["b", "abc"],
     ),
@@ -91,7 +91,7 @@ const ROWS: &[Row] = &[
             Step::Edit(1, &[(2, 2, "Y")]),
             Step::Take(1, 0),
             Step::Take(0, 1),
-            Step::Undo(0, &[(2, 1)]),
+            Step::Undo(0, &[(3, 1)]),
             Step::Take(1, 0),
         ],
         ["abYcd", "abYcd"],
@@ -104,20 +104,20 @@ const ROWS: &[Row] = &[
             Step::Edit(1, &[(1, 2, "")]),
             Step::Take(0, 1),
             Step::Take(1, 0),
-            Step::Undo(1, &[(2, 1)]),
-            Step::Undo(0, &[(2, 1), (2, 2)]),
+            Step::Undo(1, &[(3, 1)]),
+            Step::Undo(0, &[(3, 1), (3, 2)]),
             Step::Undo(0, &[]),
         ],
         ["abc", "ac"],
     ),
-    // The base undone and done again.
+    // The first text undone and done again, the base with it.
     (
         "ab",
         &[
             Step::Edit(0, &[(1, 1, "X")]),
-            Step::Undo(0, &[(1, 0)]),
+            Step::Undo(0, &[(2, 1), (1, 0)]),
             Step::Take(1, 0),
-            Step::Undo(0, &[(1, 0)]),
+            Step::Undo(0, &[(1, 0), (2, 1)]),
         ],
         ["aXb", "X"],
     ),
@@ -129,26 +129,28 @@ fn stamps(alloc: Global, rows: &[Stamp]) -> Result<Vec<Lamport>, AllocError> {
         .collect(alloc)
 }
 
-fn perform(alloc: Global, group: &mut Group, step: &Step) -> Result<(), AllocError> {
+fn perform(rt: &HostRuntime, group: &mut Group, step: &Step) -> io::Result<()> {
     match step {
-        Step::Edit(i, changes) => group.edit(alloc, *i, changes),
-        Step::Undo(i, edits) => group.undo(alloc, *i, &stamps(alloc, edits)?),
-        Step::Take(i, j) => group.take(alloc, *i, *j),
+        Step::Edit(i, changes) => group.edit(rt, *i, changes),
+        Step::Undo(i, edits) => group.undo(rt, *i, &stamps(rt.alloc(), edits)?),
+        Step::Take(i, j) => group.take(rt, *i, *j),
     }
 }
 
-fn row_holds(alloc: Global, row: &Row) -> Result<bool, AllocError> {
-    let mut group = Group::new(alloc, row.0)?;
+fn row_holds(rt: &HostRuntime, row: &Row) -> io::Result<bool> {
+    let mut group = Group::new(rt.alloc())?;
+    group.edit(rt, 0, &[(0, 0, row.0)])?;
+    group.take(rt, 1, 0)?;
     for step in row.1 {
-        perform(alloc, &mut group, step)?;
+        perform(rt, &mut group, step)?;
     }
     Ok(group.shows(0, row.2[0])? && group.shows(1, row.2[1])?)
 }
 
 #[test]
-fn rows(rt: HostRuntime) -> Result<(), Fail> {
+fn rows(rt: HostRuntime) -> io::Result<()> {
     for row in ROWS {
-        let holds = row_holds(rt.alloc(), row)?;
+        let holds = row_holds(&rt, row)?;
         assert!(rt; holds, "over {}", row.0);
     }
     Ok(())
