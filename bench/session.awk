@@ -1,11 +1,20 @@
 # A session over a base of small letters in lines, with `count` edits of a kind:
 #   random   one replica, short edits at places drawn by chance
 #   typing   one replica, single letters one behind the other, with a jump now and then
-#   remote   as random, each edit given to a second replica at once
+#   paper    one replica, a text as it is written: words letter by letter, letters taken back, moves, ranges pasted and cut
 #   late     two replicas, random insertions in rounds of `lag` of each, given to the other after each round
 #   authors  four replicas, random insertions in rounds of ten each, exchanged after each round
-#   reverse  as typing, and then all is given to a second replica from the last to the first
-# usage: awk -v bytes=N -v count=N -v kind=NAME [-v lag=N] -f session.awk     without a lag all edits are one round
+#   rounds   four replicas, each of which types or takes back some letters in a round, exchanged after each round
+# One replica more takes the edits of all, but for `late`, where `taken` is
+#   each     at once, or with the others after each round
+#   ordered  behind the last edit, from the first to the last
+#   reverse  behind the last edit, from the last to the first
+#   beside   as reverse, and behind each that it takes it types a letter of its own
+#   none     not at all, though it is there
+# With undone=N the last N edits are undone, the last one first, or the first N where oldest=1.
+# `remote` is random with taken=each, and `reverse` is typing with taken=reverse.
+# usage: awk -v bytes=N -v count=N -v kind=NAME [-v lag=N] [-v taken=WHEN] [-v undone=N] -f session.awk
+#        without a lag all edits are one round
 
 # the next number below n, by the generator of Park and Miller
 function below(n) {
@@ -23,10 +32,20 @@ function letters(n,    text) {
 function edit(replica, start, end, text) {
     printf "[\"edit\",%d,[[%d,%d,\"%s\"]]]\n", replica, start, end, text
     made++
+    if (taken == "each" && authors == 1)
+        give(2, made)
 }
 
 function give(replica, number) {
     printf "[\"give\",%d,%d]\n", replica, number
+}
+
+# a base of so many bytes, in rows drawn from 1,024
+function write_base(bytes,    i) {
+    for (i = 0; bytes > 0 && i < 1024; i++)
+        row[i] = letters(59)
+    for (; bytes > 0; bytes -= 60)
+        printf "%s\\n", substr(row[below(1024)], 1, bytes - 1)
 }
 
 # a short edit of replica 1 at a place drawn by chance
@@ -36,8 +55,8 @@ function short_edit(    start, gone, new) {
     if (start + gone > len)
         gone = len - start
     new = 1 + below(8)
-    edit(1, start, start + gone, letters(new))
     len += new - gone
+    edit(1, start, start + gone, letters(new))
 }
 
 function type_letter() {
@@ -48,6 +67,68 @@ function type_letter() {
     len++
 }
 
+# the next letter of a text of words; a line feed is written as JSON has it
+function next_letter(    letter) {
+    if (text == "")
+        text = word[1 + below(words)] (below(10) ? " " : ".|")
+    letter = substr(text, 1, 1)
+    text = substr(text, 2)
+    return letter == "|" ? "\\n" : letter
+}
+
+function type_words(n) {
+    while (n-- > 0 && made < count) {
+        edit(1, caret, caret, next_letter())
+        caret++
+        len++
+    }
+}
+
+function take_back(n) {
+    while (n-- > 0 && made < count && caret > 0) {
+        caret--
+        len--
+        edit(1, caret, caret + 1, "")
+    }
+}
+
+function paste(n,    new) {
+    new = word[1 + below(words)]
+    while (--n > 0)
+        new = new " " word[1 + below(words)]
+    len += length(new)
+    edit(1, caret, caret, new)
+    caret += length(new)
+}
+
+function cut(n) {
+    n = caret + n > len ? len - caret : n
+    len -= n
+    if (n > 0)
+        edit(1, caret, caret + n, "")
+}
+
+# what the author of a paper does next; about two letters in five stay
+function write_on(    x) {
+    x = len < 50 ? 0 : below(1000)
+    if (x < 580)
+        type_words(1 + below(27))
+    else if (x < 860)
+        take_back(1 + below(len > made * 0.4 ? 27 : 5))
+    else if (x < 950)
+        caret = within(caret + below(121) - 60)
+    else if (x < 985)
+        caret = below(2) ? len : below(len + 1)
+    else if (x < 993)
+        paste(3 + below(37))
+    else
+        cut(5 + below(195))
+}
+
+function within(place) {
+    return place < 0 ? 0 : place > len ? len : place
+}
+
 function insert_at(replica, length_there,    start, new) {
     start = below(length_there + 1)
     new = 1 + below(8)
@@ -55,63 +136,90 @@ function insert_at(replica, length_there,    start, new) {
     return new
 }
 
+# Some letters of a replica in a round over a text of length len: typed at its caret, which jumps now and then, or taken back in its
+# own quarter of the text, so that no two replicas delete one letter, and the length is known. Answers by how much the text grows.
+function burst(r,    n, first, at) {
+    n = 4 + below(9)
+    if (below(100) < 15 || at_caret[r] > len)
+        at_caret[r] = below(len + 1)
+    if (below(100) < 72) {
+        for (at = 0; at < n; at++)
+            edit(r, at_caret[r] + at, at_caret[r] + at, next_letter())
+        at_caret[r] += n
+        return n
+    }
+    first = int(len * (r - 1) / 4)
+    at = first + below(int(len / 4) + 1)
+    n = n > at - first ? at - first : n
+    for (first = at - n; at > first; at--)
+        edit(r, at - 1, at, "")
+    return -n
+}
+
+# four replicas take from each other, and so does the one more, what was made from a number on
+function exchange(from,    i, r) {
+    for (i = from; i <= made; i++)
+        for (r = 1; r <= replicas; r++)
+            if (r != author[i])
+                give(r, i)
+}
+
+function late_round(    from, one, two, i) {
+    from = made + 1
+    one = two = len
+    while (made < count && (!lag || made + 1 - from < 2 * lag)) {
+        one += insert_at(1, one)
+        two += insert_at(2, two)
+    }
+    for (i = from; i <= made; i++)
+        give(1 + (i - from + 1) % 2, i)
+    len = one + two - len
+}
+
+function authors_round(    from, r, i, here, grown) {
+    from = made + 1
+    grown = 0
+    for (r = 1; r <= 4; r++) {
+        here = len
+        for (i = 0; i < (kind == "rounds" ? 1 : 10); i++)
+            here += kind == "rounds" ? burst(r) : insert_at(r, here)
+        for (i = made; i >= from && !(i in author); i--)
+            author[i] = r
+        grown += here - len
+    }
+    len += grown
+    exchange(from)
+}
+
 BEGIN {
     drawn = 1
+    if (kind == "remote") { kind = "random"; taken = "each" }
+    if (kind == "reverse") { kind = "typing"; taken = "reverse" }
+    words = split("the of and to in is that for it as was with be by on not but at are this have from or an they which one you were " \
+        "all there would their we when will more if out so said what about than into them only other new some could time these two", word)
+    authors = kind == "authors" || kind == "rounds" ? 4 : kind == "late" ? 2 : 1
+    replicas = authors + (taken != "")
     printf "[\"zedbuf\",1,\""
-    for (i = 0; i < bytes; i += 60) {
-        line = bytes - i < 60 ? bytes - i : 60
-        printf "%s\\n", letters(line - 1)
-    }
-    replicas = kind == "authors" ? 4 : kind == "random" || kind == "typing" ? 1 : 2
+    write_base(bytes)
     ids = "1"
     for (r = 2; r <= replicas; r++)
         ids = ids "," r
     print "\",[" ids "]]"
     len = bytes
-    made = 0
-    if (kind == "random")
-        while (made < count)
-            short_edit()
-    if (kind == "typing")
-        while (made < count)
-            type_letter()
-    if (kind == "remote")
-        while (made < count) {
-            short_edit()
-            give(2, made)
-        }
-    if (kind == "late")
-        while (made < count) {
-            from = made + 1
-            one = two = len
-            while (made < count && (!lag || made + 1 - from < 2 * lag)) {
-                one += insert_at(1, one)
-                two += insert_at(2, two)
-            }
-            for (i = from; i <= made; i++)
-                give(1 + (i - from + 1) % 2, i)
-            len = one + two - len
-        }
-    if (kind == "authors")
-        while (made < count) {
-            from = made + 1
-            grown = 0
-            for (r = 1; r <= 4; r++) {
-                here = len
-                for (i = 0; i < 10; i++)
-                    here += insert_at(r, here)
-                grown += here - len
-            }
-            len += grown
-            for (i = from; i <= made; i++)
-                for (r = 1; r <= 4; r++)
-                    if (r != 1 + int((i - from) / 10))
-                        give(r, i)
-        }
-    if (kind == "reverse") {
-        while (made < count)
-            type_letter()
-        for (i = made; i >= 1; i--)
-            give(2, i)
+    made = caret = 0
+    while (made < count) {
+        if (kind == "random") short_edit()
+        if (kind == "typing") type_letter()
+        if (kind == "paper") write_on()
+        if (kind == "late") late_round()
+        if (kind == "authors" || kind == "rounds") authors_round()
     }
+    edits = made
+    for (i = 1; i <= edits && taken ~ /ordered|reverse|beside/; i++) {
+        give(replicas, taken == "ordered" ? i : edits + 1 - i)
+        if (taken == "beside")
+            edit(replicas, 0, 0, letters(1))
+    }
+    for (i = 1; i <= undone; i++)
+        printf "[\"undo\",1,[%d]]\n", oldest ? i : edits + 1 - i
 }
