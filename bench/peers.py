@@ -210,8 +210,9 @@ their lines and the writing of their report. `peers.txt` lists the sessions.
 ## An operation, in microseconds
 
 {table(["", "zedbuf", "Yjs", "zedbuf / Yjs", "spread", "spread of Yjs"], time_table())}
-In reverse, time grows with the number of edits by an exponent of {exponent("zedbuf", 8000, 64000):.2f} (8,000 to 64,000), and of {exponent("yjs", 2000, 8000):.2f} in Yjs (2,000 to
-8,000). Yjs's manager of undos undoes the last edit alone. A session has at most 64 MiB with its escapes, so the longer base has 62.
+In reverse, time grows with the number of edits by an exponent of {exponent("zedbuf", 8000, 64000):.2f} (8,000 to 64,000), and of
+{exponent("yjs", 2000, 8000):.2f} in Yjs (2,000 to 8,000). Yjs's manager of undos undoes the last edit alone.
+A session has at most 64 MiB with its escapes, so the longer base has 62.
 
 ![Microseconds an operation](peers-operations.svg)
 
@@ -226,9 +227,10 @@ text is read from it only by going through the history. A snapshot here has its 
 ## Memory
 
 {table(["edits typed", "zedbuf, bytes an edit", "Yjs, bytes an edit"], memory_table())}
-At the peak of the process, less what it takes without edits. Of the bytes here {read:,.0f} are the session, read and decoded (`zedbuf check`). Yjs's peak is that
-of its garbage and of the lines as objects: its document holds {held / 260_000:.0f} bytes an edit once that is gone, since it merges letters that were typed
-one behind the other, and forgets what was deleted. Here each edit keeps an operation and a fragment of its own, and every version can be read.
+At the peak of the process, less what it takes without edits. Of the bytes here {read:,.0f} are the session, read and decoded
+(`zedbuf check`). Yjs's peak is that of its garbage and of the lines as objects: its document
+holds {held / 260_000:.0f} bytes an edit once that is gone, since it merges letters that were typed one behind the other, and forgets what
+was deleted. Here each edit keeps an operation and a fragment of its own, and every version can be read.
 
 ![Peak of memory](peers-memory.svg)
 

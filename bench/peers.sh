@@ -65,7 +65,7 @@ listed() { grep -v '^#' "$here/peers.txt"; }
 
 echo "load $(cut -d ' ' -f 1 /proc/loadavg)" >"$work/runs"
 listed | while read -r name who words; do
-    # shellcheck disable=SC2086
+    # shellcheck disable=SC2046,SC2086
     awk $(printf -- '-v %s ' $words) -f "$here/session.awk" >"$work/$name"
     echo "edits $name $(grep -c '^\["edit' "$work/$name" || true)" >>"$work/runs"
 done

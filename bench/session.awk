@@ -31,7 +31,7 @@ function letters(n,    text) {
 
 function edit(replica, start, end, text) {
     printf "[\"edit\",%d,[[%d,%d,\"%s\"]]]\n", replica, start, end, text
-    made++
+    author[++made] = replica
     if (taken == "each" && authors == 1)
         give(2, made)
 }
@@ -156,7 +156,7 @@ function burst(r,    n, first, at) {
     return -n
 }
 
-# four replicas take from each other, and so does the one more, what was made from a number on
+# each replica takes what the others have made from a number on
 function exchange(from,    i, r) {
     for (i = from; i <= made; i++)
         for (r = 1; r <= replicas; r++)
@@ -181,10 +181,10 @@ function authors_round(    from, r, i, here, grown) {
     grown = 0
     for (r = 1; r <= 4; r++) {
         here = len
-        for (i = 0; i < (kind == "rounds" ? 1 : 10); i++)
-            here += kind == "rounds" ? burst(r) : insert_at(r, here)
-        for (i = made; i >= from && !(i in author); i--)
-            author[i] = r
+        if (kind == "rounds")
+            here += burst(r)
+        for (i = 0; i < 10 && kind == "authors"; i++)
+            here += insert_at(r, here)
         grown += here - len
     }
     len += grown
