@@ -111,7 +111,7 @@ function anchors (fragments) {
   const { document, text } = among(fragments)
   const list = []
   let x = 1n
-  tell('Anchors', 200, () => {
+  tell('Anchors', 40, () => {
     x = step(x)
     return list.push(Y.createRelativePositionFromTypeIndex(text, drawn(x, text.length), (x >> 10n) % 2n ? 0 : -1))
   })
