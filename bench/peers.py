@@ -66,12 +66,24 @@ def exponent(who, small, great):
 
 
 def remote_of_rounds(who):
+    """An edit that a fifth replica takes, which makes none."""
     return each(who, "rounds_taken", "rounds")
 
 
 def local_of_rounds(who):
-    """What is left of an edit in rounds where three others have taken it."""
-    return each(who, "rounds", "empty") - 3 * remote_of_rounds(who)
+    """What is left of an edit in rounds where three others have taken it: too small a difference under a load."""
+    left = each(who, "rounds", "empty") - 3 * remote_of_rounds(who)
+    return left if left > 0 else None
+
+
+def at_a_replica(who):
+    """An edit at each of the four replicas, of which one makes it and three take it."""
+    return each(who, "rounds", "empty") / 4
+
+
+def undo(who, kind, n):
+    """One of the last or the first tenth of n edits undone."""
+    return each(who, f"{kind}_{n}_{n // 10 + 1}", f"undone_{n}_1", n // 10)
 
 
 def rows():
@@ -84,6 +96,7 @@ def rows():
 
     yield row("typing, 260,000 edits: an edit, bytes to bytes", "paper_260000", of("paper_260000", "empty"))
     yield row("the same edits taken in order by a second replica, each at once", "copied_260000", of("copied_260000", "paper_260000"))
+    yield row("four authors in rounds: an edit at one of the four", "rounds", at_a_replica)
     yield row("four authors in rounds: an edit of one's own", "rounds", local_of_rounds)
     yield row("four authors in rounds: an edit of another", "rounds_taken", remote_of_rounds)
     yield row("8,000 edits taken in order, behind the last", "ordered_8000", of("ordered_8000", "typed_8000"))
@@ -92,10 +105,12 @@ def rows():
     for n in 1000, 2000, 4000, 8000:
         yield row(f"{n:,} taken in reverse, an edit of one's own behind each", f"beside_{n}", of(f"beside_{n}", f"typed_{n}", n))
     for n in 20_000, 200_000:
-        yield row(f"an undo of one of the last 2,000 of {n:,} edits", f"undone_{n}_2001", of(f"undone_{n}_2001", f"undone_{n}_1", 2000))
-        yield row(f"an undo of one of the first 2,000 of {n:,} edits", f"oldest_{n}_2001", of(f"oldest_{n}_2001", f"undone_{n}_1", 2000))
+        for name, kind in ("last", "undone"), ("first", "oldest"):
+            yield row(f"an undo of one of the {name} {n // 10:,} of {n:,} edits", f"{kind}_{n}_{n // 10 + 1}", lambda who: undo(who, kind, n))
     for size in 1, 62:
         yield row(f"a random edit over a base of {size} MiB", f"random_{size}", of(f"random_{size}", f"base_{size}"))
+    anchors = {"zedbuf": 20_000, "yjs": 40}
+    yield row("an anchor made and asked for, after 100,000 random edits", "many", lambda who: each(who, f"many_{anchors[who]}", "many", anchors[who]))
 
 
 def called(who, call, work):
@@ -137,14 +152,14 @@ def goals():
     yield "typing session, s", f"{own:.2f}", "2", own <= 2
     yield "typing session, part of Yjs's time", f"{own / peer:.2f}", "0.33", own <= peer / 3
     for name, time, goal in (("an edit taken in order", each("zedbuf", "copied_260000", "paper_260000"), 5),
-                             ("an edit of another, four authors", remote_of_rounds("zedbuf"), 12),
+                             ("an edit at one of four authors", at_a_replica("zedbuf"), 12),
                              ("an edit in reverse, 8,000", each("zedbuf", "reverse_8000", "typed_8000"), 20),
                              ("an edit in reverse, 64,000", each("zedbuf", "reverse_64000", "typed_64000"), 20)):
         yield f"{name}, us", number(time), str(goal), time <= goal
     growth = exponent("zedbuf", 8000, 64000)
     yield "exponent of growth in reverse, 8,000 to 64,000", f"{growth:.2f}", "1.1", growth <= 1.1
     for name, kind in ("last", "undone"), ("first", "oldest"):
-        few, many = (each("zedbuf", f"{kind}_{n}_2001", f"undone_{n}_1", 2000) for n in (20_000, 200_000))
+        few, many = (undo("zedbuf", kind, n) for n in (20_000, 200_000))
         yield f"an undo of the {name} edits: among 200,000 edits by among 20,000", f"{many / few:.2f}", "1.5", many <= 1.5 * few
     memory = bytes_an_edit("zedbuf", 260_000)
     yield "bytes an edit at the peak", number(memory), "700", memory <= 700
@@ -176,6 +191,18 @@ def call_table():
         own, peer = called("zedbuf", call, own), called("yjs", call, peer)
         yield (name, number(own and own[0]), number(peer and peer[0]), ratio(own and own[0], peer and peer[0]),
                share(own[1]) if own else "-", share(peer[1]) if peer else "-")
+
+
+def call_section():
+    if not calls:
+        return ""
+    return f"""## Calls, in microseconds
+
+{table(["", "zedbuf", "Yjs", "zedbuf / Yjs", "spread", "spread of Yjs"], call_table())}
+`bench anchors` and `bench snapshot` beside Yjs's relative positions and its snapshots. A snapshot of Yjs is a version and a list of what is deleted; a
+text is read from it only by going through the history. A snapshot here has its text at once, for as long as it is kept.
+
+"""
 
 
 def session_table():
@@ -218,13 +245,7 @@ A session has at most 64 MiB with its escapes, so the longer base has 62.
 
 ![Edits in reverse](peers-reverse.svg)
 
-## Calls, in microseconds
-
-{table(["", "zedbuf", "Yjs", "zedbuf / Yjs", "spread", "spread of Yjs"], call_table())}
-`bench anchors` and `bench snapshot` beside Yjs's relative positions and its snapshots. A snapshot of Yjs is a version and a list of what is deleted; a
-text is read from it only by going through the history. A snapshot here has its text at once, for as long as it is kept.
-
-## Memory
+{call_section()}## Memory
 
 {table(["edits typed", "zedbuf, bytes an edit", "Yjs, bytes an edit"], memory_table())}
 At the peak of the process, less what it takes without edits. Of the bytes here {read:,.0f} are the session, read and decoded

@@ -3,7 +3,7 @@
 # the sessions, session.awk makes them, yjs.cjs has Yjs do them, and peers.py writes PEERS.md and the plots.
 # usage: bench/peers.sh [ROUNDS]     the least of the rounds is told; with nice -n -15 other work disturbs less
 # What is absent of Debian's packages nodejs, node-yjs, node-lib0 and time is installed. ZEDBUF and BENCH name built programs; without them
-# `rt run` builds them. CORE names the core, else the last one is taken.
+# `rt run` builds them, and an empty BENCH leaves out its works. CORE names the core, else the last one is taken.
 set -euo pipefail
 here=$(cd "$(dirname "$0")" && pwd)
 rounds=${1:-3}
@@ -24,7 +24,7 @@ built() {
     echo "$here/../crates/$1/out/$1"
 }
 zedbuf=${ZEDBUF:-$(built zedbuf --help)}
-bench=${BENCH:-$(built bench anchors)}
+bench=${BENCH-$(built bench anchors)}
 yjs=(node "$here/yjs.cjs")
 
 # measured WHO SESSION COMMAND..: a line with processor seconds of the program and of the system, seconds and KiB at the peak
@@ -74,7 +74,7 @@ for ((round = 1; round <= rounds; round++)); do
         session "$name" "$who"
     done
     measured checked paper_260000 "$zedbuf" check
-    for call in "anchors 200000" "snapshot 1048576" "snapshot 16777216"; do
+    for call in ${bench:+"anchors 200000" "snapshot 1048576" "snapshot 16777216"}; do
         # shellcheck disable=SC2086
         called zedbuf "$bench" $call timed
         # shellcheck disable=SC2086

@@ -11,9 +11,10 @@
 #   reverse  behind the last edit, from the last to the first
 #   beside   as reverse, and behind each that it takes it types a letter of its own
 #   none     not at all, though it is there
-# With undone=N the last N edits are undone, the last one first, or the first N where oldest=1.
+# With undone=N the last N edits are undone, the last one first, or the first N where oldest=1. With anchors=N replica 1 makes N anchors
+# at places drawn by chance, and then asks for each.
 # `remote` is random with taken=each, and `reverse` is typing with taken=reverse.
-# usage: awk -v bytes=N -v count=N -v kind=NAME [-v lag=N] [-v taken=WHEN] [-v undone=N] -f session.awk
+# usage: awk -v bytes=N -v count=N -v kind=NAME [-v lag=N] [-v taken=WHEN] [-v undone=N] [-v anchors=N] -f session.awk
 #        without a lag all edits are one round
 
 # the next number below n, by the generator of Park and Miller
@@ -222,4 +223,8 @@ BEGIN {
     }
     for (i = 1; i <= undone; i++)
         printf "[\"undo\",1,[%d]]\n", oldest ? i : edits + 1 - i
+    for (i = 1; i <= anchors; i++)
+        printf "[\"anchor\",1,\"a%d\",%d,\"%s\"]\n", i, below(len + 1), i % 2 ? "left" : "right"
+    for (i = 1; i <= anchors; i++)
+        printf "[\"where\",1,\"a%d\"]\n", i
 }

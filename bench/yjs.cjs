@@ -1,5 +1,5 @@
 // What the program and the works of crates/bench do, done by Yjs in node.
-// usage: node yjs.cjs replay < SESSION     its lines edit, undo, give and text; writes a line for each, and the texts at the end
+// usage: node yjs.cjs replay < SESSION     its lines edit, undo, give, text, anchor and where; writes a line for each, and the texts at the end
 //        node yjs.cjs anchors FRAGMENTS    as `bench anchors FRAGMENTS timed`
 //        node yjs.cjs snapshot BYTES       as `bench snapshot BYTES timed`
 // Texts are ASCII, since Yjs counts UTF-16 units and sessions bytes. With --expose-gc, `replay` tells on standard error how many bytes
@@ -53,8 +53,9 @@ function replay (input) {
   const first = seed(base)
   const replicas = new Map(ids.map(id => [id, new Replica(id, first, undoes)]))
   const made = [null]
+  const anchors = new Map()
   const report = []
-  for (const [word, id, what] of lines.slice(1)) {
+  for (const [word, id, what, offset, bias] of lines.slice(1)) {
     const replica = replicas.get(id)
     if (word === 'edit' || word === 'undo') {
       made.push(word === 'edit' ? replica.edit(what) : replica.undo())
@@ -64,6 +65,12 @@ function replay (input) {
       report.push(`give ${what} to ${id}: given`)
     } else if (word === 'text') {
       report.push(`text ${id}: ${JSON.stringify(replica.text.toString())}`)
+    } else if (word === 'anchor') {
+      anchors.set(what, Y.createRelativePositionFromTypeIndex(replica.text, offset, bias === 'left' ? -1 : 0))
+      report.push(`anchor ${JSON.stringify(what)}: set`)
+    } else if (word === 'where') {
+      const place = Y.createAbsolutePositionFromRelativePosition(anchors.get(what), replica.document)
+      report.push(`where ${JSON.stringify(what)} at ${id}: ${place.index}`)
     }
   }
   for (const [id, { text }] of replicas) report.push(`final ${id}: ${JSON.stringify(text.toString())}`)
