@@ -83,6 +83,9 @@ const READY: &[(Option<Stamp>, Entries, Option<Stamp>)] = &[
     (Some((4, 3)), &[(0, 1), (1, 3)], None),
 ];
 
+// What was seen when what waits was watched.
+const WATCHED: &[Entries] = &[&[], &[(0, 1)], &[(0, 1), (1, 2)], &[(0, 1), (1, 3)], &[(7, 9)]];
+
 // What is ready for whoever has seen these entries.
 fn ready(
     alloc: Global,
@@ -94,11 +97,35 @@ fn ready(
     Ok(stamp_of(deferred.ready(after.map(stamp), &have)))
 }
 
+// The same where what waits was watched before, for whoever has seen other entries.
+fn ready_once_watched(
+    alloc: Global,
+    watched: Entries,
+    after: Option<Stamp>,
+    have: Entries,
+) -> Result<Option<Lamport>, AllocError> {
+    let have = version(alloc, have)?;
+    let mut deferred = waiting(alloc)?;
+    deferred.watch(&version(alloc, watched)?);
+    Ok(stamp_of(deferred.ready(after.map(stamp), &have)))
+}
+
 #[test]
 fn the_least_that_misses_nothing(rt: HostRuntime) -> Result<(), Fail> {
     for &(after, have, want) in READY {
         let found = ready(rt.alloc(), after, have)?;
         assert!(rt; found == want.map(stamp), "after {after:?}");
+    }
+    Ok(())
+}
+
+#[test]
+fn the_least_is_the_same_once_watched(rt: HostRuntime) -> Result<(), Fail> {
+    for &watched in WATCHED {
+        for &(after, have, want) in READY {
+            let found = ready_once_watched(rt.alloc(), watched, after, have)?;
+            assert!(rt; found == want.map(stamp), "after {after:?}, watched {watched:?}");
+        }
     }
     Ok(())
 }

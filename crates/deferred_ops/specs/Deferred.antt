@@ -1,11 +1,16 @@
 -- What waits: a list of operations whose stamps ascend.
-use Rattle.std.specs.Prelude.{◌≡◌, Bool, true, not, ◌&&◌, List, Option, Some, None}
+use Rattle.std.specs.Prelude.{◌≡◌, ◌<◌, ◌≤◌, ℕ, Bool, true, false, not, ◌&&◌, if◌then◌else◌, List, Option, Some, None}
 use Rattle.std.specs.List.{find, filter, AllByRecursion}
+use Rattle.std.specs.Ordering.{nat_cmp, ordering_then}
+use Rattle.std.specs.declared.cmp.Ordering.{Ordering}
+use Rattle.std.specs.BTreeMap.{is_at}
+use Rattle.std.specs.BTreeSet.{BTreeSet, contains}
 use Rattle.std.specs.declared.ops.Bound.{Bound}
 use Rattle.std.specs.declared.ops.Bound.TheVariants.{Excluded, Unbounded}
 use Rattle.lamport_clock.specs.declared.stamp.Lamport.{Lamport}
 use Rattle.lamport_clock.specs.Stamps.{later, same_stamp}
 use Rattle.lamport_clock.specs.Versions.{Entries, within}
+use Rattle.op_model.specs.Sorted.{Each, Member}
 use Rattle.op_model.specs.declared.operation.Operation.{Operation}
 use Rattle.op_model.specs.Operations.{stamp_of, version_of}
 
@@ -36,3 +41,46 @@ AreKeyed es = AllByRecursion (λ e. e.0 ≡ stamp_of e.1) es
 abbrev pub start_past : Option Lamport → Bound Lamport
 start_past None = Unbounded
 start_past (Some t) = Excluded t
+
+-- ---- causes, in the order of replicas, then of values
+
+-- an operation of the stamp sees the replica up to that value
+abbrev pub Cause : Type 0
+Cause = ℕ × ℕ × Lamport
+
+abbrev pub stamp_order : Lamport → Lamport → Ordering
+stamp_order s t = ordering_then (nat_cmp s.value t.value) (nat_cmp s.replica t.replica)
+
+abbrev pub cause_order : Cause → Cause → Ordering
+cause_order a b = ordering_then (ordering_then (nat_cmp a.0 b.0) (nat_cmp a.1 b.1)) (stamp_order a.2 b.2)
+
+abbrev pub Causes : Type 0
+Causes = BTreeSet Cause
+
+abbrev pub has_cause : Causes → Cause → Bool
+has_cause s c = contains cause_order s c
+
+-- a cause of the operation is listed
+abbrev pub IsListed : Causes → Operation → Type 0
+IsListed s op = (r : ℕ) × (x : ℕ) × (has_cause s (r, x, stamp_of op) ≡ true) × (0 < x) × Member (r, x) (version_of op)
+
+-- of each operation that waits a cause is listed
+abbrev pub AreListed : Causes → List Operation → Type 0
+AreListed s w = Each (IsListed s) w
+
+-- no listed cause is one of the replica up to that value
+abbrev pub NoneSeen : Causes → ℕ × ℕ → Type 0
+NoneSeen s e = (x : ℕ) → (t : Lamport) → x ≤ e.1 → has_cause s (e.0, x, t) ≡ false
+
+-- no cause goes
+abbrev pub KeepsCauses : Causes → Causes → Type 0
+KeepsCauses s n = (q : Cause) → has_cause s q ≡ true → has_cause n q ≡ true
+
+-- a cause is listed in place of another
+abbrev pub ListsFor : Causes → Causes → Cause → Cause → Type 0
+ListsFor s n seen missed =
+    (q : Cause) → has_cause n q ≡ (if is_at (cause_order missed) q then true else (if is_at (cause_order seen) q then false else has_cause s q))
+
+-- no operation of the list is ready
+abbrev pub NoneReady : Entries → List Operation → Type 0
+NoneReady have w = (after : Option Lamport) → least_ready after have w ≡ None

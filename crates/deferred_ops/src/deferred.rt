@@ -1,16 +1,17 @@
 // What waits.
-ghost use Rattle.std.specs.Prelude.{◌≡◌, [], None, IsOk, IfOk, OnErr, OnOk, length};
+ghost use Rattle.std.specs.Prelude.{◌≡◌, ◌&&◌, [], true, None, IsOk, IfOk, OnErr, OnOk, length};
 ghost use Rattle.std.specs.Option.{option_copied};
 ghost use Rattle.op_model.specs.Sorted.{insert_by, Ascending};
 ghost use Rattle.op_model.specs.Operations.{stamp_of};
 ghost use Rattle.op_model.specs.Histories.{operation_at};
 ghost use Rattle.op_model.specs.Steps.{older};
-ghost use Rattle.deferred_ops.specs.Deferred.{least_ready, without, start_past};
+ghost use Rattle.deferred_ops.specs.Deferred.{NoneReady, least_ready, without, start_past};
 
+use crate::causes::{Cause, are_missed, first_seen, list_cause, replace};
 use lamport_clock::{Lamport, Version};
 use op_model::Operation;
 use std::alloc::{AllocError, Global};
-use std::collections::BTreeMap;
+use std::collections::{BTreeMap, BTreeSet};
 use std::marker::Model;
 use std::ops::Bound;
 
@@ -18,19 +19,24 @@ use std::ops::Bound;
 #[derive(Drop)]
 pub struct Deferred {
     waiting: BTreeMap<Lamport, Operation>,
+    /// A cause of each operation that waits, so that none is gone over while all of these are missed.
+    causes: BTreeSet<Cause>,
+    /// Whether each has one there; false once memory ran out for one, or the version of one saw nothing.
+    are_listed: bool,
 }
 
 impl Model for Deferred {
     ghost use Rattle.std.specs.Prelude.{List};
     ghost use Rattle.std.specs.Map.{values_of};
     ghost use Rattle.op_model.specs.declared.operation.Operation.{Operation};
-    ghost use Rattle.deferred_ops.specs.Deferred.{AreKeyed};
+    ghost use Rattle.std.specs.Prelude.{◌≡◌, true};
+    ghost use Rattle.deferred_ops.specs.Deferred.{AreKeyed, AreListed};
 
     ghost Value = { List Operation };
 
     ghost view = { λ d. values_of d.waiting.entries };
 
-    ghost invariant = { λ d. AreKeyed d.waiting.entries };
+    ghost invariant = { λ d. AreKeyed d.waiting.entries × (d.are_listed ≡ true → AreListed d.causes (values_of d.waiting.entries)) };
 }
 
 impl Deferred {
@@ -41,6 +47,8 @@ impl Deferred {
     {
         Ok(Deferred {
             waiting: BTreeMap::new(alloc),
+            causes: BTreeSet::new(alloc),
+            are_listed: true,
         })
     }
 
@@ -60,8 +68,12 @@ impl Deferred {
         ensures err { OnErr result (self.new ≡ self.old) }
     {
         let stamp = op.stamp();
+        let is_listed = list_cause(&mut self.causes, &op)?;
         match self.waiting.insert(stamp, op) {
-            Ok(_) => Ok(()),
+            Ok(_) => {
+                self.are_listed = both(self.are_listed, is_listed);
+                Ok(())
+            }
             Err(_) => Err(AllocError),
         }
     }
@@ -74,16 +86,75 @@ impl Deferred {
     }
 
     /// The operation with the least stamp past `after`, or of all where that is None, that misses nothing: all that its
-    /// version sees, `have` sees. Logarithmic in what waits, then linear in what is gone over.
+    /// version sees, `have` sees. Logarithmic in what waits for each replica of `have`; then, where `have` sees a listed cause,
+    /// linear in what is gone over.
     pub fn ready(&self, after: Option<Lamport>, have: &Version) -> Option<&Operation>
         ensures { option_copied result ≡ least_ready after have.now self.now }
     {
+        if self.all_miss(have) {
+            return None;
+        }
         for (_, op) in self.waiting.range((start_past(after), Bound::Unbounded)) {
             if have.sees_all(op.version()) {
                 return Some(op);
             }
         }
         None
+    }
+
+    // Whether the listed causes show that each operation misses one. Logarithmic for each replica of `have`.
+    fn all_miss(&self, have: &Version) -> bool
+        ensures { result ≡ true → NoneReady have.now self.now }
+    {
+        let are_missed = are_missed(&self.causes, have.as_slice());
+        both(self.are_listed, are_missed)
+    }
+
+    /// Lists, for each operation whose listed cause `have` sees, one that it misses, so that `ready` need not go over what waits,
+    /// which stays as it is. Logarithmic in what waits, for each replica of `have` and each cause that is listed anew. Where memory
+    /// runs out `ready` goes over what waits from then on.
+    pub fn watch(&mut self, have: &Version)
+        ensures { self.new ≡ self.old }
+    {
+        for &entry in have.as_slice() {
+            self.watch_replica(entry.0, entry.1, have);
+        }
+    }
+
+    // The same for the causes of one replica, up to a value that `have` sees.
+    fn watch_replica(&mut self, replica: u16, value: u32, have: &Version)
+        ensures { self.new ≡ self.old }
+    {
+        for _i in 0..self.causes.len() {
+            if !self.relist(replica, value, have) {
+                return;
+            }
+        }
+    }
+
+    // Lists another cause in place of one that is of the replica, up to that value. False where there is none, and where its
+    // operation misses nothing.
+    fn relist(&mut self, replica: u16, value: u32, have: &Version) -> bool
+        ensures { self.new ≡ self.old }
+    {
+        if self.len() == 0 {
+            self.causes.clear();
+            return false;
+        }
+        let Some(seen) = first_seen(&self.causes, replica, value) else {
+            return false;
+        };
+        let Some(op) = self.waiting.get(&seen.2) else {
+            self.causes.remove(&seen);
+            return true;
+        };
+        let Some((replica, value)) = have.first_missing(op.version()) else {
+            return false;
+        };
+        let missed = (replica, value, op.stamp());
+        let is_listed = replace(&mut self.causes, seen, missed);
+        self.are_listed = both(self.are_listed, is_listed);
+        is_listed
     }
 
     /// Takes out the operation of a stamp, if it waits. Logarithmic in what waits.
@@ -93,6 +164,12 @@ impl Deferred {
     {
         self.waiting.remove(&t)
     }
+}
+
+fn both(a: bool, b: bool) -> bool
+    ensures { result ≡ (a && b) }
+{
+    a && b
 }
 
 // Where the stamps past one start.

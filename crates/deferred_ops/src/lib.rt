@@ -1,6 +1,7 @@
 //! Operations that wait for what they miss, in the order of their stamps.
 #![tactic(auto)]
 
+mod causes;
 mod deferred;
 
 pub use deferred::Deferred;

@@ -60,6 +60,7 @@ impl Buffer {
         ensures err { OnErr result (self.new ≡ self.old) }
         ensures buffer { IsBuffer self.old }
     {
+        self.watch();
         let Some(op) = self.next_ready(after)? else {
             return Ok(None);
         };
@@ -67,6 +68,13 @@ impl Buffer {
         self.meet(op)?;
         self.leave(stamp);
         Ok(Some(stamp))
+    }
+
+    // Lists a missed cause of each operation that waits, unless one misses nothing.
+    fn watch(&mut self)
+        ensures { self.new ≡ self.old }
+    {
+        self.waiting.watch(self.document.version());
     }
 
     // A copy of the least operation past a stamp that misses no cause, if there is one.

@@ -5,4 +5,4 @@ use Rattle.deferred_ops.proofs.Keyed.{ascending}
 use Rattle.deferred_ops.proofs.deferred.Deferred.len.Goals as goal
 
 pub returns-clause-ascending : goal.returns-clause-ascending
-returns-clause-ascending c = subst (Ascending older) c.self.view_is (ascending c.self.inside.waiting.entries c.self.invariant c.len.ensures.ordered)
+returns-clause-ascending c = subst (Ascending older) c.self.view_is (ascending c.self.inside.waiting.entries c.self.invariant.0 c.len.ensures.ordered)

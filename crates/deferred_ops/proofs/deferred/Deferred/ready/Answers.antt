@@ -13,4 +13,4 @@ loop-op-init c =
     let es = c.self.inside.waiting.entries in
     let have = c.args.have.now in
     let range = c.range-op-items.ensures.between tt ∙ ap (λ b. entries_between stamp_cmp b Unbounded es) c.start_past.ensures in
-    ap (least_ready c.args.after have) (sym c.self.view_is) ∙ first_ready c.args.after have es c.self.invariant ∙ ap (λ z. find (misses_nothing have) (values_of z)) (sym (c.into_iter-op-iterator.ensures.into_iter_gives ∙ range))
+    ap (least_ready c.args.after have) (sym c.self.view_is) ∙ first_ready c.args.after have es c.self.invariant.0 ∙ ap (λ z. find (misses_nothing have) (values_of z)) (sym (c.into_iter-op-iterator.ensures.into_iter_gives ∙ range))
