@@ -1,5 +1,5 @@
 -- What is found by a stamp, and what the definitions look for in the whole list.
-use Rattle.std.proofs.Common.{◌≡◌, ◌⊎◌, Bool, true, false, cond, ◌&&◌, ◌||◌, List, [], ◌∷◌, ◌++◌, refl, sym, ◌∙◌, ap, inl, inr, Some}
+use Rattle.std.proofs.Common.{◌≡◌, ◌⊎◌, Bool, true, false, cond, ◌&&◌, ◌||◌, List, [], ◌∷◌, ◌++◌, refl, sym, ◌∙◌, ap, inl, inr, Option, Some}
 use Rattle.std.specs.Prelude.{is_some}
 use Rattle.std.specs.List.{list_any}
 use Rattle.std.proofs.lemmas.Bool.{cases_Bool, and_parts}
@@ -9,7 +9,7 @@ use Rattle.lamport_clock.specs.Versions.{Entries, within, sees}
 use Rattle.op_model.specs.declared.operation.Operation.{Operation}
 use Rattle.op_model.specs.Operations.{stamp_of, version_of, is_edit}
 use Rattle.op_model.specs.Histories.{History, Distinct, operation_at, has_edit, seen}
-use Rattle.op_model.specs.Answers.{same_op}
+use Rattle.op_model.specs.Answers.{any_equal, any_stamp, same_op}
 use Rattle.op_model.proofs.Passed.{any_some}
 use Rattle.op_model.proofs.PathOrder.{same_stamp_eq, same_stamp_refl}
 use Rattle.op_model.proofs.Proper.{same_is}
@@ -57,6 +57,19 @@ there (o ∷ h) t = elim (cases_Bool (same_stamp (stamp_of o) t)) [
   | inl e ↦ rw e refl
   | inr e ↦ rw e (there h t)
 ]
+
+-- the two that are found of a stamp, in one list and in another: one is equal, or is there, where that is so of any in both
+pub held_both : (h w : History) (op : Operation) (a b : Option Operation) → Distinct h → Distinct w → a ≡ operation_at h (stamp_of op) → b ≡ operation_at w (stamp_of op) → (equals a op || equals b op) ≡ any_equal (h ++ w) op
+held_both h w op a b d e p q =
+    ap (λ (x : Bool). x || equals b op) (ap (λ (o : Option Operation). equals o op) p ∙ held h op d)
+    ∙ ap (λ (x : Bool). any_equal h op || x) (ap (λ (o : Option Operation). equals o op) q ∙ held w op e)
+    ∙ sym (any_append (λ o. same_op o op) h w)
+
+pub there_both : (h w : History) (op : Operation) (a b : Option Operation) → a ≡ operation_at h (stamp_of op) → b ≡ operation_at w (stamp_of op) → (is_some a || is_some b) ≡ any_stamp (h ++ w) op
+there_both h w op a b p q =
+    ap (λ (x : Bool). x || is_some b) (ap is_some p ∙ there h (stamp_of op))
+    ∙ ap (λ (x : Bool). any_stamp h op || x) (ap is_some q ∙ there w (stamp_of op))
+    ∙ sym (any_append (λ o. same_stamp (stamp_of o) (stamp_of op)) h w)
 
 -- the one of the stamp is a cause that the version has seen
 pub caused : (h : History) (t : Lamport) (v : Entries) → Distinct h → causes (operation_at h t) v ≡ list_any (λ o. same_stamp (stamp_of o) t && within (version_of o) v) h

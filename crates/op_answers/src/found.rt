@@ -1,13 +1,15 @@
 // Operations that are applied or wait, found by their stamps.
-ghost use Rattle.std.specs.Prelude.{◌≡◌, ◌++◌, nat_lt, not, ◌&&◌, ◌||◌, is_some, option_map};
+ghost use Rattle.std.specs.Prelude.{◌≡◌, nat_lt, not, ◌&&◌, ◌||◌, is_some, option_map, IsTrue};
 ghost use Rattle.std.specs.List.{find};
 ghost use Rattle.std.specs.Option.{option_copied};
-ghost use Rattle.op_model.specs.Histories.{Distinct, has_edit, seen};
-ghost use Rattle.op_model.specs.Answers.{any_equal, any_stamp, count_fault, entry_closed, open_replica};
+ghost use Rattle.lamport_clock.specs.Versions.{within};
+ghost use Rattle.op_model.specs.Operations.{stamp_of, version_of};
+ghost use Rattle.op_model.specs.Histories.{Distinct, has_edit, operation_at, seen, version};
+ghost use Rattle.op_model.specs.Answers.{count_fault, entry_closed, open_replica};
+ghost use Rattle.op_model.specs.Lawful.{Lawful};
 ghost use Rattle.op_answers.specs.Verdicts.{equals, causes};
 
 use applied_ops::AppliedList;
-use deferred_ops::Deferred;
 use lamport_clock::{Lamport, Version};
 use op_model::{OpFault, Operation, UndoCount};
 
@@ -44,25 +46,33 @@ fn is_cause(found: Option<&Operation>, version: &Version) -> bool
     }
 }
 
-/// Whether an equal operation is applied or waits.
-pub fn is_held(applied: &AppliedList, waiting: &Deferred, op: &Operation) -> bool
-    requires applied { Distinct applied.now }
-    requires waiting { Distinct waiting.now }
-    ensures { result ≡ any_equal (applied.now ++ waiting.now) op.now }
+/// The applied operation of a stamp, where `have` is the version of what is applied. One that `have` has not seen is not
+/// looked for.
+pub fn applied_at<'a>(applied: &'a AppliedList, have: &Version, t: Lamport) -> Option<&'a Operation>
+    requires { have.now ≡ version applied.now }
+    ensures { option_copied result ≡ operation_at applied.now t }
 {
-    let stamp = op.stamp();
-    let is_applied = is_equal(applied.find(stamp), op);
-    let is_waiting = is_equal(waiting.get(stamp), op);
+    if !have.sees(t) {
+        return None;
+    }
+    applied.find(t)
+}
+
+/// Whether one of the two is equal: the applied operation of its stamp, and the one that waits.
+pub fn is_held(applied: Option<&Operation>, waiting: Option<&Operation>, op: &Operation) -> bool
+    ensures { result ≡ (equals (option_copied applied.entry) op.now || equals (option_copied waiting.entry) op.now) }
+{
+    let is_applied = is_equal(applied, op);
+    let is_waiting = is_equal(waiting, op);
     either(is_applied, is_waiting)
 }
 
-/// Whether an operation with the same stamp is applied or waits.
-pub fn is_taken(applied: &AppliedList, waiting: &Deferred, op: &Operation) -> bool
-    ensures { result ≡ any_stamp (applied.now ++ waiting.now) op.now }
+/// Whether there is one of the two: the applied operation of a stamp, and the one that waits.
+pub fn is_taken(applied: Option<&Operation>, waiting: Option<&Operation>) -> bool
+    ensures { result ≡ (is_some (option_copied applied.entry) || is_some (option_copied waiting.entry)) }
 {
-    let stamp = op.stamp();
-    let is_applied = is_there(applied.find(stamp));
-    let is_waiting = is_there(waiting.get(stamp));
+    let is_applied = is_there(applied);
+    let is_waiting = is_there(waiting);
     either(is_applied, is_waiting)
 }
 
@@ -103,6 +113,22 @@ pub fn open_replica(applied: &AppliedList, version: &Version) -> Option<u16>
     ensures { result ≡ open_replica applied.now version.now }
 {
     first_open(applied, version, version.as_slice())
+}
+
+/// What `open_replica` finds of the version of an operation that has seen no more than `have`, the version of what is
+/// applied. Where it has seen all of that, no operation is looked for.
+pub fn open_among(applied: &AppliedList, have: &Version, op: &Operation) -> Option<u16>
+    requires lawful { Lawful applied.now }
+    requires version { have.now ≡ version applied.now }
+    requires known { IsTrue (within (version_of op.now) have.now) }
+    ensures { result ≡ open_replica applied.now (version_of op.now) }
+{
+    let theirs = op.version();
+    let entries = theirs.as_slice();
+    if theirs.sees_all(have) {
+        return None;
+    }
+    first_open(applied, theirs, entries)
 }
 
 // Whether the stamp is that of an applied edit which the version sees.

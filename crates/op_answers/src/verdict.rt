@@ -7,7 +7,7 @@ ghost use Rattle.op_model.specs.Answers.{answer};
 ghost use Rattle.seen_text.specs.Texts.{TellTexts};
 ghost use Rattle.op_answers.specs.Verdicts.{answer_of, part_fault};
 
-use crate::found::{count_fault, is_held, is_taken, open_replica};
+use crate::found::{applied_at, count_fault, is_held, is_taken, open_among};
 use crate::ranges::range_fault;
 use applied_ops::AppliedList;
 use deferred_ops::Deferred;
@@ -80,11 +80,13 @@ pub fn judge(
     if let Err(fault) = shape(op) {
         return Verdict::Refuse(fault.into());
     }
-    if is_held(applied, waiting, op) {
+    let stamp = op.stamp();
+    let applied_one = applied_at(applied, have, stamp);
+    let waiting_one = waiting.get(stamp);
+    if is_held(applied_one, waiting_one, op) {
         return Verdict::Repeated;
     }
-    let stamp = op.stamp();
-    if is_taken(applied, waiting, op) {
+    if is_taken(applied_one, waiting_one) {
         return Verdict::Refuse(OpFault::Conflict(stamp));
     }
     let kept = have.get(stamp.replica);
@@ -97,7 +99,7 @@ pub fn judge(
             value: missing.1,
         };
     }
-    if let Some(replica) = open_replica(applied, op.version()) {
+    if let Some(replica) = open_among(applied, have, op) {
         return Verdict::Refuse(OpFault::OpenVersion(replica));
     }
     if let Some(fault) = part_fault(applied, fragments, shown, hidden, op) {
