@@ -84,7 +84,13 @@ const READY: &[(Option<Stamp>, Entries, Option<Stamp>)] = &[
 ];
 
 // What was seen when what waits was watched.
-const WATCHED: &[Entries] = &[&[], &[(0, 1)], &[(0, 1), (1, 2)], &[(0, 1), (1, 3)], &[(7, 9)]];
+const WATCHED: &[Entries] = &[
+    &[],
+    &[(0, 1)],
+    &[(0, 1), (1, 2)],
+    &[(0, 1), (1, 3)],
+    &[(7, 9)],
+];
 
 // What is ready for whoever has seen these entries.
 fn ready(
@@ -124,7 +130,10 @@ fn the_least_is_the_same_once_watched(rt: HostRuntime) -> Result<(), Fail> {
     for &watched in WATCHED {
         for &(after, have, want) in READY {
             let found = ready_once_watched(rt.alloc(), watched, after, have)?;
-            assert!(rt; found == want.map(stamp), "after {after:?}, watched {watched:?}");
+            assert!(rt;
+                found == want.map(stamp),
+                "after {after:?}, watched {watched:?}"
+            );
         }
     }
     Ok(())
