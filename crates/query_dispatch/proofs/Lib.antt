@@ -1,0 +1,8 @@
+pub mod Turns
+pub mod Places
+pub mod Levels
+pub mod Dealing
+pub mod Crews
+pub mod Remakes
+pub mod Merges
+pub mod Readiness

@@ -1,0 +1,13 @@
+use Rattle.std.proofs.Common.{◌≡◌, List, ◌++◌, reverse}
+use Rattle.std.specs.Prelude.{vec_len}
+use Rattle.query_workers.specs.Answers.{ArePaired}
+use Rattle.query_workers.specs.declared.query.Answer.{Answer}
+use Rattle.query_dispatch.specs.Settled.{ComesTo}
+use Rattle.query_dispatch.proofs.settling.settle_all.Given as goal
+
+abbrev pub invariant-loop-answer : goal.invariant-loop-answer
+invariant-loop-answer g l =
+    (taken : List (Answer g.row.Q.Denot g.row.A.Denot)) × (l.fn.answers.items ≡ l.answers.items ++ taken) × ArePaired (ComesTo g.Q.Query.plain l.limits l.lasts) (reverse l.settled.items) taken
+
+abbrev pub decreases-loop-answer : goal.decreases-loop-answer
+decreases-loop-answer g l = vec_len l.answers

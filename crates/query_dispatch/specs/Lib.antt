@@ -1,0 +1,4 @@
+pub mod States
+pub mod Shown
+pub mod Dealt
+pub mod Settled

@@ -1,0 +1,110 @@
+// The answers of all workers, in the order of the queries.
+ghost use Rattle.std.specs.Prelude.{◌≡◌, ◌<◌, ◌≤◌, List, length, map, reverse, IfOk, All};
+ghost use Rattle.op_model.specs.declared.operation.Operation.{Operation};
+ghost use Rattle.text_buffer.specs.Document.{IsFront};
+ghost use Rattle.query_workers.specs.Answers.{ArePaired};
+ghost use Rattle.query_workers.specs.Asks.{Ask, asks_of, asks_to};
+ghost use Rattle.query_workers.specs.States.{DeskState};
+ghost use Rattle.query_dispatch.specs.Dealt.{AllAt, AreEnds, AreNumbered, told_lists};
+ghost use Rattle.query_dispatch.specs.Settled.{AreGathered, AreSettled, CanSettleAll, HaveWorked, IsPast, IsReady};
+
+use crate::settling::settle_worker;
+use query_workers::{Answer, Done, Inbox, Query};
+use snapshot_pub::Told;
+use std::alloc::{AllocError, Global};
+use std::thread::Threads;
+use text_buffer::Snapshot;
+
+/// What the editor leaves: the closed inboxes of all workers; what was last published to the pairs of each; how many operations that
+/// is, of each replica; and how many queries were asked.
+#[derive(Drop)]
+pub struct Gathering<Q> {
+    pub inboxes: Vec<Inbox<Q>>,
+    pub tolds: Vec<Vec<Told>>,
+    pub sizes: Vec<u64>,
+    pub count: u64,
+}
+
+impl<Q: Drop> Gathering<Q> {
+    /// The answers of all workers, in the order of the queries, given what each replica is at the end. An answer on more than was last
+    /// published of its replica is made anew; so each is on what its replica has applied at some time until the end.
+    ///
+    /// # Errors
+    ///
+    /// `OutOfMemory` alone: a worker missed memory, or it is missing now.
+    pub fn gather<R: Threads + Sync, A: Drop>(
+        self,
+        rt: &R,
+        alloc: Global,
+        dones: Vec<Done<Q, A>>,
+        lasts: &[Snapshot],
+    ) -> Result<Vec<Answer<Q, A>>, AllocError>
+    where
+        Q: Query<A>,
+        requires ready { (shown : List (List Operation)) × (asks : List (Ask Q)) × (desks : List DeskState) × IsReady self.inboxes.items (map (λ v. v.items) self.tolds.items) self.sizes.items shown asks
+            × ArePaired IsFront shown lasts.now × All (IsPast lasts.now) asks × (self.count ≡ length asks)
+            × AreEnds self.inboxes.items desks × HaveWorked Q.plain desks dones.items }
+        ensures { (asks : List (Ask Q)) → AreNumbered asks → self.count ≡ length asks → (shown : List (List Operation)) → IsReady self.inboxes.items (map (λ v. v.items) self.tolds.items) self.sizes.items shown asks
+            → IfOk result (λ v. AreGathered Q.plain (length self.inboxes.items) lasts.now asks v.items) }
+    {
+        let Gathering {
+            inboxes,
+            tolds,
+            sizes,
+            count,
+        } = self;
+        let lists = settle_workers(rt, alloc, inboxes, dones, tolds, sizes.as_slice(), lasts)?;
+        in_order(alloc, lists, count)
+    }
+}
+
+// The settled answers of each worker, the last of them first.
+fn settle_workers<R: Threads + Sync, Q: Query<A> + Drop, A: Drop>(
+    rt: &R,
+    alloc: Global,
+    inboxes: Vec<Inbox<Q>>,
+    dones: Vec<Done<Q, A>>,
+    tolds: Vec<Vec<Told>>,
+    sizes: &[u64],
+    lasts: &[Snapshot],
+) -> Result<Vec<Vec<Answer<Q, A>>>, AllocError>
+    requires { CanSettleAll Q.plain sizes.now lasts.now inboxes.items dones.items (map (λ v. v.items) tolds.items) }
+    ensures { IfOk result (λ v. ArePaired (λ r i. AreSettled Q.plain lasts.now (asks_of i.sent) (reverse r.items)) v.items inboxes.items) }
+{
+    let mut lists = Vec::new(alloc);
+    let mut inboxes = inboxes.into_iter();
+    let mut dones = dones.into_iter();
+    let mut tolds = tolds.into_iter();
+    while let Some(inbox) = inboxes.next() {
+        let (Some(done), Some(told)) = (dones.next(), tolds.next()) else {
+            unreachable!()
+        };
+        lists.push(settle_worker(rt, alloc, inbox, done, told, sizes, lasts)?)?;
+    }
+    Ok(lists)
+}
+
+// The answers of all workers, one after another from the ends of the lists in turn.
+fn in_order<Q: Query<A> + Drop, A: Drop>(
+    alloc: Global,
+    mut lists: Vec<Vec<Answer<Q, A>>>,
+    count: u64,
+) -> Result<Vec<Answer<Q, A>>, AllocError>
+    requires some { 0 < length lists.items }
+    requires enough { (asks : List (Ask Q)) × AreNumbered asks × (count ≡ length asks)
+        × AllAt (λ w r. length r.items ≡ length (asks_to (length lists.items) w asks)) lists.items }
+    ensures { (lasts : List (List Operation)) → (asks : List (Ask Q)) → AreNumbered asks → count ≡ length asks
+        → AllAt (λ w r. AreSettled Q.plain lasts (asks_to (length lists.items) w asks) (reverse r.items)) lists.items
+        → IfOk result (λ v. AreGathered Q.plain (length lists.items) lasts asks v.items) }
+{
+    let workers = lists.len() as u64;
+    let mut answers = Vec::new(alloc);
+    for turn in 0..count {
+        let worker = (turn % workers) as usize;
+        match lists[worker].pop() {
+            Some(answer) => answers.push(answer)?,
+            None => unreachable!(),
+        }
+    }
+    Ok(answers)
+}

@@ -1,0 +1,134 @@
+// How the pairs of all replicas and the queues of all workers are made.
+ghost use Rattle.std.specs.Prelude.{◌≡◌, ◌≤◌, ◌<◌, ◌+◌, ◌/◌, ◌^◌, [], ◌∷◌, ◌++◌, List, length, map, All, IfOk, OnOk};
+ghost use Rattle.std.specs.List.{range_with_len};
+ghost use Rattle.logbook.specs.Pages.{Book};
+ghost use Rattle.query_workers.specs.Line.{pairs_of};
+ghost use Rattle.query_dispatch.specs.Dealt.{AllAt, AreEnds, HasAsked, pairs_in};
+ghost use Rattle.query_dispatch.specs.Shown.{AreLevel, AreTied, column, columns, rows_of, shown_lists};
+
+use crate::dispatcher::Dispatcher;
+use crate::publishers::Publishers;
+use query_workers::{Desk, open_queue};
+use snapshot_pub::SnapReader;
+use std::alloc::{AllocError, Global};
+use std::sync::Wait;
+use text_buffer::Snapshot;
+
+/// Opens the pairs of all replicas, of which `firsts` is what they are at first, and a queue for each worker. Gives the dispatcher, for
+/// at most `limit` queries, and the desks of the workers in their order.
+///
+/// # Errors
+///
+/// `OutOfMemory` alone. Some pairs are then open.
+pub fn open_desks<R: Wait, Q: Drop>(
+    rt: &R,
+    alloc: Global,
+    publishers: &mut Publishers,
+    firsts: Vec<Snapshot>,
+    limit: u64,
+) -> Result<(Dispatcher<Q>, Vec<Desk<Q>>), AllocError>
+    requires some { 1 ≤ publishers.old.workers }
+    requires none { (publishers.old.list ≡ []) × (publishers.old.sizes ≡ []) }
+    requires limit { limit < 2 ^ 63 }
+    ensures level { OnOk result (AreLevel publishers.new) }
+    ensures shown { OnOk result (shown_lists publishers.new ≡ firsts.items) }
+    ensures tied { IfOk result (λ r. AreTied r.0.inboxes publishers.new) }
+    ensures ends { IfOk result (λ r. AreEnds r.0.inboxes r.1.items) }
+    ensures count { IfOk result (λ r. length r.0.inboxes ≡ publishers.old.workers) }
+    ensures asked { IfOk result (λ r. HasAsked r.0 [] × (r.0.limit ≡ limit)) }
+{
+    let workers = publishers.workers;
+    let crews = open_crews(rt, alloc, publishers, firsts)?;
+    open_queues(alloc, workers, crews, limit)
+}
+
+// The readers of each worker, replica by replica.
+fn open_crews<R: Wait>(
+    rt: &R,
+    alloc: Global,
+    publishers: &mut Publishers,
+    firsts: Vec<Snapshot>,
+) -> Result<Vec<Vec<SnapReader>>, AllocError>
+    requires some { 1 ≤ publishers.old.workers }
+    requires none { (publishers.old.list ≡ []) × (publishers.old.sizes ≡ []) }
+    ensures level { OnOk result (AreLevel publishers.new) }
+    ensures workers { publishers.new.workers ≡ publishers.old.workers }
+    ensures shown { OnOk result (shown_lists publishers.new ≡ firsts.items) }
+    ensures count { IfOk result (λ v. length v.items ≡ publishers.old.workers) }
+    ensures pairs { IfOk result (λ v. map (λ c. pairs_of c.items) v.items ≡ columns publishers.old.workers (rows_of publishers.new)) }
+{
+    let mut crews = empty_crews(alloc, publishers.workers)?;
+    let mut firsts = firsts.into_iter();
+    while let Some(first) = firsts.next() {
+        let readers = publishers.open(rt, alloc, first)?;
+        deal(&mut crews, readers)?;
+    }
+    Ok(crews)
+}
+
+// No reader yet for each worker.
+fn empty_crews(alloc: Global, workers: u32) -> Result<Vec<Vec<SnapReader>>, AllocError>
+    ensures count { IfOk result (λ v. length v.items ≡ workers) }
+    ensures none { IfOk result (λ v. All (λ c. pairs_of c.items ≡ []) v.items) }
+{
+    let mut crews = Vec::new(alloc);
+    for _ in 0..workers {
+        crews.push(Vec::new(alloc))?;
+    }
+    Ok(crews)
+}
+
+// Gives one reader to each worker.
+fn deal(crews: &mut Vec<Vec<SnapReader>>, readers: Vec<SnapReader>) -> Result<(), AllocError>
+    requires { length readers.items ≡ length crews.old.items }
+    ensures count { length crews.new.items ≡ length crews.old.items }
+    ensures pairs { OnOk result ((rows : List (List Book)) → AllAt (λ w c. pairs_of c.items ≡ column w rows) crews.old.items
+        → AllAt (λ w c. pairs_of c.items ≡ column w (rows ++ pairs_of readers.items ∷ [])) crews.new.items) }
+{
+    let mut readers = readers.into_iter();
+    for worker in 0..crews.len() {
+        match readers.next() {
+            Some(reader) => crews[worker].push(reader)?,
+            None => unreachable!(),
+        }
+    }
+    Ok(())
+}
+
+// A queue for each worker.
+fn open_queues<Q: Drop>(
+    alloc: Global,
+    workers: u32,
+    crews: Vec<Vec<SnapReader>>,
+    limit: u64,
+) -> Result<(Dispatcher<Q>, Vec<Desk<Q>>), AllocError>
+    requires some { 1 ≤ workers }
+    requires limit { limit < 2 ^ 63 }
+    requires count { length crews.items ≡ workers }
+    ensures pairs { IfOk result (λ r. pairs_in r.0.inboxes ≡ map (λ c. pairs_of c.items) crews.items) }
+    ensures ends { IfOk result (λ r. AreEnds r.0.inboxes r.1.items) }
+    ensures count { IfOk result (λ r. length r.0.inboxes ≡ workers) }
+    ensures asked { IfOk result (λ r. HasAsked r.0 [] × (r.0.limit ≡ limit)) }
+{
+    let room = (limit / workers as u64) as usize + 2;
+    let mut inboxes = Vec::new(alloc);
+    let mut desks = Vec::new(alloc);
+    let mut crews = crews.into_iter();
+    for worker in 0..workers {
+        let Some(readers) = crews.next() else {
+            unreachable!()
+        };
+        let (inbox, desk) = open_queue(alloc, room, readers, worker)?;
+        inboxes.push(inbox)?;
+        desks.push(desk)?;
+    }
+    Ok((
+        Dispatcher {
+            inboxes,
+            workers,
+            count: 0,
+            limit,
+        },
+        desks,
+    ))
+}

@@ -1,0 +1,136 @@
+// The answers of one worker, once it and the editor have ended.
+ghost use Rattle.std.specs.Prelude.{◌≡◌, ◌<◌, ◌≤◌, List, length, map, reverse, IfOk, IfSome, All};
+ghost use Rattle.op_model.specs.declared.operation.Operation.{Operation};
+ghost use Rattle.text_buffer.specs.Document.{IsFront};
+ghost use Rattle.query_workers.specs.Answers.{ArePaired, HasAnswered};
+ghost use Rattle.query_workers.specs.Asks.{asks_of};
+ghost use Rattle.query_workers.specs.Line.{IsEnded, pairs_of};
+ghost use Rattle.query_workers.specs.declared.query.Answer.{Answer};
+ghost use Rattle.query_dispatch.specs.Dealt.{AllAt, told_lists, told_pairs};
+ghost use Rattle.query_dispatch.specs.Settled.{AreSettled, ComesTo, IsLimit, IsPast};
+
+use query_workers::{Answer, Done, Inbox, Query, collect};
+use snapshot_pub::{SnapReader, Told};
+use std::alloc::{AllocError, Global};
+use std::thread::Threads;
+use text_buffer::Snapshot;
+
+// A last look of a reader: it learns what was last published to its pair, which has so many operations, and takes `latest` once
+// more. How many operations an answer of this reader may have that stays: none, where it did not enter.
+fn look_last(reader: &mut SnapReader, told: Told, size: u64) -> Result<u64, AllocError>
+    requires pair { told.pair ≡ reader.old.pair }
+    requires size { size ≡ length told.list }
+    ensures bound { IfOk result (λ n. n ≤ length told.list) }
+    ensures limit { IfOk result (λ n. (h : List Operation) → IsFront h reader.old.longest → length h ≤ n → IsFront h told.list) }
+{
+    reader.learn(told);
+    let _snapshot = reader.latest()?;
+    if reader.entered() { Ok(size) } else { Ok(0) }
+}
+
+// The last looks of a worker's readers, in the order of the replicas.
+fn look_all(
+    alloc: Global,
+    readers: Vec<SnapReader>,
+    tolds: Vec<Told>,
+    sizes: &[u64],
+) -> Result<Vec<u64>, AllocError>
+    requires pairs { told_pairs tolds.items ≡ pairs_of readers.items }
+    requires sizes { sizes.now ≡ map (λ (h : List Operation). length h) (told_lists tolds.items) }
+    ensures count { IfOk result (λ v. length v.items ≡ length tolds.items) }
+    ensures limits { IfOk result (λ v. AllAt (IsLimit (told_lists tolds.items) readers.items) v.items) }
+{
+    let mut limits = Vec::new(alloc);
+    let mut readers = readers.into_iter();
+    let mut tolds = tolds.into_iter();
+    for size in sizes {
+        let (Some(mut reader), Some(told)) = (readers.next(), tolds.next()) else {
+            unreachable!()
+        };
+        limits.push(look_last(&mut reader, told, *size)?)?;
+    }
+    Ok(limits)
+}
+
+// The answer as it is, where it is on no more operations than its replica's limit; else it is made anew on what the replica is at
+// the end.
+fn settle<R: Threads + Sync, Q: Query<A> + Drop, A: Drop>(
+    rt: &R,
+    alloc: Global,
+    answer: Answer<Q, A>,
+    limits: &[u64],
+    lasts: &[Snapshot],
+) -> Result<Answer<Q, A>, AllocError>
+    requires replica { (answer.replica < length limits.now) × (answer.replica < length lasts.now) }
+    requires plain { answer.answer ≡ Q.plain answer.query answer.snapshot }
+    ensures { IfOk result (λ a. ComesTo Q.plain limits.now lasts.now a answer) }
+{
+    let place = answer.replica as usize;
+    if answer.snapshot.applied().len() <= limits[place] {
+        return Ok(answer);
+    }
+    let Answer {
+        number,
+        replica,
+        query,
+        snapshot: _,
+        answer: _,
+    } = answer;
+    let snapshot = lasts[place].share()?;
+    let answer = query.answer(rt, alloc, &snapshot)?;
+    Ok(Answer {
+        number,
+        replica,
+        query,
+        snapshot,
+        answer,
+    })
+}
+
+// The answers, each settled; the last of them first.
+fn settle_all<R: Threads + Sync, Q: Query<A> + Drop, A: Drop>(
+    rt: &R,
+    alloc: Global,
+    mut answers: Vec<Answer<Q, A>>,
+    limits: &[u64],
+    lasts: &[Snapshot],
+) -> Result<Vec<Answer<Q, A>>, AllocError>
+    requires replicas { All (λ (a : Answer Q A). (a.replica < length limits.now) × (a.replica < length lasts.now)) answers.items }
+    requires plain { All (λ (a : Answer Q A). a.answer ≡ Q.plain a.query a.snapshot) answers.items }
+    ensures { IfOk result (λ v. ArePaired (ComesTo Q.plain limits.now lasts.now) (reverse v.items) answers.items) }
+{
+    let mut settled = Vec::new(alloc);
+    while let Some(answer) = answers.pop() {
+        settled.push(settle(rt, alloc, answer, limits, lasts)?)?;
+    }
+    Ok(settled)
+}
+
+/// The answers of a worker, settled, the last of them first: those that its readers gave on more than was last published are made
+/// anew.
+///
+/// # Errors
+///
+/// `OutOfMemory` alone.
+pub(crate) fn settle_worker<R: Threads + Sync, Q: Query<A> + Drop, A: Drop>(
+    rt: &R,
+    alloc: Global,
+    inbox: Inbox<Q>,
+    done: Done<Q, A>,
+    tolds: Vec<Told>,
+    sizes: &[u64],
+    lasts: &[Snapshot],
+) -> Result<Vec<Answer<Q, A>>, AllocError>
+    requires own { done.queue ≡ inbox.queue }
+    requires ended { IsEnded inbox.sent × IsEnded done.taken }
+    requires answered { IfSome done.answers (λ v. HasAnswered Q.plain (asks_of done.taken) done.readers v) }
+    requires pairs { told_pairs tolds.items ≡ pairs_of done.readers }
+    requires sizes { sizes.now ≡ map (λ (h : List Operation). length h) (told_lists tolds.items) }
+    requires fronts { ArePaired IsFront (told_lists tolds.items) lasts.now }
+    requires asked { All (IsPast lasts.now) (asks_of inbox.sent) }
+    ensures { IfOk result (λ v. AreSettled Q.plain lasts.now (asks_of inbox.sent) (reverse v.items)) }
+{
+    let (readers, answers) = collect(inbox, done)?;
+    let limits = look_all(alloc, readers, tolds, sizes)?;
+    settle_all(rt, alloc, answers, limits.as_slice(), lasts)
+}

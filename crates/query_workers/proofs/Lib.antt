@@ -1,0 +1,5 @@
+pub mod Lines
+pub mod Jobs
+pub mod Working
+pub mod Places
+pub mod Crossing

@@ -1,0 +1,39 @@
+-- One list of those that are published is another.
+use Rattle.std.proofs.Common.{◌≡◌, ◌<◌, ◌+◌, ℕ, zero, suc, List, [], ◌∷◌, ◌++◌, set, get_or, length, refl, sym, ap, ◌∙◌, subst, arith, length-append}
+use Rattle.std.specs.List.{All}
+use Rattle.std.proofs.lemmas.List.{append-nil, nil_from_length, get_or_default, length-set}
+use Rattle.std.proofs.lemmas.List.Elements.{All-cons, All-head, All-tail}
+use Rattle.op_model.specs.declared.operation.Operation.{Operation}
+use Rattle.text_buffer.specs.Document.{IsFront}
+use Rattle.snapshot_pub.proofs.Fronts.{front_itself}
+
+pub All-set : {X : Type 0} (P : X → Type 0) (xs : List X) (i : ℕ) (y : X) → All P xs → P y → All P (set xs i y)
+All-set P [] i y a p = a
+All-set P (x ∷ xs) zero y a p = All-cons P y xs p (All-tail P x xs a)
+All-set P (x ∷ xs) (suc i) y a p = All-cons P x (set xs i y) (All-head P x xs a) (All-set P xs i y (All-tail P x xs a) p)
+
+pub set_below : (xs : List (List Operation)) (i : ℕ) (y : List Operation) → i < length xs → ((j : ℕ) → j < i → get_or xs j [] ≡ y) → (j : ℕ) → j < i + 1 → get_or (set xs i y) j [] ≡ y
+set_below [] i y within h j below = absurd (omega arith)
+set_below (x ∷ xs) zero y within h zero below = refl
+set_below (x ∷ xs) zero y within h (suc j) below = absurd (omega arith)
+set_below (x ∷ xs) (suc i) y within h zero below = h zero (omega arith)
+set_below (x ∷ xs) (suc i) y within h (suc j) below = set_below xs i y (omega arith) (λ k lt. h (suc k) (omega arith)) j (omega arith)
+
+-- a front of as many operations is all
+pub whole_front : (h g : List Operation) → IsFront h g → length h ≡ length g → h ≡ g
+whole_front h g f same =
+    let none : f.0 ≡ [] = nil_from_length f.0 (omega (arith, same, ap (λ (l : List Operation). length l) f.1, length-append h f.0)) in
+    sym (f.1 ∙ (ap (λ (l : List Operation). h ++ l) none ∙ append-nil h))
+
+pub all_from_places : (xs : List (List Operation)) (y : List Operation) → ((j : ℕ) → j < length xs → get_or xs j [] ≡ y) → All (λ x. x ≡ y) xs
+all_from_places xs y h k d below = get_or_default xs k d [] below ∙ h k below
+
+-- a list that the last one begins is replaced by it
+pub published_more : (old new : List (List Operation)) (i n : ℕ) (y : List Operation) → new ≡ set old i y → i < n → length old ≡ n → All (λ x. IsFront x y) old → ((j : ℕ) → j < i → get_or old j [] ≡ y)
+    → (length new ≡ n) × All (λ x. IsFront x y) new × ((j : ℕ) → j < i + 1 → get_or new j [] ≡ y)
+published_more old new i n y is within count grows shown =
+    let here : i < length old = omega arith in (
+      ap (λ (l : List (List Operation)). length l) is ∙ (length-set old i y ∙ count),
+      subst (All (λ x. IsFront x y)) (sym is) (All-set (λ x. IsFront x y) old i y grows (front_itself y)),
+      λ j below. subst (λ (l : List (List Operation)). get_or l j [] ≡ y) (sym is) (set_below old i y here shown j below),
+    )

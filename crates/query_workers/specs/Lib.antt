@@ -1,0 +1,6 @@
+pub mod Line
+pub mod States
+pub mod Fields
+pub mod Asks
+pub mod Answers
+pub mod Asked

@@ -1,0 +1,63 @@
+// What an editor puts into the queue of a worker.
+ghost use Rattle.std.specs.Prelude.{◌≡◌, ◌<◌, [], length, slice_index_or, MatchResult};
+ghost use Rattle.query_workers.specs.Line.{IsFor};
+ghost use Rattle.query_workers.specs.Asks.{HasPut, put_into};
+ghost use Rattle.query_workers.specs.Asked.{IsOfPair};
+ghost use Rattle.query_workers.specs.declared.job.Entry.{Entry};
+
+use crate::desk::Inbox;
+use crate::job::{Entry, Job};
+use crate::steps::send;
+use snapshot_pub::Publisher;
+use std::alloc::AllocError;
+use std::sync::Wait;
+
+impl<Q: Drop> Inbox<Q> {
+    // Puts an entry behind the others.
+    fn put<R: Wait>(&mut self, rt: &R, entry: Entry<Q>)
+        requires own { IsFor self.old.readers entry }
+        requires room { length self.old.sent < self.old.room }
+        ensures { self.new ≡ put_into self.old entry }
+    {
+        send(rt, &self.line, &mut self.pass, entry);
+    }
+
+    /// Puts query `number` of the replica at place `replica`, with what was last published to the pair that the inbox's worker,
+    /// `worker`, has there. Waits for nobody.
+    ///
+    /// # Errors
+    ///
+    /// `OutOfMemory` alone. Nothing is then put.
+    pub fn ask<R: Wait>(
+        &mut self,
+        rt: &R,
+        worker: u32,
+        publisher: &Publisher,
+        number: u64,
+        replica: u32,
+        query: Q,
+    ) -> Result<(), AllocError>
+        requires worker { worker < length publisher.now.published }
+        requires pair { IsOfPair self.old replica worker publisher.now }
+        requires room { length self.old.sent < self.old.room }
+        ensures { MatchResult result (λ _. HasPut self.old self.new (record { number = number; replica = replica; query = query; history = slice_index_or publisher.now.published worker [] })) (λ _. self.new ≡ self.old) }
+    {
+        let told = publisher.tell(worker)?;
+        let job = Job {
+            number,
+            replica,
+            query,
+            told,
+        };
+        self.put(rt, Entry::Job(job));
+        Ok(())
+    }
+
+    /// Puts the end mark. Waits for nobody.
+    pub fn end<R: Wait>(&mut self, rt: &R)
+        requires { length self.old.sent < self.old.room }
+        ensures { self.new ≡ put_into self.old Entry.End }
+    {
+        self.put(rt, Entry::End);
+    }
+}

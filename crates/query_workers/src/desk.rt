@@ -1,0 +1,70 @@
+// The two ends of a worker's queue, and what a worker gives back.
+use crate::line::{Line, LinePass};
+use crate::query::Answer;
+use snapshot_pub::SnapReader;
+use std::alloc::{AllocError, Global};
+use std::marker::Model;
+use std::sync::Arc;
+
+/// What a worker begins with: the end of its queue at which it takes, and a reader of each replica, in their order. Contracts see
+/// which queue it is, and the readers.
+#[derive(Drop)]
+pub struct Desk<Q> {
+    pub(crate) line: Arc<Line<Q>, Global>,
+    pub(crate) pass: LinePass<Q>,
+    pub(crate) readers: Vec<SnapReader>,
+    pub(crate) number: u32,
+}
+
+impl<Q> Model for Desk<Q> {
+    ghost use Rattle.query_workers.specs.States.{DeskState};
+
+    ghost Value = { DeskState };
+
+    ghost use Rattle.query_workers.specs.Fields.{desk_state, IsTaking};
+
+    ghost view = { desk_state };
+
+    ghost invariant = { IsTaking };
+}
+
+/// The end of a worker's queue at which its jobs are put. Contracts see which queue it is and its room, what was put, and the
+/// readers of the worker.
+#[derive(Drop)]
+pub struct Inbox<Q> {
+    pub(crate) line: Arc<Line<Q>, Global>,
+    pub(crate) pass: LinePass<Q>,
+}
+
+impl<Q> Model for Inbox<Q> {
+    ghost use Rattle.query_workers.specs.States.{InboxState};
+
+    ghost Value = { InboxState Q };
+
+    ghost use Rattle.query_workers.specs.Fields.{inbox_state, IsSending};
+
+    ghost view = { inbox_state };
+
+    ghost invariant = { IsSending };
+}
+
+/// What a worker gives back: its answers, in the order of its jobs; where it missed memory for one, none of them. Contracts see
+/// which queue it worked on, what it took, its readers and the answers.
+#[derive(Drop)]
+pub struct Done<Q, A> {
+    pub(crate) pass: LinePass<Q>,
+    pub(crate) readers: Vec<SnapReader>,
+    pub(crate) answers: Result<Vec<Answer<Q, A>>, AllocError>,
+}
+
+impl<Q, A> Model for Done<Q, A> {
+    ghost use Rattle.query_workers.specs.States.{DoneState};
+
+    ghost Value = { DoneState Q A };
+
+    ghost use Rattle.query_workers.specs.Fields.{done_state, HasTaken};
+
+    ghost view = { done_state };
+
+    ghost invariant = { HasTaken };
+}

@@ -1,0 +1,40 @@
+// How the queue of a worker is made.
+ghost use Rattle.std.specs.Prelude.{◌≡◌, ◌<◌, [], IfOk};
+
+use crate::desk::{Desk, Inbox};
+use crate::line::Line;
+use crate::steps::split;
+use snapshot_pub::SnapReader;
+use std::alloc::{AllocError, Global};
+use std::marker::Brand;
+use std::sync::Arc;
+
+/// The queue of worker `number`, with room for so many entries, and both its ends. The worker has these readers.
+///
+/// # Errors
+///
+/// `OutOfMemory` alone.
+pub fn open_queue<Q: Drop>(
+    alloc: Global,
+    room: usize,
+    readers: Vec<SnapReader>,
+    number: u32,
+) -> Result<(Inbox<Q>, Desk<Q>), AllocError>
+    requires { 0 < room }
+    ensures inbox { IfOk result (λ r. r.0 ≡ record { queue = r.1.queue; room = room; sent = []; readers = readers.items }) }
+    ensures desk { IfOk result (λ r. r.1.readers ≡ readers.items) }
+{
+    let (line, mut pass) = Line::ruled(alloc, room)?;
+    let theirs = split::<Brand, Q>(&line, &mut pass, &readers);
+    let line = Arc::new(alloc, line)?;
+    let shared = Arc::try_clone(&line)?;
+    Ok((
+        Inbox { line, pass },
+        Desk {
+            line: shared,
+            pass: theirs,
+            readers,
+            number,
+        },
+    ))
+}

@@ -1,0 +1,36 @@
+// Queries, and their answers.
+ghost use Rattle.std.specs.Prelude.{◌≡◌, IfOk};
+
+use std::alloc::{AllocError, Global};
+use std::thread::Threads;
+use text_buffer::Snapshot;
+
+/// A query that snapshots answer.
+pub trait Query<A> {
+    ghost use Rattle.std.specs.Prelude.{List};
+    ghost use Rattle.op_model.specs.declared.operation.Operation.{Operation};
+
+    /// The plain answer on what a replica has applied, the base first.
+    ghost plain: { Self → List Operation → A };
+
+    /// The answer on a snapshot.
+    fn answer<R: Threads + Sync>(
+        &self,
+        rt: &R,
+        alloc: Global,
+        snapshot: &Snapshot,
+    ) -> Result<A, AllocError>
+        ensures { IfOk result (λ a. a ≡ plain self.now snapshot.now) };
+}
+
+/// The answer to a query, and the snapshot that it is on.
+#[derive(Drop)]
+pub struct Answer<Q, A> {
+    /// The number of the query, from 1.
+    pub number: u64,
+    /// The place of the replica, from 0.
+    pub replica: u32,
+    pub query: Q,
+    pub snapshot: Snapshot,
+    pub answer: A,
+}

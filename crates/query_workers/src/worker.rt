@@ -1,0 +1,134 @@
+// A worker.
+ghost use Rattle.std.specs.Prelude.{◌≡◌, false, [], ◌∷◌, ◌++◌, List, IfOk, OnOk};
+ghost use Rattle.text_buffer.specs.Document.{IsFront};
+ghost use Rattle.query_workers.specs.Line.{IsFor, pairs_of};
+ghost use Rattle.query_workers.specs.Asks.{Ask, ask_of};
+ghost use Rattle.query_workers.specs.Answers.{HasAnswered, HasWorked, IsAnswerTo};
+ghost use Rattle.query_workers.specs.declared.job.Entry.{Entry};
+
+use crate::desk::{Desk, Done};
+use crate::gate::Gate;
+use crate::job::{Entry, Job};
+use crate::query::{Answer, Query};
+use crate::steps::take;
+use snapshot_pub::SnapReader;
+use std::alloc::{AllocError, Global};
+use std::sync::Wait;
+use std::thread;
+use std::thread::Threads;
+
+/// Takes jobs in their order, and answers each, until the end mark.
+pub(crate) fn work<R: Threads + Wait + Sync, G: Gate, Q: Query<A> + Drop, A: Drop>(
+    rt: &R,
+    alloc: Global,
+    gate: &G,
+    desk: Desk<Q>,
+) -> Done<Q, A>
+    ensures { HasWorked Q.plain desk result }
+{
+    let Desk {
+        line,
+        mut pass,
+        mut readers,
+        number,
+    } = desk;
+    let mut answers = Vec::new(alloc);
+    let mut failed = false;
+    for _ in rt.forever() {
+        match take(rt, &line, &mut pass) {
+            None => thread::yield_now(),
+            Some(Entry::End) => {
+                let answers = unless_failed(failed, answers);
+                return Done {
+                    pass,
+                    readers,
+                    answers,
+                };
+            }
+            Some(Entry::Job(job)) => {
+                let query = job.number;
+                gate.hold(rt, number, query);
+                failed = answer_also(rt, alloc, failed, &mut readers, job, &mut answers);
+                gate.done(rt, number, query);
+            }
+        }
+    }
+    unreachable!()
+}
+
+fn unless_failed<Q: Drop, A: Drop>(
+    failed: bool,
+    answers: Vec<Answer<Q, A>>,
+) -> Result<Vec<Answer<Q, A>>, AllocError>
+    ensures { IfOk result (λ v. (failed ≡ false) × (v.items ≡ answers.items)) }
+{
+    if failed { Err(AllocError) } else { Ok(answers) }
+}
+
+// Answers one job more. Whether memory was missed, now or before.
+fn answer_also<R: Threads + Wait + Sync, Q: Query<A> + Drop, A: Drop>(
+    rt: &R,
+    alloc: Global,
+    failed: bool,
+    readers: &mut Vec<SnapReader>,
+    job: Job<Q>,
+    answers: &mut Vec<Answer<Q, A>>,
+) -> bool
+    requires own { IsFor readers.old.items (Entry.Job job) }
+    ensures pairs { pairs_of readers.new.items ≡ pairs_of readers.old.items }
+    ensures failed { result ≡ false → failed ≡ false }
+    ensures answered { result ≡ false → (asks : List (Ask Q)) → HasAnswered Q.plain asks readers.old.items answers.old.items → HasAnswered Q.plain (asks ++ ask_of job ∷ []) readers.new.items answers.new.items }
+{
+    match answer_in(rt, alloc, readers, job, answers) {
+        Ok(()) => failed,
+        Err(_) => true,
+    }
+}
+
+fn answer_in<R: Threads + Wait + Sync, Q: Query<A> + Drop, A: Drop>(
+    rt: &R,
+    alloc: Global,
+    readers: &mut Vec<SnapReader>,
+    job: Job<Q>,
+    answers: &mut Vec<Answer<Q, A>>,
+) -> Result<(), AllocError>
+    requires own { IsFor readers.old.items (Entry.Job job) }
+    ensures pairs { pairs_of readers.new.items ≡ pairs_of readers.old.items }
+    ensures answered { OnOk result ((asks : List (Ask Q)) → HasAnswered Q.plain asks readers.old.items answers.old.items → HasAnswered Q.plain (asks ++ ask_of job ∷ []) readers.new.items answers.new.items) }
+{
+    let place = job.replica as usize;
+    let answer = answer_on(rt, alloc, &mut readers[place], job)?;
+    answers.push(answer)?;
+    Ok(())
+}
+
+// Learns what was told, and answers on the latest snapshot.
+fn answer_on<R: Threads + Wait + Sync, Q: Query<A> + Drop, A: Drop>(
+    rt: &R,
+    alloc: Global,
+    reader: &mut SnapReader,
+    job: Job<Q>,
+) -> Result<Answer<Q, A>, AllocError>
+    requires { job.told.pair ≡ reader.old.pair }
+    ensures pair { reader.new.pair ≡ reader.old.pair }
+    ensures begins { IsFront reader.old.longest reader.new.longest }
+    ensures answered { IfOk result (λ a. IsAnswerTo Q.plain a (ask_of job)) }
+    ensures latest { IfOk result (λ a. a.snapshot ≡ reader.new.longest) }
+{
+    let Job {
+        number,
+        replica,
+        query,
+        told,
+    } = job;
+    reader.learn(told);
+    let snapshot = reader.latest()?;
+    let answer = query.answer(rt, alloc, &snapshot)?;
+    Ok(Answer {
+        number,
+        replica,
+        query,
+        snapshot,
+        answer,
+    })
+}
