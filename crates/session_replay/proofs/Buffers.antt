@@ -7,7 +7,7 @@ use Rattle.session_replay.specs.Work.{buffer_of, with_buffer}
 
 -- ---- the first of a list that passes a test
 
-at_some : (b : Bool) (k i : ℕ) → Some i ≡ cond b (Some k) None → (b ≡ true) × (i ≡ k)
+pub at_some : (b : Bool) (k i : ℕ) → Some i ≡ cond b (Some k) None → (b ≡ true) × (i ≡ k)
 at_some true k i e = (refl, cc)
 at_some false k i e = cc
 

@@ -44,11 +44,11 @@ AllGrow [] (c ∷ cs) = ⊥
 AllGrow (b ∷ bs) [] = ⊥
 AllGrow (b ∷ bs) (c ∷ cs) = Grows b c × AllGrow bs cs
 
-all_themselves : (bs : List BufferState) → AllGrow bs bs
+pub all_themselves : (bs : List BufferState) → AllGrow bs bs
 all_themselves [] = tt
 all_themselves (b ∷ bs) = (grows_itself b, all_themselves bs)
 
-all_trans : (bs cs ds : List BufferState) → AllGrow bs cs → AllGrow cs ds → AllGrow bs ds
+pub all_trans : (bs cs ds : List BufferState) → AllGrow bs cs → AllGrow cs ds → AllGrow bs ds
 all_trans [] [] [] f g = tt
 all_trans [] [] (d ∷ ds) f g = g
 all_trans [] (c ∷ cs) ds f g = absurd f
@@ -112,7 +112,7 @@ abbrev pub AreBased : List BufferState → Type 0
 AreBased [] = ⊤
 AreBased (b ∷ bs) = (1 ≤ length b.history) × AreBased bs
 
-front_longer : (h g : List Operation) → IsFront h g → length h ≤ length g
+pub front_longer : (h g : List Operation) → IsFront h g → length h ≤ length g
 front_longer h g f = omega (arith, ap (λ (x : List Operation). length x) f.1, length-append h f.0)
 
 pub based_grow : (bs cs : List BufferState) → AllGrow bs cs → AreBased bs → AreBased cs

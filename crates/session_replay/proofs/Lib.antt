@@ -5,6 +5,11 @@ pub mod Steps
 pub mod QueryLines
 pub mod Growth
 pub mod Replies
+pub mod Asking
+pub mod Gathered
+pub mod Leaving
+pub mod Opening
+pub mod Crossing
 pub mod Places
 pub mod OperationLines
 pub mod Named

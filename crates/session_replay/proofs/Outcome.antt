@@ -1,5 +1,5 @@
 -- What an answer says of its input.
-use Rattle.std.proofs.Common.{◌≡◌, ℕ, ◌<◌, ◌≤◌, ◌⊎◌, inl, inr, List, length, refl, sym, ap, ◌∙◌, cond, Bool, true, false, nat_lt, arith, Option, Result, Ok, Err}
+use Rattle.std.proofs.Common.{◌≡◌, ℕ, ◌<◌, ◌≤◌, ◌⊎◌, inl, inr, List, length, refl, sym, ap, ◌∙◌, subst, cond, Bool, true, false, nat_lt, arith, Option, Result, Ok, Err}
 use Rattle.std.proofs.lemmas.Bool.{lt-ltb, le-ltb, ltb-true, ltb-false}
 use Rattle.session_lines.specs.Cut.{lines_of}
 use Rattle.session_lines.specs.Session.{decoded, session_of}
@@ -11,8 +11,11 @@ use Rattle.session_lines.specs.declared.fault.DecodeFault.TheVariants.{Lines, Ba
 use Rattle.session_lines.proofs.Faults.{too_many, never_memory}
 use Rattle.session_replay.specs.Causes.{RoseBy}
 use Rattle.session_replay.specs.Traffic.{Had}
-use Rattle.session_replay.specs.Replay.{answer_of, answer_with, large_line, refusal, written_for, Answered}
+use Rattle.session_replay.specs.Queries.{IsReport}
+use Rattle.session_replay.specs.Replay.{answer_of, answer_with, large_line, refusal, written_for, Answered, IsAnswer, Writes}
+use Rattle.session_replay.proofs.Replies.{plain_report}
 use Rattle.command_words.specs.declared.command.Task.{Task}
+use Rattle.command_words.specs.declared.command.Task.TheVariants as task
 use Rattle.session_replay.specs.declared.top.Status.{Status}
 use Rattle.session_replay.specs.declared.top.Status.TheVariants as status
 
@@ -39,7 +42,7 @@ many_decoded input h = ap (λ b. cond b (Err (Lines (length (lines_of input)))) 
 -- ---- what a status tells
 
 pub record Told (c : Task) (input : List ℕ) (st : Status) (text : List ℕ) : Type 0 where
-  pub done : st ≡ status.Done → (length input ≤ 67108864) × ((s : Session) × (decoded input ≡ Ok s) × (written_for c s ≡ text))
+  pub done : st ≡ status.Done → (length input ≤ 67108864) × ((s : Session) × (decoded input ≡ Ok s) × Writes c s text)
   pub session : st ≡ status.Session → (length input ≤ 67108864) × ((n : ℕ) × (w : Word) × (decoded input ≡ Err (Bad n w)) × (bad_line n w ≡ text))
   pub large : st ≡ status.TooLarge → ((67108864 < length input) × (large_line ≡ text)) ⊎ ((length input ≤ 67108864) × (1048576 < length (lines_of input)) × (many_line ≡ text))
   pub kinds : (st ≡ status.Done) ⊎ ((st ≡ status.Session) ⊎ (st ≡ status.TooLarge))
@@ -53,6 +56,10 @@ first a st t text e = ap (λ p. p.0) e
 second : (a st : Status) (t text : List ℕ) → ◌≡◌ {A = Status × List ℕ} (a, t) (st, text) → t ≡ text
 second a st t text e = ap (λ p. p.1) e
 
+plain_written : (c : Task) (s : Session) (text : List ℕ) → written_for c s ≡ text → Writes c s text
+plain_written (task.Replay workers) s text e = subst (IsReport s workers) e (plain_report s workers)
+plain_written task.Check s text e = sym e
+
 told_by : (c : Task) (input : List ℕ) (b : Bool) (r : Result Session DecodeFault) (st : Status) (text : List ℕ) → nat_lt 67108864 (length input) ≡ b → decoded input ≡ r
     → cond b (status.TooLarge, large_line) (answer_with c r) ≡ (st, text) → Told c input st text
 told_by c input true r st text l d e =
@@ -64,7 +71,7 @@ told_by c input true r st text l d e =
     }
 told_by c input false (Ok s) st text l d e =
     let f = first status.Done st (written_for c s) text e in record {
-      done = λ k. (ltb-false 67108864 (length input) l, (s, d, second status.Done st (written_for c s) text e));
+      done = λ k. (ltb-false 67108864 (length input) l, (s, d, plain_written c s text (second status.Done st (written_for c s) text e)));
       session = λ k. differ status.Done st status.Session f k (λ x. cc);
       large = λ k. differ status.Done st status.TooLarge f k (λ x. cc);
       kinds = inl (sym f);
@@ -85,9 +92,18 @@ told_by c input false (Err (Bad n w)) st text l d e =
     }
 told_by c input false (Err OutOfMemory) st text l d e = absurd (never_memory input d)
 
-pub told : (c : Task) (input : List ℕ) (st : Status) (text : List ℕ) → answer_of c input ≡ (st, text) → Told c input st text
+plainly_told : (c : Task) (input : List ℕ) (st : Status) (text : List ℕ) → answer_of c input ≡ (st, text) → Told c input st text
 unfolding answer_of
-told c input st text e = told_by c input (nat_lt 67108864 (length input)) (decoded input) st text refl refl e
+plainly_told c input st text e = told_by c input (nat_lt 67108864 (length input)) (decoded input) st text refl refl e
+
+pub told : (c : Task) (input : List ℕ) (st : Status) (text : List ℕ) → IsAnswer c input st text → Told c input st text
+told c input st text (inl w) = record {
+  done = λ k. (w.1, w.2);
+  session = λ k. differ status.Done st status.Session (sym w.0) k (λ x. cc);
+  large = λ k. differ status.Done st status.TooLarge (sym w.0) k (λ x. cc);
+  kinds = inl w.0;
+}
+told c input st text (inr e) = plainly_told c input st text e
 
 -- ---- what was answered for a source
 
@@ -99,5 +115,5 @@ module _ (c : Task) (left left_after : Option (List ℕ)) (given given_after end
   answered_large text e h r = record {
     input = h.0;
     taken = record { had = h.1; whole = λ le. absurd (omega (arith, h.2)); large = λ _. r };
-    answer = large_answer c h.0 h.2 ∙ ap (λ t. (status.TooLarge, t)) (sym e);
+    answer = inr (large_answer c h.0 h.2 ∙ ap (λ t. (status.TooLarge, t)) (sym e));
   }

@@ -8,7 +8,8 @@ use Rattle.text_buffer.specs.Buffer.{BufferState}
 use Rattle.session_lines.specs.declared.report.Report.{Report}
 use Rattle.session_lines.specs.declared.session.SessionLine.{SessionLine}
 use Rattle.session_replay.specs.Work.{State, step}
-use Rattle.session_replay.specs.Queries.{Query, Question, answer_line, count_of, plain_line, queries_from, query_at, query_of}
+use Rattle.session_replay.specs.declared.queries.Question.{Question}
+use Rattle.session_replay.specs.Queries.{Query, answer_line, count_of, plain_line, queries_from, query_at, query_of}
 use Rattle.session_replay.proofs.Steps.{behind}
 
 abbrev pub history : BufferState → List Operation

@@ -1,5 +1,5 @@
 -- The queries of a session that are answered on the spot: what they are answered on is the front of what is applied at the end.
-use Rattle.std.proofs.Common.{◌≡◌, Bool, true, false, cond, Ok, ℕ, ◌+◌, ◌≤◌, List, [], ◌∷◌, ◌++◌, length, map, take, Option, None, Some, refl, sym, ap, ◌∙◌, subst, arith, append_assoc}
+use Rattle.std.proofs.Common.{◌≡◌, Bool, true, false, cond, Ok, ℕ, ◌+◌, ◌≤◌, List, [], ◌∷◌, ◌++◌, length, map, take, Option, None, Some, refl, sym, ap, ◌∙◌, subst, arith}
 use Rattle.std.specs.List.{All, AllPairs}
 use Rattle.std.proofs.lemmas.List.{length-append}
 use Rattle.std.proofs.Math.Seq.{take-append_seam}
@@ -11,27 +11,26 @@ use Rattle.op_model.specs.declared.operation.Operation.{Operation}
 use Rattle.op_model.specs.Shown.{text}
 use Rattle.text_buffer.specs.Buffer.{BufferState}
 use Rattle.text_buffer.specs.Document.{IsFront}
+use Rattle.snapshot_pub.proofs.Fronts.{front_trans}
 use Rattle.session_lines.specs.Report.{report_text}
 use Rattle.session_lines.specs.Session.{is_query, query_count}
 use Rattle.session_lines.specs.declared.report.Report.{Report}
 use Rattle.session_lines.specs.declared.session.Session.{Session}
 use Rattle.session_lines.specs.declared.session.SessionLine.{SessionLine}
 use Rattle.session_lines.specs.declared.session.SessionLine.TheVariants as line
+use Rattle.session_replay.specs.declared.queries.Question.{Question}
 use Rattle.session_replay.specs.Work.{State, after_all, buffer_of, opened, opening, step}
-use Rattle.session_replay.specs.Queries.{AreReplies, IsWithin, NeverFalls, Query, Question, Reply, answer_line, count_of, end_of, history_of, plain_line, queries_from, queries_of, query_at, query_of, query_with, question_of, reply_line, report_of, report_with}
+use Rattle.session_replay.specs.Queries.{AreReplies, IsReport, IsWithin, NeverFalls, Query, Reply, answer_line, count_of, end_of, history_of, plain_line, queries_from, queries_of, query_at, query_of, query_with, question_of, reply_line, report_of, report_with}
 use Rattle.session_replay.specs.Laws.{PlainWithWorkers, PlainWithoutQueries, PlainWithoutWorkers}
 use Rattle.session_replay.proofs.Growth.{AllGrow, AreBased, based_grow, based_one, later, lines_grow, step_keeps}
 
 -- ---- fronts
 
-front_count : (h g : List Operation) → IsFront h g → count_of h ≤ count_of g
+pub front_count : (h g : List Operation) → IsFront h g → count_of h ≤ count_of g
 front_count h g f = omega (arith, ap (λ (x : List Operation). length x) f.1, length-append h f.0)
 
-front_trans : (h g k : List Operation) → IsFront h g → IsFront g k → IsFront h k
-front_trans h g k f e = (f.0 ++ e.0, e.1 ∙ ap (λ (x : List Operation). x ++ e.0) f.1 ∙ append_assoc h f.0 e.0)
-
 -- the front of a list with as many operations as one that begins it
-front_taken : (h g : List Operation) → IsFront h g → 1 ≤ length h → take (count_of h + 1) g ≡ h
+pub front_taken : (h g : List Operation) → IsFront h g → 1 ≤ length h → take (count_of h + 1) g ≡ h
 front_taken h g f l =
     let n : count_of h + 1 ≡ length h = omega arith in
     ap (λ (m : ℕ). take m g) n ∙ ap (λ (x : List Operation). take (length h) x) f.1 ∙ take-append_seam h f.0
@@ -149,7 +148,7 @@ opened_based : (t : List ℕ) (rs : List ℕ) → AreBased (map (opened t) rs)
 opened_based t [] = tt
 opened_based t (r ∷ rs) = (omega arith, opened_based t rs)
 
-placed : (s : Session) → All (IsPlaced (end_of s)) (queries_of s)
+pub placed : (s : Session) → All (IsPlaced (end_of s)) (queries_of s)
 placed s = all_placed 1 s.lines (opening s) (opened_based s.base s.replicas)
 
 spot_replies : (s : Session) (workers : ℕ) → AreReplies s workers (map on_the_spot (queries_of s))
@@ -186,10 +185,14 @@ plain_text : (s : Session) (ps : List Reply) → map (λ (p : Reply). p.query) p
 unfolding report_of
 plain_text s ps e a = ap (λ (rs : List Report). report_text (report_with s rs)) (plain_lines s ps e a)
 
-pub plain_with_workers : PlainWithWorkers
-plain_with_workers input s workers d =
+-- the plain report is one that so many workers may give
+pub plain_report : (s : Session) (workers : ℕ) → IsReport s workers (report_text (report_of s))
+plain_report s workers =
     let ps : List Reply = map on_the_spot (queries_of s) in
-    (s, d, (ps, spot_replies s workers, sym (plain_text s ps (their_queries (queries_of s)) ((spot_replies s 0).on_the_spot refl))))
+    (ps, spot_replies s workers, sym (plain_text s ps (their_queries (queries_of s)) ((spot_replies s 0).on_the_spot refl)))
+
+pub plain_with_workers : PlainWithWorkers
+plain_with_workers input s workers d = (s, d, plain_report s workers)
 
 pub plain_without_workers : PlainWithoutWorkers
 plain_without_workers input output r = (r.0, r.1, r.2.2 ∙ plain_text r.0 r.2.0 r.2.1.queries (r.2.1.on_the_spot refl))

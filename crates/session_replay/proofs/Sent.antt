@@ -10,13 +10,12 @@ use Rattle.session_lines.specs.declared.session.Session.{Session}
 use Rattle.session_lines.specs.declared.fault.Word.{Word}
 use Rattle.session_lines.specs.declared.fault.DecodeFault.{DecodeFault}
 use Rattle.session_lines.specs.declared.fault.DecodeFault.TheVariants.{Bad, Lines}
-use Rattle.session_replay.specs.Replay.{answer_of, large_line, written_for, Does, IsOutput, Replays, Answered}
+use Rattle.session_replay.specs.Replay.{large_line, Answered, Does, IsAnswer, IsOutput, Writes}
 use Rattle.command_words.specs.declared.command.Task.{Task}
 use Rattle.command_words.specs.declared.command.Task.TheVariants as task
 use Rattle.session_replay.specs.declared.top.Status.{Status}
 use Rattle.session_replay.specs.declared.top.Status.TheVariants as status
 use Rattle.session_replay.proofs.Outcome.{Told, many_decoded, told, session_answer}
-use Rattle.session_replay.proofs.Replies.{plain_with_workers}
 
 if_had : (left : Option (List ℕ)) (input : List ℕ) (P : List ℕ → Type 0) → Had left input → P input → IfSome left P
 if_had None input P h p = tt
@@ -46,9 +45,9 @@ module _ (c : Task) (left left_after : Option (List ℕ)) (given given_after end
   pub not_sent : (d : Status) → (status.Done ≡ d → ⊥) → (status.Session ≡ d → ⊥) → (status.TooLarge ≡ d → ⊥) → (status.WriteFault ≡ d → ⊥) → r ≡ d → ⊥
   not_sent d x y z n k = one_of d kept.kinds (same d k n).0 x y z
 
-  does : (c : Task) (s : Session) → decoded a.input ≡ Ok s → written_for c s ≡ text → Does c a.input text
-  does (task.Replay workers) s d w = subst (λ (out : List ℕ). Replays a.input out workers) w (plain_with_workers a.input s workers d)
-  does task.Check s d w = (s, d, sym w)
+  does : (c : Task) (s : Session) → decoded a.input ≡ Ok s → Writes c s text → Does c a.input text
+  does (task.Replay workers) s d w = (s, d, w)
+  does task.Check s d w = (s, d, w)
 
   pub sent_done : r ≡ status.Done → (input : List ℕ) × WasRead left left_after given given_after ends ends_after input
       × ((output : List ℕ) × Appends written written_after output × Does c input output)
@@ -94,21 +93,20 @@ module _ (c : Task) (left left_after : Option (List ℕ)) (given given_after end
       × ((output : List ℕ) × IsOutput d input output × AppendsFront written written_after output)
   sent_front d e f = (a.input, a.taken, (text, subst (λ (d : Task). IsOutput d a.input text) (sym e) (output_by kept.kinds), subst (AppendsFront written written_after) is f))
 
-  is_status : (d : Status) (t : List ℕ) → answer_of c a.input ≡ (d, t) → st ≡ d
-  is_status d t e = ap (λ p. p.0) (sym a.answer ∙ e)
-
   module _ (no_fault : r ≡ status.WriteFault → ⊥) where
     sent_by : (r ≡ st) ⊎ (r ≡ status.WriteFault) → r ≡ st
     sent_by (inl e) = e
     sent_by (inr e) = absurd (no_fault e)
 
-    sent : (d : Status) (t : List ℕ) → answer_of c a.input ≡ (d, t) → r ≡ d
-    sent d t e = sent_by either ∙ is_status d t e
+    -- what answers a session is not the text of a bad line, nor of too many bytes
+    done_by : (s : Session) → length a.input ≤ 67108864 → decoded a.input ≡ Ok s → IsAnswer c a.input st text → st ≡ status.Done
+    done_by s le e (inl w) = w.0
+    done_by s le e (inr k) = ap (λ p. p.0) (sym k ∙ session_answer c a.input s le e)
 
     pub completes : IfSome left (λ input. length input ≤ 67108864 → (s : Session) → decoded input ≡ Ok s → (r ≡ status.Done) ⊎ (r ≡ status.Memory))
     completes =
         if_had left a.input (λ input. length input ≤ 67108864 → (s : Session) → decoded input ≡ Ok s → (r ≡ status.Done) ⊎ (r ≡ status.Memory)) a.taken.had
-        (λ le s e. inl (sent status.Done (written_for c s) (session_answer c a.input s le e)))
+        (λ le s e. inl (sent_by either ∙ done_by s le e a.answer))
 
     none_done : st ≡ status.Done → (67108864 < length a.input) ⊎ ((e : DecodeFault) × (decoded a.input ≡ Err e)) → ⊥
     none_done k (inl h) = omega (arith, (kept.done k).0)

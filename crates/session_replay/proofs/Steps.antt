@@ -119,7 +119,7 @@ all_lines rs i out all le e = all_written out all (ap (λ l. out ++ report_text 
 -- ---- the whole report
 
 -- what is written of events, of queries and at the end
-three_parts : (es qs rs : List Report) (mid out new : List ℕ) → mid ≡ report_text es → out ≡ mid ++ report_text qs → new ≡ out ++ report_text rs → new ≡ report_text (es ++ (qs ++ rs))
+pub three_parts : (es qs rs : List Report) (mid out new : List ℕ) → mid ≡ report_text es → out ≡ mid ++ report_text qs → new ≡ out ++ report_text rs → new ≡ report_text (es ++ (qs ++ rs))
 three_parts es qs rs mid out new m o n =
     n ∙ ap (λ x. x ++ report_text rs) (o ∙ ap (λ x. x ++ report_text qs) m) ∙ append_assoc (report_text es) (report_text qs) (report_text rs)
     ∙ ap (λ x. report_text es ++ x) (sym (text-append qs rs)) ∙ sym (text-append es (qs ++ rs))

@@ -6,6 +6,7 @@ pub mod Work
 pub mod Queries
 pub mod Held
 pub mod Working
+pub mod Beside
 pub mod Making
 pub mod MakingOn
 pub mod Replay

@@ -1,5 +1,5 @@
 -- A session that is made by a seed, and its summary.
-use Rattle.std.specs.Prelude.{◌≡◌, ℕ, ◌+◌, List, [], ◌∷◌, ◌++◌, length, map, nat_eq, codes, decimal, Bool, true, Option, None, Some, Ok, is_some, if◌then◌else◌}
+use Rattle.std.specs.Prelude.{◌≡◌, ℕ, ◌+◌, List, [], ◌∷◌, ◌++◌, length, nat_eq, codes, decimal, Bool, true, Option, None, Some, Ok, is_some, if◌then◌else◌}
 use Rattle.std.specs.List.{count_by, flat_map, list_all}
 use Rattle.std.specs.Cmp.Lexicographic.{pointwise}
 use Rattle.op_model.specs.Shown.{text}

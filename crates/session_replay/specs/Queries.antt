@@ -9,6 +9,7 @@ use Rattle.snapshot_search.specs.Starts.{starts}
 use Rattle.op_model.specs.declared.operation.Operation.{Operation}
 use Rattle.op_model.specs.Shown.{text}
 use Rattle.text_buffer.specs.Buffer.{BufferState}
+use Rattle.session_lines.specs.Report.{report_text}
 use Rattle.session_lines.specs.declared.session.SessionLine.{SessionLine}
 use Rattle.session_lines.specs.declared.session.SessionLine.TheVariants as line
 use Rattle.session_lines.specs.declared.session.Session.{Session}
@@ -22,6 +23,8 @@ use Rattle.session_lines.specs.declared.report.QueryAnswer.{QueryAnswer}
 use Rattle.session_lines.specs.declared.report.QueryAnswer.TheVariants as query
 use Rattle.session_lines.specs.declared.report.Report.{Report}
 use Rattle.session_lines.specs.declared.report.Report.TheVariants as report
+use Rattle.session_replay.specs.declared.queries.Question.{Question}
+use Rattle.session_replay.specs.declared.queries.Question.TheVariants.{StartsOf, PointOf, OffsetOf}
 use Rattle.session_replay.specs.Work.{State, after_all, all_events, at_end, buffer_of, opening, step}
 
 -- ---- the plain answers, on a text
@@ -43,17 +46,15 @@ abbrev pub offset_answer : Point → List ℕ → OffsetAnswer
 offset_answer p t =
     unwrap_or (option_map (λ (k : Place). offset.Place k.offset) (place_at_point t p)) (offset.Clips (point_of (point_clipped_back t p)) (point_of (point_clipped_on t p)))
 
--- what a query asks of a text
-pub data Question : Type 0 where
-  StartsOf : List ℕ → Question
-  PointOf : ℕ → Question
-  OffsetOf : Point → Question
-
--- the plain answer
+-- the plain answer to what a query asks of a text
 abbrev pub answer_on : Question → List ℕ → QueryAnswer
 answer_on (StartsOf needle) t = query.Find (find_answer needle t)
 answer_on (PointOf o) t = query.Point (point_answer o t)
 answer_on (OffsetOf p) t = query.Offset (offset_answer p t)
+
+-- the plain answer on what a replica has applied
+abbrev pub plain_answer : Question → List Operation → QueryAnswer
+plain_answer ask h = answer_on ask (text h)
 
 -- the line of query q, plainly answered on a text of n operations
 abbrev pub answer_line : ℕ → ℕ → Question → List ℕ → Report
@@ -165,3 +166,7 @@ pub record AreReplies (s : Session) (workers : ℕ) (ps : List Reply) : Type 0 w
   pub within : All (IsWithin (end_of s)) ps
   pub on_the_spot : workers ≡ 0 → All (λ (p : Reply). p.count ≡ count_of p.query.history) ps
   pub never_falls : AllPairs (NeverFalls workers) ps
+
+-- the text is the session's report with some replies to its queries that so many workers may give
+abbrev pub IsReport : Session → ℕ → List ℕ → Type 0
+IsReport s workers output = (ps : List Reply) × AreReplies s workers ps × (output ≡ report_text (report_with s (map (reply_line (end_of s)) ps)))

@@ -8,7 +8,7 @@ use Rattle.session_lines.specs.declared.fault.DecodeFault.{DecodeFault}
 use Rattle.session_lines.specs.declared.fault.DecodeFault.TheVariants.{Lines, Bad, OutOfMemory}
 use Rattle.session_replay.specs.Traffic.{WasRead, WasTaken}
 use Rattle.session_replay.specs.Making.{Makes}
-use Rattle.session_replay.specs.Queries.{AreReplies, Reply, end_of, reply_line, report_of, report_with}
+use Rattle.session_replay.specs.Queries.{AreReplies, IsReport, Reply, end_of, reply_line, report_of, report_with}
 use Rattle.command_words.specs.declared.command.Command.{Command}
 use Rattle.command_words.specs.declared.command.Command.TheVariants as command
 use Rattle.command_words.specs.declared.command.Task.{Task}
@@ -79,8 +79,21 @@ Ends (command.Make seed n edits) left left_after given given_after ends ends_aft
 
 -- ---- for private clauses
 
--- the status and the text that plainly answer what a source had left
+-- what a task may write for a session
+abbrev pub Writes : Task → Session → List ℕ → Type 0
+Writes (task.Replay workers) s output = IsReport s workers output
+Writes task.Check s output = output ≡ line_text (checked s)
+
+-- the input is a session, and the text is what the task may write for it
+abbrev pub IsWork : Task → List ℕ → Status → List ℕ → Type 0
+IsWork c input st text = (st ≡ status.Done) × (length input ≤ 67108864) × ((s : Session) × (decoded input ≡ Ok s) × Writes c s text)
+
+-- the status and the text answer an input: the plain answer, or what workers make of a session
+abbrev pub IsAnswer : Task → List ℕ → Status → List ℕ → Type 0
+IsAnswer c input st text = IsWork c input st text ⊎ (answer_of c input ≡ (st, text))
+
+-- the status and the text that answer what a source had left
 pub record Answered (c : Task) (left left_after : Option (List ℕ)) (given given_after ends ends_after : ℕ) (status : Status) (text : List ℕ) : Type 0 where
   pub input : List ℕ
   pub taken : WasTaken left left_after given given_after ends ends_after input
-  pub answer : answer_of c input ≡ (status, text)
+  pub answer : IsAnswer c input status text

@@ -4,6 +4,7 @@
 //! hold, where they tell it, and by counts.
 #![tactic(auto)]
 
+mod beside;
 mod counts;
 mod laws;
 mod making;
@@ -19,5 +20,6 @@ mod traffic;
 pub use counts::ReadCounts;
 pub use laws::{plain_with_workers, plain_without_queries, plain_without_workers};
 pub use memory::{MemSink, MemSource, SureSink, SureSource};
-pub use outside::{Failed, Gate, Sink, Source};
+pub use outside::{Failed, Sink, Source};
+pub use query_workers::Gate;
 pub use top::{Status, run};

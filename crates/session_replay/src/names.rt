@@ -31,7 +31,7 @@ pub fn find<'a, V>(names: &'a BTreeMap<String, V>, name: &Text) -> Option<&'a V>
     names.get(name.as_str())
 }
 
-/// An equal name.
+/// An equal text.
 pub fn copy_of(alloc: Global, name: &Text) -> Result<Text, AllocError>
     ensures { IfOk result (λ n. n ≡ name.now) }
 {

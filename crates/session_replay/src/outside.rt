@@ -1,11 +1,9 @@
-// What `run` is handed in place of the real input, output and clock of the threads.
+// What `run` is handed in place of the real input and output.
 ghost use Rattle.std.specs.Prelude.{◌≡◌, ◌<◌, ℕ, List, Option, IfOk, length};
 ghost use Rattle.std.specs.Io.{ReadsAtMost, WritesAtMost};
 ghost use Rattle.std.specs.Io.KnownBytes.{ReadConsumes, WriteAppends};
 ghost use Rattle.session_replay.specs.Causes.{HasCause, counted, bytes_given, ends_met};
 
-use std::sync::Wait;
-use std::thread::Threads;
 use thiserror::Error;
 
 /// A call of a source or a sink failed.
@@ -50,13 +48,4 @@ pub trait Sink {
         ensures takes { IfOk result (λ n. 0 < length piece.now → 0 < n) }
         ensures bytes { WriteAppends (written self.old) (written self.new) result piece.now }
         ensures cause { HasCause (faults self.old) (faults self.new) result };
-}
-
-/// Where threads are held, by tests that say which of them goes first.
-pub trait Gate: Sync {
-    /// Called by a worker before it answers a job, and by the editor before it works a line.
-    fn hold<R: Threads + Wait + Sync>(&self, rt: &R, worker: u32, job: u64);
-
-    /// Called by a worker once it has answered a job.
-    fn done<R: Threads + Wait + Sync>(&self, rt: &R, worker: u32, job: u64);
 }

@@ -6,20 +6,93 @@ ghost use Rattle.text_dims.specs.Places.{place_at_offset};
 ghost use Rattle.session_lines.specs.declared.session.SessionLine.{SessionLine};
 ghost use Rattle.session_lines.specs.declared.report.Report.{Report};
 ghost use Rattle.session_replay.specs.Working.{state_of};
-ghost use Rattle.session_replay.specs.Queries.{answer_line, count_of, find_answer, offset_answer, place_answer, plain_line, point_answer, query_at};
-ghost use Rattle.session_replay.specs.Queries.Question.{OffsetOf, PointOf, StartsOf};
+ghost use Rattle.session_replay.specs.Queries.{answer_line, count_of, find_answer, offset_answer, place_answer, plain_line, point_answer, query_at, question_of};
+ghost use Rattle.session_replay.specs.declared.queries.Question.TheVariants.{OffsetOf, PointOf, StartsOf};
 
+use crate::names;
 use crate::replay::Progress;
 use op_model::Text;
+use query_workers::Query;
 use rope_chunks::Rope;
 use session_lines::{
     FindAnswer, Numbers, OffsetAnswer, PointAnswer, QueryAnswer, Report, SessionLine,
 };
 use snapshot_search::{FindFault, find_all};
 use std::alloc::{AllocError, Global};
+use std::thread::Threads;
 use text_buffer::Snapshot;
 use text_dims::Point;
 use tree_cursor::Bias;
+
+/// What a query asks of a text.
+#[derive(Drop)]
+pub enum Question {
+    /// All places of a needle.
+    StartsOf(Text),
+    /// The point at a byte offset.
+    PointOf(u64),
+    /// The byte offset at a point.
+    OffsetOf(Point),
+}
+
+impl Query<QueryAnswer> for Question {
+    ghost use Rattle.session_replay.specs.Queries.{plain_answer};
+
+    ghost plain = { plain_answer };
+
+    fn answer<R: Threads + Sync>(
+        &self,
+        _rt: &R,
+        alloc: Global,
+        snapshot: &Snapshot,
+    ) -> Result<QueryAnswer, AllocError> {
+        let rope = snapshot.text();
+        match self {
+            Question::StartsOf(needle) => {
+                let answer = find_answer(alloc, rope, needle.as_str())?;
+                Ok(QueryAnswer::Find(answer))
+            }
+            Question::PointOf(offset) => Ok(QueryAnswer::Point(point_answer(rope, *offset))),
+            Question::OffsetOf(point) => Ok(QueryAnswer::Offset(offset_answer(rope, *point))),
+        }
+    }
+}
+
+/// The replica that a line asks, and what it asks, where the line is a query.
+pub fn question_of(alloc: Global, line: &SessionLine) -> Result<Option<(u16, Question)>, AllocError>
+    ensures { IfOk result (λ o. o ≡ question_of line.now) }
+{
+    match line {
+        SessionLine::Edit { .. } => Ok(None),
+        SessionLine::Undo { .. } => Ok(None),
+        SessionLine::Op(_) => Ok(None),
+        SessionLine::Uop(_) => Ok(None),
+        SessionLine::Give { .. } => Ok(None),
+        SessionLine::Text { .. } => Ok(None),
+        SessionLine::Anchor { .. } => Ok(None),
+        SessionLine::Where { .. } => Ok(None),
+        SessionLine::Mark { .. } => Ok(None),
+        SessionLine::Since { .. } => Ok(None),
+        SessionLine::Find { replica, needle } => {
+            let needle = names::copy_of(alloc, needle)?;
+            Ok(Some((*replica, Question::StartsOf(needle))))
+        }
+        SessionLine::Point { replica, offset } => {
+            Ok(Some((*replica, Question::PointOf(*offset))))
+        }
+        SessionLine::Offset {
+            replica,
+            row,
+            column,
+        } => {
+            let point = Point {
+                row: *row,
+                column: *column,
+            };
+            Ok(Some((*replica, Question::OffsetOf(point))))
+        }
+    }
+}
 
 // How many operations it has, the base not counted.
 fn applied_count(snapshot: &Snapshot) -> u64
@@ -76,8 +149,8 @@ fn offset_answer(rope: &Rope, point: Point) -> OffsetAnswer
     }
 }
 
-// The line of a query with that number, which was answered so on the snapshot.
-fn query_line(number: u64, answer: QueryAnswer, snapshot: &Snapshot) -> Report
+/// The line of a query with that number, which was answered so on the snapshot.
+pub fn query_line(number: u64, answer: QueryAnswer, snapshot: &Snapshot) -> Report
     ensures { result ≡ Report.Query number (count_of snapshot.now) answer }
 {
     Report::Query {

@@ -11,6 +11,7 @@ ghost use Rattle.session_lines.specs.declared.session.SessionLine.{SessionLine};
 ghost use Rattle.session_replay.specs.Work.{after_all, all_events, at_end, buffer_of, events, next_number, numbered, opened, step};
 ghost use Rattle.session_replay.specs.Queries.{plain_line, queries_from, query_at, report_of};
 ghost use Rattle.session_replay.specs.Making.{text_len};
+ghost use Rattle.session_replay.specs.Beside.{histories};
 ghost use Rattle.session_replay.specs.Names.{by_bytes};
 ghost use Rattle.session_replay.specs.Working.{state_of};
 ghost use Rattle.text_buffer.specs.Buffer.{BufferState};
@@ -290,6 +291,7 @@ impl Progress {
         ensures operations { IfOk result (λ p. p.operations.items ≡ []) }
         ensures anchors { IfOk result (λ p. by_bytes p.anchors.entries ≡ []) }
         ensures marks { IfOk result (λ p. by_bytes p.marks.entries ≡ []) }
+        ensures report { IfOk result (λ p. p.report.items ≡ []) }
     {
         Ok(Progress {
             replicas: replicas_over(alloc, ids, base)?,
@@ -316,6 +318,33 @@ impl Progress {
         ensures { result.now ≡ self.now.replicas.items }
     {
         self.replicas.as_slice()
+    }
+
+    /// The place of the replica with that id.
+    pub fn place_of(&self, id: u16) -> Option<usize>
+        ensures { result ≡ position (λ b. b.replica == id) self.now.replicas.items }
+    {
+        place_of(self.replicas.as_slice(), id)
+    }
+
+    /// What each replica is now.
+    pub fn snapshots(&self, alloc: Global) -> Result<Vec<Snapshot>, AllocError>
+        ensures { IfOk result (λ v. v.items ≡ histories self.now.replicas.items) }
+    {
+        let mut snapshots = Vec::new(alloc);
+        for replica in &self.replicas {
+            snapshots.push(replica.snapshot()?)?;
+        }
+        Ok(snapshots)
+    }
+
+    /// The text of the report, with these lines for the queries.
+    pub fn report_with(mut self, alloc: Global, answers: &[Report]) -> Result<Vec<u8>, AllocError>
+        ensures { IfOk result (λ v. v.items ≡ (self.report.items ++ report_text answers.now) ++ report_text (flat_map at_end self.replicas.items)) }
+    {
+        write_answers(alloc, answers, &mut self.report)?;
+        write_ends(alloc, self.replicas.as_slice(), &mut self.report)?;
+        Ok(self.report)
     }
 
     /// How many operation lines made an operation.

@@ -11,16 +11,19 @@ ghost use Rattle.session_lines.specs.Session.{IsSession, decoded};
 ghost use Rattle.session_lines.specs.Words.{bad_line, many_line};
 ghost use Rattle.session_lines.specs.Report.{checked, line_text};
 ghost use Rattle.session_replay.specs.Making.{Makes};
-ghost use Rattle.session_replay.specs.Replay.{Answered, Does, Ends, IsOutput, answer_of, large_line, usage_line, written_for};
+ghost use Rattle.session_replay.specs.Queries.{IsReport};
+ghost use Rattle.session_replay.specs.Replay.{Answered, Does, Ends, IsAnswer, IsOutput, Writes, large_line, usage_line};
 ghost use Rattle.session_lines.specs.declared.session.Session.{Session};
 ghost use Rattle.session_lines.specs.declared.fault.Word.{Word};
 ghost use Rattle.session_lines.specs.declared.fault.DecodeFault.{DecodeFault};
 
+use crate::beside::report_beside;
 use crate::making::make;
-use crate::outside::{Gate, Sink, Source};
+use crate::outside::{Sink, Source};
 use crate::replay::report;
 use crate::traffic::{InputFault, read_all, write_all};
 use command_words::{Command, Task, command_of};
+use query_workers::Gate;
 use session_lines::{DecodeFault, Report, Session, Word, decode, write_line};
 use std::alloc::{AllocError, Global};
 use std::sync::Wait;
@@ -71,26 +74,55 @@ fn check(alloc: Global, session: &Session) -> Result<Vec<u8>, AllocError>
     Ok(line)
 }
 
-/// What the task writes for a session.
-fn written(alloc: Global, task: Task, session: &Session) -> Result<Vec<u8>, AllocError>
+/// The text of a session's report. Without workers each query is answered on the spot, and the gate is not called.
+fn report_with<R: Threads + Wait + Sync, G: Gate>(
+    rt: &R,
+    alloc: Global,
+    gate: &G,
+    workers: u32,
+    session: &Session,
+) -> Result<Vec<u8>, AllocError>
     requires { IsSession 67108864 session.now }
-    ensures { IfOk result (λ v. v.items ≡ written_for task session.now) }
+    ensures { IfOk result (λ v. IsReport session.now workers v.items) }
+{
+    if workers == 0 {
+        report(alloc, session)
+    } else {
+        report_beside(rt, alloc, gate, workers, session)
+    }
+}
+
+/// What the task writes for a session.
+fn written<R: Threads + Wait + Sync, G: Gate>(
+    rt: &R,
+    alloc: Global,
+    gate: &G,
+    task: Task,
+    session: &Session,
+) -> Result<Vec<u8>, AllocError>
+    requires { IsSession 67108864 session.now }
+    ensures { IfOk result (λ v. Writes task session.now v.items) }
 {
     match task {
-        // No worker is started yet: every query is answered on the spot.
-        Task::Replay { workers: _ } => report(alloc, session),
+        Task::Replay { workers } => report_with(rt, alloc, gate, workers, session),
         Task::Check => check(alloc, session),
     }
 }
 
 /// What the task writes for an input, with the status.
 #[tactic(auto, unfolding(crate::specs::Replay::answer_of))]
-fn answer(alloc: Global, task: Task, input: &[u8]) -> Result<(Status, Vec<u8>), AllocError>
+fn answer<R: Threads + Wait + Sync, G: Gate>(
+    rt: &R,
+    alloc: Global,
+    gate: &G,
+    task: Task,
+    input: &[u8],
+) -> Result<(Status, Vec<u8>), AllocError>
     requires { length input.now ≤ 67108864 }
-    ensures { IfOk result (λ p. answer_of task input.now ≡ (p.0, p.1.items)) }
+    ensures { IfOk result (λ p. IsAnswer task input.now p.0 p.1.items) }
 {
     match decode(alloc, input) {
-        Ok(session) => Ok((Status::Done, written(alloc, task, &session)?)),
+        Ok(session) => Ok((Status::Done, written(rt, alloc, gate, task, &session)?)),
         Err(DecodeFault::Lines(_)) => {
             Ok((Status::TooLarge, bytes_of(alloc, "too large: lines\n")?))
         }
@@ -117,8 +149,10 @@ fn send<O: Sink>(out: &mut O, text: &[u8], status: Status) -> Status
 }
 
 /// Reads all that there is, at most one byte past the limit, and answers it.
-fn answer_source<I: Source>(
+fn answer_source<R: Threads + Wait + Sync, I: Source, G: Gate>(
+    rt: &R,
     alloc: Global,
+    gate: &G,
     task: Task,
     src: &mut I,
 ) -> Result<(Status, Vec<u8>), InputFault>
@@ -128,14 +162,21 @@ fn answer_source<I: Source>(
     ensures bounded { I.given src.new ≤ I.given src.old + 67108865 }
 {
     match read_all(alloc, src) {
-        Ok(input) => Ok(answer(alloc, task, input.as_slice())?),
+        Ok(input) => Ok(answer(rt, alloc, gate, task, input.as_slice())?),
         Err(InputFault::TooLarge) => Ok((Status::TooLarge, bytes_of(alloc, "too large: bytes\n")?)),
         Err(fault) => Err(fault),
     }
 }
 
 /// Reads a session, and writes what the task makes of it.
-fn work<I: Source, O: Sink>(alloc: Global, task: Task, src: &mut I, out: &mut O) -> Status
+fn work<R: Threads + Wait + Sync, I: Source, O: Sink, G: Gate>(
+    rt: &R,
+    alloc: Global,
+    gate: &G,
+    task: Task,
+    src: &mut I,
+    out: &mut O,
+) -> Status
     ensures usage { result ≡ Status.Usage → ⊥ }
     ensures done { result ≡ Status.Done → (input : List ℕ)
         × WasRead (I.left src.old) (I.left src.new) (I.given src.old) (I.given src.new) (I.ends src.old) (I.ends src.new) input
@@ -164,7 +205,7 @@ fn work<I: Source, O: Sink>(alloc: Global, task: Task, src: &mut I, out: &mut O)
         → IfSome (I.left src.old) (λ input. (67108864 < length input) ⊎ ((e : DecodeFault) × (decoded input ≡ Err e))
         → (result ≡ Status.Session) ⊎ ((result ≡ Status.TooLarge) ⊎ (result ≡ Status.Memory))) }
 {
-    match answer_source(alloc, task, src) {
+    match answer_source(rt, alloc, gate, task, src) {
         Ok((status, text)) => send(out, text.as_slice(), status),
         Err(InputFault::Failed) => Status::ReadFault,
         Err(_) => Status::Memory,
@@ -270,11 +311,8 @@ pub fn run<R: Threads + Wait + Sync, I: Source, O: Sink, G: Gate>(
         Ok(None) => return send(out, USAGE.as_bytes(), Status::Usage),
         Err(_) => return Status::Memory,
     };
-    // No worker is started yet: the gate is not called.
-    let _ = rt;
-    let _ = gate;
     match command {
-        Command::Read(task) => work(alloc, task, src, out),
+        Command::Read(task) => work(rt, alloc, gate, task, src, out),
         Command::Make {
             seed,
             replicas,

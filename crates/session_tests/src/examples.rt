@@ -1,5 +1,5 @@
 //! The sessions of examples/ and their reports. `examples/compare.py` compares the rows with the files.
-use crate::replaying::comes_to;
+use crate::replaying::{ON_THE_SPOT, come_to};
 use session_replay::Status;
 use std::test::Fail;
 
@@ -272,7 +272,7 @@ final 2: "The very quick brown fox.\n"
 fn examples_and_their_reports(rt: HostRuntime) -> Result<(), Fail> {
     for (name, session, status, report) in EXAMPLES {
         assert!(rt;
-            comes_to(&rt, rt.alloc(), "replay", session, *status, report)?,
+            come_to(&rt, rt.alloc(), ON_THE_SPOT, session, *status, report)?,
             "of {name}"
         );
     }

@@ -7,6 +7,8 @@ mod ends;
 #[cfg(test)]
 mod examples;
 #[cfg(test)]
+mod gates;
+#[cfg(test)]
 mod long;
 #[cfg(test)]
 mod making;

@@ -13,6 +13,22 @@ impl Gate for Passing {
     fn done<R: Threads + Wait + Sync>(&self, _rt: &R, _worker: u32, _job: u64) {}
 }
 
+// Calls `run` with these words, its threads being held at the gate.
+pub fn call_at<R: Threads + Wait + Sync, I: Source, O: Sink, G: Gate>(
+    rt: &R,
+    alloc: Global,
+    words: &[&str],
+    source: &mut I,
+    sink: &mut O,
+    gate: &G,
+) -> Result<Status, AllocError> {
+    let mut texts = Vec::new(alloc);
+    for word in words {
+        texts.push(String::from_str(alloc, word)?)?;
+    }
+    Ok(run(rt, alloc, texts.as_slice(), source, sink, gate))
+}
+
 // Calls `run` with these words.
 pub fn call<R: Threads + Wait + Sync, I: Source, O: Sink>(
     rt: &R,
@@ -21,11 +37,7 @@ pub fn call<R: Threads + Wait + Sync, I: Source, O: Sink>(
     source: &mut I,
     sink: &mut O,
 ) -> Result<Status, AllocError> {
-    let mut texts = Vec::new(alloc);
-    for word in words {
-        texts.push(String::from_str(alloc, word)?)?;
-    }
-    Ok(run(rt, alloc, texts.as_slice(), source, sink, &Passing))
+    call_at(rt, alloc, words, source, sink, &Passing)
 }
 
 // Whether a command on the input, 8 bytes a call, ends with this status, and writes this.
@@ -55,14 +67,17 @@ pub fn come_to<R: Threads + Wait + Sync>(
     Ok(status == want && sink.bytes() == output.as_bytes())
 }
 
-// The first of the sessions whose replay does not write its report.
+// The words for a report in which each query is answered on the spot.
+pub const ON_THE_SPOT: &[&str] = &["replay", "--workers", "0"];
+
+// The first of the sessions whose replay without workers does not write its report.
 pub fn first_wrong<'a, R: Threads + Wait + Sync>(
     rt: &R,
     alloc: Global,
     sessions: &'a [(&'a str, &'a str)],
 ) -> Result<Option<&'a str>, AllocError> {
     for (session, report) in sessions {
-        if !comes_to(rt, alloc, "replay", session, Status::Done, report)? {
+        if !come_to(rt, alloc, ON_THE_SPOT, session, Status::Done, report)? {
             return Ok(Some(*session));
         }
     }

@@ -1,6 +1,6 @@
 use Rattle.std.proofs.Common.{◌≡◌, Some}
 use Rattle.std.specs.Option.{option_map}
-use Rattle.session_replay.specs.Queries.Question.{OffsetOf}
+use Rattle.session_replay.specs.declared.queries.Question.TheVariants.{OffsetOf}
 use Rattle.session_replay.specs.Work.{buffer_of}
 use Rattle.session_replay.proofs.QueryLines.{asked, history}
 use Rattle.session_replay.proofs.replay.Progress.offset.Goals as goal

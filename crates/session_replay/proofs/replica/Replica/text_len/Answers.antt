@@ -1,4 +1,4 @@
-use Rattle.std.proofs.Common.{◌≡◌, ◌∙◌, length, ap, subst, arith}
+use Rattle.std.proofs.Common.{◌≡◌, ◌∙◌, length, ap, arith}
 use Rattle.op_model.specs.Shown.{text}
 use Rattle.text_dims.specs.declared.summary.TextSummary.{TextSummary}
 use Rattle.text_buffer.specs.Buffer.{BufferState, IsBuffer}

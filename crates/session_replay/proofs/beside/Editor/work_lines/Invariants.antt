@@ -1,0 +1,22 @@
+use Rattle.std.proofs.Common.{◌≡◌, ◌+◌, ◌++◌, List, drop}
+use Rattle.query_workers.specs.Asks.{Ask}
+use Rattle.session_lines.specs.Report.{report_text}
+use Rattle.session_replay.specs.Work.{all_events, after_all}
+use Rattle.session_replay.specs.Working.{state_of}
+use Rattle.session_replay.specs.Beside.{IsAsking, KeepsEnds}
+use Rattle.session_replay.specs.declared.queries.Question.{Question}
+use Rattle.session_replay.proofs.Growth.{AllGrow}
+use Rattle.session_replay.proofs.Asking.{Leads}
+use Rattle.session_replay.proofs.beside.Editor.work_lines.Given as goal
+
+abbrev pub invariant-loop-line : goal.invariant-loop-line
+invariant-loop-line g l = record {
+  number : l.number ≡ l.line-index + 1;
+  workers : l.self.workers ≡ l.fn.self.workers;
+  report : l.self.progress.report.items ++ report_text (all_events (drop l.line-index l.lines) (state_of l.self.progress)) ≡ l.fn.self.progress.report.items ++ report_text (all_events l.lines (state_of l.fn.self.progress));
+  state : after_all (drop l.line-index l.lines) (state_of l.self.progress) ≡ after_all l.lines (state_of l.fn.self.progress);
+  grows : AllGrow l.fn.self.progress.replicas.items l.self.progress.replicas.items;
+  ends : KeepsEnds l.fn.self.dispatcher l.fn.publishers l.self.dispatcher l.publishers;
+  asking : (asks : List (Ask Question)) → IsAsking l.fn.self.progress.replicas.items asks l.fn.self.dispatcher l.fn.publishers
+      → Leads l.lines (state_of l.fn.self.progress) asks (drop l.line-index l.lines) (state_of l.self.progress) l.self.dispatcher l.publishers;
+}

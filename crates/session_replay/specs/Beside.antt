@@ -1,0 +1,81 @@
+-- What an editor asks of the workers beside it, and what it leaves.
+use Rattle.std.specs.Prelude.{◌≡◌, ℕ, ◌+◌, ◌≤◌, ◌==◌, List, [], ◌++◌, length, map}
+use Rattle.std.specs.List.{position_or_len}
+use Rattle.op_model.specs.declared.operation.Operation.{Operation}
+use Rattle.text_buffer.specs.Buffer.{BufferState}
+use Rattle.text_buffer.specs.Document.{IsFront}
+use Rattle.session_lines.specs.Report.{report_text}
+use Rattle.session_lines.specs.Session.{query_count}
+use Rattle.session_lines.specs.declared.session.SessionLine.{SessionLine}
+use Rattle.session_lines.specs.declared.report.Report.{Report}
+use Rattle.session_lines.specs.declared.report.Report.TheVariants as report
+use Rattle.session_lines.specs.declared.report.QueryAnswer.{QueryAnswer}
+use Rattle.query_workers.specs.Answers.{ArePaired}
+use Rattle.query_workers.specs.Asks.{Ask}
+use Rattle.query_workers.specs.declared.query.Answer.{Answer}
+use Rattle.query_dispatch.specs.Dealt.{HasAsked, pairs_in, queues_of}
+use Rattle.query_dispatch.specs.Shown.{AreLevel, AreTied, rows_of, shown_lists}
+use Rattle.query_dispatch.specs.Settled.{IsReady}
+use Rattle.query_dispatch.specs.States.{DispatcherState, PublishersState}
+use Rattle.session_replay.specs.Queries.{Query, count_of, queries_from}
+use Rattle.session_replay.specs.declared.queries.Question.{Question}
+use Rattle.session_replay.specs.Work.{after_all, all_events}
+use Rattle.session_replay.specs.Working.{state_of}
+use Rattle.session_replay.specs.declared.beside.Editor.{Editor}
+use Rattle.session_replay.specs.declared.beside.Edited.{Edited}
+
+-- what each replica has applied
+abbrev pub histories : List BufferState → List (List Operation)
+histories bs = map (λ (b : BufferState). b.history) bs
+
+-- the place of replica r
+abbrev pub place_among : List BufferState → ℕ → ℕ
+place_among bs r = position_or_len (λ (b : BufferState). b.replica == r) bs
+
+-- what a query asks of a worker, its replica being named by its place
+abbrev pub ask_among : List BufferState → Query → Ask Question
+ask_among bs c = record { number = c.number; replica = place_among bs c.replica; query = c.question; history = c.history }
+
+abbrev pub asks_among : List BufferState → List Query → List (Ask Question)
+asks_among bs cs = map (ask_among bs) cs
+
+-- the line of an answer
+abbrev pub line_of : Answer Question QueryAnswer → Report
+line_of a = report.Query a.number (count_of a.snapshot) a.answer
+
+-- an editor over these buffers that has asked this: each pair shows a front of what its replica has applied
+pub record IsAsking (bs : List BufferState) (asks : List (Ask Question)) (d : DispatcherState Question) (p : PublishersState) : Type 0 where
+  pub few : length bs ≤ 64
+  pub asked : HasAsked d asks
+  pub level : AreLevel p
+  pub tied : AreTied d.inboxes p
+  pub fronts : ArePaired IsFront (shown_lists p) (histories bs)
+
+-- the queues, the pairs and the room are as before
+pub record KeepsEnds (d : DispatcherState Question) (p : PublishersState) (e : DispatcherState Question) (q : PublishersState) : Type 0 where
+  pub workers : q.workers ≡ p.workers
+  pub rows : rows_of q ≡ rows_of p
+  pub queues : queues_of e.inboxes ≡ queues_of d.inboxes
+  pub pairs : pairs_in e.inboxes ≡ pairs_in d.inboxes
+  pub limit : e.limit ≡ d.limit
+
+-- an editor over these buffers that has asked this has left: its answers can be gathered from the other ends of the same queues
+pub record HasLeft (bs : List BufferState) (asks : List (Ask Question)) (d : DispatcherState Question) (e : Edited) : Type 0 where
+  pub shown : List (List Operation)
+  pub fronts : ArePaired IsFront shown (histories bs)
+  pub ready : IsReady e.gathering.inboxes.items (map (λ v. v.items) e.gathering.tolds.items) e.gathering.sizes.items shown asks
+  pub count : e.gathering.count ≡ length asks
+  pub queues : queues_of e.gathering.inboxes.items ≡ queues_of d.inboxes
+  pub pairs : pairs_in e.gathering.inboxes.items ≡ pairs_in d.inboxes
+
+-- an editor that has asked nothing yet, and has room for the queries of these lines
+pub record CanEdit (lines : List SessionLine) (o : Editor) (p : PublishersState) : Type 0 where
+  pub asking : IsAsking o.progress.replicas.items [] o.dispatcher p
+  pub workers : o.workers ≡ p.workers
+  pub room : o.dispatcher.count + query_count lines ≤ o.dispatcher.limit
+
+-- an editor that has worked these lines and asked their queries has left
+pub record HasEdited (lines : List SessionLine) (o : Editor) (e : Edited) : Type 0 where
+  pub report : e.progress.report.items ≡ o.progress.report.items ++ report_text (all_events lines (state_of o.progress))
+  pub state : state_of e.progress ≡ after_all lines (state_of o.progress)
+  pub left : HasLeft e.progress.replicas.items (asks_among o.progress.replicas.items (queries_from 1 lines (state_of o.progress))) o.dispatcher e

@@ -1,0 +1,327 @@
+// A session whose queries are answered by workers beside the editor.
+ghost use Rattle.std.specs.Prelude.{◌≡◌, ◌≤◌, ◌<◌, ◌+◌, [], ◌∷◌, ◌++◌, List, length, map, IfOk, OnErr, OnOk, All};
+ghost use Rattle.std.specs.List.{flat_map};
+ghost use Rattle.session_lines.specs.Report.{report_text};
+ghost use Rattle.session_lines.specs.Session.{IsSession, query_count};
+ghost use Rattle.session_lines.specs.declared.report.QueryAnswer.{QueryAnswer};
+ghost use Rattle.query_workers.specs.Asks.{Ask};
+ghost use Rattle.query_workers.specs.States.{DeskState};
+ghost use Rattle.query_workers.specs.declared.query.Answer.{Answer};
+ghost use Rattle.query_dispatch.specs.Dealt.{AreEnds, HasAsked, told_lists, told_pairs};
+ghost use Rattle.query_dispatch.specs.Settled.{AreGathered, HaveWorked, IsPast};
+ghost use Rattle.query_dispatch.specs.Shown.{AreLevel, columns, rows_of, shown_lists};
+ghost use Rattle.query_dispatch.specs.States.{DispatcherState};
+ghost use Rattle.session_replay.specs.Beside.{CanEdit, HasEdited, HasLeft, IsAsking, KeepsEnds, asks_among, histories, line_of};
+ghost use Rattle.session_replay.specs.Queries.{IsReport, plain_answer, queries_from, query_at};
+ghost use Rattle.session_replay.specs.Work.{after_all, all_events, at_end, events, step};
+ghost use Rattle.session_replay.specs.Working.{state_of};
+ghost use Rattle.session_replay.specs.declared.queries.Question.{Question};
+
+use crate::queries::{Question, query_line, question_of};
+use crate::replay::Progress;
+use query_dispatch::{Dispatcher, Gathering, Publishers, open_desks};
+use query_workers::{Answer, Desk, Done, Gate, work_beside};
+use session_lines::{QueryAnswer, Report, Session, SessionLine};
+use snapshot_pub::Told;
+use std::alloc::{AllocError, Global};
+use std::sync::Wait;
+use std::thread::Threads;
+
+/// The editor: the session as far as it was worked, and where its queries are put.
+#[derive(Drop)]
+pub struct Editor {
+    workers: u32,
+    progress: Progress,
+    dispatcher: Dispatcher<Question>,
+}
+
+/// What the editor leaves: the session as it was worked, and what the answers are gathered from.
+#[derive(Drop)]
+pub struct Edited {
+    progress: Progress,
+    gathering: Gathering<Question>,
+}
+
+impl Editor {
+    /// Puts the query that a line is, if it is one.
+    fn ask<R: Wait>(
+        &mut self,
+        rt: &R,
+        alloc: Global,
+        publishers: &mut Publishers,
+        line: &SessionLine,
+    ) -> Result<(), AllocError>
+        requires asking { (asks : List (Ask Question)) × IsAsking self.old.progress.replicas.items asks self.old.dispatcher publishers.old }
+        requires room { self.old.dispatcher.count + query_count (line.now ∷ []) ≤ self.old.dispatcher.limit }
+        ensures same { (self.new.workers ≡ self.old.workers) × (self.new.progress ≡ self.old.progress) }
+        ensures ends { KeepsEnds self.old.dispatcher publishers.old self.new.dispatcher publishers.new }
+        ensures asking { OnOk result ((asks : List (Ask Question)) → IsAsking self.old.progress.replicas.items asks self.old.dispatcher publishers.old
+            → IsAsking self.old.progress.replicas.items (asks ++ asks_among self.old.progress.replicas.items (query_at (length asks + 1) line.now (state_of self.old.progress))) self.new.dispatcher publishers.new) }
+        ensures err { OnErr result (self.new.dispatcher ≡ self.old.dispatcher) }
+    {
+        let Some((id, question)) = question_of(alloc, line)? else {
+            return Ok(());
+        };
+        let Some(place) = self.progress.place_of(id) else {
+            return Ok(());
+        };
+        let snapshot = self.progress.replicas()[place].snapshot()?;
+        let place = place as u32;
+        self.dispatcher
+            .ask(rt, publishers, place, &snapshot, question)?;
+        Ok(())
+    }
+
+    /// Works a line, and puts it where it is a query.
+    fn work_line<R: Wait>(
+        &mut self,
+        rt: &R,
+        alloc: Global,
+        publishers: &mut Publishers,
+        line: &SessionLine,
+    ) -> Result<(), AllocError>
+        requires asking { (asks : List (Ask Question)) × IsAsking self.old.progress.replicas.items asks self.old.dispatcher publishers.old }
+        requires room { self.old.dispatcher.count + query_count (line.now ∷ []) ≤ self.old.dispatcher.limit }
+        ensures same { self.new.workers ≡ self.old.workers }
+        ensures report { OnOk result (self.new.progress.report.items ≡ self.old.progress.report.items ++ report_text (events line.now (state_of self.old.progress))) }
+        ensures state { OnOk result (state_of self.new.progress ≡ step line.now (state_of self.old.progress)) }
+        ensures ends { KeepsEnds self.old.dispatcher publishers.old self.new.dispatcher publishers.new }
+        ensures asking { OnOk result ((asks : List (Ask Question)) → IsAsking self.old.progress.replicas.items asks self.old.dispatcher publishers.old
+            → IsAsking self.new.progress.replicas.items (asks ++ asks_among self.old.progress.replicas.items (query_at (length asks + 1) line.now (state_of self.old.progress))) self.new.dispatcher publishers.new) }
+        ensures err { OnErr result ((asks : List (Ask Question)) × HasAsked self.new.dispatcher asks) }
+    {
+        self.ask(rt, alloc, publishers, line)?;
+        self.progress.work_line(alloc, line)?;
+        Ok(())
+    }
+
+    /// Works the lines in their order, each once the gate lets the editor pass, and puts those that are queries.
+    fn work_lines<R: Threads + Wait + Sync, G: Gate>(
+        &mut self,
+        rt: &R,
+        alloc: Global,
+        gate: &G,
+        publishers: &mut Publishers,
+        lines: &[SessionLine],
+    ) -> Result<(), AllocError>
+        requires asking { (asks : List (Ask Question)) × IsAsking self.old.progress.replicas.items asks self.old.dispatcher publishers.old }
+        requires room { self.old.dispatcher.count + query_count lines.now ≤ self.old.dispatcher.limit }
+        ensures same { self.new.workers ≡ self.old.workers }
+        ensures report { OnOk result (self.new.progress.report.items ≡ self.old.progress.report.items ++ report_text (all_events lines.now (state_of self.old.progress))) }
+        ensures state { OnOk result (state_of self.new.progress ≡ after_all lines.now (state_of self.old.progress)) }
+        ensures ends { KeepsEnds self.old.dispatcher publishers.old self.new.dispatcher publishers.new }
+        ensures asking { OnOk result ((asks : List (Ask Question)) → IsAsking self.old.progress.replicas.items asks self.old.dispatcher publishers.old
+            → IsAsking self.new.progress.replicas.items (asks ++ asks_among self.old.progress.replicas.items (queries_from (length asks + 1) lines.now (state_of self.old.progress))) self.new.dispatcher publishers.new) }
+        ensures err { OnErr result ((asks : List (Ask Question)) × HasAsked self.new.dispatcher asks) }
+    {
+        let mut number = 1;
+        for line in lines {
+            number += 1;
+            gate.hold(rt, self.workers, number);
+            self.work_line(rt, alloc, publishers, line)?;
+        }
+        Ok(())
+    }
+
+    /// Puts the end marks, and leaves what the answers are gathered from.
+    fn leave<R: Wait>(
+        self,
+        rt: &R,
+        alloc: Global,
+        publishers: &Publishers,
+    ) -> Result<Edited, AllocError>
+        requires asking { (asks : List (Ask Question)) × IsAsking self.progress.replicas.items asks self.dispatcher publishers.now }
+        requires workers { self.workers ≡ publishers.now.workers }
+        ensures progress { IfOk result (λ e. e.progress ≡ self.progress) }
+        ensures left { IfOk result (λ e. (asks : List (Ask Question)) → IsAsking self.progress.replicas.items asks self.dispatcher publishers.now
+            → HasLeft self.progress.replicas.items asks self.dispatcher e) }
+    {
+        let Editor {
+            workers,
+            progress,
+            dispatcher,
+        } = self;
+        let count = dispatcher.count();
+        let inboxes = dispatcher.end(rt);
+        let tolds = tell_workers(alloc, publishers, workers)?;
+        let sizes = publishers.sizes(alloc)?;
+        let gathering = Gathering {
+            inboxes,
+            tolds,
+            sizes,
+            count,
+        };
+        Ok(Edited {
+            progress,
+            gathering,
+        })
+    }
+
+    /// Puts the end marks, so that the workers end.
+    fn give_up<R: Wait>(self, rt: &R)
+        requires { (asks : List (Ask Question)) × HasAsked self.dispatcher asks }
+    {
+        let Editor {
+            workers: _,
+            progress: _,
+            dispatcher,
+        } = self;
+        let _inboxes = dispatcher.end(rt);
+    }
+
+    /// Works the lines, and puts the end marks, also where memory was wanted.
+    fn edit<R: Threads + Wait + Sync, G: Gate>(
+        mut self,
+        rt: &R,
+        alloc: Global,
+        gate: &G,
+        publishers: &mut Publishers,
+        lines: &[SessionLine],
+    ) -> Result<Edited, AllocError>
+        requires { CanEdit lines.now self publishers.old }
+        ensures { IfOk result (λ e. HasEdited lines.now self e) }
+    {
+        match self.work_lines(rt, alloc, gate, publishers, lines) {
+            Ok(()) => self.leave(rt, alloc, publishers),
+            Err(refused) => {
+                self.give_up(rt);
+                Err(refused)
+            }
+        }
+    }
+}
+
+/// What was last published to the pairs of each worker.
+fn tell_workers(
+    alloc: Global,
+    publishers: &Publishers,
+    workers: u32,
+) -> Result<Vec<Vec<Told>>, AllocError>
+    requires workers { workers ≡ publishers.now.workers }
+    requires level { AreLevel publishers.now }
+    ensures pairs { IfOk result (λ v. map told_pairs (map (λ t. t.items) v.items) ≡ columns workers (rows_of publishers.now)) }
+    ensures lists { IfOk result (λ v. All (λ t. told_lists t ≡ shown_lists publishers.now) (map (λ t. t.items) v.items)) }
+{
+    let mut tolds = Vec::new(alloc);
+    for worker in 0..workers {
+        tolds.push(publishers.tell_all(alloc, worker)?)?;
+    }
+    Ok(tolds)
+}
+
+/// The lines of the answers.
+fn lines_of(
+    alloc: Global,
+    answers: Vec<Answer<Question, QueryAnswer>>,
+) -> Result<Vec<Report>, AllocError>
+    ensures { IfOk result (λ v. v.items ≡ map line_of answers.items) }
+{
+    let mut lines = Vec::new(alloc);
+    for answer in answers {
+        let Answer {
+            number,
+            replica: _,
+            query: _,
+            snapshot,
+            answer,
+        } = answer;
+        lines.push(query_line(number, answer, &snapshot))?;
+    }
+    Ok(lines)
+}
+
+/// The text of the report, with the workers' answers in the order of the queries.
+fn gather<R: Threads + Sync>(
+    rt: &R,
+    alloc: Global,
+    edited: Edited,
+    dones: Vec<Done<Question, QueryAnswer>>,
+) -> Result<Vec<u8>, AllocError>
+    requires { (asks : List (Ask Question)) × (d : DispatcherState Question) × (desks : List DeskState) × HasLeft edited.progress.replicas.items asks d edited
+        × All (IsPast (histories edited.progress.replicas.items)) asks × AreEnds d.inboxes desks × HaveWorked plain_answer desks dones.items }
+    ensures { (asks : List (Ask Question)) → (d : DispatcherState Question) → HasLeft edited.progress.replicas.items asks d edited
+        → IfOk result (λ v. (answers : List (Answer Question QueryAnswer)) × AreGathered plain_answer (length d.inboxes) (histories edited.progress.replicas.items) asks answers
+        × (v.items ≡ (edited.progress.report.items ++ report_text (map line_of answers)) ++ report_text (flat_map at_end edited.progress.replicas.items))) }
+{
+    let Edited {
+        progress,
+        gathering,
+    } = edited;
+    let lasts = progress.snapshots(alloc)?;
+    let answers = gathering.gather(rt, alloc, dones, lasts.as_slice())?;
+    let lines = lines_of(alloc, answers)?;
+    progress.report_with(alloc, lines.as_slice())
+}
+
+/// Runs the editor beside its workers, until all have ended.
+fn edit_beside<R: Threads + Wait + Sync, G: Gate>(
+    rt: &R,
+    alloc: Global,
+    gate: &G,
+    publishers: &mut Publishers,
+    editor: Editor,
+    desks: Vec<Desk<Question>>,
+    lines: &[SessionLine],
+) -> Result<(Edited, Vec<Done<Question, QueryAnswer>>), AllocError>
+    requires { CanEdit lines.now editor publishers.old }
+    ensures edited { IfOk result (λ r. HasEdited lines.now editor r.0) }
+    ensures worked { IfOk result (λ r. HaveWorked plain_answer desks.items r.1.items) }
+{
+    let (edited, dones) = work_beside(
+        rt,
+        alloc,
+        gate,
+        desks,
+        move || -> Result<Edited, AllocError>
+            requires { CanEdit lines.now editor publishers.now }
+            ensures { IfOk result (λ e. HasEdited lines.entry.now editor e) }
+        { editor.edit(rt, alloc, gate, publishers, lines) },
+    );
+    Ok((edited?, dones?))
+}
+
+/// Opens the pairs and queues, and replays the session beside the workers.
+fn replay_beside<R: Threads + Wait + Sync, G: Gate>(
+    rt: &R,
+    alloc: Global,
+    gate: &G,
+    publishers: &mut Publishers,
+    workers: u32,
+    session: &Session,
+) -> Result<Vec<u8>, AllocError>
+    requires session { IsSession 67108864 session.now }
+    requires some { 1 ≤ workers }
+    requires none { (publishers.old.workers ≡ workers) × (publishers.old.list ≡ []) × (publishers.old.sizes ≡ []) }
+    ensures { IfOk result (λ v. IsReport session.now workers v.items) }
+{
+    let progress = Progress::new(alloc, session.replicas.as_slice(), session.base.as_str())?;
+    let firsts = progress.snapshots(alloc)?;
+    let lines = session.lines.as_slice();
+    let limit = session.query_count();
+    let (dispatcher, desks) = open_desks(rt, alloc, publishers, firsts, limit)?;
+    let editor = Editor {
+        workers,
+        progress,
+        dispatcher,
+    };
+    let (edited, dones) = edit_beside(rt, alloc, gate, publishers, editor, desks, lines)?;
+    gather(rt, alloc, edited, dones)
+}
+
+/// The text of a session's report, its queries answered by so many workers, each in a thread, beside the editor.
+pub fn report_beside<R: Threads + Wait + Sync, G: Gate>(
+    rt: &R,
+    alloc: Global,
+    gate: &G,
+    workers: u32,
+    session: &Session,
+) -> Result<Vec<u8>, AllocError>
+    requires session { IsSession 67108864 session.now }
+    requires some { 1 ≤ workers }
+    ensures { IfOk result (λ v. IsReport session.now workers v.items) }
+{
+    let mut publishers = Publishers::new(alloc, workers);
+    let report = replay_beside(rt, alloc, gate, &mut publishers, workers, session);
+    publishers.close(rt);
+    report
+}
