@@ -1,5 +1,6 @@
 -- A text that is divided, and what is found in its parts.
-use Rattle.std.proofs.Common.{◌≡◌, ℕ, ◌+◌, ◌-◌, ◌<◌, ◌≤◌, List, [], ◌∷◌, ◌++◌, length, slice_index, refl, sym, ap, subst, ◌∙◌, arith, ⊎_elim, length-append, Result, Ok, IfOk}
+use Rattle.std.proofs.Common.{◌≡◌, ℕ, zero, suc, ◌+◌, ◌-◌, ◌<◌, ◌≤◌, List, [], ◌∷◌, ◌++◌, length, slice_index, slice_index_or, refl, sym, ap, subst, ◌∙◌, arith, ⊎_elim, length-append, Result, Ok, IfOk}
+use Rattle.std.specs.List.{AllZip, range_with_len}
 use Rattle.std.specs.Str.{IsCharBoundary, IsUtf8}
 use Rattle.std.proofs.lemmas.Bool.{cases_lt}
 use Rattle.std.proofs.lemmas.List.{get_or_append_left, get_or_push}
@@ -66,3 +67,10 @@ all_parts text needle all some a e h = h ∙ (ap (starts_between text needle 0) 
 
 pub IfOk_at : {T E : Type 0} (P : T → Type 0) (r s : Result T E) (x : T) → IfOk r P → s ≡ r → s ≡ Ok x → P x
 IfOk_at {T} {E} P r s x h e f = let Q : Result T E → Type 0 = λ z. IfOk z P in subst Q (sym e ∙ f) h
+
+-- what stands beside the numbers of a range, at one place
+pub item_at : {Y : Type 0} (R : ℕ → Y → Type 0) (a n : ℕ) (ys : List Y) → AllZip R (range_with_len a n) ys → (j : ℕ) (d : Y) → j < n → (k : ℕ) → a + j ≡ k → R k (slice_index_or ys j d)
+item_at R a zero ys h j d lt k e = absurd (omega arith)
+item_at R a (suc n) [] h j d lt k e = absurd h
+item_at R a (suc n) (y ∷ ys) h zero d lt k e = subst (λ i. R i y) (omega arith) h.0
+item_at R a (suc n) (y ∷ ys) h (suc j) d lt k e = item_at R (a + 1) n ys h.1 j d (omega arith) k (omega arith)

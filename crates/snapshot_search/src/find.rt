@@ -11,8 +11,8 @@ use rope_chunks::Rope;
 use std::alloc::Global;
 use std::thread::Threads;
 
-/// The most threads that one search starts.
-const MOST_THREADS: u32 = 16;
+/// The most parts of one search.
+const MOST_PARTS: u32 = 16;
 
 /// All places of the rope's text, as byte offsets, at which the needle stands, ascending, where these overlap too: in
 /// `baaaa` the needle `aa` stands at 1, 2 and 3.
@@ -32,8 +32,8 @@ pub fn find_all(alloc: Global, rope: &Rope, needle: &str) -> Result<Vec<u64>, Fi
     Ok(found)
 }
 
-/// The same places, found in so many parts of the text at once, each by a thread of its own where one can be made. More than
-/// 16 parts are as 16.
+/// The same places, found in so many parts of the text, which `rayon` shares out among threads: up to two for each processor.
+/// More than 16 parts are as 16.
 pub fn find_all_par<R: Threads + Sync>(
     rt: &R,
     alloc: Global,
@@ -49,7 +49,7 @@ pub fn find_all_par<R: Threads + Sync>(
         return Err(FindFault::EmptyNeedle);
     }
     let needle = Needle::new(alloc, needle.as_bytes())?;
-    let cuts = cuts_of(alloc, rope, parts.min(MOST_THREADS) as u64)?;
+    let cuts = cuts_of(alloc, rope, parts.min(MOST_PARTS) as u64)?;
     let found = find_in_parts(rt, alloc, rope, &needle, &cuts)?;
     Ok(found)
 }

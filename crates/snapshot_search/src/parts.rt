@@ -10,9 +10,9 @@ ghost use Rattle.snapshot_search.specs.Parts.{AreCuts};
 use crate::OutOfMemory;
 use crate::between::find_between;
 use crate::needle::Needle;
+use rayon::prelude::*;
 use rope_chunks::Rope;
 use std::alloc::{AllocError, Global};
-use std::thread;
 use std::thread::Threads;
 
 /// The positions at which a rope's text is cut into so many parts of about the same length, with both its ends.
@@ -53,7 +53,7 @@ fn boundary_between(rope: &Rope, from: u64, to: u64) -> u64
     from
 }
 
-/// All places at which the needle stands, each part of the text by a thread of its own where one can be made.
+/// All places at which the needle stands, the parts of the text shared out among threads.
 pub(crate) fn find_in_parts<R: Threads + Sync>(
     rt: &R,
     alloc: Global,
@@ -88,15 +88,16 @@ fn find_each<R: Threads + Sync>(
     ensures len { IfOk result (λ found. length found.items + 1 ≡ length cuts.now) }
     ensures each { IfOk result (λ found. (j : ℕ) (d : Result (Vec ℕ Global) AllocError) → j + 1 < length cuts.now → IfOk (slice_index_or found.items j d) (λ part. part.items ≡ starts_between rope.now needle.now (slice_index cuts.now j) (slice_index cuts.now (j + 1)))) }
 {
-    thread::map_indices(
-        rt,
-        alloc,
-        cuts.len() - 1,
-        &|j: usize| -> Result<Vec<u64>, OutOfMemory>
-            requires { (j + 1 < length cuts.now) × AreCuts rope.now cuts.now (length rope.now) }
-            ensures { IfOk result (λ part. part.items ≡ starts_between rope.entry.now needle.entry.now (slice_index cuts.entry.now j) (slice_index cuts.entry.now (j + 1))) }
-        { find_part(alloc, rope, needle, cuts, j) },
-    )
+    (0..cuts.len() - 1)
+        .into_par_iter()
+        .with_min_len(1)
+        .map(
+            |j: usize| -> Result<Vec<u64>, OutOfMemory>
+                requires { (j + 1 < length cuts.now) × AreCuts rope.now cuts.now (length rope.now) }
+                ensures { IfOk result (λ part. part.items ≡ starts_between rope.entry.now needle.entry.now (slice_index cuts.entry.now j) (slice_index cuts.entry.now (j + 1))) }
+            { find_part(alloc, rope, needle, cuts, j) },
+        )
+        .collect(rt, alloc)
 }
 
 // The places in one part. The text is read past its end as far as a match goes that begins in it.
