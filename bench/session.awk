@@ -12,9 +12,10 @@
 #   beside   as reverse, and behind each that it takes it types a letter of its own
 #   none     not at all, though it is there
 # With undone=N the last N edits are undone, the last one first, or the first N where oldest=1. With anchors=N replica 1 makes N anchors
-# at places drawn by chance, and then asks for each.
+# at places drawn by chance, and then asks for each. With queries=N replica 1 is asked N times, spread among the edits: by `find` for four
+# letters that stand in the base, or with asked=point for the point at an offset.
 # `remote` is random with taken=each, and `reverse` is typing with taken=reverse.
-# usage: awk -v bytes=N -v count=N -v kind=NAME [-v lag=N] [-v taken=WHEN] [-v undone=N] [-v anchors=N] -f session.awk
+# usage: awk -v bytes=N -v count=N -v kind=NAME [-v lag=N] [-v taken=WHEN] [-v undone=N] [-v anchors=N] [-v queries=N] -f session.awk
 #        without a lag all edits are one round
 
 # the next number below n, by the generator of Park and Miller
@@ -35,6 +36,16 @@ function edit(replica, start, end, text) {
     author[++made] = replica
     if (taken == "each" && authors == 1)
         give(2, made)
+    while (queries && made * queries >= (queried + 1) * count)
+        query()
+}
+
+function query() {
+    queried++
+    if (asked == "point")
+        printf "[\"point\",1,%d]\n", len
+    else
+        printf "[\"find\",1,\"%s\"]\n", substr(row[queried * 13 % 1024], 1 + queried % 50, 4)
 }
 
 function give(replica, number) {

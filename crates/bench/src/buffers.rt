@@ -34,6 +34,17 @@ pub enum Place {
     Typed,
 }
 
+impl Place {
+    /// Edit `number` of a text of so many bytes, by a number drawn by chance.
+    pub fn change(self, alloc: Global, number: u64, x: u64, len: u64) -> Result<Piece, AllocError> {
+        match self {
+            Place::Letter => change(alloc, len, x >> 20, 0, "a"),
+            Place::Random => change(alloc, len, x >> 20, (x >> 50) % 5, short(x >> 56)),
+            Place::Typed => change(alloc, len, number.saturating_add(1_000), 0, "a"),
+        }
+    }
+}
+
 /// A buffer of some so many fragments: letters were put into its base one by one, each at a place drawn by chance.
 pub fn among(alloc: Global, fragments: u32) -> Result<Buffer, AllocError> {
     let base = long(alloc, fragments as u64 * 8)?;
@@ -53,23 +64,10 @@ pub fn made(
     let mut x = 1u64;
     for number in 0..count {
         x = step(x);
-        operations.push(make(alloc, buffer, number as u64, x, place)?)?;
+        let change = place.change(alloc, number as u64, x, buffer.summary().len)?;
+        operations.push(make(buffer, &[change])?)?;
     }
     Ok(operations)
-}
-
-fn make(
-    alloc: Global,
-    buffer: &mut Buffer,
-    number: u64,
-    x: u64,
-    place: Place,
-) -> Result<Operation, AllocError> {
-    match place {
-        Place::Letter => edit(alloc, buffer, x >> 20, 0, "a"),
-        Place::Random => edit(alloc, buffer, x >> 20, (x >> 50) % 5, short(x >> 56)),
-        Place::Typed => edit(alloc, buffer, number.saturating_add(1_000), 0, "a"),
-    }
 }
 
 /// Deletes so many bytes, fewer at the end, and puts a text there. The place is a number, taken by the length of the text.
@@ -80,16 +78,32 @@ pub fn edit(
     gone: u64,
     text: &str,
 ) -> Result<Operation, AllocError> {
-    let len = buffer.summary().len;
-    let start = place % len.max(1);
-    let mut changes = Vec::new(alloc);
-    changes.push(Piece {
-        start,
-        end: start.saturating_add(gone).min(len).max(start),
-        text: Text::new(String::from_str(alloc, text)?),
-    })?;
-    match buffer.edit(changes.as_slice()) {
+    let change = change(alloc, buffer.summary().len, place, gone, text)?;
+    make(buffer, &[change])
+}
+
+fn make(buffer: &mut Buffer, changes: &[Piece]) -> Result<Operation, AllocError> {
+    match buffer.edit(changes) {
         Ok(operation) => Ok(operation),
         Err(_) => Err(AllocError),
     }
+}
+
+// A text in the place of so many bytes of a text, fewer at its end.
+fn change(alloc: Global, len: u64, place: u64, gone: u64, text: &str) -> Result<Piece, AllocError> {
+    let start = place % len.max(1);
+    Ok(Piece {
+        start,
+        end: start.saturating_add(gone).min(len).max(start),
+        text: Text::new(String::from_str(alloc, text)?),
+    })
+}
+
+/// So many letters at an offset.
+pub fn letters(alloc: Global, at: u64, count: u64) -> Result<Piece, AllocError> {
+    Ok(Piece {
+        start: at,
+        end: at,
+        text: Text::new(long(alloc, count)?),
+    })
 }

@@ -3,16 +3,18 @@
 //! snapshots of a buffer over so many bytes, `bench publish BYTES TIMES` publishes one of a buffer over so many bytes, so many times,
 //! `bench leaf EDITS` copies leaves of the fragments that so many edits make, `bench undo FRAGMENTS` undoes edits among so many
 //! fragments, `bench anchors FRAGMENTS` resolves and compares anchors among some so many, `bench since FRAGMENTS` asks there for the
-//! edits since a version, `bench locators` makes locators as the standard input says. What came of each work is written, and with a
-//! further word `timed` the microseconds too. All can be asked for at once.
+//! edits since a version, `bench edits FRAGMENTS` places edits there, `bench locators` makes locators as the standard input says. What
+//! came of each work is written, and with a further word `timed` the microseconds too. All can be asked for at once.
 #![tactic(auto)]
 
 mod anchor;
 mod buffers;
 mod chance;
+mod edits;
 mod leaf;
 mod naming;
 mod publish;
+mod replica;
 mod report;
 mod rope;
 mod search;
@@ -37,11 +39,12 @@ enum Next {
     Fragments,
     Anchored,
     Since,
+    Placed,
 }
 
 // What is asked for: how many items the tree gets, how long the rope is and how often it is worked on, how long the ropes that
 // are searched are and the text of the buffer, how long the buffer is of which a snapshot is published and how often it is, how many
-// edits make fragments, among how many fragments edits are undone, anchors asked for and edits since a version told,
+// edits make fragments, among how many fragments edits are undone, anchors asked for, edits since a version told and edits made,
 // whether locators are made, and whether times are written. Work on no items, no bytes, no edits or no fragments is not asked for.
 #[derive(Clone, Copy)]
 struct Asked {
@@ -56,6 +59,7 @@ struct Asked {
     fragments: u32,
     anchored: u32,
     since: u32,
+    placed: u32,
     locators: bool,
     timed: bool,
     next: Next,
@@ -74,6 +78,7 @@ impl Asked {
             "undo" => self.next = Next::Fragments,
             "anchors" => self.next = Next::Anchored,
             "since" => self.next = Next::Since,
+            "edits" => self.next = Next::Placed,
             "locators" => self.locators = true,
             "timed" => self.timed = true,
             number => self.size(number.parse().unwrap_or(0)),
@@ -99,6 +104,7 @@ impl Asked {
             Next::Fragments => self.fragments = number,
             Next::Anchored => self.anchored = number,
             Next::Since => self.since = number,
+            Next::Placed => self.placed = number,
         }
     }
 }
@@ -116,6 +122,7 @@ fn words(rt: &HostRuntime) -> io::Result<Asked> {
         fragments: 0,
         anchored: 0,
         since: 0,
+        placed: 0,
         locators: false,
         timed: false,
         next: Next::Items,
@@ -163,6 +170,9 @@ fn among_fragments(rt: &HostRuntime, asked: Asked) -> io::Result<()> {
     }
     if asked.since > 0 {
         since::works(rt, asked.timed, asked.since)?;
+    }
+    if asked.placed > 0 {
+        edits::works(rt, asked.timed, asked.placed)?;
     }
     Ok(())
 }

@@ -10,8 +10,20 @@ pub fn tell(
     start: Instant,
     answer: u64,
 ) -> io::Result<()> {
+    let micros = start.elapsed(rt)?.as_micros();
+    tell_micros(rt, timed, name, micros, answer)
+}
+
+/// The same of a work that took so many microseconds.
+pub fn tell_micros(
+    rt: &HostRuntime,
+    timed: bool,
+    name: &str,
+    micros: u128,
+    answer: u64,
+) -> io::Result<()> {
     if timed {
-        println!(rt; "{name} {answer} {}", start.elapsed(rt)?.as_micros())
+        println!(rt; "{name} {answer} {micros}")
     } else {
         println!(rt; "{name} {answer}")
     }
