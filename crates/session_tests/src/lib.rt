@@ -27,4 +27,6 @@ mod undoing;
 #[cfg(test)]
 mod words;
 #[cfg(test)]
+mod workers;
+#[cfg(test)]
 mod writing;
