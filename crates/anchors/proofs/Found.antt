@@ -3,6 +3,7 @@ use Rattle.std.proofs.Common.{◌≡◌, ℕ, zero, suc, ◌+◌, ◌-◌, ◌<�
 use Rattle.std.specs.Option.{option_map}
 use Rattle.std.proofs.lemmas.Bool.{cases_Bool, cases_lt, and_parts, lt-ltb, le-leb, ltb-true, leb-true, false_from_ne_true}
 use Rattle.std.proofs.lemmas.List.{map-append}
+use Rattle.std.proofs.lemmas.Option.{none-some}
 use Rattle.lamport_clock.specs.declared.stamp.Lamport.{Lamport}
 use Rattle.lamport_clock.specs.Stamps.{same_stamp}
 use Rattle.op_model.specs.Sorted.{Member}
@@ -25,7 +26,8 @@ use Rattle.fragments.proofs.Entries.{member_right, member_either}
 use Rattle.fragments.proofs.Founds.{index_finds_fragments}
 use Rattle.locators.specs.Locator.{least_digits}
 use Rattle.anchors.specs.declared.spot.Spot.{Spot}
-use Rattle.anchors.specs.Spots.{spot, spot_of, spot_in, cells_len}
+use Rattle.anchors.specs.declared.spot.Run.{Run}
+use Rattle.anchors.specs.Spots.{spot, spot_of, spot_in, spot_if, run_behind, IsRunOf, cells_len}
 use Rattle.anchors.proofs.Splits.{split_at, before_is}
 use Rattle.anchors.proofs.Runs.{cell_at, cells_in, told_cells, before, behind, cells_split, is_shown, shown_before, length_before}
 
@@ -80,6 +82,10 @@ has_fragment (f ∷ fs) c m = elim (member_either c (cells_in (alike f.stamp f.o
 spot_eq : {a b : Bool} {v w m n : ℕ} → a ≡ b → v ≡ w → m ≡ n → ◌≡◌ {A = Spot} (record { is_shown = a; shown = v; cells = m }) (record { is_shown = b; shown = w; cells = n })
 spot_eq {a} {b} {v} {w} {m} {n} e f g = λ i. record { is_shown = e i; shown = f i; cells = g i }
 
+some_true : (b : Bool) (p q : Spot) → cond b (Some p) None ≡ Some q → b ≡ true
+some_true true p q e = refl
+some_true false p q e = absurd (none-some q e)
+
 module _ (fs : List Fragment) (w : List IndexEntry) (u : List UndoEntry) (h : History) (s : Stand fs w u h) (l : Lawful h) where
   tells : (pre post : List Fragment) (f : Fragment) → fs ≡ pre ++ f ∷ post → Tell (pre ++ f ∷ post) h
   tells pre post f e = subst (λ (z : List Fragment). Tell z h) e s.cells
@@ -98,7 +104,7 @@ module _ (fs : List Fragment) (w : List IndexEntry) (u : List UndoEntry) (h : Hi
       spot_eq (sym (is_shown h pre post f j t m)) (ap (number_shown h) b ∙ shown_before h pre post f j t m) (ap length b ∙ length_before h pre post f j t m)
 
   -- in a fragment that has the cell
-  spot_there : (pre post : List Fragment) (f : Fragment) (t : Lamport) (k : ℕ) → fs ≡ pre ++ f ∷ post → Has f t k → spot_in f (shown_len pre) (cells_len pre) t k ≡ spot_of h (cell_at t k)
+  spot_there : (pre post : List Fragment) (f : Fragment) (t : Lamport) (k : ℕ) → fs ≡ pre ++ f ∷ post → Has f t k → spot_in (run_behind f (shown_len pre) (cells_len pre)) t k ≡ spot_of h (cell_at t k)
   spot_there pre post f t k e a =
       let lo = a.low in let hi = a.high in
       let m : k - f.offset < f.len = omega (arith, lo, hi) in
@@ -117,7 +123,7 @@ module _ (fs : List Fragment) (w : List IndexEntry) (u : List UndoEntry) (h : Hi
       tests false a c b e f g d i = absurd (cc)
 
   -- in one that has it not, where no cell of the history is it
-  spot_not : (pre post : List Fragment) (f : Fragment) (t : Lamport) (k : ℕ) → fs ≡ pre ++ f ∷ post → length (new_bytes h t) ≤ k → spot_in f (shown_len pre) (cells_len pre) t k ≡ None
+  spot_not : (pre post : List Fragment) (f : Fragment) (t : Lamport) (k : ℕ) → fs ≡ pre ++ f ∷ post → length (new_bytes h t) ≤ k → spot_in (run_behind f (shown_len pre) (cells_len pre)) t k ≡ None
   spot_not pre post f t k e n = ap (λ (b : Bool). cond b (Some (record { is_shown = f.visible; shown = shown_len pre + cond f.visible (k - f.offset) 0; cells = cells_len pre + (k - f.offset) })) None)
       (false_from_ne_true (same_stamp f.stamp t && leb f.offset k && ltb (k - f.offset) f.len) (λ q. none q))
     where
@@ -146,26 +152,51 @@ module _ (fs : List Fragment) (w : List IndexEntry) (u : List UndoEntry) (h : Hi
       let q : f.offset + (k - f.offset) ≡ k = omega (arith, lo) in
       ap (λ (z : Lamport). id_for z k w) (sym a.stamp) ∙ ap (λ (z : ℕ). id_for f.stamp z w) (sym q) ∙ (index_finds_fragments fs w u h l s).0 f m (k - f.offset) j
 
+  -- a cell that a fragment has is one of the history
+  spot_other : (pre post : List Fragment) (f : Fragment) (t : Lamport) (k : ℕ) → fs ≡ pre ++ f ∷ post → (r : Spot) → spot_in (run_behind f (shown_len pre) (cells_len pre)) t k ≡ Some r → Some r ≡ spot_of h (cell_at t k)
+  spot_other pre post f t k e r q =
+      let x = and_parts (same_stamp f.stamp t && leb f.offset k) (ltb (k - f.offset) f.len) (some_true (same_stamp f.stamp t && leb f.offset k && ltb (k - f.offset) f.len) (record { is_shown = f.visible; shown = shown_len pre + cond f.visible (k - f.offset) 0; cells = cells_len pre + (k - f.offset) }) r q) in
+      let y = and_parts (same_stamp f.stamp t) (leb f.offset k) x.0 in
+      let m = ltb-true (k - f.offset) f.len x.1 in
+      let lo = leb-true f.offset k y.1 in
+      sym q ∙ spot_there pre post f t k e (record { stamp = same_stamp_eq f.stamp t y.0; low = lo; high = omega (arith, m, lo) })
+
   -- where the index has no entry, there is no such cell
-  pub not_found : (t : Lamport) (k : ℕ) → id_for t k w ≡ None → None ≡ spot_of h (cell_at t k)
-  not_found t k e = elim (cases_lt k (length (new_bytes h t))) [
-    | inl i ↦ (let f = of_cell t k i in let g = found_id t k f.0 f.1 f.2 in absurd (cc))
-    | inr i ↦ sym (none_of t k i)
-  ]
+  pub not_found : (t : Lamport) (k : ℕ) → id_for t k w ≡ None → IsRunOf h t k None
+  not_found t k e = record { here = none; others = λ j r q. absurd (none-some r q) }
+    where
+      none : None ≡ spot_of h (cell_at t k)
+      none = elim (cases_lt k (length (new_bytes h t))) [
+        | inl i ↦ (let f = of_cell t k i in let g = found_id t k f.0 f.1 f.2 in absurd (cc))
+        | inr i ↦ sym (none_of t k i)
+      ]
 
   -- where it has one, its fragment tells
-  pub found : (t : Lamport) (k : ℕ) (i : List ℕ) (r : Option Spot) → id_for t k w ≡ Some i
-      → ((pre post : List Fragment) → (f : Fragment) → fs ≡ pre ++ f ∷ post → Rise least_digits fs → f.id ≡ i → r ≡ spot_in f (shown_len pre) (cells_len pre) t k)
-      → r ≡ spot_of h (cell_at t k)
-  found t k i r e tell = elim (cases_lt k (length (new_bytes h t))) [
-    | inl c ↦ (let f = of_cell t k c in
-        let g = found_id t k f.0 f.1 f.2 in
-        let p = split_at f.0 fs f.1 in
-        let d : f.0.id ≡ i = cc in
-        tell p.0 p.1 f.0 p.2 s.ids d ∙ spot_there p.0 p.1 f.0 t k p.2 f.2)
-    | inr c ↦ (let x = id_entry i (entry_for t k w) e in
-        let y = fragment_of x.0 fs ((s.index x.0).0 (entry_member t k w x.0 x.1)) in
-        let p = split_at y.0 fs y.1 in
-        let d : y.0.id ≡ i = ap (λ (z : IndexEntry). z.id) (sym y.2) ∙ x.2 in
-        tell p.0 p.1 y.0 p.2 s.ids d ∙ spot_not p.0 p.1 y.0 t k p.2 c ∙ sym (none_of t k c))
-  ]
+  pub found : (t : Lamport) (k : ℕ) (i : List ℕ) (r : Option Run) → id_for t k w ≡ Some i
+      → ((pre post : List Fragment) → (f : Fragment) → fs ≡ pre ++ f ∷ post → Rise least_digits fs → f.id ≡ i → r ≡ Some (run_behind f (shown_len pre) (cells_len pre)))
+      → IsRunOf h t k r
+  found t k i r e tell = record { here = here_at; others = λ j q v. other j q v }
+    where
+      by_entry : (f : Fragment) × Member f fs × (f.id ≡ i)
+      by_entry =
+          let x = id_entry i (entry_for t k w) e in
+          let y = fragment_of x.0 fs ((s.index x.0).0 (entry_member t k w x.0 x.1)) in
+          (y.0, y.1, ap (λ (z : IndexEntry). z.id) (sym y.2) ∙ x.2)
+
+      here_at : spot_if r t k ≡ spot_of h (cell_at t k)
+      here_at = elim (cases_lt k (length (new_bytes h t))) [
+        | inl c ↦ (let f = of_cell t k c in
+            let g = found_id t k f.0 f.1 f.2 in
+            let p = split_at f.0 fs f.1 in
+            let d : f.0.id ≡ i = cc in
+            ap (λ z. spot_if z t k) (tell p.0 p.1 f.0 p.2 s.ids d) ∙ spot_there p.0 p.1 f.0 t k p.2 f.2)
+        | inr c ↦ (let y = by_entry in
+            let p = split_at y.0 fs y.1 in
+            ap (λ z. spot_if z t k) (tell p.0 p.1 y.0 p.2 s.ids y.2) ∙ spot_not p.0 p.1 y.0 t k p.2 c ∙ sym (none_of t k c))
+      ]
+
+      other : (j : ℕ) (q : Spot) → spot_if r t j ≡ Some q → Some q ≡ spot_of h (cell_at t j)
+      other j q v =
+          let y = by_entry in
+          let p = split_at y.0 fs y.1 in
+          spot_other p.0 p.1 y.0 t j p.2 q (sym (ap (λ z. spot_if z t j) (tell p.0 p.1 y.0 p.2 s.ids y.2)) ∙ v)

@@ -1,5 +1,5 @@
 -- Seeks among fragments: by an id, and by shown cells.
-use Rattle.std.proofs.Common.{◌≡◌, ℕ, zero, suc, ◌+◌, ◌<◌, ◌≤◌, ◌^◌, ◌⊎◌, Bool, true, false, cond, not, nat_lt, List, [], ◌∷◌, ◌++◌, length, take, Option, Some, None, refl, sym, ap, ◌∙◌, arith, subst, inl, inr}
+use Rattle.std.proofs.Common.{◌≡◌, ℕ, zero, suc, ◌+◌, ◌<◌, ◌≤◌, ◌^◌, ◌⊎◌, Bool, true, false, cond, not, nat_lt, List, [], ◌∷◌, ◌++◌, length, take, drop, zero-add, Option, Some, None, refl, sym, ap, ◌∙◌, arith, subst, inl, inr}
 use Rattle.std.specs.Prelude.{slice_get}
 use Rattle.std.specs.Cmp.Lexicographic.{slice_cmp}
 use Rattle.std.specs.Ordering.{nat_cmp, is_lt, ordering_reverse}
@@ -8,23 +8,21 @@ use Rattle.std.specs.declared.cmp.Ordering.TheVariants.{Less, Equal, Greater}
 use Rattle.std.proofs.lemmas.Cmp.{nat_list_cmp_total}
 use Rattle.std.proofs.lemmas.Bool.{cases_Bool, ltb-true, ltb-false, false_from_ne_true}
 use Rattle.sum_tree.specs.Laws.{fold}
-use Rattle.tree_cursor.specs.Places.{behind, place_behind, seek_count}
-use Rattle.tree_cursor.specs.Keys.{key_passes}
+use Rattle.tree_cursor.specs.Places.{behind, place_behind, seek_count, filter_count}
 use Rattle.tree_cursor.specs.Counting.{number_passes}
-use Rattle.tree_cursor.specs.declared.traits.Bias.TheVariants.{Left, Right}
+use Rattle.tree_cursor.specs.declared.traits.Bias.TheVariants.{Right}
 use Rattle.locators.specs.Locator.{IsLess, least_digits}
 use Rattle.fragments.specs.declared.fragment.Fragment.{Fragment}
 use Rattle.fragments.specs.declared.fragment.FragmentSummary.{FragmentSummary}
-use Rattle.fragments.specs.Summaries.{no_fragments, summaries, summary_of, id_less, greater_id, SummaryFits}
+use Rattle.fragments.specs.Summaries.{no_fragments, summaries, summary_of, id_less, SummaryFits}
 use Rattle.fragments.specs.SummaryLaws.{id_order}
 use Rattle.fragments.specs.SeenPlaces.{cells_of, move_visible}
 use Rattle.fragments.specs.Stand.{Rise}
 use Rattle.fragments.specs.Laws.{shown_len}
 use Rattle.fragments.proofs.Counts.{own_cells, places_count_cells}
-use Rattle.anchors.specs.Before.{Place, move_before, BeforeFits}
-use Rattle.lamport_clock.specs.declared.stamp.Lamport.{Lamport}
+use Rattle.anchors.specs.Before.{Place, at, move_before, reaches}
 use Rattle.std.proofs.lemmas.Option.{same_Some, none-some}
-use Rattle.anchors.specs.Spots.{cells_len, spot_in}
+use Rattle.anchors.specs.Spots.{cells_len, run_behind, RunFits}
 
 -- ---- ids
 
@@ -39,40 +37,20 @@ not_self a = not_self_at (slice_cmp nat_cmp a a) (nat_list_cmp_total.antisymm a 
 less_is : (a b : List ℕ) → IsLess a b → id_less a b ≡ true
 less_is a b e = ap is_lt e
 
-not_back : (a b : List ℕ) → id_less a b ≡ true → id_less b a ≡ false
-not_back a b e = false_from_ne_true (id_less b a) (λ f. let u = id_order.up a b a e f in let v = not_self a in absurd (cc))
-
 below : (low : List ℕ) (pre post : List Fragment) (f : Fragment) → Rise low (pre ++ f ∷ post) → id_less low f.id ≡ true
 below low [] post f r = less_is low f.id r.0
 below low (g ∷ pre) post f r = id_order.up low g.id f.id (less_is low g.id r.0) (below g.id pre post f r.2)
 
--- the greatest id so far is the last one
-abbrev IsLast : List ℕ → Option (List ℕ) → Type 0
-IsLast low k = (k ≡ None) ⊎ (k ≡ Some low)
+-- how many fragments stand before the first that reaches an id
+abbrev pub sought : List ℕ → List Fragment → ℕ
+sought i fs = filter_count (reaches i) summary_of fs
 
-next_key : (low i : List ℕ) (k : Option (List ℕ)) → IsLast low k → id_less low i ≡ true → greater_id k (Some i) ≡ Some i
-next_key low i k (inl e) l = ap (λ z. greater_id z (Some i)) e
-next_key low i k (inr e) l = ap (λ z. greater_id z (Some i)) e ∙ ap (λ b. cond b (Some i) (Some low)) l
-
-stops_at : (i : List ℕ) (k : Option (List ℕ)) → k ≡ Some i → key_passes id_less (Some i) k Left ≡ true
-stops_at i k e = ap (λ z. key_passes id_less (Some i) z Left) e ∙ ap not (not_self i)
-
-goes_on : (i j : List ℕ) (k : Option (List ℕ)) → k ≡ Some j → id_less j i ≡ true → key_passes id_less (Some i) k Left ≡ false
-goes_on i j k e l = ap (λ z. key_passes id_less (Some i) z Left) e ∙ ap not l
-
-abbrev pub sought : List ℕ → Place → List Fragment → ℕ
-sought i p fs = seek_count move_before summary_of (λ q. key_passes id_less (Some i) q.0.0 Left) p fs
-
-pub seek_id : (pre post : List Fragment) (f : Fragment) (low : List ℕ) (p : Place) → Rise low (pre ++ f ∷ post) → IsLast low p.0.0 → sought f.id p (pre ++ f ∷ post) ≡ length pre
-seek_id [] post f low p r k =
-    let e = stops_at f.id (greater_id p.0.0 (Some f.id)) (next_key low f.id p.0.0 k (less_is low f.id r.0)) in
-    ap (λ b. cond b 0 (1 + sought f.id (behind p (move_before p (summary_of f))) post)) e
-seek_id (g ∷ pre) post f low p r k =
-    let n = next_key low g.id p.0.0 k (less_is low g.id r.0) in
-    let e = goes_on f.id g.id (greater_id p.0.0 (Some g.id)) n (below g.id pre post f r.2) in
-    let q : Place = behind p (move_before p (summary_of g)) in
-    let ih = seek_id pre post f g.id q r.2 (inr n) in
-    ap (λ b. cond b 0 (1 + sought f.id q (pre ++ f ∷ post))) e ∙ ap (λ m. 1 + m) ih ∙ omega arith
+pub seek_id : (pre post : List Fragment) (f : Fragment) (low : List ℕ) → Rise low (pre ++ f ∷ post) → sought f.id (pre ++ f ∷ post) ≡ length pre
+seek_id [] post f low r = ap (λ b. cond b 0 (1 + sought f.id post)) (ap not (not_self f.id))
+seek_id (g ∷ pre) post f low r =
+    let e = below g.id pre post f r.2 in
+    let ih = seek_id pre post f g.id r.2 in
+    ap (λ b. cond b 0 (1 + sought f.id (pre ++ f ∷ post))) (ap not e) ∙ ap (λ m. 1 + m) ih ∙ omega arith
 
 -- ---- places
 
@@ -83,9 +61,9 @@ shown_more f fs n = go f.visible
     go true = omega arith
     go false = omega arith
 
-pub shown_behind : (p : Place) (fs : List Fragment) → (place_behind move_before summary_of p fs).0.1 ≡ p.0.1 + shown_len fs
+pub shown_behind : (p : Place) (fs : List Fragment) → (place_behind move_before summary_of p fs).0 ≡ p.0 + shown_len fs
 shown_behind p [] = omega arith
-shown_behind p (f ∷ fs) = shown_behind (behind p (move_before p (summary_of f))) fs ∙ shown_more f fs p.0.1
+shown_behind p (f ∷ fs) = shown_behind (behind p (move_before p (summary_of f))) fs ∙ shown_more f fs p.0
 
 pub cells_behind : (p : Place) (fs : List Fragment) → (place_behind move_before summary_of p fs).1 ≡ p.1 + cells_len fs
 cells_behind p [] = omega arith
@@ -116,12 +94,6 @@ shown_less (f ∷ fs) = go f.visible (shown_less fs)
 pub cells_append : (xs ys : List Fragment) → cells_len (xs ++ ys) ≡ cells_len xs + cells_len ys
 cells_append [] ys = omega arith
 cells_append (x ∷ xs) ys = let ih = cells_append xs ys in omega (arith, ih)
-
-pub before_fits : (fs : List Fragment) → SummaryFits (whole fs) → BeforeFits ((None, 0), 0) (whole fs)
-before_fits fs h = (omega (arith, h), omega (arith, h))
-
-pub visible_fits : (fs : List Fragment) → SummaryFits (whole fs) → 0 + (whole fs).visible < 2 ^ 64
-visible_fits fs h = omega (arith, h)
 
 -- ---- what stands at an index
 
@@ -207,47 +179,59 @@ seek_none (g ∷ fs) o n h e = elim (cases_Bool (nat_lt o (n + (summary_of g).vi
 -- ---- what a seek by an id gives
 
 abbrev pub start : Place
-start = ((None, 0), 0)
+start = (0, 0)
 
 pub seek_finds : (fs : List Fragment) (i : List ℕ) (pre post : List Fragment) (f : Fragment) → fs ≡ pre ++ f ∷ post → Rise least_digits fs → f.id ≡ i
-    → (slice_get fs (sought i start fs) ≡ Some f) × (take (sought i start fs) fs ≡ pre)
+    → (slice_get fs (sought i fs) ≡ Some f) × (take (sought i fs) fs ≡ pre)
 seek_finds fs i pre post f e r d =
-    let q : sought i start fs ≡ length pre = ap (λ x. sought x start fs) (sym d) ∙ ap (sought f.id start) e ∙ seek_id pre post f least_digits start (subst (Rise least_digits) e r) (inl refl) in
+    let q : sought i fs ≡ length pre = ap (λ x. sought x fs) (sym d) ∙ ap (sought f.id) e ∙ seek_id pre post f least_digits (subst (Rise least_digits) e r) in
     let g = got_middle pre f post in
     (ap (slice_get fs) q ∙ ap (λ z. slice_get z (length pre)) e ∙ g.0, ap (λ m. take m fs) q ∙ ap (take (length pre)) e ∙ g.1)
 
-pub seek_not_none : (fs : List Fragment) (i : List ℕ) (pre post : List Fragment) (f : Fragment) → fs ≡ pre ++ f ∷ post → Rise least_digits fs → f.id ≡ i → None ≡ slice_get fs (sought i start fs) → ⊥
+pub seek_not_none : (fs : List Fragment) (i : List ℕ) (pre post : List Fragment) (f : Fragment) → fs ≡ pre ++ f ∷ post → Rise least_digits fs → f.id ≡ i → None ≡ slice_get fs (sought i fs) → ⊥
 seek_not_none fs i pre post f e r d n = none-some f (n ∙ (seek_finds fs i pre post f e r d).0)
 
-pub record Room (p : Place) (f : Fragment) : Type 0 where
-  pub shown : p.0.1 + f.len < 2 ^ 64
-  pub cells : p.1 + f.len < 2 ^ 64
-  pub fewer : p.0.1 ≤ p.1
-
-pub seek_room : (fs : List Fragment) (n : ℕ) (f : Fragment) (p : Place) → slice_get fs n ≡ Some f → p ≡ place_behind move_before summary_of start (take n fs) → SummaryFits (whole fs) → Room p f
+pub seek_room : (fs : List Fragment) (n : ℕ) (f : Fragment) (p : Place) → slice_get fs n ≡ Some f → p ≡ place_behind move_before summary_of start (take n fs) → SummaryFits (whole fs) → RunFits (run_behind f p.0 p.1)
 seek_room fs n f p e q h =
     let a = at_index fs n f e in
-    let s : p.0.1 ≡ 0 + shown_len (take n fs) = ap (λ (z : Place). z.0.1) q ∙ shown_behind start (take n fs) in
+    let s : p.0 ≡ 0 + shown_len (take n fs) = ap (λ (z : Place). z.0) q ∙ shown_behind start (take n fs) in
     let c : p.1 ≡ 0 + cells_len (take n fs) = ap (λ (z : Place). z.1) q ∙ cells_behind start (take n fs) in
     let l = shown_less (take n fs) in
     let w = whole_cells fs h in
     let t : cells_len fs ≡ cells_len (take n fs) + (f.len + cells_len a.post) = ap cells_len a.parts ∙ cells_append (take n fs) (f ∷ a.post) in
     record { shown = omega (arith, s, l, w, t); cells = omega (arith, c, w, t); fewer = omega (arith, s, c, l) }
 
-same_spot : (f g : Fragment) (v w m n : ℕ) (t : Lamport) (k : ℕ) → f ≡ g → v ≡ w → m ≡ n → spot_in f v m t k ≡ spot_in g w n t k
-same_spot f g v w m n t k a b c = ap (λ (z : Fragment). spot_in z v m t k) a ∙ ap (λ (z : ℕ). spot_in g z m t k) b ∙ ap (λ (z : ℕ). spot_in g w z t k) c
+same_run : (f g : Fragment) (v w m n : ℕ) → f ≡ g → v ≡ w → m ≡ n → run_behind f v m ≡ run_behind g w n
+same_run f g v w m n a b c = ap (λ (z : Fragment). run_behind z v m) a ∙ ap (λ (z : ℕ). run_behind g z m) b ∙ ap (λ (z : ℕ). run_behind g w z) c
 
-pub seek_spot : (fs : List Fragment) (i : List ℕ) (pre post : List Fragment) (f : Fragment) → fs ≡ pre ++ f ∷ post → Rise least_digits fs → f.id ≡ i
-    → (g : Fragment) (p : Place) → slice_get fs (sought i start fs) ≡ Some g → p ≡ place_behind move_before summary_of start (take (sought i start fs) fs)
-    → (t : Lamport) (k : ℕ) → spot_in g p.0.1 p.1 t k ≡ spot_in f (shown_len pre) (cells_len pre) t k
-seek_spot fs i pre post f e r d g p a q t k =
+pub seek_run : (fs : List Fragment) (i : List ℕ) (pre post : List Fragment) (f : Fragment) → fs ≡ pre ++ f ∷ post → Rise least_digits fs → f.id ≡ i
+    → (g : Fragment) (p : Place) → slice_get fs (sought i fs) ≡ Some g → p ≡ place_behind move_before summary_of start (take (sought i fs) fs)
+    → run_behind g p.0 p.1 ≡ run_behind f (shown_len pre) (cells_len pre)
+seek_run fs i pre post f e r d g p a q =
     let z = seek_finds fs i pre post f e r d in
-    let m : List Fragment = take (sought i start fs) fs in
-    let s : p.0.1 ≡ 0 + shown_len m = ap (λ (x : Place). x.0.1) q ∙ shown_behind start m in
+    let m : List Fragment = take (sought i fs) fs in
+    let s : p.0 ≡ 0 + shown_len m = ap (λ (x : Place). x.0) q ∙ shown_behind start m in
     let c : p.1 ≡ 0 + cells_len m = ap (λ (x : Place). x.1) q ∙ cells_behind start m in
     let u = ap shown_len z.1 in
     let v = ap cells_len z.1 in
-    same_spot g f p.0.1 (shown_len pre) p.1 (cells_len pre) t k (same_Some g f (sym a ∙ z.0)) (omega (arith, s, u)) (omega (arith, c, v))
+    same_run g f p.0 (shown_len pre) p.1 (cells_len pre) (same_Some g f (sym a ∙ z.0)) (omega (arith, s, u)) (omega (arith, c, v))
+
+-- what a cursor with such parts finds first, and where it starts
+module _ (fs items : List Fragment) (i j : List ℕ) (next : ℕ) (items_are : items ≡ fs) (id_is : j ≡ i) (begins : next ≡ 0) where
+  over_is : next + filter_count (reaches j) summary_of (drop next items) ≡ sought i fs
+  over_is = ap (λ (n : ℕ). n + filter_count (reaches j) summary_of (drop n items)) begins ∙ zero-add (sought j items) ∙ ap (λ (x : List ℕ). sought x items) id_is ∙ ap (sought i) items_are
+
+  pub first_is : (g : Option Fragment) → g ≡ slice_get items (next + filter_count (reaches j) summary_of (drop next items)) → g ≡ slice_get fs (sought i fs)
+  first_is g q = q ∙ ap (slice_get items) over_is ∙ ap (λ (xs : List Fragment). slice_get xs (sought i fs)) items_are
+
+  pub start_is : (p : Place) (v n given : ℕ) (items2 : List Fragment) → p ≡ place_behind move_before summary_of (at v n) (take given items2)
+      → items2 ≡ items → given ≡ next + filter_count (reaches j) summary_of (drop next items) → v ≡ 0 → n ≡ 0
+      → p ≡ place_behind move_before summary_of start (take (sought i fs) fs)
+  start_is p v n given items2 q e g a b =
+      q ∙ ap (λ (x : ℕ). place_behind move_before summary_of (at x n) (take given items2)) a
+      ∙ ap (λ (x : ℕ). place_behind move_before summary_of (at 0 x) (take given items2)) b
+      ∙ ap (λ (x : ℕ). place_behind move_before summary_of start (take x items2)) (g ∙ over_is)
+      ∙ ap (λ (xs : List Fragment). place_behind move_before summary_of start (take (sought i fs) xs)) (e ∙ items_are)
 
 -- ---- what a seek of a shown cell gives
 

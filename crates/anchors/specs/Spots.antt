@@ -1,5 +1,5 @@
 -- Where a cell stands among all cells.
-use Rattle.std.specs.Prelude.{ℕ, ◌+◌, ◌-◌, ◌<◌, ◌≤◌, ◌^◌, ◌&&◌, Bool, true, nat_lt, nat_le, length, List, Option, Some, None, if◌then◌else◌}
+use Rattle.std.specs.Prelude.{◌≡◌, ◌++◌, ◌∷◌, IfSome, ℕ, ◌+◌, ◌-◌, ◌<◌, ◌≤◌, ◌^◌, ◌&&◌, Bool, true, nat_lt, nat_le, length, List, Option, Some, None, if◌then◌else◌}
 use Rattle.lamport_clock.specs.declared.stamp.Lamport.{Lamport}
 use Rattle.lamport_clock.specs.Stamps.{same_stamp}
 use Rattle.op_model.specs.Histories.{History}
@@ -8,9 +8,18 @@ use Rattle.op_model.specs.Cells.{Cell, seq, cells}
 use Rattle.op_model.specs.Shown.{shown, new_bytes}
 use Rattle.op_model.specs.Anchors.{cells_before, number_shown}
 use Rattle.op_model.specs.Walked.{kept_len}
+use Rattle.op_model.specs.Lawful.{Lawful}
 use Rattle.fragments.specs.declared.fragment.Fragment.{Fragment}
-use Rattle.fragments.specs.Stand.{runs}
+use Rattle.fragments.specs.declared.index_entry.IndexEntry.{IndexEntry}
+use Rattle.fragments.specs.Laws.{shown_len}
+use Rattle.fragments.specs.Stand.{Stand, Rise, runs}
+use Rattle.locators.specs.Locator.{least_digits}
+use Rattle.undo_map.specs.declared.entry.UndoEntry.{UndoEntry}
 use Rattle.anchors.specs.declared.spot.Spot.{Spot}
+use Rattle.anchors.specs.declared.spot.Run.{Run}
+
+abbrev pub cell : Lamport → ℕ → Cell
+cell t k = record { stamp = t; k = k }
 
 -- whether c is shown, and how many shown cells and how many of all stand before it
 abbrev pub spot : History → Cell → Spot
@@ -33,12 +42,45 @@ pub record IsCounted (s : Spot) : Type 0 where
 abbrev pub cells_len : List Fragment → ℕ
 cells_len fs = kept_len (λ t. true) (runs fs)
 
--- the spot of cell k of edit t in a fragment before which v shown cells stand, and n of all
-abbrev pub spot_in : Fragment → ℕ → ℕ → Lamport → ℕ → Option Spot
-spot_in f v n t k =
-    if same_stamp f.stamp t && nat_le f.offset k && nat_lt (k - f.offset) f.len
-    then Some (record { is_shown = f.visible; shown = v + (if f.visible then k - f.offset else 0); cells = n + (k - f.offset) })
+-- the cells of a fragment, before which v shown cells stand, and n of all
+abbrev pub run_behind : Fragment → ℕ → ℕ → Run
+run_behind f v n = record { stamp = f.stamp; offset = f.offset; len = f.len; is_shown = f.visible; shown = v; cells = n }
+
+-- the spot of cell k of edit t in a run
+abbrev pub spot_in : Run → Lamport → ℕ → Option Spot
+spot_in r t k =
+    if same_stamp r.stamp t && nat_le r.offset k && nat_lt (k - r.offset) r.len
+    then Some (record { is_shown = r.is_shown; shown = r.shown + (if r.is_shown then k - r.offset else 0); cells = r.cells + (k - r.offset) })
     else None
+
+-- the cells before a run and in it are counted in a u64
+pub record RunFits (r : Run) : Type 0 where
+  pub shown : r.shown + r.len < 2 ^ 64
+  pub cells : r.cells + r.len < 2 ^ 64
+  pub fewer : r.shown ≤ r.cells
+
+-- r is what fragments have of the one with id i, where one has it and ids ascend
+abbrev pub IsRunAt : List Fragment → List ℕ → Option Run → Type 0
+IsRunAt fs i r = (pre post : List Fragment) → (f : Fragment) → fs ≡ pre ++ f ∷ post → Rise least_digits fs → f.id ≡ i
+    → r ≡ Some (run_behind f (shown_len pre) (cells_len pre))
+
+-- the spot of cell k of edit t in a run, if there is one
+abbrev pub spot_if : Option Run → Lamport → ℕ → Option Spot
+spot_if None t k = None
+spot_if (Some r) t k = spot_in r t k
+
+-- P holds of each lawful history for which fragments and an index stand
+abbrev pub OfEach : List Fragment → List IndexEntry → (History → Type 0) → Type 0
+OfEach fs w P = (u : List UndoEntry) → (h : History) → Stand fs w u h → Lawful h → P h
+
+-- r tells where cell k of edit t of h stands, and tells nothing wrong of the edit's other cells
+pub record IsRunOf (h : History) (t : Lamport) (k : ℕ) (r : Option Run) : Type 0 where
+  pub here : spot_if r t k ≡ spot_of h (cell t k)
+  pub others : (j : ℕ) → (s : Spot) → spot_if r t j ≡ Some s → Some s ≡ spot_of h (cell t j)
+
+-- o is the spot of cell k of edit t of h, or None
+abbrev pub MayBeSpot : History → Lamport → ℕ → Option Spot → Type 0
+MayBeSpot h t k o = IfSome o (λ s. Some s ≡ spot_of h (cell t k))
 
 -- a character begins at the spot, or the text that the cell is of ends
 abbrev pub begins : List ℕ → List ℕ → Spot → Bool

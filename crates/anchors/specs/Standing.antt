@@ -1,8 +1,10 @@
 -- What fragments, an index and two texts are of a history, where anchors of it are made and found, and where an anchor stands.
-use Rattle.std.specs.Prelude.{◌≡◌, ℕ, List, Option, Some, None, if◌then◌else◌}
+use Rattle.std.specs.Prelude.{◌≡◌, ◌≤◌, ℕ, Bool, length, List, Option, Some, None, if◌then◌else◌}
 use Rattle.op_model.specs.Histories.{History}
 use Rattle.op_model.specs.Lawful.{Lawful}
-use Rattle.op_model.specs.Shown.{text, hidden}
+use Rattle.op_model.specs.Shown.{text, hidden, new_bytes}
+use Rattle.op_model.specs.Edits.{is_boundary}
+use Rattle.lamport_clock.specs.declared.stamp.Lamport.{Lamport}
 use Rattle.op_model.specs.Anchors.{place, gap, is_known}
 use Rattle.op_model.specs.declared.anchor.Anchor.{Anchor}
 use Rattle.op_model.specs.declared.anchor.Anchor.TheVariants.{Least, Greatest, At}
@@ -39,3 +41,7 @@ side Right = 1
 -- where a known anchor stands, None for one that is not known
 abbrev pub standing_of : History → Anchor → Option Standing
 standing_of h a = if is_known h a then Some (record { place = place h a; gap = (gap h a).0; bias = bias_of a }) else None
+
+-- where edit t of h has at least k cells, b says whether a character ends before the next one
+abbrev pub EndsAt : History → Lamport → ℕ → Bool → Type 0
+EndsAt h t k b = k ≤ length (new_bytes h t) → b ≡ is_boundary (new_bytes h t) k

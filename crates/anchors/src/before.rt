@@ -1,29 +1,26 @@
-// How much lies before a fragment.
-ghost use Rattle.anchors.specs.Before.{move_before, IsLaterBefore, BeforeFits, before_laws};
+// How much lies before a fragment, and which fragments an id is looked for in.
+ghost use Rattle.anchors.specs.Before.{move_before, IsLaterBefore, BeforeFits, before_laws, reaches, reaches_parts};
 
-use fragments::{ById, FragmentSummary};
+use fragments::FragmentSummary;
 use locators::Locator;
-use tree_cursor::{Bias, Dimension, Moves, Plain, Target};
+use tree_cursor::{Dimension, Keep, Moves, Plain};
 
-// The greatest id so far, and how many shown cells and how many of all lie before.
+// How many shown cells and how many of all lie before.
 #[derive(Clone, Copy)]
-pub struct Before<'a> {
-    pub by_id: ById<'a>,
+pub struct Before {
     pub shown: u64,
     pub cells: u64,
 }
 
-impl<'a> Plain for Before<'a> {
-    type Value = ((Option<Locator>, u64), u64);
+impl Plain for Before {
+    type Value = (u64, u64);
 
-    ghost use Rattle.std.specs.Option.{option_copied};
-
-    ghost plain = { λ d. ((option_copied d.by_id.id, d.shown), d.cells) };
+    ghost plain = { λ d. (d.shown, d.cells) };
 
     ghost later = { IsLaterBefore };
 }
 
-impl<'a> Moves<FragmentSummary> for Before<'a> {
+impl Moves<FragmentSummary> for Before {
     ghost moved = { move_before };
 
     ghost fits = { BeforeFits };
@@ -31,29 +28,31 @@ impl<'a> Moves<FragmentSummary> for Before<'a> {
     ghost laws = { before_laws };
 }
 
-impl<'a> Dimension<'a, FragmentSummary> for Before<'a> {
-    fn try_add(self, s: &'a FragmentSummary) -> Option<Before<'a>> {
-        let by_id = self.by_id.try_add(s)?;
+impl<'a> Dimension<'a, FragmentSummary> for Before {
+    fn try_add(self, s: &'a FragmentSummary) -> Option<Before> {
         Some(Before {
-            by_id,
             shown: self.shown + s.visible,
             cells: self.cells + (s.visible + s.hidden),
         })
     }
 }
 
-// An id is a target, as with ids alone.
-impl<'a> Target<Before<'a>> for Locator {
-    ghost use Rattle.std.specs.Prelude.{Some};
-    ghost use Rattle.tree_cursor.specs.Keys.{key_passes, key_stays};
-    ghost use Rattle.fragments.specs.Summaries.{id_less};
-    ghost use Rattle.fragments.specs.SummaryLaws.{id_order};
+// The runs of fragments whose greatest id is not less than an id. Where ids ascend, the first fragment among them is the one that
+// has the id.
+#[derive(Drop)]
+pub struct Reaching<'i> {
+    pub id: &'i Locator,
+}
 
-    ghost passes = { λ g p b. key_passes id_less (Some g) p.0.0 b };
+impl<'i> Keep<FragmentSummary> for Reaching<'i> {
+    ghost keeps = { λ k s. reaches k.id.now s };
 
-    ghost stays = { λ g p q b h l. key_stays id_less id_order (Some g) p.0.0 q.0.0 b h l.0.0 };
+    ghost parts = { λ k a b p q h. reaches_parts k.id.now a b h };
 
-    fn passed(&self, at: Before<'a>, bias: Bias) -> bool {
-        self.passed(at.by_id, bias)
+    fn keep(&self, s: &FragmentSummary) -> bool {
+        match &s.last_id {
+            None => false,
+            Some(id) => !id.cmp(self.id).is_lt(),
+        }
     }
 }

@@ -1,5 +1,5 @@
 // Where a byte of an edit stands among fragments.
-ghost use Rattle.std.specs.Prelude.{◌≡◌, ◌++◌, ◌∷◌, ◌≤◌, ◌<◌, ◌+◌, ◌^◌, List, IfSome};
+ghost use Rattle.std.specs.Prelude.{◌≡◌, ◌++◌, ◌∷◌, ◌≤◌, ◌<◌, ◌+◌, ◌-◌, ◌^◌, List, Some, IfSome};
 ghost use Rattle.op_model.specs.Histories.{History};
 ghost use Rattle.op_model.specs.Lawful.{Lawful};
 ghost use Rattle.op_model.specs.Edits.{is_boundary};
@@ -8,15 +8,15 @@ ghost use Rattle.locators.specs.Locator.{least_digits};
 ghost use Rattle.fragments.specs.declared.fragment.Fragment.{Fragment};
 ghost use Rattle.fragments.specs.Laws.{shown_len};
 ghost use Rattle.fragments.specs.Stand.{Stand, Rise};
-ghost use Rattle.anchors.specs.Spots.{spot_of, spot_in, begins, IsCounted, cells_len};
+ghost use Rattle.anchors.specs.Spots.{cell, spot_of, spot_in, run_behind, begins, IsCounted, IsRunAt, IsRunOf, MayBeSpot, OfEach, RunFits};
 
-use crate::before::Before;
-use fragments::{ById, Fragment, InsertionIndex};
+use crate::before::{Before, Reaching};
+use fragments::{Fragment, InsertionIndex};
 use lamport_clock::{Lamport, is_same};
 use locators::Locator;
 use rope_chunks::Rope;
 use sum_tree::SumTree;
-use tree_cursor::{Bias, locate};
+use tree_cursor::FilterCursor;
 
 // Whether a cell is shown, and how many shown cells and how many of all stand before it.
 #[derive(Clone, Copy)]
@@ -26,52 +26,86 @@ pub struct Spot {
     pub cells: u64,
 }
 
-// The spot of a cell in a fragment, where it has the cell.
-fn spot_in(fragment: &Fragment, shown: u64, cells: u64, stamp: Lamport, k: u64) -> Option<Spot>
-    requires shown { shown + fragment.now.len < 2 ^ 64 }
-    requires cells { cells + fragment.now.len < 2 ^ 64 }
-    requires fewer { shown ≤ cells }
-    ensures spot { result ≡ spot_in fragment.now shown cells stamp k }
+// The cells of a fragment: `len` of an edit from number `offset` on, and how many shown cells and how many of all stand before them.
+#[derive(Clone, Copy)]
+pub struct Run {
+    pub stamp: Lamport,
+    pub offset: u64,
+    pub len: u64,
+    pub is_shown: bool,
+    pub shown: u64,
+    pub cells: u64,
+}
+
+// The cells of a fragment, behind so many.
+fn run_behind(fragment: &Fragment, before: Before) -> Run
+    ensures { result ≡ run_behind fragment.now before.shown before.cells }
+{
+    Run {
+        stamp: fragment.stamp,
+        offset: fragment.offset,
+        len: fragment.len,
+        is_shown: fragment.visible,
+        shown: before.shown,
+        cells: before.cells,
+    }
+}
+
+// The spot of a cell in a run, where it has the cell.
+fn spot_in(run: Run, stamp: Lamport, k: u64) -> Option<Spot>
+    requires shown { run.shown + run.len < 2 ^ 64 }
+    requires cells { run.cells + run.len < 2 ^ 64 }
+    requires fewer { run.shown ≤ run.cells }
+    ensures spot { result ≡ spot_in run stamp k }
     ensures counted { IfSome result IsCounted }
 {
-    if is_same(fragment.stamp, stamp)
-        && fragment.offset <= k
-        && k - fragment.offset < fragment.len
-    {
-        let before = k - fragment.offset;
+    if is_same(run.stamp, stamp) && run.offset <= k && k - run.offset < run.len {
+        let before = k - run.offset;
         Some(Spot {
-            is_shown: fragment.visible,
-            shown: if fragment.visible {
-                shown + before
+            is_shown: run.is_shown,
+            shown: if run.is_shown {
+                run.shown + before
             } else {
-                shown
+                run.shown
             },
-            cells: cells + before,
+            cells: run.cells + before,
         })
     } else {
         None
     }
 }
 
-// The spot of a cell in the fragment of an id, where that has the cell: one descent.
-fn spot_at(tree: &SumTree<Fragment>, id: &Locator, stamp: Lamport, k: u64) -> Option<Spot>
-    ensures spot { (pre post : List Fragment) → (f : Fragment) → tree.now.items ≡ pre ++ f ∷ post → Rise least_digits tree.now.items → f.id ≡ id.now → result ≡ spot_in f (shown_len pre) (cells_len pre) stamp k }
-    ensures counted { IfSome result IsCounted }
+// The cells of the fragment of an id, where one has the id: one descent, which compares one id with each child on the way.
+fn run_at(tree: &SumTree<Fragment>, id: &Locator) -> Option<Run>
+    ensures run { IsRunAt tree.now.items id.now result }
+    ensures room { IfSome result RunFits }
 {
     tree.known();
-    let start = Before {
-        by_id: ById { id: None },
-        shown: 0,
-        cells: 0,
-    };
-    let (found, before) = locate(tree, start, id, Bias::Left);
-    let Some(fragment) = found else {
+    let start = Before { shown: 0, cells: 0 };
+    let Ok(mut found) = FilterCursor::new(tree, start, Reaching { id }) else {
         return None;
     };
-    spot_in(fragment, before.shown, before.cells, stamp, k)
+    let Ok(next) = found.next() else {
+        return None;
+    };
+    let Some(fragment) = next else {
+        return None;
+    };
+    Some(run_behind(fragment, found.start()))
 }
 
-// The spot of cell `k` of an edit, where there is such a cell: a descent in the index and one in the tree.
+// The cells of the fragment that has cell `k` of an edit, where one has it: a descent in the index and one in the tree.
+fn run_of(tree: &SumTree<Fragment>, index: &InsertionIndex, stamp: Lamport, k: u64) -> Option<Run>
+    ensures run { OfEach tree.now.items index.now (λ h. IsRunOf h stamp k result) }
+    ensures room { IfSome result RunFits }
+{
+    let Some(id) = index.find(stamp, k) else {
+        return None;
+    };
+    run_at(tree, id)
+}
+
+// The spot of cell `k` of an edit, where there is such a cell, by the descents of [`run_of`].
 pub fn spot_of(
     tree: &SumTree<Fragment>,
     index: &InsertionIndex,
@@ -81,10 +115,30 @@ pub fn spot_of(
     ensures spot { (u : List UndoEntry) → (h : History) → Stand tree.now.items index.now u h → Lawful h → result ≡ spot_of h (record { stamp = stamp; k = k }) }
     ensures counted { IfSome result IsCounted }
 {
-    let Some(id) = index.find(stamp, k) else {
+    let Some(run) = run_of(tree, index, stamp, k) else {
         return None;
     };
-    spot_at(tree, id, stamp, k)
+    spot_in(run, stamp, k)
+}
+
+// The spot of cell `k - 1` of an edit, where there is such a cell, and that of cell `k` where it is in the same fragment, by the
+// descents of [`run_of`].
+pub fn spots_of(
+    tree: &SumTree<Fragment>,
+    index: &InsertionIndex,
+    stamp: Lamport,
+    k: u64,
+) -> (Option<Spot>, Option<Spot>)
+    requires { 1 ≤ k }
+    ensures first { OfEach tree.now.items index.now (λ h. result.0 ≡ spot_of h (cell stamp (k - 1))) }
+    ensures next { OfEach tree.now.items index.now (λ h. MayBeSpot h stamp k result.1) }
+    ensures first_counted { IfSome result.0 IsCounted }
+    ensures next_counted { IfSome result.1 IsCounted }
+{
+    let Some(run) = run_of(tree, index, stamp, k - 1) else {
+        return (None, None);
+    };
+    (spot_in(run, stamp, k - 1), spot_in(run, stamp, k))
 }
 
 // Whether a rope may be cut at an offset.

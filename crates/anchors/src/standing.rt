@@ -1,14 +1,14 @@
 // Where a known anchor stands.
-ghost use Rattle.std.specs.Prelude.{◌≡◌, ◌≤◌, ◌<◌, ◌^◌, ◌+◌, length, if◌then◌else◌};
+ghost use Rattle.std.specs.Prelude.{◌≡◌, ◌≤◌, ◌<◌, ◌^◌, ◌+◌, length, IfSome, if◌then◌else◌};
 ghost use Rattle.op_model.specs.Histories.{History};
 ghost use Rattle.op_model.specs.Edits.{is_boundary};
 ghost use Rattle.op_model.specs.Shown.{new_bytes};
 ghost use Rattle.op_model.specs.declared.anchor.Anchor.TheVariants.{At};
 ghost use Rattle.op_model.specs.declared.anchor.Bias.TheVariants.{Left, Right};
-ghost use Rattle.anchors.specs.Spots.{IsCounted};
-ghost use Rattle.anchors.specs.Standing.{StandFor, side, standing_of};
+ghost use Rattle.anchors.specs.Spots.{IsCounted, MayBeSpot};
+ghost use Rattle.anchors.specs.Standing.{StandFor, EndsAt, side, standing_of};
 
-use crate::spot::{Spot, begins, spot_of};
+use crate::spot::{Spot, begins, spot_of, spots_of};
 use fragments::{Fragment, InsertionIndex};
 use lamport_clock::Lamport;
 use op_model::{Anchor, Bias};
@@ -77,6 +77,25 @@ fn ends_before(
     }
 }
 
+// The same, where the spot of cell `k` may be known already.
+fn ends_behind(
+    tree: &SumTree<Fragment>,
+    index: &InsertionIndex,
+    visible: &Rope,
+    hidden: &Rope,
+    stamp: Lamport,
+    k: u64,
+    next: Option<Spot>,
+) -> bool
+    requires { IfSome next IsCounted }
+    ensures { (h : History) → StandFor tree.now.items index.now visible.now hidden.now h → MayBeSpot h stamp k next → EndsAt h stamp k result }
+{
+    match next {
+        None => ends_before(tree, index, visible, hidden, stamp, k),
+        Some(spot) => begins(visible, hidden, spot),
+    }
+}
+
 // Where a Right anchor stands, where it is known.
 fn right_standing(
     tree: &SumTree<Fragment>,
@@ -111,10 +130,11 @@ fn left_standing(
     if k == 0 {
         return None;
     }
-    let Some(spot) = spot_of(tree, index, stamp, k - 1) else {
+    let (spot, next) = spots_of(tree, index, stamp, k);
+    let Some(spot) = spot else {
         return None;
     };
-    if ends_before(tree, index, visible, hidden, stamp, k) {
+    if ends_behind(tree, index, visible, hidden, stamp, k, next) {
         return Some(behind_cell(spot));
     }
     None

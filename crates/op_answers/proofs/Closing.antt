@@ -1,6 +1,7 @@
 -- What the version of a history tells: no operation has a stamp that it has not seen, and a version that sees the same is closed.
-use Rattle.std.proofs.Common.{◌≡◌, ℕ, ◌<◌, [], refl, sym, ◌∙◌, ap, subst, inl, inr, true, false, not, ◌&&◌, ltb, arith, None}
-use Rattle.std.proofs.lemmas.Bool.{cases_Bool, cases_lt, le-ltb}
+use Rattle.std.proofs.Common.{◌≡◌, ℕ, ◌<◌, Bool, cond, Option, Some, [], ◌∷◌, refl, sym, ◌∙◌, ap, subst, inl, inr, true, false, not, ◌&&◌, ltb, eqb, arith, None}
+use Rattle.std.specs.Prelude.{IfSome}
+use Rattle.std.proofs.lemmas.Bool.{cases_Bool, cases_lt, le-ltb, or_cases, eqb-true}
 use Rattle.lamport_clock.specs.declared.stamp.Lamport.{Lamport}
 use Rattle.lamport_clock.specs.Stamps.{same_stamp}
 use Rattle.lamport_clock.specs.Versions.{Entries, IsVersion, entry, sees, within}
@@ -15,8 +16,9 @@ use Rattle.op_model.proofs.Lawful.{each_of_in}
 use Rattle.op_model.proofs.Passed.{none_find}
 use Rattle.op_model.proofs.Good.{append_nil, within_entry}
 use Rattle.op_model.proofs.VersionLaws.{own_entries, sees_own}
-use Rattle.op_model.proofs.Causes.{Opens, opens_of, of_opens, named_at, names_closed, within_trans}
+use Rattle.op_model.proofs.Causes.{Opens, opens_of, of_opens, named_at, names_closed, within_trans, lawful_opens}
 use Rattle.op_model.proofs.ClosedVersions.{fronts_seen}
+use Rattle.op_answers.specs.Verdicts.{tells, IsCause}
 
 -- no operation has a stamp that the version has not seen
 pub unseen_none : (h : History) (t : Lamport) → sees (version h) t ≡ false → operation_at h t ≡ None
@@ -50,3 +52,22 @@ same_closed h v l i a b = of_opens h v (each_map (λ (e : ℕ × ℕ). entry v e
         let x = within_entry v (version h) a e.0 in
         let y = within_entry (version h) v b e.0 in
         entry_shared h (version h) v (whole_opens h l) b e (omega arith)
+
+-- what an operation of a lawful history tells is so, where the version has seen all that it has
+pub told_closed : (h : History) (v : Entries) (o : Option Operation) → Lawful h → IfSome o (IsCause h v) → (e : ℕ × ℕ) → tells o e ≡ true → (ltb 0 e.1 && not (entry_closed h v e)) ≡ false
+told_closed h v None l i e t = cc
+told_closed h v (Some o) l i e t =
+    let m : IsCause h v o = i in
+    let s : Lamport = record { value = e.1; replica = e.0 } in
+    elim (or_cases (same_stamp (stamp_of o) s) (eqb (entry (version_of o) e.0) e.1) t) [
+      | inl a ↦ names_closed h v e o m.0 a m.1
+      | inr a ↦ entry_shared h (version_of o) v (lawful_opens h l o m.0) m.1 e (eqb-true (entry (version_of o) e.0) e.1 a)
+    ]
+
+-- what is found of a stamp is one of the history
+pub found_in : (h : History) (t : Lamport) (o : Operation) → operation_at h t ≡ Some o → In h o
+found_in [] t o e = cc
+found_in (p ∷ h) t o e = elim (cases_Bool (same_stamp (stamp_of p) t)) [
+  | inl s ↦ (let q : Some p ≡ Some o = sym (ap (λ (b : Bool). cond b (Some p) (operation_at h t)) s) ∙ e in let r : p ≡ o = cc in inl (sym r))
+  | inr s ↦ inr (found_in h t o (sym (ap (λ (b : Bool). cond b (Some p) (operation_at h t)) s) ∙ e))
+]

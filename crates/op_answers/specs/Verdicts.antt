@@ -1,11 +1,12 @@
 -- What a verdict means.
-use Rattle.std.specs.Prelude.{Bool, false, [], ◌∷◌, Option, Some, None}
-use Rattle.lamport_clock.specs.Versions.{Entries, within}
+use Rattle.std.specs.Prelude.{◌≡◌, ℕ, ◌==◌, ◌||◌, Bool, true, false, [], ◌∷◌, Option, Some, None}
+use Rattle.lamport_clock.specs.Versions.{Entries, entry, within}
+use Rattle.lamport_clock.specs.Stamps.{same_stamp}
 use Rattle.op_model.specs.declared.operation.Operation.{Operation}
 use Rattle.op_model.specs.declared.faults.OpFault.{OpFault}
 use Rattle.op_model.specs.Choice.{first_of}
-use Rattle.op_model.specs.Operations.{version_of, pieces_of, counts_of}
-use Rattle.op_model.specs.Histories.{History, seen}
+use Rattle.op_model.specs.Operations.{stamp_of, version_of, pieces_of, counts_of}
+use Rattle.op_model.specs.Histories.{History, In, seen}
 use Rattle.op_model.specs.Shown.{full}
 use Rattle.op_model.specs.Answers.{Answer, same_op, range_fault, count_fault}
 use Rattle.op_model.specs.Answers.Answer.{Good, Repeat, Waits, Refused}
@@ -29,6 +30,15 @@ equals (Some o) op = same_op o op
 abbrev pub causes : Option Operation → Entries → Bool
 causes None v = false
 causes (Some o) v = within (version_of o) v
+
+-- what is found tells that an entry is closed: it is its stamp, or its version has it too
+abbrev pub tells : Option Operation → ℕ × ℕ → Bool
+tells None e = false
+tells (Some o) e = same_stamp (stamp_of o) (record { value = e.1; replica = e.0 }) || entry (version_of o) e.0 == e.1
+
+-- an operation of h that has seen no more than v
+abbrev pub IsCause : History → Entries → Operation → Type 0
+IsCause h v o = In h o × (within (version_of o) v ≡ true)
 
 -- the fault of an operation's pieces or counts against what its version sees
 abbrev pub part_fault : History → Operation → Option OpFault

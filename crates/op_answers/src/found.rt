@@ -1,16 +1,16 @@
 // Operations that are applied or wait, found by their stamps.
-ghost use Rattle.std.specs.Prelude.{◌≡◌, nat_lt, not, ◌&&◌, ◌||◌, is_some, option_map, IsTrue};
+ghost use Rattle.std.specs.Prelude.{◌≡◌, nat_lt, not, ◌&&◌, ◌||◌, is_some, option_map, ℕ, IfSome, IsFalse, IsTrue};
 ghost use Rattle.std.specs.List.{find};
 ghost use Rattle.std.specs.Option.{option_copied};
 ghost use Rattle.lamport_clock.specs.Versions.{within};
-ghost use Rattle.op_model.specs.Operations.{stamp_of, version_of};
+ghost use Rattle.op_model.specs.Operations.{version_of};
 ghost use Rattle.op_model.specs.Histories.{Distinct, has_edit, operation_at, seen, version};
 ghost use Rattle.op_model.specs.Answers.{count_fault, entry_closed, open_replica};
 ghost use Rattle.op_model.specs.Lawful.{Lawful};
-ghost use Rattle.op_answers.specs.Verdicts.{equals, causes};
+ghost use Rattle.op_answers.specs.Verdicts.{equals, causes, tells, IsCause};
 
 use applied_ops::AppliedList;
-use lamport_clock::{Lamport, Version};
+use lamport_clock::{Lamport, Version, is_same};
 use op_model::{OpFault, Operation, UndoCount};
 
 fn either(a: bool, b: bool) -> bool
@@ -82,10 +82,40 @@ fn both(a: bool, b: bool) -> bool
     a && b
 }
 
-fn is_open(applied: &AppliedList, version: &Version, entry: (u16, u32)) -> bool
-    requires { Distinct applied.now }
+// Whether an operation tells that an entry is closed: it is its stamp, or its version has it too.
+fn tells(latest: Option<&Operation>, entry: (u16, u32)) -> bool
+    ensures { result ≡ tells (option_copied latest.entry) entry }
+{
+    match latest {
+        Some(op) => {
+            let stamp = Lamport {
+                value: entry.1,
+                replica: entry.0,
+            };
+            either(
+                is_same(op.stamp(), stamp),
+                op.version().get(entry.0) == entry.1,
+            )
+        }
+        None => false,
+    }
+}
+
+// Whether an entry names no applied operation whose causes the version has seen. None is looked for where `latest` tells
+// that there is one.
+fn is_open(
+    applied: &AppliedList,
+    version: &Version,
+    latest: Option<&Operation>,
+    entry: (u16, u32),
+) -> bool
+    requires applied { Distinct applied.now }
+    requires latest { (e : ℕ × ℕ) → IsTrue (tells (option_copied latest) e) → IsFalse (nat_lt 0 e.1 && not (entry_closed applied.now version.now e)) }
     ensures { result ≡ (nat_lt 0 entry.1 && not (entry_closed applied.now version.now entry)) }
 {
+    if tells(latest, entry) {
+        return false;
+    }
     let stamp = Lamport {
         value: entry.1,
         replica: entry.0,
@@ -94,13 +124,20 @@ fn is_open(applied: &AppliedList, version: &Version, entry: (u16, u32)) -> bool
     both(0 < entry.1, !is_closed)
 }
 
-// The first of the entries that names no applied operation whose causes the version has seen.
-fn first_open(applied: &AppliedList, version: &Version, entries: &[(u16, u32)]) -> Option<u16>
-    requires { Distinct applied.now }
+// The first of the entries that names no applied operation whose causes the version has seen. None is looked for where
+// `latest` tells that.
+fn first_open(
+    applied: &AppliedList,
+    version: &Version,
+    latest: Option<&Operation>,
+    entries: &[(u16, u32)],
+) -> Option<u16>
+    requires applied { Distinct applied.now }
+    requires latest { (e : ℕ × ℕ) → IsTrue (tells (option_copied latest) e) → IsFalse (nat_lt 0 e.1 && not (entry_closed applied.now version.now e)) }
     ensures { result ≡ option_map (λ e. e.0) (find (λ e. nat_lt 0 e.1 && not (entry_closed applied.now version.now e)) entries.now) }
 {
     for &entry in entries {
-        if is_open(applied, version, entry) {
+        if is_open(applied, version, latest, entry) {
             return Some(entry.0);
         }
     }
@@ -112,11 +149,25 @@ pub fn open_replica(applied: &AppliedList, version: &Version) -> Option<u16>
     requires { Distinct applied.now }
     ensures { result ≡ open_replica applied.now version.now }
 {
-    first_open(applied, version, version.as_slice())
+    first_open(applied, version, None, version.as_slice())
+}
+
+// The last operation of its author that an operation has seen, where that is applied and has seen no more than it.
+fn latest_of<'a>(applied: &'a AppliedList, op: &Operation) -> Option<&'a Operation>
+    ensures { IfSome (option_copied result) (IsCause applied.now (version_of op.now)) }
+{
+    let theirs = op.version();
+    let replica = op.stamp().replica;
+    let value = theirs.get(replica);
+    match applied.find(Lamport { value, replica }) {
+        Some(latest) if theirs.sees_all(latest.version()) => Some(latest),
+        _ => None,
+    }
 }
 
 /// What `open_replica` finds of the version of an operation that has seen no more than `have`, the version of what is
-/// applied. Where it has seen all of that, no operation is looked for.
+/// applied. Where it has seen all of that, no operation is looked for; else the last one of its author, and those of which
+/// that one does not tell.
 pub fn open_among(applied: &AppliedList, have: &Version, op: &Operation) -> Option<u16>
     requires lawful { Lawful applied.now }
     requires version { have.now ≡ version applied.now }
@@ -128,7 +179,7 @@ pub fn open_among(applied: &AppliedList, have: &Version, op: &Operation) -> Opti
     if theirs.sees_all(have) {
         return None;
     }
-    first_open(applied, theirs, entries)
+    first_open(applied, theirs, latest_of(applied, op), entries)
 }
 
 // Whether the stamp is that of an applied edit which the version sees.

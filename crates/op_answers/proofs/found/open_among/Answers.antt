@@ -1,9 +1,11 @@
-use Rattle.std.proofs.Common.{◌≡◌, true, sym, ap, subst, ◌∙◌}
+use Rattle.std.proofs.Common.{◌≡◌, ◌&&◌, ltb, not, true, false, sym, ap, subst, ◌∙◌}
+use Rattle.std.specs.Option.{option_copied}
 use Rattle.lamport_clock.specs.Versions.{Entries, IsVersion, within}
 use Rattle.op_model.specs.Operations.{version_of}
 use Rattle.op_model.specs.Histories.{version}
+use Rattle.op_model.specs.Answers.{entry_closed}
 use Rattle.op_model.proofs.Good.{lawful_ready}
-use Rattle.op_answers.proofs.Closing.{same_closed}
+use Rattle.op_answers.proofs.Closing.{same_closed, told_closed}
 use Rattle.op_answers.proofs.found.open_among.Goals as goal
 
 pub returns-then-sees_all : goal.returns-then-sees_all
@@ -16,5 +18,11 @@ returns-then-sees_all c =
     sym (ap (λ (u : Entries). within u c.version-theirs.result.now) c.requires.version ∙ ap (within (version h)) c.version-theirs.ensures) ∙ sym c.sees_all.ensures ∙ c.if-sees_all.true in
     sym (same_closed h v c.requires.lawful is known all)
 
-pub first_open-requires : goal.first_open-requires
-first_open-requires c = (lawful_ready c.args.applied.now c.requires.lawful).0.distinct
+pub first_open-requires-clause-applied : goal.first_open-requires-clause-applied
+first_open-requires-clause-applied c = (lawful_ready c.args.applied.now c.requires.lawful).0.distinct
+
+pub first_open-requires-clause-latest : goal.first_open-requires-clause-latest
+first_open-requires-clause-latest c e t =
+    let h = c.args.applied.now in
+    subst (λ (v : Entries). (ltb 0 e.1 && not (entry_closed h v e)) ≡ false) (sym c.version-theirs.ensures)
+    (told_closed h (version_of c.args.op.now) (option_copied c.latest_of.result) c.requires.lawful c.latest_of.ensures e t)
