@@ -112,4 +112,8 @@ impl KeyedItem for IndexEntry {
             offset: Reverse(self.offset),
         }
     }
+
+    fn last_key(sum: &LastKey) -> Option<IndexKey> {
+        sum.key
+    }
 }

@@ -6,7 +6,7 @@ use Rattle.std.specs.Option.{option_or}
 use Rattle.std.specs.Ordering.{is_lt, is_eq, is_gt, ordering_reverse}
 use Rattle.std.specs.declared.cmp.Ordering.{Ordering}
 use Rattle.std.specs.declared.cmp.Ordering.TheVariants.{Less, Equal, Greater}
-use Rattle.std.proofs.lemmas.List.{append-nil, get_or_append_left, get_or-append-add, get_or_default, length-take-le, drop_more, take_more, take_all, take-append-le, drop-append-le}
+use Rattle.std.proofs.lemmas.List.{append-nil, get_or_append_left, get_or-append-add, get_or_default, length-take-le, drop_more, take_more, take_all, drop_all, take-append-le, drop-append-le}
 use Rattle.std.proofs.Math.Seq.{take-append-add, drop-append-add, get_or-append_seam}
 use Rattle.std.proofs.lemmas.List.Elements.{All-append, All-cons, All-nil, All-head, All-tail, filter-append, filter_passes}
 use Rattle.std.proofs.lemmas.List.Folds.{find-append}
@@ -17,6 +17,11 @@ use Rattle.sum_tree.proofs.Children.{joined-split, joined-take_more}
 use Rattle.sum_tree.specs.Keyed.{Ascending, below, above, held, inserted, removed, IsPlace}
 
 module _ {X : Type 0} where
+  -- what is put behind the last element follows the whole list
+  pub put_behind : (i : ℕ) (xs ys : List X) → length xs ≤ i → (take i xs ++ ys) ++ drop i xs ≡ xs ++ ys
+  put_behind i xs ys l =
+      ap (λ (us : List X). (us ++ ys) ++ drop i xs) (take_all i xs l) ∙ ap (λ (us : List X). (xs ++ ys) ++ us) (drop_all i xs l) ∙ append-nil (xs ++ ys)
+
   pub filter_yes : (p : X → Bool) (xs : List X) → All (λ x. p x ≡ true) xs → filter p xs ≡ xs
   filter_yes p [] a = refl
   filter_yes p (x ∷ xs) a = rw (All-head (λ y. p y ≡ true) x xs a) (ap (λ (ys : List X). x ∷ ys) (filter_yes p xs (All-tail (λ y. p y ≡ true) x xs a)))
@@ -100,6 +105,14 @@ module _ {T K : Type 0} (cmp : K → K → Ordering) (key : T → K) (o : IsTota
       let split : Ascending cmp key (take n xs ++ z ∷ []) = subst (λ (ys : List T). Ascending cmp key ys) (sym cut) a in
       let front : All (λ x. cmp (key x) k ≡ Less) (take n xs) = λ i e lt. o.trans (key (get_or (take n xs) i e)) (key z) k (AllPairs-cross (λ y w. cmp (key y) (key w) ≡ Less) (take n xs) (z ∷ []) i e split lt 0 e (omega arith)) less in
       subst (λ (ys : List T). All (λ x. cmp (key x) k ≡ Less) ys) cut (All-append (λ x. cmp (key x) k ≡ Less) (take n xs) (z ∷ []) front (All-cons (λ x. cmp (key x) k ≡ Less) z [] less (All-nil (λ x. cmp (key x) k ≡ Less))))
+
+  head_of : (xs : List T) → 1 ≤ length xs → T
+  head_of [] l = absurd (omega (arith, l))
+  head_of (x ∷ xs) l = x
+
+  -- the same, for a test of the last key
+  pub all_less : (k : K) (xs : List T) (b : Bool) → Ascending cmp key xs → 1 ≤ length xs → ((d : T) → b ≡ is_lt (cmp (key (get_or xs (length xs - 1) d)) k)) → b ≡ true → All (λ x. cmp (key x) k ≡ Less) xs
+  all_less k xs b a l last e = let d = head_of xs l in less_until k xs d a l (sym (last d) ∙ e)
 
   less_below : (k : K) (xs : List T) → All (λ x. cmp (key x) k ≡ Less) xs → below cmp key k xs ≡ xs
   less_below k xs a = filter_yes (λ x. is_lt (cmp (key x) k)) xs (λ i d l. ap is_lt (a i d l))
@@ -194,6 +207,11 @@ module _ {T K : Type 0} (cmp : K → K → Ordering) (key : T → K) (o : IsTota
       let zero : i + 0 ≡ i = omega arith in
       subst (λ (m : ℕ). IsPlace cmp key k xs (Err m)) zero (place_err k xs i 0 [] w none)
 
+  -- no item has key k, whose place is behind the last
+  pub place_end : (k : K) (xs : List T) → All (λ y. cmp (key y) k ≡ Less) xs → IsPlace cmp key k xs (Err (length xs))
+  place_end k xs less =
+      place_gap k xs (length xs) (omega arith) (subst (λ (ys : List T). All (λ y. cmp (key y) k ≡ Less) ys) (sym (take_all (length xs) xs (omega arith))) less) (subst (λ (ys : List T). All (λ y. cmp (key y) k ≡ Greater) ys) (sym (drop_all (length xs) xs (omega arith))) (All-nil (λ y. cmp (key y) k ≡ Greater)))
+
   -- the item at i is the first whose key is greater
   pub place_before : (k : K) (xs : List T) (i : ℕ) (x : T) → Ascending cmp key xs → i < length xs → x ≡ get_or xs i x → cmp (key x) k ≡ Greater → All (λ y. cmp (key y) k ≡ Less) (take i xs) → IsPlace cmp key k xs (Err i)
   place_before k xs i x a lt read e less =
@@ -256,10 +274,6 @@ module _ {T K : Type 0} (cmp : K → K → Ordering) (key : T → K) (o : IsTota
     behind = behind;
   }
 
-  head_of : (xs : List T) → 1 ≤ length xs → T
-  head_of [] l = absurd (omega (arith, l))
-  head_of (x ∷ xs) l = x
-
   pub child_behind : (k : K) (ts : List (Seen T)) (j : ℕ) (t : Seen T) (b : Bool) → Ascending cmp key (joined ts) → j < length ts → t ≡ get_or ts j t → 1 ≤ length t.items → ((d : T) → b ≡ is_lt (cmp (key (get_or t.items (length t.items - 1) d)) k)) → b ≡ false → All (λ x. cmp (key x) k ≡ Greater) (joined (drop (j + 1) ts))
   child_behind k ts j t b a lt read l last e =
       let d = head_of t.items l in
@@ -271,14 +285,19 @@ module _ {T K : Type 0} (cmp : K → K → Ordering) (key : T → K) (o : IsTota
       let there : x ≡ get_or (joined (take (j + 1) ts)) (length f + n) x = sym (ap (λ (us : List T). get_or us (length f + n) x) front ∙ get_or-append-add f t.items n x ∙ get_or_default t.items n x d within) in
       greater_behind k (joined (take (j + 1) ts)) (joined (drop (j + 1) ts)) (length f + n) x (subst (λ (us : List T). Ascending cmp key us) (sym (joined-split ts (j + 1))) a) (omega (arith, ap length front, length-append f t.items)) there (sym (last d) ∙ e)
 
-  pub child_before : (k : K) (ts : List (Seen T)) (j : ℕ) (t : Seen T) (b : Bool) → Ascending cmp key (joined ts) → j < length ts → t ≡ get_or ts j t → 1 ≤ length t.items → ((d : T) → b ≡ is_lt (cmp (key (get_or t.items (length t.items - 1) d)) k)) → b ≡ true → All (λ x. cmp (key x) k ≡ Less) (joined (take j ts)) → All (λ x. cmp (key x) k ≡ Less) (joined (take (j + 1) ts))
-  child_before k ts j t b a lt read l last e less =
-      let d = head_of t.items l in
+  -- the keys of each child ascend
+  pub child_ascending : (ts : List (Seen T)) (j : ℕ) (t : Seen T) → Ascending cmp key (joined ts) → j < length ts → t ≡ get_or ts j t → Ascending cmp key t.items
+  child_ascending ts j t a lt read =
       let f = joined (take j ts) in
       let front : joined (take (j + 1) ts) ≡ f ++ t.items = joined-take_more ts j t lt read in
       let two : Ascending cmp key ((f ++ t.items) ++ joined (drop (j + 1) ts)) = subst (λ (us : List T). Ascending cmp key us) (sym (joined-split ts (j + 1)) ∙ ap (λ (us : List T). us ++ joined (drop (j + 1) ts)) front) a in
-      let mine : Ascending cmp key t.items = AllPairs-right R f t.items (AllPairs-left R (f ++ t.items) (joined (drop (j + 1) ts)) two) in
-      subst (λ (us : List T). All (λ x. cmp (key x) k ≡ Less) us) (sym front) (All-append (λ x. cmp (key x) k ≡ Less) f t.items less (less_until k t.items d mine l (sym (last d) ∙ e)))
+      AllPairs-right R f t.items (AllPairs-left R (f ++ t.items) (joined (drop (j + 1) ts)) two)
+
+  pub child_before : (k : K) (ts : List (Seen T)) (j : ℕ) (t : Seen T) (b : Bool) → Ascending cmp key (joined ts) → j < length ts → t ≡ get_or ts j t → 1 ≤ length t.items → ((d : T) → b ≡ is_lt (cmp (key (get_or t.items (length t.items - 1) d)) k)) → b ≡ true → All (λ x. cmp (key x) k ≡ Less) (joined (take j ts)) → All (λ x. cmp (key x) k ≡ Less) (joined (take (j + 1) ts))
+  child_before k ts j t b a lt read l last e less =
+      let f = joined (take j ts) in
+      let front : joined (take (j + 1) ts) ≡ f ++ t.items = joined-take_more ts j t lt read in
+      subst (λ (us : List T). All (λ x. cmp (key x) k ≡ Less) us) (sym front) (All-append (λ x. cmp (key x) k ≡ Less) f t.items less (all_less k t.items b (child_ascending ts j t a lt read) l last e))
 
   pub put_inserted : (k : K) (xs ys : List T) (x : T) (i : ℕ) → IsPlace cmp key k xs (Ok i) → k ≡ key x → ys ≡ (take i xs ++ x ∷ []) ++ drop (i + 1) xs → ys ≡ inserted cmp key x xs
   put_inserted k xs ys x i p e made = made ∙ append_assoc (take i xs) (x ∷ []) (drop (i + 1) xs) ∙ ap (λ (us : List T). us ++ x ∷ drop (i + 1) xs) p.1 ∙ ap (λ (us : List T). below cmp key k xs ++ x ∷ us) p.2 ∙ ap (λ (q : K). below cmp key q xs ++ x ∷ above cmp key q xs) e

@@ -8,6 +8,7 @@ mod Arounds
 mod Placeds
 pub mod Runs
 pub mod Keys
+pub mod Lasts
 mod Splices
 mod Pairs
 mod Steps

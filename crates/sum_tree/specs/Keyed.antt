@@ -1,5 +1,5 @@
 -- Lists whose keys ascend.
-use Rattle.std.specs.Prelude.{◌≡◌, ℕ, ◌+◌, ◌<◌, ◌≤◌, List, ◌∷◌, ◌++◌, length, take, drop, get_or, Option, Some, None, Result, Ok, Err}
+use Rattle.std.specs.Prelude.{◌≡◌, ℕ, ◌+◌, ◌-◌, ◌<◌, ◌≤◌, List, ◌∷◌, ◌++◌, length, take, drop, get_or, Option, Some, None, Result, Ok, Err}
 use Rattle.std.specs.List.{AllPairs, filter, find}
 use Rattle.std.specs.Ordering.{is_lt, is_eq, is_gt}
 use Rattle.std.specs.declared.cmp.Ordering.{Ordering}
@@ -32,3 +32,8 @@ removed cmp key k xs = below cmp key k xs ++ above cmp key k xs
 abbrev pub IsPlace : {T K : Type 0} → (K → K → Ordering) → (T → K) → K → List T → Result ℕ ℕ → Type 0
 IsPlace {T} cmp key k xs (Ok i) = (i < length xs) × (take i xs ≡ below cmp key k xs) × (drop (i + 1) xs ≡ above cmp key k xs) × ((d : T) → held cmp key k xs ≡ Some (get_or xs i d))
 IsPlace cmp key k xs (Err i) = (i ≤ length xs) × (take i xs ≡ below cmp key k xs) × (drop i xs ≡ above cmp key k xs) × (held cmp key k xs ≡ None)
+
+-- where there is a key, it is that of the last item
+abbrev pub IsLastKey : {T K : Type 0} → (T → K) → List T → Option K → Type 0
+IsLastKey key xs None = Unit {0}
+IsLastKey {T} key xs (Some k) = (d : T) → k ≡ key (get_or xs (length xs - 1) d)

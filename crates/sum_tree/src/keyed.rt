@@ -1,5 +1,5 @@
 //! Trees whose items' keys ascend.
-ghost use Rattle.std.specs.Prelude.{◌≡◌, ℕ, ◌+◌, ◌-◌, ◌^◌, ◌<◌, ◌≤◌, ◌++◌, length, take, drop, slice_index_or, IfOk, OnOk, OnErr, All, [], ◌∷◌};
+ghost use Rattle.std.specs.Prelude.{◌≡◌, true, ℕ, ◌+◌, ◌-◌, ◌^◌, ◌<◌, ◌≤◌, ◌++◌, length, take, drop, slice_index_or, IfOk, OnOk, OnErr, All, [], ◌∷◌};
 ghost use Rattle.std.specs.Ordering.{is_lt};
 ghost use Rattle.std.specs.declared.cmp.Ordering.TheVariants.{Less, Greater};
 ghost use Rattle.std.specs.Option.{option_copied};
@@ -31,9 +31,25 @@ fn place<T: KeyedItem>(entries: &[Entry<T>], key: &T::Key) -> Result<usize, usiz
 // Whether the last item's key is less than this one.
 fn ends_before<T: KeyedItem>(tree: &SumTree<T>, key: &T::Key) -> bool
     requires filled { 1 ≤ length tree.now.items }
+    requires ascending { Ascending T.Key.cmp T.key_of tree.now.items }
     ensures { (d : T) → result ≡ is_lt (T.Key.cmp (T.key_of (slice_index_or tree.now.items (length tree.now.items - 1) d)) key.now) }
 {
-    tree.end().key().cmp(key).is_lt()
+    let last = match T::last_key(tree.summary()) {
+        Some(last) => last,
+        None => tree.end().key(),
+    };
+    last.cmp(key).is_lt()
+}
+
+// Whether there are items, and the keys of all are less than this one.
+fn all_before<T: KeyedItem>(tree: &SumTree<T>, key: &T::Key) -> bool
+    requires ascending { Ascending T.Key.cmp T.key_of tree.now.items }
+    ensures { result ≡ true → All (λ x. T.Key.cmp (T.key_of x) key.now ≡ Less) tree.now.items }
+{
+    if tree.len() == 0 {
+        return false;
+    }
+    ends_before(tree, key)
 }
 
 // The child in which a key stands or would stand, and how many items lie before that child.
@@ -58,6 +74,15 @@ fn child_for<T: KeyedItem>(children: &[SumTree<T>], key: &T::Key) -> (usize, u64
     (last, before)
 }
 
+// The list of one entry.
+fn one<T: Item>(alloc: Global, entry: Entry<T>) -> Result<Vec<Entry<T>>, AllocError>
+    ensures { IfOk result (λ es. es.items ≡ entry ∷ []) }
+{
+    let mut entries = Vec::with_capacity(alloc, 1)?;
+    entries.push(entry)?;
+    Ok(entries)
+}
+
 impl<T: KeyedItem> SumTree<T> {
     // Where a key stands among the items.
     fn position(&self, key: &T::Key) -> Result<u64, u64>
@@ -65,6 +90,9 @@ impl<T: KeyedItem> SumTree<T> {
         ensures { IsPlace T.Key.cmp T.key_of key.now self.now.items result }
     {
         self.known();
+        if all_before(self, key) {
+            return Err(self.len());
+        }
         let mut node = self;
         let mut before = 0;
         loop {
@@ -84,8 +112,9 @@ impl<T: KeyedItem> SumTree<T> {
         }
     }
 
-    /// The item with this key, if there is one. The keys of the items ascend strictly. Takes no memory: with h the
-    /// height it compares with at most 12 items a level, each of which is at most h nodes away.
+    /// The item with this key, if there is one. The keys of the items ascend strictly. Takes no memory: it compares with the
+    /// last key of all, and of at most 12 children or items a level. A child's sum tells its last key; where it does not, that
+    /// is as many nodes away as the child is high.
     pub fn find(&self, key: &T::Key) -> Option<&T>
         requires ascending { Ascending T.Key.cmp T.key_of self.now.items }
         ensures { option_copied result ≡ held T.Key.cmp T.key_of key.now self.now.items }
@@ -105,10 +134,28 @@ impl<T: KeyedItem> SumTree<T> {
         ensures ok { OnOk result (self.new.items ≡ (take from self.old.items ++ item ∷ []) ++ drop to self.old.items) }
         ensures err { OnErr result (self.new ≡ self.old) }
     {
-        let entry = Entry::new(alloc, item)?;
-        let mut entries = Vec::with_capacity(alloc, 1)?;
-        entries.push(entry)?;
+        let entries = one(alloc, Entry::new(alloc, item)?)?;
         self.put(alloc, from, to, entries)
+    }
+
+    // Puts one item before the i-th, or behind the others. There it is put in place, where that can be.
+    fn put_new(&mut self, alloc: Global, i: u64, item: T) -> Result<(), AllocError>
+        requires within { i ≤ length self.old.items }
+        requires short { length ((take i self.old.items ++ item ∷ []) ++ drop i self.old.items) ≤ 2 ^ 40 }
+        requires fits { T.Summary.fits (fold T.Summary.empty T.Summary.op T.sum_of ((take i self.old.items ++ item ∷ []) ++ drop i self.old.items)) }
+        ensures ok { OnOk result (self.new.items ≡ (take i self.old.items ++ item ∷ []) ++ drop i self.old.items) }
+        ensures err { OnErr result (self.new ≡ self.old) }
+    {
+        if i < self.len() {
+            return self.put_item(alloc, i, i, item);
+        }
+        match self.push_here(alloc, Entry::new(alloc, item)?)? {
+            None => Ok(()),
+            Some(entry) => {
+                let entries = one(alloc, entry)?;
+                self.put(alloc, i, i, entries)
+            }
+        }
     }
 
     /// Puts an item at the place of its key, and answers the item of an equal key that stood there. The keys of the
@@ -131,7 +178,7 @@ impl<T: KeyedItem> SumTree<T> {
                 Ok(Some(old))
             }
             Err(i) => {
-                self.put_item(alloc, i, i, item)?;
+                self.put_new(alloc, i, item)?;
                 Ok(None)
             }
         }

@@ -1,6 +1,7 @@
 //! What the tree asks of its items and of their summaries.
-ghost use Rattle.std.specs.Prelude.{◌≡◌, IfOk};
-ghost use Rattle.sum_tree.specs.Laws.{SummaryLaws};
+ghost use Rattle.std.specs.Prelude.{◌≡◌, List, IfOk};
+ghost use Rattle.sum_tree.specs.Laws.{SummaryLaws, fold};
+ghost use Rattle.sum_tree.specs.Keyed.{Ascending, IsLastKey};
 
 use std::alloc::{AllocError, Global};
 
@@ -63,4 +64,12 @@ pub trait KeyedItem: Item {
     /// The key of this item.
     fn key(&self) -> Self::Key
         ensures { result ≡ key_of self.now };
+
+    /// The key of the last of some items whose keys ascend, where their sum tells it. By default no sum does, and then a
+    /// tree walks down to the item. Takes no memory.
+    fn last_key(_sum: &Self::Summary) -> Option<Self::Key>
+        ensures { (xs : List Self) → Ascending Self.Key.cmp key_of xs → _sum.now ≡ fold Self.Summary.empty Self.Summary.op Self.sum_of xs → IsLastKey key_of xs result }
+    {
+        None
+    }
 }

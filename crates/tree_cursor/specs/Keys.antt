@@ -121,6 +121,10 @@ not_lt Greater h = refl
 abbrev pub cmp_less : {K : Type 0} → (K → K → Ordering) → K → K → Bool
 cmp_less cmp a b = is_lt (cmp a b)
 
+-- a key past the greatest so far is the greatest
+pub greater_past : {K : Type 0} (cmp : K → K → Ordering) (o : Option K) (a b : K) → o ≡ Some a → cmp a b ≡ Less → greater (cmp_less cmp) o (Some b) ≡ Some b
+greater_past cmp o a b e l = rw (e, l) refl
+
 module _ {K : Type 0} (cmp : K → K → Ordering) (t : IsTotalOrder cmp) where
   down_at : (a b c : K) (o : Ordering) → cmp a b ≡ o → is_lt o ≡ false → is_lt (cmp b c) ≡ false → cmp a c ≡ Less → ⊥
   down_at a b c Less e h k m = cc

@@ -106,4 +106,8 @@ impl KeyedItem for UndoEntry {
             by: self.by,
         }
     }
+
+    fn last_key(sum: &LastUndo) -> Option<UndoKey> {
+        sum.key
+    }
 }

@@ -1,8 +1,14 @@
 use Rattle.std.proofs.Common.{rules, ◌≡◌, ◌+◌, ◌<◌, ◌≤◌, length, true, false, sym, subst, arith}
 use Rattle.sum_tree.specs.Seen.{Seen}
 use Rattle.sum_tree.proofs.Children.{step_len, joined-take_le}
-use Rattle.sum_tree.proofs.Keys.{child_behind, child_before}
+use Rattle.sum_tree.proofs.Keys.{child_ascending, child_behind, child_before}
 use Rattle.sum_tree.proofs.keyed.child_for.Goals as goal
+
+pub ends_before-requires-clause-ascending : goal.ends_before-requires-clause-ascending
+ends_before-requires-clause-ascending g c =
+    let ts = c.args.children.now in
+    let lt : c.loop-k.k < length ts = omega (arith, c.loop-k-test.true) in
+    child_ascending g.T.Key.Ord.cmp g.T.KeyedItem.key_of g.met.T.Key.Ord.total ts c.loop-k.k c.index-children-k.result c.requires.ascending lt c.index-children-k.is
 
 pub returns-then-not-ends_before-clause-behind : goal.returns-then-not-ends_before-clause-behind
 returns-then-not-ends_before-clause-behind g c =

@@ -9,9 +9,6 @@ use Rattle.applied_ops.proofs.list.AppliedList.push.Goals as goal
 pub insert-requires-clause-short : goal.insert-requires-clause-short
 insert-requires-clause-short c = inserted_long (record { stamp = c.stamp-stamp.result; index = c.len-index.result }) c.self.inside.places.items (omega (arith, c.len.ensures))
 
-pub insert-requires-clause-fits : goal.insert-requires-clause-fits
-insert-requires-clause-fits c = counts_fit _ (inserted_long (record { stamp = c.stamp-stamp.result; index = c.len-index.result }) c.self.inside.places.items (omega (arith, c.len.ensures)))
-
 pub push-requires-clause-fits : goal.push-requires-clause-fits
 push-requires-clause-fits c = counts_fit _ (pushed_long c.self.inside.operations.items c.in_ok-applied.applied (omega (arith, c.len-index.ensures)))
 

@@ -13,7 +13,7 @@ returns-in_ok-put_item-in-Ok-clause-ascending g c =
     let xs = c.args.self.now.items in
     subst (λ (zs : List _). Ascending g.T.Key.Ord.cmp g.T.KeyedItem.key_of zs) (sym (put_inserted g.T.Key.Ord.cmp g.T.KeyedItem.key_of g.met.T.Key.Ord.total c.key.result xs c.put_item.new.self.items c.args.item c.in-Ok.i c.in-Ok.ensures c.key.ensures c.in_ok-put_item-in-Ok.ensures.ok)) (ascending_inserted g.T.Key.Ord.cmp g.T.KeyedItem.key_of g.met.T.Key.Ord.total c.args.item xs c.requires.ascending)
 
-pub returns-in_ok-put_item-in-Err-clause-ascending : goal.returns-in_ok-put_item-in-Err-clause-ascending
-returns-in_ok-put_item-in-Err-clause-ascending g c =
+pub returns-in_ok-put_new-in-Err-clause-ascending : goal.returns-in_ok-put_new-in-Err-clause-ascending
+returns-in_ok-put_new-in-Err-clause-ascending g c =
     let xs = c.args.self.now.items in
-    subst (λ (zs : List _). Ascending g.T.Key.Ord.cmp g.T.KeyedItem.key_of zs) (sym (put_between g.T.Key.Ord.cmp g.T.KeyedItem.key_of g.met.T.Key.Ord.total c.key.result xs c.put_item-in-Err.new.self.items c.args.item c.in-Err.i c.in-Err.ensures c.key.ensures c.in_ok-put_item-in-Err.ensures.ok)) (ascending_inserted g.T.Key.Ord.cmp g.T.KeyedItem.key_of g.met.T.Key.Ord.total c.args.item xs c.requires.ascending)
+    subst (λ (zs : List _). Ascending g.T.Key.Ord.cmp g.T.KeyedItem.key_of zs) (sym (put_between g.T.Key.Ord.cmp g.T.KeyedItem.key_of g.met.T.Key.Ord.total c.key.result xs c.put_new.new.self.items c.args.item c.in-Err.i c.in-Err.ensures c.key.ensures c.in_ok-put_new-in-Err.ensures.ok)) (ascending_inserted g.T.Key.Ord.cmp g.T.KeyedItem.key_of g.met.T.Key.Ord.total c.args.item xs c.requires.ascending)

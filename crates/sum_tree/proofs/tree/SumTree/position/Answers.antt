@@ -1,12 +1,18 @@
-use Rattle.std.proofs.Common.{◌≡◌, ◌+◌, ◌≤◌, List, Ok, Err, length, get_or, sym, ap, subst, ◌∙◌, arith}
+use Rattle.std.proofs.Common.{rules, true, ℕ, ◌≡◌, ◌+◌, ◌≤◌, List, Ok, Err, length, get_or, sym, ap, subst, ◌∙◌, arith}
 use Rattle.std.specs.List.{All}
 use Rattle.sum_tree.specs.Seen.{Seen}
 use Rattle.sum_tree.specs.Shape.{joined}
 use Rattle.sum_tree.specs.Keyed.{Ascending, IsPlace}
 use Rattle.sum_tree.proofs.Children.{child_filled, joined-take_le}
 use Rattle.sum_tree.proofs.Opened.{IsInner, opened, opened_leaf}
-use Rattle.sum_tree.proofs.Keys.{IsAround, around_all, around_ascending, around_length, around_child, around_within, place_ok, place_err}
+use Rattle.sum_tree.proofs.Keys.{IsAround, around_all, around_ascending, around_length, around_child, around_within, place_ok, place_err, place_end}
 use Rattle.sum_tree.proofs.tree.SumTree.position.Goals as goal
+
+pub returns-then-all_before : goal.returns-then-all_before
+returns-then-all_before g c =
+    let xs = c.args.self.now.items in
+    let yes : c.all_before.result ≡ true = search rules in
+    subst (λ (m : ℕ). IsPlace g.T.Key.Ord.cmp g.T.KeyedItem.key_of c.args.key.now xs (Err m)) (sym c.len.ensures) (place_end g.T.Key.Ord.cmp g.T.KeyedItem.key_of g.met.T.Key.Ord.total c.args.key.now xs (c.all_before.ensures yes))
 
 pub loop-entries-init : goal.loop-entries-init
 loop-entries-init g c = around_all g.T.Key.Ord.cmp g.T.KeyedItem.key_of g.met.T.Key.Ord.total c.args.key.now c.args.self.now.items
