@@ -1,5 +1,6 @@
 pub mod Texts
 pub mod Stops
+pub mod Fronts
 pub mod Named
 pub mod Grows
 pub mod Clipping

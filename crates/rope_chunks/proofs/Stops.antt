@@ -97,7 +97,7 @@ past_step : (p : Place → Bool) (before a e : Place) (us vs : List Place) (t : 
 past_step p before a e us vs true f h k = rw f k
 past_step p before a e us vs false f h k = h
 
-stop-past : (p : Place → Bool) → Stays p → (before a : Place) (cs rest : List ℕ) → Begins rest → p (walk_end a cs) ≡ false →
+pub stop-past : (p : Place → Bool) → Stays p → (before a : Place) (cs rest : List ℕ) → Begins rest → p (walk_end a cs) ≡ false →
     stop p before (walk a (cs ++ rest)) ≡ stop p (walk_end a cs) (walk (walk_end a cs) rest)
 unfolding walk_end
 stop-past p s before a [] rest h f = walk-begins p before a rest h f

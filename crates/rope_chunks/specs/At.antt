@@ -88,7 +88,7 @@ past_later p x = record {
   point_utf16 = (omega arith, λ e. grind (arith, nat_tests));
 }
 
-past_within : (p x : Place) → IsWithin p → IsWithin x → IsWithin (place_sum p x)
+pub past_within : (p x : Place) → IsWithin p → IsWithin x → IsWithin (place_sum p x)
 past_within p x h k = record { column = grind (arith, nat_tests, h.column, k.column); column_utf16 = grind (arith, nat_tests, h.column_utf16, k.column_utf16) }
 
 text_within : (bs : List ℕ) → IsWithin (summary_end (summary_of bs))

@@ -62,20 +62,20 @@ fn newlines(lanes: u8x16) -> u64
 
 /// Some bytes of a text among which is no LF.
 #[derive(Clone, Copy)]
-pub(crate) struct Run {
+pub struct Run {
     /// How many bytes they are.
-    pub(crate) len: usize,
+    pub len: usize,
 
     /// How many characters they begin.
-    pub(crate) chars: u64,
+    pub chars: u64,
 
     /// How many UTF-16 units these have.
-    pub(crate) units: u64,
+    pub units: u64,
 }
 
 /// The 16 bytes from `at` on, or those of them that stand before the first LF.
 #[inline(always)]
-pub(crate) fn run_at(bytes: &[u8], at: usize) -> Run
+pub fn run_at(bytes: &[u8], at: usize) -> Run
     requires { at + LANES ≤ length bytes.now }
     ensures few { result.len ≤ 16 }
     ensures row { newline_count (take result.len (drop at bytes.now)) ≡ 0 }

@@ -16,7 +16,7 @@ mod summary;
 mod threads;
 
 pub use bytes::{is_char_start, units_at};
-pub use lanes::{LANES, LaneMasks};
+pub use lanes::{LANES, LaneMasks, Run, run_at};
 pub use places::Place;
 pub use points::{OffsetUtf16, Point, PointUtf16};
 pub use summary::TextSummary;

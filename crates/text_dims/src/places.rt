@@ -1,8 +1,10 @@
 //! A place in a text, in each kind of position at once.
 ghost use Rattle.std.specs.Prelude.{◌≡◌};
+ghost use Rattle.text_dims.specs.Bytes.{run_summary};
 ghost use Rattle.text_dims.specs.Places.{PlaceFits, offset_utf16_of, place_after, place_sum, point_of, point_utf16_of, summary_end};
 
 use crate::bytes::units_at;
+use crate::lanes::Run;
 use crate::points::{OffsetUtf16, Point, PointUtf16};
 use crate::summary::TextSummary;
 
@@ -74,6 +76,21 @@ impl Place {
                 column: text.lines.column,
                 column_utf16: text.last_row_len_utf16,
             }
+        }
+    }
+
+    /// The place past some bytes among which is no LF, which stand here.
+    #[inline]
+    pub fn past_run(self, run: Run) -> Place
+        requires { PlaceFits (place_sum self (summary_end (run_summary run.len run.chars run.units))) }
+        ensures { result ≡ place_sum self (summary_end (run_summary run.len run.chars run.units)) }
+    {
+        Place {
+            offset: self.offset + run.len as u64,
+            utf16: self.utf16 + run.units,
+            row: self.row,
+            column: self.column + run.len as u64,
+            column_utf16: self.column_utf16 + run.units,
         }
     }
 
