@@ -10,7 +10,7 @@ use crate::kept::Kept;
 use crate::publisher::{Publisher, Side, close_all};
 use crate::reader::SnapReader;
 use crate::rule::Hand;
-use crate::steps::{WriteEnd, show_in};
+use crate::steps::{ReadEnd, WriteEnd, show_in};
 use std::alloc::{AllocError, Global};
 use std::sync::Wait;
 use text_buffer::Snapshot;
@@ -73,17 +73,31 @@ fn open_pair<R: Wait>(
     ensures own { IfOk result (λ r. r.1.pair ≡ r.0.growth.reached.book) }
 {
     let mut growth = Growth::new();
-    let kept = growth.grow(first.share()?)?;
-    let mut end = WriteEnd::new(alloc, kept.share()?, kept.share()?, 1)?;
+    let longest = growth.grow(first.share()?)?;
+    let (end, reader) = open_ends(rt, alloc, &longest)?;
+    Ok((
+        Side {
+            end,
+            growth,
+            is_ahead: false,
+        },
+        SnapReader {
+            end: reader,
+            longest,
+            entered: false,
+        },
+    ))
+}
+
+// The two ends of a pair in which the snapshot is shown. Both have seen it.
+fn open_ends<R: Wait>(rt: &R, alloc: Global, kept: &Kept) -> Result<(WriteEnd, ReadEnd), AllocError>
+    ensures shown { IfOk result (λ r. r.0.desk.shown.value ≡ kept.now) }
+    ensures told { IfOk result (λ r. view r.0.desk.place ≡ kept.now ∷ []) }
+    ensures learned { IfOk result (λ r. view r.1.place ≡ kept.now ∷ []) }
+{
+    let mut end = make_writer(alloc, kept)?;
     match start(rt, &mut end, kept) {
-        Ok(reader) => Ok((
-            Side {
-                end,
-                growth,
-                is_ahead: false,
-            },
-            reader,
-        )),
+        Ok(reader) => Ok((end, reader)),
         Err(refused) => {
             end.take(rt);
             Err(refused)
@@ -91,19 +105,31 @@ fn open_pair<R: Wait>(
     }
 }
 
-// Publishes the first snapshot, and makes the reader, which learns it.
-fn start<R: Wait>(rt: &R, end: &mut WriteEnd, kept: Kept) -> Result<SnapReader, AllocError>
-    requires { kept ≡ end.old.desk.shown.value }
-    ensures shown { OnOk result ((end.new.desk.shown.value ≡ kept) × (view end.new.desk.place ≡ kept ∷ [])) }
-    ensures learned { IfOk result (λ r. HasLearned kept.snapshot r) }
-    ensures own { IfOk result (λ r. r.pair ≡ kept.reached.book) }
+// A writer's end that shows the snapshot. Nobody has seen it.
+fn make_writer(alloc: Global, kept: &Kept) -> Result<WriteEnd, AllocError>
+    ensures { IfOk result (λ e. e.desk.shown.value ≡ kept.now) }
+{
+    WriteEnd::new(alloc, kept.share()?, kept.share()?, 1)
+}
+
+// Publishes the first snapshot, and makes the reader's end, which learns it.
+fn start<R: Wait>(rt: &R, end: &mut WriteEnd, kept: &Kept) -> Result<ReadEnd, AllocError>
+    requires { kept.now ≡ end.old.desk.shown.value }
+    ensures shown { OnOk result (end.new.desk.shown.value ≡ kept.now) }
+    ensures told { OnOk result (view end.new.desk.place ≡ kept.now ∷ []) }
+    ensures learned { IfOk result (λ r. view r.place ≡ kept.now ∷ []) }
 {
     show_in(end, rt, kept.share()?)?;
+    make_reader(end)
+}
+
+// A reader's end that has seen what the writer has seen.
+fn make_reader(end: &mut WriteEnd) -> Result<ReadEnd, AllocError>
+    ensures shown { end.new.desk.shown ≡ end.old.desk.shown }
+    ensures told { view end.new.desk.place ≡ view end.old.desk.place }
+    ensures learned { IfOk result (λ r. view r.place ≡ view end.old.desk.place) }
+{
     let mut reader = end.factory().reader()?;
     reader.learn::<Hand>(end.tell::<Hand>());
-    Ok(SnapReader {
-        end: reader,
-        longest: kept,
-        entered: false,
-    })
+    Ok(reader)
 }
