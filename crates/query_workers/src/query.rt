@@ -8,18 +8,20 @@ use text_buffer::Snapshot;
 /// A query that snapshots answer.
 pub trait Query<A> {
     ghost use Rattle.std.specs.Prelude.{List};
+    ghost use Rattle.std.specs.Thread.{IsSync};
     ghost use Rattle.op_model.specs.declared.operation.Operation.{Operation};
 
     /// The plain answer on what a replica has applied, the base first.
     ghost plain: { Self → List Operation → A };
 
-    /// The answer on a snapshot.
+    /// The answer on a snapshot. Threads of its own may share the handle.
     fn answer<R: Threads + Sync>(
         &self,
         rt: &R,
         alloc: Global,
         snapshot: &Snapshot,
     ) -> Result<A, AllocError>
+        requires sync { IsSync R.row }
         ensures { IfOk result (λ a. a ≡ plain self.now snapshot.now) };
 }
 

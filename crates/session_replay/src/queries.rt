@@ -1,8 +1,10 @@
 // The answers to queries, from what a replica was.
-ghost use Rattle.std.specs.Prelude.{◌≡◌, map, IfOk};
+ghost use Rattle.std.specs.Prelude.{◌≡◌, ◌↔◌, ℕ, List, length, map, Err, IfOk};
 ghost use Rattle.std.specs.Option.{option_map, option_to_list};
 ghost use Rattle.op_model.specs.Shown.{text};
 ghost use Rattle.text_dims.specs.Places.{place_at_offset};
+ghost use Rattle.snapshot_search.specs.Starts.{starts};
+ghost use Rattle.snapshot_search.specs.declared.fault.FindFault.{FindFault};
 ghost use Rattle.session_lines.specs.declared.session.SessionLine.{SessionLine};
 ghost use Rattle.session_lines.specs.declared.report.Report.{Report};
 ghost use Rattle.session_replay.specs.Working.{state_of};
@@ -17,12 +19,18 @@ use rope_chunks::Rope;
 use session_lines::{
     FindAnswer, Numbers, OffsetAnswer, PointAnswer, QueryAnswer, Report, SessionLine,
 };
-use snapshot_search::{FindFault, find_all};
+use snapshot_search::{FindFault, find_all, find_all_par};
 use std::alloc::{AllocError, Global};
 use std::thread::Threads;
 use text_buffer::Snapshot;
 use text_dims::Point;
 use tree_cursor::Bias;
+
+// How many bytes a text has at least that is searched in parts: a thread for fewer would cost more than it saves.
+const LARGE: u64 = 1_048_576;
+
+// In how many parts.
+const PARTS: u32 = 4;
 
 /// What a query asks of a text.
 #[derive(Drop)]
@@ -42,14 +50,14 @@ impl Query<QueryAnswer> for Question {
 
     fn answer<R: Threads + Sync>(
         &self,
-        _rt: &R,
+        rt: &R,
         alloc: Global,
         snapshot: &Snapshot,
     ) -> Result<QueryAnswer, AllocError> {
         let rope = snapshot.text();
         match self {
             Question::StartsOf(needle) => {
-                let answer = find_answer(alloc, rope, needle.as_str())?;
+                let answer = find_answer_beside(rt, alloc, rope, needle.as_str())?;
                 Ok(QueryAnswer::Find(answer))
             }
             Question::PointOf(offset) => Ok(QueryAnswer::Point(point_answer(rope, *offset))),
@@ -101,13 +109,37 @@ fn applied_count(snapshot: &Snapshot) -> u64
     snapshot.applied().len().saturating_sub(1)
 }
 
-fn find_answer(alloc: Global, rope: &Rope, needle: &str) -> Result<FindAnswer, AllocError>
-    ensures { IfOk result (λ a. a ≡ find_answer needle.now rope.now) }
+// What a search has found, as an answer.
+fn answer_of(found: Result<Vec<u64>, FindFault>) -> Result<FindAnswer, AllocError>
+    ensures { (needle t : List ℕ) → IfOk found (λ v. v.items ≡ starts t needle)
+        → ((found ≡ Err FindFault.EmptyNeedle) ↔ (length needle ≡ 0)) → IfOk result (λ a. a ≡ find_answer needle t) }
 {
-    match find_all(alloc, rope, needle) {
+    match found {
         Ok(starts) => Ok(FindAnswer::Starts(Numbers::new(starts))),
         Err(FindFault::EmptyNeedle) => Ok(FindAnswer::EmptyNeedle),
         Err(FindFault::OutOfMemory) => Err(AllocError),
+    }
+}
+
+fn find_answer(alloc: Global, rope: &Rope, needle: &str) -> Result<FindAnswer, AllocError>
+    ensures { IfOk result (λ a. a ≡ find_answer needle.now rope.now) }
+{
+    answer_of(find_all(alloc, rope, needle))
+}
+
+// The same answer, for which a large text is searched in parts, beside each other.
+fn find_answer_beside<R: Threads + Sync>(
+    rt: &R,
+    alloc: Global,
+    rope: &Rope,
+    needle: &str,
+) -> Result<FindAnswer, AllocError>
+    ensures { IfOk result (λ a. a ≡ find_answer needle.now rope.now) }
+{
+    if rope.len() < LARGE {
+        find_answer(alloc, rope, needle)
+    } else {
+        answer_of(find_all_par(rt, alloc, rope, needle, PARTS))
     }
 }
 

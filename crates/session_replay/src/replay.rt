@@ -193,6 +193,7 @@ impl Progress {
             return Ok(());
         };
         let made = snapshot.anchor(offset, bias);
+        drop(snapshot);
         let answer = names::keep_anchor(alloc, &mut self.anchors, name, made)?;
         let name = names::copy_of(alloc, name)?;
         write_line(alloc, &mut self.report, &Report::Anchor { name, answer })?;
@@ -207,10 +208,12 @@ impl Progress {
         let Some(snapshot) = self.snapshot_of(id)? else {
             return Ok(());
         };
+        let answer = names::where_answer(&snapshot, names::find(&self.anchors, name));
+        drop(snapshot);
         let report = Report::Where {
             name: names::copy_of(alloc, name)?,
             replica: id,
-            answer: names::where_answer(&snapshot, names::find(&self.anchors, name)),
+            answer,
         };
         write_line(alloc, &mut self.report, &report)?;
         Ok(())
@@ -225,6 +228,7 @@ impl Progress {
             return Ok(());
         };
         let version = snapshot.version().copy(alloc)?;
+        drop(snapshot);
         names::keep(alloc, &mut self.marks, name, version)?;
         let name = names::copy_of(alloc, name)?;
         write_line(alloc, &mut self.report, &Report::Mark { name })?;
