@@ -23,9 +23,13 @@ option_rule name parser = record (new_rule name) { long = Some name; parser = So
 abbrev pub wanted_rule : Text → ValueParser → Rule
 wanted_rule name parser = record (option_rule name parser) { required = true }
 
--- `replay [--workers N]`, with 2 of them where they are not named
+-- `--workers N`, with 2 of them where they are not named
+abbrev pub workers_rule : Rule
+workers_rule = record (option_rule (codes "workers") (Unsigned 0 16)) { defaults = codes "2" ∷ [] }
+
+-- `replay [--workers N]`
 abbrev pub replay_line : App
-replay_line = with_rule (new_app (codes "replay")) (record (option_rule (codes "workers") (Unsigned 0 16)) { defaults = codes "2" ∷ [] })
+replay_line = with_rule (new_app (codes "replay")) workers_rule
 
 -- `check`
 abbrev pub check_line : App
@@ -36,10 +40,13 @@ abbrev pub make_line : App
 make_line =
     with_rule (with_rule (with_rule (new_app (codes "make")) (wanted_rule (codes "seed") (Unsigned 0 2147483647))) (wanted_rule (codes "replicas") (Unsigned 1 16))) (wanted_rule (codes "edits") (Unsigned 0 20000))
 
--- one of the three, with no name of a program before it
+-- the program without its commands: it has no name of a program before it, and asks for a command
+abbrev pub program : App
+program = on_top (λ s. record s { no_binary_name = true; subcommand_required = true }) (new_app (codes "zedbuf"))
+
+-- one of the three
 abbrev pub command_line : App
-command_line =
-    with_subcommand (with_subcommand (with_subcommand (on_top (λ s. record s { no_binary_name = true; subcommand_required = true }) (new_app (codes "zedbuf"))) replay_line.top) check_line.top) make_line.top
+command_line = with_subcommand (with_subcommand (with_subcommand program replay_line.top) check_line.top) make_line.top
 
 -- ---- the command
 

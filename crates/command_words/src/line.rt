@@ -3,7 +3,7 @@ ghost use Rattle.std.specs.Prelude.{◌≡◌, IfOk, false, codes};
 ghost use Rattle.clap.specs.Words.{app_of, rule_of};
 ghost use Rattle.clap.specs.declared.builder.Command.TheViews.{out-Command as fields_of};
 ghost use Rattle.clap.specs.declared.builder.value_parser.ValueParser.TheVariants.{Unsigned};
-ghost use Rattle.command_words.specs.Words.{check_line, command_line, make_line, option_rule, replay_line, wanted_rule};
+ghost use Rattle.command_words.specs.Words.{check_line, command_line, make_line, option_rule, program, replay_line, wanted_rule, workers_rule};
 
 use clap::builder::ValueParser;
 use clap::{Arg, Command, value_parser};
@@ -25,12 +25,19 @@ fn wanted<'a>(alloc: Global, name: &'a str, parser: ValueParser<'a>) -> Arg<'a>
     option(alloc, name, parser).required(true)
 }
 
+/// `--workers N`, with 2 of them where they are not named.
+fn workers<'a>(alloc: Global) -> Arg<'a>
+    ensures rule { rule_of result ≡ workers_rule }
+    ensures local { result.global ≡ false }
+{
+    option(alloc, "workers", value_parser!(u64).range(0..=16)).default_value("2")
+}
+
 fn replay_line<'a>(alloc: Global) -> Result<Command<'a>, AllocError>
     ensures line { IfOk result (λ c. app_of c ≡ replay_line) }
     ensures local { IfOk result (λ c. (fields_of c).has_globals ≡ false) }
 {
-    let workers = option(alloc, "workers", value_parser!(u64).range(0..=16)).default_value("2");
-    Command::new(alloc, "replay").arg(workers)
+    Command::new(alloc, "replay").arg(workers(alloc))
 }
 
 fn seed<'a>(alloc: Global) -> Arg<'a>
@@ -64,17 +71,21 @@ fn make_line<'a>(alloc: Global) -> Result<Command<'a>, AllocError>
         .arg(edits(alloc))
 }
 
+/// The program, without its commands.
+fn program<'a>(alloc: Global) -> Command<'a>
+    ensures { app_of result ≡ program }
+{
+    Command::new(alloc, "zedbuf")
+        .no_binary_name(true)
+        .subcommand_required(true)
+}
+
 /// The command line: one of the commands, with no name of a program before it.
 pub fn command_line<'a>(alloc: Global) -> Result<Command<'a>, AllocError>
     ensures { IfOk result (λ c. app_of c ≡ command_line) }
 {
-    let replay = replay_line(alloc)?;
-    let check = Command::new(alloc, "check");
-    let make = make_line(alloc)?;
-    Command::new(alloc, "zedbuf")
-        .no_binary_name(true)
-        .subcommand_required(true)
-        .subcommand(replay)?
-        .subcommand(check)?
-        .subcommand(make)
+    program(alloc)
+        .subcommand(replay_line(alloc)?)?
+        .subcommand(Command::new(alloc, "check"))?
+        .subcommand(make_line(alloc)?)
 }
