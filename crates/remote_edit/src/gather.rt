@@ -7,7 +7,8 @@ ghost use Rattle.locators.specs.Locator.{between_digits};
 ghost use Rattle.fragments.specs.Index.{with_entry};
 ghost use Rattle.fragments.specs.Stand.{entry_of};
 ghost use Rattle.remote_edit.specs.Indexes.{IsIndexed};
-ghost use Rattle.remote_edit.specs.Walk.{bytes, seen_bytes, Fit, last_id, next_id, new_fragment, advance, skip_later, put_new};
+ghost use Rattle.remote_edit.specs.Walk.{bytes, seen_bytes, Fit, last_id, next_id, new_fragment, front, back, advance, skip_later, put_new};
+ghost use Rattle.remote_edit.specs.Marks.{touch};
 ghost use Rattle.remote_edit.specs.Steps.{later_first, head, tail, IsOnWay, IsAt};
 ghost use Rattle.remote_edit.specs.Gathers.{so_far, ahead};
 
@@ -114,21 +115,14 @@ impl Gather {
         let Some(first) = self.first(tree) else {
             return Ok(0);
         };
+        let len = first.len;
         if !edit.version.sees(first.stamp) {
-            let same = first.copy(alloc)?;
-            self.go_on(tree, same)?;
+            self.keep(alloc, tree)?;
             return Ok(left);
         }
-        let len = first.len;
         if left < len {
-            let low = self.low(alloc, tree)?;
-            let back = back(alloc, first, left)?;
-            let front = front(alloc, first, left, &low)?;
-            enter(&mut self.index, alloc, &front)?;
-            enter(&mut self.index, alloc, &back)?;
-            let front = touch(alloc, edit, &front, marks)?;
-            self.go_on(tree, front)?;
-            self.back = Some(back);
+            let (front, back) = self.halves(alloc, tree, first, left)?;
+            self.put_halves(alloc, tree, edit, &front, back, marks)?;
             self.place += left;
             return Ok(0);
         }
@@ -136,6 +130,53 @@ impl Gather {
         self.go_on(tree, whole)?;
         self.place += len;
         Ok(left - len)
+    }
+
+    // The first n cells of the fragment that comes next, with an id of their own, and those behind them.
+    fn halves(
+        &self,
+        alloc: Global,
+        tree: &SumTree<Fragment>,
+        fragment: &Fragment,
+        n: u64,
+    ) -> Result<(Fragment, Fragment), AllocError>
+        requires start { self.now.from ≤ length tree.now.items }
+        requires room { fragment.now.offset + n < 2 ^ 64 }
+        requires within { n ≤ fragment.now.len }
+        ensures front { IfOk result (λ r. r.0 ≡ front fragment.now n (between_digits (last_id (so_far tree.now.items self.now)) fragment.now.id)) }
+        ensures back { IfOk result (λ r. r.1 ≡ back fragment.now n) }
+    {
+        let low = self.low(alloc, tree)?;
+        let front = front(alloc, fragment, n, &low)?;
+        Ok((front, back(alloc, fragment, n)?))
+    }
+
+    // Puts both parts of the fragment that comes next in its place: the lower one, with its marks, is passed. Both are entered.
+    fn put_halves(
+        &mut self,
+        alloc: Global,
+        tree: &SumTree<Fragment>,
+        edit: &EditOp,
+        lower: &Fragment,
+        upper: Fragment,
+        marks: Option<&UndoMap>,
+    ) -> Result<(), AllocError>
+        requires some { (ahead tree.now.items self.old ≡ []) → ⊥ }
+        requires first { length (with_entry (entry_of lower.now) self.old.index) ≤ 2 ^ 40 }
+        requires second { length (with_entry (entry_of upper) (with_entry (entry_of lower.now) self.old.index)) ≤ 2 ^ 40 }
+        ensures made { IfOk result (λ _. self.new.made.items ≡ self.old.made.items ++ touch (option_copied marks.entry) edit.now.stamp edit.now.version lower.now ∷ []) }
+        ensures rest { IfOk result (λ _. ahead tree.now.items self.new ≡ upper ∷ tail (ahead tree.now.items self.old)) }
+        ensures from { self.new.from ≡ self.old.from }
+        ensures order { self.old.at ≤ self.new.at }
+        ensures place { self.new.place ≡ self.old.place }
+        ensures number { self.new.number ≡ self.old.number }
+        ensures index { IfOk result (λ _. self.new.index ≡ with_entry (entry_of upper) (with_entry (entry_of lower.now) self.old.index)) }
+    {
+        enter_both(&mut self.index, alloc, lower, &upper)?;
+        let passed = touch(alloc, edit, lower, marks)?;
+        self.go_on(tree, passed)?;
+        self.back = Some(upper);
+        Ok(())
     }
 
     // Over `count` cells that the edit's version sees, and what stands between them; those that it sees are marked where
@@ -271,6 +312,21 @@ fn enter(index: &mut InsertionIndex, alloc: Global, fragment: &Fragment) -> Resu
 {
     let id = fragment.id.copy(alloc)?;
     index.add(alloc, fragment.stamp, fragment.offset, id)
+}
+
+// Enters both parts of a fragment in an index that has it.
+fn enter_both(
+    index: &mut InsertionIndex,
+    alloc: Global,
+    lower: &Fragment,
+    upper: &Fragment,
+) -> Result<(), AllocError>
+    requires first { length (with_entry (entry_of lower.now) index.old) ≤ 2 ^ 40 }
+    requires second { length (with_entry (entry_of upper.now) (with_entry (entry_of lower.now) index.old)) ≤ 2 ^ 40 }
+    ensures { IfOk result (λ _. index.new ≡ with_entry (entry_of upper.now) (with_entry (entry_of lower.now) index.old)) }
+{
+    enter(index, alloc, lower)?;
+    enter(index, alloc, upper)
 }
 
 // The id of the fragment before place `at` of the tree, or the least.
