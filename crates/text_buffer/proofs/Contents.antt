@@ -43,6 +43,15 @@ stand_is : (fs gs : List Fragment) (w v : List IndexEntry) (u s : List UndoEntry
 stand_is fs gs w v u s h a b c k =
     subst (λ (x : List Fragment). Stand x w u h) (sym a) (subst (λ (x : List IndexEntry). Stand gs x u h) (sym b) (subst (λ (x : List UndoEntry). Stand gs v x h) (sym c) k))
 
+-- a content with the parts of another one is that of the same histories
+pub content_shared : (c d : Content) (h : History) → d.fragments.items ≡ c.fragments.items → d.index ≡ c.index → d.undos ≡ c.undos → d.text ≡ c.text → d.hidden ≡ c.hidden → IsContent c h → IsContent d h
+content_shared c d h a b u e f k = record {
+  stand = stand_is d.fragments.items c.fragments.items d.index c.index d.undos c.undos h a b u k.stand;
+  whole = subst (λ (x : List Fragment). Each (IsWhole h) (runs x)) (sym a) k.whole;
+  shown = e ∙ k.shown;
+  hidden = f ∙ k.hidden;
+}
+
 -- ---- a base
 
 no_bytes : (h : List ℕ) → length h ≡ 0 → h ≡ []

@@ -74,11 +74,24 @@ impl Buffer {
                 adds: len,
             });
         }
+        Ok(Buffer::over(alloc, replica, base, limits)?)
+    }
+
+    // The buffer over a base that the limits let in.
+    fn over(alloc: Global, replica: u16, base: &str, limits: Limits) -> Result<Buffer, AllocError>
+        requires least { 1 ≤ replica }
+        requires greatest { replica ≤ 1023 }
+        requires bytes { limits.bytes ≤ 2 ^ 40 }
+        requires entries { limits.entries ≤ 2 ^ 40 - 1 }
+        requires room { length base.now ≤ limits.bytes }
+        ensures { IfOk result (λ b. b ≡ over_base replica base.now limits) }
+    {
+        let waiting = Deferred::new(alloc)?;
         Ok(Buffer {
             alloc,
             replica,
             document: Document::over(alloc, base)?,
-            waiting: Deferred::new(alloc)?,
+            waiting,
             refused: Vec::new(alloc),
             limits,
         })

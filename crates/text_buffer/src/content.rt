@@ -5,13 +5,14 @@ ghost use Rattle.op_model.specs.Histories.{History, base};
 ghost use Rattle.op_model.specs.Sorted.{Each};
 ghost use Rattle.op_model.specs.Walked.{IsWhole};
 ghost use Rattle.fragments.specs.Laws.{whole_base};
-ghost use Rattle.fragments.specs.Stand.{Stand, runs};
+ghost use Rattle.fragments.specs.Stand.{Stand, entry_of, runs};
 ghost use Rattle.text_buffer.specs.Document.{IsContent};
 
 use fragments::{Fragment, InsertionIndex, Stamps};
 use lamport_clock::{Lamport, Version};
 use locators::Locator;
 use rope_chunks::Rope;
+use rope_edits::TextRopes;
 use std::alloc::{AllocError, Global};
 use sum_tree::SumTree;
 use undo_map::UndoMap;
@@ -38,13 +39,15 @@ impl Content {
         requires { length text.now ≤ 2 ^ 40 }
         ensures { IfOk result (λ c. IsContent c (base text.now ∷ [])) }
     {
+        let undos = UndoMap::new(alloc)?;
+        let texts = base_texts(alloc, text)?;
         let (fragments, index) = base_fragments(alloc, text)?;
         Ok(Content {
             fragments,
             index,
-            undos: UndoMap::new(alloc)?,
-            text: Rope::from_str(alloc, text)?,
-            hidden: Rope::new(alloc)?,
+            undos,
+            text: texts.shown,
+            hidden: texts.hidden,
         })
     }
 
@@ -52,14 +55,47 @@ impl Content {
     pub fn share(&self) -> Result<Content, AllocError>
         ensures { IfOk result (λ c. (h : History) → IsContent self.now h → IsContent c h) }
     {
+        let undos = self.undos.share()?;
+        let texts = self.share_texts()?;
+        let (fragments, index) = self.share_fragments()?;
         Ok(Content {
-            fragments: self.fragments.share()?,
-            index: self.index.share()?,
-            undos: self.undos.share()?,
-            text: self.text.share()?,
+            fragments,
+            index,
+            undos,
+            text: texts.shown,
+            hidden: texts.hidden,
+        })
+    }
+
+    fn share_texts(&self) -> Result<TextRopes, AllocError>
+        ensures shown { IfOk result (λ t. t.shown ≡ self.now.text) }
+        ensures hidden { IfOk result (λ t. t.hidden ≡ self.now.hidden) }
+    {
+        Ok(TextRopes {
+            shown: self.text.share()?,
             hidden: self.hidden.share()?,
         })
     }
+
+    // The fragments and their index.
+    fn share_fragments(&self) -> Result<(SumTree<Fragment>, InsertionIndex), AllocError>
+        ensures fragments { IfOk result (λ r. r.0 ≡ self.now.fragments) }
+        ensures index { IfOk result (λ r. r.1 ≡ self.now.index) }
+    {
+        Ok((self.fragments.share()?, self.index.share()?))
+    }
+}
+
+// Both texts of a base.
+fn base_texts(alloc: Global, text: &str) -> Result<TextRopes, AllocError>
+    requires { length text.now ≤ 2 ^ 40 }
+    ensures shown { IfOk result (λ t. t.shown ≡ text.now) }
+    ensures hidden { IfOk result (λ t. t.hidden ≡ []) }
+{
+    Ok(TextRopes {
+        shown: Rope::from_str(alloc, text)?,
+        hidden: Rope::new(alloc)?,
+    })
 }
 
 // The fragments of a base and their index: one with all its cells, and none where it has no text.
@@ -71,15 +107,32 @@ fn base_fragments(
     ensures stand { IfOk result (λ r. Stand r.0.items r.1 [] (base text.now ∷ [])) }
     ensures whole { IfOk result (λ r. Each (IsWhole (base text.now ∷ [])) (runs r.0.items)) }
 {
-    let mut index = InsertionIndex::new(alloc)?;
     if text.is_empty() {
-        return Ok((SumTree::new(alloc)?, index));
+        return Ok((SumTree::new(alloc)?, InsertionIndex::new(alloc)?));
     }
     let whole = whole_base(alloc, text.len() as u64)?;
-    index.add(alloc, BASE, 0, whole.id.copy(alloc)?)?;
+    let index = index_one(alloc, &whole)?;
+    Ok((plant_one(alloc, whole)?, index))
+}
+
+// The index of one fragment.
+fn index_one(alloc: Global, fragment: &Fragment) -> Result<InsertionIndex, AllocError>
+    ensures { IfOk result (λ w. w ≡ entry_of fragment.now ∷ []) }
+{
+    let id = fragment.id.copy(alloc)?;
+    let mut index = InsertionIndex::new(alloc)?;
+    index.add(alloc, fragment.stamp, fragment.offset, id)?;
+    Ok(index)
+}
+
+// The tree of one fragment.
+fn plant_one(alloc: Global, fragment: Fragment) -> Result<SumTree<Fragment>, AllocError>
+    requires { fragment.len ≤ 2 ^ 40 }
+    ensures { IfOk result (λ t. t.items ≡ fragment ∷ []) }
+{
     let mut fragments = Vec::new(alloc);
-    fragments.push(whole)?;
-    Ok((SumTree::from_list(alloc, fragments)?, index))
+    fragments.push(fragment)?;
+    SumTree::from_list(alloc, fragments)
 }
 
 // One fragment with all cells of a base.

@@ -1,5 +1,6 @@
 // What a history comes to.
-ghost use Rattle.std.specs.Prelude.{◌≡◌, ◌+◌, ◌-◌, ◌^◌, ◌≤◌, ◌++◌, ◌∷◌, [], length, map, IfOk, OnErr, OnOk, option_map};
+ghost use Rattle.std.specs.Prelude.{◌≡◌, ◌+◌, ◌-◌, ◌^◌, ◌≤◌, ℕ, List, ◌++◌, ◌∷◌, [], length, map, IfOk, OnErr, OnOk, option_map};
+ghost use Rattle.std.specs.Arc.{arc_value};
 ghost use Rattle.lamport_clock.specs.Clocks.{observed};
 ghost use Rattle.lamport_clock.specs.Versions.{raise};
 ghost use Rattle.op_model.specs.declared.operation.Operation.TheVariants.{Edit, Undo};
@@ -66,11 +67,8 @@ impl Document {
         requires { length text.now ≤ 2 ^ 40 }
         ensures { IfOk result (λ d. d ≡ base text.now ∷ []) }
     {
-        let mut version = Version::new(alloc);
-        version.observe(BASE)?;
-        let version = Arc::new(alloc, version)?;
-        let mut operations = AppliedList::new(alloc)?;
-        operations.push(alloc, base_operation(alloc, text)?)?;
+        let version = base_version(alloc)?;
+        let operations = base_list(alloc, text)?;
         let content = Content::over(alloc, text)?;
         Ok(Document {
             alloc,
@@ -205,10 +203,30 @@ impl Document {
         ensures new { OnOk result (self.new ≡ self.old ++ made self.old replica changes.now ∷ []) }
         ensures err { OnErr result (self.new ≡ self.old) }
     {
+        let (made, adds, content) = self.with_changes(replica, changes)?;
+        let kept = made.copy(self.alloc)?;
+        self.put(kept, adds, content)?;
+        Ok(made)
+    }
+
+    // The edit of changes that meet no fault, what it adds to the bytes and entries, and what the history comes to with it.
+    fn with_changes(
+        &self,
+        replica: u16,
+        changes: &[Piece],
+    ) -> Result<(Operation, (u128, u64), Content), AllocError>
+        requires { MayEdit self.now replica changes.now }
+        ensures made { IfOk result (λ r. r.0 ≡ made self.now replica changes.now) }
+        ensures grows { IfOk result (λ r. MayGrow self.now r.0) }
+        ensures bytes { IfOk result (λ r. r.1.0 ≡ bytes_of r.0) }
+        ensures entries { IfOk result (λ r. r.1.1 ≡ entries_of r.0) }
+        ensures content { IfOk result (λ r. IsContent r.2 (self.now ++ r.0 ∷ [])) }
+    {
         let stamp = Lamport {
             value: self.clock,
             replica,
         };
+        let undos = self.content.undos.share()?;
         let (edit, placed) = place_local(
             self.alloc,
             &self.content.fragments,
@@ -220,11 +238,8 @@ impl Document {
         )?;
         let made = Operation::Edit(edit);
         let adds = size(&made);
-        let undos = self.content.undos.share()?;
         let content = self.content_of(placed, undos, changes)?;
-        let kept = made.copy(self.alloc)?;
-        self.put(kept, adds, content)?;
-        Ok(made)
+        Ok((made, adds, content))
     }
 
     // What the history comes to with an operation that is good.
@@ -299,12 +314,12 @@ impl Document {
     }
 
     // The version with a stamp.
-    fn version_with(&self, stamp: Lamport) -> Result<Version, AllocError>
-        ensures { IfOk result (λ v. v ≡ raise (version self.now) stamp) }
+    fn version_with(&self, stamp: Lamport) -> Result<Arc<Version>, AllocError>
+        ensures { IfOk result (λ v. arc_value v ≡ raise (version self.now) stamp) }
     {
         let mut version = self.version.copy(self.alloc)?;
         version.observe(stamp)?;
-        Ok(version)
+        Ok(Arc::new(self.alloc, version)?)
     }
 
     // Puts an operation last that is good, which adds so many bytes and entries, with what the history comes to then.
@@ -318,7 +333,7 @@ impl Document {
     {
         let stamp = op.stamp();
         let (bytes, entries) = adds;
-        let version = Arc::new(self.alloc, self.version_with(stamp)?)?;
+        let version = self.version_with(stamp)?;
         self.operations.push(self.alloc, op)?;
         self.clock = after(self.clock, stamp);
         self.version = version;
@@ -345,6 +360,25 @@ fn after(clock: u32, stamp: Lamport) -> u32
     ensures { result ≡ observed clock stamp.value }
 {
     clock.max(stamp.value).saturating_add(1)
+}
+
+// The version of a base alone.
+fn base_version(alloc: Global) -> Result<Arc<Version>, AllocError>
+    ensures { IfOk result (λ v. (t : List ℕ) → arc_value v ≡ version (base t ∷ [])) }
+{
+    let mut version = Version::new(alloc);
+    version.observe(BASE)?;
+    Ok(Arc::new(alloc, version)?)
+}
+
+// The base in a list of its own.
+fn base_list(alloc: Global, text: &str) -> Result<AppliedList, AllocError>
+    ensures { IfOk result (λ l. l ≡ base text.now ∷ []) }
+{
+    let operation = base_operation(alloc, text)?;
+    let mut operations = AppliedList::new(alloc)?;
+    operations.push(alloc, operation)?;
+    Ok(operations)
 }
 
 // The base as an operation.

@@ -1,24 +1,23 @@
-use Rattle.std.proofs.Common.{◌∙◌, ◌==◌, List, ℕ, [], ◌∷◌, ◌++◌, length, refl, sym, ap}
+use Rattle.std.proofs.Common.{◌∙◌, ◌==◌, [], ◌∷◌, length, refl, sym, ap}
 use Rattle.std.proofs.lemmas.Bool.{eqb-true, false≢true}
 use Rattle.fragments.specs.declared.fragment.Fragment.{Fragment}
-use Rattle.fragments.specs.Index.{with_entry}
+use Rattle.fragments.specs.Stand.{entry_of}
 use Rattle.text_buffer.proofs.Contents.{empty_base, one_base, whole_one}
 use Rattle.text_buffer.proofs.content.base_fragments.Goals as goal
 
 pub returns-then-is_empty-clause-stand : goal.returns-then-is_empty-clause-stand
-returns-then-is_empty-clause-stand c = empty_base _ _ c.args.text.now (eqb-true (length c.args.text.now) 0 (sym c.is_empty.ensures ∙ c.if-is_empty.true)) c.in_ok-new.ensures.items c.in_ok-index.ensures
+returns-then-is_empty-clause-stand c = empty_base _ _ c.args.text.now (eqb-true (length c.args.text.now) 0 (sym c.is_empty.ensures ∙ c.if-is_empty.true)) c.in_ok-new.ensures.items c.in_ok-new-2.ensures
 
 pub returns-clause-stand : goal.returns-clause-stand
 returns-clause-stand c =
     let f = c.in_ok-whole.whole in
+    let is = c.in_ok-whole.ensures.fragment c.args.text.now refl in
     one_base _ _ f c.args.text.now (λ e. false≢true (sym c.if-is_empty.false ∙ c.is_empty.ensures ∙ ap (λ n. n == 0) e)) c.requires
-    (c.in_ok-whole.ensures.fragment c.args.text.now refl) c.in_ok-whole.ensures.above c.in_ok-whole.ensures.below c.in_ok-whole.ensures.ends
-    (c.in_ok-from_list.ensures ∙ c.in_ok-push.ensures.items ∙ ap (λ (z : List Fragment). z ++ f ∷ []) c.new-fragments.ensures.items)
-    (c.in_ok-add.ensures.ok ∙ ap (with_entry (record { stamp = record { value = 1; replica = 0 }; offset = 0; id = c.in_ok-copy.field-0 })) c.in_ok-index.ensures
-    ∙ ap (λ (d : List ℕ). record { stamp = record { value = 1; replica = 0 }; offset = 0; id = d } ∷ []) c.in_ok-copy.ensures.digits)
+    is c.in_ok-whole.ensures.above c.in_ok-whole.ensures.below c.in_ok-whole.ensures.ends
+    c.in_ok-plant_one.ensures (c.in_ok-index.ensures ∙ ap (λ (g : Fragment). entry_of g ∷ []) is)
 
 pub returns-clause-whole : goal.returns-clause-whole
-returns-clause-whole c =
-    let f = c.in_ok-whole.whole in
-    whole_one _ f c.args.text.now c.utf8.text (c.in_ok-whole.ensures.fragment c.args.text.now refl)
-    (c.in_ok-from_list.ensures ∙ c.in_ok-push.ensures.items ∙ ap (λ (z : List Fragment). z ++ f ∷ []) c.new-fragments.ensures.items)
+returns-clause-whole c = whole_one _ c.in_ok-whole.whole c.args.text.now c.utf8.text (c.in_ok-whole.ensures.fragment c.args.text.now refl) c.in_ok-plant_one.ensures
+
+pub same-result : goal.same-result
+same-result c = refl

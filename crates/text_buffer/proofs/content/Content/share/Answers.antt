@@ -1,14 +1,7 @@
-use Rattle.std.proofs.Common.{refl}
+use Rattle.std.proofs.Common.{ap}
+use Rattle.text_buffer.proofs.Contents.{content_shared}
 use Rattle.text_buffer.proofs.content.Content.share.Goals as goal
 
-pub same-result : goal.same-result
-same-result c = refl
-
-pub same-result-2 : goal.same-result-2
-same-result-2 c = refl
-
-pub same-result-3 : goal.same-result-3
-same-result-3 c = refl
-
-pub same-result-4 : goal.same-result-4
-same-result-4 c = refl
+pub returns : goal.returns
+returns c = λ h k.
+    content_shared c.args.self.now _ h (ap (λ t. t.items) c.in_ok-fragments.ensures.fragments) c.in_ok-fragments.ensures.index c.in_ok-undos.ensures c.in_ok-texts.ensures.shown c.in_ok-texts.ensures.hidden k

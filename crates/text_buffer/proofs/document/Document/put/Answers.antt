@@ -18,7 +18,7 @@ invariant_of-self-2 c =
     let room : HasRoom c.self.inside.operations op = subst (λ (h : History). HasRoom h op) (sym c.self.view_is) c.requires.grows.room in
     AreTold-applied c.self.inside _ op c.stamp-stamp.result c.self.invariant c.requires.grows.proper good room c.stamp-stamp.ensures
     c.in_ok-push.ensures.ok c.after-self-inside.ensures
-    (c.in_ok-version.ensures.ok ∙ c.in_ok-version_with.ensures ∙ ap (λ (h : History). raise (version h) c.stamp-stamp.result) (sym c.self.view_is))
+    (c.in_ok-version.ensures ∙ ap (λ (h : History). raise (version h) c.stamp-stamp.result) (sym c.self.view_is))
     (subst (λ (h : History). IsContent c.args.content (h ++ op ∷ [])) (sym c.self.view_is) c.requires.content)
     (ap (λ (n : ℕ). c.self.inside.bytes + n) c.requires.bytes) (ap (λ (n : ℕ). c.self.inside.entries + n) c.requires.entries)
 
@@ -27,9 +27,6 @@ invariant_of-self c = subst (λ (h : History). AreTold (record c.self.inside { o
 
 pub same-self : goal.same-self
 same-self c = refl
-
-pub same-self-in_err-version : goal.same-self-in_err-version
-same-self-in_err-version c = refl
 
 pub overflow_cast-self : goal.overflow_cast-self
 overflow_cast-self c = omega (arith, (stay_few c.self.inside c.args.self.now c.args.op c.args.adds.0 c.args.adds.1 c.self.invariant c.self.view_is c.requires.grows.room c.requires.bytes c.requires.entries).0)
