@@ -17,11 +17,11 @@ use text_buffer::Snapshot;
 
 // A last look of a reader: it learns what was last published to its pair, which has so many operations, and takes `latest` once
 // more. How many operations an answer of this reader may have that stays: none, where it did not enter.
-fn look_last(reader: &mut SnapReader, told: Told, size: u64) -> Result<u64, AllocError>
-    requires pair { told.pair ≡ reader.old.pair }
+fn look_last(mut reader: SnapReader, told: Told, size: u64) -> Result<u64, AllocError>
+    requires pair { told.pair ≡ reader.pair }
     requires size { size ≡ length told.list }
     ensures bound { IfOk result (λ n. n ≤ length told.list) }
-    ensures limit { IfOk result (λ n. (h : List Operation) → IsFront h reader.old.longest → length h ≤ n → IsFront h told.list) }
+    ensures limit { IfOk result (λ n. (h : List Operation) → IsFront h reader.longest → length h ≤ n → IsFront h told.list) }
 {
     reader.learn(told);
     let _snapshot = reader.latest()?;
@@ -44,10 +44,10 @@ fn look_all(
     let mut readers = readers.into_iter();
     let mut tolds = tolds.into_iter();
     for size in sizes {
-        let (Some(mut reader), Some(told)) = (readers.next(), tolds.next()) else {
+        let (Some(reader), Some(told)) = (readers.next(), tolds.next()) else {
             unreachable!()
         };
-        limits.push(look_last(&mut reader, told, *size)?)?;
+        limits.push(look_last(reader, told, *size)?)?;
     }
     Ok(limits)
 }
