@@ -1,3 +1,4 @@
+pub mod Items
 pub mod Choice
 pub mod Sorted
 pub mod Operations

@@ -5,6 +5,7 @@
 
 mod anchor;
 mod faults;
+mod items;
 mod laws;
 mod limits;
 mod lists;

@@ -1,9 +1,11 @@
 // Texts and the lists of an operation, which contracts see as lists.
 ghost use Rattle.std.specs.Prelude.{◌≡◌, string_bytes, IfOk};
 
+use crate::items::Items;
 use crate::{Piece, UndoCount};
 use std::alloc::{AllocError, Global};
 use std::marker::Model;
+use std::sync::Arc;
 
 /// A text, seen as its bytes.
 #[derive(Drop)]
@@ -32,21 +34,29 @@ impl Text {
     {
         self.inner.as_str()
     }
+
+    /// An equal text. Linear in its bytes.
+    pub fn copy(&self, alloc: Global) -> Result<Text, AllocError>
+        ensures { IfOk result (λ text. text ≡ self.now) }
+    {
+        Ok(Text::new(String::from_str(alloc, self.as_str())?))
+    }
 }
 
-/// The pieces of an edit, seen as their list.
+/// The pieces of an edit, seen as their list. They are owned alone, or shared with their copies (`into_shared`).
 #[derive(Drop)]
 pub struct Pieces {
-    inner: Vec<Piece>,
+    items: Items<Piece>,
 }
 
 impl Model for Pieces {
     ghost use Rattle.std.specs.Prelude.{List};
     ghost use Rattle.op_model.specs.declared.operation.Piece.{Piece};
+    ghost use Rattle.op_model.specs.Items.{items_of};
 
     ghost Value = { List Piece };
 
-    ghost view = { λ p. p.inner.items };
+    ghost view = { λ p. items_of p.items };
 }
 
 impl Pieces {
@@ -54,12 +64,12 @@ impl Pieces {
     pub fn copy_of(alloc: Global, pieces: &[Piece]) -> Result<Pieces, AllocError>
         ensures { IfOk result (λ ps. ps ≡ pieces.now) }
     {
-        let mut copies = Vec::new(alloc);
+        let mut copies = Vec::with_capacity(alloc, pieces.len())?;
         for p in pieces {
             copies.push(Piece {
                 start: p.start,
                 end: p.end,
-                text: Text::new(String::from_str(alloc, p.text.as_str())?),
+                text: p.text.copy(alloc)?,
             })?;
         }
         Ok(Pieces::new(copies))
@@ -69,29 +79,55 @@ impl Pieces {
     pub fn new(inner: Vec<Piece>) -> Pieces
         ensures { result ≡ inner.items }
     {
-        Pieces { inner }
+        Pieces {
+            items: Items::Own(inner),
+        }
     }
 
     pub fn as_slice(&self) -> &[Piece]
         ensures { result.now ≡ self.now }
     {
-        &self.inner
+        self.items.as_slice()
+    }
+
+    /// Equal pieces, of which copies are further owners. Constant time; no text is copied. On want of memory they are
+    /// dropped.
+    pub fn into_shared(self, alloc: Global) -> Result<Pieces, AllocError>
+        ensures { IfOk result (λ ps. ps ≡ self) }
+    {
+        Ok(Pieces {
+            items: self.items.into_shared(alloc)?,
+        })
+    }
+
+    /// Equal pieces. Where they are shared a further owner, which takes no memory, in constant time; else linear in
+    /// their number and their texts.
+    pub fn copy(&self, alloc: Global) -> Result<Pieces, AllocError>
+        ensures { IfOk result (λ ps. ps ≡ self.now) }
+    {
+        match &self.items {
+            Items::Own(items) => Pieces::copy_of(alloc, items),
+            Items::Shared(items) => Ok(Pieces {
+                items: Items::Shared(Arc::try_clone(items)?),
+            }),
+        }
     }
 }
 
-/// The counts of an undo, seen as their list.
+/// The counts of an undo, seen as their list. They are owned alone, or shared with their copies (`into_shared`).
 #[derive(Drop)]
 pub struct Counts {
-    inner: Vec<UndoCount>,
+    items: Items<UndoCount>,
 }
 
 impl Model for Counts {
     ghost use Rattle.std.specs.Prelude.{List};
     ghost use Rattle.op_model.specs.declared.operation.UndoCount.{UndoCount};
+    ghost use Rattle.op_model.specs.Items.{items_of};
 
     ghost Value = { List UndoCount };
 
-    ghost view = { λ c. c.inner.items };
+    ghost view = { λ c. items_of c.items };
 }
 
 impl Counts {
@@ -106,12 +142,36 @@ impl Counts {
     pub fn new(inner: Vec<UndoCount>) -> Counts
         ensures { result ≡ inner.items }
     {
-        Counts { inner }
+        Counts {
+            items: Items::Own(inner),
+        }
     }
 
     pub fn as_slice(&self) -> &[UndoCount]
         ensures { result.now ≡ self.now }
     {
-        &self.inner
+        self.items.as_slice()
+    }
+
+    /// Equal counts, of which copies are further owners. Constant time. On want of memory they are dropped.
+    pub fn into_shared(self, alloc: Global) -> Result<Counts, AllocError>
+        ensures { IfOk result (λ cs. cs ≡ self) }
+    {
+        Ok(Counts {
+            items: self.items.into_shared(alloc)?,
+        })
+    }
+
+    /// Equal counts. Where they are shared a further owner, which takes no memory, in constant time; else linear in
+    /// their number.
+    pub fn copy(&self, alloc: Global) -> Result<Counts, AllocError>
+        ensures { IfOk result (λ cs. cs ≡ self.now) }
+    {
+        match &self.items {
+            Items::Own(items) => Counts::copy_of(alloc, items),
+            Items::Shared(items) => Ok(Counts {
+                items: Items::Shared(Arc::try_clone(items)?),
+            }),
+        }
     }
 }

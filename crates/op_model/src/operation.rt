@@ -15,6 +15,15 @@ pub struct Piece {
     pub text: Text,
 }
 
+impl Piece {
+    /// The text in place of the bytes from `start` to `end`.
+    pub fn new(start: u64, end: u64, text: Text) -> Piece
+        ensures { result ≡ record { start = start; end = end; text = text } }
+    {
+        Piece { start, end, text }
+    }
+}
+
 /// An edit: its stamp, its author's version before it, and its pieces, whose ranges are in full offsets: they count the
 /// bytes of all insertions that the version sees, hidden ones too.
 #[derive(Drop)]

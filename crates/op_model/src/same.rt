@@ -3,7 +3,7 @@ ghost use Rattle.std.specs.Prelude.{◌≡◌, ◌==◌, IfOk};
 ghost use Rattle.op_model.specs.Answers.{same_version, same_piece, same_count, same_list, same_op};
 ghost use Rattle.op_model.specs.declared.operation.Operation.TheVariants.{Edit, Undo};
 
-use crate::{Counts, EditOp, Operation, Piece, Pieces, Text, UndoCount, UndoOp};
+use crate::{EditOp, Operation, Piece, Text, UndoCount, UndoOp};
 use lamport_clock::{Version, is_same};
 use std::alloc::{AllocError, Global};
 
@@ -25,22 +25,76 @@ impl Operation {
         }
     }
 
-    /// An equal operation. Linear in the operation and its texts.
+    /// An equal operation. Pieces and counts that are shared (`into_shared`) are not copied: it is linear in the version
+    /// then, and else in the operation and its texts.
     pub fn copy(&self, alloc: Global) -> Result<Operation, AllocError>
         ensures { IfOk result (λ op. op ≡ self.now) }
     {
         match self {
-            Operation::Edit(edit) => Ok(Operation::Edit(EditOp {
-                stamp: edit.stamp,
-                version: edit.version.copy(alloc)?,
-                pieces: Pieces::copy_of(alloc, edit.pieces.as_slice())?,
-            })),
-            Operation::Undo(undo) => Ok(Operation::Undo(UndoOp {
-                stamp: undo.stamp,
-                version: undo.version.copy(alloc)?,
-                counts: Counts::copy_of(alloc, undo.counts.as_slice())?,
-            })),
+            Operation::Edit(edit) => Ok(Operation::Edit(edit.copy(alloc)?)),
+            Operation::Undo(undo) => Ok(Operation::Undo(undo.copy(alloc)?)),
         }
+    }
+
+    /// An equal operation, whose copies share its pieces or counts. Constant time; no text is copied. On want of memory it
+    /// is dropped.
+    pub fn into_shared(self, alloc: Global) -> Result<Operation, AllocError>
+        ensures { IfOk result (λ op. op ≡ self) }
+    {
+        match self {
+            Operation::Edit(edit) => Ok(Operation::Edit(edit.into_shared(alloc)?)),
+            Operation::Undo(undo) => Ok(Operation::Undo(undo.into_shared(alloc)?)),
+        }
+    }
+}
+
+impl EditOp {
+    /// An equal edit. Pieces that are shared (`into_shared`) are not copied: it is linear in the version then, and else in
+    /// the edit and its texts.
+    pub fn copy(&self, alloc: Global) -> Result<EditOp, AllocError>
+        ensures { IfOk result (λ edit. edit ≡ self.now) }
+    {
+        Ok(EditOp {
+            stamp: self.stamp,
+            version: self.version.copy(alloc)?,
+            pieces: self.pieces.copy(alloc)?,
+        })
+    }
+
+    /// An equal edit, whose copies share its pieces. Constant time; no text is copied. On want of memory it is dropped.
+    pub fn into_shared(self, alloc: Global) -> Result<EditOp, AllocError>
+        ensures { IfOk result (λ edit. edit ≡ self) }
+    {
+        Ok(EditOp {
+            stamp: self.stamp,
+            version: self.version,
+            pieces: self.pieces.into_shared(alloc)?,
+        })
+    }
+}
+
+impl UndoOp {
+    /// An equal undo. Counts that are shared (`into_shared`) are not copied: it is linear in the version then, and else in
+    /// the undo.
+    pub fn copy(&self, alloc: Global) -> Result<UndoOp, AllocError>
+        ensures { IfOk result (λ undo. undo ≡ self.now) }
+    {
+        Ok(UndoOp {
+            stamp: self.stamp,
+            version: self.version.copy(alloc)?,
+            counts: self.counts.copy(alloc)?,
+        })
+    }
+
+    /// An equal undo, whose copies share its counts. Constant time. On want of memory it is dropped.
+    pub fn into_shared(self, alloc: Global) -> Result<UndoOp, AllocError>
+        ensures { IfOk result (λ undo. undo ≡ self) }
+    {
+        Ok(UndoOp {
+            stamp: self.stamp,
+            version: self.version,
+            counts: self.counts.into_shared(alloc)?,
+        })
     }
 }
 
