@@ -1,11 +1,11 @@
 -- What children have together.
-use Rattle.std.proofs.Common.{◌≡◌, ℕ, suc, ◌+◌, ◌*◌, ◌^◌, ◌<◌, ◌≤◌, List, [], ◌∷◌, ◌++◌, length, get_or, take, drop, sym, ap, subst, ◌∙◌, take-append-drop, arith, length-append, add-one}
+use Rattle.std.proofs.Common.{◌≡◌, ℕ, suc, ◌+◌, ◌*◌, ◌^◌, ◌<◌, ◌≤◌, List, [], ◌∷◌, ◌++◌, length, get_or, take, drop, sym, ap, subst, refl, ◌∙◌, take-append-drop, arith, length-append, add-one}
 use Rattle.std.proofs.Math.Nat.{pow-succ', pow-le-pow_right, mul-le-mul_right, suc-mul, one-le-pow}
 use Rattle.std.proofs.lemmas.List.{take_more, append-nil}
 use Rattle.std.proofs.lemmas.List.Concat.{flat_map-append}
 use Rattle.std.specs.List.{All}
 use Rattle.sum_tree.specs.Laws.{SummaryLaws, fold}
-use Rattle.sum_tree.proofs.Folds.{fold-append, fits_left, fits_right}
+use Rattle.sum_tree.proofs.Folds.{fold-append, fold-start, fold-then, fold_admitted, fits_left, fits_right}
 use Rattle.sum_tree.specs.Seen.{Seen}
 use Rattle.sum_tree.specs.Shape.{joined, IsChild}
 
@@ -59,15 +59,16 @@ module _ {T : Type 0} where
   step_len ts i t m n within read e f = omega (arith, ap length (joined-take_more ts i t within read), length-append (joined (take i ts)) t.items)
 
   module _ {S : Type 0} {empty : S} {op : S → S → S} {admits fits : S → Type 0} (laws : SummaryLaws empty op admits fits) (sum_of : T → S) (admitted : (x : T) → admits (sum_of x)) where
-    -- a loop that adds up the sums of children
-    pub step_joined_sum : (ts : List (Seen T)) (i : ℕ) (t : Seen T) (s u : S) → i < length ts → t ≡ get_or ts i t → s ≡ fold empty op sum_of (joined (take i ts)) → u ≡ fold empty op sum_of t.items → op s u ≡ fold empty op sum_of (joined (take (i + 1) ts))
-    step_joined_sum ts i t s u within read e f = rw (e, f) (sym (ap (fold empty op sum_of) (joined-take_more ts i t within read) ∙ fold-append laws sum_of admitted (joined (take i ts)) t.items))
+    -- the sums of children, added up, are the sum of all that is in them
+    pub fold-joined : (a : S) (ts : List (Seen T)) → admits a → fold a op (λ (t : Seen T). fold empty op sum_of t.items) ts ≡ fold a op sum_of (joined ts)
+    fold-joined a [] p = refl
+    fold-joined a (t ∷ ts) p =
+        let one : fold a op sum_of t.items ≡ op a (fold empty op sum_of t.items) = fold-start laws sum_of admitted a t.items p in
+        let here : admits (op a (fold empty op sum_of t.items)) = laws.op_admitted a (fold empty op sum_of t.items) p (fold_admitted laws sum_of admitted t.items) in
+        fold-joined (op a (fold empty op sum_of t.items)) ts here ∙ ap (λ (b : S). fold b op sum_of (joined ts)) (sym one) ∙ sym (fold-then laws sum_of admitted a t.items (joined ts))
 
-    pub step_joined_fits : (all ts : List (Seen T)) (i : ℕ) (t : Seen T) (s u : S) → ts ≡ all → fits (fold empty op sum_of (joined all)) → i < length ts → t ≡ get_or ts i t → s ≡ fold empty op sum_of (joined (take i ts)) → u ≡ fold empty op sum_of t.items → fits (op s u)
-    step_joined_fits all ts i t s u same h within read e f =
-        let here : fits (fold empty op sum_of (joined ts)) = subst (λ (zs : List (Seen T)). fits (fold empty op sum_of (joined zs))) (sym same) h in
-        let split : fits (fold empty op sum_of (joined (take (i + 1) ts) ++ joined (drop (i + 1) ts))) = subst (λ (zs : List T). fits (fold empty op sum_of zs)) (sym (joined-split ts (i + 1))) here in
-        subst fits (sym (step_joined_sum ts i t s u within read e f)) (fits_left laws sum_of admitted (joined (take (i + 1) ts)) (joined (drop (i + 1) ts)) split)
+    pub all_joined : (ts : List (Seen T)) → fold empty op (λ (t : Seen T). fold empty op sum_of t.items) ts ≡ fold empty op sum_of (joined ts)
+    all_joined ts = fold-joined empty ts laws.empty_admitted
 
     pub fits_joined_take : (ts : List (Seen T)) (i : ℕ) → fits (fold empty op sum_of (joined ts)) → fits (fold empty op sum_of (joined (take i ts)))
     fits_joined_take ts i h = fits_left laws sum_of admitted (joined (take i ts)) (joined (drop i ts)) (subst (λ (zs : List T). fits (fold empty op sum_of zs)) (sym (joined-split ts i)) h)

@@ -49,19 +49,21 @@ module _ {S T : Type 0} {empty : S} {op : S → S → S} {admits fits : S → Ty
   pub fits_take : (xs : List T) (i : ℕ) → fits (fold empty op sum_of xs) → fits (fold empty op sum_of (take i xs))
   fits_take xs i h = fits_left (take i xs) (drop i xs) (subst (λ (zs : List T). fits (total zs)) (sym (take-append-drop i xs)) h)
 
-  -- one item more
-  pub fold-take_more : (xs : List T) (i : ℕ) (x : T) → i < length xs → x ≡ get_or xs i x → op (fold empty op sum_of (take i xs)) (sum_of x) ≡ fold empty op sum_of (take (i + 1) xs)
-  fold-take_more xs i x within read =
-      let more : take (i + 1) xs ≡ take i xs ++ (x ∷ []) = take_more xs i x within ∙ ap (λ (y : T). take i xs ++ (y ∷ [])) (sym read) in
-      sym (ap total more ∙ fold-append (take i xs) (x ∷ []) ∙ ap (op (total (take i xs))) (fold_single x))
-
-  -- a loop that adds up the items of ys, which are those of xs: its next sum is that of one item more, and fits
-  pub step_sum : (ys : List T) (i : ℕ) (x : T) (s t : S) → i < length ys → x ≡ get_or ys i x → s ≡ fold empty op sum_of (take i ys) → t ≡ sum_of x → op s t ≡ fold empty op sum_of (take (i + 1) ys)
-  step_sum ys i x s t within read e f = rw (e, f) (fold-take_more ys i x within read)
-
-  pub step_fits : (xs ys : List T) (i : ℕ) (x : T) (s t : S) → ys ≡ xs → fits (fold empty op sum_of xs) → i < length ys → x ≡ get_or ys i x → s ≡ fold empty op sum_of (take i ys) → t ≡ sum_of x → fits (op s t)
-  step_fits xs ys i x s t same h within read e f =
-      subst fits (sym (step_sum ys i x s t within read e f)) (fits_take ys (i + 1) (subst (λ (zs : List T). fits (total zs)) (sym same) h))
-
   pub fits_drop : (xs : List T) (i : ℕ) → fits (fold empty op sum_of xs) → fits (fold empty op sum_of (drop i xs))
   fits_drop xs i h = fits_right (take i xs) (drop i xs) (subst (λ (zs : List T). fits (total zs)) (sym (take-append-drop i xs)) h)
+
+  -- a loop that keeps the last item back: with it, what is added so far is the sum of the first and so many of the rest
+  pub last_fits : (all : List T) (first : T) (rest : List T) (i : ℕ) (y : T) (s t : S) → all ≡ first ∷ rest → fits (fold empty op sum_of all) → op s (sum_of y) ≡ fold empty op sum_of (first ∷ take i rest) → t ≡ sum_of y → fits (op s t)
+  last_fits all first rest i y s t same h e f =
+      let split : all ≡ (first ∷ take i rest) ++ drop i rest = same ∙ ap (λ (zs : List T). first ∷ zs) (sym (take-append-drop i rest)) in
+      rw (f, e) (fits_left (first ∷ take i rest) (drop i rest) (subst (λ (zs : List T). fits (total zs)) split h))
+
+  pub next_sum : (first : T) (rest : List T) (i : ℕ) (x y : T) (s t u : S) → i < length rest → x ≡ get_or rest i x → op s (sum_of y) ≡ fold empty op sum_of (first ∷ take i rest) → t ≡ sum_of y → u ≡ sum_of x → op (op s t) u ≡ fold empty op sum_of (first ∷ take (i + 1) rest)
+  next_sum first rest i x y s t u within read e f k =
+      let more : take (i + 1) rest ≡ take i rest ++ (x ∷ []) = take_more rest i x within ∙ ap (λ (z : T). take i rest ++ (z ∷ [])) (sym read) in
+      let whole : total (first ∷ take (i + 1) rest) ≡ op (total (first ∷ take i rest)) (sum_of x) = ap (λ (zs : List T). total (first ∷ zs)) more ∙ fold-append (first ∷ take i rest) (x ∷ []) ∙ ap (op (total (first ∷ take i rest))) (fold_single x) in
+      rw (f, k, e) (sym whole)
+
+  pub next_fits : (all : List T) (first : T) (rest : List T) (i : ℕ) (x y : T) (s t u : S) → all ≡ first ∷ rest → fits (fold empty op sum_of all) → i < length rest → x ≡ get_or rest i x → op s (sum_of y) ≡ fold empty op sum_of (first ∷ take i rest) → t ≡ sum_of y → u ≡ sum_of x → fits (op (op s t) u)
+  next_fits all first rest i x y s t u same h within read e f k =
+      last_fits all first rest (i + 1) x (op s t) u same h (ap (op (op s t)) (sym k) ∙ next_sum first rest i x y s t u within read e f k) k

@@ -25,21 +25,36 @@ pub(crate) fn entries_sum<T: Item>(
     ensures { IfOk result (λ s. s ≡ fold T.Summary.empty T.Summary.op T.sum_of entries.now) }
 {
     let mut sum = T::Summary::zero(alloc);
-    for entry in entries {
-        sum.add(alloc, entry.sum())?;
+    let Some((first, rest)) = entries.split_first() else {
+        return Ok(sum);
+    };
+    let mut last = first;
+    for entry in rest {
+        sum.add_before(alloc, last.sum(), entry.sum())?;
+        last = entry;
     }
+    sum.add(alloc, last.sum())?;
     Ok(sum)
 }
 
 // The sum of these trees.
-fn trees_sum<T: Item>(alloc: Global, trees: &[SumTree<T>]) -> Result<T::Summary, AllocError>
+pub(crate) fn trees_sum<T: Item>(
+    alloc: Global,
+    trees: &[SumTree<T>],
+) -> Result<T::Summary, AllocError>
     requires fits { T.Summary.fits (fold T.Summary.empty T.Summary.op T.sum_of (joined trees.now)) }
     ensures { IfOk result (λ s. s ≡ fold T.Summary.empty T.Summary.op T.sum_of (joined trees.now)) }
 {
     let mut sum = T::Summary::zero(alloc);
-    for tree in trees {
-        sum.add(alloc, tree.summary())?;
+    let Some((first, rest)) = trees.split_first() else {
+        return Ok(sum);
+    };
+    let mut last = first;
+    for tree in rest {
+        sum.add_before(alloc, last.summary(), tree.summary())?;
+        last = tree;
     }
+    sum.add(alloc, last.summary())?;
     Ok(sum)
 }
 
@@ -94,7 +109,7 @@ pub(crate) fn settled<S: Summary>(
         }
         Some(level) => {
             let Around { mut before, behind } = level;
-            before.add(alloc, &sum)?;
+            before.add_before(alloc, &sum, &behind)?;
             before.add(alloc, &behind)?;
             let mut sums = settled(alloc, around, before)?;
             sums.push(sum)?;

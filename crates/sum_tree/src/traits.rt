@@ -31,6 +31,16 @@ pub trait Summary: Sized + Drop {
         requires { fits (op self.old other.now) }
         ensures { IfOk result (λ _. self.new ≡ op self.old other.now) };
 
+    /// Adds a sum behind this one, where `next` is added right after it: what `next` puts something else in the place of
+    /// need not be kept. By default it is `add`.
+    fn add_before(&mut self, alloc: Global, other: &Self, _next: &Self) -> Result<(), AllocError>
+        requires sum { fits (op self.old other.now) }
+        requires both { fits (op (op self.old other.now) _next.now) }
+        ensures { IfOk result (λ _. op self.new _next.now ≡ op (op self.old other.now) _next.now) }
+    {
+        self.add(alloc, other)
+    }
+
     ghost laws: { SummaryLaws empty op admits fits };
 }
 

@@ -4,7 +4,7 @@ ghost use Rattle.sum_tree.specs.Laws.{fold};
 ghost use Rattle.sum_tree.specs.Shape.{IsNode, IsChild, joined};
 ghost use Rattle.sum_tree.specs.Grown.{IsSplit};
 
-use crate::around::entries_sum;
+use crate::around::{entries_sum, trees_sum};
 use crate::entry::Entry;
 use crate::traits::{Item, Summary};
 use std::alloc::{AllocError, Global};
@@ -186,10 +186,9 @@ pub(crate) fn inner<T: Item>(
     ensures width { IfOk result (λ t. t.width ≡ length children.items) }
     ensures many { IfOk result (λ t. 6 ≤ t.width → 6 ^ (t.height + 1) ≤ length t.items) }
 {
-    let mut sum = T::Summary::zero(alloc);
+    let sum = trees_sum(alloc, &children)?;
     let mut len = 0;
     for child in &children {
-        sum.add(alloc, child.summary())?;
         len += child.len();
     }
     let content = Content::Inner(children);
