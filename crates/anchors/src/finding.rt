@@ -28,8 +28,11 @@ fn known(
     hidden: &Rope,
     anchor: Anchor,
 ) -> Result<Standing, UnknownAnchor>
-    ensures standing { (h : History) → StandFor tree.now.items index.now visible.now hidden.now h → result_ok result ≡ standing_of h anchor }
-    ensures known { IfOk result (λ s. (h : History) → StandFor tree.now.items index.now visible.now hidden.now h → Some s ≡ standing_of h anchor) }
+    ensures standing { (h : History) → StandFor tree.now.items index.now visible.now hidden.now h
+        → result_ok result ≡ standing_of h anchor }
+    ensures known { IfOk result (λ s. (h : History)
+        → StandFor tree.now.items index.now visible.now hidden.now h
+        → Some s ≡ standing_of h anchor) }
     ensures unknown { IfErr result (λ e. e.anchor ≡ anchor) }
 {
     match standing_of(tree, index, visible, hidden, anchor) {
@@ -49,7 +52,8 @@ pub fn resolve(
     hidden: &Rope,
     a: &Anchor,
 ) -> Result<u64, UnknownAnchor>
-    ensures place { (h : History) → StandFor tree.now.items index.now visible.now hidden.now h → result_ok result ≡ resolved h a.now }
+    ensures place { (h : History) → StandFor tree.now.items index.now visible.now hidden.now h
+        → result_ok result ≡ resolved h a.now }
     ensures unknown { IfErr result (λ e. e.anchor ≡ a.now) }
 {
     let standing = known(tree, index, visible, hidden, *a)?;
@@ -68,8 +72,10 @@ pub fn compare(
     a: &Anchor,
     b: &Anchor,
 ) -> Result<Ordering, UnknownAnchor>
-    ensures order { (h : History) → StandFor tree.now.items index.now visible.now hidden.now h → result_ok result ≡ compared h a.now b.now }
-    ensures unknown { (h : History) → StandFor tree.now.items index.now visible.now hidden.now h → IfErr result (λ e. e.anchor ≡ (if is_known h a.now then b.now else a.now)) }
+    ensures order { (h : History) → StandFor tree.now.items index.now visible.now hidden.now h
+        → result_ok result ≡ compared h a.now b.now }
+    ensures unknown { (h : History) → StandFor tree.now.items index.now visible.now hidden.now h
+        → IfErr result (λ e. e.anchor ≡ (if is_known h a.now then b.now else a.now)) }
 {
     let first = known(tree, index, visible, hidden, *a)?;
     let second = known(tree, index, visible, hidden, *b)?;

@@ -30,8 +30,11 @@ pub struct Byte {
 
 // A shown byte, where the text is not at its end before it: one descent.
 fn shown_byte(tree: &SumTree<Fragment>, o: u64) -> Option<Byte>
-    ensures byte { (w : List IndexEntry) → (u : List UndoEntry) → (h : History) → Stand tree.now.items w u h → Lawful h → option_map cell_of result ≡ slice_get (shown_cells h) o }
-    ensures room { (w : List IndexEntry) → (u : List UndoEntry) → (h : History) → Stand tree.now.items w u h → IfSome result HasRoom }
+    ensures byte { (w : List IndexEntry) → (u : List UndoEntry) → (h : History)
+        → Stand tree.now.items w u h → Lawful h
+        → option_map cell_of result ≡ slice_get (shown_cells h) o }
+    ensures room { (w : List IndexEntry) → (u : List UndoEntry) → (h : History)
+        → Stand tree.now.items w u h → IfSome result HasRoom }
 {
     tree.known();
     let start = Visible { bytes: 0 };
@@ -50,7 +53,9 @@ fn shown_byte(tree: &SumTree<Fragment>, o: u64) -> Option<Byte>
 
 // The anchor behind the byte before an offset.
 fn left_anchor(tree: &SumTree<Fragment>, o: u64) -> Anchor
-    ensures { (w : List IndexEntry) → (u : List UndoEntry) → (h : History) → Stand tree.now.items w u h → Lawful h → o ≤ length (text h) → left_anchor h o ≡ Some result }
+    ensures { (w : List IndexEntry) → (u : List UndoEntry) → (h : History)
+        → Stand tree.now.items w u h → Lawful h → o ≤ length (text h)
+        → left_anchor h o ≡ Some result }
 {
     if o == 0 {
         return Anchor::Least;
@@ -67,7 +72,9 @@ fn left_anchor(tree: &SumTree<Fragment>, o: u64) -> Anchor
 
 // The anchor before the byte at an offset.
 fn right_anchor(tree: &SumTree<Fragment>, o: u64) -> Anchor
-    ensures { (w : List IndexEntry) → (u : List UndoEntry) → (h : History) → Stand tree.now.items w u h → Lawful h → o ≤ length (text h) → right_anchor h o ≡ Some result }
+    ensures { (w : List IndexEntry) → (u : List UndoEntry) → (h : History)
+        → Stand tree.now.items w u h → Lawful h → o ≤ length (text h)
+        → right_anchor h o ≡ Some result }
 {
     match shown_byte(tree, o) {
         None => Anchor::Greatest,
@@ -106,9 +113,13 @@ pub fn anchor_at(
     o: u64,
     b: Bias,
 ) -> Result<Anchor, PlaceFault>
-    ensures fault { (h : History) → StandFor tree.now.items index.now visible.now hidden.now h → result_err result ≡ place_fault h o }
-    ensures anchor { IfOk result (λ a. (h : History) → StandFor tree.now.items index.now visible.now hidden.now h → made_anchor h o b ≡ Some a) }
-    ensures place { IfOk result (λ a. (h : History) → StandFor tree.now.items index.now visible.now hidden.now h → Each IsProper h → resolved h a ≡ Some o) }
+    ensures fault { (h : History) → StandFor tree.now.items index.now visible.now hidden.now h
+        → result_err result ≡ place_fault h o }
+    ensures anchor { IfOk result (λ a. (h : History)
+        → StandFor tree.now.items index.now visible.now hidden.now h → made_anchor h o b ≡ Some a) }
+    ensures place { IfOk result (λ a. (h : History)
+        → StandFor tree.now.items index.now visible.now hidden.now h → Each IsProper h
+        → resolved h a ≡ Some o) }
 {
     if let Some(fault) = place_fault(visible, o) {
         return Err(fault);

@@ -112,7 +112,8 @@ pub fn spot_of(
     stamp: Lamport,
     k: u64,
 ) -> Option<Spot>
-    ensures spot { (u : List UndoEntry) → (h : History) → Stand tree.now.items index.now u h → Lawful h → result ≡ spot_of h (record { stamp = stamp; k = k }) }
+    ensures spot { (u : List UndoEntry) → (h : History) → Stand tree.now.items index.now u h
+        → Lawful h → result ≡ spot_of h (record { stamp = stamp; k = k }) }
     ensures counted { IfSome result IsCounted }
 {
     let Some(run) = run_of(tree, index, stamp, k) else {
@@ -130,7 +131,8 @@ pub fn spots_of(
     k: u64,
 ) -> (Option<Spot>, Option<Spot>)
     requires { 1 ≤ k }
-    ensures first { OfEach tree.now.items index.now (λ h. result.0 ≡ spot_of h (cell stamp (k - 1))) }
+    ensures first { OfEach tree.now.items index.now
+        (λ h. result.0 ≡ spot_of h (cell stamp (k - 1))) }
     ensures next { OfEach tree.now.items index.now (λ h. MayBeSpot h stamp k result.1) }
     ensures first_counted { IfSome result.0 IsCounted }
     ensures next_counted { IfSome result.1 IsCounted }

@@ -47,7 +47,11 @@ fn before_cell(spot: Spot) -> Standing
 // Behind the cell of a spot.
 fn behind_cell(spot: Spot) -> Standing
     requires { IsCounted spot }
-    ensures { result ≡ record { place = spot.shown + (if spot.is_shown then 1 else 0); gap = spot.cells + 1; bias = Left } }
+    ensures { result ≡ record {
+      place = spot.shown + (if spot.is_shown then 1 else 0);
+      gap = spot.cells + 1;
+      bias = Left;
+    } }
 {
     Standing {
         place: if spot.is_shown {
@@ -69,7 +73,8 @@ fn ends_before(
     stamp: Lamport,
     k: u64,
 ) -> bool
-    ensures { (h : History) → StandFor tree.now.items index.now visible.now hidden.now h → k ≤ length (new_bytes h stamp) → result ≡ is_boundary (new_bytes h stamp) k }
+    ensures { (h : History) → StandFor tree.now.items index.now visible.now hidden.now h
+        → k ≤ length (new_bytes h stamp) → result ≡ is_boundary (new_bytes h stamp) k }
 {
     match spot_of(tree, index, stamp, k) {
         None => true,
@@ -88,7 +93,8 @@ fn ends_behind(
     next: Option<Spot>,
 ) -> bool
     requires { IfSome next IsCounted }
-    ensures { (h : History) → StandFor tree.now.items index.now visible.now hidden.now h → MayBeSpot h stamp k next → EndsAt h stamp k result }
+    ensures { (h : History) → StandFor tree.now.items index.now visible.now hidden.now h
+        → MayBeSpot h stamp k next → EndsAt h stamp k result }
 {
     match next {
         None => ends_before(tree, index, visible, hidden, stamp, k),
@@ -105,7 +111,8 @@ fn right_standing(
     stamp: Lamport,
     k: u64,
 ) -> Option<Standing>
-    ensures { (h : History) → StandFor tree.now.items index.now visible.now hidden.now h → result ≡ standing_of h (At stamp k Right) }
+    ensures { (h : History) → StandFor tree.now.items index.now visible.now hidden.now h
+        → result ≡ standing_of h (At stamp k Right) }
 {
     let Some(spot) = spot_of(tree, index, stamp, k) else {
         return None;
@@ -125,7 +132,8 @@ fn left_standing(
     stamp: Lamport,
     k: u64,
 ) -> Option<Standing>
-    ensures { (h : History) → StandFor tree.now.items index.now visible.now hidden.now h → result ≡ standing_of h (At stamp k Left) }
+    ensures { (h : History) → StandFor tree.now.items index.now visible.now hidden.now h
+        → result ≡ standing_of h (At stamp k Left) }
 {
     if k == 0 {
         return None;
@@ -142,7 +150,11 @@ fn left_standing(
 
 // The end of the text.
 fn end(visible: &Rope, hidden: &Rope) -> Standing
-    ensures { result ≡ record { place = length visible.now; gap = length visible.now + length hidden.now; bias = Right } }
+    ensures { result ≡ record {
+      place = length visible.now;
+      gap = length visible.now + length hidden.now;
+      bias = Right;
+    } }
 {
     visible.known();
     hidden.known();
@@ -161,7 +173,8 @@ pub fn standing_of(
     hidden: &Rope,
     anchor: Anchor,
 ) -> Option<Standing>
-    ensures { (h : History) → StandFor tree.now.items index.now visible.now hidden.now h → result ≡ standing_of h anchor }
+    ensures { (h : History) → StandFor tree.now.items index.now visible.now hidden.now h
+        → result ≡ standing_of h anchor }
 {
     match anchor {
         Anchor::Least => Some(Standing {

@@ -13,8 +13,8 @@ no_stamp = record { stamp = None }
 abbrev pub last_stamp : LastStamp → LastStamp → LastStamp
 last_stamp a b = record { stamp = option_or b.stamp a.stamp }
 
-abbrev stamped : Option Lamport → LastStamp
-stamped o = record { stamp = o }
+abbrev with_stamp : Option Lamport → LastStamp
+with_stamp o = record { stamp = o }
 
 or_none : {X : Type 0} (o : Option X) → option_or o None ≡ o
 or_none None = refl
@@ -28,9 +28,9 @@ pub last_stamp_laws : SummaryLaws no_stamp last_stamp (λ a. Unit) (λ a. Unit)
 last_stamp_laws = record {
   empty_admitted = tt;
   op_admitted = λ a b p q. tt;
-  left_identity = λ a p. ap stamped (or_none a.stamp);
+  left_identity = λ a p. ap with_stamp (or_none a.stamp);
   right_identity = λ a p. refl;
-  assoc = λ a b c p q r. ap stamped (or_assoc a.stamp b.stamp c.stamp);
+  assoc = λ a b c p q r. ap with_stamp (or_assoc a.stamp b.stamp c.stamp);
   empty_fits = tt;
   fits_parts = λ a b c p q r h. tt;
 }

@@ -41,7 +41,8 @@ pub(crate) fn was_in_text(fragment: &Fragment, undos: &UndoMap, version: &Versio
 
 // Whether each edit that the version sees was undone at it.
 fn all_were_undone(undos: &UndoMap, edits: &[Lamport], version: &Version) -> bool
-    ensures { result ≡ list_all (λ t. not (sees version.now t) || is_odd (count_seen undos.now t version.now)) edits.now }
+    ensures { result ≡ list_all (λ t. not (sees version.now t) || is_odd
+        (count_seen undos.now t version.now)) edits.now }
 {
     edits
         .iter()

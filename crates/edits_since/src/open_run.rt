@@ -34,7 +34,14 @@ impl OpenRun {
     fn close(&mut self) -> Result<(), AllocError>
         requires old { old_end self.old < 2 ^ 64 }
         requires new { new_end self.old < 2 ^ 64 }
-        ensures { OnOk result (self.new ≡ record { edits = all_edits self.old; old_start = old_end self.old; new_start = new_end self.old; gone = 0; fresh = 0 }) }
+        ensures { OnOk result (self.new
+            ≡ record {
+              edits = all_edits self.old;
+              old_start = old_end self.old;
+              new_start = new_end self.old;
+              gone = 0;
+              fresh = 0;
+            }) }
     {
         let old = (self.old_start, self.old_start + self.gone);
         let new = (self.new_start, self.new_start + self.fresh);

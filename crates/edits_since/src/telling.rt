@@ -25,7 +25,10 @@ fn go_over(
 ) -> Result<(), AllocError>
     requires old { old_end run.old + kept + fragment.now.len < 2 ^ 64 }
     requires new { new_end run.old + kept + fragment.now.len < 2 ^ 64 }
-    ensures { OnOk result (run.new ≡ with_bytes fragment.now.len (was_in_text undos.now version.now fragment.now) fragment.now.visible (with_kept kept run.old)) }
+    ensures { OnOk result (run.new
+        ≡ with_bytes fragment.now.len
+        (was_in_text undos.now version.now fragment.now) fragment.now.visible
+        (with_kept kept run.old)) }
 {
     run.keep(kept)?;
     run.pass(

@@ -17,7 +17,8 @@ use undo_map::UndoMap;
 
 // What takes the bytes of a fragment back.
 fn move_of(fragment: &Fragment, undos: &UndoMap, version: &Version) -> Move
-    ensures { result ≡ move_for fragment.now.visible (was_in_text undos.now version.now fragment.now) fragment.now.len }
+    ensures { result ≡ move_for fragment.now.visible
+        (was_in_text undos.now version.now fragment.now) fragment.now.len }
 {
     let was = was_in_text(fragment, undos, version);
     Move::of(fragment.visible, was, fragment.len)
@@ -27,7 +28,9 @@ fn move_of(fragment: &Fragment, undos: &UndoMap, version: &Version) -> Move
 fn keep(moves: &mut Moves, from: Passed, to: Passed) -> Result<(), AllocError>
     requires visible { from.visible ≤ to.visible }
     requires hidden { from.hidden ≤ to.hidden }
-    ensures { OnOk result (moves.new ≡ with_move (with_move moves.old (Visible (to.visible - from.visible))) (Hidden (to.hidden - from.hidden))) }
+    ensures { OnOk result (moves.new
+        ≡ with_move (with_move moves.old (Visible (to.visible - from.visible)))
+        (Hidden (to.hidden - from.hidden))) }
 {
     moves.push(Move::Visible(to.visible - from.visible))?;
     moves.push(Move::Hidden(to.hidden - from.hidden))
@@ -47,7 +50,8 @@ pub fn moves_back(
     version: &Version,
 ) -> Result<Moves, AllocError>
     ensures text { IfOk result (λ ms. AreMovesBack tree.now.items undos.now version.now ms) }
-    ensures characters { IfOk result (λ ms. TakeCharacters tree.now.items undos.now version.now ms) }
+    ensures characters { IfOk result (λ ms. TakeCharacters tree.now.items undos.now version.now
+        ms) }
 {
     tree.known();
     let mut moves = Moves::new(alloc);

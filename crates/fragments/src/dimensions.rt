@@ -4,8 +4,8 @@ ghost use Rattle.std.specs.Option.{option_copied};
 ghost use Rattle.fragments.specs.Summaries.{no_fragments, summaries, IsSummary, IsOne, greater_id};
 ghost use Rattle.fragments.specs.SeenPlaces.{move_full, move_visible, At, move_at, IsLaterAt, AtFits, at_laws};
 
-use crate::FragmentSummary;
 use crate::fragment::greater_id;
+use crate::{FragmentSummary, Sight};
 use lamport_clock::Version;
 use locators::Locator;
 use tree_cursor::{Bias, Dimension, Moves, Plain, Target};
@@ -69,15 +69,13 @@ impl<'v> Moves<FragmentSummary> for FullAt<'v> {
 
 impl<'a, 'v> Dimension<'a, FragmentSummary> for FullAt<'v> {
     fn try_add(self, s: &'a FragmentSummary) -> Option<FullAt<'v>> {
-        if s.span.lie_within(self.version) {
-            Some(FullAt {
+        match s.span.sight(self.version) {
+            Sight::All => Some(FullAt {
                 version: self.version,
                 bytes: self.bytes + (s.visible + s.hidden),
-            })
-        } else if s.span.lie_outside(self.version) {
-            Some(self)
-        } else {
-            None
+            }),
+            Sight::Nothing => Some(self),
+            Sight::Part => None,
         }
     }
 }

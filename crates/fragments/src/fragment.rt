@@ -81,6 +81,23 @@ impl Summary for FragmentSummary {
         self.last_id = last_id;
         Ok(())
     }
+
+    // Ids ascend, so the next one takes the place of the other's, which need not be copied.
+    fn add_before(
+        &mut self,
+        alloc: Global,
+        other: &FragmentSummary,
+        next: &FragmentSummary,
+    ) -> Result<(), AllocError> {
+        if !gives_way(other.last_id.as_ref(), next.last_id.as_ref()) {
+            return self.add(alloc, other);
+        }
+        self.span.join(&other.span)?;
+        self.greatest.join(&other.greatest)?;
+        self.visible += other.visible;
+        self.hidden += other.hidden;
+        Ok(())
+    }
 }
 
 // The greater of two ids, the first where they are equal.
@@ -92,6 +109,18 @@ pub(crate) fn greater_id<'a>(a: Option<&'a Locator>, b: Option<&'a Locator>) -> 
         (a, None) => a,
         (Some(x), Some(y)) if x.cmp(y).is_lt() => Some(y),
         (Some(x), Some(_)) => Some(x),
+    }
+}
+
+// Whether the greater of two ids is the second, and not the first.
+fn gives_way(id: Option<&Locator>, next: Option<&Locator>) -> bool
+    ensures { result ≡ true → greater_id (option_copied id.entry) (option_copied next.entry)
+        ≡ option_copied next.entry }
+{
+    match (id, next) {
+        (None, _) => true,
+        (Some(_), None) => false,
+        (Some(x), Some(y)) => x.cmp(y).is_lt(),
     }
 }
 

@@ -67,8 +67,10 @@ impl InsertionIndex {
         offset: u64,
         id: Locator,
     ) -> Result<(), AllocError>
-        requires { length (with_entry (record { stamp = stamp; offset = offset; id = id }) self.old) ≤ 2 ^ 40 }
-        ensures ok { OnOk result (self.new ≡ with_entry (record { stamp = stamp; offset = offset; id = id }) self.old) }
+        requires { length (with_entry (record { stamp = stamp; offset = offset; id = id })
+            self.old) ≤ 2 ^ 40 }
+        ensures ok { OnOk result (self.new
+            ≡ with_entry (record { stamp = stamp; offset = offset; id = id }) self.old) }
         ensures err { OnErr result (self.new ≡ self.old) }
     {
         self.entries

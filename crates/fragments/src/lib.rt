@@ -18,7 +18,7 @@ pub use fragment::{Fragment, FragmentSummary};
 pub use index::InsertionIndex;
 pub use index_entry::{IndexEntry, IndexKey, LastKey};
 pub use laws::{base_stands, entry_takes_its_place, index_finds_fragments, places_count_cells};
-pub use spans::{INLINE_SPANS, Span, Spans};
+pub use spans::{INLINE_SPANS, Sight, Span, Spans};
 pub use stamps::{INLINE_STAMPS, Stamps};
 pub use std::alloc::AllocError as OutOfMemory;
 use sum_tree::SumTree;

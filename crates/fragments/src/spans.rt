@@ -1,7 +1,8 @@
 // Of each replica the least and the greatest value of some stamps.
-ghost use Rattle.std.specs.Prelude.{◌≡◌, ◌≤◌, ◌<◌, ◌∷◌, [], length, min, max, IsOk, IfOk, OnErr, OnOk, IsTrue, ◌↔◌};
+ghost use Rattle.std.specs.Prelude.{◌≡◌, ◌≤◌, ◌<◌, ◌∷◌, [], length, min, max, IsOk, IfOk, OnErr, OnOk, true, false};
 ghost use Rattle.fragments.specs.declared.spans.Span.{Span};
 ghost use Rattle.fragments.specs.Spans.{hull, with_span, join_spans, spans_before, IsSpanAt, sees_all, sees_none};
+ghost use Rattle.fragments.specs.declared.spans.Sight.{Sight};
 
 use lamport_clock::Version;
 use smallvec::SmallVec;
@@ -30,6 +31,17 @@ impl Span {
             greatest: self.greatest.max(other.greatest),
         }
     }
+}
+
+/// How much a version sees of some stamps.
+#[derive(Clone, Copy, Debug, PartialEq, Eq)]
+pub enum Sight {
+    /// It sees all of them, also where there are none.
+    All,
+    /// It sees none of them.
+    Nothing,
+    /// It may see some of them and not others.
+    Part,
 }
 
 /// The spans of some stamps, one for each replica, replicas ascending. Contracts see them as their list.
@@ -93,28 +105,26 @@ impl Spans {
         Ok(())
     }
 
-    /// Whether the version sees all stamps of the spans.
-    pub fn lie_within(&self, version: &Version) -> bool
-        ensures { result ≡ sees_all version.now self.now }
+    /// How much the version sees of the stamps of the spans. Each span is looked at once, and none after it is known to be
+    /// a part.
+    pub fn sight(&self, version: &Version) -> Sight
+        ensures all { result ≡ Sight.All → sees_all version.now self.now ≡ true }
+        ensures nothing { result ≡ Sight.Nothing
+            → (sees_all version.now self.now ≡ false) × (sees_none version.now self.now ≡ true) }
+        ensures part { result ≡ Sight.Part
+            → (sees_all version.now self.now ≡ false) × (sees_none version.now self.now ≡ false) }
     {
+        let mut all = true;
+        let mut none = true;
         for span in self.as_slice() {
-            if version.get(span.replica) < span.greatest {
-                return false;
+            let seen = version.get(span.replica);
+            all = all && span.greatest <= seen;
+            none = none && seen < span.least;
+            if !all && !none {
+                return Sight::Part;
             }
         }
-        true
-    }
-
-    /// Whether the version sees none of the stamps of the spans.
-    pub fn lie_outside(&self, version: &Version) -> bool
-        ensures { result ≡ sees_none version.now self.now }
-    {
-        for span in self.as_slice() {
-            if span.least <= version.get(span.replica) {
-                return false;
-            }
-        }
-        true
+        if all { Sight::All } else { Sight::Nothing }
     }
 }
 

@@ -60,7 +60,8 @@ pub fn applied_at<'a>(applied: &'a AppliedList, have: &Version, t: Lamport) -> O
 
 /// Whether one of the two is equal: the applied operation of its stamp, and the one that waits.
 pub fn is_held(applied: Option<&Operation>, waiting: Option<&Operation>, op: &Operation) -> bool
-    ensures { result ≡ (equals (option_copied applied.entry) op.now || equals (option_copied waiting.entry) op.now) }
+    ensures { result ≡ (equals (option_copied applied.entry) op.now || equals
+        (option_copied waiting.entry) op.now) }
 {
     let is_applied = is_equal(applied, op);
     let is_waiting = is_equal(waiting, op);
@@ -69,7 +70,8 @@ pub fn is_held(applied: Option<&Operation>, waiting: Option<&Operation>, op: &Op
 
 /// Whether there is one of the two: the applied operation of a stamp, and the one that waits.
 pub fn is_taken(applied: Option<&Operation>, waiting: Option<&Operation>) -> bool
-    ensures { result ≡ (is_some (option_copied applied.entry) || is_some (option_copied waiting.entry)) }
+    ensures { result ≡ (is_some (option_copied applied.entry) || is_some
+        (option_copied waiting.entry)) }
 {
     let is_applied = is_there(applied);
     let is_waiting = is_there(waiting);
@@ -110,7 +112,8 @@ fn is_open(
     entry: (u16, u32),
 ) -> bool
     requires applied { Distinct applied.now }
-    requires latest { (e : ℕ × ℕ) → IsTrue (tells (option_copied latest) e) → IsFalse (nat_lt 0 e.1 && not (entry_closed applied.now version.now e)) }
+    requires latest { (e : ℕ × ℕ) → IsTrue (tells (option_copied latest) e)
+        → IsFalse (nat_lt 0 e.1 && not (entry_closed applied.now version.now e)) }
     ensures { result ≡ (nat_lt 0 entry.1 && not (entry_closed applied.now version.now entry)) }
 {
     if tells(latest, entry) {
@@ -133,8 +136,10 @@ fn first_open(
     entries: &[(u16, u32)],
 ) -> Option<u16>
     requires applied { Distinct applied.now }
-    requires latest { (e : ℕ × ℕ) → IsTrue (tells (option_copied latest) e) → IsFalse (nat_lt 0 e.1 && not (entry_closed applied.now version.now e)) }
-    ensures { result ≡ option_map (λ e. e.0) (find (λ e. nat_lt 0 e.1 && not (entry_closed applied.now version.now e)) entries.now) }
+    requires latest { (e : ℕ × ℕ) → IsTrue (tells (option_copied latest) e)
+        → IsFalse (nat_lt 0 e.1 && not (entry_closed applied.now version.now e)) }
+    ensures { result ≡ option_map (λ e. e.0)
+        (find (λ e. nat_lt 0 e.1 && not (entry_closed applied.now version.now e)) entries.now) }
 {
     for &entry in entries {
         if is_open(applied, version, latest, entry) {

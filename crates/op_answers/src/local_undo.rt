@@ -56,7 +56,10 @@ pub fn undo_fault(
     requires distinct { Distinct applied.now }
     requires counts { undos.now ≡ undo_entries applied.now }
     ensures fault { result ≡ undo_fault applied.now edits.now }
-    ensures local { (l : LimitsType) → local_undo_fault l applied.now edits.now ≡ first_of (result ∷ when (clock applied.now == 4294967295) ClockEnd ∷ option_map (λ e. Full e.unit e.held e.adds) (excess l applied.now 0 (1 + length edits.now)) ∷ []) }
+    ensures local { (l : LimitsType) → local_undo_fault l applied.now edits.now
+        ≡ first_of (result ∷ when (clock applied.now == 4294967295) ClockEnd
+        ∷ option_map (λ e. Full e.unit e.held e.adds)
+        (excess l applied.now 0 (1 + length edits.now)) ∷ []) }
     ensures room { result ≡ None → find (λ t. count_of undos.now t == 4294967295) edits.now ≡ None }
 {
     if let Some(edit) = first_unknown(applied, edits) {

@@ -45,7 +45,8 @@ impl PlacedBuffer {
     pub fn new(alloc: Global, replica: u16) -> Result<PlacedBuffer, AllocError>
         requires least { 1 ≤ replica }
         requires greatest { replica ≤ 1023 }
-        ensures { IfOk result (λ p. p ≡ over_base replica [] (record { bytes = 2 ^ 40; entries = 2 ^ 40 - 1 })) }
+        ensures { IfOk result (λ p. p ≡ over_base replica []
+            (record { bytes = 2 ^ 40; entries = 2 ^ 40 - 1 })) }
     {
         let buffer = empty_buffer(alloc, replica)?;
         let standing = empty_standing(alloc)?;
@@ -115,7 +116,8 @@ impl PlacedBuffer {
 fn empty_buffer(alloc: Global, replica: u16) -> Result<Buffer, AllocError>
     requires least { 1 ≤ replica }
     requires greatest { replica ≤ 1023 }
-    ensures { IfOk result (λ b. b ≡ over_base replica [] (record { bytes = 2 ^ 40; entries = 2 ^ 40 - 1 })) }
+    ensures { IfOk result (λ b. b ≡ over_base replica []
+        (record { bytes = 2 ^ 40; entries = 2 ^ 40 - 1 })) }
 {
     match Buffer::new(alloc, replica, "", AMPLE) {
         Ok(buffer) => Ok(buffer),

@@ -34,7 +34,8 @@ pub struct Standing {
 /// What stands for the history with an operation that is good, timed.
 pub fn place_timed(rt: &HostRuntime, at: &Standing, op: &Operation) -> io::Result<Standing>
     requires { MayPlace at.now.fragments.items at.now.index at.now.undos op.now }
-    ensures { IfOk result (λ s. AreStanding at.now.fragments.items at.now.index at.now.undos op.now s.fragments.items s.index s.undos) }
+    ensures { IfOk result (λ s. AreStanding at.now.fragments.items at.now.index at.now.undos op.now
+        s.fragments.items s.index s.undos) }
 {
     let start = Instant::now(rt)?;
     let mut standing = place(rt.alloc(), at, op)?;
@@ -52,7 +53,8 @@ pub fn make_timed(
     changes: &[Piece],
 ) -> io::Result<Standing>
     requires { MayMake at.now.fragments.items at.now.index at.now.undos stamp version changes.now }
-    ensures { IfOk result (λ s. AreMade at.now.fragments.items at.now.index at.now.undos stamp version changes.now s.fragments.items s.index s.undos) }
+    ensures { IfOk result (λ s. AreMade at.now.fragments.items at.now.index at.now.undos stamp
+        version changes.now s.fragments.items s.index s.undos) }
 {
     let start = Instant::now(rt)?;
     let mut standing = make(rt.alloc(), at, stamp, version, changes)?;
@@ -73,7 +75,8 @@ fn make(
     changes: &[Piece],
 ) -> Result<Standing, AllocError>
     requires { MayMake at.now.fragments.items at.now.index at.now.undos stamp version changes.now }
-    ensures { IfOk result (λ s. AreMade at.now.fragments.items at.now.index at.now.undos stamp version changes.now s.fragments.items s.index s.undos) }
+    ensures { IfOk result (λ s. AreMade at.now.fragments.items at.now.index at.now.undos stamp
+        version changes.now s.fragments.items s.index s.undos) }
 {
     let undos = at.undos.share()?;
     let (_, placed) = place_local(
@@ -96,7 +99,8 @@ fn make(
 
 fn place(alloc: Global, at: &Standing, op: &Operation) -> Result<Standing, AllocError>
     requires { MayPlace at.now.fragments.items at.now.index at.now.undos op.now }
-    ensures { IfOk result (λ s. AreStanding at.now.fragments.items at.now.index at.now.undos op.now s.fragments.items s.index s.undos) }
+    ensures { IfOk result (λ s. AreStanding at.now.fragments.items at.now.index at.now.undos op.now
+        s.fragments.items s.index s.undos) }
 {
     match op {
         Operation::Edit(edit) => place_edit(alloc, at, edit),
@@ -106,7 +110,8 @@ fn place(alloc: Global, at: &Standing, op: &Operation) -> Result<Standing, Alloc
 
 fn place_edit(alloc: Global, at: &Standing, edit: &EditOp) -> Result<Standing, AllocError>
     requires { MayPlace at.now.fragments.items at.now.index at.now.undos (Edit edit.now) }
-    ensures { IfOk result (λ s. AreStanding at.now.fragments.items at.now.index at.now.undos (Edit edit.now) s.fragments.items s.index s.undos) }
+    ensures { IfOk result (λ s. AreStanding at.now.fragments.items at.now.index at.now.undos
+        (Edit edit.now) s.fragments.items s.index s.undos) }
 {
     let placed = place_remote(alloc, &at.fragments, &at.index, &at.undos, edit)?;
     let undos = at.undos.share()?;
@@ -120,7 +125,8 @@ fn place_edit(alloc: Global, at: &Standing, edit: &EditOp) -> Result<Standing, A
 }
 
 fn place_undo(alloc: Global, at: &Standing, undo: &UndoOp) -> Result<Standing, AllocError>
-    ensures { IfOk result (λ s. AreStanding at.now.fragments.items at.now.index at.now.undos (Undo undo.now) s.fragments.items s.index s.undos) }
+    ensures { IfOk result (λ s. AreStanding at.now.fragments.items at.now.index at.now.undos
+        (Undo undo.now) s.fragments.items s.index s.undos) }
 {
     let undos = with_counts(alloc, &at.undos, undo)?;
     let listed = edits_of(alloc, undo.counts.as_slice())?;
@@ -137,7 +143,8 @@ fn place_undo(alloc: Global, at: &Standing, undo: &UndoOp) -> Result<Standing, A
 
 // The map with the counts of an undo, where there is room.
 fn with_counts(alloc: Global, undos: &UndoMap, undo: &UndoOp) -> Result<UndoMap, AllocError>
-    ensures { IfOk result (λ m. (h : History) → undos.now ≡ undo_entries h → m ≡ undo_entries (h ++ Undo undo.now ∷ [])) }
+    ensures { IfOk result (λ m. (h : History) → undos.now ≡ undo_entries h
+        → m ≡ undo_entries (h ++ Undo undo.now ∷ [])) }
 {
     let counts = undo.counts.as_slice().len() as u64;
     if undos.len() >= MOST || counts >= MOST {

@@ -59,13 +59,15 @@ impl<Q: Drop> Dispatcher<Q> {
         requires replica { replica < length publishers.old.list }
         requires level { AreLevel publishers.old }
         requires tied { AreTied self.old.inboxes publishers.old }
-        requires grows { IsFront (slice_index_or (shown_lists publishers.old) replica []) snapshot.now }
+        requires grows { IsFront (slice_index_or (shown_lists publishers.old) replica [])
+            snapshot.now }
         requires asked { (asks : List (Ask Q)) × HasAsked self.old asks }
         requires more { self.old.count < self.old.limit }
         ensures level { OnOk result (AreLevel publishers.new) }
         ensures workers { publishers.new.workers ≡ publishers.old.workers }
         ensures rows { rows_of publishers.new ≡ rows_of publishers.old }
-        ensures shown { OnOk result (shown_lists publishers.new ≡ slice_set (shown_lists publishers.old) replica snapshot.now) }
+        ensures shown { OnOk result (shown_lists publishers.new
+            ≡ slice_set (shown_lists publishers.old) replica snapshot.now) }
         ensures queues { queues_of self.new.inboxes ≡ queues_of self.old.inboxes }
         ensures pairs { pairs_in self.new.inboxes ≡ pairs_in self.old.inboxes }
         ensures limit { self.new.limit ≡ self.old.limit }
@@ -110,7 +112,8 @@ impl<Q: Drop> Dispatcher<Q> {
         requires { (asks : List (Ask Q)) × HasAsked self asks }
         ensures queues { queues_of result.items ≡ queues_of self.inboxes }
         ensures pairs { pairs_in result.items ≡ pairs_in self.inboxes }
-        ensures ended { (asks : List (Ask Q)) → HasAsked self asks → AllAt (IsClosed (length self.inboxes) asks) result.items }
+        ensures ended { (asks : List (Ask Q)) → HasAsked self asks
+            → AllAt (IsClosed (length self.inboxes) asks) result.items }
     {
         let Dispatcher {
             mut inboxes,

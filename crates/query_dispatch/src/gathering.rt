@@ -68,8 +68,11 @@ fn settle_workers<R: Threads + Sync, Q: Query<A> + Drop, A: Drop>(
     sizes: &[u64],
     lasts: &[Snapshot],
 ) -> Result<Vec<Vec<Answer<Q, A>>>, AllocError>
-    requires { CanSettleAll Q.plain sizes.now lasts.now inboxes.items dones.items (map (λ v. v.items) tolds.items) }
-    ensures { IfOk result (λ v. ArePaired (λ r i. AreSettled Q.plain lasts.now (asks_of i.sent) (reverse r.items)) v.items inboxes.items) }
+    requires { CanSettleAll Q.plain sizes.now lasts.now inboxes.items dones.items
+        (map (λ v. v.items) tolds.items) }
+    ensures { IfOk result (λ v. ArePaired
+        (λ r i. AreSettled Q.plain lasts.now (asks_of i.sent) (reverse r.items)) v.items
+        inboxes.items) }
 {
     let mut lists = Vec::new(alloc);
     let mut inboxes = inboxes.into_iter();

@@ -55,7 +55,8 @@ fn open_crews<R: Wait>(
     ensures workers { publishers.new.workers ≡ publishers.old.workers }
     ensures shown { OnOk result (shown_lists publishers.new ≡ firsts.items) }
     ensures count { IfOk result (λ v. length v.items ≡ publishers.old.workers) }
-    ensures pairs { IfOk result (λ v. map (λ c. pairs_of c.items) v.items ≡ columns publishers.old.workers (rows_of publishers.new)) }
+    ensures pairs { IfOk result (λ v. map (λ c. pairs_of c.items) v.items
+        ≡ columns publishers.old.workers (rows_of publishers.new)) }
 {
     let mut crews = empty_crews(alloc, publishers.workers)?;
     let mut firsts = firsts.into_iter();
@@ -105,7 +106,8 @@ fn open_queues<Q: Drop>(
     requires some { 1 ≤ workers }
     requires limit { limit < 2 ^ 63 }
     requires count { length crews.items ≡ workers }
-    ensures pairs { IfOk result (λ r. pairs_in r.0.inboxes ≡ map (λ c. pairs_of c.items) crews.items) }
+    ensures pairs { IfOk result (λ r. pairs_in r.0.inboxes
+        ≡ map (λ c. pairs_of c.items) crews.items) }
     ensures ends { IfOk result (λ r. AreEnds r.0.inboxes r.1.items) }
     ensures count { IfOk result (λ r. length r.0.inboxes ≡ workers) }
     ensures asked { IfOk result (λ r. HasAsked r.0 [] × (r.0.limit ≡ limit)) }

@@ -58,7 +58,8 @@ impl Publishers {
         ensures workers { self.new.workers ≡ self.old.workers }
         ensures shown { OnOk result (shown_lists self.new ≡ shown_lists self.old ++ first ∷ []) }
         ensures count { IfOk result (λ v. length v.items ≡ self.old.workers) }
-        ensures pairs { IfOk result (λ v. rows_of self.new ≡ rows_of self.old ++ pairs_of v.items ∷ []) }
+        ensures pairs { IfOk result (λ v. rows_of self.new
+            ≡ rows_of self.old ++ pairs_of v.items ∷ []) }
     {
         self.list.reserve(1)?;
         self.sizes.push(first.applied().len())?;
@@ -84,7 +85,8 @@ impl Publishers {
         ensures level { OnOk result (AreLevel self.new) }
         ensures workers { self.new.workers ≡ self.old.workers }
         ensures pairs { rows_of self.new ≡ rows_of self.old }
-        ensures shown { OnOk result (shown_lists self.new ≡ slice_set (shown_lists self.old) replica snapshot.now) }
+        ensures shown { OnOk result (shown_lists self.new
+            ≡ slice_set (shown_lists self.old) replica snapshot.now) }
     {
         let shown = publish_new(
             rt,

@@ -21,7 +21,8 @@ fn look_last(mut reader: SnapReader, told: Told, size: u64) -> Result<u64, Alloc
     requires pair { told.pair ≡ reader.pair }
     requires size { size ≡ length told.list }
     ensures bound { IfOk result (λ n. n ≤ length told.list) }
-    ensures limit { IfOk result (λ n. (h : List Operation) → IsFront h reader.longest → length h ≤ n → IsFront h told.list) }
+    ensures limit { IfOk result (λ n. (h : List Operation) → IsFront h reader.longest
+        → length h ≤ n → IsFront h told.list) }
 {
     reader.learn(told);
     let _snapshot = reader.latest()?;
@@ -38,7 +39,8 @@ fn look_all(
     requires pairs { told_pairs tolds.items ≡ pairs_of readers.items }
     requires sizes { sizes.now ≡ map (λ (h : List Operation). length h) (told_lists tolds.items) }
     ensures count { IfOk result (λ v. length v.items ≡ length tolds.items) }
-    ensures limits { IfOk result (λ v. AllAt (IsLimit (told_lists tolds.items) readers.items) v.items) }
+    ensures limits { IfOk result (λ v. AllAt
+        (IsLimit (told_lists tolds.items) readers.items) v.items) }
 {
     let mut limits = Vec::new(alloc);
     let mut readers = readers.into_iter();
@@ -95,9 +97,11 @@ fn settle_all<R: Threads + Sync, Q: Query<A> + Drop, A: Drop>(
     limits: &[u64],
     lasts: &[Snapshot],
 ) -> Result<Vec<Answer<Q, A>>, AllocError>
-    requires replicas { All (λ (a : Answer Q A). (a.replica < length limits.now) × (a.replica < length lasts.now)) answers.items }
+    requires replicas { All (λ (a : Answer Q A). (a.replica < length limits.now)
+        × (a.replica < length lasts.now)) answers.items }
     requires plain { All (λ (a : Answer Q A). a.answer ≡ Q.plain a.query a.snapshot) answers.items }
-    ensures { IfOk result (λ v. ArePaired (ComesTo Q.plain limits.now lasts.now) (reverse v.items) answers.items) }
+    ensures { IfOk result (λ v. ArePaired (ComesTo Q.plain limits.now lasts.now)
+        (reverse v.items) answers.items) }
 {
     let mut settled = Vec::new(alloc);
     while let Some(answer) = answers.pop() {
@@ -123,12 +127,14 @@ pub(crate) fn settle_worker<R: Threads + Sync, Q: Query<A> + Drop, A: Drop>(
 ) -> Result<Vec<Answer<Q, A>>, AllocError>
     requires own { done.queue ≡ inbox.queue }
     requires ended { IsEnded inbox.sent × IsEnded done.taken }
-    requires answered { IfSome done.answers (λ v. HasAnswered Q.plain (asks_of done.taken) done.readers v) }
+    requires answered { IfSome done.answers (λ v. HasAnswered Q.plain
+        (asks_of done.taken) done.readers v) }
     requires pairs { told_pairs tolds.items ≡ pairs_of done.readers }
     requires sizes { sizes.now ≡ map (λ (h : List Operation). length h) (told_lists tolds.items) }
     requires fronts { ArePaired IsFront (told_lists tolds.items) lasts.now }
     requires asked { All (IsPast lasts.now) (asks_of inbox.sent) }
-    ensures { IfOk result (λ v. AreSettled Q.plain lasts.now (asks_of inbox.sent) (reverse v.items)) }
+    ensures { IfOk result (λ v. AreSettled Q.plain lasts.now (asks_of inbox.sent)
+        (reverse v.items)) }
 {
     let (readers, answers) = collect(inbox, done)?;
     let limits = look_all(alloc, readers, tolds, sizes)?;

@@ -40,7 +40,14 @@ impl<Q: Drop> Inbox<Q> {
         requires worker { worker < length publisher.now.published }
         requires pair { IsOfPair self.old replica worker publisher.now }
         requires room { length self.old.sent < self.old.room }
-        ensures { MatchResult result (λ _. HasPut self.old self.new (record { number = number; replica = replica; query = query; history = slice_index_or publisher.now.published worker [] })) (λ _. self.new ≡ self.old) }
+        ensures { MatchResult result (λ _. HasPut self.old self.new
+            (record {
+              number = number;
+              replica = replica;
+              query = query;
+              history = slice_index_or publisher.now.published worker [];
+            }))
+            (λ _. self.new ≡ self.old) }
     {
         let told = publisher.tell(worker)?;
         let job = Job {

@@ -21,9 +21,11 @@ pub fn collect<Q: Query<A> + Drop, A: Drop>(
 ) -> Result<(Vec<SnapReader>, Vec<Answer<Q, A>>), AllocError>
     requires own { done.queue ≡ inbox.queue }
     requires ended { IsEnded inbox.sent × IsEnded done.taken }
-    requires answered { IfSome done.answers (λ v. HasAnswered Q.plain (asks_of done.taken) done.readers v) }
+    requires answered { IfSome done.answers (λ v. HasAnswered Q.plain
+        (asks_of done.taken) done.readers v) }
     ensures readers { IfOk result (λ r. r.0.items ≡ done.readers) }
-    ensures answered { IfOk result (λ r. HasAnswered Q.plain (asks_of inbox.sent) done.readers r.1.items) }
+    ensures answered { IfOk result (λ r. HasAnswered Q.plain
+        (asks_of inbox.sent) done.readers r.1.items) }
 {
     let Inbox { line, pass } = inbox;
     let Done {

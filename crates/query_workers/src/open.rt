@@ -21,7 +21,8 @@ pub fn open_queue<Q: Drop>(
     number: u32,
 ) -> Result<(Inbox<Q>, Desk<Q>), AllocError>
     requires { 0 < room }
-    ensures inbox { IfOk result (λ r. r.0 ≡ record { queue = r.1.queue; room = room; sent = []; readers = readers.items }) }
+    ensures inbox { IfOk result (λ r. r.0
+        ≡ record { queue = r.1.queue; room = room; sent = []; readers = readers.items }) }
     ensures desk { IfOk result (λ r. r.1.readers ≡ readers.items) }
 {
     let (line, mut pass) = Line::ruled(alloc, room)?;

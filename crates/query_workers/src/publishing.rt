@@ -22,7 +22,8 @@ pub fn publish_new<R: Wait>(
     snapshot: &Snapshot,
 ) -> Result<u64, AllocError>
     requires count { length publisher.old.published ≡ pairs }
-    requires shown { (h : List Operation) × (length h ≡ shown) × All (λ x. x ≡ h) publisher.old.published × IsFront h snapshot.now }
+    requires shown { (h : List Operation) × (length h ≡ shown)
+        × All (λ x. x ≡ h) publisher.old.published × IsFront h snapshot.now }
     ensures pairs { publisher.new.pairs ≡ publisher.old.pairs }
     ensures count { length publisher.new.published ≡ length publisher.old.published }
     ensures published { OnOk result (All (λ x. x ≡ snapshot.now) publisher.new.published) }

@@ -21,7 +21,8 @@ pub(crate) fn send<R: Wait, Q: Drop>(
     requires own { IsFor (view pass.old).readers entry }
     requires room { length (view pass.old).sent < ruled_capacity line.now }
     ensures queue { IsPassOf line.now pass.new }
-    ensures sent { view pass.new ≡ log true (view pass.old).takes ((view pass.old).sent ++ entry ∷ []) (view pass.old).taken (view pass.old).readers }
+    ensures sent { view pass.new ≡ log true (view pass.old).takes
+        ((view pass.old).sent ++ entry ∷ []) (view pass.old).taken (view pass.old).readers }
 {
     match line.push_as::<Push, R>(rt, pass, entry) {
         Ok(()) => {}
@@ -34,7 +35,10 @@ pub(crate) fn take<R: Wait, Q>(rt: &R, line: &Line<Q>, pass: &mut LinePass<Q>) -
     requires queue { IsPassOf line.now pass.old }
     requires worker { (view pass.old).takes ≡ true }
     ensures queue { IsPassOf line.now pass.new }
-    ensures taken { MatchOption result (view pass.new ≡ view pass.old) (λ x. (view pass.new ≡ log (view pass.old).sends true (view pass.old).sent ((view pass.old).taken ++ x ∷ []) (view pass.old).readers) × IsFor (view pass.old).readers x) }
+    ensures taken { MatchOption result (view pass.new ≡ view pass.old)
+        (λ x. (view pass.new
+        ≡ log (view pass.old).sends true (view pass.old).sent ((view pass.old).taken ++ x ∷ [])
+        (view pass.old).readers) × IsFor (view pass.old).readers x) }
 {
     line.pop_as::<Pop, R>(rt, pass)
 }

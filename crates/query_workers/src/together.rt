@@ -20,7 +20,9 @@ fn work_all<R: Threads + Wait + Sync, G: Gate, Q: Query<A> + Send + Drop, A: Sen
     desks: Vec<Desk<Q>>,
 ) -> Result<Vec<Done<Q, A>>, AllocError>
     ensures count { IfOk result (λ v. length v.items ≡ length desks.items) }
-    ensures worked { IfOk result (λ v. (i : ℕ) (d : DoneState Q A) (e : DeskState) → i < length desks.items → HasWorked Q.plain (slice_index_or desks.items i e) (slice_index_or v.items i d)) }
+    ensures worked { IfOk result (λ v. (i : ℕ) (d : DoneState Q A) (e : DeskState)
+        → i < length desks.items
+        → HasWorked Q.plain (slice_index_or desks.items i e) (slice_index_or v.items i d)) }
 {
     thread::map_vec(rt, desks, &|desk| work(rt, alloc, gate, desk))
 }
@@ -65,7 +67,9 @@ pub fn work_beside<
     requires { F.pre editor }
     ensures edited { F.post editor result.0 }
     ensures count { IfOk result.1 (λ v. length v.items ≡ length desks.items) }
-    ensures worked { IfOk result.1 (λ v. (i : ℕ) (d : DoneState Q A) (e : DeskState) → i < length desks.items → HasWorked Q.plain (slice_index_or desks.items i e) (slice_index_or v.items i d)) }
+    ensures worked { IfOk result.1 (λ v. (i : ℕ) (d : DoneState Q A) (e : DeskState)
+        → i < length desks.items
+        → HasWorked Q.plain (slice_index_or desks.items i e) (slice_index_or v.items i d)) }
 {
     run_beside(rt, desks, &|desks| work_all(rt, alloc, gate, desks), editor)
 }

@@ -77,7 +77,9 @@ fn answer_also<R: Threads + Wait + Sync, Q: Query<A> + Drop, A: Drop>(
     requires own { IsFor readers.old.items (Entry.Job job) }
     ensures pairs { pairs_of readers.new.items ≡ pairs_of readers.old.items }
     ensures failed { result ≡ false → failed ≡ false }
-    ensures answered { result ≡ false → (asks : List (Ask Q)) → HasAnswered Q.plain asks readers.old.items answers.old.items → HasAnswered Q.plain (asks ++ ask_of job ∷ []) readers.new.items answers.new.items }
+    ensures answered { result ≡ false → (asks : List (Ask Q))
+        → HasAnswered Q.plain asks readers.old.items answers.old.items
+        → HasAnswered Q.plain (asks ++ ask_of job ∷ []) readers.new.items answers.new.items }
 {
     match answer_in(rt, alloc, readers, job, answers) {
         Ok(()) => failed,
@@ -94,7 +96,9 @@ fn answer_in<R: Threads + Wait + Sync, Q: Query<A> + Drop, A: Drop>(
 ) -> Result<(), AllocError>
     requires own { IsFor readers.old.items (Entry.Job job) }
     ensures pairs { pairs_of readers.new.items ≡ pairs_of readers.old.items }
-    ensures answered { OnOk result ((asks : List (Ask Q)) → HasAnswered Q.plain asks readers.old.items answers.old.items → HasAnswered Q.plain (asks ++ ask_of job ∷ []) readers.new.items answers.new.items) }
+    ensures answered { OnOk result ((asks : List (Ask Q))
+        → HasAnswered Q.plain asks readers.old.items answers.old.items
+        → HasAnswered Q.plain (asks ++ ask_of job ∷ []) readers.new.items answers.new.items) }
 {
     let place = job.replica as usize;
     let answer = answer_on(rt, alloc, &mut readers[place], job)?;

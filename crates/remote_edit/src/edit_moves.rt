@@ -40,7 +40,8 @@ impl Keep<FragmentSummary> for SeesEdit {
 
 // Whether each edit of a list but one is undone.
 fn all_others_are_undone(undos: &UndoMap, edits: &[Lamport], edit: Lamport) -> bool
-    ensures { result ≡ list_all (λ t. same_stamp edit t || is_odd (count_of undos.now t)) edits.now }
+    ensures { result ≡ list_all (λ t. same_stamp edit t || is_odd (count_of undos.now t))
+        edits.now }
 {
     edits
         .iter()
@@ -79,7 +80,9 @@ pub(crate) fn edit_moves(
 ) -> Result<Moves, AllocError>
     requires shown { Each (IsByCounts undos.now) tree.now.items }
     requires brought { Brings edit.now.stamp 0 (length (texts edit.now.pieces)) tree.now.items }
-    ensures { IfOk result (λ ms. CarryOn edit.now.stamp [] [] (before_edit undos.now edit.now.stamp tree.now.items) 0 ms tree.now.items [] (length (texts edit.now.pieces))) }
+    ensures { IfOk result (λ ms. CarryOn edit.now.stamp [] []
+        (before_edit undos.now edit.now.stamp tree.now.items) 0 ms tree.now.items []
+        (length (texts edit.now.pieces))) }
 {
     tree.known();
     let mut moves = Moves::new(alloc);

@@ -71,8 +71,10 @@ impl Gather {
     // Puts a fragment in the place of the one that comes next.
     fn go_on(&mut self, tree: &SumTree<Fragment>, fragment: Fragment) -> Result<(), AllocError>
         requires some { (ahead tree.now.items self.old ≡ []) → ⊥ }
-        ensures made { IfOk result (λ _. self.new.made.items ≡ self.old.made.items ++ fragment ∷ []) }
-        ensures rest { IfOk result (λ _. ahead tree.now.items self.new ≡ tail (ahead tree.now.items self.old)) }
+        ensures made { IfOk result (λ _. self.new.made.items
+            ≡ self.old.made.items ++ fragment ∷ []) }
+        ensures rest { IfOk result (λ _. ahead tree.now.items self.new
+            ≡ tail (ahead tree.now.items self.old)) }
         ensures from { self.new.from ≡ self.old.from }
         ensures order { self.old.at ≤ self.new.at }
         ensures place { self.new.place ≡ self.old.place }
@@ -102,15 +104,18 @@ impl Gather {
         requires within { self.old.from ≤ length tree.now.items }
         requires some { 0 < left }
         requires fit { Fit (so_far tree.now.items self.old ++ ahead tree.now.items self.old) }
-        requires place { self.old.place ≡ seen_bytes edit.now.version (so_far tree.now.items self.old) }
-        requires indexed { IsIndexed edit.now.stamp self.old.number (so_far tree.now.items self.old ++ ahead tree.now.items self.old) self.old.index }
+        requires place { self.old.place ≡ seen_bytes edit.now.version
+            (so_far tree.now.items self.old) }
+        requires indexed { IsIndexed edit.now.stamp self.old.number
+            (so_far tree.now.items self.old ++ ahead tree.now.items self.old) self.old.index }
         ensures from { self.new.from ≡ self.old.from }
         ensures order { self.old.at ≤ self.new.at }
         ensures passed { IfOk result (λ n. IsOnWay (option_copied marks.entry) edit.now.stamp edit.now.version
             left (so_far tree.now.items self.old) (ahead tree.now.items self.old)
             n (so_far tree.now.items self.new) (ahead tree.now.items self.new) self.new.place) }
         ensures number { self.new.number ≡ self.old.number }
-        ensures indexed { IfOk result (λ _. IsIndexed edit.now.stamp self.new.number (so_far tree.now.items self.new ++ ahead tree.now.items self.new) self.new.index) }
+        ensures indexed { IfOk result (λ _. IsIndexed edit.now.stamp self.new.number
+            (so_far tree.now.items self.new ++ ahead tree.now.items self.new) self.new.index) }
     {
         let Some(first) = self.first(tree) else {
             return Ok(0);
@@ -143,7 +148,9 @@ impl Gather {
         requires start { self.now.from ≤ length tree.now.items }
         requires room { fragment.now.offset + n < 2 ^ 64 }
         requires within { n ≤ fragment.now.len }
-        ensures front { IfOk result (λ r. r.0 ≡ front fragment.now n (between_digits (last_id (so_far tree.now.items self.now)) fragment.now.id)) }
+        ensures front { IfOk result (λ r. r.0
+            ≡ front fragment.now n
+            (between_digits (last_id (so_far tree.now.items self.now)) fragment.now.id)) }
         ensures back { IfOk result (λ r. r.1 ≡ back fragment.now n) }
     {
         let low = self.low(alloc, tree)?;
@@ -163,14 +170,19 @@ impl Gather {
     ) -> Result<(), AllocError>
         requires some { (ahead tree.now.items self.old ≡ []) → ⊥ }
         requires first { length (with_entry (entry_of lower.now) self.old.index) ≤ 2 ^ 40 }
-        requires second { length (with_entry (entry_of upper) (with_entry (entry_of lower.now) self.old.index)) ≤ 2 ^ 40 }
-        ensures made { IfOk result (λ _. self.new.made.items ≡ self.old.made.items ++ touch (option_copied marks.entry) edit.now.stamp edit.now.version lower.now ∷ []) }
-        ensures rest { IfOk result (λ _. ahead tree.now.items self.new ≡ upper ∷ tail (ahead tree.now.items self.old)) }
+        requires second { length (with_entry (entry_of upper)
+            (with_entry (entry_of lower.now) self.old.index)) ≤ 2 ^ 40 }
+        ensures made { IfOk result (λ _. self.new.made.items
+            ≡ self.old.made.items
+            ++ touch (option_copied marks.entry) edit.now.stamp edit.now.version lower.now ∷ []) }
+        ensures rest { IfOk result (λ _. ahead tree.now.items self.new
+            ≡ upper ∷ tail (ahead tree.now.items self.old)) }
         ensures from { self.new.from ≡ self.old.from }
         ensures order { self.old.at ≤ self.new.at }
         ensures place { self.new.place ≡ self.old.place }
         ensures number { self.new.number ≡ self.old.number }
-        ensures index { IfOk result (λ _. self.new.index ≡ with_entry (entry_of upper) (with_entry (entry_of lower.now) self.old.index)) }
+        ensures index { IfOk result (λ _. self.new.index
+            ≡ with_entry (entry_of upper) (with_entry (entry_of lower.now) self.old.index)) }
     {
         enter_both(&mut self.index, alloc, lower, &upper)?;
         let passed = touch(alloc, edit, lower, marks)?;
@@ -191,8 +203,10 @@ impl Gather {
     ) -> Result<(), AllocError>
         requires within { self.old.from ≤ length tree.now.items }
         requires fit { Fit (so_far tree.now.items self.old ++ ahead tree.now.items self.old) }
-        requires place { self.old.place ≡ seen_bytes edit.now.version (so_far tree.now.items self.old) }
-        requires indexed { IsIndexed edit.now.stamp self.old.number (so_far tree.now.items self.old ++ ahead tree.now.items self.old) self.old.index }
+        requires place { self.old.place ≡ seen_bytes edit.now.version
+            (so_far tree.now.items self.old) }
+        requires indexed { IsIndexed edit.now.stamp self.old.number
+            (so_far tree.now.items self.old ++ ahead tree.now.items self.old) self.old.index }
         ensures from { self.new.from ≡ self.old.from }
         ensures order { self.old.at ≤ self.new.at }
         ensures gathered { IfOk result (λ _. IsAt edit.now.version
@@ -200,7 +214,8 @@ impl Gather {
             (bytes (so_far tree.now.items self.old ++ ahead tree.now.items self.old))
             (so_far tree.now.items self.new) (ahead tree.now.items self.new) self.new.place) }
         ensures number { self.new.number ≡ self.old.number }
-        ensures indexed { IfOk result (λ _. IsIndexed edit.now.stamp self.new.number (so_far tree.now.items self.new ++ ahead tree.now.items self.new) self.new.index) }
+        ensures indexed { IfOk result (λ _. IsIndexed edit.now.stamp self.new.number
+            (so_far tree.now.items self.new ++ ahead tree.now.items self.new) self.new.index) }
     {
         let mut left = count;
         while left > 0 {
@@ -211,7 +226,8 @@ impl Gather {
 
     // Whether the fragment that comes next is later than the edit, which has not seen it.
     fn is_later(&self, tree: &SumTree<Fragment>, edit: &EditOp) -> bool
-        ensures { result ≡ later_first edit.now.stamp edit.now.version (ahead tree.now.items self.now) }
+        ensures { result ≡ later_first edit.now.stamp edit.now.version
+            (ahead tree.now.items self.now) }
     {
         match self.first(tree) {
             None => false,
@@ -224,8 +240,10 @@ impl Gather {
         ensures from { self.new.from ≡ self.old.from }
         ensures order { self.old.at ≤ self.new.at }
         ensures place { self.new.place ≡ self.old.place }
-        ensures before { IfOk result (λ _. so_far tree.now.items self.new ≡ so_far tree.now.items self.old ++ take 1 (ahead tree.now.items self.old)) }
-        ensures after { IfOk result (λ _. ahead tree.now.items self.new ≡ tail (ahead tree.now.items self.old)) }
+        ensures before { IfOk result (λ _. so_far tree.now.items self.new
+            ≡ so_far tree.now.items self.old ++ take 1 (ahead tree.now.items self.old)) }
+        ensures after { IfOk result (λ _. ahead tree.now.items self.new
+            ≡ tail (ahead tree.now.items self.old)) }
         ensures number { self.new.number ≡ self.old.number }
         ensures index { self.new.index ≡ self.old.index }
     {
@@ -245,8 +263,10 @@ impl Gather {
     ) -> Result<(), AllocError>
         requires within { self.old.from ≤ length tree.now.items }
         requires fit { Fit (so_far tree.now.items self.old ++ ahead tree.now.items self.old) }
-        requires place { self.old.place ≡ seen_bytes edit.now.version (so_far tree.now.items self.old) }
-        requires indexed { IsIndexed edit.now.stamp self.old.number (so_far tree.now.items self.old ++ ahead tree.now.items self.old) self.old.index }
+        requires place { self.old.place ≡ seen_bytes edit.now.version
+            (so_far tree.now.items self.old) }
+        requires indexed { IsIndexed edit.now.stamp self.old.number
+            (so_far tree.now.items self.old ++ ahead tree.now.items self.old) self.old.index }
         ensures from { self.new.from ≡ self.old.from }
         ensures order { self.old.at ≤ self.new.at }
         ensures gathered { IfOk result (λ _. IsAt edit.now.version
@@ -254,7 +274,8 @@ impl Gather {
             (bytes (so_far tree.now.items self.old ++ ahead tree.now.items self.old))
             (so_far tree.now.items self.new) (ahead tree.now.items self.new) self.new.place) }
         ensures number { self.new.number ≡ self.old.number }
-        ensures indexed { IfOk result (λ _. IsIndexed edit.now.stamp self.new.number (so_far tree.now.items self.new ++ ahead tree.now.items self.new) self.new.index) }
+        ensures indexed { IfOk result (λ _. IsIndexed edit.now.stamp self.new.number
+            (so_far tree.now.items self.new ++ ahead tree.now.items self.new) self.new.index) }
     {
         while self.is_later(tree, edit) {
             self.keep(alloc, tree)?;
@@ -271,12 +292,15 @@ impl Gather {
         n: u64,
     ) -> Result<(), AllocError>
         requires unseen { sees edit.now.version edit.now.stamp ≡ false }
-        requires room { bytes (so_far tree.now.items self.old ++ ahead tree.now.items self.old) + n ≤ 2 ^ 40 }
+        requires room { bytes (so_far tree.now.items self.old ++ ahead tree.now.items self.old) + n
+            ≤ 2 ^ 40 }
         requires numbers { self.old.number + n < 2 ^ 64 }
         requires within { self.old.from ≤ length tree.now.items }
         requires fit { Fit (so_far tree.now.items self.old ++ ahead tree.now.items self.old) }
-        requires place { self.old.place ≡ seen_bytes edit.now.version (so_far tree.now.items self.old) }
-        requires indexed { IsIndexed edit.now.stamp self.old.number (so_far tree.now.items self.old ++ ahead tree.now.items self.old) self.old.index }
+        requires place { self.old.place ≡ seen_bytes edit.now.version
+            (so_far tree.now.items self.old) }
+        requires indexed { IsIndexed edit.now.stamp self.old.number
+            (so_far tree.now.items self.old ++ ahead tree.now.items self.old) self.old.index }
         ensures from { self.new.from ≡ self.old.from }
         ensures order { self.old.at ≤ self.new.at }
         ensures gathered { IfOk result (λ _. IsAt edit.now.version
@@ -284,7 +308,8 @@ impl Gather {
             (bytes (so_far tree.now.items self.old ++ ahead tree.now.items self.old) + n)
             (so_far tree.now.items self.new) (ahead tree.now.items self.new) self.new.place) }
         ensures number { IfOk result (λ _. self.new.number ≡ self.old.number + n) }
-        ensures indexed { IfOk result (λ _. IsIndexed edit.now.stamp self.new.number (so_far tree.now.items self.new ++ ahead tree.now.items self.new) self.new.index) }
+        ensures indexed { IfOk result (λ _. IsIndexed edit.now.stamp self.new.number
+            (so_far tree.now.items self.new ++ ahead tree.now.items self.new) self.new.index) }
     {
         if n > 0 {
             let low = self.low(alloc, tree)?;
@@ -300,7 +325,8 @@ impl Gather {
 
 // Whether a fragment is later than an edit that has not seen it.
 fn is_past(fragment: &Fragment, edit: &EditOp) -> bool
-    ensures { result ≡ (later fragment.now.stamp edit.now.stamp && not (sees edit.now.version fragment.now.stamp)) }
+    ensures { result ≡ (later fragment.now.stamp edit.now.stamp && not
+        (sees edit.now.version fragment.now.stamp)) }
 {
     is_later(fragment.stamp, edit.stamp) && !edit.version.sees(fragment.stamp)
 }
@@ -322,8 +348,10 @@ fn enter_both(
     upper: &Fragment,
 ) -> Result<(), AllocError>
     requires first { length (with_entry (entry_of lower.now) index.old) ≤ 2 ^ 40 }
-    requires second { length (with_entry (entry_of upper.now) (with_entry (entry_of lower.now) index.old)) ≤ 2 ^ 40 }
-    ensures { IfOk result (λ _. index.new ≡ with_entry (entry_of upper.now) (with_entry (entry_of lower.now) index.old)) }
+    requires second { length (with_entry (entry_of upper.now)
+        (with_entry (entry_of lower.now) index.old)) ≤ 2 ^ 40 }
+    ensures { IfOk result (λ _. index.new
+        ≡ with_entry (entry_of upper.now) (with_entry (entry_of lower.now) index.old)) }
 {
     enter(index, alloc, lower)?;
     enter(index, alloc, upper)

@@ -20,7 +20,8 @@ pub fn touch(
     fragment: &Fragment,
     marks: Option<&UndoMap>,
 ) -> Result<Fragment, AllocError>
-    ensures { IfOk result (λ f. f ≡ touch (option_copied marks.entry) edit.now.stamp edit.now.version fragment.now) }
+    ensures { IfOk result (λ f. f ≡ touch
+        (option_copied marks.entry) edit.now.stamp edit.now.version fragment.now) }
 {
     match marks {
         None => fragment.copy(alloc),
@@ -56,7 +57,8 @@ fn was_shown(fragment: &Fragment, undos: &UndoMap, version: &Version) -> bool
 
 // Whether each edit that the version sees was undone at it.
 fn all_were_undone(undos: &UndoMap, edits: &[Lamport], version: &Version) -> bool
-    ensures { result ≡ list_all (λ t. not (sees version.now t) || is_odd (count_seen undos.now t version.now)) edits.now }
+    ensures { result ≡ list_all (λ t. not (sees version.now t) || is_odd
+        (count_seen undos.now t version.now)) edits.now }
 {
     edits
         .iter()

@@ -122,7 +122,8 @@ impl Moves {
 
     // Puts behind the others that a stretch of fragments stays as it is.
     pub(crate) fn keep(&mut self, visible: u64, hidden: u64) -> Result<(), AllocError>
-        ensures { OnOk result (self.new ≡ with_move (with_move self.old (Visible visible)) (Hidden hidden)) }
+        ensures { OnOk result (self.new
+            ≡ with_move (with_move self.old (Visible visible)) (Hidden hidden)) }
     {
         self.push(Move::Visible(visible))?;
         self.push(Move::Hidden(hidden))

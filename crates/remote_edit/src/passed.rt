@@ -1,7 +1,7 @@
 // How many cells are passed in a walk over fragments.
 ghost use Rattle.remote_edit.specs.Passed.{move_passed, IsLaterPassed, PassedFits, passed_laws, move_seen, IsLaterSeen, SeenFits, seen_laws};
 
-use fragments::{FragmentSummary, Full, Visible};
+use fragments::{FragmentSummary, Full, Sight, Visible};
 use lamport_clock::Version;
 use tree_cursor::{Bias, Dimension, Moves, Plain, Target};
 
@@ -67,23 +67,17 @@ impl<'a, 'v> Dimension<'a, FragmentSummary> for SeenPassed<'v> {
     fn try_add(self, s: &'a FragmentSummary) -> Option<SeenPassed<'v>> {
         let visible = self.visible + s.visible;
         let hidden = self.hidden + s.hidden;
-        if s.span.lie_within(self.version) {
-            Some(SeenPassed {
-                version: self.version,
-                bytes: self.bytes + (s.visible + s.hidden),
-                visible,
-                hidden,
-            })
-        } else if s.span.lie_outside(self.version) {
-            Some(SeenPassed {
-                version: self.version,
-                bytes: self.bytes,
-                visible,
-                hidden,
-            })
-        } else {
-            None
-        }
+        let bytes = match s.span.sight(self.version) {
+            Sight::All => self.bytes + (s.visible + s.hidden),
+            Sight::Nothing => self.bytes,
+            Sight::Part => return None,
+        };
+        Some(SeenPassed {
+            version: self.version,
+            bytes,
+            visible,
+            hidden,
+        })
     }
 }
 

@@ -30,9 +30,12 @@ pub fn place_remote(
     op: &EditOp,
 ) -> Result<Placed, AllocError>
     requires { MayPlace tree.now.items index.now undos.now (Edit op.now) }
-    ensures stands { IfOk result (λ p. ArePlaced tree.now.items index.now undos.now (Edit op.now) p.fragments.items p.index) }
-    ensures moves { IfOk result (λ p. MoveWithEdit tree.now.items index.now undos.now (Edit op.now) p.moves) }
-    ensures characters { IfOk result (λ p. KeepCharactersWithEdit tree.now.items index.now undos.now (Edit op.now) p.fragments.items p.moves) }
+    ensures stands { IfOk result (λ p. ArePlaced tree.now.items index.now undos.now
+        (Edit op.now) p.fragments.items p.index) }
+    ensures moves { IfOk result (λ p. MoveWithEdit tree.now.items index.now undos.now
+        (Edit op.now) p.moves) }
+    ensures characters { IfOk result (λ p. KeepCharactersWithEdit tree.now.items index.now
+        undos.now (Edit op.now) p.fragments.items p.moves) }
 {
     let walk = walk_in(alloc, tree, index, undos, op)?;
     let moves = edit_moves(alloc, &walk.tree, undos, op)?;
@@ -57,10 +60,14 @@ pub fn place_local(
     changes: &[Piece],
 ) -> Result<(EditOp, Placed), AllocError>
     requires { MayMake tree.now.items index.now undos.now stamp version changes.now }
-    ensures made { IfOk result (λ r. IsMade tree.now.items index.now undos.now stamp version changes.now (Edit r.0)) }
-    ensures stands { IfOk result (λ r. ArePlaced tree.now.items index.now undos.now (Edit r.0) r.1.fragments.items r.1.index) }
-    ensures moves { IfOk result (λ r. MoveWithEdit tree.now.items index.now undos.now (Edit r.0) r.1.moves) }
-    ensures characters { IfOk result (λ r. KeepCharactersWithEdit tree.now.items index.now undos.now (Edit r.0) r.1.fragments.items r.1.moves) }
+    ensures made { IfOk result (λ r. IsMade tree.now.items index.now undos.now stamp version
+        changes.now (Edit r.0)) }
+    ensures stands { IfOk result (λ r. ArePlaced tree.now.items index.now undos.now
+        (Edit r.0) r.1.fragments.items r.1.index) }
+    ensures moves { IfOk result (λ r. MoveWithEdit tree.now.items index.now undos.now
+        (Edit r.0) r.1.moves) }
+    ensures characters { IfOk result (λ r. KeepCharactersWithEdit tree.now.items index.now
+        undos.now (Edit r.0) r.1.fragments.items r.1.moves) }
 {
     let pieces = full_pieces(alloc, tree, changes)?;
     let op = EditOp {

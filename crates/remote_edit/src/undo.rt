@@ -118,8 +118,10 @@ fn replace(
     fragment: Fragment,
 ) -> Result<(), AllocError>
     requires within { i + 1 ≤ length fragments.old.items }
-    requires fits { SummaryFits (fold no_fragments summaries summary_of (spliced i (i + 1) (fragment ∷ []) fragments.old.items)) }
-    ensures { OnOk result (fragments.new.items ≡ spliced i (i + 1) (fragment ∷ []) fragments.old.items) }
+    requires fits { SummaryFits (fold no_fragments summaries summary_of
+        (spliced i (i + 1) (fragment ∷ []) fragments.old.items)) }
+    ensures { OnOk result (fragments.new.items
+        ≡ spliced i (i + 1) (fragment ∷ []) fragments.old.items) }
 {
     fragments.known();
     let one = list_of(alloc, fragment)?;
@@ -137,8 +139,10 @@ fn put_anew(
     edits: &[Lamport],
 ) -> Result<(), AllocError>
     requires stands { slice_get fragments.old.items i ≡ Some fragment.now }
-    requires fits { SummaryFits (fold no_fragments summaries summary_of (spliced i (i + 1) (anew undos.now by edits.now fragment.now ∷ []) fragments.old.items)) }
-    ensures { OnOk result (fragments.new.items ≡ spliced i (i + 1) (anew undos.now by edits.now fragment.now ∷ []) fragments.old.items) }
+    requires fits { SummaryFits (fold no_fragments summaries summary_of
+        (spliced i (i + 1) (anew undos.now by edits.now fragment.now ∷ []) fragments.old.items)) }
+    ensures { OnOk result (fragments.new.items
+        ≡ spliced i (i + 1) (anew undos.now by edits.now fragment.now ∷ []) fragments.old.items) }
 {
     if !is_concerned(fragment, edits) {
         return Ok(());
@@ -190,11 +194,15 @@ pub fn mark_undo(
     by: Lamport,
     edits: &[Lamport],
 ) -> Result<Placed, AllocError>
-    ensures fragments { IfOk result (λ p. p.fragments.items ≡ all_anew undos.now by edits.now tree.now.items) }
+    ensures fragments { IfOk result (λ p. p.fragments.items
+        ≡ all_anew undos.now by edits.now tree.now.items) }
     ensures index { IfOk result (λ p. p.index ≡ index.now) }
-    ensures stands { IfOk result (λ p. StandWithUndo tree.now.items index.now undos.now by edits.now p.fragments.items p.index) }
-    ensures moves { IfOk result (λ p. MoveWithUndo tree.now.items index.now undos.now by edits.now p.moves) }
-    ensures characters { IfOk result (λ p. KeepCharactersWithUndo tree.now.items index.now undos.now by edits.now p.fragments.items p.moves) }
+    ensures stands { IfOk result (λ p. StandWithUndo tree.now.items index.now undos.now by
+        edits.now p.fragments.items p.index) }
+    ensures moves { IfOk result (λ p. MoveWithUndo tree.now.items index.now undos.now by edits.now
+        p.moves) }
+    ensures characters { IfOk result (λ p. KeepCharactersWithUndo tree.now.items index.now
+        undos.now by edits.now p.fragments.items p.moves) }
 {
     let fragments = with_undo(alloc, tree, undos, by, edits)?;
     let index = index.share()?;

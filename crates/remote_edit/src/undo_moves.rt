@@ -18,7 +18,9 @@ use undo_map::UndoMap;
 
 // What an undo of edits does to the bytes of a fragment.
 fn move_of(fragment: &Fragment, undos: &UndoMap, edits: &[Lamport]) -> Move
-    ensures { (by : Lamport) → result ≡ move_for fragment.now.visible (anew undos.now by edits.now fragment.now).visible fragment.now.len }
+    ensures { (by : Lamport) → result
+        ≡ move_for fragment.now.visible
+        (anew undos.now by edits.now fragment.now).visible fragment.now.len }
 {
     let shown = if is_concerned(fragment, edits) {
         is_shown(undos, fragment)
@@ -32,7 +34,9 @@ fn move_of(fragment: &Fragment, undos: &UndoMap, edits: &[Lamport]) -> Move
 pub(crate) fn keep(moves: &mut Moves, from: Passed, to: Passed) -> Result<(), AllocError>
     requires visible { from.visible ≤ to.visible }
     requires hidden { from.hidden ≤ to.hidden }
-    ensures { OnOk result (moves.new ≡ with_move (with_move moves.old (Visible (to.visible - from.visible))) (Hidden (to.hidden - from.hidden))) }
+    ensures { OnOk result (moves.new
+        ≡ with_move (with_move moves.old (Visible (to.visible - from.visible)))
+        (Hidden (to.hidden - from.hidden))) }
 {
     moves.keep(to.visible - from.visible, to.hidden - from.hidden)
 }
@@ -45,7 +49,9 @@ pub(crate) fn undo_moves(
     undos: &UndoMap,
     edits: &[Lamport],
 ) -> Result<Moves, AllocError>
-    ensures { IfOk result (λ ms. (by t : Lamport) → CarryOn t [] [] tree.now.items 0 ms (all_anew undos.now by edits.now tree.now.items) [] 0) }
+    ensures { IfOk result (λ ms. (by t : Lamport)
+        → CarryOn t [] [] tree.now.items 0 ms (all_anew undos.now by edits.now tree.now.items)
+        [] 0) }
 {
     tree.known();
     let mut moves = Moves::new(alloc);

@@ -36,11 +36,13 @@ impl Walk {
     fn seek(&mut self, edit: &EditOp, count: u64) -> Result<u64, AllocError>
         requires within { self.old.at ≤ length self.old.tree.items }
         requires fit { Fit self.old.tree.items }
-        requires place { self.old.place ≡ seen_bytes edit.now.version (take self.old.at self.old.tree.items) }
+        requires place { self.old.place ≡ seen_bytes edit.now.version
+            (take self.old.at self.old.tree.items) }
         ensures tree { self.new.tree ≡ self.old.tree }
         ensures number { self.new.number ≡ self.old.number }
         ensures index { self.new.index ≡ self.old.index }
-        ensures sought { IfOk result (λ n. IsSought edit.now.stamp edit.now.version self.old.tree.items count self.old.at n self.new.at self.new.place) }
+        ensures sought { IfOk result (λ n. IsSought edit.now.stamp edit.now.version
+            self.old.tree.items count self.old.at n self.new.at self.new.place) }
     {
         if count == 0 || count > MOST_CELLS {
             return Ok(count);
@@ -73,10 +75,13 @@ impl Walk {
         requires unseen { sees edit.now.version edit.now.stamp ≡ false }
         requires within { self.now.at ≤ length self.now.tree.items }
         requires fit { Fit self.now.tree.items }
-        requires place { self.now.place ≡ seen_bytes edit.now.version (take self.now.at self.now.tree.items) }
+        requires place { self.now.place ≡ seen_bytes edit.now.version
+            (take self.now.at self.now.tree.items) }
         requires room { bytes self.now.tree.items + length piece.now.text ≤ 2 ^ 40 }
         requires numbers { self.now.number + length piece.now.text < 2 ^ 64 }
-        requires indexed { IsIndexed edit.now.stamp self.now.number (take self.now.at self.now.tree.items ++ drop self.now.at self.now.tree.items) self.now.index }
+        requires indexed { IsIndexed edit.now.stamp self.now.number
+            (take self.now.at self.now.tree.items ++ drop self.now.at self.now.tree.items)
+            self.now.index }
         ensures from { IfOk result (λ g. g.from ≡ self.now.at) }
         ensures order { IfOk result (λ g. self.now.at ≤ g.at) }
         ensures gathered { IfOk result (λ g. IsAt edit.now.version
@@ -84,7 +89,8 @@ impl Walk {
             (bytes self.now.tree.items + length piece.now.text)
             (so_far self.now.tree.items g) (ahead self.now.tree.items g) g.place) }
         ensures number { IfOk result (λ g. g.number ≡ self.now.number + length piece.now.text) }
-        ensures indexed { IfOk result (λ g. IsIndexed edit.now.stamp g.number (so_far self.now.tree.items g ++ ahead self.now.tree.items g) g.index) }
+        ensures indexed { IfOk result (λ g. IsIndexed edit.now.stamp g.number
+            (so_far self.now.tree.items g ++ ahead self.now.tree.items g) g.index) }
     {
         let mut gather = Gather {
             from: self.at,
@@ -109,8 +115,10 @@ impl Walk {
         requires order { gather.from ≤ gather.at }
         requires within { gather.from ≤ length self.old.tree.items }
         requires fit { Fit (so_far self.old.tree.items gather ++ ahead self.old.tree.items gather) }
-        ensures before { IfOk result (λ _. take self.new.at self.new.tree.items ≡ so_far self.old.tree.items gather) }
-        ensures after { IfOk result (λ _. drop self.new.at self.new.tree.items ≡ ahead self.old.tree.items gather) }
+        ensures before { IfOk result (λ _. take self.new.at self.new.tree.items
+            ≡ so_far self.old.tree.items gather) }
+        ensures after { IfOk result (λ _. drop self.new.at self.new.tree.items
+            ≡ ahead self.old.tree.items gather) }
         ensures within { IfOk result (λ _. self.new.at ≤ length self.new.tree.items) }
         ensures place { IfOk result (λ _. self.new.place ≡ gather.place) }
         ensures number { IfOk result (λ _. self.new.number ≡ gather.number) }
@@ -143,17 +151,21 @@ impl Walk {
         requires unseen { sees edit.now.version edit.now.stamp ≡ false }
         requires within { self.old.at ≤ length self.old.tree.items }
         requires fit { Fit self.old.tree.items }
-        requires place { self.old.place ≡ seen_bytes edit.now.version (take self.old.at self.old.tree.items) }
+        requires place { self.old.place ≡ seen_bytes edit.now.version
+            (take self.old.at self.old.tree.items) }
         requires room { bytes self.old.tree.items + length piece.now.text ≤ 2 ^ 40 }
         requires numbers { self.old.number + length piece.now.text < 2 ^ 64 }
-        requires indexed { IsIndexed edit.now.stamp self.old.number self.old.tree.items self.old.index }
+        requires indexed { IsIndexed edit.now.stamp self.old.number self.old.tree.items
+            self.old.index }
         ensures within { IfOk result (λ _. self.new.at ≤ length self.new.tree.items) }
         ensures passed { IfOk result (λ _. IsAt edit.now.version
             (one_piece undos.now edit.now.stamp edit.now.version count self.old.number piece.now (take self.old.at self.old.tree.items) (drop self.old.at self.old.tree.items))
             (bytes self.old.tree.items + length piece.now.text)
             (take self.new.at self.new.tree.items) (drop self.new.at self.new.tree.items) self.new.place) }
-        ensures number { IfOk result (λ _. self.new.number ≡ self.old.number + length piece.now.text) }
-        ensures indexed { IfOk result (λ _. IsIndexed edit.now.stamp self.new.number self.new.tree.items self.new.index) }
+        ensures number { IfOk result (λ _. self.new.number
+            ≡ self.old.number + length piece.now.text) }
+        ensures indexed { IfOk result (λ _. IsIndexed edit.now.stamp self.new.number
+            self.new.tree.items self.new.index) }
     {
         let left = self.seek(edit, count)?;
         let gather = self.gather(alloc, undos, edit, left, piece)?;
@@ -174,9 +186,12 @@ impl Walk {
         requires unseen { sees edit.now.version edit.now.stamp ≡ false }
         requires room { bytes self.old.tree.items + text_total edit.now.pieces ≤ 2 ^ 40 }
         requires indexed { IsIndexed edit.now.stamp 0 self.old.tree.items self.old.index }
-        ensures walked { IfOk result (λ _. self.new.tree.items ≡ walk undos.now edit.now.stamp edit.now.version 0 0 edit.now.pieces [] self.old.tree.items) }
+        ensures walked { IfOk result (λ _. self.new.tree.items
+            ≡ walk undos.now edit.now.stamp edit.now.version 0 0 edit.now.pieces
+            [] self.old.tree.items) }
         ensures fit { IfOk result (λ _. Fit self.new.tree.items) }
-        ensures indexed { IfOk result (λ _. IsIndexed edit.now.stamp self.new.number self.new.tree.items self.new.index) }
+        ensures indexed { IfOk result (λ _. IsIndexed edit.now.stamp self.new.number
+            self.new.tree.items self.new.index) }
     {
         let mut place = 0;
         for piece in edit.pieces.as_slice() {
@@ -203,7 +218,8 @@ fn put_back(
     requires order { from ≤ at }
     requires within { from ≤ length tree.old.items }
     requires fit { Fit (before tree.old.items from made.items ++ after tree.old.items at back) }
-    ensures before { IfOk result (λ n. take n tree.new.items ≡ before tree.old.items from made.items) }
+    ensures before { IfOk result (λ n. take n tree.new.items
+        ≡ before tree.old.items from made.items) }
     ensures after { IfOk result (λ n. drop n tree.new.items ≡ after tree.old.items at back) }
     ensures within { IfOk result (λ n. n ≤ length tree.new.items) }
 {
@@ -256,7 +272,8 @@ pub fn walk_in(
     requires unseen { sees edit.now.version edit.now.stamp ≡ false }
     requires room { bytes tree.now.items + text_total edit.now.pieces ≤ 2 ^ 40 }
     requires indexed { IsIndexed edit.now.stamp 0 tree.now.items index.now }
-    ensures walked { IfOk result (λ w. w.tree.items ≡ walk undos.now edit.now.stamp edit.now.version 0 0 edit.now.pieces [] tree.now.items) }
+    ensures walked { IfOk result (λ w. w.tree.items
+        ≡ walk undos.now edit.now.stamp edit.now.version 0 0 edit.now.pieces [] tree.now.items) }
     ensures fit { IfOk result (λ w. Fit w.tree.items) }
     ensures indexed { IfOk result (λ w. IsIndexed edit.now.stamp w.number w.tree.items w.index) }
 {

@@ -90,7 +90,8 @@ impl Growth {
     pub fn grow(&mut self, snapshot: Snapshot) -> Result<Kept, AllocError>
         requires { IsFront (joined self.old.reached.log) snapshot }
         ensures book { self.new.reached.book ≡ self.old.reached.book }
-        ensures grown { MatchResult result (λ k. (k.snapshot ≡ snapshot) × (k.reached ≡ self.new.reached)) (λ _. self.new.reached ≡ self.old.reached) }
+        ensures grown { MatchResult result (λ k. (k.snapshot ≡ snapshot)
+            × (k.reached ≡ self.new.reached)) (λ _. self.new.reached ≡ self.old.reached) }
     {
         let operations = snapshot.applied().len();
         let more = (self.operations, snapshot);

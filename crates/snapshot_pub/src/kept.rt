@@ -30,7 +30,8 @@ impl Kept {
     /// Whether it begins with the other one of the same pair, as the longer of two does: both begin what the log was since.
     pub fn begins_with(&self, other: &Kept) -> bool
         requires { other.now.reached.book ≡ self.now.reached.book }
-        ensures { MatchBool result (IsFront other.now.snapshot self.now.snapshot) (IsFront self.now.snapshot other.now.snapshot) }
+        ensures { MatchBool result (IsFront other.now.snapshot self.now.snapshot)
+            (IsFront self.now.snapshot other.now.snapshot) }
     {
         let mut both = self.reached.again();
         both.learn(&other.reached);

@@ -44,7 +44,9 @@ impl Side {
     pub(crate) fn publish<R: Wait>(&mut self, rt: &R, snapshot: &Snapshot) -> Result<(), AllocError>
         requires { IsFront self.old.end.desk.shown.value.snapshot snapshot.now }
         ensures own { self.new.growth.reached.book ≡ self.old.growth.reached.book }
-        ensures shown { MatchResult result (λ _. self.new.end.desk.shown.value.snapshot ≡ snapshot.now) (λ _. self.new.end.desk.shown.value.snapshot ≡ self.old.end.desk.shown.value.snapshot) }
+        ensures shown { MatchResult result (λ _. self.new.end.desk.shown.value.snapshot
+            ≡ snapshot.now) (λ _. self.new.end.desk.shown.value.snapshot
+            ≡ self.old.end.desk.shown.value.snapshot) }
     {
         if self.is_ahead {
             return Err(AllocError);
@@ -109,7 +111,9 @@ impl Publisher {
         requires pair { i < length self.old.published }
         requires grows { IsFront (slice_index_or self.old.published i []) snapshot.now }
         ensures pairs { self.new.pairs ≡ self.old.pairs }
-        ensures published { MatchResult result (λ _. self.new.published ≡ slice_set self.old.published i snapshot.now) (λ _. self.new.published ≡ self.old.published) }
+        ensures published { MatchResult result (λ _. self.new.published
+            ≡ slice_set self.old.published i snapshot.now)
+            (λ _. self.new.published ≡ self.old.published) }
     {
         self.sides[i as usize].publish(rt, snapshot)
     }

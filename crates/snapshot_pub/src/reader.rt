@@ -49,9 +49,11 @@ impl SnapReader {
         ensures gives { IfOk result (λ s. s ≡ self.new.longest) }
         ensures begins { IsFront self.old.longest self.new.longest }
         ensures entered { OnOk result (self.new.entered ≡ true → self.new.seen ≡ self.new.longest) }
-        ensures unentered { OnOk result (self.new.entered ≡ false → (self.new.longest ≡ self.old.longest) × (self.new.seen ≡ self.old.seen)) }
+        ensures unentered { OnOk result (self.new.entered ≡ false
+            → (self.new.longest ≡ self.old.longest) × (self.new.seen ≡ self.old.seen)) }
         ensures seen { IsFront self.old.seen self.new.seen }
-        ensures err { OnErr result ((self.new.longest ≡ self.old.longest) × (self.new.entered ≡ self.old.entered)) }
+        ensures err { OnErr result ((self.new.longest ≡ self.old.longest)
+            × (self.new.entered ≡ self.old.entered)) }
     {
         match look_in(&mut self.end)? {
             Some(kept) => self.take(kept),
@@ -68,10 +70,12 @@ impl SnapReader {
         requires { kept.reached.book ≡ self.old.pair }
         ensures pair { self.new.pair ≡ self.old.pair }
         ensures seen { self.new.seen ≡ self.old.seen }
-        ensures gives { IfOk result (λ s. (s ≡ kept.snapshot) × (self.new.longest ≡ kept.snapshot)) }
+        ensures gives { IfOk result (λ s. (s ≡ kept.snapshot)
+            × (self.new.longest ≡ kept.snapshot)) }
         ensures begins { IsFront self.old.longest self.new.longest }
         ensures entered { OnOk result (self.new.entered ≡ true) }
-        ensures err { OnErr result ((self.new.longest ≡ self.old.longest) × (self.new.entered ≡ self.old.entered)) }
+        ensures err { OnErr result ((self.new.longest ≡ self.old.longest)
+            × (self.new.entered ≡ self.old.entered)) }
     {
         // It always does: all that was told had been shown before. The rule of the pair, which knows no token, cannot say so.
         if !kept.begins_with(&self.longest) {

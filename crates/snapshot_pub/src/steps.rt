@@ -20,7 +20,10 @@ pub type WriteEnd = Writer<Kept, Kept, View, Shown>;
 
 // A share of what is shown; none where the reader is handed back unentered.
 fn look(end: ReadEnd, _: ()) -> (ReadEnd, Result<Option<Kept>, AllocError>)
-    ensures { MatchResult result.1 (λ o. MatchOption o (view result.0.place ≡ view end.place) (λ k. Sees (view end.place) k (view result.0.place))) (λ _. (k : Kept) × Sees (view end.place) k (view result.0.place)) }
+    ensures { MatchResult result.1
+        (λ o. MatchOption o (view result.0.place ≡ view end.place)
+        (λ k. Sees (view end.place) k (view result.0.place)))
+        (λ _. (k : Kept) × Sees (view end.place) k (view result.0.place)) }
 {
     match end.enter_as::<See>() {
         Ok(reading) => {
@@ -37,7 +40,9 @@ fn look(end: ReadEnd, _: ()) -> (ReadEnd, Result<Option<Kept>, AllocError>)
 
 /// A share of what is shown, by the step enter; none where the reader is handed back unentered.
 pub(crate) fn look_in(end: &mut ReadEnd) -> Result<Option<Kept>, AllocError>
-    ensures { MatchResult result (λ o. MatchOption o (view end.new.place ≡ view end.old.place) (λ k. Sees (view end.old.place) k (view end.new.place))) (λ _. (k : Kept) × Sees (view end.old.place) k (view end.new.place)) }
+    ensures { MatchResult result (λ o. MatchOption o (view end.new.place ≡ view end.old.place)
+        (λ k. Sees (view end.old.place) k (view end.new.place)))
+        (λ _. (k : Kept) × Sees (view end.old.place) k (view end.new.place)) }
 {
     replace_with(end, (), look)
 }
@@ -45,8 +50,11 @@ pub(crate) fn look_in(end: &mut ReadEnd) -> Result<Option<Kept>, AllocError>
 // Shows what follows what is shown.
 fn show<R: Wait>(end: WriteEnd, rt: &R, kept: Kept) -> (WriteEnd, Result<(), AllocError>)
     requires { Follows kept end.desk.shown.value }
-    ensures shown { MatchResult result.1 (λ _. result.0.desk.shown.value ≡ kept) (λ _. result.0.desk.shown.value ≡ end.desk.shown.value) }
-    ensures seen { MatchResult result.1 (λ _. Sees (view end.desk.place) kept (view result.0.desk.place)) (λ _. view result.0.desk.place ≡ view end.desk.place) }
+    ensures shown { MatchResult result.1 (λ _. result.0.desk.shown.value ≡ kept)
+        (λ _. result.0.desk.shown.value ≡ end.desk.shown.value) }
+    ensures seen { MatchResult result.1
+        (λ _. Sees (view end.desk.place) kept (view result.0.desk.place))
+        (λ _. view result.0.desk.place ≡ view end.desk.place) }
 {
     let mut end = end;
     match end.append(kept) {
@@ -64,8 +72,10 @@ fn show<R: Wait>(end: WriteEnd, rt: &R, kept: Kept) -> (WriteEnd, Result<(), All
 /// Shows what follows what is shown, by one exchange. On want of memory readers see what they saw.
 pub(crate) fn show_in<R: Wait>(end: &mut WriteEnd, rt: &R, kept: Kept) -> Result<(), AllocError>
     requires { Follows kept end.old.desk.shown.value }
-    ensures shown { MatchResult result (λ _. end.new.desk.shown.value ≡ kept) (λ _. end.new.desk.shown.value ≡ end.old.desk.shown.value) }
-    ensures seen { MatchResult result (λ _. Sees (view end.old.desk.place) kept (view end.new.desk.place)) (λ _. view end.new.desk.place ≡ view end.old.desk.place) }
+    ensures shown { MatchResult result (λ _. end.new.desk.shown.value ≡ kept)
+        (λ _. end.new.desk.shown.value ≡ end.old.desk.shown.value) }
+    ensures seen { MatchResult result (λ _. Sees (view end.old.desk.place) kept
+        (view end.new.desk.place)) (λ _. view end.new.desk.place ≡ view end.old.desk.place) }
 {
     replace_with(end, (rt, kept), |end, (rt, kept)| show(end, rt, kept))
 }

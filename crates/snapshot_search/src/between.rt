@@ -49,7 +49,8 @@ fn read_chunks(
     requires matched { progress.old.matched < length needle.now }
     requires room { place_of progress.old + count < 2 ^ 63 }
     requires enough { count ≤ length (concat chunks) }
-    ensures { OnOk result (Reads needle.now (take count (concat chunks.entry)) progress.old progress.new) }
+    ensures { OnOk result (Reads needle.now
+        (take count (concat chunks.entry)) progress.old progress.new) }
 {
     let most = WINDOW_BYTES.max(needle.len().saturating_mul(4));
     let mut window = Vec::new(alloc);
@@ -75,7 +76,8 @@ fn gather(
 ) -> Result<(), OutOfMemory>
     requires matched { progress.old.matched < length needle.now }
     requires room { place_of progress.old + length window.old.items + length piece.now < 2 ^ 63 }
-    ensures { OnOk result (Gathers needle.now piece.now progress.old window.old.items progress.new window.new.items) }
+    ensures { OnOk result (Gathers needle.now piece.now progress.old window.old.items progress.new
+        window.new.items) }
 {
     window.extend_from_slice(piece)?;
     if window.len() < most {

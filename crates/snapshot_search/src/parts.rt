@@ -86,7 +86,11 @@ fn find_each<R: Threads + Sync>(
 ) -> Result<Vec<Result<Vec<u64>, OutOfMemory>>, OutOfMemory>
     requires { AreCuts rope.now cuts.now (length rope.now) }
     ensures len { IfOk result (λ found. length found.items + 1 ≡ length cuts.now) }
-    ensures each { IfOk result (λ found. (j : ℕ) (d : Result (Vec ℕ Global) AllocError) → j + 1 < length cuts.now → IfOk (slice_index_or found.items j d) (λ part. part.items ≡ starts_between rope.now needle.now (slice_index cuts.now j) (slice_index cuts.now (j + 1)))) }
+    ensures each { IfOk result (λ found. (j : ℕ) (d : Result (Vec ℕ Global) AllocError)
+        → j + 1 < length cuts.now
+        → IfOk (slice_index_or found.items j d)
+        (λ part. part.items ≡ starts_between rope.now needle.now (slice_index cuts.now j)
+        (slice_index cuts.now (j + 1)))) }
 {
     (0..cuts.len() - 1)
         .into_par_iter()
@@ -94,7 +98,9 @@ fn find_each<R: Threads + Sync>(
         .map(
             |j: usize| -> Result<Vec<u64>, OutOfMemory>
                 requires { (j + 1 < length cuts.now) × AreCuts rope.now cuts.now (length rope.now) }
-                ensures { IfOk result (λ part. part.items ≡ starts_between rope.entry.now needle.entry.now (slice_index cuts.entry.now j) (slice_index cuts.entry.now (j + 1))) }
+                ensures { IfOk result (λ part. part.items
+                    ≡ starts_between rope.entry.now needle.entry.now (slice_index cuts.entry.now j)
+                    (slice_index cuts.entry.now (j + 1))) }
             { find_part(alloc, rope, needle, cuts, j) },
         )
         .collect(rt, alloc)
@@ -110,7 +116,9 @@ fn find_part(
 ) -> Result<Vec<u64>, OutOfMemory>
     requires part { j + 1 < length cuts.now }
     requires cuts { AreCuts rope.now cuts.now (length rope.now) }
-    ensures { IfOk result (λ part. part.items ≡ starts_between rope.now needle.now (slice_index cuts.now j) (slice_index cuts.now (j + 1))) }
+    ensures { IfOk result (λ part. part.items
+        ≡ starts_between rope.now needle.now (slice_index cuts.now j)
+        (slice_index cuts.now (j + 1))) }
 {
     find_between(alloc, rope, needle, cuts[j], cuts[j + 1])
 }

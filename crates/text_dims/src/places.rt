@@ -82,7 +82,8 @@ impl Place {
     /// The place past some bytes among which is no LF, which stand here.
     #[inline]
     pub fn past_run(self, run: Run) -> Place
-        requires { PlaceFits (place_sum self (summary_end (run_summary run.len run.chars run.units))) }
+        requires { PlaceFits (place_sum self
+            (summary_end (run_summary run.len run.chars run.units))) }
         ensures { result ≡ place_sum self (summary_end (run_summary run.len run.chars run.units)) }
     {
         Place {

@@ -45,7 +45,8 @@ impl<'a, T: Item, D: Dimension<'a, T::Summary>> Model for Cursor<'a, T, D> {
 impl<'a, T: Item, D: Dimension<'a, T::Summary>> Cursor<'a, T, D> {
     /// A cursor on the first item of a tree, which starts at this place. It is always Ok.
     pub fn new(tree: &'a SumTree<T>, start: D) -> Result<Cursor<'a, T, D>, OutOfMemory>
-        requires { D.fits (D.plain start) (fold T.Summary.empty T.Summary.op T.sum_of tree.now.items) }
+        requires { D.fits (D.plain start)
+            (fold T.Summary.empty T.Summary.op T.sum_of tree.now.items) }
         ensures ok { IsOk result }
         ensures items { IfOk result (λ c. c.items ≡ tree.now.items) }
         ensures index { IfOk result (λ c. c.index ≡ 0) }
@@ -79,14 +80,16 @@ impl<'a, T: Item, D: Dimension<'a, T::Summary>> Cursor<'a, T, D> {
 
     /// The place at which that item starts; past the last, the place at which all end. Takes no memory.
     pub fn start(&self) -> D
-        ensures { D.plain result ≡ place_behind D.moved T.sum_of (D.plain self.now.from) (take self.now.index self.now.items) }
+        ensures { D.plain result ≡ place_behind D.moved T.sum_of (D.plain self.now.from)
+            (take self.now.index self.now.items) }
     {
         self.halt.start
     }
 
     /// The place at which that item ends; past the last, the place at which all end. Takes no memory.
     pub fn end(&self) -> D
-        ensures { D.plain result ≡ place_behind D.moved T.sum_of (D.plain self.now.from) (take (self.now.index + 1) self.now.items) }
+        ensures { D.plain result ≡ place_behind D.moved T.sum_of (D.plain self.now.from)
+            (take (self.now.index + 1) self.now.items) }
     {
         self.halt.end
     }
@@ -94,7 +97,10 @@ impl<'a, T: Item, D: Dimension<'a, T::Summary>> Cursor<'a, T, D> {
     /// Goes on to the next item, or past the last. There it stays. It is always Ok.
     pub fn next(&mut self) -> Result<(), OutOfMemory>
         ensures ok { IsOk result }
-        ensures moved { self.new ≡ record self.old { index = min (self.old.index + 1) (length self.old.items) } }
+        ensures moved { self.new ≡ record self.old {
+          index = min (self.old.index + 1)
+              (length self.old.items);
+        } }
     {
         self.go_on();
         Ok(())
@@ -115,7 +121,12 @@ impl<'a, T: Item, D: Dimension<'a, T::Summary>> Cursor<'a, T, D> {
     /// it (Right), or past the last item if there is none. It never goes back, and is always Ok.
     pub fn seek<G: Target<D>>(&mut self, target: &G, bias: Bias) -> Result<(), OutOfMemory>
         ensures ok { IsOk result }
-        ensures moved { self.new ≡ record self.old { index = self.old.index + seek_count D.moved T.sum_of (λ p. G.passes target.now p bias) (place_behind D.moved T.sum_of (D.plain self.old.from) (take self.old.index self.old.items)) (drop self.old.index self.old.items) } }
+        ensures moved { self.new ≡ record self.old {
+          index = self.old.index
+              + seek_count D.moved T.sum_of (λ p. G.passes target.now p bias)
+              (place_behind D.moved T.sum_of (D.plain self.old.from)
+              (take self.old.index self.old.items)) (drop self.old.index self.old.items);
+        } }
     {
         self.pass(target, bias);
         Ok(())
@@ -129,8 +140,15 @@ impl<'a, T: Item, D: Dimension<'a, T::Summary>> Cursor<'a, T, D> {
         target: &G,
         bias: Bias,
     ) -> Result<SumTree<T>, OutOfMemory>
-        ensures items { IfOk result (λ t. t.items ≡ slice_range self.old.items self.old.index self.new.index) }
-        ensures moved { OnOk result (self.new ≡ record self.old { index = self.old.index + seek_count D.moved T.sum_of (λ p. G.passes target.now p bias) (place_behind D.moved T.sum_of (D.plain self.old.from) (take self.old.index self.old.items)) (drop self.old.index self.old.items) }) }
+        ensures items { IfOk result (λ t. t.items
+            ≡ slice_range self.old.items self.old.index self.new.index) }
+        ensures moved { OnOk result (self.new
+            ≡ record self.old {
+              index = self.old.index + seek_count D.moved T.sum_of
+                  (λ p. G.passes target.now p bias)
+                  (place_behind D.moved T.sum_of (D.plain self.old.from)
+                  (take self.old.index self.old.items)) (drop self.old.index self.old.items);
+            }) }
         ensures err { OnErr result (self.new ≡ self.old) }
     {
         let first = self.index;
@@ -158,7 +176,10 @@ impl<'a, T: Item, D: Dimension<'a, T::Summary>> Cursor<'a, T, D> {
 
     // Goes on to the next item, if it is on one.
     fn go_on(&mut self)
-        ensures { self.new ≡ record self.old { index = min (self.old.index + 1) (length self.old.items) } }
+        ensures { self.new ≡ record self.old {
+          index = min (self.old.index + 1)
+              (length self.old.items);
+        } }
     {
         self.tree.known();
         if let Some(_item) = self.halt.item {
@@ -169,7 +190,12 @@ impl<'a, T: Item, D: Dimension<'a, T::Summary>> Cursor<'a, T, D> {
 
     // Goes forward to where a seek goes.
     fn pass<G: Target<D>>(&mut self, target: &G, bias: Bias)
-        ensures { self.new ≡ record self.old { index = self.old.index + seek_count D.moved T.sum_of (λ p. G.passes target.now p bias) (place_behind D.moved T.sum_of (D.plain self.old.from) (take self.old.index self.old.items)) (drop self.old.index self.old.items) } }
+        ensures { self.new ≡ record self.old {
+          index = self.old.index + seek_count D.moved T.sum_of
+              (λ p. G.passes target.now p bias)
+              (place_behind D.moved T.sum_of (D.plain self.old.from)
+              (take self.old.index self.old.items)) (drop self.old.index self.old.items);
+        } }
     {
         self.tree.known();
         if let Some(_item) = self.halt.item {

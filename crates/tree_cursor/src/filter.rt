@@ -69,9 +69,11 @@ impl<'a, T: Item, D: Dimension<'a, T::Summary>, K: Keep<T::Summary>> FilterCurso
         start: D,
         keep: K,
     ) -> Result<FilterCursor<'a, T, D, K>, OutOfMemory>
-        requires { D.fits (D.plain start) (fold T.Summary.empty T.Summary.op T.sum_of tree.now.items) }
+        requires { D.fits (D.plain start)
+            (fold T.Summary.empty T.Summary.op T.sum_of tree.now.items) }
         ensures ok { IsOk result }
-        ensures made { IfOk result (λ c. c ≡ record { items = tree.now.items; from = start; keep = keep; given = 0; next = 0 }) }
+        ensures made { IfOk result (λ c. c ≡
+            record { items = tree.now.items; from = start; keep = keep; given = 0; next = 0 }) }
     {
         Ok(FilterCursor {
             tree,
@@ -88,8 +90,13 @@ impl<'a, T: Item, D: Dimension<'a, T::Summary>, K: Keep<T::Summary>> FilterCurso
     /// The next item that is kept, or None if there is no further one. It is always Ok.
     pub fn next(&mut self) -> Result<Option<&'a T>, OutOfMemory>
         ensures ok { IsOk result }
-        ensures item { IfOk result (λ r. option_copied r ≡ slice_get self.old.items (self.old.next + filter_count (K.keeps self.old.keep) T.sum_of (drop self.old.next self.old.items))) }
-        ensures moved { let i = self.old.next + filter_count (K.keeps self.old.keep) T.sum_of (drop self.old.next self.old.items) in self.new ≡ record self.old { given = i; next = min (i + 1) (length self.old.items) } }
+        ensures item { IfOk result (λ r. option_copied r
+            ≡ slice_get self.old.items
+            (self.old.next + filter_count (K.keeps self.old.keep) T.sum_of
+            (drop self.old.next self.old.items))) }
+        ensures moved { let i = self.old.next + filter_count (K.keeps self.old.keep) T.sum_of
+            (drop self.old.next self.old.items) in self.new
+            ≡ record self.old { given = i; next = min (i + 1) (length self.old.items) } }
     {
         self.tree.known();
         let halt = walk(&mut self.path, self.end, &Keeping { keep: &self.keep });
@@ -111,7 +118,8 @@ impl<'a, T: Item, D: Dimension<'a, T::Summary>, K: Keep<T::Summary>> FilterCurso
     /// The place at which the item starts that was given last: before the first `next` the place at which the first
     /// item starts, and after None the place at which all end. Takes no memory.
     pub fn start(&self) -> D
-        ensures { D.plain result ≡ place_behind D.moved T.sum_of (D.plain self.now.from) (take self.now.given self.now.items) }
+        ensures { D.plain result ≡ place_behind D.moved T.sum_of (D.plain self.now.from)
+            (take self.now.given self.now.items) }
     {
         self.start
     }
@@ -119,7 +127,8 @@ impl<'a, T: Item, D: Dimension<'a, T::Summary>, K: Keep<T::Summary>> FilterCurso
     /// The place at which that item ends: before the first `next` the place at which the first item starts, and after
     /// None the place at which all end. Takes no memory.
     pub fn end(&self) -> D
-        ensures { D.plain result ≡ place_behind D.moved T.sum_of (D.plain self.now.from) (take self.now.next self.now.items) }
+        ensures { D.plain result ≡ place_behind D.moved T.sum_of (D.plain self.now.from)
+            (take self.now.next self.now.items) }
     {
         self.end
     }

@@ -98,7 +98,8 @@ impl<'a, T: Item> Path<'a, T> {
 
     // Takes the part that comes first, if anything is left.
     pub(crate) fn pop(&mut self) -> Option<Part<'a, T>>
-        ensures part { MatchOption result (self.old.items ≡ []) (λ part. TakesPart self.old part self.new) }
+        ensures part { MatchOption result (self.old.items ≡ [])
+            (λ part. TakesPart self.old part self.new) }
         ensures none { IfNone result (self.new.items ≡ []) }
     {
         loop {

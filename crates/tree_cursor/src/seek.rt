@@ -36,8 +36,14 @@ fn descent<'a, T: Item, D: Dimension<'a, T::Summary>, G: Target<D>>(
     bias: Bias,
 ) -> Halt<'a, T, D>
     requires { D.fits (D.plain start) (fold T.Summary.empty T.Summary.op T.sum_of tree.now.items) }
-    ensures item { option_copied result.item ≡ slice_get tree.now.items (seek_count D.moved T.sum_of (λ p. G.passes target.now p bias) (D.plain start) tree.now.items) }
-    ensures start { D.plain result.start ≡ place_behind D.moved T.sum_of (D.plain start) (take (seek_count D.moved T.sum_of (λ p. G.passes target.now p bias) (D.plain start) tree.now.items) tree.now.items) }
+    ensures item { option_copied result.item
+        ≡ slice_get tree.now.items
+        (seek_count D.moved T.sum_of (λ p. G.passes target.now p bias)
+        (D.plain start) tree.now.items) }
+    ensures start { D.plain result.start
+        ≡ place_behind D.moved T.sum_of (D.plain start)
+        (take (seek_count D.moved T.sum_of (λ p. G.passes target.now p bias)
+        (D.plain start) tree.now.items) tree.now.items) }
 {
     tree.known();
     let mut path = Path::new(tree);
@@ -56,8 +62,13 @@ pub fn locate<'a, T: Item, D: Dimension<'a, T::Summary>, G: Target<D>>(
     bias: Bias,
 ) -> (Option<&'a T>, D)
     requires { D.fits (D.plain start) (fold T.Summary.empty T.Summary.op T.sum_of tree.now.items) }
-    ensures item { option_copied result.0 ≡ slice_get tree.now.items (seek_count D.moved T.sum_of (λ p. G.passes target.now p bias) (D.plain start) tree.now.items) }
-    ensures place { D.plain result.1 ≡ place_behind D.moved T.sum_of (D.plain start) (take (seek_count D.moved T.sum_of (λ p. G.passes target.now p bias) (D.plain start) tree.now.items) tree.now.items) }
+    ensures item { option_copied result.0
+        ≡ slice_get tree.now.items
+        (seek_count D.moved T.sum_of (λ p. G.passes target.now p bias)
+        (D.plain start) tree.now.items) }
+    ensures place { D.plain result.1 ≡ place_behind D.moved T.sum_of (D.plain start)
+        (take (seek_count D.moved T.sum_of (λ p. G.passes target.now p bias)
+        (D.plain start) tree.now.items) tree.now.items) }
 {
     let halt = descent(tree, start, target, bias);
     (entry_item(halt.item), halt.start)

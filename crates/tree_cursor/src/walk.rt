@@ -66,7 +66,8 @@ fn over<'a, S: Summary, D: Dimension<'a, S>, R: Rule<S, D>>(
     rule: &R,
 ) -> Option<D>
     requires { D.fits (D.plain at) sum.now }
-    ensures { option_map D.plain result ≡ gone_over (λ q. R.halts rule.now sum.now q count) (D.moved (D.plain at) sum.now) }
+    ensures { option_map D.plain result
+        ≡ gone_over (λ q. R.halts rule.now sum.now q count) (D.moved (D.plain at) sum.now) }
 {
     match at.try_add(sum) {
         None => None,
@@ -98,9 +99,13 @@ pub(crate) fn walk<'a, T: Item, D: Dimension<'a, T::Summary>, R: Rule<T::Summary
     rule: &R,
 ) -> Halt<'a, T, D>
     requires short { length path.old.items ≤ 2 ^ 40 }
-    requires room { D.fits (D.plain start) (fold T.Summary.empty T.Summary.op T.sum_of path.old.items) }
-    ensures passed { result.passed ≡ passed_over D.moved T.sum_of (R.halts rule.now) (D.plain start) 0 path.old.items }
-    ensures at { IsAt D.moved D.fits T.Summary.empty T.Summary.op T.sum_of path.old.items (D.plain start) path.new.items result.item (D.plain result.start) (D.plain result.end) result.passed }
+    requires room { D.fits (D.plain start)
+        (fold T.Summary.empty T.Summary.op T.sum_of path.old.items) }
+    ensures passed { result.passed ≡ passed_over D.moved T.sum_of (R.halts rule.now)
+        (D.plain start) 0 path.old.items }
+    ensures at { IsAt D.moved D.fits T.Summary.empty T.Summary.op T.sum_of path.old.items
+        (D.plain start) path.new.items result.item (D.plain result.start)
+        (D.plain result.end) result.passed }
 {
     let mut passed = 0;
     let mut at = start;

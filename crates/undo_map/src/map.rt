@@ -68,11 +68,17 @@ impl UndoMap {
         by: Lamport,
         count: u32,
     ) -> Result<(), AllocError>
-        requires { length (with_count (record { edit = edit; by = by; count = count }) self.old) ≤ 2 ^ 40 }
-        ensures ok { OnOk result (self.new ≡ with_count (record { edit = edit; by = by; count = count }) self.old) }
+        requires { length (with_count (record { edit = edit; by = by; count = count }) self.old)
+            ≤ 2 ^ 40 }
+        ensures ok { OnOk result (self.new
+            ≡ with_count (record { edit = edit; by = by; count = count }) self.old) }
         ensures grows { OnOk result (length self.new ≤ length self.old + 1) }
-        ensures counts { OnOk result ((t : Lamport) → count_of self.new t ≡ max (count_of self.old t) (if same_stamp edit t then count else 0)) }
-        ensures counts_seen { OnOk result ((t : Lamport) (v : Entries) → count_seen self.new t v ≡ max (count_seen self.old t v) (if same_stamp edit t && sees v by then count else 0)) }
+        ensures counts { OnOk result ((t : Lamport)
+            → count_of self.new t
+            ≡ max (count_of self.old t) (if same_stamp edit t then count else 0)) }
+        ensures counts_seen { OnOk result ((t : Lamport) (v : Entries)
+            → count_seen self.new t v
+            ≡ max (count_seen self.old t v) (if same_stamp edit t && sees v by then count else 0)) }
         ensures err { OnErr result (self.new ≡ self.old) }
     {
         let held = held(&self.entries, UndoKey { edit, by });
@@ -134,8 +140,10 @@ fn entries_from(
     requires ascending { IsAscending entries.now.items }
     ensures items { result.items ≡ entries.now.items }
     ensures within { result.index ≤ length entries.now.items }
-    ensures early { (k : ℕ) (d : UndoEntry) → k < result.index → is_earlier edit (slice_index_or entries.now.items k d) ≡ true }
-    ensures late { (k : ℕ) (d : UndoEntry) → result.index ≤ k → k < length entries.now.items → is_earlier edit (slice_index_or entries.now.items k d) ≡ false }
+    ensures early { (k : ℕ) (d : UndoEntry) → k < result.index
+        → is_earlier edit (slice_index_or entries.now.items k d) ≡ true }
+    ensures late { (k : ℕ) (d : UndoEntry) → result.index ≤ k → k < length entries.now.items
+        → is_earlier edit (slice_index_or entries.now.items k d) ≡ false }
 {
     let Ok(mut cursor) = Cursor::new(entries, Greatest { key: None }) else {
         unreachable!()
@@ -155,7 +163,8 @@ fn entries_from(
 
 // What an entry of the edit counts at the version.
 fn counted(entry: &UndoEntry, at: Option<&Version>) -> u32
-    ensures { result ≡ (if is_seen (option_copied at.entry) entry.now.by then entry.now.count else 0) }
+    ensures { result ≡ (if is_seen
+        (option_copied at.entry) entry.now.by then entry.now.count else 0) }
 {
     match at {
         Some(version) if !version.sees(entry.by) => 0,

@@ -28,7 +28,8 @@ fn next_count(undos: &UndoMap, edit: Lamport) -> UndoCount
 pub fn next_counts(alloc: Global, undos: &UndoMap, edits: &[Lamport]) -> Result<Counts, AllocError>
     requires { find (λ t. count_of undos.now t == 4294967295) edits.now ≡ None }
     ensures counts { IfOk result (λ cs. cs ≡ map (next_of undos.now) edits.now) }
-    ensures history { IfOk result (λ cs. (h : History) → undos.now ≡ undo_entries h → cs ≡ map (next_count h) edits.now) }
+    ensures history { IfOk result (λ cs. (h : History) → undos.now ≡ undo_entries h
+        → cs ≡ map (next_count h) edits.now) }
 {
     let mut counts = Vec::with_capacity(alloc, edits.len())?;
     for &edit in edits {

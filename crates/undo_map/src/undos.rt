@@ -14,8 +14,10 @@ impl UndoMap {
     /// change are shared, and this map stays as it is.
     pub fn with_undo(&self, alloc: Global, undo: &UndoOp) -> Result<UndoMap, AllocError>
         requires { length self.now + length undo.now.counts ≤ 2 ^ 40 }
-        ensures counts { IfOk result (λ m. m ≡ with_counts undo.now.stamp undo.now.counts self.now) }
-        ensures history { IfOk result (λ m. (h : History) → self.now ≡ undo_entries h → m ≡ undo_entries (h ++ Undo undo.now ∷ [])) }
+        ensures counts { IfOk result (λ m. m ≡ with_counts undo.now.stamp undo.now.counts
+            self.now) }
+        ensures history { IfOk result (λ m. (h : History) → self.now ≡ undo_entries h
+            → m ≡ undo_entries (h ++ Undo undo.now ∷ [])) }
     {
         let mut map = self.share()?;
         let counts = undo.counts.as_slice();
