@@ -11,16 +11,33 @@ type Pair = (usize, usize);
 
 /// Reads the lines from the standard input, makes the locators, copies them and compares each with the two beside it.
 pub fn works(rt: &HostRuntime, timed: bool) -> io::Result<()> {
+    let pairs = read_pairs(rt)?;
+    let all = between_work(rt, timed, &pairs)?;
+    copy_work(rt, timed, &all)?;
+    compare_work(rt, timed, &all, &pairs)
+}
+
+fn read_pairs(rt: &HostRuntime) -> io::Result<Vec<Pair>> {
     let text = io::read_to_string(rt.alloc(), rt.reader())?;
-    let pairs = pairs(rt.alloc(), text.as_str())?;
+    Ok(pairs(rt.alloc(), text.as_str())?)
+}
+
+fn between_work(rt: &HostRuntime, timed: bool, pairs: &[Pair]) -> io::Result<Vec<Locator>> {
     let start = Instant::now(rt)?;
-    let all = made(rt.alloc(), &pairs)?;
+    let all = made(rt.alloc(), pairs)?;
     tell(rt, timed, "Between", start, all.len() as u64)?;
+    Ok(all)
+}
+
+fn copy_work(rt: &HostRuntime, timed: bool, all: &[Locator]) -> io::Result<()> {
     let start = Instant::now(rt)?;
-    let copies = copied(rt.alloc(), &all)?;
-    tell(rt, timed, "Copy", start, copies.len() as u64)?;
+    let copies = copied(rt.alloc(), all)?;
+    tell(rt, timed, "Copy", start, copies.len() as u64)
+}
+
+fn compare_work(rt: &HostRuntime, timed: bool, all: &[Locator], pairs: &[Pair]) -> io::Result<()> {
     let start = Instant::now(rt)?;
-    let less = count_less(&all, &pairs);
+    let less = count_less(all, pairs);
     tell(rt, timed, "Compare", start, less)
 }
 

@@ -10,38 +10,75 @@ use rope_chunks::Rope;
 use std::io;
 use std::time::Instant;
 
+fn points_work(rt: &HostRuntime, timed: bool, rope: &Rope, n: u64) -> io::Result<()> {
+    let start = Instant::now(rt)?;
+    let answer = work::points(rope, n);
+    tell(rt, timed, "Points", start, answer)
+}
+
+fn offsets_work(rt: &HostRuntime, timed: bool, rope: &Rope, n: u64) -> io::Result<()> {
+    let start = Instant::now(rt)?;
+    let answer = work::offsets(rope, n);
+    tell(rt, timed, "Offsets", start, answer)
+}
+
+fn slices_work(rt: &HostRuntime, timed: bool, rope: &Rope, n: u64) -> io::Result<()>
+    requires { IsAscii rope.now }
+{
+    let start = Instant::now(rt)?;
+    let answer = work::slices(rt.alloc(), rope, n)?;
+    tell(rt, timed, "Slices", start, answer)
+}
+
+fn shares_work(rt: &HostRuntime, timed: bool, rope: &Rope, n: u64) -> io::Result<()> {
+    let start = Instant::now(rt)?;
+    let answer = work::shares(rope, n)?;
+    tell(rt, timed, "Shares", start, answer)
+}
+
+fn parts_work(rt: &HostRuntime, timed: bool, rope: &Rope, n: u64) -> io::Result<()>
+    requires { IsAscii rope.now }
+{
+    let start = Instant::now(rt)?;
+    let answer = work::puts_together(rt.alloc(), rope, n)?;
+    tell(rt, timed, "Parts", start, answer)
+}
+
 // Works that leave the rope as it is.
 fn reads(rt: &HostRuntime, timed: bool, rope: &Rope, n: u64) -> io::Result<()>
     requires { IsAscii rope.now }
 {
+    points_work(rt, timed, rope, n / 2)?;
+    offsets_work(rt, timed, rope, n / 2)?;
+    slices_work(rt, timed, rope, n / 2)?;
+    shares_work(rt, timed, rope, n / 2)?;
+    parts_work(rt, timed, rope, n)
+}
+
+fn replaces_work(rt: &HostRuntime, timed: bool, rope: &mut Rope, n: u64) -> io::Result<()>
+    requires { IsAscii rope.old }
+    ensures { IfOk result (λ _. IsAscii rope.new) }
+{
     let start = Instant::now(rt)?;
-    let answer = work::points(rope, n / 2);
-    tell(rt, timed, "Points", start, answer)?;
+    let answer = work::replaces(rt.alloc(), rope, n)?;
+    tell(rt, timed, "Replaces", start, answer)
+}
+
+fn shared_work(rt: &HostRuntime, timed: bool, rope: &mut Rope, n: u64) -> io::Result<()>
+    requires { IsAscii rope.old }
+{
     let start = Instant::now(rt)?;
-    let answer = work::offsets(rope, n / 2);
-    tell(rt, timed, "Offsets", start, answer)?;
-    let start = Instant::now(rt)?;
-    let answer = work::slices(rt.alloc(), rope, n / 2)?;
-    tell(rt, timed, "Slices", start, answer)?;
-    let start = Instant::now(rt)?;
-    let answer = work::shares(rope, n / 2)?;
-    tell(rt, timed, "Shares", start, answer)?;
-    let start = Instant::now(rt)?;
-    let answer = work::puts_together(rt.alloc(), rope, n)?;
-    tell(rt, timed, "Parts", start, answer)
+    let answer = work::shares_and_replaces(rt.alloc(), rope, n)?;
+    tell(rt, timed, "ShareReplaces", start, answer)
 }
 
 // Works that change the rope, which nobody else shares.
 fn writes(rt: &HostRuntime, timed: bool, rope: &mut Rope, n: u64) -> io::Result<()>
     requires { IsAscii rope.old }
 {
-    let start = Instant::now(rt)?;
-    let answer = work::replaces(rt.alloc(), rope, n)?;
-    tell(rt, timed, "Replaces", start, answer)?;
+    replaces_work(rt, timed, rope, n)?;
     println!(rt; "Chunks {}", work::chunks(rope))?;
-    let start = Instant::now(rt)?;
-    let answer = work::shares_and_replaces(rt.alloc(), rope, n)?;
-    tell(rt, timed, "ShareReplaces", start, answer)
+    shared_work(rt, timed, rope, n)
 }
 
 /// Works on a rope of so many bytes, n times.

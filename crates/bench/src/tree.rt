@@ -90,6 +90,69 @@ fn text_work<T: Numbered>(rt: &HostRuntime, timed: bool, n: u64) -> io::Result<(
     typed_work(rt, timed, &mut tree, n)
 }
 
+// Puts in so many items, their keys in order.
+fn fill_work<T: Numbered>(
+    rt: &HostRuntime,
+    timed: bool,
+    tree: &mut SumTree<T>,
+    count: u32,
+) -> io::Result<()>
+    requires fits { (xs : List T) → T.Summary.fits (fold T.Summary.empty T.Summary.op T.sum_of xs) }
+    requires ascending { Ascending T.Key.cmp T.key_of tree.old.items }
+    ensures ascending { Ascending T.Key.cmp T.key_of tree.new.items }
+{
+    let start = Instant::now(rt)?;
+    let len = filled(rt.alloc(), tree, count)?;
+    tell(rt, timed, "Fill", start, len)
+}
+
+fn find_work<T: Numbered>(
+    rt: &HostRuntime,
+    timed: bool,
+    tree: &SumTree<T>,
+    bound: u64,
+    n: u64,
+) -> io::Result<()>
+    requires bound { 0 < bound }
+    requires ascending { Ascending T.Key.cmp T.key_of tree.now.items }
+{
+    let start = Instant::now(rt)?;
+    let there = found(tree, bound, n);
+    tell(rt, timed, "Find", start, there)
+}
+
+fn insert_work<T: Numbered>(
+    rt: &HostRuntime,
+    timed: bool,
+    tree: &mut SumTree<T>,
+    bound: u64,
+    n: u64,
+) -> io::Result<()>
+    requires fits { (xs : List T) → T.Summary.fits (fold T.Summary.empty T.Summary.op T.sum_of xs) }
+    requires bound { 0 < bound }
+    requires ascending { Ascending T.Key.cmp T.key_of tree.old.items }
+    ensures ascending { Ascending T.Key.cmp T.key_of tree.new.items }
+{
+    let start = Instant::now(rt)?;
+    let replaced = inserted(rt.alloc(), tree, bound, n)?;
+    tell(rt, timed, "Insert", start, replaced)
+}
+
+fn remove_work<T: Numbered>(
+    rt: &HostRuntime,
+    timed: bool,
+    tree: &mut SumTree<T>,
+    bound: u64,
+    n: u64,
+) -> io::Result<()>
+    requires bound { 0 < bound }
+    requires ascending { Ascending T.Key.cmp T.key_of tree.old.items }
+{
+    let start = Instant::now(rt)?;
+    let there = removed(rt.alloc(), tree, bound, n)?;
+    tell(rt, timed, "Remove", start, there)
+}
+
 // Works by keys, on a tree that had none at first.
 fn keyed<T: Numbered>(
     rt: &HostRuntime,
@@ -102,18 +165,10 @@ fn keyed<T: Numbered>(
 {
     let n = count as u64 / 10;
     let bound = count as u64 * 2 + 1;
-    let start = Instant::now(rt)?;
-    let len = filled(rt.alloc(), tree, count)?;
-    tell(rt, timed, "Fill", start, len)?;
-    let start = Instant::now(rt)?;
-    let there = found(tree, bound, n);
-    tell(rt, timed, "Find", start, there)?;
-    let start = Instant::now(rt)?;
-    let replaced = inserted(rt.alloc(), tree, bound, n)?;
-    tell(rt, timed, "Insert", start, replaced)?;
-    let start = Instant::now(rt)?;
-    let there = removed(rt.alloc(), tree, bound, n)?;
-    tell(rt, timed, "Remove", start, there)
+    fill_work(rt, timed, tree, count)?;
+    find_work(rt, timed, tree, bound, n)?;
+    insert_work(rt, timed, tree, bound, n)?;
+    remove_work(rt, timed, tree, bound, n)
 }
 
 fn key_work<T: Numbered>(rt: &HostRuntime, timed: bool, count: u32) -> io::Result<()>

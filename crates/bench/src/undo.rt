@@ -107,12 +107,18 @@ fn tree_of(
     let mut last = Locator::least(alloc)?;
     let mut tree = SumTree::new(alloc)?;
     for i in 0..fragments {
-        let id = Locator::between(alloc, &last, &greatest)?;
-        last = id.copy(alloc)?;
+        let id = next_id(alloc, &mut last, &greatest)?;
         let deleted = is_spread(i, fragments, deleted);
         add(alloc, &mut tree, fragment(alloc, id, i, deleted, old)?)?;
     }
     Ok(tree)
+}
+
+// A further id, which is the last one from then on.
+fn next_id(alloc: Global, last: &mut Locator, greatest: &Locator) -> Result<Locator, AllocError> {
+    let id = Locator::between(alloc, last, greatest)?;
+    *last = id.copy(alloc)?;
+    Ok(id)
 }
 
 // Whether number i of so many is one of so few that are spread evenly among them.

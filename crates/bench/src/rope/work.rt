@@ -14,7 +14,8 @@ const MOST: u64 = 1 << 39;
 /// The rope of a text, where that is ASCII and not too long; else the empty rope.
 pub fn made(alloc: Global, text: &str) -> Result<Rope, AllocError>
     ensures ascii { IfOk result (λ rope. IsAscii rope) }
-    ensures whole { IsAscii text.now → length text.now < 2 ^ 39 → IfOk result (λ rope. rope ≡ text.now) }
+    ensures whole { IsAscii text.now → length text.now < 2 ^ 39
+        → IfOk result (λ rope. rope ≡ text.now) }
 {
     if text.is_ascii() && (text.len() as u64) < MOST {
         Rope::from_str(alloc, text)
@@ -83,7 +84,8 @@ fn join(alloc: Global, front: &mut Rope, back: Rope) -> Result<(), AllocError>
     requires front { IsAscii front.old }
     requires back { IsAscii back }
     ensures ascii { IfOk result (λ _. IsAscii front.new) }
-    ensures ok { OnOk result (length front.old < 2 ^ 39 → length back < 2 ^ 39 → front.new ≡ front.old ++ back) }
+    ensures ok { OnOk result (length front.old < 2 ^ 39 → length back < 2 ^ 39
+        → front.new ≡ front.old ++ back) }
     ensures err { OnErr result (front.new ≡ front.old) }
 {
     if front.len() < MOST && back.len() < MOST {

@@ -15,7 +15,8 @@ const MOST: u64 = 1 << 39;
 /// Pushes an item, where there is room for one. On want of memory the tree is as before.
 pub fn push_to<T: Item>(alloc: Global, tree: &mut SumTree<T>, item: T) -> Result<(), AllocError>
     requires { (xs : List T) → T.Summary.fits (fold T.Summary.empty T.Summary.op T.sum_of xs) }
-    ensures ok { OnOk result (length tree.old.items < 2 ^ 39 → tree.new.items ≡ tree.old.items ++ item ∷ []) }
+    ensures ok { OnOk result (length tree.old.items < 2 ^ 39
+        → tree.new.items ≡ tree.old.items ++ item ∷ []) }
     ensures err { OnErr result (tree.new ≡ tree.old) }
 {
     if tree.len() >= MOST {
@@ -79,7 +80,8 @@ pub fn got<T: Numbered>(tree: &SumTree<T>, n: u64) -> u64 {
 fn push_shared<T: Item>(alloc: Global, tree: &mut SumTree<T>, item: T) -> Result<u64, AllocError>
     requires { (xs : List T) → T.Summary.fits (fold T.Summary.empty T.Summary.op T.sum_of xs) }
     ensures len { IfOk result (λ len. len ≡ length tree.old.items) }
-    ensures ok { OnOk result (length tree.old.items < 2 ^ 39 → tree.new.items ≡ tree.old.items ++ item ∷ []) }
+    ensures ok { OnOk result (length tree.old.items < 2 ^ 39
+        → tree.new.items ≡ tree.old.items ++ item ∷ []) }
     ensures err { OnErr result (tree.new ≡ tree.old) }
 {
     let old = tree.share()?;
@@ -90,7 +92,8 @@ fn push_shared<T: Item>(alloc: Global, tree: &mut SumTree<T>, item: T) -> Result
 /// Shares the tree and pushes an item to it, n times.
 pub fn shared<T: Numbered>(alloc: Global, tree: &mut SumTree<T>, n: u64) -> Result<u64, AllocError>
     requires { (xs : List T) → T.Summary.fits (fold T.Summary.empty T.Summary.op T.sum_of xs) }
-    ensures { OnOk result (length tree.old.items + n ≤ 2 ^ 39 → length tree.new.items ≡ length tree.old.items + n) }
+    ensures { OnOk result (length tree.old.items + n ≤ 2 ^ 39
+        → length tree.new.items ≡ length tree.old.items + n) }
 {
     let mut sum = 0u64;
     for number in 0..n {
@@ -109,7 +112,9 @@ pub fn splice_in<T: Item>(
     items: Vec<T>,
 ) -> Result<(), AllocError>
     requires { (xs : List T) → T.Summary.fits (fold T.Summary.empty T.Summary.op T.sum_of xs) }
-    ensures ok { OnOk result (from ≤ to → to ≤ length tree.old.items → length tree.old.items < 2 ^ 39 → length items.items < 2 ^ 39 → tree.new.items ≡ spliced from to items.items tree.old.items) }
+    ensures ok { OnOk result (from ≤ to → to ≤ length tree.old.items
+        → length tree.old.items < 2 ^ 39 → length items.items < 2 ^ 39
+        → tree.new.items ≡ spliced from to items.items tree.old.items) }
     ensures err { OnErr result (tree.new ≡ tree.old) }
 {
     if from > to || to > tree.len() || tree.len() >= MOST || items.len() as u64 >= MOST {
