@@ -38,10 +38,8 @@ pub fn place_timed(rt: &HostRuntime, at: &Standing, op: &Operation) -> io::Resul
         s.fragments.items s.index s.undos) }
 {
     let start = Instant::now(rt)?;
-    let mut standing = place(rt.alloc(), at, op)?;
-    let taken = nanoseconds_since(rt, start)?;
-    standing.nanoseconds = at.nanoseconds.wrapping_add(taken);
-    Ok(standing)
+    let standing = place(rt.alloc(), at, op)?;
+    with_time(rt, start, at.nanoseconds, standing)
 }
 
 /// What stands for the history with the edit that is made of changes, timed.
@@ -57,9 +55,23 @@ pub fn make_timed(
         version changes.now s.fragments.items s.index s.undos) }
 {
     let start = Instant::now(rt)?;
-    let mut standing = make(rt.alloc(), at, stamp, version, changes)?;
+    let standing = make(rt.alloc(), at, stamp, version, changes)?;
+    with_time(rt, start, at.nanoseconds, standing)
+}
+
+// The same, with the time since a start added to what was taken before.
+fn with_time(
+    rt: &HostRuntime,
+    start: Instant,
+    before: u64,
+    mut standing: Standing,
+) -> io::Result<Standing>
+    ensures fragments { IfOk result (λ s. s.fragments ≡ standing.fragments) }
+    ensures index { IfOk result (λ s. s.index ≡ standing.index) }
+    ensures undos { IfOk result (λ s. s.undos ≡ standing.undos) }
+{
     let taken = nanoseconds_since(rt, start)?;
-    standing.nanoseconds = at.nanoseconds.wrapping_add(taken);
+    standing.nanoseconds = before.wrapping_add(taken);
     Ok(standing)
 }
 

@@ -32,9 +32,24 @@ pub fn open_pairs<R: Wait>(
     ensures pairs { IfOk result (λ r. map (λ (x : ReaderState). x.pair) r.1.items ≡ r.0.pairs) }
     ensures learned { IfOk result (λ r. All (HasLearned first) r.1.items) }
 {
+    open_over(rt, alloc, &first, readers)
+}
+
+// The same, of a snapshot that is lent.
+fn open_over<R: Wait>(
+    rt: &R,
+    alloc: Global,
+    first: &Snapshot,
+    readers: u32,
+) -> Result<(Publisher, Vec<SnapReader>), AllocError>
+    ensures count { IfOk result (λ r. length r.1.items ≡ readers) }
+    ensures published { IfOk result (λ r. r.0.published ≡ replicate readers first.now) }
+    ensures pairs { IfOk result (λ r. map (λ (x : ReaderState). x.pair) r.1.items ≡ r.0.pairs) }
+    ensures learned { IfOk result (λ r. All (HasLearned first.now) r.1.items) }
+{
     let mut ends = Vec::with_capacity(alloc, readers as usize)?;
     let mut sides = Vec::with_capacity(alloc, readers as usize)?;
-    match open_all(rt, alloc, &mut sides, &mut ends, &first, readers) {
+    match open_all(rt, alloc, &mut sides, &mut ends, first, readers) {
         Ok(()) => Ok((Publisher { sides }, ends)),
         Err(refused) => {
             close_all(rt, sides);
