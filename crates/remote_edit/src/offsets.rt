@@ -10,7 +10,7 @@ ghost use Rattle.remote_edit.specs.Offsets.{full_in, piece_in, IsInText};
 
 use crate::Passed;
 use fragments::{Fragment, Visible};
-use op_model::{Piece, Pieces, Text};
+use op_model::{Piece, Pieces};
 use std::alloc::{AllocError, Global};
 use sum_tree::SumTree;
 use tree_cursor::{Bias, Cursor};
@@ -43,7 +43,7 @@ fn full_piece(alloc: Global, tree: &SumTree<Fragment>, change: &Piece) -> Result
     } else {
         full_offset(tree, change.end - 1)? + 1
     };
-    let text = Text::new(String::from_str(alloc, change.text.as_str())?);
+    let text = change.text.copy(alloc)?;
     Ok(Piece { start, end, text })
 }
 
@@ -56,9 +56,10 @@ pub fn full_pieces(
 ) -> Result<Pieces, AllocError>
     requires room { bytes tree.now.items ≤ 2 ^ 40 }
     requires ranges { Each (IsInText tree.now.items) changes.now }
-    ensures { IfOk result (λ ps. (h : History) → Tell tree.now.items h → ps ≡ map (full_piece h) changes.now) }
+    ensures { IfOk result (λ ps. (h : History) → Tell tree.now.items h
+        → ps ≡ map (full_piece h) changes.now) }
 {
-    let mut pieces = Vec::new(alloc);
+    let mut pieces = Vec::with_capacity(alloc, changes.len())?;
     for change in changes {
         pieces.push(full_piece(alloc, tree, change)?)?;
     }
