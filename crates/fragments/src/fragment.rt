@@ -1,5 +1,5 @@
 // Fragments, and what is kept of a run of them.
-ghost use Rattle.std.specs.Prelude.{◌≡◌, IfOk, if◌then◌else◌};
+ghost use Rattle.std.specs.Prelude.{◌≡◌, IfOk, true, if◌then◌else◌};
 ghost use Rattle.std.specs.Option.{option_copied};
 ghost use Rattle.fragments.specs.Summaries.{no_fragments, summaries, IsSummary, SummaryFits, IsOne, summary_of, with_stamps, greater_id};
 ghost use Rattle.fragments.specs.SummaryLaws.{summary_laws, one_admitted, one_single};

@@ -1,9 +1,8 @@
 use Rattle.std.proofs.Common.{rules}
-use Rattle.std.specs.Option.{option_copied}
 use Rattle.fragments.proofs.Replacing.{giving_way}
 use Rattle.fragments.proofs.fragment.FragmentSummarySummary.add_before.Goals as goal
 
 pub returns : goal.returns
-returns g c =
-    let id = giving_way c.args.self.last_id c.args.other.now.last_id c.args.next.now.last_id in
+returns c =
+    let id = giving_way c.args.self.now.last_id c.args.other.now.last_id c.args.next.now.last_id in
     search rules
