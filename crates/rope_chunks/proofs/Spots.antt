@@ -1,7 +1,7 @@
 -- The chunks before and behind an offset.
 use Rattle.std.specs.Prelude.{slice_get}
-use Rattle.std.proofs.Common.{◌≡◌, ℕ, ◌+◌, ◌<◌, ◌≤◌, Some, List, [], ◌∷◌, ◌++◌, length, get_or, take, drop, refl, ap, sym, subst, ◌∙◌, arith, append_assoc, length-append, take-append-drop}
-use Rattle.std.specs.List.{All, concat}
+use Rattle.std.proofs.Common.{◌≡◌, ℕ, ◌+◌, ◌-◌, ◌<◌, ◌≤◌, Some, List, [], ◌∷◌, ◌++◌, length, get_or, take, drop, refl, ap, sym, subst, ◌∙◌, arith, append_assoc, length-append, length-drop, take-append-drop}
+use Rattle.std.specs.List.{All, concat, slice_range}
 use Rattle.std.specs.Str.{IsCharBoundary}
 use Rattle.std.proofs.lemmas.List.{append-nil, take_more, take_all, take-append-le, drop-append-le, get_or-append-add, get_or_append_left}
 use Rattle.std.proofs.lemmas.Option.{slice_get_read, slice_get-get_or, get_or_from_slice_get}
@@ -165,3 +165,19 @@ spot_bound cs o i c r each s b =
     let within : o ≤ length (concat cs) = omega (arith, s.offset, s.within, ap length (whole_at cs i c s.at), length-append before (c ++ behind), length-append c behind) in
     IsCharBoundary-from_drop (concat cs) o within
     (rw (spot_back cs o i c r s) (IsUtf8-append (drop r c) behind (IsUtf8-drop c r (chunk_at cs i c each s.at).text b) (concat-utf8 (drop (i + 1) cs) (All-drop IsChunk (i + 1) cs each))))
+
+-- as far before a spot as a chunk has bytes there
+pub spot_before : (cs : List (List ℕ)) (start end i : ℕ) (c : List ℕ) (r : ℕ) → IsSpot cs end i c r → start ≤ end → end - start ≤ r → IsSpot cs start i c (r - (end - start))
+spot_before cs start end i c r s order room = record {
+  at = s.at;
+  offset = omega (arith, s.offset, order, room);
+  within = omega (arith, s.within);
+}
+
+-- the text between two spots of one chunk
+pub part_between : (cs : List (List ℕ)) (start end i : ℕ) (c : List ℕ) (p q : ℕ) → IsSpot cs start i c p → IsSpot cs end i c q → start ≤ end → slice_range c p q ≡ slice_range (concat cs) start end
+part_between cs start end i c p q s t order =
+    let len : end - start ≡ q - p = omega (arith, s.offset, t.offset, order) in
+    let behind : List ℕ = concat (drop (i + 1) cs) in
+    sym (ap (λ (n : ℕ). take n (drop start (concat cs))) len ∙ ap (take (q - p)) (spot_back cs start i c p s)
+    ∙ take-append-le (q - p) (drop p c) behind (omega (arith, length-drop p c, t.within)))

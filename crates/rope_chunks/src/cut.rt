@@ -1,7 +1,8 @@
 //! Parts of a rope.
-ghost use Rattle.std.specs.Prelude.{◌≡◌, ◌↔◌, ◌≤◌, length, take, drop, slice_range, IsTrue, IfOk};
+ghost use Rattle.std.specs.Prelude.{◌≡◌, ◌↔◌, ◌≤◌, length, take, drop, slice_range, IsTrue, IfOk, IfSome};
 ghost use Rattle.std.specs.List.{concat};
 ghost use Rattle.std.specs.Str.{IsCharBoundary};
+ghost use Rattle.std.specs.String.{string_bytes};
 ghost use Rattle.rope_chunks.specs.Chunks.{AreChunks};
 
 use crate::OutOfMemory;
@@ -48,6 +49,26 @@ fn from_on(alloc: Global, tree: &SumTree<Chunk>, start: u64) -> Result<SumTree<C
     Ok(back)
 }
 
+// The text from one offset up to another, where it lies in one chunk.
+fn text_in_chunk(tree: &SumTree<Chunk>, start: u64, end: u64) -> Option<&str>
+    requires chunks { AreChunks tree.now.items }
+    requires start { IsCharBoundary (concat tree.now.items) start }
+    requires end { IsCharBoundary (concat tree.now.items) end }
+    requires order { start ≤ end }
+    ensures { IfSome result (λ text. text.now ≡ slice_range (concat tree.now.items) start end) }
+{
+    if tree.is_empty() {
+        return None;
+    }
+    let last = spot_of(tree, end);
+    let bytes = end - start;
+    if last.place < bytes {
+        return None;
+    }
+    let first = last.place - bytes;
+    Some(&last.chunk.as_str()[first as usize..last.place as usize])
+}
+
 impl Rope {
     /// Whether the text may be cut at a byte offset: that is at most its length, and not inside a character. It is one
     /// plain descent, and takes no memory.
@@ -77,5 +98,21 @@ impl Rope {
         let front = up_to(alloc, &self.chunks, end)?;
         let chunks = from_on(alloc, &front, start)?;
         Ok(Rope { chunks })
+    }
+
+    /// The part of the text from offset `start` up to `end`, copied. Both are positions, and `start` is at most `end`.
+    ///
+    /// Where the part lies in one chunk, this is one plain descent, and the copy alone takes memory. Else the part is first
+    /// made as a rope, at the cost of `slice`. It fails for want of memory alone, and the rope stays as it is.
+    pub fn text_of(&self, alloc: Global, start: u64, end: u64) -> Result<String, OutOfMemory>
+        requires start { IsCharBoundary self.now start }
+        requires end { IsCharBoundary self.now end }
+        requires order { start ≤ end }
+        ensures { IfOk result (λ text. string_bytes text ≡ slice_range self.now start end) }
+    {
+        match text_in_chunk(&self.chunks, start, end) {
+            Some(text) => Ok(String::from_str(alloc, text)?),
+            None => self.slice(alloc, start, end)?.to_string(alloc),
+        }
     }
 }
