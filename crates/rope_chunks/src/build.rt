@@ -74,7 +74,8 @@ fn push_block<'a>(
     requires each { All IsChunk chunks.old.items }
     requires some { 0 < length text.now }
     requires few { length (concat chunks.old.items) + length text.now ≤ 2 ^ 40 }
-    ensures text { IfOk result (λ rest. concat chunks.new.items ++ rest.now ≡ concat chunks.old.items ++ text.now) }
+    ensures text { IfOk result (λ rest. concat chunks.new.items ++ rest.now
+        ≡ concat chunks.old.items ++ text.now) }
     ensures each { IfOk result (λ _. All IsChunk chunks.new.items) }
     ensures rest { IfOk result (λ rest. IsUtf8 rest.now) }
     ensures shorter { IfOk result (λ rest. length rest.now < length text.now) }
@@ -95,7 +96,8 @@ fn chained(
     requires front { AreChunks front.now.items }
     requires back { AreChunks back.now.items }
     requires few { length (concat front.now.items) + length (concat back.now.items) ≤ 2 ^ 40 }
-    ensures text { IfOk result (λ tree. concat tree.items ≡ concat front.now.items ++ concat back.now.items) }
+    ensures text { IfOk result (λ tree. concat tree.items
+        ≡ concat front.now.items ++ concat back.now.items) }
     ensures each { IfOk result (λ tree. All IsChunk tree.items) }
 {
     if let (Some(last), Some(first)) = (front.last(), back.first()) {
@@ -122,7 +124,8 @@ fn joined(
     requires first { slice_get back.now.items 0 ≡ Some first.now }
     requires small { length last.now + length first.now ≤ 128 }
     requires few { length (concat front.now.items) + length (concat back.now.items) ≤ 2 ^ 40 }
-    ensures text { IfOk result (λ tree. concat tree.items ≡ concat front.now.items ++ concat back.now.items) }
+    ensures text { IfOk result (λ tree. concat tree.items
+        ≡ concat front.now.items ++ concat back.now.items) }
     ensures each { IfOk result (λ tree. All IsChunk tree.items) }
 {
     let mut seam = Vec::new(alloc);
@@ -172,7 +175,8 @@ pub(crate) fn put(
 fn grown(alloc: Global, tree: &SumTree<Chunk>, text: &str) -> Result<(u64, Vec<Chunk>), OutOfMemory>
     requires { All IsChunk tree.now.items }
     ensures within { IfOk result (λ r. r.0 ≤ length tree.now.items) }
-    ensures text { IfOk result (λ r. concat (take r.0 tree.now.items) ++ concat r.1.items ≡ concat tree.now.items ++ text.now) }
+    ensures text { IfOk result (λ r. concat (take r.0 tree.now.items) ++ concat r.1.items
+        ≡ concat tree.now.items ++ text.now) }
     ensures each { IfOk result (λ r. All IsChunk r.1.items) }
 {
     match tree.last() {

@@ -27,7 +27,8 @@ fn chunk_before(tree: &SumTree<Chunk>, i: u64, len: usize) -> (u64, &str)
     requires within { i ≤ length tree.now.items }
     requires few { len ≤ 128 }
     ensures index { result.0 ≤ i }
-    ensures text { concat (take result.0 tree.now.items) ++ result.1.now ≡ concat (take i tree.now.items) }
+    ensures text { concat (take result.0 tree.now.items) ++ result.1.now
+        ≡ concat (take i tree.now.items) }
     ensures few { length result.1.now + len ≤ 128 }
 {
     if i > 0 {
@@ -47,7 +48,8 @@ fn chunk_behind(tree: &SumTree<Chunk>, i: u64, len: usize) -> (u64, &str)
     requires few { len ≤ 128 }
     ensures index { i ≤ result.0 }
     ensures within { result.0 ≤ length tree.now.items }
-    ensures text { result.1.now ++ concat (drop result.0 tree.now.items) ≡ concat (drop i tree.now.items) }
+    ensures text { result.1.now ++ concat (drop result.0 tree.now.items)
+        ≡ concat (drop i tree.now.items) }
     ensures few { length result.1.now + len ≤ 128 }
 {
     tree.known();
@@ -68,7 +70,8 @@ pub(crate) fn one_chunk(
     back: &str,
 ) -> Result<Vec<Chunk>, OutOfMemory>
     requires few { length front.now + length middle.now + length back.now ≤ 128 }
-    ensures text { IfOk result (λ chunks. concat chunks.items ≡ (front.now ++ middle.now) ++ back.now) }
+    ensures text { IfOk result (λ chunks. concat chunks.items
+        ≡ (front.now ++ middle.now) ++ back.now) }
     ensures each { IfOk result (λ chunks. All IsChunk chunks.items) }
 {
     let front = Chunk::joined(front, middle);
@@ -96,7 +99,8 @@ pub(crate) fn fill_one(front: &str, middle: &str, back: &str) -> bool
 
 // The halves of a text that needs two chunks, where each fits one.
 fn halves(text: &str) -> Option<(&str, &str)>
-    ensures { IfSome result (λ p. (p.0.now ++ p.1.now ≡ text.now) × IsChunk p.0.now × IsChunk p.1.now) }
+    ensures { IfSome result (λ p. (p.0.now ++ p.1.now ≡ text.now) × IsChunk p.0.now
+        × IsChunk p.1.now) }
 {
     if text.len() <= CHUNK_BYTES {
         return None;
@@ -134,7 +138,8 @@ pub(crate) fn change_to(
 ) -> Result<Change, OutOfMemory>
     requires order { from ≤ to }
     requires within { to ≤ length tree.now.items }
-    ensures { IfOk result (λ r. IsChange tree.now.items (text_with from to text.now tree.now.items) r.from r.to r.chunks.items) }
+    ensures { IfOk result (λ r. IsChange tree.now.items
+        (text_with from to text.now tree.now.items) r.from r.to r.chunks.items) }
 {
     if text.len() >= SMALL {
         let chunks = cut_evenly(alloc, text)?;
@@ -156,8 +161,10 @@ pub(crate) fn make(
     requires order { change.from ≤ change.to }
     requires within { change.to ≤ length tree.old.items }
     requires new { All IsChunk change.chunks.items }
-    requires few { length (text_with change.from change.to (concat change.chunks.items) tree.old.items) ≤ 2 ^ 40 }
-    ensures text { OnOk result (concat tree.new.items ≡ text_with change.from change.to (concat change.chunks.items) tree.old.items) }
+    requires few { length (text_with change.from change.to
+        (concat change.chunks.items) tree.old.items) ≤ 2 ^ 40 }
+    ensures text { OnOk result (concat tree.new.items
+        ≡ text_with change.from change.to (concat change.chunks.items) tree.old.items) }
     ensures each { OnOk result (AreChunks tree.new.items) }
     ensures err { OnErr result (tree.new ≡ tree.old) }
 {

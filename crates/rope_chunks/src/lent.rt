@@ -61,7 +61,8 @@ impl<'a> Iterator for Chunks<'a> {
 fn child_with(children: &[SumTree<Chunk>], i: u64) -> (usize, u64)
     requires { i < length (joined children.now) }
     ensures child { result.0 < length children.now }
-    ensures within { (d : Seen (List ℕ)) → result.1 < length (slice_index_or children.now result.0 d).items }
+    ensures within { (d : Seen (List ℕ)) → result.1
+        < length (slice_index_or children.now result.0 d).items }
     ensures before { length (joined (take result.0 children.now)) + result.1 ≡ i }
 {
     let mut rest = i;
@@ -79,7 +80,8 @@ fn child_with(children: &[SumTree<Chunk>], i: u64) -> (usize, u64)
 fn leaf_from(tree: &SumTree<Chunk>, index: u64) -> &[Entry<Chunk>]
     requires { index < length tree.now.items }
     ensures some { 0 < length result.now }
-    ensures rest { drop index tree.now.items ≡ result.now ++ drop (index + length result.now) tree.now.items }
+    ensures rest { drop index tree.now.items
+        ≡ result.now ++ drop (index + length result.now) tree.now.items }
 {
     let mut node = tree;
     let mut rest = index;

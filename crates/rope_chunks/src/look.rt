@@ -82,7 +82,10 @@ impl Front {
     fn with_next(self, bytes: &[u8]) -> Front
         requires within { self.len < length bytes.now }
         requires fits { PlaceFits (place_after self.place (slice_index bytes.now self.len)) }
-        ensures { result ≡ record { len = self.len + 1; place = place_after self.place (slice_index bytes.now self.len) } }
+        ensures { result ≡ record {
+          len = self.len + 1;
+          place = place_after self.place (slice_index bytes.now self.len);
+        } }
     {
         Front {
             len: self.len + 1,

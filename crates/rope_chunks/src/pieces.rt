@@ -45,7 +45,8 @@ pub(crate) fn cut_block<'a>(chunks: &mut Vec<Chunk>, text: &'a str) -> Result<&'
 fn push_piece<'a>(chunks: &mut Vec<Chunk>, text: &'a str) -> Result<&'a str, OutOfMemory>
     requires each { All IsChunk chunks.old.items }
     requires some { 0 < length text.now }
-    ensures text { IfOk result (λ rest. concat chunks.new.items ++ rest.now ≡ concat chunks.old.items ++ text.now) }
+    ensures text { IfOk result (λ rest. concat chunks.new.items ++ rest.now
+        ≡ concat chunks.old.items ++ text.now) }
     ensures each { IfOk result (λ _. All IsChunk chunks.new.items) }
     ensures rest { IfOk result (λ rest. IsUtf8 rest.now) }
     ensures shorter { IfOk result (λ rest. length rest.now < length text.now) }

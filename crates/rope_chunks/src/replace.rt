@@ -18,9 +18,11 @@ use sum_tree::SumTree;
 // Where an offset lies that is so many bytes behind another: in the same chunk, or not before it.
 fn spot_behind<'a>(tree: &'a SumTree<Chunk>, first: &Spot<'a>, start: u64, bytes: u64) -> Spot<'a>
     requires chunks { AreChunks tree.now.items }
-    requires first { IsSpot tree.now.items start first.now.index first.now.chunk.now first.now.place }
+    requires first { IsSpot tree.now.items start first.now.index first.now.chunk.now
+        first.now.place }
     requires within { start + bytes ≤ length (concat tree.now.items) }
-    ensures spot { IsSpot tree.now.items (start + bytes) result.index result.chunk.now result.place }
+    ensures spot { IsSpot tree.now.items
+        (start + bytes) result.index result.chunk.now result.place }
     ensures order { first.now.index ≤ result.index }
 {
     if bytes <= first.chunk.as_str().len() as u64 - first.place {
@@ -61,7 +63,8 @@ fn change_of(
     requires start { IsCharBoundary (concat tree.now.items) start }
     requires end { IsCharBoundary (concat tree.now.items) end }
     requires order { start ≤ end }
-    ensures { IfOk result (λ r. IsChange tree.now.items (spliced start end text.now (concat tree.now.items)) r.from r.to r.chunks.items) }
+    ensures { IfOk result (λ r. IsChange tree.now.items
+        (spliced start end text.now (concat tree.now.items)) r.from r.to r.chunks.items) }
 {
     if tree.is_empty() {
         return Ok(change_to(alloc, tree, 0, 0, text)?);

@@ -69,7 +69,8 @@ impl Rope {
 
     /// Where a look-up in the text stops.
     pub(crate) fn stop<G: Target<At>>(&self, target: &G) -> Stop
-        ensures { result ≡ stop (λ k. G.passes target.now k Bias.Left) (end_place []) (places self.now) }
+        ensures { result ≡ stop (λ k. G.passes target.now k Bias.Left) (end_place [])
+            (places self.now) }
     {
         let (chunk, start) = locate(&self.chunks, At::start(), target, Bias::Left);
         match chunk {
@@ -80,7 +81,8 @@ impl Rope {
 
     /// The place of the text that a target names, if there is one.
     pub(crate) fn place<G: Target<At>>(&self, target: &G) -> Option<Place>
-        ensures { result ≡ picked (λ k. G.passes target.now k Bias.Right) (stop (λ k. G.passes target.now k Bias.Left) (end_place []) (places self.now)).here }
+        ensures { result ≡ picked (λ k. G.passes target.now k Bias.Right)
+            (stop (λ k. G.passes target.now k Bias.Left) (end_place []) (places self.now)).here }
     {
         let stop = self.stop(target);
         match stop.here {
@@ -91,7 +93,8 @@ impl Rope {
 
     /// The place of the text that a target names, or the last one before it where there is none.
     pub(crate) fn back<G: Target<At>>(&self, target: &G) -> Place
-        ensures { result ≡ kept (λ k. G.passes target.now k Bias.Right) (stop (λ k. G.passes target.now k Bias.Left) (end_place []) (places self.now)) }
+        ensures { result ≡ kept (λ k. G.passes target.now k Bias.Right)
+            (stop (λ k. G.passes target.now k Bias.Left) (end_place []) (places self.now)) }
     {
         let stop = self.stop(target);
         match stop.here {

@@ -24,7 +24,8 @@ fn child_at(children: &[SumTree<Chunk>], offset: u64) -> (usize, u64, u64)
     ensures child { result.0 < length children.now }
     ensures count { result.1 ≡ length (joined (take result.0 children.now)) }
     ensures before { length (concat (joined (take result.0 children.now))) + result.2 ≡ offset }
-    ensures within { (d : Seen (List ℕ)) → result.2 ≤ length (concat (slice_index_or children.now result.0 d).items) }
+    ensures within { (d : Seen (List ℕ)) → result.2
+        ≤ length (concat (slice_index_or children.now result.0 d).items) }
 {
     let last = children.len() - 1;
     let mut count = 0;
