@@ -52,14 +52,8 @@ impl<'a> Sides<'a> {
                 self.hidden.pass(n);
                 Ok(())
             }
-            Move::Hide(n) => {
-                let part = self.shown.take_out(n)?;
-                self.hidden.put(part)
-            }
-            Move::Show(n) => {
-                let part = self.hidden.take_out(n)?;
-                self.shown.put(part)
-            }
+            Move::Hide(n) => self.shown.carry(&mut self.hidden, n),
+            Move::Show(n) => self.hidden.carry(&mut self.shown, n),
             Move::Insert(n) => {
                 let (text, rest) = cut(self.fresh, n);
                 self.fresh = rest;
@@ -100,7 +94,8 @@ fn move_texts(
 ) -> Result<TextRopes, AllocError>
     requires texts { TakeTexts moves.now shown.now hidden.now fresh.now }
     requires room { length shown.now + length hidden.now + length fresh.now ≤ 2 ^ 40 }
-    ensures { IfOk result (λ r. texts_of r.shown r.hidden ≡ moved moves.now shown.now hidden.now fresh.now) }
+    ensures { IfOk result (λ r. texts_of r.shown r.hidden
+        ≡ moved moves.now shown.now hidden.now fresh.now) }
 {
     let mut sides = Sides {
         shown: Side::new(alloc, shown)?,
@@ -131,7 +126,8 @@ pub fn apply_moves(
 ) -> Result<TextRopes, AllocError>
     requires texts { TakeTexts moves.now shown.now hidden.now (texts pieces.now) }
     requires room { length shown.now + length hidden.now + text_total pieces.now ≤ 2 ^ 40 }
-    ensures { IfOk result (λ r. texts_of r.shown r.hidden ≡ moved moves.now shown.now hidden.now (texts pieces.now)) }
+    ensures { IfOk result (λ r. texts_of r.shown r.hidden
+        ≡ moved moves.now shown.now hidden.now (texts pieces.now)) }
 {
     if let [piece] = pieces {
         return move_texts(alloc, shown, hidden, moves, piece.text.as_str());

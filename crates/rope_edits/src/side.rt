@@ -6,7 +6,7 @@ use rope_chunks::Rope;
 use std::alloc::{AllocError, Global};
 use std::marker::Model;
 
-// How many bytes are put in as a text. A longer part is put in with its chunks, which stay shared.
+// How many bytes go from one text to another as a copy. A longer part goes with its chunks, which stay shared.
 const SHORT: u64 = 512;
 
 /// A text, in which what moves have made stands before what they have not taken.
@@ -61,8 +61,8 @@ impl Side {
         self.made = self.end_of(bytes);
     }
 
-    /// The next bytes go.
-    pub fn take_out(&mut self, bytes: u64) -> Result<Rope, AllocError>
+    // The next bytes go, as a rope that shares their chunks.
+    fn take_rope(&mut self, bytes: u64) -> Result<Rope, AllocError>
         requires { IsUtf8 (take bytes self.old.left) }
         ensures part { IfOk result (λ r. r ≡ take bytes self.old.left) }
         ensures ok { OnOk result (self.new ≡ without bytes self.old) }
@@ -70,6 +70,19 @@ impl Side {
         self.rope.known();
         let end = self.end_of(bytes);
         let part = self.rope.slice(self.alloc, self.made, end)?;
+        self.rope.replace(self.alloc, self.made, end, "")?;
+        Ok(part)
+    }
+
+    // The next bytes go, copied.
+    fn take_text(&mut self, bytes: u64) -> Result<String, AllocError>
+        requires { IsUtf8 (take bytes self.old.left) }
+        ensures part { IfOk result (λ t. string_bytes t ≡ take bytes self.old.left) }
+        ensures ok { OnOk result (self.new ≡ without bytes self.old) }
+    {
+        self.rope.known();
+        let end = self.end_of(bytes);
+        let part = self.rope.text_of(self.alloc, self.made, end)?;
         self.rope.replace(self.alloc, self.made, end, "")?;
         Ok(part)
     }
@@ -83,19 +96,6 @@ impl Side {
         self.rope.replace(self.alloc, self.made, self.made, text)?;
         self.made += text.len() as u64;
         Ok(())
-    }
-
-    /// A rope's text comes. A long one is shared.
-    pub fn put(&mut self, part: Rope) -> Result<(), AllocError>
-        requires { side_len self.old + length part ≤ 2 ^ 40 }
-        ensures ok { OnOk result (self.new ≡ with_text part self.old) }
-    {
-        if part.len() <= SHORT {
-            let text = part.to_string(self.alloc)?;
-            self.put_text(text.as_str())
-        } else {
-            self.put_rope(part)
-        }
     }
 
     // A rope's text comes, and is shared.
@@ -113,6 +113,22 @@ impl Side {
         self.rope = rope;
         self.made = made;
         Ok(())
+    }
+
+    /// The next bytes go, and come to another text: up to 512 as a copy, more with their chunks, which stay shared. It fails
+    /// for want of memory alone, and neither text is of use then.
+    pub fn carry(&mut self, to: &mut Side, bytes: u64) -> Result<(), AllocError>
+        requires text { IsUtf8 (take bytes self.old.left) }
+        requires room { side_len to.old + length (take bytes self.old.left) ≤ 2 ^ 40 }
+        ensures gone { OnOk result (self.new ≡ without bytes self.old) }
+        ensures there { OnOk result (to.new ≡ with_text (take bytes self.old.left) to.old) }
+    {
+        if bytes <= SHORT {
+            let part = self.take_text(bytes)?;
+            return to.put_text(part.as_str());
+        }
+        let part = self.take_rope(bytes)?;
+        to.put_rope(part)
     }
 
     /// What was made.

@@ -2,10 +2,10 @@ use Rattle.std.proofs.Common.{◌∙◌, ◌++◌, length, List, ℕ, take, sym,
 use Rattle.std.specs.Str.{IsCharBoundary, IsUtf8}
 use Rattle.rope_edits.specs.Sides.{SideState}
 use Rattle.rope_edits.proofs.Sides.{stop_at, parts_without}
-use Rattle.rope_edits.proofs.side.Side.take_out.Goals as goal
+use Rattle.rope_edits.proofs.side.Side.take_text.Goals as goal
 
-pub slice-requires-clause-end : goal.slice-requires-clause-end
-slice-requires-clause-end c = (stop_at c.self.inside.rope c.self.inside.made c.args.bytes c.end_of-end.result c.known.ensures.text c.self.invariant
+pub text_of-requires-clause-end : goal.text_of-requires-clause-end
+text_of-requires-clause-end c = (stop_at c.self.inside.rope c.self.inside.made c.args.bytes c.end_of-end.result c.known.ensures.text c.self.invariant
     (subst (λ (s : SideState). IsUtf8 (take c.args.bytes s.left)) (sym c.self.view_is) c.requires) (c.end_of-end.ensures ∙ ap (λ (s : SideState). length (s.made ++ take c.args.bytes s.left)) (sym c.self.view_is))).boundary
 
 pub replace-requires-clause-end : goal.replace-requires-clause-end
