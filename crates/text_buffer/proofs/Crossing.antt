@@ -1,4 +1,4 @@
--- A buffer and a snapshot may go to another thread, and be shared with one. A document has trees in it, those of the applied
+-- A buffer, a snapshot and a base may go to another thread, and be shared with one. A document has trees in it, those of the applied
 -- operations, of the undo counts, of the fragments and their index, and of the ropes: so its fields are gone through one by one.
 use denote.Param.Send.{IsSend, IsSync, sendable}
 use denote.Param.SendFields.{declared_send, declared_sync}
@@ -18,6 +18,8 @@ use Rattle.fragments.specs.contracts.index.InsertionIndex as index
 use Rattle.text_buffer.specs.contracts.content.Content as content
 use Rattle.text_buffer.specs.contracts.document.Document as document
 use Rattle.text_buffer.specs.contracts.document.Document.TheInside as fields
+use Rattle.text_buffer.specs.contracts.base.Base as opening
+use Rattle.text_buffer.specs.contracts.base.Base.TheInside as ready
 use Rattle.text_buffer.specs.contracts.snapshot.Snapshot as snapshot
 use Rattle.text_buffer.specs.contracts.snapshot.Snapshot.TheInside as still
 use Rattle.text_buffer.specs.contracts.buffer.Buffer as buffer
@@ -132,3 +134,15 @@ snapshot_sent = search (still_sent, sendable) depth 60 fits 20000
 
 pub snapshot_shared : IsSync snapshot.the_row
 snapshot_shared = search (still_shared, sendable) depth 60 fits 20000
+
+ready_sent : IsSend ready.the_row
+ready_sent = declared_send ready.the_type (document_sent, (search plain depth 60 fits 20000, tt))
+
+ready_shared : IsSync ready.the_row
+ready_shared = declared_sync ready.the_type (document_shared, (search plain depth 60 fits 20000, tt))
+
+pub base_sent : IsSend opening.the_row
+base_sent = search (ready_sent, sendable) depth 60 fits 20000
+
+pub base_shared : IsSync opening.the_row
+base_shared = search (ready_shared, sendable) depth 60 fits 20000

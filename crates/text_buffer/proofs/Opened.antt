@@ -1,4 +1,4 @@
--- The fields of a new document and of a new buffer.
+-- The fields of a base, of a new document and of a new buffer.
 use Rattle.std.proofs.Common.{◌≡◌, ℕ, ◌-◌, ◌^◌, ◌≤◌, List, [], ◌∷◌, length, refl, sym, ap, subst, ◌∙◌, arith}
 use Rattle.std.specs.Arc.{arc_value}
 use Rattle.std.specs.Str.{IsUtf8}
@@ -11,6 +11,7 @@ use Rattle.op_model.specs.Domains.{IsProper}
 use Rattle.op_model.specs.Histories.{History, base, version, clock, bytes_held, entries_held}
 use Rattle.op_model.specs.Lawful.{Lawful}
 use Rattle.op_model.proofs.Proper.{utf8}
+use Rattle.text_buffer.specs.Base.{opening_text}
 use Rattle.text_buffer.specs.Buffer.{BufferState, IsBuffer}
 use Rattle.text_buffer.specs.Document.{IsContent, IsHistory}
 use Rattle.text_buffer.specs.Told.{AreTold}
@@ -68,3 +69,11 @@ IsBuffer-opened r l h w f t u low high most_bytes most_entries room he we fe =
       text_bytes = k.text_bytes;
     } in
     subst IsBuffer same state
+
+-- the text of a base is the one that its document opens with
+pub base_alone : (h : List Operation) (t : List ℕ) → h ≡ base t ∷ [] → h ≡ base (opening_text h) ∷ []
+base_alone h t e = e ∙ ap (λ (u : List ℕ). base u ∷ []) (sym (ap opening_text e))
+
+-- it is UTF-8
+pub base_utf8 : (t : List ℕ) → IsHistory (base t ∷ []) → IsUtf8 t
+base_utf8 t k = k.proper.0.1.0

@@ -44,6 +44,10 @@ over_base r t l = record { history = base t ∷ []; waiting = []; refused = []; 
 abbrev pub new_fault : LimitsType → List ℕ → Option NewFault
 new_fault l t = when (nat_lt l.bytes (length t)) (Full Bytes 0 (length t))
 
+-- the fault that a text meets that no limits let in
+abbrev pub base_fault : List ℕ → Option NewFault
+base_fault t = when (nat_lt (2 ^ 40) (length t)) (Full Bytes 0 (length t))
+
 -- the fault that an edit meets
 abbrev pub edit_fault : BufferState → List Piece → Option EditFault
 edit_fault b ps = local_edit_fault b.limits b.history ps

@@ -5,3 +5,4 @@ pub mod Told
 pub mod Fields
 pub mod Settling
 pub mod SnapshotLaws
+pub mod Base

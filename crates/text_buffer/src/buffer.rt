@@ -13,6 +13,7 @@ ghost use Rattle.op_model.specs.Shown.{text};
 ghost use Rattle.text_dims.specs.Summaries.{summary_of};
 ghost use Rattle.text_buffer.specs.Buffer.{BufferState, IsBuffer, after_call, applied, edit_fault, edited, made, new_fault, over_base, state};
 
+use crate::base::Base;
 use crate::document::Document;
 use crate::pieces::{size, text_total};
 use crate::{NewFault, Refused};
@@ -64,7 +65,8 @@ impl Buffer {
         ensures ok { OnOk result (new_fault limits base.now ≡ None) }
         ensures new { IfOk result (λ b. b ≡ over_base replica base.now limits) }
         ensures opened { IfOk result (λ b. state b ≡ opened base.now) }
-        ensures fault { IfErr result (λ e. (new_fault limits base.now ≡ Some e) ⊎ ((new_fault limits base.now ≡ None) × (e ≡ NewFault.OutOfMemory))) }
+        ensures fault { IfErr result (λ e. (new_fault limits base.now ≡ Some e)
+            ⊎ ((new_fault limits base.now ≡ None) × (e ≡ NewFault.OutOfMemory))) }
     {
         let len = base.len() as u64;
         if limits.bytes < len {
@@ -74,11 +76,45 @@ impl Buffer {
                 adds: len,
             });
         }
-        Ok(Buffer::over(alloc, replica, base, limits)?)
+        let ready = Base::over(alloc, base)?;
+        Ok(Buffer::begin(alloc, replica, &ready, limits)?)
+    }
+
+    /// The buffer of a replica, 1 to 1023, over a base that was made ready, with limits of at most 2^40 bytes and 2^40 - 1 entries. All
+    /// buffers over a base share it: nothing is copied, so the time does not grow with the base.
+    ///
+    /// # Errors
+    ///
+    /// `Full` exactly where the base has more bytes than the limit, with 0 held. `OutOfMemory` only where it has not.
+    pub fn over(
+        alloc: Global,
+        replica: u16,
+        base: &Base,
+        limits: Limits,
+    ) -> Result<Buffer, NewFault>
+        requires least { 1 ≤ replica }
+        requires greatest { replica ≤ 1023 }
+        requires bytes { limits.bytes ≤ 2 ^ 40 }
+        requires entries { limits.entries ≤ 2 ^ 40 - 1 }
+        ensures ok { OnOk result (new_fault limits base.now ≡ None) }
+        ensures new { IfOk result (λ b. b ≡ over_base replica base.now limits) }
+        ensures opened { IfOk result (λ b. state b ≡ opened base.now) }
+        ensures fault { IfErr result (λ e. (new_fault limits base.now ≡ Some e)
+            ⊎ ((new_fault limits base.now ≡ None) × (e ≡ NewFault.OutOfMemory))) }
+    {
+        let len = base.len();
+        if limits.bytes < len {
+            return Err(NewFault::Full {
+                unit: Unit::Bytes,
+                held: 0,
+                adds: len,
+            });
+        }
+        Ok(Buffer::begin(alloc, replica, base, limits)?)
     }
 
     // The buffer over a base that the limits let in.
-    fn over(alloc: Global, replica: u16, base: &str, limits: Limits) -> Result<Buffer, AllocError>
+    fn begin(alloc: Global, replica: u16, base: &Base, limits: Limits) -> Result<Buffer, AllocError>
         requires least { 1 ≤ replica }
         requires greatest { replica ≤ 1023 }
         requires bytes { limits.bytes ≤ 2 ^ 40 }
@@ -90,7 +126,7 @@ impl Buffer {
         Ok(Buffer {
             alloc,
             replica,
-            document: Document::over(alloc, base)?,
+            document: base.document()?,
             waiting,
             refused: Vec::new(alloc),
             limits,
@@ -143,11 +179,14 @@ impl Buffer {
         ensures made { IfOk result (λ op. op ≡ made self.old changes.now) }
         ensures new { OnOk result (self.new ≡ edited self.old changes.now) }
         ensures history { IfOk result (λ op. self.new.history ≡ self.old.history ++ op ∷ []) }
-        ensures text { OnOk result (text self.new.history ≡ replaced changes.now (text self.old.history)) }
-        ensures fault { IfErr result (λ e. (edit_fault self.old changes.now ≡ Some e) ⊎ ((edit_fault self.old changes.now ≡ None) × (e ≡ EditFault.OutOfMemory))) }
+        ensures text { OnOk result (text self.new.history
+            ≡ replaced changes.now (text self.old.history)) }
+        ensures fault { IfErr result (λ e. (edit_fault self.old changes.now ≡ Some e)
+            ⊎ ((edit_fault self.old changes.now ≡ None) × (e ≡ EditFault.OutOfMemory))) }
         ensures err { OnErr result (self.new ≡ self.old) }
         ensures step { OnOk result (self.new ≡ after_call (Edits changes.now) self.old) }
-        ensures refused { IfErr result (λ e. (self.new ≡ after_call (Edits changes.now) self.old) ⊎ (e ≡ EditFault.OutOfMemory)) }
+        ensures refused { IfErr result (λ e. (self.new ≡ after_call (Edits changes.now) self.old)
+            ⊎ (e ≡ EditFault.OutOfMemory)) }
     {
         match self.fault(changes) {
             Some(fault) => Err(fault),
@@ -160,7 +199,8 @@ impl Buffer {
         requires { edit_fault self.old changes.now ≡ None }
         ensures made { IfOk result (λ op. op ≡ made self.old changes.now) }
         ensures new { OnOk result (self.new ≡ edited self.old changes.now) }
-        ensures text { OnOk result (text self.new.history ≡ replaced changes.now (text self.old.history)) }
+        ensures text { OnOk result (text self.new.history
+            ≡ replaced changes.now (text self.old.history)) }
         ensures err { OnErr result (self.new ≡ self.old) }
     {
         let made = self.document.make_edit(self.replica, changes)?;
@@ -213,7 +253,8 @@ impl Buffer {
 
     // The limit that so many bytes and entries more pass.
     pub(crate) fn excess(&self, bytes: u64, entries: u64) -> Option<EditFault>
-        ensures { result ≡ option_map (λ e. EditFault.Full e.unit e.held e.adds) (excess self.now.limits self.now.history bytes entries) }
+        ensures { result ≡ option_map (λ e. EditFault.Full e.unit e.held e.adds)
+            (excess self.now.limits self.now.history bytes entries) }
     {
         self.document.excess(&self.limits, bytes, entries)
     }

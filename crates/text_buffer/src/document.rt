@@ -148,7 +148,8 @@ impl Document {
 
     /// The limit that so many bytes and entries more pass.
     pub fn excess(&self, limits: &Limits, bytes: u64, entries: u64) -> Option<EditFault>
-        ensures { result ≡ option_map (λ e. EditFault.Full e.unit e.held e.adds) (excess limits.now self.now bytes entries) }
+        ensures { result ≡ option_map (λ e. EditFault.Full e.unit e.held e.adds)
+            (excess limits.now self.now bytes entries) }
     {
         if (limits.bytes as u128) < self.bytes as u128 + bytes as u128 {
             return Some(EditFault::Full {
@@ -195,15 +196,16 @@ impl Document {
         self.put(op, adds, content)
     }
 
-    /// Makes an edit of changes that meet no fault, and puts it last. Gives the edit; a copy is kept. It costs what `apply` does, and
-    /// two descents for each change.
+    /// Makes an edit of changes that meet no fault, and puts it last. Gives the edit; a copy is kept, which shares its texts. It costs
+    /// what `apply` does, and two descents for each change.
     pub fn make_edit(&mut self, replica: u16, changes: &[Piece]) -> Result<Operation, AllocError>
         requires { MayEdit self.old replica changes.now }
         ensures made { IfOk result (λ op. op ≡ made self.old replica changes.now) }
         ensures new { OnOk result (self.new ≡ self.old ++ made self.old replica changes.now ∷ []) }
         ensures err { OnErr result (self.new ≡ self.old) }
     {
-        let (made, adds, content) = self.with_changes(replica, changes)?;
+        let (edit, adds, content) = self.with_changes(replica, changes)?;
+        let made = edit.into_shared(self.alloc)?;
         let kept = made.copy(self.alloc)?;
         self.put(kept, adds, content)?;
         Ok(made)
@@ -293,7 +295,8 @@ impl Document {
         undos: UndoMap,
         pieces: &[Piece],
     ) -> Result<Content, AllocError>
-        requires texts { TakeTexts placed.moves (text self.now) (hidden self.now) (texts pieces.now) }
+        requires texts { TakeTexts placed.moves (text self.now) (hidden self.now)
+            (texts pieces.now) }
         requires room { bytes_held self.now + text_total pieces.now ≤ 2 ^ 40 }
         ensures { IfOk result (λ c. IsMoved c placed undos self.now (texts pieces.now)) }
     {

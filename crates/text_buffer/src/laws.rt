@@ -19,8 +19,10 @@ pub fn snapshots_answer_alike(a: &Snapshot, b: &Snapshot)
 /// Anchors that are known in a snapshot of a buffer are known in a later one, whatever calls came between them, and where a call
 /// between them wanted memory. Two of them keep their order, and the lesser never has the greater place.
 pub fn anchors_stay(earlier: &Snapshot, later: &Snapshot)
-    ensures calls { (b : BufferState) → (cs : List Step) → earlier.now ≡ b.history → later.now ≡ (after_calls cs b).history → AnchorsStay earlier.now later.now }
-    ensures want { (b n : BufferState) → IsPartly b n → earlier.now ≡ b.history → later.now ≡ n.history → AnchorsStay earlier.now later.now }
+    ensures calls { (b : BufferState) → (cs : List Step) → earlier.now ≡ b.history
+        → later.now ≡ (after_calls cs b).history → AnchorsStay earlier.now later.now }
+    ensures want { (b n : BufferState) → IsPartly b n → earlier.now ≡ b.history
+        → later.now ≡ n.history → AnchorsStay earlier.now later.now }
 {
     snapshots_append(earlier, later);
     earlier.known();

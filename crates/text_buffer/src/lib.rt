@@ -1,6 +1,7 @@
 //! The buffer of one replica: a text, and the operations that made it.
 #![tactic(auto)]
 
+mod base;
 mod buffer;
 mod content;
 mod document;
@@ -16,6 +17,7 @@ mod taking;
 mod undoing;
 
 pub use anchors::UnknownAnchor;
+pub use base::Base;
 pub use buffer::{Buffer, agree};
 pub use edits_since::Edits;
 pub use faults::NewFault;
@@ -31,10 +33,12 @@ fn sends<T: Send>(_value: &T) {}
 
 fn shares<T: Sync>(_value: &T) {}
 
-/// Buffers and snapshots may be sent to threads and be shared by them.
-pub fn crosses_threads(buffer: &Buffer, snapshot: &Snapshot) {
+/// Buffers, snapshots and bases may be sent to threads and be shared by them.
+pub fn crosses_threads(buffer: &Buffer, snapshot: &Snapshot, base: &Base) {
     sends(buffer);
     shares(buffer);
     sends(snapshot);
     shares(snapshot);
+    sends(base);
+    shares(base);
 }

@@ -37,7 +37,8 @@ impl Snapshot {
     pub fn since(&self, version: &Version) -> Result<Edits, SinceFault>
         ensures ok { OnOk result (since_fault self.now version.now ≡ None) }
         ensures edits { IfOk result (λ es. es ≡ since self.now version.now) }
-        ensures fault { IfErr result (λ e. (since_fault self.now version.now ≡ Some e) ⊎ ((since_fault self.now version.now ≡ None) × (e ≡ SinceFault.OutOfMemory))) }
+        ensures fault { IfErr result (λ e. (since_fault self.now version.now ≡ Some e)
+            ⊎ ((since_fault self.now version.now ≡ None) × (e ≡ SinceFault.OutOfMemory))) }
     {
         if let Some(fault) = self.since_fault(version) {
             return Err(fault);
@@ -62,7 +63,8 @@ impl Snapshot {
     pub fn text_at(&self, version: &Version) -> Result<String, SinceFault>
         ensures ok { OnOk result (since_fault self.now version.now ≡ None) }
         ensures text { IfOk result (λ s. string_bytes s ≡ text_at self.now version.now) }
-        ensures fault { IfErr result (λ e. (since_fault self.now version.now ≡ Some e) ⊎ ((since_fault self.now version.now ≡ None) × (e ≡ SinceFault.OutOfMemory))) }
+        ensures fault { IfErr result (λ e. (since_fault self.now version.now ≡ Some e)
+            ⊎ ((since_fault self.now version.now ≡ None) × (e ≡ SinceFault.OutOfMemory))) }
     {
         if let Some(fault) = self.since_fault(version) {
             return Err(fault);

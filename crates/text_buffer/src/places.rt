@@ -61,7 +61,8 @@ impl Snapshot {
     /// `UnknownAnchor` exactly where one of the two is not known, with the first that is not.
     pub fn compare(&self, a: &Anchor, b: &Anchor) -> Result<Ordering, UnknownAnchor>
         ensures order { result_ok result ≡ compared self.now a.now b.now }
-        ensures unknown { IfErr result (λ e. e.anchor ≡ (if is_known self.now a.now then b.now else a.now)) }
+        ensures unknown { IfErr result (λ e. e.anchor
+            ≡ (if is_known self.now a.now then b.now else a.now)) }
     {
         self.known();
         let content = self.document.content();

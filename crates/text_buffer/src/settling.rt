@@ -77,7 +77,8 @@ impl Buffer {
         self.waiting.watch(self.document.version());
     }
 
-    // A copy of the least operation past a stamp that misses no cause, if there is one.
+    // A copy of the least operation past a stamp that misses no cause, if there is one. What waits is
+    // shared, so no text is copied.
     fn next_ready(&self, after: Option<Lamport>) -> Result<Option<Operation>, AllocError>
         ensures ready { IfOk result (λ op. op ≡ next_ready after self.now) }
         ensures buffer { IsBuffer self.now }

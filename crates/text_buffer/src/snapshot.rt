@@ -93,8 +93,10 @@ pub fn snapshots_agree(a: &Snapshot, b: &Snapshot)
 /// A snapshot that was taken earlier from a buffer has a front of the list of a later one, whatever calls came between them, and
 /// where a call between them wanted memory.
 pub fn snapshots_append(earlier: &Snapshot, later: &Snapshot)
-    ensures calls { (b : BufferState) → (cs : List Step) → earlier.now ≡ b.history → later.now ≡ (after_calls cs b).history → IsFront earlier.now later.now }
-    ensures want { (b n : BufferState) → IsPartly b n → earlier.now ≡ b.history → later.now ≡ n.history → IsFront earlier.now later.now }
+    ensures calls { (b : BufferState) → (cs : List Step) → earlier.now ≡ b.history
+        → later.now ≡ (after_calls cs b).history → IsFront earlier.now later.now }
+    ensures want { (b n : BufferState) → IsPartly b n → earlier.now ≡ b.history
+        → later.now ≡ n.history → IsFront earlier.now later.now }
 {
     earlier.known();
     later.known();

@@ -1,7 +1,11 @@
 // Taking the operations of other replicas.
-ghost use Rattle.std.specs.Prelude.{ℕ, ◌≡◌, ◌≤◌, ◌⊎◌, true, map, Some, IfErr, IfOk, OnErr, OnOk};
+ghost use Rattle.std.specs.Prelude.{ℕ, ◌≡◌, ◌≤◌, ◌⊎◌, true, map, Some, None, IfErr, IfOk, OnErr, OnOk};
+ghost use Rattle.op_model.specs.Sorted.{insert_by};
+ghost use Rattle.op_model.specs.Histories.{operation_at};
+ghost use Rattle.op_model.specs.Operations.{stamp_of};
 ghost use Rattle.op_model.specs.Answers.{answer};
 ghost use Rattle.op_model.specs.Answers.Answer.{Good, Refused as refused};
+ghost use Rattle.op_model.specs.Steps.{older};
 ghost use Rattle.op_model.specs.Steps.Step.{Takes};
 ghost use Rattle.text_buffer.specs.Outcomes.{pair_of};
 ghost use Rattle.text_buffer.specs.Settling.{IsTakenPartly};
@@ -12,7 +16,18 @@ use applied_ops::Applied;
 use deferred_ops::Deferred;
 use op_answers::Verdict;
 use op_model::{OpFault, Operation};
+use std::alloc::{AllocError, Global};
 use sum_tree::SumTree;
+
+// Lets an operation wait; none with its stamp waits yet. It is shared, so its turn copies no text.
+// On want of memory it is dropped.
+fn defer(waiting: &mut Deferred, alloc: Global, op: Operation) -> Result<(), AllocError>
+    requires { operation_at waiting.old (stamp_of op) ≡ None }
+    ensures ok { OnOk result (waiting.new ≡ insert_by older op waiting.old) }
+    ensures err { OnErr result (waiting.new ≡ waiting.old) }
+{
+    waiting.add(op.into_shared(alloc)?)
+}
 
 impl Buffer {
     /// Takes an operation of another replica. It is applied, whereupon the buffer settles; or it waits; or an equal one is applied
@@ -28,21 +43,25 @@ impl Buffer {
     /// operation. The buffer is then as before, unless the operation was applied and settling wanted memory: then what is applied
     /// stays applied, and a later `settle` goes on.
     pub fn take(&mut self, op: Operation) -> Result<Took, OpFault>
-        ensures ok { IfOk result (λ t. told (number_applied self.old self.new) (answer_to self.old op) ≡ Some t) }
+        ensures ok { IfOk result (λ t. told (number_applied self.old self.new)
+            (answer_to self.old op) ≡ Some t) }
         ensures new { OnOk result (self.new ≡ taken self.old op) }
-        ensures applied { IfOk result (λ t. (n : ℕ) → t ≡ Took.Applied n → (1 ≤ n) × AllMiss self.new) }
-        ensures fault { IfErr result (λ e. (answer_to self.old op ≡ refused e) ⊎ ((is_kept (answer_to self.old op) ≡ true) × (e ≡ OpFault.OutOfMemory))) }
+        ensures applied { IfOk result (λ t. (n : ℕ) → t ≡ Took.Applied n
+            → (1 ≤ n) × AllMiss self.new) }
+        ensures fault { IfErr result (λ e. (answer_to self.old op ≡ refused e)
+            ⊎ ((is_kept (answer_to self.old op) ≡ true) × (e ≡ OpFault.OutOfMemory))) }
         ensures err { OnErr result ((self.new ≡ self.old) ⊎ (answer_to self.old op ≡ Good)) }
         ensures want { OnErr result (IsPartly self.old self.new) }
         ensures stopped { OnErr result (IsTakenPartly op self.old self.new) }
         ensures step { OnOk result (self.new ≡ after_call (Takes op) self.old) }
-        ensures refused { IfErr result (λ e. (self.new ≡ after_call (Takes op) self.old) ⊎ (e ≡ OpFault.OutOfMemory)) }
+        ensures refused { IfErr result (λ e. (self.new ≡ after_call (Takes op) self.old)
+            ⊎ (e ≡ OpFault.OutOfMemory)) }
     {
         match self.document.judge(&self.waiting, &op) {
             Verdict::Accept => self.accept(op),
             Verdict::Repeated => Ok(Took::Repeat),
             Verdict::Missing { replica, value } => {
-                self.waiting.add(op)?;
+                defer(&mut self.waiting, self.alloc, op)?;
                 Ok(Took::Waits { replica, value })
             }
             Verdict::Refuse(fault) => Err(fault),
@@ -52,15 +71,19 @@ impl Buffer {
     // Applies an operation that is good, unless a limit holds it off, and settles.
     fn accept(&mut self, op: Operation) -> Result<Took, OpFault>
         requires good { answer self.old.history self.old.waiting op ≡ Good }
-        ensures ok { IfOk result (λ t. told (number_applied self.old self.new) (answer_to self.old op) ≡ Some t) }
+        ensures ok { IfOk result (λ t. told (number_applied self.old self.new)
+            (answer_to self.old op) ≡ Some t) }
         ensures new { OnOk result (self.new ≡ taken self.old op) }
-        ensures applied { IfOk result (λ t. (n : ℕ) → t ≡ Took.Applied n → (1 ≤ n) × AllMiss self.new) }
-        ensures fault { IfErr result (λ e. (answer_to self.old op ≡ refused e) ⊎ ((is_kept (answer_to self.old op) ≡ true) × (e ≡ OpFault.OutOfMemory))) }
+        ensures applied { IfOk result (λ t. (n : ℕ) → t ≡ Took.Applied n
+            → (1 ≤ n) × AllMiss self.new) }
+        ensures fault { IfErr result (λ e. (answer_to self.old op ≡ refused e)
+            ⊎ ((is_kept (answer_to self.old op) ≡ true) × (e ≡ OpFault.OutOfMemory))) }
         ensures err { OnErr result ((self.new ≡ self.old) ⊎ (answer_to self.old op ≡ Good)) }
         ensures want { OnErr result (IsPartly self.old self.new) }
         ensures stopped { OnErr result (IsTakenPartly op self.old self.new) }
         ensures step { OnOk result (self.new ≡ after_call (Takes op) self.old) }
-        ensures refused { IfErr result (λ e. (self.new ≡ after_call (Takes op) self.old) ⊎ (e ≡ OpFault.OutOfMemory)) }
+        ensures refused { IfErr result (λ e. (self.new ≡ after_call (Takes op) self.old)
+            ⊎ (e ≡ OpFault.OutOfMemory)) }
     {
         if let Some(fault) = self.full(&op) {
             return Err(fault);

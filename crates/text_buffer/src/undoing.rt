@@ -27,10 +27,12 @@ impl Buffer {
         ensures made { IfOk result (λ op. op ≡ made_undo self.old edits.now) }
         ensures new { OnOk result (self.new ≡ undone self.old edits.now) }
         ensures history { IfOk result (λ op. self.new.history ≡ self.old.history ++ op ∷ []) }
-        ensures fault { IfErr result (λ e. (undo_fault self.old edits.now ≡ Some e) ⊎ ((undo_fault self.old edits.now ≡ None) × (e ≡ UndoFault.OutOfMemory))) }
+        ensures fault { IfErr result (λ e. (undo_fault self.old edits.now ≡ Some e)
+            ⊎ ((undo_fault self.old edits.now ≡ None) × (e ≡ UndoFault.OutOfMemory))) }
         ensures err { OnErr result (self.new ≡ self.old) }
         ensures step { OnOk result (self.new ≡ after_call (Undoes edits.now) self.old) }
-        ensures refused { IfErr result (λ e. (self.new ≡ after_call (Undoes edits.now) self.old) ⊎ (e ≡ UndoFault.OutOfMemory)) }
+        ensures refused { IfErr result (λ e. (self.new ≡ after_call (Undoes edits.now) self.old)
+            ⊎ (e ≡ UndoFault.OutOfMemory)) }
     {
         match self.undo_fault(edits) {
             Some(fault) => Err(fault),
@@ -45,7 +47,8 @@ impl Buffer {
         ensures new { OnOk result (self.new ≡ undone self.old edits.now) }
         ensures err { OnErr result (self.new ≡ self.old) }
     {
-        let made = self.undo_operation(edits)?;
+        let undo = self.undo_operation(edits)?;
+        let made = undo.into_shared(self.alloc)?;
         let kept = made.copy(self.alloc)?;
         self.apply(kept)?;
         Ok(made)

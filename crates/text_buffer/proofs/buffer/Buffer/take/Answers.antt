@@ -7,10 +7,10 @@ use Rattle.text_buffer.proofs.buffer.Buffer.take.Goals as goal
 pub judge-requires : goal.judge-requires
 judge-requires c = distinct c.self.inside.waiting c.self.invariant.waiting_ascending
 
-pub add-requires : goal.add-requires
-add-requires c = not_waiting c.self.inside.document c.self.inside.waiting c.args.op (waits_new c.self.inside.document c.self.inside.waiting c.args.op _ _ (sym c.in-Missing.ensures))
+pub defer-requires : goal.defer-requires
+defer-requires c = not_waiting c.self.inside.document c.self.inside.waiting c.args.op (waits_new c.self.inside.document c.self.inside.waiting c.args.op _ _ (sym c.in-Missing.ensures))
 
 pub invariant_of-self-in-Missing : goal.invariant_of-self-in-Missing
 invariant_of-self-in-Missing c =
     let n = waits_new c.self.inside.document c.self.inside.waiting c.args.op _ _ (sym c.in-Missing.ensures) in
-    IsBuffer-deferred (state_of c.self.inside) c.args.op _ c.self.invariant n c.in_ok-add-in-Missing.ensures.ok
+    IsBuffer-deferred (state_of c.self.inside) c.args.op _ c.self.invariant n c.in_ok-defer-in-Missing.ensures.ok

@@ -1,0 +1,8 @@
+use Rattle.std.proofs.Common.{map, ap}
+use Rattle.text_buffer.specs.Outcomes.{pair_of}
+use Rattle.text_buffer.proofs.Opened.{IsBuffer-opened}
+use Rattle.text_buffer.proofs.buffer.Buffer.begin.Goals as goal
+
+pub invariant_of-result : goal.invariant_of-result
+invariant_of-result c = IsBuffer-opened _ _ _ _ _ c.args.base.now c.document.ensures.utf8 c.requires.least c.requires.greatest c.requires.bytes c.requires.entries c.requires.room
+    c.in_ok-document.ensures.document c.in_ok-waiting.ensures.empty (ap (map pair_of) c.new-2.ensures.items)

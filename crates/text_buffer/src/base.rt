@@ -1,0 +1,94 @@
+// A base text, made ready for the buffers over it.
+ghost use Rattle.std.specs.Prelude.{◌≡◌, ◌==◌, ◌⊎◌, ◌^◌, ◌≤◌, ◌∷◌, [], length, IfOk, IfErr, OnOk, None, Some};
+ghost use Rattle.std.specs.Str.{IsUtf8};
+ghost use Rattle.op_model.specs.Histories.{base};
+ghost use Rattle.text_buffer.specs.Buffer.{base_fault};
+ghost use Rattle.text_buffer.specs.declared.faults.NewFault.{NewFault};
+
+use crate::NewFault;
+use crate::document::Document;
+use op_model::Unit;
+use std::alloc::{AllocError, Global};
+use std::marker::Model;
+
+/// The most bytes of a base: no limits let in more.
+const MOST: u64 = 1 << 40;
+
+/// A base text with all that a buffer over it begins with, made once and shared by the buffers over it. Contracts see it as the
+/// bytes of the text.
+#[derive(Drop)]
+pub struct Base {
+    document: Document,
+    len: u64,
+}
+
+impl Model for Base {
+    ghost use Rattle.std.specs.Prelude.{List, ℕ};
+
+    ghost Value = { List ℕ };
+
+    ghost use Rattle.text_buffer.specs.Base.{text_of, IsBase};
+
+    ghost view = { text_of };
+
+    ghost invariant = { IsBase };
+}
+
+impl Base {
+    /// Makes a base text ready. Linear in the text.
+    ///
+    /// # Errors
+    ///
+    /// `Full` exactly where the text has more than 2^40 bytes, the most that limits let in, with 0 held. `OutOfMemory` only
+    /// where it has not.
+    pub fn new(alloc: Global, text: &str) -> Result<Base, NewFault>
+        ensures ok { OnOk result (base_fault text.now ≡ None) }
+        ensures new { IfOk result (λ b. b ≡ text.now) }
+        ensures fault { IfErr result (λ e. (base_fault text.now ≡ Some e)
+            ⊎ ((base_fault text.now ≡ None) × (e ≡ NewFault.OutOfMemory))) }
+    {
+        let len = text.len() as u64;
+        if MOST < len {
+            return Err(NewFault::Full {
+                unit: Unit::Bytes,
+                held: 0,
+                adds: len,
+            });
+        }
+        Ok(Base::over(alloc, text)?)
+    }
+
+    // The base of a text that is not too long.
+    pub(crate) fn over(alloc: Global, text: &str) -> Result<Base, AllocError>
+        requires { length text.now ≤ 2 ^ 40 }
+        ensures { IfOk result (λ b. b ≡ text.now) }
+    {
+        Ok(Base {
+            document: Document::over(alloc, text)?,
+            len: text.len() as u64,
+        })
+    }
+
+    /// How many bytes the text has. Takes no memory, and no time by its length.
+    pub fn len(&self) -> u64
+        ensures { result ≡ length self.now }
+    {
+        self.len
+    }
+
+    /// Whether the text has no bytes.
+    pub fn is_empty(&self) -> bool
+        ensures { result ≡ (length self.now == 0) }
+    {
+        self.len == 0
+    }
+
+    // What a buffer over it begins with. Nothing is copied. That the text is UTF-8 is a clause for callers.
+    pub(crate) fn document(&self) -> Result<Document, AllocError>
+        ensures document { IfOk result (λ d. d ≡ base self.now ∷ []) }
+        ensures utf8 { IsUtf8 self.now }
+    {
+        self.document.known();
+        self.document.share()
+    }
+}
