@@ -121,11 +121,17 @@ fn is_same_alone(all: &[Operation], op: &Operation, at: usize) -> bool {
     right
 }
 
+// A copy of a copy that is shared.
+fn shared_copy(alloc: Global, op: &Operation) -> Result<Operation, AllocError> {
+    op.copy(alloc)?.into_shared(alloc)?.copy(alloc)
+}
+
 fn copies_are_same(alloc: Global) -> Result<bool, AllocError> {
     let all = operations(alloc)?;
     let mut right = true;
     for (i, op) in all.iter().enumerate() {
         right = is_same_alone(all.as_slice(), &op.copy(alloc)?, i) && right;
+        right = is_same_alone(all.as_slice(), &shared_copy(alloc, op)?, i) && right;
     }
     Ok(right)
 }

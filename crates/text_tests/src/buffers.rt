@@ -10,7 +10,7 @@ use std::alloc::{AllocError, Global};
 use text_buffer::EditFault::InsideChar;
 use text_buffer::UndoFault::{ClockEnd, NoSuchEdit, Twice};
 use text_buffer::{
-    Buffer, EditFault, Limits, NewFault, OpFault, Refused, Took, UndoFault, Unit, agree,
+    Base, Buffer, EditFault, Limits, NewFault, OpFault, Refused, Took, UndoFault, Unit, agree,
 };
 
 const BASE: Lamport = Lamport {
@@ -591,6 +591,20 @@ fn plays_in_few(alloc: Global, case: &Case) -> Result<bool, AllocError> {
     play(alloc, few(alloc, case.0), case)
 }
 
+// Whether a case comes out as it should in one buffer over a base, and then in a second one over the same.
+fn plays_twice(alloc: Global, base: &Base, case: &Case) -> Result<bool, AllocError> {
+    let first = play(alloc, Buffer::over(alloc, 9, base, AMPLE), case)?;
+    let second = play(alloc, Buffer::over(alloc, 9, base, AMPLE), case)?;
+    Ok(first && second)
+}
+
+fn plays_over_one(alloc: Global, case: &Case) -> Result<bool, AllocError> {
+    match Base::new(alloc, case.0) {
+        Ok(base) => plays_twice(alloc, &base, case),
+        Err(_) => Ok(false),
+    }
+}
+
 const CASES: &[Case] = &[
     INSIDE_A_CHARACTER,
     TWO_AT_ONE_PLACE,
@@ -623,6 +637,14 @@ fn calls_and_their_answers(rt: HostRuntime) -> Result<(), AllocError> {
 }
 
 #[test]
+fn calls_over_one_base(rt: HostRuntime) -> Result<(), AllocError> {
+    for case in CASES {
+        assert!(rt; plays_over_one(rt.alloc(), case)?, "over {}", case.0);
+    }
+    Ok(())
+}
+
+#[test]
 fn calls_at_the_limits(rt: HostRuntime) -> Result<(), AllocError> {
     for case in CASES_OF_FEW {
         assert!(rt; plays_in_few(rt.alloc(), case)?, "over {}", case.0);
@@ -642,10 +664,19 @@ fn is_refused(alloc: Global, base: &str, words: &str) -> Result<bool, AllocError
     }
 }
 
+// The fault of a buffer of few bytes over a base that was made ready.
+fn fault_over(alloc: Global, base: &str) -> Option<NewFault> {
+    match Base::new(alloc, base) {
+        Ok(base) => Buffer::over(alloc, 9, &base, FEW).err(),
+        Err(fault) => Some(fault),
+    }
+}
+
 #[test]
 fn a_base_past_the_limit(rt: HostRuntime) -> Result<(), AllocError> {
     let words = "full: 0 bytes are held, and 6 more pass the limit";
     assert!(rt; is_refused(rt.alloc(), "abcdef", words)?);
+    assert!(rt; fault_over(rt.alloc(), "abcdef") == few(rt.alloc(), "abcdef").err());
     Ok(())
 }
 
