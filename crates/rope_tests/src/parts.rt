@@ -28,7 +28,7 @@ pub(crate) fn has(alloc: Global, rope: &Rope, text: &str) -> Result<bool, OutOfM
     Ok(own.as_str() == text && rope.len() == text.len() as u64)
 }
 
-// Whether the part of the rope is that of the text, and both agree on where they may be cut.
+// Whether the part of the rope is that of the text, as a copy too, and both agree on where they may be cut.
 fn cuts_alike(
     alloc: Global,
     rope: &Rope,
@@ -42,7 +42,8 @@ fn cuts_alike(
     }
     if start <= end && bounds && text.is_char_boundary(start) && text.is_char_boundary(end) {
         let part = rope.slice(alloc, start as u64, end as u64)?;
-        return has(alloc, &part, &text[start..end]);
+        let copy = rope.text_of(alloc, start as u64, end as u64)?;
+        return Ok(has(alloc, &part, &text[start..end])? && copy.as_str() == &text[start..end]);
     }
     Ok(true)
 }
