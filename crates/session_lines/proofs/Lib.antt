@@ -6,3 +6,4 @@ pub mod Faults
 pub mod LineNames
 pub mod Versions
 pub mod Rows
+pub mod Quoted

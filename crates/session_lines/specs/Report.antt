@@ -1,5 +1,5 @@
 -- The lines of a report.
-use Rattle.std.specs.Prelude.{ℕ, ◌+◌, ◌==◌, List, [], ◌∷◌, ◌++◌, length, reverse, codes, decimal}
+use Rattle.std.specs.Prelude.{ℕ, ◌+◌, ◌==◌, Bool, true, false, List, [], ◌∷◌, ◌++◌, length, reverse, codes, decimal}
 use Rattle.std.specs.List.{flat_map, join_by, position_or_len}
 use Rattle.json.specs.Print.{quoted}
 use Rattle.lamport_clock.specs.Stamps.{stamp_text}
@@ -49,14 +49,13 @@ last_column text = position_or_len (λ b. b == 10) (reverse text)
 unfoldable pub made_line : ℕ → Lamport → List ℕ
 made_line n t = decimal n ++ (codes ": " ++ (decimal t.value ++ (codes "." ++ (decimal t.replica ++ codes "\n"))))
 
-abbrev pub end_words : ℕ → ℕ → ℕ → ℕ → List ℕ
-end_words r bytes row column = codes "text " ++ (decimal r ++ (codes ": " ++ (decimal bytes ++ (codes " bytes, end " ++ (decimal row ++ (codes ":" ++ decimal column))))))
-
-abbrev pub rows_words : ℕ → List ℕ → List ℕ
-rows_words rows q = codes ", " ++ (decimal rows ++ (codes " rows, " ++ (q ++ codes "\n")))
+-- what is counted of a text
+abbrev pub text_front : ℕ → ℕ → ℕ → ℕ → ℕ → List ℕ
+text_front r bytes row column rows =
+    codes "text " ++ (decimal r ++ (codes ": " ++ (decimal bytes ++ (codes " bytes, end " ++ (decimal row ++ (codes ":" ++ (decimal column ++ (codes ", " ++ (decimal rows ++ codes " rows, ")))))))))
 
 unfoldable pub text_line : ℕ → ℕ → ℕ → ℕ → ℕ → List ℕ → List ℕ
-text_line r bytes row column rows text = end_words r bytes row column ++ rows_words rows (quoted text)
+text_line r bytes row column rows text = text_front r bytes row column rows ++ (quoted text ++ codes "\n")
 
 abbrev pub unit_words : LimitUnit → List ℕ
 unit_words Bytes = codes "full bytes "
@@ -220,11 +219,8 @@ replica_line r bytes rows applied waiting refused = counts_words r bytes rows ap
 unfoldable pub refused_op_line : ℕ → Lamport → OpFault → List ℕ
 refused_op_line r t e = codes "refused " ++ (decimal r ++ (codes ": " ++ (stamp_text t ++ (codes " " ++ (op_fault_words e ++ codes "\n")))))
 
-abbrev pub final_line_with : ℕ → List ℕ → List ℕ
-final_line_with r q = codes "final " ++ (decimal r ++ (codes ": " ++ (q ++ codes "\n")))
-
 unfoldable pub final_line : ℕ → List ℕ → List ℕ
-final_line r text = final_line_with r (quoted text)
+final_line r text = codes "final " ++ (decimal r ++ (codes ": " ++ (quoted text ++ codes "\n")))
 
 unfoldable pub checked_line : ℕ → ℕ → ℕ → ℕ → List ℕ
 checked_line lines replicas operations queries =
@@ -249,6 +245,23 @@ line_text (Replica r bytes rows applied waiting refused) = replica_line r bytes 
 line_text (Refused r t e) = refused_op_line r t e
 line_text (Final r text) = final_line r text
 line_text (Checked lines replicas operations queries) = checked_line lines replicas operations queries
+
+-- whether a JSON string stands in the line
+abbrev pub has_string : Report → Bool
+has_string (Text r bytes row column rows text) = true
+has_string (Anchor name answer) = true
+has_string (Where name r answer) = true
+has_string (Mark name) = true
+has_string (Since name r answer) = true
+has_string (Final r text) = true
+has_string _ = false
+
+-- whether it is a line at the end of a report with no JSON string in it
+abbrev pub is_end : Report → Bool
+is_end (Replica r bytes rows applied waiting refused) = true
+is_end (Refused r t e) = true
+is_end (Checked lines replicas operations queries) = true
+is_end _ = false
 
 -- the text of a whole report
 unfoldable pub report_text : List Report → List ℕ

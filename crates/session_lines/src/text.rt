@@ -1,23 +1,63 @@
 // The text of a report's line.
-ghost use Rattle.std.specs.Prelude.{◌≡◌, ◌++◌, string_bytes, OnOk, OnErr, IfOk};
+ghost use Rattle.std.specs.Prelude.{◌≡◌, ◌++◌, false, length, string_bytes, take, true, OnOk, OnErr, IfOk};
 ghost use Rattle.json.specs.Print.{quoted};
-ghost use Rattle.session_lines.specs.Report.{made_line, settled_line, given_words, give_line, end_words, rows_words, text_line, place_fault_words, anchor_words, anchor_line, where_words, where_line, mark_line, edit_words, edits_words, since_fault_words, since_words, since_line, starts_words, find_words, place_words, clips_words, point_words, offset_words, query_word, query_words, query_line, counts_words, waits_words, replica_line, final_line, final_line_with, fault_words, op_fault_words, undo_fault_words, refused_line, refused_undo_line, unnamed_line, refused_op_line, checked_line, line_text};
+ghost use Rattle.session_lines.specs.Report.{made_line, settled_line, given_words, give_line, text_front, text_line, place_fault_words, anchor_words, anchor_line, where_words, where_line, mark_line, edit_words, edits_words, since_fault_words, since_words, since_line, starts_words, find_words, place_words, clips_words, point_words, offset_words, query_word, query_words, query_line, counts_words, waits_words, replica_line, final_line, fault_words, op_fault_words, undo_fault_words, refused_line, refused_undo_line, unnamed_line, refused_op_line, checked_line, line_text, has_string, is_end};
 
 use crate::report::{
     AnchorAnswer, FindAnswer, Given, OffsetAnswer, PointAnswer, QueryAnswer, Report, SinceAnswer,
     WhereAnswer,
 };
+use json::Writer;
 use lamport_clock::Lamport;
-use op_model::{EditFault, OpFault, PlaceFault, SinceFault, Text, TextEdit, UndoFault, Unit};
-use serde_json::Value;
+use op_model::{EditFault, OpFault, PlaceFault, SinceFault, TextEdit, UndoFault, Unit};
 use std::alloc::{AllocError, Global};
 use std::fmt::Write;
+use std::mem;
 
-/// A text as a JSON string.
-fn quote(alloc: Global, text: &str) -> Result<String, AllocError>
-    ensures { IfOk result (λ s. string_bytes s ≡ quoted text.now) }
+// Writes a text as a JSON string at the end of `out`. On want of memory nothing is written.
+fn push_quoted(alloc: Global, out: &mut Vec<u8>, text: &str) -> Result<(), AllocError>
+    ensures ok { OnOk result (out.new.items ≡ out.old.items ++ quoted text.now) }
+    ensures err { OnErr result (out.new.items ≡ out.old.items) }
 {
-    Value::String(String::from_str(alloc, text)?).to_string(alloc)
+    let mut writer = Writer::new(mem::replace(out, Vec::new(alloc)));
+    let written = writer.string(text);
+    *out = writer.into_inner();
+    written
+}
+
+// Writes a text as a JSON string, with what stands before and behind it. On want of memory a part may be written.
+fn push_parts(
+    alloc: Global,
+    out: &mut Vec<u8>,
+    front: &str,
+    text: &str,
+    back: &str,
+) -> Result<(), AllocError>
+    ensures ok { OnOk result (out.new.items ≡ out.old.items ++ (front.now ++ (quoted text.now ++ back.now))) }
+    ensures kept { take (length out.old.items) out.new.items ≡ out.old.items }
+{
+    out.extend_from_slice(front.as_bytes())?;
+    push_quoted(alloc, out, text)?;
+    out.extend_from_slice(back.as_bytes())
+}
+
+// Writes a text as a JSON string, with what stands before and behind it. On want of memory nothing is written.
+fn push_around(
+    alloc: Global,
+    out: &mut Vec<u8>,
+    front: &str,
+    text: &str,
+    back: &str,
+) -> Result<(), AllocError>
+    ensures ok { OnOk result (out.new.items ≡ out.old.items ++ (front.now ++ (quoted text.now ++ back.now))) }
+    ensures err { OnErr result (out.new.items ≡ out.old.items) }
+{
+    let start = out.len();
+    let pushed = push_parts(alloc, out, front, text, back);
+    if pushed.is_err() {
+        out.truncate(start);
+    }
+    pushed
 }
 
 #[tactic(auto, unfolding(crate::specs::Report::made_line))]
@@ -145,34 +185,18 @@ fn push_give(
     write!(out, "give {n} to {r}: {words}\n")
 }
 
-fn write_end(out: &mut String, r: u16, bytes: u64, row: u64, column: u64) -> Result<(), AllocError>
-    ensures { OnOk result (string_bytes out.new ≡ string_bytes out.old ++ end_words r bytes row column) }
-{
-    write!(out, "text {r}: {bytes} bytes, end {row}:{column}")
-}
-
-fn push_rows(alloc: Global, out: &mut String, rows: u64, text: &str) -> Result<(), AllocError>
-    ensures { OnOk result (string_bytes out.new ≡ string_bytes out.old ++ rows_words rows (quoted text.now)) }
-{
-    let quoted = quote(alloc, text)?;
-    write!(out, ", {rows} rows, {quoted}\n")
-}
-
-#[tactic(auto, unfolding(crate::specs::Report::text_line))]
-fn push_text(
+// What stands before the text.
+fn text_front(
     alloc: Global,
-    out: &mut String,
     r: u16,
     bytes: u64,
     row: u64,
     column: u64,
     rows: u64,
-    text: &Text,
-) -> Result<(), AllocError>
-    ensures { OnOk result (string_bytes out.new ≡ string_bytes out.old ++ text_line r bytes row column rows text.now) }
+) -> Result<String, AllocError>
+    ensures { IfOk result (λ s. string_bytes s ≡ text_front r bytes row column rows) }
 {
-    write_end(out, r, bytes, row, column)?;
-    push_rows(alloc, out, rows, text.as_str())
+    format!(in alloc; "text {r}: {bytes} bytes, end {row}:{column}, {rows} rows, ")
 }
 
 fn place_fault_text(alloc: Global, fault: PlaceFault) -> Result<String, AllocError>
@@ -196,15 +220,16 @@ fn anchor_text(alloc: Global, answer: AnchorAnswer) -> Result<String, AllocError
 #[tactic(auto, unfolding(crate::specs::Report::anchor_line))]
 fn push_anchor(
     alloc: Global,
-    out: &mut String,
+    out: &mut Vec<u8>,
     name: &str,
     answer: AnchorAnswer,
 ) -> Result<(), AllocError>
-    ensures { OnOk result (string_bytes out.new ≡ string_bytes out.old ++ anchor_line name.now answer) }
+    ensures ok { OnOk result (out.new.items ≡ out.old.items ++ anchor_line name.now answer) }
+    ensures err { OnErr result (out.new.items ≡ out.old.items) }
 {
-    let quoted = quote(alloc, name)?;
     let words = anchor_text(alloc, answer)?;
-    write!(out, "anchor {quoted}: {words}\n")
+    let back = format!(in alloc; ": {words}\n")?;
+    push_around(alloc, out, "anchor ", name, back.as_str())
 }
 
 fn where_text(alloc: Global, answer: WhereAnswer) -> Result<String, AllocError>
@@ -220,101 +245,104 @@ fn where_text(alloc: Global, answer: WhereAnswer) -> Result<String, AllocError>
 #[tactic(auto, unfolding(crate::specs::Report::where_line))]
 fn push_where(
     alloc: Global,
-    out: &mut String,
+    out: &mut Vec<u8>,
     name: &str,
     r: u16,
     answer: WhereAnswer,
 ) -> Result<(), AllocError>
-    ensures { OnOk result (string_bytes out.new ≡ string_bytes out.old ++ where_line name.now r answer) }
+    ensures ok { OnOk result (out.new.items ≡ out.old.items ++ where_line name.now r answer) }
+    ensures err { OnErr result (out.new.items ≡ out.old.items) }
 {
-    let quoted = quote(alloc, name)?;
     let words = where_text(alloc, answer)?;
-    write!(out, "where {quoted} at {r}: {words}\n")
+    let back = format!(in alloc; " at {r}: {words}\n")?;
+    push_around(alloc, out, "where ", name, back.as_str())
 }
 
 #[tactic(auto, unfolding(crate::specs::Report::mark_line))]
-fn push_mark(alloc: Global, out: &mut String, name: &str) -> Result<(), AllocError>
-    ensures { OnOk result (string_bytes out.new ≡ string_bytes out.old ++ mark_line name.now) }
+fn push_mark(alloc: Global, out: &mut Vec<u8>, name: &str) -> Result<(), AllocError>
+    ensures ok { OnOk result (out.new.items ≡ out.old.items ++ mark_line name.now) }
+    ensures err { OnErr result (out.new.items ≡ out.old.items) }
 {
-    let quoted = quote(alloc, name)?;
-    write!(out, "mark {quoted}: set\n")
+    push_around(alloc, out, "mark ", name, ": set\n")
 }
 
-fn edit_text(alloc: Global, edit: &TextEdit) -> Result<String, AllocError>
-    ensures { IfOk result (λ s. string_bytes s ≡ edit_words edit.now) }
+fn push_edit(out: &mut String, edit: &TextEdit) -> Result<(), AllocError>
+    ensures { OnOk result (string_bytes out.new ≡ string_bytes out.old ++ edit_words edit.now) }
 {
     let (start, end) = edit.old;
     let (new_start, new_end) = edit.new;
-    format!(in alloc; "{start}..{end} -> {new_start}..{new_end}")
+    write!(out, "{start}..{end} -> {new_start}..{new_end}")
 }
 
-fn edits_text(alloc: Global, edits: &[TextEdit]) -> Result<String, AllocError>
-    ensures { IfOk result (λ s. string_bytes s ≡ edits_words edits.now) }
+fn push_edits(out: &mut String, edits: &[TextEdit]) -> Result<(), AllocError>
+    ensures { OnOk result (string_bytes out.new ≡ string_bytes out.old ++ edits_words edits.now) }
 {
     let [first, others @ ..] = edits else {
-        return String::from_str(alloc, "none");
+        return out.push_str("none");
     };
-    let mut text = edit_text(alloc, first)?;
+    push_edit(out, first)?;
     for edit in others {
-        let words = edit_text(alloc, edit)?;
-        write!(text, ", {words}")?;
+        out.push_str(", ")?;
+        push_edit(out, edit)?;
     }
-    Ok(text)
+    Ok(())
 }
 
-fn since_fault_text(alloc: Global, fault: SinceFault) -> Result<String, AllocError>
-    ensures { IfOk result (λ s. string_bytes s ≡ since_fault_words fault) }
+fn push_since_fault(out: &mut String, fault: SinceFault) -> Result<(), AllocError>
+    ensures { OnOk result (string_bytes out.new ≡ string_bytes out.old ++ since_fault_words fault) }
 {
     match fault {
-        SinceFault::Unseen(r) => format!(in alloc; "unseen {r}"),
-        SinceFault::OpenVersion(r) => format!(in alloc; "openversion {r}"),
-        SinceFault::OutOfMemory => Ok(String::new(alloc)),
+        SinceFault::Unseen(r) => write!(out, "unseen {r}"),
+        SinceFault::OpenVersion(r) => write!(out, "openversion {r}"),
+        SinceFault::OutOfMemory => Ok(()),
     }
 }
 
-fn since_text(alloc: Global, answer: &SinceAnswer) -> Result<String, AllocError>
-    ensures { IfOk result (λ s. string_bytes s ≡ since_words answer.now) }
+fn push_changes(out: &mut String, answer: &SinceAnswer) -> Result<(), AllocError>
+    ensures { OnOk result (string_bytes out.new ≡ string_bytes out.old ++ since_words answer.now) }
 {
     match answer {
-        SinceAnswer::Edits(edits) => edits_text(alloc, edits.as_slice()),
-        SinceAnswer::Fault(fault) => since_fault_text(alloc, *fault),
+        SinceAnswer::Edits(edits) => push_edits(out, edits.as_slice()),
+        SinceAnswer::Fault(fault) => push_since_fault(out, *fault),
     }
 }
 
 #[tactic(auto, unfolding(crate::specs::Report::since_line))]
 fn push_since(
     alloc: Global,
-    out: &mut String,
+    out: &mut Vec<u8>,
     name: &str,
     r: u16,
     answer: &SinceAnswer,
 ) -> Result<(), AllocError>
-    ensures { OnOk result (string_bytes out.new ≡ string_bytes out.old ++ since_line name.now r answer.now) }
+    ensures ok { OnOk result (out.new.items ≡ out.old.items ++ since_line name.now r answer.now) }
+    ensures err { OnErr result (out.new.items ≡ out.old.items) }
 {
-    let quoted = quote(alloc, name)?;
-    let words = since_text(alloc, answer)?;
-    write!(out, "since {quoted} at {r}: {words}\n")
+    let mut back = format!(in alloc; " at {r}: ")?;
+    push_changes(&mut back, answer)?;
+    back.push_str("\n")?;
+    push_around(alloc, out, "since ", name, back.as_str())
 }
 
-fn starts_text(alloc: Global, starts: &[u64]) -> Result<String, AllocError>
-    ensures { IfOk result (λ s. string_bytes s ≡ starts_words starts.now) }
+fn push_starts(out: &mut String, starts: &[u64]) -> Result<(), AllocError>
+    ensures { OnOk result (string_bytes out.new ≡ string_bytes out.old ++ starts_words starts.now) }
 {
     let [first, others @ ..] = starts else {
-        return String::from_str(alloc, "none");
+        return out.push_str("none");
     };
-    let mut text = format!(in alloc; "{first}")?;
+    write!(out, "{first}")?;
     for start in others {
-        write!(text, " {start}")?;
+        write!(out, " {start}")?;
     }
-    Ok(text)
+    Ok(())
 }
 
-fn find_text(alloc: Global, answer: &FindAnswer) -> Result<String, AllocError>
-    ensures { IfOk result (λ s. string_bytes s ≡ find_words answer.now) }
+fn push_found(out: &mut String, answer: &FindAnswer) -> Result<(), AllocError>
+    ensures { OnOk result (string_bytes out.new ≡ string_bytes out.old ++ find_words answer.now) }
 {
     match answer {
-        FindAnswer::Starts(starts) => starts_text(alloc, starts.as_slice()),
-        FindAnswer::EmptyNeedle => String::from_str(alloc, "empty needle"),
+        FindAnswer::Starts(starts) => push_starts(out, starts.as_slice()),
+        FindAnswer::EmptyNeedle => out.push_str("empty needle"),
     }
 }
 
@@ -371,13 +399,19 @@ fn query_word(answer: &QueryAnswer) -> &'static str
     }
 }
 
-fn query_text(alloc: Global, answer: &QueryAnswer) -> Result<String, AllocError>
-    ensures { IfOk result (λ s. string_bytes s ≡ query_words answer.now) }
+fn push_answer(alloc: Global, out: &mut String, answer: &QueryAnswer) -> Result<(), AllocError>
+    ensures { OnOk result (string_bytes out.new ≡ string_bytes out.old ++ query_words answer.now) }
 {
     match answer {
-        QueryAnswer::Find(found) => find_text(alloc, found),
-        QueryAnswer::Point(point) => point_text(alloc, *point),
-        QueryAnswer::Offset(offset) => offset_text(alloc, *offset),
+        QueryAnswer::Find(found) => push_found(out, found),
+        QueryAnswer::Point(point) => {
+            let words = point_text(alloc, *point)?;
+            out.push_str(words.as_str())
+        }
+        QueryAnswer::Offset(offset) => {
+            let words = offset_text(alloc, *offset)?;
+            out.push_str(words.as_str())
+        }
     }
 }
 
@@ -392,8 +426,9 @@ fn push_query(
     ensures { OnOk result (string_bytes out.new ≡ string_bytes out.old ++ query_line number applied answer.now) }
 {
     let word = query_word(answer);
-    let words = query_text(alloc, answer)?;
-    write!(out, "{word} {number} at {applied}: {words}\n")
+    write!(out, "{word} {number} at {applied}: ")?;
+    push_answer(alloc, out, answer)?;
+    out.push_str("\n")
 }
 
 #[tactic(auto, unfolding(crate::specs::Report::replica_line))]
@@ -465,59 +500,21 @@ fn push_checked(
 }
 
 #[tactic(auto, unfolding(crate::specs::Report::final_line))]
-fn push_final(alloc: Global, out: &mut String, r: u16, text: &str) -> Result<(), AllocError>
-    ensures { OnOk result (string_bytes out.new ≡ string_bytes out.old ++ final_line r text.now) }
+fn push_final(alloc: Global, out: &mut Vec<u8>, r: u16, text: &str) -> Result<(), AllocError>
+    ensures ok { OnOk result (out.new.items ≡ out.old.items ++ final_line r text.now) }
+    ensures err { OnErr result (out.new.items ≡ out.old.items) }
 {
-    let quoted = quote(alloc, text)?;
-    write_final(out, r, quoted.as_str())
+    let front = format!(in alloc; "final {r}: ")?;
+    push_around(alloc, out, front.as_str(), text, "\n")
 }
 
-fn write_final(out: &mut String, r: u16, quoted: &str) -> Result<(), AllocError>
-    ensures { OnOk result (string_bytes out.new ≡ string_bytes out.old ++ final_line_with r quoted.now) }
-{
-    write!(out, "final {r}: {quoted}\n")
-}
-
+// A line at the end of a report.
 #[tactic(auto, unfolding(crate::specs::Report::line_text))]
-fn push_line(alloc: Global, out: &mut String, line: &Report) -> Result<(), AllocError>
+fn push_end(alloc: Global, out: &mut String, line: &Report) -> Result<(), AllocError>
+    requires { is_end line.now ≡ true }
     ensures { OnOk result (string_bytes out.new ≡ string_bytes out.old ++ line_text line.now) }
 {
     match line {
-        Report::Made { number, stamp } => push_made(out, *number, *stamp),
-        Report::EditRefused { number, fault } => push_refused(alloc, out, *number, *fault),
-        Report::UndoRefused { number, fault } => push_refused_undo(alloc, out, *number, *fault),
-        Report::Unnamed { number, named } => push_unnamed(out, *number, *named),
-        Report::Settled { replica, count } => push_settled(out, *replica, *count),
-        Report::Give {
-            number,
-            replica,
-            answer,
-        } => push_give(alloc, out, *number, *replica, *answer),
-        Report::Text {
-            replica,
-            bytes,
-            row,
-            column,
-            rows,
-            text,
-        } => push_text(alloc, out, *replica, *bytes, *row, *column, *rows, text),
-        Report::Anchor { name, answer } => push_anchor(alloc, out, name.as_str(), *answer),
-        Report::Where {
-            name,
-            replica,
-            answer,
-        } => push_where(alloc, out, name.as_str(), *replica, *answer),
-        Report::Mark { name } => push_mark(alloc, out, name.as_str()),
-        Report::Since {
-            name,
-            replica,
-            answer,
-        } => push_since(alloc, out, name.as_str(), *replica, answer),
-        Report::Query {
-            number,
-            applied,
-            answer,
-        } => push_query(alloc, out, *number, *applied, answer),
         Report::Replica {
             replica,
             bytes,
@@ -531,27 +528,88 @@ fn push_line(alloc: Global, out: &mut String, line: &Report) -> Result<(), Alloc
             stamp,
             fault,
         } => push_refused_op(alloc, out, *replica, *stamp, *fault),
-        Report::Final { replica, text } => push_final(alloc, out, *replica, text.as_str()),
         Report::Checked {
             lines,
             replicas,
             operations,
             queries,
         } => push_checked(out, *lines, *replicas, *operations, *queries),
+        _ => unreachable!(),
     }
 }
 
-/// Writes the line, with its line feed, at the end of `out`. Linear in the line.
-///
-/// # Errors
-///
-/// `OutOfMemory`; then nothing was written.
-pub fn write_line(alloc: Global, out: &mut Vec<u8>, line: &Report) -> Result<(), AllocError>
+// A line with no JSON string in it.
+#[tactic(auto, unfolding(crate::specs::Report::line_text))]
+fn push_plain(alloc: Global, out: &mut String, line: &Report) -> Result<(), AllocError>
+    requires { has_string line.now ≡ false }
+    ensures { OnOk result (string_bytes out.new ≡ string_bytes out.old ++ line_text line.now) }
+{
+    match line {
+        Report::Made { number, stamp } => push_made(out, *number, *stamp),
+        Report::EditRefused { number, fault } => push_refused(alloc, out, *number, *fault),
+        Report::UndoRefused { number, fault } => push_refused_undo(alloc, out, *number, *fault),
+        Report::Unnamed { number, named } => push_unnamed(out, *number, *named),
+        Report::Settled { replica, count } => push_settled(out, *replica, *count),
+        Report::Give {
+            number,
+            replica,
+            answer,
+        } => push_give(alloc, out, *number, *replica, *answer),
+        Report::Query {
+            number,
+            applied,
+            answer,
+        } => push_query(alloc, out, *number, *applied, answer),
+        _ => push_end(alloc, out, line),
+    }
+}
+
+// Writes a line with no JSON string in it. On want of memory nothing is written.
+fn write_plain(alloc: Global, out: &mut Vec<u8>, line: &Report) -> Result<(), AllocError>
+    requires { has_string line.now ≡ false }
     ensures ok { OnOk result (out.new.items ≡ out.old.items ++ line_text line.now) }
     ensures err { OnErr result (out.new.items ≡ out.old.items) }
 {
     let mut text = String::new(alloc);
-    push_line(alloc, &mut text, line)?;
-    out.extend_from_slice(text.as_bytes())?;
-    Ok(())
+    push_plain(alloc, &mut text, line)?;
+    out.extend_from_slice(text.as_bytes())
+}
+
+/// Writes the line, with its line feed, at the end of `out`. Linear in the line. A text in it is copied once, into `out`.
+///
+/// # Errors
+///
+/// `OutOfMemory`; then nothing was written.
+#[tactic(auto, unfolding(crate::specs::Report::line_text, crate::specs::Report::text_line))]
+pub fn write_line(alloc: Global, out: &mut Vec<u8>, line: &Report) -> Result<(), AllocError>
+    ensures ok { OnOk result (out.new.items ≡ out.old.items ++ line_text line.now) }
+    ensures err { OnErr result (out.new.items ≡ out.old.items) }
+{
+    match line {
+        Report::Text {
+            replica,
+            bytes,
+            row,
+            column,
+            rows,
+            text,
+        } => {
+            let front = text_front(alloc, *replica, *bytes, *row, *column, *rows)?;
+            push_around(alloc, out, front.as_str(), text.as_str(), "\n")
+        }
+        Report::Anchor { name, answer } => push_anchor(alloc, out, name.as_str(), *answer),
+        Report::Where {
+            name,
+            replica,
+            answer,
+        } => push_where(alloc, out, name.as_str(), *replica, *answer),
+        Report::Mark { name } => push_mark(alloc, out, name.as_str()),
+        Report::Since {
+            name,
+            replica,
+            answer,
+        } => push_since(alloc, out, name.as_str(), *replica, answer),
+        Report::Final { replica, text } => push_final(alloc, out, *replica, text.as_str()),
+        _ => write_plain(alloc, out, line),
+    }
 }

@@ -1,7 +1,0 @@
-use Rattle.std.proofs.Common.{◌≡◌, ◌++◌, drop, codes, string_bytes}
-use Rattle.std.specs.List.{flat_map, join_by}
-use Rattle.session_lines.specs.Report.{edit_words}
-use Rattle.session_lines.proofs.text.edits_text.Given as goal
-
-abbrev pub invariant-loop-edit : goal.invariant-loop-edit
-invariant-loop-edit l = string_bytes l.text ++ flat_map (λ e. codes ", " ++ edit_words e) (drop l.edit-index l.others) ≡ join_by edit_words (codes ", ") l.edits
