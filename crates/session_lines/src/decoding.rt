@@ -107,7 +107,8 @@ fn line_of(
     line: &[u8],
 ) -> Result<SessionLine, LineFault>
     ensures ok { IfOk result (λ l. line_of replicas.now before.now line.now ≡ Ok l) }
-    ensures bad { (w : Word) → result ≡ Err (LineFault.Bad w) → line_of replicas.now before.now line.now ≡ Err w }
+    ensures bad { (w : Word) → result ≡ Err (LineFault.Bad w)
+        → line_of replicas.now before.now line.now ≡ Err w }
 {
     let value = value_of(alloc, line)?;
     let Some(line) = shaped(alloc, &value)? else {
@@ -121,7 +122,8 @@ fn line_of(
 
 fn rest_of(alloc: Global, replicas: &[u16], text: &[u8]) -> Result<SessionLines, DecodeFault>
     ensures ok { IfOk result (λ ls. rest_of replicas.now [] (lines_of text.now) ≡ Ok ls) }
-    ensures fault { IfErr result (λ e. (rest_of replicas.now [] (lines_of text.now) ≡ Err e) ⊎ (e ≡ DecodeFault.OutOfMemory)) }
+    ensures fault { IfErr result (λ e. (rest_of replicas.now [] (lines_of text.now) ≡ Err e)
+        ⊎ (e ≡ DecodeFault.OutOfMemory)) }
 {
     let mut lines = EarlierLines::new(alloc);
     let mut rest = text;
@@ -146,7 +148,8 @@ fn rest_of(alloc: Global, replicas: &[u16], text: &[u8]) -> Result<SessionLines,
 fn session_of(alloc: Global, input: &[u8]) -> Result<Session, DecodeFault>
     requires { 0 < length input.now }
     ensures ok { IfOk result (λ s. session_of (lines_of input.now) ≡ Ok s) }
-    ensures fault { IfErr result (λ e. (session_of (lines_of input.now) ≡ Err e) ⊎ (e ≡ DecodeFault.OutOfMemory)) }
+    ensures fault { IfErr result (λ e. (session_of (lines_of input.now) ≡ Err e)
+        ⊎ (e ≡ DecodeFault.OutOfMemory)) }
 {
     let (line, after) = first_line(input);
     match header_of(alloc, line) {
@@ -176,8 +179,11 @@ fn session_of(alloc: Global, input: &[u8]) -> Result<Session, DecodeFault>
 pub fn decode(alloc: Global, input: &[u8]) -> Result<Session, DecodeFault>
     ensures ok { IfOk result (λ s. decoded input.now ≡ Ok s) }
     ensures session { IfOk result (λ s. IsSession (length input.now) s) }
-    ensures lines { 1048576 < length (lines_of input.now) → result ≡ Err (DecodeFault.Lines (length (lines_of input.now))) }
-    ensures fault { IfErr result (λ e. (decoded input.now ≡ Err e) ⊎ ((0 < length input.now) × (length (lines_of input.now) ≤ 1048576) × (e ≡ DecodeFault.OutOfMemory))) }
+    ensures lines { 1048576 < length (lines_of input.now)
+        → result ≡ Err (DecodeFault.Lines (length (lines_of input.now))) }
+    ensures fault { IfErr result (λ e. (decoded input.now ≡ Err e)
+        ⊎ ((0 < length input.now) × (length (lines_of input.now) ≤ 1048576)
+        × (e ≡ DecodeFault.OutOfMemory))) }
 {
     if input.is_empty() {
         return Err(DecodeFault::Bad {

@@ -39,7 +39,9 @@ fn keep_name(
     names: &mut BTreeSet<String>,
     name: Option<&str>,
 ) -> Result<(), AllocError>
-    ensures { OnOk result ((q : List ℕ) → contains_text names.new q ≡ (contains_text names.old q || is_name q (option_copied name.entry))) }
+    ensures { OnOk result ((q : List ℕ)
+        → contains_text names.new q
+        ≡ (contains_text names.old q || is_name q (option_copied name.entry))) }
 {
     if let Some(name) = name {
         names.insert(String::from_str(alloc, name)?)?;

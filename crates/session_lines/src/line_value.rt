@@ -28,7 +28,8 @@ impl From<AllocError> for LineFault {
 #[tactic(auto, unfolding(crate::specs::Json::value_of))]
 pub fn value_of(alloc: Global, line: &[u8]) -> Result<Value, LineFault>
     ensures ok { IfOk result (λ v. value_of line.now ≡ Some (view v)) }
-    ensures bad { (w : Word) → result ≡ Err (LineFault.Bad w) → (w ≡ Word.Json) × (value_of line.now ≡ None) }
+    ensures bad { (w : Word) → result ≡ Err (LineFault.Bad w)
+        → (w ≡ Word.Json) × (value_of line.now ≡ None) }
 {
     match Value::from_slice(alloc, line) {
         Ok(value) => Ok(value),

@@ -134,7 +134,8 @@ pub fn pieces_of(alloc: Global, value: &Value) -> Result<Option<Pieces>, AllocEr
 }
 
 fn entries_from(alloc: Global, members: &[Value]) -> Result<Option<Vec<(u16, u32)>>, AllocError>
-    ensures { IfOk result (λ o. option_map (λ v. v.items) o ≡ all_of entry_of (map view members.now)) }
+    ensures { IfOk result (λ o. option_map (λ v. v.items) o
+        ≡ all_of entry_of (map view members.now)) }
 {
     let mut entries = Vec::new(alloc);
     for member in members {
@@ -163,8 +164,10 @@ fn halved(entries: &[(u16, u32)]) -> (&[(u16, u32)], &[(u16, u32)])
     requires several { 2 ≤ length entries.now }
     ensures front { AreEntries result.0.now }
     ensures back { AreEntries result.1.now }
-    ensures shorter { (length result.0.now < length entries.now) × (length result.1.now < length entries.now) }
-    ensures whole { joined (joined [] result.0.now) (joined [] result.1.now) ≡ joined [] entries.now }
+    ensures shorter { (length result.0.now < length entries.now)
+        × (length result.1.now < length entries.now) }
+    ensures whole { joined (joined [] result.0.now) (joined [] result.1.now)
+        ≡ joined [] entries.now }
 {
     entries.split_at(entries.len() / 2)
 }

@@ -33,7 +33,8 @@ fn push_parts(
     text: &str,
     back: &str,
 ) -> Result<(), AllocError>
-    ensures ok { OnOk result (out.new.items ≡ out.old.items ++ (front.now ++ (quoted text.now ++ back.now))) }
+    ensures ok { OnOk result (out.new.items
+        ≡ out.old.items ++ (front.now ++ (quoted text.now ++ back.now))) }
     ensures kept { take (length out.old.items) out.new.items ≡ out.old.items }
 {
     out.extend_from_slice(front.as_bytes())?;
@@ -49,7 +50,8 @@ fn push_around(
     text: &str,
     back: &str,
 ) -> Result<(), AllocError>
-    ensures ok { OnOk result (out.new.items ≡ out.old.items ++ (front.now ++ (quoted text.now ++ back.now))) }
+    ensures ok { OnOk result (out.new.items
+        ≡ out.old.items ++ (front.now ++ (quoted text.now ++ back.now))) }
     ensures err { OnErr result (out.new.items ≡ out.old.items) }
 {
     let start = out.len();
@@ -139,7 +141,8 @@ fn push_refused_undo(
     n: u64,
     fault: UndoFault,
 ) -> Result<(), AllocError>
-    ensures { OnOk result (string_bytes out.new ≡ string_bytes out.old ++ refused_undo_line n fault) }
+    ensures { OnOk result (string_bytes out.new
+        ≡ string_bytes out.old ++ refused_undo_line n fault) }
 {
     let words = undo_fault_text(alloc, fault)?;
     write!(out, "{n}: {words}\n")
@@ -423,7 +426,8 @@ fn push_query(
     applied: u64,
     answer: &QueryAnswer,
 ) -> Result<(), AllocError>
-    ensures { OnOk result (string_bytes out.new ≡ string_bytes out.old ++ query_line number applied answer.now) }
+    ensures { OnOk result (string_bytes out.new
+        ≡ string_bytes out.old ++ query_line number applied answer.now) }
 {
     let word = query_word(answer);
     write!(out, "{word} {number} at {applied}: ")?;
@@ -441,7 +445,8 @@ fn push_replica(
     waiting: u64,
     refused: u64,
 ) -> Result<(), AllocError>
-    ensures { OnOk result (string_bytes out.new ≡ string_bytes out.old ++ replica_line r bytes rows applied waiting refused) }
+    ensures { OnOk result (string_bytes out.new
+        ≡ string_bytes out.old ++ replica_line r bytes rows applied waiting refused) }
 {
     write_counts(out, r, bytes, rows, applied)?;
     write_waits(out, waiting, refused)
@@ -455,7 +460,8 @@ fn write_counts(
     rows: u64,
     applied: u64,
 ) -> Result<(), AllocError>
-    ensures { OnOk result (string_bytes out.new ≡ string_bytes out.old ++ counts_words r bytes rows applied) }
+    ensures { OnOk result (string_bytes out.new
+        ≡ string_bytes out.old ++ counts_words r bytes rows applied) }
 {
     write!(
         out,
@@ -464,7 +470,8 @@ fn write_counts(
 }
 
 fn write_waits(out: &mut String, waiting: u64, refused: u64) -> Result<(), AllocError>
-    ensures { OnOk result (string_bytes out.new ≡ string_bytes out.old ++ waits_words waiting refused) }
+    ensures { OnOk result (string_bytes out.new
+        ≡ string_bytes out.old ++ waits_words waiting refused) }
 {
     write!(out, "{waiting} waiting, {refused} refused\n")
 }
@@ -477,7 +484,8 @@ fn push_refused_op(
     stamp: Lamport,
     fault: OpFault,
 ) -> Result<(), AllocError>
-    ensures { OnOk result (string_bytes out.new ≡ string_bytes out.old ++ refused_op_line r stamp fault) }
+    ensures { OnOk result (string_bytes out.new
+        ≡ string_bytes out.old ++ refused_op_line r stamp fault) }
 {
     let words = op_fault_text(alloc, fault)?;
     write!(out, "refused {r}: {stamp} {words}\n")
@@ -491,7 +499,8 @@ fn push_checked(
     operations: u64,
     queries: u64,
 ) -> Result<(), AllocError>
-    ensures { OnOk result (string_bytes out.new ≡ string_bytes out.old ++ checked_line lines replicas operations queries) }
+    ensures { OnOk result (string_bytes out.new
+        ≡ string_bytes out.old ++ checked_line lines replicas operations queries) }
 {
     write!(
         out,
