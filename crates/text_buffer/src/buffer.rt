@@ -76,8 +76,25 @@ impl Buffer {
                 adds: len,
             });
         }
+        Ok(Buffer::over_text(alloc, replica, base, limits)?)
+    }
+
+    // The buffer over a text that the limits let in.
+    fn over_text(
+        alloc: Global,
+        replica: u16,
+        base: &str,
+        limits: Limits,
+    ) -> Result<Buffer, AllocError>
+        requires least { 1 ≤ replica }
+        requires greatest { replica ≤ 1023 }
+        requires bytes { limits.bytes ≤ 2 ^ 40 }
+        requires entries { limits.entries ≤ 2 ^ 40 - 1 }
+        requires room { length base.now ≤ limits.bytes }
+        ensures { IfOk result (λ b. b ≡ over_base replica base.now limits) }
+    {
         let ready = Base::over(alloc, base)?;
-        Ok(Buffer::begin(alloc, replica, &ready, limits)?)
+        Buffer::begin(alloc, replica, &ready, limits)
     }
 
     /// The buffer of a replica, 1 to 1023, over a base that was made ready, with limits of at most 2^40 bytes and 2^40 - 1 entries. All

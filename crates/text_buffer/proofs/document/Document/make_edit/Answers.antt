@@ -26,3 +26,6 @@ returns-clause-new c =
 
 pub same-self-in_err-kept : goal.same-self-in_err-kept
 same-self-in_err-kept c = refl
+
+pub same-self-in_err-made : goal.same-self-in_err-made
+same-self-in_err-made c = refl
