@@ -2,6 +2,7 @@ pub mod Moved
 pub mod Buffers
 pub mod Ends
 pub mod Steps
+pub mod Since
 pub mod QueryLines
 pub mod Growth
 pub mod Replies
@@ -11,9 +12,10 @@ pub mod Leaving
 pub mod Opening
 pub mod Crossing
 pub mod Places
-pub mod OperationLines
+pub mod Finding
+pub mod Giving
 pub mod Named
-pub mod Replicas
+pub mod Reports
 pub mod Outcome
 pub mod Sent
 pub mod Rounds

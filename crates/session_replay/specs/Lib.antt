@@ -11,3 +11,4 @@ pub mod Making
 pub mod MakingOn
 pub mod Replay
 pub mod Laws
+pub mod Found

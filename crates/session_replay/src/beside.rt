@@ -1,5 +1,5 @@
 // A session whose queries are answered by workers beside the editor.
-ghost use Rattle.std.specs.Prelude.{◌≡◌, ◌≤◌, ◌<◌, ◌+◌, [], ◌∷◌, ◌++◌, List, length, map, IfOk, OnErr, OnOk, All};
+ghost use Rattle.std.specs.Prelude.{◌≡◌, ◌≤◌, ◌<◌, ◌+◌, [], ◌∷◌, ◌++◌, List, length, map, IfOk, OnErr, OnOk, All, Some};
 ghost use Rattle.std.specs.List.{flat_map};
 ghost use Rattle.session_lines.specs.Report.{report_text};
 ghost use Rattle.session_lines.specs.Session.{IsSession, query_count};
@@ -12,7 +12,7 @@ ghost use Rattle.query_dispatch.specs.Settled.{AreGathered, HaveWorked, IsPast};
 ghost use Rattle.query_dispatch.specs.Shown.{AreLevel, columns, rows_of, shown_lists};
 ghost use Rattle.query_dispatch.specs.States.{DispatcherState};
 ghost use Rattle.session_replay.specs.Beside.{CanEdit, HasEdited, HasLeft, IsAsking, KeepsEnds, asks_among, histories, line_of};
-ghost use Rattle.session_replay.specs.Queries.{IsReport, plain_answer, queries_from, query_at};
+ghost use Rattle.session_replay.specs.Queries.{IsReport, plain_answer, queries_from, query_at, query_with};
 ghost use Rattle.session_replay.specs.Work.{after_all, all_events, at_end, events, step};
 ghost use Rattle.session_replay.specs.Working.{state_of};
 ghost use Rattle.session_replay.specs.declared.queries.Question.{Question};
@@ -51,17 +51,43 @@ impl Editor {
         publishers: &mut Publishers,
         line: &SessionLine,
     ) -> Result<(), AllocError>
-        requires asking { (asks : List (Ask Question)) × IsAsking self.old.progress.replicas.items asks self.old.dispatcher publishers.old }
-        requires room { self.old.dispatcher.count + query_count (line.now ∷ []) ≤ self.old.dispatcher.limit }
-        ensures same { (self.new.workers ≡ self.old.workers) × (self.new.progress ≡ self.old.progress) }
-        ensures ends { KeepsEnds self.old.dispatcher publishers.old self.new.dispatcher publishers.new }
-        ensures asking { OnOk result ((asks : List (Ask Question)) → IsAsking self.old.progress.replicas.items asks self.old.dispatcher publishers.old
-            → IsAsking self.old.progress.replicas.items (asks ++ asks_among self.old.progress.replicas.items (query_at (length asks + 1) line.now (state_of self.old.progress))) self.new.dispatcher publishers.new) }
+        requires asking { (asks : List (Ask Question))
+            × IsAsking self.old.progress.replicas asks self.old.dispatcher publishers.old }
+        requires room { self.old.dispatcher.count + query_count (line.now ∷ [])
+            ≤ self.old.dispatcher.limit }
+        ensures same { (self.new.workers ≡ self.old.workers)
+            × (self.new.progress ≡ self.old.progress) }
+        ensures ends { KeepsEnds self.old.dispatcher publishers.old self.new.dispatcher
+            publishers.new }
+        ensures asking { OnOk result ((asks : List (Ask Question)) → IsAsking self.old.progress.replicas asks self.old.dispatcher publishers.old
+            → IsAsking self.old.progress.replicas (asks ++ asks_among self.old.progress.replicas (query_at (length asks + 1) line.now (state_of self.old.progress))) self.new.dispatcher publishers.new) }
         ensures err { OnErr result (self.new.dispatcher ≡ self.old.dispatcher) }
     {
         let Some((id, question)) = question_of(alloc, line)? else {
             return Ok(());
         };
+        self.put(rt, publishers, id, question)
+    }
+
+    /// Puts a query of the replica with that id, if it is there.
+    fn put<R: Wait>(
+        &mut self,
+        rt: &R,
+        publishers: &mut Publishers,
+        id: u16,
+        question: Question,
+    ) -> Result<(), AllocError>
+        requires asking { (asks : List (Ask Question))
+            × IsAsking self.old.progress.replicas asks self.old.dispatcher publishers.old }
+        requires room { self.old.dispatcher.count < self.old.dispatcher.limit }
+        ensures same { (self.new.workers ≡ self.old.workers)
+            × (self.new.progress ≡ self.old.progress) }
+        ensures ends { KeepsEnds self.old.dispatcher publishers.old self.new.dispatcher
+            publishers.new }
+        ensures asking { OnOk result ((asks : List (Ask Question)) → IsAsking self.old.progress.replicas asks self.old.dispatcher publishers.old
+            → IsAsking self.old.progress.replicas (asks ++ asks_among self.old.progress.replicas (query_with (length asks + 1) (state_of self.old.progress) (Some (id, question)))) self.new.dispatcher publishers.new) }
+        ensures err { OnErr result (self.new.dispatcher ≡ self.old.dispatcher) }
+    {
         let Some(place) = self.progress.place_of(id) else {
             return Ok(());
         };
@@ -80,15 +106,22 @@ impl Editor {
         publishers: &mut Publishers,
         line: &SessionLine,
     ) -> Result<(), AllocError>
-        requires asking { (asks : List (Ask Question)) × IsAsking self.old.progress.replicas.items asks self.old.dispatcher publishers.old }
-        requires room { self.old.dispatcher.count + query_count (line.now ∷ []) ≤ self.old.dispatcher.limit }
+        requires asking { (asks : List (Ask Question))
+            × IsAsking self.old.progress.replicas asks self.old.dispatcher publishers.old }
+        requires room { self.old.dispatcher.count + query_count (line.now ∷ [])
+            ≤ self.old.dispatcher.limit }
         ensures same { self.new.workers ≡ self.old.workers }
-        ensures report { OnOk result (self.new.progress.report.items ≡ self.old.progress.report.items ++ report_text (events line.now (state_of self.old.progress))) }
-        ensures state { OnOk result (state_of self.new.progress ≡ step line.now (state_of self.old.progress)) }
-        ensures ends { KeepsEnds self.old.dispatcher publishers.old self.new.dispatcher publishers.new }
-        ensures asking { OnOk result ((asks : List (Ask Question)) → IsAsking self.old.progress.replicas.items asks self.old.dispatcher publishers.old
-            → IsAsking self.new.progress.replicas.items (asks ++ asks_among self.old.progress.replicas.items (query_at (length asks + 1) line.now (state_of self.old.progress))) self.new.dispatcher publishers.new) }
-        ensures err { OnErr result ((asks : List (Ask Question)) × HasAsked self.new.dispatcher asks) }
+        ensures report { OnOk result (self.new.progress.report.items
+            ≡ self.old.progress.report.items
+            ++ report_text (events line.now (state_of self.old.progress))) }
+        ensures state { OnOk result (state_of self.new.progress
+            ≡ step line.now (state_of self.old.progress)) }
+        ensures ends { KeepsEnds self.old.dispatcher publishers.old self.new.dispatcher
+            publishers.new }
+        ensures asking { OnOk result ((asks : List (Ask Question)) → IsAsking self.old.progress.replicas asks self.old.dispatcher publishers.old
+            → IsAsking self.new.progress.replicas (asks ++ asks_among self.old.progress.replicas (query_at (length asks + 1) line.now (state_of self.old.progress))) self.new.dispatcher publishers.new) }
+        ensures err { OnErr result ((asks : List (Ask Question))
+            × HasAsked self.new.dispatcher asks) }
     {
         self.ask(rt, alloc, publishers, line)?;
         self.progress.work_line(alloc, line)?;
@@ -104,15 +137,22 @@ impl Editor {
         publishers: &mut Publishers,
         lines: &[SessionLine],
     ) -> Result<(), AllocError>
-        requires asking { (asks : List (Ask Question)) × IsAsking self.old.progress.replicas.items asks self.old.dispatcher publishers.old }
-        requires room { self.old.dispatcher.count + query_count lines.now ≤ self.old.dispatcher.limit }
+        requires asking { (asks : List (Ask Question))
+            × IsAsking self.old.progress.replicas asks self.old.dispatcher publishers.old }
+        requires room { self.old.dispatcher.count + query_count lines.now
+            ≤ self.old.dispatcher.limit }
         ensures same { self.new.workers ≡ self.old.workers }
-        ensures report { OnOk result (self.new.progress.report.items ≡ self.old.progress.report.items ++ report_text (all_events lines.now (state_of self.old.progress))) }
-        ensures state { OnOk result (state_of self.new.progress ≡ after_all lines.now (state_of self.old.progress)) }
-        ensures ends { KeepsEnds self.old.dispatcher publishers.old self.new.dispatcher publishers.new }
-        ensures asking { OnOk result ((asks : List (Ask Question)) → IsAsking self.old.progress.replicas.items asks self.old.dispatcher publishers.old
-            → IsAsking self.new.progress.replicas.items (asks ++ asks_among self.old.progress.replicas.items (queries_from (length asks + 1) lines.now (state_of self.old.progress))) self.new.dispatcher publishers.new) }
-        ensures err { OnErr result ((asks : List (Ask Question)) × HasAsked self.new.dispatcher asks) }
+        ensures report { OnOk result (self.new.progress.report.items
+            ≡ self.old.progress.report.items
+            ++ report_text (all_events lines.now (state_of self.old.progress))) }
+        ensures state { OnOk result (state_of self.new.progress
+            ≡ after_all lines.now (state_of self.old.progress)) }
+        ensures ends { KeepsEnds self.old.dispatcher publishers.old self.new.dispatcher
+            publishers.new }
+        ensures asking { OnOk result ((asks : List (Ask Question)) → IsAsking self.old.progress.replicas asks self.old.dispatcher publishers.old
+            → IsAsking self.new.progress.replicas (asks ++ asks_among self.old.progress.replicas (queries_from (length asks + 1) lines.now (state_of self.old.progress))) self.new.dispatcher publishers.new) }
+        ensures err { OnErr result ((asks : List (Ask Question))
+            × HasAsked self.new.dispatcher asks) }
     {
         let mut number = 1;
         for line in lines {
@@ -130,11 +170,12 @@ impl Editor {
         alloc: Global,
         publishers: &Publishers,
     ) -> Result<Edited, AllocError>
-        requires asking { (asks : List (Ask Question)) × IsAsking self.progress.replicas.items asks self.dispatcher publishers.now }
+        requires asking { (asks : List (Ask Question))
+            × IsAsking self.progress.replicas asks self.dispatcher publishers.now }
         requires workers { self.workers ≡ publishers.now.workers }
         ensures progress { IfOk result (λ e. e.progress ≡ self.progress) }
-        ensures left { IfOk result (λ e. (asks : List (Ask Question)) → IsAsking self.progress.replicas.items asks self.dispatcher publishers.now
-            → HasLeft self.progress.replicas.items asks self.dispatcher e) }
+        ensures left { IfOk result (λ e. (asks : List (Ask Question)) → IsAsking self.progress.replicas asks self.dispatcher publishers.now
+            → HasLeft self.progress.replicas asks self.dispatcher e) }
     {
         let Editor {
             workers,
@@ -199,8 +240,10 @@ fn tell_workers(
 ) -> Result<Vec<Vec<Told>>, AllocError>
     requires workers { workers ≡ publishers.now.workers }
     requires level { AreLevel publishers.now }
-    ensures pairs { IfOk result (λ v. map told_pairs (map (λ t. t.items) v.items) ≡ columns workers (rows_of publishers.now)) }
-    ensures lists { IfOk result (λ v. All (λ t. told_lists t ≡ shown_lists publishers.now) (map (λ t. t.items) v.items)) }
+    ensures pairs { IfOk result (λ v. map told_pairs (map (λ t. t.items) v.items)
+        ≡ columns workers (rows_of publishers.now)) }
+    ensures lists { IfOk result (λ v. All (λ t. told_lists t ≡ shown_lists publishers.now)
+        (map (λ t. t.items) v.items)) }
 {
     let mut tolds = Vec::new(alloc);
     for worker in 0..workers {
@@ -237,11 +280,11 @@ fn gather<R: Threads + Sync>(
     edited: Edited,
     dones: Vec<Done<Question, QueryAnswer>>,
 ) -> Result<Vec<u8>, AllocError>
-    requires { (asks : List (Ask Question)) × (d : DispatcherState Question) × (desks : List DeskState) × HasLeft edited.progress.replicas.items asks d edited
-        × All (IsPast (histories edited.progress.replicas.items)) asks × AreEnds d.inboxes desks × HaveWorked plain_answer desks dones.items }
-    ensures { (asks : List (Ask Question)) → (d : DispatcherState Question) → HasLeft edited.progress.replicas.items asks d edited
-        → IfOk result (λ v. (answers : List (Answer Question QueryAnswer)) × AreGathered plain_answer (length d.inboxes) (histories edited.progress.replicas.items) asks answers
-        × (v.items ≡ (edited.progress.report.items ++ report_text (map line_of answers)) ++ report_text (flat_map at_end edited.progress.replicas.items))) }
+    requires { (asks : List (Ask Question)) × (d : DispatcherState Question) × (desks : List DeskState) × HasLeft edited.progress.replicas asks d edited
+        × All (IsPast (histories edited.progress.replicas)) asks × AreEnds d.inboxes desks × HaveWorked plain_answer desks dones.items }
+    ensures { (asks : List (Ask Question)) → (d : DispatcherState Question) → HasLeft edited.progress.replicas asks d edited
+        → IfOk result (λ v. (answers : List (Answer Question QueryAnswer)) × AreGathered plain_answer (length d.inboxes) (histories edited.progress.replicas) asks answers
+        × (v.items ≡ (edited.progress.report.items ++ report_text (map line_of answers)) ++ report_text (flat_map at_end edited.progress.replicas))) }
 {
     let Edited {
         progress,
@@ -291,7 +334,8 @@ fn replay_beside<R: Threads + Wait + Sync, G: Gate>(
 ) -> Result<Vec<u8>, AllocError>
     requires session { IsSession 67108864 session.now }
     requires some { 1 ≤ workers }
-    requires none { (publishers.old.workers ≡ workers) × (publishers.old.list ≡ []) × (publishers.old.sizes ≡ []) }
+    requires none { (publishers.old.workers ≡ workers) × (publishers.old.list ≡ [])
+        × (publishers.old.sizes ≡ []) }
     ensures { IfOk result (λ v. IsReport session.now workers v.items) }
 {
     let progress = Progress::new(alloc, session.replicas.as_slice(), session.base.as_str())?;

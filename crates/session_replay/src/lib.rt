@@ -14,6 +14,7 @@ mod outside;
 mod queries;
 mod replay;
 mod replica;
+mod replicas;
 mod top;
 mod traffic;
 

@@ -56,7 +56,8 @@ impl Making {
 
     /// Gives the replica the operations with these numbers.
     fn give(&mut self, alloc: Global, replica: u16, numbers: &[u64]) -> Result<(), AllocError>
-        ensures { OnOk result (Works self.old self.new self.old.draws (gives_to numbers.now replica)) }
+        ensures { OnOk result (Works self.old self.new self.old.draws
+            (gives_to numbers.now replica)) }
     {
         for number in numbers {
             self.work(
@@ -72,7 +73,8 @@ impl Making {
 
     /// Gives all replicas the operations with these numbers.
     fn give_all(&mut self, alloc: Global, ids: &[u16], numbers: &[u64]) -> Result<(), AllocError>
-        ensures { OnOk result (Works self.old self.new self.old.draws (flat_map (gives_to numbers.now) ids.now)) }
+        ensures { OnOk result (Works self.old self.new self.old.draws
+            (flat_map (gives_to numbers.now) ids.now)) }
     {
         for id in ids {
             self.give(alloc, *id, numbers)?;
@@ -96,7 +98,8 @@ impl Making {
     fn give_last(&mut self, alloc: Global, ids: &[u16], number: u64) -> Result<(), AllocError>
         requires first { 0 < number }
         requires ids { ids.now ≡ ids_to (length ids.now) }
-        ensures { OnOk result (Works self.old self.new self.old.draws (gives_behind (length ids.now) number)) }
+        ensures { OnOk result (Works self.old self.new self.old.draws
+            (gives_behind (length ids.now) number)) }
     {
         if number % TURNS != 0 {
             return Ok(());
@@ -126,8 +129,13 @@ impl Making {
         requires few { length ids.now < 2 ^ 16 }
         requires ids { ids.now ≡ ids_to (length ids.now) }
         requires edits { edits < 2 ^ 32 }
-        ensures lines { OnOk result (self.new.lines.items ≡ self.old.lines.items ++ rounds_from after_all length_at (length ids.now) edits 1 self.old.draws (worked self.old)) }
-        ensures state { OnOk result (worked self.new ≡ after_all (rounds_from after_all length_at (length ids.now) edits 1 self.old.draws (worked self.old)) (worked self.old)) }
+        ensures lines { OnOk result (self.new.lines.items
+            ≡ self.old.lines.items
+            ++ rounds_from after_all length_at (length ids.now) edits 1 self.old.draws
+            (worked self.old)) }
+        ensures state { OnOk result (worked self.new
+            ≡ after_all (rounds_from after_all length_at (length ids.now) edits 1 self.old.draws
+            (worked self.old)) (worked self.old)) }
     {
         for done in 0..edits {
             self.work_round(alloc, ids, 1 + done)?;
@@ -137,7 +145,8 @@ impl Making {
 
     /// The summary of what was made.
     fn summary(&self, alloc: Global) -> Result<Vec<u8>, AllocError>
-        ensures { IfOk result (λ v. v.items ≡ summary_with (length self.now.lines.items) (worked self.now)) }
+        ensures { IfOk result (λ v. v.items
+            ≡ summary_with (length self.now.lines.items) (worked self.now)) }
     {
         let mut out = Vec::new(alloc);
         let lines = 1 + self.lines.len() as u64;

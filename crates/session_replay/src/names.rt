@@ -18,7 +18,8 @@ pub fn keep<V: Drop>(
     name: &Text,
     value: V,
 ) -> Result<(), AllocError>
-    ensures { OnOk result (by_bytes names.new.entries ≡ with_name name.now (Some value) (by_bytes names.old.entries)) }
+    ensures { OnOk result (by_bytes names.new.entries
+        ≡ with_name name.now (Some value) (by_bytes names.old.entries)) }
 {
     names.insert(String::from_str(alloc, name.as_str())?, value)?;
     Ok(())
@@ -31,13 +32,6 @@ pub fn find<'a, V>(names: &'a BTreeMap<String, V>, name: &Text) -> Option<&'a V>
     names.get(name.as_str())
 }
 
-/// An equal text.
-pub fn copy_of(alloc: Global, name: &Text) -> Result<Text, AllocError>
-    ensures { IfOk result (λ n. n ≡ name.now) }
-{
-    Ok(Text::new(String::from_str(alloc, name.as_str())?))
-}
-
 /// Keeps the anchor that was made, if one was, and tells what came of it.
 pub fn keep_anchor(
     alloc: Global,
@@ -46,7 +40,8 @@ pub fn keep_anchor(
     made: Result<Anchor, PlaceFault>,
 ) -> Result<AnchorAnswer, AllocError>
     ensures answer { IfOk result (λ a. a ≡ anchor_answer (result_err made)) }
-    ensures anchors { OnOk result (by_bytes anchors.new.entries ≡ with_name name.now (result_ok made) (by_bytes anchors.old.entries)) }
+    ensures anchors { OnOk result (by_bytes anchors.new.entries
+        ≡ with_name name.now (result_ok made) (by_bytes anchors.old.entries)) }
 {
     match made {
         Ok(anchor) => {

@@ -11,7 +11,6 @@ ghost use Rattle.session_replay.specs.Working.{state_of};
 ghost use Rattle.session_replay.specs.Queries.{answer_line, count_of, find_answer, offset_answer, place_answer, plain_line, point_answer, query_at, question_of};
 ghost use Rattle.session_replay.specs.declared.queries.Question.TheVariants.{OffsetOf, PointOf, StartsOf};
 
-use crate::names;
 use crate::replay::Progress;
 use op_model::Text;
 use query_workers::Query;
@@ -82,7 +81,7 @@ pub fn question_of(alloc: Global, line: &SessionLine) -> Result<Option<(u16, Que
         SessionLine::Mark { .. } => Ok(None),
         SessionLine::Since { .. } => Ok(None),
         SessionLine::Find { replica, needle } => {
-            let needle = names::copy_of(alloc, needle)?;
+            let needle = needle.copy(alloc)?;
             Ok(Some((*replica, Question::StartsOf(needle))))
         }
         SessionLine::Point { replica, offset } => {
@@ -199,7 +198,8 @@ fn find_line(
     needle: &str,
     snapshot: &Snapshot,
 ) -> Result<Report, AllocError>
-    ensures { IfOk result (λ line. line ≡ answer_line number (count_of snapshot.now) (StartsOf needle.now) (text snapshot.now)) }
+    ensures { IfOk result (λ line. line
+        ≡ answer_line number (count_of snapshot.now) (StartsOf needle.now) (text snapshot.now)) }
 {
     let answer = find_answer(alloc, snapshot.text(), needle)?;
     Ok(query_line(number, QueryAnswer::Find(answer), snapshot))
@@ -207,7 +207,8 @@ fn find_line(
 
 // The point at a byte offset of the snapshot's text.
 fn point_line(number: u64, offset: u64, snapshot: &Snapshot) -> Report
-    ensures { result ≡ answer_line number (count_of snapshot.now) (PointOf offset) (text snapshot.now) }
+    ensures { result ≡ answer_line number (count_of snapshot.now) (PointOf offset)
+        (text snapshot.now) }
 {
     let answer = point_answer(snapshot.text(), offset);
     query_line(number, QueryAnswer::Point(answer), snapshot)
@@ -215,7 +216,8 @@ fn point_line(number: u64, offset: u64, snapshot: &Snapshot) -> Report
 
 // The byte offset at a point of the snapshot's text.
 fn offset_line(number: u64, point: Point, snapshot: &Snapshot) -> Report
-    ensures { result ≡ answer_line number (count_of snapshot.now) (OffsetOf point) (text snapshot.now) }
+    ensures { result ≡ answer_line number (count_of snapshot.now) (OffsetOf point)
+        (text snapshot.now) }
 {
     let answer = offset_answer(snapshot.text(), point);
     query_line(number, QueryAnswer::Offset(answer), snapshot)
@@ -229,7 +231,8 @@ impl Progress {
         number: u64,
         line: &SessionLine,
     ) -> Result<Option<Report>, AllocError>
-        ensures { IfOk result (λ r. option_to_list r ≡ map plain_line (query_at number line.now (state_of self.now))) }
+        ensures { IfOk result (λ r. option_to_list r
+            ≡ map plain_line (query_at number line.now (state_of self.now))) }
     {
         match line {
             SessionLine::Edit { .. } => Ok(None),
@@ -265,7 +268,9 @@ impl Progress {
         id: u16,
         needle: &Text,
     ) -> Result<Option<Report>, AllocError>
-        ensures { IfOk result (λ r. option_to_list r ≡ map plain_line (query_at number (SessionLine.Find id needle.now) (state_of self.now))) }
+        ensures { IfOk result (λ r. option_to_list r
+            ≡ map plain_line (query_at number (SessionLine.Find id needle.now)
+            (state_of self.now))) }
     {
         match self.snapshot_of(id)? {
             Some(snapshot) => Ok(Some(find_line(alloc, number, needle.as_str(), &snapshot)?)),
@@ -274,7 +279,8 @@ impl Progress {
     }
 
     fn point(&self, number: u64, id: u16, offset: u64) -> Result<Option<Report>, AllocError>
-        ensures { IfOk result (λ r. option_to_list r ≡ map plain_line (query_at number (SessionLine.Point id offset) (state_of self.now))) }
+        ensures { IfOk result (λ r. option_to_list r
+            ≡ map plain_line (query_at number (SessionLine.Point id offset) (state_of self.now))) }
     {
         match self.snapshot_of(id)? {
             Some(snapshot) => Ok(Some(point_line(number, offset, &snapshot))),
@@ -283,7 +289,9 @@ impl Progress {
     }
 
     fn offset(&self, number: u64, id: u16, point: Point) -> Result<Option<Report>, AllocError>
-        ensures { IfOk result (λ r. option_to_list r ≡ map plain_line (query_at number (SessionLine.Offset id point.row point.column) (state_of self.now))) }
+        ensures { IfOk result (λ r. option_to_list r
+            ≡ map plain_line (query_at number (SessionLine.Offset id point.row point.column)
+            (state_of self.now))) }
     {
         match self.snapshot_of(id)? {
             Some(snapshot) => Ok(Some(offset_line(number, point, &snapshot))),

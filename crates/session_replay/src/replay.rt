@@ -1,6 +1,6 @@
 // A session worked line by line, and its report.
 ghost use Rattle.std.specs.Prelude.{◌≡◌, ◌≤◌, ◌+◌, ◌^◌, ◌++◌, ◌==◌, [], ◌∷◌, is_some, length, map, ℕ, Some, IfOk, OnOk};
-ghost use Rattle.std.specs.Option.{option_copied, option_map};
+ghost use Rattle.std.specs.Option.{option_copied, option_map, option_to_list};
 ghost use Rattle.std.specs.List.{All, count_by, flat_map, position};
 ghost use Rattle.op_model.specs.Operations.{stamp_of};
 ghost use Rattle.op_model.specs.declared.operation.Operation.TheVariants.{Edit, Undo};
@@ -18,8 +18,9 @@ ghost use Rattle.text_buffer.specs.Buffer.{BufferState};
 
 use crate::names;
 use crate::replica::{Replica, operation_of};
+use crate::replicas::Replicas;
 use lamport_clock::Version;
-use op_model::{Anchor, Bias, Counts, EditOp, Operation, Pieces, Text, UndoOp};
+use op_model::{Anchor, Bias, EditOp, Operation, Pieces, Text, UndoOp};
 use session_lines::{Numbers, Report, Session, SessionLine, write_line};
 use std::alloc::{AllocError, Global};
 use std::collections::BTreeMap;
@@ -29,7 +30,7 @@ use text_buffer::Snapshot;
 #[derive(Drop)]
 pub struct Progress {
     /// The replicas, in the header's order.
-    replicas: Vec<Replica>,
+    replicas: Replicas,
     /// The operation of each operation line, in their order; `None` where the line was refused.
     operations: Vec<Option<Operation>>,
     /// The anchors that are kept under names.
@@ -40,14 +41,7 @@ pub struct Progress {
     report: Vec<u8>,
 }
 
-/// The place of the replica with that id.
-fn place_of(replicas: &[Replica], id: u16) -> Option<usize>
-    ensures { result ≡ position (λ b. b.replica == id) replicas.now }
-{
-    replicas.iter().position(|replica| replica.has_id(id))
-}
-
-/// A copy of the operation, where there is one.
+/// A copy of the operation, where there is one. It shares the texts of one that stands under a number.
 fn copy_of(alloc: Global, operation: Option<&Operation>) -> Result<Option<Operation>, AllocError>
     ensures { IfOk result (λ o. o ≡ option_copied operation.entry) }
 {
@@ -57,26 +51,20 @@ fn copy_of(alloc: Global, operation: Option<&Operation>) -> Result<Option<Operat
     }
 }
 
-/// The edit as an operation of its own.
+/// The edit as an operation of its own, whose copies share its texts.
 fn edit_operation(alloc: Global, edit: &EditOp) -> Result<Operation, AllocError>
     ensures { IfOk result (λ op. op ≡ Edit edit.now) }
 {
-    Ok(Operation::Edit(EditOp {
-        stamp: edit.stamp,
-        version: edit.version.copy(alloc)?,
-        pieces: Pieces::copy_of(alloc, edit.pieces.as_slice())?,
-    }))
+    let copy = edit.copy(alloc)?;
+    Ok(Operation::Edit(copy.into_shared(alloc)?))
 }
 
-/// The undo as an operation of its own.
+/// The undo as an operation of its own, whose copies share its counts.
 fn undo_operation(alloc: Global, undo: &UndoOp) -> Result<Operation, AllocError>
     ensures { IfOk result (λ op. op ≡ Undo undo.now) }
 {
-    Ok(Operation::Undo(UndoOp {
-        stamp: undo.stamp,
-        version: undo.version.copy(alloc)?,
-        counts: Counts::copy_of(alloc, undo.counts.as_slice())?,
-    }))
+    let copy = undo.copy(alloc)?;
+    Ok(Operation::Undo(copy.into_shared(alloc)?))
 }
 
 impl Progress {
@@ -89,41 +77,43 @@ impl Progress {
 
     /// What the replica with that id is now, where it is there.
     pub fn snapshot_of(&self, id: u16) -> Result<Option<Snapshot>, AllocError>
-        ensures { IfOk result (λ s. s ≡ option_map (λ (b : BufferState). b.history) (buffer_of id self.now.replicas.items)) }
+        ensures { IfOk result (λ s. s ≡ option_map (λ (b : BufferState). b.history)
+            (buffer_of id self.now.replicas)) }
     {
-        let Some(place) = place_of(self.replicas.as_slice(), id) else {
+        let Some(replica) = self.replicas.find(id) else {
             return Ok(None);
         };
-        Ok(Some(self.replicas[place].snapshot()?))
+        Ok(Some(replica.snapshot()?))
     }
 
     /// Works an edit line.
     fn work_edit(&mut self, alloc: Global, id: u16, pieces: &Pieces) -> Result<(), AllocError>
-        ensures report { OnOk result (self.new.report.items ≡ self.old.report.items ++ report_text (events (SessionLine.Edit id pieces.now) (state_of self.old))) }
-        ensures state { OnOk result (state_of self.new ≡ step (SessionLine.Edit id pieces.now) (state_of self.old)) }
+        ensures report { OnOk result (self.new.report.items
+            ≡ self.old.report.items
+            ++ report_text (events (SessionLine.Edit id pieces.now) (state_of self.old))) }
+        ensures state { OnOk result (state_of self.new
+            ≡ step (SessionLine.Edit id pieces.now) (state_of self.old)) }
     {
-        let Some(place) = place_of(self.replicas.as_slice(), id) else {
-            self.operations.push(None)?;
-            return Ok(());
-        };
         let number = self.next_number();
-        let made = self.replicas[place].edit(alloc, number, pieces, &mut self.report)?;
+        let made = self
+            .replicas
+            .edit(alloc, id, number, pieces, &mut self.report)?;
         self.operations.push(made)?;
         Ok(())
     }
 
     /// Works an undo line.
     fn work_undo(&mut self, alloc: Global, id: u16, numbers: &Numbers) -> Result<(), AllocError>
-        ensures report { OnOk result (self.new.report.items ≡ self.old.report.items ++ report_text (events (SessionLine.Undo id numbers.now) (state_of self.old))) }
-        ensures state { OnOk result (state_of self.new ≡ step (SessionLine.Undo id numbers.now) (state_of self.old)) }
+        ensures report { OnOk result (self.new.report.items
+            ≡ self.old.report.items
+            ++ report_text (events (SessionLine.Undo id numbers.now) (state_of self.old))) }
+        ensures state { OnOk result (state_of self.new
+            ≡ step (SessionLine.Undo id numbers.now) (state_of self.old)) }
     {
-        let Some(place) = place_of(self.replicas.as_slice(), id) else {
-            self.operations.push(None)?;
-            return Ok(());
-        };
         let number = self.next_number();
-        let made = self.replicas[place].undo(
+        let made = self.replicas.undo(
             alloc,
+            id,
             number,
             self.operations.as_slice(),
             numbers.as_slice(),
@@ -135,8 +125,12 @@ impl Progress {
 
     /// Works a line with an operation as it stands.
     fn work_operation(&mut self, alloc: Global, operation: Operation) -> Result<(), AllocError>
-        ensures report { OnOk result (self.new.report.items ≡ self.old.report.items ++ report_text (Report.Made (next_number (state_of self.old)) (stamp_of operation) ∷ [])) }
-        ensures state { OnOk result (state_of self.new ≡ numbered self.old.replicas.items (Some operation) (state_of self.old)) }
+        ensures report { OnOk result (self.new.report.items
+            ≡ self.old.report.items
+            ++ report_text (Report.Made (next_number (state_of self.old)) (stamp_of operation)
+            ∷ [])) }
+        ensures state { OnOk result (state_of self.new
+            ≡ numbered self.old.replicas (Some operation) (state_of self.old)) }
     {
         let number = self.next_number();
         let stamp = operation.stamp();
@@ -147,14 +141,16 @@ impl Progress {
 
     /// Works a line that gives an operation to a replica.
     fn work_give(&mut self, alloc: Global, id: u16, number: u64) -> Result<(), AllocError>
-        ensures report { OnOk result (self.new.report.items ≡ self.old.report.items ++ report_text (events (SessionLine.Give id number) (state_of self.old))) }
-        ensures state { OnOk result (state_of self.new ≡ step (SessionLine.Give id number) (state_of self.old)) }
+        ensures report { OnOk result (self.new.report.items
+            ≡ self.old.report.items
+            ++ report_text (events (SessionLine.Give id number) (state_of self.old))) }
+        ensures state { OnOk result (state_of self.new
+            ≡ step (SessionLine.Give id number) (state_of self.old)) }
     {
-        let Some(place) = place_of(self.replicas.as_slice(), id) else {
+        let operation = copy_of(alloc, operation_of(self.operations.as_slice(), number))?;
+        let Some(answer) = self.replicas.give(id, operation)? else {
             return Ok(());
         };
-        let operation = copy_of(alloc, operation_of(self.operations.as_slice(), number))?;
-        let answer = self.replicas[place].give(operation)?;
         let report = Report::Give {
             number,
             replica: id,
@@ -166,13 +162,16 @@ impl Progress {
 
     /// Works a line that shows a text.
     fn work_text(&mut self, alloc: Global, id: u16) -> Result<(), AllocError>
-        ensures report { OnOk result (self.new.report.items ≡ self.old.report.items ++ report_text (events (SessionLine.Text id) (state_of self.old))) }
-        ensures state { OnOk result (state_of self.new ≡ step (SessionLine.Text id) (state_of self.old)) }
+        ensures report { OnOk result (self.new.report.items
+            ≡ self.old.report.items
+            ++ report_text (events (SessionLine.Text id) (state_of self.old))) }
+        ensures state { OnOk result (state_of self.new
+            ≡ step (SessionLine.Text id) (state_of self.old)) }
     {
-        let Some(place) = place_of(self.replicas.as_slice(), id) else {
+        let Some(replica) = self.replicas.find(id) else {
             return Ok(());
         };
-        let shown = self.replicas[place].shown()?;
+        let shown = replica.shown()?;
         write_line(alloc, &mut self.report, &shown)?;
         Ok(())
     }
@@ -186,8 +185,12 @@ impl Progress {
         offset: u64,
         bias: Bias,
     ) -> Result<(), AllocError>
-        ensures report { OnOk result (self.new.report.items ≡ self.old.report.items ++ report_text (events (SessionLine.Anchor id name.now offset bias) (state_of self.old))) }
-        ensures state { OnOk result (state_of self.new ≡ step (SessionLine.Anchor id name.now offset bias) (state_of self.old)) }
+        ensures report { OnOk result (self.new.report.items
+            ≡ self.old.report.items
+            ++ report_text (events (SessionLine.Anchor id name.now offset bias)
+            (state_of self.old))) }
+        ensures state { OnOk result (state_of self.new
+            ≡ step (SessionLine.Anchor id name.now offset bias) (state_of self.old)) }
     {
         let Some(snapshot) = self.snapshot_of(id)? else {
             return Ok(());
@@ -195,15 +198,18 @@ impl Progress {
         let made = snapshot.anchor(offset, bias);
         drop(snapshot);
         let answer = names::keep_anchor(alloc, &mut self.anchors, name, made)?;
-        let name = names::copy_of(alloc, name)?;
+        let name = name.copy(alloc)?;
         write_line(alloc, &mut self.report, &Report::Anchor { name, answer })?;
         Ok(())
     }
 
     /// Works a line that asks where an anchor is.
     fn work_where(&mut self, alloc: Global, id: u16, name: &Text) -> Result<(), AllocError>
-        ensures report { OnOk result (self.new.report.items ≡ self.old.report.items ++ report_text (events (SessionLine.Where id name.now) (state_of self.old))) }
-        ensures state { OnOk result (state_of self.new ≡ step (SessionLine.Where id name.now) (state_of self.old)) }
+        ensures report { OnOk result (self.new.report.items
+            ≡ self.old.report.items
+            ++ report_text (events (SessionLine.Where id name.now) (state_of self.old))) }
+        ensures state { OnOk result (state_of self.new
+            ≡ step (SessionLine.Where id name.now) (state_of self.old)) }
     {
         let Some(snapshot) = self.snapshot_of(id)? else {
             return Ok(());
@@ -211,7 +217,7 @@ impl Progress {
         let answer = names::where_answer(&snapshot, names::find(&self.anchors, name));
         drop(snapshot);
         let report = Report::Where {
-            name: names::copy_of(alloc, name)?,
+            name: name.copy(alloc)?,
             replica: id,
             answer,
         };
@@ -221,8 +227,11 @@ impl Progress {
 
     /// Works a line that keeps a version.
     fn work_mark(&mut self, alloc: Global, id: u16, name: &Text) -> Result<(), AllocError>
-        ensures report { OnOk result (self.new.report.items ≡ self.old.report.items ++ report_text (events (SessionLine.Mark id name.now) (state_of self.old))) }
-        ensures state { OnOk result (state_of self.new ≡ step (SessionLine.Mark id name.now) (state_of self.old)) }
+        ensures report { OnOk result (self.new.report.items
+            ≡ self.old.report.items
+            ++ report_text (events (SessionLine.Mark id name.now) (state_of self.old))) }
+        ensures state { OnOk result (state_of self.new
+            ≡ step (SessionLine.Mark id name.now) (state_of self.old)) }
     {
         let Some(snapshot) = self.snapshot_of(id)? else {
             return Ok(());
@@ -230,26 +239,41 @@ impl Progress {
         let version = snapshot.version().copy(alloc)?;
         drop(snapshot);
         names::keep(alloc, &mut self.marks, name, version)?;
-        let name = names::copy_of(alloc, name)?;
+        let name = name.copy(alloc)?;
         write_line(alloc, &mut self.report, &Report::Mark { name })?;
         Ok(())
     }
 
+    /// What a line reports that asks what changed since a version, where both are there.
+    fn since_of(&self, alloc: Global, id: u16, name: &Text) -> Result<Option<Report>, AllocError>
+        ensures { IfOk result (λ r. option_to_list r
+            ≡ events (SessionLine.Since id name.now) (state_of self.now)) }
+    {
+        let Some(version) = names::find(&self.marks, name) else {
+            return Ok(None);
+        };
+        let Some(snapshot) = self.snapshot_of(id)? else {
+            return Ok(None);
+        };
+        let answer = names::since_answer(alloc, &snapshot, version)?;
+        drop(snapshot);
+        Ok(Some(Report::Since {
+            name: name.copy(alloc)?,
+            replica: id,
+            answer,
+        }))
+    }
+
     /// Works a line that asks what changed since a version.
     fn work_since(&mut self, alloc: Global, id: u16, name: &Text) -> Result<(), AllocError>
-        ensures report { OnOk result (self.new.report.items ≡ self.old.report.items ++ report_text (events (SessionLine.Since id name.now) (state_of self.old))) }
-        ensures state { OnOk result (state_of self.new ≡ step (SessionLine.Since id name.now) (state_of self.old)) }
+        ensures report { OnOk result (self.new.report.items
+            ≡ self.old.report.items
+            ++ report_text (events (SessionLine.Since id name.now) (state_of self.old))) }
+        ensures state { OnOk result (state_of self.new
+            ≡ step (SessionLine.Since id name.now) (state_of self.old)) }
     {
-        let Some(snapshot) = self.snapshot_of(id)? else {
+        let Some(report) = self.since_of(alloc, id, name)? else {
             return Ok(());
-        };
-        let Some(version) = names::find(&self.marks, name) else {
-            return Ok(());
-        };
-        let report = Report::Since {
-            name: names::copy_of(alloc, name)?,
-            replica: id,
-            answer: names::since_answer(alloc, &snapshot, version)?,
         };
         write_line(alloc, &mut self.report, &report)?;
         Ok(())
@@ -258,7 +282,8 @@ impl Progress {
     /// Works a line.
     #[tactic(auto, using(crate::proofs::Steps::nothing_written))]
     pub fn work_line(&mut self, alloc: Global, line: &SessionLine) -> Result<(), AllocError>
-        ensures report { OnOk result (self.new.report.items ≡ self.old.report.items ++ report_text (events line.now (state_of self.old))) }
+        ensures report { OnOk result (self.new.report.items
+            ≡ self.old.report.items ++ report_text (events line.now (state_of self.old))) }
         ensures state { OnOk result (state_of self.new ≡ step line.now (state_of self.old)) }
     {
         match line {
@@ -291,14 +316,14 @@ impl Progress {
     pub fn new(alloc: Global, ids: &[u16], base: &str) -> Result<Progress, AllocError>
         requires ids { All (λ (r : ℕ). (1 ≤ r) × (r ≤ 1023)) ids.now }
         requires base { length base.now ≤ 67108864 }
-        ensures buffers { IfOk result (λ p. p.replicas.items ≡ map (opened base.now) ids.now) }
+        ensures buffers { IfOk result (λ p. p.replicas ≡ map (opened base.now) ids.now) }
         ensures operations { IfOk result (λ p. p.operations.items ≡ []) }
         ensures anchors { IfOk result (λ p. by_bytes p.anchors.entries ≡ []) }
         ensures marks { IfOk result (λ p. by_bytes p.marks.entries ≡ []) }
         ensures report { IfOk result (λ p. p.report.items ≡ []) }
     {
         Ok(Progress {
-            replicas: replicas_over(alloc, ids, base)?,
+            replicas: Replicas::over(alloc, ids, base)?,
             operations: Vec::new(alloc),
             anchors: BTreeMap::new(alloc),
             marks: BTreeMap::new(alloc),
@@ -308,43 +333,41 @@ impl Progress {
 
     /// How many bytes the text of the replica with that id has, if it is there.
     pub fn text_len(&self, id: u16) -> u64
-        ensures len { result ≡ text_len (buffer_of id self.now.replicas.items) }
+        ensures len { result ≡ text_len (buffer_of id self.now.replicas) }
         ensures bound { result ≤ 2 ^ 40 }
     {
-        match place_of(self.replicas.as_slice(), id) {
-            Some(place) => self.replicas[place].text_len(),
+        match self.replicas.find(id) {
+            Some(replica) => replica.text_len(),
             None => 0,
         }
     }
 
     /// The replicas, in the header's order.
     pub fn replicas(&self) -> &[Replica]
-        ensures { result.now ≡ self.now.replicas.items }
+        ensures { result.now ≡ self.now.replicas }
     {
         self.replicas.as_slice()
     }
 
     /// The place of the replica with that id.
     pub fn place_of(&self, id: u16) -> Option<usize>
-        ensures { result ≡ position (λ b. b.replica == id) self.now.replicas.items }
+        ensures { result ≡ position (λ b. b.replica == id) self.now.replicas }
     {
-        place_of(self.replicas.as_slice(), id)
+        self.replicas.place_of(id)
     }
 
     /// What each replica is now.
     pub fn snapshots(&self, alloc: Global) -> Result<Vec<Snapshot>, AllocError>
-        ensures { IfOk result (λ v. v.items ≡ histories self.now.replicas.items) }
+        ensures { IfOk result (λ v. v.items ≡ histories self.now.replicas) }
     {
-        let mut snapshots = Vec::new(alloc);
-        for replica in &self.replicas {
-            snapshots.push(replica.snapshot()?)?;
-        }
-        Ok(snapshots)
+        snapshots_of(alloc, self.replicas.as_slice())
     }
 
     /// The text of the report, with these lines for the queries.
     pub fn report_with(mut self, alloc: Global, answers: &[Report]) -> Result<Vec<u8>, AllocError>
-        ensures { IfOk result (λ v. v.items ≡ (self.report.items ++ report_text answers.now) ++ report_text (flat_map at_end self.replicas.items)) }
+        ensures { IfOk result (λ v. v.items
+            ≡ (self.report.items ++ report_text answers.now)
+            ++ report_text (flat_map at_end self.replicas)) }
     {
         write_answers(alloc, answers, &mut self.report)?;
         write_ends(alloc, self.replicas.as_slice(), &mut self.report)?;
@@ -370,7 +393,9 @@ fn answer_line(
     line: &SessionLine,
     answers: &mut Vec<Report>,
 ) -> Result<(), AllocError>
-    ensures { OnOk result (answers.new.items ≡ answers.old.items ++ map plain_line (query_at (length answers.old.items + 1) line.now (state_of progress.now))) }
+    ensures { OnOk result (answers.new.items
+        ≡ answers.old.items ++ map plain_line
+        (query_at (length answers.old.items + 1) line.now (state_of progress.now))) }
 {
     let number = answers.len() as u64 + 1;
     if let Some(answer) = progress.answer(alloc, number, line)? {
@@ -386,9 +411,13 @@ fn work_lines(
     lines: &[SessionLine],
     answers: &mut Vec<Report>,
 ) -> Result<(), AllocError>
-    ensures report { OnOk result (progress.new.report.items ≡ progress.old.report.items ++ report_text (all_events lines.now (state_of progress.old))) }
-    ensures state { OnOk result (state_of progress.new ≡ after_all lines.now (state_of progress.old)) }
-    ensures answers { OnOk result (answers.new.items ≡ answers.old.items ++ map plain_line (queries_from (length answers.old.items + 1) lines.now (state_of progress.old))) }
+    ensures report { OnOk result (progress.new.report.items
+        ≡ progress.old.report.items ++ report_text (all_events lines.now (state_of progress.old))) }
+    ensures state { OnOk result (state_of progress.new
+        ≡ after_all lines.now (state_of progress.old)) }
+    ensures answers { OnOk result (answers.new.items
+        ≡ answers.old.items ++ map plain_line
+        (queries_from (length answers.old.items + 1) lines.now (state_of progress.old))) }
 {
     for line in lines {
         answer_line(progress, alloc, line, answers)?;
@@ -397,17 +426,15 @@ fn work_lines(
     Ok(())
 }
 
-/// The replicas over the base.
-fn replicas_over(alloc: Global, ids: &[u16], base: &str) -> Result<Vec<Replica>, AllocError>
-    requires ids { All (λ (r : ℕ). (1 ≤ r) × (r ≤ 1023)) ids.now }
-    requires base { length base.now ≤ 67108864 }
-    ensures { IfOk result (λ v. v.items ≡ map (opened base.now) ids.now) }
+/// What each replica is now.
+fn snapshots_of(alloc: Global, replicas: &[Replica]) -> Result<Vec<Snapshot>, AllocError>
+    ensures { IfOk result (λ v. v.items ≡ histories replicas.now) }
 {
-    let mut replicas = Vec::new(alloc);
-    for id in ids {
-        replicas.push(Replica::new(alloc, *id, base)?)?;
+    let mut snapshots = Vec::new(alloc);
+    for replica in replicas {
+        snapshots.push(replica.snapshot()?)?;
     }
-    Ok(replicas)
+    Ok(snapshots)
 }
 
 /// Writes the lines of all queries.
@@ -422,7 +449,8 @@ fn write_answers(alloc: Global, answers: &[Report], out: &mut Vec<u8>) -> Result
 
 /// What all replicas report at the end.
 fn write_ends(alloc: Global, replicas: &[Replica], out: &mut Vec<u8>) -> Result<(), AllocError>
-    ensures { OnOk result (out.new.items ≡ out.old.items ++ report_text (flat_map at_end replicas.now)) }
+    ensures { OnOk result (out.new.items
+        ≡ out.old.items ++ report_text (flat_map at_end replicas.now)) }
 {
     for replica in replicas {
         replica.write_end(alloc, out)?;
@@ -436,7 +464,7 @@ pub fn report(alloc: Global, session: &Session) -> Result<Vec<u8>, AllocError>
     ensures { IfOk result (λ v. v.items ≡ report_text (report_of session.now)) }
 {
     let mut progress = Progress {
-        replicas: replicas_over(alloc, session.replicas.as_slice(), session.base.as_str())?,
+        replicas: Replicas::over(alloc, session.replicas.as_slice(), session.base.as_str())?,
         operations: Vec::new(alloc),
         anchors: BTreeMap::new(alloc),
         marks: BTreeMap::new(alloc),

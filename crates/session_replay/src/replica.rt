@@ -16,7 +16,7 @@ use op_model::{EditFault, Limits, OpFault, Operation, Pieces, Text, UndoFault};
 use session_lines::{Given, Report, write_line};
 use std::alloc::{AllocError, Global};
 use std::marker::Model;
-use text_buffer::{Buffer, Refused, Snapshot, Took};
+use text_buffer::{Base, Buffer, Refused, Snapshot, Took};
 
 /// The limits of a session's buffers.
 const LIMITS: Limits = Limits {
@@ -44,14 +44,14 @@ impl Model for Replica {
 }
 
 impl Replica {
-    /// The replica with that id over a base.
-    pub fn new(alloc: Global, id: u16, base: &str) -> Result<Replica, AllocError>
+    /// The replica with that id over a base, which it shares.
+    pub fn new(alloc: Global, id: u16, base: &Base) -> Result<Replica, AllocError>
         requires least { 1 ≤ id }
         requires greatest { id ≤ 1023 }
         requires base { length base.now ≤ 67108864 }
         ensures { IfOk result (λ r. r ≡ opened base.now id) }
     {
-        match Buffer::new(alloc, id, base, LIMITS) {
+        match Buffer::over(alloc, id, base, LIMITS) {
             Ok(buffer) => Ok(Replica { id, buffer }),
             Err(_) => Err(AllocError),
         }
@@ -72,8 +72,12 @@ impl Replica {
         pieces: &Pieces,
         out: &mut Vec<u8>,
     ) -> Result<Option<Operation>, AllocError>
-        ensures report { OnOk result (out.new.items ≡ out.old.items ++ report_text (outcome_reports number (edit_outcome number pieces.now self.old) self.old)) }
-        ensures after { OnOk result (self.new ≡ after_outcome (edit_outcome number pieces.now self.old) self.old) }
+        ensures report { OnOk result (out.new.items
+            ≡ out.old.items ++ report_text
+            (outcome_reports number (edit_outcome number pieces.now self.old) self.old)) }
+        ensures after { OnOk result (self.new
+            ≡ after_outcome (edit_outcome number pieces.now self.old) self.old) }
+        ensures id { self.new.replica ≡ self.old.replica }
         ensures made { IfOk result (λ o. o ≡ result_ok (edit_outcome number pieces.now self.old)) }
     {
         match self.buffer.edit(pieces.as_slice()) {
@@ -93,9 +97,15 @@ impl Replica {
         numbers: &[u64],
         out: &mut Vec<u8>,
     ) -> Result<Option<Operation>, AllocError>
-        ensures report { OnOk result (out.new.items ≡ out.old.items ++ report_text (outcome_reports number (undo_outcome number operations.now numbers.now self.old) self.old)) }
-        ensures after { OnOk result (self.new ≡ after_outcome (undo_outcome number operations.now numbers.now self.old) self.old) }
-        ensures made { IfOk result (λ o. o ≡ result_ok (undo_outcome number operations.now numbers.now self.old)) }
+        ensures report { OnOk result (out.new.items
+            ≡ out.old.items ++ report_text
+            (outcome_reports number
+            (undo_outcome number operations.now numbers.now self.old) self.old)) }
+        ensures after { OnOk result (self.new
+            ≡ after_outcome (undo_outcome number operations.now numbers.now self.old) self.old) }
+        ensures id { self.new.replica ≡ self.old.replica }
+        ensures made { IfOk result (λ o. o ≡ result_ok
+            (undo_outcome number operations.now numbers.now self.old)) }
     {
         if let Some(named) = first_unnamed(operations, numbers) {
             return refused(alloc, &Report::Unnamed { number, named }, out);
@@ -116,8 +126,11 @@ impl Replica {
         operation: Operation,
         out: &mut Vec<u8>,
     ) -> Result<Option<Operation>, AllocError>
-        ensures report { OnOk result (out.new.items ≡ out.old.items ++ report_text (Report.Made number (stamp_of operation) ∷ settled_reports self.old)) }
+        ensures report { OnOk result (out.new.items
+            ≡ out.old.items ++ report_text
+            (Report.Made number (stamp_of operation) ∷ settled_reports self.old)) }
         ensures after { OnOk result (self.new ≡ settled self.old) }
+        ensures id { self.new.replica ≡ self.old.replica }
         ensures made { IfOk result (λ o. o ≡ Some operation) }
     {
         let stamp = operation.stamp();
@@ -128,8 +141,10 @@ impl Replica {
 
     /// Settles, and reports it where that applied any.
     fn settle(&mut self, alloc: Global, out: &mut Vec<u8>) -> Result<(), AllocError>
-        ensures report { OnOk result (out.new.items ≡ out.old.items ++ report_text (settled_reports self.old)) }
+        ensures report { OnOk result (out.new.items
+            ≡ out.old.items ++ report_text (settled_reports self.old)) }
         ensures after { OnOk result (self.new ≡ settled self.old) }
+        ensures id { self.new.replica ≡ self.old.replica }
     {
         let count = self.buffer.settle()?;
         if count == 0 {
@@ -144,6 +159,7 @@ impl Replica {
     pub fn give(&mut self, operation: Option<Operation>) -> Result<Given, AllocError>
         ensures answer { IfOk result (λ g. g ≡ give_answer operation self.old) }
         ensures after { OnOk result (self.new ≡ after_give operation self.old) }
+        ensures id { self.new.replica ≡ self.old.replica }
     {
         match operation {
             Some(operation) => self.take(operation),
@@ -154,6 +170,7 @@ impl Replica {
     fn take(&mut self, operation: Operation) -> Result<Given, AllocError>
         ensures answer { IfOk result (λ g. g ≡ give_answer (Some operation) self.old) }
         ensures after { OnOk result (self.new ≡ after_give (Some operation) self.old) }
+        ensures id { self.new.replica ≡ self.old.replica }
     {
         match self.buffer.take(operation) {
             Ok(Took::Applied(count)) => Ok(Given::Applied(count)),
@@ -256,7 +273,8 @@ fn write_refused(
     refused: &[Refused],
     out: &mut Vec<u8>,
 ) -> Result<(), AllocError>
-    ensures { OnOk result (out.new.items ≡ out.old.items ++ report_text (map (refused_report replica) (map pair_of refused.now))) }
+    ensures { OnOk result (out.new.items
+        ≡ out.old.items ++ report_text (map (refused_report replica) (map pair_of refused.now))) }
 {
     for entry in refused {
         let Refused { stamp, fault } = *entry;

@@ -139,7 +139,8 @@ fn send<O: Sink>(out: &mut O, text: &[u8], status: Status) -> Status
     requires { status ≡ Status.WriteFault → ⊥ }
     ensures either { (result ≡ status) ⊎ (result ≡ Status.WriteFault) }
     ensures whole { result ≡ status → Appends (O.written out.old) (O.written out.new) text.now }
-    ensures front { result ≡ Status.WriteFault → AppendsFront (O.written out.old) (O.written out.new) text.now }
+    ensures front { result ≡ Status.WriteFault
+        → AppendsFront (O.written out.old) (O.written out.new) text.now }
     ensures cause { result ≡ Status.WriteFault → Rose (O.faults out.old) (O.faults out.new) }
 {
     match write_all(out, text) {
@@ -156,7 +157,8 @@ fn answer_source<R: Threads + Wait + Sync, I: Source, G: Gate>(
     task: Task,
     src: &mut I,
 ) -> Result<(Status, Vec<u8>), InputFault>
-    ensures answer { IfOk result (λ p. Answered task (I.left src.old) (I.left src.new) (I.given src.old) (I.given src.new) (I.ends src.old) (I.ends src.new) p.0 p.1.items) }
+    ensures answer { IfOk result (λ p. Answered task (I.left src.old) (I.left src.new)
+        (I.given src.old) (I.given src.new) (I.ends src.old) (I.ends src.new) p.0 p.1.items) }
     ensures failed { IsErrOf result InputFault.Failed → Rose (I.faults src.old) (I.faults src.new) }
     ensures answered { IsErrOf result InputFault.TooLarge → ⊥ }
     ensures bounded { I.given src.new ≤ I.given src.old + 67108865 }
@@ -184,7 +186,8 @@ fn work<R: Threads + Wait + Sync, I: Source, O: Sink, G: Gate>(
     ensures session { result ≡ Status.Session → (input : List ℕ)
         × WasRead (I.left src.old) (I.left src.new) (I.given src.old) (I.given src.new) (I.ends src.old) (I.ends src.new) input
         × ((n : ℕ) × (w : Word) × (decoded input ≡ Err (DecodeFault.Bad n w)) × Appends (O.written out.old) (O.written out.new) (bad_line n w)) }
-    ensures ended { (result ≡ Status.Done) ⊎ (result ≡ Status.Session) → Rose (I.ends src.old) (I.ends src.new) }
+    ensures ended { (result ≡ Status.Done) ⊎ (result ≡ Status.Session)
+        → Rose (I.ends src.old) (I.ends src.new) }
     ensures large { result ≡ Status.TooLarge →
         (IfSome (I.left src.old) (λ input. 67108864 < length input) × RoseBy 67108865 (I.given src.old) (I.given src.new)
         × Appends (O.written out.old) (O.written out.new) large_line)
@@ -192,7 +195,8 @@ fn work<R: Threads + Wait + Sync, I: Source, O: Sink, G: Gate>(
         × WasRead (I.left src.old) (I.left src.new) (I.given src.old) (I.given src.new) (I.ends src.old) (I.ends src.new) input
         × (1048576 < length (lines_of input)) × Appends (O.written out.old) (O.written out.new) many_line) }
     ensures bounded { I.given src.new ≤ I.given src.old + 67108865 }
-    ensures read_fault { result ≡ Status.ReadFault → Rose (I.faults src.old) (I.faults src.new) × (out.new ≡ out.old) }
+    ensures read_fault { result ≡ Status.ReadFault
+        → Rose (I.faults src.old) (I.faults src.new) × (out.new ≡ out.old) }
     ensures write_fault { result ≡ Status.WriteFault → Rose (O.faults out.old) (O.faults out.new) }
     ensures report_front { result ≡ Status.WriteFault → (input : List ℕ)
         × WasTaken (I.left src.old) (I.left src.new) (I.given src.old) (I.given src.new) (I.ends src.old) (I.ends src.new) input
@@ -224,7 +228,8 @@ fn make_session<O: Sink>(alloc: Global, seed: u32, replicas: u16, edits: u32, ou
     ensures front { result ≡ Status.WriteFault → (output : List ℕ)
         × Makes seed replicas edits output × AppendsFront (O.written out.old) (O.written out.new) output }
     ensures write_fault { result ≡ Status.WriteFault → Rose (O.faults out.old) (O.faults out.new) }
-    ensures whole { (result ≡ Status.Done) ⊎ ((result ≡ Status.Memory) ⊎ (result ≡ Status.WriteFault)) }
+    ensures whole { (result ≡ Status.Done)
+        ⊎ ((result ≡ Status.Memory) ⊎ (result ≡ Status.WriteFault)) }
 {
     match make(alloc, seed, replicas, edits) {
         Ok(summary) => send(out, summary.as_slice(), Status::Done),
@@ -251,10 +256,12 @@ pub fn run<R: Threads + Wait + Sync, I: Source, O: Sink, G: Gate>(
     // Usage exactly by the words, and then nothing is read.
     ensures usage { result ≡ Status.Usage → (command_of words.now ≡ None) × (src.new ≡ src.old)
         × Appends (O.written out.old) (O.written out.new) usage_line }
-    ensures refused { command_of words.now ≡ None → (result ≡ Status.Usage) ⊎ ((result ≡ Status.WriteFault) ⊎ (result ≡ Status.Memory)) }
+    ensures refused { command_of words.now ≡ None
+        → (result ≡ Status.Usage) ⊎ ((result ≡ Status.WriteFault) ⊎ (result ≡ Status.Memory)) }
     // These are the words in which `clap` finds a fault.
     ensures faulty { result ≡ Status.Usage → clap_takes words.now ≡ false }
-    ensures untaken { clap_takes words.now ≡ false → (result ≡ Status.Usage) ⊎ ((result ≡ Status.WriteFault) ⊎ (result ≡ Status.Memory)) }
+    ensures untaken { clap_takes words.now ≡ false
+        → (result ≡ Status.Usage) ⊎ ((result ≡ Status.WriteFault) ⊎ (result ≡ Status.Memory)) }
 
     // Done: what the command makes was written whole; where it reads a session, the input was read to its end.
     ensures done { result ≡ Status.Done → (command : Command) × (command_of words.now ≡ Some command)
@@ -282,7 +289,8 @@ pub fn run<R: Threads + Wait + Sync, I: Source, O: Sink, G: Gate>(
     ensures bounded { I.given src.new ≤ I.given src.old + 67108865 }
 
     // Faults come only where a count rose.
-    ensures read_fault { result ≡ Status.ReadFault → Rose (I.faults src.old) (I.faults src.new) × (out.new ≡ out.old) }
+    ensures read_fault { result ≡ Status.ReadFault
+        → Rose (I.faults src.old) (I.faults src.new) × (out.new ≡ out.old) }
     ensures write_fault { result ≡ Status.WriteFault → Rose (O.faults out.old) (O.faults out.new) }
     ensures usage_front { result ≡ Status.WriteFault → command_of words.now ≡ None → (src.new ≡ src.old)
         × AppendsFront (O.written out.old) (O.written out.new) usage_line }

@@ -52,8 +52,10 @@ fn read_piece<I: Source>(
     all: &mut Vec<u8>,
 ) -> Result<usize, InputFault>
     requires { 0 < length piece.old }
-    ensures ok { IfOk result (λ n. Moves (I.left src.old) (I.left src.new) all.old.items all.new.items n) }
-    ensures counts { IfOk result (λ n. Counts (I.given src.old) (I.given src.new) (I.ends src.old) (I.ends src.new) (length piece.old) n) }
+    ensures ok { IfOk result (λ n. Moves (I.left src.old)
+        (I.left src.new) all.old.items all.new.items n) }
+    ensures counts { IfOk result (λ n. Counts (I.given src.old) (I.given src.new) (I.ends src.old)
+        (I.ends src.new) (length piece.old) n) }
     ensures within { IfOk result (λ n. n ≤ length piece.old) }
     ensures large { IsErrOf result InputFault.TooLarge → ⊥ }
     ensures failed { IsErrOf result InputFault.Failed → Rose (I.faults src.old) (I.faults src.new) }
@@ -67,10 +69,13 @@ fn read_piece<I: Source>(
 
 /// All that the source has left, at most `LIMIT` bytes. No more than one byte past the limit is taken.
 pub fn read_all<I: Source>(alloc: Global, src: &mut I) -> Result<Vec<u8>, InputFault>
-    ensures whole { IfOk result (λ v. WasRead (I.left src.old) (I.left src.new) (I.given src.old) (I.given src.new) (I.ends src.old) (I.ends src.new) v.items) }
+    ensures whole { IfOk result (λ v. WasRead (I.left src.old) (I.left src.new) (I.given src.old)
+        (I.given src.new) (I.ends src.old) (I.ends src.new) v.items) }
     ensures small { IfOk result (λ v. length v.items ≤ LIMIT) }
-    ensures large { IsErrOf result InputFault.TooLarge → (input : List ℕ) × Had (I.left src.old) input × (LIMIT < length input) }
-    ensures passed { IsErrOf result InputFault.TooLarge → RoseBy 67108865 (I.given src.old) (I.given src.new) }
+    ensures large { IsErrOf result InputFault.TooLarge
+        → (input : List ℕ) × Had (I.left src.old) input × (LIMIT < length input) }
+    ensures passed { IsErrOf result InputFault.TooLarge
+        → RoseBy 67108865 (I.given src.old) (I.given src.new) }
     ensures failed { IsErrOf result InputFault.Failed → Rose (I.faults src.old) (I.faults src.new) }
     ensures later { I.faults src.old ≤ I.faults src.new }
     ensures bounded { I.given src.new ≤ I.given src.old + 67108865 }

@@ -1,5 +1,5 @@
 use Rattle.std.proofs.Common.{arith}
-use Rattle.session_replay.proofs.Replicas.{more_refused, refused_done}
+use Rattle.session_replay.proofs.Reports.{more_refused, refused_done}
 use Rattle.session_replay.proofs.replica.write_refused.Goals as goal
 
 pub loop-entry-preserved : goal.loop-entry-preserved

@@ -1,6 +1,6 @@
 use Rattle.std.proofs.Common.{◌≡◌, ◌++◌, drop}
 use Rattle.session_lines.specs.Report.{report_text}
-use Rattle.session_replay.proofs.Replicas.{refusals}
+use Rattle.session_replay.proofs.Reports.{refusals}
 use Rattle.session_replay.proofs.replica.write_refused.Given as goal
 
 abbrev pub invariant-loop-entry : goal.invariant-loop-entry

@@ -1,41 +1,21 @@
-use Rattle.std.proofs.Common.{◌≡◌, ◌==◌, ◌+◌, length, get_or, None, Some, ap, ◌∙◌}
-use Rattle.std.specs.List.{position}
-use Rattle.text_buffer.specs.Buffer.{BufferState}
-use Rattle.session_replay.specs.Beside.{asks_among}
-use Rattle.session_replay.specs.Queries.{query_at, query_with, question_of}
+use Rattle.std.proofs.Common.{◌≡◌, ℕ, ◌+◌, List, ◌++◌, length, Option, Some, OnOk, subst, arith}
+use Rattle.query_workers.specs.Asks.{Ask}
+use Rattle.session_replay.specs.Beside.{IsAsking, asks_among}
+use Rattle.session_replay.specs.Queries.{query_with, question_of}
 use Rattle.session_replay.specs.Working.{state_of}
-use Rattle.session_replay.proofs.Asking.{asked_one, asks_more, at_place, begins, is_listed, no_replica, nothing_asked}
+use Rattle.session_replay.specs.declared.queries.Question.{Question}
+use Rattle.session_replay.proofs.Asking.{asks_count}
 use Rattle.session_replay.proofs.beside.Editor.ask.Goals as goal
 
-pub returns-in_default-place_of-clause-asking : goal.returns-in_default-place_of-clause-asking
-returns-in_default-place_of-clause-asking g c =
+pub put-requires-clause-room : goal.put-requires-clause-room
+put-requires-clause-room g c =
     let asked : Some (c.in-Some.id, c.in-Some.question) ≡ question_of c.args.line.now = cc (c.in-Some.is, c.in_ok-id.ensures) in
-    let bs = c.args.self.now.progress.replicas.items in
-    let none : None ≡ position (λ (b : BufferState). b.replica == c.in-Some.id) bs = c.in_default-place_of.ensures in
-    λ asks a. nothing_asked _ asks _ _ _ (no_replica (length asks + 1) c.args.line.now (state_of c.args.self.now.progress) c.in-Some.id c.in-Some.question asked none) a
-
-pub ask-requires-clause-replica : goal.ask-requires-clause-replica
-ask-requires-clause-replica g c =
-    is_listed _ c.in-Some.id c.in-Some-place_of.place c.index-replicas-place.result c.in-Some-place_of.ensures c.requires.asking.0 c.args.self.now.dispatcher c.args.publishers.now c.requires.asking.1
-
-pub ask-requires-clause-grows : goal.ask-requires-clause-grows
-ask-requires-clause-grows g c =
-    begins _ c.in-Some.id c.in-Some-place_of.place c.index-replicas-place.result c.in-Some-place_of.ensures c.requires.asking.0 c.args.self.now.dispatcher c.args.publishers.now c.requires.asking.1
-    _ (c.in_ok-snapshot.ensures ∙ (ap (λ (b : BufferState). b.history) c.index-replicas-place.is ∙ ap (λ bs. (get_or bs c.in-Some-place_of.place c.index-replicas-place.result).history) c.replicas.ensures))
+    omega (arith, asks_count c.args.line.now (c.in-Some.id, c.in-Some.question) asked, c.requires.room)
 
 pub returns-clause-asking : goal.returns-clause-asking
 returns-clause-asking g c =
     let s = state_of c.args.self.now.progress in
-    let bs = c.args.self.now.progress.replicas.items in
-    let r = c.in-Some.id in
-    let i = c.in-Some-place_of.place in
-    let x = c.index-replicas-place.result in
-    let question = c.in-Some.question in
-    let h = c.in_ok-snapshot.snapshot in
-    let e = c.in-Some-place_of.ensures in
-    let asked : Some (r, question) ≡ question_of c.args.line.now = cc (c.in-Some.is, c.in_ok-id.ensures) in
-    let is : h ≡ (get_or bs i x).history = c.in_ok-snapshot.ensures ∙ (ap (λ (b : BufferState). b.history) c.index-replicas-place.is ∙ ap (λ all. (get_or all i x).history) c.replicas.ensures) in
-    let put = c.in_ok-ask.ensures in
-    λ asks a. asks_more bs asks _ _ _ _ i x (query_at (length asks + 1) c.args.line.now s) question h (at_place bs r i x e).0 is
-    (asked_one bs r i x e (length asks + 1) question h is ∙ ap (λ o. asks_among bs (query_with (length asks + 1) s o)) asked)
-    put.asked put.level put.workers put.rows put.pairs put.shown a
+    let bs = c.args.self.now.progress.replicas in
+    let asked : Some (c.in-Some.id, c.in-Some.question) ≡ question_of c.args.line.now = cc (c.in-Some.is, c.in_ok-id.ensures) in
+    subst (λ (o : Option (ℕ × Question)). OnOk c.put.result ((asks : List (Ask Question)) → IsAsking bs asks c.args.self.now.dispatcher c.args.publishers.now
+    → IsAsking bs (asks ++ asks_among bs (query_with (length asks + 1) s o)) c.put.new.self.dispatcher c.put.new.publishers)) asked c.put.ensures.asking

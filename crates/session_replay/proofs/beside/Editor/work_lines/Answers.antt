@@ -18,14 +18,14 @@ loop-line-init g c = record {
   workers = refl;
   report = refl;
   state = refl;
-  grows = all_themselves c.args.self.now.progress.replicas.items;
+  grows = all_themselves c.args.self.now.progress.replicas;
   ends = ends_same c.args.self.now.dispatcher c.args.publishers.now;
   asking = λ asks a. leads_first c.args.lines.now (state_of c.args.self.now.progress) asks c.args.self.now.dispatcher c.args.publishers.now a c.requires.room;
 }
 
 pub work_line-requires-clause-asking : goal.work_line-requires-clause-asking
 work_line-requires-clause-asking g c =
-    let l = c.loop-line.invariant.asking c.requires.asking.0 c.requires.asking.1 in (c.requires.asking.0 ++ asks_among c.args.self.now.progress.replicas.items l.more, l.asking)
+    let l = c.loop-line.invariant.asking c.requires.asking.0 c.requires.asking.1 in (c.requires.asking.0 ++ asks_among c.args.self.now.progress.replicas l.more, l.asking)
 
 pub work_line-requires-clause-room : goal.work_line-requires-clause-room
 work_line-requires-clause-room g c =

@@ -15,8 +15,8 @@ invariant-loop-line g l = record {
   workers : l.self.workers ≡ l.fn.self.workers;
   report : l.self.progress.report.items ++ report_text (all_events (drop l.line-index l.lines) (state_of l.self.progress)) ≡ l.fn.self.progress.report.items ++ report_text (all_events l.lines (state_of l.fn.self.progress));
   state : after_all (drop l.line-index l.lines) (state_of l.self.progress) ≡ after_all l.lines (state_of l.fn.self.progress);
-  grows : AllGrow l.fn.self.progress.replicas.items l.self.progress.replicas.items;
+  grows : AllGrow l.fn.self.progress.replicas l.self.progress.replicas;
   ends : KeepsEnds l.fn.self.dispatcher l.fn.publishers l.self.dispatcher l.publishers;
-  asking : (asks : List (Ask Question)) → IsAsking l.fn.self.progress.replicas.items asks l.fn.self.dispatcher l.fn.publishers
+  asking : (asks : List (Ask Question)) → IsAsking l.fn.self.progress.replicas asks l.fn.self.dispatcher l.fn.publishers
       → Leads l.lines (state_of l.fn.self.progress) asks (drop l.line-index l.lines) (state_of l.self.progress) l.self.dispatcher l.publishers;
 }

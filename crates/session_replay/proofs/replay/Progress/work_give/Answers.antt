@@ -1,43 +1,38 @@
-use Rattle.std.proofs.Common.{◌≡◌, ◌==◌, [], ◌∷◌, refl, sym, ap, ◌∙◌, set, None, Some}
-use Rattle.std.specs.List.{position}
+use Rattle.std.proofs.Common.{◌≡◌, ◌++◌, [], ◌∷◌, Option, None, Some, refl, sym, ap, ◌∙◌}
+use Rattle.std.specs.Option.{option_map}
+use Rattle.op_model.specs.declared.operation.Operation.{Operation}
 use Rattle.text_buffer.specs.Buffer.{BufferState}
+use Rattle.session_lines.specs.Report.{report_text}
 use Rattle.session_lines.specs.declared.report.Report.TheVariants as report
-use Rattle.session_replay.specs.Work.{after_give, give_answer, operation_of}
-use Rattle.session_replay.proofs.Buffers.{found, not_found}
-use Rattle.session_replay.proofs.Steps.{line_reported, none_reported, one_reported, same_state}
+use Rattle.session_replay.specs.Work.{after_give, buffer_of, give_answer, operation_of, reports_at, with_buffer}
+use Rattle.session_replay.proofs.Giving.{answer_reported, unanswered}
+use Rattle.session_replay.proofs.Steps.{same_state}
 use Rattle.session_replay.proofs.replay.Progress.work_give.Goals as goal
 
 pub returns-in_default-clause-report : goal.returns-in_default-clause-report
 returns-in_default-clause-report c =
-    let bs = c.args.self.now.replicas.items in
-    let e : None ≡ position (λ (b : BufferState). b.replica == c.args.id) bs = cc (c.in_default.ensures, c.as_slice.ensures.value) in
-    none_reported _ _ _ (not_found c.args.id (λ (b : BufferState). b) bs e).0
+    let e : None ≡ option_map (give_answer c.in_ok-operation.operation) (buffer_of c.args.id c.args.self.now.replicas) = sym c.in_default.is ∙ c.in_ok-answer.ensures.answer in
+    unanswered _ _ _ _ e
 
 pub returns-in_default-clause-state : goal.returns-in_default-clause-state
 returns-in_default-clause-state c =
-    let bs = c.args.self.now.replicas.items in
-    let e : None ≡ position (λ (b : BufferState). b.replica == c.args.id) bs = cc (c.in_default.ensures, c.as_slice.ensures.value) in
-    same_state _ _ _ _ (sym (not_found c.args.id (after_give (operation_of c.args.number c.args.self.now.operations.items)) bs e).1) refl
+    let bs = c.args.self.now.replicas in
+    let op : c.in_ok-operation.operation ≡ operation_of c.args.number c.args.self.now.operations.items =
+    c.in_ok-operation.ensures ∙ c.operation_of.ensures ∙ ap (operation_of c.args.number) c.as_slice.ensures.value in
+    same_state _ _ _ _ (c.in_ok-answer.ensures.after ∙ ap (λ (o : Option Operation). with_buffer c.args.id (after_give o) bs) op) refl
 
 pub returns-clause-report : goal.returns-clause-report
 returns-clause-report c =
-    let bs = c.args.self.now.replicas.items in
-    let ops = c.args.self.now.operations.items in
-    let n = c.args.number in
-    let e : Some c.in-Some.place ≡ position (λ (b : BufferState). b.replica == c.args.id) bs = cc (c.in-Some.ensures, c.as_slice.ensures.value) in
-    let f = found c.args.id (after_give (operation_of n ops)) bs c.in-Some.place c.index_mut.result.now e in
-    let op : c.in_ok-operation.operation ≡ operation_of n ops = c.in_ok-operation.ensures ∙ c.operation_of.ensures ∙ ap (operation_of n) c.as_slice-2.ensures.value in
-    let answer : c.in_ok-answer.answer ≡ give_answer (operation_of n ops) c.index_mut.result.now = c.in_ok-answer.ensures.answer ∙ ap (λ o. give_answer o c.index_mut.result.now) op in
-    one_reported (λ (b : BufferState). report.Give n c.args.id (give_answer (operation_of n ops) b) ∷ []) _ c.index_mut.result.now _ _ (f.0 ∙ ap Some (sym c.index_mut.ensures.value))
-    (line_reported _ _ _ _ (ap (report.Give n c.args.id) answer) c.in_ok-write_line.ensures.ok)
+    let own = buffer_of c.args.id c.args.self.now.replicas in
+    let op : c.in_ok-operation.operation ≡ operation_of c.args.number c.args.self.now.operations.items =
+    c.in_ok-operation.ensures ∙ c.operation_of.ensures ∙ ap (operation_of c.args.number) c.as_slice.ensures.value in
+    let e : Some c.in-Some.answer ≡ option_map (give_answer c.in_ok-operation.operation) own = sym c.in-Some.is ∙ c.in_ok-answer.ensures.answer in
+    answer_reported c.args.number c.args.id c.in_ok-operation.operation own c.in-Some.answer _ _ e c.in_ok-write_line.ensures.ok
+    ∙ ap (λ (o : Option Operation). c.args.self.now.report.items ++ report_text (reports_at (λ (b : BufferState). report.Give c.args.number c.args.id (give_answer o b) ∷ []) own)) op
 
 pub returns-clause-state : goal.returns-clause-state
 returns-clause-state c =
-    let bs = c.args.self.now.replicas.items in
-    let ops = c.args.self.now.operations.items in
-    let n = c.args.number in
-    let e : Some c.in-Some.place ≡ position (λ (b : BufferState). b.replica == c.args.id) bs = cc (c.in-Some.ensures, c.as_slice.ensures.value) in
-    let f = found c.args.id (after_give (operation_of n ops)) bs c.in-Some.place c.index_mut.result.now e in
-    let op : c.in_ok-operation.operation ≡ operation_of n ops = c.in_ok-operation.ensures ∙ c.operation_of.ensures ∙ ap (operation_of n) c.as_slice-2.ensures.value in
-    let after : c.give.new.self ≡ after_give (operation_of n ops) c.index_mut.result.now = c.in_ok-answer.ensures.after ∙ ap (λ o. after_give o c.index_mut.result.now) op in
-    same_state _ _ _ _ (ap (set bs c.in-Some.place) (after ∙ ap (after_give (operation_of n ops)) c.index_mut.ensures.value) ∙ sym f.1) refl
+    let bs = c.args.self.now.replicas in
+    let op : c.in_ok-operation.operation ≡ operation_of c.args.number c.args.self.now.operations.items =
+    c.in_ok-operation.ensures ∙ c.operation_of.ensures ∙ ap (operation_of c.args.number) c.as_slice.ensures.value in
+    same_state _ _ _ _ (c.in_ok-answer.ensures.after ∙ ap (λ (o : Option Operation). with_buffer c.args.id (after_give o) bs) op) refl

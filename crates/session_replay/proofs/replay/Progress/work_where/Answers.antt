@@ -19,4 +19,4 @@ returns-clause-report c =
     let e : Some h ≡ history_at c.args.id s = cc (c.in-Some.is, c.in_ok-snapshot.ensures) in
     let answer : c.where_answer-answer.result ≡ where_answer (under c.args.name.now s.anchors) h = c.where_answer-answer.ensures ∙ ap (λ a. where_answer a h) c.find.ensures in
     of_history (λ h. report.Where c.args.name.now c.args.id (where_answer (under c.args.name.now s.anchors) h) ∷ []) (history_at c.args.id s) h _ _ e
-    (line_reported _ _ _ _ (ap (λ n. report.Where n c.args.id c.where_answer-answer.result) c.in_ok-copy_of.ensures ∙ ap (report.Where c.args.name.now c.args.id) answer) c.in_ok-write_line.ensures.ok)
+    (line_reported _ _ _ _ (ap (λ n. report.Where n c.args.id c.where_answer-answer.result) c.in_ok-copy.ensures ∙ ap (report.Where c.args.name.now c.args.id) answer) c.in_ok-write_line.ensures.ok)

@@ -2,7 +2,7 @@ use Rattle.std.proofs.Common.{◌≡◌, ◌++◌, ap, ◌∙◌}
 use Rattle.session_lines.specs.Report.{report_text}
 use Rattle.text_buffer.specs.Buffer.{BufferState}
 use Rattle.session_replay.specs.Work.{settled_reports}
-use Rattle.session_replay.proofs.Replicas.{none_settled, some_settled}
+use Rattle.session_replay.proofs.Reports.{none_settled, some_settled}
 use Rattle.session_replay.proofs.replica.Replica.settle.Goals as goal
 
 pub returns-then-count-eq0-clause-report : goal.returns-then-count-eq0-clause-report

@@ -2,7 +2,7 @@ use Rattle.std.proofs.Common.{◌≡◌, ◌++◌, map, ap, sym, ◌∙◌}
 use Rattle.session_lines.specs.Report.{line_text}
 use Rattle.text_buffer.specs.Buffer.{BufferState}
 use Rattle.text_buffer.specs.Outcomes.{pair_of}
-use Rattle.session_replay.proofs.Replicas.{end_reported}
+use Rattle.session_replay.proofs.Reports.{end_reported}
 use Rattle.session_replay.proofs.replica.Replica.write_end.Goals as goal
 
 pub returns : goal.returns

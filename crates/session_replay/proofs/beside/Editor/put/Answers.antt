@@ -1,0 +1,39 @@
+use Rattle.std.proofs.Common.{◌≡◌, ◌==◌, ◌+◌, length, get_or, None, Some, ap, ◌∙◌}
+use Rattle.std.specs.List.{position}
+use Rattle.text_buffer.specs.Buffer.{BufferState}
+use Rattle.session_replay.specs.Queries.{query_of, query_with}
+use Rattle.session_replay.specs.Working.{state_of}
+use Rattle.session_replay.proofs.Asking.{asked_one, asks_more, at_place, begins, is_listed, nothing_asked}
+use Rattle.session_replay.proofs.Buffers.{not_found}
+use Rattle.session_replay.proofs.beside.Editor.put.Goals as goal
+
+pub returns-in_default-clause-asking : goal.returns-in_default-clause-asking
+returns-in_default-clause-asking g c =
+    let bs = c.args.self.now.progress.replicas in
+    let none : None ≡ position (λ (b : BufferState). b.replica == c.args.id) bs = c.in_default.ensures in
+    λ asks a. nothing_asked _ asks _ _ _ (ap (query_of (length asks + 1) c.args.id c.args.question) (not_found c.args.id (λ (b : BufferState). b) bs none).0) a
+
+pub ask-requires-clause-replica : goal.ask-requires-clause-replica
+ask-requires-clause-replica g c =
+    is_listed _ c.args.id c.in-Some.place c.index-replicas-place.result c.in-Some.ensures c.requires.asking.0 c.args.self.now.dispatcher c.args.publishers.now c.requires.asking.1
+
+pub ask-requires-clause-grows : goal.ask-requires-clause-grows
+ask-requires-clause-grows g c =
+    begins _ c.args.id c.in-Some.place c.index-replicas-place.result c.in-Some.ensures c.requires.asking.0 c.args.self.now.dispatcher c.args.publishers.now c.requires.asking.1
+    _ (c.in_ok-snapshot.ensures ∙ (ap (λ (b : BufferState). b.history) c.index-replicas-place.is ∙ ap (λ bs. (get_or bs c.in-Some.place c.index-replicas-place.result).history) c.replicas.ensures))
+
+pub returns-clause-asking : goal.returns-clause-asking
+returns-clause-asking g c =
+    let s = state_of c.args.self.now.progress in
+    let bs = c.args.self.now.progress.replicas in
+    let r = c.args.id in
+    let i = c.in-Some.place in
+    let x = c.index-replicas-place.result in
+    let question = c.args.question in
+    let h = c.in_ok-snapshot.snapshot in
+    let e = c.in-Some.ensures in
+    let is : h ≡ (get_or bs i x).history = c.in_ok-snapshot.ensures ∙ (ap (λ (b : BufferState). b.history) c.index-replicas-place.is ∙ ap (λ all. (get_or all i x).history) c.replicas.ensures) in
+    let put = c.in_ok-ask.ensures in
+    λ asks a. asks_more bs asks _ _ _ _ i x (query_with (length asks + 1) s (Some (r, question))) question h (at_place bs r i x e).0 is
+    (asked_one bs r i x e (length asks + 1) question h is)
+    put.asked put.level put.workers put.rows put.pairs put.shown a

@@ -1,0 +1,195 @@
+// The replicas of a session, which are found by their ids.
+ghost use Rattle.std.specs.Prelude.{◌≡◌, ◌≤◌, ◌<◌, ◌++◌, ◌==◌, ℕ, None, get_or, length, map, All, IfOk, OnOk};
+ghost use Rattle.std.specs.Option.{option_and_then, option_copied, option_map};
+ghost use Rattle.std.specs.Result.{result_ok};
+ghost use Rattle.std.specs.List.{position};
+ghost use Rattle.session_lines.specs.Report.{report_text};
+ghost use Rattle.session_replay.specs.Work.{after_give, after_outcome, buffer_of, edit_outcome, give_answer, opened, outcome_reports, reports_at, undo_outcome, with_buffer};
+
+use crate::replica::Replica;
+use op_model::{Operation, Pieces};
+use session_lines::Given;
+use std::alloc::{AllocError, Global};
+use std::marker::Model;
+use text_buffer::Base;
+
+/// How many ids the table has, from 0: an id in a header is one of them.
+const IDS: u16 = 1024;
+
+/// Replicas in the header's order, each found by its id in constant time. Seen as the list of their buffers.
+#[derive(Drop)]
+pub struct Replicas {
+    list: Vec<Replica>,
+    /// The place in the list of the first replica with each id of the table, if one has it.
+    places: Vec<Option<usize>>,
+}
+
+impl Model for Replicas {
+    ghost use Rattle.std.specs.Prelude.{List};
+    ghost use Rattle.text_buffer.specs.Buffer.{BufferState};
+
+    ghost Value = { List BufferState };
+
+    ghost use Rattle.session_replay.specs.Found.{AreFound};
+
+    ghost view = { λ r. r.list.items };
+
+    ghost invariant = { AreFound };
+}
+
+impl Replicas {
+    /// The replicas over a base, which is made ready once for all of them. Takes the time of that, and of a walk along the ids for
+    /// each id of the table.
+    pub fn over(alloc: Global, ids: &[u16], base: &str) -> Result<Replicas, AllocError>
+        requires ids { All (λ (r : ℕ). (1 ≤ r) × (r ≤ 1023)) ids.now }
+        requires base { length base.now ≤ 67108864 }
+        ensures { IfOk result (λ r. r ≡ map (opened base.now) ids.now) }
+    {
+        let list = replicas_over(alloc, ids, base)?;
+        let places = places_of(alloc, ids)?;
+        Ok(Replicas { list, places })
+    }
+
+    /// The replicas, in the header's order.
+    pub fn as_slice(&self) -> &[Replica]
+        ensures { result.now ≡ self.now }
+    {
+        self.list.as_slice()
+    }
+
+    /// The place of the replica with that id, where it is there. In constant time, where the id is one of the table.
+    pub fn place_of(&self, id: u16) -> Option<usize>
+        ensures { result ≡ position (λ b. b.replica == id) self.now }
+    {
+        match self.places.get(id as usize) {
+            Some(place) => *place,
+            None => place_among(self.list.as_slice(), id),
+        }
+    }
+
+    /// The replica with that id, where it is there.
+    pub fn find(&self, id: u16) -> Option<&Replica>
+        ensures { option_copied result ≡ buffer_of id self.now }
+    {
+        match self.place_of(id) {
+            Some(place) => Some(&self.list[place]),
+            None => None,
+        }
+    }
+
+    /// Edits the text of the replica with that id, where it is there, as the operation line with that number. Gives the operation,
+    /// where one is made.
+    pub fn edit(
+        &mut self,
+        alloc: Global,
+        id: u16,
+        number: u64,
+        pieces: &Pieces,
+        out: &mut Vec<u8>,
+    ) -> Result<Option<Operation>, AllocError>
+        ensures report { OnOk result (out.new.items ≡ out.old.items
+            ++ report_text (reports_at (λ b. outcome_reports number (edit_outcome number pieces.now b) b) (buffer_of id self.old))) }
+        ensures after { OnOk result (self.new
+            ≡ with_buffer id (λ b. after_outcome (edit_outcome number pieces.now b) b) self.old) }
+        ensures made { IfOk result (λ o. o ≡ option_and_then
+            (λ b. result_ok (edit_outcome number pieces.now b)) (buffer_of id self.old)) }
+    {
+        let Some(place) = self.place_of(id) else {
+            return Ok(None);
+        };
+        self.list[place].edit(alloc, number, pieces, out)
+    }
+
+    /// Undoes or redoes what stands under the numbers among the operations, at the replica with that id, where it is there, as the
+    /// operation line with that number. Gives the undo, where one is made.
+    pub fn undo(
+        &mut self,
+        alloc: Global,
+        id: u16,
+        number: u64,
+        operations: &[Option<Operation>],
+        numbers: &[u64],
+        out: &mut Vec<u8>,
+    ) -> Result<Option<Operation>, AllocError>
+        ensures report { OnOk result (out.new.items ≡ out.old.items
+            ++ report_text (reports_at (λ b. outcome_reports number (undo_outcome number operations.now numbers.now b) b) (buffer_of id self.old))) }
+        ensures after { OnOk result (self.new
+            ≡ with_buffer id (λ b. after_outcome
+            (undo_outcome number operations.now numbers.now b) b) self.old) }
+        ensures made { IfOk result (λ o. o ≡ option_and_then
+            (λ b. result_ok (undo_outcome number operations.now numbers.now b))
+            (buffer_of id self.old)) }
+    {
+        let Some(place) = self.place_of(id) else {
+            return Ok(None);
+        };
+        self.list[place].undo(alloc, number, operations, numbers, out)
+    }
+
+    /// Gives what stands under a number, an operation or nothing, to the replica with that id, where it is there. Gives its answer.
+    pub fn give(
+        &mut self,
+        id: u16,
+        operation: Option<Operation>,
+    ) -> Result<Option<Given>, AllocError>
+        ensures answer { IfOk result (λ g. g ≡ option_map (give_answer operation)
+            (buffer_of id self.old)) }
+        ensures after { OnOk result (self.new ≡ with_buffer id (after_give operation) self.old) }
+    {
+        let Some(place) = self.place_of(id) else {
+            return Ok(None);
+        };
+        Ok(Some(self.list[place].give(operation)?))
+    }
+}
+
+/// The place of the replica with that id, by a walk along them.
+fn place_among(replicas: &[Replica], id: u16) -> Option<usize>
+    ensures { result ≡ position (λ b. b.replica == id) replicas.now }
+{
+    replicas.iter().position(|replica| replica.has_id(id))
+}
+
+/// The place of an id among the ids.
+fn place_in(ids: &[u16], id: u16) -> Option<usize>
+    ensures { result ≡ position (λ i. i == id) ids.now }
+{
+    ids.iter().position(|other| *other == id)
+}
+
+/// The place among the ids of each id of the table.
+fn places_of(alloc: Global, ids: &[u16]) -> Result<Vec<Option<usize>>, AllocError>
+    ensures { IfOk result (λ v. (k : ℕ) → k < length v.items
+        → get_or v.items k None ≡ position (λ i. i == k) ids.now) }
+{
+    let mut places = Vec::with_capacity(alloc, IDS as usize)?;
+    for id in 0..IDS {
+        places.push(place_in(ids, id))?;
+    }
+    Ok(places)
+}
+
+/// The replicas over the base, which is made ready once for all of them.
+fn replicas_over(alloc: Global, ids: &[u16], base: &str) -> Result<Vec<Replica>, AllocError>
+    requires ids { All (λ (r : ℕ). (1 ≤ r) × (r ≤ 1023)) ids.now }
+    requires base { length base.now ≤ 67108864 }
+    ensures { IfOk result (λ v. v.items ≡ map (opened base.now) ids.now) }
+{
+    match Base::new(alloc, base) {
+        Ok(base) => open_replicas(alloc, ids, &base),
+        Err(_) => Err(AllocError),
+    }
+}
+
+/// The replicas over a base that they share.
+fn open_replicas(alloc: Global, ids: &[u16], base: &Base) -> Result<Vec<Replica>, AllocError>
+    requires ids { All (λ (r : ℕ). (1 ≤ r) × (r ≤ 1023)) ids.now }
+    requires base { length base.now ≤ 67108864 }
+    ensures { IfOk result (λ v. v.items ≡ map (opened base.now) ids.now) }
+{
+    let mut replicas = Vec::with_capacity(alloc, ids.len())?;
+    for id in ids {
+        replicas.push(Replica::new(alloc, *id, base)?)?;
+    }
+    Ok(replicas)
+}
