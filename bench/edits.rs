@@ -1,7 +1,7 @@
 //! Edits among fragments in plain Rust, the same as `bench edits` of `crates/bench` places: usage `edits FRAGMENTS`.
 //!
 //! The fragments lie in an `Arc` B-tree whose nodes hold 6 to 12 entries and the sum of what lies below them, and an entry is a
-//! fragment with its sum, as in the proved tree; lists of at most 6 digits, 2 deletions and 4 replicas lie in place. The ids that
+//! fragment with its sum behind an `Arc`, as in the proved tree; lists of at most 6 digits, 2 deletions and 4 replicas lie in place. The ids that
 //! say where a byte is lie in a tree of the same form, by stamp and offset. The trees before an edit are kept until it is placed,
 //! and what it does to the shown and to the hidden text is listed. An edit is not checked, nor are there undo counts.
 use std::cmp::Reverse;
@@ -191,7 +191,7 @@ fn see(version: &mut Small<(u16, u32), 4>, entry: (u16, u32)) {
 
 #[derive(Clone)]
 enum Content<T: Item> {
-    Leaf(Vec<(T, T::Sum)>),
+    Leaf(Vec<Arc<(T, T::Sum)>>),
     Inner(Vec<Arc<Node<T>>>),
 }
 
@@ -207,9 +207,9 @@ fn node<T: Item>(content: Content<T>) -> Arc<Node<T>> {
     Arc::new(node)
 }
 
-fn entry<T: Item>(item: T) -> (T, T::Sum) {
+fn entry<T: Item>(item: T) -> Arc<(T, T::Sum)> {
     let sum = item.sum();
-    (item, sum)
+    Arc::new((item, sum))
 }
 
 impl<T: Item> Node<T> {

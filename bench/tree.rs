@@ -1,6 +1,6 @@
 //! Work on trees in plain Rust, the same as `bench tree` of `crates/bench` does: usage `tree tree|map COUNT`. `tree` is an `Arc` B-tree
-//! whose nodes hold 6 to 12 entries and the sum of what lies below them; `map` is the standard `BTreeMap`. Nothing that is
-//! made before a work, or let go after it, is in its time.
+//! whose nodes hold 6 to 12 entries and the sum of what lies below them, an entry being an item with its sum behind an `Arc`, as in the
+//! proved tree; `map` is the standard `BTreeMap`. Nothing that is made before a work, or let go after it, is in its time.
 use std::collections::BTreeMap;
 use std::sync::Arc;
 use std::time::Instant;
@@ -71,7 +71,7 @@ impl Item for Line {
 
 #[derive(Clone)]
 enum Content<T> {
-    Leaf(Vec<(T, Span)>),
+    Leaf(Vec<Arc<(T, Span)>>),
     Inner(Vec<Arc<Node<T>>>),
 }
 
@@ -125,7 +125,7 @@ impl<T: Item> Node<T> {
     fn push(&mut self, item: T) -> Option<Arc<Node<T>>> {
         let span = item.span();
         match &mut self.content {
-            Content::Leaf(entries) => entries.push((item, span)),
+            Content::Leaf(entries) => entries.push(Arc::new((item, span))),
             Content::Inner(children) => {
                 let last = children.len() - 1;
                 if let Some(back) = Arc::make_mut(&mut children[last]).push(item) {
@@ -144,10 +144,10 @@ impl<T: Item> Node<T> {
         match &mut self.content {
             Content::Leaf(entries) => match entries.binary_search_by_key(&item.key(), |entry| entry.0.key()) {
                 Ok(i) => {
-                    entries[i] = (item, span);
+                    entries[i] = Arc::new((item, span));
                     *replaced = true;
                 }
-                Err(i) => entries.insert(i, (item, span)),
+                Err(i) => entries.insert(i, Arc::new((item, span))),
             },
             Content::Inner(children) => {
                 let k = child_for(children, item.key());
@@ -197,7 +197,7 @@ impl<T: Item> Node<T> {
                 let range = at as usize..(at + count) as usize;
                 let entry = |item: T| {
                     let span = item.span();
-                    (item, span)
+                    Arc::new((item, span))
                 };
                 entries.splice(range, items.into_iter().map(entry));
             }
@@ -264,7 +264,7 @@ impl<T: Item> Tree<T> {
     fn from_list(items: Vec<T>) -> Tree<T> {
         let entries = items.into_iter().map(|item| {
             let span = item.span();
-            (item, span)
+            Arc::new((item, span))
         });
         let mut nodes = level(entries.collect(), Content::Leaf);
         while nodes.len() > 1 {

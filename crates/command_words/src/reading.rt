@@ -64,7 +64,8 @@ fn command_from(name: &str, matches: &ArgMatches<'_>) -> Option<Command>
 
 /// The command that was found.
 fn command_in(matches: &ArgMatches<'_>) -> Option<Command>
-    ensures command { result ≡ option_and_then (λ p. command_from p.0 p.1) (subcommand_rows_of matches.now) }
+    ensures command { result ≡ option_and_then (λ p. command_from p.0 p.1)
+        (subcommand_rows_of matches.now) }
     ensures within { IfSome result IsInRange }
 {
     let (name, found) = matches.subcommand()?;

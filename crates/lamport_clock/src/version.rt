@@ -106,7 +106,8 @@ impl Version {
     /// raised in place.
     pub fn join(&mut self, o: &Version) -> Result<(), AllocError>
         ensures ok { OnOk result (self.new ≡ joined self.old o.now) }
-        ensures greater { OnOk result ((r : ℕ) → entry self.new r ≡ max (entry self.old r) (entry o.now r)) }
+        ensures greater { OnOk result ((r : ℕ)
+            → entry self.new r ≡ max (entry self.old r) (entry o.now r)) }
         ensures seen { IsTrue (within o.now self.old) → IsOk result }
         ensures err { OnErr result (self.new ≡ self.old) }
     {

@@ -105,7 +105,8 @@ impl Locator {
         ensures below { IsProper a.now → IsProper b.now → IsLess a.now b.now
             → IfOk result (λ between. IsLess between b.now) }
         ensures ends { IfOk result EndsAboveZero }
-        ensures grows_by_one { IfOk result (λ between. length between ≤ max (length a.now) (length b.now) + 1) }
+        ensures grows_by_one { IfOk result (λ between. length between
+            ≤ max (length a.now) (length b.now) + 1) }
 
         ensures short { LieInline (between_digits a.now b.now) → IsOk result }
     {
@@ -164,7 +165,8 @@ fn runs_between(alloc: Global, a: &Runs, b: &Runs) -> Result<Runs, OutOfMemory>
 fn runs_to(alloc: Global, runs: &Runs, place: Place) -> Result<Runs, OutOfMemory>
     requires kept { IsKept runs.now }
     requires within { place.count ≤ length (kept_runs runs.now) }
-    ensures digits { IfOk result (λ all. run_digits (kept_runs all) ≡ digits_to (kept_runs runs.now) place) }
+    ensures digits { IfOk result (λ all. run_digits (kept_runs all)
+        ≡ digits_to (kept_runs runs.now) place) }
     ensures kept { IfOk result IsKept }
     ensures short { LieInline (digits_to (kept_runs runs.now) place) → IsOk result }
 {

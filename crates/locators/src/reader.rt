@@ -56,7 +56,8 @@ impl<'a> Reader<'a> {
         requires { AreFull (runs_ahead ahead) }
         ensures ready { IsReady result }
         ensures left { left result ≡ run_digits (runs_ahead ahead.entry) }
-        ensures whole { 0 < length (runs_ahead ahead.entry) → from_whole result ≡ runs_ahead ahead.entry }
+        ensures whole { 0 < length (runs_ahead ahead.entry)
+            → from_whole result ≡ runs_ahead ahead.entry }
         ensures taken { result.taken ≡ 0 }
     {
         let run = ahead.next().unwrap_or_default();

@@ -24,7 +24,8 @@ pub(crate) enum Runs {
 
 // Both lists one after the other, if there is room.
 fn joined<const N: usize>(a: &[Run], b: &[Run]) -> Option<ArrayVec<Run, N>>
-    ensures { MatchOption result (N < length a.now + length b.now) (λ runs. runs.items ≡ a.now ++ b.now) }
+    ensures { MatchOption result (N < length a.now + length b.now)
+        (λ runs. runs.items ≡ a.now ++ b.now) }
 {
     let mut runs = ArrayVec::new();
     if runs.try_extend_from_slice(a).is_err() || runs.try_extend_from_slice(b).is_err() {
@@ -79,7 +80,8 @@ fn part_behind(
     requires long { INLINE_RUNS ≤ length front.now }
     requires all_front { length front.now ≤ count }
     requires within { count ≤ length front.now + length last.now }
-    ensures runs { IfOk result (λ runs. kept_runs runs ≡ take count (front.now ++ last.now) ++ run ∷ []) }
+    ensures runs { IfOk result (λ runs. kept_runs runs
+        ≡ take count (front.now ++ last.now) ++ run ∷ []) }
     ensures long { IfOk result SharesLong }
 {
     let own = &last[..count - front.len()];
@@ -174,7 +176,8 @@ impl Runs {
     fn followed(&self, alloc: Global, count: usize, run: Run) -> Result<Runs, OutOfMemory>
         requires within { count ≤ length (kept_runs self.now) }
         requires long { SharesLong self.now }
-        ensures runs { IfOk result (λ runs. kept_runs runs ≡ take count (kept_runs self.now) ++ run ∷ []) }
+        ensures runs { IfOk result (λ runs. kept_runs runs
+            ≡ take count (kept_runs self.now) ++ run ∷ []) }
         ensures long { IfOk result SharesLong }
         ensures short { count < INLINE_RUNS → IsOk result }
     {
@@ -201,7 +204,8 @@ impl Runs {
         requires within { count ≤ length (kept_runs self.now) }
         requires some { 0 < run.count }
         requires kept { IsKept self.now }
-        ensures digits { IfOk result (λ runs. run_digits (kept_runs runs) ≡ digits_with (kept_runs self.now) count run) }
+        ensures digits { IfOk result (λ runs. run_digits (kept_runs runs)
+            ≡ digits_with (kept_runs self.now) count run) }
         ensures kept { IfOk result IsKept }
         ensures short { LieInline (digits_with (kept_runs self.now) count run) → IsOk result }
     {
@@ -221,10 +225,12 @@ impl Runs {
     ) -> Result<Runs, OutOfMemory>
         requires within { count ≤ length (kept_runs self.now) }
         requires before { 0 < count }
-        requires last { take count (kept_runs self.now) ≡ take (count - 1) (kept_runs self.now) ++ before ∷ [] }
+        requires last { take count (kept_runs self.now)
+            ≡ take (count - 1) (kept_runs self.now) ++ before ∷ [] }
         requires some { 0 < run.count }
         requires kept { IsKept self.now }
-        ensures digits { IfOk result (λ runs. run_digits (kept_runs runs) ≡ digits_with (kept_runs self.now) count run) }
+        ensures digits { IfOk result (λ runs. run_digits (kept_runs runs)
+            ≡ digits_with (kept_runs self.now) count run) }
         ensures kept { IfOk result IsKept }
         ensures short { LieInline (digits_with (kept_runs self.now) count run) → IsOk result }
     {

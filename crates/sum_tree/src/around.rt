@@ -66,8 +66,10 @@ pub(crate) fn around_child<T: Item>(
 ) -> Result<Around<T::Summary>, AllocError>
     requires within { k < length nodes.now }
     requires fits { T.Summary.fits (fold T.Summary.empty T.Summary.op T.sum_of (joined nodes.now)) }
-    ensures before { IfOk result (λ a. a.before ≡ fold T.Summary.empty T.Summary.op T.sum_of (joined (take k nodes.now))) }
-    ensures behind { IfOk result (λ a. a.behind ≡ fold T.Summary.empty T.Summary.op T.sum_of (joined (drop (k + 1) nodes.now))) }
+    ensures before { IfOk result (λ a. a.before
+        ≡ fold T.Summary.empty T.Summary.op T.sum_of (joined (take k nodes.now))) }
+    ensures behind { IfOk result (λ a. a.behind
+        ≡ fold T.Summary.empty T.Summary.op T.sum_of (joined (drop (k + 1) nodes.now))) }
 {
     let before = trees_sum(alloc, &nodes[..k])?;
     let behind = trees_sum(alloc, &nodes[k + 1..])?;
@@ -81,8 +83,10 @@ pub(crate) fn three_sum<T: Item>(
     middle: &[Entry<T>],
     back: &[Entry<T>],
 ) -> Result<T::Summary, AllocError>
-    requires { T.Summary.fits (fold T.Summary.empty T.Summary.op T.sum_of ((front.now ++ middle.now) ++ back.now)) }
-    ensures { IfOk result (λ s. s ≡ fold T.Summary.empty T.Summary.op T.sum_of ((front.now ++ middle.now) ++ back.now)) }
+    requires { T.Summary.fits (fold T.Summary.empty T.Summary.op T.sum_of
+        ((front.now ++ middle.now) ++ back.now)) }
+    ensures { IfOk result (λ s. s ≡ fold T.Summary.empty T.Summary.op T.sum_of
+        ((front.now ++ middle.now) ++ back.now)) }
 {
     let mut sum = entries_sum(alloc, front)?;
     let new = entries_sum(alloc, middle)?;

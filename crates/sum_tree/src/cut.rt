@@ -29,14 +29,14 @@ fn run<T: Item>(alloc: Global, height: u32, nodes: &[SumTree<T>]) -> Result<SumT
     inner(alloc, height, children)
 }
 
-// A leaf of copies of these entries.
+// A leaf of these entries, which are shared.
 fn copied_leaf<T: Item>(alloc: Global, entries: &[Entry<T>]) -> Result<SumTree<T>, AllocError>
     requires narrow { length entries.now ≤ 12 }
     requires fits { T.Summary.fits (fold T.Summary.empty T.Summary.op T.sum_of entries.now) }
     ensures { IfOk result (λ t. t.items ≡ entries.now) }
 {
     let mut copies = Vec::with_capacity(alloc, entries.len())?;
-    copy_onto(alloc, entries, &mut copies)?;
+    copy_onto(entries, &mut copies)?;
     leaf(alloc, copies)
 }
 

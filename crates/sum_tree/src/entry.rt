@@ -4,20 +4,30 @@ ghost use Rattle.std.specs.Prelude.{◌≡◌, IfOk};
 use crate::traits::{Item, Summary};
 use std::alloc::{AllocError, Global};
 use std::marker::Model;
+use std::sync::Arc;
 
-/// An item with its summary, which is made once. Contracts see it as the item.
+/// An item with its summary, which is made once. Both lie behind one `Arc`, so the copies of a node share them. Contracts
+/// see an entry as its item.
 #[derive(Drop)]
 pub struct Entry<T: Item> {
+    summed: Arc<Summed<T>>,
+}
+
+#[derive(Drop)]
+struct Summed<T: Item> {
     item: T,
     sum: T::Summary,
 }
 
 impl<T: Item> Model for Entry<T> {
+    ghost use Rattle.std.specs.Prelude.{◌≡◌};
+    ghost use Rattle.std.specs.Arc.{arc_value};
+
     ghost Value = { T };
 
-    ghost view = { λ a. a.item };
+    ghost view = { λ a. (arc_value a.summed).item };
 
-    ghost invariant = { λ a. (a.sum ≡ T.sum_of a.item) × T.Summary.fits (T.sum_of a.item) };
+    ghost invariant = { λ a. ((arc_value a.summed).sum ≡ T.sum_of (arc_value a.summed).item) × T.Summary.fits (T.sum_of (arc_value a.summed).item) };
 }
 
 impl<T: Item> Entry<T> {
@@ -27,30 +37,29 @@ impl<T: Item> Entry<T> {
         ensures { IfOk result (λ e. e ≡ item) }
     {
         let sum = item.summary(alloc)?;
-        Ok(Entry { item, sum })
+        let summed = Arc::new(alloc, Summed { item, sum })?;
+        Ok(Entry { summed })
     }
 
     /// The item.
     pub fn item(&self) -> &T
         ensures { result.now ≡ self.now }
     {
-        &self.item
+        &self.summed.item
     }
 
     /// The summary of the item.
     pub fn sum(&self) -> &T::Summary
         ensures { result.now ≡ T.sum_of self.now }
     {
-        &self.sum
+        &self.summed.sum
     }
 
-    /// An entry with an equal item. Its summary is the zero with this one's added: the item is not read anew for it.
-    pub fn copy(&self, alloc: Global) -> Result<Entry<T>, AllocError>
+    /// The same entry for a further owner. Does not allocate.
+    pub fn share(&self) -> Result<Entry<T>, AllocError>
         ensures { IfOk result (λ e. e ≡ self.now) }
     {
-        let item = self.item.copy(alloc)?;
-        let mut sum = T::Summary::zero(alloc);
-        sum.add(alloc, &self.sum)?;
-        Ok(Entry { item, sum })
+        let summed = Arc::try_clone(&self.summed)?;
+        Ok(Entry { summed })
     }
 }

@@ -10,14 +10,13 @@ use crate::tree::{Content, MOST, SumTree, inner, leaf, single};
 use std::alloc::{AllocError, Global};
 
 pub(crate) fn copy_onto<T: Item>(
-    alloc: Global,
     entries: &[Entry<T>],
     out: &mut Vec<Entry<T>>,
 ) -> Result<(), AllocError>
     ensures { OnOk result (out.new.items ≡ out.old.items ++ entries.now) }
 {
     for entry in entries {
-        out.push(entry.copy(alloc)?)?;
+        out.push(entry.share()?)?;
     }
     Ok(())
 }
@@ -77,7 +76,8 @@ pub(crate) fn two_inners<T: Item>(
     requires many { 12 < length children.items }
     requires most { length children.items ≤ 24 }
     requires short { length (joined children.items) ≤ 2 ^ 40 }
-    requires fits { T.Summary.fits (fold T.Summary.empty T.Summary.op T.sum_of (joined children.items)) }
+    requires fits { T.Summary.fits (fold T.Summary.empty T.Summary.op T.sum_of
+        (joined children.items)) }
     ensures { IfOk result (λ p. IsSplit height 0 (joined children.items) p.0 (Some p.1)) }
 {
     let half = children.len() / 2;
@@ -97,8 +97,10 @@ pub(crate) fn inners<T: Item>(
     requires least { 2 ≤ length children.items }
     requires most { length children.items ≤ 24 }
     requires short { length (joined children.items) ≤ 2 ^ 40 }
-    requires fits { T.Summary.fits (fold T.Summary.empty T.Summary.op T.sum_of (joined children.items)) }
-    ensures { IfOk result (λ p. IsSplit height (length children.items) (joined children.items) p.0 p.1) }
+    requires fits { T.Summary.fits (fold T.Summary.empty T.Summary.op T.sum_of
+        (joined children.items)) }
+    ensures { IfOk result (λ p. IsSplit height (length children.items)
+        (joined children.items) p.0 p.1) }
 {
     if children.len() <= MOST {
         return Ok((inner(alloc, height, children)?, None));
@@ -159,8 +161,10 @@ fn with_child<T: Item>(
     requires within { k < length nodes.now }
     requires pair { All (IsChild height) (pair_list front back) }
     requires short { length (joined (with_pair nodes.now k front back)) ≤ 2 ^ 40 }
-    requires fits { T.Summary.fits (fold T.Summary.empty T.Summary.op T.sum_of (joined (with_pair nodes.now k front back))) }
-    ensures { IfOk result (λ p. IsSplit height (length nodes.now) (joined (with_pair nodes.now k front back)) p.0 p.1) }
+    requires fits { T.Summary.fits (fold T.Summary.empty T.Summary.op T.sum_of
+        (joined (with_pair nodes.now k front back))) }
+    ensures { IfOk result (λ p. IsSplit height (length nodes.now)
+        (joined (with_pair nodes.now k front back)) p.0 p.1) }
 {
     let children = gathered(alloc, nodes, k, k + 1, front, back)?;
     inners(alloc, height, children)
@@ -175,14 +179,16 @@ impl<T: Item> SumTree<T> {
     ) -> Result<(SumTree<T>, Option<SumTree<T>>), AllocError>
         requires level { other.now.height ≡ self.now.height }
         requires short { length (self.now.items ++ other.now.items) ≤ 2 ^ 40 }
-        requires fits { T.Summary.fits (fold T.Summary.empty T.Summary.op T.sum_of (self.now.items ++ other.now.items)) }
-        ensures { IfOk result (λ p. IsSplit self.now.height (self.now.width + other.now.width) (self.now.items ++ other.now.items) p.0 p.1) }
+        requires fits { T.Summary.fits (fold T.Summary.empty T.Summary.op T.sum_of
+            (self.now.items ++ other.now.items)) }
+        ensures { IfOk result (λ p. IsSplit self.now.height (self.now.width + other.now.width)
+            (self.now.items ++ other.now.items) p.0 p.1) }
     {
         match (&self.node.content, &other.node.content) {
             (Content::Leaf(front), Content::Leaf(back)) => {
                 let mut entries = Vec::with_capacity(alloc, front.len() + back.len())?;
-                copy_onto(alloc, front, &mut entries)?;
-                copy_onto(alloc, back, &mut entries)?;
+                copy_onto(front, &mut entries)?;
+                copy_onto(back, &mut entries)?;
                 leaves(alloc, entries)
             }
             (Content::Inner(front), Content::Inner(back)) => {
@@ -203,8 +209,10 @@ impl<T: Item> SumTree<T> {
     ) -> Result<(SumTree<T>, Option<SumTree<T>>), AllocError>
         requires lower { other.now.height ≤ self.now.height }
         requires short { length (self.now.items ++ other.now.items) ≤ 2 ^ 40 }
-        requires fits { T.Summary.fits (fold T.Summary.empty T.Summary.op T.sum_of (self.now.items ++ other.now.items)) }
-        ensures { IfOk result (λ p. IsSplit self.now.height self.now.width (self.now.items ++ other.now.items) p.0 p.1) }
+        requires fits { T.Summary.fits (fold T.Summary.empty T.Summary.op T.sum_of
+            (self.now.items ++ other.now.items)) }
+        ensures { IfOk result (λ p. IsSplit self.now.height self.now.width
+            (self.now.items ++ other.now.items) p.0 p.1) }
     {
         if other.height() == self.height() {
             return self.beside(alloc, other);
@@ -227,8 +235,10 @@ impl<T: Item> SumTree<T> {
     ) -> Result<(SumTree<T>, Option<SumTree<T>>), AllocError>
         requires lower { other.now.height ≤ self.now.height }
         requires short { length (other.now.items ++ self.now.items) ≤ 2 ^ 40 }
-        requires fits { T.Summary.fits (fold T.Summary.empty T.Summary.op T.sum_of (other.now.items ++ self.now.items)) }
-        ensures { IfOk result (λ p. IsSplit self.now.height self.now.width (other.now.items ++ self.now.items) p.0 p.1) }
+        requires fits { T.Summary.fits (fold T.Summary.empty T.Summary.op T.sum_of
+            (other.now.items ++ self.now.items)) }
+        ensures { IfOk result (λ p. IsSplit self.now.height self.now.width
+            (other.now.items ++ self.now.items) p.0 p.1) }
     {
         if other.height() == self.height() {
             return other.beside(alloc, self);
@@ -247,7 +257,8 @@ impl<T: Item> SumTree<T> {
     /// before, and `other` is let go.
     pub fn append(&mut self, alloc: Global, other: SumTree<T>) -> Result<(), AllocError>
         requires short { length (self.old.items ++ other.items) ≤ 2 ^ 40 }
-        requires fits { T.Summary.fits (fold T.Summary.empty T.Summary.op T.sum_of (self.old.items ++ other.items)) }
+        requires fits { T.Summary.fits (fold T.Summary.empty T.Summary.op T.sum_of
+            (self.old.items ++ other.items)) }
         ensures ok { OnOk result (self.new.items ≡ self.old.items ++ other.items) }
         ensures err { OnErr result (self.new ≡ self.old) }
     {
@@ -261,7 +272,8 @@ impl<T: Item> SumTree<T> {
     /// want of memory the tree is as before, and the item is let go.
     pub fn push(&mut self, alloc: Global, item: T) -> Result<(), AllocError>
         requires short { length self.old.items < 2 ^ 40 }
-        requires fits { T.Summary.fits (fold T.Summary.empty T.Summary.op T.sum_of (self.old.items ++ item ∷ [])) }
+        requires fits { T.Summary.fits (fold T.Summary.empty T.Summary.op T.sum_of
+            (self.old.items ++ item ∷ [])) }
         ensures ok { OnOk result (self.new.items ≡ self.old.items ++ item ∷ []) }
         ensures err { OnErr result (self.new ≡ self.old) }
     {
@@ -282,7 +294,8 @@ pub(crate) fn both<T: Item>(
     back: &SumTree<T>,
 ) -> Result<SumTree<T>, AllocError>
     requires short { length (front.now.items ++ back.now.items) ≤ 2 ^ 40 }
-    requires fits { T.Summary.fits (fold T.Summary.empty T.Summary.op T.sum_of (front.now.items ++ back.now.items)) }
+    requires fits { T.Summary.fits (fold T.Summary.empty T.Summary.op T.sum_of
+        (front.now.items ++ back.now.items)) }
     ensures { IfOk result (λ t. t.items ≡ front.now.items ++ back.now.items) }
 {
     if back.is_empty() {
@@ -308,7 +321,8 @@ pub(crate) fn root<T: Item>(
 ) -> Result<SumTree<T>, AllocError>
     requires pair { IsSplit front.height 0 (joined (pair_list front back)) front back }
     requires short { length (joined (pair_list front back)) ≤ 2 ^ 40 }
-    requires fits { T.Summary.fits (fold T.Summary.empty T.Summary.op T.sum_of (joined (pair_list front back))) }
+    requires fits { T.Summary.fits (fold T.Summary.empty T.Summary.op T.sum_of
+        (joined (pair_list front back))) }
     ensures { IfOk result (λ t. t.items ≡ joined (pair_list front back)) }
 {
     match back {

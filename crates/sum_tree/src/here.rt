@@ -95,9 +95,15 @@ fn split_leaf<T: Item>(
     requires most { length old.now ≤ 12 }
     requires few { length entries.items ≤ 12 }
     requires many { 12 < length (spliced from to entries.items old.now) }
-    requires fits { T.Summary.fits (fold T.Summary.empty T.Summary.op T.sum_of (spliced from to entries.items old.now)) }
-    requires fitting { Fitting T.Summary.fits T.Summary.op around.items (fold T.Summary.empty T.Summary.op T.sum_of (spliced from to entries.items old.now)) }
-    ensures { IfOk result (λ p. IsPlacing (path_sums T.Summary.op around.items (fold T.Summary.empty T.Summary.op T.sum_of (spliced from to entries.items old.now))) 0 (spliced from to entries.items old.now) entries.items (leaf_seen old.now) (leaf_seen old.now) p) }
+    requires fits { T.Summary.fits (fold T.Summary.empty T.Summary.op T.sum_of
+        (spliced from to entries.items old.now)) }
+    requires fitting { Fitting T.Summary.fits T.Summary.op around.items
+        (fold T.Summary.empty T.Summary.op T.sum_of (spliced from to entries.items old.now)) }
+    ensures { IfOk result (λ p. IsPlacing
+        (path_sums T.Summary.op around.items
+        (fold T.Summary.empty T.Summary.op T.sum_of (spliced from to entries.items old.now))) 0
+        (spliced from to entries.items old.now) entries.items (leaf_seen old.now)
+        (leaf_seen old.now) p) }
 {
     let all = three_parts(alloc, &old[..from], entries, &old[to..])?;
     let sum = entries_sum(alloc, &all)?;
@@ -119,10 +125,17 @@ fn place_in_leaf<T: Item>(
 ) -> Result<Placing<Vec<T::Summary>, Vec<Entry<T>>, SumTree<T>>, AllocError>
     requires within { from + count ≤ length old.old.items }
     requires most { length old.old.items ≤ 12 }
-    requires fits { T.Summary.fits (fold T.Summary.empty T.Summary.op T.sum_of (spliced from (from + count) entries.items old.old.items)) }
-    requires fitting { Fitting T.Summary.fits T.Summary.op around.items (fold T.Summary.empty T.Summary.op T.sum_of (spliced from (from + count) entries.items old.old.items)) }
+    requires fits { T.Summary.fits (fold T.Summary.empty T.Summary.op T.sum_of
+        (spliced from (from + count) entries.items old.old.items)) }
+    requires fitting { Fitting T.Summary.fits T.Summary.op around.items
+        (fold T.Summary.empty T.Summary.op T.sum_of
+        (spliced from (from + count) entries.items old.old.items)) }
     ensures most { length old.new.items ≤ 12 }
-    ensures placing { IsPlacingOr (path_sums T.Summary.op around.items (fold T.Summary.empty T.Summary.op T.sum_of (spliced from (from + count) entries.items old.old.items))) least (spliced from (from + count) entries.items old.old.items) entries.items (leaf_seen old.old.items) (leaf_seen old.new.items) result }
+    ensures placing { IsPlacingOr (path_sums T.Summary.op around.items
+        (fold T.Summary.empty T.Summary.op T.sum_of
+        (spliced from (from + count) entries.items old.old.items))) least
+        (spliced from (from + count) entries.items old.old.items) entries.items
+        (leaf_seen old.old.items) (leaf_seen old.new.items) result }
 {
     let first = from as usize;
     let after = (from + count) as usize;
@@ -179,9 +192,12 @@ fn pair_in_place<T: Item>(
     requires front { IsChild height front }
     requires back { IsChild height back }
     requires short { length (joined (with_pair children.old.items k front (Some back))) ≤ 2 ^ 40 }
-    requires fits { T.Summary.fits (fold T.Summary.empty T.Summary.op T.sum_of (joined (with_pair children.old.items k front (Some back)))) }
+    requires fits { T.Summary.fits (fold T.Summary.empty T.Summary.op T.sum_of
+        (joined (with_pair children.old.items k front (Some back)))) }
     ensures children { AreChildren height children.new.items }
-    ensures placing { (ys : List T) → IsPlacingOr sums.items (length children.old.items) (joined (with_pair children.old.items k front (Some back))) ys (inner_seen height children.old.items) (inner_seen height children.new.items) result }
+    ensures placing { (ys : List T) → IsPlacingOr sums.items (length children.old.items)
+        (joined (with_pair children.old.items k front (Some back))) ys
+        (inner_seen height children.old.items) (inner_seen height children.new.items) result }
 {
     if children.len() < MOST {
         put_pair(children, k, front, Some(back))?;
@@ -204,13 +220,23 @@ fn place_in_children<T: Item>(
     mut around: Vec<Around<T::Summary>>,
 ) -> Result<Placing<Vec<T::Summary>, Vec<Entry<T>>, SumTree<T>>, AllocError>
     requires children { AreChildren height children.old.items }
-    requires old_fits { T.Summary.fits (fold T.Summary.empty T.Summary.op T.sum_of (joined children.old.items)) }
+    requires old_fits { T.Summary.fits (fold T.Summary.empty T.Summary.op T.sum_of
+        (joined children.old.items)) }
     requires within { from + count ≤ length (joined children.old.items) }
-    requires short { length (spliced from (from + count) entries.items (joined children.old.items)) ≤ 2 ^ 40 }
-    requires fits { T.Summary.fits (fold T.Summary.empty T.Summary.op T.sum_of (spliced from (from + count) entries.items (joined children.old.items))) }
-    requires fitting { Fitting T.Summary.fits T.Summary.op around.items (fold T.Summary.empty T.Summary.op T.sum_of (spliced from (from + count) entries.items (joined children.old.items))) }
+    requires short { length (spliced from (from + count) entries.items (joined children.old.items))
+        ≤ 2 ^ 40 }
+    requires fits { T.Summary.fits (fold T.Summary.empty T.Summary.op T.sum_of
+        (spliced from (from + count) entries.items (joined children.old.items))) }
+    requires fitting { Fitting T.Summary.fits T.Summary.op around.items
+        (fold T.Summary.empty T.Summary.op T.sum_of
+        (spliced from (from + count) entries.items (joined children.old.items))) }
     ensures children { AreChildren height children.new.items }
-    ensures placing { IsPlacingOr (path_sums T.Summary.op around.items (fold T.Summary.empty T.Summary.op T.sum_of (spliced from (from + count) entries.items (joined children.old.items)))) (length children.old.items) (spliced from (from + count) entries.items (joined children.old.items)) entries.items (inner_seen height children.old.items) (inner_seen height children.new.items) result }
+    ensures placing { IsPlacingOr (path_sums T.Summary.op around.items
+        (fold T.Summary.empty T.Summary.op T.sum_of
+        (spliced from (from + count) entries.items (joined children.old.items))))
+        (length children.old.items)
+        (spliced from (from + count) entries.items (joined children.old.items)) entries.items
+        (inner_seen height children.old.items) (inner_seen height children.new.items) result }
 {
     let (k, first) = match child_with(children, from, count) {
         None => return Ok(Placing::Back(entries)),
@@ -240,13 +266,22 @@ fn place_in<T: Item>(
 ) -> Result<Placing<Vec<T::Summary>, Vec<Entry<T>>, SumTree<T>>, AllocError>
     requires content { IsContent height content.old }
     requires wide { least ≤ content_width content.old }
-    requires old_fits { T.Summary.fits (fold T.Summary.empty T.Summary.op T.sum_of (content_items content.old)) }
+    requires old_fits { T.Summary.fits (fold T.Summary.empty T.Summary.op T.sum_of
+        (content_items content.old)) }
     requires within { from + count ≤ length (content_items content.old) }
-    requires short { length (spliced from (from + count) entries.items (content_items content.old)) ≤ 2 ^ 40 }
-    requires fits { T.Summary.fits (fold T.Summary.empty T.Summary.op T.sum_of (spliced from (from + count) entries.items (content_items content.old))) }
-    requires fitting { Fitting T.Summary.fits T.Summary.op around.items (fold T.Summary.empty T.Summary.op T.sum_of (spliced from (from + count) entries.items (content_items content.old))) }
+    requires short { length (spliced from (from + count) entries.items (content_items content.old))
+        ≤ 2 ^ 40 }
+    requires fits { T.Summary.fits (fold T.Summary.empty T.Summary.op T.sum_of
+        (spliced from (from + count) entries.items (content_items content.old))) }
+    requires fitting { Fitting T.Summary.fits T.Summary.op around.items
+        (fold T.Summary.empty T.Summary.op T.sum_of
+        (spliced from (from + count) entries.items (content_items content.old))) }
     ensures content { IsContent height content.new }
-    ensures placing { IsPlacingOr (path_sums T.Summary.op around.items (fold T.Summary.empty T.Summary.op T.sum_of (spliced from (from + count) entries.items (content_items content.old)))) least (spliced from (from + count) entries.items (content_items content.old)) entries.items (content_seen height content.old) (content_seen height content.new) result }
+    ensures placing { IsPlacingOr (path_sums T.Summary.op around.items
+        (fold T.Summary.empty T.Summary.op T.sum_of
+        (spliced from (from + count) entries.items (content_items content.old)))) least
+        (spliced from (from + count) entries.items (content_items content.old)) entries.items
+        (content_seen height content.old) (content_seen height content.new) result }
 {
     match content {
         Content::Leaf(old) => return place_in_leaf(alloc, least, old, from, count, entries, around),
@@ -293,7 +328,8 @@ fn push_beside<T: Item>(
     requires children { All (IsChild height) children.old.items }
     requires least { 2 ≤ length children.old.items }
     requires short { length (joined children.old.items ++ entry ∷ []) ≤ 2 ^ 40 }
-    requires fits { T.Summary.fits (fold T.Summary.empty T.Summary.op T.sum_of (joined children.old.items ++ entry ∷ [])) }
+    requires fits { T.Summary.fits (fold T.Summary.empty T.Summary.op T.sum_of
+        (joined children.old.items ++ entry ∷ [])) }
     ensures { IsPushedBeside height children.old.items children.new.items entry result }
 {
     if children.len() >= MOST {
@@ -314,7 +350,8 @@ impl<T: Item> SumTree<T> {
         entry: Entry<T>,
     ) -> Result<Option<Entry<T>>, AllocError>
         requires short { length self.old.items < 2 ^ 40 }
-        requires fits { T.Summary.fits (fold T.Summary.empty T.Summary.op T.sum_of (self.old.items ++ entry ∷ [])) }
+        requires fits { T.Summary.fits (fold T.Summary.empty T.Summary.op T.sum_of
+            (self.old.items ++ entry ∷ [])) }
         ensures { IsPushed self.old self.new entry result }
     {
         let node = match Arc::get_mut(&mut self.node) {
@@ -369,10 +406,18 @@ impl<T: Item> SumTree<T> {
     ) -> Result<Placing<Vec<T::Summary>, Vec<Entry<T>>, SumTree<T>>, AllocError>
         requires wide { least ≤ self.old.width }
         requires within { from + count ≤ length self.old.items }
-        requires short { length (spliced from (from + count) entries.items self.old.items) ≤ 2 ^ 40 }
-        requires fits { T.Summary.fits (fold T.Summary.empty T.Summary.op T.sum_of (spliced from (from + count) entries.items self.old.items)) }
-        requires fitting { Fitting T.Summary.fits T.Summary.op around.items (fold T.Summary.empty T.Summary.op T.sum_of (spliced from (from + count) entries.items self.old.items)) }
-        ensures { IsPlacingOr (outer_sums T.Summary.op around.items (fold T.Summary.empty T.Summary.op T.sum_of (spliced from (from + count) entries.items self.old.items))) least (spliced from (from + count) entries.items self.old.items) entries.items self.old self.new result }
+        requires short { length (spliced from (from + count) entries.items self.old.items)
+            ≤ 2 ^ 40 }
+        requires fits { T.Summary.fits (fold T.Summary.empty T.Summary.op T.sum_of
+            (spliced from (from + count) entries.items self.old.items)) }
+        requires fitting { Fitting T.Summary.fits T.Summary.op around.items
+            (fold T.Summary.empty T.Summary.op T.sum_of
+            (spliced from (from + count) entries.items self.old.items)) }
+        ensures { IsPlacingOr (outer_sums T.Summary.op around.items
+            (fold T.Summary.empty T.Summary.op T.sum_of
+            (spliced from (from + count) entries.items self.old.items))) least
+            (spliced from (from + count) entries.items self.old.items) entries.items self.old
+            self.new result }
     {
         let node = match Arc::get_mut(&mut self.node) {
             None => return Ok(Placing::Back(entries)),

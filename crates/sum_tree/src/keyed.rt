@@ -32,7 +32,9 @@ fn place<T: KeyedItem>(entries: &[Entry<T>], key: &T::Key) -> Result<usize, usiz
 fn ends_before<T: KeyedItem>(tree: &SumTree<T>, key: &T::Key) -> bool
     requires filled { 1 ≤ length tree.now.items }
     requires ascending { Ascending T.Key.cmp T.key_of tree.now.items }
-    ensures { (d : T) → result ≡ is_lt (T.Key.cmp (T.key_of (slice_index_or tree.now.items (length tree.now.items - 1) d)) key.now) }
+    ensures { (d : T) → result ≡ is_lt
+        (T.Key.cmp (T.key_of (slice_index_or tree.now.items (length tree.now.items - 1) d))
+        key.now) }
 {
     let last = match T::last_key(tree.summary()) {
         Some(last) => last,
@@ -60,8 +62,10 @@ fn child_for<T: KeyedItem>(children: &[SumTree<T>], key: &T::Key) -> (usize, u64
     requires ascending { Ascending T.Key.cmp T.key_of (joined children.now) }
     ensures child { result.0 < length children.now }
     ensures count { result.1 ≡ length (joined (take result.0 children.now)) }
-    ensures before { All (λ x. T.Key.cmp (T.key_of x) key.now ≡ Less) (joined (take result.0 children.now)) }
-    ensures behind { All (λ x. T.Key.cmp (T.key_of x) key.now ≡ Greater) (joined (drop (result.0 + 1) children.now)) }
+    ensures before { All (λ x. T.Key.cmp (T.key_of x) key.now ≡ Less)
+        (joined (take result.0 children.now)) }
+    ensures behind { All (λ x. T.Key.cmp (T.key_of x) key.now ≡ Greater)
+        (joined (drop (result.0 + 1) children.now)) }
 {
     let last = children.len() - 1;
     let mut before = 0;
@@ -129,9 +133,12 @@ impl<T: KeyedItem> SumTree<T> {
     fn put_item(&mut self, alloc: Global, from: u64, to: u64, item: T) -> Result<(), AllocError>
         requires order { from ≤ to }
         requires within { to ≤ length self.old.items }
-        requires short { length ((take from self.old.items ++ item ∷ []) ++ drop to self.old.items) ≤ 2 ^ 40 }
-        requires fits { T.Summary.fits (fold T.Summary.empty T.Summary.op T.sum_of ((take from self.old.items ++ item ∷ []) ++ drop to self.old.items)) }
-        ensures ok { OnOk result (self.new.items ≡ (take from self.old.items ++ item ∷ []) ++ drop to self.old.items) }
+        requires short { length ((take from self.old.items ++ item ∷ []) ++ drop to self.old.items)
+            ≤ 2 ^ 40 }
+        requires fits { T.Summary.fits (fold T.Summary.empty T.Summary.op T.sum_of
+            ((take from self.old.items ++ item ∷ []) ++ drop to self.old.items)) }
+        ensures ok { OnOk result (self.new.items
+            ≡ (take from self.old.items ++ item ∷ []) ++ drop to self.old.items) }
         ensures err { OnErr result (self.new ≡ self.old) }
     {
         let entries = one(alloc, Entry::new(alloc, item)?)?;
@@ -141,9 +148,12 @@ impl<T: KeyedItem> SumTree<T> {
     // Puts one item before the i-th, or behind the others. There it is put in place, where that can be.
     fn put_new(&mut self, alloc: Global, i: u64, item: T) -> Result<(), AllocError>
         requires within { i ≤ length self.old.items }
-        requires short { length ((take i self.old.items ++ item ∷ []) ++ drop i self.old.items) ≤ 2 ^ 40 }
-        requires fits { T.Summary.fits (fold T.Summary.empty T.Summary.op T.sum_of ((take i self.old.items ++ item ∷ []) ++ drop i self.old.items)) }
-        ensures ok { OnOk result (self.new.items ≡ (take i self.old.items ++ item ∷ []) ++ drop i self.old.items) }
+        requires short { length ((take i self.old.items ++ item ∷ []) ++ drop i self.old.items)
+            ≤ 2 ^ 40 }
+        requires fits { T.Summary.fits (fold T.Summary.empty T.Summary.op T.sum_of
+            ((take i self.old.items ++ item ∷ []) ++ drop i self.old.items)) }
+        ensures ok { OnOk result (self.new.items
+            ≡ (take i self.old.items ++ item ∷ []) ++ drop i self.old.items) }
         ensures err { OnErr result (self.new ≡ self.old) }
     {
         if i < self.len() {
@@ -165,9 +175,12 @@ impl<T: KeyedItem> SumTree<T> {
     pub fn insert(&mut self, alloc: Global, item: T) -> Result<Option<T>, AllocError>
         requires ascending { Ascending T.Key.cmp T.key_of self.old.items }
         requires short { length (inserted T.Key.cmp T.key_of item self.old.items) ≤ 2 ^ 40 }
-        requires fits { T.Summary.fits (fold T.Summary.empty T.Summary.op T.sum_of (inserted T.Key.cmp T.key_of item self.old.items)) }
-        ensures replaced { IfOk result (λ o. o ≡ held T.Key.cmp T.key_of (T.key_of item) self.old.items) }
-        ensures ok { OnOk result (self.new.items ≡ inserted T.Key.cmp T.key_of item self.old.items) }
+        requires fits { T.Summary.fits (fold T.Summary.empty T.Summary.op T.sum_of
+            (inserted T.Key.cmp T.key_of item self.old.items)) }
+        ensures replaced { IfOk result (λ o. o ≡ held T.Key.cmp T.key_of
+            (T.key_of item) self.old.items) }
+        ensures ok { OnOk result (self.new.items
+            ≡ inserted T.Key.cmp T.key_of item self.old.items) }
         ensures err { OnErr result (self.new ≡ self.old) }
         ensures ascending { Ascending T.Key.cmp T.key_of self.new.items }
     {
@@ -191,7 +204,8 @@ impl<T: KeyedItem> SumTree<T> {
     pub fn remove(&mut self, alloc: Global, key: &T::Key) -> Result<Option<T>, AllocError>
         requires ascending { Ascending T.Key.cmp T.key_of self.old.items }
         ensures removed { IfOk result (λ o. o ≡ held T.Key.cmp T.key_of key.now self.old.items) }
-        ensures ok { OnOk result (self.new.items ≡ removed T.Key.cmp T.key_of key.now self.old.items) }
+        ensures ok { OnOk result (self.new.items
+            ≡ removed T.Key.cmp T.key_of key.now self.old.items) }
         ensures err { OnErr result (self.new ≡ self.old) }
         ensures ascending { Ascending T.Key.cmp T.key_of self.new.items }
     {

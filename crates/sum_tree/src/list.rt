@@ -64,7 +64,8 @@ fn leaf_level<T: Item>(
     groups: Vec<Vec<Entry<T>>>,
 ) -> Result<Vec<SumTree<T>>, AllocError>
     requires sizes { All IsGroup groups.items }
-    requires fits { T.Summary.fits (fold T.Summary.empty T.Summary.op T.sum_of (chained groups.items)) }
+    requires fits { T.Summary.fits (fold T.Summary.empty T.Summary.op T.sum_of
+        (chained groups.items)) }
     ensures items { IfOk result (λ ts. joined ts.items ≡ chained groups.items) }
     ensures children { IfOk result (λ ts. All (IsChild 1) ts.items) }
     ensures fewer { IfOk result (λ ts. length ts.items ≡ length groups.items) }
@@ -85,7 +86,8 @@ fn inner_level<T: Item>(
     requires sizes { All IsGroup groups.items }
     requires children { All (IsChild height) (chained groups.items) }
     requires short { length (joined (chained groups.items)) ≤ 2 ^ 40 }
-    requires fits { T.Summary.fits (fold T.Summary.empty T.Summary.op T.sum_of (joined (chained groups.items))) }
+    requires fits { T.Summary.fits (fold T.Summary.empty T.Summary.op T.sum_of
+        (joined (chained groups.items))) }
     ensures items { IfOk result (λ ts. joined ts.items ≡ joined (chained groups.items)) }
     ensures children { IfOk result (λ ts. All (IsChild (height + 1)) ts.items) }
     ensures fewer { IfOk result (λ ts. length ts.items ≡ length groups.items) }

@@ -11,7 +11,8 @@ use crate::tree::{Content, SumTree};
 pub(crate) fn child_at<T: Item>(children: &[SumTree<T>], i: u64) -> (usize, u64)
     requires { i < length (joined children.now) }
     ensures child { result.0 < length children.now }
-    ensures within { (d : Seen T) → result.1 < length (slice_index_or children.now result.0 d).items }
+    ensures within { (d : Seen T) → result.1
+        < length (slice_index_or children.now result.0 d).items }
     ensures before { length (joined (take result.0 children.now)) + result.1 ≡ i }
 {
     let mut rest = i;
@@ -42,7 +43,8 @@ impl<T: Item> SumTree<T> {
     // The last item.
     pub(crate) fn end(&self) -> &T
         requires filled { 1 ≤ length self.now.items }
-        ensures { (d : T) → result.now ≡ slice_index_or self.now.items (length self.now.items - 1) d }
+        ensures { (d : T) → result.now
+            ≡ slice_index_or self.now.items (length self.now.items - 1) d }
     {
         match &self.node.content {
             Content::Leaf(entries) => entries[entries.len() - 1].item(),

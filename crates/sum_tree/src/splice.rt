@@ -56,9 +56,9 @@ pub(crate) fn three_parts<T: Item>(
     ensures { IfOk result (λ es. es.items ≡ (front.now ++ middle.items) ++ back.now) }
 {
     let mut entries = Vec::with_capacity(alloc, front.len() + middle.len() + back.len())?;
-    copy_onto(alloc, front, &mut entries)?;
+    copy_onto(front, &mut entries)?;
     entries.append(&mut middle)?;
-    copy_onto(alloc, back, &mut entries)?;
+    copy_onto(back, &mut entries)?;
     Ok(entries)
 }
 
@@ -80,8 +80,10 @@ fn with_children<T: Item>(
     requires within { to ≤ length nodes.now }
     requires pair { All (IsChild height) (pair_list front back) }
     requires short { length (joined (with_run nodes.now from to front back)) ≤ 2 ^ 40 }
-    requires fits { T.Summary.fits (fold T.Summary.empty T.Summary.op T.sum_of (joined (with_run nodes.now from to front back))) }
-    ensures { IfOk result (λ p. IsSpliced height (length nodes.now) (joined (with_run nodes.now from to front back)) p.0 p.1) }
+    requires fits { T.Summary.fits (fold T.Summary.empty T.Summary.op T.sum_of
+        (joined (with_run nodes.now from to front back))) }
+    ensures { IfOk result (λ p. IsSpliced height (length nodes.now)
+        (joined (with_run nodes.now from to front back)) p.0 p.1) }
 {
     if to - from == nodes.len() && back.is_none() {
         return Ok((front, None));
@@ -106,8 +108,10 @@ fn mended<T: Item>(
     requires within { k < length nodes.now }
     requires pair { IsPiece height front back }
     requires short { length (joined (with_pair nodes.now k front back)) ≤ 2 ^ 40 }
-    requires fits { T.Summary.fits (fold T.Summary.empty T.Summary.op T.sum_of (joined (with_pair nodes.now k front back))) }
-    ensures { IfOk result (λ p. IsSpliced height (length nodes.now) (joined (with_pair nodes.now k front back)) p.0 p.1) }
+    requires fits { T.Summary.fits (fold T.Summary.empty T.Summary.op T.sum_of
+        (joined (with_pair nodes.now k front back))) }
+    ensures { IfOk result (λ p. IsSpliced height (length nodes.now)
+        (joined (with_pair nodes.now k front back)) p.0 p.1) }
 {
     if back.is_some() || front.width() >= LEAST {
         return with_children(alloc, height, nodes, k, k + 1, front, back);
@@ -140,9 +144,12 @@ impl<T: Item> SumTree<T> {
         entries: Vec<Entry<T>>,
     ) -> Result<Splicing<SumTree<T>, Vec<Entry<T>>>, AllocError>
         requires within { from + count ≤ length self.now.items }
-        requires short { length (spliced from (from + count) entries.items self.now.items) ≤ 2 ^ 40 }
-        requires fits { T.Summary.fits (fold T.Summary.empty T.Summary.op T.sum_of (spliced from (from + count) entries.items self.now.items)) }
-        ensures { IfOk result (λ r. IsSplicing self.now.height self.now.width (spliced from (from + count) entries.items self.now.items) entries.items r) }
+        requires short { length (spliced from (from + count) entries.items self.now.items)
+            ≤ 2 ^ 40 }
+        requires fits { T.Summary.fits (fold T.Summary.empty T.Summary.op T.sum_of
+            (spliced from (from + count) entries.items self.now.items)) }
+        ensures { IfOk result (λ r. IsSplicing self.now.height self.now.width
+            (spliced from (from + count) entries.items self.now.items) entries.items r) }
     {
         match &self.node.content {
             Content::Leaf(old) => {
@@ -189,7 +196,8 @@ impl<T: Item> SumTree<T> {
         requires order { from ≤ to }
         requires within { to ≤ length self.now.items }
         requires short { length (spliced from to entries.items self.now.items) ≤ 2 ^ 40 }
-        requires fits { T.Summary.fits (fold T.Summary.empty T.Summary.op T.sum_of (spliced from to entries.items self.now.items)) }
+        requires fits { T.Summary.fits (fold T.Summary.empty T.Summary.op T.sum_of
+            (spliced from to entries.items self.now.items)) }
         ensures { IfOk result (λ t. t.items ≡ spliced from to entries.items self.now.items) }
     {
         match self.spliced_leaf(alloc, from, to - from, entries)? {
@@ -214,7 +222,8 @@ impl<T: Item> SumTree<T> {
         requires order { from ≤ to }
         requires within { to ≤ length self.old.items }
         requires short { length (spliced from to entries.items self.old.items) ≤ 2 ^ 40 }
-        requires fits { T.Summary.fits (fold T.Summary.empty T.Summary.op T.sum_of (spliced from to entries.items self.old.items)) }
+        requires fits { T.Summary.fits (fold T.Summary.empty T.Summary.op T.sum_of
+            (spliced from to entries.items self.old.items)) }
         ensures ok { OnOk result (self.new.items ≡ spliced from to entries.items self.old.items) }
         ensures err { OnErr result (self.new ≡ self.old) }
     {
@@ -250,7 +259,8 @@ impl<T: Item> SumTree<T> {
         requires order { from ≤ to }
         requires within { to ≤ length self.old.items }
         requires short { length (spliced from to items.items self.old.items) ≤ 2 ^ 40 }
-        requires fits { T.Summary.fits (fold T.Summary.empty T.Summary.op T.sum_of (spliced from to items.items self.old.items)) }
+        requires fits { T.Summary.fits (fold T.Summary.empty T.Summary.op T.sum_of
+            (spliced from to items.items self.old.items)) }
         ensures ok { OnOk result (self.new.items ≡ spliced from to items.items self.old.items) }
         ensures err { OnErr result (self.new ≡ self.old) }
     {

@@ -78,7 +78,9 @@ pub trait KeyedItem: Item {
     /// The key of the last of some items whose keys ascend, where their sum tells it. By default no sum does, and then a
     /// tree walks down to the item. Takes no memory.
     fn last_key(_sum: &Self::Summary) -> Option<Self::Key>
-        ensures { (xs : List Self) → Ascending Self.Key.cmp key_of xs → _sum.now ≡ fold Self.Summary.empty Self.Summary.op Self.sum_of xs → IsLastKey key_of xs result }
+        ensures { (xs : List Self) → Ascending Self.Key.cmp key_of xs
+            → _sum.now ≡ fold Self.Summary.empty Self.Summary.op Self.sum_of xs
+            → IsLastKey key_of xs result }
     {
         None
     }

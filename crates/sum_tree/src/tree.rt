@@ -180,7 +180,8 @@ pub(crate) fn inner<T: Item>(
     requires least { 2 ≤ length children.items }
     requires most { length children.items ≤ 12 }
     requires short { length (joined children.items) ≤ 2 ^ 40 }
-    requires fits { T.Summary.fits (fold T.Summary.empty T.Summary.op T.sum_of (joined children.items)) }
+    requires fits { T.Summary.fits (fold T.Summary.empty T.Summary.op T.sum_of
+        (joined children.items)) }
     ensures items { IfOk result (λ t. t.items ≡ joined children.items) }
     ensures height { IfOk result (λ t. t.height ≡ height) }
     ensures width { IfOk result (λ t. t.width ≡ length children.items) }
