@@ -1,3 +1,4 @@
 pub mod Levels
 pub mod Walks
 pub mod Counts
+pub mod Lasts

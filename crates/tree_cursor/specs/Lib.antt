@@ -7,3 +7,4 @@ pub mod Walking
 pub mod Keys
 pub mod Counting
 pub mod Rules
+pub mod Sums

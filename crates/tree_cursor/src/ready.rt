@@ -1,8 +1,9 @@
-//! Dimensions that are ready for use: the count, and the greatest of keys.
+//! Dimensions that are ready for use: the count, and the greatest of keys, which is a summary too.
 ghost use Rattle.tree_cursor.specs.Keys.{greater, key_less, cmp_less};
 ghost use Rattle.std.specs.Prelude.{◌≡◌, ℕ, ◌+◌, ◌^◌, ◌<◌, ◌≤◌, Option, Some, None, Bool, nat_lt, cond, refl};
 
 use crate::traits::{Bias, Dimension, Moves, Plain, Target};
+use std::alloc::{AllocError, Global};
 use std::cmp::Ordering;
 use sum_tree::{Count, Summary};
 
@@ -66,10 +67,50 @@ pub trait KeySummary: Summary {
     ghost greater_key: { (a b : Self) → Self.admits a → Self.admits b → key_of (Self.op a b) ≡ greater (cmp_less Self.Key.cmp) (key_of a) (key_of b) };
 }
 
-/// The greatest key so far: the greater of itself and the summary's. None, before all keys, is where no item was.
+/// The greatest key of a run of items, the first of equal ones; None where there is no item. It is a summary of items
+/// with keys, and a place: the greatest key so far, where None is before all keys.
 #[derive(Clone, Copy, Debug, PartialEq, Eq)]
 pub struct Greatest<K> {
     pub key: Option<K>,
+}
+
+impl<K: Ord + Copy> Summary for Greatest<K> {
+    ghost use Rattle.tree_cursor.specs.Sums.{nothing_greatest, greatest_sum, greatest_laws, AnyGreatest};
+
+    ghost empty = { nothing_greatest };
+
+    ghost op = { greatest_sum K.cmp };
+
+    ghost admits = { AnyGreatest };
+
+    ghost fits = { AnyGreatest };
+
+    ghost single = { AnyGreatest };
+
+    ghost laws = { greatest_laws K.cmp K.total };
+
+    fn zero(_alloc: Global) -> Greatest<K> {
+        Greatest { key: None }
+    }
+
+    fn add(&mut self, _alloc: Global, other: &Greatest<K>) -> Result<(), AllocError> {
+        self.key = greater(self.key, other.key);
+        Ok(())
+    }
+}
+
+impl<K: Ord + Copy> KeySummary for Greatest<K> {
+    type Key = K;
+
+    ghost key_of = { λ g. g.key };
+
+    ghost no_key = { refl };
+
+    ghost greater_key = { λ a b f g. refl };
+
+    fn greatest_key(&self) -> Option<K> {
+        self.key
+    }
 }
 
 impl<K: Ord + Copy> Plain for Greatest<K> {
