@@ -8,11 +8,11 @@ use Rattle.std.specs.declared.cmp.Ordering.{Ordering}
 use Rattle.std.specs.declared.cmp.Ordering.TheVariants.{Less, Equal, Greater}
 use Rattle.tree_cursor.specs.Places.{seek_count, place_behind}
 use Rattle.tree_cursor.specs.Keys.{greater, key_less, key_passes, cmp_less, order_less, IsLess}
+use Rattle.tree_cursor.specs.declared.ready.Greatest.{Greatest}
 use Rattle.tree_cursor.specs.declared.traits.Bias.TheVariants.{Left}
 use Rattle.lamport_clock.specs.declared.stamp.Lamport.{Lamport}
 use Rattle.undo_map.specs.declared.entry.UndoKey.{UndoKey}
 use Rattle.undo_map.specs.declared.entry.UndoEntry.{UndoEntry}
-use Rattle.undo_map.specs.declared.entry.LastUndo.{LastUndo}
 use Rattle.undo_map.specs.Counts.{key_of, stamp_cmp, key_cmp, is_earlier, IsAscending}
 use Rattle.undo_map.specs.Keys.{key_order}
 use Rattle.undo_map.proofs.Early.{late_after}
@@ -23,10 +23,10 @@ less a b = cmp_less key_cmp a b
 order : IsLess less
 order = order_less key_cmp key_order
 
-abbrev key_sum : UndoEntry → LastUndo
+abbrev key_sum : UndoEntry → Greatest UndoKey
 key_sum e = record { key = Some (key_of e) }
 
-abbrev move : Option UndoKey → LastUndo → Option (Option UndoKey)
+abbrev move : Option UndoKey → Greatest UndoKey → Option (Option UndoKey)
 move p s = Some (greater less p s.key)
 
 -- how many entries a seek for a key goes over

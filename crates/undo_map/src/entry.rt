@@ -1,12 +1,11 @@
 // The count that an undo gives an edit.
-ghost use Rattle.std.specs.Prelude.{◌≡◌, Option, Some, None, refl};
+ghost use Rattle.std.specs.Prelude.{◌≡◌, Some};
 ghost use Rattle.undo_map.specs.Counts.{key_of};
 
 use lamport_clock::Lamport;
 use std::alloc::{AllocError, Global};
-use std::cmp::Ordering;
-use sum_tree::{Item, KeyedItem, Summary};
-use tree_cursor::KeySummary;
+use sum_tree::{Item, KeyedItem};
+use tree_cursor::Greatest;
 
 /// What counts are ordered by: the edit, then the undo.
 #[derive(Clone, Copy, Debug, PartialEq, Eq, PartialOrd, Ord)]
@@ -23,60 +22,8 @@ pub struct UndoEntry {
     pub count: u32,
 }
 
-/// The greatest key of a run of counts, None where there is none.
-#[derive(Clone, Copy)]
-pub struct LastUndo {
-    pub key: Option<UndoKey>,
-}
-
-impl Summary for LastUndo {
-    ghost use Rattle.undo_map.specs.Keys.{no_undo, last_undo, last_undo_laws};
-
-    ghost empty = { no_undo };
-
-    ghost op = { last_undo };
-
-    ghost admits = { λ a. Unit };
-
-    ghost fits = { λ a. Unit };
-
-    ghost single = { λ a. Unit };
-
-    ghost laws = { last_undo_laws };
-
-    fn zero(_alloc: Global) -> LastUndo {
-        LastUndo { key: None }
-    }
-
-    fn add(&mut self, _alloc: Global, other: &LastUndo) -> Result<(), AllocError> {
-        self.key = match (self.key, other.key) {
-            (None, b) => b,
-            (a, None) => a,
-            (Some(x), Some(y)) => match x.cmp(&y) {
-                Ordering::Less => Some(y),
-                Ordering::Equal | Ordering::Greater => Some(x),
-            },
-        };
-        Ok(())
-    }
-}
-
-impl KeySummary for LastUndo {
-    type Key = UndoKey;
-
-    ghost key_of = { λ s. s.key };
-
-    ghost no_key = { refl };
-
-    ghost greater_key = { λ a b f g. refl };
-
-    fn greatest_key(&self) -> Option<UndoKey> {
-        self.key
-    }
-}
-
 impl Item for UndoEntry {
-    type Summary = LastUndo;
+    type Summary = Greatest<UndoKey>;
 
     ghost sum_of = { λ e. record { key = Some (key_of e) } };
 
@@ -84,8 +31,8 @@ impl Item for UndoEntry {
 
     ghost is_single = { λ e. tt };
 
-    fn summary(&self, _alloc: Global) -> Result<LastUndo, AllocError> {
-        Ok(LastUndo {
+    fn summary(&self, _alloc: Global) -> Result<Greatest<UndoKey>, AllocError> {
+        Ok(Greatest {
             key: Some(self.key()),
         })
     }
@@ -107,7 +54,7 @@ impl KeyedItem for UndoEntry {
         }
     }
 
-    fn last_key(sum: &LastUndo) -> Option<UndoKey> {
+    fn last_key(sum: &Greatest<UndoKey>) -> Option<UndoKey> {
         sum.key
     }
 }

@@ -8,7 +8,7 @@ mod map;
 mod next;
 mod undos;
 
-pub use entry::{LastUndo, UndoEntry, UndoKey};
+pub use entry::{UndoEntry, UndoKey};
 pub use lamport_clock::OutOfMemory;
 pub use laws::{counts_are_of_history, entries_are_counts, entries_are_held};
 pub use map::UndoMap;
