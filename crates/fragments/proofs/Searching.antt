@@ -7,13 +7,13 @@ use Rattle.std.specs.declared.cmp.Ordering.{Ordering}
 use Rattle.std.specs.declared.cmp.Ordering.TheVariants.{Less, Equal, Greater}
 use Rattle.tree_cursor.specs.Places.{seek_count}
 use Rattle.tree_cursor.specs.Keys.{greater, key_less, key_passes, cmp_less, order_less, IsLess}
+use Rattle.tree_cursor.specs.declared.ready.Greatest.{Greatest}
 use Rattle.tree_cursor.specs.declared.traits.Bias.TheVariants.{Left}
 use Rattle.lamport_clock.specs.declared.stamp.Lamport.{Lamport}
 use Rattle.lamport_clock.specs.Stamps.{same_stamp}
 use Rattle.lamport_clock.proofs.Order.{is_eq-same}
 use Rattle.fragments.specs.declared.index_entry.IndexKey.{IndexKey}
 use Rattle.fragments.specs.declared.index_entry.IndexEntry.{IndexEntry}
-use Rattle.fragments.specs.declared.index_entry.LastKey.{LastKey}
 use Rattle.fragments.specs.Index.{key_of, stamp_cmp, key_cmp, stamp_order, key_order, IsAscending, first_from, covers, nearest, entry_for, id_for}
 
 abbrev less : IndexKey → IndexKey → Bool
@@ -22,7 +22,7 @@ less a b = cmp_less key_cmp a b
 order : IsLess less
 order = order_less key_cmp key_order
 
-abbrev key_sum : IndexEntry → LastKey
+abbrev key_sum : IndexEntry → Greatest IndexKey
 key_sum e = record { key = Some (key_of e) }
 
 -- ---- the seek
@@ -39,7 +39,7 @@ on : (p : Option IndexKey) (b k : IndexKey) → key_less less p (Some k) ≡ tru
 on None b k h = refl
 on (Some a) b k h = on_at a b k (less a b) refl h
 
-abbrev move : Option IndexKey → LastKey → Option (Option IndexKey)
+abbrev move : Option IndexKey → Greatest IndexKey → Option (Option IndexKey)
 move p s = Some (greater less p s.key)
 
 step : (e : IndexEntry) (w : List IndexEntry) (n : ℕ) → slice_get (e ∷ w) (1 + n) ≡ slice_get w n

@@ -1,18 +1,15 @@
 -- An index of fragments: entries ascending by stamp, then descending by offset.
-use Rattle.std.specs.Prelude.{ℕ, nat_le, nat_lt, Bool, ◌&&◌, if◌then◌else◌, List, [], ◌∷◌, Option, Some, None, option_map, refl}
+use Rattle.std.specs.Prelude.{ℕ, nat_le, nat_lt, Bool, ◌&&◌, if◌then◌else◌, List, [], ◌∷◌, Option, Some, None, option_map}
 use Rattle.std.specs.Ordering.{nat_cmp, ordering_then}
 use Rattle.std.specs.Cmp.{IsTotalOrder}
 use Rattle.std.specs.declared.cmp.Ordering.{Ordering}
-use Rattle.std.proofs.Common.{ap}
 use Rattle.std.proofs.lemmas.Cmp.{nat_cmp_total, on_total, back_total, then_total}
 use Rattle.sum_tree.specs.Keyed.{Ascending, inserted}
-use Rattle.sum_tree.specs.Laws.{SummaryLaws}
-use Rattle.tree_cursor.specs.Keys.{greater, greater_none, greater_assoc, cmp_less, order_less}
+use Rattle.tree_cursor.specs.Keys.{cmp_less}
 use Rattle.lamport_clock.specs.declared.stamp.Lamport.{Lamport}
 use Rattle.lamport_clock.specs.Stamps.{same_stamp}
 use Rattle.fragments.specs.declared.index_entry.IndexKey.{IndexKey}
 use Rattle.fragments.specs.declared.index_entry.IndexEntry.{IndexEntry}
-use Rattle.fragments.specs.declared.index_entry.LastKey.{LastKey}
 
 abbrev pub key_of : IndexEntry → IndexKey
 key_of e = record { stamp = e.stamp; offset = record { 0 = e.offset } }
@@ -58,27 +55,10 @@ abbrev pub first_from : IndexKey → List IndexEntry → Option IndexEntry
 first_from k [] = None
 first_from k (e ∷ w) = if cmp_less key_cmp (key_of e) k then first_from k w else Some e
 
--- ---- the greatest key
-
-abbrev pub no_key : LastKey
-no_key = record { key = None }
-
-abbrev pub last_key : LastKey → LastKey → LastKey
-last_key a b = record { key = greater (cmp_less key_cmp) a.key b.key }
+-- ---- the order of keys is total
 
 pub stamp_order : IsTotalOrder stamp_cmp
 stamp_order = then_total (on_total (λ (s : Lamport). s.value) nat_cmp_total) (on_total (λ (s : Lamport). s.replica) nat_cmp_total)
 
 pub key_order : IsTotalOrder key_cmp
 key_order = then_total (on_total (λ (k : IndexKey). k.stamp) stamp_order) (on_total (λ (k : IndexKey). k.offset.0) (back_total nat_cmp_total))
-
-pub last_key_laws : SummaryLaws no_key last_key (λ a. Unit) (λ a. Unit)
-last_key_laws = record {
-  empty_admitted = tt;
-  op_admitted = λ a b p q. tt;
-  left_identity = λ a p. refl;
-  right_identity = λ a p. ap (λ k. record { key = k }) (greater_none (cmp_less key_cmp) a.key);
-  assoc = λ a b c p q r. ap (λ k. record { key = k }) (greater_assoc (cmp_less key_cmp) (order_less key_cmp key_order) a.key b.key c.key);
-  empty_fits = tt;
-  fits_parts = λ a b c p q r h. tt;
-}

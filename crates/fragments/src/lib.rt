@@ -16,7 +16,7 @@ mod stamps;
 pub use dimensions::{ById, Full, FullAt, Visible};
 pub use fragment::{Fragment, FragmentSummary};
 pub use index::InsertionIndex;
-pub use index_entry::{IndexEntry, IndexKey, LastKey};
+pub use index_entry::{IndexEntry, IndexKey};
 pub use laws::{base_stands, entry_takes_its_place, index_finds_fragments, places_count_cells};
 pub use spans::{INLINE_SPANS, Sight, Span, Spans};
 pub use stamps::{INLINE_STAMPS, Stamps};
