@@ -1,13 +1,10 @@
 //! Numbers as items: with their count, and with the greatest of them.
-ghost use Rattle.std.specs.Prelude.{◌≡◌, Option, Some, None, refl};
-ghost use Rattle.std.specs.Ordering.{nat_cmp};
-ghost use Rattle.tree_cursor.specs.Keys.{greater, cmp_less};
+ghost use Rattle.std.specs.Prelude.{Some};
 
 use crate::numbered::Numbered;
 use std::alloc::{AllocError, Global};
-use std::cmp::Ordering;
-use sum_tree::{Count, Item, KeyedItem, Summary};
-use tree_cursor::KeySummary;
+use sum_tree::{Count, Item, KeyedItem};
+use tree_cursor::Greatest;
 
 // A number among others that are counted.
 #[derive(Clone, Copy)]
@@ -57,70 +54,8 @@ pub(crate) struct Ranked {
     pub(crate) key: u64,
 }
 
-// The greatest number.
-#[derive(Clone, Copy)]
-pub(crate) struct Top {
-    pub(crate) key: Option<u64>,
-}
-
-impl Summary for Top {
-    ghost use Rattle.std.proofs.Common.{ap};
-    ghost use Rattle.std.proofs.lemmas.Cmp.{nat_cmp_total};
-    ghost use Rattle.tree_cursor.specs.Keys.{greater, cmp_less, greater_none, greater_assoc, order_less};
-
-    ghost empty = { record { key = None } };
-
-    ghost op = { λ a b. record { key = greater (cmp_less nat_cmp) a.key b.key } };
-
-    ghost admits = { λ a. Unit };
-
-    ghost fits = { λ a. Unit };
-
-    ghost single = { λ a. Unit };
-
-    ghost laws = { record {
-      empty_admitted = tt;
-      op_admitted = λ a b p q. tt;
-      left_identity = λ a p. refl;
-      right_identity = λ a p. ap (λ k. record { key = k }) (greater_none (cmp_less nat_cmp) a.key);
-      assoc = λ a b c p q r. ap (λ k. record { key = k }) (greater_assoc (cmp_less nat_cmp) (order_less nat_cmp nat_cmp_total) a.key b.key c.key);
-      empty_fits = tt;
-      fits_parts = λ a b c p q r h. tt;
-    } };
-
-    fn zero(_alloc: Global) -> Top {
-        Top { key: None }
-    }
-
-    fn add(&mut self, _alloc: Global, other: &Top) -> Result<(), AllocError> {
-        self.key = match (self.key, other.key) {
-            (None, b) => b,
-            (a, None) => a,
-            (Some(x), Some(y)) => match x.cmp(&y) {
-                Ordering::Less => Some(y),
-                Ordering::Equal | Ordering::Greater => Some(x),
-            },
-        };
-        Ok(())
-    }
-}
-
-impl KeySummary for Top {
-    type Key = u64;
-
-    ghost key_of = { λ s. s.key };
-
-    ghost no_key = { refl };
-
-    ghost greater_key = { λ a b f g. refl };
-
-    fn greatest_key(&self) -> Option<u64> {
-        self.key
-    }
-}
-
 impl Item for Ranked {
-    type Summary = Top;
+    type Summary = Greatest<u64>;
 
     ghost sum_of = { λ x. record { key = Some x.key } };
 
@@ -128,8 +63,8 @@ impl Item for Ranked {
 
     ghost is_single = { λ x. tt };
 
-    fn summary(&self, _alloc: Global) -> Result<Top, AllocError> {
-        Ok(Top {
+    fn summary(&self, _alloc: Global) -> Result<Greatest<u64>, AllocError> {
+        Ok(Greatest {
             key: Some(self.key),
         })
     }
