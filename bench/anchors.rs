@@ -9,6 +9,8 @@ const ANCHORS: u64 = 10_000;
 
 // How often each is asked for.
 const ROUNDS: u32 = 10;
+const FEW: usize = 100;
+const FEW_ROUNDS: u32 = 1_000;
 
 // `len` bytes of an edit's text, from byte `offset` on.
 #[derive(Clone, Copy)]
@@ -86,13 +88,13 @@ fn tell(name: &str, start: Instant, answer: u64) {
     println!("{name} {answer} {}", start.elapsed().as_micros());
 }
 
-fn resolved(fragments: &[Fragment], anchors: &[Anchor]) -> u64 {
-    (0..ROUNDS).flat_map(|_| anchors).map(|anchor| place(fragments, anchor).0).sum()
+fn resolved(fragments: &[Fragment], anchors: &[Anchor], rounds: u32) -> u64 {
+    (0..rounds).flat_map(|_| anchors).map(|anchor| place(fragments, anchor).0).sum()
 }
 
-fn compared(fragments: &[Fragment], anchors: &[Anchor]) -> u64 {
+fn compared(fragments: &[Fragment], anchors: &[Anchor], rounds: u32) -> u64 {
     let is_before = |pair: &[Anchor]| place(fragments, &pair[0]) < place(fragments, &pair[1]);
-    (0..ROUNDS).map(|_| anchors.windows(2).filter(|pair| is_before(pair)).count() as u64).sum()
+    (0..rounds).map(|_| anchors.windows(2).filter(|pair| is_before(pair)).count() as u64).sum()
 }
 
 fn bias(number: u64) -> Bias {
@@ -120,13 +122,20 @@ fn main() {
         .collect();
     tell("Anchors", start, drawn.len() as u64);
     let start = Instant::now();
-    let answer = resolved(&fragments, &drawn);
+    let answer = resolved(&fragments, &drawn, ROUNDS);
     tell("Resolve", start, answer);
     let start = Instant::now();
-    let answer = compared(&fragments, &drawn);
+    let answer = compared(&fragments, &drawn, ROUNDS);
     tell("Compare", start, answer);
+    let few = &drawn[..FEW];
+    let start = Instant::now();
+    let answer = resolved(&fragments, few, FEW_ROUNDS);
+    tell("ResolveFew", start, answer);
+    let start = Instant::now();
+    let answer = compared(&fragments, few, FEW_ROUNDS);
+    tell("CompareFew", start, answer);
     let row: Vec<Anchor> = (0..ANCHORS).map(|number| anchor(&fragments, number * len / ANCHORS, bias(number))).collect();
     let start = Instant::now();
-    let answer = resolved(&fragments, &row);
+    let answer = resolved(&fragments, &row, ROUNDS);
     tell("ResolveRow", start, answer);
 }

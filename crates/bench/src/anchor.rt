@@ -14,13 +14,22 @@ const ANCHORS: u64 = 10_000;
 // How often each is asked for.
 const ROUNDS: u32 = 10;
 
-/// Makes anchors at places drawn by chance among so many fragments, resolves each and compares each with the next, and then
-/// resolves anchors that stand one behind another.
+// How many of them are asked for again and again, as a program does that shows the same carets, and how often.
+const FEW: usize = 100;
+
+const FEW_ROUNDS: u32 = 1_000;
+
+/// Makes anchors at places drawn by chance among so many fragments, resolves each and compares each with the next, does so
+/// with a few of them again and again, and then resolves anchors that stand one behind another.
 pub fn works(rt: &HostRuntime, timed: bool, fragments: u32) -> io::Result<()> {
     let snapshot = snapshot_of(rt.alloc(), fragments)?;
-    draw(rt, timed, &snapshot)?;
-    let row = row(rt.alloc(), &snapshot)?;
-    resolve(rt, timed, "ResolveRow", &snapshot, row.as_slice())
+    measure(rt, timed, &snapshot)
+}
+
+fn measure(rt: &HostRuntime, timed: bool, snapshot: &Snapshot) -> io::Result<()> {
+    draw(rt, timed, snapshot)?;
+    let row = row(rt.alloc(), snapshot)?;
+    resolve(rt, timed, "ResolveRow", snapshot, row.as_slice(), ROUNDS)
 }
 
 fn snapshot_of(alloc: Global, fragments: u32) -> Result<Snapshot, AllocError> {
@@ -32,8 +41,15 @@ fn draw(rt: &HostRuntime, timed: bool, snapshot: &Snapshot) -> io::Result<()> {
     let start = Instant::now(rt)?;
     let drawn = drawn(rt.alloc(), snapshot)?;
     tell(rt, timed, "Anchors", start, drawn.len() as u64)?;
-    resolve(rt, timed, "Resolve", snapshot, drawn.as_slice())?;
-    compare(rt, timed, snapshot, drawn.as_slice())
+    ask(rt, timed, snapshot, drawn.as_slice())
+}
+
+fn ask(rt: &HostRuntime, timed: bool, snapshot: &Snapshot, anchors: &[Anchor]) -> io::Result<()> {
+    resolve(rt, timed, "Resolve", snapshot, anchors, ROUNDS)?;
+    compare(rt, timed, "Compare", snapshot, anchors, ROUNDS)?;
+    let few = anchors.chunks(FEW).next().unwrap_or(anchors);
+    resolve(rt, timed, "ResolveFew", snapshot, few, FEW_ROUNDS)?;
+    compare(rt, timed, "CompareFew", snapshot, few, FEW_ROUNDS)
 }
 
 fn resolve(
@@ -42,21 +58,24 @@ fn resolve(
     name: &str,
     snapshot: &Snapshot,
     anchors: &[Anchor],
+    rounds: u32,
 ) -> io::Result<()> {
     let start = Instant::now(rt)?;
-    let answer = resolved(snapshot, anchors);
+    let answer = places(snapshot, anchors, rounds);
     tell(rt, timed, name, start, answer)
 }
 
 fn compare(
     rt: &HostRuntime,
     timed: bool,
+    name: &str,
     snapshot: &Snapshot,
     anchors: &[Anchor],
+    rounds: u32,
 ) -> io::Result<()> {
     let start = Instant::now(rt)?;
-    let answer = compared(snapshot, anchors);
-    tell(rt, timed, "Compare", start, answer)
+    let answer = steps_up(snapshot, anchors, rounds);
+    tell(rt, timed, name, start, answer)
 }
 
 // Anchors at places drawn by chance, of both kinds.
@@ -105,9 +124,9 @@ fn put(
 }
 
 // The places of all anchors added up, again and again.
-fn resolved(snapshot: &Snapshot, anchors: &[Anchor]) -> u64 {
+fn places(snapshot: &Snapshot, anchors: &[Anchor], rounds: u32) -> u64 {
     let mut sum = 0u64;
-    for _ in 0..ROUNDS {
+    for _ in 0..rounds {
         for anchor in anchors {
             sum = sum.wrapping_add(snapshot.resolve(anchor).unwrap_or(0));
         }
@@ -116,9 +135,9 @@ fn resolved(snapshot: &Snapshot, anchors: &[Anchor]) -> u64 {
 }
 
 // How many anchors stand before the next one, again and again.
-fn compared(snapshot: &Snapshot, anchors: &[Anchor]) -> u64 {
+fn steps_up(snapshot: &Snapshot, anchors: &[Anchor], rounds: u32) -> u64 {
     let mut count = 0u64;
-    for _ in 0..ROUNDS {
+    for _ in 0..rounds {
         for (one, next) in anchors.iter().zip(anchors.iter().skip(1)) {
             count = count.wrapping_add(is_before(snapshot, one, next) as u64);
         }

@@ -5,7 +5,7 @@ use lamport_clock::{Lamport, Version};
 use std::alloc::{AllocError, Global};
 use std::io;
 use std::time::Instant;
-use text_buffer::Snapshot;
+use text_buffer::{Buffer, Snapshot};
 
 // How many edits a buffer gets after the version.
 const EDITS: u32 = 10;
@@ -15,17 +15,31 @@ const TIMES: u32 = 10;
 
 /// Makes a few edits among so many fragments, and asks for the edits since the version before them, and since the base.
 pub fn works(rt: &HostRuntime, timed: bool, fragments: u32) -> io::Result<()> {
-    let (before, snapshot) = edited(rt.alloc(), fragments)?;
-    ask(rt, timed, "Since", &snapshot, &before)?;
+    let (before, snapshot) = versions(rt.alloc(), fragments)?;
+    ask_both(rt, timed, &snapshot, &before)
+}
+
+fn ask_both(
+    rt: &HostRuntime,
+    timed: bool,
+    snapshot: &Snapshot,
+    before: &Version,
+) -> io::Result<()> {
+    ask(rt, timed, "Since", snapshot, before)?;
     let base = base(rt.alloc())?;
-    ask(rt, timed, "SinceBase", &snapshot, &base)
+    ask(rt, timed, "SinceBase", snapshot, &base)
 }
 
 // The version before a few edits, and the snapshot after them.
-fn edited(alloc: Global, fragments: u32) -> Result<(Version, Snapshot), AllocError> {
+fn versions(alloc: Global, fragments: u32) -> Result<(Version, Snapshot), AllocError> {
     let mut buffer = among(alloc, fragments)?;
+    change(alloc, &mut buffer)
+}
+
+// Makes a few edits: the version before them, and the snapshot after them.
+fn change(alloc: Global, buffer: &mut Buffer) -> Result<(Version, Snapshot), AllocError> {
     let before = buffer.version().copy(alloc)?;
-    made(alloc, &mut buffer, EDITS, Place::Random)?;
+    made(alloc, buffer, EDITS, Place::Random)?;
     let snapshot = buffer.snapshot()?;
     Ok((before, snapshot))
 }
