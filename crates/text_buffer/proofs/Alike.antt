@@ -11,7 +11,7 @@ use Rattle.anchors.proofs.Orders.{anchors_stay_in_order}
 use Rattle.edits_since.proofs.Apart.{since_apart}
 use Rattle.text_buffer.specs.Document.{IsFront}
 use Rattle.text_buffer.specs.SnapshotLaws.{AnswerAlike, AnchorsStay, EditsMakeTheText}
-use Rattle.text_buffer.proofs.Standing.{closed}
+use Rattle.text_buffer.proofs.Standing.{is_closed}
 
 made_same : (h g : History) → Lawful h → Lawful g → SameSet h g → (o : ℕ) → (b : Bias) → made_anchor h o b ≡ made_anchor g o b
 made_same h g l m s o Left = ((same_sets_answer_alike h g l m s).0 o).0
@@ -41,4 +41,4 @@ stay h g l m f =
     })
 
 pub make_the_text : (h : History) → Lawful h → EditsMakeTheText h
-make_the_text h l v e = (edits_since_tell_the_change h v l (closed h v e), since_apart h v)
+make_the_text h l v e = (edits_since_tell_the_change h v l (is_closed h v e), since_apart h v)

@@ -118,16 +118,16 @@ may_make c h t v ps k s m e f = record {
   room = (let n = full_bytes h in let r = edit_room h t.replica ps m in omega (arith, n, r));
 }
 
-counted : (c : UndoCount) (cs : List UndoCount) → Member c cs → Member c.edit (map (λ (x : UndoCount). x.edit) cs)
-counted c [] m = absurd m
-counted c (x ∷ cs) (inl e) = inl (ap (λ (z : UndoCount). z.edit) e)
-counted c (x ∷ cs) (inr m) = inr (counted c cs m)
+edit_member : (c : UndoCount) (cs : List UndoCount) → Member c cs → Member c.edit (map (λ (x : UndoCount). x.edit) cs)
+edit_member c [] m = absurd m
+edit_member c (x ∷ cs) (inl e) = inl (ap (λ (z : UndoCount). z.edit) e)
+edit_member c (x ∷ cs) (inr m) = inr (edit_member c cs m)
 
 pub may_mark : (c : Content) (h : History) (u : UndoOp) (w : List UndoEntry) (ts : List Lamport) → IsContent c h → IsHistory h → MayGrow h (Undo u) → w ≡ undo_entries (h ++ Undo u ∷ []) → ts ≡ map (λ (x : UndoCount). x.edit) u.counts
     → MayMark c.fragments.items c.index w u.stamp ts h u
 may_mark c h u w ts k s g e f = record {
   stamp = refl;
-  counts = λ x m. subst (λ (z : List Lamport). Member x.edit z) (sym f) (counted x u.counts m);
+  counts = λ x m. subst (λ (z : List Lamport). Member x.edit z) (sym f) (edit_member x u.counts m);
   lawful = s.lawful;
   good = g.good;
   entries = e;

@@ -19,8 +19,8 @@ abbrev full : Excess → EditFault
 full e = Full e.unit e.held e.adds
 
 -- what an edit that meets no fault meets none of
-unmet : (b : BufferState) (ps : List Piece) → edit_fault b ps ≡ None → (piece_fault (text b.history) ps ≡ None) × (excess b.limits b.history (text_total ps) (1 + length ps) ≡ None)
-unmet b ps e =
+meets_none : (b : BufferState) (ps : List Piece) → edit_fault b ps ≡ None → (piece_fault (text b.history) ps ≡ None) × (excess b.limits b.history (text_total ps) (1 + length ps) ≡ None)
+meets_none b ps e =
     let long = when (nat_lt 65536 (text_total ps)) (TextLimit (text_total ps)) in
     let late = when (clock b.history == 4294967295) ClockEnd in
     let over = excess b.limits b.history (text_total ps) (1 + length ps) in
@@ -38,4 +38,4 @@ room_in l h n m e =
     (ltb-false _ _ (when_none bytes more_bytes none.0), ltb-false _ _ (when_none entries more_entries none.1.0))
 
 pub room_of : (b : BufferState) (ps : List Piece) → edit_fault b ps ≡ None → excess b.limits b.history (text_total ps) (1 + length ps) ≡ None
-room_of b ps e = (unmet b ps e).1
+room_of b ps e = (meets_none b ps e).1

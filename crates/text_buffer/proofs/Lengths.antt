@@ -68,11 +68,11 @@ map_len : {A B : Type 0} (f : A → B) (xs : List A) → length (map f xs) ≡ l
 map_len f [] = refl
 map_len f (x ∷ xs) = ap suc (map_len f xs)
 
-parted : (p : Cell → Bool) (s : List Cell) → length (filter p s) + length (filter (λ c. not (p c)) s) ≡ length s
-parted p [] = refl
-parted p (c ∷ s) = elim (p c) as (λ b. length (cond b (c ∷ filter p s) (filter p s)) + length (cond (not b) (c ∷ filter (λ c. not (p c)) s) (filter (λ c. not (p c)) s)) ≡ suc (length s)) [
-  | true ↦ (let i = parted p s in omega (arith, i))
-  | false ↦ (let i = parted p s in omega (arith, i))
+parts_length : (p : Cell → Bool) (s : List Cell) → length (filter p s) + length (filter (λ c. not (p c)) s) ≡ length s
+parts_length p [] = refl
+parts_length p (c ∷ s) = elim (p c) as (λ b. length (cond b (c ∷ filter p s) (filter p s)) + length (cond (not b) (c ∷ filter (λ c. not (p c)) s) (filter (λ c. not (p c)) s)) ≡ suc (length s)) [
+  | true ↦ (let i = parts_length p s in omega (arith, i))
+  | false ↦ (let i = parts_length p s in omega (arith, i))
 ]
 
 pub both_bytes : (h : History) → length (text h) + length (hidden h) ≡ bytes_held h
@@ -82,7 +82,7 @@ both_bytes h =
     let s : List Cell = cells (seq_where everything d) in
     let a = map_len (byte d) (filter (shown_where everything d) s) in
     let b = map_len (byte h) (filter (λ (c : Cell). not (shown_where everything d c)) s) in
-    let p = parted (shown_where everything d) s in
+    let p = parts_length (shown_where everything d) s in
     let c = map_len (λ (x : Place). x.cell) (seq_where everything d) in
     let n = seq_len d in
     let m = sorted_bytes [] h in

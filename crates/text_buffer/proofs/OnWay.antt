@@ -19,7 +19,7 @@ use Rattle.deferred_ops.specs.Deferred.{without}
 use Rattle.text_buffer.specs.Buffer.{BufferState, IsBuffer, state, with_state}
 use Rattle.text_buffer.specs.Fields.{state_of, AreKept}
 use Rattle.text_buffer.specs.declared.buffer.Buffer.TheInside.{Inside}
-use Rattle.text_buffer.specs.Settling.{after_turn, turned, pass_until, pass_step, next_ready, turn_made, turn_answer, met, without_waiting, passed, IsStopped}
+use Rattle.text_buffer.specs.Settling.{after_turn, turn_step, pass_until, pass_step, next_ready, turn_made, turn_answer, after_answer, without_waiting, after_pass, IsStopped}
 use Rattle.text_buffer.proofs.Turns.{IsAt, at_start, at_end, at_turn, at_until, fewer, not_stay, ready_within}
 
 -- ---- a turn
@@ -46,10 +46,10 @@ turn_is after b op a e q =
 turn_makes : (after : Option Lamport) (b : BufferState) (op : Operation) (t : Turn) → next_ready after b ≡ Some op → turn b.limits b.history op ≡ t → with_state (after_turn t op (state b)) b ≡ turn_made (next_ready after b) b
 turn_makes after b op t e q = ap (λ (u : Turn). with_state (after_turn u op (state b)) b) (sym q) ∙ ap (λ (o : Option Operation). turn_made o b) (sym e)
 
-pub turn_done : (after : Option Lamport) (b m n : BufferState) (op : Operation) (t : Lamport) → next_ready after b ≡ Some op → t ≡ stamp_of op → m ≡ met (turn_answer b op) op b → n ≡ without_waiting t m → n ≡ turn_made (next_ready after b) b
+pub turn_done : (after : Option Lamport) (b m n : BufferState) (op : Operation) (t : Lamport) → next_ready after b ≡ Some op → t ≡ stamp_of op → m ≡ after_answer (turn_answer b op) op b → n ≡ without_waiting t m → n ≡ turn_made (next_ready after b) b
 turn_done after b m n op t e s x y = y ∙ ap (λ (u : Lamport). without_waiting u m) s ∙ ap (without_waiting (stamp_of op)) x ∙ go (turn_answer b op) refl
   where
-    go : (a : Answer) → turn_answer b op ≡ a → without_waiting (stamp_of op) (met a op b) ≡ turn_made (next_ready after b) b
+    go : (a : Answer) → turn_answer b op ≡ a → without_waiting (stamp_of op) (after_answer a op b) ≡ turn_made (next_ready after b) b
     go Good q = turn_makes after b op Append e (turn_is after b op Good e (sym q))
     go Repeat q = turn_makes after b op Drop e (turn_is after b op Repeat e (sym q))
     go (Waits r v) q = absurd (not_stay b.limits b.history op (ready_within after b.history b.waiting op e) (turn_is after b op (Waits r v) e (sym q)))
@@ -105,10 +105,10 @@ pub on_turn : (b : BufferState) (after : Option Lamport) (n m : BufferState) (t 
     → Next b n m t
 on_turn b after n m t w u s e = go (next_ready after n) refl s e
   where
-    made : (op : Operation) → next_ready after n ≡ Some op → Next b n (with_state (turned n.limits op (state n)) n) (stamp_of op)
+    made : (op : Operation) → next_ready after n ≡ Some op → Next b n (with_state (turn_step n.limits op (state n)) n) (stamp_of op)
     made op q = (
       record {
-        at = subst (λ (l : LimitsType). IsAt b.limits (state b) (Some (stamp_of op)) (turned l op (state n))) (sym w.limits) (at_turn b.limits (state b) after (state n) op w.at u q);
+        at = subst (λ (l : LimitsType). IsAt b.limits (state b) (Some (stamp_of op)) (turn_step l op (state n))) (sym w.limits) (at_turn b.limits (state b) after (state n) op w.at u q);
         replica = w.replica;
         limits = w.limits;
       },
@@ -117,11 +117,11 @@ on_turn b after n m t w u s e = go (next_ready after n) refl s e
 
     go : (o : Option Operation) → next_ready after n ≡ o → Some t ≡ option_map stamp_of o → m ≡ turn_made o n → Next b n m t
     go None q s e = cc
-    go (Some op) q s e = let r : t ≡ stamp_of op = cc in subst (λ (x : BufferState). Next b n x t) (sym e) (subst (λ (x : Lamport). Next b n (with_state (turned n.limits op (state n)) n) x) (sym r) (made op q))
+    go (Some op) q s e = let r : t ≡ stamp_of op = cc in subst (λ (x : BufferState). Next b n x t) (sym e) (subst (λ (x : Lamport). Next b n (with_state (turn_step n.limits op (state n)) n) x) (sym r) (made op q))
 
-pub on_end : (b : BufferState) (after : Option Lamport) (n m : BufferState) → OnWay b after n → None ≡ option_map stamp_of (next_ready after n) → m ≡ turn_made (next_ready after n) n → m ≡ passed b
+pub on_end : (b : BufferState) (after : Option Lamport) (n m : BufferState) → OnWay b after n → None ≡ option_map stamp_of (next_ready after n) → m ≡ turn_made (next_ready after n) n → m ≡ after_pass b
 on_end b after n m w s e = go (next_ready after n) refl s e
   where
-    go : (o : Option Operation) → next_ready after n ≡ o → None ≡ option_map stamp_of o → m ≡ turn_made o n → m ≡ passed b
+    go : (o : Option Operation) → next_ready after n ≡ o → None ≡ option_map stamp_of o → m ≡ turn_made o n → m ≡ after_pass b
     go None q s e = e ∙ same_buffer b n (pass_step b.limits (state b)) w.replica w.limits (at_end b.limits (state b) after (state n) w.at q)
     go (Some op) q s e = cc

@@ -11,28 +11,28 @@ use Rattle.op_model.specs.Steps.{older}
 use Rattle.text_buffer.specs.Buffer.{BufferState, IsPartly, AllMiss, newly_applied, settled, state, with_state}
 use Rattle.text_buffer.specs.Fields.{state_of, AreKept}
 use Rattle.text_buffer.specs.declared.buffer.Buffer.TheInside.{Inside}
-use Rattle.text_buffer.specs.Settling.{pass_until, passed, IsStopped}
+use Rattle.text_buffer.specs.Settling.{pass_until, after_pass, IsStopped}
 use Rattle.text_buffer.proofs.Settles.{settled_once, settled_twice, settled_waits}
 use Rattle.text_buffer.proofs.Leaves.{LeavesState, until_leaves, step_leaves, leaves_both, leaves_longer, pass_up, pass_lawful}
 
 -- ---- it settled
 
-pub longer : (b : BufferState) → Ascending older b.waiting → length b.history ≤ length (passed b).history
-longer b u = leaves_longer b.history b.waiting (passed b).history (passed b).waiting (step_leaves b.limits (state b) u)
+pub longer : (b : BufferState) → Ascending older b.waiting → length b.history ≤ length (after_pass b).history
+longer b u = leaves_longer b.history b.waiting (after_pass b).history (after_pass b).waiting (step_leaves b.limits (state b) u)
 
-pub passed_up : (b : BufferState) → Ascending older b.waiting → Ascending older (passed b).waiting
-passed_up b u = pass_up b.limits b.history b.waiting u
+pub after_pass_up : (b : BufferState) → Ascending older b.waiting → Ascending older (after_pass b).waiting
+after_pass_up b u = pass_up b.limits b.history b.waiting u
 
-pub longer_twice : (b : BufferState) → Ascending older b.waiting → length b.history ≤ length (passed (passed b)).history
-longer_twice b u = let x = longer b u in let y = longer (passed b) (passed_up b u) in omega arith
+pub longer_twice : (b : BufferState) → Ascending older b.waiting → length b.history ≤ length (after_pass (after_pass b)).history
+longer_twice b u = let x = longer b u in let y = longer (after_pass b) (after_pass_up b u) in omega arith
 
-pub once : (b : BufferState) → Ascending older b.waiting → length (passed b).history ≡ length b.history → settled b ≡ passed b
+pub once : (b : BufferState) → Ascending older b.waiting → length (after_pass b).history ≡ length b.history → settled b ≡ after_pass b
 once b u e = ap (λ (s : State). with_state s b) (settled_once b.limits (state b) u e)
 
-pub twice : (b : BufferState) → Ascending older b.waiting → (length (passed b).history ≡ length b.history → ⊥) → settled b ≡ passed (passed b)
+pub twice : (b : BufferState) → Ascending older b.waiting → (length (after_pass b).history ≡ length b.history → ⊥) → settled b ≡ after_pass (after_pass b)
 twice b u n = let x = longer b u in ap (λ (s : State). with_state s b) (settled_twice b.limits (state b) u (grows x n))
   where
-    grows : (x : length b.history ≤ length (passed b).history) (n : length (passed b).history ≡ length b.history → ⊥) → length b.history < length (passed b).history
+    grows : (x : length b.history ≤ length (after_pass b).history) (n : length (after_pass b).history ≡ length b.history → ⊥) → length b.history < length (after_pass b).history
     grows x n = omega arith
 
 pub all_miss : (b : BufferState) → AllMiss (settled b)
@@ -56,10 +56,10 @@ pub stopped_partly : (b n : BufferState) → Lawful b.history → Ascending olde
 stopped_partly b n p u s = subst (IsPartly b) (sym s.1)
     (partly b (with_state (pass_until s.0 b.limits (state b)) b) (pass_lawful b.limits b.history _ p) (until_leaves s.0 b.limits (state b) u) refl refl)
 
-pub stopped_later : (b n : BufferState) → Lawful b.history → Ascending older b.waiting → IsStopped (passed b) n → IsPartly b n
+pub stopped_later : (b n : BufferState) → Lawful b.history → Ascending older b.waiting → IsStopped (after_pass b) n → IsPartly b n
 stopped_later b n p u s = subst (IsPartly b) (sym s.1)
-    (partly b (with_state (pass_until s.0 b.limits (state (passed b))) (passed b)) (pass_lawful b.limits (passed b).history _ (pass_lawful b.limits b.history b.waiting p))
-    (leaves_both (state b) (state (passed b)) (pass_until s.0 b.limits (state (passed b))) (step_leaves b.limits (state b) u) (until_leaves s.0 b.limits (state (passed b)) (passed_up b u))) refl refl)
+    (partly b (with_state (pass_until s.0 b.limits (state (after_pass b))) (after_pass b)) (pass_lawful b.limits (after_pass b).history _ (pass_lawful b.limits b.history b.waiting p))
+    (leaves_both (state b) (state (after_pass b)) (pass_until s.0 b.limits (state (after_pass b))) (step_leaves b.limits (state b) u) (until_leaves s.0 b.limits (state (after_pass b)) (after_pass_up b u))) refl refl)
 
 -- ---- from the fields
 
@@ -69,20 +69,20 @@ up i b k v = subst (λ (x : BufferState). Ascending older x.waiting) v k.waiting
 pub lawful : (i : Inside) (b : BufferState) → AreKept i → state_of i ≡ b → Lawful b.history
 lawful i b k v = subst (λ (x : BufferState). Lawful x.history) v k.lawful
 
-held : (i : Inside) (b : BufferState) (s : ℕ) → s ≡ length i.document → state_of i ≡ b → s ≡ length b.history
-held i b s e v = e ∙ ap (λ (x : BufferState). length x.history) v
+length_is : (i : Inside) (b : BufferState) (s : ℕ) → s ≡ length i.document → state_of i ≡ b → s ≡ length b.history
+length_is i b s e v = e ∙ ap (λ (x : BufferState). length x.history) v
 
 -- the histories before and after the first pass
-module _ (i j : Inside) (b m : BufferState) (s r : ℕ) (k : AreKept i) (v : state_of i ≡ b) (w : state_of j ≡ m) (e : s ≡ length i.document) (f : r ≡ length j.document) (p : m ≡ passed b) where
+module _ (i j : Inside) (b m : BufferState) (s r : ℕ) (k : AreKept i) (v : state_of i ≡ b) (w : state_of j ≡ m) (e : s ≡ length i.document) (f : r ≡ length j.document) (p : m ≡ after_pass b) where
   pub after_one : r ≡ s → m ≡ settled b
-  after_one n = p ∙ sym (once b (up i b k v) (ap (λ (x : BufferState). length x.history) (sym p) ∙ sym (held j m r f w) ∙ n ∙ held i b s e v))
+  after_one n = p ∙ sym (once b (up i b k v) (ap (λ (x : BufferState). length x.history) (sym p) ∙ sym (length_is j m r f w) ∙ n ∙ length_is i b s e v))
 
-  pub after_two : (n : BufferState) → (r ≡ s → ⊥) → n ≡ passed m → n ≡ settled b
-  after_two n d q = q ∙ ap passed p ∙ sym (twice b (up i b k v) (λ x. d (held j m r f w ∙ ap (λ (y : BufferState). length y.history) p ∙ x ∙ sym (held i b s e v))))
+  pub after_two : (n : BufferState) → (r ≡ s → ⊥) → n ≡ after_pass m → n ≡ settled b
+  after_two n d q = q ∙ ap after_pass p ∙ sym (twice b (up i b k v) (λ x. d (length_is j m r f w ∙ ap (λ (y : BufferState). length y.history) p ∙ x ∙ sym (length_is i b s e v))))
 
-pub grown : (i j : Inside) (b m n : BufferState) (s r : ℕ) → AreKept i → state_of i ≡ b → state_of j ≡ n → s ≡ length i.document → r ≡ length j.document → m ≡ passed b → n ≡ passed m → s ≤ r
-grown i j b m n s r k v w e f p q =
-    let x : length b.history ≤ length (passed (passed b)).history = longer_twice b (up i b k v) in
-    let y : r ≡ length (passed (passed b)).history = held j n r f w ∙ ap (λ (z : BufferState). length z.history) (q ∙ ap passed p) in
-    let z : s ≡ length b.history = held i b s e v in
+pub no_shorter : (i j : Inside) (b m n : BufferState) (s r : ℕ) → AreKept i → state_of i ≡ b → state_of j ≡ n → s ≡ length i.document → r ≡ length j.document → m ≡ after_pass b → n ≡ after_pass m → s ≤ r
+no_shorter i j b m n s r k v w e f p q =
+    let x : length b.history ≤ length (after_pass (after_pass b)).history = longer_twice b (up i b k v) in
+    let y : r ≡ length (after_pass (after_pass b)).history = length_is j n r f w ∙ ap (λ (z : BufferState). length z.history) (q ∙ ap after_pass p) in
+    let z : s ≡ length b.history = length_is i b s e v in
     omega arith

@@ -25,7 +25,7 @@ faultless None None e = (refl, refl)
 faultless None (Some r) e = cc
 faultless (Some x) b e = cc
 
-pub closed : (h : History) (v : Entries) → since_fault h v ≡ None → IsClosed h v
-closed h v e =
+pub is_closed : (h : History) (v : Entries) → since_fault h v ≡ None → IsClosed h v
+is_closed h v e =
     let f = faultless (first_missing h v) (open_replica h v) e in
     (sym (none_unseen (version h) v) ∙ ap (λ (o : Option (ℕ × ℕ)). is_none o) f.0, f.1)

@@ -23,25 +23,25 @@ use Rattle.op_model.proofs.PathOrder.{same_stamp_refl}
 use Rattle.op_model.proofs.SameSets.{one_way}
 use Rattle.op_model.proofs.Settling.{after, pass_is, stay_misses}
 use Rattle.deferred_ops.specs.Deferred.{is_past, least_ready, without}
-use Rattle.text_buffer.specs.Settling.{after_turn, turned, stopped, pass_until, pass_step}
+use Rattle.text_buffer.specs.Settling.{after_turn, turn_step, pass_front, pass_until, pass_step}
 
 -- ---- a pass over a list in two parts
 
 -- what two parts of a pass make
-abbrev joined : State → State → State
-joined p q = record { history = q.history; waiting = p.waiting ++ q.waiting; refused = p.refused ++ q.refused }
+abbrev state_join : State → State → State
+state_join p q = record { history = q.history; waiting = p.waiting ++ q.waiting; refused = p.refused ++ q.refused }
 
 pub pass_nil : (l : LimitsType) (h : History) → pass l h [] ≡ record { history = h; waiting = []; refused = [] }
 unfolding pass
 pass_nil l h = refl
 
-pass_append : (l : LimitsType) (h : History) (v w : List Operation) → pass l h (v ++ w) ≡ joined (pass l h v) (pass l (pass l h v).history w)
-pass_append l h [] w = ap (λ (p : State). joined p (pass l p.history w)) (sym (pass_nil l h))
-pass_append l h (op ∷ v) w = pass_is l h op (v ++ w) ∙ go (turn l h op) (pass_append l (h ++ op ∷ []) v w) (pass_append l h v w) ∙ ap (λ (p : State). joined p (pass l p.history w)) (sym (pass_is l h op v))
+pass_append : (l : LimitsType) (h : History) (v w : List Operation) → pass l h (v ++ w) ≡ state_join (pass l h v) (pass l (pass l h v).history w)
+pass_append l h [] w = ap (λ (p : State). state_join p (pass l p.history w)) (sym (pass_nil l h))
+pass_append l h (op ∷ v) w = pass_is l h op (v ++ w) ∙ go (turn l h op) (pass_append l (h ++ op ∷ []) v w) (pass_append l h v w) ∙ ap (λ (p : State). state_join p (pass l p.history w)) (sym (pass_is l h op v))
   where
-    go : (t : Turn) → pass l (h ++ op ∷ []) (v ++ w) ≡ joined (pass l (h ++ op ∷ []) v) (pass l (pass l (h ++ op ∷ []) v).history w)
-        → pass l h (v ++ w) ≡ joined (pass l h v) (pass l (pass l h v).history w)
-        → after t l h op (v ++ w) ≡ joined (after t l h op v) (pass l (after t l h op v).history w)
+    go : (t : Turn) → pass l (h ++ op ∷ []) (v ++ w) ≡ state_join (pass l (h ++ op ∷ []) v) (pass l (pass l (h ++ op ∷ []) v).history w)
+        → pass l h (v ++ w) ≡ state_join (pass l h v) (pass l (pass l h v).history w)
+        → after t l h op (v ++ w) ≡ state_join (after t l h op v) (pass l (after t l h op v).history w)
     go Append a b = a
     go Drop a b = b
     go Stay a b = ap (with_waiting op) b
@@ -68,12 +68,12 @@ record Parted (t : Operation → Bool) (w : List Operation) (op : Operation) : T
   misses : Each (λ (o : Operation). t o ≡ false) missed
   hit : t op ≡ true
 
-parted : (t : Operation → Bool) (w : List Operation) (op : Operation) → find t w ≡ Some op → Parted t w op
-parted t [] op e = cc
-parted t (o ∷ w) op e = elim (cases_Bool (t o)) [
+part_of : (t : Operation → Bool) (w : List Operation) (op : Operation) → find t w ≡ Some op → Parted t w op
+part_of t [] op e = cc
+part_of t (o ∷ w) op e = elim (cases_Bool (t o)) [
   | inl y ↦ (let q : Some o ≡ Some op = subst (λ (b : Bool). cond b (Some o) (find t w) ≡ Some op) y e in let s : o ≡ op = cc in
       record { missed = []; behind = w; is = ap (λ (x : Operation). x ∷ w) s; misses = tt; hit = ap t (sym s) ∙ y })
-  | inr n ↦ (let p = parted t w op (subst (λ (b : Bool). cond b (Some o) (find t w) ≡ Some op) n e) in
+  | inr n ↦ (let p = part_of t w op (subst (λ (b : Bool). cond b (Some o) (find t w) ≡ Some op) n e) in
       record { missed = o ∷ p.missed; behind = p.behind; is = ap (λ (x : List Operation). o ∷ x) p.is; misses = (n, p.misses); hit = p.hit })
 ]
 
@@ -125,15 +125,15 @@ abbrev is_ready : Option Lamport → History → Operation → Bool
 is_ready after h o = is_past after o && within (version_of o) (version h)
 
 pub ready_within : (after : Option Lamport) (h : History) (w : List Operation) (op : Operation) → least_ready after (version h) w ≡ Some op → within (version_of op) (version h) ≡ true
-ready_within after h w op e = let p = parted (is_ready after h) w op e in (and_parts (is_past after op) (within (version_of op) (version h)) p.hit).1
+ready_within after h w op e = let p = part_of (is_ready after h) w op e in (and_parts (is_past after op) (within (version_of op) (version h)) p.hit).1
 
 pub not_stay : (l : LimitsType) (h : History) (op : Operation) → within (version_of op) (version h) ≡ true → turn l h op ≡ Stay → ⊥
 not_stay l h op w e = let n = stay_misses l h op e in cc
 
 -- it leaves
-pub fewer : (l : LimitsType) (s : State) (after : Option Lamport) (op : Operation) → Ascending older s.waiting → least_ready after (version s.history) s.waiting ≡ Some op → length (turned l op s).waiting < length s.waiting
+pub fewer : (l : LimitsType) (s : State) (after : Option Lamport) (op : Operation) → Ascending older s.waiting → least_ready after (version s.history) s.waiting ≡ Some op → length (turn_step l op s).waiting < length s.waiting
 fewer l s after op u e =
-    let p = parted (is_ready after s.history) s.waiting op e in
+    let p = part_of (is_ready after s.history) s.waiting op e in
     let d : without (stamp_of op) s.waiting ≡ p.missed ++ p.behind = ap (without (stamp_of op)) p.is ∙ without_mid p.missed op p.behind (subst (Ascending older) p.is u) in
     let n : length (without (stamp_of op) s.waiting) < length s.waiting =
     (let x = ap length d in let y = ap length p.is in let a = length-append p.missed p.behind in let b = length-append p.missed (op ∷ p.behind) in omega arith) in
@@ -151,7 +151,7 @@ pub record IsAt (l : LimitsType) (b : State) (after : Option Lamport) (s : State
   pub front : List Operation
   pub rest : List Operation
   pub split : b.waiting ≡ front ++ rest
-  pub is : s ≡ stopped l b front rest
+  pub is : s ≡ pass_front l b front rest
   pub behind : Each (λ (o : Operation). is_past after o ≡ false) (pass l b.history front).waiting
   pub ahead : Each (λ (o : Operation). is_past after o ≡ true) rest
 
@@ -180,14 +180,14 @@ at_end l b after s i e =
     let n : least_ready after (version p.history) (p.waiting ++ i.rest) ≡ None = subst (λ (z : State). least_ready after (version z.history) z.waiting ≡ None) i.is e in
     let m : Missing p.history i.rest = past_missing after p.history i.rest i.ahead (each_back (λ (o : Operation). is_ready after p.history o ≡ false) p.waiting i.rest (find_none (is_ready after p.history) (p.waiting ++ i.rest) n)) in
     let q : pass l b.history b.waiting ≡ record { history = p.history; waiting = p.waiting ++ i.rest; refused = p.refused } =
-    ap (pass l b.history) i.split ∙ pass_append l b.history i.front i.rest ∙ ap (joined p) (pass_missing l p.history i.rest m) ∙ ap (λ z. record { history = p.history; waiting = p.waiting ++ i.rest; refused = z }) (append-nil p.refused) in
+    ap (pass l b.history) i.split ∙ pass_append l b.history i.front i.rest ∙ ap (state_join p) (pass_missing l p.history i.rest m) ∙ ap (λ z. record { history = p.history; waiting = p.waiting ++ i.rest; refused = z }) (append-nil p.refused) in
     i.is ∙ sym (ap (λ (z : State). record { history = z.history; waiting = z.waiting; refused = b.refused ++ z.refused }) q)
 
 pub at_until : (l : LimitsType) (b : State) (after : Option Lamport) (s : State) → IsAt l b after s → (k : ℕ) × (s ≡ pass_until k l b)
 at_until l b after s i =
     let x : take (length i.front) b.waiting ≡ i.front = ap (take (length i.front)) i.split ∙ take-append_seam i.front i.rest in
     let y : drop (length i.front) b.waiting ≡ i.rest = ap (drop (length i.front)) i.split ∙ drop-append_seam i.front i.rest in
-    (length i.front, i.is ∙ sym (λ j. stopped l b (x j) (y j)))
+    (length i.front, i.is ∙ sym (λ j. pass_front l b (x j) (y j)))
 
 -- ---- a turn
 
@@ -208,20 +208,20 @@ pass_last l h op t e = pass_is l h op [] ∙ ap (λ (u : Turn). after u l h op [
     go (Refuse f) = ap (λ (s : State). record { history = s.history; waiting = s.waiting; refused = (stamp_of op, f) ∷ s.refused }) (pass_nil l h)
 
 pass_more : (l : LimitsType) (h : History) (front missed : List Operation) (op : Operation) (t : Turn) → Missing (pass l h front).history missed → turn l (pass l h front).history op ≡ t
-    → pass l h (front ++ (missed ++ op ∷ [])) ≡ joined (pass l h front) (joined (record { history = (pass l h front).history; waiting = missed; refused = [] }) (left t (pass l h front).history op))
+    → pass l h (front ++ (missed ++ op ∷ [])) ≡ state_join (pass l h front) (state_join (record { history = (pass l h front).history; waiting = missed; refused = [] }) (left t (pass l h front).history op))
 pass_more l h front missed op t m e =
     let p : State = pass l h front in
     pass_append l h front (missed ++ op ∷ [])
-    ∙ ap (joined p) (pass_append l p.history missed (op ∷ []) ∙ ap (λ (z : State). joined z (pass l z.history (op ∷ []))) (pass_missing l p.history missed m) ∙ ap (joined (record { history = p.history; waiting = missed; refused = [] })) (pass_last l p.history op t e))
+    ∙ ap (state_join p) (pass_append l p.history missed (op ∷ []) ∙ ap (λ (z : State). state_join z (pass l z.history (op ∷ []))) (pass_missing l p.history missed m) ∙ ap (state_join (record { history = p.history; waiting = missed; refused = [] })) (pass_last l p.history op t e))
 
 module _ (l : LimitsType) (b : State) (front rest : List Operation) (op : Operation) (after : Option Lamport) where
   abbrev p : State
   p = pass l b.history front
 
-  abbrev kept : Parted (is_ready after p.history) rest op → List Operation
-  kept q = p.waiting ++ q.missed
+  abbrev waiting_front : Parted (is_ready after p.history) rest op → List Operation
+  waiting_front q = p.waiting ++ q.missed
 
-  whole : (q : Parted (is_ready after p.history) rest op) → p.waiting ++ rest ≡ kept q ++ op ∷ q.behind
+  whole : (q : Parted (is_ready after p.history) rest op) → p.waiting ++ rest ≡ waiting_front q ++ op ∷ q.behind
   whole q = ap (λ z. p.waiting ++ z) q.is ∙ sym (append_assoc p.waiting q.missed (op ∷ q.behind))
 
   more : (q : Parted (is_ready after p.history) rest op) → b.waiting ≡ front ++ rest → b.waiting ≡ (front ++ (q.missed ++ op ∷ [])) ++ q.behind
@@ -232,11 +232,11 @@ module _ (l : LimitsType) (b : State) (front rest : List Operation) (op : Operat
       → pass l b.history (front ++ (q.missed ++ op ∷ [])) ≡ record { history = g; waiting = p.waiting ++ (q.missed ++ []); refused = p.refused ++ x }
       → IsAt l b (Some (stamp_of op)) (record { history = g; waiting = without (stamp_of op) (p.waiting ++ rest); refused = b.refused ++ (p.refused ++ x) })
   further q g x s u e =
-      let a = around (kept q) op q.behind (subst (Ascending older) (whole q) u) in
+      let a = around (waiting_front q) op q.behind (subst (Ascending older) (whole q) u) in
       let w : without (stamp_of op) (p.waiting ++ rest) ≡ (p.waiting ++ (q.missed ++ [])) ++ q.behind =
-      ap (without (stamp_of op)) (whole q) ∙ without_mid (kept q) op q.behind (subst (Ascending older) (whole q) u) ∙ ap (λ z. (p.waiting ++ z) ++ q.behind) (sym (append-nil q.missed)) in
+      ap (without (stamp_of op)) (whole q) ∙ without_mid (waiting_front q) op q.behind (subst (Ascending older) (whole q) u) ∙ ap (λ z. (p.waiting ++ z) ++ q.behind) (sym (append-nil q.missed)) in
       let k : Each (λ (o : Operation). is_past (Some (stamp_of op)) o ≡ false) (p.waiting ++ (q.missed ++ [])) = subst (λ z. Each (λ (o : Operation). is_past (Some (stamp_of op)) o ≡ false) (p.waiting ++ z)) (sym (append-nil q.missed))
-      (each_map (λ (o : Operation). older o op ≡ true) (λ (o : Operation). is_past (Some (stamp_of op)) o ≡ false) (λ o y. one_way (stamp_of op) (stamp_of o) y) (kept q) a.0) in
+      (each_map (λ (o : Operation). older o op ≡ true) (λ (o : Operation). is_past (Some (stamp_of op)) o ≡ false) (λ o y. one_way (stamp_of op) (stamp_of o) y) (waiting_front q) a.0) in
       record {
         front = front ++ (q.missed ++ op ∷ []);
         rest = q.behind;
@@ -249,17 +249,17 @@ module _ (l : LimitsType) (b : State) (front rest : List Operation) (op : Operat
 
   step_at : b.waiting ≡ front ++ rest → Each (λ (o : Operation). is_past after o ≡ false) p.waiting → Each (λ (o : Operation). is_past after o ≡ true) rest
       → Ascending older (p.waiting ++ rest) → least_ready after (version p.history) (p.waiting ++ rest) ≡ Some op
-      → IsAt l b (Some (stamp_of op)) (turned l op (stopped l b front rest))
+      → IsAt l b (Some (stamp_of op)) (turn_step l op (pass_front l b front rest))
   step_at s v a u e =
       let f : find (is_ready after p.history) rest ≡ Some op =
       sym (found_past (is_ready after p.history) p.waiting rest (each_map (λ (o : Operation). is_past after o ≡ false) (λ (o : Operation). is_ready after p.history o ≡ false) (λ o y. rw y refl) p.waiting v)) ∙ e in
-      let q = parted (is_ready after p.history) rest op f in
+      let q = part_of (is_ready after p.history) rest op f in
       let m : Missing p.history q.missed = past_missing after p.history q.missed (each_front (λ (o : Operation). is_past after o ≡ true) q.missed (op ∷ q.behind) (subst (Each (λ (o : Operation). is_past after o ≡ true)) q.is a)) q.misses in
       let y : within (version_of op) (version p.history) ≡ true = (and_parts (is_past after op) (within (version_of op) (version p.history)) q.hit).1 in
       go q m y (turn l p.history op) refl
     where
       go : (q : Parted (is_ready after p.history) rest op) → Missing p.history q.missed → within (version_of op) (version p.history) ≡ true
-          → (t : Turn) → turn l p.history op ≡ t → IsAt l b (Some (stamp_of op)) (after_turn t op (stopped l b front rest))
+          → (t : Turn) → turn l p.history op ≡ t → IsAt l b (Some (stamp_of op)) (after_turn t op (pass_front l b front rest))
       go q m y Append t = subst (λ z. IsAt l b (Some (stamp_of op)) (record { history = p.history ++ op ∷ []; waiting = without (stamp_of op) (p.waiting ++ rest); refused = b.refused ++ z })) (append-nil p.refused)
           (further q (p.history ++ op ∷ []) [] s u (pass_more l b.history front q.missed op Append m t))
       go q m y Drop t = subst (λ z. IsAt l b (Some (stamp_of op)) (record { history = p.history; waiting = without (stamp_of op) (p.waiting ++ rest); refused = b.refused ++ z })) (append-nil p.refused)
@@ -269,6 +269,6 @@ module _ (l : LimitsType) (b : State) (front rest : List Operation) (op : Operat
           (further q p.history ((stamp_of op, x) ∷ []) s u (pass_more l b.history front q.missed op (Refuse x) m t))
 
 pub at_turn : (l : LimitsType) (b : State) (after : Option Lamport) (s : State) (op : Operation) → IsAt l b after s → Ascending older s.waiting → least_ready after (version s.history) s.waiting ≡ Some op
-    → IsAt l b (Some (stamp_of op)) (turned l op s)
-at_turn l b after s op i = subst (λ (z : State). Ascending older z.waiting → least_ready after (version z.history) z.waiting ≡ Some op → IsAt l b (Some (stamp_of op)) (turned l op z)) (sym i.is)
+    → IsAt l b (Some (stamp_of op)) (turn_step l op s)
+at_turn l b after s op i = subst (λ (z : State). Ascending older z.waiting → least_ready after (version z.history) z.waiting ≡ Some op → IsAt l b (Some (stamp_of op)) (turn_step l op z)) (sym i.is)
     (step_at l b i.front i.rest op after i.split i.behind i.ahead)

@@ -44,8 +44,8 @@ record Unmet (b : BufferState) (ts : List Lamport) : Type 0 where
   listed : listed_fault b.history ts ≡ None
   excess : excess b.limits b.history 0 (1 + length ts) ≡ None
 
-unmet : (b : BufferState) (ts : List Lamport) → undo_fault b ts ≡ None → Unmet b ts
-unmet b ts e =
+meets_none : (b : BufferState) (ts : List Lamport) → undo_fault b ts ≡ None → Unmet b ts
+meets_none b ts e =
     let clocked : Option UndoFault = when (eqb (clock b.history) 4294967295) ClockEnd in
     let over : Option Excess = excess b.limits b.history 0 (1 + length ts) in
     let one = first_none (listed_fault b.history ts) (late b.limits b.history ts) (sym (local_of b.limits b.history ts (listed_fault b.history ts) refl) ∙ e) in
@@ -54,7 +54,7 @@ unmet b ts e =
 
 -- no count stands at its end
 pub counts_open : (b : BufferState) (ts : List Lamport) (w : List UndoEntry) → w ≡ undo_entries b.history → undo_fault b ts ≡ None → find (λ t. eqb (count_of w t) 4294967295) ts ≡ None
-counts_open b ts w q e = room b.history w ts q (unmet b ts e).listed
+counts_open b ts w q e = room b.history w ts q (meets_none b ts e).listed
 
 -- ---- the operation
 
@@ -82,5 +82,5 @@ pub made_fits : (b : BufferState) (ts : List Lamport) (op : Operation) → IsBuf
 made_fits b ts op k e m = subst (Fits b) (sym m) (record {
   proper = undo_proper b.limits b.history b.replica ts e;
   good = undo_good b.limits b.history b.replica ts k.lawful k.proper (k.least_replica, k.greatest_replica) e;
-  room = within_limits b (made_undo b ts) 0 (1 + length ts) (made_bytes b.history b.replica ts) (made_entries b.history b.replica ts) (unmet b ts e).excess;
+  room = within_limits b (made_undo b ts) 0 (1 + length ts) (made_bytes b.history b.replica ts) (made_entries b.history b.replica ts) (meets_none b ts e).excess;
 })

@@ -27,16 +27,16 @@ pub distinct : (w : List Operation) → Ascending older w → Distinct w
 distinct [] a = tt
 distinct (o ∷ w) a = (each_map (λ p. older o p ≡ true) (λ p. stamp_of p ≡ stamp_of o → ⊥) (λ p e. unlike o p e) w a.0, distinct w a.1)
 
-flipped : (s t : Lamport) → same_stamp t s ≡ false → same_stamp s t ≡ false
+unlike_flip : (s t : Lamport) → same_stamp t s ≡ false → same_stamp s t ≡ false
 unfolding same_stamp
-flipped s t e = grind (arith, nat_tests)
+unlike_flip s t e = grind (arith, nat_tests)
 
 -- one with another stamp is put among them
 pub ascends : (op : Operation) (w : List Operation) → Each (λ o. same_stamp (stamp_of o) (stamp_of op) ≡ false) w → Ascending older w → Ascending older (insert_by older op w)
 ascends op [] f a = (tt, tt)
 ascends op (y ∷ w) f a = elim (cases_Bool (older y op)) [
   | inl h ↦ rw (insert_past older op y w h) (each_insert (λ z. older y z ≡ true) older op w h a.0, ascends op w f.1 a.1)
-  | inr h ↦ (let xy : older op y ≡ true = later_total (stamp_of op) (stamp_of y) h (flipped (stamp_of op) (stamp_of y) f.0) in
+  | inr h ↦ (let xy : older op y ≡ true = later_total (stamp_of op) (stamp_of y) h (unlike_flip (stamp_of op) (stamp_of y) f.0) in
       rw (insert_here older op y w h) ((xy, each_map (λ z. older y z ≡ true) (λ z. older op z ≡ true) (λ z yz. later_trans (stamp_of z) (stamp_of y) (stamp_of op) yz xy) w a.0), (a.0, a.1)))
 ]
 

@@ -40,13 +40,17 @@ pub record BufferState : Type 0 where
 abbrev pub over_base : ℕ → List ℕ → LimitsType → BufferState
 over_base r t l = record { history = base t ∷ []; waiting = []; refused = []; replica = r; limits = l }
 
+-- the fault of a base of n bytes where no more than `most` may be held
+abbrev pub length_fault : ℕ → ℕ → Option NewFault
+length_fault most n = when (nat_lt most n) (Full Bytes 0 n)
+
 -- the fault that a base meets
 abbrev pub new_fault : LimitsType → List ℕ → Option NewFault
-new_fault l t = when (nat_lt l.bytes (length t)) (Full Bytes 0 (length t))
+new_fault l t = length_fault l.bytes (length t)
 
 -- the fault that a text meets that no limits let in
 abbrev pub base_fault : List ℕ → Option NewFault
-base_fault t = when (nat_lt (2 ^ 40) (length t)) (Full Bytes 0 (length t))
+base_fault t = length_fault (2 ^ 40) (length t)
 
 -- the fault that an edit meets
 abbrev pub edit_fault : BufferState → List Piece → Option EditFault

@@ -22,16 +22,16 @@ after_turn Stay op s = s
 after_turn (Refuse f) op s = record { history = s.history; waiting = without (stamp_of op) s.waiting; refused = s.refused ++ (stamp_of op, f) ∷ [] }
 
 -- op has its turn
-abbrev pub turned : LimitsType → Operation → State → State
-turned l op s = after_turn (turn l s.history op) op s
+abbrev pub turn_step : LimitsType → Operation → State → State
+turn_step l op s = after_turn (turn l s.history op) op s
 
 -- the operations of `front` had their turns in a pass, those of `rest` wait for theirs
-abbrev pub stopped : LimitsType → State → List Operation → List Operation → State
-stopped l s front rest = let p : State = pass l s.history front in record { history = p.history; waiting = p.waiting ++ rest; refused = s.refused ++ p.refused }
+abbrev pub pass_front : LimitsType → State → List Operation → List Operation → State
+pass_front l s front rest = let p : State = pass l s.history front in record { history = p.history; waiting = p.waiting ++ rest; refused = s.refused ++ p.refused }
 
 -- a pass that was stopped after the first k of what waits
 abbrev pub pass_until : ℕ → LimitsType → State → State
-pass_until k l s = stopped l s (take k s.waiting) (drop k s.waiting)
+pass_until k l s = pass_front l s (take k s.waiting) (drop k s.waiting)
 
 -- one pass
 abbrev pub pass_step : LimitsType → State → State
@@ -44,7 +44,7 @@ next_ready after b = least_ready after (version b.history) b.waiting
 -- the buffer after the turn of an operation, if there is one
 abbrev pub turn_made : Option Operation → BufferState → BufferState
 turn_made None b = b
-turn_made (Some op) b = with_state (turned b.limits op (state b)) b
+turn_made (Some op) b = with_state (turn_step b.limits op (state b)) b
 
 -- the answer to an operation at its turn, the limits asked last
 abbrev pub turn_answer : BufferState → Operation → Answer
@@ -57,15 +57,15 @@ abbrev pub without_waiting : Lamport → BufferState → BufferState
 without_waiting t b = record b { waiting = without t b.waiting }
 
 -- the buffer after an answer at a turn, before the operation leaves
-abbrev pub met : Answer → Operation → BufferState → BufferState
-met Good op b = applied b op
-met Repeat op b = b
-met (Waits r v) op b = b
-met (Refused f) op b = with_refusal (stamp_of op, f) b
+abbrev pub after_answer : Answer → Operation → BufferState → BufferState
+after_answer Good op b = applied b op
+after_answer Repeat op b = b
+after_answer (Waits r v) op b = b
+after_answer (Refused f) op b = with_refusal (stamp_of op, f) b
 
 -- the buffer after one pass
-abbrev pub passed : BufferState → BufferState
-passed b = with_state (pass_step b.limits (state b)) b
+abbrev pub after_pass : BufferState → BufferState
+after_pass b = with_state (pass_step b.limits (state b)) b
 
 -- a pass was stopped: some operations, the least stamps first, had their turns, and the others wait on
 abbrev pub IsStopped : BufferState → BufferState → Type 0
@@ -73,7 +73,7 @@ IsStopped b n = (k : ℕ) × (n ≡ with_state (pass_until k b.limits (state b))
 
 -- settling was stopped, in its first pass or in its second
 abbrev pub IsHalted : BufferState → BufferState → Type 0
-IsHalted b n = IsStopped b n ⊎ IsStopped (passed b) n
+IsHalted b n = IsStopped b n ⊎ IsStopped (after_pass b) n
 
 -- memory ran out while an operation was taken: the buffer is as before, or the operation is applied and settling was stopped
 abbrev pub IsTakenPartly : Operation → BufferState → BufferState → Type 0

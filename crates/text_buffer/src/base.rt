@@ -7,7 +7,7 @@ ghost use Rattle.text_buffer.specs.declared.faults.NewFault.{NewFault};
 
 use crate::NewFault;
 use crate::document::Document;
-use op_model::Unit;
+use crate::faults::length_fault;
 use std::alloc::{AllocError, Global};
 use std::marker::Model;
 
@@ -47,15 +47,10 @@ impl Base {
         ensures fault { IfErr result (λ e. (base_fault text.now ≡ Some e)
             ⊎ ((base_fault text.now ≡ None) × (e ≡ NewFault.OutOfMemory))) }
     {
-        let len = text.len() as u64;
-        if MOST < len {
-            return Err(NewFault::Full {
-                unit: Unit::Bytes,
-                held: 0,
-                adds: len,
-            });
+        match length_fault(MOST, text.len() as u64) {
+            Some(fault) => Err(fault),
+            None => Ok(Base::over(alloc, text)?),
         }
-        Ok(Base::over(alloc, text)?)
     }
 
     // The base of a text that is not too long.

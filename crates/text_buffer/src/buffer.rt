@@ -15,11 +15,12 @@ ghost use Rattle.text_buffer.specs.Buffer.{BufferState, IsBuffer, after_call, ap
 
 use crate::base::Base;
 use crate::document::Document;
+use crate::faults::length_fault;
 use crate::pieces::{size, text_total};
 use crate::{NewFault, Refused};
 use deferred_ops::Deferred;
 use lamport_clock::{Lamport, Version};
-use op_model::{EditFault, Limits, OpFault, Operation, Piece, Unit};
+use op_model::{EditFault, Limits, OpFault, Operation, Piece};
 use rope_edits::piece_fault;
 use std::alloc::{AllocError, Global};
 use std::marker::Model;
@@ -68,15 +69,10 @@ impl Buffer {
         ensures fault { IfErr result (λ e. (new_fault limits base.now ≡ Some e)
             ⊎ ((new_fault limits base.now ≡ None) × (e ≡ NewFault.OutOfMemory))) }
     {
-        let len = base.len() as u64;
-        if limits.bytes < len {
-            return Err(NewFault::Full {
-                unit: Unit::Bytes,
-                held: 0,
-                adds: len,
-            });
+        match length_fault(limits.bytes, base.len() as u64) {
+            Some(fault) => Err(fault),
+            None => Ok(Buffer::over_text(alloc, replica, base, limits)?),
         }
-        Ok(Buffer::over_text(alloc, replica, base, limits)?)
     }
 
     // The buffer over a text that the limits let in.
@@ -119,15 +115,10 @@ impl Buffer {
         ensures fault { IfErr result (λ e. (new_fault limits base.now ≡ Some e)
             ⊎ ((new_fault limits base.now ≡ None) × (e ≡ NewFault.OutOfMemory))) }
     {
-        let len = base.len();
-        if limits.bytes < len {
-            return Err(NewFault::Full {
-                unit: Unit::Bytes,
-                held: 0,
-                adds: len,
-            });
+        match length_fault(limits.bytes, base.len()) {
+            Some(fault) => Err(fault),
+            None => Ok(Buffer::begin(alloc, replica, base, limits)?),
         }
-        Ok(Buffer::begin(alloc, replica, base, limits)?)
     }
 
     // The buffer over a base that the limits let in.

@@ -1,12 +1,12 @@
 // What a history comes to.
-ghost use Rattle.std.specs.Prelude.{◌≡◌, ◌+◌, ◌-◌, ◌^◌, ◌≤◌, ℕ, List, ◌++◌, ◌∷◌, [], length, map, IfOk, OnErr, OnOk, option_map};
+ghost use Rattle.std.specs.Prelude.{◌≡◌, ◌+◌, ◌-◌, ◌^◌, ◌≤◌, ℕ, List, ◌++◌, ◌∷◌, [], None, length, map, IfOk, OnErr, OnOk, option_map};
 ghost use Rattle.std.specs.Arc.{arc_value};
 ghost use Rattle.lamport_clock.specs.Clocks.{observed};
 ghost use Rattle.lamport_clock.specs.Versions.{raise};
 ghost use Rattle.op_model.specs.declared.operation.Operation.TheVariants.{Edit, Undo};
 ghost use Rattle.op_model.specs.Domains.{IsProper};
-ghost use Rattle.op_model.specs.Operations.{bytes_of, entries_of, text_total};
-ghost use Rattle.op_model.specs.Histories.{Distinct, base, bytes_held, clock, version};
+ghost use Rattle.op_model.specs.Operations.{bytes_of, entries_of, stamp_of, text_total};
+ghost use Rattle.op_model.specs.Histories.{Distinct, base, bytes_held, clock, operation_at, version};
 ghost use Rattle.op_model.specs.Limited.{excess};
 ghost use Rattle.op_model.specs.Made.{made};
 ghost use Rattle.op_model.specs.Shown.{hidden, text, texts};
@@ -205,8 +205,7 @@ impl Document {
         ensures err { OnErr result (self.new ≡ self.old) }
     {
         let (edit, adds, content) = self.with_changes(replica, changes)?;
-        let made = edit.into_shared(self.alloc)?;
-        let kept = made.copy(self.alloc)?;
+        let (made, kept) = with_copy(self.alloc, edit)?;
         self.put(kept, adds, content)?;
         Ok(made)
     }
@@ -316,15 +315,6 @@ impl Document {
         })
     }
 
-    // The version with a stamp.
-    fn version_with(&self, stamp: Lamport) -> Result<Arc<Version>, AllocError>
-        ensures { IfOk result (λ v. arc_value v ≡ raise (version self.now) stamp) }
-    {
-        let mut version = self.version.copy(self.alloc)?;
-        version.observe(stamp)?;
-        Ok(Arc::new(self.alloc, version)?)
-    }
-
     // Puts an operation last that is good, which adds so many bytes and entries, with what the history comes to then.
     fn put(&mut self, op: Operation, adds: (u128, u64), content: Content) -> Result<(), AllocError>
         requires grows { MayGrow self.old op }
@@ -336,8 +326,7 @@ impl Document {
     {
         let stamp = op.stamp();
         let (bytes, entries) = adds;
-        let version = self.version_with(stamp)?;
-        self.operations.push(self.alloc, op)?;
+        let version = append(self.alloc, &mut self.operations, &self.version, op)?;
         self.clock = after(self.clock, stamp);
         self.version = version;
         self.content = content;
@@ -345,6 +334,46 @@ impl Document {
         self.entries += entries;
         Ok(())
     }
+}
+
+/// An equal operation with a copy of it, which shares its pieces or counts. Linear in the version. On want of memory it is dropped.
+pub(crate) fn with_copy(alloc: Global, op: Operation) -> Result<(Operation, Operation), AllocError>
+    ensures made { IfOk result (λ r. r.0 ≡ op) }
+    ensures copy { IfOk result (λ r. r.1 ≡ op) }
+{
+    let made = op.into_shared(alloc)?;
+    let copy = made.copy(alloc)?;
+    Ok((made, copy))
+}
+
+// Puts an operation last that is new, and gives the version with its stamp. On want of memory it is dropped.
+fn append(
+    alloc: Global,
+    operations: &mut AppliedList,
+    version: &Arc<Version>,
+    op: Operation,
+) -> Result<Arc<Version>, AllocError>
+    requires { operation_at operations.old (stamp_of op) ≡ None }
+    ensures version { IfOk result (λ v. arc_value v ≡ raise (arc_value version.now) (stamp_of op)) }
+    ensures ok { OnOk result (operations.new ≡ operations.old ++ op ∷ []) }
+    ensures err { OnErr result (operations.new ≡ operations.old) }
+{
+    let version = version_with(alloc, version, op.stamp())?;
+    operations.push(alloc, op)?;
+    Ok(version)
+}
+
+// The version with a stamp.
+fn version_with(
+    alloc: Global,
+    version: &Arc<Version>,
+    stamp: Lamport,
+) -> Result<Arc<Version>, AllocError>
+    ensures { IfOk result (λ v. arc_value v ≡ raise (arc_value version.now) stamp) }
+{
+    let mut version = version.copy(alloc)?;
+    version.observe(stamp)?;
+    Ok(Arc::new(alloc, version)?)
 }
 
 // The edits that counts are of.

@@ -1,5 +1,6 @@
 // Why a buffer is not made.
-ghost use Rattle.std.specs.Prelude.{◌≡◌};
+ghost use Rattle.std.specs.Prelude.{◌≡◌, ◌≤◌, None};
+ghost use Rattle.text_buffer.specs.Buffer.{length_fault};
 ghost use Rattle.text_buffer.specs.declared.faults.NewFault.{NewFault};
 
 use op_model::Unit;
@@ -30,4 +31,19 @@ impl<T: Drop> From<AllocFailed<T>> for NewFault {
     fn from(_: AllocFailed<T>) -> Self {
         NewFault::OutOfMemory
     }
+}
+
+/// The fault of a base of so many bytes where no more than `most` may be held.
+pub(crate) fn length_fault(most: u64, len: u64) -> Option<NewFault>
+    ensures fault { result ≡ length_fault most len }
+    ensures room { result ≡ None → len ≤ most }
+{
+    if most < len {
+        return Some(NewFault::Full {
+            unit: Unit::Bytes,
+            held: 0,
+            adds: len,
+        });
+    }
+    None
 }

@@ -6,7 +6,7 @@ ghost use Rattle.op_model.specs.Steps.Step.{Settles};
 ghost use Rattle.op_answers.specs.Verdicts.{answer_of};
 ghost use Rattle.text_buffer.specs.Outcomes.{pair_of};
 ghost use Rattle.text_buffer.specs.Buffer.{AllMiss, IsBuffer, IsPartly, after_call, number_applied, settled};
-ghost use Rattle.text_buffer.specs.Settling.{IsHalted, IsStopped, met, next_ready, passed, turn_answer, turn_made, with_refusal, without_waiting};
+ghost use Rattle.text_buffer.specs.Settling.{IsHalted, IsStopped, after_answer, after_pass, next_ready, turn_answer, turn_made, with_refusal, without_waiting};
 
 use crate::{Buffer, Refused};
 use deferred_ops::Deferred;
@@ -43,7 +43,7 @@ impl Buffer {
 
     // One pass over what waits.
     fn pass(&mut self) -> Result<(), AllocError>
-        ensures ok { OnOk result (self.new ≡ passed self.old) }
+        ensures ok { OnOk result (self.new ≡ after_pass self.old) }
         ensures want { OnErr result (IsStopped self.old self.new) }
     {
         let mut after = None;
@@ -91,7 +91,7 @@ impl Buffer {
 
     // Applies an operation or puts it on the refused list, by the answer at its turn.
     fn meet(&mut self, op: Operation) -> Result<(), AllocError>
-        ensures ok { OnOk result (self.new ≡ met (turn_answer self.old op) op self.old) }
+        ensures ok { OnOk result (self.new ≡ after_answer (turn_answer self.old op) op self.old) }
         ensures err { OnErr result (self.new ≡ self.old) }
     {
         match self.turn(&op)? {

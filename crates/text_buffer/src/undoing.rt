@@ -4,6 +4,7 @@ ghost use Rattle.op_model.specs.Steps.Step.{Undoes};
 ghost use Rattle.text_buffer.specs.Buffer.{after_call, made_undo, undo_fault, undone};
 
 use crate::Buffer;
+use crate::document::with_copy;
 use lamport_clock::Lamport;
 use op_answers::undo_fault;
 use op_model::{EditFault, Operation, UndoFault, UndoOp};
@@ -48,8 +49,7 @@ impl Buffer {
         ensures err { OnErr result (self.new ≡ self.old) }
     {
         let undo = self.undo_operation(edits)?;
-        let made = undo.into_shared(self.alloc)?;
-        let kept = made.copy(self.alloc)?;
+        let (made, kept) = with_copy(self.alloc, undo)?;
         self.apply(kept)?;
         Ok(made)
     }

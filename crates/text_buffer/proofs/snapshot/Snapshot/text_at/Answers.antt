@@ -1,6 +1,6 @@
 use Rattle.std.proofs.Common.{◌∙◌, sym}
-use Rattle.text_buffer.proofs.Standing.{closed}
+use Rattle.text_buffer.proofs.Standing.{is_closed}
 use Rattle.text_buffer.proofs.snapshot.Snapshot.text_at.Goals as goal
 
 pub text_back-requires : goal.text_back-requires
-text_back-requires c = closed c.args.self.now c.args.version.now (sym c.since_fault.ensures ∙ c.in_default.is)
+text_back-requires c = is_closed c.args.self.now c.args.version.now (sym c.since_fault.ensures ∙ c.in_default.is)
