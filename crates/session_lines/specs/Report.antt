@@ -1,6 +1,8 @@
 -- The lines of a report.
-use Rattle.std.specs.Prelude.{ℕ, ◌+◌, ◌==◌, Bool, true, false, List, [], ◌∷◌, ◌++◌, length, reverse, codes, decimal}
-use Rattle.std.specs.List.{flat_map, join_by, position_or_len}
+use Rattle.std.specs.Prelude.{ℕ, ◌+◌, ◌==◌, Bool, true, false, List, [], ◌∷◌, ◌++◌, length, map, reverse, codes, decimal, Option}
+use Rattle.std.specs.Iterator.{Drains}
+use Rattle.std.specs.List.{concat, flat_map, join_by, position_or_len}
+use denote.Bor.{Bor}
 use Rattle.json.specs.Print.{quoted}
 use Rattle.lamport_clock.specs.Stamps.{stamp_text}
 use Rattle.lamport_clock.specs.declared.stamp.Lamport.{Lamport}
@@ -35,6 +37,8 @@ use Rattle.session_lines.specs.declared.report.OffsetAnswer.{OffsetAnswer}
 use Rattle.session_lines.specs.declared.report.OffsetAnswer.TheVariants as offset
 use Rattle.session_lines.specs.declared.report.QueryAnswer.{QueryAnswer}
 use Rattle.session_lines.specs.declared.report.QueryAnswer.TheVariants as query
+use Rattle.session_lines.specs.declared.report.TextHead.{TextHead}
+use Rattle.session_lines.specs.declared.report.TextHead.TheVariants as head
 use Rattle.session_lines.specs.declared.report.Report.{Report}
 use Rattle.session_lines.specs.declared.report.Report.TheVariants.{Made, EditRefused, UndoRefused, Unnamed, Settled, Give, Text, Anchor, Where, Mark, Since, Query, Replica, Refused, Final, Checked}
 
@@ -219,8 +223,11 @@ replica_line r bytes rows applied waiting refused = counts_words r bytes rows ap
 unfoldable pub refused_op_line : ℕ → Lamport → OpFault → List ℕ
 refused_op_line r t e = codes "refused " ++ (decimal r ++ (codes ": " ++ (stamp_text t ++ (codes " " ++ (op_fault_words e ++ codes "\n")))))
 
+abbrev pub final_front : ℕ → List ℕ
+final_front r = codes "final " ++ (decimal r ++ codes ": ")
+
 unfoldable pub final_line : ℕ → List ℕ → List ℕ
-final_line r text = codes "final " ++ (decimal r ++ (codes ": " ++ (quoted text ++ codes "\n")))
+final_line r text = final_front r ++ (quoted text ++ codes "\n")
 
 unfoldable pub checked_line : ℕ → ℕ → ℕ → ℕ → List ℕ
 checked_line lines replicas operations queries =
@@ -245,6 +252,24 @@ line_text (Replica r bytes rows applied waiting refused) = replica_line r bytes 
 line_text (Refused r t e) = refused_op_line r t e
 line_text (Final r text) = final_line r text
 line_text (Checked lines replicas operations queries) = checked_line lines replicas operations queries
+
+-- ---- a line that ends with a text
+
+-- what stands before the text
+abbrev pub head_words : TextHead → List ℕ
+head_words (head.Text r bytes row column rows) = text_front r bytes row column rows
+head_words (head.Final r) = final_front r
+
+-- the line with that head and a text
+abbrev pub with_text : TextHead → List ℕ → Report
+with_text (head.Text r bytes row column rows) text = Text r bytes row column rows text
+with_text (head.Final r) text = Final r text
+
+-- P holds of the text that the parts are, one after the other, which calls from s give
+abbrev pub OnText : {S : Type 0} → (S → Option (Bor (List ℕ)) → S → Type 0) → S → (List ℕ → Type 0) → Type 0
+OnText steps s P = (parts : List (Bor (List ℕ))) × Drains steps s parts × P (concat (map (λ part. part.now) parts))
+
+-- ---- which lines have strings
 
 -- whether a JSON string stands in the line
 abbrev pub has_string : Report → Bool

@@ -19,7 +19,7 @@ pub use fault::{DecodeFault, Word};
 pub use lamport_clock::OutOfMemory;
 pub use report::{
     AnchorAnswer, FindAnswer, Given, OffsetAnswer, PointAnswer, QueryAnswer, Report, SinceAnswer,
-    TextEdits, WhereAnswer,
+    TextEdits, TextHead, WhereAnswer,
 };
 pub use session::{Ids, Numbers, Session, SessionLine, SessionLines};
-pub use text::write_line;
+pub use text::{write_line, write_text};

@@ -224,6 +224,23 @@ pub enum Report {
     },
 }
 
+/// What stands before the text in a line that ends with one.
+#[derive(Clone, Copy, Debug, PartialEq, Eq)]
+pub enum TextHead {
+    /// `text R: B bytes, end ROW:COLUMN, K rows, `: the head of `Report::Text`.
+    Text {
+        replica: u16,
+        bytes: u64,
+        row: u64,
+        column: u64,
+        rows: u64,
+    },
+    /// `final R: `: the head of `Report::Final`.
+    Final {
+        replica: u16,
+    },
+}
+
 impl Report {
     /// What is counted of the session: all its lines, the header too, the ids of its header, its operation lines and its
     /// queries. Linear in its lines.

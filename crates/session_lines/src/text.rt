@@ -1,11 +1,12 @@
 // The text of a report's line.
 ghost use Rattle.std.specs.Prelude.{◌≡◌, ◌++◌, false, length, string_bytes, take, true, OnOk, OnErr, IfOk};
-ghost use Rattle.json.specs.Print.{quoted};
-ghost use Rattle.session_lines.specs.Report.{made_line, settled_line, given_words, give_line, text_front, text_line, place_fault_words, anchor_words, anchor_line, where_words, where_line, mark_line, edit_words, edits_words, since_fault_words, since_words, since_line, starts_words, find_words, place_words, clips_words, point_words, offset_words, query_word, query_words, query_line, counts_words, waits_words, replica_line, final_line, fault_words, op_fault_words, undo_fault_words, refused_line, refused_undo_line, unnamed_line, refused_op_line, checked_line, line_text, has_string, is_end};
+ghost use Rattle.std.specs.Iterator.{IsFinite};
+ghost use Rattle.json.specs.Print.{escape, quoted};
+ghost use Rattle.session_lines.specs.Report.{made_line, settled_line, given_words, give_line, text_front, text_line, place_fault_words, anchor_words, anchor_line, where_words, where_line, mark_line, edit_words, edits_words, since_fault_words, since_words, since_line, starts_words, find_words, place_words, clips_words, point_words, offset_words, query_word, query_words, query_line, counts_words, waits_words, replica_line, final_front, final_line, head_words, OnText, with_text, fault_words, op_fault_words, undo_fault_words, refused_line, refused_undo_line, unnamed_line, refused_op_line, checked_line, line_text, has_string, is_end};
 
 use crate::report::{
     AnchorAnswer, FindAnswer, Given, OffsetAnswer, PointAnswer, QueryAnswer, Report, SinceAnswer,
-    WhereAnswer,
+    TextHead, WhereAnswer,
 };
 use json::Writer;
 use lamport_clock::Lamport;
@@ -60,6 +61,44 @@ fn push_around(
         out.truncate(start);
     }
     pushed
+}
+
+// Writes a text as it stands between the quotes of a JSON string, by way of `string`, whose bytes are replaced. On want of
+// memory nothing is written.
+fn push_escaped(
+    alloc: Global,
+    out: &mut Vec<u8>,
+    string: &mut Vec<u8>,
+    text: &str,
+) -> Result<(), AllocError>
+    ensures ok { OnOk result (out.new.items ≡ out.old.items ++ escape text.now) }
+    ensures err { OnErr result (out.new.items ≡ out.old.items) }
+{
+    string.clear();
+    push_quoted(alloc, string, text)?;
+    out.extend_from_slice(&string[1..string.len() - 1])
+}
+
+// Writes the text that the parts are as a JSON string. On want of memory some of it may be written.
+#[tactic(auto, using(crate::proofs::Quoted::escape_more))]
+fn push_text<'a, I: Iterator<Item = &'a str> + Drop>(
+    alloc: Global,
+    out: &mut Vec<u8>,
+    parts: I,
+) -> Result<(), AllocError>
+    requires can { I.can_next parts }
+    requires ends { IsFinite (I.remaining parts) }
+    ensures ok { OnOk result (OnText I.next_gives parts
+        (λ text. out.new.items ≡ out.old.items ++ quoted text)) }
+    ensures kept { take (length out.old.items) out.new.items ≡ out.old.items }
+{
+    let mut string = Vec::new(alloc);
+    out.push(b'"')?;
+    for part in parts {
+        push_escaped(alloc, out, &mut string, part)?;
+    }
+    out.push(b'"')?;
+    Ok(())
 }
 
 #[tactic(auto, unfolding(crate::specs::Report::made_line))]
@@ -508,13 +547,36 @@ fn push_checked(
     )
 }
 
+// What stands before the text.
+fn final_front(alloc: Global, r: u16) -> Result<String, AllocError>
+    ensures { IfOk result (λ s. string_bytes s ≡ final_front r) }
+{
+    format!(in alloc; "final {r}: ")
+}
+
 #[tactic(auto, unfolding(crate::specs::Report::final_line))]
 fn push_final(alloc: Global, out: &mut Vec<u8>, r: u16, text: &str) -> Result<(), AllocError>
     ensures ok { OnOk result (out.new.items ≡ out.old.items ++ final_line r text.now) }
     ensures err { OnErr result (out.new.items ≡ out.old.items) }
 {
-    let front = format!(in alloc; "final {r}: ")?;
+    let front = final_front(alloc, r)?;
     push_around(alloc, out, front.as_str(), text, "\n")
+}
+
+// What stands before the text.
+fn head_text(alloc: Global, head: TextHead) -> Result<String, AllocError>
+    ensures { IfOk result (λ s. string_bytes s ≡ head_words head) }
+{
+    match head {
+        TextHead::Text {
+            replica,
+            bytes,
+            row,
+            column,
+            rows,
+        } => text_front(alloc, replica, bytes, row, column, rows),
+        TextHead::Final { replica } => final_front(alloc, replica),
+    }
 }
 
 // A line at the end of a report.
@@ -621,4 +683,51 @@ pub fn write_line(alloc: Global, out: &mut Vec<u8>, line: &Report) -> Result<(),
         Report::Final { replica, text } => push_final(alloc, out, *replica, text.as_str()),
         _ => write_plain(alloc, out, line),
     }
+}
+
+// A line that ends with the text that the parts are. On want of memory some of it may be written.
+fn push_with_text<'a, I: Iterator<Item = &'a str> + Drop>(
+    alloc: Global,
+    out: &mut Vec<u8>,
+    head: TextHead,
+    parts: I,
+) -> Result<(), AllocError>
+    requires can { I.can_next parts }
+    requires ends { IsFinite (I.remaining parts) }
+    ensures ok { OnOk result (OnText I.next_gives parts
+        (λ text. out.new.items ≡ out.old.items ++ line_text (with_text head text))) }
+    ensures kept { take (length out.old.items) out.new.items ≡ out.old.items }
+{
+    let front = head_text(alloc, head)?;
+    out.extend_from_slice(front.as_bytes())?;
+    push_text(alloc, out, parts)?;
+    out.push(b'\n')?;
+    Ok(())
+}
+
+/// Writes a line that ends with a text, with its line feed, at the end of `out`: the line with that head and the text that
+/// the parts are, one after the other. Linear in the line. The text is nowhere made as a whole: a part is quoted in a buffer
+/// of one part, and goes from there into `out`.
+///
+/// # Errors
+///
+/// `OutOfMemory`; then nothing was written.
+pub fn write_text<'a, I: Iterator<Item = &'a str> + Drop>(
+    alloc: Global,
+    out: &mut Vec<u8>,
+    head: TextHead,
+    parts: I,
+) -> Result<(), AllocError>
+    requires can { I.can_next parts }
+    requires ends { IsFinite (I.remaining parts) }
+    ensures ok { OnOk result (OnText I.next_gives parts
+        (λ text. out.new.items ≡ out.old.items ++ line_text (with_text head text))) }
+    ensures err { OnErr result (out.new.items ≡ out.old.items) }
+{
+    let start = out.len();
+    let pushed = push_with_text(alloc, out, head, parts);
+    if pushed.is_err() {
+        out.truncate(start);
+    }
+    pushed
 }
