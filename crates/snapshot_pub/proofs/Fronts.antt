@@ -7,7 +7,7 @@ use Rattle.std.proofs.lemmas.List.Concat.{flat_map-append}
 use mathlib.Core.List.{IsPrefix}
 use Rattle.op_model.specs.declared.operation.Operation.{Operation}
 use Rattle.text_buffer.specs.Document.{IsFront}
-use Rattle.snapshot_pub.specs.Logs.{joined}
+use Rattle.snapshot_pub.specs.Logs.{log_list}
 
 pub front_itself : (xs : List Operation) → IsFront xs xs
 front_itself xs = ([], sym (append-nil xs))
@@ -29,24 +29,24 @@ front_shorter (x ∷ xs) (y ∷ ys) [] p q le = absurd (cc (p.1))
 front_shorter (x ∷ xs) (y ∷ ys) (z ∷ zs) p q le =
     let rest = front_shorter xs ys zs (p.0, cc (p.1)) (q.0, cc (q.1)) (omega arith) in (rest.0, cc (p.1, q.1, rest.1))
 
-pub joined-append : (a b : List (List Operation)) → joined (a ++ b) ≡ joined a ++ joined b
-joined-append a b = flat_map-append (λ (added : List Operation). added) a b
+pub log_list-append : (a b : List (List Operation)) → log_list (a ++ b) ≡ log_list a ++ log_list b
+log_list-append a b = flat_map-append (λ (added : List Operation). added) a b
 
 -- what a log came to earlier is a front of what it comes to
-pub joined_front : (a log : List (List Operation)) → IsPrefix a log → IsFront (joined a) (joined log)
-joined_front a log p = (joined p.0, ap joined (sym p.1) ∙ joined-append a p.0)
+pub log_list_front : (a log : List (List Operation)) → IsPrefix a log → IsFront (log_list a) (log_list log)
+log_list_front a log p = (log_list p.0, ap log_list (sym p.1) ∙ log_list-append a p.0)
 
 -- of two lists that one log came to, the longer begins with the other
-pub longer_begins : (a b log : List (List Operation)) (xs ys : List Operation) → IsPrefix a log → IsPrefix b log → joined a ≡ xs → joined b ≡ ys
+pub longer_begins : (a b log : List (List Operation)) (xs ys : List Operation) → IsPrefix a log → IsPrefix b log → log_list a ≡ xs → log_list b ≡ ys
     → MatchBool (leb (length ys) (length xs)) (IsFront ys xs) (IsFront xs ys)
 longer_begins a b log xs ys p q d e = by_length (leb (length ys) (length xs)) refl
   where
-    one : IsFront xs (joined log)
-    one = subst (λ (l : List Operation). IsFront l (joined log)) d (joined_front a log p)
+    one : IsFront xs (log_list log)
+    one = subst (λ (l : List Operation). IsFront l (log_list log)) d (log_list_front a log p)
 
-    other : IsFront ys (joined log)
-    other = subst (λ (l : List Operation). IsFront l (joined log)) e (joined_front b log q)
+    other : IsFront ys (log_list log)
+    other = subst (λ (l : List Operation). IsFront l (log_list log)) e (log_list_front b log q)
 
     by_length : (t : Bool) → leb (length ys) (length xs) ≡ t → MatchBool t (IsFront ys xs) (IsFront xs ys)
-    by_length true is = front_shorter ys xs (joined log) other one (grind (arith, nat_tests))
-    by_length false is = front_shorter xs ys (joined log) one other (grind (arith, nat_tests))
+    by_length true is = front_shorter ys xs (log_list log) other one (grind (arith, nat_tests))
+    by_length false is = front_shorter xs ys (log_list log) one other (grind (arith, nat_tests))

@@ -3,7 +3,7 @@ use Rattle.std.specs.Prelude.{◌≡◌, ℕ, false, List, [], ◌∷◌, map, r
 use Rattle.left_right.specs.Sides.{view}
 use Rattle.logbook.specs.Pages.{Book}
 use Rattle.op_model.specs.declared.operation.Operation.{Operation}
-use Rattle.snapshot_pub.specs.Logs.{joined}
+use Rattle.snapshot_pub.specs.Logs.{log_list}
 use Rattle.snapshot_pub.specs.States.{PublisherState, ReaderState, ToldState, HasLearned}
 use Rattle.snapshot_pub.specs.declared.kept.Kept.{Kept}
 use Rattle.snapshot_pub.specs.declared.publisher.Side.{Side}
@@ -39,7 +39,7 @@ told_state t = record { pair = t.kept.reached.book; list = t.kept.snapshot }
 
 -- the first list is shown, and is all of the log
 abbrev pub Shows : List Operation → Side → Type 0
-Shows first s = (side_list s ≡ first) × (joined s.growth.reached.log ≡ first)
+Shows first s = (side_list s ≡ first) × (log_list s.growth.reached.log ≡ first)
 
 -- so many pairs are open, in which the first list is shown, and each reader has learned it
 pub record AreOpen (first : List Operation) (n : ℕ) (sides : List Side) (readers : List ReaderState) : Type 0 where

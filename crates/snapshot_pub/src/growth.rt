@@ -2,7 +2,7 @@
 // is the number of its operations.
 ghost use Rattle.std.specs.Prelude.{◌≡◌, [], length, MatchResult};
 ghost use Rattle.text_buffer.specs.Document.{IsFront};
-ghost use Rattle.snapshot_pub.specs.Logs.{joined, word_of};
+ghost use Rattle.snapshot_pub.specs.Logs.{log_list, word_of};
 
 use crate::kept::Kept;
 use logbook::{Gain, Offer, Plain, Play, Rule, Seen, Start, Word};
@@ -70,13 +70,13 @@ pub struct Growth {
     operations: u64,
     pub(crate) reached: Reached,
     ghost word_is: { word ≡ word_of reached.book },
-    ghost counted: { operations ≡ length (joined reached.log) },
+    ghost counted: { operations ≡ length (log_list reached.log) },
 }
 
 impl Growth {
     /// Of no operation.
     pub fn new() -> Growth
-        ensures { joined result.reached.log ≡ [] }
+        ensures { log_list result.reached.log ≡ [] }
     {
         let (reached, mut first, _second) = Seen::open(Start::alone(), 0, 0);
         Growth {
@@ -88,19 +88,34 @@ impl Growth {
 
     /// Adds what the snapshot has beyond the log. On want of memory the log is as before.
     pub fn grow(&mut self, snapshot: Snapshot) -> Result<Kept, AllocError>
-        requires { IsFront (joined self.old.reached.log) snapshot }
+        requires { IsFront (log_list self.old.reached.log) snapshot }
         ensures book { self.new.reached.book ≡ self.old.reached.book }
         ensures grown { MatchResult result (λ k. (k.snapshot ≡ snapshot)
             × (k.reached ≡ self.new.reached)) (λ _. self.new.reached ≡ self.old.reached) }
     {
-        let operations = snapshot.applied().len();
         let more = (self.operations, snapshot);
+        let reached = self.extend(&more)?;
+        Ok(Kept {
+            snapshot: more.1,
+            reached,
+        })
+    }
+
+    // Adds what the snapshot has beyond so many operations, as many as the log has. Gives the log as it is then.
+    fn extend(&mut self, more: &(u64, Snapshot)) -> Result<Reached, AllocError>
+        requires count { more.now.0 ≡ self.old.operations }
+        requires front { IsFront (log_list self.old.reached.log) more.now.1 }
+        ensures book { self.new.reached.book ≡ self.old.reached.book }
+        ensures grown { MatchResult result (λ r. (r ≡ self.new.reached)
+            × (log_list r.log ≡ more.now.1)) (λ _. self.new.reached ≡ self.old.reached) }
+    {
+        let operations = more.1.applied().len();
         let mut reached = self.reached.again();
         let mut offer: Offer<Added, u64, Counted, Nothing> = reached.plain::<
             Nothing,
             (u64, Snapshot),
             Add,
-        >(&more);
+        >(more);
         let mut pen = reached.no_pen();
         let expected = more.0;
         let found = self
@@ -118,9 +133,6 @@ impl Growth {
         }
         self.operations = operations;
         self.reached = reached.again();
-        Ok(Kept {
-            snapshot: more.1,
-            reached,
-        })
+        Ok(reached)
     }
 }

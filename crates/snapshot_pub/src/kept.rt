@@ -1,7 +1,7 @@
 // A snapshot that remembers how far its pair had grown.
 ghost use Rattle.std.specs.Prelude.{◌≡◌, IfOk, MatchBool};
 ghost use Rattle.text_buffer.specs.Document.{IsFront};
-ghost use Rattle.snapshot_pub.specs.Logs.{joined};
+ghost use Rattle.snapshot_pub.specs.Logs.{log_list};
 
 use crate::growth::Reached;
 use left_right::Absorb;
@@ -13,7 +13,7 @@ use text_buffer::Snapshot;
 pub struct Kept {
     pub(crate) snapshot: Snapshot,
     pub(crate) reached: Reached,
-    ghost whole: { joined reached.log ≡ snapshot },
+    ghost whole: { log_list reached.log ≡ snapshot },
 }
 
 impl Kept {

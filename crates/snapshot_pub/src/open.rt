@@ -1,7 +1,7 @@
 // How pairs are made.
 ghost use Rattle.std.specs.Prelude.{◌≡◌, ◌≤◌, ◌∷◌, [], false, length, map, replicate, All, IfOk, OnOk, vec_capacity};
 ghost use Rattle.left_right.specs.Sides.{view};
-ghost use Rattle.snapshot_pub.specs.Logs.{joined};
+ghost use Rattle.snapshot_pub.specs.Logs.{log_list};
 ghost use Rattle.snapshot_pub.specs.States.{ReaderState, HasLearned};
 ghost use Rattle.snapshot_pub.specs.Fields.{AreOpen, Shows};
 
@@ -87,8 +87,7 @@ fn open_pair<R: Wait>(
     ensures learned { IfOk result (λ r. HasLearned first.now r.1) }
     ensures own { IfOk result (λ r. r.1.pair ≡ r.0.growth.reached.book) }
 {
-    let mut growth = Growth::new();
-    let longest = growth.grow(first.share()?)?;
+    let (growth, longest) = begin_log(first)?;
     let (end, reader) = open_ends(rt, alloc, &longest)?;
     Ok((
         Side {
@@ -102,6 +101,17 @@ fn open_pair<R: Wait>(
             entered: false,
         },
     ))
+}
+
+// A log that comes to the list of the snapshot, and the snapshot with it.
+fn begin_log(first: &Snapshot) -> Result<(Growth, Kept), AllocError>
+    ensures snapshot { IfOk result (λ r. r.1.snapshot ≡ first.now) }
+    ensures reached { IfOk result (λ r. r.1.reached ≡ r.0.reached) }
+{
+    let snapshot = first.share()?;
+    let mut growth = Growth::new();
+    let longest = growth.grow(snapshot)?;
+    Ok((growth, longest))
 }
 
 // The two ends of a pair in which the snapshot is shown. Both have seen it.

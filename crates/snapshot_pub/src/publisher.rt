@@ -2,7 +2,7 @@
 ghost use Rattle.std.specs.Prelude.{◌≡◌, false, ◌<◌, [], ◌∷◌, length, IfOk, MatchResult, slice_set, slice_index_or};
 ghost use Rattle.left_right.specs.Sides.{view};
 ghost use Rattle.text_buffer.specs.Document.{IsFront};
-ghost use Rattle.snapshot_pub.specs.Logs.{joined};
+ghost use Rattle.snapshot_pub.specs.Logs.{log_list};
 
 use crate::growth::Growth;
 use crate::kept::Kept;
@@ -36,7 +36,7 @@ pub struct Side {
     pub(crate) is_ahead: bool,
     ghost seen: { view end.desk.place ≡ end.desk.shown.value ∷ [] },
     ghost own: { end.desk.shown.value.reached.book ≡ growth.reached.book },
-    ghost level: { is_ahead ≡ false → joined growth.reached.log ≡ end.desk.shown.value.snapshot },
+    ghost level: { is_ahead ≡ false → log_list growth.reached.log ≡ end.desk.shown.value.snapshot },
 }
 
 impl Side {

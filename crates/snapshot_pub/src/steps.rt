@@ -1,5 +1,5 @@
 // The steps of a pair. The kit's ends go through a step by value, so each step has a form in place too.
-ghost use Rattle.std.specs.Prelude.{◌≡◌, MatchOption, MatchResult};
+ghost use Rattle.std.specs.Prelude.{◌≡◌, ◌++◌, ◌∷◌, [], drop, MatchOption, MatchResult, OnOk};
 ghost use Rattle.left_right.specs.Sides.{view};
 ghost use Rattle.snapshot_pub.specs.Rule.{Follows, Sees};
 ghost use Rattle.snapshot_pub.specs.declared.kept.Kept.{Kept};
@@ -57,7 +57,7 @@ fn show<R: Wait>(end: WriteEnd, rt: &R, kept: Kept) -> (WriteEnd, Result<(), All
         (λ _. view result.0.desk.place ≡ view end.desk.place) }
 {
     let mut end = end;
-    match end.append(kept) {
+    match put_last(&mut end, kept) {
         Ok(()) => {
             let (end, published) = end.publish_as::<See, R>(rt);
             match published {
@@ -65,7 +65,19 @@ fn show<R: Wait>(end: WriteEnd, rt: &R, kept: Kept) -> (WriteEnd, Result<(), All
                 Err(refused) => (end, Err(refused)),
             }
         }
-        Err(_back) => (end, Err(AllocError)),
+        Err(refused) => (end, Err(refused)),
+    }
+}
+
+// Puts the snapshot behind what is pending. On want of memory it is dropped.
+fn put_last(end: &mut WriteEnd, kept: Kept) -> Result<(), AllocError>
+    ensures desk { end.new.desk ≡ end.old.desk }
+    ensures pending { OnOk result (drop end.new.behind end.new.log.items
+        ≡ drop end.old.behind end.old.log.items ++ kept ∷ []) }
+{
+    match end.append(kept) {
+        Ok(()) => Ok(()),
+        Err(_back) => Err(AllocError),
     }
 }
 
