@@ -68,7 +68,7 @@ fn copied(alloc: Global, entries: &[Entry<Fragment>]) -> Result<u64, AllocError>
 fn leaf_copy(alloc: Global, leaf: &[Entry<Fragment>]) -> Result<Vec<Entry<Fragment>>, AllocError> {
     let mut copy = Vec::with_capacity(alloc, leaf.len())?;
     for entry in leaf {
-        copy.push(entry.copy(alloc)?)?;
+        copy.push(entry.share()?)?;
     }
     Ok(copy)
 }
