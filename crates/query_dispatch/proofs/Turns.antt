@@ -98,45 +98,45 @@ module _ (workers w : ℕ) (some : w < workers) where
   abbrev goes : ℕ → Bool
   goes x = (x - 1) % workers == w
 
-  abbrev counted : ℕ → ℕ
-  counted n = length (filter goes (range_with_len 1 n))
+  abbrev count_to : ℕ → ℕ
+  count_to n = length (filter goes (range_with_len 1 n))
 
-  counted-more : (n : ℕ) → counted (suc n) ≡ counted n + length (cond (goes (1 + n)) ((1 + n) ∷ []) [])
-  counted-more n = ap (λ (l : List ℕ). length (filter goes l)) (range_more 1 n)
+  count_to-more : (n : ℕ) → count_to (suc n) ≡ count_to n + length (cond (goes (1 + n)) ((1 + n) ∷ []) [])
+  count_to-more n = ap (λ (l : List ℕ). length (filter goes l)) (range_more 1 n)
       ∙ ap (λ (l : List ℕ). length l) (filter-append goes (range_with_len 1 n) ((1 + n) ∷ [])) ∙ length-append (filter goes (range_with_len 1 n)) (cond (goes (1 + n)) ((1 + n) ∷ []) [])
 
-  counted_below : (n : ℕ) → counted n * workers + w + 1 ≤ n + workers
-  counted_below zero = omega (arith, some)
-  counted_below (suc n) = by_turn (goes (1 + n)) refl (counted_below n)
+  count_below : (n : ℕ) → count_to n * workers + w + 1 ≤ n + workers
+  count_below zero = omega (arith, some)
+  count_below (suc n) = by_turn (goes (1 + n)) refl (count_below n)
     where
-      by_turn : (b : Bool) → goes (1 + n) ≡ b → counted n * workers + w + 1 ≤ n + workers → counted (suc n) * workers + w + 1 ≤ suc n + workers
+      by_turn : (b : Bool) → goes (1 + n) ≡ b → count_to n * workers + w + 1 ≤ n + workers → count_to (suc n) * workers + w + 1 ≤ suc n + workers
       by_turn true e was =
           let turn : n % workers ≡ w = ap (λ (m : ℕ). m % workers) (omega arith) ∙ is_number ((1 + n - 1) % workers) w e in
           let row : n ≡ n / workers * workers + w = sym (div-add-mod' n workers) ∙ ap (λ (m : ℕ). n / workers * workers + m) turn in
-          let more : counted (suc n) ≡ counted n + 1 = counted-more n ∙ ap (λ (b : Bool). counted n + length (cond b ((1 + n) ∷ []) [])) e in
-          let h = row_below (counted n) (n / workers) n workers w some row was in
+          let more : count_to (suc n) ≡ count_to n + 1 = count_to-more n ∙ ap (λ (b : Bool). count_to n + length (cond b ((1 + n) ∷ []) [])) e in
+          let h = row_below (count_to n) (n / workers) n workers w some row was in
           subst (λ (m : ℕ). m * workers + w + 1 ≤ suc n + workers) (sym more) (omega (arith, h))
       by_turn false e was =
-          let same : counted (suc n) ≡ counted n = counted-more n ∙ (ap (λ (b : Bool). counted n + length (cond b ((1 + n) ∷ []) [])) e ∙ omega arith) in
+          let same : count_to (suc n) ≡ count_to n = count_to-more n ∙ (ap (λ (b : Bool). count_to n + length (cond b ((1 + n) ∷ []) [])) e ∙ omega arith) in
           subst (λ (m : ℕ). m * workers + w + 1 ≤ suc n + workers) (sym same) (omega (arith, was))
 
   -- so few of n go to worker w, that all and one mark fit where a limit holds
-  counted_fits : (n limit : ℕ) → n ≤ limit → counted n < limit / workers + 2
-  counted_fits n limit le =
-      let h = counted_below n in
+  count_fits : (n limit : ℕ) → n ≤ limit → count_to n < limit / workers + 2
+  count_fits n limit le =
+      let h = count_below n in
       let split : limit / workers * workers + limit % workers ≡ limit = div-add-mod' limit workers in
       let rest : limit % workers < workers = mod_below limit workers (omega (arith, some)) in
-      let up : counted n * workers ≤ (limit / workers + 1) * workers + (workers - 1) =
+      let up : count_to n * workers ≤ (limit / workers + 1) * workers + (workers - 1) =
       let one : (limit / workers + 1) * workers ≡ limit / workers * workers + workers = ap (λ (m : ℕ). m * workers) (sym (suc-eq-add-one (limit / workers))) ∙ suc-mul (limit / workers) workers in
       omega (arith, h, split, rest, le, one) in
-      let least : counted n ≤ ((limit / workers + 1) * workers + (workers - 1)) / workers = le-div (counted n) ((limit / workers + 1) * workers + (workers - 1)) workers (omega (arith, some)) up in
+      let least : count_to n ≤ ((limit / workers + 1) * workers + (workers - 1)) / workers = le-div (count_to n) ((limit / workers + 1) * workers + (workers - 1)) workers (omega (arith, some)) up in
       let row : ((limit / workers + 1) * workers + (workers - 1)) / workers ≡ limit / workers + 1 = div-mul-add (limit / workers + 1) workers (workers - 1) (omega (arith, some)) in
-      omega (arith, subst (λ (m : ℕ). counted n ≤ m) row least)
+      omega (arith, subst (λ (m : ℕ). count_to n ≤ m) row least)
 
 -- where things are numbered from 1, one inbox has few of them
 pub few_go : {X : Type 0} (number : X → ℕ) (xs : List X) (workers w limit : ℕ) → w < workers → map number xs ≡ range_with_len 1 (length xs) → length xs ≤ limit
     → length (filter (λ x. (number x - 1) % workers == w) xs) < limit / workers + 2
 few_go number xs workers w limit some numbers le =
-    let same : length (filter (λ x. (number x - 1) % workers == w) xs) ≡ counted workers w some (length xs) =
+    let same : length (filter (λ x. (number x - 1) % workers == w) xs) ≡ count_to workers w some (length xs) =
     filter-map (λ (m : ℕ). (m - 1) % workers == w) number xs ∙ ap (λ (l : List ℕ). length (filter (λ (m : ℕ). (m - 1) % workers == w) l)) numbers in
-    subst (λ (m : ℕ). m < limit / workers + 2) (sym same) (counted_fits workers w some (length xs) limit le)
+    subst (λ (m : ℕ). m < limit / workers + 2) (sym same) (count_fits workers w some (length xs) limit le)

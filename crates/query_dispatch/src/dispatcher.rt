@@ -72,7 +72,12 @@ impl<Q: Drop> Dispatcher<Q> {
         ensures pairs { pairs_in self.new.inboxes ≡ pairs_in self.old.inboxes }
         ensures limit { self.new.limit ≡ self.old.limit }
         ensures asked { OnOk result ((asks : List (Ask Q)) → HasAsked self.old asks
-            → HasAsked self.new (asks ++ record { number = self.old.count + 1; replica = replica; query = query; history = snapshot.now } ∷ [])) }
+            → HasAsked self.new (asks ++ record {
+              number = self.old.count + 1;
+              replica = replica;
+              query = query;
+              history = snapshot.now;
+            } ∷ [])) }
         ensures err { OnErr result (self.new ≡ self.old) }
     {
         publishers.show(rt, replica as usize, snapshot)?;
@@ -96,7 +101,12 @@ impl<Q: Drop> Dispatcher<Q> {
         ensures pairs { pairs_in self.new.inboxes ≡ pairs_in self.old.inboxes }
         ensures limit { self.new.limit ≡ self.old.limit }
         ensures asked { OnOk result ((asks : List (Ask Q)) → HasAsked self.old asks
-            → HasAsked self.new (asks ++ record { number = self.old.count + 1; replica = replica; query = query; history = slice_index_or (shown_lists publishers.now) replica [] } ∷ [])) }
+            → HasAsked self.new (asks ++ record {
+              number = self.old.count + 1;
+              replica = replica;
+              query = query;
+              history = slice_index_or (shown_lists publishers.now) replica [];
+            } ∷ [])) }
         ensures err { OnErr result (self.new ≡ self.old) }
     {
         let worker = (self.count % self.workers as u64) as u32;

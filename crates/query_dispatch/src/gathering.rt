@@ -41,11 +41,18 @@ impl<Q: Drop> Gathering<Q> {
     ) -> Result<Vec<Answer<Q, A>>, AllocError>
     where
         Q: Query<A>,
-        requires ready { (shown : List (List Operation)) × (asks : List (Ask Q)) × (desks : List DeskState) × IsReady self.inboxes.items (map (λ v. v.items) self.tolds.items) self.sizes.items shown asks
+        requires ready { (shown : List (List Operation)) × (asks : List (Ask Q))
+            × (desks : List DeskState)
+            × IsReady self.inboxes.items (map (λ v. v.items) self.tolds.items) self.sizes.items
+            shown asks
             × ArePaired IsFront shown lasts.now × All (IsPast lasts.now) asks × (self.count ≡ length asks)
             × AreEnds self.inboxes.items desks × HaveWorked Q.plain desks dones.items }
-        ensures { (asks : List (Ask Q)) → AreNumbered asks → self.count ≡ length asks → (shown : List (List Operation)) → IsReady self.inboxes.items (map (λ v. v.items) self.tolds.items) self.sizes.items shown asks
-            → IfOk result (λ v. AreGathered Q.plain (length self.inboxes.items) lasts.now asks v.items) }
+        ensures { (asks : List (Ask Q)) → AreNumbered asks → self.count ≡ length asks
+            → (shown : List (List Operation))
+            → IsReady self.inboxes.items (map (λ v. v.items) self.tolds.items) self.sizes.items
+            shown asks
+            → IfOk result (λ v. AreGathered Q.plain (length self.inboxes.items) lasts.now asks
+            v.items) }
     {
         let Gathering {
             inboxes,
@@ -95,9 +102,12 @@ fn in_order<Q: Query<A> + Drop, A: Drop>(
 ) -> Result<Vec<Answer<Q, A>>, AllocError>
     requires some { 0 < length lists.items }
     requires enough { (asks : List (Ask Q)) × AreNumbered asks × (count ≡ length asks)
-        × AllAt (λ w r. length r.items ≡ length (asks_to (length lists.items) w asks)) lists.items }
-    ensures { (lasts : List (List Operation)) → (asks : List (Ask Q)) → AreNumbered asks → count ≡ length asks
-        → AllAt (λ w r. AreSettled Q.plain lasts (asks_to (length lists.items) w asks) (reverse r.items)) lists.items
+        × AllAt (λ w r. length r.items ≡ length (asks_to (length lists.items) w asks))
+        lists.items }
+    ensures { (lasts : List (List Operation)) → (asks : List (Ask Q)) → AreNumbered asks
+        → count ≡ length asks
+        → AllAt (λ w r. AreSettled Q.plain lasts (asks_to (length lists.items) w asks)
+        (reverse r.items)) lists.items
         → IfOk result (λ v. AreGathered Q.plain (length lists.items) lasts asks v.items) }
 {
     let workers = lists.len() as u64;

@@ -83,8 +83,10 @@ fn empty_crews(alloc: Global, workers: u32) -> Result<Vec<Vec<SnapReader>>, Allo
 fn deal(crews: &mut Vec<Vec<SnapReader>>, readers: Vec<SnapReader>) -> Result<(), AllocError>
     requires { length readers.items ≡ length crews.old.items }
     ensures count { length crews.new.items ≡ length crews.old.items }
-    ensures pairs { OnOk result ((rows : List (List Book)) → AllAt (λ w c. pairs_of c.items ≡ column w rows) crews.old.items
-        → AllAt (λ w c. pairs_of c.items ≡ column w (rows ++ pairs_of readers.items ∷ [])) crews.new.items) }
+    ensures pairs { OnOk result ((rows : List (List Book))
+        → AllAt (λ w c. pairs_of c.items ≡ column w rows) crews.old.items
+        → AllAt (λ w c. pairs_of c.items ≡ column w (rows ++ pairs_of readers.items ∷ []))
+        crews.new.items) }
 {
     let mut readers = readers.into_iter();
     for worker in 0..crews.len() {

@@ -1,5 +1,5 @@
 // The publishers of all replicas.
-ghost use Rattle.std.specs.Prelude.{◌≡◌, ◌<◌, ◌≤◌, [], ◌∷◌, ◌++◌, length, map, replicate, slice_index_or, slice_set, IfOk, OnOk};
+ghost use Rattle.std.specs.Prelude.{◌≡◌, ◌<◌, ◌≤◌, [], ◌∷◌, ◌++◌, length, map, replicate, slice_index_or, slice_set, IfOk, OnOk, vec_capacity};
 ghost use Rattle.text_buffer.specs.Document.{IsFront};
 ghost use Rattle.snapshot_pub.specs.States.{PublisherState};
 ghost use Rattle.query_workers.specs.Line.{pairs_of};
@@ -61,8 +61,7 @@ impl Publishers {
         ensures pairs { IfOk result (λ v. rows_of self.new
             ≡ rows_of self.old ++ pairs_of v.items ∷ []) }
     {
-        self.list.reserve(1)?;
-        self.sizes.push(first.applied().len())?;
+        make_room(&mut self.list, &mut self.sizes, first.applied().len())?;
         let (publisher, readers) = open_pairs(rt, alloc, first, self.workers)?;
         self.list.push_reserved(publisher);
         Ok(readers)
@@ -137,6 +136,17 @@ impl Publishers {
         } = self;
         close_all(rt, list);
     }
+}
+
+// Room for one publisher more, and its size, which is put last.
+fn make_room(list: &mut Vec<Publisher>, sizes: &mut Vec<u64>, size: u64) -> Result<(), AllocError>
+    ensures list { list.new.items ≡ list.old.items }
+    ensures room { OnOk result (length list.new.items < vec_capacity list.new) }
+    ensures sizes { OnOk result (sizes.new.items ≡ sizes.old.items ++ size ∷ []) }
+{
+    list.reserve(1)?;
+    sizes.push(size)?;
+    Ok(())
 }
 
 fn close_all<R: Wait>(rt: &R, mut list: Vec<Publisher>) {

@@ -1,5 +1,5 @@
 // The answers of one worker, once it and the editor have ended.
-ghost use Rattle.std.specs.Prelude.{◌≡◌, ◌<◌, ◌≤◌, List, length, map, reverse, IfOk, IfSome, All};
+ghost use Rattle.std.specs.Prelude.{◌≡◌, ◌<◌, ◌≤◌, List, [], length, map, reverse, IfOk, IfSome, OnOk, All};
 ghost use Rattle.op_model.specs.declared.operation.Operation.{Operation};
 ghost use Rattle.text_buffer.specs.Document.{IsFront};
 ghost use Rattle.query_workers.specs.Answers.{ArePaired, HasAnswered};
@@ -24,8 +24,19 @@ fn look_last(mut reader: SnapReader, told: Told, size: u64) -> Result<u64, Alloc
     ensures limit { IfOk result (λ n. (h : List Operation) → IsFront h reader.longest
         → length h ≤ n → IsFront h told.list) }
 {
+    look_again(&mut reader, told, size)
+}
+
+// The same, of a reader that is lent.
+fn look_again(reader: &mut SnapReader, told: Told, size: u64) -> Result<u64, AllocError>
+    requires pair { told.pair ≡ reader.old.pair }
+    requires size { size ≡ length told.list }
+    ensures bound { IfOk result (λ n. n ≤ length told.list) }
+    ensures limit { IfOk result (λ n. (h : List Operation) → IsFront h reader.old.longest
+        → length h ≤ n → IsFront h told.list) }
+{
     reader.learn(told);
-    let _snapshot = reader.latest()?;
+    drop(reader.latest()?);
     if reader.entered() { Ok(size) } else { Ok(0) }
 }
 
@@ -71,15 +82,25 @@ fn settle<R: Threads + Sync, Q: Query<A> + Drop, A: Drop>(
     if answer.snapshot.applied().len() <= limits[place] {
         return Ok(answer);
     }
-    let Answer {
-        number,
-        replica,
-        query,
-        snapshot: _,
-        answer: _,
-    } = answer;
-    let snapshot = lasts[place].share()?;
-    let answer = query.answer(rt, alloc, &snapshot)?;
+    answer_anew(rt, alloc, answer, &lasts[place])
+}
+
+// The answer to the same query on another snapshot.
+fn answer_anew<R: Threads + Sync, Q: Query<A> + Drop, A: Drop>(
+    rt: &R,
+    alloc: Global,
+    former: Answer<Q, A>,
+    snapshot: &Snapshot,
+) -> Result<Answer<Q, A>, AllocError>
+    ensures number { IfOk result (λ a. a.number ≡ former.number) }
+    ensures replica { IfOk result (λ a. a.replica ≡ former.replica) }
+    ensures query { IfOk result (λ a. a.query ≡ former.query) }
+    ensures snapshot { IfOk result (λ a. a.snapshot ≡ snapshot.now) }
+    ensures answer { IfOk result (λ a. a.answer ≡ Q.plain former.query snapshot.now) }
+{
+    let (number, replica, query) = question_of(former);
+    let answer = query.answer(rt, alloc, snapshot)?;
+    let snapshot = snapshot.share()?;
     Ok(Answer {
         number,
         replica,
@@ -87,6 +108,22 @@ fn settle<R: Threads + Sync, Q: Query<A> + Drop, A: Drop>(
         snapshot,
         answer,
     })
+}
+
+// What was asked: the number, the replica and the query. The answer is dropped.
+fn question_of<Q: Drop, A: Drop>(answer: Answer<Q, A>) -> (u64, u32, Q)
+    ensures number { result.0 ≡ answer.number }
+    ensures replica { result.1 ≡ answer.replica }
+    ensures query { result.2 ≡ answer.query }
+{
+    let Answer {
+        number,
+        replica,
+        query,
+        snapshot: _,
+        answer: _,
+    } = answer;
+    (number, replica, query)
 }
 
 // The answers, each settled; the last of them first.
@@ -104,10 +141,31 @@ fn settle_all<R: Threads + Sync, Q: Query<A> + Drop, A: Drop>(
         (reverse v.items) answers.items) }
 {
     let mut settled = Vec::new(alloc);
+    settle_each(rt, alloc, &mut answers, &mut settled, limits, lasts)?;
+    Ok(settled)
+}
+
+// The same, into a list that is empty at first.
+fn settle_each<R: Threads + Sync, Q: Query<A> + Drop, A: Drop>(
+    rt: &R,
+    alloc: Global,
+    answers: &mut Vec<Answer<Q, A>>,
+    settled: &mut Vec<Answer<Q, A>>,
+    limits: &[u64],
+    lasts: &[Snapshot],
+) -> Result<(), AllocError>
+    requires replicas { All (λ (a : Answer Q A). (a.replica < length limits.now)
+        × (a.replica < length lasts.now)) answers.old.items }
+    requires plain { All (λ (a : Answer Q A). a.answer ≡ Q.plain a.query a.snapshot)
+        answers.old.items }
+    requires none { settled.old.items ≡ [] }
+    ensures { OnOk result (ArePaired (ComesTo Q.plain limits.now lasts.now)
+        (reverse settled.new.items) answers.old.items) }
+{
     while let Some(answer) = answers.pop() {
         settled.push(settle(rt, alloc, answer, limits, lasts)?)?;
     }
-    Ok(settled)
+    Ok(())
 }
 
 /// The answers of a worker, settled, the last of them first: those that its readers gave on more than was last published are made

@@ -3,7 +3,7 @@ use Rattle.std.specs.Prelude.{vec_len}
 use Rattle.query_workers.specs.Answers.{ArePaired}
 use Rattle.query_workers.specs.declared.query.Answer.{Answer}
 use Rattle.query_dispatch.specs.Settled.{ComesTo}
-use Rattle.query_dispatch.proofs.settling.settle_all.Given as goal
+use Rattle.query_dispatch.proofs.settling.settle_each.Given as goal
 
 abbrev pub invariant-loop-answer : goal.invariant-loop-answer
 invariant-loop-answer g l =
