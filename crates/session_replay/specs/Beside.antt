@@ -51,6 +51,11 @@ pub record IsAsking (bs : List BufferState) (asks : List (Ask Question)) (d : Di
   pub tied : AreTied d.inboxes p
   pub fronts : ArePaired IsFront (shown_lists p) (histories bs)
 
+-- an editor over bs asks more, and is over cs then: whatever it had asked, it has asked these queries too, the first of which has
+-- the next number
+abbrev pub AsksMore : List BufferState → DispatcherState Question → PublishersState → (ℕ → List Query) → List BufferState → DispatcherState Question → PublishersState → Type 0
+AsksMore bs d p queries cs e q = (asks : List (Ask Question)) → IsAsking bs asks d p → IsAsking cs (asks ++ asks_among bs (queries (length asks + 1))) e q
+
 -- the queues, the pairs and the room are as before
 pub record KeepsEnds (d : DispatcherState Question) (p : PublishersState) (e : DispatcherState Question) (q : PublishersState) : Type 0 where
   pub workers : q.workers ≡ p.workers

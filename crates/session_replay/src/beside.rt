@@ -11,7 +11,7 @@ ghost use Rattle.query_dispatch.specs.Dealt.{AreEnds, HasAsked, told_lists, told
 ghost use Rattle.query_dispatch.specs.Settled.{AreGathered, HaveWorked, IsPast};
 ghost use Rattle.query_dispatch.specs.Shown.{AreLevel, columns, rows_of, shown_lists};
 ghost use Rattle.query_dispatch.specs.States.{DispatcherState};
-ghost use Rattle.session_replay.specs.Beside.{CanEdit, HasEdited, HasLeft, IsAsking, KeepsEnds, asks_among, histories, line_of};
+ghost use Rattle.session_replay.specs.Beside.{AsksMore, CanEdit, HasEdited, HasLeft, IsAsking, KeepsEnds, histories, line_of};
 ghost use Rattle.session_replay.specs.Queries.{IsReport, plain_answer, queries_from, query_at, query_with};
 ghost use Rattle.session_replay.specs.Work.{after_all, all_events, at_end, events, step};
 ghost use Rattle.session_replay.specs.Working.{state_of};
@@ -59,8 +59,9 @@ impl Editor {
             × (self.new.progress ≡ self.old.progress) }
         ensures ends { KeepsEnds self.old.dispatcher publishers.old self.new.dispatcher
             publishers.new }
-        ensures asking { OnOk result ((asks : List (Ask Question)) → IsAsking self.old.progress.replicas asks self.old.dispatcher publishers.old
-            → IsAsking self.old.progress.replicas (asks ++ asks_among self.old.progress.replicas (query_at (length asks + 1) line.now (state_of self.old.progress))) self.new.dispatcher publishers.new) }
+        ensures asking { OnOk result (AsksMore self.old.progress.replicas self.old.dispatcher
+            publishers.old (λ n. query_at n line.now (state_of self.old.progress))
+            self.old.progress.replicas self.new.dispatcher publishers.new) }
         ensures err { OnErr result (self.new.dispatcher ≡ self.old.dispatcher) }
     {
         let Some((id, question)) = question_of(alloc, line)? else {
@@ -84,8 +85,9 @@ impl Editor {
             × (self.new.progress ≡ self.old.progress) }
         ensures ends { KeepsEnds self.old.dispatcher publishers.old self.new.dispatcher
             publishers.new }
-        ensures asking { OnOk result ((asks : List (Ask Question)) → IsAsking self.old.progress.replicas asks self.old.dispatcher publishers.old
-            → IsAsking self.old.progress.replicas (asks ++ asks_among self.old.progress.replicas (query_with (length asks + 1) (state_of self.old.progress) (Some (id, question)))) self.new.dispatcher publishers.new) }
+        ensures asking { OnOk result (AsksMore self.old.progress.replicas self.old.dispatcher
+            publishers.old (λ n. query_with n (state_of self.old.progress) (Some (id, question)))
+            self.old.progress.replicas self.new.dispatcher publishers.new) }
         ensures err { OnErr result (self.new.dispatcher ≡ self.old.dispatcher) }
     {
         let Some(place) = self.progress.place_of(id) else {
@@ -118,8 +120,9 @@ impl Editor {
             ≡ step line.now (state_of self.old.progress)) }
         ensures ends { KeepsEnds self.old.dispatcher publishers.old self.new.dispatcher
             publishers.new }
-        ensures asking { OnOk result ((asks : List (Ask Question)) → IsAsking self.old.progress.replicas asks self.old.dispatcher publishers.old
-            → IsAsking self.new.progress.replicas (asks ++ asks_among self.old.progress.replicas (query_at (length asks + 1) line.now (state_of self.old.progress))) self.new.dispatcher publishers.new) }
+        ensures asking { OnOk result (AsksMore self.old.progress.replicas self.old.dispatcher
+            publishers.old (λ n. query_at n line.now (state_of self.old.progress))
+            self.new.progress.replicas self.new.dispatcher publishers.new) }
         ensures err { OnErr result ((asks : List (Ask Question))
             × HasAsked self.new.dispatcher asks) }
     {
@@ -149,8 +152,9 @@ impl Editor {
             ≡ after_all lines.now (state_of self.old.progress)) }
         ensures ends { KeepsEnds self.old.dispatcher publishers.old self.new.dispatcher
             publishers.new }
-        ensures asking { OnOk result ((asks : List (Ask Question)) → IsAsking self.old.progress.replicas asks self.old.dispatcher publishers.old
-            → IsAsking self.new.progress.replicas (asks ++ asks_among self.old.progress.replicas (queries_from (length asks + 1) lines.now (state_of self.old.progress))) self.new.dispatcher publishers.new) }
+        ensures asking { OnOk result (AsksMore self.old.progress.replicas self.old.dispatcher
+            publishers.old (λ n. queries_from n lines.now (state_of self.old.progress))
+            self.new.progress.replicas self.new.dispatcher publishers.new) }
         ensures err { OnErr result ((asks : List (Ask Question))
             × HasAsked self.new.dispatcher asks) }
     {
@@ -174,7 +178,8 @@ impl Editor {
             × IsAsking self.progress.replicas asks self.dispatcher publishers.now }
         requires workers { self.workers ≡ publishers.now.workers }
         ensures progress { IfOk result (λ e. e.progress ≡ self.progress) }
-        ensures left { IfOk result (λ e. (asks : List (Ask Question)) → IsAsking self.progress.replicas asks self.dispatcher publishers.now
+        ensures left { IfOk result (λ e. (asks : List (Ask Question))
+            → IsAsking self.progress.replicas asks self.dispatcher publishers.now
             → HasLeft self.progress.replicas asks self.dispatcher e) }
     {
         let Editor {
@@ -280,11 +285,17 @@ fn gather<R: Threads + Sync>(
     edited: Edited,
     dones: Vec<Done<Question, QueryAnswer>>,
 ) -> Result<Vec<u8>, AllocError>
-    requires { (asks : List (Ask Question)) × (d : DispatcherState Question) × (desks : List DeskState) × HasLeft edited.progress.replicas asks d edited
-        × All (IsPast (histories edited.progress.replicas)) asks × AreEnds d.inboxes desks × HaveWorked plain_answer desks dones.items }
-    ensures { (asks : List (Ask Question)) → (d : DispatcherState Question) → HasLeft edited.progress.replicas asks d edited
-        → IfOk result (λ v. (answers : List (Answer Question QueryAnswer)) × AreGathered plain_answer (length d.inboxes) (histories edited.progress.replicas) asks answers
-        × (v.items ≡ (edited.progress.report.items ++ report_text (map line_of answers)) ++ report_text (flat_map at_end edited.progress.replicas))) }
+    requires { (asks : List (Ask Question)) × (d : DispatcherState Question)
+        × (desks : List DeskState) × HasLeft edited.progress.replicas asks d edited
+        × All (IsPast (histories edited.progress.replicas)) asks × AreEnds d.inboxes desks
+        × HaveWorked plain_answer desks dones.items }
+    ensures { (asks : List (Ask Question)) → (d : DispatcherState Question)
+        → HasLeft edited.progress.replicas asks d edited
+        → IfOk result (λ v. (answers : List (Answer Question QueryAnswer))
+        × AreGathered plain_answer (length d.inboxes) (histories edited.progress.replicas)
+        asks answers
+        × (v.items ≡ (edited.progress.report.items ++ report_text (map line_of answers))
+        ++ report_text (flat_map at_end edited.progress.replicas))) }
 {
     let Edited {
         progress,

@@ -111,7 +111,8 @@ fn applied_count(snapshot: &Snapshot) -> u64
 // What a search has found, as an answer.
 fn answer_of(found: Result<Vec<u64>, FindFault>) -> Result<FindAnswer, AllocError>
     ensures { (needle t : List ℕ) → IfOk found (λ v. v.items ≡ starts t needle)
-        → ((found ≡ Err FindFault.EmptyNeedle) ↔ (length needle ≡ 0)) → IfOk result (λ a. a ≡ find_answer needle t) }
+        → ((found ≡ Err FindFault.EmptyNeedle) ↔ (length needle ≡ 0))
+        → IfOk result (λ a. a ≡ find_answer needle t) }
 {
     match found {
         Ok(starts) => Ok(FindAnswer::Starts(Numbers::new(starts))),

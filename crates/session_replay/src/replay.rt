@@ -171,8 +171,7 @@ impl Progress {
         let Some(replica) = self.replicas.find(id) else {
             return Ok(());
         };
-        let shown = replica.shown()?;
-        write_line(alloc, &mut self.report, &shown)?;
+        replica.write_shown(alloc, &mut self.report)?;
         Ok(())
     }
 

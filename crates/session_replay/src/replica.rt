@@ -5,7 +5,7 @@ ghost use Rattle.std.specs.Result.{result_ok};
 ghost use Rattle.op_model.specs.Operations.{stamp_of};
 ghost use Rattle.op_model.specs.Shown.{text};
 ghost use Rattle.session_lines.specs.Cut.{feeds};
-ghost use Rattle.session_lines.specs.Report.{line_text, report_text};
+ghost use Rattle.session_lines.specs.Report.{line_text, report_text, with_text};
 ghost use Rattle.session_lines.specs.declared.report.Report.{Report};
 ghost use Rattle.text_buffer.specs.Buffer.{settled};
 ghost use Rattle.text_buffer.specs.Outcomes.{pair_of};
@@ -13,7 +13,7 @@ ghost use Rattle.session_replay.specs.Work.{after_give, after_outcome, at_end, c
 
 use lamport_clock::Lamport;
 use op_model::{EditFault, Limits, OpFault, Operation, Pieces, Text, UndoFault};
-use session_lines::{Given, Report, write_line};
+use session_lines::{Given, Report, TextHead, write_line, write_text};
 use std::alloc::{AllocError, Global};
 use std::marker::Model;
 use text_buffer::{Base, Buffer, Refused, Snapshot, Took};
@@ -195,19 +195,31 @@ impl Replica {
         Ok(Text::new(self.buffer.text()?))
     }
 
-    /// Its text, with what is counted of it, as a line of a report.
-    pub fn shown(&self) -> Result<Report, AllocError>
-        ensures { IfOk result (λ line. line ≡ text_report self.now) }
+    // Writes the line with that head and its text, which goes there chunk by chunk.
+    fn write_text(&self, alloc: Global, head: TextHead, out: &mut Vec<u8>) -> Result<(), AllocError>
+        ensures { OnOk result (out.new.items
+            ≡ out.old.items ++ line_text (with_text head (text self.now.history))) }
+    {
+        let snapshot = self.snapshot()?;
+        write_text(alloc, out, head, snapshot.text().chunks())?;
+        Ok(())
+    }
+
+    /// Writes its text, with what is counted of it, as a line of a report.
+    pub fn write_shown(&self, alloc: Global, out: &mut Vec<u8>) -> Result<(), AllocError>
+        ensures { OnOk result (out.new.items
+            ≡ out.old.items ++ report_text (text_report self.now ∷ [])) }
     {
         let counted = self.buffer.summary();
-        Ok(Report::Text {
+        let head = TextHead::Text {
             replica: self.id,
             bytes: counted.len,
             row: counted.lines.row,
             column: counted.lines.column,
             rows: self.row_count(),
-            text: self.text()?,
-        })
+        };
+        self.write_text(alloc, head, out)?;
+        Ok(())
     }
 
     /// How many bytes its text has.
@@ -244,11 +256,10 @@ impl Replica {
     pub fn write_end(&self, alloc: Global, out: &mut Vec<u8>) -> Result<(), AllocError>
         ensures { OnOk result (out.new.items ≡ out.old.items ++ report_text (at_end self.now)) }
     {
-        let text = self.text()?;
         write_line(alloc, out, &self.counts())?;
         let replica = self.id;
         write_refused(alloc, replica, self.buffer.refused(), out)?;
-        write_line(alloc, out, &Report::Final { replica, text })?;
+        self.write_text(alloc, TextHead::Final { replica }, out)?;
         Ok(())
     }
 }

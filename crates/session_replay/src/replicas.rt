@@ -88,7 +88,9 @@ impl Replicas {
         out: &mut Vec<u8>,
     ) -> Result<Option<Operation>, AllocError>
         ensures report { OnOk result (out.new.items ≡ out.old.items
-            ++ report_text (reports_at (λ b. outcome_reports number (edit_outcome number pieces.now b) b) (buffer_of id self.old))) }
+            ++ report_text (reports_at
+            (λ b. outcome_reports number (edit_outcome number pieces.now b) b)
+            (buffer_of id self.old))) }
         ensures after { OnOk result (self.new
             ≡ with_buffer id (λ b. after_outcome (edit_outcome number pieces.now b) b) self.old) }
         ensures made { IfOk result (λ o. o ≡ option_and_then
@@ -112,7 +114,9 @@ impl Replicas {
         out: &mut Vec<u8>,
     ) -> Result<Option<Operation>, AllocError>
         ensures report { OnOk result (out.new.items ≡ out.old.items
-            ++ report_text (reports_at (λ b. outcome_reports number (undo_outcome number operations.now numbers.now b) b) (buffer_of id self.old))) }
+            ++ report_text (reports_at
+            (λ b. outcome_reports number (undo_outcome number operations.now numbers.now b) b)
+            (buffer_of id self.old))) }
         ensures after { OnOk result (self.new
             ≡ with_buffer id (λ b. after_outcome
             (undo_outcome number operations.now numbers.now b) b) self.old) }

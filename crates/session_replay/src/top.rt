@@ -181,32 +181,45 @@ fn work<R: Threads + Wait + Sync, I: Source, O: Sink, G: Gate>(
 ) -> Status
     ensures usage { result ≡ Status.Usage → ⊥ }
     ensures done { result ≡ Status.Done → (input : List ℕ)
-        × WasRead (I.left src.old) (I.left src.new) (I.given src.old) (I.given src.new) (I.ends src.old) (I.ends src.new) input
-        × ((output : List ℕ) × Appends (O.written out.old) (O.written out.new) output × Does task input output) }
+        × WasRead (I.left src.old) (I.left src.new) (I.given src.old) (I.given src.new)
+        (I.ends src.old) (I.ends src.new) input
+        × ((output : List ℕ) × Appends (O.written out.old) (O.written out.new) output
+        × Does task input output) }
     ensures session { result ≡ Status.Session → (input : List ℕ)
-        × WasRead (I.left src.old) (I.left src.new) (I.given src.old) (I.given src.new) (I.ends src.old) (I.ends src.new) input
-        × ((n : ℕ) × (w : Word) × (decoded input ≡ Err (DecodeFault.Bad n w)) × Appends (O.written out.old) (O.written out.new) (bad_line n w)) }
+        × WasRead (I.left src.old) (I.left src.new) (I.given src.old) (I.given src.new)
+        (I.ends src.old) (I.ends src.new) input
+        × ((n : ℕ) × (w : Word) × (decoded input ≡ Err (DecodeFault.Bad n w))
+        × Appends (O.written out.old) (O.written out.new) (bad_line n w)) }
     ensures ended { (result ≡ Status.Done) ⊎ (result ≡ Status.Session)
         → Rose (I.ends src.old) (I.ends src.new) }
     ensures large { result ≡ Status.TooLarge →
-        (IfSome (I.left src.old) (λ input. 67108864 < length input) × RoseBy 67108865 (I.given src.old) (I.given src.new)
+        (IfSome (I.left src.old) (λ input. 67108864 < length input)
+        × RoseBy 67108865 (I.given src.old) (I.given src.new)
         × Appends (O.written out.old) (O.written out.new) large_line)
         ⊎ ((input : List ℕ)
-        × WasRead (I.left src.old) (I.left src.new) (I.given src.old) (I.given src.new) (I.ends src.old) (I.ends src.new) input
-        × (1048576 < length (lines_of input)) × Appends (O.written out.old) (O.written out.new) many_line) }
+        × WasRead (I.left src.old) (I.left src.new) (I.given src.old) (I.given src.new)
+        (I.ends src.old) (I.ends src.new) input
+        × (1048576 < length (lines_of input))
+        × Appends (O.written out.old) (O.written out.new) many_line) }
     ensures bounded { I.given src.new ≤ I.given src.old + 67108865 }
     ensures read_fault { result ≡ Status.ReadFault
         → Rose (I.faults src.old) (I.faults src.new) × (out.new ≡ out.old) }
     ensures write_fault { result ≡ Status.WriteFault → Rose (O.faults out.old) (O.faults out.new) }
     ensures report_front { result ≡ Status.WriteFault → (input : List ℕ)
-        × WasTaken (I.left src.old) (I.left src.new) (I.given src.old) (I.given src.new) (I.ends src.old) (I.ends src.new) input
-        × ((output : List ℕ) × IsOutput task input output × AppendsFront (O.written out.old) (O.written out.new) output) }
+        × WasTaken (I.left src.old) (I.left src.new) (I.given src.old) (I.given src.new)
+        (I.ends src.old) (I.ends src.new) input
+        × ((output : List ℕ) × IsOutput task input output
+        × AppendsFront (O.written out.old) (O.written out.new) output) }
     ensures memory { result ≡ Status.Memory → out.new ≡ out.old }
-    ensures completes { (Rose (I.faults src.old) (I.faults src.new) → ⊥) → (Rose (O.faults out.old) (O.faults out.new) → ⊥)
-        → IfSome (I.left src.old) (λ input. length input ≤ 67108864 → (s : Session) → decoded input ≡ Ok s
+    ensures completes { (Rose (I.faults src.old) (I.faults src.new) → ⊥)
+        → (Rose (O.faults out.old) (O.faults out.new) → ⊥)
+        → IfSome (I.left src.old) (λ input. length input ≤ 67108864
+        → (s : Session) → decoded input ≡ Ok s
         → (result ≡ Status.Done) ⊎ (result ≡ Status.Memory)) }
-    ensures refuses { (Rose (I.faults src.old) (I.faults src.new) → ⊥) → (Rose (O.faults out.old) (O.faults out.new) → ⊥)
-        → IfSome (I.left src.old) (λ input. (67108864 < length input) ⊎ ((e : DecodeFault) × (decoded input ≡ Err e))
+    ensures refuses { (Rose (I.faults src.old) (I.faults src.new) → ⊥)
+        → (Rose (O.faults out.old) (O.faults out.new) → ⊥)
+        → IfSome (I.left src.old) (λ input. (67108864 < length input)
+        ⊎ ((e : DecodeFault) × (decoded input ≡ Err e))
         → (result ≡ Status.Session) ⊎ ((result ≡ Status.TooLarge) ⊎ (result ≡ Status.Memory))) }
 {
     match answer_source(rt, alloc, gate, task, src) {
@@ -223,10 +236,12 @@ fn make_session<O: Sink>(alloc: Global, seed: u32, replicas: u16, edits: u32, ou
     requires few { replicas ≤ 16 }
     requires edits { edits ≤ 20000 }
     ensures done { result ≡ Status.Done → (output : List ℕ)
-        × Appends (O.written out.old) (O.written out.new) output × Makes seed replicas edits output }
+        × Appends (O.written out.old) (O.written out.new) output
+        × Makes seed replicas edits output }
     ensures memory { result ≡ Status.Memory → out.new ≡ out.old }
     ensures front { result ≡ Status.WriteFault → (output : List ℕ)
-        × Makes seed replicas edits output × AppendsFront (O.written out.old) (O.written out.new) output }
+        × Makes seed replicas edits output
+        × AppendsFront (O.written out.old) (O.written out.new) output }
     ensures write_fault { result ≡ Status.WriteFault → Rose (O.faults out.old) (O.faults out.new) }
     ensures whole { (result ≡ Status.Done)
         ⊎ ((result ≡ Status.Memory) ⊎ (result ≡ Status.WriteFault)) }
@@ -264,54 +279,74 @@ pub fn run<R: Threads + Wait + Sync, I: Source, O: Sink, G: Gate>(
         → (result ≡ Status.Usage) ⊎ ((result ≡ Status.WriteFault) ⊎ (result ≡ Status.Memory)) }
 
     // Done: what the command makes was written whole; where it reads a session, the input was read to its end.
-    ensures done { result ≡ Status.Done → (command : Command) × (command_of words.now ≡ Some command)
+    ensures done { result ≡ Status.Done → (command : Command)
+        × (command_of words.now ≡ Some command)
         × ((output : List ℕ) × Appends (O.written out.old) (O.written out.new) output
-        × Ends command (I.left src.old) (I.left src.new) (I.given src.old) (I.given src.new) (I.ends src.old) (I.ends src.new) output) }
+        × Ends command (I.left src.old) (I.left src.new) (I.given src.old) (I.given src.new)
+        (I.ends src.old) (I.ends src.new) output) }
 
     // A session that is made is not read, and never refused.
-    ensures made { (seed n edits : ℕ) → command_of words.now ≡ Some (Command.Make seed n edits) → (src.new ≡ src.old)
+    ensures made { (seed n edits : ℕ)
+        → command_of words.now ≡ Some (Command.Make seed n edits)
+        → (src.new ≡ src.old)
         × ((result ≡ Status.Done) ⊎ ((result ≡ Status.Memory) ⊎ (result ≡ Status.WriteFault))) }
 
     // Session: the input was read to its end, and has a first bad line.
     ensures session { result ≡ Status.Session → (input : List ℕ)
-        × WasRead (I.left src.old) (I.left src.new) (I.given src.old) (I.given src.new) (I.ends src.old) (I.ends src.new) input
-        × ((n : ℕ) × (w : Word) × (decoded input ≡ Err (DecodeFault.Bad n w)) × Appends (O.written out.old) (O.written out.new) (bad_line n w)) }
-    ensures ended { (result ≡ Status.Done) ⊎ (result ≡ Status.Session) → (task : Task) → command_of words.now ≡ Some (Command.Read task)
+        × WasRead (I.left src.old) (I.left src.new) (I.given src.old) (I.given src.new)
+        (I.ends src.old) (I.ends src.new) input
+        × ((n : ℕ) × (w : Word) × (decoded input ≡ Err (DecodeFault.Bad n w))
+        × Appends (O.written out.old) (O.written out.new) (bad_line n w)) }
+    ensures ended { (result ≡ Status.Done) ⊎ (result ≡ Status.Session)
+        → (task : Task) → command_of words.now ≡ Some (Command.Read task)
         → Rose (I.ends src.old) (I.ends src.new) }
 
     // TooLarge: more bytes than the limit were read, or the input was read to its end and has more lines than the limit.
     ensures large { result ≡ Status.TooLarge →
-        (IfSome (I.left src.old) (λ input. 67108864 < length input) × RoseBy 67108865 (I.given src.old) (I.given src.new)
+        (IfSome (I.left src.old) (λ input. 67108864 < length input)
+        × RoseBy 67108865 (I.given src.old) (I.given src.new)
         × Appends (O.written out.old) (O.written out.new) large_line)
         ⊎ ((input : List ℕ)
-        × WasRead (I.left src.old) (I.left src.new) (I.given src.old) (I.given src.new) (I.ends src.old) (I.ends src.new) input
-        × (1048576 < length (lines_of input)) × Appends (O.written out.old) (O.written out.new) many_line) }
+        × WasRead (I.left src.old) (I.left src.new) (I.given src.old) (I.given src.new)
+        (I.ends src.old) (I.ends src.new) input
+        × (1048576 < length (lines_of input))
+        × Appends (O.written out.old) (O.written out.new) many_line) }
     ensures bounded { I.given src.new ≤ I.given src.old + 67108865 }
 
     // Faults come only where a count rose.
     ensures read_fault { result ≡ Status.ReadFault
         → Rose (I.faults src.old) (I.faults src.new) × (out.new ≡ out.old) }
     ensures write_fault { result ≡ Status.WriteFault → Rose (O.faults out.old) (O.faults out.new) }
-    ensures usage_front { result ≡ Status.WriteFault → command_of words.now ≡ None → (src.new ≡ src.old)
+    ensures usage_front { result ≡ Status.WriteFault → command_of words.now ≡ None
+        → (src.new ≡ src.old)
         × AppendsFront (O.written out.old) (O.written out.new) usage_line }
-    ensures report_front { result ≡ Status.WriteFault → (task : Task) → command_of words.now ≡ Some (Command.Read task)
+    ensures report_front { result ≡ Status.WriteFault → (task : Task)
+        → command_of words.now ≡ Some (Command.Read task)
         → (input : List ℕ)
-        × WasTaken (I.left src.old) (I.left src.new) (I.given src.old) (I.given src.new) (I.ends src.old) (I.ends src.new) input
-        × ((output : List ℕ) × IsOutput task input output × AppendsFront (O.written out.old) (O.written out.new) output) }
-    ensures summary_front { result ≡ Status.WriteFault → (seed n edits : ℕ) → command_of words.now ≡ Some (Command.Make seed n edits)
-        → (output : List ℕ) × Makes seed n edits output × AppendsFront (O.written out.old) (O.written out.new) output }
+        × WasTaken (I.left src.old) (I.left src.new) (I.given src.old) (I.given src.new)
+        (I.ends src.old) (I.ends src.new) input
+        × ((output : List ℕ) × IsOutput task input output
+        × AppendsFront (O.written out.old) (O.written out.new) output) }
+    ensures summary_front { result ≡ Status.WriteFault → (seed n edits : ℕ)
+        → command_of words.now ≡ Some (Command.Make seed n edits)
+        → (output : List ℕ) × Makes seed n edits output
+        × AppendsFront (O.written out.old) (O.written out.new) output }
 
     // Memory is free, and nothing was written.
     ensures memory { result ≡ Status.Memory → out.new ≡ out.old }
 
     // Where no fault was counted, a session within the limit is worked or checked, and without one the input is refused.
-    ensures completes { (Rose (I.faults src.old) (I.faults src.new) → ⊥) → (Rose (O.faults out.old) (O.faults out.new) → ⊥)
+    ensures completes { (Rose (I.faults src.old) (I.faults src.new) → ⊥)
+        → (Rose (O.faults out.old) (O.faults out.new) → ⊥)
         → (task : Task) → command_of words.now ≡ Some (Command.Read task)
-        → IfSome (I.left src.old) (λ input. length input ≤ 67108864 → (s : Session) → decoded input ≡ Ok s
+        → IfSome (I.left src.old) (λ input. length input ≤ 67108864
+        → (s : Session) → decoded input ≡ Ok s
         → (result ≡ Status.Done) ⊎ (result ≡ Status.Memory)) }
-    ensures refuses { (Rose (I.faults src.old) (I.faults src.new) → ⊥) → (Rose (O.faults out.old) (O.faults out.new) → ⊥)
+    ensures refuses { (Rose (I.faults src.old) (I.faults src.new) → ⊥)
+        → (Rose (O.faults out.old) (O.faults out.new) → ⊥)
         → (task : Task) → command_of words.now ≡ Some (Command.Read task)
-        → IfSome (I.left src.old) (λ input. (67108864 < length input) ⊎ ((e : DecodeFault) × (decoded input ≡ Err e))
+        → IfSome (I.left src.old) (λ input. (67108864 < length input)
+        ⊎ ((e : DecodeFault) × (decoded input ≡ Err e))
         → (result ≡ Status.Session) ⊎ ((result ≡ Status.TooLarge) ⊎ (result ≡ Status.Memory))) }
 {
     let command = match command_of(alloc, words) {

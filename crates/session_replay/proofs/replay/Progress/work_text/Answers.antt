@@ -2,7 +2,7 @@ use Rattle.std.proofs.Common.{[], ◌∷◌, sym, ap, ◌∙◌}
 use Rattle.std.specs.Option.{option_copied}
 use Rattle.text_buffer.specs.Buffer.{BufferState}
 use Rattle.session_replay.specs.Work.{text_report}
-use Rattle.session_replay.proofs.Steps.{line_reported, none_reported, one_reported}
+use Rattle.session_replay.proofs.Steps.{none_reported, one_reported}
 use Rattle.session_replay.proofs.replay.Progress.work_text.Goals as goal
 
 pub returns-in_default-clause-report : goal.returns-in_default-clause-report
@@ -11,4 +11,4 @@ returns-in_default-clause-report c = none_reported _ _ _ (sym c.in_default.ensur
 pub returns-clause-report : goal.returns-clause-report
 returns-clause-report c =
     one_reported (λ (b : BufferState). text_report b ∷ []) _ c.in-Some.replica.now _ _ (sym (ap option_copied (sym c.in-Some.is) ∙ c.find.ensures))
-    (line_reported _ _ _ _ c.in_ok-shown.ensures c.in_ok-write_line.ensures.ok)
+    c.in_ok-write_shown.ensures
