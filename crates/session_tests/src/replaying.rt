@@ -194,6 +194,19 @@ final 1023: "é"
 "#,
         "text 1: 13 bytes, end 1:10, 2 rows, \"\u{e9}\\n\\\"\\\\\\u0001\u{7f}/\\b\\f\\r\\t\\u001f\"\nreplica 1: 13 bytes, 2 rows, 0 applied, 0 waiting, 0 refused\nfinal 1: \"\u{e9}\\n\\\"\\\\\\u0001\u{7f}/\\b\\f\\r\\t\\u001f\"\n",
     ),
+    // a text of three chunks: what is escaped stands on both sides of each border, the second of which is before a character of
+    // two bytes; then more of it at the first border
+    (
+        r#"["zedbuf",1,"😀😀😀😀😀😀😀😀😀😀😀😀😀😀😀😀😀😀😀😀😀😀😀😀😀😀😀😀😀😀😀\"\\\n\t\u0001\"\\\n😀😀😀😀😀😀😀😀😀😀😀😀😀😀😀😀😀😀😀😀😀😀😀😀😀😀😀😀😀😀\\\"\né\t\"\u001f",[1]]
+["text",1]
+["edit",1,[[128,128,"\"\\\u0002"]]]
+"#,
+        r#"text 1: 260 bytes, end 3:5, 4 rows, "😀😀😀😀😀😀😀😀😀😀😀😀😀😀😀😀😀😀😀😀😀😀😀😀😀😀😀😀😀😀😀\"\\\n\t\u0001\"\\\n😀😀😀😀😀😀😀😀😀😀😀😀😀😀😀😀😀😀😀😀😀😀😀😀😀😀😀😀😀😀\\\"\né\t\"\u001f"
+1: 2.1
+replica 1: 263 bytes, 4 rows, 1 applied, 0 waiting, 0 refused
+final 1: "😀😀😀😀😀😀😀😀😀😀😀😀😀😀😀😀😀😀😀😀😀😀😀😀😀😀😀😀😀😀😀\"\\\n\t\"\\\u0002\u0001\"\\\n😀😀😀😀😀😀😀😀😀😀😀😀😀😀😀😀😀😀😀😀😀😀😀😀😀😀😀😀😀😀\\\"\né\t\"\u001f"
+"#,
+    ),
 ];
 
 // Inputs that are no sessions, and the line that says why.

@@ -3,7 +3,7 @@ use lamport_clock::Lamport;
 use op_model::{EditFault, OpFault, PlaceFault, SinceFault, Text, TextEdit, UndoFault, Unit};
 use session_lines::{
     AnchorAnswer, FindAnswer, Given, Numbers, OffsetAnswer, PointAnswer, QueryAnswer, Report,
-    SinceAnswer, TextEdits, WhereAnswer, decode, write_line,
+    SinceAnswer, TextEdits, TextHead, WhereAnswer, decode, write_line, write_text,
 };
 use std::alloc::{AllocError, Global};
 use std::test::Fail;
@@ -380,6 +380,8 @@ fn lines_of_anchors_and_marks(rt: HostRuntime) -> Result<(), Fail> {
     Ok(())
 }
 
+const QUOTED: &str = "\"\u{e9}\\n\\\"\\\\\\u0001\u{7f}/\\b\\f\\r\\t\\u001f\"";
+
 fn writes_text(alloc: Global) -> Result<bool, AllocError> {
     let line = Report::Text {
         replica: 1,
@@ -389,8 +391,24 @@ fn writes_text(alloc: Global) -> Result<bool, AllocError> {
         rows: 2,
         text: text(alloc, "\u{e9}\n\"\\\u{1}\u{7f}/\u{8}\u{c}\r\t\u{1f}")?,
     };
-    let quoted = "\"\u{e9}\\n\\\"\\\\\\u0001\u{7f}/\\b\\f\\r\\t\\u001f\"";
-    writes(alloc, line, "text 1: 13 bytes, end 1:10, 2 rows, ", quoted)
+    writes(alloc, line, "text 1: 13 bytes, end 1:10, 2 rows, ", QUOTED)
+}
+
+// The same text, in parts.
+const PARTS: &[&str] = &[
+    "\u{e9}\n",
+    "\"\\\u{1}",
+    "",
+    "\u{7f}/",
+    "\u{8}\u{c}\r\t\u{1f}",
+];
+
+// Whether the line with that head and the text in parts is written after another text.
+fn writes_parts(alloc: Global, head: TextHead, front: &str) -> Result<bool, AllocError> {
+    let mut out = b"before\n".to_vec(alloc)?;
+    write_text(alloc, &mut out, head, PARTS.iter().copied())?;
+    let whole = format!(in alloc; "before\n{front}{QUOTED}\n")?;
+    Ok(out.as_slice() == whole.as_bytes())
 }
 
 fn writes_final(alloc: Global) -> Result<bool, AllocError> {
@@ -405,6 +423,16 @@ fn writes_final(alloc: Global) -> Result<bool, AllocError> {
 fn lines_of_texts(rt: HostRuntime) -> Result<(), Fail> {
     assert!(rt; writes_text(rt.alloc())?);
     assert!(rt; writes_final(rt.alloc())?);
+    let head = TextHead::Text {
+        replica: 1,
+        bytes: 13,
+        row: 1,
+        column: 10,
+        rows: 2,
+    };
+    assert!(rt; writes_parts(rt.alloc(), head, "text 1: 13 bytes, end 1:10, 2 rows, ")?);
+    let last = TextHead::Final { replica: 7 };
+    assert!(rt; writes_parts(rt.alloc(), last, "final 7: ")?);
     let replica = Report::Replica {
         replica: 1023,
         bytes: 3,
