@@ -19,7 +19,7 @@ use lamport_clock::Lamport;
 use op_model::{Anchor, Bias, PlaceFault};
 use rope_chunks::Rope;
 use sum_tree::SumTree;
-use tree_cursor::locate;
+use tree_cursor::look_up;
 
 // A byte, by its edit and its number among all bytes of that edit.
 #[derive(Clone, Copy)]
@@ -39,7 +39,7 @@ fn shown_byte(tree: &SumTree<Fragment>, o: u64) -> Option<Byte>
     tree.known();
     let start = Visible { bytes: 0 };
     let target = Visible { bytes: o };
-    let (found, before) = locate(tree, start, &target, tree_cursor::Bias::Right);
+    let (found, before) = look_up(tree, start, &target, tree_cursor::Bias::Right);
     let Some(fragment) = found else {
         return None;
     };

@@ -7,7 +7,7 @@ use lamport_clock::{Lamport, Version};
 use locators::Locator;
 use std::alloc::Global;
 use sum_tree::{Item, SumTree};
-use tree_cursor::{Bias, Cursor, locate};
+use tree_cursor::{Bias, Cursor, look_up};
 
 const ROWS: &[Run] = &[
     ((2, 1), 0, "abc", true, &[], &[]),
@@ -92,24 +92,24 @@ fn spot_at(
     bias: Bias,
 ) -> (Option<(u32, u64)>, u64) {
     tree.known();
-    let (item, place) = locate(tree, FullAt { version, bytes: 0 }, &Full { bytes }, bias);
+    let (item, place) = look_up(tree, FullAt { version, bytes: 0 }, &Full { bytes }, bias);
     (name(item), place.bytes)
 }
 
 fn spot_full(tree: &SumTree<Fragment>, bytes: u64, bias: Bias) -> (Option<(u32, u64)>, u64) {
     tree.known();
-    let (item, place) = locate(tree, Full { bytes: 0 }, &Full { bytes }, bias);
+    let (item, place) = look_up(tree, Full { bytes: 0 }, &Full { bytes }, bias);
     (name(item), place.bytes)
 }
 
 fn spot_visible(tree: &SumTree<Fragment>, bytes: u64, bias: Bias) -> (Option<(u32, u64)>, u64) {
     tree.known();
-    let (item, place) = locate(tree, Visible { bytes: 0 }, &Visible { bytes }, bias);
+    let (item, place) = look_up(tree, Visible { bytes: 0 }, &Visible { bytes }, bias);
     (name(item), place.bytes)
 }
 
 fn spot_id(tree: &SumTree<Fragment>, id: &Locator, bias: Bias) -> Option<(u32, u64)> {
-    let (item, _place) = locate(tree, ById { id: None }, id, bias);
+    let (item, _place) = look_up(tree, ById { id: None }, id, bias);
     name(item)
 }
 

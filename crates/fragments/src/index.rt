@@ -11,7 +11,7 @@ use std::alloc::{AllocError, Global};
 use std::cmp::Reverse;
 use std::marker::Model;
 use sum_tree::SumTree;
-use tree_cursor::{Bias, Greatest, locate};
+use tree_cursor::{Bias, Greatest, look_up};
 
 /// The ids of fragments by the cells that they begin with. Contracts see it as the list of its entries, ascending by
 /// stamp, then descending by offset.
@@ -104,5 +104,5 @@ fn first_from(entries: &SumTree<IndexEntry>, key: IndexKey) -> Option<&IndexEntr
 {
     let start = Greatest { key: None };
     let target = Greatest { key: Some(key) };
-    locate(entries, start, &target, Bias::Left).0
+    look_up(entries, start, &target, Bias::Left).0
 }

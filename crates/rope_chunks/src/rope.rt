@@ -13,7 +13,7 @@ use std::alloc::Global;
 use std::marker::Model;
 use sum_tree::SumTree;
 use text_dims::{Place, TextSummary};
-use tree_cursor::{Bias, Plain, Target, locate};
+use tree_cursor::{Bias, Plain, Target, look_up};
 
 /// A text as a tree of chunks of at most 128 bytes.
 ///
@@ -72,7 +72,7 @@ impl Rope {
         ensures { result ≡ stop (λ k. G.passes target.now k Bias.Left) (end_place [])
             (places self.now) }
     {
-        let (chunk, start) = locate(&self.chunks, At::start(), target, Bias::Left);
+        let (chunk, start) = look_up(&self.chunks, At::start(), target, Bias::Left);
         match chunk {
             Some(chunk) => stop_in(chunk.as_str(), start.0, target),
             None => stop_in("", start.0, target),

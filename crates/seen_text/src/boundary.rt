@@ -11,7 +11,7 @@ use lamport_clock::Version;
 use remote_edit::SeenPassed;
 use rope_chunks::Rope;
 use sum_tree::SumTree;
-use tree_cursor::{Bias, locate};
+use tree_cursor::{Bias, look_up};
 
 /// Whether a character begins at a place among all bytes that a version sees, hidden ones too, or they end there: where the
 /// fragments, the shown text and the hidden text are those of a lawful history in which the version is closed. False past
@@ -36,7 +36,7 @@ pub fn is_seen_boundary(
         visible: 0,
         hidden: 0,
     };
-    let (found, before) = locate(fragments, start, &Full { bytes: place }, Bias::Right);
+    let (found, before) = look_up(fragments, start, &Full { bytes: place }, Bias::Right);
     let Some(fragment) = found else {
         return place == before.bytes;
     };

@@ -9,7 +9,7 @@ ghost use Rattle.remote_edit.specs.Walk.{seen_bytes};
 use fragments::{Fragment, Full, FullAt};
 use lamport_clock::Version;
 use sum_tree::SumTree;
-use tree_cursor::{Bias, locate};
+use tree_cursor::{Bias, look_up};
 
 // How many cells of the fragments a version sees.
 fn seen_cells(fragments: &SumTree<Fragment>, version: &Version) -> u64
@@ -18,7 +18,7 @@ fn seen_cells(fragments: &SumTree<Fragment>, version: &Version) -> u64
     fragments.known();
     let start = FullAt { version, bytes: 0 };
     let last = Full { bytes: u64::MAX };
-    locate(fragments, start, &last, Bias::Right).1.bytes
+    look_up(fragments, start, &last, Bias::Right).1.bytes
 }
 
 /// How many bytes a version sees, hidden ones too, where the fragments tell of a lawful history in which it is closed.

@@ -5,7 +5,7 @@ use Rattle.std.proofs.lemmas.List.{take_more, append-nil}
 use Rattle.std.proofs.lemmas.List.Concat.{flat_map-append}
 use Rattle.std.specs.List.{All}
 use Rattle.sum_tree.specs.Laws.{SummaryLaws, fold}
-use Rattle.sum_tree.proofs.Folds.{fold-append, fold-start, fold-then, fold_admitted, fits_left, fits_right}
+use Rattle.sum_tree.proofs.Folds.{fold-start, fold-then, fold_admitted, fits_left, fits_right}
 use Rattle.sum_tree.specs.Seen.{Seen}
 use Rattle.sum_tree.specs.Shape.{joined, IsChild}
 
@@ -83,8 +83,11 @@ module _ {T : Type 0} where
   pub child_is_low : (h : ℕ) (t : Seen T) → IsChild h t → length t.items ≤ 2 ^ 40 → t.height + 1 ≤ 15
   child_is_low h t c l = low (t.height + 1) (length t.items) c.many l
 
-  pub inner_is_low : (h : ℕ) (ts : List (Seen T)) → All (IsChild h) ts → 2 ≤ length ts → length (joined ts) ≤ 2 ^ 40 → h ≤ 15
-  inner_is_low h ts a l short =
+  pub inner_is_tall : (h : ℕ) (ts : List (Seen T)) → All (IsChild h) ts → 2 ≤ length ts → 2 * 6 ^ h ≤ length (joined ts)
+  inner_is_tall h ts a l =
       let all : length ts * 6 ^ h ≤ length (joined ts) = many_joined h ts a in
       let two : 2 * 6 ^ h ≤ length ts * 6 ^ h = mul-le-mul_right (6 ^ h) l in
-      low_twice h (length (joined ts)) (omega (arith, all, two)) short
+      omega (arith, all, two)
+
+  pub inner_is_low : (h : ℕ) (ts : List (Seen T)) → All (IsChild h) ts → 2 ≤ length ts → length (joined ts) ≤ 2 ^ 40 → h ≤ 15
+  inner_is_low h ts a l short = low_twice h (length (joined ts)) (inner_is_tall h ts a l) short

@@ -11,7 +11,10 @@ pub mod Keys
 pub mod Lasts
 mod Splices
 mod Pairs
-mod Steps
+mod Descents
 mod Widths
 mod Sums
 mod Made
+mod Heights
+mod Pushes
+mod Returns

@@ -1,5 +1,5 @@
 -- What is known where an inner node is opened, and of its last child.
-use Rattle.std.proofs.Common.{◌≡◌, ℕ, ◌+◌, ◌-◌, ◌^◌, ◌<◌, ◌≤◌, List, [], ◌++◌, length, get_or, take, drop, Option, Some, None, Vec, Global, sym, ap, subst, ◌∙◌, append_assoc, arith, length-append}
+use Rattle.std.proofs.Common.{◌≡◌, ℕ, ◌+◌, ◌-◌, ◌*◌, ◌^◌, ◌<◌, ◌≤◌, List, [], ◌++◌, length, get_or, take, drop, Option, Some, None, Vec, Global, sym, ap, subst, ◌∙◌, append_assoc, arith, length-append}
 use Rattle.std.proofs.lemmas.List.{append-nil, take_all, drop_all, get_or-append-add}
 use Rattle.std.proofs.lemmas.List.Concat.{get_or-flat_map}
 use Rattle.std.specs.List.{All}
@@ -9,7 +9,7 @@ use Rattle.sum_tree.specs.Grown.{IsSplit, pair_list, with_pair}
 use Rattle.sum_tree.specs.declared.tree.Node.{Node}
 use Rattle.sum_tree.specs.declared.tree.Content.{Content}
 use Rattle.sum_tree.specs.declared.tree.Content.TheVariants.{Leaf, Inner}
-use Rattle.sum_tree.proofs.Children.{joined-append, joined-take_more, joined-split, inner_is_low}
+use Rattle.sum_tree.proofs.Children.{joined-append, joined-take_more, joined-split, inner_is_low, inner_is_tall}
 
 -- s is seen of an inner node with the children ts
 pub record IsInner {T : Type 0} (s : Seen T) (ts : List (Seen T)) : Type 0 where
@@ -110,3 +110,8 @@ leaf_width {T} {S} s n m v e f q h =
 pub node_is_low : {S T : Type 0} (h : ℕ) (c : Content T S) → IsContent h c → length (content_items c) ≤ 2 ^ 40 → h ≤ 15
 node_is_low h (Leaf v) k short = omega (arith, k.0)
 node_is_low h (Inner v) k short = inner_is_low h v.items k.0 k.1 short
+
+-- an inner node has items for its height
+pub node_is_tall : {S T : Type 0} (h : ℕ) (c : Content T S) → IsContent h c → 0 < h → 2 * 6 ^ h ≤ length (content_items c)
+node_is_tall h (Leaf v) k l = absurd (omega (arith, k.0, l))
+node_is_tall h (Inner v) k l = inner_is_tall h v.items k.0 k.1

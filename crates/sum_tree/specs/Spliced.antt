@@ -1,5 +1,5 @@
 -- What a change within one leaf leaves of the nodes above it.
-use Rattle.std.specs.Prelude.{◌≡◌, ℕ, ◌+◌, ◌<◌, ◌^◌, ◌≤◌, List, ◌++◌, length, take, drop, get_or, Option, Some, None, Vec}
+use Rattle.std.specs.Prelude.{◌≡◌, ℕ, ◌+◌, ◌<◌, ◌^◌, ◌≤◌, List, ◌++◌, length, take, drop, get_or, Option, Some, None, Vec, ◌⊎◌}
 use Rattle.std.specs.Global.{Global}
 use Rattle.sum_tree.specs.Seen.{Seen}
 use Rattle.sum_tree.specs.Shape.{IsChild, joined}
@@ -25,6 +25,11 @@ IsSpliced h w xs a (Some b) = (a.items ++ b.items ≡ xs) × IsChild (h + 1) a �
 abbrev pub IsSplicing : {T : Type 0} → ℕ → ℕ → List T → List T → Splicing (Seen T) (Vec T Global) → Type 0
 IsSplicing h w xs ys (Done a b) = IsSpliced h w xs a b
 IsSplicing h w xs ys (Back es) = es.items ≡ ys
+
+-- the new entries ys come back only where the range has more than one item, or where they are more than 12
+abbrev pub IsReturned : {T : Type 0} → ℕ → List T → Splicing (Seen T) (Vec T Global) → Type 0
+IsReturned n ys (Done a b) = Unit {0}
+IsReturned n ys (Back es) = (1 < n) ⊎ (12 < length ys)
 
 -- from its item r on, child k holds the n items from i on
 abbrev pub IsWithin : {T : Type 0} → List (Seen T) → ℕ → ℕ → ℕ → ℕ → Type 0

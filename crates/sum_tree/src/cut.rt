@@ -1,43 +1,58 @@
 //! The front and the rest of a tree.
-ghost use Rattle.std.specs.Prelude.{◌≡◌, ℕ, ◌+◌, ◌^◌, ◌<◌, ◌≤◌, [], ◌∷◌, ◌++◌, length, take, drop, IfOk, All};
+ghost use Rattle.std.specs.Prelude.{◌≡◌, ℕ, ◌+◌, ◌*◌, ◌^◌, ◌<◌, ◌≤◌, [], ◌∷◌, ◌++◌, length, take, drop, IfOk, All};
 ghost use Rattle.sum_tree.specs.Laws.{fold};
 ghost use Rattle.sum_tree.specs.Shape.{IsChild, joined};
 
 use crate::entry::Entry;
-use crate::grow::{copy_onto, share_onto};
+use crate::grow::{both, copy_onto, share_onto};
 use crate::read::child_at;
+use crate::steps::Steps;
 use crate::traits::Item;
-use crate::tree::{Content, SumTree, inner, leaf};
+use crate::tree::{Content, SumTree, empty, inner, leaf};
 use std::alloc::{AllocError, Global};
+use std::marker::Brand;
+use std::sync::ledger::{Blank, Ledger};
 
 // One tree of some of a node's children.
-fn run<T: Item>(alloc: Global, height: u32, nodes: &[SumTree<T>]) -> Result<SumTree<T>, AllocError>
+fn run<T: Item, L: Ledger>(
+    alloc: Global,
+    height: u32,
+    nodes: &[SumTree<T>],
+    steps: &mut Steps<L>,
+) -> Result<SumTree<T>, AllocError>
+    requires some { 1 ≤ length nodes.now }
     requires children { All (IsChild height) nodes.now }
     requires most { length nodes.now ≤ 12 }
     requires short { length (joined nodes.now) ≤ 2 ^ 40 }
     requires fits { T.Summary.fits (fold T.Summary.empty T.Summary.op T.sum_of (joined nodes.now)) }
-    ensures { IfOk result (λ t. t.items ≡ joined nodes.now) }
+    ensures items { IfOk result (λ t. t.items ≡ joined nodes.now) }
+    ensures least { IfOk result (λ t. height ≤ t.height + 1) }
+    ensures most { IfOk result (λ t. t.height ≤ height) }
+    ensures cost { steps.new ≤ steps.old + 1 }
 {
-    if nodes.len() == 0 {
-        return SumTree::new(alloc);
-    }
     if nodes.len() == 1 {
         return nodes[0].share();
     }
     let mut children = Vec::with_capacity(alloc, nodes.len())?;
     share_onto(nodes, &mut children)?;
-    inner(alloc, height, children)
+    inner(alloc, height, children, steps)
 }
 
 // A leaf of these entries, which are shared.
-fn copied_leaf<T: Item>(alloc: Global, entries: &[Entry<T>]) -> Result<SumTree<T>, AllocError>
+fn copied_leaf<T: Item, L: Ledger>(
+    alloc: Global,
+    entries: &[Entry<T>],
+    steps: &mut Steps<L>,
+) -> Result<SumTree<T>, AllocError>
     requires narrow { length entries.now ≤ 12 }
     requires fits { T.Summary.fits (fold T.Summary.empty T.Summary.op T.sum_of entries.now) }
-    ensures { IfOk result (λ t. t.items ≡ entries.now) }
+    ensures items { IfOk result (λ t. t.items ≡ entries.now) }
+    ensures height { IfOk result (λ t. t.height ≡ 0) }
+    ensures cost { steps.new ≤ steps.old + 1 }
 {
     let mut copies = Vec::with_capacity(alloc, entries.len())?;
     copy_onto(entries, &mut copies)?;
-    leaf(alloc, copies)
+    leaf(alloc, copies, steps)
 }
 
 impl<T: Item> SumTree<T> {
@@ -46,20 +61,54 @@ impl<T: Item> SumTree<T> {
     pub fn taken(&self, alloc: Global, n: u64) -> Result<SumTree<T>, AllocError>
         ensures { IfOk result (λ t. t.items ≡ take n self.now.items) }
     {
+        self.taken_with::<Brand>(alloc, n, Blank::new(1))
+    }
+
+    // The same with a counter that is made of the blank.
+    fn taken_with<L: Ledger>(
+        &self,
+        alloc: Global,
+        n: u64,
+        blank: Blank,
+    ) -> Result<SumTree<T>, AllocError>
+        requires name { blank.name ≡ L.name }
+        requires parts { blank.parts ≡ L.parts }
+        requires some { 0 < blank.parts }
+        ensures { IfOk result (λ t. t.items ≡ take n self.now.items) }
+    {
+        let mut steps = Steps::<L>::new(blank);
+        self.taken_counted(alloc, n, &mut steps)
+    }
+
+    /// What `taken` gives, with a step for each node made. A lower tree took fewer of them.
+    pub fn taken_counted<L: Ledger>(
+        &self,
+        alloc: Global,
+        n: u64,
+        steps: &mut Steps<L>,
+    ) -> Result<SumTree<T>, AllocError>
+        ensures items { IfOk result (λ t. t.items ≡ take n self.now.items) }
+        ensures height { IfOk result (λ t. t.height ≤ self.now.height + 1) }
+        ensures low { IfOk result (λ t. steps.new
+            ≤ steps.old + (2 * t.height + 6 * self.now.height + 1)) }
+        ensures cost { steps.new ≤ steps.old + (8 * self.now.height + 3) }
+    {
         if n >= self.len() {
             return self.share();
         }
         if n == 0 {
-            return SumTree::new(alloc);
+            return empty(alloc, steps);
         }
         match &self.node.content {
-            Content::Leaf(entries) => copied_leaf(alloc, &entries[..n as usize]),
+            Content::Leaf(entries) => copied_leaf(alloc, &entries[..n as usize], steps),
             Content::Inner(children) => {
                 let (k, rest) = child_at(children, n);
-                let last = children[k].taken(alloc, rest)?;
-                let mut front = run(alloc, self.node.height, &children[..k])?;
-                front.append(alloc, last)?;
-                Ok(front)
+                let last = children[k].taken_counted(alloc, rest, steps)?;
+                if k == 0 {
+                    return Ok(last);
+                }
+                let front = run(alloc, self.node.height, &children[..k], steps)?;
+                both(alloc, &front, &last, steps)
             }
         }
     }
@@ -69,20 +118,55 @@ impl<T: Item> SumTree<T> {
     pub fn dropped(&self, alloc: Global, n: u64) -> Result<SumTree<T>, AllocError>
         ensures { IfOk result (λ t. t.items ≡ drop n self.now.items) }
     {
+        self.dropped_with::<Brand>(alloc, n, Blank::new(1))
+    }
+
+    // The same with a counter that is made of the blank.
+    fn dropped_with<L: Ledger>(
+        &self,
+        alloc: Global,
+        n: u64,
+        blank: Blank,
+    ) -> Result<SumTree<T>, AllocError>
+        requires name { blank.name ≡ L.name }
+        requires parts { blank.parts ≡ L.parts }
+        requires some { 0 < blank.parts }
+        ensures { IfOk result (λ t. t.items ≡ drop n self.now.items) }
+    {
+        let mut steps = Steps::<L>::new(blank);
+        self.dropped_counted(alloc, n, &mut steps)
+    }
+
+    /// What `dropped` gives, with a step for each node made. A lower tree took fewer of them.
+    pub fn dropped_counted<L: Ledger>(
+        &self,
+        alloc: Global,
+        n: u64,
+        steps: &mut Steps<L>,
+    ) -> Result<SumTree<T>, AllocError>
+        ensures items { IfOk result (λ t. t.items ≡ drop n self.now.items) }
+        ensures height { IfOk result (λ t. t.height ≤ self.now.height + 1) }
+        ensures low { IfOk result (λ t. steps.new
+            ≤ steps.old + (2 * t.height + 6 * self.now.height + 1)) }
+        ensures cost { steps.new ≤ steps.old + (8 * self.now.height + 3) }
+    {
         if n >= self.len() {
-            return SumTree::new(alloc);
+            return empty(alloc, steps);
         }
         if n == 0 {
             return self.share();
         }
         match &self.node.content {
-            Content::Leaf(entries) => copied_leaf(alloc, &entries[n as usize..]),
+            Content::Leaf(entries) => copied_leaf(alloc, &entries[n as usize..], steps),
             Content::Inner(children) => {
                 let (k, passed) = child_at(children, n);
-                let mut rest = children[k].dropped(alloc, passed)?;
-                let back = run(alloc, self.node.height, &children[k + 1..])?;
-                rest.append(alloc, back)?;
-                Ok(rest)
+                let rest = children[k].dropped_counted(alloc, passed, steps)?;
+                let next = k + 1;
+                if next == children.len() {
+                    return Ok(rest);
+                }
+                let back = run(alloc, self.node.height, &children[next..], steps)?;
+                both(alloc, &rest, &back, steps)
             }
         }
     }

@@ -1,13 +1,16 @@
 //! Trees put end to end, by new nodes along one side. What is not on that side is shared.
-ghost use Rattle.std.specs.Prelude.{◌≡◌, ℕ, ◌+◌, ◌^◌, ◌<◌, ◌≤◌, [], ◌∷◌, ◌++◌, length, Some, IfOk, OnOk, OnErr, All};
+ghost use Rattle.std.specs.Prelude.{◌≡◌, ℕ, ◌+◌, ◌*◌, ◌^◌, ◌<◌, ◌≤◌, [], ◌∷◌, ◌++◌, length, min, max, Some, IfOk, OnOk, OnErr, All};
 ghost use Rattle.sum_tree.specs.Laws.{fold};
 ghost use Rattle.sum_tree.specs.Shape.{IsChild, joined};
 ghost use Rattle.sum_tree.specs.Grown.{IsSplit, pair_list, with_pair, with_run};
 
 use crate::entry::Entry;
+use crate::steps::Steps;
 use crate::traits::Item;
 use crate::tree::{Content, MOST, SumTree, inner, leaf, single};
 use std::alloc::{AllocError, Global};
+use std::marker::Brand;
+use std::sync::ledger::{Blank, Ledger};
 
 pub(crate) fn copy_onto<T: Item>(
     entries: &[Entry<T>],
@@ -34,43 +37,48 @@ pub(crate) fn share_onto<T: Item>(
 }
 
 // Two leaves of these entries.
-pub(crate) fn two_leaves<T: Item>(
+pub(crate) fn two_leaves<T: Item, L: Ledger>(
     alloc: Global,
     mut entries: Vec<Entry<T>>,
+    steps: &mut Steps<L>,
 ) -> Result<(SumTree<T>, SumTree<T>), AllocError>
     requires many { 12 < length entries.items }
     requires most { length entries.items ≤ 24 }
     requires fits { T.Summary.fits (fold T.Summary.empty T.Summary.op T.sum_of entries.items) }
-    ensures { IfOk result (λ p. IsSplit 0 0 entries.items p.0 (Some p.1)) }
+    ensures split { IfOk result (λ p. IsSplit 0 0 entries.items p.0 (Some p.1)) }
+    ensures cost { steps.new ≤ steps.old + 2 }
 {
     let half = entries.len() / 2;
     let rest = entries.split_off(half)?;
-    let front = leaf(alloc, entries)?;
-    let back = leaf(alloc, rest)?;
+    let front = leaf(alloc, entries, steps)?;
+    let back = leaf(alloc, rest, steps)?;
     Ok((front, back))
 }
 
 // One leaf or two of these entries.
-pub(crate) fn leaves<T: Item>(
+pub(crate) fn leaves<T: Item, L: Ledger>(
     alloc: Global,
     entries: Vec<Entry<T>>,
+    steps: &mut Steps<L>,
 ) -> Result<(SumTree<T>, Option<SumTree<T>>), AllocError>
     requires most { length entries.items ≤ 24 }
     requires fits { T.Summary.fits (fold T.Summary.empty T.Summary.op T.sum_of entries.items) }
-    ensures { IfOk result (λ p. IsSplit 0 (length entries.items) entries.items p.0 p.1) }
+    ensures split { IfOk result (λ p. IsSplit 0 (length entries.items) entries.items p.0 p.1) }
+    ensures cost { steps.new ≤ steps.old + 2 }
 {
     if entries.len() <= MOST {
-        return Ok((leaf(alloc, entries)?, None));
+        return Ok((leaf(alloc, entries, steps)?, None));
     }
-    let (front, back) = two_leaves(alloc, entries)?;
+    let (front, back) = two_leaves(alloc, entries, steps)?;
     Ok((front, Some(back)))
 }
 
 // Two nodes of these children.
-pub(crate) fn two_inners<T: Item>(
+pub(crate) fn two_inners<T: Item, L: Ledger>(
     alloc: Global,
     height: u32,
     mut children: Vec<SumTree<T>>,
+    steps: &mut Steps<L>,
 ) -> Result<(SumTree<T>, SumTree<T>), AllocError>
     requires children { All (IsChild height) children.items }
     requires many { 12 < length children.items }
@@ -78,20 +86,22 @@ pub(crate) fn two_inners<T: Item>(
     requires short { length (joined children.items) ≤ 2 ^ 40 }
     requires fits { T.Summary.fits (fold T.Summary.empty T.Summary.op T.sum_of
         (joined children.items)) }
-    ensures { IfOk result (λ p. IsSplit height 0 (joined children.items) p.0 (Some p.1)) }
+    ensures split { IfOk result (λ p. IsSplit height 0 (joined children.items) p.0 (Some p.1)) }
+    ensures cost { steps.new ≤ steps.old + 2 }
 {
     let half = children.len() / 2;
     let rest = children.split_off(half)?;
-    let front = inner(alloc, height, children)?;
-    let back = inner(alloc, height, rest)?;
+    let front = inner(alloc, height, children, steps)?;
+    let back = inner(alloc, height, rest, steps)?;
     Ok((front, back))
 }
 
 // One node or two of these children.
-pub(crate) fn inners<T: Item>(
+pub(crate) fn inners<T: Item, L: Ledger>(
     alloc: Global,
     height: u32,
     children: Vec<SumTree<T>>,
+    steps: &mut Steps<L>,
 ) -> Result<(SumTree<T>, Option<SumTree<T>>), AllocError>
     requires children { All (IsChild height) children.items }
     requires least { 2 ≤ length children.items }
@@ -99,13 +109,14 @@ pub(crate) fn inners<T: Item>(
     requires short { length (joined children.items) ≤ 2 ^ 40 }
     requires fits { T.Summary.fits (fold T.Summary.empty T.Summary.op T.sum_of
         (joined children.items)) }
-    ensures { IfOk result (λ p. IsSplit height (length children.items)
+    ensures split { IfOk result (λ p. IsSplit height (length children.items)
         (joined children.items) p.0 p.1) }
+    ensures cost { steps.new ≤ steps.old + 2 }
 {
     if children.len() <= MOST {
-        return Ok((inner(alloc, height, children)?, None));
+        return Ok((inner(alloc, height, children, steps)?, None));
     }
-    let (front, back) = two_inners(alloc, height, children)?;
+    let (front, back) = two_inners(alloc, height, children, steps)?;
     Ok((front, Some(back)))
 }
 
@@ -147,13 +158,14 @@ pub(crate) fn gathered<T: Item>(
 }
 
 // One node or two of these children, where the child at k is replaced by these.
-fn with_child<T: Item>(
+fn with_child<T: Item, L: Ledger>(
     alloc: Global,
     height: u32,
     nodes: &[SumTree<T>],
     k: usize,
     front: SumTree<T>,
     back: Option<SumTree<T>>,
+    steps: &mut Steps<L>,
 ) -> Result<(SumTree<T>, Option<SumTree<T>>), AllocError>
     requires children { All (IsChild height) nodes.now }
     requires least { 2 ≤ length nodes.now }
@@ -163,91 +175,98 @@ fn with_child<T: Item>(
     requires short { length (joined (with_pair nodes.now k front back)) ≤ 2 ^ 40 }
     requires fits { T.Summary.fits (fold T.Summary.empty T.Summary.op T.sum_of
         (joined (with_pair nodes.now k front back))) }
-    ensures { IfOk result (λ p. IsSplit height (length nodes.now)
+    ensures split { IfOk result (λ p. IsSplit height (length nodes.now)
         (joined (with_pair nodes.now k front back)) p.0 p.1) }
+    ensures cost { steps.new ≤ steps.old + 2 }
 {
     let children = gathered(alloc, nodes, k, k + 1, front, back)?;
-    inners(alloc, height, children)
+    inners(alloc, height, children, steps)
 }
 
 impl<T: Item> SumTree<T> {
     // Two trees of one height, end to end.
-    pub(crate) fn beside(
+    pub(crate) fn beside<L: Ledger>(
         &self,
         alloc: Global,
         other: &SumTree<T>,
+        steps: &mut Steps<L>,
     ) -> Result<(SumTree<T>, Option<SumTree<T>>), AllocError>
         requires level { other.now.height ≡ self.now.height }
         requires short { length (self.now.items ++ other.now.items) ≤ 2 ^ 40 }
         requires fits { T.Summary.fits (fold T.Summary.empty T.Summary.op T.sum_of
             (self.now.items ++ other.now.items)) }
-        ensures { IfOk result (λ p. IsSplit self.now.height (self.now.width + other.now.width)
-            (self.now.items ++ other.now.items) p.0 p.1) }
+        ensures split { IfOk result (λ p. IsSplit self.now.height
+            (self.now.width + other.now.width) (self.now.items ++ other.now.items) p.0 p.1) }
+        ensures cost { steps.new ≤ steps.old + 2 }
     {
         match (&self.node.content, &other.node.content) {
             (Content::Leaf(front), Content::Leaf(back)) => {
                 let mut entries = Vec::with_capacity(alloc, front.len() + back.len())?;
                 copy_onto(front, &mut entries)?;
                 copy_onto(back, &mut entries)?;
-                leaves(alloc, entries)
+                leaves(alloc, entries, steps)
             }
             (Content::Inner(front), Content::Inner(back)) => {
                 let mut children = Vec::with_capacity(alloc, front.len() + back.len())?;
                 share_onto(front, &mut children)?;
                 share_onto(back, &mut children)?;
-                inners(alloc, self.node.height, children)
+                inners(alloc, self.node.height, children, steps)
             }
             _ => unreachable!(),
         }
     }
 
     // This tree and then a lower one, at this height.
-    pub(crate) fn followed(
+    pub(crate) fn followed<L: Ledger>(
         &self,
         alloc: Global,
         other: &SumTree<T>,
+        steps: &mut Steps<L>,
     ) -> Result<(SumTree<T>, Option<SumTree<T>>), AllocError>
         requires lower { other.now.height ≤ self.now.height }
         requires short { length (self.now.items ++ other.now.items) ≤ 2 ^ 40 }
         requires fits { T.Summary.fits (fold T.Summary.empty T.Summary.op T.sum_of
             (self.now.items ++ other.now.items)) }
-        ensures { IfOk result (λ p. IsSplit self.now.height self.now.width
+        ensures split { IfOk result (λ p. IsSplit self.now.height self.now.width
             (self.now.items ++ other.now.items) p.0 p.1) }
+        ensures cost { steps.new + 2 * other.now.height ≤ steps.old + 2 * (self.now.height + 1) }
     {
         if other.height() == self.height() {
-            return self.beside(alloc, other);
+            return self.beside(alloc, other, steps);
         }
         match &self.node.content {
             Content::Leaf(_) => unreachable!(),
             Content::Inner(nodes) => {
                 let last = nodes.len() - 1;
-                let (front, back) = nodes[last].followed(alloc, other)?;
-                with_child(alloc, self.node.height, nodes, last, front, back)
+                let (front, back) = nodes[last].followed(alloc, other, steps)?;
+                with_child(alloc, self.node.height, nodes, last, front, back, steps)
             }
         }
     }
 
     // A lower tree and then this one, at this height.
-    fn preceded(
+    fn preceded<L: Ledger>(
         &self,
         alloc: Global,
         other: &SumTree<T>,
+        steps: &mut Steps<L>,
     ) -> Result<(SumTree<T>, Option<SumTree<T>>), AllocError>
         requires lower { other.now.height ≤ self.now.height }
         requires short { length (other.now.items ++ self.now.items) ≤ 2 ^ 40 }
         requires fits { T.Summary.fits (fold T.Summary.empty T.Summary.op T.sum_of
             (other.now.items ++ self.now.items)) }
-        ensures { IfOk result (λ p. IsSplit self.now.height self.now.width
+        ensures split { IfOk result (λ p. IsSplit self.now.height self.now.width
             (other.now.items ++ self.now.items) p.0 p.1) }
+        ensures cost { steps.new + 2 * other.now.height ≤ steps.old + 2 * (self.now.height + 1) }
     {
         if other.height() == self.height() {
-            return other.beside(alloc, self);
+            return other.beside(alloc, self, steps);
         }
         match &self.node.content {
             Content::Leaf(_) => unreachable!(),
             Content::Inner(nodes) => {
-                let (front, back) = nodes[0].preceded(alloc, other)?;
-                with_child(alloc, self.node.height, nodes, 0, front, back)
+                let (front, back) = nodes[0].preceded(alloc, other, steps)?;
+                with_child(alloc, self.node.height, nodes, 0, front, back, steps)
             }
         }
     }
@@ -262,7 +281,44 @@ impl<T: Item> SumTree<T> {
         ensures ok { OnOk result (self.new.items ≡ self.old.items ++ other.items) }
         ensures err { OnErr result (self.new ≡ self.old) }
     {
-        *self = both(alloc, self, &other)?;
+        self.append_with::<Brand>(alloc, other, Blank::new(1))
+    }
+
+    // The same with a counter that is made of the blank.
+    fn append_with<L: Ledger>(
+        &mut self,
+        alloc: Global,
+        other: SumTree<T>,
+        blank: Blank,
+    ) -> Result<(), AllocError>
+        requires name { blank.name ≡ L.name }
+        requires parts { blank.parts ≡ L.parts }
+        requires some { 0 < blank.parts }
+        requires short { length (self.old.items ++ other.items) ≤ 2 ^ 40 }
+        requires fits { T.Summary.fits (fold T.Summary.empty T.Summary.op T.sum_of
+            (self.old.items ++ other.items)) }
+        ensures ok { OnOk result (self.new.items ≡ self.old.items ++ other.items) }
+        ensures err { OnErr result (self.new ≡ self.old) }
+    {
+        let mut steps = Steps::<L>::new(blank);
+        self.append_counted(alloc, other, &mut steps)
+    }
+
+    /// What `append` does, with a step for each node made.
+    pub fn append_counted<L: Ledger>(
+        &mut self,
+        alloc: Global,
+        other: SumTree<T>,
+        steps: &mut Steps<L>,
+    ) -> Result<(), AllocError>
+        requires short { length (self.old.items ++ other.items) ≤ 2 ^ 40 }
+        requires fits { T.Summary.fits (fold T.Summary.empty T.Summary.op T.sum_of
+            (self.old.items ++ other.items)) }
+        ensures ok { OnOk result (self.new.items ≡ self.old.items ++ other.items) }
+        ensures err { OnErr result (self.new ≡ self.old) }
+        ensures cost { steps.new ≤ steps.old + 2 * (max self.old.height other.height + 2) }
+    {
+        *self = both(alloc, self, &other, steps)?;
         Ok(())
     }
 
@@ -277,27 +333,73 @@ impl<T: Item> SumTree<T> {
         ensures ok { OnOk result (self.new.items ≡ self.old.items ++ item ∷ []) }
         ensures err { OnErr result (self.new ≡ self.old) }
     {
-        match self.push_here(alloc, Entry::new(alloc, item)?)? {
+        self.push_with::<Brand>(alloc, item, Blank::new(1))
+    }
+
+    // The same with a counter that is made of the blank.
+    fn push_with<L: Ledger>(
+        &mut self,
+        alloc: Global,
+        item: T,
+        blank: Blank,
+    ) -> Result<(), AllocError>
+        requires name { blank.name ≡ L.name }
+        requires parts { blank.parts ≡ L.parts }
+        requires some { 0 < blank.parts }
+        requires short { length self.old.items < 2 ^ 40 }
+        requires fits { T.Summary.fits (fold T.Summary.empty T.Summary.op T.sum_of
+            (self.old.items ++ item ∷ [])) }
+        ensures ok { OnOk result (self.new.items ≡ self.old.items ++ item ∷ []) }
+        ensures err { OnErr result (self.new ≡ self.old) }
+    {
+        let mut steps = Steps::<L>::new(blank);
+        self.push_counted(alloc, item, &mut steps)
+    }
+
+    /// What `push` does, with a step for each node made.
+    pub fn push_counted<L: Ledger>(
+        &mut self,
+        alloc: Global,
+        item: T,
+        steps: &mut Steps<L>,
+    ) -> Result<(), AllocError>
+        requires short { length self.old.items < 2 ^ 40 }
+        requires fits { T.Summary.fits (fold T.Summary.empty T.Summary.op T.sum_of
+            (self.old.items ++ item ∷ [])) }
+        ensures ok { OnOk result (self.new.items ≡ self.old.items ++ item ∷ []) }
+        ensures err { OnErr result (self.new ≡ self.old) }
+        ensures cost { steps.new ≤ steps.old + 2 * (self.old.height + 2) }
+    {
+        match self.push_here(alloc, Entry::new(alloc, item)?, steps)? {
             None => Ok(()),
             Some(entry) => {
-                let other = single(alloc, entry)?;
-                self.append(alloc, other)
+                let other = single(alloc, entry, steps)?;
+                let whole = both(alloc, self, &other, steps)?;
+                *self = whole;
+                Ok(())
             }
         }
     }
 }
 
 // Both trees in one.
-pub(crate) fn both<T: Item>(
+pub(crate) fn both<T: Item, L: Ledger>(
     alloc: Global,
     front: &SumTree<T>,
     back: &SumTree<T>,
+    steps: &mut Steps<L>,
 ) -> Result<SumTree<T>, AllocError>
     requires short { length (front.now.items ++ back.now.items) ≤ 2 ^ 40 }
     requires fits { T.Summary.fits (fold T.Summary.empty T.Summary.op T.sum_of
         (front.now.items ++ back.now.items)) }
-    ensures { IfOk result (λ t. t.items ≡ front.now.items ++ back.now.items) }
+    ensures items { IfOk result (λ t. t.items ≡ front.now.items ++ back.now.items) }
+    ensures least { IfOk result (λ t. max front.now.height back.now.height ≤ t.height) }
+    ensures most { IfOk result (λ t. t.height ≤ max front.now.height back.now.height + 1) }
+    ensures cost { steps.new + 2 * min front.now.height back.now.height
+        ≤ steps.old + 2 * max front.now.height back.now.height + 3 }
 {
+    front.known();
+    back.known();
     if back.is_empty() {
         return front.share();
     }
@@ -305,25 +407,29 @@ pub(crate) fn both<T: Item>(
         return back.share();
     }
     if back.height() <= front.height() {
-        let (a, b) = front.followed(alloc, back)?;
-        root(alloc, a, b)
+        let (a, b) = front.followed(alloc, back, steps)?;
+        root(alloc, a, b, steps)
     } else {
-        let (a, b) = back.preceded(alloc, front)?;
-        root(alloc, a, b)
+        let (a, b) = back.preceded(alloc, front, steps)?;
+        root(alloc, a, b, steps)
     }
 }
 
 // One tree of one or two of the same height.
-pub(crate) fn root<T: Item>(
+pub(crate) fn root<T: Item, L: Ledger>(
     alloc: Global,
     front: SumTree<T>,
     back: Option<SumTree<T>>,
+    steps: &mut Steps<L>,
 ) -> Result<SumTree<T>, AllocError>
     requires pair { IsSplit front.height 0 (joined (pair_list front back)) front back }
     requires short { length (joined (pair_list front back)) ≤ 2 ^ 40 }
     requires fits { T.Summary.fits (fold T.Summary.empty T.Summary.op T.sum_of
         (joined (pair_list front back))) }
-    ensures { IfOk result (λ t. t.items ≡ joined (pair_list front back)) }
+    ensures items { IfOk result (λ t. t.items ≡ joined (pair_list front back)) }
+    ensures least { IfOk result (λ t. front.height ≤ t.height) }
+    ensures most { IfOk result (λ t. t.height ≤ front.height + 1) }
+    ensures cost { steps.new ≤ steps.old + 1 }
 {
     match back {
         None => Ok(front),
@@ -332,7 +438,7 @@ pub(crate) fn root<T: Item>(
             let mut children = Vec::with_capacity(alloc, 2)?;
             children.push(front)?;
             children.push(back)?;
-            inner(alloc, height, children)
+            inner(alloc, height, children, steps)
         }
     }
 }

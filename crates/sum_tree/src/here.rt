@@ -1,5 +1,5 @@
 //! Changes in place, where no other tree shares the nodes on the way.
-ghost use Rattle.std.specs.Prelude.{◌≡◌, ℕ, List, ◌+◌, ◌^◌, ◌<◌, ◌≤◌, [], ◌∷◌, ◌++◌, length, All, Some, IfOk, OnOk, OnErr};
+ghost use Rattle.std.specs.Prelude.{◌≡◌, ℕ, List, ◌+◌, ◌*◌, ◌^◌, ◌<◌, ◌≤◌, [], ◌∷◌, ◌++◌, length, All, Some, IfOk, IfSome, OnOk, OnErr};
 ghost use Rattle.sum_tree.specs.Laws.{fold};
 ghost use Rattle.sum_tree.specs.Shape.{IsChild, IsContent, joined, content_items, content_width};
 ghost use Rattle.sum_tree.specs.Grown.{with_pair};
@@ -12,10 +12,13 @@ use crate::around::{Around, around_child, entries_sum, settled, three_sum};
 use crate::entry::Entry;
 use crate::grow::{gathered, two_inners, two_leaves};
 use crate::splice::{child_with, three_parts};
+use crate::steps::Steps;
 use crate::traits::{Item, Summary};
 use crate::tree::{Content, LEAST, MOST, SumTree, single};
 use std::alloc::{AllocError, Global};
+use std::marker::Brand;
 use std::sync::Arc;
+use std::sync::ledger::{Blank, Ledger};
 
 // What came of a change in place: it is made, and here are the sums of the nodes above; or nothing was changed, and
 // these two are to stand in the place of the node, with the sums of the nodes above; or nothing was changed, and the
@@ -82,13 +85,14 @@ fn put_run<X: Drop>(
 }
 
 // Two leaves of a leaf's entries where others are put in the place of a range.
-fn split_leaf<T: Item>(
+fn split_leaf<T: Item, L: Ledger>(
     alloc: Global,
     old: &[Entry<T>],
     from: usize,
     to: usize,
     entries: Vec<Entry<T>>,
     around: Vec<Around<T::Summary>>,
+    steps: &mut Steps<L>,
 ) -> Result<Placing<Vec<T::Summary>, Vec<Entry<T>>, SumTree<T>>, AllocError>
     requires order { from ≤ to }
     requires within { to ≤ length old.now }
@@ -99,22 +103,23 @@ fn split_leaf<T: Item>(
         (spliced from to entries.items old.now)) }
     requires fitting { Fitting T.Summary.fits T.Summary.op around.items
         (fold T.Summary.empty T.Summary.op T.sum_of (spliced from to entries.items old.now)) }
-    ensures { IfOk result (λ p. IsPlacing
+    ensures placing { IfOk result (λ p. IsPlacing
         (path_sums T.Summary.op around.items
         (fold T.Summary.empty T.Summary.op T.sum_of (spliced from to entries.items old.now))) 0
         (spliced from to entries.items old.now) entries.items (leaf_seen old.now)
         (leaf_seen old.now) p) }
+    ensures cost { steps.new ≤ steps.old + 2 }
 {
     let all = three_parts(alloc, &old[..from], entries, &old[to..])?;
     let sum = entries_sum(alloc, &all)?;
     let sums = settled(alloc, around, sum)?;
-    let (front, back) = two_leaves(alloc, all)?;
+    let (front, back) = two_leaves(alloc, all, steps)?;
     Ok(Placing::Split(front, back, sums))
 }
 
 // Puts entries in the place of a range of a leaf's. They come back where they are more than 12, or where the leaf would
 // have fewer than `least`.
-fn place_in_leaf<T: Item>(
+fn place_in_leaf<T: Item, L: Ledger>(
     alloc: Global,
     least: usize,
     old: &mut Vec<Entry<T>>,
@@ -122,6 +127,7 @@ fn place_in_leaf<T: Item>(
     count: u64,
     entries: Vec<Entry<T>>,
     around: Vec<Around<T::Summary>>,
+    steps: &mut Steps<L>,
 ) -> Result<Placing<Vec<T::Summary>, Vec<Entry<T>>, SumTree<T>>, AllocError>
     requires within { from + count ≤ length old.old.items }
     requires most { length old.old.items ≤ 12 }
@@ -136,6 +142,7 @@ fn place_in_leaf<T: Item>(
         (spliced from (from + count) entries.items old.old.items))) least
         (spliced from (from + count) entries.items old.old.items) entries.items
         (leaf_seen old.old.items) (leaf_seen old.new.items) result }
+    ensures cost { steps.new ≤ steps.old + 2 }
 {
     let first = from as usize;
     let after = (from + count) as usize;
@@ -144,7 +151,7 @@ fn place_in_leaf<T: Item>(
         return Ok(Placing::Back(entries));
     }
     if kept + entries.len() > MOST {
-        return split_leaf(alloc, old, first, after, entries, around);
+        return split_leaf(alloc, old, first, after, entries, around, steps);
     }
     let sum = three_sum(alloc, &old[..first], &entries, &old[after..])?;
     let sums = settled(alloc, around, sum)?;
@@ -178,7 +185,7 @@ fn put_pair<X: Drop>(
 
 // Puts a pair in the place of child k; or, where there is no room for one more, leaves the children as they are and
 // makes the pair that is to stand in the place of their node. With the sums of the nodes on the path.
-fn pair_in_place<T: Item>(
+fn pair_in_place<T: Item, L: Ledger>(
     alloc: Global,
     height: u32,
     children: &mut Vec<SumTree<T>>,
@@ -186,6 +193,7 @@ fn pair_in_place<T: Item>(
     front: SumTree<T>,
     back: SumTree<T>,
     sums: Vec<T::Summary>,
+    steps: &mut Steps<L>,
 ) -> Result<Placing<Vec<T::Summary>, Vec<Entry<T>>, SumTree<T>>, AllocError>
     requires children { AreChildren height children.old.items }
     requires within { k < length children.old.items }
@@ -198,97 +206,15 @@ fn pair_in_place<T: Item>(
     ensures placing { (ys : List T) → IsPlacingOr sums.items (length children.old.items)
         (joined (with_pair children.old.items k front (Some back))) ys
         (inner_seen height children.old.items) (inner_seen height children.new.items) result }
+    ensures cost { steps.new ≤ steps.old + 2 }
 {
     if children.len() < MOST {
         put_pair(children, k, front, Some(back))?;
         return Ok(Placing::Done(sums));
     }
     let all = gathered(alloc, children, k, k + 1, front, Some(back))?;
-    let (front, back) = two_inners(alloc, height, all)?;
+    let (front, back) = two_inners(alloc, height, all, steps)?;
     Ok(Placing::Split(front, back, sums))
-}
-
-// Puts entries in the place of a range of the items below a node's children, where the range lies in one leaf.
-#[cycle(placing)]
-fn place_in_children<T: Item>(
-    alloc: Global,
-    height: u32,
-    children: &mut Vec<SumTree<T>>,
-    from: u64,
-    count: u64,
-    entries: Vec<Entry<T>>,
-    mut around: Vec<Around<T::Summary>>,
-) -> Result<Placing<Vec<T::Summary>, Vec<Entry<T>>, SumTree<T>>, AllocError>
-    requires children { AreChildren height children.old.items }
-    requires old_fits { T.Summary.fits (fold T.Summary.empty T.Summary.op T.sum_of
-        (joined children.old.items)) }
-    requires within { from + count ≤ length (joined children.old.items) }
-    requires short { length (spliced from (from + count) entries.items (joined children.old.items))
-        ≤ 2 ^ 40 }
-    requires fits { T.Summary.fits (fold T.Summary.empty T.Summary.op T.sum_of
-        (spliced from (from + count) entries.items (joined children.old.items))) }
-    requires fitting { Fitting T.Summary.fits T.Summary.op around.items
-        (fold T.Summary.empty T.Summary.op T.sum_of
-        (spliced from (from + count) entries.items (joined children.old.items))) }
-    ensures children { AreChildren height children.new.items }
-    ensures placing { IsPlacingOr (path_sums T.Summary.op around.items
-        (fold T.Summary.empty T.Summary.op T.sum_of
-        (spliced from (from + count) entries.items (joined children.old.items))))
-        (length children.old.items)
-        (spliced from (from + count) entries.items (joined children.old.items)) entries.items
-        (inner_seen height children.old.items) (inner_seen height children.new.items) result }
-{
-    let (k, first) = match child_with(children, from, count) {
-        None => return Ok(Placing::Back(entries)),
-        Some(place) => place,
-    };
-    around.push(around_child(alloc, children, k)?)?;
-    match children[k].place_here(alloc, LEAST, first, count, entries, around)? {
-        Placing::Done(sums) => return Ok(Placing::Done(sums)),
-        Placing::Split(front, back, sums) => {
-            return pair_in_place(alloc, height, children, k, front, back, sums);
-        }
-        Placing::Back(entries) => return Ok(Placing::Back(entries)),
-    }
-}
-
-// The same in what a node of this height holds.
-#[cycle(placing)]
-fn place_in<T: Item>(
-    alloc: Global,
-    height: u32,
-    content: &mut Content<T>,
-    least: usize,
-    from: u64,
-    count: u64,
-    entries: Vec<Entry<T>>,
-    around: Vec<Around<T::Summary>>,
-) -> Result<Placing<Vec<T::Summary>, Vec<Entry<T>>, SumTree<T>>, AllocError>
-    requires content { IsContent height content.old }
-    requires wide { least ≤ content_width content.old }
-    requires old_fits { T.Summary.fits (fold T.Summary.empty T.Summary.op T.sum_of
-        (content_items content.old)) }
-    requires within { from + count ≤ length (content_items content.old) }
-    requires short { length (spliced from (from + count) entries.items (content_items content.old))
-        ≤ 2 ^ 40 }
-    requires fits { T.Summary.fits (fold T.Summary.empty T.Summary.op T.sum_of
-        (spliced from (from + count) entries.items (content_items content.old))) }
-    requires fitting { Fitting T.Summary.fits T.Summary.op around.items
-        (fold T.Summary.empty T.Summary.op T.sum_of
-        (spliced from (from + count) entries.items (content_items content.old))) }
-    ensures content { IsContent height content.new }
-    ensures placing { IsPlacingOr (path_sums T.Summary.op around.items
-        (fold T.Summary.empty T.Summary.op T.sum_of
-        (spliced from (from + count) entries.items (content_items content.old)))) least
-        (spliced from (from + count) entries.items (content_items content.old)) entries.items
-        (content_seen height content.old) (content_seen height content.new) result }
-{
-    match content {
-        Content::Leaf(old) => return place_in_leaf(alloc, least, old, from, count, entries, around),
-        Content::Inner(children) => {
-            return place_in_children(alloc, height, children, from, count, entries, around);
-        }
-    }
 }
 
 // Takes the last sum off. Where the change is made, it is the node's new sum, and `count` its new length.
@@ -319,75 +245,273 @@ fn noted<S: Drop, E: Drop, N: Drop>(
 
 // Puts the entry behind the items of these children, in a copy of the last child and of its last path; or hands it back,
 // where there is no room for one child more.
-fn push_beside<T: Item>(
+fn push_beside<T: Item, L: Ledger>(
     alloc: Global,
     height: u32,
     children: &mut Vec<SumTree<T>>,
     entry: Entry<T>,
+    steps: &mut Steps<L>,
 ) -> Result<Option<Entry<T>>, AllocError>
     requires children { All (IsChild height) children.old.items }
     requires least { 2 ≤ length children.old.items }
     requires short { length (joined children.old.items ++ entry ∷ []) ≤ 2 ^ 40 }
     requires fits { T.Summary.fits (fold T.Summary.empty T.Summary.op T.sum_of
         (joined children.old.items ++ entry ∷ [])) }
-    ensures { IsPushedBeside height children.old.items children.new.items entry result }
+    ensures pushed { IsPushedBeside height children.old.items children.new.items entry result }
+    ensures back { IfOk result (λ o. IfSome o (λ _. steps.new ≡ steps.old)) }
+    ensures cost { steps.new ≤ steps.old + (2 * height + 1) }
 {
     if children.len() >= MOST {
         return Ok(Some(entry));
     }
     let last = children.len() - 1;
-    let other = single(alloc, entry)?;
-    let (front, back) = children[last].followed(alloc, &other)?;
+    let other = single(alloc, entry, steps)?;
+    let (front, back) = children[last].followed(alloc, &other, steps)?;
     put_pair(children, last, front, back)?;
     Ok(None)
 }
 
+// Puts the entry behind those of a leaf, or hands it back where the leaf is full.
+fn push_in_leaf<T: Item>(
+    entries: &mut Vec<Entry<T>>,
+    entry: Entry<T>,
+) -> Result<Option<Entry<T>>, AllocError>
+    requires { length entries.old.items ≤ 12 }
+    ensures most { length entries.new.items ≤ 12 }
+    ensures pushed { IsPushed (leaf_seen entries.old.items)
+        (leaf_seen entries.new.items) entry result }
+{
+    if entries.len() >= MOST {
+        return Ok(Some(entry));
+    }
+    entries.push(entry)?;
+    Ok(None)
+}
+
+// This sum with that of one entry more.
+fn sum_with<T: Item>(
+    alloc: Global,
+    sum: &T::Summary,
+    entry: &Entry<T>,
+) -> Result<T::Summary, AllocError>
+    requires begun { T.Summary.fits (T.Summary.op T.Summary.empty sum.now) }
+    requires fits { T.Summary.fits (T.Summary.op (T.Summary.op T.Summary.empty sum.now)
+        (T.sum_of entry.now)) }
+    ensures { IfOk result (λ s. s ≡ T.Summary.op (T.Summary.op T.Summary.empty sum.now)
+        (T.sum_of entry.now)) }
+{
+    let mut new = T::Summary::zero(alloc);
+    new.add(alloc, sum)?;
+    new.add(alloc, entry.sum())?;
+    Ok(new)
+}
+
 impl<T: Item> SumTree<T> {
+    // Puts the entry behind the items of these children, in place where the last child takes it so, or hands it back.
+    #[cycle(pushing)]
+    fn push_in_children<L: Ledger>(
+        alloc: Global,
+        height: u32,
+        children: &mut Vec<SumTree<T>>,
+        entry: Entry<T>,
+        steps: &mut Steps<L>,
+    ) -> Result<Option<Entry<T>>, AllocError>
+        requires children { AreChildren height children.old.items }
+        requires short { length (joined children.old.items) < 2 ^ 40 }
+        requires fits { T.Summary.fits (fold T.Summary.empty T.Summary.op T.sum_of
+            (joined children.old.items ++ entry ∷ [])) }
+        ensures children { AreChildren height children.new.items }
+        ensures pushed { IsPushed (inner_seen height children.old.items)
+            (inner_seen height children.new.items) entry result }
+        ensures back { IfOk result (λ o. IfSome o (λ _. steps.new ≡ steps.old)) }
+        ensures cost { steps.new ≤ steps.old + (2 * height + 1) }
+    {
+        let last = children.len() - 1;
+        match children[last].push_here(alloc, entry, steps)? {
+            Some(entry) => return push_beside(alloc, height, children, entry, steps),
+            None => return Ok(None),
+        }
+    }
+
+    // Puts the entry behind what a node of this height holds, in place, or hands it back.
+    #[cycle(pushing)]
+    fn push_in<L: Ledger>(
+        alloc: Global,
+        height: u32,
+        content: &mut Content<T>,
+        entry: Entry<T>,
+        steps: &mut Steps<L>,
+    ) -> Result<Option<Entry<T>>, AllocError>
+        requires content { IsContent height content.old }
+        requires short { length (content_items content.old) < 2 ^ 40 }
+        requires fits { T.Summary.fits (fold T.Summary.empty T.Summary.op T.sum_of
+            (content_items content.old ++ entry ∷ [])) }
+        ensures content { IsContent height content.new }
+        ensures pushed { IsPushed (content_seen height content.old)
+            (content_seen height content.new) entry result }
+        ensures back { IfOk result (λ o. IfSome o (λ _. steps.new ≡ steps.old)) }
+        ensures cost { steps.new ≤ steps.old + (2 * height + 1) }
+    {
+        match content {
+            Content::Leaf(entries) => return push_in_leaf(entries, entry),
+            Content::Inner(children) => {
+                return Self::push_in_children(alloc, height, children, entry, steps);
+            }
+        }
+    }
+
     // Puts the entry behind the others in place, or hands it back where a node is shared or the leaf is full.
-    pub(crate) fn push_here(
+    #[cycle(pushing)]
+    pub(crate) fn push_here<L: Ledger>(
         &mut self,
         alloc: Global,
         entry: Entry<T>,
+        steps: &mut Steps<L>,
     ) -> Result<Option<Entry<T>>, AllocError>
         requires short { length self.old.items < 2 ^ 40 }
         requires fits { T.Summary.fits (fold T.Summary.empty T.Summary.op T.sum_of
             (self.old.items ++ entry ∷ [])) }
-        ensures { IsPushed self.old self.new entry result }
+        ensures pushed { IsPushed self.old self.new entry result }
+        ensures back { IfOk result (λ o. IfSome o (λ _. steps.new ≡ steps.old)) }
+        ensures cost { steps.new ≤ steps.old + (2 * self.old.height + 1) }
     {
         let node = match Arc::get_mut(&mut self.node) {
             None => return Ok(Some(entry)),
             Some(node) => node,
         };
-        let mut sum = T::Summary::zero(alloc);
-        sum.add(alloc, &node.sum)?;
-        sum.add(alloc, entry.sum())?;
-        match &mut node.content {
-            Content::Leaf(entries) => {
-                if entries.len() >= MOST {
-                    return Ok(Some(entry));
-                }
-                entries.push(entry)?;
+        let sum = sum_with(alloc, &node.sum, &entry)?;
+        match Self::push_in(alloc, node.height, &mut node.content, entry, steps)? {
+            Some(entry) => return Ok(Some(entry)),
+            None => {
                 node.len += 1;
                 node.sum = sum;
                 return Ok(None);
             }
+        }
+    }
+}
+
+// What `push_here` does, with a counter that is made of the blank.
+fn push_with<T: Item, L: Ledger>(
+    alloc: Global,
+    tree: &mut SumTree<T>,
+    entry: Entry<T>,
+    blank: Blank,
+) -> Result<Option<Entry<T>>, AllocError>
+    requires name { blank.name ≡ L.name }
+    requires parts { blank.parts ≡ L.parts }
+    requires some { 0 < blank.parts }
+    requires short { length tree.old.items < 2 ^ 40 }
+    requires fits { T.Summary.fits (fold T.Summary.empty T.Summary.op T.sum_of
+        (tree.old.items ++ entry ∷ [])) }
+    ensures { IsPushed tree.old tree.new entry result }
+{
+    let mut steps = Steps::<L>::new(blank);
+    tree.push_here(alloc, entry, &mut steps)
+}
+
+// The same with a counter of its own.
+pub(crate) fn push_alone<T: Item>(
+    alloc: Global,
+    tree: &mut SumTree<T>,
+    entry: Entry<T>,
+) -> Result<Option<Entry<T>>, AllocError>
+    requires short { length tree.old.items < 2 ^ 40 }
+    requires fits { T.Summary.fits (fold T.Summary.empty T.Summary.op T.sum_of
+        (tree.old.items ++ entry ∷ [])) }
+    ensures { IsPushed tree.old tree.new entry result }
+{
+    push_with::<T, Brand>(alloc, tree, entry, Blank::new(1))
+}
+
+impl<T: Item> SumTree<T> {
+    // Puts entries in the place of a range of the items below a node's children, where the range lies in one leaf.
+    #[cycle(placing)]
+    fn place_in_children<L: Ledger>(
+        alloc: Global,
+        height: u32,
+        children: &mut Vec<SumTree<T>>,
+        from: u64,
+        count: u64,
+        entries: Vec<Entry<T>>,
+        mut around: Vec<Around<T::Summary>>,
+        steps: &mut Steps<L>,
+    ) -> Result<Placing<Vec<T::Summary>, Vec<Entry<T>>, SumTree<T>>, AllocError>
+        requires children { AreChildren height children.old.items }
+        requires old_fits { T.Summary.fits (fold T.Summary.empty T.Summary.op T.sum_of
+            (joined children.old.items)) }
+        requires within { from + count ≤ length (joined children.old.items) }
+        requires short { length (spliced from (from + count) entries.items
+            (joined children.old.items)) ≤ 2 ^ 40 }
+        requires fits { T.Summary.fits (fold T.Summary.empty T.Summary.op T.sum_of
+            (spliced from (from + count) entries.items (joined children.old.items))) }
+        requires fitting { Fitting T.Summary.fits T.Summary.op around.items
+            (fold T.Summary.empty T.Summary.op T.sum_of
+            (spliced from (from + count) entries.items (joined children.old.items))) }
+        ensures children { AreChildren height children.new.items }
+        ensures placing { IsPlacingOr (path_sums T.Summary.op around.items
+            (fold T.Summary.empty T.Summary.op T.sum_of
+            (spliced from (from + count) entries.items (joined children.old.items))))
+            (length children.old.items)
+            (spliced from (from + count) entries.items (joined children.old.items)) entries.items
+            (inner_seen height children.old.items) (inner_seen height children.new.items) result }
+        ensures cost { steps.new ≤ steps.old + 2 * (height + 1) }
+    {
+        let (k, first) = match child_with(children, from, count) {
+            None => return Ok(Placing::Back(entries)),
+            Some(place) => place,
+        };
+        around.push(around_child(alloc, children, k)?)?;
+        match children[k].place_here(alloc, LEAST, first, count, entries, around, steps)? {
+            Placing::Done(sums) => return Ok(Placing::Done(sums)),
+            Placing::Split(front, back, sums) => {
+                return pair_in_place(alloc, height, children, k, front, back, sums, steps);
+            }
+            Placing::Back(entries) => return Ok(Placing::Back(entries)),
+        }
+    }
+
+    // The same in what a node of this height holds.
+    #[cycle(placing)]
+    fn place_in<L: Ledger>(
+        alloc: Global,
+        height: u32,
+        content: &mut Content<T>,
+        least: usize,
+        from: u64,
+        count: u64,
+        entries: Vec<Entry<T>>,
+        around: Vec<Around<T::Summary>>,
+        steps: &mut Steps<L>,
+    ) -> Result<Placing<Vec<T::Summary>, Vec<Entry<T>>, SumTree<T>>, AllocError>
+        requires content { IsContent height content.old }
+        requires wide { least ≤ content_width content.old }
+        requires old_fits { T.Summary.fits (fold T.Summary.empty T.Summary.op T.sum_of
+            (content_items content.old)) }
+        requires within { from + count ≤ length (content_items content.old) }
+        requires short { length (spliced from (from + count) entries.items
+            (content_items content.old)) ≤ 2 ^ 40 }
+        requires fits { T.Summary.fits (fold T.Summary.empty T.Summary.op T.sum_of
+            (spliced from (from + count) entries.items (content_items content.old))) }
+        requires fitting { Fitting T.Summary.fits T.Summary.op around.items
+            (fold T.Summary.empty T.Summary.op T.sum_of
+            (spliced from (from + count) entries.items (content_items content.old))) }
+        ensures content { IsContent height content.new }
+        ensures placing { IsPlacingOr (path_sums T.Summary.op around.items
+            (fold T.Summary.empty T.Summary.op T.sum_of
+            (spliced from (from + count) entries.items (content_items content.old)))) least
+            (spliced from (from + count) entries.items (content_items content.old)) entries.items
+            (content_seen height content.old) (content_seen height content.new) result }
+        ensures cost { steps.new ≤ steps.old + 2 * (height + 1) }
+    {
+        match content {
+            Content::Leaf(old) => {
+                return place_in_leaf(alloc, least, old, from, count, entries, around, steps);
+            }
             Content::Inner(children) => {
-                let last = children.len() - 1;
-                match children[last].push_here(alloc, entry)? {
-                    Some(entry) => match push_beside(alloc, node.height, children, entry)? {
-                        Some(entry) => return Ok(Some(entry)),
-                        None => {
-                            node.len += 1;
-                            node.sum = sum;
-                            return Ok(None);
-                        }
-                    },
-                    None => {
-                        node.len += 1;
-                        node.sum = sum;
-                        return Ok(None);
-                    }
-                }
+                return Self::place_in_children(
+                    alloc, height, children, from, count, entries, around, steps,
+                );
             }
         }
     }
@@ -395,7 +519,7 @@ impl<T: Item> SumTree<T> {
     // Puts entries in the place of a range of one leaf, or hands them back where a node is shared, where the range does
     // not lie in one leaf, or where the leaf would have more than 12 entries or fewer than `least`.
     #[cycle(placing)]
-    pub(crate) fn place_here(
+    pub(crate) fn place_here<L: Ledger>(
         &mut self,
         alloc: Global,
         least: usize,
@@ -403,6 +527,7 @@ impl<T: Item> SumTree<T> {
         count: u64,
         entries: Vec<Entry<T>>,
         around: Vec<Around<T::Summary>>,
+        steps: &mut Steps<L>,
     ) -> Result<Placing<Vec<T::Summary>, Vec<Entry<T>>, SumTree<T>>, AllocError>
         requires wide { least ≤ self.old.width }
         requires within { from + count ≤ length self.old.items }
@@ -413,18 +538,19 @@ impl<T: Item> SumTree<T> {
         requires fitting { Fitting T.Summary.fits T.Summary.op around.items
             (fold T.Summary.empty T.Summary.op T.sum_of
             (spliced from (from + count) entries.items self.old.items)) }
-        ensures { IsPlacingOr (outer_sums T.Summary.op around.items
+        ensures placing { IsPlacingOr (outer_sums T.Summary.op around.items
             (fold T.Summary.empty T.Summary.op T.sum_of
             (spliced from (from + count) entries.items self.old.items))) least
             (spliced from (from + count) entries.items self.old.items) entries.items self.old
             self.new result }
+        ensures cost { steps.new ≤ steps.old + 2 * (self.old.height + 1) }
     {
         let node = match Arc::get_mut(&mut self.node) {
             None => return Ok(Placing::Back(entries)),
             Some(node) => node,
         };
         let len = node.len - count + entries.len() as u64;
-        let placing = place_in(
+        let placing = Self::place_in(
             alloc,
             node.height,
             &mut node.content,
@@ -433,6 +559,7 @@ impl<T: Item> SumTree<T> {
             count,
             entries,
             around,
+            steps,
         )?;
         Ok(noted(len, &mut node.len, &mut node.sum, placing))
     }

@@ -8,6 +8,7 @@ ghost use Rattle.sum_tree.specs.Shape.{IsChild, joined};
 ghost use Rattle.sum_tree.specs.Keyed.{Ascending, held, inserted, removed, IsPlace};
 
 use crate::entry::Entry;
+use crate::here::push_alone;
 use crate::traits::{Item, KeyedItem, Summary};
 use crate::tree::{Content, SumTree};
 use std::alloc::{AllocError, Global};
@@ -159,7 +160,7 @@ impl<T: KeyedItem> SumTree<T> {
         if i < self.len() {
             return self.put_item(alloc, i, i, item);
         }
-        match self.push_here(alloc, Entry::new(alloc, item)?)? {
+        match push_alone(alloc, self, Entry::new(alloc, item)?)? {
             None => Ok(()),
             Some(entry) => {
                 let entries = one(alloc, entry)?;

@@ -5,9 +5,12 @@ ghost use Rattle.sum_tree.specs.Shape.{IsChild, joined};
 ghost use Rattle.sum_tree.specs.Groups.{chained, IsGroup};
 
 use crate::entry::Entry;
+use crate::steps::Steps;
 use crate::traits::Item;
 use crate::tree::{LEAST, MOST, SumTree, inner, leaf};
 use std::alloc::{AllocError, Global};
+use std::marker::Brand;
+use std::sync::ledger::{Blank, Ledger};
 
 // How many of the last elements of n are the last run, so that all runs but two at most are full.
 fn last_run(n: usize) -> usize
@@ -59,9 +62,10 @@ pub(crate) fn entries_of<T: Item>(alloc: Global, items: Vec<T>) -> Result<Vec<En
 }
 
 // A leaf for each run.
-fn leaf_level<T: Item>(
+fn leaf_level<T: Item, L: Ledger>(
     alloc: Global,
     groups: Vec<Vec<Entry<T>>>,
+    steps: &mut Steps<L>,
 ) -> Result<Vec<SumTree<T>>, AllocError>
     requires sizes { All IsGroup groups.items }
     requires fits { T.Summary.fits (fold T.Summary.empty T.Summary.op T.sum_of
@@ -69,19 +73,21 @@ fn leaf_level<T: Item>(
     ensures items { IfOk result (λ ts. joined ts.items ≡ chained groups.items) }
     ensures children { IfOk result (λ ts. All (IsChild 1) ts.items) }
     ensures fewer { IfOk result (λ ts. length ts.items ≡ length groups.items) }
+    ensures cost { steps.new ≤ steps.old + length groups.items }
 {
     let mut nodes = Vec::with_capacity(alloc, groups.len())?;
     for group in groups {
-        nodes.push(leaf(alloc, group)?)?;
+        nodes.push(leaf(alloc, group, steps)?)?;
     }
     Ok(nodes)
 }
 
 // A node for each run of nodes.
-fn inner_level<T: Item>(
+fn inner_level<T: Item, L: Ledger>(
     alloc: Global,
     height: u32,
     groups: Vec<Vec<SumTree<T>>>,
+    steps: &mut Steps<L>,
 ) -> Result<Vec<SumTree<T>>, AllocError>
     requires sizes { All IsGroup groups.items }
     requires children { All (IsChild height) (chained groups.items) }
@@ -91,33 +97,55 @@ fn inner_level<T: Item>(
     ensures items { IfOk result (λ ts. joined ts.items ≡ joined (chained groups.items)) }
     ensures children { IfOk result (λ ts. All (IsChild (height + 1)) ts.items) }
     ensures fewer { IfOk result (λ ts. length ts.items ≡ length groups.items) }
+    ensures cost { steps.new ≤ steps.old + length groups.items }
 {
     let mut nodes = Vec::with_capacity(alloc, groups.len())?;
     for group in groups {
-        nodes.push(inner(alloc, height, group)?)?;
+        nodes.push(inner(alloc, height, group, steps)?)?;
     }
     Ok(nodes)
 }
 
 // The tree of these entries.
-pub(crate) fn from_entries<T: Item>(
+pub(crate) fn from_entries<T: Item, L: Ledger>(
     alloc: Global,
     entries: Vec<Entry<T>>,
+    steps: &mut Steps<L>,
 ) -> Result<SumTree<T>, AllocError>
     requires short { length entries.items ≤ 2 ^ 40 }
     requires fits { T.Summary.fits (fold T.Summary.empty T.Summary.op T.sum_of entries.items) }
-    ensures { IfOk result (λ t. t.items ≡ entries.items) }
+    ensures items { IfOk result (λ t. t.items ≡ entries.items) }
+    ensures height { IfOk result (λ t. 6 * t.height ≤ length entries.items) }
+    ensures cost { steps.new ≤ steps.old + (length entries.items + 1) }
 {
     if entries.len() <= MOST {
-        return leaf(alloc, entries);
+        return leaf(alloc, entries, steps);
     }
-    let mut nodes = leaf_level(alloc, groups(alloc, entries)?)?;
+    let mut nodes = leaf_level(alloc, groups(alloc, entries)?, steps)?;
     let mut height = 1;
     while nodes.len() > MOST {
-        nodes = inner_level(alloc, height, groups(alloc, nodes)?)?;
+        nodes = inner_level(alloc, height, groups(alloc, nodes)?, steps)?;
         height += 1;
     }
-    inner(alloc, height, nodes)
+    inner(alloc, height, nodes, steps)
+}
+
+// The same with a counter that is made of the blank.
+pub(crate) fn from_entries_with<T: Item, L: Ledger>(
+    alloc: Global,
+    entries: Vec<Entry<T>>,
+    blank: Blank,
+) -> Result<SumTree<T>, AllocError>
+    requires name { blank.name ≡ L.name }
+    requires parts { blank.parts ≡ L.parts }
+    requires some { 0 < blank.parts }
+    requires short { length entries.items ≤ 2 ^ 40 }
+    requires fits { T.Summary.fits (fold T.Summary.empty T.Summary.op T.sum_of entries.items) }
+    ensures items { IfOk result (λ t. t.items ≡ entries.items) }
+    ensures height { IfOk result (λ t. 6 * t.height ≤ length entries.items) }
+{
+    let mut steps = Steps::<L>::new(blank);
+    from_entries(alloc, entries, &mut steps)
 }
 
 impl<T: Item> SumTree<T> {
@@ -128,6 +156,7 @@ impl<T: Item> SumTree<T> {
         requires fits { T.Summary.fits (fold T.Summary.empty T.Summary.op T.sum_of items.items) }
         ensures { IfOk result (λ t. t.items ≡ items.items) }
     {
-        from_entries(alloc, entries_of(alloc, items)?)
+        let entries = entries_of(alloc, items)?;
+        from_entries_with::<T, Brand>(alloc, entries, Blank::new(1))
     }
 }

@@ -1,17 +1,20 @@
 //! Other items in the place of a range.
-ghost use Rattle.std.specs.Prelude.{◌≡◌, ℕ, ◌+◌, ◌-◌, ◌^◌, ◌<◌, ◌≤◌, ◌++◌, length, IfOk, OnOk, OnErr, IfSome, All};
+ghost use Rattle.std.specs.Prelude.{◌≡◌, ℕ, ◌+◌, ◌-◌, ◌*◌, ◌^◌, ◌<◌, ◌≤◌, ◌++◌, length, None, IfOk, OnOk, OnErr, IfSome, All};
 ghost use Rattle.sum_tree.specs.Laws.{fold};
 ghost use Rattle.sum_tree.specs.Shape.{IsChild, joined};
 ghost use Rattle.sum_tree.specs.Grown.{with_pair, with_run, pair_list};
-ghost use Rattle.sum_tree.specs.Spliced.{spliced, IsPiece, IsSpliced, IsSplicing, IsWithin};
+ghost use Rattle.sum_tree.specs.Spliced.{spliced, IsPiece, IsReturned, IsSpliced, IsSplicing, IsWithin};
 
 use crate::entry::Entry;
-use crate::grow::{copy_onto, gathered, inners, leaves, root};
+use crate::grow::{both, copy_onto, gathered, inners, leaves, root};
 use crate::here::Placing;
 use crate::list::{entries_of, from_entries};
+use crate::steps::Steps;
 use crate::traits::Item;
 use crate::tree::{Content, LEAST, MOST, SumTree};
 use std::alloc::{AllocError, Global};
+use std::marker::Brand;
+use std::sync::ledger::{Blank, Ledger};
 
 // What came of a change within one leaf: what stands in the node's place, or the new entries, where the range does not
 // lie in one leaf or they are too many for two.
@@ -27,7 +30,9 @@ pub(crate) fn child_with<T: Item>(
     from: u64,
     count: u64,
 ) -> Option<(usize, u64)>
-    ensures { IfSome result (λ p. IsWithin children.now from count p.0 p.1) }
+    ensures some { IfSome result (λ p. IsWithin children.now from count p.0 p.1) }
+    ensures none { result ≡ None → 0 < length children.now
+        → from + count ≤ length (joined children.now) → 1 < count }
 {
     let mut rest = from;
     for (k, child) in children.iter().enumerate() {
@@ -63,7 +68,7 @@ pub(crate) fn three_parts<T: Item>(
 }
 
 // What stands in the place of a node whose children from `from` up to `to` are replaced.
-fn with_children<T: Item>(
+fn with_children<T: Item, L: Ledger>(
     alloc: Global,
     height: u32,
     nodes: &[SumTree<T>],
@@ -71,6 +76,7 @@ fn with_children<T: Item>(
     to: usize,
     front: SumTree<T>,
     back: Option<SumTree<T>>,
+    steps: &mut Steps<L>,
 ) -> Result<(SumTree<T>, Option<SumTree<T>>), AllocError>
     requires children { All (IsChild height) nodes.now }
     requires least { 2 ≤ length nodes.now }
@@ -82,25 +88,76 @@ fn with_children<T: Item>(
     requires short { length (joined (with_run nodes.now from to front back)) ≤ 2 ^ 40 }
     requires fits { T.Summary.fits (fold T.Summary.empty T.Summary.op T.sum_of
         (joined (with_run nodes.now from to front back))) }
-    ensures { IfOk result (λ p. IsSpliced height (length nodes.now)
+    ensures spliced { IfOk result (λ p. IsSpliced height (length nodes.now)
         (joined (with_run nodes.now from to front back)) p.0 p.1) }
+    ensures cost { steps.new ≤ steps.old + 2 }
 {
     if to - from == nodes.len() && back.is_none() {
         return Ok((front, None));
     }
     let children = gathered(alloc, nodes, from, to, front, back)?;
-    inners(alloc, height, children)
+    inners(alloc, height, children, steps)
+}
+
+// What stands in the place of a node whose child at k became this narrow one, which is joined with the one before it.
+fn mended_left<T: Item, L: Ledger>(
+    alloc: Global,
+    height: u32,
+    nodes: &[SumTree<T>],
+    k: usize,
+    child: SumTree<T>,
+    steps: &mut Steps<L>,
+) -> Result<(SumTree<T>, Option<SumTree<T>>), AllocError>
+    requires children { All (IsChild height) nodes.now }
+    requires least { 2 ≤ length nodes.now }
+    requires most { length nodes.now ≤ 12 }
+    requires past { 0 < k }
+    requires within { k < length nodes.now }
+    requires piece { IsPiece height child None }
+    requires short { length (joined (with_pair nodes.now k child None)) ≤ 2 ^ 40 }
+    requires fits { T.Summary.fits (fold T.Summary.empty T.Summary.op T.sum_of
+        (joined (with_pair nodes.now k child None))) }
+    ensures spliced { IfOk result (λ p. IsSpliced height (length nodes.now)
+        (joined (with_pair nodes.now k child None)) p.0 p.1) }
+    ensures cost { steps.new ≤ steps.old + 4 }
+{
+    let (front, back) = nodes[k - 1].beside(alloc, &child, steps)?;
+    with_children(alloc, height, nodes, k - 1, k + 1, front, back, steps)
+}
+
+// The same where it is the first, and is joined with the second.
+fn mended_right<T: Item, L: Ledger>(
+    alloc: Global,
+    height: u32,
+    nodes: &[SumTree<T>],
+    child: SumTree<T>,
+    steps: &mut Steps<L>,
+) -> Result<(SumTree<T>, Option<SumTree<T>>), AllocError>
+    requires children { All (IsChild height) nodes.now }
+    requires least { 2 ≤ length nodes.now }
+    requires most { length nodes.now ≤ 12 }
+    requires piece { IsPiece height child None }
+    requires short { length (joined (with_pair nodes.now 0 child None)) ≤ 2 ^ 40 }
+    requires fits { T.Summary.fits (fold T.Summary.empty T.Summary.op T.sum_of
+        (joined (with_pair nodes.now 0 child None))) }
+    ensures spliced { IfOk result (λ p. IsSpliced height (length nodes.now)
+        (joined (with_pair nodes.now 0 child None)) p.0 p.1) }
+    ensures cost { steps.new ≤ steps.old + 4 }
+{
+    let (front, back) = child.beside(alloc, &nodes[1], steps)?;
+    with_children(alloc, height, nodes, 0, 2, front, back, steps)
 }
 
 // What stands in the place of a node whose child at k became `front` and `back`. A narrow child is joined with one
 // beside it.
-fn mended<T: Item>(
+fn mended<T: Item, L: Ledger>(
     alloc: Global,
     height: u32,
     nodes: &[SumTree<T>],
     k: usize,
     front: SumTree<T>,
     back: Option<SumTree<T>>,
+    steps: &mut Steps<L>,
 ) -> Result<(SumTree<T>, Option<SumTree<T>>), AllocError>
     requires children { All (IsChild height) nodes.now }
     requires least { 2 ≤ length nodes.now }
@@ -110,18 +167,17 @@ fn mended<T: Item>(
     requires short { length (joined (with_pair nodes.now k front back)) ≤ 2 ^ 40 }
     requires fits { T.Summary.fits (fold T.Summary.empty T.Summary.op T.sum_of
         (joined (with_pair nodes.now k front back))) }
-    ensures { IfOk result (λ p. IsSpliced height (length nodes.now)
+    ensures spliced { IfOk result (λ p. IsSpliced height (length nodes.now)
         (joined (with_pair nodes.now k front back)) p.0 p.1) }
+    ensures cost { steps.new ≤ steps.old + 4 }
 {
     if back.is_some() || front.width() >= LEAST {
-        return with_children(alloc, height, nodes, k, k + 1, front, back);
+        return with_children(alloc, height, nodes, k, k + 1, front, back, steps);
     }
     if k > 0 {
-        let (front, back) = nodes[k - 1].beside(alloc, &front)?;
-        return with_children(alloc, height, nodes, k - 1, k + 1, front, back);
+        return mended_left(alloc, height, nodes, k, front, steps);
     }
-    let (front, back) = front.beside(alloc, &nodes[1])?;
-    with_children(alloc, height, nodes, 0, 2, front, back)
+    mended_right(alloc, height, nodes, front, steps)
 }
 
 impl<T: Item> SumTree<T> {
@@ -136,20 +192,23 @@ impl<T: Item> SumTree<T> {
     }
 
     // The change within one leaf, where it is one: the nodes above it are made anew, this tree stays as it is.
-    fn spliced_leaf(
+    fn spliced_leaf<L: Ledger>(
         &self,
         alloc: Global,
         from: u64,
         count: u64,
         entries: Vec<Entry<T>>,
+        steps: &mut Steps<L>,
     ) -> Result<Splicing<SumTree<T>, Vec<Entry<T>>>, AllocError>
         requires within { from + count ≤ length self.now.items }
         requires short { length (spliced from (from + count) entries.items self.now.items)
             ≤ 2 ^ 40 }
         requires fits { T.Summary.fits (fold T.Summary.empty T.Summary.op T.sum_of
             (spliced from (from + count) entries.items self.now.items)) }
-        ensures { IfOk result (λ r. IsSplicing self.now.height self.now.width
+        ensures splicing { IfOk result (λ r. IsSplicing self.now.height self.now.width
             (spliced from (from + count) entries.items self.now.items) entries.items r) }
+        ensures returned { IfOk result (λ r. IsReturned count entries.items r) }
+        ensures cost { steps.new ≤ steps.old + (4 * self.now.height + 2) }
     {
         match &self.node.content {
             Content::Leaf(old) => {
@@ -159,7 +218,7 @@ impl<T: Item> SumTree<T> {
                 let first = from as usize;
                 let after = (from + count) as usize;
                 let all = three_parts(alloc, &old[..first], entries, &old[after..])?;
-                let (front, back) = leaves(alloc, all)?;
+                let (front, back) = leaves(alloc, all, steps)?;
                 Ok(Splicing::Done(front, back))
             }
             Content::Inner(children) => {
@@ -167,7 +226,7 @@ impl<T: Item> SumTree<T> {
                     None => return Ok(Splicing::Back(entries)),
                     Some(place) => place,
                 };
-                match children[k].spliced_leaf(alloc, first, count, entries)? {
+                match children[k].spliced_leaf(alloc, first, count, entries, steps)? {
                     Splicing::Back(entries) => Ok(Splicing::Back(entries)),
                     Splicing::Done(front, back) => {
                         let (front, back) = mended(
@@ -177,6 +236,7 @@ impl<T: Item> SumTree<T> {
                             k,
                             front,
                             back,
+                            steps,
                         )?;
                         Ok(Splicing::Done(front, back))
                     }
@@ -186,32 +246,97 @@ impl<T: Item> SumTree<T> {
     }
 
     // The tree with these entries in the place of a range.
-    fn with_splice(
+    fn with_splice<L: Ledger>(
         &self,
         alloc: Global,
         from: u64,
         to: u64,
         entries: Vec<Entry<T>>,
+        steps: &mut Steps<L>,
     ) -> Result<SumTree<T>, AllocError>
         requires order { from ≤ to }
         requires within { to ≤ length self.now.items }
         requires short { length (spliced from to entries.items self.now.items) ≤ 2 ^ 40 }
         requires fits { T.Summary.fits (fold T.Summary.empty T.Summary.op T.sum_of
             (spliced from to entries.items self.now.items)) }
-        ensures { IfOk result (λ t. t.items ≡ spliced from to entries.items self.now.items) }
+        ensures items { IfOk result (λ t. t.items ≡ spliced from to entries.items self.now.items) }
+        ensures cost { steps.new ≤ steps.old +
+            (24 * self.now.height + 2 * length entries.items + 21) }
+        ensures narrow { to ≤ from + 1 → length entries.items ≤ 12
+            → steps.new ≤ steps.old + (4 * self.now.height + 3) }
     {
-        match self.spliced_leaf(alloc, from, to - from, entries)? {
-            Splicing::Done(front, back) => root(alloc, front, back),
+        match self.spliced_leaf(alloc, from, to - from, entries, steps)? {
+            Splicing::Done(front, back) => root(alloc, front, back, steps),
             Splicing::Back(entries) => {
-                let mut whole = self.taken(alloc, from)?;
-                whole.append(alloc, from_entries(alloc, entries)?)?;
-                whole.append(alloc, self.dropped(alloc, to)?)?;
-                Ok(whole)
+                let front = self.taken_counted(alloc, from, steps)?;
+                let middle = from_entries(alloc, entries, steps)?;
+                let whole = both(alloc, &front, &middle, steps)?;
+                let rest = self.dropped_counted(alloc, to, steps)?;
+                both(alloc, &whole, &rest, steps)
             }
         }
     }
 
     // Puts entries in the place of a range.
+    fn put_counted<L: Ledger>(
+        &mut self,
+        alloc: Global,
+        from: u64,
+        to: u64,
+        entries: Vec<Entry<T>>,
+        steps: &mut Steps<L>,
+    ) -> Result<(), AllocError>
+        requires order { from ≤ to }
+        requires within { to ≤ length self.old.items }
+        requires short { length (spliced from to entries.items self.old.items) ≤ 2 ^ 40 }
+        requires fits { T.Summary.fits (fold T.Summary.empty T.Summary.op T.sum_of
+            (spliced from to entries.items self.old.items)) }
+        ensures ok { OnOk result (self.new.items ≡ spliced from to entries.items self.old.items) }
+        ensures err { OnErr result (self.new ≡ self.old) }
+        ensures cost { steps.new ≤ steps.old +
+            (26 * (self.old.height + 1) + 2 * length entries.items) }
+        ensures narrow { to ≤ from + 1 → length entries.items ≤ 12
+            → steps.new ≤ steps.old + 6 * (self.old.height + 1) }
+    {
+        let around = Vec::with_capacity(alloc, self.height() as usize)?;
+        match self.place_here(alloc, 0, from, to - from, entries, around, steps)? {
+            Placing::Done(_) => return Ok(()),
+            Placing::Split(front, back, _) => {
+                *self = root(alloc, front, Some(back), steps)?;
+                return Ok(());
+            }
+            Placing::Back(entries) => {
+                *self = self.with_splice(alloc, from, to, entries, steps)?;
+                return Ok(());
+            }
+        }
+    }
+
+    // The same with a counter that is made of the blank.
+    fn put_with<L: Ledger>(
+        &mut self,
+        alloc: Global,
+        from: u64,
+        to: u64,
+        entries: Vec<Entry<T>>,
+        blank: Blank,
+    ) -> Result<(), AllocError>
+        requires name { blank.name ≡ L.name }
+        requires parts { blank.parts ≡ L.parts }
+        requires some { 0 < blank.parts }
+        requires order { from ≤ to }
+        requires within { to ≤ length self.old.items }
+        requires short { length (spliced from to entries.items self.old.items) ≤ 2 ^ 40 }
+        requires fits { T.Summary.fits (fold T.Summary.empty T.Summary.op T.sum_of
+            (spliced from to entries.items self.old.items)) }
+        ensures ok { OnOk result (self.new.items ≡ spliced from to entries.items self.old.items) }
+        ensures err { OnErr result (self.new ≡ self.old) }
+    {
+        let mut steps = Steps::<L>::new(blank);
+        self.put_counted(alloc, from, to, entries, &mut steps)
+    }
+
+    // The same with a counter of its own.
     pub(crate) fn put(
         &mut self,
         alloc: Global,
@@ -227,18 +352,7 @@ impl<T: Item> SumTree<T> {
         ensures ok { OnOk result (self.new.items ≡ spliced from to entries.items self.old.items) }
         ensures err { OnErr result (self.new ≡ self.old) }
     {
-        let around = Vec::with_capacity(alloc, self.height() as usize)?;
-        match self.place_here(alloc, 0, from, to - from, entries, around)? {
-            Placing::Done(_) => return Ok(()),
-            Placing::Split(front, back, _) => {
-                *self = root(alloc, front, Some(back))?;
-                return Ok(());
-            }
-            Placing::Back(entries) => {
-                *self = self.with_splice(alloc, from, to, entries)?;
-                return Ok(());
-            }
-        }
+        self.put_with::<Brand>(alloc, from, to, entries, Blank::new(1))
     }
 
     /// Puts items in the place of those from `from` up to `to`. Where the range lies in one leaf, at most 12 items come,
@@ -266,5 +380,30 @@ impl<T: Item> SumTree<T> {
     {
         let entries = entries_of(alloc, items)?;
         self.put(alloc, from, to, entries)
+    }
+
+    /// What `splice` does, with a step for each node made.
+    pub fn splice_counted<L: Ledger>(
+        &mut self,
+        alloc: Global,
+        from: u64,
+        to: u64,
+        items: Vec<T>,
+        steps: &mut Steps<L>,
+    ) -> Result<(), AllocError>
+        requires order { from ≤ to }
+        requires within { to ≤ length self.old.items }
+        requires short { length (spliced from to items.items self.old.items) ≤ 2 ^ 40 }
+        requires fits { T.Summary.fits (fold T.Summary.empty T.Summary.op T.sum_of
+            (spliced from to items.items self.old.items)) }
+        ensures ok { OnOk result (self.new.items ≡ spliced from to items.items self.old.items) }
+        ensures err { OnErr result (self.new ≡ self.old) }
+        ensures cost { steps.new ≤ steps.old +
+            (26 * (self.old.height + 1) + 2 * length items.items) }
+        ensures narrow { to ≤ from + 1 → length items.items ≤ 12
+            → steps.new ≤ steps.old + 6 * (self.old.height + 1) }
+    {
+        let entries = entries_of(alloc, items)?;
+        self.put_counted(alloc, from, to, entries, steps)
     }
 }

@@ -1,15 +1,18 @@
 //! A copy-on-write tree, seen as the list of its items.
-ghost use Rattle.std.specs.Prelude.{◌≡◌, ℕ, ◌+◌, ◌^◌, ◌<◌, ◌≤◌, OnOk, All, [], ◌∷◌, ◌++◌, length, IfOk, IsTrue, ◌↔◌};
+ghost use Rattle.std.specs.Prelude.{◌≡◌, ℕ, ◌+◌, ◌*◌, ◌^◌, ◌<◌, ◌≤◌, OnOk, All, [], ◌∷◌, ◌++◌, length, IfOk, IsTrue, ◌↔◌};
 ghost use Rattle.sum_tree.specs.Laws.{fold};
-ghost use Rattle.sum_tree.specs.Shape.{IsNode, IsChild, joined};
+ghost use Rattle.sum_tree.specs.Shape.{IsNode, IsChild, joined, seen};
 ghost use Rattle.sum_tree.specs.Grown.{IsSplit};
 
 use crate::around::{entries_sum, trees_sum};
 use crate::entry::Entry;
+use crate::list::from_entries_with;
+use crate::steps::Steps;
 use crate::traits::{Item, Summary};
 use std::alloc::{AllocError, Global};
-use std::marker::Model;
+use std::marker::{Brand, Model};
 use std::sync::Arc;
+use std::sync::ledger::{Blank, Ledger};
 
 /// The least entries of a node that is not a root.
 pub(crate) const LEAST: usize = 6;
@@ -71,14 +74,7 @@ impl<T: Item> SumTree<T> {
         ensures items { IfOk result (λ t. t.items ≡ []) }
         ensures height { IfOk result (λ t. t.height ≡ 0) }
     {
-        let node = Node {
-            height: 0,
-            len: 0,
-            sum: T::Summary::zero(alloc),
-            content: Content::Leaf(Vec::new(alloc)),
-        };
-        let node = Arc::new(alloc, node)?;
-        Ok(SumTree { node })
+        from_entries_with::<T, Brand>(alloc, Vec::new(alloc), Blank::new(1))
     }
 
     /// How many levels lie below the root: 0 where the root is a leaf. Takes no memory.
@@ -114,6 +110,8 @@ impl<T: Item> SumTree<T> {
         ensures short { length self.now.items ≤ 2 ^ 40 }
         ensures low { self.now.height ≤ 15 }
         ensures fits { T.Summary.fits (fold T.Summary.empty T.Summary.op T.sum_of self.now.items) }
+        ensures empty { self.now.items ≡ [] → self.now.height ≡ 0 }
+        ensures tall { 0 < self.now.height → 2 * 6 ^ self.now.height ≤ length self.now.items }
     {
         let _node = &self.node;
     }
@@ -132,49 +130,93 @@ impl<T: Item> SumTree<T> {
         ensures items { IfOk result (λ t. t.items ≡ item ∷ []) }
         ensures height { IfOk result (λ t. t.height ≡ 0) }
     {
-        single(alloc, Entry::new(alloc, item)?)
+        let mut entries = Vec::with_capacity(alloc, 1)?;
+        entries.push(Entry::new(alloc, item)?)?;
+        from_entries_with::<T, Brand>(alloc, entries, Blank::new(1))
     }
 }
 
-// The tree of one entry.
-pub(crate) fn single<T: Item>(alloc: Global, entry: Entry<T>) -> Result<SumTree<T>, AllocError>
+// The tree of this node. Here alone nodes are made, each of them a step.
+fn tree_of<T: Item, L: Ledger>(
+    alloc: Global,
+    node: Node<T>,
+    steps: &mut Steps<L>,
+) -> Result<SumTree<T>, AllocError>
+    requires { IsNode T.Summary.empty T.Summary.op T.Summary.fits T.sum_of node }
+    ensures tree { IfOk result (λ t. t ≡ seen node) }
+    ensures step { OnOk result (steps.new ≡ steps.old + 1) }
+    ensures cost { steps.new ≤ steps.old + 1 }
+{
+    let node = Arc::new(alloc, node)?;
+    steps.tick();
+    Ok(SumTree { node })
+}
+
+// The leaf without entries.
+pub(crate) fn empty<T: Item, L: Ledger>(
+    alloc: Global,
+    steps: &mut Steps<L>,
+) -> Result<SumTree<T>, AllocError>
+    ensures items { IfOk result (λ t. t.items ≡ []) }
+    ensures height { IfOk result (λ t. t.height ≡ 0) }
+    ensures cost { steps.new ≤ steps.old + 1 }
+{
+    let node = Node {
+        height: 0,
+        len: 0,
+        sum: T::Summary::zero(alloc),
+        content: Content::Leaf(Vec::new(alloc)),
+    };
+    tree_of(alloc, node, steps)
+}
+
+// The leaf of one entry.
+pub(crate) fn single<T: Item, L: Ledger>(
+    alloc: Global,
+    entry: Entry<T>,
+    steps: &mut Steps<L>,
+) -> Result<SumTree<T>, AllocError>
     requires { T.Summary.fits (fold T.Summary.empty T.Summary.op T.sum_of (entry ∷ [])) }
     ensures items { IfOk result (λ t. t.items ≡ entry ∷ []) }
     ensures height { IfOk result (λ t. t.height ≡ 0) }
+    ensures cost { steps.new ≤ steps.old + 1 }
 {
     let mut entries = Vec::new(alloc);
     entries.push(entry)?;
-    leaf(alloc, entries)
+    leaf(alloc, entries, steps)
 }
 
 // The leaf of these entries.
-pub(crate) fn leaf<T: Item>(alloc: Global, entries: Vec<Entry<T>>) -> Result<SumTree<T>, AllocError>
+pub(crate) fn leaf<T: Item, L: Ledger>(
+    alloc: Global,
+    entries: Vec<Entry<T>>,
+    steps: &mut Steps<L>,
+) -> Result<SumTree<T>, AllocError>
     requires narrow { length entries.items ≤ 12 }
     requires fits { T.Summary.fits (fold T.Summary.empty T.Summary.op T.sum_of entries.items) }
     ensures items { IfOk result (λ t. t.items ≡ entries.items) }
     ensures height { IfOk result (λ t. t.height ≡ 0) }
     ensures width { IfOk result (λ t. t.width ≡ length entries.items) }
+    ensures cost { steps.new ≤ steps.old + 1 }
 {
     let sum = entries_sum(alloc, &entries)?;
     let len = entries.len() as u64;
     let content = Content::Leaf(entries);
-    let node = Arc::new(
-        alloc,
-        Node {
-            height: 0,
-            len,
-            sum,
-            content,
-        },
-    )?;
-    Ok(SumTree { node })
+    let node = Node {
+        height: 0,
+        len,
+        sum,
+        content,
+    };
+    tree_of(alloc, node, steps)
 }
 
 // The node of these children.
-pub(crate) fn inner<T: Item>(
+pub(crate) fn inner<T: Item, L: Ledger>(
     alloc: Global,
     height: u32,
     children: Vec<SumTree<T>>,
+    steps: &mut Steps<L>,
 ) -> Result<SumTree<T>, AllocError>
     requires children { All (IsChild height) children.items }
     requires least { 2 ≤ length children.items }
@@ -186,6 +228,7 @@ pub(crate) fn inner<T: Item>(
     ensures height { IfOk result (λ t. t.height ≡ height) }
     ensures width { IfOk result (λ t. t.width ≡ length children.items) }
     ensures many { IfOk result (λ t. 6 ≤ t.width → 6 ^ (t.height + 1) ≤ length t.items) }
+    ensures cost { steps.new ≤ steps.old + 1 }
 {
     let sum = trees_sum(alloc, &children)?;
     let mut len = 0;
@@ -193,14 +236,11 @@ pub(crate) fn inner<T: Item>(
         len += child.len();
     }
     let content = Content::Inner(children);
-    let node = Arc::new(
-        alloc,
-        Node {
-            height,
-            len,
-            sum,
-            content,
-        },
-    )?;
-    Ok(SumTree { node })
+    let node = Node {
+        height,
+        len,
+        sum,
+        content,
+    };
+    tree_of(alloc, node, steps)
 }

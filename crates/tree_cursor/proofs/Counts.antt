@@ -50,8 +50,8 @@ unfolding first_of
 get_ahead whole rest item i e = sym (first_ahead item rest) ∙ ap first_of e ∙ sym (get_at_drop whole i)
 
 -- a cursor's value at an index
-abbrev pub placed : {T D : Type 0} → List T → D → ℕ → Place T D
-placed xs from n = record { items = xs; index = n; from = from }
+abbrev pub placed : {T D : Type 0} → List T → ℕ → D → ℕ → Place T D
+placed xs h from n = record { items = xs; height = h; index = n; from = from }
 
 -- a filter's value at two indexes
 abbrev pub filtering : {T D K : Type 0} → List T → D → K → ℕ → ℕ → Filtering T D K

@@ -1,5 +1,5 @@
 -- What the levels of a path weigh.
-use Rattle.std.proofs.Common.{◌≡◌, ℕ, zero, suc, ◌+◌, ◌*◌, ◌^◌, ◌<◌, ◌≤◌, List, [], ◌∷◌, ◌++◌, length, ap, sym, ◌∙◌, append_assoc, subst, arith, add-one, Bor}
+use Rattle.std.proofs.Common.{◌≡◌, ◌≢◌, ℕ, zero, suc, ◌+◌, ◌*◌, ◌^◌, ◌<◌, ◌≤◌, List, [], ◌∷◌, ◌++◌, length, ap, sym, ◌∙◌, append_assoc, subst, arith, add-one, Bor}
 use Rattle.std.specs.List.{All}
 use Rattle.std.specs.Prelude.{reverse}
 use Rattle.std.proofs.lemmas.List.{reverse-append, length-reverse}
@@ -7,7 +7,8 @@ use Rattle.std.proofs.Math.Nat.{pow-succ', mul-le-mul_left}
 use Rattle.sum_tree.specs.Seen.{Seen}
 use Rattle.sum_tree.specs.Shape.{IsChild}
 use Rattle.tree_cursor.specs.Rest.{Rest}
-use Rattle.tree_cursor.specs.Levels.{weights, IsBelow, IsSplit, IsLevel, AreLevels, TakesPart, left_items, left_work, items_left, work_left}
+use Rattle.sum_tree.proofs.Children.{child_filled}
+use Rattle.tree_cursor.specs.Levels.{weights, looks_below, IsBelow, IsSplit, IsLevel, AreLevels, TakesInner, TakesPart, left_items, left_looks, left_work, items_left, work_left}
 use Rattle.tree_cursor.specs.declared.path.Part.{Part}
 use Rattle.tree_cursor.specs.declared.path.Part.TheVariants.{Node, One}
 use Rattle.tree_cursor.specs.declared.path.Left.{Left}
@@ -39,6 +40,27 @@ first_below l ts t us e f h b =
     let a : All (IsChild h) (t ∷ us) = subst (All (IsChild h)) f (subst (IsBelow h) e b) in
     ((a 0 t (omega arith)).lower, λ k d p. a (suc k) d (omega arith))
 
+-- the looks below children
+pub looks_all : {T : Type 0} (h : ℕ) (ts : List (Seen T)) → All (IsChild h) ts → length ts ≤ 12 → looks_below ts ≤ 12 * (h + 1)
+looks_all h [] a l = omega arith
+looks_all h (t ∷ ts) a l = omega (arith, l, (a 0 t (omega arith)).lower)
+
+looks_rest : {T : Type 0} (h : ℕ) (t : Seen T) (us : List (Seen T)) → All (IsChild h) (t ∷ us) → 1 + looks_below us ≤ looks_below (t ∷ us)
+looks_rest h t [] a = omega arith
+looks_rest h t (u ∷ us) a = omega (arith, (a 0 t (omega arith)).lower, (a 1 u (omega arith)).lower)
+
+-- the first of the children that are left is not empty, and a look less is left behind it
+pub looks_first : {T S : Type 0} (l : Left T S) (ts : Bor (List (Seen T))) (t : Seen T) (us : List (Seen T)) → l ≡ Trees ts → ts.now ≡ t ∷ us → (h : ℕ) → IsBelow h l → (1 ≤ length t.items) × (1 + looks_below us ≤ left_looks l)
+looks_first l ts t us e f h b =
+    let a : All (IsChild h) (t ∷ us) = subst (All (IsChild h)) f (subst (IsBelow h) e b) in
+    let looks : left_looks l ≡ looks_below (t ∷ us) = ap left_looks e ∙ ap looks_below f in
+    (child_filled h t (a 0 t (omega arith)), omega (arith, looks, looks_rest h t us a))
+
+pub looks_into : {T S : Type 0} (l : Left T S) (ts : Bor (List (Seen T))) (t : Seen T) (us : List (Seen T)) → l ≡ Trees ts → ts.now ≡ t ∷ us → 1 + 12 * (t.height + 1) ≤ left_looks l
+looks_into l ts t us e f =
+    let looks : left_looks l ≡ looks_below (t ∷ us) = ap left_looks e ∙ ap looks_below f in
+    omega (arith, looks)
+
 pub below_split : {T S : Type 0} (old new : Left T S) (part : Part T S) (h : ℕ) → IsSplit old part new → IsBelow h old → IsBelow h new
 below_split old new (Node t) h s b = (s.2 h b).1
 below_split old new (One e) h s b = s.2 h b
@@ -58,6 +80,14 @@ module _ {T S : Type 0} where
     i ∙ ap (λ xs. xs ++ items_left ls) s.0 ∙ ap (λ xs. e.now ∷ xs) (sym j),
     omega (arith, s.1, w, v),
   )
+
+  pub takes_inner : (ls : List (Left T S)) (l new : Left T S) (part : Part T S) (before after : Rest T) → IsLevel ls l → IsSplit l part new → (before.inner ≢ [] → (left_items l ≡ before.inner) × (left_looks l ≡ before.looks)) → after.inner ≡ left_items new → after.looks ≡ left_looks new → TakesInner before part after
+  takes_inner ls l new (Node t) before after o s inner j v = (
+    (s.3 o.height o.below).0,
+    λ some. let i = inner some in (sym i.0 ∙ s.0 ∙ ap (λ xs. t.now.items ++ xs) (sym j), omega (arith, (s.3 o.height o.below).1, i.1, v), omega (arith, s.4, i.1)),
+  )
+  takes_inner ls l new (One e) before after o s inner j v =
+      λ some. let i = inner some in (sym i.0 ∙ s.0 ∙ ap (λ xs. e.now ∷ xs) (sym j), omega (arith, s.3, i.1, v))
 
   pub first_level : (above : List (Left T S)) (l : Left T S) (h : ℕ) → above ≡ [] → h ≤ 15 → IsBelow h l → AreLevels (l ∷ reverse above)
   first_level above l h e low b = rw e (record { height = h; low = omega (arith, low); below = b }, tt)

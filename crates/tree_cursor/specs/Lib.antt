@@ -8,3 +8,4 @@ pub mod Keys
 pub mod Counting
 pub mod Rules
 pub mod Sums
+pub mod Tallies

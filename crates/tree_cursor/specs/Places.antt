@@ -1,5 +1,5 @@
 -- What dimensions keep, and the places of the items of a list.
-use Rattle.std.specs.Prelude.{◌≡◌, ℕ, ◌+◌, Bool, cond, Option, Some, None, List, [], ◌∷◌}
+use Rattle.std.specs.Prelude.{◌≡◌, ℕ, ◌+◌, Bool, cond, Option, Some, None, IsSome, List, [], ◌∷◌}
 
 -- Adding no items changes nothing. Where a sum is added whole, its parts can be added in turn, with the same result.
 -- The sum of a single item is added whole. A place moves to later ones. Where what is added fits, so do its parts.
@@ -10,6 +10,10 @@ pub record DimensionLaws {P S : Type 0} (empty : S) (op : S → S → S) (admits
   pub forward : (p q : P) (a : S) → admits a → moved p a ≡ Some q → later p q
   pub fits_front : (p : P) (a b : S) → admits a → admits b → fits p (op a b) → fits p a
   pub fits_back : (p r : P) (a b : S) → admits a → admits b → fits p (op a b) → moved p a ≡ Some r → fits r b
+
+-- every sum is added whole
+abbrev pub AlwaysAdds : {P S : Type 0} → (P → S → Option P) → Type 0
+AlwaysAdds {P} {S} moved = (p : P) (s : S) → IsSome (moved p s)
 
 -- the place behind a sum that is added whole
 abbrev pub behind : {P : Type 0} → P → Option P → P

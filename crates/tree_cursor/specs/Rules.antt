@@ -11,3 +11,7 @@ seek_parts false later stays h = (refl, h)
 -- fewer items are no more than those that the walk goes over
 pub count_parts : (n i j : ℕ) → i ≤ j → nat_lt n j ≡ false → (nat_lt n i ≡ false) × (nat_lt n j ≡ false)
 count_parts n i j l h = (grind (arith, nat_tests), h)
+
+-- the rule looks at ends and counts alone
+abbrev pub LooksAtEnds : {P S : Type 0} → (S → P → ℕ → Bool) → Type 0
+LooksAtEnds {P} {S} halts = (a b : S) (q : P) (j : ℕ) → halts a q j ≡ halts b q j

@@ -1,5 +1,5 @@
 //! A cursor: an index into a tree's list of items, with the place at which the item there starts.
-ghost use Rattle.std.specs.Prelude.{◌≡◌, ◌+◌, ◌-◌, ◌≤◌, IsOk, IfOk, OnOk, OnErr, slice_get, slice_range, take, drop, length, min};
+ghost use Rattle.std.specs.Prelude.{◌≡◌, ◌+◌, ◌-◌, ◌*◌, ◌<◌, ◌≤◌, IsOk, IfOk, OnOk, OnErr, slice_get, slice_range, take, drop, length, min};
 ghost use Rattle.std.specs.Option.{option_copied};
 ghost use Rattle.sum_tree.specs.Laws.{fold};
 ghost use Rattle.tree_cursor.specs.Places.{place_behind, seek_count};
@@ -11,14 +11,15 @@ use crate::traits::{Bias, Dimension, Moves, Plain, Target};
 use crate::walk::{Across, Halt, entry_item, walk};
 use std::alloc::Global;
 use std::marker::Model;
-use sum_tree::{Item, SumTree, Summary};
+use std::sync::ledger::Ledger;
+use sum_tree::{Item, Steps, SumTree, Summary};
 
 /// A place in a tree: an index, from 0 to the number of items, and the place in a dimension at which the item there
 /// starts.
 ///
-/// Contracts see the tree's `items`, the `index`, and `from`, the place at which the first item starts. A cursor lives
-/// in the value itself and takes no memory: the calls that answer want of memory do so for the trees that they make
-/// alone.
+/// Contracts see the tree's `items` and `height`, the `index`, and `from`, the place at which the first item starts. A
+/// cursor lives in the value itself and takes no memory: the calls that answer want of memory do so for the trees that
+/// they make alone.
 #[derive(Drop)]
 pub struct Cursor<'a, T: Item, D: Dimension<'a, T::Summary>> {
     tree: &'a SumTree<T>,
@@ -37,7 +38,7 @@ impl<'a, T: Item, D: Dimension<'a, T::Summary>> Model for Cursor<'a, T, D> {
     ghost use Rattle.sum_tree.specs.Laws.{fold};
     ghost use Rattle.tree_cursor.specs.Halts.{IsAt};
 
-    ghost view = { λ a. record { items = a.tree.now.items; index = a.index; from = a.from } };
+    ghost view = { λ a. record { items = a.tree.now.items; height = a.tree.now.height; index = a.index; from = a.from } };
 
     ghost invariant = { λ a. D.fits (D.plain a.from) (fold T.Summary.empty T.Summary.op T.sum_of a.tree.now.items) × IsAt D.moved D.fits T.Summary.empty T.Summary.op T.sum_of a.tree.now.items (D.plain a.from) a.path.items a.halt.item (D.plain a.halt.start) (D.plain a.halt.end) a.index };
 }
@@ -49,6 +50,7 @@ impl<'a, T: Item, D: Dimension<'a, T::Summary>> Cursor<'a, T, D> {
             (fold T.Summary.empty T.Summary.op T.sum_of tree.now.items) }
         ensures ok { IsOk result }
         ensures items { IfOk result (λ c. c.items ≡ tree.now.items) }
+        ensures height { IfOk result (λ c. c.height ≡ tree.now.height) }
         ensures index { IfOk result (λ c. c.index ≡ 0) }
         ensures from { IfOk result (λ c. c.from ≡ start) }
     {
@@ -162,6 +164,37 @@ impl<'a, T: Item, D: Dimension<'a, T::Summary>> Cursor<'a, T, D> {
         }
     }
 
+    /// What `slice` does, with a step for each node made.
+    pub fn slice_counted<G: Target<D>, L: Ledger>(
+        &mut self,
+        alloc: Global,
+        target: &G,
+        bias: Bias,
+        steps: &mut Steps<L>,
+    ) -> Result<SumTree<T>, OutOfMemory>
+        ensures items { IfOk result (λ t. t.items
+            ≡ slice_range self.old.items self.old.index self.new.index) }
+        ensures moved { OnOk result (self.new
+            ≡ record self.old {
+              index = self.old.index + seek_count D.moved T.sum_of
+                  (λ p. G.passes target.now p bias)
+                  (place_behind D.moved T.sum_of (D.plain self.old.from)
+                  (take self.old.index self.old.items)) (drop self.old.index self.old.items);
+            }) }
+        ensures err { OnErr result (self.new ≡ self.old) }
+        ensures cost { steps.new ≤ steps.old + 8 * (self.old.height + 1) * (self.old.height + 2) }
+    {
+        let first = self.index;
+        self.seek(target, bias)?;
+        match cut_counted(alloc, self.tree, first, self.index, steps) {
+            Ok(part) => Ok(part),
+            Err(fault) => {
+                self.go_to(first);
+                Err(fault)
+            }
+        }
+    }
+
     /// Goes past the last item, and gives the items from the one here on as a tree, which shares each subtree that lies
     /// within them. On want of memory the cursor stands where it stood.
     pub fn suffix(&mut self, alloc: Global) -> Result<SumTree<T>, OutOfMemory>
@@ -170,6 +203,22 @@ impl<'a, T: Item, D: Dimension<'a, T::Summary>> Cursor<'a, T, D> {
         ensures err { OnErr result (self.new ≡ self.old) }
     {
         let rest = self.tree.dropped(alloc, self.index)?;
+        self.go_past();
+        Ok(rest)
+    }
+
+    /// What `suffix` does, with a step for each node made.
+    pub fn suffix_counted<L: Ledger>(
+        &mut self,
+        alloc: Global,
+        steps: &mut Steps<L>,
+    ) -> Result<SumTree<T>, OutOfMemory>
+        ensures items { IfOk result (λ t. t.items ≡ drop self.old.index self.old.items) }
+        ensures moved { OnOk result (self.new ≡ record self.old { index = length self.old.items }) }
+        ensures err { OnErr result (self.new ≡ self.old) }
+        ensures cost { steps.new ≤ steps.old + 8 * (self.old.height + 1) * (self.old.height + 2) }
+    {
+        let rest = self.tree.dropped_counted(alloc, self.index, steps)?;
         self.go_past();
         Ok(rest)
     }
@@ -242,4 +291,20 @@ fn cut<T: Item>(
 {
     let front = tree.taken(alloc, end)?;
     Ok(front.dropped(alloc, first)?)
+}
+
+// The same, with a step for each node made.
+fn cut_counted<T: Item, L: Ledger>(
+    alloc: Global,
+    tree: &SumTree<T>,
+    first: u64,
+    end: u64,
+    steps: &mut Steps<L>,
+) -> Result<SumTree<T>, OutOfMemory>
+    requires { first ≤ end }
+    ensures items { IfOk result (λ t. t.items ≡ slice_range tree.now.items first end) }
+    ensures cost { steps.new ≤ steps.old + (16 * tree.now.height + 14) }
+{
+    let front = tree.taken_counted(alloc, end, steps)?;
+    front.dropped_counted(alloc, first, steps)
 }

@@ -6,12 +6,13 @@ mod filter;
 mod path;
 mod ready;
 mod seek;
+mod tally;
 mod traits;
 mod walk;
 
 pub use cursor::Cursor;
 pub use filter::FilterCursor;
 pub use ready::{Greatest, KeySummary};
-pub use seek::locate;
+pub use seek::{locate, look_up};
 pub use std::alloc::AllocError as OutOfMemory;
 pub use traits::{Bias, Dimension, Keep, Moves, Plain, Target};

@@ -1,7 +1,8 @@
 //! What is left of a tree from some place on: the entries of a leaf, and at each level above the trees that follow.
-ghost use Rattle.std.specs.Prelude.{◌≡◌, ◌+◌, ◌<◌, ◌≤◌, ◌++◌, [], MatchOption, IfNone};
-ghost use Rattle.tree_cursor.specs.Levels.{IsBelow, IsDone, IsSplit, TakesPart, left_items, left_work, weight};
+ghost use Rattle.std.specs.Prelude.{◌≡◌, ◌+◌, ◌*◌, ◌<◌, ◌≤◌, ◌++◌, [], MatchOption, IfNone, IfSome};
+ghost use Rattle.tree_cursor.specs.Levels.{IsBelow, IsDone, IsSplit, TakesInner, TakesPart, left_items, left_looks, left_work, weight};
 
+use crate::tally::Tally;
 use arrayvec::ArrayVec;
 use std::marker::Model;
 use sum_tree::{Entry, Item, Parts, SumTree};
@@ -39,9 +40,9 @@ impl<'a, T: Item> Model for Path<'a, T> {
     ghost Value = { Rest T };
 
     ghost use Rattle.std.specs.Prelude.{◌∷◌, length, reverse};
-    ghost use Rattle.tree_cursor.specs.Levels.{items_left, work_left, AreLevels};
+    ghost use Rattle.tree_cursor.specs.Levels.{items_left, left_items, left_looks, work_left, AreLevels};
 
-    ghost view = { λ a. record { items = items_left (a.level ∷ reverse a.above.items); depth = length a.above.items; work = work_left (a.level ∷ reverse a.above.items) } };
+    ghost view = { λ a. record { items = items_left (a.level ∷ reverse a.above.items); inner = left_items a.level; depth = length a.above.items; work = work_left (a.level ∷ reverse a.above.items); looks = left_looks a.level } };
 
     ghost invariant = { λ a. AreLevels (a.level ∷ reverse a.above.items) };
 }
@@ -51,6 +52,7 @@ fn left_of<'a, T: Item>(node: &'a SumTree<T>) -> Left<'a, T>
     ensures items { left_items result ≡ node.now.items }
     ensures work { left_work result < weight node.now }
     ensures below { IsBelow node.now.height result }
+    ensures looks { left_looks result ≤ 12 * (node.now.height + 1) }
 {
     match node.parts() {
         Parts::Leaf(entries) => Left::Entries(entries),
@@ -77,7 +79,9 @@ fn split<'a, T: Item>(left: Left<'a, T>) -> Option<(Part<'a, T>, Left<'a, T>)>
 impl<'a, T: Item> Path<'a, T> {
     // Before the first item of a tree.
     pub(crate) fn new(tree: &'a SumTree<T>) -> Path<'a, T>
-        ensures { result.items ≡ tree.now.items }
+        ensures items { result.items ≡ tree.now.items }
+        ensures inner { result.inner ≡ tree.now.items }
+        ensures looks { result.looks ≤ 12 * (tree.now.height + 1) }
     {
         tree.known();
         Path {
@@ -91,20 +95,26 @@ impl<'a, T: Item> Path<'a, T> {
         requires { self.old.depth + 1 + node.now.height ≤ 15 }
         ensures items { self.new.items ≡ node.now.items ++ self.old.items }
         ensures work { self.new.work < self.old.work + weight node.now }
+        ensures inner { self.new.inner ≡ node.now.items }
+        ensures looks { self.new.looks ≤ 12 * (node.now.height + 1) }
     {
         self.above.push(self.level);
         self.level = left_of(node);
     }
 
-    // Takes the part that comes first, if anything is left.
-    pub(crate) fn pop(&mut self) -> Option<Part<'a, T>>
+    // Takes the part that comes first, if anything is left. Here alone parts are looked at, and the tally is told of each.
+    pub(crate) fn pop<C: Tally>(&mut self, steps: &mut C) -> Option<Part<'a, T>>
         ensures part { MatchOption result (self.old.items ≡ [])
             (λ part. TakesPart self.old part self.new) }
+        ensures inner { IfSome result (λ part. TakesInner self.old part self.new) }
         ensures none { IfNone result (self.new.items ≡ []) }
+        ensures step { MatchOption result (C.count steps.new ≡ C.count steps.old)
+            (λ _. C.count steps.new ≡ C.count steps.old + C.step) }
     {
         loop {
             if let Some((part, rest)) = split(self.level) {
                 self.level = rest;
+                steps.look();
                 return Some(part);
             }
             match self.above.pop() {

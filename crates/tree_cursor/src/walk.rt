@@ -2,10 +2,12 @@
 ghost use Rattle.std.specs.Prelude.{◌≡◌, ◌+◌, ◌^◌, ◌<◌, ◌≤◌, ℕ, Bool, true, false, nat_lt, length, drop, take};
 ghost use Rattle.std.specs.Option.{option_copied, option_map};
 ghost use Rattle.sum_tree.specs.Laws.{fold};
-ghost use Rattle.tree_cursor.specs.Places.{behind, place_behind, passed_over};
+ghost use Rattle.tree_cursor.specs.Places.{AlwaysAdds, behind, place_behind, passed_over};
 ghost use Rattle.tree_cursor.specs.Halts.{IsAt, gone_over};
+ghost use Rattle.tree_cursor.specs.Rules.{LooksAtEnds};
 
 use crate::path::{Part, Path};
+use crate::tally::{NoTally, Tally};
 use crate::traits::{Dimension, Moves, Plain};
 use sum_tree::{Entry, Item, Summary};
 
@@ -107,9 +109,32 @@ pub(crate) fn walk<'a, T: Item, D: Dimension<'a, T::Summary>, R: Rule<T::Summary
         (D.plain start) path.new.items result.item (D.plain result.start)
         (D.plain result.end) result.passed }
 {
+    walk_counted(path, start, rule, &mut NoTally)
+}
+
+// The same, with a tally of the parts looked at. From before a tree's first item they are few where each sum is added
+// whole and the rule looks at ends alone, since a walk that goes into a node halts there.
+pub(crate) fn walk_counted<
+    'a,
+    T: Item,
+    D: Dimension<'a, T::Summary>,
+    R: Rule<T::Summary, D>,
+    C: Tally,
+>(path: &mut Path<'a, T>, start: D, rule: &R, steps: &mut C) -> Halt<'a, T, D>
+    requires short { length path.old.items ≤ 2 ^ 40 }
+    requires room { D.fits (D.plain start)
+        (fold T.Summary.empty T.Summary.op T.sum_of path.old.items) }
+    ensures passed { result.passed ≡ passed_over D.moved T.sum_of (R.halts rule.now)
+        (D.plain start) 0 path.old.items }
+    ensures at { IsAt D.moved D.fits T.Summary.empty T.Summary.op T.sum_of path.old.items
+        (D.plain start) path.new.items result.item (D.plain result.start)
+        (D.plain result.end) result.passed }
+    ensures cost { AlwaysAdds D.moved → LooksAtEnds (R.halts rule.now)
+        → path.old.items ≡ path.old.inner → C.count steps.new ≤ C.count steps.old + path.old.looks }
+{
     let mut passed = 0;
     let mut at = start;
-    while let Some(part) = path.pop() {
+    while let Some(part) = path.pop(steps) {
         match part {
             Part::Node(node) => {
                 let count = passed + node.len();

@@ -1,10 +1,11 @@
 //! Worked examples, and cursors over many items against plain sums.
 ghost use Rattle.std.specs.Prelude.{◌≡◌, ◌+◌, ◌^◌, ◌<◌};
 
+use crate::counted::located_in;
 use crate::wide::{ByName, Chosen, HasWidth, Name, Parity, Wide, Width, id_of, told};
 use std::alloc::Global;
 use sum_tree::SumTree;
-use tree_cursor::{Bias, Cursor, FilterCursor, OutOfMemory, locate};
+use tree_cursor::{Bias, Cursor, FilterCursor, OutOfMemory, look_up};
 
 // The tree with an item more, where it is small.
 fn grown(alloc: Global, mut tree: SumTree<Wide>, width: u64) -> Result<SumTree<Wide>, OutOfMemory> {
@@ -47,20 +48,20 @@ pub(crate) fn tree_of(
 // The name of the item that a seek from the start finds, and where it starts.
 fn spot(tree: &SumTree<Wide>, at: u64, bias: Bias) -> (Option<u64>, u64) {
     tree.known();
-    let (item, start) = locate(tree, Width { at: 0 }, &Width { at }, bias);
+    let (item, start) = look_up(tree, Width { at: 0 }, &Width { at }, bias);
     (id_of(item), start.at)
 }
 
 // The name of the first item whose name is at least this, as the greatest so far tells.
 fn spot_name(tree: &SumTree<Wide>, id: u64) -> Option<u64> {
-    let (item, _before) = locate(tree, ByName { name: None }, &Name { id }, Bias::Left);
+    let (item, _before) = look_up(tree, ByName { name: None }, &Name { id }, Bias::Left);
     id_of(item)
 }
 
 // The name of the item with which so many lie in a set, and how many lie in it before.
 fn spot_chosen(tree: &SumTree<Wide>, set: &Parity, at: u64) -> (Option<u64>, u64) {
     tree.known();
-    let (item, before) = locate(tree, Chosen { set, items: 0 }, &at, Bias::Left);
+    let (item, before) = look_up(tree, Chosen { set, items: 0 }, &at, Bias::Left);
     (id_of(item), before.items)
 }
 
@@ -171,6 +172,10 @@ fn seeks_widths(rt: HostRuntime) -> Result<(), OutOfMemory> {
         assert!(rt;
             spot_in(rt.alloc(), widths, times, at, bias)? == expected,
             "{at}"
+        );
+        assert!(rt;
+            located_in(rt.alloc(), widths, times, at, bias)? == expected,
+            "{at}, counted"
         );
     }
     Ok(())

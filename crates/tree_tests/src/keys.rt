@@ -7,7 +7,7 @@ use crate::mirror::number_of;
 use crate::ranked::{Number, Ranked, key_of};
 use std::alloc::Global;
 use sum_tree::{Count, SumTree};
-use tree_cursor::{Bias, Cursor, Greatest, OutOfMemory, locate};
+use tree_cursor::{Bias, Cursor, Greatest, OutOfMemory, look_up};
 
 // Puts a number at its place in a small tree, and answers the one that stood there.
 fn put(alloc: Global, tree: &mut SumTree<Number>, key: u64) -> Result<Option<u64>, OutOfMemory>
@@ -45,7 +45,7 @@ fn joined(
 }
 
 // Whether these are the numbers of a tree.
-fn has_keys(tree: &SumTree<Number>, keys: &[u64]) -> bool {
+pub(crate) fn has_keys(tree: &SumTree<Number>, keys: &[u64]) -> bool {
     let mut same = tree.len() == keys.len() as u64;
     for (i, key) in keys.iter().enumerate() {
         same = same && key_of(tree.get(i as u64)) == Some(*key);
@@ -81,7 +81,7 @@ fn on_and_back(tree: &SumTree<Number>) -> Result<(Option<u64>, Option<u64>), Out
 // The number that a seek to an index finds, and the index at which it starts.
 fn at_index(tree: &SumTree<Number>, items: u64, bias: Bias) -> (Option<u64>, u64) {
     tree.known();
-    let (item, start) = locate(tree, Count { items: 0 }, &Count { items }, bias);
+    let (item, start) = look_up(tree, Count { items: 0 }, &Count { items }, bias);
     (key_of(item), start.items)
 }
 
@@ -100,7 +100,7 @@ fn grown(
 
 // The number that a seek to a key finds, and the greatest key before it.
 fn at_key(tree: &SumTree<Ranked>, key: u64, bias: Bias) -> (Option<u64>, Option<u64>) {
-    let (item, start) = locate(
+    let (item, start) = look_up(
         tree,
         Greatest { key: None },
         &Greatest { key: Some(key) },

@@ -7,6 +7,8 @@ pub mod chance;
 #[cfg(test)]
 mod changes;
 #[cfg(test)]
+mod counted;
+#[cfg(test)]
 mod cursors;
 #[cfg(test)]
 mod keys;

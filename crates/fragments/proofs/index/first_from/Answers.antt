@@ -3,4 +3,4 @@ use Rattle.fragments.proofs.Searching.{sought}
 use Rattle.fragments.proofs.index.first_from.Goals as goal
 
 pub returns : goal.returns
-returns c = c.locate.ensures.item ∙ sought c.args.key None c.args.entries.now.items refl
+returns c = c.look_up.ensures.item ∙ sought c.args.key None c.args.entries.now.items refl

@@ -6,41 +6,41 @@ use Rattle.seen_text.proofs.boundary.is_seen_boundary.Goals as goal
 
 pub returns-in_default : goal.returns-in_default
 returns-in_default c = λ h t l o.
-    let b = c.locate.result.1 in
-    let p = past c.args.version.now c.args.fragments.now.items c.args.place b.version.now b.bytes b.visible b.hidden (sym (ap (option_copied {T = Fragment}) c.in_default.is) ∙ c.locate.ensures.item) c.locate.ensures.place in
+    let b = c.look_up.result.1 in
+    let p = past c.args.version.now c.args.fragments.now.items c.args.place b.version.now b.bytes b.visible b.hidden (sym (ap (option_copied {T = Fragment}) c.in_default.is) ∙ c.look_up.ensures.item) c.look_up.ensures.place in
     at_end h c.args.version.now c.args.fragments.now.items t.cells l o c.args.place b.bytes p.0 p.1
 
 pub overflow_sub-inside : goal.overflow_sub-inside
 overflow_sub-inside c =
-    let b = c.locate.result.1 in
-    (lies c.args.version.now c.args.fragments.now.items c.args.place c.in-Some.fragment.now b.version.now b.bytes b.visible b.hidden (sym (ap (option_copied {T = Fragment}) c.in-Some.is) ∙ c.locate.ensures.item) c.locate.ensures.place).low
+    let b = c.look_up.result.1 in
+    (lies c.args.version.now c.args.fragments.now.items c.args.place c.in-Some.fragment.now b.version.now b.bytes b.visible b.hidden (sym (ap (option_copied {T = Fragment}) c.in-Some.is) ∙ c.look_up.ensures.item) c.look_up.ensures.place).low
 
 pub overflow_add-before : goal.overflow_add-before
 overflow_add-before c =
-    let b = c.locate.result.1 in
+    let b = c.look_up.result.1 in
     let fs = c.args.fragments.now.items in
-    let w = lies c.args.version.now fs c.args.place c.in-Some.fragment.now b.version.now b.bytes b.visible b.hidden (sym (ap (option_copied {T = Fragment}) c.in-Some.is) ∙ c.locate.ensures.item) c.locate.ensures.place in
+    let w = lies c.args.version.now fs c.args.place c.in-Some.fragment.now b.version.now b.bytes b.visible b.hidden (sym (ap (option_copied {T = Fragment}) c.in-Some.is) ∙ c.look_up.ensures.item) c.look_up.ensures.place in
     let l = shown_fits fs c.known.ensures.fits (b.visible + (c.args.place - b.bytes)) (shown_more c.args.version.now fs c.args.place c.in-Some.fragment.now b.bytes b.visible b.hidden w c.if-fragment.true) in
     omega (arith, l)
 
 pub overflow_add-before-else-fragment : goal.overflow_add-before-else-fragment
 overflow_add-before-else-fragment c =
-    let b = c.locate.result.1 in
+    let b = c.look_up.result.1 in
     let fs = c.args.fragments.now.items in
-    let w = lies c.args.version.now fs c.args.place c.in-Some.fragment.now b.version.now b.bytes b.visible b.hidden (sym (ap (option_copied {T = Fragment}) c.in-Some.is) ∙ c.locate.ensures.item) c.locate.ensures.place in
+    let w = lies c.args.version.now fs c.args.place c.in-Some.fragment.now b.version.now b.bytes b.visible b.hidden (sym (ap (option_copied {T = Fragment}) c.in-Some.is) ∙ c.look_up.ensures.item) c.look_up.ensures.place in
     let l = hidden_fits fs c.known.ensures.fits (b.hidden + (c.args.place - b.bytes)) (hidden_more c.args.version.now fs c.args.place c.in-Some.fragment.now b.bytes b.visible b.hidden w c.if-fragment.false) in
     omega (arith, l)
 
 pub returns-then-fragment : goal.returns-then-fragment
 returns-then-fragment c = λ h t l o.
-    let b = c.locate.result.1 in
+    let b = c.look_up.result.1 in
     let fs = c.args.fragments.now.items in
-    let w = lies c.args.version.now fs c.args.place c.in-Some.fragment.now b.version.now b.bytes b.visible b.hidden (sym (ap (option_copied {T = Fragment}) c.in-Some.is) ∙ c.locate.ensures.item) c.locate.ensures.place in
+    let w = lies c.args.version.now fs c.args.place c.in-Some.fragment.now b.version.now b.bytes b.visible b.hidden (sym (ap (option_copied {T = Fragment}) c.in-Some.is) ∙ c.look_up.ensures.item) c.look_up.ensures.place in
     in_shown h c.args.version.now fs t.cells l o c.args.place c.in-Some.fragment.now b.bytes b.visible b.hidden w c.args.shown.now c.is_char_boundary.result t.shown c.if-fragment.true c.is_char_boundary.ensures
 
 pub returns-else-fragment : goal.returns-else-fragment
 returns-else-fragment c = λ h t l o.
-    let b = c.locate.result.1 in
+    let b = c.look_up.result.1 in
     let fs = c.args.fragments.now.items in
-    let w = lies c.args.version.now fs c.args.place c.in-Some.fragment.now b.version.now b.bytes b.visible b.hidden (sym (ap (option_copied {T = Fragment}) c.in-Some.is) ∙ c.locate.ensures.item) c.locate.ensures.place in
+    let w = lies c.args.version.now fs c.args.place c.in-Some.fragment.now b.version.now b.bytes b.visible b.hidden (sym (ap (option_copied {T = Fragment}) c.in-Some.is) ∙ c.look_up.ensures.item) c.look_up.ensures.place in
     in_hidden h c.args.version.now fs t.cells l o c.args.place c.in-Some.fragment.now b.bytes b.visible b.hidden w c.args.hidden.now c.is_char_boundary-else-fragment.result t.hidden c.if-fragment.false c.is_char_boundary-else-fragment.ensures

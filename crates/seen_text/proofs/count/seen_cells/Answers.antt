@@ -14,5 +14,5 @@ returns c =
     let v = c.args.version.now in
     let fs = c.args.fragments.now.items in
     let l = fewer v fs c.known.ensures.fits in
-    let e : c.locate.result.1.bytes ≡ 0 + seen_bytes v fs = ap (λ (p : At). p.1) (c.locate.ensures.place ∙ ap (λ (xs : List Fragment). place_behind move_at summary_of (v, 0) xs) (all_over v 18446744073709551615 0 fs (omega (arith, l))) ∙ (places_count_cells fs 0).2 v) in
+    let e : c.look_up.result.1.bytes ≡ 0 + seen_bytes v fs = ap (λ (p : At). p.1) (c.look_up.ensures.place ∙ ap (λ (xs : List Fragment). place_behind move_at summary_of (v, 0) xs) (all_over v 18446744073709551615 0 fs (omega (arith, l))) ∙ (places_count_cells fs 0).2 v) in
     omega (arith, e)

@@ -18,8 +18,8 @@ pub inner-requires-2-clause-fits : goal.inner-requires-2-clause-fits
 inner-requires-2-clause-fits g c =
     rw c.in_ok-rest.ensures.tail (fits_joined_drop g.met.T.Summary.Summary.laws g.T.Item.sum_of g.met.T.Item.admitted c.args.children.items _ c.requires.fits)
 
-pub returns : goal.returns
-returns g c =
+pub returns-clause-split : goal.returns-clause-split
+returns-clause-split g c =
     let ts = c.args.children.items in
     let k = c.len-half.result / 2 in
     let p = c.in_ok-front.ensures in

@@ -20,8 +20,8 @@ pub leaf-requires-2-clause-fits : goal.leaf-requires-2-clause-fits
 leaf-requires-2-clause-fits g c =
     rw c.in_ok-rest.ensures.tail (fits_drop g.met.T.Summary.Summary.laws g.T.Item.sum_of g.met.T.Item.admitted c.args.entries.items _ c.requires.fits)
 
-pub returns : goal.returns
-returns g c =
+pub returns-clause-split : goal.returns-clause-split
+returns-clause-split g c =
     let xs = c.args.entries.items in
     let p = c.in_ok-front.ensures in
     let q = c.in_ok-back.ensures in

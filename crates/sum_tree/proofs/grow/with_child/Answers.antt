@@ -22,7 +22,7 @@ inners-requires-clause-short g c = rw c.in_ok-children.ensures c.requires.short
 pub inners-requires-clause-fits : goal.inners-requires-clause-fits
 inners-requires-clause-fits g c = rw c.in_ok-children.ensures c.requires.fits
 
-pub returns : goal.returns
-returns g c =
+pub returns-clause-split : goal.returns-clause-split
+returns-clause-split g c =
     let wide : length c.args.nodes.now ≤ length c.in_ok-children.children.items = omega (arith, ap length c.in_ok-children.ensures, pair_length c.args.nodes.now c.args.k c.args.front c.args.back c.requires.within, (pair_few c.args.front c.args.back).0) in
-    if_ok c.inners.result (λ p s. split_widened c.args.height (length c.in_ok-children.children.items) (length c.args.nodes.now) _ _ p.0 p.1 wide (ap joined c.in_ok-children.ensures) s) c.inners.ensures
+    if_ok c.inners.result (λ p s. split_widened c.args.height (length c.in_ok-children.children.items) (length c.args.nodes.now) _ _ p.0 p.1 wide (ap joined c.in_ok-children.ensures) s) c.inners.ensures.split

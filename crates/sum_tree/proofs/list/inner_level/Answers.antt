@@ -29,4 +29,11 @@ loop-group-preserved g c =
       All_right (IsChild c.args.height) c.in-Some.group.items (chained rest) (subst (λ (ts : List _). All (IsChild c.args.height) ts) (ap chained c.in-Some.ensures.steps.0) c.loop-group.invariant.4),
       All_push (IsChild (c.args.height + 1)) c.loop-group.nodes.items n c.push.new.self.items c.in_ok-push.ensures.items c.loop-group.invariant.5 child,
       omega (arith, ap length c.in_ok-push.ensures.items, length-append c.loop-group.nodes.items (n ∷ []), ap length c.in-Some.ensures.steps.0, c.loop-group.invariant.6),
+      omega (arith, ap length c.in_ok-push.ensures.items, length-append c.loop-group.nodes.items (n ∷ []), c.inner.ensures.cost, c.loop-group.invariant.7),
     )
+
+pub returns-in_err-inner-clause-cost : goal.returns-in_err-inner-clause-cost
+returns-in_err-inner-clause-cost g c = omega (arith, ap length c.in-Some.ensures.steps.0, c.inner.ensures.cost, c.loop-group.invariant.6, c.loop-group.invariant.7)
+
+pub returns-in_err-push-clause-cost : goal.returns-in_err-push-clause-cost
+returns-in_err-push-clause-cost g c = omega (arith, ap length c.in-Some.ensures.steps.0, c.inner.ensures.cost, c.loop-group.invariant.6, c.loop-group.invariant.7)

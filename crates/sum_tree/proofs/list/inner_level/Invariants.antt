@@ -1,4 +1,4 @@
-use Rattle.std.proofs.Common.{◌≡◌, ◌+◌, ◌++◌, length}
+use Rattle.std.proofs.Common.{◌≡◌, ◌+◌, ◌≤◌, ◌++◌, length}
 use Rattle.std.specs.List.{All}
 use Rattle.std.specs.Vec.Iter.{into_iter_items}
 use Rattle.sum_tree.specs.Shape.{IsChild, joined}
@@ -13,4 +13,5 @@ invariant-loop-group g l =
     All IsGroup (into_iter_items l.group-iterator) ×
     All (IsChild l.height) (chained (into_iter_items l.group-iterator)) ×
     All (IsChild (l.height + 1)) l.nodes.items ×
-    (length l.nodes.items + length (into_iter_items l.group-iterator) ≡ length l.fn.groups.items)
+    (length l.nodes.items + length (into_iter_items l.group-iterator) ≡ length l.fn.groups.items) ×
+    (l.steps ≤ l.fn.steps + length l.nodes.items)

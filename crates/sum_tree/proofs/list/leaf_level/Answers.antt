@@ -23,4 +23,11 @@ loop-group-preserved g c =
       rest_of IsGroup left c.in-Some.group rest c.in-Some.ensures.steps.0 c.loop-group.invariant.3,
       All_push (IsChild 1) c.loop-group.nodes.items c.in_ok-leaf.field-0 c.push.new.self.items c.in_ok-push.ensures.items c.loop-group.invariant.4 child,
       omega (arith, ap length c.in_ok-push.ensures.items, length-append c.loop-group.nodes.items (c.in_ok-leaf.field-0 ∷ []), ap length c.in-Some.ensures.steps.0, c.loop-group.invariant.5),
+      omega (arith, ap length c.in_ok-push.ensures.items, length-append c.loop-group.nodes.items (c.in_ok-leaf.field-0 ∷ []), c.leaf.ensures.cost, c.loop-group.invariant.6),
     )
+
+pub returns-in_err-leaf-clause-cost : goal.returns-in_err-leaf-clause-cost
+returns-in_err-leaf-clause-cost g c = omega (arith, ap length c.in-Some.ensures.steps.0, c.leaf.ensures.cost, c.loop-group.invariant.5, c.loop-group.invariant.6)
+
+pub returns-in_err-push-clause-cost : goal.returns-in_err-push-clause-cost
+returns-in_err-push-clause-cost g c = omega (arith, ap length c.in-Some.ensures.steps.0, c.leaf.ensures.cost, c.loop-group.invariant.5, c.loop-group.invariant.6)

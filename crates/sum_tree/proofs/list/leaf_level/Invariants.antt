@@ -1,4 +1,4 @@
-use Rattle.std.proofs.Common.{◌≡◌, ◌+◌, ◌++◌, length}
+use Rattle.std.proofs.Common.{◌≡◌, ◌+◌, ◌≤◌, ◌++◌, length}
 use Rattle.std.specs.List.{All}
 use Rattle.std.specs.Vec.Iter.{into_iter_items}
 use Rattle.sum_tree.specs.Shape.{IsChild, joined}
@@ -12,4 +12,5 @@ invariant-loop-group g l =
     (joined l.nodes.items ++ chained (into_iter_items l.group-iterator) ≡ chained l.fn.groups.items) ×
     All IsGroup (into_iter_items l.group-iterator) ×
     All (IsChild 1) l.nodes.items ×
-    (length l.nodes.items + length (into_iter_items l.group-iterator) ≡ length l.fn.groups.items)
+    (length l.nodes.items + length (into_iter_items l.group-iterator) ≡ length l.fn.groups.items) ×
+    (l.steps ≤ l.fn.steps + length l.nodes.items)

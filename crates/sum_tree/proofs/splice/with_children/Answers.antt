@@ -18,8 +18,8 @@ one_for_all h ts i j a b none all order few within pair =
     let child : IsChild h a = subst (λ o. All (IsChild h) (pair_list a o)) none pair 0 a (omega arith) in
     (sym items, λ wide. absurd (omega (arith, wide, all, few)), child.narrow, λ wide. child.many)
 
-pub returns-then-is_none : goal.returns-then-is_none
-returns-then-is_none g c =
+pub returns-then-is_none-clause-spliced : goal.returns-then-is_none-clause-spliced
+returns-then-is_none-clause-spliced g c =
     let none : c.args.back ≡ None = search rules in
     one_for_all c.args.height c.args.nodes.now c.args.from c.args.to c.args.front c.args.back none c.if-to-from.true c.requires.order c.requires.few c.requires.within c.requires.pair
 
@@ -37,6 +37,6 @@ inners-requires-clause-short g c = rw c.in_ok-children.ensures c.requires.short
 pub inners-requires-clause-fits : goal.inners-requires-clause-fits
 inners-requires-clause-fits g c = rw c.in_ok-children.ensures c.requires.fits
 
-pub returns : goal.returns
-returns g c =
-    if_ok c.inners.result (λ p s. split_spliced c.args.height c.args.height (length c.in_ok-children.children.items) (length c.args.nodes.now) _ _ p.0 p.1 refl (ap joined c.in_ok-children.ensures) s) c.inners.ensures
+pub returns-clause-spliced : goal.returns-clause-spliced
+returns-clause-spliced g c =
+    if_ok c.inners.result (λ p s. split_spliced c.args.height c.args.height (length c.in_ok-children.children.items) (length c.args.nodes.now) _ _ p.0 p.1 refl (ap joined c.in_ok-children.ensures) s) c.inners.ensures.split

@@ -31,8 +31,8 @@ leaves-requires-clause-fits g c =
     let made : c.copy_onto-in-Leaf-Leaf.new.out.items ≡ xs ++ ys = appended c.in_ok-entries-in-Leaf-Leaf.entries.items c.copy_onto.new.out.items c.copy_onto-in-Leaf-Leaf.new.out.items c.deref-in-Leaf-Leaf.result.now c.deref-in-Leaf-Leaf-2.result.now xs ys c.in_ok-entries-in-Leaf-Leaf.ensures.items c.in_ok-copy_onto-in-Leaf-Leaf.ensures c.in_ok-copy_onto-in-Leaf-Leaf-2.ensures c.deref-in-Leaf-Leaf.ensures.value c.deref-in-Leaf-Leaf-2.ensures.value in
     rw (made, ← front, ← back) c.requires.fits
 
-pub returns-in_ok-copy_onto-in-Leaf-Leaf-2 : goal.returns-in_ok-copy_onto-in-Leaf-Leaf-2
-returns-in_ok-copy_onto-in-Leaf-Leaf-2 g c =
+pub returns-in_ok-copy_onto-in-Leaf-Leaf-2-clause-split : goal.returns-in_ok-copy_onto-in-Leaf-Leaf-2-clause-split
+returns-in_ok-copy_onto-in-Leaf-Leaf-2-clause-split g c =
     let s = c.args.self.now in
     let t = c.args.other.now in
     let xs = c.in-Leaf-Leaf.front.items in
@@ -45,7 +45,7 @@ returns-in_ok-copy_onto-in-Leaf-Leaf-2 g c =
     let low : s.height ≡ 0 = leaf_height s c.self.inside.node.value c.deref.result.now c.in-Leaf-Leaf.front c.self.view_is c.deref.ensures c.in-Leaf-Leaf.is-0 c.self.invariant.0 in
     let all : c.copy_onto-in-Leaf-Leaf.new.out.items ≡ s.items ++ t.items = rw (front, back) made in
     let enough : s.width + t.width ≤ length c.copy_onto-in-Leaf-Leaf.new.out.items = omega (arith, ap length made, length-append xs ys, wide.0, wide'.0) in
-    if_ok c.leaves.result (λ p q. split_as 0 s.height (length c.copy_onto-in-Leaf-Leaf.new.out.items) (s.width + t.width) _ _ p.0 p.1 (sym low) enough all q) c.leaves.ensures
+    if_ok c.leaves.result (λ p q. split_as 0 s.height (length c.copy_onto-in-Leaf-Leaf.new.out.items) (s.width + t.width) _ _ p.0 p.1 (sym low) enough all q) c.leaves.ensures.split
 
 pub inners-requires-clause-children : goal.inners-requires-clause-children
 inners-requires-clause-children g c =
@@ -105,8 +105,8 @@ inners-requires-clause-fits g c =
     let whole : joined c.share_onto-in-Inner-Inner.new.out.items ≡ s.items ++ t.items = rw (o.items, o'.items) (ap joined made ∙ joined-append ts us) in
     rw whole c.requires.fits
 
-pub returns-in_ok-share_onto-in-Inner-Inner-2 : goal.returns-in_ok-share_onto-in-Inner-Inner-2
-returns-in_ok-share_onto-in-Inner-Inner-2 g c =
+pub returns-in_ok-share_onto-in-Inner-Inner-2-clause-split : goal.returns-in_ok-share_onto-in-Inner-Inner-2-clause-split
+returns-in_ok-share_onto-in-Inner-Inner-2-clause-split g c =
     let s = c.args.self.now in
     let t = c.args.other.now in
     let ts = c.in-Inner-Inner.front.items in
@@ -117,4 +117,4 @@ returns-in_ok-share_onto-in-Inner-Inner-2 g c =
     let height : c.deref-in-Inner-Inner-3.result.now.height ≡ s.height = ap (λ (q : _). q.height) c.deref-in-Inner-Inner-3.ensures ∙ ap (λ (q : Seen _). q.height) c.self.view_is in
     let whole : joined c.share_onto-in-Inner-Inner.new.out.items ≡ s.items ++ t.items = rw (o.items, o'.items) (ap joined made ∙ joined-append ts us) in
     let enough : s.width + t.width ≤ length c.share_onto-in-Inner-Inner.new.out.items = omega (arith, ap length made, length-append ts us, o.width, o'.width) in
-    if_ok c.inners.result (λ p q. split_as c.deref-in-Inner-Inner-3.result.now.height s.height (length c.share_onto-in-Inner-Inner.new.out.items) (s.width + t.width) _ _ p.0 p.1 height enough whole q) c.inners.ensures
+    if_ok c.inners.result (λ p q. split_as c.deref-in-Inner-Inner-3.result.now.height s.height (length c.share_onto-in-Inner-Inner.new.out.items) (s.width + t.width) _ _ p.0 p.1 height enough whole q) c.inners.ensures.split

@@ -21,4 +21,4 @@ pub returns-in_default : goal.returns-in_default
 returns-in_default g c =
     let i = c.self.inside in
     let n = none_at g.D.Moves.moved g.D.Moves.fits g.T.Summary.Summary.empty g.T.Summary.Summary.op g.T.Item.sum_of i.tree.now.items (g.D.Plain.plain i.from) i.path.items i.halt.item (g.D.Plain.plain i.halt.start) (g.D.Plain.plain i.halt.end) i.index c.self.invariant.1 c.in_default.is in
-    rw (← c.self.view_is) (ap (placed i.tree.now.items i.from) n.0)
+    rw (← c.self.view_is) (ap (placed i.tree.now.items i.tree.now.height i.from) n.0)

@@ -35,7 +35,7 @@ returns-then-not-passed g c =
     let stops = λ (p : g.row.D-Value.Denot). g.G.Target.passes c.args.target.now p c.args.bias in
     let count = w.ensures.passed ∙ seek_passes g.D.Moves.moved g.T.Item.sum_of stops (g.D.Plain.plain i.halt.end) 0 i.path.items in
     let goes = seek_goes g.D.Moves.moved g.D.Moves.fits g.T.Summary.Summary.empty g.T.Summary.Summary.op g.T.Item.sum_of stops i.tree.now.items (g.D.Plain.plain i.from) i.path.items i.halt.item c.in-Some._item (g.D.Plain.plain i.halt.start) (g.D.Plain.plain i.halt.end) i.index w.result.passed c.self.invariant.1 c.in-Some.is (sym c.passed.ensures ∙ c.if-not-passed.true) count in
-    rw (← c.self.view_is) (ap (λ (n : ℕ). placed i.tree.now.items i.from (i.index + n)) goes)
+    rw (← c.self.view_is) (ap (λ (n : ℕ). placed i.tree.now.items i.tree.now.height i.from (i.index + n)) goes)
 
 pub returns-else-not-passed : goal.returns-else-not-passed
 returns-else-not-passed g c =
@@ -43,4 +43,4 @@ returns-else-not-passed g c =
     let stops = λ (p : g.row.D-Value.Denot). g.G.Target.passes c.args.target.now p c.args.bias in
     let stays = seek_stays g.D.Moves.moved g.D.Moves.fits g.T.Summary.Summary.empty g.T.Summary.Summary.op g.T.Item.sum_of stops i.tree.now.items (g.D.Plain.plain i.from) i.path.items i.halt.item c.in-Some._item (g.D.Plain.plain i.halt.start) (g.D.Plain.plain i.halt.end) i.index c.self.invariant.1 c.in-Some.is (sym c.passed.ensures ∙ c.if-not-passed.false) in
     let here : i.index ≡ i.index + seek_count g.D.Moves.moved g.T.Item.sum_of stops (place_behind g.D.Moves.moved g.T.Item.sum_of (g.D.Plain.plain i.from) (take i.index i.tree.now.items)) (drop i.index i.tree.now.items) = omega (arith, stays) in
-    rw (← c.self.view_is) (ap (placed i.tree.now.items i.from) here)
+    rw (← c.self.view_is) (ap (placed i.tree.now.items i.tree.now.height i.from) here)

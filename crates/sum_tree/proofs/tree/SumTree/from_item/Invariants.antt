@@ -1,0 +1,4 @@
+use Rattle.sum_tree.proofs.tree.SumTree.from_item.Given as goal
+
+abbrev pub ghosts-from_entries_with : goal.ghosts-from_entries_with
+ghosts-from_entries_with g a = record { name = a.blank.name; parts = a.blank.parts }
