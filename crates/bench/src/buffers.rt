@@ -1,11 +1,13 @@
 //! Buffers that are worked on, and edits of them.
-ghost use Rattle.std.specs.Prelude.{◌≤◌};
+ghost use Rattle.std.specs.Prelude.{◌≡◌, ◌<◌, ◌≤◌};
 
 use crate::chance::step;
 use crate::rope::text::{long, short};
 use op_model::{Operation, Piece, Text};
 use std::alloc::{AllocError, Global};
-use text_buffer::{Buffer, Limits};
+use std::marker::Brand;
+use std::sync::ledger::{Blank, Ledger};
+use text_buffer::{Buffer, Limits, Steps};
 
 const AMPLE: Limits = Limits {
     bytes: 1 << 40,
@@ -83,7 +85,21 @@ pub fn edit(
 }
 
 fn make(buffer: &mut Buffer, changes: &[Piece]) -> Result<Operation, AllocError> {
-    match buffer.edit(changes) {
+    make_with::<Brand>(buffer, changes, Blank::new(1))
+}
+
+// The same with a counter that is made of the blank.
+fn make_with<L: Ledger>(
+    buffer: &mut Buffer,
+    changes: &[Piece],
+    blank: Blank,
+) -> Result<Operation, AllocError>
+    requires name { blank.name ≡ L.name }
+    requires parts { blank.parts ≡ L.parts }
+    requires some { 0 < blank.parts }
+{
+    let mut steps = Steps::<L>::new(blank);
+    match buffer.edit(changes, &mut steps) {
         Ok(operation) => Ok(operation),
         Err(_) => Err(AllocError),
     }

@@ -1,5 +1,5 @@
 // Operations placed among fragments.
-ghost use Rattle.std.specs.Prelude.{◌≡◌, ◌++◌, ◌∷◌, [], map, IfOk};
+ghost use Rattle.std.specs.Prelude.{◌≡◌, ◌<◌, ◌++◌, ◌∷◌, [], map, IfOk};
 ghost use Rattle.op_model.specs.Histories.{History};
 ghost use Rattle.op_model.specs.declared.operation.UndoCount.{UndoCount as UndoCountType};
 ghost use Rattle.undo_map.specs.Undos.{undo_entries};
@@ -13,8 +13,10 @@ use op_model::{EditOp, Operation, Piece, UndoCount, UndoOp};
 use remote_edit::{Moves, mark_undo, place_local, place_remote};
 use std::alloc::{AllocError, Global};
 use std::io;
+use std::marker::Brand;
+use std::sync::ledger::{Blank, Ledger};
 use std::time::Instant;
-use sum_tree::SumTree;
+use sum_tree::{Steps, SumTree};
 use undo_map::UndoMap;
 
 // The most counts that are kept.
@@ -55,7 +57,8 @@ pub fn make_timed(
         version changes.now s.fragments.items s.index s.undos) }
 {
     let start = Instant::now(rt)?;
-    let standing = make(rt.alloc(), at, stamp, version, changes)?;
+    let blank = Blank::new(1);
+    let standing = make::<Brand>(rt.alloc(), at, stamp, version, changes, blank)?;
     with_time(rt, start, at.nanoseconds, standing)
 }
 
@@ -79,17 +82,23 @@ fn nanoseconds_since(rt: &HostRuntime, start: Instant) -> io::Result<u64> {
     Ok((start.elapsed(rt)?.as_nanos() % (1 << 60)) as u64)
 }
 
-fn make(
+// What stands with the edit that is made of changes. Its steps are counted by a counter that is made of the blank.
+fn make<L: Ledger>(
     alloc: Global,
     at: &Standing,
     stamp: Lamport,
     version: Version,
     changes: &[Piece],
+    blank: Blank,
 ) -> Result<Standing, AllocError>
-    requires { MayMake at.now.fragments.items at.now.index at.now.undos stamp version changes.now }
+    requires name { blank.name ≡ L.name }
+    requires parts { blank.parts ≡ L.parts }
+    requires some { 0 < blank.parts }
+    requires changes { MayMake at.now.fragments.items at.now.index at.now.undos stamp version changes.now }
     ensures { IfOk result (λ s. AreMade at.now.fragments.items at.now.index at.now.undos stamp
         version changes.now s.fragments.items s.index s.undos) }
 {
+    let mut steps = Steps::<L>::new(blank);
     let undos = at.undos.share()?;
     let (_, placed) = place_local(
         alloc,
@@ -99,6 +108,7 @@ fn make(
         stamp,
         version,
         changes,
+        &mut steps,
     )?;
     Ok(Standing {
         fragments: placed.fragments,

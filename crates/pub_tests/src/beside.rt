@@ -3,7 +3,7 @@ ghost use Rattle.std.specs.Prelude.{◌≡◌, ◌∷◌, [], List, OnOk};
 ghost use Rattle.op_model.specs.declared.operation.Operation.{Operation};
 ghost use Rattle.text_buffer.specs.Document.{IsFront};
 
-use crate::pairs::AMPLE;
+use crate::pairs::{AMPLE, edit};
 use snapshot_pub::{Publisher, SnapReader, open_pairs};
 use std::alloc::{AllocError, Global};
 use std::sync::Wait;
@@ -13,14 +13,6 @@ use text_buffer::{Buffer, EditFault, NewFault, Snapshot};
 // How many snapshots are published after the first.
 const COUNT: u64 = 100_000;
 
-// An edit without ranges, which changes nothing and counts as an operation.
-fn edit(buffer: &mut Buffer) -> Result<(), EditFault>
-    ensures { OnOk result (IsFront buffer.old.history buffer.new.history) }
-{
-    let _made = buffer.edit(&[])?;
-    Ok(())
-}
-
 fn publish<R: Wait>(rt: &R, publisher: &mut Publisher, buffer: &Buffer) -> Result<(), AllocError>
     requires { (first : List Operation) × (publisher.old.published ≡ first ∷ []) × IsFront first buffer.now.history }
     ensures { OnOk result (publisher.new.published ≡ buffer.now.history ∷ []) }
@@ -29,7 +21,7 @@ fn publish<R: Wait>(rt: &R, publisher: &mut Publisher, buffer: &Buffer) -> Resul
     publisher.publish(rt, 0, &snapshot)
 }
 
-// Publishes what the buffer is after each of so many edits.
+// Publishes what the buffer is after each of so many edits without ranges, which change nothing and count as operations.
 fn publish_all<R: Wait>(
     rt: &R,
     publisher: &mut Publisher,
@@ -38,7 +30,7 @@ fn publish_all<R: Wait>(
     requires { publisher.old.published ≡ buffer.old.history ∷ [] }
 {
     for _i in 0..COUNT {
-        edit(buffer)?;
+        edit(buffer, &[])?;
         publish(rt, publisher, buffer)?;
     }
     Ok(())

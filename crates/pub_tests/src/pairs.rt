@@ -1,5 +1,5 @@
 // What readers show of what is published, on one thread, with ample memory.
-ghost use Rattle.std.specs.Prelude.{◌≡◌, ◌∷◌, [], List, OnOk};
+ghost use Rattle.std.specs.Prelude.{◌≡◌, ◌<◌, ◌∷◌, [], List, OnOk};
 ghost use Rattle.logbook.specs.Pages.{Book};
 ghost use Rattle.op_model.specs.declared.operation.Operation.{Operation};
 ghost use Rattle.text_buffer.specs.Document.{IsFront};
@@ -7,8 +7,10 @@ ghost use Rattle.text_buffer.specs.Document.{IsFront};
 use op_model::{Limits, Piece, Text};
 use snapshot_pub::{Publisher, SnapReader, open_pairs};
 use std::alloc::{AllocError, Global};
+use std::marker::Brand;
 use std::sync::Wait;
-use text_buffer::{Buffer, EditFault, NewFault, Snapshot};
+use std::sync::ledger::{Blank, Ledger};
+use text_buffer::{Buffer, EditFault, NewFault, Snapshot, Steps};
 
 pub(crate) const AMPLE: Limits = Limits {
     bytes: 1 << 40,
@@ -25,7 +27,29 @@ fn insert(alloc: Global, buffer: &mut Buffer) -> Result<(), EditFault>
         end: 1,
         text,
     };
-    let _made = buffer.edit(&[piece])?;
+    edit(buffer, &[piece])
+}
+
+/// An edit whose steps nobody asks for.
+pub(crate) fn edit(buffer: &mut Buffer, changes: &[Piece]) -> Result<(), EditFault>
+    ensures { OnOk result (IsFront buffer.old.history buffer.new.history) }
+{
+    edit_with::<Brand>(buffer, changes, Blank::new(1))
+}
+
+// The same with a counter that is made of the blank.
+fn edit_with<L: Ledger>(
+    buffer: &mut Buffer,
+    changes: &[Piece],
+    blank: Blank,
+) -> Result<(), EditFault>
+    requires name { blank.name ≡ L.name }
+    requires parts { blank.parts ≡ L.parts }
+    requires some { 0 < blank.parts }
+    ensures { OnOk result (IsFront buffer.old.history buffer.new.history) }
+{
+    let mut steps = Steps::<L>::new(blank);
+    let _made = buffer.edit(changes, &mut steps)?;
     Ok(())
 }
 

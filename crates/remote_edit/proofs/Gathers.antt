@@ -156,6 +156,9 @@ room_of v pre rest f p h q e =
     let b = bytes_append pre rest in
     let c = h.1 in (omega arith, o.2, o.1)
 
+pub some_len : (pre rest : List Fragment) (f : Fragment) → Fit (pre ++ rest) → Some f ≡ head rest → 0 < f.len
+some_len pre rest f h e = (fit_one pre (tail rest) f (subst (λ (z : List Fragment). Fit (pre ++ z)) (headed rest f e) h)).0
+
 pub some_rest : (rest : List Fragment) (f : Fragment) → Some f ≡ head rest → rest ≡ [] → ⊥
 some_rest [] f e q = cc
 some_rest (x ∷ r) f e q = cc

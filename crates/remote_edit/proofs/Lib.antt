@@ -32,3 +32,7 @@ pub mod EditMoves
 pub mod EditTexts
 pub mod WholeFragments
 pub mod UndoCharacters
+pub mod Costs
+pub mod Taken
+pub mod Entered
+pub mod Budget

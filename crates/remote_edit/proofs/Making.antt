@@ -1,22 +1,43 @@
--- What a replica makes may be placed.
-use Rattle.std.proofs.Common.{◌≡◌, ◌≤◌, ◌^◌, List, [], map, refl, sym, ap, subst, ◌∙◌, arith}
+-- What a replica makes may be placed, and at what cost.
+use Rattle.std.proofs.Common.{◌≡◌, ℕ, ◌+◌, ◌*◌, ◌≤◌, ◌^◌, List, [], length, map, refl, sym, ap, subst, ◌∙◌, arith}
+use Rattle.std.proofs.Math.Nat.{le-mul_of_pos_right}
+use Rattle.std.proofs.lemmas.List.{length-map}
 use Rattle.lamport_clock.specs.declared.stamp.Lamport.{Lamport}
-use Rattle.lamport_clock.specs.Versions.{Entries}
+use Rattle.lamport_clock.specs.Versions.{Entries, sees}
 use Rattle.op_model.specs.declared.operation.Operation.{Operation}
 use Rattle.op_model.specs.declared.operation.Operation.TheVariants.{Edit}
 use Rattle.op_model.specs.declared.operation.Piece.{Piece}
-use Rattle.op_model.specs.Operations.{text_total}
+use Rattle.op_model.specs.Operations.{version_of, pieces_of, text_total}
+use Rattle.op_model.specs.Histories.{History, newest_first}
+use Rattle.op_model.specs.Cells.{seq_where}
+use Rattle.op_model.specs.Lawful.{Lawful}
+use Rattle.op_model.specs.Walked.{Ordered}
 use Rattle.op_model.specs.Answers.{answer}
 use Rattle.op_model.specs.Answers.Answer.{Good}
 use Rattle.op_model.specs.Made.{made, full_piece}
+use Rattle.op_model.proofs.Counted.{good_ordered}
 use Rattle.op_model.proofs.MainLaws.{edits_are_good}
 use Rattle.undo_map.specs.declared.entry.UndoEntry.{UndoEntry}
 use Rattle.fragments.specs.declared.fragment.Fragment.{Fragment}
 use Rattle.fragments.specs.declared.index_entry.IndexEntry.{IndexEntry}
+use Rattle.fragments.specs.Stand.{Tell, runs}
 use Rattle.remote_edit.specs.Walk.{bytes}
+use Rattle.remote_edit.specs.Offsets.{piece_in}
+use Rattle.remote_edit.specs.Costs.{touched, touched_behind, AllSeen}
 use Rattle.remote_edit.specs.Placing.{MayPlace, MayMake}
 use Rattle.remote_edit.proofs.Local.{made_is, same_total}
-use Rattle.remote_edit.proofs.Standing.{fit_start}
+use Rattle.remote_edit.proofs.Standing.{fit_start, all_seen}
+use Rattle.remote_edit.proofs.Budget.{ordered_up}
+use Rattle.remote_edit.proofs.Changing.{count_seen}
+use Rattle.remote_edit.proofs.FullIn.{pieces_are}
+use Rattle.remote_edit.proofs.Passing.{seen_within}
+
+-- the pieces of a good edit are in order
+in_order : (h : History) (op : Operation) (fs : List Fragment) → Lawful h → answer h [] op ≡ Good → Tell fs h → bytes fs ≤ 2 ^ 40 → Ordered 0 (2 ^ 40) (pieces_of op)
+in_order h op fs l g t b =
+    let n = count_seen h op (runs fs) l g t in
+    let w = seen_within (version_of op) fs in
+    ordered_up 0 (length (seq_where (sees (version_of op)) (newest_first h))) (2 ^ 40) (pieces_of op) (omega (arith, n, w, b)) (good_ordered h op g)
 
 module _ (fs : List Fragment) (w : List IndexEntry) (u : List UndoEntry) (t : Lamport) (v : Entries) (ps : List Piece) (m : MayMake fs w u t v ps) where
   pub may_place : (qs : List Piece) → qs ≡ map (full_piece m.history) ps → MayPlace fs w u (Edit (record { stamp = t; version = v; pieces = qs }))
@@ -35,3 +56,19 @@ module _ (fs : List Fragment) (w : List IndexEntry) (u : List UndoEntry) (t : La
 
   pub room_in : bytes fs ≤ 2 ^ 40
   room_in = (fit_start fs w u (Edit (record { stamp = t; version = v; pieces = map (full_piece m.history) ps })) (may_place (map (full_piece m.history) ps) refl)).0.1
+
+  -- the replica has seen all fragments
+  pub seen_in : AllSeen v fs
+  seen_in = subst (λ (x : Entries). AllSeen x fs) (sym m.sees) (all_seen m.history fs m.lawful m.stands.cells m.stands.filled)
+
+  pub ordered_in : (qs : List Piece) → qs ≡ map (full_piece m.history) ps → Ordered 0 (2 ^ 40) qs
+  ordered_in qs e = let p = may_place qs e in in_order p.history (Edit (record { stamp = t; version = v; pieces = qs })) fs p.lawful p.good p.stands.cells room_in
+
+  -- the steps of the pieces, by the changes
+  pub steps_in : (qs : List Piece) → qs ≡ map (full_piece m.history) ps → (old new h : ℕ) → new ≤ old + 256 * (length qs + touched_behind 0 qs fs) → new ≤ old + 256 * (length ps + touched fs ps + 1) * (h + 1)
+  steps_in qs e old new h l =
+      let i : qs ≡ map (piece_in fs) ps = e ∙ sym (pieces_are m.history fs m.stands.cells ps) in
+      let a : length qs ≡ length ps = ap length i ∙ length-map ps (piece_in fs) in
+      let b : touched_behind 0 qs fs ≡ touched fs ps = ap (λ (q : List Piece). touched_behind 0 q fs) i in
+      let k : 256 * (length ps + touched fs ps + 1) ≤ 256 * (length ps + touched fs ps + 1) * (h + 1) = le-mul_of_pos_right (256 * (length ps + touched fs ps + 1)) (omega arith) in
+      omega (arith, l, a, b, k)

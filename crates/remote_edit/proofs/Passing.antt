@@ -25,12 +25,12 @@ pub seen_append : (v : Entries) (a b : List Fragment) → seen_bytes v (a ++ b) 
 seen_append v [] b = omega arith
 seen_append v (f ∷ a) b = let ih = seen_append v a b in let x = seen_cons v f (a ++ b) in let y = seen_cons v f a in omega arith
 
+pub own_len : (v : Entries) (f : Fragment) → own v f ≤ f.len
+own_len v f = elim (cases_Bool (sees v f.stamp)) [ inl s ↦ rw s (omega arith) | inr s ↦ rw s (omega arith) ]
+
 pub seen_within : (v : Entries) (fs : List Fragment) → seen_bytes v fs ≤ bytes fs
 seen_within v [] = omega arith
 seen_within v (f ∷ fs) = let ih = seen_within v fs in let x = seen_cons v f fs in let y = own_len v f in omega arith
-  where
-    own_len : (v : Entries) (f : Fragment) → own v f ≤ f.len
-    own_len v f = elim (cases_Bool (sees v f.stamp)) [ inl s ↦ rw s (omega arith) | inr s ↦ rw s (omega arith) ]
 
 -- one fragment further
 pub seen_more : (v : Entries) (ys : List Fragment) (pre : List Fragment) (g : Fragment) (p n : ℕ) → ys ≡ pre ++ g ∷ [] → p ≡ seen_bytes v pre → own v g ≡ n → p + n ≡ seen_bytes v ys

@@ -1,6 +1,6 @@
 -- A seek by the cells that a version sees goes over whole fragments.
 use Rattle.std.proofs.Common.{◌≡◌, ℕ, suc, ◌+◌, ◌-◌, ◌<◌, ◌≤◌, ◌⊎◌, Bool, List, [], ◌∷◌, ◌++◌, length, take, drop, refl, sym, ap, ◌∙◌, arith, subst, cond, true, false, None, inl, inr, leb, take-append-drop, append_assoc}
-use Rattle.std.proofs.lemmas.Bool.{cases_Bool, lt-leb, leb-false, lt-ltb, and_from}
+use Rattle.std.proofs.lemmas.Bool.{cases_Bool, lt-leb, leb-true, leb-false, lt-ltb, and_from}
 use Rattle.std.proofs.lemmas.List.{append-nil, length-take-le, length-drop, drop-drop}
 use Rattle.std.proofs.Math.Seq.{take-add}
 use Rattle.lamport_clock.specs.declared.stamp.Lamport.{Lamport}
@@ -17,7 +17,8 @@ use Rattle.tree_cursor.specs.Place.{Place}
 use Rattle.remote_edit.specs.Walk.{seen_bytes, advance}
 use Rattle.remote_edit.specs.Steps.{IsSought}
 use Rattle.fragments.proofs.Counts.{own_cells, places_count_cells}
-use Rattle.remote_edit.proofs.Passing.{own, seen_cons, seen_append, adv_unseen, adv_whole}
+use Rattle.remote_edit.proofs.Passing.{own, own_len, seen_cons, seen_append, adv_unseen, adv_whole}
+use Rattle.remote_edit.proofs.Costs.{IsWithin}
 
 -- one fragment is added whole
 pub move_one : (v : Entries) (n : ℕ) (f : Fragment) → behind (v, n) (move_at (v, n) (summary_of f)) ≡ (v, n + own v f)
@@ -86,8 +87,26 @@ module _ (v : Entries) (goal : ℕ) where
         subst (Gone t n pre (f ∷ fs)) (sym q) (gone_more t n (sought (n + own v f) fs) pre fs f h l (gone t (n + own v f) (pre ++ f ∷ []) fs l)))
   ]
 
+  -- the goal is in the first, with n cells before it
+  abbrev pub IsIn : ℕ → List Fragment → Type 0
+  IsIn n [] = Unit {0}
+  IsIn n (f ∷ fs) = goal ≤ n + own v f
+
+  stop : (n : ℕ) (fs : List Fragment) → IsIn (n + seen_bytes v (take (sought n fs) fs)) (drop (sought n fs) fs)
+  stop n [] = tt
+  stop n (f ∷ fs) = elim (cases_Bool (leb goal (n + own v f))) [
+    | inl e ↦ (let l = leb-true goal (n + own v f) e in
+        let q : sought n (f ∷ fs) ≡ 0 = sought_cons n f fs ∙ ap (λ (c : Bool). cond c 0 (1 + sought (n + own v f) fs)) e in
+        let here : IsIn (n + seen_bytes v (take 0 (f ∷ fs))) (drop 0 (f ∷ fs)) = omega (arith, l) in
+        subst (λ (k : ℕ). IsIn (n + seen_bytes v (take k (f ∷ fs))) (drop k (f ∷ fs))) (sym q) here)
+    | inr e ↦ (let q : sought n (f ∷ fs) ≡ suc (sought (n + own v f) fs) = sought_cons n f fs ∙ ap (λ (c : Bool). cond c 0 (1 + sought (n + own v f) fs)) e ∙ omega arith in
+        let x = seen_cons v f (take (sought (n + own v f) fs) fs) in
+        let m : n + own v f + seen_bytes v (take (sought (n + own v f) fs) fs) ≡ n + seen_bytes v (f ∷ take (sought (n + own v f) fs) fs) = omega (arith, x) in
+        subst (λ (k : ℕ). IsIn (n + seen_bytes v (take k (f ∷ fs))) (drop k (f ∷ fs))) (sym q) (subst (λ (k : ℕ). IsIn k (drop (sought (n + own v f) fs) fs)) m (stop (n + own v f) fs)))
+  ]
+
   pub seek_gone : (t : Lamport) (xs : List Fragment) (n i place k : ℕ) → goal ≡ place + n → place ≡ seen_bytes v (take i xs) → i ≤ length xs → 0 < n → k ≡ sought 0 xs
-      → IsSought t v xs n i (goal - seen_bytes v (take k xs)) k (seen_bytes v (take k xs)) × (seen_bytes v (take k xs) ≤ goal)
+      → IsSought t v xs n i (goal - seen_bytes v (take k xs)) k (seen_bytes v (take k xs)) × ((seen_bytes v (take k xs) ≤ goal) × ((i ≤ k) × IsIn (seen_bytes v (take k xs)) (drop k xs)))
   seek_gone t xs n i place k g p l s e =
       let d : List Fragment = drop i xs in
       let z : 0 + seen_bytes v (take i xs) ≡ place = omega arith in
@@ -109,7 +128,7 @@ module _ (v : Entries) (goal : ℕ) where
           within = omega arith;
           place = refl;
         },
-        omega arith,
+        (omega arith, (omega (arith, is), subst (IsIn (seen_bytes v (take k xs))) (sym dk) (subst (λ (m : ℕ). IsIn m (drop j d)) (sym kk) (stop place d)))),
       )
 
 -- what a cursor's seek tells
@@ -118,7 +137,7 @@ pub found : (t : Lamport) (v : Entries) (xs : List Fragment) (n i place index : 
     → new ≡ record cur { index = cur.index + seek_count move_at summary_of (λ p. number_passes (place + n) p.1 Left) (place_behind move_at summary_of (cur.from.version.now, cur.from.bytes) (take cur.index cur.items)) (drop cur.index cur.items) }
     → index ≡ new.index → (got.version.now, got.bytes) ≡ place_behind move_at summary_of (new.from.version.now, new.from.bytes) (take new.index new.items)
     → place ≡ seen_bytes v (take i xs) → i ≤ length xs → 0 < n
-    → IsSought t v xs n i (place + n - got.bytes) index got.bytes × (got.bytes ≤ place + n)
+    → IsSought t v xs n i (place + n - got.bytes) index got.bytes × ((got.bytes ≤ place + n) × ((i ≤ index) × IsIn v (place + n) got.bytes (drop index xs)))
 found t v xs n i place index cur new start got ei ej ef ev eb em ek eg ep l h =
     let fv : cur.from.version.now ≡ v = ap (λ (f : FullAt). f.version.now) ef ∙ ev in
     let fb : cur.from.bytes ≡ 0 = ap (λ (f : FullAt). f.bytes) ef ∙ eb in
@@ -136,5 +155,10 @@ found t v xs n i place index cur new start got ei ej ef ev eb em ek eg ep l h =
     ∙ ap (λ (w : Entries). behind_of index xs w new.from.bytes) nv ∙ ap (behind_of index xs v) nb ∙ ap (λ (p : At). p.1) ((places_count_cells (take index xs) 0).2 v) ∙ omega arith in
     let s = seek_gone v (place + n) t xs n i place index refl ep l h k in (
       subst (λ (m : ℕ). IsSought t v xs n i (place + n - m) index m) (sym b) s.0,
-      subst (λ (m : ℕ). m ≤ place + n) (sym b) s.1,
+      (subst (λ (m : ℕ). m ≤ place + n) (sym b) s.1.0, (s.1.1.0, subst (λ (m : ℕ). IsIn v (place + n) m (drop index xs)) (sym b) s.1.1.1)),
     )
+
+-- so no more cells are left to pass than it has
+pub in_first : (v : Entries) (goal q k : ℕ) (fs : List Fragment) → IsIn v goal q fs → q + k ≡ goal → IsWithin k fs
+in_first v goal q k [] h e = tt
+in_first v goal q k (f ∷ fs) h e = let o = own_len v f in omega (arith, h, e, o)

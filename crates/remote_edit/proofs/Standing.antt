@@ -1,14 +1,14 @@
 -- What stands for a history in which an edit is good: there is room for the walk, and an index to begin with.
-use Rattle.std.proofs.Common.{◌≡◌, ℕ, zero, suc, ◌+◌, ◌<◌, ◌≤◌, ◌^◌, Bool, false, List, [], ◌∷◌, ◌++◌, length, map, refl, sym, ap, ◌∙◌, arith, subst, inl, inr}
+use Rattle.std.proofs.Common.{◌≡◌, ℕ, zero, suc, ◌+◌, ◌<◌, ◌≤◌, ◌^◌, Bool, true, false, List, [], ◌∷◌, ◌++◌, length, map, refl, sym, ap, ◌∙◌, arith, subst, inl, inr}
 use Rattle.std.proofs.lemmas.Bool.{cases_Bool}
 use Rattle.std.proofs.lemmas.List.{length-map, length-append}
 use Rattle.lamport_clock.specs.declared.stamp.Lamport.{Lamport}
 use Rattle.lamport_clock.specs.Stamps.{same_stamp}
-use Rattle.lamport_clock.specs.Versions.{sees}
+use Rattle.lamport_clock.specs.Versions.{Entries, sees}
 use Rattle.locators.specs.Locator.{least_digits}
 use Rattle.op_model.specs.declared.operation.Operation.{Operation}
 use Rattle.op_model.specs.Operations.{stamp_of, version_of, pieces_of, text_total}
-use Rattle.op_model.specs.Histories.{History, newest_first}
+use Rattle.op_model.specs.Histories.{History, version, newest_first}
 use Rattle.op_model.specs.Cells.{Cell, Place, seq, cells, everything}
 use Rattle.op_model.specs.Shown.{new_bytes, IsCell, full}
 use Rattle.op_model.specs.Answers.{answer}
@@ -20,6 +20,8 @@ use Rattle.op_model.specs.Walked.{facts_of}
 use Rattle.op_model.proofs.CellsOnce.{all_cells}
 use Rattle.op_model.proofs.PathOrder.{same_stamp_eq}
 use Rattle.op_model.proofs.OnePass.{not_self}
+use Rattle.op_model.proofs.Lawful.{each_of_in}
+use Rattle.op_model.proofs.VersionLaws.{sees_own}
 use Rattle.op_model.proofs.Good.{lawful_ready, checked_of, fits_of, full_length}
 use Rattle.undo_map.specs.declared.entry.UndoEntry.{UndoEntry}
 use Rattle.fragments.specs.declared.fragment.Fragment.{Fragment}
@@ -27,6 +29,7 @@ use Rattle.fragments.specs.declared.index_entry.IndexEntry.{IndexEntry}
 use Rattle.fragments.specs.Stand.{Stand, Tell, IsFilled, runs}
 use Rattle.fragments.proofs.Founds.{index_finds_fragments}
 use Rattle.remote_edit.specs.Walk.{bytes, Fit}
+use Rattle.remote_edit.specs.Costs.{AllSeen}
 use Rattle.remote_edit.specs.Indexes.{EndsBefore, IsIndexed}
 use Rattle.remote_edit.specs.Placing.{MayPlace}
 use Rattle.remote_edit.proofs.Indexing.{apart_start}
@@ -81,6 +84,27 @@ all_new h op l n (f ∷ fs) fl m = (
       absurd (omega arith)),
   all_new h op l n fs fl.1 (λ c k. m c (in_more c (alike f.stamp f.offset f.len f.visible f.deletions) (facts_of (runs fs)) k)),
 )
+
+-- ---- the version of a history sees all of it
+
+seen_cell : (v : Entries) (h : History) (t : Lamport) → Each (λ (o : Operation). sees v (stamp_of o) ≡ true) h → 0 < length (new_bytes h t) → sees v t ≡ true
+seen_cell v [] t e l = absurd (omega (arith, l))
+seen_cell v (o ∷ h) t e l = elim (cases_Bool (same_stamp (stamp_of o) t)) [
+  | inl q ↦ subst (λ (u : Lamport). sees v u ≡ true) (same_stamp_eq (stamp_of o) t q) e.0
+  | inr q ↦ seen_cell v h t e.1 (rw q at l)
+]
+
+seen_each : (v : Entries) (h : History) → Each (λ (o : Operation). sees v (stamp_of o) ≡ true) h → (fs : List Fragment) → Each IsFilled fs
+    → ((c : Cell) → Member c (map (λ (q : Fact). q.cell) (facts_of (runs fs))) → IsCell h c) → AllSeen v fs
+seen_each v h e [] fl m = tt
+seen_each v h e (f ∷ fs) fl m = (
+  (let c = m (cell_at f.stamp f.offset) (cell_in f.len f.stamp f.offset f.visible f.deletions (facts_of (runs fs)) fl.0.0) in seen_cell v h f.stamp e (omega (arith, c))),
+  seen_each v h e fs fl.1 (λ c k. m c (in_more c (alike f.stamp f.offset f.len f.visible f.deletions) (facts_of (runs fs)) k)),
+)
+
+pub all_seen : (h : History) (fs : List Fragment) → Lawful h → Tell fs h → Each IsFilled fs → AllSeen (version h) fs
+all_seen h fs l t fl = seen_each (version h) h (each_of_in (λ (o : Operation). sees (version h) (stamp_of o) ≡ true) h (sees_own h)) fs fl
+    (λ c m. (all_cells h (lawful_ready h l).0.distinct c).0 (subst (Member c) (ap (map (λ (q : Fact). q.cell)) t ∙ told_cells h (cells (seq h))) m))
 
 -- ---- before the walk
 

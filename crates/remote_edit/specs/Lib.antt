@@ -14,3 +14,4 @@ pub mod Steps
 pub mod Gathers
 pub mod Indexes
 pub mod Placing
+pub mod Costs

@@ -1,5 +1,5 @@
 // What a piece of an edit makes of a range of a tree.
-ghost use Rattle.std.specs.Prelude.{◌≡◌, ℕ, ◌+◌, ◌-◌, ◌<◌, ◌≤◌, ◌^◌, ◌++◌, ◌∷◌, ◌&&◌, not, false, [], length, take, None, IfOk};
+ghost use Rattle.std.specs.Prelude.{◌≡◌, ℕ, ◌+◌, ◌-◌, ◌<◌, ◌≤◌, ◌^◌, ◌++◌, ◌∷◌, ◌&&◌, not, false, [], length, take, Some, None, IfOk};
 ghost use Rattle.std.specs.Option.{option_copied};
 ghost use Rattle.lamport_clock.specs.Versions.{sees};
 ghost use Rattle.lamport_clock.specs.Stamps.{later};
@@ -9,8 +9,9 @@ ghost use Rattle.fragments.specs.Stand.{entry_of};
 ghost use Rattle.remote_edit.specs.Indexes.{IsIndexed};
 ghost use Rattle.remote_edit.specs.Walk.{bytes, seen_bytes, Fit, last_id, next_id, new_fragment, front, back, advance, skip_later, put_new};
 ghost use Rattle.remote_edit.specs.Marks.{touch};
-ghost use Rattle.remote_edit.specs.Steps.{later_first, head, tail, IsOnWay, IsAt};
+ghost use Rattle.remote_edit.specs.Steps.{left_over, later_first, head, tail, IsOnWay, IsAt};
 ghost use Rattle.remote_edit.specs.Gathers.{so_far, ahead};
+ghost use Rattle.remote_edit.specs.Costs.{AllSeen, IsFew};
 
 use crate::mark::touch;
 use crate::parts::{back, front, new_fragment};
@@ -79,6 +80,8 @@ impl Gather {
         ensures order { self.old.at ≤ self.new.at }
         ensures place { self.new.place ≡ self.old.place }
         ensures none { IfOk result (λ _. self.new.back ≡ None) }
+        ensures count { IfOk result (λ _. self.new.at + length (left_over self.old.back)
+            ≡ self.old.at + 1) }
         ensures number { self.new.number ≡ self.old.number }
         ensures index { self.new.index ≡ self.old.index }
     {
@@ -113,6 +116,8 @@ impl Gather {
         ensures passed { IfOk result (λ n. IsOnWay (option_copied marks.entry) edit.now.stamp edit.now.version
             left (so_far tree.now.items self.old) (ahead tree.now.items self.old)
             n (so_far tree.now.items self.new) (ahead tree.now.items self.new) self.new.place) }
+        ensures few { AllSeen edit.now.version (ahead tree.now.items self.old)
+            → IfOk result (λ n. IsFew edit.now.version tree.now.items self.old left self.new n) }
         ensures number { self.new.number ≡ self.old.number }
         ensures indexed { IfOk result (λ _. IsIndexed edit.now.stamp self.new.number
             (so_far tree.now.items self.new ++ ahead tree.now.items self.new) self.new.index) }
@@ -177,6 +182,9 @@ impl Gather {
             ++ touch (option_copied marks.entry) edit.now.stamp edit.now.version lower.now ∷ []) }
         ensures rest { IfOk result (λ _. ahead tree.now.items self.new
             ≡ upper ∷ tail (ahead tree.now.items self.old)) }
+        ensures back { IfOk result (λ _. self.new.back ≡ Some upper) }
+        ensures count { IfOk result (λ _. self.new.at + length (left_over self.old.back)
+            ≡ self.old.at + 1) }
         ensures from { self.new.from ≡ self.old.from }
         ensures order { self.old.at ≤ self.new.at }
         ensures place { self.new.place ≡ self.old.place }
@@ -213,6 +221,8 @@ impl Gather {
             (advance (option_copied marks.entry) edit.now.stamp edit.now.version count (so_far tree.now.items self.old) (ahead tree.now.items self.old))
             (bytes (so_far tree.now.items self.old ++ ahead tree.now.items self.old))
             (so_far tree.now.items self.new) (ahead tree.now.items self.new) self.new.place) }
+        ensures few { AllSeen edit.now.version (ahead tree.now.items self.old)
+            → IfOk result (λ _. IsFew edit.now.version tree.now.items self.old count self.new 0) }
         ensures number { self.new.number ≡ self.old.number }
         ensures indexed { IfOk result (λ _. IsIndexed edit.now.stamp self.new.number
             (so_far tree.now.items self.new ++ ahead tree.now.items self.new) self.new.index) }
@@ -273,6 +283,8 @@ impl Gather {
             (skip_later edit.now.stamp edit.now.version (so_far tree.now.items self.old) (ahead tree.now.items self.old))
             (bytes (so_far tree.now.items self.old ++ ahead tree.now.items self.old))
             (so_far tree.now.items self.new) (ahead tree.now.items self.new) self.new.place) }
+        ensures none { AllSeen edit.now.version (ahead tree.now.items self.old)
+            → IfOk result (λ _. (self.new.at ≡ self.old.at) × (self.new.back ≡ self.old.back)) }
         ensures number { self.new.number ≡ self.old.number }
         ensures indexed { IfOk result (λ _. IsIndexed edit.now.stamp self.new.number
             (so_far tree.now.items self.new ++ ahead tree.now.items self.new) self.new.index) }
@@ -303,6 +315,8 @@ impl Gather {
             (so_far tree.now.items self.old ++ ahead tree.now.items self.old) self.old.index }
         ensures from { self.new.from ≡ self.old.from }
         ensures order { self.old.at ≤ self.new.at }
+        ensures at { self.new.at ≡ self.old.at }
+        ensures back { self.new.back ≡ self.old.back }
         ensures gathered { IfOk result (λ _. IsAt edit.now.version
             (put_new edit.now.stamp self.old.number n (so_far tree.now.items self.old) (ahead tree.now.items self.old))
             (bytes (so_far tree.now.items self.old ++ ahead tree.now.items self.old) + n)

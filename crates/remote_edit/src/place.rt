@@ -1,7 +1,9 @@
 // Edits placed among fragments.
-ghost use Rattle.std.specs.Prelude.{IfOk};
+ghost use Rattle.std.specs.Prelude.{◌≡◌, ◌+◌, ◌*◌, ◌<◌, ◌≤◌, ◌^◌, length, IfOk};
+ghost use Rattle.op_model.specs.Walked.{Ordered};
 ghost use Rattle.op_model.specs.declared.operation.Operation.TheVariants.{Edit};
 ghost use Rattle.remote_edit.specs.Placing.{MayPlace, ArePlaced, MoveWithEdit, KeepCharactersWithEdit, MayMake, IsMade};
+ghost use Rattle.remote_edit.specs.Costs.{touched, touched_behind, AllSeen};
 
 use crate::Placed;
 use crate::edit_moves::edit_moves;
@@ -11,7 +13,9 @@ use fragments::{Fragment, InsertionIndex};
 use lamport_clock::{Lamport, Version};
 use op_model::{EditOp, Piece};
 use std::alloc::{AllocError, Global};
-use sum_tree::SumTree;
+use std::marker::Brand;
+use std::sync::ledger::{Blank, Ledger};
+use sum_tree::{Steps, SumTree};
 use undo_map::UndoMap;
 
 /// The fragments and the index with an edit, where these and the undo counts stand for a lawful history in which it is good, and
@@ -37,7 +41,55 @@ pub fn place_remote(
     ensures characters { IfOk result (λ p. KeepCharactersWithEdit tree.now.items index.now
         undos.now (Edit op.now) p.fragments.items p.moves) }
 {
-    let walk = walk_in(alloc, tree, index, undos, op)?;
+    place_with::<Brand>(alloc, tree, index, undos, op, Blank::new(1))
+}
+
+// The same with a counter that is made of the blank.
+fn place_with<L: Ledger>(
+    alloc: Global,
+    tree: &SumTree<Fragment>,
+    index: &InsertionIndex,
+    undos: &UndoMap,
+    op: &EditOp,
+    blank: Blank,
+) -> Result<Placed, AllocError>
+    requires name { blank.name ≡ L.name }
+    requires parts { blank.parts ≡ L.parts }
+    requires some { 0 < blank.parts }
+    requires may { MayPlace tree.now.items index.now undos.now (Edit op.now) }
+    ensures stands { IfOk result (λ p. ArePlaced tree.now.items index.now undos.now
+        (Edit op.now) p.fragments.items p.index) }
+    ensures moves { IfOk result (λ p. MoveWithEdit tree.now.items index.now undos.now
+        (Edit op.now) p.moves) }
+    ensures characters { IfOk result (λ p. KeepCharactersWithEdit tree.now.items index.now
+        undos.now (Edit op.now) p.fragments.items p.moves) }
+{
+    let mut steps = Steps::<L>::new(blank);
+    place_counted(alloc, tree, index, undos, op, &mut steps)
+}
+
+// What `place_remote` does, with a step for each node of the tree that is made. Where the edit has seen all fragments, these are at
+// most 256 for each piece and for each fragment that the ranges touch.
+fn place_counted<L: Ledger>(
+    alloc: Global,
+    tree: &SumTree<Fragment>,
+    index: &InsertionIndex,
+    undos: &UndoMap,
+    op: &EditOp,
+    steps: &mut Steps<L>,
+) -> Result<Placed, AllocError>
+    requires { MayPlace tree.now.items index.now undos.now (Edit op.now) }
+    ensures stands { IfOk result (λ p. ArePlaced tree.now.items index.now undos.now
+        (Edit op.now) p.fragments.items p.index) }
+    ensures moves { IfOk result (λ p. MoveWithEdit tree.now.items index.now undos.now
+        (Edit op.now) p.moves) }
+    ensures characters { IfOk result (λ p. KeepCharactersWithEdit tree.now.items index.now
+        undos.now (Edit op.now) p.fragments.items p.moves) }
+    ensures cost { AllSeen op.now.version tree.now.items → Ordered 0 (2 ^ 40) op.now.pieces
+        → steps.new ≤ steps.old + 256 * (length op.now.pieces
+        + touched_behind 0 op.now.pieces tree.now.items) }
+{
+    let walk = walk_in(alloc, tree, index, undos, op, steps)?;
     let moves = edit_moves(alloc, &walk.tree, undos, op)?;
     Ok(Placed {
         fragments: walk.tree,
@@ -49,8 +101,9 @@ pub fn place_remote(
 /// The edit that a replica makes of changes of its text, and the fragments and the index with it. The ranges of the changes count
 /// the bytes of the text; the stamp and the version are those of what the replica makes, and the changes meet no fault.
 ///
-/// Two descents a change find the ranges among all bytes; then it is placed as a remote one. The texts are copied.
-pub fn place_local(
+/// Two descents a change find the ranges among all bytes; then it is placed as a remote one. The texts are copied. A step is one node
+/// of the tree that is made, on want of memory too.
+pub fn place_local<L: Ledger>(
     alloc: Global,
     tree: &SumTree<Fragment>,
     index: &InsertionIndex,
@@ -58,6 +111,7 @@ pub fn place_local(
     stamp: Lamport,
     version: Version,
     changes: &[Piece],
+    steps: &mut Steps<L>,
 ) -> Result<(EditOp, Placed), AllocError>
     requires { MayMake tree.now.items index.now undos.now stamp version changes.now }
     ensures made { IfOk result (λ r. IsMade tree.now.items index.now undos.now stamp version
@@ -68,6 +122,8 @@ pub fn place_local(
         (Edit r.0) r.1.moves) }
     ensures characters { IfOk result (λ r. KeepCharactersWithEdit tree.now.items index.now
         undos.now (Edit r.0) r.1.fragments.items r.1.moves) }
+    ensures cost { steps.new ≤ steps.old + 256 * (length changes.now
+        + touched tree.now.items changes.now + 1) * (tree.now.height + 1) }
 {
     let pieces = full_pieces(alloc, tree, changes)?;
     let op = EditOp {
@@ -75,6 +131,6 @@ pub fn place_local(
         version,
         pieces,
     };
-    let placed = place_remote(alloc, tree, index, undos, &op)?;
+    let placed = place_counted(alloc, tree, index, undos, &op, steps)?;
     Ok((op, placed))
 }

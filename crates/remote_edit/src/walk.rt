@@ -1,18 +1,21 @@
 // One walk over a tree of fragments, from the first piece of an edit to the last.
-ghost use Rattle.std.specs.Prelude.{◌≡◌, ℕ, ◌+◌, ◌-◌, ◌<◌, ◌≤◌, ◌^◌, ◌++◌, false, [], length, take, drop, IfOk};
+ghost use Rattle.std.specs.Prelude.{◌≡◌, ℕ, ◌+◌, ◌-◌, ◌*◌, ◌<◌, ◌≤◌, ◌^◌, ◌++◌, false, [], length, take, drop, max, IfOk};
 ghost use Rattle.lamport_clock.specs.Versions.{sees};
 ghost use Rattle.op_model.specs.Operations.{text_total};
+ghost use Rattle.op_model.specs.Walked.{Ordered};
 ghost use Rattle.sum_tree.specs.Spliced.{spliced};
 ghost use Rattle.remote_edit.specs.Indexes.{IsIndexed};
 ghost use Rattle.remote_edit.specs.Walk.{bytes, seen_bytes, Fit, one_piece, changes, walk};
-ghost use Rattle.remote_edit.specs.Steps.{before, after, IsSought, IsAt};
+ghost use Rattle.remote_edit.specs.Steps.{left_over, before, after, IsSought, IsAt};
 ghost use Rattle.remote_edit.specs.Gathers.{so_far, ahead};
+ghost use Rattle.remote_edit.specs.Costs.{AllSeen, starts, touched_behind, IsLeft, MakeFew};
 
 use crate::gather::Gather;
 use fragments::{Fragment, Full, FullAt, InsertionIndex};
 use op_model::{EditOp, Piece};
 use std::alloc::{AllocError, Global};
-use sum_tree::SumTree;
+use std::sync::ledger::Ledger;
+use sum_tree::{Steps, SumTree};
 use tree_cursor::{Bias, Cursor};
 use undo_map::UndoMap;
 
@@ -43,6 +46,10 @@ impl Walk {
         ensures index { self.new.index ≡ self.old.index }
         ensures sought { IfOk result (λ n. IsSought edit.now.stamp edit.now.version
             self.old.tree.items count self.old.at n self.new.at self.new.place) }
+        ensures left { AllSeen edit.now.version (drop self.old.at self.old.tree.items)
+            → count ≤ 2 ^ 40
+            → IfOk result (λ n. IsLeft edit.now.version count (drop self.old.at self.old.tree.items)
+            n (drop self.new.at self.old.tree.items)) }
     {
         if count == 0 || count > MOST_CELLS {
             return Ok(count);
@@ -88,6 +95,10 @@ impl Walk {
             (one_piece undos.now edit.now.stamp edit.now.version left self.now.number piece.now (take self.now.at self.now.tree.items) (drop self.now.at self.now.tree.items))
             (bytes self.now.tree.items + length piece.now.text)
             (so_far self.now.tree.items g) (ahead self.now.tree.items g) g.place) }
+        ensures few { AllSeen edit.now.version (drop self.now.at self.now.tree.items)
+            → IfOk result (λ g. g.at ≤ self.now.at
+            + starts 0 (left + (piece.now.end - piece.now.start))
+            (drop self.now.at self.now.tree.items)) }
         ensures number { IfOk result (λ g. g.number ≡ self.now.number + length piece.now.text) }
         ensures indexed { IfOk result (λ g. IsIndexed edit.now.stamp g.number
             (so_far self.now.tree.items g ++ ahead self.now.tree.items g) g.index) }
@@ -111,7 +122,12 @@ impl Walk {
     }
 
     // Puts what was gathered in the place of its range.
-    fn change(&mut self, alloc: Global, gather: Gather) -> Result<(), AllocError>
+    fn change<L: Ledger>(
+        &mut self,
+        alloc: Global,
+        gather: Gather,
+        steps: &mut Steps<L>,
+    ) -> Result<(), AllocError>
         requires order { gather.from ≤ gather.at }
         requires within { gather.from ≤ length self.old.tree.items }
         requires fit { Fit (so_far self.old.tree.items gather ++ ahead self.old.tree.items gather) }
@@ -123,6 +139,8 @@ impl Walk {
         ensures place { IfOk result (λ _. self.new.place ≡ gather.place) }
         ensures number { IfOk result (λ _. self.new.number ≡ gather.number) }
         ensures index { IfOk result (λ _. self.new.index ≡ gather.index) }
+        ensures cost { MakeFew steps.old steps.new gather.from gather.at
+            (length gather.made.items + length (left_over gather.back)) }
     {
         self.index = gather.index.share()?;
         self.number = gather.number;
@@ -134,19 +152,21 @@ impl Walk {
             gather.at,
             gather.made,
             gather.back,
+            steps,
         )?;
         self.at = at;
         Ok(())
     }
 
     // Over one piece, whose range begins `count` cells that the edit's version sees behind this place.
-    fn piece(
+    fn piece<L: Ledger>(
         &mut self,
         alloc: Global,
         undos: &UndoMap,
         edit: &EditOp,
         count: u64,
         piece: &Piece,
+        steps: &mut Steps<L>,
     ) -> Result<(), AllocError>
         requires unseen { sees edit.now.version edit.now.stamp ≡ false }
         requires within { self.old.at ≤ length self.old.tree.items }
@@ -166,18 +186,23 @@ impl Walk {
             ≡ self.old.number + length piece.now.text) }
         ensures indexed { IfOk result (λ _. IsIndexed edit.now.stamp self.new.number
             self.new.tree.items self.new.index) }
+        ensures cost { AllSeen edit.now.version (drop self.old.at self.old.tree.items)
+            → count ≤ 2 ^ 40 → steps.new ≤ steps.old + 256 * (1
+            + starts (max 1 count) (count + (piece.now.end - piece.now.start))
+            (drop self.old.at self.old.tree.items)) }
     {
         let left = self.seek(edit, count)?;
         let gather = self.gather(alloc, undos, edit, left, piece)?;
-        self.change(alloc, gather)
+        self.change(alloc, gather, steps)
     }
 
     // Over all pieces of the edit, from the beginning.
-    fn pass_pieces(
+    fn pass_pieces<L: Ledger>(
         &mut self,
         alloc: Global,
         undos: &UndoMap,
         edit: &EditOp,
+        steps: &mut Steps<L>,
     ) -> Result<(), AllocError>
         requires start { self.old.at ≡ 0 }
         requires place { self.old.place ≡ 0 }
@@ -192,12 +217,16 @@ impl Walk {
         ensures fit { IfOk result (λ _. Fit self.new.tree.items) }
         ensures indexed { IfOk result (λ _. IsIndexed edit.now.stamp self.new.number
             self.new.tree.items self.new.index) }
+        ensures cost { AllSeen edit.now.version self.old.tree.items
+            → Ordered 0 (2 ^ 40) edit.now.pieces
+            → steps.new ≤ steps.old + 256 * (length edit.now.pieces
+            + touched_behind 0 edit.now.pieces self.old.tree.items) }
     {
         let mut place = 0;
         for piece in edit.pieces.as_slice() {
             if changes(piece) {
                 let count = piece.start.saturating_sub(place);
-                self.piece(alloc, undos, edit, count, piece)?;
+                self.piece(alloc, undos, edit, count, piece, steps)?;
                 place = piece.end;
             }
         }
@@ -207,13 +236,14 @@ impl Walk {
 
 // Puts fragments, and what is left of one, in the place of those from `from` up to `at`. Answers how many are before what is
 // left.
-fn put_back(
+fn put_back<L: Ledger>(
     tree: &mut SumTree<Fragment>,
     alloc: Global,
     from: u64,
     at: u64,
     made: Vec<Fragment>,
     back: Option<Fragment>,
+    steps: &mut Steps<L>,
 ) -> Result<u64, AllocError>
     requires order { from ≤ at }
     requires within { from ≤ length tree.old.items }
@@ -222,6 +252,8 @@ fn put_back(
         ≡ before tree.old.items from made.items) }
     ensures after { IfOk result (λ n. drop n tree.new.items ≡ after tree.old.items at back) }
     ensures within { IfOk result (λ n. n ≤ length tree.new.items) }
+    ensures cost { MakeFew steps.old steps.new from at
+        (length made.items + length (left_over back)) }
 {
     tree.known();
     let mut all = made;
@@ -230,26 +262,28 @@ fn put_back(
         all.push(rest)?;
     }
     let to = at.min(tree.len());
-    put(tree, alloc, from, to, all)?;
+    put(tree, alloc, from, to, all, steps)?;
     Ok(from + count)
 }
 
-// Puts fragments in the place of a range. No node of the tree is made elsewhere: with height h, at most 3 * (h + 1) + 1 where
-// the range lies in one leaf and at most 12 fragments come, and else those of the parts before and after the range and of
-// the new fragments, put together.
-fn put(
+// Puts fragments in the place of a range, with a step for each node made. An edit makes no node of the tree elsewhere.
+fn put<L: Ledger>(
     tree: &mut SumTree<Fragment>,
     alloc: Global,
     from: u64,
     to: u64,
     fragments: Vec<Fragment>,
+    steps: &mut Steps<L>,
 ) -> Result<(), AllocError>
     requires order { from ≤ to }
     requires within { to ≤ length tree.old.items }
     requires fit { Fit (spliced from to fragments.items tree.old.items) }
-    ensures { IfOk result (λ _. tree.new.items ≡ spliced from to fragments.items tree.old.items) }
+    ensures items { IfOk result (λ _. tree.new.items
+        ≡ spliced from to fragments.items tree.old.items) }
+    ensures cost { MakeFew steps.old steps.new from to (length fragments.items) }
 {
-    tree.splice(alloc, from, to, fragments)?;
+    tree.known();
+    tree.splice_counted(alloc, from, to, fragments, steps)?;
     Ok(())
 }
 
@@ -260,13 +294,15 @@ fn changes(piece: &Piece) -> bool
     piece.start < piece.end || !piece.text.as_str().is_empty()
 }
 
-// The walk over all pieces of an edit.
-pub fn walk_in(
+// The walk over all pieces of an edit, with a step for each node made. Where the edit has seen all fragments, these are at most 256
+// for each piece and for each fragment that the ranges touch.
+pub fn walk_in<L: Ledger>(
     alloc: Global,
     tree: &SumTree<Fragment>,
     index: &InsertionIndex,
     undos: &UndoMap,
     edit: &EditOp,
+    steps: &mut Steps<L>,
 ) -> Result<Walk, AllocError>
     requires fit { Fit tree.now.items }
     requires unseen { sees edit.now.version edit.now.stamp ≡ false }
@@ -276,6 +312,10 @@ pub fn walk_in(
         ≡ walk undos.now edit.now.stamp edit.now.version 0 0 edit.now.pieces [] tree.now.items) }
     ensures fit { IfOk result (λ w. Fit w.tree.items) }
     ensures indexed { IfOk result (λ w. IsIndexed edit.now.stamp w.number w.tree.items w.index) }
+    ensures cost { AllSeen edit.now.version tree.now.items
+        → Ordered 0 (2 ^ 40) edit.now.pieces
+        → steps.new ≤ steps.old + 256 * (length edit.now.pieces
+        + touched_behind 0 edit.now.pieces tree.now.items) }
 {
     let mut state = Walk {
         tree: tree.share()?,
@@ -284,6 +324,6 @@ pub fn walk_in(
         number: 0,
         index: index.share()?,
     };
-    state.pass_pieces(alloc, undos, edit)?;
+    state.pass_pieces(alloc, undos, edit, steps)?;
     Ok(state)
 }

@@ -1,5 +1,5 @@
 // A replica of a session: its buffer, and what it reports.
-ghost use Rattle.std.specs.Prelude.{◌≡◌, ◌≤◌, ◌+◌, ◌^◌, ◌++◌, ◌==◌, [], ◌∷◌, length, map, is_none, Some, None, IfOk, OnOk};
+ghost use Rattle.std.specs.Prelude.{◌≡◌, ◌<◌, ◌≤◌, ◌+◌, ◌^◌, ◌⊎◌, ◌++◌, ◌==◌, [], ◌∷◌, length, map, is_none, Some, None, IfOk, IfErr, OnOk, OnErr};
 ghost use Rattle.std.specs.Option.{option_copied};
 ghost use Rattle.std.specs.Result.{result_ok};
 ghost use Rattle.op_model.specs.Operations.{stamp_of};
@@ -7,16 +7,17 @@ ghost use Rattle.op_model.specs.Shown.{text};
 ghost use Rattle.session_lines.specs.Cut.{feeds};
 ghost use Rattle.session_lines.specs.Report.{line_text, report_text, with_text};
 ghost use Rattle.session_lines.specs.declared.report.Report.{Report};
-ghost use Rattle.text_buffer.specs.Buffer.{settled};
+ghost use Rattle.text_buffer.specs.Buffer.{edit_fault, edited, made, settled};
 ghost use Rattle.text_buffer.specs.Outcomes.{pair_of};
 ghost use Rattle.session_replay.specs.Work.{after_give, after_outcome, at_end, counts_report, edit_outcome, first_unnamed, give_answer, operation_of, opened, outcome_reports, refused_report, settled_reports, stamps_under, text_report, undo_outcome};
 
 use lamport_clock::Lamport;
-use op_model::{EditFault, Limits, OpFault, Operation, Pieces, Text, UndoFault};
+use op_model::{EditFault, Limits, OpFault, Operation, Piece, Pieces, Text, UndoFault};
 use session_lines::{Given, Report, TextHead, write_line, write_text};
 use std::alloc::{AllocError, Global};
-use std::marker::Model;
-use text_buffer::{Base, Buffer, Refused, Snapshot, Took};
+use std::marker::{Brand, Model};
+use std::sync::ledger::{Blank, Ledger};
+use text_buffer::{Base, Buffer, Refused, Snapshot, Steps, Took};
 
 /// The limits of a session's buffers.
 const LIMITS: Limits = Limits {
@@ -80,7 +81,7 @@ impl Replica {
         ensures id { self.new.replica ≡ self.old.replica }
         ensures made { IfOk result (λ o. o ≡ result_ok (edit_outcome number pieces.now self.old)) }
     {
-        match self.buffer.edit(pieces.as_slice()) {
+        match edit_with::<Brand>(&mut self.buffer, pieces.as_slice(), Blank::new(1)) {
             Ok(operation) => self.made(alloc, number, operation, out),
             Err(EditFault::OutOfMemory) => Err(AllocError),
             Err(fault) => refused(alloc, &Report::EditRefused { number, fault }, out),
@@ -262,6 +263,26 @@ impl Replica {
         self.write_text(alloc, TextHead::Final { replica }, out)?;
         Ok(())
     }
+}
+
+// What `edit` of a buffer does, with a counter that is made of the blank.
+fn edit_with<L: Ledger>(
+    buffer: &mut Buffer,
+    changes: &[Piece],
+    blank: Blank,
+) -> Result<Operation, EditFault>
+    requires name { blank.name ≡ L.name }
+    requires parts { blank.parts ≡ L.parts }
+    requires some { 0 < blank.parts }
+    ensures ok { OnOk result (edit_fault buffer.old changes.now ≡ None) }
+    ensures made { IfOk result (λ op. op ≡ made buffer.old changes.now) }
+    ensures new { OnOk result (buffer.new ≡ edited buffer.old changes.now) }
+    ensures fault { IfErr result (λ e. (edit_fault buffer.old changes.now ≡ Some e)
+        ⊎ ((edit_fault buffer.old changes.now ≡ None) × (e ≡ EditFault.OutOfMemory))) }
+    ensures err { OnErr result (buffer.new ≡ buffer.old) }
+{
+    let mut steps = Steps::<L>::new(blank);
+    buffer.edit(changes, &mut steps)
 }
 
 // Reports what refuses an operation line, which then makes no operation.

@@ -16,3 +16,4 @@ pub mod OnWay
 pub mod Partly
 pub mod Standing
 pub mod Alike
+pub mod Costs

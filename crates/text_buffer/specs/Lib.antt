@@ -1,6 +1,7 @@
 pub mod Outcomes
 pub mod Buffer
 pub mod Document
+pub mod Costs
 pub mod Told
 pub mod Fields
 pub mod Settling

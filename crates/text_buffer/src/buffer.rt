@@ -12,6 +12,7 @@ ghost use Rattle.op_model.specs.Steps.Step.{Edits};
 ghost use Rattle.op_model.specs.Shown.{text};
 ghost use Rattle.text_dims.specs.Summaries.{summary_of};
 ghost use Rattle.text_buffer.specs.Buffer.{BufferState, IsBuffer, after_call, applied, edit_fault, edited, made, new_fault, over_base, state};
+ghost use Rattle.text_buffer.specs.Costs.{IsEditCost};
 
 use crate::base::Base;
 use crate::document::Document;
@@ -24,6 +25,8 @@ use op_model::{EditFault, Limits, OpFault, Operation, Piece};
 use rope_edits::piece_fault;
 use std::alloc::{AllocError, Global};
 use std::marker::Model;
+use std::sync::ledger::Ledger;
+use sum_tree::Steps;
 use text_dims::TextSummary;
 
 /// A replica's text, and the operations that made it. Contracts see the operations in the order in which they were
@@ -174,7 +177,8 @@ impl Buffer {
 
     /// Replaces ranges of the text, given in bytes and in order: each starts at or past the end of the one before it.
     /// Gives the operation, whose pieces count hidden bytes too, and keeps an equal one. Each range costs a few descents,
-    /// what lies in it and its new text; the length of the whole text does not matter.
+    /// what lies in it and its new text; the length of the whole text does not matter. A step is counted for each node made
+    /// of the tree of fragments, and `IsEditCost` says how many there are at most, also where there is a fault.
     ///
     /// # Errors
     ///
@@ -182,7 +186,11 @@ impl Buffer {
     /// `Reversed`, `Overlap` (with the piece before it), `PastEnd`, `InsideChar`; then `TextLimit` where the new texts
     /// have more than 65,536 bytes, `ClockEnd`, and `Full` where bytes, then entries, pass their limit. `OutOfMemory` only
     /// where there is none of these. The buffer is then as before.
-    pub fn edit(&mut self, changes: &[Piece]) -> Result<Operation, EditFault>
+    pub fn edit<L: Ledger>(
+        &mut self,
+        changes: &[Piece],
+        steps: &mut Steps<L>,
+    ) -> Result<Operation, EditFault>
         ensures ok { OnOk result (edit_fault self.old changes.now ≡ None) }
         ensures made { IfOk result (λ op. op ≡ made self.old changes.now) }
         ensures new { OnOk result (self.new ≡ edited self.old changes.now) }
@@ -195,23 +203,30 @@ impl Buffer {
         ensures step { OnOk result (self.new ≡ after_call (Edits changes.now) self.old) }
         ensures refused { IfErr result (λ e. (self.new ≡ after_call (Edits changes.now) self.old)
             ⊎ (e ≡ EditFault.OutOfMemory)) }
+        ensures cost { IsEditCost self.old.history changes.now (steps.new - steps.old) }
     {
+        self.document.known_tree();
         match self.fault(changes) {
             Some(fault) => Err(fault),
-            None => Ok(self.make_edit(changes)?),
+            None => Ok(self.make_edit(changes, steps)?),
         }
     }
 
     // Makes an edit that meets no fault.
-    fn make_edit(&mut self, changes: &[Piece]) -> Result<Operation, AllocError>
+    fn make_edit<L: Ledger>(
+        &mut self,
+        changes: &[Piece],
+        steps: &mut Steps<L>,
+    ) -> Result<Operation, AllocError>
         requires { edit_fault self.old changes.now ≡ None }
         ensures made { IfOk result (λ op. op ≡ made self.old changes.now) }
         ensures new { OnOk result (self.new ≡ edited self.old changes.now) }
         ensures text { OnOk result (text self.new.history
             ≡ replaced changes.now (text self.old.history)) }
         ensures err { OnErr result (self.new ≡ self.old) }
+        ensures cost { IsEditCost self.old.history changes.now (steps.new - steps.old) }
     {
-        let made = self.document.make_edit(self.replica, changes)?;
+        let made = self.document.make_edit(self.replica, changes, steps)?;
         self.document.known();
         Ok(made)
     }

@@ -4,6 +4,7 @@ ghost use Rattle.std.specs.Arc.{arc_value};
 ghost use Rattle.lamport_clock.specs.Clocks.{observed};
 ghost use Rattle.lamport_clock.specs.Versions.{raise};
 ghost use Rattle.op_model.specs.declared.operation.Operation.TheVariants.{Edit, Undo};
+ghost use Rattle.op_model.specs.declared.operation.Piece.{Piece};
 ghost use Rattle.op_model.specs.Domains.{IsProper};
 ghost use Rattle.op_model.specs.Operations.{bytes_of, entries_of, stamp_of, text_total};
 ghost use Rattle.op_model.specs.Histories.{Distinct, base, bytes_held, clock, operation_at, version};
@@ -15,6 +16,7 @@ ghost use Rattle.op_model.specs.Answers.Answer.{Good};
 ghost use Rattle.undo_map.specs.Undos.{undo_entries};
 ghost use Rattle.op_answers.specs.Verdicts.{answer_of};
 ghost use Rattle.remote_edit.specs.Moves.{TakeTexts};
+ghost use Rattle.text_buffer.specs.Costs.{IsEditCost};
 ghost use Rattle.text_buffer.specs.Document.{IsContent, IsHistory, IsMoved, MayEdit, MayGrow};
 
 use crate::content::{BASE, Content};
@@ -32,6 +34,8 @@ use rope_edits::apply_moves;
 use std::alloc::{AllocError, Global};
 use std::marker::Model;
 use std::sync::Arc;
+use std::sync::ledger::Ledger;
+use sum_tree::Steps;
 use undo_map::UndoMap;
 
 /// The applied operations, and all that they come to: the clock and the version, the fragments with their index and the undo
@@ -104,6 +108,13 @@ impl Document {
         ensures { IsHistory self.now }
     {
         let _alloc = &self.alloc;
+    }
+
+    /// An edit that makes no node costs no more than it may, for callers. It does nothing when it runs.
+    pub fn known_tree(&self)
+        ensures { (changes : List Piece) → IsEditCost self.now changes 0 }
+    {
+        self.content.fragments.known();
     }
 
     /// The operations, in their order.
@@ -197,24 +208,31 @@ impl Document {
     }
 
     /// Makes an edit of changes that meet no fault, and puts it last. Gives the edit; a copy is kept, which shares its texts. It costs
-    /// what `apply` does, and two descents for each change.
-    pub fn make_edit(&mut self, replica: u16, changes: &[Piece]) -> Result<Operation, AllocError>
+    /// what `apply` does, and two descents for each change. A step is counted for each node made of the tree of fragments.
+    pub fn make_edit<L: Ledger>(
+        &mut self,
+        replica: u16,
+        changes: &[Piece],
+        steps: &mut Steps<L>,
+    ) -> Result<Operation, AllocError>
         requires { MayEdit self.old replica changes.now }
         ensures made { IfOk result (λ op. op ≡ made self.old replica changes.now) }
         ensures new { OnOk result (self.new ≡ self.old ++ made self.old replica changes.now ∷ []) }
         ensures err { OnErr result (self.new ≡ self.old) }
+        ensures cost { IsEditCost self.old changes.now (steps.new - steps.old) }
     {
-        let (edit, adds, content) = self.with_changes(replica, changes)?;
+        let (edit, adds, content) = self.with_changes(replica, changes, steps)?;
         let (made, kept) = with_copy(self.alloc, edit)?;
         self.put(kept, adds, content)?;
         Ok(made)
     }
 
     // The edit of changes that meet no fault, what it adds to the bytes and entries, and what the history comes to with it.
-    fn with_changes(
+    fn with_changes<L: Ledger>(
         &self,
         replica: u16,
         changes: &[Piece],
+        steps: &mut Steps<L>,
     ) -> Result<(Operation, (u128, u64), Content), AllocError>
         requires { MayEdit self.now replica changes.now }
         ensures made { IfOk result (λ r. r.0 ≡ made self.now replica changes.now) }
@@ -222,7 +240,9 @@ impl Document {
         ensures bytes { IfOk result (λ r. r.1.0 ≡ bytes_of r.0) }
         ensures entries { IfOk result (λ r. r.1.1 ≡ entries_of r.0) }
         ensures content { IfOk result (λ r. IsContent r.2 (self.now ++ r.0 ∷ [])) }
+        ensures cost { IsEditCost self.now changes.now (steps.new - steps.old) }
     {
+        self.content.fragments.known();
         let stamp = Lamport {
             value: self.clock,
             replica,
@@ -236,6 +256,7 @@ impl Document {
             stamp,
             self.version.copy(self.alloc)?,
             changes,
+            steps,
         )?;
         let made = Operation::Edit(edit);
         let adds = size(&made);

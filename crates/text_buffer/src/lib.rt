@@ -28,6 +28,7 @@ pub use op_model::{
 };
 pub use outcomes::{Refused, Took};
 pub use snapshot::{Snapshot, snapshots_agree, snapshots_append};
+pub use sum_tree::Steps;
 
 fn sends<T: Send>(_value: &T) {}
 

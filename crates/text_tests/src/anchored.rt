@@ -1,4 +1,5 @@
 //! Anchors, each asked of a snapshot that is taken while the buffer goes on.
+use crate::plain::edit_plainly;
 use Anchor::{Greatest, Least};
 use Bias::{Left, Right};
 use Ordering::{Equal, Greater, Less};
@@ -194,7 +195,7 @@ const CASES: &[Case] = &[BOTH_SIDES, OVER_A_DELETION, EMPTY, WIDE_CHARACTERS];
 // Whether an edit is made.
 fn edits(alloc: Global, buffer: &mut Buffer, changes: &[Change]) -> Result<bool, AllocError> {
     let pieces = pieces(alloc, changes)?;
-    Ok(buffer.edit(pieces.as_slice()).is_ok())
+    Ok(edit_plainly(buffer, pieces.as_slice()).is_ok())
 }
 
 // Whether an undo is made.

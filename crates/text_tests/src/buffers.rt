@@ -1,4 +1,5 @@
 //! Calls of buffers, with ample memory.
+use crate::plain::edit_plainly;
 use Call::{Edit, Settle, Take, Undo};
 use Came::{Made, NoEdit, NoUndo, NotTaken, Settles, Taken};
 use Parts::{Counts, Letters, Pieces};
@@ -523,7 +524,7 @@ fn few(alloc: Global, base: &str) -> Result<Buffer, NewFault> {
 }
 
 fn edit(alloc: Global, buffer: &mut Buffer, changes: &[Change]) -> Result<Came, AllocError> {
-    match buffer.edit(pieces(alloc, changes)?.as_slice()) {
+    match edit_plainly(buffer, pieces(alloc, changes)?.as_slice()) {
         Ok(operation) => Ok(Made(operation.stamp().value)),
         Err(fault) => Ok(NoEdit(fault)),
     }
@@ -704,7 +705,7 @@ fn counted(operation: &Operation) -> (u64, u64, u32) {
 }
 
 fn made(alloc: Global, buffer: &mut Buffer, change: Change) -> Result<Operation, EditFault> {
-    buffer.edit(pieces(alloc, [change].as_slice())?.as_slice())
+    edit_plainly(buffer, pieces(alloc, [change].as_slice())?.as_slice())
 }
 
 // Whether the range of an edit is counted so, and the text is then that of the row.

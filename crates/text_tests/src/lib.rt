@@ -8,4 +8,6 @@ mod buffers;
 #[cfg(test)]
 mod pasts;
 #[cfg(test)]
+mod plain;
+#[cfg(test)]
 mod snapshots;

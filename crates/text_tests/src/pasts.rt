@@ -1,4 +1,5 @@
 //! Texts at versions and edits since them, each asked of a snapshot that is taken while the buffer goes on.
+use crate::plain::edit_plainly;
 use Step::{Edit, Tell, Undo};
 use buffer_tests::operations::{Change, Entries, pieces, version};
 use lamport_clock::{Lamport, Version};
@@ -154,7 +155,7 @@ const CASES: &[Case] = &[MARKS, NEVER_SHOWN];
 // Whether an edit is made.
 fn edits(alloc: Global, buffer: &mut Buffer, changes: &[Change]) -> Result<bool, AllocError> {
     let pieces = pieces(alloc, changes)?;
-    Ok(buffer.edit(pieces.as_slice()).is_ok())
+    Ok(edit_plainly(buffer, pieces.as_slice()).is_ok())
 }
 
 // Whether an undo is made.

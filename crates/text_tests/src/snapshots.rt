@@ -1,4 +1,5 @@
 //! Snapshots of a buffer, each taken before an edit, with ample memory.
+use crate::plain::edit_plainly;
 use lamport_clock::Lamport;
 use op_model::{Limits, Piece, Text};
 use std::alloc::{AllocError, Global};
@@ -44,7 +45,7 @@ fn edit(alloc: Global, buffer: &mut Buffer, row: &Row) -> Result<(), EditFault> 
         end: row.1,
         text: Text::new(String::from_str(alloc, row.2)?),
     })?;
-    let _made = buffer.edit(changes.as_slice())?;
+    let _made = edit_plainly(buffer, changes.as_slice())?;
     Ok(())
 }
 

@@ -3,6 +3,7 @@ use Rattle.std.specs.Option.{option_copied}
 use Rattle.remote_edit.specs.Indexes.{IsIndexed}
 use Rattle.remote_edit.specs.Walk.{bytes, seen_bytes, Fit, advance}
 use Rattle.remote_edit.specs.Steps.{before, after}
+use Rattle.remote_edit.specs.Costs.{AllSeen, IsFew}
 use Rattle.remote_edit.proofs.gather.Gather.pass.Given as goal
 
 abbrev pub invariant-loop-left : goal.invariant-loop-left
@@ -12,6 +13,7 @@ invariant-loop-left l = record {
   place : l.self.place ≡ seen_bytes l.edit.version (before l.tree.items l.self.from l.self.made.items);
   goes : advance (option_copied l.marks) l.edit.stamp l.edit.version l.left (before l.tree.items l.self.from l.self.made.items) (after l.tree.items l.self.at l.self.back)
       ≡ advance (option_copied l.marks) l.edit.stamp l.edit.version l.initial.left (before l.tree.items l.initial.self.from l.initial.self.made.items) (after l.tree.items l.initial.self.at l.initial.self.back);
+  few : AllSeen l.edit.version (after l.tree.items l.initial.self.at l.initial.self.back) → IsFew l.edit.version l.tree.items l.initial.self l.initial.left l.self l.left;
   fit : Fit (before l.tree.items l.self.from l.self.made.items ++ after l.tree.items l.self.at l.self.back);
   same : bytes (before l.tree.items l.self.from l.self.made.items ++ after l.tree.items l.self.at l.self.back)
       ≡ bytes (before l.tree.items l.initial.self.from l.initial.self.made.items ++ after l.tree.items l.initial.self.at l.initial.self.back);

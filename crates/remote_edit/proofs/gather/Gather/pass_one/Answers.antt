@@ -1,4 +1,4 @@
-use Rattle.std.proofs.Common.{◌≡◌, ◌∙◌, List, sym, ap, arith, [], ◌∷◌, ◌++◌, ◌+◌, ℕ, take, refl, None}
+use Rattle.std.proofs.Common.{◌≡◌, ◌∙◌, List, sym, ap, arith, [], ◌∷◌, ◌++◌, ◌+◌, ℕ, take, refl, None, true, false}
 use Rattle.std.specs.Option.{option_copied}
 use Rattle.fragments.specs.declared.fragment.Fragment.{Fragment}
 use Rattle.locators.specs.Locator.{between_digits}
@@ -6,7 +6,8 @@ use Rattle.remote_edit.specs.Marks.{touch}
 use Rattle.remote_edit.specs.Walk.{last_id}
 use Rattle.remote_edit.specs.Steps.{before, after}
 use Rattle.remote_edit.proofs.Entering.{enter_none, front_room, back_room, enter_split}
-use Rattle.remote_edit.proofs.Gathers.{on_unseen, on_whole, on_split, grown, headed, room_of}
+use Rattle.remote_edit.proofs.Gathers.{on_unseen, on_whole, on_split, grown, headed, room_of, some_len}
+use Rattle.remote_edit.proofs.Taken.{next_seen, few_none, few_whole, few_split}
 use Rattle.remote_edit.proofs.gather.Gather.pass_one.Goals as goal
 
 pub returns-then-not-sees-clause-passed : goal.returns-then-not-sees-clause-passed
@@ -127,3 +128,25 @@ returns-clause-indexed c =
     let g = c.in_ok-go_on.ensures in
     enter_none (option_copied c.args.marks) e.stamp e.version s.number n.number (before xs s.from s.made.items) (after xs s.at s.back) (before xs n.from n.made.items) (after xs n.at n.back) c.in-Some.first.now c.in_ok-whole.whole s.index n.index c.in-Some.ensures c.in_ok-whole.ensures
     (grown xs s.made.items n.made.items s.from n.from c.in_ok-whole.whole g.from g.made) g.rest g.number g.index c.requires.indexed
+
+pub returns-in_default-clause-few : goal.returns-in_default-clause-few
+returns-in_default-clause-few c = λ a. few_none c.args.edit.now.version c.args.tree.now.items c.args.self.now c.args.left a c.in_default.ensures
+
+pub returns-then-not-sees-clause-few : goal.returns-then-not-sees-clause-few
+returns-then-not-sees-clause-few c = λ a.
+    let s = c.args.self.now in
+    let y = (next_seen c.args.edit.now.version c.in-Some.first.now (after c.args.tree.now.items s.at s.back) a c.in-Some.ensures).0 in
+    let n = sym c.sees.ensures ∙ c.if-not-sees.true in absurd (let q : true ≡ false = sym y ∙ n in cc)
+
+pub returns-then-left-len-clause-few : goal.returns-then-left-len-clause-few
+returns-then-left-len-clause-few c = λ a.
+    let g = c.in_ok-put_halves.ensures in
+    few_split c.args.edit.now.version c.args.tree.now.items c.args.self.now _ c.in-Some.first.now c.in_ok-front.back c.args.left a c.in-Some.ensures c.in_ok-front.ensures.back c.requires.some c.if-left-len.true g.rest g.back g.count
+
+pub returns-clause-few : goal.returns-clause-few
+returns-clause-few c = λ a.
+    let s = c.args.self.now in
+    let xs : List Fragment = c.args.tree.now.items in
+    let f = c.in-Some.first.now in
+    let g = c.in_ok-go_on.ensures in
+    few_whole c.args.edit.now.version xs s _ f c.args.left a c.in-Some.ensures (some_len (before xs s.from s.made.items) (after xs s.at s.back) f c.requires.fit c.in-Some.ensures) c.requires.some c.if-left-len.false g.rest g.none g.count

@@ -2,6 +2,7 @@ use Rattle.std.proofs.Common.{◌≡◌, ◌++◌, ◌≤◌, length}
 use Rattle.remote_edit.specs.Indexes.{IsIndexed}
 use Rattle.remote_edit.specs.Walk.{bytes, seen_bytes, Fit, skip_later}
 use Rattle.remote_edit.specs.Steps.{before, after}
+use Rattle.remote_edit.specs.Costs.{AllSeen}
 use Rattle.remote_edit.proofs.gather.Gather.skip_later.Given as goal
 
 abbrev pub invariant-loop-alloc : goal.invariant-loop-alloc
@@ -11,6 +12,7 @@ invariant-loop-alloc l = record {
   place : l.self.place ≡ seen_bytes l.edit.version (before l.tree.items l.self.from l.self.made.items);
   goes : skip_later l.edit.stamp l.edit.version (before l.tree.items l.self.from l.self.made.items) (after l.tree.items l.self.at l.self.back)
       ≡ skip_later l.edit.stamp l.edit.version (before l.tree.items l.initial.self.from l.initial.self.made.items) (after l.tree.items l.initial.self.at l.initial.self.back);
+  none : AllSeen l.edit.version (after l.tree.items l.initial.self.at l.initial.self.back) → (l.self.at ≡ l.initial.self.at) × (l.self.back ≡ l.initial.self.back);
   fit : Fit (before l.tree.items l.self.from l.self.made.items ++ after l.tree.items l.self.at l.self.back);
   same : bytes (before l.tree.items l.self.from l.self.made.items ++ after l.tree.items l.self.at l.self.back)
       ≡ bytes (before l.tree.items l.initial.self.from l.initial.self.made.items ++ after l.tree.items l.initial.self.at l.initial.self.back);

@@ -11,7 +11,7 @@ use Rattle.text_buffer.proofs.Contents.{content_after, edit_room, made_grows, ma
 use Rattle.text_buffer.proofs.document.Document.with_changes.Goals as goal
 
 pub place_local-requires : goal.place_local-requires
-place_local-requires c =
+place_local-requires g c =
     let h = c.args.self.now in
     let k : IsContent c.self.inside.content h = subst (IsContent c.self.inside.content) c.self.view_is c.self.invariant.content in
     let s : IsHistory h = subst IsHistory c.self.view_is c.self.invariant.history in
@@ -20,7 +20,7 @@ place_local-requires c =
     may_make c.self.inside.content h (record { value = c.self.inside.clock; replica = c.args.replica }) c.in_ok-copy.field-0 c.args.changes.now k s c.requires v z
 
 pub content_of-requires-clause-texts : goal.content_of-requires-clause-texts
-content_of-requires-clause-texts c =
+content_of-requires-clause-texts g c =
     let h = c.args.self.now in
     let k : IsContent c.self.inside.content h = subst (IsContent c.self.inside.content) c.self.view_is c.self.invariant.content in
     let s : IsHistory h = subst IsHistory c.self.view_is c.self.invariant.history in
@@ -33,10 +33,10 @@ content_of-requires-clause-texts c =
     (c.in_ok-edit.ensures.characters h k.stand s.lawful s.proper g.proper g.good k.whole).1
 
 pub content_of-requires-clause-room : goal.content_of-requires-clause-room
-content_of-requires-clause-room c = edit_room c.args.self.now c.args.replica c.args.changes.now c.requires
+content_of-requires-clause-room g c = edit_room c.args.self.now c.args.replica c.args.changes.now c.requires
 
 pub returns-clause-made : goal.returns-clause-made
-returns-clause-made c =
+returns-clause-made g c =
     let h = c.args.self.now in
     let k : IsContent c.self.inside.content h = subst (IsContent c.self.inside.content) c.self.view_is c.self.invariant.content in
     let s : IsHistory h = subst IsHistory c.self.view_is c.self.invariant.history in
@@ -45,7 +45,7 @@ returns-clause-made c =
     c.in_ok-edit.ensures.made h k.stand v z
 
 pub returns-clause-grows : goal.returns-clause-grows
-returns-clause-grows c =
+returns-clause-grows g c =
     let h = c.args.self.now in
     let k : IsContent c.self.inside.content h = subst (IsContent c.self.inside.content) c.self.view_is c.self.invariant.content in
     let s : IsHistory h = subst IsHistory c.self.view_is c.self.invariant.history in
@@ -56,13 +56,13 @@ returns-clause-grows c =
     made_grows h c.args.replica c.args.changes.now op s c.requires i c.size-adds.ensures.proper
 
 pub returns-clause-bytes : goal.returns-clause-bytes
-returns-clause-bytes c = c.size-adds.ensures.bytes
+returns-clause-bytes g c = c.size-adds.ensures.bytes
 
 pub returns-clause-entries : goal.returns-clause-entries
-returns-clause-entries c = c.size-adds.ensures.entries
+returns-clause-entries g c = c.size-adds.ensures.entries
 
 pub returns-clause-content : goal.returns-clause-content
-returns-clause-content c =
+returns-clause-content g c =
     let h = c.args.self.now in
     let k : IsContent c.self.inside.content h = subst (IsContent c.self.inside.content) c.self.view_is c.self.invariant.content in
     let s : IsHistory h = subst IsHistory c.self.view_is c.self.invariant.history in

@@ -24,22 +24,22 @@ use Rattle.remote_edit.proofs.Standing.{indexed_start, unseen_self, fit_start}
 use Rattle.remote_edit.proofs.EditTexts.{told_before, brings, shown_by_counts}
 use Rattle.remote_edit.proofs.Texts.{carried_texts, carried_characters}
 use Rattle.remote_edit.proofs.WholeFragments.{proper_texts, texts_are, whole_fragments, utf8_more, placed_utf8}
-use Rattle.remote_edit.proofs.place.place_remote.Goals as goal
+use Rattle.remote_edit.proofs.place.place_counted.Goals as goal
 
 pub walk_in-requires-clause-fit : goal.walk_in-requires-clause-fit
-walk_in-requires-clause-fit c = (fit_start c.args.tree.now.items c.args.index.now c.args.undos.now (Edit c.args.op.now) c.requires).0
+walk_in-requires-clause-fit g c = (fit_start c.args.tree.now.items c.args.index.now c.args.undos.now (Edit c.args.op.now) c.requires).0
 
 pub walk_in-requires-clause-unseen : goal.walk_in-requires-clause-unseen
-walk_in-requires-clause-unseen c = unseen_self c.requires.history (Edit c.args.op.now) c.requires.lawful c.requires.good
+walk_in-requires-clause-unseen g c = unseen_self c.requires.history (Edit c.args.op.now) c.requires.lawful c.requires.good
 
 pub walk_in-requires-clause-room : goal.walk_in-requires-clause-room
-walk_in-requires-clause-room c = (fit_start c.args.tree.now.items c.args.index.now c.args.undos.now (Edit c.args.op.now) c.requires).1
+walk_in-requires-clause-room g c = (fit_start c.args.tree.now.items c.args.index.now c.args.undos.now (Edit c.args.op.now) c.requires).1
 
 pub walk_in-requires-clause-indexed : goal.walk_in-requires-clause-indexed
-walk_in-requires-clause-indexed c = indexed_start c.args.tree.now.items c.args.index.now c.args.undos.now c.requires.history (Edit c.args.op.now) c.requires.stands c.requires.lawful c.requires.good
+walk_in-requires-clause-indexed g c = indexed_start c.args.tree.now.items c.args.index.now c.args.undos.now c.requires.history (Edit c.args.op.now) c.requires.stands c.requires.lawful c.requires.good
 
 pub edit_moves-requires-clause-shown : goal.edit_moves-requires-clause-shown
-edit_moves-requires-clause-shown c =
+edit_moves-requires-clause-shown g c =
     let r = c.requires in
     let e = c.args.op.now in
     let u = c.args.undos.now in
@@ -49,13 +49,13 @@ edit_moves-requires-clause-shown c =
     (subst (λ (z : List Fragment). Tell z (r.history ++ Edit e ∷ [])) (sym w.walked) (subst (λ (v : List UndoEntry). Tell (walk v e.stamp e.version 0 0 e.pieces [] c.args.tree.now.items) (r.history ++ Edit e ∷ [])) (sym r.stands.counts) tells))
 
 pub edit_moves-requires-clause-brought : goal.edit_moves-requires-clause-brought
-edit_moves-requires-clause-brought c =
+edit_moves-requires-clause-brought g c =
     let r = c.requires in
     let e = c.args.op.now in
     subst (Brings e.stamp 0 (length (texts e.pieces))) (sym c.in_ok-walk.ensures.walked) (brings r.history (Edit e) c.args.undos.now c.args.tree.now.items c.args.index.now r.stands r.lawful r.good)
 
 pub returns-clause-stands : goal.returns-clause-stands
-returns-clause-stands c = λ h s l g.
+returns-clause-stands o c = λ h s l g.
     let e = c.args.op.now in
     let fs = c.args.tree.now.items in
     let u = c.args.undos.now in
@@ -72,7 +72,7 @@ returns-clause-stands c = λ h s l g.
     }
 
 pub returns-clause-moves : goal.returns-clause-moves
-returns-clause-moves c = λ h s l g.
+returns-clause-moves o c = λ h s l g.
     let e = c.args.op.now in
     let fs = c.args.tree.now.items in
     let u = c.args.undos.now in
@@ -84,7 +84,7 @@ returns-clause-moves c = λ h s l g.
     (subst (λ (z : List Fragment). CarryOn e.stamp [] [] (before_edit u e.stamp z) 0 c.in_ok-moves.moves z [] (length (texts e.pieces))) w.walked c.in_ok-moves.ensures)
 
 pub returns-clause-characters : goal.returns-clause-characters
-returns-clause-characters c = λ h s l p q g k.
+returns-clause-characters o c = λ h s l p q g k.
     let e = c.args.op.now in
     let fs = c.args.tree.now.items in
     let u = c.args.undos.now in

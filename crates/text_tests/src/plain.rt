@@ -1,0 +1,26 @@
+//! Edits whose steps nobody asks for.
+ghost use Rattle.std.specs.Prelude.{◌≡◌, ◌<◌};
+
+use op_model::{Operation, Piece};
+use std::marker::Brand;
+use std::sync::ledger::{Blank, Ledger};
+use text_buffer::{Buffer, EditFault, Steps};
+
+/// Makes an edit.
+pub(crate) fn edit_plainly(buffer: &mut Buffer, changes: &[Piece]) -> Result<Operation, EditFault> {
+    edit_with::<Brand>(buffer, changes, Blank::new(1))
+}
+
+// The same with a counter that is made of the blank.
+fn edit_with<L: Ledger>(
+    buffer: &mut Buffer,
+    changes: &[Piece],
+    blank: Blank,
+) -> Result<Operation, EditFault>
+    requires name { blank.name ≡ L.name }
+    requires parts { blank.parts ≡ L.parts }
+    requires some { 0 < blank.parts }
+{
+    let mut steps = Steps::<L>::new(blank);
+    buffer.edit(changes, &mut steps)
+}
