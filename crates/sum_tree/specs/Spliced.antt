@@ -27,9 +27,9 @@ IsSplicing h w xs ys (Done a b) = IsSpliced h w xs a b
 IsSplicing h w xs ys (Back es) = es.items ≡ ys
 
 -- the new entries ys come back only where the range has more than one item, or where they are more than 12
-abbrev pub IsReturned : {T : Type 0} → ℕ → List T → Splicing (Seen T) (Vec T Global) → Type 0
-IsReturned n ys (Done a b) = Unit {0}
-IsReturned n ys (Back es) = (1 < n) ⊎ (12 < length ys)
+abbrev pub IsReturn : {T : Type 0} → ℕ → List T → Splicing (Seen T) (Vec T Global) → Type 0
+IsReturn n ys (Done a b) = Unit {0}
+IsReturn n ys (Back es) = (1 < n) ⊎ (12 < length ys)
 
 -- from its item r on, child k holds the n items from i on
 abbrev pub IsWithin : {T : Type 0} → List (Seen T) → ℕ → ℕ → ℕ → ℕ → Type 0

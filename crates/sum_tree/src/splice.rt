@@ -3,7 +3,7 @@ ghost use Rattle.std.specs.Prelude.{◌≡◌, ℕ, ◌+◌, ◌-◌, ◌*◌, �
 ghost use Rattle.sum_tree.specs.Laws.{fold};
 ghost use Rattle.sum_tree.specs.Shape.{IsChild, joined};
 ghost use Rattle.sum_tree.specs.Grown.{with_pair, with_run, pair_list};
-ghost use Rattle.sum_tree.specs.Spliced.{spliced, IsPiece, IsReturned, IsSpliced, IsSplicing, IsWithin};
+ghost use Rattle.sum_tree.specs.Spliced.{spliced, IsPiece, IsReturn, IsSpliced, IsSplicing, IsWithin};
 
 use crate::entry::Entry;
 use crate::grow::{both, copy_onto, gathered, inners, leaves, root};
@@ -207,7 +207,7 @@ impl<T: Item> SumTree<T> {
             (spliced from (from + count) entries.items self.now.items)) }
         ensures splicing { IfOk result (λ r. IsSplicing self.now.height self.now.width
             (spliced from (from + count) entries.items self.now.items) entries.items r) }
-        ensures returned { IfOk result (λ r. IsReturned count entries.items r) }
+        ensures returned { IfOk result (λ r. IsReturn count entries.items r) }
         ensures cost { steps.new ≤ steps.old + (4 * self.now.height + 2) }
     {
         match &self.node.content {

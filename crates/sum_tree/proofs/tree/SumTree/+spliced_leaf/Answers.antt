@@ -3,7 +3,7 @@ use Rattle.std.proofs.lemmas.List.{length-take, length-drop}
 use Rattle.sum_tree.specs.Seen.{Seen}
 use Rattle.sum_tree.specs.Shape.{joined, IsChild}
 use Rattle.sum_tree.specs.Grown.{with_pair}
-use Rattle.sum_tree.specs.Spliced.{spliced, IsPiece, IsReturned, IsSplicing, IsWithin}
+use Rattle.sum_tree.specs.Spliced.{spliced, IsPiece, IsReturn, IsSplicing, IsWithin}
 use Rattle.sum_tree.specs.declared.splice.Splicing.{Splicing}
 use Rattle.sum_tree.specs.declared.splice.Splicing.TheVariants.{Done}
 use Rattle.sum_tree.proofs.Runs.{fits_middle}
@@ -227,4 +227,4 @@ returns-in-None-clause-returned g t' c =
 
 pub returns-in-Back-clause-returned : goal.returns-in-Back-clause-returned
 returns-in-Back-clause-returned g t' c =
-    subst (λ (q : Splicing (Seen _) _). IsReturned c.args.count c.args.entries.items q) c.in-Back.is c.in_ok-entries-in-Inner.ensures.returned
+    subst (λ (q : Splicing (Seen _) _). IsReturn c.args.count c.args.entries.items q) c.in-Back.is c.in_ok-entries-in-Inner.ensures.returned
