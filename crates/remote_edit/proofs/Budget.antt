@@ -9,16 +9,17 @@ use Rattle.undo_map.specs.declared.entry.UndoEntry.{UndoEntry}
 use Rattle.fragments.specs.declared.fragment.Fragment.{Fragment}
 use Rattle.fragments.specs.Stand.{IsFilled}
 use Rattle.remote_edit.specs.Walk.{Zip, zip, one_piece}
-use Rattle.remote_edit.specs.Costs.{touched_behind, AllSeen, starts, entered}
-use Rattle.remote_edit.proofs.Costs.{behind, one_piece-rest, seen_behind, starts_behind, starts_fewer}
-use Rattle.remote_edit.proofs.Entered.{entered_touched}
+use Rattle.remote_edit.specs.Costs.{touched_behind}
+use Rattle.remote_edit.specs.Starts.{AllSeen, starts}
+use Rattle.remote_edit.proofs.Starts.{behind, one_piece-rest, seen_behind, starts_behind, starts_fewer}
+use Rattle.remote_edit.proofs.PieceStarts.{piece_starts, piece_starts_touched}
 
 -- of the pieces ps over the fragments fs, the pieces qs are to come, from cell `place` on, with the fragments rest behind it
 pub record IsOnBudget (v : Entries) (fs : List Fragment) (ps : List Piece) (place : ℕ) (rest : List Fragment) (qs : List Piece) (old new : ℕ) : Type 0 where
   pub order : Ordered place (2 ^ 40) qs
   pub seen : AllSeen v rest
   pub few : (a b : ℕ) → starts (suc a) b rest ≤ starts (place + suc a) (place + b) fs
-  pub cost : new + 256 * entered fs qs ≤ old + 256 * entered fs ps
+  pub cost : new + 256 * piece_starts fs qs ≤ old + 256 * piece_starts fs ps
 
 pub budget_start : (v : Entries) (fs : List Fragment) (ps : List Piece) (n : ℕ) → AllSeen v fs → Ordered 0 (2 ^ 40) ps → IsOnBudget v fs ps 0 fs ps n n
 budget_start v fs ps n h o = record {
@@ -76,7 +77,7 @@ module _ (v : Entries) (fs : List Fragment) (ps : List Piece) (place : ℕ) (res
       omega (arith, h, f, x, y, z)
 
   -- want of memory ends the walk there
-  pub budget_end : (n : ℕ) → n ≤ new + 256 * (1 + starts (max 1 (p.start - place)) (p.start - place + (p.end - p.start)) rest) → n ≤ old + 256 * entered fs ps
+  pub budget_end : (n : ℕ) → n ≤ new + 256 * (1 + starts (max 1 (p.start - place)) (p.start - place + (p.end - p.start)) rest) → n ≤ old + 256 * piece_starts fs ps
   budget_end n h = let s = spent n h in let c = b.cost in omega (arith, s, c)
 
   -- it is passed
@@ -113,9 +114,9 @@ pub steps_by : (v : Entries) (rest : List Fragment) (p : Piece) (place k new n :
 steps_by v rest p place k new n e l h f = subst (λ (m : ℕ). n ≤ new + 256 * (1 + starts (max 1 m) (m + (p.end - p.start)) rest)) e (f h (omega (arith, e, l)))
 
 -- all pieces are passed
-pub budget_all : (v : Entries) (fs : List Fragment) (ps : List Piece) (place : ℕ) (rest : List Fragment) (qs : List Piece) (old new : ℕ) → IsOnBudget v fs ps place rest qs old new → new ≤ old + 256 * entered fs ps
+pub budget_all : (v : Entries) (fs : List Fragment) (ps : List Piece) (place : ℕ) (rest : List Fragment) (qs : List Piece) (old new : ℕ) → IsOnBudget v fs ps place rest qs old new → new ≤ old + 256 * piece_starts fs ps
 budget_all v fs ps place rest qs old new b = let c = b.cost in omega (arith, c)
 
 -- in the end, by the fragments that the ranges touch
-pub budget_touched : (fs : List Fragment) (ps : List Piece) (old new : ℕ) → Each IsFilled fs → Ordered 0 (2 ^ 40) ps → new ≤ old + 256 * entered fs ps → new ≤ old + 256 * (length ps + touched_behind 0 ps fs)
-budget_touched fs ps old new h o l = let e = entered_touched 0 (2 ^ 40) ps fs h o in omega (arith, e, l)
+pub budget_touched : (fs : List Fragment) (ps : List Piece) (old new : ℕ) → Each IsFilled fs → Ordered 0 (2 ^ 40) ps → new ≤ old + 256 * piece_starts fs ps → new ≤ old + 256 * (length ps + touched_behind 0 ps fs)
+budget_touched fs ps old new h o l = let e = piece_starts_touched 0 (2 ^ 40) ps fs h o in omega (arith, e, l)

@@ -32,7 +32,7 @@ pub mod EditMoves
 pub mod EditTexts
 pub mod WholeFragments
 pub mod UndoCharacters
-pub mod Costs
-pub mod Taken
-pub mod Entered
+pub mod Starts
+pub mod Intake
+pub mod PieceStarts
 pub mod Budget

@@ -23,7 +23,8 @@ use Rattle.fragments.specs.declared.index_entry.IndexEntry.{IndexEntry}
 use Rattle.fragments.specs.Stand.{Tell, runs}
 use Rattle.remote_edit.specs.Walk.{bytes}
 use Rattle.remote_edit.specs.Offsets.{piece_in}
-use Rattle.remote_edit.specs.Costs.{touched, touched_behind, AllSeen}
+use Rattle.remote_edit.specs.Costs.{touched, touched_behind}
+use Rattle.remote_edit.specs.Starts.{AllSeen}
 use Rattle.remote_edit.specs.Placing.{MayPlace, MayMake}
 use Rattle.remote_edit.proofs.Local.{made_is, same_total}
 use Rattle.remote_edit.proofs.Standing.{fit_start, all_seen}

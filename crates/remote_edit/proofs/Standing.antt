@@ -29,7 +29,7 @@ use Rattle.fragments.specs.declared.index_entry.IndexEntry.{IndexEntry}
 use Rattle.fragments.specs.Stand.{Stand, Tell, IsFilled, runs}
 use Rattle.fragments.proofs.Founds.{index_finds_fragments}
 use Rattle.remote_edit.specs.Walk.{bytes, Fit}
-use Rattle.remote_edit.specs.Costs.{AllSeen}
+use Rattle.remote_edit.specs.Starts.{AllSeen}
 use Rattle.remote_edit.specs.Indexes.{EndsBefore, IsIndexed}
 use Rattle.remote_edit.specs.Placing.{MayPlace}
 use Rattle.remote_edit.proofs.Indexing.{apart_start}

@@ -15,3 +15,4 @@ pub mod Gathers
 pub mod Indexes
 pub mod Placing
 pub mod Costs
+pub mod Starts

@@ -11,7 +11,7 @@ ghost use Rattle.remote_edit.specs.Walk.{bytes, seen_bytes, Fit, last_id, next_i
 ghost use Rattle.remote_edit.specs.Marks.{touch};
 ghost use Rattle.remote_edit.specs.Steps.{left_over, later_first, head, tail, IsOnWay, IsAt};
 ghost use Rattle.remote_edit.specs.Gathers.{so_far, ahead};
-ghost use Rattle.remote_edit.specs.Costs.{AllSeen, IsFew};
+ghost use Rattle.remote_edit.specs.Starts.{AllSeen, IsFew};
 
 use crate::mark::touch;
 use crate::parts::{back, front, new_fragment};

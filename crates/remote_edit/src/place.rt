@@ -3,7 +3,8 @@ ghost use Rattle.std.specs.Prelude.{◌≡◌, ◌+◌, ◌*◌, ◌<◌, ◌≤
 ghost use Rattle.op_model.specs.Walked.{Ordered};
 ghost use Rattle.op_model.specs.declared.operation.Operation.TheVariants.{Edit};
 ghost use Rattle.remote_edit.specs.Placing.{MayPlace, ArePlaced, MoveWithEdit, KeepCharactersWithEdit, MayMake, IsMade};
-ghost use Rattle.remote_edit.specs.Costs.{touched, touched_behind, AllSeen};
+ghost use Rattle.remote_edit.specs.Costs.{touched, touched_behind};
+ghost use Rattle.remote_edit.specs.Starts.{AllSeen};
 
 use crate::Placed;
 use crate::edit_moves::edit_moves;

@@ -8,7 +8,8 @@ ghost use Rattle.remote_edit.specs.Indexes.{IsIndexed};
 ghost use Rattle.remote_edit.specs.Walk.{bytes, seen_bytes, Fit, one_piece, changes, walk};
 ghost use Rattle.remote_edit.specs.Steps.{left_over, before, after, IsSought, IsAt};
 ghost use Rattle.remote_edit.specs.Gathers.{so_far, ahead};
-ghost use Rattle.remote_edit.specs.Costs.{AllSeen, starts, touched_behind, IsLeft, MakeFew};
+ghost use Rattle.remote_edit.specs.Costs.{touched_behind};
+ghost use Rattle.remote_edit.specs.Starts.{AllSeen, starts, IsLeft, MakeFew};
 
 use crate::gather::Gather;
 use fragments::{Fragment, Full, FullAt, InsertionIndex};

@@ -1,6 +1,6 @@
 use Rattle.std.proofs.Common.{arith, length}
 use Rattle.remote_edit.proofs.Places.{few, fits}
-use Rattle.remote_edit.proofs.Taken.{put_few}
+use Rattle.remote_edit.proofs.Intake.{put_few}
 use Rattle.remote_edit.proofs.walk.put.Goals as goal
 
 pub splice_counted-requires-clause-short : goal.splice_counted-requires-clause-short

@@ -3,7 +3,7 @@ use Rattle.std.specs.Prelude.{Vec}
 use Rattle.std.specs.Global.{Global}
 use Rattle.fragments.specs.declared.fragment.Fragment.{Fragment}
 use Rattle.remote_edit.specs.Steps.{left_over}
-use Rattle.remote_edit.proofs.Taken.{back_few, all_long}
+use Rattle.remote_edit.proofs.Intake.{back_few, all_long}
 use Rattle.remote_edit.proofs.walk.put_back.Goals as goal
 use Rattle.remote_edit.proofs.walk.put_back.Goals.{in-Some+in_ok-push, in_default}
 

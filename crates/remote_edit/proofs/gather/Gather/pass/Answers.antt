@@ -1,9 +1,9 @@
 use Rattle.std.proofs.Common.{◌≡◌, ℕ, ◌∙◌, sym, subst, arith}
 use Rattle.std.specs.Option.{option_copied}
 use Rattle.remote_edit.specs.Steps.{before, after}
-use Rattle.remote_edit.specs.Costs.{IsFew}
+use Rattle.remote_edit.specs.Starts.{IsFew}
 use Rattle.remote_edit.proofs.Passing.{adv_zero}
-use Rattle.remote_edit.proofs.Taken.{few_more}
+use Rattle.remote_edit.proofs.Intake.{few_more}
 use Rattle.remote_edit.proofs.gather.Gather.pass.Goals as goal
 
 pub loop-left-preserved : goal.loop-left-preserved

@@ -3,7 +3,7 @@ use Rattle.std.specs.Option.{option_copied}
 use Rattle.remote_edit.specs.Indexes.{IsIndexed}
 use Rattle.remote_edit.specs.Walk.{bytes, seen_bytes, Fit, advance}
 use Rattle.remote_edit.specs.Steps.{before, after}
-use Rattle.remote_edit.specs.Costs.{AllSeen, IsFew}
+use Rattle.remote_edit.specs.Starts.{AllSeen, IsFew}
 use Rattle.remote_edit.proofs.gather.Gather.pass.Given as goal
 
 abbrev pub invariant-loop-left : goal.invariant-loop-left

@@ -7,7 +7,7 @@ use Rattle.remote_edit.specs.Walk.{last_id}
 use Rattle.remote_edit.specs.Steps.{before, after}
 use Rattle.remote_edit.proofs.Entering.{enter_none, front_room, back_room, enter_split}
 use Rattle.remote_edit.proofs.Gathers.{on_unseen, on_whole, on_split, grown, headed, room_of, some_len}
-use Rattle.remote_edit.proofs.Taken.{next_seen, few_none, few_whole, few_split}
+use Rattle.remote_edit.proofs.Intake.{next_seen, few_none, few_whole, few_split}
 use Rattle.remote_edit.proofs.gather.Gather.pass_one.Goals as goal
 
 pub returns-then-not-sees-clause-passed : goal.returns-then-not-sees-clause-passed

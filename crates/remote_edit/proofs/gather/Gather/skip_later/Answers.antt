@@ -2,7 +2,7 @@ use Rattle.std.proofs.Common.{◌∙◌, ◌++◌, sym, arith, List}
 use Rattle.fragments.specs.declared.fragment.Fragment.{Fragment}
 use Rattle.remote_edit.specs.Steps.{before, after}
 use Rattle.remote_edit.proofs.Gathers.{over_later}
-use Rattle.remote_edit.proofs.Taken.{none_later}
+use Rattle.remote_edit.proofs.Intake.{none_later}
 use Rattle.remote_edit.proofs.Entering.{all_kept, same_indexed}
 use Rattle.remote_edit.proofs.gather.Gather.skip_later.Goals as goal
 

@@ -2,7 +2,7 @@ use Rattle.std.proofs.Common.{◌≡◌, ◌++◌, ◌≤◌, length}
 use Rattle.remote_edit.specs.Indexes.{IsIndexed}
 use Rattle.remote_edit.specs.Walk.{bytes, seen_bytes, Fit, skip_later}
 use Rattle.remote_edit.specs.Steps.{before, after}
-use Rattle.remote_edit.specs.Costs.{AllSeen}
+use Rattle.remote_edit.specs.Starts.{AllSeen}
 use Rattle.remote_edit.proofs.gather.Gather.skip_later.Given as goal
 
 abbrev pub invariant-loop-alloc : goal.invariant-loop-alloc

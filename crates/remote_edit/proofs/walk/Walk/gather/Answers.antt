@@ -1,7 +1,7 @@
 use Rattle.std.proofs.Common.{◌≡◌, ℕ, ◌+◌, ◌-◌, ◌≤◌, List, drop, ap, arith}
 use Rattle.fragments.specs.declared.fragment.Fragment.{Fragment}
-use Rattle.remote_edit.specs.Costs.{starts}
-use Rattle.remote_edit.proofs.Taken.{few_all}
+use Rattle.remote_edit.specs.Starts.{starts}
+use Rattle.remote_edit.proofs.Intake.{few_all}
 use Rattle.remote_edit.proofs.walk.Walk.gather.Goals as goal
 
 pub returns-clause-few : goal.returns-clause-few

@@ -3,7 +3,7 @@ use Rattle.op_model.specs.Operations.{text_total}
 use Rattle.remote_edit.specs.Indexes.{IsIndexed}
 use Rattle.op_model.specs.Walked.{Ordered}
 use Rattle.remote_edit.specs.Walk.{bytes, seen_bytes, Fit, walk}
-use Rattle.remote_edit.specs.Costs.{AllSeen}
+use Rattle.remote_edit.specs.Starts.{AllSeen}
 use Rattle.remote_edit.proofs.Budget.{IsOnBudget}
 use Rattle.remote_edit.proofs.walk.Walk.pass_pieces.Given as goal
 

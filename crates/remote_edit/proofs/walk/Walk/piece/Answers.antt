@@ -3,8 +3,8 @@ use Rattle.sum_tree.specs.Seen.{Seen}
 use Rattle.fragments.specs.declared.fragment.Fragment.{Fragment}
 use Rattle.remote_edit.specs.Walk.{Zip, one_piece}
 use Rattle.remote_edit.specs.Steps.{left_over}
-use Rattle.remote_edit.specs.Costs.{IsLeft}
-use Rattle.remote_edit.proofs.Taken.{piece_few, piece_made, one_piece-length}
+use Rattle.remote_edit.specs.Starts.{IsLeft}
+use Rattle.remote_edit.proofs.Intake.{piece_few, piece_made, one_piece-length}
 use Rattle.remote_edit.proofs.walk.Walk.piece.Goals as goal
 
 pub returns-clause-cost : goal.returns-clause-cost

@@ -2,7 +2,7 @@ use Rattle.std.proofs.Common.{◌≡◌, ℕ, ◌+◌, ◌-◌, drop, refl, arit
 use Rattle.remote_edit.proofs.Places.{fits}
 use Rattle.remote_edit.proofs.Passing.{place_room}
 use Rattle.remote_edit.proofs.Seeking.{found, in_first}
-use Rattle.remote_edit.proofs.Costs.{left_of, within_none}
+use Rattle.remote_edit.proofs.Starts.{left_of, within_none}
 use Rattle.remote_edit.proofs.walk.Walk.seek.Goals as goal
 use Rattle.remote_edit.proofs.walk.Walk.seek.Goals.{then-count-eq0-via-then-count-eq0, then-count-eq0-via-else-count-eq0+then-count-gt-MOST_CELLS}
 

@@ -13,7 +13,7 @@ use Rattle.fragments.specs.declared.fragment.Fragment.{Fragment}
 use Rattle.fragments.specs.Stand.{IsFilled}
 use Rattle.remote_edit.specs.Marks.{touch}
 use Rattle.remote_edit.specs.Walk.{bytes, seen_bytes, back, Zip, advance, skip_later, put_new, one_piece}
-use Rattle.remote_edit.specs.Costs.{AllSeen, starts, IsLeft}
+use Rattle.remote_edit.specs.Starts.{AllSeen, starts, IsLeft}
 use Rattle.remote_edit.proofs.Passing.{seen_cons, seen_append, seen_own}
 
 -- fragments without their first x cells

@@ -7,7 +7,13 @@ use Rattle.op_model.specs.Sorted.{Each}
 use Rattle.op_model.specs.Walked.{Ordered}
 use Rattle.fragments.specs.declared.fragment.Fragment.{Fragment}
 use Rattle.fragments.specs.Stand.{IsFilled}
-use Rattle.remote_edit.specs.Costs.{is_met, touched_behind, starts, entered}
+use Rattle.remote_edit.specs.Costs.{is_met, touched_behind}
+use Rattle.remote_edit.specs.Starts.{starts}
+
+-- how many fragments begin in the range of each piece, and one for each
+abbrev pub piece_starts : List Fragment → List Piece → ℕ
+piece_starts fs [] = 0
+piece_starts fs (p ∷ ps) = 1 + starts p.start p.end fs + piece_starts fs ps
 
 -- how many ranges cell k lies in
 abbrev ranges : ℕ → List Piece → ℕ
@@ -61,14 +67,14 @@ begins_touched k at end ps (f ∷ fs) h o =
     let ih = begins_touched (k + f.len) at end ps fs h.1 o in
     omega (arith, n, r, ih)
 
-entered_begins : (fs : List Fragment) (ps : List Piece) → entered fs ps ≡ length ps + begins 0 ps fs
-entered_begins fs [] = omega arith
-entered_begins fs (p ∷ ps) =
-    let ih = entered_begins fs ps in
+piece_starts_sum : (fs : List Fragment) (ps : List Piece) → piece_starts fs ps ≡ length ps + begins 0 ps fs
+piece_starts_sum fs [] = omega arith
+piece_starts_sum fs (p ∷ ps) =
+    let ih = piece_starts_sum fs ps in
     let a : p.start - 0 ≡ p.start = omega arith in
     let b : p.end - 0 ≡ p.end = omega arith in
     let g : starts (p.start - 0) (p.end - 0) fs ≡ starts p.start p.end fs = ap (λ (i : ℕ). starts i (p.end - 0) fs) a ∙ ap (λ (i : ℕ). starts p.start i fs) b in
     omega (arith, ih, g)
 
-pub entered_touched : (at end : ℕ) (ps : List Piece) (fs : List Fragment) → Each IsFilled fs → Ordered at end ps → entered fs ps ≤ length ps + touched_behind 0 ps fs
-entered_touched at end ps fs h o = let e = entered_begins fs ps in let b = begins_touched 0 at end ps fs h o in omega (arith, e, b)
+pub piece_starts_touched : (at end : ℕ) (ps : List Piece) (fs : List Fragment) → Each IsFilled fs → Ordered at end ps → piece_starts fs ps ≤ length ps + touched_behind 0 ps fs
+piece_starts_touched at end ps fs h o = let e = piece_starts_sum fs ps in let b = begins_touched 0 at end ps fs h o in omega (arith, e, b)

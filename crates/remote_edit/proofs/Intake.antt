@@ -14,8 +14,8 @@ use Rattle.remote_edit.specs.Walk.{Zip, zip, last_id, next_id, new_fragment, fro
 use Rattle.remote_edit.specs.Steps.{left_over, head, tail, after, later_first}
 use Rattle.remote_edit.specs.declared.gather.Gather.{Gather}
 use Rattle.remote_edit.specs.Gathers.{ahead}
-use Rattle.remote_edit.specs.Costs.{AllSeen, starts, taken, IsFew, IsLeft, MakeFew}
-use Rattle.remote_edit.proofs.Costs.{later_none}
+use Rattle.remote_edit.specs.Starts.{AllSeen, intake, starts, IsFew, IsLeft, MakeFew}
+use Rattle.remote_edit.proofs.Starts.{later_none}
 
 -- ---- a walk makes at most three fragments more
 
@@ -85,9 +85,9 @@ one_over None = omega arith
 one_over (Some f) = omega arith
 
 -- all of it
-pub taken_whole : (i j n r : ℕ) (b : Option Fragment) (f : Fragment) (rest rest2 : List Fragment) → rest ≡ f ∷ tail rest → rest2 ≡ tail rest → 0 < f.len → 0 < n → f.len ≤ n → j + length (left_over b) ≡ i + 1
+pub intake_whole : (i j n r : ℕ) (b : Option Fragment) (f : Fragment) (rest rest2 : List Fragment) → rest ≡ f ∷ tail rest → rest2 ≡ tail rest → 0 < f.len → 0 < n → f.len ≤ n → j + length (left_over b) ≡ i + 1
     → j + starts 0 (n - f.len + r) rest2 ≤ i + starts (length (left_over b)) (n + r) rest
-taken_whole i j n r b f rest rest2 e d l h k q =
+intake_whole i j n r b f rest rest2 e d l h k q =
     let o : length (left_over b) ≤ 1 = one_over b in
     let c : n - f.len + r ≡ n + r - f.len = omega (arith, k) in
     let a : length (left_over b) - f.len ≡ 0 = omega (arith, o, l) in
@@ -97,9 +97,9 @@ taken_whole i j n r b f rest rest2 e d l h k q =
     omega (arith, x, y, q, h, o)
 
 -- its first n cells
-pub taken_split : (i j n r : ℕ) (b b2 : Option Fragment) (f g : Fragment) (rest rest2 : List Fragment) → rest ≡ f ∷ tail rest → rest2 ≡ g ∷ tail rest → b2 ≡ Some g → g ≡ back f n → 0 < n → n < f.len → j + length (left_over b) ≡ i + 1
+pub intake_split : (i j n r : ℕ) (b b2 : Option Fragment) (f g : Fragment) (rest rest2 : List Fragment) → rest ≡ f ∷ tail rest → rest2 ≡ g ∷ tail rest → b2 ≡ Some g → g ≡ back f n → 0 < n → n < f.len → j + length (left_over b) ≡ i + 1
     → j + starts (length (left_over b2)) (0 + r) rest2 ≤ i + starts (length (left_over b)) (n + r) rest
-taken_split i j n r b b2 f g rest rest2 e d u w h k q =
+intake_split i j n r b b2 f g rest rest2 e d u w h k q =
     let o : length (left_over b) ≤ 1 = one_over b in
     let s : length (left_over b2) ≡ 1 = ap (λ (z : Option Fragment). length (left_over z)) u in
     let l : g.len ≡ f.len - n = ap (λ (z : Fragment). z.len) w in
@@ -139,7 +139,7 @@ pub few_whole : (v : Entries) (xs : List Fragment) (g g2 : Gather) (f : Fragment
 few_whole v xs g g2 f n h e l k m a b q = record {
   seen = subst (AllSeen v) (sym a) (next_seen v f (ahead xs g) h e).1;
   few = λ r. (let z : length (left_over g2.back) ≡ 0 = ap (λ (o : Option Fragment). length (left_over o)) b in
-      let t = taken_whole g.at g2.at n r g.back f (ahead xs g) (ahead xs g2) (headed (ahead xs g) f e) a l k m q in
+      let t = intake_whole g.at g2.at n r g.back f (ahead xs g) (ahead xs g2) (headed (ahead xs g) f e) a l k m q in
       let y : starts (length (left_over g2.back)) (n - f.len + r) (ahead xs g2) ≡ starts 0 (n - f.len + r) (ahead xs g2) = ap (λ (i : ℕ). starts i (n - f.len + r) (ahead xs g2)) z in
       omega (arith, t, y));
 }
@@ -151,18 +151,18 @@ few_split v xs g g2 f b n h e w k m a d q =
     let o : b.stamp ≡ f.stamp = ap (λ (z : Fragment). z.stamp) w in
     record {
       seen = subst (AllSeen v) (sym a) (ap (sees v) o ∙ s.0, s.1);
-      few = λ r. taken_split g.at g2.at n r g.back g2.back f b (ahead xs g) (ahead xs g2) (headed (ahead xs g) f e) a d w k m q;
+      few = λ r. intake_split g.at g2.at n r g.back g2.back f b (ahead xs g) (ahead xs g2) (headed (ahead xs g) f e) a d w k m q;
     }
 
 -- over a whole piece
 pub few_all : (v : Entries) (xs : List Fragment) (g g1 g2 g3 g4 : Gather) (n r : ℕ) → IsFew v xs g n g1 0 → (g2.at ≡ g1.at) × (g2.back ≡ g1.back) → g3.at ≡ g2.at → g3.back ≡ g2.back → (AllSeen v (ahead xs g3) → IsFew v xs g3 r g4 0)
-    → g4.at ≤ taken xs g (n + r)
+    → g4.at ≤ intake xs g (n + r)
 few_all v xs g g1 g2 g3 g4 n r a e p q f =
     let i : g1.at ≡ g3.at = sym (p ∙ e.0) in
     let b : g1.back ≡ g3.back = sym (q ∙ e.1) in
     let here : ℕ → Option Fragment → ℕ → ℕ = λ j d m. j + starts (length (left_over d)) m (after xs j d) in
     let w : ahead xs g1 ≡ ahead xs g3 = ap (λ (j : ℕ). after xs j g1.back) i ∙ ap (after xs g3.at) b in
-    let s : taken xs g1 (0 + r) ≡ taken xs g3 (r + 0) = ap (λ (j : ℕ). here j g1.back (0 + r)) i ∙ ap (λ (d : Option Fragment). here g3.at d (0 + r)) b ∙ ap (here g3.at g3.back) (let z : 0 + r ≡ r + 0 = omega arith in z) in
+    let s : intake xs g1 (0 + r) ≡ intake xs g3 (r + 0) = ap (λ (j : ℕ). here j g1.back (0 + r)) i ∙ ap (λ (d : Option Fragment). here g3.at d (0 + r)) b ∙ ap (here g3.at g3.back) (let z : 0 + r ≡ r + 0 = omega arith in z) in
     let x = a.few r in
     let y = (f (subst (AllSeen v) w a.seen)).few 0 in
     omega (arith, s, x, y)
