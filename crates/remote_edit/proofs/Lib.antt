@@ -36,3 +36,4 @@ pub mod Starts
 pub mod Intake
 pub mod PieceStarts
 pub mod Budget
+pub mod Fragments

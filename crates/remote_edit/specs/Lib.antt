@@ -16,3 +16,4 @@ pub mod Indexes
 pub mod Placing
 pub mod Costs
 pub mod Starts
+pub mod Fragments

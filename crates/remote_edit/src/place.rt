@@ -4,6 +4,7 @@ ghost use Rattle.op_model.specs.Walked.{Ordered};
 ghost use Rattle.op_model.specs.declared.operation.Operation.TheVariants.{Edit};
 ghost use Rattle.remote_edit.specs.Placing.{MayPlace, ArePlaced, MoveWithEdit, KeepCharactersWithEdit, MayMake, IsMade};
 ghost use Rattle.remote_edit.specs.Costs.{touched, touched_behind};
+ghost use Rattle.remote_edit.specs.Fragments.{with_edit};
 ghost use Rattle.remote_edit.specs.Starts.{AllSeen};
 
 use crate::Placed;
@@ -35,6 +36,8 @@ pub fn place_remote(
     op: &EditOp,
 ) -> Result<Placed, AllocError>
     requires { MayPlace tree.now.items index.now undos.now (Edit op.now) }
+    ensures fragments { IfOk result (λ p. p.fragments.items
+        ≡ with_edit undos.now tree.now.items op.now) }
     ensures stands { IfOk result (λ p. ArePlaced tree.now.items index.now undos.now
         (Edit op.now) p.fragments.items p.index) }
     ensures moves { IfOk result (λ p. MoveWithEdit tree.now.items index.now undos.now
@@ -58,6 +61,8 @@ fn place_with<L: Ledger>(
     requires parts { blank.parts ≡ L.parts }
     requires some { 0 < blank.parts }
     requires may { MayPlace tree.now.items index.now undos.now (Edit op.now) }
+    ensures fragments { IfOk result (λ p. p.fragments.items
+        ≡ with_edit undos.now tree.now.items op.now) }
     ensures stands { IfOk result (λ p. ArePlaced tree.now.items index.now undos.now
         (Edit op.now) p.fragments.items p.index) }
     ensures moves { IfOk result (λ p. MoveWithEdit tree.now.items index.now undos.now
@@ -80,6 +85,8 @@ fn place_counted<L: Ledger>(
     steps: &mut Steps<L>,
 ) -> Result<Placed, AllocError>
     requires { MayPlace tree.now.items index.now undos.now (Edit op.now) }
+    ensures fragments { IfOk result (λ p. p.fragments.items
+        ≡ with_edit undos.now tree.now.items op.now) }
     ensures stands { IfOk result (λ p. ArePlaced tree.now.items index.now undos.now
         (Edit op.now) p.fragments.items p.index) }
     ensures moves { IfOk result (λ p. MoveWithEdit tree.now.items index.now undos.now
@@ -117,6 +124,8 @@ pub fn place_local<L: Ledger>(
     requires { MayMake tree.now.items index.now undos.now stamp version changes.now }
     ensures made { IfOk result (λ r. IsMade tree.now.items index.now undos.now stamp version
         changes.now (Edit r.0)) }
+    ensures fragments { IfOk result (λ r. r.1.fragments.items
+        ≡ with_edit undos.now tree.now.items r.0) }
     ensures stands { IfOk result (λ r. ArePlaced tree.now.items index.now undos.now
         (Edit r.0) r.1.fragments.items r.1.index) }
     ensures moves { IfOk result (λ r. MoveWithEdit tree.now.items index.now undos.now

@@ -28,6 +28,7 @@ use Rattle.fragments.proofs.Founds.{base_stands}
 use Rattle.remote_edit.specs.declared.moves.Move.{Move}
 use Rattle.remote_edit.specs.declared.placed.Placed.{Placed}
 use Rattle.remote_edit.specs.Carried.{AreMovesOf}
+use Rattle.remote_edit.specs.Fragments.{fragments_of}
 use Rattle.remote_edit.specs.Moves.{Texts, TakeTexts, moved}
 use Rattle.remote_edit.specs.Placing.{MayMake, MayPlace}
 use Rattle.remote_edit.specs.Undoing.{MayMark}
@@ -46,6 +47,7 @@ stand_is fs gs w v u s h a b c k =
 -- a content with the parts of another one is that of the same histories
 pub content_shared : (c d : Content) (h : History) → d.fragments.items ≡ c.fragments.items → d.index ≡ c.index → d.undos ≡ c.undos → d.text ≡ c.text → d.hidden ≡ c.hidden → IsContent c h → IsContent d h
 content_shared c d h a b u e f k = record {
+  fragments = a ∙ k.fragments;
   stand = stand_is d.fragments.items c.fragments.items d.index c.index d.undos c.undos h a b u k.stand;
   whole = subst (λ (x : List Fragment). Each (IsWhole h) (runs x)) (sym a) k.whole;
   shown = e ∙ k.shown;
@@ -70,13 +72,14 @@ one_base fs w f t some few e low high ends a b =
 pub whole_one : (fs : List Fragment) (f : Fragment) (t : List ℕ) → IsUtf8 t → f ≡ whole_base f.id t → fs ≡ f ∷ [] → Each (IsWhole (base t ∷ [])) (runs fs)
 whole_one fs f t u e a = subst (λ (x : List Fragment). Each (IsWhole (base t ∷ [])) (runs x)) (sym (a ∙ ap (λ (g : Fragment). g ∷ []) e)) (base_whole f.id t u)
 
-pub base_content : (c : Content) (t : List ℕ) → Stand c.fragments.items c.index [] (base t ∷ []) → Each (IsWhole (base t ∷ [])) (runs c.fragments.items) → c.undos ≡ [] → c.text ≡ t → c.hidden ≡ [] → IsContent c (base t ∷ [])
-base_content c t s w u e f =
+pub base_content : (c : Content) (t : List ℕ) → c.fragments.items ≡ fragments_of (base t ∷ []) → Stand c.fragments.items c.index [] (base t ∷ []) → Each (IsWhole (base t ∷ [])) (runs c.fragments.items) → c.undos ≡ [] → c.text ≡ t → c.hidden ≡ [] → IsContent c (base t ∷ [])
+base_content c t fr s w u e f =
     let h : History = base t ∷ [] in
     let b = both_bytes h in
     let l = ap length (text_base t) in
     let held : bytes_held h ≡ length t = omega arith in
     record {
+      fragments = fr;
       stand = subst (λ (x : List UndoEntry). Stand c.fragments.items c.index x h) (sym u) s;
       whole = w;
       shown = e ∙ sym (text_base t);
@@ -147,10 +150,11 @@ same_taken c h ms n k t = subst (λ z. TakeTexts ms z c.hidden n) (sym k.shown) 
 -- ---- after an operation
 
 pub content_after : (c : Content) (p : Placed) (h : History) (op : Operation) (u w : List UndoEntry) (n : List ℕ) → IsMoved c p w h n → n ≡ texts (pieces_of op)
-    → w ≡ u → Stand p.fragments.items p.index u (h ++ op ∷ []) → Each (IsWhole (h ++ op ∷ [])) (runs p.fragments.items) → AreMovesOf p.moves h op → IsContent c (h ++ op ∷ [])
-content_after c p h op u w n k t e s d m =
+    → w ≡ u → p.fragments.items ≡ fragments_of (h ++ op ∷ []) → Stand p.fragments.items p.index u (h ++ op ∷ []) → Each (IsWhole (h ++ op ∷ [])) (runs p.fragments.items) → AreMovesOf p.moves h op → IsContent c (h ++ op ∷ [])
+content_after c p h op u w n k t e fr s d m =
     let f = k.texts ∙ ap (moved p.moves (text h) (hidden h)) t ∙ m in
     record {
+      fragments = k.fragments ∙ fr;
       stand = stand_is c.fragments.items p.fragments.items c.index p.index c.undos u (h ++ op ∷ []) k.fragments k.index (k.undos ∙ e) s;
       whole = subst (λ (x : List Fragment). Each (IsWhole (h ++ op ∷ [])) (runs x)) (sym k.fragments) d;
       shown = ap (λ (x : Texts). x.shown) f;

@@ -17,6 +17,7 @@ use Rattle.op_model.specs.Walked.{IsWhole}
 use Rattle.undo_map.specs.declared.entry.UndoEntry.{UndoEntry}
 use Rattle.fragments.specs.Stand.{Stand, runs}
 use Rattle.remote_edit.specs.declared.placed.Placed.{Placed}
+use Rattle.remote_edit.specs.Fragments.{fragments_of}
 use Rattle.remote_edit.specs.Moves.{moved, texts_of}
 use Rattle.text_buffer.specs.declared.content.Content.{Content}
 
@@ -38,9 +39,10 @@ pub record HasRoom (h : List Operation) (op : Operation) : Type 0 where
 abbrev pub IsFront : List Operation → List Operation → Type 0
 IsFront h g = (more : List Operation) × (g ≡ h ++ more)
 
--- the content is that of h: its fragments, which begin and end between characters, their index and the undo counts stand for h,
--- and its texts are those of h
+-- the content is that of h: its fragments are those of h and begin and end between characters, they, their index and the undo
+-- counts stand for h, and its texts are those of h
 pub record IsContent (c : Content) (h : List Operation) : Type 0 where
+  pub fragments : c.fragments.items ≡ fragments_of h
   pub stand : Stand c.fragments.items c.index c.undos h
   pub whole : Each (IsWhole h) (runs c.fragments.items)
   pub shown : c.text ≡ text h

@@ -1,11 +1,12 @@
 // What a history comes to, cell by cell.
 ghost use Rattle.std.specs.Prelude.{◌≡◌, ◌^◌, ◌≤◌, ℕ, List, ◌∷◌, [], length, IfOk};
-ghost use Rattle.locators.specs.Locator.{IsLess, EndsAboveZero, least_digits, greatest_digits};
+ghost use Rattle.locators.specs.Locator.{IsLess, EndsAboveZero, between_digits, least_digits, greatest_digits};
 ghost use Rattle.op_model.specs.Histories.{History, base};
 ghost use Rattle.op_model.specs.Sorted.{Each};
 ghost use Rattle.op_model.specs.Walked.{IsWhole};
 ghost use Rattle.fragments.specs.Laws.{whole_base};
 ghost use Rattle.fragments.specs.Stand.{Stand, entry_of, runs};
+ghost use Rattle.remote_edit.specs.Fragments.{fragments_of};
 ghost use Rattle.text_buffer.specs.Document.{IsContent};
 
 use fragments::{Fragment, InsertionIndex, Stamps};
@@ -104,6 +105,7 @@ fn base_fragments(
     text: &str,
 ) -> Result<(SumTree<Fragment>, InsertionIndex), AllocError>
     requires { length text.now ≤ 2 ^ 40 }
+    ensures fragments { IfOk result (λ r. r.0.items ≡ fragments_of (base text.now ∷ [])) }
     ensures stand { IfOk result (λ r. Stand r.0.items r.1 [] (base text.now ∷ [])) }
     ensures whole { IfOk result (λ r. Each (IsWhole (base text.now ∷ [])) (runs r.0.items)) }
 {
@@ -138,6 +140,7 @@ fn plant_one(alloc: Global, fragment: Fragment) -> Result<SumTree<Fragment>, All
 // One fragment with all cells of a base.
 fn whole_base(alloc: Global, len: u64) -> Result<Fragment, AllocError>
     ensures fragment { IfOk result (λ f. (t : List ℕ) → length t ≡ len → f ≡ whole_base f.id t) }
+    ensures id { IfOk result (λ f. f.id ≡ between_digits least_digits greatest_digits) }
     ensures above { IfOk result (λ f. IsLess least_digits f.id) }
     ensures below { IfOk result (λ f. IsLess f.id greatest_digits) }
     ensures ends { IfOk result (λ f. EndsAboveZero f.id) }

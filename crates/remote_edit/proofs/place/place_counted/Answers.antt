@@ -54,6 +54,9 @@ edit_moves-requires-clause-brought g c =
     let e = c.args.op.now in
     subst (Brings e.stamp 0 (length (texts e.pieces))) (sym c.in_ok-walk.ensures.walked) (brings r.history (Edit e) c.args.undos.now c.args.tree.now.items c.args.index.now r.stands r.lawful r.good)
 
+pub returns-clause-fragments : goal.returns-clause-fragments
+returns-clause-fragments o c = c.in_ok-walk.ensures.walked
+
 pub returns-clause-stands : goal.returns-clause-stands
 returns-clause-stands o c = λ h s l g.
     let e = c.args.op.now in

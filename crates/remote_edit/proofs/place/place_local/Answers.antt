@@ -14,6 +14,9 @@ place_counted-requires g c = may_place c.args.tree.now.items c.args.index.now c.
 pub returns-clause-made : goal.returns-clause-made
 returns-clause-made g c = λ h s e f. made_is h c.args.stamp c.args.changes.now c.in_ok-pieces.pieces c.args.version e f (c.in_ok-pieces.ensures h s.cells)
 
+pub returns-clause-fragments : goal.returns-clause-fragments
+returns-clause-fragments g c = c.in_ok-placed.ensures.fragments
+
 pub returns-clause-stands : goal.returns-clause-stands
 returns-clause-stands g c = c.in_ok-placed.ensures.stands
 

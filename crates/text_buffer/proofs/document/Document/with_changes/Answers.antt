@@ -6,6 +6,7 @@ use Rattle.op_model.specs.Histories.{clock, version}
 use Rattle.op_model.specs.Made.{made}
 use Rattle.op_model.specs.Shown.{hidden, text, texts}
 use Rattle.remote_edit.specs.Moves.{TakeTexts}
+use Rattle.remote_edit.proofs.Fragments.{fragments_with_edit}
 use Rattle.text_buffer.specs.Document.{IsContent, IsHistory}
 use Rattle.text_buffer.proofs.Contents.{content_after, edit_room, made_grows, made_texts, may_make}
 use Rattle.text_buffer.proofs.document.Document.with_changes.Goals as goal
@@ -73,4 +74,5 @@ returns-clause-content g c =
     let g = made_grows h c.args.replica c.args.changes.now op s c.requires i c.size-adds.ensures.proper in
     content_after c.in_ok-content.content c.in_ok-edit.placed h op c.self.inside.content.undos c.in_ok-undos.undos (texts c.args.changes.now) c.in_ok-content.ensures
     (sym (ap (λ (o : Operation). texts (pieces_of o)) i ∙ made_texts h c.args.replica c.args.changes.now)) c.in_ok-undos.ensures
+    (fragments_with_edit h c.in_ok-edit.edit c.self.inside.content.undos c.self.inside.content.fragments.items c.in_ok-edit.placed.fragments.items k.stand.counts k.fragments c.in_ok-edit.ensures.fragments)
     (c.in_ok-edit.ensures.stands h k.stand s.lawful g.good) (c.in_ok-edit.ensures.characters h k.stand s.lawful s.proper g.proper g.good k.whole).0 (c.in_ok-edit.ensures.moves h k.stand s.lawful g.good)

@@ -6,6 +6,7 @@ use Rattle.op_model.specs.Operations.{text_total}
 use Rattle.op_model.specs.Histories.{bytes_held}
 use Rattle.op_model.specs.Shown.{hidden, text, texts}
 use Rattle.remote_edit.specs.Moves.{TakeTexts}
+use Rattle.remote_edit.proofs.Fragments.{fragments_with_edit}
 use Rattle.text_buffer.specs.Document.{IsContent, IsHistory}
 use Rattle.text_buffer.proofs.Contents.{content_after, may_place}
 use Rattle.text_buffer.proofs.document.Document.with_edit.Goals as goal
@@ -37,6 +38,7 @@ returns c =
     let k : IsContent c.self.inside.content h = subst (IsContent c.self.inside.content) c.self.view_is c.self.invariant.content in
     let s : IsHistory h = subst IsHistory c.self.view_is c.self.invariant.history in
     IfOk-weaker c.content_of.result _ _ (λ x m. content_after x c.in_ok-placed.placed h (Edit c.args.edit.now) c.self.inside.content.undos c.in_ok-share.field-0 (texts c.as_slice.result.now) m (ap texts c.as_slice.ensures) c.in_ok-share.ensures
+    (fragments_with_edit h c.args.edit.now c.self.inside.content.undos c.self.inside.content.fragments.items c.in_ok-placed.placed.fragments.items k.stand.counts k.fragments c.in_ok-placed.ensures.fragments)
     (c.in_ok-placed.ensures.stands h k.stand s.lawful c.requires.good)
     (c.in_ok-placed.ensures.characters h k.stand s.lawful s.proper c.requires.proper c.requires.good k.whole).0
     (c.in_ok-placed.ensures.moves h k.stand s.lawful c.requires.good)) c.content_of.ensures
