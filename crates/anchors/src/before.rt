@@ -1,4 +1,4 @@
-// How much lies before a fragment, and which fragments an id is looked for in.
+//! How much lies before a fragment, and which fragments an id is looked for in.
 ghost use Rattle.anchors.specs.Before.{move_before, IsLaterBefore, BeforeFits, before_laws, reaches, reaches_parts};
 
 use fragments::FragmentSummary;

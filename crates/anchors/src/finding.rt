@@ -1,4 +1,4 @@
-// Where anchors are, and their order.
+//! Where anchors are, and their order.
 ghost use Rattle.std.specs.Prelude.{◌≡◌, Some, IfOk, IfErr, if◌then◌else◌};
 ghost use Rattle.std.specs.Result.{result_ok};
 ghost use Rattle.op_model.specs.Histories.{History};

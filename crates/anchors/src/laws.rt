@@ -1,4 +1,4 @@
-// The laws of anchors, shown by functions that do nothing.
+//! The laws of anchors, shown by functions that do nothing.
 ghost use Rattle.anchors.specs.Laws.{OrderIsTotal, LeftBeforeRight, AnchorsStayInOrder, AnchorsComeBack};
 
 /// The order of anchors is total; two that are known are equal in it only where they are one anchor.

@@ -1,4 +1,4 @@
-// Where a byte of an edit stands among fragments.
+//! Where a byte of an edit stands among fragments.
 ghost use Rattle.std.specs.Prelude.{◌≡◌, ◌++◌, ◌∷◌, ◌≤◌, ◌<◌, ◌+◌, ◌-◌, ◌^◌, List, Some, IfSome};
 ghost use Rattle.op_model.specs.Histories.{History};
 ghost use Rattle.op_model.specs.Lawful.{Lawful};

@@ -1,4 +1,4 @@
-// Where a known anchor stands.
+//! Where a known anchor stands.
 ghost use Rattle.std.specs.Prelude.{◌≡◌, ◌≤◌, ◌<◌, ◌^◌, ◌+◌, length, IfSome, if◌then◌else◌};
 ghost use Rattle.op_model.specs.Histories.{History};
 ghost use Rattle.op_model.specs.Edits.{is_boundary};

@@ -1,4 +1,4 @@
-// The applied operations in their order, found by their stamps.
+//! The applied operations in their order, found by their stamps.
 ghost use Rattle.std.specs.Prelude.{◌≡◌, ◌++◌, ◌∷◌, [], None, length, IfOk, OnErr, OnOk};
 ghost use Rattle.std.specs.Option.{option_copied};
 ghost use Rattle.op_model.specs.Operations.{stamp_of};

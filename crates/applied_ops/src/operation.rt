@@ -1,4 +1,4 @@
-// An applied operation, as it stands in a tree.
+//! An applied operation, as it stands in a tree.
 ghost use Rattle.std.specs.Prelude.{◌≡◌, IfOk};
 
 use op_model::Operation;

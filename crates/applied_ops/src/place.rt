@@ -1,4 +1,4 @@
-// Where the operation of a stamp stands.
+//! Where the operation of a stamp stands.
 ghost use Rattle.std.specs.Prelude.{◌≡◌, Some};
 ghost use Rattle.applied_ops.specs.Placed.{stamp_at};
 

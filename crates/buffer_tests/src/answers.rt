@@ -1,5 +1,5 @@
-// The answer to operations, with ample memory: where a base, an edit without pieces and its undo are applied, and an edit
-// waits.
+//! The answer to operations, with ample memory: where a base, an edit without pieces and its undo are applied, and an edit
+//! waits.
 ghost use Rattle.std.specs.Prelude.{◌≡◌, [], ◌∷◌, IfOk};
 ghost use Rattle.op_model.specs.Histories.{Distinct, base};
 ghost use Rattle.fragments.specs.Stand.{Tell, run_of};

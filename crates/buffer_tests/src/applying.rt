@@ -1,4 +1,4 @@
-// An operation is found, with ample memory.
+//! An operation is found, with ample memory.
 use crate::operations::{edit_of, stamp, version};
 use applied_ops::AppliedList;
 use lamport_clock::Lamport;

@@ -1,4 +1,4 @@
-// Texts kept as ropes, with ample memory.
+//! Texts kept as ropes, with ample memory.
 use crate::operations::{Change, pieces};
 use op_model::{EditFault, Piece, text_total};
 use rope_chunks::Rope;

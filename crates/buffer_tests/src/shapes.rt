@@ -1,4 +1,4 @@
-// Shapes of operations, equal operations and copies, with ample memory.
+//! Shapes of operations, equal operations and copies, with ample memory.
 use crate::operations::{Entries, Parts, Stamp, edit_of, operation, pieces, stamp, version};
 use lamport_clock::Lamport;
 use op_model::{Operation, ShapeFault, shape};

@@ -1,4 +1,4 @@
-// The fault of a local undo and its counts, with ample memory: two edits are applied, and an undo of each.
+//! The fault of a local undo and its counts, with ample memory: two edits are applied, and an undo of each.
 ghost use Rattle.std.specs.Prelude.{◌≡◌, IfOk};
 ghost use Rattle.op_model.specs.Histories.{Distinct};
 ghost use Rattle.undo_map.specs.Undos.{undo_entries};

@@ -1,4 +1,4 @@
-// What waits and what is ready, with ample memory.
+//! What waits and what is ready, with ample memory.
 use crate::operations::{Entries, Parts, Stamp, operation, stamp, version};
 use deferred_ops::Deferred;
 use lamport_clock::Lamport;

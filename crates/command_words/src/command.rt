@@ -1,4 +1,4 @@
-// The commands.
+//! The commands.
 
 /// What is made of a session that is read.
 #[derive(Clone, Copy, Debug, PartialEq, Eq)]

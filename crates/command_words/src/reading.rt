@@ -1,4 +1,4 @@
-// The command that words are.
+//! The command that words are.
 ghost use Rattle.std.specs.Prelude.{◌≡◌, ◌≤◌, ◌&&◌, nat_le, false, true, IfOk, IfSome, is_some, option_and_then};
 ghost use Rattle.clap.specs.Words.{found_of, kind_of, rows_of, subcommand_rows_of};
 ghost use Rattle.command_words.specs.Words.{IsInRange, clap_takes, command_from, command_of, make_from, number_of, replay_from};

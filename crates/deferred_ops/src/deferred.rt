@@ -1,4 +1,4 @@
-// What waits.
+//! What waits.
 ghost use Rattle.std.specs.Prelude.{◌≡◌, ◌&&◌, [], true, None, IsOk, IfOk, OnErr, OnOk, length};
 ghost use Rattle.std.specs.Option.{option_copied};
 ghost use Rattle.op_model.specs.Sorted.{insert_by, Ascending};

@@ -31,7 +31,7 @@ use Rattle.fragments.specs.declared.fragment.Fragment.{Fragment}
 use Rattle.fragments.specs.Stand.{runs}
 use Rattle.remote_edit.specs.declared.moves.Move.{Move}
 use Rattle.remote_edit.specs.Marks.{was_shown}
-use Rattle.remote_edit.specs.Moves.{Texts, moved, TakeTexts}
+use Rattle.remote_edit.specs.Moves.{Texts, after_moves, TakeTexts}
 use Rattle.remote_edit.specs.Carried.{Carried, IsText, shown_bytes}
 use Rattle.remote_edit.proofs.Marks.{was_told}
 use Rattle.remote_edit.proofs.Texts.{text_bytes, hidden_text_bytes}
@@ -117,7 +117,7 @@ module _ (h : History) (v : Entries) (l : Lawful h) (k : IsClosed h v) where
       characters = λ x. tt;
     })
 
-    text_back : (moved ms (text h) (hidden h) []).shown ≡ text_at h v
+    text_back : (after_moves ms (text h) (hidden h) []).shown ≡ text_at h v
     text_back = ap (λ (x : Texts). x.shown) carried.moves.put ∙ text_seen fs u counts tell
 
     each_seen : (gs : List Fragment) → Each (IsText (byte_of h)) gs → Each (IsText (byte_of h)) (map (as_seen u v) gs)

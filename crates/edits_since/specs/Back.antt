@@ -11,12 +11,12 @@ use Rattle.undo_map.specs.declared.entry.UndoEntry.{UndoEntry}
 use Rattle.fragments.specs.declared.fragment.Fragment.{Fragment}
 use Rattle.fragments.specs.Stand.{runs}
 use Rattle.remote_edit.specs.declared.moves.Move.{Move}
-use Rattle.remote_edit.specs.Moves.{moved, TakeTexts}
+use Rattle.remote_edit.specs.Moves.{after_moves, TakeTexts}
 use Rattle.edits_since.specs.Telling.{MayTell}
 
 -- of each such history, the moves make the text that v saw
 abbrev pub AreMovesBack : List Fragment → List UndoEntry → Entries → List Move → Type 0
-AreMovesBack fs u v ms = (h : History) → MayTell fs u v h → (moved ms (text h) (hidden h) []).shown ≡ text_at h v
+AreMovesBack fs u v ms = (h : History) → MayTell fs u v h → (after_moves ms (text h) (hidden h) []).shown ≡ text_at h v
 
 -- of each such history, they take whole characters where the fragments begin and end between characters
 abbrev pub TakeCharacters : List Fragment → List UndoEntry → Entries → List Move → Type 0

@@ -1,4 +1,4 @@
-// Which fragments may have changed since a version, and which were in its text.
+//! Which fragments may have changed since a version, and which were in its text.
 ghost use Rattle.std.specs.Prelude.{◌≡◌, ◌||◌, not};
 ghost use Rattle.std.specs.List.{list_all};
 ghost use Rattle.lamport_clock.specs.Versions.{sees};

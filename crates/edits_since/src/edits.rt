@@ -1,4 +1,4 @@
-// Lists of text edits.
+//! Lists of text edits.
 ghost use Rattle.std.specs.Prelude.{◌≡◌, [], ◌∷◌, ◌++◌, OnErr, OnOk};
 
 use op_model::TextEdit;

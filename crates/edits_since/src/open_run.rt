@@ -1,4 +1,4 @@
-// One walk along the bytes of a text and of an older one.
+//! One walk along the bytes of a text and of an older one.
 ghost use Rattle.std.specs.Prelude.{◌≡◌, ◌+◌, ◌<◌, ◌^◌, IfOk, OnOk};
 ghost use Rattle.edits_since.specs.Opened.{at_start, old_end, new_end, all_edits, with_kept, with_bytes};
 

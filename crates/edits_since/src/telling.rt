@@ -1,4 +1,4 @@
-// The edits since a version.
+//! The edits since a version.
 ghost use Rattle.std.specs.Prelude.{◌≡◌, ◌+◌, ◌<◌, ◌^◌, IfOk, OnOk};
 ghost use Rattle.edits_since.specs.Fates.{was_in_text};
 ghost use Rattle.edits_since.specs.Opened.{old_end, new_end, with_kept, with_bytes};

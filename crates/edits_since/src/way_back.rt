@@ -1,4 +1,4 @@
-// What takes the texts back to those that a version saw.
+//! What takes the texts back to those that a version saw.
 ghost use Rattle.std.specs.Prelude.{◌≡◌, ◌-◌, ◌≤◌, IfOk, OnOk};
 ghost use Rattle.remote_edit.specs.declared.moves.Move.TheVariants.{Visible, Hidden};
 ghost use Rattle.remote_edit.specs.Moves.{with_move};

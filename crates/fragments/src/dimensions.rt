@@ -1,4 +1,4 @@
-// Places among fragments.
+//! Places among fragments.
 ghost use Rattle.std.specs.Prelude.{◌≡◌, ℕ, ◌+◌, ◌^◌, ◌<◌, ◌≤◌, Option, Some, refl};
 ghost use Rattle.std.specs.Option.{option_copied};
 ghost use Rattle.fragments.specs.Summaries.{no_fragments, summaries, IsSummary, IsOne, greater_id};

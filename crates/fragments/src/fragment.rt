@@ -1,4 +1,4 @@
-// Fragments, and what is kept of a run of them.
+//! Fragments, and what is kept of a run of them.
 ghost use Rattle.std.specs.Prelude.{◌≡◌, IfOk, true, if◌then◌else◌};
 ghost use Rattle.std.specs.Option.{option_copied};
 ghost use Rattle.fragments.specs.Summaries.{no_fragments, summaries, IsSummary, SummaryFits, IsOne, summary_of, with_stamps, greater_id};

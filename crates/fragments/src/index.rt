@@ -1,4 +1,4 @@
-// Where the fragment of a cell is.
+//! Where the fragment of a cell is.
 ghost use Rattle.std.specs.Prelude.{◌≡◌, ◌+◌, ◌^◌, ◌≤◌, [], length, IfOk, OnErr, OnOk};
 ghost use Rattle.std.specs.Option.{option_copied};
 ghost use Rattle.fragments.specs.declared.index_entry.IndexEntry.{IndexEntry};

@@ -1,4 +1,4 @@
-// An entry of an index, and its key.
+//! An entry of an index, and its key.
 ghost use Rattle.std.specs.Prelude.{◌≡◌, Some, IfOk};
 ghost use Rattle.fragments.specs.Index.{key_of};
 

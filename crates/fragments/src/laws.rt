@@ -1,4 +1,4 @@
-// The laws of what stands for a history, shown by functions that do nothing.
+//! The laws of what stands for a history, shown by functions that do nothing.
 ghost use Rattle.fragments.specs.Laws.{IndexFindsFragments, BaseStands, EntryTakesItsPlace, PlacesCountCells};
 
 /// An index finds the fragment of each cell.

@@ -1,4 +1,4 @@
-// Of each replica the least and the greatest value of some stamps.
+//! Of each replica the least and the greatest value of some stamps.
 ghost use Rattle.std.specs.Prelude.{◌≡◌, ◌≤◌, ◌<◌, ◌∷◌, [], length, min, max, IsOk, IfOk, OnErr, OnOk, true, false};
 ghost use Rattle.fragments.specs.declared.spans.Span.{Span};
 ghost use Rattle.fragments.specs.Spans.{hull, with_span, join_spans, spans_before, IsSpanAt, sees_all, sees_none};

@@ -1,4 +1,4 @@
-// The stamps of the edits that delete a cell.
+//! The stamps of the edits that delete a cell.
 ghost use Rattle.std.specs.Prelude.{◌≡◌, ◌≤◌, [], length, IsOk, IfOk, OnErr, OnOk};
 ghost use Rattle.op_model.specs.Facts.{with_deletion};
 ghost use Rattle.fragments.specs.Stamps.{place_of};

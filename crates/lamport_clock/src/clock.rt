@@ -1,4 +1,4 @@
-// A replica's clock.
+//! A replica's clock.
 ghost use Rattle.std.specs.Prelude.{◌≡◌, ◌+◌, ◌<◌, ◌≤◌, ◌↔◌, IfOk, IsErr, OnErr, OnOk};
 ghost use Rattle.lamport_clock.specs.Clocks.{observed};
 

@@ -1,4 +1,4 @@
-// The laws of stamps and versions, shown by functions that do nothing.
+//! The laws of stamps and versions, shown by functions that do nothing.
 ghost use Rattle.lamport_clock.specs.Laws.{JoinIsLeast, NoneUnseen};
 
 /// A join is the least version that both versions lie within.

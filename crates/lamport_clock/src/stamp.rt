@@ -1,4 +1,4 @@
-// Stamps.
+//! Stamps.
 ghost use Rattle.std.specs.Prelude.{◌≡◌, Some};
 ghost use Rattle.lamport_clock.specs.Stamps.{later, same_stamp, stamp_text};
 

@@ -1,4 +1,4 @@
-// The greatest stamp value seen of each replica.
+//! The greatest stamp value seen of each replica.
 ghost use Rattle.std.specs.Prelude.{◌≡◌, ℕ, ◌<◌, ◌≤◌, [], max, IsOk, IfOk, OnErr, OnOk, length, slice_get, IsTrue, ◌↔◌};
 ghost use Rattle.lamport_clock.specs.Versions.{entry, sees, within, first_unseen, raise, joined, put, place_of, front, behind, IsAt, IsVersion, OfSameReplicas};
 

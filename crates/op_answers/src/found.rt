@@ -1,4 +1,4 @@
-// Operations that are applied or wait, found by their stamps.
+//! Operations that are applied or wait, found by their stamps.
 ghost use Rattle.std.specs.Prelude.{◌≡◌, nat_lt, not, ◌&&◌, ◌||◌, is_some, option_map, ℕ, IfSome, IsFalse, IsTrue};
 ghost use Rattle.std.specs.List.{find};
 ghost use Rattle.std.specs.Option.{option_copied};

@@ -1,4 +1,4 @@
-// The answer to a local undo.
+//! The answer to a local undo.
 ghost use Rattle.std.specs.Prelude.{◌≡◌, ◌+◌, ◌==◌, [], ◌∷◌, length, option_map, not, Some, None};
 ghost use Rattle.std.specs.List.{find};
 ghost use Rattle.op_model.specs.Choice.{first_of, when};

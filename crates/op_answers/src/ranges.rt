@@ -1,4 +1,4 @@
-// An edit's ranges against the bytes that its version sees.
+//! An edit's ranges against the bytes that its version sees.
 ghost use Rattle.std.specs.Prelude.{◌≡◌};
 ghost use Rattle.std.specs.List.{position};
 ghost use Rattle.op_model.specs.Histories.{History, seen};
@@ -30,7 +30,8 @@ fn is_inside(
     piece: &Piece,
 ) -> bool
     ensures { (h : History) → TellTexts fragments.now.items shown.now hidden.now h
-        → Lawful h → IsClosed h version.now → result ≡ is_inside (full (seen h version.now)) piece.now }
+        → Lawful h → IsClosed h version.now
+        → result ≡ is_inside (full (seen h version.now)) piece.now }
 {
     if !is_seen_boundary(fragments, shown, hidden, version, piece.start) {
         return true;
@@ -50,7 +51,8 @@ fn inside_char(
     pieces: &[Piece],
 ) -> Option<usize>
     ensures { (h : History) → TellTexts fragments.now.items shown.now hidden.now h
-        → Lawful h → IsClosed h version.now → result ≡ position (is_inside (full (seen h version.now))) pieces.now }
+        → Lawful h → IsClosed h version.now
+        → result ≡ position (is_inside (full (seen h version.now))) pieces.now }
 {
     for (i, piece) in pieces.iter().enumerate() {
         if is_inside(fragments, shown, hidden, version, piece) {
@@ -69,7 +71,8 @@ pub fn range_fault(
     pieces: &[Piece],
 ) -> Option<OpFault>
     ensures { (h : History) → TellTexts fragments.now.items shown.now hidden.now h
-        → Lawful h → IsClosed h version.now → result ≡ range_fault (full (seen h version.now)) pieces.now }
+        → Lawful h → IsClosed h version.now
+        → result ≡ range_fault (full (seen h version.now)) pieces.now }
 {
     let len = seen_len(fragments, version);
     if let Some(i) = past_end(len, pieces) {

@@ -1,4 +1,4 @@
-// The first stamp that is named twice.
+//! The first stamp that is named twice.
 ghost use Rattle.std.specs.Prelude.{◌≡◌, [], IfOk};
 ghost use Rattle.std.specs.List.{list_any};
 ghost use Rattle.lamport_clock.specs.Stamps.{same_stamp};

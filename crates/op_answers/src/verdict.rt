@@ -1,4 +1,4 @@
-// The answer to a taken operation.
+//! The answer to a taken operation.
 ghost use Rattle.std.specs.Prelude.{◌≡◌};
 ghost use Rattle.op_model.specs.Operations.{version_of};
 ghost use Rattle.op_model.specs.Histories.{Distinct, version};

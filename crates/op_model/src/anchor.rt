@@ -1,4 +1,4 @@
-// Anchors and the edits since a version, as values.
+//! Anchors and the edits since a version, as values.
 
 use lamport_clock::Lamport;
 

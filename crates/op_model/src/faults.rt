@@ -1,4 +1,4 @@
-// Why a local edit, a local undo or a taken operation is refused.
+//! Why a local edit, a local undo or a taken operation is refused.
 ghost use Rattle.std.specs.Prelude.{◌≡◌};
 ghost use Rattle.op_model.specs.declared.faults.EditFault.{EditFault};
 ghost use Rattle.op_model.specs.declared.faults.UndoFault.{UndoFault};

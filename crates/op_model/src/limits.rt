@@ -1,4 +1,4 @@
-// The limits of a buffer.
+//! The limits of a buffer.
 
 /// The most that a buffer holds: at most 2^40 bytes of new texts, and at most 2^40 - 1 entries.
 #[derive(Clone, Copy, Debug, PartialEq, Eq)]

@@ -1,4 +1,4 @@
-// Texts and the lists of an operation, which contracts see as lists.
+//! Texts and the lists of an operation, which contracts see as lists.
 ghost use Rattle.std.specs.Prelude.{◌≡◌, string_bytes, IfOk};
 
 use crate::items::Items;

@@ -1,4 +1,4 @@
-// Operations.
+//! Operations.
 ghost use Rattle.std.specs.Prelude.{◌≡◌};
 ghost use Rattle.op_model.specs.Operations.{stamp_of, version_of};
 

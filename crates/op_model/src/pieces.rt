@@ -1,4 +1,4 @@
-// What is asked of pieces with no text at hand.
+//! What is asked of pieces with no text at hand.
 ghost use Rattle.std.specs.Prelude.{◌≡◌};
 ghost use Rattle.std.specs.List.{position};
 ghost use Rattle.op_model.specs.Operations.{text_total};

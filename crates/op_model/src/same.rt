@@ -1,4 +1,4 @@
-// Equal operations, and copies of operations.
+//! Equal operations, and copies of operations.
 ghost use Rattle.std.specs.Prelude.{◌≡◌, ◌==◌, IfOk};
 ghost use Rattle.op_model.specs.Answers.{same_version, same_piece, same_count, same_list, same_op};
 ghost use Rattle.op_model.specs.declared.operation.Operation.TheVariants.{Edit, Undo};

@@ -1,4 +1,4 @@
-// Whether an operation alone is one that a replica makes.
+//! Whether an operation alone is one that a replica makes.
 ghost use Rattle.std.specs.Prelude.{◌≡◌, nat_lt, nat_le, Some, None, IfErr, OnOk};
 ghost use Rattle.std.specs.List.{list_any};
 ghost use Rattle.op_model.specs.Operations.{version_of, pieces_of};

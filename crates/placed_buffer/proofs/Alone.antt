@@ -9,12 +9,12 @@ use Rattle.op_model.specs.Steps.{limited, take_answer, take_step, settle_step, w
 use Rattle.op_model.specs.Answers.{Answer, answer}
 use Rattle.op_model.specs.Answers.Answer.{Good, Repeat, Waits, Refused}
 use Rattle.placed_buffer.specs.Standing.{TakesOne}
-use Rattle.text_buffer.specs.Buffer.{BufferState, IsBuffer, answer_to, taken, told, state}
+use Rattle.text_buffer.specs.Buffer.{BufferState, IsBuffer, answer_to, after_take, took_of, state}
 use Rattle.text_buffer.specs.declared.outcomes.Took.{Took}
 use Rattle.text_buffer.specs.declared.outcomes.Took.TheVariants as took
 
 -- what is told of an operation that is applied is told of a good one alone
-told_good : (n m : ℕ) (a : Answer) → told n a ≡ Some (took.Applied m) → a ≡ Good
+told_good : (n m : ℕ) (a : Answer) → took_of n a ≡ Some (took.Applied m) → a ≡ Good
 told_good n m Good e = refl
 told_good n m Repeat e = cc
 told_good n m (Waits r v) e = cc
@@ -48,7 +48,7 @@ good_step l op s g = ap (λ (a : Answer). elim a as (λ x. State) [
   | Refused f ↦ s
 ]) g
 
-pub takes_one : (b n : BufferState) (op : Operation) (k m : ℕ) (t : Took) → IsBuffer b → b.waiting ≡ [] → told k (answer_to b op) ≡ Some t → t ≡ took.Applied m → n ≡ taken b op → TakesOne b op n
+pub takes_one : (b n : BufferState) (op : Operation) (k m : ℕ) (t : Took) → IsBuffer b → b.waiting ≡ [] → took_of k (answer_to b op) ≡ Some t → t ≡ took.Applied m → n ≡ after_take b op → TakesOne b op n
 takes_one b n op k m r z w p i t =
     let g : answer_to b op ≡ Good = told_good k m (answer_to b op) (p ∙ ap Some i) in
     let l = limited_good (answer b.history b.waiting op) (full_fault b.limits b.history op) g in

@@ -20,7 +20,7 @@ use Rattle.fragments.specs.declared.index_entry.IndexEntry.{IndexEntry}
 use Rattle.fragments.specs.Stand.{Stand}
 use Rattle.remote_edit.specs.Placing.{MayPlace, MayMake, ArePlaced, IsMade}
 use Rattle.text_buffer.proofs.Lengths.{full_bytes}
-use Rattle.text_buffer.specs.Buffer.{BufferState, made, over_base}
+use Rattle.text_buffer.specs.Buffer.{BufferState, edit_of, over_base}
 use Rattle.placed_buffer.specs.Standing.{Stands, AreStanding, AreMade, EditsOne, UndoesOne, TakesOne}
 use Rattle.placed_buffer.proofs.Rooms.{room_edited, room_taken, made_stamp, made_by}
 
@@ -46,13 +46,13 @@ made_stands fs w u t ver ps op gs v x m p e = λ h s l c y g.
 module _ (fs : List Fragment) (w : List IndexEntry) (u : List UndoEntry) (b n : BufferState) (s : Stands fs w u b) where
   module _ (ps : List Piece) (t : Lamport) (ver : Entries) (e : EditsOne b ps t n) (v_is : ver ≡ version b.history) where
     by_replica : t.replica ≡ b.replica
-    by_replica = ap (λ (x : Lamport). x.replica) e.stamp ∙ made_by b.history b.replica ps (made b ps) refl
+    by_replica = ap (λ (x : Lamport). x.replica) e.stamp ∙ made_by b.history b.replica ps (edit_of b ps) refl
 
     is_replica : IsReplica t.replica
     is_replica = let r = by_replica in let x = e.known.least_replica in let y = e.known.greatest_replica in (omega (arith, r, x), omega (arith, r, y))
 
     at_clock : t.value ≡ clock b.history
-    at_clock = ap (λ (x : Lamport). x.value) e.stamp ∙ made_stamp b.history b.replica ps (made b ps) refl
+    at_clock = ap (λ (x : Lamport). x.value) e.stamp ∙ made_stamp b.history b.replica ps (edit_of b ps) refl
 
     pub may_make : MayMake fs w u t ver ps
     may_make = record {
@@ -71,8 +71,8 @@ module _ (fs : List Fragment) (w : List IndexEntry) (u : List UndoEntry) (b n : 
     pub edit_stands : (gs : List Fragment) (v : List IndexEntry) (x : List UndoEntry) → AreMade fs w u t ver ps gs v x → Stands gs v x n
     edit_stands gs v x a =
         let k = e.known in
-        let same : made_at b.history t.replica ps ≡ made b ps = ap (λ (r : ℕ). made_at b.history r ps) by_replica in
-        let good : answer b.history [] (made b ps) ≡ Good = (edits_are_good b.limits b.history b.replica ps k.lawful k.proper (k.least_replica, k.greatest_replica) e.faultless).0 in
+        let same : made_at b.history t.replica ps ≡ edit_of b ps = ap (λ (r : ℕ). made_at b.history r ps) by_replica in
+        let good : answer b.history [] (edit_of b ps) ≡ Good = (edits_are_good b.limits b.history b.replica ps k.lawful k.proper (k.least_replica, k.greatest_replica) e.faultless).0 in
         let g : answer b.history [] (made_at b.history t.replica ps) ≡ Good = subst (λ (o : Operation). answer b.history [] o ≡ Good) (sym same) good in
         let h : b.history ++ made_at b.history t.replica ps ∷ [] ≡ n.history = ap (λ (o : Operation). b.history ++ o ∷ []) same ∙ sym (ap (λ (y : BufferState). y.history) e.new) in
         record { stand = subst (Stand gs v x) h (a b.history s.stand k.lawful at_clock v_is g); none = ap (λ (y : BufferState). y.waiting) e.new ∙ s.none }

@@ -15,7 +15,7 @@ use Rattle.fragments.specs.declared.fragment.Fragment.{Fragment}
 use Rattle.fragments.specs.declared.index_entry.IndexEntry.{IndexEntry}
 use Rattle.fragments.specs.Stand.{Stand}
 use Rattle.op_model.specs.Settled.{full_fault}
-use Rattle.text_buffer.specs.Buffer.{BufferState, IsBuffer, edit_fault, undo_fault, made, made_undo, edited, undone}
+use Rattle.text_buffer.specs.Buffer.{BufferState, IsBuffer, edit_fault, undo_fault, edit_of, undo_of, after_edit, after_undo}
 
 -- they stand for the history of a buffer in which nothing waits
 pub record Stands (fs : List Fragment) (w : List IndexEntry) (u : List UndoEntry) (b : BufferState) : Type 0 where
@@ -35,15 +35,15 @@ AreMade fs w u t s ps gs v x = (h : History) → Stand fs w u h → Lawful h →
 pub record EditsOne (b : BufferState) (ps : List Piece) (t : Lamport) (n : BufferState) : Type 0 where
   pub known : IsBuffer b
   pub faultless : edit_fault b ps ≡ None
-  pub stamp : t ≡ stamp_of (made b ps)
-  pub new : n ≡ edited b ps
+  pub stamp : t ≡ stamp_of (edit_of b ps)
+  pub new : n ≡ after_edit b ps
 
 -- n is the buffer b with an undo that meets no fault, and op is the undo
 pub record UndoesOne (b : BufferState) (ts : List Lamport) (op : Operation) (n : BufferState) : Type 0 where
   pub known : IsBuffer b
   pub faultless : undo_fault b ts ≡ None
-  pub made : op ≡ made_undo b ts
-  pub new : n ≡ undone b ts
+  pub made : op ≡ undo_of b ts
+  pub new : n ≡ after_undo b ts
 
 -- n is the buffer b, in which nothing waits, with a good operation that passes no limit
 pub record TakesOne (b : BufferState) (op : Operation) (n : BufferState) : Type 0 where

@@ -1,7 +1,7 @@
-// A buffer with fragments beside it.
+//! A buffer with fragments beside it.
 ghost use Rattle.std.specs.Prelude.{◌≡◌, ◌≤◌, ◌-◌, ◌^◌, ◌++◌, ◌∷◌, [], IfOk, IfSome};
 ghost use Rattle.fragments.specs.Stand.{Tell};
-ghost use Rattle.text_buffer.specs.Buffer.{edited, over_base, undone};
+ghost use Rattle.text_buffer.specs.Buffer.{after_edit, over_base, after_undo};
 
 use crate::one_more::{edit_one, take_one, undo_one};
 use crate::placing::{Standing, make_timed, place_timed};
@@ -55,7 +55,7 @@ impl PlacedBuffer {
 
     /// The buffer with an edit of its own, or None where that meets a fault.
     pub fn edit(self, rt: &HostRuntime, changes: &[Piece]) -> io::Result<Option<PlacedBuffer>>
-        ensures { IfOk result (λ o. IfSome o (λ p. p ≡ edited self changes.now)) }
+        ensures { IfOk result (λ o. IfSome o (λ p. p ≡ after_edit self changes.now)) }
     {
         let version = self.buffer.version().copy(rt.alloc())?;
         let Some((buffer, stamp)) = edit_one(self.buffer, changes) else {
@@ -67,7 +67,7 @@ impl PlacedBuffer {
 
     /// The buffer with an undo of its own, or None where that meets a fault.
     pub fn undo(self, rt: &HostRuntime, edits: &[Lamport]) -> io::Result<Option<PlacedBuffer>>
-        ensures { IfOk result (λ o. IfSome o (λ p. p ≡ undone self edits.now)) }
+        ensures { IfOk result (λ o. IfSome o (λ p. p ≡ after_undo self edits.now)) }
     {
         let Some((buffer, op)) = undo_one(self.buffer, edits) else {
             return Ok(None);

@@ -1,4 +1,4 @@
-// A buffer with one operation more.
+//! A buffer with one operation more.
 ghost use Rattle.std.specs.Prelude.{◌≡◌, ◌<◌, [], IfSome};
 ghost use Rattle.placed_buffer.specs.Standing.{EditsOne, UndoesOne, IsTaken};
 

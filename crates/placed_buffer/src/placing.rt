@@ -1,4 +1,4 @@
-// Operations placed among fragments.
+//! Operations placed among fragments.
 ghost use Rattle.std.specs.Prelude.{◌≡◌, ◌<◌, ◌++◌, ◌∷◌, [], map, IfOk};
 ghost use Rattle.op_model.specs.Histories.{History};
 ghost use Rattle.op_model.specs.declared.operation.UndoCount.{UndoCount as UndoCountType};

@@ -1,4 +1,4 @@
-// The cells of a history in order, by the definitions: a plain slow list, with which fragments are compared.
+//! The cells of a history in order, by the definitions: a plain slow list, with which fragments are compared.
 ghost use Rattle.std.specs.Prelude.{◌≡◌, ◌≤◌, length, map};
 ghost use Rattle.op_model.specs.Cells.{Cell as CellType, path_before, same_cell, sibling_first};
 ghost use Rattle.placing_tests.specs.declared.cells.Name.{Name as NameType};

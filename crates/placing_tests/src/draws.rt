@@ -1,4 +1,4 @@
-// Drawn edits, undos and exchanges of three replicas.
+//! Drawn edits, undos and exchanges of three replicas.
 use crate::group::Group;
 use crate::replica::{Change, Replica};
 use lamport_clock::Lamport;

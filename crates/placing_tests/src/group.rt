@@ -1,4 +1,4 @@
-// Three replicas that work on one text.
+//! Three replicas that work on one text.
 use crate::replica::{Change, Replica};
 use lamport_clock::Lamport;
 use std::alloc::{AllocError, Global};

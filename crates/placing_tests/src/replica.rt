@@ -1,4 +1,4 @@
-// A replica: a buffer with fragments beside it and with plain cells, which are to tell the same.
+//! A replica: a buffer with fragments beside it and with plain cells, which are to tell the same.
 ghost use Rattle.std.specs.Prelude.{◌≤◌};
 
 use crate::cells::{Cell, Cells};

@@ -1,4 +1,4 @@
-// Rows of edits and undos, with the texts that they leave.
+//! Rows of edits and undos, with the texts that they leave.
 use crate::group::Group;
 use crate::replica::Change;
 use lamport_clock::Lamport;

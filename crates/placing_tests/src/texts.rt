@@ -1,4 +1,4 @@
-// The shown and the hidden text of cells, and what moves make of these.
+//! The shown and the hidden text of cells, and what moves make of these.
 use crate::cells::Cells;
 use op_model::Operation;
 use remote_edit::Move;

@@ -1,4 +1,4 @@
-// A publisher beside a reader's loop, in two threads.
+//! A publisher beside a reader's loop, in two threads.
 ghost use Rattle.std.specs.Prelude.{◌≡◌, ◌∷◌, [], List, OnOk};
 ghost use Rattle.op_model.specs.declared.operation.Operation.{Operation};
 ghost use Rattle.text_buffer.specs.Document.{IsFront};

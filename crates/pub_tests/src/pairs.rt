@@ -1,4 +1,4 @@
-// What readers show of what is published, on one thread, with ample memory.
+//! What readers show of what is published, on one thread, with ample memory.
 ghost use Rattle.std.specs.Prelude.{◌≡◌, ◌<◌, ◌∷◌, [], List, OnOk};
 ghost use Rattle.logbook.specs.Pages.{Book};
 ghost use Rattle.op_model.specs.declared.operation.Operation.{Operation};

@@ -1,4 +1,4 @@
-// Queries that go to workers in turn.
+//! Queries that go to workers in turn.
 ghost use Rattle.std.specs.Prelude.{◌≡◌, ◌+◌, ◌<◌, [], ◌∷◌, ◌++◌, List, length, slice_index_or, slice_set, OnErr, OnOk};
 ghost use Rattle.text_buffer.specs.Document.{IsFront};
 ghost use Rattle.query_workers.specs.Asks.{Ask};

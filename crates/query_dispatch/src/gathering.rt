@@ -1,4 +1,4 @@
-// The answers of all workers, in the order of the queries.
+//! The answers of all workers, in the order of the queries.
 ghost use Rattle.std.specs.Prelude.{◌≡◌, ◌<◌, ◌≤◌, List, length, map, reverse, IfOk, All};
 ghost use Rattle.op_model.specs.declared.operation.Operation.{Operation};
 ghost use Rattle.text_buffer.specs.Document.{IsFront};
@@ -45,7 +45,8 @@ impl<Q: Drop> Gathering<Q> {
             × (desks : List DeskState)
             × IsReady self.inboxes.items (map (λ v. v.items) self.tolds.items) self.sizes.items
             shown asks
-            × ArePaired IsFront shown lasts.now × All (IsPast lasts.now) asks × (self.count ≡ length asks)
+            × ArePaired IsFront shown lasts.now × All (IsPast lasts.now) asks
+            × (self.count ≡ length asks)
             × AreEnds self.inboxes.items desks × HaveWorked Q.plain desks dones.items }
         ensures { (asks : List (Ask Q)) → AreNumbered asks → self.count ≡ length asks
             → (shown : List (List Operation))

@@ -1,4 +1,4 @@
-// How the pairs of all replicas and the queues of all workers are made.
+//! How the pairs of all replicas and the queues of all workers are made.
 ghost use Rattle.std.specs.Prelude.{◌≡◌, ◌≤◌, ◌<◌, ◌+◌, ◌/◌, ◌^◌, [], ◌∷◌, ◌++◌, List, length, map, All, IfOk, OnOk};
 ghost use Rattle.std.specs.List.{range_with_len};
 ghost use Rattle.logbook.specs.Pages.{Book};

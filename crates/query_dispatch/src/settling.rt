@@ -1,4 +1,4 @@
-// The answers of one worker, once it and the editor have ended.
+//! The answers of one worker, once it and the editor have ended.
 ghost use Rattle.std.specs.Prelude.{◌≡◌, ◌<◌, ◌≤◌, List, [], length, map, reverse, IfOk, IfSome, OnOk, All};
 ghost use Rattle.op_model.specs.declared.operation.Operation.{Operation};
 ghost use Rattle.text_buffer.specs.Document.{IsFront};

@@ -1,4 +1,4 @@
-// What an editor puts into the queue of a worker.
+//! What an editor puts into the queue of a worker.
 ghost use Rattle.std.specs.Prelude.{◌≡◌, ◌<◌, [], length, slice_index_or, MatchResult};
 ghost use Rattle.query_workers.specs.Line.{IsFor};
 ghost use Rattle.query_workers.specs.Asks.{HasPut, put_into};

@@ -1,4 +1,4 @@
-// The two ends of a worker's queue, and what a worker gives back.
+//! The two ends of a worker's queue, and what a worker gives back.
 use crate::line::{Line, LinePass};
 use crate::query::Answer;
 use snapshot_pub::SnapReader;

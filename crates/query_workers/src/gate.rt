@@ -1,4 +1,4 @@
-// Where threads are held.
+//! Where threads are held.
 use std::sync::Wait;
 use std::thread::Threads;
 

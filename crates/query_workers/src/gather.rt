@@ -1,4 +1,4 @@
-// What a worker has answered, once it and the editor have ended.
+//! What a worker has answered, once it and the editor have ended.
 ghost use Rattle.std.specs.Prelude.{◌≡◌, IfOk, IfSome};
 ghost use Rattle.query_workers.specs.Line.{IsEnded};
 ghost use Rattle.query_workers.specs.Asks.{asks_of};

@@ -1,4 +1,4 @@
-// What an editor gives a worker.
+//! What an editor gives a worker.
 use snapshot_pub::Told;
 
 /// A query of a replica, with what was told of the pair that its worker has there.

@@ -1,4 +1,4 @@
-// The queue of a worker, and its rule.
+//! The queue of a worker, and its rule.
 use crate::job::Entry;
 use crossbeam_queue::protocol::{Join, Lesson, Outcome, Protocol, Split};
 use crossbeam_queue::{Pass, RuledArrayQueue};

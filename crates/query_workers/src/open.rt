@@ -1,4 +1,4 @@
-// How the queue of a worker is made.
+//! How the queue of a worker is made.
 ghost use Rattle.std.specs.Prelude.{◌≡◌, ◌<◌, [], IfOk};
 
 use crate::desk::{Desk, Inbox};

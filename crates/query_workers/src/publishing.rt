@@ -1,4 +1,4 @@
-// What an editor publishes and tells.
+//! What an editor publishes and tells.
 ghost use Rattle.std.specs.Prelude.{◌≡◌, List, length, All, IfOk, OnOk};
 ghost use Rattle.op_model.specs.declared.operation.Operation.{Operation};
 ghost use Rattle.text_buffer.specs.Document.{IsFront};

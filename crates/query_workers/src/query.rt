@@ -1,4 +1,4 @@
-// Queries, and their answers.
+//! Queries, and their answers.
 ghost use Rattle.std.specs.Prelude.{◌≡◌, IfOk};
 
 use std::alloc::{AllocError, Global};

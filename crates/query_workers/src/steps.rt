@@ -1,4 +1,4 @@
-// One entry sent, and one taken; a pass split in two, and two joined.
+//! One entry sent, and one taken; a pass split in two, and two joined.
 ghost use Rattle.std.specs.Prelude.{◌≡◌, ◌<◌, true, false, List, [], ◌∷◌, ◌++◌, length, MatchOption};
 ghost use Rattle.crossbeam_queue.specs.Passes.{view, IsPassOf, ruled_capacity};
 ghost use Rattle.query_workers.specs.Line.{log, IsFor};

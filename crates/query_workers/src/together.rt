@@ -1,4 +1,4 @@
-// An editor beside its workers.
+//! An editor beside its workers.
 ghost use Rattle.std.specs.Prelude.{◌≡◌, ◌<◌, ℕ, length, slice_index_or, IfOk};
 ghost use Rattle.query_workers.specs.Answers.{HasWorked};
 ghost use Rattle.query_workers.specs.States.{DeskState, DoneState};

@@ -1,4 +1,4 @@
-// A worker.
+//! A worker.
 ghost use Rattle.std.specs.Prelude.{◌≡◌, false, [], ◌∷◌, ◌++◌, List, IfOk, OnOk};
 ghost use Rattle.text_buffer.specs.Document.{IsFront};
 ghost use Rattle.query_workers.specs.Line.{IsFor, pairs_of};

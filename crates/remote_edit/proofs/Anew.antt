@@ -9,7 +9,7 @@ use Rattle.undo_map.specs.declared.entry.UndoEntry.{UndoEntry}
 use Rattle.fragments.specs.declared.fragment.Fragment.{Fragment}
 use Rattle.fragments.specs.Summaries.{summary_of}
 use Rattle.remote_edit.specs.SeesLaws.{begins_by, may_touch, may_concern, none_up, stamps_seen}
-use Rattle.remote_edit.specs.Anew.{concerns, counted, anew}
+use Rattle.remote_edit.specs.Anew.{concerns, recount, anew}
 
 -- a sum that an edit cannot touch is of a fragment that it does not concern
 untouched : (f : Fragment) (t : Lamport) → concerns f t ≡ true → may_touch (summary_of f) t ≡ true
@@ -25,14 +25,14 @@ untouched f t h =
 pub unmet_same : (w : List UndoEntry) (by : Lamport) (ts : List Lamport) (f : Fragment) → may_concern ts (summary_of f) ≡ false → anew w by ts f ≡ f
 unmet_same w by ts f h =
     let none : list_any (concerns f) ts ≡ false = none_up (concerns f) (may_touch (summary_of f)) (untouched f) ts h in
-    ap (λ (b : Bool). cond b (counted w by f) f) none
+    ap (λ (b : Bool). cond b (recount w by f) f) none
 
 -- a fragment that one of the edits concerns is counted, another stays
-pub concerned : (w : List UndoEntry) (by : Lamport) (ts : List Lamport) (f : Fragment) → list_any (concerns f) ts ≡ true → anew w by ts f ≡ counted w by f
-concerned w by ts f h = ap (λ (b : Bool). cond b (counted w by f) f) h
+pub concerned : (w : List UndoEntry) (by : Lamport) (ts : List Lamport) (f : Fragment) → list_any (concerns f) ts ≡ true → anew w by ts f ≡ recount w by f
+concerned w by ts f h = ap (λ (b : Bool). cond b (recount w by f) f) h
 
 pub unconcerned : (w : List UndoEntry) (by : Lamport) (ts : List Lamport) (f : Fragment) → list_any (concerns f) ts ≡ false → anew w by ts f ≡ f
-unconcerned w by ts f h = ap (λ (b : Bool). cond b (counted w by f) f) h
+unconcerned w by ts f h = ap (λ (b : Bool). cond b (recount w by f) f) h
 
 pub same_len : (w : List UndoEntry) (by : Lamport) (ts : List Lamport) (f : Fragment) → (anew w by ts f).len ≡ f.len
 same_len w by ts f = elim (cases_Bool (list_any (concerns f) ts)) [

@@ -20,7 +20,7 @@ use Rattle.fragments.specs.declared.fragment.Fragment.{Fragment}
 use Rattle.fragments.specs.Stand.{run_of, runs}
 use Rattle.remote_edit.specs.Marks.{was_shown, is_shown, marking}
 use Rattle.remote_edit.specs.Walk.{changes}
-use Rattle.remote_edit.specs.BeforeEdit.{without, before_edit, brought, InOrder}
+use Rattle.remote_edit.specs.BeforeEdit.{without, before_edit, runs_by, InOrder}
 use Rattle.remote_edit.proofs.Changing.{changing, no_text}
 
 -- ---- deletions
@@ -59,7 +59,7 @@ facts_append : (xs ys : List Run) → facts_of (xs ++ ys) ≡ facts_of xs ++ fac
 facts_append [] ys = refl
 facts_append (x ∷ xs) ys = ap (λ (z : List Fact). run_facts x ++ z) (facts_append xs ys) ∙ sym (append_assoc (run_facts x) (facts_of xs) (facts_of ys))
 
-brought_append : (t : Lamport) (xs ys : List Run) → brought t (xs ++ ys) ≡ brought t xs ++ brought t ys
+brought_append : (t : Lamport) (xs ys : List Run) → runs_by t (xs ++ ys) ≡ runs_by t xs ++ runs_by t ys
 brought_append t [] ys = refl
 brought_append t (x ∷ xs) ys = elim (cases_Bool (same_stamp t x.stamp)) [ inl e ↦ rw e (ap (λ (z : List Run). x ∷ z) (brought_append t xs ys)) | inr e ↦ rw e (brought_append t xs ys) ]
 
@@ -113,7 +113,7 @@ module _ (w : List UndoEntry) (t : Lamport) where
   record Kept (rs : List Run) (z : Walked) : Type 0 where
     facts : facts_of (old_runs z.out) ++ facts_of z.rest ≡ facts_of rs
     rest : Each IsOld z.rest
-    none : brought t z.out ≡ []
+    none : runs_by t z.out ≡ []
 
   pushed : (r x : Run) (rs : List Run) (z : Walked) → same_stamp t x.stamp ≡ false → old_run x ≡ r → Kept rs z → Kept (r ∷ rs) (W.push x z)
   pushed r x rs z n e k = record { facts = first ∙ ap (λ (s : List Fact). run_facts r ++ s) k.facts; rest = k.rest; none = rw n k.none }
@@ -158,7 +158,7 @@ module _ (w : List UndoEntry) (t : Lamport) where
     placed_gone k zero = refl
     placed_gone k (suc n) = rw (same_stamp_refl t) refl
 
-    placed_brought : (k n : ℕ) → brought t (W.placed t k n) ≡ W.placed t k n
+    placed_brought : (k n : ℕ) → runs_by t (W.placed t k n) ≡ W.placed t k n
     placed_brought k zero = refl
     placed_brought k (suc n) = rw (same_stamp_refl t) refl
 
@@ -168,13 +168,13 @@ module _ (w : List UndoEntry) (t : Lamport) where
     record KeptWith (rs : List Run) (z : Walked) (new : List Run) : Type 0 where
       facts : facts_of (old_runs z.out) ++ facts_of z.rest ≡ facts_of rs
       rest : Each IsOld z.rest
-      new_is : brought t z.out ≡ new
+      new_is : runs_by t z.out ≡ new
 
-    four : (a b c d : List Run) → brought t a ≡ [] → brought t b ≡ [] → brought t d ≡ [] → brought t (a ++ (b ++ (c ++ d))) ≡ brought t c
+    four : (a b c d : List Run) → runs_by t a ≡ [] → runs_by t b ≡ [] → runs_by t d ≡ [] → runs_by t (a ++ (b ++ (c ++ d))) ≡ runs_by t c
     four a b c d e f g =
-        brought_append t a (b ++ (c ++ d)) ∙ ap (λ (z : List Run). z ++ brought t (b ++ (c ++ d))) e
-        ∙ brought_append t b (c ++ d) ∙ ap (λ (z : List Run). z ++ brought t (c ++ d)) f
-        ∙ brought_append t c d ∙ ap (λ (z : List Run). brought t c ++ z) g ∙ append-nil (brought t c)
+        brought_append t a (b ++ (c ++ d)) ∙ ap (λ (z : List Run). z ++ runs_by t (b ++ (c ++ d))) e
+        ∙ brought_append t b (c ++ d) ∙ ap (λ (z : List Run). z ++ runs_by t (c ++ d)) f
+        ∙ brought_append t c d ∙ ap (λ (z : List Run). runs_by t c ++ z) g ∙ append-nil (runs_by t c)
 
     piece_kept : (at k : ℕ) (p : Piece) (rs : List Run) → Each IsOld rs → KeptWith rs (W.one_piece mk (sees v) t at k p rs) (W.placed t k (length p.text))
     piece_kept at k p rs o =
@@ -196,7 +196,7 @@ module _ (w : List UndoEntry) (t : Lamport) where
           new_is = four a.out b.out c d.out ka.none kb.none kd.none ∙ placed_brought k (length p.text);
         }
 
-    all_old : (rs : List Run) → Each IsOld rs → (old_runs rs ≡ rs) × (brought t rs ≡ [])
+    all_old : (rs : List Run) → Each IsOld rs → (old_runs rs ≡ rs) × (runs_by t rs ≡ [])
     all_old [] o = (refl, refl)
     all_old (r ∷ rs) o = let ih = all_old rs o.1 in let n = o.0.other in (rw n (ap (λ (x : Run). x ∷ old_runs rs) (old_same r o.0) ∙ ap (λ (z : List Run). r ∷ z) ih.0), rw n (ih.1))
 
@@ -205,7 +205,7 @@ module _ (w : List UndoEntry) (t : Lamport) where
     placed_first k (suc n) m rs i = (refl, refl, i)
 
     pub walk_kept : (at k : ℕ) (ps : List Piece) (rs : List Run) → Each IsOld rs
-        → (facts_of (old_runs (W.walk mk (sees v) t at k ps rs)) ≡ facts_of rs) × InOrder k (k + text_total ps) (brought t (W.walk mk (sees v) t at k ps rs))
+        → (facts_of (old_runs (W.walk mk (sees v) t at k ps rs)) ≡ facts_of rs) × InOrder k (k + text_total ps) (runs_by t (W.walk mk (sees v) t at k ps rs))
     walk_kept at k [] rs o =
         let a = all_old rs o in let z : k ≡ k + 0 = omega arith in
         (ap facts_of a.0, subst (InOrder k (k + 0)) (sym a.1) z)
@@ -217,6 +217,6 @@ module _ (w : List UndoEntry) (t : Lamport) where
         let ih = walk_kept p.end (k + n) ps z.rest q.rest in
         let m : k + n + text_total ps ≡ k + (n + text_total ps) = omega arith in (
           ap facts_of (old_append z.out x) ∙ facts_append (old_runs z.out) (old_runs x) ∙ ap (λ (s : List Fact). facts_of (old_runs z.out) ++ s) ih.0 ∙ q.facts,
-          subst (InOrder k (k + (n + text_total ps))) (sym (brought_append t z.out x ∙ ap (λ (y : List Run). y ++ brought t x) q.new_is))
-              (placed_first k n (k + (n + text_total ps)) (brought t x) (subst (λ (j : ℕ). InOrder (k + n) j (brought t x)) m ih.1)),
+          subst (InOrder k (k + (n + text_total ps))) (sym (brought_append t z.out x ∙ ap (λ (y : List Run). y ++ runs_by t x) q.new_is))
+              (placed_first k n (k + (n + text_total ps)) (runs_by t x) (subst (λ (j : ℕ). InOrder (k + n) j (runs_by t x)) m ih.1)),
         )

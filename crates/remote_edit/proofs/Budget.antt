@@ -9,7 +9,7 @@ use Rattle.undo_map.specs.declared.entry.UndoEntry.{UndoEntry}
 use Rattle.fragments.specs.declared.fragment.Fragment.{Fragment}
 use Rattle.fragments.specs.Stand.{IsFilled}
 use Rattle.remote_edit.specs.Walk.{Zip, zip, one_piece}
-use Rattle.remote_edit.specs.Costs.{touched_behind}
+use Rattle.remote_edit.specs.Costs.{touch_count_behind}
 use Rattle.remote_edit.specs.Starts.{AllSeen, starts}
 use Rattle.remote_edit.proofs.Starts.{behind, one_piece-rest, seen_behind, starts_behind, starts_fewer}
 use Rattle.remote_edit.proofs.PieceStarts.{piece_starts, piece_starts_touched}
@@ -118,5 +118,5 @@ pub budget_all : (v : Entries) (fs : List Fragment) (ps : List Piece) (place : �
 budget_all v fs ps place rest qs old new b = let c = b.cost in omega (arith, c)
 
 -- in the end, by the fragments that the ranges touch
-pub budget_touched : (fs : List Fragment) (ps : List Piece) (old new : ℕ) → Each IsFilled fs → Ordered 0 (2 ^ 40) ps → new ≤ old + 256 * piece_starts fs ps → new ≤ old + 256 * (length ps + touched_behind 0 ps fs)
+pub budget_touched : (fs : List Fragment) (ps : List Piece) (old new : ℕ) → Each IsFilled fs → Ordered 0 (2 ^ 40) ps → new ≤ old + 256 * piece_starts fs ps → new ≤ old + 256 * (length ps + touch_count_behind 0 ps fs)
 budget_touched fs ps old new h o l = let e = piece_starts_touched 0 (2 ^ 40) ps fs h o in omega (arith, e, l)

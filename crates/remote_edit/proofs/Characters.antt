@@ -8,7 +8,7 @@ use Rattle.std.proofs.lemmas.Bool.{cases_Bool}
 use Rattle.op_model.proofs.Utf8Runs.{take_front}
 use Rattle.remote_edit.specs.declared.moves.Move.{Move}
 use Rattle.remote_edit.specs.declared.moves.Move.TheVariants.{Visible, Hidden, Hide, Show, Insert}
-use Rattle.remote_edit.specs.Moves.{TakeTexts, length_of, as_one, joined, with_last, with_move, from_shown, from_hidden, from_new}
+use Rattle.remote_edit.specs.Moves.{TakeTexts, length_of, as_one, join_moves, with_last, with_move, from_shown, from_hidden, from_new}
 use Rattle.remote_edit.proofs.Joining.{AddsUp, more_total, shown_adds, hidden_adds, new_adds, fitted}
 
 -- the first move and those behind it
@@ -49,7 +49,7 @@ last_takes : (ms : List Move) (next : Move) (s h n : List ℕ) → TakeTexts ms 
 last_takes [] next s h n t u = u
 last_takes (m ∷ []) next s h n t u = go (as_one m next) refl
   where
-    go : (o : Option Move) → as_one m next ≡ o → TakeTexts (joined o m next) s h n
+    go : (o : Option Move) → as_one m next ≡ o → TakeTexts (join_moves o m next) s h n
     go (Some one) e = one_takes m next one e s h n (front m (next ∷ []) s h n t u)
     go None e = front m (next ∷ []) s h n t u
 last_takes (m ∷ k ∷ ms) next s h n t u =

@@ -21,7 +21,7 @@ use Rattle.remote_edit.specs.Marks.{is_shown}
 use Rattle.remote_edit.specs.Carried.{move_for, hidden_len, CarryOn}
 use Rattle.remote_edit.specs.Passed.{move_passed}
 use Rattle.remote_edit.specs.SeesLaws.{sees_edit, stamps_seen}
-use Rattle.remote_edit.specs.BeforeEdit.{without, undeleted, before_edit, edit_move, IsByCounts, brought, InOrder, Brings}
+use Rattle.remote_edit.specs.BeforeEdit.{without, without_deletion, before_edit, edit_move, IsByCounts, runs_by, InOrder, Brings}
 use Rattle.remote_edit.proofs.Carrying.{go_on, stay, on_one, on_stretch, on_insert}
 use Rattle.op_model.proofs.WholeTexts.{each_left, each_right}
 use Rattle.remote_edit.proofs.BeforeEdit.{none_without}
@@ -38,7 +38,7 @@ module _ (w : List UndoEntry) (t : Lamport) where
     | inr e ↦ e
   ])
 
-  same_undeleted : (f : Fragment) → IsByCounts w f → list_any (same_stamp t) f.deletions ≡ false → undeleted w t f ≡ f
+  same_undeleted : (f : Fragment) → IsByCounts w f → list_any (same_stamp t) f.deletions ≡ false → without_deletion w t f ≡ f
   same_undeleted f s n =
       let one : List Lamport → Fragment = λ d. record { id = f.id; stamp = f.stamp; offset = f.offset; len = f.len; visible = is_shown w f.stamp d; deletions = d; max_undos = f.max_undos } in
       let two : Bool → Fragment = λ b. record { id = f.id; stamp = f.stamp; offset = f.offset; len = f.len; visible = b; deletions = f.deletions; max_undos = f.max_undos } in
@@ -55,7 +55,7 @@ module _ (w : List UndoEntry) (t : Lamport) where
   unseen_brings [] ys k m u b = b
   unseen_brings (x ∷ xs) ys k m u b = unseen_brings xs ys k m u.1 (go (same_stamp t x.stamp) (unseen_parts x u.0).0 b)
     where
-      go : (c : Bool) → c ≡ false → InOrder k m (cond c (run_of x ∷ brought t (runs (xs ++ ys))) (brought t (runs (xs ++ ys)))) → InOrder k m (brought t (runs (xs ++ ys)))
+      go : (c : Bool) → c ≡ false → InOrder k m (cond c (run_of x ∷ runs_by t (runs (xs ++ ys))) (runs_by t (runs (xs ++ ys)))) → InOrder k m (runs_by t (runs (xs ++ ys)))
       go true e i = absurd (let z : true ≡ false = e in cc)
       go false e i = i
 
@@ -95,15 +95,15 @@ module _ (w : List UndoEntry) (t : Lamport) where
       old : List Fragment
       old = before_edit w t ahead
 
-      go : (b : Bool) → same_stamp t x.stamp ≡ b → InOrder k m (cond b (run_of x ∷ brought t (runs ahead)) (brought t (runs ahead)))
-          → CarryOn t [] [] (before_edit w t fs) 0 ms before (cond b old (undeleted w t x ∷ old)) k
+      go : (b : Bool) → same_stamp t x.stamp ≡ b → InOrder k m (cond b (run_of x ∷ runs_by t (runs ahead)) (runs_by t (runs ahead)))
+          → CarryOn t [] [] (before_edit w t fs) 0 ms before (cond b old (without_deletion w t x ∷ old)) k
           → Stepped m fs (with_move ms (cond b (Insert x.len) (move_for (is_shown w x.stamp (without t x.deletions)) x.visible x.len))) (before ++ x ∷ []) ahead
       go true e i c = record {
         k = k + x.len;
         brings = i.2;
         carry = go_on (omega arith) c (on_insert old k x (sym (same_stamp_eq t x.stamp e)) i.1 i.0);
       }
-      go false e i c = record { k = k; brings = i; carry = go_on (omega arith) c (on_one (undeleted w t x) x old (refl, refl, refl)) }
+      go false e i c = record { k = k; brings = i; carry = go_on (omega arith) c (on_one (without_deletion w t x) x old (refl, refl, refl)) }
 
   module _ (m : ℕ) (us : Lamport) (fs items : List Fragment) (ms : List Move) (shown hidden next : ℕ) (us_is : us ≡ t) (items_are : items ≡ fs) (all : Each (IsByCounts w) fs) (p : Passing m fs ms shown hidden next) where
     dropped : drop next items ≡ p.rest

@@ -30,7 +30,7 @@ use Rattle.fragments.specs.Stand.{runs, Tell, IsFilled, Stand}
 use Rattle.remote_edit.specs.Marks.{is_shown, marking}
 use Rattle.remote_edit.specs.Walk.{walk}
 use Rattle.remote_edit.specs.Indexes.{EndsBefore}
-use Rattle.remote_edit.specs.BeforeEdit.{before_edit, IsByCounts, brought, InOrder, Brings}
+use Rattle.remote_edit.specs.BeforeEdit.{before_edit, IsByCounts, runs_by, InOrder, Brings}
 use Rattle.remote_edit.proofs.Marks.{is_told}
 use Rattle.remote_edit.proofs.Changing.{changing}
 use Rattle.remote_edit.proofs.Runs.{walk_as}
@@ -100,5 +100,5 @@ module _ (h : History) (op : Operation) (u : List UndoEntry) (fs : List Fragment
   pub brings : Brings t 0 (length (texts (pieces_of op))) placed_fragments
   brings =
       let n : 0 + text_total (changing (pieces_of op)) ≡ length (texts (pieces_of op)) = let k = text_totals (pieces_of op) in omega (arith, k) in
-      subst (λ (m : ℕ). InOrder 0 m (brought t (runs placed_fragments))) n
-      (subst (λ (r : List Run). InOrder 0 (0 + text_total (changing (pieces_of op))) (brought t r)) (sym placed_runs) (walk_kept u t v 0 0 (changing (pieces_of op)) (runs fs) old).1)
+      subst (λ (m : ℕ). InOrder 0 m (runs_by t (runs placed_fragments))) n
+      (subst (λ (r : List Run). InOrder 0 (0 + text_total (changing (pieces_of op))) (runs_by t r)) (sym placed_runs) (walk_kept u t v 0 0 (changing (pieces_of op)) (runs fs) old).1)

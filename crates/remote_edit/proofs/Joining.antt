@@ -5,7 +5,7 @@ use Rattle.std.proofs.lemmas.List.{drop-drop}
 use Rattle.std.proofs.lemmas.Bool.{cases_Bool, eqb-true, false_from_ne_true}
 use Rattle.remote_edit.specs.declared.moves.Move.{Move}
 use Rattle.remote_edit.specs.declared.moves.Move.TheVariants.{Visible, Hidden, Hide, Show, Insert}
-use Rattle.remote_edit.specs.Moves.{Texts, texts_of, followed_by, moved, DoTheSame, length_of, as_one, joined, with_last, with_move, from_shown, from_hidden, from_new, MovesCompose, JoinedMovesDoTheSame, KeptBytesCommute}
+use Rattle.remote_edit.specs.Moves.{Texts, texts_of, followed_by, after_moves, DoTheSame, length_of, as_one, join_moves, with_last, with_move, from_shown, from_hidden, from_new, MovesCompose, JoinedMovesDoTheSame, KeptBytesCommute}
 
 -- ---- which list it is
 
@@ -47,20 +47,20 @@ dropped a b s = drop-drop b a s
 pub compose : MovesCompose
 compose [] ns s h n = refl
 compose (Visible k ∷ ms) ns s h n =
-    let r : Texts = moved ms (drop k s) h n in
-    rw (← dropped k (from_shown ms) s, compose ms ns (drop k s) h n) (twice (take k s) [] r.shown r.hidden (moved ns (drop (from_shown ms) (drop k s)) (drop (from_hidden ms) h) (drop (from_new ms) n)))
+    let r : Texts = after_moves ms (drop k s) h n in
+    rw (← dropped k (from_shown ms) s, compose ms ns (drop k s) h n) (twice (take k s) [] r.shown r.hidden (after_moves ns (drop (from_shown ms) (drop k s)) (drop (from_hidden ms) h) (drop (from_new ms) n)))
 compose (Hidden k ∷ ms) ns s h n =
-    let r : Texts = moved ms s (drop k h) n in
-    rw (← dropped k (from_hidden ms) h, compose ms ns s (drop k h) n) (twice [] (take k h) r.shown r.hidden (moved ns (drop (from_shown ms) s) (drop (from_hidden ms) (drop k h)) (drop (from_new ms) n)))
+    let r : Texts = after_moves ms s (drop k h) n in
+    rw (← dropped k (from_hidden ms) h, compose ms ns s (drop k h) n) (twice [] (take k h) r.shown r.hidden (after_moves ns (drop (from_shown ms) s) (drop (from_hidden ms) (drop k h)) (drop (from_new ms) n)))
 compose (Hide k ∷ ms) ns s h n =
-    let r : Texts = moved ms (drop k s) h n in
-    rw (← dropped k (from_shown ms) s, compose ms ns (drop k s) h n) (twice [] (take k s) r.shown r.hidden (moved ns (drop (from_shown ms) (drop k s)) (drop (from_hidden ms) h) (drop (from_new ms) n)))
+    let r : Texts = after_moves ms (drop k s) h n in
+    rw (← dropped k (from_shown ms) s, compose ms ns (drop k s) h n) (twice [] (take k s) r.shown r.hidden (after_moves ns (drop (from_shown ms) (drop k s)) (drop (from_hidden ms) h) (drop (from_new ms) n)))
 compose (Show k ∷ ms) ns s h n =
-    let r : Texts = moved ms s (drop k h) n in
-    rw (← dropped k (from_hidden ms) h, compose ms ns s (drop k h) n) (twice (take k h) [] r.shown r.hidden (moved ns (drop (from_shown ms) s) (drop (from_hidden ms) (drop k h)) (drop (from_new ms) n)))
+    let r : Texts = after_moves ms s (drop k h) n in
+    rw (← dropped k (from_hidden ms) h, compose ms ns s (drop k h) n) (twice (take k h) [] r.shown r.hidden (after_moves ns (drop (from_shown ms) s) (drop (from_hidden ms) (drop k h)) (drop (from_new ms) n)))
 compose (Insert k ∷ ms) ns s h n =
-    let r : Texts = moved ms s h (drop k n) in
-    rw (← dropped k (from_new ms) n, compose ms ns s h (drop k n)) (twice (take k n) [] r.shown r.hidden (moved ns (drop (from_shown ms) s) (drop (from_hidden ms) h) (drop (from_new ms) (drop k n))))
+    let r : Texts = after_moves ms s h (drop k n) in
+    rw (← dropped k (from_new ms) n, compose ms ns s h (drop k n)) (twice (take k n) [] r.shown r.hidden (after_moves ns (drop (from_shown ms) s) (drop (from_hidden ms) h) (drop (from_new ms) (drop k n))))
 
 -- ---- equal lists in front and behind
 
@@ -88,11 +88,11 @@ fitted true x y e = cc
 fitted false x y e = cc
 
 one_same : (m next one : Move) (ns : List Move) → as_one m next ≡ Some one → DoTheSame (one ∷ ns) (m ∷ next ∷ ns)
-one_same (Visible a) (Visible b) one ns o s h n = rw (← fitted (nat_lt (a + b) (2 ^ 64)) (Visible (a + b)) one o) (to_shown a b s (λ x. moved ns x h n))
-one_same (Hidden a) (Hidden b) one ns o s h n = rw (← fitted (nat_lt (a + b) (2 ^ 64)) (Hidden (a + b)) one o) (to_hidden a b h (λ x. moved ns s x n))
-one_same (Hide a) (Hide b) one ns o s h n = rw (← fitted (nat_lt (a + b) (2 ^ 64)) (Hide (a + b)) one o) (to_hidden a b s (λ x. moved ns x h n))
-one_same (Show a) (Show b) one ns o s h n = rw (← fitted (nat_lt (a + b) (2 ^ 64)) (Show (a + b)) one o) (to_shown a b h (λ x. moved ns s x n))
-one_same (Insert a) (Insert b) one ns o s h n = rw (← fitted (nat_lt (a + b) (2 ^ 64)) (Insert (a + b)) one o) (to_shown a b n (λ x. moved ns s h x))
+one_same (Visible a) (Visible b) one ns o s h n = rw (← fitted (nat_lt (a + b) (2 ^ 64)) (Visible (a + b)) one o) (to_shown a b s (λ x. after_moves ns x h n))
+one_same (Hidden a) (Hidden b) one ns o s h n = rw (← fitted (nat_lt (a + b) (2 ^ 64)) (Hidden (a + b)) one o) (to_hidden a b h (λ x. after_moves ns s x n))
+one_same (Hide a) (Hide b) one ns o s h n = rw (← fitted (nat_lt (a + b) (2 ^ 64)) (Hide (a + b)) one o) (to_hidden a b s (λ x. after_moves ns x h n))
+one_same (Show a) (Show b) one ns o s h n = rw (← fitted (nat_lt (a + b) (2 ^ 64)) (Show (a + b)) one o) (to_shown a b h (λ x. after_moves ns s x n))
+one_same (Insert a) (Insert b) one ns o s h n = rw (← fitted (nat_lt (a + b) (2 ^ 64)) (Insert (a + b)) one o) (to_shown a b n (λ x. after_moves ns s h x))
 one_same m next one ns o s h n = cc
 
 no_bytes : (m : Move) (ns : List Move) → length_of m ≡ 0 → DoTheSame (m ∷ ns) ns
@@ -106,7 +106,7 @@ last_same : (ms : List Move) (next : Move) → DoTheSame (with_last ms next) (ms
 last_same [] next s h n = refl
 last_same (m ∷ []) next s h n = go (as_one m next) refl s h n
   where
-    go : (o : Option Move) → as_one m next ≡ o → DoTheSame (joined o m next) (m ∷ next ∷ [])
+    go : (o : Option Move) → as_one m next ≡ o → DoTheSame (join_moves o m next) (m ∷ next ∷ [])
     go (Some one) e = one_same m next one [] e
     go None e = λ s h n. refl
 last_same (m ∷ k ∷ ms) next s h n = same_behind (m ∷ []) (with_last (k ∷ ms) next) ((k ∷ ms) ++ next ∷ []) (last_same (k ∷ ms) next) s h n
@@ -117,7 +117,7 @@ nothing_behind (m ∷ ms) = ap (λ k. m ∷ k) (nothing_behind ms)
 
 pub joined_same : JoinedMovesDoTheSame
 joined_same ms next s h n = elim (cases_Bool (length_of next == 0)) [
-  | inl e ↦ rw e (sym (same_behind ms (next ∷ []) [] (no_bytes next [] (eqb-true (length_of next) 0 e)) s h n ∙ ap (λ k. moved k s h n) (nothing_behind ms)))
+  | inl e ↦ rw e (sym (same_behind ms (next ∷ []) [] (no_bytes next [] (eqb-true (length_of next) 0 e)) s h n ∙ ap (λ k. after_moves k s h n) (nothing_behind ms)))
   | inr e ↦ rw e (last_same ms next s h n)
 ]
 
@@ -127,7 +127,7 @@ last_on : (ms : List Move) (next : Move) (ns : List Move) → DoTheSame (with_la
 last_on [] next ns s h n = refl
 last_on (m ∷ []) next ns s h n = go (as_one m next) refl s h n
   where
-    go : (o : Option Move) → as_one m next ≡ o → DoTheSame (joined o m next ++ ns) (m ∷ next ∷ ns)
+    go : (o : Option Move) → as_one m next ≡ o → DoTheSame (join_moves o m next ++ ns) (m ∷ next ∷ ns)
     go (Some one) e = one_same m next one ns e
     go None e = λ s h n. refl
 last_on (m ∷ k ∷ ms) next ns s h n = same_behind (m ∷ []) (with_last (k ∷ ms) next ++ ns) ((k ∷ ms) ++ next ∷ ns) (last_on (k ∷ ms) next ns) s h n
@@ -145,7 +145,7 @@ last_total : (total : List Move → ℕ) → AddsUp total → (ms : List Move) (
 last_total total a [] next = let e = a.none in omega (arith, e)
 last_total total a (m ∷ []) next = go (as_one m next) refl
   where
-    go : (o : Option Move) → as_one m next ≡ o → total (joined o m next) ≡ total (m ∷ []) + total (next ∷ [])
+    go : (o : Option Move) → as_one m next ≡ o → total (join_moves o m next) ≡ total (m ∷ []) + total (next ∷ [])
     go (Some one) e = a.one m next one e
     go None e = a.first m (next ∷ [])
 last_total total a (m ∷ k ∷ ms) next =

@@ -23,7 +23,7 @@ use Rattle.fragments.specs.declared.index_entry.IndexEntry.{IndexEntry}
 use Rattle.fragments.specs.Stand.{Tell, runs}
 use Rattle.remote_edit.specs.Walk.{bytes}
 use Rattle.remote_edit.specs.Offsets.{piece_in}
-use Rattle.remote_edit.specs.Costs.{touched, touched_behind}
+use Rattle.remote_edit.specs.Costs.{touch_count, touch_count_behind}
 use Rattle.remote_edit.specs.Starts.{AllSeen}
 use Rattle.remote_edit.specs.Placing.{MayPlace, MayMake}
 use Rattle.remote_edit.proofs.Local.{made_is, same_total}
@@ -66,10 +66,10 @@ module _ (fs : List Fragment) (w : List IndexEntry) (u : List UndoEntry) (t : La
   ordered_in qs e = let p = may_place qs e in in_order p.history (Edit (record { stamp = t; version = v; pieces = qs })) fs p.lawful p.good p.stands.cells room_in
 
   -- the steps of the pieces, by the changes
-  pub steps_in : (qs : List Piece) → qs ≡ map (full_piece m.history) ps → (old new h : ℕ) → new ≤ old + 256 * (length qs + touched_behind 0 qs fs) → new ≤ old + 256 * (length ps + touched fs ps + 1) * (h + 1)
+  pub steps_in : (qs : List Piece) → qs ≡ map (full_piece m.history) ps → (old new h : ℕ) → new ≤ old + 256 * (length qs + touch_count_behind 0 qs fs) → new ≤ old + 256 * (length ps + touch_count fs ps + 1) * (h + 1)
   steps_in qs e old new h l =
       let i : qs ≡ map (piece_in fs) ps = e ∙ sym (pieces_are m.history fs m.stands.cells ps) in
       let a : length qs ≡ length ps = ap length i ∙ length-map ps (piece_in fs) in
-      let b : touched_behind 0 qs fs ≡ touched fs ps = ap (λ (q : List Piece). touched_behind 0 q fs) i in
-      let k : 256 * (length ps + touched fs ps + 1) ≤ 256 * (length ps + touched fs ps + 1) * (h + 1) = le-mul_of_pos_right (256 * (length ps + touched fs ps + 1)) (omega arith) in
+      let b : touch_count_behind 0 qs fs ≡ touch_count fs ps = ap (λ (q : List Piece). touch_count_behind 0 q fs) i in
+      let k : 256 * (length ps + touch_count fs ps + 1) ≤ 256 * (length ps + touch_count fs ps + 1) * (h + 1) = le-mul_of_pos_right (256 * (length ps + touch_count fs ps + 1)) (omega arith) in
       omega (arith, l, a, b, k)

@@ -4,7 +4,7 @@ use Rattle.std.proofs.lemmas.List.{drop-drop}
 use Rattle.op_model.proofs.Utf8Runs.{take_front, drop_front}
 use Rattle.remote_edit.specs.declared.moves.Move.{Move}
 use Rattle.remote_edit.specs.declared.moves.Move.TheVariants.{Visible, Hidden}
-use Rattle.remote_edit.specs.Moves.{Texts, texts_of, followed_by, moved, with_move, from_shown, from_hidden, from_new, HaveMoved}
+use Rattle.remote_edit.specs.Moves.{Texts, texts_of, followed_by, after_moves, with_move, from_shown, from_hidden, from_new, HaveMoved}
 use Rattle.remote_edit.proofs.Joining.{AddsUp, more_total, shown_adds, hidden_adds, new_adds, compose, joined_same}
 
 drop_more : (total : List Move → ℕ) → AddsUp total → (ms : List Move) (m : Move) (s x y : List ℕ) → drop (total ms) s ≡ x → drop (total (m ∷ [])) x ≡ y → drop (total (with_move ms m)) s ≡ y
@@ -14,17 +14,17 @@ pub step : (s h n : List ℕ) (ms : List Move) (out left : Texts) (left_new : Li
     → HaveMoved s h n ms out left left_new → HaveMoved left.shown left.hidden left_new (m ∷ []) put after after_new
     → HaveMoved s h n (with_move ms m) (followed_by out.shown out.hidden put) after after_new
 step s h n ms out left left_new m put after after_new a b = record {
-  put = joined_same ms m s h n ∙ compose ms (m ∷ []) s h n ∙ all (moved ms s h n) out (drop (from_shown ms) s) left.shown (drop (from_hidden ms) h) left.hidden (drop (from_new ms) n) left_new b.put a.put a.left_shown a.left_hidden a.news;
+  put = joined_same ms m s h n ∙ compose ms (m ∷ []) s h n ∙ all (after_moves ms s h n) out (drop (from_shown ms) s) left.shown (drop (from_hidden ms) h) left.hidden (drop (from_new ms) n) left_new b.put a.put a.left_shown a.left_hidden a.news;
   left_shown = drop_more from_shown shown_adds ms m s left.shown after.shown a.left_shown b.left_shown;
   left_hidden = drop_more from_hidden hidden_adds ms m h left.hidden after.hidden a.left_hidden b.left_hidden;
   news = drop_more from_new new_adds ms m n left_new after_new a.news b.news;
 }
   where
-    same : (x x' y y' z z' : List ℕ) → x ≡ x' → y ≡ y' → z ≡ z' → moved (m ∷ []) x y z ≡ moved (m ∷ []) x' y' z'
+    same : (x x' y y' z z' : List ℕ) → x ≡ x' → y ≡ y' → z ≡ z' → after_moves (m ∷ []) x y z ≡ after_moves (m ∷ []) x' y' z'
     same x x' y y' z z' f g i = rw (f, g, i) refl
 
-    all : (r q : Texts) (x x' y y' z z' : List ℕ) → moved (m ∷ []) x' y' z' ≡ put → r ≡ q → x ≡ x' → y ≡ y' → z ≡ z' → followed_by r.shown r.hidden (moved (m ∷ []) x y z) ≡ followed_by q.shown q.hidden put
-    all r q x x' y y' z z' p e f g i = ap (λ (k : Texts). followed_by k.shown k.hidden (moved (m ∷ []) x y z)) e ∙ ap (followed_by q.shown q.hidden) (same x x' y y' z z' f g i ∙ p)
+    all : (r q : Texts) (x x' y y' z z' : List ℕ) → after_moves (m ∷ []) x' y' z' ≡ put → r ≡ q → x ≡ x' → y ≡ y' → z ≡ z' → followed_by r.shown r.hidden (after_moves (m ∷ []) x y z) ≡ followed_by q.shown q.hidden put
+    all r q x x' y y' z z' p e f g i = ap (λ (k : Texts). followed_by k.shown k.hidden (after_moves (m ∷ []) x y z)) e ∙ ap (followed_by q.shown q.hidden) (same x x' y y' z z' f g i ∙ p)
 
 none_behind : (x : List ℕ) → x ++ [] ≡ x
 none_behind [] = refl

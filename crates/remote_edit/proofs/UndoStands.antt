@@ -33,7 +33,7 @@ use Rattle.fragments.specs.declared.fragment.Fragment.{Fragment}
 use Rattle.fragments.specs.declared.index_entry.IndexEntry.{IndexEntry}
 use Rattle.fragments.specs.Stand.{run_of, runs, Tell, IsFilled, Rise, entry_of, SeesUndos, Stand}
 use Rattle.remote_edit.specs.Marks.{is_shown}
-use Rattle.remote_edit.specs.Anew.{concerns, counted, anew, all_anew, Counts}
+use Rattle.remote_edit.specs.Anew.{concerns, recount, anew, all_anew, Counts}
 use Rattle.remote_edit.specs.SeesLaws.{raise_sees, sees_raise, any_member}
 use Rattle.remote_edit.proofs.LaterDeletions.{HasLaterDeletions, late_deletions}
 use Rattle.remote_edit.proofs.OfFacts.{of_facts}
@@ -140,7 +140,7 @@ module _ (h : History) (op : Operation) (w : List UndoEntry) (ts : List Lamport)
   -- ---- what stays
 
   -- a property of what stays
-  kept_by : (P : Fragment → Type 0) (f : Fragment) → P (counted w (stamp_of op) f) → P f → P (m f)
+  kept_by : (P : Fragment → Type 0) (f : Fragment) → P (recount w (stamp_of op) f) → P f → P (m f)
   kept_by P f a b = elim (cases_Bool (list_any (concerns f) ts)) [ inl k ↦ rw k a | inr k ↦ rw k b ]
 
   same_id : (f : Fragment) → (m f).id ≡ f.id
@@ -165,7 +165,7 @@ module _ (h : History) (op : Operation) (w : List UndoEntry) (ts : List Lamport)
   in_more (p ∷ h) o (inr i) = elim (in_more h o i) [ inl j ↦ inl (inr j) | inr e ↦ inr e ]
 
   -- the undos that a fragment's counts come from are seen
-  sees_counted : (f : Fragment) → SeesUndos h f → SeesUndos next (counted w (stamp_of op) f)
+  sees_counted : (f : Fragment) → SeesUndos h f → SeesUndos next (recount w (stamp_of op) f)
   sees_counted f s o i c j k = elim (in_more h o i) [
     | inl n ↦ sees_raise f.max_undos (stamp_of op) (stamp_of o) (s o n c j k)
     | inr e ↦ subst (λ (p : Operation). sees (raise f.max_undos (stamp_of op)) (stamp_of p) ≡ true) (sym e) (raise_sees f.max_undos (stamp_of op))

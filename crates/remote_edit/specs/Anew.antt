@@ -17,12 +17,12 @@ abbrev pub concerns : Fragment → Lamport → Bool
 concerns f t = nat_le f.stamp.value t.value && list_any (same_stamp t) (f.stamp ∷ f.deletions)
 
 -- a fragment that is shown by undo counts w, of which the undo `by` gave some
-abbrev pub counted : List UndoEntry → Lamport → Fragment → Fragment
-counted w by f = record { id = f.id; stamp = f.stamp; offset = f.offset; len = f.len; visible = is_shown w f.stamp f.deletions; deletions = f.deletions; max_undos = raise f.max_undos by }
+abbrev pub recount : List UndoEntry → Lamport → Fragment → Fragment
+recount w by f = record { id = f.id; stamp = f.stamp; offset = f.offset; len = f.len; visible = is_shown w f.stamp f.deletions; deletions = f.deletions; max_undos = raise f.max_undos by }
 
 -- a fragment where an undo counts the edits ts
 abbrev pub anew : List UndoEntry → Lamport → List Lamport → Fragment → Fragment
-anew w by ts f = if list_any (concerns f) ts then counted w by f else f
+anew w by ts f = if list_any (concerns f) ts then recount w by f else f
 
 -- all fragments where an undo counts the edits ts
 abbrev pub all_anew : List UndoEntry → Lamport → List Lamport → List Fragment → List Fragment

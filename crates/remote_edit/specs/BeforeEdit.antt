@@ -17,13 +17,13 @@ abbrev pub without : Lamport → List Lamport → List Lamport
 without t d = filter (λ s. not (same_stamp t s)) d
 
 -- a fragment that edit t does not delete, shown by undo counts w
-abbrev pub undeleted : List UndoEntry → Lamport → Fragment → Fragment
-undeleted w t f = record { id = f.id; stamp = f.stamp; offset = f.offset; len = f.len; visible = is_shown w f.stamp (without t f.deletions); deletions = without t f.deletions; max_undos = f.max_undos }
+abbrev pub without_deletion : List UndoEntry → Lamport → Fragment → Fragment
+without_deletion w t f = record { id = f.id; stamp = f.stamp; offset = f.offset; len = f.len; visible = is_shown w f.stamp (without t f.deletions); deletions = without t f.deletions; max_undos = f.max_undos }
 
 -- fragments before edit t
 abbrev pub before_edit : List UndoEntry → Lamport → List Fragment → List Fragment
 before_edit w t [] = []
-before_edit w t (f ∷ fs) = if same_stamp t f.stamp then before_edit w t fs else undeleted w t f ∷ before_edit w t fs
+before_edit w t (f ∷ fs) = if same_stamp t f.stamp then before_edit w t fs else without_deletion w t f ∷ before_edit w t fs
 
 -- what edit t does to the bytes of a fragment
 abbrev pub edit_move : List UndoEntry → Lamport → Fragment → Move
@@ -34,8 +34,8 @@ abbrev pub IsByCounts : List UndoEntry → Fragment → Type 0
 IsByCounts w f = f.visible ≡ is_shown w f.stamp f.deletions
 
 -- the runs of edit t
-abbrev pub brought : Lamport → List Run → List Run
-brought t rs = filter (λ r. same_stamp t r.stamp) rs
+abbrev pub runs_by : Lamport → List Run → List Run
+runs_by t rs = filter (λ r. same_stamp t r.stamp) rs
 
 -- runs that are shown, and that have the cells from k up to m in order
 abbrev pub InOrder : ℕ → ℕ → List Run → Type 0
@@ -44,4 +44,4 @@ InOrder k m (r ∷ rs) = (r.visible ≡ true) × (r.offset ≡ k) × InOrder (k 
 
 -- the cells of edit t in fragments are shown, and are those from k up to m in order
 abbrev pub Brings : Lamport → ℕ → ℕ → List Fragment → Type 0
-Brings t k m fs = InOrder k m (brought t (runs fs))
+Brings t k m fs = InOrder k m (runs_by t (runs fs))

@@ -15,11 +15,11 @@ use Rattle.fragments.specs.declared.fragment.Fragment.{Fragment}
 use Rattle.fragments.specs.Stand.{runs}
 use Rattle.remote_edit.specs.declared.moves.Move.{Move}
 use Rattle.remote_edit.specs.declared.moves.Move.TheVariants.{Visible, Hidden, Hide, Show}
-use Rattle.remote_edit.specs.Moves.{Texts, texts_of, moved, TakeTexts, HaveMoved}
+use Rattle.remote_edit.specs.Moves.{Texts, texts_of, after_moves, TakeTexts, HaveMoved}
 
 -- moves take the shown and the hidden text of h, with the new text of op, to those of the history with op
 abbrev pub AreMovesOf : List Move → History → Operation → Type 0
-AreMovesOf ms h op = moved ms (text h) (hidden h) (texts (pieces_of op)) ≡ texts_of (text (h ++ op ∷ [])) (hidden (h ++ op ∷ []))
+AreMovesOf ms h op = after_moves ms (text h) (hidden h) (texts (pieces_of op)) ≡ texts_of (text (h ++ op ∷ [])) (hidden (h ++ op ∷ []))
 
 -- where the fragments fs begin and end between characters, so do gs of h with op, and the moves take whole characters
 abbrev pub KeepCharacters : List Fragment → List Fragment → List Move → History → Operation → Type 0

@@ -10,10 +10,10 @@ abbrev pub is_met : ℕ → ℕ → Piece → Bool
 is_met k n p = nat_lt (max k p.start) (min (k + n) p.end)
 
 -- how many fragments hold a cell of a range, where k cells lie before them
-abbrev pub touched_behind : ℕ → List Piece → List Fragment → ℕ
-touched_behind k ps [] = 0
-touched_behind k ps (f ∷ fs) = (if list_any (is_met k f.len) ps then 1 else 0) + touched_behind (k + f.len) ps fs
+abbrev pub touch_count_behind : ℕ → List Piece → List Fragment → ℕ
+touch_count_behind k ps [] = 0
+touch_count_behind k ps (f ∷ fs) = (if list_any (is_met k f.len) ps then 1 else 0) + touch_count_behind (k + f.len) ps fs
 
 -- how many fragments hold a cell of a range of changes, which count shown cells
-abbrev pub touched : List Fragment → List Piece → ℕ
-touched fs changes = touched_behind 0 (map (piece_in fs) changes) fs
+abbrev pub touch_count : List Fragment → List Piece → ℕ
+touch_count fs changes = touch_count_behind 0 (map (piece_in fs) changes) fs

@@ -18,13 +18,13 @@ followed_by s h r = texts_of (s ++ r.shown) (h ++ r.hidden)
 
 -- what moves make of a shown text s, a hidden text h and a new text n: each takes the next bytes of one of the three to the shown
 -- or to the hidden text; bytes of which no move tells are in neither
-abbrev pub moved : List Move → List ℕ → List ℕ → List ℕ → Texts
-moved [] s h n = texts_of [] []
-moved (Visible k ∷ ms) s h n = followed_by (take k s) [] (moved ms (drop k s) h n)
-moved (Hidden k ∷ ms) s h n = followed_by [] (take k h) (moved ms s (drop k h) n)
-moved (Hide k ∷ ms) s h n = followed_by [] (take k s) (moved ms (drop k s) h n)
-moved (Show k ∷ ms) s h n = followed_by (take k h) [] (moved ms s (drop k h) n)
-moved (Insert k ∷ ms) s h n = followed_by (take k n) [] (moved ms s h (drop k n))
+abbrev pub after_moves : List Move → List ℕ → List ℕ → List ℕ → Texts
+after_moves [] s h n = texts_of [] []
+after_moves (Visible k ∷ ms) s h n = followed_by (take k s) [] (after_moves ms (drop k s) h n)
+after_moves (Hidden k ∷ ms) s h n = followed_by [] (take k h) (after_moves ms s (drop k h) n)
+after_moves (Hide k ∷ ms) s h n = followed_by [] (take k s) (after_moves ms (drop k s) h n)
+after_moves (Show k ∷ ms) s h n = followed_by (take k h) [] (after_moves ms s (drop k h) n)
+after_moves (Insert k ∷ ms) s h n = followed_by (take k n) [] (after_moves ms s h (drop k n))
 
 -- each move takes whole characters: its bytes are UTF-8
 abbrev pub TakeTexts : List Move → List ℕ → List ℕ → List ℕ → Type 0
@@ -37,7 +37,7 @@ TakeTexts (Insert k ∷ ms) s h n = IsUtf8 (take k n) × TakeTexts ms s h (drop 
 
 -- two lists of moves do the same to all texts
 abbrev pub DoTheSame : List Move → List Move → Type 0
-DoTheSame ms ns = (s h n : List ℕ) → moved ms s h n ≡ moved ns s h n
+DoTheSame ms ns = (s h n : List ℕ) → after_moves ms s h n ≡ after_moves ns s h n
 
 -- how many bytes a move takes
 abbrev pub length_of : Move → ℕ
@@ -57,14 +57,14 @@ as_one (Insert a) (Insert b) = if nat_lt (a + b) (2 ^ 64) then Some (Insert (a +
 as_one a b = None
 
 -- a move and another behind it, as one where they are of a kind
-abbrev pub joined : Option Move → Move → Move → List Move
-joined (Some one) last next = one ∷ []
-joined None last next = last ∷ next ∷ []
+abbrev pub join_moves : Option Move → Move → Move → List Move
+join_moves (Some one) last next = one ∷ []
+join_moves None last next = last ∷ next ∷ []
 
 -- moves and another behind them: one of no bytes changes nothing, one of the last one's kind lengthens it
 abbrev pub with_last : List Move → Move → List Move
 with_last [] next = next ∷ []
-with_last (m ∷ []) next = joined (as_one m next) m next
+with_last (m ∷ []) next = join_moves (as_one m next) m next
 with_last (m ∷ k ∷ ms) next = m ∷ with_last (k ∷ ms) next
 
 abbrev pub with_move : List Move → Move → List Move
@@ -100,7 +100,7 @@ from_new (Insert k ∷ ms) = k + from_new ms
 -- moves behind others find the texts that those leave, and put behind what those put
 abbrev pub MovesCompose : Type 0
 MovesCompose = (ms ns : List Move) → (s h n : List ℕ)
-    → moved (ms ++ ns) s h n ≡ followed_by (moved ms s h n).shown (moved ms s h n).hidden (moved ns (drop (from_shown ms) s) (drop (from_hidden ms) h) (drop (from_new ms) n))
+    → after_moves (ms ++ ns) s h n ≡ followed_by (after_moves ms s h n).shown (after_moves ms s h n).hidden (after_moves ns (drop (from_shown ms) s) (drop (from_hidden ms) h) (drop (from_new ms) n))
 
 -- a move that is put behind others does the same where it is made one with the last
 abbrev pub JoinedMovesDoTheSame : Type 0
@@ -114,7 +114,7 @@ KeptBytesCommute = (ms ns : List Move) → (a b : ℕ) → DoTheSame (ms ++ Visi
 
 -- what moves have made of the texts s, h and n so far, and what those to come find of them
 pub record HaveMoved (s h n : List ℕ) (ms : List Move) (out left : Texts) (left_new : List ℕ) : Type 0 where
-  pub put : moved ms s h n ≡ out
+  pub put : after_moves ms s h n ≡ out
   pub left_shown : drop (from_shown ms) s ≡ left.shown
   pub left_hidden : drop (from_hidden ms) h ≡ left.hidden
   pub news : drop (from_new ms) n ≡ left_new

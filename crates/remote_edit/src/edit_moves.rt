@@ -1,4 +1,4 @@
-// What an edit does to the shown and to the hidden text.
+//! What an edit does to the shown and to the hidden text.
 ghost use Rattle.std.specs.Prelude.{◌≡◌, ◌||◌, [], length, IfOk};
 ghost use Rattle.std.specs.List.{list_all};
 ghost use Rattle.lamport_clock.specs.Stamps.{same_stamp};

@@ -1,4 +1,4 @@
-// What a piece of an edit makes of a range of a tree.
+//! What a piece of an edit makes of a range of a tree.
 ghost use Rattle.std.specs.Prelude.{◌≡◌, ℕ, ◌+◌, ◌-◌, ◌<◌, ◌≤◌, ◌^◌, ◌++◌, ◌∷◌, ◌&&◌, not, false, [], length, take, Some, None, IfOk};
 ghost use Rattle.std.specs.Option.{option_copied};
 ghost use Rattle.lamport_clock.specs.Versions.{sees};
@@ -113,8 +113,8 @@ impl Gather {
             (so_far tree.now.items self.old ++ ahead tree.now.items self.old) self.old.index }
         ensures from { self.new.from ≡ self.old.from }
         ensures order { self.old.at ≤ self.new.at }
-        ensures passed { IfOk result (λ n. IsOnWay (option_copied marks.entry) edit.now.stamp edit.now.version
-            left (so_far tree.now.items self.old) (ahead tree.now.items self.old)
+        ensures passed { IfOk result (λ n. IsOnWay (option_copied marks.entry) edit.now.stamp
+            edit.now.version left (so_far tree.now.items self.old) (ahead tree.now.items self.old)
             n (so_far tree.now.items self.new) (ahead tree.now.items self.new) self.new.place) }
         ensures few { AllSeen edit.now.version (ahead tree.now.items self.old)
             → IfOk result (λ n. IsFew edit.now.version tree.now.items self.old left self.new n) }
@@ -218,7 +218,8 @@ impl Gather {
         ensures from { self.new.from ≡ self.old.from }
         ensures order { self.old.at ≤ self.new.at }
         ensures gathered { IfOk result (λ _. IsAt edit.now.version
-            (advance (option_copied marks.entry) edit.now.stamp edit.now.version count (so_far tree.now.items self.old) (ahead tree.now.items self.old))
+            (advance (option_copied marks.entry) edit.now.stamp edit.now.version count
+            (so_far tree.now.items self.old) (ahead tree.now.items self.old))
             (bytes (so_far tree.now.items self.old ++ ahead tree.now.items self.old))
             (so_far tree.now.items self.new) (ahead tree.now.items self.new) self.new.place) }
         ensures few { AllSeen edit.now.version (ahead tree.now.items self.old)
@@ -280,7 +281,8 @@ impl Gather {
         ensures from { self.new.from ≡ self.old.from }
         ensures order { self.old.at ≤ self.new.at }
         ensures gathered { IfOk result (λ _. IsAt edit.now.version
-            (skip_later edit.now.stamp edit.now.version (so_far tree.now.items self.old) (ahead tree.now.items self.old))
+            (skip_later edit.now.stamp edit.now.version
+            (so_far tree.now.items self.old) (ahead tree.now.items self.old))
             (bytes (so_far tree.now.items self.old ++ ahead tree.now.items self.old))
             (so_far tree.now.items self.new) (ahead tree.now.items self.new) self.new.place) }
         ensures none { AllSeen edit.now.version (ahead tree.now.items self.old)
@@ -318,7 +320,8 @@ impl Gather {
         ensures at { self.new.at ≡ self.old.at }
         ensures back { self.new.back ≡ self.old.back }
         ensures gathered { IfOk result (λ _. IsAt edit.now.version
-            (put_new edit.now.stamp self.old.number n (so_far tree.now.items self.old) (ahead tree.now.items self.old))
+            (put_new edit.now.stamp self.old.number n
+            (so_far tree.now.items self.old) (ahead tree.now.items self.old))
             (bytes (so_far tree.now.items self.old ++ ahead tree.now.items self.old) + n)
             (so_far tree.now.items self.new) (ahead tree.now.items self.new) self.new.place) }
         ensures number { IfOk result (λ _. self.new.number ≡ self.old.number + n) }

@@ -1,4 +1,4 @@
-// The laws of moves and of whole fragments, shown by functions that do nothing.
+//! The laws of moves and of whole fragments, shown by functions that do nothing.
 ghost use Rattle.remote_edit.specs.Moves.{MovesCompose, JoinedMovesDoTheSame, KeptBytesCommute};
 ghost use Rattle.remote_edit.specs.CarriedLaws.{CarriedTextsAreThose, BaseIsWhole};
 

@@ -1,4 +1,4 @@
-// Fragments in the ranges of an edit.
+//! Fragments in the ranges of an edit.
 ghost use Rattle.std.specs.Prelude.{◌≡◌, ◌||◌, not, IfOk};
 ghost use Rattle.std.specs.Option.{option_copied};
 ghost use Rattle.std.specs.List.{list_all};

@@ -1,4 +1,4 @@
-// What an operation does to the shown and to the hidden text.
+//! What an operation does to the shown and to the hidden text.
 ghost use Rattle.std.specs.Prelude.{◌≡◌, [], length, OnErr, OnOk};
 ghost use Rattle.remote_edit.specs.Moves.{length_of, as_one, with_move};
 ghost use Rattle.remote_edit.specs.declared.moves.Move.TheVariants.{Visible, Hidden};

@@ -1,4 +1,4 @@
-// Places among the shown cells, taken to places among all cells.
+//! Places among the shown cells, taken to places among all cells.
 ghost use Rattle.std.specs.Prelude.{◌≡◌, ◌++◌, ◌≤◌, ◌^◌, map, IfOk};
 ghost use Rattle.op_model.specs.Sorted.{Each};
 ghost use Rattle.op_model.specs.Histories.{History};

@@ -1,4 +1,4 @@
-// Parts of a fragment, and new ones, with ids of their own.
+//! Parts of a fragment, and new ones, with ids of their own.
 ghost use Rattle.std.specs.Prelude.{◌≡◌, ◌+◌, ◌<◌, ◌≤◌, ◌^◌, IfOk};
 ghost use Rattle.locators.specs.Locator.{between_digits};
 ghost use Rattle.remote_edit.specs.Walk.{front, back, new_fragment};

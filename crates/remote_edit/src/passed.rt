@@ -1,4 +1,4 @@
-// How many cells are passed in a walk over fragments.
+//! How many cells are passed in a walk over fragments.
 ghost use Rattle.remote_edit.specs.Passed.{move_passed, IsLaterPassed, PassedFits, passed_laws, move_seen, IsLaterSeen, SeenFits, seen_laws};
 
 use fragments::{FragmentSummary, Full, Sight, Visible};

@@ -1,9 +1,9 @@
-// Edits placed among fragments.
+//! Edits placed among fragments.
 ghost use Rattle.std.specs.Prelude.{◌≡◌, ◌+◌, ◌*◌, ◌<◌, ◌≤◌, ◌^◌, length, IfOk};
 ghost use Rattle.op_model.specs.Walked.{Ordered};
 ghost use Rattle.op_model.specs.declared.operation.Operation.TheVariants.{Edit};
 ghost use Rattle.remote_edit.specs.Placing.{MayPlace, ArePlaced, MoveWithEdit, KeepCharactersWithEdit, MayMake, IsMade};
-ghost use Rattle.remote_edit.specs.Costs.{touched, touched_behind};
+ghost use Rattle.remote_edit.specs.Costs.{touch_count, touch_count_behind};
 ghost use Rattle.remote_edit.specs.Fragments.{with_edit};
 ghost use Rattle.remote_edit.specs.Starts.{AllSeen};
 
@@ -95,7 +95,7 @@ fn place_counted<L: Ledger>(
         undos.now (Edit op.now) p.fragments.items p.moves) }
     ensures cost { AllSeen op.now.version tree.now.items → Ordered 0 (2 ^ 40) op.now.pieces
         → steps.new ≤ steps.old + 256 * (length op.now.pieces
-        + touched_behind 0 op.now.pieces tree.now.items) }
+        + touch_count_behind 0 op.now.pieces tree.now.items) }
 {
     let walk = walk_in(alloc, tree, index, undos, op, steps)?;
     let moves = edit_moves(alloc, &walk.tree, undos, op)?;
@@ -133,7 +133,7 @@ pub fn place_local<L: Ledger>(
     ensures characters { IfOk result (λ r. KeepCharactersWithEdit tree.now.items index.now
         undos.now (Edit r.0) r.1.fragments.items r.1.moves) }
     ensures cost { steps.new ≤ steps.old + 256 * (length changes.now
-        + touched tree.now.items changes.now + 1) * (tree.now.height + 1) }
+        + touch_count tree.now.items changes.now + 1) * (tree.now.height + 1) }
 {
     let pieces = full_pieces(alloc, tree, changes)?;
     let op = EditOp {

@@ -1,4 +1,4 @@
-// What an operation makes.
+//! What an operation makes.
 use crate::Moves;
 use fragments::{Fragment, InsertionIndex};
 use sum_tree::SumTree;

@@ -1,4 +1,4 @@
-// What an undo shows and hides.
+//! What an undo shows and hides.
 ghost use Rattle.std.specs.Prelude.{◌≡◌, ◌+◌, ◌≤◌, ◌∷◌, [], Some, length, slice_get, IfOk, OnOk};
 ghost use Rattle.std.specs.List.{list_any, list_all};
 ghost use Rattle.sum_tree.specs.Laws.{fold};
@@ -8,7 +8,7 @@ ghost use Rattle.undo_map.specs.Counts.{count_of, is_odd};
 ghost use Rattle.fragments.specs.Summaries.{no_fragments, summaries, summary_of, SummaryFits};
 ghost use Rattle.remote_edit.specs.Marks.{is_shown};
 ghost use Rattle.remote_edit.specs.SeesLaws.{begins_by, may_touch};
-ghost use Rattle.remote_edit.specs.Anew.{concerns, counted, anew, all_anew};
+ghost use Rattle.remote_edit.specs.Anew.{concerns, recount, anew, all_anew};
 ghost use Rattle.remote_edit.specs.Undoing.{StandWithUndo, MoveWithUndo, KeepCharactersWithUndo};
 
 use crate::Placed;
@@ -94,7 +94,7 @@ fn counted(
     undos: &UndoMap,
     by: Lamport,
 ) -> Result<Fragment, AllocError>
-    ensures { IfOk result (λ f. f ≡ counted undos.now by fragment.now) }
+    ensures { IfOk result (λ f. f ≡ recount undos.now by fragment.now) }
 {
     let mut anew = fragment.copy(alloc)?;
     anew.visible = is_shown(undos, fragment);

@@ -1,4 +1,4 @@
-// What an undo does to the shown and to the hidden text.
+//! What an undo does to the shown and to the hidden text.
 ghost use Rattle.std.specs.Prelude.{◌≡◌, ◌-◌, ◌≤◌, [], IfOk, OnOk};
 ghost use Rattle.lamport_clock.specs.declared.stamp.Lamport.{Lamport};
 ghost use Rattle.remote_edit.specs.declared.moves.Move.TheVariants.{Visible, Hidden};

@@ -1,4 +1,4 @@
-// One walk over a tree of fragments, from the first piece of an edit to the last.
+//! One walk over a tree of fragments, from the first piece of an edit to the last.
 ghost use Rattle.std.specs.Prelude.{◌≡◌, ℕ, ◌+◌, ◌-◌, ◌*◌, ◌<◌, ◌≤◌, ◌^◌, ◌++◌, false, [], length, take, drop, max, IfOk};
 ghost use Rattle.lamport_clock.specs.Versions.{sees};
 ghost use Rattle.op_model.specs.Operations.{text_total};
@@ -8,7 +8,7 @@ ghost use Rattle.remote_edit.specs.Indexes.{IsIndexed};
 ghost use Rattle.remote_edit.specs.Walk.{bytes, seen_bytes, Fit, one_piece, changes, walk};
 ghost use Rattle.remote_edit.specs.Steps.{left_over, before, after, IsSought, IsAt};
 ghost use Rattle.remote_edit.specs.Gathers.{so_far, ahead};
-ghost use Rattle.remote_edit.specs.Costs.{touched_behind};
+ghost use Rattle.remote_edit.specs.Costs.{touch_count_behind};
 ghost use Rattle.remote_edit.specs.Starts.{AllSeen, starts, IsLeft, MakeFew};
 
 use crate::gather::Gather;
@@ -93,7 +93,8 @@ impl Walk {
         ensures from { IfOk result (λ g. g.from ≡ self.now.at) }
         ensures order { IfOk result (λ g. self.now.at ≤ g.at) }
         ensures gathered { IfOk result (λ g. IsAt edit.now.version
-            (one_piece undos.now edit.now.stamp edit.now.version left self.now.number piece.now (take self.now.at self.now.tree.items) (drop self.now.at self.now.tree.items))
+            (one_piece undos.now edit.now.stamp edit.now.version left self.now.number piece.now
+            (take self.now.at self.now.tree.items) (drop self.now.at self.now.tree.items))
             (bytes self.now.tree.items + length piece.now.text)
             (so_far self.now.tree.items g) (ahead self.now.tree.items g) g.place) }
         ensures few { AllSeen edit.now.version (drop self.now.at self.now.tree.items)
@@ -180,9 +181,11 @@ impl Walk {
             self.old.index }
         ensures within { IfOk result (λ _. self.new.at ≤ length self.new.tree.items) }
         ensures passed { IfOk result (λ _. IsAt edit.now.version
-            (one_piece undos.now edit.now.stamp edit.now.version count self.old.number piece.now (take self.old.at self.old.tree.items) (drop self.old.at self.old.tree.items))
+            (one_piece undos.now edit.now.stamp edit.now.version count self.old.number piece.now
+            (take self.old.at self.old.tree.items) (drop self.old.at self.old.tree.items))
             (bytes self.old.tree.items + length piece.now.text)
-            (take self.new.at self.new.tree.items) (drop self.new.at self.new.tree.items) self.new.place) }
+            (take self.new.at self.new.tree.items) (drop self.new.at self.new.tree.items)
+            self.new.place) }
         ensures number { IfOk result (λ _. self.new.number
             ≡ self.old.number + length piece.now.text) }
         ensures indexed { IfOk result (λ _. IsIndexed edit.now.stamp self.new.number
@@ -221,7 +224,7 @@ impl Walk {
         ensures cost { AllSeen edit.now.version self.old.tree.items
             → Ordered 0 (2 ^ 40) edit.now.pieces
             → steps.new ≤ steps.old + 256 * (length edit.now.pieces
-            + touched_behind 0 edit.now.pieces self.old.tree.items) }
+            + touch_count_behind 0 edit.now.pieces self.old.tree.items) }
     {
         let mut place = 0;
         for piece in edit.pieces.as_slice() {
@@ -316,7 +319,7 @@ pub fn walk_in<L: Ledger>(
     ensures cost { AllSeen edit.now.version tree.now.items
         → Ordered 0 (2 ^ 40) edit.now.pieces
         → steps.new ≤ steps.old + 256 * (length edit.now.pieces
-        + touched_behind 0 edit.now.pieces tree.now.items) }
+        + touch_count_behind 0 edit.now.pieces tree.now.items) }
 {
     let mut state = Walk {
         tree: tree.share()?,

@@ -10,8 +10,8 @@ use Rattle.op_model.specs.Operations.{text_total}
 use Rattle.op_model.specs.Shown.{texts}
 use Rattle.remote_edit.specs.declared.moves.Move.{Move}
 use Rattle.remote_edit.specs.declared.moves.Move.TheVariants.{Visible, Hidden, Hide, Show, Insert}
-use Rattle.remote_edit.specs.Moves.{Texts, texts_of, followed_by, moved}
-use Rattle.rope_edits.specs.Sides.{SideState, SidesState, side_len, sides_len, stepped, outcome, MayTake}
+use Rattle.remote_edit.specs.Moves.{Texts, texts_of, followed_by, after_moves}
+use Rattle.rope_edits.specs.Sides.{SideState, SidesState, side_len, sides_len, after_move, outcome, MayTake}
 
 -- ---- one rope
 
@@ -94,12 +94,12 @@ to_shown a b c r = twice a b c [] r ∙ ap (λ z. followed_by (a ++ c) z r) (app
 to_hidden : (a b d : List ℕ) (r : Texts) → followed_by a b (followed_by [] d r) ≡ followed_by a (b ++ d) r
 to_hidden a b d r = twice a b [] d r ∙ ap (λ z. followed_by z (b ++ d) r) (append-nil a)
 
-pub outcome_step : (m : Move) (ms : List Move) (s : SidesState) → outcome s (m ∷ ms) ≡ outcome (stepped m s) ms
-outcome_step (Visible k) ms s = to_shown s.shown.made s.hidden.made (take k s.shown.left) (moved ms (drop k s.shown.left) s.hidden.left s.fresh)
-outcome_step (Hidden k) ms s = to_hidden s.shown.made s.hidden.made (take k s.hidden.left) (moved ms s.shown.left (drop k s.hidden.left) s.fresh)
-outcome_step (Hide k) ms s = to_hidden s.shown.made s.hidden.made (take k s.shown.left) (moved ms (drop k s.shown.left) s.hidden.left s.fresh)
-outcome_step (Show k) ms s = to_shown s.shown.made s.hidden.made (take k s.hidden.left) (moved ms s.shown.left (drop k s.hidden.left) s.fresh)
-outcome_step (Insert k) ms s = to_shown s.shown.made s.hidden.made (take k s.fresh) (moved ms s.shown.left s.hidden.left (drop k s.fresh))
+pub outcome_step : (m : Move) (ms : List Move) (s : SidesState) → outcome s (m ∷ ms) ≡ outcome (after_move m s) ms
+outcome_step (Visible k) ms s = to_shown s.shown.made s.hidden.made (take k s.shown.left) (after_moves ms (drop k s.shown.left) s.hidden.left s.fresh)
+outcome_step (Hidden k) ms s = to_hidden s.shown.made s.hidden.made (take k s.hidden.left) (after_moves ms s.shown.left (drop k s.hidden.left) s.fresh)
+outcome_step (Hide k) ms s = to_hidden s.shown.made s.hidden.made (take k s.shown.left) (after_moves ms (drop k s.shown.left) s.hidden.left s.fresh)
+outcome_step (Show k) ms s = to_shown s.shown.made s.hidden.made (take k s.hidden.left) (after_moves ms s.shown.left (drop k s.hidden.left) s.fresh)
+outcome_step (Insert k) ms s = to_shown s.shown.made s.hidden.made (take k s.fresh) (after_moves ms s.shown.left s.hidden.left (drop k s.fresh))
 
 pub takes_first : (m : Move) (ms : List Move) (s : SidesState) → MayTake s (m ∷ ms) → MayTake s (m ∷ [])
 takes_first (Visible k) ms s h = (h.0, tt)
@@ -108,7 +108,7 @@ takes_first (Hide k) ms s h = (h.0, tt)
 takes_first (Show k) ms s h = (h.0, tt)
 takes_first (Insert k) ms s h = (h.0, tt)
 
-pub takes_rest : (m : Move) (ms : List Move) (s : SidesState) → MayTake s (m ∷ ms) → MayTake (stepped m s) ms
+pub takes_rest : (m : Move) (ms : List Move) (s : SidesState) → MayTake s (m ∷ ms) → MayTake (after_move m s) ms
 takes_rest (Visible k) ms s h = h.1
 takes_rest (Hidden k) ms s h = h.1
 takes_rest (Hide k) ms s h = h.1
@@ -118,7 +118,7 @@ takes_rest (Insert k) ms s h = h.1
 cut_len : (k : ℕ) (xs : List ℕ) → length (take k xs) + length (drop k xs) ≡ length xs
 cut_len k xs = sym (length-append (take k xs) (drop k xs)) ∙ ap length (take-append-drop k xs)
 
-pub same_len : (m : Move) (s : SidesState) → sides_len (stepped m s) ≡ sides_len s
+pub same_len : (m : Move) (s : SidesState) → sides_len (after_move m s) ≡ sides_len s
 same_len (Visible k) s = omega (arith, length-append s.shown.made (take k s.shown.left), cut_len k s.shown.left)
 same_len (Hidden k) s = omega (arith, length-append s.hidden.made (take k s.hidden.left), cut_len k s.hidden.left)
 same_len (Hide k) s = omega (arith, length-append s.hidden.made (take k s.shown.left), cut_len k s.shown.left)
@@ -144,7 +144,7 @@ pub record Turn (all : Texts) (s : SidesState) (ms : List Move) : Type 0 where
   pub takes : MayTake s ms
   pub room : sides_len s ≤ 2 ^ 40
 
-pub turn_on : (ms : List Move) (i : ℕ) (d : Move) (s t : SidesState) (all : Texts) → i < length ms → t ≡ stepped (get_or ms i d) s → outcome s (drop i ms) ≡ all → MayTake s (drop i ms) → sides_len s ≤ 2 ^ 40 → Turn all t (drop (i + 1) ms)
+pub turn_on : (ms : List Move) (i : ℕ) (d : Move) (s t : SidesState) (all : Texts) → i < length ms → t ≡ after_move (get_or ms i d) s → outcome s (drop i ms) ≡ all → MayTake s (drop i ms) → sides_len s ≤ 2 ^ 40 → Turn all t (drop (i + 1) ms)
 turn_on ms i d s t all l e o h r =
     let m : Move = get_or ms i d in
     let rest : List Move = drop (i + 1) ms in

@@ -2,7 +2,7 @@
 use Rattle.std.specs.Prelude.{ℕ, ◌+◌, List, [], ◌++◌, length, take, drop}
 use Rattle.remote_edit.specs.declared.moves.Move.{Move}
 use Rattle.remote_edit.specs.declared.moves.Move.TheVariants.{Visible, Hidden, Hide, Show, Insert}
-use Rattle.remote_edit.specs.Moves.{Texts, followed_by, moved, TakeTexts}
+use Rattle.remote_edit.specs.Moves.{Texts, followed_by, after_moves, TakeTexts}
 
 -- what was made of a text, and what of the old text no move has taken
 pub record SideState : Type 0 where
@@ -10,12 +10,12 @@ pub record SideState : Type 0 where
   pub left : List ℕ
 
 -- nothing is made of a text
-abbrev pub untouched : List ℕ → SideState
-untouched text = record { made = []; left = text }
+abbrev pub side_start : List ℕ → SideState
+side_start text = record { made = []; left = text }
 
 -- the next k bytes stay
-abbrev pub passed : ℕ → SideState → SideState
-passed k s = record { made = s.made ++ take k s.left; left = drop k s.left }
+abbrev pub pass_bytes : ℕ → SideState → SideState
+pass_bytes k s = record { made = s.made ++ take k s.left; left = drop k s.left }
 
 -- the next k bytes go
 abbrev pub without : ℕ → SideState → SideState
@@ -38,16 +38,16 @@ abbrev pub sides_len : SidesState → ℕ
 sides_len s = side_len s.shown + side_len s.hidden + length s.fresh
 
 -- after one move
-abbrev pub stepped : Move → SidesState → SidesState
-stepped (Visible k) s = record { shown = passed k s.shown; hidden = s.hidden; fresh = s.fresh }
-stepped (Hidden k) s = record { shown = s.shown; hidden = passed k s.hidden; fresh = s.fresh }
-stepped (Hide k) s = record { shown = without k s.shown; hidden = with_text (take k s.shown.left) s.hidden; fresh = s.fresh }
-stepped (Show k) s = record { shown = with_text (take k s.hidden.left) s.shown; hidden = without k s.hidden; fresh = s.fresh }
-stepped (Insert k) s = record { shown = with_text (take k s.fresh) s.shown; hidden = s.hidden; fresh = drop k s.fresh }
+abbrev pub after_move : Move → SidesState → SidesState
+after_move (Visible k) s = record { shown = pass_bytes k s.shown; hidden = s.hidden; fresh = s.fresh }
+after_move (Hidden k) s = record { shown = s.shown; hidden = pass_bytes k s.hidden; fresh = s.fresh }
+after_move (Hide k) s = record { shown = without k s.shown; hidden = with_text (take k s.shown.left) s.hidden; fresh = s.fresh }
+after_move (Show k) s = record { shown = with_text (take k s.hidden.left) s.shown; hidden = without k s.hidden; fresh = s.fresh }
+after_move (Insert k) s = record { shown = with_text (take k s.fresh) s.shown; hidden = s.hidden; fresh = drop k s.fresh }
 
 -- what moves make of the two from there on
 abbrev pub outcome : SidesState → List Move → Texts
-outcome s ms = followed_by s.shown.made s.hidden.made (moved ms s.shown.left s.hidden.left s.fresh)
+outcome s ms = followed_by s.shown.made s.hidden.made (after_moves ms s.shown.left s.hidden.left s.fresh)
 
 -- the moves take whole characters from there on
 abbrev pub MayTake : SidesState → List Move → Type 0

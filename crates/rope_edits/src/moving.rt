@@ -1,9 +1,9 @@
-// What an operation does to the shown and the hidden text, where both are kept as ropes.
+//! What an operation does to the shown and the hidden text, where both are kept as ropes.
 ghost use Rattle.std.specs.Prelude.{◌≡◌, ◌+◌, ◌^◌, ◌≤◌, [], ◌∷◌, length, IfOk, OnOk, string_bytes, take, drop, IsUtf8};
 ghost use Rattle.op_model.specs.Operations.{text_total};
 ghost use Rattle.op_model.specs.Shown.{texts};
-ghost use Rattle.remote_edit.specs.Moves.{TakeTexts, moved, texts_of};
-ghost use Rattle.rope_edits.specs.Sides.{MayTake, sides_len, stepped};
+ghost use Rattle.remote_edit.specs.Moves.{TakeTexts, after_moves, texts_of};
+ghost use Rattle.rope_edits.specs.Sides.{MayTake, sides_len, after_move};
 
 use crate::side::Side;
 use op_model::Piece;
@@ -41,7 +41,7 @@ impl<'a> Sides<'a> {
     fn step(&mut self, next: Move) -> Result<(), AllocError>
         requires texts { MayTake self.old (next ∷ []) }
         requires room { sides_len self.old ≤ 2 ^ 40 }
-        ensures ok { OnOk result (self.new ≡ stepped next self.old) }
+        ensures ok { OnOk result (self.new ≡ after_move next self.old) }
     {
         match next {
             Move::Visible(n) => {
@@ -95,7 +95,7 @@ fn move_texts(
     requires texts { TakeTexts moves.now shown.now hidden.now fresh.now }
     requires room { length shown.now + length hidden.now + length fresh.now ≤ 2 ^ 40 }
     ensures { IfOk result (λ r. texts_of r.shown r.hidden
-        ≡ moved moves.now shown.now hidden.now fresh.now) }
+        ≡ after_moves moves.now shown.now hidden.now fresh.now) }
 {
     let mut sides = Sides {
         shown: Side::new(alloc, shown)?,
@@ -127,7 +127,7 @@ pub fn apply_moves(
     requires texts { TakeTexts moves.now shown.now hidden.now (texts pieces.now) }
     requires room { length shown.now + length hidden.now + text_total pieces.now ≤ 2 ^ 40 }
     ensures { IfOk result (λ r. texts_of r.shown r.hidden
-        ≡ moved moves.now shown.now hidden.now (texts pieces.now)) }
+        ≡ after_moves moves.now shown.now hidden.now (texts pieces.now)) }
 {
     if let [piece] = pieces {
         return move_texts(alloc, shown, hidden, moves, piece.text.as_str());

@@ -1,4 +1,4 @@
-// Ranges of a rope's text: their faults, and the text with each of them replaced.
+//! Ranges of a rope's text: their faults, and the text with each of them replaced.
 ghost use Rattle.std.specs.Prelude.{◌≡◌, ◌+◌, ◌^◌, ◌≤◌, None, length, IfOk};
 ghost use Rattle.std.specs.List.{position};
 ghost use Rattle.op_model.specs.Operations.{text_total};

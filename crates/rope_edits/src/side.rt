@@ -1,6 +1,6 @@
-// A text that moves are making.
+//! A text that moves are making.
 ghost use Rattle.std.specs.Prelude.{◌≡◌, ◌+◌, ◌^◌, ◌≤◌, ◌++◌, length, take, IfOk, IsUtf8, OnOk, string_bytes};
-ghost use Rattle.rope_edits.specs.Sides.{side_len, untouched, passed, without, with_text};
+ghost use Rattle.rope_edits.specs.Sides.{side_len, side_start, pass_bytes, without, with_text};
 
 use rope_chunks::Rope;
 use std::alloc::{AllocError, Global};
@@ -33,7 +33,7 @@ impl Model for Side {
 impl Side {
     /// Nothing is made of the rope's text. Its chunks are shared.
     pub fn new(alloc: Global, rope: &Rope) -> Result<Side, AllocError>
-        ensures { IfOk result (λ s. s ≡ untouched rope.now) }
+        ensures { IfOk result (λ s. s ≡ side_start rope.now) }
     {
         rope.known();
         let rope = rope.share()?;
@@ -55,7 +55,7 @@ impl Side {
     /// The next bytes stay.
     pub fn pass(&mut self, bytes: u64)
         requires { IsUtf8 (take bytes self.old.left) }
-        ensures { self.new ≡ passed bytes self.old }
+        ensures { self.new ≡ pass_bytes bytes self.old }
     {
         self.rope.known();
         self.made = self.end_of(bytes);

@@ -27,7 +27,8 @@ pub fn is_seen_boundary(
     place: u64,
 ) -> bool
     ensures { (h : History) → TellTexts fragments.now.items shown.now hidden.now h
-        → Lawful h → IsClosed h version.now → result ≡ is_boundary (full (seen h version.now)) place }
+        → Lawful h → IsClosed h version.now
+        → result ≡ is_boundary (full (seen h version.now)) place }
 {
     fragments.known();
     let start = SeenPassed {

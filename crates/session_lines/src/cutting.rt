@@ -1,4 +1,4 @@
-// The lines of a text.
+//! The lines of a text.
 ghost use Rattle.std.specs.Prelude.{◌≡◌, ◌<◌, ◌∷◌, ◌==◌, ◌+◌, length};
 ghost use Rattle.std.specs.List.{position, position_or_len};
 ghost use Rattle.session_lines.specs.Cut.{feeds, lines_of};

@@ -1,4 +1,4 @@
-// Reading a session from its bytes.
+//! Reading a session from its bytes.
 ghost use Rattle.std.specs.Prelude.{◌≡◌, ◌<◌, ◌≤◌, ◌⊎◌, [], length, IfOk, IfErr, Ok, Err, None, Some};
 ghost use Rattle.std.specs.List.{list_all};
 ghost use Rattle.session_lines.specs.Cut.{lines_of};

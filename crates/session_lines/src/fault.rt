@@ -1,4 +1,4 @@
-// Why an input is no session.
+//! Why an input is no session.
 ghost use Rattle.std.specs.Prelude.{◌≡◌, Some};
 ghost use Rattle.session_lines.specs.Words.{word_text};
 ghost use Rattle.session_lines.specs.declared.fault.DecodeFault.{DecodeFault};

@@ -1,4 +1,4 @@
-// The forms of a line after the header.
+//! The forms of a line after the header.
 ghost use Rattle.std.specs.Prelude.{◌≡◌, map, IfOk, None, Some};
 ghost use Rattle.serde_json.specs.View.{view};
 ghost use Rattle.session_lines.specs.Json.{listed};

@@ -1,4 +1,4 @@
-// The header of a session.
+//! The header of a session.
 ghost use Rattle.std.specs.Prelude.{◌≡◌, map, option_and_then, IfOk, None, Some};
 ghost use Rattle.std.specs.List.{list_all};
 ghost use Rattle.serde_json.specs.View.{view};

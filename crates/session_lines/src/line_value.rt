@@ -1,4 +1,4 @@
-// A line as JSON.
+//! A line as JSON.
 ghost use Rattle.std.specs.Prelude.{◌≡◌, map, option_map, IfOk, None, Some, Err};
 ghost use Rattle.serde_json.specs.View.{view};
 ghost use Rattle.session_lines.specs.Json.{value_of, listed, is_text, is_number};

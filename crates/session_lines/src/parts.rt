@@ -1,4 +1,4 @@
-// The parts of a line.
+//! The parts of a line.
 ghost use Rattle.std.specs.Prelude.{◌≡◌, ◌<◌, ◌≤◌, [], length, map, option_map, IfOk, None, Some};
 ghost use Rattle.lamport_clock.specs.Versions.{joined};
 ghost use Rattle.serde_json.specs.View.{view};

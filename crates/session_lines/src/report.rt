@@ -1,4 +1,4 @@
-// A line of a report, as a value.
+//! A line of a report, as a value.
 ghost use Rattle.std.specs.Prelude.{◌≡◌};
 ghost use Rattle.session_lines.specs.Report.{checked};
 

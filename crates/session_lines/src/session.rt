@@ -1,4 +1,4 @@
-// A session, as it is read.
+//! A session, as it is read.
 ghost use Rattle.std.specs.Prelude.{◌≡◌};
 ghost use Rattle.std.specs.Option.{option_copied};
 ghost use Rattle.session_lines.specs.Session.{anchor_name, is_operation, is_query, mark_name, operation_count, query_count};

@@ -1,4 +1,4 @@
-// The text of a report's line.
+//! The text of a report's line.
 ghost use Rattle.std.specs.Prelude.{◌≡◌, ◌++◌, false, length, string_bytes, take, true, OnOk, OnErr, IfOk};
 ghost use Rattle.std.specs.Iterator.{IsFinite};
 ghost use Rattle.json.specs.Print.{escape, quoted};

@@ -1,4 +1,4 @@
-// The numbers that sessions are made of.
+//! The numbers that sessions are made of.
 ghost use Rattle.std.specs.Prelude.{◌≡◌, ◌<◌};
 ghost use Rattle.session_maker.specs.Draws.{drawn, next};
 

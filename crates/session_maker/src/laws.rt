@@ -1,4 +1,4 @@
-// What a session that is made is, as a text.
+//! What a session that is made is, as a text.
 ghost use Rattle.session_maker.specs.Laws.{MadeSessionsDecode};
 
 /// The text of a session that is made, a header and lines of JSON, decodes to the session: it is as if it had been read. It is

@@ -1,4 +1,4 @@
-// The line of a turn.
+//! The line of a turn.
 ghost use Rattle.std.specs.Prelude.{◌≡◌, ◌<◌, ◌≤◌, ◌^◌, replicate, string_bytes, IfOk};
 ghost use Rattle.session_maker.specs.Draws.{next};
 ghost use Rattle.session_maker.specs.Turns.{author_of, delete_turn, edit_line, insert_turn, turn_of, undo_turn};

@@ -6,7 +6,7 @@ use Rattle.std.proofs.lemmas.List.{length-map}
 use Rattle.text_buffer.specs.Buffer.{BufferState}
 use Rattle.session_lines.specs.Report.{report_text}
 use Rattle.session_lines.specs.declared.report.Report.{Report}
-use Rattle.session_replay.specs.Work.{buffer_of, opened, reports_at, with_buffer}
+use Rattle.session_replay.specs.Work.{buffer_of, first_buffer, reports_at, with_buffer}
 use Rattle.session_replay.proofs.Buffers.{found, not_found}
 use Rattle.session_replay.proofs.Steps.{none_reported}
 
@@ -16,13 +16,13 @@ own r b = b.replica == r
 
 -- ---- buffers that are opened for ids
 
-place-opened : (base : List ℕ) (r : ℕ) (ids : List ℕ) → position_or_len (own r) (map (opened base) ids) ≡ position_or_len (λ (i : ℕ). i == r) ids
+place-opened : (base : List ℕ) (r : ℕ) (ids : List ℕ) → position_or_len (own r) (map (first_buffer base) ids) ≡ position_or_len (λ (i : ℕ). i == r) ids
 place-opened base r [] = refl
 place-opened base r (i ∷ ids) = ap (λ (m : ℕ). cond (not (i == r)) (1 + m) 0) (place-opened base r ids)
 
 -- the place of a replica is that of its id
-pub position-opened : (base : List ℕ) (r : ℕ) (ids : List ℕ) → position (own r) (map (opened base) ids) ≡ position (λ (i : ℕ). i == r) ids
-position-opened base r ids = ap₂ (λ (m n : ℕ). cond (nat_lt m n) (Some m) None) (place-opened base r ids) (length-map ids (opened base))
+pub position-opened : (base : List ℕ) (r : ℕ) (ids : List ℕ) → position (own r) (map (first_buffer base) ids) ≡ position (λ (i : ℕ). i == r) ids
+position-opened base r ids = ap₂ (λ (m n : ℕ). cond (nat_lt m n) (Some m) None) (place-opened base r ids) (length-map ids (first_buffer base))
 
 -- ---- f is what becomes of the buffer of replica r
 

@@ -5,7 +5,7 @@ use Rattle.std.specs.Prelude.{⊤}
 use Rattle.op_model.specs.declared.operation.Operation.{Operation}
 use Rattle.op_model.specs.Steps.{Step, Settles, Takes}
 use Rattle.op_model.proofs.MainLaws.{runs_append}
-use Rattle.text_buffer.specs.Buffer.{BufferState, after_calls, applied, settled, state}
+use Rattle.text_buffer.specs.Buffer.{BufferState, after_calls, after_apply, after_settle, state}
 use Rattle.text_buffer.specs.Document.{IsFront}
 use Rattle.session_lines.specs.declared.report.Report.{Report}
 use Rattle.session_lines.specs.declared.session.SessionLine.{SessionLine}
@@ -29,7 +29,7 @@ calls_grow : (cs : List Step) (b : BufferState) → Grows b (after_calls cs b)
 calls_grow cs b = (refl, runs_append b.limits b.replica cs (state b))
 
 outcome_grows : (o : Result Operation Report) (b : BufferState) → Grows b (after_outcome o b)
-outcome_grows (Ok op) b = grows_trans b (applied b op) (settled (applied b op)) (refl, (op ∷ [], refl)) (calls_grow (Settles ∷ []) (applied b op))
+outcome_grows (Ok op) b = grows_trans b (after_apply b op) (after_settle (after_apply b op)) (refl, (op ∷ [], refl)) (calls_grow (Settles ∷ []) (after_apply b op))
 outcome_grows (Err r) b = grows_itself b
 
 give_grows : (o : Option Operation) (b : BufferState) → Grows b (after_give o b)

@@ -16,7 +16,7 @@ use Rattle.op_model.specs.Histories.{History}
 use Rattle.op_model.specs.declared.anchor.Anchor.{Anchor}
 use Rattle.op_model.specs.declared.anchor.Bias.{Bias}
 use Rattle.op_model.specs.declared.faults.PlaceFault.{PlaceFault}
-use Rattle.session_replay.specs.Names.{anchor_made, by_bytes, under, with_name}
+use Rattle.session_replay.specs.Names.{new_anchor, by_bytes, under, with_name}
 
 module _ {X Y : Type 0} where
   -- what a map has at the bytes of a name
@@ -40,6 +40,6 @@ module _ {X Y : Type 0} where
   put_under k x (e ∷ es) = put_by k x e es (string_cmp k e.0) (put_under k x es)
 
 -- an anchor that was made is the one that is defined, and none is where there is a fault
-pub made_is : (o : ℕ) (b : Bias) (h : History) (r : Result Anchor PlaceFault) → result_err r ≡ place_fault h o → IfOk r (λ a. made_anchor h o b ≡ Some a) → result_ok r ≡ anchor_made o b h
+pub made_is : (o : ℕ) (b : Bias) (h : History) (r : Result Anchor PlaceFault) → result_err r ≡ place_fault h o → IfOk r (λ a. made_anchor h o b ≡ Some a) → result_ok r ≡ new_anchor o b h
 made_is o b h (Ok a) e i = sym i ∙ ap (λ f. cond (is_none f) (made_anchor h o b) None) e
 made_is o b h (Err x) e i = ap (λ f. cond (is_none f) (made_anchor h o b) None) e

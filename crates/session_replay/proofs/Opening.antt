@@ -20,7 +20,7 @@ use Rattle.query_dispatch.specs.Dealt.{HasAsked}
 use Rattle.query_dispatch.specs.Settled.{AreGathered, IsPast}
 use Rattle.query_dispatch.specs.Shown.{AreLevel, AreTied, column, rows_of, shown_lists}
 use Rattle.query_dispatch.specs.States.{PublishersState}
-use Rattle.session_replay.specs.Work.{State, after_all, all_events, at_end, opened, opening}
+use Rattle.session_replay.specs.Work.{State, after_all, all_events, at_end, first_buffer, opening}
 use Rattle.session_replay.specs.Working.{state_of}
 use Rattle.session_replay.specs.Names.{by_bytes}
 use Rattle.session_replay.specs.Queries.{IsReport, end_of, plain_answer, queries_from, queries_of, reply_line}
@@ -36,8 +36,8 @@ use Rattle.session_replay.proofs.Gathered.{gathered, gathered_lines, past, repli
 
 -- ---- at the opening
 
-pub opened_state : (s : Session) (p : Progress) → p.replicas ≡ map (opened s.base) s.replicas → p.operations.items ≡ [] → by_bytes p.anchors.entries ≡ [] → by_bytes p.marks.entries ≡ [] → state_of p ≡ opening s
-opened_state s p b o n m = same_state p.replicas (map (opened s.base) s.replicas) p.operations.items [] b o ∙ same_names (opening s) (by_bytes p.anchors.entries) [] (by_bytes p.marks.entries) [] n m
+pub opened_state : (s : Session) (p : Progress) → p.replicas ≡ map (first_buffer s.base) s.replicas → p.operations.items ≡ [] → by_bytes p.anchors.entries ≡ [] → by_bytes p.marks.entries ≡ [] → state_of p ≡ opening s
+opened_state s p b o n m = same_state p.replicas (map (first_buffer s.base) s.replicas) p.operations.items [] b o ∙ same_names (opening s) (by_bytes p.anchors.entries) [] (by_bytes p.marks.entries) [] n m
 
 few_by : (a b c : Bool) → ((a && b) && c) ≡ true → b ≡ true
 few_by true true true e = refl
@@ -58,12 +58,12 @@ tied_count is p t =
     sym (length-map is (λ (i : InboxState Question). pairs_of i.readers)) ∙ (ap (λ l. length l) t
     ∙ (length-map (range_with_len 0 p.workers) (λ (w : ℕ). column w (rows_of p)) ∙ length-range_with_len 0 p.workers))
 
-module _ (s : Session) (h : IsSession 67108864 s) (o : Editor) (p : PublishersState) (start : o.progress.replicas ≡ map (opened s.base) s.replicas) where
+module _ (s : Session) (h : IsSession 67108864 s) (o : Editor) (p : PublishersState) (start : o.progress.replicas ≡ map (first_buffer s.base) s.replicas) where
   pub can_edit : (workers limit : ℕ) (ls : List SessionLine) → ls ≡ s.lines → o.workers ≡ workers → length o.dispatcher.inboxes ≡ workers → limit ≡ query_count s.lines
       → HasAsked o.dispatcher [] → o.dispatcher.limit ≡ limit → AreLevel p → AreTied o.dispatcher.inboxes p → shown_lists p ≡ histories o.progress.replicas → CanEdit ls o p
   can_edit workers limit ls l w n room asked most level tied shown = record {
     asking = record {
-      few = omega (arith, few_replicas s h, ap (λ bs. length bs) start, length-map s.replicas (opened s.base));
+      few = omega (arith, few_replicas s h, ap (λ bs. length bs) start, length-map s.replicas (first_buffer s.base));
       asked = asked;
       level = level;
       tied = tied;

@@ -19,7 +19,7 @@ use Rattle.session_lines.specs.declared.session.Session.{Session}
 use Rattle.session_lines.specs.declared.session.SessionLine.{SessionLine}
 use Rattle.session_lines.specs.declared.session.SessionLine.TheVariants as line
 use Rattle.session_replay.specs.declared.queries.Question.{Question}
-use Rattle.session_replay.specs.Work.{State, after_all, buffer_of, opened, opening, step}
+use Rattle.session_replay.specs.Work.{State, after_all, buffer_of, first_buffer, opening, step}
 use Rattle.session_replay.specs.Queries.{AreReplies, IsReport, IsWithin, NeverFalls, Query, Reply, answer_line, count_of, end_of, history_of, plain_line, queries_from, queries_of, query_at, query_of, query_with, question_of, reply_line, report_of, report_with}
 use Rattle.session_replay.specs.Laws.{PlainWithWorkers, PlainWithoutQueries, PlainWithoutWorkers}
 use Rattle.session_replay.proofs.Growth.{AllGrow, AreBased, based_grow, based_one, later, lines_grow, step_keeps}
@@ -144,7 +144,7 @@ pairs_of workers (c ∷ cs) a =
     (All-map (NeverFalls workers (on_the_spot c)) on_the_spot cs (All-weaker (Follows c) (λ d. NeverFalls workers (on_the_spot c) (on_the_spot d)) (λ d f k w. f k) cs first))
     (pairs_of workers cs (AllPairs-right Follows (c ∷ []) cs a))
 
-opened_based : (t : List ℕ) (rs : List ℕ) → AreBased (map (opened t) rs)
+opened_based : (t : List ℕ) (rs : List ℕ) → AreBased (map (first_buffer t) rs)
 opened_based t [] = tt
 opened_based t (r ∷ rs) = (omega arith, opened_based t rs)
 

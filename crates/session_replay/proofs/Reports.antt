@@ -5,7 +5,7 @@ use Rattle.std.proofs.lemmas.Bool.{ne_eqb}
 use Rattle.lamport_clock.specs.declared.stamp.Lamport.{Lamport}
 use Rattle.op_model.specs.Shown.{text}
 use Rattle.op_model.specs.declared.faults.OpFault.{OpFault}
-use Rattle.text_buffer.specs.Buffer.{BufferState, number_applied, settled}
+use Rattle.text_buffer.specs.Buffer.{BufferState, number_applied, after_settle}
 use Rattle.text_buffer.specs.Outcomes.{pair_of}
 use Rattle.text_buffer.specs.declared.outcomes.Refused.{Refused as Entry}
 use Rattle.session_lines.specs.Report.{line_text, report_text}
@@ -31,17 +31,17 @@ some_of r c out new h e =
 none_of : (r c : ℕ) (out : List ℕ) → c ≡ 0 → out ≡ out ++ report_text (settled_of r c)
 none_of r c out e = sym (append-nil out) ∙ ap (λ t. out ++ t) (sym text-none) ∙ ap (λ c. out ++ report_text (settled_of r c)) (sym e)
 
-module _ (b after : BufferState) (c : ℕ) (is : after ≡ settled b) (count : c ≡ number_applied b after) where
-  same_count : c ≡ number_applied b (settled b)
+module _ (b after : BufferState) (c : ℕ) (is : after ≡ after_settle b) (count : c ≡ number_applied b after) where
+  same_count : c ≡ number_applied b (after_settle b)
   same_count = count ∙ ap (number_applied b) is
 
   pub none_settled : (out : List ℕ) → c ≡ 0 → out ≡ out ++ report_text (settled_reports b)
-  none_settled out e = none_of b.replica (number_applied b (settled b)) out (sym same_count ∙ e)
+  none_settled out e = none_of b.replica (number_applied b (after_settle b)) out (sym same_count ∙ e)
 
   pub some_settled : (r : ℕ) (out new : List ℕ) → (c ≡ 0 → ⊥) → b.replica ≡ r → new ≡ out ++ line_text (report.Settled r c) → new ≡ out ++ report_text (settled_reports b)
   some_settled r out new h i e =
-      let line : report.Settled r c ≡ report.Settled b.replica (number_applied b (settled b)) = cc (i, same_count) in
-      some_of b.replica (number_applied b (settled b)) out new (λ z. h (same_count ∙ z)) (e ∙ ap (λ q. out ++ line_text q) line)
+      let line : report.Settled r c ≡ report.Settled b.replica (number_applied b (after_settle b)) = cc (i, same_count) in
+      some_of b.replica (number_applied b (after_settle b)) out new (λ z. h (same_count ∙ z)) (e ∙ ap (λ q. out ++ line_text q) line)
 
 -- ---- at the end
 

@@ -16,7 +16,7 @@ use Rattle.text_buffer.specs.Buffer.{BufferState}
 use Rattle.session_lines.specs.Report.{line_text}
 use Rattle.session_maker.proofs.Decoding.{made_sessions_decode}
 use Rattle.session_replay.specs.Making.{Makes, count_lines, have_text, length_at, made_opening, made_session, summary_of, summary_with}
-use Rattle.session_replay.specs.MakingOn.{Leaves, TakesTurn, Works, WorksRound, worked}
+use Rattle.session_replay.specs.MakingOn.{Leaves, TakesTurn, Works, WorksRound, work_state}
 use Rattle.session_replay.specs.Work.{State, after_all, counts_report, step}
 use Rattle.session_replay.specs.declared.making.Making.{Making}
 use Rattle.session_replay.proofs.Steps.{behind}
@@ -30,7 +30,7 @@ after_all-append (l ∷ ls) ks s = after_all-append ls ks (step l s)
 pub works_then : (a b c : Making) (x y : ℕ) (ls ks : List SessionLine) → Works a b x ls → Works b c y ks → Works a c y (ls ++ ks)
 works_then a b c x y ls ks f g = record {
   lines = g.lines ∙ ap (λ z. z ++ ks) f.lines ∙ append_assoc a.lines.items ls ks;
-  state = g.state ∙ ap (after_all ks) f.state ∙ sym (after_all-append ls ks (worked a));
+  state = g.state ∙ ap (after_all ks) f.state ∙ sym (after_all-append ls ks (work_state a));
   draws = g.draws;
 }
 
@@ -45,7 +45,7 @@ leaves_all a all = record { lines = refl; state = refl }
 pub leaves_more : (a b c : Making) (y : ℕ) (all ls rest : List SessionLine) → Leaves a b all (ls ++ rest) → Works b c y ls → Leaves a c all rest
 leaves_more a b c y all ls rest f g = record {
   lines = ap (λ z. z ++ rest) g.lines ∙ append_assoc b.lines.items ls rest ∙ f.lines;
-  state = ap (after_all rest) g.state ∙ sym (after_all-append ls rest (worked b)) ∙ f.state;
+  state = ap (after_all rest) g.state ∙ sym (after_all-append ls rest (work_state b)) ∙ f.state;
 }
 
 pub leaves_lines : (a b : Making) (all : List SessionLine) → Leaves a b all [] → b.lines.items ≡ a.lines.items ++ all
@@ -83,13 +83,13 @@ gives_are r (n ∷ ns) = ap (λ (z : List SessionLine). Give r n ∷ z) (gives_a
 -- ---- a turn
 
 module _ (a m c : Making) (n i r l : ℕ) (line : SessionLine) where
-  pub turn_worked : m.lines.items ≡ a.lines.items → worked m ≡ worked a → r ≡ author_of n (next a.draws) → l ≡ length_at r (worked a)
+  pub turn_worked : m.lines.items ≡ a.lines.items → work_state m ≡ work_state a → r ≡ author_of n (next a.draws) → l ≡ length_at r (work_state a)
       → (line, m.draws) ≡ turn_of i r l (next a.draws) → Works m c m.draws (line ∷ []) → TakesTurn a c n i
   unfolding TakesTurn
   turn_worked lines state author len turn w =
-      let p : SessionLine × ℕ = turn_at after_all length_at n i a.draws (worked a) in
+      let p : SessionLine × ℕ = turn_at after_all length_at n i a.draws (work_state a) in
       let is : (line, m.draws) ≡ p =
-      turn ∙ ap (λ z. turn_of i r z (next a.draws)) len ∙ ap (λ z. turn_of i z (length_at z (worked a)) (next a.draws)) author in
+      turn ∙ ap (λ z. turn_of i r z (next a.draws)) len ∙ ap (λ z. turn_of i z (length_at z (work_state a)) (next a.draws)) author in
       let is_line : line ≡ p.0 = ap (λ q. q.0) is in
       record {
         lines = w.lines ∙ ap₂ (λ xs x. xs ++ x ∷ []) lines is_line;
@@ -101,17 +101,17 @@ module _ (a m c : Making) (n i r l : ℕ) (line : SessionLine) where
 pub round_worked : (a b c : Making) (n i : ℕ) → TakesTurn a b n i → Works b c b.draws (gives_behind n i) → WorksRound a c n i
 unfolding TakesTurn WorksRound
 round_worked a b c n i f g =
-    let p : SessionLine × ℕ = turn_at after_all length_at n i a.draws (worked a) in
+    let p : SessionLine × ℕ = turn_at after_all length_at n i a.draws (work_state a) in
     let w = works_then a b c p.1 b.draws (p.0 ∷ []) (gives_behind n i) f g in record { lines = w.lines; state = w.state; draws = w.draws ∙ f.draws }
 
 -- ---- rounds
 
 module _ (a : Making) (n edits : ℕ) where
   abbrev pub rounds_at : Making → ℕ → List SessionLine
-  rounds_at b done = rounds_from after_all length_at n (edits - done) (1 + done) b.draws (worked b)
+  rounds_at b done = rounds_from after_all length_at n (edits - done) (1 + done) b.draws (work_state b)
 
   abbrev pub all_rounds : List SessionLine
-  all_rounds = rounds_from after_all length_at n edits 1 a.draws (worked a)
+  all_rounds = rounds_from after_all length_at n edits 1 a.draws (work_state a)
 
   abbrev pub AtRound : Making → ℕ → Type 0
   AtRound b done = Leaves a b all_rounds (rounds_at b done)
@@ -119,28 +119,28 @@ module _ (a : Making) (n edits : ℕ) where
   pub round_first : AtRound a 0
   round_first =
       let whole : edits ≡ edits - 0 = omega arith in
-      subst (λ (z : List SessionLine). Leaves a a all_rounds z) (ap (λ z. rounds_from after_all length_at n z 1 a.draws (worked a)) whole) (leaves_all a all_rounds)
+      subst (λ (z : List SessionLine). Leaves a a all_rounds z) (ap (λ z. rounds_from after_all length_at n z 1 a.draws (work_state a)) whole) (leaves_all a all_rounds)
 
   pub round_more : (b c : Making) (done : ℕ) → done < edits → AtRound b done
       → WorksRound b c n (1 + done) → AtRound c (done + 1)
   unfolding WorksRound
   round_more b c done lt f w =
-      let p : SessionLine × ℕ = turn_at after_all length_at n (1 + done) b.draws (worked b) in
+      let p : SessionLine × ℕ = turn_at after_all length_at n (1 + done) b.draws (work_state b) in
       let lines : List SessionLine = round_of n (1 + done) p.0 in
       let k : ℕ = edits - (done + 1) in
       let one_less : edits - done ≡ suc k = omega arith in
-      let split : rounds_at b done ≡ lines ++ rounds_from after_all length_at n k ((1 + done) + 1) p.1 (after_all lines (worked b)) =
-      ap (λ z. rounds_from after_all length_at n z (1 + done) b.draws (worked b)) one_less in
+      let split : rounds_at b done ≡ lines ++ rounds_from after_all length_at n k ((1 + done) + 1) p.1 (after_all lines (work_state b)) =
+      ap (λ z. rounds_from after_all length_at n z (1 + done) b.draws (work_state b)) one_less in
       let number : (1 + done) + 1 ≡ 1 + (done + 1) = omega arith in
-      let rest : rounds_from after_all length_at n k ((1 + done) + 1) p.1 (after_all lines (worked b)) ≡ rounds_at c (done + 1) =
-      ap (λ z. rounds_from after_all length_at n k z p.1 (after_all lines (worked b))) number
+      let rest : rounds_from after_all length_at n k ((1 + done) + 1) p.1 (after_all lines (work_state b)) ≡ rounds_at c (done + 1) =
+      ap (λ z. rounds_from after_all length_at n k z p.1 (after_all lines (work_state b))) number
       ∙ ap₂ (λ x s. rounds_from after_all length_at n k (1 + (done + 1)) x s) (sym w.draws) (sym w.state) in
       leaves_more a b c p.1 all_rounds lines (rounds_at c (done + 1)) (subst (λ (z : List SessionLine). Leaves a b all_rounds z) (split ∙ ap (λ z. lines ++ z) rest) f) w
 
   pub rounds_done : (b : Making) (done : ℕ) → edits ≤ done → AtRound b done → Leaves a b all_rounds []
   rounds_done b done le f =
       let none : edits - done ≡ zero = omega arith in
-      subst (λ (z : List SessionLine). Leaves a b all_rounds z) (ap (λ z. rounds_from after_all length_at n z (1 + done) b.draws (worked b)) none) f
+      subst (λ (z : List SessionLine). Leaves a b all_rounds z) (ap (λ z. rounds_from after_all length_at n z (1 + done) b.draws (work_state b)) none) f
 
 -- ---- what is given behind a turn
 
@@ -174,10 +174,10 @@ text_done t bs i all le e = ap (have_text t) (sym (drop_all i bs le)) ∙ e
 
 module _ (m a b : Making) (seed n edits : ℕ) (ids ns : List ℕ) where
   abbrev rounds : List SessionLine
-  rounds = rounds_from after_all length_at n edits 1 m.draws (worked m)
+  rounds = rounds_from after_all length_at n edits 1 m.draws (work_state m)
 
-  pub summed : worked m ≡ made_opening n → m.draws ≡ seed → m.lines.items ≡ [] → a.lines.items ≡ m.lines.items ++ rounds → worked a ≡ after_all rounds (worked m) → Works a b a.draws (flat_map (gives_to ns) ids)
-      → ids ≡ ids_to n → ns ≡ range_with_len 1 edits → summary_with (length b.lines.items) (worked b) ≡ summary_of (made_session seed n edits)
+  pub summed : work_state m ≡ made_opening n → m.draws ≡ seed → m.lines.items ≡ [] → a.lines.items ≡ m.lines.items ++ rounds → work_state a ≡ after_all rounds (work_state m) → Works a b a.draws (flat_map (gives_to ns) ids)
+      → ids ≡ ids_to n → ns ≡ range_with_len 1 edits → summary_with (length b.lines.items) (work_state b) ≡ summary_of (made_session seed n edits)
   unfolding summary_of
   summed start draws none lines state w is numbers =
       let all : List SessionLine = made_lines after_all length_at seed n edits (made_opening n) in
@@ -185,8 +185,8 @@ module _ (m a b : Making) (seed n edits : ℕ) (ids ns : List ℕ) where
       let gives_are : flat_map (gives_to ns) ids ≡ gives_of n (range_with_len 1 edits) = ap₂ (λ xs ys. flat_map (gives_to xs) ys) numbers is in
       let together : rounds ++ flat_map (gives_to ns) ids ≡ all = ap₂ (λ xs ys. xs ++ ys) rounds_are gives_are in
       let lines_are : b.lines.items ≡ all = w.lines ∙ ap (λ z. z ++ flat_map (gives_to ns) ids) (lines ∙ ap (λ z. z ++ rounds) none) ∙ together in
-      let state_is : worked b ≡ after_all all (made_opening n) =
-      w.state ∙ ap (after_all (flat_map (gives_to ns) ids)) state ∙ sym (after_all-append rounds (flat_map (gives_to ns) ids) (worked m)) ∙ ap₂ after_all together start in
+      let state_is : work_state b ≡ after_all all (made_opening n) =
+      w.state ∙ ap (after_all (flat_map (gives_to ns) ids)) state ∙ sym (after_all-append rounds (flat_map (gives_to ns) ids) (work_state m)) ∙ ap₂ after_all together start in
       ap₂ (λ ls s. summary_with (length ls) s) lines_are state_is
 
 -- the summary of a session that is made; its text decodes to it

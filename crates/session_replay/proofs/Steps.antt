@@ -13,7 +13,7 @@ use Rattle.session_lines.specs.declared.report.Report.{Report}
 use Rattle.session_lines.specs.declared.session.SessionLine.{SessionLine}
 use Rattle.session_lines.specs.declared.session.Session.{Session}
 use Rattle.session_replay.specs.Names.{Names}
-use Rattle.session_replay.specs.Work.{State, reports_at, events, step, all_events, after_all, at_end, opened, opening}
+use Rattle.session_replay.specs.Work.{State, reports_at, events, step, all_events, after_all, at_end, first_buffer, opening}
 use Rattle.session_replay.specs.Queries.{plain_line, queries_from, queries_of, report_of}
 
 -- ---- texts of reports
@@ -125,12 +125,12 @@ three_parts es qs rs mid out new m o n =
     ∙ ap (λ x. report_text es ++ x) (sym (text-append qs rs)) ∙ sym (text-append es (qs ++ rs))
 
 module _ (s : Session) (bs : List BufferState) (ls : List SessionLine) (ops : List (Option Operation)) (ns : Names Anchor) (ms : Names Entries)
-    (b : bs ≡ map (opened s.base) s.replicas) (l : ls ≡ s.lines) (z : ops ≡ []) (y : ns ≡ []) (x : ms ≡ []) where
+    (b : bs ≡ map (first_buffer s.base) s.replicas) (l : ls ≡ s.lines) (z : ops ≡ []) (y : ns ≡ []) (x : ms ≡ []) where
   abbrev first : State
   first = record { buffers = bs; operations = ops; anchors = ns; marks = ms }
 
   same_first : first ≡ opening s
-  same_first = same_state bs (map (opened s.base) s.replicas) ops [] b z ∙ same_names (opening s) ns [] ms [] y x
+  same_first = same_state bs (map (first_buffer s.base) s.replicas) ops [] b z ∙ same_names (opening s) ns [] ms [] y x
 
   all_answers : (old new : List Report) → old ≡ [] → new ≡ old ++ map plain_line (queries_from (length old + 1) ls first) → new ≡ map plain_line (queries_of s)
   all_answers old new o n =

@@ -2,8 +2,8 @@
 use Rattle.std.specs.Prelude.{ℕ, ◌+◌, ◌-◌, ◌^◌, ◌≤◌, ◌==◌, ◌&&◌, nat_lt, max, min, if◌then◌else◌, List, length, Result, Ok, Err, OnErr}
 
 -- a count after n more; it stands still at its last value
-abbrev pub counted : ℕ → ℕ → ℕ
-counted before n = max before (min (before + n) (2 ^ 64 - 1))
+abbrev pub saturating_sum : ℕ → ℕ → ℕ
+saturating_sum before n = max before (min (before + n) (2 ^ 64 - 1))
 
 -- the count rose by n or more, or stands at its last value
 abbrev pub RoseBy : ℕ → ℕ → ℕ → Type 0
@@ -21,9 +21,9 @@ pub record HasCause {T E : Type 0} (before now : ℕ) (result : Result T E) : Ty
 -- ---- what a read adds to the counts of its source
 
 -- the bytes that it gave
-abbrev pub bytes_given : {E : Type 0} → Result ℕ E → ℕ
-bytes_given (Ok n) = n
-bytes_given (Err e) = 0
+abbrev pub byte_count : {E : Type 0} → Result ℕ E → ℕ
+byte_count (Ok n) = n
+byte_count (Err e) = 0
 
 -- 1 where it gave nothing into a slice with room: the end was met
 abbrev pub end_met : ℕ → ℕ → ℕ

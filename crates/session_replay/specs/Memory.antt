@@ -14,8 +14,8 @@ source_counts s = s.counts
 abbrev pub sure_left : SureSource → List ℕ
 sure_left s = drop s.at s.bytes.items
 
-abbrev pub sink_written : MemSink → List ℕ
-sink_written s = s.bytes.items
+abbrev pub sink_bytes : MemSink → List ℕ
+sink_bytes s = s.bytes.items
 
 abbrev pub sink_faults : MemSink → ℕ
 sink_faults s = s.faults

@@ -38,8 +38,8 @@ with_name name (Some x) es = insert_entry (slice_cmp nat_cmp) es name x
 -- ---- anchors
 
 -- the anchor that is made at an offset of the text of h, where there is no fault
-abbrev pub anchor_made : ℕ → Bias → History → Option Anchor
-anchor_made o b h = if is_none (place_fault h o) then made_anchor h o b else None
+abbrev pub new_anchor : ℕ → Bias → History → Option Anchor
+new_anchor o b h = if is_none (place_fault h o) then made_anchor h o b else None
 
 -- what comes of making one
 abbrev pub anchor_answer : Option PlaceFault → AnchorAnswer

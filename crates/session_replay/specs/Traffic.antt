@@ -1,7 +1,7 @@
 -- What a whole read or a write did to the known bytes and to the counts.
 use Rattle.std.specs.Prelude.{◌≡◌, ℕ, ◌<◌, ◌≤◌, List, ◌++◌, length, take, Option, IfSome}
 use Rattle.std.specs.Io.KnownBytes.{Appends, Consumes, IsAtEnd}
-use Rattle.session_replay.specs.Causes.{counted, end_met, Rose, RoseBy}
+use Rattle.session_replay.specs.Causes.{saturating_sum, end_met, Rose, RoseBy}
 
 -- some front of the text was written
 abbrev pub AppendsFront : Option (List ℕ) → Option (List ℕ) → List ℕ → Type 0
@@ -15,7 +15,7 @@ Had left input = IfSome left (λ xs. input ≡ xs)
 pub record WasRead (left left_after : Option (List ℕ)) (given given_after ends ends_after : ℕ) (input : List ℕ) : Type 0 where
   pub had : Had left input
   pub at_end : IsAtEnd left_after
-  pub count : given_after ≡ counted given (length input)
+  pub count : given_after ≡ saturating_sum given (length input)
   pub ended : Rose ends ends_after
 
 -- the source had this input left, and gave all of it, or more than a session may have
@@ -34,5 +34,5 @@ pub record Moves (left left_after : Option (List ℕ)) (all all_after : List ℕ
 
 -- what a read of n bytes into so much room did to the counts of its source
 pub record Counts (given given_after ends ends_after room n : ℕ) : Type 0 where
-  pub gave : given_after ≡ counted given n
-  pub ended : ends_after ≡ counted ends (end_met room n)
+  pub gave : given_after ≡ saturating_sum given n
+  pub ended : ends_after ≡ saturating_sum ends (end_met room n)

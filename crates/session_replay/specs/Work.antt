@@ -16,7 +16,7 @@ use Rattle.op_model.specs.Answers.{Answer}
 use Rattle.op_model.specs.Answers.Answer.{Good, Repeat, Waits, Refused}
 use Rattle.op_model.specs.Choice.{first_of}
 use Rattle.op_model.specs.Shown.{text}
-use Rattle.text_buffer.specs.Buffer.{BufferState, answer_to, applied, edit_fault, made, made_undo, number_applied, over_base, settled, taken, undo_fault}
+use Rattle.text_buffer.specs.Buffer.{BufferState, answer_to, after_apply, edit_fault, edit_of, undo_of, number_applied, over_base, after_settle, after_take, undo_fault}
 use Rattle.session_lines.specs.Cut.{feeds}
 use Rattle.session_lines.specs.Report.{last_column}
 use Rattle.session_lines.specs.Session.{unless}
@@ -27,7 +27,7 @@ use Rattle.session_lines.specs.declared.report.Given.{Given}
 use Rattle.session_lines.specs.declared.report.Given.TheVariants as given
 use Rattle.session_lines.specs.declared.report.Report.{Report}
 use Rattle.session_lines.specs.declared.report.Report.TheVariants as report
-use Rattle.session_replay.specs.Names.{Names, anchor_answer, anchor_made, since_answer, under, where_answer, with_name}
+use Rattle.session_replay.specs.Names.{Names, anchor_answer, new_anchor, since_answer, under, where_answer, with_name}
 
 -- ---- the buffers of a session
 
@@ -64,7 +64,7 @@ next_number s = length s.operations + 1
 
 -- what comes of an edit as operation line n
 abbrev pub edit_outcome : ℕ → List Piece → BufferState → Result Operation Report
-edit_outcome n ps b = unless (made b ps) (option_map (report.EditRefused n) (edit_fault b ps))
+edit_outcome n ps b = unless (edit_of b ps) (option_map (report.EditRefused n) (edit_fault b ps))
 
 -- the first of the numbers under which no operation stands
 abbrev pub first_unnamed : List (Option Operation) → List ℕ → Option ℕ
@@ -87,20 +87,20 @@ undo_refusal n ops ms b = first_of (
 
 -- what comes of an undo as operation line n
 abbrev pub undo_outcome : ℕ → List (Option Operation) → List ℕ → BufferState → Result Operation Report
-undo_outcome n ops ms b = unless (made_undo b (stamps_under ops ms)) (undo_refusal n ops ms b)
+undo_outcome n ops ms b = unless (undo_of b (stamps_under ops ms)) (undo_refusal n ops ms b)
 
 -- what settling reports, where it applied any
 abbrev pub settled_reports : BufferState → List Report
-settled_reports b = let c = number_applied b (settled b) in if c == 0 then [] else report.Settled b.replica c ∷ []
+settled_reports b = let c = number_applied b (after_settle b) in if c == 0 then [] else report.Settled b.replica c ∷ []
 
 -- what operation line n reports, by what came of it
 abbrev pub outcome_reports : ℕ → Result Operation Report → BufferState → List Report
-outcome_reports n (Ok op) b = report.Made n (stamp_of op) ∷ settled_reports (applied b op)
+outcome_reports n (Ok op) b = report.Made n (stamp_of op) ∷ settled_reports (after_apply b op)
 outcome_reports n (Err r) b = r ∷ []
 
 -- the buffer after it: an operation that was made is applied, and the buffer settles
 abbrev pub after_outcome : Result Operation Report → BufferState → BufferState
-after_outcome (Ok op) b = settled (applied b op)
+after_outcome (Ok op) b = after_settle (after_apply b op)
 after_outcome (Err r) b = b
 
 -- ---- what stands under a number is given to a buffer: an operation, or nothing
@@ -114,12 +114,12 @@ given_by (Refused f) c = given.Fault f
 -- what the buffer answers; where it applied the operation, with how many it applied in all
 abbrev pub give_answer : Option Operation → BufferState → Given
 give_answer None b = given.Nothing
-give_answer (Some op) b = given_by (answer_to b op) (number_applied b (taken b op))
+give_answer (Some op) b = given_by (answer_to b op) (number_applied b (after_take b op))
 
 -- the buffer after it
 abbrev pub after_give : Option Operation → BufferState → BufferState
 after_give None b = b
-after_give (Some op) b = taken b op
+after_give (Some op) b = after_take b op
 
 -- ---- a text is shown, with its bytes, its line feeds, the bytes behind the last of them, and its rows
 
@@ -175,7 +175,7 @@ step (line.Op e) s = numbered s.buffers (Some (operation.Edit e)) s
 step (line.Uop u) s = numbered s.buffers (Some (operation.Undo u)) s
 step (line.Give r n) s = record s { buffers = with_buffer r (after_give (operation_of n s.operations)) s.buffers }
 step (line.Text r) s = s
-step (line.Anchor r name o b) s = record s { anchors = with_name name (option_and_then (anchor_made o b) (history_at r s)) s.anchors }
+step (line.Anchor r name o b) s = record s { anchors = with_name name (option_and_then (new_anchor o b) (history_at r s)) s.anchors }
 step (line.Where r name) s = s
 step (line.Mark r name) s = record s { marks = with_name name (option_map version (history_at r s)) s.marks }
 step (line.Since r name) s = s
@@ -207,8 +207,8 @@ abbrev pub at_end : BufferState → List Report
 at_end b = counts_report b ∷ (map (refused_report b.replica) b.refused ++ report.Final b.replica (text b.history) ∷ [])
 
 -- a replica's buffer at first, with the limits of a session's buffers
-abbrev pub opened : List ℕ → ℕ → BufferState
-opened base r = over_base r base (record { bytes = 2 ^ 40; entries = 2 ^ 40 - 1 })
+abbrev pub first_buffer : List ℕ → ℕ → BufferState
+first_buffer base r = over_base r base (record { bytes = 2 ^ 40; entries = 2 ^ 40 - 1 })
 
 abbrev pub opening : Session → State
-opening s = record { buffers = map (opened s.base) s.replicas; operations = []; anchors = []; marks = [] }
+opening s = record { buffers = map (first_buffer s.base) s.replicas; operations = []; anchors = []; marks = [] }

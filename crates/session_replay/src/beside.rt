@@ -1,4 +1,4 @@
-// A session whose queries are answered by workers beside the editor.
+//! A session whose queries are answered by workers beside the editor.
 ghost use Rattle.std.specs.Prelude.{◌≡◌, ◌≤◌, ◌<◌, ◌+◌, [], ◌∷◌, ◌++◌, List, length, map, IfOk, OnErr, OnOk, All, Some};
 ghost use Rattle.std.specs.List.{flat_map};
 ghost use Rattle.session_lines.specs.Report.{report_text};

@@ -1,6 +1,6 @@
-// What a source counts.
+//! What a source counts.
 ghost use Rattle.std.specs.Prelude.{◌≡◌};
-ghost use Rattle.session_replay.specs.Causes.{counted, end_met};
+ghost use Rattle.session_replay.specs.Causes.{saturating_sum, end_met};
 
 /// The counts of a source: bytes given, reads that met the end, and reads that failed. Each stands still at 2^64 - 1.
 #[derive(Clone, Copy, Debug, PartialEq, Eq)]
@@ -24,8 +24,8 @@ impl ReadCounts {
 
     /// Counts a read that gave so many bytes into so much room.
     pub fn gave(&mut self, room: usize, count: usize)
-        ensures given { self.new.given ≡ counted self.old.given count }
-        ensures ends { self.new.ends ≡ counted self.old.ends (end_met room count) }
+        ensures given { self.new.given ≡ saturating_sum self.old.given count }
+        ensures ends { self.new.ends ≡ saturating_sum self.old.ends (end_met room count) }
         ensures faults { self.new.faults ≡ self.old.faults }
     {
         self.given = self.given.saturating_add(count as u64);
@@ -36,7 +36,7 @@ impl ReadCounts {
 
     /// Counts a read that failed.
     pub fn failed(&mut self)
-        ensures { self.new ≡ record self.old { faults = counted self.old.faults 1 } }
+        ensures { self.new ≡ record self.old { faults = saturating_sum self.old.faults 1 } }
     {
         self.faults = self.faults.saturating_add(1);
     }

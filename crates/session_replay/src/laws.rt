@@ -1,4 +1,4 @@
-// What the report of a session is, whatever the workers.
+//! What the report of a session is, whatever the workers.
 ghost use Rattle.session_replay.specs.Laws.{PlainWithWorkers, PlainWithoutQueries, PlainWithoutWorkers};
 
 /// Without workers the output is the plain report: each query is answered at its place in the session. It is so for every

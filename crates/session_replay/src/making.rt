@@ -1,9 +1,9 @@
-// A session that is made, worked as it is made.
+//! A session that is made, worked as it is made.
 ghost use Rattle.std.specs.Prelude.{◌≡◌, ◌≤◌, ◌<◌, ◌^◌, ◌++◌, [], ◌∷◌, length, ℕ, string_bytes, IfOk, OnOk};
 ghost use Rattle.std.specs.List.{All, flat_map, range_with_len};
 ghost use Rattle.session_maker.specs.Made.{gives_behind, gives_to, ids_to, rounds_from};
 ghost use Rattle.session_replay.specs.Making.{count_lines, have_equal_texts, have_text, length_at, made_line, made_opening, made_session, summary_of, summary_with, texts_line};
-ghost use Rattle.session_replay.specs.MakingOn.{TakesTurn, Works, WorksRound, worked};
+ghost use Rattle.session_replay.specs.MakingOn.{TakesTurn, Works, WorksRound, work_state};
 ghost use Rattle.session_replay.specs.Work.{after_all};
 
 use crate::replay::Progress;
@@ -33,7 +33,7 @@ impl Making {
     fn new(alloc: Global, seed: u32, ids: &[u16]) -> Result<Making, AllocError>
         requires ids { ids.now ≡ ids_to (length ids.now) }
         requires editors { All (λ (r : ℕ). (1 ≤ r) × (r ≤ 1023)) ids.now }
-        ensures state { IfOk result (λ m. worked m ≡ made_opening (length ids.now)) }
+        ensures state { IfOk result (λ m. work_state m ≡ made_opening (length ids.now)) }
         ensures draws { IfOk result (λ m. m.draws ≡ seed) }
         ensures lines { IfOk result (λ m. m.lines.items ≡ []) }
     {
@@ -132,10 +132,10 @@ impl Making {
         ensures lines { OnOk result (self.new.lines.items
             ≡ self.old.lines.items
             ++ rounds_from after_all length_at (length ids.now) edits 1 self.old.draws
-            (worked self.old)) }
-        ensures state { OnOk result (worked self.new
+            (work_state self.old)) }
+        ensures state { OnOk result (work_state self.new
             ≡ after_all (rounds_from after_all length_at (length ids.now) edits 1 self.old.draws
-            (worked self.old)) (worked self.old)) }
+            (work_state self.old)) (work_state self.old)) }
     {
         for done in 0..edits {
             self.work_round(alloc, ids, 1 + done)?;
@@ -146,7 +146,7 @@ impl Making {
     /// The summary of what was made.
     fn summary(&self, alloc: Global) -> Result<Vec<u8>, AllocError>
         ensures { IfOk result (λ v. v.items
-            ≡ summary_with (length self.now.lines.items) (worked self.now)) }
+            ≡ summary_with (length self.now.lines.items) (work_state self.now)) }
     {
         let mut out = Vec::new(alloc);
         let lines = 1 + self.lines.len() as u64;

@@ -1,4 +1,4 @@
-// Sources and sinks in memory, with calls that fail by a list, and such as never fail.
+//! Sources and sinks in memory, with calls that fail by a list, and such as never fail.
 ghost use Rattle.std.specs.Prelude.{◌≡◌, ◌<◌, ◌≤◌, ◌+◌, ◌++◌, [], Some, None, drop, take, length, IfOk, vec_len, vec_capacity};
 
 use crate::{Failed, ReadCounts, Sink, Source};
@@ -106,7 +106,7 @@ pub struct MemSink {
 }
 
 impl MemSink {
-    ghost use Rattle.session_replay.specs.Memory.{sink_written, sink_faults, sink_room, sink_most};
+    ghost use Rattle.session_replay.specs.Memory.{sink_bytes, sink_faults, sink_room, sink_most};
 
     /// A sink with room for so many bytes that takes at most `most` of them a call, and fails at the calls listed,
     /// counted from 1. A nonempty piece into full room is a failure too.
@@ -117,7 +117,7 @@ impl MemSink {
         failing: Vec<u64>,
     ) -> Result<MemSink, AllocError>
         requires { 0 < most }
-        ensures written { IfOk result (λ s. sink_written s ≡ []) }
+        ensures written { IfOk result (λ s. sink_bytes s ≡ []) }
         ensures faults { IfOk result (λ s. sink_faults s ≡ 0) }
         ensures room { IfOk result (λ s. (sink_room s ≡ room) × (sink_most s ≡ most)) }
     {
@@ -133,7 +133,7 @@ impl MemSink {
 
     /// What was written.
     pub fn bytes(&self) -> &[u8]
-        ensures { result.now ≡ sink_written self.now }
+        ensures { result.now ≡ sink_bytes self.now }
     {
         &self.bytes
     }

@@ -1,4 +1,4 @@
-// What is kept under names, and what is told of it.
+//! What is kept under names, and what is told of it.
 ghost use Rattle.std.specs.Prelude.{◌≡◌, Some, IfOk, OnOk};
 ghost use Rattle.std.specs.Option.{option_copied};
 ghost use Rattle.std.specs.Result.{result_err, result_ok};

@@ -1,8 +1,8 @@
-// What `run` is handed in place of the real input and output.
+//! What `run` is handed in place of the real input and output.
 ghost use Rattle.std.specs.Prelude.{◌≡◌, ◌<◌, ℕ, List, Option, IfOk, length};
 ghost use Rattle.std.specs.Io.{ReadsAtMost, WritesAtMost};
 ghost use Rattle.std.specs.Io.KnownBytes.{ReadConsumes, WriteAppends};
-ghost use Rattle.session_replay.specs.Causes.{HasCause, counted, bytes_given, ends_met};
+ghost use Rattle.session_replay.specs.Causes.{HasCause, saturating_sum, byte_count, ends_met};
 
 use thiserror::Error;
 
@@ -29,8 +29,8 @@ pub trait Source {
     fn read(&mut self, into: &mut [u8]) -> Result<usize, Failed>
         ensures bound { ReadsAtMost result into.new }
         ensures bytes { ReadConsumes (left self.old) (left self.new) result into.new }
-        ensures gave { given self.new ≡ counted (given self.old) (bytes_given result) }
-        ensures ended { ends self.new ≡ counted (ends self.old) (ends_met result into.new) }
+        ensures gave { given self.new ≡ saturating_sum (given self.old) (byte_count result) }
+        ensures ended { ends self.new ≡ saturating_sum (ends self.old) (ends_met result into.new) }
         ensures cause { HasCause (faults self.old) (faults self.new) result };
 }
 

@@ -1,4 +1,4 @@
-// The answers to queries, from what a replica was.
+//! The answers to queries, from what a replica was.
 ghost use Rattle.std.specs.Prelude.{◌≡◌, ◌↔◌, ℕ, List, length, map, Err, IfOk};
 ghost use Rattle.std.specs.Option.{option_map, option_to_list};
 ghost use Rattle.op_model.specs.Shown.{text};

@@ -1,4 +1,4 @@
-// A session worked line by line, and its report.
+//! A session worked line by line, and its report.
 ghost use Rattle.std.specs.Prelude.{◌≡◌, ◌≤◌, ◌+◌, ◌^◌, ◌++◌, ◌==◌, [], ◌∷◌, is_some, length, map, ℕ, Some, IfOk, OnOk};
 ghost use Rattle.std.specs.Option.{option_copied, option_map, option_to_list};
 ghost use Rattle.std.specs.List.{All, count_by, flat_map, position};
@@ -8,7 +8,7 @@ ghost use Rattle.session_lines.specs.Report.{report_text};
 ghost use Rattle.session_lines.specs.Session.{IsSession};
 ghost use Rattle.session_lines.specs.declared.report.Report.{Report};
 ghost use Rattle.session_lines.specs.declared.session.SessionLine.{SessionLine};
-ghost use Rattle.session_replay.specs.Work.{after_all, all_events, at_end, buffer_of, events, next_number, numbered, opened, step};
+ghost use Rattle.session_replay.specs.Work.{after_all, all_events, at_end, buffer_of, events, next_number, numbered, first_buffer, step};
 ghost use Rattle.session_replay.specs.Queries.{plain_line, queries_from, query_at, report_of};
 ghost use Rattle.session_replay.specs.Making.{text_len};
 ghost use Rattle.session_replay.specs.Beside.{histories};
@@ -315,7 +315,7 @@ impl Progress {
     pub fn new(alloc: Global, ids: &[u16], base: &str) -> Result<Progress, AllocError>
         requires ids { All (λ (r : ℕ). (1 ≤ r) × (r ≤ 1023)) ids.now }
         requires base { length base.now ≤ 67108864 }
-        ensures buffers { IfOk result (λ p. p.replicas ≡ map (opened base.now) ids.now) }
+        ensures buffers { IfOk result (λ p. p.replicas ≡ map (first_buffer base.now) ids.now) }
         ensures operations { IfOk result (λ p. p.operations.items ≡ []) }
         ensures anchors { IfOk result (λ p. by_bytes p.anchors.entries ≡ []) }
         ensures marks { IfOk result (λ p. by_bytes p.marks.entries ≡ []) }

@@ -1,4 +1,4 @@
-// A replica of a session: its buffer, and what it reports.
+//! A replica of a session: its buffer, and what it reports.
 ghost use Rattle.std.specs.Prelude.{◌≡◌, ◌<◌, ◌≤◌, ◌+◌, ◌^◌, ◌⊎◌, ◌++◌, ◌==◌, [], ◌∷◌, length, map, is_none, Some, None, IfOk, IfErr, OnOk, OnErr};
 ghost use Rattle.std.specs.Option.{option_copied};
 ghost use Rattle.std.specs.Result.{result_ok};
@@ -7,9 +7,9 @@ ghost use Rattle.op_model.specs.Shown.{text};
 ghost use Rattle.session_lines.specs.Cut.{feeds};
 ghost use Rattle.session_lines.specs.Report.{line_text, report_text, with_text};
 ghost use Rattle.session_lines.specs.declared.report.Report.{Report};
-ghost use Rattle.text_buffer.specs.Buffer.{edit_fault, edited, made, settled};
+ghost use Rattle.text_buffer.specs.Buffer.{edit_fault, after_edit, edit_of, after_settle};
 ghost use Rattle.text_buffer.specs.Outcomes.{pair_of};
-ghost use Rattle.session_replay.specs.Work.{after_give, after_outcome, at_end, counts_report, edit_outcome, first_unnamed, give_answer, operation_of, opened, outcome_reports, refused_report, settled_reports, stamps_under, text_report, undo_outcome};
+ghost use Rattle.session_replay.specs.Work.{after_give, after_outcome, at_end, counts_report, edit_outcome, first_unnamed, give_answer, operation_of, first_buffer, outcome_reports, refused_report, settled_reports, stamps_under, text_report, undo_outcome};
 
 use lamport_clock::Lamport;
 use op_model::{EditFault, Limits, OpFault, Operation, Piece, Pieces, Text, UndoFault};
@@ -50,7 +50,7 @@ impl Replica {
         requires least { 1 ≤ id }
         requires greatest { id ≤ 1023 }
         requires base { length base.now ≤ 67108864 }
-        ensures { IfOk result (λ r. r ≡ opened base.now id) }
+        ensures { IfOk result (λ r. r ≡ first_buffer base.now id) }
     {
         match Buffer::over(alloc, id, base, LIMITS) {
             Ok(buffer) => Ok(Replica { id, buffer }),
@@ -130,7 +130,7 @@ impl Replica {
         ensures report { OnOk result (out.new.items
             ≡ out.old.items ++ report_text
             (Report.Made number (stamp_of operation) ∷ settled_reports self.old)) }
-        ensures after { OnOk result (self.new ≡ settled self.old) }
+        ensures after { OnOk result (self.new ≡ after_settle self.old) }
         ensures id { self.new.replica ≡ self.old.replica }
         ensures made { IfOk result (λ o. o ≡ Some operation) }
     {
@@ -144,7 +144,7 @@ impl Replica {
     fn settle(&mut self, alloc: Global, out: &mut Vec<u8>) -> Result<(), AllocError>
         ensures report { OnOk result (out.new.items
             ≡ out.old.items ++ report_text (settled_reports self.old)) }
-        ensures after { OnOk result (self.new ≡ settled self.old) }
+        ensures after { OnOk result (self.new ≡ after_settle self.old) }
         ensures id { self.new.replica ≡ self.old.replica }
     {
         let count = self.buffer.settle()?;
@@ -275,8 +275,8 @@ fn edit_with<L: Ledger>(
     requires parts { blank.parts ≡ L.parts }
     requires some { 0 < blank.parts }
     ensures ok { OnOk result (edit_fault buffer.old changes.now ≡ None) }
-    ensures made { IfOk result (λ op. op ≡ made buffer.old changes.now) }
-    ensures new { OnOk result (buffer.new ≡ edited buffer.old changes.now) }
+    ensures made { IfOk result (λ op. op ≡ edit_of buffer.old changes.now) }
+    ensures new { OnOk result (buffer.new ≡ after_edit buffer.old changes.now) }
     ensures fault { IfErr result (λ e. (edit_fault buffer.old changes.now ≡ Some e)
         ⊎ ((edit_fault buffer.old changes.now ≡ None) × (e ≡ EditFault.OutOfMemory))) }
     ensures err { OnErr result (buffer.new ≡ buffer.old) }

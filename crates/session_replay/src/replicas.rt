@@ -1,10 +1,10 @@
-// The replicas of a session, which are found by their ids.
+//! The replicas of a session, which are found by their ids.
 ghost use Rattle.std.specs.Prelude.{◌≡◌, ◌≤◌, ◌<◌, ◌++◌, ◌==◌, ℕ, None, get_or, length, map, All, IfOk, OnOk};
 ghost use Rattle.std.specs.Option.{option_and_then, option_copied, option_map};
 ghost use Rattle.std.specs.Result.{result_ok};
 ghost use Rattle.std.specs.List.{position};
 ghost use Rattle.session_lines.specs.Report.{report_text};
-ghost use Rattle.session_replay.specs.Work.{after_give, after_outcome, buffer_of, edit_outcome, give_answer, opened, outcome_reports, reports_at, undo_outcome, with_buffer};
+ghost use Rattle.session_replay.specs.Work.{after_give, after_outcome, buffer_of, edit_outcome, give_answer, first_buffer, outcome_reports, reports_at, undo_outcome, with_buffer};
 
 use crate::replica::Replica;
 use op_model::{Operation, Pieces};
@@ -43,7 +43,7 @@ impl Replicas {
     pub fn over(alloc: Global, ids: &[u16], base: &str) -> Result<Replicas, AllocError>
         requires ids { All (λ (r : ℕ). (1 ≤ r) × (r ≤ 1023)) ids.now }
         requires base { length base.now ≤ 67108864 }
-        ensures { IfOk result (λ r. r ≡ map (opened base.now) ids.now) }
+        ensures { IfOk result (λ r. r ≡ map (first_buffer base.now) ids.now) }
     {
         let list = replicas_over(alloc, ids, base)?;
         let places = places_of(alloc, ids)?;
@@ -177,7 +177,7 @@ fn places_of(alloc: Global, ids: &[u16]) -> Result<Vec<Option<usize>>, AllocErro
 fn replicas_over(alloc: Global, ids: &[u16], base: &str) -> Result<Vec<Replica>, AllocError>
     requires ids { All (λ (r : ℕ). (1 ≤ r) × (r ≤ 1023)) ids.now }
     requires base { length base.now ≤ 67108864 }
-    ensures { IfOk result (λ v. v.items ≡ map (opened base.now) ids.now) }
+    ensures { IfOk result (λ v. v.items ≡ map (first_buffer base.now) ids.now) }
 {
     match Base::new(alloc, base) {
         Ok(base) => open_replicas(alloc, ids, &base),
@@ -189,7 +189,7 @@ fn replicas_over(alloc: Global, ids: &[u16], base: &str) -> Result<Vec<Replica>,
 fn open_replicas(alloc: Global, ids: &[u16], base: &Base) -> Result<Vec<Replica>, AllocError>
     requires ids { All (λ (r : ℕ). (1 ≤ r) × (r ≤ 1023)) ids.now }
     requires base { length base.now ≤ 67108864 }
-    ensures { IfOk result (λ v. v.items ≡ map (opened base.now) ids.now) }
+    ensures { IfOk result (λ v. v.items ≡ map (first_buffer base.now) ids.now) }
 {
     let mut replicas = Vec::with_capacity(alloc, ids.len())?;
     for id in ids {

@@ -1,4 +1,4 @@
-// Reading a source to its end, and writing a text whole.
+//! Reading a source to its end, and writing a text whole.
 ghost use Rattle.std.specs.Prelude.{◌≡◌, ◌<◌, ◌≤◌, ◌+◌, ◌^◌, ℕ, List, length, IfOk, IfSome, OnOk, OnErr, IsErrOf, vec_len};
 ghost use Rattle.std.specs.Io.KnownBytes.{Appends};
 ghost use Rattle.session_replay.specs.Causes.{HasCause, Rose, RoseBy};

@@ -1,5 +1,5 @@
-// How far the list of a pair has grown: a log of all that was ever to be shown there. It is there for proofs; what is kept of it
-// is the number of its operations.
+//! How far the list of a pair has grown: a log of all that was ever to be shown there. It is there for proofs; what is kept of it
+//! is the number of its operations.
 ghost use Rattle.std.specs.Prelude.{◌≡◌, [], length, MatchResult};
 ghost use Rattle.text_buffer.specs.Document.{IsFront};
 ghost use Rattle.snapshot_pub.specs.Logs.{log_list, word_of};

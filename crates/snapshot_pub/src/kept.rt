@@ -1,4 +1,4 @@
-// A snapshot that remembers how far its pair had grown.
+//! A snapshot that remembers how far its pair had grown.
 ghost use Rattle.std.specs.Prelude.{◌≡◌, IfOk, MatchBool};
 ghost use Rattle.text_buffer.specs.Document.{IsFront};
 ghost use Rattle.snapshot_pub.specs.Logs.{log_list};

@@ -1,4 +1,4 @@
-// How pairs are made.
+//! How pairs are made.
 ghost use Rattle.std.specs.Prelude.{◌≡◌, ◌≤◌, ◌∷◌, [], false, length, map, replicate, All, IfOk, OnOk, vec_capacity};
 ghost use Rattle.left_right.specs.Sides.{view};
 ghost use Rattle.snapshot_pub.specs.Logs.{log_list};

@@ -1,4 +1,4 @@
-// The publisher: the writer's ends of all pairs.
+//! The publisher: the writer's ends of all pairs.
 ghost use Rattle.std.specs.Prelude.{◌≡◌, false, ◌<◌, [], ◌∷◌, length, IfOk, MatchResult, slice_set, slice_index_or};
 ghost use Rattle.left_right.specs.Sides.{view};
 ghost use Rattle.text_buffer.specs.Document.{IsFront};

@@ -1,4 +1,4 @@
-// The reader of a pair.
+//! The reader of a pair.
 ghost use Rattle.std.specs.Prelude.{◌≡◌, ◌⊎◌, true, false, IfOk, OnErr, OnOk};
 ghost use Rattle.text_buffer.specs.Document.{IsFront};
 

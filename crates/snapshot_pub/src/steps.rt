@@ -1,4 +1,4 @@
-// The steps of a pair. The kit's ends go through a step by value, so each step has a form in place too.
+//! The steps of a pair. The kit's ends go through a step by value, so each step has a form in place too.
 ghost use Rattle.std.specs.Prelude.{◌≡◌, ◌++◌, ◌∷◌, [], drop, MatchOption, MatchResult, OnOk};
 ghost use Rattle.left_right.specs.Sides.{view};
 ghost use Rattle.snapshot_pub.specs.Rule.{Follows, Sees};

@@ -29,7 +29,7 @@ use Rattle.remote_edit.specs.declared.moves.Move.{Move}
 use Rattle.remote_edit.specs.declared.placed.Placed.{Placed}
 use Rattle.remote_edit.specs.Carried.{AreMovesOf}
 use Rattle.remote_edit.specs.Fragments.{fragments_of}
-use Rattle.remote_edit.specs.Moves.{Texts, TakeTexts, moved}
+use Rattle.remote_edit.specs.Moves.{Texts, TakeTexts, after_moves}
 use Rattle.remote_edit.specs.Placing.{MayMake, MayPlace}
 use Rattle.remote_edit.specs.Undoing.{MayMark}
 use Rattle.remote_edit.proofs.WholeFragments.{base_whole}
@@ -141,8 +141,8 @@ may_mark c h u w ts k s g e f = record {
 pub moves_room : (c : Content) (h : History) (n : ℕ) → IsContent c h → bytes_held h + n ≤ 2 ^ 40 → length c.text + length c.hidden + n ≤ 2 ^ 40
 moves_room c h n k r = let a = ap length k.shown in let b = ap length k.hidden in let d = both_bytes h in omega (arith, a, b, d, r)
 
-pub same_moved : (c : Content) (h : History) (ms : List Move) (n : List ℕ) → IsContent c h → moved ms c.text c.hidden n ≡ moved ms (text h) (hidden h) n
-same_moved c h ms n k = ap (λ z. moved ms z c.hidden n) k.shown ∙ ap (λ z. moved ms (text h) z n) k.hidden
+pub same_moved : (c : Content) (h : History) (ms : List Move) (n : List ℕ) → IsContent c h → after_moves ms c.text c.hidden n ≡ after_moves ms (text h) (hidden h) n
+same_moved c h ms n k = ap (λ z. after_moves ms z c.hidden n) k.shown ∙ ap (λ z. after_moves ms (text h) z n) k.hidden
 
 pub same_taken : (c : Content) (h : History) (ms : List Move) (n : List ℕ) → IsContent c h → TakeTexts ms (text h) (hidden h) n → TakeTexts ms c.text c.hidden n
 same_taken c h ms n k t = subst (λ z. TakeTexts ms z c.hidden n) (sym k.shown) (subst (λ z. TakeTexts ms (text h) z n) (sym k.hidden) t)
@@ -152,7 +152,7 @@ same_taken c h ms n k t = subst (λ z. TakeTexts ms z c.hidden n) (sym k.shown) 
 pub content_after : (c : Content) (p : Placed) (h : History) (op : Operation) (u w : List UndoEntry) (n : List ℕ) → IsMoved c p w h n → n ≡ texts (pieces_of op)
     → w ≡ u → p.fragments.items ≡ fragments_of (h ++ op ∷ []) → Stand p.fragments.items p.index u (h ++ op ∷ []) → Each (IsWhole (h ++ op ∷ [])) (runs p.fragments.items) → AreMovesOf p.moves h op → IsContent c (h ++ op ∷ [])
 content_after c p h op u w n k t e fr s d m =
-    let f = k.texts ∙ ap (moved p.moves (text h) (hidden h)) t ∙ m in
+    let f = k.texts ∙ ap (after_moves p.moves (text h) (hidden h)) t ∙ m in
     record {
       fragments = k.fragments ∙ fr;
       stand = stand_is c.fragments.items p.fragments.items c.index p.index c.undos u (h ++ op ∷ []) k.fragments k.index (k.undos ∙ e) s;

@@ -10,7 +10,7 @@ use Rattle.op_model.specs.Answers.{answer}
 use Rattle.op_model.specs.Answers.Answer.{Good}
 use Rattle.op_model.specs.Settled.{full_fault}
 use Rattle.op_model.proofs.Proper.{edit_good}
-use Rattle.text_buffer.specs.Buffer.{BufferState, IsBuffer, edit_fault, made}
+use Rattle.text_buffer.specs.Buffer.{BufferState, IsBuffer, edit_fault, edit_of}
 use Rattle.text_buffer.proofs.Fit.{room_of}
 use Rattle.text_buffer.proofs.Applied.{within_limits}
 
@@ -34,9 +34,9 @@ made_entries h r ps = let n : length (map (full_piece h) ps) ≡ length ps = cou
 
 -- ---- an edit without fault
 
-pub good_of : (b : BufferState) (ps : List Piece) → IsBuffer b → edit_fault b ps ≡ None → (answer b.history [] (made b ps) ≡ Good) × (text (b.history ++ made b ps ∷ []) ≡ replaced ps (text b.history))
+pub good_of : (b : BufferState) (ps : List Piece) → IsBuffer b → edit_fault b ps ≡ None → (answer b.history [] (edit_of b ps) ≡ Good) × (text (b.history ++ edit_of b ps ∷ []) ≡ replaced ps (text b.history))
 good_of b ps h e = edit_good b.limits b.history b.replica ps h.lawful h.proper (h.least_replica, h.greatest_replica) e
 
 -- its operation passes no limit
-pub room_made : (b : BufferState) (ps : List Piece) → edit_fault b ps ≡ None → full_fault b.limits b.history (made b ps) ≡ None
-room_made b ps e = within_limits b (made b ps) (text_total ps) (1 + length ps) (made_total b.history b.replica ps) (made_entries b.history b.replica ps) (room_of b ps e)
+pub room_made : (b : BufferState) (ps : List Piece) → edit_fault b ps ≡ None → full_fault b.limits b.history (edit_of b ps) ≡ None
+room_made b ps e = within_limits b (edit_of b ps) (text_total ps) (1 + length ps) (made_total b.history b.replica ps) (made_entries b.history b.replica ps) (room_of b ps e)

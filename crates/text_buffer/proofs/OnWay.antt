@@ -19,7 +19,7 @@ use Rattle.deferred_ops.specs.Deferred.{without}
 use Rattle.text_buffer.specs.Buffer.{BufferState, IsBuffer, state, with_state}
 use Rattle.text_buffer.specs.Fields.{state_of, AreKept}
 use Rattle.text_buffer.specs.declared.buffer.Buffer.TheInside.{Inside}
-use Rattle.text_buffer.specs.Settling.{after_turn, turn_step, pass_until, pass_step, next_ready, turn_made, turn_answer, after_answer, without_waiting, after_pass, IsStopped}
+use Rattle.text_buffer.specs.Settling.{after_turn, turn_step, pass_until, pass_step, next_ready, after_next_turn, turn_answer, after_answer, without_waiting, after_pass, IsStopped}
 use Rattle.text_buffer.proofs.Turns.{IsAt, at_start, at_end, at_turn, at_until, fewer, not_stay, ready_within}
 
 -- ---- a turn
@@ -43,13 +43,13 @@ turn_is after b op a e q =
     let w = ready_within after b.history b.waiting op e in
     ap (λ (x : Bool). cond x (turn_of (answer b.history [] op) (full_fault b.limits b.history op)) Stay) w ∙ by_answer (answer b.history [] op) (full_fault b.limits b.history op) ∙ ap turn_for (sym q)
 
-turn_makes : (after : Option Lamport) (b : BufferState) (op : Operation) (t : Turn) → next_ready after b ≡ Some op → turn b.limits b.history op ≡ t → with_state (after_turn t op (state b)) b ≡ turn_made (next_ready after b) b
-turn_makes after b op t e q = ap (λ (u : Turn). with_state (after_turn u op (state b)) b) (sym q) ∙ ap (λ (o : Option Operation). turn_made o b) (sym e)
+turn_makes : (after : Option Lamport) (b : BufferState) (op : Operation) (t : Turn) → next_ready after b ≡ Some op → turn b.limits b.history op ≡ t → with_state (after_turn t op (state b)) b ≡ after_next_turn (next_ready after b) b
+turn_makes after b op t e q = ap (λ (u : Turn). with_state (after_turn u op (state b)) b) (sym q) ∙ ap (λ (o : Option Operation). after_next_turn o b) (sym e)
 
-pub turn_done : (after : Option Lamport) (b m n : BufferState) (op : Operation) (t : Lamport) → next_ready after b ≡ Some op → t ≡ stamp_of op → m ≡ after_answer (turn_answer b op) op b → n ≡ without_waiting t m → n ≡ turn_made (next_ready after b) b
+pub turn_done : (after : Option Lamport) (b m n : BufferState) (op : Operation) (t : Lamport) → next_ready after b ≡ Some op → t ≡ stamp_of op → m ≡ after_answer (turn_answer b op) op b → n ≡ without_waiting t m → n ≡ after_next_turn (next_ready after b) b
 turn_done after b m n op t e s x y = y ∙ ap (λ (u : Lamport). without_waiting u m) s ∙ ap (without_waiting (stamp_of op)) x ∙ go (turn_answer b op) refl
   where
-    go : (a : Answer) → turn_answer b op ≡ a → without_waiting (stamp_of op) (after_answer a op b) ≡ turn_made (next_ready after b) b
+    go : (a : Answer) → turn_answer b op ≡ a → without_waiting (stamp_of op) (after_answer a op b) ≡ after_next_turn (next_ready after b) b
     go Good q = turn_makes after b op Append e (turn_is after b op Good e (sym q))
     go Repeat q = turn_makes after b op Drop e (turn_is after b op Repeat e (sym q))
     go (Waits r v) q = absurd (not_stay b.limits b.history op (ready_within after b.history b.waiting op e) (turn_is after b op (Waits r v) e (sym q)))
@@ -101,7 +101,7 @@ on_stopped b after n m w e = let u = at_until b.limits (state b) after (state n)
 abbrev Next : BufferState → BufferState → BufferState → Lamport → Type 0
 Next b n m t = OnWay b (Some t) m × (length m.waiting < length n.waiting)
 
-pub on_turn : (b : BufferState) (after : Option Lamport) (n m : BufferState) (t : Lamport) → OnWay b after n → Ascending older n.waiting → Some t ≡ option_map stamp_of (next_ready after n) → m ≡ turn_made (next_ready after n) n
+pub on_turn : (b : BufferState) (after : Option Lamport) (n m : BufferState) (t : Lamport) → OnWay b after n → Ascending older n.waiting → Some t ≡ option_map stamp_of (next_ready after n) → m ≡ after_next_turn (next_ready after n) n
     → Next b n m t
 on_turn b after n m t w u s e = go (next_ready after n) refl s e
   where
@@ -115,13 +115,13 @@ on_turn b after n m t w u s e = go (next_ready after n) refl s e
       fewer n.limits (state n) after op u q,
     )
 
-    go : (o : Option Operation) → next_ready after n ≡ o → Some t ≡ option_map stamp_of o → m ≡ turn_made o n → Next b n m t
+    go : (o : Option Operation) → next_ready after n ≡ o → Some t ≡ option_map stamp_of o → m ≡ after_next_turn o n → Next b n m t
     go None q s e = cc
     go (Some op) q s e = let r : t ≡ stamp_of op = cc in subst (λ (x : BufferState). Next b n x t) (sym e) (subst (λ (x : Lamport). Next b n (with_state (turn_step n.limits op (state n)) n) x) (sym r) (made op q))
 
-pub on_end : (b : BufferState) (after : Option Lamport) (n m : BufferState) → OnWay b after n → None ≡ option_map stamp_of (next_ready after n) → m ≡ turn_made (next_ready after n) n → m ≡ after_pass b
+pub on_end : (b : BufferState) (after : Option Lamport) (n m : BufferState) → OnWay b after n → None ≡ option_map stamp_of (next_ready after n) → m ≡ after_next_turn (next_ready after n) n → m ≡ after_pass b
 on_end b after n m w s e = go (next_ready after n) refl s e
   where
-    go : (o : Option Operation) → next_ready after n ≡ o → None ≡ option_map stamp_of o → m ≡ turn_made o n → m ≡ after_pass b
+    go : (o : Option Operation) → next_ready after n ≡ o → None ≡ option_map stamp_of o → m ≡ after_next_turn o n → m ≡ after_pass b
     go None q s e = e ∙ same_buffer b n (pass_step b.limits (state b)) w.replica w.limits (at_end b.limits (state b) after (state n) w.at q)
     go (Some op) q s e = cc

@@ -8,7 +8,7 @@ use Rattle.op_model.specs.Histories.{operation_at}
 use Rattle.op_model.specs.Lawful.{Lawful}
 use Rattle.op_model.specs.Settled.{State}
 use Rattle.op_model.specs.Steps.{older}
-use Rattle.text_buffer.specs.Buffer.{BufferState, IsPartly, AllMiss, newly_applied, settled, state, with_state}
+use Rattle.text_buffer.specs.Buffer.{BufferState, IsPartly, AllMiss, new_operations, after_settle, state, with_state}
 use Rattle.text_buffer.specs.Fields.{state_of, AreKept}
 use Rattle.text_buffer.specs.declared.buffer.Buffer.TheInside.{Inside}
 use Rattle.text_buffer.specs.Settling.{pass_until, after_pass, IsStopped}
@@ -26,23 +26,23 @@ after_pass_up b u = pass_up b.limits b.history b.waiting u
 pub longer_twice : (b : BufferState) → Ascending older b.waiting → length b.history ≤ length (after_pass (after_pass b)).history
 longer_twice b u = let x = longer b u in let y = longer (after_pass b) (after_pass_up b u) in omega arith
 
-pub once : (b : BufferState) → Ascending older b.waiting → length (after_pass b).history ≡ length b.history → settled b ≡ after_pass b
+pub once : (b : BufferState) → Ascending older b.waiting → length (after_pass b).history ≡ length b.history → after_settle b ≡ after_pass b
 once b u e = ap (λ (s : State). with_state s b) (settled_once b.limits (state b) u e)
 
-pub twice : (b : BufferState) → Ascending older b.waiting → (length (after_pass b).history ≡ length b.history → ⊥) → settled b ≡ after_pass (after_pass b)
+pub twice : (b : BufferState) → Ascending older b.waiting → (length (after_pass b).history ≡ length b.history → ⊥) → after_settle b ≡ after_pass (after_pass b)
 twice b u n = let x = longer b u in ap (λ (s : State). with_state s b) (settled_twice b.limits (state b) u (grows x n))
   where
     grows : (x : length b.history ≤ length (after_pass b).history) (n : length (after_pass b).history ≡ length b.history → ⊥) → length b.history < length (after_pass b).history
     grows x n = omega arith
 
-pub all_miss : (b : BufferState) → AllMiss (settled b)
+pub all_miss : (b : BufferState) → AllMiss (after_settle b)
 all_miss b = settled_waits b.limits (state b)
 
 -- ---- its settling was stopped
 
 partly : (b n : BufferState) → Lawful n.history → LeavesState (state b) (state n) → n.replica ≡ b.replica → n.limits ≡ b.limits → IsPartly b n
 partly b n p k r l =
-    let d : newly_applied b n ≡ k.new = ap (drop (length b.history)) k.history ∙ drop-append_seam b.history k.new in
+    let d : new_operations b n ≡ k.new = ap (drop (length b.history)) k.history ∙ drop-append_seam b.history k.new in
     record {
       lawful = p;
       prefix = k.history ∙ ap (λ z. b.history ++ z) (sym d);
@@ -74,10 +74,10 @@ length_is i b s e v = e ∙ ap (λ (x : BufferState). length x.history) v
 
 -- the histories before and after the first pass
 module _ (i j : Inside) (b m : BufferState) (s r : ℕ) (k : AreKept i) (v : state_of i ≡ b) (w : state_of j ≡ m) (e : s ≡ length i.document) (f : r ≡ length j.document) (p : m ≡ after_pass b) where
-  pub after_one : r ≡ s → m ≡ settled b
+  pub after_one : r ≡ s → m ≡ after_settle b
   after_one n = p ∙ sym (once b (up i b k v) (ap (λ (x : BufferState). length x.history) (sym p) ∙ sym (length_is j m r f w) ∙ n ∙ length_is i b s e v))
 
-  pub after_two : (n : BufferState) → (r ≡ s → ⊥) → n ≡ after_pass m → n ≡ settled b
+  pub after_two : (n : BufferState) → (r ≡ s → ⊥) → n ≡ after_pass m → n ≡ after_settle b
   after_two n d q = q ∙ ap after_pass p ∙ sym (twice b (up i b k v) (λ x. d (length_is j m r f w ∙ ap (λ (y : BufferState). length y.history) p ∙ x ∙ sym (length_is i b s e v))))
 
 pub no_shorter : (i j : Inside) (b m n : BufferState) (s r : ℕ) → AreKept i → state_of i ≡ b → state_of j ≡ n → s ≡ length i.document → r ≡ length j.document → m ≡ after_pass b → n ≡ after_pass m → s ≤ r

@@ -9,7 +9,7 @@ use Rattle.lamport_clock.specs.Stamps.{later, same_stamp}
 use Rattle.op_model.specs.Cells.{same_cell, sibling_first, seq_where, seq}
 use Rattle.op_model.specs.Shown.{deleters_where, shown_where, shown, text_where, text}
 use Rattle.op_model.specs.Made.{made as made_at}
-use Rattle.text_buffer.specs.Buffer.{BufferState, over_base, edit_fault, edited, made}
+use Rattle.text_buffer.specs.Buffer.{BufferState, over_base, edit_fault, after_edit, edit_of}
 
 -- what the rows compute
 unfoldable open_all : ℕ
@@ -23,19 +23,19 @@ ab = over_base 7 (97 ∷ 98 ∷ []) (record { bytes = 1000; entries = 1000 })
 abbrev xy : List Piece
 xy = record { start = 1; end = 1; text = 88 ∷ [] } ∷ record { start = 1; end = 2; text = 89 ∷ [] } ∷ []
 
-two_ranges : text (edited ab xy).history ≡ 97 ∷ 88 ∷ 89 ∷ []
+two_ranges : text (after_edit ab xy).history ≡ 97 ∷ 88 ∷ 89 ∷ []
 unfolding open_all
 two_ranges = refl
 
-their_stamp : made ab xy ≡ Edit (record { stamp = record { value = 2; replica = 7 }; version = (0, 1) ∷ []; pieces = xy })
+their_stamp : edit_of ab xy ≡ Edit (record { stamp = record { value = 2; replica = 7 }; version = (0, 1) ∷ []; pieces = xy })
 unfolding open_all
 their_stamp = refl
 
-the_version_after : version (edited ab xy).history ≡ (0, 1) ∷ (7, 2) ∷ []
+the_version_after : version (after_edit ab xy).history ≡ (0, 1) ∷ (7, 2) ∷ []
 unfolding open_all
 the_version_after = refl
 
-held_after : (clock (edited ab xy).history ≡ 3) × (bytes_held (edited ab xy).history ≡ 4) × (entries_held (edited ab xy).history ≡ 3)
+held_after : (clock (after_edit ab xy).history ≡ 3) × (bytes_held (after_edit ab xy).history ≡ 4) × (entries_held (after_edit ab xy).history ≡ 3)
 unfolding open_all
 held_after = (refl, refl, refl)
 
@@ -69,6 +69,6 @@ room_for_one : edit_fault few x_in_front ≡ None
 unfolding open_all
 room_for_one = refl
 
-full_of_entries : edit_fault (edited few x_in_front) (record { start = 0; end = 1; text = [] } ∷ []) ≡ Some (Full Entries 2 2)
+full_of_entries : edit_fault (after_edit few x_in_front) (record { start = 0; end = 1; text = [] } ∷ []) ≡ Some (Full Entries 2 2)
 unfolding open_all
 full_of_entries = refl

@@ -14,7 +14,7 @@ use Rattle.op_model.specs.Answers.{Answer, answer}
 use Rattle.op_model.specs.Answers.Answer.{Good}
 use Rattle.op_model.proofs.Settling.{settled_keeps}
 use Rattle.op_model.proofs.Passed.{passed}
-use Rattle.text_buffer.specs.Buffer.{BufferState, IsPartly, answer_to, applied, settled, newly_applied}
+use Rattle.text_buffer.specs.Buffer.{BufferState, IsPartly, answer_to, after_apply, after_settle, new_operations}
 use Rattle.text_buffer.specs.declared.outcomes.Took.TheVariants as took
 use Rattle.text_buffer.proofs.Waiting.{not_waiting}
 
@@ -27,16 +27,16 @@ grows l h w = (settled_keeps l (λ (g : History). length h ≤ length g) (λ (op
     all [] = tt
     all (op ∷ w) = (tt, all w)
 
-pub more_applied : (b : BufferState) (op : Operation) → suc (length b.history) ≤ length (settled (applied b op)).history
+pub more_applied : (b : BufferState) (op : Operation) → suc (length b.history) ≤ length (after_settle (after_apply b op)).history
 more_applied b op = let n = grows b.limits (b.history ++ op ∷ []) b.waiting in let m = length-append b.history (op ∷ []) in omega arith
 
 -- ---- where memory is wanted
 
-pub one_applied : (b n : BufferState) (op : Operation) → answer b.history b.waiting op ≡ Good → IsPartly (applied b op) n → IsPartly b n
+pub one_applied : (b n : BufferState) (op : Operation) → answer b.history b.waiting op ≡ Good → IsPartly (after_apply b op) n → IsPartly b n
 one_applied b n op g p =
-    let more : List Operation = newly_applied (applied b op) n in
+    let more : List Operation = new_operations (after_apply b op) n in
     let whole : n.history ≡ b.history ++ op ∷ more = p.prefix ∙ append_assoc b.history (op ∷ []) more in
-    let new : newly_applied b n ≡ op ∷ more = ap (drop (length b.history)) whole ∙ drop-append_seam b.history (op ∷ more) in
+    let new : new_operations b n ≡ op ∷ more = ap (drop (length b.history)) whole ∙ drop-append_seam b.history (op ∷ more) in
     record {
       lawful = p.lawful;
       prefix = whole ∙ ap (λ (m : List Operation). b.history ++ m) (sym new);
@@ -53,7 +53,7 @@ answer_good b op g f = ap (λ (a : Answer). limited a (full_fault b.limits b.his
 
 -- ---- what is told
 
-module _ (b : BufferState) (op : Operation) (h g : ℕ) (e : h ≡ length b.history) (f : g ≡ length (settled (applied b op)).history) where
+module _ (b : BufferState) (op : Operation) (h g : ℕ) (e : h ≡ length b.history) (f : g ≡ length (after_settle (after_apply b op)).history) where
   pub counts_up : suc h ≤ g
   counts_up = let m = more_applied b op in omega arith
 

@@ -27,7 +27,7 @@ use Rattle.undo_map.specs.Counts.{count_of}
 use Rattle.undo_map.specs.Undos.{undo_entries}
 use Rattle.op_answers.specs.LocalUndo.{undo_fault as listed_fault}
 use Rattle.op_answers.proofs.LocalUndo.{local_of, room}
-use Rattle.text_buffer.specs.Buffer.{BufferState, IsBuffer, undo_fault, made_undo}
+use Rattle.text_buffer.specs.Buffer.{BufferState, IsBuffer, undo_fault, undo_of}
 use Rattle.text_buffer.proofs.Applied.{within_limits}
 
 -- the faults that come behind those of the list
@@ -78,9 +78,9 @@ pub record Fits (b : BufferState) (op : Operation) : Type 0 where
   pub good : answer b.history [] op ≡ Good
   pub room : full_fault b.limits b.history op ≡ None
 
-pub made_fits : (b : BufferState) (ts : List Lamport) (op : Operation) → IsBuffer b → undo_fault b ts ≡ None → op ≡ made_undo b ts → Fits b op
+pub made_fits : (b : BufferState) (ts : List Lamport) (op : Operation) → IsBuffer b → undo_fault b ts ≡ None → op ≡ undo_of b ts → Fits b op
 made_fits b ts op k e m = subst (Fits b) (sym m) (record {
   proper = undo_proper b.limits b.history b.replica ts e;
   good = undo_good b.limits b.history b.replica ts k.lawful k.proper (k.least_replica, k.greatest_replica) e;
-  room = within_limits b (made_undo b ts) 0 (1 + length ts) (made_bytes b.history b.replica ts) (made_entries b.history b.replica ts) (meets_none b ts e).excess;
+  room = within_limits b (undo_of b ts) 0 (1 + length ts) (made_bytes b.history b.replica ts) (made_entries b.history b.replica ts) (meets_none b ts e).excess;
 })

@@ -57,28 +57,28 @@ abbrev pub edit_fault : BufferState → List Piece → Option EditFault
 edit_fault b ps = local_edit_fault b.limits b.history ps
 
 -- the operation of an edit
-abbrev pub made : BufferState → List Piece → Operation
-made b ps = made_at b.history b.replica ps
+abbrev pub edit_of : BufferState → List Piece → Operation
+edit_of b ps = made_at b.history b.replica ps
 
 -- the buffer after an edit
-abbrev pub edited : BufferState → List Piece → BufferState
-edited b ps = record b { history = b.history ++ made b ps ∷ [] }
+abbrev pub after_edit : BufferState → List Piece → BufferState
+after_edit b ps = record b { history = b.history ++ edit_of b ps ∷ [] }
 
 -- the fault that an undo meets
 abbrev pub undo_fault : BufferState → List Lamport → Option UndoFault
 undo_fault b ts = local_undo_fault b.limits b.history ts
 
 -- the operation of an undo
-abbrev pub made_undo : BufferState → List Lamport → Operation
-made_undo b ts = made_undo_at b.history b.replica ts
+abbrev pub undo_of : BufferState → List Lamport → Operation
+undo_of b ts = made_undo_at b.history b.replica ts
 
 -- the buffer after an undo
-abbrev pub undone : BufferState → List Lamport → BufferState
-undone b ts = record b { history = b.history ++ made_undo b ts ∷ [] }
+abbrev pub after_undo : BufferState → List Lamport → BufferState
+after_undo b ts = record b { history = b.history ++ undo_of b ts ∷ [] }
 
 -- the buffer with one more operation applied
-abbrev pub applied : BufferState → Operation → BufferState
-applied b op = record b { history = b.history ++ op ∷ [] }
+abbrev pub after_apply : BufferState → Operation → BufferState
+after_apply b op = record b { history = b.history ++ op ∷ [] }
 
 -- what the calls of a buffer work on
 abbrev pub state : BufferState → State
@@ -100,23 +100,23 @@ abbrev pub answer_to : BufferState → Operation → Answer
 answer_to b op = take_answer b.limits (state b) op
 
 -- the buffer after an operation is taken
-abbrev pub taken : BufferState → Operation → BufferState
-taken b op = with_state (take_step b.limits op (state b)) b
+abbrev pub after_take : BufferState → Operation → BufferState
+after_take b op = with_state (take_step b.limits op (state b)) b
 
 -- the buffer after it settles
-abbrev pub settled : BufferState → BufferState
-settled b = with_state (settle_step b.limits (state b)) b
+abbrev pub after_settle : BufferState → BufferState
+after_settle b = with_state (settle_step b.limits (state b)) b
 
 -- how many operations were applied from one buffer to the next
 abbrev pub number_applied : BufferState → BufferState → ℕ
 number_applied b n = growth (state b) (state n)
 
 -- what is told of an answer that is no refusal, n operations being applied
-abbrev pub told : ℕ → Answer → Option Took
-told n Good = Some (took.Applied n)
-told n Repeat = Some took.Repeat
-told n (Waits r v) = Some (took.Waits r v)
-told n (Refused f) = None
+abbrev pub took_of : ℕ → Answer → Option Took
+took_of n Good = Some (took.Applied n)
+took_of n Repeat = Some took.Repeat
+took_of n (Waits r v) = Some (took.Waits r v)
+took_of n (Refused f) = None
 
 -- the operation is applied, or waits
 abbrev pub is_kept : Answer → Bool
@@ -130,15 +130,15 @@ abbrev pub AllMiss : BufferState → Type 0
 AllMiss b = Each (λ (op : Operation). within (version_of op) (version b.history) ≡ false) b.waiting
 
 -- the operations that were applied from one buffer to the next
-abbrev pub newly_applied : BufferState → BufferState → List Operation
-newly_applied b n = drop (length b.history) n.history
+abbrev pub new_operations : BufferState → BufferState → List Operation
+new_operations b n = drop (length b.history) n.history
 
 -- what is true of a buffer whose settling wanted memory: some operations are applied, each good at its turn; none of these waits,
 -- and nothing waits that did not wait before
 pub record IsPartly (b n : BufferState) : Type 0 where
   pub lawful : Lawful n.history
-  pub prefix : n.history ≡ b.history ++ newly_applied b n
-  pub applied : Each (λ (op : Operation). operation_at n.waiting (stamp_of op) ≡ None) (newly_applied b n)
+  pub prefix : n.history ≡ b.history ++ new_operations b n
+  pub applied : Each (λ (op : Operation). operation_at n.waiting (stamp_of op) ≡ None) (new_operations b n)
   pub waiting : (t : Lamport) → operation_at b.waiting t ≡ None → operation_at n.waiting t ≡ None
   pub replica : n.replica ≡ b.replica
   pub limits : n.limits ≡ b.limits

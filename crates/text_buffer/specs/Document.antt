@@ -18,7 +18,7 @@ use Rattle.undo_map.specs.declared.entry.UndoEntry.{UndoEntry}
 use Rattle.fragments.specs.Stand.{Stand, runs}
 use Rattle.remote_edit.specs.declared.placed.Placed.{Placed}
 use Rattle.remote_edit.specs.Fragments.{fragments_of}
-use Rattle.remote_edit.specs.Moves.{moved, texts_of}
+use Rattle.remote_edit.specs.Moves.{after_moves, texts_of}
 use Rattle.text_buffer.specs.declared.content.Content.{Content}
 
 -- what is true of the history of every buffer and of every snapshot
@@ -54,7 +54,7 @@ pub record IsMoved (c : Content) (p : Placed) (u : List UndoEntry) (h : List Ope
   pub fragments : c.fragments.items ≡ p.fragments.items
   pub index : c.index ≡ p.index
   pub undos : c.undos ≡ u
-  pub texts : texts_of c.text c.hidden ≡ moved p.moves (text h) (hidden h) n
+  pub texts : texts_of c.text c.hidden ≡ after_moves p.moves (text h) (hidden h) n
 
 -- op is good behind h, and there is room for it
 pub record MayGrow (h : List Operation) (op : Operation) : Type 0 where

@@ -12,7 +12,7 @@ use Rattle.op_model.specs.Settled.{State, Turn, turn, pass, full_fault}
 use Rattle.op_model.specs.Settled.Turn.{Append, Drop, Stay, Refuse}
 use Rattle.op_model.specs.Steps.{limited}
 use Rattle.deferred_ops.specs.Deferred.{least_ready, without}
-use Rattle.text_buffer.specs.Buffer.{BufferState, answer_to, applied, state, with_state}
+use Rattle.text_buffer.specs.Buffer.{BufferState, answer_to, after_apply, state, with_state}
 
 -- what a turn of op makes
 abbrev pub after_turn : Turn → Operation → State → State
@@ -42,9 +42,9 @@ abbrev pub next_ready : Option Lamport → BufferState → Option Operation
 next_ready after b = least_ready after (version b.history) b.waiting
 
 -- the buffer after the turn of an operation, if there is one
-abbrev pub turn_made : Option Operation → BufferState → BufferState
-turn_made None b = b
-turn_made (Some op) b = with_state (turn_step b.limits op (state b)) b
+abbrev pub after_next_turn : Option Operation → BufferState → BufferState
+after_next_turn None b = b
+after_next_turn (Some op) b = with_state (turn_step b.limits op (state b)) b
 
 -- the answer to an operation at its turn, the limits asked last
 abbrev pub turn_answer : BufferState → Operation → Answer
@@ -58,7 +58,7 @@ without_waiting t b = record b { waiting = without t b.waiting }
 
 -- the buffer after an answer at a turn, before the operation leaves
 abbrev pub after_answer : Answer → Operation → BufferState → BufferState
-after_answer Good op b = applied b op
+after_answer Good op b = after_apply b op
 after_answer Repeat op b = b
 after_answer (Waits r v) op b = b
 after_answer (Refused f) op b = with_refusal (stamp_of op, f) b
@@ -77,4 +77,4 @@ IsHalted b n = IsStopped b n ⊎ IsStopped (after_pass b) n
 
 -- memory ran out while an operation was taken: the buffer is as before, or the operation is applied and settling was stopped
 abbrev pub IsTakenPartly : Operation → BufferState → BufferState → Type 0
-IsTakenPartly op b n = (n ≡ b) ⊎ ((answer_to b op ≡ Good) × IsHalted (applied b op) n)
+IsTakenPartly op b n = (n ≡ b) ⊎ ((answer_to b op ≡ Good) × IsHalted (after_apply b op) n)

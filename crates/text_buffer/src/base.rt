@@ -1,4 +1,4 @@
-// A base text, made ready for the buffers over it.
+//! A base text, made ready for the buffers over it.
 ghost use Rattle.std.specs.Prelude.{◌≡◌, ◌==◌, ◌⊎◌, ◌^◌, ◌≤◌, ◌∷◌, [], length, IfOk, IfErr, OnOk, None, Some};
 ghost use Rattle.std.specs.Str.{IsUtf8};
 ghost use Rattle.op_model.specs.Histories.{base};

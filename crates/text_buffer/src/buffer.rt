@@ -1,4 +1,4 @@
-// The buffer of one replica.
+//! The buffer of one replica.
 ghost use Rattle.std.specs.Prelude.{◌≡◌, ◌≤◌, ◌^◌, ◌-◌, ◌+◌, ◌⊎◌, ◌++◌, ◌∷◌, [], length, IfOk, IfErr, OnErr, OnOk, None, Some, option_map, string_bytes, true};
 ghost use Rattle.op_model.specs.Histories.{SameSet, clock, version};
 ghost use Rattle.op_model.specs.Limited.{excess};
@@ -11,7 +11,7 @@ ghost use Rattle.op_model.specs.Steps.{opened};
 ghost use Rattle.op_model.specs.Steps.Step.{Edits};
 ghost use Rattle.op_model.specs.Shown.{text};
 ghost use Rattle.text_dims.specs.Summaries.{summary_of};
-ghost use Rattle.text_buffer.specs.Buffer.{BufferState, IsBuffer, after_call, applied, edit_fault, edited, made, new_fault, over_base, state};
+ghost use Rattle.text_buffer.specs.Buffer.{BufferState, IsBuffer, after_call, after_apply, edit_fault, after_edit, edit_of, new_fault, over_base, state};
 ghost use Rattle.text_buffer.specs.Costs.{IsEditCost};
 
 use crate::base::Base;
@@ -192,8 +192,8 @@ impl Buffer {
         steps: &mut Steps<L>,
     ) -> Result<Operation, EditFault>
         ensures ok { OnOk result (edit_fault self.old changes.now ≡ None) }
-        ensures made { IfOk result (λ op. op ≡ made self.old changes.now) }
-        ensures new { OnOk result (self.new ≡ edited self.old changes.now) }
+        ensures made { IfOk result (λ op. op ≡ edit_of self.old changes.now) }
+        ensures new { OnOk result (self.new ≡ after_edit self.old changes.now) }
         ensures history { IfOk result (λ op. self.new.history ≡ self.old.history ++ op ∷ []) }
         ensures text { OnOk result (text self.new.history
             ≡ replaced changes.now (text self.old.history)) }
@@ -219,8 +219,8 @@ impl Buffer {
         steps: &mut Steps<L>,
     ) -> Result<Operation, AllocError>
         requires { edit_fault self.old changes.now ≡ None }
-        ensures made { IfOk result (λ op. op ≡ made self.old changes.now) }
-        ensures new { OnOk result (self.new ≡ edited self.old changes.now) }
+        ensures made { IfOk result (λ op. op ≡ edit_of self.old changes.now) }
+        ensures new { OnOk result (self.new ≡ after_edit self.old changes.now) }
         ensures text { OnOk result (text self.new.history
             ≡ replaced changes.now (text self.old.history)) }
         ensures err { OnErr result (self.new ≡ self.old) }
@@ -266,7 +266,7 @@ impl Buffer {
         requires proper { IsProper op }
         requires good { answer self.old.history [] op ≡ Good }
         requires room { full_fault self.old.limits self.old.history op ≡ None }
-        ensures ok { OnOk result (self.new ≡ applied self.old op) }
+        ensures ok { OnOk result (self.new ≡ after_apply self.old op) }
         ensures err { OnErr result (self.new ≡ self.old) }
     {
         self.document.apply(op)?;

@@ -1,4 +1,4 @@
-// What a history comes to, cell by cell.
+//! What a history comes to, cell by cell.
 ghost use Rattle.std.specs.Prelude.{◌≡◌, ◌^◌, ◌≤◌, ℕ, List, ◌∷◌, [], length, IfOk};
 ghost use Rattle.locators.specs.Locator.{IsLess, EndsAboveZero, between_digits, least_digits, greatest_digits};
 ghost use Rattle.op_model.specs.Histories.{History, base};

@@ -1,4 +1,4 @@
-// What a history comes to.
+//! What a history comes to.
 ghost use Rattle.std.specs.Prelude.{◌≡◌, ◌+◌, ◌-◌, ◌^◌, ◌≤◌, ℕ, List, ◌++◌, ◌∷◌, [], None, length, map, IfOk, OnErr, OnOk, option_map};
 ghost use Rattle.std.specs.Arc.{arc_value};
 ghost use Rattle.lamport_clock.specs.Clocks.{observed};

@@ -1,4 +1,4 @@
-// Why a buffer is not made.
+//! Why a buffer is not made.
 ghost use Rattle.std.specs.Prelude.{◌≡◌, ◌≤◌, None};
 ghost use Rattle.text_buffer.specs.Buffer.{length_fault};
 ghost use Rattle.text_buffer.specs.declared.faults.NewFault.{NewFault};

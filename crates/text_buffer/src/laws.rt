@@ -1,4 +1,4 @@
-// Laws of what snapshots answer, shown by functions that do nothing.
+//! Laws of what snapshots answer, shown by functions that do nothing.
 ghost use Rattle.std.specs.Prelude.{◌≡◌, List};
 ghost use Rattle.op_model.specs.Histories.{SameSet};
 ghost use Rattle.op_model.specs.Steps.{Step};

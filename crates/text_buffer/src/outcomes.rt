@@ -1,4 +1,4 @@
-// What becomes of taken operations.
+//! What becomes of taken operations.
 ghost use Rattle.std.specs.Prelude.{◌≡◌};
 
 use lamport_clock::Lamport;

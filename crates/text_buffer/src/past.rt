@@ -1,4 +1,4 @@
-// What a snapshot tells of its past: the text at a version, and the edits since it.
+//! What a snapshot tells of its past: the text at a version, and the edits since it.
 ghost use Rattle.std.specs.Prelude.{◌≡◌, ◌⊎◌, None, Some, IfErr, IfOk, OnOk, string_bytes};
 ghost use Rattle.op_model.specs.Answers.{open_replica};
 ghost use Rattle.op_model.specs.Lawful.{IsClosed, unseen_replica};

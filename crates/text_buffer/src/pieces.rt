@@ -1,4 +1,4 @@
-// What pieces and operations add to what a buffer holds.
+//! What pieces and operations add to what a buffer holds.
 ghost use Rattle.std.specs.Prelude.{◌≡◌};
 ghost use Rattle.op_model.specs.Domains.{IsProper};
 ghost use Rattle.op_model.specs.Operations.{text_total, bytes_of, entries_of};

@@ -1,4 +1,4 @@
-// Anchors of a snapshot.
+//! Anchors of a snapshot.
 ghost use Rattle.std.specs.Prelude.{◌≡◌, Some, IfOk, IfErr, if◌then◌else◌};
 ghost use Rattle.std.specs.Result.{result_err, result_ok};
 ghost use Rattle.op_model.specs.Anchors.{compared, is_known, place_fault, resolved};

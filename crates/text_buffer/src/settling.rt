@@ -1,12 +1,12 @@
-// Settling: what waits is applied, refused or dropped.
+//! Settling: what waits is applied, refused or dropped.
 ghost use Rattle.std.specs.Prelude.{◌≡◌, IfOk, OnErr, OnOk, option_map};
 ghost use Rattle.op_model.specs.Domains.{IsProper};
 ghost use Rattle.op_model.specs.Operations.{stamp_of};
 ghost use Rattle.op_model.specs.Steps.Step.{Settles};
 ghost use Rattle.op_answers.specs.Verdicts.{answer_of};
 ghost use Rattle.text_buffer.specs.Outcomes.{pair_of};
-ghost use Rattle.text_buffer.specs.Buffer.{AllMiss, IsBuffer, IsPartly, after_call, number_applied, settled};
-ghost use Rattle.text_buffer.specs.Settling.{IsHalted, IsStopped, after_answer, after_pass, next_ready, turn_answer, turn_made, with_refusal, without_waiting};
+ghost use Rattle.text_buffer.specs.Buffer.{AllMiss, IsBuffer, IsPartly, after_call, number_applied, after_settle};
+ghost use Rattle.text_buffer.specs.Settling.{IsHalted, IsStopped, after_answer, after_pass, next_ready, turn_answer, after_next_turn, with_refusal, without_waiting};
 
 use crate::{Buffer, Refused};
 use deferred_ops::Deferred;
@@ -24,7 +24,7 @@ impl Buffer {
     ///
     /// Want of memory alone. What is then applied stays applied, and a later call goes on.
     pub fn settle(&mut self) -> Result<u64, AllocError>
-        ensures new { OnOk result (self.new ≡ settled self.old) }
+        ensures new { OnOk result (self.new ≡ after_settle self.old) }
         ensures applied { IfOk result (λ n. n ≡ number_applied self.old self.new) }
         ensures waiting { OnOk result (AllMiss self.new) }
         ensures want { OnErr result (IsPartly self.old self.new) }
@@ -56,7 +56,8 @@ impl Buffer {
     // The turn of the least operation past a stamp that misses no cause. Gives its stamp, or None where there is none.
     fn next_turn(&mut self, after: Option<Lamport>) -> Result<Option<Lamport>, AllocError>
         ensures ready { IfOk result (λ t. t ≡ option_map stamp_of (next_ready after self.old)) }
-        ensures turn { OnOk result (self.new ≡ turn_made (next_ready after self.old) self.old) }
+        ensures turn { OnOk result (self.new
+            ≡ after_next_turn (next_ready after self.old) self.old) }
         ensures err { OnErr result (self.new ≡ self.old) }
         ensures buffer { IsBuffer self.old }
     {

@@ -1,4 +1,4 @@
-// Taking the operations of other replicas.
+//! Taking the operations of other replicas.
 ghost use Rattle.std.specs.Prelude.{ℕ, ◌≡◌, ◌≤◌, ◌⊎◌, true, map, Some, None, IfErr, IfOk, OnErr, OnOk};
 ghost use Rattle.op_model.specs.Sorted.{insert_by};
 ghost use Rattle.op_model.specs.Histories.{operation_at};
@@ -9,7 +9,7 @@ ghost use Rattle.op_model.specs.Steps.{older};
 ghost use Rattle.op_model.specs.Steps.Step.{Takes};
 ghost use Rattle.text_buffer.specs.Outcomes.{pair_of};
 ghost use Rattle.text_buffer.specs.Settling.{IsTakenPartly};
-ghost use Rattle.text_buffer.specs.Buffer.{AllMiss, IsPartly, after_call, answer_to, is_kept, number_applied, taken, told};
+ghost use Rattle.text_buffer.specs.Buffer.{AllMiss, IsPartly, after_call, answer_to, is_kept, number_applied, after_take, took_of};
 
 use crate::{Buffer, Refused, Took};
 use applied_ops::Applied;
@@ -43,9 +43,9 @@ impl Buffer {
     /// operation. The buffer is then as before, unless the operation was applied and settling wanted memory: then what is applied
     /// stays applied, and a later `settle` goes on.
     pub fn take(&mut self, op: Operation) -> Result<Took, OpFault>
-        ensures ok { IfOk result (λ t. told (number_applied self.old self.new)
+        ensures ok { IfOk result (λ t. took_of (number_applied self.old self.new)
             (answer_to self.old op) ≡ Some t) }
-        ensures new { OnOk result (self.new ≡ taken self.old op) }
+        ensures new { OnOk result (self.new ≡ after_take self.old op) }
         ensures applied { IfOk result (λ t. (n : ℕ) → t ≡ Took.Applied n
             → (1 ≤ n) × AllMiss self.new) }
         ensures fault { IfErr result (λ e. (answer_to self.old op ≡ refused e)
@@ -71,9 +71,9 @@ impl Buffer {
     // Applies an operation that is good, unless a limit holds it off, and settles.
     fn accept(&mut self, op: Operation) -> Result<Took, OpFault>
         requires good { answer self.old.history self.old.waiting op ≡ Good }
-        ensures ok { IfOk result (λ t. told (number_applied self.old self.new)
+        ensures ok { IfOk result (λ t. took_of (number_applied self.old self.new)
             (answer_to self.old op) ≡ Some t) }
-        ensures new { OnOk result (self.new ≡ taken self.old op) }
+        ensures new { OnOk result (self.new ≡ after_take self.old op) }
         ensures applied { IfOk result (λ t. (n : ℕ) → t ≡ Took.Applied n
             → (1 ≤ n) × AllMiss self.new) }
         ensures fault { IfErr result (λ e. (answer_to self.old op ≡ refused e)

@@ -1,7 +1,7 @@
-// Undo and redo.
+//! Undo and redo.
 ghost use Rattle.std.specs.Prelude.{◌≡◌, ◌⊎◌, ◌++◌, ◌∷◌, [], None, Some, IfErr, IfOk, OnErr, OnOk};
 ghost use Rattle.op_model.specs.Steps.Step.{Undoes};
-ghost use Rattle.text_buffer.specs.Buffer.{after_call, made_undo, undo_fault, undone};
+ghost use Rattle.text_buffer.specs.Buffer.{after_call, undo_of, undo_fault, after_undo};
 
 use crate::Buffer;
 use crate::document::with_copy;
@@ -25,8 +25,8 @@ impl Buffer {
     /// these. The buffer is then as before.
     pub fn undo(&mut self, edits: &[Lamport]) -> Result<Operation, UndoFault>
         ensures ok { OnOk result (undo_fault self.old edits.now ≡ None) }
-        ensures made { IfOk result (λ op. op ≡ made_undo self.old edits.now) }
-        ensures new { OnOk result (self.new ≡ undone self.old edits.now) }
+        ensures made { IfOk result (λ op. op ≡ undo_of self.old edits.now) }
+        ensures new { OnOk result (self.new ≡ after_undo self.old edits.now) }
         ensures history { IfOk result (λ op. self.new.history ≡ self.old.history ++ op ∷ []) }
         ensures fault { IfErr result (λ e. (undo_fault self.old edits.now ≡ Some e)
             ⊎ ((undo_fault self.old edits.now ≡ None) × (e ≡ UndoFault.OutOfMemory))) }
@@ -44,8 +44,8 @@ impl Buffer {
     // Makes an undo that meets no fault.
     fn make_undo(&mut self, edits: &[Lamport]) -> Result<Operation, AllocError>
         requires { undo_fault self.old edits.now ≡ None }
-        ensures made { IfOk result (λ op. op ≡ made_undo self.old edits.now) }
-        ensures new { OnOk result (self.new ≡ undone self.old edits.now) }
+        ensures made { IfOk result (λ op. op ≡ undo_of self.old edits.now) }
+        ensures new { OnOk result (self.new ≡ after_undo self.old edits.now) }
         ensures err { OnErr result (self.new ≡ self.old) }
     {
         let undo = self.undo_operation(edits)?;
@@ -82,7 +82,7 @@ impl Buffer {
     // The operation of an undo that meets no fault.
     fn undo_operation(&self, edits: &[Lamport]) -> Result<Operation, AllocError>
         requires { undo_fault self.now edits.now ≡ None }
-        ensures { IfOk result (λ op. op ≡ made_undo self.now edits.now) }
+        ensures { IfOk result (λ op. op ≡ undo_of self.now edits.now) }
     {
         Ok(Operation::Undo(UndoOp {
             stamp: self.next_stamp(),

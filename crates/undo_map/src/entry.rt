@@ -1,4 +1,4 @@
-// The count that an undo gives an edit.
+//! The count that an undo gives an edit.
 ghost use Rattle.std.specs.Prelude.{◌≡◌, Some};
 ghost use Rattle.undo_map.specs.Counts.{key_of};
 

@@ -1,4 +1,4 @@
-// The laws of the undo counts of a history, shown by functions that do nothing.
+//! The laws of the undo counts of a history, shown by functions that do nothing.
 ghost use Rattle.undo_map.specs.Laws.{CountsAreOfHistory, EntriesAreCounts, EntriesAreHeld};
 
 /// The entries of a history count as the history does, now and at each version.

@@ -1,4 +1,4 @@
-// The greatest counts of edits.
+//! The greatest counts of edits.
 ghost use Rattle.std.specs.Prelude.{◌≡◌, ℕ, ◌+◌, ◌^◌, ◌<◌, ◌≤◌, [], max, true, false, slice_index_or, length, IsOk, IfOk, OnErr, OnOk, if◌then◌else◌, ◌&&◌, Bool};
 ghost use Rattle.std.specs.Option.{option_copied};
 ghost use Rattle.undo_map.specs.declared.entry.UndoEntry.{UndoEntry};

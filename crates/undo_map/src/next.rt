@@ -1,4 +1,4 @@
-// The counts of a local undo.
+//! The counts of a local undo.
 ghost use Rattle.std.specs.Prelude.{◌≡◌, ◌==◌, false, IfOk, None, map};
 ghost use Rattle.std.specs.List.{find};
 ghost use Rattle.op_model.specs.Histories.{History};

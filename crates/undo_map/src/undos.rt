@@ -1,4 +1,4 @@
-// The counts of whole undos.
+//! The counts of whole undos.
 ghost use Rattle.std.specs.Prelude.{◌≡◌, ◌+◌, ◌^◌, ◌≤◌, ◌++◌, ◌∷◌, [], length, IfOk};
 ghost use Rattle.op_model.specs.declared.operation.Operation.TheVariants.{Undo};
 ghost use Rattle.op_model.specs.Histories.{History};

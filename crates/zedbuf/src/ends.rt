@@ -1,4 +1,4 @@
-// The real input and output, and the gate that passes at once.
+//! The real input and output, and the gate that passes at once.
 ghost use Rattle.std.specs.Prelude.{None};
 
 use session_replay::{Failed, Gate, ReadCounts, Sink, Source};

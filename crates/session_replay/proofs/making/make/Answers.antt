@@ -2,7 +2,7 @@ use Rattle.std.proofs.Common.{ℕ, ◌++◌, ◌∙◌, ap, arith}
 use Rattle.std.proofs.lemmas.Result.{IfOk-weaker}
 use Rattle.session_maker.specs.Made.{rounds_from}
 use Rattle.session_replay.specs.Making.{length_at, made_opening, made_session, summary_of}
-use Rattle.session_replay.specs.MakingOn.{worked}
+use Rattle.session_replay.specs.MakingOn.{work_state}
 use Rattle.session_replay.specs.Work.{after_all}
 use Rattle.session_replay.specs.declared.making.Making.{Making}
 use Rattle.session_replay.proofs.Rounds.{ids_again, ids_are_editors, ids_counted, summed}
@@ -27,8 +27,8 @@ returns c =
     let making : Making = c.in_ok-making.making in
     let first = ids_counted _ n (c.as_slice.ensures.value ∙ c.in_ok-ids.ensures) in
     let second = ids_counted _ n (c.as_slice-2.ensures.value ∙ c.in_ok-ids.ensures) in
-    let lines = c.in_ok-work_rounds.ensures.lines ∙ ap (λ k. making.lines.items ++ rounds_from after_all length_at k edits 1 making.draws (worked making)) second in
-    let state = c.in_ok-work_rounds.ensures.state ∙ ap (λ k. after_all (rounds_from after_all length_at k edits 1 making.draws (worked making)) (worked making)) second in
+    let lines = c.in_ok-work_rounds.ensures.lines ∙ ap (λ k. making.lines.items ++ rounds_from after_all length_at k edits 1 making.draws (work_state making)) second in
+    let state = c.in_ok-work_rounds.ensures.state ∙ ap (λ k. after_all (rounds_from after_all length_at k edits 1 making.draws (work_state making)) (work_state making)) second in
     let sum = summed making c.work_rounds.new.self c.give_all.new.self c.args.seed n edits c.as_slice-3.result.now c.as_slice-4.result.now (c.in_ok-making.ensures.state ∙ ap made_opening first) c.in_ok-making.ensures.draws c.in_ok-making.ensures.lines lines state
     c.in_ok-give_all.ensures (c.as_slice-3.ensures.value ∙ c.in_ok-ids.ensures) (c.as_slice-4.ensures.value ∙ c.in_ok-numbers.ensures) in
     IfOk-weaker c.summary.result _ _ (λ v h. h ∙ sum ∙ ap (λ e. summary_of (made_session c.args.seed n e)) c.from-edits.ensures) c.summary.ensures

@@ -1,7 +1,7 @@
 use Rattle.std.proofs.Common.{◌++◌, List, sym, ap, ◌∙◌}
 use Rattle.op_model.specs.declared.operation.Operation.{Operation}
 use Rattle.op_model.proofs.MainLaws.{runs_append}
-use Rattle.text_buffer.specs.Buffer.{state, newly_applied}
+use Rattle.text_buffer.specs.Buffer.{state, new_operations}
 use Rattle.text_buffer.proofs.snapshot.snapshots_append.Goals as goal
 
 pub returns-clause-calls : goal.returns-clause-calls
@@ -11,4 +11,4 @@ returns-clause-calls c = λ b cs e f.
 
 pub returns-clause-want : goal.returns-clause-want
 returns-clause-want c = λ b n p e f.
-    (newly_applied b n, f ∙ p.prefix ∙ ap (λ (h : List Operation). h ++ newly_applied b n) (sym e))
+    (new_operations b n, f ∙ p.prefix ∙ ap (λ (h : List Operation). h ++ new_operations b n) (sym e))

@@ -1,5 +1,5 @@
 use Rattle.std.proofs.Common.{refl, ap, ◌∙◌}
-use Rattle.text_buffer.specs.Buffer.{BufferState, edited}
+use Rattle.text_buffer.specs.Buffer.{BufferState, after_edit}
 use Rattle.placed_buffer.proofs.Steps.{may_make, edit_stands}
 use Rattle.placed_buffer.proofs.buffer.PlacedBuffer.edit.Goals as goal
 
@@ -19,4 +19,4 @@ pub same-buffer : goal.same-buffer
 same-buffer c = refl
 
 pub returns : goal.returns
-returns c = c.in-Some.ensures.new ∙ ap (λ (b : BufferState). edited b c.args.changes.now) c.self.view_is
+returns c = c.in-Some.ensures.new ∙ ap (λ (b : BufferState). after_edit b c.args.changes.now) c.self.view_is

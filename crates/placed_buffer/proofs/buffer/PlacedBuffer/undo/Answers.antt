@@ -1,5 +1,5 @@
 use Rattle.std.proofs.Common.{refl, ap, ◌∙◌}
-use Rattle.text_buffer.specs.Buffer.{BufferState, undone}
+use Rattle.text_buffer.specs.Buffer.{BufferState, after_undo}
 use Rattle.placed_buffer.proofs.Steps.{may_undo, undo_stands}
 use Rattle.placed_buffer.proofs.buffer.PlacedBuffer.undo.Goals as goal
 
@@ -16,4 +16,4 @@ pub same-buffer : goal.same-buffer
 same-buffer c = refl
 
 pub returns : goal.returns
-returns c = c.in-Some.ensures.new ∙ ap (λ (b : BufferState). undone b c.args.edits.now) c.self.view_is
+returns c = c.in-Some.ensures.new ∙ ap (λ (b : BufferState). after_undo b c.args.edits.now) c.self.view_is

@@ -1,7 +1,7 @@
 use Rattle.std.proofs.Common.{◌≡◌, [], ◌∷◌, None, Some, option_and_then, refl, ap, ◌∙◌}
 use Rattle.op_model.specs.Anchors.{place_fault}
 use Rattle.session_lines.specs.declared.report.Report.TheVariants as report
-use Rattle.session_replay.specs.Names.{anchor_answer, anchor_made, with_name}
+use Rattle.session_replay.specs.Names.{anchor_answer, new_anchor, with_name}
 use Rattle.session_replay.specs.Work.{history_at}
 use Rattle.session_replay.specs.Working.{state_of}
 use Rattle.session_replay.proofs.Named.{made_is}
@@ -18,7 +18,7 @@ pub returns-in_default-clause-state : goal.returns-in_default-clause-state
 returns-in_default-clause-state c =
     let s = state_of c.args.self.now in
     let e : None ≡ history_at c.args.id s = cc (c.in_default.is, c.in_ok-snapshot.ensures) in
-    same_names s s.anchors _ s.marks s.marks (ap (λ h. with_name c.args.name.now (option_and_then (anchor_made c.args.offset c.args.bias) h) s.anchors) e) refl
+    same_names s s.anchors _ s.marks s.marks (ap (λ h. with_name c.args.name.now (option_and_then (new_anchor c.args.offset c.args.bias) h) s.anchors) e) refl
 
 pub returns-clause-report : goal.returns-clause-report
 returns-clause-report c =
@@ -36,4 +36,4 @@ returns-clause-state c =
     let e : Some h ≡ history_at c.args.id s = cc (c.in-Some.is, c.in_ok-snapshot.ensures) in
     let made = made_is c.args.offset c.args.bias h c.anchor-made.result c.anchor-made.ensures.fault c.anchor-made.ensures.anchor in
     same_names s _ _ s.marks s.marks
-    (c.in_ok-answer.ensures.anchors ∙ ap (λ x. with_name c.args.name.now x s.anchors) (made ∙ ap (option_and_then (anchor_made c.args.offset c.args.bias)) e)) refl
+    (c.in_ok-answer.ensures.anchors ∙ ap (λ x. with_name c.args.name.now x s.anchors) (made ∙ ap (option_and_then (new_anchor c.args.offset c.args.bias)) e)) refl

@@ -1,6 +1,6 @@
 use Rattle.std.proofs.Common.{inr, sym, ◌∙◌, ap, subst, length}
 use Rattle.op_model.proofs.Settling.{good_alone}
-use Rattle.text_buffer.specs.Buffer.{BufferState, AllMiss, IsPartly, settled}
+use Rattle.text_buffer.specs.Buffer.{BufferState, AllMiss, IsPartly, after_settle}
 use Rattle.text_buffer.specs.Settling.{IsHalted, IsTakenPartly}
 use Rattle.text_buffer.proofs.Applied.{shape_of}
 use Rattle.text_buffer.proofs.Taken.{answer_good, one_applied, not_less, says, on_err}
@@ -19,12 +19,12 @@ returns-in_err-settle-clause-want c = on_err c.from_residual-in_err-settle.resul
 pub overflow_sub-result : goal.overflow_sub-result
 overflow_sub-result c = not_less c.args.self.now c.args.op c.len-before.result c.len.result
     (c.len-before.ensures ∙ ap length c.operations.ensures ∙ ap (λ (b : BufferState). length b.history) c.self.view_is)
-    (c.len.ensures ∙ ap length c.operations-2.ensures ∙ ap (λ (b : BufferState). length b.history) (c.self-2.view_is ∙ c.in_ok-settle.ensures.new ∙ ap settled c.in_ok-apply.ensures.ok))
+    (c.len.ensures ∙ ap length c.operations-2.ensures ∙ ap (λ (b : BufferState). length b.history) (c.self-2.view_is ∙ c.in_ok-settle.ensures.new ∙ ap after_settle c.in_ok-apply.ensures.ok))
 
 pub returns-clause-applied : goal.returns-clause-applied
 returns-clause-applied c = says c.args.self.now c.args.op c.len-before.result c.len.result
     (c.len-before.ensures ∙ ap length c.operations.ensures ∙ ap (λ (b : BufferState). length b.history) c.self.view_is)
-    (c.len.ensures ∙ ap length c.operations-2.ensures ∙ ap (λ (b : BufferState). length b.history) (c.self-2.view_is ∙ c.in_ok-settle.ensures.new ∙ ap settled c.in_ok-apply.ensures.ok))
+    (c.len.ensures ∙ ap length c.operations-2.ensures ∙ ap (λ (b : BufferState). length b.history) (c.self-2.view_is ∙ c.in_ok-settle.ensures.new ∙ ap after_settle c.in_ok-apply.ensures.ok))
     (AllMiss c.settle.new.self) c.in_ok-settle.ensures.waiting
 
 pub returns-in_err-settle-clause-stopped : goal.returns-in_err-settle-clause-stopped

@@ -40,5 +40,5 @@ returns c =
     (c.as_slice-2.ensures.value ∙ c.in_ok-edits.ensures ∙ ap (map (λ (x : UndoCount). x.edit)) c.as_slice.ensures) in
     IfOk-weaker c.content_of.result _ _ (λ x d. content_after x c.in_ok-placed.placed h (Undo c.args.undo.now) c.in_ok-undos.undos c.in_ok-undos.undos [] d refl refl
     (fragments_with_undo h c.args.undo.now c.in_ok-undos.undos c.as_slice-2.result.now c.self.inside.content.fragments.items c.in_ok-placed.placed.fragments.items (c.in_ok-undos.ensures.history h k.stand.counts)
-        (c.as_slice-2.ensures.value ∙ c.in_ok-edits.ensures ∙ ap (map (λ (x : UndoCount). x.edit)) c.as_slice.ensures) k.fragments c.in_ok-placed.ensures.fragments)
+    (c.as_slice-2.ensures.value ∙ c.in_ok-edits.ensures ∙ ap (map (λ (x : UndoCount). x.edit)) c.as_slice.ensures) k.fragments c.in_ok-placed.ensures.fragments)
     (c.in_ok-placed.ensures.stands h c.args.undo.now m) (c.in_ok-placed.ensures.characters h c.args.undo.now m s.proper k.whole).0 (c.in_ok-placed.ensures.moves h c.args.undo.now m)) c.content_of.ensures
