@@ -1,5 +1,5 @@
 -- Where a cell stands, by the fragment that the index names.
-use Rattle.std.proofs.Common.{◌≡◌, ℕ, zero, suc, ◌+◌, ◌-◌, ◌<◌, ◌≤◌, Bool, true, false, cond, ◌&&◌, ltb, leb, List, [], ◌∷◌, ◌++◌, length, map, Option, Some, None, refl, sym, ap, ◌∙◌, arith, subst, inl, inr}
+use Rattle.std.proofs.Common.{◌≡◌, ℕ, zero, suc, ◌+◌, ◌-◌, ◌<◌, ◌≤◌, Bool, true, false, cond, ◌&&◌, ltb, leb, List, [], ◌∷◌, ◌++◌, length, Option, Some, None, refl, sym, ap, ◌∙◌, arith, subst, inl, inr}
 use Rattle.std.specs.Option.{option_map}
 use Rattle.std.proofs.lemmas.Bool.{cases_Bool, cases_lt, and_parts, lt-ltb, le-leb, ltb-true, leb-true, false_from_ne_true}
 use Rattle.std.proofs.lemmas.List.{map-append}
@@ -10,26 +10,26 @@ use Rattle.op_model.specs.Sorted.{Member}
 use Rattle.op_model.specs.Histories.{History}
 use Rattle.op_model.specs.Cells.{Cell, seq, cells}
 use Rattle.op_model.specs.Shown.{new_bytes, IsCell}
-use Rattle.op_model.specs.Anchors.{number_shown}
+use Rattle.op_model.specs.Anchors.{shown_count}
 use Rattle.op_model.specs.Facts.{Fact, alike}
 use Rattle.op_model.specs.Walked.{facts_of}
 use Rattle.op_model.specs.Lawful.{Lawful}
-use Rattle.op_model.proofs.PathOrder.{same_stamp_eq, same_stamp_refl}
+use Rattle.op_model.proofs.order.PathOrder.{same_stamp_eq, same_stamp_refl}
 use Rattle.op_model.proofs.MainLaws.{each_cell_once}
 use Rattle.undo_map.specs.declared.entry.UndoEntry.{UndoEntry}
 use Rattle.fragments.specs.declared.fragment.Fragment.{Fragment}
 use Rattle.fragments.specs.declared.index_entry.IndexEntry.{IndexEntry}
 use Rattle.fragments.specs.Index.{covers, nearest, entry_for, id_for}
-use Rattle.fragments.specs.Stand.{Stand, Tell, runs, entry_of, Rise}
+use Rattle.fragments.specs.Stand.{Stand, Tell, runs, Rise}
 use Rattle.fragments.specs.Laws.{shown_len}
 use Rattle.fragments.proofs.Entries.{member_right, member_either}
-use Rattle.fragments.proofs.Founds.{index_finds_fragments}
+use Rattle.fragments.proofs.Founds.{index_finds_fragments, told_cells, fragment_of}
 use Rattle.locators.specs.Locator.{least_digits}
 use Rattle.anchors.specs.declared.spot.Spot.{Spot}
 use Rattle.anchors.specs.declared.spot.Run.{Run}
 use Rattle.anchors.specs.Spots.{spot, spot_of, spot_in, spot_if, run_behind, IsRunOf, cells_len}
 use Rattle.anchors.proofs.Splits.{split_at, before_is}
-use Rattle.anchors.proofs.Runs.{cell_at, cells_in, told_cells, before, behind, cells_split, is_shown, shown_before, length_before}
+use Rattle.anchors.proofs.Runs.{cell_at, cells_in, before, behind, cells_split, is_shown, shown_before, length_before}
 
 -- ---- entries
 
@@ -51,11 +51,6 @@ entry_member t o (y ∷ w) e q = elim (cases_Bool (covers t o y)) [
 id_entry : (i : List ℕ) (r : Option IndexEntry) → option_map (λ (e : IndexEntry). e.id) r ≡ Some i → (e : IndexEntry) × (r ≡ Some e) × (e.id ≡ i)
 id_entry i None q = absurd (cc)
 id_entry i (Some e) q = (e, refl, cc)
-
-fragment_of : (e : IndexEntry) (fs : List Fragment) → Member e (map entry_of fs) → (f : Fragment) × Member f fs × (e ≡ entry_of f)
-fragment_of e [] m = absurd m
-fragment_of e (g ∷ fs) (inl q) = (g, inl refl, q)
-fragment_of e (g ∷ fs) (inr m) = let k = fragment_of e fs m in (k.0, inr k.1, k.2)
 
 -- ---- fragments that have a cell
 
@@ -101,7 +96,7 @@ module _ (fs : List Fragment) (w : List IndexEntry) (u : List UndoEntry) (h : Hi
   spot_at pre post f j e m =
       let t = tells pre post f e in
       let b = before_is h l (before h pre post f j t m) (cell_at f.stamp (f.offset + j)) (behind h pre post f j t m) (cells_split h pre post f j t m) in
-      spot_eq (sym (is_shown h pre post f j t m)) (ap (number_shown h) b ∙ shown_before h pre post f j t m) (ap length b ∙ length_before h pre post f j t m)
+      spot_eq (sym (is_shown h pre post f j t m)) (ap (shown_count h) b ∙ shown_before h pre post f j t m) (ap length b ∙ length_before h pre post f j t m)
 
   -- in a fragment that has the cell
   spot_there : (pre post : List Fragment) (f : Fragment) (t : Lamport) (k : ℕ) → fs ≡ pre ++ f ∷ post → Has f t k → spot_in (run_behind f (shown_len pre) (cells_len pre)) t k ≡ spot_of h (cell_at t k)

@@ -5,18 +5,16 @@ use Rattle.std.specs.declared.cmp.Ordering.{Ordering}
 use Rattle.std.proofs.lemmas.Bool.{cases_Bool, cases_lt, and_parts, lt-ltb, le-leb, ltb-true, ltb-false, leb-true, false_from_ne_true}
 use Rattle.std.proofs.lemmas.Option.{same_Some, none-some}
 use Rattle.lamport_clock.specs.declared.stamp.Lamport.{Lamport}
-use Rattle.lamport_clock.specs.Stamps.{same_stamp}
-use Rattle.op_model.specs.declared.operation.Operation.TheVariants.{Edit, Undo}
 use Rattle.op_model.specs.Edits.{is_boundary}
 use Rattle.op_model.specs.Histories.{History, has_edit}
 use Rattle.op_model.specs.Cells.{Cell, seq, cells}
-use Rattle.op_model.specs.Shown.{texts, new_bytes, shown, text, hidden}
+use Rattle.op_model.specs.Shown.{new_bytes, shown, text, hidden_text}
 use Rattle.op_model.specs.Lawful.{Lawful}
 use Rattle.op_model.specs.declared.anchor.Anchor.{Anchor}
 use Rattle.op_model.specs.declared.anchor.Anchor.TheVariants.{Least, Greatest, At}
 use Rattle.op_model.specs.declared.anchor.Bias.{Bias}
 use Rattle.op_model.specs.declared.anchor.Bias.TheVariants.{Left, Right}
-use Rattle.op_model.specs.Anchors.{number_shown, place, gap, is_known, compare_anchors, compared}
+use Rattle.op_model.specs.Anchors.{shown_count, place, gap, is_known, compare_anchors, known_order}
 use Rattle.op_model.proofs.MainLaws.{each_cell_once}
 use Rattle.fragments.specs.declared.fragment.Fragment.{Fragment}
 use Rattle.fragments.specs.declared.index_entry.IndexEntry.{IndexEntry}
@@ -26,6 +24,7 @@ use Rattle.anchors.specs.Spots.{spot, spot_of, begins}
 use Rattle.anchors.specs.Standing.{StandFor, bias_of, side, standing_of}
 use Rattle.anchors.proofs.Splits.{split_at, before_is, number_upto, length_upto, in_text, in_hidden, both_lengths}
 use Rattle.anchors.proofs.Runs.{cell_at}
+use Rattle.op_model.proofs.anchors.KnownAnchors.{edit_there}
 
 -- ---- spots
 
@@ -69,42 +68,28 @@ module _ (fs : List Fragment) (w : List IndexEntry) (v n : List ℕ) (h : Histor
       let x = split_cell h s.lawful c k.0 in
       let b = before_is h s.lawful x.0 c x.1 x.2 in
       let a : p.is_shown ≡ shown h c = ap (λ (z : Spot). z.is_shown) k.1 in
-      let m : p.shown ≡ number_shown h x.0 = ap (λ (z : Spot). z.shown) k.1 ∙ ap (number_shown h) b in
+      let m : p.shown ≡ shown_count h x.0 = ap (λ (z : Spot). z.shown) k.1 ∙ ap (shown_count h) b in
       let d : p.cells ≡ length x.0 = ap (λ (z : Spot). z.cells) k.1 ∙ ap length b in
-      let q : p.cells - p.shown ≡ length x.0 - number_shown h x.0 = omega (arith, m, d) in
+      let q : p.cells - p.shown ≡ length x.0 - shown_count h x.0 = omega (arith, m, d) in
       go (cases_Bool (shown h c)) x.0 x.1 x.2 a m q k.0
     where
-      go : (shown h c ≡ true) ⊎ (shown h c ≡ false) → (cs ds : List Cell) → cells (seq h) ≡ cs ++ c ∷ ds → p.is_shown ≡ shown h c → p.shown ≡ number_shown h cs → p.cells - p.shown ≡ length cs - number_shown h cs
+      go : (shown h c ≡ true) ⊎ (shown h c ≡ false) → (cs ds : List Cell) → cells (seq h) ≡ cs ++ c ∷ ds → p.is_shown ≡ shown h c → p.shown ≡ shown_count h cs → p.cells - p.shown ≡ length cs - shown_count h cs
           → c.k < length (new_bytes h c.stamp) → begins v n p ≡ is_boundary (new_bytes h c.stamp) c.k
       go (inl t) cs ds x a m q i =
           let y = in_text h s.lawful cs c ds x t in
           ap (λ (b : Bool). cond b (is_boundary v p.shown) (is_boundary n (p.cells - p.shown))) (a ∙ t)
           ∙ ap (λ (z : List ℕ). is_boundary z p.shown) s.shows ∙ ap (is_boundary (text h)) m
-          ∙ same_boundary (text h) (new_bytes h c.stamp) (number_shown h cs) c.k y.0 i y.1
+          ∙ same_boundary (text h) (new_bytes h c.stamp) (shown_count h cs) c.k y.0 i y.1
       go (inr t) cs ds x a m q i =
           let y = in_hidden h s.lawful cs c ds x t in
           ap (λ (b : Bool). cond b (is_boundary v p.shown) (is_boundary n (p.cells - p.shown))) (a ∙ t)
-          ∙ ap (λ (z : List ℕ). is_boundary z (p.cells - p.shown)) s.hides ∙ ap (is_boundary (hidden h)) q
-          ∙ same_boundary (hidden h) (new_bytes h c.stamp) (length cs - number_shown h cs) c.k y.0 i y.1
+          ∙ ap (λ (z : List ℕ). is_boundary z (p.cells - p.shown)) s.hides ∙ ap (is_boundary (hidden_text h)) q
+          ∙ same_boundary (hidden_text h) (new_bytes h c.stamp) (length cs - shown_count h cs) c.k y.0 i y.1
 
 pub ends_none : (h : History) (c : Cell) → spot_of h c ≡ None → c.k ≤ length (new_bytes h c.stamp) → true ≡ is_boundary (new_bytes h c.stamp) c.k
 ends_none h c e m = let k = none_spot h c e in sym (at_end (new_bytes h c.stamp) c.k (omega (arith, k, m)))
 
 -- ---- what is known
-
--- a stamp with new bytes is that of an edit
-edit_there : (h : History) (t : Lamport) (k : ℕ) → k < length (new_bytes h t) → has_edit h t ≡ true
-edit_there [] t k l = absurd (omega arith)
-edit_there (Edit e ∷ h) t k l = go (same_stamp e.stamp t) l (edit_there h t k)
-  where
-    go : (b : Bool) → k < length (cond b (texts e.pieces) (new_bytes h t)) → (k < length (new_bytes h t) → has_edit h t ≡ true) → (b || has_edit h t) ≡ true
-    go true l f = refl
-    go false l f = f l
-edit_there (Undo u ∷ h) t k l = go (same_stamp u.stamp t) l (edit_there h t k)
-  where
-    go : (b : Bool) → k < length (cond b [] (new_bytes h t)) → (k < length (new_bytes h t) → has_edit h t ≡ true) → has_edit h t ≡ true
-    go true l f = absurd (omega arith)
-    go false l f = f l
 
 last_false : (a b : Bool) → b ≡ false → (a && b) ≡ false
 last_false a b e = false_from_ne_true (a && b) (λ q. let k = and_parts a b q in let f = k.1 in let g : true ≡ false = sym f ∙ e in cc)
@@ -223,7 +208,7 @@ module _ (h : History) (t : Lamport) (k : ℕ) where
       let c : Cell = cell_at t (k - 1) in
       let x = split_cell h l c i in
       let b = before_is h l x.0 c x.1 x.2 in
-      let m : p.shown ≡ number_shown h x.0 = ap (λ (z : Spot). z.shown) e ∙ ap (number_shown h) b in
+      let m : p.shown ≡ shown_count h x.0 = ap (λ (z : Spot). z.shown) e ∙ ap (shown_count h) b in
       let d : p.cells ≡ length x.0 = ap (λ (z : Spot). z.cells) e ∙ ap length b in
       let a : ◌≡◌ {A = ℕ} (cond p.is_shown 1 0) (cond (shown h c) 1 0) = ap (λ (z : Spot). cond z.is_shown 1 0) e in
       let u = number_upto h l x.0 c x.1 x.2 in
@@ -266,7 +251,7 @@ compared_by h a b s r e f =
     ∙ ap (λ (x : ℕ). ordering_then (nat_cmp (gap h a).0 (gap h b).0) (nat_cmp (gap h a).1 x)) (sym (side_is h b))
 
 pub compared_is : (h : History) (a b : Anchor) (s r : Standing) → Some s ≡ standing_of h a → Some r ≡ standing_of h b
-    → Some (ordering_then (nat_cmp s.gap r.gap) (nat_cmp (side s.bias) (side r.bias))) ≡ compared h a b
+    → Some (ordering_then (nat_cmp s.gap r.gap) (nat_cmp (side s.bias) (side r.bias))) ≡ known_order h a b
 compared_is h a b s r e f =
     let x = stood h a s e in
     let y = stood h b r f in

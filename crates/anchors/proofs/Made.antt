@@ -1,11 +1,11 @@
 -- Anchors made at shown cells.
 use Rattle.std.proofs.Common.{[], min, ◌^◌, ◌≡◌, ℕ, zero, suc, ◌+◌, ◌-◌, ◌<◌, ◌≤◌, ◌⊎◌, Bool, true, false, cond, eqb, ltb, List, ◌∷◌, ◌++◌, length, Some, None, refl, sym, ap, ◌∙◌, arith, subst, inl, inr}
+use Rattle.std.specs.List.{AllByRecursion}
 use Rattle.std.specs.Prelude.{slice_get, get_or}
 use Rattle.std.specs.Option.{option_map}
 use Rattle.std.proofs.lemmas.Bool.{cases_Bool, cases_lt, ltb-false, eqb-true, eq-eqb, false_from_ne_true}
 use Rattle.std.proofs.lemmas.List.{length-map}
 use Rattle.std.proofs.lemmas.Option.{slice_get_past, slice_get_within, slice_get-get_or, none-some}
-use Rattle.op_model.specs.Sorted.{Each}
 use Rattle.op_model.specs.Histories.{History}
 use Rattle.op_model.specs.Cells.{Cell}
 use Rattle.op_model.specs.Shown.{shown, text, byte}
@@ -13,7 +13,7 @@ use Rattle.op_model.specs.Lawful.{Lawful}
 use Rattle.op_model.specs.declared.anchor.Anchor.TheVariants.{Least, Greatest, At}
 use Rattle.op_model.specs.declared.anchor.Bias.TheVariants.{Left, Right}
 use Rattle.op_model.specs.declared.faults.PlaceFault.TheVariants.{PastEnd}
-use Rattle.op_model.specs.Anchors.{shown_cells, left_anchor, right_anchor, place_fault, number_shown}
+use Rattle.op_model.specs.Anchors.{shown_cells, left_anchor, right_anchor, place_fault, shown_count}
 use Rattle.op_model.proofs.MainLaws.{texts_are_shown_cells}
 use Rattle.undo_map.specs.declared.entry.UndoEntry.{UndoEntry}
 use Rattle.fragments.specs.declared.fragment.Fragment.{Fragment}
@@ -40,9 +40,9 @@ no_byte fs w u h o s e =
 
 -- its fragment is filled
 filled_at : (fs : List Fragment) (w : List IndexEntry) (u : List UndoEntry) (h : History) (o b : ℕ) (f : Fragment) → Stand fs w u h → ByteAt fs o f b → f.offset + f.len < 2 ^ 64
-filled_at fs w u h o b f s a = (go a.pre (subst (Each IsFilled) a.parts s.filled)).1
+filled_at fs w u h o b f s a = (go a.pre (subst (AllByRecursion IsFilled) a.parts s.filled)).1
   where
-    go : (pre : List Fragment) → Each IsFilled (pre ++ f ∷ a.post) → IsFilled f
+    go : (pre : List Fragment) → AllByRecursion IsFilled (pre ++ f ∷ a.post) → IsFilled f
     go [] k = k.0
     go (x ∷ pre) k = go pre k.1
 
@@ -63,9 +63,9 @@ byte_is fs w u h o b n f s l a e =
     let c : Cell = cell_at f.stamp (f.offset + (o - b)) in
     let cs : List Cell = before h a.pre a.post f (o - b) t m in
     let v : shown h c ≡ true = sym (is_shown h a.pre a.post f (o - b) t m) ∙ a.visible in
-    let k : number_shown h cs ≡ shown_len a.pre + cond f.visible (o - b) 0 = shown_before h a.pre a.post f (o - b) t m in
+    let k : shown_count h cs ≡ shown_len a.pre + cond f.visible (o - b) 0 = shown_before h a.pre a.post f (o - b) t m in
     let x : cond f.visible (o - b) 0 ≡ o - b = ap (λ (z : Bool). cond z (o - b) 0) a.visible in
-    let q : number_shown h cs ≡ o = omega (arith, k, x, ct, lo) in
+    let q : shown_count h cs ≡ o = omega (arith, k, x, ct, lo) in
     ap (λ (z : ℕ). Some (cell_at f.stamp z)) (number_is fs w u h o b n f s a e).0
     ∙ sym (got_shown h l cs c (behind h a.pre a.post f (o - b) t m) (cells_split h a.pre a.post f (o - b) t m) v) ∙ ap (slice_get (shown_cells h)) q
 

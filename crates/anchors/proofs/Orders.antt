@@ -11,14 +11,14 @@ use Rattle.std.proofs.lemmas.Bool.Decides.{nat_tests}
 use Rattle.std.proofs.lemmas.Option.{same_Some, none-some}
 use Rattle.std.proofs.lemmas.List.{length-map, length-append}
 use Rattle.op_model.specs.Histories.{History}
-use Rattle.op_model.specs.Cells.{Cell, Place, seq, cells}
+use Rattle.op_model.specs.Cells.{Cell, PathCell, seq, cells}
 use Rattle.op_model.specs.Shown.{new_bytes}
 use Rattle.op_model.specs.Lawful.{Lawful}
 use Rattle.op_model.specs.declared.anchor.Anchor.{Anchor}
 use Rattle.op_model.specs.declared.anchor.Anchor.TheVariants.{Least, Greatest, At}
 use Rattle.op_model.specs.declared.anchor.Bias.{Bias}
 use Rattle.op_model.specs.declared.anchor.Bias.TheVariants.{Left, Right}
-use Rattle.op_model.specs.Anchors.{gap, place, is_known, compare_anchors, compared, resolved, cells_before, cells_upto}
+use Rattle.op_model.specs.Anchors.{gap, place, is_known, compare_anchors, known_order, known_place, cells_before, cells_upto}
 use Rattle.op_model.proofs.MainLaws.{anchors_keep_their_order, anchors_stand_in_order, anchors_resolve}
 use Rattle.anchors.specs.Standing.{side}
 use Rattle.anchors.specs.Laws.{OrderIsTotal, LeftBeforeRight, AnchorsStayInOrder, AnchorsComeBack}
@@ -63,7 +63,7 @@ module _ (h : History) (l : Lawful h) where
       let b = ap length (before_is h l x.0 c x.1 x.2) in
       let u = length_upto h l x.0 c x.1 x.2 in
       let n = ap length x.2 ∙ length-append x.0 (c ∷ x.1) in
-      let m = length-map (seq h) (λ (p : Place). p.cell) in
+      let m = length-map (seq h) (λ (p : PathCell). p.cell) in
       ((ap (slice_get (cells (seq h))) b ∙ ap (λ (s : List Cell). slice_get s (length x.0)) x.2 ∙ got_seam x.0 c x.1, omega (arith, b, n, m)), omega (arith, b, u))
 
   one_cell : (c d : Cell) (m n : ℕ) → m ≡ n → StandsAt h c m → StandsAt h d n → c ≡ d
@@ -115,7 +115,7 @@ module _ (h : History) (l : Lawful h) where
       let p = x.1 in let q = y.1 in x.0 ∙ ap (anchor_of Right) (one_cell c d n m (omega (arith, p, q, e)) s r) ∙ sym y.0
 
 -- what an order tells
-have_order : (h : History) (a b : Anchor) (o : Ordering) → compared h a b ≡ Some o → (is_known h a ≡ true) × (is_known h b ≡ true) × (compare_anchors h a b ≡ o)
+have_order : (h : History) (a b : Anchor) (o : Ordering) → known_order h a b ≡ Some o → (is_known h a ≡ true) × (is_known h b ≡ true) × (compare_anchors h a b ≡ o)
 have_order h a b o e = go (cases_Bool (is_known h a && is_known h b))
   where
     go : ((is_known h a && is_known h b) ≡ true) ⊎ ((is_known h a && is_known h b) ≡ false) → (is_known h a ≡ true) × (is_known h b ≡ true) × (compare_anchors h a b ≡ o)
@@ -123,7 +123,7 @@ have_order h a b o e = go (cases_Bool (is_known h a && is_known h b))
         (k.0, k.1, same_Some (compare_anchors h a b) o (ap (λ (c : Bool). cond c (Some (compare_anchors h a b)) None) (sym t) ∙ e))
     go (inr t) = let q : None ≡ Some o = ap (λ (c : Bool). cond c (Some (compare_anchors h a b)) None) (sym t) ∙ e in absurd (none-some o q)
 
-have_place : (h : History) (a : Anchor) (p : ℕ) → resolved h a ≡ Some p → p ≡ place h a
+have_place : (h : History) (a : Anchor) (p : ℕ) → known_place h a ≡ Some p → p ≡ place h a
 have_place h a p e = go (cases_Bool (is_known h a))
   where
     go : (is_known h a ≡ true) ⊎ (is_known h a ≡ false) → p ≡ place h a
@@ -139,7 +139,7 @@ order_is_total h = (
       one_anchor h l a b (gapped h l a k.0) (gapped h l b k.1) g.0 g.1,
 )
 
-both_known : (h : History) (a b : Anchor) (o : Ordering) → is_known h a ≡ true → is_known h b ≡ true → compare_anchors h a b ≡ o → compared h a b ≡ Some o
+both_known : (h : History) (a b : Anchor) (o : Ordering) → is_known h a ≡ true → is_known h b ≡ true → compare_anchors h a b ≡ o → known_order h a b ≡ Some o
 both_known h a b o e f g = go (is_known h a) (is_known h b) e f
   where
     go : (x y : Bool) → x ≡ true → y ≡ true → cond (x && y) (Some (compare_anchors h a b)) None ≡ Some o

@@ -1,20 +1,20 @@
 -- What stands before a cell, by the fragments before its own.
+use Rattle.op_model.proofs.Elements.{each_left, each_right}
 use Rattle.std.proofs.Common.{◌≡◌, ℕ, zero, suc, ◌+◌, ◌-◌, ◌<◌, Bool, true, false, cond, List, [], ◌∷◌, ◌++◌, length, map, refl, sym, ap, ◌∙◌, arith, subst, append_assoc}
-use Rattle.std.specs.List.{filter}
+use Rattle.std.specs.List.{AllByRecursion, filter}
 use Rattle.std.proofs.lemmas.List.{length-append, length-map, map-append}
 use Rattle.lamport_clock.specs.declared.stamp.Lamport.{Lamport}
-use Rattle.op_model.specs.Sorted.{Each}
 use Rattle.op_model.specs.Histories.{History}
 use Rattle.op_model.specs.Cells.{Cell, seq, cells}
 use Rattle.op_model.specs.Shown.{shown}
-use Rattle.op_model.specs.Anchors.{number_shown}
-use Rattle.op_model.specs.Facts.{Fact, fact, told, alike}
+use Rattle.op_model.specs.Anchors.{shown_count}
+use Rattle.op_model.specs.Facts.{Fact, fact, cell_facts, alike}
 use Rattle.op_model.specs.Walked.{facts_of}
-use Rattle.op_model.proofs.WholeTexts.{each_left, each_right}
 use Rattle.fragments.specs.declared.fragment.Fragment.{Fragment}
 use Rattle.fragments.specs.Stand.{runs, Tell}
 use Rattle.fragments.specs.Laws.{shown_len}
 use Rattle.anchors.specs.Spots.{cells_len}
+use Rattle.fragments.proofs.Founds.{told_cells}
 
 abbrev pub cell_at : Lamport → ℕ → Cell
 cell_at t k = record { stamp = t; k = k }
@@ -35,11 +35,7 @@ facts_append : (xs ys : List Fragment) → facts_of (runs (xs ++ ys)) ≡ facts_
 facts_append [] ys = refl
 facts_append (f ∷ xs) ys = ap (λ z. alike f.stamp f.offset f.len f.visible f.deletions ++ z) (facts_append xs ys) ∙ sym (append_assoc (alike f.stamp f.offset f.len f.visible f.deletions) (facts_of (runs xs)) (facts_of (runs ys)))
 
-pub told_cells : (h : History) (s : List Cell) → cells_in (map (fact h) s) ≡ s
-told_cells h [] = refl
-told_cells h (c ∷ s) = ap (λ z. c ∷ z) (told_cells h s)
-
-told_shown : (h : History) (s : List Cell) → Each (λ (q : Fact). q.visible ≡ shown h q.cell) (map (fact h) s)
+told_shown : (h : History) (s : List Cell) → AllByRecursion (λ (q : Fact). q.visible ≡ shown h q.cell) (map (fact h) s)
 told_shown h [] = tt
 told_shown h (c ∷ s) = (refl, told_shown h s)
 
@@ -49,12 +45,12 @@ visible_in : List Fact → ℕ
 visible_in [] = 0
 visible_in (q ∷ s) = cond q.visible (suc (visible_in s)) (visible_in s)
 
-visible_shown : (h : History) (s : List Fact) → Each (λ (q : Fact). q.visible ≡ shown h q.cell) s → number_shown h (cells_in s) ≡ visible_in s
+visible_shown : (h : History) (s : List Fact) → AllByRecursion (λ (q : Fact). q.visible ≡ shown h q.cell) s → shown_count h (cells_in s) ≡ visible_in s
 unfolding visible_in
 visible_shown h [] e = refl
 visible_shown h (q ∷ s) e = go q.visible (shown h q.cell) e.0 (visible_shown h s e.1)
   where
-    go : (a b : Bool) → a ≡ b → number_shown h (cells_in s) ≡ visible_in s → length (cond b (q.cell ∷ filter (shown h) (cells_in s)) (filter (shown h) (cells_in s))) ≡ cond a (suc (visible_in s)) (visible_in s)
+    go : (a b : Bool) → a ≡ b → shown_count h (cells_in s) ≡ visible_in s → length (cond b (q.cell ∷ filter (shown h) (cells_in s)) (filter (shown h) (cells_in s))) ≡ cond a (suc (visible_in s)) (visible_in s)
     go true true i k = ap suc k
     go true false i k = cc
     go false true i k = cc
@@ -103,7 +99,7 @@ module _ (h : History) (pre post : List Fragment) (f : Fragment) (j : ℕ) (tell
   rest : List Fact
   rest = alike f.stamp (suc (f.offset + j)) (f.len - suc j) f.visible f.deletions ++ facts_of (runs post)
 
-  told_is : told h ≡ front ++ fact_at f.stamp (f.offset + j) f.visible f.deletions ∷ rest
+  told_is : cell_facts h ≡ front ++ fact_at f.stamp (f.offset + j) f.visible f.deletions ∷ rest
   unfolding front rest
   told_is =
       let own : List Fact = alike f.stamp f.offset j f.visible f.deletions in
@@ -124,13 +120,13 @@ module _ (h : History) (pre post : List Fragment) (f : Fragment) (j : ℕ) (tell
   unfolding before behind
   cells_split = sym (told_cells h (cells (seq h))) ∙ ap cells_in told_is ∙ map-append (λ (q : Fact). q.cell) front (fact_at f.stamp (f.offset + j) f.visible f.deletions ∷ rest)
 
-  all_shown : Each (λ (q : Fact). q.visible ≡ shown h q.cell) (front ++ fact_at f.stamp (f.offset + j) f.visible f.deletions ∷ rest)
-  all_shown = subst (Each (λ (q : Fact). q.visible ≡ shown h q.cell)) told_is (told_shown h (cells (seq h)))
+  all_shown : AllByRecursion (λ (q : Fact). q.visible ≡ shown h q.cell) (front ++ fact_at f.stamp (f.offset + j) f.visible f.deletions ∷ rest)
+  all_shown = subst (AllByRecursion (λ (q : Fact). q.visible ≡ shown h q.cell)) told_is (told_shown h (cells (seq h)))
 
   pub is_shown : f.visible ≡ shown h (cell_at f.stamp (f.offset + j))
   is_shown = (each_right (λ (q : Fact). q.visible ≡ shown h q.cell) front (fact_at f.stamp (f.offset + j) f.visible f.deletions ∷ rest) all_shown).0
 
-  pub shown_before : number_shown h before ≡ shown_len pre + cond f.visible j 0
+  pub shown_before : shown_count h before ≡ shown_len pre + cond f.visible j 0
   unfolding before front
   shown_before = visible_shown h front (each_left (λ (q : Fact). q.visible ≡ shown h q.cell) front (fact_at f.stamp (f.offset + j) f.visible f.deletions ∷ rest) all_shown)
       ∙ visible_append (facts_of (runs pre)) (alike f.stamp f.offset j f.visible f.deletions)
@@ -144,4 +140,4 @@ module _ (h : History) (pre post : List Fragment) (f : Fragment) (j : ℕ) (tell
 
 -- all shown cells
 pub all_visible : (h : History) (fs : List Fragment) → Tell fs h → length (filter (shown h) (cells (seq h))) ≡ shown_len fs
-all_visible h fs e = ap (number_shown h) (sym (told_cells h (cells (seq h)))) ∙ visible_shown h (told h) (told_shown h (cells (seq h))) ∙ ap visible_in (sym e) ∙ visible_runs fs
+all_visible h fs e = ap (shown_count h) (sym (told_cells h (cells (seq h)))) ∙ visible_shown h (cell_facts h) (told_shown h (cells (seq h))) ∙ ap visible_in (sym e) ∙ visible_runs fs

@@ -1,19 +1,19 @@
 -- The cells of a history, split at one of them.
-use Rattle.std.proofs.Common.{◌≡◌, ℕ, ◌+◌, ◌-◌, ◌<◌, Bool, true, false, cond, not, List, [], ◌∷◌, ◌++◌, length, map, get_or, refl, sym, ap, ◌∙◌, arith, subst, inl, inr, Some}
-use Rattle.std.specs.Prelude.{slice_get, option_map}
-use Rattle.std.specs.List.{filter}
+use Rattle.std.proofs.Common.{◌≡◌, ℕ, ◌+◌, ◌-◌, ◌<◌, Bool, true, false, cond, not, List, [], ◌∷◌, ◌++◌, length, get_or, refl, sym, ap, ◌∙◌, arith, subst, inl, inr, Some}
+use Rattle.std.specs.Prelude.{slice_get}
+use Rattle.std.specs.List.{AllByRecursion, filter}
 use Rattle.std.proofs.lemmas.Bool.{cases_Bool, false_from_ne_true}
 use Rattle.std.proofs.lemmas.List.{length-append, length-map}
 use Rattle.std.proofs.lemmas.List.Elements.{filter-append}
-use Rattle.std.proofs.lemmas.Option.{slice_get-map, slice_get_within, get_or_from_slice_get}
-use Rattle.op_model.specs.Sorted.{Each, EachPair, Member}
+use Rattle.op_model.specs.Sorted.{EachPair, Member}
 use Rattle.op_model.specs.Histories.{History}
 use Rattle.op_model.specs.Cells.{Cell, same_cell, seq, cells}
-use Rattle.op_model.specs.Shown.{shown, byte, text, hidden}
+use Rattle.op_model.specs.Shown.{shown, byte, text, hidden_text}
 use Rattle.op_model.specs.Lawful.{Lawful}
-use Rattle.op_model.specs.Anchors.{cells_before, cells_upto, number_shown, shown_cells}
-use Rattle.op_model.proofs.PathOrder.{same_cell_eq, same_cell_refl}
+use Rattle.op_model.specs.Anchors.{cells_before, cells_upto, shown_count, shown_cells}
+use Rattle.op_model.proofs.order.PathOrder.{same_cell_eq, same_cell_refl}
 use Rattle.op_model.proofs.MainLaws.{each_cell_once, texts_are_shown_cells}
+use Rattle.op_model.proofs.anchors.KnownAnchors.{got_map}
 
 -- ---- lists
 
@@ -22,7 +22,7 @@ split_at x [] m = absurd m
 split_at x (y ∷ xs) (inl e) = ([], xs, ap (λ z. z ∷ xs) (sym e))
 split_at x (y ∷ xs) (inr m) = let k = split_at x xs m in (y ∷ k.0, k.1, ap (λ z. y ∷ z) k.2)
 
-each_split : {A : Type 0} (P : A → Type 0) (xs : List A) (y : A) (ys : List A) → Each P (xs ++ y ∷ ys) → P y
+each_split : {A : Type 0} (P : A → Type 0) (xs : List A) (y : A) (ys : List A) → AllByRecursion P (xs ++ y ∷ ys) → P y
 each_split P [] y ys e = e.0
 each_split P (x ∷ xs) y ys e = each_split P xs y ys e.1
 
@@ -36,14 +36,10 @@ pub passed_or_not : {A : Type 0} (p : A → Bool) (xs : List A) → length (filt
 passed_or_not p [] = refl
 passed_or_not p (x ∷ xs) = let ih = passed_or_not p xs in elim (cases_Bool (p x)) [ inl k ↦ rw k (omega (arith, ih)) | inr k ↦ rw k (omega (arith, ih)) ]
 
-pub got_map : (g : Cell → ℕ) (s : List Cell) (o : ℕ) (c : Cell) → slice_get s o ≡ Some c → (o < length (map g s)) × (get_or (map g s) o 0 ≡ g c)
-got_map g s o c e = let k : slice_get (map g s) o ≡ Some (g c) = slice_get-map g s o ∙ ap (option_map g) e in
-    (slice_get_within (map g s) o (g c) k, get_or_from_slice_get (map g s) o (g c) 0 k)
-
 -- ---- cells before one
 
 Apart : Cell → List Cell → Type 0
-Apart c cs = Each (λ (d : Cell). same_cell d c ≡ false) cs
+Apart c cs = AllByRecursion (λ (d : Cell). same_cell d c ≡ false) cs
 
 apart : (cs : List Cell) (c : Cell) (ds : List Cell) → EachPair (λ (a b : Cell). a ≡ b → ⊥) (cs ++ c ∷ ds) → Apart c cs
 unfolding Apart
@@ -74,38 +70,38 @@ module _ (h : History) (l : Lawful h) (cs : List Cell) (c : Cell) (ds : List Cel
   pub upto_is : cells_upto (cells (seq h)) c ≡ cs ++ c ∷ []
   upto_is = ap (λ (s : List Cell). cells_upto s c) e ∙ upto_at cs c ds all_apart
 
-  pub number_upto : number_shown h (cells_upto (cells (seq h)) c) ≡ number_shown h cs + cond (shown h c) 1 0
-  number_upto = ap (number_shown h) upto_is ∙ ap length (filter-append (shown h) cs (c ∷ [])) ∙ length-append (filter (shown h) cs) (filter (shown h) (c ∷ []))
-      ∙ ap (λ n. number_shown h cs + n) (one_more (shown h c) c)
+  pub number_upto : shown_count h (cells_upto (cells (seq h)) c) ≡ shown_count h cs + cond (shown h c) 1 0
+  number_upto = ap (shown_count h) upto_is ∙ ap length (filter-append (shown h) cs (c ∷ [])) ∙ length-append (filter (shown h) cs) (filter (shown h) (c ∷ []))
+      ∙ ap (λ n. shown_count h cs + n) (one_more (shown h c) c)
 
   pub length_upto : length (cells_upto (cells (seq h)) c) ≡ length cs + 1
   length_upto = ap length upto_is ∙ length-append cs (c ∷ [])
 
   -- the cell among the shown ones, and its byte in the text
-  pub got_shown : shown h c ≡ true → slice_get (shown_cells h) (number_shown h cs) ≡ Some c
-  got_shown v = ap (λ (s : List Cell). slice_get (filter (shown h) s) (number_shown h cs)) e ∙ got_at (shown h) cs c ds v
+  pub got_shown : shown h c ≡ true → slice_get (shown_cells h) (shown_count h cs) ≡ Some c
+  got_shown v = ap (λ (s : List Cell). slice_get (filter (shown h) s) (shown_count h cs)) e ∙ got_at (shown h) cs c ds v
 
-  pub in_text : shown h c ≡ true → (number_shown h cs < length (text h)) × (get_or (text h) (number_shown h cs) 0 ≡ byte h c)
-  in_text v = let k = got_map (byte h) (shown_cells h) (number_shown h cs) c (got_shown v) in
-      subst (λ (t : List ℕ). (number_shown h cs < length t) × (get_or t (number_shown h cs) 0 ≡ byte h c)) (sym (texts_are_shown_cells h l).0) k
+  pub in_text : shown h c ≡ true → (shown_count h cs < length (text h)) × (get_or (text h) (shown_count h cs) 0 ≡ byte h c)
+  in_text v = let k = got_map (byte h) (shown_cells h) (shown_count h cs) c (got_shown v) in
+      subst (λ (t : List ℕ). (shown_count h cs < length t) × (get_or t (shown_count h cs) 0 ≡ byte h c)) (sym (texts_are_shown_cells h l).0) k
 
   number_hidden : ℕ
   number_hidden = length (filter (λ (d : Cell). not (shown h d)) cs)
 
-  hidden_count : number_hidden ≡ length cs - number_shown h cs
+  hidden_count : number_hidden ≡ length cs - shown_count h cs
   unfolding number_hidden
   hidden_count = let k = passed_or_not (shown h) cs in omega (arith, k)
 
-  pub in_hidden : shown h c ≡ false → (length cs - number_shown h cs < length (hidden h)) × (get_or (hidden h) (length cs - number_shown h cs) 0 ≡ byte h c)
+  pub in_hidden : shown h c ≡ false → (length cs - shown_count h cs < length (hidden_text h)) × (get_or (hidden_text h) (length cs - shown_count h cs) 0 ≡ byte h c)
   unfolding number_hidden
   in_hidden v =
       let g : slice_get (filter (λ (d : Cell). not (shown h d)) (cells (seq h))) number_hidden ≡ Some c =
       ap (λ (s : List Cell). slice_get (filter (λ (d : Cell). not (shown h d)) s) number_hidden) e ∙ got_at (λ (d : Cell). not (shown h d)) cs c ds (ap not v) in
       let k = got_map (byte h) (filter (λ (d : Cell). not (shown h d)) (cells (seq h))) number_hidden c g in
-      subst (λ (n : ℕ). (n < length (hidden h)) × (get_or (hidden h) n 0 ≡ byte h c)) hidden_count k
+      subst (λ (n : ℕ). (n < length (hidden_text h)) × (get_or (hidden_text h) n 0 ≡ byte h c)) hidden_count k
 
 -- the lengths of both texts
-pub both_lengths : (h : History) → Lawful h → length (text h) + length (hidden h) ≡ length (seq h)
+pub both_lengths : (h : History) → Lawful h → length (text h) + length (hidden_text h) ≡ length (seq h)
 both_lengths h l =
     let a = ap length (texts_are_shown_cells h l).0 ∙ length-map (filter (shown h) (cells (seq h))) (byte h) in
     let b = length-map (filter (λ (c : Cell). not (shown h c)) (cells (seq h))) (byte h) in

@@ -1,6 +1,6 @@
 -- How many shown cells and how many of all lie before, and which runs of fragments reach an id.
 use Rattle.std.specs.Prelude.{◌≡◌, ℕ, ◌+◌, ◌^◌, ◌<◌, ◌≤◌, Bool, true, false, not, cond, List, Option, Some, None}
-use Rattle.std.proofs.Common.{ap, refl, sym, ◌∙◌, arith}
+use Rattle.std.proofs.Common.{ap, refl, ◌∙◌, arith}
 use Rattle.tree_cursor.specs.Places.{DimensionLaws}
 use Rattle.tree_cursor.specs.Keys.{key_less, key_passes}
 use Rattle.tree_cursor.specs.declared.traits.Bias.TheVariants.{Left}
@@ -8,6 +8,7 @@ use Rattle.fragments.specs.declared.fragment.FragmentSummary.{FragmentSummary}
 use Rattle.fragments.specs.Summaries.{no_fragments, summaries, IsSummary, IsOne, id_less, greater_id}
 use Rattle.fragments.specs.SummaryLaws.{id_order}
 use Rattle.fragments.specs.SeenPlaces.{cells_of}
+use Rattle.std.proofs.lemmas.Bool.{not-false}
 
 abbrev pub Place : Type 0
 Place = ℕ × ℕ
@@ -60,16 +61,12 @@ before_laws = record {
 abbrev pub reaches : List ℕ → FragmentSummary → Bool
 reaches i s = key_passes id_less (Some i) s.last_id Left
 
-not_false : (b : Bool) → not b ≡ false → b ≡ true
-not_false true h = refl
-not_false false h = cc
-
 module _ (i : List ℕ) where
   both : (x y : List ℕ) (b c : Bool) → id_less x y ≡ b → id_less y i ≡ c → not (key_less id_less (cond b (Some y) (Some x)) (Some i)) ≡ false
       → (not (id_less x i) ≡ false) × (not (id_less y i) ≡ false)
-  both x y true c e f h = (ap not (id_order.up x y i e (not_false (id_less y i) h)), h)
+  both x y true c e f h = (ap not (id_order.up x y i e (not-false (id_less y i) h)), h)
   both x y false true e f h = (h, ap not f)
-  both x y false false e f h = let d = id_order.down x y i e f in let u = not_false (id_less x i) h in absurd (cc)
+  both x y false false e f h = let d = id_order.down x y i e f in let u = not-false (id_less x i) h in absurd (cc)
 
   parts_reach : (p q : Option (List ℕ)) → key_passes id_less (Some i) (greater_id p q) Left ≡ false
       → (key_passes id_less (Some i) p Left ≡ false) × (key_passes id_less (Some i) q Left ≡ false)

@@ -6,7 +6,7 @@ use Rattle.op_model.specs.Histories.{History}
 use Rattle.op_model.specs.Edits.{is_boundary}
 use Rattle.op_model.specs.Cells.{Cell, seq, cells}
 use Rattle.op_model.specs.Shown.{shown, new_bytes}
-use Rattle.op_model.specs.Anchors.{cells_before, number_shown}
+use Rattle.op_model.specs.Anchors.{cells_before, shown_count}
 use Rattle.op_model.specs.Walked.{kept_len}
 use Rattle.op_model.specs.Lawful.{Lawful}
 use Rattle.fragments.specs.declared.fragment.Fragment.{Fragment}
@@ -25,7 +25,7 @@ cell t k = record { stamp = t; k = k }
 abbrev pub spot : History → Cell → Spot
 spot h c = record {
   is_shown = shown h c;
-  shown = number_shown h (cells_before (cells (seq h)) c);
+  shown = shown_count h (cells_before (cells (seq h)) c);
   cells = length (cells_before (cells (seq h)) c);
 }
 

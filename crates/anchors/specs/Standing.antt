@@ -2,7 +2,7 @@
 use Rattle.std.specs.Prelude.{◌≡◌, ◌≤◌, ℕ, Bool, length, List, Option, Some, None, if◌then◌else◌}
 use Rattle.op_model.specs.Histories.{History}
 use Rattle.op_model.specs.Lawful.{Lawful}
-use Rattle.op_model.specs.Shown.{text, hidden, new_bytes}
+use Rattle.op_model.specs.Shown.{text, hidden_text, new_bytes}
 use Rattle.op_model.specs.Edits.{is_boundary}
 use Rattle.lamport_clock.specs.declared.stamp.Lamport.{Lamport}
 use Rattle.op_model.specs.Anchors.{place, gap, is_known}
@@ -23,7 +23,7 @@ pub record StandFor (fs : List Fragment) (w : List IndexEntry) (v n : List ℕ) 
   pub stands : Stand fs w undos h
   pub lawful : Lawful h
   pub shows : v ≡ text h
-  pub hides : n ≡ hidden h
+  pub hides : n ≡ hidden_text h
 
 -- ---- for private clauses
 

@@ -2,7 +2,7 @@
 ghost use Rattle.std.specs.Prelude.{◌≡◌, Some, IfOk, IfErr, if◌then◌else◌};
 ghost use Rattle.std.specs.Result.{result_ok};
 ghost use Rattle.op_model.specs.Histories.{History};
-ghost use Rattle.op_model.specs.Anchors.{is_known, resolved, compared};
+ghost use Rattle.op_model.specs.Anchors.{is_known, known_place, known_order};
 ghost use Rattle.std.specs.Ordering.{nat_cmp, ordering_then};
 ghost use Rattle.anchors.specs.Standing.{StandFor, side, standing_of};
 
@@ -53,7 +53,7 @@ pub fn resolve(
     a: &Anchor,
 ) -> Result<u64, UnknownAnchor>
     ensures place { (h : History) → StandFor tree.now.items index.now visible.now hidden.now h
-        → result_ok result ≡ resolved h a.now }
+        → result_ok result ≡ known_place h a.now }
     ensures unknown { IfErr result (λ e. e.anchor ≡ a.now) }
 {
     let standing = known(tree, index, visible, hidden, *a)?;
@@ -73,7 +73,7 @@ pub fn compare(
     b: &Anchor,
 ) -> Result<Ordering, UnknownAnchor>
     ensures order { (h : History) → StandFor tree.now.items index.now visible.now hidden.now h
-        → result_ok result ≡ compared h a.now b.now }
+        → result_ok result ≡ known_order h a.now b.now }
     ensures unknown { (h : History) → StandFor tree.now.items index.now visible.now hidden.now h
         → IfErr result (λ e. e.anchor ≡ (if is_known h a.now then b.now else a.now)) }
 {

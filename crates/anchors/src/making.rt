@@ -1,13 +1,13 @@
 //! Anchors made at offsets of a text.
 ghost use Rattle.std.specs.Prelude.{◌≡◌, ◌<◌, ◌≤◌, ◌+◌, ◌^◌, Some, None, List, length, IfOk, IfSome, slice_get};
+ghost use Rattle.std.specs.List.{AllByRecursion};
 ghost use Rattle.std.specs.Option.{option_map};
 ghost use Rattle.std.specs.Result.{result_err};
-ghost use Rattle.op_model.specs.Sorted.{Each};
 ghost use Rattle.op_model.specs.Domains.{IsProper};
 ghost use Rattle.op_model.specs.Histories.{History};
 ghost use Rattle.op_model.specs.Lawful.{Lawful};
 ghost use Rattle.op_model.specs.Shown.{text};
-ghost use Rattle.op_model.specs.Anchors.{place_fault, shown_cells, left_anchor, right_anchor, resolved};
+ghost use Rattle.op_model.specs.Anchors.{place_fault, shown_cells, left_anchor, right_anchor, known_place};
 ghost use Rattle.undo_map.specs.declared.entry.UndoEntry.{UndoEntry};
 ghost use Rattle.fragments.specs.declared.index_entry.IndexEntry.{IndexEntry};
 ghost use Rattle.fragments.specs.Stand.{Stand};
@@ -118,8 +118,8 @@ pub fn anchor_at(
     ensures anchor { IfOk result (λ a. (h : History)
         → StandFor tree.now.items index.now visible.now hidden.now h → made_anchor h o b ≡ Some a) }
     ensures place { IfOk result (λ a. (h : History)
-        → StandFor tree.now.items index.now visible.now hidden.now h → Each IsProper h
-        → resolved h a ≡ Some o) }
+        → StandFor tree.now.items index.now visible.now hidden.now h → AllByRecursion IsProper h
+        → known_place h a ≡ Some o) }
 {
     if let Some(fault) = place_fault(visible, o) {
         return Err(fault);

@@ -5,11 +5,11 @@ use Rattle.lamport_clock.specs.declared.stamp.Lamport.{Lamport}
 use Rattle.lamport_clock.specs.Stamps.{same_stamp}
 use Rattle.op_model.specs.Operations.{stamp_of, is_edit}
 use Rattle.op_model.specs.Histories.{History, Distinct, operation_at, has_edit}
-use Rattle.op_model.proofs.Passed.{any_some}
-use Rattle.op_model.proofs.PathOrder.{same_stamp_eq}
+use Rattle.op_model.proofs.answers.Passed.{any_some}
+use Rattle.op_model.proofs.order.PathOrder.{same_stamp_eq}
 use Rattle.applied_ops.specs.Placed.{is_edit_found}
 
-no_more : (b c : Bool) → c ≡ false → (b || c) ≡ b
+pub no_more : (b c : Bool) → c ≡ false → (b || c) ≡ b
 no_more true c e = refl
 no_more false c e = e
 

@@ -1,4 +1,4 @@
--- Operations at the places of their stamps.
+-- Operations at the indices of their stamps.
 use Rattle.std.proofs.Common.{◌≡◌, ℕ, zero, suc, ◌+◌, ◌<◌, ◌≤◌, ◌^◌, ◌⊎◌, Bool, true, false, cond, List, [], ◌∷◌, ◌++◌, length, length-append, get_or, refl, sym, ◌∙◌, ap, subst, inl, inr, arith, Option, Some, None}
 use Rattle.std.specs.List.{filter, find, slice_get}
 use Rattle.std.specs.Option.{option_or}
@@ -11,16 +11,16 @@ use Rattle.std.proofs.lemmas.List.{get_or_append_left, get_or-append-add}
 use Rattle.std.proofs.lemmas.List.Folds.{find-append}
 use Rattle.sum_tree.specs.Laws.{fold}
 use Rattle.sum_tree.specs.Count.{count_sum}
-use Rattle.sum_tree.specs.Keyed.{Ascending, below, above, inserted}
+use Rattle.sum_tree.specs.Keyed.{Ascending, below, above, insert_item}
 use Rattle.lamport_clock.specs.declared.stamp.Lamport.{Lamport}
 use Rattle.lamport_clock.specs.Stamps.{same_stamp}
 use Rattle.lamport_clock.proofs.Order.{stamp_cmp, is_eq-same}
 use Rattle.op_model.specs.declared.operation.Operation.{Operation}
 use Rattle.op_model.specs.Operations.{stamp_of}
 use Rattle.op_model.specs.Histories.{History, operation_at}
-use Rattle.op_model.proofs.PathOrder.{same_stamp_eq, same_stamp_refl}
-use Rattle.applied_ops.specs.declared.place.Place.{Place}
-use Rattle.applied_ops.specs.Placed.{stamp_at, place_at, ArePlaced}
+use Rattle.op_model.proofs.order.PathOrder.{same_stamp_eq, same_stamp_refl}
+use Rattle.applied_ops.specs.declared.stamp_entry.StampEntry.{StampEntry}
+use Rattle.applied_ops.specs.Placed.{stamp_at, entry_at, AreEntriesOf}
 
 abbrev has : Lamport → Operation → Bool
 has t o = same_stamp (stamp_of o) t
@@ -55,21 +55,21 @@ other_stamp (o ∷ h) t i d n l = go i (has t o) refl n l (other_stamp h t)
     go zero false e n l f = e
     go (suc i) false e n l f = f i d n (omega arith)
 
--- ---- what places tell
+-- ---- what entries tell
 
-module _ (ps : List Place) (h : History) (t : Lamport) (k : ArePlaced ps h) where
-  led : (f : StandsAt h t) → place_at ps t ≡ Some (record { stamp = t; index = f.index })
-  led f = subst (λ (s : Lamport). place_at ps s ≡ Some (record { stamp = s; index = f.index })) (ap stamp_of (f.at f.op) ∙ f.stamp) (k.1 f.index f.op f.within)
+module _ (ps : List StampEntry) (h : History) (t : Lamport) (k : AreEntriesOf ps h) where
+  led : (f : StandsAt h t) → entry_at ps t ≡ Some (record { stamp = t; index = f.index })
+  led f = subst (λ (s : Lamport). entry_at ps s ≡ Some (record { stamp = s; index = f.index })) (ap stamp_of (f.at f.op) ∙ f.stamp) (k.1 f.index f.op f.within)
 
-  pub unplaced : None ≡ place_at ps t → operation_at h t ≡ None
+  pub unplaced : None ≡ entry_at ps t → operation_at h t ≡ None
   unplaced e = elim (stands h t) [
     | inl f ↦ let q = e ∙ led f in cc
     | inr n ↦ n
   ]
 
-  module _ (p : Place) (e : Some p ≡ place_at ps t) where
+  module _ (p : StampEntry) (e : Some p ≡ entry_at ps t) where
     index_is : (f : StandsAt h t) → p.index ≡ f.index
-    index_is f = let q : Some p ≡ Some (record { stamp = t; index = f.index }) = e ∙ led f in let r : p ≡ record { stamp = t; index = f.index } = cc in ap (λ (x : Place). x.index) r
+    index_is f = let q : Some p ≡ Some (record { stamp = t; index = f.index }) = e ∙ led f in let r : p ≡ record { stamp = t; index = f.index } = cc in ap (λ (x : StampEntry). x.index) r
 
     pub past : None ≡ slice_get h p.index → operation_at h t ≡ None
     past n = elim (stands h t) [
@@ -116,10 +116,10 @@ module _ {X : Type 0} (q f : X → Bool) (b : Bool) (w : (x : X) → q x ≡ tru
           skipped true = rw e refl
           skipped false = refl
 
-abbrev is_at : Lamport → Place → Bool
+abbrev is_at : Lamport → StampEntry → Bool
 is_at t p = is_eq (stamp_cmp p.stamp t)
 
-at_stamp : (t : Lamport) (p : Place) → is_at t p ≡ true → p.stamp ≡ t
+at_stamp : (t : Lamport) (p : StampEntry) → is_at t p ≡ true → p.stamp ≡ t
 at_stamp t p e = same_stamp_eq p.stamp t (sym (is_eq-same p.stamp t) ∙ e)
 
 cmp_same : (t : Lamport) → stamp_cmp t t ≡ Equal
@@ -130,60 +130,60 @@ cmp_same t = go (stamp_cmp t t) (is_eq-same t t ∙ same_stamp_refl t)
     go Equal e = refl
     go Greater e = cc
 
-or_none : (o : Option Place) → option_or o None ≡ o
+or_none : (o : Option StampEntry) → option_or o None ≡ o
 or_none None = refl
 or_none (Some p) = refl
 
-module _ (p : Place) (ps : List Place) where
-  low_found : (t : Lamport) → place_at (below stamp_cmp stamp_at p.stamp ps) t ≡ cond (is_lt (stamp_cmp t p.stamp)) (place_at ps t) None
+module _ (p : StampEntry) (ps : List StampEntry) where
+  low_found : (t : Lamport) → entry_at (below stamp_cmp stamp_at p.stamp ps) t ≡ cond (is_lt (stamp_cmp t p.stamp)) (entry_at ps t) None
   low_found t = find_filter (is_at t) (λ x. is_lt (stamp_cmp x.stamp p.stamp)) (is_lt (stamp_cmp t p.stamp)) (λ x e. ap (λ (s : Lamport). is_lt (stamp_cmp s p.stamp)) (at_stamp t x e)) ps
 
-  high_found : (t : Lamport) → place_at (above stamp_cmp stamp_at p.stamp ps) t ≡ cond (is_gt (stamp_cmp t p.stamp)) (place_at ps t) None
+  high_found : (t : Lamport) → entry_at (above stamp_cmp stamp_at p.stamp ps) t ≡ cond (is_gt (stamp_cmp t p.stamp)) (entry_at ps t) None
   high_found t = find_filter (is_at t) (λ x. is_gt (stamp_cmp x.stamp p.stamp)) (is_gt (stamp_cmp t p.stamp)) (λ x e. ap (λ (s : Lamport). is_gt (stamp_cmp s p.stamp)) (at_stamp t x e)) ps
 
   -- its stamp leads to it
-  pub put_at : place_at (inserted stamp_cmp stamp_at p ps) p.stamp ≡ Some p
+  pub put_at : entry_at (insert_item stamp_cmp stamp_at p ps) p.stamp ≡ Some p
   put_at = find-append (is_at p.stamp) (below stamp_cmp stamp_at p.stamp ps) (p ∷ above stamp_cmp stamp_at p.stamp ps)
-      ∙ ap (λ (o : Option Place). option_or o (place_at (p ∷ above stamp_cmp stamp_at p.stamp ps) p.stamp)) (low_found p.stamp ∙ ap (λ (o : Ordering). cond (is_lt o) (place_at ps p.stamp) None) (cmp_same p.stamp))
-      ∙ ap (λ (o : Ordering). cond (is_eq o) (Some p) (place_at (above stamp_cmp stamp_at p.stamp ps) p.stamp)) (cmp_same p.stamp)
+      ∙ ap (λ (o : Option StampEntry). option_or o (entry_at (p ∷ above stamp_cmp stamp_at p.stamp ps) p.stamp)) (low_found p.stamp ∙ ap (λ (o : Ordering). cond (is_lt o) (entry_at ps p.stamp) None) (cmp_same p.stamp))
+      ∙ ap (λ (o : Ordering). cond (is_eq o) (Some p) (entry_at (above stamp_cmp stamp_at p.stamp ps) p.stamp)) (cmp_same p.stamp)
 
   -- all others lead where they led
-  pub put_beside : (t : Lamport) → (p.stamp ≡ t → ⊥) → place_at (inserted stamp_cmp stamp_at p ps) t ≡ place_at ps t
+  pub put_beside : (t : Lamport) → (p.stamp ≡ t → ⊥) → entry_at (insert_item stamp_cmp stamp_at p ps) t ≡ entry_at ps t
   put_beside t n =
       find-append (is_at t) (below stamp_cmp stamp_at p.stamp ps) (p ∷ above stamp_cmp stamp_at p.stamp ps)
-      ∙ ap (λ (o : Option Place). option_or o (place_at (p ∷ above stamp_cmp stamp_at p.stamp ps) t)) (low_found t)
-      ∙ ap (λ (o : Option Place). option_or (cond (is_lt (stamp_cmp t p.stamp)) (place_at ps t) None) o) (passed (cases_Bool (is_at t p)) ∙ high_found t)
+      ∙ ap (λ (o : Option StampEntry). option_or o (entry_at (p ∷ above stamp_cmp stamp_at p.stamp ps) t)) (low_found t)
+      ∙ ap (λ (o : Option StampEntry). option_or (cond (is_lt (stamp_cmp t p.stamp)) (entry_at ps t) None) o) (passed (cases_Bool (is_at t p)) ∙ high_found t)
       ∙ one (stamp_cmp t p.stamp) refl
     where
-      passed : (is_at t p ≡ true) ⊎ (is_at t p ≡ false) → place_at (p ∷ above stamp_cmp stamp_at p.stamp ps) t ≡ place_at (above stamp_cmp stamp_at p.stamp ps) t
+      passed : (is_at t p ≡ true) ⊎ (is_at t p ≡ false) → entry_at (p ∷ above stamp_cmp stamp_at p.stamp ps) t ≡ entry_at (above stamp_cmp stamp_at p.stamp ps) t
       passed (inl e) = absurd (n (at_stamp t p e))
       passed (inr e) = rw e refl
 
-      one : (o : Ordering) → stamp_cmp t p.stamp ≡ o → option_or (cond (is_lt o) (place_at ps t) None) (cond (is_gt o) (place_at ps t) None) ≡ place_at ps t
-      one Less e = or_none (place_at ps t)
+      one : (o : Ordering) → stamp_cmp t p.stamp ≡ o → option_or (cond (is_lt o) (entry_at ps t) None) (cond (is_gt o) (entry_at ps t) None) ≡ entry_at ps t
+      one Less e = or_none (entry_at ps t)
       one Equal e = absurd (n (sym (same_stamp_eq t p.stamp (sym (is_eq-same t p.stamp) ∙ ap is_eq e))))
       one Greater e = refl
 
-abbrev Leads : List Place → ℕ → Operation → Type 0
-Leads ps i o = place_at ps (stamp_of o) ≡ Some (record { stamp = stamp_of o; index = i })
+abbrev Leads : List StampEntry → ℕ → Operation → Type 0
+Leads ps i o = entry_at ps (stamp_of o) ≡ Some (record { stamp = stamp_of o; index = i })
 
-pub none_placed : (ps : List Place) (h : History) → ps ≡ [] → h ≡ [] → ArePlaced ps h
+pub none_placed : (ps : List StampEntry) (h : History) → ps ≡ [] → h ≡ [] → AreEntriesOf ps h
 none_placed ps h e g = rw (e, g) ((λ i j d l m. absurd (omega arith)), λ i d l. absurd (omega arith))
 
-module _ (ps new : List Place) (h : History) (p : Place) (k : ArePlaced ps h) (n : operation_at h p.stamp ≡ None) (a : Ascending stamp_cmp stamp_at new) (e : new ≡ inserted stamp_cmp stamp_at p ps) where
+module _ (ps new : List StampEntry) (h : History) (p : StampEntry) (k : AreEntriesOf ps h) (n : operation_at h p.stamp ≡ None) (a : Ascending stamp_cmp stamp_at new) (e : new ≡ insert_item stamp_cmp stamp_at p ps) where
   -- a further place changes nothing
-  pub kept : ArePlaced new h
-  kept = (a, λ i d l. ap (λ (qs : List Place). place_at qs (stamp_of (get_or h i d))) e ∙ put_beside p ps (stamp_of (get_or h i d)) (λ s. apart i d l s) ∙ k.1 i d l)
+  pub kept : AreEntriesOf new h
+  kept = (a, λ i d l. ap (λ (qs : List StampEntry). entry_at qs (stamp_of (get_or h i d))) e ∙ put_beside p ps (stamp_of (get_or h i d)) (λ s. apart i d l s) ∙ k.1 i d l)
     where
       apart : (i : ℕ) (d : Operation) → i < length h → p.stamp ≡ stamp_of (get_or h i d) → ⊥
       apart i d l s = let q = sym (same_stamp_refl p.stamp) ∙ ap (λ (u : Lamport). same_stamp u p.stamp) s ∙ other_stamp h p.stamp i d n l in cc
 
   -- and leads to a further operation
-  pub placed : (x : Operation) → p.stamp ≡ stamp_of x → p.index ≡ length h → ArePlaced new (h ++ x ∷ [])
+  pub placed : (x : Operation) → p.stamp ≡ stamp_of x → p.index ≡ length h → AreEntriesOf new (h ++ x ∷ [])
   placed x s j = (a, λ i d l. at i d l)
     where
       last : Leads new (length h) x
-      last = ap (λ (qs : List Place). place_at qs (stamp_of x)) e ∙ ap (place_at (inserted stamp_cmp stamp_at p ps)) (sym s) ∙ put_at p ps
+      last = ap (λ (qs : List StampEntry). entry_at qs (stamp_of x)) e ∙ ap (entry_at (insert_item stamp_cmp stamp_at p ps)) (sym s) ∙ put_at p ps
           ∙ ap Some (λ i. record { stamp = s i; index = j i })
 
       at : (i : ℕ) (d : Operation) → i < length (h ++ x ∷ []) → Leads new i (get_or (h ++ x ∷ []) i d)
@@ -208,19 +208,19 @@ counted n (x ∷ xs) = let e = counted (n + 1) xs in omega arith
 pub counts_fit : {X : Type 0} (xs : List X) → length xs ≤ 2 ^ 40 → (fold (record { items = 0 }) count_sum (λ (x : X). record { items = 1 }) xs).items < 2 ^ 64
 counts_fit xs l = let e = counted 0 xs in omega arith
 
-parts_long : (t : Lamport) (ps : List Place) → length (below stamp_cmp stamp_at t ps) + length (above stamp_cmp stamp_at t ps) ≤ length ps
+parts_long : (t : Lamport) (ps : List StampEntry) → length (below stamp_cmp stamp_at t ps) + length (above stamp_cmp stamp_at t ps) ≤ length ps
 parts_long t [] = omega arith
 parts_long t (p ∷ ps) =
     let ih = parts_long t ps in
-    let B : List Place = below stamp_cmp stamp_at t ps in
-    let A : List Place = above stamp_cmp stamp_at t ps in
+    let B : List StampEntry = below stamp_cmp stamp_at t ps in
+    let A : List StampEntry = above stamp_cmp stamp_at t ps in
     elim (stamp_cmp p.stamp t) as (λ r. length (cond (is_lt r) (p ∷ B) B) + length (cond (is_gt r) (p ∷ A) A) ≤ suc (length ps)) [
       | Less ↦ omega arith
       | Equal ↦ omega arith
       | Greater ↦ omega arith
     ]
 
-pub inserted_long : (p : Place) (ps : List Place) → length ps < 2 ^ 40 → length (inserted stamp_cmp stamp_at p ps) ≤ 2 ^ 40
+pub inserted_long : (p : StampEntry) (ps : List StampEntry) → length ps < 2 ^ 40 → length (insert_item stamp_cmp stamp_at p ps) ≤ 2 ^ 40
 inserted_long p ps l =
     let long = length-append (below stamp_cmp stamp_at p.stamp ps) (p ∷ above stamp_cmp stamp_at p.stamp ps) in
     let parts = parts_long p.stamp ps in

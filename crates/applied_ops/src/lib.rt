@@ -3,7 +3,7 @@
 
 mod list;
 mod operation;
-mod place;
+mod stamp_entry;
 
 pub use list::AppliedList;
 pub use op_model::OutOfMemory;

@@ -5,11 +5,12 @@ ghost use Rattle.op_model.specs.Operations.{stamp_of};
 ghost use Rattle.op_model.specs.Histories.{Distinct, has_edit, operation_at};
 ghost use Rattle.applied_ops.specs.Placed.{is_edit_found};
 
+use crate::OutOfMemory;
 use crate::operation::Applied;
-use crate::place::Place;
+use crate::stamp_entry::StampEntry;
 use lamport_clock::{Lamport, is_same};
 use op_model::Operation;
-use std::alloc::{AllocError, Global};
+use std::alloc::Global;
 use std::marker::Model;
 use sum_tree::SumTree;
 
@@ -17,11 +18,11 @@ use sum_tree::SumTree;
 const MOST: u64 = 1 << 40;
 
 /// Operations in the order of their application, no two with one stamp, seen as their list: a tree, and beside it one of
-/// their places by their stamps. Lists share their nodes and their operations.
+/// their indices by their stamps. Lists share their nodes and their operations.
 #[derive(Drop)]
 pub struct AppliedList {
     operations: SumTree<Applied>,
-    places: SumTree<Place>,
+    entries: SumTree<StampEntry>,
 }
 
 impl Model for AppliedList {
@@ -30,31 +31,31 @@ impl Model for AppliedList {
 
     ghost Value = { List Operation };
 
-    ghost use Rattle.applied_ops.specs.Placed.{ArePlaced};
+    ghost use Rattle.applied_ops.specs.Placed.{AreEntriesOf};
 
     ghost view = { λ a. a.operations.items };
 
-    ghost invariant = { λ a. ArePlaced a.places.items a.operations.items };
+    ghost invariant = { λ a. AreEntriesOf a.entries.items a.operations.items };
 }
 
 impl AppliedList {
     /// Nothing is applied.
-    pub fn new(alloc: Global) -> Result<AppliedList, AllocError>
+    pub fn new(alloc: Global) -> Result<AppliedList, OutOfMemory>
         ensures { IfOk result (λ a. a ≡ []) }
     {
         Ok(AppliedList {
             operations: SumTree::new(alloc)?,
-            places: SumTree::new(alloc)?,
+            entries: SumTree::new(alloc)?,
         })
     }
 
     /// A second owner of the same nodes. No node is made.
-    pub fn share(&self) -> Result<AppliedList, AllocError>
+    pub fn share(&self) -> Result<AppliedList, OutOfMemory>
         ensures { IfOk result (λ a. a ≡ self.now) }
     {
         Ok(AppliedList {
             operations: self.operations.share()?,
-            places: self.places.share()?,
+            entries: self.entries.share()?,
         })
     }
 
@@ -76,13 +77,13 @@ impl AppliedList {
     pub fn find(&self, t: Lamport) -> Option<&Operation>
         ensures { option_copied result ≡ operation_at self.now t }
     {
-        let Some(place) = self.places.find(&t) else {
+        let Some(entry) = self.entries.find(&t) else {
             return None;
         };
-        let Some(applied) = self.operations.get(place.index) else {
+        let Some(applied) = self.operations.get(entry.index) else {
             return None;
         };
-        // A push that wanted memory may have left the place of an operation that is not applied.
+        // A push that wanted memory may have left the entry of an operation that is not applied.
         let op = applied.op();
         if is_same(op.stamp(), t) {
             Some(op)
@@ -102,18 +103,18 @@ impl AppliedList {
     /// Puts an operation last; none with its stamp is there yet. Logarithmic in the number of operations; what no other list
     /// shares is changed in place. On want of memory the operation is dropped, and the list is as before; past 2^40
     /// operations it always wants memory.
-    pub fn push(&mut self, alloc: Global, op: Operation) -> Result<(), AllocError>
+    pub fn push(&mut self, alloc: Global, op: Operation) -> Result<(), OutOfMemory>
         requires { operation_at self.old (stamp_of op) ≡ None }
         ensures ok { OnOk result (self.new ≡ self.old ++ op ∷ []) }
         ensures err { OnErr result (self.new ≡ self.old) }
     {
         let index = self.operations.len();
-        if index >= MOST || self.places.len() >= MOST {
-            return Err(AllocError);
+        if index >= MOST || self.entries.len() >= MOST {
+            return Err(OutOfMemory);
         }
         let stamp = op.stamp();
         let applied = Applied::new(alloc, op)?;
-        self.places.insert(alloc, Place { stamp, index })?;
+        self.entries.insert(alloc, StampEntry { stamp, index })?;
         self.operations.push(alloc, applied)?;
         Ok(())
     }

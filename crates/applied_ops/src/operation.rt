@@ -1,8 +1,9 @@
 //! An applied operation, as it stands in a tree.
 ghost use Rattle.std.specs.Prelude.{◌≡◌, IfOk};
 
+use crate::OutOfMemory;
 use op_model::Operation;
-use std::alloc::{AllocError, Global};
+use std::alloc::Global;
 use std::marker::Model;
 use std::sync::Arc;
 use sum_tree::{Count, Item};
@@ -24,7 +25,7 @@ impl Model for Applied {
 
 impl Applied {
     /// The operation with one owner.
-    pub fn new(alloc: Global, op: Operation) -> Result<Applied, AllocError>
+    pub fn new(alloc: Global, op: Operation) -> Result<Applied, OutOfMemory>
         ensures { IfOk result (λ a. a ≡ op) }
     {
         let op = Arc::new(alloc, op)?;
@@ -48,11 +49,11 @@ impl Item for Applied {
 
     ghost is_single = { λ a. tt };
 
-    fn summary(&self, _alloc: Global) -> Result<Count, AllocError> {
+    fn summary(&self, _alloc: Global) -> Result<Count, OutOfMemory> {
         Ok(Count { items: 1 })
     }
 
-    fn copy(&self, _alloc: Global) -> Result<Applied, AllocError> {
+    fn copy(&self, _alloc: Global) -> Result<Applied, OutOfMemory> {
         let op = Arc::try_clone(&self.op)?;
         Ok(Applied { op })
     }

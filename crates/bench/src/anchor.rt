@@ -2,10 +2,11 @@
 use crate::buffers::among;
 use crate::chance::step;
 use crate::report::tell;
-use std::alloc::{AllocError, Global};
+use std::alloc::Global;
 use std::cmp::Ordering;
 use std::io;
 use std::time::Instant;
+use sum_tree::OutOfMemory;
 use text_buffer::{Anchor, Bias, Snapshot};
 
 // How many anchors are made.
@@ -32,7 +33,7 @@ fn measure(rt: &HostRuntime, timed: bool, snapshot: &Snapshot) -> io::Result<()>
     resolve(rt, timed, "ResolveRow", snapshot, row.as_slice(), ROUNDS)
 }
 
-fn snapshot_of(alloc: Global, fragments: u32) -> Result<Snapshot, AllocError> {
+fn snapshot_of(alloc: Global, fragments: u32) -> Result<Snapshot, OutOfMemory> {
     let buffer = among(alloc, fragments)?;
     buffer.snapshot()
 }
@@ -79,7 +80,7 @@ fn compare(
 }
 
 // Anchors at places drawn by chance, of both kinds.
-fn drawn(alloc: Global, snapshot: &Snapshot) -> Result<Vec<Anchor>, AllocError> {
+fn drawn(alloc: Global, snapshot: &Snapshot) -> Result<Vec<Anchor>, OutOfMemory> {
     let len = snapshot.text().len();
     let mut anchors = Vec::new(alloc);
     let mut x = 1u64;
@@ -92,7 +93,7 @@ fn drawn(alloc: Global, snapshot: &Snapshot) -> Result<Vec<Anchor>, AllocError> 
 }
 
 // Anchors at places that ascend evenly, of both kinds in turn.
-fn row(alloc: Global, snapshot: &Snapshot) -> Result<Vec<Anchor>, AllocError> {
+fn row(alloc: Global, snapshot: &Snapshot) -> Result<Vec<Anchor>, OutOfMemory> {
     let len = snapshot.text().len();
     let mut anchors = Vec::new(alloc);
     for number in 0..ANCHORS {
@@ -116,7 +117,7 @@ fn put(
     snapshot: &Snapshot,
     at: u64,
     bias: Bias,
-) -> Result<(), AllocError> {
+) -> Result<(), OutOfMemory> {
     if let Ok(anchor) = snapshot.anchor(at, bias) {
         anchors.push(anchor)?;
     }

@@ -1,13 +1,12 @@
 //! Buffers that are worked on, and edits of them.
-ghost use Rattle.std.specs.Prelude.{◌≡◌, ◌<◌, ◌≤◌};
+ghost use Rattle.std.specs.Prelude.{◌≤◌};
 
 use crate::chance::step;
 use crate::rope::text::{long, short};
 use op_model::{Operation, Piece, Text};
-use std::alloc::{AllocError, Global};
-use std::marker::Brand;
-use std::sync::ledger::{Blank, Ledger};
-use text_buffer::{Buffer, Limits, Steps};
+use std::alloc::Global;
+use sum_tree::OutOfMemory;
+use text_buffer::{Buffer, Limits};
 
 const AMPLE: Limits = Limits {
     bytes: 1 << 40,
@@ -15,19 +14,19 @@ const AMPLE: Limits = Limits {
 };
 
 /// A replica's buffer over a text.
-pub fn opened(alloc: Global, replica: u16, base: &str) -> Result<Buffer, AllocError>
+pub fn opened(alloc: Global, replica: u16, base: &str) -> Result<Buffer, OutOfMemory>
     requires least { 1 ≤ replica }
     requires greatest { replica ≤ 1023 }
 {
     match Buffer::new(alloc, replica, base, AMPLE) {
         Ok(buffer) => Ok(buffer),
-        Err(_) => Err(AllocError),
+        Err(_) => Err(OutOfMemory),
     }
 }
 
 /// Where edits are made.
 #[derive(Clone, Copy)]
-pub enum Place {
+pub enum EditPlace {
     /// A letter is put at a place drawn by chance.
     Letter,
     /// At a place drawn by chance up to 4 bytes are deleted and 1 to 8 put.
@@ -36,22 +35,28 @@ pub enum Place {
     Typed,
 }
 
-impl Place {
+impl EditPlace {
     /// Edit `number` of a text of so many bytes, by a number drawn by chance.
-    pub fn change(self, alloc: Global, number: u64, x: u64, len: u64) -> Result<Piece, AllocError> {
+    pub fn change(
+        self,
+        alloc: Global,
+        number: u64,
+        x: u64,
+        len: u64,
+    ) -> Result<Piece, OutOfMemory> {
         match self {
-            Place::Letter => change(alloc, len, x >> 20, 0, "a"),
-            Place::Random => change(alloc, len, x >> 20, (x >> 50) % 5, short(x >> 56)),
-            Place::Typed => change(alloc, len, number.saturating_add(1_000), 0, "a"),
+            EditPlace::Letter => change(alloc, len, x >> 20, 0, "a"),
+            EditPlace::Random => change(alloc, len, x >> 20, (x >> 50) % 5, short(x >> 56)),
+            EditPlace::Typed => change(alloc, len, number.saturating_add(1_000), 0, "a"),
         }
     }
 }
 
 /// A buffer of some so many fragments: letters were put into its base one by one, each at a place drawn by chance.
-pub fn among(alloc: Global, fragments: u32) -> Result<Buffer, AllocError> {
+pub fn among(alloc: Global, fragments: u32) -> Result<Buffer, OutOfMemory> {
     let base = long(alloc, fragments as u64 * 8)?;
     let mut buffer = opened(alloc, 1, base.as_str())?;
-    made(alloc, &mut buffer, fragments / 2, Place::Letter)?;
+    made(alloc, &mut buffer, fragments / 2, EditPlace::Letter)?;
     Ok(buffer)
 }
 
@@ -60,8 +65,8 @@ pub fn made(
     alloc: Global,
     buffer: &mut Buffer,
     count: u32,
-    place: Place,
-) -> Result<Vec<Operation>, AllocError> {
+    place: EditPlace,
+) -> Result<Vec<Operation>, OutOfMemory> {
     let mut operations = Vec::new(alloc);
     let mut x = 1u64;
     for number in 0..count {
@@ -79,34 +84,26 @@ pub fn edit(
     place: u64,
     gone: u64,
     text: &str,
-) -> Result<Operation, AllocError> {
+) -> Result<Operation, OutOfMemory> {
     let change = change(alloc, buffer.summary().len, place, gone, text)?;
     make(buffer, &[change])
 }
 
-fn make(buffer: &mut Buffer, changes: &[Piece]) -> Result<Operation, AllocError> {
-    make_with::<Brand>(buffer, changes, Blank::new(1))
-}
-
-// The same with a counter that is made of the blank.
-fn make_with<L: Ledger>(
-    buffer: &mut Buffer,
-    changes: &[Piece],
-    blank: Blank,
-) -> Result<Operation, AllocError>
-    requires name { blank.name ≡ L.name }
-    requires parts { blank.parts ≡ L.parts }
-    requires some { 0 < blank.parts }
-{
-    let mut steps = Steps::<L>::new(blank);
-    match buffer.edit(changes, &mut steps) {
+fn make(buffer: &mut Buffer, changes: &[Piece]) -> Result<Operation, OutOfMemory> {
+    match buffer.edit_uncounted(changes) {
         Ok(operation) => Ok(operation),
-        Err(_) => Err(AllocError),
+        Err(_) => Err(OutOfMemory),
     }
 }
 
 // A text in the place of so many bytes of a text, fewer at its end.
-fn change(alloc: Global, len: u64, place: u64, gone: u64, text: &str) -> Result<Piece, AllocError> {
+fn change(
+    alloc: Global,
+    len: u64,
+    place: u64,
+    gone: u64,
+    text: &str,
+) -> Result<Piece, OutOfMemory> {
     let start = place % len.max(1);
     Ok(Piece {
         start,
@@ -116,7 +113,7 @@ fn change(alloc: Global, len: u64, place: u64, gone: u64, text: &str) -> Result<
 }
 
 /// So many letters at an offset.
-pub fn letters(alloc: Global, at: u64, count: u64) -> Result<Piece, AllocError> {
+pub fn letters(alloc: Global, at: u64, count: u64) -> Result<Piece, OutOfMemory> {
     Ok(Piece {
         start: at,
         end: at,

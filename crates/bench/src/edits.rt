@@ -1,5 +1,5 @@
 //! Edits placed among fragments, at random places and where an author types, by their author and by another replica.
-use crate::buffers::{Place, letters};
+use crate::buffers::{EditPlace, letters};
 use crate::chance::step;
 use crate::replica::Replica;
 use crate::report::tell_micros;
@@ -32,9 +32,9 @@ fn make_all(
     fragments: u32,
 ) -> io::Result<Vec<Operation>> {
     write(rt, replica, fragments as u64 * 8)?;
-    make(rt, replica, fragments / 2, Place::Letter)?;
-    make_told(rt, timed, "RandomLocal", replica, Place::Random)?;
-    make_told(rt, timed, "TypedLocal", replica, Place::Typed)?;
+    make(rt, replica, fragments / 2, EditPlace::Letter)?;
+    make_told(rt, timed, "RandomLocal", replica, EditPlace::Random)?;
+    make_told(rt, timed, "TypedLocal", replica, EditPlace::Typed)?;
     Ok(replica.operations(rt.alloc())?)
 }
 
@@ -64,7 +64,7 @@ fn make_told(
     timed: bool,
     name: &str,
     replica: &mut Replica,
-    place: Place,
+    place: EditPlace,
 ) -> io::Result<()> {
     let before = replica.nanoseconds();
     make(rt, replica, EDITS, place)?;
@@ -105,7 +105,7 @@ fn write(rt: &HostRuntime, replica: &mut Replica, bytes: u64) -> io::Result<()> 
 }
 
 // Makes so many edits.
-fn make(rt: &HostRuntime, replica: &mut Replica, count: u32, place: Place) -> io::Result<()> {
+fn make(rt: &HostRuntime, replica: &mut Replica, count: u32, place: EditPlace) -> io::Result<()> {
     let mut x = 1u64;
     for number in 0..count {
         x = step(x);

@@ -1,17 +1,16 @@
 //! Works on trees, ropes and buffers, and times it: `bench tree ITEMS` on a tree that gets so many items, `bench rope BYTES TIMES`
 //! on a rope of so many bytes, so many times, `bench search BYTES` searches ropes of so many bytes, `bench snapshot BYTES` takes
 //! snapshots of a buffer over so many bytes, `bench publish BYTES TIMES` publishes one of a buffer over so many bytes, so many times,
-//! `bench leaf EDITS` copies leaves of the fragments that so many edits make, `bench undo FRAGMENTS` undoes edits among so many
-//! fragments, `bench anchors FRAGMENTS` resolves and compares anchors among some so many, `bench since FRAGMENTS` asks there for the
-//! edits since a version, `bench edits FRAGMENTS` places edits there, `bench locators` makes locators as the standard input says. What
-//! came of each work is written, and with a further word `timed` the microseconds too. All can be asked for at once.
+//! `bench undo FRAGMENTS` undoes edits among so many fragments, `bench anchors FRAGMENTS` resolves and compares anchors among some
+//! so many, `bench since FRAGMENTS` asks there for the edits since a version, `bench edits FRAGMENTS` places edits there, and
+//! `bench locators` makes locators as the standard input says. What came of each work is written, and with a further word `timed` the
+//! microseconds too. All can be asked for at once.
 #![tactic(auto)]
 
 mod anchor;
 mod buffers;
 mod chance;
 mod edits;
-mod leaf;
 mod naming;
 mod publish;
 mod replica;
@@ -35,7 +34,6 @@ enum Next {
     Opened,
     Published,
     Publishes,
-    Edits,
     Fragments,
     Anchored,
     Since,
@@ -43,9 +41,9 @@ enum Next {
 }
 
 // What is asked for: how many items the tree gets, how long the rope is and how often it is worked on, how long the ropes that
-// are searched are and the text of the buffer, how long the buffer is of which a snapshot is published and how often it is, how many
-// edits make fragments, among how many fragments edits are undone, anchors asked for, edits since a version told and edits made,
-// whether locators are made, and whether times are written. Work on no items, no bytes, no edits or no fragments is not asked for.
+// are searched are and the text of the buffer, how long the buffer is of which a snapshot is published and how often it is, among
+// how many fragments edits are undone, anchors asked for, edits since a version told and edits made, whether locators are made, and
+// whether times are written. Work on no items, no bytes or no fragments is not asked for.
 #[derive(Clone, Copy)]
 struct Asked {
     items: u32,
@@ -55,7 +53,6 @@ struct Asked {
     opened: u32,
     published: u32,
     publishes: u32,
-    edits: u32,
     fragments: u32,
     anchored: u32,
     since: u32,
@@ -74,7 +71,6 @@ impl Asked {
             "search" => self.next = Next::Searched,
             "snapshot" => self.next = Next::Opened,
             "publish" => self.next = Next::Published,
-            "leaf" => self.next = Next::Edits,
             "undo" => self.next = Next::Fragments,
             "anchors" => self.next = Next::Anchored,
             "since" => self.next = Next::Since,
@@ -100,7 +96,6 @@ impl Asked {
                 self.next = Next::Publishes;
             }
             Next::Publishes => self.publishes = number,
-            Next::Edits => self.edits = number,
             Next::Fragments => self.fragments = number,
             Next::Anchored => self.anchored = number,
             Next::Since => self.since = number,
@@ -118,7 +113,6 @@ fn words(rt: &HostRuntime) -> io::Result<Asked> {
         opened: 0,
         published: 0,
         publishes: 0,
-        edits: 0,
         fragments: 0,
         anchored: 0,
         since: 0,
@@ -149,9 +143,6 @@ fn main(rt: HostRuntime) -> io::Result<()> {
     }
     if asked.published > 0 {
         publish::works(&rt, &rt, asked.timed, asked.published, asked.publishes)?;
-    }
-    if asked.edits > 0 {
-        leaf::works(&rt, asked.timed, asked.edits)?;
     }
     among_fragments(&rt, asked)?;
     if asked.locators {

@@ -2,9 +2,10 @@
 //! lies between the two that it names.
 use crate::report::tell;
 use locators::Locator;
-use std::alloc::{AllocError, Global};
+use std::alloc::Global;
 use std::io;
 use std::time::Instant;
+use sum_tree::OutOfMemory;
 
 // Two indexes of locators.
 type Pair = (usize, usize);
@@ -42,7 +43,7 @@ fn compare_work(rt: &HostRuntime, timed: bool, all: &[Locator], pairs: &[Pair]) 
 }
 
 // The pairs of a text; a line that has no two numbers names 0 in their place.
-fn pairs(alloc: Global, text: &str) -> Result<Vec<Pair>, AllocError> {
+fn pairs(alloc: Global, text: &str) -> Result<Vec<Pair>, OutOfMemory> {
     let mut pairs = Vec::new(alloc);
     for line in text.lines() {
         if let Some((low, high)) = line.split_once(' ') {
@@ -53,7 +54,7 @@ fn pairs(alloc: Global, text: &str) -> Result<Vec<Pair>, AllocError> {
 }
 
 // All locators, as far as the pairs name some that are made.
-fn made(alloc: Global, pairs: &[Pair]) -> Result<Vec<Locator>, AllocError> {
+fn made(alloc: Global, pairs: &[Pair]) -> Result<Vec<Locator>, OutOfMemory> {
     let mut all = Vec::with_capacity(alloc, pairs.len().saturating_add(2))?;
     all.push(Locator::least(alloc)?)?;
     all.push(Locator::greatest(alloc)?)?;
@@ -66,7 +67,7 @@ fn made(alloc: Global, pairs: &[Pair]) -> Result<Vec<Locator>, AllocError> {
     Ok(all)
 }
 
-fn copied(alloc: Global, all: &[Locator]) -> Result<Vec<Locator>, AllocError> {
+fn copied(alloc: Global, all: &[Locator]) -> Result<Vec<Locator>, OutOfMemory> {
     let mut copies = Vec::with_capacity(alloc, all.len())?;
     for locator in all {
         copies.push(locator.copy(alloc)?)?;

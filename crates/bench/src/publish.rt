@@ -5,7 +5,7 @@ use crate::buffers::opened;
 use crate::report::tell;
 use crate::rope::text::long;
 use snapshot_pub::{Publisher, SnapReader, open_pairs};
-use std::alloc::{AllocError, Global};
+use std::alloc::Global;
 use std::io;
 use std::sync::Wait;
 use std::thread::{Threads, join};

@@ -4,9 +4,9 @@ ghost use Rattle.std.specs.Prelude.{◌≤◌};
 use applied_ops::Applied;
 use op_model::{Operation, Piece};
 use placed_buffer::PlacedBuffer;
-use std::alloc::{AllocError, Global};
+use std::alloc::Global;
 use std::io;
-use sum_tree::SumTree;
+use sum_tree::{OutOfMemory, SumTree};
 
 /// A replica, and nothing once an operation has met a fault.
 #[derive(Drop)]
@@ -16,7 +16,7 @@ pub struct Replica {
 
 impl Replica {
     /// Without text.
-    pub fn new(alloc: Global, replica: u16) -> Result<Replica, AllocError>
+    pub fn new(alloc: Global, replica: u16) -> Result<Replica, OutOfMemory>
         requires least { 1 ≤ replica }
         requires greatest { replica ≤ 1023 }
     {
@@ -65,7 +65,7 @@ impl Replica {
     }
 
     /// All operations in their order, but for the base.
-    pub fn operations(&self, alloc: Global) -> Result<Vec<Operation>, AllocError> {
+    pub fn operations(&self, alloc: Global) -> Result<Vec<Operation>, OutOfMemory> {
         match &self.placed {
             Some(placed) => operations(alloc, placed.buffer().applied()),
             None => Ok(Vec::new(alloc)),
@@ -74,7 +74,7 @@ impl Replica {
 }
 
 // All operations but for the first one, which is the base.
-fn operations(alloc: Global, applied: &SumTree<Applied>) -> Result<Vec<Operation>, AllocError> {
+fn operations(alloc: Global, applied: &SumTree<Applied>) -> Result<Vec<Operation>, OutOfMemory> {
     let mut operations = Vec::new(alloc);
     for i in 1..applied.len() {
         if let Some(applied) = applied.get(i) {

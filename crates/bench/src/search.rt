@@ -2,10 +2,11 @@
 use crate::report::tell;
 use rope_chunks::Rope;
 use snapshot_search::{find_all, find_all_par};
-use std::alloc::{AllocError, Global};
+use std::alloc::Global;
 use std::io;
 use std::thread::Threads;
 use std::time::Instant;
+use sum_tree::OutOfMemory;
 
 // The most bytes of a text.
 const MOST_BYTES: usize = 1 << 30;
@@ -102,7 +103,7 @@ fn found_in_parts<R: Threads + Sync>(workers: &R, alloc: Global, rope: &Rope, ne
 }
 
 // The rope of a text, empty where the text is too long.
-fn rope_of(alloc: Global, text: &str) -> Result<Rope, AllocError> {
+fn rope_of(alloc: Global, text: &str) -> Result<Rope, OutOfMemory> {
     if text.len() > MOST_BYTES {
         Rope::new(alloc)
     } else {
@@ -111,7 +112,7 @@ fn rope_of(alloc: Global, text: &str) -> Result<Rope, AllocError> {
 }
 
 // A text of about so many bytes: words of small letters, and in some of them `summary` or `th`.
-fn words_text(alloc: Global, bytes: u32) -> Result<String, AllocError> {
+fn words_text(alloc: Global, bytes: u32) -> Result<String, OutOfMemory> {
     let mut text = String::new(alloc);
     let mut x = 1u64;
     for _ in 0..bytes {
@@ -132,7 +133,7 @@ fn words_text(alloc: Global, bytes: u32) -> Result<String, AllocError> {
 }
 
 // So many bytes of one ASCII letter.
-fn same_text(alloc: Global, letter: u8, bytes: u32) -> Result<String, AllocError> {
+fn same_text(alloc: Global, letter: u8, bytes: u32) -> Result<String, OutOfMemory> {
     let mut text = String::new(alloc);
     for _ in 0..bytes {
         text.push((letter % 128) as char)?;

@@ -1,10 +1,11 @@
 //! Edits since a version, among fragments.
-use crate::buffers::{Place, among, made};
+use crate::buffers::{EditPlace, among, made};
 use crate::report::tell;
 use lamport_clock::{Lamport, Version};
-use std::alloc::{AllocError, Global};
+use std::alloc::Global;
 use std::io;
 use std::time::Instant;
+use sum_tree::OutOfMemory;
 use text_buffer::{Buffer, Snapshot};
 
 // How many edits a buffer gets after the version.
@@ -31,15 +32,15 @@ fn ask_both(
 }
 
 // The version before a few edits, and the snapshot after them.
-fn versions(alloc: Global, fragments: u32) -> Result<(Version, Snapshot), AllocError> {
+fn versions(alloc: Global, fragments: u32) -> Result<(Version, Snapshot), OutOfMemory> {
     let mut buffer = among(alloc, fragments)?;
     change(alloc, &mut buffer)
 }
 
 // Makes a few edits: the version before them, and the snapshot after them.
-fn change(alloc: Global, buffer: &mut Buffer) -> Result<(Version, Snapshot), AllocError> {
+fn change(alloc: Global, buffer: &mut Buffer) -> Result<(Version, Snapshot), OutOfMemory> {
     let before = buffer.version().copy(alloc)?;
-    made(alloc, buffer, EDITS, Place::Random)?;
+    made(alloc, buffer, EDITS, EditPlace::Random)?;
     let snapshot = buffer.snapshot()?;
     Ok((before, snapshot))
 }
@@ -57,7 +58,7 @@ fn ask(
 }
 
 // The version that has the base alone.
-fn base(alloc: Global) -> Result<Version, AllocError> {
+fn base(alloc: Global) -> Result<Version, OutOfMemory> {
     let mut version = Version::new(alloc);
     version.observe(Lamport {
         value: 1,

@@ -3,9 +3,10 @@ use crate::buffers::{edit, opened};
 use crate::chance::step;
 use crate::report::tell;
 use crate::rope::text::long;
-use std::alloc::{AllocError, Global};
+use std::alloc::Global;
 use std::io;
 use std::time::Instant;
+use sum_tree::OutOfMemory;
 use text_buffer::{Buffer, Snapshot};
 
 // How many snapshots are taken, and how often one is shared.
@@ -43,7 +44,7 @@ fn edits(rt: &HostRuntime, timed: bool, buffer: &mut Buffer) -> io::Result<()> {
 }
 
 // How many operations are applied in all snapshots that are taken, one after the other.
-fn taken(buffer: &Buffer) -> Result<u64, AllocError> {
+fn taken(buffer: &Buffer) -> Result<u64, OutOfMemory> {
     let mut sum = 0u64;
     for _ in 0..SHARES {
         sum = sum.wrapping_add(taken_once(buffer)?);
@@ -51,13 +52,13 @@ fn taken(buffer: &Buffer) -> Result<u64, AllocError> {
     Ok(sum)
 }
 
-fn taken_once(buffer: &Buffer) -> Result<u64, AllocError> {
+fn taken_once(buffer: &Buffer) -> Result<u64, OutOfMemory> {
     let snapshot = buffer.snapshot()?;
     Ok(snapshot.applied().len())
 }
 
 // The same of all that share one.
-fn shared(snapshot: &Snapshot) -> Result<u64, AllocError> {
+fn shared(snapshot: &Snapshot) -> Result<u64, OutOfMemory> {
     let mut sum = 0u64;
     for _ in 0..SHARES {
         sum = sum.wrapping_add(shared_once(snapshot)?);
@@ -65,13 +66,13 @@ fn shared(snapshot: &Snapshot) -> Result<u64, AllocError> {
     Ok(sum)
 }
 
-fn shared_once(snapshot: &Snapshot) -> Result<u64, AllocError> {
+fn shared_once(snapshot: &Snapshot) -> Result<u64, OutOfMemory> {
     let other = snapshot.share()?;
     Ok(other.applied().len())
 }
 
 // Takes a snapshot before each edit and keeps it until the edit is made. Answers how many bytes the snapshots have.
-fn edited_beside_snapshots(alloc: Global, buffer: &mut Buffer) -> Result<u64, AllocError> {
+fn edited_beside_snapshots(alloc: Global, buffer: &mut Buffer) -> Result<u64, OutOfMemory> {
     let mut sum = 0u64;
     for number in 0..EDITS {
         sum = sum.wrapping_add(edited_beside(alloc, buffer, number)?);
@@ -79,14 +80,14 @@ fn edited_beside_snapshots(alloc: Global, buffer: &mut Buffer) -> Result<u64, Al
     Ok(sum)
 }
 
-fn edited_beside(alloc: Global, buffer: &mut Buffer, number: u64) -> Result<u64, AllocError> {
+fn edited_beside(alloc: Global, buffer: &mut Buffer, number: u64) -> Result<u64, OutOfMemory> {
     let kept = buffer.snapshot()?;
     put(alloc, buffer, number)?;
     Ok(kept.text().len())
 }
 
 // Makes the edits, and answers how many bytes the text has then.
-fn edited(alloc: Global, buffer: &mut Buffer) -> Result<u64, AllocError> {
+fn edited(alloc: Global, buffer: &mut Buffer) -> Result<u64, OutOfMemory> {
     for number in 0..EDITS {
         put(alloc, buffer, number)?;
     }
@@ -94,7 +95,7 @@ fn edited(alloc: Global, buffer: &mut Buffer) -> Result<u64, AllocError> {
 }
 
 // Puts a letter at a place that the number draws.
-fn put(alloc: Global, buffer: &mut Buffer, number: u64) -> Result<(), AllocError> {
+fn put(alloc: Global, buffer: &mut Buffer, number: u64) -> Result<(), OutOfMemory> {
     edit(alloc, buffer, step(number) >> 20, 0, "a")?;
     Ok(())
 }

@@ -4,10 +4,10 @@ use fragments::{Fragment, InsertionIndex, Stamps};
 use lamport_clock::{Lamport, Version};
 use locators::Locator;
 use remote_edit::mark_undo;
-use std::alloc::{AllocError, Global};
+use std::alloc::Global;
 use std::io;
 use std::time::Instant;
-use sum_tree::SumTree;
+use sum_tree::{OutOfMemory, SumTree};
 use undo_map::UndoMap;
 
 // How often an edit is undone.
@@ -58,7 +58,7 @@ fn undo(
 }
 
 // Undoes the edit again and again, and answers how many bytes are shown after the last time.
-fn undone(alloc: Global, tree: &SumTree<Fragment>, undos: &UndoMap) -> Result<u64, AllocError> {
+fn undone(alloc: Global, tree: &SumTree<Fragment>, undos: &UndoMap) -> Result<u64, OutOfMemory> {
     let mut shown = 0u64;
     for _ in 0..TIMES {
         shown = undone_once(alloc, tree, undos)?;
@@ -70,13 +70,13 @@ fn undone_once(
     alloc: Global,
     tree: &SumTree<Fragment>,
     undos: &UndoMap,
-) -> Result<u64, AllocError> {
+) -> Result<u64, OutOfMemory> {
     let index = InsertionIndex::new(alloc)?;
     let placed = mark_undo(alloc, tree, &index, undos, UNDO, &[EDIT])?;
     Ok(placed.fragments.summary().visible)
 }
 
-fn counts(alloc: Global) -> Result<UndoMap, AllocError> {
+fn counts(alloc: Global) -> Result<UndoMap, OutOfMemory> {
     let mut map = UndoMap::new(alloc)?;
     keep(alloc, &mut map, EDIT, UNDO, 1)?;
     Ok(map)
@@ -89,7 +89,7 @@ fn keep(
     edit: Lamport,
     by: Lamport,
     count: u32,
-) -> Result<(), AllocError> {
+) -> Result<(), OutOfMemory> {
     if map.len() < 1000 {
         map.set(alloc, edit, by, count)?;
     }
@@ -102,7 +102,7 @@ fn tree_of(
     fragments: u32,
     deleted: u32,
     old: bool,
-) -> Result<SumTree<Fragment>, AllocError> {
+) -> Result<SumTree<Fragment>, OutOfMemory> {
     let greatest = Locator::greatest(alloc)?;
     let mut last = Locator::least(alloc)?;
     let mut tree = SumTree::new(alloc)?;
@@ -115,7 +115,7 @@ fn tree_of(
 }
 
 // A further id, which is the last one from then on.
-fn next_id(alloc: Global, last: &mut Locator, greatest: &Locator) -> Result<Locator, AllocError> {
+fn next_id(alloc: Global, last: &mut Locator, greatest: &Locator) -> Result<Locator, OutOfMemory> {
     let id = Locator::between(alloc, last, greatest)?;
     *last = id.copy(alloc)?;
     Ok(id)
@@ -134,7 +134,7 @@ fn fragment(
     i: u32,
     deleted: bool,
     old: bool,
-) -> Result<Fragment, AllocError> {
+) -> Result<Fragment, OutOfMemory> {
     let mut deletions = Stamps::new(alloc);
     if deleted {
         deletions.insert(EDIT)?;
@@ -166,7 +166,7 @@ fn stamp(i: u32, after: bool) -> Lamport {
 }
 
 // Adds a fragment where the tree is not too large.
-fn add(alloc: Global, tree: &mut SumTree<Fragment>, fragment: Fragment) -> Result<(), AllocError> {
+fn add(alloc: Global, tree: &mut SumTree<Fragment>, fragment: Fragment) -> Result<(), OutOfMemory> {
     let count = tree.len();
     let sum = tree.summary();
     if count >= 1 << 32 {

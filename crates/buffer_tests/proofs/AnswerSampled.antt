@@ -6,8 +6,8 @@ use Rattle.op_model.specs.Histories.{History, base, version, operation_at}
 use Rattle.op_model.specs.Lawful.{Lawful}
 use Rattle.lamport_clock.specs.Stamps.{later, same_stamp}
 use Rattle.op_model.specs.Cells.{same_cell, sibling_first, seq_where, seq}
-use Rattle.op_model.specs.Shown.{deleters_where, shown_where, shown, text_where, text, hidden, full_where, full}
-use Rattle.op_model.specs.Facts.{told}
+use Rattle.op_model.specs.Shown.{deleters_where, shown_where, shown, text_where, text, hidden_text, full_where, full}
+use Rattle.op_model.specs.Facts.{cell_facts}
 use Rattle.sum_tree.specs.Laws.{fold}
 use Rattle.fragments.specs.declared.fragment.Fragment.{Fragment}
 use Rattle.fragments.specs.Stand.{Tell, run_of, runs}
@@ -24,7 +24,7 @@ pub sample_version : (0, 1) ∷ (1, 3) ∷ [] ≡ version sample
 sample_version = refl
 
 -- neither of the two operations after the base changes a cell's place, its bytes or its deletions; the base is shown
-pub sample_told : run_facts base_run ≡ told sample
+pub sample_told : run_facts base_run ≡ cell_facts sample
 unfolding later same_stamp same_cell sibling_first seq_where seq deleters_where shown_where shown
 sample_told = refl
 
@@ -32,7 +32,7 @@ pub sample_text : base_text ≡ text sample
 unfolding later same_stamp same_cell sibling_first seq_where seq deleters_where shown_where shown text_where text
 sample_text = refl
 
-pub sample_hidden : [] ≡ hidden sample
+pub sample_hidden : [] ≡ hidden_text sample
 unfolding later same_stamp same_cell sibling_first seq_where seq deleters_where shown_where shown
 sample_hidden = refl
 

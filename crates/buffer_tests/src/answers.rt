@@ -11,7 +11,7 @@ use deferred_ops::Deferred;
 use fragments::{Fragment, Stamps};
 use lamport_clock::{Lamport, Version};
 use locators::Locator;
-use op_answers::Verdict::{Accept, Missing, Refuse, Repeated};
+use op_answers::Verdict::{Good, Refused, Repeat, Waits};
 use op_answers::{Verdict, judge};
 use op_model::OpFault::{
     BadStamp, Conflict, Forked, InsideChar, NoBase, NoSuchEdit, OpenVersion, Overlap, PastEnd,
@@ -19,9 +19,9 @@ use op_model::OpFault::{
 };
 use op_model::{Counts, EditOp, Operation, Piece, Pieces, Text, UndoCount, UndoOp};
 use rope_chunks::Rope;
-use std::alloc::{AllocError, Global};
+use std::alloc::Global;
 use std::test::Fail;
-use sum_tree::SumTree;
+use sum_tree::{OutOfMemory, SumTree};
 
 const FIRST: Lamport = Lamport {
     value: 1,
@@ -56,55 +56,55 @@ const NONE: Parts = Parts::Pieces(&[]);
 
 // A stamp, a version's entries, the parts, and what the answer is.
 const ROWS: &[(Stamp, Entries, Parts, Verdict)] = &[
-    ((4_294_967_295, 4), BASE, NONE, Refuse(BadStamp)),
-    ((1, 0), &[], NONE, Refuse(BadStamp)),
-    ((9, 4), &[(1, 2)], Parts::Counts(&[]), Refuse(NoBase)),
+    ((4_294_967_295, 4), BASE, NONE, Refused(BadStamp)),
+    ((1, 0), &[], NONE, Refused(BadStamp)),
+    ((9, 4), &[(1, 2)], Parts::Counts(&[]), Refused(NoBase)),
     (
         (9, 4),
         BASE,
         Parts::Letters(65_537),
-        Refuse(TextLimit(65_537)),
+        Refused(TextLimit(65_537)),
     ),
-    ((9, 4), BASE, Parts::Letters(65_536), Accept),
+    ((9, 4), BASE, Parts::Letters(65_536), Good),
     (
         (9, 4),
         BASE,
         Parts::Pieces(&[(2, 1, "")]),
-        Refuse(Reversed(0)),
+        Refused(Reversed(0)),
     ),
     (
         (9, 4),
         BASE,
         Parts::Pieces(&[(0, 1, ""), (0, 1, "x")]),
-        Refuse(Overlap(1)),
+        Refused(Overlap(1)),
     ),
     // equal ones are applied or wait
-    ((2, 1), BASE, NONE, Repeated),
-    ((3, 1), EDITED, Parts::Counts(&[(EDIT, 1)]), Repeated),
-    ((9, 3), &[(0, 1), (2, 4)], NONE, Repeated),
+    ((2, 1), BASE, NONE, Repeat),
+    ((3, 1), EDITED, Parts::Counts(&[(EDIT, 1)]), Repeat),
+    ((9, 3), &[(0, 1), (2, 4)], NONE, Repeat),
     // others of their stamps
     (
         (2, 1),
         BASE,
         Parts::Pieces(&[(0, 0, "W")]),
-        Refuse(Conflict(EDIT)),
+        Refused(Conflict(EDIT)),
     ),
     (
         (3, 1),
         EDITED,
         Parts::Counts(&[(EDIT, 2)]),
-        Refuse(Conflict(UNDO)),
+        Refused(Conflict(UNDO)),
     ),
-    ((9, 3), BASE, NONE, Refuse(Conflict(WAITS))),
+    ((9, 3), BASE, NONE, Refused(Conflict(WAITS))),
     // the author's last operation is not seen
-    ((4, 1), BASE, NONE, Refuse(Forked(3))),
-    ((4, 1), EDITED, Parts::Counts(&[]), Refuse(Forked(3))),
+    ((4, 1), BASE, NONE, Refused(Forked(3))),
+    ((4, 1), EDITED, Parts::Counts(&[]), Refused(Forked(3))),
     // causes are missing
     (
         (9, 4),
         &[(0, 1), (1, 4), (2, 5)],
         NONE,
-        Missing {
+        Waits {
             replica: 1,
             value: 4,
         },
@@ -113,69 +113,69 @@ const ROWS: &[(Stamp, Entries, Parts, Verdict)] = &[
         (9, 4),
         &[(0, 1), (1, 3), (2, 5)],
         Parts::Counts(&[(NOWHERE, 1)]),
-        Missing {
+        Waits {
             replica: 2,
             value: 5,
         },
     ),
     // an entry is no operation
-    ((9, 4), &[(0, 1), (1, 1)], NONE, Refuse(OpenVersion(1))),
+    ((9, 4), &[(0, 1), (1, 1)], NONE, Refused(OpenVersion(1))),
     (
         (9, 4),
         &[(0, 1), (1, 1)],
         Parts::Counts(&[(NOWHERE, 1)]),
-        Refuse(OpenVersion(1)),
+        Refused(OpenVersion(1)),
     ),
     // the base has an `a` and a character of two bytes
     (
         (9, 4),
         BASE,
         Parts::Pieces(&[(0, 2, ""), (3, 4, "q")]),
-        Refuse(PastEnd(1, 3)),
+        Refused(PastEnd(1, 3)),
     ),
     (
         (9, 4),
         BASE,
         Parts::Pieces(&[(0, 1, ""), (1, 2, "q")]),
-        Refuse(InsideChar(1)),
+        Refused(InsideChar(1)),
     ),
     (
         (9, 4),
         BASE,
         Parts::Pieces(&[(0, 0, "p"), (1, 3, "q")]),
-        Accept,
+        Good,
     ),
     // the edit is not seen, there is none, or it is an undo
     (
         (9, 4),
         BASE,
         Parts::Counts(&[(FIRST, 1), (EDIT, 2)]),
-        Refuse(NoSuchEdit(EDIT)),
+        Refused(NoSuchEdit(EDIT)),
     ),
     (
         (9, 4),
         EDITED,
         Parts::Counts(&[(NOWHERE, 1), (WAITS, 1)]),
-        Refuse(NoSuchEdit(NOWHERE)),
+        Refused(NoSuchEdit(NOWHERE)),
     ),
     (
         (9, 4),
         &[(0, 1), (1, 3)],
         Parts::Counts(&[(UNDO, 1)]),
-        Refuse(NoSuchEdit(UNDO)),
+        Refused(NoSuchEdit(UNDO)),
     ),
     (
         (9, 4),
         EDITED,
         Parts::Counts(&[(EDIT, 2), (FIRST, 7), (EDIT, 2)]),
-        Accept,
+        Good,
     ),
-    ((9, 4), BASE, Parts::Counts(&[]), Accept),
+    ((9, 4), BASE, Parts::Counts(&[]), Good),
 ];
 
 // ---- what is applied and what waits
 
-fn base_seen(alloc: Global) -> Result<Version, AllocError>
+fn base_seen(alloc: Global) -> Result<Version, OutOfMemory>
     ensures { IfOk result (λ v. v ≡ base_seen) }
 {
     let mut version = Version::new(alloc);
@@ -183,7 +183,7 @@ fn base_seen(alloc: Global) -> Result<Version, AllocError>
     Ok(version)
 }
 
-fn edit_seen(alloc: Global) -> Result<Version, AllocError>
+fn edit_seen(alloc: Global) -> Result<Version, OutOfMemory>
     ensures { IfOk result (λ v. v ≡ edit_seen) }
 {
     let mut version = base_seen(alloc)?;
@@ -191,7 +191,7 @@ fn edit_seen(alloc: Global) -> Result<Version, AllocError>
     Ok(version)
 }
 
-fn undo_seen(alloc: Global) -> Result<Version, AllocError>
+fn undo_seen(alloc: Global) -> Result<Version, OutOfMemory>
     ensures { IfOk result (λ v. v ≡ (0, 1) ∷ (1, 3) ∷ []) }
 {
     let mut version = edit_seen(alloc)?;
@@ -199,7 +199,7 @@ fn undo_seen(alloc: Global) -> Result<Version, AllocError>
     Ok(version)
 }
 
-fn base(alloc: Global, text: &str) -> Result<Operation, AllocError>
+fn base(alloc: Global, text: &str) -> Result<Operation, OutOfMemory>
     ensures { IfOk result (λ op. op ≡ base text.now) }
 {
     let mut pieces = Vec::new(alloc);
@@ -215,7 +215,7 @@ fn base(alloc: Global, text: &str) -> Result<Operation, AllocError>
     }))
 }
 
-fn edit(alloc: Global) -> Result<Operation, AllocError>
+fn edit(alloc: Global) -> Result<Operation, OutOfMemory>
     ensures { IfOk result (λ op. op ≡ edit_applied) }
 {
     Ok(Operation::Edit(EditOp {
@@ -225,7 +225,7 @@ fn edit(alloc: Global) -> Result<Operation, AllocError>
     }))
 }
 
-fn undo(alloc: Global) -> Result<Operation, AllocError>
+fn undo(alloc: Global) -> Result<Operation, OutOfMemory>
     ensures { IfOk result (λ op. op ≡ undo_applied) }
 {
     let mut counts = Vec::new(alloc);
@@ -240,7 +240,7 @@ fn undo(alloc: Global) -> Result<Operation, AllocError>
     }))
 }
 
-fn applied(alloc: Global) -> Result<AppliedList, AllocError>
+fn applied(alloc: Global) -> Result<AppliedList, OutOfMemory>
     ensures { IfOk result (λ a. a ≡ sample) }
 {
     let mut applied = AppliedList::new(alloc)?;
@@ -250,7 +250,7 @@ fn applied(alloc: Global) -> Result<AppliedList, AllocError>
     Ok(applied)
 }
 
-fn waiting(alloc: Global) -> Result<Deferred, AllocError>
+fn waiting(alloc: Global) -> Result<Deferred, OutOfMemory>
     ensures { IfOk result (λ w. Distinct w) }
 {
     let mut waiting = Deferred::new(alloc)?;
@@ -259,7 +259,7 @@ fn waiting(alloc: Global) -> Result<Deferred, AllocError>
 }
 
 // The base's bytes as one fragment.
-fn whole_base(alloc: Global) -> Result<Fragment, AllocError>
+fn whole_base(alloc: Global) -> Result<Fragment, OutOfMemory>
     ensures { IfOk result (λ f. run_of f ≡ base_run) }
 {
     let id = Locator::between(alloc, &Locator::least(alloc)?, &Locator::greatest(alloc)?)?;
@@ -274,7 +274,7 @@ fn whole_base(alloc: Global) -> Result<Fragment, AllocError>
     })
 }
 
-fn base_fragments(alloc: Global) -> Result<SumTree<Fragment>, AllocError>
+fn base_fragments(alloc: Global) -> Result<SumTree<Fragment>, OutOfMemory>
     ensures { IfOk result (λ t. Tell t.items sample) }
 {
     let mut tree = SumTree::new(alloc)?;
@@ -287,7 +287,7 @@ fn judged(
     applied: &AppliedList,
     waiting: &Deferred,
     op: &Operation,
-) -> Result<Verdict, AllocError>
+) -> Result<Verdict, OutOfMemory>
     requires applied { applied.now ≡ sample }
     requires waiting { Distinct waiting.now }
 {
@@ -303,7 +303,7 @@ fn answer_to(
     at: Stamp,
     entries: Entries,
     parts: Parts,
-) -> Result<Verdict, AllocError> {
+) -> Result<Verdict, OutOfMemory> {
     let op = operation(alloc, stamp(at), entries, parts)?;
     let applied = applied(alloc)?;
     let waiting = waiting(alloc)?;

@@ -3,10 +3,11 @@ use crate::operations::{edit_of, stamp, version};
 use applied_ops::AppliedList;
 use lamport_clock::Lamport;
 use op_model::Operation;
-use std::alloc::{AllocError, Global};
+use std::alloc::Global;
 use std::test::Fail;
+use sum_tree::OutOfMemory;
 
-fn edit(alloc: Global) -> Result<Operation, AllocError> {
+fn edit(alloc: Global) -> Result<Operation, OutOfMemory> {
     Ok(edit_of(stamp((2, 1)), version(alloc, &[])?, Vec::new(alloc)))
 }
 
@@ -18,7 +19,7 @@ fn stamp_at(applied: &AppliedList, stamp: Lamport) -> Option<Lamport> {
 }
 
 // What is found of a stamp before and after its operation is applied, and how many are applied then.
-fn found(alloc: Global) -> Result<(Option<Lamport>, Option<Lamport>, u64), AllocError> {
+fn found(alloc: Global) -> Result<(Option<Lamport>, Option<Lamport>, u64), OutOfMemory> {
     let edit = edit(alloc)?;
     let mut applied = AppliedList::new(alloc)?;
     let before = stamp_at(&applied, stamp((2, 1)));

@@ -1,7 +1,8 @@
 //! Operations by tables.
 use lamport_clock::{Lamport, Version};
 use op_model::{Counts, EditOp, Operation, Piece, Pieces, Text, UndoCount, UndoOp};
-use std::alloc::{AllocError, Global};
+use std::alloc::Global;
+use sum_tree::OutOfMemory;
 
 /// A stamp's value and replica.
 pub type Stamp = (u32, u16);
@@ -26,7 +27,7 @@ pub fn stamp((value, replica): Stamp) -> Lamport {
 }
 
 /// The version that has seen these entries.
-pub fn version(alloc: Global, entries: &[(u16, u32)]) -> Result<Version, AllocError> {
+pub fn version(alloc: Global, entries: &[(u16, u32)]) -> Result<Version, OutOfMemory> {
     let mut version = Version::new(alloc);
     for &(replica, value) in entries {
         version.observe(Lamport { value, replica })?;
@@ -35,7 +36,7 @@ pub fn version(alloc: Global, entries: &[(u16, u32)]) -> Result<Version, AllocEr
 }
 
 /// The pieces of these changes.
-pub fn pieces(alloc: Global, changes: &[Change]) -> Result<Vec<Piece>, AllocError> {
+pub fn pieces(alloc: Global, changes: &[Change]) -> Result<Vec<Piece>, OutOfMemory> {
     let mut pieces = Vec::new(alloc);
     for &(start, end, text) in changes {
         pieces.push(Piece {
@@ -48,7 +49,7 @@ pub fn pieces(alloc: Global, changes: &[Change]) -> Result<Vec<Piece>, AllocErro
 }
 
 // One insertion at the front of so many letters.
-fn letters(alloc: Global, count: usize) -> Result<Vec<Piece>, AllocError> {
+fn letters(alloc: Global, count: usize) -> Result<Vec<Piece>, OutOfMemory> {
     let mut text = String::new(alloc);
     for _ in 0..count {
         text.push('x')?;
@@ -63,7 +64,7 @@ fn letters(alloc: Global, count: usize) -> Result<Vec<Piece>, AllocError> {
 }
 
 /// What an undo counts.
-pub fn counts(alloc: Global, rows: &[(Lamport, u32)]) -> Result<Counts, AllocError> {
+pub fn counts(alloc: Global, rows: &[(Lamport, u32)]) -> Result<Counts, OutOfMemory> {
     let mut counts = Vec::new(alloc);
     for &(edit, count) in rows {
         counts.push(UndoCount { edit, count })?;
@@ -95,7 +96,7 @@ pub fn operation(
     stamp: Lamport,
     entries: &[(u16, u32)],
     parts: Parts,
-) -> Result<Operation, AllocError> {
+) -> Result<Operation, OutOfMemory> {
     let version = version(alloc, entries)?;
     match parts {
         Parts::Pieces(changes) => Ok(edit_of(stamp, version, pieces(alloc, changes)?)),

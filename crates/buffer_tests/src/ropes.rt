@@ -3,8 +3,9 @@ use crate::operations::{Change, pieces};
 use op_model::{EditFault, Piece, text_total};
 use rope_chunks::Rope;
 use rope_edits::{piece_fault, replaced};
-use std::alloc::{AllocError, Global};
+use std::alloc::Global;
 use std::test::Fail;
+use sum_tree::OutOfMemory;
 
 // Changes of a text, and their fault, or the text with them.
 struct Changed {
@@ -64,7 +65,7 @@ fn text_with(alloc: Global, text: &str, changes: &[Piece]) -> Result<String, Edi
 }
 
 // Whether a case comes to its answer.
-fn is_changed(alloc: Global, case: &Changed) -> Result<bool, AllocError> {
+fn is_changed(alloc: Global, case: &Changed) -> Result<bool, OutOfMemory> {
     let changes = pieces(alloc, case.changes)?;
     Ok(match text_with(alloc, case.text, changes.as_slice()) {
         Ok(text) => case.answer == Ok(text.as_str()),

@@ -2,8 +2,9 @@
 use crate::operations::{Entries, Parts, Stamp, edit_of, operation, pieces, stamp, version};
 use lamport_clock::Lamport;
 use op_model::{Operation, ShapeFault, shape};
-use std::alloc::{AllocError, Global};
+use std::alloc::Global;
 use std::test::Fail;
+use sum_tree::OutOfMemory;
 
 // A stamp, a version's entries, the parts, and what `shape` answers.
 type Row = (Stamp, Entries, Parts, Result<(), ShapeFault>);
@@ -87,12 +88,12 @@ const ROWS: &[Row] = &[
     ((9, 4), BASE, Parts::Counts(&[(SEVENTH, 2)]), Ok(())),
 ];
 
-fn operation_of(alloc: Global, row: &Row) -> Result<Operation, AllocError> {
+fn operation_of(alloc: Global, row: &Row) -> Result<Operation, OutOfMemory> {
     let &(at, entries, parts, _) = row;
     operation(alloc, stamp(at), entries, parts)
 }
 
-fn is_shaped(alloc: Global, row: &Row) -> Result<bool, AllocError> {
+fn is_shaped(alloc: Global, row: &Row) -> Result<bool, OutOfMemory> {
     Ok(shape(&operation_of(alloc, row)?) == row.3)
 }
 
@@ -104,7 +105,7 @@ fn shapes(rt: HostRuntime) -> Result<(), Fail> {
     Ok(())
 }
 
-fn operations(alloc: Global) -> Result<Vec<Operation>, AllocError> {
+fn operations(alloc: Global) -> Result<Vec<Operation>, OutOfMemory> {
     let mut all = Vec::new(alloc);
     for row in ROWS {
         all.push(operation_of(alloc, row)?)?;
@@ -122,11 +123,11 @@ fn is_same_alone(all: &[Operation], op: &Operation, at: usize) -> bool {
 }
 
 // A copy of a copy that is shared.
-fn shared_copy(alloc: Global, op: &Operation) -> Result<Operation, AllocError> {
+fn shared_copy(alloc: Global, op: &Operation) -> Result<Operation, OutOfMemory> {
     op.copy(alloc)?.into_shared(alloc)?.copy(alloc)
 }
 
-fn copies_are_same(alloc: Global) -> Result<bool, AllocError> {
+fn copies_are_same(alloc: Global) -> Result<bool, OutOfMemory> {
     let all = operations(alloc)?;
     let mut right = true;
     for (i, op) in all.iter().enumerate() {
@@ -143,7 +144,7 @@ fn copies_are_the_same_and_no_others(rt: HostRuntime) -> Result<(), Fail> {
 }
 
 // The shape of an edit of that many pieces of sixteen letters.
-fn shape_of_letters(alloc: Global, count: usize) -> Result<Result<(), ShapeFault>, AllocError> {
+fn shape_of_letters(alloc: Global, count: usize) -> Result<Result<(), ShapeFault>, OutOfMemory> {
     let rows = Vec::from_elem(alloc, (0, 0, "sixteen letters."), count)?;
     let pieces = pieces(alloc, &rows)?;
     let op = edit_of(stamp((2, 1)), version(alloc, BASE)?, pieces);

@@ -9,8 +9,9 @@ use lamport_clock::{Lamport, Version};
 use op_answers::UndoFault::{CountEnd, NoSuchEdit, Twice};
 use op_answers::{UndoFault, undo_fault};
 use op_model::{Counts, EditOp, Operation, Pieces, UndoCount, UndoOp};
-use std::alloc::{AllocError, Global};
+use std::alloc::Global;
 use std::test::Fail;
+use sum_tree::OutOfMemory;
 use undo_map::{UndoMap, next_counts};
 
 const FIRST: Lamport = Lamport {
@@ -60,7 +61,7 @@ fn edit(alloc: Global, stamp: Lamport) -> Operation
     })
 }
 
-fn undo(alloc: Global, stamp: Lamport, edit: Lamport, count: u32) -> Result<UndoOp, AllocError>
+fn undo(alloc: Global, stamp: Lamport, edit: Lamport, count: u32) -> Result<UndoOp, OutOfMemory>
     ensures { IfOk result (λ u. u ≡ undo_at stamp edit count) }
 {
     let mut counts = Vec::new(alloc);
@@ -72,7 +73,7 @@ fn undo(alloc: Global, stamp: Lamport, edit: Lamport, count: u32) -> Result<Undo
     })
 }
 
-fn applied(alloc: Global) -> Result<AppliedList, AllocError>
+fn applied(alloc: Global) -> Result<AppliedList, OutOfMemory>
     ensures { IfOk result (λ a. a ≡ sample) }
 {
     let mut applied = AppliedList::new(alloc)?;
@@ -83,7 +84,7 @@ fn applied(alloc: Global) -> Result<AppliedList, AllocError>
     Ok(applied)
 }
 
-fn undos(alloc: Global) -> Result<UndoMap, AllocError>
+fn undos(alloc: Global) -> Result<UndoMap, OutOfMemory>
     ensures { IfOk result (λ m. m ≡ undo_entries sample) }
 {
     let none = UndoMap::new(alloc)?;
@@ -92,7 +93,7 @@ fn undos(alloc: Global) -> Result<UndoMap, AllocError>
 }
 
 // The fault of an undo of edits.
-fn fault(alloc: Global, edits: &[Lamport]) -> Result<Option<UndoFault>, AllocError> {
+fn fault(alloc: Global, edits: &[Lamport]) -> Result<Option<UndoFault>, OutOfMemory> {
     let undos = undos(alloc)?;
     let applied = applied(alloc)?;
     Ok(undo_fault(alloc, &applied, &undos, edits))
@@ -110,7 +111,7 @@ fn each_fault(rt: HostRuntime) -> Result<(), Fail> {
 }
 
 // The counts that an undo of edits gives where no count stands at its end.
-fn counts(alloc: Global, edits: &[Lamport]) -> Result<Option<Counts>, AllocError> {
+fn counts(alloc: Global, edits: &[Lamport]) -> Result<Option<Counts>, OutOfMemory> {
     let applied = applied(alloc)?;
     let undos = undos(alloc)?;
     match undo_fault(alloc, &applied, &undos, edits) {
@@ -120,7 +121,7 @@ fn counts(alloc: Global, edits: &[Lamport]) -> Result<Option<Counts>, AllocError
 }
 
 // Whether an undo of edits gives these counts.
-fn gives(alloc: Global, edits: &[Lamport], want: &[UndoCount]) -> Result<bool, AllocError> {
+fn gives(alloc: Global, edits: &[Lamport], want: &[UndoCount]) -> Result<bool, OutOfMemory> {
     match counts(alloc, edits)? {
         None => Ok(false),
         Some(counts) => Ok(counts.as_slice() == want),

@@ -3,8 +3,9 @@ use crate::operations::{Entries, Parts, Stamp, operation, stamp, version};
 use deferred_ops::Deferred;
 use lamport_clock::Lamport;
 use op_model::Operation;
-use std::alloc::{AllocError, Global};
+use std::alloc::Global;
 use std::test::Fail;
+use sum_tree::OutOfMemory;
 
 const EDIT: Parts = Parts::Pieces(&[]);
 
@@ -19,14 +20,14 @@ const WAITING: &[(Parts, Stamp, Entries)] = &[
 ];
 
 // Adds an operation where none of its stamp waits.
-fn wait(deferred: &mut Deferred, op: Operation) -> Result<(), AllocError> {
+fn wait(deferred: &mut Deferred, op: Operation) -> Result<(), OutOfMemory> {
     if deferred.get(op.stamp()).is_none() {
         deferred.add(op)?;
     }
     Ok(())
 }
 
-fn waiting(alloc: Global) -> Result<Deferred, AllocError> {
+fn waiting(alloc: Global) -> Result<Deferred, OutOfMemory> {
     let mut deferred = Deferred::new(alloc)?;
     for &(parts, at, causes) in WAITING {
         wait(&mut deferred, operation(alloc, stamp(at), causes, parts)?)?;
@@ -47,7 +48,7 @@ fn is(op: Option<&Operation>, want: Option<Stamp>) -> bool {
 }
 
 // Whether nothing waits, nor is ready.
-fn is_without(alloc: Global) -> Result<bool, AllocError> {
+fn is_without(alloc: Global) -> Result<bool, OutOfMemory> {
     let none = version(alloc, &[])?;
     let mut deferred = Deferred::new(alloc)?;
     let empty = deferred.len() == 0 && is(deferred.get(stamp((1, 0))), None);
@@ -55,7 +56,7 @@ fn is_without(alloc: Global) -> Result<bool, AllocError> {
 }
 
 // Whether what waits is found by its stamp, until it is taken out.
-fn is_by_stamps(alloc: Global) -> Result<bool, AllocError> {
+fn is_by_stamps(alloc: Global) -> Result<bool, OutOfMemory> {
     let mut deferred = waiting(alloc)?;
     let there = is(deferred.get(stamp((3, 1))), Some((3, 1)));
     let before = deferred.len() == 4 && there && is(deferred.get(stamp((1, 3))), None);
@@ -97,7 +98,7 @@ fn ready(
     alloc: Global,
     after: Option<Stamp>,
     have: Entries,
-) -> Result<Option<Lamport>, AllocError> {
+) -> Result<Option<Lamport>, OutOfMemory> {
     let have = version(alloc, have)?;
     let deferred = waiting(alloc)?;
     Ok(stamp_of(deferred.ready(after.map(stamp), &have)))
@@ -109,7 +110,7 @@ fn ready_once_watched(
     watched: Entries,
     after: Option<Stamp>,
     have: Entries,
-) -> Result<Option<Lamport>, AllocError> {
+) -> Result<Option<Lamport>, OutOfMemory> {
     let have = version(alloc, have)?;
     let mut deferred = waiting(alloc)?;
     deferred.watch(&version(alloc, watched)?);

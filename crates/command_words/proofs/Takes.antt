@@ -21,6 +21,7 @@ use Rattle.clap.specs.declared.parser.matches.ValueSource.TheVariants.{DefaultVa
 use Rattle.command_words.specs.declared.command.Command.{Command}
 use Rattle.command_words.specs.declared.command.Command.TheVariants.{Make, Read}
 use Rattle.command_words.specs.declared.command.Task.TheVariants.{Replay}
+use Rattle.std.proofs.lemmas.Bool.{not-false}
 
 -- ---- a subcommand without fault
 
@@ -61,10 +62,6 @@ default_there a rows same some = go (has_row a.id rows) refl
 nothing_wanted : (b : Bool) → check_kinds false false b ≡ [] → b ≡ false
 nothing_wanted true e = absurd (cc e)
 nothing_wanted false e = refl
-
-is_there : (b : Bool) → not b ≡ false → b ≡ true
-is_there true e = refl
-is_there false e = absurd (true≢false e)
 
 -- ---- the subcommands of the command line
 
@@ -139,9 +136,9 @@ make_taken words e =
     let second = no_or (not (is_given (codes "replicas") rows)) _ first.1 in
     let third = no_or (not (is_given (codes "edits") rows)) _ second.1 in
     made (number_of 0 2147483647 (codes "seed") rows) (number_of 1 16 (codes "replicas") rows) (number_of 0 20000 (codes "edits") rows)
-    (number_there (codes "seed") 0 2147483647 rows seed.0 (given_there (codes "seed") rows (is_there _ first.0)))
-    (number_there (codes "replicas") 1 16 rows (level_reads (codes "replicas") 1 16 make_shape replicas_take words e).0 (given_there (codes "replicas") rows (is_there _ second.0)))
-    (number_there (codes "edits") 0 20000 rows (level_reads (codes "edits") 0 20000 make_shape edits_take words e).0 (given_there (codes "edits") rows (is_there _ third.0)))
+    (number_there (codes "seed") 0 2147483647 rows seed.0 (given_there (codes "seed") rows (not-false _ first.0)))
+    (number_there (codes "replicas") 1 16 rows (level_reads (codes "replicas") 1 16 make_shape replicas_take words e).0 (given_there (codes "replicas") rows (not-false _ second.0)))
+    (number_there (codes "edits") 0 20000 rows (level_reads (codes "edits") 0 20000 make_shape edits_take words e).0 (given_there (codes "edits") rows (not-false _ third.0)))
 
 -- ---- the subcommand that the words name
 

@@ -5,9 +5,10 @@ ghost use Rattle.clap.specs.declared.builder.Command.TheViews.{out-Command as fi
 ghost use Rattle.clap.specs.declared.builder.value_parser.ValueParser.TheVariants.{Unsigned};
 ghost use Rattle.command_words.specs.Words.{check_line, command_line, make_line, option_rule, program, replay_line, wanted_rule, workers_rule};
 
+use crate::OutOfMemory;
 use clap::builder::ValueParser;
 use clap::{Arg, Command, value_parser};
-use std::alloc::{AllocError, Global};
+use std::alloc::Global;
 
 /// An option `--NAME VALUE` with that parser for its value.
 fn option<'a>(alloc: Global, name: &'a str, parser: ValueParser<'a>) -> Arg<'a>
@@ -33,7 +34,7 @@ fn workers<'a>(alloc: Global) -> Arg<'a>
     option(alloc, "workers", value_parser!(u64).range(0..=16)).default_value("2")
 }
 
-fn replay_line<'a>(alloc: Global) -> Result<Command<'a>, AllocError>
+fn replay_line<'a>(alloc: Global) -> Result<Command<'a>, OutOfMemory>
     ensures line { IfOk result (λ c. app_of c ≡ replay_line) }
     ensures local { IfOk result (λ c. (fields_of c).has_globals ≡ false) }
 {
@@ -61,7 +62,7 @@ fn edits<'a>(alloc: Global) -> Arg<'a>
     wanted(alloc, "edits", value_parser!(u64).range(0..=20_000))
 }
 
-fn make_line<'a>(alloc: Global) -> Result<Command<'a>, AllocError>
+fn make_line<'a>(alloc: Global) -> Result<Command<'a>, OutOfMemory>
     ensures line { IfOk result (λ c. app_of c ≡ make_line) }
     ensures local { IfOk result (λ c. (fields_of c).has_globals ≡ false) }
 {
@@ -81,7 +82,7 @@ fn program<'a>(alloc: Global) -> Command<'a>
 }
 
 /// The command line: one of the commands, with no name of a program before it.
-pub fn command_line<'a>(alloc: Global) -> Result<Command<'a>, AllocError>
+pub fn command_line<'a>(alloc: Global) -> Result<Command<'a>, OutOfMemory>
     ensures { IfOk result (λ c. app_of c ≡ command_line) }
 {
     program(alloc)

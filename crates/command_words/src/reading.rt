@@ -3,11 +3,12 @@ ghost use Rattle.std.specs.Prelude.{◌≡◌, ◌≤◌, ◌&&◌, nat_le, fals
 ghost use Rattle.clap.specs.Words.{found_of, kind_of, rows_of, subcommand_rows_of};
 ghost use Rattle.command_words.specs.Words.{IsInRange, clap_takes, command_from, command_of, make_from, number_of, replay_from};
 
+use crate::OutOfMemory;
 use crate::command::{Command, Task};
 use crate::line::command_line;
 use clap::error::ErrorKind;
 use clap::{ArgMatches, Error};
-use std::alloc::{AllocError, Global};
+use std::alloc::Global;
 
 fn is_within(number: u64, least: u64, most: u64) -> bool
     ensures test { result ≡ (nat_le least number && nat_le number most) }
@@ -84,14 +85,14 @@ fn is_memory(error: &Error) -> bool
 /// # Errors
 ///
 /// Want of memory alone.
-pub fn command_of(alloc: Global, words: &[String]) -> Result<Option<Command>, AllocError>
+pub fn command_of(alloc: Global, words: &[String]) -> Result<Option<Command>, OutOfMemory>
     ensures command { IfOk result (λ c. c ≡ command_of words.now) }
     ensures taken { IfOk result (λ c. is_some c ≡ clap_takes words.now) }
     ensures within { IfOk result (λ c. IfSome c IsInRange) }
 {
     match command_line(alloc)?.try_get_matches_from(words) {
         Ok(matches) => Ok(command_in(&matches)),
-        Err(error) if is_memory(&error) => Err(AllocError),
+        Err(error) if is_memory(&error) => Err(OutOfMemory),
         Err(_) => Ok(None),
     }
 }

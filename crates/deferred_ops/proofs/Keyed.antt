@@ -15,7 +15,7 @@ use Rattle.lamport_clock.specs.Stamps.{later, same_stamp}
 use Rattle.lamport_clock.specs.Versions.{Entries}
 use Rattle.lamport_clock.proofs.Order.{stamp_cmp, is_gt-later, is_lt-later, is_eq-same}
 use Rattle.op_model.specs.declared.operation.Operation.{Operation}
-use Rattle.op_model.specs.Sorted.{insert_by, Each, Ascending}
+use Rattle.op_model.specs.Sorted.{insert_by, Ascending}
 use Rattle.op_model.specs.Operations.{stamp_of}
 use Rattle.op_model.specs.Histories.{operation_at}
 use Rattle.op_model.specs.Steps.{older}
@@ -24,7 +24,7 @@ use Rattle.deferred_ops.specs.Deferred.{AreKeyed, is_past, misses_nothing, least
 abbrev pub Keyed : Type 0
 Keyed = List (Lamport × Operation)
 
-same_sym : (s t : Lamport) → same_stamp s t ≡ same_stamp t s
+pub same_sym : (s t : Lamport) → same_stamp s t ≡ same_stamp t s
 unfolding same_stamp
 same_sym s t = grind (arith, nat_tests)
 
@@ -114,6 +114,6 @@ unfolding IsStrictlySortedBy
 ascending [] k s = tt
 ascending (e ∷ es) k s = (before es k.1 s.0, ascending es k.1 s.1)
   where
-    before : (fs : Keyed) → AreKeyed fs → AllByRecursion (λ t. stamp_cmp e.0 t ≡ Less) (keys_of fs) → Each (λ y. older e.1 y ≡ true) (values_of fs)
+    before : (fs : Keyed) → AreKeyed fs → AllByRecursion (λ t. stamp_cmp e.0 t ≡ Less) (keys_of fs) → AllByRecursion (λ y. older e.1 y ≡ true) (values_of fs)
     before [] k a = tt
     before (f ∷ fs) j a = (ap (later (stamp_of f.1)) (sym k.0) ∙ ap (λ x. later x e.0) (sym j.0) ∙ sym (is_lt-later e.0 f.0) ∙ ap is_lt a.0, before fs j.1 a.1)

@@ -1,5 +1,6 @@
 -- Causes that are listed of what waits.
 use Rattle.std.proofs.Common.{◌≡◌, ◌⊎◌, inl, inr, ◌<◌, ◌≤◌, ◌==◌, ℕ, Bool, true, false, cond, not, ◌&&◌, List, [], ◌∷◌, length, refl, sym, ap, ◌∙◌, Option, Some, None, arith, subst, true≢false, eqb-true, eq-eqb, ne_eqb, lt-ltb, le-ltb, slice_get}
+use Rattle.std.specs.List.{AllByRecursion}
 use Rattle.std.specs.Prelude.{nat_le, nat_lt, IfSome, unwrap_or}
 use Rattle.std.proofs.lemmas.Bool.Decides.{nat_tests}
 use Rattle.std.proofs.lemmas.Bool.{cases_Bool, cases_lt, false_from_ne_true, le-leb, leb-true, ltb-true}
@@ -16,12 +17,13 @@ use Rattle.lamport_clock.specs.Versions.{Entries, IsVersion, entry, first_unseen
 use Rattle.lamport_clock.proofs.Order.{is_eq-same}
 use Rattle.lamport_clock.proofs.Raises.{by_order}
 use Rattle.op_model.specs.declared.operation.Operation.{Operation}
-use Rattle.op_model.specs.Sorted.{Ascending, Each, Member, insert_by}
+use Rattle.op_model.specs.Sorted.{Ascending, Member, insert_by}
 use Rattle.op_model.specs.Operations.{stamp_of, version_of}
 use Rattle.op_model.specs.Histories.{operation_at}
 use Rattle.op_model.specs.Steps.{older}
-use Rattle.op_model.proofs.PathOrder.{same_stamp_eq, same_stamp_refl}
+use Rattle.op_model.proofs.order.PathOrder.{same_stamp_eq, same_stamp_refl}
 use Rattle.deferred_ops.specs.Deferred.{AreListed, Cause, Causes, IsListed, NoneSeen, cause_order, has_cause, is_past, least_ready, misses_nothing, stamp_order, without}
+use Rattle.deferred_ops.proofs.Keyed.{same_sym}
 
 -- ---- numbers that come first in an order
 
@@ -89,7 +91,7 @@ none_seen s r v ks k range first past = λ x t le. elim (cases_Bool (has_cause s
 -- ---- each operation misses a listed cause
 
 abbrev pub AllNone : Causes → Entries → Type 0
-AllNone s v = Each (NoneSeen s) v
+AllNone s v = AllByRecursion (NoneSeen s) v
 
 unseen : (s : Causes) (have : Entries) (r x : ℕ) (t : Lamport) → AllNone s have → has_cause s (r, x, t) ≡ true → 0 < x → entry have r < x
 unseen s [] r x t none has some = some
@@ -165,10 +167,6 @@ same_here : (a : Cause) → is_at (cause_order a) a ≡ true
 same_here a =
     rw (le-ltb a.0 a.0 (omega arith), eq-eqb a.0 a.0 refl, le-ltb a.1 a.1 (omega arith), eq-eqb a.1 a.1 refl) (is_eq-same a.2 a.2 ∙ same_stamp_refl a.2)
 
-same_sym : (t u : Lamport) → same_stamp t u ≡ same_stamp u t
-unfolding same_stamp
-same_sym t u = grind (arith, nat_tests)
-
 older_apart : (t u : Lamport) → later u t ≡ true → same_stamp t u ≡ false
 unfolding later same_stamp
 older_apart t u e = grind (arith, nat_tests)
@@ -190,7 +188,7 @@ module _ (s anew : Causes) (seen : Cause) (stays : (q : Cause) → is_at (cause_
       go false q e later = (listed_on o q listed.0, later e)
 
   -- the operations behind one of that stamp have others
-  behind_listed : (o : Operation) (w : List Operation) → same_stamp (stamp_of o) seen.2 ≡ true → Each (λ y. older o y ≡ true) w → AreListed s w → AreListed anew w
+  behind_listed : (o : Operation) (w : List Operation) → same_stamp (stamp_of o) seen.2 ≡ true → AllByRecursion (λ y. older o y ≡ true) w → AreListed s w → AreListed anew w
   behind_listed o [] here before listed = tt
   behind_listed o (y ∷ w) here before listed =
       let apart : same_stamp (stamp_of y) seen.2 ≡ false =

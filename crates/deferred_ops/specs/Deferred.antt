@@ -10,7 +10,7 @@ use Rattle.std.specs.declared.ops.Bound.TheVariants.{Excluded, Unbounded}
 use Rattle.lamport_clock.specs.declared.stamp.Lamport.{Lamport}
 use Rattle.lamport_clock.specs.Stamps.{later, same_stamp}
 use Rattle.lamport_clock.specs.Versions.{Entries, within}
-use Rattle.op_model.specs.Sorted.{Each, Member}
+use Rattle.op_model.specs.Sorted.{Member}
 use Rattle.op_model.specs.declared.operation.Operation.{Operation}
 use Rattle.op_model.specs.Operations.{stamp_of, version_of}
 
@@ -66,7 +66,7 @@ IsListed s op = (r : ℕ) × (x : ℕ) × (has_cause s (r, x, stamp_of op) ≡ t
 
 -- of each operation that waits a cause is listed
 abbrev pub AreListed : Causes → List Operation → Type 0
-AreListed s w = Each (IsListed s) w
+AreListed s w = AllByRecursion (IsListed s) w
 
 -- no listed cause is one of the replica up to that value
 abbrev pub NoneSeen : Causes → ℕ × ℕ → Type 0

@@ -1,11 +1,11 @@
 //! Causes of what waits, one for each operation, in the order of replicas and values.
 ghost use Rattle.std.specs.Prelude.{◌≡◌, true, IfOk, IfSome, IsNone};
+ghost use Rattle.std.specs.List.{AllByRecursion};
 ghost use Rattle.deferred_ops.specs.Deferred.{IsListed, KeepsCauses, NoneSeen, ListsFor, has_cause};
-ghost use Rattle.op_model.specs.Sorted.{Each};
 
+use crate::OutOfMemory;
 use lamport_clock::Lamport;
 use op_model::Operation;
-use std::alloc::AllocError;
 use std::collections::BTreeSet;
 use std::ops::Bound;
 
@@ -32,7 +32,7 @@ pub fn first_seen(causes: &BTreeSet<Cause>, replica: u16, value: u32) -> Option<
 
 /// Whether no listed cause is seen by the version with these entries. Logarithmic for each entry.
 pub fn are_missed(causes: &BTreeSet<Cause>, have: &[(u16, u32)]) -> bool
-    ensures { result ≡ true → Each (NoneSeen causes.now) have.now }
+    ensures { result ≡ true → AllByRecursion (NoneSeen causes.now) have.now }
 {
     for &entry in have {
         if first_seen(causes, entry.0, entry.1).is_some() {
@@ -43,7 +43,7 @@ pub fn are_missed(causes: &BTreeSet<Cause>, have: &[(u16, u32)]) -> bool
 }
 
 /// Lists a cause of the operation: the first that its version has. False where that is empty, and nothing is listed. Logarithmic.
-pub fn list_cause(causes: &mut BTreeSet<Cause>, op: &Operation) -> Result<bool, AllocError>
+pub fn list_cause(causes: &mut BTreeSet<Cause>, op: &Operation) -> Result<bool, OutOfMemory>
     ensures listed { IfOk result (λ b. b ≡ true → IsListed causes.new op.now) }
     ensures kept { KeepsCauses causes.old causes.new }
 {

@@ -7,10 +7,11 @@ ghost use Rattle.op_model.specs.Histories.{operation_at};
 ghost use Rattle.op_model.specs.Steps.{older};
 ghost use Rattle.deferred_ops.specs.Deferred.{NoneReady, least_ready, without, start_past};
 
+use crate::OutOfMemory;
 use crate::causes::{Cause, are_missed, first_seen, list_cause, replace};
 use lamport_clock::{Lamport, Version};
 use op_model::Operation;
-use std::alloc::{AllocError, Global};
+use std::alloc::Global;
 use std::collections::{BTreeMap, BTreeSet};
 use std::marker::Model;
 use std::ops::Bound;
@@ -36,12 +37,13 @@ impl Model for Deferred {
 
     ghost view = { λ d. values_of d.waiting.entries };
 
-    ghost invariant = { λ d. AreKeyed d.waiting.entries × (d.are_listed ≡ true → AreListed d.causes (values_of d.waiting.entries)) };
+    ghost invariant = { λ d. AreKeyed d.waiting.entries
+        × (d.are_listed ≡ true → AreListed d.causes (values_of d.waiting.entries)) };
 }
 
 impl Deferred {
     /// Nothing waits. This takes no memory yet, so it is always Ok.
-    pub fn new(alloc: Global) -> Result<Deferred, AllocError>
+    pub fn new(alloc: Global) -> Result<Deferred, OutOfMemory>
         ensures empty { IfOk result (λ d. d ≡ []) }
         ensures succeeds { IsOk result }
     {
@@ -62,7 +64,7 @@ impl Deferred {
 
     /// Lets an operation wait; none with its stamp waits yet. Logarithmic in what waits. On want of memory the
     /// operation is dropped.
-    pub fn add(&mut self, op: Operation) -> Result<(), AllocError>
+    pub fn add(&mut self, op: Operation) -> Result<(), OutOfMemory>
         requires { operation_at self.old (stamp_of op) ≡ None }
         ensures ok { OnOk result (self.new ≡ insert_by older op self.old) }
         ensures err { OnErr result (self.new ≡ self.old) }
@@ -74,7 +76,7 @@ impl Deferred {
                 self.are_listed = both(self.are_listed, is_listed);
                 Ok(())
             }
-            Err(_) => Err(AllocError),
+            Err(_) => Err(OutOfMemory),
         }
     }
 

@@ -4,7 +4,7 @@ use Rattle.lamport_clock.specs.Versions.{Entries}
 use Rattle.op_model.specs.declared.anchor.TextEdit.{TextEdit}
 use Rattle.op_model.specs.Histories.{History}
 use Rattle.op_model.specs.Shown.{text}
-use Rattle.op_model.specs.Since.{Fate, fates, runs, number_gone, number_new, changes, edits_of, since, text_at, followed}
+use Rattle.op_model.specs.Since.{Fate, fates, runs, number_gone, number_new, changes, edits_of, since, text_at, apply_edits}
 use Rattle.op_model.proofs.MainLaws.{edits_since_tell_the_change}
 use Rattle.edits_since.specs.Laws.{AreApartFrom, AreApart, EditsTakeThenToNow}
 
@@ -30,6 +30,6 @@ since_apart h v = edits_apart 0 0 (runs (fates h v))
 pub take_then_to_now : EditsTakeThenToNow
 take_then_to_now fs u v es a h m =
     let e : es ≡ since h v = a h m in (
-      ap (λ (z : List TextEdit). followed 0 z (text_at h v) (text h)) e ∙ edits_since_tell_the_change h v m.lawful m.closed,
+      ap (λ (z : List TextEdit). apply_edits 0 z (text_at h v) (text h)) e ∙ edits_since_tell_the_change h v m.lawful m.closed,
       subst AreApart (sym e) (since_apart h v),
     )

@@ -1,30 +1,30 @@
 -- Moves that carry the bytes of fragments back to what a version saw make the text that it saw.
+use Rattle.op_model.proofs.texts.WholeWalks.{texts_of as proper_texts}
 use Rattle.std.proofs.Common.{◌≡◌, ℕ, zero, suc, Bool, true, false, ◌&&◌, cond, List, [], ◌∷◌, ◌++◌, map, get_or, refl, sym, ap, ◌∙◌, arith, inl, inr, ◌⊎◌}
-use Rattle.std.specs.List.{filter}
+use Rattle.std.specs.List.{AllByRecursion, filter}
 use Rattle.std.proofs.lemmas.Bool.{cases_Bool}
 use Rattle.lamport_clock.specs.declared.stamp.Lamport.{Lamport}
 use Rattle.lamport_clock.specs.Stamps.{same_stamp}
 use Rattle.lamport_clock.specs.Versions.{Entries, sees}
 use Rattle.op_model.specs.declared.operation.Operation.{Operation}
-use Rattle.op_model.specs.Sorted.{Each}
 use Rattle.op_model.specs.Domains.{IsProper}
 use Rattle.op_model.specs.Operations.{stamp_of}
 use Rattle.op_model.specs.Histories.{History, In, newest_first}
 use Rattle.op_model.specs.Cells.{Cell, seq, cells}
-use Rattle.op_model.specs.Shown.{byte, deleters, hidden, new_bytes, text}
-use Rattle.op_model.specs.Facts.{Fact, fact, told, alike}
+use Rattle.op_model.specs.Shown.{byte, deleters, hidden_text, new_bytes, text}
+use Rattle.op_model.specs.Facts.{Fact, fact, cell_facts, alike}
 use Rattle.op_model.specs.Walked.{IsWhole, facts_of}
 use Rattle.op_model.specs.Lawful.{Lawful, IsClosed}
-use Rattle.op_model.specs.Since.{text_at, was_shown as was_shown_in}
-use Rattle.op_model.proofs.Lawful.{LawInv}
-use Rattle.op_model.proofs.Good.{lawful_ready}
-use Rattle.op_model.proofs.PathOrder.{same_stamp_eq}
-use Rattle.op_model.proofs.SameSets.{newest_same}
-use Rattle.op_model.proofs.ClosedVersions.{shown_closed}
+use Rattle.op_model.specs.Since.{text_at, is_shown_at as was_shown_in}
+use Rattle.op_model.proofs.histories.Lawful.{LawInv}
+use Rattle.op_model.proofs.answers.Good.{lawful_ready}
+use Rattle.op_model.proofs.order.PathOrder.{same_stamp_eq}
+use Rattle.op_model.proofs.order.SameSets.{newest_same}
+use Rattle.op_model.proofs.histories.ClosedVersions.{shown_closed}
 use Rattle.op_model.proofs.MainLaws.{texts_at_closed_versions}
-use Rattle.op_model.proofs.WholeTexts.{byte_of}
-use Rattle.op_model.proofs.WholeRuns.{byte_new}
-use Rattle.op_model.proofs.Utf8Runs.{bytes}
+use Rattle.op_model.proofs.texts.WholeTexts.{byte_of}
+use Rattle.op_model.proofs.texts.WholeRuns.{byte_new}
+use Rattle.op_model.proofs.texts.Utf8Runs.{bytes}
 use Rattle.undo_map.specs.declared.entry.UndoEntry.{UndoEntry}
 use Rattle.undo_map.specs.Undos.{undo_entries}
 use Rattle.fragments.specs.declared.fragment.Fragment.{Fragment}
@@ -35,7 +35,7 @@ use Rattle.remote_edit.specs.Moves.{Texts, after_moves, TakeTexts}
 use Rattle.remote_edit.specs.Carried.{Carried, IsText, shown_bytes}
 use Rattle.remote_edit.proofs.Marks.{was_told}
 use Rattle.remote_edit.proofs.Texts.{text_bytes, hidden_text_bytes}
-use Rattle.remote_edit.proofs.WholeFragments.{proper_texts, texts_are, whole_runs}
+use Rattle.remote_edit.proofs.WholeFragments.{texts_are, whole_runs}
 use Rattle.edits_since.specs.Fates.{was_in_text}
 use Rattle.edits_since.specs.Back.{AreMovesBack, TakeCharacters}
 use Rattle.edits_since.proofs.Walking.{IsSettled}
@@ -78,7 +78,7 @@ module _ (h : History) (v : Entries) (l : Lawful h) (k : IsClosed h v) where
       pick true e = ap (λ (x : ℕ). x ∷ bytes (byte_of h) others) (byte_new h laws.distinct c.stamp c.k) ∙ ap (λ (z : List ℕ). byte h c ∷ z) e
       pick false e = e
 
-  text_seen : (fs : List Fragment) (u : List UndoEntry) → u ≡ undo_entries h → facts_of (runs fs) ≡ told h → shown_bytes (byte_of h) (map (as_seen u v) fs) ≡ text_at h v
+  text_seen : (fs : List Fragment) (u : List UndoEntry) → u ≡ undo_entries h → facts_of (runs fs) ≡ cell_facts h → shown_bytes (byte_of h) (map (as_seen u v) fs) ≡ text_at h v
   text_seen fs u e t =
       ap (λ (w : List UndoEntry). shown_bytes (byte_of h) (map (as_seen w v) fs)) e
       ∙ ap (λ (s : List Fact). bytes (byte_of h) (filter (λ (q : Fact). q.visible) s)) (facts_seen (undo_entries h) v fs)
@@ -104,9 +104,9 @@ module _ (h : History) (v : Entries) (l : Lawful h) (k : IsClosed h v) where
   of_nobody : (j : ℕ) → byte_of h (record { stamp = nobody; k = j }) ≡ get_or [] j 0
   of_nobody j = ap (λ (x : List ℕ). get_or x j 0) (no_bytes (newest_first h) (λ o i. positive o ((newest_same h o).0 i)))
 
-  module _ (fs : List Fragment) (u : List UndoEntry) (ms : List Move) (counts : u ≡ undo_entries h) (tell : facts_of (runs fs) ≡ told h) (c : CarryBack fs u v ms) where
-    carried : Carried (byte_of h) nobody (text h) (hidden h) [] ms (map (as_seen u v) fs) [] 0
-    carried = c nobody (byte_of h) (text h) (hidden h) [] (omega arith) (record {
+  module _ (fs : List Fragment) (u : List UndoEntry) (ms : List Move) (counts : u ≡ undo_entries h) (tell : facts_of (runs fs) ≡ cell_facts h) (c : CarryBack fs u v ms) where
+    carried : Carried (byte_of h) nobody (text h) (hidden_text h) [] ms (map (as_seen u v) fs) [] 0
+    carried = c nobody (byte_of h) (text h) (hidden_text h) [] (omega arith) (record {
       moves = record {
         put = refl;
         left_shown = sym (text_bytes h fs tell);
@@ -117,19 +117,19 @@ module _ (h : History) (v : Entries) (l : Lawful h) (k : IsClosed h v) where
       characters = λ x. tt;
     })
 
-    text_back : (after_moves ms (text h) (hidden h) []).shown ≡ text_at h v
+    text_back : (after_moves ms (text h) (hidden_text h) []).shown ≡ text_at h v
     text_back = ap (λ (x : Texts). x.shown) carried.moves.put ∙ text_seen fs u counts tell
 
-    each_seen : (gs : List Fragment) → Each (IsText (byte_of h)) gs → Each (IsText (byte_of h)) (map (as_seen u v) gs)
+    each_seen : (gs : List Fragment) → AllByRecursion (IsText (byte_of h)) gs → AllByRecursion (IsText (byte_of h)) (map (as_seen u v) gs)
     each_seen [] e = tt
     each_seen (g ∷ gs) e = (e.0, each_seen gs e.1)
 
-    take_texts : Each IsProper h → Each (IsWhole h) (runs fs) → TakeTexts ms (text h) (hidden h) []
+    take_texts : AllByRecursion IsProper h → AllByRecursion (IsWhole h) (runs fs) → TakeTexts ms (text h) (hidden_text h) []
     take_texts p w = carried.characters (each_seen fs (texts_are (byte_of h) fs (whole_runs h l (proper_texts h p) (runs fs) w)))
 
 -- ---- where the fragments stand for the history
 
-module _ (fs : List Fragment) (u : List UndoEntry) (v : Entries) (ms : List Move) (c : Each (IsSettled u v) fs → CarryBack fs u v ms) where
+module _ (fs : List Fragment) (u : List UndoEntry) (v : Entries) (ms : List Move) (c : AllByRecursion (IsSettled u v) fs → CarryBack fs u v ms) where
   pub moves_are_back : AreMovesBack fs u v ms
   moves_are_back h m = text_back h v m.lawful m.closed fs u ms m.stands.counts m.stands.cells (c (settled fs u v h m))
 

@@ -1,10 +1,9 @@
 -- The fragments that a walk finds of which a version has not seen all.
 use Rattle.std.proofs.Common.{◌≡◌, ℕ, zero, suc, ◌+◌, ◌<◌, ◌≤◌, min, List, [], ◌∷◌, ◌++◌, length, take, drop, sym, ap, ◌∙◌, arith, Option, Some, None, append_assoc, append-nil, length-append}
 use Rattle.std.proofs.Math.Seq.{drop-append_seam}
-use Rattle.std.specs.List.{slice_get}
+use Rattle.std.specs.List.{AllByRecursion, slice_get}
 use Rattle.tree_cursor.specs.Places.{place_behind, filter_count}
 use Rattle.lamport_clock.specs.Versions.{Entries}
-use Rattle.op_model.specs.Sorted.{Each}
 use Rattle.fragments.specs.declared.fragment.Fragment.{Fragment}
 use Rattle.fragments.specs.Summaries.{summary_of}
 use Rattle.remote_edit.specs.Passed.{move_passed}
@@ -43,7 +42,7 @@ module _ (v w : Entries) (fs items pre rest : List Fragment) (shown hidden next 
     pub xs : List Fragment
     pub ahead : List Fragment
     pub parts : rest ≡ xs ++ x ∷ ahead
-    pub unkept : Each (Unkept (may_differ v) summary_of) xs
+    pub unkept : AllByRecursion (Unkept (may_differ v) summary_of) xs
     pub whole : fs ≡ (pre ++ xs) ++ x ∷ ahead
     pub count : i ≡ length (pre ++ xs)
     pub start : IsBehind s h (pre ++ xs)
@@ -96,7 +95,7 @@ module _ (v w : Entries) (fs items pre rest : List Fragment) (shown hidden next 
 
   -- no further one comes: all ends at s, h
   pub record Done (s h : ℕ) : Type 0 where
-    pub unkept : Each (Unkept (may_differ v) summary_of) rest
+    pub unkept : AllByRecursion (Unkept (may_differ v) summary_of) rest
     pub start : IsBehind s h (pre ++ rest)
 
   pub find_end : (items2 : List Fragment) (i s h v0 h0 : ℕ) → items2 ≡ items → slice_get items (next + over) ≡ None → i ≡ next + over → v0 ≡ 0 → h0 ≡ 0

@@ -1,12 +1,12 @@
 -- What takes the texts back to those that a version saw, on the way.
+use Rattle.remote_edit.proofs.PassedPlaces.{shown_append_len as shown_append, hidden_append_len as hidden_append}
+use Rattle.op_model.proofs.Elements.{each_left, each_right}
 use Rattle.std.proofs.Common.{◌≡◌, ℕ, ◌+◌, ◌-◌, ◌<◌, ◌≤◌, min, Bool, List, [], ◌∷◌, ◌++◌, length, map, take, drop, refl, sym, ap, ◌∙◌, arith, subst, Some, None, append-nil}
-use Rattle.std.specs.List.{slice_get}
+use Rattle.std.specs.List.{AllByRecursion, slice_get}
 use Rattle.std.proofs.lemmas.List.{map-append}
 use Rattle.tree_cursor.specs.Places.{place_behind, filter_count}
 use Rattle.lamport_clock.specs.declared.stamp.Lamport.{Lamport}
 use Rattle.lamport_clock.specs.Versions.{Entries}
-use Rattle.op_model.specs.Sorted.{Each}
-use Rattle.op_model.proofs.WholeTexts.{each_left, each_right}
 use Rattle.undo_map.specs.declared.entry.UndoEntry.{UndoEntry}
 use Rattle.fragments.specs.declared.fragment.Fragment.{Fragment}
 use Rattle.fragments.specs.Summaries.{summary_of}
@@ -17,7 +17,7 @@ use Rattle.remote_edit.specs.Moves.{with_move}
 use Rattle.remote_edit.specs.Carried.{move_for, hidden_len, CarryOn}
 use Rattle.remote_edit.specs.Passed.{move_passed}
 use Rattle.remote_edit.proofs.Carrying.{go_on, stay, on_one, on_stretch}
-use Rattle.remote_edit.proofs.UndoMoves.{both, IsBehind, Unkept, shown_append, hidden_append}
+use Rattle.remote_edit.proofs.UndoMoves.{both, IsBehind, Unkept}
 use Rattle.edits_since.specs.Fates.{was_in_text}
 use Rattle.edits_since.specs.Differs.{may_differ}
 use Rattle.edits_since.proofs.Walking.{IsSettled}
@@ -32,7 +32,7 @@ abbrev pub CarryBack : List Fragment → List UndoEntry → Entries → List Mov
 CarryBack fs u v ms = (t : Lamport) → CarryOn t [] [] fs 0 ms (map (as_seen u v) fs) [] 0
 
 -- fragments of which the version has seen all stay
-all_stay : (u : List UndoEntry) (v : Entries) (xs : List Fragment) → Each (Unkept (may_differ v) summary_of) xs → Each (IsSettled u v) xs → map (as_seen u v) xs ≡ xs
+all_stay : (u : List UndoEntry) (v : Entries) (xs : List Fragment) → AllByRecursion (Unkept (may_differ v) summary_of) xs → AllByRecursion (IsSettled u v) xs → map (as_seen u v) xs ≡ xs
 all_stay u v [] n e = refl
 all_stay u v (x ∷ xs) n e = ap (λ (b : Bool). record x { visible = b } ∷ map (as_seen u v) xs) (e.0 n.0) ∙ ap (λ (z : List Fragment). x ∷ z) (all_stay u v xs n.1 e.1)
 
@@ -41,7 +41,7 @@ pub record Moving (u : List UndoEntry) (v : Entries) (fs : List Fragment) (ms : 
   pub pre : List Fragment
   pub rest : List Fragment
   pub place : Place fs pre rest shown hidden next
-  pub carry : Each (IsSettled u v) fs → (t : Lamport) → CarryOn t [] [] fs 0 ms (map (as_seen u v) pre) rest 0
+  pub carry : AllByRecursion (IsSettled u v) fs → (t : Lamport) → CarryOn t [] [] fs 0 ms (map (as_seen u v) pre) rest 0
 
 pub begin : (u : List UndoEntry) (v : Entries) (fs : List Fragment) (ms : List Move) (shown hidden next : ℕ) → ms ≡ [] → shown ≡ 0 → hidden ≡ 0 → next ≡ 0 → Moving u v fs ms shown hidden next
 begin u v fs ms shown hidden next a b c d = record {
@@ -60,13 +60,13 @@ module _ (u : List UndoEntry) (v w : Entries) (fs items : List Fragment) (ms : L
   kept s h = with_move (with_move ms (Visible (s - shown))) (Hidden (h - hidden))
 
   -- a stretch that is passed over
-  stretch : (xs ys : List Fragment) (s h : ℕ) → p.rest ≡ xs ++ ys → Each (Unkept (may_differ v) summary_of) xs → IsBehind s h (p.pre ++ xs) → Each (IsSettled u v) fs → (t : Lamport)
+  stretch : (xs ys : List Fragment) (s h : ℕ) → p.rest ≡ xs ++ ys → AllByRecursion (Unkept (may_differ v) summary_of) xs → IsBehind s h (p.pre ++ xs) → AllByRecursion (IsSettled u v) fs → (t : Lamport)
       → CarryOn t [] [] fs 0 (kept s h) (map (as_seen u v) (p.pre ++ xs)) ys 0
   stretch xs ys s h e n b k t =
       let m : Fragment → Fragment = as_seen u v in
       let c : CarryOn t [] [] fs 0 ms (map m p.pre) (xs ++ ys) 0 = subst (λ (z : List Fragment). CarryOn t [] [] fs 0 ms (map m p.pre) z 0) e (p.carry k t) in
       let d : CarryOn t [] [] fs 0 (with_move (with_move ms (Visible (shown_len xs))) (Hidden (hidden_len xs))) (map m p.pre ++ xs) ys 0 = go_on (omega arith) c (on_stretch xs ys) in
-      let settled : Each (IsSettled u v) xs = each_left (IsSettled u v) xs ys (subst (Each (IsSettled u v)) e (each_right (IsSettled u v) p.pre p.rest (subst (Each (IsSettled u v)) p.place.whole k))) in
+      let settled : AllByRecursion (IsSettled u v) xs = each_left (IsSettled u v) xs ys (subst (AllByRecursion (IsSettled u v)) e (each_right (IsSettled u v) p.pre p.rest (subst (AllByRecursion (IsSettled u v)) p.place.whole k))) in
       let out : map m p.pre ++ xs ≡ map m (p.pre ++ xs) = ap (λ (z : List Fragment). map m p.pre ++ z) (sym (all_stay u v xs n settled)) ∙ sym (map-append m p.pre xs) in
       let x : shown_len xs ≡ s - shown = let a = b.shown_is in let o = p.place.at.shown_is in let q = shown_append p.pre xs in omega arith in
       let y : hidden_len xs ≡ h - hidden = let a = b.hidden_is in let o = p.place.at.hidden_is in let q = hidden_append p.pre xs in omega arith in
@@ -128,7 +128,7 @@ module _ (u : List UndoEntry) (v w : Entries) (fs items : List Fragment) (ms : L
   pub record Ended (s h : ℕ) : Type 0 where
     pub low : shown ≤ s
     pub low_hidden : hidden ≤ h
-    pub carry : (ms1 : List Move) → ms1 ≡ kept s h → Each (IsSettled u v) fs → CarryBack fs u v ms1
+    pub carry : (ms1 : List Move) → ms1 ≡ kept s h → AllByRecursion (IsSettled u v) fs → CarryBack fs u v ms1
 
   pub end : (items2 : List Fragment) (i s h v0 h0 : ℕ) → items2 ≡ items → slice_get items (next + over) ≡ None → i ≡ next + over → v0 ≡ 0 → h0 ≡ 0
       → both s h ≡ place_behind move_passed summary_of (both v0 h0) (take i items2) → Ended s h

@@ -1,26 +1,24 @@
 -- What fragments that stand for a history say of its fates.
 use Rattle.std.proofs.Common.{◌≡◌, ℕ, zero, suc, ◌%◌, ◌<◌, ◌⊎◌, max, eqb, Bool, true, false, ◌&&◌, List, [], ◌∷◌, ◌++◌, map, refl, sym, ap, ◌∙◌, subst, arith, inl, inr}
-use Rattle.std.specs.List.{filter}
+use Rattle.std.specs.List.{AllByRecursion, filter}
 use Rattle.std.proofs.lemmas.Bool.{cases_Bool}
 use Rattle.lamport_clock.specs.declared.stamp.Lamport.{Lamport}
 use Rattle.lamport_clock.specs.Stamps.{same_stamp}
-use Rattle.lamport_clock.specs.Versions.{Entries, joined, sees}
+use Rattle.lamport_clock.specs.Versions.{Entries, join_versions, sees}
 use Rattle.op_model.specs.declared.anchor.TextEdit.{TextEdit}
 use Rattle.op_model.specs.declared.operation.Operation.{Operation}
 use Rattle.op_model.specs.declared.operation.UndoCount.{UndoCount}
-use Rattle.op_model.specs.Sorted.{Each, Member}
+use Rattle.op_model.specs.Sorted.{Member}
 use Rattle.op_model.specs.Operations.{stamp_of, counts_of}
-use Rattle.op_model.specs.Histories.{History, In, newest_first, seen}
+use Rattle.op_model.specs.Histories.{History, In, seen_history}
 use Rattle.op_model.specs.Cells.{Cell, seq, cells}
-use Rattle.op_model.specs.Shown.{given, count, undone, all_undone, deleters, shown, shown_where}
-use Rattle.op_model.specs.Facts.{Fact, fact, told, alike as alike_facts, seen_by, was_visible}
+use Rattle.op_model.specs.Shown.{greatest_given, count, undone, all_undone, deleters, shown}
+use Rattle.op_model.specs.Facts.{Fact, fact, cell_facts, alike as alike_facts, seen_by, was_visible}
 use Rattle.op_model.specs.Walked.{run_facts, facts_of}
 use Rattle.op_model.specs.Lawful.{Lawful, IsClosed}
-use Rattle.op_model.specs.Since.{Fate, fate, fates, was_shown as was_shown_in, runs as fate_runs, edits_of, since}
-use Rattle.op_model.proofs.Deleters.{kept_all}
-use Rattle.op_model.proofs.OnePass.{undone_newest, all_newest}
-use Rattle.op_model.proofs.ClosedVersions.{shown_closed}
-use Rattle.op_model.proofs.PathOrder.{same_stamp_eq, same_stamp_refl}
+use Rattle.op_model.specs.Since.{Fate, fate, fates, is_shown_at as was_shown_in, runs as fate_runs, edits_of, since}
+use Rattle.op_model.proofs.histories.ClosedVersions.{shown_closed}
+use Rattle.op_model.proofs.order.PathOrder.{same_stamp_eq, same_stamp_refl}
 use Rattle.undo_map.specs.declared.entry.UndoEntry.{UndoEntry}
 use Rattle.undo_map.specs.Undos.{undo_entries}
 use Rattle.fragments.specs.declared.fragment.Fragment.{Fragment}
@@ -33,13 +31,15 @@ use Rattle.edits_since.specs.Fates.{was_in_text, alike, fates_of}
 use Rattle.edits_since.specs.Differs.{may_differ, sees_within, all_within}
 use Rattle.edits_since.specs.Telling.{MayTell}
 use Rattle.edits_since.proofs.Walking.{IsSettled}
+use Rattle.op_model.proofs.Elements.{each_right}
+use Rattle.remote_edit.proofs.UndoStands.{shown_seen}
 
 -- ---- the fates of a history are those of its fragments
 
 abbrev told_fate : List UndoEntry → Entries → Fact → Fate
 told_fate u v q = fate (sees v q.cell.stamp && was_shown u v q.cell.stamp q.deletions) q.visible
 
-told_fates : (h : History) (v : Entries) → Lawful h → IsClosed h v → fates h v ≡ map (told_fate (undo_entries h) v) (told h)
+told_fates : (h : History) (v : Entries) → Lawful h → IsClosed h v → fates h v ≡ map (told_fate (undo_entries h) v) (cell_facts h)
 told_fates h v l k = go (cells (seq h))
   where
     was_is : (c : Cell) → was_shown_in h v c ≡ (sees v c.stamp && was_shown (undo_entries h) v c.stamp (deleters h c))
@@ -75,20 +75,16 @@ IsTold h q = (q.visible ≡ shown h q.cell) × (q.deletions ≡ deleters h q.cel
 abbrev HasCell : History → Fragment → Type 0
 HasCell h f = (c : Cell) × (c.stamp ≡ f.stamp) × (f.visible ≡ shown h c) × (f.deletions ≡ deleters h c)
 
-all_told : (h : History) (s : List Cell) → Each (IsTold h) (map (fact h) s)
+all_told : (h : History) (s : List Cell) → AllByRecursion (IsTold h) (map (fact h) s)
 all_told h [] = tt
 all_told h (c ∷ s) = ((refl, refl), all_told h s)
 
-each_right : {A : Type 0} (P : A → Type 0) (xs ys : List A) → Each P (xs ++ ys) → Each P ys
-each_right P [] ys e = e
-each_right P (x ∷ xs) ys e = each_right P xs ys e.1
-
-first_cell : (h : History) (t : Lamport) (k n : ℕ) (b : Bool) (d : List Lamport) (s : List Fact) → 0 < n → Each (IsTold h) (alike_facts t k n b d ++ s)
+first_cell : (h : History) (t : Lamport) (k n : ℕ) (b : Bool) (d : List Lamport) (s : List Fact) → 0 < n → AllByRecursion (IsTold h) (alike_facts t k n b d ++ s)
     → (c : Cell) × (c.stamp ≡ t) × (b ≡ shown h c) × (d ≡ deleters h c)
 first_cell h t k zero b d s l e = absurd (omega arith)
 first_cell h t k (suc n) b d s l e = (record { stamp = t; k = k }, refl, e.0.0, e.0.1)
 
-have_cells : (h : History) (fs : List Fragment) → Each IsFilled fs → Each (IsTold h) (facts_of (runs fs)) → Each (HasCell h) fs
+have_cells : (h : History) (fs : List Fragment) → AllByRecursion IsFilled fs → AllByRecursion (IsTold h) (facts_of (runs fs)) → AllByRecursion (HasCell h) fs
 have_cells h [] l e = tt
 have_cells h (f ∷ fs) l e = (
   first_cell h f.stamp f.offset f.len f.visible f.deletions (facts_of (runs fs)) l.0.0 e,
@@ -97,7 +93,7 @@ have_cells h (f ∷ fs) l e = (
 
 -- ---- what was counted at a version
 
-given_none : (cs : List UndoCount) (t : Lamport) → ((c : UndoCount) → Member c cs → c.edit ≡ t → ⊥) → given cs t ≡ 0
+given_none : (cs : List UndoCount) (t : Lamport) → ((c : UndoCount) → Member c cs → c.edit ≡ t → ⊥) → greatest_given cs t ≡ 0
 given_none [] t f = refl
 given_none (c ∷ cs) t f = elim (cases_Bool (same_stamp c.edit t)) [
   | inl e ↦ absurd (f c (inl refl) (same_stamp_eq c.edit t e))
@@ -105,47 +101,43 @@ given_none (c ∷ cs) t f = elim (cases_Bool (same_stamp c.edit t)) [
 ]
 
 -- a version that sees all undos that count an edit counts it as all do
-count_seen : (h : History) (v : Entries) (t : Lamport) → ((op : Operation) → In h op → (c : UndoCount) → Member c (counts_of op) → c.edit ≡ t → sees v (stamp_of op) ≡ true) → count (seen h v) t ≡ count h t
+count_seen : (h : History) (v : Entries) (t : Lamport) → ((op : Operation) → In h op → (c : UndoCount) → Member c (counts_of op) → c.edit ≡ t → sees v (stamp_of op) ≡ true) → count (seen_history h v) t ≡ count h t
 count_seen [] v t f = refl
 count_seen (op ∷ h) v t f = go (cases_Bool (sees v (stamp_of op))) (count_seen h v t (λ o i c m e. f o (inr i) c m e))
   where
-    go : (sees v (stamp_of op) ≡ true) ⊎ (sees v (stamp_of op) ≡ false) → count (seen h v) t ≡ count h t → count (seen (op ∷ h) v) t ≡ count (op ∷ h) t
-    go (inl e) ih = rw e (ap (max (given (counts_of op) t)) ih)
+    go : (sees v (stamp_of op) ≡ true) ⊎ (sees v (stamp_of op) ≡ false) → count (seen_history h v) t ≡ count h t → count (seen_history (op ∷ h) v) t ≡ count (op ∷ h) t
+    go (inl e) ih = rw e (ap (max (greatest_given (counts_of op) t)) ih)
     go (inr e) ih =
-        let z : given (counts_of op) t ≡ 0 = given_none (counts_of op) t (λ c m q. let s = f op (inl refl) c m q in cc) in
-        rw e (let g : count h t ≡ max (given (counts_of op) t) (count h t) = omega (arith, z) in ih ∙ g)
+        let z : greatest_given (counts_of op) t ≡ 0 = given_none (counts_of op) t (λ c m q. let s = f op (inl refl) c m q in cc) in
+        rw e (let g : count h t ≡ max (greatest_given (counts_of op) t) (count h t) = omega (arith, z) in ih ∙ g)
 
-undone_seen : (h : History) (v : Entries) (t : Lamport) → count (seen h v) t ≡ count h t → undone (seen h v) t ≡ undone h t
+undone_seen : (h : History) (v : Entries) (t : Lamport) → count (seen_history h v) t ≡ count h t → undone (seen_history h v) t ≡ undone h t
 undone_seen h v t e = ap (λ (n : ℕ). eqb (n % 2) 1) e
 
-all_seen : (h : History) (v : Entries) (d : List Lamport) → ((t : Lamport) → Member t d → (sees v t ≡ true) × (count (seen h v) t ≡ count h t)) → all_undone (seen h v) (filter (sees v) d) ≡ all_undone h d
+all_seen : (h : History) (v : Entries) (d : List Lamport) → ((t : Lamport) → Member t d → (sees v t ≡ true) × (count (seen_history h v) t ≡ count h t)) → all_undone (seen_history h v) (filter (sees v) d) ≡ all_undone h d
 all_seen h v [] f = refl
 all_seen h v (t ∷ d) f = rw ((f t (inl refl)).0, undone_seen h v t (f t (inl refl)).1, all_seen h v d (λ s m. f s (inr m))) refl
 
 -- ---- a fragment of which a version has seen all was in its text where it is shown now
-
-shown_now : (h : History) (c : Cell) → shown h c ≡ seen_by h c.stamp (deleters h c)
-unfolding shown shown_where
-shown_now h c = rw (kept_all (newest_first h), undone_newest h c.stamp, all_newest h (deleters h c)) refl
 
 module _ (h : History) (v : Entries) (f : Fragment) (u : List UndoEntry) (counts : u ≡ undo_entries h) (undos : SeesUndos h f) (unchanged : may_differ v (summary_of f) ≡ false) where
   in_version : (t : Lamport) → sees (summary_of f).greatest t ≡ true → sees v t ≡ true
   in_version t s = sees_within (summary_of f).greatest v t (all_within v (summary_of f) unchanged) s
 
   sees_edit : (t : Lamport) → Member t (f.stamp ∷ f.deletions) → sees v t ≡ true
-  sees_edit t m = in_version t (stamps_seen (f.stamp ∷ f.deletions) (joined [] f.max_undos) t (any_member (same_stamp t) (f.stamp ∷ f.deletions) t m (same_stamp_refl t)))
+  sees_edit t m = in_version t (stamps_seen (f.stamp ∷ f.deletions) (join_versions [] f.max_undos) t (any_member (same_stamp t) (f.stamp ∷ f.deletions) t m (same_stamp_refl t)))
 
   sees_undo : (t : Lamport) → sees f.max_undos t ≡ true → sees v t ≡ true
-  sees_undo t s = in_version t (sees_stamps (f.stamp ∷ f.deletions) (joined [] f.max_undos) t ((sees_joined [] f.max_undos t).1 s))
+  sees_undo t s = in_version t (sees_stamps (f.stamp ∷ f.deletions) (join_versions [] f.max_undos) t ((sees_joined [] f.max_undos t).1 s))
 
-  counts_same : (t : Lamport) → Member t (f.stamp ∷ f.deletions) → count (seen h v) t ≡ count h t
+  counts_same : (t : Lamport) → Member t (f.stamp ∷ f.deletions) → count (seen_history h v) t ≡ count h t
   counts_same t m = count_seen h v t (λ op i c k e. sees_undo (stamp_of op) (undos op i c k (subst (λ (s : Lamport). Member s (f.stamp ∷ f.deletions)) (sym e) m)))
 
-  was_now : was_visible (seen h v) v f.stamp f.deletions ≡ seen_by h f.stamp f.deletions
+  was_now : was_visible (seen_history h v) v f.stamp f.deletions ≡ seen_by h f.stamp f.deletions
   was_now = rw (undone_seen h v f.stamp (counts_same f.stamp (inl refl)), all_seen h v f.deletions (λ t m. (sees_edit t (inr m), counts_same t (inr m)))) refl
 
   by_counts : HasCell h f → f.visible ≡ seen_by h f.stamp f.deletions
-  by_counts k = k.2 ∙ shown_now h k.0 ∙ ap (λ (t : Lamport). seen_by h t (deleters h k.0)) k.1 ∙ ap (seen_by h f.stamp) (sym k.3)
+  by_counts k = k.2 ∙ shown_seen h k.0 ∙ ap (λ (t : Lamport). seen_by h t (deleters h k.0)) k.1 ∙ ap (seen_by h f.stamp) (sym k.3)
 
   same_then : HasCell h f → was_in_text u v f ≡ f.visible
   same_then k =
@@ -153,14 +145,14 @@ module _ (h : History) (v : Entries) (f : Fragment) (u : List UndoEntry) (counts
       ∙ ap (λ (b : Bool). b && was_shown (undo_entries h) v f.stamp f.deletions) (sees_edit f.stamp (inl refl))
       ∙ sym (was_told h v f.stamp f.deletions) ∙ was_now ∙ sym (by_counts k)
 
-all_settled : (h : History) (v : Entries) (u : List UndoEntry) (fs : List Fragment) → u ≡ undo_entries h → Each (HasCell h) fs → Each (SeesUndos h) fs → Each (IsSettled u v) fs
+all_settled : (h : History) (v : Entries) (u : List UndoEntry) (fs : List Fragment) → u ≡ undo_entries h → AllByRecursion (HasCell h) fs → AllByRecursion (SeesUndos h) fs → AllByRecursion (IsSettled u v) fs
 all_settled h v u [] e c s = tt
 all_settled h v u (f ∷ fs) e c s = ((λ n. same_then h v f u e s.0 n c.0), all_settled h v u fs e c.1 s.1)
 
-pub settled : (fs : List Fragment) (u : List UndoEntry) (v : Entries) (h : History) → MayTell fs u v h → Each (IsSettled u v) fs
-settled fs u v h m = all_settled h v u fs m.stands.counts (have_cells h fs m.stands.filled (subst (Each (IsTold h)) (sym m.stands.cells) (all_told h (cells (seq h))))) m.stands.undos
+pub settled : (fs : List Fragment) (u : List UndoEntry) (v : Entries) (h : History) → MayTell fs u v h → AllByRecursion (IsSettled u v) fs
+settled fs u v h m = all_settled h v u fs m.stands.counts (have_cells h fs m.stands.filled (subst (AllByRecursion (IsTold h)) (sym m.stands.cells) (all_told h (cells (seq h))))) m.stands.undos
 
-pub since_is : (fs : List Fragment) (u : List UndoEntry) (v : Entries) (es : List TextEdit) → (Each (IsSettled u v) fs → es ≡ edits_of 0 0 (fate_runs (fates_of u v fs)))
+pub since_is : (fs : List Fragment) (u : List UndoEntry) (v : Entries) (es : List TextEdit) → (AllByRecursion (IsSettled u v) fs → es ≡ edits_of 0 0 (fate_runs (fates_of u v fs)))
     → (h : History) → MayTell fs u v h → es ≡ since h v
 unfolding since
 since_is fs u v es f h m = f (settled fs u v h m) ∙ ap (λ (s : List Fate). edits_of 0 0 (fate_runs s)) (sym (fates_are fs u v h m))

@@ -1,12 +1,11 @@
 -- One walk over fragments, which goes over those of which the version has seen all in one step.
+use Rattle.op_model.proofs.Elements.{each_left, each_right}
 use Rattle.std.proofs.Common.{◌≡◌, ℕ, zero, suc, ◌+◌, ◌-◌, ◌<◌, ◌≤◌, ◌^◌, min, Bool, true, false, cond, List, [], ◌∷◌, ◌++◌, length, take, drop, refl, sym, ap, ◌∙◌, arith, subst, Some, None, append_assoc, append-nil, ne_eqb}
-use Rattle.std.specs.List.{slice_get}
+use Rattle.std.specs.List.{AllByRecursion, slice_get}
 use Rattle.sum_tree.specs.Laws.{fold}
 use Rattle.tree_cursor.specs.Places.{place_behind, filter_count}
 use Rattle.lamport_clock.specs.Versions.{Entries}
 use Rattle.op_model.specs.declared.anchor.TextEdit.{TextEdit}
-use Rattle.op_model.specs.Sorted.{Each}
-use Rattle.op_model.proofs.WholeTexts.{each_left, each_right}
 use Rattle.op_model.specs.Since.{Fate, fate, runs, edits_of}
 use Rattle.op_model.specs.Since.Fate.{Kept}
 use Rattle.undo_map.specs.declared.entry.UndoEntry.{UndoEntry}
@@ -72,7 +71,7 @@ module _ (u : List UndoEntry) (v : Entries) where
       ∙ sym (append_assoc (alike x.len (fate (was_in_text u v x) x.visible)) (f_of xs) (f_of ys))
 
   -- what is gone over in one step counts as its shown cells, all kept
-  same_over : (xs : List Fragment) (s : List Fate) → Each (Unkept (may_differ v) summary_of) xs → Each (IsSettled u v) xs → Same (f_of xs ++ s) (alike (shown_len xs) Kept ++ s)
+  same_over : (xs : List Fragment) (s : List Fate) → AllByRecursion (Unkept (may_differ v) summary_of) xs → AllByRecursion (IsSettled u v) xs → Same (f_of xs ++ s) (alike (shown_len xs) Kept ++ s)
   same_over [] s n e = λ old new g m. refl
   same_over (x ∷ xs) s n e = λ old new g m.
       ap (λ (z : List Fate). edits_on old new g m z) (append_assoc (alike x.len (fate (was_in_text u v x) x.visible)) (f_of xs) s)
@@ -91,7 +90,7 @@ pub record Walking (u : List UndoEntry) (v : Entries) (fs : List Fragment) (r : 
   pub place : Place fs pre rest shown hidden next
   pub old_low : old_end r ≤ total pre
   pub new_low : new_end r ≡ shown_len pre
-  pub edits : Each (IsSettled u v) fs → with_fates r (fates_of u v rest) ≡ edits_of 0 0 (runs (fates_of u v fs))
+  pub edits : AllByRecursion (IsSettled u v) fs → with_fates r (fates_of u v rest) ≡ edits_of 0 0 (runs (fates_of u v fs))
 
 pub begin : (u : List UndoEntry) (v : Entries) (fs : List Fragment) (r : OpenRun) (shown hidden next : ℕ) → r ≡ at_start → shown ≡ 0 → hidden ≡ 0 → next ≡ 0 → Walking u v fs r shown hidden next
 begin u v fs r shown hidden next a b c d = record {
@@ -115,9 +114,9 @@ module _ (u : List UndoEntry) (v w : Entries) (fs items : List Fragment) (r : Op
     pub new_room : new_end r + (s - shown) + total ys < 2 ^ 64
     pub old_low : old_end r + (s - shown) ≤ total (p.pre ++ xs)
     pub new_low : new_end r + (s - shown) ≡ shown_len (p.pre ++ xs)
-    pub edits : Each (IsSettled u v) fs → with_fates (with_kept (s - shown) r) (fates_of u v ys) ≡ edits_of 0 0 (runs (fates_of u v fs))
+    pub edits : AllByRecursion (IsSettled u v) fs → with_fates (with_kept (s - shown) r) (fates_of u v ys) ≡ edits_of 0 0 (runs (fates_of u v fs))
 
-  stretch : (xs ys : List Fragment) (s h : ℕ) → p.rest ≡ xs ++ ys → Each (Unkept (may_differ v) summary_of) xs → IsBehind s h (p.pre ++ xs) → Over xs ys s
+  stretch : (xs ys : List Fragment) (s h : ℕ) → p.rest ≡ xs ++ ys → AllByRecursion (Unkept (may_differ v) summary_of) xs → IsBehind s h (p.pre ++ xs) → Over xs ys s
   stretch xs ys s h e n b =
       let a = b.shown_is in let o = p.place.at.shown_is in let q = shown_append_len p.pre xs in let l = hidden_append_len p.pre xs in
       let t = total_fits fs fits in
@@ -132,7 +131,7 @@ module _ (u : List UndoEntry) (v w : Entries) (fs items : List Fragment) (r : Op
         old_low = omega (arith, i, x, q, l);
         new_low = omega (arith, j, x, q);
         edits = λ k.
-            let m : Each (IsSettled u v) xs = each_left (IsSettled u v) xs ys (subst (Each (IsSettled u v)) e (each_right (IsSettled u v) p.pre p.rest (subst (Each (IsSettled u v)) p.place.whole k))) in
+            let m : AllByRecursion (IsSettled u v) xs = each_left (IsSettled u v) xs ys (subst (AllByRecursion (IsSettled u v)) e (each_right (IsSettled u v) p.pre p.rest (subst (AllByRecursion (IsSettled u v)) p.place.whole k))) in
             over_kept (s - shown) r (fates_of u v ys)
             ∙ ap (λ (c : ℕ). with_fates r (alike c Kept ++ fates_of u v ys)) x
             ∙ ap (λ (c : List TextEdit). r.edits ++ c) (sym (same_over u v xs (fates_of u v ys) n m r.old_start r.new_start r.gone r.fresh))
@@ -189,7 +188,7 @@ module _ (u : List UndoEntry) (v w : Entries) (fs items : List Fragment) (r : Op
     pub low : shown ≤ s
     pub old_room : old_end r + (s - shown) < 2 ^ 64
     pub new_room : new_end r + (s - shown) < 2 ^ 64
-    pub edits : (r1 : OpenRun) → r1 ≡ with_kept (s - shown) r → Each (IsSettled u v) fs → all_edits r1 ≡ edits_of 0 0 (runs (fates_of u v fs))
+    pub edits : (r1 : OpenRun) → r1 ≡ with_kept (s - shown) r → AllByRecursion (IsSettled u v) fs → all_edits r1 ≡ edits_of 0 0 (runs (fates_of u v fs))
 
   pub end : (items2 : List Fragment) (i s h v0 h0 : ℕ) → items2 ≡ items → slice_get items (next + over) ≡ None → i ≡ next + over → v0 ≡ 0 → h0 ≡ 0 → both s h ≡ place_behind move_passed summary_of (both v0 h0) (take i items2) → Ended s
   end items2 i s h v0 h0 same g e a b q =

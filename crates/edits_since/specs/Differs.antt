@@ -1,6 +1,6 @@
 -- Which runs of fragments may have changed since a version.
 use Rattle.std.proofs.Common.{◌≡◌, ℕ, suc, ◌<◌, Bool, true, false, not, leb, [], ◌∷◌, refl, ap, ◌∙◌, arith, inl, inr, eq-eqb, ne_eqb}
-use Rattle.std.proofs.lemmas.Bool.{cases_eq, leb-true, le-leb, and_from}
+use Rattle.std.proofs.lemmas.Bool.{cases_eq, leb-true, le-leb, and_from, not-false}
 use Rattle.lamport_clock.specs.declared.stamp.Lamport.{Lamport}
 use Rattle.lamport_clock.specs.Versions.{Entries, AreEntriesFrom, entry, sees, within}
 use Rattle.fragments.specs.declared.fragment.FragmentSummary.{FragmentSummary}
@@ -40,13 +40,9 @@ within_by_seen n (e ∷ u) v h f = and_from (leb e.1 (entry v e.0)) (within u v)
           f t (ap (leb t.value) off ∙ s))
     ]
 
-true_from_not : (b : Bool) → not b ≡ false → b ≡ true
-true_from_not true e = refl
-true_from_not false e = cc
-
 -- v has seen all of a sum
 pub all_within : (v : Entries) (s : FragmentSummary) → may_differ v s ≡ false → within s.greatest v ≡ true
-all_within v s h = true_from_not (within s.greatest v) h
+all_within v s h = not-false (within s.greatest v) h
 
 -- where v has seen all of two runs together, it has seen all of each
 pub differ_parts : (v : Entries) (a b : FragmentSummary) → IsSummary a → IsSummary b → may_differ v (summaries a b) ≡ false → (may_differ v a ≡ false) × (may_differ v b ≡ false)

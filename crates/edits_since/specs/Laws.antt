@@ -4,7 +4,7 @@ use Rattle.lamport_clock.specs.Versions.{Entries}
 use Rattle.op_model.specs.declared.anchor.TextEdit.{TextEdit}
 use Rattle.op_model.specs.Histories.{History}
 use Rattle.op_model.specs.Shown.{text}
-use Rattle.op_model.specs.Since.{text_at, followed}
+use Rattle.op_model.specs.Since.{text_at, apply_edits}
 use Rattle.undo_map.specs.declared.entry.UndoEntry.{UndoEntry}
 use Rattle.fragments.specs.declared.fragment.Fragment.{Fragment}
 use Rattle.edits_since.specs.Telling.{MayTell, AreSince}
@@ -21,4 +21,4 @@ AreApart es = AreApartFrom 0 0 es
 -- the edits that are given take the text then to the text now, each old range replaced by the new text's range, and are apart
 abbrev pub EditsTakeThenToNow : Type 0
 EditsTakeThenToNow = (fs : List Fragment) → (u : List UndoEntry) → (v : Entries) → (es : List TextEdit) → AreSince fs u v es → (h : History) → MayTell fs u v h
-    → (followed 0 es (text_at h v) (text h) ≡ text h) × AreApart es
+    → (apply_edits 0 es (text_at h v) (text h) ≡ text h) × AreApart es

@@ -1,8 +1,9 @@
 //! Lists of text edits.
 ghost use Rattle.std.specs.Prelude.{◌≡◌, [], ◌∷◌, ◌++◌, OnErr, OnOk};
 
+use crate::OutOfMemory;
 use op_model::TextEdit;
-use std::alloc::{AllocError, Global};
+use std::alloc::Global;
 use std::marker::Model;
 
 /// Text edits, in the order of the text. Contracts see them as their list.
@@ -45,7 +46,7 @@ impl Edits {
     }
 
     // Puts an edit behind the others.
-    pub(crate) fn push(&mut self, edit: TextEdit) -> Result<(), AllocError>
+    pub(crate) fn push(&mut self, edit: TextEdit) -> Result<(), OutOfMemory>
         ensures ok { OnOk result (self.new ≡ self.old ++ edit ∷ []) }
         ensures err { OnErr result (self.new ≡ self.old) }
     {

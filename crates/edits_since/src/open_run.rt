@@ -2,9 +2,9 @@
 ghost use Rattle.std.specs.Prelude.{◌≡◌, ◌+◌, ◌<◌, ◌^◌, IfOk, OnOk};
 ghost use Rattle.edits_since.specs.Opened.{at_start, old_end, new_end, all_edits, with_kept, with_bytes};
 
-use crate::Edits;
+use crate::{Edits, OutOfMemory};
 use op_model::TextEdit;
-use std::alloc::{AllocError, Global};
+use std::alloc::Global;
 
 // The run that a walk is in, which has had no kept byte yet: the edits of the runs before it, where it begins in the old
 // and in the new text, and how many gone and new bytes it has so far.
@@ -31,7 +31,7 @@ impl OpenRun {
     }
 
     // Ends the run, and the next one begins behind it. It has an edit where it has a gone or a new byte.
-    fn close(&mut self) -> Result<(), AllocError>
+    fn close(&mut self) -> Result<(), OutOfMemory>
         requires old { old_end self.old < 2 ^ 64 }
         requires new { new_end self.old < 2 ^ 64 }
         ensures { OnOk result (self.new
@@ -56,7 +56,7 @@ impl OpenRun {
     }
 
     // Goes over kept bytes: where there are some, the run ends before them.
-    pub(crate) fn keep(&mut self, n: u64) -> Result<(), AllocError>
+    pub(crate) fn keep(&mut self, n: u64) -> Result<(), OutOfMemory>
         requires old { old_end self.old + n < 2 ^ 64 }
         requires new { new_end self.old + n < 2 ^ 64 }
         ensures kept { OnOk result (self.new ≡ with_kept n self.old) }
@@ -73,7 +73,7 @@ impl OpenRun {
     }
 
     // Goes over bytes that were in the text then or not, and are in it now or not.
-    pub(crate) fn pass(&mut self, n: u64, was: bool, is: bool) -> Result<(), AllocError>
+    pub(crate) fn pass(&mut self, n: u64, was: bool, is: bool) -> Result<(), OutOfMemory>
         requires old { old_end self.old + n < 2 ^ 64 }
         requires new { new_end self.old + n < 2 ^ 64 }
         ensures { OnOk result (self.new ≡ with_bytes n was is self.old) }
@@ -88,7 +88,7 @@ impl OpenRun {
     }
 
     // All edits, where the text ends here.
-    pub(crate) fn finish(mut self) -> Result<Edits, AllocError>
+    pub(crate) fn finish(mut self) -> Result<Edits, OutOfMemory>
         requires old { old_end self < 2 ^ 64 }
         requires new { new_end self < 2 ^ 64 }
         ensures { IfOk result (λ es. es ≡ all_edits self) }

@@ -4,13 +4,13 @@ ghost use Rattle.edits_since.specs.Fates.{was_in_text};
 ghost use Rattle.edits_since.specs.Opened.{old_end, new_end, with_kept, with_bytes};
 ghost use Rattle.edits_since.specs.Telling.{AreSince};
 
-use crate::Edits;
 use crate::differ::{MayDiffer, was_in_text};
 use crate::open_run::OpenRun;
+use crate::{Edits, OutOfMemory};
 use fragments::Fragment;
 use lamport_clock::Version;
 use remote_edit::Passed;
-use std::alloc::{AllocError, Global};
+use std::alloc::Global;
 use sum_tree::SumTree;
 use tree_cursor::FilterCursor;
 use undo_map::UndoMap;
@@ -22,7 +22,7 @@ fn go_over(
     fragment: &Fragment,
     undos: &UndoMap,
     version: &Version,
-) -> Result<(), AllocError>
+) -> Result<(), OutOfMemory>
     requires old { old_end run.old + kept + fragment.now.len < 2 ^ 64 }
     requires new { new_end run.old + kept + fragment.now.len < 2 ^ 64 }
     ensures { OnOk result (run.new
@@ -51,7 +51,7 @@ pub fn since(
     tree: &SumTree<Fragment>,
     undos: &UndoMap,
     version: &Version,
-) -> Result<Edits, AllocError>
+) -> Result<Edits, OutOfMemory>
     ensures { IfOk result (λ es. AreSince tree.now.items undos.now version.now es) }
 {
     tree.known();

@@ -6,11 +6,12 @@ ghost use Rattle.remote_edit.specs.Carried.{move_for};
 ghost use Rattle.edits_since.specs.Fates.{was_in_text};
 ghost use Rattle.edits_since.specs.Back.{AreMovesBack, TakeCharacters};
 
+use crate::OutOfMemory;
 use crate::differ::{MayDiffer, was_in_text};
 use fragments::Fragment;
 use lamport_clock::Version;
 use remote_edit::{Move, Moves, Passed};
-use std::alloc::{AllocError, Global};
+use std::alloc::Global;
 use sum_tree::SumTree;
 use tree_cursor::FilterCursor;
 use undo_map::UndoMap;
@@ -25,7 +26,7 @@ fn move_of(fragment: &Fragment, undos: &UndoMap, version: &Version) -> Move
 }
 
 // The bytes between two places stay as they are.
-fn keep(moves: &mut Moves, from: Passed, to: Passed) -> Result<(), AllocError>
+fn keep(moves: &mut Moves, from: Passed, to: Passed) -> Result<(), OutOfMemory>
     requires visible { from.visible ≤ to.visible }
     requires hidden { from.hidden ≤ to.hidden }
     ensures { OnOk result (moves.new
@@ -48,7 +49,7 @@ pub fn moves_back(
     tree: &SumTree<Fragment>,
     undos: &UndoMap,
     version: &Version,
-) -> Result<Moves, AllocError>
+) -> Result<Moves, OutOfMemory>
     ensures text { IfOk result (λ ms. AreMovesBack tree.now.items undos.now version.now ms) }
     ensures characters { IfOk result (λ ms. TakeCharacters tree.now.items undos.now version.now
         ms) }

@@ -1,16 +1,12 @@
 //! Two authors edit one text, each in a buffer of its own, as in an editor that embeds the library.
 #![tactic(auto)]
 
-ghost use Rattle.std.specs.Prelude.{◌≡◌, ◌<◌};
-
 use anyhow::Result;
 use op_model::{Operation, Piece, Text};
 use snapshot_search::find_all;
 use std::alloc::Global;
 use std::io::Print;
-use std::marker::Brand;
-use std::sync::ledger::{Blank, Ledger};
-use text_buffer::{Anchor, Bias, Buffer, Limits, Snapshot, Steps, agree};
+use text_buffer::{Anchor, Bias, Buffer, Limits, Snapshot, agree};
 
 const BASE: &str = "The cat sat.\n";
 
@@ -28,18 +24,7 @@ fn replace(
     text: &str,
 ) -> Result<Operation> {
     let text = Text::new(String::from_str(alloc, text)?);
-    edit::<Brand>(author, Piece { start, end, text }, Blank::new(1))
-}
-
-// An edit counts its steps, as contracts see it, on a counter that takes no bytes. This one is made of the blank, and nobody asks
-// what it counted.
-fn edit<L: Ledger>(author: &mut Buffer, change: Piece, blank: Blank) -> Result<Operation>
-    requires name { blank.name ≡ L.name }
-    requires parts { blank.parts ≡ L.parts }
-    requires some { 0 < blank.parts }
-{
-    let mut steps = Steps::<L>::new(blank);
-    Ok(author.edit(&[change], &mut steps)?)
+    Ok(author.edit_uncounted(&[Piece { start, end, text }])?)
 }
 
 // Both edit at the same time, and then each takes what the other made. Operations may come in any order, and more than once.

@@ -1,7 +1,8 @@
 //! Clocks, stamps and versions, with ample memory.
 use lamport_clock::{Clock, ClockEnd, Lamport, Version, is_later};
-use std::alloc::{AllocError, Global};
+use std::alloc::Global;
 use std::test::Fail;
+use sum_tree::OutOfMemory;
 
 #[derive(Clone, Copy)]
 enum Step {
@@ -53,7 +54,7 @@ const STAMPS: &[(u32, u16)] = &[(2, 1), (1, 1), (7, 9), (5, 0), (4, 5), (1, 1023
 const ENTRIES: &[(u16, u32)] = &[(0, 5), (1, 2), (5, 4), (9, 8), (1023, 1)];
 
 // The version that has seen these stamps.
-fn seeing(alloc: Global, stamps: &[(u32, u16)]) -> Result<Version, AllocError> {
+fn seeing(alloc: Global, stamps: &[(u32, u16)]) -> Result<Version, OutOfMemory> {
     let mut version = Version::new(alloc);
     for &(value, replica) in stamps {
         version.observe(Lamport { value, replica })?;
@@ -82,7 +83,7 @@ fn is_of_five(version: &Version) -> bool {
     version.as_slice() == ENTRIES && values == (1, 8, 0) && has_entries(version)
 }
 
-fn are_of_five(alloc: Global) -> Result<bool, AllocError> {
+fn are_of_five(alloc: Global) -> Result<bool, OutOfMemory> {
     let version = seeing(alloc, STAMPS)?;
     Ok(is_of_five(&version.copy(alloc)?) && is_of_five(&version))
 }
@@ -110,7 +111,7 @@ fn sight(version: &Version, other: &Version) -> Sight {
 }
 
 // What a version sees before and after it joins another one, and whether both have the same entries then.
-fn joining(alloc: Global) -> Result<(Sight, Sight, bool), AllocError> {
+fn joining(alloc: Global) -> Result<(Sight, Sight, bool), OutOfMemory> {
     let mut version = seeing(alloc, &[(2, 1)])?;
     let other = seeing(alloc, &[(3, 1), (1, 2)])?;
     let before = sight(&version, &other);
@@ -151,7 +152,7 @@ const JOINS: &[Join] = &[
 ];
 
 // Whether this is the first that a version misses of another one, and their join has all entries.
-fn joins(alloc: Global, join: &Join) -> Result<bool, AllocError> {
+fn joins(alloc: Global, join: &Join) -> Result<bool, OutOfMemory> {
     let mut version = seeing(alloc, join.0)?;
     let other = seeing(alloc, join.1)?;
     let missing = version.first_missing(&other);

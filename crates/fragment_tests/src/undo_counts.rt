@@ -2,8 +2,9 @@
 use crate::runs::{Pair, stamp, version};
 use lamport_clock::{Lamport, Version};
 use op_model::{Counts, UndoCount, UndoOp};
-use std::alloc::{AllocError, Global};
+use std::alloc::Global;
 use std::test::Fail;
+use sum_tree::OutOfMemory;
 use undo_map::UndoMap;
 
 const FIRST: Lamport = Lamport {
@@ -26,7 +27,7 @@ fn keep(
     edit: Lamport,
     by: Lamport,
     count: u32,
-) -> Result<(), AllocError> {
+) -> Result<(), OutOfMemory> {
     if map.len() < 1000 {
         map.set(alloc, edit, by, count)?;
     }
@@ -34,7 +35,7 @@ fn keep(
 }
 
 /// The map of these counts.
-pub(crate) fn map_of(alloc: Global, counts: &[Count]) -> Result<UndoMap, AllocError> {
+pub(crate) fn map_of(alloc: Global, counts: &[Count]) -> Result<UndoMap, OutOfMemory> {
     let mut map = UndoMap::new(alloc)?;
     for &(edit, by, count) in counts {
         keep(alloc, &mut map, stamp(edit), stamp(by), count)?;
@@ -43,7 +44,7 @@ pub(crate) fn map_of(alloc: Global, counts: &[Count]) -> Result<UndoMap, AllocEr
 }
 
 // The count of the first edit and whether it is undone, now, and at a version that has seen 3.1 and 3.2.
-fn counted(alloc: Global, rows: &[Count]) -> Result<(u32, bool, u32, bool), AllocError> {
+fn counted(alloc: Global, rows: &[Count]) -> Result<(u32, bool, u32, bool), OutOfMemory> {
     let map = map_of(alloc, rows)?.share()?;
     let early = version(alloc, &[(3, 1), (3, 2)])?;
     Ok((
@@ -79,7 +80,7 @@ fn greatest_and_no_sum(rt: HostRuntime) -> Result<(), Fail> {
     Ok(())
 }
 
-fn counts(alloc: Global, rows: &[(Lamport, u32)]) -> Result<Counts, AllocError> {
+fn counts(alloc: Global, rows: &[(Lamport, u32)]) -> Result<Counts, OutOfMemory> {
     let mut counts = Vec::new(alloc);
     for &(edit, count) in rows {
         counts.push(UndoCount { edit, count })?;
@@ -87,7 +88,7 @@ fn counts(alloc: Global, rows: &[(Lamport, u32)]) -> Result<Counts, AllocError> 
     Ok(Counts::new(counts))
 }
 
-fn undo(alloc: Global, rows: &[(Lamport, u32)]) -> Result<UndoOp, AllocError> {
+fn undo(alloc: Global, rows: &[(Lamport, u32)]) -> Result<UndoOp, OutOfMemory> {
     Ok(UndoOp {
         stamp: stamp((5, 2)),
         version: Version::new(alloc),
@@ -96,7 +97,7 @@ fn undo(alloc: Global, rows: &[(Lamport, u32)]) -> Result<UndoOp, AllocError> {
 }
 
 // The map with the counts of an undo, where there are few.
-fn with_undo(alloc: Global, map: &UndoMap, undo: &UndoOp) -> Result<UndoMap, AllocError> {
+fn with_undo(alloc: Global, map: &UndoMap, undo: &UndoOp) -> Result<UndoMap, OutOfMemory> {
     if map.len() < 1000 && undo.counts.as_slice().len() < 1000 {
         map.with_undo(alloc, undo)
     } else {
@@ -105,7 +106,7 @@ fn with_undo(alloc: Global, map: &UndoMap, undo: &UndoOp) -> Result<UndoMap, All
 }
 
 // The counts of the first and the second edit after an undo, and that of the first before it.
-fn counted_after(alloc: Global) -> Result<(u32, u32, u32), AllocError> {
+fn counted_after(alloc: Global) -> Result<(u32, u32, u32), OutOfMemory> {
     let before = map_of(alloc, &[((2, 1), (3, 1), 2)])?;
     let undo = undo(alloc, &[(FIRST, 1), (SECOND, 4), (FIRST, 3)])?;
     let after = with_undo(alloc, &before, &undo)?;

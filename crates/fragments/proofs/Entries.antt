@@ -1,7 +1,6 @@
 -- An index with an entry more.
-use Rattle.std.proofs.Common.{◌≡◌, ℕ, suc, ◌+◌, ◌≤◌, ◌⊎◌, Bool, true, false, cond, eqb, nat_lt, List, [], ◌∷◌, ◌++◌, length, length-append, refl, sym, ap, ◌∙◌, arith, subst, inl, inr}
+use Rattle.std.proofs.Common.{◌≡◌, ℕ, suc, ◌+◌, ◌≤◌, ◌⊎◌, Bool, true, false, cond, List, [], ◌∷◌, ◌++◌, length, length-append, refl, sym, ap, ◌∙◌, arith, subst, inl, inr}
 use Rattle.std.proofs.lemmas.Bool.{cases_Bool}
-use Rattle.std.proofs.lemmas.Bool.Decides.{nat_tests}
 use Rattle.std.proofs.lemmas.Cmp.{tied_itself}
 use Rattle.std.specs.Ordering.{nat_cmp, ordering_then, is_lt, is_eq, is_gt}
 use Rattle.std.specs.declared.cmp.Ordering.{Ordering}
@@ -12,11 +11,12 @@ use Rattle.sum_tree.proofs.Keys.{ascending_inserted}
 use Rattle.lamport_clock.specs.declared.stamp.Lamport.{Lamport}
 use Rattle.lamport_clock.proofs.Order.{is_eq-same}
 use Rattle.op_model.specs.Sorted.{Member}
-use Rattle.op_model.proofs.PathOrder.{same_stamp_eq}
+use Rattle.op_model.proofs.order.PathOrder.{same_stamp_eq}
 use Rattle.fragments.specs.declared.index_entry.IndexKey.{IndexKey}
 use Rattle.fragments.specs.declared.index_entry.IndexEntry.{IndexEntry}
 use Rattle.fragments.specs.Index.{key_of, stamp_cmp, key_cmp, key_order, with_entry}
 use Rattle.fragments.specs.Laws.{EntryTakesItsPlace}
+use Rattle.locators.proofs.Between.{nat_cmp-Equal}
 
 pub member_left : {A : Type 0} (x : A) (xs ys : List A) → Member x xs → Member x (xs ++ ys)
 member_left x [] ys m = absurd m
@@ -46,14 +46,6 @@ filter_of {A} p x (y ∷ xs) m = go (p y) refl m (filter_of p x xs)
     go true e (inr n) rest = let k = rest n in (inr k.0, k.1)
     go false e n rest = let k = rest n in (inr k.0, k.1)
 
-equal_is : (a b : ℕ) → nat_cmp a b ≡ Equal → a ≡ b
-equal_is a b h = go (nat_lt a b) refl (eqb a b) refl h
-  where
-    go : (l : Bool) → nat_lt a b ≡ l → (e : Bool) → eqb a b ≡ e → cond l Less (cond e Equal Greater) ≡ Equal → a ≡ b
-    go true p e q k = cc
-    go false p true q k = grind (arith, nat_tests)
-    go false p false q k = cc
-
 then_equal : (a b : Ordering) → ordering_then a b ≡ Equal → (a ≡ Equal) × (b ≡ Equal)
 then_equal Less b h = cc
 then_equal Equal b h = (refl, h)
@@ -66,7 +58,7 @@ key_is : (a b : IndexKey) → key_cmp a b ≡ Equal → a ≡ b
 key_is a b h =
     let k = then_equal (stamp_cmp a.stamp b.stamp) (nat_cmp b.offset.0 a.offset.0) h in
     let s : a.stamp ≡ b.stamp = same_stamp_eq a.stamp b.stamp (sym (is_eq-same a.stamp b.stamp) ∙ ap is_eq k.0) in
-    ap (λ z. key z a.offset.0) s ∙ ap (key b.stamp) (sym (equal_is b.offset.0 a.offset.0 k.1))
+    ap (λ z. key z a.offset.0) s ∙ ap (key b.stamp) (sym (nat_cmp-Equal b.offset.0 a.offset.0 k.1))
 
 abbrev to : IndexEntry → IndexEntry → Ordering
 to x e = key_cmp (key_of e) (key_of x)

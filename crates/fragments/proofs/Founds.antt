@@ -1,5 +1,6 @@
 -- What stands for a history: its index finds the fragment of each cell, and one fragment stands for the base.
 use Rattle.std.proofs.Common.{◌≡◌, ℕ, zero, suc, ◌+◌, ◌<◌, ◌≤◌, ◌^◌, Bool, true, false, cond, leb, nat_lt, Option, List, [], ◌∷◌, ◌++◌, length, map, refl, sym, ap, ◌∙◌, arith, subst, inl, inr, Some, None, option_map}
+use Rattle.std.specs.List.{AllByRecursion}
 use Rattle.std.proofs.lemmas.Bool.{cases_Bool, cases_lt, and_parts, and_from, leb-true, le-leb, ltb-true, ltb-false}
 use Rattle.std.proofs.lemmas.List.{append-nil, map-append}
 use Rattle.lamport_clock.specs.declared.stamp.Lamport.{Lamport}
@@ -7,16 +8,16 @@ use Rattle.lamport_clock.specs.Stamps.{same_stamp}
 use Rattle.op_model.specs.declared.operation.Operation.{Operation}
 use Rattle.op_model.specs.declared.operation.UndoCount.{UndoCount}
 use Rattle.op_model.specs.Operations.{counts_of}
-use Rattle.op_model.specs.Sorted.{Each, EachPair, Member}
+use Rattle.op_model.specs.Sorted.{EachPair, Member}
 use Rattle.op_model.specs.Histories.{History, base}
 use Rattle.op_model.specs.Cells.{Cell, seq, cells}
 use Rattle.op_model.specs.Facts.{Fact, fact, alike}
 use Rattle.op_model.specs.Walked.{facts_of}
 use Rattle.op_model.specs.Lawful.{Lawful}
-use Rattle.op_model.proofs.CellsOnce.{each_member}
-use Rattle.op_model.proofs.PathOrder.{same_stamp_eq, same_stamp_refl}
+use Rattle.op_model.proofs.order.CellsOnce.{each_member}
+use Rattle.op_model.proofs.order.PathOrder.{same_stamp_eq, same_stamp_refl}
 use Rattle.op_model.proofs.MainLaws.{each_cell_once}
-use Rattle.op_model.proofs.WholeTexts.{base_told}
+use Rattle.op_model.proofs.texts.WholeTexts.{base_told}
 use Rattle.fragments.specs.declared.fragment.Fragment.{Fragment}
 use Rattle.fragments.specs.declared.index_entry.IndexEntry.{IndexEntry}
 use Rattle.fragments.specs.Index.{covers, nearest, entry_for, id_for}
@@ -40,7 +41,7 @@ entry_in f [] m = absurd m
 entry_in f (g ∷ fs) (inl e) = inl (ap entry_of e)
 entry_in f (g ∷ fs) (inr m) = inr (entry_in f fs m)
 
-fragment_of : (e : IndexEntry) (fs : List Fragment) → Member e (map entry_of fs) → (f : Fragment) × Member f fs × (e ≡ entry_of f)
+pub fragment_of : (e : IndexEntry) (fs : List Fragment) → Member e (map entry_of fs) → (f : Fragment) × Member f fs × (e ≡ entry_of f)
 fragment_of e [] m = absurd m
 fragment_of e (g ∷ fs) (inl q) = (g, inl refl, q)
 fragment_of e (g ∷ fs) (inr m) = let k = fragment_of e fs m in (k.0, inr k.1, k.2)
@@ -157,7 +158,7 @@ same_fragment (x ∷ fs) f g t k d m n h i = go m n (λ r. same_fragment fs f g 
     go (inr e) (inl o) rest = absurd (apart g f o e i h)
     go (inr e) (inr o) rest = rest (pairs_right Differ (cells_in (facts x)) (cells_of fs) whole) e o h i
 
-told_cells : (h : History) (s : List Cell) → cells_in (map (fact h) s) ≡ s
+pub told_cells : (h : History) (s : List Cell) → cells_in (map (fact h) s) ≡ s
 told_cells h [] = refl
 told_cells h (c ∷ s) = ap (λ z. c ∷ z) (told_cells h s)
 
@@ -166,7 +167,7 @@ cells_differ fs h l e = subst (EachPair Differ) (sym (ap cells_in e ∙ told_cel
 
 -- ---- what is found
 
-pub finds : (fs : List Fragment) (w : List IndexEntry) → EachPair Differ (cells_of fs) → Each IsFilled fs → IsIndexOf fs w → (f : Fragment) → Member f fs → (j : ℕ) → j < f.len → id_for f.stamp (f.offset + j) w ≡ Some f.id
+pub finds : (fs : List Fragment) (w : List IndexEntry) → EachPair Differ (cells_of fs) → AllByRecursion IsFilled fs → IsIndexOf fs w → (f : Fragment) → Member f fs → (j : ℕ) → j < f.len → id_for f.stamp (f.offset + j) w ≡ Some f.id
 finds fs w d filled index f m j l = go (entry_for f.stamp (f.offset + j) w) refl (sound f.stamp (f.offset + j) w) (best f.stamp (f.offset + j) (entry_of f) w in_w over)
   where
     in_w : Member (entry_of f) w
@@ -190,7 +191,7 @@ finds fs w d filled index f m j l = go (entry_for f.stamp (f.offset + j) w) refl
         let o : f.offset ≤ k.0.offset = subst (λ (z : IndexEntry). f.offset ≤ z.offset) k.2 b in
         ap (option_map (λ (z : IndexEntry). z.id)) q ∙ ap (λ (z : IndexEntry). Some z.id) k.2 ∙ ap (λ (z : Fragment). Some z.id) (sym (same k.0 k.1 c o))
 
-pub finds_none : (fs : List Fragment) (w : List IndexEntry) → IsIndexOf fs w → (t : Lamport) → Each (λ (f : Fragment). f.stamp ≡ t → ⊥) fs → (o : ℕ) → id_for t o w ≡ None
+pub finds_none : (fs : List Fragment) (w : List IndexEntry) → IsIndexOf fs w → (t : Lamport) → AllByRecursion (λ (f : Fragment). f.stamp ≡ t → ⊥) fs → (o : ℕ) → id_for t o w ≡ None
 finds_none fs w index t n o = go (entry_for t o w) refl (sound t o w)
   where
     go : (r : Option IndexEntry) → entry_for t o w ≡ r → IsSound t o w r → id_for t o w ≡ None

@@ -1,6 +1,6 @@
 mod Widening
 mod Stamping
-mod Searching
+pub mod Searching
 mod Replacing
 pub mod Entries
 pub mod Counts

@@ -1,12 +1,12 @@
 -- Where a seek for a key stops: at the entry with the greatest offset at most the key's, if the edit has one.
-use Rattle.std.proofs.Common.{◌≡◌, ℕ, suc, ◌+◌, ◌<◌, ◌≤◌, ◌⊎◌, Bool, true, false, cond, List, [], ◌∷◌, length, get_or, slice_get, option_map, refl, sym, ap, ◌∙◌, inl, inr, Option, None, Some, arith, leb, eqb, nat_lt}
-use Rattle.std.proofs.lemmas.Bool.{cases_Bool, cases_lt, and_from, and_left, and_parts, both_ways, le-leb, leb-true, ltb-true, lt-ltb, le-ltb}
+use Rattle.std.proofs.Common.{◌≡◌, ℕ, suc, ◌+◌, ◌<◌, ◌≤◌, ◌⊎◌, Bool, true, false, cond, List, [], ◌∷◌, length, get_or, slice_get, option_map, refl, sym, ap, ◌∙◌, inl, inr, Option, None, Some, arith, leb, nat_lt}
+use Rattle.std.proofs.lemmas.Bool.{cases_Bool, cases_lt, and_from, and_left, and_parts, both_ways, le-leb, leb-true, le-ltb}
 use Rattle.std.proofs.lemmas.Cmp.{alike_right}
 use Rattle.std.specs.Ordering.{nat_cmp, ordering_then, ordering_reverse, is_lt, is_eq}
 use Rattle.std.specs.declared.cmp.Ordering.{Ordering}
 use Rattle.std.specs.declared.cmp.Ordering.TheVariants.{Less, Equal, Greater}
 use Rattle.tree_cursor.specs.Places.{seek_count}
-use Rattle.tree_cursor.specs.Keys.{greater, key_less, key_passes, cmp_less, order_less, IsLess}
+use Rattle.tree_cursor.specs.Keys.{greater, key_less, key_passes, cmp_less, lt_is, order_less, IsLess}
 use Rattle.tree_cursor.specs.declared.ready.Greatest.{Greatest}
 use Rattle.tree_cursor.specs.declared.traits.Bias.TheVariants.{Left}
 use Rattle.lamport_clock.specs.declared.stamp.Lamport.{Lamport}
@@ -15,6 +15,8 @@ use Rattle.lamport_clock.proofs.Order.{is_eq-same}
 use Rattle.fragments.specs.declared.index_entry.IndexKey.{IndexKey}
 use Rattle.fragments.specs.declared.index_entry.IndexEntry.{IndexEntry}
 use Rattle.fragments.specs.Index.{key_of, stamp_cmp, key_cmp, stamp_order, key_order, IsAscending, first_from, covers, nearest, entry_for, id_for}
+use Rattle.undo_map.proofs.Early.{is_equal}
+use Rattle.locators.proofs.Between.{nat_cmp-below, nat_cmp-Less}
 
 abbrev less : IndexKey → IndexKey → Bool
 less a b = cmp_less key_cmp a b
@@ -57,29 +59,8 @@ sought k p (e ∷ w) h = elim (cases_Bool (less (key_of e) k)) [
 
 -- ---- the entry of an edit
 
-eq_is : (o : Ordering) → is_eq o ≡ true → o ≡ Equal
-eq_is Less h = cc
-eq_is Equal h = refl
-eq_is Greater h = cc
-
-lt_is : (o : Ordering) → is_lt o ≡ true → o ≡ Less
-lt_is Less h = refl
-lt_is Equal h = cc
-lt_is Greater h = cc
-
 same_is : (s t : Lamport) → same_stamp s t ≡ true → stamp_cmp s t ≡ Equal
-same_is s t h = eq_is _ (is_eq-same s t ∙ h)
-
-less_at : (x y : Bool) → cond x Less (cond y Equal Greater) ≡ Less → x ≡ true
-less_at true y h = refl
-less_at false true h = cc
-less_at false false h = cc
-
-below_is : (a b : ℕ) → nat_cmp a b ≡ Less → a < b
-below_is a b h = ltb-true a b (less_at (nat_lt a b) (eqb a b) h)
-
-less_of : (a b : ℕ) → a < b → nat_cmp a b ≡ Less
-less_of a b h = rw (lt-ltb a b h) refl
+same_is s t h = is_equal _ (is_eq-same s t ∙ h)
 
 abbrev at : Lamport → ℕ → IndexKey
 at t o = record { stamp = t; offset = record { 0 = o } }
@@ -93,14 +74,14 @@ past_covers : (t : Lamport) (o : ℕ) (e : IndexEntry) → less (key_of e) (at t
 past_covers t o e l = elim (cases_Bool (covers t o e)) [
   | inr f ↦ f
   | inl c ↦ (let k = and_parts (same_stamp e.stamp t) (leb e.offset o) c in
-      let m : o < e.offset = below_is o e.offset (sym (same_edit (key_of e) (at t o) k.0) ∙ lt_is _ l) in
+      let m : o < e.offset = nat_cmp-Less o e.offset (sym (same_edit (key_of e) (at t o) k.0) ∙ lt_is _ l) in
       let n : e.offset ≤ o = leb-true _ _ k.1 in absurd (omega arith))
 ]
 
 -- an entry of the edit whose key is not less does
 up_to_covers : (t : Lamport) (o : ℕ) (e : IndexEntry) → less (key_of e) (at t o) ≡ false → same_stamp e.stamp t ≡ true → covers t o e ≡ true
 up_to_covers t o e l s = elim (cases_lt o e.offset) [
-  | inl m ↦ absurd (both_ways _ l (ap is_lt (same_edit (key_of e) (at t o) s ∙ less_of o e.offset m)))
+  | inl m ↦ absurd (both_ways _ l (ap is_lt (same_edit (key_of e) (at t o) s ∙ nat_cmp-below o e.offset m)))
   | inr m ↦ and_from _ _ s (le-leb e.offset o m)
 ]
 
@@ -111,7 +92,7 @@ Behind x w = (j : ℕ) (d : IndexEntry) → j < length w → key_cmp (key_of x) 
 behind_first : (x : IndexEntry) (w : List IndexEntry) → IsAscending (x ∷ w) → Behind x w
 behind_first x w a = λ j d l. a 0 (suc j) d (omega arith) (omega arith)
 
-ascending_rest : (x : IndexEntry) (w : List IndexEntry) → IsAscending (x ∷ w) → IsAscending w
+pub ascending_rest : (x : IndexEntry) (w : List IndexEntry) → IsAscending (x ∷ w) → IsAscending w
 ascending_rest x w a = λ i j d l m. a (suc i) (suc j) d (omega arith) (omega arith)
 
 behind_rest : (x y : IndexEntry) (w : List IndexEntry) → Behind x (y ∷ w) → Behind x w
@@ -143,7 +124,7 @@ none_nearer t o x (y ∷ w) s b = elim (cases_Bool (covers t o y)) [
   | inr c ↦ rw c (none_nearer t o x w s (behind_rest x y w b))
   | inl c ↦ (let k = and_parts (same_stamp y.stamp t) (leb y.offset o) c in
       let e : key_cmp (key_of x) (key_of y) ≡ nat_cmp y.offset x.offset = ap (λ (z : Ordering). ordering_then z (nat_cmp y.offset x.offset)) (same_with x.stamp t y.stamp s k.0) in
-      let l = not_below x.offset y.offset (below_is y.offset x.offset (sym e ∙ b 0 y (omega arith))) in
+      let l = not_below x.offset y.offset (nat_cmp-Less y.offset x.offset (sym e ∙ b 0 y (omega arith))) in
       rw c (nearer x y (entry_for t o w) l (none_nearer t o x w s (behind_rest x y w b))))
 ]
 

@@ -4,7 +4,7 @@ use Rattle.std.specs.Ordering.{nat_cmp, ordering_then}
 use Rattle.std.specs.Cmp.{IsTotalOrder}
 use Rattle.std.specs.declared.cmp.Ordering.{Ordering}
 use Rattle.std.proofs.lemmas.Cmp.{nat_cmp_total, on_total, back_total, then_total}
-use Rattle.sum_tree.specs.Keyed.{Ascending, inserted}
+use Rattle.sum_tree.specs.Keyed.{Ascending, insert_item}
 use Rattle.tree_cursor.specs.Keys.{cmp_less}
 use Rattle.lamport_clock.specs.declared.stamp.Lamport.{Lamport}
 use Rattle.lamport_clock.specs.Stamps.{same_stamp}
@@ -28,7 +28,7 @@ IsAscending w = Ascending key_cmp key_of w
 
 -- w with an entry, in the place of one with its key
 abbrev pub with_entry : IndexEntry → List IndexEntry → List IndexEntry
-with_entry e w = inserted key_cmp key_of e w
+with_entry e w = insert_item key_cmp key_of e w
 
 -- the entry begins at cell o of edit t or before it
 abbrev pub covers : Lamport → ℕ → IndexEntry → Bool

@@ -1,10 +1,11 @@
 -- Laws of what stands for a history.
 use Rattle.std.specs.Prelude.{◌≡◌, ◌⊎◌, ◌↔◌, ℕ, ◌+◌, ◌<◌, ◌^◌, true, List, [], ◌∷◌, length, Some, None, if◌then◌else◌}
+use Rattle.std.specs.List.{AllByRecursion}
 use Rattle.lamport_clock.specs.declared.stamp.Lamport.{Lamport}
 use Rattle.lamport_clock.specs.Versions.{Entries, sees}
 use Rattle.tree_cursor.specs.Places.{place_behind}
 use Rattle.locators.specs.Locator.{IsLess, EndsAboveZero, least_digits, greatest_digits}
-use Rattle.op_model.specs.Sorted.{Each, Member}
+use Rattle.op_model.specs.Sorted.{Member}
 use Rattle.op_model.specs.Histories.{History, base}
 use Rattle.op_model.specs.Lawful.{Lawful}
 use Rattle.op_model.specs.Walked.{kept_len}
@@ -21,7 +22,7 @@ use Rattle.fragments.specs.SeenPlaces.{move_full, move_visible, move_at}
 abbrev pub IndexFindsFragments : Type 0
 IndexFindsFragments = (fs : List Fragment) → (w : List IndexEntry) → (u : List UndoEntry) → (h : History) → Lawful h → Stand fs w u h
     → ((f : Fragment) → Member f fs → (j : ℕ) → j < f.len → id_for f.stamp (f.offset + j) w ≡ Some f.id)
-    × ((t : Lamport) → Each (λ (f : Fragment). f.stamp ≡ t → ⊥) fs → (o : ℕ) → id_for t o w ≡ None)
+    × ((t : Lamport) → AllByRecursion (λ (f : Fragment). f.stamp ≡ t → ⊥) fs → (o : ℕ) → id_for t o w ≡ None)
 
 -- one fragment with all cells of the base
 abbrev pub whole_base : List ℕ → List ℕ → Fragment

@@ -16,19 +16,16 @@ span_of {r} {s} {l} {m} {g} {h} a b c = ap (λ x. span x l g) a ∙ ap (λ x. sp
 hull_comm : (a b : Span) → a.replica ≡ b.replica → hull a b ≡ hull b a
 hull_comm a b e = span_of e (omega arith) (omega arith)
 
-hull_swap : (e x y : Span) → hull (hull e y) x ≡ hull (hull e x) y
-hull_swap e x y = span_of refl (omega arith) (omega arith)
-
 hull_assoc : (e x y : Span) → hull (hull e y) x ≡ hull e (hull y x)
 hull_assoc e x y = span_of refl (omega arith) (omega arith)
 
-past : (y : Span) (u : List Span) (x : Span) → y.replica < x.replica → with_span x (y ∷ u) ≡ y ∷ with_span x u
+pub past : (y : Span) (u : List Span) (x : Span) → y.replica < x.replica → with_span x (y ∷ u) ≡ y ∷ with_span x u
 past y u x h = grind (arith, nat_tests)
 
-at : (y : Span) (u : List Span) (x : Span) → y.replica ≡ x.replica → with_span x (y ∷ u) ≡ hull y x ∷ u
+pub at : (y : Span) (u : List Span) (x : Span) → y.replica ≡ x.replica → with_span x (y ∷ u) ≡ hull y x ∷ u
 at y u x h = grind (arith, nat_tests)
 
-before : (y : Span) (u : List Span) (x : Span) → x.replica < y.replica → with_span x (y ∷ u) ≡ x ∷ y ∷ u
+pub before : (y : Span) (u : List Span) (x : Span) → x.replica < y.replica → with_span x (y ∷ u) ≡ x ∷ y ∷ u
 before y u x h = grind (arith, nat_tests)
 
 wide_less : (x y : Span) (u : List Span) → x.replica < y.replica → with_span x (with_span y u) ≡ with_span y (with_span x u)

@@ -1,13 +1,14 @@
 -- What fragments, an index of them and undo counts are of a history.
 use Rattle.std.specs.Prelude.{◌≡◌, ◌↔◌, ℕ, ◌+◌, ◌<◌, ◌^◌, true, List, [], ◌∷◌, map}
+use Rattle.std.specs.List.{AllByRecursion}
 use Rattle.lamport_clock.specs.Versions.{sees}
 use Rattle.locators.specs.Locator.{IsLess, EndsAboveZero, least_digits, greatest_digits}
 use Rattle.op_model.specs.declared.operation.Operation.{Operation}
 use Rattle.op_model.specs.declared.operation.UndoCount.{UndoCount}
 use Rattle.op_model.specs.Operations.{stamp_of, counts_of}
-use Rattle.op_model.specs.Sorted.{Each, Member}
+use Rattle.op_model.specs.Sorted.{Member}
 use Rattle.op_model.specs.Histories.{History, In}
-use Rattle.op_model.specs.Facts.{told}
+use Rattle.op_model.specs.Facts.{cell_facts}
 use Rattle.op_model.specs.Walked.{Run, facts_of}
 use Rattle.undo_map.specs.declared.entry.UndoEntry.{UndoEntry}
 use Rattle.undo_map.specs.Undos.{undo_entries}
@@ -24,7 +25,7 @@ runs fs = map run_of fs
 
 -- the fragments tell of the cells of h in order, hidden ones too: which is shown, and which edits delete it
 abbrev pub Tell : List Fragment → History → Type 0
-Tell fs h = facts_of (runs fs) ≡ told h
+Tell fs h = facts_of (runs fs) ≡ cell_facts h
 
 -- there is a cell, and the numbers of the cells are u64
 abbrev pub IsFilled : Fragment → Type 0
@@ -50,9 +51,9 @@ SeesUndos h f = (op : Operation) → In h op → (c : UndoCount) → Member c (c
 -- The fragments fs, the index w and the undo counts u stand for the history h.
 pub record Stand (fs : List Fragment) (w : List IndexEntry) (u : List UndoEntry) (h : History) : Type 0 where
   pub cells : Tell fs h
-  pub filled : Each IsFilled fs
+  pub filled : AllByRecursion IsFilled fs
   pub ids : Rise least_digits fs
   pub ascending : IsAscending w
   pub index : IsIndexOf fs w
   pub counts : u ≡ undo_entries h
-  pub undos : Each (SeesUndos h) fs
+  pub undos : AllByRecursion (SeesUndos h) fs

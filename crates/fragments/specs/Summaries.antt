@@ -4,7 +4,7 @@ use Rattle.std.specs.Cmp.Lexicographic.{slice_cmp}
 use Rattle.std.specs.Ordering.{nat_cmp}
 use Rattle.tree_cursor.specs.Keys.{greater, cmp_less}
 use Rattle.lamport_clock.specs.declared.stamp.Lamport.{Lamport}
-use Rattle.lamport_clock.specs.Versions.{Entries, AreEntries, raise, joined}
+use Rattle.lamport_clock.specs.Versions.{Entries, AreEntries, raise, join_versions}
 use Rattle.fragments.specs.declared.fragment.Fragment.{Fragment}
 use Rattle.fragments.specs.declared.fragment.FragmentSummary.{FragmentSummary}
 use Rattle.fragments.specs.Spans.{join_spans, AreSpans}
@@ -24,7 +24,7 @@ summaries a b = record {
   hidden = a.hidden + b.hidden;
   last_id = greater_id a.last_id b.last_id;
   span = join_spans a.span b.span;
-  greatest = joined a.greatest b.greatest;
+  greatest = join_versions a.greatest b.greatest;
 }
 
 -- a sum that fragments may have: where there are no stamps, there are no cells
@@ -52,5 +52,5 @@ summary_of f = record {
   hidden = if f.visible then 0 else f.len;
   last_id = Some f.id;
   span = record { replica = f.stamp.replica; least = f.stamp.value; greatest = f.stamp.value } ∷ [];
-  greatest = with_stamps (f.stamp ∷ f.deletions) (joined [] f.max_undos);
+  greatest = with_stamps (f.stamp ∷ f.deletions) (join_versions [] f.max_undos);
 }

@@ -6,7 +6,7 @@ use Rattle.std.specs.Ordering.{nat_cmp}
 use Rattle.sum_tree.specs.Laws.{SummaryLaws}
 use Rattle.tree_cursor.specs.Keys.{greater_none, greater_assoc, order_less, IsLess}
 use Rattle.lamport_clock.specs.declared.stamp.Lamport.{Lamport}
-use Rattle.lamport_clock.specs.Versions.{Entries, AreEntriesFrom, raise, joined}
+use Rattle.lamport_clock.specs.Versions.{Entries, AreEntriesFrom, raise, join_versions}
 use Rattle.fragments.specs.declared.spans.Span.{Span}
 use Rattle.fragments.specs.declared.fragment.Fragment.{Fragment}
 use Rattle.fragments.specs.declared.fragment.FragmentSummary.{FragmentSummary}
@@ -49,7 +49,7 @@ pub one_admitted : (f : Fragment) → IsSummary (summary_of f)
 one_admitted f = record {
   spans = (omega arith, omega arith, tt);
   none = λ e. absurd (cc);
-  entries = stamps_kept (f.stamp ∷ f.deletions) (joined [] f.max_undos) (joined_kept [] f.max_undos tt);
+  entries = stamps_kept (f.stamp ∷ f.deletions) (join_versions [] f.max_undos) (joined_kept [] f.max_undos tt);
 }
 
 pub one_single : (f : Fragment) → IsOne (summary_of f)

@@ -32,7 +32,8 @@ impl Moves<FragmentSummary> for Full {
 
     ghost fits = { λ p s. p + (s.visible + s.hidden) < 2 ^ 64 };
 
-    ghost laws = { adding_laws no_fragments summaries IsSummary IsOne (λ s. s.visible + s.hidden) refl (λ a b. Prim.omega arith) };
+    ghost laws = { adding_laws no_fragments summaries IsSummary IsOne
+        (λ s. s.visible + s.hidden) refl (λ a b. Prim.omega arith) };
 }
 
 impl<'a> Dimension<'a, FragmentSummary> for Full {
@@ -186,7 +187,8 @@ impl<'a> Moves<FragmentSummary> for ById<'a> {
 
     ghost fits = { λ p s. Unit };
 
-    ghost laws = { key_laws id_less id_order no_fragments summaries IsSummary IsOne (λ s. s.last_id) refl (λ a b f g. refl) };
+    ghost laws = { key_laws id_less id_order no_fragments summaries IsSummary IsOne
+        (λ s. s.last_id) refl (λ a b f g. refl) };
 }
 
 impl<'a> Dimension<'a, FragmentSummary> for ById<'a> {

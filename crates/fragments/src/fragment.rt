@@ -4,10 +4,10 @@ ghost use Rattle.std.specs.Option.{option_copied};
 ghost use Rattle.fragments.specs.Summaries.{no_fragments, summaries, IsSummary, SummaryFits, IsOne, summary_of, with_stamps, greater_id};
 ghost use Rattle.fragments.specs.SummaryLaws.{summary_laws, one_admitted, one_single};
 
-use crate::{Span, Spans, Stamps};
+use crate::{OutOfMemory, Span, Spans, Stamps};
 use lamport_clock::{Lamport, Version};
 use locators::Locator;
-use std::alloc::{AllocError, Global};
+use std::alloc::Global;
 use sum_tree::{Item, Summary};
 
 /// A run of cells of one edit of which one thing is told.
@@ -69,7 +69,7 @@ impl Summary for FragmentSummary {
         }
     }
 
-    fn add(&mut self, alloc: Global, other: &FragmentSummary) -> Result<(), AllocError> {
+    fn add(&mut self, alloc: Global, other: &FragmentSummary) -> Result<(), OutOfMemory> {
         let last_id = copy_id(
             alloc,
             greater_id(self.last_id.as_ref(), other.last_id.as_ref()),
@@ -88,7 +88,7 @@ impl Summary for FragmentSummary {
         alloc: Global,
         other: &FragmentSummary,
         next: &FragmentSummary,
-    ) -> Result<(), AllocError> {
+    ) -> Result<(), OutOfMemory> {
         if !gives_way(other.last_id.as_ref(), next.last_id.as_ref()) {
             return self.add(alloc, other);
         }
@@ -124,7 +124,7 @@ fn gives_way(id: Option<&Locator>, next: Option<&Locator>) -> bool
     }
 }
 
-fn copy_id(alloc: Global, id: Option<&Locator>) -> Result<Option<Locator>, AllocError>
+fn copy_id(alloc: Global, id: Option<&Locator>) -> Result<Option<Locator>, OutOfMemory>
     ensures { IfOk result (λ o. o ≡ option_copied id.entry) }
 {
     match id {
@@ -142,7 +142,7 @@ impl Item for Fragment {
 
     ghost is_single = { one_single };
 
-    fn summary(&self, alloc: Global) -> Result<FragmentSummary, AllocError> {
+    fn summary(&self, alloc: Global) -> Result<FragmentSummary, OutOfMemory> {
         let span = Span {
             replica: self.stamp.replica,
             least: self.stamp.value,
@@ -157,7 +157,7 @@ impl Item for Fragment {
         })
     }
 
-    fn copy(&self, alloc: Global) -> Result<Fragment, AllocError> {
+    fn copy(&self, alloc: Global) -> Result<Fragment, OutOfMemory> {
         Ok(Fragment {
             id: self.id.copy(alloc)?,
             stamp: self.stamp,
@@ -171,7 +171,7 @@ impl Item for Fragment {
 }
 
 // A version that sees a fragment's stamp, its deletions and its undos.
-fn greatest_of(alloc: Global, fragment: &Fragment) -> Result<Version, AllocError>
+fn greatest_of(alloc: Global, fragment: &Fragment) -> Result<Version, OutOfMemory>
     ensures { IfOk result (λ v. v ≡ (summary_of fragment.now).greatest) }
 {
     let _kept = fragment.max_undos.as_slice();

@@ -4,10 +4,11 @@ ghost use Rattle.std.specs.Option.{option_copied};
 ghost use Rattle.fragments.specs.declared.index_entry.IndexEntry.{IndexEntry};
 ghost use Rattle.fragments.specs.Index.{with_entry, id_for, first_from};
 
+use crate::OutOfMemory;
 use crate::index_entry::{IndexEntry, IndexKey};
 use lamport_clock::{Lamport, is_same};
 use locators::Locator;
-use std::alloc::{AllocError, Global};
+use std::alloc::Global;
 use std::cmp::Reverse;
 use std::marker::Model;
 use sum_tree::SumTree;
@@ -34,7 +35,7 @@ impl Model for InsertionIndex {
 
 impl InsertionIndex {
     /// No entries.
-    pub fn new(alloc: Global) -> Result<InsertionIndex, AllocError>
+    pub fn new(alloc: Global) -> Result<InsertionIndex, OutOfMemory>
         ensures { IfOk result (λ m. m ≡ []) }
     {
         Ok(InsertionIndex {
@@ -43,7 +44,7 @@ impl InsertionIndex {
     }
 
     /// A second owner of the same entries.
-    pub fn share(&self) -> Result<InsertionIndex, AllocError>
+    pub fn share(&self) -> Result<InsertionIndex, OutOfMemory>
         ensures { IfOk result (λ m. m ≡ self.now) }
     {
         Ok(InsertionIndex {
@@ -66,7 +67,7 @@ impl InsertionIndex {
         stamp: Lamport,
         offset: u64,
         id: Locator,
-    ) -> Result<(), AllocError>
+    ) -> Result<(), OutOfMemory>
         requires { length (with_entry (record { stamp = stamp; offset = offset; id = id })
             self.old) ≤ 2 ^ 40 }
         ensures ok { OnOk result (self.new

@@ -2,9 +2,10 @@
 ghost use Rattle.std.specs.Prelude.{◌≡◌, Some, IfOk};
 ghost use Rattle.fragments.specs.Index.{key_of};
 
+use crate::OutOfMemory;
 use lamport_clock::Lamport;
 use locators::Locator;
-use std::alloc::{AllocError, Global};
+use std::alloc::Global;
 use std::cmp::Reverse;
 use sum_tree::{Item, KeyedItem};
 use tree_cursor::Greatest;
@@ -34,13 +35,13 @@ impl Item for IndexEntry {
 
     ghost is_single = { λ e. tt };
 
-    fn summary(&self, _alloc: Global) -> Result<Greatest<IndexKey>, AllocError> {
+    fn summary(&self, _alloc: Global) -> Result<Greatest<IndexKey>, OutOfMemory> {
         Ok(Greatest {
             key: Some(self.key()),
         })
     }
 
-    fn copy(&self, alloc: Global) -> Result<IndexEntry, AllocError> {
+    fn copy(&self, alloc: Global) -> Result<IndexEntry, OutOfMemory> {
         Ok(IndexEntry {
             stamp: self.stamp,
             offset: self.offset,

@@ -20,7 +20,7 @@ pub use index_entry::{IndexEntry, IndexKey};
 pub use laws::{base_stands, entry_takes_its_place, index_finds_fragments, places_count_cells};
 pub use spans::{INLINE_SPANS, Sight, Span, Spans};
 pub use stamps::{INLINE_STAMPS, Stamps};
-pub use std::alloc::AllocError as OutOfMemory;
+pub use sum_tree::OutOfMemory;
 use sum_tree::SumTree;
 
 fn sends<T: Send>(_value: &T) {}

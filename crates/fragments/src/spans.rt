@@ -4,9 +4,10 @@ ghost use Rattle.fragments.specs.declared.spans.Span.{Span};
 ghost use Rattle.fragments.specs.Spans.{hull, with_span, join_spans, spans_before, IsSpanAt, sees_all, sees_none};
 ghost use Rattle.fragments.specs.declared.spans.Sight.{Sight};
 
+use crate::OutOfMemory;
 use lamport_clock::Version;
 use smallvec::SmallVec;
-use std::alloc::{AllocError, Global};
+use std::alloc::Global;
 use std::marker::Model;
 
 /// How many spans take no memory of their own.
@@ -72,7 +73,7 @@ impl Spans {
     }
 
     /// One span. It takes no memory.
-    pub fn of(alloc: Global, span: Span) -> Result<Spans, AllocError>
+    pub fn of(alloc: Global, span: Span) -> Result<Spans, OutOfMemory>
         ensures span { IfOk result (λ s. s ≡ span ∷ []) }
         ensures succeeds { IsOk result }
     {
@@ -89,14 +90,14 @@ impl Spans {
     }
 
     // Takes in a span.
-    fn widen(&mut self, span: Span) -> Result<(), AllocError>
+    fn widen(&mut self, span: Span) -> Result<(), OutOfMemory>
         ensures { IfOk result (λ _. self.new ≡ with_span span self.old) }
     {
         widen(&mut self.inner, span)
     }
 
     // Takes in all spans of others. Linear in the product of both numbers.
-    pub(crate) fn join(&mut self, others: &Spans) -> Result<(), AllocError>
+    pub(crate) fn join(&mut self, others: &Spans) -> Result<(), OutOfMemory>
         ensures { IfOk result (λ _. self.new ≡ join_spans self.old others.now) }
     {
         for span in others.as_slice() {
@@ -151,7 +152,7 @@ fn span_at(spans: &[Span], at: usize, r: u16) -> Option<Span>
 }
 
 // Takes in a span.
-fn widen(spans: &mut SmallVec<Span, INLINE_SPANS>, span: Span) -> Result<(), AllocError>
+fn widen(spans: &mut SmallVec<Span, INLINE_SPANS>, span: Span) -> Result<(), OutOfMemory>
     ensures ok { OnOk result (spans.new.items ≡ with_span span spans.old.items) }
     ensures err { OnErr result (spans.new.items ≡ spans.old.items) }
 {
@@ -162,6 +163,6 @@ fn widen(spans: &mut SmallVec<Span, INLINE_SPANS>, span: Span) -> Result<(), All
     }
     match spans.insert(at, span) {
         Ok(()) => Ok(()),
-        Err(_) => Err(AllocError),
+        Err(_) => Err(OutOfMemory),
     }
 }

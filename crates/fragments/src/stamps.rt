@@ -3,9 +3,10 @@ ghost use Rattle.std.specs.Prelude.{◌≡◌, ◌≤◌, [], length, IsOk, IfOk
 ghost use Rattle.op_model.specs.Facts.{with_deletion};
 ghost use Rattle.fragments.specs.Stamps.{place_of};
 
+use crate::OutOfMemory;
 use lamport_clock::{Lamport, is_later};
 use smallvec::SmallVec;
-use std::alloc::{AllocError, Global};
+use std::alloc::Global;
 use std::marker::Model;
 
 /// How many stamps take no memory of their own.
@@ -46,7 +47,7 @@ impl Stamps {
     }
 
     /// Equal stamps. It takes memory only for more than [`INLINE_STAMPS`].
-    pub fn copy(&self, alloc: Global) -> Result<Stamps, AllocError>
+    pub fn copy(&self, alloc: Global) -> Result<Stamps, OutOfMemory>
         ensures stamps { IfOk result (λ s. s ≡ self.now) }
         ensures short { length self.now ≤ INLINE_STAMPS → IsOk result }
     {
@@ -56,14 +57,14 @@ impl Stamps {
     }
 
     /// Puts a stamp among stamps that descend. Linear in their number.
-    pub fn insert(&mut self, t: Lamport) -> Result<(), AllocError>
+    pub fn insert(&mut self, t: Lamport) -> Result<(), OutOfMemory>
         ensures ok { OnOk result (self.new ≡ with_deletion t self.old) }
         ensures err { OnErr result (self.new ≡ self.old) }
     {
         let at = place_in(self.inner.as_slice(), t);
         match self.inner.insert(at, t) {
             Ok(()) => Ok(()),
-            Err(_) => Err(AllocError),
+            Err(_) => Err(OutOfMemory),
         }
     }
 }

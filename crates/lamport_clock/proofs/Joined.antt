@@ -2,7 +2,7 @@
 use Rattle.std.proofs.Common.{◌≡◌, ℕ, suc, ◌≤◌, ◌≢◌, max, [], ◌∷◌, refl, sym, ap, ◌∙◌, arith, true, false, cond, eqb, ltb, leb, ne_eqb, eq-eqb, inl, inr, is_none, subst}
 use Rattle.std.proofs.lemmas.Bool.{le-leb, lt-leb, le-ltb, lt-ltb, leb-true, and_parts, and_from, cases_eq}
 use Rattle.lamport_clock.specs.declared.stamp.Lamport.{Lamport}
-use Rattle.lamport_clock.specs.Versions.{Entries, IsVersionFrom, IsVersion, entry, within, put, raise, first_unseen, joined}
+use Rattle.lamport_clock.specs.Versions.{Entries, IsVersionFrom, IsVersion, entry, within, put_entry, raise, first_unseen, join_versions}
 use Rattle.lamport_clock.proofs.Raises.{by_bound, raise_seen, raise_new, entry-put_at, entry-put_off}
 use Rattle.lamport_clock.proofs.Entries.{IsVersion-put}
 use Rattle.lamport_clock.proofs.Joining.{entry_below}
@@ -18,7 +18,7 @@ entry-raise_off u t q n = by_bound _ t.value (entry u t.replica)
     (λ l. ap (λ w. entry w q) (raise_new u t l) ∙ entry-put_off u t.replica t.value q n)
 
 -- for each replica the greater value
-pub entry-joined : (n : ℕ) (u v : Entries) (r : ℕ) → IsVersionFrom n v → entry (joined u v) r ≡ max (entry u r) (entry v r)
+pub entry-joined : (n : ℕ) (u v : Entries) (r : ℕ) → IsVersionFrom n v → entry (join_versions u v) r ≡ max (entry u r) (entry v r)
 entry-joined n u [] r h = omega arith
 entry-joined n u (e ∷ v) r h =
     let t : Lamport = record { value = e.1; replica = e.0 } in
@@ -58,19 +58,19 @@ within_by_entries n (e ∷ v) u h f =
 
 -- ---- a join is the least that both are within
 
-pub within_join : (u v : Entries) → IsVersion u → IsVersion v → (within u (joined u v) ≡ true) × (within v (joined u v) ≡ true)
+pub within_join : (u v : Entries) → IsVersion u → IsVersion v → (within u (join_versions u v) ≡ true) × (within v (join_versions u v) ≡ true)
 within_join u v a b = (
-  within_by_entries 0 u (joined u v) a (λ r. let e = entry-joined 0 u v r b in omega arith),
-  within_by_entries 0 v (joined u v) b (λ r. let e = entry-joined 0 u v r b in omega arith),
+  within_by_entries 0 u (join_versions u v) a (λ r. let e = entry-joined 0 u v r b in omega arith),
+  within_by_entries 0 v (join_versions u v) b (λ r. let e = entry-joined 0 u v r b in omega arith),
 )
 
-within-put : (v u : Entries) (r x : ℕ) → within v u ≡ true → x ≤ entry u r → within (put r x v) u ≡ true
+within-put : (v u : Entries) (r x : ℕ) → within v u ≡ true → x ≤ entry u r → within (put_entry r x v) u ≡ true
 within-put [] u r x w l = and_from _ _ (le-leb x (entry u r) l) refl
 within-put (e ∷ v) u r x w l =
     let k = and_parts (leb e.1 (entry u e.0)) (within v u) w in
     let rest = within-put v u r x k.1 l in
     let first = le-leb x (entry u r) l in
-    elim (ltb e.0 r) as (λ b. within (cond b (e ∷ put r x v) (cond (eqb e.0 r) ((r, x) ∷ v) ((r, x) ∷ e ∷ v))) u ≡ true) [
+    elim (ltb e.0 r) as (λ b. within (cond b (e ∷ put_entry r x v) (cond (eqb e.0 r) ((r, x) ∷ v) ((r, x) ∷ e ∷ v))) u ≡ true) [
       | true ↦ and_from _ _ k.0 rest
       | false ↦ elim (eqb e.0 r) as (λ b. within (cond b ((r, x) ∷ v) ((r, x) ∷ e ∷ v)) u ≡ true) [
         | true ↦ and_from _ _ first k.1
@@ -78,7 +78,7 @@ within-put (e ∷ v) u r x w l =
       ]
     ]
 
-pub joined_within : (u v w : Entries) → within u w ≡ true → within v w ≡ true → within (joined u v) w ≡ true
+pub joined_within : (u v w : Entries) → within u w ≡ true → within v w ≡ true → within (join_versions u v) w ≡ true
 joined_within u [] w a b = a
 joined_within u (e ∷ v) w a b =
     let t : Lamport = record { value = e.1; replica = e.0 } in
@@ -98,13 +98,13 @@ none_unseen u (e ∷ v) =
     (λ l. rw (lt-ltb (entry u e.0) e.1 l, lt-leb e.1 (entry u e.0) l) refl)
 
 -- nothing comes of what is seen already
-pub joined_seen : (u v : Entries) → within v u ≡ true → joined u v ≡ u
+pub joined_seen : (u v : Entries) → within v u ≡ true → join_versions u v ≡ u
 joined_seen u [] w = refl
 joined_seen u (e ∷ v) w =
     let k = and_parts (leb e.1 (entry u e.0)) (within v u) w in
-    ap (λ z. joined z v) (raise_seen u (record { value = e.1; replica = e.0 }) (leb-true e.1 (entry u e.0) k.0)) ∙ joined_seen u v k.1
+    ap (λ z. join_versions z v) (raise_seen u (record { value = e.1; replica = e.0 }) (leb-true e.1 (entry u e.0) k.0)) ∙ joined_seen u v k.1
 
-pub IsVersion-joined : (n : ℕ) (u v : Entries) → IsVersion u → IsVersionFrom n v → IsVersion (joined u v)
+pub IsVersion-joined : (n : ℕ) (u v : Entries) → IsVersion u → IsVersionFrom n v → IsVersion (join_versions u v)
 IsVersion-joined n u [] a b = a
 IsVersion-joined n u (e ∷ v) a b =
     let t : Lamport = record { value = e.1; replica = e.0 } in
@@ -114,8 +114,8 @@ IsVersion-joined n u (e ∷ v) a b =
     (λ l. subst IsVersion (sym (raise_new u t l)) (IsVersion-put u e.0 e.1 b.1 b.2 b.3 a))) b.4
 
 -- a join of lists that are two versions' entries
-pub joined_version : (m a b u v : Entries) → m ≡ joined a b → a ≡ u → b ≡ v → IsVersion u → IsVersion v → IsVersion m
-joined_version m a b u v e p q x y = subst IsVersion (sym (e ∙ ap (λ z. joined z b) p ∙ ap (joined u) q)) (IsVersion-joined 0 u v x y)
+pub joined_version : (m a b u v : Entries) → m ≡ join_versions a b → a ≡ u → b ≡ v → IsVersion u → IsVersion v → IsVersion m
+joined_version m a b u v e p q x y = subst IsVersion (sym (e ∙ ap (λ z. join_versions z b) p ∙ ap (join_versions u) q)) (IsVersion-joined 0 u v x y)
 
-pub joined_greater : (m a b u v s t : Entries) → m ≡ joined a b → a ≡ u → b ≡ v → u ≡ s → v ≡ t → IsVersion v → (r : ℕ) → entry m r ≡ max (entry s r) (entry t r)
-joined_greater m a b u v s t e p q f g y r = ap (λ z. entry z r) (e ∙ ap (λ z. joined z b) p ∙ ap (joined u) q) ∙ entry-joined 0 u v r y ∙ ap (λ z. max (entry z r) (entry v r)) f ∙ ap (λ z. max (entry s r) (entry z r)) g
+pub joined_greater : (m a b u v s t : Entries) → m ≡ join_versions a b → a ≡ u → b ≡ v → u ≡ s → v ≡ t → IsVersion v → (r : ℕ) → entry m r ≡ max (entry s r) (entry t r)
+joined_greater m a b u v s t e p q f g y r = ap (λ z. entry z r) (e ∙ ap (λ z. join_versions z b) p ∙ ap (join_versions u) q) ∙ entry-joined 0 u v r y ∙ ap (λ z. max (entry z r) (entry v r)) f ∙ ap (λ z. max (entry s r) (entry z r)) g

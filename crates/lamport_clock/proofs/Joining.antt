@@ -2,7 +2,7 @@
 use Rattle.std.proofs.Common.{◌≡◌, ℕ, suc, ◌+◌, ◌<◌, ◌≤◌, max, [], ◌∷◌, ◌++◌, length, take, drop, refl, sym, ap, ◌∙◌, subst, arith, true, false, cond, eqb, ltb, leb, Some, ne_eqb, eq-eqb, Bool, zero, get_or, set, append_assoc}
 use Rattle.std.proofs.lemmas.List.{drop_more, take_more_set, drop-set-lt}
 use Rattle.std.proofs.lemmas.Bool.{lt-ltb, le-ltb, lt-leb, le-leb, ltb-true}
-use Rattle.lamport_clock.specs.Versions.{Entries, IsVersionFrom, entry, put, raise, place_of, front, behind, first_unseen, joined}
+use Rattle.lamport_clock.specs.Versions.{Entries, IsVersionFrom, entry, put_entry, raise, place_of, front, behind, first_unseen, join_versions}
 use Rattle.lamport_clock.proofs.Raises.{by_order, by_bound}
 
 pub entry_below : (n : ℕ) (v : Entries) (r : ℕ) → IsVersionFrom n v → r < n → entry v r ≡ 0
@@ -50,21 +50,21 @@ unseen_later u (e ∷ v) r n l h =
 raise_past : (d : ℕ × ℕ) (u : Entries) (e : ℕ × ℕ) → d.0 < e.0 → raise (d ∷ u) (record { value = e.1; replica = e.0 }) ≡ d ∷ raise u (record { value = e.1; replica = e.0 })
 raise_past d u e l =
     let ne : eqb d.0 e.0 ≡ false = ne_eqb d.0 e.0 (λ q. absurd (omega arith)) in
-    rw (ne, lt-ltb d.0 e.0 l) (elim (leb e.1 (entry u e.0)) as (λ b. cond b (d ∷ u) (d ∷ put e.0 e.1 u) ≡ d ∷ cond b u (put e.0 e.1 u)) [ true ↦ refl | false ↦ refl ])
+    rw (ne, lt-ltb d.0 e.0 l) (elim (leb e.1 (entry u e.0)) as (λ b. cond b (d ∷ u) (d ∷ put_entry e.0 e.1 u) ≡ d ∷ cond b u (put_entry e.0 e.1 u)) [ true ↦ refl | false ↦ refl ])
 
-pub joined_past : (d : ℕ × ℕ) (u v : Entries) (n : ℕ) → IsVersionFrom n v → d.0 < n → joined (d ∷ u) v ≡ d ∷ joined u v
+pub joined_past : (d : ℕ × ℕ) (u v : Entries) (n : ℕ) → IsVersionFrom n v → d.0 < n → join_versions (d ∷ u) v ≡ d ∷ join_versions u v
 joined_past d u [] n h l = refl
 joined_past d u (e ∷ v) n h l =
     let a = h.0 in
-    ap (λ w. joined w v) (raise_past d u e (omega arith)) ∙ joined_past d (raise u (record { value = e.1; replica = e.0 })) v (suc e.0) h.4 (omega arith)
+    ap (λ w. join_versions w v) (raise_past d u e (omega arith)) ∙ joined_past d (raise u (record { value = e.1; replica = e.0 })) v (suc e.0) h.4 (omega arith)
 
 raise_here : (d : ℕ × ℕ) (u : Entries) (e : ℕ × ℕ) → d.0 ≡ e.0 → raise (d ∷ u) (record { value = e.1; replica = e.0 }) ≡ (e.0, max d.1 e.1) ∷ u
 raise_here d u e q =
     let t : eqb d.0 e.0 ≡ true = eq-eqb d.0 e.0 q in
     let f : ltb d.0 e.0 ≡ false = le-ltb d.0 e.0 (omega arith) in
     by_bound _ e.1 d.1
-    (λ l. ap (λ b. cond (leb e.1 (cond b d.1 (entry u e.0))) (d ∷ u) (put e.0 e.1 (d ∷ u))) t ∙ rw (le-leb e.1 d.1 l) (ap (λ x. (x, d.1) ∷ u) q ∙ ap (λ x. (e.0, x) ∷ u) (omega arith)))
-    (λ l. ap (λ b. cond (leb e.1 (cond b d.1 (entry u e.0))) (d ∷ u) (put e.0 e.1 (d ∷ u))) t ∙ rw (lt-leb e.1 d.1 l, f, t) (ap (λ x. (e.0, x) ∷ u) (omega arith)))
+    (λ l. ap (λ b. cond (leb e.1 (cond b d.1 (entry u e.0))) (d ∷ u) (put_entry e.0 e.1 (d ∷ u))) t ∙ rw (le-leb e.1 d.1 l) (ap (λ x. (x, d.1) ∷ u) q ∙ ap (λ x. (e.0, x) ∷ u) (omega arith)))
+    (λ l. ap (λ b. cond (leb e.1 (cond b d.1 (entry u e.0))) (d ∷ u) (put_entry e.0 e.1 (d ∷ u))) t ∙ rw (lt-leb e.1 d.1 l, f, t) (ap (λ x. (e.0, x) ∷ u) (omega arith)))
 
 raise_before : (n : ℕ) (u : Entries) (e : ℕ × ℕ) → IsVersionFrom n u → e.0 < n → 0 < e.1 → raise u (record { value = e.1; replica = e.0 }) ≡ e ∷ u
 raise_before n [] e h l p = rw (lt-leb e.1 0 p) refl
@@ -72,20 +72,20 @@ raise_before n (d ∷ u) e h l p =
     let a = h.0 in
     let ne : eqb d.0 e.0 ≡ false = ne_eqb d.0 e.0 (λ q. absurd (omega arith)) in
     let none : entry (d ∷ u) e.0 ≡ 0 = entry_below n (d ∷ u) e.0 h l in
-    ap (λ x. cond (leb e.1 x) (d ∷ u) (put e.0 e.1 (d ∷ u))) none ∙ rw (lt-leb e.1 0 p, le-ltb d.0 e.0 (omega arith), ne) refl
+    ap (λ x. cond (leb e.1 x) (d ∷ u) (put_entry e.0 e.1 (d ∷ u))) none ∙ rw (lt-leb e.1 0 p, le-ltb d.0 e.0 (omega arith), ne) refl
 
 -- what both have, up to the second's first entry and behind it
 pub joined_along : (n m : ℕ) (u v : Entries) (e : ℕ × ℕ) → IsVersionFrom n u → IsVersionFrom m (e ∷ v)
-    → joined u (e ∷ v) ≡ take (place_of u e.0) u ++ (e.0, max (front (drop (place_of u e.0) u) e.0) e.1) ∷ joined (behind (drop (place_of u e.0) u) e.0) v
-joined_along n m [] v e hu hv = ap (λ w. joined w v) (raise_before (suc e.0) [] e tt (omega arith) hv.2) ∙ joined_past e [] v (suc e.0) hv.4 (omega arith) ∙ ap (λ x. (e.0, x) ∷ joined [] v) (omega arith)
+    → join_versions u (e ∷ v) ≡ take (place_of u e.0) u ++ (e.0, max (front (drop (place_of u e.0) u) e.0) e.1) ∷ join_versions (behind (drop (place_of u e.0) u) e.0) v
+joined_along n m [] v e hu hv = ap (λ w. join_versions w v) (raise_before (suc e.0) [] e tt (omega arith) hv.2) ∙ joined_past e [] v (suc e.0) hv.4 (omega arith) ∙ ap (λ x. (e.0, x) ∷ join_versions [] v) (omega arith)
 joined_along n m (d ∷ u) v e hu hv =
-    let R : ℕ → Entries = λ k. take k (d ∷ u) ++ (e.0, max (front (drop k (d ∷ u)) e.0) e.1) ∷ joined (behind (drop k (d ∷ u)) e.0) v in
+    let R : ℕ → Entries = λ k. take k (d ∷ u) ++ (e.0, max (front (drop k (d ∷ u)) e.0) e.1) ∷ join_versions (behind (drop k (d ∷ u)) e.0) v in
     let at : (b : Bool) → ltb d.0 e.0 ≡ b → R (cond b (suc (place_of u e.0)) 0) ≡ R (place_of (d ∷ u) e.0) = λ b t. ap (λ c. R (cond c (suc (place_of u e.0)) 0)) (sym t) in
-    let here : (b : Bool) → eqb d.0 e.0 ≡ b → (e.0, max (cond b d.1 0) e.1) ∷ joined (cond b u (d ∷ u)) v ≡ R 0 = λ b t. ap (λ c. (e.0, max (cond c d.1 0) e.1) ∷ joined (cond c u (d ∷ u)) v) (sym t) in
+    let here : (b : Bool) → eqb d.0 e.0 ≡ b → (e.0, max (cond b d.1 0) e.1) ∷ join_versions (cond b u (d ∷ u)) v ≡ R 0 = λ b t. ap (λ c. (e.0, max (cond c d.1 0) e.1) ∷ join_versions (cond c u (d ∷ u)) v) (sym t) in
     by_order _ d.0 e.0
-    (λ l. ap (λ w. joined w v) (raise_past d u e l) ∙ joined_past d (raise u (record { value = e.1; replica = e.0 })) v (suc e.0) hv.4 (omega arith) ∙ ap (λ w. d ∷ w) (joined_along (suc d.0) m u v e hu.4 hv) ∙ at true (lt-ltb d.0 e.0 l))
-    (λ q. ap (λ w. joined w v) (raise_here d u e q) ∙ joined_past (e.0, max d.1 e.1) u v (suc e.0) hv.4 (omega arith) ∙ here true (eq-eqb d.0 e.0 q) ∙ at false (le-ltb d.0 e.0 (omega arith)))
-    (λ g. ap (λ w. joined w v) (raise_before d.0 (d ∷ u) e (omega arith, hu.1, hu.2, hu.3, hu.4) g hv.2) ∙ joined_past e (d ∷ u) v (suc e.0) hv.4 (omega arith) ∙ ap (λ x. (e.0, x) ∷ joined (d ∷ u) v) (omega arith) ∙ here false (ne_eqb d.0 e.0 (λ q. absurd (omega arith))) ∙ at false (le-ltb d.0 e.0 (omega arith)))
+    (λ l. ap (λ w. join_versions w v) (raise_past d u e l) ∙ joined_past d (raise u (record { value = e.1; replica = e.0 })) v (suc e.0) hv.4 (omega arith) ∙ ap (λ w. d ∷ w) (joined_along (suc d.0) m u v e hu.4 hv) ∙ at true (lt-ltb d.0 e.0 l))
+    (λ q. ap (λ w. join_versions w v) (raise_here d u e q) ∙ joined_past (e.0, max d.1 e.1) u v (suc e.0) hv.4 (omega arith) ∙ here true (eq-eqb d.0 e.0 q) ∙ at false (le-ltb d.0 e.0 (omega arith)))
+    (λ g. ap (λ w. join_versions w v) (raise_before d.0 (d ∷ u) e (omega arith, hu.1, hu.2, hu.3, hu.4) g hv.2) ∙ joined_past e (d ∷ u) v (suc e.0) hv.4 (omega arith) ∙ ap (λ x. (e.0, x) ∷ join_versions (d ∷ u) v) (omega arith) ∙ here false (ne_eqb d.0 e.0 (λ q. absurd (omega arith))) ∙ at false (le-ltb d.0 e.0 (omega arith)))
 
 -- ---- one turn of a walk along the second's entries
 
@@ -126,28 +126,28 @@ unseen_turn u v from i p hu hv l hp hf =
     (λ a. now true (lt-ltb (front from e.0) e.1 a), λ a. now false (le-ltb (front from e.0) e.1 a) ∙ later)
 
 pub joined_turn : (u v all before from : Entries) (i p x : ℕ) → IsVersionFrom 0 u → IsVersionFrom 0 v → i < length v → p ≡ place_of u (At v i).0 → before ≡ take p u → from ≡ drop p u → x ≡ max (front from (At v i).0) (At v i).1
-    → all ++ joined u (drop i v) ≡ ((all ++ before) ++ ((At v i).0, x) ∷ []) ++ joined (behind from (At v i).0) (drop (i + 1) v)
+    → all ++ join_versions u (drop i v) ≡ ((all ++ before) ++ ((At v i).0, x) ∷ []) ++ join_versions (behind from (At v i).0) (drop (i + 1) v)
 joined_turn u v all before from i p x hu hv l hp hb hf hx =
     let e = At v i in
     let w = drop (i + 1) v in
     let near : take (place_of u e.0) u ≡ before = ap (λ k. take k u) (sym hp) ∙ sym hb in
     let far : drop (place_of u e.0) u ≡ from = ap (λ k. drop k u) (sym hp) ∙ sym hf in
-    ap (λ z. all ++ joined u z) (drop_more v i (0, 0) l)
+    ap (λ z. all ++ join_versions u z) (drop_more v i (0, 0) l)
     ∙ ap (λ z. all ++ z) (joined_along 0 0 u w e hu (turned v i hv l))
-    ∙ ap (λ z. all ++ (z ++ (e.0, max (front (drop (place_of u e.0) u) e.0) e.1) ∷ joined (behind (drop (place_of u e.0) u) e.0) w)) near
-    ∙ ap (λ z. all ++ (before ++ (e.0, max (front z e.0) e.1) ∷ joined (behind z e.0) w)) far
-    ∙ ap (λ z. all ++ (before ++ (e.0, z) ∷ joined (behind from e.0) w)) (sym hx)
-    ∙ sym (append_assoc all before ((e.0, x) ∷ joined (behind from e.0) w))
-    ∙ sym (append_assoc (all ++ before) ((e.0, x) ∷ []) (joined (behind from e.0) w))
+    ∙ ap (λ z. all ++ (z ++ (e.0, max (front (drop (place_of u e.0) u) e.0) e.1) ∷ join_versions (behind (drop (place_of u e.0) u) e.0) w)) near
+    ∙ ap (λ z. all ++ (before ++ (e.0, max (front z e.0) e.1) ∷ join_versions (behind z e.0) w)) far
+    ∙ ap (λ z. all ++ (before ++ (e.0, z) ∷ join_versions (behind from e.0) w)) (sym hx)
+    ∙ sym (append_assoc all before ((e.0, x) ∷ join_versions (behind from e.0) w))
+    ∙ sym (append_assoc (all ++ before) ((e.0, x) ∷ []) (join_versions (behind from e.0) w))
 
 -- ---- two versions of the same replicas
 
-joined_here : (d : ℕ × ℕ) (u : Entries) (e : ℕ × ℕ) (v : Entries) (m : ℕ) → d.0 ≡ e.0 → IsVersionFrom m (e ∷ v) → joined (d ∷ u) (e ∷ v) ≡ (e.0, max d.1 e.1) ∷ joined u v
-joined_here d u e v m q h = ap (λ w. joined w v) (raise_here d u e q) ∙ joined_past (e.0, max d.1 e.1) u v (suc e.0) h.4 (omega arith)
+joined_here : (d : ℕ × ℕ) (u : Entries) (e : ℕ × ℕ) (v : Entries) (m : ℕ) → d.0 ≡ e.0 → IsVersionFrom m (e ∷ v) → join_versions (d ∷ u) (e ∷ v) ≡ (e.0, max d.1 e.1) ∷ join_versions u v
+joined_here d u e v m q h = ap (λ w. join_versions w v) (raise_here d u e q) ∙ joined_past (e.0, max d.1 e.1) u v (suc e.0) h.4 (omega arith)
 
 -- one entry raised where it lies, behind those that are
 pub joined_each : (u v : Entries) (i x : ℕ) → IsVersionFrom 0 v → i < length v → length u ≡ length v → (At u i).0 ≡ (At v i).0 → x ≡ max (At u i).1 (At v i).1
-    → take i u ++ joined (drop i u) (drop i v) ≡ take (i + 1) (set u i ((At v i).0, x)) ++ joined (drop (i + 1) (set u i ((At v i).0, x))) (drop (i + 1) v)
+    → take i u ++ join_versions (drop i u) (drop i v) ≡ take (i + 1) (set u i ((At v i).0, x)) ++ join_versions (drop (i + 1) (set u i ((At v i).0, x))) (drop (i + 1) v)
 joined_each u v i x h l long same greater =
     let d = At u i in
     let e = At v i in
@@ -155,17 +155,17 @@ joined_each u v i x h l long same greater =
     let us = drop (i + 1) u in
     let vs = drop (i + 1) v in
     let within : i < length u = omega (arith, l, long) in
-    let here : joined (drop i u) (drop i v) ≡ a ∷ joined us vs =
-    ap (λ z. joined z (drop i v)) (drop_more u i (0, 0) within)
-    ∙ ap (λ z. joined (d ∷ us) z) (drop_more v i (0, 0) l)
+    let here : join_versions (drop i u) (drop i v) ≡ a ∷ join_versions us vs =
+    ap (λ z. join_versions z (drop i v)) (drop_more u i (0, 0) within)
+    ∙ ap (λ z. join_versions (d ∷ us) z) (drop_more v i (0, 0) l)
     ∙ joined_here d us e vs 0 same (turned v i h l)
-    ∙ ap (λ y. (e.0, y) ∷ joined us vs) (sym greater) in
+    ∙ ap (λ y. (e.0, y) ∷ join_versions us vs) (sym greater) in
     let front : take (i + 1) (set u i a) ≡ take i u ++ a ∷ [] = take_more_set u i a within in
     let back : drop (i + 1) (set u i a) ≡ us = drop-set-lt (i + 1) u i a (omega arith) in
     ap (λ z. take i u ++ z) here
-    ∙ sym (append_assoc (take i u) (a ∷ []) (joined us vs))
-    ∙ ap (λ z. z ++ joined us vs) (sym front)
-    ∙ ap (λ z. take (i + 1) (set u i a) ++ joined z vs) (sym back)
+    ∙ sym (append_assoc (take i u) (a ∷ []) (join_versions us vs))
+    ∙ ap (λ z. z ++ join_versions us vs) (sym front)
+    ∙ ap (λ z. take (i + 1) (set u i a) ++ join_versions z vs) (sym back)
 
 heads : (d e : ℕ × ℕ) (u v : Entries) → d ∷ u ≡ e ∷ v → d ≡ e
 heads d e u v q = cc

@@ -1,12 +1,12 @@
 -- Worked rows of clocks and versions.
 use Rattle.std.proofs.Common.{◌≡◌, refl, [], ◌∷◌, true, false, Some, None}
-use Rattle.lamport_clock.specs.Clocks.{observed}
-use Rattle.lamport_clock.specs.Versions.{Entries, entry, sees, within, raise, first_unseen, joined}
+use Rattle.lamport_clock.specs.Clocks.{clock_after}
+use Rattle.lamport_clock.specs.Versions.{Entries, entry, sees, within, raise, first_unseen, join_versions}
 
 abbrev seen : Entries
 seen = (0, 1) ∷ (7, 9) ∷ []
 
-clocks : (observed 1 1 ≡ 2) × (observed 3 9 ≡ 10) × (observed 10 4294967294 ≡ 4294967295) × (observed 4294967295 1 ≡ 4294967295)
+clocks : (clock_after 1 1 ≡ 2) × (clock_after 3 9 ≡ 10) × (clock_after 10 4294967294 ≡ 4294967295) × (clock_after 4294967295 1 ≡ 4294967295)
 clocks = (refl, refl, refl, refl)
 
 entries : (entry seen 7 ≡ 9) × (entry seen 3 ≡ 0)
@@ -37,5 +37,5 @@ later_ones = (1, 3) ∷ (2, 1) ∷ []
 missing : (first_unseen early later_ones ≡ Some (1, 3)) × (first_unseen later_ones early ≡ None)
 missing = (refl, refl)
 
-joining : (joined early later_ones ≡ later_ones) × (joined later_ones early ≡ later_ones) × (joined early seen ≡ (0, 1) ∷ (1, 2) ∷ (7, 9) ∷ [])
+joining : (join_versions early later_ones ≡ later_ones) × (join_versions later_ones early ≡ later_ones) × (join_versions early seen ≡ (0, 1) ∷ (1, 2) ∷ (7, 9) ∷ [])
 joining = (refl, refl, refl)

@@ -2,5 +2,5 @@
 use Rattle.std.specs.Prelude.{ℕ, ◌+◌, max, min}
 
 -- the value of a clock at c after it has seen a stamp of value v
-abbrev pub observed : ℕ → ℕ → ℕ
-observed c v = min (max c v + 1) 4294967295
+abbrev pub clock_after : ℕ → ℕ → ℕ
+clock_after c v = min (max c v + 1) 4294967295

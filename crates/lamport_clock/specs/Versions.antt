@@ -38,22 +38,22 @@ within [] u = true
 within (e ∷ v) u = nat_le e.1 (entry u e.0) && within v u
 
 -- v with the value x at replica r
-abbrev pub put : ℕ → ℕ → Entries → Entries
-put r x [] = (r, x) ∷ []
-put r x (e ∷ v) = if nat_lt e.0 r then e ∷ put r x v else (if e.0 == r then (r, x) ∷ v else (r, x) ∷ e ∷ v)
+abbrev pub put_entry : ℕ → ℕ → Entries → Entries
+put_entry r x [] = (r, x) ∷ []
+put_entry r x (e ∷ v) = if nat_lt e.0 r then e ∷ put_entry r x v else (if e.0 == r then (r, x) ∷ v else (r, x) ∷ e ∷ v)
 
 -- v with t seen too
 abbrev pub raise : Entries → Lamport → Entries
-raise v t = if sees v t then v else put t.replica t.value v
+raise v t = if sees v t then v else put_entry t.replica t.value v
 
 -- the first entry of v that passes that of u: at the least such replica, as the replicas of a version ascend
 abbrev pub first_unseen : Entries → Entries → Option (ℕ × ℕ)
 first_unseen u v = find (λ e. nat_lt (entry u e.0) e.1) v
 
 -- u with all that v sees seen too
-abbrev pub joined : Entries → Entries → Entries
-joined u [] = u
-joined u (e ∷ v) = joined (raise u (record { value = e.1; replica = e.0 })) v
+abbrev pub join_versions : Entries → Entries → Entries
+join_versions u [] = u
+join_versions u (e ∷ v) = join_versions (raise u (record { value = e.1; replica = e.0 })) v
 
 -- ---- for private clauses
 

@@ -1,6 +1,6 @@
 //! A replica's clock.
 ghost use Rattle.std.specs.Prelude.{◌≡◌, ◌+◌, ◌<◌, ◌≤◌, ◌↔◌, IfOk, IsErr, OnErr, OnOk};
-ghost use Rattle.lamport_clock.specs.Clocks.{observed};
+ghost use Rattle.lamport_clock.specs.Clocks.{clock_after};
 
 use crate::Lamport;
 use std::marker::Model;
@@ -44,7 +44,7 @@ impl Clock {
 
     /// Moves past a stamp, to one more than the greater of its value and the clock's, but never past the last value.
     pub fn observe(&mut self, t: Lamport)
-        ensures { self.new ≡ record self.old { value = observed self.old.value t.value } }
+        ensures { self.new ≡ record self.old { value = clock_after self.old.value t.value } }
     {
         self.next.value = self.next.value.max(t.value).saturating_add(1);
     }

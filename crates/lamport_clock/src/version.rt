@@ -1,10 +1,10 @@
 //! The greatest stamp value seen of each replica.
 ghost use Rattle.std.specs.Prelude.{◌≡◌, ℕ, ◌<◌, ◌≤◌, [], max, IsOk, IfOk, OnErr, OnOk, length, slice_get, IsTrue, ◌↔◌};
-ghost use Rattle.lamport_clock.specs.Versions.{entry, sees, within, first_unseen, raise, joined, put, place_of, front, behind, IsAt, IsVersion, OfSameReplicas};
+ghost use Rattle.lamport_clock.specs.Versions.{entry, sees, within, first_unseen, raise, join_versions, put_entry, place_of, front, behind, IsAt, IsVersion, OfSameReplicas};
 
-use crate::Lamport;
+use crate::{Lamport, OutOfMemory};
 use smallvec::SmallVec;
-use std::alloc::{AllocError, Global};
+use std::alloc::Global;
 use std::marker::Model;
 
 /// For each replica the greatest value seen, 0 where none was. Contracts see it as the list of its entries
@@ -90,7 +90,7 @@ impl Version {
     }
 
     /// Takes the stamp's value as that of its replica where it is greater than the one seen.
-    pub fn observe(&mut self, t: Lamport) -> Result<(), AllocError>
+    pub fn observe(&mut self, t: Lamport) -> Result<(), OutOfMemory>
         ensures ok { OnOk result (self.new ≡ raise self.old t) }
         ensures err { OnErr result (self.new ≡ self.old) }
     {
@@ -104,8 +104,8 @@ impl Version {
     /// Sees all that the other version has seen too: for each replica the greater value. Linear in the replicas of both,
     /// and without memory where the other has seen nothing more. Where both have seen the same replicas, the values are
     /// raised in place.
-    pub fn join(&mut self, o: &Version) -> Result<(), AllocError>
-        ensures ok { OnOk result (self.new ≡ joined self.old o.now) }
+    pub fn join(&mut self, o: &Version) -> Result<(), OutOfMemory>
+        ensures ok { OnOk result (self.new ≡ join_versions self.old o.now) }
         ensures greater { OnOk result ((r : ℕ)
             → entry self.new r ≡ max (entry self.old r) (entry o.now r)) }
         ensures seen { IsTrue (within o.now self.old) → IsOk result }
@@ -119,7 +119,7 @@ impl Version {
     }
 
     /// An equal version.
-    pub fn copy(&self, alloc: Global) -> Result<Version, AllocError>
+    pub fn copy(&self, alloc: Global) -> Result<Version, OutOfMemory>
         ensures { IfOk result (λ v. v ≡ self.now) }
     {
         Ok(Version {
@@ -192,10 +192,10 @@ fn unseen_in(ours: &[(u16, u32)], theirs: &[(u16, u32)]) -> Option<(u16, u32)>
 fn join_entries(
     entries: &mut SmallVec<(u16, u32), 4>,
     theirs: &[(u16, u32)],
-) -> Result<(), AllocError>
+) -> Result<(), OutOfMemory>
     requires ours { IsVersion entries.old.items }
     requires theirs { IsVersion theirs.now }
-    ensures ok { OnOk result (entries.new.items ≡ joined entries.old.items theirs.now) }
+    ensures ok { OnOk result (entries.new.items ≡ join_versions entries.old.items theirs.now) }
     ensures err { OnErr result (entries.new.items ≡ entries.old.items) }
 {
     if same_replicas(entries.as_slice(), theirs) {
@@ -226,7 +226,7 @@ fn same_replicas(ours: &[(u16, u32)], theirs: &[(u16, u32)]) -> bool
 fn raise_each(ours: &mut [(u16, u32)], theirs: &[(u16, u32)])
     requires theirs { IsVersion theirs.now }
     requires same { OfSameReplicas ours.old theirs.now }
-    ensures { ours.new ≡ joined ours.old theirs.now }
+    ensures { ours.new ≡ join_versions ours.old theirs.now }
 {
     for i in 0..theirs.len() {
         let (replica, value) = theirs[i];
@@ -240,10 +240,10 @@ fn merged(
     alloc: Global,
     ours: &[(u16, u32)],
     theirs: &[(u16, u32)],
-) -> Result<SmallVec<(u16, u32), 4>, AllocError>
+) -> Result<SmallVec<(u16, u32), 4>, OutOfMemory>
     requires ours { IsVersion ours.now }
     requires theirs { IsVersion theirs.now }
-    ensures { IfOk result (λ all. all.items ≡ joined ours.now theirs.now) }
+    ensures { IfOk result (λ all. all.items ≡ join_versions ours.now theirs.now) }
 {
     let mut all = SmallVec::new(alloc);
     let mut rest = ours;
@@ -264,8 +264,8 @@ fn is_at(entries: &[(u16, u32)], at: usize, r: u16) -> bool
 }
 
 // Puts the stamp's value at its replica.
-fn put(entries: &mut SmallVec<(u16, u32), 4>, t: Lamport) -> Result<(), AllocError>
-    ensures ok { OnOk result (entries.new.items ≡ put t.replica t.value entries.old.items) }
+fn put(entries: &mut SmallVec<(u16, u32), 4>, t: Lamport) -> Result<(), OutOfMemory>
+    ensures ok { OnOk result (entries.new.items ≡ put_entry t.replica t.value entries.old.items) }
     ensures err { OnErr result (entries.new.items ≡ entries.old.items) }
 {
     let at = place_in(entries.as_slice(), t.replica);
@@ -275,6 +275,6 @@ fn put(entries: &mut SmallVec<(u16, u32), 4>, t: Lamport) -> Result<(), AllocErr
     }
     match entries.insert(at, (t.replica, t.value)) {
         Ok(()) => Ok(()),
-        Err(_) => Err(AllocError),
+        Err(_) => Err(OutOfMemory),
     }
 }

@@ -31,7 +31,7 @@ last_or_same x y rest = go (cases_Bool (nat_lt x (middle x y)))
         let high : middle x y ≤ x = ltb-false x (middle x y) l in
         let same : middle x y ≡ x = omega arith in inr (same, rw (l, same) refl)
 
-nat_cmp-below : (x y : ℕ) → x < y → nat_cmp x y ≡ Less
+pub nat_cmp-below : (x y : ℕ) → x < y → nat_cmp x y ≡ Less
 nat_cmp-below x y h = rw (lt-ltb x y h) refl
 
 nat_cmp-same : (x : ℕ) → nat_cmp x x ≡ Equal
@@ -43,10 +43,10 @@ less_by_head x y a b h = rw (nat_cmp-below x y h) refl
 less_by_rest : (x : ℕ) (a b : List ℕ) → IsLess a b → IsLess (x ∷ a) (x ∷ b)
 less_by_rest x a b h = rw (nat_cmp-same x) h
 
-nat_cmp-Less : (x y : ℕ) → nat_cmp x y ≡ Less → x < y
+pub nat_cmp-Less : (x y : ℕ) → nat_cmp x y ≡ Less → x < y
 nat_cmp-Less x y e = grind (arith, nat_tests)
 
-nat_cmp-Equal : (x y : ℕ) → nat_cmp x y ≡ Equal → x ≡ y
+pub nat_cmp-Equal : (x y : ℕ) → nat_cmp x y ≡ Equal → x ≡ y
 nat_cmp-Equal x y e = grind (arith, nat_tests)
 
 less_parts : (x y : ℕ) (a b : List ℕ) → IsLess (x ∷ a) (y ∷ b) → (x < y) ⊎ ((x ≡ y) × IsLess a b)

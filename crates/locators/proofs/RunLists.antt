@@ -6,7 +6,7 @@ use Rattle.locators.specs.Runs.{run_digits, kept_runs, BeginsOther, AreMaximal, 
 use Rattle.locators.specs.declared.runs.Runs.{Runs}
 use Rattle.std.proofs.Math.Seq.{take-length, take-append-add}
 use Rattle.locators.specs.Reading.{AreFull, digits_to}
-use Rattle.locators.specs.declared.Place.{Place}
+use Rattle.locators.specs.declared.BranchPoint.{BranchPoint}
 use Rattle.locators.specs.declared.TheConstants.{INLINE_RUNS}
 use Rattle.locators.specs.declared.runs.Run.{Run}
 
@@ -159,12 +159,12 @@ too_long rs count s r t n l =
       length-replicate s.count s.digit,
     )
 
--- the digits up to a place, by one run or by two
-pub digits_to-one : (rs : List Run) (place : Place) → place.part.count ≡ 0 → digits_with rs place.count (record { digit = place.digit; count = 1 }) ≡ digits_to rs place
-digits_to-one rs place e = rw (e, append-nil (run_digits (take place.count rs))) refl
+-- the digits up to a point, by one run or by two
+pub digits_to-one : (rs : List Run) (point : BranchPoint) → point.part.count ≡ 0 → digits_with rs point.count (record { digit = point.digit; count = 1 }) ≡ digits_to rs point
+digits_to-one rs point e = rw (e, append-nil (run_digits (take point.count rs))) refl
 
-pub digits_to-two : (rs front : List Run) (place : Place) → run_digits front ≡ digits_with rs place.count place.part → digits_with front (length front) (record { digit = place.digit; count = 1 }) ≡ digits_to rs place
-digits_to-two rs front place e = rw (take-length front, e) refl
+pub digits_to-two : (rs front : List Run) (point : BranchPoint) → run_digits front ≡ digits_with rs point.count point.part → digits_with front (length front) (record { digit = point.digit; count = 1 }) ≡ digits_to rs point
+digits_to-two rs front point e = rw (take-length front, e) refl
 
 -- what holds of the value, if there is one
 pub if_ok : {T E : Type 0} {P Q : T → Type 0} → ((x : T) → P x → Q x) → (r : Result T E) → IfOk r P → IfOk r Q

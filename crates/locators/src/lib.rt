@@ -118,25 +118,25 @@ impl Locator {
 // Where the digits between two others leave those of the first: behind so many of its runs and a part of the next
 // comes the last digit.
 #[derive(Clone, Copy)]
-struct Place {
+struct BranchPoint {
     count: usize,
     part: Run,
     digit: u64,
 }
 
 // Where `between` leaves the digits of `a`; none where there would be 2^64 digits or more.
-fn place_between(a: &Runs, b: &Runs) -> Option<Place>
+fn branch_point(a: &Runs, b: &Runs) -> Option<BranchPoint>
     requires a_kept { IsKept a.now }
     requires b_kept { IsKept b.now }
     ensures { MatchOption result
         (2 ^ 64 ≤ length (between_digits (run_digits (kept_runs a.now)) (run_digits (kept_runs b.now))))
-        (λ place. (place.count ≤ length (kept_runs a.now))
-        × (digits_to (kept_runs a.now) place
+        (λ point. (point.count ≤ length (kept_runs a.now))
+        × (digits_to (kept_runs a.now) point
         ≡ between_digits (run_digits (kept_runs a.now)) (run_digits (kept_runs b.now)))) }
 {
     match meet(continued(a, 0), continued(b, u64::MAX)) {
         None => None,
-        Some((met, digit)) => Some(Place {
+        Some((met, digit)) => Some(BranchPoint {
             count: a.len() - met.ahead.len(),
             part: Run {
                 digit: met.run.digit,
@@ -157,27 +157,27 @@ fn runs_between(alloc: Global, a: &Runs, b: &Runs) -> Result<Runs, OutOfMemory>
     ensures short { LieInline (between_digits (run_digits (kept_runs a.now)) (run_digits (kept_runs b.now)))
         → IsOk result }
 {
-    let place = place_between(a, b).ok_or(OutOfMemory)?;
-    runs_to(alloc, a, place)
+    let point = branch_point(a, b).ok_or(OutOfMemory)?;
+    runs_to(alloc, a, point)
 }
 
 // The runs up to a place, and the digit behind it.
-fn runs_to(alloc: Global, runs: &Runs, place: Place) -> Result<Runs, OutOfMemory>
+fn runs_to(alloc: Global, runs: &Runs, point: BranchPoint) -> Result<Runs, OutOfMemory>
     requires kept { IsKept runs.now }
-    requires within { place.count ≤ length (kept_runs runs.now) }
+    requires within { point.count ≤ length (kept_runs runs.now) }
     ensures digits { IfOk result (λ all. run_digits (kept_runs all)
-        ≡ digits_to (kept_runs runs.now) place) }
+        ≡ digits_to (kept_runs runs.now) point) }
     ensures kept { IfOk result IsKept }
-    ensures short { LieInline (digits_to (kept_runs runs.now) place) → IsOk result }
+    ensures short { LieInline (digits_to (kept_runs runs.now) point) → IsOk result }
 {
     let one = Run {
-        digit: place.digit,
+        digit: point.digit,
         count: 1,
     };
-    if place.part.count == 0 {
-        return runs.with_run(alloc, place.count, one);
+    if point.part.count == 0 {
+        return runs.with_run(alloc, point.count, one);
     }
-    let front = runs.with_run(alloc, place.count, place.part)?;
+    let front = runs.with_run(alloc, point.count, point.part)?;
     front.with_run(alloc, front.len(), one)
 }
 

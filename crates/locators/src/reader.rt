@@ -4,7 +4,7 @@ ghost use Rattle.std.specs.Cmp.Lexicographic.{slice_cmp};
 ghost use Rattle.std.specs.Ordering.{nat_cmp};
 ghost use Rattle.locators.specs.Locator.{middle, between_digits};
 ghost use Rattle.locators.specs.Runs.{run_digits};
-ghost use Rattle.locators.specs.Reading.{from_whole, left, runs_ahead, AreFull, GoesOn, IsReady, IsStep, Meet};
+ghost use Rattle.locators.specs.Reading.{from_whole, digits_left, runs_ahead, AreFull, GoesOn, IsReady, IsStep, Meet};
 
 use crate::runs::Run;
 use std::cmp::Ordering;
@@ -55,7 +55,7 @@ impl<'a> Reader<'a> {
     pub(crate) fn new(mut ahead: Ahead<'a>) -> Reader<'a>
         requires { AreFull (runs_ahead ahead) }
         ensures ready { IsReady result }
-        ensures left { left result ≡ run_digits (runs_ahead ahead.entry) }
+        ensures left { digits_left result ≡ run_digits (runs_ahead ahead.entry) }
         ensures whole { 0 < length (runs_ahead ahead.entry)
             → from_whole result ≡ runs_ahead ahead.entry }
         ensures taken { result.taken ≡ 0 }
@@ -73,7 +73,8 @@ impl<'a> Reader<'a> {
         requires ready { IsReady self.old }
         requires within { count ≤ self.old.run.count }
         ensures ready { IsReady self.new }
-        ensures left { left self.old ≡ replicate count self.old.run.digit ++ left self.new }
+        ensures left { digits_left self.old
+            ≡ replicate count self.old.run.digit ++ digits_left self.new }
         ensures place { GoesOn self.old self.new }
     {
         self.run.count -= count;
@@ -105,7 +106,8 @@ pub(crate) fn meet<'a>(mut a: Reader<'a>, mut b: Reader<'_>) -> Option<(Reader<'
     requires a_ready { IsReady a }
     requires b_ready { IsReady b }
     ensures { MatchOption result
-        (min (length (left a.entry)) (length (left b.entry)) < length (between_digits (left a.entry) (left b.entry)))
+        (min (length (digits_left a.entry)) (length (digits_left b.entry))
+        < length (between_digits (digits_left a.entry) (digits_left b.entry)))
         (λ met. Meet a.entry b.entry met.0 met.1) }
 {
     'along: while a.run.count > 0 && b.run.count > 0 {
@@ -148,7 +150,7 @@ pub(crate) fn pass_same(a: &mut Ahead<'_>, b: &mut Ahead<'_>)
 pub(crate) fn order(mut a: Reader<'_>, mut b: Reader<'_>) -> Ordering
     requires a_ready { IsReady a }
     requires b_ready { IsReady b }
-    ensures { result ≡ slice_cmp nat_cmp (left a.entry) (left b.entry) }
+    ensures { result ≡ slice_cmp nat_cmp (digits_left a.entry) (digits_left b.entry) }
 {
     'equal: while a.run.count > 0 && b.run.count > 0 {
         if a.run.digit != b.run.digit {

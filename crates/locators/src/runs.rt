@@ -159,7 +159,8 @@ impl Runs {
     fn before(&self, count: usize) -> Option<Run>
         requires { count ≤ length (kept_runs self.now) }
         ensures { MatchOption result (count ≡ 0)
-            (λ run. (0 < count) × (take count (kept_runs self.now) ≡ take (count - 1) (kept_runs self.now) ++ run ∷ [])) }
+            (λ run. (0 < count) × (take count (kept_runs self.now)
+            ≡ take (count - 1) (kept_runs self.now) ++ run ∷ [])) }
     {
         if count == 0 {
             return None;

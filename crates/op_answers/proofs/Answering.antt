@@ -1,7 +1,9 @@
--- The answer, case by case.
-use Rattle.std.proofs.Common.{◌≡◌, ℕ, Bool, true, false, List, [], ◌∷◌, ◌++◌, ltb, refl, sym, ◌∙◌, ap, Option, Some, None}
-use Rattle.std.specs.Prelude.{option_map, unwrap_or}
-use Rattle.lamport_clock.specs.Versions.{entry}
+-- The answer, part by part.
+use Rattle.std.proofs.Common.{◌≡◌, ℕ, Bool, true, false, ◌||◌, List, [], ◌∷◌, ◌++◌, ltb, refl, sym, ◌∙◌, ap, Option, Some, None}
+use Rattle.std.specs.Prelude.{is_none, is_some, map, option_map, unwrap_or}
+use Rattle.lamport_clock.specs.declared.stamp.Lamport.{Lamport}
+use Rattle.lamport_clock.specs.Versions.{Entries, entry, within}
+use Rattle.lamport_clock.proofs.Joined.{none_unseen}
 use Rattle.op_model.specs.declared.operation.Operation.{Operation}
 use Rattle.op_model.specs.declared.operation.Operation.TheVariants.{Edit, Undo}
 use Rattle.op_model.specs.declared.operation.EditOp.{EditOp}
@@ -10,16 +12,34 @@ use Rattle.op_model.specs.declared.faults.OpFault.{OpFault}
 use Rattle.op_model.specs.declared.faults.OpFault.TheVariants.{Conflict, Forked, OpenVersion}
 use Rattle.op_model.specs.Choice.{first_of, when}
 use Rattle.op_model.specs.Operations.{stamp_of, version_of, pieces_of, counts_of}
-use Rattle.op_model.specs.Histories.{History, version, seen}
+use Rattle.op_model.specs.Histories.{Distinct, History, operation_at, version, seen_history}
+use Rattle.op_model.specs.Lawful.{IsClosed, Lawful}
 use Rattle.op_model.specs.Shown.{full}
-use Rattle.op_model.specs.Answers.{Answer, shape_fault, any_equal, any_stamp, forked, first_missing, open_replica, range_fault, count_fault, objection, answer}
+use Rattle.op_model.specs.Answers.{Answer, shape_fault, any_equal, any_stamp, fork_fault, first_missing, open_replica, range_fault, count_fault, objection, answer}
 use Rattle.op_model.specs.Answers.Answer.{Good, Repeat, Waits, Refused}
-use Rattle.op_model.proofs.Passed.{first_past, none_map, none_when}
-use Rattle.op_answers.specs.Verdicts.{part_fault}
+use Rattle.op_model.proofs.answers.Good.{lawful_ready}
+use Rattle.op_model.proofs.answers.Passed.{first_past, none_when}
+use Rattle.op_answers.specs.Verdicts.{cause_objection, equals, part_fault, stamp_objection}
+use Rattle.op_answers.proofs.Founds.{held_both, there_both}
 
 first_here : {A : Type 0} (o : Option A) (r : List (Option A)) (a : A) → o ≡ Some a → first_of (o ∷ r) ≡ Some a
 first_here None r a e = cc
 first_here (Some x) r a e = e
+
+first_behind : {A : Type 0} (o : Option A) (r s : List (Option A)) → first_of r ≡ first_of s → first_of (o ∷ r) ≡ first_of (o ∷ s)
+first_behind None r s e = e
+first_behind (Some x) r s e = refl
+
+-- the first of one list, else that of another
+pub first_append : {A : Type 0} (r s : List (Option A)) → first_of (r ++ s) ≡ first_of (first_of r ∷ s)
+first_append [] s = refl
+first_append (None ∷ r) s = first_append r s
+first_append (Some x ∷ r) s = refl
+
+first_map : {A B : Type 0} (f : A → B) (r : List (Option A)) → first_of (map (option_map f) r) ≡ option_map f (first_of r)
+first_map f [] = refl
+first_map f (None ∷ r) = first_map f r
+first_map f (Some x ∷ r) = refl
 
 some_map : {A B : Type 0} (f : A → B) (o : Option A) (x : A) → o ≡ Some x → option_map f o ≡ Some (f x)
 some_map f None x e = cc
@@ -29,21 +49,7 @@ some_when : {A : Type 0} (b : Bool) (x : A) → b ≡ true → when b x ≡ Some
 some_when true x e = refl
 some_when false x e = cc
 
-objects : (h : History) (w : List Operation) (op : Operation) (a : Answer) → objection h w op ≡ Some a → answer h w op ≡ a
-unfolding answer
-objects h w op a e = ap (λ (o : Option Answer). unwrap_or o Good) e
-
-either_refused : (a b : Option OpFault) (f : OpFault) → first_of (a ∷ b ∷ []) ≡ Some f → first_of (option_map Refused a ∷ option_map Refused b ∷ []) ≡ Some (Refused f)
-either_refused (Some x) b f e = some_map Refused (Some x) f e
-either_refused None (Some y) f e = some_map Refused (Some y) f e
-either_refused None None f e = cc
-
-neither_refused : (a b : Option OpFault) → first_of (a ∷ b ∷ []) ≡ None → first_of (option_map Refused a ∷ option_map Refused b ∷ []) ≡ None
-neither_refused (Some x) b e = cc
-neither_refused None (Some y) e = cc
-neither_refused None None e = refl
-
-first_alone : (a : Option OpFault) → a ≡ first_of (a ∷ [])
+first_alone : {A : Type 0} (a : Option A) → a ≡ first_of (a ∷ [])
 first_alone None = refl
 first_alone (Some x) = refl
 
@@ -52,56 +58,74 @@ first_before None = refl
 first_before (Some x) = refl
 
 -- an edit has no counts
-pub edit_fault : (h : History) (e : EditOp) → range_fault (full (seen h e.version)) e.pieces ≡ part_fault h (Edit e)
-edit_fault h e = first_before (range_fault (full (seen h e.version)) e.pieces)
+pub edit_fault : (h : History) (e : EditOp) → range_fault (full (seen_history h e.version)) e.pieces ≡ part_fault h (Edit e)
+edit_fault h e = first_before (range_fault (full (seen_history h e.version)) e.pieces)
 
 -- an undo has no pieces
-pub undo_fault : (h : History) (u : UndoOp) → count_fault (seen h u.version) u.counts ≡ part_fault h (Undo u)
-undo_fault h u = first_alone (count_fault (seen h u.version) u.counts)
+pub undo_fault : (h : History) (u : UndoOp) → count_fault (seen_history h u.version) u.counts ≡ part_fault h (Undo u)
+undo_fault h u = first_alone (count_fault (seen_history h u.version) u.counts)
 
 module _ (h : History) (w : List Operation) (op : Operation) where
+  in_parts : objection h w op ≡ first_of (option_map Refused (shape_fault op) ∷ stamp_objection h w op ∷ cause_objection h op ∷ option_map Refused (part_fault h op) ∷ [])
+  in_parts =
+      let a : List (Option Answer) = when (any_equal (h ++ w) op) Repeat ∷ when (any_stamp (h ++ w) op) (Refused (Conflict (stamp_of op))) ∷ [] in
+      let b : List (Option Answer) = option_map Refused (fork_fault h op) ∷ option_map (λ e. Waits e.0 e.1) (first_missing h (version_of op)) ∷ option_map (λ r. Refused (OpenVersion r)) (open_replica h (version_of op)) ∷ [] in
+      let p : List (Option OpFault) = range_fault (full (seen_history h (version_of op))) (pieces_of op) ∷ count_fault (seen_history h (version_of op)) (counts_of op) ∷ [] in
+      let r : List (Option Answer) = option_map Refused (part_fault h op) ∷ [] in
+      let last : first_of (map (option_map Refused) p) ≡ first_of r = first_map Refused p ∙ first_alone (option_map Refused (first_of p)) in
+      let behind : first_of (b ++ map (option_map Refused) p) ≡ first_of (first_of b ∷ r) = first_append b (map (option_map Refused) p) ∙ first_behind (first_of b) (map (option_map Refused) p) r last in
+      first_behind (option_map Refused (shape_fault op)) (a ++ (b ++ map (option_map Refused) p)) (first_of a ∷ first_of b ∷ r)
+      (first_append a (b ++ map (option_map Refused) p) ∙ first_behind (first_of a) (b ++ map (option_map Refused) p) (first_of b ∷ r) behind)
+
+  -- the answer by what its parts are found to be
+  pub answer_by : (s : Option OpFault) (a b : Option Answer) (p : Option OpFault) → s ≡ shape_fault op → a ≡ stamp_objection h w op → b ≡ cause_objection h op → p ≡ part_fault h op
+      → unwrap_or (first_of (option_map Refused s ∷ a ∷ b ∷ option_map Refused p ∷ [])) Good ≡ answer h w op
+  unfolding answer
+  answer_by s a b p q t c e = rw (q, t, c, e) (ap (λ (o : Option Answer). unwrap_or o Good) (sym in_parts))
+
   pub shaped_badly : (f : OpFault) → shape_fault op ≡ Some f → answer h w op ≡ Refused f
-  shaped_badly f e = objects h w op (Refused f) (first_here _ _ (Refused f) (some_map Refused (shape_fault op) f e))
+  shaped_badly f e = sym (answer_by (Some f) (stamp_objection h w op) (cause_objection h op) (part_fault h op) (sym e) refl refl refl)
 
   module _ (s : shape_fault op ≡ None) where
+    stamped : (a : Answer) → stamp_objection h w op ≡ Some a → answer h w op ≡ a
+    stamped a e = sym (answer_by None (Some a) (cause_objection h op) (part_fault h op) (sym s) (sym e) refl refl)
+
     pub repeated : any_equal (h ++ w) op ≡ true → answer h w op ≡ Repeat
-    repeated e = objects h w op Repeat (first_past _ _ (none_map Refused (shape_fault op) s) ∙ first_here _ _ Repeat (some_when (any_equal (h ++ w) op) Repeat e))
+    repeated e = stamped Repeat (first_here _ _ Repeat (some_when (any_equal (h ++ w) op) Repeat e))
 
-    module _ (n : any_equal (h ++ w) op ≡ false) where
-      pub conflicts : any_stamp (h ++ w) op ≡ true → answer h w op ≡ Refused (Conflict (stamp_of op))
-      conflicts e = objects h w op (Refused (Conflict (stamp_of op))) (first_past _ _ (none_map Refused (shape_fault op) s) ∙ first_past _ _ (none_when (any_equal (h ++ w) op) Repeat n)
-          ∙ first_here _ _ (Refused (Conflict (stamp_of op))) (some_when (any_stamp (h ++ w) op) (Refused (Conflict (stamp_of op))) e))
+    pub conflicts : any_equal (h ++ w) op ≡ false → any_stamp (h ++ w) op ≡ true → answer h w op ≡ Refused (Conflict (stamp_of op))
+    conflicts n e = stamped (Refused (Conflict (stamp_of op))) (first_past _ _ (none_when (any_equal (h ++ w) op) Repeat n)
+        ∙ first_here _ _ (Refused (Conflict (stamp_of op))) (some_when (any_stamp (h ++ w) op) (Refused (Conflict (stamp_of op))) e))
 
-      module _ (t : any_stamp (h ++ w) op ≡ false) where
-        front : (r : List (Option Answer)) → first_of (option_map Refused (shape_fault op) ∷ when (any_equal (h ++ w) op) Repeat ∷ when (any_stamp (h ++ w) op) (Refused (Conflict (stamp_of op))) ∷ r) ≡ first_of r
-        front r = first_past _ _ (none_map Refused (shape_fault op) s) ∙ first_past _ _ (none_when (any_equal (h ++ w) op) Repeat n) ∙ first_past _ _ (none_when (any_stamp (h ++ w) op) (Refused (Conflict (stamp_of op))) t)
+-- what stands against a stamp, by the two that are found of it
+pub stamp_by : (h w : History) (op : Operation) (t : Lamport) (a b : Option Operation) (x y : Bool) → Lawful h → Distinct w → t ≡ stamp_of op → a ≡ operation_at h t → b ≡ operation_at w t
+    → x ≡ (equals a op || equals b op) → y ≡ (is_some a || is_some b) → first_of (when x Repeat ∷ when y (Refused (Conflict t)) ∷ []) ≡ stamp_objection h w op
+stamp_by h w op t a b x y l d s p q i j =
+    let u = p ∙ ap (operation_at h) s in
+    let v = q ∙ ap (operation_at w) s in
+    rw (i ∙ held_both h w op a b (lawful_ready h l).0.distinct d u v, j ∙ there_both h w op a b u v, s) refl
 
-        pub forks : (k : ℕ) → k ≡ entry (version h) (stamp_of op).replica → ltb (entry (version_of op) (stamp_of op).replica) k ≡ true → answer h w op ≡ Refused (Forked k)
-        forks k q e =
-            let f : forked h op ≡ Some (Forked k) = ap (λ (x : ℕ). when (ltb (entry (version_of op) (stamp_of op).replica) x) (Forked x)) (sym q) ∙ some_when (ltb (entry (version_of op) (stamp_of op).replica) k) (Forked k) e in
-            objects h w op (Refused (Forked k)) (front _ ∙ first_here _ _ (Refused (Forked k)) (some_map Refused (forked h op) (Forked k) f))
+-- whether the author's operation that is kept is one that op has not seen
+pub fork_by : (h : History) (op : Operation) (k n : ℕ) (b : Bool) → k ≡ entry (version h) (stamp_of op).replica → n ≡ entry (version_of op) (stamp_of op).replica → b ≡ ltb n k → when b (Forked k) ≡ fork_fault h op
+fork_by h op k n b i j e = rw (e, i, j) refl
 
-        pub chained : (k : ℕ) → k ≡ entry (version h) (stamp_of op).replica → ltb (entry (version_of op) (stamp_of op).replica) k ≡ false → forked h op ≡ None
-        chained k q e = ap (λ (x : ℕ). when (ltb (entry (version_of op) (stamp_of op).replica) x) (Forked x)) (sym q) ∙ none_when (ltb (entry (version_of op) (stamp_of op).replica) k) (Forked k) e
+-- what stands against what an operation has seen, by what is found of it
+pub cause_by : (h : History) (op : Operation) (f : Option OpFault) (m : Option (ℕ × ℕ)) (r : Option ℕ) → f ≡ fork_fault h op → m ≡ first_missing h (version_of op) → r ≡ open_replica h (version_of op)
+    → first_of (option_map Refused f ∷ option_map (λ e. Waits e.0 e.1) m ∷ option_map (λ k. Refused (OpenVersion k)) r ∷ []) ≡ cause_objection h op
+cause_by h op f m r i j k = rw (i, j, k) refl
 
-        module _ (c : forked h op ≡ None) where
-          pub misses : (r v : ℕ) → first_missing h (version_of op) ≡ Some (r, v) → answer h w op ≡ Waits r v
-          misses r v e = objects h w op (Waits r v) (front _ ∙ first_past _ _ (none_map Refused (forked h op) c) ∙ first_here _ _ (Waits r v) (some_map (λ (x : ℕ × ℕ). Waits x.0 x.1) (first_missing h (version_of op)) (r, v) e))
+-- no cause misses where nothing is found
+pub causes_known : (h : History) (v : Entries) → None ≡ first_missing h v → within v (version h) ≡ true
+causes_known h v e = sym (none_unseen (version h) v) ∙ ap is_none (sym e)
 
-          module _ (m : first_missing h (version_of op) ≡ None) where
-            further : (r : List (Option Answer)) → first_of (option_map Refused (shape_fault op) ∷ when (any_equal (h ++ w) op) Repeat ∷ when (any_stamp (h ++ w) op) (Refused (Conflict (stamp_of op)))
-                ∷ option_map Refused (forked h op) ∷ option_map (λ (x : ℕ × ℕ). Waits x.0 x.1) (first_missing h (version_of op)) ∷ r) ≡ first_of r
-            further r = front _ ∙ first_past _ _ (none_map Refused (forked h op) c) ∙ first_past _ _ (none_map (λ (x : ℕ × ℕ). Waits x.0 x.1) (first_missing h (version_of op)) m)
+none_later : {A B C D : Type 0} (f : A → D) (g : B → D) (k : C → D) (a : Option A) (b : Option B) (c : Option C) → None ≡ first_of (option_map f a ∷ option_map g b ∷ option_map k c ∷ []) → (b ≡ None) × (c ≡ None)
+none_later f g k None None None e = (refl, refl)
+none_later f g k None None (Some z) e = (refl, cc)
+none_later f g k None (Some y) c e = (cc, cc)
+none_later f g k (Some x) b c e = (cc, cc)
 
-            pub opens : (r : ℕ) → open_replica h (version_of op) ≡ Some r → answer h w op ≡ Refused (OpenVersion r)
-            opens r e = objects h w op (Refused (OpenVersion r)) (further _ ∙ first_here _ _ (Refused (OpenVersion r)) (some_map (λ (x : ℕ). Refused (OpenVersion x)) (open_replica h (version_of op)) r e))
-
-            module _ (o : open_replica h (version_of op) ≡ None) where
-              pub parts : (f : OpFault) → part_fault h op ≡ Some f → answer h w op ≡ Refused f
-              parts f e = objects h w op (Refused f) (further _ ∙ first_past _ _ (none_map (λ (x : ℕ). Refused (OpenVersion x)) (open_replica h (version_of op)) o)
-                  ∙ either_refused (range_fault (full (seen h (version_of op))) (pieces_of op)) (count_fault (seen h (version_of op)) (counts_of op)) f e)
-
-              pub accepts : part_fault h op ≡ None → answer h w op ≡ Good
-              unfolding answer
-              accepts e = ap (λ (x : Option Answer). unwrap_or x Good) (further _ ∙ first_past _ _ (none_map (λ (x : ℕ). Refused (OpenVersion x)) (open_replica h (version_of op)) o)
-                  ∙ neither_refused (range_fault (full (seen h (version_of op))) (pieces_of op)) (count_fault (seen h (version_of op)) (counts_of op)) e)
+-- a version against which nothing stands is closed
+pub none_open : (h : History) (op : Operation) → None ≡ cause_objection h op → IsClosed h (version_of op)
+none_open h op e =
+    let n = none_later Refused (λ (x : ℕ × ℕ). Waits x.0 x.1) (λ (r : ℕ). Refused (OpenVersion r)) (fork_fault h op) (first_missing h (version_of op)) (open_replica h (version_of op)) e in
+    (causes_known h (version_of op) (sym n.0), n.1)

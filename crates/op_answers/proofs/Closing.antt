@@ -1,4 +1,5 @@
 -- What the version of a history tells: no operation has a stamp that it has not seen, and a version that sees the same is closed.
+use Rattle.op_model.proofs.Elements.{each_map}
 use Rattle.std.proofs.Common.{◌≡◌, ℕ, ◌<◌, Bool, cond, Option, Some, [], ◌∷◌, refl, sym, ◌∙◌, ap, subst, inl, inr, true, false, not, ◌&&◌, ltb, eqb, arith, None}
 use Rattle.std.specs.Prelude.{IfSome}
 use Rattle.std.proofs.lemmas.Bool.{cases_Bool, cases_lt, le-ltb, or_cases, eqb-true}
@@ -8,16 +9,15 @@ use Rattle.lamport_clock.specs.Versions.{Entries, IsVersion, entry, sees, within
 use Rattle.op_model.specs.declared.operation.Operation.{Operation}
 use Rattle.op_model.specs.Operations.{stamp_of, version_of}
 use Rattle.op_model.specs.Histories.{History, In, operation_at, version}
-use Rattle.op_model.specs.Answers.{entry_closed, open_replica}
+use Rattle.op_model.specs.Answers.{is_entry_closed, open_replica}
 use Rattle.op_model.specs.Lawful.{Lawful}
-use Rattle.op_model.proofs.PathOrder.{same_stamp_eq, same_stamp_refl}
-use Rattle.op_model.proofs.Insertion.{each_map}
-use Rattle.op_model.proofs.Lawful.{each_of_in}
-use Rattle.op_model.proofs.Passed.{none_find}
-use Rattle.op_model.proofs.Good.{append_nil, within_entry}
-use Rattle.op_model.proofs.VersionLaws.{own_entries, sees_own}
-use Rattle.op_model.proofs.Causes.{Opens, opens_of, of_opens, named_at, names_closed, within_trans, lawful_opens}
-use Rattle.op_model.proofs.ClosedVersions.{fronts_seen}
+use Rattle.op_model.proofs.order.PathOrder.{same_stamp_eq, same_stamp_refl}
+use Rattle.op_model.proofs.histories.Lawful.{each_of_in}
+use Rattle.op_model.proofs.answers.Passed.{none_find}
+use Rattle.op_model.proofs.answers.Good.{append_nil, within_entry}
+use Rattle.op_model.proofs.histories.VersionLaws.{own_entries, sees_own}
+use Rattle.op_model.proofs.histories.Causes.{Opens, opens_of, of_opens, named_at, names_closed, within_trans, lawful_opens}
+use Rattle.op_model.proofs.histories.ClosedVersions.{fronts_seen}
 use Rattle.op_answers.specs.Verdicts.{tells, IsCause}
 
 -- no operation has a stamp that the version has not seen
@@ -31,7 +31,7 @@ unseen_none h t n = none_find (λ o. same_stamp (stamp_of o) t) h (each_of_in (�
     ]
 
 -- an entry that a closed version has too is closed in each version that has seen that one
-pub entry_shared : (h : History) (u v : Entries) → Opens h u → within u v ≡ true → (e : ℕ × ℕ) → entry u e.0 ≡ e.1 → (ltb 0 e.1 && not (entry_closed h v e)) ≡ false
+pub entry_shared : (h : History) (u v : Entries) → Opens h u → within u v ≡ true → (e : ℕ × ℕ) → entry u e.0 ≡ e.1 → (ltb 0 e.1 && not (is_entry_closed h v e)) ≡ false
 entry_shared h u v c b e q = elim (cases_lt 0 e.1) [
   | inl p ↦ (let w = named_at h u c e.0 (subst (λ (x : ℕ). 0 < x) (sym q) p) in
       let t : Lamport = record { value = e.1; replica = e.0 } in
@@ -45,16 +45,16 @@ whole_opens h l = opens_of h (version h) (subst (λ (g : History). open_replica 
 
 -- a version that sees the same as that of the history is closed
 pub same_closed : (h : History) (v : Entries) → Lawful h → IsVersion v → within v (version h) ≡ true → within (version h) v ≡ true → open_replica h v ≡ None
-same_closed h v l i a b = of_opens h v (each_map (λ (e : ℕ × ℕ). entry v e.0 ≡ e.1) (λ (e : ℕ × ℕ). (ltb 0 e.1 && not (entry_closed h v e)) ≡ false) one v (own_entries 0 v i))
+same_closed h v l i a b = of_opens h v (each_map (λ (e : ℕ × ℕ). entry v e.0 ≡ e.1) (λ (e : ℕ × ℕ). (ltb 0 e.1 && not (is_entry_closed h v e)) ≡ false) one v (own_entries 0 v i))
   where
-    one : (e : ℕ × ℕ) → entry v e.0 ≡ e.1 → (ltb 0 e.1 && not (entry_closed h v e)) ≡ false
+    one : (e : ℕ × ℕ) → entry v e.0 ≡ e.1 → (ltb 0 e.1 && not (is_entry_closed h v e)) ≡ false
     one e q =
         let x = within_entry v (version h) a e.0 in
         let y = within_entry (version h) v b e.0 in
         entry_shared h (version h) v (whole_opens h l) b e (omega arith)
 
 -- what an operation of a lawful history tells is so, where the version has seen all that it has
-pub told_closed : (h : History) (v : Entries) (o : Option Operation) → Lawful h → IfSome o (IsCause h v) → (e : ℕ × ℕ) → tells o e ≡ true → (ltb 0 e.1 && not (entry_closed h v e)) ≡ false
+pub told_closed : (h : History) (v : Entries) (o : Option Operation) → Lawful h → IfSome o (IsCause h v) → (e : ℕ × ℕ) → tells o e ≡ true → (ltb 0 e.1 && not (is_entry_closed h v e)) ≡ false
 told_closed h v None l i e t = cc
 told_closed h v (Some o) l i e t =
     let m : IsCause h v o = i in

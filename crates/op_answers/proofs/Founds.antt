@@ -8,12 +8,14 @@ use Rattle.lamport_clock.specs.Stamps.{same_stamp}
 use Rattle.lamport_clock.specs.Versions.{Entries, within, sees}
 use Rattle.op_model.specs.declared.operation.Operation.{Operation}
 use Rattle.op_model.specs.Operations.{stamp_of, version_of, is_edit}
-use Rattle.op_model.specs.Histories.{History, Distinct, operation_at, has_edit, seen}
+use Rattle.op_model.specs.Histories.{History, Distinct, operation_at, has_edit, seen_history}
 use Rattle.op_model.specs.Answers.{any_equal, any_stamp, same_op}
-use Rattle.op_model.proofs.Passed.{any_some}
-use Rattle.op_model.proofs.PathOrder.{same_stamp_eq, same_stamp_refl}
-use Rattle.op_model.proofs.Proper.{same_is}
+use Rattle.op_model.proofs.answers.Passed.{any_some}
+use Rattle.op_model.proofs.order.PathOrder.{same_stamp_eq}
 use Rattle.op_answers.specs.Verdicts.{equals, causes}
+use Rattle.op_model.proofs.shown.Walking.{or_no}
+use Rattle.op_model.proofs.answers.OwnVersion.{equal_stamps}
+use Rattle.applied_ops.proofs.Found.{no_more}
 
 pub any_append : (t : Operation → Bool) (h w : List Operation) → list_any t (h ++ w) ≡ (list_any t h || list_any t w)
 any_append t [] w = refl
@@ -23,22 +25,11 @@ any_append t (o ∷ h) w = ap (λ (b : Bool). t o || b) (any_append t h w) ∙ m
     more true b c = refl
     more false b c = refl
 
-no_more : (b c : Bool) → c ≡ false → (b || c) ≡ b
-no_more true c e = refl
-no_more false c e = e
-
-none_less : (b c : Bool) → b ≡ false → (b || c) ≡ c
-none_less true c e = cc
-none_less false c e = refl
-
-same_stamps : (o op : Operation) → same_op o op ≡ true → same_stamp (stamp_of o) (stamp_of op) ≡ true
-same_stamps o op e = ap (λ (x : Operation). same_stamp (stamp_of x) (stamp_of op)) (same_is o op e) ∙ same_stamp_refl (stamp_of op)
-
 not_same : (o op : Operation) → same_stamp (stamp_of o) (stamp_of op) ≡ false → same_op o op ≡ false
 not_same o op e = go (cases_Bool (same_op o op))
   where
     go : (same_op o op ≡ true) ⊎ (same_op o op ≡ false) → same_op o op ≡ false
-    go (inl k) = let g = same_stamps o op k in cc
+    go (inl k) = let g = equal_stamps o op k in cc
     go (inr k) = k
 
 -- the one of the stamp is equal where any is
@@ -46,9 +37,9 @@ pub held : (h : History) (op : Operation) → Distinct h → equals (operation_a
 held [] op d = refl
 held (o ∷ h) op d = elim (cases_Bool (same_stamp (stamp_of o) (stamp_of op))) [
   | inl e ↦ (let n : list_any (λ x. same_op x op) h ≡ false = any_some (λ x. same_op x op) (λ x. stamp_of x ≡ stamp_of o → ⊥) h
-      (λ x k f. f (same_stamp_eq (stamp_of x) (stamp_of op) (same_stamps x op k) ∙ sym (same_stamp_eq (stamp_of o) (stamp_of op) e))) d.0 in
+      (λ x k f. f (same_stamp_eq (stamp_of x) (stamp_of op) (equal_stamps x op k) ∙ sym (same_stamp_eq (stamp_of o) (stamp_of op) e))) d.0 in
       ap (λ (b : Bool). equals (cond b (Some o) (operation_at h (stamp_of op))) op) e ∙ sym (no_more (same_op o op) (list_any (λ x. same_op x op) h) n))
-  | inr e ↦ ap (λ (b : Bool). equals (cond b (Some o) (operation_at h (stamp_of op))) op) e ∙ held h op d.1 ∙ sym (none_less (same_op o op) (list_any (λ x. same_op x op) h) (not_same o op e))
+  | inr e ↦ ap (λ (b : Bool). equals (cond b (Some o) (operation_at h (stamp_of op))) op) e ∙ held h op d.1 ∙ sym (or_no (same_op o op) (list_any (λ x. same_op x op) h) (not_same o op e))
 ]
 
 pub there : (h : History) (t : Lamport) → is_some (operation_at h t) ≡ list_any (λ o. same_stamp (stamp_of o) t) h
@@ -84,7 +75,7 @@ caused (o ∷ h) t v d = elim (cases_Bool (same_stamp (stamp_of o) t)) [
 ]
 
 -- a version sees an edit where it sees its stamp
-pub seen_edit : (h : History) (v : Entries) (t : Lamport) → has_edit (seen h v) t ≡ (sees v t && has_edit h t)
+pub seen_edit : (h : History) (v : Entries) (t : Lamport) → has_edit (seen_history h v) t ≡ (sees v t && has_edit h t)
 seen_edit [] v t = none (sees v t)
   where
     none : (b : Bool) → false ≡ (b && false)
@@ -92,7 +83,7 @@ seen_edit [] v t = none (sees v t)
     none false = refl
 seen_edit (o ∷ h) v t = elim (cases_Bool (same_stamp (stamp_of o) t)) [
   | inl e ↦ (let s : sees v (stamp_of o) ≡ sees v t = ap (sees v) (same_stamp_eq (stamp_of o) t e) in
-      ap (λ (b : Bool). has_edit (cond b (o ∷ seen h v) (seen h v)) t) s ∙ kept (sees v t) (seen_edit h v t))
+      ap (λ (b : Bool). has_edit (cond b (o ∷ seen_history h v) (seen_history h v)) t) s ∙ kept (sees v t) (seen_edit h v t))
   | inr e ↦ (let n : (is_edit o && same_stamp (stamp_of o) t) ≡ false = ap (λ (b : Bool). is_edit o && b) e ∙ no_edit (is_edit o) in
       dropped (sees v (stamp_of o)) n ∙ seen_edit h v t ∙ sym (ap (λ (b : Bool). sees v t && (b || has_edit h t)) n))
 ]
@@ -101,10 +92,10 @@ seen_edit (o ∷ h) v t = elim (cases_Bool (same_stamp (stamp_of o) t)) [
     no_edit true = refl
     no_edit false = refl
 
-    kept : (b : Bool) → has_edit (seen h v) t ≡ (b && has_edit h t) → has_edit (cond b (o ∷ seen h v) (seen h v)) t ≡ (b && (is_edit o && same_stamp (stamp_of o) t || has_edit h t))
+    kept : (b : Bool) → has_edit (seen_history h v) t ≡ (b && has_edit h t) → has_edit (cond b (o ∷ seen_history h v) (seen_history h v)) t ≡ (b && (is_edit o && same_stamp (stamp_of o) t || has_edit h t))
     kept true e = ap (λ (z : Bool). is_edit o && same_stamp (stamp_of o) t || z) e
     kept false e = e
 
-    dropped : (b : Bool) → (is_edit o && same_stamp (stamp_of o) t) ≡ false → has_edit (cond b (o ∷ seen h v) (seen h v)) t ≡ has_edit (seen h v) t
-    dropped true n = ap (λ (z : Bool). z || has_edit (seen h v) t) n
+    dropped : (b : Bool) → (is_edit o && same_stamp (stamp_of o) t) ≡ false → has_edit (cond b (o ∷ seen_history h v) (seen_history h v)) t ≡ has_edit (seen_history h v) t
+    dropped true n = ap (λ (z : Bool). z || has_edit (seen_history h v) t) n
     dropped false n = refl

@@ -11,19 +11,13 @@ use Rattle.op_model.specs.Choice.{first_of, when}
 use Rattle.op_model.specs.Histories.{History, clock, has_edit}
 use Rattle.op_model.specs.Shown.{count}
 use Rattle.op_model.specs.Made.{first_twice, local_undo_fault}
-use Rattle.op_model.proofs.Passed.{map_none}
+use Rattle.op_model.proofs.answers.Passed.{map_none}
 use Rattle.undo_map.specs.declared.entry.UndoEntry.{UndoEntry}
 use Rattle.undo_map.specs.Counts.{count_of}
 use Rattle.undo_map.specs.Undos.{undo_entries}
 use Rattle.undo_map.proofs.Entries.{count_kept}
 use Rattle.op_answers.specs.LocalUndo.{undo_fault}
-
--- what stands behind the first three
-pub grouped : {A : Type 0} (a b c : Option A) (r : List (Option A)) → first_of (a ∷ b ∷ c ∷ r) ≡ first_of (first_of (a ∷ b ∷ c ∷ []) ∷ r)
-grouped (Some x) b c r = refl
-grouped None (Some x) c r = refl
-grouped None None (Some x) r = refl
-grouped None None None r = refl
+use Rattle.op_answers.proofs.Answering.{first_append}
 
 find_same : (p q : Lamport → Bool) (ts : List Lamport) → ((t : Lamport) → p t ≡ q t) → find p ts ≡ find q ts
 find_same p q [] e = refl
@@ -72,7 +66,7 @@ pub local_of : (l : LimitsType) (h : History) (ts : List Lamport) (r : Option Un
     → local_undo_fault l h ts ≡ first_of (r ∷ when (eqb (clock h) 4294967295) ClockEnd ∷ option_map (λ e. Full e.unit e.held e.adds) (excess l h 0 (1 + length ts)) ∷ [])
 local_of l h ts r e =
     let rest : List (Option UndoFault) = when (eqb (clock h) 4294967295) ClockEnd ∷ option_map (λ e. Full e.unit e.held e.adds) (excess l h 0 (1 + length ts)) ∷ [] in
-    grouped (option_map NoSuchEdit (find (λ t. not (has_edit h t)) ts)) (option_map Twice (first_twice [] ts)) (option_map CountEnd (find (λ t. eqb (count h t) 4294967295) ts)) rest
+    first_append (option_map NoSuchEdit (find (λ t. not (has_edit h t)) ts) ∷ option_map Twice (first_twice [] ts) ∷ option_map CountEnd (find (λ t. eqb (count h t) 4294967295) ts) ∷ []) rest
     ∙ ap (λ (o : Option UndoFault). first_of (o ∷ rest)) (sym e)
 
 pub room_of : (h : History) (w : List UndoEntry) (ts : List Lamport) (r : Option UndoFault) → w ≡ undo_entries h → r ≡ undo_fault h ts → r ≡ None → find (λ t. eqb (count_of w t) 4294967295) ts ≡ None

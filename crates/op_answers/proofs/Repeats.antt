@@ -1,15 +1,14 @@
 -- The first stamp that stands before too, place by place.
-use Rattle.std.proofs.Common.{◌≡◌, ℕ, suc, ◌+◌, ◌<◌, Bool, true, false, cond, not, ◌||◌, List, [], ◌∷◌, length, get_or, take, drop, refl, sym, ◌∙◌, ap, Some, Option, drop-cons, arith, inl, inr, ◌⊎◌}
+use Rattle.std.proofs.Common.{◌≡◌, ℕ, suc, ◌+◌, ◌<◌, Bool, true, false, cond, not, ◌||◌, List, [], ◌∷◌, length, get_or, take, drop, refl, sym, ◌∙◌, ap, Some, Option, drop-cons, arith, ◌⊎◌}
 use Rattle.std.specs.List.{list_any}
 use Rattle.std.specs.Ordering.{is_eq}
-use Rattle.std.proofs.lemmas.Bool.{cases_Bool}
 use Rattle.std.proofs.lemmas.List.{take_more}
 use Rattle.std.proofs.lemmas.List.Folds.{list_any-append}
 use Rattle.lamport_clock.specs.declared.stamp.Lamport.{Lamport}
 use Rattle.lamport_clock.specs.Stamps.{same_stamp}
 use Rattle.lamport_clock.proofs.Order.{stamp_cmp, is_eq-same}
-use Rattle.op_model.proofs.PathOrder.{same_stamp_eq, same_stamp_refl}
 use Rattle.op_model.specs.Made.{first_twice}
+use Rattle.deferred_ops.proofs.Keyed.{same_sym}
 
 -- what stands before counts by what it contains
 pub first_twice_same : (p q ts : List Lamport) → ((t : Lamport) → list_any (same_stamp t) p ≡ list_any (same_stamp t) q) → first_twice p ts ≡ first_twice q ts
@@ -38,15 +37,6 @@ at_place s i d l =
     ∙ ap (λ (k : ℕ). cond (list_any (same_stamp x) (take i s)) (Some x) (first_twice (x ∷ take i s) (drop k s))) e
     ∙ ap (cond (list_any (same_stamp x) (take i s)) (Some x)) (first_twice_same (x ∷ take i s) (take (i + 1) s) (drop (i + 1) s) (λ t. sym (any_more t s i d l)))
 
-pub same_other : (s t : Lamport) → same_stamp s t ≡ same_stamp t s
-same_other s t = go (cases_Bool (same_stamp s t)) (cases_Bool (same_stamp t s))
-  where
-    go : (same_stamp s t ≡ true) ⊎ (same_stamp s t ≡ false) → (same_stamp t s ≡ true) ⊎ (same_stamp t s ≡ false) → same_stamp s t ≡ same_stamp t s
-    go (inl a) (inl b) = a ∙ sym b
-    go (inr a) (inr b) = a ∙ sym b
-    go (inl a) (inr b) = let z : same_stamp t s ≡ true = ap (λ (u : Lamport). same_stamp t u) (same_stamp_eq s t a) ∙ same_stamp_refl t in cc
-    go (inr a) (inl b) = let z : same_stamp s t ≡ true = ap (λ (u : Lamport). same_stamp s u) (same_stamp_eq t s b) ∙ same_stamp_refl s in cc
-
 -- a stamp that does not stand before
 pub goes_on : (s : List Lamport) (i : ℕ) (d : Lamport) (r : Option Lamport) (b : Bool) → i < length s → b ≡ list_any (same_stamp (get_or s i d)) (take i s) → b ≡ false
     → first_twice (take i s) (drop i s) ≡ r → first_twice (take (i + 1) s) (drop (i + 1) s) ≡ r
@@ -65,5 +55,5 @@ cond_or false b = refl
 pub kept_on : (s : List Lamport) (i : ℕ) (d : Lamport) (old new : Lamport → Bool) → i < length s → ((t : Lamport) → old t ≡ list_any (same_stamp t) (take i s))
     → ((t : Lamport) → new t ≡ cond (is_eq (stamp_cmp (get_or s i d) t)) true (old t)) → (t : Lamport) → new t ≡ list_any (same_stamp t) (take (i + 1) s)
 kept_on s i d old new l o n t =
-    n t ∙ ap (λ (b : Bool). cond b true (old t)) (is_eq-same (get_or s i d) t ∙ same_other (get_or s i d) t)
+    n t ∙ ap (λ (b : Bool). cond b true (old t)) (is_eq-same (get_or s i d) t ∙ same_sym (get_or s i d) t)
     ∙ ap (cond (same_stamp t (get_or s i d)) true) (o t) ∙ cond_or (same_stamp t (get_or s i d)) (list_any (same_stamp t) (take i s)) ∙ sym (any_more t s i d l)

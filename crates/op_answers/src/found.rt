@@ -4,8 +4,8 @@ ghost use Rattle.std.specs.List.{find};
 ghost use Rattle.std.specs.Option.{option_copied};
 ghost use Rattle.lamport_clock.specs.Versions.{within};
 ghost use Rattle.op_model.specs.Operations.{version_of};
-ghost use Rattle.op_model.specs.Histories.{Distinct, has_edit, operation_at, seen, version};
-ghost use Rattle.op_model.specs.Answers.{count_fault, entry_closed, open_replica};
+ghost use Rattle.op_model.specs.Histories.{Distinct, has_edit, operation_at, seen_history, version};
+ghost use Rattle.op_model.specs.Answers.{count_fault, is_entry_closed, open_replica};
 ghost use Rattle.op_model.specs.Lawful.{Lawful};
 ghost use Rattle.op_answers.specs.Verdicts.{equals, causes, tells, IsCause};
 
@@ -113,8 +113,8 @@ fn is_open(
 ) -> bool
     requires applied { Distinct applied.now }
     requires latest { (e : ℕ × ℕ) → IsTrue (tells (option_copied latest) e)
-        → IsFalse (nat_lt 0 e.1 && not (entry_closed applied.now version.now e)) }
-    ensures { result ≡ (nat_lt 0 entry.1 && not (entry_closed applied.now version.now entry)) }
+        → IsFalse (nat_lt 0 e.1 && not (is_entry_closed applied.now version.now e)) }
+    ensures { result ≡ (nat_lt 0 entry.1 && not (is_entry_closed applied.now version.now entry)) }
 {
     if tells(latest, entry) {
         return false;
@@ -137,9 +137,9 @@ fn first_open(
 ) -> Option<u16>
     requires applied { Distinct applied.now }
     requires latest { (e : ℕ × ℕ) → IsTrue (tells (option_copied latest) e)
-        → IsFalse (nat_lt 0 e.1 && not (entry_closed applied.now version.now e)) }
+        → IsFalse (nat_lt 0 e.1 && not (is_entry_closed applied.now version.now e)) }
     ensures { result ≡ option_map (λ e. e.0)
-        (find (λ e. nat_lt 0 e.1 && not (entry_closed applied.now version.now e)) entries.now) }
+        (find (λ e. nat_lt 0 e.1 && not (is_entry_closed applied.now version.now e)) entries.now) }
 {
     for &entry in entries {
         if is_open(applied, version, latest, entry) {
@@ -190,7 +190,7 @@ pub fn open_among(applied: &AppliedList, have: &Version, op: &Operation) -> Opti
 // Whether the stamp is that of an applied edit which the version sees.
 fn is_seen_edit(applied: &AppliedList, version: &Version, edit: Lamport) -> bool
     requires { Distinct applied.now }
-    ensures { result ≡ has_edit (seen applied.now version.now) edit }
+    ensures { result ≡ has_edit (seen_history applied.now version.now) edit }
 {
     let is_seen = version.sees(edit);
     let is_edit = applied.has_edit(edit);
@@ -204,7 +204,7 @@ pub fn count_fault(
     counts: &[UndoCount],
 ) -> Option<OpFault>
     requires { Distinct applied.now }
-    ensures { result ≡ count_fault (seen applied.now version.now) counts.now }
+    ensures { result ≡ count_fault (seen_history applied.now version.now) counts.now }
 {
     for count in counts {
         if !is_seen_edit(applied, version, count.edit) {

@@ -10,5 +10,5 @@ mod verdict;
 
 pub use found::open_replica;
 pub use local_undo::undo_fault;
-pub use op_model::{OpFault, UndoFault};
+pub use op_model::{OpFault, OutOfMemory, UndoFault};
 pub use verdict::{Verdict, judge};

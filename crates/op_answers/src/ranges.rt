@@ -1,7 +1,7 @@
 //! An edit's ranges against the bytes that its version sees.
 ghost use Rattle.std.specs.Prelude.{◌≡◌};
 ghost use Rattle.std.specs.List.{position};
-ghost use Rattle.op_model.specs.Histories.{History, seen};
+ghost use Rattle.op_model.specs.Histories.{History, seen_history};
 ghost use Rattle.op_model.specs.Shown.{full};
 ghost use Rattle.op_model.specs.Edits.{is_inside, is_past};
 ghost use Rattle.op_model.specs.Answers.{range_fault};
@@ -31,7 +31,7 @@ fn is_inside(
 ) -> bool
     ensures { (h : History) → TellTexts fragments.now.items shown.now hidden.now h
         → Lawful h → IsClosed h version.now
-        → result ≡ is_inside (full (seen h version.now)) piece.now }
+        → result ≡ is_inside (full (seen_history h version.now)) piece.now }
 {
     if !is_seen_boundary(fragments, shown, hidden, version, piece.start) {
         return true;
@@ -52,7 +52,7 @@ fn inside_char(
 ) -> Option<usize>
     ensures { (h : History) → TellTexts fragments.now.items shown.now hidden.now h
         → Lawful h → IsClosed h version.now
-        → result ≡ position (is_inside (full (seen h version.now))) pieces.now }
+        → result ≡ position (is_inside (full (seen_history h version.now))) pieces.now }
 {
     for (i, piece) in pieces.iter().enumerate() {
         if is_inside(fragments, shown, hidden, version, piece) {
@@ -72,7 +72,7 @@ pub fn range_fault(
 ) -> Option<OpFault>
     ensures { (h : History) → TellTexts fragments.now.items shown.now hidden.now h
         → Lawful h → IsClosed h version.now
-        → result ≡ range_fault (full (seen h version.now)) pieces.now }
+        → result ≡ range_fault (full (seen_history h version.now)) pieces.now }
 {
     let len = seen_len(fragments, version);
     if let Some(i) = past_end(len, pieces) {

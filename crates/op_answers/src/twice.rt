@@ -4,8 +4,9 @@ ghost use Rattle.std.specs.List.{list_any};
 ghost use Rattle.lamport_clock.specs.Stamps.{same_stamp};
 ghost use Rattle.op_model.specs.Made.{first_twice};
 
+use crate::OutOfMemory;
 use lamport_clock::{Lamport, is_same};
-use std::alloc::{AllocError, Global};
+use std::alloc::Global;
 use std::collections::BTreeSet;
 
 /// The first stamp of a list that stands in it before too. With memory it is found by a set of the stamps gone over, in
@@ -19,7 +20,7 @@ pub fn first_twice(alloc: Global, stamps: &[Lamport]) -> Option<Lamport>
     }
 }
 
-fn found_by_set(alloc: Global, stamps: &[Lamport]) -> Result<Option<Lamport>, AllocError>
+fn found_by_set(alloc: Global, stamps: &[Lamport]) -> Result<Option<Lamport>, OutOfMemory>
     ensures { IfOk result (λ t. t ≡ first_twice [] stamps.now) }
 {
     let mut past = BTreeSet::new(alloc);

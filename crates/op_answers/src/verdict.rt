@@ -1,11 +1,11 @@
 //! The answer to a taken operation.
-ghost use Rattle.std.specs.Prelude.{◌≡◌};
+ghost use Rattle.std.specs.Prelude.{◌≡◌, option_map};
 ghost use Rattle.op_model.specs.Operations.{version_of};
-ghost use Rattle.op_model.specs.Histories.{Distinct, version};
+ghost use Rattle.op_model.specs.Histories.{Distinct, History, version};
 ghost use Rattle.op_model.specs.Lawful.{Lawful, IsClosed};
-ghost use Rattle.op_model.specs.Answers.{answer};
+ghost use Rattle.op_model.specs.Answers.{answer, fork_fault};
 ghost use Rattle.seen_text.specs.Texts.{TellTexts};
-ghost use Rattle.op_answers.specs.Verdicts.{answer_of, part_fault};
+ghost use Rattle.op_answers.specs.Verdicts.{answer_of, cause_objection, part_fault, stamp_objection};
 
 use crate::found::{applied_at, count_fault, is_held, is_taken, open_among};
 use crate::ranges::range_fault;
@@ -21,12 +21,67 @@ use sum_tree::SumTree;
 #[derive(Clone, Copy, Debug, PartialEq, Eq)]
 pub enum Verdict {
     /// It is good, and is applied.
-    Accept,
+    Good,
     /// An equal one is applied or waits.
-    Repeated,
+    Repeat,
     /// It waits: of all replicas of which it has seen more than is applied the least, and the value that it has seen.
-    Missing { replica: u16, value: u32 },
-    Refuse(OpFault),
+    Waits { replica: u16, value: u32 },
+    Refused(OpFault),
+}
+
+// What stands against an operation's stamp: that an equal operation, or another one, has it.
+fn stamp_verdict(
+    applied: &AppliedList,
+    waiting: &Deferred,
+    have: &Version,
+    op: &Operation,
+) -> Option<Verdict>
+    requires lawful { Lawful applied.now }
+    requires waiting { Distinct waiting.now }
+    requires version { have.now ≡ version applied.now }
+    ensures { option_map answer_of result ≡ stamp_objection applied.now waiting.now op.now }
+{
+    let stamp = op.stamp();
+    let applied_one = applied_at(applied, have, stamp);
+    let waiting_one = waiting.get(stamp);
+    if is_held(applied_one, waiting_one, op) {
+        return Some(Verdict::Repeat);
+    }
+    if is_taken(applied_one, waiting_one) {
+        return Some(Verdict::Refused(OpFault::Conflict(stamp)));
+    }
+    None
+}
+
+// The last applied operation of an operation's author, where the operation has not seen it.
+fn fork_fault(have: &Version, op: &Operation) -> Option<OpFault>
+    ensures { (h : History) → have.now ≡ version h → result ≡ fork_fault h op.now }
+{
+    let replica = op.stamp().replica;
+    let kept = have.get(replica);
+    if op.version().get(replica) < kept {
+        return Some(OpFault::Forked(kept));
+    }
+    None
+}
+
+// What stands against what an operation has seen: that its author went on without it, that some of it is not applied, or
+// that its version is not closed.
+fn cause_verdict(applied: &AppliedList, have: &Version, op: &Operation) -> Option<Verdict>
+    requires lawful { Lawful applied.now }
+    requires version { have.now ≡ version applied.now }
+    ensures { option_map answer_of result ≡ cause_objection applied.now op.now }
+{
+    if let Some(fault) = fork_fault(have, op) {
+        return Some(Verdict::Refused(fault));
+    }
+    if let Some((replica, value)) = have.first_missing(op.version()) {
+        return Some(Verdict::Waits { replica, value });
+    }
+    if let Some(replica) = open_among(applied, have, op) {
+        return Some(Verdict::Refused(OpFault::OpenVersion(replica)));
+    }
+    None
 }
 
 // The fault of an operation's pieces or counts against what its version sees.
@@ -78,32 +133,16 @@ pub fn judge(
     ensures { answer_of result ≡ answer applied.now waiting.now op.now }
 {
     if let Err(fault) = shape(op) {
-        return Verdict::Refuse(fault.into());
+        return Verdict::Refused(fault.into());
     }
-    let stamp = op.stamp();
-    let applied_one = applied_at(applied, have, stamp);
-    let waiting_one = waiting.get(stamp);
-    if is_held(applied_one, waiting_one, op) {
-        return Verdict::Repeated;
+    if let Some(verdict) = stamp_verdict(applied, waiting, have, op) {
+        return verdict;
     }
-    if is_taken(applied_one, waiting_one) {
-        return Verdict::Refuse(OpFault::Conflict(stamp));
+    if let Some(verdict) = cause_verdict(applied, have, op) {
+        return verdict;
     }
-    let kept = have.get(stamp.replica);
-    if op.version().get(stamp.replica) < kept {
-        return Verdict::Refuse(OpFault::Forked(kept));
+    match part_fault(applied, fragments, shown, hidden, op) {
+        Some(fault) => Verdict::Refused(fault),
+        None => Verdict::Good,
     }
-    if let Some(missing) = have.first_missing(op.version()) {
-        return Verdict::Missing {
-            replica: missing.0,
-            value: missing.1,
-        };
-    }
-    if let Some(replica) = open_among(applied, have, op) {
-        return Verdict::Refuse(OpFault::OpenVersion(replica));
-    }
-    if let Some(fault) = part_fault(applied, fragments, shown, hidden, op) {
-        return Verdict::Refuse(fault);
-    }
-    Verdict::Accept
 }

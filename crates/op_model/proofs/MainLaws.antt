@@ -1,52 +1,52 @@
 -- The laws of histories, from the lemmas.
+use Rattle.op_model.proofs.Elements.{each_map}
 use Rattle.std.proofs.Common.{ℕ, suc, List, [], ◌∷◌, ◌∙◌, true, ◌≡◌, ap, subst}
 use Rattle.op_model.specs.declared.operation.Operation.{Operation}
 use Rattle.op_model.specs.Histories.{History, newest_first}
-use Rattle.op_model.specs.Cells.{Cell, Place, everything, seq, cells}
+use Rattle.op_model.specs.Cells.{Cell, PathCell, everything, seq, cells}
 use Rattle.op_model.specs.Shown.{new_bytes, byte, shown_where, shown, text, full_where, full}
 use Rattle.op_model.specs.Laws.{SameSetsAgree, PartsAreFiltered, GoodIsLaidIn, ReplayedByStamps, LeftNeighbours, EachCellOnce, DeletersDelete, EditChanges, NewCellsShown, UndoChanges, OneWalk, TextsAreUtf8, BoundariesAreStd, EqualOperationsAreSame, EditsAreGood, UndosAreGood, SettlingEnds, SettlingKeepsLawful, RunsStayLawful, TextsAreShownCells, SameSetsAnswerAlike, AnchorsStandWhereMade, AnchorsStandInOrder, RightAnchorsAreKnown, TwoPassesAreEnough, SetIsNeverRefused, SetIsAppliedWhole, HonestSetsAreApplied, SettlingAppends, RunsAppend, FrontsAreLawful, FrontsAreSeen, ClosedParts, SameSetsRefuseAlike, AnchorsKeepTheirOrder, UndoIsTold, WalksLeaveCells, EditsSinceTellTheChange, HiddenTextsAreUtf8, FactsChangeAtBoundaries, WalksKeepRunsWhole, AnchorsResolve, HonestSetsAreAppliedWhole, EditsSinceAreAtBoundaries, LawfulIsHistory, TextsAtClosedVersions}
-use Rattle.op_model.proofs.SameSets.{newest_of_set, seq_seen}
-use Rattle.op_model.proofs.Parts.{shown_seen}
-use Rattle.op_model.proofs.Bytes.{text_seen, full_seen}
-use Rattle.op_model.proofs.Good.{lawful_same, lawful_ready, good_more}
-use Rattle.op_model.proofs.Replayed.{lawful_replay}
-use Rattle.op_model.proofs.Literal.{lawful_places, lawful_deleters}
-use Rattle.op_model.proofs.CellsOnce.{seq_ascends, once, all_cells}
-use Rattle.op_model.proofs.Counted.{lawful_counted}
-use Rattle.op_model.proofs.Changes.{edit_deleters, edit_shown, new_cells, undo_deleters, undo_shown, told_anew}
-use Rattle.op_model.proofs.OnePass.{walk_seen}
-use Rattle.op_model.proofs.MoreLawful.{lawful_more}
-use Rattle.op_model.proofs.Proper.{utf8, edit_good, undo_good, same_is, is_same}
-use Rattle.op_model.proofs.WholeTexts.{boundary_of, of_boundary}
+use Rattle.op_model.proofs.order.SameSets.{newest_of_set, seq_seen}
+use Rattle.op_model.proofs.shown.Parts.{shown_seen}
+use Rattle.op_model.proofs.shown.Bytes.{text_seen, full_seen}
+use Rattle.op_model.proofs.answers.Good.{lawful_same, lawful_ready, good_more}
+use Rattle.op_model.proofs.order.Replayed.{lawful_replay}
+use Rattle.op_model.proofs.order.Literal.{lawful_places, lawful_deleters}
+use Rattle.op_model.proofs.order.CellsOnce.{seq_ascends, once, all_cells}
+use Rattle.op_model.proofs.answers.Counted.{lawful_counted}
+use Rattle.op_model.proofs.shown.Changes.{edit_deleters, edit_shown, new_cells, undo_deleters, undo_shown, told_anew}
+use Rattle.op_model.proofs.shown.OnePass.{walk_seen}
+use Rattle.op_model.proofs.histories.MoreLawful.{lawful_more}
+use Rattle.op_model.proofs.histories.Proper.{utf8, edit_good, undo_good, same_is, is_same}
+use Rattle.op_model.proofs.texts.WholeTexts.{boundary_of, of_boundary}
 use Rattle.op_model.specs.declared.anchor.TextEdit.{TextEdit}
 use Rattle.op_model.specs.Edits.{is_boundary}
-use Rattle.op_model.specs.Since.{was_shown, since, text_at}
+use Rattle.op_model.specs.Since.{is_shown_at, since, text_at}
 use Rattle.op_model.specs.Answers.{same_op}
-use Rattle.op_model.specs.Steps.{opened}
-use Rattle.op_model.proofs.Settling.{settled_fixed, settled_misses, settled_lawful, run_holds, opened_holds}
-use Rattle.op_model.proofs.SameAnswers.{text_is, full_is, left_same, right_same, place_same, compare_same, known_same, since_same, text_at_same}
+use Rattle.op_model.specs.Steps.{new_state}
+use Rattle.op_model.proofs.settling.Settling.{settled_fixed, settled_misses, settled_lawful, run_holds, opened_holds}
+use Rattle.op_model.proofs.answers.SameAnswers.{text_is, full_is, left_same, right_same, place_same, compare_same, known_same, since_same, text_at_same}
 use Rattle.std.specs.Prelude.{map, IsCharBoundary}
 use Rattle.std.specs.List.{filter}
-use Rattle.op_model.proofs.AnchorPlaces.{left_place, right_place}
-use Rattle.op_model.proofs.AnchorOrder.{in_order}
-use Rattle.op_model.proofs.KnownAnchors.{right_known}
-use Rattle.op_model.proofs.TwoPasses.{two_passes}
-use Rattle.op_model.proofs.NeverRefused.{never_refused}
-use Rattle.op_model.proofs.AllApplied.{all_applied}
-use Rattle.op_model.proofs.HonestSets.{honest_applied, honest_whole}
-use Rattle.op_model.proofs.MoreLawful.{lawful_parts}
-use Rattle.op_model.proofs.Appending.{settled_longer, run_grows}
-use Rattle.op_model.proofs.ClosedVersions.{fronts_seen, seen_or_empty, seq_closed, deleters_closed, shown_closed}
-use Rattle.op_model.proofs.KeptOrder.{order_kept}
-use Rattle.op_model.proofs.Followed.{text_then, since_told}
-use Rattle.op_model.proofs.SinceBoundaries.{since_bounded}
-use Rattle.op_model.proofs.Insertion.{each_map}
-use Rattle.op_model.proofs.WholeTexts.{lawful_whole}
-use Rattle.op_model.proofs.WholeRuns.{hidden_utf8, byte_new, told_apart, told_first, told_last}
-use Rattle.op_model.proofs.WholeWalks.{texts_of, walk_cut}
-use Rattle.op_model.proofs.LeftAnchors.{both_resolve}
-use Rattle.op_model.proofs.Walking.{walk_some}
-use Rattle.op_model.proofs.SameVersions.{version_same, since_fault_same, place_fault_same, resolved_same, compared_same}
+use Rattle.op_model.proofs.anchors.AnchorPlaces.{left_place, right_place}
+use Rattle.op_model.proofs.anchors.AnchorOrder.{in_order}
+use Rattle.op_model.proofs.anchors.KnownAnchors.{right_known}
+use Rattle.op_model.proofs.settling.TwoPasses.{two_passes}
+use Rattle.op_model.proofs.answers.NeverRefused.{never_refused}
+use Rattle.op_model.proofs.settling.AllApplied.{all_applied}
+use Rattle.op_model.proofs.settling.HonestSets.{honest_applied, honest_whole}
+use Rattle.op_model.proofs.histories.MoreLawful.{lawful_parts}
+use Rattle.op_model.proofs.settling.Appending.{settled_longer, run_grows}
+use Rattle.op_model.proofs.histories.ClosedVersions.{fronts_seen, seen_or_empty, seq_closed, deleters_closed, shown_closed}
+use Rattle.op_model.proofs.anchors.KeptOrder.{order_kept}
+use Rattle.op_model.proofs.since.Followed.{text_then, since_told}
+use Rattle.op_model.proofs.since.SinceBoundaries.{since_bounded}
+use Rattle.op_model.proofs.texts.WholeTexts.{lawful_whole}
+use Rattle.op_model.proofs.texts.WholeRuns.{hidden_utf8, byte_new, told_apart, told_first, told_last}
+use Rattle.op_model.proofs.texts.WholeWalks.{texts_of, walk_cut}
+use Rattle.op_model.proofs.anchors.LeftAnchors.{both_resolve}
+use Rattle.op_model.proofs.shown.Walking.{walk_some}
+use Rattle.op_model.proofs.histories.SameVersions.{version_same, since_fault_same, place_fault_same, resolved_same, compared_same}
 
 pub same_sets_agree : SameSetsAgree
 unfolding shown full
@@ -109,13 +109,13 @@ pub settling_keeps_lawful : SettlingKeepsLawful
 settling_keeps_lawful l h w p = settled_lawful l h w p
 
 pub runs_stay_lawful : RunsStayLawful
-runs_stay_lawful l r t cs i u p = (run_holds l r cs (opened t) i p (opened_holds t u)).0
+runs_stay_lawful l r t cs i u p = (run_holds l r cs (new_state t) i p (opened_holds t u)).0
 
 pub texts_are_shown_cells : TextsAreShownCells
 texts_are_shown_cells h l =
     let d = (lawful_ready h l).0.distinct in
     let r = lawful_replay h l in
-    (text_is h d, full_is h d, text_is h d ∙ ap (λ (s : List Place). map (byte h) (filter (shown h) (cells s))) r, full_is h d ∙ ap (λ (s : List Place). map (byte h) (cells s)) r)
+    (text_is h d, full_is h d, text_is h d ∙ ap (λ (s : List PathCell). map (byte h) (filter (shown h) (cells s))) r, full_is h d ∙ ap (λ (s : List PathCell). map (byte h) (cells s)) r)
 
 pub same_sets_answer_alike : SameSetsAnswerAlike
 same_sets_answer_alike h g l m s = (
@@ -216,5 +216,5 @@ lawful_is_history (op ∷ ops) l = (l.0, (lawful_ready (op ∷ ops) l).0.distinc
 pub texts_at_closed_versions : TextsAtClosedVersions
 texts_at_closed_versions h v l c = (
   (λ d. shown_closed h l v c d),
-  text_then h l v c ∙ ap (λ (f : Cell → ℕ). map f (filter (was_shown h v) (cells (seq h)))) (λ i d. byte_new h (lawful_ready h l).0.distinct d.stamp d.k i),
+  text_then h l v c ∙ ap (λ (f : Cell → ℕ). map f (filter (is_shown_at h v) (cells (seq h)))) (λ i d. byte_new h (lawful_ready h l).0.distinct d.stamp d.k i),
 )

@@ -40,15 +40,15 @@ abbrev pub cells_upto : List Cell → Cell → List Cell
 cells_upto [] c = []
 cells_upto (d ∷ s) c = if same_cell d c then d ∷ [] else d ∷ cells_upto s c
 
-abbrev pub number_shown : History → List Cell → ℕ
-number_shown h s = length (filter (shown h) s)
+abbrev pub shown_count : History → List Cell → ℕ
+shown_count h s = length (filter (shown h) s)
 
 -- where a known anchor stands in the text: Left counts the shown cells up to and including its own, Right those before its own
 unfoldable pub place : History → Anchor → ℕ
 place h Least = 0
 place h Greatest = length (text h)
-place h (At t k Left) = number_shown h (cells_upto (cells (seq h)) (record { stamp = t; k = k - 1 }))
-place h (At t k Right) = number_shown h (cells_before (cells (seq h)) (record { stamp = t; k = k }))
+place h (At t k Left) = shown_count h (cells_upto (cells (seq h)) (record { stamp = t; k = k - 1 }))
+place h (At t k Right) = shown_count h (cells_before (cells (seq h)) (record { stamp = t; k = k }))
 
 -- a known anchor's gap among all cells, and 0 for Left, 1 for Right
 unfoldable pub gap : History → Anchor → ℕ × ℕ
@@ -77,9 +77,9 @@ place_fault h o = first_of (
     ∷ [])
 
 -- the place of an anchor, None where it is not known
-abbrev pub resolved : History → Anchor → Option ℕ
-resolved h a = if is_known h a then Some (place h a) else None
+abbrev pub known_place : History → Anchor → Option ℕ
+known_place h a = if is_known h a then Some (place h a) else None
 
 -- the order of two anchors, None where one is not known
-abbrev pub compared : History → Anchor → Anchor → Option Ordering
-compared h a b = if is_known h a && is_known h b then Some (compare_anchors h a b) else None
+abbrev pub known_order : History → Anchor → Anchor → Option Ordering
+known_order h a b = if is_known h a && is_known h b then Some (compare_anchors h a b) else None

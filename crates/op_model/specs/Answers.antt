@@ -11,7 +11,7 @@ use Rattle.op_model.specs.declared.faults.OpFault.{OpFault}
 use Rattle.op_model.specs.declared.faults.OpFault.TheVariants.{BadStamp, NoBase, TextLimit, Reversed, Overlap, Conflict, Forked, OpenVersion, PastEnd, InsideChar, NoSuchEdit}
 use Rattle.op_model.specs.Choice.{first_of, when}
 use Rattle.op_model.specs.Operations.{stamp_of, version_of, pieces_of, counts_of, text_total}
-use Rattle.op_model.specs.Histories.{History, version, seen, has_edit}
+use Rattle.op_model.specs.Histories.{History, version, seen_history, has_edit}
 use Rattle.op_model.specs.Edits.{is_reversed, overlap_from, is_past, is_inside}
 use Rattle.op_model.specs.Shown.{full}
 
@@ -72,8 +72,8 @@ abbrev pub any_stamp : History → Operation → Bool
 any_stamp h op = list_any (λ o. same_stamp (stamp_of o) (stamp_of op)) h
 
 -- the author's operation that is kept, where op has not seen it
-abbrev pub forked : History → Operation → Option OpFault
-forked h op = let kept = entry (version h) (stamp_of op).replica in
+abbrev pub fork_fault : History → Operation → Option OpFault
+fork_fault h op = let kept = entry (version h) (stamp_of op).replica in
     when (nat_lt (entry (version_of op) (stamp_of op).replica) kept) (Forked kept)
 
 -- the first entry of v that passes that of h: at the least such replica, as the replicas of a version ascend
@@ -81,12 +81,12 @@ abbrev pub first_missing : History → Entries → Option (ℕ × ℕ)
 first_missing h v = first_unseen (version h) v
 
 -- the operation that the entry names is in h, and its version lies within v
-abbrev pub entry_closed : History → Entries → ℕ × ℕ → Bool
-entry_closed h v e = list_any (λ o. same_stamp (stamp_of o) (record { value = e.1; replica = e.0 }) && within (version_of o) v) h
+abbrev pub is_entry_closed : History → Entries → ℕ × ℕ → Bool
+is_entry_closed h v e = list_any (λ o. same_stamp (stamp_of o) (record { value = e.1; replica = e.0 }) && within (version_of o) v) h
 
 -- the first, so the least, replica at which v has an entry that is not closed
 abbrev pub open_replica : History → Entries → Option ℕ
-open_replica h v = option_map (λ e. e.0) (find (λ e. nat_lt 0 e.1 && not (entry_closed h v e)) v)
+open_replica h v = option_map (λ e. e.0) (find (λ e. nat_lt 0 e.1 && not (is_entry_closed h v e)) v)
 
 -- the fault of the pieces against all bytes that the operation's version sees
 abbrev pub range_fault : List ℕ → List Piece → Option OpFault
@@ -105,11 +105,11 @@ objection h w op = first_of (
     option_map Refused (shape_fault op)
     ∷ when (any_equal (h ++ w) op) Repeat
     ∷ when (any_stamp (h ++ w) op) (Refused (Conflict (stamp_of op)))
-    ∷ option_map Refused (forked h op)
+    ∷ option_map Refused (fork_fault h op)
     ∷ option_map (λ e. Waits e.0 e.1) (first_missing h (version_of op))
     ∷ option_map (λ r. Refused (OpenVersion r)) (open_replica h (version_of op))
-    ∷ option_map Refused (range_fault (full (seen h (version_of op))) (pieces_of op))
-    ∷ option_map Refused (count_fault (seen h (version_of op)) (counts_of op))
+    ∷ option_map Refused (range_fault (full (seen_history h (version_of op))) (pieces_of op))
+    ∷ option_map Refused (count_fault (seen_history h (version_of op)) (counts_of op))
     ∷ [])
 
 -- the answer to op at h, w waiting

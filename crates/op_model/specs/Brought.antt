@@ -7,22 +7,22 @@ use Rattle.op_model.specs.declared.faults.Unit.{Unit as LimitUnit}
 use Rattle.op_model.specs.declared.faults.OpFault.TheVariants.{Full}
 use Rattle.op_model.specs.Sorted.{Member}
 use Rattle.op_model.specs.Answers.Answer.{Refused}
-use Rattle.op_model.specs.Made.{made, made_undo, local_edit_fault, local_undo_fault}
+use Rattle.op_model.specs.Made.{local_edit, local_undo, local_edit_fault, local_undo_fault}
 use Rattle.op_model.specs.Settled.{State}
 use Rattle.op_model.specs.Steps.{Step, step, settle_step, take_answer}
 use Rattle.op_model.specs.Steps.Step.{Edits, Undoes, Takes, Settles}
 
 -- the operation that a call of replica r makes or takes at s, if it makes or takes one
-abbrev pub brought : LimitsType → ℕ → Step → State → Option Operation
-brought l r (Edits ps) s = if is_some (local_edit_fault l s.history ps) then None else Some (made s.history r ps)
-brought l r (Undoes ts) s = if is_some (local_undo_fault l s.history ts) then None else Some (made_undo s.history r ts)
-brought l r (Takes op) s = Some op
-brought l r Settles s = None
+abbrev pub operation_of_call : LimitsType → ℕ → Step → State → Option Operation
+operation_of_call l r (Edits ps) s = if is_some (local_edit_fault l s.history ps) then None else Some (local_edit s.history r ps)
+operation_of_call l r (Undoes ts) s = if is_some (local_undo_fault l s.history ts) then None else Some (local_undo s.history r ts)
+operation_of_call l r (Takes op) s = Some op
+operation_of_call l r Settles s = None
 
 -- all that a list of calls makes and takes
-abbrev pub all_brought : LimitsType → ℕ → List Step → State → List Operation
-all_brought l r [] s = []
-all_brought l r (c ∷ cs) s = option_to_list (brought l r c s) ++ all_brought l r cs (step l r c s)
+abbrev pub operations_of_calls : LimitsType → ℕ → List Step → State → List Operation
+operations_of_calls l r [] s = []
+operations_of_calls l r (c ∷ cs) s = option_to_list (operation_of_call l r c s) ++ operations_of_calls l r cs (step l r c s)
 
 -- the limits are not why an operation is refused that a call takes at s; an edit or undo that they refuse is not made
 abbrev pub TakesNoFull : LimitsType → Step → State → Type 0

@@ -1,14 +1,14 @@
 -- Which values a history is meant for. The definitions compute on all values; a law names those of these that it needs.
 use Rattle.std.specs.Prelude.{◌≡◌, ℕ, ◌<◌, ◌≤◌, List, [], ◌∷◌, IsUtf8}
+use Rattle.std.specs.List.{AllByRecursion}
 use Rattle.op_model.specs.declared.operation.Piece.{Piece}
 use Rattle.op_model.specs.declared.operation.Operation.{Operation}
-use Rattle.op_model.specs.Sorted.{Each}
 use Rattle.op_model.specs.Operations.{stamp_of, pieces_of}
 use Rattle.op_model.specs.Histories.{History, Distinct, base}
 
 -- what laws of whole histories need of an operation: the value of its stamp is one of its type, its texts are UTF-8
 abbrev pub IsProper : Operation → Type 0
-IsProper op = ((stamp_of op).value < 4294967296) × Each (λ (p : Piece). IsUtf8 p.text) (pieces_of op)
+IsProper op = ((stamp_of op).value < 4294967296) × AllByRecursion (λ (p : Piece). IsUtf8 p.text) (pieces_of op)
 
 -- the id of an editor's replica
 abbrev pub IsReplica : ℕ → Type 0

@@ -16,8 +16,8 @@ replaced_from at [] text = drop at text
 replaced_from at (p ∷ ps) text = slice_range text at p.start ++ (p.text ++ replaced_from p.end ps text)
 
 -- the text with each range replaced, where the pieces meet no fault
-abbrev pub replaced : List Piece → List ℕ → List ℕ
-replaced ps text = replaced_from 0 ps text
+abbrev pub replace_ranges : List Piece → List ℕ → List ℕ
+replace_ranges ps text = replaced_from 0 ps text
 
 -- a character begins there, or the text ends (RFC 3629: a byte that continues a character is 128 to 191)
 abbrev pub is_boundary : List ℕ → ℕ → Bool

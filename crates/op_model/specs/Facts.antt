@@ -20,8 +20,8 @@ abbrev pub fact : History → Cell → Fact
 fact h c = record { cell = c; visible = shown h c; deletions = deleters h c }
 
 -- all cells of h in order, with what is told of them
-abbrev pub told : History → List Fact
-told h = map (fact h) (cells (seq h))
+abbrev pub cell_facts : History → List Fact
+cell_facts h = map (fact h) (cells (seq h))
 
 -- the cell of q stands directly behind that of p in the texts of one edit, and the same is told of both
 abbrev pub Continues : Fact → Fact → Type 0
@@ -66,17 +66,17 @@ put_at (suc i) t ns [] = ns
 put_at (suc i) t ns (q ∷ s) = q ∷ put_at i t ns s
 
 -- the place just after the n-th that passes
-abbrev pub nth_kept : (Lamport → Bool) → List Fact → ℕ → ℕ
-nth_kept keep s zero = zero
-nth_kept keep [] (suc n) = zero
-nth_kept keep (q ∷ s) (suc n) = suc (nth_kept keep s (if keep q.cell.stamp then n else suc n))
+abbrev pub fact_index_after : (Lamport → Bool) → List Fact → ℕ → ℕ
+fact_index_after keep s zero = zero
+fact_index_after keep [] (suc n) = zero
+fact_index_after keep (q ∷ s) (suc n) = suc (fact_index_after keep s (if keep q.cell.stamp then n else suc n))
 
 -- the pieces laid in from the last to the first; s begins where `at` cells that pass are gone
 abbrev pub lay_facts : (Lamport → Bool) → Lamport → ℕ → ℕ → List Piece → List Fact → List Fact
 lay_facts keep t at k [] s = s
 lay_facts keep t at k (p ∷ ps) s =
     let r : List Fact = lay_facts keep t at (k + length p.text) ps s in
-    put_at (nth_kept keep r (p.start - at)) t (alike t k (length p.text) true []) r
+    put_at (fact_index_after keep r (p.start - at)) t (alike t k (length p.text) true []) r
 
 -- what a mark makes of whether a cell is shown, and of its deletions
 pub record Marking : Type 0 where

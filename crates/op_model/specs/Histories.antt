@@ -2,7 +2,7 @@
 use Rattle.std.specs.Prelude.{◌≡◌, ℕ, ◌+◌, ◌==◌, ◌&&◌, not, Bool, if◌then◌else◌, List, [], ◌∷◌, reverse, Option}
 use Rattle.std.specs.List.{filter, find, list_any}
 use Rattle.lamport_clock.specs.declared.stamp.Lamport.{Lamport}
-use Rattle.lamport_clock.specs.Clocks.{observed}
+use Rattle.lamport_clock.specs.Clocks.{clock_after}
 use Rattle.lamport_clock.specs.Stamps.{later, same_stamp}
 use Rattle.lamport_clock.specs.Versions.{Entries, raise, sees}
 use Rattle.op_model.specs.declared.operation.Operation.{Operation}
@@ -25,7 +25,7 @@ version (op ∷ h) = raise (version h) (stamp_of op)
 -- the clock that stood at c and observed the stamps of h in turn
 abbrev pub clock_from : ℕ → History → ℕ
 clock_from c [] = c
-clock_from c (op ∷ h) = clock_from (observed c (stamp_of op).value) h
+clock_from c (op ∷ h) = clock_from (clock_after c (stamp_of op).value) h
 
 abbrev pub clock : History → ℕ
 clock h = clock_from 1 h
@@ -49,12 +49,12 @@ abbrev pub has_edit : History → Lamport → Bool
 has_edit h t = list_any (λ o. is_edit o && same_stamp (stamp_of o) t) h
 
 -- the part of h whose stamps pass
-abbrev pub kept : (Lamport → Bool) → History → History
-kept keep h = filter (λ o. keep (stamp_of o)) h
+abbrev pub kept_history : (Lamport → Bool) → History → History
+kept_history keep h = filter (λ o. keep (stamp_of o)) h
 
 -- the part of h that v sees
-abbrev pub seen : History → Entries → History
-seen h v = kept (sees v) h
+abbrev pub seen_history : History → Entries → History
+seen_history h v = kept_history (sees v) h
 
 -- op is one of h
 abbrev pub In : History → Operation → Type 0

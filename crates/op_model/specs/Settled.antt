@@ -66,5 +66,5 @@ passes (suc n) l h w = let s : State = pass l h w in
 
 -- h, w, which stands by stamps, and the refused after settling: passes until one applies nothing. Each pass but the last
 -- applies at least one of w, so one more than w has are enough
-unfoldable pub settled : LimitsType → History → List Operation → State
-settled l h w = passes (suc (length w)) l h w
+unfoldable pub settle : LimitsType → History → List Operation → State
+settle l h w = passes (suc (length w)) l h w

@@ -7,18 +7,18 @@ use Rattle.op_model.specs.declared.operation.Piece.{Piece}
 use Rattle.op_model.specs.declared.operation.UndoCount.{UndoCount}
 use Rattle.op_model.specs.declared.operation.Operation.{Operation}
 use Rattle.op_model.specs.Operations.{stamp_of, version_of, pieces_of, counts_of}
-use Rattle.op_model.specs.Histories.{History, kept, seen, newest_first}
-use Rattle.op_model.specs.Cells.{Cell, same_cell, Place, both, seq_where, seq, everything, cells}
+use Rattle.op_model.specs.Histories.{History, kept_history, seen_history, newest_first}
+use Rattle.op_model.specs.Cells.{Cell, same_cell, PathCell, both, seq_where, seq, everything, cells}
 
 -- the greatest count that is given to t
-abbrev pub given : List UndoCount → Lamport → ℕ
-given [] t = 0
-given (c ∷ cs) t = if same_stamp c.edit t then max c.count (given cs t) else given cs t
+abbrev pub greatest_given : List UndoCount → Lamport → ℕ
+greatest_given [] t = 0
+greatest_given (c ∷ cs) t = if same_stamp c.edit t then max c.count (greatest_given cs t) else greatest_given cs t
 
 -- the greatest count that an undo of h gives t, 0 if none
 abbrev pub count : History → Lamport → ℕ
 count [] t = 0
-count (op ∷ h) t = max (given (counts_of op) t) (count h t)
+count (op ∷ h) t = max (greatest_given (counts_of op) t) (count h t)
 
 abbrev pub undone : History → Lamport → Bool
 undone h t = count h t % 2 == 1
@@ -33,7 +33,7 @@ in_pieces [] i = false
 in_pieces (p ∷ ps) i = (nat_le p.start i && nat_lt i p.end) || in_pieces ps i
 
 -- c stands in s, which begins at place i, at a range of the pieces
-abbrev pub in_ranges : List Place → ℕ → List Piece → Cell → Bool
+abbrev pub in_ranges : List PathCell → ℕ → List Piece → Cell → Bool
 in_ranges [] i ps c = false
 in_ranges (p ∷ s) i ps c = (same_cell p.cell c && in_pieces ps i) || in_ranges s (suc i) ps c
 
@@ -47,13 +47,13 @@ unfoldable pub deleters_where : (Lamport → Bool) → History → Cell → List
 deleters_where keep [] c = []
 deleters_where keep (op ∷ h) c =
     if keep (stamp_of op) && in_ranges (seq_where (both keep (version_of op)) h) 0 (pieces_of op) c
-    && shown_by (kept (both keep (version_of op)) h) (deleters_where (both keep (version_of op)) h c) c
+    && shown_by (kept_history (both keep (version_of op)) h) (deleters_where (both keep (version_of op)) h c) c
     then stamp_of op ∷ deleters_where keep h c
     else deleters_where keep h c
 
 -- c is shown in the part of h whose stamps pass, where the stamps of h descend
 unfoldable pub shown_where : (Lamport → Bool) → History → Cell → Bool
-shown_where keep h c = shown_by (kept keep h) (deleters_where keep h c) c
+shown_where keep h c = shown_by (kept_history keep h) (deleters_where keep h c) c
 
 -- the edits of h that delete c, the greatest stamp first
 abbrev pub deleters : History → Cell → List Lamport
@@ -65,7 +65,7 @@ shown h c = shown_where everything (newest_first h) c
 
 -- op, of h, deletes c: c stands at a range of op in the sequence of what op's version sees, and is shown there
 abbrev pub deletes : History → Operation → Cell → Bool
-deletes h op c = in_ranges (seq (seen h (version_of op))) 0 (pieces_of op) c && shown (seen h (version_of op)) c
+deletes h op c = in_ranges (seq (seen_history h (version_of op))) 0 (pieces_of op) c && shown (seen_history h (version_of op)) c
 
 abbrev pub texts : List Piece → List ℕ
 texts [] = []
@@ -99,5 +99,5 @@ unfoldable pub full : History → List ℕ
 full h = full_where everything (newest_first h)
 
 -- the bytes of the hidden cells of h in order
-abbrev pub hidden : History → List ℕ
-hidden h = map (byte h) (filter (λ (c : Cell). not (shown h c)) (cells (seq h)))
+abbrev pub hidden_text : History → List ℕ
+hidden_text h = map (byte h) (filter (λ (c : Cell). not (shown h c)) (cells (seq h)))

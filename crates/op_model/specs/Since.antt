@@ -1,7 +1,7 @@
 -- Edits since a version.
 use Rattle.std.specs.Prelude.{ℕ, suc, ◌+◌, Bool, true, false, ◌&&◌, if◌then◌else◌, List, [], ◌∷◌, ◌++◌, map, drop, slice_range, Option, option_map}
 use Rattle.lamport_clock.specs.Versions.{Entries, sees}
-use Rattle.op_model.specs.Histories.{History, seen}
+use Rattle.op_model.specs.Histories.{History, seen_history}
 use Rattle.op_model.specs.Cells.{Cell, seq, cells}
 use Rattle.op_model.specs.Shown.{shown, text}
 use Rattle.op_model.specs.Choice.{first_of}
@@ -19,11 +19,11 @@ abbrev pub fate : Bool → Bool → Fate
 fate then_shown now_shown = if then_shown then (if now_shown then Kept else Gone) else (if now_shown then New else Never)
 
 -- c is a cell of what v sees, and shown there
-abbrev pub was_shown : History → Entries → Cell → Bool
-was_shown h v c = sees v c.stamp && shown (seen h v) c
+abbrev pub is_shown_at : History → Entries → Cell → Bool
+is_shown_at h v c = sees v c.stamp && shown (seen_history h v) c
 
 abbrev pub fates : History → Entries → List Fate
-fates h v = map (λ (c : Cell). fate (was_shown h v c) (shown h c)) (cells (seq h))
+fates h v = map (λ (c : Cell). fate (is_shown_at h v c) (shown h c)) (cells (seq h))
 
 -- the fates with x before the first run
 abbrev pub lengthen : Fate → List (List Fate) → List (List Fate)
@@ -75,7 +75,7 @@ since h v = edits_of 0 0 (runs (fates h v))
 
 -- the text that v saw; v is closed in h
 abbrev pub text_at : History → Entries → List ℕ
-text_at h v = text (seen h v)
+text_at h v = text (seen_history h v)
 
 -- why there is no answer at v: the least replica of which v has more than h, or that at which v is not closed
 abbrev pub since_fault : History → Entries → Option SinceFault
@@ -85,6 +85,6 @@ since_fault h v = first_of (
     ∷ [])
 
 -- the text then from a place on, with the old range of each edit replaced by its new range of the text now
-abbrev pub followed : ℕ → List TextEdit → List ℕ → List ℕ → List ℕ
-followed at [] then_text now_text = drop at then_text
-followed at (e ∷ es) then_text now_text = slice_range then_text at e.old.0 ++ (slice_range now_text e.new.0 e.new.1 ++ followed e.old.1 es then_text now_text)
+abbrev pub apply_edits : ℕ → List TextEdit → List ℕ → List ℕ → List ℕ
+apply_edits at [] then_text now_text = drop at then_text
+apply_edits at (e ∷ es) then_text now_text = slice_range then_text at e.old.0 ++ (slice_range now_text e.new.0 e.new.1 ++ apply_edits e.old.1 es then_text now_text)

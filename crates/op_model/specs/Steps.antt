@@ -1,38 +1,39 @@
 -- What the calls of a buffer make of what it holds.
 use Rattle.std.specs.Prelude.{⊤, IsUtf8, ℕ, ◌-◌, Bool, if◌then◌else◌, List, [], ◌∷◌, ◌++◌, length, Option, Some, None, is_some}
+use Rattle.std.specs.List.{AllByRecursion}
 use Rattle.lamport_clock.specs.declared.stamp.Lamport.{Lamport}
 use Rattle.lamport_clock.specs.Stamps.{later}
 use Rattle.op_model.specs.declared.operation.Piece.{Piece}
 use Rattle.op_model.specs.declared.operation.Operation.{Operation}
 use Rattle.op_model.specs.declared.limits.Limits.{Limits as LimitsType}
 use Rattle.op_model.specs.declared.faults.OpFault.{OpFault}
-use Rattle.op_model.specs.Sorted.{insert_by, Each}
+use Rattle.op_model.specs.Sorted.{insert_by}
 use Rattle.op_model.specs.Domains.{IsProper}
 use Rattle.op_model.specs.Operations.{stamp_of}
 use Rattle.op_model.specs.Histories.{base}
-use Rattle.op_model.specs.Made.{made, made_undo, local_edit_fault, local_undo_fault}
+use Rattle.op_model.specs.Made.{local_edit, local_undo, local_edit_fault, local_undo_fault}
 use Rattle.op_model.specs.Answers.{Answer, answer}
 use Rattle.op_model.specs.Answers.Answer.{Good, Repeat, Waits, Refused}
-use Rattle.op_model.specs.Settled.{State, settled, full_fault}
+use Rattle.op_model.specs.Settled.{State, settle, full_fault}
 
 -- a new buffer over a base
-abbrev pub opened : List ℕ → State
-opened t = record { history = base t ∷ []; waiting = []; refused = [] }
+abbrev pub new_state : List ℕ → State
+new_state t = record { history = base t ∷ []; waiting = []; refused = [] }
 
 abbrev pub with_applied : Operation → State → State
 with_applied op s = record { history = s.history ++ op ∷ []; waiting = s.waiting; refused = s.refused }
 
 -- replica r edits: the edit that it makes is applied, unless it meets a fault
 abbrev pub edit_step : LimitsType → ℕ → List Piece → State → State
-edit_step l r ps s = if is_some (local_edit_fault l s.history ps) then s else with_applied (made s.history r ps) s
+edit_step l r ps s = if is_some (local_edit_fault l s.history ps) then s else with_applied (local_edit s.history r ps) s
 
 -- replica r undoes
 abbrev pub undo_step : LimitsType → ℕ → List Lamport → State → State
-undo_step l r ts s = if is_some (local_undo_fault l s.history ts) then s else with_applied (made_undo s.history r ts) s
+undo_step l r ts s = if is_some (local_undo_fault l s.history ts) then s else with_applied (local_undo s.history r ts) s
 
 -- what waits may be applied, refused or dropped
 abbrev pub settle_step : LimitsType → State → State
-settle_step l s = let n : State = settled l s.history s.waiting in
+settle_step l s = let n : State = settle l s.history s.waiting in
     record { history = n.history; waiting = n.waiting; refused = s.refused ++ n.refused }
 
 abbrev pub or_full : Option OpFault → Answer
@@ -40,15 +41,15 @@ or_full None = Good
 or_full (Some f) = Refused f
 
 -- the limits are asked where nothing else stands against it
-abbrev pub limited : Answer → Option OpFault → Answer
-limited Good full = or_full full
-limited Repeat full = Repeat
-limited (Waits r v) full = Waits r v
-limited (Refused f) full = Refused f
+abbrev pub ask_limits : Answer → Option OpFault → Answer
+ask_limits Good full = or_full full
+ask_limits Repeat full = Repeat
+ask_limits (Waits r v) full = Waits r v
+ask_limits (Refused f) full = Refused f
 
 -- the answer to a taken operation
 abbrev pub take_answer : LimitsType → State → Operation → Answer
-take_answer l s op = limited (answer s.history s.waiting op) (full_fault l s.history op)
+take_answer l s op = ask_limits (answer s.history s.waiting op) (full_fault l s.history op)
 
 abbrev pub older : Operation → Operation → Bool
 older a b = later (stamp_of b) (stamp_of a)
@@ -90,7 +91,7 @@ run l r (c ∷ cs) s = run l r cs (step l r c s)
 
 -- the operation or texts that are handed to a call are proper
 abbrev pub IsProperStep : Step → Type 0
-IsProperStep (Edits ps) = Each (λ (p : Piece). IsUtf8 p.text) ps
+IsProperStep (Edits ps) = AllByRecursion (λ (p : Piece). IsUtf8 p.text) ps
 IsProperStep (Undoes ts) = ⊤
 IsProperStep (Takes op) = IsProper op
 IsProperStep Settles = ⊤

@@ -46,8 +46,8 @@ abbrev pub back : Run → ℕ → Run
 back r n = record { stamp = r.stamp; offset = r.offset + n; len = r.len - n; visible = r.visible; deletions = r.deletions }
 
 -- a run, marked where b says so
-abbrev pub touched : Marking → Bool → Run → Run
-touched m b r = record {
+abbrev pub mark_run : Marking → Bool → Run → Run
+mark_run m b r = record {
   stamp = r.stamp;
   offset = r.offset;
   len = r.len;
@@ -73,8 +73,8 @@ advance m keep b (suc n) [] = none_out []
 advance m keep b (suc n) (r ∷ rs) =
     if keep r.stamp
     then (if nat_le r.len (suc n)
-    then push (touched m b r) (advance m keep b (suc n - r.len) rs)
-    else push (touched m b (front r (suc n))) (none_out (back r (suc n) ∷ rs)))
+    then push (mark_run m b r) (advance m keep b (suc n - r.len) rs)
+    else push (mark_run m b (front r (suc n))) (none_out (back r (suc n) ∷ rs)))
     else push r (advance m keep b (suc n) rs)
 
 -- over the runs that are later than t
@@ -83,9 +83,9 @@ skip_later t [] = none_out []
 skip_later t (r ∷ rs) = if later r.stamp t then push r (skip_later t rs) else none_out (r ∷ rs)
 
 -- the n new cells from k on of edit t, where there are some
-abbrev pub placed : Lamport → ℕ → ℕ → List Run
-placed t k zero = []
-placed t k (suc n) = record { stamp = t; offset = k; len = suc n; visible = true; deletions = [] } ∷ []
+abbrev pub new_runs : Lamport → ℕ → ℕ → List Run
+new_runs t k zero = []
+new_runs t k (suc n) = record { stamp = t; offset = k; len = suc n; visible = true; deletions = [] } ∷ []
 
 -- from `at` cells that pass to the end of a piece: to its start, past what is later, its text, and its range marked
 abbrev pub one_piece : Marking → (Lamport → Bool) → Lamport → ℕ → ℕ → Piece → List Run → Walked
@@ -93,7 +93,7 @@ one_piece m keep t at k p rs =
     let a : Walked = advance m keep false (p.start - at) rs in
     let b : Walked = skip_later t a.rest in
     let d : Walked = advance m keep true (p.end - p.start) b.rest in
-    record { out = a.out ++ (b.out ++ (placed t k (length p.text) ++ d.out)); rest = d.rest }
+    record { out = a.out ++ (b.out ++ (new_runs t k (length p.text) ++ d.out)); rest = d.rest }
 
 -- all pieces, from the first to the last
 abbrev pub walk : Marking → (Lamport → Bool) → Lamport → ℕ → ℕ → List Piece → List Run → List Run

@@ -5,8 +5,9 @@ ghost use Rattle.op_model.specs.declared.faults.UndoFault.{UndoFault};
 ghost use Rattle.op_model.specs.declared.faults.OpFault.{OpFault};
 ghost use Rattle.op_model.specs.declared.faults.SinceFault.{SinceFault};
 
+use crate::OutOfMemory;
 use lamport_clock::{ClockEnd, Lamport};
-use std::alloc::{AllocError, AllocFailed};
+use std::alloc::AllocFailed;
 use std::fmt;
 use thiserror::Error;
 
@@ -123,10 +124,10 @@ pub enum SinceFault {
     OutOfMemory,
 }
 
-impl From<AllocError> for EditFault {
+impl From<OutOfMemory> for EditFault {
     ghost from_gives = { λ _ e. e ≡ EditFault.OutOfMemory };
 
-    fn from(_: AllocError) -> Self {
+    fn from(_: OutOfMemory) -> Self {
         EditFault::OutOfMemory
     }
 }
@@ -147,10 +148,10 @@ impl From<ClockEnd> for EditFault {
     }
 }
 
-impl From<AllocError> for UndoFault {
+impl From<OutOfMemory> for UndoFault {
     ghost from_gives = { λ _ e. e ≡ UndoFault.OutOfMemory };
 
-    fn from(_: AllocError) -> Self {
+    fn from(_: OutOfMemory) -> Self {
         UndoFault::OutOfMemory
     }
 }
@@ -171,10 +172,10 @@ impl From<ClockEnd> for UndoFault {
     }
 }
 
-impl From<AllocError> for OpFault {
+impl From<OutOfMemory> for OpFault {
     ghost from_gives = { λ _ e. e ≡ OpFault.OutOfMemory };
 
-    fn from(_: AllocError) -> Self {
+    fn from(_: OutOfMemory) -> Self {
         OpFault::OutOfMemory
     }
 }
@@ -187,10 +188,10 @@ impl<T: Drop> From<AllocFailed<T>> for OpFault {
     }
 }
 
-impl From<AllocError> for SinceFault {
+impl From<OutOfMemory> for SinceFault {
     ghost from_gives = { λ _ e. e ≡ SinceFault.OutOfMemory };
 
-    fn from(_: AllocError) -> Self {
+    fn from(_: OutOfMemory) -> Self {
         SinceFault::OutOfMemory
     }
 }

@@ -2,7 +2,8 @@
 ghost use Rattle.std.specs.Prelude.{◌≡◌, IfOk};
 ghost use Rattle.op_model.specs.Items.{items_of};
 
-use std::alloc::{AllocError, Global};
+use crate::OutOfMemory;
+use std::alloc::Global;
 use std::sync::Arc;
 
 // A list with one owner, or with as many as there are copies.
@@ -23,7 +24,7 @@ impl<T: Drop> Items<T> {
     }
 
     // The same items, shared.
-    pub(crate) fn into_shared(self, alloc: Global) -> Result<Items<T>, AllocError>
+    pub(crate) fn into_shared(self, alloc: Global) -> Result<Items<T>, OutOfMemory>
         ensures { IfOk result (λ items. items_of items ≡ items_of self) }
     {
         let items = match self {

@@ -2,8 +2,8 @@
 ghost use Rattle.std.specs.Prelude.{◌≡◌, string_bytes, IfOk};
 
 use crate::items::Items;
-use crate::{Piece, UndoCount};
-use std::alloc::{AllocError, Global};
+use crate::{OutOfMemory, Piece, UndoCount};
+use std::alloc::Global;
 use std::marker::Model;
 use std::sync::Arc;
 
@@ -36,7 +36,7 @@ impl Text {
     }
 
     /// An equal text. Linear in its bytes.
-    pub fn copy(&self, alloc: Global) -> Result<Text, AllocError>
+    pub fn copy(&self, alloc: Global) -> Result<Text, OutOfMemory>
         ensures { IfOk result (λ text. text ≡ self.now) }
     {
         Ok(Text::new(String::from_str(alloc, self.as_str())?))
@@ -61,7 +61,7 @@ impl Model for Pieces {
 
 impl Pieces {
     /// Equal pieces. Linear in their number and their texts.
-    pub fn copy_of(alloc: Global, pieces: &[Piece]) -> Result<Pieces, AllocError>
+    pub fn copy_of(alloc: Global, pieces: &[Piece]) -> Result<Pieces, OutOfMemory>
         ensures { IfOk result (λ ps. ps ≡ pieces.now) }
     {
         let mut copies = Vec::with_capacity(alloc, pieces.len())?;
@@ -92,7 +92,7 @@ impl Pieces {
 
     /// Equal pieces, of which copies are further owners. Constant time; no text is copied. On want of memory they are
     /// dropped.
-    pub fn into_shared(self, alloc: Global) -> Result<Pieces, AllocError>
+    pub fn into_shared(self, alloc: Global) -> Result<Pieces, OutOfMemory>
         ensures { IfOk result (λ ps. ps ≡ self) }
     {
         Ok(Pieces {
@@ -102,7 +102,7 @@ impl Pieces {
 
     /// Equal pieces. Where they are shared a further owner, which takes no memory, in constant time; else linear in
     /// their number and their texts.
-    pub fn copy(&self, alloc: Global) -> Result<Pieces, AllocError>
+    pub fn copy(&self, alloc: Global) -> Result<Pieces, OutOfMemory>
         ensures { IfOk result (λ ps. ps ≡ self.now) }
     {
         match &self.items {
@@ -132,7 +132,7 @@ impl Model for Counts {
 
 impl Counts {
     /// Equal counts. Linear in their number.
-    pub fn copy_of(alloc: Global, counts: &[UndoCount]) -> Result<Counts, AllocError>
+    pub fn copy_of(alloc: Global, counts: &[UndoCount]) -> Result<Counts, OutOfMemory>
         ensures { IfOk result (λ cs. cs ≡ counts.now) }
     {
         Ok(Counts::new(Vec::from_slice(alloc, counts)?))
@@ -154,7 +154,7 @@ impl Counts {
     }
 
     /// Equal counts, of which copies are further owners. Constant time. On want of memory they are dropped.
-    pub fn into_shared(self, alloc: Global) -> Result<Counts, AllocError>
+    pub fn into_shared(self, alloc: Global) -> Result<Counts, OutOfMemory>
         ensures { IfOk result (λ cs. cs ≡ self) }
     {
         Ok(Counts {
@@ -164,7 +164,7 @@ impl Counts {
 
     /// Equal counts. Where they are shared a further owner, which takes no memory, in constant time; else linear in
     /// their number.
-    pub fn copy(&self, alloc: Global) -> Result<Counts, AllocError>
+    pub fn copy(&self, alloc: Global) -> Result<Counts, OutOfMemory>
         ensures { IfOk result (λ cs. cs ≡ self.now) }
     {
         match &self.items {

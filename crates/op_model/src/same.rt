@@ -3,9 +3,9 @@ ghost use Rattle.std.specs.Prelude.{◌≡◌, ◌==◌, IfOk};
 ghost use Rattle.op_model.specs.Answers.{same_version, same_piece, same_count, same_list, same_op};
 ghost use Rattle.op_model.specs.declared.operation.Operation.TheVariants.{Edit, Undo};
 
-use crate::{EditOp, Operation, Piece, Text, UndoCount, UndoOp};
+use crate::{EditOp, Operation, OutOfMemory, Piece, Text, UndoCount, UndoOp};
 use lamport_clock::{Version, is_same};
-use std::alloc::{AllocError, Global};
+use std::alloc::Global;
 
 impl Operation {
     /// Whether the two are equal: of one kind, with the same stamp, equal versions, and the same pieces or counts in the
@@ -27,7 +27,7 @@ impl Operation {
 
     /// An equal operation. Pieces and counts that are shared (`into_shared`) are not copied: it is linear in the version
     /// then, and else in the operation and its texts.
-    pub fn copy(&self, alloc: Global) -> Result<Operation, AllocError>
+    pub fn copy(&self, alloc: Global) -> Result<Operation, OutOfMemory>
         ensures { IfOk result (λ op. op ≡ self.now) }
     {
         match self {
@@ -38,7 +38,7 @@ impl Operation {
 
     /// An equal operation, whose copies share its pieces or counts. Constant time; no text is copied. On want of memory it
     /// is dropped.
-    pub fn into_shared(self, alloc: Global) -> Result<Operation, AllocError>
+    pub fn into_shared(self, alloc: Global) -> Result<Operation, OutOfMemory>
         ensures { IfOk result (λ op. op ≡ self) }
     {
         match self {
@@ -51,7 +51,7 @@ impl Operation {
 impl EditOp {
     /// An equal edit. Pieces that are shared (`into_shared`) are not copied: it is linear in the version then, and else in
     /// the edit and its texts.
-    pub fn copy(&self, alloc: Global) -> Result<EditOp, AllocError>
+    pub fn copy(&self, alloc: Global) -> Result<EditOp, OutOfMemory>
         ensures { IfOk result (λ edit. edit ≡ self.now) }
     {
         Ok(EditOp {
@@ -62,7 +62,7 @@ impl EditOp {
     }
 
     /// An equal edit, whose copies share its pieces. Constant time; no text is copied. On want of memory it is dropped.
-    pub fn into_shared(self, alloc: Global) -> Result<EditOp, AllocError>
+    pub fn into_shared(self, alloc: Global) -> Result<EditOp, OutOfMemory>
         ensures { IfOk result (λ edit. edit ≡ self) }
     {
         Ok(EditOp {
@@ -76,7 +76,7 @@ impl EditOp {
 impl UndoOp {
     /// An equal undo. Counts that are shared (`into_shared`) are not copied: it is linear in the version then, and else in
     /// the undo.
-    pub fn copy(&self, alloc: Global) -> Result<UndoOp, AllocError>
+    pub fn copy(&self, alloc: Global) -> Result<UndoOp, OutOfMemory>
         ensures { IfOk result (λ undo. undo ≡ self.now) }
     {
         Ok(UndoOp {
@@ -87,7 +87,7 @@ impl UndoOp {
     }
 
     /// An equal undo, whose copies share its counts. Constant time. On want of memory it is dropped.
-    pub fn into_shared(self, alloc: Global) -> Result<UndoOp, AllocError>
+    pub fn into_shared(self, alloc: Global) -> Result<UndoOp, OutOfMemory>
         ensures { IfOk result (λ undo. undo ≡ self) }
     {
         Ok(UndoOp {

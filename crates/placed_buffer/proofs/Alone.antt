@@ -4,8 +4,8 @@ use Rattle.op_model.specs.declared.operation.Operation.{Operation}
 use Rattle.op_model.specs.declared.limits.Limits.{Limits as LimitsType}
 use Rattle.op_model.specs.declared.faults.OpFault.{OpFault}
 use Rattle.op_model.specs.Histories.{History}
-use Rattle.op_model.specs.Settled.{State, pass, passes, settled, full_fault}
-use Rattle.op_model.specs.Steps.{limited, take_answer, take_step, settle_step, with_applied, with_deferred}
+use Rattle.op_model.specs.Settled.{State, pass, passes, settle, full_fault}
+use Rattle.op_model.specs.Steps.{ask_limits, take_answer, take_step, settle_step, with_applied, with_deferred}
 use Rattle.op_model.specs.Answers.{Answer, answer}
 use Rattle.op_model.specs.Answers.Answer.{Good, Repeat, Waits, Refused}
 use Rattle.placed_buffer.specs.Standing.{TakesOne}
@@ -20,7 +20,7 @@ told_good n m Repeat e = cc
 told_good n m (Waits r v) e = cc
 told_good n m (Refused f) e = cc
 
-limited_good : (a : Answer) (f : Option OpFault) → limited a f ≡ Good → (a ≡ Good) × (f ≡ None)
+limited_good : (a : Answer) (f : Option OpFault) → ask_limits a f ≡ Good → (a ≡ Good) × (f ≡ None)
 limited_good Good None e = (refl, refl)
 limited_good Good (Some f) e = cc
 limited_good Repeat f e = cc
@@ -28,8 +28,8 @@ limited_good (Waits r v) f e = cc
 limited_good (Refused g) f e = cc
 
 -- nothing settles where nothing waits
-none_settles : (l : LimitsType) (h : History) → ((settled l h []).history ≡ h) × ((settled l h []).waiting ≡ [])
-unfolding settled passes pass
+none_settles : (l : LimitsType) (h : History) → ((settle l h []).history ≡ h) × ((settle l h []).waiting ≡ [])
+unfolding settle passes pass
 none_settles l h = go (eqb (length h) (length h))
   where
     s : State
@@ -58,6 +58,6 @@ takes_one b n op k m r z w p i t =
       known = z;
       good = subst (λ y. answer b.history y op ≡ Good) w l.0;
       room = l.1;
-      history = ap (λ (x : BufferState). x.history) t ∙ ap (λ (x : State). x.history) q ∙ ap (λ (y : List Operation). (settled b.limits (b.history ++ op ∷ []) y).history) w ∙ s.0;
-      waiting = ap (λ (x : BufferState). x.waiting) t ∙ ap (λ (x : State). x.waiting) q ∙ ap (λ (y : List Operation). (settled b.limits (b.history ++ op ∷ []) y).waiting) w ∙ s.1;
+      history = ap (λ (x : BufferState). x.history) t ∙ ap (λ (x : State). x.history) q ∙ ap (λ (y : List Operation). (settle b.limits (b.history ++ op ∷ []) y).history) w ∙ s.0;
+      waiting = ap (λ (x : BufferState). x.waiting) t ∙ ap (λ (x : State). x.waiting) q ∙ ap (λ (y : List Operation). (settle b.limits (b.history ++ op ∷ []) y).waiting) w ∙ s.1;
     }

@@ -9,7 +9,7 @@ use Rattle.op_model.specs.Operations.{pieces_of, text_total, stamp_of}
 use Rattle.op_model.specs.Histories.{History, clock}
 use Rattle.op_model.specs.Shown.{full}
 use Rattle.op_model.specs.Settled.{full_fault}
-use Rattle.op_model.specs.Made.{made}
+use Rattle.op_model.specs.Made.{local_edit}
 use Rattle.text_buffer.specs.Buffer.{BufferState, IsBuffer, edit_fault}
 use Rattle.text_buffer.proofs.Applied.{room_of}
 use Rattle.text_buffer.proofs.Lengths.{full_bytes}
@@ -25,12 +25,12 @@ room_edited b ps k f =
     let m = k.most_bytes in omega (arith, e, r, m)
 
 -- the stamp of what is made
-pub made_stamp : (h : History) (r : ℕ) (ps : List Piece) (op : Operation) → op ≡ made h r ps → (stamp_of op).value ≡ clock h
-unfolding made
+pub made_stamp : (h : History) (r : ℕ) (ps : List Piece) (op : Operation) → op ≡ local_edit h r ps → (stamp_of op).value ≡ clock h
+unfolding local_edit
 made_stamp h r ps op e = ap (λ (o : Operation). (stamp_of o).value) e
 
-pub made_by : (h : History) (r : ℕ) (ps : List Piece) (op : Operation) → op ≡ made h r ps → (stamp_of op).replica ≡ r
-unfolding made
+pub made_by : (h : History) (r : ℕ) (ps : List Piece) (op : Operation) → op ≡ local_edit h r ps → (stamp_of op).replica ≡ r
+unfolding local_edit
 made_by h r ps op e = ap (λ (o : Operation). (stamp_of o).replica) e
 
 -- the edit of a count is among the edits of all

@@ -8,9 +8,9 @@ use Rattle.op_model.specs.declared.limits.Limits.{Limits as LimitsType}
 use Rattle.op_model.specs.Domains.{IsReplica}
 use Rattle.op_model.specs.Operations.{pieces_of, text_total}
 use Rattle.op_model.specs.Histories.{version, clock, base}
-use Rattle.op_model.specs.Facts.{told}
+use Rattle.op_model.specs.Facts.{cell_facts}
 use Rattle.op_model.specs.Cells.{seq, seq_where}
-use Rattle.op_model.specs.Made.{made as made_at, made_undo as made_undo_at}
+use Rattle.op_model.specs.Made.{local_edit as made_at, local_undo as made_undo_at}
 use Rattle.op_model.specs.Answers.{answer}
 use Rattle.op_model.specs.Answers.Answer.{Good}
 use Rattle.op_model.proofs.MainLaws.{edits_are_good, undos_are_good}
@@ -25,7 +25,7 @@ use Rattle.placed_buffer.specs.Standing.{Stands, AreStanding, AreMade, EditsOne,
 use Rattle.placed_buffer.proofs.Rooms.{room_edited, room_taken, made_stamp, made_by}
 
 -- nothing stands for a history without cells
-none_told : told (base [] ∷ []) ≡ []
+none_told : cell_facts (base [] ∷ []) ≡ []
 unfolding seq seq_where
 none_told = refl
 

@@ -3,13 +3,14 @@ ghost use Rattle.std.specs.Prelude.{◌≡◌, ◌≤◌, ◌-◌, ◌^◌, ◌+
 ghost use Rattle.fragments.specs.Stand.{Tell};
 ghost use Rattle.text_buffer.specs.Buffer.{after_edit, over_base, after_undo};
 
+use crate::OutOfMemory;
 use crate::one_more::{edit_one, take_one, undo_one};
 use crate::placing::{Standing, make_timed, place_timed};
 use fragments::{Fragment, InsertionIndex};
 use lamport_clock::Lamport;
 use op_model::{Operation, Piece};
 use remote_edit::Moves;
-use std::alloc::{AllocError, Global};
+use std::alloc::Global;
 use std::io;
 use std::marker::Model;
 use sum_tree::SumTree;
@@ -42,7 +43,7 @@ impl Model for PlacedBuffer {
 
 impl PlacedBuffer {
     /// Without text. `OutOfMemory` where memory is wanting.
-    pub fn new(alloc: Global, replica: u16) -> Result<PlacedBuffer, AllocError>
+    pub fn new(alloc: Global, replica: u16) -> Result<PlacedBuffer, OutOfMemory>
         requires least { 1 ≤ replica }
         requires greatest { replica ≤ 1023 }
         ensures { IfOk result (λ p. p ≡ over_base replica []
@@ -113,7 +114,7 @@ impl PlacedBuffer {
     }
 }
 
-fn empty_buffer(alloc: Global, replica: u16) -> Result<Buffer, AllocError>
+fn empty_buffer(alloc: Global, replica: u16) -> Result<Buffer, OutOfMemory>
     requires least { 1 ≤ replica }
     requires greatest { replica ≤ 1023 }
     ensures { IfOk result (λ b. b ≡ over_base replica []
@@ -121,11 +122,11 @@ fn empty_buffer(alloc: Global, replica: u16) -> Result<Buffer, AllocError>
 {
     match Buffer::new(alloc, replica, "", AMPLE) {
         Ok(buffer) => Ok(buffer),
-        Err(_) => Err(AllocError),
+        Err(_) => Err(OutOfMemory),
     }
 }
 
-fn empty_standing(alloc: Global) -> Result<Standing, AllocError>
+fn empty_standing(alloc: Global) -> Result<Standing, OutOfMemory>
     ensures fragments { IfOk result (λ s. s.fragments.items ≡ []) }
     ensures index { IfOk result (λ s. s.index ≡ []) }
     ensures undos { IfOk result (λ s. s.undos ≡ []) }

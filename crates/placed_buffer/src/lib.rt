@@ -7,3 +7,4 @@ mod one_more;
 mod placing;
 
 pub use buffer::PlacedBuffer;
+pub use op_model::OutOfMemory;

@@ -1,35 +1,18 @@
 //! A buffer with one operation more.
-ghost use Rattle.std.specs.Prelude.{◌≡◌, ◌<◌, [], IfSome};
+ghost use Rattle.std.specs.Prelude.{◌≡◌, [], IfSome};
 ghost use Rattle.placed_buffer.specs.Standing.{EditsOne, UndoesOne, IsTaken};
 
 use lamport_clock::Lamport;
 use op_model::{Operation, Piece};
-use std::marker::Brand;
-use std::sync::ledger::{Blank, Ledger};
-use text_buffer::{Buffer, Steps, Took};
+use text_buffer::{Buffer, Took};
 
 /// The buffer with an edit of its own, and the edit's stamp, unless that meets a fault.
 pub fn edit_one(buffer: Buffer, changes: &[Piece]) -> Option<(Buffer, Lamport)>
     ensures { IfSome result (λ r. EditsOne buffer changes.now r.1 r.0) }
 {
-    edit_with::<Brand>(buffer, changes, Blank::new(1))
-}
-
-// The same with a counter that is made of the blank.
-fn edit_with<L: Ledger>(
-    buffer: Buffer,
-    changes: &[Piece],
-    blank: Blank,
-) -> Option<(Buffer, Lamport)>
-    requires name { blank.name ≡ L.name }
-    requires parts { blank.parts ≡ L.parts }
-    requires some { 0 < blank.parts }
-    ensures { IfSome result (λ r. EditsOne buffer changes.now r.1 r.0) }
-{
-    let mut steps = Steps::<L>::new(blank);
     let mut buffer = buffer;
     buffer.known();
-    match buffer.edit(changes, &mut steps) {
+    match buffer.edit_uncounted(changes) {
         Ok(op) => Some((buffer, op.stamp())),
         Err(_) => None,
     }

@@ -7,11 +7,12 @@ ghost use Rattle.op_model.specs.declared.operation.Operation.TheVariants.{Edit, 
 ghost use Rattle.remote_edit.specs.Placing.{MayPlace, MayMake};
 ghost use Rattle.placed_buffer.specs.Standing.{AreStanding, AreMade};
 
+use crate::OutOfMemory;
 use fragments::{Fragment, InsertionIndex};
 use lamport_clock::{Lamport, Version};
 use op_model::{EditOp, Operation, Piece, UndoCount, UndoOp};
 use remote_edit::{Moves, mark_undo, place_local, place_remote};
-use std::alloc::{AllocError, Global};
+use std::alloc::Global;
 use std::io;
 use std::marker::Brand;
 use std::sync::ledger::{Blank, Ledger};
@@ -90,7 +91,7 @@ fn make<L: Ledger>(
     version: Version,
     changes: &[Piece],
     blank: Blank,
-) -> Result<Standing, AllocError>
+) -> Result<Standing, OutOfMemory>
     requires name { blank.name ≡ L.name }
     requires parts { blank.parts ≡ L.parts }
     requires some { 0 < blank.parts }
@@ -119,7 +120,7 @@ fn make<L: Ledger>(
     })
 }
 
-fn place(alloc: Global, at: &Standing, op: &Operation) -> Result<Standing, AllocError>
+fn place(alloc: Global, at: &Standing, op: &Operation) -> Result<Standing, OutOfMemory>
     requires { MayPlace at.now.fragments.items at.now.index at.now.undos op.now }
     ensures { IfOk result (λ s. AreStanding at.now.fragments.items at.now.index at.now.undos op.now
         s.fragments.items s.index s.undos) }
@@ -130,7 +131,7 @@ fn place(alloc: Global, at: &Standing, op: &Operation) -> Result<Standing, Alloc
     }
 }
 
-fn place_edit(alloc: Global, at: &Standing, edit: &EditOp) -> Result<Standing, AllocError>
+fn place_edit(alloc: Global, at: &Standing, edit: &EditOp) -> Result<Standing, OutOfMemory>
     requires { MayPlace at.now.fragments.items at.now.index at.now.undos (Edit edit.now) }
     ensures { IfOk result (λ s. AreStanding at.now.fragments.items at.now.index at.now.undos
         (Edit edit.now) s.fragments.items s.index s.undos) }
@@ -146,7 +147,7 @@ fn place_edit(alloc: Global, at: &Standing, edit: &EditOp) -> Result<Standing, A
     })
 }
 
-fn place_undo(alloc: Global, at: &Standing, undo: &UndoOp) -> Result<Standing, AllocError>
+fn place_undo(alloc: Global, at: &Standing, undo: &UndoOp) -> Result<Standing, OutOfMemory>
     ensures { IfOk result (λ s. AreStanding at.now.fragments.items at.now.index at.now.undos
         (Undo undo.now) s.fragments.items s.index s.undos) }
 {
@@ -164,18 +165,18 @@ fn place_undo(alloc: Global, at: &Standing, undo: &UndoOp) -> Result<Standing, A
 }
 
 // The map with the counts of an undo, where there is room.
-fn with_counts(alloc: Global, undos: &UndoMap, undo: &UndoOp) -> Result<UndoMap, AllocError>
+fn with_counts(alloc: Global, undos: &UndoMap, undo: &UndoOp) -> Result<UndoMap, OutOfMemory>
     ensures { IfOk result (λ m. (h : History) → undos.now ≡ undo_entries h
         → m ≡ undo_entries (h ++ Undo undo.now ∷ [])) }
 {
     let counts = undo.counts.as_slice().len() as u64;
     if undos.len() >= MOST || counts >= MOST {
-        return Err(AllocError);
+        return Err(OutOfMemory);
     }
     undos.with_undo(alloc, undo)
 }
 
-fn edits_of(alloc: Global, counts: &[UndoCount]) -> Result<Vec<Lamport>, AllocError>
+fn edits_of(alloc: Global, counts: &[UndoCount]) -> Result<Vec<Lamport>, OutOfMemory>
     ensures { IfOk result (λ ts. ts.items ≡ map (λ (c : UndoCountType). c.edit) counts.now) }
 {
     counts.iter().map(|count| count.edit).collect(alloc)

@@ -5,7 +5,8 @@ ghost use Rattle.placing_tests.specs.declared.cells.Name.{Name as NameType};
 
 use lamport_clock::{Lamport, Version, is_later, is_same};
 use op_model::{EditOp, Operation, Piece, UndoOp};
-use std::alloc::{AllocError, Global};
+use std::alloc::Global;
+use sum_tree::OutOfMemory;
 
 /// A byte's edit, and the byte's number among those that the edit brought, from 0.
 #[derive(Clone, Copy)]
@@ -59,14 +60,14 @@ impl Cells {
     }
 
     /// Takes one operation more.
-    pub fn apply(&mut self, alloc: Global, op: &Operation) -> Result<(), AllocError> {
+    pub fn apply(&mut self, alloc: Global, op: &Operation) -> Result<(), OutOfMemory> {
         match op {
             Operation::Edit(edit) => self.lay(alloc, edit),
             Operation::Undo(undo) => self.count(undo),
         }
     }
 
-    fn count(&mut self, undo: &UndoOp) -> Result<(), AllocError> {
+    fn count(&mut self, undo: &UndoOp) -> Result<(), OutOfMemory> {
         for count in undo.counts.as_slice() {
             self.counts.push(UndoCount {
                 edit: count.edit,
@@ -78,7 +79,7 @@ impl Cells {
     }
 
     // An edit's own cells are none that its version sees, so the pieces count the same places whether these are there or not.
-    fn lay(&mut self, alloc: Global, edit: &EditOp) -> Result<(), AllocError> {
+    fn lay(&mut self, alloc: Global, edit: &EditOp) -> Result<(), OutOfMemory> {
         self.delete(edit)?;
         let mut number = 0;
         for piece in edit.pieces.as_slice() {
@@ -90,7 +91,7 @@ impl Cells {
     }
 
     // Deletes the cells in an edit's ranges that were shown to its author.
-    fn delete(&mut self, edit: &EditOp) -> Result<(), AllocError> {
+    fn delete(&mut self, edit: &EditOp) -> Result<(), OutOfMemory> {
         let counts = self.counts.as_slice();
         let mut place = 0;
         for cell in self.list.iter_mut() {
@@ -112,7 +113,7 @@ impl Cells {
         alloc: Global,
         version: &Version,
         start: u64,
-    ) -> Result<Vec<Name>, AllocError> {
+    ) -> Result<Vec<Name>, OutOfMemory> {
         let cells = self.list.iter();
         let seen = cells.filter(|cell| version.sees(cell.name.stamp));
         match seen.take(start as usize).last() {
@@ -129,7 +130,7 @@ impl Cells {
         first: u64,
         left: Vec<Name>,
         text: &str,
-    ) -> Result<(), AllocError> {
+    ) -> Result<(), OutOfMemory> {
         let mut path = left;
         let mut number = first;
         for byte in text.as_bytes() {
@@ -146,11 +147,11 @@ impl Cells {
         Ok(())
     }
 
-    fn add(&mut self, cell: Cell) -> Result<(), AllocError> {
+    fn add(&mut self, cell: Cell) -> Result<(), OutOfMemory> {
         let at = place_of(self.list.as_slice(), cell.path.as_slice());
         match self.list.insert(at, cell) {
             Ok(()) => Ok(()),
-            Err(_) => Err(AllocError),
+            Err(_) => Err(OutOfMemory),
         }
     }
 }
@@ -171,7 +172,8 @@ fn place_of(cells: &[Cell], path: &[Name]) -> usize
 
 // Whether a path stands before another: it is a prefix of it, or its name comes first where they part.
 fn stands_before(a: &[Name], b: &[Name]) -> bool
-    ensures { let cell_of : NameType → CellType = λ n. record { stamp = n.stamp; k = n.number } in result ≡ path_before (map cell_of a.now) (map cell_of b.now) }
+    ensures { let cell_of : NameType → CellType = λ n. record { stamp = n.stamp; k = n.number } in
+        result ≡ path_before (map cell_of a.now) (map cell_of b.now) }
 {
     match a {
         [] => true,
@@ -185,7 +187,8 @@ fn stands_before(a: &[Name], b: &[Name]) -> bool
 
 #[tactic(auto, unfolding(op_model::specs::Cells::same_cell))]
 fn is_name(a: Name, b: Name) -> bool
-    ensures { result ≡ same_cell (record { stamp = a.stamp; k = a.number }) (record { stamp = b.stamp; k = b.number }) }
+    ensures { result ≡ same_cell (record { stamp = a.stamp; k = a.number })
+        (record { stamp = b.stamp; k = b.number }) }
 {
     is_same(a.stamp, b.stamp) && a.number == b.number
 }
@@ -193,7 +196,8 @@ fn is_name(a: Name, b: Name) -> bool
 // Of siblings the later edit's comes first, and of one edit's the first.
 #[tactic(auto, unfolding(op_model::specs::Cells::sibling_first))]
 fn comes_first(a: Name, b: Name) -> bool
-    ensures { result ≡ sibling_first (record { stamp = a.stamp; k = a.number }) (record { stamp = b.stamp; k = b.number }) }
+    ensures { result ≡ sibling_first (record { stamp = a.stamp; k = a.number })
+        (record { stamp = b.stamp; k = b.number }) }
 {
     is_later(a.stamp, b.stamp) || (is_same(a.stamp, b.stamp) && a.number < b.number)
 }
@@ -229,13 +233,13 @@ fn is_seen(version: Option<&Version>, stamp: Lamport) -> bool {
 }
 
 // Puts a stamp among stamps that descend.
-fn insert(stamps: &mut Vec<Lamport>, stamp: Lamport) -> Result<(), AllocError> {
+fn insert(stamps: &mut Vec<Lamport>, stamp: Lamport) -> Result<(), OutOfMemory> {
     let at = stamps
         .iter()
         .position(|one| is_later(stamp, *one))
         .unwrap_or(stamps.len());
     match stamps.insert(at, stamp) {
         Ok(()) => Ok(()),
-        Err(_) => Err(AllocError),
+        Err(_) => Err(OutOfMemory),
     }
 }

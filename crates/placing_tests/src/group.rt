@@ -1,8 +1,9 @@
 //! Three replicas that work on one text.
 use crate::replica::{Change, Replica};
 use lamport_clock::Lamport;
-use std::alloc::{AllocError, Global};
+use std::alloc::Global;
 use std::io;
+use sum_tree::OutOfMemory;
 
 /// Replicas 1 to 3 at places 0 to 2, each there but while it works. A call that meets a fault is an error.
 #[derive(Drop)]
@@ -12,7 +13,7 @@ pub struct Group {
 
 impl Group {
     /// Without text.
-    pub fn new(alloc: Global) -> Result<Group, AllocError> {
+    pub fn new(alloc: Global) -> Result<Group, OutOfMemory> {
         let mut replicas = Vec::new(alloc);
         replicas.push(Some(Replica::new(alloc, 1)?))?;
         replicas.push(Some(Replica::new(alloc, 2)?))?;
@@ -67,7 +68,7 @@ impl Group {
     }
 
     /// Whether a replica is there and has agreed, and shows this text.
-    pub fn shows(&self, i: usize, text: &str) -> Result<bool, AllocError> {
+    pub fn shows(&self, i: usize, text: &str) -> Result<bool, OutOfMemory> {
         match self.get(i) {
             Some(replica) => Ok(replica.agrees && replica.text()?.as_str() == text),
             None => Ok(false),

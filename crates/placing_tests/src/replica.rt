@@ -8,9 +8,9 @@ use fragments::Fragment;
 use lamport_clock::{Lamport, is_same};
 use op_model::{Operation, Piece, Text};
 use placed_buffer::PlacedBuffer;
-use std::alloc::{AllocError, Global};
+use std::alloc::Global;
 use std::io;
-use sum_tree::SumTree;
+use sum_tree::{OutOfMemory, SumTree};
 
 /// A range of the text and the text in its place.
 pub type Change = (u64, u64, &'static str);
@@ -25,7 +25,7 @@ pub struct Replica {
 
 impl Replica {
     /// Without text.
-    pub fn new(alloc: Global, replica: u16) -> Result<Replica, AllocError>
+    pub fn new(alloc: Global, replica: u16) -> Result<Replica, OutOfMemory>
         requires least { 1 ≤ replica }
         requires greatest { replica ≤ 1023 }
     {
@@ -78,7 +78,7 @@ impl Replica {
         self.placed.buffer().applied()
     }
 
-    pub fn text(&self) -> Result<String, AllocError> {
+    pub fn text(&self) -> Result<String, OutOfMemory> {
         self.placed.buffer().text()
     }
 
@@ -88,7 +88,7 @@ impl Replica {
     }
 }
 
-fn pieces(alloc: Global, changes: &[Change]) -> Result<Vec<Piece>, AllocError> {
+fn pieces(alloc: Global, changes: &[Change]) -> Result<Vec<Piece>, OutOfMemory> {
     let mut pieces = Vec::new(alloc);
     for &(start, end, text) in changes {
         pieces.push(Piece {
@@ -123,7 +123,7 @@ fn agree_on_last(
     alloc: Global,
     placed: &PlacedBuffer,
     cells: &mut Cells,
-) -> Result<bool, AllocError> {
+) -> Result<bool, OutOfMemory> {
     let applied = placed.buffer().applied();
     match applied.get(applied.len().saturating_sub(1)) {
         Some(last) => agree_on(alloc, placed, cells, last.op()),
@@ -136,7 +136,7 @@ fn agree_on(
     placed: &PlacedBuffer,
     cells: &mut Cells,
     op: &Operation,
-) -> Result<bool, AllocError> {
+) -> Result<bool, OutOfMemory> {
     let before = texts_of(alloc, cells)?;
     cells.apply(alloc, op)?;
     let after = texts_of(alloc, cells)?;

@@ -2,8 +2,9 @@
 use crate::group::Group;
 use crate::replica::Change;
 use lamport_clock::Lamport;
-use std::alloc::{AllocError, Global};
+use std::alloc::Global;
 use std::io;
+use sum_tree::OutOfMemory;
 
 // A stamp's value and replica.
 type Stamp = (u32, u16);
@@ -123,7 +124,7 @@ const ROWS: &[Row] = &[
     ),
 ];
 
-fn stamps(alloc: Global, rows: &[Stamp]) -> Result<Vec<Lamport>, AllocError> {
+fn stamps(alloc: Global, rows: &[Stamp]) -> Result<Vec<Lamport>, OutOfMemory> {
     rows.iter()
         .map(|&(value, replica)| Lamport { value, replica })
         .collect(alloc)

@@ -2,7 +2,8 @@
 use crate::cells::Cells;
 use op_model::Operation;
 use remote_edit::Move;
-use std::alloc::{AllocError, Global};
+use std::alloc::Global;
+use sum_tree::OutOfMemory;
 
 /// The shown and the hidden bytes.
 #[derive(Drop)]
@@ -19,7 +20,7 @@ impl Texts {
 }
 
 /// Both texts of cells.
-pub fn texts_of(alloc: Global, cells: &Cells) -> Result<Texts, AllocError> {
+pub fn texts_of(alloc: Global, cells: &Cells) -> Result<Texts, OutOfMemory> {
     let mut texts = Texts {
         shown: Vec::new(alloc),
         hidden: Vec::new(alloc),
@@ -50,7 +51,7 @@ pub fn do_move(
     op: &Operation,
     before: &Texts,
     after: &Texts,
-) -> Result<bool, AllocError> {
+) -> Result<bool, OutOfMemory> {
     let new = new_bytes(alloc, op)?;
     let mut moving = Moving {
         shown: &before.shown,
@@ -68,7 +69,7 @@ pub fn do_move(
 }
 
 impl<'t> Moving<'t> {
-    fn after(self, one: Move) -> Result<Moving<'t>, AllocError> {
+    fn after(self, one: Move) -> Result<Moving<'t>, OutOfMemory> {
         let mut next = self;
         match one {
             Move::Visible(n) => next.shown = pass(next.shown, n, &mut next.out.shown)?,
@@ -91,14 +92,14 @@ impl<'t> Moving<'t> {
 }
 
 // Puts so many bytes behind others, and gives the rest.
-fn pass<'b>(bytes: &'b [u8], count: u64, out: &mut Vec<u8>) -> Result<&'b [u8], AllocError> {
+fn pass<'b>(bytes: &'b [u8], count: u64, out: &mut Vec<u8>) -> Result<&'b [u8], OutOfMemory> {
     let at = (count as usize).min(bytes.len());
     let (front, rest) = bytes.split_at(at);
     out.extend_from_slice(front)?;
     Ok(rest)
 }
 
-fn new_bytes(alloc: Global, op: &Operation) -> Result<Vec<u8>, AllocError> {
+fn new_bytes(alloc: Global, op: &Operation) -> Result<Vec<u8>, OutOfMemory> {
     let mut bytes = Vec::new(alloc);
     if let Operation::Edit(edit) = op {
         for piece in edit.pieces.as_slice() {

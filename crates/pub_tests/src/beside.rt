@@ -5,16 +5,18 @@ ghost use Rattle.text_buffer.specs.Document.{IsFront};
 
 use crate::pairs::{AMPLE, edit};
 use snapshot_pub::{Publisher, SnapReader, open_pairs};
-use std::alloc::{AllocError, Global};
+use std::alloc::Global;
 use std::sync::Wait;
 use std::thread::{Threads, join};
+use sum_tree::OutOfMemory;
 use text_buffer::{Buffer, EditFault, NewFault, Snapshot};
 
 // How many snapshots are published after the first.
 const COUNT: u64 = 100_000;
 
-fn publish<R: Wait>(rt: &R, publisher: &mut Publisher, buffer: &Buffer) -> Result<(), AllocError>
-    requires { (first : List Operation) × (publisher.old.published ≡ first ∷ []) × IsFront first buffer.now.history }
+fn publish<R: Wait>(rt: &R, publisher: &mut Publisher, buffer: &Buffer) -> Result<(), OutOfMemory>
+    requires { (first : List Operation) × (publisher.old.published ≡ first ∷ [])
+        × IsFront first buffer.now.history }
     ensures { OnOk result (publisher.new.published ≡ buffer.now.history ∷ []) }
 {
     let snapshot = buffer.snapshot()?;

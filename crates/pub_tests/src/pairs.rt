@@ -1,16 +1,15 @@
 //! What readers show of what is published, on one thread, with ample memory.
-ghost use Rattle.std.specs.Prelude.{◌≡◌, ◌<◌, ◌∷◌, [], List, OnOk};
+ghost use Rattle.std.specs.Prelude.{◌≡◌, ◌∷◌, [], List, OnOk};
 ghost use Rattle.logbook.specs.Pages.{Book};
 ghost use Rattle.op_model.specs.declared.operation.Operation.{Operation};
 ghost use Rattle.text_buffer.specs.Document.{IsFront};
 
 use op_model::{Limits, Piece, Text};
 use snapshot_pub::{Publisher, SnapReader, open_pairs};
-use std::alloc::{AllocError, Global};
-use std::marker::Brand;
+use std::alloc::Global;
 use std::sync::Wait;
-use std::sync::ledger::{Blank, Ledger};
-use text_buffer::{Buffer, EditFault, NewFault, Snapshot, Steps};
+use sum_tree::OutOfMemory;
+use text_buffer::{Buffer, EditFault, NewFault, Snapshot};
 
 pub(crate) const AMPLE: Limits = Limits {
     bytes: 1 << 40,
@@ -30,35 +29,20 @@ fn insert(alloc: Global, buffer: &mut Buffer) -> Result<(), EditFault>
     edit(buffer, &[piece])
 }
 
-/// An edit whose steps nobody asks for.
+/// An edit.
 pub(crate) fn edit(buffer: &mut Buffer, changes: &[Piece]) -> Result<(), EditFault>
     ensures { OnOk result (IsFront buffer.old.history buffer.new.history) }
 {
-    edit_with::<Brand>(buffer, changes, Blank::new(1))
-}
-
-// The same with a counter that is made of the blank.
-fn edit_with<L: Ledger>(
-    buffer: &mut Buffer,
-    changes: &[Piece],
-    blank: Blank,
-) -> Result<(), EditFault>
-    requires name { blank.name ≡ L.name }
-    requires parts { blank.parts ≡ L.parts }
-    requires some { 0 < blank.parts }
-    ensures { OnOk result (IsFront buffer.old.history buffer.new.history) }
-{
-    let mut steps = Steps::<L>::new(blank);
-    let _made = buffer.edit(changes, &mut steps)?;
+    let _made = buffer.edit_uncounted(changes)?;
     Ok(())
 }
 
-fn is_text(alloc: Global, snapshot: &Snapshot, want: &str) -> Result<bool, AllocError> {
+fn is_text(alloc: Global, snapshot: &Snapshot, want: &str) -> Result<bool, OutOfMemory> {
     Ok(snapshot.text().to_string(alloc)?.as_str() == want)
 }
 
 // Whether `latest` gives the text.
-fn gives(alloc: Global, reader: &mut SnapReader, want: &str) -> Result<bool, AllocError>
+fn gives(alloc: Global, reader: &mut SnapReader, want: &str) -> Result<bool, OutOfMemory>
     ensures { reader.new.pair ≡ reader.old.pair }
 {
     let snapshot = reader.latest()?;
@@ -76,8 +60,9 @@ fn publish_both<R: Wait>(
     rt: &R,
     publisher: &mut Publisher,
     snapshot: &Snapshot,
-) -> Result<(), AllocError>
-    requires { (first : List Operation) × (publisher.old.published ≡ first ∷ first ∷ []) × IsFront first snapshot.now }
+) -> Result<(), OutOfMemory>
+    requires { (first : List Operation) × (publisher.old.published ≡ first ∷ first ∷ [])
+        × IsFront first snapshot.now }
     ensures pairs { publisher.new.pairs ≡ publisher.old.pairs }
     ensures published { OnOk result (publisher.new.published ≡ snapshot.now ∷ snapshot.now ∷ []) }
 {
@@ -91,8 +76,9 @@ fn publish_and_tell<R: Wait>(
     publisher: &mut Publisher,
     snapshot: &Snapshot,
     told: &mut SnapReader,
-) -> Result<(), AllocError>
-    requires published { (first : List Operation) × (publisher.old.published ≡ first ∷ first ∷ []) × IsFront first snapshot.now }
+) -> Result<(), OutOfMemory>
+    requires published { (first : List Operation) × (publisher.old.published ≡ first ∷ first ∷ [])
+        × IsFront first snapshot.now }
     requires pair { (other : Book) × (publisher.old.pairs ≡ told.old.pair ∷ other ∷ []) }
 {
     publish_both(rt, publisher, snapshot)?;

@@ -1,5 +1,5 @@
 -- An answer on more than was last published is made anew, and later answers stay on no fewer operations.
-use Rattle.std.proofs.Common.{◌≡◌, ℕ, zero, suc, ◌<◌, ◌≤◌, Bool, true, false, cond, nat_lt, List, [], ◌∷◌, ◌++◌, length, map, get_or, drop, refl, sym, ap, ◌∙◌, subst, arith, length-append, ⊎_elim}
+use Rattle.std.proofs.Common.{◌≡◌, ℕ, zero, suc, ◌<◌, ◌≤◌, Bool, true, false, cond, nat_lt, List, [], ◌∷◌, ◌++◌, length, map, get_or, drop, refl, sym, ap, ◌∙◌, subst, arith, ⊎_elim}
 use Rattle.std.specs.List.{All, AllPairs}
 use Rattle.std.proofs.lemmas.Bool.Decides.{nat_tests}
 use Rattle.std.proofs.lemmas.List.Elements.{All-cons, All-head, All-nil, All-tail}
@@ -19,9 +19,7 @@ use Rattle.query_dispatch.proofs.Places.{all_at_more, drop_at}
 use Rattle.query_dispatch.proofs.Turns.{side}
 use Rattle.query_dispatch.specs.Dealt.{AllAt, told_lists, told_pairs}
 use Rattle.query_dispatch.specs.Settled.{AreSettled, ComesTo, IsLimit, IsPast, IsSettled, last_of, settled_list}
-
-pub front_length : (h g : List Operation) → IsFront h g → length h ≤ length g
-front_length h g f = omega (arith, ap (λ (l : List Operation). length l) f.1, length-append h f.0)
+use Rattle.query_workers.proofs.Working.{front_length}
 
 -- of what a reader knew, as much as was last published begins that
 pub limit_holds : (old new told h : List Operation) (n : ℕ) → IsFront old new → IsFront told new → n ≤ length told → IsFront h old → length h ≤ n → IsFront h told

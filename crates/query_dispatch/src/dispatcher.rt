@@ -5,9 +5,9 @@ ghost use Rattle.query_workers.specs.Asks.{Ask};
 ghost use Rattle.query_dispatch.specs.Dealt.{AllAt, HasAsked, IsClosed, pairs_in, queues_of};
 ghost use Rattle.query_dispatch.specs.Shown.{AreLevel, AreTied, rows_of, shown_lists};
 
+use crate::OutOfMemory;
 use crate::publishers::Publishers;
 use query_workers::Inbox;
-use std::alloc::AllocError;
 use std::marker::Model;
 use std::sync::Wait;
 use text_buffer::Snapshot;
@@ -55,7 +55,7 @@ impl<Q: Drop> Dispatcher<Q> {
         replica: u32,
         snapshot: &Snapshot,
         query: Q,
-    ) -> Result<(), AllocError>
+    ) -> Result<(), OutOfMemory>
         requires replica { replica < length publishers.old.list }
         requires level { AreLevel publishers.old }
         requires tied { AreTied self.old.inboxes publishers.old }
@@ -91,7 +91,7 @@ impl<Q: Drop> Dispatcher<Q> {
         publishers: &Publishers,
         replica: u32,
         query: Q,
-    ) -> Result<(), AllocError>
+    ) -> Result<(), OutOfMemory>
         requires replica { replica < length publishers.now.list }
         requires level { AreLevel publishers.now }
         requires tied { AreTied self.old.inboxes publishers.now }

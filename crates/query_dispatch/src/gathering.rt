@@ -8,10 +8,11 @@ ghost use Rattle.query_workers.specs.States.{DeskState};
 ghost use Rattle.query_dispatch.specs.Dealt.{AllAt, AreEnds, AreNumbered, told_lists};
 ghost use Rattle.query_dispatch.specs.Settled.{AreGathered, AreSettled, CanSettleAll, HaveWorked, IsPast, IsReady};
 
+use crate::OutOfMemory;
 use crate::settling::settle_worker;
 use query_workers::{Answer, Done, Inbox, Query};
 use snapshot_pub::Told;
-use std::alloc::{AllocError, Global};
+use std::alloc::Global;
 use std::thread::Threads;
 use text_buffer::Snapshot;
 
@@ -38,7 +39,7 @@ impl<Q: Drop> Gathering<Q> {
         alloc: Global,
         dones: Vec<Done<Q, A>>,
         lasts: &[Snapshot],
-    ) -> Result<Vec<Answer<Q, A>>, AllocError>
+    ) -> Result<Vec<Answer<Q, A>>, OutOfMemory>
     where
         Q: Query<A>,
         requires ready { (shown : List (List Operation)) × (asks : List (Ask Q))
@@ -75,7 +76,7 @@ fn settle_workers<R: Threads + Sync, Q: Query<A> + Drop, A: Drop>(
     tolds: Vec<Vec<Told>>,
     sizes: &[u64],
     lasts: &[Snapshot],
-) -> Result<Vec<Vec<Answer<Q, A>>>, AllocError>
+) -> Result<Vec<Vec<Answer<Q, A>>>, OutOfMemory>
     requires { CanSettleAll Q.plain sizes.now lasts.now inboxes.items dones.items
         (map (λ v. v.items) tolds.items) }
     ensures { IfOk result (λ v. ArePaired
@@ -100,7 +101,7 @@ fn in_order<Q: Query<A> + Drop, A: Drop>(
     alloc: Global,
     mut lists: Vec<Vec<Answer<Q, A>>>,
     count: u64,
-) -> Result<Vec<Answer<Q, A>>, AllocError>
+) -> Result<Vec<Answer<Q, A>>, OutOfMemory>
     requires some { 0 < length lists.items }
     requires enough { (asks : List (Ask Q)) × AreNumbered asks × (count ≡ length asks)
         × AllAt (λ w r. length r.items ≡ length (asks_to (length lists.items) w asks))

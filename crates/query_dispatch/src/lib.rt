@@ -11,5 +11,6 @@ mod settling;
 
 pub use dispatcher::Dispatcher;
 pub use gathering::Gathering;
+pub use op_model::OutOfMemory;
 pub use opening::open_desks;
 pub use publishers::Publishers;

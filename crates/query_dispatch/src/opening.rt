@@ -6,11 +6,12 @@ ghost use Rattle.query_workers.specs.Line.{pairs_of};
 ghost use Rattle.query_dispatch.specs.Dealt.{AllAt, AreEnds, HasAsked, pairs_in};
 ghost use Rattle.query_dispatch.specs.Shown.{AreLevel, AreTied, column, columns, rows_of, shown_lists};
 
+use crate::OutOfMemory;
 use crate::dispatcher::Dispatcher;
 use crate::publishers::Publishers;
 use query_workers::{Desk, open_queue};
 use snapshot_pub::SnapReader;
-use std::alloc::{AllocError, Global};
+use std::alloc::Global;
 use std::sync::Wait;
 use text_buffer::Snapshot;
 
@@ -26,7 +27,7 @@ pub fn open_desks<R: Wait, Q: Drop>(
     publishers: &mut Publishers,
     firsts: Vec<Snapshot>,
     limit: u64,
-) -> Result<(Dispatcher<Q>, Vec<Desk<Q>>), AllocError>
+) -> Result<(Dispatcher<Q>, Vec<Desk<Q>>), OutOfMemory>
     requires some { 1 ≤ publishers.old.workers }
     requires none { (publishers.old.list ≡ []) × (publishers.old.sizes ≡ []) }
     requires limit { limit < 2 ^ 63 }
@@ -48,7 +49,7 @@ fn open_crews<R: Wait>(
     alloc: Global,
     publishers: &mut Publishers,
     firsts: Vec<Snapshot>,
-) -> Result<Vec<Vec<SnapReader>>, AllocError>
+) -> Result<Vec<Vec<SnapReader>>, OutOfMemory>
     requires some { 1 ≤ publishers.old.workers }
     requires none { (publishers.old.list ≡ []) × (publishers.old.sizes ≡ []) }
     ensures level { OnOk result (AreLevel publishers.new) }
@@ -68,7 +69,7 @@ fn open_crews<R: Wait>(
 }
 
 // No reader yet for each worker.
-fn empty_crews(alloc: Global, workers: u32) -> Result<Vec<Vec<SnapReader>>, AllocError>
+fn empty_crews(alloc: Global, workers: u32) -> Result<Vec<Vec<SnapReader>>, OutOfMemory>
     ensures count { IfOk result (λ v. length v.items ≡ workers) }
     ensures none { IfOk result (λ v. All (λ c. pairs_of c.items ≡ []) v.items) }
 {
@@ -80,7 +81,7 @@ fn empty_crews(alloc: Global, workers: u32) -> Result<Vec<Vec<SnapReader>>, Allo
 }
 
 // Gives one reader to each worker.
-fn deal(crews: &mut Vec<Vec<SnapReader>>, readers: Vec<SnapReader>) -> Result<(), AllocError>
+fn deal(crews: &mut Vec<Vec<SnapReader>>, readers: Vec<SnapReader>) -> Result<(), OutOfMemory>
     requires { length readers.items ≡ length crews.old.items }
     ensures count { length crews.new.items ≡ length crews.old.items }
     ensures pairs { OnOk result ((rows : List (List Book))
@@ -104,7 +105,7 @@ fn open_queues<Q: Drop>(
     workers: u32,
     crews: Vec<Vec<SnapReader>>,
     limit: u64,
-) -> Result<(Dispatcher<Q>, Vec<Desk<Q>>), AllocError>
+) -> Result<(Dispatcher<Q>, Vec<Desk<Q>>), OutOfMemory>
     requires some { 1 ≤ workers }
     requires limit { limit < 2 ^ 63 }
     requires count { length crews.items ≡ workers }

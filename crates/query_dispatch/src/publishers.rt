@@ -6,9 +6,10 @@ ghost use Rattle.query_workers.specs.Line.{pairs_of};
 ghost use Rattle.query_dispatch.specs.Dealt.{told_lists, told_pairs};
 ghost use Rattle.query_dispatch.specs.Shown.{AreLevel, column, rows_of, shown_lists};
 
+use crate::OutOfMemory;
 use query_workers::publish_new;
 use snapshot_pub::{Publisher, SnapReader, Told, open_pairs};
-use std::alloc::{AllocError, Global};
+use std::alloc::Global;
 use std::marker::Model;
 use std::sync::Wait;
 use text_buffer::Snapshot;
@@ -51,7 +52,7 @@ impl Publishers {
         rt: &R,
         alloc: Global,
         first: Snapshot,
-    ) -> Result<Vec<SnapReader>, AllocError>
+    ) -> Result<Vec<SnapReader>, OutOfMemory>
         requires some { 1 ≤ self.old.workers }
         requires level { AreLevel self.old }
         ensures level { OnOk result (AreLevel self.new) }
@@ -77,7 +78,7 @@ impl Publishers {
         rt: &R,
         replica: usize,
         snapshot: &Snapshot,
-    ) -> Result<(), AllocError>
+    ) -> Result<(), OutOfMemory>
         requires replica { replica < length self.old.list }
         requires level { AreLevel self.old }
         requires grows { IsFront (slice_index_or (shown_lists self.old) replica []) snapshot.now }
@@ -103,7 +104,7 @@ impl Publishers {
     /// # Errors
     ///
     /// `OutOfMemory` alone.
-    pub fn tell_all(&self, alloc: Global, worker: u32) -> Result<Vec<Told>, AllocError>
+    pub fn tell_all(&self, alloc: Global, worker: u32) -> Result<Vec<Told>, OutOfMemory>
         requires worker { worker < self.now.workers }
         requires level { AreLevel self.now }
         ensures pairs { IfOk result (λ v. told_pairs v.items ≡ column worker (rows_of self.now)) }
@@ -121,7 +122,7 @@ impl Publishers {
     /// # Errors
     ///
     /// `OutOfMemory` alone.
-    pub fn sizes(&self, alloc: Global) -> Result<Vec<u64>, AllocError>
+    pub fn sizes(&self, alloc: Global) -> Result<Vec<u64>, OutOfMemory>
         ensures { IfOk result (λ v. v.items ≡ self.now.sizes) }
     {
         self.sizes.as_slice().to_vec(alloc)
@@ -139,7 +140,7 @@ impl Publishers {
 }
 
 // Room for one publisher more, and its size, which is put last.
-fn make_room(list: &mut Vec<Publisher>, sizes: &mut Vec<u64>, size: u64) -> Result<(), AllocError>
+fn make_room(list: &mut Vec<Publisher>, sizes: &mut Vec<u64>, size: u64) -> Result<(), OutOfMemory>
     ensures list { list.new.items ≡ list.old.items }
     ensures room { OnOk result (length list.new.items < vec_capacity list.new) }
     ensures sizes { OnOk result (sizes.new.items ≡ sizes.old.items ++ size ∷ []) }

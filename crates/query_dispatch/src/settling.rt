@@ -9,15 +9,16 @@ ghost use Rattle.query_workers.specs.declared.query.Answer.{Answer};
 ghost use Rattle.query_dispatch.specs.Dealt.{AllAt, told_lists, told_pairs};
 ghost use Rattle.query_dispatch.specs.Settled.{AreSettled, ComesTo, IsLimit, IsPast};
 
+use crate::OutOfMemory;
 use query_workers::{Answer, Done, Inbox, Query, collect};
 use snapshot_pub::{SnapReader, Told};
-use std::alloc::{AllocError, Global};
+use std::alloc::Global;
 use std::thread::Threads;
 use text_buffer::Snapshot;
 
 // A last look of a reader: it learns what was last published to its pair, which has so many operations, and takes `latest` once
 // more. How many operations an answer of this reader may have that stays: none, where it did not enter.
-fn look_last(mut reader: SnapReader, told: Told, size: u64) -> Result<u64, AllocError>
+fn look_last(mut reader: SnapReader, told: Told, size: u64) -> Result<u64, OutOfMemory>
     requires pair { told.pair ≡ reader.pair }
     requires size { size ≡ length told.list }
     ensures bound { IfOk result (λ n. n ≤ length told.list) }
@@ -28,7 +29,7 @@ fn look_last(mut reader: SnapReader, told: Told, size: u64) -> Result<u64, Alloc
 }
 
 // The same, of a reader that is lent.
-fn look_again(reader: &mut SnapReader, told: Told, size: u64) -> Result<u64, AllocError>
+fn look_again(reader: &mut SnapReader, told: Told, size: u64) -> Result<u64, OutOfMemory>
     requires pair { told.pair ≡ reader.old.pair }
     requires size { size ≡ length told.list }
     ensures bound { IfOk result (λ n. n ≤ length told.list) }
@@ -46,7 +47,7 @@ fn look_all(
     readers: Vec<SnapReader>,
     tolds: Vec<Told>,
     sizes: &[u64],
-) -> Result<Vec<u64>, AllocError>
+) -> Result<Vec<u64>, OutOfMemory>
     requires pairs { told_pairs tolds.items ≡ pairs_of readers.items }
     requires sizes { sizes.now ≡ map (λ (h : List Operation). length h) (told_lists tolds.items) }
     ensures count { IfOk result (λ v. length v.items ≡ length tolds.items) }
@@ -73,7 +74,7 @@ fn settle<R: Threads + Sync, Q: Query<A> + Drop, A: Drop>(
     answer: Answer<Q, A>,
     limits: &[u64],
     lasts: &[Snapshot],
-) -> Result<Answer<Q, A>, AllocError>
+) -> Result<Answer<Q, A>, OutOfMemory>
     requires replica { (answer.replica < length limits.now) × (answer.replica < length lasts.now) }
     requires plain { answer.answer ≡ Q.plain answer.query answer.snapshot }
     ensures { IfOk result (λ a. ComesTo Q.plain limits.now lasts.now a answer) }
@@ -91,7 +92,7 @@ fn answer_anew<R: Threads + Sync, Q: Query<A> + Drop, A: Drop>(
     alloc: Global,
     former: Answer<Q, A>,
     snapshot: &Snapshot,
-) -> Result<Answer<Q, A>, AllocError>
+) -> Result<Answer<Q, A>, OutOfMemory>
     ensures number { IfOk result (λ a. a.number ≡ former.number) }
     ensures replica { IfOk result (λ a. a.replica ≡ former.replica) }
     ensures query { IfOk result (λ a. a.query ≡ former.query) }
@@ -133,7 +134,7 @@ fn settle_all<R: Threads + Sync, Q: Query<A> + Drop, A: Drop>(
     mut answers: Vec<Answer<Q, A>>,
     limits: &[u64],
     lasts: &[Snapshot],
-) -> Result<Vec<Answer<Q, A>>, AllocError>
+) -> Result<Vec<Answer<Q, A>>, OutOfMemory>
     requires replicas { All (λ (a : Answer Q A). (a.replica < length limits.now)
         × (a.replica < length lasts.now)) answers.items }
     requires plain { All (λ (a : Answer Q A). a.answer ≡ Q.plain a.query a.snapshot) answers.items }
@@ -153,7 +154,7 @@ fn settle_each<R: Threads + Sync, Q: Query<A> + Drop, A: Drop>(
     settled: &mut Vec<Answer<Q, A>>,
     limits: &[u64],
     lasts: &[Snapshot],
-) -> Result<(), AllocError>
+) -> Result<(), OutOfMemory>
     requires replicas { All (λ (a : Answer Q A). (a.replica < length limits.now)
         × (a.replica < length lasts.now)) answers.old.items }
     requires plain { All (λ (a : Answer Q A). a.answer ≡ Q.plain a.query a.snapshot)
@@ -182,7 +183,7 @@ pub(crate) fn settle_worker<R: Threads + Sync, Q: Query<A> + Drop, A: Drop>(
     tolds: Vec<Told>,
     sizes: &[u64],
     lasts: &[Snapshot],
-) -> Result<Vec<Answer<Q, A>>, AllocError>
+) -> Result<Vec<Answer<Q, A>>, OutOfMemory>
     requires own { done.queue ≡ inbox.queue }
     requires ended { IsEnded inbox.sent × IsEnded done.taken }
     requires answered { IfSome done.answers (λ v. HasAnswered Q.plain

@@ -4,7 +4,7 @@ use Rattle.std.specs.Option.{option_map}
 use Rattle.std.specs.Result.{result_ok}
 use Rattle.std.specs.List.{All, AllPairs}
 use Rattle.std.proofs.lemmas.List.{map-set, get_or-map, length-map}
-use Rattle.std.proofs.lemmas.List.Elements.{All-append, All-cons, All-nil, All-weaker}
+use Rattle.std.proofs.lemmas.List.Elements.{All-append, All-nil, All-weaker}
 use Rattle.std.proofs.lemmas.List.Kept.{AllPairs-cons}
 use Rattle.sum_tree.proofs.Keys.{AllPairs-append}
 use Rattle.op_model.specs.declared.operation.Operation.{Operation}
@@ -22,8 +22,9 @@ use Rattle.query_workers.proofs.Jobs.{asks_more, asks_ended, open_more, ended_mo
 use Rattle.query_workers.specs.declared.query.Answer.{Answer}
 use Rattle.query_workers.specs.Asks.{Ask, ask_of, asks_of}
 use Rattle.query_workers.specs.Answers.{lists_of, ArePaired, IsAnswerTo, NeverFewer, IsKnown, HasAnswered}
+use Rattle.snapshot_pub.proofs.Following.{All-single}
 
-front_length : (xs ys : List Operation) → IsFront xs ys → length xs ≤ length ys
+pub front_length : (xs ys : List Operation) → IsFront xs ys → length xs ≤ length ys
 front_length xs ys f = omega (arith, ap (λ (l : List Operation). length l) f.1, length-append xs f.0)
 
 -- where one list grows, each does or stays
@@ -34,14 +35,11 @@ lists_grow (l ∷ ls) zero new f (suc k) = front_itself (get_or ls k [])
 lists_grow (l ∷ ls) (suc i) new f zero = front_itself l
 lists_grow (l ∷ ls) (suc i) new f (suc k) = lists_grow ls i new f k
 
-no_pairs : {X : Type 0} (R : X → X → Type 0) → AllPairs R []
+pub no_pairs : {X : Type 0} (R : X → X → Type 0) → AllPairs R []
 no_pairs R = λ i j d lt within. absurd (omega arith)
 
 one_pair : {X : Type 0} (R : X → X → Type 0) (x : X) → AllPairs R (x ∷ [])
 one_pair R x = AllPairs-cons R x [] (All-nil (R x)) (no_pairs R)
-
-All-one : {X : Type 0} (P : X → Type 0) (x : X) → P x → All P (x ∷ [])
-All-one P x h = All-cons P x [] h (All-nil P)
 
 pub paired_more : {X Y : Type 0} (R : X → Y → Type 0) (xs : List X) (ys : List Y) (x : X) (y : Y) → ArePaired R xs ys → R x y → ArePaired R (xs ++ x ∷ []) (ys ++ y ∷ [])
 paired_more R [] [] x y h one = (one, tt)
@@ -104,8 +102,8 @@ module _ {Q A : Type 0} (plain : Q → List Operation → A) where
     answered_more g jobs answers more is h = subst (HasAnswered plain (jobs ++ j ∷ []) news) (sym is) (record {
       each = paired_more (IsAnswerTo plain) answers jobs a j h.each g.answer;
       never_fewer = AllPairs-append NeverFewer answers (a ∷ []) h.never_fewer (one_pair NeverFewer a)
-          (All-weaker (IsKnown readers) (λ b. All (NeverFewer b) (a ∷ [])) (λ b k. All-one (NeverFewer b) a (fewer_new g b k)) answers h.known);
-      known = All-append (IsKnown news) answers (a ∷ []) (All-weaker (IsKnown readers) (IsKnown news) (known_still g) answers h.known) (All-one (IsKnown news) a (known_new g));
+          (All-weaker (IsKnown readers) (λ b. All (NeverFewer b) (a ∷ [])) (λ b k. All-single (NeverFewer b) a (fewer_new g b k)) answers h.known);
+      known = All-append (IsKnown news) answers (a ∷ []) (All-weaker (IsKnown readers) (IsKnown news) (known_still g) answers h.known) (All-single (IsKnown news) a (known_new g));
     })
 
 -- ---- the pairs of readers

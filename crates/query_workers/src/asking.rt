@@ -5,11 +5,11 @@ ghost use Rattle.query_workers.specs.Asks.{HasPut, put_into};
 ghost use Rattle.query_workers.specs.Asked.{IsOfPair};
 ghost use Rattle.query_workers.specs.declared.job.Entry.{Entry};
 
+use crate::OutOfMemory;
 use crate::desk::Inbox;
 use crate::job::{Entry, Job};
 use crate::steps::send;
 use snapshot_pub::Publisher;
-use std::alloc::AllocError;
 use std::sync::Wait;
 
 impl<Q: Drop> Inbox<Q> {
@@ -36,7 +36,7 @@ impl<Q: Drop> Inbox<Q> {
         number: u64,
         replica: u32,
         query: Q,
-    ) -> Result<(), AllocError>
+    ) -> Result<(), OutOfMemory>
         requires worker { worker < length publisher.now.published }
         requires pair { IsOfPair self.old replica worker publisher.now }
         requires room { length self.old.sent < self.old.room }

@@ -1,8 +1,9 @@
 //! The two ends of a worker's queue, and what a worker gives back.
+use crate::OutOfMemory;
 use crate::line::{Line, LinePass};
 use crate::query::Answer;
 use snapshot_pub::SnapReader;
-use std::alloc::{AllocError, Global};
+use std::alloc::Global;
 use std::marker::Model;
 use std::sync::Arc;
 
@@ -54,7 +55,7 @@ impl<Q> Model for Inbox<Q> {
 pub struct Done<Q, A> {
     pub(crate) pass: LinePass<Q>,
     pub(crate) readers: Vec<SnapReader>,
-    pub(crate) answers: Result<Vec<Answer<Q, A>>, AllocError>,
+    pub(crate) answers: Result<Vec<Answer<Q, A>>, OutOfMemory>,
 }
 
 impl<Q, A> Model for Done<Q, A> {

@@ -4,11 +4,11 @@ ghost use Rattle.query_workers.specs.Line.{IsEnded};
 ghost use Rattle.query_workers.specs.Asks.{asks_of};
 ghost use Rattle.query_workers.specs.Answers.{HasAnswered};
 
+use crate::OutOfMemory;
 use crate::desk::{Done, Inbox};
 use crate::query::{Answer, Query};
 use crate::steps::join;
 use snapshot_pub::SnapReader;
-use std::alloc::AllocError;
 
 /// The readers of a worker, and its answers: one to each job that was put into its inbox, in their order.
 ///
@@ -18,7 +18,7 @@ use std::alloc::AllocError;
 pub fn collect<Q: Query<A> + Drop, A: Drop>(
     inbox: Inbox<Q>,
     done: Done<Q, A>,
-) -> Result<(Vec<SnapReader>, Vec<Answer<Q, A>>), AllocError>
+) -> Result<(Vec<SnapReader>, Vec<Answer<Q, A>>), OutOfMemory>
     requires own { done.queue ≡ inbox.queue }
     requires ended { IsEnded inbox.sent × IsEnded done.taken }
     requires answered { IfSome done.answers (λ v. HasAnswered Q.plain

@@ -21,6 +21,7 @@ pub use gate::Gate;
 pub use gather::collect;
 pub use job::{Entry, Job};
 pub use line::{Line, LinePass};
+pub use op_model::OutOfMemory;
 pub use open::open_queue;
 pub use publishing::publish_new;
 pub use query::{Answer, Query};

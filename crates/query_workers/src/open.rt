@@ -1,11 +1,12 @@
 //! How the queue of a worker is made.
 ghost use Rattle.std.specs.Prelude.{◌≡◌, ◌<◌, [], IfOk};
 
+use crate::OutOfMemory;
 use crate::desk::{Desk, Inbox};
 use crate::line::Line;
 use crate::steps::split;
 use snapshot_pub::SnapReader;
-use std::alloc::{AllocError, Global};
+use std::alloc::Global;
 use std::marker::Brand;
 use std::sync::Arc;
 
@@ -19,7 +20,7 @@ pub fn open_queue<Q: Drop>(
     room: usize,
     readers: Vec<SnapReader>,
     number: u32,
-) -> Result<(Inbox<Q>, Desk<Q>), AllocError>
+) -> Result<(Inbox<Q>, Desk<Q>), OutOfMemory>
     requires { 0 < room }
     ensures inbox { IfOk result (λ r. r.0
         ≡ record { queue = r.1.queue; room = room; sent = []; readers = readers.items }) }

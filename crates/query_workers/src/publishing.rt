@@ -3,8 +3,8 @@ ghost use Rattle.std.specs.Prelude.{◌≡◌, List, length, All, IfOk, OnOk};
 ghost use Rattle.op_model.specs.declared.operation.Operation.{Operation};
 ghost use Rattle.text_buffer.specs.Document.{IsFront};
 
+use crate::OutOfMemory;
 use snapshot_pub::Publisher;
-use std::alloc::AllocError;
 use std::sync::Wait;
 use text_buffer::Snapshot;
 
@@ -20,7 +20,7 @@ pub fn publish_new<R: Wait>(
     pairs: u32,
     shown: u64,
     snapshot: &Snapshot,
-) -> Result<u64, AllocError>
+) -> Result<u64, OutOfMemory>
     requires count { length publisher.old.published ≡ pairs }
     requires shown { (h : List Operation) × (length h ≡ shown)
         × All (λ x. x ≡ h) publisher.old.published × IsFront h snapshot.now }
@@ -48,7 +48,7 @@ fn publish_all<R: Wait>(
     publisher: &mut Publisher,
     pairs: u32,
     snapshot: &Snapshot,
-) -> Result<(), AllocError>
+) -> Result<(), OutOfMemory>
     requires count { length publisher.old.published ≡ pairs }
     requires grows { All (λ x. IsFront x snapshot.now) publisher.old.published }
     ensures pairs { publisher.new.pairs ≡ publisher.old.pairs }

@@ -1,7 +1,8 @@
 //! Queries, and their answers.
 ghost use Rattle.std.specs.Prelude.{◌≡◌, IfOk};
 
-use std::alloc::{AllocError, Global};
+use crate::OutOfMemory;
+use std::alloc::Global;
 use std::thread::Threads;
 use text_buffer::Snapshot;
 
@@ -20,7 +21,7 @@ pub trait Query<A> {
         rt: &R,
         alloc: Global,
         snapshot: &Snapshot,
-    ) -> Result<A, AllocError>
+    ) -> Result<A, OutOfMemory>
         requires sync { IsSync R.row }
         ensures { IfOk result (λ a. a ≡ plain self.now snapshot.now) };
 }

@@ -3,11 +3,12 @@ ghost use Rattle.std.specs.Prelude.{◌≡◌, ◌<◌, ℕ, length, slice_index
 ghost use Rattle.query_workers.specs.Answers.{HasWorked};
 ghost use Rattle.query_workers.specs.States.{DeskState, DoneState};
 
+use crate::OutOfMemory;
 use crate::desk::{Desk, Done};
 use crate::gate::Gate;
 use crate::query::Query;
 use crate::worker::work;
-use std::alloc::{AllocError, Global};
+use std::alloc::Global;
 use std::sync::Wait;
 use std::thread;
 use std::thread::Threads;
@@ -18,7 +19,7 @@ fn work_all<R: Threads + Wait + Sync, G: Gate, Q: Query<A> + Send + Drop, A: Sen
     alloc: Global,
     gate: &G,
     desks: Vec<Desk<Q>>,
-) -> Result<Vec<Done<Q, A>>, AllocError>
+) -> Result<Vec<Done<Q, A>>, OutOfMemory>
     ensures count { IfOk result (λ v. length v.items ≡ length desks.items) }
     ensures worked { IfOk result (λ v. (i : ℕ) (d : DoneState Q A) (e : DeskState)
         → i < length desks.items
@@ -63,7 +64,7 @@ pub fn work_beside<
     gate: &G,
     desks: Vec<Desk<Q>>,
     editor: F,
-) -> (E, Result<Vec<Done<Q, A>>, AllocError>)
+) -> (E, Result<Vec<Done<Q, A>>, OutOfMemory>)
     requires { F.pre editor }
     ensures edited { F.post editor result.0 }
     ensures count { IfOk result.1 (λ v. length v.items ≡ length desks.items) }

@@ -6,13 +6,14 @@ ghost use Rattle.query_workers.specs.Asks.{Ask, ask_of};
 ghost use Rattle.query_workers.specs.Answers.{HasAnswered, HasWorked, IsAnswerTo};
 ghost use Rattle.query_workers.specs.declared.job.Entry.{Entry};
 
+use crate::OutOfMemory;
 use crate::desk::{Desk, Done};
 use crate::gate::Gate;
 use crate::job::{Entry, Job};
 use crate::query::{Answer, Query};
 use crate::steps::take;
 use snapshot_pub::SnapReader;
-use std::alloc::{AllocError, Global};
+use std::alloc::Global;
 use std::sync::Wait;
 use std::thread;
 use std::thread::Threads;
@@ -59,10 +60,14 @@ pub(crate) fn work<R: Threads + Wait + Sync, G: Gate, Q: Query<A> + Drop, A: Dro
 fn unless_failed<Q: Drop, A: Drop>(
     failed: bool,
     answers: Vec<Answer<Q, A>>,
-) -> Result<Vec<Answer<Q, A>>, AllocError>
+) -> Result<Vec<Answer<Q, A>>, OutOfMemory>
     ensures { IfOk result (λ v. (failed ≡ false) × (v.items ≡ answers.items)) }
 {
-    if failed { Err(AllocError) } else { Ok(answers) }
+    if failed {
+        Err(OutOfMemory)
+    } else {
+        Ok(answers)
+    }
 }
 
 // Answers one job more. Whether memory was missed, now or before.
@@ -93,7 +98,7 @@ fn answer_in<R: Threads + Wait + Sync, Q: Query<A> + Drop, A: Drop>(
     readers: &mut Vec<SnapReader>,
     job: Job<Q>,
     answers: &mut Vec<Answer<Q, A>>,
-) -> Result<(), AllocError>
+) -> Result<(), OutOfMemory>
     requires own { IsFor readers.old.items (Entry.Job job) }
     ensures pairs { pairs_of readers.new.items ≡ pairs_of readers.old.items }
     ensures answered { OnOk result ((asks : List (Ask Q))
@@ -112,7 +117,7 @@ fn answer_on<R: Threads + Wait + Sync, Q: Query<A> + Drop, A: Drop>(
     alloc: Global,
     reader: &mut SnapReader,
     job: Job<Q>,
-) -> Result<Answer<Q, A>, AllocError>
+) -> Result<Answer<Q, A>, OutOfMemory>
     requires { job.told.pair ≡ reader.old.pair }
     ensures pair { reader.new.pair ≡ reader.old.pair }
     ensures begins { IsFront reader.old.longest reader.new.longest }

@@ -4,7 +4,7 @@ use Rattle.std.proofs.lemmas.Bool.{cases_Bool, and_parts, and_from}
 use Rattle.std.specs.List.{list_any}
 use Rattle.lamport_clock.specs.declared.stamp.Lamport.{Lamport}
 use Rattle.lamport_clock.specs.Stamps.{same_stamp}
-use Rattle.lamport_clock.specs.Versions.{joined, sees}
+use Rattle.lamport_clock.specs.Versions.{join_versions, sees}
 use Rattle.undo_map.specs.declared.entry.UndoEntry.{UndoEntry}
 use Rattle.fragments.specs.declared.fragment.Fragment.{Fragment}
 use Rattle.fragments.specs.Summaries.{summary_of}
@@ -15,7 +15,7 @@ use Rattle.remote_edit.specs.Anew.{concerns, recount, anew}
 untouched : (f : Fragment) (t : Lamport) → concerns f t ≡ true → may_touch (summary_of f) t ≡ true
 untouched f t h =
     let k = and_parts (leb f.stamp.value t.value) (list_any (same_stamp t) (f.stamp ∷ f.deletions)) h in
-    and_from (begins_by t (summary_of f).span) (sees (summary_of f).greatest t) (or_left (leb f.stamp.value t.value) k.0) (stamps_seen (f.stamp ∷ f.deletions) (joined [] f.max_undos) t k.1)
+    and_from (begins_by t (summary_of f).span) (sees (summary_of f).greatest t) (or_left (leb f.stamp.value t.value) k.0) (stamps_seen (f.stamp ∷ f.deletions) (join_versions [] f.max_undos) t k.1)
   where
     or_left : (b : Bool) → b ≡ true → (b || false) ≡ true
     or_left true e = refl

@@ -1,19 +1,18 @@
 -- Without an edit, fragments that it was walked into tell what they told before it.
 use Rattle.std.proofs.Common.{◌≡◌, ℕ, zero, suc, ◌+◌, ◌-◌, ◌≤◌, Bool, true, false, cond, not, ◌||◌, ◌&&◌, List, [], ◌∷◌, ◌++◌, length, refl, sym, ap, ◌∙◌, arith, subst, inl, inr, leb, append_assoc, append-nil, length-append}
 use Rattle.std.proofs.lemmas.Bool.{cases_Bool, leb-false, or_parts}
-use Rattle.std.specs.List.{list_any, list_all}
+use Rattle.std.specs.List.{AllByRecursion, list_any, list_all}
 use Rattle.lamport_clock.specs.declared.stamp.Lamport.{Lamport}
 use Rattle.lamport_clock.specs.Stamps.{same_stamp, later}
 use Rattle.lamport_clock.specs.Versions.{Entries, sees}
 use Rattle.op_model.specs.declared.operation.Piece.{Piece}
 use Rattle.op_model.specs.Operations.{text_total}
 use Rattle.op_model.specs.Shown.{texts}
-use Rattle.op_model.specs.Sorted.{Each}
 use Rattle.op_model.specs.Facts.{Fact, Marking, stamp_first, with_deletion}
 use Rattle.op_model.specs.Walked.{Run, run_facts, facts_of, Walked}
 use Rattle.op_model.specs.Walked as W
-use Rattle.op_model.proofs.PathOrder.{same_stamp_refl}
-use Rattle.op_model.proofs.Walking.{run_add}
+use Rattle.op_model.proofs.order.PathOrder.{same_stamp_refl}
+use Rattle.op_model.proofs.shown.Walking.{run_add}
 use Rattle.undo_map.specs.declared.entry.UndoEntry.{UndoEntry}
 use Rattle.undo_map.specs.Counts.{count_of, is_odd}
 use Rattle.fragments.specs.declared.fragment.Fragment.{Fragment}
@@ -101,7 +100,7 @@ module _ (w : List UndoEntry) (t : Lamport) where
   old_same : (r : Run) → IsOld r → old_run r ≡ r
   old_same r o = old_as r r.deletions o (none_without t r.deletions o.free)
 
-  touched_old : (v : Entries) (b : Bool) (r : Run) → IsOld r → old_run (W.touched (marking w t v) b r) ≡ r
+  touched_old : (v : Entries) (b : Bool) (r : Run) → IsOld r → old_run (W.mark_run (marking w t v) b r) ≡ r
   touched_old v b r o = old_as r (cond b (cond (was_shown w v r.stamp r.deletions) (with_deletion t r.deletions) r.deletions) r.deletions) o (go b (was_shown w v r.stamp r.deletions))
     where
       go : (b c : Bool) → without t (cond b (cond c (with_deletion t r.deletions) r.deletions) r.deletions) ≡ r.deletions
@@ -112,7 +111,7 @@ module _ (w : List UndoEntry) (t : Lamport) where
   -- of the runs rs, what is put out and what is left tell the same without edit t, which brings none of them
   record Kept (rs : List Run) (z : Walked) : Type 0 where
     facts : facts_of (old_runs z.out) ++ facts_of z.rest ≡ facts_of rs
-    rest : Each IsOld z.rest
+    rest : AllByRecursion IsOld z.rest
     none : runs_by t z.out ≡ []
 
   pushed : (r x : Run) (rs : List Run) (z : Walked) → same_stamp t x.stamp ≡ false → old_run x ≡ r → Kept rs z → Kept (r ∷ rs) (W.push x z)
@@ -129,36 +128,36 @@ module _ (w : List UndoEntry) (t : Lamport) where
     abbrev mk : Marking
     mk = marking w t v
 
-    cut : (b : Bool) (r : Run) (rs : List Run) (n : ℕ) → n ≤ r.len → IsOld r → Each IsOld rs → Kept (r ∷ rs) (W.push (W.touched mk b (W.front r n)) (W.none_out (W.back r n ∷ rs)))
+    cut : (b : Bool) (r : Run) (rs : List Run) (n : ℕ) → n ≤ r.len → IsOld r → AllByRecursion IsOld rs → Kept (r ∷ rs) (W.push (W.mark_run mk b (W.front r n)) (W.none_out (W.back r n ∷ rs)))
     cut b r rs n l o e =
         let f : IsOld (W.front r n) = record { other = o.other; free = o.free; shown = o.shown } in
         let g : IsOld (W.back r n) = record { other = o.other; free = o.free; shown = o.shown } in
-        let k = pushed (W.front r n) (W.touched mk b (W.front r n)) (W.back r n ∷ rs) (W.none_out (W.back r n ∷ rs)) o.other (touched_old v b (W.front r n) f) (record { facts = refl; rest = (g, e); none = refl }) in
+        let k = pushed (W.front r n) (W.mark_run mk b (W.front r n)) (W.back r n ∷ rs) (W.none_out (W.back r n ∷ rs)) o.other (touched_old v b (W.front r n) f) (record { facts = refl; rest = (g, e); none = refl }) in
         record { facts = k.facts ∙ two_parts r rs n l; rest = k.rest; none = k.none }
 
-    adv_kept : (b : Bool) (n : ℕ) (rs : List Run) → Each IsOld rs → Kept rs (W.advance mk (sees v) b n rs)
+    adv_kept : (b : Bool) (n : ℕ) (rs : List Run) → AllByRecursion IsOld rs → Kept rs (W.advance mk (sees v) b n rs)
     adv_kept b zero rs o = record { facts = refl; rest = o; none = refl }
     adv_kept b (suc n) [] o = record { facts = refl; rest = tt; none = refl }
     adv_kept b (suc n) (r ∷ rs) o = elim (cases_Bool (sees v r.stamp)) [
       | inr s ↦ rw s (pushed r r rs (W.advance mk (sees v) b (suc n) rs) o.0.other (old_same r o.0) (adv_kept b (suc n) rs o.1))
       | inl s ↦ elim (cases_Bool (leb r.len (suc n))) [
-        | inl l ↦ rw (s, l) (pushed r (W.touched mk b r) rs (W.advance mk (sees v) b (suc n - r.len) rs) o.0.other (touched_old v b r o.0) (adv_kept b (suc n - r.len) rs o.1))
+        | inl l ↦ rw (s, l) (pushed r (W.mark_run mk b r) rs (W.advance mk (sees v) b (suc n - r.len) rs) o.0.other (touched_old v b r o.0) (adv_kept b (suc n - r.len) rs o.1))
         | inr l ↦ (let m = leb-false r.len (suc n) l in rw (s, l) (cut b r rs (suc n) (omega (arith, m)) o.0 o.1))
       ]
     ]
 
-    skip_kept : (rs : List Run) → Each IsOld rs → Kept rs (W.skip_later t rs)
+    skip_kept : (rs : List Run) → AllByRecursion IsOld rs → Kept rs (W.skip_later t rs)
     skip_kept [] o = record { facts = refl; rest = tt; none = refl }
     skip_kept (r ∷ rs) o = elim (cases_Bool (later r.stamp t)) [
       | inl s ↦ rw s (pushed r r rs (W.skip_later t rs) o.0.other (old_same r o.0) (skip_kept rs o.1))
       | inr s ↦ rw s (record { facts = refl; rest = o; none = refl })
     ]
 
-    placed_gone : (k n : ℕ) → old_runs (W.placed t k n) ≡ []
+    placed_gone : (k n : ℕ) → old_runs (W.new_runs t k n) ≡ []
     placed_gone k zero = refl
     placed_gone k (suc n) = rw (same_stamp_refl t) refl
 
-    placed_brought : (k n : ℕ) → runs_by t (W.placed t k n) ≡ W.placed t k n
+    placed_brought : (k n : ℕ) → runs_by t (W.new_runs t k n) ≡ W.new_runs t k n
     placed_brought k zero = refl
     placed_brought k (suc n) = rw (same_stamp_refl t) refl
 
@@ -167,7 +166,7 @@ module _ (w : List UndoEntry) (t : Lamport) where
 
     record KeptWith (rs : List Run) (z : Walked) (new : List Run) : Type 0 where
       facts : facts_of (old_runs z.out) ++ facts_of z.rest ≡ facts_of rs
-      rest : Each IsOld z.rest
+      rest : AllByRecursion IsOld z.rest
       new_is : runs_by t z.out ≡ new
 
     four : (a b c d : List Run) → runs_by t a ≡ [] → runs_by t b ≡ [] → runs_by t d ≡ [] → runs_by t (a ++ (b ++ (c ++ d))) ≡ runs_by t c
@@ -176,11 +175,11 @@ module _ (w : List UndoEntry) (t : Lamport) where
         ∙ brought_append t b (c ++ d) ∙ ap (λ (z : List Run). z ++ runs_by t (c ++ d)) f
         ∙ brought_append t c d ∙ ap (λ (z : List Run). runs_by t c ++ z) g ∙ append-nil (runs_by t c)
 
-    piece_kept : (at k : ℕ) (p : Piece) (rs : List Run) → Each IsOld rs → KeptWith rs (W.one_piece mk (sees v) t at k p rs) (W.placed t k (length p.text))
+    piece_kept : (at k : ℕ) (p : Piece) (rs : List Run) → AllByRecursion IsOld rs → KeptWith rs (W.one_piece mk (sees v) t at k p rs) (W.new_runs t k (length p.text))
     piece_kept at k p rs o =
         let a : Walked = W.advance mk (sees v) false (p.start - at) rs in
         let b : Walked = W.skip_later t a.rest in
-        let c : List Run = W.placed t k (length p.text) in
+        let c : List Run = W.new_runs t k (length p.text) in
         let d : Walked = W.advance mk (sees v) true (p.end - p.start) b.rest in
         let ka = adv_kept false (p.start - at) rs o in
         let kb = skip_kept a.rest ka.rest in
@@ -196,15 +195,15 @@ module _ (w : List UndoEntry) (t : Lamport) where
           new_is = four a.out b.out c d.out ka.none kb.none kd.none ∙ placed_brought k (length p.text);
         }
 
-    all_old : (rs : List Run) → Each IsOld rs → (old_runs rs ≡ rs) × (runs_by t rs ≡ [])
+    all_old : (rs : List Run) → AllByRecursion IsOld rs → (old_runs rs ≡ rs) × (runs_by t rs ≡ [])
     all_old [] o = (refl, refl)
     all_old (r ∷ rs) o = let ih = all_old rs o.1 in let n = o.0.other in (rw n (ap (λ (x : Run). x ∷ old_runs rs) (old_same r o.0) ∙ ap (λ (z : List Run). r ∷ z) ih.0), rw n (ih.1))
 
-    placed_first : (k n m : ℕ) (rs : List Run) → InOrder (k + n) m rs → InOrder k m (W.placed t k n ++ rs)
+    placed_first : (k n m : ℕ) (rs : List Run) → InOrder (k + n) m rs → InOrder k m (W.new_runs t k n ++ rs)
     placed_first k zero m rs i = let z : k + 0 ≡ k = omega arith in subst (λ (j : ℕ). InOrder j m rs) z i
     placed_first k (suc n) m rs i = (refl, refl, i)
 
-    pub walk_kept : (at k : ℕ) (ps : List Piece) (rs : List Run) → Each IsOld rs
+    pub walk_kept : (at k : ℕ) (ps : List Piece) (rs : List Run) → AllByRecursion IsOld rs
         → (facts_of (old_runs (W.walk mk (sees v) t at k ps rs)) ≡ facts_of rs) × InOrder k (k + text_total ps) (runs_by t (W.walk mk (sees v) t at k ps rs))
     walk_kept at k [] rs o =
         let a = all_old rs o in let z : k ≡ k + 0 = omega arith in

@@ -1,9 +1,9 @@
 -- What the pieces of an edit may cost, piece by piece.
 use Rattle.std.proofs.Common.{◌≡◌, ℕ, suc, ◌+◌, ◌-◌, ◌*◌, ◌≤◌, ◌^◌, max, List, [], ◌∷◌, length, sym, ap, ◌∙◌, arith, subst}
+use Rattle.std.specs.List.{AllByRecursion}
 use Rattle.lamport_clock.specs.declared.stamp.Lamport.{Lamport}
 use Rattle.lamport_clock.specs.Versions.{Entries}
 use Rattle.op_model.specs.declared.operation.Piece.{Piece}
-use Rattle.op_model.specs.Sorted.{Each}
 use Rattle.op_model.specs.Walked.{Ordered}
 use Rattle.undo_map.specs.declared.entry.UndoEntry.{UndoEntry}
 use Rattle.fragments.specs.declared.fragment.Fragment.{Fragment}
@@ -32,7 +32,7 @@ budget_start v fs ps n h o = record {
   cost = omega arith;
 }
 
-ordered_down : (at from end : ℕ) (ps : List Piece) → at ≤ from → Ordered from end ps → Ordered at end ps
+pub ordered_down : (at from end : ℕ) (ps : List Piece) → at ≤ from → Ordered from end ps → Ordered at end ps
 ordered_down at from end [] h o = omega (arith, h, o)
 ordered_down at from end (p ∷ ps) h o = let k = o.0 in (omega (arith, k, h), o.1, o.2)
 
@@ -118,5 +118,5 @@ pub budget_all : (v : Entries) (fs : List Fragment) (ps : List Piece) (place : �
 budget_all v fs ps place rest qs old new b = let c = b.cost in omega (arith, c)
 
 -- in the end, by the fragments that the ranges touch
-pub budget_touched : (fs : List Fragment) (ps : List Piece) (old new : ℕ) → Each IsFilled fs → Ordered 0 (2 ^ 40) ps → new ≤ old + 256 * piece_starts fs ps → new ≤ old + 256 * (length ps + touch_count_behind 0 ps fs)
+pub budget_touched : (fs : List Fragment) (ps : List Piece) (old new : ℕ) → AllByRecursion IsFilled fs → Ordered 0 (2 ^ 40) ps → new ≤ old + 256 * piece_starts fs ps → new ≤ old + 256 * (length ps + touch_count_behind 0 ps fs)
 budget_touched fs ps old new h o l = let e = piece_starts_touched 0 (2 ^ 40) ps fs h o in omega (arith, e, l)

@@ -1,16 +1,15 @@
 -- Moves carry bytes along with a walk over fragments.
+use Rattle.op_model.proofs.Elements.{each_left, each_right}
 use Rattle.std.proofs.Common.{◌≡◌, ℕ, zero, suc, ◌+◌, ◌≤◌, ◌<◌, Bool, true, false, cond, not, List, [], ◌∷◌, ◌++◌, length, map, take, drop, get_or, refl, sym, ap, ◌∙◌, subst, arith, append_assoc, length-append, drop-cons}
-use Rattle.std.specs.List.{filter}
+use Rattle.std.specs.List.{AllByRecursion, filter}
 use Rattle.std.specs.Str.{IsUtf8}
 use Rattle.std.proofs.lemmas.Str.{IsUtf8-nil, IsUtf8-append}
 use Rattle.std.proofs.lemmas.List.{drop-drop}
 use Rattle.lamport_clock.specs.declared.stamp.Lamport.{Lamport}
 use Rattle.op_model.specs.Cells.{Cell}
 use Rattle.op_model.specs.Facts.{Fact, alike}
-use Rattle.op_model.specs.Sorted.{Each}
 use Rattle.op_model.specs.Walked.{facts_of}
-use Rattle.op_model.proofs.Utf8Runs.{take_front, drop_front}
-use Rattle.op_model.proofs.WholeTexts.{each_left, each_right}
+use Rattle.op_model.proofs.texts.Utf8Runs.{take_front, drop_front}
 use Rattle.fragments.specs.declared.fragment.Fragment.{Fragment}
 use Rattle.fragments.specs.Stand.{runs}
 use Rattle.fragments.specs.Laws.{shown_len}
@@ -151,7 +150,7 @@ module _ (byte : Cell → ℕ) where
       go true e = e
       go false e = let a = length-append (bytes_of x) (hidden_bytes byte xs) in let l = long x.stamp x.offset x.len in omega (arith, a, l, e)
 
-  shown_text : (xs : List Fragment) → Each (IsText byte) xs → IsUtf8 (shown_bytes byte xs)
+  shown_text : (xs : List Fragment) → AllByRecursion (IsText byte) xs → IsUtf8 (shown_bytes byte xs)
   shown_text [] u = IsUtf8-nil
   shown_text (x ∷ xs) u = subst IsUtf8 (sym (shown_first x xs)) (go x.visible (shown_text xs u.1))
     where
@@ -159,7 +158,7 @@ module _ (byte : Cell → ℕ) where
       go true w = IsUtf8-append (bytes_of x) (shown_bytes byte xs) u.0 w
       go false w = w
 
-  hidden_text : (xs : List Fragment) → Each (IsText byte) xs → IsUtf8 (hidden_bytes byte xs)
+  hidden_text : (xs : List Fragment) → AllByRecursion (IsText byte) xs → IsUtf8 (hidden_bytes byte xs)
   hidden_text [] u = IsUtf8-nil
   hidden_text (x ∷ xs) u = subst IsUtf8 (sym (hidden_first x xs)) (go (not x.visible) (hidden_text xs u.1))
     where

@@ -1,7 +1,7 @@
 -- A piece without range and text changes nothing that is told of the cells.
 use Rattle.std.proofs.Common.{◌≡◌, ℕ, zero, suc, ◌+◌, ◌-◌, ◌<◌, ◌≤◌, Bool, List, [], ◌∷◌, ◌++◌, length, map, refl, sym, ap, ◌∙◌, arith, subst, cond, ◌&&◌, ◌||◌, true, false, inl, inr, leb, ltb}
 use Rattle.std.proofs.lemmas.Bool.{cases_Bool, leb-true, le-ltb, ltb-false}
-use Rattle.std.specs.List.{filter}
+use Rattle.std.specs.List.{AllByRecursion, filter}
 use Rattle.lamport_clock.specs.declared.stamp.Lamport.{Lamport}
 use Rattle.lamport_clock.specs.Stamps.{later}
 use Rattle.lamport_clock.specs.Versions.{sees}
@@ -9,24 +9,24 @@ use Rattle.op_model.specs.declared.operation.Piece.{Piece}
 use Rattle.op_model.specs.declared.operation.Operation.{Operation}
 use Rattle.op_model.specs.Operations.{stamp_of, version_of, pieces_of}
 use Rattle.op_model.specs.Histories.{History, newest_first}
-use Rattle.op_model.specs.Cells.{Place, seq, seq_where, cells}
+use Rattle.op_model.specs.Cells.{PathCell, seq, seq_where, cells}
 use Rattle.op_model.specs.Laid.{only}
 use Rattle.op_model.specs.Shown.{in_pieces}
 use Rattle.op_model.specs.Answers.{answer}
 use Rattle.op_model.specs.Answers.Answer.{Good}
 use Rattle.op_model.specs.Lawful.{Lawful}
-use Rattle.op_model.specs.Sorted.{Each}
-use Rattle.op_model.specs.Facts.{Fact, fact, told, alike, Marking, lay_facts, marks, past_later, put_at, nth_kept}
+use Rattle.op_model.specs.Facts.{Fact, fact, cell_facts, alike, Marking, lay_facts, marks, past_later, put_at, fact_index_after}
 use Rattle.op_model.specs.Walked.{Run, facts_of, kept_len, Ordered, walk}
-use Rattle.op_model.proofs.Walking.{walk_lays}
-use Rattle.op_model.proofs.Counted.{good_ordered}
-use Rattle.op_model.proofs.PathOrder.{later_irrefl}
-use Rattle.op_model.proofs.Groups.{passed_unseen}
-use Rattle.op_model.proofs.Restricted.{restrict}
-use Rattle.op_model.proofs.OnePass.{not_self}
-use Rattle.op_model.proofs.OneMore.{Fits}
-use Rattle.op_model.proofs.Good.{lawful_ready, checked_of, fits_of}
+use Rattle.op_model.proofs.shown.Walking.{walk_lays}
+use Rattle.op_model.proofs.answers.Counted.{good_ordered}
+use Rattle.op_model.proofs.order.PathOrder.{later_irrefl}
+use Rattle.op_model.proofs.order.Groups.{passed_unseen}
+use Rattle.op_model.proofs.order.Restricted.{restrict}
+use Rattle.op_model.proofs.shown.OnePass.{not_self}
+use Rattle.op_model.proofs.histories.OneMore.{Fits}
+use Rattle.op_model.proofs.answers.Good.{lawful_ready, checked_of, fits_of}
 use Rattle.remote_edit.specs.Walk.{changes}
+use Rattle.remote_edit.proofs.Budget.{ordered_down}
 
 -- the pieces that change something
 abbrev pub changing : List Piece → List Piece
@@ -61,13 +61,13 @@ no_range p e = go (ltb p.start p.end) (ltb 0 (length p.text)) e refl
 lay_changing : (keep : Lamport → Bool) (t : Lamport) (at k : ℕ) (ps : List Piece) (s : List Fact) → lay_facts keep t at k (changing ps) s ≡ lay_facts keep t at k ps s
 lay_changing keep t at k [] s = refl
 lay_changing keep t at k (p ∷ ps) s = elim (cases_Bool (changes p)) [
-  | inl e ↦ rw e (ap (λ (r : List Fact). put_at (nth_kept keep r (p.start - at)) t (alike t k (length p.text) true []) r) (lay_changing keep t at (k + length p.text) ps s))
+  | inl e ↦ rw e (ap (λ (r : List Fact). put_at (fact_index_after keep r (p.start - at)) t (alike t k (length p.text) true []) r) (lay_changing keep t at (k + length p.text) ps s))
   | inr e ↦ rw e (
       let n = no_text p e in
       let r : List Fact = lay_facts keep t at (k + length p.text) ps s in
       let z : k ≡ k + length p.text = omega arith in
-      lay_changing keep t at k ps s ∙ ap (λ (j : ℕ). lay_facts keep t at j ps s) z ∙ sym (put_none (nth_kept keep r (p.start - at)) t r)
-      ∙ ap (λ (j : ℕ). put_at (nth_kept keep r (p.start - at)) t (alike t k j true []) r) (sym n))
+      lay_changing keep t at k ps s ∙ ap (λ (j : ℕ). lay_facts keep t at j ps s) z ∙ sym (put_none (fact_index_after keep r (p.start - at)) t r)
+      ∙ ap (λ (j : ℕ). put_at (fact_index_after keep r (p.start - at)) t (alike t k j true []) r) (sym n))
 ]
 
 -- ---- no cell is in its range
@@ -83,10 +83,6 @@ in_changing (p ∷ ps) i = elim (cases_Bool (changes p)) [
 ]
 
 -- ---- the others stand in order
-
-ordered_down : (at from end : ℕ) (ps : List Piece) → at ≤ from → Ordered from end ps → Ordered at end ps
-ordered_down at from end [] h o = omega arith
-ordered_down at from end (p ∷ ps) h o = let k = o.0 in ((omega arith), o.1, o.2)
 
 pub ordered_changing : (at end : ℕ) (ps : List Piece) → Ordered at end ps → Ordered at end (changing ps)
 ordered_changing at end [] o = o
@@ -113,13 +109,13 @@ unfolding count_facts
 count_runs keep [] = refl
 count_runs keep (r ∷ rs) = count_alike keep r.stamp r.offset r.len r.visible r.deletions (facts_of rs) ∙ rw (count_runs keep rs) refl
 
-count_places : (h : History) (keep : Lamport → Bool) (s : List Place) → count_facts keep (map (fact h) (cells s)) ≡ length (only keep s)
+count_places : (h : History) (keep : Lamport → Bool) (s : List PathCell) → count_facts keep (map (fact h) (cells s)) ≡ length (only keep s)
 unfolding count_facts
 count_places h keep [] = refl
 count_places h keep (q ∷ s) = elim (cases_Bool (keep q.cell.stamp)) [ inl k ↦ rw k (ap suc (count_places h keep s)) | inr k ↦ rw k (count_places h keep s) ]
 
 -- the cells of a history that the version of an operation sees
-pub count_seen : (h : History) (op : Operation) (rs : List Run) → Lawful h → answer h [] op ≡ Good → facts_of rs ≡ told h
+pub count_seen : (h : History) (op : Operation) (rs : List Run) → Lawful h → answer h [] op ≡ Good → facts_of rs ≡ cell_facts h
     → kept_len (sees (version_of op)) rs ≡ length (seq_where (sees (version_of op)) (newest_first h))
 unfolding seq
 count_seen h op rs l g s =
@@ -129,7 +125,7 @@ count_seen h op rs l g s =
     sym (count_runs v rs) ∙ ap (count_facts v) s ∙ count_places h v (seq h) ∙ ap length (restrict v (newest_first h) f.closed)
 
 -- the walk with and without them
-pub walk_changing : (h : History) (op : Operation) (m : Marking) (rs : List Run) → Lawful h → answer h [] op ≡ Good → Each (λ (r : Run). 0 < r.len) rs → facts_of rs ≡ told h
+pub walk_changing : (h : History) (op : Operation) (m : Marking) (rs : List Run) → Lawful h → answer h [] op ≡ Good → AllByRecursion (λ (r : Run). 0 < r.len) rs → facts_of rs ≡ cell_facts h
     → facts_of (walk m (sees (version_of op)) (stamp_of op) 0 0 (changing (pieces_of op)) rs) ≡ facts_of (walk m (sees (version_of op)) (stamp_of op) 0 0 (pieces_of op) rs)
 walk_changing h op m rs l g some s =
     let v : Lamport → Bool = sees (version_of op) in

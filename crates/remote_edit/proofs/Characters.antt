@@ -5,7 +5,7 @@ use Rattle.std.proofs.Math.Seq.{take-add}
 use Rattle.std.proofs.lemmas.Str.{IsUtf8-append}
 use Rattle.std.proofs.lemmas.List.{drop-drop}
 use Rattle.std.proofs.lemmas.Bool.{cases_Bool}
-use Rattle.op_model.proofs.Utf8Runs.{take_front}
+use Rattle.op_model.proofs.texts.Utf8Runs.{take_front}
 use Rattle.remote_edit.specs.declared.moves.Move.{Move}
 use Rattle.remote_edit.specs.declared.moves.Move.TheVariants.{Visible, Hidden, Hide, Show, Insert}
 use Rattle.remote_edit.specs.Moves.{TakeTexts, length_of, as_one, join_moves, with_last, with_move, from_shown, from_hidden, from_new}

@@ -1,14 +1,15 @@
 -- What an edit does to the two texts, on the way over the fragments that tell of it.
+use Rattle.remote_edit.proofs.PassedPlaces.{shown_append_len as shown_append, hidden_append_len as hidden_append}
+use Rattle.op_model.proofs.Elements.{each_left, each_right}
 use Rattle.std.proofs.Common.{◌≡◌, ℕ, zero, suc, ◌+◌, ◌-◌, ◌<◌, ◌≤◌, min, Bool, true, false, cond, List, [], ◌∷◌, ◌++◌, length, take, drop, inl, inr, refl, sym, ap, ◌∙◌, arith, subst, Option, Some, None, append_assoc, length-append, append-nil}
 use Rattle.std.proofs.Math.Seq.{drop-append_seam}
-use Rattle.std.specs.List.{slice_get, list_any}
+use Rattle.std.specs.List.{AllByRecursion, slice_get, list_any}
 use Rattle.std.proofs.lemmas.Bool.{cases_Bool, or_parts}
 use Rattle.tree_cursor.specs.Places.{place_behind, filter_count}
 use Rattle.lamport_clock.specs.declared.stamp.Lamport.{Lamport}
 use Rattle.lamport_clock.specs.Stamps.{same_stamp}
-use Rattle.lamport_clock.specs.Versions.{joined}
-use Rattle.op_model.specs.Sorted.{Each}
-use Rattle.op_model.proofs.PathOrder.{same_stamp_eq}
+use Rattle.lamport_clock.specs.Versions.{join_versions}
+use Rattle.op_model.proofs.order.PathOrder.{same_stamp_eq}
 use Rattle.undo_map.specs.declared.entry.UndoEntry.{UndoEntry}
 use Rattle.fragments.specs.declared.fragment.Fragment.{Fragment}
 use Rattle.fragments.specs.Summaries.{summary_of}
@@ -23,9 +24,8 @@ use Rattle.remote_edit.specs.Passed.{move_passed}
 use Rattle.remote_edit.specs.SeesLaws.{sees_edit, stamps_seen}
 use Rattle.remote_edit.specs.BeforeEdit.{without, without_deletion, before_edit, edit_move, IsByCounts, runs_by, InOrder, Brings}
 use Rattle.remote_edit.proofs.Carrying.{go_on, stay, on_one, on_stretch, on_insert}
-use Rattle.op_model.proofs.WholeTexts.{each_left, each_right}
 use Rattle.remote_edit.proofs.BeforeEdit.{none_without}
-use Rattle.remote_edit.proofs.UndoMoves.{both, shown_append, hidden_append, IsBehind, behind_place, Unkept, find_next, find_none}
+use Rattle.remote_edit.proofs.UndoMoves.{both, IsBehind, behind_place, Unkept, find_next, find_none}
 
 module _ (w : List UndoEntry) (t : Lamport) where
   -- the sum of a fragment does not see the edit
@@ -34,7 +34,7 @@ module _ (w : List UndoEntry) (t : Lamport) where
 
   unseen_parts : (f : Fragment) → Unseen f → (same_stamp t f.stamp ≡ false) × (list_any (same_stamp t) f.deletions ≡ false)
   unseen_parts f u = or_parts (same_stamp t f.stamp) (list_any (same_stamp t) f.deletions) (elim (cases_Bool (list_any (same_stamp t) (f.stamp ∷ f.deletions))) [
-    | inl e ↦ (let k = stamps_seen (f.stamp ∷ f.deletions) (joined [] f.max_undos) t e in cc)
+    | inl e ↦ (let k = stamps_seen (f.stamp ∷ f.deletions) (join_versions [] f.max_undos) t e in cc)
     | inr e ↦ e
   ])
 
@@ -45,13 +45,13 @@ module _ (w : List UndoEntry) (t : Lamport) where
       ap one (none_without t f.deletions n) ∙ ap two (sym s)
 
   -- fragments that have not seen the edit are what they were
-  unseen_same : (xs ys : List Fragment) → Each Unseen xs → Each (IsByCounts w) xs → before_edit w t (xs ++ ys) ≡ xs ++ before_edit w t ys
+  unseen_same : (xs ys : List Fragment) → AllByRecursion Unseen xs → AllByRecursion (IsByCounts w) xs → before_edit w t (xs ++ ys) ≡ xs ++ before_edit w t ys
   unseen_same [] ys u s = refl
   unseen_same (x ∷ xs) ys u s =
       let p = unseen_parts x u.0 in
       rw (p.0) (ap (λ (z : Fragment). z ∷ before_edit w t (xs ++ ys)) (same_undeleted x s.0 p.1) ∙ ap (λ (z : List Fragment). x ∷ z) (unseen_same xs ys u.1 s.1))
 
-  unseen_brings : (xs ys : List Fragment) (k m : ℕ) → Each Unseen xs → Brings t k m (xs ++ ys) → Brings t k m ys
+  unseen_brings : (xs ys : List Fragment) (k m : ℕ) → AllByRecursion Unseen xs → Brings t k m (xs ++ ys) → Brings t k m ys
   unseen_brings [] ys k m u b = b
   unseen_brings (x ∷ xs) ys k m u b = unseen_brings xs ys k m u.1 (go (same_stamp t x.stamp) (unseen_parts x u.0).0 b)
     where
@@ -105,7 +105,7 @@ module _ (w : List UndoEntry) (t : Lamport) where
       }
       go false e i c = record { k = k; brings = i; carry = go_on (omega arith) c (on_one (without_deletion w t x) x old (refl, refl, refl)) }
 
-  module _ (m : ℕ) (us : Lamport) (fs items : List Fragment) (ms : List Move) (shown hidden next : ℕ) (us_is : us ≡ t) (items_are : items ≡ fs) (all : Each (IsByCounts w) fs) (p : Passing m fs ms shown hidden next) where
+  module _ (m : ℕ) (us : Lamport) (fs items : List Fragment) (ms : List Move) (shown hidden next : ℕ) (us_is : us ≡ t) (items_are : items ≡ fs) (all : AllByRecursion (IsByCounts w) fs) (p : Passing m fs ms shown hidden next) where
     dropped : drop next items ≡ p.rest
     dropped = ap (drop next) (items_are ∙ p.whole) ∙ ap (λ (k : ℕ). drop k (p.pre ++ p.rest)) p.count ∙ drop-append_seam p.pre p.rest
 
@@ -127,18 +127,18 @@ module _ (w : List UndoEntry) (t : Lamport) where
     get_rest o h = sym (get_ahead p.pre (next + over) rest_over (let a = over_is in let b = p.count in omega arith)) ∙ ap (λ (z : List Fragment). slice_get z (next + over)) (sym (items_are ∙ p.whole)) ∙ h
 
     -- those before the next that is kept have not seen the edit
-    unseen : (xs : List Fragment) → Each (Unkept (sees_edit us) summary_of) xs → Each Unseen xs
-    unseen xs u = subst (λ (z : Lamport). Each (Unkept (sees_edit z) summary_of) xs) us_is u
+    unseen : (xs : List Fragment) → AllByRecursion (Unkept (sees_edit us) summary_of) xs → AllByRecursion Unseen xs
+    unseen xs u = subst (λ (z : Lamport). AllByRecursion (Unkept (sees_edit z) summary_of) xs) us_is u
 
-    shown_rest : Each (IsByCounts w) p.rest
-    shown_rest = each_right (IsByCounts w) p.pre p.rest (subst (Each (IsByCounts w)) p.whole all)
+    shown_rest : AllByRecursion (IsByCounts w) p.rest
+    shown_rest = each_right (IsByCounts w) p.pre p.rest (subst (AllByRecursion (IsByCounts w)) p.whole all)
 
     -- bytes that are kept up to a place
-    stretch : (xs ys : List Fragment) (s h : ℕ) → p.rest ≡ xs ++ ys → Each (Unkept (sees_edit us) summary_of) xs → IsBehind s h (p.pre ++ xs)
+    stretch : (xs ys : List Fragment) (s h : ℕ) → p.rest ≡ xs ++ ys → AllByRecursion (Unkept (sees_edit us) summary_of) xs → IsBehind s h (p.pre ++ xs)
         → CarryOn t [] [] (before_edit w t fs) 0 (with_move (with_move ms (Visible (s - shown))) (Hidden (h - hidden))) (p.pre ++ xs) (before_edit w t ys) p.k
     stretch xs ys s h e u b =
         let o : List Fragment = before_edit w t fs in
-        let by : Each (IsByCounts w) xs = each_left (IsByCounts w) xs ys (subst (Each (IsByCounts w)) e shown_rest) in
+        let by : AllByRecursion (IsByCounts w) xs = each_left (IsByCounts w) xs ys (subst (AllByRecursion (IsByCounts w)) e shown_rest) in
         let c : CarryOn t [] [] o 0 ms p.pre (xs ++ before_edit w t ys) p.k = subst (λ (z : List Fragment). CarryOn t [] [] o 0 ms p.pre z p.k) (ap (before_edit w t) e ∙ unseen_same xs ys (unseen xs u) by) p.carry in
         let d : CarryOn t [] [] o 0 (with_move (with_move ms (Visible (shown_len xs))) (Hidden (hidden_len xs))) (p.pre ++ xs) (before_edit w t ys) p.k = go_on (omega arith) c (on_stretch xs (before_edit w t ys)) in
         let x : shown_len xs ≡ s - shown = let a = b.shown_is in let o = p.at.shown_is in let q = shown_append p.pre xs in omega arith in

@@ -1,13 +1,12 @@
 -- Fragments that an edit was walked into: what they were before it, and how they are shown.
 use Rattle.std.proofs.Common.{◌≡◌, ℕ, ◌+◌, Bool, false, List, [], ◌∷◌, length, map, refl, sym, ap, ◌∙◌, arith, subst, inl, inr}
 use Rattle.std.proofs.lemmas.Bool.{cases_Bool}
-use Rattle.std.specs.List.{filter, list_any}
+use Rattle.std.specs.List.{AllByRecursion, filter, list_any}
 use Rattle.lamport_clock.specs.declared.stamp.Lamport.{Lamport}
 use Rattle.lamport_clock.specs.Stamps.{same_stamp}
 use Rattle.lamport_clock.specs.Versions.{Entries, sees}
 use Rattle.op_model.specs.declared.operation.Operation.{Operation}
 use Rattle.op_model.specs.Operations.{stamp_of, version_of, pieces_of, text_total}
-use Rattle.op_model.specs.Sorted.{Each}
 use Rattle.op_model.specs.Histories.{History, newest_first}
 use Rattle.op_model.specs.Cells.{Cell, cells, seq}
 use Rattle.op_model.specs.Shown.{texts, deleters, deletes}
@@ -17,11 +16,11 @@ use Rattle.op_model.specs.Lawful.{Lawful}
 use Rattle.op_model.specs.Facts.{Fact, fact, seen_by}
 use Rattle.op_model.specs.Walked.{Run, run_facts, facts_of}
 use Rattle.op_model.specs.Walked as W
-use Rattle.op_model.proofs.Groups.{passed_unseen}
-use Rattle.op_model.proofs.OneMore.{Fits}
-use Rattle.op_model.proofs.Good.{lawful_ready, checked_of, fits_of}
-use Rattle.op_model.proofs.Literal.{lawful_deleters}
-use Rattle.op_model.proofs.PathOrder.{same_stamp_eq}
+use Rattle.op_model.proofs.order.Groups.{passed_unseen}
+use Rattle.op_model.proofs.histories.OneMore.{Fits}
+use Rattle.op_model.proofs.answers.Good.{lawful_ready, checked_of, fits_of}
+use Rattle.op_model.proofs.order.Literal.{lawful_deleters}
+use Rattle.op_model.proofs.order.PathOrder.{same_stamp_eq}
 use Rattle.undo_map.specs.declared.entry.UndoEntry.{UndoEntry}
 use Rattle.undo_map.specs.Undos.{undo_entries}
 use Rattle.fragments.specs.declared.fragment.Fragment.{Fragment}
@@ -40,35 +39,35 @@ use Rattle.remote_edit.proofs.UndoStands.{told_by_counts}
 use Rattle.remote_edit.proofs.BeforeEdit.{IsOld, old_runs, runs_before, walk_kept, text_totals}
 
 -- fragments that tell of a history are shown by its counts
-pub shown_by_counts : (h : History) (u : List UndoEntry) (fs : List Fragment) → u ≡ undo_entries h → Each IsFilled fs → Tell fs h → Each (IsByCounts u) fs
+pub shown_by_counts : (h : History) (u : List UndoEntry) (fs : List Fragment) → u ≡ undo_entries h → AllByRecursion IsFilled fs → Tell fs h → AllByRecursion (IsByCounts u) fs
 shown_by_counts h u fs e l s = of_facts (λ t v d. v ≡ is_shown u t d) fs l
-    (subst (Each (λ (q : Fact). q.visible ≡ is_shown u q.cell.stamp q.deletions)) (sym s) (go (cells (seq h)) (told_by_counts h (seq h))))
+    (subst (AllByRecursion (λ (q : Fact). q.visible ≡ is_shown u q.cell.stamp q.deletions)) (sym s) (go (cells (seq h)) (told_by_counts h (seq h))))
   where
-    go : (s : List Cell) → Each (λ (q : Fact). q.visible ≡ seen_by h q.cell.stamp q.deletions) (map (fact h) s) → Each (λ (q : Fact). q.visible ≡ is_shown u q.cell.stamp q.deletions) (map (fact h) s)
+    go : (s : List Cell) → AllByRecursion (λ (q : Fact). q.visible ≡ seen_by h q.cell.stamp q.deletions) (map (fact h) s) → AllByRecursion (λ (q : Fact). q.visible ≡ is_shown u q.cell.stamp q.deletions) (map (fact h) s)
     go [] x = tt
     go (c ∷ s) x = (x.0 ∙ is_told h c.stamp (deleters h c) ∙ ap (λ (w : List UndoEntry). is_shown w c.stamp (deleters h c)) (sym e), go s x.1)
 
 -- no edit that is not in a history deletes a cell of it
-module _ (h : History) (t : Lamport) (l : Lawful h) (fresh : Each (λ (o : Operation). stamp_of o ≡ t → ⊥) (newest_first h)) where
+module _ (h : History) (t : Lamport) (l : Lawful h) (fresh : AllByRecursion (λ (o : Operation). stamp_of o ≡ t → ⊥) (newest_first h)) where
   not_same : (s : Lamport) → (s ≡ t → ⊥) → same_stamp t s ≡ false
   not_same s n = elim (cases_Bool (same_stamp t s)) [ inl e ↦ absurd (n (sym (same_stamp_eq t s e))) | inr e ↦ e ]
 
-  none_of : (p : Operation → Bool) (ops : List Operation) → Each (λ (o : Operation). stamp_of o ≡ t → ⊥) ops → list_any (same_stamp t) (map stamp_of (filter p ops)) ≡ false
+  none_of : (p : Operation → Bool) (ops : List Operation) → AllByRecursion (λ (o : Operation). stamp_of o ≡ t → ⊥) ops → list_any (same_stamp t) (map stamp_of (filter p ops)) ≡ false
   none_of p [] n = refl
   none_of p (o ∷ ops) n = elim (cases_Bool (p o)) [
     | inl e ↦ rw (e, not_same (stamp_of o) n.0) (none_of p ops n.1)
     | inr e ↦ rw e (none_of p ops n.1)
   ]
 
-  undeleted_told : (s : List Cell) → Each (λ (q : Fact). list_any (same_stamp t) q.deletions ≡ false) (map (fact h) s)
+  undeleted_told : (s : List Cell) → AllByRecursion (λ (q : Fact). list_any (same_stamp t) q.deletions ≡ false) (map (fact h) s)
   undeleted_told [] = tt
   undeleted_told (c ∷ s) = (ap (list_any (same_stamp t)) (lawful_deleters h l c) ∙ none_of (λ o. deletes h o c) (newest_first h) fresh, undeleted_told s)
 
-  pub undeleted_all : (fs : List Fragment) → Each IsFilled fs → Tell fs h → Each (λ (f : Fragment). list_any (same_stamp t) f.deletions ≡ false) fs
-  undeleted_all fs e s = of_facts (λ u v d. list_any (same_stamp t) d ≡ false) fs e (subst (Each (λ (q : Fact). list_any (same_stamp t) q.deletions ≡ false)) (sym s) (undeleted_told (cells (seq h))))
+  pub undeleted_all : (fs : List Fragment) → AllByRecursion IsFilled fs → Tell fs h → AllByRecursion (λ (f : Fragment). list_any (same_stamp t) f.deletions ≡ false) fs
+  undeleted_all fs e s = of_facts (λ u v d. list_any (same_stamp t) d ≡ false) fs e (subst (AllByRecursion (λ (q : Fact). list_any (same_stamp t) q.deletions ≡ false)) (sym s) (undeleted_told (cells (seq h))))
 
-  others : (u : List UndoEntry) (fs : List Fragment) → Each IsFilled fs → Each (EndsBefore t 0) fs → Each (λ (f : Fragment). list_any (same_stamp t) f.deletions ≡ false) fs → Each (IsByCounts u) fs
-      → Each (IsOld u t) (runs fs)
+  others : (u : List UndoEntry) (fs : List Fragment) → AllByRecursion IsFilled fs → AllByRecursion (EndsBefore t 0) fs → AllByRecursion (λ (f : Fragment). list_any (same_stamp t) f.deletions ≡ false) fs → AllByRecursion (IsByCounts u) fs
+      → AllByRecursion (IsOld u t) (runs fs)
   others u [] f b d s = tt
   others u (x ∷ fs) f b d s = (
     record { other = not_same x.stamp (λ e. let k = b.0 e in let n = f.0.0 in absurd (omega (arith, k, n))); free = d.0; shown = s.0 },
@@ -88,7 +87,7 @@ module _ (h : History) (op : Operation) (u : List UndoEntry) (fs : List Fragment
   pub fits : Fits h op
   fits = let k = checked_of h op g in fits_of h op (lawful_ready h l).0 k.0 k.1
 
-  old : Each (IsOld u t) (runs fs)
+  old : AllByRecursion (IsOld u t) (runs fs)
   old = others h t l fits.fresh u fs s.filled (indexed_start fs i u h op s l g).before (undeleted_all h t l fits.fresh fs s.filled s.cells) (shown_by_counts h u fs s.counts s.filled s.cells)
 
   pub placed_runs : runs placed_fragments ≡ W.walk (marking u t v) (sees v) t 0 0 (changing (pieces_of op)) (runs fs)

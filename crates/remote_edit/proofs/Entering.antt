@@ -1,9 +1,9 @@
 -- The index in the steps of a gather.
 use Rattle.std.proofs.Common.{◌≡◌, ℕ, ◌+◌, ◌<◌, ◌≤◌, ◌^◌, Option, Bool, cond, true, false, List, [], ◌∷◌, ◌++◌, length, take, refl, sym, ap, ◌∙◌, arith, subst, Some, None, append_assoc, length-append}
+use Rattle.std.specs.List.{AllByRecursion}
 use Rattle.lamport_clock.specs.declared.stamp.Lamport.{Lamport}
 use Rattle.lamport_clock.specs.Versions.{Entries}
 use Rattle.op_model.specs.Facts.{with_deletion}
-use Rattle.op_model.specs.Sorted.{Each}
 use Rattle.undo_map.specs.declared.entry.UndoEntry.{UndoEntry}
 use Rattle.fragments.specs.declared.fragment.Fragment.{Fragment}
 use Rattle.fragments.specs.declared.index_entry.IndexEntry.{IndexEntry}
@@ -53,7 +53,7 @@ module _ (t : Lamport) (k : ℕ) (pre rest : List Fragment) (f a b : Fragment) (
       let i : length (with_entry (entry_of a) w) ≡ length (with_entry (entry_of (front f n id)) w) = ap (λ (z : Fragment). length (with_entry (entry_of z) w)) ea in
       omega arith
 
-  both_filled : Each IsFilled (front f n id ∷ back f n ∷ [])
+  both_filled : AllByRecursion IsFilled (front f n id ∷ back f n ∷ [])
   both_filled = let o = filled_back pre (f ∷ tail rest) fi_of.0 in let o1 = o.0.1 in ((h, omega arith), (((omega arith), (omega arith)), tt))
 
   split_indexed : IsIndexed t k (pre ++ front f n id ∷ back f n ∷ tail rest) (with_entry (entry_of b) (with_entry (entry_of a) w))

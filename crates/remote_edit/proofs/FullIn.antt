@@ -1,13 +1,13 @@
 -- Where shown cells are among all cells.
 use Rattle.std.proofs.Common.{◌≡◌, ℕ, zero, suc, ◌+◌, ◌-◌, ◌<◌, ◌≤◌, ltb, Bool, true, false, cond, List, [], ◌∷◌, ◌++◌, length, map, take, drop, get_or, refl, sym, ap, ◌∙◌, arith, inl, inr, subst}
+use Rattle.std.specs.List.{AllByRecursion}
 use Rattle.std.proofs.lemmas.Bool.{cases_Bool, lt-ltb, ltb-true, ltb-false}
 use Rattle.tree_cursor.specs.Places.{place_behind, seek_count}
 use Rattle.tree_cursor.specs.Counting.{number_passes}
-use Rattle.tree_cursor.specs.Place.{Place}
+use Rattle.tree_cursor.specs.Place.{CursorState}
 use Rattle.tree_cursor.specs.declared.traits.Bias.TheVariants.{Right}
 use Rattle.lamport_clock.specs.declared.stamp.Lamport.{Lamport}
 use Rattle.op_model.specs.declared.operation.Piece.{Piece}
-use Rattle.op_model.specs.Sorted.{Each}
 use Rattle.op_model.specs.Histories.{History}
 use Rattle.op_model.specs.Cells.{Cell, seq, cells}
 use Rattle.op_model.specs.Shown.{shown}
@@ -123,7 +123,7 @@ seek_hidden (f ∷ fs) o a b l h = go f.visible refl h (λ c d. seek_hidden fs o
         rw t (omega (arith, i, n))
 
 -- what a cursor's seek tells
-pub found : (xs : List Fragment) (o : ℕ) (cur new : Place Fragment Passed) (start got : Passed)
+pub found : (xs : List Fragment) (o : ℕ) (cur new : CursorState Fragment Passed) (start got : Passed)
     → cur.items ≡ xs → cur.index ≡ 0 → cur.from ≡ start → start.visible ≡ 0 → start.hidden ≡ 0
     → new ≡ record cur { index = cur.index + seek_count move_passed summary_of (λ p. number_passes o p.0 Right) (place_behind move_passed summary_of (cur.from.visible, cur.from.hidden) (take cur.index cur.items)) (drop cur.index cur.items) }
     → (got.visible, got.hidden) ≡ place_behind move_passed summary_of (new.from.visible, new.from.hidden) (take new.index new.items)
@@ -132,10 +132,10 @@ found xs o cur new start got ei ej ef ev eh em eg l =
     let fv : cur.from.visible ≡ 0 = ap (λ (p : Passed). p.visible) ef ∙ ev in
     let fh : cur.from.hidden ≡ 0 = ap (λ (p : Passed). p.hidden) ef ∙ eh in
     let count : ℕ → List Fragment → ℕ → ℕ → ℕ = λ j ys a b. j + seek_count move_passed summary_of (λ p. number_passes o p.0 Right) (place_behind move_passed summary_of (a, b) (take j ys)) (drop j ys) in
-    let k : new.index ≡ 0 + sought o 0 0 xs = ap (λ (z : Place Fragment Passed). z.index) em ∙ ap (λ (j : ℕ). count j cur.items cur.from.visible cur.from.hidden) ej ∙ ap (λ (ys : List Fragment). count 0 ys cur.from.visible cur.from.hidden) ei
+    let k : new.index ≡ 0 + sought o 0 0 xs = ap (λ (z : CursorState Fragment Passed). z.index) em ∙ ap (λ (j : ℕ). count j cur.items cur.from.visible cur.from.hidden) ej ∙ ap (λ (ys : List Fragment). count 0 ys cur.from.visible cur.from.hidden) ei
     ∙ ap (λ (a : ℕ). count 0 xs a cur.from.hidden) fv ∙ ap (λ (b : ℕ). count 0 xs 0 b) fh in
-    let items : new.items ≡ xs = ap (λ (z : Place Fragment Passed). z.items) em ∙ ei in
-    let from : new.from ≡ start = ap (λ (z : Place Fragment Passed). z.from) em ∙ ef in
+    let items : new.items ≡ xs = ap (λ (z : CursorState Fragment Passed). z.items) em ∙ ei in
+    let from : new.from ≡ start = ap (λ (z : CursorState Fragment Passed). z.from) em ∙ ef in
     let nv : new.from.visible ≡ 0 = ap (λ (p : Passed). p.visible) from ∙ ev in
     let nh : new.from.hidden ≡ 0 = ap (λ (p : Passed). p.hidden) from ∙ eh in
     let of : ℕ → List Fragment → ℕ → ℕ → ℕ = λ j ys a b. (place_behind move_passed summary_of (a, b) (take j ys)).1 in
@@ -149,7 +149,7 @@ found xs o cur new start got ei ej ef ev eh em eg l =
 
 -- ---- each of a list
 
-pub each_at : (P : Piece → Type 0) (ps : List Piece) (i : ℕ) (p : Piece) → Each P ps → i < length ps → p ≡ get_or ps i p → P p
+pub each_at : (P : Piece → Type 0) (ps : List Piece) (i : ℕ) (p : Piece) → AllByRecursion P ps → i < length ps → p ≡ get_or ps i p → P p
 each_at P [] i p e l q = absurd (omega (arith, l))
 each_at P (x ∷ ps) zero p e l q = subst P (sym q) e.0
 each_at P (x ∷ ps) (suc i) p e l q = each_at P ps i p e.1 (omega (arith, l)) q

@@ -1,6 +1,6 @@
 -- Steps of a walk that gathers what comes in the place of a range.
 use Rattle.std.proofs.Common.{◌≡◌, ℕ, zero, suc, ◌+◌, ◌-◌, ◌<◌, ◌≤◌, ◌^◌, Bool, Option, List, [], ◌∷◌, ◌++◌, length, take, drop, refl, sym, ap, ◌∙◌, arith, subst, not, ◌&&◌, true, false, Some, None, append_assoc}
-use Rattle.std.specs.List.{slice_get}
+use Rattle.std.specs.List.{AllByRecursion, slice_get}
 use Rattle.std.proofs.lemmas.Bool.{and_parts}
 use Rattle.std.proofs.lemmas.List.{append-nil}
 use Rattle.lamport_clock.specs.declared.stamp.Lamport.{Lamport}
@@ -9,7 +9,6 @@ use Rattle.lamport_clock.specs.Versions.{Entries, sees}
 use Rattle.locators.specs.Locator.{between_digits}
 use Rattle.undo_map.specs.declared.entry.UndoEntry.{UndoEntry}
 use Rattle.fragments.specs.declared.fragment.Fragment.{Fragment}
-use Rattle.op_model.specs.Sorted.{Each}
 use Rattle.fragments.specs.Stand.{IsFilled}
 use Rattle.remote_edit.specs.Marks.{touch}
 use Rattle.remote_edit.specs.Walk.{bytes, seen_bytes, Fit, last_id, front, back, new_fragment, next_id, zip, advance, skip_later, put_new}
@@ -44,7 +43,7 @@ fit_one pre r f h =
     let h1 = h.1 in (k.0.0, k.0.1, omega arith)
 
 -- others in the place of one, with as many cells
-pub fit_swap : (pre r ys : List Fragment) (f : Fragment) → Fit (pre ++ f ∷ r) → Each IsFilled ys → bytes ys ≡ f.len → Fit (pre ++ (ys ++ r)) × (bytes (pre ++ (ys ++ r)) ≡ bytes (pre ++ f ∷ r))
+pub fit_swap : (pre r ys : List Fragment) (f : Fragment) → Fit (pre ++ f ∷ r) → AllByRecursion IsFilled ys → bytes ys ≡ f.len → Fit (pre ++ (ys ++ r)) × (bytes (pre ++ (ys ++ r)) ≡ bytes (pre ++ f ∷ r))
 fit_swap pre r ys f h k e =
     let b1 = bytes_append pre (f ∷ r) in
     let b2 = bytes_append pre (ys ++ r) in
@@ -76,7 +75,7 @@ module _ (m : Option (List UndoEntry)) (t : Lamport) (v : Entries) where
       let gl : g.len ≡ f.len = ap (λ (z : Fragment). z.len) e ∙ (touch_len m t v f).0 in
       let go : g.offset ≡ f.offset = ap (λ (z : Fragment). z.offset) e ∙ (touch_len m t v f).1 in
       let gs : g.stamp ≡ f.stamp = ap (λ (z : Fragment). z.stamp) e ∙ touch_stamp m t v f in
-      let fl : Each IsFilled (g ∷ []) = (((omega arith), (omega arith)), tt) in
+      let fl : AllByRecursion IsFilled (g ∷ []) = (((omega arith), (omega arith)), tt) in
       let w = fit_swap pre r (g ∷ []) f k fl (omega arith) in
       let a = append_assoc pre (g ∷ []) r in
       record {
@@ -98,7 +97,7 @@ module _ (m : Option (List UndoEntry)) (t : Lamport) (v : Entries) where
       let gs : g.stamp ≡ f.stamp = ap (λ (z : Fragment). z.stamp) e ∙ touch_stamp m t v a in
       let bl : b.len ≡ f.len - n = ap (λ (z : Fragment). z.len) d in
       let bo : b.offset ≡ f.offset + n = ap (λ (z : Fragment). z.offset) d in
-      let fl : Each IsFilled (g ∷ b ∷ []) = (((omega arith), (omega arith)), (((omega arith), (omega arith)), tt)) in
+      let fl : AllByRecursion IsFilled (g ∷ b ∷ []) = (((omega arith), (omega arith)), (((omega arith), (omega arith)), tt)) in
       let w = fit_swap pre r (g ∷ b ∷ []) f k fl (omega arith) in
       let c = append_assoc pre (g ∷ []) (b ∷ r) in
       record {

@@ -2,11 +2,12 @@
 use Rattle.std.proofs.Common.{◌≡◌, ℕ, zero, suc, ◌+◌, ◌<◌, ◌≤◌, min, Bool, true, false, cond, List, [], ◌∷◌, length, map, drop, refl, sym, ap, ◌∙◌, arith, subst, Some, None}
 use Rattle.std.specs.List.{slice_get}
 use Rattle.sum_tree.specs.Laws.{fold}
-use Rattle.sum_tree.specs.Spliced.{spliced}
+use Rattle.sum_tree.specs.Spliced.{splice_list}
 use Rattle.tree_cursor.specs.Places.{filter_count}
 use Rattle.fragments.specs.declared.fragment.Fragment.{Fragment}
 use Rattle.fragments.specs.declared.fragment.FragmentSummary.{FragmentSummary}
 use Rattle.fragments.specs.Summaries.{no_fragments, summaries, summary_of, SummaryFits}
+use Rattle.std.proofs.lemmas.Option.{same_Some}
 
 -- the first i changed, the others as they were
 abbrev pub half : {A : Type 0} → (A → A) → ℕ → List A → List A
@@ -25,22 +26,19 @@ half_long m zero xs = refl
 half_long m (suc i) [] = refl
 half_long m (suc i) (x ∷ xs) = ap suc (half_long m i xs)
 
-some_is : {A : Type 0} (a b : A) → Some a ≡ Some b → a ≡ b
-some_is a b e = cc
-
-put_next : {A : Type 0} (m : A → A) (i : ℕ) (xs : List A) (x : A) → slice_get xs i ≡ Some x → spliced i (suc i) (m x ∷ []) (half m i xs) ≡ half m (suc i) xs
+put_next : {A : Type 0} (m : A → A) (i : ℕ) (xs : List A) (x : A) → slice_get xs i ≡ Some x → splice_list i (suc i) (m x ∷ []) (half m i xs) ≡ half m (suc i) xs
 put_next m zero [] x h = cc
-put_next m zero (y ∷ xs) x h = let e : y ≡ x = some_is y x h in ap (λ z. m z ∷ xs) (sym e)
+put_next m zero (y ∷ xs) x h = let e : y ≡ x = same_Some y x h in ap (λ z. m z ∷ xs) (sym e)
 put_next m (suc i) [] x h = cc
 put_next m (suc i) (y ∷ xs) x h = ap (λ ys. m y ∷ ys) (put_next m i xs x h)
 
 -- one more, put in
-pub half_put : {A : Type 0} (m : A → A) (i : ℕ) (xs : List A) (x : A) → slice_get xs i ≡ Some x → spliced i (i + 1) (m x ∷ []) (half m i xs) ≡ half m (i + 1) xs
-half_put m i xs x h = let q : suc i ≡ i + 1 = omega arith in subst (λ j. spliced i j (m x ∷ []) (half m i xs) ≡ half m j xs) q (put_next m i xs x h)
+pub half_put : {A : Type 0} (m : A → A) (i : ℕ) (xs : List A) (x : A) → slice_get xs i ≡ Some x → splice_list i (i + 1) (m x ∷ []) (half m i xs) ≡ half m (i + 1) xs
+half_put m i xs x h = let q : suc i ≡ i + 1 = omega arith in subst (λ j. splice_list i j (m x ∷ []) (half m i xs) ≡ half m j xs) q (put_next m i xs x h)
 
 same_next : {A : Type 0} (m : A → A) (i : ℕ) (xs : List A) (x : A) → slice_get xs i ≡ Some x → m x ≡ x → half m (suc i) xs ≡ half m i xs
 same_next m zero [] x h e = cc
-same_next m zero (y ∷ xs) x h e = let k : y ≡ x = some_is y x h in ap (λ z. z ∷ xs) (ap m k ∙ e ∙ sym k)
+same_next m zero (y ∷ xs) x h e = let k : y ≡ x = same_Some y x h in ap (λ z. z ∷ xs) (ap m k ∙ e ∙ sym k)
 same_next m (suc i) [] x h e = cc
 same_next m (suc i) (y ∷ xs) x h e = ap (λ ys. m y ∷ ys) (same_next m i xs x h e)
 
@@ -84,23 +82,23 @@ half_get m zero xs = refl
 half_get m (suc i) [] = refl
 half_get m (suc i) (x ∷ xs) = half_get m i xs
 
-long_next : {A : Type 0} (i : ℕ) (xs : List A) (y : A) → i < length xs → length (spliced i (suc i) (y ∷ []) xs) ≡ length xs
+long_next : {A : Type 0} (i : ℕ) (xs : List A) (y : A) → i < length xs → length (splice_list i (suc i) (y ∷ []) xs) ≡ length xs
 long_next zero [] y l = absurd (omega arith)
 long_next zero (x ∷ xs) y l = refl
 long_next (suc i) [] y l = absurd (omega arith)
 long_next (suc i) (x ∷ xs) y l = ap suc (long_next i xs y (omega arith))
 
-pub spliced_long : {A : Type 0} (i : ℕ) (xs : List A) (y : A) → i + 1 ≤ length xs → length (spliced i (i + 1) (y ∷ []) xs) ≡ length xs
-spliced_long i xs y l = let q : suc i ≡ i + 1 = omega arith in subst (λ j. length (spliced i j (y ∷ []) xs) ≡ length xs) q (long_next i xs y (omega arith))
+pub spliced_long : {A : Type 0} (i : ℕ) (xs : List A) (y : A) → i + 1 ≤ length xs → length (splice_list i (i + 1) (y ∷ []) xs) ≡ length xs
+spliced_long i xs y l = let q : suc i ≡ i + 1 = omega arith in subst (λ j. length (splice_list i j (y ∷ []) xs) ≡ length xs) q (long_next i xs y (omega arith))
 
-self_next : {A : Type 0} (i : ℕ) (xs : List A) (x : A) → slice_get xs i ≡ Some x → spliced i (suc i) (x ∷ []) xs ≡ xs
+self_next : {A : Type 0} (i : ℕ) (xs : List A) (x : A) → slice_get xs i ≡ Some x → splice_list i (suc i) (x ∷ []) xs ≡ xs
 self_next i [] x h = cc
-self_next zero (y ∷ xs) x h = ap (λ z. z ∷ xs) (sym (some_is y x h))
+self_next zero (y ∷ xs) x h = ap (λ z. z ∷ xs) (sym (same_Some y x h))
 self_next (suc i) (y ∷ xs) x h = ap (λ ys. y ∷ ys) (self_next i xs x h)
 
 -- an item in its own place changes nothing
-pub spliced_self : {A : Type 0} (i : ℕ) (xs : List A) (x y : A) → slice_get xs i ≡ Some x → y ≡ x → xs ≡ spliced i (i + 1) (y ∷ []) xs
-spliced_self i xs x y h e = let q : suc i ≡ i + 1 = omega arith in sym (subst (λ j. spliced i j (y ∷ []) xs ≡ xs) q (ap (λ z. spliced i (suc i) (z ∷ []) xs) e ∙ self_next i xs x h))
+pub spliced_self : {A : Type 0} (i : ℕ) (xs : List A) (x y : A) → slice_get xs i ≡ Some x → y ≡ x → xs ≡ splice_list i (i + 1) (y ∷ []) xs
+spliced_self i xs x y h e = let q : suc i ≡ i + 1 = omega arith in sym (subst (λ j. splice_list i j (y ∷ []) xs ≡ xs) q (ap (λ z. splice_list i (suc i) (z ∷ []) xs) e ∙ self_next i xs x h))
 
 -- ---- room
 
@@ -133,7 +131,7 @@ half_fits m k i fs h = let e = half_cells m k i fs no_fragments no_fragments ref
 pub record Turn {A : Type 0} (m : A → A) (fs gs : List A) (x : A) (next i after : ℕ) : Type 0 where
   pub here : slice_get fs i ≡ Some x
   pub stands : slice_get gs i ≡ Some x
-  pub put : spliced i (i + 1) (m x ∷ []) gs ≡ half m (i + 1) fs
+  pub put : splice_list i (i + 1) (m x ∷ []) gs ≡ half m (i + 1) fs
   pub on : after ≡ i + 1
   pub within : i < length fs
   pub forward : next ≤ i
@@ -150,7 +148,7 @@ turn {A} m keeps sum_of fs items gs x next i after same e d s q r =
     record {
       here = here;
       stands = ap (λ (z : List A). slice_get z i) half_is ∙ half_get m i fs ∙ here;
-      put = ap (spliced i (i + 1) (m x ∷ [])) half_is ∙ half_put m i fs x here;
+      put = ap (splice_list i (i + 1) (m x ∷ [])) half_is ∙ half_put m i fs x here;
       on = omega (arith, r, l, long);
       within = l;
       forward = omega (arith, q);

@@ -1,6 +1,7 @@
 -- An index keeps the entries of fragments that are split and put in.
+use Rattle.op_model.proofs.Elements.{each_left, each_right, each_map, each_append}
 use Rattle.std.proofs.Common.{◌≡◌, ◌⊎◌, ◌↔◌, ℕ, suc, ◌+◌, ◌-◌, ◌<◌, ◌≤◌, ◌^◌, List, [], ◌∷◌, ◌++◌, length, map, refl, sym, ap, ◌∙◌, arith, subst, inl, inr, Some, append_assoc}
-use Rattle.std.specs.List.{slice_index_or}
+use Rattle.std.specs.List.{AllByRecursion, slice_index_or}
 use Rattle.std.specs.Cmp.Lexicographic.{nat_list_cmp_total}
 use Rattle.std.specs.declared.cmp.Ordering.TheVariants.{Less}
 use Rattle.std.proofs.lemmas.Bool.{cases_lt}
@@ -8,8 +9,8 @@ use Rattle.std.proofs.lemmas.Cmp.{tied_itself}
 use Rattle.std.proofs.lemmas.List.{length-map}
 use Rattle.lamport_clock.specs.declared.stamp.Lamport.{Lamport}
 use Rattle.locators.specs.Locator.{IsLess}
-use Rattle.op_model.specs.Sorted.{Each, EachPair, Member}
-use Rattle.op_model.proofs.CellsOnce.{each_member}
+use Rattle.op_model.specs.Sorted.{EachPair, Member}
+use Rattle.op_model.proofs.order.CellsOnce.{each_member}
 use Rattle.fragments.specs.declared.fragment.Fragment.{Fragment}
 use Rattle.fragments.specs.declared.index_entry.IndexEntry.{IndexEntry}
 use Rattle.fragments.specs.declared.index_entry.IndexKey.{IndexKey}
@@ -17,20 +18,18 @@ use Rattle.fragments.specs.Index.{key_of, key_cmp, key_order, IsAscending, with_
 use Rattle.fragments.specs.Stand.{IsFilled, Rise, entry_of, IsIndexOf}
 use Rattle.fragments.proofs.Entries.{entry_takes_its_place, member_left, member_right, member_either}
 use Rattle.remote_edit.specs.Walk.{front, back, new_fragment}
-use Rattle.op_model.proofs.Insertion.{each_map}
-use Rattle.op_model.proofs.Restricted.{each_append}
-use Rattle.op_model.proofs.WholeTexts.{each_left, each_right}
 use Rattle.remote_edit.specs.Indexes.{IsApart, EndsBefore, IsIndexed}
+use Rattle.fragments.proofs.Searching.{ascending_rest}
 
 -- ---- lists
 
 -- one is put in
-pairs_in : {A : Type 0} (R : A → A → Type 0) (xs ys : List A) (a : A) → EachPair R (xs ++ ys) → Each (λ x. R x a) xs → Each (R a) ys → EachPair R (xs ++ a ∷ ys)
+pairs_in : {A : Type 0} (R : A → A → Type 0) (xs ys : List A) (a : A) → EachPair R (xs ++ ys) → AllByRecursion (λ x. R x a) xs → AllByRecursion (R a) ys → EachPair R (xs ++ a ∷ ys)
 pairs_in R [] ys a h k l = (l, h)
 pairs_in R (x ∷ xs) ys a h k l = (each_append (R x) xs (a ∷ ys) (each_left (R x) xs ys h.0) (k.0, each_right (R x) xs ys h.0), pairs_in R xs ys a h.1 k.1 l)
 
 -- one is left out
-pairs_out : {A : Type 0} (R : A → A → Type 0) (xs ys : List A) (a : A) → EachPair R (xs ++ a ∷ ys) → EachPair R (xs ++ ys) × Each (λ x. R x a) xs × Each (R a) ys
+pairs_out : {A : Type 0} (R : A → A → Type 0) (xs ys : List A) (a : A) → EachPair R (xs ++ a ∷ ys) → EachPair R (xs ++ ys) × AllByRecursion (λ x. R x a) xs × AllByRecursion (R a) ys
 pairs_out R [] ys a h = (h.1, tt, h.0)
 pairs_out R (x ∷ xs) ys a h =
     let ih = pairs_out R xs ys a h.1 in
@@ -71,9 +70,6 @@ place_of x d [] m = absurd m
 place_of x d (y ∷ xs) (inl e) = (0, omega arith, sym e)
 place_of x d (y ∷ xs) (inr m) = let k = place_of x d xs m in let l = k.1 in (suc k.0, omega arith, k.2)
 
-ascending_tail : (e : IndexEntry) (w : List IndexEntry) → IsAscending (e ∷ w) → IsAscending w
-ascending_tail e w h = λ i j d l m. h (suc i) (suc j) d (omega arith) (omega arith)
-
 ascending_first : (e z : IndexEntry) (w : List IndexEntry) → IsAscending (e ∷ w) → Member z w → Differ e z
 ascending_first e z w h m q =
     let k = place_of z e w m in
@@ -84,9 +80,9 @@ ascending_first e z w h m q =
 
 ascending_differ : (w : List IndexEntry) → IsAscending w → EachPair Differ w
 ascending_differ [] h = tt
-ascending_differ (e ∷ w) h = (all w (λ z m. ascending_first e z w h m), ascending_differ w (ascending_tail e w h))
+ascending_differ (e ∷ w) h = (all w (λ z m. ascending_first e z w h m), ascending_differ w (ascending_rest e w h))
   where
-    all : (s : List IndexEntry) → ((z : IndexEntry) → Member z s → Differ e z) → Each (Differ e) s
+    all : (s : List IndexEntry) → ((z : IndexEntry) → Member z s → Differ e z) → AllByRecursion (Differ e) s
     all [] f = tt
     all (x ∷ s) f = (f x (inl refl), all s (λ z m. f z (inr m)))
 
@@ -98,7 +94,7 @@ few_entries fs w a i = let k = within w (map entry_of fs) (ascending_differ w a)
 abbrev OtherKey : IndexEntry → Fragment → Type 0
 OtherKey x g = key_of (entry_of g) ≡ key_of x → ⊥
 
-other_keys : (x e : IndexEntry) (fs : List Fragment) → Each (OtherKey x) fs → Member e (map entry_of fs) → key_of e ≡ key_of x → ⊥
+other_keys : (x e : IndexEntry) (fs : List Fragment) → AllByRecursion (OtherKey x) fs → Member e (map entry_of fs) → key_of e ≡ key_of x → ⊥
 other_keys x e [] h m = absurd m
 other_keys x e (g ∷ fs) h (inl q) = λ k. h.0 (ap key_of (sym q) ∙ k)
 other_keys x e (g ∷ fs) h (inr m) = other_keys x e fs h.1 m
@@ -131,7 +127,7 @@ mid_entry e (x ∷ pre) r a = go (mid_entry e pre r a)
         from (inr (inr n)) = inr (ih.1 (inr n))
 
 -- an entry more, of a key that no other fragment has
-entry_in : (pre r : List Fragment) (a : Fragment) (w : List IndexEntry) → IsAscending w → IsIndexOf (pre ++ r) w → Each (OtherKey (entry_of a)) (pre ++ r) → IsIndexOf (pre ++ a ∷ r) (with_entry (entry_of a) w)
+entry_in : (pre r : List Fragment) (a : Fragment) (w : List IndexEntry) → IsAscending w → IsIndexOf (pre ++ r) w → AllByRecursion (OtherKey (entry_of a)) (pre ++ r) → IsIndexOf (pre ++ a ∷ r) (with_entry (entry_of a) w)
 entry_in pre r a w s i o e = (to, from)
   where
     p : Member e (with_entry (entry_of a) w) ↔ ((e ≡ entry_of a) ⊎ (Member e w × (key_of e ≡ key_of (entry_of a) → ⊥)))
@@ -144,7 +140,7 @@ entry_in pre r a w s i o e = (to, from)
     from m = p.1 (elim ((mid_entry e pre r a).0 m) [ inl q ↦ inl q | inr n ↦ inr ((i e).1 n, other_keys (entry_of a) e (pre ++ r) o n) ])
 
 -- an entry in the place of that of a fragment with its key
-entry_for_entry : (pre r : List Fragment) (f a : Fragment) (w : List IndexEntry) → IsAscending w → key_of (entry_of a) ≡ key_of (entry_of f) → IsIndexOf (pre ++ f ∷ r) w → Each (OtherKey (entry_of a)) (pre ++ r)
+entry_for_entry : (pre r : List Fragment) (f a : Fragment) (w : List IndexEntry) → IsAscending w → key_of (entry_of a) ≡ key_of (entry_of f) → IsIndexOf (pre ++ f ∷ r) w → AllByRecursion (OtherKey (entry_of a)) (pre ++ r)
     → IsIndexOf (pre ++ a ∷ r) (with_entry (entry_of a) w)
 entry_for_entry pre r f a w s same i o e = (to, from)
   where
@@ -169,7 +165,7 @@ same_entries (x ∷ pre) r f g e = ap (λ z. entry_of x ∷ z) (same_entries pre
 
 -- another fragment's cells are among those of one
 swap_apart : (t : Lamport) (k : ℕ) (pre r : List Fragment) (f g : Fragment) → ((x : Fragment) → IsApart x f → IsApart x g) → (EndsBefore t k f → EndsBefore t k g)
-    → EachPair IsApart (pre ++ f ∷ r) → Each (EndsBefore t k) (pre ++ f ∷ r) → EachPair IsApart (pre ++ g ∷ r) × Each (EndsBefore t k) (pre ++ g ∷ r)
+    → EachPair IsApart (pre ++ f ∷ r) → AllByRecursion (EndsBefore t k) (pre ++ f ∷ r) → EachPair IsApart (pre ++ g ∷ r) × AllByRecursion (EndsBefore t k) (pre ++ g ∷ r)
 swap_apart t k pre r f g s l d b =
     let o = pairs_out IsApart pre r f d in
     let c = each_right (EndsBefore t k) pre (f ∷ r) b in (
@@ -191,15 +187,15 @@ indexed_same t k pre r f g w e l h =
     }
 
 -- keys of fragments apart from a
-all_other : (fs : List Fragment) (a : Fragment) → IsFilled a → Each IsFilled fs → Each (λ x. IsApart x a) fs → Each (OtherKey (entry_of a)) fs
+all_other : (fs : List Fragment) (a : Fragment) → IsFilled a → AllByRecursion IsFilled fs → AllByRecursion (λ x. IsApart x a) fs → AllByRecursion (OtherKey (entry_of a)) fs
 all_other [] a h k d = tt
 all_other (x ∷ fs) a h k d = (apart_key x a k.0 h d.0, all_other fs a h k.1 d.1)
 
-both_sides : (pre r : List Fragment) (a : Fragment) → Each (λ x. IsApart x a) pre → Each (IsApart a) r → Each (λ x. IsApart x a) (pre ++ r)
+both_sides : (pre r : List Fragment) (a : Fragment) → AllByRecursion (λ x. IsApart x a) pre → AllByRecursion (IsApart a) r → AllByRecursion (λ x. IsApart x a) (pre ++ r)
 both_sides pre r a h k = each_append (λ x. IsApart x a) pre r h (each_map (IsApart a) (λ x. IsApart x a) (λ x d. apart_back a x d) r k)
 
 -- the front has the key of the whole
-pub indexed_front : (t : Lamport) (k : ℕ) (pre r : List Fragment) (f : Fragment) (n : ℕ) (id : List ℕ) (w : List IndexEntry) → Each IsFilled (pre ++ f ∷ r) → 0 < n → n < f.len
+pub indexed_front : (t : Lamport) (k : ℕ) (pre r : List Fragment) (f : Fragment) (n : ℕ) (id : List ℕ) (w : List IndexEntry) → AllByRecursion IsFilled (pre ++ f ∷ r) → 0 < n → n < f.len
     → IsIndexed t k (pre ++ f ∷ r) w → IsIndexed t k (pre ++ front f n id ∷ r) (with_entry (entry_of (front f n id)) w)
 indexed_front t k pre r f n id w fl h l x =
     let a : Fragment = front f n id in
@@ -216,8 +212,8 @@ indexed_front t k pre r f n id w fl h l x =
     }
 
 -- a fragment with other cells is put in
-pub indexed_in : (t : Lamport) (k : ℕ) (pre r : List Fragment) (a : Fragment) (w : List IndexEntry) → IsFilled a → Each IsFilled (pre ++ r)
-    → Each (λ x. IsApart x a) (pre ++ r) → EndsBefore t k a → IsIndexed t k (pre ++ r) w → IsIndexed t k (pre ++ a ∷ r) (with_entry (entry_of a) w)
+pub indexed_in : (t : Lamport) (k : ℕ) (pre r : List Fragment) (a : Fragment) (w : List IndexEntry) → IsFilled a → AllByRecursion IsFilled (pre ++ r)
+    → AllByRecursion (λ x. IsApart x a) (pre ++ r) → EndsBefore t k a → IsIndexed t k (pre ++ r) w → IsIndexed t k (pre ++ a ∷ r) (with_entry (entry_of a) w)
 indexed_in t k pre r a w fa fl d b x = record {
   ascending = (entry_takes_its_place (entry_of a) w x.ascending).0;
   entries = entry_in pre r a w x.ascending x.entries (all_other (pre ++ r) a fa fl d);
@@ -226,7 +222,7 @@ indexed_in t k pre r a w fa fl d b x = record {
 }
 
 -- a fragment is split: the front has its key, and the back its id
-pub indexed_split : (t : Lamport) (k : ℕ) (pre r : List Fragment) (f : Fragment) (n : ℕ) (id : List ℕ) (w : List IndexEntry) → Each IsFilled (pre ++ f ∷ r) → 0 < n → n < f.len
+pub indexed_split : (t : Lamport) (k : ℕ) (pre r : List Fragment) (f : Fragment) (n : ℕ) (id : List ℕ) (w : List IndexEntry) → AllByRecursion IsFilled (pre ++ f ∷ r) → 0 < n → n < f.len
     → IsIndexed t k (pre ++ f ∷ r) w → IsIndexed t k (pre ++ front f n id ∷ back f n ∷ r) (with_entry (entry_of (back f n)) (with_entry (entry_of (front f n id)) w))
 indexed_split t k pre r f n id w fl h l x =
     let a : Fragment = front f n id in
@@ -241,16 +237,16 @@ indexed_split t k pre r f n id w fl h l x =
     let q : (pre ++ a ∷ []) ++ r ≡ pre ++ a ∷ r = append_assoc pre (a ∷ []) r in
     let apart : (y : Fragment) → IsApart y f → IsApart y b = λ y d e. elim (d e) [ inl m ↦ inl (omega arith) | inr m ↦ inr (omega arith) ] in
     let ab : IsApart a b = λ e. inl (omega arith) in
-    let d : Each (λ y. IsApart y b) (pre ++ a ∷ r) = each_append (λ y. IsApart y b) pre (a ∷ r) (each_map (λ y. IsApart y f) (λ y. IsApart y b) apart pre o.1)
+    let d : AllByRecursion (λ y. IsApart y b) (pre ++ a ∷ r) = each_append (λ y. IsApart y b) pre (a ∷ r) (each_map (λ y. IsApart y f) (λ y. IsApart y b) apart pre o.1)
     (ab, each_map (IsApart f) (λ y. IsApart y b) (λ y m. apart y (apart_back f y m)) r o.2) in
     let e : EndsBefore t k b = λ i. let m = (each_right (EndsBefore t k) pre (f ∷ r) x.before).0 i in omega arith in
-    let filled : Each IsFilled (pre ++ a ∷ r) = each_append IsFilled pre (a ∷ r) (each_left IsFilled pre (f ∷ r) fl) (fa, g.1) in
-    let z = indexed_in t k (pre ++ a ∷ []) r b w1 fb (subst (Each IsFilled) (sym q) filled) (subst (Each (λ y. IsApart y b)) (sym q) d) e
+    let filled : AllByRecursion IsFilled (pre ++ a ∷ r) = each_append IsFilled pre (a ∷ r) (each_left IsFilled pre (f ∷ r) fl) (fa, g.1) in
+    let z = indexed_in t k (pre ++ a ∷ []) r b w1 fb (subst (AllByRecursion IsFilled) (sym q) filled) (subst (AllByRecursion (λ y. IsApart y b)) (sym q) d) e
     (subst (λ (fs : List Fragment). IsIndexed t k fs w1) (sym q) x1) in
     subst (λ (fs : List Fragment). IsIndexed t k fs (with_entry (entry_of b) w1)) (append_assoc pre (a ∷ []) (b ∷ r)) z
 
 -- new cells are put in
-pub indexed_new : (t : Lamport) (k n : ℕ) (pre r : List Fragment) (id : List ℕ) (w : List IndexEntry) → Each IsFilled (pre ++ r) → 0 < n → k + n < 2 ^ 64
+pub indexed_new : (t : Lamport) (k n : ℕ) (pre r : List Fragment) (id : List ℕ) (w : List IndexEntry) → AllByRecursion IsFilled (pre ++ r) → 0 < n → k + n < 2 ^ 64
     → IsIndexed t k (pre ++ r) w → IsIndexed t (k + n) (pre ++ new_fragment t k n id ∷ r) (with_entry (entry_of (new_fragment t k n id)) w)
 indexed_new t k n pre r id w fl h l x =
     let a : Fragment = new_fragment t k n id in
@@ -268,7 +264,7 @@ rise_above low (f ∷ fs) g h (inl e) = subst (λ (z : Fragment). IsLess low z.i
 rise_above low (f ∷ fs) g h (inr m) = nat_list_cmp_total.trans low f.id g.id h.0 (rise_above f.id fs g h.2 m)
 
 -- fragments with different ids of which an index finds each cell
-pub apart_start : (low : List ℕ) (fs : List Fragment) (w : List IndexEntry) → Rise low fs → Each IsFilled fs → ((f : Fragment) → Member f fs → (j : ℕ) → j < f.len → id_for f.stamp (f.offset + j) w ≡ Some f.id) → EachPair IsApart fs
+pub apart_start : (low : List ℕ) (fs : List Fragment) (w : List IndexEntry) → Rise low fs → AllByRecursion IsFilled fs → ((f : Fragment) → Member f fs → (j : ℕ) → j < f.len → id_for f.stamp (f.offset + j) w ≡ Some f.id) → EachPair IsApart fs
 apart_start low [] w h fl d = tt
 apart_start low (f ∷ fs) w h fl d = (all fs (λ g m. m) fl.1, apart_start f.id fs w h.2 fl.1 (λ g m. d g (inr m)))
   where
@@ -296,6 +292,6 @@ apart_start low (f ∷ fs) w h fl d = (all fs (λ g m. m) fl.1, apart_start f.id
             let e : f.id ≡ g.id = some_is f.id g.id (sym xc ∙ yc) in
             less_self g.id (subst (λ (z : List ℕ). IsLess z g.id) e (rise_above f.id fs g h.2 m))
 
-    all : (s : List Fragment) → ((g : Fragment) → Member g s → Member g fs) → Each IsFilled s → Each (IsApart f) s
+    all : (s : List Fragment) → ((g : Fragment) → Member g s → Member g fs) → AllByRecursion IsFilled s → AllByRecursion (IsApart f) s
     all [] i k = tt
     all (g ∷ s) i k = (one g (i g (inl refl)) k.0.0, all s (λ z m. i z (inr m)) k.1)

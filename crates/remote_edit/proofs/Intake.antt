@@ -16,11 +16,9 @@ use Rattle.remote_edit.specs.declared.gather.Gather.{Gather}
 use Rattle.remote_edit.specs.Gathers.{ahead}
 use Rattle.remote_edit.specs.Starts.{AllSeen, intake, starts, IsFew, IsLeft, MakeFew}
 use Rattle.remote_edit.proofs.Starts.{later_none}
+use Rattle.remote_edit.proofs.Gathers.{headed}
 
 -- ---- a walk makes at most three fragments more
-
-length_more : (pre rest : List Fragment) (f : Fragment) (n : ℕ) → length (pre ++ f ∷ []) + length rest ≤ n → length pre + length (f ∷ rest) ≤ n
-length_more pre rest f n h = let e = length-append pre (f ∷ []) in omega (arith, e, h)
 
 abbrev all : Zip → ℕ
 all z = length z.pre + length z.rest
@@ -118,10 +116,6 @@ few_start v xs g n h = record { seen = h; few = λ r. omega arith }
 
 pub few_more : (v : Entries) (xs : List Fragment) (g g2 g3 : Gather) (n k m : ℕ) → IsFew v xs g n g2 k → IsFew v xs g2 k g3 m → IsFew v xs g n g3 m
 few_more v xs g g2 g3 n k m a b = record { seen = b.seen; few = λ r. (let x = a.few r in let y = b.few r in omega (arith, x, y)) }
-
-headed : (rest : List Fragment) (f : Fragment) → Some f ≡ head rest → rest ≡ f ∷ tail rest
-headed [] f e = cc
-headed (x ∷ xs) f e = let q : x ≡ f = cc in ap (λ (z : Fragment). z ∷ xs) q
 
 pub few_none : (v : Entries) (xs : List Fragment) (g : Gather) (n : ℕ) → AllSeen v (ahead xs g) → None ≡ head (ahead xs g) → IsFew v xs g n g 0
 few_none v xs g n h e = record {

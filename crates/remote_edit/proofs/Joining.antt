@@ -38,7 +38,7 @@ first_one (m ∷ ms) next b e = absurd (omega (arith, e))
 
 -- ---- what moves do one after the other
 
-twice : (a b c d : List ℕ) (r : Texts) → followed_by a b (followed_by c d r) ≡ followed_by (a ++ c) (b ++ d) r
+pub twice : (a b c d : List ℕ) (r : Texts) → followed_by a b (followed_by c d r) ≡ followed_by (a ++ c) (b ++ d) r
 twice a b c d r = ap (λ x. texts_of x (b ++ (d ++ r.hidden))) (sym (append_assoc a c r.shown)) ∙ ap (λ x. texts_of ((a ++ c) ++ r.shown) x) (sym (append_assoc b d r.hidden))
 
 dropped : (a b : ℕ) (s : List ℕ) → drop b (drop a s) ≡ drop (a + b) s
@@ -122,15 +122,6 @@ joined_same ms next s h n = elim (cases_Bool (length_of next == 0)) [
 ]
 
 -- ---- with other moves behind
-
-last_on : (ms : List Move) (next : Move) (ns : List Move) → DoTheSame (with_last ms next ++ ns) (ms ++ next ∷ ns)
-last_on [] next ns s h n = refl
-last_on (m ∷ []) next ns s h n = go (as_one m next) refl s h n
-  where
-    go : (o : Option Move) → as_one m next ≡ o → DoTheSame (join_moves o m next ++ ns) (m ∷ next ∷ ns)
-    go (Some one) e = one_same m next one ns e
-    go None e = λ s h n. refl
-last_on (m ∷ k ∷ ms) next ns s h n = same_behind (m ∷ []) (with_last (k ∷ ms) next ++ ns) ((k ∷ ms) ++ next ∷ ns) (last_on (k ∷ ms) next ns) s h n
 
 -- ---- how many bytes moves take
 

@@ -1,33 +1,33 @@
 -- An edit is later than the cells that it deletes.
 use Rattle.std.proofs.Common.{◌≡◌, ℕ, suc, ◌<◌, ◌⊎◌, eqb, Bool, true, false, cond, ◌&&◌, ◌||◌, List, [], ◌∷◌, map, refl, sym, ap, ◌∙◌, arith, inl, inr}
+use Rattle.std.specs.List.{AllByRecursion}
 use Rattle.std.proofs.lemmas.Bool.{cases_Bool, and_parts, leb-true}
 use Rattle.lamport_clock.specs.declared.stamp.Lamport.{Lamport}
 use Rattle.lamport_clock.specs.Stamps.{same_stamp}
 use Rattle.lamport_clock.specs.Versions.{sees, entry}
 use Rattle.op_model.specs.declared.operation.Operation.{Operation}
 use Rattle.op_model.specs.declared.operation.Piece.{Piece}
-use Rattle.op_model.specs.Sorted.{Each}
 use Rattle.op_model.specs.Operations.{stamp_of, version_of, pieces_of}
 use Rattle.op_model.specs.Histories.{History, In, newest_first}
-use Rattle.op_model.specs.Cells.{Cell, same_cell, Place, both, everything, seq_where, seq, cells}
+use Rattle.op_model.specs.Cells.{Cell, same_cell, PathCell, both, everything, seq_where, seq, cells}
 use Rattle.op_model.specs.Shown.{in_pieces, in_ranges, deleters_where}
 use Rattle.op_model.specs.Lawful.{Lawful}
 use Rattle.op_model.specs.Facts.{Fact, fact}
-use Rattle.op_model.proofs.PathOrder.{same_stamp_eq}
-use Rattle.op_model.proofs.Bytes.{passing}
-use Rattle.op_model.proofs.SameSets.{newest_same}
-use Rattle.op_model.proofs.Deleters.{hits, deleters_kept, deleters_unkept}
-use Rattle.op_model.proofs.Good.{lawful_ready}
+use Rattle.op_model.proofs.order.PathOrder.{same_stamp_eq}
+use Rattle.op_model.proofs.shown.Bytes.{passing}
+use Rattle.op_model.proofs.order.SameSets.{newest_same}
+use Rattle.op_model.proofs.shown.Deleters.{hits, deleters_kept, deleters_unkept}
+use Rattle.op_model.proofs.answers.Good.{lawful_ready}
 use Rattle.fragments.specs.declared.fragment.Fragment.{Fragment}
 use Rattle.fragments.specs.Stand.{Tell, IsFilled}
 use Rattle.remote_edit.proofs.OfFacts.{of_facts}
 
 -- the edits d are later than the cells of u
 abbrev pub AreLater : Lamport → List Lamport → Type 0
-AreLater u d = Each (λ (t : Lamport). u.value < t.value) d
+AreLater u d = AllByRecursion (λ (t : Lamport). u.value < t.value) d
 
 -- a cell that stands at a range of a sequence is a cell of it
-cell_there : (keep : Lamport → Bool) (s : List Place) (i : ℕ) (ps : List Piece) (c : Cell) → Each (λ (p : Place). keep p.cell.stamp ≡ true) s → in_ranges s i ps c ≡ true → keep c.stamp ≡ true
+cell_there : (keep : Lamport → Bool) (s : List PathCell) (i : ℕ) (ps : List Piece) (c : Cell) → AllByRecursion (λ (p : PathCell). keep p.cell.stamp ≡ true) s → in_ranges s i ps c ≡ true → keep c.stamp ≡ true
 unfolding same_cell
 cell_there keep [] i ps c e h = cc
 cell_there keep (p ∷ s) i ps c e h = go (cases_Bool (same_stamp p.cell.stamp c.stamp)) (cell_there keep s (suc i) ps c e.1)
@@ -64,7 +64,7 @@ deleters_later keep (o ∷ h) c a = elim (cases_Bool (keep (stamp_of o))) [
 abbrev IsLate : Fact → Type 0
 IsLate q = AreLater q.cell.stamp q.deletions
 
-told_late : (h : History) → Lawful h → (s : List Place) → Each IsLate (map (fact h) (cells s))
+told_late : (h : History) → Lawful h → (s : List PathCell) → AllByRecursion IsLate (map (fact h) (cells s))
 told_late h l [] = tt
 told_late h l (p ∷ s) = (deleters_later everything (newest_first h) p.cell (λ o i. (lawful_ready h l).0.above o ((newest_same h o).0 i)), told_late h l s)
 
@@ -72,5 +72,5 @@ abbrev pub HasLaterDeletions : Fragment → Type 0
 HasLaterDeletions f = AreLater f.stamp f.deletions
 
 -- the deletions of fragments that tell of a lawful history are later than what they delete
-pub late_deletions : (h : History) → Lawful h → (fs : List Fragment) → Each IsFilled fs → Tell fs h → Each HasLaterDeletions fs
+pub late_deletions : (h : History) → Lawful h → (fs : List Fragment) → AllByRecursion IsFilled fs → Tell fs h → AllByRecursion HasLaterDeletions fs
 late_deletions h l fs f t = of_facts (λ u v d. AreLater u d) fs f (rw t (told_late h l (seq h)))

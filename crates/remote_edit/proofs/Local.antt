@@ -2,7 +2,7 @@
 use Rattle.std.proofs.Common.{◌≡◌, ℕ, ◌+◌, ◌≤◌, false, List, [], ◌∷◌, length, map, Option, None, refl, sym, ap, ◌∙◌, arith}
 use Rattle.std.proofs.lemmas.Bool.{ltb-false}
 use Rattle.std.specs.Prelude.{nat_lt, ◌==◌, option_map}
-use Rattle.std.specs.List.{position}
+use Rattle.std.specs.List.{AllByRecursion, position}
 use Rattle.lamport_clock.specs.declared.stamp.Lamport.{Lamport}
 use Rattle.lamport_clock.specs.Versions.{Entries}
 use Rattle.op_model.specs.declared.operation.Piece.{Piece}
@@ -10,15 +10,14 @@ use Rattle.op_model.specs.declared.operation.Operation.TheVariants.{Edit}
 use Rattle.op_model.specs.declared.limits.Limits.{Limits as LimitsType}
 use Rattle.op_model.specs.declared.faults.EditFault.TheVariants.{Reversed, Overlap, PastEnd, InsideChar, TextLimit, ClockEnd, Full}
 use Rattle.op_model.specs.Choice.{first_of, when}
-use Rattle.op_model.specs.Sorted.{Each}
 use Rattle.op_model.specs.Operations.{text_total}
 use Rattle.op_model.specs.Histories.{History, version, clock}
 use Rattle.op_model.specs.Shown.{text}
 use Rattle.op_model.specs.Edits.{is_reversed, is_past, is_inside, overlap_from, piece_fault}
 use Rattle.op_model.specs.Limited.{excess}
-use Rattle.op_model.specs.Made.{made, full_piece, local_edit_fault}
-use Rattle.op_model.proofs.Passed.{first_none, map_none, position_none}
-use Rattle.op_model.proofs.WholeTexts.{byte_of}
+use Rattle.op_model.specs.Made.{local_edit, full_piece, local_edit_fault}
+use Rattle.op_model.proofs.answers.Passed.{first_none, map_none, position_none}
+use Rattle.op_model.proofs.texts.WholeTexts.{byte_of}
 use Rattle.fragments.specs.declared.fragment.Fragment.{Fragment}
 use Rattle.fragments.specs.Stand.{Tell}
 use Rattle.fragments.specs.Laws.{shown_len}
@@ -29,7 +28,7 @@ use Rattle.remote_edit.proofs.Texts.{text_bytes}
 text_long : (h : History) (fs : List Fragment) → Tell fs h → length (text h) ≡ shown_len fs
 text_long h fs e = sym (shown_long (byte_of h) fs ∙ ap length (text_bytes h fs e))
 
-ranges_in : (fs : List Fragment) (n : ℕ) (ps : List Piece) → n ≡ shown_len fs → Each (λ (p : Piece). is_reversed p ≡ false) ps → Each (λ (p : Piece). is_past n p ≡ false) ps → Each (IsInText fs) ps
+ranges_in : (fs : List Fragment) (n : ℕ) (ps : List Piece) → n ≡ shown_len fs → AllByRecursion (λ (p : Piece). is_reversed p ≡ false) ps → AllByRecursion (λ (p : Piece). is_past n p ≡ false) ps → AllByRecursion (IsInText fs) ps
 ranges_in fs n [] q a b = tt
 ranges_in fs n (p ∷ ps) q a b =
     let f : p.start ≤ p.end = ltb-false p.end p.start a.0 in
@@ -42,7 +41,7 @@ two_none a b c d e =
     let y = first_none b (c ∷ d ∷ []) x.1 in
     let z = first_none c (d ∷ []) y.1 in (x.0, z.0)
 
-pub in_text : (l : LimitsType) (h : History) (fs : List Fragment) (ps : List Piece) → Tell fs h → local_edit_fault l h ps ≡ None → Each (IsInText fs) ps
+pub in_text : (l : LimitsType) (h : History) (fs : List Fragment) (ps : List Piece) → Tell fs h → local_edit_fault l h ps ≡ None → AllByRecursion (IsInText fs) ps
 in_text l h fs ps e g =
     let n : ℕ = length (text h) in
     let a = first_none (piece_fault (text h) ps) (when (nat_lt 65536 (text_total ps)) (TextLimit (text_total ps)) ∷ when (clock h == 4294967295) ClockEnd
@@ -51,8 +50,8 @@ in_text l h fs ps e g =
     ranges_in fs n ps (text_long h fs e) (position_none is_reversed ps (map_none Reversed (position is_reversed ps) b.0)) (position_none (is_past n) ps (map_none (λ i. PastEnd i n) (position (is_past n) ps) b.1))
 
 pub made_is : (h : History) (stamp : Lamport) (ps qs : List Piece) (v : Entries) → stamp.value ≡ clock h → v ≡ version h → qs ≡ map (full_piece h) ps
-    → Edit (record { stamp = stamp; version = v; pieces = qs }) ≡ made h stamp.replica ps
-unfolding made
+    → Edit (record { stamp = stamp; version = v; pieces = qs }) ≡ local_edit h stamp.replica ps
+unfolding local_edit
 made_is h stamp ps qs v e f g = rw (f, g, ← e) refl
 
 pub same_total : (h : History) (ps : List Piece) → text_total (map (full_piece h) ps) ≡ text_total ps

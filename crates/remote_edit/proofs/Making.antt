@@ -14,8 +14,8 @@ use Rattle.op_model.specs.Lawful.{Lawful}
 use Rattle.op_model.specs.Walked.{Ordered}
 use Rattle.op_model.specs.Answers.{answer}
 use Rattle.op_model.specs.Answers.Answer.{Good}
-use Rattle.op_model.specs.Made.{made, full_piece}
-use Rattle.op_model.proofs.Counted.{good_ordered}
+use Rattle.op_model.specs.Made.{local_edit, full_piece}
+use Rattle.op_model.proofs.answers.Counted.{good_ordered}
 use Rattle.op_model.proofs.MainLaws.{edits_are_good}
 use Rattle.undo_map.specs.declared.entry.UndoEntry.{UndoEntry}
 use Rattle.fragments.specs.declared.fragment.Fragment.{Fragment}
@@ -43,7 +43,7 @@ in_order h op fs l g t b =
 module _ (fs : List Fragment) (w : List IndexEntry) (u : List UndoEntry) (t : Lamport) (v : Entries) (ps : List Piece) (m : MayMake fs w u t v ps) where
   pub may_place : (qs : List Piece) → qs ≡ map (full_piece m.history) ps → MayPlace fs w u (Edit (record { stamp = t; version = v; pieces = qs }))
   may_place qs e =
-      let o : Edit (record { stamp = t; version = v; pieces = qs }) ≡ made m.history t.replica ps = made_is m.history t ps qs v m.value m.sees e in
+      let o : Edit (record { stamp = t; version = v; pieces = qs }) ≡ local_edit m.history t.replica ps = made_is m.history t ps qs v m.value m.sees e in
       let g = (edits_are_good m.limits m.history t.replica ps m.lawful m.proper m.replica m.faultless).0 in
       let k : text_total qs ≡ text_total ps = ap text_total e ∙ same_total m.history ps in
       let r = m.room in

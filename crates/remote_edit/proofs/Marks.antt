@@ -7,20 +7,20 @@ use Rattle.lamport_clock.specs.Versions.{Entries, sees}
 use Rattle.op_model.specs.declared.operation.UndoCount.{UndoCount}
 use Rattle.op_model.specs.declared.operation.Operation.{Operation}
 use Rattle.op_model.specs.Operations.{stamp_of, is_edit}
-use Rattle.op_model.specs.Histories.{History, seen}
+use Rattle.op_model.specs.Histories.{History, seen_history}
 use Rattle.op_model.specs.Shown.{all_undone}
 use Rattle.op_model.specs.Facts.{was_visible, seen_by, edit_marking, with_deletion}
-use Rattle.op_model.proofs.OnePass.{no_counts}
+use Rattle.op_model.proofs.shown.OnePass.{no_counts}
 use Rattle.undo_map.specs.Counts.{count_of, count_seen, is_odd}
 use Rattle.undo_map.specs.Undos.{with_counts, undo_entries}
 use Rattle.undo_map.proofs.Entries.{undone_kept, undone_seen, entries_more}
 use Rattle.remote_edit.specs.Marks.{was_shown, is_shown, marking}
 
 -- a cell was shown in what a version sees
-pub was_told : (h : History) (v : Entries) (u : Lamport) (d : List Lamport) → was_visible (seen h v) v u d ≡ was_shown (undo_entries h) v u d
+pub was_told : (h : History) (v : Entries) (u : Lamport) (d : List Lamport) → was_visible (seen_history h v) v u d ≡ was_shown (undo_entries h) v u d
 was_told h v u d = rw (undone_seen h v u, all d) refl
   where
-    all : (d : List Lamport) → all_undone (seen h v) (filter (sees v) d) ≡ list_all (λ t. not (sees v t) || is_odd (count_seen (undo_entries h) t v)) d
+    all : (d : List Lamport) → all_undone (seen_history h v) (filter (sees v) d) ≡ list_all (λ t. not (sees v t) || is_odd (count_seen (undo_entries h) t v)) d
     all [] = refl
     all (x ∷ d) = elim (cases_Bool (sees v x)) [
       | inl e ↦ rw (e, undone_seen h v x, all d) refl
@@ -40,7 +40,7 @@ pub entries_edit : (h : History) (op : Operation) → is_edit op ≡ true → un
 entries_edit h op e = entries_more h op ∙ ap (λ (cs : List UndoCount). with_counts (stamp_of op) cs (undo_entries h)) (no_counts op e)
 
 -- what an edit makes of a cell in a range of its own
-pub marking_told : (t : Lamport) (h : History) (v : Entries) → edit_marking t (seen h v) v ≡ marking (undo_entries h) t v
+pub marking_told : (t : Lamport) (h : History) (v : Entries) → edit_marking t (seen_history h v) v ≡ marking (undo_entries h) t v
 marking_told t h v = λ i. record {
   visible = λ u b d. cond (was_told h v u d i) false b;
   deletions = λ u d. cond (was_told h v u d i) (with_deletion t d) d;

@@ -1,10 +1,10 @@
 -- What is told of the cells of fragments is told of the fragments.
+use Rattle.op_model.proofs.Elements.{each_right}
 use Rattle.std.proofs.Common.{ℕ, zero, suc, ◌<◌, Bool, List, [], ◌∷◌, ◌++◌, arith}
+use Rattle.std.specs.List.{AllByRecursion}
 use Rattle.lamport_clock.specs.declared.stamp.Lamport.{Lamport}
-use Rattle.op_model.specs.Sorted.{Each}
 use Rattle.op_model.specs.Facts.{Fact, alike}
 use Rattle.op_model.specs.Walked.{run_facts, facts_of}
-use Rattle.op_model.proofs.WholeTexts.{each_right}
 use Rattle.fragments.specs.declared.fragment.Fragment.{Fragment}
 use Rattle.fragments.specs.Stand.{run_of, runs, IsFilled}
 
@@ -15,11 +15,11 @@ module _ (P : Lamport → Bool → List Lamport → Type 0) where
   abbrev pub OfFragment : Fragment → Type 0
   OfFragment f = P f.stamp f.visible f.deletions
 
-  first_fact : (t : Lamport) (k n : ℕ) (v : Bool) (d : List Lamport) (s : List Fact) → 0 < n → Each OfFact (alike t k n v d ++ s) → P t v d
+  first_fact : (t : Lamport) (k n : ℕ) (v : Bool) (d : List Lamport) (s : List Fact) → 0 < n → AllByRecursion OfFact (alike t k n v d ++ s) → P t v d
   first_fact t k zero v d s l e = absurd (omega arith)
   first_fact t k (suc n) v d s l e = e.0
 
-  pub of_facts : (fs : List Fragment) → Each IsFilled fs → Each OfFact (facts_of (runs fs)) → Each OfFragment fs
+  pub of_facts : (fs : List Fragment) → AllByRecursion IsFilled fs → AllByRecursion OfFact (facts_of (runs fs)) → AllByRecursion OfFragment fs
   of_facts [] l e = tt
   of_facts (f ∷ fs) l e = (
     first_fact f.stamp f.offset f.len f.visible f.deletions (facts_of (runs fs)) l.0.0 e,

@@ -1,9 +1,8 @@
 -- The fragments that begin in ranges in order are among those that these touch.
 use Rattle.std.proofs.Common.{◌≡◌, ℕ, ◌+◌, ◌-◌, ◌<◌, ◌≤◌, max, min, cond, List, [], ◌∷◌, length, refl, ap, ◌∙◌, arith, inl, inr, ltb}
-use Rattle.std.specs.List.{list_any}
+use Rattle.std.specs.List.{AllByRecursion, list_any}
 use Rattle.std.proofs.lemmas.Bool.{cases_Bool, ltb-true, ltb-false}
 use Rattle.op_model.specs.declared.operation.Piece.{Piece}
-use Rattle.op_model.specs.Sorted.{Each}
 use Rattle.op_model.specs.Walked.{Ordered}
 use Rattle.fragments.specs.declared.fragment.Fragment.{Fragment}
 use Rattle.fragments.specs.Stand.{IsFilled}
@@ -59,7 +58,7 @@ one_range k n at end (p ∷ ps) l o = elim (cases_Bool (ltb (max k p.start) (min
       rw e (omega (arith, q, ih)))
 ]
 
-begins_touched : (k at end : ℕ) (ps : List Piece) (fs : List Fragment) → Each IsFilled fs → Ordered at end ps → begins k ps fs ≤ touch_count_behind k ps fs
+begins_touched : (k at end : ℕ) (ps : List Piece) (fs : List Fragment) → AllByRecursion IsFilled fs → Ordered at end ps → begins k ps fs ≤ touch_count_behind k ps fs
 begins_touched k at end ps [] h o = let e = begins_none k ps in omega (arith, e)
 begins_touched k at end ps (f ∷ fs) h o =
     let n = begins_next k ps f fs in
@@ -76,5 +75,5 @@ piece_starts_sum fs (p ∷ ps) =
     let g : starts (p.start - 0) (p.end - 0) fs ≡ starts p.start p.end fs = ap (λ (i : ℕ). starts i (p.end - 0) fs) a ∙ ap (λ (i : ℕ). starts p.start i fs) b in
     omega (arith, ih, g)
 
-pub piece_starts_touched : (at end : ℕ) (ps : List Piece) (fs : List Fragment) → Each IsFilled fs → Ordered at end ps → piece_starts fs ps ≤ length ps + touch_count_behind 0 ps fs
+pub piece_starts_touched : (at end : ℕ) (ps : List Piece) (fs : List Fragment) → AllByRecursion IsFilled fs → Ordered at end ps → piece_starts fs ps ≤ length ps + touch_count_behind 0 ps fs
 piece_starts_touched at end ps fs h o = let e = piece_starts_sum fs ps in let b = begins_touched 0 at end ps fs h o in omega (arith, e, b)

@@ -1,6 +1,6 @@
 -- Fragments where some are put in the place of others.
 use Rattle.std.proofs.Common.{◌≡◌, ℕ, zero, suc, ◌+◌, ◌≤◌, ◌^◌, List, [], ◌∷◌, ◌++◌, length, take, drop, min, subst, append_assoc, length-append, refl, sym, ap, ◌∙◌, arith, Option, Bool, cond, true, false, Some, None, inl, inr}
-use Rattle.std.specs.List.{slice_get}
+use Rattle.std.specs.List.{AllByRecursion, slice_get}
 use Rattle.std.proofs.lemmas.Bool.{cases_lt}
 use Rattle.std.proofs.lemmas.List.{take_at, drop_at, drop_all, length-take-le}
 use Rattle.std.proofs.lemmas.Option.{slice_get_cases}
@@ -8,10 +8,9 @@ use Rattle.locators.specs.Locator.{least_digits}
 use Rattle.lamport_clock.specs.declared.stamp.Lamport.{Lamport}
 use Rattle.lamport_clock.specs.Versions.{Entries}
 use Rattle.op_model.specs.Facts.{with_deletion}
-use Rattle.op_model.specs.Sorted.{Each}
 use Rattle.undo_map.specs.declared.entry.UndoEntry.{UndoEntry}
 use Rattle.sum_tree.specs.Laws.{fold}
-use Rattle.sum_tree.specs.Spliced.{spliced}
+use Rattle.sum_tree.specs.Spliced.{splice_list}
 use Rattle.fragments.specs.declared.fragment.Fragment.{Fragment}
 use Rattle.fragments.specs.declared.fragment.FragmentSummary.{FragmentSummary}
 use Rattle.fragments.specs.SeenPlaces.{cells_of}
@@ -29,7 +28,7 @@ fold_cells s (f ∷ fs) = let ih = fold_cells (summaries s (summary_of f)) fs in
 pub fits : (fs : List Fragment) → bytes fs ≤ 2 ^ 40 → SummaryFits (fold no_fragments summaries summary_of fs)
 fits fs h = let e = fold_cells no_fragments fs in omega arith
 
-pub few : (fs : List Fragment) → Each IsFilled fs → length fs ≤ bytes fs
+pub few : (fs : List Fragment) → AllByRecursion IsFilled fs → length fs ≤ bytes fs
 few [] h = omega arith
 few (f ∷ fs) h = let ih = few fs h.1 in let g = h.0.0 in omega arith
 
@@ -37,15 +36,15 @@ pub bytes_append : (a b : List Fragment) → bytes (a ++ b) ≡ bytes a + bytes 
 bytes_append [] b = omega arith
 bytes_append (f ∷ a) b = let ih = bytes_append a b in omega arith
 
-pub filled_append : (a b : List Fragment) → Each IsFilled a → Each IsFilled b → Each IsFilled (a ++ b)
+pub filled_append : (a b : List Fragment) → AllByRecursion IsFilled a → AllByRecursion IsFilled b → AllByRecursion IsFilled (a ++ b)
 filled_append [] b h k = k
 filled_append (f ∷ a) b h k = (h.0, filled_append a b h.1 k)
 
-pub filled_front : (a b : List Fragment) → Each IsFilled (a ++ b) → Each IsFilled a
+pub filled_front : (a b : List Fragment) → AllByRecursion IsFilled (a ++ b) → AllByRecursion IsFilled a
 filled_front [] b h = tt
 filled_front (f ∷ a) b h = (h.0, filled_front a b h.1)
 
-pub filled_back : (a b : List Fragment) → Each IsFilled (a ++ b) → Each IsFilled b
+pub filled_back : (a b : List Fragment) → AllByRecursion IsFilled (a ++ b) → AllByRecursion IsFilled b
 filled_back [] b h = h
 filled_back (f ∷ a) b h = filled_back a b h.1
 
@@ -83,7 +82,7 @@ touch_id (Some w) t v f = elim (was_shown w v f.stamp f.deletions) as (λ (b : B
 
 -- ---- what was made, and what is left of one, in the place of a range
 
-put_in : (i j : ℕ) (made lo xs : List Fragment) → spliced i j (made ++ lo) xs ≡ (take i xs ++ made) ++ (lo ++ drop j xs)
+put_in : (i j : ℕ) (made lo xs : List Fragment) → splice_list i j (made ++ lo) xs ≡ (take i xs ++ made) ++ (lo ++ drop j xs)
 put_in i j made lo xs = ap (λ (z : List Fragment). z ++ drop j xs) (sym (append_assoc (take i xs) made lo)) ∙ append_assoc (take i xs ++ made) lo (drop j xs)
 
 drop_least : (j : ℕ) (xs : List Fragment) → drop (min j (length xs)) xs ≡ drop j xs
@@ -94,13 +93,13 @@ drop_least j xs = elim (cases_lt (length xs) j) [
 ]
 
 module _ (i j k n : ℕ) (made lo whole xs : List Fragment) (w : whole ≡ made ++ lo) (m : k ≡ min j (length xs)) where
-  put_whole : spliced i k whole xs ≡ (take i xs ++ made) ++ (lo ++ drop j xs)
-  put_whole = ap (λ (z : List Fragment). spliced i k z xs) w ∙ put_in i k made lo xs ∙ ap (λ (z : List Fragment). (take i xs ++ made) ++ (lo ++ z)) (ap (λ (q : ℕ). drop q xs) m ∙ drop_least j xs)
+  put_whole : splice_list i k whole xs ≡ (take i xs ++ made) ++ (lo ++ drop j xs)
+  put_whole = ap (λ (z : List Fragment). splice_list i k z xs) w ∙ put_in i k made lo xs ∙ ap (λ (z : List Fragment). (take i xs ++ made) ++ (lo ++ z)) (ap (λ (q : ℕ). drop q xs) m ∙ drop_least j xs)
 
-  pub change_fit : Fit ((take i xs ++ made) ++ (lo ++ drop j xs)) → Fit (spliced i k whole xs)
+  pub change_fit : Fit ((take i xs ++ made) ++ (lo ++ drop j xs)) → Fit (splice_list i k whole xs)
   change_fit h = subst Fit (sym put_whole) h
 
-  pub change_parts : (ys : List Fragment) → ys ≡ spliced i k whole xs → i ≤ length xs → n ≡ i + length made → (take n ys ≡ take i xs ++ made) × (drop n ys ≡ lo ++ drop j xs)
+  pub change_parts : (ys : List Fragment) → ys ≡ splice_list i k whole xs → i ≤ length xs → n ≡ i + length made → (take n ys ≡ take i xs ++ made) × (drop n ys ≡ lo ++ drop j xs)
   change_parts ys e h q =
       let l : length (take i xs ++ made) ≡ n = length-append (take i xs) made ∙ (let t = length-take-le i xs h in omega arith) in
       (ap (take n) (e ∙ put_whole) ∙ take_at (take i xs ++ made) (lo ++ drop j xs) n l, ap (drop n) (e ∙ put_whole) ∙ drop_at (take i xs ++ made) (lo ++ drop j xs) n l)

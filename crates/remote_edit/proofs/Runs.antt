@@ -1,5 +1,6 @@
 -- The walk over fragments is the walk over runs of cells.
 use Rattle.std.proofs.Common.{◌≡◌, ℕ, zero, suc, ◌+◌, ◌-◌, ◌<◌, ◌≤◌, Bool, Option, List, [], ◌∷◌, ◌++◌, length, refl, sym, ap, ◌∙◌, true, false, Some, None, inl, inr, leb, append_assoc, take, drop, take-append-drop}
+use Rattle.std.specs.List.{AllByRecursion}
 use Rattle.std.proofs.lemmas.Bool.{cases_Bool}
 use Rattle.std.proofs.lemmas.List.{append-nil, map-append, drop_all}
 use Rattle.lamport_clock.specs.declared.stamp.Lamport.{Lamport}
@@ -15,14 +16,13 @@ use Rattle.op_model.specs.Histories.{History}
 use Rattle.op_model.specs.Answers.{answer}
 use Rattle.op_model.specs.Answers.Answer.{Good}
 use Rattle.op_model.specs.Lawful.{Lawful}
-use Rattle.op_model.specs.Sorted.{Each}
 use Rattle.op_model.specs.Facts.{Marking}
 use Rattle.op_model.specs.Walked.{Run, facts_of, Walked}
 use Rattle.op_model.specs.Walked as W
 use Rattle.op_model.proofs.MainLaws.{one_walk}
-use Rattle.op_model.proofs.Groups.{passed_unseen}
-use Rattle.op_model.proofs.OneMore.{Fits}
-use Rattle.op_model.proofs.Good.{lawful_ready, checked_of, fits_of}
+use Rattle.op_model.proofs.order.Groups.{passed_unseen}
+use Rattle.op_model.proofs.histories.OneMore.{Fits}
+use Rattle.op_model.proofs.answers.Good.{lawful_ready, checked_of, fits_of}
 use Rattle.fragments.specs.declared.fragment.Fragment.{Fragment}
 use Rattle.fragments.specs.Stand.{run_of, runs, IsFilled, Tell}
 use Rattle.remote_edit.specs.Marks.{was_shown, marking, touch}
@@ -38,7 +38,7 @@ record As (z : Zip) (pre : List Fragment) (w : Walked) : Type 0 where
 one_more : (pre : List Fragment) (f : Fragment) (out : List Run) → runs (pre ++ f ∷ []) ++ out ≡ runs pre ++ run_of f ∷ out
 one_more pre f out = ap (λ (z : List Run). z ++ out) (map-append run_of pre (f ∷ [])) ∙ append_assoc (runs pre) (run_of f ∷ []) out
 
-module _ (m : Option (List UndoEntry)) (t : Lamport) (v : Entries) (mk : Marking) (b : Bool) (like : (f : Fragment) → run_of (touch m t v f) ≡ W.touched mk b (run_of f)) where
+module _ (m : Option (List UndoEntry)) (t : Lamport) (v : Entries) (mk : Marking) (b : Bool) (like : (f : Fragment) → run_of (touch m t v f) ≡ W.mark_run mk b (run_of f)) where
   adv_as : (n : ℕ) (pre rest : List Fragment) → As (advance m t v n pre rest) pre (W.advance mk (sees v) b n (runs rest))
   adv_as zero pre [] = record { before = sym (append-nil (runs pre)); behind = refl }
   adv_as (suc n) pre [] = record { before = sym (append-nil (runs pre)); behind = refl }
@@ -61,14 +61,14 @@ skip_as t v new pre (f ∷ fs) = elim (cases_Bool (later f.stamp t)) [
   | inr s ↦ rw s (record { before = sym (append-nil (runs pre)); behind = refl })
 ]
 
-put_as : (t : Lamport) (k n : ℕ) (pre rest : List Fragment) → (runs (put_new t k n pre rest).pre ≡ runs pre ++ W.placed t k n) × (runs (put_new t k n pre rest).rest ≡ runs rest)
+put_as : (t : Lamport) (k n : ℕ) (pre rest : List Fragment) → (runs (put_new t k n pre rest).pre ≡ runs pre ++ W.new_runs t k n) × (runs (put_new t k n pre rest).rest ≡ runs rest)
 put_as t k zero pre rest = (sym (append-nil (runs pre)), refl)
 put_as t k (suc n) pre rest = (map-append run_of pre (new_fragment t k (suc n) (between_digits (last_id pre) (next_id rest)) ∷ []), refl)
 
-touch_none : (mk : Marking) (t : Lamport) (v : Entries) (f : Fragment) → run_of (touch None t v f) ≡ W.touched mk false (run_of f)
+touch_none : (mk : Marking) (t : Lamport) (v : Entries) (f : Fragment) → run_of (touch None t v f) ≡ W.mark_run mk false (run_of f)
 touch_none mk t v f = refl
 
-touch_some : (w : List UndoEntry) (t : Lamport) (v : Entries) (f : Fragment) → run_of (touch (Some w) t v f) ≡ W.touched (marking w t v) true (run_of f)
+touch_some : (w : List UndoEntry) (t : Lamport) (v : Entries) (f : Fragment) → run_of (touch (Some w) t v f) ≡ W.mark_run (marking w t v) true (run_of f)
 touch_some w t v f = elim (cases_Bool (was_shown w v f.stamp f.deletions)) [ inl e ↦ rw e refl | inr e ↦ rw e refl ]
 
 four_on : (p a b c d : List Run) → (((p ++ a) ++ b) ++ c) ++ d ≡ p ++ (a ++ (b ++ (c ++ d)))
@@ -91,11 +91,11 @@ module _ (w : List UndoEntry) (t : Lamport) (v : Entries) (new : (u : Lamport) �
       let rb : runs b.rest ≡ wb.rest = eb.behind ∙ ap (λ (z : List Run). (W.skip_later t z).rest) ea.behind in
       let rc : runs c.rest ≡ wb.rest = ec.1 ∙ rb in
       let ob : runs b.pre ≡ (runs pre ++ wa.out) ++ wb.out = eb.before ∙ ap (λ (z : List Run). z ++ (W.skip_later t (runs a.rest)).out) ea.before ∙ ap (λ (z : List Run). (runs pre ++ wa.out) ++ (W.skip_later t z).out) ea.behind in
-      let oc : runs c.pre ≡ ((runs pre ++ wa.out) ++ wb.out) ++ W.placed t k (length p.text) = ec.0 ∙ ap (λ (z : List Run). z ++ W.placed t k (length p.text)) ob in
+      let oc : runs c.pre ≡ ((runs pre ++ wa.out) ++ wb.out) ++ W.new_runs t k (length p.text) = ec.0 ∙ ap (λ (z : List Run). z ++ W.new_runs t k (length p.text)) ob in
       record {
         before = ed.before ∙ ap (λ (z : List Run). z ++ (W.advance mk (sees v) true (p.end - p.start) (runs c.rest)).out) oc
-            ∙ ap (λ (z : List Run). (((runs pre ++ wa.out) ++ wb.out) ++ W.placed t k (length p.text)) ++ (W.advance mk (sees v) true (p.end - p.start) z).out) rc
-            ∙ four_on (runs pre) wa.out wb.out (W.placed t k (length p.text)) wd.out;
+            ∙ ap (λ (z : List Run). (((runs pre ++ wa.out) ++ wb.out) ++ W.new_runs t k (length p.text)) ++ (W.advance mk (sees v) true (p.end - p.start) z).out) rc
+            ∙ four_on (runs pre) wa.out wb.out (W.new_runs t k (length p.text)) wd.out;
         behind = ed.behind ∙ ap (λ (z : List Run). (W.advance mk (sees v) true (p.end - p.start) z).rest) rc;
       }
 
@@ -111,12 +111,12 @@ module _ (w : List UndoEntry) (t : Lamport) (v : Entries) (new : (u : Lamport) �
         ∙ ap (λ (x : List Run). x ++ f (runs z.rest)) e.before ∙ ap (λ (x : List Run). (runs pre ++ o.out) ++ f x) e.behind ∙ append_assoc (runs pre) o.out (f o.rest)))
   ]
 
-pub filled_runs : (fs : List Fragment) → Each IsFilled fs → Each (λ (r : Run). 0 < r.len) (runs fs)
+pub filled_runs : (fs : List Fragment) → AllByRecursion IsFilled fs → AllByRecursion (λ (r : Run). 0 < r.len) (runs fs)
 filled_runs [] h = tt
 filled_runs (f ∷ fs) h = (h.0.0, filled_runs fs h.1)
 
 -- fragments that tell of a history tell, with an edit walked in, of the history with it
-pub walk_tells : (h : History) (op : Operation) (fs : List Fragment) → Lawful h → answer h [] op ≡ Good → is_edit op ≡ true → Each IsFilled fs → Tell fs h
+pub walk_tells : (h : History) (op : Operation) (fs : List Fragment) → Lawful h → answer h [] op ≡ Good → is_edit op ≡ true → AllByRecursion IsFilled fs → Tell fs h
     → Tell (walk (undo_entries h) (stamp_of op) (version_of op) 0 0 (pieces_of op) [] fs) (h ++ op ∷ [])
 walk_tells h op fs l g e f s =
     let w : List UndoEntry = undo_entries h in

@@ -13,7 +13,7 @@ use Rattle.fragments.specs.Summaries.{summary_of}
 use Rattle.fragments.specs.SummaryLaws.{one_admitted}
 use Rattle.fragments.specs.SeenPlaces.{At, move_at, all_in, none_in}
 use Rattle.fragments.specs.declared.dimensions.FullAt.{FullAt}
-use Rattle.tree_cursor.specs.Place.{Place}
+use Rattle.tree_cursor.specs.Place.{CursorState}
 use Rattle.remote_edit.specs.Walk.{seen_bytes, advance}
 use Rattle.remote_edit.specs.Steps.{IsSought}
 use Rattle.fragments.proofs.Counts.{own_cells, places_count_cells}
@@ -132,7 +132,7 @@ module _ (v : Entries) (goal : ℕ) where
       )
 
 -- what a cursor's seek tells
-pub found : (t : Lamport) (v : Entries) (xs : List Fragment) (n i place index : ℕ) (cur new : Place Fragment FullAt) (start got : FullAt)
+pub found : (t : Lamport) (v : Entries) (xs : List Fragment) (n i place index : ℕ) (cur new : CursorState Fragment FullAt) (start got : FullAt)
     → cur.items ≡ xs → cur.index ≡ 0 → cur.from ≡ start → start.version.now ≡ v → start.bytes ≡ 0
     → new ≡ record cur { index = cur.index + seek_count move_at summary_of (λ p. number_passes (place + n) p.1 Left) (place_behind move_at summary_of (cur.from.version.now, cur.from.bytes) (take cur.index cur.items)) (drop cur.index cur.items) }
     → index ≡ new.index → (got.version.now, got.bytes) ≡ place_behind move_at summary_of (new.from.version.now, new.from.bytes) (take new.index new.items)
@@ -142,11 +142,11 @@ found t v xs n i place index cur new start got ei ej ef ev eb em ek eg ep l h =
     let fv : cur.from.version.now ≡ v = ap (λ (f : FullAt). f.version.now) ef ∙ ev in
     let fb : cur.from.bytes ≡ 0 = ap (λ (f : FullAt). f.bytes) ef ∙ eb in
     let count : ℕ → List Fragment → Entries → ℕ → ℕ = λ j ys w b. j + seek_count move_at summary_of (λ p. number_passes (place + n) p.1 Left) (place_behind move_at summary_of (w, b) (take j ys)) (drop j ys) in
-    let is : index ≡ count 0 xs v 0 = ek ∙ ap (λ (z : Place Fragment FullAt). z.index) em ∙ ap (λ (j : ℕ). count j cur.items cur.from.version.now cur.from.bytes) ej ∙ ap (λ (ys : List Fragment). count 0 ys cur.from.version.now cur.from.bytes) ei
+    let is : index ≡ count 0 xs v 0 = ek ∙ ap (λ (z : CursorState Fragment FullAt). z.index) em ∙ ap (λ (j : ℕ). count j cur.items cur.from.version.now cur.from.bytes) ej ∙ ap (λ (ys : List Fragment). count 0 ys cur.from.version.now cur.from.bytes) ei
     ∙ ap (λ (w : Entries). count 0 xs w cur.from.bytes) fv ∙ ap (count 0 xs v) fb in
     let k : index ≡ sought v (place + n) 0 xs = is ∙ omega arith in
-    let items : new.items ≡ xs = ap (λ (z : Place Fragment FullAt). z.items) em ∙ ei in
-    let from : new.from ≡ start = ap (λ (z : Place Fragment FullAt). z.from) em ∙ ef in
+    let items : new.items ≡ xs = ap (λ (z : CursorState Fragment FullAt). z.items) em ∙ ei in
+    let from : new.from ≡ start = ap (λ (z : CursorState Fragment FullAt). z.from) em ∙ ef in
     let nv : new.from.version.now ≡ v = ap (λ (f : FullAt). f.version.now) from ∙ ev in
     let nb : new.from.bytes ≡ 0 = ap (λ (f : FullAt). f.bytes) from ∙ eb in
     let behind_of : ℕ → List Fragment → Entries → ℕ → ℕ = λ j ys w b. (place_behind move_at summary_of (w, b) (take j ys)).1 in

@@ -1,5 +1,6 @@
 -- What stands for a history in which an edit is good: there is room for the walk, and an index to begin with.
 use Rattle.std.proofs.Common.{◌≡◌, ℕ, zero, suc, ◌+◌, ◌<◌, ◌≤◌, ◌^◌, Bool, true, false, List, [], ◌∷◌, ◌++◌, length, map, refl, sym, ap, ◌∙◌, arith, subst, inl, inr}
+use Rattle.std.specs.List.{AllByRecursion}
 use Rattle.std.proofs.lemmas.Bool.{cases_Bool}
 use Rattle.std.proofs.lemmas.List.{length-map, length-append}
 use Rattle.lamport_clock.specs.declared.stamp.Lamport.{Lamport}
@@ -9,20 +10,20 @@ use Rattle.locators.specs.Locator.{least_digits}
 use Rattle.op_model.specs.declared.operation.Operation.{Operation}
 use Rattle.op_model.specs.Operations.{stamp_of, version_of, pieces_of, text_total}
 use Rattle.op_model.specs.Histories.{History, version, newest_first}
-use Rattle.op_model.specs.Cells.{Cell, Place, seq, cells, everything}
+use Rattle.op_model.specs.Cells.{Cell, PathCell, seq, cells, everything}
 use Rattle.op_model.specs.Shown.{new_bytes, IsCell, full}
 use Rattle.op_model.specs.Answers.{answer}
 use Rattle.op_model.specs.Answers.Answer.{Good}
 use Rattle.op_model.specs.Lawful.{Lawful}
-use Rattle.op_model.specs.Sorted.{Each, Member}
+use Rattle.op_model.specs.Sorted.{Member}
 use Rattle.op_model.specs.Facts.{Fact, fact, alike}
 use Rattle.op_model.specs.Walked.{facts_of}
-use Rattle.op_model.proofs.CellsOnce.{all_cells}
-use Rattle.op_model.proofs.PathOrder.{same_stamp_eq}
-use Rattle.op_model.proofs.OnePass.{not_self}
-use Rattle.op_model.proofs.Lawful.{each_of_in}
-use Rattle.op_model.proofs.VersionLaws.{sees_own}
-use Rattle.op_model.proofs.Good.{lawful_ready, checked_of, fits_of, full_length}
+use Rattle.op_model.proofs.order.CellsOnce.{all_cells}
+use Rattle.op_model.proofs.order.PathOrder.{same_stamp_eq}
+use Rattle.op_model.proofs.shown.OnePass.{not_self}
+use Rattle.op_model.proofs.histories.Lawful.{each_of_in}
+use Rattle.op_model.proofs.histories.VersionLaws.{sees_own}
+use Rattle.op_model.proofs.answers.Good.{lawful_ready, checked_of, fits_of, full_length}
 use Rattle.undo_map.specs.declared.entry.UndoEntry.{UndoEntry}
 use Rattle.fragments.specs.declared.fragment.Fragment.{Fragment}
 use Rattle.fragments.specs.declared.index_entry.IndexEntry.{IndexEntry}
@@ -47,8 +48,8 @@ length_facts (f ∷ fs) =
     let b = length_alike f.stamp f.offset f.len f.visible f.deletions in
     let ih = length_facts fs in omega arith
 
-length_cells : (s : List Place) → length (cells s) ≡ length s
-length_cells s = length-map s (λ (p : Place). p.cell)
+length_cells : (s : List PathCell) → length (cells s) ≡ length s
+length_cells s = length-map s (λ (p : PathCell). p.cell)
 
 pub bytes_told : (fs : List Fragment) (h : History) → Tell fs h → bytes fs ≡ length (full h)
 unfolding full seq
@@ -56,7 +57,7 @@ bytes_told fs h e = sym (length_facts fs) ∙ ap length e ∙ length-map (cells 
 
 -- ---- an edit's stamp is new
 
-no_bytes : (h : History) (t : Lamport) → Each (λ (o : Operation). stamp_of o ≡ t → ⊥) h → new_bytes h t ≡ []
+no_bytes : (h : History) (t : Lamport) → AllByRecursion (λ (o : Operation). stamp_of o ≡ t → ⊥) h → new_bytes h t ≡ []
 no_bytes [] t n = refl
 no_bytes (o ∷ h) t n = elim (cases_Bool (same_stamp (stamp_of o) t)) [ inl e ↦ absurd (n.0 (same_stamp_eq (stamp_of o) t e)) | inr e ↦ rw e (no_bytes h t n.1) ]
 
@@ -75,8 +76,8 @@ in_more : (c : Cell) (a s : List Fact) → Member c (map (λ (q : Fact). q.cell)
 in_more c [] s m = m
 in_more c (x ∷ a) s m = inr (in_more c a s m)
 
-all_new : (h : History) (op : Operation) → Lawful h → Each (λ (o : Operation). stamp_of o ≡ stamp_of op → ⊥) h → (fs : List Fragment) → Each IsFilled fs
-    → ((c : Cell) → Member c (map (λ (q : Fact). q.cell) (facts_of (runs fs))) → IsCell h c) → Each (EndsBefore (stamp_of op) 0) fs
+all_new : (h : History) (op : Operation) → Lawful h → AllByRecursion (λ (o : Operation). stamp_of o ≡ stamp_of op → ⊥) h → (fs : List Fragment) → AllByRecursion IsFilled fs
+    → ((c : Cell) → Member c (map (λ (q : Fact). q.cell) (facts_of (runs fs))) → IsCell h c) → AllByRecursion (EndsBefore (stamp_of op) 0) fs
 all_new h op l n [] fl m = tt
 all_new h op l n (f ∷ fs) fl m = (
   λ e. (let c = m (cell_at f.stamp f.offset) (cell_in f.len f.stamp f.offset f.visible f.deletions (facts_of (runs fs)) fl.0.0) in
@@ -87,14 +88,14 @@ all_new h op l n (f ∷ fs) fl m = (
 
 -- ---- the version of a history sees all of it
 
-seen_cell : (v : Entries) (h : History) (t : Lamport) → Each (λ (o : Operation). sees v (stamp_of o) ≡ true) h → 0 < length (new_bytes h t) → sees v t ≡ true
+seen_cell : (v : Entries) (h : History) (t : Lamport) → AllByRecursion (λ (o : Operation). sees v (stamp_of o) ≡ true) h → 0 < length (new_bytes h t) → sees v t ≡ true
 seen_cell v [] t e l = absurd (omega (arith, l))
 seen_cell v (o ∷ h) t e l = elim (cases_Bool (same_stamp (stamp_of o) t)) [
   | inl q ↦ subst (λ (u : Lamport). sees v u ≡ true) (same_stamp_eq (stamp_of o) t q) e.0
   | inr q ↦ seen_cell v h t e.1 (rw q at l)
 ]
 
-seen_each : (v : Entries) (h : History) → Each (λ (o : Operation). sees v (stamp_of o) ≡ true) h → (fs : List Fragment) → Each IsFilled fs
+seen_each : (v : Entries) (h : History) → AllByRecursion (λ (o : Operation). sees v (stamp_of o) ≡ true) h → (fs : List Fragment) → AllByRecursion IsFilled fs
     → ((c : Cell) → Member c (map (λ (q : Fact). q.cell) (facts_of (runs fs))) → IsCell h c) → AllSeen v fs
 seen_each v h e [] fl m = tt
 seen_each v h e (f ∷ fs) fl m = (
@@ -102,7 +103,7 @@ seen_each v h e (f ∷ fs) fl m = (
   seen_each v h e fs fl.1 (λ c k. m c (in_more c (alike f.stamp f.offset f.len f.visible f.deletions) (facts_of (runs fs)) k)),
 )
 
-pub all_seen : (h : History) (fs : List Fragment) → Lawful h → Tell fs h → Each IsFilled fs → AllSeen (version h) fs
+pub all_seen : (h : History) (fs : List Fragment) → Lawful h → Tell fs h → AllByRecursion IsFilled fs → AllSeen (version h) fs
 all_seen h fs l t fl = seen_each (version h) h (each_of_in (λ (o : Operation). sees (version h) (stamp_of o) ≡ true) h (sees_own h)) fs fl
     (λ c m. (all_cells h (lawful_ready h l).0.distinct c).0 (subst (Member c) (ap (map (λ (q : Fact). q.cell)) t ∙ told_cells h (cells (seq h))) m))
 

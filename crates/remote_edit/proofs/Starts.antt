@@ -1,5 +1,6 @@
 -- How many fragments begin among some cells, before and behind a place of a walk that sees them all.
 use Rattle.std.proofs.Common.{◌≡◌, ℕ, zero, suc, ◌+◌, ◌-◌, ◌≤◌, max, min, Bool, true, false, if◌then◌else◌, nat_le, List, [], ◌∷◌, ◌++◌, length, take, drop, refl, sym, ap, ◌∙◌, arith, subst, inl, inr, leb, Option, Some, None, not, ◌&&◌}
+use Rattle.std.specs.List.{AllByRecursion}
 use Rattle.std.proofs.lemmas.Bool.{cases_Bool, leb-true, leb-false}
 use Rattle.std.proofs.lemmas.List.{drop-drop}
 use Rattle.std.proofs.Math.Seq.{take-add}
@@ -7,7 +8,6 @@ use Rattle.lamport_clock.specs.declared.stamp.Lamport.{Lamport}
 use Rattle.lamport_clock.specs.Stamps.{later}
 use Rattle.lamport_clock.specs.Versions.{Entries, sees}
 use Rattle.op_model.specs.declared.operation.Piece.{Piece}
-use Rattle.op_model.specs.Sorted.{Each}
 use Rattle.undo_map.specs.declared.entry.UndoEntry.{UndoEntry}
 use Rattle.fragments.specs.declared.fragment.Fragment.{Fragment}
 use Rattle.fragments.specs.Stand.{IsFilled}
@@ -102,7 +102,7 @@ pub within_none : (k : ℕ) (fs : List Fragment) → k ≡ 0 → IsWithin k fs
 within_none k [] e = tt
 within_none k (f ∷ fs) e = omega (arith, e)
 
-near : (n k r : ℕ) (fs : List Fragment) → n ≡ k → Each IsFilled fs → IsWithin k fs → starts 0 (k + r) fs ≤ 1 + starts (max 1 n) (n + r) fs
+near : (n k r : ℕ) (fs : List Fragment) → n ≡ k → AllByRecursion IsFilled fs → IsWithin k fs → starts 0 (k + r) fs ≤ 1 + starts (max 1 n) (n + r) fs
 near n k r [] e s h = omega arith
 near n k r (f ∷ fs) e s h =
     let s0 = s.0.0 in
@@ -112,7 +112,7 @@ near n k r (f ∷ fs) e s h =
     omega (arith, g)
 
 -- over d of them
-pub landed : (d n k r : ℕ) (fs : List Fragment) → Each IsFilled fs → bytes (take d fs) + k ≡ n → IsWithin k (drop d fs) → starts 0 (k + r) (drop d fs) ≤ 1 + starts (max 1 n) (n + r) fs
+pub landed : (d n k r : ℕ) (fs : List Fragment) → AllByRecursion IsFilled fs → bytes (take d fs) + k ≡ n → IsWithin k (drop d fs) → starts 0 (k + r) (drop d fs) ≤ 1 + starts (max 1 n) (n + r) fs
 landed zero n k r fs s e h = near n k r fs (omega (arith, e)) s h
 landed (suc d) n k r [] s e h = omega arith
 landed (suc d) n k r (f ∷ fs) s e h =
@@ -129,7 +129,7 @@ seen_drop v zero fs h = h
 seen_drop v (suc n) [] h = tt
 seen_drop v (suc n) (f ∷ fs) h = seen_drop v n fs h.1
 
-pub filled_drop : (n : ℕ) (fs : List Fragment) → Each IsFilled fs → Each IsFilled (drop n fs)
+pub filled_drop : (n : ℕ) (fs : List Fragment) → AllByRecursion IsFilled fs → AllByRecursion IsFilled (drop n fs)
 filled_drop zero fs h = h
 filled_drop (suc n) [] h = tt
 filled_drop (suc n) (f ∷ fs) h = filled_drop n fs h.1
@@ -140,7 +140,7 @@ seen_all v (suc n) [] h = refl
 seen_all v (suc n) (f ∷ fs) h = let ih = seen_all v n fs h.1 in let c = seen_cons v f (take n fs) in let o = seen_own v f h.0 in omega (arith, ih, c, o)
 
 -- what is left of a seek from place i to place j
-pub left_of : (v : Entries) (xs : List Fragment) (i j n k p q : ℕ) → AllSeen v (drop i xs) → Each IsFilled xs → i ≤ j → i ≤ length xs → p ≡ seen_bytes v (take i xs) → q ≡ seen_bytes v (take j xs) → q + k ≡ p + n
+pub left_of : (v : Entries) (xs : List Fragment) (i j n k p q : ℕ) → AllSeen v (drop i xs) → AllByRecursion IsFilled xs → i ≤ j → i ≤ length xs → p ≡ seen_bytes v (take i xs) → q ≡ seen_bytes v (take j xs) → q + k ≡ p + n
     → IsWithin k (drop j xs) → IsLeft v n (drop i xs) k (drop j xs)
 left_of v xs i j n k p q a fl l w ep eq ek h =
     let ys : List Fragment = drop i xs in

@@ -1,7 +1,7 @@
 -- One move more.
 use Rattle.std.proofs.Common.{◌≡◌, ℕ, ◌+◌, List, [], ◌∷◌, ◌++◌, length, drop, refl, ap, ◌∙◌, arith}
 use Rattle.std.proofs.lemmas.List.{drop-drop}
-use Rattle.op_model.proofs.Utf8Runs.{take_front, drop_front}
+use Rattle.op_model.proofs.texts.Utf8Runs.{take_front, drop_front}
 use Rattle.remote_edit.specs.declared.moves.Move.{Move}
 use Rattle.remote_edit.specs.declared.moves.Move.TheVariants.{Visible, Hidden}
 use Rattle.remote_edit.specs.Moves.{Texts, texts_of, followed_by, after_moves, with_move, from_shown, from_hidden, from_new, HaveMoved}

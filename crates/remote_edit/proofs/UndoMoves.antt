@@ -1,12 +1,11 @@
 -- What an undo does to the two texts, on the way.
 use Rattle.std.proofs.Common.{◌≡◌, ℕ, zero, suc, ◌+◌, ◌-◌, ◌<◌, ◌≤◌, min, Bool, true, false, cond, List, [], ◌∷◌, ◌++◌, length, map, take, drop, refl, sym, ap, ◌∙◌, arith, subst, inl, inr, Option, Some, None, append_assoc, length-append}
 use Rattle.std.proofs.Math.Seq.{take-append_seam, drop-append_seam}
-use Rattle.std.specs.List.{slice_get, list_any}
+use Rattle.std.specs.List.{AllByRecursion, slice_get, list_any}
 use Rattle.std.proofs.lemmas.Bool.{cases_Bool}
 use Rattle.std.proofs.lemmas.List.{map-append, append-nil}
 use Rattle.tree_cursor.specs.Places.{place_behind, filter_count}
 use Rattle.lamport_clock.specs.declared.stamp.Lamport.{Lamport}
-use Rattle.op_model.specs.Sorted.{Each}
 use Rattle.op_model.specs.declared.operation.UndoOp.{UndoOp}
 use Rattle.op_model.specs.declared.operation.Operation.TheVariants.{Undo}
 use Rattle.op_model.specs.Histories.{History}
@@ -31,6 +30,7 @@ use Rattle.remote_edit.proofs.Carrying.{SameCells, go_on, stay, on_one, on_stret
 use Rattle.remote_edit.proofs.Texts.{carried_texts}
 use Rattle.remote_edit.proofs.UndoStands.{undo_stands}
 use Rattle.remote_edit.proofs.Anew.{concerned, unconcerned, unmet_kept}
+use Rattle.remote_edit.proofs.PassedPlaces.{shown_append_len, hidden_append_len}
 
 -- ---- places
 
@@ -39,14 +39,6 @@ Both = ℕ × ℕ
 
 abbrev pub both : ℕ → ℕ → Both
 both v h = (v, h)
-
-pub shown_append : (xs ys : List Fragment) → shown_len (xs ++ ys) ≡ shown_len xs + shown_len ys
-shown_append [] ys = omega arith
-shown_append (f ∷ xs) ys = let ih = shown_append xs ys in elim (f.visible) as (λ b. cond b (f.len + shown_len (xs ++ ys)) (shown_len (xs ++ ys)) ≡ cond b (f.len + shown_len xs) (shown_len xs) + shown_len ys) [ true ↦ omega arith | false ↦ omega arith ]
-
-pub hidden_append : (xs ys : List Fragment) → hidden_len (xs ++ ys) ≡ hidden_len xs + hidden_len ys
-hidden_append [] ys = omega arith
-hidden_append (f ∷ xs) ys = let ih = hidden_append xs ys in elim (f.visible) as (λ b. cond b (hidden_len (xs ++ ys)) (f.len + hidden_len (xs ++ ys)) ≡ cond b (hidden_len xs) (f.len + hidden_len xs) + hidden_len ys) [ true ↦ omega arith | false ↦ omega arith ]
 
 same_both : {a b c d : ℕ} → a ≡ b → c ≡ d → both a c ≡ both b d
 same_both {a} {b} {c} {d} e f = ap (λ x. both x c) e ∙ ap (both b) f
@@ -83,7 +75,7 @@ module _ {A S : Type 0} (keeps : S → Bool) (sum_of : A → S) where
   abbrev pub Unkept : A → Type 0
   Unkept y = keeps (sum_of y) ≡ false
 
-  pub all_stay : (m : A → A) → ((y : A) → Unkept y → m y ≡ y) → (xs : List A) → Each Unkept xs → map m xs ≡ xs
+  pub all_stay : (m : A → A) → ((y : A) → Unkept y → m y ≡ y) → (xs : List A) → AllByRecursion Unkept xs → map m xs ≡ xs
   all_stay m f [] e = refl
   all_stay m f (x ∷ xs) e = ap (λ (z : A). z ∷ map m xs) (f x e.0) ∙ ap (λ (z : List A). x ∷ z) (all_stay m f xs e.1)
 
@@ -93,7 +85,7 @@ module _ {A S : Type 0} (keeps : S → Bool) (sum_of : A → S) where
     pub ahead : List A
     pub parts : rest ≡ over ++ x ∷ ahead
     pub count : n ≡ length over
-    pub unkept : Each Unkept over
+    pub unkept : AllByRecursion Unkept over
 
   some_is : (a b : A) → Some a ≡ Some b → a ≡ b
   some_is a b e = cc
@@ -119,7 +111,7 @@ module _ {A S : Type 0} (keeps : S → Bool) (sum_of : A → S) where
   -- none is kept
   pub record Last (rest : List A) (n : ℕ) : Type 0 where
     pub count : n ≡ length rest
-    pub unkept : Each Unkept rest
+    pub unkept : AllByRecursion Unkept rest
 
   last_on : (y : A) (rest : List A) (n : ℕ) → Unkept y → Last rest n → Last (y ∷ rest) (1 + n)
   last_on y rest n u k = let c = k.count in record { count = omega (arith, c); unkept = (u, k.unkept) }
@@ -183,15 +175,15 @@ module _ (w : List UndoEntry) (ts us : List Lamport) (fs items : List Fragment) 
   get_rest o h = sym (get_ahead p.pre (next + over) rest_over (let a = over_is in let b = p.count in omega arith)) ∙ ap (λ (z : List Fragment). slice_get z (next + over)) (sym (items_are ∙ p.whole)) ∙ h
 
   -- bytes that are kept up to a place
-  stretch : (xs ys : List Fragment) (s h : ℕ) → p.rest ≡ xs ++ ys → Each (Unkept (may_concern us) summary_of) xs → IsBehind s h (p.pre ++ xs) → (by t : Lamport)
+  stretch : (xs ys : List Fragment) (s h : ℕ) → p.rest ≡ xs ++ ys → AllByRecursion (Unkept (may_concern us) summary_of) xs → IsBehind s h (p.pre ++ xs) → (by t : Lamport)
       → CarryOn t [] [] fs 0 (with_move (with_move ms (Visible (s - shown))) (Hidden (h - hidden))) (map (anew w by ts) (p.pre ++ xs)) ys 0
   stretch xs ys s h e u b by t =
       let m : Fragment → Fragment = anew w by ts in
       let c : CarryOn t [] [] fs 0 ms (map m p.pre) (xs ++ ys) 0 = subst (λ (z : List Fragment). CarryOn t [] [] fs 0 ms (map m p.pre) z 0) e (p.carry by t) in
       let d : CarryOn t [] [] fs 0 (with_move (with_move ms (Visible (shown_len xs))) (Hidden (hidden_len xs))) (map m p.pre ++ xs) ys 0 = go_on (omega arith) c (on_stretch xs ys) in
       let out : map m p.pre ++ xs ≡ map m (p.pre ++ xs) = ap (λ (z : List Fragment). map m p.pre ++ z) (sym (all_stay (may_concern us) summary_of m (unmet_kept w by ts us us_is) xs u)) ∙ sym (map-append m p.pre xs) in
-      let x : shown_len xs ≡ s - shown = let a = b.shown_is in let o = p.at.shown_is in let q = shown_append p.pre xs in omega arith in
-      let y : hidden_len xs ≡ h - hidden = let a = b.hidden_is in let o = p.at.hidden_is in let q = hidden_append p.pre xs in omega arith in
+      let x : shown_len xs ≡ s - shown = let a = b.shown_is in let o = p.at.shown_is in let q = shown_append_len p.pre xs in omega arith in
+      let y : hidden_len xs ≡ h - hidden = let a = b.hidden_is in let o = p.at.hidden_is in let q = hidden_append_len p.pre xs in omega arith in
       let f : CarryOn t [] [] fs 0 (with_move (with_move ms (Visible (s - shown))) (Hidden (hidden_len xs))) (map m p.pre ++ xs) ys 0 = subst (λ (k : ℕ). CarryOn t [] [] fs 0 (with_move (with_move ms (Visible k)) (Hidden (hidden_len xs))) (map m p.pre ++ xs) ys 0) x d in
       let g : CarryOn t [] [] fs 0 (with_move (with_move ms (Visible (s - shown))) (Hidden (h - hidden))) (map m p.pre ++ xs) ys 0 = subst (λ (k : ℕ). CarryOn t [] [] fs 0 (with_move (with_move ms (Visible (s - shown))) (Hidden k)) (map m p.pre ++ xs) ys 0) y f in
       subst (λ (z : List Fragment). CarryOn t [] [] fs 0 (with_move (with_move ms (Visible (s - shown))) (Hidden (h - hidden))) z ys 0) out g
@@ -236,8 +228,8 @@ module _ (w : List UndoEntry) (ts us : List Lamport) (fs items : List Fragment) 
         within = omega (arith, all, count);
         forward = omega (arith, e);
         after_is = next_is;
-        low = let u = start.shown_is in let y = p.at.shown_is in let z = shown_append p.pre k.over in omega arith;
-        low_hidden = let u = start.hidden_is in let y = p.at.hidden_is in let z = hidden_append p.pre k.over in omega arith;
+        low = let u = start.shown_is in let y = p.at.shown_is in let z = shown_append_len p.pre k.over in omega arith;
+        low_hidden = let u = start.hidden_is in let y = p.at.hidden_is in let z = hidden_append_len p.pre k.over in omega arith;
         on = λ mv ms1 ms2 is e1 e2. record {
           pre = before ++ x ∷ [];
           rest = k.ahead;
@@ -262,8 +254,8 @@ module _ (w : List UndoEntry) (ts us : List Lamport) (fs items : List Fragment) 
       let count : i ≡ length before = let y = p.count in let z = k.count in let u = over_is in omega arith in
       let c : IsBehind s h before = behind_place s h v0 h0 i items2 fs before (x ∷ k.ahead) (same ∙ items_are) whole count a b q in
       record {
-        low = let u = c.shown_is in let y = p.at.shown_is in let z = shown_append p.pre k.over in omega arith;
-        low_hidden = let u = c.hidden_is in let y = p.at.hidden_is in let z = hidden_append p.pre k.over in omega arith;
+        low = let u = c.shown_is in let y = p.at.shown_is in let z = shown_append_len p.pre k.over in omega arith;
+        low_hidden = let u = c.hidden_is in let y = p.at.hidden_is in let z = hidden_append_len p.pre k.over in omega arith;
       }
 
   -- no further one comes: s, h is the place at which all end
@@ -281,8 +273,8 @@ module _ (w : List UndoEntry) (ts us : List Lamport) (fs items : List Fragment) 
       let count : i ≡ length (p.pre ++ p.rest) = let y = p.count in let z = k.count in let u = over_is in omega arith in
       let start : IsBehind s h (p.pre ++ p.rest) = behind_place s h v0 h0 i items2 fs (p.pre ++ p.rest) [] (same ∙ items_are) whole count a b q in
       record {
-        low = let u = start.shown_is in let y = p.at.shown_is in let z = shown_append p.pre p.rest in omega arith;
-        low_hidden = let u = start.hidden_is in let y = p.at.hidden_is in let z = hidden_append p.pre p.rest in omega arith;
+        low = let u = start.shown_is in let y = p.at.shown_is in let z = shown_append_len p.pre p.rest in omega arith;
+        low_hidden = let u = start.hidden_is in let y = p.at.hidden_is in let z = hidden_append_len p.pre p.rest in omega arith;
         carry = λ ms1 by t f. subst (λ (z : List Move). CarryOn t [] [] fs 0 z (all_anew w by ts fs) [] 0) (sym f)
             (subst (λ (z : List Fragment). CarryOn t [] [] fs 0 (with_move (with_move ms (Visible (s - shown))) (Hidden (h - hidden))) (all_anew w by ts z) [] 0) (sym p.whole) (stretch p.rest [] s h none k.unkept start by t));
       }

@@ -1,7 +1,7 @@
 -- Fragments where an undo counts edits stand for the history with the undo.
 use Rattle.std.proofs.Common.{◌≡◌, ℕ, zero, suc, ◌%◌, ◌<◌, ◌⊎◌, ◌↔◌, max, eqb, leb, Bool, true, false, List, [], ◌∷◌, ◌++◌, map, refl, sym, ap, ◌∙◌, arith, subst, inl, inr}
 use Rattle.std.proofs.lemmas.Bool.{cases_Bool, and_from, le-leb}
-use Rattle.std.specs.List.{list_any, list_all}
+use Rattle.std.specs.List.{AllByRecursion, list_any, list_all}
 use Rattle.lamport_clock.specs.declared.stamp.Lamport.{Lamport}
 use Rattle.lamport_clock.specs.Stamps.{same_stamp}
 use Rattle.lamport_clock.specs.Versions.{raise, sees}
@@ -10,21 +10,21 @@ use Rattle.op_model.specs.declared.operation.Operation.{Operation}
 use Rattle.op_model.specs.declared.operation.UndoCount.{UndoCount}
 use Rattle.op_model.specs.declared.operation.UndoOp.{UndoOp}
 use Rattle.op_model.specs.declared.operation.Operation.TheVariants.{Undo}
-use Rattle.op_model.specs.Sorted.{Each, Member}
+use Rattle.op_model.specs.Sorted.{Member}
 use Rattle.op_model.specs.Operations.{stamp_of, counts_of, is_edit}
 use Rattle.op_model.specs.Histories.{History, In, newest_first}
-use Rattle.op_model.specs.Cells.{Cell, Place, cells, seq}
-use Rattle.op_model.specs.Shown.{given, count, undone, all_undone, deleters, shown, shown_where}
+use Rattle.op_model.specs.Cells.{Cell, PathCell, cells, seq}
+use Rattle.op_model.specs.Shown.{greatest_given, count, undone, all_undone, deleters, shown, shown_where}
 use Rattle.op_model.specs.Answers.{answer}
 use Rattle.op_model.specs.Answers.Answer.{Good}
 use Rattle.op_model.specs.Lawful.{Lawful}
 use Rattle.op_model.specs.Facts.{Fact, fact, alike, seen_by}
 use Rattle.op_model.specs.Walked.{Run, run_facts, facts_of}
-use Rattle.op_model.proofs.Deleters.{kept_all}
-use Rattle.op_model.proofs.OnePass.{undone_newest, all_newest}
+use Rattle.op_model.proofs.shown.Deleters.{kept_all}
+use Rattle.op_model.proofs.shown.OnePass.{undone_newest, all_newest}
 use Rattle.op_model.proofs.MainLaws.{undo_is_told}
-use Rattle.op_model.proofs.PathOrder.{same_stamp_eq, same_stamp_refl}
-use Rattle.op_model.proofs.CellsOnce.{each_member}
+use Rattle.op_model.proofs.order.PathOrder.{same_stamp_eq, same_stamp_refl}
+use Rattle.op_model.proofs.order.CellsOnce.{each_member}
 use Rattle.undo_map.specs.declared.entry.UndoEntry.{UndoEntry}
 use Rattle.undo_map.specs.Counts.{count_of, is_odd}
 use Rattle.undo_map.specs.Undos.{undo_entries}
@@ -40,30 +40,30 @@ use Rattle.remote_edit.proofs.OfFacts.{of_facts}
 
 -- ---- what is told of a cell is told by the counts
 
-shown_seen : (h : History) (c : Cell) → shown h c ≡ seen_by h c.stamp (deleters h c)
+pub shown_seen : (h : History) (c : Cell) → shown h c ≡ seen_by h c.stamp (deleters h c)
 unfolding shown shown_where
 shown_seen h c = rw (kept_all (newest_first h), undone_newest h c.stamp, all_newest h (deleters h c)) refl
 
 abbrev ByCounts : History → Fact → Type 0
 ByCounts h q = q.visible ≡ seen_by h q.cell.stamp q.deletions
 
-pub told_by_counts : (h : History) (s : List Place) → Each (ByCounts h) (map (fact h) (cells s))
+pub told_by_counts : (h : History) (s : List PathCell) → AllByRecursion (ByCounts h) (map (fact h) (cells s))
 told_by_counts h [] = tt
 told_by_counts h (p ∷ s) = (shown_seen h p.cell, told_by_counts h s)
 
 abbrev pub IsByCounts : History → Fragment → Type 0
 IsByCounts h f = f.visible ≡ seen_by h f.stamp f.deletions
 
-by_counts : (h : History) (fs : List Fragment) → Each IsFilled fs → Each (ByCounts h) (facts_of (runs fs)) → Each (IsByCounts h) fs
+by_counts : (h : History) (fs : List Fragment) → AllByRecursion IsFilled fs → AllByRecursion (ByCounts h) (facts_of (runs fs)) → AllByRecursion (IsByCounts h) fs
 by_counts h fs l e = of_facts (λ t v d. v ≡ seen_by h t d) fs l e
 
 -- ---- counts with an undo more
 
-count_more : (h : History) (op : Operation) (t : Lamport) → count (h ++ op ∷ []) t ≡ max (count h t) (given (counts_of op) t)
+count_more : (h : History) (op : Operation) (t : Lamport) → count (h ++ op ∷ []) t ≡ max (count h t) (greatest_given (counts_of op) t)
 count_more [] op t = omega arith
 count_more (o ∷ h) op t = let ih = count_more h op t in omega arith
 
-given_none : (cs : List UndoCount) (t : Lamport) → ((c : UndoCount) → Member c cs → same_stamp c.edit t ≡ false) → given cs t ≡ 0
+given_none : (cs : List UndoCount) (t : Lamport) → ((c : UndoCount) → Member c cs → same_stamp c.edit t ≡ false) → greatest_given cs t ≡ 0
 given_none [] t f = refl
 given_none (c ∷ cs) t f = rw (f c (inl refl)) (given_none cs t (λ d m. f d (inr m)))
 
@@ -127,15 +127,15 @@ module _ (h : History) (op : Operation) (w : List UndoEntry) (ts : List Lamport)
   facts_anew t k zero v d s = refl
   facts_anew t k (suc n) v d s = ap (λ (z : List Fact). record { cell = record { stamp = t; k = k }; visible = seen_by next t d; deletions = d } ∷ z) (facts_anew t (suc k) n v d s)
 
-  all_told : (fs : List Fragment) → Each HasLaterDeletions fs → Each (IsByCounts h) fs → facts_of (runs (map m fs)) ≡ map told_anew (facts_of (runs fs))
+  all_told : (fs : List Fragment) → AllByRecursion HasLaterDeletions fs → AllByRecursion (IsByCounts h) fs → facts_of (runs (map m fs)) ≡ map told_anew (facts_of (runs fs))
   all_told [] z e = refl
   all_told (f ∷ fs) z e =
       ap (λ (r : Run). run_facts r ++ facts_of (runs (map m fs))) (run_anew f z.0 e.0)
       ∙ ap (λ (z : List Fact). alike f.stamp f.offset f.len (seen_by next f.stamp f.deletions) f.deletions ++ z) (all_told fs z.1 e.1)
       ∙ facts_anew f.stamp f.offset f.len f.visible f.deletions (facts_of (runs fs))
 
-  cells_told : (fs : List Fragment) → Each IsFilled fs → Tell fs h → Tell (map m fs) next
-  cells_told fs l t = all_told fs (late_deletions h lawful fs l t) (by_counts h fs l (subst (Each (ByCounts h)) (sym t) (told_by_counts h (seq h)))) ∙ ap (map told_anew) t ∙ sym (undo_is_told h op lawful good undo)
+  cells_told : (fs : List Fragment) → AllByRecursion IsFilled fs → Tell fs h → Tell (map m fs) next
+  cells_told fs l t = all_told fs (late_deletions h lawful fs l t) (by_counts h fs l (subst (AllByRecursion (ByCounts h)) (sym t) (told_by_counts h (seq h)))) ∙ ap (map told_anew) t ∙ sym (undo_is_told h op lawful good undo)
 
   -- ---- what stays
 
@@ -146,7 +146,7 @@ module _ (h : History) (op : Operation) (w : List UndoEntry) (ts : List Lamport)
   same_id : (f : Fragment) → (m f).id ≡ f.id
   same_id f = kept_by (λ (g : Fragment). g.id ≡ f.id) f refl refl
 
-  all_filled : (fs : List Fragment) → Each IsFilled fs → Each IsFilled (map m fs)
+  all_filled : (fs : List Fragment) → AllByRecursion IsFilled fs → AllByRecursion IsFilled (map m fs)
   all_filled [] e = tt
   all_filled (f ∷ fs) e = (kept_by IsFilled f e.0 e.0, all_filled fs e.1)
 
@@ -180,7 +180,7 @@ module _ (h : History) (op : Operation) (w : List UndoEntry) (ts : List Lamport)
   one_sees : (f : Fragment) → HasLaterDeletions f → SeesUndos h f → SeesUndos next (m f)
   one_sees f z s = elim (cases_Bool (list_any (concerns f) ts)) [ inl k ↦ rw k (sees_counted f s) | inr k ↦ rw k (sees_same f z k s) ]
 
-  all_see : (fs : List Fragment) → Each HasLaterDeletions fs → Each (SeesUndos h) fs → Each (SeesUndos next) (map m fs)
+  all_see : (fs : List Fragment) → AllByRecursion HasLaterDeletions fs → AllByRecursion (SeesUndos h) fs → AllByRecursion (SeesUndos next) (map m fs)
   all_see [] z e = tt
   all_see (f ∷ fs) z e = (one_sees f z.0 e.0, all_see fs z.1 e.1)
 

@@ -1,8 +1,9 @@
 -- An edit leaves what is seen of undos as it is.
 use Rattle.std.proofs.Common.{◌≡◌, ◌⊎◌, ℕ, zero, suc, ◌+◌, ◌-◌, Bool, Option, List, [], ◌∷◌, ◌++◌, length, sym, ap, ◌∙◌, subst, cond, true, false, Some, None, inl, inr, leb, not, ◌&&◌, ◌||◌}
+use Rattle.std.specs.List.{AllByRecursion}
 use Rattle.std.proofs.lemmas.Bool.{cases_Bool}
 use Rattle.lamport_clock.specs.declared.stamp.Lamport.{Lamport}
-use Rattle.lamport_clock.specs.Stamps.{later, same_stamp}
+use Rattle.lamport_clock.specs.Stamps.{later}
 use Rattle.lamport_clock.specs.Versions.{Entries, sees}
 use Rattle.locators.specs.Locator.{between_digits}
 use Rattle.op_model.specs.declared.operation.Piece.{Piece}
@@ -13,13 +14,12 @@ use Rattle.op_model.specs.Histories.{History, In, has_edit}
 use Rattle.op_model.specs.Answers.{answer}
 use Rattle.op_model.specs.Answers.Answer.{Good}
 use Rattle.op_model.specs.Lawful.{Lawful}
-use Rattle.op_model.specs.Sorted.{Each, Member, insert_by}
+use Rattle.op_model.specs.Sorted.{Member, insert_by}
 use Rattle.op_model.specs.Facts.{with_deletion, stamp_first}
-use Rattle.op_model.proofs.CellsOnce.{each_member}
-use Rattle.op_model.proofs.Counted.{lawful_counted}
-use Rattle.op_model.proofs.PathOrder.{same_stamp_eq}
-use Rattle.op_model.proofs.Good.{checked_of}
-use Rattle.op_model.proofs.OnePass.{no_counts}
+use Rattle.op_model.proofs.order.CellsOnce.{each_member}
+use Rattle.op_model.proofs.answers.Counted.{lawful_counted, not_there}
+use Rattle.op_model.proofs.answers.Good.{checked_of}
+use Rattle.op_model.proofs.shown.OnePass.{no_counts}
 use Rattle.undo_map.specs.declared.entry.UndoEntry.{UndoEntry}
 use Rattle.fragments.specs.declared.fragment.Fragment.{Fragment}
 use Rattle.fragments.specs.Stand.{SeesUndos}
@@ -31,17 +31,17 @@ module _ (P : Fragment → Type 0) (t : Lamport) (v : Entries)
     (of_front : (f : Fragment) (n : ℕ) (id : List ℕ) → P f → P (front f n id)) (of_back : (f : Fragment) (n : ℕ) → P f → P (back f n))
     (of_touch : (m : Option (List UndoEntry)) (f : Fragment) → P f → P (touch m t v f)) (of_new : (k n : ℕ) (id : List ℕ) → P (new_fragment t k n id)) where
   abbrev Both : Zip → Type 0
-  Both z = Each P z.pre × Each P z.rest
+  Both z = AllByRecursion P z.pre × AllByRecursion P z.rest
 
-  with_one : (pre : List Fragment) (f : Fragment) → Each P pre → P f → Each P (pre ++ f ∷ [])
+  with_one : (pre : List Fragment) (f : Fragment) → AllByRecursion P pre → P f → AllByRecursion P (pre ++ f ∷ [])
   with_one [] f h p = (p, tt)
   with_one (x ∷ pre) f h p = (h.0, with_one pre f h.1 p)
 
-  both_all : (pre rest : List Fragment) → Each P pre → Each P rest → Each P (pre ++ rest)
+  both_all : (pre rest : List Fragment) → AllByRecursion P pre → AllByRecursion P rest → AllByRecursion P (pre ++ rest)
   both_all [] rest h k = k
   both_all (x ∷ pre) rest h k = (h.0, both_all pre rest h.1 k)
 
-  each_advance : (m : Option (List UndoEntry)) (n : ℕ) (pre rest : List Fragment) → Each P pre → Each P rest → Both (advance m t v n pre rest)
+  each_advance : (m : Option (List UndoEntry)) (n : ℕ) (pre rest : List Fragment) → AllByRecursion P pre → AllByRecursion P rest → Both (advance m t v n pre rest)
   each_advance m zero pre [] h k = (h, k)
   each_advance m (suc n) pre [] h k = (h, k)
   each_advance m zero pre (f ∷ fs) h k = (h, k)
@@ -54,20 +54,20 @@ module _ (P : Fragment → Type 0) (t : Lamport) (v : Entries)
     ]
   ]
 
-  each_skip : (pre rest : List Fragment) → Each P pre → Each P rest → Both (skip_later t v pre rest)
+  each_skip : (pre rest : List Fragment) → AllByRecursion P pre → AllByRecursion P rest → Both (skip_later t v pre rest)
   each_skip pre [] h k = (h, k)
   each_skip pre (f ∷ fs) h k = elim (cases_Bool (later f.stamp t && not (sees v f.stamp))) [
     | inl s ↦ rw s (each_skip (pre ++ f ∷ []) fs (with_one pre f h k.0) k.1)
     | inr s ↦ rw s ((h, k))
   ]
 
-  each_put : (k n : ℕ) (pre rest : List Fragment) → Each P pre → Each P rest → Both (put_new t k n pre rest)
+  each_put : (k n : ℕ) (pre rest : List Fragment) → AllByRecursion P pre → AllByRecursion P rest → Both (put_new t k n pre rest)
   each_put k zero pre rest h l = (h, l)
   each_put k (suc n) pre rest h l =
       let id : List ℕ = between_digits (last_id pre) (next_id rest) in
       (with_one pre (new_fragment t k (suc n) id) h (of_new k (suc n) id), l)
 
-  pub each_walk : (w : List UndoEntry) (at k : ℕ) (ps : List Piece) (pre rest : List Fragment) → Each P pre → Each P rest → Each P (walk w t v at k ps pre rest)
+  pub each_walk : (w : List UndoEntry) (at k : ℕ) (ps : List Piece) (pre rest : List Fragment) → AllByRecursion P pre → AllByRecursion P rest → AllByRecursion P (walk w t v at k ps pre rest)
   each_walk w at k [] pre rest h l = both_all pre rest h l
   each_walk w at k (p ∷ ps) pre rest h l = elim (cases_Bool (changes p)) [
     | inr e ↦ rw e (each_walk w at k ps pre rest h l)
@@ -94,19 +94,6 @@ deletion_of t x (y ∷ d) m = go (stamp_first y t) m (deletion_of t x d)
     go false (inl e) f = inl e
     go false (inr n) f = inr n
 
-not_there : (h : History) (t : Lamport) → Each (λ (o : Operation). stamp_of o ≡ t → ⊥) h → has_edit h t ≡ true → ⊥
-not_there [] t n e = cc
-not_there (o ∷ h) t n e = go (cases_Bool (same_stamp (stamp_of o) t)) (not_there h t n.1)
-  where
-    less : (b c d : Bool) → ((b && c) || d) ≡ true → c ≡ false → d ≡ true
-    less true true d x y = cc
-    less true false d x y = x
-    less false c d x y = x
-
-    go : (same_stamp (stamp_of o) t ≡ true) ⊎ (same_stamp (stamp_of o) t ≡ false) → (has_edit h t ≡ true → ⊥) → ⊥
-    go (inl s) f = n.0 (same_stamp_eq (stamp_of o) t s)
-    go (inr s) f = f (less (is_edit o) (same_stamp (stamp_of o) t) (has_edit h t) e s)
-
 -- an edit that is new in h is counted by no undo of h
 uncounted : (h : History) (op : Operation) → Lawful h → answer h [] op ≡ Good → (o : Operation) → In h o → (c : UndoCount) → Member c (counts_of o) → c.edit ≡ stamp_of op → ⊥
 uncounted h op l g o i c m e =
@@ -129,7 +116,7 @@ sees_touch h op l g (Some w) v f s = go (was_shown w v f.stamp f.deletions)
     go false = s
 
 -- the history with an edit has no undo more
-sees_more : (h : History) (op : Operation) → is_edit op ≡ true → (fs : List Fragment) → Each (SeesUndos h) fs → Each (SeesUndos (h ++ op ∷ [])) fs
+sees_more : (h : History) (op : Operation) → is_edit op ≡ true → (fs : List Fragment) → AllByRecursion (SeesUndos h) fs → AllByRecursion (SeesUndos (h ++ op ∷ [])) fs
 sees_more h op e [] s = tt
 sees_more h op e (f ∷ fs) s = (one, sees_more h op e fs s.1)
   where
@@ -145,8 +132,8 @@ sees_more h op e (f ∷ fs) s = (one, sees_more h op e fs s.1)
       | inr q ↦ absurd (subst (Member c) (ap counts_of q ∙ no_counts op e) m)
     ]
 
-pub walk_undos : (h : History) (op : Operation) (w : List UndoEntry) (fs : List Fragment) → Lawful h → answer h [] op ≡ Good → is_edit op ≡ true → Each (SeesUndos h) fs
-    → Each (SeesUndos (h ++ op ∷ [])) (walk w (stamp_of op) (version_of op) 0 0 (pieces_of op) [] fs)
+pub walk_undos : (h : History) (op : Operation) (w : List UndoEntry) (fs : List Fragment) → Lawful h → answer h [] op ≡ Good → is_edit op ≡ true → AllByRecursion (SeesUndos h) fs
+    → AllByRecursion (SeesUndos (h ++ op ∷ [])) (walk w (stamp_of op) (version_of op) 0 0 (pieces_of op) [] fs)
 walk_undos h op w fs l g e s =
     sees_more h op e (walk w (stamp_of op) (version_of op) 0 0 (pieces_of op) [] fs)
     (each_walk (SeesUndos h) (stamp_of op) (version_of op) (λ f n id p. p) (λ f n p. p) (λ m f p. sees_touch h op l g m (version_of op) f p)

@@ -1,8 +1,9 @@
 -- Fragments that begin and end between characters, through an operation.
+use Rattle.op_model.proofs.Elements.{each_map, each_filter as each_kept}
 use Rattle.std.proofs.Common.{◌≡◌, ℕ, zero, suc, ◌+◌, Bool, true, false, cond, append-nil, List, [], ◌∷◌, ◌++◌, length, map, get_or, refl, sym, ap, ◌∙◌, arith, subst, inl, inr, append_assoc, length-append}
 use Rattle.std.proofs.lemmas.Bool.{cases_Bool}
 use Rattle.std.proofs.lemmas.Str.{IsCharBoundary-start}
-use Rattle.std.specs.List.{filter}
+use Rattle.std.specs.List.{AllByRecursion, filter}
 use Rattle.std.specs.Str.{IsUtf8}
 use Rattle.std.specs.Prelude.{IsCharBoundary}
 use Rattle.lamport_clock.specs.declared.stamp.Lamport.{Lamport}
@@ -11,29 +12,26 @@ use Rattle.lamport_clock.specs.Versions.{sees}
 use Rattle.op_model.specs.declared.operation.Operation.{Operation}
 use Rattle.op_model.specs.declared.operation.Piece.{Piece}
 use Rattle.op_model.specs.Operations.{stamp_of, version_of, pieces_of}
-use Rattle.op_model.specs.Sorted.{Each}
-use Rattle.op_model.specs.Domains.{IsProper}
 use Rattle.op_model.specs.Edits.{is_boundary}
-use Rattle.op_model.proofs.PathOrder.{same_stamp_refl}
-use Rattle.op_model.specs.Histories.{base, History, Distinct, newest_first, seen}
-use Rattle.op_model.specs.Cells.{Cell, Place, seq, seq_where, cells}
+use Rattle.op_model.proofs.order.PathOrder.{same_stamp_refl}
+use Rattle.op_model.specs.Histories.{base, History, Distinct, newest_first, seen_history}
+use Rattle.op_model.specs.Cells.{Cell, PathCell, seq, seq_where, cells}
 use Rattle.op_model.specs.Shown.{texts, new_bytes, IsCell, full, full_where}
 use Rattle.op_model.specs.Answers.{answer}
 use Rattle.op_model.specs.Answers.Answer.{Good}
 use Rattle.op_model.specs.Lawful.{Lawful}
 use Rattle.op_model.specs.Facts.{Fact, alike, Marking}
-use Rattle.op_model.specs.Walked.{Run, IsWhole, run_facts, facts_of}
-use Rattle.op_model.proofs.Insertion.{each_map}
-use Rattle.op_model.proofs.Restricted.{restrict}
-use Rattle.op_model.proofs.Groups.{passed_unseen}
-use Rattle.op_model.proofs.OneMore.{Fits}
-use Rattle.op_model.proofs.Bytes.{full_seen}
-use Rattle.op_model.proofs.Passed.{passed, ranged}
-use Rattle.op_model.proofs.Counted.{good_ordered}
-use Rattle.op_model.proofs.Good.{lawful_ready, good_more}
-use Rattle.op_model.proofs.Utf8Runs.{bytes, kept_bytes, Utf8, NewUtf8, walk_utf8, facts_kept}
-use Rattle.op_model.proofs.WholeTexts.{byte_of, byte_is, in_last, bytes_told, same_bytes, each_left, each_right, kept_told, new_text, boundary_of, of_boundary, bounds_of}
-use Rattle.op_model.proofs.WholeRuns.{Texts, Cut, told_cells, cut_runs, utf8_runs}
+use Rattle.op_model.specs.Walked.{Run, IsWhole}
+use Rattle.op_model.proofs.order.Restricted.{restrict}
+use Rattle.op_model.proofs.order.Groups.{passed_unseen}
+use Rattle.op_model.proofs.histories.OneMore.{Fits}
+use Rattle.op_model.proofs.shown.Bytes.{full_seen}
+use Rattle.op_model.proofs.answers.Passed.{passed, ranged}
+use Rattle.op_model.proofs.answers.Counted.{good_ordered}
+use Rattle.op_model.proofs.answers.Good.{lawful_ready, good_more}
+use Rattle.op_model.proofs.texts.Utf8Runs.{bytes, kept_bytes, Utf8, NewUtf8, walk_utf8, facts_kept}
+use Rattle.op_model.proofs.texts.WholeTexts.{byte_of, byte_is, in_last, bytes_told, kept_told, new_text, boundary_of, of_boundary, bounds_of, utf8_agree}
+use Rattle.op_model.proofs.texts.WholeRuns.{Texts, Cut, told_cells, cut_runs, utf8_runs}
 use Rattle.undo_map.specs.declared.entry.UndoEntry.{UndoEntry}
 use Rattle.fragments.specs.declared.fragment.Fragment.{Fragment}
 use Rattle.fragments.specs.declared.index_entry.IndexEntry.{IndexEntry}
@@ -44,7 +42,7 @@ use Rattle.remote_edit.specs.Carried.{cell_bytes, IsText}
 use Rattle.remote_edit.specs.CarriedLaws.{BaseIsWhole}
 use Rattle.remote_edit.proofs.Changing.{changing, no_text, ordered_changing}
 use Rattle.remote_edit.proofs.Runs.{filled_runs}
-use Rattle.remote_edit.proofs.Texts.{each_kept, old_bytes}
+use Rattle.remote_edit.proofs.Texts.{old_bytes}
 use Rattle.remote_edit.proofs.EditTexts.{placed_fragments, placed_runs, fits}
 
 -- ---- bytes of runs and of fragments
@@ -53,29 +51,26 @@ same_cells : (f : Cell → ℕ) (t : Lamport) (k n : ℕ) (v : Bool) (d : List L
 same_cells f t k zero v d = refl
 same_cells f t k (suc n) v d = ap (λ (z : List ℕ). f (record { stamp = t; k = k }) ∷ z) (same_cells f t (suc k) n v d)
 
-pub texts_are : (f : Cell → ℕ) (fs : List Fragment) → Utf8 f (runs fs) → Each (IsText f) fs
+pub texts_are : (f : Cell → ℕ) (fs : List Fragment) → Utf8 f (runs fs) → AllByRecursion (IsText f) fs
 texts_are f [] u = tt
 texts_are f (x ∷ fs) u = (subst IsUtf8 (same_cells f x.stamp x.offset x.len x.visible x.deletions) u.0, texts_are f fs u.1)
 
-pub texts_of_runs : (f : Cell → ℕ) (fs : List Fragment) → Each (IsText f) fs → Utf8 f (runs fs)
+pub texts_of_runs : (f : Cell → ℕ) (fs : List Fragment) → AllByRecursion (IsText f) fs → Utf8 f (runs fs)
 texts_of_runs f [] u = tt
 texts_of_runs f (x ∷ fs) u = (subst IsUtf8 (sym (same_cells f x.stamp x.offset x.len x.visible x.deletions)) u.0, texts_of_runs f fs u.1)
 
 -- ---- whole fragments have bytes of UTF-8, and those alone
 
-pub proper_texts : (h : History) → Each IsProper h → Texts h
-proper_texts h e = each_map IsProper (λ (o : Operation). Each (λ (p : Piece). IsUtf8 p.text) (pieces_of o)) (λ o p. p.1) h e
-
-pub whole_runs : (h : History) → Lawful h → Texts h → (rs : List Run) → Each (IsWhole h) rs → Utf8 (byte_of h) rs
+pub whole_runs : (h : History) → Lawful h → Texts h → (rs : List Run) → AllByRecursion (IsWhole h) rs → Utf8 (byte_of h) rs
 whole_runs h l u rs w =
     let d : Distinct h = (lawful_ready h l).0.distinct in
     utf8_runs h d u rs (each_map (IsWhole h) (λ (x : Run). Cut h d x.stamp x.offset x.len)
     (λ x k. (boundary_of (new_bytes h x.stamp) x.offset k.0, boundary_of (new_bytes h x.stamp) (x.offset + x.len) k.1)) rs w)
 
-pub whole_fragments : (h : History) → Lawful h → Texts h → (fs : List Fragment) → Each IsFilled fs → Tell fs h → Utf8 (byte_of h) (runs fs) → Each (IsWhole h) (runs fs)
+pub whole_fragments : (h : History) → Lawful h → Texts h → (fs : List Fragment) → AllByRecursion IsFilled fs → Tell fs h → Utf8 (byte_of h) (runs fs) → AllByRecursion (IsWhole h) (runs fs)
 whole_fragments h l u fs f s w =
     let d : Distinct h = (lawful_ready h l).0.distinct in
-    let k = cut_runs h d u (runs fs) (filled_runs fs f) (subst (λ (x : List Fact). Each (λ (y : Fact). IsCell h y.cell) x) (sym s) (told_cells h d)) w in
+    let k = cut_runs h d u (runs fs) (filled_runs fs f) (subst (λ (x : List Fact). AllByRecursion (λ (y : Fact). IsCell h y.cell) x) (sym s) (told_cells h d)) w in
     each_map (λ (x : Run). Cut h d x.stamp x.offset x.len) (IsWhole h) (λ x b. (of_boundary (new_bytes h x.stamp) x.offset b.0, of_boundary (new_bytes h x.stamp) (x.offset + x.len) b.1)) (runs fs) k
 
 pub base_whole : BaseIsWhole
@@ -88,18 +83,11 @@ base_whole id t u =
 
 -- ---- the bytes in the history with one operation more
 
-utf8_agree : (f g : Cell → ℕ) (rs : List Run) → Each (λ (q : Fact). f q.cell ≡ g q.cell) (facts_of rs) → Utf8 f rs → Utf8 g rs
-utf8_agree f g [] e u = tt
-utf8_agree f g (r ∷ rs) e u = (
-  subst IsUtf8 (same_bytes f g (run_facts r) (each_left (λ (q : Fact). f q.cell ≡ g q.cell) (run_facts r) (facts_of rs) e)) u.0,
-  utf8_agree f g rs (each_right (λ (q : Fact). f q.cell ≡ g q.cell) (run_facts r) (facts_of rs) e) u.1,
-)
-
 -- whole fragments have bytes of UTF-8 there too
-pub utf8_more : (h : History) (op : Operation) (fs : List Fragment) → Lawful h → Texts h → answer h [] op ≡ Good → Tell fs h → Each (IsWhole h) (runs fs) → Utf8 (byte_of (h ++ op ∷ [])) (runs fs)
+pub utf8_more : (h : History) (op : Operation) (fs : List Fragment) → Lawful h → Texts h → answer h [] op ≡ Good → Tell fs h → AllByRecursion (IsWhole h) (runs fs) → Utf8 (byte_of (h ++ op ∷ [])) (runs fs)
 utf8_more h op fs l u g s w =
     let r = lawful_ready h l in
-    let e = subst (λ (x : List Fact). Each (λ (q : Fact). byte_of h q.cell ≡ byte_of (h ++ op ∷ []) q.cell) x) (sym s) (bytes_told h op r.0.distinct (good_more h op r g).0.0.distinct) in
+    let e = subst (λ (x : List Fact). AllByRecursion (λ (q : Fact). byte_of h q.cell ≡ byte_of (h ++ op ∷ []) q.cell) x) (sym s) (bytes_told h op r.0.distinct (good_more h op r g).0.0.distinct) in
     utf8_agree (byte_of h) (byte_of (h ++ op ∷ [])) (runs fs) e (whole_runs h l u (runs fs) w)
 
 -- ---- an edit
@@ -110,7 +98,7 @@ none_in (y ∷ x) e = absurd (omega (arith, e))
 
 new_changing : (f : Cell → ℕ) (m : Marking) (keep : Lamport → Bool) (t : Lamport) (nu : (u : Lamport) → later u t ≡ true → keep u ≡ false) (whole : List ℕ)
     → ((k : ℕ) → f (record { stamp = t; k = k }) ≡ get_or whole k 0)
-    → (pre : List ℕ) (ps : List Piece) (k : ℕ) → whole ≡ pre ++ texts ps → k ≡ length pre → Each (λ (p : Piece). IsUtf8 p.text) ps → NewUtf8 f m keep t nu k (changing ps)
+    → (pre : List ℕ) (ps : List Piece) (k : ℕ) → whole ≡ pre ++ texts ps → k ≡ length pre → AllByRecursion (λ (p : Piece). IsUtf8 p.text) ps → NewUtf8 f m keep t nu k (changing ps)
 new_changing f m keep t nu whole g pre [] k e l u = tt
 new_changing f m keep t nu whole g pre (p ∷ ps) k e l u = elim (cases_Bool (changes p)) [
   | inl c ↦ (let n : length (pre ++ p.text) ≡ length pre + length p.text = length-append pre p.text in
@@ -135,20 +123,20 @@ module _ (h : History) (op : Operation) (u : List UndoEntry) (fs : List Fragment
   d2 = (good_more h op (lawful_ready h l) g).0.0.distinct
 
   -- the bytes that the edit's version sees
-  kept_full : kept_bytes (byte_of next) keep (runs fs) ≡ full (seen h (version_of op))
+  kept_full : kept_bytes (byte_of next) keep (runs fs) ≡ full (seen_history h (version_of op))
   unfolding seq full_where
   kept_full =
       sym (facts_kept (byte_of next) keep (runs fs)) ∙ old_bytes h op d d2 (λ q. keep q.cell.stamp) fs s.cells
       ∙ ap (λ (x : List Fact). bytes (byte_of h) (filter (λ (q : Fact). keep q.cell.stamp) x)) s.cells ∙ kept_told h keep (seq h)
-      ∙ ap (λ (x : List Place). map (byte_of h) (cells x)) (restrict keep (newest_first h) (fits h op u fs i s l g).closed) ∙ sym (full_seen h (version_of op))
+      ∙ ap (λ (x : List PathCell). map (byte_of h) (cells x)) (restrict keep (newest_first h) (fits h op u fs i s l g).closed) ∙ sym (full_seen h (version_of op))
 
-  pub placed_utf8 : Each (λ (p : Piece). IsUtf8 p.text) (pieces_of op) → Utf8 (byte_of next) (runs fs) → Utf8 (byte_of next) (runs (placed_fragments h op u fs i s l g))
+  pub placed_utf8 : AllByRecursion (λ (p : Piece). IsUtf8 p.text) (pieces_of op) → Utf8 (byte_of next) (runs fs) → Utf8 (byte_of next) (runs (placed_fragments h op u fs i s l g))
   placed_utf8 e w =
       let t : Lamport = stamp_of op in
       let m : Marking = marking u t (version_of op) in
       let f : Fits h op = fits h op u fs i s l g in
       let ps : List Piece = pieces_of op in
-      let bs : List ℕ = full (seen h (version_of op)) in
+      let bs : List ℕ = full (seen_history h (version_of op)) in
       let nu : (x : Lamport) → later x t ≡ true → keep x ≡ false = λ x. passed_unseen (version_of op) t x f.above in
       let n : ℕ = length (seq_where keep (newest_first h)) in
       let b = each_kept (λ (p : Piece). IsCharBoundary bs p.start × IsCharBoundary bs p.end) changes ps (bounds_of bs ps (ranged bs ps (passed h [] op g).ranges).1) in

@@ -1,15 +1,14 @@
 -- Moves on the way: what they have done where a walk over fragments has put some out and has the others before it.
 use Rattle.std.specs.Prelude.{◌≡◌, ℕ, zero, suc, ◌+◌, ◌≤◌, Bool, not, if◌then◌else◌, List, [], ◌∷◌, ◌++◌, map, drop, length, slice_index}
-use Rattle.std.specs.List.{filter}
+use Rattle.std.specs.List.{AllByRecursion, filter}
 use Rattle.std.specs.Str.{IsUtf8}
 use Rattle.lamport_clock.specs.declared.stamp.Lamport.{Lamport}
 use Rattle.op_model.specs.declared.operation.Operation.{Operation}
 use Rattle.op_model.specs.Operations.{stamp_of, pieces_of}
 use Rattle.op_model.specs.Histories.{History}
 use Rattle.op_model.specs.Cells.{Cell}
-use Rattle.op_model.specs.Shown.{text, hidden, texts}
+use Rattle.op_model.specs.Shown.{text, hidden_text, texts}
 use Rattle.op_model.specs.Facts.{Fact}
-use Rattle.op_model.specs.Sorted.{Each}
 use Rattle.op_model.specs.Walked.{IsWhole, facts_of}
 use Rattle.fragments.specs.declared.fragment.Fragment.{Fragment}
 use Rattle.fragments.specs.Stand.{runs}
@@ -19,12 +18,12 @@ use Rattle.remote_edit.specs.Moves.{Texts, texts_of, after_moves, TakeTexts, Hav
 
 -- moves take the shown and the hidden text of h, with the new text of op, to those of the history with op
 abbrev pub AreMovesOf : List Move → History → Operation → Type 0
-AreMovesOf ms h op = after_moves ms (text h) (hidden h) (texts (pieces_of op)) ≡ texts_of (text (h ++ op ∷ [])) (hidden (h ++ op ∷ []))
+AreMovesOf ms h op = after_moves ms (text h) (hidden_text h) (texts (pieces_of op)) ≡ texts_of (text (h ++ op ∷ [])) (hidden_text (h ++ op ∷ []))
 
 -- where the fragments fs begin and end between characters, so do gs of h with op, and the moves take whole characters
 abbrev pub KeepCharacters : List Fragment → List Fragment → List Move → History → Operation → Type 0
-KeepCharacters fs gs ms h op = Each (IsWhole h) (runs fs)
-    → Each (IsWhole (h ++ op ∷ [])) (runs gs) × TakeTexts ms (text h) (hidden h) (texts (pieces_of op))
+KeepCharacters fs gs ms h op = AllByRecursion (IsWhole h) (runs fs)
+    → AllByRecursion (IsWhole (h ++ op ∷ [])) (runs gs) × TakeTexts ms (text h) (hidden_text h) (texts (pieces_of op))
 
 -- what becomes of n bytes by whether they were shown before, and are now
 abbrev pub move_for : Bool → Bool → ℕ → Move
@@ -59,7 +58,7 @@ IsText byte f = IsUtf8 (cell_bytes byte f.stamp f.offset f.len)
 pub record Carried (byte : Cell → ℕ) (t : Lamport) (s h n : List ℕ) (ms : List Move) (pre rest : List Fragment) (k : ℕ) : Type 0 where
   pub moves : HaveMoved s h n ms (both_bytes byte pre) (both_bytes byte rest) (drop k n)
   pub text : (j : ℕ) → byte (record { stamp = t; k = j }) ≡ slice_index n j
-  pub characters : Each (IsText byte) pre → TakeTexts ms s h n
+  pub characters : AllByRecursion (IsText byte) pre → TakeTexts ms s h n
 
 -- moves that go on as a walk over fragments goes on, putting in new cells of edit t
 abbrev pub CarryOn : Lamport → List Move → List Fragment → List Fragment → ℕ → List Move → List Fragment → List Fragment → ℕ → Type 0

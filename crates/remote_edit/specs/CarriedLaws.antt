@@ -1,8 +1,8 @@
 -- Laws of moves and of whole fragments, which src/laws.rt shows.
 use Rattle.std.specs.Prelude.{◌≡◌, ℕ, List, [], ◌∷◌, ◌++◌}
+use Rattle.std.specs.List.{AllByRecursion}
 use Rattle.std.specs.Str.{IsUtf8}
 use Rattle.op_model.specs.declared.operation.Operation.{Operation}
-use Rattle.op_model.specs.Sorted.{Each}
 use Rattle.op_model.specs.Walked.{IsWhole}
 use Rattle.op_model.specs.Histories.{History, base}
 use Rattle.op_model.specs.Answers.{answer}
@@ -22,4 +22,4 @@ CarriedTextsAreThose = (h : History) → (op : Operation) → (fs gs : List Frag
 
 -- the fragment of a base, whose text is UTF-8, begins and ends between characters
 abbrev pub BaseIsWhole : Type 0
-BaseIsWhole = (id t : List ℕ) → IsUtf8 t → Each (IsWhole (base t ∷ [])) (runs (whole_base id t ∷ []))
+BaseIsWhole = (id t : List ℕ) → IsUtf8 t → AllByRecursion (IsWhole (base t ∷ [])) (runs (whole_base id t ∷ []))

@@ -1,7 +1,8 @@
 -- An index of fragments among which an edit is placed.
 use Rattle.std.specs.Prelude.{◌≡◌, ◌⊎◌, ℕ, ◌+◌, ◌≤◌, List}
+use Rattle.std.specs.List.{AllByRecursion}
 use Rattle.lamport_clock.specs.declared.stamp.Lamport.{Lamport}
-use Rattle.op_model.specs.Sorted.{Each, EachPair}
+use Rattle.op_model.specs.Sorted.{EachPair}
 use Rattle.fragments.specs.declared.fragment.Fragment.{Fragment}
 use Rattle.fragments.specs.declared.index_entry.IndexEntry.{IndexEntry}
 use Rattle.fragments.specs.Index.{IsAscending}
@@ -20,4 +21,4 @@ pub record IsIndexed (t : Lamport) (k : ℕ) (fs : List Fragment) (w : List Inde
   pub ascending : IsAscending w
   pub entries : IsIndexOf fs w
   pub apart : EachPair IsApart fs
-  pub before : Each (EndsBefore t k) fs
+  pub before : AllByRecursion (EndsBefore t k) fs

@@ -1,13 +1,13 @@
 -- When an edit may be placed, and what placing gives.
 use Rattle.std.specs.Prelude.{◌≡◌, ◌+◌, ◌≤◌, ◌^◌, List, [], ◌∷◌, ◌++◌, length, None}
+use Rattle.std.specs.List.{AllByRecursion}
 use Rattle.lamport_clock.specs.declared.stamp.Lamport.{Lamport}
 use Rattle.lamport_clock.specs.Versions.{Entries}
 use Rattle.op_model.specs.declared.operation.Operation.{Operation}
 use Rattle.op_model.specs.declared.operation.Piece.{Piece}
 use Rattle.op_model.specs.declared.limits.Limits.{Limits as LimitsType}
-use Rattle.op_model.specs.Sorted.{Each}
 use Rattle.op_model.specs.Domains.{IsProper, IsReplica}
-use Rattle.op_model.specs.Made.{made, local_edit_fault}
+use Rattle.op_model.specs.Made.{local_edit, local_edit_fault}
 use Rattle.op_model.specs.Operations.{pieces_of, text_total}
 use Rattle.op_model.specs.Histories.{History, version, clock}
 use Rattle.op_model.specs.Shown.{full}
@@ -40,7 +40,7 @@ MoveWithEdit fs w u op ms = (h : History) → Stand fs w u h → Lawful h → an
 
 -- for each such history, where the texts are UTF-8, whole fragments stay whole and the moves take whole characters
 abbrev pub KeepCharactersWithEdit : List Fragment → List IndexEntry → List UndoEntry → Operation → List Fragment → List Move → Type 0
-KeepCharactersWithEdit fs w u op gs ms = (h : History) → Stand fs w u h → Lawful h → Each IsProper h → IsProper op → answer h [] op ≡ Good → KeepCharacters fs gs ms h op
+KeepCharactersWithEdit fs w u op gs ms = (h : History) → Stand fs w u h → Lawful h → AllByRecursion IsProper h → IsProper op → answer h [] op ≡ Good → KeepCharacters fs gs ms h op
 
 -- the fragments, the index and the undo counts stand for a lawful history, the stamp t and the version v are those of what a
 -- replica makes there, the changes meet no fault, and the bytes of the history and the new ones are at most 2^40
@@ -48,7 +48,7 @@ pub record MayMake (fs : List Fragment) (w : List IndexEntry) (u : List UndoEntr
   pub history : History
   pub stands : Stand fs w u history
   pub lawful : Lawful history
-  pub proper : Each IsProper history
+  pub proper : AllByRecursion IsProper history
   pub replica : IsReplica t.replica
   pub value : t.value ≡ clock history
   pub sees : v ≡ version history
@@ -59,4 +59,4 @@ pub record MayMake (fs : List Fragment) (w : List IndexEntry) (u : List UndoEntr
 -- for each history for which the fragments stand, and of which the stamp t and the version v are what a replica makes there, the
 -- operation is the one that is made
 abbrev pub IsMade : List Fragment → List IndexEntry → List UndoEntry → Lamport → Entries → List Piece → Operation → Type 0
-IsMade fs w u t v changes op = (h : History) → Stand fs w u h → t.value ≡ clock h → v ≡ version h → op ≡ made h t.replica changes
+IsMade fs w u t v changes op = (h : History) → Stand fs w u h → t.value ≡ clock h → v ≡ version h → op ≡ local_edit h t.replica changes

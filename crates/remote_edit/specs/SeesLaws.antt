@@ -5,14 +5,16 @@ use Rattle.std.proofs.lemmas.Bool.Decides.{nat_tests}
 use Rattle.std.specs.List.{list_any}
 use Rattle.lamport_clock.specs.declared.stamp.Lamport.{Lamport}
 use Rattle.lamport_clock.specs.Stamps.{same_stamp}
-use Rattle.lamport_clock.specs.Versions.{Entries, entry, put, raise, joined, sees}
+use Rattle.lamport_clock.specs.Versions.{Entries, entry, put_entry, raise, join_versions, sees}
 use Rattle.lamport_clock.proofs.Raises.{by_bound, by_order, raise_seen, raise_new, entry-put_at, entry-put_off}
-use Rattle.op_model.proofs.PathOrder.{same_stamp_eq}
+use Rattle.op_model.proofs.order.PathOrder.{same_stamp_eq}
 use Rattle.op_model.specs.Sorted.{Member}
 use Rattle.fragments.specs.declared.fragment.FragmentSummary.{FragmentSummary}
 use Rattle.fragments.specs.Summaries.{summaries, with_stamps}
 use Rattle.fragments.specs.declared.spans.Span.{Span}
-use Rattle.fragments.specs.Spans.{hull, with_span, join_spans}
+use Rattle.fragments.specs.Spans.{with_span, join_spans}
+use Rattle.lamport_clock.proofs.Associative.{entry_raised}
+use Rattle.fragments.specs.SpanLaws.{past, at, before}
 
 -- an entry never falls
 raise_up : (v : Entries) (t : Lamport) (r : ℕ) → entry v r ≤ entry (raise v t) r
@@ -20,17 +22,12 @@ raise_up v t r = by_bound _ t.value (entry v t.replica)
     (λ h. let e = ap (λ (w : Entries). entry w r) (raise_seen v t h) in omega arith)
     (λ h. let e = ap (λ (w : Entries). entry w r) (raise_new v t h) in by_order _ r t.replica
     (λ k. let o = entry-put_off v t.replica t.value r (λ q. absurd (omega arith)) in omega arith)
-    (λ k. let a = ap (entry (put t.replica t.value v)) k ∙ entry-put_at v t.replica t.value in let b = ap (entry v) k in omega arith)
+    (λ k. let a = ap (entry (put_entry t.replica t.value v)) k ∙ entry-put_at v t.replica t.value in let b = ap (entry v) k in omega arith)
     (λ k. let o = entry-put_off v t.replica t.value r (λ q. absurd (omega arith)) in omega arith))
-
-raise_at : (v : Entries) (t : Lamport) → t.value ≤ entry (raise v t) t.replica
-raise_at v t = by_bound _ t.value (entry v t.replica)
-    (λ h. let e = ap (λ (w : Entries). entry w t.replica) (raise_seen v t h) in omega arith)
-    (λ h. let e = ap (λ (w : Entries). entry w t.replica) (raise_new v t h) ∙ entry-put_at v t.replica t.value in omega arith)
 
 -- the stamp that is taken in is seen
 pub raise_sees : (v : Entries) (t : Lamport) → sees (raise v t) t ≡ true
-raise_sees v t = le-leb t.value (entry (raise v t) t.replica) (raise_at v t)
+raise_sees v t = le-leb t.value (entry (raise v t) t.replica) (entry_raised v t)
 
 -- what is seen stays seen
 pub sees_raise : (v : Entries) (s t : Lamport) → sees v t ≡ true → sees (raise v s) t ≡ true
@@ -48,13 +45,13 @@ stamps_seen (s ∷ d) v t h = elim (cases_Bool (same_stamp t s)) [
   | inr e ↦ stamps_seen d (raise v s) t (ap (λ (b : Bool). b || list_any (same_stamp t) d) (sym e) ∙ h)
 ]
 
-joined_up : (u v : Entries) (r : ℕ) → entry u r ≤ entry (joined u v) r
+joined_up : (u v : Entries) (r : ℕ) → entry u r ≤ entry (join_versions u v) r
 joined_up u [] r = omega arith
 joined_up u (e ∷ v) r =
     let s : Lamport = record { value = e.1; replica = e.0 } in
     let a = raise_up u s r in let b = joined_up (raise u s) v r in omega arith
 
-joined_on : (u v : Entries) (r : ℕ) → entry v r ≤ entry (joined u v) r
+joined_on : (u v : Entries) (r : ℕ) → entry v r ≤ entry (join_versions u v) r
 joined_on u [] r = omega arith
 joined_on u (e ∷ v) r =
     let s : Lamport = record { value = e.1; replica = e.0 } in
@@ -62,7 +59,7 @@ joined_on u (e ∷ v) r =
     by_order _ e.0 r
     (λ k. let o : entry (e ∷ v) r ≡ entry v r = other k in omega arith)
     (λ k. let o : entry (e ∷ v) r ≡ e.1 = same k in
-    let a : e.1 ≤ entry (raise u s) r = subst (λ (q : ℕ). e.1 ≤ entry (raise u s) q) k (raise_at u s) in
+    let a : e.1 ≤ entry (raise u s) r = subst (λ (q : ℕ). e.1 ≤ entry (raise u s) q) k (entry_raised u s) in
     let b = joined_up (raise u s) v r in omega arith)
     (λ k. let o : entry (e ∷ v) r ≡ entry v r = above k in omega arith)
   where
@@ -76,10 +73,10 @@ joined_on u (e ∷ v) r =
     above k = grind (arith, nat_tests)
 
 -- what either sees, both together see
-pub sees_joined : (u v : Entries) (t : Lamport) → (sees u t ≡ true → sees (joined u v) t ≡ true) × (sees v t ≡ true → sees (joined u v) t ≡ true)
+pub sees_joined : (u v : Entries) (t : Lamport) → (sees u t ≡ true → sees (join_versions u v) t ≡ true) × (sees v t ≡ true → sees (join_versions u v) t ≡ true)
 sees_joined u v t = (
-  (λ h. le-leb t.value (entry (joined u v) t.replica) (let a = leb-true t.value (entry u t.replica) h in let b = joined_up u v t.replica in omega arith)),
-  (λ h. le-leb t.value (entry (joined u v) t.replica) (let a = leb-true t.value (entry v t.replica) h in let b = joined_on u v t.replica in omega arith)),
+  (λ h. le-leb t.value (entry (join_versions u v) t.replica) (let a = leb-true t.value (entry u t.replica) h in let b = joined_up u v t.replica in omega arith)),
+  (λ h. le-leb t.value (entry (join_versions u v) t.replica) (let a = leb-true t.value (entry v t.replica) h in let b = joined_on u v t.replica in omega arith)),
 )
 
 -- ---- tests of lists
@@ -123,7 +120,7 @@ unseen true y f e = let k = f refl in cc
 pub sees_parts : (t : Lamport) (a b : FragmentSummary) → sees_edit t (summaries a b) ≡ false → (sees_edit t a ≡ false) × (sees_edit t b ≡ false)
 sees_parts t a b h =
     let j = sees_joined a.greatest b.greatest t in
-    (unseen (sees a.greatest t) (sees (joined a.greatest b.greatest) t) j.0 h, unseen (sees b.greatest t) (sees (joined a.greatest b.greatest) t) j.1 h)
+    (unseen (sees a.greatest t) (sees (join_versions a.greatest b.greatest) t) j.0 h, unseen (sees b.greatest t) (sees (join_versions a.greatest b.greatest) t) j.1 h)
 
 -- the spans begin no later than t
 abbrev pub begins_by : Lamport → List Span → Bool
@@ -136,15 +133,6 @@ may_touch s t = begins_by t s.span && sees s.greatest t
 -- the same of one of the edits
 abbrev pub may_concern : List Lamport → FragmentSummary → Bool
 may_concern ts s = list_any (may_touch s) ts
-
-past : (y : Span) (u : List Span) (x : Span) → y.replica < x.replica → with_span x (y ∷ u) ≡ y ∷ with_span x u
-past y u x h = grind (arith, nat_tests)
-
-at : (y : Span) (u : List Span) (x : Span) → y.replica ≡ x.replica → with_span x (y ∷ u) ≡ hull y x ∷ u
-at y u x h = grind (arith, nat_tests)
-
-before : (y : Span) (u : List Span) (x : Span) → x.replica < y.replica → with_span x (y ∷ u) ≡ x ∷ y ∷ u
-before y u x h = grind (arith, nat_tests)
 
 -- with a span taken in, spans begin no later
 wide_later : (t : Lamport) (x : Span) (u : List Span) → begins_by t (with_span x u) ≡ false → (t.value < x.least) × (begins_by t u ≡ false)
@@ -165,7 +153,7 @@ joined_later t u (x ∷ v) e =
 touch_parts : (a b : FragmentSummary) (t : Lamport) → may_touch (summaries a b) t ≡ false → (may_touch a t ≡ false) × (may_touch b t ≡ false)
 touch_parts a b t h = elim (cases_Bool (begins_by t (join_spans a.span b.span))) [
   | inr e ↦ (let k = joined_later t a.span b.span e in (rw k.0 refl, rw k.1 refl))
-  | inl e ↦ (let s : sees (joined a.greatest b.greatest) t ≡ false = ap (λ (x : Bool). x && sees (joined a.greatest b.greatest) t) (sym e) ∙ h in
+  | inl e ↦ (let s : sees (join_versions a.greatest b.greatest) t ≡ false = ap (λ (x : Bool). x && sees (join_versions a.greatest b.greatest) t) (sym e) ∙ h in
       let j = sees_joined a.greatest b.greatest t in
       (unseen (begins_by t a.span) (sees a.greatest t) j.0 s, unseen (begins_by t b.span) (sees b.greatest t) j.1 s))
 ]

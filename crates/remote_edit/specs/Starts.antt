@@ -1,7 +1,7 @@
 -- What bounds the nodes that an edit makes where it has seen all fragments.
 use Rattle.std.specs.Prelude.{◌≡◌, ℕ, ◌+◌, ◌-◌, ◌*◌, ◌≤◌, max, min, true, List, [], ◌∷◌, length}
+use Rattle.std.specs.List.{AllByRecursion}
 use Rattle.lamport_clock.specs.Versions.{Entries, sees}
-use Rattle.op_model.specs.Sorted.{Each}
 use Rattle.fragments.specs.declared.fragment.Fragment.{Fragment}
 use Rattle.remote_edit.specs.declared.gather.Gather.{Gather}
 use Rattle.remote_edit.specs.Steps.{left_over}
@@ -9,7 +9,7 @@ use Rattle.remote_edit.specs.Gathers.{ahead}
 
 -- v sees the edit of each fragment
 abbrev pub AllSeen : Entries → List Fragment → Type 0
-AllSeen v fs = Each (λ (f : Fragment). sees v f.stamp ≡ true) fs
+AllSeen v fs = AllByRecursion (λ (f : Fragment). sees v f.stamp ≡ true) fs
 
 -- how many fragments have their first cell among the cells from a on and before b
 abbrev pub starts : ℕ → ℕ → List Fragment → ℕ

@@ -1,9 +1,9 @@
 -- What an undo has to be among fragments, and what is made of them by it.
 use Rattle.std.specs.Prelude.{◌≡◌, List, [], ◌∷◌, ◌++◌}
+use Rattle.std.specs.List.{AllByRecursion}
 use Rattle.lamport_clock.specs.declared.stamp.Lamport.{Lamport}
 use Rattle.op_model.specs.declared.operation.UndoOp.{UndoOp}
 use Rattle.op_model.specs.declared.operation.Operation.TheVariants.{Undo}
-use Rattle.op_model.specs.Sorted.{Each}
 use Rattle.op_model.specs.Domains.{IsProper}
 use Rattle.op_model.specs.Histories.{History}
 use Rattle.op_model.specs.Answers.{answer}
@@ -38,4 +38,4 @@ MoveWithUndo fs w us by ts ms = (h : History) → (u : UndoOp) → MayMark fs w 
 
 -- where the texts of each such history are UTF-8, whole fragments stay whole and the moves take whole characters
 abbrev pub KeepCharactersWithUndo : List Fragment → List IndexEntry → List UndoEntry → Lamport → List Lamport → List Fragment → List Move → Type 0
-KeepCharactersWithUndo fs w us by ts gs ms = (h : History) → (u : UndoOp) → MayMark fs w us by ts h u → Each IsProper h → KeepCharacters fs gs ms h (Undo u)
+KeepCharactersWithUndo fs w us by ts gs ms = (h : History) → (u : UndoOp) → MayMark fs w us by ts h u → AllByRecursion IsProper h → KeepCharacters fs gs ms h (Undo u)

@@ -1,11 +1,11 @@
 -- One walk over fragments, from the first piece of an edit to the last: what lies before a place, and what lies behind it.
 use Rattle.std.specs.Prelude.{ℕ, zero, suc, ◌+◌, ◌-◌, ◌≤◌, ◌^◌, nat_le, nat_lt, Bool, true, not, ◌&&◌, ◌||◌, if◌then◌else◌, List, [], ◌∷◌, ◌++◌, length, Option, Some, None}
+use Rattle.std.specs.List.{AllByRecursion}
 use Rattle.lamport_clock.specs.declared.stamp.Lamport.{Lamport}
 use Rattle.lamport_clock.specs.Stamps.{later}
 use Rattle.lamport_clock.specs.Versions.{Entries, sees}
 use Rattle.locators.specs.Locator.{between_digits, least_digits, greatest_digits}
 use Rattle.op_model.specs.declared.operation.Piece.{Piece}
-use Rattle.op_model.specs.Sorted.{Each}
 use Rattle.op_model.specs.Walked.{kept_len}
 use Rattle.undo_map.specs.declared.entry.UndoEntry.{UndoEntry}
 use Rattle.fragments.specs.declared.fragment.Fragment.{Fragment}
@@ -23,7 +23,7 @@ seen_bytes v fs = kept_len (sees v) (runs fs)
 
 -- a tree has room for them
 abbrev pub Fit : List Fragment → Type 0
-Fit fs = Each IsFilled fs × (bytes fs ≤ 2 ^ 40)
+Fit fs = AllByRecursion IsFilled fs × (bytes fs ≤ 2 ^ 40)
 
 -- the id of the last, or the least
 abbrev pub last_id : List Fragment → List ℕ

@@ -1,9 +1,8 @@
 //! What an edit does to the shown and to the hidden text.
 ghost use Rattle.std.specs.Prelude.{◌≡◌, ◌||◌, [], length, IfOk};
-ghost use Rattle.std.specs.List.{list_all};
+ghost use Rattle.std.specs.List.{AllByRecursion, list_all};
 ghost use Rattle.lamport_clock.specs.Stamps.{same_stamp};
 ghost use Rattle.op_model.specs.Shown.{texts};
-ghost use Rattle.op_model.specs.Sorted.{Each};
 ghost use Rattle.undo_map.specs.Counts.{count_of, is_odd};
 ghost use Rattle.remote_edit.specs.Marks.{is_shown};
 ghost use Rattle.remote_edit.specs.Carried.{CarryOn};
@@ -11,11 +10,11 @@ ghost use Rattle.remote_edit.specs.BeforeEdit.{without, before_edit, edit_move, 
 
 use crate::passed::Passed;
 use crate::undo_moves::keep;
-use crate::{Move, Moves};
+use crate::{Move, Moves, OutOfMemory};
 use fragments::{Fragment, FragmentSummary};
 use lamport_clock::{Lamport, is_same};
 use op_model::EditOp;
-use std::alloc::{AllocError, Global};
+use std::alloc::Global;
 use sum_tree::SumTree;
 use tree_cursor::{FilterCursor, Keep};
 use undo_map::UndoMap;
@@ -77,8 +76,8 @@ pub(crate) fn edit_moves(
     tree: &SumTree<Fragment>,
     undos: &UndoMap,
     edit: &EditOp,
-) -> Result<Moves, AllocError>
-    requires shown { Each (IsByCounts undos.now) tree.now.items }
+) -> Result<Moves, OutOfMemory>
+    requires shown { AllByRecursion (IsByCounts undos.now) tree.now.items }
     requires brought { Brings edit.now.stamp 0 (length (texts edit.now.pieces)) tree.now.items }
     ensures { IfOk result (λ ms. CarryOn edit.now.stamp [] []
         (before_edit undos.now edit.now.stamp tree.now.items) 0 ms tree.now.items []

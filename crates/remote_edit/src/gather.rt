@@ -13,13 +13,14 @@ ghost use Rattle.remote_edit.specs.Steps.{left_over, later_first, head, tail, Is
 ghost use Rattle.remote_edit.specs.Gathers.{so_far, ahead};
 ghost use Rattle.remote_edit.specs.Starts.{AllSeen, IsFew};
 
+use crate::OutOfMemory;
 use crate::mark::touch;
 use crate::parts::{back, front, new_fragment};
 use fragments::{Fragment, InsertionIndex};
 use lamport_clock::is_later;
 use locators::Locator;
 use op_model::EditOp;
-use std::alloc::{AllocError, Global};
+use std::alloc::Global;
 use sum_tree::{Item, SumTree};
 use undo_map::UndoMap;
 
@@ -49,7 +50,7 @@ impl Gather {
     }
 
     // The id of the fragment before the place, or the least.
-    fn low(&self, alloc: Global, tree: &SumTree<Fragment>) -> Result<Locator, AllocError>
+    fn low(&self, alloc: Global, tree: &SumTree<Fragment>) -> Result<Locator, OutOfMemory>
         requires { self.now.from ≤ length tree.now.items }
         ensures { IfOk result (λ id. id ≡ last_id (so_far tree.now.items self.now)) }
     {
@@ -60,7 +61,7 @@ impl Gather {
     }
 
     // The id of the fragment that comes next, or the greatest.
-    fn high(&self, alloc: Global, tree: &SumTree<Fragment>) -> Result<Locator, AllocError>
+    fn high(&self, alloc: Global, tree: &SumTree<Fragment>) -> Result<Locator, OutOfMemory>
         ensures { IfOk result (λ id. id ≡ next_id (ahead tree.now.items self.now)) }
     {
         match self.first(tree) {
@@ -70,7 +71,7 @@ impl Gather {
     }
 
     // Puts a fragment in the place of the one that comes next.
-    fn go_on(&mut self, tree: &SumTree<Fragment>, fragment: Fragment) -> Result<(), AllocError>
+    fn go_on(&mut self, tree: &SumTree<Fragment>, fragment: Fragment) -> Result<(), OutOfMemory>
         requires some { (ahead tree.now.items self.old ≡ []) → ⊥ }
         ensures made { IfOk result (λ _. self.new.made.items
             ≡ self.old.made.items ++ fragment ∷ []) }
@@ -103,7 +104,7 @@ impl Gather {
         edit: &EditOp,
         left: u64,
         marks: Option<&UndoMap>,
-    ) -> Result<u64, AllocError>
+    ) -> Result<u64, OutOfMemory>
         requires within { self.old.from ≤ length tree.now.items }
         requires some { 0 < left }
         requires fit { Fit (so_far tree.now.items self.old ++ ahead tree.now.items self.old) }
@@ -149,7 +150,7 @@ impl Gather {
         tree: &SumTree<Fragment>,
         fragment: &Fragment,
         n: u64,
-    ) -> Result<(Fragment, Fragment), AllocError>
+    ) -> Result<(Fragment, Fragment), OutOfMemory>
         requires start { self.now.from ≤ length tree.now.items }
         requires room { fragment.now.offset + n < 2 ^ 64 }
         requires within { n ≤ fragment.now.len }
@@ -172,7 +173,7 @@ impl Gather {
         lower: &Fragment,
         upper: Fragment,
         marks: Option<&UndoMap>,
-    ) -> Result<(), AllocError>
+    ) -> Result<(), OutOfMemory>
         requires some { (ahead tree.now.items self.old ≡ []) → ⊥ }
         requires first { length (with_entry (entry_of lower.now) self.old.index) ≤ 2 ^ 40 }
         requires second { length (with_entry (entry_of upper)
@@ -208,7 +209,7 @@ impl Gather {
         edit: &EditOp,
         count: u64,
         marks: Option<&UndoMap>,
-    ) -> Result<(), AllocError>
+    ) -> Result<(), OutOfMemory>
         requires within { self.old.from ≤ length tree.now.items }
         requires fit { Fit (so_far tree.now.items self.old ++ ahead tree.now.items self.old) }
         requires place { self.old.place ≡ seen_bytes edit.now.version
@@ -247,7 +248,7 @@ impl Gather {
     }
 
     // Over the fragment that comes next, as it is.
-    fn keep(&mut self, alloc: Global, tree: &SumTree<Fragment>) -> Result<(), AllocError>
+    fn keep(&mut self, alloc: Global, tree: &SumTree<Fragment>) -> Result<(), OutOfMemory>
         ensures from { self.new.from ≡ self.old.from }
         ensures order { self.old.at ≤ self.new.at }
         ensures place { self.new.place ≡ self.old.place }
@@ -271,7 +272,7 @@ impl Gather {
         alloc: Global,
         tree: &SumTree<Fragment>,
         edit: &EditOp,
-    ) -> Result<(), AllocError>
+    ) -> Result<(), OutOfMemory>
         requires within { self.old.from ≤ length tree.now.items }
         requires fit { Fit (so_far tree.now.items self.old ++ ahead tree.now.items self.old) }
         requires place { self.old.place ≡ seen_bytes edit.now.version
@@ -304,7 +305,7 @@ impl Gather {
         tree: &SumTree<Fragment>,
         edit: &EditOp,
         n: u64,
-    ) -> Result<(), AllocError>
+    ) -> Result<(), OutOfMemory>
         requires unseen { sees edit.now.version edit.now.stamp ≡ false }
         requires room { bytes (so_far tree.now.items self.old ++ ahead tree.now.items self.old) + n
             ≤ 2 ^ 40 }
@@ -349,7 +350,7 @@ fn is_past(fragment: &Fragment, edit: &EditOp) -> bool
 }
 
 // Enters a fragment in an index, in the place of the one that began with the same cell.
-fn enter(index: &mut InsertionIndex, alloc: Global, fragment: &Fragment) -> Result<(), AllocError>
+fn enter(index: &mut InsertionIndex, alloc: Global, fragment: &Fragment) -> Result<(), OutOfMemory>
     requires { length (with_entry (entry_of fragment.now) index.old) ≤ 2 ^ 40 }
     ensures { IfOk result (λ _. index.new ≡ with_entry (entry_of fragment.now) index.old) }
 {
@@ -363,7 +364,7 @@ fn enter_both(
     alloc: Global,
     lower: &Fragment,
     upper: &Fragment,
-) -> Result<(), AllocError>
+) -> Result<(), OutOfMemory>
     requires first { length (with_entry (entry_of lower.now) index.old) ≤ 2 ^ 40 }
     requires second { length (with_entry (entry_of upper.now)
         (with_entry (entry_of lower.now) index.old)) ≤ 2 ^ 40 }
@@ -375,7 +376,7 @@ fn enter_both(
 }
 
 // The id of the fragment before place `at` of the tree, or the least.
-fn id_before(alloc: Global, tree: &SumTree<Fragment>, at: u64) -> Result<Locator, AllocError>
+fn id_before(alloc: Global, tree: &SumTree<Fragment>, at: u64) -> Result<Locator, OutOfMemory>
     requires { at ≤ length tree.now.items }
     ensures { IfOk result (λ id. id ≡ last_id (take at tree.now.items)) }
 {

@@ -24,5 +24,5 @@ pub use offsets::full_pieces;
 pub use passed::{Passed, SeenPassed};
 pub use place::{place_local, place_remote};
 pub use placed::Placed;
-pub use std::alloc::AllocError as OutOfMemory;
+pub use sum_tree::OutOfMemory;
 pub use undo::mark_undo;

@@ -6,10 +6,11 @@ ghost use Rattle.lamport_clock.specs.Versions.{sees};
 ghost use Rattle.undo_map.specs.Counts.{count_seen, is_odd};
 ghost use Rattle.remote_edit.specs.Marks.{was_shown, mark, touch};
 
+use crate::OutOfMemory;
 use fragments::Fragment;
 use lamport_clock::{Lamport, Version};
 use op_model::EditOp;
-use std::alloc::{AllocError, Global};
+use std::alloc::Global;
 use sum_tree::Item;
 use undo_map::UndoMap;
 
@@ -19,7 +20,7 @@ pub fn touch(
     edit: &EditOp,
     fragment: &Fragment,
     marks: Option<&UndoMap>,
-) -> Result<Fragment, AllocError>
+) -> Result<Fragment, OutOfMemory>
     ensures { IfOk result (λ f. f ≡ touch
         (option_copied marks.entry) edit.now.stamp edit.now.version fragment.now) }
 {
@@ -35,7 +36,7 @@ fn mark(
     edit: &EditOp,
     fragment: &Fragment,
     undos: &UndoMap,
-) -> Result<Fragment, AllocError>
+) -> Result<Fragment, OutOfMemory>
     ensures { IfOk result (λ f. f ≡ mark undos.now edit.now.stamp edit.now.version fragment.now) }
 {
     let mut marked = fragment.copy(alloc)?;

@@ -4,7 +4,8 @@ ghost use Rattle.remote_edit.specs.Moves.{length_of, as_one, with_move};
 ghost use Rattle.remote_edit.specs.declared.moves.Move.TheVariants.{Visible, Hidden};
 ghost use Rattle.remote_edit.specs.Carried.{move_for};
 
-use std::alloc::{AllocError, Global};
+use crate::OutOfMemory;
+use std::alloc::Global;
 use std::marker::Model;
 
 /// What becomes of the next bytes of the shown text, of the hidden text or of an operation's new text. Each has a number
@@ -102,7 +103,7 @@ impl Moves {
     }
 
     /// Puts a move behind the others. One of no bytes changes nothing, and one of the last one's kind lengthens that.
-    pub fn push(&mut self, next: Move) -> Result<(), AllocError>
+    pub fn push(&mut self, next: Move) -> Result<(), OutOfMemory>
         ensures ok { OnOk result (self.new ≡ with_move self.old next) }
         ensures err { OnErr result (self.new ≡ self.old) }
     {
@@ -121,7 +122,7 @@ impl Moves {
     }
 
     // Puts behind the others that a stretch of fragments stays as it is.
-    pub(crate) fn keep(&mut self, visible: u64, hidden: u64) -> Result<(), AllocError>
+    pub(crate) fn keep(&mut self, visible: u64, hidden: u64) -> Result<(), OutOfMemory>
         ensures { OnOk result (self.new
             ≡ with_move (with_move self.old (Visible visible)) (Hidden hidden)) }
     {

@@ -3,10 +3,11 @@ ghost use Rattle.std.specs.Prelude.{◌≡◌, ◌+◌, ◌<◌, ◌≤◌, ◌^
 ghost use Rattle.locators.specs.Locator.{between_digits};
 ghost use Rattle.remote_edit.specs.Walk.{front, back, new_fragment};
 
+use crate::OutOfMemory;
 use fragments::{Fragment, Stamps};
 use lamport_clock::{Lamport, Version};
 use locators::Locator;
-use std::alloc::{AllocError, Global};
+use std::alloc::Global;
 use sum_tree::Item;
 
 // The first cells of a fragment, with an id between the one before it and its own.
@@ -15,7 +16,7 @@ pub fn front(
     fragment: &Fragment,
     n: u64,
     low: &Locator,
-) -> Result<Fragment, AllocError>
+) -> Result<Fragment, OutOfMemory>
     ensures { IfOk result (λ f. f ≡ front fragment.now n (between_digits low.now fragment.now.id)) }
 {
     Ok(Fragment {
@@ -30,7 +31,7 @@ pub fn front(
 }
 
 // The cells of a fragment behind the first n, which keep its id.
-pub fn back(alloc: Global, fragment: &Fragment, n: u64) -> Result<Fragment, AllocError>
+pub fn back(alloc: Global, fragment: &Fragment, n: u64) -> Result<Fragment, OutOfMemory>
     requires room { fragment.now.offset + n < 2 ^ 64 }
     requires within { n ≤ fragment.now.len }
     ensures { IfOk result (λ f. f ≡ back fragment.now n) }
@@ -49,7 +50,7 @@ pub fn new_fragment(
     n: u64,
     low: &Locator,
     high: &Locator,
-) -> Result<Fragment, AllocError>
+) -> Result<Fragment, OutOfMemory>
     ensures { IfOk result (λ f. f ≡ new_fragment stamp k n (between_digits low.now high.now)) }
 {
     let id = Locator::between(alloc, low, high)?;

@@ -7,14 +7,14 @@ ghost use Rattle.remote_edit.specs.Costs.{touch_count, touch_count_behind};
 ghost use Rattle.remote_edit.specs.Fragments.{with_edit};
 ghost use Rattle.remote_edit.specs.Starts.{AllSeen};
 
-use crate::Placed;
 use crate::edit_moves::edit_moves;
 use crate::offsets::full_pieces;
 use crate::walk::walk_in;
+use crate::{OutOfMemory, Placed};
 use fragments::{Fragment, InsertionIndex};
 use lamport_clock::{Lamport, Version};
 use op_model::{EditOp, Piece};
-use std::alloc::{AllocError, Global};
+use std::alloc::Global;
 use std::marker::Brand;
 use std::sync::ledger::{Blank, Ledger};
 use sum_tree::{Steps, SumTree};
@@ -34,7 +34,7 @@ pub fn place_remote(
     index: &InsertionIndex,
     undos: &UndoMap,
     op: &EditOp,
-) -> Result<Placed, AllocError>
+) -> Result<Placed, OutOfMemory>
     requires { MayPlace tree.now.items index.now undos.now (Edit op.now) }
     ensures fragments { IfOk result (λ p. p.fragments.items
         ≡ with_edit undos.now tree.now.items op.now) }
@@ -56,7 +56,7 @@ fn place_with<L: Ledger>(
     undos: &UndoMap,
     op: &EditOp,
     blank: Blank,
-) -> Result<Placed, AllocError>
+) -> Result<Placed, OutOfMemory>
     requires name { blank.name ≡ L.name }
     requires parts { blank.parts ≡ L.parts }
     requires some { 0 < blank.parts }
@@ -83,7 +83,7 @@ fn place_counted<L: Ledger>(
     undos: &UndoMap,
     op: &EditOp,
     steps: &mut Steps<L>,
-) -> Result<Placed, AllocError>
+) -> Result<Placed, OutOfMemory>
     requires { MayPlace tree.now.items index.now undos.now (Edit op.now) }
     ensures fragments { IfOk result (λ p. p.fragments.items
         ≡ with_edit undos.now tree.now.items op.now) }
@@ -120,7 +120,7 @@ pub fn place_local<L: Ledger>(
     version: Version,
     changes: &[Piece],
     steps: &mut Steps<L>,
-) -> Result<(EditOp, Placed), AllocError>
+) -> Result<(EditOp, Placed), OutOfMemory>
     requires { MayMake tree.now.items index.now undos.now stamp version changes.now }
     ensures made { IfOk result (λ r. IsMade tree.now.items index.now undos.now stamp version
         changes.now (Edit r.0)) }

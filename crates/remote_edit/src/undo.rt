@@ -2,7 +2,7 @@
 ghost use Rattle.std.specs.Prelude.{◌≡◌, ◌+◌, ◌≤◌, ◌∷◌, [], Some, length, slice_get, IfOk, OnOk};
 ghost use Rattle.std.specs.List.{list_any, list_all};
 ghost use Rattle.sum_tree.specs.Laws.{fold};
-ghost use Rattle.sum_tree.specs.Spliced.{spliced};
+ghost use Rattle.sum_tree.specs.Spliced.{splice_list};
 ghost use Rattle.lamport_clock.specs.Stamps.{same_stamp};
 ghost use Rattle.undo_map.specs.Counts.{count_of, is_odd};
 ghost use Rattle.fragments.specs.Summaries.{no_fragments, summaries, summary_of, SummaryFits};
@@ -11,11 +11,11 @@ ghost use Rattle.remote_edit.specs.SeesLaws.{begins_by, may_touch};
 ghost use Rattle.remote_edit.specs.Anew.{concerns, recount, anew, all_anew};
 ghost use Rattle.remote_edit.specs.Undoing.{StandWithUndo, MoveWithUndo, KeepCharactersWithUndo};
 
-use crate::Placed;
 use crate::undo_moves::undo_moves;
+use crate::{OutOfMemory, Placed};
 use fragments::{Fragment, FragmentSummary, Full, InsertionIndex, Span};
 use lamport_clock::{Lamport, is_same};
-use std::alloc::{AllocError, Global};
+use std::alloc::Global;
 use sum_tree::{Item, SumTree};
 use tree_cursor::{FilterCursor, Keep};
 use undo_map::UndoMap;
@@ -93,7 +93,7 @@ fn counted(
     fragment: &Fragment,
     undos: &UndoMap,
     by: Lamport,
-) -> Result<Fragment, AllocError>
+) -> Result<Fragment, OutOfMemory>
     ensures { IfOk result (λ f. f ≡ recount undos.now by fragment.now) }
 {
     let mut anew = fragment.copy(alloc)?;
@@ -102,7 +102,7 @@ fn counted(
     Ok(anew)
 }
 
-fn list_of(alloc: Global, fragment: Fragment) -> Result<Vec<Fragment>, AllocError>
+fn list_of(alloc: Global, fragment: Fragment) -> Result<Vec<Fragment>, OutOfMemory>
     ensures { IfOk result (λ v. v.items ≡ fragment ∷ []) }
 {
     let mut list = Vec::with_capacity(alloc, 1)?;
@@ -116,12 +116,12 @@ fn replace(
     fragments: &mut SumTree<Fragment>,
     i: u64,
     fragment: Fragment,
-) -> Result<(), AllocError>
+) -> Result<(), OutOfMemory>
     requires within { i + 1 ≤ length fragments.old.items }
     requires fits { SummaryFits (fold no_fragments summaries summary_of
-        (spliced i (i + 1) (fragment ∷ []) fragments.old.items)) }
+        (splice_list i (i + 1) (fragment ∷ []) fragments.old.items)) }
     ensures { OnOk result (fragments.new.items
-        ≡ spliced i (i + 1) (fragment ∷ []) fragments.old.items) }
+        ≡ splice_list i (i + 1) (fragment ∷ []) fragments.old.items) }
 {
     fragments.known();
     let one = list_of(alloc, fragment)?;
@@ -137,12 +137,12 @@ fn put_anew(
     undos: &UndoMap,
     by: Lamport,
     edits: &[Lamport],
-) -> Result<(), AllocError>
+) -> Result<(), OutOfMemory>
     requires stands { slice_get fragments.old.items i ≡ Some fragment.now }
     requires fits { SummaryFits (fold no_fragments summaries summary_of
-        (spliced i (i + 1) (anew undos.now by edits.now fragment.now ∷ []) fragments.old.items)) }
+        (splice_list i (i + 1) (anew undos.now by edits.now fragment.now ∷ []) fragments.old.items)) }
     ensures { OnOk result (fragments.new.items
-        ≡ spliced i (i + 1) (anew undos.now by edits.now fragment.now ∷ []) fragments.old.items) }
+        ≡ splice_list i (i + 1) (anew undos.now by edits.now fragment.now ∷ []) fragments.old.items) }
 {
     if !is_concerned(fragment, edits) {
         return Ok(());
@@ -158,7 +158,7 @@ fn with_undo(
     undos: &UndoMap,
     by: Lamport,
     edits: &[Lamport],
-) -> Result<SumTree<Fragment>, AllocError>
+) -> Result<SumTree<Fragment>, OutOfMemory>
     ensures { IfOk result (λ t. t.items ≡ all_anew undos.now by edits.now tree.now.items) }
 {
     tree.known();
@@ -193,7 +193,7 @@ pub fn mark_undo(
     undos: &UndoMap,
     by: Lamport,
     edits: &[Lamport],
-) -> Result<Placed, AllocError>
+) -> Result<Placed, OutOfMemory>
     ensures fragments { IfOk result (λ p. p.fragments.items
         ≡ all_anew undos.now by edits.now tree.now.items) }
     ensures index { IfOk result (λ p. p.index ≡ index.now) }

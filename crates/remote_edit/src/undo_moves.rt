@@ -8,10 +8,10 @@ ghost use Rattle.remote_edit.specs.Anew.{anew, all_anew};
 
 use crate::passed::Passed;
 use crate::undo::{MayConcern, is_concerned, is_shown};
-use crate::{Move, Moves};
+use crate::{Move, Moves, OutOfMemory};
 use fragments::Fragment;
 use lamport_clock::Lamport;
-use std::alloc::{AllocError, Global};
+use std::alloc::Global;
 use sum_tree::SumTree;
 use tree_cursor::FilterCursor;
 use undo_map::UndoMap;
@@ -31,7 +31,7 @@ fn move_of(fragment: &Fragment, undos: &UndoMap, edits: &[Lamport]) -> Move
 }
 
 // The bytes between two places stay as they are.
-pub(crate) fn keep(moves: &mut Moves, from: Passed, to: Passed) -> Result<(), AllocError>
+pub(crate) fn keep(moves: &mut Moves, from: Passed, to: Passed) -> Result<(), OutOfMemory>
     requires visible { from.visible ≤ to.visible }
     requires hidden { from.hidden ≤ to.hidden }
     ensures { OnOk result (moves.new
@@ -48,7 +48,7 @@ pub(crate) fn undo_moves(
     tree: &SumTree<Fragment>,
     undos: &UndoMap,
     edits: &[Lamport],
-) -> Result<Moves, AllocError>
+) -> Result<Moves, OutOfMemory>
     ensures { IfOk result (λ ms. (by t : Lamport)
         → CarryOn t [] [] tree.now.items 0 ms (all_anew undos.now by edits.now tree.now.items)
         [] 0) }

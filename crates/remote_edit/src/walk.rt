@@ -3,7 +3,7 @@ ghost use Rattle.std.specs.Prelude.{◌≡◌, ℕ, ◌+◌, ◌-◌, ◌*◌, �
 ghost use Rattle.lamport_clock.specs.Versions.{sees};
 ghost use Rattle.op_model.specs.Operations.{text_total};
 ghost use Rattle.op_model.specs.Walked.{Ordered};
-ghost use Rattle.sum_tree.specs.Spliced.{spliced};
+ghost use Rattle.sum_tree.specs.Spliced.{splice_list};
 ghost use Rattle.remote_edit.specs.Indexes.{IsIndexed};
 ghost use Rattle.remote_edit.specs.Walk.{bytes, seen_bytes, Fit, one_piece, changes, walk};
 ghost use Rattle.remote_edit.specs.Steps.{left_over, before, after, IsSought, IsAt};
@@ -11,10 +11,11 @@ ghost use Rattle.remote_edit.specs.Gathers.{so_far, ahead};
 ghost use Rattle.remote_edit.specs.Costs.{touch_count_behind};
 ghost use Rattle.remote_edit.specs.Starts.{AllSeen, starts, IsLeft, MakeFew};
 
+use crate::OutOfMemory;
 use crate::gather::Gather;
 use fragments::{Fragment, Full, FullAt, InsertionIndex};
 use op_model::{EditOp, Piece};
-use std::alloc::{AllocError, Global};
+use std::alloc::Global;
 use std::sync::ledger::Ledger;
 use sum_tree::{Steps, SumTree};
 use tree_cursor::{Bias, Cursor};
@@ -37,7 +38,7 @@ pub struct Walk {
 impl Walk {
     // To the fragment in which `count` more cells are passed that the edit's version sees, over whole nodes of the tree.
     // Answers how many are left to pass.
-    fn seek(&mut self, edit: &EditOp, count: u64) -> Result<u64, AllocError>
+    fn seek(&mut self, edit: &EditOp, count: u64) -> Result<u64, OutOfMemory>
         requires within { self.old.at ≤ length self.old.tree.items }
         requires fit { Fit self.old.tree.items }
         requires place { self.old.place ≡ seen_bytes edit.now.version
@@ -79,7 +80,7 @@ impl Walk {
         edit: &EditOp,
         left: u64,
         piece: &Piece,
-    ) -> Result<Gather, AllocError>
+    ) -> Result<Gather, OutOfMemory>
         requires unseen { sees edit.now.version edit.now.stamp ≡ false }
         requires within { self.now.at ≤ length self.now.tree.items }
         requires fit { Fit self.now.tree.items }
@@ -129,7 +130,7 @@ impl Walk {
         alloc: Global,
         gather: Gather,
         steps: &mut Steps<L>,
-    ) -> Result<(), AllocError>
+    ) -> Result<(), OutOfMemory>
         requires order { gather.from ≤ gather.at }
         requires within { gather.from ≤ length self.old.tree.items }
         requires fit { Fit (so_far self.old.tree.items gather ++ ahead self.old.tree.items gather) }
@@ -169,7 +170,7 @@ impl Walk {
         count: u64,
         piece: &Piece,
         steps: &mut Steps<L>,
-    ) -> Result<(), AllocError>
+    ) -> Result<(), OutOfMemory>
         requires unseen { sees edit.now.version edit.now.stamp ≡ false }
         requires within { self.old.at ≤ length self.old.tree.items }
         requires fit { Fit self.old.tree.items }
@@ -207,7 +208,7 @@ impl Walk {
         undos: &UndoMap,
         edit: &EditOp,
         steps: &mut Steps<L>,
-    ) -> Result<(), AllocError>
+    ) -> Result<(), OutOfMemory>
         requires start { self.old.at ≡ 0 }
         requires place { self.old.place ≡ 0 }
         requires number { self.old.number ≡ 0 }
@@ -248,7 +249,7 @@ fn put_back<L: Ledger>(
     made: Vec<Fragment>,
     back: Option<Fragment>,
     steps: &mut Steps<L>,
-) -> Result<u64, AllocError>
+) -> Result<u64, OutOfMemory>
     requires order { from ≤ at }
     requires within { from ≤ length tree.old.items }
     requires fit { Fit (before tree.old.items from made.items ++ after tree.old.items at back) }
@@ -278,12 +279,12 @@ fn put<L: Ledger>(
     to: u64,
     fragments: Vec<Fragment>,
     steps: &mut Steps<L>,
-) -> Result<(), AllocError>
+) -> Result<(), OutOfMemory>
     requires order { from ≤ to }
     requires within { to ≤ length tree.old.items }
-    requires fit { Fit (spliced from to fragments.items tree.old.items) }
+    requires fit { Fit (splice_list from to fragments.items tree.old.items) }
     ensures items { IfOk result (λ _. tree.new.items
-        ≡ spliced from to fragments.items tree.old.items) }
+        ≡ splice_list from to fragments.items tree.old.items) }
     ensures cost { MakeFew steps.old steps.new from to (length fragments.items) }
 {
     tree.known();
@@ -307,7 +308,7 @@ pub fn walk_in<L: Ledger>(
     undos: &UndoMap,
     edit: &EditOp,
     steps: &mut Steps<L>,
-) -> Result<Walk, AllocError>
+) -> Result<Walk, OutOfMemory>
     requires fit { Fit tree.now.items }
     requires unseen { sees edit.now.version edit.now.stamp ≡ false }
     requires room { bytes tree.now.items + text_total edit.now.pieces ≤ 2 ^ 40 }

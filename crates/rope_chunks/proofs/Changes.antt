@@ -7,7 +7,7 @@ use Rattle.std.proofs.lemmas.Bool.{cases_lt}
 use Rattle.std.proofs.lemmas.List.{append-nil, take_all, drop_all, take-take, drop-take, get_or-take}
 use Rattle.std.proofs.lemmas.List.Elements.{All-append, All-take, All-drop, All-push, All-nil}
 use Rattle.std.proofs.lemmas.Str.{IsUtf8-append}
-use Rattle.sum_tree.specs.Spliced.{spliced}
+use Rattle.sum_tree.specs.Spliced.{splice_list}
 use Rattle.rope_chunks.specs.Chunks.{IsChunk, AreChunks}
 use Rattle.rope_chunks.specs.Spots.{IsSpot, IsChange, text_with}
 use Rattle.rope_chunks.proofs.Texts.{concat-append}
@@ -15,11 +15,11 @@ use Rattle.rope_chunks.proofs.Grows.{concat-more, get_drop}
 use Rattle.rope_chunks.proofs.Stops.{front-short}
 use Rattle.rope_chunks.proofs.Spots.{spot_front, spot_back}
 
-pub concat-spliced : (i j : ℕ) (ys cs : List (List ℕ)) → concat (spliced i j ys cs) ≡ text_with i j (concat ys) cs
+pub concat-spliced : (i j : ℕ) (ys cs : List (List ℕ)) → concat (splice_list i j ys cs) ≡ text_with i j (concat ys) cs
 concat-spliced i j ys cs =
     concat-append (take i cs ++ ys) (drop j cs) ∙ ap (λ t. t ++ concat (drop j cs)) (concat-append (take i cs) ys)
 
-pub are_changed : (i j : ℕ) (ys cs : List (List ℕ)) → All IsChunk cs → All IsChunk ys → length (text_with i j (concat ys) cs) ≤ 2 ^ 40 → AreChunks (spliced i j ys cs)
+pub are_changed : (i j : ℕ) (ys cs : List (List ℕ)) → All IsChunk cs → All IsChunk ys → length (text_with i j (concat ys) cs) ≤ 2 ^ 40 → AreChunks (splice_list i j ys cs)
 are_changed i j ys cs old new few = record {
   each = All-append IsChunk (take i cs ++ ys) (drop j cs) (All-append IsChunk (take i cs) ys (All-take IsChunk i cs old) new) (All-drop IsChunk j cs old);
   few = rw (concat-spliced i j ys cs) few;
@@ -74,24 +74,24 @@ in_order cs o p i j r q c d s t far =
     (cases_lt j i)
 
 -- the plain replacement of a range is a change of the chunks in which its ends lie
-pub replaced_is : (cs : List (List ℕ)) (s e i j r q : ℕ) (c d x : List ℕ) → IsSpot cs s i c r → IsSpot cs e j d q → text_with i (j + 1) ((take r c ++ x) ++ drop q d) cs ≡ spliced s e x (concat cs)
+pub replaced_is : (cs : List (List ℕ)) (s e i j r q : ℕ) (c d x : List ℕ) → IsSpot cs s i c r → IsSpot cs e j d q → text_with i (j + 1) ((take r c ++ x) ++ drop q d) cs ≡ splice_list s e x (concat cs)
 replaced_is cs s e i j r q c d x a b =
     widened (concat (take i cs)) (take r c) x (drop q d) (concat (drop (j + 1) cs))
     ∙ ap (λ bs. (bs ++ x) ++ (drop q d ++ concat (drop (j + 1) cs))) (sym (spot_front cs s i c r a))
     ∙ ap (λ bs. (take s (concat cs) ++ x) ++ bs) (sym (spot_back cs e j d q b))
 
-pub replaced_all : (cs : List (List ℕ)) (s e i j r q : ℕ) (c d x front back whole : List ℕ) → IsSpot cs s i c r → IsSpot cs e j d q → front ≡ take r c → back ≡ drop q d → whole ≡ (front ++ x) ++ back → text_with i (j + 1) whole cs ≡ spliced s e x (concat cs)
+pub replaced_all : (cs : List (List ℕ)) (s e i j r q : ℕ) (c d x front back whole : List ℕ) → IsSpot cs s i c r → IsSpot cs e j d q → front ≡ take r c → back ≡ drop q d → whole ≡ (front ++ x) ++ back → text_with i (j + 1) whole cs ≡ splice_list s e x (concat cs)
 replaced_all cs s e i j r q c d x front back whole a b f g h =
     ap (λ bs. text_with i (j + 1) bs cs) (h ∙ ap (λ t. (t ++ x) ++ back) f ∙ ap (λ t. (take r c ++ x) ++ t) g)
     ∙ replaced_is cs s e i j r q c d x a b
 
-pub replaced_none : (s e : ℕ) (x : List ℕ) (cs : List (List ℕ)) → cs ≡ [] → text_with 0 0 x cs ≡ spliced s e x (concat cs)
+pub replaced_none : (s e : ℕ) (x : List ℕ) (cs : List (List ℕ)) → cs ≡ [] → text_with 0 0 x cs ≡ splice_list s e x (concat cs)
 replaced_none s e x cs none =
     let front : take s (concat cs) ≡ [] = rw none (take_all s [] (omega arith)) in
     let back : drop e (concat cs) ≡ [] = rw none (drop_all e [] (omega arith)) in
     rw (front, back, none) refl
 
-pub replaced_short : (s e : ℕ) (x bs : List ℕ) → s ≤ e → e ≤ length bs → length bs + length x ≤ 2 ^ 40 + (e - s) → length (spliced s e x bs) ≤ 2 ^ 40
+pub replaced_short : (s e : ℕ) (x bs : List ℕ) → s ≤ e → e ≤ length bs → length bs + length x ≤ 2 ^ 40 + (e - s) → length (splice_list s e x bs) ≤ 2 ^ 40
 replaced_short s e x bs order within few =
     omega (arith, length-append (take s bs ++ x) (drop e bs), length-append (take s bs) x, length-take s bs, length-drop e bs, order, within, few)
 

@@ -10,7 +10,7 @@ use Rattle.text_dims.specs.Counts.{begins_char, byte_units, is_newline}
 use Rattle.text_dims.specs.Places.{end_place, places, place_after, walk, last_place, offset_clipped_back, offset_clipped_on}
 use Rattle.text_dims.proofs.Walks.{places-walk}
 use Rattle.rope_chunks.specs.declared.look.Stop.{Stop}
-use Rattle.rope_chunks.specs.Stops.{stop, kept}
+use Rattle.rope_chunks.specs.Stops.{stop, stop_place}
 use Rattle.rope_chunks.specs.Targets.{offset_passed, offset_stays}
 use Rattle.rope_chunks.proofs.Stops.{after-later, Begins, Begins-utf8, Stays}
 
@@ -55,23 +55,23 @@ none_upto pl pr q low u d a (b ∷ bs) l h =
 -- at one place, before those that follow it
 here : (pl pr q : Place → Bool) (low : ℕ) → Upto pl pr q low → (d a : Place) (us : List Place) (x y : Bool) → pl a ≡ x → pr a ≡ y → low ≤ a.row →
     (pr a ≡ true → last_place d (filter q us) ≡ d) → (pl a ≡ true → pr a ≡ false → last_place a (filter q us) ≡ a) →
-    last_place a (filter q us) ≡ kept pr (stop pl a us) →
-    last_place d (filter q (a ∷ us)) ≡ kept pr (stop pl d (a ∷ us))
+    last_place a (filter q us) ≡ stop_place pr (stop pl a us) →
+    last_place d (filter q (a ∷ us)) ≡ stop_place pr (stop pl d (a ∷ us))
 here pl pr q low u d a us true true e f l h k r = let no : q a ≡ false = u.is a l ∙ rw f refl in rw (e, f, no) (h f)
 here pl pr q low u d a us true false e f l h k r = let yes : q a ≡ true = u.is a l ∙ rw f refl in rw (e, f, yes) (k e f)
 here pl pr q low u d a us false true e f l h k r = let g = u.past a f in cc
 here pl pr q low u d a us false false e f l h k r = let yes : q a ≡ true = u.is a l ∙ rw f refl in rw (e, yes) r
 
 clip_step : (pl pr q : Place → Bool) (d a : Place) (us : List Place) (t : Bool) →
-    last_place d (filter q (a ∷ us)) ≡ kept pr (stop pl d (a ∷ us)) →
-    last_place d (filter q us) ≡ kept pr (stop pl d us) →
-    last_place d (filter q (cond t (a ∷ us) us)) ≡ kept pr (stop pl d (cond t (a ∷ us) us))
+    last_place d (filter q (a ∷ us)) ≡ stop_place pr (stop pl d (a ∷ us)) →
+    last_place d (filter q us) ≡ stop_place pr (stop pl d us) →
+    last_place d (filter q (cond t (a ∷ us) us)) ≡ stop_place pr (stop pl d (cond t (a ∷ us) us))
 clip_step pl pr q d a us true h k = h
 clip_step pl pr q d a us false h k = k
 
 -- where a target is clipped back to, along a walk that has a place before its target
 pub clip-walk : (pl pr q : Place → Bool) (low : ℕ) → Upto pl pr q low → (d a : Place) (bs : List ℕ) → low ≤ a.row →
-    last_place d (filter q (walk a bs)) ≡ kept pr (stop pl d (walk a bs))
+    last_place d (filter q (walk a bs)) ≡ stop_place pr (stop pl d (walk a bs))
 clip-walk pl pr q low u d a [] l = here pl pr q low u d a [] (pl a) (pr a) refl refl l (λ h. refl) (λ h k. refl) refl
 clip-walk pl pr q low u d a (b ∷ bs) l =
     let later = after-later a b in
@@ -113,7 +113,7 @@ at_zero : (o : ℕ) → nat_le (end_place []).offset o ≡ true
 unfolding end_place
 at_zero o = grind (arith, nat_tests)
 
-pub clipped_back : (bs : List ℕ) (o : ℕ) → IsUtf8 bs → kept (λ k. offset_passed o k Right) (stop (λ k. offset_passed o k Left) (end_place []) (places bs)) ≡ offset_clipped_back bs o
+pub clipped_back : (bs : List ℕ) (o : ℕ) → IsUtf8 bs → stop_place (λ k. offset_passed o k Right) (stop (λ k. offset_passed o k Left) (end_place []) (places bs)) ≡ offset_clipped_back bs o
 clipped_back bs o u =
     let q : Place → Bool = λ k. nat_le k.offset o in
     rw (places-walk bs)

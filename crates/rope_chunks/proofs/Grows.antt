@@ -8,7 +8,7 @@ use Rattle.std.proofs.lemmas.Str.{IsUtf8-append}
 use Rattle.std.proofs.lemmas.Bool.{cases_lt}
 use Rattle.std.proofs.lemmas.Option.{slice_get_within, get_or_from_slice_get, slice_get-get_or}
 use Rattle.sum_tree.specs.Laws.{fold}
-use Rattle.sum_tree.specs.Spliced.{spliced}
+use Rattle.sum_tree.specs.Spliced.{splice_list}
 use Rattle.text_dims.specs.Summaries.{summary_of, text_sum, no_text, TextFits}
 use Rattle.text_dims.proofs.Characters.{text_fits}
 use Rattle.rope_chunks.specs.Chunks.{IsChunk, AreChunks}
@@ -41,7 +41,7 @@ no_last (c ∷ cs) h =
     absurd (some_none _ (slice_get (c ∷ cs) (length (c ∷ cs) - 1)) (slice_get-get_or (c ∷ cs) (length (c ∷ cs) - 1) c (omega arith)) h)
 
 -- chunks in the place of the last ones
-spliced-end : (from n : ℕ) (ys xs : List (List ℕ)) → n ≡ length xs → spliced from n ys xs ≡ take from xs ++ ys
+spliced-end : (from n : ℕ) (ys xs : List (List ℕ)) → n ≡ length xs → splice_list from n ys xs ≡ take from xs ++ ys
 spliced-end from n ys xs e = rw (drop_all n xs (omega arith)) (append-nil (take from xs ++ ys))
 
 -- ys in the place of the chunks from from on makes the text all
@@ -52,10 +52,10 @@ pub record Grown (from n : ℕ) (ys xs : List (List ℕ)) (all : List ℕ) : Typ
   pub text : concat (take from xs) ++ concat ys ≡ all
   pub few : length all ≤ 2 ^ 40
 
-pub concat-grown : (from n : ℕ) (ys xs : List (List ℕ)) (all : List ℕ) → Grown from n ys xs all → concat (spliced from n ys xs) ≡ all
+pub concat-grown : (from n : ℕ) (ys xs : List (List ℕ)) (all : List ℕ) → Grown from n ys xs all → concat (splice_list from n ys xs) ≡ all
 concat-grown from n ys xs all g = ap concat (spliced-end from n ys xs g.end) ∙ concat-append (take from xs) ys ∙ g.text
 
-pub are_grown : (from n : ℕ) (ys xs : List (List ℕ)) (all : List ℕ) → Grown from n ys xs all → AreChunks (spliced from n ys xs)
+pub are_grown : (from n : ℕ) (ys xs : List (List ℕ)) (all : List ℕ) → Grown from n ys xs all → AreChunks (splice_list from n ys xs)
 are_grown from n ys xs all g = record {
   each = rw (spliced-end from n ys xs g.end) (All-append IsChunk (take from xs) ys (All-take IsChunk from xs g.old) g.new);
   few = rw (concat-grown from n ys xs all g) g.few;
@@ -89,51 +89,43 @@ pub chunk_at : (cs : List (List ℕ)) (i : ℕ) (c : List ℕ) → All IsChunk c
 chunk_at cs i c a h =
     subst (λ d. IsChunk d) (get_or_from_slice_get cs i c c h) (a i c (slice_get_within cs i c h))
 
--- the chunks at a seam made one
-pub record Seam (n : ℕ) (ys cs ds : List (List ℕ)) (last first new : List ℕ) : Type 0 where
-  pub end : n ≡ length cs
-  pub front : AreChunks cs
-  pub back : AreChunks ds
-  pub at_last : slice_get cs (n - 1) ≡ Some last
-  pub at_first : slice_get ds 0 ≡ Some first
-  pub joined : new ≡ last ++ first
-  pub only : ys ≡ new ∷ []
-  pub small : length last + length first ≤ 128
-  pub few : length (concat cs) + length (concat ds) ≤ 2 ^ 40
-
-pub seam_grown : (n : ℕ) (ys cs ds : List (List ℕ)) (last first new : List ℕ) → Seam n ys cs ds last first new → Grown (n - 1) n ys cs (concat cs ++ first)
-seam_grown n ys cs ds last first new s =
-    let a : IsChunk last = chunk_at cs (n - 1) last s.front.each s.at_last in
-    let b : IsChunk first = chunk_at ds 0 first s.back.each s.at_first in
-    let one : IsChunk (last ++ first) = record {
-      text = IsUtf8-append last first a.text b.text;
-      some = omega (arith, length-append last first, a.some);
-      few = omega (arith, length-append last first, s.small);
+-- one chunk more, made one with the last
+pub seam_grown : (n : ℕ) (ys cs : List (List ℕ)) (last next new : List ℕ) → n ≡ length cs → AreChunks cs → slice_get cs (length cs - 1) ≡ Some last → IsChunk next → length last + length next ≤ 128 → length (concat cs) + length next ≤ 2 ^ 40
+    → new ≡ last ++ next → ys ≡ new ∷ [] → Grown (n - 1) n ys cs (concat cs ++ next)
+seam_grown n ys cs last next new end front at_last more small few is only =
+    let at : slice_get cs (n - 1) ≡ Some last = rw end at_last in
+    let a : IsChunk last = chunk_at cs (n - 1) last front.each at in
+    let one : IsChunk (last ++ next) = record {
+      text = IsUtf8-append last next a.text more.text;
+      some = omega (arith, length-append last next, a.some);
+      few = omega (arith, length-append last next, small);
     } in
-    let ys_are : ys ≡ (last ++ first) ∷ [] = s.only ∙ ap (λ x. x ∷ []) s.joined in
+    let ys_are : ys ≡ (last ++ next) ∷ [] = only ∙ ap (λ x. x ∷ []) is in
     record {
-      end = s.end;
-      new = subst (λ zs. All IsChunk zs) (sym ys_are) (All-push IsChunk [] (last ++ first) (All-nil IsChunk) one);
-      old = s.front.each;
+      end = end;
+      new = subst (λ zs. All IsChunk zs) (sym ys_are) (All-push IsChunk [] (last ++ next) (All-nil IsChunk) one);
+      old = front.each;
       text =
           ap (λ zs. concat (take (n - 1) cs) ++ concat zs) ys_are
-          ∙ ap (λ t. concat (take (n - 1) cs) ++ t) (append-nil (last ++ first))
-          ∙ sym (append_assoc (concat (take (n - 1) cs)) last first)
-          ∙ ap (λ t. t ++ first) (concat-last cs n last s.end s.at_last);
-      few = omega (arith, length-append (concat cs) first, ap length (first_is ds first s.at_first), length-append first (concat (drop 1 ds)), s.few);
+          ∙ ap (λ t. concat (take (n - 1) cs) ++ t) (append-nil (last ++ next))
+          ∙ sym (append_assoc (concat (take (n - 1) cs)) last next)
+          ∙ ap (λ t. t ++ next) (concat-last cs n last end at);
+      few = omega (arith, length-append (concat cs) next, few);
     }
 
-pub seam_text : (n : ℕ) (ys cs ds : List (List ℕ)) (last first new : List ℕ) → Seam n ys cs ds last first new → concat (spliced (n - 1) n ys cs ++ drop 1 ds) ≡ concat cs ++ concat ds
-seam_text n ys cs ds last first new s =
-    concat-append (spliced (n - 1) n ys cs) (drop 1 ds)
-    ∙ ap (λ t. t ++ concat (drop 1 ds)) (concat-grown (n - 1) n ys cs (concat cs ++ first) (seam_grown n ys cs ds last first new s))
-    ∙ append_assoc (concat cs) first (concat (drop 1 ds))
-    ∙ ap (λ t. concat cs ++ t) (sym (first_is ds first s.at_first))
+-- the first chunk of some is no longer than all
+pub first_few : (cs ds : List (List ℕ)) (first : List ℕ) → slice_get ds 0 ≡ Some first → length (concat cs) + length (concat ds) ≤ 2 ^ 40 → length (concat cs) + length first ≤ 2 ^ 40
+first_few cs ds first e f = omega (arith, ap length (first_is ds first e), length-append first (concat (drop 1 ds)), f)
 
-pub seam_are : (n : ℕ) (ys cs ds : List (List ℕ)) (last first new : List ℕ) → Seam n ys cs ds last first new → AreChunks (spliced (n - 1) n ys cs ++ drop 1 ds)
-seam_are n ys cs ds last first new s = record {
-  each = All-append IsChunk (spliced (n - 1) n ys cs) (drop 1 ds) (are_grown (n - 1) n ys cs (concat cs ++ first) (seam_grown n ys cs ds last first new s)).each (All-drop IsChunk 1 ds s.back.each);
-  few = rw (seam_text n ys cs ds last first new s) (omega (arith, length-append (concat cs) (concat ds), s.few));
+-- the other chunks behind a text that has the first
+pub rest_text : (cs ds es : List (List ℕ)) (first : List ℕ) → slice_get ds 0 ≡ Some first → concat es ≡ concat cs ++ first → concat (es ++ drop 1 ds) ≡ concat cs ++ concat ds
+rest_text cs ds es first e t =
+    concat-append es (drop 1 ds) ∙ ap (λ x. x ++ concat (drop 1 ds)) t ∙ append_assoc (concat cs) first (concat (drop 1 ds)) ∙ ap (λ x. concat cs ++ x) (sym (first_is ds first e))
+
+pub rest_are : (cs ds es : List (List ℕ)) (first : List ℕ) → slice_get ds 0 ≡ Some first → concat es ≡ concat cs ++ first → All IsChunk es → All IsChunk ds → length (concat cs) + length (concat ds) ≤ 2 ^ 40 → AreChunks (es ++ drop 1 ds)
+rest_are cs ds es first e t a b f = record {
+  each = All-append IsChunk es (drop 1 ds) a (All-drop IsChunk 1 ds b);
+  few = rw (rest_text cs ds es first e t) (omega (arith, length-append (concat cs) (concat ds), f));
 }
 
 pub are_chained : (cs ds es : List (List ℕ)) → All IsChunk es → concat es ≡ concat cs ++ concat ds → length (concat cs) + length (concat ds) ≤ 2 ^ 40 → AreChunks es

@@ -14,7 +14,7 @@ use Rattle.text_dims.specs.Counts.{begins_char, is_newline, newline_count, rows,
 use Rattle.text_dims.specs.Places.{end_place, places, place_after, walk, last_place, point_clipped_back, point_clipped_on}
 use Rattle.text_dims.proofs.Walks.{places-walk, end_place-append}
 use Rattle.rope_chunks.specs.declared.look.Stop.{Stop}
-use Rattle.rope_chunks.specs.Stops.{stop, kept}
+use Rattle.rope_chunks.specs.Stops.{stop, stop_place}
 use Rattle.rope_chunks.specs.Targets.{point_passed, point_stays}
 use Rattle.rope_chunks.proofs.Stops.{after-later, Begins, Begins-utf8, lead, walk_end, walk_end-is}
 use Rattle.rope_chunks.proofs.Clipping.{Upto, clip-walk, either}
@@ -72,7 +72,7 @@ reach p answer clip g d a (b ∷ bs) h l =
     skip p answer clip (walk_end (place_after a b) bs) d a (walk (place_after a b) bs) (begins_char b) l
     (λ x. turn p answer clip g x a b bs h l (is_newline b) refl (λ m. reach p answer clip g x (place_after a b) bs h.1 m))
 
-begin : ((end_place []).row ≡ 0) × ((end_place []).column ≡ 0)
+pub begin : ((end_place []).row ≡ 0) × ((end_place []).column ≡ 0)
 unfolding end_place newline_count last_row rows
 begin = (refl, refl)
 
@@ -193,7 +193,7 @@ point_upto p = record {
 at_begin : (p : Point) (a : Place) → a.row ≡ p.row → a.column ≡ 0 → (a.row == p.row && nat_le a.column p.column) ≡ true
 at_begin p a r c = grind (arith, nat_tests)
 
-back_agrees : (p : Point) → Agrees p (λ s. kept (λ k. point_passed p k Right) s) (back_clip p)
+back_agrees : (p : Point) → Agrees p (λ s. stop_place (λ k. point_passed p k Right) s) (back_clip p)
 back_agrees p = record {
   none = λ e. refl;
   row = λ e d a bs r c h.
@@ -203,5 +203,5 @@ back_agrees p = record {
       ∙ ap (last_place e) (sym (both (λ k. nat_le k.column p.column) (λ k. k.row == p.row) (walk a bs)));
 }
 
-pub point_back : (bs : List ℕ) (p : Point) → IsUtf8 bs → kept (λ k. point_passed p k Right) (stop (λ k. point_passed p k Left) (end_place []) (places bs)) ≡ point_clipped_back bs p
-point_back bs p u = agree p (λ s. kept (λ k. point_passed p k Right) s) (back_clip p) (back_agrees p) bs u
+pub point_back : (bs : List ℕ) (p : Point) → IsUtf8 bs → stop_place (λ k. point_passed p k Right) (stop (λ k. point_passed p k Left) (end_place []) (places bs)) ≡ point_clipped_back bs p
+point_back bs p u = agree p (λ s. stop_place (λ k. point_passed p k Right) s) (back_clip p) (back_agrees p) bs u

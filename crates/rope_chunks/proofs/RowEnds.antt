@@ -5,14 +5,15 @@ use Rattle.std.specs.List.{slice_split, onto_first}
 use Rattle.std.specs.Option.{option_map}
 use Rattle.std.proofs.lemmas.Bool.{lt-ltb, le-ltb, eq-eqb, ne_eqb, eqb-true}
 use Rattle.text_dims.specs.declared.places.Place.{Place}
-use Rattle.text_dims.specs.Counts.{begins_char, is_newline, newline_count, rows, last_row}
-use Rattle.text_dims.specs.Rows.{Begun, rows_begun}
+use Rattle.text_dims.specs.Counts.{begins_char, is_newline, rows}
+use Rattle.text_dims.specs.Rows.{Begun, split_begun}
 use Rattle.text_dims.specs.Places.{end_place, places, place_after, walk, row_len_of}
 use Rattle.text_dims.proofs.Walks.{places-walk}
 use Rattle.rope_chunks.specs.declared.look.Stop.{Stop}
 use Rattle.rope_chunks.specs.Stops.{stop}
 use Rattle.rope_chunks.specs.Targets.{row_passed}
 use Rattle.rope_chunks.proofs.Stops.{after-later}
+use Rattle.rope_chunks.proofs.PointClips.{begin}
 
 -- the column of a place in this row
 abbrev pub told : ℕ → Place → Option ℕ
@@ -64,10 +65,6 @@ at_other : (r n : ℕ) (d a : Place) (us : List Place) (t : Bool) (x : Option �
 at_other r n d a us true x e h k = rw (le-ltb r a.row (omega (arith, e))) h
 at_other r n d a us false x e h k = k
 
-split_begun : (bs : List ℕ) → Begun (slice_split is_newline bs)
-unfolding rows
-split_begun bs = rows_begun bs
-
 at_byte : (r n b : ℕ) (d a : Place) (bs : List ℕ) (t : Bool) → is_newline b ≡ t → a.row + n ≡ r →
     ((m : ℕ) (e : Place) → (place_after a b).row + m ≡ r → told r (stop (λ k. row_passed r k) e (walk (place_after a b) bs)).before ≡ len_of (place_after a b).column m (slice_split is_newline bs)) →
     told r (stop (λ k. row_passed r k) d (walk a (b ∷ bs))).before ≡ len_of a.column n (slice_split is_newline (b ∷ bs))
@@ -82,10 +79,6 @@ at_byte r n b d a bs false f e h =
 ends : (r n : ℕ) (d a : Place) (bs : List ℕ) → a.row + n ≡ r → told r (stop (λ k. row_passed r k) d (walk a bs)).before ≡ len_of a.column n (slice_split is_newline bs)
 ends r n d a [] e = at_end r n d a e
 ends r n d a (b ∷ bs) e = at_byte r n b d a bs (is_newline b) refl e (λ m x q. ends r m x (place_after a b) bs q)
-
-begin : ((end_place []).row ≡ 0) × ((end_place []).column ≡ 0)
-unfolding end_place newline_count last_row rows
-begin = (refl, refl)
 
 pub row_end : (bs : List ℕ) (r : ℕ) (s : Stop) → s ≡ stop (λ k. row_passed r k) (end_place []) (places bs) → told r s.before ≡ row_len_of bs r
 unfolding rows

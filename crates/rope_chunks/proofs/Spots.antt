@@ -8,7 +8,7 @@ use Rattle.std.proofs.lemmas.Option.{slice_get_read, slice_get-get_or, get_or_fr
 use Rattle.std.proofs.Math.Seq.{take-append-add, drop-append-add}
 use Rattle.sum_tree.specs.Laws.{fold}
 use Rattle.sum_tree.specs.Seen.{Seen}
-use Rattle.sum_tree.specs.Shape.{joined}
+use Rattle.sum_tree.specs.Shape.{join_items}
 use Rattle.sum_tree.proofs.Children.{joined-take_more, joined-split}
 use Rattle.text_dims.specs.declared.summary.TextSummary.{TextSummary}
 use Rattle.text_dims.specs.Summaries.{summary_of, text_sum, no_text}
@@ -46,14 +46,14 @@ last_entry cs k r o d end before within =
     omega (arith, before, within, ap length (entry_step cs k (get_or cs k d) here (read_again cs k d here)), ap (λ xs. length (concat xs)) (take_all (k + 1) cs (omega (arith, end))), length-append (concat (take k cs)) (get_or cs k d))
 
 -- one child further
-pub child_step : (ts : List (Seen (List ℕ))) (k : ℕ) (t : Seen (List ℕ)) → k < length ts → t ≡ get_or ts k t → concat (joined (take (k + 1) ts)) ≡ concat (joined (take k ts)) ++ concat t.items
+pub child_step : (ts : List (Seen (List ℕ))) (k : ℕ) (t : Seen (List ℕ)) → k < length ts → t ≡ get_or ts k t → concat (join_items (take (k + 1) ts)) ≡ concat (join_items (take k ts)) ++ concat t.items
 child_step ts k t within read =
-    ap concat (joined-take_more ts k t within read) ∙ concat-append (joined (take k ts)) t.items
+    ap concat (joined-take_more ts k t within read) ∙ concat-append (join_items (take k ts)) t.items
 
-pub last_child : (ts : List (Seen (List ℕ))) (k r o : ℕ) (d : Seen (List ℕ)) → k + 1 ≡ length ts → length (concat (joined (take k ts))) + r ≡ o → o ≤ length (concat (joined ts)) → r ≤ length (concat (get_or ts k d).items)
+pub last_child : (ts : List (Seen (List ℕ))) (k r o : ℕ) (d : Seen (List ℕ)) → k + 1 ≡ length ts → length (concat (join_items (take k ts))) + r ≡ o → o ≤ length (concat (join_items ts)) → r ≤ length (concat (get_or ts k d).items)
 last_child ts k r o d end before within =
     let here : k < length ts = omega (arith, end) in
-    omega (arith, before, within, ap length (child_step ts k (get_or ts k d) here (read_again ts k d here)), ap (λ us. length (concat (joined us))) (take_all (k + 1) ts (omega (arith, end))), length-append (concat (joined (take k ts))) (concat (get_or ts k d).items))
+    omega (arith, before, within, ap length (child_step ts k (get_or ts k d) here (read_again ts k d here)), ap (λ us. length (concat (join_items us))) (take_all (k + 1) ts (omega (arith, end))), length-append (concat (join_items (take k ts))) (concat (get_or ts k d).items))
 
 -- the chunks ds stand behind b chunks of cs, and byte r of them is byte o of all
 pub record IsPart (cs ds : List (List ℕ)) (b r o : ℕ) : Type 0 where
@@ -79,16 +79,16 @@ part_whole cs o some within = record {
 regroup : (a j t k b : List (List ℕ)) → a ++ ((j ++ (t ++ k)) ++ b) ≡ (a ++ j) ++ (t ++ (k ++ b))
 regroup a j t k b = rw (append_assoc j (t ++ k) b, append_assoc t k b, append_assoc a j (t ++ (k ++ b))) refl
 
-pub around_child : (ts : List (Seen (List ℕ))) (k : ℕ) (t : Seen (List ℕ)) → k < length ts → t ≡ get_or ts k t → joined ts ≡ joined (take k ts) ++ (t.items ++ joined (drop (k + 1) ts))
+pub around_child : (ts : List (Seen (List ℕ))) (k : ℕ) (t : Seen (List ℕ)) → k < length ts → t ≡ get_or ts k t → join_items ts ≡ join_items (take k ts) ++ (t.items ++ join_items (drop (k + 1) ts))
 around_child ts k t within read =
     sym (joined-split ts (k + 1))
-    ∙ ap (λ xs. xs ++ joined (drop (k + 1) ts)) (joined-take_more ts k t within read)
-    ∙ append_assoc (joined (take k ts)) t.items (joined (drop (k + 1) ts))
+    ∙ ap (λ xs. xs ++ join_items (drop (k + 1) ts)) (joined-take_more ts k t within read)
+    ∙ append_assoc (join_items (take k ts)) t.items (join_items (drop (k + 1) ts))
 
-pub part_child : (cs ds : List (List ℕ)) (ts : List (Seen (List ℕ))) (b r o k m q : ℕ) (t : Seen (List ℕ)) → IsPart cs ds b r o → ds ≡ joined ts → k < length ts → t ≡ get_or ts k t → m ≡ length (joined (take k ts)) → length (concat (joined (take k ts))) + q ≡ r → q ≤ length (concat t.items) → 1 ≤ length t.items → IsPart cs t.items (b + m) q o
+pub part_child : (cs ds : List (List ℕ)) (ts : List (Seen (List ℕ))) (b r o k m q : ℕ) (t : Seen (List ℕ)) → IsPart cs ds b r o → ds ≡ join_items ts → k < length ts → t ≡ get_or ts k t → m ≡ length (join_items (take k ts)) → length (concat (join_items (take k ts))) + q ≡ r → q ≤ length (concat t.items) → 1 ≤ length t.items → IsPart cs t.items (b + m) q o
 part_child cs ds ts b r o k m q t p e within read count before fits some =
-    let j : List (List ℕ) = joined (take k ts) in
-    let rest : List (List ℕ) = joined (drop (k + 1) ts) in
+    let j : List (List ℕ) = join_items (take k ts) in
+    let rest : List (List ℕ) = join_items (drop (k + 1) ts) in
     record {
       front = p.front ++ j;
       back = rest ++ p.back;

@@ -20,7 +20,7 @@ use Rattle.text_dims.proofs.Walks.{by_byte, end_place-append, summary_end-is, pl
 use Rattle.rope_chunks.specs.At.{IsLater, IsWithin, RowAndColumn, PlaceAndTextFit, moved_by, place_sum_assoc, past_later, past_nothing}
 use Rattle.text_dims.specs.Monoid.{summary-nil}
 use Rattle.rope_chunks.specs.Chunks.{IsChunk, AreChunks}
-use Rattle.rope_chunks.specs.Stops.{stop, picked, HasRoom}
+use Rattle.rope_chunks.specs.Stops.{stop, pick_place, HasRoom}
 use Rattle.rope_chunks.proofs.Texts.{concat-utf8, each_tail, fold_is}
 
 -- the text is empty, or begins with a character
@@ -229,19 +229,19 @@ none_past pl pr eq s a (b ∷ bs) t =
     (none_past pl pr eq s (place_after a b) bs (s.stays.stays a (place_after a b) t (after-later a b)))
 
 found_here : (pl pr eq : Place → Bool) → Sought pl pr eq → (before a : Place) (us : List Place) (x y : Bool) → pl a ≡ x → pr a ≡ y →
-    (pr a ≡ true → find eq us ≡ None) → find eq us ≡ picked pr (stop pl a us).here →
-    find eq (a ∷ us) ≡ picked pr (stop pl before (a ∷ us)).here
+    (pr a ≡ true → find eq us ≡ None) → find eq us ≡ pick_place pr (stop pl a us).here →
+    find eq (a ∷ us) ≡ pick_place pr (stop pl before (a ∷ us)).here
 found_here pl pr eq s before a us true true e f h k = rw (s.is a, e, f) (h f)
 found_here pl pr eq s before a us true false e f h k = rw (s.is a, e, f) refl
 found_here pl pr eq s before a us false y e f h k = rw (s.is a, e) k
 
 found_step : (pl pr eq : Place → Bool) (before a : Place) (us : List Place) (t : Bool) →
-    find eq (a ∷ us) ≡ picked pr (stop pl before (a ∷ us)).here → find eq us ≡ picked pr (stop pl before us).here →
-    find eq (cond t (a ∷ us) us) ≡ picked pr (stop pl before (cond t (a ∷ us) us)).here
+    find eq (a ∷ us) ≡ pick_place pr (stop pl before (a ∷ us)).here → find eq us ≡ pick_place pr (stop pl before us).here →
+    find eq (cond t (a ∷ us) us) ≡ pick_place pr (stop pl before (cond t (a ∷ us) us)).here
 found_step pl pr eq before a us true h k = h
 found_step pl pr eq before a us false h k = k
 
-pub found : (pl pr eq : Place → Bool) → Sought pl pr eq → (before a : Place) (bs : List ℕ) → find eq (walk a bs) ≡ picked pr (stop pl before (walk a bs)).here
+pub found : (pl pr eq : Place → Bool) → Sought pl pr eq → (before a : Place) (bs : List ℕ) → find eq (walk a bs) ≡ pick_place pr (stop pl before (walk a bs)).here
 found pl pr eq s before a [] = found_here pl pr eq s before a [] (pl a) (pr a) refl refl (λ t. refl) refl
 found pl pr eq s before a (b ∷ bs) =
     let us = walk (place_after a b) bs in

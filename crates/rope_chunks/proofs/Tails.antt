@@ -3,7 +3,7 @@ use Rattle.std.proofs.Common.{◌≡◌, ℕ, ◌+◌, ◌<◌, List, [], ◌++�
 use Rattle.std.proofs.lemmas.List.{append-nil, drop-drop, drop-append-le}
 use Rattle.std.proofs.Math.Seq.{drop-append-add, drop-append_seam}
 use Rattle.sum_tree.specs.Seen.{Seen}
-use Rattle.sum_tree.specs.Shape.{joined}
+use Rattle.sum_tree.specs.Shape.{join_items}
 use Rattle.rope_chunks.proofs.Spots.{around_child}
 
 -- what is left of the chunks ds from r on comes first of what is left of cs from i on
@@ -15,11 +15,11 @@ pub record IsTail (cs ds : List (List ℕ)) (r i : ℕ) : Type 0 where
 pub tail_whole : (cs : List (List ℕ)) (i : ℕ) → i < length cs → IsTail cs cs i i
 tail_whole cs i h = record { behind = []; all = sym (append-nil (drop i cs)); within = h }
 
-pub tail_child : (cs ds : List (List ℕ)) (ts : List (Seen (List ℕ))) (r i k q : ℕ) (t : Seen (List ℕ)) → IsTail cs ds r i → ds ≡ joined ts → k < length ts → t ≡ get_or ts k t → length (joined (take k ts)) + q ≡ r → q < length t.items → IsTail cs t.items q i
+pub tail_child : (cs ds : List (List ℕ)) (ts : List (Seen (List ℕ))) (r i k q : ℕ) (t : Seen (List ℕ)) → IsTail cs ds r i → ds ≡ join_items ts → k < length ts → t ≡ get_or ts k t → length (join_items (take k ts)) + q ≡ r → q < length t.items → IsTail cs t.items q i
 tail_child cs ds ts r i k q t p e within read before fits =
-    let a : List (List ℕ) = joined (take k ts) in
-    let b : List (List ℕ) = joined (drop (k + 1) ts) in
-    let cut : drop r (joined ts) ≡ drop q t.items ++ b =
+    let a : List (List ℕ) = join_items (take k ts) in
+    let b : List (List ℕ) = join_items (drop (k + 1) ts) in
+    let cut : drop r (join_items ts) ≡ drop q t.items ++ b =
     ap (λ xs. drop r xs) (around_child ts k t within read)
     ∙ ap (λ n. drop n (a ++ (t.items ++ b))) (sym before)
     ∙ drop-append-add a (t.items ++ b) q

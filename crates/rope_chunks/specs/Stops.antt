@@ -10,17 +10,17 @@ stop passes before [] = record { before = before; here = None }
 stop passes before (k ∷ ks) = if passes k then record { before = before; here = Some k } else stop passes k ks
 
 -- the place where a look-up stopped, unless it is strictly past the target
-abbrev pub picked : (Place → Bool) → Option Place → Option Place
-picked past None = None
-picked past (Some k) = if past k then None else Some k
+abbrev pub pick_place : (Place → Bool) → Option Place → Option Place
+pick_place past None = None
+pick_place past (Some k) = if past k then None else Some k
 
 -- the place where a look-up stopped, or the one before it where that is strictly past the target or there is none
 abbrev pub or_before : (Place → Bool) → Place → Option Place → Place
 or_before past before None = before
 or_before past before (Some k) = if past k then before else k
 
-abbrev pub kept : (Place → Bool) → Stop → Place
-kept past s = or_before past s.before s.here
+abbrev pub stop_place : (Place → Bool) → Stop → Place
+stop_place past s = or_before past s.before s.here
 
 -- the type of places has room for n more bytes
 pub record HasRoom (a : Place) (n : ℕ) : Type 0 where

@@ -3,7 +3,7 @@ ghost use Rattle.std.specs.Prelude.{◌≡◌, ◌+◌, ◌-◌, ◌<◌, ◌≤
 ghost use Rattle.std.specs.List.{concat};
 ghost use Rattle.std.specs.Str.{IsUtf8};
 ghost use Rattle.std.specs.String.{string_bytes};
-ghost use Rattle.sum_tree.specs.Spliced.{spliced};
+ghost use Rattle.sum_tree.specs.Spliced.{splice_list};
 ghost use Rattle.rope_chunks.specs.Chunks.{IsChunk, AreChunks};
 
 use crate::OutOfMemory;
@@ -128,12 +128,31 @@ fn joined(
         ≡ concat front.now.items ++ concat back.now.items) }
     ensures each { IfOk result (λ tree. All IsChunk tree.items) }
 {
+    let mut whole = with_seam(alloc, front, last, first)?;
+    join(&mut whole, alloc, back.dropped(alloc, 1)?)?;
+    Ok(whole)
+}
+
+// The chunks of a text with one more behind them, which is made one with the last.
+fn with_seam(
+    alloc: Global,
+    front: &SumTree<Chunk>,
+    last: &Chunk,
+    next: &Chunk,
+) -> Result<SumTree<Chunk>, OutOfMemory>
+    requires front { AreChunks front.now.items }
+    requires last { slice_get front.now.items (length front.now.items - 1) ≡ Some last.now }
+    requires next { IsChunk next.now }
+    requires small { length last.now + length next.now ≤ 128 }
+    requires few { length (concat front.now.items) + length next.now ≤ 2 ^ 40 }
+    ensures text { IfOk result (λ tree. concat tree.items ≡ concat front.now.items ++ next.now) }
+    ensures each { IfOk result (λ tree. All IsChunk tree.items) }
+{
     let mut seam = Vec::new(alloc);
-    seam.push(Chunk::joined(last.as_str(), first.as_str()))?;
+    seam.push(Chunk::joined(last.as_str(), next.as_str()))?;
     let len = front.len();
     let mut whole = front.share()?;
     put(&mut whole, alloc, len - 1, len, seam)?;
-    join(&mut whole, alloc, back.dropped(alloc, 1)?)?;
     Ok(whole)
 }
 
@@ -164,8 +183,8 @@ pub(crate) fn put(
 ) -> Result<(), OutOfMemory>
     requires order { from ≤ to }
     requires within { to ≤ length tree.old.items }
-    requires chunks { AreChunks (spliced from to chunks.items tree.old.items) }
-    ensures ok { OnOk result (tree.new.items ≡ spliced from to chunks.items tree.old.items) }
+    requires chunks { AreChunks (splice_list from to chunks.items tree.old.items) }
+    ensures ok { OnOk result (tree.new.items ≡ splice_list from to chunks.items tree.old.items) }
     ensures err { OnErr result (tree.new ≡ tree.old) }
 {
     tree.splice(alloc, from, to, chunks)

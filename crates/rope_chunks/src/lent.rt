@@ -3,7 +3,7 @@ ghost use Rattle.std.specs.Prelude.{◌≡◌, ◌+◌, ◌<◌, ◌++◌, List,
 ghost use Rattle.std.specs.Iterator.{YieldsFirstRef, item_count};
 ghost use Rattle.std.specs.List.{concat};
 ghost use Rattle.sum_tree.specs.Seen.{Seen};
-ghost use Rattle.sum_tree.specs.Shape.{joined};
+ghost use Rattle.sum_tree.specs.Shape.{join_items};
 
 use crate::chunk::Chunk;
 use crate::rope::Rope;
@@ -59,11 +59,11 @@ impl<'a> Iterator for Chunks<'a> {
 
 // The child that holds chunk i of them all, and the chunk's index there.
 fn child_with(children: &[SumTree<Chunk>], i: u64) -> (usize, u64)
-    requires { i < length (joined children.now) }
+    requires { i < length (join_items children.now) }
     ensures child { result.0 < length children.now }
     ensures within { (d : Seen (List ℕ)) → result.1
         < length (slice_index_or children.now result.0 d).items }
-    ensures before { length (joined (take result.0 children.now)) + result.1 ≡ i }
+    ensures before { length (join_items (take result.0 children.now)) + result.1 ≡ i }
 {
     let mut rest = i;
     for (k, child) in children.iter().enumerate() {

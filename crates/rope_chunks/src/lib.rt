@@ -23,5 +23,5 @@ pub use chunk::Chunk;
 pub use lent::Chunks;
 pub use masks::Masks;
 pub use rope::Rope;
-pub use std::alloc::AllocError as OutOfMemory;
+pub use sum_tree::OutOfMemory;
 pub use threads::crosses_threads;

@@ -1,7 +1,7 @@
 //! Look-ups inside a chunk.
 ghost use Rattle.std.specs.Prelude.{◌≡◌, ◌+◌, ◌-◌, ◌<◌, ◌≤◌, length, take, drop, slice_index, IfSome, IsTrue};
 ghost use Rattle.text_dims.specs.Places.{PlaceFits, end_place, is_cut, place_after, place_sum, walk};
-ghost use Rattle.rope_chunks.specs.Stops.{stop, picked, HasRoom};
+ghost use Rattle.rope_chunks.specs.Stops.{stop, pick_place, HasRoom};
 
 use crate::at::At;
 use text_dims::{LANES, Place, is_char_start, run_at};

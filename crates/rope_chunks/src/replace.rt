@@ -3,7 +3,7 @@ ghost use Rattle.std.specs.Prelude.{◌≡◌, ◌+◌, ◌-◌, ◌^◌, ◌≤
 ghost use Rattle.std.specs.List.{concat};
 ghost use Rattle.std.specs.Str.{IsCharBoundary};
 ghost use Rattle.std.specs.String.{string_bytes};
-ghost use Rattle.sum_tree.specs.Spliced.{spliced};
+ghost use Rattle.sum_tree.specs.Spliced.{splice_list};
 ghost use Rattle.rope_chunks.specs.Chunks.{AreChunks};
 ghost use Rattle.rope_chunks.specs.Spots.{IsChange, IsSpot};
 
@@ -64,7 +64,7 @@ fn change_of(
     requires end { IsCharBoundary (concat tree.now.items) end }
     requires order { start ≤ end }
     ensures { IfOk result (λ r. IsChange tree.now.items
-        (spliced start end text.now (concat tree.now.items)) r.from r.to r.chunks.items) }
+        (splice_list start end text.now (concat tree.now.items)) r.from r.to r.chunks.items) }
 {
     if tree.is_empty() {
         return Ok(change_to(alloc, tree, 0, 0, text)?);
@@ -103,7 +103,7 @@ impl Rope {
         requires end { IsCharBoundary self.old end }
         requires order { start ≤ end }
         requires few { length self.old + length text.now ≤ 2 ^ 40 + (end - start) }
-        ensures ok { OnOk result (self.new ≡ spliced start end text.now self.old) }
+        ensures ok { OnOk result (self.new ≡ splice_list start end text.now self.old) }
         ensures err { OnErr result (self.new ≡ self.old) }
     {
         let change = change_of(alloc, &self.chunks, start, end, text)?;

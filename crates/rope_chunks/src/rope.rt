@@ -2,7 +2,7 @@
 ghost use Rattle.std.specs.Prelude.{◌≡◌, ◌≤◌, ◌^◌, length, [], IfOk};
 ghost use Rattle.text_dims.specs.Summaries.{summary_of};
 ghost use Rattle.text_dims.specs.Places.{end_place, places};
-ghost use Rattle.rope_chunks.specs.Stops.{stop, picked, kept};
+ghost use Rattle.rope_chunks.specs.Stops.{stop, pick_place, stop_place};
 ghost use Rattle.std.specs.Str.{IsUtf8};
 
 use crate::OutOfMemory;
@@ -81,7 +81,7 @@ impl Rope {
 
     /// The place of the text that a target names, if there is one.
     pub(crate) fn place<G: Target<At>>(&self, target: &G) -> Option<Place>
-        ensures { result ≡ picked (λ k. G.passes target.now k Bias.Right)
+        ensures { result ≡ pick_place (λ k. G.passes target.now k Bias.Right)
             (stop (λ k. G.passes target.now k Bias.Left) (end_place []) (places self.now)).here }
     {
         let stop = self.stop(target);
@@ -93,7 +93,7 @@ impl Rope {
 
     /// The place of the text that a target names, or the last one before it where there is none.
     pub(crate) fn back<G: Target<At>>(&self, target: &G) -> Place
-        ensures { result ≡ kept (λ k. G.passes target.now k Bias.Right)
+        ensures { result ≡ stop_place (λ k. G.passes target.now k Bias.Right)
             (stop (λ k. G.passes target.now k Bias.Left) (end_place []) (places self.now)) }
     {
         let stop = self.stop(target);

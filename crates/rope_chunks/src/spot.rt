@@ -2,7 +2,7 @@
 ghost use Rattle.std.specs.Prelude.{◌≡◌, ℕ, ◌+◌, ◌^◌, ◌<◌, ◌≤◌, List, length, take, slice_index_or};
 ghost use Rattle.std.specs.List.{concat};
 ghost use Rattle.sum_tree.specs.Seen.{Seen};
-ghost use Rattle.sum_tree.specs.Shape.{joined};
+ghost use Rattle.sum_tree.specs.Shape.{join_items};
 ghost use Rattle.rope_chunks.specs.Spots.{IsSpot};
 
 use crate::chunk::Chunk;
@@ -19,11 +19,11 @@ pub(crate) struct Spot<'a> {
 // The child in which an offset lies, how many chunks lie before it, and the offset there.
 fn child_at(children: &[SumTree<Chunk>], offset: u64) -> (usize, u64, u64)
     requires least { 1 ≤ length children.now }
-    requires short { length (joined children.now) ≤ 2 ^ 40 }
-    requires within { offset ≤ length (concat (joined children.now)) }
+    requires short { length (join_items children.now) ≤ 2 ^ 40 }
+    requires within { offset ≤ length (concat (join_items children.now)) }
     ensures child { result.0 < length children.now }
-    ensures count { result.1 ≡ length (joined (take result.0 children.now)) }
-    ensures before { length (concat (joined (take result.0 children.now))) + result.2 ≡ offset }
+    ensures count { result.1 ≡ length (join_items (take result.0 children.now)) }
+    ensures before { length (concat (join_items (take result.0 children.now))) + result.2 ≡ offset }
     ensures within { (d : Seen (List ℕ)) → result.2
         ≤ length (concat (slice_index_or children.now result.0 d).items) }
 {

@@ -1,31 +1,25 @@
 -- Pieces without a fault stand in order on boundaries, and how long the text is that they make.
-use Rattle.std.proofs.Common.{◌≡◌, ℕ, suc, ◌+◌, ◌-◌, ◌<◌, ◌≤◌, List, [], ◌∷◌, ◌++◌, length, drop, refl, sym, ◌∙◌, arith, Bool, true, false, not, cond, ◌&&◌, ◌||◌, Option, None, Some, option_map, nat_lt, nat_le, length-append, length-drop}
-use Rattle.std.proofs.lemmas.Bool.{ltb-true, ltb-false, leb-true}
+use Rattle.std.proofs.Common.{◌≡◌, ℕ, suc, ◌+◌, ◌-◌, ◌<◌, ◌≤◌, List, [], ◌∷◌, ◌++◌, length, drop, refl, sym, ◌∙◌, arith, Bool, true, false, not, cond, ◌&&◌, ◌||◌, Option, None, Some, option_map, nat_lt, length-append, length-drop}
+use Rattle.std.proofs.lemmas.Bool.{ltb-false}
 use Rattle.std.proofs.lemmas.List.{length-take-le}
 use Rattle.std.proofs.lemmas.Iterator.Adapters.{position_from-zero}
 use Rattle.std.specs.List.{AllByRecursion, position, position_from}
 use Rattle.std.proofs.lemmas.Str.{IsCharBoundary-start}
-use Rattle.std.specs.List.{slice_range, slice_index}
+use Rattle.std.specs.List.{slice_range}
 use Rattle.std.specs.Str.{IsCharBoundary, IsUtf8}
 use Rattle.op_model.specs.declared.operation.Piece.{Piece}
 use Rattle.op_model.specs.declared.faults.EditFault.TheVariants.{Reversed, Overlap, PastEnd, InsideChar}
-use Rattle.op_model.specs.Choice.{first_of, when}
+use Rattle.op_model.specs.Choice.{first_of}
 use Rattle.op_model.specs.Operations.{text_total}
 use Rattle.op_model.specs.Edits.{is_boundary, is_reversed, is_past, is_inside, overlap_from, replaced_from, piece_fault}
 use Rattle.rope_edits.specs.Fit.{AreFit}
+use Rattle.op_model.proofs.texts.WholeTexts.{boundary_of}
+use Rattle.op_model.proofs.answers.Passed.{map_none}
 
 pub all_none : {A : Type 0} (os : List (Option A)) → first_of os ≡ None → AllByRecursion (λ o. o ≡ None) os
 all_none [] h = tt
 all_none (None ∷ os) h = (refl, all_none os h)
 all_none (Some x ∷ os) h = cc
-
-pub map_none : {A B : Type 0} (f : A → B) (o : Option A) → option_map f o ≡ None → o ≡ None
-map_none f None h = refl
-map_none f (Some x) h = cc
-
-pub when_none : {A : Type 0} (b : Bool) (x : A) → when b x ≡ None → b ≡ false
-when_none true x h = cc
-when_none false x h = refl
 
 none_from : (t : Piece → Bool) (i : ℕ) (ps : List Piece) → position_from t i ps ≡ None → AllByRecursion (λ p. t p ≡ false) ps
 none_from t i [] h = tt
@@ -38,10 +32,6 @@ none_from t i (p ∷ ps) h =
 none_at : (t : Piece → Bool) (ps : List Piece) → position t ps ≡ None → AllByRecursion (λ p. t p ≡ false) ps
 none_at t ps h = none_from t 0 ps (sym (position_from-zero t ps) ∙ h)
 
-and_both : (a b : Bool) → (a && b) ≡ true → (a ≡ true) × (b ≡ true)
-and_both true b h = (refl, h)
-and_both false b h = cc
-
 neither : (a b : Bool) → not (a && b) ≡ false → (a ≡ true) × (b ≡ true)
 neither true true h = (refl, refl)
 neither true false h = cc
@@ -51,22 +41,12 @@ in_order : (b : Bool) (i : ℕ) (o : Option ℕ) → cond b (Some i) o ≡ None 
 in_order true i o h = cc
 in_order false i o h = (refl, h)
 
-or_cases : (a b c : Bool) → (a || (b || c)) ≡ true → (P : Type 0) → (a ≡ true → P) → (b ≡ true → P) → (c ≡ true → P) → P
-or_cases true b c h P x y z = x refl
-or_cases false true c h P x y z = y refl
-or_cases false false c h P x y z = z h
-
-boundary : (text : List ℕ) (i : ℕ) → is_boundary text i ≡ true → IsCharBoundary text i
-boundary text i h =
-    let k = and_both (nat_le i (length text)) _ h in
-    (leb-true _ _ k.0, λ lt high. or_cases (nat_le (length text) i) (nat_lt (slice_index text i) 128) (nat_le 192 (slice_index text i)) k.1 (192 ≤ slice_index text i) (λ e. let q : length text ≤ i = leb-true _ _ e in absurd (omega arith)) (λ e. let q : slice_index text i < 128 = ltb-true _ _ e in absurd (omega arith)) (λ e. leb-true _ _ e))
-
 fits : (at i : ℕ) (ps : List Piece) (text : List ℕ) → IsCharBoundary text at → AllByRecursion (λ p. is_reversed p ≡ false) ps → overlap_from at i ps ≡ None → AllByRecursion (λ p. is_inside text p ≡ false) ps → AreFit at ps text
 fits at i [] text h r o b = h
 fits at i (p ∷ ps) text h r o b =
     let n = neither (is_boundary text p.start) (is_boundary text p.end) b.0 in
     let k = in_order (nat_lt p.start at) i (overlap_from p.end (suc i) ps) o in
-    (h, ltb-false _ _ k.0, boundary text p.start n.0, ltb-false _ _ r.0, fits p.end (suc i) ps text (boundary text p.end n.1) r.1 k.1 b.1)
+    (h, ltb-false _ _ k.0, boundary_of text p.start n.0, ltb-false _ _ r.0, fits p.end (suc i) ps text (boundary_of text p.end n.1) r.1 k.1 b.1)
 
 -- the new text is no longer than the old and the new texts together
 pub length_replaced : (at : ℕ) (ps : List Piece) (text : List ℕ) → AreFit at ps text → length (replaced_from at ps text) + at ≤ length text + text_total ps

@@ -7,8 +7,8 @@ use Rattle.std.specs.List.{slice_range}
 use Rattle.std.specs.Str.{IsCharBoundary, IsUtf8}
 use Rattle.op_model.specs.declared.operation.Piece.{Piece}
 use Rattle.op_model.specs.Operations.{text_total}
-use Rattle.op_model.specs.Edits.{is_boundary, piece_fault, replaced, replaced_from}
-use Rattle.op_model.proofs.WholeTexts.{boundary_of, of_boundary}
+use Rattle.op_model.specs.Edits.{is_boundary, piece_fault, replace_ranges, replaced_from}
+use Rattle.op_model.proofs.texts.WholeTexts.{boundary_of, of_boundary}
 use Rattle.rope_edits.specs.Fit.{AreFit, AreUtf8}
 use Rattle.rope_edits.proofs.Fit.{fits_of_none, length_replaced}
 
@@ -50,7 +50,7 @@ utf8_rest at (p ∷ ps) text u h w =
     (IsUtf8-append p.text (replaced_from p.end ps text) w.0 (utf8_rest p.end ps text u h.4 w.1))
 
 -- before the first range the text stays
-pub front_stays : (at : ℕ) (ps : List Piece) (text : List ℕ) → AreFit at ps text → replaced ps text ≡ take at text ++ replaced_from at ps text
+pub front_stays : (at : ℕ) (ps : List Piece) (text : List ℕ) → AreFit at ps text → replace_ranges ps text ≡ take at text ++ replaced_from at ps text
 front_stays at [] text h = sym (take-append-drop at text)
 front_stays at (p ∷ ps) text h =
     let more : List ℕ = p.text ++ replaced_from p.end ps text in
@@ -59,10 +59,10 @@ front_stays at (p ∷ ps) text h =
     ap (λ z. z ++ more) (all ∙ take_split at p.start text h.1) ∙ append_assoc (take at text) (slice_range text at p.start) more
 
 -- one range more, before the others
-pub one_more : (p : Piece) (ps : List Piece) (text : List ℕ) → AreFit 0 (p ∷ ps) text → replaced (p ∷ ps) text ≡ (take p.start (replaced ps text) ++ p.text) ++ drop p.end (replaced ps text)
+pub one_more : (p : Piece) (ps : List Piece) (text : List ℕ) → AreFit 0 (p ∷ ps) text → replace_ranges (p ∷ ps) text ≡ (take p.start (replace_ranges ps text) ++ p.text) ++ drop p.end (replace_ranges ps text)
 one_more p ps text h =
     let rest : List ℕ = replaced_from p.end ps text in
-    let u : List ℕ = replaced ps text in
+    let u : List ℕ = replace_ranges ps text in
     let e : u ≡ take p.end text ++ rest = front_stays p.end ps text h.4 in
     let within : p.end ≤ length text = (fit_at p.end ps text h.4).0 in
     let order : p.start ≤ p.end = h.3 in
@@ -81,9 +81,9 @@ pub record Turn (old : List ℕ) (p : Piece) (ps : List Piece) (u : List ℕ) : 
   pub end : IsCharBoundary u p.end
   pub order : p.start ≤ p.end
   pub room : length u + length p.text ≤ 2 ^ 40 + (p.end - p.start)
-  pub text : replaced (p ∷ ps) old ≡ (take p.start u ++ p.text) ++ drop p.end u
+  pub text : replace_ranges (p ∷ ps) old ≡ (take p.start u ++ p.text) ++ drop p.end u
 
-pub turn : (text : List ℕ) (p : Piece) (ps : List Piece) (u : List ℕ) → IsUtf8 text → AreFit 0 (p ∷ ps) text → AreUtf8 ps → length text + text_total (p ∷ ps) ≤ 2 ^ 40 → u ≡ replaced ps text → Turn text p ps u
+pub turn : (text : List ℕ) (p : Piece) (ps : List Piece) (u : List ℕ) → IsUtf8 text → AreFit 0 (p ∷ ps) text → AreUtf8 ps → length text + text_total (p ∷ ps) ≤ 2 ^ 40 → u ≡ replace_ranges ps text → Turn text p ps u
 turn text p ps u utf8 h w room e =
     let rest : List ℕ = replaced_from p.end ps text in
     let part : List ℕ = slice_range text p.start p.end in
@@ -92,8 +92,8 @@ turn text p ps u utf8 h w room e =
     let seam : u ≡ take p.end text ++ rest = e ∙ front_stays p.end ps text h.4 in
     let earlier : u ≡ take p.start text ++ (part ++ rest) = seam ∙ ap (λ z. z ++ rest) (take_split p.start p.end text order) ∙ append_assoc (take p.start text) part rest in
     let v : IsUtf8 rest = utf8_rest p.end ps text utf8 h.4 w in
-    let len : length (replaced ps text) + 0 ≤ length text + text_total ps = length_replaced 0 ps text (fit_front p.end ps text utf8 h.4) in
-    let same : length u ≡ length (replaced ps text) = ap length e in
+    let len : length (replace_ranges ps text) + 0 ≤ length text + text_total ps = length_replaced 0 ps text (fit_front p.end ps text utf8 h.4) in
+    let same : length u ≡ length (replace_ranges ps text) = ap length e in
     record {
       start = subst (λ (n : ℕ). IsCharBoundary u n) (length-take-le p.start text h.2.0) (IsCharBoundary-at_seam u (take p.start text) (part ++ rest) earlier (IsUtf8-append part rest (IsUtf8-between text p.start p.end utf8 order h.2 last) v));
       end = subst (λ (n : ℕ). IsCharBoundary u n) (length-take-le p.end text last.0) (IsCharBoundary-at_seam u (take p.end text) rest seam v);
@@ -107,7 +107,7 @@ pub record AtTurn (text : List ℕ) (changes : List Piece) (i : ℕ) (p : Piece)
   pub next : Turn text p (drop i changes) u
 
 pub at_turn : (text : List ℕ) (changes : List Piece) (i : ℕ) (p : Piece) (u : List ℕ) → piece_fault text changes ≡ None → IsUtf8 text → length text + text_total changes ≤ 2 ^ 40 → 0 < i → i ≤ length changes
-    → p ≡ get_or changes (i - 1) p → u ≡ replaced (drop i changes) text → AreUtf8 (drop i changes) → AtTurn text changes i p u
+    → p ≡ get_or changes (i - 1) p → u ≡ replace_ranges (drop i changes) text → AreUtf8 (drop i changes) → AtTurn text changes i p u
 at_turn text changes i p u f utf8 room some within e g w =
     let on : i - 1 + 1 ≡ i = omega arith in
     let split : drop (i - 1) changes ≡ p ∷ drop i changes =

@@ -12,6 +12,7 @@ use Rattle.remote_edit.specs.declared.moves.Move.{Move}
 use Rattle.remote_edit.specs.declared.moves.Move.TheVariants.{Visible, Hidden, Hide, Show, Insert}
 use Rattle.remote_edit.specs.Moves.{Texts, texts_of, followed_by, after_moves}
 use Rattle.rope_edits.specs.Sides.{SideState, SidesState, side_len, sides_len, after_move, outcome, MayTake}
+use Rattle.remote_edit.proofs.Joining.{twice}
 
 -- ---- one rope
 
@@ -84,9 +85,6 @@ parts_with rope next text made end u h e l =
     parts_at next (take made rope ++ text) (drop made rope) end e (omega (arith, a, b, l)) (IsUtf8-drop rope made u h)
 
 -- ---- moves
-
-twice : (a b c d : List ℕ) (r : Texts) → followed_by a b (followed_by c d r) ≡ followed_by (a ++ c) (b ++ d) r
-twice a b c d r = ap (λ x. texts_of x (b ++ (d ++ r.hidden))) (sym (append_assoc a c r.shown)) ∙ ap (λ x. texts_of ((a ++ c) ++ r.shown) x) (sym (append_assoc b d r.hidden))
 
 to_shown : (a b c : List ℕ) (r : Texts) → followed_by a b (followed_by c [] r) ≡ followed_by (a ++ c) b r
 to_shown a b c r = twice a b c [] r ∙ ap (λ z. followed_by (a ++ c) z r) (append-nil b)

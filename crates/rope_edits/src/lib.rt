@@ -6,4 +6,5 @@ mod ranges;
 mod side;
 
 pub use moving::{TextRopes, apply_moves};
+pub use op_model::OutOfMemory;
 pub use ranges::{piece_fault, replaced};

@@ -5,11 +5,12 @@ ghost use Rattle.op_model.specs.Shown.{texts};
 ghost use Rattle.remote_edit.specs.Moves.{TakeTexts, after_moves, texts_of};
 ghost use Rattle.rope_edits.specs.Sides.{MayTake, sides_len, after_move};
 
+use crate::OutOfMemory;
 use crate::side::Side;
 use op_model::Piece;
 use remote_edit::Move;
 use rope_chunks::Rope;
-use std::alloc::{AllocError, Global};
+use std::alloc::Global;
 use std::marker::Model;
 
 /// The ropes of a shown and of a hidden text.
@@ -38,7 +39,7 @@ impl<'a> Model for Sides<'a> {
 
 impl<'a> Sides<'a> {
     // Makes one move.
-    fn step(&mut self, next: Move) -> Result<(), AllocError>
+    fn step(&mut self, next: Move) -> Result<(), OutOfMemory>
         requires texts { MayTake self.old (next ∷ []) }
         requires room { sides_len self.old ≤ 2 ^ 40 }
         ensures ok { OnOk result (self.new ≡ after_move next self.old) }
@@ -74,7 +75,7 @@ fn cut(text: &str, bytes: u64) -> (&str, &str)
 }
 
 // The texts of pieces, one after the other.
-fn texts_of_pieces(alloc: Global, pieces: &[Piece]) -> Result<String, AllocError>
+fn texts_of_pieces(alloc: Global, pieces: &[Piece]) -> Result<String, OutOfMemory>
     ensures { IfOk result (λ s. string_bytes s ≡ texts pieces.now) }
 {
     let mut all = String::new(alloc);
@@ -91,7 +92,7 @@ fn move_texts(
     hidden: &Rope,
     moves: &[Move],
     fresh: &str,
-) -> Result<TextRopes, AllocError>
+) -> Result<TextRopes, OutOfMemory>
     requires texts { TakeTexts moves.now shown.now hidden.now fresh.now }
     requires room { length shown.now + length hidden.now + length fresh.now ≤ 2 ^ 40 }
     ensures { IfOk result (λ r. texts_of r.shown r.hidden
@@ -123,7 +124,7 @@ pub fn apply_moves(
     hidden: &Rope,
     moves: &[Move],
     pieces: &[Piece],
-) -> Result<TextRopes, AllocError>
+) -> Result<TextRopes, OutOfMemory>
     requires texts { TakeTexts moves.now shown.now hidden.now (texts pieces.now) }
     requires room { length shown.now + length hidden.now + text_total pieces.now ≤ 2 ^ 40 }
     ensures { IfOk result (λ r. texts_of r.shown r.hidden

@@ -2,11 +2,12 @@
 ghost use Rattle.std.specs.Prelude.{◌≡◌, ◌+◌, ◌^◌, ◌≤◌, None, length, IfOk};
 ghost use Rattle.std.specs.List.{position};
 ghost use Rattle.op_model.specs.Operations.{text_total};
-ghost use Rattle.op_model.specs.Edits.{is_boundary, is_past, is_inside, piece_fault, replaced};
+ghost use Rattle.op_model.specs.Edits.{is_boundary, is_past, is_inside, piece_fault, replace_ranges};
 
+use crate::OutOfMemory;
 use op_model::{EditFault, Piece, first_overlap, first_reversed};
 use rope_chunks::Rope;
-use std::alloc::{AllocError, Global};
+use std::alloc::Global;
 
 fn is_boundary(rope: &Rope, i: u64) -> bool
     ensures { result ≡ is_boundary rope.now i }
@@ -48,10 +49,10 @@ pub fn piece_fault(rope: &Rope, changes: &[Piece]) -> Option<EditFault>
 
 /// A rope with each range of the rope's text replaced, from the last to the first, so that the offsets of those before it
 /// hold. Chunks that no range touches are shared. Each change is a descent for each of its ends and a splice.
-pub fn replaced(alloc: Global, rope: &Rope, changes: &[Piece]) -> Result<Rope, AllocError>
+pub fn replaced(alloc: Global, rope: &Rope, changes: &[Piece]) -> Result<Rope, OutOfMemory>
     requires fit { piece_fault rope.now changes.now ≡ None }
     requires room { length rope.now + text_total changes.now ≤ 2 ^ 40 }
-    ensures { IfOk result (λ r. r ≡ replaced changes.now rope.now) }
+    ensures { IfOk result (λ r. r ≡ replace_ranges changes.now rope.now) }
 {
     rope.known();
     let mut new = rope.share()?;

@@ -2,8 +2,9 @@
 ghost use Rattle.std.specs.Prelude.{◌≡◌, ◌+◌, ◌^◌, ◌≤◌, ◌++◌, length, take, IfOk, IsUtf8, OnOk, string_bytes};
 ghost use Rattle.rope_edits.specs.Sides.{side_len, side_start, pass_bytes, without, with_text};
 
+use crate::OutOfMemory;
 use rope_chunks::Rope;
-use std::alloc::{AllocError, Global};
+use std::alloc::Global;
 use std::marker::Model;
 
 // How many bytes go from one text to another as a copy. A longer part goes with its chunks, which stay shared.
@@ -32,7 +33,7 @@ impl Model for Side {
 
 impl Side {
     /// Nothing is made of the rope's text. Its chunks are shared.
-    pub fn new(alloc: Global, rope: &Rope) -> Result<Side, AllocError>
+    pub fn new(alloc: Global, rope: &Rope) -> Result<Side, OutOfMemory>
         ensures { IfOk result (λ s. s ≡ side_start rope.now) }
     {
         rope.known();
@@ -62,7 +63,7 @@ impl Side {
     }
 
     // The next bytes go, as a rope that shares their chunks.
-    fn take_rope(&mut self, bytes: u64) -> Result<Rope, AllocError>
+    fn take_rope(&mut self, bytes: u64) -> Result<Rope, OutOfMemory>
         requires { IsUtf8 (take bytes self.old.left) }
         ensures part { IfOk result (λ r. r ≡ take bytes self.old.left) }
         ensures ok { OnOk result (self.new ≡ without bytes self.old) }
@@ -75,7 +76,7 @@ impl Side {
     }
 
     // The next bytes go, copied.
-    fn take_text(&mut self, bytes: u64) -> Result<String, AllocError>
+    fn take_text(&mut self, bytes: u64) -> Result<String, OutOfMemory>
         requires { IsUtf8 (take bytes self.old.left) }
         ensures part { IfOk result (λ t. string_bytes t ≡ take bytes self.old.left) }
         ensures ok { OnOk result (self.new ≡ without bytes self.old) }
@@ -88,7 +89,7 @@ impl Side {
     }
 
     /// A text comes.
-    pub fn put_text(&mut self, text: &str) -> Result<(), AllocError>
+    pub fn put_text(&mut self, text: &str) -> Result<(), OutOfMemory>
         requires { side_len self.old + length text.now ≤ 2 ^ 40 }
         ensures ok { OnOk result (self.new ≡ with_text text.now self.old) }
     {
@@ -99,7 +100,7 @@ impl Side {
     }
 
     // A rope's text comes, and is shared.
-    fn put_rope(&mut self, part: Rope) -> Result<(), AllocError>
+    fn put_rope(&mut self, part: Rope) -> Result<(), OutOfMemory>
         requires { side_len self.old + length part ≤ 2 ^ 40 }
         ensures ok { OnOk result (self.new ≡ with_text part self.old) }
     {
@@ -117,7 +118,7 @@ impl Side {
 
     /// The next bytes go, and come to another text: up to 512 as a copy, more with their chunks, which stay shared. It fails
     /// for want of memory alone, and neither text is of use then.
-    pub fn carry(&mut self, to: &mut Side, bytes: u64) -> Result<(), AllocError>
+    pub fn carry(&mut self, to: &mut Side, bytes: u64) -> Result<(), OutOfMemory>
         requires text { IsUtf8 (take bytes self.old.left) }
         requires room { side_len to.old + length (take bytes self.old.left) ≤ 2 ^ 40 }
         ensures gone { OnOk result (self.new ≡ without bytes self.old) }
@@ -132,7 +133,7 @@ impl Side {
     }
 
     /// What was made.
-    pub fn into_made(self) -> Result<Rope, AllocError>
+    pub fn into_made(self) -> Result<Rope, OutOfMemory>
         ensures { IfOk result (λ r. r ≡ self.made) }
     {
         if self.made == self.rope.len() {

@@ -1,7 +1,8 @@
 //! Every offset, every point and every row of texts, against counts over the plain text.
 use crate::parts::{has, rope_of};
 use rope_chunks::Rope;
-use std::alloc::{AllocError, Global};
+use std::alloc::Global;
+use sum_tree::OutOfMemory;
 use text_dims::{OffsetUtf16, Place, Point, PointUtf16};
 use tree_cursor::Bias;
 
@@ -42,7 +43,7 @@ fn past(place: Place, character: char) -> Place {
 }
 
 // The places of a text, counted character by character.
-fn places_of(alloc: Global, text: &str) -> Result<Vec<Place>, AllocError> {
+fn places_of(alloc: Global, text: &str) -> Result<Vec<Place>, OutOfMemory> {
     let mut places = Vec::new(alloc);
     let mut place = Place::default();
     for character in text.chars() {
@@ -54,7 +55,7 @@ fn places_of(alloc: Global, text: &str) -> Result<Vec<Place>, AllocError> {
 }
 
 // The rope of a text, from pieces of several sizes: some of its chunks are short.
-fn from_pieces(alloc: Global, text: &str) -> Result<Rope, AllocError> {
+fn from_pieces(alloc: Global, text: &str) -> Result<Rope, OutOfMemory> {
     let mut rope = Rope::new(alloc)?;
     let mut rest = text;
     for size in [70, 70, 1, 100, 40, 3, 90, 1000] {
@@ -256,7 +257,7 @@ fn everywhere(rope: &Rope, text: &str, places: &[Place]) -> Result<(), Wrong> {
 }
 
 // What a rope answers wrong of its text.
-fn wrong(alloc: Global, rope: &Rope, text: &str) -> Result<Option<Wrong>, AllocError> {
+fn wrong(alloc: Global, rope: &Rope, text: &str) -> Result<Option<Wrong>, OutOfMemory> {
     if !has(alloc, rope, text)? {
         return Ok(Some(("to_string", 0, 0)));
     }
@@ -264,18 +265,18 @@ fn wrong(alloc: Global, rope: &Rope, text: &str) -> Result<Option<Wrong>, AllocE
     Ok(everywhere(rope, text, &places).err())
 }
 
-fn wrong_of_whole(alloc: Global, text: &str) -> Result<Option<Wrong>, AllocError> {
+fn wrong_of_whole(alloc: Global, text: &str) -> Result<Option<Wrong>, OutOfMemory> {
     let rope = rope_of(alloc, text)?;
     wrong(alloc, &rope, text)
 }
 
-fn wrong_of_pieces(alloc: Global, text: &str) -> Result<Option<Wrong>, AllocError> {
+fn wrong_of_pieces(alloc: Global, text: &str) -> Result<Option<Wrong>, OutOfMemory> {
     let rope = from_pieces(alloc, text)?;
     wrong(alloc, &rope, text)
 }
 
 #[test]
-fn answers_as_counted(rt: HostRuntime) -> Result<(), AllocError> {
+fn answers_as_counted(rt: HostRuntime) -> Result<(), OutOfMemory> {
     for &text in TEXTS {
         let wrong = wrong_of_whole(rt.alloc(), text)?;
         assert!(rt; wrong.is_none(), "{wrong:?} of {text:?}");
@@ -290,7 +291,7 @@ fn clips(
     alloc: Global,
     text: &str,
     (row, column): (u64, u64),
-) -> Result<((u64, u64), (u64, u64)), AllocError> {
+) -> Result<((u64, u64), (u64, u64)), OutOfMemory> {
     let rope = rope_of(alloc, text)?;
     let left = rope.clip_point(Point { row, column }, Bias::Left);
     let right = rope.clip_point(Point { row, column }, Bias::Right);
@@ -298,7 +299,7 @@ fn clips(
 }
 
 #[test]
-fn clips_points(rt: HostRuntime) -> Result<(), AllocError> {
+fn clips_points(rt: HostRuntime) -> Result<(), OutOfMemory> {
     let rows = [
         ("a\nbc", (u64::MAX, 0), (1, 2), (1, 2)),
         ("a\nbc", (u64::MAX, 9), (1, 2), (1, 2)),
@@ -316,7 +317,7 @@ fn clips_points(rt: HostRuntime) -> Result<(), AllocError> {
 }
 
 // What is told of rows, and of an offset far past the end.
-fn tells_rows(alloc: Global) -> Result<bool, AllocError> {
+fn tells_rows(alloc: Global) -> Result<bool, OutOfMemory> {
     let rope = rope_of(alloc, "a\nbc")?;
     let far = rope.clip_offset(u64::MAX, Bias::Left) == 4
         && rope.clip_offset(u64::MAX, Bias::Right) == 4;
@@ -327,7 +328,7 @@ fn tells_rows(alloc: Global) -> Result<bool, AllocError> {
 }
 
 #[test]
-fn counts_in_rows(rt: HostRuntime) -> Result<(), AllocError> {
+fn counts_in_rows(rt: HostRuntime) -> Result<(), OutOfMemory> {
     assert!(rt; tells_rows(rt.alloc())?);
     Ok(())
 }

@@ -2,9 +2,10 @@
 use crate::parts::rope_of;
 use rope_chunks::Rope;
 use snapshot_search::{FindFault, find_all, find_all_par};
-use std::alloc::{AllocError, Global};
+use std::alloc::Global;
 use std::test::Fail;
 use std::thread::Threads;
+use sum_tree::OutOfMemory;
 use tree_tests::chance::step;
 
 const PARTS: [u32; 6] = [1, 2, 3, 16, 1000, u32::MAX];
@@ -15,7 +16,7 @@ const LENGTHS: [usize; 18] = [
 ];
 
 // The places of a needle, each looked at by itself.
-fn plain(alloc: Global, text: &str, needle: &str) -> Result<Vec<u64>, AllocError> {
+fn plain(alloc: Global, text: &str, needle: &str) -> Result<Vec<u64>, OutOfMemory> {
     let text = text.as_bytes();
     let mut places = Vec::new(alloc);
     for i in 0..text.len() {
@@ -71,7 +72,7 @@ fn all_alike<R: Threads + Sync>(
 }
 
 // A text of so many bytes, of a few letters in turn.
-fn turns(alloc: Global, letters: &[u8], len: usize) -> Result<String, AllocError> {
+fn turns(alloc: Global, letters: &[u8], len: usize) -> Result<String, OutOfMemory> {
     let mut text = String::new(alloc);
     for i in 0..len {
         if letters.len() > 0 {
@@ -87,7 +88,7 @@ fn planted(
     needle: &str,
     places: &[usize],
     len: usize,
-) -> Result<String, AllocError> {
+) -> Result<String, OutOfMemory> {
     let mut text = String::new(alloc);
     let mut x = 7u64;
     for place in places {
@@ -104,7 +105,7 @@ fn planted(
 }
 
 // A run of one letter, and a text behind it.
-fn behind(alloc: Global, before: usize, text: &str) -> Result<String, AllocError> {
+fn behind(alloc: Global, before: usize, text: &str) -> Result<String, OutOfMemory> {
     let mut whole = turns(alloc, b"b", before)?;
     whole.push_str(text)?;
     Ok(whole)
@@ -222,7 +223,7 @@ fn finds_overlapping_matches(rt: HostRuntime) -> Result<(), Fail> {
 }
 
 // Characters of each length, fifty times each.
-fn characters(alloc: Global) -> Result<String, AllocError> {
+fn characters(alloc: Global) -> Result<String, OutOfMemory> {
     let mut text = String::new(alloc);
     for piece in ["é", "😀", "€", "a", "éé", "😀😀", "\r\n", "€é"] {
         for _ in 0..50 {
@@ -250,12 +251,12 @@ fn finds_characters_of_several_bytes(rt: HostRuntime) -> Result<(), Fail> {
 }
 
 // Whether a fault is told in these words.
-fn is_told(alloc: Global, fault: FindFault, words: &str) -> Result<bool, AllocError> {
+fn is_told(alloc: Global, fault: FindFault, words: &str) -> Result<bool, OutOfMemory> {
     Ok(format!(in alloc; "{fault}")?.as_str() == words)
 }
 
 #[test]
-fn tells_what_is_wrong(rt: HostRuntime) -> Result<(), AllocError> {
+fn tells_what_is_wrong(rt: HostRuntime) -> Result<(), OutOfMemory> {
     assert!(rt; is_told(rt.alloc(), FindFault::EmptyNeedle, "the needle is empty")?);
     assert!(rt; is_told(rt.alloc(), FindFault::OutOfMemory, "out of memory")?);
     Ok(())

@@ -2,9 +2,9 @@
 ghost use Rattle.std.specs.Prelude.{◌≡◌, ◌≤◌, ◌+◌, ◌^◌, ◌++◌, length, IfOk};
 ghost use Rattle.text_dims.specs.Summaries.{summary_of};
 
-use std::alloc::{AllocError, Global};
+use std::alloc::Global;
 use std::test::Fail;
-use sum_tree::Summary;
+use sum_tree::{OutOfMemory, Summary};
 use text_dims::{OffsetUtf16, Place, Point, PointUtf16, TextSummary, is_char_start, units_at};
 
 fn summary(
@@ -64,7 +64,7 @@ fn counts_plainly(rt: HostRuntime) {
     }
 }
 
-fn add<S: Summary>(alloc: Global, sum: &mut S, other: &S) -> Result<(), AllocError>
+fn add<S: Summary>(alloc: Global, sum: &mut S, other: &S) -> Result<(), OutOfMemory>
     requires { S.fits (S.op sum.old other.now) }
     ensures { IfOk result (λ _. sum.new ≡ S.op sum.old other.now) }
 {
@@ -72,7 +72,7 @@ fn add<S: Summary>(alloc: Global, sum: &mut S, other: &S) -> Result<(), AllocErr
 }
 
 /// The summary of two short texts, as any summary is added.
-fn sum_of(alloc: Global, first: &str, second: &str) -> Result<TextSummary, AllocError>
+fn sum_of(alloc: Global, first: &str, second: &str) -> Result<TextSummary, OutOfMemory>
     requires { length first.now + length second.now ≤ 2 ^ 40 }
     ensures { IfOk result (λ sum. sum ≡ summary_of (first.now ++ second.now)) }
 {
@@ -82,7 +82,7 @@ fn sum_of(alloc: Global, first: &str, second: &str) -> Result<TextSummary, Alloc
 }
 
 // Whether the summaries of two short texts add to that of both.
-fn is_added(alloc: Global, first: &str, second: &str) -> Result<bool, AllocError> {
+fn is_added(alloc: Global, first: &str, second: &str) -> Result<bool, OutOfMemory> {
     if first.len() > 100 || second.len() > 100 {
         return Ok(false);
     }

@@ -9,12 +9,12 @@ use Rattle.tree_cursor.specs.Places.{place_behind, seek_count}
 use Rattle.tree_cursor.specs.Counting.{number_passes}
 use Rattle.tree_cursor.specs.declared.traits.Bias.TheVariants.{Right}
 use Rattle.lamport_clock.specs.Versions.{Entries, sees}
-use Rattle.op_model.specs.Histories.{History, seen}
-use Rattle.op_model.specs.Shown.{full, text, hidden}
+use Rattle.op_model.specs.Histories.{History, seen_history}
+use Rattle.op_model.specs.Shown.{full, text, hidden_text}
 use Rattle.op_model.specs.Edits.{is_boundary}
 use Rattle.op_model.specs.Lawful.{Lawful, IsClosed}
-use Rattle.op_model.proofs.Good.{lawful_ready}
-use Rattle.op_model.proofs.WholeTexts.{byte_of}
+use Rattle.op_model.proofs.answers.Good.{lawful_ready}
+use Rattle.op_model.proofs.texts.WholeTexts.{byte_of}
 use Rattle.fragments.specs.declared.fragment.Fragment.{Fragment}
 use Rattle.fragments.specs.Summaries.{no_fragments, summaries, summary_of, SummaryFits}
 use Rattle.fragments.specs.Stand.{Tell}
@@ -36,7 +36,7 @@ abbrev pub count : Entries → List Fragment → ℕ → ℕ
 count v fs place = seek_count move_seen summary_of (λ p. number_passes place p.0.0.1 Right) (start v) fs
 
 -- the byte at a place lies in f, before which so many cells are seen, shown and hidden
-pub record Lies (v : Entries) (fs : List Fragment) (place : ℕ) (f : Fragment) (bytes visible hidden : ℕ) : Type 0 where
+pub record Lies (v : Entries) (fs : List Fragment) (place : ℕ) (f : Fragment) (bytes visible hidden_text : ℕ) : Type 0 where
   pub pre : List Fragment
   pub post : List Fragment
   pub parts : fs ≡ pre ++ f ∷ post
@@ -45,7 +45,7 @@ pub record Lies (v : Entries) (fs : List Fragment) (place : ℕ) (f : Fragment) 
   pub high : place < bytes + f.len
   pub bytes_before : bytes ≡ seen_bytes v pre
   pub shown_before : visible ≡ shown_len pre
-  pub hidden_before : hidden ≡ hidden_len pre
+  pub hidden_before : hidden_text ≡ hidden_len pre
 
 module _ (v : Entries) (fs : List Fragment) (place : ℕ) where
   same_count : count v fs place ≡ sought v place 0 fs
@@ -126,7 +126,7 @@ hidden_fits fs h n l = let e = (whole_sum fs).1 in omega (arith, e, h, l)
 -- ---- the answer
 
 module _ (h : History) (v : Entries) (fs : List Fragment) (t : Tell fs h) (l : Lawful h) (c : IsClosed h v) where
-  pub seen_len_is : seen_bytes v fs ≡ length (full (seen h v))
+  pub seen_len_is : seen_bytes v fs ≡ length (full (seen_history h v))
   seen_len_is = seen_long (byte_of h) v fs ∙ ap length (seen_full h v fs t l c)
 
   module _ (place : ℕ) (f : Fragment) (b a d : ℕ) (w : Lies v fs place f b a d) where
@@ -142,14 +142,14 @@ module _ (h : History) (v : Entries) (fs : List Fragment) (t : Tell fs h) (l : L
         (omega (arith, x, y, z, n, m, o, k), omega (arith, x, y), omega (arith, y, z))
 
     -- from a text with the same byte
-    from_text : (xs : List ℕ) (i : ℕ) → i < length xs → get_or xs i 0 ≡ get_or (seen_in (byte_of h) v fs) (seen_bytes v w.pre + (place - b)) 0 → is_boundary xs i ≡ is_boundary (full (seen h v)) place
+    from_text : (xs : List ℕ) (i : ℕ) → i < length xs → get_or xs i 0 ≡ get_or (seen_in (byte_of h) v fs) (seen_bytes v w.pre + (place - b)) 0 → is_boundary xs i ≡ is_boundary (full (seen_history h v)) place
     from_text xs i r e =
         let k = in_seen in
         same_byte xs (seen_in (byte_of h) v fs) i (seen_bytes v w.pre + (place - b)) r k.0 e
         ∙ ap (λ (z : List ℕ). is_boundary z (seen_bytes v w.pre + (place - b))) (seen_full h v fs t l c)
-        ∙ ap (is_boundary (full (seen h v))) k.1
+        ∙ ap (is_boundary (full (seen_history h v))) k.1
 
-    pub in_shown : (s : List ℕ) (r : Bool) → s ≡ text h → f.visible ≡ true → (IsTrue r ↔ IsCharBoundary s (a + (place - b))) → r ≡ is_boundary (full (seen h v)) place
+    pub in_shown : (s : List ℕ) (r : Bool) → s ≡ text h → f.visible ≡ true → (IsTrue r ↔ IsCharBoundary s (a + (place - b))) → r ≡ is_boundary (full (seen_history h v)) place
     in_shown s r e u q =
         let k = in_seen in
         let i : ℕ = place - b in
@@ -166,7 +166,7 @@ module _ (h : History) (v : Entries) (fs : List Fragment) (t : Tell fs h) (l : L
         ∙ sym (ap (λ (z : List Fragment). get_or (seen_in (byte_of h) v z) (seen_bytes v w.pre + i) 0) w.parts) in
         boundary_is s (a + i) r q ∙ from_text s (a + i) (omega (arith, n, j, g)) r1
 
-    pub in_hidden : (s : List ℕ) (r : Bool) → s ≡ hidden h → f.visible ≡ false → (IsTrue r ↔ IsCharBoundary s (d + (place - b))) → r ≡ is_boundary (full (seen h v)) place
+    pub in_hidden : (s : List ℕ) (r : Bool) → s ≡ hidden_text h → f.visible ≡ false → (IsTrue r ↔ IsCharBoundary s (d + (place - b))) → r ≡ is_boundary (full (seen_history h v)) place
     in_hidden s r e u q =
         let k = in_seen in
         let i : ℕ = place - b in
@@ -183,11 +183,11 @@ module _ (h : History) (v : Entries) (fs : List Fragment) (t : Tell fs h) (l : L
         ∙ sym (ap (λ (z : List Fragment). get_or (seen_in (byte_of h) v z) (seen_bytes v w.pre + i) 0) w.parts) in
         boundary_is s (d + i) r q ∙ from_text s (d + i) (omega (arith, n, j, g)) r1
 
-  pub at_end : (place n : ℕ) → n ≡ seen_bytes v fs → n ≤ place → (place == n) ≡ is_boundary (full (seen h v)) place
+  pub at_end : (place n : ℕ) → n ≡ seen_bytes v fs → n ≤ place → (place == n) ≡ is_boundary (full (seen_history h v)) place
   at_end place n e o =
-      let k : n ≡ length (full (seen h v)) = e ∙ seen_len_is in
-      let g : leb (length (full (seen h v))) place ≡ true = le-leb (length (full (seen h v))) place (omega (arith, k, o)) in
-      ap (λ (m : ℕ). place == m) k ∙ exact (length (full (seen h v))) (get_or (full (seen h v)) place 0) g
+      let k : n ≡ length (full (seen_history h v)) = e ∙ seen_len_is in
+      let g : leb (length (full (seen_history h v))) place ≡ true = le-leb (length (full (seen_history h v))) place (omega (arith, k, o)) in
+      ap (λ (m : ℕ). place == m) k ∙ exact (length (full (seen_history h v))) (get_or (full (seen_history h v)) place 0) g
     where
       exact : (m y : ℕ) → leb m place ≡ true → (place == m) ≡ (leb place m && (leb m place || (ltb y 128 || leb 192 y)))
       exact m y g = grind (arith, nat_tests)

@@ -6,17 +6,17 @@ use Rattle.std.proofs.lemmas.Bool.{le-leb, lt-leb, false_from_ne_true, false≢t
 use Rattle.std.proofs.lemmas.List.{length-append}
 use Rattle.lamport_clock.specs.declared.stamp.Lamport.{Lamport}
 use Rattle.lamport_clock.specs.Versions.{Entries, sees}
-use Rattle.op_model.specs.Histories.{History, newest_first, seen}
-use Rattle.op_model.specs.Cells.{Cell, Place, cells, seq, seq_where, everything}
+use Rattle.op_model.specs.Histories.{History, newest_first, seen_history}
+use Rattle.op_model.specs.Cells.{Cell, PathCell, cells, seq, seq_where, everything}
 use Rattle.op_model.specs.Shown.{full, full_where}
-use Rattle.op_model.specs.Facts.{Fact, told, alike}
+use Rattle.op_model.specs.Facts.{Fact, cell_facts, alike}
 use Rattle.op_model.specs.Edits.{is_boundary}
 use Rattle.op_model.specs.Lawful.{Lawful, IsClosed}
-use Rattle.op_model.proofs.Restricted.{restrict}
-use Rattle.op_model.proofs.Bytes.{full_seen}
-use Rattle.op_model.proofs.ClosedVersions.{closed_part}
-use Rattle.op_model.proofs.Utf8Runs.{bytes, kept_bytes, facts_kept, get_right}
-use Rattle.op_model.proofs.WholeTexts.{byte_of, kept_told, boundary_of, of_boundary}
+use Rattle.op_model.proofs.order.Restricted.{restrict}
+use Rattle.op_model.proofs.shown.Bytes.{full_seen}
+use Rattle.op_model.proofs.histories.ClosedVersions.{closed_part}
+use Rattle.op_model.proofs.texts.Utf8Runs.{bytes, kept_bytes, facts_kept, get_right}
+use Rattle.op_model.proofs.texts.WholeTexts.{byte_of, kept_told, boundary_of, of_boundary}
 use Rattle.fragments.specs.declared.fragment.Fragment.{Fragment}
 use Rattle.fragments.specs.Stand.{runs, Tell}
 use Rattle.fragments.specs.Laws.{shown_len}
@@ -40,13 +40,13 @@ same_byte xs ys i j h k e = within xs i h ∙ ap (λ (b : ℕ). ltb b 128 || leb
 
 -- ---- what a closed version sees of a history
 
-pub seen_told : (h : History) (v : Entries) → Lawful h → IsClosed h v → full (seen h v) ≡ bytes (byte_of h) (filter (λ (q : Fact). sees v q.cell.stamp) (told h))
+pub seen_told : (h : History) (v : Entries) → Lawful h → IsClosed h v → full (seen_history h v) ≡ bytes (byte_of h) (filter (λ (q : Fact). sees v q.cell.stamp) (cell_facts h))
 unfolding seq full_where
 seen_told h v l c = full_seen h v
-    ∙ ap (λ (s : List Place). map (byte_of h) (cells s)) (sym (restrict (sees v) (newest_first h) (closed_part h l v c)))
+    ∙ ap (λ (s : List PathCell). map (byte_of h) (cells s)) (sym (restrict (sees v) (newest_first h) (closed_part h l v c)))
     ∙ sym (kept_told h (sees v) (seq_where everything (newest_first h)))
 
-pub seen_full : (h : History) (v : Entries) (fs : List Fragment) → Tell fs h → Lawful h → IsClosed h v → kept_bytes (byte_of h) (sees v) (runs fs) ≡ full (seen h v)
+pub seen_full : (h : History) (v : Entries) (fs : List Fragment) → Tell fs h → Lawful h → IsClosed h v → kept_bytes (byte_of h) (sees v) (runs fs) ≡ full (seen_history h v)
 seen_full h v fs t l c = sym (facts_kept (byte_of h) (sees v) (runs fs)) ∙ ap (λ (s : List Fact). bytes (byte_of h) (filter (λ (q : Fact). sees v q.cell.stamp) s)) t ∙ sym (seen_told h v l c)
 
 -- ---- the bytes of fragments

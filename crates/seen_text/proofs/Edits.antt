@@ -5,22 +5,18 @@ use Rattle.op_model.specs.Sorted.{Member}
 use Rattle.op_model.specs.Histories.{History}
 use Rattle.op_model.specs.Cells.{Cell, seq, cells}
 use Rattle.op_model.specs.Shown.{full, full_where, new_bytes}
-use Rattle.op_model.proofs.Good.{lawful_ready}
-use Rattle.op_model.proofs.CellsOnce.{all_cells}
-use Rattle.op_model.proofs.WholeTexts.{byte_of}
-use Rattle.op_model.proofs.WholeRuns.{byte_new}
+use Rattle.op_model.proofs.answers.Good.{lawful_ready}
+use Rattle.op_model.proofs.order.CellsOnce.{all_cells}
+use Rattle.op_model.proofs.texts.WholeTexts.{byte_of}
+use Rattle.op_model.proofs.texts.WholeRuns.{byte_new}
 use Rattle.seen_text.specs.Laws.{CellsBeginAsInTheirEdits}
 use Rattle.seen_text.proofs.Bytes.{same_byte}
+use Rattle.op_model.proofs.anchors.KnownAnchors.{got_map}
 
 member_at : (s : List Cell) (i : ℕ) (c : Cell) → slice_get s i ≡ Some c → Member c s
 member_at [] i c e = cc
 member_at (x ∷ s) zero c e = let f : c ≡ x = cc in inl f
 member_at (x ∷ s) (suc i) c e = inr (member_at s i c e)
-
-mapped : (f : Cell → ℕ) (s : List Cell) (i : ℕ) (c : Cell) → slice_get s i ≡ Some c → (i < length (map f s)) × (get_or (map f s) i 0 ≡ f c)
-mapped f [] i c e = cc
-mapped f (x ∷ s) zero c e = let g : x ≡ c = cc in (omega arith, ap f g)
-mapped f (x ∷ s) (suc i) c e = let k = mapped f s i c e in let l = k.0 in (omega (arith, l), k.1)
 
 full_cells : (h : History) → full h ≡ map (byte_of h) (cells (seq h))
 unfolding full full_where seq
@@ -29,7 +25,7 @@ full_cells h = refl
 pub cells_begin : CellsBeginAsInTheirEdits
 cells_begin h i c l e =
     let d = (lawful_ready h l).0.distinct in
-    let k = mapped (byte_of h) (cells (seq h)) i c e in
+    let k = got_map (byte_of h) (cells (seq h)) i c e in
     let q = full_cells h in
     let n : length (full h) ≡ length (map (byte_of h) (cells (seq h))) = ap length q in
     let m = k.0 in

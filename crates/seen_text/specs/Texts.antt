@@ -1,7 +1,7 @@
 -- What fragments and two texts are of a history.
 use Rattle.std.specs.Prelude.{◌≡◌, ℕ, List}
 use Rattle.op_model.specs.Histories.{History}
-use Rattle.op_model.specs.Shown.{text, hidden}
+use Rattle.op_model.specs.Shown.{text, hidden_text}
 use Rattle.fragments.specs.declared.fragment.Fragment.{Fragment}
 use Rattle.fragments.specs.Stand.{Tell}
 
@@ -9,4 +9,4 @@ use Rattle.fragments.specs.Stand.{Tell}
 pub record TellTexts (fs : List Fragment) (s d : List ℕ) (h : History) : Type 0 where
   pub cells : Tell fs h
   pub shown : s ≡ text h
-  pub hidden : d ≡ hidden h
+  pub hidden : d ≡ hidden_text h

@@ -1,6 +1,6 @@
 //! Where characters begin among the bytes that a version sees.
 ghost use Rattle.std.specs.Prelude.{◌≡◌};
-ghost use Rattle.op_model.specs.Histories.{History, seen};
+ghost use Rattle.op_model.specs.Histories.{History, seen_history};
 ghost use Rattle.op_model.specs.Shown.{full};
 ghost use Rattle.op_model.specs.Edits.{is_boundary};
 ghost use Rattle.op_model.specs.Lawful.{Lawful, IsClosed};
@@ -28,7 +28,7 @@ pub fn is_seen_boundary(
 ) -> bool
     ensures { (h : History) → TellTexts fragments.now.items shown.now hidden.now h
         → Lawful h → IsClosed h version.now
-        → result ≡ is_boundary (full (seen h version.now)) place }
+        → result ≡ is_boundary (full (seen_history h version.now)) place }
 {
     fragments.known();
     let start = SeenPassed {

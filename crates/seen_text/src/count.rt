@@ -1,6 +1,6 @@
 //! How many bytes a version sees.
 ghost use Rattle.std.specs.Prelude.{◌≡◌, length};
-ghost use Rattle.op_model.specs.Histories.{History, seen};
+ghost use Rattle.op_model.specs.Histories.{History, seen_history};
 ghost use Rattle.op_model.specs.Shown.{full};
 ghost use Rattle.op_model.specs.Lawful.{Lawful, IsClosed};
 ghost use Rattle.fragments.specs.Stand.{Tell};
@@ -26,7 +26,7 @@ fn seen_cells(fragments: &SumTree<Fragment>, version: &Version) -> u64
 /// One plain descent, without memory: it looks into no run of fragments of which the version sees all or none.
 pub fn seen_len(fragments: &SumTree<Fragment>, version: &Version) -> u64
     ensures { (h : History) → Tell fragments.now.items h → Lawful h → IsClosed h version.now
-        → result ≡ length (full (seen h version.now)) }
+        → result ≡ length (full (seen_history h version.now)) }
 {
     seen_cells(fragments, version)
 }

@@ -8,11 +8,11 @@ use Rattle.std.proofs.lemmas.List.Sums.{AllPass-from_list_all}
 use Rattle.serde_json.specs.Data.{Data, Items, no_items, item}
 use Rattle.serde_json.specs.Find.{as_str, as_array}
 use Rattle.serde_json.specs.Read.{read}
-use Rattle.session_lines.specs.Json.{value_of, list_of, listed, is_text, is_number}
+use Rattle.session_lines.specs.Json.{value_of, list_of, members_of, is_text, is_number}
 use Rattle.session_lines.specs.Cut.{lines_of, onto_first}
 use Rattle.session_lines.specs.Parts.{all_of, id_of, are_distinct}
-use Rattle.session_lines.specs.Heading.{is_editor, are_replicas, replicas_from, header_with, header_from, headed}
-use Rattle.session_lines.specs.Session.{or_word, header_read, header_of, then_from, rest_of, with_header, session_of, IsSession}
+use Rattle.session_lines.specs.Heading.{is_editor, are_replicas, replicas_from, header_with, header_from, header_of_value}
+use Rattle.session_lines.specs.Session.{or_word, header_or_word, header_of, then_from, rest_of, with_header, session_of, IsSession}
 use Rattle.session_lines.specs.declared.header.Header.{Header}
 use Rattle.session_lines.specs.declared.session.SessionLine.{SessionLine}
 use Rattle.session_lines.specs.declared.session.Session.{Session}
@@ -83,32 +83,32 @@ from_members n (a ∷ []) h = tt
 from_members n (a ∷ b ∷ []) h = tt
 from_members n (a ∷ b ∷ c ∷ []) h = tt
 from_members n (w ∷ v ∷ b ∷ rs ∷ []) h =
-    either n (is_text (codes "zedbuf") w && is_number 1 v) _ (with_both n (as_str b) (option_and_then replicas_from (listed rs)) h.1.1.0 (ids_listed (listed rs)))
+    either n (is_text (codes "zedbuf") w && is_number 1 v) _ (with_both n (as_str b) (option_and_then replicas_from (members_of rs)) h.1.1.0 (ids_listed (members_of rs)))
 from_members n (a ∷ b ∷ c ∷ d ∷ e ∷ ds) h = tt
 
 from_list : (n : ℕ) (o : Option (List Data)) → ListOf n o → HeaderOf n (option_and_then header_from o)
 from_list n None h = tt
 from_list n (Some ds) h = from_members n ds h
 
-headed_short : (n : ℕ) (d : Data) → MembersOf n (Some d) → HeaderOf n (headed d)
-unfolding headed
-headed_short n d h = from_list n (listed d) (of_items n (as_array d) h)
+header_of_value_short : (n : ℕ) (d : Data) → MembersOf n (Some d) → HeaderOf n (header_of_value d)
+unfolding header_of_value
+header_of_value_short n d h = from_list n (members_of d) (of_items n (as_array d) h)
 
-abbrev HeaderRead : ℕ → Result Header Word → Type 0
-HeaderRead n (Err w) = ⊤
-HeaderRead n (Ok h) = Fits n h
+abbrev HeaderOrWord : ℕ → Result Header Word → Type 0
+HeaderOrWord n (Err w) = ⊤
+HeaderOrWord n (Ok h) = Fits n h
 
-or_short : (n : ℕ) (w : Word) (o : Option Header) → HeaderOf n o → HeaderRead n (or_word w o)
+or_short : (n : ℕ) (w : Word) (o : Option Header) → HeaderOf n o → HeaderOrWord n (or_word w o)
 or_short n w None h = tt
 or_short n w (Some x) h = h
 
-read_short : (n : ℕ) (o : Option Data) → MembersOf n o → HeaderRead n (header_read o)
-read_short n None h = tt
-read_short n (Some d) h = or_short n word.Header (headed d) (headed_short n d h)
+header_or_word_short : (n : ℕ) (o : Option Data) → MembersOf n o → HeaderOrWord n (header_or_word o)
+header_or_word_short n None h = tt
+header_or_word_short n (Some d) h = or_short n word.Header (header_of_value d) (header_of_value_short n d h)
 
-header_short : (line : List ℕ) → HeaderRead (length line) (header_of line)
+header_short : (line : List ℕ) → HeaderOrWord (length line) (header_of line)
 unfolding header_of
-header_short line = read_short (length line) (value_of line) (value_short line)
+header_short line = header_or_word_short (length line) (value_of line) (value_short line)
 
 -- ---- the session
 
@@ -145,13 +145,13 @@ with_lines : (n m : ℕ) (h : Header) (r : Result (List SessionLine) DecodeFault
 with_lines n m h (Err e) le f = tt
 with_lines n m h (Ok ls) le f = record { version = refl; base = omega (arith, f.0); replicas = f.1; editors = editors_of h.replicas f.1 }
 
-headed_lines : (n m : ℕ) (r : Result Header Word) (ls : List (List ℕ)) → n ≤ m → HeaderRead n r → SessionOf m (then_from 1 r (λ h. with_header h (rest_of h.replicas [] ls)))
-headed_lines n m (Err w) ls le f = tt
-headed_lines n m (Ok h) ls le f = with_lines n m h (rest_of h.replicas [] ls) le f
+header_lines : (n m : ℕ) (r : Result Header Word) (ls : List (List ℕ)) → n ≤ m → HeaderOrWord n r → SessionOf m (then_from 1 r (λ h. with_header h (rest_of h.replicas [] ls)))
+header_lines n m (Err w) ls le f = tt
+header_lines n m (Ok h) ls le f = with_lines n m h (rest_of h.replicas [] ls) le f
 
 from_lines : (n : ℕ) (ls : List (List ℕ)) → IsFirst n ls → SessionOf n (session_of ls)
 from_lines n [] h = tt
-from_lines n (l ∷ ls) h = headed_lines (length l) n (header_of l) ls h (header_short l)
+from_lines n (l ∷ ls) h = header_lines (length l) n (header_of l) ls h (header_short l)
 
 pub is_session : (input : List ℕ) (s : Session) → session_of (lines_of input) ≡ Ok s → IsSession (length input) s
 is_session input s e = subst (SessionOf (length input)) e (from_lines (length input) (lines_of input) (first_short input))

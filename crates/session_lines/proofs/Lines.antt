@@ -7,7 +7,7 @@ use Rattle.serde_json.specs.Read.{read}
 use Rattle.serde_json.specs.Find.{as_array}
 use Rattle.serde_json.specs.View.{view, items_of, items_view}
 use Rattle.serde_json.specs.declared.value.Value.{Value}
-use Rattle.session_lines.specs.Json.{value_of, list_of, listed}
+use Rattle.session_lines.specs.Json.{value_of, list_of, members_of}
 
 pub value_read : (line : List ℕ) (o : Option Data) → IsUtf8 line → read line ≡ o → value_of line ≡ o
 unfolding value_of
@@ -25,5 +25,5 @@ pub list_of-items : (ds : List Data) → list_of (items_of ds) ≡ ds
 list_of-items [] = refl
 list_of-items (d ∷ ds) = ap (λ l. d ∷ l) (list_of-items ds)
 
-pub listed_of : (vs : List Value) (d : Data) → Some (items_view vs) ≡ as_array d → Some (map view vs) ≡ listed d
-listed_of vs d e = ap Some (sym (list_of-items (map view vs))) ∙ ap (option_map list_of) e
+pub members_of-view : (vs : List Value) (d : Data) → Some (items_view vs) ≡ as_array d → Some (map view vs) ≡ members_of d
+members_of-view vs d e = ap Some (sym (list_of-items (map view vs))) ∙ ap (option_map list_of) e

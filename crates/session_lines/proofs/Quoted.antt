@@ -8,9 +8,9 @@ use Rattle.std.proofs.lemmas.List.Folds.{concat-append}
 use Rattle.std.proofs.lemmas.Grind.{flat_map-append}
 use Rattle.std.proofs.lemmas.Iterator.{items_from_drains}
 use Rattle.std.proofs.lemmas.Iterator.Consumers.{YieldsList-from_first}
-use Rattle.session_lines.specs.Report.{OnText, final_line, head_words, line_text, text_line, with_text}
+use Rattle.session_lines.specs.Report.{OnText, head_words, line_text, text_line}
 use Rattle.session_lines.specs.declared.report.TextHead.{TextHead}
-use Rattle.session_lines.specs.declared.report.TextHead.TheVariants as head
+use Rattle.session_lines.specs.declared.report.Report.TheVariants.{Text}
 use Rattle.json.specs.Token.{Token, string}
 use Rattle.json.specs.Print.{print, print_from, escape, escape_byte, quoted}
 use Rattle.json.specs.Written.{Written, Writes}
@@ -40,20 +40,15 @@ escape_more v front parts part =
     ap concat (map-append v parts (part ∷ [])) ∙ concat-append (map v parts) (v part ∷ []) ∙ ap (λ t. concat (map v parts) ++ t) (append-nil (v part)) in
     append_assoc front (34 ∷ escape (concat (map v parts))) (escape (v part)) ∙ ap (λ t. front ++ 34 ∷ t) (sym (flat_map-append escape_byte (concat (map v parts)) (v part)) ∙ ap escape (sym joined))
 
--- a line that ends with a text is its head and the text
-pub line_with_text : (h : TextHead) (text : List ℕ) → line_text (with_text h text) ≡ head_words h ++ (quoted text ++ 10 ∷ [])
-unfolding line_text text_line final_line
-line_with_text (head.Text r bytes row column rows) text = refl
-line_with_text (head.Final r) text = refl
-
 -- the line is written by its head, the text that the parts are, and a line feed
-pub text_written : {S : Type 0} (steps : S → Option (Bor (List ℕ)) → S → Type 0) (s : S) (h : TextHead) (words old one two new : List ℕ) → words ≡ head_words h → one ≡ old ++ words → OnText steps s (λ text. two ≡ one ++ quoted text) → new ≡ two ++ 10 ∷ [] → OnText steps s (λ text. new ≡ old ++ line_text (with_text h text))
+pub text_written : {S : Type 0} (steps : S → Option (Bor (List ℕ)) → S → Type 0) (s : S) (h : TextHead) (words old one two new : List ℕ) → words ≡ head_words h → one ≡ old ++ words → OnText steps s (λ text. two ≡ one ++ quoted text) → new ≡ two ++ 10 ∷ [] → OnText steps s (λ text. new ≡ old ++ line_text (Text h text))
+unfolding line_text text_line
 text_written steps s h words old one two new w o (parts, drains, q) n =
     let text : List ℕ = concat (map (λ part. part.now) parts) in (
       parts,
       drains,
       n ∙ ap (λ t. t ++ 10 ∷ []) (q ∙ ap (λ t. t ++ quoted text) (o ∙ ap (λ t. old ++ t) w))
-          ∙ append_assoc (old ++ head_words h) (quoted text) (10 ∷ []) ∙ append_assoc old (head_words h) (quoted text ++ 10 ∷ []) ∙ ap (λ t. old ++ t) (sym (line_with_text h text)),
+          ∙ append_assoc (old ++ head_words h) (quoted text) (10 ∷ []) ∙ append_assoc old (head_words h) (quoted text ++ 10 ∷ []),
     )
 
 -- what holds of the text that the parts are, holds of the texts that were left, one after the other

@@ -6,9 +6,9 @@ use Rattle.std.specs.Str.{is_utf8, chars}
 use Rattle.serde_json.proofs.OnLiterals.{serde_json_on_literals}
 use Rattle.session_lines.specs.Json.{value_of}
 use Rattle.session_lines.specs.Cut.{lines_of}
-use Rattle.session_lines.specs.Forms.{shaped}
-use Rattle.session_lines.specs.Heading.{headed}
-use Rattle.session_lines.specs.Session.{decoded, header_of, line_of}
+use Rattle.session_lines.specs.Forms.{line_of_value}
+use Rattle.session_lines.specs.Heading.{header_of_value}
+use Rattle.session_lines.specs.Session.{session_of_text, header_of, line_of}
 use Rattle.session_lines.specs.declared.session.SessionLine.TheVariants.{Edit, Undo, Op, Uop, Give, Text, Anchor, Where, Mark, Since, Find, Point, Offset}
 use Rattle.op_model.specs.declared.anchor.Bias.TheVariants.{Left, Right}
 use Rattle.op_model.specs.declared.faults.PlaceFault.TheVariants.{PastEnd}
@@ -33,101 +33,101 @@ cut_lines = refl
 pub ended_lines : lines_of (codes "a\n") ≡ codes "a" ∷ []
 ended_lines = refl
 
-pub a_session : decoded (codes "[\"zedbuf\",1,\"ab\",[7,2]]\n[\"edit\",2,[[1,1,\"X\"]]]\n[\"text\",7]")
+pub a_session : session_of_text (codes "[\"zedbuf\",1,\"ab\",[7,2]]\n[\"edit\",2,[[1,1,\"X\"]]]\n[\"text\",7]")
     ≡ Ok (record { version = 1; base = codes "ab"; replicas = 7 ∷ 2 ∷ []; lines = Edit 2 (record { start = 1; end = 1; text = codes "X" } ∷ []) ∷ Text 7 ∷ [] })
-unfolding decoded value_of shaped headed header_of line_of is_utf8 chars serde_json_on_literals
+unfolding session_of_text value_of line_of_value header_of_value header_of line_of is_utf8 chars serde_json_on_literals
 a_session = refl
 
-pub no_line : decoded (codes "") ≡ Err (Bad 1 Header)
-unfolding decoded
+pub no_line : session_of_text (codes "") ≡ Err (Bad 1 Header)
+unfolding session_of_text
 no_line = refl
 
-pub an_empty_line : decoded (codes "\n") ≡ Err (Bad 1 Json)
-unfolding decoded value_of shaped headed header_of line_of is_utf8 chars serde_json_on_literals
+pub an_empty_line : session_of_text (codes "\n") ≡ Err (Bad 1 Json)
+unfolding session_of_text value_of line_of_value header_of_value header_of line_of is_utf8 chars serde_json_on_literals
 an_empty_line = refl
 
-pub no_replica : decoded (codes "[\"zedbuf\",1,\"ab\",[]]\n") ≡ Err (Bad 1 Header)
-unfolding decoded value_of shaped headed header_of line_of is_utf8 chars serde_json_on_literals
+pub no_replica : session_of_text (codes "[\"zedbuf\",1,\"ab\",[]]\n") ≡ Err (Bad 1 Header)
+unfolding session_of_text value_of line_of_value header_of_value header_of line_of is_utf8 chars serde_json_on_literals
 no_replica = refl
 
-pub an_id_twice : decoded (codes "[\"zedbuf\",1,\"ab\",[1,1]]\n") ≡ Err (Bad 1 Header)
-unfolding decoded value_of shaped headed header_of line_of is_utf8 chars serde_json_on_literals
+pub an_id_twice : session_of_text (codes "[\"zedbuf\",1,\"ab\",[1,1]]\n") ≡ Err (Bad 1 Header)
+unfolding session_of_text value_of line_of_value header_of_value header_of line_of is_utf8 chars serde_json_on_literals
 an_id_twice = refl
 
-pub no_bracket : decoded (codes "[\"zedbuf\",1,\"ab\",[1]]\n[\"text\",1]\n[\"text\",1\n") ≡ Err (Bad 3 Json)
-unfolding decoded value_of shaped headed header_of line_of is_utf8 chars serde_json_on_literals
+pub no_bracket : session_of_text (codes "[\"zedbuf\",1,\"ab\",[1]]\n[\"text\",1]\n[\"text\",1\n") ≡ Err (Bad 3 Json)
+unfolding session_of_text value_of line_of_value header_of_value header_of line_of is_utf8 chars serde_json_on_literals
 no_bracket = refl
 
-pub a_fraction : decoded (codes "[\"zedbuf\",1,\"ab\",[1]]\n[\"text\",1.0]\n") ≡ Err (Bad 2 Shape)
-unfolding decoded value_of shaped headed header_of line_of is_utf8 chars serde_json_on_literals
+pub a_fraction : session_of_text (codes "[\"zedbuf\",1,\"ab\",[1]]\n[\"text\",1.0]\n") ≡ Err (Bad 2 Shape)
+unfolding session_of_text value_of line_of_value header_of_value header_of line_of is_utf8 chars serde_json_on_literals
 a_fraction = refl
 
-pub another_replica : decoded (codes "[\"zedbuf\",1,\"ab\",[1,2]]\n[\"text\",3]\n") ≡ Err (Bad 2 Replica)
-unfolding decoded value_of shaped headed header_of line_of is_utf8 chars serde_json_on_literals
+pub another_replica : session_of_text (codes "[\"zedbuf\",1,\"ab\",[1,2]]\n[\"text\",3]\n") ≡ Err (Bad 2 Replica)
+unfolding session_of_text value_of line_of_value header_of_value header_of line_of is_utf8 chars serde_json_on_literals
 another_replica = refl
 
 -- a line of another replica that has no form of a line
-pub shape_first : decoded (codes "[\"zedbuf\",1,\"ab\",[1,2]]\n[\"edit\",3,[[0,0]]]\n") ≡ Err (Bad 2 Shape)
-unfolding decoded value_of shaped headed header_of line_of is_utf8 chars serde_json_on_literals
+pub shape_first : session_of_text (codes "[\"zedbuf\",1,\"ab\",[1,2]]\n[\"edit\",3,[[0,0]]]\n") ≡ Err (Bad 2 Shape)
+unfolding session_of_text value_of line_of_value header_of_value header_of line_of is_utf8 chars serde_json_on_literals
 shape_first = refl
 
 -- an operation whose version stands in another order, and gives of both operation lines
-pub given : decoded (codes "[\"zedbuf\",1,\"\",[1]]\n[\"op\",[9,4],[[4,8],[0,1]],[[0,0,\"x\"]]]\n[\"give\",1,1]\n[\"edit\",1,[]]\n[\"give\",1,2]\n")
+pub given : session_of_text (codes "[\"zedbuf\",1,\"\",[1]]\n[\"op\",[9,4],[[4,8],[0,1]],[[0,0,\"x\"]]]\n[\"give\",1,1]\n[\"edit\",1,[]]\n[\"give\",1,2]\n")
     ≡ Ok (record {
       version = 1;
       base = [];
       replicas = 1 ∷ [];
       lines = Op (record { stamp = record { value = 9; replica = 4 }; version = (0, 1) ∷ (4, 8) ∷ []; pieces = record { start = 0; end = 0; text = codes "x" } ∷ [] }) ∷ Give 1 1 ∷ Edit 1 [] ∷ Give 1 2 ∷ [];
     })
-unfolding decoded value_of shaped headed header_of line_of is_utf8 chars serde_json_on_literals
+unfolding session_of_text value_of line_of_value header_of_value header_of line_of is_utf8 chars serde_json_on_literals
 given = refl
 
-pub a_version_id_twice : decoded (codes "[\"zedbuf\",1,\"ab\",[1]]\n[\"op\",[2,1],[[0,1],[3,1],[0,2]],[]]\n") ≡ Err (Bad 2 Shape)
-unfolding decoded value_of shaped headed header_of line_of is_utf8 chars serde_json_on_literals
+pub a_version_id_twice : session_of_text (codes "[\"zedbuf\",1,\"ab\",[1]]\n[\"op\",[2,1],[[0,1],[3,1],[0,2]],[]]\n") ≡ Err (Bad 2 Shape)
+unfolding session_of_text value_of line_of_value header_of_value header_of line_of is_utf8 chars serde_json_on_literals
 a_version_id_twice = refl
 
-pub a_version_value_zero : decoded (codes "[\"zedbuf\",1,\"ab\",[1]]\n[\"op\",[2,1],[[0,0]],[]]\n") ≡ Err (Bad 2 Shape)
-unfolding decoded value_of shaped headed header_of line_of is_utf8 chars serde_json_on_literals
+pub a_version_value_zero : session_of_text (codes "[\"zedbuf\",1,\"ab\",[1]]\n[\"op\",[2,1],[[0,0]],[]]\n") ≡ Err (Bad 2 Shape)
+unfolding session_of_text value_of line_of_value header_of_value header_of line_of is_utf8 chars serde_json_on_literals
 a_version_value_zero = refl
 
 -- a give of an operation line that is still to come
-pub a_later_number : decoded (codes "[\"zedbuf\",1,\"ab\",[1]]\n[\"give\",1,1]\n[\"edit\",1,[]]\n") ≡ Err (Bad 2 Number)
-unfolding decoded value_of shaped headed header_of line_of is_utf8 chars serde_json_on_literals
+pub a_later_number : session_of_text (codes "[\"zedbuf\",1,\"ab\",[1]]\n[\"give\",1,1]\n[\"edit\",1,[]]\n") ≡ Err (Bad 2 Number)
+unfolding session_of_text value_of line_of_value header_of_value header_of line_of is_utf8 chars serde_json_on_literals
 a_later_number = refl
 
-pub replica_first : decoded (codes "[\"zedbuf\",1,\"ab\",[1]]\n[\"give\",3,0]\n") ≡ Err (Bad 2 Replica)
-unfolding decoded value_of shaped headed header_of line_of is_utf8 chars serde_json_on_literals
+pub replica_first : session_of_text (codes "[\"zedbuf\",1,\"ab\",[1]]\n[\"give\",3,0]\n") ≡ Err (Bad 2 Replica)
+unfolding session_of_text value_of line_of_value header_of_value header_of line_of is_utf8 chars serde_json_on_literals
 replica_first = refl
 
 -- an undo operation as it stands, and an undo of both operation lines before
-pub undos : decoded (codes "[\"zedbuf\",1,\"\",[1]]\n[\"edit\",1,[]]\n[\"uop\",[9,4],[[0,1]],[[2,1,1]]]\n[\"undo\",1,[2,1]]\n")
+pub undos : session_of_text (codes "[\"zedbuf\",1,\"\",[1]]\n[\"edit\",1,[]]\n[\"uop\",[9,4],[[0,1]],[[2,1,1]]]\n[\"undo\",1,[2,1]]\n")
     ≡ Ok (record {
       version = 1;
       base = [];
       replicas = 1 ∷ [];
       lines = Edit 1 [] ∷ Uop (record { stamp = record { value = 9; replica = 4 }; version = (0, 1) ∷ []; counts = record { edit = record { value = 2; replica = 1 }; count = 1 } ∷ [] }) ∷ Undo 1 (2 ∷ 1 ∷ []) ∷ [];
     })
-unfolding decoded value_of shaped headed header_of line_of is_utf8 chars serde_json_on_literals
+unfolding session_of_text value_of line_of_value header_of_value header_of line_of is_utf8 chars serde_json_on_literals
 undos = refl
 
 -- an undo that names itself
-pub its_own_number : decoded (codes "[\"zedbuf\",1,\"\",[1]]\n[\"edit\",1,[]]\n[\"undo\",1,[1,2]]\n") ≡ Err (Bad 3 Number)
-unfolding decoded value_of shaped headed header_of line_of is_utf8 chars serde_json_on_literals
+pub its_own_number : session_of_text (codes "[\"zedbuf\",1,\"\",[1]]\n[\"edit\",1,[]]\n[\"undo\",1,[1,2]]\n") ≡ Err (Bad 3 Number)
+unfolding session_of_text value_of line_of_value header_of_value header_of line_of is_utf8 chars serde_json_on_literals
 its_own_number = refl
 
 -- ---- queries
 
-pub queries : decoded (codes "[\"zedbuf\",1,\"ab\",[7,2]]\n[\"find\",2,\"\"]\n[\"point\",7,18446744073709551615]\n[\"offset\",2,0,1]\n")
+pub queries : session_of_text (codes "[\"zedbuf\",1,\"ab\",[7,2]]\n[\"find\",2,\"\"]\n[\"point\",7,18446744073709551615]\n[\"offset\",2,0,1]\n")
     ≡ Ok (record { version = 1; base = codes "ab"; replicas = 7 ∷ 2 ∷ []; lines = Find 2 [] ∷ Point 7 18446744073709551615 ∷ Offset 2 0 1 ∷ [] })
-unfolding decoded value_of shaped headed header_of line_of is_utf8 chars serde_json_on_literals
+unfolding session_of_text value_of line_of_value header_of_value header_of line_of is_utf8 chars serde_json_on_literals
 queries = refl
 
-pub a_query_of_another_replica : decoded (codes "[\"zedbuf\",1,\"ab\",[1,2]]\n[\"find\",1,\"a\"]\n[\"offset\",3,0,0]\n") ≡ Err (Bad 3 Replica)
-unfolding decoded value_of shaped headed header_of line_of is_utf8 chars serde_json_on_literals
+pub a_query_of_another_replica : session_of_text (codes "[\"zedbuf\",1,\"ab\",[1,2]]\n[\"find\",1,\"a\"]\n[\"offset\",3,0,0]\n") ≡ Err (Bad 3 Replica)
+unfolding session_of_text value_of line_of_value header_of_value header_of line_of is_utf8 chars serde_json_on_literals
 a_query_of_another_replica = refl
 
-pub a_point_past_its_range : decoded (codes "[\"zedbuf\",1,\"ab\",[1]]\n[\"point\",1,18446744073709551616]\n") ≡ Err (Bad 2 Shape)
-unfolding decoded value_of shaped headed header_of line_of is_utf8 chars serde_json_on_literals
+pub a_point_past_its_range : session_of_text (codes "[\"zedbuf\",1,\"ab\",[1]]\n[\"point\",1,18446744073709551616]\n") ≡ Err (Bad 2 Shape)
+unfolding session_of_text value_of line_of_value header_of_value header_of line_of is_utf8 chars serde_json_on_literals
 a_point_past_its_range = refl
 
 -- ---- their lines in a report
@@ -149,27 +149,27 @@ points_found = refl
 -- ---- names
 
 -- an anchor line may be refused when it is worked, and keeps its name for the lines behind it
-pub names : decoded (codes "[\"zedbuf\",1,\"ab\",[1,2]]\n[\"anchor\",1,\"a\",9,\"left\"]\n[\"anchor\",2,\"\",0,\"right\"]\n[\"where\",2,\"a\"]\n[\"mark\",2,\"a\"]\n[\"since\",1,\"a\"]\n")
+pub names : session_of_text (codes "[\"zedbuf\",1,\"ab\",[1,2]]\n[\"anchor\",1,\"a\",9,\"left\"]\n[\"anchor\",2,\"\",0,\"right\"]\n[\"where\",2,\"a\"]\n[\"mark\",2,\"a\"]\n[\"since\",1,\"a\"]\n")
     ≡ Ok (record {
       version = 1;
       base = codes "ab";
       replicas = 1 ∷ 2 ∷ [];
       lines = Anchor 1 (codes "a") 9 Left ∷ Anchor 2 [] 0 Right ∷ Where 2 (codes "a") ∷ Mark 2 (codes "a") ∷ Since 1 (codes "a") ∷ [];
     })
-unfolding decoded value_of shaped headed header_of line_of is_utf8 chars serde_json_on_literals
+unfolding session_of_text value_of line_of_value header_of_value header_of line_of is_utf8 chars serde_json_on_literals
 names = refl
 
 -- the name of a mark is none of an anchor
-pub a_name_of_a_mark : decoded (codes "[\"zedbuf\",1,\"ab\",[1]]\n[\"mark\",1,\"a\"]\n[\"where\",1,\"a\"]\n") ≡ Err (Bad 3 Name)
-unfolding decoded value_of shaped headed header_of line_of is_utf8 chars serde_json_on_literals
+pub a_name_of_a_mark : session_of_text (codes "[\"zedbuf\",1,\"ab\",[1]]\n[\"mark\",1,\"a\"]\n[\"where\",1,\"a\"]\n") ≡ Err (Bad 3 Name)
+unfolding session_of_text value_of line_of_value header_of_value header_of line_of is_utf8 chars serde_json_on_literals
 a_name_of_a_mark = refl
 
-pub a_longer_name : decoded (codes "[\"zedbuf\",1,\"ab\",[1]]\n[\"mark\",1,\"a\"]\n[\"since\",1,\"ab\"]\n") ≡ Err (Bad 3 Name)
-unfolding decoded value_of shaped headed header_of line_of is_utf8 chars serde_json_on_literals
+pub a_longer_name : session_of_text (codes "[\"zedbuf\",1,\"ab\",[1]]\n[\"mark\",1,\"a\"]\n[\"since\",1,\"ab\"]\n") ≡ Err (Bad 3 Name)
+unfolding session_of_text value_of line_of_value header_of_value header_of line_of is_utf8 chars serde_json_on_literals
 a_longer_name = refl
 
-pub a_third_side : decoded (codes "[\"zedbuf\",1,\"ab\",[1]]\n[\"anchor\",1,\"a\",0,\"middle\"]\n") ≡ Err (Bad 2 Shape)
-unfolding decoded value_of shaped headed header_of line_of is_utf8 chars serde_json_on_literals
+pub a_third_side : session_of_text (codes "[\"zedbuf\",1,\"ab\",[1]]\n[\"anchor\",1,\"a\",0,\"middle\"]\n") ≡ Err (Bad 2 Shape)
+unfolding session_of_text value_of line_of_value header_of_value header_of line_of is_utf8 chars serde_json_on_literals
 a_third_side = refl
 
 pub names_told : report_text (

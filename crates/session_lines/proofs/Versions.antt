@@ -5,18 +5,18 @@ use Rattle.std.specs.List.{list_all}
 use Rattle.std.proofs.lemmas.List.{take-append-drop}
 use Rattle.std.proofs.lemmas.Bool.{lt-ltb, le-ltb, leb-true, cases_eq, ne_eqb, eq-eqb}
 use Rattle.lamport_clock.specs.declared.stamp.Lamport.{Lamport}
-use Rattle.lamport_clock.specs.Versions.{Entries, IsVersionFrom, IsVersion, entry, put, raise, joined}
+use Rattle.lamport_clock.specs.Versions.{Entries, IsVersionFrom, IsVersion, entry, put_entry, raise, join_versions}
 use Rattle.lamport_clock.proofs.Raises.{by_order, by_bound, raise_seen, raise_new, entry-put_at, entry-put_off}
 use Rattle.lamport_clock.proofs.Entries.{IsVersion-put}
 use Rattle.lamport_clock.proofs.Joined.{entry-joined, IsVersion-joined}
 use Rattle.lamport_clock.proofs.Joining.{entry_below}
 use Rattle.serde_json.specs.Data.{Data}
-use Rattle.session_lines.specs.Json.{whole, listed}
+use Rattle.session_lines.specs.Json.{whole_number, members_of}
 use Rattle.session_lines.specs.Parts.{all_of, id_of, clock_value, is_among, are_distinct, entry_with, entry_from, entry_of, IsEntry, AreEntries}
 
 -- ---- how many entries a version has with one more
 
-length-put_new : (n : ℕ) (v : Entries) (r x : ℕ) → IsVersionFrom n v → entry v r ≡ 0 → length (put r x v) ≡ suc (length v)
+length-put_new : (n : ℕ) (v : Entries) (r x : ℕ) → IsVersionFrom n v → entry v r ≡ 0 → length (put_entry r x v) ≡ suc (length v)
 length-put_new n [] r x h z = refl
 length-put_new n (e ∷ v) r x h z =
     let positive = h.2 in
@@ -28,7 +28,7 @@ length-put_new n (e ∷ v) r x h z =
     (λ g. let ne : eqb e.0 r ≡ false = ne_eqb e.0 r (λ q. absurd (omega arith)) in
     rw (le-ltb e.0 r (omega arith), ne) refl)
 
-length-put_old : (n : ℕ) (v : Entries) (r x : ℕ) → IsVersionFrom n v → 0 < entry v r → length (put r x v) ≡ length v
+length-put_old : (n : ℕ) (v : Entries) (r x : ℕ) → IsVersionFrom n v → 0 < entry v r → length (put_entry r x v) ≡ length v
 length-put_old n [] r x h z = absurd (omega arith)
 length-put_old n (e ∷ v) r x h z =
     by_order _ e.0 r
@@ -58,7 +58,7 @@ abbrev all_new : Entries → Entries → Bool
 all_new u [] = true
 all_new u (e ∷ es) = (entry u e.0 == 0) && all_new (raise u (record { value = e.1; replica = e.0 })) es
 
-at_most_more : (u es : Entries) → IsVersion u → AreEntries es → length (joined u es) ≤ length u + length es
+at_most_more : (u es : Entries) → IsVersion u → AreEntries es → length (join_versions u es) ≤ length u + length es
 at_most_more u [] h v = omega arith
 at_most_more u (e ∷ es) h v =
     let ih = at_most_more (raise u (record { value = e.1; replica = e.0 })) es (IsVersion-raise u e h v.0) v.1 in
@@ -67,7 +67,7 @@ at_most_more u (e ∷ es) h v =
     (λ z. let k = length-raise_new u e h positive (omega arith) in omega arith)
     (λ p. let k = length-raise_old u e h p in omega arith)
 
-as_many : (u es : Entries) → IsVersion u → AreEntries es → (length (joined u es) == length u + length es) ≡ all_new u es
+as_many : (u es : Entries) → IsVersion u → AreEntries es → (length (join_versions u es) == length u + length es) ≡ all_new u es
 as_many u [] h v = eq-eqb (length u) (length u + 0) (omega arith)
 as_many u (e ∷ es) h v =
     let w : Entries = raise u (record { value = e.1; replica = e.0 }) in
@@ -76,10 +76,10 @@ as_many u (e ∷ es) h v =
     by_bound _ (entry u e.0) 0
     (λ z. let k = length-raise_new u e h positive (omega arith) in
     let same : length w + length es ≡ length u + suc (length es) = omega arith in
-    ap (λ n. length (joined w es) == n) (sym same) ∙ as_many w es more v.1 ∙ sym (ap (λ b. b && all_new w es) (eq-eqb (entry u e.0) 0 (omega arith))))
+    ap (λ n. length (join_versions w es) == n) (sym same) ∙ as_many w es more v.1 ∙ sym (ap (λ b. b && all_new w es) (eq-eqb (entry u e.0) 0 (omega arith))))
     (λ p. let k = length-raise_old u e h p in
     let b = at_most_more w es more v.1 in
-    ne_eqb (length (joined w es)) (length u + suc (length es)) (λ q. absurd (omega arith)) ∙ sym (ap (λ b. b && all_new w es) (ne_eqb (entry u e.0) 0 (λ q. absurd (omega arith)))))
+    ne_eqb (length (join_versions w es)) (length u + suc (length es)) (λ q. absurd (omega arith)) ∙ sym (ap (λ b. b && all_new w es) (ne_eqb (entry u e.0) 0 (λ q. absurd (omega arith)))))
 
 -- ---- ids that are new
 
@@ -97,11 +97,11 @@ absent-raise : (u : Entries) (e : ℕ × ℕ) (rs : List ℕ) → 0 < e.1 → en
 absent-raise u e [] p z = refl
 absent-raise u e (r ∷ rs) p z =
     let t : Lamport = record { value = e.1; replica = e.0 } in
-    let put_there : raise u t ≡ put e.0 e.1 u = raise_new u t (omega arith) in
+    let put_there : raise u t ≡ put_entry e.0 e.1 u = raise_new u t (omega arith) in
     let ih = absent-raise u e rs p z in
     elim (cases_eq r e.0) [
       | inl q ↦
-          let has : entry (raise u t) r ≡ e.1 = ap (λ w. entry w r) put_there ∙ ap (entry (put e.0 e.1 u)) q ∙ entry-put_at u e.0 e.1 in
+          let has : entry (raise u t) r ≡ e.1 = ap (λ w. entry w r) put_there ∙ ap (entry (put_entry e.0 e.1 u)) q ∙ entry-put_at u e.0 e.1 in
           rw (ne_eqb (entry (raise u t) r) 0 (λ k. absurd (omega arith)), eq-eqb r e.0 q) refl
       | inr n ↦
           let off : entry (raise u t) r ≡ entry u r = ap (λ w. entry w r) put_there ∙ entry-put_off u e.0 e.1 r n in
@@ -140,10 +140,10 @@ alone true = refl
 alone false = refl
 
 -- as many entries as were taken
-pub counted : (es : Entries) → AreEntries es → (length (joined [] es) == length es) ≡ are_distinct (map (λ e. e.0) es)
-counted es v =
+pub length_of_join : (es : Entries) → AreEntries es → (length (join_versions [] es) == length es) ≡ are_distinct (map (λ e. e.0) es)
+length_of_join es v =
     let none : length es ≡ 0 + length es = omega arith in
-    ap (λ n. length (joined [] es) == n) none ∙ as_many [] es tt v ∙ all_new-distinct [] es v ∙ ap (λ b. are_distinct (map (λ e. e.0) es) && b) (all_absent (map (λ e. e.0) es)) ∙ alone (are_distinct (map (λ e. e.0) es))
+    ap (λ n. length (join_versions [] es) == n) none ∙ as_many [] es tt v ∙ all_new-distinct [] es v ∙ ap (λ b. are_distinct (map (λ e. e.0) es) && b) (all_absent (map (λ e. e.0) es)) ∙ alone (are_distinct (map (λ e. e.0) es))
 
 -- ---- entries taken in two halves
 
@@ -182,32 +182,32 @@ value-raise_off u e r n = by_bound _ e.1 (entry u e.0)
     (λ l. ap (λ w. entry w r) (raise_new u (record { value = e.1; replica = e.0 }) l) ∙ entry-put_off u e.0 e.1 r n)
 
 joined-raise : (u v : Entries) (e : ℕ × ℕ) → IsVersion u → IsVersion v → IsEntry e
-    → joined u (raise v (record { value = e.1; replica = e.0 })) ≡ raise (joined u v) (record { value = e.1; replica = e.0 })
+    → join_versions u (raise v (record { value = e.1; replica = e.0 })) ≡ raise (join_versions u v) (record { value = e.1; replica = e.0 })
 joined-raise u v e a b i =
     let w : Entries = raise v (record { value = e.1; replica = e.0 }) in
     let raised = IsVersion-raise v e b i in
     let both = IsVersion-joined 0 u v a b in
-    same_values 0 (joined u w) (raise (joined u v) (record { value = e.1; replica = e.0 })) (IsVersion-joined 0 u w a raised) (IsVersion-raise (joined u v) e both i) (λ r.
+    same_values 0 (join_versions u w) (raise (join_versions u v) (record { value = e.1; replica = e.0 })) (IsVersion-joined 0 u w a raised) (IsVersion-raise (join_versions u v) e both i) (λ r.
     let left = entry-joined 0 u w r raised in
     let right = entry-joined 0 u v r b in
     elim (cases_eq r e.0) [
-      | inl q ↦ subst (λ k. entry (joined u w) k ≡ entry (raise (joined u v) (record { value = e.1; replica = e.0 })) k) (sym q)
-          (let x = value-raise_at v e in let y = value-raise_at (joined u v) e in
+      | inl q ↦ subst (λ k. entry (join_versions u w) k ≡ entry (raise (join_versions u v) (record { value = e.1; replica = e.0 })) k) (sym q)
+          (let x = value-raise_at v e in let y = value-raise_at (join_versions u v) e in
           let l = entry-joined 0 u w e.0 raised in let m = entry-joined 0 u v e.0 b in omega arith)
-      | inr n ↦ let x = value-raise_off v e r n in let y = value-raise_off (joined u v) e r n in omega arith
+      | inr n ↦ let x = value-raise_off v e r n in let y = value-raise_off (join_versions u v) e r n in omega arith
     ])
 
 -- a join with all that was taken takes it one by one
-joined-joined : (u v es : Entries) → IsVersion u → IsVersion v → AreEntries es → joined u (joined v es) ≡ joined (joined u v) es
+joined-joined : (u v es : Entries) → IsVersion u → IsVersion v → AreEntries es → join_versions u (join_versions v es) ≡ join_versions (join_versions u v) es
 joined-joined u v [] a b i = refl
 joined-joined u v (e ∷ es) a b i =
-    joined-joined u (raise v (record { value = e.1; replica = e.0 })) es a (IsVersion-raise v e b i.0) i.1 ∙ ap (λ w. joined w es) (joined-raise u v e a b i.0)
+    joined-joined u (raise v (record { value = e.1; replica = e.0 })) es a (IsVersion-raise v e b i.0) i.1 ∙ ap (λ w. join_versions w es) (joined-raise u v e a b i.0)
 
-joined-append : (u xs ys : Entries) → joined u (xs ++ ys) ≡ joined (joined u xs) ys
+joined-append : (u xs ys : Entries) → join_versions u (xs ++ ys) ≡ join_versions (join_versions u xs) ys
 joined-append u [] ys = refl
 joined-append u (x ∷ xs) ys = joined-append (raise u (record { value = x.1; replica = x.0 })) xs ys
 
-IsVersion-taken : (u es : Entries) → IsVersion u → AreEntries es → IsVersion (joined u es)
+IsVersion-taken : (u es : Entries) → IsVersion u → AreEntries es → IsVersion (join_versions u es)
 IsVersion-taken u [] a i = a
 IsVersion-taken u (e ∷ es) a i = IsVersion-taken (raise u (record { value = e.1; replica = e.0 })) es (IsVersion-raise u e a i.0) i.1
 
@@ -222,14 +222,14 @@ entries_front k es front i e = subst AreEntries (sym e) (entries_take k es i).0
 pub entries_back : (k : ℕ) (es back : Entries) → AreEntries es → back ≡ drop k es → AreEntries back
 entries_back k es back i e = subst AreEntries (sym e) (entries_take k es i).1
 
-taken_twice : (k : ℕ) (es : Entries) → AreEntries es → joined (joined [] (take k es)) (joined [] (drop k es)) ≡ joined [] es
+taken_twice : (k : ℕ) (es : Entries) → AreEntries es → join_versions (join_versions [] (take k es)) (join_versions [] (drop k es)) ≡ join_versions [] es
 taken_twice k es i =
     let p = entries_take k es i in
     let first = IsVersion-taken [] (take k es) tt p.0 in
-    joined-joined (joined [] (take k es)) [] (drop k es) first tt p.1 ∙ sym (joined-append [] (take k es) (drop k es)) ∙ ap (joined []) (take-append-drop k es)
+    joined-joined (join_versions [] (take k es)) [] (drop k es) first tt p.1 ∙ sym (joined-append [] (take k es) (drop k es)) ∙ ap (join_versions []) (take-append-drop k es)
 
-pub halves : (k : ℕ) (es front back : Entries) → AreEntries es → front ≡ take k es → back ≡ drop k es → joined (joined [] front) (joined [] back) ≡ joined [] es
-halves k es front back i f b = ap (λ x. joined (joined [] x) (joined [] back)) f ∙ ap (λ y. joined (joined [] (take k es)) (joined [] y)) b ∙ taken_twice k es i
+pub halves : (k : ℕ) (es front back : Entries) → AreEntries es → front ≡ take k es → back ≡ drop k es → join_versions (join_versions [] front) (join_versions [] back) ≡ join_versions [] es
+halves k es front back i f b = ap (λ x. join_versions (join_versions [] x) (join_versions [] back)) f ∙ ap (λ y. join_versions (join_versions [] (take k es)) (join_versions [] y)) b ∙ taken_twice k es i
 
 -- ---- what stands in a line
 
@@ -253,7 +253,7 @@ with_both (Some id) (Some x) a b = elim (leb 1 x) as (λ c. leb 1 x ≡ c → En
 from_members : (ds : List Data) → EntryOf (entry_from ds)
 from_members [] = tt
 from_members (r ∷ []) = tt
-from_members (r ∷ v ∷ []) = with_both (id_of r) (clock_value v) (below 65535 (whole r)) (below 4294967295 (whole v))
+from_members (r ∷ v ∷ []) = with_both (id_of r) (clock_value v) (below 65535 (whole_number r)) (below 4294967295 (whole_number v))
 from_members (r ∷ v ∷ d ∷ ds) = tt
 
 from_list : (o : Option (List Data)) → EntryOf (option_and_then entry_from o)
@@ -271,7 +271,7 @@ one_more (Some e) (Some es) a b = (a, b)
 
 all_entries : (ds : List Data) → EntriesOf (all_of entry_of ds)
 all_entries [] = tt
-all_entries (d ∷ ds) = one_more (entry_of d) (all_of entry_of ds) (from_list (listed d)) (all_entries ds)
+all_entries (d ∷ ds) = one_more (entry_of d) (all_of entry_of ds) (from_list (members_of d)) (all_entries ds)
 
 pub entries_of : (ds : List Data) (es : Entries) → Some es ≡ all_of entry_of ds → AreEntries es
 entries_of ds es e = subst EntriesOf (sym e) (all_entries ds)

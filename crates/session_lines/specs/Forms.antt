@@ -6,7 +6,7 @@ use Rattle.lamport_clock.specs.Versions.{Entries}
 use Rattle.lamport_clock.specs.declared.stamp.Lamport.{Lamport}
 use Rattle.op_model.specs.declared.operation.Piece.{Piece}
 use Rattle.op_model.specs.declared.operation.UndoCount.{UndoCount}
-use Rattle.session_lines.specs.Json.{whole, listed, is_text}
+use Rattle.session_lines.specs.Json.{whole_number, members_of, is_text}
 use Rattle.op_model.specs.declared.anchor.Bias.{Bias}
 use Rattle.session_lines.specs.Parts.{id_of, stamp_of, version_of, pieces_of, counts_of, numbers_of, bias_of}
 use Rattle.session_lines.specs.declared.session.SessionLine.{SessionLine}
@@ -51,7 +51,7 @@ give_with r n = option_and_then (λ id. option_map (Give id) n) r
 
 -- r, n
 abbrev pub give_from : List Data → Option SessionLine
-give_from (r ∷ n ∷ []) = give_with (id_of r) (whole n)
+give_from (r ∷ n ∷ []) = give_with (id_of r) (whole_number n)
 give_from _ = None
 
 -- r
@@ -64,7 +64,7 @@ anchor_with r t o b = option_and_then (λ id. option_and_then (λ name. option_a
 
 -- r, "name", o, "left" or "right"
 abbrev pub anchor_from : List Data → Option SessionLine
-anchor_from (r ∷ t ∷ o ∷ b ∷ []) = anchor_with (id_of r) (as_str t) (whole o) (bias_of b)
+anchor_from (r ∷ t ∷ o ∷ b ∷ []) = anchor_with (id_of r) (as_str t) (whole_number o) (bias_of b)
 anchor_from _ = None
 
 abbrev pub name_with : Option ℕ → Option (List ℕ) → Option (ℕ × List ℕ)
@@ -97,7 +97,7 @@ point_with r o = option_and_then (λ id. option_map (Point id) o) r
 
 -- r, o
 abbrev pub point_from : List Data → Option SessionLine
-point_from (r ∷ o ∷ []) = point_with (id_of r) (whole o)
+point_from (r ∷ o ∷ []) = point_with (id_of r) (whole_number o)
 point_from _ = None
 
 abbrev pub offset_with : Option ℕ → Option ℕ → Option ℕ → Option SessionLine
@@ -105,7 +105,7 @@ offset_with r k c = option_and_then (λ id. option_and_then (λ row. option_map 
 
 -- r, row, column
 abbrev pub offset_from : List Data → Option SessionLine
-offset_from (r ∷ k ∷ c ∷ []) = offset_with (id_of r) (whole k) (whole c)
+offset_from (r ∷ k ∷ c ∷ []) = offset_with (id_of r) (whole_number k) (whole_number c)
 offset_from _ = None
 
 -- ---- a line, by its word
@@ -135,5 +135,5 @@ line_from [] = None
 line_from (w ∷ ds) = form_of w ds
 
 -- the line that a value is, where it has a form of one
-unfoldable pub shaped : Data → Option SessionLine
-shaped d = option_and_then line_from (listed d)
+unfoldable pub line_of_value : Data → Option SessionLine
+line_of_value d = option_and_then line_from (members_of d)

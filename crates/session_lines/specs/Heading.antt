@@ -3,7 +3,7 @@ use Rattle.std.specs.Prelude.{ℕ, List, [], ◌∷◌, length, ◌&&◌, nat_le
 use Rattle.std.specs.List.{list_all}
 use Rattle.serde_json.specs.Data.{Data}
 use Rattle.serde_json.specs.Find.{as_str}
-use Rattle.session_lines.specs.Json.{listed, is_text, is_number}
+use Rattle.session_lines.specs.Json.{members_of, is_text, is_number}
 use Rattle.session_lines.specs.Parts.{all_of, id_of, are_distinct}
 use Rattle.session_lines.specs.declared.header.Header.{Header}
 
@@ -24,8 +24,8 @@ header_with b rs = option_and_then (λ base. option_map (λ ids. record { base =
 
 -- ["zedbuf", 1, BASE, [R, ..]]
 abbrev pub header_from : List Data → Option Header
-header_from (w ∷ v ∷ b ∷ rs ∷ []) = if is_text (codes "zedbuf") w && is_number 1 v then header_with (as_str b) (option_and_then replicas_from (listed rs)) else None
+header_from (w ∷ v ∷ b ∷ rs ∷ []) = if is_text (codes "zedbuf") w && is_number 1 v then header_with (as_str b) (option_and_then replicas_from (members_of rs)) else None
 header_from _ = None
 
-unfoldable pub headed : Data → Option Header
-headed d = option_and_then header_from (listed d)
+unfoldable pub header_of_value : Data → Option Header
+header_of_value d = option_and_then header_from (members_of d)

@@ -12,16 +12,16 @@ unfoldable pub value_of : List ℕ → Option Data
 value_of line = if is_utf8 line then read line else None
 
 -- a number without sign, fraction or exponent, below 2^64
-abbrev pub whole : Data → Option ℕ
-whole d = option_and_then as_u64 (as_number d)
+abbrev pub whole_number : Data → Option ℕ
+whole_number d = option_and_then as_u64 (as_number d)
 
 abbrev pub list_of : Items → List Data
 list_of no_items = []
 list_of (item d ds) = d ∷ list_of ds
 
 -- the members of an array
-abbrev pub listed : Data → Option (List Data)
-listed d = option_map list_of (as_array d)
+abbrev pub members_of : Data → Option (List Data)
+members_of d = option_map list_of (as_array d)
 
 -- the value is that string
 abbrev pub is_text : List ℕ → Data → Bool
@@ -29,4 +29,4 @@ is_text w d = option_map_or (λ s. pointwise nat_eq s w) (as_str d) false
 
 -- the value is that number
 abbrev pub is_number : ℕ → Data → Bool
-is_number n d = option_map_or (λ m. m == n) (whole d) false
+is_number n d = option_map_or (λ m. m == n) (whole_number d) false

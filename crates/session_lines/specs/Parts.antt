@@ -3,13 +3,13 @@ use Rattle.std.specs.Prelude.{ℕ, ◌<◌, List, [], ◌∷◌, codes, map, ◌
 use Rattle.std.specs.List.{list_any}
 use Rattle.serde_json.specs.Data.{Data}
 use Rattle.serde_json.specs.Find.{as_str}
-use Rattle.lamport_clock.specs.Versions.{Entries, joined}
+use Rattle.lamport_clock.specs.Versions.{Entries, join_versions}
 use Rattle.lamport_clock.specs.declared.stamp.Lamport.{Lamport}
 use Rattle.op_model.specs.declared.operation.Piece.{Piece}
 use Rattle.op_model.specs.declared.operation.UndoCount.{UndoCount}
 use Rattle.op_model.specs.declared.anchor.Bias.{Bias}
 use Rattle.op_model.specs.declared.anchor.Bias.TheVariants.{Left, Right}
-use Rattle.session_lines.specs.Json.{whole, listed, is_text}
+use Rattle.session_lines.specs.Json.{whole_number, members_of, is_text}
 
 -- what each member is, where each is something
 abbrev pub all_of : {A : Type 0} → (Data → Option A) → List Data → Option (List A)
@@ -19,7 +19,7 @@ all_of f (d ∷ ds) = option_and_then (λ x. option_map (λ xs. x ∷ xs) (all_o
 -- ---- numbers
 
 abbrev pub at_most : ℕ → Data → Option ℕ
-at_most m d = option_and_then (λ n. if nat_le n m then Some n else None) (whole d)
+at_most m d = option_and_then (λ n. if nat_le n m then Some n else None) (whole_number d)
 
 -- the id of a replica, of a header or not
 abbrev pub id_of : Data → Option ℕ
@@ -50,7 +50,7 @@ stamp_from (v ∷ r ∷ []) = stamp_with (clock_value v) (id_of r)
 stamp_from _ = None
 
 abbrev pub stamp_of : Data → Option Lamport
-stamp_of d = option_and_then stamp_from (listed d)
+stamp_of d = option_and_then stamp_from (members_of d)
 
 -- ---- versions
 
@@ -64,7 +64,7 @@ entry_from (r ∷ v ∷ []) = entry_with (id_of r) (clock_value v)
 entry_from _ = None
 
 abbrev pub entry_of : Data → Option (ℕ × ℕ)
-entry_of d = option_and_then entry_from (listed d)
+entry_of d = option_and_then entry_from (members_of d)
 
 -- for a private clause
 abbrev pub IsEntry : ℕ × ℕ → Type 0
@@ -76,14 +76,14 @@ AreEntries (e ∷ es) = IsEntry e × AreEntries es
 
 -- the version that has these entries, in whatever order they stand, where no id is there twice
 abbrev pub version_with : Entries → Option Entries
-version_with es = if are_distinct (map (λ e. e.0) es) then Some (joined [] es) else None
+version_with es = if are_distinct (map (λ e. e.0) es) then Some (join_versions [] es) else None
 
 -- [[r, v], ..]
 abbrev pub version_from : List Data → Option Entries
 version_from ds = option_and_then version_with (all_of entry_of ds)
 
 abbrev pub version_of : Data → Option Entries
-version_of d = option_and_then version_from (listed d)
+version_of d = option_and_then version_from (members_of d)
 
 -- ---- pieces
 
@@ -92,14 +92,14 @@ piece_with s e t = option_and_then (λ a. option_and_then (λ b. option_map (λ 
 
 -- [s, e, "t"]
 abbrev pub piece_from : List Data → Option Piece
-piece_from (s ∷ e ∷ t ∷ []) = piece_with (whole s) (whole e) (as_str t)
+piece_from (s ∷ e ∷ t ∷ []) = piece_with (whole_number s) (whole_number e) (as_str t)
 piece_from _ = None
 
 abbrev pub piece_of : Data → Option Piece
-piece_of d = option_and_then piece_from (listed d)
+piece_of d = option_and_then piece_from (members_of d)
 
 abbrev pub pieces_of : Data → Option (List Piece)
-pieces_of d = option_and_then (all_of piece_of) (listed d)
+pieces_of d = option_and_then (all_of piece_of) (members_of d)
 
 -- ---- undo counts
 
@@ -112,15 +112,15 @@ count_from (v ∷ r ∷ c ∷ []) = count_with (stamp_with (clock_value v) (id_o
 count_from _ = None
 
 abbrev pub count_of : Data → Option UndoCount
-count_of d = option_and_then count_from (listed d)
+count_of d = option_and_then count_from (members_of d)
 
 abbrev pub counts_of : Data → Option (List UndoCount)
-counts_of d = option_and_then (all_of count_of) (listed d)
+counts_of d = option_and_then (all_of count_of) (members_of d)
 
 -- ---- numbers of operation lines
 
 abbrev pub numbers_of : Data → Option (List ℕ)
-numbers_of d = option_and_then (all_of whole) (listed d)
+numbers_of d = option_and_then (all_of whole_number) (members_of d)
 
 -- ---- anchors
 

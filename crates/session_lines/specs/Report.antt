@@ -40,7 +40,7 @@ use Rattle.session_lines.specs.declared.report.QueryAnswer.TheVariants as query
 use Rattle.session_lines.specs.declared.report.TextHead.{TextHead}
 use Rattle.session_lines.specs.declared.report.TextHead.TheVariants as head
 use Rattle.session_lines.specs.declared.report.Report.{Report}
-use Rattle.session_lines.specs.declared.report.Report.TheVariants.{Made, EditRefused, UndoRefused, Unnamed, Settled, Give, Text, Anchor, Where, Mark, Since, Query, Replica, Refused, Final, Checked}
+use Rattle.session_lines.specs.declared.report.Report.TheVariants.{Made, EditRefused, UndoRefused, Unnamed, Settled, Give, Text, Anchor, Where, Mark, Since, Query, Replica, Refused, Checked}
 
 -- ---- positions
 
@@ -53,13 +53,14 @@ last_column text = position_or_len (λ b. b == 10) (reverse text)
 unfoldable pub made_line : ℕ → Lamport → List ℕ
 made_line n t = decimal n ++ (codes ": " ++ (decimal t.value ++ (codes "." ++ (decimal t.replica ++ codes "\n"))))
 
--- what is counted of a text
-abbrev pub text_front : ℕ → ℕ → ℕ → ℕ → ℕ → List ℕ
-text_front r bytes row column rows =
+-- what stands before the text in a line that ends with one
+abbrev pub head_words : TextHead → List ℕ
+head_words (head.CurrentText r bytes row column rows) =
     codes "text " ++ (decimal r ++ (codes ": " ++ (decimal bytes ++ (codes " bytes, end " ++ (decimal row ++ (codes ":" ++ (decimal column ++ (codes ", " ++ (decimal rows ++ codes " rows, ")))))))))
+head_words (head.FinalText r) = codes "final " ++ (decimal r ++ codes ": ")
 
-unfoldable pub text_line : ℕ → ℕ → ℕ → ℕ → ℕ → List ℕ → List ℕ
-text_line r bytes row column rows text = text_front r bytes row column rows ++ (quoted text ++ codes "\n")
+unfoldable pub text_line : TextHead → List ℕ → List ℕ
+text_line h text = head_words h ++ (quoted text ++ codes "\n")
 
 abbrev pub unit_words : LimitUnit → List ℕ
 unit_words Bytes = codes "full bytes "
@@ -223,12 +224,6 @@ replica_line r bytes rows applied waiting refused = counts_words r bytes rows ap
 unfoldable pub refused_op_line : ℕ → Lamport → OpFault → List ℕ
 refused_op_line r t e = codes "refused " ++ (decimal r ++ (codes ": " ++ (stamp_text t ++ (codes " " ++ (op_fault_words e ++ codes "\n")))))
 
-abbrev pub final_front : ℕ → List ℕ
-final_front r = codes "final " ++ (decimal r ++ codes ": ")
-
-unfoldable pub final_line : ℕ → List ℕ → List ℕ
-final_line r text = final_front r ++ (quoted text ++ codes "\n")
-
 unfoldable pub checked_line : ℕ → ℕ → ℕ → ℕ → List ℕ
 checked_line lines replicas operations queries =
     codes "session ok: " ++ (decimal lines ++ (codes " lines, " ++ (decimal replicas ++ (codes " replicas, " ++ (decimal operations ++ (codes " operations, " ++ (decimal queries ++ codes " queries\n")))))))
@@ -242,7 +237,7 @@ line_text (UndoRefused n e) = refused_undo_line n e
 line_text (Unnamed n named) = unnamed_line n named
 line_text (Settled r count) = settled_line r count
 line_text (Give n r answer) = give_line n r answer
-line_text (Text r bytes row column rows text) = text_line r bytes row column rows text
+line_text (Text h text) = text_line h text
 line_text (Anchor name answer) = anchor_line name answer
 line_text (Where name r answer) = where_line name r answer
 line_text (Mark name) = mark_line name
@@ -250,20 +245,9 @@ line_text (Since name r answer) = since_line name r answer
 line_text (Query q n answer) = query_line q n answer
 line_text (Replica r bytes rows applied waiting refused) = replica_line r bytes rows applied waiting refused
 line_text (Refused r t e) = refused_op_line r t e
-line_text (Final r text) = final_line r text
 line_text (Checked lines replicas operations queries) = checked_line lines replicas operations queries
 
--- ---- a line that ends with a text
-
--- what stands before the text
-abbrev pub head_words : TextHead → List ℕ
-head_words (head.Text r bytes row column rows) = text_front r bytes row column rows
-head_words (head.Final r) = final_front r
-
--- the line with that head and a text
-abbrev pub with_text : TextHead → List ℕ → Report
-with_text (head.Text r bytes row column rows) text = Text r bytes row column rows text
-with_text (head.Final r) text = Final r text
+-- ---- a text in parts
 
 -- P holds of the text that the parts are, one after the other, which calls from s give
 abbrev pub OnText : {S : Type 0} → (S → Option (Bor (List ℕ)) → S → Type 0) → S → (List ℕ → Type 0) → Type 0
@@ -273,12 +257,11 @@ OnText steps s P = (parts : List (Bor (List ℕ))) × Drains steps s parts × P 
 
 -- whether a JSON string stands in the line
 abbrev pub has_string : Report → Bool
-has_string (Text r bytes row column rows text) = true
+has_string (Text h text) = true
 has_string (Anchor name answer) = true
 has_string (Where name r answer) = true
 has_string (Mark name) = true
 has_string (Since name r answer) = true
-has_string (Final r text) = true
 has_string _ = false
 
 -- whether it is a line at the end of a report with no JSON string in it
@@ -295,5 +278,5 @@ report_text rs = flat_map line_text rs
 -- ---- what is counted of a session
 
 -- all its lines, the header too; ids; operation lines; queries
-abbrev pub checked : Session → Report
-checked s = Checked (1 + length s.lines) (length s.replicas) (operation_count s.lines) (query_count s.lines)
+abbrev pub session_counts : Session → Report
+session_counts s = Checked (1 + length s.lines) (length s.replicas) (operation_count s.lines) (query_count s.lines)

@@ -6,9 +6,9 @@ use Rattle.op_model.specs.Choice.{first_of, when}
 use Rattle.serde_json.specs.Data.{Data}
 use Rattle.session_lines.specs.Json.{value_of}
 use Rattle.session_lines.specs.Cut.{lines_of}
-use Rattle.session_lines.specs.Forms.{shaped}
+use Rattle.session_lines.specs.Forms.{line_of_value}
 use Rattle.session_lines.specs.Parts.{is_among}
-use Rattle.session_lines.specs.Heading.{headed, are_replicas}
+use Rattle.session_lines.specs.Heading.{header_of_value, are_replicas}
 use Rattle.session_lines.specs.declared.header.Header.{Header}
 use Rattle.session_lines.specs.declared.session.SessionLine.{SessionLine}
 use Rattle.session_lines.specs.declared.session.SessionLine.TheVariants.{Edit, Undo, Op, Uop, Give, Text, Anchor, Where, Mark, Since, Find, Point, Offset}
@@ -26,12 +26,12 @@ or_word w None = Err w
 or_word w (Some x) = Ok x
 
 -- the header that a first line is
-abbrev pub header_read : Option Data → Result Header Word
-header_read None = Err word.Json
-header_read (Some d) = or_word word.Header (headed d)
+abbrev pub header_or_word : Option Data → Result Header Word
+header_or_word None = Err word.Json
+header_or_word (Some d) = or_word word.Header (header_of_value d)
 
 unfoldable pub header_of : List ℕ → Result Header Word
-header_of line = header_read (value_of line)
+header_of line = header_or_word (value_of line)
 
 -- ---- operation lines, which are numbered from 1 in their order, whatever comes of them
 
@@ -187,17 +187,17 @@ abbrev pub unless : {A E : Type 0} → A → Option E → Result A E
 unless x None = Ok x
 unless x (Some e) = Err e
 
-abbrev pub formed : List ℕ → List SessionLine → Option SessionLine → Result SessionLine Word
-formed ids before None = Err word.Shape
-formed ids before (Some line) = unless line (word_of ids before line)
+abbrev pub form_or_word : List ℕ → List SessionLine → Option SessionLine → Result SessionLine Word
+form_or_word ids before None = Err word.Shape
+form_or_word ids before (Some line) = unless line (word_of ids before line)
 
-abbrev pub line_read : List ℕ → List SessionLine → Option Data → Result SessionLine Word
-line_read ids before None = Err word.Json
-line_read ids before (Some d) = formed ids before (shaped d)
+abbrev pub line_or_word : List ℕ → List SessionLine → Option Data → Result SessionLine Word
+line_or_word ids before None = Err word.Json
+line_or_word ids before (Some d) = form_or_word ids before (line_of_value d)
 
 -- the line of a session with these replicas that a later line is, behind the lines before
 unfoldable pub line_of : List ℕ → List SessionLine → List ℕ → Result SessionLine Word
-line_of ids before line = line_read ids before (value_of line)
+line_of ids before line = line_or_word ids before (value_of line)
 
 -- ---- all lines
 
@@ -220,8 +220,8 @@ session_of [] = Err (Bad 1 word.Header)
 session_of (l ∷ ls) = then_from 1 (header_of l) (λ h. with_header h (rest_of h.replicas [] ls))
 
 -- the session that a text is, or why it is none: lines are counted before any is read
-unfoldable pub decoded : List ℕ → Result Session DecodeFault
-decoded input = if nat_lt 1048576 (length (lines_of input)) then Err (Lines (length (lines_of input))) else session_of (lines_of input)
+unfoldable pub session_of_text : List ℕ → Result Session DecodeFault
+session_of_text input = if nat_lt 1048576 (length (lines_of input)) then Err (Lines (length (lines_of input))) else session_of (lines_of input)
 
 -- ---- what every session is like that was read from so many bytes
 

@@ -2,17 +2,17 @@
 ghost use Rattle.std.specs.Prelude.{◌≡◌, ◌<◌, ◌≤◌, ◌⊎◌, [], length, IfOk, IfErr, Ok, Err, None, Some};
 ghost use Rattle.std.specs.List.{list_all};
 ghost use Rattle.session_lines.specs.Cut.{lines_of};
-ghost use Rattle.session_lines.specs.Session.{IsSession, decoded, header_of, is_known, is_number_of, is_numbered, line_of, rest_of, session_of, word_of};
+ghost use Rattle.session_lines.specs.Session.{IsSession, session_of_text, header_of, is_known, is_number_of, is_numbered, line_of, rest_of, session_of, word_of};
 ghost use Rattle.session_lines.specs.declared.fault.Word.{Word};
 
 use crate::cutting::{first_line, line_count};
 use crate::earlier::EarlierLines;
 use crate::fault::{DecodeFault, Word};
-use crate::forms::shaped;
-use crate::header::{Header, headed};
+use crate::forms::line_of_value;
+use crate::header::{Header, header_of_value};
 use crate::line_value::{LineFault, value_of};
 use crate::session::{Session, SessionLine, SessionLines};
-use std::alloc::{AllocError, Global};
+use std::alloc::Global;
 
 /// The most lines of a session.
 const LINES: usize = 1_048_576;
@@ -23,7 +23,7 @@ fn header_of(alloc: Global, line: &[u8]) -> Result<Header, LineFault>
     ensures bad { (w : Word) → result ≡ Err (LineFault.Bad w) → header_of line.now ≡ Err w }
 {
     let value = value_of(alloc, line)?;
-    match headed(alloc, &value)? {
+    match header_of_value(alloc, &value)? {
         Some(header) => Ok(header),
         None => Err(LineFault::Bad(Word::Header)),
     }
@@ -34,19 +34,18 @@ fn is_known(replicas: &[u16], line: &SessionLine) -> bool
     ensures { result ≡ is_known replicas.now line.now }
 {
     match line {
-        SessionLine::Edit { replica, .. } => replicas.contains(replica),
-        SessionLine::Undo { replica, .. } => replicas.contains(replica),
-        SessionLine::Op(_) => true,
-        SessionLine::Uop(_) => true,
-        SessionLine::Give { replica, .. } => replicas.contains(replica),
-        SessionLine::Text { replica } => replicas.contains(replica),
-        SessionLine::Anchor { replica, .. } => replicas.contains(replica),
-        SessionLine::Where { replica, .. } => replicas.contains(replica),
-        SessionLine::Mark { replica, .. } => replicas.contains(replica),
-        SessionLine::Since { replica, .. } => replicas.contains(replica),
-        SessionLine::Find { replica, .. } => replicas.contains(replica),
-        SessionLine::Point { replica, .. } => replicas.contains(replica),
-        SessionLine::Offset { replica, .. } => replicas.contains(replica),
+        SessionLine::Op(_) | SessionLine::Uop(_) => true,
+        SessionLine::Edit { replica, .. }
+        | SessionLine::Undo { replica, .. }
+        | SessionLine::Give { replica, .. }
+        | SessionLine::Text { replica }
+        | SessionLine::Anchor { replica, .. }
+        | SessionLine::Where { replica, .. }
+        | SessionLine::Mark { replica, .. }
+        | SessionLine::Since { replica, .. }
+        | SessionLine::Find { replica, .. }
+        | SessionLine::Point { replica, .. }
+        | SessionLine::Offset { replica, .. } => replicas.contains(replica),
     }
 }
 
@@ -68,19 +67,9 @@ fn is_numbered(operations: u64, line: &SessionLine) -> bool
     ensures { result ≡ is_numbered operations line.now }
 {
     match line {
-        SessionLine::Edit { .. } => true,
         SessionLine::Undo { numbers, .. } => are_numbers_of(operations, numbers.as_slice()),
-        SessionLine::Op(_) => true,
-        SessionLine::Uop(_) => true,
         SessionLine::Give { number, .. } => is_number_of(operations, *number),
-        SessionLine::Text { .. } => true,
-        SessionLine::Anchor { .. } => true,
-        SessionLine::Where { .. } => true,
-        SessionLine::Mark { .. } => true,
-        SessionLine::Since { .. } => true,
-        SessionLine::Find { .. } => true,
-        SessionLine::Point { .. } => true,
-        SessionLine::Offset { .. } => true,
+        _ => true,
     }
 }
 
@@ -111,7 +100,7 @@ fn line_of(
         → line_of replicas.now before.now line.now ≡ Err w }
 {
     let value = value_of(alloc, line)?;
-    let Some(line) = shaped(alloc, &value)? else {
+    let Some(line) = line_of_value(alloc, &value)? else {
         return Err(LineFault::Bad(Word::Shape));
     };
     match word_of(replicas, before, &line) {
@@ -175,13 +164,13 @@ fn session_of(alloc: Global, input: &[u8]) -> Result<Session, DecodeFault>
 /// `Lines` exactly where there are more than 1,048,576 lines, with their number. Else `Bad` for the first bad line and the
 /// first word that applies to it; an input without a line is bad at line 1 with the word `header`. `OutOfMemory` only where
 /// there is a line, and not too many.
-#[tactic(auto, unfolding(crate::specs::Session::decoded), using(crate::proofs::Headers::is_session, crate::proofs::Faults::decoded_nothing))]
+#[tactic(auto, unfolding(crate::specs::Session::session_of_text), using(crate::proofs::Headers::is_session, crate::proofs::Faults::session_of_nothing))]
 pub fn decode(alloc: Global, input: &[u8]) -> Result<Session, DecodeFault>
-    ensures ok { IfOk result (λ s. decoded input.now ≡ Ok s) }
+    ensures ok { IfOk result (λ s. session_of_text input.now ≡ Ok s) }
     ensures session { IfOk result (λ s. IsSession (length input.now) s) }
     ensures lines { 1048576 < length (lines_of input.now)
         → result ≡ Err (DecodeFault.Lines (length (lines_of input.now))) }
-    ensures fault { IfErr result (λ e. (decoded input.now ≡ Err e)
+    ensures fault { IfErr result (λ e. (session_of_text input.now ≡ Err e)
         ⊎ ((0 < length input.now) × (length (lines_of input.now) ≤ 1048576)
         × (e ≡ DecodeFault.OutOfMemory))) }
 {

@@ -4,8 +4,9 @@ ghost use Rattle.std.specs.BTreeSet.{contains_text};
 ghost use Rattle.std.specs.Option.{option_copied};
 ghost use Rattle.session_lines.specs.Session.{has_anchor, has_mark, is_name, is_named, operation_count};
 
+use crate::OutOfMemory;
 use crate::session::{SessionLine, SessionLines};
-use std::alloc::{AllocError, Global};
+use std::alloc::Global;
 use std::collections::BTreeSet;
 use std::marker::Model;
 
@@ -38,7 +39,7 @@ fn keep_name(
     alloc: Global,
     names: &mut BTreeSet<String>,
     name: Option<&str>,
-) -> Result<(), AllocError>
+) -> Result<(), OutOfMemory>
     ensures { OnOk result ((q : List ℕ)
         → contains_text names.new q
         ≡ (contains_text names.old q || is_name q (option_copied name.entry))) }
@@ -95,19 +96,9 @@ impl EarlierLines {
         ensures { result ≡ is_named self.now line.now }
     {
         match line {
-            SessionLine::Edit { .. } => true,
-            SessionLine::Undo { .. } => true,
-            SessionLine::Op(_) => true,
-            SessionLine::Uop(_) => true,
-            SessionLine::Give { .. } => true,
-            SessionLine::Text { .. } => true,
-            SessionLine::Anchor { .. } => true,
             SessionLine::Where { name, .. } => self.has_anchor(name.as_str()),
-            SessionLine::Mark { .. } => true,
             SessionLine::Since { name, .. } => self.has_mark(name.as_str()),
-            SessionLine::Find { .. } => true,
-            SessionLine::Point { .. } => true,
-            SessionLine::Offset { .. } => true,
+            _ => true,
         }
     }
 
@@ -116,7 +107,7 @@ impl EarlierLines {
     /// # Errors
     ///
     /// `OutOfMemory`; the lines are dropped then.
-    pub fn with(self, alloc: Global, line: SessionLine) -> Result<EarlierLines, AllocError>
+    pub fn with(self, alloc: Global, line: SessionLine) -> Result<EarlierLines, OutOfMemory>
         ensures { IfOk result (λ r. r ≡ self ++ line ∷ []) }
     {
         let EarlierLines {

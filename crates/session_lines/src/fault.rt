@@ -3,7 +3,8 @@ ghost use Rattle.std.specs.Prelude.{◌≡◌, Some};
 ghost use Rattle.session_lines.specs.Words.{word_text};
 ghost use Rattle.session_lines.specs.declared.fault.DecodeFault.{DecodeFault};
 
-use std::alloc::{AllocError, AllocFailed};
+use crate::OutOfMemory;
+use std::alloc::AllocFailed;
 use std::fmt;
 use thiserror::Error;
 
@@ -52,10 +53,10 @@ pub enum DecodeFault {
     OutOfMemory,
 }
 
-impl From<AllocError> for DecodeFault {
+impl From<OutOfMemory> for DecodeFault {
     ghost from_gives = { λ _ e. e ≡ DecodeFault.OutOfMemory };
 
-    fn from(_: AllocError) -> Self {
+    fn from(_: OutOfMemory) -> Self {
         DecodeFault::OutOfMemory
     }
 }

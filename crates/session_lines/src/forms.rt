@@ -1,17 +1,18 @@
 //! The forms of a line after the header.
 ghost use Rattle.std.specs.Prelude.{◌≡◌, map, IfOk, None, Some};
 ghost use Rattle.serde_json.specs.View.{view};
-ghost use Rattle.session_lines.specs.Json.{listed};
-ghost use Rattle.session_lines.specs.Forms.{edit_from, undo_from, op_from, uop_from, give_from, text_from, anchor_from, name_from, where_from, mark_from, since_from, find_from, point_from, offset_from, asking_form, line_from, shaped};
+ghost use Rattle.session_lines.specs.Json.{members_of};
+ghost use Rattle.session_lines.specs.Forms.{edit_from, undo_from, op_from, uop_from, give_from, text_from, anchor_from, name_from, where_from, mark_from, since_from, find_from, point_from, offset_from, asking_form, line_from, line_of_value};
 
-use crate::line_value::{is_text, listed};
+use crate::OutOfMemory;
+use crate::line_value::{is_text, members_of};
 use crate::parts::{bias_of, counts_of, id_of, numbers_of, pieces_of, stamp_of, version_of};
 use crate::session::SessionLine;
 use op_model::{EditOp, Text, UndoOp};
 use serde_json::Value;
-use std::alloc::{AllocError, Global};
+use std::alloc::Global;
 
-fn edit_from(alloc: Global, members: &[Value]) -> Result<Option<SessionLine>, AllocError>
+fn edit_from(alloc: Global, members: &[Value]) -> Result<Option<SessionLine>, OutOfMemory>
     ensures { IfOk result (λ l. l ≡ edit_from (map view members.now)) }
 {
     let [replica, pieces] = members else {
@@ -26,7 +27,7 @@ fn edit_from(alloc: Global, members: &[Value]) -> Result<Option<SessionLine>, Al
     }
 }
 
-fn undo_from(alloc: Global, members: &[Value]) -> Result<Option<SessionLine>, AllocError>
+fn undo_from(alloc: Global, members: &[Value]) -> Result<Option<SessionLine>, OutOfMemory>
     ensures { IfOk result (λ l. l ≡ undo_from (map view members.now)) }
 {
     let [replica, numbers] = members else {
@@ -41,7 +42,7 @@ fn undo_from(alloc: Global, members: &[Value]) -> Result<Option<SessionLine>, Al
     }
 }
 
-fn op_from(alloc: Global, members: &[Value]) -> Result<Option<SessionLine>, AllocError>
+fn op_from(alloc: Global, members: &[Value]) -> Result<Option<SessionLine>, OutOfMemory>
     ensures { IfOk result (λ l. l ≡ op_from (map view members.now)) }
 {
     let [stamp, version, pieces] = members else {
@@ -63,7 +64,7 @@ fn op_from(alloc: Global, members: &[Value]) -> Result<Option<SessionLine>, Allo
     }
 }
 
-fn uop_from(alloc: Global, members: &[Value]) -> Result<Option<SessionLine>, AllocError>
+fn uop_from(alloc: Global, members: &[Value]) -> Result<Option<SessionLine>, OutOfMemory>
     ensures { IfOk result (λ l. l ≡ uop_from (map view members.now)) }
 {
     let [stamp, version, counts] = members else {
@@ -109,7 +110,7 @@ fn text_from(members: &[Value]) -> Option<SessionLine>
     }
 }
 
-fn anchor_from(alloc: Global, members: &[Value]) -> Result<Option<SessionLine>, AllocError>
+fn anchor_from(alloc: Global, members: &[Value]) -> Result<Option<SessionLine>, OutOfMemory>
     ensures { IfOk result (λ l. l ≡ anchor_from (map view members.now)) }
 {
     let [replica, name, offset, bias] = members else {
@@ -132,7 +133,7 @@ fn anchor_from(alloc: Global, members: &[Value]) -> Result<Option<SessionLine>, 
 }
 
 // A replica and a name.
-fn name_from(alloc: Global, members: &[Value]) -> Result<Option<(u16, Text)>, AllocError>
+fn name_from(alloc: Global, members: &[Value]) -> Result<Option<(u16, Text)>, OutOfMemory>
     ensures { IfOk result (λ p. p ≡ name_from (map view members.now)) }
 {
     let [replica, name] = members else {
@@ -146,7 +147,7 @@ fn name_from(alloc: Global, members: &[Value]) -> Result<Option<(u16, Text)>, Al
     }
 }
 
-fn where_from(alloc: Global, members: &[Value]) -> Result<Option<SessionLine>, AllocError>
+fn where_from(alloc: Global, members: &[Value]) -> Result<Option<SessionLine>, OutOfMemory>
     ensures { IfOk result (λ l. l ≡ where_from (map view members.now)) }
 {
     match name_from(alloc, members)? {
@@ -155,7 +156,7 @@ fn where_from(alloc: Global, members: &[Value]) -> Result<Option<SessionLine>, A
     }
 }
 
-fn mark_from(alloc: Global, members: &[Value]) -> Result<Option<SessionLine>, AllocError>
+fn mark_from(alloc: Global, members: &[Value]) -> Result<Option<SessionLine>, OutOfMemory>
     ensures { IfOk result (λ l. l ≡ mark_from (map view members.now)) }
 {
     match name_from(alloc, members)? {
@@ -164,7 +165,7 @@ fn mark_from(alloc: Global, members: &[Value]) -> Result<Option<SessionLine>, Al
     }
 }
 
-fn since_from(alloc: Global, members: &[Value]) -> Result<Option<SessionLine>, AllocError>
+fn since_from(alloc: Global, members: &[Value]) -> Result<Option<SessionLine>, OutOfMemory>
     ensures { IfOk result (λ l. l ≡ since_from (map view members.now)) }
 {
     match name_from(alloc, members)? {
@@ -173,7 +174,7 @@ fn since_from(alloc: Global, members: &[Value]) -> Result<Option<SessionLine>, A
     }
 }
 
-fn find_from(alloc: Global, members: &[Value]) -> Result<Option<SessionLine>, AllocError>
+fn find_from(alloc: Global, members: &[Value]) -> Result<Option<SessionLine>, OutOfMemory>
     ensures { IfOk result (λ l. l ≡ find_from (map view members.now)) }
 {
     let [replica, needle] = members else {
@@ -217,11 +218,11 @@ fn offset_from(members: &[Value]) -> Option<SessionLine>
 }
 
 // The line of the word, where it keeps or asks for something under a name, or is a query.
-fn asking_from(
+fn asking_form(
     alloc: Global,
     word: &Value,
     members: &[Value],
-) -> Result<Option<SessionLine>, AllocError>
+) -> Result<Option<SessionLine>, OutOfMemory>
     ensures { IfOk result (λ l. l ≡ asking_form (view word.now) (map view members.now)) }
 {
     if is_text(word, "anchor") {
@@ -248,7 +249,7 @@ fn asking_from(
     Ok(None)
 }
 
-fn line_from(alloc: Global, members: &[Value]) -> Result<Option<SessionLine>, AllocError>
+fn line_from(alloc: Global, members: &[Value]) -> Result<Option<SessionLine>, OutOfMemory>
     ensures { IfOk result (λ l. l ≡ line_from (map view members.now)) }
 {
     let [word, members @ ..] = members else {
@@ -272,15 +273,15 @@ fn line_from(alloc: Global, members: &[Value]) -> Result<Option<SessionLine>, Al
     if is_text(word, "text") {
         return Ok(text_from(members));
     }
-    asking_from(alloc, word, members)
+    asking_form(alloc, word, members)
 }
 
 /// The line that a value is, where it has the form of one.
-#[tactic(auto, unfolding(crate::specs::Forms::shaped))]
-pub fn shaped(alloc: Global, value: &Value) -> Result<Option<SessionLine>, AllocError>
-    ensures { IfOk result (λ l. l ≡ shaped (view value.now)) }
+#[tactic(auto, unfolding(crate::specs::Forms::line_of_value))]
+pub fn line_of_value(alloc: Global, value: &Value) -> Result<Option<SessionLine>, OutOfMemory>
+    ensures { IfOk result (λ l. l ≡ line_of_value (view value.now)) }
 {
-    match listed(value) {
+    match members_of(value) {
         Some(members) => line_from(alloc, members),
         None => Ok(None),
     }

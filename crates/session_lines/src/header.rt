@@ -2,16 +2,17 @@
 ghost use Rattle.std.specs.Prelude.{◌≡◌, map, option_and_then, IfOk, None, Some};
 ghost use Rattle.std.specs.List.{list_all};
 ghost use Rattle.serde_json.specs.View.{view};
-ghost use Rattle.session_lines.specs.Json.{listed};
+ghost use Rattle.session_lines.specs.Json.{members_of};
 ghost use Rattle.session_lines.specs.Parts.{all_of, are_distinct, id_of};
-ghost use Rattle.session_lines.specs.Heading.{is_editor, are_replicas, replicas_from, header_from, headed};
+ghost use Rattle.session_lines.specs.Heading.{is_editor, are_replicas, replicas_from, header_from, header_of_value};
 
-use crate::line_value::{is_number, is_text, listed};
+use crate::OutOfMemory;
+use crate::line_value::{is_number, is_text, members_of};
 use crate::parts::id_of;
 use crate::session::Ids;
 use op_model::Text;
 use serde_json::Value;
-use std::alloc::{AllocError, Global};
+use std::alloc::Global;
 
 /// What the first line says.
 #[derive(Drop)]
@@ -45,7 +46,7 @@ fn are_replicas(ids: &[u16]) -> bool
     (1 <= ids.len() && ids.len() <= 64) && (are_editors(ids) && are_distinct(ids))
 }
 
-fn ids_from(alloc: Global, members: &[Value]) -> Result<Option<Ids>, AllocError>
+fn ids_from(alloc: Global, members: &[Value]) -> Result<Option<Ids>, OutOfMemory>
     ensures { IfOk result (λ ids. ids ≡ all_of id_of (map view members.now)) }
 {
     let mut ids = Vec::new(alloc);
@@ -58,7 +59,7 @@ fn ids_from(alloc: Global, members: &[Value]) -> Result<Option<Ids>, AllocError>
     Ok(Some(Ids::new(ids)))
 }
 
-fn replicas_from(alloc: Global, members: &[Value]) -> Result<Option<Ids>, AllocError>
+fn replicas_from(alloc: Global, members: &[Value]) -> Result<Option<Ids>, OutOfMemory>
     ensures { IfOk result (λ ids. ids ≡ replicas_from (map view members.now)) }
 {
     match ids_from(alloc, members)? {
@@ -73,16 +74,16 @@ fn replicas_from(alloc: Global, members: &[Value]) -> Result<Option<Ids>, AllocE
     }
 }
 
-fn replicas_of(alloc: Global, value: &Value) -> Result<Option<Ids>, AllocError>
-    ensures { IfOk result (λ ids. ids ≡ option_and_then replicas_from (listed (view value.now))) }
+fn replicas_of(alloc: Global, value: &Value) -> Result<Option<Ids>, OutOfMemory>
+    ensures { IfOk result (λ ids. ids ≡ option_and_then replicas_from (members_of (view value.now))) }
 {
-    match listed(value) {
+    match members_of(value) {
         Some(members) => replicas_from(alloc, members),
         None => Ok(None),
     }
 }
 
-fn header_from(alloc: Global, members: &[Value]) -> Result<Option<Header>, AllocError>
+fn header_from(alloc: Global, members: &[Value]) -> Result<Option<Header>, OutOfMemory>
     ensures { IfOk result (λ h. h ≡ header_from (map view members.now)) }
 {
     let [word, version, base, replicas] = members else {
@@ -104,11 +105,11 @@ fn header_from(alloc: Global, members: &[Value]) -> Result<Option<Header>, Alloc
 }
 
 /// The header that a value is.
-#[tactic(auto, unfolding(crate::specs::Heading::headed))]
-pub fn headed(alloc: Global, value: &Value) -> Result<Option<Header>, AllocError>
-    ensures { IfOk result (λ h. h ≡ headed (view value.now)) }
+#[tactic(auto, unfolding(crate::specs::Heading::header_of_value))]
+pub fn header_of_value(alloc: Global, value: &Value) -> Result<Option<Header>, OutOfMemory>
+    ensures { IfOk result (λ h. h ≡ header_of_value (view value.now)) }
 {
-    match listed(value) {
+    match members_of(value) {
         Some(members) => header_from(alloc, members),
         None => Ok(None),
     }

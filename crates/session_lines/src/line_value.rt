@@ -1,13 +1,14 @@
 //! A line as JSON.
 ghost use Rattle.std.specs.Prelude.{◌≡◌, map, option_map, IfOk, None, Some, Err};
 ghost use Rattle.serde_json.specs.View.{view};
-ghost use Rattle.session_lines.specs.Json.{value_of, listed, is_text, is_number};
+ghost use Rattle.session_lines.specs.Json.{value_of, members_of, is_text, is_number};
 ghost use Rattle.session_lines.specs.declared.line_value.LineFault.{LineFault};
 ghost use Rattle.session_lines.specs.declared.fault.Word.{Word};
 
+use crate::OutOfMemory;
 use crate::fault::Word;
 use serde_json::Value;
-use std::alloc::{AllocError, Global};
+use std::alloc::Global;
 
 /// Why a line is none of a session.
 #[derive(Clone, Copy, Debug, PartialEq, Eq)]
@@ -16,10 +17,10 @@ pub enum LineFault {
     OutOfMemory,
 }
 
-impl From<AllocError> for LineFault {
+impl From<OutOfMemory> for LineFault {
     ghost from_gives = { λ _ e. e ≡ LineFault.OutOfMemory };
 
-    fn from(_: AllocError) -> Self {
+    fn from(_: OutOfMemory) -> Self {
         LineFault::OutOfMemory
     }
 }
@@ -43,8 +44,8 @@ pub fn value_of(alloc: Global, line: &[u8]) -> Result<Value, LineFault>
     }
 }
 
-pub fn listed(value: &Value) -> Option<&[Value]>
-    ensures { option_map (λ vs. map view vs.now) result ≡ listed (view value.now) }
+pub fn members_of(value: &Value) -> Option<&[Value]>
+    ensures { option_map (λ vs. map view vs.now) result ≡ members_of (view value.now) }
 {
     match value.as_array() {
         Some(list) => Some(list.as_slice()),

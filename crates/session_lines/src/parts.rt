@@ -1,16 +1,17 @@
 //! The parts of a line.
 ghost use Rattle.std.specs.Prelude.{◌≡◌, ◌<◌, ◌≤◌, [], length, map, option_map, IfOk, None, Some};
-ghost use Rattle.lamport_clock.specs.Versions.{joined};
+ghost use Rattle.lamport_clock.specs.Versions.{join_versions};
 ghost use Rattle.serde_json.specs.View.{view};
-ghost use Rattle.session_lines.specs.Json.{listed, whole};
+ghost use Rattle.session_lines.specs.Json.{members_of, whole_number};
 ghost use Rattle.session_lines.specs.Parts.{AreEntries, all_of, bias_of, clock_value, count_from, count_of, counts_of, entry_from, entry_of, id_of, numbers_of, piece_from, piece_of, pieces_of, stamp_from, stamp_of, version_from, version_of, version_with};
 
-use crate::line_value::{is_text, listed};
+use crate::OutOfMemory;
+use crate::line_value::{is_text, members_of};
 use crate::session::Numbers;
 use lamport_clock::{Lamport, Version};
 use op_model::{Bias, Counts, Piece, Pieces, Text, UndoCount};
 use serde_json::Value;
-use std::alloc::{AllocError, Global};
+use std::alloc::Global;
 
 /// The id of a replica, of the header or not.
 pub fn id_of(value: &Value) -> Option<u16>
@@ -53,7 +54,7 @@ fn stamp_from(members: &[Value]) -> Option<Lamport>
 pub fn stamp_of(value: &Value) -> Option<Lamport>
     ensures { result ≡ stamp_of (view value.now) }
 {
-    match listed(value) {
+    match members_of(value) {
         Some(members) => stamp_from(members),
         None => None,
     }
@@ -80,13 +81,13 @@ fn entry_from(members: &[Value]) -> Option<(u16, u32)>
 fn entry_of(value: &Value) -> Option<(u16, u32)>
     ensures { result ≡ entry_of (view value.now) }
 {
-    match listed(value) {
+    match members_of(value) {
         Some(members) => entry_from(members),
         None => None,
     }
 }
 
-fn piece_from(alloc: Global, members: &[Value]) -> Result<Option<Piece>, AllocError>
+fn piece_from(alloc: Global, members: &[Value]) -> Result<Option<Piece>, OutOfMemory>
     ensures { IfOk result (λ p. p ≡ piece_from (map view members.now)) }
 {
     let [start, end, text] = members else {
@@ -102,16 +103,16 @@ fn piece_from(alloc: Global, members: &[Value]) -> Result<Option<Piece>, AllocEr
     }
 }
 
-fn piece_of(alloc: Global, value: &Value) -> Result<Option<Piece>, AllocError>
+fn piece_of(alloc: Global, value: &Value) -> Result<Option<Piece>, OutOfMemory>
     ensures { IfOk result (λ p. p ≡ piece_of (view value.now)) }
 {
-    match listed(value) {
+    match members_of(value) {
         Some(members) => piece_from(alloc, members),
         None => Ok(None),
     }
 }
 
-fn pieces_from(alloc: Global, members: &[Value]) -> Result<Option<Pieces>, AllocError>
+fn pieces_from(alloc: Global, members: &[Value]) -> Result<Option<Pieces>, OutOfMemory>
     ensures { IfOk result (λ p. p ≡ all_of piece_of (map view members.now)) }
 {
     let mut pieces = Vec::new(alloc);
@@ -124,16 +125,16 @@ fn pieces_from(alloc: Global, members: &[Value]) -> Result<Option<Pieces>, Alloc
     Ok(Some(Pieces::new(pieces)))
 }
 
-pub fn pieces_of(alloc: Global, value: &Value) -> Result<Option<Pieces>, AllocError>
+pub fn pieces_of(alloc: Global, value: &Value) -> Result<Option<Pieces>, OutOfMemory>
     ensures { IfOk result (λ p. p ≡ pieces_of (view value.now)) }
 {
-    match listed(value) {
+    match members_of(value) {
         Some(members) => pieces_from(alloc, members),
         None => Ok(None),
     }
 }
 
-fn entries_from(alloc: Global, members: &[Value]) -> Result<Option<Vec<(u16, u32)>>, AllocError>
+fn entries_from(alloc: Global, members: &[Value]) -> Result<Option<Vec<(u16, u32)>>, OutOfMemory>
     ensures { IfOk result (λ o. option_map (λ v. v.items) o
         ≡ all_of entry_of (map view members.now)) }
 {
@@ -148,8 +149,8 @@ fn entries_from(alloc: Global, members: &[Value]) -> Result<Option<Vec<(u16, u32
 }
 
 // The version that has seen each of the entries, taken one after another.
-fn observed(alloc: Global, entries: &[(u16, u32)]) -> Result<Version, AllocError>
-    ensures { IfOk result (λ v. v ≡ joined [] entries.now) }
+fn join_of_few(alloc: Global, entries: &[(u16, u32)]) -> Result<Version, OutOfMemory>
+    ensures { IfOk result (λ v. v ≡ join_versions [] entries.now) }
 {
     let mut version = Version::new(alloc);
     for &(replica, value) in entries {
@@ -159,40 +160,40 @@ fn observed(alloc: Global, entries: &[(u16, u32)]) -> Result<Version, AllocError
 }
 
 #[tactic(auto, using(crate::proofs::Versions::halves, crate::proofs::Versions::entries_front, crate::proofs::Versions::entries_back))]
-fn halved(entries: &[(u16, u32)]) -> (&[(u16, u32)], &[(u16, u32)])
+fn halves(entries: &[(u16, u32)]) -> (&[(u16, u32)], &[(u16, u32)])
     requires entries { AreEntries entries.now }
     requires several { 2 ≤ length entries.now }
     ensures front { AreEntries result.0.now }
     ensures back { AreEntries result.1.now }
     ensures shorter { (length result.0.now < length entries.now)
         × (length result.1.now < length entries.now) }
-    ensures whole { joined (joined [] result.0.now) (joined [] result.1.now)
-        ≡ joined [] entries.now }
+    ensures whole { join_versions (join_versions [] result.0.now) (join_versions [] result.1.now)
+        ≡ join_versions [] entries.now }
 {
     entries.split_at(entries.len() / 2)
 }
 
 // The version that has seen each of the entries. Many are taken in halves, so that each is moved few times.
-fn joined(alloc: Global, entries: &[(u16, u32)]) -> Result<Version, AllocError>
+fn join_of(alloc: Global, entries: &[(u16, u32)]) -> Result<Version, OutOfMemory>
     requires { AreEntries entries.now }
-    ensures { IfOk result (λ v. v ≡ joined [] entries.now) }
+    ensures { IfOk result (λ v. v ≡ join_versions [] entries.now) }
 {
     if entries.len() <= 16 {
-        return observed(alloc, entries);
+        return join_of_few(alloc, entries);
     }
-    let (front, back) = halved(entries);
-    let mut version = joined(alloc, front)?;
-    let other = joined(alloc, back)?;
+    let (front, back) = halves(entries);
+    let mut version = join_of(alloc, front)?;
+    let other = join_of(alloc, back)?;
     version.join(&other)?;
     Ok(version)
 }
 
-#[tactic(auto, using(crate::proofs::Versions::counted))]
-fn version_with(alloc: Global, entries: &[(u16, u32)]) -> Result<Option<Version>, AllocError>
+#[tactic(auto, using(crate::proofs::Versions::length_of_join))]
+fn version_with(alloc: Global, entries: &[(u16, u32)]) -> Result<Option<Version>, OutOfMemory>
     requires { AreEntries entries.now }
     ensures { IfOk result (λ v. v ≡ version_with entries.now) }
 {
-    let version = joined(alloc, entries)?;
+    let version = join_of(alloc, entries)?;
     // as many entries as the list has, where no id is there twice
     if version.len() == entries.len() as u64 {
         Ok(Some(version))
@@ -202,7 +203,7 @@ fn version_with(alloc: Global, entries: &[(u16, u32)]) -> Result<Option<Version>
 }
 
 #[tactic(auto, using(crate::proofs::Versions::entries_of))]
-fn version_from(alloc: Global, members: &[Value]) -> Result<Option<Version>, AllocError>
+fn version_from(alloc: Global, members: &[Value]) -> Result<Option<Version>, OutOfMemory>
     ensures { IfOk result (λ v. v ≡ version_from (map view members.now)) }
 {
     match entries_from(alloc, members)? {
@@ -212,10 +213,10 @@ fn version_from(alloc: Global, members: &[Value]) -> Result<Option<Version>, All
 }
 
 /// The version that the value is: ids of replicas, each once, with values of at least 1, in any order.
-pub fn version_of(alloc: Global, value: &Value) -> Result<Option<Version>, AllocError>
+pub fn version_of(alloc: Global, value: &Value) -> Result<Option<Version>, OutOfMemory>
     ensures { IfOk result (λ v. v ≡ version_of (view value.now)) }
 {
-    match listed(value) {
+    match members_of(value) {
         Some(members) => version_from(alloc, members),
         None => Ok(None),
     }
@@ -239,13 +240,13 @@ fn count_from(members: &[Value]) -> Option<UndoCount>
 fn count_of(value: &Value) -> Option<UndoCount>
     ensures { result ≡ count_of (view value.now) }
 {
-    match listed(value) {
+    match members_of(value) {
         Some(members) => count_from(members),
         None => None,
     }
 }
 
-fn counts_from(alloc: Global, members: &[Value]) -> Result<Option<Counts>, AllocError>
+fn counts_from(alloc: Global, members: &[Value]) -> Result<Option<Counts>, OutOfMemory>
     ensures { IfOk result (λ c. c ≡ all_of count_of (map view members.now)) }
 {
     let mut counts = Vec::new(alloc);
@@ -258,17 +259,17 @@ fn counts_from(alloc: Global, members: &[Value]) -> Result<Option<Counts>, Alloc
     Ok(Some(Counts::new(counts)))
 }
 
-pub fn counts_of(alloc: Global, value: &Value) -> Result<Option<Counts>, AllocError>
+pub fn counts_of(alloc: Global, value: &Value) -> Result<Option<Counts>, OutOfMemory>
     ensures { IfOk result (λ c. c ≡ counts_of (view value.now)) }
 {
-    match listed(value) {
+    match members_of(value) {
         Some(members) => counts_from(alloc, members),
         None => Ok(None),
     }
 }
 
-fn numbers_from(alloc: Global, members: &[Value]) -> Result<Option<Numbers>, AllocError>
-    ensures { IfOk result (λ ns. ns ≡ all_of whole (map view members.now)) }
+fn numbers_from(alloc: Global, members: &[Value]) -> Result<Option<Numbers>, OutOfMemory>
+    ensures { IfOk result (λ ns. ns ≡ all_of whole_number (map view members.now)) }
 {
     let mut numbers = Vec::new(alloc);
     for member in members {
@@ -280,10 +281,10 @@ fn numbers_from(alloc: Global, members: &[Value]) -> Result<Option<Numbers>, All
     Ok(Some(Numbers::new(numbers)))
 }
 
-pub fn numbers_of(alloc: Global, value: &Value) -> Result<Option<Numbers>, AllocError>
+pub fn numbers_of(alloc: Global, value: &Value) -> Result<Option<Numbers>, OutOfMemory>
     ensures { IfOk result (λ ns. ns ≡ numbers_of (view value.now)) }
 {
-    match listed(value) {
+    match members_of(value) {
         Some(members) => numbers_from(alloc, members),
         None => Ok(None),
     }

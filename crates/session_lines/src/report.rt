@@ -1,6 +1,6 @@
 //! A line of a report, as a value.
 ghost use Rattle.std.specs.Prelude.{◌≡◌};
-ghost use Rattle.session_lines.specs.Report.{checked};
+ghost use Rattle.session_lines.specs.Report.{session_counts};
 
 use crate::session::{Numbers, Session};
 use lamport_clock::Lamport;
@@ -125,6 +125,23 @@ pub enum QueryAnswer {
     Offset(OffsetAnswer),
 }
 
+/// What stands before the text in a line that ends with one.
+#[derive(Clone, Copy, Debug, PartialEq, Eq)]
+pub enum TextHead {
+    /// `text R: B bytes, end ROW:COLUMN, K rows, `: the text of replica R as it is, with what is counted of it.
+    CurrentText {
+        replica: u16,
+        bytes: u64,
+        row: u64,
+        column: u64,
+        rows: u64,
+    },
+    /// `final R: `: the text of replica R at the end.
+    FinalText {
+        replica: u16,
+    },
+}
+
 /// A line of a report, with what it prints.
 #[derive(Drop)]
 pub enum Report {
@@ -159,13 +176,9 @@ pub enum Report {
         replica: u16,
         answer: Given,
     },
-    /// `text R: B bytes, end ROW:COLUMN, K rows, STRING`: the text of replica R, with what is counted of it.
+    /// A head and then `STRING`: a text of a replica.
     Text {
-        replica: u16,
-        bytes: u64,
-        row: u64,
-        column: u64,
-        rows: u64,
+        head: TextHead,
         text: Text,
     },
     /// `anchor NAME: ANSWER`: what comes of making an anchor under the name.
@@ -210,11 +223,6 @@ pub enum Report {
         stamp: Lamport,
         fault: OpFault,
     },
-    /// `final R: STRING`: the text of replica R at the end.
-    Final {
-        replica: u16,
-        text: Text,
-    },
     /// `session ok: L lines, R replicas, P operations, Q queries`: what is counted of a session.
     Checked {
         lines: u64,
@@ -224,28 +232,11 @@ pub enum Report {
     },
 }
 
-/// What stands before the text in a line that ends with one.
-#[derive(Clone, Copy, Debug, PartialEq, Eq)]
-pub enum TextHead {
-    /// `text R: B bytes, end ROW:COLUMN, K rows, `: the head of `Report::Text`.
-    Text {
-        replica: u16,
-        bytes: u64,
-        row: u64,
-        column: u64,
-        rows: u64,
-    },
-    /// `final R: `: the head of `Report::Final`.
-    Final {
-        replica: u16,
-    },
-}
-
 impl Report {
     /// What is counted of the session: all its lines, the header too, the ids of its header, its operation lines and its
     /// queries. Linear in its lines.
     pub fn checked(session: &Session) -> Report
-        ensures { result ≡ checked session.now }
+        ensures { result ≡ session_counts session.now }
     {
         Report::Checked {
             lines: 1 + session.lines.as_slice().len() as u64,

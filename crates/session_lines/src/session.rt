@@ -80,42 +80,23 @@ impl SessionLine {
     pub fn is_operation(&self) -> bool
         ensures { result ≡ is_operation self.now }
     {
-        match self {
-            SessionLine::Edit { .. } => true,
-            SessionLine::Undo { .. } => true,
-            SessionLine::Op(_) => true,
-            SessionLine::Uop(_) => true,
-            SessionLine::Give { .. } => false,
-            SessionLine::Text { .. } => false,
-            SessionLine::Anchor { .. } => false,
-            SessionLine::Where { .. } => false,
-            SessionLine::Mark { .. } => false,
-            SessionLine::Since { .. } => false,
-            SessionLine::Find { .. } => false,
-            SessionLine::Point { .. } => false,
-            SessionLine::Offset { .. } => false,
-        }
+        matches!(
+            self,
+            SessionLine::Edit { .. }
+                | SessionLine::Undo { .. }
+                | SessionLine::Op(_)
+                | SessionLine::Uop(_)
+        )
     }
 
     /// Whether it is a query. These are numbered from 1 in their order, apart from operation lines.
     pub fn is_query(&self) -> bool
         ensures { result ≡ is_query self.now }
     {
-        match self {
-            SessionLine::Edit { .. } => false,
-            SessionLine::Undo { .. } => false,
-            SessionLine::Op(_) => false,
-            SessionLine::Uop(_) => false,
-            SessionLine::Give { .. } => false,
-            SessionLine::Text { .. } => false,
-            SessionLine::Anchor { .. } => false,
-            SessionLine::Where { .. } => false,
-            SessionLine::Mark { .. } => false,
-            SessionLine::Since { .. } => false,
-            SessionLine::Find { .. } => true,
-            SessionLine::Point { .. } => true,
-            SessionLine::Offset { .. } => true,
-        }
+        matches!(
+            self,
+            SessionLine::Find { .. } | SessionLine::Point { .. } | SessionLine::Offset { .. }
+        )
     }
 
     /// The name under which it keeps an anchor, if it does.
@@ -123,19 +104,8 @@ impl SessionLine {
         ensures { option_copied result ≡ anchor_name self.now }
     {
         match self {
-            SessionLine::Edit { .. } => None,
-            SessionLine::Undo { .. } => None,
-            SessionLine::Op(_) => None,
-            SessionLine::Uop(_) => None,
-            SessionLine::Give { .. } => None,
-            SessionLine::Text { .. } => None,
             SessionLine::Anchor { name, .. } => Some(name.as_str()),
-            SessionLine::Where { .. } => None,
-            SessionLine::Mark { .. } => None,
-            SessionLine::Since { .. } => None,
-            SessionLine::Find { .. } => None,
-            SessionLine::Point { .. } => None,
-            SessionLine::Offset { .. } => None,
+            _ => None,
         }
     }
 
@@ -144,19 +114,8 @@ impl SessionLine {
         ensures { option_copied result ≡ mark_name self.now }
     {
         match self {
-            SessionLine::Edit { .. } => None,
-            SessionLine::Undo { .. } => None,
-            SessionLine::Op(_) => None,
-            SessionLine::Uop(_) => None,
-            SessionLine::Give { .. } => None,
-            SessionLine::Text { .. } => None,
-            SessionLine::Anchor { .. } => None,
-            SessionLine::Where { .. } => None,
             SessionLine::Mark { name, .. } => Some(name.as_str()),
-            SessionLine::Since { .. } => None,
-            SessionLine::Find { .. } => None,
-            SessionLine::Point { .. } => None,
-            SessionLine::Offset { .. } => None,
+            _ => None,
         }
     }
 }

@@ -2,8 +2,9 @@
 ghost use Rattle.std.specs.Prelude.{◌≡◌, ◌++◌, false, length, string_bytes, take, true, OnOk, OnErr, IfOk};
 ghost use Rattle.std.specs.Iterator.{IsFinite};
 ghost use Rattle.json.specs.Print.{escape, quoted};
-ghost use Rattle.session_lines.specs.Report.{made_line, settled_line, given_words, give_line, text_front, text_line, place_fault_words, anchor_words, anchor_line, where_words, where_line, mark_line, edit_words, edits_words, since_fault_words, since_words, since_line, starts_words, find_words, place_words, clips_words, point_words, offset_words, query_word, query_words, query_line, counts_words, waits_words, replica_line, final_front, final_line, head_words, OnText, with_text, fault_words, op_fault_words, undo_fault_words, refused_line, refused_undo_line, unnamed_line, refused_op_line, checked_line, line_text, has_string, is_end};
+ghost use Rattle.session_lines.specs.Report.{made_line, settled_line, given_words, give_line, text_line, place_fault_words, anchor_words, anchor_line, where_words, where_line, mark_line, edit_words, edits_words, since_fault_words, since_words, since_line, starts_words, find_words, place_words, clips_words, point_words, offset_words, query_word, query_words, query_line, counts_words, waits_words, replica_line, head_words, OnText, fault_words, op_fault_words, undo_fault_words, refused_line, refused_undo_line, unnamed_line, refused_op_line, checked_line, line_text, has_string, is_end};
 
+use crate::OutOfMemory;
 use crate::report::{
     AnchorAnswer, FindAnswer, Given, OffsetAnswer, PointAnswer, QueryAnswer, Report, SinceAnswer,
     TextHead, WhereAnswer,
@@ -11,12 +12,12 @@ use crate::report::{
 use json::Writer;
 use lamport_clock::Lamport;
 use op_model::{EditFault, OpFault, PlaceFault, SinceFault, TextEdit, UndoFault, Unit};
-use std::alloc::{AllocError, Global};
+use std::alloc::Global;
 use std::fmt::Write;
 use std::mem;
 
 // Writes a text as a JSON string at the end of `out`. On want of memory nothing is written.
-fn push_quoted(alloc: Global, out: &mut Vec<u8>, text: &str) -> Result<(), AllocError>
+fn push_quoted(alloc: Global, out: &mut Vec<u8>, text: &str) -> Result<(), OutOfMemory>
     ensures ok { OnOk result (out.new.items ≡ out.old.items ++ quoted text.now) }
     ensures err { OnErr result (out.new.items ≡ out.old.items) }
 {
@@ -33,7 +34,7 @@ fn push_parts(
     front: &str,
     text: &str,
     back: &str,
-) -> Result<(), AllocError>
+) -> Result<(), OutOfMemory>
     ensures ok { OnOk result (out.new.items
         ≡ out.old.items ++ (front.now ++ (quoted text.now ++ back.now))) }
     ensures kept { take (length out.old.items) out.new.items ≡ out.old.items }
@@ -50,7 +51,7 @@ fn push_around(
     front: &str,
     text: &str,
     back: &str,
-) -> Result<(), AllocError>
+) -> Result<(), OutOfMemory>
     ensures ok { OnOk result (out.new.items
         ≡ out.old.items ++ (front.now ++ (quoted text.now ++ back.now))) }
     ensures err { OnErr result (out.new.items ≡ out.old.items) }
@@ -70,7 +71,7 @@ fn push_escaped(
     out: &mut Vec<u8>,
     string: &mut Vec<u8>,
     text: &str,
-) -> Result<(), AllocError>
+) -> Result<(), OutOfMemory>
     ensures ok { OnOk result (out.new.items ≡ out.old.items ++ escape text.now) }
     ensures err { OnErr result (out.new.items ≡ out.old.items) }
 {
@@ -85,7 +86,7 @@ fn push_text<'a, I: Iterator<Item = &'a str> + Drop>(
     alloc: Global,
     out: &mut Vec<u8>,
     parts: I,
-) -> Result<(), AllocError>
+) -> Result<(), OutOfMemory>
     requires can { I.can_next parts }
     requires ends { IsFinite (I.remaining parts) }
     ensures ok { OnOk result (OnText I.next_gives parts
@@ -102,14 +103,14 @@ fn push_text<'a, I: Iterator<Item = &'a str> + Drop>(
 }
 
 #[tactic(auto, unfolding(crate::specs::Report::made_line))]
-fn push_made(out: &mut String, n: u64, stamp: Lamport) -> Result<(), AllocError>
+fn push_made(out: &mut String, n: u64, stamp: Lamport) -> Result<(), OutOfMemory>
     ensures { OnOk result (string_bytes out.new ≡ string_bytes out.old ++ made_line n stamp) }
 {
     let Lamport { value, replica } = stamp;
     write!(out, "{n}: {value}.{replica}\n")
 }
 
-fn fault_text(alloc: Global, fault: EditFault) -> Result<String, AllocError>
+fn fault_words(alloc: Global, fault: EditFault) -> Result<String, OutOfMemory>
     ensures { IfOk result (λ s. string_bytes s ≡ fault_words fault) }
 {
     match fault {
@@ -128,7 +129,7 @@ fn fault_text(alloc: Global, fault: EditFault) -> Result<String, AllocError>
 }
 
 // A fault that an edit has too is told by the same words.
-fn op_fault_text(alloc: Global, fault: OpFault) -> Result<String, AllocError>
+fn op_fault_words(alloc: Global, fault: OpFault) -> Result<String, OutOfMemory>
     ensures { IfOk result (λ s. string_bytes s ≡ op_fault_words fault) }
 {
     let shared = match fault {
@@ -146,30 +147,35 @@ fn op_fault_text(alloc: Global, fault: OpFault) -> Result<String, AllocError>
         OpFault::Full { unit, held, adds } => EditFault::Full { unit, held, adds },
         OpFault::OutOfMemory => EditFault::OutOfMemory,
     };
-    fault_text(alloc, shared)
+    fault_words(alloc, shared)
 }
 
 // A fault that an edit or a taken operation has too is told by the same words.
-fn undo_fault_text(alloc: Global, fault: UndoFault) -> Result<String, AllocError>
+fn undo_fault_words(alloc: Global, fault: UndoFault) -> Result<String, OutOfMemory>
     ensures { IfOk result (λ s. string_bytes s ≡ undo_fault_words fault) }
 {
     match fault {
-        UndoFault::NoSuchEdit(stamp) => op_fault_text(alloc, OpFault::NoSuchEdit(stamp)),
+        UndoFault::NoSuchEdit(stamp) => op_fault_words(alloc, OpFault::NoSuchEdit(stamp)),
         UndoFault::Twice(stamp) => format!(in alloc; "twice {stamp}"),
         UndoFault::CountEnd(stamp) => format!(in alloc; "countend {stamp}"),
-        UndoFault::ClockEnd => fault_text(alloc, EditFault::ClockEnd),
+        UndoFault::ClockEnd => fault_words(alloc, EditFault::ClockEnd),
         UndoFault::Full { unit, held, adds } => {
-            fault_text(alloc, EditFault::Full { unit, held, adds })
+            fault_words(alloc, EditFault::Full { unit, held, adds })
         }
-        UndoFault::OutOfMemory => fault_text(alloc, EditFault::OutOfMemory),
+        UndoFault::OutOfMemory => fault_words(alloc, EditFault::OutOfMemory),
     }
 }
 
 #[tactic(auto, unfolding(crate::specs::Report::refused_line))]
-fn push_refused(alloc: Global, out: &mut String, n: u64, fault: EditFault) -> Result<(), AllocError>
+fn push_refused(
+    alloc: Global,
+    out: &mut String,
+    n: u64,
+    fault: EditFault,
+) -> Result<(), OutOfMemory>
     ensures { OnOk result (string_bytes out.new ≡ string_bytes out.old ++ refused_line n fault) }
 {
-    let words = fault_text(alloc, fault)?;
+    let words = fault_words(alloc, fault)?;
     write!(out, "{n}: {words}\n")
 }
 
@@ -179,29 +185,29 @@ fn push_refused_undo(
     out: &mut String,
     n: u64,
     fault: UndoFault,
-) -> Result<(), AllocError>
+) -> Result<(), OutOfMemory>
     ensures { OnOk result (string_bytes out.new
         ≡ string_bytes out.old ++ refused_undo_line n fault) }
 {
-    let words = undo_fault_text(alloc, fault)?;
+    let words = undo_fault_words(alloc, fault)?;
     write!(out, "{n}: {words}\n")
 }
 
 #[tactic(auto, unfolding(crate::specs::Report::unnamed_line))]
-fn push_unnamed(out: &mut String, n: u64, named: u64) -> Result<(), AllocError>
+fn push_unnamed(out: &mut String, n: u64, named: u64) -> Result<(), OutOfMemory>
     ensures { OnOk result (string_bytes out.new ≡ string_bytes out.old ++ unnamed_line n named) }
 {
     write!(out, "{n}: nothing {named}\n")
 }
 
 #[tactic(auto, unfolding(crate::specs::Report::settled_line))]
-fn push_settled(out: &mut String, r: u16, count: u64) -> Result<(), AllocError>
+fn push_settled(out: &mut String, r: u16, count: u64) -> Result<(), OutOfMemory>
     ensures { OnOk result (string_bytes out.new ≡ string_bytes out.old ++ settled_line r count) }
 {
     write!(out, "settled {r}: {count}\n")
 }
 
-fn given_text(alloc: Global, answer: Given) -> Result<String, AllocError>
+fn given_words(alloc: Global, answer: Given) -> Result<String, OutOfMemory>
     ensures { IfOk result (λ s. string_bytes s ≡ given_words answer) }
 {
     match answer {
@@ -209,7 +215,7 @@ fn given_text(alloc: Global, answer: Given) -> Result<String, AllocError>
         Given::Waits { replica, value } => format!(in alloc; "waits {replica} {value}"),
         Given::Repeat => String::from_str(alloc, "repeat"),
         Given::Nothing => String::from_str(alloc, "nothing"),
-        Given::Fault(fault) => op_fault_text(alloc, fault),
+        Given::Fault(fault) => op_fault_words(alloc, fault),
     }
 }
 
@@ -220,28 +226,14 @@ fn push_give(
     n: u64,
     r: u16,
     answer: Given,
-) -> Result<(), AllocError>
+) -> Result<(), OutOfMemory>
     ensures { OnOk result (string_bytes out.new ≡ string_bytes out.old ++ give_line n r answer) }
 {
-    let words = given_text(alloc, answer)?;
+    let words = given_words(alloc, answer)?;
     write!(out, "give {n} to {r}: {words}\n")
 }
 
-// What stands before the text.
-fn text_front(
-    alloc: Global,
-    r: u16,
-    bytes: u64,
-    row: u64,
-    column: u64,
-    rows: u64,
-) -> Result<String, AllocError>
-    ensures { IfOk result (λ s. string_bytes s ≡ text_front r bytes row column rows) }
-{
-    format!(in alloc; "text {r}: {bytes} bytes, end {row}:{column}, {rows} rows, ")
-}
-
-fn place_fault_text(alloc: Global, fault: PlaceFault) -> Result<String, AllocError>
+fn place_fault_words(alloc: Global, fault: PlaceFault) -> Result<String, OutOfMemory>
     ensures { IfOk result (λ s. string_bytes s ≡ place_fault_words fault) }
 {
     match fault {
@@ -250,12 +242,12 @@ fn place_fault_text(alloc: Global, fault: PlaceFault) -> Result<String, AllocErr
     }
 }
 
-fn anchor_text(alloc: Global, answer: AnchorAnswer) -> Result<String, AllocError>
+fn anchor_words(alloc: Global, answer: AnchorAnswer) -> Result<String, OutOfMemory>
     ensures { IfOk result (λ s. string_bytes s ≡ anchor_words answer) }
 {
     match answer {
         AnchorAnswer::Set => String::from_str(alloc, "set"),
-        AnchorAnswer::Fault(fault) => place_fault_text(alloc, fault),
+        AnchorAnswer::Fault(fault) => place_fault_words(alloc, fault),
     }
 }
 
@@ -265,16 +257,16 @@ fn push_anchor(
     out: &mut Vec<u8>,
     name: &str,
     answer: AnchorAnswer,
-) -> Result<(), AllocError>
+) -> Result<(), OutOfMemory>
     ensures ok { OnOk result (out.new.items ≡ out.old.items ++ anchor_line name.now answer) }
     ensures err { OnErr result (out.new.items ≡ out.old.items) }
 {
-    let words = anchor_text(alloc, answer)?;
+    let words = anchor_words(alloc, answer)?;
     let back = format!(in alloc; ": {words}\n")?;
     push_around(alloc, out, "anchor ", name, back.as_str())
 }
 
-fn where_text(alloc: Global, answer: WhereAnswer) -> Result<String, AllocError>
+fn where_words(alloc: Global, answer: WhereAnswer) -> Result<String, OutOfMemory>
     ensures { IfOk result (λ s. string_bytes s ≡ where_words answer) }
 {
     match answer {
@@ -291,24 +283,24 @@ fn push_where(
     name: &str,
     r: u16,
     answer: WhereAnswer,
-) -> Result<(), AllocError>
+) -> Result<(), OutOfMemory>
     ensures ok { OnOk result (out.new.items ≡ out.old.items ++ where_line name.now r answer) }
     ensures err { OnErr result (out.new.items ≡ out.old.items) }
 {
-    let words = where_text(alloc, answer)?;
+    let words = where_words(alloc, answer)?;
     let back = format!(in alloc; " at {r}: {words}\n")?;
     push_around(alloc, out, "where ", name, back.as_str())
 }
 
 #[tactic(auto, unfolding(crate::specs::Report::mark_line))]
-fn push_mark(alloc: Global, out: &mut Vec<u8>, name: &str) -> Result<(), AllocError>
+fn push_mark(alloc: Global, out: &mut Vec<u8>, name: &str) -> Result<(), OutOfMemory>
     ensures ok { OnOk result (out.new.items ≡ out.old.items ++ mark_line name.now) }
     ensures err { OnErr result (out.new.items ≡ out.old.items) }
 {
     push_around(alloc, out, "mark ", name, ": set\n")
 }
 
-fn push_edit(out: &mut String, edit: &TextEdit) -> Result<(), AllocError>
+fn push_edit(out: &mut String, edit: &TextEdit) -> Result<(), OutOfMemory>
     ensures { OnOk result (string_bytes out.new ≡ string_bytes out.old ++ edit_words edit.now) }
 {
     let (start, end) = edit.old;
@@ -316,7 +308,7 @@ fn push_edit(out: &mut String, edit: &TextEdit) -> Result<(), AllocError>
     write!(out, "{start}..{end} -> {new_start}..{new_end}")
 }
 
-fn push_edits(out: &mut String, edits: &[TextEdit]) -> Result<(), AllocError>
+fn push_edits(out: &mut String, edits: &[TextEdit]) -> Result<(), OutOfMemory>
     ensures { OnOk result (string_bytes out.new ≡ string_bytes out.old ++ edits_words edits.now) }
 {
     let [first, others @ ..] = edits else {
@@ -330,7 +322,7 @@ fn push_edits(out: &mut String, edits: &[TextEdit]) -> Result<(), AllocError>
     Ok(())
 }
 
-fn push_since_fault(out: &mut String, fault: SinceFault) -> Result<(), AllocError>
+fn push_since_fault(out: &mut String, fault: SinceFault) -> Result<(), OutOfMemory>
     ensures { OnOk result (string_bytes out.new ≡ string_bytes out.old ++ since_fault_words fault) }
 {
     match fault {
@@ -340,7 +332,7 @@ fn push_since_fault(out: &mut String, fault: SinceFault) -> Result<(), AllocErro
     }
 }
 
-fn push_changes(out: &mut String, answer: &SinceAnswer) -> Result<(), AllocError>
+fn push_changes(out: &mut String, answer: &SinceAnswer) -> Result<(), OutOfMemory>
     ensures { OnOk result (string_bytes out.new ≡ string_bytes out.old ++ since_words answer.now) }
 {
     match answer {
@@ -356,7 +348,7 @@ fn push_since(
     name: &str,
     r: u16,
     answer: &SinceAnswer,
-) -> Result<(), AllocError>
+) -> Result<(), OutOfMemory>
     ensures ok { OnOk result (out.new.items ≡ out.old.items ++ since_line name.now r answer.now) }
     ensures err { OnErr result (out.new.items ≡ out.old.items) }
 {
@@ -366,7 +358,7 @@ fn push_since(
     push_around(alloc, out, "since ", name, back.as_str())
 }
 
-fn push_starts(out: &mut String, starts: &[u64]) -> Result<(), AllocError>
+fn push_starts(out: &mut String, starts: &[u64]) -> Result<(), OutOfMemory>
     ensures { OnOk result (string_bytes out.new ≡ string_bytes out.old ++ starts_words starts.now) }
 {
     let [first, others @ ..] = starts else {
@@ -379,7 +371,7 @@ fn push_starts(out: &mut String, starts: &[u64]) -> Result<(), AllocError>
     Ok(())
 }
 
-fn push_found(out: &mut String, answer: &FindAnswer) -> Result<(), AllocError>
+fn push_found(out: &mut String, answer: &FindAnswer) -> Result<(), OutOfMemory>
     ensures { OnOk result (string_bytes out.new ≡ string_bytes out.old ++ find_words answer.now) }
 {
     match answer {
@@ -388,19 +380,19 @@ fn push_found(out: &mut String, answer: &FindAnswer) -> Result<(), AllocError>
     }
 }
 
-fn place_text(alloc: Global, row: u64, column: u64) -> Result<String, AllocError>
+fn place_words(alloc: Global, row: u64, column: u64) -> Result<String, OutOfMemory>
     ensures { IfOk result (λ s. string_bytes s ≡ place_words row column) }
 {
     format!(in alloc; "{row}:{column}")
 }
 
-fn clips_text(alloc: Global, left: &str, right: &str) -> Result<String, AllocError>
+fn clips_words(alloc: Global, left: &str, right: &str) -> Result<String, OutOfMemory>
     ensures { IfOk result (λ s. string_bytes s ≡ clips_words left.now right.now) }
 {
     format!(in alloc; "none {left} {right}")
 }
 
-fn point_text(alloc: Global, answer: PointAnswer) -> Result<String, AllocError>
+fn point_words(alloc: Global, answer: PointAnswer) -> Result<String, OutOfMemory>
     ensures { IfOk result (λ s. string_bytes s ≡ point_words answer) }
 {
     match answer {
@@ -409,24 +401,24 @@ fn point_text(alloc: Global, answer: PointAnswer) -> Result<String, AllocError>
             utf16,
             point_utf16,
         } => {
-            let place = place_text(alloc, point.row, point.column)?;
+            let place = place_words(alloc, point.row, point.column)?;
             let units = utf16.0;
-            let place_utf16 = place_text(alloc, point_utf16.row, point_utf16.column)?;
+            let place_utf16 = place_words(alloc, point_utf16.row, point_utf16.column)?;
             format!(in alloc; "{place} {units} {place_utf16}")
         }
         PointAnswer::Clips { left, right } => format!(in alloc; "none {left} {right}"),
     }
 }
 
-fn offset_text(alloc: Global, answer: OffsetAnswer) -> Result<String, AllocError>
+fn offset_words(alloc: Global, answer: OffsetAnswer) -> Result<String, OutOfMemory>
     ensures { IfOk result (λ s. string_bytes s ≡ offset_words answer) }
 {
     match answer {
         OffsetAnswer::Place { offset } => format!(in alloc; "{offset}"),
         OffsetAnswer::Clips { left, right } => {
-            let left = place_text(alloc, left.row, left.column)?;
-            let right = place_text(alloc, right.row, right.column)?;
-            clips_text(alloc, left.as_str(), right.as_str())
+            let left = place_words(alloc, left.row, left.column)?;
+            let right = place_words(alloc, right.row, right.column)?;
+            clips_words(alloc, left.as_str(), right.as_str())
         }
     }
 }
@@ -441,17 +433,17 @@ fn query_word(answer: &QueryAnswer) -> &'static str
     }
 }
 
-fn push_answer(alloc: Global, out: &mut String, answer: &QueryAnswer) -> Result<(), AllocError>
+fn push_answer(alloc: Global, out: &mut String, answer: &QueryAnswer) -> Result<(), OutOfMemory>
     ensures { OnOk result (string_bytes out.new ≡ string_bytes out.old ++ query_words answer.now) }
 {
     match answer {
         QueryAnswer::Find(found) => push_found(out, found),
         QueryAnswer::Point(point) => {
-            let words = point_text(alloc, *point)?;
+            let words = point_words(alloc, *point)?;
             out.push_str(words.as_str())
         }
         QueryAnswer::Offset(offset) => {
-            let words = offset_text(alloc, *offset)?;
+            let words = offset_words(alloc, *offset)?;
             out.push_str(words.as_str())
         }
     }
@@ -464,7 +456,7 @@ fn push_query(
     number: u64,
     applied: u64,
     answer: &QueryAnswer,
-) -> Result<(), AllocError>
+) -> Result<(), OutOfMemory>
     ensures { OnOk result (string_bytes out.new
         ≡ string_bytes out.old ++ query_line number applied answer.now) }
 {
@@ -483,22 +475,22 @@ fn push_replica(
     applied: u64,
     waiting: u64,
     refused: u64,
-) -> Result<(), AllocError>
+) -> Result<(), OutOfMemory>
     ensures { OnOk result (string_bytes out.new
         ≡ string_bytes out.old ++ replica_line r bytes rows applied waiting refused) }
 {
-    write_counts(out, r, bytes, rows, applied)?;
-    write_waits(out, waiting, refused)
+    push_counts(out, r, bytes, rows, applied)?;
+    push_waits(out, waiting, refused)
 }
 
 // What is counted of a replica's text and of its operations.
-fn write_counts(
+fn push_counts(
     out: &mut String,
     r: u16,
     bytes: u64,
     rows: u64,
     applied: u64,
-) -> Result<(), AllocError>
+) -> Result<(), OutOfMemory>
     ensures { OnOk result (string_bytes out.new
         ≡ string_bytes out.old ++ counts_words r bytes rows applied) }
 {
@@ -508,7 +500,7 @@ fn write_counts(
     )
 }
 
-fn write_waits(out: &mut String, waiting: u64, refused: u64) -> Result<(), AllocError>
+fn push_waits(out: &mut String, waiting: u64, refused: u64) -> Result<(), OutOfMemory>
     ensures { OnOk result (string_bytes out.new
         ≡ string_bytes out.old ++ waits_words waiting refused) }
 {
@@ -522,11 +514,11 @@ fn push_refused_op(
     r: u16,
     stamp: Lamport,
     fault: OpFault,
-) -> Result<(), AllocError>
+) -> Result<(), OutOfMemory>
     ensures { OnOk result (string_bytes out.new
         ≡ string_bytes out.old ++ refused_op_line r stamp fault) }
 {
-    let words = op_fault_text(alloc, fault)?;
+    let words = op_fault_words(alloc, fault)?;
     write!(out, "refused {r}: {stamp} {words}\n")
 }
 
@@ -537,7 +529,7 @@ fn push_checked(
     replicas: u64,
     operations: u64,
     queries: u64,
-) -> Result<(), AllocError>
+) -> Result<(), OutOfMemory>
     ensures { OnOk result (string_bytes out.new
         ≡ string_bytes out.old ++ checked_line lines replicas operations queries) }
 {
@@ -548,40 +540,26 @@ fn push_checked(
 }
 
 // What stands before the text.
-fn final_front(alloc: Global, r: u16) -> Result<String, AllocError>
-    ensures { IfOk result (λ s. string_bytes s ≡ final_front r) }
-{
-    format!(in alloc; "final {r}: ")
-}
-
-#[tactic(auto, unfolding(crate::specs::Report::final_line))]
-fn push_final(alloc: Global, out: &mut Vec<u8>, r: u16, text: &str) -> Result<(), AllocError>
-    ensures ok { OnOk result (out.new.items ≡ out.old.items ++ final_line r text.now) }
-    ensures err { OnErr result (out.new.items ≡ out.old.items) }
-{
-    let front = final_front(alloc, r)?;
-    push_around(alloc, out, front.as_str(), text, "\n")
-}
-
-// What stands before the text.
-fn head_text(alloc: Global, head: TextHead) -> Result<String, AllocError>
+fn head_words(alloc: Global, head: TextHead) -> Result<String, OutOfMemory>
     ensures { IfOk result (λ s. string_bytes s ≡ head_words head) }
 {
     match head {
-        TextHead::Text {
+        TextHead::CurrentText {
             replica,
             bytes,
             row,
             column,
             rows,
-        } => text_front(alloc, replica, bytes, row, column, rows),
-        TextHead::Final { replica } => final_front(alloc, replica),
+        } => {
+            format!(in alloc; "text {replica}: {bytes} bytes, end {row}:{column}, {rows} rows, ")
+        }
+        TextHead::FinalText { replica } => format!(in alloc; "final {replica}: "),
     }
 }
 
 // A line at the end of a report.
 #[tactic(auto, unfolding(crate::specs::Report::line_text))]
-fn push_end(alloc: Global, out: &mut String, line: &Report) -> Result<(), AllocError>
+fn push_end(alloc: Global, out: &mut String, line: &Report) -> Result<(), OutOfMemory>
     requires { is_end line.now ≡ true }
     ensures { OnOk result (string_bytes out.new ≡ string_bytes out.old ++ line_text line.now) }
 {
@@ -611,7 +589,7 @@ fn push_end(alloc: Global, out: &mut String, line: &Report) -> Result<(), AllocE
 
 // A line with no JSON string in it.
 #[tactic(auto, unfolding(crate::specs::Report::line_text))]
-fn push_plain(alloc: Global, out: &mut String, line: &Report) -> Result<(), AllocError>
+fn push_plain(alloc: Global, out: &mut String, line: &Report) -> Result<(), OutOfMemory>
     requires { has_string line.now ≡ false }
     ensures { OnOk result (string_bytes out.new ≡ string_bytes out.old ++ line_text line.now) }
 {
@@ -636,7 +614,7 @@ fn push_plain(alloc: Global, out: &mut String, line: &Report) -> Result<(), Allo
 }
 
 // Writes a line with no JSON string in it. On want of memory nothing is written.
-fn write_plain(alloc: Global, out: &mut Vec<u8>, line: &Report) -> Result<(), AllocError>
+fn write_plain(alloc: Global, out: &mut Vec<u8>, line: &Report) -> Result<(), OutOfMemory>
     requires { has_string line.now ≡ false }
     ensures ok { OnOk result (out.new.items ≡ out.old.items ++ line_text line.now) }
     ensures err { OnErr result (out.new.items ≡ out.old.items) }
@@ -652,20 +630,13 @@ fn write_plain(alloc: Global, out: &mut Vec<u8>, line: &Report) -> Result<(), Al
 ///
 /// `OutOfMemory`; then nothing was written.
 #[tactic(auto, unfolding(crate::specs::Report::line_text, crate::specs::Report::text_line))]
-pub fn write_line(alloc: Global, out: &mut Vec<u8>, line: &Report) -> Result<(), AllocError>
+pub fn write_line(alloc: Global, out: &mut Vec<u8>, line: &Report) -> Result<(), OutOfMemory>
     ensures ok { OnOk result (out.new.items ≡ out.old.items ++ line_text line.now) }
     ensures err { OnErr result (out.new.items ≡ out.old.items) }
 {
     match line {
-        Report::Text {
-            replica,
-            bytes,
-            row,
-            column,
-            rows,
-            text,
-        } => {
-            let front = text_front(alloc, *replica, *bytes, *row, *column, *rows)?;
+        Report::Text { head, text } => {
+            let front = head_words(alloc, *head)?;
             push_around(alloc, out, front.as_str(), text.as_str(), "\n")
         }
         Report::Anchor { name, answer } => push_anchor(alloc, out, name.as_str(), *answer),
@@ -680,7 +651,6 @@ pub fn write_line(alloc: Global, out: &mut Vec<u8>, line: &Report) -> Result<(),
             replica,
             answer,
         } => push_since(alloc, out, name.as_str(), *replica, answer),
-        Report::Final { replica, text } => push_final(alloc, out, *replica, text.as_str()),
         _ => write_plain(alloc, out, line),
     }
 }
@@ -691,14 +661,14 @@ fn push_with_text<'a, I: Iterator<Item = &'a str> + Drop>(
     out: &mut Vec<u8>,
     head: TextHead,
     parts: I,
-) -> Result<(), AllocError>
+) -> Result<(), OutOfMemory>
     requires can { I.can_next parts }
     requires ends { IsFinite (I.remaining parts) }
     ensures ok { OnOk result (OnText I.next_gives parts
-        (λ text. out.new.items ≡ out.old.items ++ line_text (with_text head text))) }
+        (λ text. out.new.items ≡ out.old.items ++ line_text (Report.Text head text))) }
     ensures kept { take (length out.old.items) out.new.items ≡ out.old.items }
 {
-    let front = head_text(alloc, head)?;
+    let front = head_words(alloc, head)?;
     out.extend_from_slice(front.as_bytes())?;
     push_text(alloc, out, parts)?;
     out.push(b'\n')?;
@@ -717,11 +687,11 @@ pub fn write_text<'a, I: Iterator<Item = &'a str> + Drop>(
     out: &mut Vec<u8>,
     head: TextHead,
     parts: I,
-) -> Result<(), AllocError>
+) -> Result<(), OutOfMemory>
     requires can { I.can_next parts }
     requires ends { IsFinite (I.remaining parts) }
     ensures ok { OnOk result (OnText I.next_gives parts
-        (λ text. out.new.items ≡ out.old.items ++ line_text (with_text head text))) }
+        (λ text. out.new.items ≡ out.old.items ++ line_text (Report.Text head text))) }
     ensures err { OnErr result (out.new.items ≡ out.old.items) }
 {
     let start = out.len();

@@ -8,10 +8,10 @@ use Rattle.serde_json.specs.Data.{Data}
 use Rattle.serde_json.specs.View.{items_of}
 use Rattle.serde_json.specs.Written.{compact_text}
 use Rattle.session_lines.specs.Cut.{lines_of, onto_first}
-use Rattle.session_lines.specs.Heading.{are_replicas, headed, header_with, replicas_from}
+use Rattle.session_lines.specs.Heading.{are_replicas, header_of_value, header_with, replicas_from}
 use Rattle.session_lines.specs.Json.{list_of}
 use Rattle.session_lines.specs.Parts.{all_of, id_of}
-use Rattle.session_lines.specs.Session.{decoded, header_of, header_read, is_operation, or_word, rest_of, session_of, then_from, with_header}
+use Rattle.session_lines.specs.Session.{session_of_text, header_of, header_or_word, is_operation, or_word, rest_of, session_of, then_from, with_header}
 use Rattle.session_lines.specs.declared.fault.DecodeFault.TheVariants.{Lines}
 use Rattle.session_lines.specs.declared.fault.Word.TheVariants as word
 use Rattle.session_lines.specs.declared.header.Header.{Header}
@@ -61,8 +61,8 @@ module _ (n : ℕ) (some : 1 ≤ n) (most : n ≤ 16) where
   head_short : IsLine (header_value base_text (ids_to n)) 2
   head_short = (plain_head, (omega arith, (plain_base, (ids_short (ids_to n) (ids_to n) known, tt))))
 
-  head_form : headed (header_value base_text (ids_to n)) ≡ Some (record { base = base_text; replicas = ids_to n })
-  unfolding headed
+  head_form : header_of_value (header_value base_text (ids_to n)) ≡ Some (record { base = base_text; replicas = ids_to n })
+  unfolding header_of_value
   head_form =
       let ds : List Data = map number_value (ids_to n) in
       let same : list_of (items_of ds) ≡ ds = list_of-items ds in
@@ -73,7 +73,7 @@ module _ (n : ℕ) (some : 1 ≤ n) (most : n ≤ 16) where
 
   head_read : header_of (compact_text (header_value base_text (ids_to n))) ≡ Ok (record { base = base_text; replicas = ids_to n })
   unfolding header_of
-  head_read = ap header_read (value_back (header_value base_text (ids_to n)) 2 (omega arith) head_short) ∙ ap (or_word word.Header) head_form
+  head_read = ap header_or_word (value_back (header_value base_text (ids_to n)) 2 (omega arith) head_short) ∙ ap (or_word word.Header) head_form
 
 -- ---- the lines of the text
 
@@ -95,8 +95,8 @@ cut_lines ids a b (l ∷ ls) h =
 -- ---- the session
 
 module _ (n : ℕ) (some : 1 ≤ n) (most : n ≤ 16) where
-  session_read : (b : ℕ) (ls : List SessionLine) → AreRead (ids_to n) 0 ls b → length ls ≤ 1000000 → decoded (session_text (session_with n ls)) ≡ Ok (session_with n ls)
-  unfolding decoded
+  session_read : (b : ℕ) (ls : List SessionLine) → AreRead (ids_to n) 0 ls b → length ls ≤ 1000000 → session_of_text (session_text (session_with n ls)) ≡ Ok (session_with n ls)
+  unfolding session_of_text
   session_read b ls h short =
       let d : Data = header_value base_text (ids_to n) in
       let first : List ℕ = compact_text d in

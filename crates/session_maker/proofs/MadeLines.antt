@@ -9,14 +9,14 @@ use Rattle.std.proofs.lemmas.Nat.{mul-le}
 use Rattle.session_lines.specs.Parts.{is_among}
 use Rattle.session_lines.specs.declared.session.SessionLine.{SessionLine}
 use Rattle.session_lines.specs.declared.session.SessionLine.TheVariants.{Give}
-use Rattle.session_maker.specs.Draws.{drawn, next}
+use Rattle.session_maker.specs.Draws.{draw_below, next}
 use Rattle.session_maker.specs.Made.{gives_behind, gives_of, gives_to, ids_to, last_eight, made_lines, round_of, rounds_from, turn_at}
 use Rattle.session_maker.specs.Turns.{author_of, delete_turn, insert_turn, turn_of, undo_turn}
 use Rattle.session_maker.proofs.WrittenLines.{AreRead, are_read-append, edit_read, gives_read, known_from, known_id, numbers_from, plain_letters, plain_nothing, undo_read}
 
 -- ---- turns
 
-drawn_small : (m x : ℕ) → drawn m (next x) < 2 ^ 31
+drawn_small : (m x : ℕ) → draw_below m (next x) < 2 ^ 31
 drawn_small m x =
     let y : ℕ = next x in
     let small : y < 2 ^ 31 = omega arith in
@@ -24,32 +24,32 @@ drawn_small m x =
 
 module _ (ids : List ℕ) (a i r l : ℕ) (e : a + 1 ≡ i) (fits : i < 2 ^ 32) (small : r ≤ 65535) (known : is_among ids r ≡ true) where
   undone : (x : ℕ) → 1 < i → AreRead ids a ((undo_turn r i x).0 ∷ []) i
-  undone x lt = (undo_read ids a r small known (1 + drawn (i - 1) (next x)) (omega arith) (omega arith) (omega arith), e)
+  undone x lt = (undo_read ids a r small known (1 + draw_below (i - 1) (next x)) (omega arith) (omega arith) (omega arith), e)
 
   deleted : (x : ℕ) → AreRead ids a ((delete_turn r l x).0 ∷ []) i
   deleted x =
       let y : ℕ = next x in
-      let s : ℕ = drawn (l + 1) y in
+      let s : ℕ = draw_below (l + 1) y in
       let start : s < 2 ^ 31 = drawn_small (l + 1) x in
-      let count : drawn 4 (next y) < 2 ^ 31 = drawn_small 4 y in
-      (edit_read ids a r small known s (min l (s + (1 + drawn 4 (next y)))) [] (omega arith) (omega arith) plain_nothing, e)
+      let count : draw_below 4 (next y) < 2 ^ 31 = drawn_small 4 y in
+      (edit_read ids a r small known s (min l (s + (1 + draw_below 4 (next y)))) [] (omega arith) (omega arith) plain_nothing, e)
 
   inserted : (x : ℕ) → AreRead ids a ((insert_turn r l x).0 ∷ []) i
   inserted x =
       let y : ℕ = next x in
       let z : ℕ = next y in
-      let s : ℕ = drawn (l + 1) y in
+      let s : ℕ = draw_below (l + 1) y in
       let start : s < 2 ^ 31 = drawn_small (l + 1) x in
-      let letter : drawn 26 (next z) < 26 = omega arith in (
-        edit_read ids a r small known s s (replicate (1 + drawn 3 z) (97 + drawn 26 (next z))) (omega arith) (omega arith)
-            (plain_letters (1 + drawn 3 z) (97 + drawn 26 (next z)) (omega arith) (omega arith)),
+      let letter : draw_below 26 (next z) < 26 = omega arith in (
+        edit_read ids a r small known s s (replicate (1 + draw_below 3 z) (97 + draw_below 26 (next z))) (omega arith) (omega arith)
+            (plain_letters (1 + draw_below 3 z) (97 + draw_below 26 (next z)) (omega arith) (omega arith)),
         e,
       )
 
   turn_read : (x : ℕ) → AreRead ids a ((turn_of i r l x).0 ∷ []) i
   turn_read x =
       let y : ℕ = next x in
-      let kind : ℕ = drawn 8 y in
+      let kind : ℕ = draw_below 8 y in
       let P : SessionLine × ℕ → Type 0 = λ p. AreRead ids a (p.0 ∷ []) i in
       cond_both (kind == 0 && nat_lt 1 i) (undo_turn r i y) (cond (kind == 1 || kind == 2) (delete_turn r l y) (insert_turn r l y)) P
       (λ h. undone y (ltb-true 1 i (and_parts (kind == 0) (nat_lt 1 i) h).1))

@@ -2,11 +2,11 @@
 use Rattle.std.proofs.Common.{◌≡◌, ◌⊎◌, inl, inr, ℕ, ◌<◌, ◌≤◌, ◌==◌, true, false, cond, sym, ap, ap₂, ◌∙◌, lt-ltb, le-ltb, ne_eqb}
 use Rattle.std.specs.Prelude.{◌&&◌, ◌||◌, nat_lt}
 use Rattle.session_lines.specs.declared.session.SessionLine.{SessionLine}
-use Rattle.session_maker.specs.Draws.{drawn, next}
+use Rattle.session_maker.specs.Draws.{draw_below, next}
 use Rattle.session_maker.specs.Turns.{delete_turn, insert_turn, turn_of, undo_turn}
 
 -- turn i of replica r, whose text has l bytes: k is the kind that is drawn by the state x, and y the state behind the draw
-module _ (i r l x y k : ℕ) (state : y ≡ next x) (kind : k ≡ drawn 8 (next x)) where
+module _ (i r l x y k : ℕ) (state : y ≡ next x) (kind : k ≡ draw_below 8 (next x)) where
   abbrev turn_with : ℕ → ℕ → SessionLine × ℕ
   turn_with k y = cond (k == 0 && nat_lt 1 i) (undo_turn r i y) (cond (k == 1 || k == 2) (delete_turn r l y) (insert_turn r l y))
 

@@ -10,9 +10,9 @@ use Rattle.json.specs.Print.{escape, escape_byte, quoted}
 use Rattle.json.proofs.Printed.Strings.{escape_byte_plain}
 use Rattle.serde_json.specs.Written.{compact_text}
 use Rattle.op_model.specs.Choice.{first_of, when}
-use Rattle.session_lines.specs.Forms.{edit_with, give_with, shaped, undo_with}
+use Rattle.session_lines.specs.Forms.{edit_with, give_with, line_of_value, undo_with}
 use Rattle.session_lines.specs.Parts.{is_among}
-use Rattle.session_lines.specs.Session.{formed, is_known, is_named, is_number_of, is_numbered, is_operation, line_of, line_read, operation_count, rest_of, then_from, unless}
+use Rattle.session_lines.specs.Session.{form_or_word, is_known, is_named, is_number_of, is_numbered, is_operation, line_of, line_or_word, operation_count, rest_of, then_from, unless}
 use Rattle.session_lines.specs.declared.fault.Word.TheVariants as word
 use Rattle.session_lines.specs.declared.session.SessionLine.{SessionLine}
 use Rattle.session_lines.specs.declared.session.SessionLine.TheVariants.{Undo, Give}
@@ -55,26 +55,26 @@ plain_nothing = refl
 abbrev pub IsRead : List ℕ → ℕ → SessionLine → Type 0
 IsRead ids count line = (is_plain (compact_text (line_value line)) ≡ true) × ((before : List SessionLine) → operation_count before ≡ count → line_of ids before (compact_text (line_value line)) ≡ Ok line)
 
-is_read : (ids : List ℕ) (count : ℕ) (line : SessionLine) → IsLine (line_value line) 3 → shaped (line_value line) ≡ Some line → is_known ids line ≡ true → is_numbered count line ≡ true
+is_read : (ids : List ℕ) (count : ℕ) (line : SessionLine) → IsLine (line_value line) 3 → line_of_value (line_value line) ≡ Some line → is_known ids line ≡ true → is_numbered count line ≡ true
     → ((before : List SessionLine) → is_named before line ≡ true) → IsRead ids count line
 unfolding line_of
 is_read ids count line h form known numbered named = (
   plain_line (line_value line) 3 h,
-  λ before e. ap (line_read ids before) (value_back (line_value line) 3 (omega arith) h) ∙ ap (formed ids before) form
+  λ before e. ap (line_or_word ids before) (value_back (line_value line) 3 (omega arith) h) ∙ ap (form_or_word ids before) form
       ∙ ap (λ a. unless line (first_of (when (not a) word.Replica ∷ when (not (is_numbered (operation_count before) line)) word.Number ∷ when (not (is_named before line)) word.Name ∷ []))) known
       ∙ ap₂ (λ b c. unless line (first_of (None ∷ when (not b) word.Number ∷ when (not c) word.Name ∷ []))) (ap (λ z. is_numbered z line) e ∙ numbered) (named before),
 )
 
-form_of_edit : (r s e : ℕ) (t : List ℕ) → r ≤ 65535 → shaped (line_value (edit_line r s e t)) ≡ Some (edit_line r s e t)
-unfolding shaped
+form_of_edit : (r s e : ℕ) (t : List ℕ) → r ≤ 65535 → line_of_value (line_value (edit_line r s e t)) ≡ Some (edit_line r s e t)
+unfolding line_of_value
 form_of_edit r s e t h = ap (λ (b : Bool). edit_with (cond b (Some r) None) (Some (record { start = s; end = e; text = t } ∷ []))) (le-leb r 65535 h)
 
-form_of_undo : (r m : ℕ) → r ≤ 65535 → shaped (line_value (Undo r (m ∷ []))) ≡ Some (Undo r (m ∷ []))
-unfolding shaped
+form_of_undo : (r m : ℕ) → r ≤ 65535 → line_of_value (line_value (Undo r (m ∷ []))) ≡ Some (Undo r (m ∷ []))
+unfolding line_of_value
 form_of_undo r m h = ap (λ (b : Bool). undo_with (cond b (Some r) None) (Some (m ∷ []))) (le-leb r 65535 h)
 
-form_of_give : (r m : ℕ) → r ≤ 65535 → shaped (line_value (Give r m)) ≡ Some (Give r m)
-unfolding shaped
+form_of_give : (r m : ℕ) → r ≤ 65535 → line_of_value (line_value (Give r m)) ≡ Some (Give r m)
+unfolding line_of_value
 form_of_give r m h = ap (λ (b : Bool). give_with (cond b (Some r) None) (Some m)) (le-leb r 65535 h)
 
 numbered_one : (count m : ℕ) → 1 ≤ m → m ≤ count → is_number_of count m ≡ true

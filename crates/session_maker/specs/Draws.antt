@@ -6,5 +6,5 @@ abbrev pub next : ℕ → ℕ
 next x = (x * 1103515245 + 12345) % 2 ^ 31
 
 -- what is drawn of the m numbers below m, by the state behind the draw
-abbrev pub drawn : ℕ → ℕ → ℕ
-drawn m x = x / 65536 % m
+abbrev pub draw_below : ℕ → ℕ → ℕ
+draw_below m x = x / 65536 % m

@@ -1,6 +1,6 @@
 -- What a session that is made is, read back from its text.
 use Rattle.std.specs.Prelude.{◌≡◌, ℕ, ◌≤◌, List, Ok}
-use Rattle.session_lines.specs.Session.{decoded}
+use Rattle.session_lines.specs.Session.{session_of_text}
 use Rattle.session_lines.specs.declared.session.SessionLine.{SessionLine}
 use Rattle.session_maker.specs.Made.{made_lines, session_with}
 use Rattle.session_maker.specs.Written.{session_text}
@@ -10,4 +10,4 @@ use Rattle.session_maker.specs.Written.{session_text}
 abbrev pub MadeSessionsDecode : Type 0 → Type 0
 MadeSessionsDecode S =
     (after : List SessionLine → S → S) → (length_at : ℕ → S → ℕ) → (s : S) → (seed n edits : ℕ) → 1 ≤ n → n ≤ 16 → edits ≤ 20000
-    → let session = session_with n (made_lines after length_at seed n edits s) in decoded (session_text session) ≡ Ok session
+    → let session = session_with n (made_lines after length_at seed n edits s) in session_of_text (session_text session) ≡ Ok session

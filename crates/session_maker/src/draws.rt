@@ -1,6 +1,6 @@
 //! The numbers that sessions are made of.
 ghost use Rattle.std.specs.Prelude.{◌≡◌, ◌<◌};
-ghost use Rattle.session_maker.specs.Draws.{drawn, next};
+ghost use Rattle.session_maker.specs.Draws.{draw_below, next};
 
 use std::marker::Model;
 
@@ -30,7 +30,7 @@ impl Draws {
     pub fn draw(&mut self, count: u64) -> u64
         requires { 0 < count }
         ensures state { self.new ≡ next self.old }
-        ensures drawn { result ≡ drawn count (next self.old) }
+        ensures drawn { result ≡ draw_below count (next self.old) }
         ensures below { result < count }
     {
         let state = (u64::from(self.state) * 1_103_515_245 + 12_345) % (1 << 31);

@@ -9,5 +9,5 @@ mod turns;
 
 pub use draws::Draws;
 pub use laws::made_sessions_decode;
-pub use std::alloc::AllocError as OutOfMemory;
+pub use op_model::OutOfMemory;
 pub use turns::{author, turn};

@@ -3,10 +3,11 @@ ghost use Rattle.std.specs.Prelude.{◌≡◌, ◌<◌, ◌≤◌, ◌^◌, repl
 ghost use Rattle.session_maker.specs.Draws.{next};
 ghost use Rattle.session_maker.specs.Turns.{author_of, delete_turn, edit_line, insert_turn, turn_of, undo_turn};
 
+use crate::OutOfMemory;
 use crate::draws::Draws;
 use op_model::{Piece, Pieces, Text};
 use session_lines::{Numbers, SessionLine};
-use std::alloc::{AllocError, Global};
+use std::alloc::Global;
 
 /// Draws which of so many replicas has the turn.
 pub fn author(draws: &mut Draws, replicas: u16) -> u16
@@ -25,7 +26,7 @@ fn edit(
     start: u64,
     end: u64,
     text: String,
-) -> Result<SessionLine, AllocError>
+) -> Result<SessionLine, OutOfMemory>
     ensures { IfOk result (λ line. line ≡ edit_line replica start end (string_bytes text)) }
 {
     let mut pieces = Vec::new(alloc);
@@ -40,7 +41,7 @@ fn edit(
     })
 }
 
-fn letters(alloc: Global, count: u64, letter: char) -> Result<String, AllocError>
+fn letters(alloc: Global, count: u64, letter: char) -> Result<String, OutOfMemory>
     requires { letter < 128 }
     ensures { IfOk result (λ text. string_bytes text ≡ replicate count letter) }
 {
@@ -56,7 +57,7 @@ fn undo(
     draws: &mut Draws,
     number: u64,
     replica: u16,
-) -> Result<SessionLine, AllocError>
+) -> Result<SessionLine, OutOfMemory>
     requires { 1 < number }
     ensures { IfOk result (λ line. (line, draws.new) ≡ undo_turn replica number draws.old) }
 {
@@ -73,7 +74,7 @@ fn delete(
     draws: &mut Draws,
     replica: u16,
     length: u64,
-) -> Result<SessionLine, AllocError>
+) -> Result<SessionLine, OutOfMemory>
     requires { length ≤ 2 ^ 40 }
     ensures { IfOk result (λ line. (line, draws.new) ≡ delete_turn replica length draws.old) }
 {
@@ -93,7 +94,7 @@ fn insert(
     draws: &mut Draws,
     replica: u16,
     length: u64,
-) -> Result<SessionLine, AllocError>
+) -> Result<SessionLine, OutOfMemory>
     requires { length ≤ 2 ^ 40 }
     ensures { IfOk result (λ line. (line, draws.new) ≡ insert_turn replica length draws.old) }
 {
@@ -115,7 +116,7 @@ pub fn turn(
     number: u64,
     replica: u16,
     length: u64,
-) -> Result<SessionLine, AllocError>
+) -> Result<SessionLine, OutOfMemory>
     requires { length ≤ 2 ^ 40 }
     ensures { IfOk result (λ line. (line, draws.new) ≡ turn_of number replica length draws.old) }
 {

@@ -4,16 +4,13 @@ use Rattle.std.specs.List.{position, position_or_len}
 use Rattle.std.proofs.lemmas.Bool.{ltb-true, ltb-false}
 use Rattle.text_buffer.specs.Buffer.{BufferState}
 use Rattle.session_replay.specs.Work.{buffer_of, with_buffer}
+use Rattle.session_lines.proofs.Cut.{at_none}
 
 -- ---- the first of a list that passes a test
 
 pub at_some : (b : Bool) (k i : ℕ) → Some i ≡ cond b (Some k) None → (b ≡ true) × (i ≡ k)
 at_some true k i e = (refl, cc)
 at_some false k i e = cc
-
-at_none : (b : Bool) (k : ℕ) → None ≡ cond b (Some k) None → b ≡ false
-at_none true k e = cc
-at_none false k e = refl
 
 module _ (r : ℕ) (f : BufferState → BufferState) where
   abbrev is_own : BufferState → Bool

@@ -12,6 +12,7 @@ use Rattle.text_dims.specs.Concat.{last_row-append, length_adds}
 use Rattle.text_dims.specs.Summaries.{summary_of, end_point}
 use Rattle.session_lines.specs.Cut.{feeds}
 use Rattle.session_lines.specs.Report.{last_column}
+use Rattle.session_lines.specs.declared.report.TextHead.TheVariants as head
 use Rattle.session_lines.specs.declared.report.Report.TheVariants as report
 use Rattle.text_buffer.specs.Buffer.{BufferState, IsBuffer}
 use Rattle.session_replay.specs.Work.{counts_report, text_report}
@@ -56,7 +57,7 @@ pub rows_few : (b : BufferState) (s : TextSummary) → IsBuffer b → s ≡ summ
 rows_few b s k e = omega (arith, ap (λ (z : TextSummary). z.lines.row) e, feeds_are (text b.history), feeds_few (text b.history), k.text_bytes, k.bytes, k.most_bytes)
 
 pub shown_is : (b : BufferState) (r rows : ℕ) (s : TextSummary) (t : List ℕ) → b.replica ≡ r → s ≡ summary_of (text b.history) → rows ≡ feeds (text b.history) + 1 → t ≡ text b.history
-    → report.Text r s.len s.lines.row s.lines.column rows t ≡ text_report b
+    → report.Text (head.CurrentText r s.len s.lines.row s.lines.column rows) t ≡ text_report b
 shown_is b r rows s t i e n h =
     let u : List ℕ = text b.history in
     let len : s.len ≡ length u = ap (λ (z : TextSummary). z.len) e ∙ bytes_are u in

@@ -1,4 +1,5 @@
 -- The answers of workers, gathered in the order of the queries, are replies that so many workers may give.
+use Rattle.query_workers.proofs.Working.{front_length as front_longer}
 use Rattle.std.proofs.Common.{◌≡◌, ℕ, suc, ◌+◌, ◌<◌, ◌≤◌, ◌==◌, Bool, true, false, cond, not, List, [], ◌∷◌, ◌++◌, length, map, slice_index_or, take, Some, refl, sym, ap, ap₂, append_assoc, ◌∙◌, subst, arith}
 use Rattle.std.specs.List.{All, AllPairs}
 use Rattle.std.proofs.lemmas.List.Elements.{All-cons, All-head, All-nil, All-tail}
@@ -17,10 +18,10 @@ use Rattle.query_workers.specs.declared.query.Answer.{Answer}
 use Rattle.query_dispatch.specs.Settled.{AreGathered, IsPast, IsSettled, NeverFalls}
 use Rattle.session_replay.specs.Work.{State, buffer_of}
 use Rattle.session_replay.specs.Queries as replies
-use Rattle.session_replay.specs.Queries.{AreReplies, IsWithin, Query, Reply, answer_line, count_of, end_of, final_of, history_of, plain_answer, queries_of, reply_line}
+use Rattle.session_replay.specs.Queries.{AreReplies, IsWithin, Query, Reply, count_of, end_of, final_of, history_of, plain_answer, queries_of, reply_line}
 use Rattle.session_replay.specs.Beside.{ask_among, asks_among, histories, line_of, place_among}
 use Rattle.session_replay.specs.declared.queries.Question.{Question}
-use Rattle.session_replay.proofs.Growth.{AllGrow, front_longer}
+use Rattle.session_replay.proofs.Growth.{AllGrow}
 use Rattle.session_replay.proofs.Asking.{same_place}
 use Rattle.session_replay.proofs.Replies.{IsPlaced, front_count, front_taken, placed}
 

@@ -1,6 +1,5 @@
 -- What a replica has applied at one line of a session begins what it has applied at each later one.
 use Rattle.std.proofs.Common.{◌≡◌, ℕ, ◌≤◌, Bool, true, false, cond, ◌==◌, List, [], ◌∷◌, ◌++◌, length, Option, None, Some, Result, Ok, Err, refl, sym, ap, ◌∙◌, subst, arith, append_assoc, append-nil}
-use Rattle.std.proofs.lemmas.List.{length-append}
 use Rattle.std.specs.Prelude.{⊤}
 use Rattle.op_model.specs.declared.operation.Operation.{Operation}
 use Rattle.op_model.specs.Steps.{Step, Settles, Takes}
@@ -11,6 +10,7 @@ use Rattle.session_lines.specs.declared.report.Report.{Report}
 use Rattle.session_lines.specs.declared.session.SessionLine.{SessionLine}
 use Rattle.session_lines.specs.declared.session.SessionLine.TheVariants as line
 use Rattle.session_replay.specs.Work.{State, after_all, after_give, after_outcome, buffer_of, edit_outcome, next_number, operation_of, step, undo_outcome, with_buffer}
+use Rattle.query_workers.proofs.Working.{front_length}
 
 -- ---- one buffer
 
@@ -112,14 +112,11 @@ abbrev pub AreBased : List BufferState → Type 0
 AreBased [] = ⊤
 AreBased (b ∷ bs) = (1 ≤ length b.history) × AreBased bs
 
-pub front_longer : (h g : List Operation) → IsFront h g → length h ≤ length g
-front_longer h g f = omega (arith, ap (λ (x : List Operation). length x) f.1, length-append h f.0)
-
 pub based_grow : (bs cs : List BufferState) → AllGrow bs cs → AreBased bs → AreBased cs
 based_grow [] [] g a = tt
 based_grow [] (c ∷ cs) g a = absurd g
 based_grow (b ∷ bs) [] g a = absurd g
-based_grow (b ∷ bs) (c ∷ cs) g a = (omega (arith, front_longer b.history c.history g.0.1, a.0), based_grow bs cs g.1 a.1)
+based_grow (b ∷ bs) (c ∷ cs) g a = (omega (arith, front_length b.history c.history g.0.1, a.0), based_grow bs cs g.1 a.1)
 
 based_by : (r : ℕ) (b d : BufferState) (bs : List BufferState) (t : Bool) → 1 ≤ length b.history → (buffer_of r bs ≡ Some d → 1 ≤ length d.history) → cond t (Some b) (buffer_of r bs) ≡ Some d → 1 ≤ length d.history
 based_by r b d bs true l h k = let same : b ≡ d = cc k in subst (λ (x : BufferState). 1 ≤ length x.history) same l

@@ -1,20 +1,17 @@
 -- Known bytes that move in several pieces.
-use Rattle.std.proofs.Common.{◌≡◌, ℕ, ◌+◌, ◌-◌, ◌<◌, List, [], ◌∷◌, ◌++◌, length, take, drop, refl, sym, ap, ◌∙◌, subst, arith, IfSome, None, Some, Option, length-append, length-drop, append-nil}
+use Rattle.std.proofs.Common.{◌≡◌, ℕ, ◌+◌, ◌-◌, ◌<◌, List, [], ◌∷◌, ◌++◌, length, take, drop, refl, sym, ap, ◌∙◌, subst, arith, IfSome, None, Some, Option, length-append, append-nil}
 use Rattle.session_replay.specs.Traffic.{Moves, Had}
 use Rattle.std.specs.Io.KnownBytes.{Appends, Consumes, IsAtEnd}
 use Rattle.std.proofs.KnownBytes.{Appends-trans, Consumes-trans, Consumes-whole}
 use Rattle.std.proofs.Math.Seq.{take-add}
-use Rattle.std.proofs.lemmas.List.{take_all}
-
-pub rest_of : (text : List ℕ) (i : ℕ) → take (length text - i) (drop i text) ≡ drop i text
-rest_of text i = take_all _ _ (omega (arith, length-drop i text))
+use Rattle.session_lines.proofs.Cut.{behind}
 
 no_bytes : (l : List ℕ) → length l ≡ 0 → l ≡ []
 no_bytes [] e = refl
 no_bytes (x ∷ l) e = absurd (omega arith)
 
 pub more_written : (a b c : Option (List ℕ)) (text : List ℕ) (i n : ℕ) → Appends a b (take i text) → Appends b c (take n (take (length text - i) (drop i text))) → Appends a c (take (i + n) text)
-more_written a b c text i n p q = subst (Appends a c) (ap (λ l. take i text ++ take n l) (rest_of text i) ∙ sym (take-add i n text)) (Appends-trans a b c _ _ p q)
+more_written a b c text i n p q = subst (Appends a c) (ap (λ l. take i text ++ take n l) (behind text i) ∙ sym (take-add i n text)) (Appends-trans a b c _ _ p q)
 
 pub at_least : (a b : Option (List ℕ)) (bs : List ℕ) (n : ℕ) → Consumes a b bs → n < length bs → IfSome a (λ xs. n < length xs)
 at_least None b bs n p h = tt

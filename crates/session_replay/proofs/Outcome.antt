@@ -2,7 +2,7 @@
 use Rattle.std.proofs.Common.{◌≡◌, ℕ, ◌<◌, ◌≤◌, ◌⊎◌, inl, inr, List, length, refl, sym, ap, ◌∙◌, subst, cond, Bool, true, false, nat_lt, arith, Option, Result, Ok, Err}
 use Rattle.std.proofs.lemmas.Bool.{lt-ltb, le-ltb, ltb-true, ltb-false}
 use Rattle.session_lines.specs.Cut.{lines_of}
-use Rattle.session_lines.specs.Session.{decoded, session_of}
+use Rattle.session_lines.specs.Session.{session_of_text}
 use Rattle.session_lines.specs.Words.{bad_line, many_line}
 use Rattle.session_lines.specs.declared.session.Session.{Session}
 use Rattle.session_lines.specs.declared.fault.Word.{Word}
@@ -23,27 +23,23 @@ use Rattle.session_replay.specs.declared.top.Status.TheVariants as status
 
 pub large_answer : (c : Task) (input : List ℕ) → 67108864 < length input → answer_of c input ≡ (status.TooLarge, large_line)
 unfolding answer_of
-large_answer c input h = ap (λ b. cond b (status.TooLarge, large_line) (answer_with c (decoded input))) (lt-ltb 67108864 (length input) h)
+large_answer c input h = ap (λ b. cond b (status.TooLarge, large_line) (answer_with c (session_of_text input))) (lt-ltb 67108864 (length input) h)
 
-small_answer : (c : Task) (input : List ℕ) → length input ≤ 67108864 → answer_of c input ≡ answer_with c (decoded input)
+small_answer : (c : Task) (input : List ℕ) → length input ≤ 67108864 → answer_of c input ≡ answer_with c (session_of_text input)
 unfolding answer_of
-small_answer c input le = ap (λ b. cond b (status.TooLarge, large_line) (answer_with c (decoded input))) (le-ltb 67108864 (length input) le)
+small_answer c input le = ap (λ b. cond b (status.TooLarge, large_line) (answer_with c (session_of_text input))) (le-ltb 67108864 (length input) le)
 
-pub session_answer : (c : Task) (input : List ℕ) (s : Session) → length input ≤ 67108864 → decoded input ≡ Ok s → answer_of c input ≡ (status.Done, written_for c s)
+pub session_answer : (c : Task) (input : List ℕ) (s : Session) → length input ≤ 67108864 → session_of_text input ≡ Ok s → answer_of c input ≡ (status.Done, written_for c s)
 session_answer c input s le e = small_answer c input le ∙ ap (answer_with c) e
 
-pub refused_answer : (c : Task) (input : List ℕ) (e : DecodeFault) → length input ≤ 67108864 → decoded input ≡ Err e → answer_of c input ≡ refusal e
+pub refused_answer : (c : Task) (input : List ℕ) (e : DecodeFault) → length input ≤ 67108864 → session_of_text input ≡ Err e → answer_of c input ≡ refusal e
 refused_answer c input e le d = small_answer c input le ∙ ap (answer_with c) d
-
-pub many_decoded : (input : List ℕ) → 1048576 < length (lines_of input) → decoded input ≡ Err (Lines (length (lines_of input)))
-unfolding decoded
-many_decoded input h = ap (λ b. cond b (Err (Lines (length (lines_of input)))) (session_of (lines_of input))) (lt-ltb 1048576 (length (lines_of input)) h)
 
 -- ---- what a status tells
 
 pub record Told (c : Task) (input : List ℕ) (st : Status) (text : List ℕ) : Type 0 where
-  pub done : st ≡ status.Done → (length input ≤ 67108864) × ((s : Session) × (decoded input ≡ Ok s) × Writes c s text)
-  pub session : st ≡ status.Session → (length input ≤ 67108864) × ((n : ℕ) × (w : Word) × (decoded input ≡ Err (Bad n w)) × (bad_line n w ≡ text))
+  pub done : st ≡ status.Done → (length input ≤ 67108864) × ((s : Session) × (session_of_text input ≡ Ok s) × Writes c s text)
+  pub session : st ≡ status.Session → (length input ≤ 67108864) × ((n : ℕ) × (w : Word) × (session_of_text input ≡ Err (Bad n w)) × (bad_line n w ≡ text))
   pub large : st ≡ status.TooLarge → ((67108864 < length input) × (large_line ≡ text)) ⊎ ((length input ≤ 67108864) × (1048576 < length (lines_of input)) × (many_line ≡ text))
   pub kinds : (st ≡ status.Done) ⊎ ((st ≡ status.Session) ⊎ (st ≡ status.TooLarge))
 
@@ -60,7 +56,7 @@ plain_written : (c : Task) (s : Session) (text : List ℕ) → written_for c s �
 plain_written (task.Replay workers) s text e = subst (IsReport s workers) e (plain_report s workers)
 plain_written task.Check s text e = sym e
 
-told_by : (c : Task) (input : List ℕ) (b : Bool) (r : Result Session DecodeFault) (st : Status) (text : List ℕ) → nat_lt 67108864 (length input) ≡ b → decoded input ≡ r
+told_by : (c : Task) (input : List ℕ) (b : Bool) (r : Result Session DecodeFault) (st : Status) (text : List ℕ) → nat_lt 67108864 (length input) ≡ b → session_of_text input ≡ r
     → cond b (status.TooLarge, large_line) (answer_with c r) ≡ (st, text) → Told c input st text
 told_by c input true r st text l d e =
     let f = first status.TooLarge st large_line text e in record {
@@ -94,7 +90,7 @@ told_by c input false (Err OutOfMemory) st text l d e = absurd (never_memory inp
 
 plainly_told : (c : Task) (input : List ℕ) (st : Status) (text : List ℕ) → answer_of c input ≡ (st, text) → Told c input st text
 unfolding answer_of
-plainly_told c input st text e = told_by c input (nat_lt 67108864 (length input)) (decoded input) st text refl refl e
+plainly_told c input st text e = told_by c input (nat_lt 67108864 (length input)) (session_of_text input) st text refl refl e
 
 pub told : (c : Task) (input : List ℕ) (st : Status) (text : List ℕ) → IsAnswer c input st text → Told c input st text
 told c input st text (inl w) = record {

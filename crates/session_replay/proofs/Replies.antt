@@ -23,6 +23,7 @@ use Rattle.session_replay.specs.Work.{State, after_all, buffer_of, first_buffer,
 use Rattle.session_replay.specs.Queries.{AreReplies, IsReport, IsWithin, NeverFalls, Query, Reply, answer_line, count_of, end_of, history_of, plain_line, queries_from, queries_of, query_at, query_of, query_with, question_of, reply_line, report_of, report_with}
 use Rattle.session_replay.specs.Laws.{PlainWithWorkers, PlainWithoutQueries, PlainWithoutWorkers}
 use Rattle.session_replay.proofs.Growth.{AllGrow, AreBased, based_grow, based_one, later, lines_grow, step_keeps}
+use Rattle.query_workers.proofs.Working.{no_pairs}
 
 -- ---- fronts
 
@@ -92,9 +93,6 @@ module _ (r : ℕ) (h : List Operation) where
 
 abbrev Follows : Query → Query → Type 0
 Follows c d = Finds c.replica c.history d
-
-no_pairs : {A : Type 0} (R : A → A → Type 0) → AllPairs R []
-no_pairs R = λ i j d lt within. absurd (omega arith)
 
 module _ (q next : ℕ) (l : SessionLine) (ls : List SessionLine) (s : State) where
   abbrev rest : List Query

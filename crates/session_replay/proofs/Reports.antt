@@ -9,6 +9,7 @@ use Rattle.text_buffer.specs.Buffer.{BufferState, number_applied, after_settle}
 use Rattle.text_buffer.specs.Outcomes.{pair_of}
 use Rattle.text_buffer.specs.declared.outcomes.Refused.{Refused as Entry}
 use Rattle.session_lines.specs.Report.{line_text, report_text}
+use Rattle.session_lines.specs.declared.report.TextHead.TheVariants as head
 use Rattle.session_lines.specs.declared.report.Report.{Report}
 use Rattle.session_lines.specs.declared.report.Report.TheVariants as report
 use Rattle.session_replay.specs.Work.{at_end, counts_report, refused_report, settled_reports}
@@ -61,11 +62,11 @@ parts_reported : (rs qs : List Report) (out mid new : List ℕ) → mid ≡ out 
 parts_reported rs qs out mid new m n = n ∙ ap (λ t. t ++ report_text qs) m ∙ append_assoc out (report_text rs) (report_text qs) ∙ ap (λ t. out ++ t) (sym (text-append rs qs))
 
 pub end_reported : (b : BufferState) (r : ℕ) (fs : List (Lamport × OpFault)) (t out one two new : List ℕ) → b.replica ≡ r → fs ≡ b.refused → t ≡ text b.history
-    → one ≡ out ++ line_text (counts_report b) → two ≡ one ++ report_text (map (refused_report r) fs) → new ≡ two ++ line_text (report.Final r t) → new ≡ out ++ report_text (at_end b)
+    → one ≡ out ++ line_text (counts_report b) → two ≡ one ++ report_text (map (refused_report r) fs) → new ≡ two ++ line_text (report.Text (head.FinalText r) t) → new ≡ out ++ report_text (at_end b)
 end_reported b r fs t out one two new i f e h k l =
-    let last : Report = report.Final b.replica (text b.history) in
-    let same : report.Final r t ≡ last = cc in
+    let last : Report = report.Text (head.FinalText b.replica) (text b.history) in
+    let same : report.Text (head.FinalText r) t ≡ last = cc in
     let middle : two ≡ one ++ report_text (map (refused_report b.replica) b.refused) =
     k ∙ ap (λ q. one ++ report_text (map (refused_report q) fs)) (sym i) ∙ ap (λ fs. one ++ report_text (map (refused_report b.replica) fs)) f in
     more_reported (counts_report b) (map (refused_report b.replica) b.refused ++ last ∷ []) out one new h
-    (parts_reported (map (refused_report b.replica) b.refused) (last ∷ []) one two new middle (line_reported (report.Final r t) last two new same l))
+    (parts_reported (map (refused_report b.replica) b.refused) (last ∷ []) one two new middle (line_reported (report.Text (head.FinalText r) t) last two new same l))

@@ -1,10 +1,11 @@
 -- What the status says once the answer to a source was sent.
+use Rattle.session_lines.proofs.Faults.{session_of_many}
 use Rattle.std.proofs.Common.{◌≡◌, ℕ, ◌<◌, ◌≤◌, ◌⊎◌, inl, inr, List, length, sym, ap, ◌∙◌, subst, arith, Option, None, Some, IfSome, Ok, Err}
 use Rattle.std.specs.Io.KnownBytes.{Appends}
 use Rattle.session_replay.specs.Causes.{Rose, RoseBy}
 use Rattle.session_replay.specs.Traffic.{AppendsFront, Had, WasRead, WasTaken}
 use Rattle.session_lines.specs.Cut.{lines_of}
-use Rattle.session_lines.specs.Session.{decoded}
+use Rattle.session_lines.specs.Session.{session_of_text}
 use Rattle.session_lines.specs.Words.{bad_line, many_line}
 use Rattle.session_lines.specs.declared.session.Session.{Session}
 use Rattle.session_lines.specs.declared.fault.Word.{Word}
@@ -15,7 +16,7 @@ use Rattle.command_words.specs.declared.command.Task.{Task}
 use Rattle.command_words.specs.declared.command.Task.TheVariants as task
 use Rattle.session_replay.specs.declared.top.Status.{Status}
 use Rattle.session_replay.specs.declared.top.Status.TheVariants as status
-use Rattle.session_replay.proofs.Outcome.{Told, many_decoded, told, session_answer}
+use Rattle.session_replay.proofs.Outcome.{Told, told, session_answer}
 
 if_had : (left : Option (List ℕ)) (input : List ℕ) (P : List ℕ → Type 0) → Had left input → P input → IfSome left P
 if_had None input P h p = tt
@@ -45,7 +46,7 @@ module _ (c : Task) (left left_after : Option (List ℕ)) (given given_after end
   pub not_sent : (d : Status) → (status.Done ≡ d → ⊥) → (status.Session ≡ d → ⊥) → (status.TooLarge ≡ d → ⊥) → (status.WriteFault ≡ d → ⊥) → r ≡ d → ⊥
   not_sent d x y z n k = one_of d kept.kinds (same d k n).0 x y z
 
-  does : (c : Task) (s : Session) → decoded a.input ≡ Ok s → Writes c s text → Does c a.input text
+  does : (c : Task) (s : Session) → session_of_text a.input ≡ Ok s → Writes c s text → Does c a.input text
   does (task.Replay workers) s d w = (s, d, w)
   does task.Check s d w = (s, d, w)
 
@@ -57,7 +58,7 @@ module _ (c : Task) (left left_after : Option (List ℕ)) (given given_after end
       (a.input, a.taken.whole f.0, (text, wrote s.1 text (λ i. text), does c f.1.0 f.1.1 f.1.2))
 
   pub sent_session : r ≡ status.Session → (input : List ℕ) × WasRead left left_after given given_after ends ends_after input
-      × ((n : ℕ) × (w : Word) × (decoded input ≡ Err (Bad n w)) × Appends written written_after (bad_line n w))
+      × ((n : ℕ) × (w : Word) × (session_of_text input ≡ Err (Bad n w)) × Appends written written_after (bad_line n w))
   sent_session k =
       let s = same status.Session k (λ x. cc) in
       let f = kept.session s.0 in
@@ -82,7 +83,7 @@ module _ (c : Task) (left left_after : Option (List ℕ)) (given given_after end
 
   large_output : ((67108864 < length a.input) × (large_line ≡ text)) ⊎ ((length a.input ≤ 67108864) × (1048576 < length (lines_of a.input)) × (many_line ≡ text)) → IsOutput c a.input text
   large_output (inl f) = inr (inl (f.0, sym f.1))
-  large_output (inr f) = inr (inr (f.0, (Lines (length (lines_of a.input)), many_decoded a.input f.1, sym f.2)))
+  large_output (inr f) = inr (inr (f.0, (Lines (length (lines_of a.input)), session_of_many a.input f.1, sym f.2)))
 
   output_by : (st ≡ status.Done) ⊎ ((st ≡ status.Session) ⊎ (st ≡ status.TooLarge)) → IsOutput c a.input text
   output_by (inl k) = let f = kept.done k in inl (f.0, does c f.1.0 f.1.1 f.1.2)
@@ -99,28 +100,28 @@ module _ (c : Task) (left left_after : Option (List ℕ)) (given given_after end
     sent_by (inr e) = absurd (no_fault e)
 
     -- what answers a session is not the text of a bad line, nor of too many bytes
-    done_by : (s : Session) → length a.input ≤ 67108864 → decoded a.input ≡ Ok s → IsAnswer c a.input st text → st ≡ status.Done
+    done_by : (s : Session) → length a.input ≤ 67108864 → session_of_text a.input ≡ Ok s → IsAnswer c a.input st text → st ≡ status.Done
     done_by s le e (inl w) = w.0
     done_by s le e (inr k) = ap (λ p. p.0) (sym k ∙ session_answer c a.input s le e)
 
-    pub completes : IfSome left (λ input. length input ≤ 67108864 → (s : Session) → decoded input ≡ Ok s → (r ≡ status.Done) ⊎ (r ≡ status.Memory))
+    pub completes : IfSome left (λ input. length input ≤ 67108864 → (s : Session) → session_of_text input ≡ Ok s → (r ≡ status.Done) ⊎ (r ≡ status.Memory))
     completes =
-        if_had left a.input (λ input. length input ≤ 67108864 → (s : Session) → decoded input ≡ Ok s → (r ≡ status.Done) ⊎ (r ≡ status.Memory)) a.taken.had
+        if_had left a.input (λ input. length input ≤ 67108864 → (s : Session) → session_of_text input ≡ Ok s → (r ≡ status.Done) ⊎ (r ≡ status.Memory)) a.taken.had
         (λ le s e. inl (sent_by either ∙ done_by s le e a.answer))
 
-    none_done : st ≡ status.Done → (67108864 < length a.input) ⊎ ((e : DecodeFault) × (decoded a.input ≡ Err e)) → ⊥
+    none_done : st ≡ status.Done → (67108864 < length a.input) ⊎ ((e : DecodeFault) × (session_of_text a.input ≡ Err e)) → ⊥
     none_done k (inl h) = omega (arith, (kept.done k).0)
     none_done k (inr h) = let e : Ok (kept.done k).1.0 ≡ Err h.0 = sym (kept.done k).1.1 ∙ h.1 in cc
 
-    by_kind : (st ≡ status.Done) ⊎ ((st ≡ status.Session) ⊎ (st ≡ status.TooLarge)) → (67108864 < length a.input) ⊎ ((e : DecodeFault) × (decoded a.input ≡ Err e))
+    by_kind : (st ≡ status.Done) ⊎ ((st ≡ status.Session) ⊎ (st ≡ status.TooLarge)) → (67108864 < length a.input) ⊎ ((e : DecodeFault) × (session_of_text a.input ≡ Err e))
         → (r ≡ status.Session) ⊎ ((r ≡ status.TooLarge) ⊎ (r ≡ status.Memory))
     by_kind (inl k) h = absurd (none_done k h)
     by_kind (inr (inl k)) h = inl (sent_by either ∙ k)
     by_kind (inr (inr k)) h = inr (inl (sent_by either ∙ k))
 
-    pub refuses : IfSome left (λ input. (67108864 < length input) ⊎ ((e : DecodeFault) × (decoded input ≡ Err e)) → (r ≡ status.Session) ⊎ ((r ≡ status.TooLarge) ⊎ (r ≡ status.Memory)))
+    pub refuses : IfSome left (λ input. (67108864 < length input) ⊎ ((e : DecodeFault) × (session_of_text input ≡ Err e)) → (r ≡ status.Session) ⊎ ((r ≡ status.TooLarge) ⊎ (r ≡ status.Memory)))
     refuses =
-        if_had left a.input (λ input. (67108864 < length input) ⊎ ((e : DecodeFault) × (decoded input ≡ Err e)) → (r ≡ status.Session) ⊎ ((r ≡ status.TooLarge) ⊎ (r ≡ status.Memory))) a.taken.had
+        if_had left a.input (λ input. (67108864 < length input) ⊎ ((e : DecodeFault) × (session_of_text input ≡ Err e)) → (r ≡ status.Session) ⊎ ((r ≡ status.TooLarge) ⊎ (r ≡ status.Memory))) a.taken.had
         (by_kind kept.kinds)
 
 no_fault_by : (st : Status) → (st ≡ status.Done) ⊎ ((st ≡ status.Session) ⊎ (st ≡ status.TooLarge)) → st ≡ status.WriteFault → ⊥

@@ -5,7 +5,7 @@ use Rattle.std.specs.Cmp.Lexicographic.{pointwise}
 use Rattle.op_model.specs.Shown.{text}
 use Rattle.text_buffer.specs.Buffer.{BufferState}
 use Rattle.session_lines.specs.Report.{line_text}
-use Rattle.session_lines.specs.Session.{decoded}
+use Rattle.session_lines.specs.Session.{session_of_text}
 use Rattle.session_lines.specs.declared.session.Session.{Session}
 use Rattle.session_maker.specs.Made.{made_lines, session_with}
 use Rattle.session_maker.specs.Written.{session_text}
@@ -66,4 +66,4 @@ summary_of s = summary_with (length s.lines) (end_of s)
 abbrev pub Makes : ℕ → ℕ → ℕ → List ℕ → Type 0
 Makes seed n edits output =
     let session = made_session seed n edits in
-    (output ≡ summary_of session) × (decoded (session_text session) ≡ Ok session)
+    (output ≡ summary_of session) × (session_of_text (session_text session) ≡ Ok session)

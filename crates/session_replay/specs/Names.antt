@@ -7,7 +7,7 @@ use Rattle.std.specs.Cmp.Lexicographic.{slice_cmp}
 use Rattle.std.specs.Str.{bytes_eq}
 use Rattle.lamport_clock.specs.Versions.{Entries}
 use Rattle.anchors.specs.Making.{made_anchor}
-use Rattle.op_model.specs.Anchors.{place_fault, resolved}
+use Rattle.op_model.specs.Anchors.{place_fault, known_place}
 use Rattle.op_model.specs.Histories.{History}
 use Rattle.op_model.specs.Since.{since, since_fault}
 use Rattle.op_model.specs.declared.anchor.Anchor.{Anchor}
@@ -53,7 +53,7 @@ place_answer (Some o) = position.Place o
 -- where an anchor, if there is one, is in the text of h
 abbrev pub where_answer : Option Anchor → History → WhereAnswer
 where_answer None h = position.Nothing
-where_answer (Some a) h = place_answer (resolved h a)
+where_answer (Some a) h = place_answer (known_place h a)
 
 -- ---- versions
 

@@ -1,7 +1,7 @@
 -- What an input comes to.
 use Rattle.std.specs.Prelude.{◌≡◌, ℕ, ◌<◌, ◌≤◌, ◌⊎◌, List, length, map, nat_lt, codes, Option, Result, Ok, Err, if◌then◌else◌}
-use Rattle.session_lines.specs.Report.{checked, line_text, report_text}
-use Rattle.session_lines.specs.Session.{decoded}
+use Rattle.session_lines.specs.Report.{session_counts, line_text, report_text}
+use Rattle.session_lines.specs.Session.{session_of_text}
 use Rattle.session_lines.specs.Words.{bad_line, many_line}
 use Rattle.session_lines.specs.declared.session.Session.{Session}
 use Rattle.session_lines.specs.declared.fault.DecodeFault.{DecodeFault}
@@ -18,12 +18,12 @@ use Rattle.session_replay.specs.declared.top.Status.TheVariants as status
 
 -- the input is a session, and the output is its report with some replies to its queries that so many workers may give
 abbrev pub Replays : List ℕ → List ℕ → ℕ → Type 0
-Replays input output workers = (s : Session) × (decoded input ≡ Ok s)
+Replays input output workers = (s : Session) × (session_of_text input ≡ Ok s)
     × ((ps : List Reply) × AreReplies s workers ps × (output ≡ report_text (report_with s (map (reply_line (end_of s)) ps))))
 
 -- the input is a session, and the output is the line with what is counted of it
 abbrev pub Checks : List ℕ → List ℕ → Type 0
-Checks input output = (s : Session) × (decoded input ≡ Ok s) × (output ≡ line_text (checked s))
+Checks input output = (s : Session) × (session_of_text input ≡ Ok s) × (output ≡ line_text (session_counts s))
 
 -- the output is what the task makes of the input
 abbrev pub Does : Task → List ℕ → List ℕ → Type 0
@@ -49,14 +49,14 @@ refusal OutOfMemory = (status.Memory, codes "")
 -- what a task writes for a session
 abbrev pub written_for : Task → Session → List ℕ
 written_for (task.Replay workers) s = report_text (report_of s)
-written_for task.Check s = line_text (checked s)
+written_for task.Check s = line_text (session_counts s)
 
 abbrev pub answer_with : Task → Result Session DecodeFault → Status × List ℕ
 answer_with c (Ok s) = (status.Done, written_for c s)
 answer_with c (Err e) = refusal e
 
 unfoldable pub answer_of : Task → List ℕ → Status × List ℕ
-answer_of c input = if nat_lt 67108864 (length input) then (status.TooLarge, large_line) else answer_with c (decoded input)
+answer_of c input = if nat_lt 67108864 (length input) then (status.TooLarge, large_line) else answer_with c (session_of_text input)
 
 -- ---- what may be written for an input
 
@@ -64,7 +64,7 @@ answer_of c input = if nat_lt 67108864 (length input) then (status.TooLarge, lar
 abbrev pub Refuses : List ℕ → List ℕ → Type 0
 Refuses input output =
     ((67108864 < length input) × (output ≡ large_line))
-    ⊎ ((length input ≤ 67108864) × ((e : DecodeFault) × (decoded input ≡ Err e) × (output ≡ (refusal e).1)))
+    ⊎ ((length input ≤ 67108864) × ((e : DecodeFault) × (session_of_text input ≡ Err e) × (output ≡ (refusal e).1)))
 
 -- the output is one for the input: what the task makes of a session, or the line that refuses what is none
 abbrev pub IsOutput : Task → List ℕ → List ℕ → Type 0
@@ -82,11 +82,11 @@ Ends (command.Make seed n edits) left left_after given given_after ends ends_aft
 -- what a task may write for a session
 abbrev pub Writes : Task → Session → List ℕ → Type 0
 Writes (task.Replay workers) s output = IsReport s workers output
-Writes task.Check s output = output ≡ line_text (checked s)
+Writes task.Check s output = output ≡ line_text (session_counts s)
 
 -- the input is a session, and the text is what the task may write for it
 abbrev pub IsWork : Task → List ℕ → Status → List ℕ → Type 0
-IsWork c input st text = (st ≡ status.Done) × (length input ≤ 67108864) × ((s : Session) × (decoded input ≡ Ok s) × Writes c s text)
+IsWork c input st text = (st ≡ status.Done) × (length input ≤ 67108864) × ((s : Session) × (session_of_text input ≡ Ok s) × Writes c s text)
 
 -- the status and the text answer an input: the plain answer, or what workers make of a session
 abbrev pub IsAnswer : Task → List ℕ → Status → List ℕ → Type 0

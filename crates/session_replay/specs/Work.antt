@@ -25,6 +25,7 @@ use Rattle.session_lines.specs.declared.session.SessionLine.TheVariants as line
 use Rattle.session_lines.specs.declared.session.Session.{Session}
 use Rattle.session_lines.specs.declared.report.Given.{Given}
 use Rattle.session_lines.specs.declared.report.Given.TheVariants as given
+use Rattle.session_lines.specs.declared.report.TextHead.TheVariants as head
 use Rattle.session_lines.specs.declared.report.Report.{Report}
 use Rattle.session_lines.specs.declared.report.Report.TheVariants as report
 use Rattle.session_replay.specs.Names.{Names, anchor_answer, new_anchor, since_answer, under, where_answer, with_name}
@@ -125,7 +126,7 @@ after_give (Some op) b = after_take b op
 
 abbrev pub text_report : BufferState → Report
 text_report b =
-    let t = text b.history in report.Text b.replica (length t) (feeds t) (last_column t) (feeds t + 1) t
+    let t = text b.history in report.Text (head.CurrentText b.replica (length t) (feeds t) (last_column t) (feeds t + 1)) t
 
 -- ---- a line
 
@@ -160,19 +161,19 @@ events (line.Point r o) s = []
 events (line.Offset r row column) s = []
 
 -- the session with these buffers after one more operation line, and with what stands under its number
-abbrev pub numbered : List BufferState → Option Operation → State → State
-numbered bs o s = record s { buffers = bs; operations = s.operations ++ o ∷ [] }
+abbrev pub with_operation_line : List BufferState → Option Operation → State → State
+with_operation_line bs o s = record s { buffers = bs; operations = s.operations ++ o ∷ [] }
 
 -- the session after the next operation line, f being what comes of it at the buffer of replica r
 abbrev pub after_line : ℕ → (BufferState → Result Operation Report) → State → State
-after_line r f s = numbered (with_buffer r (λ b. after_outcome (f b) b) s.buffers) (option_and_then (λ b. result_ok (f b)) (buffer_of r s.buffers)) s
+after_line r f s = with_operation_line (with_buffer r (λ b. after_outcome (f b) b) s.buffers) (option_and_then (λ b. result_ok (f b)) (buffer_of r s.buffers)) s
 
 -- the session after the line
 abbrev pub step : SessionLine → State → State
 step (line.Edit r ps) s = after_line r (edit_outcome (next_number s) ps) s
 step (line.Undo r ms) s = after_line r (undo_outcome (next_number s) s.operations ms) s
-step (line.Op e) s = numbered s.buffers (Some (operation.Edit e)) s
-step (line.Uop u) s = numbered s.buffers (Some (operation.Undo u)) s
+step (line.Op e) s = with_operation_line s.buffers (Some (operation.Edit e)) s
+step (line.Uop u) s = with_operation_line s.buffers (Some (operation.Undo u)) s
 step (line.Give r n) s = record s { buffers = with_buffer r (after_give (operation_of n s.operations)) s.buffers }
 step (line.Text r) s = s
 step (line.Anchor r name o b) s = record s { anchors = with_name name (option_and_then (new_anchor o b) (history_at r s)) s.anchors }
@@ -204,7 +205,7 @@ counts_report b =
 
 -- what a replica reports at the end
 abbrev pub at_end : BufferState → List Report
-at_end b = counts_report b ∷ (map (refused_report b.replica) b.refused ++ report.Final b.replica (text b.history) ∷ [])
+at_end b = counts_report b ∷ (map (refused_report b.replica) b.refused ++ report.Text (head.FinalText b.replica) (text b.history) ∷ [])
 
 -- a replica's buffer at first, with the limits of a session's buffers
 abbrev pub first_buffer : List ℕ → ℕ → BufferState

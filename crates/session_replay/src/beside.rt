@@ -17,13 +17,14 @@ ghost use Rattle.session_replay.specs.Work.{after_all, all_events, at_end, event
 ghost use Rattle.session_replay.specs.Working.{state_of};
 ghost use Rattle.session_replay.specs.declared.queries.Question.{Question};
 
+use crate::OutOfMemory;
 use crate::queries::{Question, query_line, question_of};
 use crate::replay::Progress;
 use query_dispatch::{Dispatcher, Gathering, Publishers, open_desks};
 use query_workers::{Answer, Desk, Done, Gate, work_beside};
 use session_lines::{QueryAnswer, Report, Session, SessionLine};
 use snapshot_pub::Told;
-use std::alloc::{AllocError, Global};
+use std::alloc::Global;
 use std::sync::Wait;
 use std::thread::Threads;
 
@@ -50,7 +51,7 @@ impl Editor {
         alloc: Global,
         publishers: &mut Publishers,
         line: &SessionLine,
-    ) -> Result<(), AllocError>
+    ) -> Result<(), OutOfMemory>
         requires asking { (asks : List (Ask Question))
             × IsAsking self.old.progress.replicas asks self.old.dispatcher publishers.old }
         requires room { self.old.dispatcher.count + query_count (line.now ∷ [])
@@ -77,7 +78,7 @@ impl Editor {
         publishers: &mut Publishers,
         id: u16,
         question: Question,
-    ) -> Result<(), AllocError>
+    ) -> Result<(), OutOfMemory>
         requires asking { (asks : List (Ask Question))
             × IsAsking self.old.progress.replicas asks self.old.dispatcher publishers.old }
         requires room { self.old.dispatcher.count < self.old.dispatcher.limit }
@@ -107,7 +108,7 @@ impl Editor {
         alloc: Global,
         publishers: &mut Publishers,
         line: &SessionLine,
-    ) -> Result<(), AllocError>
+    ) -> Result<(), OutOfMemory>
         requires asking { (asks : List (Ask Question))
             × IsAsking self.old.progress.replicas asks self.old.dispatcher publishers.old }
         requires room { self.old.dispatcher.count + query_count (line.now ∷ [])
@@ -139,7 +140,7 @@ impl Editor {
         gate: &G,
         publishers: &mut Publishers,
         lines: &[SessionLine],
-    ) -> Result<(), AllocError>
+    ) -> Result<(), OutOfMemory>
         requires asking { (asks : List (Ask Question))
             × IsAsking self.old.progress.replicas asks self.old.dispatcher publishers.old }
         requires room { self.old.dispatcher.count + query_count lines.now
@@ -173,7 +174,7 @@ impl Editor {
         rt: &R,
         alloc: Global,
         publishers: &Publishers,
-    ) -> Result<Edited, AllocError>
+    ) -> Result<Edited, OutOfMemory>
         requires asking { (asks : List (Ask Question))
             × IsAsking self.progress.replicas asks self.dispatcher publishers.now }
         requires workers { self.workers ≡ publishers.now.workers }
@@ -223,7 +224,7 @@ impl Editor {
         gate: &G,
         publishers: &mut Publishers,
         lines: &[SessionLine],
-    ) -> Result<Edited, AllocError>
+    ) -> Result<Edited, OutOfMemory>
         requires { CanEdit lines.now self publishers.old }
         ensures { IfOk result (λ e. HasEdited lines.now self e) }
     {
@@ -242,7 +243,7 @@ fn tell_workers(
     alloc: Global,
     publishers: &Publishers,
     workers: u32,
-) -> Result<Vec<Vec<Told>>, AllocError>
+) -> Result<Vec<Vec<Told>>, OutOfMemory>
     requires workers { workers ≡ publishers.now.workers }
     requires level { AreLevel publishers.now }
     ensures pairs { IfOk result (λ v. map told_pairs (map (λ t. t.items) v.items)
@@ -261,7 +262,7 @@ fn tell_workers(
 fn lines_of(
     alloc: Global,
     answers: Vec<Answer<Question, QueryAnswer>>,
-) -> Result<Vec<Report>, AllocError>
+) -> Result<Vec<Report>, OutOfMemory>
     ensures { IfOk result (λ v. v.items ≡ map line_of answers.items) }
 {
     let mut lines = Vec::new(alloc);
@@ -284,7 +285,7 @@ fn gather<R: Threads + Sync>(
     alloc: Global,
     edited: Edited,
     dones: Vec<Done<Question, QueryAnswer>>,
-) -> Result<Vec<u8>, AllocError>
+) -> Result<Vec<u8>, OutOfMemory>
     requires { (asks : List (Ask Question)) × (d : DispatcherState Question)
         × (desks : List DeskState) × HasLeft edited.progress.replicas asks d edited
         × All (IsPast (histories edited.progress.replicas)) asks × AreEnds d.inboxes desks
@@ -316,7 +317,7 @@ fn edit_beside<R: Threads + Wait + Sync, G: Gate>(
     editor: Editor,
     desks: Vec<Desk<Question>>,
     lines: &[SessionLine],
-) -> Result<(Edited, Vec<Done<Question, QueryAnswer>>), AllocError>
+) -> Result<(Edited, Vec<Done<Question, QueryAnswer>>), OutOfMemory>
     requires { CanEdit lines.now editor publishers.old }
     ensures edited { IfOk result (λ r. HasEdited lines.now editor r.0) }
     ensures worked { IfOk result (λ r. HaveWorked plain_answer desks.items r.1.items) }
@@ -326,7 +327,7 @@ fn edit_beside<R: Threads + Wait + Sync, G: Gate>(
         alloc,
         gate,
         desks,
-        move || -> Result<Edited, AllocError>
+        move || -> Result<Edited, OutOfMemory>
             requires { CanEdit lines.now editor publishers.now }
             ensures { IfOk result (λ e. HasEdited lines.entry.now editor e) }
         { editor.edit(rt, alloc, gate, publishers, lines) },
@@ -342,7 +343,7 @@ fn replay_beside<R: Threads + Wait + Sync, G: Gate>(
     publishers: &mut Publishers,
     workers: u32,
     session: &Session,
-) -> Result<Vec<u8>, AllocError>
+) -> Result<Vec<u8>, OutOfMemory>
     requires session { IsSession 67108864 session.now }
     requires some { 1 ≤ workers }
     requires none { (publishers.old.workers ≡ workers) × (publishers.old.list ≡ [])
@@ -370,7 +371,7 @@ pub fn report_beside<R: Threads + Wait + Sync, G: Gate>(
     gate: &G,
     workers: u32,
     session: &Session,
-) -> Result<Vec<u8>, AllocError>
+) -> Result<Vec<u8>, OutOfMemory>
     requires session { IsSession 67108864 session.now }
     requires some { 1 ≤ workers }
     ensures { IfOk result (λ v. IsReport session.now workers v.items) }

@@ -21,6 +21,7 @@ mod traffic;
 pub use counts::ReadCounts;
 pub use laws::{plain_with_workers, plain_without_queries, plain_without_workers};
 pub use memory::{MemSink, MemSource, SureSink, SureSource};
+pub use op_model::OutOfMemory;
 pub use outside::{Failed, Sink, Source};
 pub use query_workers::Gate;
 pub use top::{Status, run};

@@ -6,11 +6,12 @@ ghost use Rattle.session_replay.specs.Making.{count_lines, have_equal_texts, hav
 ghost use Rattle.session_replay.specs.MakingOn.{TakesTurn, Works, WorksRound, work_state};
 ghost use Rattle.session_replay.specs.Work.{after_all};
 
+use crate::OutOfMemory;
 use crate::replay::Progress;
 use crate::replica::Replica;
 use session_lines::{SessionLine, write_line};
 use session_maker::{Draws, author, turn};
-use std::alloc::{AllocError, Global};
+use std::alloc::Global;
 
 /// The text that each replica begins with.
 const BASE: &str = "ab\ncd\n";
@@ -30,7 +31,7 @@ pub struct Making {
 }
 
 impl Making {
-    fn new(alloc: Global, seed: u32, ids: &[u16]) -> Result<Making, AllocError>
+    fn new(alloc: Global, seed: u32, ids: &[u16]) -> Result<Making, OutOfMemory>
         requires ids { ids.now ≡ ids_to (length ids.now) }
         requires editors { All (λ (r : ℕ). (1 ≤ r) × (r ≤ 1023)) ids.now }
         ensures state { IfOk result (λ m. work_state m ≡ made_opening (length ids.now)) }
@@ -46,7 +47,7 @@ impl Making {
     }
 
     /// Adds a line, and works it.
-    fn work(&mut self, alloc: Global, line: SessionLine) -> Result<(), AllocError>
+    fn work(&mut self, alloc: Global, line: SessionLine) -> Result<(), OutOfMemory>
         ensures { OnOk result (Works self.old self.new self.old.draws (line ∷ [])) }
     {
         self.progress.work_line(alloc, &line)?;
@@ -55,7 +56,7 @@ impl Making {
     }
 
     /// Gives the replica the operations with these numbers.
-    fn give(&mut self, alloc: Global, replica: u16, numbers: &[u64]) -> Result<(), AllocError>
+    fn give(&mut self, alloc: Global, replica: u16, numbers: &[u64]) -> Result<(), OutOfMemory>
         ensures { OnOk result (Works self.old self.new self.old.draws
             (gives_to numbers.now replica)) }
     {
@@ -72,7 +73,7 @@ impl Making {
     }
 
     /// Gives all replicas the operations with these numbers.
-    fn give_all(&mut self, alloc: Global, ids: &[u16], numbers: &[u64]) -> Result<(), AllocError>
+    fn give_all(&mut self, alloc: Global, ids: &[u16], numbers: &[u64]) -> Result<(), OutOfMemory>
         ensures { OnOk result (Works self.old self.new self.old.draws
             (flat_map (gives_to numbers.now) ids.now)) }
     {
@@ -83,7 +84,7 @@ impl Making {
     }
 
     /// Makes and works the turn with that number.
-    fn take_turn(&mut self, alloc: Global, replicas: u16, number: u64) -> Result<(), AllocError>
+    fn take_turn(&mut self, alloc: Global, replicas: u16, number: u64) -> Result<(), OutOfMemory>
         requires { 0 < replicas }
         ensures { OnOk result (TakesTurn self.old self.new replicas number) }
     {
@@ -95,7 +96,7 @@ impl Making {
     }
 
     /// Gives all replicas what was done in the last turns, where so many were taken.
-    fn give_last(&mut self, alloc: Global, ids: &[u16], number: u64) -> Result<(), AllocError>
+    fn give_last(&mut self, alloc: Global, ids: &[u16], number: u64) -> Result<(), OutOfMemory>
         requires first { 0 < number }
         requires ids { ids.now ≡ ids_to (length ids.now) }
         ensures { OnOk result (Works self.old self.new self.old.draws
@@ -111,7 +112,7 @@ impl Making {
     }
 
     /// Makes and works the turn with that number, and what is given behind it.
-    fn work_round(&mut self, alloc: Global, ids: &[u16], number: u64) -> Result<(), AllocError>
+    fn work_round(&mut self, alloc: Global, ids: &[u16], number: u64) -> Result<(), OutOfMemory>
         requires some { 0 < length ids.now }
         requires few { length ids.now < 2 ^ 16 }
         requires ids { ids.now ≡ ids_to (length ids.now) }
@@ -124,7 +125,7 @@ impl Making {
     }
 
     /// Makes and works so many rounds.
-    fn work_rounds(&mut self, alloc: Global, ids: &[u16], edits: u64) -> Result<(), AllocError>
+    fn work_rounds(&mut self, alloc: Global, ids: &[u16], edits: u64) -> Result<(), OutOfMemory>
         requires some { 0 < length ids.now }
         requires few { length ids.now < 2 ^ 16 }
         requires ids { ids.now ≡ ids_to (length ids.now) }
@@ -144,7 +145,7 @@ impl Making {
     }
 
     /// The summary of what was made.
-    fn summary(&self, alloc: Global) -> Result<Vec<u8>, AllocError>
+    fn summary(&self, alloc: Global) -> Result<Vec<u8>, OutOfMemory>
         ensures { IfOk result (λ v. v.items
             ≡ summary_with (length self.now.lines.items) (work_state self.now)) }
     {
@@ -160,7 +161,7 @@ impl Making {
 }
 
 #[tactic(auto, unfolding(crate::specs::Making::made_line))]
-fn made_line(alloc: Global, lines: u64, operations: u64) -> Result<String, AllocError>
+fn made_line(alloc: Global, lines: u64, operations: u64) -> Result<String, OutOfMemory>
     ensures { IfOk result (λ s. string_bytes s ≡ made_line lines operations) }
 {
     format!(in alloc; "made {lines} lines, {operations} operations\n")
@@ -177,7 +178,7 @@ fn texts_line(equal: bool) -> &'static str
 }
 
 /// Writes what each replica counts.
-fn write_counts(alloc: Global, replicas: &[Replica], out: &mut Vec<u8>) -> Result<(), AllocError>
+fn write_counts(alloc: Global, replicas: &[Replica], out: &mut Vec<u8>) -> Result<(), OutOfMemory>
     ensures { OnOk result (out.new.items ≡ out.old.items ++ count_lines replicas.now) }
 {
     for replica in replicas {
@@ -187,7 +188,7 @@ fn write_counts(alloc: Global, replicas: &[Replica], out: &mut Vec<u8>) -> Resul
 }
 
 /// Whether all of them have that text.
-fn have_text(replicas: &[Replica], text: &str) -> Result<bool, AllocError>
+fn have_text(replicas: &[Replica], text: &str) -> Result<bool, OutOfMemory>
     ensures { IfOk result (λ b. b ≡ have_text text.now replicas.now) }
 {
     for replica in replicas {
@@ -200,7 +201,7 @@ fn have_text(replicas: &[Replica], text: &str) -> Result<bool, AllocError>
 }
 
 /// Whether all texts are equal.
-fn have_equal_texts(replicas: &[Replica]) -> Result<bool, AllocError>
+fn have_equal_texts(replicas: &[Replica]) -> Result<bool, OutOfMemory>
     ensures { IfOk result (λ b. b ≡ have_equal_texts replicas.now) }
 {
     let [first, rest @ ..] = replicas else {
@@ -211,7 +212,7 @@ fn have_equal_texts(replicas: &[Replica]) -> Result<bool, AllocError>
 }
 
 /// The numbers from 1 on, so many of them.
-fn ids_to(alloc: Global, count: u16) -> Result<Vec<u16>, AllocError>
+fn ids_to(alloc: Global, count: u16) -> Result<Vec<u16>, OutOfMemory>
     requires { count ≤ 1023 }
     ensures { IfOk result (λ v. v.items ≡ ids_to count) }
 {
@@ -223,7 +224,7 @@ fn ids_to(alloc: Global, count: u16) -> Result<Vec<u16>, AllocError>
 }
 
 /// The numbers of so many turns.
-fn numbers_to(alloc: Global, count: u64) -> Result<Vec<u64>, AllocError>
+fn numbers_to(alloc: Global, count: u64) -> Result<Vec<u64>, OutOfMemory>
     requires { count < 2 ^ 32 }
     ensures { IfOk result (λ v. v.items ≡ range_with_len 1 count) }
 {
@@ -242,7 +243,7 @@ fn numbers_to(alloc: Global, count: u64) -> Result<Vec<u64>, AllocError>
 /// # Errors
 ///
 /// Want of memory alone.
-pub fn make(alloc: Global, seed: u32, replicas: u16, edits: u32) -> Result<Vec<u8>, AllocError>
+pub fn make(alloc: Global, seed: u32, replicas: u16, edits: u32) -> Result<Vec<u8>, OutOfMemory>
     requires some { 1 ≤ replicas }
     requires few { replicas ≤ 1023 }
     ensures { IfOk result (λ v. v.items ≡ summary_of (made_session seed replicas edits)) }

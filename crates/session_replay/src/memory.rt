@@ -1,8 +1,8 @@
 //! Sources and sinks in memory, with calls that fail by a list, and such as never fail.
 ghost use Rattle.std.specs.Prelude.{◌≡◌, ◌<◌, ◌≤◌, ◌+◌, ◌++◌, [], Some, None, drop, take, length, IfOk, vec_len, vec_capacity};
 
-use crate::{Failed, ReadCounts, Sink, Source};
-use std::alloc::{AllocError, Global};
+use crate::{Failed, OutOfMemory, ReadCounts, Sink, Source};
+use std::alloc::Global;
 
 /// A text that is read from its front.
 #[derive(Drop)]
@@ -115,7 +115,7 @@ impl MemSink {
         room: usize,
         most: usize,
         failing: Vec<u64>,
-    ) -> Result<MemSink, AllocError>
+    ) -> Result<MemSink, OutOfMemory>
         requires { 0 < most }
         ensures written { IfOk result (λ s. sink_bytes s ≡ []) }
         ensures faults { IfOk result (λ s. sink_faults s ≡ 0) }

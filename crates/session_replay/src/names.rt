@@ -4,10 +4,11 @@ ghost use Rattle.std.specs.Option.{option_copied};
 ghost use Rattle.std.specs.Result.{result_err, result_ok};
 ghost use Rattle.session_replay.specs.Names.{anchor_answer, by_bytes, since_answer, under, where_answer, with_name};
 
+use crate::OutOfMemory;
 use lamport_clock::Version;
 use op_model::{Anchor, PlaceFault, SinceFault, Text};
 use session_lines::{AnchorAnswer, SinceAnswer, TextEdits, WhereAnswer};
-use std::alloc::{AllocError, Global};
+use std::alloc::Global;
 use std::collections::BTreeMap;
 use text_buffer::Snapshot;
 
@@ -17,7 +18,7 @@ pub fn keep<V: Drop>(
     names: &mut BTreeMap<String, V>,
     name: &Text,
     value: V,
-) -> Result<(), AllocError>
+) -> Result<(), OutOfMemory>
     ensures { OnOk result (by_bytes names.new.entries
         ≡ with_name name.now (Some value) (by_bytes names.old.entries)) }
 {
@@ -38,7 +39,7 @@ pub fn keep_anchor(
     anchors: &mut BTreeMap<String, Anchor>,
     name: &Text,
     made: Result<Anchor, PlaceFault>,
-) -> Result<AnchorAnswer, AllocError>
+) -> Result<AnchorAnswer, OutOfMemory>
     ensures answer { IfOk result (λ a. a ≡ anchor_answer (result_err made)) }
     ensures anchors { OnOk result (by_bytes anchors.new.entries
         ≡ with_name name.now (result_ok made) (by_bytes anchors.old.entries)) }
@@ -70,12 +71,12 @@ pub fn since_answer(
     alloc: Global,
     snapshot: &Snapshot,
     version: &Version,
-) -> Result<SinceAnswer, AllocError>
+) -> Result<SinceAnswer, OutOfMemory>
     ensures { IfOk result (λ a. a ≡ since_answer version.now snapshot.now) }
 {
     match snapshot.since(version) {
         Ok(edits) => Ok(SinceAnswer::Edits(TextEdits::new(edits.as_slice().to_vec(alloc)?))),
-        Err(SinceFault::OutOfMemory) => Err(AllocError),
+        Err(SinceFault::OutOfMemory) => Err(OutOfMemory),
         Err(fault) => Ok(SinceAnswer::Fault(fault)),
     }
 }

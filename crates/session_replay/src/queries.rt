@@ -11,6 +11,7 @@ ghost use Rattle.session_replay.specs.Working.{state_of};
 ghost use Rattle.session_replay.specs.Queries.{answer_line, count_of, find_answer, offset_answer, place_answer, plain_line, point_answer, query_at, question_of};
 ghost use Rattle.session_replay.specs.declared.queries.Question.TheVariants.{OffsetOf, PointOf, StartsOf};
 
+use crate::OutOfMemory;
 use crate::replay::Progress;
 use op_model::Text;
 use query_workers::Query;
@@ -19,7 +20,7 @@ use session_lines::{
     FindAnswer, Numbers, OffsetAnswer, PointAnswer, QueryAnswer, Report, SessionLine,
 };
 use snapshot_search::{FindFault, find_all, find_all_par};
-use std::alloc::{AllocError, Global};
+use std::alloc::Global;
 use std::thread::Threads;
 use text_buffer::Snapshot;
 use text_dims::Point;
@@ -52,7 +53,7 @@ impl Query<QueryAnswer> for Question {
         rt: &R,
         alloc: Global,
         snapshot: &Snapshot,
-    ) -> Result<QueryAnswer, AllocError> {
+    ) -> Result<QueryAnswer, OutOfMemory> {
         let rope = snapshot.text();
         match self {
             Question::StartsOf(needle) => {
@@ -66,7 +67,10 @@ impl Query<QueryAnswer> for Question {
 }
 
 /// The replica that a line asks, and what it asks, where the line is a query.
-pub fn question_of(alloc: Global, line: &SessionLine) -> Result<Option<(u16, Question)>, AllocError>
+pub fn question_of(
+    alloc: Global,
+    line: &SessionLine,
+) -> Result<Option<(u16, Question)>, OutOfMemory>
     ensures { IfOk result (λ o. o ≡ question_of line.now) }
 {
     match line {
@@ -109,7 +113,7 @@ fn applied_count(snapshot: &Snapshot) -> u64
 }
 
 // What a search has found, as an answer.
-fn answer_of(found: Result<Vec<u64>, FindFault>) -> Result<FindAnswer, AllocError>
+fn answer_of(found: Result<Vec<u64>, FindFault>) -> Result<FindAnswer, OutOfMemory>
     ensures { (needle t : List ℕ) → IfOk found (λ v. v.items ≡ starts t needle)
         → ((found ≡ Err FindFault.EmptyNeedle) ↔ (length needle ≡ 0))
         → IfOk result (λ a. a ≡ find_answer needle t) }
@@ -117,11 +121,11 @@ fn answer_of(found: Result<Vec<u64>, FindFault>) -> Result<FindAnswer, AllocErro
     match found {
         Ok(starts) => Ok(FindAnswer::Starts(Numbers::new(starts))),
         Err(FindFault::EmptyNeedle) => Ok(FindAnswer::EmptyNeedle),
-        Err(FindFault::OutOfMemory) => Err(AllocError),
+        Err(FindFault::OutOfMemory) => Err(OutOfMemory),
     }
 }
 
-fn find_answer(alloc: Global, rope: &Rope, needle: &str) -> Result<FindAnswer, AllocError>
+fn find_answer(alloc: Global, rope: &Rope, needle: &str) -> Result<FindAnswer, OutOfMemory>
     ensures { IfOk result (λ a. a ≡ find_answer needle.now rope.now) }
 {
     answer_of(find_all(alloc, rope, needle))
@@ -133,7 +137,7 @@ fn find_answer_beside<R: Threads + Sync>(
     alloc: Global,
     rope: &Rope,
     needle: &str,
-) -> Result<FindAnswer, AllocError>
+) -> Result<FindAnswer, OutOfMemory>
     ensures { IfOk result (λ a. a ≡ find_answer needle.now rope.now) }
 {
     if rope.len() < LARGE {
@@ -198,7 +202,7 @@ fn find_line(
     number: u64,
     needle: &str,
     snapshot: &Snapshot,
-) -> Result<Report, AllocError>
+) -> Result<Report, OutOfMemory>
     ensures { IfOk result (λ line. line
         ≡ answer_line number (count_of snapshot.now) (StartsOf needle.now) (text snapshot.now)) }
 {
@@ -231,7 +235,7 @@ impl Progress {
         alloc: Global,
         number: u64,
         line: &SessionLine,
-    ) -> Result<Option<Report>, AllocError>
+    ) -> Result<Option<Report>, OutOfMemory>
         ensures { IfOk result (λ r. option_to_list r
             ≡ map plain_line (query_at number line.now (state_of self.now))) }
     {
@@ -268,7 +272,7 @@ impl Progress {
         number: u64,
         id: u16,
         needle: &Text,
-    ) -> Result<Option<Report>, AllocError>
+    ) -> Result<Option<Report>, OutOfMemory>
         ensures { IfOk result (λ r. option_to_list r
             ≡ map plain_line (query_at number (SessionLine.Find id needle.now)
             (state_of self.now))) }
@@ -279,7 +283,7 @@ impl Progress {
         }
     }
 
-    fn point(&self, number: u64, id: u16, offset: u64) -> Result<Option<Report>, AllocError>
+    fn point(&self, number: u64, id: u16, offset: u64) -> Result<Option<Report>, OutOfMemory>
         ensures { IfOk result (λ r. option_to_list r
             ≡ map plain_line (query_at number (SessionLine.Point id offset) (state_of self.now))) }
     {
@@ -289,7 +293,7 @@ impl Progress {
         }
     }
 
-    fn offset(&self, number: u64, id: u16, point: Point) -> Result<Option<Report>, AllocError>
+    fn offset(&self, number: u64, id: u16, point: Point) -> Result<Option<Report>, OutOfMemory>
         ensures { IfOk result (λ r. option_to_list r
             ≡ map plain_line (query_at number (SessionLine.Offset id point.row point.column)
             (state_of self.now))) }

@@ -8,7 +8,7 @@ ghost use Rattle.session_lines.specs.Report.{report_text};
 ghost use Rattle.session_lines.specs.Session.{IsSession};
 ghost use Rattle.session_lines.specs.declared.report.Report.{Report};
 ghost use Rattle.session_lines.specs.declared.session.SessionLine.{SessionLine};
-ghost use Rattle.session_replay.specs.Work.{after_all, all_events, at_end, buffer_of, events, next_number, numbered, first_buffer, step};
+ghost use Rattle.session_replay.specs.Work.{after_all, all_events, at_end, buffer_of, events, next_number, with_operation_line, first_buffer, step};
 ghost use Rattle.session_replay.specs.Queries.{plain_line, queries_from, query_at, report_of};
 ghost use Rattle.session_replay.specs.Making.{text_len};
 ghost use Rattle.session_replay.specs.Beside.{histories};
@@ -16,13 +16,13 @@ ghost use Rattle.session_replay.specs.Names.{by_bytes};
 ghost use Rattle.session_replay.specs.Working.{state_of};
 ghost use Rattle.text_buffer.specs.Buffer.{BufferState};
 
-use crate::names;
 use crate::replica::{Replica, operation_of};
 use crate::replicas::Replicas;
+use crate::{OutOfMemory, names};
 use lamport_clock::Version;
 use op_model::{Anchor, Bias, EditOp, Operation, Pieces, Text, UndoOp};
 use session_lines::{Numbers, Report, Session, SessionLine, write_line};
-use std::alloc::{AllocError, Global};
+use std::alloc::Global;
 use std::collections::BTreeMap;
 use text_buffer::Snapshot;
 
@@ -42,7 +42,7 @@ pub struct Progress {
 }
 
 /// A copy of the operation, where there is one. It shares the texts of one that stands under a number.
-fn copy_of(alloc: Global, operation: Option<&Operation>) -> Result<Option<Operation>, AllocError>
+fn copy_of(alloc: Global, operation: Option<&Operation>) -> Result<Option<Operation>, OutOfMemory>
     ensures { IfOk result (λ o. o ≡ option_copied operation.entry) }
 {
     match operation {
@@ -52,7 +52,7 @@ fn copy_of(alloc: Global, operation: Option<&Operation>) -> Result<Option<Operat
 }
 
 /// The edit as an operation of its own, whose copies share its texts.
-fn edit_operation(alloc: Global, edit: &EditOp) -> Result<Operation, AllocError>
+fn edit_operation(alloc: Global, edit: &EditOp) -> Result<Operation, OutOfMemory>
     ensures { IfOk result (λ op. op ≡ Edit edit.now) }
 {
     let copy = edit.copy(alloc)?;
@@ -60,7 +60,7 @@ fn edit_operation(alloc: Global, edit: &EditOp) -> Result<Operation, AllocError>
 }
 
 /// The undo as an operation of its own, whose copies share its counts.
-fn undo_operation(alloc: Global, undo: &UndoOp) -> Result<Operation, AllocError>
+fn undo_operation(alloc: Global, undo: &UndoOp) -> Result<Operation, OutOfMemory>
     ensures { IfOk result (λ op. op ≡ Undo undo.now) }
 {
     let copy = undo.copy(alloc)?;
@@ -76,7 +76,7 @@ impl Progress {
     }
 
     /// What the replica with that id is now, where it is there.
-    pub fn snapshot_of(&self, id: u16) -> Result<Option<Snapshot>, AllocError>
+    pub fn snapshot_of(&self, id: u16) -> Result<Option<Snapshot>, OutOfMemory>
         ensures { IfOk result (λ s. s ≡ option_map (λ (b : BufferState). b.history)
             (buffer_of id self.now.replicas)) }
     {
@@ -87,7 +87,7 @@ impl Progress {
     }
 
     /// Works an edit line.
-    fn work_edit(&mut self, alloc: Global, id: u16, pieces: &Pieces) -> Result<(), AllocError>
+    fn work_edit(&mut self, alloc: Global, id: u16, pieces: &Pieces) -> Result<(), OutOfMemory>
         ensures report { OnOk result (self.new.report.items
             ≡ self.old.report.items
             ++ report_text (events (SessionLine.Edit id pieces.now) (state_of self.old))) }
@@ -103,7 +103,7 @@ impl Progress {
     }
 
     /// Works an undo line.
-    fn work_undo(&mut self, alloc: Global, id: u16, numbers: &Numbers) -> Result<(), AllocError>
+    fn work_undo(&mut self, alloc: Global, id: u16, numbers: &Numbers) -> Result<(), OutOfMemory>
         ensures report { OnOk result (self.new.report.items
             ≡ self.old.report.items
             ++ report_text (events (SessionLine.Undo id numbers.now) (state_of self.old))) }
@@ -124,13 +124,13 @@ impl Progress {
     }
 
     /// Works a line with an operation as it stands.
-    fn work_operation(&mut self, alloc: Global, operation: Operation) -> Result<(), AllocError>
+    fn work_operation(&mut self, alloc: Global, operation: Operation) -> Result<(), OutOfMemory>
         ensures report { OnOk result (self.new.report.items
             ≡ self.old.report.items
             ++ report_text (Report.Made (next_number (state_of self.old)) (stamp_of operation)
             ∷ [])) }
         ensures state { OnOk result (state_of self.new
-            ≡ numbered self.old.replicas (Some operation) (state_of self.old)) }
+            ≡ with_operation_line self.old.replicas (Some operation) (state_of self.old)) }
     {
         let number = self.next_number();
         let stamp = operation.stamp();
@@ -140,7 +140,7 @@ impl Progress {
     }
 
     /// Works a line that gives an operation to a replica.
-    fn work_give(&mut self, alloc: Global, id: u16, number: u64) -> Result<(), AllocError>
+    fn work_give(&mut self, alloc: Global, id: u16, number: u64) -> Result<(), OutOfMemory>
         ensures report { OnOk result (self.new.report.items
             ≡ self.old.report.items
             ++ report_text (events (SessionLine.Give id number) (state_of self.old))) }
@@ -161,7 +161,7 @@ impl Progress {
     }
 
     /// Works a line that shows a text.
-    fn work_text(&mut self, alloc: Global, id: u16) -> Result<(), AllocError>
+    fn work_text(&mut self, alloc: Global, id: u16) -> Result<(), OutOfMemory>
         ensures report { OnOk result (self.new.report.items
             ≡ self.old.report.items
             ++ report_text (events (SessionLine.Text id) (state_of self.old))) }
@@ -183,7 +183,7 @@ impl Progress {
         name: &Text,
         offset: u64,
         bias: Bias,
-    ) -> Result<(), AllocError>
+    ) -> Result<(), OutOfMemory>
         ensures report { OnOk result (self.new.report.items
             ≡ self.old.report.items
             ++ report_text (events (SessionLine.Anchor id name.now offset bias)
@@ -203,7 +203,7 @@ impl Progress {
     }
 
     /// Works a line that asks where an anchor is.
-    fn work_where(&mut self, alloc: Global, id: u16, name: &Text) -> Result<(), AllocError>
+    fn work_where(&mut self, alloc: Global, id: u16, name: &Text) -> Result<(), OutOfMemory>
         ensures report { OnOk result (self.new.report.items
             ≡ self.old.report.items
             ++ report_text (events (SessionLine.Where id name.now) (state_of self.old))) }
@@ -225,7 +225,7 @@ impl Progress {
     }
 
     /// Works a line that keeps a version.
-    fn work_mark(&mut self, alloc: Global, id: u16, name: &Text) -> Result<(), AllocError>
+    fn work_mark(&mut self, alloc: Global, id: u16, name: &Text) -> Result<(), OutOfMemory>
         ensures report { OnOk result (self.new.report.items
             ≡ self.old.report.items
             ++ report_text (events (SessionLine.Mark id name.now) (state_of self.old))) }
@@ -244,7 +244,7 @@ impl Progress {
     }
 
     /// What a line reports that asks what changed since a version, where both are there.
-    fn since_of(&self, alloc: Global, id: u16, name: &Text) -> Result<Option<Report>, AllocError>
+    fn since_of(&self, alloc: Global, id: u16, name: &Text) -> Result<Option<Report>, OutOfMemory>
         ensures { IfOk result (λ r. option_to_list r
             ≡ events (SessionLine.Since id name.now) (state_of self.now)) }
     {
@@ -264,7 +264,7 @@ impl Progress {
     }
 
     /// Works a line that asks what changed since a version.
-    fn work_since(&mut self, alloc: Global, id: u16, name: &Text) -> Result<(), AllocError>
+    fn work_since(&mut self, alloc: Global, id: u16, name: &Text) -> Result<(), OutOfMemory>
         ensures report { OnOk result (self.new.report.items
             ≡ self.old.report.items
             ++ report_text (events (SessionLine.Since id name.now) (state_of self.old))) }
@@ -280,7 +280,7 @@ impl Progress {
 
     /// Works a line.
     #[tactic(auto, using(crate::proofs::Steps::nothing_written))]
-    pub fn work_line(&mut self, alloc: Global, line: &SessionLine) -> Result<(), AllocError>
+    pub fn work_line(&mut self, alloc: Global, line: &SessionLine) -> Result<(), OutOfMemory>
         ensures report { OnOk result (self.new.report.items
             ≡ self.old.report.items ++ report_text (events line.now (state_of self.old))) }
         ensures state { OnOk result (state_of self.new ≡ step line.now (state_of self.old)) }
@@ -312,7 +312,7 @@ impl Progress {
 
 impl Progress {
     /// Replicas over a base, which have done nothing yet.
-    pub fn new(alloc: Global, ids: &[u16], base: &str) -> Result<Progress, AllocError>
+    pub fn new(alloc: Global, ids: &[u16], base: &str) -> Result<Progress, OutOfMemory>
         requires ids { All (λ (r : ℕ). (1 ≤ r) × (r ≤ 1023)) ids.now }
         requires base { length base.now ≤ 67108864 }
         ensures buffers { IfOk result (λ p. p.replicas ≡ map (first_buffer base.now) ids.now) }
@@ -356,14 +356,14 @@ impl Progress {
     }
 
     /// What each replica is now.
-    pub fn snapshots(&self, alloc: Global) -> Result<Vec<Snapshot>, AllocError>
+    pub fn snapshots(&self, alloc: Global) -> Result<Vec<Snapshot>, OutOfMemory>
         ensures { IfOk result (λ v. v.items ≡ histories self.now.replicas) }
     {
         snapshots_of(alloc, self.replicas.as_slice())
     }
 
     /// The text of the report, with these lines for the queries.
-    pub fn report_with(mut self, alloc: Global, answers: &[Report]) -> Result<Vec<u8>, AllocError>
+    pub fn report_with(mut self, alloc: Global, answers: &[Report]) -> Result<Vec<u8>, OutOfMemory>
         ensures { IfOk result (λ v. v.items
             ≡ (self.report.items ++ report_text answers.now)
             ++ report_text (flat_map at_end self.replicas)) }
@@ -391,7 +391,7 @@ fn answer_line(
     alloc: Global,
     line: &SessionLine,
     answers: &mut Vec<Report>,
-) -> Result<(), AllocError>
+) -> Result<(), OutOfMemory>
     ensures { OnOk result (answers.new.items
         ≡ answers.old.items ++ map plain_line
         (query_at (length answers.old.items + 1) line.now (state_of progress.now))) }
@@ -409,7 +409,7 @@ fn work_lines(
     alloc: Global,
     lines: &[SessionLine],
     answers: &mut Vec<Report>,
-) -> Result<(), AllocError>
+) -> Result<(), OutOfMemory>
     ensures report { OnOk result (progress.new.report.items
         ≡ progress.old.report.items ++ report_text (all_events lines.now (state_of progress.old))) }
     ensures state { OnOk result (state_of progress.new
@@ -426,7 +426,7 @@ fn work_lines(
 }
 
 /// What each replica is now.
-fn snapshots_of(alloc: Global, replicas: &[Replica]) -> Result<Vec<Snapshot>, AllocError>
+fn snapshots_of(alloc: Global, replicas: &[Replica]) -> Result<Vec<Snapshot>, OutOfMemory>
     ensures { IfOk result (λ v. v.items ≡ histories replicas.now) }
 {
     let mut snapshots = Vec::new(alloc);
@@ -437,7 +437,7 @@ fn snapshots_of(alloc: Global, replicas: &[Replica]) -> Result<Vec<Snapshot>, Al
 }
 
 /// Writes the lines of all queries.
-fn write_answers(alloc: Global, answers: &[Report], out: &mut Vec<u8>) -> Result<(), AllocError>
+fn write_answers(alloc: Global, answers: &[Report], out: &mut Vec<u8>) -> Result<(), OutOfMemory>
     ensures { OnOk result (out.new.items ≡ out.old.items ++ report_text answers.now) }
 {
     for answer in answers {
@@ -447,7 +447,7 @@ fn write_answers(alloc: Global, answers: &[Report], out: &mut Vec<u8>) -> Result
 }
 
 /// What all replicas report at the end.
-fn write_ends(alloc: Global, replicas: &[Replica], out: &mut Vec<u8>) -> Result<(), AllocError>
+fn write_ends(alloc: Global, replicas: &[Replica], out: &mut Vec<u8>) -> Result<(), OutOfMemory>
     ensures { OnOk result (out.new.items
         ≡ out.old.items ++ report_text (flat_map at_end replicas.now)) }
 {
@@ -458,7 +458,7 @@ fn write_ends(alloc: Global, replicas: &[Replica], out: &mut Vec<u8>) -> Result<
 }
 
 /// The text of a session's report.
-pub fn report(alloc: Global, session: &Session) -> Result<Vec<u8>, AllocError>
+pub fn report(alloc: Global, session: &Session) -> Result<Vec<u8>, OutOfMemory>
     requires { IsSession 67108864 session.now }
     ensures { IfOk result (λ v. v.items ≡ report_text (report_of session.now)) }
 {

@@ -1,23 +1,23 @@
 //! A replica of a session: its buffer, and what it reports.
-ghost use Rattle.std.specs.Prelude.{◌≡◌, ◌<◌, ◌≤◌, ◌+◌, ◌^◌, ◌⊎◌, ◌++◌, ◌==◌, [], ◌∷◌, length, map, is_none, Some, None, IfOk, IfErr, OnOk, OnErr};
+ghost use Rattle.std.specs.Prelude.{◌≡◌, ◌≤◌, ◌+◌, ◌^◌, ◌++◌, ◌==◌, [], ◌∷◌, length, map, is_none, Some, None, IfOk, OnOk};
 ghost use Rattle.std.specs.Option.{option_copied};
 ghost use Rattle.std.specs.Result.{result_ok};
 ghost use Rattle.op_model.specs.Operations.{stamp_of};
 ghost use Rattle.op_model.specs.Shown.{text};
 ghost use Rattle.session_lines.specs.Cut.{feeds};
-ghost use Rattle.session_lines.specs.Report.{line_text, report_text, with_text};
+ghost use Rattle.session_lines.specs.Report.{line_text, report_text};
 ghost use Rattle.session_lines.specs.declared.report.Report.{Report};
-ghost use Rattle.text_buffer.specs.Buffer.{edit_fault, after_edit, edit_of, after_settle};
+ghost use Rattle.text_buffer.specs.Buffer.{after_settle};
 ghost use Rattle.text_buffer.specs.Outcomes.{pair_of};
 ghost use Rattle.session_replay.specs.Work.{after_give, after_outcome, at_end, counts_report, edit_outcome, first_unnamed, give_answer, operation_of, first_buffer, outcome_reports, refused_report, settled_reports, stamps_under, text_report, undo_outcome};
 
+use crate::OutOfMemory;
 use lamport_clock::Lamport;
 use op_model::{EditFault, Limits, OpFault, Operation, Piece, Pieces, Text, UndoFault};
 use session_lines::{Given, Report, TextHead, write_line, write_text};
-use std::alloc::{AllocError, Global};
-use std::marker::{Brand, Model};
-use std::sync::ledger::{Blank, Ledger};
-use text_buffer::{Base, Buffer, Refused, Snapshot, Steps, Took};
+use std::alloc::Global;
+use std::marker::Model;
+use text_buffer::{Base, Buffer, Refused, Snapshot, Took};
 
 /// The limits of a session's buffers.
 const LIMITS: Limits = Limits {
@@ -46,7 +46,7 @@ impl Model for Replica {
 
 impl Replica {
     /// The replica with that id over a base, which it shares.
-    pub fn new(alloc: Global, id: u16, base: &Base) -> Result<Replica, AllocError>
+    pub fn new(alloc: Global, id: u16, base: &Base) -> Result<Replica, OutOfMemory>
         requires least { 1 ≤ id }
         requires greatest { id ≤ 1023 }
         requires base { length base.now ≤ 67108864 }
@@ -54,7 +54,7 @@ impl Replica {
     {
         match Buffer::over(alloc, id, base, LIMITS) {
             Ok(buffer) => Ok(Replica { id, buffer }),
-            Err(_) => Err(AllocError),
+            Err(_) => Err(OutOfMemory),
         }
     }
 
@@ -72,7 +72,7 @@ impl Replica {
         number: u64,
         pieces: &Pieces,
         out: &mut Vec<u8>,
-    ) -> Result<Option<Operation>, AllocError>
+    ) -> Result<Option<Operation>, OutOfMemory>
         ensures report { OnOk result (out.new.items
             ≡ out.old.items ++ report_text
             (outcome_reports number (edit_outcome number pieces.now self.old) self.old)) }
@@ -81,9 +81,9 @@ impl Replica {
         ensures id { self.new.replica ≡ self.old.replica }
         ensures made { IfOk result (λ o. o ≡ result_ok (edit_outcome number pieces.now self.old)) }
     {
-        match edit_with::<Brand>(&mut self.buffer, pieces.as_slice(), Blank::new(1)) {
+        match self.buffer.edit_uncounted(pieces.as_slice()) {
             Ok(operation) => self.made(alloc, number, operation, out),
-            Err(EditFault::OutOfMemory) => Err(AllocError),
+            Err(EditFault::OutOfMemory) => Err(OutOfMemory),
             Err(fault) => refused(alloc, &Report::EditRefused { number, fault }, out),
         }
     }
@@ -97,7 +97,7 @@ impl Replica {
         operations: &[Option<Operation>],
         numbers: &[u64],
         out: &mut Vec<u8>,
-    ) -> Result<Option<Operation>, AllocError>
+    ) -> Result<Option<Operation>, OutOfMemory>
         ensures report { OnOk result (out.new.items
             ≡ out.old.items ++ report_text
             (outcome_reports number
@@ -114,7 +114,7 @@ impl Replica {
         let edits = stamps_under(alloc, operations, numbers)?;
         match self.buffer.undo(edits.as_slice()) {
             Ok(operation) => self.made(alloc, number, operation, out),
-            Err(UndoFault::OutOfMemory) => Err(AllocError),
+            Err(UndoFault::OutOfMemory) => Err(OutOfMemory),
             Err(fault) => refused(alloc, &Report::UndoRefused { number, fault }, out),
         }
     }
@@ -126,7 +126,7 @@ impl Replica {
         number: u64,
         operation: Operation,
         out: &mut Vec<u8>,
-    ) -> Result<Option<Operation>, AllocError>
+    ) -> Result<Option<Operation>, OutOfMemory>
         ensures report { OnOk result (out.new.items
             ≡ out.old.items ++ report_text
             (Report.Made number (stamp_of operation) ∷ settled_reports self.old)) }
@@ -141,7 +141,7 @@ impl Replica {
     }
 
     /// Settles, and reports it where that applied any.
-    fn settle(&mut self, alloc: Global, out: &mut Vec<u8>) -> Result<(), AllocError>
+    fn settle(&mut self, alloc: Global, out: &mut Vec<u8>) -> Result<(), OutOfMemory>
         ensures report { OnOk result (out.new.items
             ≡ out.old.items ++ report_text (settled_reports self.old)) }
         ensures after { OnOk result (self.new ≡ after_settle self.old) }
@@ -157,7 +157,7 @@ impl Replica {
     }
 
     /// Takes what stands under a number: an operation, or nothing.
-    pub fn give(&mut self, operation: Option<Operation>) -> Result<Given, AllocError>
+    pub fn give(&mut self, operation: Option<Operation>) -> Result<Given, OutOfMemory>
         ensures answer { IfOk result (λ g. g ≡ give_answer operation self.old) }
         ensures after { OnOk result (self.new ≡ after_give operation self.old) }
         ensures id { self.new.replica ≡ self.old.replica }
@@ -168,7 +168,7 @@ impl Replica {
         }
     }
 
-    fn take(&mut self, operation: Operation) -> Result<Given, AllocError>
+    fn take(&mut self, operation: Operation) -> Result<Given, OutOfMemory>
         ensures answer { IfOk result (λ g. g ≡ give_answer (Some operation) self.old) }
         ensures after { OnOk result (self.new ≡ after_give (Some operation) self.old) }
         ensures id { self.new.replica ≡ self.old.replica }
@@ -177,29 +177,34 @@ impl Replica {
             Ok(Took::Applied(count)) => Ok(Given::Applied(count)),
             Ok(Took::Waits { replica, value }) => Ok(Given::Waits { replica, value }),
             Ok(Took::Repeat) => Ok(Given::Repeat),
-            Err(OpFault::OutOfMemory) => Err(AllocError),
+            Err(OpFault::OutOfMemory) => Err(OutOfMemory),
             Err(fault) => Ok(Given::Fault(fault)),
         }
     }
 
     /// What it is now.
-    pub fn snapshot(&self) -> Result<Snapshot, AllocError>
+    pub fn snapshot(&self) -> Result<Snapshot, OutOfMemory>
         ensures { IfOk result (λ s. s ≡ self.now.history) }
     {
         self.buffer.snapshot()
     }
 
     /// Its text.
-    pub fn text(&self) -> Result<Text, AllocError>
+    pub fn text(&self) -> Result<Text, OutOfMemory>
         ensures { IfOk result (λ t. t ≡ text self.now.history) }
     {
         Ok(Text::new(self.buffer.text()?))
     }
 
     // Writes the line with that head and its text, which goes there chunk by chunk.
-    fn write_text(&self, alloc: Global, head: TextHead, out: &mut Vec<u8>) -> Result<(), AllocError>
+    fn write_text(
+        &self,
+        alloc: Global,
+        head: TextHead,
+        out: &mut Vec<u8>,
+    ) -> Result<(), OutOfMemory>
         ensures { OnOk result (out.new.items
-            ≡ out.old.items ++ line_text (with_text head (text self.now.history))) }
+            ≡ out.old.items ++ line_text (Report.Text head (text self.now.history))) }
     {
         let snapshot = self.snapshot()?;
         write_text(alloc, out, head, snapshot.text().chunks())?;
@@ -207,12 +212,12 @@ impl Replica {
     }
 
     /// Writes its text, with what is counted of it, as a line of a report.
-    pub fn write_shown(&self, alloc: Global, out: &mut Vec<u8>) -> Result<(), AllocError>
+    pub fn write_shown(&self, alloc: Global, out: &mut Vec<u8>) -> Result<(), OutOfMemory>
         ensures { OnOk result (out.new.items
             ≡ out.old.items ++ report_text (text_report self.now ∷ [])) }
     {
         let counted = self.buffer.summary();
-        let head = TextHead::Text {
+        let head = TextHead::CurrentText {
             replica: self.id,
             bytes: counted.len,
             row: counted.lines.row,
@@ -254,35 +259,15 @@ impl Replica {
     }
 
     /// Writes what it reports at the end.
-    pub fn write_end(&self, alloc: Global, out: &mut Vec<u8>) -> Result<(), AllocError>
+    pub fn write_end(&self, alloc: Global, out: &mut Vec<u8>) -> Result<(), OutOfMemory>
         ensures { OnOk result (out.new.items ≡ out.old.items ++ report_text (at_end self.now)) }
     {
         write_line(alloc, out, &self.counts())?;
         let replica = self.id;
         write_refused(alloc, replica, self.buffer.refused(), out)?;
-        self.write_text(alloc, TextHead::Final { replica }, out)?;
+        self.write_text(alloc, TextHead::FinalText { replica }, out)?;
         Ok(())
     }
-}
-
-// What `edit` of a buffer does, with a counter that is made of the blank.
-fn edit_with<L: Ledger>(
-    buffer: &mut Buffer,
-    changes: &[Piece],
-    blank: Blank,
-) -> Result<Operation, EditFault>
-    requires name { blank.name ≡ L.name }
-    requires parts { blank.parts ≡ L.parts }
-    requires some { 0 < blank.parts }
-    ensures ok { OnOk result (edit_fault buffer.old changes.now ≡ None) }
-    ensures made { IfOk result (λ op. op ≡ edit_of buffer.old changes.now) }
-    ensures new { OnOk result (buffer.new ≡ after_edit buffer.old changes.now) }
-    ensures fault { IfErr result (λ e. (edit_fault buffer.old changes.now ≡ Some e)
-        ⊎ ((edit_fault buffer.old changes.now ≡ None) × (e ≡ EditFault.OutOfMemory))) }
-    ensures err { OnErr result (buffer.new ≡ buffer.old) }
-{
-    let mut steps = Steps::<L>::new(blank);
-    buffer.edit(changes, &mut steps)
 }
 
 // Reports what refuses an operation line, which then makes no operation.
@@ -290,7 +275,7 @@ fn refused(
     alloc: Global,
     refusal: &Report,
     out: &mut Vec<u8>,
-) -> Result<Option<Operation>, AllocError>
+) -> Result<Option<Operation>, OutOfMemory>
     ensures report { OnOk result (out.new.items ≡ out.old.items ++ report_text (refusal.now ∷ [])) }
     ensures made { IfOk result (λ o. o ≡ None) }
 {
@@ -304,7 +289,7 @@ fn write_refused(
     replica: u16,
     refused: &[Refused],
     out: &mut Vec<u8>,
-) -> Result<(), AllocError>
+) -> Result<(), OutOfMemory>
     ensures { OnOk result (out.new.items
         ≡ out.old.items ++ report_text (map (refused_report replica) (map pair_of refused.now))) }
 {
@@ -352,7 +337,7 @@ fn stamps_under(
     alloc: Global,
     operations: &[Option<Operation>],
     numbers: &[u64],
-) -> Result<Vec<Lamport>, AllocError>
+) -> Result<Vec<Lamport>, OutOfMemory>
     ensures { IfOk result (λ v. v.items ≡ stamps_under operations.now numbers.now) }
 {
     let mut stamps = Vec::new(alloc);

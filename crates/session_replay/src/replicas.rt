@@ -6,10 +6,11 @@ ghost use Rattle.std.specs.List.{position};
 ghost use Rattle.session_lines.specs.Report.{report_text};
 ghost use Rattle.session_replay.specs.Work.{after_give, after_outcome, buffer_of, edit_outcome, give_answer, first_buffer, outcome_reports, reports_at, undo_outcome, with_buffer};
 
+use crate::OutOfMemory;
 use crate::replica::Replica;
 use op_model::{Operation, Pieces};
 use session_lines::Given;
-use std::alloc::{AllocError, Global};
+use std::alloc::Global;
 use std::marker::Model;
 use text_buffer::Base;
 
@@ -40,7 +41,7 @@ impl Model for Replicas {
 impl Replicas {
     /// The replicas over a base, which is made ready once for all of them. Takes the time of that, and of a walk along the ids for
     /// each id of the table.
-    pub fn over(alloc: Global, ids: &[u16], base: &str) -> Result<Replicas, AllocError>
+    pub fn over(alloc: Global, ids: &[u16], base: &str) -> Result<Replicas, OutOfMemory>
         requires ids { All (λ (r : ℕ). (1 ≤ r) × (r ≤ 1023)) ids.now }
         requires base { length base.now ≤ 67108864 }
         ensures { IfOk result (λ r. r ≡ map (first_buffer base.now) ids.now) }
@@ -86,7 +87,7 @@ impl Replicas {
         number: u64,
         pieces: &Pieces,
         out: &mut Vec<u8>,
-    ) -> Result<Option<Operation>, AllocError>
+    ) -> Result<Option<Operation>, OutOfMemory>
         ensures report { OnOk result (out.new.items ≡ out.old.items
             ++ report_text (reports_at
             (λ b. outcome_reports number (edit_outcome number pieces.now b) b)
@@ -112,7 +113,7 @@ impl Replicas {
         operations: &[Option<Operation>],
         numbers: &[u64],
         out: &mut Vec<u8>,
-    ) -> Result<Option<Operation>, AllocError>
+    ) -> Result<Option<Operation>, OutOfMemory>
         ensures report { OnOk result (out.new.items ≡ out.old.items
             ++ report_text (reports_at
             (λ b. outcome_reports number (undo_outcome number operations.now numbers.now b) b)
@@ -135,7 +136,7 @@ impl Replicas {
         &mut self,
         id: u16,
         operation: Option<Operation>,
-    ) -> Result<Option<Given>, AllocError>
+    ) -> Result<Option<Given>, OutOfMemory>
         ensures answer { IfOk result (λ g. g ≡ option_map (give_answer operation)
             (buffer_of id self.old)) }
         ensures after { OnOk result (self.new ≡ with_buffer id (after_give operation) self.old) }
@@ -162,7 +163,7 @@ fn place_in(ids: &[u16], id: u16) -> Option<usize>
 }
 
 /// The place among the ids of each id of the table.
-fn places_of(alloc: Global, ids: &[u16]) -> Result<Vec<Option<usize>>, AllocError>
+fn places_of(alloc: Global, ids: &[u16]) -> Result<Vec<Option<usize>>, OutOfMemory>
     ensures { IfOk result (λ v. (k : ℕ) → k < length v.items
         → get_or v.items k None ≡ position (λ i. i == k) ids.now) }
 {
@@ -174,19 +175,19 @@ fn places_of(alloc: Global, ids: &[u16]) -> Result<Vec<Option<usize>>, AllocErro
 }
 
 /// The replicas over the base, which is made ready once for all of them.
-fn replicas_over(alloc: Global, ids: &[u16], base: &str) -> Result<Vec<Replica>, AllocError>
+fn replicas_over(alloc: Global, ids: &[u16], base: &str) -> Result<Vec<Replica>, OutOfMemory>
     requires ids { All (λ (r : ℕ). (1 ≤ r) × (r ≤ 1023)) ids.now }
     requires base { length base.now ≤ 67108864 }
     ensures { IfOk result (λ v. v.items ≡ map (first_buffer base.now) ids.now) }
 {
     match Base::new(alloc, base) {
         Ok(base) => open_replicas(alloc, ids, &base),
-        Err(_) => Err(AllocError),
+        Err(_) => Err(OutOfMemory),
     }
 }
 
 /// The replicas over a base that they share.
-fn open_replicas(alloc: Global, ids: &[u16], base: &Base) -> Result<Vec<Replica>, AllocError>
+fn open_replicas(alloc: Global, ids: &[u16], base: &Base) -> Result<Vec<Replica>, OutOfMemory>
     requires ids { All (λ (r : ℕ). (1 ≤ r) × (r ≤ 1023)) ids.now }
     requires base { length base.now ≤ 67108864 }
     ensures { IfOk result (λ v. v.items ≡ map (first_buffer base.now) ids.now) }

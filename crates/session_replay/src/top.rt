@@ -7,9 +7,9 @@ ghost use Rattle.command_words.specs.Words.{clap_takes, command_of};
 ghost use Rattle.command_words.specs.declared.command.Command.{Command};
 ghost use Rattle.command_words.specs.declared.command.Task.{Task};
 ghost use Rattle.session_lines.specs.Cut.{lines_of};
-ghost use Rattle.session_lines.specs.Session.{IsSession, decoded};
+ghost use Rattle.session_lines.specs.Session.{IsSession, session_of_text};
 ghost use Rattle.session_lines.specs.Words.{bad_line, many_line};
-ghost use Rattle.session_lines.specs.Report.{checked, line_text};
+ghost use Rattle.session_lines.specs.Report.{session_counts, line_text};
 ghost use Rattle.session_replay.specs.Making.{Makes};
 ghost use Rattle.session_replay.specs.Queries.{IsReport};
 ghost use Rattle.session_replay.specs.Replay.{Answered, Does, Ends, IsAnswer, IsOutput, Writes, large_line, usage_line};
@@ -17,6 +17,7 @@ ghost use Rattle.session_lines.specs.declared.session.Session.{Session};
 ghost use Rattle.session_lines.specs.declared.fault.Word.{Word};
 ghost use Rattle.session_lines.specs.declared.fault.DecodeFault.{DecodeFault};
 
+use crate::OutOfMemory;
 use crate::beside::report_beside;
 use crate::making::make;
 use crate::outside::{Sink, Source};
@@ -25,7 +26,7 @@ use crate::traffic::{InputFault, read_all, write_all};
 use command_words::{Command, Task, command_of};
 use query_workers::Gate;
 use session_lines::{DecodeFault, Report, Session, Word, decode, write_line};
-use std::alloc::{AllocError, Global};
+use std::alloc::Global;
 use std::sync::Wait;
 use std::thread::Threads;
 
@@ -51,7 +52,7 @@ pub enum Status {
 const USAGE: &str =
     "usage: zedbuf replay [--workers N] | check | make --seed N --replicas N --edits N\n";
 
-fn bytes_of(alloc: Global, text: &str) -> Result<Vec<u8>, AllocError>
+fn bytes_of(alloc: Global, text: &str) -> Result<Vec<u8>, OutOfMemory>
     ensures { IfOk result (λ v. v.items ≡ text.now) }
 {
     text.as_bytes().to_vec(alloc)
@@ -59,15 +60,15 @@ fn bytes_of(alloc: Global, text: &str) -> Result<Vec<u8>, AllocError>
 
 /// The line for an input whose first bad line is that one.
 #[tactic(auto, unfolding(session_lines::specs::Words::bad_line))]
-fn bad_line(alloc: Global, line: u64, word: Word) -> Result<String, AllocError>
+fn bad_line(alloc: Global, line: u64, word: Word) -> Result<String, OutOfMemory>
     ensures { IfOk result (λ s. string_bytes s ≡ bad_line line word) }
 {
     format!(in alloc; "session line {line}: {word}\n")
 }
 
 /// The line with what is counted of a session.
-fn check(alloc: Global, session: &Session) -> Result<Vec<u8>, AllocError>
-    ensures { IfOk result (λ v. v.items ≡ line_text (checked session.now)) }
+fn check(alloc: Global, session: &Session) -> Result<Vec<u8>, OutOfMemory>
+    ensures { IfOk result (λ v. v.items ≡ line_text (session_counts session.now)) }
 {
     let mut line = Vec::new(alloc);
     write_line(alloc, &mut line, &Report::checked(session))?;
@@ -81,7 +82,7 @@ fn report_with<R: Threads + Wait + Sync, G: Gate>(
     gate: &G,
     workers: u32,
     session: &Session,
-) -> Result<Vec<u8>, AllocError>
+) -> Result<Vec<u8>, OutOfMemory>
     requires { IsSession 67108864 session.now }
     ensures { IfOk result (λ v. IsReport session.now workers v.items) }
 {
@@ -99,7 +100,7 @@ fn written<R: Threads + Wait + Sync, G: Gate>(
     gate: &G,
     task: Task,
     session: &Session,
-) -> Result<Vec<u8>, AllocError>
+) -> Result<Vec<u8>, OutOfMemory>
     requires { IsSession 67108864 session.now }
     ensures { IfOk result (λ v. Writes task session.now v.items) }
 {
@@ -117,7 +118,7 @@ fn answer<R: Threads + Wait + Sync, G: Gate>(
     gate: &G,
     task: Task,
     input: &[u8],
-) -> Result<(Status, Vec<u8>), AllocError>
+) -> Result<(Status, Vec<u8>), OutOfMemory>
     requires { length input.now ≤ 67108864 }
     ensures { IfOk result (λ p. IsAnswer task input.now p.0 p.1.items) }
 {
@@ -130,7 +131,7 @@ fn answer<R: Threads + Wait + Sync, G: Gate>(
             let text = bad_line(alloc, line, word)?;
             Ok((Status::Session, bytes_of(alloc, text.as_str())?))
         }
-        Err(DecodeFault::OutOfMemory) => Err(AllocError),
+        Err(DecodeFault::OutOfMemory) => Err(OutOfMemory),
     }
 }
 
@@ -188,7 +189,7 @@ fn work<R: Threads + Wait + Sync, I: Source, O: Sink, G: Gate>(
     ensures session { result ≡ Status.Session → (input : List ℕ)
         × WasRead (I.left src.old) (I.left src.new) (I.given src.old) (I.given src.new)
         (I.ends src.old) (I.ends src.new) input
-        × ((n : ℕ) × (w : Word) × (decoded input ≡ Err (DecodeFault.Bad n w))
+        × ((n : ℕ) × (w : Word) × (session_of_text input ≡ Err (DecodeFault.Bad n w))
         × Appends (O.written out.old) (O.written out.new) (bad_line n w)) }
     ensures ended { (result ≡ Status.Done) ⊎ (result ≡ Status.Session)
         → Rose (I.ends src.old) (I.ends src.new) }
@@ -214,12 +215,12 @@ fn work<R: Threads + Wait + Sync, I: Source, O: Sink, G: Gate>(
     ensures completes { (Rose (I.faults src.old) (I.faults src.new) → ⊥)
         → (Rose (O.faults out.old) (O.faults out.new) → ⊥)
         → IfSome (I.left src.old) (λ input. length input ≤ 67108864
-        → (s : Session) → decoded input ≡ Ok s
+        → (s : Session) → session_of_text input ≡ Ok s
         → (result ≡ Status.Done) ⊎ (result ≡ Status.Memory)) }
     ensures refuses { (Rose (I.faults src.old) (I.faults src.new) → ⊥)
         → (Rose (O.faults out.old) (O.faults out.new) → ⊥)
         → IfSome (I.left src.old) (λ input. (67108864 < length input)
-        ⊎ ((e : DecodeFault) × (decoded input ≡ Err e))
+        ⊎ ((e : DecodeFault) × (session_of_text input ≡ Err e))
         → (result ≡ Status.Session) ⊎ ((result ≡ Status.TooLarge) ⊎ (result ≡ Status.Memory))) }
 {
     match answer_source(rt, alloc, gate, task, src) {
@@ -295,7 +296,7 @@ pub fn run<R: Threads + Wait + Sync, I: Source, O: Sink, G: Gate>(
     ensures session { result ≡ Status.Session → (input : List ℕ)
         × WasRead (I.left src.old) (I.left src.new) (I.given src.old) (I.given src.new)
         (I.ends src.old) (I.ends src.new) input
-        × ((n : ℕ) × (w : Word) × (decoded input ≡ Err (DecodeFault.Bad n w))
+        × ((n : ℕ) × (w : Word) × (session_of_text input ≡ Err (DecodeFault.Bad n w))
         × Appends (O.written out.old) (O.written out.new) (bad_line n w)) }
     ensures ended { (result ≡ Status.Done) ⊎ (result ≡ Status.Session)
         → (task : Task) → command_of words.now ≡ Some (Command.Read task)
@@ -340,13 +341,13 @@ pub fn run<R: Threads + Wait + Sync, I: Source, O: Sink, G: Gate>(
         → (Rose (O.faults out.old) (O.faults out.new) → ⊥)
         → (task : Task) → command_of words.now ≡ Some (Command.Read task)
         → IfSome (I.left src.old) (λ input. length input ≤ 67108864
-        → (s : Session) → decoded input ≡ Ok s
+        → (s : Session) → session_of_text input ≡ Ok s
         → (result ≡ Status.Done) ⊎ (result ≡ Status.Memory)) }
     ensures refuses { (Rose (I.faults src.old) (I.faults src.new) → ⊥)
         → (Rose (O.faults out.old) (O.faults out.new) → ⊥)
         → (task : Task) → command_of words.now ≡ Some (Command.Read task)
         → IfSome (I.left src.old) (λ input. (67108864 < length input)
-        ⊎ ((e : DecodeFault) × (decoded input ≡ Err e))
+        ⊎ ((e : DecodeFault) × (session_of_text input ≡ Err e))
         → (result ≡ Status.Session) ⊎ ((result ≡ Status.TooLarge) ⊎ (result ≡ Status.Memory))) }
 {
     let command = match command_of(alloc, words) {

@@ -5,8 +5,8 @@ ghost use Rattle.session_replay.specs.Causes.{HasCause, Rose, RoseBy};
 ghost use Rattle.session_replay.specs.Traffic.{AppendsFront, Counts, Had, Moves, WasRead};
 ghost use Rattle.session_replay.specs.declared.traffic.InputFault.{InputFault};
 
-use crate::{Failed, Sink, Source};
-use std::alloc::{AllocError, AllocFailed, Global};
+use crate::{Failed, OutOfMemory, Sink, Source};
+use std::alloc::{AllocFailed, Global};
 
 /// The most bytes of a session.
 pub const LIMIT: usize = 67_108_864;
@@ -30,16 +30,16 @@ impl From<Failed> for InputFault {
     }
 }
 
-impl From<AllocError> for InputFault {
+impl From<OutOfMemory> for InputFault {
     ghost from_gives = { λ _ e. e ≡ InputFault.OutOfMemory };
 
-    fn from(_: AllocError) -> Self {
+    fn from(_: OutOfMemory) -> Self {
         InputFault::OutOfMemory
     }
 }
 
 // The contract keeps the contents from the callers: written out they would be as many zeros.
-fn buffer(alloc: Global, size: usize) -> Result<Vec<u8>, AllocError>
+fn buffer(alloc: Global, size: usize) -> Result<Vec<u8>, OutOfMemory>
     ensures { IfOk result (λ v. vec_len v ≡ size) }
 {
     vec![in alloc; 0u8; size]

@@ -1,7 +1,8 @@
 //! Reads and writes that fail, inputs at the limits, and the sources and sinks themselves.
 use crate::replaying::call;
+use op_model::OutOfMemory;
 use session_replay::{Failed, MemSink, MemSource, Source, Status, SureSink, SureSource};
-use std::alloc::{AllocError, Global};
+use std::alloc::Global;
 use std::sync::Wait;
 use std::test::Fail;
 use std::thread::Threads;
@@ -33,7 +34,7 @@ pub fn ends_with<R: Threads + Wait + Sync>(
     failing: (u64, u64),
     want: Status,
     (input, output): (&str, &str),
-) -> Result<bool, AllocError> {
+) -> Result<bool, OutOfMemory> {
     let reads = vec![in alloc; failing.0]?;
     let mut source = MemSource::new(input.as_bytes().to_vec(alloc)?, 8, reads);
     let mut sink = MemSink::new(alloc, 200, 8, vec![in alloc; failing.1]?)?;
@@ -76,7 +77,7 @@ fn reads_and_writes_that_fail(rt: HostRuntime) -> Result<(), Fail> {
 }
 
 // Whether a piece that is longer than the room fills it, and counts as a failure.
-fn fills_the_room<R: Threads + Wait + Sync>(rt: &R, alloc: Global) -> Result<bool, AllocError> {
+fn fills_the_room<R: Threads + Wait + Sync>(rt: &R, alloc: Global) -> Result<bool, OutOfMemory> {
     let mut source = MemSource::new(SESSION.as_bytes().to_vec(alloc)?, 8, Vec::new(alloc));
     let mut sink = MemSink::new(alloc, 5, 8, Vec::new(alloc))?;
     let status = call(rt, alloc, &["replay"], &mut source, &mut sink)?;
@@ -154,7 +155,7 @@ fn ends_at_the_limits<R: Threads + Wait + Sync>(
     rt: &R,
     alloc: Global,
     copies: &Copies,
-) -> Result<bool, AllocError> {
+) -> Result<bool, OutOfMemory> {
     let ((byte, count), reads, writes, want, output) = copies;
     let input = vec![in alloc; *byte; *count]?;
     let mut source = MemSource::new(input, usize::MAX, reads.to_vec(alloc)?);
@@ -176,7 +177,7 @@ fn inputs_at_the_limits(rt: HostRuntime) -> Result<(), Fail> {
 }
 
 // Whether a session comes to its end where neither reads nor writes fail, and its source is read to its end then.
-fn is_done<R: Threads + Wait + Sync>(rt: &R, alloc: Global) -> Result<bool, AllocError> {
+fn is_done<R: Threads + Wait + Sync>(rt: &R, alloc: Global) -> Result<bool, OutOfMemory> {
     let mut source = SureSource::new(SESSION.as_bytes().to_vec(alloc)?);
     let status = call(rt, alloc, &["replay"], &mut source, &mut SureSink)?;
     Ok(status == Status::Done && source.read(&mut [0u8; 4]) == Ok(0))
@@ -189,7 +190,7 @@ fn ends_that_never_fail(rt: HostRuntime) -> Result<(), Fail> {
 }
 
 // What a source of five bytes, whose third read fails, answers to reads of up to four, and the first four bytes.
-fn reads(alloc: Global) -> Result<([Result<usize, Failed>; 4], [u8; 4], MemSource), AllocError> {
+fn reads(alloc: Global) -> Result<([Result<usize, Failed>; 4], [u8; 4], MemSource), OutOfMemory> {
     let mut source = MemSource::new(b"abcde".to_vec(alloc)?, 8, [3].to_vec(alloc)?);
     let (mut first, mut rest) = ([0u8; 4], [0u8; 4]);
     let answers = [

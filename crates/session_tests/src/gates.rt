@@ -1,7 +1,8 @@
 //! Workers beside the editor: which of them goes first is said by gates, or left to chance.
 use crate::replaying::call_at;
+use op_model::OutOfMemory;
 use session_replay::{Gate, MemSink, MemSource, Status};
-use std::alloc::{AllocError, Global};
+use std::alloc::Global;
 use std::sync::Wait;
 use std::sync::atomic::{AtomicBool, Ordering};
 use std::test::Fail;
@@ -64,7 +65,7 @@ fn come_to_at<R: Threads + Wait + Sync>(
     gate: &Until,
     session: &str,
     report: &str,
-) -> Result<bool, AllocError> {
+) -> Result<bool, OutOfMemory> {
     let mut source = MemSource::new(session.as_bytes().to_vec(alloc)?, 4096, Vec::new(alloc));
     let mut sink = MemSink::new(alloc, 4096, 4096, Vec::new(alloc))?;
     let words = ["replay", "--workers", workers];

@@ -1,8 +1,9 @@
 //! Sessions that are made, and their summaries.
 use crate::ends::ends_with;
 use crate::replaying::call;
+use op_model::OutOfMemory;
 use session_replay::{MemSink, MemSource, Status};
-use std::alloc::{AllocError, Global};
+use std::alloc::Global;
 use std::sync::Wait;
 use std::test::Fail;
 use std::thread::Threads;
@@ -42,7 +43,7 @@ fn summaries(rt: HostRuntime) -> Result<(), Fail> {
 }
 
 // Whether a large session, made twice, has one summary, in which all texts are equal.
-fn is_made_again<R: Threads + Wait + Sync>(rt: &R, alloc: Global) -> Result<bool, AllocError> {
+fn is_made_again<R: Threads + Wait + Sync>(rt: &R, alloc: Global) -> Result<bool, OutOfMemory> {
     let words = ["make", "--seed", "5", "--replicas", "3", "--edits", "400"];
     let mut source = MemSource::new(Vec::new(alloc), 8, Vec::new(alloc));
     let mut first = MemSink::new(alloc, 1000, 8, Vec::new(alloc))?;

@@ -1,7 +1,8 @@
 //! Sessions with queries and their reports, and the words that say how many workers answer them.
 use crate::replaying::{call, first_wrong};
+use op_model::OutOfMemory;
 use session_replay::{MemSink, MemSource, Status};
-use std::alloc::{AllocError, Global};
+use std::alloc::Global;
 use std::sync::Wait;
 use std::test::Fail;
 use std::thread::Threads;
@@ -203,7 +204,7 @@ fn may_come_to<R: Threads + Wait + Sync>(
     words: &[&str],
     session: &str,
     lines: &[&[&str]],
-) -> Result<bool, AllocError> {
+) -> Result<bool, OutOfMemory> {
     let mut source = MemSource::new(session.as_bytes().to_vec(alloc)?, 4096, Vec::new(alloc));
     let mut sink = MemSink::new(alloc, 4096, 4096, Vec::new(alloc))?;
     let status = call(rt, alloc, words, &mut source, &mut sink)?;
@@ -217,7 +218,7 @@ fn all_come_to<R: Threads + Wait + Sync>(
     rt: &R,
     alloc: Global,
     words: &[&str],
-) -> Result<bool, AllocError> {
+) -> Result<bool, OutOfMemory> {
     for (session, lines) in ASKED {
         if !may_come_to(rt, alloc, words, session, lines)? {
             return Ok(false);

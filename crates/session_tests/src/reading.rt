@@ -1,6 +1,7 @@
 //! Sessions as they are read, and inputs that are no sessions.
+use op_model::OutOfMemory;
 use session_lines::{DecodeFault, SessionLine, Word, decode};
-use std::alloc::{AllocError, Global};
+use std::alloc::Global;
 use std::test::Fail;
 
 // Whether the input is no session, and why: its first bad line, and the word for it.
@@ -124,7 +125,7 @@ fn sessions_are_read(rt: HostRuntime) {
 }
 
 // Whether the version of an operation line is read as these entries.
-fn reads_version(alloc: Global, version: &str, want: &[(u16, u32)]) -> Result<bool, AllocError> {
+fn reads_version(alloc: Global, version: &str, want: &[(u16, u32)]) -> Result<bool, OutOfMemory> {
     let input = format!(in alloc; "[\"zedbuf\",1,\"\",[1]]\n[\"op\",[9,1],{version},[]]")?;
     Ok(match decode(alloc, input.as_bytes()) {
         Ok(session) => match session.lines.as_slice() {
@@ -155,7 +156,7 @@ fn versions_in_any_order(rt: HostRuntime) -> Result<(), Fail> {
 }
 
 // The entries of a version as they stand in a line: that many ids, the greatest first, with the value 7, the others with 9.
-fn entries_text(alloc: Global, count: u16) -> Result<String, AllocError> {
+fn entries_text(alloc: Global, count: u16) -> Result<String, OutOfMemory> {
     let mut text = format!(in alloc; "[{count},7]")?;
     for id in 1..count {
         text = format!(in alloc; "{text},[{id},9]")?;
@@ -164,7 +165,7 @@ fn entries_text(alloc: Global, count: u16) -> Result<String, AllocError> {
 }
 
 // These entries in the order of their ids.
-fn entries(alloc: Global, count: u16) -> Result<Vec<(u16, u32)>, AllocError> {
+fn entries(alloc: Global, count: u16) -> Result<Vec<(u16, u32)>, OutOfMemory> {
     let mut entries = Vec::new(alloc);
     for id in 1..count {
         entries.push((id, 9))?;
@@ -174,7 +175,7 @@ fn entries(alloc: Global, count: u16) -> Result<Vec<(u16, u32)>, AllocError> {
 }
 
 // Whether a version of that many ids is read, and one with a further entry of the first is refused.
-fn reads_many(alloc: Global, count: u16) -> Result<bool, AllocError> {
+fn reads_many(alloc: Global, count: u16) -> Result<bool, OutOfMemory> {
     let text = entries_text(alloc, count)?;
     let version = format!(in alloc; "[{text}]")?;
     let line = format!(in alloc; "[\"op\",[9,1],[{text},[1,9]],[]]")?;
@@ -367,7 +368,7 @@ fn bad_headers(rt: HostRuntime) {
 }
 
 // Whether a line is the first bad one of its session, for the word.
-fn is_bad_line(alloc: Global, word: Word, line: &str) -> Result<bool, AllocError> {
+fn is_bad_line(alloc: Global, word: Word, line: &str) -> Result<bool, OutOfMemory> {
     let input = format!(in alloc; "[\"zedbuf\",1,\"ab\",[1,2]]\n{line}\n[\"text\",4]\n")?;
     Ok(is_bad(alloc, input.as_bytes(), 2, word))
 }
@@ -415,7 +416,7 @@ const NUMBERS: &[Numbered] = &[
     (FIND, EDIT, 2, 4),
 ];
 
-fn is_bad_there(alloc: Global, row: &Numbered) -> Result<bool, AllocError> {
+fn is_bad_there(alloc: Global, row: &Numbered) -> Result<bool, OutOfMemory> {
     let (first, second, number, line) = row;
     // what stands after the line has no number for it, and is no operation line's own
     let input = format!(in alloc;
@@ -462,7 +463,7 @@ const ANCHOR: &str = r#"["anchor",1,"a",0,"left"]"#;
 
 const MARK: &str = r#"["mark",1,"a"]"#;
 
-fn is_named_so(alloc: Global, row: &(&str, &str, &str, bool)) -> Result<bool, AllocError> {
+fn is_named_so(alloc: Global, row: &(&str, &str, &str, bool)) -> Result<bool, OutOfMemory> {
     let (first, second, third, bad) = row;
     let input = format!(in alloc; "[\"zedbuf\",1,\"ab\",[1,2]]\n{first}\n{second}\n{third}\n")?;
     Ok(if *bad {
@@ -481,7 +482,7 @@ fn names_of_earlier_lines(rt: HostRuntime) -> Result<(), Fail> {
 }
 
 // A header of that many ids.
-fn header(alloc: Global, count: u64) -> Result<String, AllocError> {
+fn header(alloc: Global, count: u64) -> Result<String, OutOfMemory> {
     let mut ids = format!(in alloc; "1023")?;
     for id in 1..count {
         ids = format!(in alloc; "{id},{ids}")?;
@@ -489,12 +490,12 @@ fn header(alloc: Global, count: u64) -> Result<String, AllocError> {
     format!(in alloc; "[\"zedbuf\",1,\"\",[{ids}]]\n")
 }
 
-fn is_header_bad(alloc: Global, count: u64) -> Result<bool, AllocError> {
+fn is_header_bad(alloc: Global, count: u64) -> Result<bool, OutOfMemory> {
     let input = header(alloc, count)?;
     Ok(is_bad(alloc, input.as_bytes(), 1, Word::Header))
 }
 
-fn is_read(alloc: Global, count: u64) -> Result<bool, AllocError> {
+fn is_read(alloc: Global, count: u64) -> Result<bool, OutOfMemory> {
     let input = header(alloc, count)?;
     Ok(decode(alloc, input.as_bytes()).is_ok())
 }
@@ -507,14 +508,14 @@ fn headers_of_many_ids(rt: HostRuntime) -> Result<(), Fail> {
 }
 
 // That many line feeds, and a last line without one.
-fn feeds(alloc: Global, count: usize, last: &str) -> Result<Vec<u8>, AllocError> {
+fn feeds(alloc: Global, count: usize, last: &str) -> Result<Vec<u8>, OutOfMemory> {
     let mut input = vec![in alloc; b'\n'; count]?;
     input.extend_from_slice(last.as_bytes())?;
     Ok(input)
 }
 
 // What an input of that many line feeds, and a last line, is refused for.
-fn fault_of(alloc: Global, count: usize, last: &str) -> Result<Option<DecodeFault>, AllocError> {
+fn fault_of(alloc: Global, count: usize, last: &str) -> Result<Option<DecodeFault>, OutOfMemory> {
     let input = feeds(alloc, count, last)?;
     Ok(decode(alloc, input.as_slice()).err())
 }

@@ -1,6 +1,7 @@
 //! Single sessions with their reports, inputs that are no sessions, and what is counted of a session.
+use op_model::OutOfMemory;
 use session_replay::{Gate, MemSink, MemSource, Sink, Source, Status, run};
-use std::alloc::{AllocError, Global};
+use std::alloc::Global;
 use std::sync::Wait;
 use std::test::Fail;
 use std::thread::Threads;
@@ -21,7 +22,7 @@ pub fn call_at<R: Threads + Wait + Sync, I: Source, O: Sink, G: Gate>(
     source: &mut I,
     sink: &mut O,
     gate: &G,
-) -> Result<Status, AllocError> {
+) -> Result<Status, OutOfMemory> {
     let mut texts = Vec::new(alloc);
     for word in words {
         texts.push(String::from_str(alloc, word)?)?;
@@ -36,7 +37,7 @@ pub fn call<R: Threads + Wait + Sync, I: Source, O: Sink>(
     words: &[&str],
     source: &mut I,
     sink: &mut O,
-) -> Result<Status, AllocError> {
+) -> Result<Status, OutOfMemory> {
     call_at(rt, alloc, words, source, sink, &Passing)
 }
 
@@ -48,7 +49,7 @@ pub fn comes_to<R: Threads + Wait + Sync>(
     input: &str,
     want: Status,
     output: &str,
-) -> Result<bool, AllocError> {
+) -> Result<bool, OutOfMemory> {
     come_to(rt, alloc, &[command], input, want, output)
 }
 
@@ -60,7 +61,7 @@ pub fn come_to<R: Threads + Wait + Sync>(
     input: &str,
     want: Status,
     output: &str,
-) -> Result<bool, AllocError> {
+) -> Result<bool, OutOfMemory> {
     let mut source = MemSource::new(input.as_bytes().to_vec(alloc)?, 8, Vec::new(alloc));
     let mut sink = MemSink::new(alloc, 200_000, 8, Vec::new(alloc))?;
     let status = call(rt, alloc, words, &mut source, &mut sink)?;
@@ -75,7 +76,7 @@ pub fn first_wrong<'a, R: Threads + Wait + Sync>(
     rt: &R,
     alloc: Global,
     sessions: &'a [(&'a str, &'a str)],
-) -> Result<Option<&'a str>, AllocError> {
+) -> Result<Option<&'a str>, OutOfMemory> {
     for (session, report) in sessions {
         if !come_to(rt, alloc, ON_THE_SPOT, session, Status::Done, report)? {
             return Ok(Some(*session));
@@ -343,7 +344,7 @@ fn is_at_the_limit<R: Threads + Wait + Sync>(
     rt: &R,
     alloc: Global,
     letters: &str,
-) -> Result<bool, AllocError> {
+) -> Result<bool, OutOfMemory> {
     let input = format!(in alloc;
         "[\"zedbuf\",1,\"ab\",[1,2]]\n[\"edit\",1,[[0,0,\"{letters}a\"]]]\n[\"edit\",1,[[0,0,\"{letters}\"]]]\n"
     )?;

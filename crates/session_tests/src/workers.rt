@@ -1,7 +1,8 @@
 //! A long session with many queries, which any number of workers answer.
 use crate::replaying::{ON_THE_SPOT, call, come_to};
+use op_model::OutOfMemory;
 use session_replay::{MemSink, MemSource, Status};
-use std::alloc::{AllocError, Global};
+use std::alloc::Global;
 use std::sync::Wait;
 use std::test::Fail;
 use std::thread::Threads;
@@ -633,7 +634,7 @@ fn plain_line(answers: &str) -> &str {
     }
 }
 
-fn plain_report(alloc: Global) -> Result<String, AllocError> {
+fn plain_report(alloc: Global) -> Result<String, OutOfMemory> {
     let mut report = String::from_str(alloc, EVENTS)?;
     for answers in ANSWERS.lines() {
         report.push_str(plain_line(answers))?;
@@ -682,7 +683,7 @@ fn query_lines(report: &str) -> Option<&str> {
 }
 
 // How many operations fewer than all each line counts, as far as the lines may answer the queries.
-fn all_left(alloc: Global, lines: &str) -> Result<Vec<u64>, AllocError> {
+fn all_left(alloc: Global, lines: &str) -> Result<Vec<u64>, OutOfMemory> {
     let mut all = Vec::new(alloc);
     let mut rows = ANSWERS.lines();
     for line in lines.lines() {
@@ -712,7 +713,7 @@ fn never_fall(all: &[u64], workers: usize) -> bool {
 }
 
 // Whether so many workers may give this report.
-fn may_be(alloc: Global, report: &str, workers: usize) -> Result<bool, AllocError> {
+fn may_be(alloc: Global, report: &str, workers: usize) -> Result<bool, OutOfMemory> {
     let Some(lines) = query_lines(report) else {
         return Ok(false);
     };
@@ -726,7 +727,7 @@ fn come_to_one<R: Threads + Wait + Sync>(
     alloc: Global,
     words: &[&str],
     workers: usize,
-) -> Result<bool, AllocError> {
+) -> Result<bool, OutOfMemory> {
     let mut source = MemSource::new(SESSION.as_bytes().to_vec(alloc)?, 4096, Vec::new(alloc));
     let mut sink = MemSink::new(alloc, 200_000, 4096, Vec::new(alloc))?;
     let status = call(rt, alloc, words, &mut source, &mut sink)?;
@@ -751,7 +752,7 @@ fn many_queries_and_any_number_of_workers(rt: HostRuntime) -> Result<(), Fail> {
 }
 
 // A text of 1,048,577 bytes with a needle across the end of each of its first three quarters, which is asked for.
-fn large_session(alloc: Global) -> Result<Vec<u8>, AllocError> {
+fn large_session(alloc: Global) -> Result<Vec<u8>, OutOfMemory> {
     let filler = vec![in alloc; b'x'; 262_142]?;
     let mut session = r#"["zedbuf",1,"b"#.as_bytes().to_vec(alloc)?;
     for _ in 0..4 {
@@ -767,7 +768,7 @@ fn is_found<R: Threads + Wait + Sync>(
     rt: &R,
     alloc: Global,
     workers: &str,
-) -> Result<bool, AllocError> {
+) -> Result<bool, OutOfMemory> {
     let mut source = MemSource::new(large_session(alloc)?, 65_536, Vec::new(alloc));
     let mut sink = MemSink::new(alloc, 1_200_000, 1_200_000, Vec::new(alloc))?;
     let words = ["replay", "--workers", workers];

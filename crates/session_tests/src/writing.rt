@@ -1,16 +1,18 @@
 //! The lines of reports as they are written.
 use lamport_clock::Lamport;
-use op_model::{EditFault, OpFault, PlaceFault, SinceFault, Text, TextEdit, UndoFault, Unit};
+use op_model::{
+    EditFault, OpFault, OutOfMemory, PlaceFault, SinceFault, Text, TextEdit, UndoFault, Unit,
+};
 use session_lines::{
     AnchorAnswer, FindAnswer, Given, Numbers, OffsetAnswer, PointAnswer, QueryAnswer, Report,
     SinceAnswer, TextEdits, TextHead, WhereAnswer, decode, write_line, write_text,
 };
-use std::alloc::{AllocError, Global};
+use std::alloc::Global;
 use std::test::Fail;
 use text_dims::{OffsetUtf16, Point, PointUtf16};
 
 // Whether the line is written after another text: the line is the front and then what is wanted.
-fn writes(alloc: Global, line: Report, front: &str, want: &str) -> Result<bool, AllocError> {
+fn writes(alloc: Global, line: Report, front: &str, want: &str) -> Result<bool, OutOfMemory> {
     let mut out = b"before\n".to_vec(alloc)?;
     write_line(alloc, &mut out, &line)?;
     let whole = format!(in alloc; "before\n{front}{want}\n")?;
@@ -233,7 +235,7 @@ fn writes_answer(
     answer: QueryAnswer,
     front: &str,
     want: &str,
-) -> Result<bool, AllocError> {
+) -> Result<bool, OutOfMemory> {
     let line = Report::Query {
         number: 12,
         applied: 34,
@@ -242,7 +244,7 @@ fn writes_answer(
     writes(alloc, line, front, want)
 }
 
-fn writes_starts(alloc: Global, starts: &[u64], want: &str) -> Result<bool, AllocError> {
+fn writes_starts(alloc: Global, starts: &[u64], want: &str) -> Result<bool, OutOfMemory> {
     let found = FindAnswer::Starts(Numbers::new(starts.to_vec(alloc)?));
     writes_answer(alloc, QueryAnswer::Find(found), "find 12 at 34: ", want)
 }
@@ -276,7 +278,7 @@ fn answers_to_points_and_offsets(rt: HostRuntime) -> Result<(), Fail> {
     Ok(())
 }
 
-fn text(alloc: Global, text: &str) -> Result<Text, AllocError> {
+fn text(alloc: Global, text: &str) -> Result<Text, OutOfMemory> {
     Ok(Text::new(String::from_str(alloc, text)?))
 }
 
@@ -325,13 +327,13 @@ const SINCE_FAULTS: &[(SinceFault, &str)] = &[
     (SinceFault::OpenVersion(65_535), "openversion 65535"),
 ];
 
-fn writes_anchor(alloc: Global, answer: AnchorAnswer, want: &str) -> Result<bool, AllocError> {
+fn writes_anchor(alloc: Global, answer: AnchorAnswer, want: &str) -> Result<bool, OutOfMemory> {
     let name = text(alloc, "a\"\n")?;
     let line = Report::Anchor { name, answer };
     writes(alloc, line, "anchor \"a\\\"\\n\": ", want)
 }
 
-fn writes_where(alloc: Global, answer: WhereAnswer, want: &str) -> Result<bool, AllocError> {
+fn writes_where(alloc: Global, answer: WhereAnswer, want: &str) -> Result<bool, OutOfMemory> {
     let line = Report::Where {
         name: text(alloc, "")?,
         replica: 1023,
@@ -340,12 +342,12 @@ fn writes_where(alloc: Global, answer: WhereAnswer, want: &str) -> Result<bool, 
     writes(alloc, line, "where \"\" at 1023: ", want)
 }
 
-fn writes_mark(alloc: Global) -> Result<bool, AllocError> {
+fn writes_mark(alloc: Global) -> Result<bool, OutOfMemory> {
     let name = text(alloc, "\u{e9}")?;
     writes(alloc, Report::Mark { name }, "mark \"\u{e9}\": ", "set")
 }
 
-fn writes_since(alloc: Global, answer: SinceAnswer, want: &str) -> Result<bool, AllocError> {
+fn writes_since(alloc: Global, answer: SinceAnswer, want: &str) -> Result<bool, OutOfMemory> {
     let line = Report::Since {
         name: text(alloc, "m")?,
         replica: 2,
@@ -354,7 +356,7 @@ fn writes_since(alloc: Global, answer: SinceAnswer, want: &str) -> Result<bool, 
     writes(alloc, line, "since \"m\" at 2: ", want)
 }
 
-fn writes_edits(alloc: Global, edits: &[TextEdit], want: &str) -> Result<bool, AllocError> {
+fn writes_edits(alloc: Global, edits: &[TextEdit], want: &str) -> Result<bool, OutOfMemory> {
     let edits = TextEdits::new(edits.to_vec(alloc)?);
     writes_since(alloc, SinceAnswer::Edits(edits), want)
 }
@@ -380,15 +382,19 @@ fn lines_of_anchors_and_marks(rt: HostRuntime) -> Result<(), Fail> {
     Ok(())
 }
 
+const CURRENT: TextHead = TextHead::CurrentText {
+    replica: 1,
+    bytes: 13,
+    row: 1,
+    column: 10,
+    rows: 2,
+};
+
 const QUOTED: &str = "\"\u{e9}\\n\\\"\\\\\\u0001\u{7f}/\\b\\f\\r\\t\\u001f\"";
 
-fn writes_text(alloc: Global) -> Result<bool, AllocError> {
+fn writes_text(alloc: Global) -> Result<bool, OutOfMemory> {
     let line = Report::Text {
-        replica: 1,
-        bytes: 13,
-        row: 1,
-        column: 10,
-        rows: 2,
+        head: CURRENT,
         text: text(alloc, "\u{e9}\n\"\\\u{1}\u{7f}/\u{8}\u{c}\r\t\u{1f}")?,
     };
     writes(alloc, line, "text 1: 13 bytes, end 1:10, 2 rows, ", QUOTED)
@@ -404,16 +410,16 @@ const PARTS: &[&str] = &[
 ];
 
 // Whether the line with that head and the text in parts is written after another text.
-fn writes_parts(alloc: Global, head: TextHead, front: &str) -> Result<bool, AllocError> {
+fn writes_parts(alloc: Global, head: TextHead, front: &str) -> Result<bool, OutOfMemory> {
     let mut out = b"before\n".to_vec(alloc)?;
     write_text(alloc, &mut out, head, PARTS.iter().copied())?;
     let whole = format!(in alloc; "before\n{front}{QUOTED}\n")?;
     Ok(out.as_slice() == whole.as_bytes())
 }
 
-fn writes_final(alloc: Global) -> Result<bool, AllocError> {
-    let line = Report::Final {
-        replica: 2,
+fn writes_final(alloc: Global) -> Result<bool, OutOfMemory> {
+    let line = Report::Text {
+        head: TextHead::FinalText { replica: 2 },
         text: text(alloc, "")?,
     };
     writes(alloc, line, "final 2: ", r#""""#)
@@ -423,15 +429,8 @@ fn writes_final(alloc: Global) -> Result<bool, AllocError> {
 fn lines_of_texts(rt: HostRuntime) -> Result<(), Fail> {
     assert!(rt; writes_text(rt.alloc())?);
     assert!(rt; writes_final(rt.alloc())?);
-    let head = TextHead::Text {
-        replica: 1,
-        bytes: 13,
-        row: 1,
-        column: 10,
-        rows: 2,
-    };
-    assert!(rt; writes_parts(rt.alloc(), head, "text 1: 13 bytes, end 1:10, 2 rows, ")?);
-    let last = TextHead::Final { replica: 7 };
+    assert!(rt; writes_parts(rt.alloc(), CURRENT, "text 1: 13 bytes, end 1:10, 2 rows, ")?);
+    let last = TextHead::FinalText { replica: 7 };
     assert!(rt; writes_parts(rt.alloc(), last, "final 7: ")?);
     let replica = Report::Replica {
         replica: 1023,
@@ -484,7 +483,7 @@ const COUNTED: &[(&str, &str)] = &[
     ),
 ];
 
-fn is_counted(alloc: Global, input: &str, want: &str) -> Result<bool, AllocError> {
+fn is_counted(alloc: Global, input: &str, want: &str) -> Result<bool, OutOfMemory> {
     match decode(alloc, input.as_bytes()) {
         Ok(session) => writes(alloc, Report::checked(&session), "session ok: ", want),
         Err(_) => Ok(false),

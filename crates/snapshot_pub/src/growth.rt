@@ -4,10 +4,10 @@ ghost use Rattle.std.specs.Prelude.{◌≡◌, [], length, MatchResult};
 ghost use Rattle.text_buffer.specs.Document.{IsFront};
 ghost use Rattle.snapshot_pub.specs.Logs.{log_list, word_of};
 
+use crate::OutOfMemory;
 use crate::kept::Kept;
 use logbook::{Gain, Offer, Plain, Play, Rule, Seen, Start, Word};
 use op_model::Operation;
-use std::alloc::AllocError;
 use text_buffer::Snapshot;
 
 /// What one snapshot adds to a log. No value of it is made: clauses read an array as a list, of any length.
@@ -87,7 +87,7 @@ impl Growth {
     }
 
     /// Adds what the snapshot has beyond the log. On want of memory the log is as before.
-    pub fn grow(&mut self, snapshot: Snapshot) -> Result<Kept, AllocError>
+    pub fn grow(&mut self, snapshot: Snapshot) -> Result<Kept, OutOfMemory>
         requires { IsFront (log_list self.old.reached.log) snapshot }
         ensures book { self.new.reached.book ≡ self.old.reached.book }
         ensures grown { MatchResult result (λ k. (k.snapshot ≡ snapshot)
@@ -102,7 +102,7 @@ impl Growth {
     }
 
     // Adds what the snapshot has beyond so many operations, as many as the log has. Gives the log as it is then.
-    fn extend(&mut self, more: &(u64, Snapshot)) -> Result<Reached, AllocError>
+    fn extend(&mut self, more: &(u64, Snapshot)) -> Result<Reached, OutOfMemory>
         requires count { more.now.0 ≡ self.old.operations }
         requires front { IsFront (log_list self.old.reached.log) more.now.1 }
         ensures book { self.new.reached.book ≡ self.old.reached.book }
@@ -129,7 +129,7 @@ impl Growth {
             );
         // It never is: nobody else has the word, which its type cannot say.
         if found != expected {
-            return Err(AllocError);
+            return Err(OutOfMemory);
         }
         self.operations = operations;
         self.reached = reached.again();

@@ -3,9 +3,9 @@ ghost use Rattle.std.specs.Prelude.{◌≡◌, IfOk, MatchBool};
 ghost use Rattle.text_buffer.specs.Document.{IsFront};
 ghost use Rattle.snapshot_pub.specs.Logs.{log_list};
 
+use crate::OutOfMemory;
 use crate::growth::Reached;
 use left_right::Absorb;
-use std::alloc::AllocError;
 use text_buffer::Snapshot;
 
 /// A snapshot that is or was shown, and the log of its pair as it was then: it comes to the snapshot's own list.
@@ -18,7 +18,7 @@ pub struct Kept {
 
 impl Kept {
     /// A second owner of the same snapshot.
-    pub fn share(&self) -> Result<Kept, AllocError>
+    pub fn share(&self) -> Result<Kept, OutOfMemory>
         ensures { IfOk result (λ k. k ≡ self.now) }
     {
         Ok(Kept {
@@ -47,7 +47,7 @@ impl Absorb<Kept> for Kept {
 
     ghost applied = { λ _ s. s };
 
-    fn absorb_first(&mut self, operation: &Kept, _other: &Kept) -> Result<(), AllocError> {
+    fn absorb_first(&mut self, operation: &Kept, _other: &Kept) -> Result<(), OutOfMemory> {
         *self = operation.share()?;
         Ok(())
     }

@@ -5,13 +5,14 @@ ghost use Rattle.snapshot_pub.specs.Logs.{log_list};
 ghost use Rattle.snapshot_pub.specs.States.{ReaderState, HasLearned};
 ghost use Rattle.snapshot_pub.specs.Fields.{AreOpen, Shows};
 
+use crate::OutOfMemory;
 use crate::growth::Growth;
 use crate::kept::Kept;
 use crate::publisher::{Publisher, Side, close_all};
 use crate::reader::SnapReader;
 use crate::rule::Hand;
 use crate::steps::{ReadEnd, WriteEnd, show_in};
-use std::alloc::{AllocError, Global};
+use std::alloc::Global;
 use std::sync::Wait;
 use text_buffer::Snapshot;
 
@@ -26,7 +27,7 @@ pub fn open_pairs<R: Wait>(
     alloc: Global,
     first: Snapshot,
     readers: u32,
-) -> Result<(Publisher, Vec<SnapReader>), AllocError>
+) -> Result<(Publisher, Vec<SnapReader>), OutOfMemory>
     ensures count { IfOk result (λ r. length r.1.items ≡ readers) }
     ensures published { IfOk result (λ r. r.0.published ≡ replicate readers first) }
     ensures pairs { IfOk result (λ r. map (λ (x : ReaderState). x.pair) r.1.items ≡ r.0.pairs) }
@@ -41,7 +42,7 @@ fn open_over<R: Wait>(
     alloc: Global,
     first: &Snapshot,
     readers: u32,
-) -> Result<(Publisher, Vec<SnapReader>), AllocError>
+) -> Result<(Publisher, Vec<SnapReader>), OutOfMemory>
     ensures count { IfOk result (λ r. length r.1.items ≡ readers) }
     ensures published { IfOk result (λ r. r.0.published ≡ replicate readers first.now) }
     ensures pairs { IfOk result (λ r. map (λ (x : ReaderState). x.pair) r.1.items ≡ r.0.pairs) }
@@ -65,7 +66,7 @@ fn open_all<R: Wait>(
     ends: &mut Vec<SnapReader>,
     first: &Snapshot,
     readers: u32,
-) -> Result<(), AllocError>
+) -> Result<(), OutOfMemory>
     requires empty { (sides.old.items ≡ []) × (ends.old.items ≡ []) }
     requires room { (readers ≤ vec_capacity sides.old) × (readers ≤ vec_capacity ends.old) }
     ensures open { OnOk result (AreOpen first.now readers sides.new.items ends.new.items) }
@@ -82,7 +83,7 @@ fn open_pair<R: Wait>(
     rt: &R,
     alloc: Global,
     first: &Snapshot,
-) -> Result<(Side, SnapReader), AllocError>
+) -> Result<(Side, SnapReader), OutOfMemory>
     ensures shown { IfOk result (λ r. Shows first.now r.0) }
     ensures learned { IfOk result (λ r. HasLearned first.now r.1) }
     ensures own { IfOk result (λ r. r.1.pair ≡ r.0.growth.reached.book) }
@@ -104,7 +105,7 @@ fn open_pair<R: Wait>(
 }
 
 // A log that comes to the list of the snapshot, and the snapshot with it.
-fn begin_log(first: &Snapshot) -> Result<(Growth, Kept), AllocError>
+fn begin_log(first: &Snapshot) -> Result<(Growth, Kept), OutOfMemory>
     ensures snapshot { IfOk result (λ r. r.1.snapshot ≡ first.now) }
     ensures reached { IfOk result (λ r. r.1.reached ≡ r.0.reached) }
 {
@@ -115,7 +116,11 @@ fn begin_log(first: &Snapshot) -> Result<(Growth, Kept), AllocError>
 }
 
 // The two ends of a pair in which the snapshot is shown. Both have seen it.
-fn open_ends<R: Wait>(rt: &R, alloc: Global, kept: &Kept) -> Result<(WriteEnd, ReadEnd), AllocError>
+fn open_ends<R: Wait>(
+    rt: &R,
+    alloc: Global,
+    kept: &Kept,
+) -> Result<(WriteEnd, ReadEnd), OutOfMemory>
     ensures shown { IfOk result (λ r. r.0.desk.shown.value ≡ kept.now) }
     ensures told { IfOk result (λ r. view r.0.desk.place ≡ kept.now ∷ []) }
     ensures learned { IfOk result (λ r. view r.1.place ≡ kept.now ∷ []) }
@@ -131,14 +136,14 @@ fn open_ends<R: Wait>(rt: &R, alloc: Global, kept: &Kept) -> Result<(WriteEnd, R
 }
 
 // A writer's end that shows the snapshot. Nobody has seen it.
-fn make_writer(alloc: Global, kept: &Kept) -> Result<WriteEnd, AllocError>
+fn make_writer(alloc: Global, kept: &Kept) -> Result<WriteEnd, OutOfMemory>
     ensures { IfOk result (λ e. e.desk.shown.value ≡ kept.now) }
 {
     WriteEnd::new(alloc, kept.share()?, kept.share()?, 1)
 }
 
 // Publishes the first snapshot, and makes the reader's end, which learns it.
-fn start<R: Wait>(rt: &R, end: &mut WriteEnd, kept: &Kept) -> Result<ReadEnd, AllocError>
+fn start<R: Wait>(rt: &R, end: &mut WriteEnd, kept: &Kept) -> Result<ReadEnd, OutOfMemory>
     requires { kept.now ≡ end.old.desk.shown.value }
     ensures shown { OnOk result (end.new.desk.shown.value ≡ kept.now) }
     ensures told { OnOk result (view end.new.desk.place ≡ kept.now ∷ []) }
@@ -149,7 +154,7 @@ fn start<R: Wait>(rt: &R, end: &mut WriteEnd, kept: &Kept) -> Result<ReadEnd, Al
 }
 
 // A reader's end that has seen what the writer has seen.
-fn make_reader(end: &mut WriteEnd) -> Result<ReadEnd, AllocError>
+fn make_reader(end: &mut WriteEnd) -> Result<ReadEnd, OutOfMemory>
     ensures shown { end.new.desk.shown ≡ end.old.desk.shown }
     ensures told { view end.new.desk.place ≡ view end.old.desk.place }
     ensures learned { IfOk result (λ r. view r.place ≡ view end.old.desk.place) }

@@ -4,10 +4,10 @@ ghost use Rattle.left_right.specs.Sides.{view};
 ghost use Rattle.text_buffer.specs.Document.{IsFront};
 ghost use Rattle.snapshot_pub.specs.Logs.{log_list};
 
+use crate::OutOfMemory;
 use crate::growth::Growth;
 use crate::kept::Kept;
 use crate::steps::{WriteEnd, show_in};
-use std::alloc::AllocError;
 use std::marker::Model;
 use std::sync::Wait;
 use text_buffer::Snapshot;
@@ -41,7 +41,11 @@ pub struct Side {
 
 impl Side {
     /// Shows the snapshot. On want of memory readers see what they saw.
-    pub(crate) fn publish<R: Wait>(&mut self, rt: &R, snapshot: &Snapshot) -> Result<(), AllocError>
+    pub(crate) fn publish<R: Wait>(
+        &mut self,
+        rt: &R,
+        snapshot: &Snapshot,
+    ) -> Result<(), OutOfMemory>
         requires { IsFront self.old.end.desk.shown.value.snapshot snapshot.now }
         ensures own { self.new.growth.reached.book ≡ self.old.growth.reached.book }
         ensures shown { MatchResult result (λ _. self.new.end.desk.shown.value.snapshot
@@ -49,7 +53,7 @@ impl Side {
             ≡ self.old.end.desk.shown.value.snapshot) }
     {
         if self.is_ahead {
-            return Err(AllocError);
+            return Err(OutOfMemory);
         }
         let kept = self.growth.grow(snapshot.share()?)?;
         let shown = show_in(&mut self.end, rt, kept);
@@ -58,7 +62,7 @@ impl Side {
     }
 
     /// What is shown.
-    pub(crate) fn tell(&self) -> Result<Told, AllocError>
+    pub(crate) fn tell(&self) -> Result<Told, OutOfMemory>
         ensures pair { IfOk result (λ t. t.pair ≡ self.now.growth.reached.book) }
         ensures list { IfOk result (λ t. t.list ≡ self.now.end.desk.shown.value.snapshot) }
     {
@@ -107,7 +111,7 @@ impl Publisher {
         rt: &R,
         i: u32,
         snapshot: &Snapshot,
-    ) -> Result<(), AllocError>
+    ) -> Result<(), OutOfMemory>
         requires pair { i < length self.old.published }
         requires grows { IsFront (slice_index_or self.old.published i []) snapshot.now }
         ensures pairs { self.new.pairs ≡ self.old.pairs }
@@ -123,7 +127,7 @@ impl Publisher {
     /// # Errors
     ///
     /// `OutOfMemory` alone.
-    pub fn tell(&self, i: u32) -> Result<Told, AllocError>
+    pub fn tell(&self, i: u32) -> Result<Told, OutOfMemory>
         requires { i < length self.now.published }
         ensures pair { IfOk result (λ t. t.pair ≡ slice_index_or self.now.pairs i t.pair) }
         ensures list { IfOk result (λ t. t.list ≡ slice_index_or self.now.published i []) }

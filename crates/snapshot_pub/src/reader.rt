@@ -2,10 +2,10 @@
 ghost use Rattle.std.specs.Prelude.{◌≡◌, ◌⊎◌, true, false, IfOk, OnErr, OnOk};
 ghost use Rattle.text_buffer.specs.Document.{IsFront};
 
+use crate::OutOfMemory;
 use crate::kept::Kept;
 use crate::publisher::Told;
 use crate::steps::{ReadEnd, look_in};
-use std::alloc::AllocError;
 use std::marker::Model;
 use text_buffer::Snapshot;
 
@@ -44,7 +44,7 @@ impl SnapReader {
     /// # Errors
     ///
     /// `OutOfMemory` alone. What was given and learned is then as before.
-    pub fn latest(&mut self) -> Result<Snapshot, AllocError>
+    pub fn latest(&mut self) -> Result<Snapshot, OutOfMemory>
         ensures pair { self.new.pair ≡ self.old.pair }
         ensures gives { IfOk result (λ s. s ≡ self.new.longest) }
         ensures begins { IsFront self.old.longest self.new.longest }
@@ -66,7 +66,7 @@ impl SnapReader {
     }
 
     // Gives what the step enter has just seen.
-    fn take(&mut self, kept: Kept) -> Result<Snapshot, AllocError>
+    fn take(&mut self, kept: Kept) -> Result<Snapshot, OutOfMemory>
         requires { kept.reached.book ≡ self.old.pair }
         ensures pair { self.new.pair ≡ self.old.pair }
         ensures seen { self.new.seen ≡ self.old.seen }
@@ -79,7 +79,7 @@ impl SnapReader {
     {
         // It always does: all that was told had been shown before. The rule of the pair, which knows no token, cannot say so.
         if !kept.begins_with(&self.longest) {
-            return Err(AllocError);
+            return Err(OutOfMemory);
         }
         let snapshot = kept.snapshot.share()?;
         self.longest = kept;

@@ -1,5 +1,5 @@
 //! Why a search gives no places.
-use std::alloc::AllocError;
+use crate::OutOfMemory;
 use thiserror::Error;
 
 /// Why a search gives no places.
@@ -11,13 +11,13 @@ pub enum FindFault {
     OutOfMemory,
 }
 
-impl From<AllocError> for FindFault {
+impl From<OutOfMemory> for FindFault {
     ghost use Rattle.std.specs.Prelude.{◌≡◌};
     ghost use Rattle.snapshot_search.specs.declared.fault.FindFault.{FindFault};
 
     ghost from_gives = { λ _ fault. fault ≡ FindFault.OutOfMemory };
 
-    fn from(_: AllocError) -> Self {
+    fn from(_: OutOfMemory) -> Self {
         FindFault::OutOfMemory
     }
 }

@@ -10,4 +10,4 @@ mod progress;
 
 pub use fault::FindFault;
 pub use find::{find_all, find_all_par};
-pub use std::alloc::AllocError as OutOfMemory;
+pub use rope_chunks::OutOfMemory;

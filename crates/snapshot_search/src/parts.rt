@@ -12,7 +12,7 @@ use crate::between::find_between;
 use crate::needle::Needle;
 use rayon::prelude::*;
 use rope_chunks::Rope;
-use std::alloc::{AllocError, Global};
+use std::alloc::Global;
 use std::thread::Threads;
 
 /// The positions at which a rope's text is cut into so many parts of about the same length, with both its ends.
@@ -70,7 +70,7 @@ pub(crate) fn find_in_parts<R: Threads + Sync>(
     for j in 0..found.len() {
         match &found[j] {
             Ok(part) => all.extend_from_slice(part.as_slice())?,
-            Err(_) => return Err(AllocError),
+            Err(_) => return Err(OutOfMemory),
         }
     }
     Ok(all)

@@ -3,22 +3,22 @@ use Rattle.std.proofs.Common.{◌≡◌, ℕ, ◌+◌, ◌-◌, ◌<◌, ◌≤�
 use Rattle.std.proofs.lemmas.List.{take-append-le, drop-append-le, take_all, length-drop}
 use Rattle.std.proofs.Math.Seq.{take-append-add, drop-append-add}
 use Rattle.sum_tree.specs.Seen.{Seen}
-use Rattle.sum_tree.specs.Shape.{joined}
+use Rattle.sum_tree.specs.Shape.{join_items}
 use Rattle.sum_tree.proofs.Children.{joined-take_more, joined-split}
 use Rattle.sum_tree.proofs.Opened.{IsInner}
 
-pub take_of_child : {T : Type 0} (s : Seen T) (ts : List (Seen T)) (k j i : ℕ) (t : Seen T) → IsInner s ts → k < length ts → j < length t.items → length (joined (take k ts)) + j ≡ i → t ≡ get_or ts k t → take i s.items ≡ joined (take k ts) ++ take j t.items
+pub take_of_child : {T : Type 0} (s : Seen T) (ts : List (Seen T)) (k j i : ℕ) (t : Seen T) → IsInner s ts → k < length ts → j < length t.items → length (join_items (take k ts)) + j ≡ i → t ≡ get_or ts k t → take i s.items ≡ join_items (take k ts) ++ take j t.items
 take_of_child {T} s ts k j i t o lt ltj before read =
-    let a = joined (take k ts) in
-    let r = joined (drop (k + 1) ts) in
+    let a = join_items (take k ts) in
+    let r = join_items (drop (k + 1) ts) in
     let whole : s.items ≡ (a ++ t.items) ++ r = o.items ∙ sym (joined-split ts (k + 1)) ∙ ap (λ (xs : List T). xs ++ r) (joined-take_more ts k t lt read) in
     let fits : i ≤ length (a ++ t.items) = omega (arith, before, ltj, length-append a t.items) in
     ap (take i) whole ∙ take-append-le i (a ++ t.items) r fits ∙ ap (λ (n : ℕ). take n (a ++ t.items)) (sym before) ∙ take-append-add a t.items j
 
-pub drop_of_child : {T : Type 0} (s : Seen T) (ts : List (Seen T)) (k j i : ℕ) (t : Seen T) → IsInner s ts → k < length ts → j < length t.items → length (joined (take k ts)) + j ≡ i → t ≡ get_or ts k t → drop i s.items ≡ drop j t.items ++ joined (drop (k + 1) ts)
+pub drop_of_child : {T : Type 0} (s : Seen T) (ts : List (Seen T)) (k j i : ℕ) (t : Seen T) → IsInner s ts → k < length ts → j < length t.items → length (join_items (take k ts)) + j ≡ i → t ≡ get_or ts k t → drop i s.items ≡ drop j t.items ++ join_items (drop (k + 1) ts)
 drop_of_child {T} s ts k j i t o lt ltj before read =
-    let a = joined (take k ts) in
-    let r = joined (drop (k + 1) ts) in
+    let a = join_items (take k ts) in
+    let r = join_items (drop (k + 1) ts) in
     let whole : s.items ≡ (a ++ t.items) ++ r = o.items ∙ sym (joined-split ts (k + 1)) ∙ ap (λ (xs : List T). xs ++ r) (joined-take_more ts k t lt read) in
     let fits : i ≤ length (a ++ t.items) = omega (arith, before, ltj, length-append a t.items) in
     ap (drop i) whole ∙ drop-append-le i (a ++ t.items) r fits ∙ ap (λ (n : ℕ). drop n (a ++ t.items) ++ r) (sym before) ∙ ap (λ (xs : List T). xs ++ r) (drop-append-add a t.items j)
@@ -28,10 +28,10 @@ pub slice_rest : {X : Type 0} (xs : List X) (k : ℕ) → take (length xs - k) (
 slice_rest xs k = take_all (length xs - k) (drop k xs) (omega (arith, length-drop k xs))
 
 -- the rest of a node, from within its child k, is the rest of that child and what lies behind it
-pub rest_of_node : {T : Type 0} (s : Seen T) (ts us vs : List (Seen T)) (k j i : ℕ) (t : Seen T) (rest back : List T) → IsInner s ts → us ≡ ts → vs ≡ ts → k < length us → j < length (get_or us k t).items → length (joined (take k us)) + j ≡ i → t ≡ get_or ts k t → rest ≡ drop j t.items → back ≡ joined (take (length vs - (k + 1)) (drop (k + 1) vs)) → rest ++ back ≡ drop i s.items
+pub rest_of_node : {T : Type 0} (s : Seen T) (ts us vs : List (Seen T)) (k j i : ℕ) (t : Seen T) (rest back : List T) → IsInner s ts → us ≡ ts → vs ≡ ts → k < length us → j < length (get_or us k t).items → length (join_items (take k us)) + j ≡ i → t ≡ get_or ts k t → rest ≡ drop j t.items → back ≡ join_items (take (length vs - (k + 1)) (drop (k + 1) vs)) → rest ++ back ≡ drop i s.items
 rest_of_node {T} s ts us vs k j i t rest back o same again lt ltj before read r b =
     let lt' : k < length ts = omega (arith, lt, ap length same) in
     let ltj' : j < length t.items = subst (λ (u : Seen T). j < length u.items) (sym read) (subst (λ (ws : List (Seen T)). j < length (get_or ws k t).items) same ltj) in
-    let before' : length (joined (take k ts)) + j ≡ i = subst (λ (ws : List (Seen T)). length (joined (take k ws)) + j ≡ i) same before in
-    let behind : back ≡ joined (drop (k + 1) ts) = b ∙ ap joined (slice_rest vs (k + 1)) ∙ ap (λ (ws : List (Seen T)). joined (drop (k + 1) ws)) again in
+    let before' : length (join_items (take k ts)) + j ≡ i = subst (λ (ws : List (Seen T)). length (join_items (take k ws)) + j ≡ i) same before in
+    let behind : back ≡ join_items (drop (k + 1) ts) = b ∙ ap join_items (slice_rest vs (k + 1)) ∙ ap (λ (ws : List (Seen T)). join_items (drop (k + 1) ws)) again in
     ap (λ (xs : List T). xs ++ back) r ∙ ap (λ (xs : List T). drop j t.items ++ xs) behind ∙ sym (drop_of_child s ts k j i t o lt' ltj' before' read)

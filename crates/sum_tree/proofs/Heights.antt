@@ -3,7 +3,7 @@ use Rattle.std.proofs.Common.{◌≡◌, ℕ, ◌≤◌, List, [], ◌∷◌, le
 use Rattle.std.specs.Prelude.{Result, Ok, Err}
 use Rattle.std.specs.List.{All}
 use Rattle.sum_tree.specs.Seen.{Seen}
-use Rattle.sum_tree.specs.Shape.{joined, content_items, IsChild, IsContent}
+use Rattle.sum_tree.specs.Shape.{join_items, content_items, IsChild, IsContent}
 use Rattle.sum_tree.specs.Grown.{IsSplit}
 use Rattle.sum_tree.specs.declared.tree.Content.{Content}
 use Rattle.sum_tree.specs.declared.tree.Content.TheVariants.{Leaf, Inner}
@@ -19,9 +19,9 @@ pub on_ok : {A E : Type 0} {Q : A → Type 0} (r : Result A E) → ((x : A) → 
 on_ok (Ok x) f = f x
 on_ok (Err e) f = tt
 
-joined_filled : {T : Type 0} (h : ℕ) (ts : List (Seen T)) → All (IsChild h) ts → 2 ≤ length ts → 1 ≤ length (joined ts)
+joined_filled : {T : Type 0} (h : ℕ) (ts : List (Seen T)) → All (IsChild h) ts → 2 ≤ length ts → 1 ≤ length (join_items ts)
 joined_filled h [] a l = absurd (omega (arith, l))
-joined_filled h (t ∷ ts) a l = omega (arith, child_filled h t (a 0 t (omega arith)), length-append t.items (joined ts))
+joined_filled h (t ∷ ts) a l = omega (arith, child_filled h t (a 0 t (omega arith)), length-append t.items (join_items ts))
 
 -- a node without items is a leaf
 pub empty_node : {S T : Type 0} (h : ℕ) (c : Content T S) → IsContent h c → content_items c ≡ [] → h ≡ 0

@@ -6,7 +6,7 @@ use Rattle.std.specs.List.{All}
 use Rattle.sum_tree.specs.Laws.{SummaryLaws, fold}
 use Rattle.sum_tree.specs.Seen.{Seen}
 use Rattle.sum_tree.specs.Here.{IsPushedOr}
-use Rattle.sum_tree.specs.Shape.{joined, seen, content_items, content_width, IsChild, IsContent, IsNode}
+use Rattle.sum_tree.specs.Shape.{join_items, node_view, content_items, content_width, IsChild, IsContent, IsNode}
 use Rattle.sum_tree.specs.declared.tree.Node.{Node}
 use Rattle.sum_tree.specs.declared.tree.Content.{Content}
 use Rattle.sum_tree.specs.declared.tree.Content.TheVariants.{Leaf, Inner}
@@ -21,9 +21,9 @@ module _ {T : Type 0} where
       sym all ∙ take_more_set ts (n - 1) u (omega arith)
 
   -- the last child with one item more
-  pub joined-set_last : (ts : List (Seen T)) (n : ℕ) (t u : Seen T) (x : T) → n ≡ length ts → 1 ≤ n → t ≡ get_or ts (n - 1) t → u.items ≡ t.items ++ x ∷ [] → joined (set ts (n - 1) u) ≡ joined ts ++ x ∷ []
+  pub joined-set_last : (ts : List (Seen T)) (n : ℕ) (t u : Seen T) (x : T) → n ≡ length ts → 1 ≤ n → t ≡ get_or ts (n - 1) t → u.items ≡ t.items ++ x ∷ [] → join_items (set ts (n - 1) u) ≡ join_items ts ++ x ∷ []
   joined-set_last ts n t u x e l read grown =
-      ap joined (set_last ts n u e l) ∙ joined-append (take (n - 1) ts) (u ∷ []) ∙ ap (λ (ys : List T). joined (take (n - 1) ts) ++ ys) (joined_single u ∙ grown) ∙ sym (append_assoc (joined (take (n - 1) ts)) t.items (x ∷ [])) ∙ ap (λ (ys : List T). ys ++ x ∷ []) (sym (joined-last ts n t e l read))
+      ap join_items (set_last ts n u e l) ∙ joined-append (take (n - 1) ts) (u ∷ []) ∙ ap (λ (ys : List T). join_items (take (n - 1) ts) ++ ys) (joined_single u ∙ grown) ∙ sym (append_assoc (join_items (take (n - 1) ts)) t.items (x ∷ [])) ∙ ap (λ (ys : List T). ys ++ x ∷ []) (sym (joined-last ts n t e l read))
 
   pub pushed_none : (t u : Seen T) (x : T) (o : Option T) → o ≡ None → IsPushedOr t u x o → (u.items ≡ t.items ++ x ∷ []) × (u.height ≡ t.height) × (t.width ≤ u.width) × (u.width ≤ 12)
   pushed_none t u x o e h = subst (λ (q : Option T). IsPushedOr t u x q) e h
@@ -74,21 +74,21 @@ module _ {S T : Type 0} {empty : S} {op : S → S → S} {admits fits : S → Ty
       ((k.0.0, omega (arith, more)), omega (arith, more, k.1), rw grown sum, rw grown ok, omega (arith, more))
 
   abbrev pub HeldInner : ℕ → ℕ → S → List (Seen T) → Type 0
-  HeldInner h len s ts = (All (IsChild h) ts × (2 ≤ length ts) × (length ts ≤ 12)) × (len ≡ length (joined ts)) × (s ≡ fold empty op sum_of (joined ts)) × fits (fold empty op sum_of (joined ts)) × (length (joined ts) ≤ 2 ^ 40)
+  HeldInner h len s ts = (All (IsChild h) ts × (2 ≤ length ts) × (length ts ≤ 12)) × (len ≡ length (join_items ts)) × (s ≡ fold empty op sum_of (join_items ts)) × fits (fold empty op sum_of (join_items ts)) × (length (join_items ts) ≤ 2 ^ 40)
 
   pub inner_same : (h len : ℕ) (s : S) (v : Vec (Seen T) Global) (n : ℕ) (t u : Seen T) → Held h len s (Inner v) → t ≡ get_or v.items (n - 1) t → u ≡ t → HeldInner h len s (set v.items (n - 1) u)
   inner_same h len s v n t u k read same = subst (λ (ts : List (Seen T)). HeldInner h len s ts) (sym (set_same v.items n t u read same)) k
 
-  pub inner_grown : (h len : ℕ) (s r : S) (v : Vec (Seen T) Global) (n : ℕ) (t u : Seen T) (x : T) → Held h len s (Inner v) → n ≡ length v.items → t ≡ get_or v.items (n - 1) t → u.items ≡ t.items ++ x ∷ [] → u.height ≡ t.height → t.width ≤ u.width → u.width ≤ 12 → r ≡ fold empty op sum_of (joined v.items ++ x ∷ []) → fits (fold empty op sum_of (joined v.items ++ x ∷ [])) → length (joined v.items) < 2 ^ 40 → HeldInner h (len + 1) r (set v.items (n - 1) u)
+  pub inner_grown : (h len : ℕ) (s r : S) (v : Vec (Seen T) Global) (n : ℕ) (t u : Seen T) (x : T) → Held h len s (Inner v) → n ≡ length v.items → t ≡ get_or v.items (n - 1) t → u.items ≡ t.items ++ x ∷ [] → u.height ≡ t.height → t.width ≤ u.width → u.width ≤ 12 → r ≡ fold empty op sum_of (join_items v.items ++ x ∷ []) → fits (fold empty op sum_of (join_items v.items ++ x ∷ [])) → length (join_items v.items) < 2 ^ 40 → HeldInner h (len + 1) r (set v.items (n - 1) u)
   inner_grown h len s r v n t u x k e read items height wide narrow sum ok short =
       let l : 1 ≤ n = omega (arith, k.0.1) in
-      let grown : joined (set v.items (n - 1) u) ≡ joined v.items ++ x ∷ [] = joined-set_last v.items n t u x e l read items in
+      let grown : join_items (set v.items (n - 1) u) ≡ join_items v.items ++ x ∷ [] = joined-set_last v.items n t u x e l read items in
       let child : IsChild h u = grown_child h t u x (last_is_child h v.items n t k.0.0 e l read) items height wide narrow in
       let count : length (set v.items (n - 1) u) ≡ length v.items = length-set v.items (n - 1) u in
-      let more : length (joined (set v.items (n - 1) u)) ≡ length (joined v.items) + 1 = omega (arith, ap length grown, length-append (joined v.items) (x ∷ [])) in
+      let more : length (join_items (set v.items (n - 1) u)) ≡ length (join_items v.items) + 1 = omega (arith, ap length grown, length-append (join_items v.items) (x ∷ [])) in
       ((All-set (IsChild h) v.items (n - 1) u child k.0.0, omega (arith, count, k.0.1), omega (arith, count, k.0.2)), omega (arith, more, k.1), rw grown sum, rw grown ok, omega (arith, more))
 
-pub same_seen : {T S : Type 0} (s : Seen T) (n m : Node T S) (v : Vec (Seen T) Global) (ts : List (Seen T)) → seen n ≡ s → m ≡ n → m.content ≡ Inner v → ts ≡ v.items → record { items = joined ts; height = m.height; width = length ts } ≡ s
+pub same_seen : {T S : Type 0} (s : Seen T) (n m : Node T S) (v : Vec (Seen T) Global) (ts : List (Seen T)) → node_view n ≡ s → m ≡ n → m.content ≡ Inner v → ts ≡ v.items → record { items = join_items ts; height = m.height; width = length ts } ≡ s
 same_seen {T} {S} s n m v ts e f is g =
-    let here : seen m ≡ s = ap seen f ∙ e in
+    let here : node_view m ≡ s = ap node_view f ∙ e in
     rw g (subst (λ (c : Content T S). record { items = content_items c; height = m.height; width = content_width c } ≡ s) is here)

@@ -12,9 +12,9 @@ use Rattle.std.proofs.lemmas.List.Elements.{All-append, All-cons, All-nil, All-h
 use Rattle.std.proofs.lemmas.List.Folds.{find-append}
 use Rattle.std.proofs.lemmas.List.Kept.{AllPairs-filter, AllPairs-cons}
 use Rattle.sum_tree.specs.Seen.{Seen}
-use Rattle.sum_tree.specs.Shape.{joined}
+use Rattle.sum_tree.specs.Shape.{join_items}
 use Rattle.sum_tree.proofs.Children.{joined-split, joined-take_more}
-use Rattle.sum_tree.specs.Keyed.{Ascending, below, above, held, inserted, removed, IsPlace}
+use Rattle.sum_tree.specs.Keyed.{Ascending, below, above, item_of_key, insert_item, remove_key, IsPlace}
 
 module _ {X : Type 0} where
   -- what is put behind the last element follows the whole list
@@ -120,7 +120,7 @@ module _ {T K : Type 0} (cmp : K → K → Ordering) (key : T → K) (o : IsTota
   less_above : (k : K) (xs : List T) → All (λ x. cmp (key x) k ≡ Less) xs → above cmp key k xs ≡ []
   less_above k xs a = filter_no (λ x. is_gt (cmp (key x) k)) xs (λ i d l. ap is_gt (a i d l))
 
-  less_held : (k : K) (xs : List T) → All (λ x. cmp (key x) k ≡ Less) xs → held cmp key k xs ≡ None
+  less_held : (k : K) (xs : List T) → All (λ x. cmp (key x) k ≡ Less) xs → item_of_key cmp key k xs ≡ None
   less_held k xs a = find_no (λ x. is_eq (cmp (key x) k)) xs (λ i d l. ap is_eq (a i d l))
 
   greater_below : (k : K) (xs : List T) → All (λ x. cmp (key x) k ≡ Greater) xs → below cmp key k xs ≡ []
@@ -129,7 +129,7 @@ module _ {T K : Type 0} (cmp : K → K → Ordering) (key : T → K) (o : IsTota
   greater_above : (k : K) (xs : List T) → All (λ x. cmp (key x) k ≡ Greater) xs → above cmp key k xs ≡ xs
   greater_above k xs a = filter_yes (λ x. is_gt (cmp (key x) k)) xs (λ i d l. ap is_gt (a i d l))
 
-  greater_held : (k : K) (xs : List T) → All (λ x. cmp (key x) k ≡ Greater) xs → held cmp key k xs ≡ None
+  greater_held : (k : K) (xs : List T) → All (λ x. cmp (key x) k ≡ Greater) xs → item_of_key cmp key k xs ≡ None
   greater_held k xs a = find_no (λ x. is_eq (cmp (key x) k)) xs (λ i d l. ap is_eq (a i d l))
 
   around_below : (k : K) (xs : List T) (n : ℕ) (ys : List T) (w : IsAround cmp key k xs n ys) → below cmp key k xs ≡ w.front ++ below cmp key k ys
@@ -142,7 +142,7 @@ module _ {T K : Type 0} (cmp : K → K → Ordering) (key : T → K) (o : IsTota
       let p = λ (x : T). is_gt (cmp (key x) k) in
       ap (filter p) w.whole ∙ filter-append p w.front (ys ++ w.back) ∙ ap (λ (zs : List T). zs ++ filter p (ys ++ w.back)) (less_above k w.front w.before) ∙ filter-append p ys w.back ∙ ap (λ (zs : List T). filter p ys ++ zs) (greater_above k w.back w.behind)
 
-  around_held : (k : K) (xs : List T) (n : ℕ) (ys : List T) (w : IsAround cmp key k xs n ys) → held cmp key k xs ≡ held cmp key k ys
+  around_held : (k : K) (xs : List T) (n : ℕ) (ys : List T) (w : IsAround cmp key k xs n ys) → item_of_key cmp key k xs ≡ item_of_key cmp key k ys
   around_held k xs n ys w =
       let p = λ (x : T). is_eq (cmp (key x) k) in
       ap (find p) w.whole ∙ find-append p w.front (ys ++ w.back) ∙ ap (λ (q : Option T). option_or q (find p (ys ++ w.back))) (less_held k w.front w.before) ∙ find-append p ys w.back ∙ ap (λ (q : Option T). option_or (find p ys) q) (greater_held k w.back w.behind) ∙ option_or_none (find p ys)
@@ -230,11 +230,11 @@ module _ {T K : Type 0} (cmp : K → K → Ordering) (key : T → K) (o : IsTota
   abbrev R : T → T → Type 0
   R x y = cmp (key x) (key y) ≡ Less
 
-  pub ascending_removed : (k : K) (xs : List T) → Ascending cmp key xs → Ascending cmp key (removed cmp key k xs)
+  pub ascending_removed : (k : K) (xs : List T) → Ascending cmp key xs → Ascending cmp key (remove_key cmp key k xs)
   ascending_removed k xs a =
       AllPairs-append R (below cmp key k xs) (above cmp key k xs) (AllPairs-filter R (λ x. is_lt (cmp (key x) k)) xs a) (AllPairs-filter R (λ x. is_gt (cmp (key x) k)) xs a) (λ i d l j e m. o.trans (key (get_or (below cmp key k xs) i d)) k (key (get_or (above cmp key k xs) j e)) (less_front k xs i d l) (greater_back k xs j e m))
 
-  pub ascending_inserted : (x : T) (xs : List T) → Ascending cmp key xs → Ascending cmp key (inserted cmp key x xs)
+  pub ascending_inserted : (x : T) (xs : List T) → Ascending cmp key xs → Ascending cmp key (insert_item cmp key x xs)
   ascending_inserted x xs a =
       let k = key x in
       let back : Ascending cmp key (x ∷ above cmp key k xs) = AllPairs-cons R x (above cmp key k xs) (greater_back k xs) (AllPairs-filter R (λ y. is_gt (cmp (key y) k)) xs a) in
@@ -264,48 +264,48 @@ module _ {T K : Type 0} (cmp : K → K → Ordering) (key : T → K) (o : IsTota
   around_ascending k xs n ys w a = AllPairs-left R ys w.back (AllPairs-right R w.front (ys ++ w.back) (subst (λ (us : List T). Ascending cmp key us) w.whole a))
 
   -- the child j, around which the keys are less and greater
-  pub around_child : (k : K) (ts : List (Seen T)) (n j : ℕ) (t : Seen T) → j < length ts → t ≡ get_or ts j t → n ≡ length (joined (take j ts)) → All (λ x. cmp (key x) k ≡ Less) (joined (take j ts)) → All (λ x. cmp (key x) k ≡ Greater) (joined (drop (j + 1) ts)) → IsAround cmp key k (joined ts) n t.items
+  pub around_child : (k : K) (ts : List (Seen T)) (n j : ℕ) (t : Seen T) → j < length ts → t ≡ get_or ts j t → n ≡ length (join_items (take j ts)) → All (λ x. cmp (key x) k ≡ Less) (join_items (take j ts)) → All (λ x. cmp (key x) k ≡ Greater) (join_items (drop (j + 1) ts)) → IsAround cmp key k (join_items ts) n t.items
   around_child k ts n j t lt read count before behind = record {
-    front = joined (take j ts);
-    back = joined (drop (j + 1) ts);
-    whole = sym (joined-split ts (j + 1)) ∙ ap (λ (xs : List T). xs ++ joined (drop (j + 1) ts)) (joined-take_more ts j t lt read) ∙ append_assoc (joined (take j ts)) t.items (joined (drop (j + 1) ts));
+    front = join_items (take j ts);
+    back = join_items (drop (j + 1) ts);
+    whole = sym (joined-split ts (j + 1)) ∙ ap (λ (xs : List T). xs ++ join_items (drop (j + 1) ts)) (joined-take_more ts j t lt read) ∙ append_assoc (join_items (take j ts)) t.items (join_items (drop (j + 1) ts));
     count = count;
     before = before;
     behind = behind;
   }
 
-  pub child_behind : (k : K) (ts : List (Seen T)) (j : ℕ) (t : Seen T) (b : Bool) → Ascending cmp key (joined ts) → j < length ts → t ≡ get_or ts j t → 1 ≤ length t.items → ((d : T) → b ≡ is_lt (cmp (key (get_or t.items (length t.items - 1) d)) k)) → b ≡ false → All (λ x. cmp (key x) k ≡ Greater) (joined (drop (j + 1) ts))
+  pub child_behind : (k : K) (ts : List (Seen T)) (j : ℕ) (t : Seen T) (b : Bool) → Ascending cmp key (join_items ts) → j < length ts → t ≡ get_or ts j t → 1 ≤ length t.items → ((d : T) → b ≡ is_lt (cmp (key (get_or t.items (length t.items - 1) d)) k)) → b ≡ false → All (λ x. cmp (key x) k ≡ Greater) (join_items (drop (j + 1) ts))
   child_behind k ts j t b a lt read l last e =
       let d = head_of t.items l in
       let n = length t.items - 1 in
-      let f = joined (take j ts) in
+      let f = join_items (take j ts) in
       let x = get_or t.items n d in
-      let front : joined (take (j + 1) ts) ≡ f ++ t.items = joined-take_more ts j t lt read in
+      let front : join_items (take (j + 1) ts) ≡ f ++ t.items = joined-take_more ts j t lt read in
       let within : n < length t.items = omega arith in
-      let there : x ≡ get_or (joined (take (j + 1) ts)) (length f + n) x = sym (ap (λ (us : List T). get_or us (length f + n) x) front ∙ get_or-append-add f t.items n x ∙ get_or_default t.items n x d within) in
-      greater_behind k (joined (take (j + 1) ts)) (joined (drop (j + 1) ts)) (length f + n) x (subst (λ (us : List T). Ascending cmp key us) (sym (joined-split ts (j + 1))) a) (omega (arith, ap length front, length-append f t.items)) there (sym (last d) ∙ e)
+      let there : x ≡ get_or (join_items (take (j + 1) ts)) (length f + n) x = sym (ap (λ (us : List T). get_or us (length f + n) x) front ∙ get_or-append-add f t.items n x ∙ get_or_default t.items n x d within) in
+      greater_behind k (join_items (take (j + 1) ts)) (join_items (drop (j + 1) ts)) (length f + n) x (subst (λ (us : List T). Ascending cmp key us) (sym (joined-split ts (j + 1))) a) (omega (arith, ap length front, length-append f t.items)) there (sym (last d) ∙ e)
 
   -- the keys of each child ascend
-  pub child_ascending : (ts : List (Seen T)) (j : ℕ) (t : Seen T) → Ascending cmp key (joined ts) → j < length ts → t ≡ get_or ts j t → Ascending cmp key t.items
+  pub child_ascending : (ts : List (Seen T)) (j : ℕ) (t : Seen T) → Ascending cmp key (join_items ts) → j < length ts → t ≡ get_or ts j t → Ascending cmp key t.items
   child_ascending ts j t a lt read =
-      let f = joined (take j ts) in
-      let front : joined (take (j + 1) ts) ≡ f ++ t.items = joined-take_more ts j t lt read in
-      let two : Ascending cmp key ((f ++ t.items) ++ joined (drop (j + 1) ts)) = subst (λ (us : List T). Ascending cmp key us) (sym (joined-split ts (j + 1)) ∙ ap (λ (us : List T). us ++ joined (drop (j + 1) ts)) front) a in
-      AllPairs-right R f t.items (AllPairs-left R (f ++ t.items) (joined (drop (j + 1) ts)) two)
+      let f = join_items (take j ts) in
+      let front : join_items (take (j + 1) ts) ≡ f ++ t.items = joined-take_more ts j t lt read in
+      let two : Ascending cmp key ((f ++ t.items) ++ join_items (drop (j + 1) ts)) = subst (λ (us : List T). Ascending cmp key us) (sym (joined-split ts (j + 1)) ∙ ap (λ (us : List T). us ++ join_items (drop (j + 1) ts)) front) a in
+      AllPairs-right R f t.items (AllPairs-left R (f ++ t.items) (join_items (drop (j + 1) ts)) two)
 
-  pub child_before : (k : K) (ts : List (Seen T)) (j : ℕ) (t : Seen T) (b : Bool) → Ascending cmp key (joined ts) → j < length ts → t ≡ get_or ts j t → 1 ≤ length t.items → ((d : T) → b ≡ is_lt (cmp (key (get_or t.items (length t.items - 1) d)) k)) → b ≡ true → All (λ x. cmp (key x) k ≡ Less) (joined (take j ts)) → All (λ x. cmp (key x) k ≡ Less) (joined (take (j + 1) ts))
+  pub child_before : (k : K) (ts : List (Seen T)) (j : ℕ) (t : Seen T) (b : Bool) → Ascending cmp key (join_items ts) → j < length ts → t ≡ get_or ts j t → 1 ≤ length t.items → ((d : T) → b ≡ is_lt (cmp (key (get_or t.items (length t.items - 1) d)) k)) → b ≡ true → All (λ x. cmp (key x) k ≡ Less) (join_items (take j ts)) → All (λ x. cmp (key x) k ≡ Less) (join_items (take (j + 1) ts))
   child_before k ts j t b a lt read l last e less =
-      let f = joined (take j ts) in
-      let front : joined (take (j + 1) ts) ≡ f ++ t.items = joined-take_more ts j t lt read in
+      let f = join_items (take j ts) in
+      let front : join_items (take (j + 1) ts) ≡ f ++ t.items = joined-take_more ts j t lt read in
       subst (λ (us : List T). All (λ x. cmp (key x) k ≡ Less) us) (sym front) (All-append (λ x. cmp (key x) k ≡ Less) f t.items less (all_less k t.items b (child_ascending ts j t a lt read) l last e))
 
-  pub put_inserted : (k : K) (xs ys : List T) (x : T) (i : ℕ) → IsPlace cmp key k xs (Ok i) → k ≡ key x → ys ≡ (take i xs ++ x ∷ []) ++ drop (i + 1) xs → ys ≡ inserted cmp key x xs
+  pub put_inserted : (k : K) (xs ys : List T) (x : T) (i : ℕ) → IsPlace cmp key k xs (Ok i) → k ≡ key x → ys ≡ (take i xs ++ x ∷ []) ++ drop (i + 1) xs → ys ≡ insert_item cmp key x xs
   put_inserted k xs ys x i p e made = made ∙ append_assoc (take i xs) (x ∷ []) (drop (i + 1) xs) ∙ ap (λ (us : List T). us ++ x ∷ drop (i + 1) xs) p.1 ∙ ap (λ (us : List T). below cmp key k xs ++ x ∷ us) p.2 ∙ ap (λ (q : K). below cmp key q xs ++ x ∷ above cmp key q xs) e
 
-  pub put_between : (k : K) (xs ys : List T) (x : T) (i : ℕ) → IsPlace cmp key k xs (Err i) → k ≡ key x → ys ≡ (take i xs ++ x ∷ []) ++ drop i xs → ys ≡ inserted cmp key x xs
+  pub put_between : (k : K) (xs ys : List T) (x : T) (i : ℕ) → IsPlace cmp key k xs (Err i) → k ≡ key x → ys ≡ (take i xs ++ x ∷ []) ++ drop i xs → ys ≡ insert_item cmp key x xs
   put_between k xs ys x i p e made = made ∙ append_assoc (take i xs) (x ∷ []) (drop i xs) ∙ ap (λ (us : List T). us ++ x ∷ drop i xs) p.1 ∙ ap (λ (us : List T). below cmp key k xs ++ x ∷ us) p.2 ∙ ap (λ (q : K). below cmp key q xs ++ x ∷ above cmp key q xs) e
 
-  pub put_removed : (k : K) (xs ys none : List T) (i : ℕ) → IsPlace cmp key k xs (Ok i) → none ≡ [] → ys ≡ (take i xs ++ none) ++ drop (i + 1) xs → ys ≡ removed cmp key k xs
+  pub put_removed : (k : K) (xs ys none : List T) (i : ℕ) → IsPlace cmp key k xs (Ok i) → none ≡ [] → ys ≡ (take i xs ++ none) ++ drop (i + 1) xs → ys ≡ remove_key cmp key k xs
   put_removed k xs ys none i p e made = made ∙ ap (λ (us : List T). (take i xs ++ us) ++ drop (i + 1) xs) e ∙ ap (λ (us : List T). us ++ drop (i + 1) xs) (append-nil (take i xs) ∙ p.1) ∙ ap (λ (us : List T). below cmp key k xs ++ us) p.2
 
   parts_more : (k : K) (x : T) (xs : List T) (r : Ordering) → cmp (key x) k ≡ r → length (below cmp key k xs) + length (above cmp key k xs) ≤ length xs → length (below cmp key k (x ∷ xs)) + length (above cmp key k (x ∷ xs)) ≤ length (x ∷ xs)
@@ -318,5 +318,5 @@ module _ {T K : Type 0} (cmp : K → K → Ordering) (key : T → K) (o : IsTota
   parts_short k (x ∷ xs) = parts_more k x xs (cmp (key x) k) refl (parts_short k xs)
 
   -- an insertion adds one item at most
-  pub inserted_short : (x : T) (xs : List T) → length (inserted cmp key x xs) ≤ length xs + 1
+  pub inserted_short : (x : T) (xs : List T) → length (insert_item cmp key x xs) ≤ length xs + 1
   inserted_short x xs = omega (arith, parts_short (key x) xs, length-append (below cmp key (key x) xs) (x ∷ above cmp key (key x) xs))

@@ -18,3 +18,8 @@ mod Made
 mod Heights
 mod Pushes
 mod Returns
+mod Nodes
+mod Cuts
+mod Ends
+mod Ranges
+mod Besides

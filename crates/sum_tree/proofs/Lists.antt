@@ -3,11 +3,11 @@ use Rattle.std.proofs.Common.{◌≡◌, ℕ, suc, ◌+◌, ◌-◌, ◌≤◌, 
 use Rattle.std.specs.List.{remove}
 use Rattle.std.proofs.lemmas.List.{append-nil, length-take-le, length-drop, take-take}
 use Rattle.std.proofs.Math.Seq.{take-append-add, take-append_seam, drop-append_seam}
-use Rattle.sum_tree.specs.Spliced.{spliced}
+use Rattle.sum_tree.specs.Spliced.{splice_list}
 
 module _ {X : Type 0} where
   -- what stood from `from` up to `to` is turned to the end and cut off, the run is put there, and both turn back
-  pub put_in : (from to b : ℕ) (xs one two three four run : List X) → from ≤ to → to ≤ length xs → b ≡ length xs - to → one ≡ drop to xs ++ take to xs → two ≡ take (b + from) one → three ≡ two ++ run → four ≡ drop b three ++ take b three → four ≡ spliced from to run xs
+  pub put_in : (from to b : ℕ) (xs one two three four run : List X) → from ≤ to → to ≤ length xs → b ≡ length xs - to → one ≡ drop to xs ++ take to xs → two ≡ take (b + from) one → three ≡ two ++ run → four ≡ drop b three ++ take b three → four ≡ splice_list from to run xs
   put_in from to b xs one two three four run le within e f g h i =
       let back : length (drop to xs) ≡ b = length-drop to xs ∙ sym e in
       let cut : two ≡ drop to xs ++ take from xs = g ∙ ap (take (b + from)) f ∙ ap (λ (n : ℕ). take (n + from) (drop to xs ++ take to xs)) (sym back) ∙ take-append-add (drop to xs) (take to xs) from ∙ ap (λ (ys : List X). drop to xs ++ ys) (take-take from to xs le) in
@@ -16,7 +16,7 @@ module _ {X : Type 0} where
       let first : take b three ≡ drop to xs = ap (take b) whole ∙ ap (λ (n : ℕ). take n (drop to xs ++ (take from xs ++ run))) (sym back) ∙ take-append_seam (drop to xs) (take from xs ++ run) in
       i ∙ ap (λ (ys : List X). ys ++ take b three) last ∙ ap (λ (ys : List X). (take from xs ++ run) ++ ys) first
 
-  pub put_length : (from to : ℕ) (run xs : List X) → from ≤ to → to ≤ length xs → length (spliced from to run xs) ≡ from + length run + (length xs - to)
+  pub put_length : (from to : ℕ) (run xs : List X) → from ≤ to → to ≤ length xs → length (splice_list from to run xs) ≡ from + length run + (length xs - to)
   put_length from to run xs le within =
       omega (arith, length-append (take from xs ++ run) (drop to xs), length-append (take from xs) run, length-take-le from xs (omega (arith, le, within)), length-drop to xs)
 
@@ -26,7 +26,7 @@ module _ {X : Type 0} where
       f ∙ ap (λ (m : ℕ). take m all) size ∙ ap (take (length xs)) g ∙ take-append_seam xs (x ∷ [])
 
   -- a list without one of its elements
-  pub taken_out : (from to : ℕ) (xs run : List X) → from ≤ to → to - from ≡ 1 → length run ≡ 0 → remove xs from ≡ spliced from to run xs
+  pub taken_out : (from to : ℕ) (xs run : List X) → from ≤ to → to - from ≡ 1 → length run ≡ 0 → remove xs from ≡ splice_list from to run xs
   taken_out from to xs [] le one none =
       let next : to ≡ suc from = omega arith in
       rw (next, append-nil (take from xs)) refl

@@ -1,7 +1,7 @@
 -- What is made of children.
 use Rattle.std.proofs.Common.{◌≡◌, ℕ, ◌+◌, ◌^◌, ◌≤◌, List, length, None, arith}
 use Rattle.sum_tree.specs.Seen.{Seen}
-use Rattle.sum_tree.specs.Shape.{joined, IsChild}
+use Rattle.sum_tree.specs.Shape.{join_items, IsChild}
 use Rattle.sum_tree.specs.Grown.{IsSplit}
 
 module _ {T : Type 0} where
@@ -16,5 +16,5 @@ module _ {T : Type 0} where
         many = many wide;
       }
 
-  pub inner_alone : (h : ℕ) (ts : List (Seen T)) (a : Seen T) → a.items ≡ joined ts → a.height ≡ h → a.width ≡ length ts → (6 ≤ a.width → 6 ^ (a.height + 1) ≤ length a.items) → length ts ≤ 12 → IsSplit h (length ts) (joined ts) a None
+  pub inner_alone : (h : ℕ) (ts : List (Seen T)) (a : Seen T) → a.items ≡ join_items ts → a.height ≡ h → a.width ≡ length ts → (6 ≤ a.width → 6 ^ (a.height + 1) ≤ length a.items) → length ts ≤ 12 → IsSplit h (length ts) (join_items ts) a None
   inner_alone h ts a i level width many most = (i, level, omega (arith, width), omega (arith, width, most), many)

@@ -5,7 +5,7 @@ use Rattle.std.proofs.lemmas.List.Elements.{All-append, All-cons, All-nil, All-t
 use Rattle.std.specs.List.{All, insert}
 use Rattle.sum_tree.specs.Laws.{SummaryLaws, fold}
 use Rattle.sum_tree.specs.Seen.{Seen}
-use Rattle.sum_tree.specs.Shape.{joined, IsChild}
+use Rattle.sum_tree.specs.Shape.{join_items, IsChild}
 use Rattle.sum_tree.specs.Grown.{IsSplit, pair_list, with_pair, with_run}
 use Rattle.sum_tree.specs.Here.{IsPushedBesideOr}
 use Rattle.sum_tree.specs.Placed.{IsPlaced, inner_seen, AreChildren}
@@ -58,16 +58,16 @@ module _ {T : Type 0} where
   run_children h ts i j a b all pair =
       All-append (IsChild h) (take i ts ++ pair_list a b) (drop j ts) (All-append (IsChild h) (take i ts) (pair_list a b) (All-take (IsChild h) i ts all) pair) (All-drop (IsChild h) j ts all)
 
-  pub last_whole : (ts : List (Seen T)) (n : ℕ) (t : Seen T) (x : T) (ys : List T) → n ≡ length ts → 2 ≤ length ts → t ≡ get_or ts (n - 1) t → ys ≡ x ∷ [] → joined ts ++ x ∷ [] ≡ joined (take (n - 1) ts) ++ (t.items ++ ys)
+  pub last_whole : (ts : List (Seen T)) (n : ℕ) (t : Seen T) (x : T) (ys : List T) → n ≡ length ts → 2 ≤ length ts → t ≡ get_or ts (n - 1) t → ys ≡ x ∷ [] → join_items ts ++ x ∷ [] ≡ join_items (take (n - 1) ts) ++ (t.items ++ ys)
   last_whole ts n t x ys e least read one =
-      ap (λ (zs : List T). zs ++ x ∷ []) (joined-last ts n t e (omega (arith, e, least)) read) ∙ append_assoc (joined (take (n - 1) ts)) t.items (x ∷ []) ∙ ap (λ (zs : List T). joined (take (n - 1) ts) ++ (t.items ++ zs)) (sym one)
+      ap (λ (zs : List T). zs ++ x ∷ []) (joined-last ts n t e (omega (arith, e, least)) read) ∙ append_assoc (join_items (take (n - 1) ts)) t.items (x ∷ []) ∙ ap (λ (zs : List T). join_items (take (n - 1) ts) ++ (t.items ++ zs)) (sym one)
 
   -- one item more behind those of the last child, which was copied
   pub pushed_beside : (h : ℕ) (ts us : List (Seen T)) (n : ℕ) (t a : Seen T) (b : Option (Seen T)) (x : T) (ys : List T) → All (IsChild h) ts → n ≡ length ts → 2 ≤ length ts → length ts < 12 → t ≡ get_or ts (n - 1) t → ys ≡ x ∷ [] → IsSplit t.height t.width (t.items ++ ys) a b → us ≡ with_pair ts (n - 1) a b → IsPushedBesideOr h ts us x None
   pushed_beside h ts us n t a b x ys all e least few read one split made =
       let l : 1 ≤ n = omega (arith, e, least) in
       let child : IsChild h t = last_is_child h ts n t all e l read in
-      let items : joined us ≡ joined ts ++ x ∷ [] = ap joined made ∙ with_last-joined ts n a b e l ∙ ap (λ (zs : List T). joined (take (n - 1) ts) ++ zs) (pair-joined t.height t.width (t.items ++ ys) a b split) ∙ sym (append_assoc (joined (take (n - 1) ts)) t.items ys) ∙ ap (λ (zs : List T). zs ++ ys) (sym (joined-last ts n t e l read)) ∙ ap (λ (zs : List T). joined ts ++ zs) one in
+      let items : join_items us ≡ join_items ts ++ x ∷ [] = ap join_items made ∙ with_last-joined ts n a b e l ∙ ap (λ (zs : List T). join_items (take (n - 1) ts) ++ zs) (pair-joined t.height t.width (t.items ++ ys) a b split) ∙ sym (append_assoc (join_items (take (n - 1) ts)) t.items ys) ∙ ap (λ (zs : List T). zs ++ ys) (sym (joined-last ts n t e l read)) ∙ ap (λ (zs : List T). join_items ts ++ zs) one in
       let two = pair_few a b in
       let size : length us ≡ length ts - 1 + length (pair_list a b) = ap length made ∙ pair_length ts (n - 1) a b (omega (arith, e, l)) in
       let children : All (IsChild h) us = subst (λ (vs : List (Seen T)). All (IsChild h) vs) (sym made) (run_children h ts (n - 1) (n - 1 + 1) a b all (split_children h t.height t.width (t.items ++ ys) a b child.lower child.wide split)) in
@@ -84,29 +84,29 @@ module _ {T : Type 0} where
   split_moved h h' w xs ys a b e f s = (s.0 ∙ f, subst (λ (n : ℕ). IsChild (n + 1) a) e s.1, subst (λ (n : ℕ). IsChild (n + 1) b) e s.2)
 
   -- two of one height under a new root
-  pub split_root : (h w : ℕ) (xs : List T) (a b : Seen T) → IsSplit h w xs a (Some b) → IsSplit a.height 0 (joined (pair_list a (Some b))) a (Some b)
+  pub split_root : (h w : ℕ) (xs : List T) (a b : Seen T) → IsSplit h w xs a (Some b) → IsSplit a.height 0 (join_items (pair_list a (Some b))) a (Some b)
   split_root h w xs a b s =
       let height : h ≡ a.height = omega (arith, s.1.lower) in
-      split_moved h a.height w xs (joined (pair_list a (Some b))) a b height (sym (pair-joined h w xs a (Some b) s)) s
+      split_moved h a.height w xs (join_items (pair_list a (Some b))) a b height (sym (pair-joined h w xs a (Some b) s)) s
 
   -- the items of all where those of child k are m, and it became two
-  pub paired_all : (ts us : List (Seen T)) (k h w : ℕ) (a b : Seen T) (m xs : List T) → us ≡ with_pair ts k a (Some b) → IsSplit h w m a (Some b) → joined (take k ts) ++ (m ++ joined (drop (k + 1) ts)) ≡ xs → joined us ≡ xs
+  pub paired_all : (ts us : List (Seen T)) (k h w : ℕ) (a b : Seen T) (m xs : List T) → us ≡ with_pair ts k a (Some b) → IsSplit h w m a (Some b) → join_items (take k ts) ++ (m ++ join_items (drop (k + 1) ts)) ≡ xs → join_items us ≡ xs
   paired_all ts us k h w a b m xs made split whole =
-      ap joined made ∙ run-joined ts k (k + 1) a (Some b) ∙ ap (λ (zs : List T). joined (take k ts) ++ (zs ++ joined (drop (k + 1) ts))) (pair-joined h w m a (Some b) split) ∙ whole
+      ap join_items made ∙ run-joined ts k (k + 1) a (Some b) ∙ ap (λ (zs : List T). join_items (take k ts) ++ (zs ++ join_items (drop (k + 1) ts))) (pair-joined h w m a (Some b) split) ∙ whole
 
   pub paired_children : (h : ℕ) (ts us : List (Seen T)) (k : ℕ) (t a b : Seen T) (w : ℕ) (m : List T) → All (IsChild h) ts → IsChild h t → us ≡ with_pair ts k a (Some b) → IsSplit t.height w m a (Some b) → All (IsChild h) us
   paired_children h ts us k t a b w m all child made split =
       subst (λ (vs : List (Seen T)). All (IsChild h) vs) (sym made) (run_children h ts k (k + 1) a (Some b) all (split_children h t.height 6 m a (Some b) child.lower (omega arith) split))
 
   -- a pair that there is room for
-  pub paired_placed : (h : ℕ) (ts us : List (Seen T)) (k : ℕ) (a b : Seen T) → k < length ts → length ts < 12 → AreChildren h ts → IsChild h a → IsChild h b → us ≡ with_pair ts k a (Some b) → AreChildren h us × IsPlaced (length ts) (joined (with_pair ts k a (Some b))) (inner_seen h ts) (inner_seen h us)
+  pub paired_placed : (h : ℕ) (ts us : List (Seen T)) (k : ℕ) (a b : Seen T) → k < length ts → length ts < 12 → AreChildren h ts → IsChild h a → IsChild h b → us ≡ with_pair ts k a (Some b) → AreChildren h us × IsPlaced (length ts) (join_items (with_pair ts k a (Some b))) (inner_seen h ts) (inner_seen h us)
   paired_placed h ts us k a b lt few all p q made =
       let size : length us ≡ length ts - 1 + 2 = ap length made ∙ pair_length ts k a (Some b) lt in
       let pair : All (IsChild h) (pair_list a (Some b)) = All-cons (IsChild h) a (b ∷ []) p (All-cons (IsChild h) b [] q (All-nil (IsChild h))) in
       let children : All (IsChild h) us = subst (λ (vs : List (Seen T)). All (IsChild h) vs) (sym made) (run_children h ts k (k + 1) a (Some b) all.0 pair) in (
         (children, omega (arith, size, all.1), omega (arith, size, few)),
         record {
-          items = ap joined made;
+          items = ap join_items made;
           height = refl;
           wide = omega (arith, size, lt);
           narrow = omega (arith, size, few);
@@ -116,7 +116,7 @@ module _ {T : Type 0} where
 
 module _ {S T : Type 0} {empty : S} {op : S → S → S} {admits fits : S → Type 0} (laws : SummaryLaws empty op admits fits) (sum_of : T → S) (admitted : (x : T) → admits (sum_of x)) where
   -- one item more behind those of the children
-  pub pushed_inner : (h len : ℕ) (s r : S) (v : Vec (Seen T) Global) (us : List (Seen T)) (x : T) → Held laws sum_of admitted h len s (Inner v) → IsPushedBesideOr h v.items us x None → r ≡ fold empty op sum_of (joined v.items ++ x ∷ []) → fits (fold empty op sum_of (joined v.items ++ x ∷ [])) → length (joined v.items) < 2 ^ 40 → HeldInner laws sum_of admitted h (len + 1) r us
+  pub pushed_inner : (h len : ℕ) (s r : S) (v : Vec (Seen T) Global) (us : List (Seen T)) (x : T) → Held laws sum_of admitted h len s (Inner v) → IsPushedBesideOr h v.items us x None → r ≡ fold empty op sum_of (join_items v.items ++ x ∷ []) → fits (fold empty op sum_of (join_items v.items ++ x ∷ [])) → length (join_items v.items) < 2 ^ 40 → HeldInner laws sum_of admitted h (len + 1) r us
   pushed_inner h len s r v us x held p sum ok short =
-      let more : length (joined us) ≡ length (joined v.items) + 1 = omega (arith, ap length p.0, length-append (joined v.items) (x ∷ [])) in
+      let more : length (join_items us) ≡ length (join_items v.items) + 1 = omega (arith, ap length p.0, length-append (join_items v.items) (x ∷ [])) in
       ((p.1, omega (arith, p.2, held.0.1), p.3), omega (arith, more, held.1), rw p.0 sum, rw p.0 ok, omega (arith, more, short))

@@ -1,15 +1,14 @@
 -- What a change of one child in place leaves of a node.
-use Rattle.std.proofs.Common.{refl, ◌≡◌, ℕ, ◌+◌, ◌-◌, ◌^◌, ◌<◌, ◌≤◌, List, [], ◌∷◌, ◌++◌, length, get_or, set, take, drop, Vec, Global, Some, sym, ap, subst, ◌∙◌, append_assoc, arith, length-append}
+use Rattle.std.proofs.Common.{refl, ◌≡◌, ℕ, ◌+◌, ◌-◌, ◌^◌, ◌<◌, ◌≤◌, List, [], ◌∷◌, ◌++◌, length, get_or, set, take, drop, Vec, Global, sym, ap, subst, ◌∙◌, append_assoc, arith, length-append}
 use Rattle.std.proofs.lemmas.List.{length-set, set-get_or, drop-set, take-set-le, length-take-le, length-drop, same_from_push}
 use Rattle.std.proofs.lemmas.List.Elements.{All-set}
 use Rattle.std.specs.List.{All}
 use Rattle.sum_tree.specs.Laws.{SummaryLaws, fold}
 use Rattle.sum_tree.specs.Seen.{Seen}
 use Rattle.std.specs.Prelude.{Result}
-use Rattle.sum_tree.specs.Shape.{joined, content_items, IsChild, IsContent, IsNode}
+use Rattle.sum_tree.specs.Shape.{join_items, content_items, IsChild, IsContent, IsNode}
 use Rattle.sum_tree.specs.declared.tree.Content.{Content}
-use Rattle.sum_tree.specs.Spliced.{spliced}
-use Rattle.sum_tree.specs.Grown.{IsSplit}
+use Rattle.sum_tree.specs.Spliced.{splice_list}
 use Rattle.sum_tree.specs.Placed.{IsPlaced, IsPlacing, IsPlacingOr, IsNoted, content_seen, inner_seen}
 use Rattle.sum_tree.specs.declared.around.Around.{Around}
 use Rattle.sum_tree.specs.declared.here.Placing.{Placing}
@@ -20,7 +19,7 @@ use Rattle.sum_tree.proofs.Lists.{popped}
 use Rattle.sum_tree.proofs.Children.{joined-split, many_enough}
 use Rattle.sum_tree.proofs.Heres.{Held, HeldInner}
 
-pub spliced_length : {X : Type 0} (i n : ℕ) (ys xs : List X) → i + n ≤ length xs → length (spliced i (i + n) ys xs) ≡ length xs - n + length ys
+pub spliced_length : {X : Type 0} (i n : ℕ) (ys xs : List X) → i + n ≤ length xs → length (splice_list i (i + n) ys xs) ≡ length xs - n + length ys
 spliced_length i n ys xs le = omega (arith, le, length-append (take i xs ++ ys) (drop (i + n) xs), length-append (take i xs) ys, length-take-le i xs (omega (arith, le)), length-drop (i + n) xs)
 
 pub same_last : {X : Type 0} (xs ys zs : List X) (x y : X) → zs ≡ xs ++ x ∷ [] → zs ≡ ys ++ y ∷ [] → x ≡ y
@@ -33,13 +32,13 @@ module _ {T : Type 0} where
   pub set_same_at : (ts : List (Seen T)) (k : ℕ) (t u : Seen T) → t ≡ get_or ts k t → u ≡ t → set ts k u ≡ ts
   set_same_at ts k t u read same = ap (set ts k) (same ∙ read) ∙ set-get_or ts k t
 
-  pub joined-set : (ts : List (Seen T)) (k : ℕ) (u : Seen T) → k < length ts → joined (set ts k u) ≡ joined (take k ts) ++ (u.items ++ joined (drop (k + 1) ts))
+  pub joined-set : (ts : List (Seen T)) (k : ℕ) (u : Seen T) → k < length ts → join_items (set ts k u) ≡ join_items (take k ts) ++ (u.items ++ join_items (drop (k + 1) ts))
   joined-set ts k u lt =
-      sym (joined-split (set ts k u) k) ∙ ap (λ (us : List (Seen T)). joined us ++ joined (drop k (set ts k u))) (take-set-le k ts k u (omega arith)) ∙ ap (λ (us : List (Seen T)). joined (take k ts) ++ joined us) (drop-set ts k u lt)
+      sym (joined-split (set ts k u) k) ∙ ap (λ (us : List (Seen T)). join_items us ++ join_items (drop k (set ts k u))) (take-set-le k ts k u (omega arith)) ∙ ap (λ (us : List (Seen T)). join_items (take k ts) ++ join_items us) (drop-set ts k u lt)
 
-  pub placed_all : (ts : List (Seen T)) (k w : ℕ) (t u : Seen T) (m xs : List T) → k < length ts → IsPlaced w m t u → joined (take k ts) ++ (m ++ joined (drop (k + 1) ts)) ≡ xs → joined (set ts k u) ≡ xs
+  pub placed_all : (ts : List (Seen T)) (k w : ℕ) (t u : Seen T) (m xs : List T) → k < length ts → IsPlaced w m t u → join_items (take k ts) ++ (m ++ join_items (drop (k + 1) ts)) ≡ xs → join_items (set ts k u) ≡ xs
   placed_all ts k w t u m xs lt p whole =
-      joined-set ts k u lt ∙ ap (λ (zs : List T). joined (take k ts) ++ (zs ++ joined (drop (k + 1) ts))) p.items ∙ whole
+      joined-set ts k u lt ∙ ap (λ (zs : List T). join_items (take k ts) ++ (zs ++ join_items (drop (k + 1) ts))) p.items ∙ whole
 
   pub placed_child : (h : ℕ) (t u : Seen T) (m : List T) → IsChild h t → IsPlaced 6 m t u → IsChild h u
   placed_child h t u m c p = record {
@@ -49,11 +48,11 @@ module _ {T : Type 0} where
     many = p.many p.wide;
   }
 
-  pub placed_node : (h w : ℕ) (s v : Seen T) (ts : List (Seen T)) (k : ℕ) (t u : Seen T) (m xs : List T) → k < length ts → All (IsChild h) ts → IsChild h t → length ts ≤ 12 → w ≤ length ts → IsPlaced 6 m t u → joined (take k ts) ++ (m ++ joined (drop (k + 1) ts)) ≡ xs → h ≡ s.height → v ≡ record { items = joined (set ts k u); height = h; width = length (set ts k u) } → IsPlaced w xs s v
+  pub placed_node : (h w : ℕ) (s v : Seen T) (ts : List (Seen T)) (k : ℕ) (t u : Seen T) (m xs : List T) → k < length ts → All (IsChild h) ts → IsChild h t → length ts ≤ 12 → w ≤ length ts → IsPlaced 6 m t u → join_items (take k ts) ++ (m ++ join_items (drop (k + 1) ts)) ≡ xs → h ≡ s.height → v ≡ record { items = join_items (set ts k u); height = h; width = length (set ts k u) } → IsPlaced w xs s v
   placed_node h w s v ts k t u m xs lt a c narrow wide p whole height e =
       let count : length (set ts k u) ≡ length ts = length-set ts k u in
       let all : All (IsChild h) (set ts k u) = All-set (IsChild h) ts k u (placed_child h t u m c p) a in
-      let new : IsPlaced w xs s (record { items = joined (set ts k u); height = h; width = length (set ts k u) }) = record {
+      let new : IsPlaced w xs s (record { items = join_items (set ts k u); height = h; width = length (set ts k u) }) = record {
         items = placed_all ts k 6 t u m xs lt p whole;
         height = height;
         wide = omega (arith, count, wide);
@@ -85,15 +84,6 @@ module _ {S E N : Type 0} where
   noted_split n len s p a b sums rest m e f g = rw e (refl, refl, λ xs x h. (rest, refl, popped xs sums.items rest.items m x f g h))
 
 module _ {S T : Type 0} where
-  pub placing_back : (ss : List S) (w : ℕ) (xs ys : List T) (old new : Seen T) (p : Placing (Vec S Global) (Vec T Global) (Seen T)) (es : Vec T Global) → p ≡ Back es → IsPlacing ss w xs ys old new p → (new ≡ old) × (es.items ≡ ys)
-  placing_back ss w xs ys old new p es e h = subst (λ (q : Placing (Vec S Global) (Vec T Global) (Seen T)). IsPlacing ss w xs ys old new q) e h
-
-  pub placing_done : (ss : List S) (w : ℕ) (xs ys : List T) (old new : Seen T) (p : Placing (Vec S Global) (Vec T Global) (Seen T)) (sums : Vec S Global) → p ≡ Done sums → IsPlacing ss w xs ys old new p → IsPlaced w xs old new × (sums.items ≡ ss)
-  placing_done ss w xs ys old new p sums e h = subst (λ (q : Placing (Vec S Global) (Vec T Global) (Seen T)). IsPlacing ss w xs ys old new q) e h
-
-  pub placing_split : (ss : List S) (w : ℕ) (xs ys : List T) (old new : Seen T) (p : Placing (Vec S Global) (Vec T Global) (Seen T)) (a b : Seen T) (sums : Vec S Global) → p ≡ Split a b sums → IsPlacing ss w xs ys old new p → (new ≡ old) × IsSplit old.height 0 xs a (Some b) × (sums.items ≡ ss)
-  placing_split ss w xs ys old new p a b sums e h = subst (λ (q : Placing (Vec S Global) (Vec T Global) (Seen T)). IsPlacing ss w xs ys old new q) e h
-
   pub noted_placing : (n len len' : ℕ) (s s' x : S) (ss : List S) (w : ℕ) (xs ys : List T) (old new : Seen T) (p q : Placing (Vec S Global) (Vec T Global) (Seen T)) → IsPlacing (ss ++ x ∷ []) w xs ys old new p → IsNoted n len len' s s' p q → IsPlacing ss w xs ys old new q
   noted_placing n len len' s s' x ss w xs ys old new (Done sums) q h k =
       let d = k ss x h.1 in

@@ -3,7 +3,7 @@ use Rattle.std.proofs.Common.{refl, ◌≡◌, ℕ, ◌+◌, ◌^◌, ◌<◌, L
 use Rattle.std.specs.Prelude.{Result, Ok, Err}
 use Rattle.sum_tree.specs.Laws.{SummaryLaws, fold}
 use Rattle.sum_tree.specs.Seen.{Seen}
-use Rattle.sum_tree.specs.Shape.{joined, content_items, IsContent, IsNode}
+use Rattle.sum_tree.specs.Shape.{join_items, content_items, IsContent, IsNode}
 use Rattle.sum_tree.specs.Here.{IsPushedOr, IsPushed, IsPushedBeside}
 use Rattle.sum_tree.specs.Placed.{AreChildren, content_seen, inner_seen, leaf_seen}
 use Rattle.sum_tree.specs.declared.tree.Content.{Content}
@@ -19,7 +19,7 @@ beside_children {T} h old new x (Err e) p a = subst (λ (ts : List (Seen T)). Ar
 
 pub beside_pushed : {T E : Type 0} (h : ℕ) (old ts new : List (Seen T)) (y x : T) (r : Result (Option T) E) → old ≡ ts → y ≡ x → IsPushedBeside h old new y r → IsPushed (inner_seen h ts) (inner_seen h new) x r
 beside_pushed {T} h old ts new y x (Ok None) e f p =
-    (p.0 ∙ ap (λ (us : List (Seen T)). joined us ++ y ∷ []) e ∙ ap (λ (z : T). joined ts ++ z ∷ []) f, refl, omega (arith, p.2, ap length e), p.3)
+    (p.0 ∙ ap (λ (us : List (Seen T)). join_items us ++ y ∷ []) e ∙ ap (λ (z : T). join_items ts ++ z ∷ []) f, refl, omega (arith, p.2, ap length e), p.3)
 beside_pushed h old ts new y x (Ok (Some z)) e f p = (ap (inner_seen h) (p.0 ∙ e), p.1 ∙ f)
 beside_pushed h old ts new y x (Err z) e f p = ap (inner_seen h) (p ∙ e)
 

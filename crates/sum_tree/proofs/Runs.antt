@@ -6,8 +6,8 @@ use Rattle.std.proofs.lemmas.List.{reverse-append}
 use Rattle.std.proofs.lemmas.List.Elements.{All-append, All-cons, All-nil, All-head, All-tail}
 use Rattle.sum_tree.specs.Laws.{SummaryLaws, fold}
 use Rattle.sum_tree.specs.Seen.{Seen}
-use Rattle.sum_tree.specs.Shape.{IsChild, joined}
-use Rattle.sum_tree.specs.Groups.{chained, IsGroup}
+use Rattle.sum_tree.specs.Shape.{IsChild, join_items}
+use Rattle.sum_tree.specs.Groups.{elements, IsGroup}
 use Rattle.sum_tree.proofs.Folds.{fits_left, fits_right, fold_single}
 use Rattle.sum_tree.proofs.Children.{joined-append, joined_single}
 
@@ -30,29 +30,29 @@ module _ {X : Type 0} where
   All_right P [] ys a = a
   All_right P (x ∷ xs) ys a = All_right P xs ys (All-tail P x (xs ++ ys) a)
 
-  pub cut_last : (old front all : List X) (v : Vec X Global) (gs news : List (Vec X Global)) (k : ℕ) → front ≡ take k old → v.items ≡ drop k old → news ≡ gs ++ v ∷ [] → old ++ chained (reverse gs) ≡ all → front ++ chained (reverse news) ≡ all
+  pub cut_last : (old front all : List X) (v : Vec X Global) (gs news : List (Vec X Global)) (k : ℕ) → front ≡ take k old → v.items ≡ drop k old → news ≡ gs ++ v ∷ [] → old ++ elements (reverse gs) ≡ all → front ++ elements (reverse news) ≡ all
   cut_last old front all v gs news k f d n whole =
       let turned : reverse news ≡ v ∷ reverse gs = ap reverse n ∙ reverse-append gs (v ∷ []) in
-      ap (λ (xs : List X). xs ++ chained (reverse news)) f ∙ ap (λ (hs : List (Vec X Global)). take k old ++ chained hs) turned ∙ ap (λ (xs : List X). take k old ++ (xs ++ chained (reverse gs))) d ∙ sym (append_assoc (take k old) (drop k old) (chained (reverse gs))) ∙ ap (λ (xs : List X). xs ++ chained (reverse gs)) (take-append-drop k old) ∙ whole
+      ap (λ (xs : List X). xs ++ elements (reverse news)) f ∙ ap (λ (hs : List (Vec X Global)). take k old ++ elements hs) turned ∙ ap (λ (xs : List X). take k old ++ (xs ++ elements (reverse gs))) d ∙ sym (append_assoc (take k old) (drop k old) (elements (reverse gs))) ∙ ap (λ (xs : List X). xs ++ elements (reverse gs)) (take-append-drop k old) ∙ whole
 
   pub All_reverse : (P : X → Type 0) (xs : List X) → All P xs → All P (reverse xs)
   All_reverse P [] a = All-nil P
   All_reverse P (x ∷ xs) a = All_push P (reverse xs) x (reverse (x ∷ xs)) (reverse-append (x ∷ []) xs) (All_reverse P xs (All-tail P x xs a)) (All-head P x xs a)
 
 module _ {X : Type 0} where
-  pub few_groups : (gs : List (Vec X Global)) → All IsGroup gs → 6 * length gs ≤ length (chained gs)
+  pub few_groups : (gs : List (Vec X Global)) → All IsGroup gs → 6 * length gs ≤ length (elements gs)
   few_groups [] a = omega arith
-  few_groups (g ∷ gs) a = omega (arith, (All-head IsGroup g gs a).0, few_groups gs (All-tail IsGroup g gs a), length-append g.items (chained gs))
+  few_groups (g ∷ gs) a = omega (arith, (All-head IsGroup g gs a).0, few_groups gs (All-tail IsGroup g gs a), length-append g.items (elements gs))
 
-  pub enough_groups : (gs : List (Vec X Global)) → All IsGroup gs → length (chained gs) ≤ 12 * length gs
+  pub enough_groups : (gs : List (Vec X Global)) → All IsGroup gs → length (elements gs) ≤ 12 * length gs
   enough_groups [] a = omega arith
-  enough_groups (g ∷ gs) a = omega (arith, (All-head IsGroup g gs a).1, enough_groups gs (All-tail IsGroup g gs a), length-append g.items (chained gs))
+  enough_groups (g ∷ gs) a = omega (arith, (All-head IsGroup g gs a).1, enough_groups gs (All-tail IsGroup g gs a), length-append g.items (elements gs))
 
 module _ {T : Type 0} where
   -- one node more, of the first of what was left
-  pub next_level : (nodes news : List (Seen T)) (n : Seen T) (b m r all : List T) → news ≡ nodes ++ n ∷ [] → n.items ≡ m → b ≡ m ++ r → joined nodes ++ b ≡ all → joined news ++ r ≡ all
+  pub next_level : (nodes news : List (Seen T)) (n : Seen T) (b m r all : List T) → news ≡ nodes ++ n ∷ [] → n.items ≡ m → b ≡ m ++ r → join_items nodes ++ b ≡ all → join_items news ++ r ≡ all
   next_level nodes news n b m r all e i split whole =
-      ap (λ (ts : List (Seen T)). joined ts ++ r) e ∙ ap (λ (xs : List T). xs ++ r) (joined-append nodes (n ∷ []) ∙ ap (λ (xs : List T). joined nodes ++ xs) (joined_single n ∙ i)) ∙ append_assoc (joined nodes) m r ∙ ap (λ (xs : List T). joined nodes ++ xs) (sym split) ∙ whole
+      ap (λ (ts : List (Seen T)). join_items ts ++ r) e ∙ ap (λ (xs : List T). xs ++ r) (joined-append nodes (n ∷ []) ∙ ap (λ (xs : List T). join_items nodes ++ xs) (joined_single n ∙ i)) ∙ append_assoc (join_items nodes) m r ∙ ap (λ (xs : List T). join_items nodes ++ xs) (sym split) ∙ whole
 
   pub leaf_child : (n : Seen T) (g : Vec T Global) → n.items ≡ g.items → n.height ≡ 0 → n.width ≡ length g.items → IsGroup g → IsChild 1 n
   leaf_child n g i h w s = record {

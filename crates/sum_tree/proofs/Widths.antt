@@ -4,7 +4,7 @@ use Rattle.std.specs.Prelude.{Result, Ok, Err}
 use Rattle.std.proofs.lemmas.List.{length-take-le, length-drop}
 use Rattle.std.proofs.lemmas.List.Elements.{All-cons, All-nil}
 use Rattle.sum_tree.specs.Seen.{Seen}
-use Rattle.sum_tree.specs.Shape.{joined, IsChild}
+use Rattle.sum_tree.specs.Shape.{join_items, IsChild}
 use Rattle.sum_tree.specs.Grown.{IsSplit, pair_list, with_run}
 use Rattle.sum_tree.specs.Spliced.{IsSpliced}
 use Rattle.sum_tree.proofs.Pairs.{split_root}
@@ -41,7 +41,7 @@ module _ {T : Type 0} where
   leaf_many : (xs : List T) (a : Seen T) → a.items ≡ xs → a.height ≡ 0 → 6 ≤ length xs → 6 ^ (a.height + 1) ≤ length a.items
   leaf_many xs a i h six = rw (h, i) six
 
-  pub spliced_root : (h w : ℕ) (xs : List T) (a : Seen T) (b : Option (Seen T)) → IsSpliced h w xs a b → IsSplit a.height 0 (joined (pair_list a b)) a b
+  pub spliced_root : (h w : ℕ) (xs : List T) (a : Seen T) (b : Option (Seen T)) → IsSpliced h w xs a b → IsSplit a.height 0 (join_items (pair_list a b)) a b
   spliced_root h w xs a None s = (sym (append-nil a.items), refl, omega arith, s.2, s.3)
   spliced_root h w xs a (Some b) s = split_root h 0 xs a b s
 

@@ -4,8 +4,8 @@ use Rattle.std.specs.Global.{Global}
 use Rattle.std.specs.List.{flat_map}
 
 -- the elements of the runs, one after another
-abbrev pub chained : {X : Type 0} → List (Vec X Global) → List X
-chained gs = flat_map (λ g. g.items) gs
+abbrev pub elements : {X : Type 0} → List (Vec X Global) → List X
+elements gs = flat_map (λ g. g.items) gs
 
 -- a run has 6 to 12 elements
 abbrev pub IsGroup : {X : Type 0} → Vec X Global → Type 0

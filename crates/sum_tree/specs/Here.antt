@@ -2,7 +2,7 @@
 use Rattle.std.specs.Prelude.{◌≡◌, ℕ, ◌≤◌, List, [], ◌∷◌, ◌++◌, length, Option, Some, None, Result, Ok, Err}
 use Rattle.std.specs.List.{All}
 use Rattle.sum_tree.specs.Seen.{Seen}
-use Rattle.sum_tree.specs.Shape.{IsChild, joined}
+use Rattle.sum_tree.specs.Shape.{IsChild, join_items}
 
 -- the item is behind the others, in a tree of the same height; or it came back, and the tree is as it was
 abbrev pub IsPushedOr : {T : Type 0} → Seen T → Seen T → T → Option T → Type 0
@@ -15,7 +15,7 @@ IsPushed old new x (Err e) = new ≡ old
 
 -- the item is behind those of the old children of a node of height h; or it came back, and the children are as they were
 abbrev pub IsPushedBesideOr : {T : Type 0} → ℕ → List (Seen T) → List (Seen T) → T → Option T → Type 0
-IsPushedBesideOr h old new x None = (joined new ≡ joined old ++ x ∷ []) × All (IsChild h) new × (length old ≤ length new) × (length new ≤ 12)
+IsPushedBesideOr h old new x None = (join_items new ≡ join_items old ++ x ∷ []) × All (IsChild h) new × (length old ≤ length new) × (length new ≤ 12)
 IsPushedBesideOr h old new x (Some y) = (new ≡ old) × (y ≡ x)
 
 abbrev pub IsPushedBeside : {T E : Type 0} → ℕ → List (Seen T) → List (Seen T) → T → Result (Option T) E → Type 0

@@ -17,21 +17,21 @@ abbrev pub above : {T K : Type 0} → (K → K → Ordering) → (T → K) → K
 above cmp key k xs = filter (λ x. is_gt (cmp (key x) k)) xs
 
 -- the item whose key is equal to k, if there is one
-abbrev pub held : {T K : Type 0} → (K → K → Ordering) → (T → K) → K → List T → Option T
-held cmp key k xs = find (λ x. is_eq (cmp (key x) k)) xs
+abbrev pub item_of_key : {T K : Type 0} → (K → K → Ordering) → (T → K) → K → List T → Option T
+item_of_key cmp key k xs = find (λ x. is_eq (cmp (key x) k)) xs
 
 -- the list with x at the place of its key, and without the item of an equal key
-abbrev pub inserted : {T K : Type 0} → (K → K → Ordering) → (T → K) → T → List T → List T
-inserted cmp key x xs = below cmp key (key x) xs ++ x ∷ above cmp key (key x) xs
+abbrev pub insert_item : {T K : Type 0} → (K → K → Ordering) → (T → K) → T → List T → List T
+insert_item cmp key x xs = below cmp key (key x) xs ++ x ∷ above cmp key (key x) xs
 
 -- the list without the item whose key is equal to k
-abbrev pub removed : {T K : Type 0} → (K → K → Ordering) → (T → K) → K → List T → List T
-removed cmp key k xs = below cmp key k xs ++ above cmp key k xs
+abbrev pub remove_key : {T K : Type 0} → (K → K → Ordering) → (T → K) → K → List T → List T
+remove_key cmp key k xs = below cmp key k xs ++ above cmp key k xs
 
 -- the item of key k stands at i; or none does, and i is its place
 abbrev pub IsPlace : {T K : Type 0} → (K → K → Ordering) → (T → K) → K → List T → Result ℕ ℕ → Type 0
-IsPlace {T} cmp key k xs (Ok i) = (i < length xs) × (take i xs ≡ below cmp key k xs) × (drop (i + 1) xs ≡ above cmp key k xs) × ((d : T) → held cmp key k xs ≡ Some (get_or xs i d))
-IsPlace cmp key k xs (Err i) = (i ≤ length xs) × (take i xs ≡ below cmp key k xs) × (drop i xs ≡ above cmp key k xs) × (held cmp key k xs ≡ None)
+IsPlace {T} cmp key k xs (Ok i) = (i < length xs) × (take i xs ≡ below cmp key k xs) × (drop (i + 1) xs ≡ above cmp key k xs) × ((d : T) → item_of_key cmp key k xs ≡ Some (get_or xs i d))
+IsPlace cmp key k xs (Err i) = (i ≤ length xs) × (take i xs ≡ below cmp key k xs) × (drop i xs ≡ above cmp key k xs) × (item_of_key cmp key k xs ≡ None)
 
 -- where there is a key, it is that of the last item
 abbrev pub IsLastKey : {T K : Type 0} → (T → K) → List T → Option K → Type 0

@@ -3,7 +3,7 @@ use Rattle.std.specs.Prelude.{◌≡◌, ℕ, ◌+◌, ◌^◌, ◌≤◌, List,
 use Rattle.std.specs.Global.{Global}
 use Rattle.sum_tree.specs.Seen.{Seen}
 use Rattle.std.specs.List.{All}
-use Rattle.sum_tree.specs.Shape.{joined, content_items, content_width, IsChild}
+use Rattle.sum_tree.specs.Shape.{join_items, content_items, content_width, IsChild}
 use Rattle.sum_tree.specs.declared.tree.Content.{Content}
 use Rattle.sum_tree.specs.Grown.{IsSplit}
 use Rattle.sum_tree.specs.declared.here.Placing.{Placing}
@@ -17,7 +17,7 @@ abbrev pub leaf_seen : {T : Type 0} → List T → Seen T
 leaf_seen xs = record { items = xs; height = 0; width = length xs }
 
 abbrev pub inner_seen : {T : Type 0} → ℕ → List (Seen T) → Seen T
-inner_seen h ts = record { items = joined ts; height = h; width = length ts }
+inner_seen h ts = record { items = join_items ts; height = h; width = length ts }
 
 -- what a node of height h asks of its children together
 abbrev pub AreChildren : {T : Type 0} → ℕ → List (Seen T) → Type 0

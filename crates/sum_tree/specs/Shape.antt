@@ -8,19 +8,19 @@ use Rattle.sum_tree.specs.declared.tree.Content.{Content}
 use Rattle.sum_tree.specs.declared.tree.Content.TheVariants.{Leaf, Inner}
 
 -- the items of the trees, one after another
-abbrev pub joined : {T : Type 0} → List (Seen T) → List T
-joined ts = flat_map (λ t. t.items) ts
+abbrev pub join_items : {T : Type 0} → List (Seen T) → List T
+join_items ts = flat_map (λ t. t.items) ts
 
 abbrev pub content_items : {T S : Type 0} → Content T S → List T
 content_items (Leaf v) = v.items
-content_items (Inner v) = joined v.items
+content_items (Inner v) = join_items v.items
 
 abbrev pub content_width : {T S : Type 0} → Content T S → ℕ
 content_width (Leaf v) = length v.items
 content_width (Inner v) = length v.items
 
-abbrev pub seen : {T S : Type 0} → Node T S → Seen T
-seen n = record { items = content_items n.content; height = n.height; width = content_width n.content }
+abbrev pub node_view : {T S : Type 0} → Node T S → Seen T
+node_view n = record { items = content_items n.content; height = n.height; width = content_width n.content }
 
 -- what a node of height h asks of each child
 pub record IsChild {T : Type 0} (h : ℕ) (t : Seen T) : Type 0 where

@@ -2,13 +2,13 @@
 use Rattle.std.specs.Prelude.{◌≡◌, ℕ, ◌+◌, ◌<◌, ◌^◌, ◌≤◌, List, ◌++◌, length, take, drop, get_or, Option, Some, None, Vec, ◌⊎◌}
 use Rattle.std.specs.Global.{Global}
 use Rattle.sum_tree.specs.Seen.{Seen}
-use Rattle.sum_tree.specs.Shape.{IsChild, joined}
+use Rattle.sum_tree.specs.Shape.{IsChild, join_items}
 use Rattle.sum_tree.specs.declared.splice.Splicing.{Splicing}
 use Rattle.sum_tree.specs.declared.splice.Splicing.TheVariants.{Done, Back}
 
 -- the list with ys in the place of what stands from i up to j
-abbrev pub spliced : {X : Type 0} → ℕ → ℕ → List X → List X → List X
-spliced i j ys xs = (take i xs ++ ys) ++ drop j xs
+abbrev pub splice_list : {X : Type 0} → ℕ → ℕ → List X → List X → List X
+splice_list i j ys xs = (take i xs ++ ys) ++ drop j xs
 
 -- a, and then b where there is one, stand at the height of a child of a node of height h. Alone, a may be narrow.
 abbrev pub IsPiece : {T : Type 0} → ℕ → Seen T → Option (Seen T) → Type 0
@@ -33,4 +33,4 @@ IsReturn n ys (Back es) = (1 < n) ⊎ (12 < length ys)
 
 -- from its item r on, child k holds the n items from i on
 abbrev pub IsWithin : {T : Type 0} → List (Seen T) → ℕ → ℕ → ℕ → ℕ → Type 0
-IsWithin {T} ts i n k r = (k < length ts) × ((d : Seen T) → r + n ≤ length (get_or ts k d).items) × (length (joined (take k ts)) + r ≡ i)
+IsWithin {T} ts i n k r = (k < length ts) × ((d : Seen T) → r + n ≤ length (get_or ts k d).items) × (length (join_items (take k ts)) + r ≡ i)

@@ -1,13 +1,14 @@
 //! The sums of the nodes on a path, made before anything on it changes.
 ghost use Rattle.std.specs.Prelude.{◌≡◌, ◌<◌, ◌++◌, length, take, drop, ◌+◌, IfOk};
 ghost use Rattle.sum_tree.specs.Laws.{fold};
-ghost use Rattle.sum_tree.specs.Shape.{joined};
+ghost use Rattle.sum_tree.specs.Shape.{join_items};
 ghost use Rattle.sum_tree.specs.Around.{path_sums, Fitting};
 
+use crate::OutOfMemory;
 use crate::entry::Entry;
 use crate::traits::{Item, Summary};
 use crate::tree::SumTree;
-use std::alloc::{AllocError, Global};
+use std::alloc::Global;
 
 // The sums of what stands before and behind the child on the path.
 #[derive(Drop)]
@@ -20,7 +21,7 @@ pub(crate) struct Around<S: Drop> {
 pub(crate) fn entries_sum<T: Item>(
     alloc: Global,
     entries: &[Entry<T>],
-) -> Result<T::Summary, AllocError>
+) -> Result<T::Summary, OutOfMemory>
     requires fits { T.Summary.fits (fold T.Summary.empty T.Summary.op T.sum_of entries.now) }
     ensures { IfOk result (λ s. s ≡ fold T.Summary.empty T.Summary.op T.sum_of entries.now) }
 {
@@ -41,9 +42,9 @@ pub(crate) fn entries_sum<T: Item>(
 pub(crate) fn trees_sum<T: Item>(
     alloc: Global,
     trees: &[SumTree<T>],
-) -> Result<T::Summary, AllocError>
-    requires fits { T.Summary.fits (fold T.Summary.empty T.Summary.op T.sum_of (joined trees.now)) }
-    ensures { IfOk result (λ s. s ≡ fold T.Summary.empty T.Summary.op T.sum_of (joined trees.now)) }
+) -> Result<T::Summary, OutOfMemory>
+    requires fits { T.Summary.fits (fold T.Summary.empty T.Summary.op T.sum_of (join_items trees.now)) }
+    ensures { IfOk result (λ s. s ≡ fold T.Summary.empty T.Summary.op T.sum_of (join_items trees.now)) }
 {
     let mut sum = T::Summary::zero(alloc);
     let Some((first, rest)) = trees.split_first() else {
@@ -63,13 +64,13 @@ pub(crate) fn around_child<T: Item>(
     alloc: Global,
     nodes: &[SumTree<T>],
     k: usize,
-) -> Result<Around<T::Summary>, AllocError>
+) -> Result<Around<T::Summary>, OutOfMemory>
     requires within { k < length nodes.now }
-    requires fits { T.Summary.fits (fold T.Summary.empty T.Summary.op T.sum_of (joined nodes.now)) }
+    requires fits { T.Summary.fits (fold T.Summary.empty T.Summary.op T.sum_of (join_items nodes.now)) }
     ensures before { IfOk result (λ a. a.before
-        ≡ fold T.Summary.empty T.Summary.op T.sum_of (joined (take k nodes.now))) }
+        ≡ fold T.Summary.empty T.Summary.op T.sum_of (join_items (take k nodes.now))) }
     ensures behind { IfOk result (λ a. a.behind
-        ≡ fold T.Summary.empty T.Summary.op T.sum_of (joined (drop (k + 1) nodes.now))) }
+        ≡ fold T.Summary.empty T.Summary.op T.sum_of (join_items (drop (k + 1) nodes.now))) }
 {
     let before = trees_sum(alloc, &nodes[..k])?;
     let behind = trees_sum(alloc, &nodes[k + 1..])?;
@@ -82,7 +83,7 @@ pub(crate) fn three_sum<T: Item>(
     front: &[Entry<T>],
     middle: &[Entry<T>],
     back: &[Entry<T>],
-) -> Result<T::Summary, AllocError>
+) -> Result<T::Summary, OutOfMemory>
     requires { T.Summary.fits (fold T.Summary.empty T.Summary.op T.sum_of
         ((front.now ++ middle.now) ++ back.now)) }
     ensures { IfOk result (λ s. s ≡ fold T.Summary.empty T.Summary.op T.sum_of
@@ -101,7 +102,7 @@ pub(crate) fn settled<S: Summary>(
     alloc: Global,
     mut around: Vec<Around<S>>,
     sum: S,
-) -> Result<Vec<S>, AllocError>
+) -> Result<Vec<S>, OutOfMemory>
     requires { Fitting S.fits S.op around.items sum }
     ensures { IfOk result (λ ss. ss.items ≡ path_sums S.op around.items sum) }
 {

@@ -2,8 +2,9 @@
 ghost use Rattle.std.specs.Prelude.{◌≡◌, ◌^◌, ◌<◌};
 ghost use Rattle.sum_tree.specs.Count.{no_items, count_sum, CountFits, AnyCount, count_laws};
 
+use crate::OutOfMemory;
 use crate::traits::Summary;
-use std::alloc::{AllocError, Global};
+use std::alloc::Global;
 
 /// How many items there are.
 #[derive(Clone, Copy, Debug, PartialEq, Eq)]
@@ -28,7 +29,7 @@ impl Summary for Count {
         Count { items: 0 }
     }
 
-    fn add(&mut self, _alloc: Global, other: &Count) -> Result<(), AllocError> {
+    fn add(&mut self, _alloc: Global, other: &Count) -> Result<(), OutOfMemory> {
         self.items += other.items;
         Ok(())
     }

@@ -1,15 +1,16 @@
 //! The front and the rest of a tree.
 ghost use Rattle.std.specs.Prelude.{◌≡◌, ℕ, ◌+◌, ◌*◌, ◌^◌, ◌<◌, ◌≤◌, [], ◌∷◌, ◌++◌, length, take, drop, IfOk, All};
 ghost use Rattle.sum_tree.specs.Laws.{fold};
-ghost use Rattle.sum_tree.specs.Shape.{IsChild, joined};
+ghost use Rattle.sum_tree.specs.Shape.{IsChild, join_items};
 
+use crate::OutOfMemory;
 use crate::entry::Entry;
 use crate::grow::{both, copy_onto, share_onto};
 use crate::read::child_at;
 use crate::steps::Steps;
 use crate::traits::Item;
 use crate::tree::{Content, SumTree, empty, inner, leaf};
-use std::alloc::{AllocError, Global};
+use std::alloc::Global;
 use std::marker::Brand;
 use std::sync::ledger::{Blank, Ledger};
 
@@ -19,13 +20,13 @@ fn run<T: Item, L: Ledger>(
     height: u32,
     nodes: &[SumTree<T>],
     steps: &mut Steps<L>,
-) -> Result<SumTree<T>, AllocError>
+) -> Result<SumTree<T>, OutOfMemory>
     requires some { 1 ≤ length nodes.now }
     requires children { All (IsChild height) nodes.now }
     requires most { length nodes.now ≤ 12 }
-    requires short { length (joined nodes.now) ≤ 2 ^ 40 }
-    requires fits { T.Summary.fits (fold T.Summary.empty T.Summary.op T.sum_of (joined nodes.now)) }
-    ensures items { IfOk result (λ t. t.items ≡ joined nodes.now) }
+    requires short { length (join_items nodes.now) ≤ 2 ^ 40 }
+    requires fits { T.Summary.fits (fold T.Summary.empty T.Summary.op T.sum_of (join_items nodes.now)) }
+    ensures items { IfOk result (λ t. t.items ≡ join_items nodes.now) }
     ensures least { IfOk result (λ t. height ≤ t.height + 1) }
     ensures most { IfOk result (λ t. t.height ≤ height) }
     ensures cost { steps.new ≤ steps.old + 1 }
@@ -43,7 +44,7 @@ fn copied_leaf<T: Item, L: Ledger>(
     alloc: Global,
     entries: &[Entry<T>],
     steps: &mut Steps<L>,
-) -> Result<SumTree<T>, AllocError>
+) -> Result<SumTree<T>, OutOfMemory>
     requires narrow { length entries.now ≤ 12 }
     requires fits { T.Summary.fits (fold T.Summary.empty T.Summary.op T.sum_of entries.now) }
     ensures items { IfOk result (λ t. t.items ≡ entries.now) }
@@ -58,7 +59,7 @@ fn copied_leaf<T: Item, L: Ledger>(
 impl<T: Item> SumTree<T> {
     /// The first n items, or all if there are not more, in a tree that shares each subtree which lies within them. It
     /// makes nodes along one path, and what it takes to join the runs of shared children there.
-    pub fn taken(&self, alloc: Global, n: u64) -> Result<SumTree<T>, AllocError>
+    pub fn taken(&self, alloc: Global, n: u64) -> Result<SumTree<T>, OutOfMemory>
         ensures { IfOk result (λ t. t.items ≡ take n self.now.items) }
     {
         self.taken_with::<Brand>(alloc, n, Blank::new(1))
@@ -70,7 +71,7 @@ impl<T: Item> SumTree<T> {
         alloc: Global,
         n: u64,
         blank: Blank,
-    ) -> Result<SumTree<T>, AllocError>
+    ) -> Result<SumTree<T>, OutOfMemory>
         requires name { blank.name ≡ L.name }
         requires parts { blank.parts ≡ L.parts }
         requires some { 0 < blank.parts }
@@ -86,7 +87,7 @@ impl<T: Item> SumTree<T> {
         alloc: Global,
         n: u64,
         steps: &mut Steps<L>,
-    ) -> Result<SumTree<T>, AllocError>
+    ) -> Result<SumTree<T>, OutOfMemory>
         ensures items { IfOk result (λ t. t.items ≡ take n self.now.items) }
         ensures height { IfOk result (λ t. t.height ≤ self.now.height + 1) }
         ensures low { IfOk result (λ t. steps.new
@@ -115,7 +116,7 @@ impl<T: Item> SumTree<T> {
 
     /// The items behind the first n, if there are any, in a tree that shares each subtree which lies within them. It
     /// makes nodes along one path, and what it takes to join the runs of shared children there.
-    pub fn dropped(&self, alloc: Global, n: u64) -> Result<SumTree<T>, AllocError>
+    pub fn dropped(&self, alloc: Global, n: u64) -> Result<SumTree<T>, OutOfMemory>
         ensures { IfOk result (λ t. t.items ≡ drop n self.now.items) }
     {
         self.dropped_with::<Brand>(alloc, n, Blank::new(1))
@@ -127,7 +128,7 @@ impl<T: Item> SumTree<T> {
         alloc: Global,
         n: u64,
         blank: Blank,
-    ) -> Result<SumTree<T>, AllocError>
+    ) -> Result<SumTree<T>, OutOfMemory>
         requires name { blank.name ≡ L.name }
         requires parts { blank.parts ≡ L.parts }
         requires some { 0 < blank.parts }
@@ -143,7 +144,7 @@ impl<T: Item> SumTree<T> {
         alloc: Global,
         n: u64,
         steps: &mut Steps<L>,
-    ) -> Result<SumTree<T>, AllocError>
+    ) -> Result<SumTree<T>, OutOfMemory>
         ensures items { IfOk result (λ t. t.items ≡ drop n self.now.items) }
         ensures height { IfOk result (λ t. t.height ≤ self.now.height + 1) }
         ensures low { IfOk result (λ t. steps.new

@@ -1,8 +1,9 @@
 //! An item of a leaf, with its summary.
 ghost use Rattle.std.specs.Prelude.{◌≡◌, IfOk};
 
+use crate::OutOfMemory;
 use crate::traits::{Item, Summary};
-use std::alloc::{AllocError, Global};
+use std::alloc::Global;
 use std::marker::Model;
 use std::sync::Arc;
 
@@ -32,7 +33,7 @@ impl<T: Item> Model for Entry<T> {
 
 impl<T: Item> Entry<T> {
     /// The item with its summary, which is asked for here.
-    pub fn new(alloc: Global, item: T) -> Result<Entry<T>, AllocError>
+    pub fn new(alloc: Global, item: T) -> Result<Entry<T>, OutOfMemory>
         requires { T.Summary.fits (T.sum_of item) }
         ensures { IfOk result (λ e. e ≡ item) }
     {
@@ -56,7 +57,7 @@ impl<T: Item> Entry<T> {
     }
 
     /// The same entry for a further owner. Does not allocate.
-    pub fn share(&self) -> Result<Entry<T>, AllocError>
+    pub fn share(&self) -> Result<Entry<T>, OutOfMemory>
         ensures { IfOk result (λ e. e ≡ self.now) }
     {
         let summed = Arc::try_clone(&self.summed)?;

@@ -1,21 +1,22 @@
 //! Trees put end to end, by new nodes along one side. What is not on that side is shared.
 ghost use Rattle.std.specs.Prelude.{◌≡◌, ℕ, ◌+◌, ◌*◌, ◌^◌, ◌<◌, ◌≤◌, [], ◌∷◌, ◌++◌, length, min, max, Some, IfOk, OnOk, OnErr, All};
 ghost use Rattle.sum_tree.specs.Laws.{fold};
-ghost use Rattle.sum_tree.specs.Shape.{IsChild, joined};
+ghost use Rattle.sum_tree.specs.Shape.{IsChild, join_items};
 ghost use Rattle.sum_tree.specs.Grown.{IsSplit, pair_list, with_pair, with_run};
 
+use crate::OutOfMemory;
 use crate::entry::Entry;
 use crate::steps::Steps;
 use crate::traits::Item;
 use crate::tree::{Content, MOST, SumTree, inner, leaf, single};
-use std::alloc::{AllocError, Global};
+use std::alloc::Global;
 use std::marker::Brand;
 use std::sync::ledger::{Blank, Ledger};
 
 pub(crate) fn copy_onto<T: Item>(
     entries: &[Entry<T>],
     out: &mut Vec<Entry<T>>,
-) -> Result<(), AllocError>
+) -> Result<(), OutOfMemory>
     ensures { OnOk result (out.new.items ≡ out.old.items ++ entries.now) }
 {
     for entry in entries {
@@ -27,7 +28,7 @@ pub(crate) fn copy_onto<T: Item>(
 pub(crate) fn share_onto<T: Item>(
     children: &[SumTree<T>],
     out: &mut Vec<SumTree<T>>,
-) -> Result<(), AllocError>
+) -> Result<(), OutOfMemory>
     ensures { OnOk result (out.new.items ≡ out.old.items ++ children.now) }
 {
     for child in children {
@@ -41,7 +42,7 @@ pub(crate) fn two_leaves<T: Item, L: Ledger>(
     alloc: Global,
     mut entries: Vec<Entry<T>>,
     steps: &mut Steps<L>,
-) -> Result<(SumTree<T>, SumTree<T>), AllocError>
+) -> Result<(SumTree<T>, SumTree<T>), OutOfMemory>
     requires many { 12 < length entries.items }
     requires most { length entries.items ≤ 24 }
     requires fits { T.Summary.fits (fold T.Summary.empty T.Summary.op T.sum_of entries.items) }
@@ -60,7 +61,7 @@ pub(crate) fn leaves<T: Item, L: Ledger>(
     alloc: Global,
     entries: Vec<Entry<T>>,
     steps: &mut Steps<L>,
-) -> Result<(SumTree<T>, Option<SumTree<T>>), AllocError>
+) -> Result<(SumTree<T>, Option<SumTree<T>>), OutOfMemory>
     requires most { length entries.items ≤ 24 }
     requires fits { T.Summary.fits (fold T.Summary.empty T.Summary.op T.sum_of entries.items) }
     ensures split { IfOk result (λ p. IsSplit 0 (length entries.items) entries.items p.0 p.1) }
@@ -79,14 +80,14 @@ pub(crate) fn two_inners<T: Item, L: Ledger>(
     height: u32,
     mut children: Vec<SumTree<T>>,
     steps: &mut Steps<L>,
-) -> Result<(SumTree<T>, SumTree<T>), AllocError>
+) -> Result<(SumTree<T>, SumTree<T>), OutOfMemory>
     requires children { All (IsChild height) children.items }
     requires many { 12 < length children.items }
     requires most { length children.items ≤ 24 }
-    requires short { length (joined children.items) ≤ 2 ^ 40 }
+    requires short { length (join_items children.items) ≤ 2 ^ 40 }
     requires fits { T.Summary.fits (fold T.Summary.empty T.Summary.op T.sum_of
-        (joined children.items)) }
-    ensures split { IfOk result (λ p. IsSplit height 0 (joined children.items) p.0 (Some p.1)) }
+        (join_items children.items)) }
+    ensures split { IfOk result (λ p. IsSplit height 0 (join_items children.items) p.0 (Some p.1)) }
     ensures cost { steps.new ≤ steps.old + 2 }
 {
     let half = children.len() / 2;
@@ -102,15 +103,15 @@ pub(crate) fn inners<T: Item, L: Ledger>(
     height: u32,
     children: Vec<SumTree<T>>,
     steps: &mut Steps<L>,
-) -> Result<(SumTree<T>, Option<SumTree<T>>), AllocError>
+) -> Result<(SumTree<T>, Option<SumTree<T>>), OutOfMemory>
     requires children { All (IsChild height) children.items }
     requires least { 2 ≤ length children.items }
     requires most { length children.items ≤ 24 }
-    requires short { length (joined children.items) ≤ 2 ^ 40 }
+    requires short { length (join_items children.items) ≤ 2 ^ 40 }
     requires fits { T.Summary.fits (fold T.Summary.empty T.Summary.op T.sum_of
-        (joined children.items)) }
+        (join_items children.items)) }
     ensures split { IfOk result (λ p. IsSplit height (length children.items)
-        (joined children.items) p.0 p.1) }
+        (join_items children.items) p.0 p.1) }
     ensures cost { steps.new ≤ steps.old + 2 }
 {
     if children.len() <= MOST {
@@ -124,7 +125,7 @@ fn pair_onto<T: Item>(
     front: SumTree<T>,
     back: Option<SumTree<T>>,
     out: &mut Vec<SumTree<T>>,
-) -> Result<(), AllocError>
+) -> Result<(), OutOfMemory>
     ensures { OnOk result (out.new.items ≡ out.old.items ++ pair_list front back) }
 {
     out.push(front)?;
@@ -145,7 +146,7 @@ pub(crate) fn gathered<T: Item>(
     to: usize,
     front: SumTree<T>,
     back: Option<SumTree<T>>,
-) -> Result<Vec<SumTree<T>>, AllocError>
+) -> Result<Vec<SumTree<T>>, OutOfMemory>
     requires order { from ≤ to }
     requires within { to ≤ length nodes.now }
     ensures { IfOk result (λ ts. ts.items ≡ with_run nodes.now from to front back) }
@@ -166,17 +167,17 @@ fn with_child<T: Item, L: Ledger>(
     front: SumTree<T>,
     back: Option<SumTree<T>>,
     steps: &mut Steps<L>,
-) -> Result<(SumTree<T>, Option<SumTree<T>>), AllocError>
+) -> Result<(SumTree<T>, Option<SumTree<T>>), OutOfMemory>
     requires children { All (IsChild height) nodes.now }
     requires least { 2 ≤ length nodes.now }
     requires most { length nodes.now ≤ 12 }
     requires within { k < length nodes.now }
     requires pair { All (IsChild height) (pair_list front back) }
-    requires short { length (joined (with_pair nodes.now k front back)) ≤ 2 ^ 40 }
+    requires short { length (join_items (with_pair nodes.now k front back)) ≤ 2 ^ 40 }
     requires fits { T.Summary.fits (fold T.Summary.empty T.Summary.op T.sum_of
-        (joined (with_pair nodes.now k front back))) }
+        (join_items (with_pair nodes.now k front back))) }
     ensures split { IfOk result (λ p. IsSplit height (length nodes.now)
-        (joined (with_pair nodes.now k front back)) p.0 p.1) }
+        (join_items (with_pair nodes.now k front back)) p.0 p.1) }
     ensures cost { steps.new ≤ steps.old + 2 }
 {
     let children = gathered(alloc, nodes, k, k + 1, front, back)?;
@@ -190,7 +191,7 @@ impl<T: Item> SumTree<T> {
         alloc: Global,
         other: &SumTree<T>,
         steps: &mut Steps<L>,
-    ) -> Result<(SumTree<T>, Option<SumTree<T>>), AllocError>
+    ) -> Result<(SumTree<T>, Option<SumTree<T>>), OutOfMemory>
         requires level { other.now.height ≡ self.now.height }
         requires short { length (self.now.items ++ other.now.items) ≤ 2 ^ 40 }
         requires fits { T.Summary.fits (fold T.Summary.empty T.Summary.op T.sum_of
@@ -222,7 +223,7 @@ impl<T: Item> SumTree<T> {
         alloc: Global,
         other: &SumTree<T>,
         steps: &mut Steps<L>,
-    ) -> Result<(SumTree<T>, Option<SumTree<T>>), AllocError>
+    ) -> Result<(SumTree<T>, Option<SumTree<T>>), OutOfMemory>
         requires lower { other.now.height ≤ self.now.height }
         requires short { length (self.now.items ++ other.now.items) ≤ 2 ^ 40 }
         requires fits { T.Summary.fits (fold T.Summary.empty T.Summary.op T.sum_of
@@ -250,7 +251,7 @@ impl<T: Item> SumTree<T> {
         alloc: Global,
         other: &SumTree<T>,
         steps: &mut Steps<L>,
-    ) -> Result<(SumTree<T>, Option<SumTree<T>>), AllocError>
+    ) -> Result<(SumTree<T>, Option<SumTree<T>>), OutOfMemory>
         requires lower { other.now.height ≤ self.now.height }
         requires short { length (other.now.items ++ self.now.items) ≤ 2 ^ 40 }
         requires fits { T.Summary.fits (fold T.Summary.empty T.Summary.op T.sum_of
@@ -274,7 +275,7 @@ impl<T: Item> SumTree<T> {
     /// Puts the items of `other` behind those of this tree. With h the greater height of the two, it makes at most
     /// 2 (h + 1) + 1 nodes, those where the two trees meet; the others are shared. On want of memory this tree is as
     /// before, and `other` is let go.
-    pub fn append(&mut self, alloc: Global, other: SumTree<T>) -> Result<(), AllocError>
+    pub fn append(&mut self, alloc: Global, other: SumTree<T>) -> Result<(), OutOfMemory>
         requires short { length (self.old.items ++ other.items) ≤ 2 ^ 40 }
         requires fits { T.Summary.fits (fold T.Summary.empty T.Summary.op T.sum_of
             (self.old.items ++ other.items)) }
@@ -290,7 +291,7 @@ impl<T: Item> SumTree<T> {
         alloc: Global,
         other: SumTree<T>,
         blank: Blank,
-    ) -> Result<(), AllocError>
+    ) -> Result<(), OutOfMemory>
         requires name { blank.name ≡ L.name }
         requires parts { blank.parts ≡ L.parts }
         requires some { 0 < blank.parts }
@@ -310,7 +311,7 @@ impl<T: Item> SumTree<T> {
         alloc: Global,
         other: SumTree<T>,
         steps: &mut Steps<L>,
-    ) -> Result<(), AllocError>
+    ) -> Result<(), OutOfMemory>
         requires short { length (self.old.items ++ other.items) ≤ 2 ^ 40 }
         requires fits { T.Summary.fits (fold T.Summary.empty T.Summary.op T.sum_of
             (self.old.items ++ other.items)) }
@@ -326,7 +327,7 @@ impl<T: Item> SumTree<T> {
     /// changed in place: where the leaf is one and has room, no node is made; else only below the lowest of them that has
     /// room for one child more, at most two for each level and one more. Else at most 2 (h + 2), with h the height. On
     /// want of memory the tree is as before, and the item is let go.
-    pub fn push(&mut self, alloc: Global, item: T) -> Result<(), AllocError>
+    pub fn push(&mut self, alloc: Global, item: T) -> Result<(), OutOfMemory>
         requires short { length self.old.items < 2 ^ 40 }
         requires fits { T.Summary.fits (fold T.Summary.empty T.Summary.op T.sum_of
             (self.old.items ++ item ∷ [])) }
@@ -342,7 +343,7 @@ impl<T: Item> SumTree<T> {
         alloc: Global,
         item: T,
         blank: Blank,
-    ) -> Result<(), AllocError>
+    ) -> Result<(), OutOfMemory>
         requires name { blank.name ≡ L.name }
         requires parts { blank.parts ≡ L.parts }
         requires some { 0 < blank.parts }
@@ -362,7 +363,7 @@ impl<T: Item> SumTree<T> {
         alloc: Global,
         item: T,
         steps: &mut Steps<L>,
-    ) -> Result<(), AllocError>
+    ) -> Result<(), OutOfMemory>
         requires short { length self.old.items < 2 ^ 40 }
         requires fits { T.Summary.fits (fold T.Summary.empty T.Summary.op T.sum_of
             (self.old.items ++ item ∷ [])) }
@@ -388,7 +389,7 @@ pub(crate) fn both<T: Item, L: Ledger>(
     front: &SumTree<T>,
     back: &SumTree<T>,
     steps: &mut Steps<L>,
-) -> Result<SumTree<T>, AllocError>
+) -> Result<SumTree<T>, OutOfMemory>
     requires short { length (front.now.items ++ back.now.items) ≤ 2 ^ 40 }
     requires fits { T.Summary.fits (fold T.Summary.empty T.Summary.op T.sum_of
         (front.now.items ++ back.now.items)) }
@@ -421,12 +422,12 @@ pub(crate) fn root<T: Item, L: Ledger>(
     front: SumTree<T>,
     back: Option<SumTree<T>>,
     steps: &mut Steps<L>,
-) -> Result<SumTree<T>, AllocError>
-    requires pair { IsSplit front.height 0 (joined (pair_list front back)) front back }
-    requires short { length (joined (pair_list front back)) ≤ 2 ^ 40 }
+) -> Result<SumTree<T>, OutOfMemory>
+    requires pair { IsSplit front.height 0 (join_items (pair_list front back)) front back }
+    requires short { length (join_items (pair_list front back)) ≤ 2 ^ 40 }
     requires fits { T.Summary.fits (fold T.Summary.empty T.Summary.op T.sum_of
-        (joined (pair_list front back))) }
-    ensures items { IfOk result (λ t. t.items ≡ joined (pair_list front back)) }
+        (join_items (pair_list front back))) }
+    ensures items { IfOk result (λ t. t.items ≡ join_items (pair_list front back)) }
     ensures least { IfOk result (λ t. front.height ≤ t.height) }
     ensures most { IfOk result (λ t. t.height ≤ front.height + 1) }
     ensures cost { steps.new ≤ steps.old + 1 }

@@ -1,13 +1,14 @@
 //! Changes in place, where no other tree shares the nodes on the way.
 ghost use Rattle.std.specs.Prelude.{◌≡◌, ℕ, List, ◌+◌, ◌*◌, ◌^◌, ◌<◌, ◌≤◌, [], ◌∷◌, ◌++◌, length, All, Some, IfOk, IfSome, OnOk, OnErr};
 ghost use Rattle.sum_tree.specs.Laws.{fold};
-ghost use Rattle.sum_tree.specs.Shape.{IsChild, IsContent, joined, content_items, content_width};
+ghost use Rattle.sum_tree.specs.Shape.{IsChild, IsContent, join_items, content_items, content_width};
 ghost use Rattle.sum_tree.specs.Grown.{with_pair};
 ghost use Rattle.sum_tree.specs.Here.{IsPushed, IsPushedBeside};
 ghost use Rattle.sum_tree.specs.Around.{Fitting, outer_sums, path_sums};
 ghost use Rattle.sum_tree.specs.Placed.{AreChildren, IsNoted, IsPlacing, IsPlacingOr, content_seen, inner_seen, leaf_seen};
-ghost use Rattle.sum_tree.specs.Spliced.{spliced};
+ghost use Rattle.sum_tree.specs.Spliced.{splice_list};
 
+use crate::OutOfMemory;
 use crate::around::{Around, around_child, entries_sum, settled, three_sum};
 use crate::entry::Entry;
 use crate::grow::{gathered, two_inners, two_leaves};
@@ -15,7 +16,7 @@ use crate::splice::{child_with, three_parts};
 use crate::steps::Steps;
 use crate::traits::{Item, Summary};
 use crate::tree::{Content, LEAST, MOST, SumTree, single};
-use std::alloc::{AllocError, Global};
+use std::alloc::Global;
 use std::marker::Brand;
 use std::sync::Arc;
 use std::sync::ledger::{Blank, Ledger};
@@ -36,10 +37,10 @@ fn turn_run<X: Drop>(
     from: usize,
     to: usize,
     mut run: Vec<X>,
-) -> Result<(), AllocError>
+) -> Result<(), OutOfMemory>
     requires order { from ≤ to }
     requires within { to ≤ length list.old.items }
-    ensures ok { OnOk result (list.new.items ≡ spliced from to run.items list.old.items) }
+    ensures ok { OnOk result (list.new.items ≡ splice_list from to run.items list.old.items) }
     ensures err { OnErr result (list.new.items ≡ list.old.items) }
 {
     let count = to - from;
@@ -61,10 +62,10 @@ fn put_run<X: Drop>(
     from: usize,
     to: usize,
     mut run: Vec<X>,
-) -> Result<(), AllocError>
+) -> Result<(), OutOfMemory>
     requires order { from ≤ to }
     requires within { to ≤ length list.old.items }
-    ensures ok { OnOk result (list.new.items ≡ spliced from to run.items list.old.items) }
+    ensures ok { OnOk result (list.new.items ≡ splice_list from to run.items list.old.items) }
     ensures err { OnErr result (list.new.items ≡ list.old.items) }
 {
     match (to - from, run.len()) {
@@ -93,20 +94,20 @@ fn split_leaf<T: Item, L: Ledger>(
     entries: Vec<Entry<T>>,
     around: Vec<Around<T::Summary>>,
     steps: &mut Steps<L>,
-) -> Result<Placing<Vec<T::Summary>, Vec<Entry<T>>, SumTree<T>>, AllocError>
+) -> Result<Placing<Vec<T::Summary>, Vec<Entry<T>>, SumTree<T>>, OutOfMemory>
     requires order { from ≤ to }
     requires within { to ≤ length old.now }
     requires most { length old.now ≤ 12 }
     requires few { length entries.items ≤ 12 }
-    requires many { 12 < length (spliced from to entries.items old.now) }
+    requires many { 12 < length (splice_list from to entries.items old.now) }
     requires fits { T.Summary.fits (fold T.Summary.empty T.Summary.op T.sum_of
-        (spliced from to entries.items old.now)) }
+        (splice_list from to entries.items old.now)) }
     requires fitting { Fitting T.Summary.fits T.Summary.op around.items
-        (fold T.Summary.empty T.Summary.op T.sum_of (spliced from to entries.items old.now)) }
+        (fold T.Summary.empty T.Summary.op T.sum_of (splice_list from to entries.items old.now)) }
     ensures placing { IfOk result (λ p. IsPlacing
         (path_sums T.Summary.op around.items
-        (fold T.Summary.empty T.Summary.op T.sum_of (spliced from to entries.items old.now))) 0
-        (spliced from to entries.items old.now) entries.items (leaf_seen old.now)
+        (fold T.Summary.empty T.Summary.op T.sum_of (splice_list from to entries.items old.now))) 0
+        (splice_list from to entries.items old.now) entries.items (leaf_seen old.now)
         (leaf_seen old.now) p) }
     ensures cost { steps.new ≤ steps.old + 2 }
 {
@@ -128,19 +129,19 @@ fn place_in_leaf<T: Item, L: Ledger>(
     entries: Vec<Entry<T>>,
     around: Vec<Around<T::Summary>>,
     steps: &mut Steps<L>,
-) -> Result<Placing<Vec<T::Summary>, Vec<Entry<T>>, SumTree<T>>, AllocError>
+) -> Result<Placing<Vec<T::Summary>, Vec<Entry<T>>, SumTree<T>>, OutOfMemory>
     requires within { from + count ≤ length old.old.items }
     requires most { length old.old.items ≤ 12 }
     requires fits { T.Summary.fits (fold T.Summary.empty T.Summary.op T.sum_of
-        (spliced from (from + count) entries.items old.old.items)) }
+        (splice_list from (from + count) entries.items old.old.items)) }
     requires fitting { Fitting T.Summary.fits T.Summary.op around.items
         (fold T.Summary.empty T.Summary.op T.sum_of
-        (spliced from (from + count) entries.items old.old.items)) }
+        (splice_list from (from + count) entries.items old.old.items)) }
     ensures most { length old.new.items ≤ 12 }
     ensures placing { IsPlacingOr (path_sums T.Summary.op around.items
         (fold T.Summary.empty T.Summary.op T.sum_of
-        (spliced from (from + count) entries.items old.old.items))) least
-        (spliced from (from + count) entries.items old.old.items) entries.items
+        (splice_list from (from + count) entries.items old.old.items))) least
+        (splice_list from (from + count) entries.items old.old.items) entries.items
         (leaf_seen old.old.items) (leaf_seen old.new.items) result }
     ensures cost { steps.new ≤ steps.old + 2 }
 {
@@ -165,7 +166,7 @@ fn put_pair<X: Drop>(
     k: usize,
     front: X,
     back: Option<X>,
-) -> Result<(), AllocError>
+) -> Result<(), OutOfMemory>
     requires { k < length list.old.items }
     ensures ok { OnOk result (list.new.items ≡ with_pair list.old.items k front back) }
     ensures err { OnErr result (list.new.items ≡ list.old.items) }
@@ -194,17 +195,17 @@ fn pair_in_place<T: Item, L: Ledger>(
     back: SumTree<T>,
     sums: Vec<T::Summary>,
     steps: &mut Steps<L>,
-) -> Result<Placing<Vec<T::Summary>, Vec<Entry<T>>, SumTree<T>>, AllocError>
+) -> Result<Placing<Vec<T::Summary>, Vec<Entry<T>>, SumTree<T>>, OutOfMemory>
     requires children { AreChildren height children.old.items }
     requires within { k < length children.old.items }
     requires front { IsChild height front }
     requires back { IsChild height back }
-    requires short { length (joined (with_pair children.old.items k front (Some back))) ≤ 2 ^ 40 }
+    requires short { length (join_items (with_pair children.old.items k front (Some back))) ≤ 2 ^ 40 }
     requires fits { T.Summary.fits (fold T.Summary.empty T.Summary.op T.sum_of
-        (joined (with_pair children.old.items k front (Some back)))) }
+        (join_items (with_pair children.old.items k front (Some back)))) }
     ensures children { AreChildren height children.new.items }
     ensures placing { (ys : List T) → IsPlacingOr sums.items (length children.old.items)
-        (joined (with_pair children.old.items k front (Some back))) ys
+        (join_items (with_pair children.old.items k front (Some back))) ys
         (inner_seen height children.old.items) (inner_seen height children.new.items) result }
     ensures cost { steps.new ≤ steps.old + 2 }
 {
@@ -251,12 +252,12 @@ fn push_beside<T: Item, L: Ledger>(
     children: &mut Vec<SumTree<T>>,
     entry: Entry<T>,
     steps: &mut Steps<L>,
-) -> Result<Option<Entry<T>>, AllocError>
+) -> Result<Option<Entry<T>>, OutOfMemory>
     requires children { All (IsChild height) children.old.items }
     requires least { 2 ≤ length children.old.items }
-    requires short { length (joined children.old.items ++ entry ∷ []) ≤ 2 ^ 40 }
+    requires short { length (join_items children.old.items ++ entry ∷ []) ≤ 2 ^ 40 }
     requires fits { T.Summary.fits (fold T.Summary.empty T.Summary.op T.sum_of
-        (joined children.old.items ++ entry ∷ [])) }
+        (join_items children.old.items ++ entry ∷ [])) }
     ensures pushed { IsPushedBeside height children.old.items children.new.items entry result }
     ensures back { IfOk result (λ o. IfSome o (λ _. steps.new ≡ steps.old)) }
     ensures cost { steps.new ≤ steps.old + (2 * height + 1) }
@@ -275,7 +276,7 @@ fn push_beside<T: Item, L: Ledger>(
 fn push_in_leaf<T: Item>(
     entries: &mut Vec<Entry<T>>,
     entry: Entry<T>,
-) -> Result<Option<Entry<T>>, AllocError>
+) -> Result<Option<Entry<T>>, OutOfMemory>
     requires { length entries.old.items ≤ 12 }
     ensures most { length entries.new.items ≤ 12 }
     ensures pushed { IsPushed (leaf_seen entries.old.items)
@@ -293,7 +294,7 @@ fn sum_with<T: Item>(
     alloc: Global,
     sum: &T::Summary,
     entry: &Entry<T>,
-) -> Result<T::Summary, AllocError>
+) -> Result<T::Summary, OutOfMemory>
     requires begun { T.Summary.fits (T.Summary.op T.Summary.empty sum.now) }
     requires fits { T.Summary.fits (T.Summary.op (T.Summary.op T.Summary.empty sum.now)
         (T.sum_of entry.now)) }
@@ -315,11 +316,11 @@ impl<T: Item> SumTree<T> {
         children: &mut Vec<SumTree<T>>,
         entry: Entry<T>,
         steps: &mut Steps<L>,
-    ) -> Result<Option<Entry<T>>, AllocError>
+    ) -> Result<Option<Entry<T>>, OutOfMemory>
         requires children { AreChildren height children.old.items }
-        requires short { length (joined children.old.items) < 2 ^ 40 }
+        requires short { length (join_items children.old.items) < 2 ^ 40 }
         requires fits { T.Summary.fits (fold T.Summary.empty T.Summary.op T.sum_of
-            (joined children.old.items ++ entry ∷ [])) }
+            (join_items children.old.items ++ entry ∷ [])) }
         ensures children { AreChildren height children.new.items }
         ensures pushed { IsPushed (inner_seen height children.old.items)
             (inner_seen height children.new.items) entry result }
@@ -341,7 +342,7 @@ impl<T: Item> SumTree<T> {
         content: &mut Content<T>,
         entry: Entry<T>,
         steps: &mut Steps<L>,
-    ) -> Result<Option<Entry<T>>, AllocError>
+    ) -> Result<Option<Entry<T>>, OutOfMemory>
         requires content { IsContent height content.old }
         requires short { length (content_items content.old) < 2 ^ 40 }
         requires fits { T.Summary.fits (fold T.Summary.empty T.Summary.op T.sum_of
@@ -367,7 +368,7 @@ impl<T: Item> SumTree<T> {
         alloc: Global,
         entry: Entry<T>,
         steps: &mut Steps<L>,
-    ) -> Result<Option<Entry<T>>, AllocError>
+    ) -> Result<Option<Entry<T>>, OutOfMemory>
         requires short { length self.old.items < 2 ^ 40 }
         requires fits { T.Summary.fits (fold T.Summary.empty T.Summary.op T.sum_of
             (self.old.items ++ entry ∷ [])) }
@@ -397,7 +398,7 @@ fn push_with<T: Item, L: Ledger>(
     tree: &mut SumTree<T>,
     entry: Entry<T>,
     blank: Blank,
-) -> Result<Option<Entry<T>>, AllocError>
+) -> Result<Option<Entry<T>>, OutOfMemory>
     requires name { blank.name ≡ L.name }
     requires parts { blank.parts ≡ L.parts }
     requires some { 0 < blank.parts }
@@ -415,7 +416,7 @@ pub(crate) fn push_alone<T: Item>(
     alloc: Global,
     tree: &mut SumTree<T>,
     entry: Entry<T>,
-) -> Result<Option<Entry<T>>, AllocError>
+) -> Result<Option<Entry<T>>, OutOfMemory>
     requires short { length tree.old.items < 2 ^ 40 }
     requires fits { T.Summary.fits (fold T.Summary.empty T.Summary.op T.sum_of
         (tree.old.items ++ entry ∷ [])) }
@@ -436,24 +437,24 @@ impl<T: Item> SumTree<T> {
         entries: Vec<Entry<T>>,
         mut around: Vec<Around<T::Summary>>,
         steps: &mut Steps<L>,
-    ) -> Result<Placing<Vec<T::Summary>, Vec<Entry<T>>, SumTree<T>>, AllocError>
+    ) -> Result<Placing<Vec<T::Summary>, Vec<Entry<T>>, SumTree<T>>, OutOfMemory>
         requires children { AreChildren height children.old.items }
         requires old_fits { T.Summary.fits (fold T.Summary.empty T.Summary.op T.sum_of
-            (joined children.old.items)) }
-        requires within { from + count ≤ length (joined children.old.items) }
-        requires short { length (spliced from (from + count) entries.items
-            (joined children.old.items)) ≤ 2 ^ 40 }
+            (join_items children.old.items)) }
+        requires within { from + count ≤ length (join_items children.old.items) }
+        requires short { length (splice_list from (from + count) entries.items
+            (join_items children.old.items)) ≤ 2 ^ 40 }
         requires fits { T.Summary.fits (fold T.Summary.empty T.Summary.op T.sum_of
-            (spliced from (from + count) entries.items (joined children.old.items))) }
+            (splice_list from (from + count) entries.items (join_items children.old.items))) }
         requires fitting { Fitting T.Summary.fits T.Summary.op around.items
             (fold T.Summary.empty T.Summary.op T.sum_of
-            (spliced from (from + count) entries.items (joined children.old.items))) }
+            (splice_list from (from + count) entries.items (join_items children.old.items))) }
         ensures children { AreChildren height children.new.items }
         ensures placing { IsPlacingOr (path_sums T.Summary.op around.items
             (fold T.Summary.empty T.Summary.op T.sum_of
-            (spliced from (from + count) entries.items (joined children.old.items))))
+            (splice_list from (from + count) entries.items (join_items children.old.items))))
             (length children.old.items)
-            (spliced from (from + count) entries.items (joined children.old.items)) entries.items
+            (splice_list from (from + count) entries.items (join_items children.old.items)) entries.items
             (inner_seen height children.old.items) (inner_seen height children.new.items) result }
         ensures cost { steps.new ≤ steps.old + 2 * (height + 1) }
     {
@@ -483,24 +484,24 @@ impl<T: Item> SumTree<T> {
         entries: Vec<Entry<T>>,
         around: Vec<Around<T::Summary>>,
         steps: &mut Steps<L>,
-    ) -> Result<Placing<Vec<T::Summary>, Vec<Entry<T>>, SumTree<T>>, AllocError>
+    ) -> Result<Placing<Vec<T::Summary>, Vec<Entry<T>>, SumTree<T>>, OutOfMemory>
         requires content { IsContent height content.old }
         requires wide { least ≤ content_width content.old }
         requires old_fits { T.Summary.fits (fold T.Summary.empty T.Summary.op T.sum_of
             (content_items content.old)) }
         requires within { from + count ≤ length (content_items content.old) }
-        requires short { length (spliced from (from + count) entries.items
+        requires short { length (splice_list from (from + count) entries.items
             (content_items content.old)) ≤ 2 ^ 40 }
         requires fits { T.Summary.fits (fold T.Summary.empty T.Summary.op T.sum_of
-            (spliced from (from + count) entries.items (content_items content.old))) }
+            (splice_list from (from + count) entries.items (content_items content.old))) }
         requires fitting { Fitting T.Summary.fits T.Summary.op around.items
             (fold T.Summary.empty T.Summary.op T.sum_of
-            (spliced from (from + count) entries.items (content_items content.old))) }
+            (splice_list from (from + count) entries.items (content_items content.old))) }
         ensures content { IsContent height content.new }
         ensures placing { IsPlacingOr (path_sums T.Summary.op around.items
             (fold T.Summary.empty T.Summary.op T.sum_of
-            (spliced from (from + count) entries.items (content_items content.old)))) least
-            (spliced from (from + count) entries.items (content_items content.old)) entries.items
+            (splice_list from (from + count) entries.items (content_items content.old)))) least
+            (splice_list from (from + count) entries.items (content_items content.old)) entries.items
             (content_seen height content.old) (content_seen height content.new) result }
         ensures cost { steps.new ≤ steps.old + 2 * (height + 1) }
     {
@@ -528,20 +529,20 @@ impl<T: Item> SumTree<T> {
         entries: Vec<Entry<T>>,
         around: Vec<Around<T::Summary>>,
         steps: &mut Steps<L>,
-    ) -> Result<Placing<Vec<T::Summary>, Vec<Entry<T>>, SumTree<T>>, AllocError>
+    ) -> Result<Placing<Vec<T::Summary>, Vec<Entry<T>>, SumTree<T>>, OutOfMemory>
         requires wide { least ≤ self.old.width }
         requires within { from + count ≤ length self.old.items }
-        requires short { length (spliced from (from + count) entries.items self.old.items)
+        requires short { length (splice_list from (from + count) entries.items self.old.items)
             ≤ 2 ^ 40 }
         requires fits { T.Summary.fits (fold T.Summary.empty T.Summary.op T.sum_of
-            (spliced from (from + count) entries.items self.old.items)) }
+            (splice_list from (from + count) entries.items self.old.items)) }
         requires fitting { Fitting T.Summary.fits T.Summary.op around.items
             (fold T.Summary.empty T.Summary.op T.sum_of
-            (spliced from (from + count) entries.items self.old.items)) }
+            (splice_list from (from + count) entries.items self.old.items)) }
         ensures placing { IsPlacingOr (outer_sums T.Summary.op around.items
             (fold T.Summary.empty T.Summary.op T.sum_of
-            (spliced from (from + count) entries.items self.old.items))) least
-            (spliced from (from + count) entries.items self.old.items) entries.items self.old
+            (splice_list from (from + count) entries.items self.old.items))) least
+            (splice_list from (from + count) entries.items self.old.items) entries.items self.old
             self.new result }
         ensures cost { steps.new ≤ steps.old + 2 * (self.old.height + 1) }
     {

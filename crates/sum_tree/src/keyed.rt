@@ -4,14 +4,15 @@ ghost use Rattle.std.specs.Ordering.{is_lt};
 ghost use Rattle.std.specs.declared.cmp.Ordering.TheVariants.{Less, Greater};
 ghost use Rattle.std.specs.Option.{option_copied};
 ghost use Rattle.sum_tree.specs.Laws.{fold};
-ghost use Rattle.sum_tree.specs.Shape.{IsChild, joined};
-ghost use Rattle.sum_tree.specs.Keyed.{Ascending, held, inserted, removed, IsPlace};
+ghost use Rattle.sum_tree.specs.Shape.{IsChild, join_items};
+ghost use Rattle.sum_tree.specs.Keyed.{Ascending, item_of_key, insert_item, remove_key, IsPlace};
 
+use crate::OutOfMemory;
 use crate::entry::Entry;
 use crate::here::push_alone;
 use crate::traits::{Item, KeyedItem, Summary};
 use crate::tree::{Content, SumTree};
-use std::alloc::{AllocError, Global};
+use std::alloc::Global;
 use std::cmp::Ordering;
 
 // Where a key stands among entries.
@@ -59,14 +60,14 @@ fn all_before<T: KeyedItem>(tree: &SumTree<T>, key: &T::Key) -> bool
 fn child_for<T: KeyedItem>(children: &[SumTree<T>], key: &T::Key) -> (usize, u64)
     requires least { 1 ≤ length children.now }
     requires filled { All (λ t. 1 ≤ length t.items) children.now }
-    requires short { length (joined children.now) ≤ 2 ^ 40 }
-    requires ascending { Ascending T.Key.cmp T.key_of (joined children.now) }
+    requires short { length (join_items children.now) ≤ 2 ^ 40 }
+    requires ascending { Ascending T.Key.cmp T.key_of (join_items children.now) }
     ensures child { result.0 < length children.now }
-    ensures count { result.1 ≡ length (joined (take result.0 children.now)) }
+    ensures count { result.1 ≡ length (join_items (take result.0 children.now)) }
     ensures before { All (λ x. T.Key.cmp (T.key_of x) key.now ≡ Less)
-        (joined (take result.0 children.now)) }
+        (join_items (take result.0 children.now)) }
     ensures behind { All (λ x. T.Key.cmp (T.key_of x) key.now ≡ Greater)
-        (joined (drop (result.0 + 1) children.now)) }
+        (join_items (drop (result.0 + 1) children.now)) }
 {
     let last = children.len() - 1;
     let mut before = 0;
@@ -80,7 +81,7 @@ fn child_for<T: KeyedItem>(children: &[SumTree<T>], key: &T::Key) -> (usize, u64
 }
 
 // The list of one entry.
-fn one<T: Item>(alloc: Global, entry: Entry<T>) -> Result<Vec<Entry<T>>, AllocError>
+fn one<T: Item>(alloc: Global, entry: Entry<T>) -> Result<Vec<Entry<T>>, OutOfMemory>
     ensures { IfOk result (λ es. es.items ≡ entry ∷ []) }
 {
     let mut entries = Vec::with_capacity(alloc, 1)?;
@@ -122,7 +123,7 @@ impl<T: KeyedItem> SumTree<T> {
     /// is as many nodes away as the child is high.
     pub fn find(&self, key: &T::Key) -> Option<&T>
         requires ascending { Ascending T.Key.cmp T.key_of self.now.items }
-        ensures { option_copied result ≡ held T.Key.cmp T.key_of key.now self.now.items }
+        ensures { option_copied result ≡ item_of_key T.Key.cmp T.key_of key.now self.now.items }
     {
         match self.position(key) {
             Ok(i) => Some(self.at(i)),
@@ -131,7 +132,7 @@ impl<T: KeyedItem> SumTree<T> {
     }
 
     // Puts one item in the place of a range.
-    fn put_item(&mut self, alloc: Global, from: u64, to: u64, item: T) -> Result<(), AllocError>
+    fn put_item(&mut self, alloc: Global, from: u64, to: u64, item: T) -> Result<(), OutOfMemory>
         requires order { from ≤ to }
         requires within { to ≤ length self.old.items }
         requires short { length ((take from self.old.items ++ item ∷ []) ++ drop to self.old.items)
@@ -147,7 +148,7 @@ impl<T: KeyedItem> SumTree<T> {
     }
 
     // Puts one item before the i-th, or behind the others. There it is put in place, where that can be.
-    fn put_new(&mut self, alloc: Global, i: u64, item: T) -> Result<(), AllocError>
+    fn put_new(&mut self, alloc: Global, i: u64, item: T) -> Result<(), OutOfMemory>
         requires within { i ≤ length self.old.items }
         requires short { length ((take i self.old.items ++ item ∷ []) ++ drop i self.old.items)
             ≤ 2 ^ 40 }
@@ -173,15 +174,15 @@ impl<T: KeyedItem> SumTree<T> {
     /// items ascend strictly. Where no other tree shares the nodes on the way and the leaf has room, no node is made;
     /// else at most two nodes for each level, and one more for the root. On want of memory the tree is as before, and
     /// the item is let go.
-    pub fn insert(&mut self, alloc: Global, item: T) -> Result<Option<T>, AllocError>
+    pub fn insert(&mut self, alloc: Global, item: T) -> Result<Option<T>, OutOfMemory>
         requires ascending { Ascending T.Key.cmp T.key_of self.old.items }
-        requires short { length (inserted T.Key.cmp T.key_of item self.old.items) ≤ 2 ^ 40 }
+        requires short { length (insert_item T.Key.cmp T.key_of item self.old.items) ≤ 2 ^ 40 }
         requires fits { T.Summary.fits (fold T.Summary.empty T.Summary.op T.sum_of
-            (inserted T.Key.cmp T.key_of item self.old.items)) }
-        ensures replaced { IfOk result (λ o. o ≡ held T.Key.cmp T.key_of
+            (insert_item T.Key.cmp T.key_of item self.old.items)) }
+        ensures replaced { IfOk result (λ o. o ≡ item_of_key T.Key.cmp T.key_of
             (T.key_of item) self.old.items) }
         ensures ok { OnOk result (self.new.items
-            ≡ inserted T.Key.cmp T.key_of item self.old.items) }
+            ≡ insert_item T.Key.cmp T.key_of item self.old.items) }
         ensures err { OnErr result (self.new ≡ self.old) }
         ensures ascending { Ascending T.Key.cmp T.key_of self.new.items }
     {
@@ -202,11 +203,11 @@ impl<T: KeyedItem> SumTree<T> {
     /// no other tree shares the nodes on the way and the leaf has more than 6 entries or is the root, no node is made;
     /// else at most two nodes for each level, and one more for each child that became narrow. On want of memory the
     /// tree is as before.
-    pub fn remove(&mut self, alloc: Global, key: &T::Key) -> Result<Option<T>, AllocError>
+    pub fn remove(&mut self, alloc: Global, key: &T::Key) -> Result<Option<T>, OutOfMemory>
         requires ascending { Ascending T.Key.cmp T.key_of self.old.items }
-        ensures removed { IfOk result (λ o. o ≡ held T.Key.cmp T.key_of key.now self.old.items) }
+        ensures removed { IfOk result (λ o. o ≡ item_of_key T.Key.cmp T.key_of key.now self.old.items) }
         ensures ok { OnOk result (self.new.items
-            ≡ removed T.Key.cmp T.key_of key.now self.old.items) }
+            ≡ remove_key T.Key.cmp T.key_of key.now self.old.items) }
         ensures err { OnErr result (self.new ≡ self.old) }
         ensures ascending { Ascending T.Key.cmp T.key_of self.new.items }
     {

@@ -1,14 +1,15 @@
 //! A tree made of a list, level by level.
 ghost use Rattle.std.specs.Prelude.{◌≡◌, ℕ, ◌+◌, ◌*◌, ◌^◌, ◌<◌, ◌≤◌, ◌++◌, length, IfOk, All};
 ghost use Rattle.sum_tree.specs.Laws.{fold};
-ghost use Rattle.sum_tree.specs.Shape.{IsChild, joined};
-ghost use Rattle.sum_tree.specs.Groups.{chained, IsGroup};
+ghost use Rattle.sum_tree.specs.Shape.{IsChild, join_items};
+ghost use Rattle.sum_tree.specs.Groups.{elements, IsGroup};
 
+use crate::OutOfMemory;
 use crate::entry::Entry;
 use crate::steps::Steps;
 use crate::traits::Item;
 use crate::tree::{LEAST, MOST, SumTree, inner, leaf};
-use std::alloc::{AllocError, Global};
+use std::alloc::Global;
 use std::marker::Brand;
 use std::sync::ledger::{Blank, Ledger};
 
@@ -33,9 +34,9 @@ fn last_run(n: usize) -> usize
 }
 
 // The elements in runs of 12, at most two of which are shorter, but of at least 6.
-fn groups<X: Drop>(alloc: Global, mut items: Vec<X>) -> Result<Vec<Vec<X>>, AllocError>
+fn groups<X: Drop>(alloc: Global, mut items: Vec<X>) -> Result<Vec<Vec<X>>, OutOfMemory>
     requires least { 6 ≤ length items.items }
-    ensures chained { IfOk result (λ gs. chained gs.items ≡ items.items) }
+    ensures chained { IfOk result (λ gs. elements gs.items ≡ items.items) }
     ensures sizes { IfOk result (λ gs. All IsGroup gs.items) }
     ensures few { IfOk result (λ gs. 6 * length gs.items ≤ length items.items) }
     ensures enough { IfOk result (λ gs. length items.items ≤ 12 * length gs.items) }
@@ -50,7 +51,10 @@ fn groups<X: Drop>(alloc: Global, mut items: Vec<X>) -> Result<Vec<Vec<X>>, Allo
 }
 
 // An entry for each item.
-pub(crate) fn entries_of<T: Item>(alloc: Global, items: Vec<T>) -> Result<Vec<Entry<T>>, AllocError>
+pub(crate) fn entries_of<T: Item>(
+    alloc: Global,
+    items: Vec<T>,
+) -> Result<Vec<Entry<T>>, OutOfMemory>
     requires fits { T.Summary.fits (fold T.Summary.empty T.Summary.op T.sum_of items.items) }
     ensures { IfOk result (λ es. es.items ≡ items.items) }
 {
@@ -66,11 +70,11 @@ fn leaf_level<T: Item, L: Ledger>(
     alloc: Global,
     groups: Vec<Vec<Entry<T>>>,
     steps: &mut Steps<L>,
-) -> Result<Vec<SumTree<T>>, AllocError>
+) -> Result<Vec<SumTree<T>>, OutOfMemory>
     requires sizes { All IsGroup groups.items }
     requires fits { T.Summary.fits (fold T.Summary.empty T.Summary.op T.sum_of
-        (chained groups.items)) }
-    ensures items { IfOk result (λ ts. joined ts.items ≡ chained groups.items) }
+        (elements groups.items)) }
+    ensures items { IfOk result (λ ts. join_items ts.items ≡ elements groups.items) }
     ensures children { IfOk result (λ ts. All (IsChild 1) ts.items) }
     ensures fewer { IfOk result (λ ts. length ts.items ≡ length groups.items) }
     ensures cost { steps.new ≤ steps.old + length groups.items }
@@ -88,13 +92,13 @@ fn inner_level<T: Item, L: Ledger>(
     height: u32,
     groups: Vec<Vec<SumTree<T>>>,
     steps: &mut Steps<L>,
-) -> Result<Vec<SumTree<T>>, AllocError>
+) -> Result<Vec<SumTree<T>>, OutOfMemory>
     requires sizes { All IsGroup groups.items }
-    requires children { All (IsChild height) (chained groups.items) }
-    requires short { length (joined (chained groups.items)) ≤ 2 ^ 40 }
+    requires children { All (IsChild height) (elements groups.items) }
+    requires short { length (join_items (elements groups.items)) ≤ 2 ^ 40 }
     requires fits { T.Summary.fits (fold T.Summary.empty T.Summary.op T.sum_of
-        (joined (chained groups.items))) }
-    ensures items { IfOk result (λ ts. joined ts.items ≡ joined (chained groups.items)) }
+        (join_items (elements groups.items))) }
+    ensures items { IfOk result (λ ts. join_items ts.items ≡ join_items (elements groups.items)) }
     ensures children { IfOk result (λ ts. All (IsChild (height + 1)) ts.items) }
     ensures fewer { IfOk result (λ ts. length ts.items ≡ length groups.items) }
     ensures cost { steps.new ≤ steps.old + length groups.items }
@@ -111,7 +115,7 @@ pub(crate) fn from_entries<T: Item, L: Ledger>(
     alloc: Global,
     entries: Vec<Entry<T>>,
     steps: &mut Steps<L>,
-) -> Result<SumTree<T>, AllocError>
+) -> Result<SumTree<T>, OutOfMemory>
     requires short { length entries.items ≤ 2 ^ 40 }
     requires fits { T.Summary.fits (fold T.Summary.empty T.Summary.op T.sum_of entries.items) }
     ensures items { IfOk result (λ t. t.items ≡ entries.items) }
@@ -135,7 +139,7 @@ pub(crate) fn from_entries_with<T: Item, L: Ledger>(
     alloc: Global,
     entries: Vec<Entry<T>>,
     blank: Blank,
-) -> Result<SumTree<T>, AllocError>
+) -> Result<SumTree<T>, OutOfMemory>
     requires name { blank.name ≡ L.name }
     requires parts { blank.parts ≡ L.parts }
     requires some { 0 < blank.parts }
@@ -151,7 +155,7 @@ pub(crate) fn from_entries_with<T: Item, L: Ledger>(
 impl<T: Item> SumTree<T> {
     /// The tree of these items, in time that grows with their number alone. Nodes are made level by level and are full,
     /// but for two at most in each level. On want of memory the items are let go.
-    pub fn from_list(alloc: Global, items: Vec<T>) -> Result<SumTree<T>, AllocError>
+    pub fn from_list(alloc: Global, items: Vec<T>) -> Result<SumTree<T>, OutOfMemory>
         requires short { length items.items ≤ 2 ^ 40 }
         requires fits { T.Summary.fits (fold T.Summary.empty T.Summary.op T.sum_of items.items) }
         ensures { IfOk result (λ t. t.items ≡ items.items) }

@@ -2,18 +2,18 @@
 ghost use Rattle.std.specs.Prelude.{◌≡◌, ℕ, ◌+◌, ◌-◌, ◌^◌, ◌<◌, ◌≤◌, [], ◌∷◌, ◌++◌, length, take, slice_get, slice_index_or, MatchOption};
 ghost use Rattle.std.specs.Option.{option_copied};
 ghost use Rattle.sum_tree.specs.Seen.{Seen};
-ghost use Rattle.sum_tree.specs.Shape.{joined};
+ghost use Rattle.sum_tree.specs.Shape.{join_items};
 
 use crate::traits::Item;
 use crate::tree::{Content, SumTree};
 
 // The child that holds item i of them all, and the item's index there.
 pub(crate) fn child_at<T: Item>(children: &[SumTree<T>], i: u64) -> (usize, u64)
-    requires { i < length (joined children.now) }
+    requires { i < length (join_items children.now) }
     ensures child { result.0 < length children.now }
     ensures within { (d : Seen T) → result.1
         < length (slice_index_or children.now result.0 d).items }
-    ensures before { length (joined (take result.0 children.now)) + result.1 ≡ i }
+    ensures before { length (join_items (take result.0 children.now)) + result.1 ≡ i }
 {
     let mut rest = i;
     for (k, child) in children.iter().enumerate() {

@@ -1,10 +1,11 @@
 //! Other items in the place of a range.
 ghost use Rattle.std.specs.Prelude.{◌≡◌, ℕ, ◌+◌, ◌-◌, ◌*◌, ◌^◌, ◌<◌, ◌≤◌, ◌++◌, length, None, IfOk, OnOk, OnErr, IfSome, All};
 ghost use Rattle.sum_tree.specs.Laws.{fold};
-ghost use Rattle.sum_tree.specs.Shape.{IsChild, joined};
+ghost use Rattle.sum_tree.specs.Shape.{IsChild, join_items};
 ghost use Rattle.sum_tree.specs.Grown.{with_pair, with_run, pair_list};
-ghost use Rattle.sum_tree.specs.Spliced.{spliced, IsPiece, IsReturn, IsSpliced, IsSplicing, IsWithin};
+ghost use Rattle.sum_tree.specs.Spliced.{splice_list, IsPiece, IsReturn, IsSpliced, IsSplicing, IsWithin};
 
+use crate::OutOfMemory;
 use crate::entry::Entry;
 use crate::grow::{both, copy_onto, gathered, inners, leaves, root};
 use crate::here::Placing;
@@ -12,7 +13,7 @@ use crate::list::{entries_of, from_entries};
 use crate::steps::Steps;
 use crate::traits::Item;
 use crate::tree::{Content, LEAST, MOST, SumTree};
-use std::alloc::{AllocError, Global};
+use std::alloc::Global;
 use std::marker::Brand;
 use std::sync::ledger::{Blank, Ledger};
 
@@ -32,7 +33,7 @@ pub(crate) fn child_with<T: Item>(
 ) -> Option<(usize, u64)>
     ensures some { IfSome result (λ p. IsWithin children.now from count p.0 p.1) }
     ensures none { result ≡ None → 0 < length children.now
-        → from + count ≤ length (joined children.now) → 1 < count }
+        → from + count ≤ length (join_items children.now) → 1 < count }
 {
     let mut rest = from;
     for (k, child) in children.iter().enumerate() {
@@ -54,7 +55,7 @@ pub(crate) fn three_parts<T: Item>(
     front: &[Entry<T>],
     mut middle: Vec<Entry<T>>,
     back: &[Entry<T>],
-) -> Result<Vec<Entry<T>>, AllocError>
+) -> Result<Vec<Entry<T>>, OutOfMemory>
     requires front { length front.now ≤ 12 }
     requires middle { length middle.items ≤ 24 }
     requires back { length back.now ≤ 12 }
@@ -77,7 +78,7 @@ fn with_children<T: Item, L: Ledger>(
     front: SumTree<T>,
     back: Option<SumTree<T>>,
     steps: &mut Steps<L>,
-) -> Result<(SumTree<T>, Option<SumTree<T>>), AllocError>
+) -> Result<(SumTree<T>, Option<SumTree<T>>), OutOfMemory>
     requires children { All (IsChild height) nodes.now }
     requires least { 2 ≤ length nodes.now }
     requires most { length nodes.now ≤ 12 }
@@ -85,11 +86,11 @@ fn with_children<T: Item, L: Ledger>(
     requires few { to ≤ from + 2 }
     requires within { to ≤ length nodes.now }
     requires pair { All (IsChild height) (pair_list front back) }
-    requires short { length (joined (with_run nodes.now from to front back)) ≤ 2 ^ 40 }
+    requires short { length (join_items (with_run nodes.now from to front back)) ≤ 2 ^ 40 }
     requires fits { T.Summary.fits (fold T.Summary.empty T.Summary.op T.sum_of
-        (joined (with_run nodes.now from to front back))) }
+        (join_items (with_run nodes.now from to front back))) }
     ensures spliced { IfOk result (λ p. IsSpliced height (length nodes.now)
-        (joined (with_run nodes.now from to front back)) p.0 p.1) }
+        (join_items (with_run nodes.now from to front back)) p.0 p.1) }
     ensures cost { steps.new ≤ steps.old + 2 }
 {
     if to - from == nodes.len() && back.is_none() {
@@ -107,18 +108,18 @@ fn mended_left<T: Item, L: Ledger>(
     k: usize,
     child: SumTree<T>,
     steps: &mut Steps<L>,
-) -> Result<(SumTree<T>, Option<SumTree<T>>), AllocError>
+) -> Result<(SumTree<T>, Option<SumTree<T>>), OutOfMemory>
     requires children { All (IsChild height) nodes.now }
     requires least { 2 ≤ length nodes.now }
     requires most { length nodes.now ≤ 12 }
     requires past { 0 < k }
     requires within { k < length nodes.now }
     requires piece { IsPiece height child None }
-    requires short { length (joined (with_pair nodes.now k child None)) ≤ 2 ^ 40 }
+    requires short { length (join_items (with_pair nodes.now k child None)) ≤ 2 ^ 40 }
     requires fits { T.Summary.fits (fold T.Summary.empty T.Summary.op T.sum_of
-        (joined (with_pair nodes.now k child None))) }
+        (join_items (with_pair nodes.now k child None))) }
     ensures spliced { IfOk result (λ p. IsSpliced height (length nodes.now)
-        (joined (with_pair nodes.now k child None)) p.0 p.1) }
+        (join_items (with_pair nodes.now k child None)) p.0 p.1) }
     ensures cost { steps.new ≤ steps.old + 4 }
 {
     let (front, back) = nodes[k - 1].beside(alloc, &child, steps)?;
@@ -132,16 +133,16 @@ fn mended_right<T: Item, L: Ledger>(
     nodes: &[SumTree<T>],
     child: SumTree<T>,
     steps: &mut Steps<L>,
-) -> Result<(SumTree<T>, Option<SumTree<T>>), AllocError>
+) -> Result<(SumTree<T>, Option<SumTree<T>>), OutOfMemory>
     requires children { All (IsChild height) nodes.now }
     requires least { 2 ≤ length nodes.now }
     requires most { length nodes.now ≤ 12 }
     requires piece { IsPiece height child None }
-    requires short { length (joined (with_pair nodes.now 0 child None)) ≤ 2 ^ 40 }
+    requires short { length (join_items (with_pair nodes.now 0 child None)) ≤ 2 ^ 40 }
     requires fits { T.Summary.fits (fold T.Summary.empty T.Summary.op T.sum_of
-        (joined (with_pair nodes.now 0 child None))) }
+        (join_items (with_pair nodes.now 0 child None))) }
     ensures spliced { IfOk result (λ p. IsSpliced height (length nodes.now)
-        (joined (with_pair nodes.now 0 child None)) p.0 p.1) }
+        (join_items (with_pair nodes.now 0 child None)) p.0 p.1) }
     ensures cost { steps.new ≤ steps.old + 4 }
 {
     let (front, back) = child.beside(alloc, &nodes[1], steps)?;
@@ -158,17 +159,17 @@ fn mended<T: Item, L: Ledger>(
     front: SumTree<T>,
     back: Option<SumTree<T>>,
     steps: &mut Steps<L>,
-) -> Result<(SumTree<T>, Option<SumTree<T>>), AllocError>
+) -> Result<(SumTree<T>, Option<SumTree<T>>), OutOfMemory>
     requires children { All (IsChild height) nodes.now }
     requires least { 2 ≤ length nodes.now }
     requires most { length nodes.now ≤ 12 }
     requires within { k < length nodes.now }
     requires pair { IsPiece height front back }
-    requires short { length (joined (with_pair nodes.now k front back)) ≤ 2 ^ 40 }
+    requires short { length (join_items (with_pair nodes.now k front back)) ≤ 2 ^ 40 }
     requires fits { T.Summary.fits (fold T.Summary.empty T.Summary.op T.sum_of
-        (joined (with_pair nodes.now k front back))) }
+        (join_items (with_pair nodes.now k front back))) }
     ensures spliced { IfOk result (λ p. IsSpliced height (length nodes.now)
-        (joined (with_pair nodes.now k front back)) p.0 p.1) }
+        (join_items (with_pair nodes.now k front back)) p.0 p.1) }
     ensures cost { steps.new ≤ steps.old + 4 }
 {
     if back.is_some() || front.width() >= LEAST {
@@ -199,14 +200,14 @@ impl<T: Item> SumTree<T> {
         count: u64,
         entries: Vec<Entry<T>>,
         steps: &mut Steps<L>,
-    ) -> Result<Splicing<SumTree<T>, Vec<Entry<T>>>, AllocError>
+    ) -> Result<Splicing<SumTree<T>, Vec<Entry<T>>>, OutOfMemory>
         requires within { from + count ≤ length self.now.items }
-        requires short { length (spliced from (from + count) entries.items self.now.items)
+        requires short { length (splice_list from (from + count) entries.items self.now.items)
             ≤ 2 ^ 40 }
         requires fits { T.Summary.fits (fold T.Summary.empty T.Summary.op T.sum_of
-            (spliced from (from + count) entries.items self.now.items)) }
+            (splice_list from (from + count) entries.items self.now.items)) }
         ensures splicing { IfOk result (λ r. IsSplicing self.now.height self.now.width
-            (spliced from (from + count) entries.items self.now.items) entries.items r) }
+            (splice_list from (from + count) entries.items self.now.items) entries.items r) }
         ensures returned { IfOk result (λ r. IsReturn count entries.items r) }
         ensures cost { steps.new ≤ steps.old + (4 * self.now.height + 2) }
     {
@@ -253,13 +254,13 @@ impl<T: Item> SumTree<T> {
         to: u64,
         entries: Vec<Entry<T>>,
         steps: &mut Steps<L>,
-    ) -> Result<SumTree<T>, AllocError>
+    ) -> Result<SumTree<T>, OutOfMemory>
         requires order { from ≤ to }
         requires within { to ≤ length self.now.items }
-        requires short { length (spliced from to entries.items self.now.items) ≤ 2 ^ 40 }
+        requires short { length (splice_list from to entries.items self.now.items) ≤ 2 ^ 40 }
         requires fits { T.Summary.fits (fold T.Summary.empty T.Summary.op T.sum_of
-            (spliced from to entries.items self.now.items)) }
-        ensures items { IfOk result (λ t. t.items ≡ spliced from to entries.items self.now.items) }
+            (splice_list from to entries.items self.now.items)) }
+        ensures items { IfOk result (λ t. t.items ≡ splice_list from to entries.items self.now.items) }
         ensures cost { steps.new ≤ steps.old +
             (24 * self.now.height + 2 * length entries.items + 21) }
         ensures narrow { to ≤ from + 1 → length entries.items ≤ 12
@@ -285,13 +286,13 @@ impl<T: Item> SumTree<T> {
         to: u64,
         entries: Vec<Entry<T>>,
         steps: &mut Steps<L>,
-    ) -> Result<(), AllocError>
+    ) -> Result<(), OutOfMemory>
         requires order { from ≤ to }
         requires within { to ≤ length self.old.items }
-        requires short { length (spliced from to entries.items self.old.items) ≤ 2 ^ 40 }
+        requires short { length (splice_list from to entries.items self.old.items) ≤ 2 ^ 40 }
         requires fits { T.Summary.fits (fold T.Summary.empty T.Summary.op T.sum_of
-            (spliced from to entries.items self.old.items)) }
-        ensures ok { OnOk result (self.new.items ≡ spliced from to entries.items self.old.items) }
+            (splice_list from to entries.items self.old.items)) }
+        ensures ok { OnOk result (self.new.items ≡ splice_list from to entries.items self.old.items) }
         ensures err { OnErr result (self.new ≡ self.old) }
         ensures cost { steps.new ≤ steps.old +
             (26 * (self.old.height + 1) + 2 * length entries.items) }
@@ -320,16 +321,16 @@ impl<T: Item> SumTree<T> {
         to: u64,
         entries: Vec<Entry<T>>,
         blank: Blank,
-    ) -> Result<(), AllocError>
+    ) -> Result<(), OutOfMemory>
         requires name { blank.name ≡ L.name }
         requires parts { blank.parts ≡ L.parts }
         requires some { 0 < blank.parts }
         requires order { from ≤ to }
         requires within { to ≤ length self.old.items }
-        requires short { length (spliced from to entries.items self.old.items) ≤ 2 ^ 40 }
+        requires short { length (splice_list from to entries.items self.old.items) ≤ 2 ^ 40 }
         requires fits { T.Summary.fits (fold T.Summary.empty T.Summary.op T.sum_of
-            (spliced from to entries.items self.old.items)) }
-        ensures ok { OnOk result (self.new.items ≡ spliced from to entries.items self.old.items) }
+            (splice_list from to entries.items self.old.items)) }
+        ensures ok { OnOk result (self.new.items ≡ splice_list from to entries.items self.old.items) }
         ensures err { OnErr result (self.new ≡ self.old) }
     {
         let mut steps = Steps::<L>::new(blank);
@@ -343,13 +344,13 @@ impl<T: Item> SumTree<T> {
         from: u64,
         to: u64,
         entries: Vec<Entry<T>>,
-    ) -> Result<(), AllocError>
+    ) -> Result<(), OutOfMemory>
         requires order { from ≤ to }
         requires within { to ≤ length self.old.items }
-        requires short { length (spliced from to entries.items self.old.items) ≤ 2 ^ 40 }
+        requires short { length (splice_list from to entries.items self.old.items) ≤ 2 ^ 40 }
         requires fits { T.Summary.fits (fold T.Summary.empty T.Summary.op T.sum_of
-            (spliced from to entries.items self.old.items)) }
-        ensures ok { OnOk result (self.new.items ≡ spliced from to entries.items self.old.items) }
+            (splice_list from to entries.items self.old.items)) }
+        ensures ok { OnOk result (self.new.items ≡ splice_list from to entries.items self.old.items) }
         ensures err { OnErr result (self.new ≡ self.old) }
     {
         self.put_with::<Brand>(alloc, from, to, entries, Blank::new(1))
@@ -369,13 +370,13 @@ impl<T: Item> SumTree<T> {
         from: u64,
         to: u64,
         items: Vec<T>,
-    ) -> Result<(), AllocError>
+    ) -> Result<(), OutOfMemory>
         requires order { from ≤ to }
         requires within { to ≤ length self.old.items }
-        requires short { length (spliced from to items.items self.old.items) ≤ 2 ^ 40 }
+        requires short { length (splice_list from to items.items self.old.items) ≤ 2 ^ 40 }
         requires fits { T.Summary.fits (fold T.Summary.empty T.Summary.op T.sum_of
-            (spliced from to items.items self.old.items)) }
-        ensures ok { OnOk result (self.new.items ≡ spliced from to items.items self.old.items) }
+            (splice_list from to items.items self.old.items)) }
+        ensures ok { OnOk result (self.new.items ≡ splice_list from to items.items self.old.items) }
         ensures err { OnErr result (self.new ≡ self.old) }
     {
         let entries = entries_of(alloc, items)?;
@@ -390,13 +391,13 @@ impl<T: Item> SumTree<T> {
         to: u64,
         items: Vec<T>,
         steps: &mut Steps<L>,
-    ) -> Result<(), AllocError>
+    ) -> Result<(), OutOfMemory>
         requires order { from ≤ to }
         requires within { to ≤ length self.old.items }
-        requires short { length (spliced from to items.items self.old.items) ≤ 2 ^ 40 }
+        requires short { length (splice_list from to items.items self.old.items) ≤ 2 ^ 40 }
         requires fits { T.Summary.fits (fold T.Summary.empty T.Summary.op T.sum_of
-            (spliced from to items.items self.old.items)) }
-        ensures ok { OnOk result (self.new.items ≡ spliced from to items.items self.old.items) }
+            (splice_list from to items.items self.old.items)) }
+        ensures ok { OnOk result (self.new.items ≡ splice_list from to items.items self.old.items) }
         ensures err { OnErr result (self.new ≡ self.old) }
         ensures cost { steps.new ≤ steps.old +
             (26 * (self.old.height + 1) + 2 * length items.items) }

@@ -3,7 +3,8 @@ ghost use Rattle.std.specs.Prelude.{◌≡◌, List, IfOk};
 ghost use Rattle.sum_tree.specs.Laws.{SummaryLaws, fold};
 ghost use Rattle.sum_tree.specs.Keyed.{Ascending, IsLastKey};
 
-use std::alloc::{AllocError, Global};
+use crate::OutOfMemory;
+use std::alloc::Global;
 
 /// What is kept of a run of items: a sum, whose addition is associative and has a zero.
 ///
@@ -27,13 +28,13 @@ pub trait Summary: Sized + Drop {
         ensures { result ≡ empty };
 
     /// Adds a sum behind this one.
-    fn add(&mut self, alloc: Global, other: &Self) -> Result<(), AllocError>
+    fn add(&mut self, alloc: Global, other: &Self) -> Result<(), OutOfMemory>
         requires { fits (op self.old other.now) }
         ensures { IfOk result (λ _. self.new ≡ op self.old other.now) };
 
     /// Adds a sum behind this one, where `next` is added right after it: what `next` puts something else in the place of
     /// need not be kept. By default it is `add`.
-    fn add_before(&mut self, alloc: Global, other: &Self, _next: &Self) -> Result<(), AllocError>
+    fn add_before(&mut self, alloc: Global, other: &Self, _next: &Self) -> Result<(), OutOfMemory>
         requires sum { fits (op self.old other.now) }
         requires both { fits (op (op self.old other.now) _next.now) }
         ensures { IfOk result (λ _. op self.new _next.now ≡ op (op self.old other.now) _next.now) }
@@ -52,11 +53,11 @@ pub trait Item: Sized + Drop {
     ghost sum_of: { Self → Self.Summary };
 
     /// The summary of this item alone.
-    fn summary(&self, alloc: Global) -> Result<Self::Summary, AllocError>
+    fn summary(&self, alloc: Global) -> Result<Self::Summary, OutOfMemory>
         ensures { IfOk result (λ s. s ≡ sum_of self.now) };
 
     /// An item equal to this one.
-    fn copy(&self, alloc: Global) -> Result<Self, AllocError>
+    fn copy(&self, alloc: Global) -> Result<Self, OutOfMemory>
         ensures { IfOk result (λ x. x ≡ self.now) };
 
     ghost admitted: { (x : Self) → Self.Summary.admits (sum_of x) };

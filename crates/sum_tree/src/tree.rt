@@ -1,15 +1,16 @@
 //! A copy-on-write tree, seen as the list of its items.
 ghost use Rattle.std.specs.Prelude.{◌≡◌, ℕ, ◌+◌, ◌*◌, ◌^◌, ◌<◌, ◌≤◌, OnOk, All, [], ◌∷◌, ◌++◌, length, IfOk, IsTrue, ◌↔◌};
 ghost use Rattle.sum_tree.specs.Laws.{fold};
-ghost use Rattle.sum_tree.specs.Shape.{IsNode, IsChild, joined, seen};
+ghost use Rattle.sum_tree.specs.Shape.{IsNode, IsChild, join_items, node_view};
 ghost use Rattle.sum_tree.specs.Grown.{IsSplit};
 
+use crate::OutOfMemory;
 use crate::around::{entries_sum, trees_sum};
 use crate::entry::Entry;
 use crate::list::from_entries_with;
 use crate::steps::Steps;
 use crate::traits::{Item, Summary};
-use std::alloc::{AllocError, Global};
+use std::alloc::Global;
 use std::marker::{Brand, Model};
 use std::sync::Arc;
 use std::sync::ledger::{Blank, Ledger};
@@ -54,9 +55,9 @@ impl<T: Item> Model for SumTree<T> {
     ghost Value = { Seen T };
 
     ghost use Rattle.std.specs.Arc.{arc_value};
-    ghost use Rattle.sum_tree.specs.Shape.{seen, IsNode};
+    ghost use Rattle.sum_tree.specs.Shape.{node_view, IsNode};
 
-    ghost view = { λ a. seen (arc_value a.node) };
+    ghost view = { λ a. node_view (arc_value a.node) };
 
     ghost invariant = { λ a. IsNode T.Summary.empty T.Summary.op T.Summary.fits T.sum_of (arc_value a.node) };
 
@@ -70,7 +71,7 @@ impl<T: Item> Model for SumTree<T> {
 
 impl<T: Item> SumTree<T> {
     /// The tree without items: one node.
-    pub fn new(alloc: Global) -> Result<SumTree<T>, AllocError>
+    pub fn new(alloc: Global) -> Result<SumTree<T>, OutOfMemory>
         ensures items { IfOk result (λ t. t.items ≡ []) }
         ensures height { IfOk result (λ t. t.height ≡ 0) }
     {
@@ -117,7 +118,7 @@ impl<T: Item> SumTree<T> {
     }
 
     /// A second owner of the same nodes. No node is made; the count of owners can be refused.
-    pub fn share(&self) -> Result<SumTree<T>, AllocError>
+    pub fn share(&self) -> Result<SumTree<T>, OutOfMemory>
         ensures { IfOk result (λ t. t ≡ self.now) }
     {
         let node = Arc::try_clone(&self.node)?;
@@ -125,7 +126,7 @@ impl<T: Item> SumTree<T> {
     }
 
     /// The tree of one item: one node.
-    pub fn from_item(alloc: Global, item: T) -> Result<SumTree<T>, AllocError>
+    pub fn from_item(alloc: Global, item: T) -> Result<SumTree<T>, OutOfMemory>
         requires { T.Summary.fits (fold T.Summary.empty T.Summary.op T.sum_of (item ∷ [])) }
         ensures items { IfOk result (λ t. t.items ≡ item ∷ []) }
         ensures height { IfOk result (λ t. t.height ≡ 0) }
@@ -141,9 +142,9 @@ fn tree_of<T: Item, L: Ledger>(
     alloc: Global,
     node: Node<T>,
     steps: &mut Steps<L>,
-) -> Result<SumTree<T>, AllocError>
+) -> Result<SumTree<T>, OutOfMemory>
     requires { IsNode T.Summary.empty T.Summary.op T.Summary.fits T.sum_of node }
-    ensures tree { IfOk result (λ t. t ≡ seen node) }
+    ensures tree { IfOk result (λ t. t ≡ node_view node) }
     ensures step { OnOk result (steps.new ≡ steps.old + 1) }
     ensures cost { steps.new ≤ steps.old + 1 }
 {
@@ -156,7 +157,7 @@ fn tree_of<T: Item, L: Ledger>(
 pub(crate) fn empty<T: Item, L: Ledger>(
     alloc: Global,
     steps: &mut Steps<L>,
-) -> Result<SumTree<T>, AllocError>
+) -> Result<SumTree<T>, OutOfMemory>
     ensures items { IfOk result (λ t. t.items ≡ []) }
     ensures height { IfOk result (λ t. t.height ≡ 0) }
     ensures cost { steps.new ≤ steps.old + 1 }
@@ -175,7 +176,7 @@ pub(crate) fn single<T: Item, L: Ledger>(
     alloc: Global,
     entry: Entry<T>,
     steps: &mut Steps<L>,
-) -> Result<SumTree<T>, AllocError>
+) -> Result<SumTree<T>, OutOfMemory>
     requires { T.Summary.fits (fold T.Summary.empty T.Summary.op T.sum_of (entry ∷ [])) }
     ensures items { IfOk result (λ t. t.items ≡ entry ∷ []) }
     ensures height { IfOk result (λ t. t.height ≡ 0) }
@@ -191,7 +192,7 @@ pub(crate) fn leaf<T: Item, L: Ledger>(
     alloc: Global,
     entries: Vec<Entry<T>>,
     steps: &mut Steps<L>,
-) -> Result<SumTree<T>, AllocError>
+) -> Result<SumTree<T>, OutOfMemory>
     requires narrow { length entries.items ≤ 12 }
     requires fits { T.Summary.fits (fold T.Summary.empty T.Summary.op T.sum_of entries.items) }
     ensures items { IfOk result (λ t. t.items ≡ entries.items) }
@@ -217,14 +218,14 @@ pub(crate) fn inner<T: Item, L: Ledger>(
     height: u32,
     children: Vec<SumTree<T>>,
     steps: &mut Steps<L>,
-) -> Result<SumTree<T>, AllocError>
+) -> Result<SumTree<T>, OutOfMemory>
     requires children { All (IsChild height) children.items }
     requires least { 2 ≤ length children.items }
     requires most { length children.items ≤ 12 }
-    requires short { length (joined children.items) ≤ 2 ^ 40 }
+    requires short { length (join_items children.items) ≤ 2 ^ 40 }
     requires fits { T.Summary.fits (fold T.Summary.empty T.Summary.op T.sum_of
-        (joined children.items)) }
-    ensures items { IfOk result (λ t. t.items ≡ joined children.items) }
+        (join_items children.items)) }
+    ensures items { IfOk result (λ t. t.items ≡ join_items children.items) }
     ensures height { IfOk result (λ t. t.height ≡ height) }
     ensures width { IfOk result (λ t. t.width ≡ length children.items) }
     ensures many { IfOk result (λ t. 6 ≤ t.width → 6 ^ (t.height + 1) ≤ length t.items) }

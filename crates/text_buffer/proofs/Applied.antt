@@ -1,18 +1,18 @@
 -- A document and a buffer after an operation is applied.
+use Rattle.op_model.proofs.Elements.{each_append}
 use Rattle.std.proofs.Common.{◌≡◌, ℕ, ◌+◌, ◌^◌, ◌≤◌, List, [], ◌∷◌, ◌++◌, length, sym, ap, subst, ◌∙◌, arith, false, None}
 use Rattle.std.proofs.lemmas.Bool.{ltb-false}
 use Rattle.std.specs.Arc.{arc_value}
-use Rattle.std.specs.Str.{IsUtf8}
-use Rattle.std.specs.List.{list_any}
+use Rattle.std.specs.List.{AllByRecursion, list_any}
 use Rattle.lamport_clock.specs.declared.stamp.Lamport.{Lamport}
-use Rattle.lamport_clock.specs.Clocks.{observed}
+use Rattle.lamport_clock.specs.Clocks.{clock_after}
 use Rattle.lamport_clock.specs.Stamps.{same_stamp}
 use Rattle.lamport_clock.specs.Versions.{raise}
 use Rattle.op_model.specs.declared.operation.Operation.{Operation}
 use Rattle.op_model.specs.declared.operation.Operation.TheVariants.{Undo}
 use Rattle.op_model.specs.declared.operation.UndoOp.{UndoOp}
 use Rattle.op_model.specs.declared.faults.OpFault.TheVariants.{Full}
-use Rattle.op_model.specs.Sorted.{Each, Ascending, insert_by}
+use Rattle.op_model.specs.Sorted.{Ascending, insert_by}
 use Rattle.op_model.specs.Domains.{IsProper}
 use Rattle.op_model.specs.Operations.{text_total, stamp_of, pieces_of, bytes_of, entries_of}
 use Rattle.op_model.specs.Histories.{History, version, clock, bytes_held, entries_held, operation_at}
@@ -22,12 +22,11 @@ use Rattle.op_model.specs.Answers.Answer.{Good}
 use Rattle.op_model.specs.Lawful.{Lawful}
 use Rattle.op_model.specs.Settled.{full_fault}
 use Rattle.op_model.specs.Steps.{older}
-use Rattle.op_model.proofs.Append.{version-append, clock-append, bytes_held-append, entries_held-append}
-use Rattle.op_model.proofs.Restricted.{each_append}
-use Rattle.op_model.proofs.Passed.{passed, shaped, map_none, none_map, none_find, any_none}
-use Rattle.op_model.proofs.Good.{append_nil, stamp_parts}
-use Rattle.op_model.proofs.MoreLawful.{lawful_more}
-use Rattle.op_model.proofs.Proper.{utf8}
+use Rattle.op_model.proofs.histories.Append.{version-append, clock-append, bytes_held-append, entries_held-append}
+use Rattle.op_model.proofs.answers.Passed.{passed, shaped, map_none, none_map, none_find, any_none}
+use Rattle.op_model.proofs.answers.Good.{append_nil, stamp_parts}
+use Rattle.op_model.proofs.histories.MoreLawful.{lawful_more}
+use Rattle.op_model.proofs.histories.Proper.{utf8}
 use Rattle.undo_map.specs.declared.entry.UndoEntry.{UndoEntry}
 use Rattle.undo_map.specs.Undos.{undo_entries}
 use Rattle.undo_map.proofs.Entries.{entries_within}
@@ -83,7 +82,7 @@ room_for b op k f =
 pub IsHistory-applied : (h : History) (op : Operation) → IsHistory h → IsProper op → answer h [] op ≡ Good → HasRoom h op → IsHistory (h ++ op ∷ [])
 IsHistory-applied h op k p g r =
     let law : Lawful (h ++ op ∷ []) = lawful_more h op k.lawful g in
-    let proper : Each IsProper (h ++ op ∷ []) = each_append IsProper h (op ∷ []) k.proper (p, tt) in
+    let proper : AllByRecursion IsProper (h ++ op ∷ []) = each_append IsProper h (op ∷ []) k.proper (p, tt) in
     record {
       lawful = law;
       proper = proper;
@@ -102,11 +101,11 @@ stay_few i h op n m k e r x y =
 
 -- the clock and the version observe its stamp, it stands last, and the content is that which is then
 pub AreTold-applied : (i j : Inside) (op : Operation) (s : Lamport) → AreTold i → IsProper op → answer i.operations [] op ≡ Good → HasRoom i.operations op → s ≡ stamp_of op
-    → j.operations ≡ i.operations ++ op ∷ [] → j.clock ≡ observed i.clock s.value → arc_value j.version ≡ raise (version i.operations) s
+    → j.operations ≡ i.operations ++ op ∷ [] → j.clock ≡ clock_after i.clock s.value → arc_value j.version ≡ raise (version i.operations) s
     → IsContent j.content (i.operations ++ op ∷ []) → j.bytes ≡ i.bytes + bytes_of op → j.entries ≡ i.entries + entries_of op → AreTold j
 AreTold-applied i j op s k p g r t items clocks versions content bytes entries =
     record {
-      clock = clocks ∙ ap (λ (u : Lamport). observed i.clock u.value) t ∙ ap (λ c. observed c (stamp_of op).value) k.clock ∙ sym (clock-append i.operations op) ∙ ap clock (sym items);
+      clock = clocks ∙ ap (λ (u : Lamport). clock_after i.clock u.value) t ∙ ap (λ c. clock_after c (stamp_of op).value) k.clock ∙ sym (clock-append i.operations op) ∙ ap clock (sym items);
       version = versions ∙ ap (raise (version i.operations)) t ∙ sym (version-append i.operations op) ∙ ap version (sym items);
       content = subst (IsContent j.content) (sym items) content;
       bytes = omega (arith, bytes, k.bytes, bytes_held-append i.operations op, ap bytes_held items);

@@ -1,5 +1,6 @@
 -- What a history comes to, cell by cell: that of a base, and after one operation more.
 use Rattle.std.proofs.Common.{◌≡◌, ℕ, ◌+◌, ◌≤◌, ◌^◌, List, [], ◌∷◌, ◌++◌, length, map, refl, sym, ap, subst, ◌∙◌, arith, inl, inr}
+use Rattle.std.specs.List.{AllByRecursion}
 use Rattle.std.specs.Str.{IsUtf8}
 use Rattle.lamport_clock.specs.declared.stamp.Lamport.{Lamport}
 use Rattle.lamport_clock.specs.Versions.{Entries}
@@ -9,15 +10,15 @@ use Rattle.op_model.specs.declared.operation.Operation.TheVariants.{Undo}
 use Rattle.op_model.specs.declared.operation.UndoCount.{UndoCount}
 use Rattle.op_model.specs.declared.operation.UndoOp.{UndoOp}
 use Rattle.op_model.specs.declared.operation.Piece.{Piece}
-use Rattle.op_model.specs.Sorted.{Each, Member}
+use Rattle.op_model.specs.Sorted.{Member}
 use Rattle.op_model.specs.Domains.{IsProper}
 use Rattle.op_model.specs.Operations.{pieces_of, text_total}
 use Rattle.op_model.specs.Histories.{History, base, bytes_held, clock, version}
-use Rattle.op_model.specs.Made.{full_piece, made as made_at}
-use Rattle.op_model.specs.Shown.{hidden, text, texts}
+use Rattle.op_model.specs.Made.{full_piece, local_edit as made_at}
+use Rattle.op_model.specs.Shown.{hidden_text, text, texts}
 use Rattle.op_model.specs.Walked.{IsWhole}
 use Rattle.op_model.specs.Answers.{answer}
-use Rattle.op_model.proofs.Proper.{edit_good}
+use Rattle.op_model.proofs.histories.Proper.{edit_good}
 use Rattle.undo_map.specs.declared.entry.UndoEntry.{UndoEntry}
 use Rattle.undo_map.specs.Undos.{undo_entries}
 use Rattle.fragments.specs.declared.fragment.Fragment.{Fragment}
@@ -49,7 +50,7 @@ pub content_shared : (c d : Content) (h : History) → d.fragments.items ≡ c.f
 content_shared c d h a b u e f k = record {
   fragments = a ∙ k.fragments;
   stand = stand_is d.fragments.items c.fragments.items d.index c.index d.undos c.undos h a b u k.stand;
-  whole = subst (λ (x : List Fragment). Each (IsWhole h) (runs x)) (sym a) k.whole;
+  whole = subst (λ (x : List Fragment). AllByRecursion (IsWhole h) (runs x)) (sym a) k.whole;
   shown = e ∙ k.shown;
   hidden = f ∙ k.hidden;
 }
@@ -69,10 +70,10 @@ one_base fs w f t some few e low high ends a b =
     stand_is fs (whole_base f.id t ∷ []) w (entry_of (whole_base f.id t) ∷ []) [] [] (base t ∷ []) (a ∙ ap (λ (g : Fragment). g ∷ []) e) b refl
     (base_stands.0 f.id t (omega (arith, some)) (omega (arith, few)) low high ends)
 
-pub whole_one : (fs : List Fragment) (f : Fragment) (t : List ℕ) → IsUtf8 t → f ≡ whole_base f.id t → fs ≡ f ∷ [] → Each (IsWhole (base t ∷ [])) (runs fs)
-whole_one fs f t u e a = subst (λ (x : List Fragment). Each (IsWhole (base t ∷ [])) (runs x)) (sym (a ∙ ap (λ (g : Fragment). g ∷ []) e)) (base_whole f.id t u)
+pub whole_one : (fs : List Fragment) (f : Fragment) (t : List ℕ) → IsUtf8 t → f ≡ whole_base f.id t → fs ≡ f ∷ [] → AllByRecursion (IsWhole (base t ∷ [])) (runs fs)
+whole_one fs f t u e a = subst (λ (x : List Fragment). AllByRecursion (IsWhole (base t ∷ [])) (runs x)) (sym (a ∙ ap (λ (g : Fragment). g ∷ []) e)) (base_whole f.id t u)
 
-pub base_content : (c : Content) (t : List ℕ) → c.fragments.items ≡ fragments_of (base t ∷ []) → Stand c.fragments.items c.index [] (base t ∷ []) → Each (IsWhole (base t ∷ [])) (runs c.fragments.items) → c.undos ≡ [] → c.text ≡ t → c.hidden ≡ [] → IsContent c (base t ∷ [])
+pub base_content : (c : Content) (t : List ℕ) → c.fragments.items ≡ fragments_of (base t ∷ []) → Stand c.fragments.items c.index [] (base t ∷ []) → AllByRecursion (IsWhole (base t ∷ [])) (runs c.fragments.items) → c.undos ≡ [] → c.text ≡ t → c.hidden ≡ [] → IsContent c (base t ∷ [])
 base_content c t fr s w u e f =
     let h : History = base t ∷ [] in
     let b = both_bytes h in
@@ -83,7 +84,7 @@ base_content c t fr s w u e f =
       stand = subst (λ (x : List UndoEntry). Stand c.fragments.items c.index x h) (sym u) s;
       whole = w;
       shown = e ∙ sym (text_base t);
-      hidden = f ∙ sym (no_bytes (hidden h) (omega (arith, b, l, held)));
+      hidden = f ∙ sym (no_bytes (hidden_text h) (omega (arith, b, l, held)));
     }
 
 -- ---- what an operation asks
@@ -141,22 +142,22 @@ may_mark c h u w ts k s g e f = record {
 pub moves_room : (c : Content) (h : History) (n : ℕ) → IsContent c h → bytes_held h + n ≤ 2 ^ 40 → length c.text + length c.hidden + n ≤ 2 ^ 40
 moves_room c h n k r = let a = ap length k.shown in let b = ap length k.hidden in let d = both_bytes h in omega (arith, a, b, d, r)
 
-pub same_moved : (c : Content) (h : History) (ms : List Move) (n : List ℕ) → IsContent c h → after_moves ms c.text c.hidden n ≡ after_moves ms (text h) (hidden h) n
+pub same_moved : (c : Content) (h : History) (ms : List Move) (n : List ℕ) → IsContent c h → after_moves ms c.text c.hidden n ≡ after_moves ms (text h) (hidden_text h) n
 same_moved c h ms n k = ap (λ z. after_moves ms z c.hidden n) k.shown ∙ ap (λ z. after_moves ms (text h) z n) k.hidden
 
-pub same_taken : (c : Content) (h : History) (ms : List Move) (n : List ℕ) → IsContent c h → TakeTexts ms (text h) (hidden h) n → TakeTexts ms c.text c.hidden n
+pub same_taken : (c : Content) (h : History) (ms : List Move) (n : List ℕ) → IsContent c h → TakeTexts ms (text h) (hidden_text h) n → TakeTexts ms c.text c.hidden n
 same_taken c h ms n k t = subst (λ z. TakeTexts ms z c.hidden n) (sym k.shown) (subst (λ z. TakeTexts ms (text h) z n) (sym k.hidden) t)
 
 -- ---- after an operation
 
 pub content_after : (c : Content) (p : Placed) (h : History) (op : Operation) (u w : List UndoEntry) (n : List ℕ) → IsMoved c p w h n → n ≡ texts (pieces_of op)
-    → w ≡ u → p.fragments.items ≡ fragments_of (h ++ op ∷ []) → Stand p.fragments.items p.index u (h ++ op ∷ []) → Each (IsWhole (h ++ op ∷ [])) (runs p.fragments.items) → AreMovesOf p.moves h op → IsContent c (h ++ op ∷ [])
+    → w ≡ u → p.fragments.items ≡ fragments_of (h ++ op ∷ []) → Stand p.fragments.items p.index u (h ++ op ∷ []) → AllByRecursion (IsWhole (h ++ op ∷ [])) (runs p.fragments.items) → AreMovesOf p.moves h op → IsContent c (h ++ op ∷ [])
 content_after c p h op u w n k t e fr s d m =
-    let f = k.texts ∙ ap (after_moves p.moves (text h) (hidden h)) t ∙ m in
+    let f = k.texts ∙ ap (after_moves p.moves (text h) (hidden_text h)) t ∙ m in
     record {
       fragments = k.fragments ∙ fr;
       stand = stand_is c.fragments.items p.fragments.items c.index p.index c.undos u (h ++ op ∷ []) k.fragments k.index (k.undos ∙ e) s;
-      whole = subst (λ (x : List Fragment). Each (IsWhole (h ++ op ∷ [])) (runs x)) (sym k.fragments) d;
+      whole = subst (λ (x : List Fragment). AllByRecursion (IsWhole (h ++ op ∷ [])) (runs x)) (sym k.fragments) d;
       shown = ap (λ (x : Texts). x.shown) f;
       hidden = ap (λ (x : Texts). x.hidden) f;
     }

@@ -3,20 +3,17 @@ use Rattle.std.proofs.Common.{◌≡◌, ℕ, suc, ◌+◌, List, [], ◌∷◌,
 use Rattle.op_model.specs.declared.operation.Piece.{Piece}
 use Rattle.op_model.specs.Operations.{text_total, pieces_of, entries_of}
 use Rattle.op_model.specs.Histories.{History}
-use Rattle.op_model.specs.Edits.{replaced}
+use Rattle.op_model.specs.Edits.{replace_ranges}
 use Rattle.op_model.specs.Shown.{text}
-use Rattle.op_model.specs.Made.{full_piece, made as made_at}
+use Rattle.op_model.specs.Made.{full_piece, local_edit as made_at}
 use Rattle.op_model.specs.Answers.{answer}
 use Rattle.op_model.specs.Answers.Answer.{Good}
 use Rattle.op_model.specs.Settled.{full_fault}
-use Rattle.op_model.proofs.Proper.{edit_good}
+use Rattle.op_model.proofs.histories.Proper.{edit_good}
 use Rattle.text_buffer.specs.Buffer.{BufferState, IsBuffer, edit_fault, edit_of}
 use Rattle.text_buffer.proofs.Fit.{room_of}
 use Rattle.text_buffer.proofs.Applied.{within_limits}
-
-total_full : (h : History) (ps : List Piece) → text_total (map (full_piece h) ps) ≡ text_total ps
-total_full h [] = refl
-total_full h (p ∷ ps) = ap (λ (n : ℕ). length p.text + n) (total_full h ps)
+use Rattle.remote_edit.proofs.Local.{same_total}
 
 count_full : (h : History) (ps : List Piece) → length (map (full_piece h) ps) ≡ length ps
 count_full h [] = refl
@@ -26,7 +23,7 @@ count_full h (p ∷ ps) = ap suc (count_full h ps)
 
 pub made_total : (h : History) (r : ℕ) (ps : List Piece) → text_total (pieces_of (made_at h r ps)) ≡ text_total ps
 unfolding made_at
-made_total h r ps = total_full h ps
+made_total h r ps = same_total h ps
 
 pub made_entries : (h : History) (r : ℕ) (ps : List Piece) → entries_of (made_at h r ps) ≡ 1 + length ps
 unfolding made_at
@@ -34,7 +31,7 @@ made_entries h r ps = let n : length (map (full_piece h) ps) ≡ length ps = cou
 
 -- ---- an edit without fault
 
-pub good_of : (b : BufferState) (ps : List Piece) → IsBuffer b → edit_fault b ps ≡ None → (answer b.history [] (edit_of b ps) ≡ Good) × (text (b.history ++ edit_of b ps ∷ []) ≡ replaced ps (text b.history))
+pub good_of : (b : BufferState) (ps : List Piece) → IsBuffer b → edit_fault b ps ≡ None → (answer b.history [] (edit_of b ps) ≡ Good) × (text (b.history ++ edit_of b ps ∷ []) ≡ replace_ranges ps (text b.history))
 good_of b ps h e = edit_good b.limits b.history b.replica ps h.lawful h.proper (h.least_replica, h.greatest_replica) e
 
 -- its operation passes no limit

@@ -1,4 +1,5 @@
 -- What an edit without fault says of its pieces and of the limits.
+use Rattle.op_model.proofs.answers.Passed.{map_none, when_none}
 use Rattle.std.proofs.Common.{◌≡◌, ℕ, ◌+◌, ◌≤◌, List, ◌∷◌, [], length, ◌==◌, None, option_map, nat_lt}
 use Rattle.std.proofs.lemmas.Bool.{ltb-false}
 use Rattle.op_model.specs.declared.operation.Piece.{Piece}
@@ -12,7 +13,7 @@ use Rattle.op_model.specs.Histories.{History, clock, bytes_held, entries_held}
 use Rattle.op_model.specs.Limited.{Excess, excess}
 use Rattle.op_model.specs.Edits.{piece_fault}
 use Rattle.op_model.specs.Shown.{text}
-use Rattle.rope_edits.proofs.Fit.{all_none, map_none, when_none}
+use Rattle.rope_edits.proofs.Fit.{all_none}
 use Rattle.text_buffer.specs.Buffer.{BufferState, edit_fault}
 
 abbrev full : Excess → EditFault

@@ -1,23 +1,23 @@
 -- What a pass that is stopped leaves: what it applied stands behind what was applied, and waits no longer.
+use Rattle.op_model.proofs.Elements.{each_map, each_append}
 use Rattle.std.proofs.Common.{◌≡◌, ℕ, ◌≤◌, Bool, true, false, cond, List, [], ◌∷◌, ◌++◌, length, take, drop, refl, sym, ◌∙◌, ap, subst, append_assoc, arith, Option, Some, None, length-append, inl, inr}
+use Rattle.std.specs.List.{AllByRecursion}
 use Rattle.std.proofs.lemmas.List.{append-nil, take-append-drop}
 use Rattle.lamport_clock.specs.declared.stamp.Lamport.{Lamport}
 use Rattle.lamport_clock.specs.Stamps.{same_stamp}
 use Rattle.op_model.specs.declared.operation.Operation.{Operation}
 use Rattle.op_model.specs.declared.limits.Limits.{Limits as LimitsType}
-use Rattle.op_model.specs.Sorted.{Each, Ascending}
+use Rattle.op_model.specs.Sorted.{Ascending}
 use Rattle.op_model.specs.Operations.{stamp_of}
 use Rattle.op_model.specs.Histories.{History, In, operation_at}
 use Rattle.op_model.specs.Lawful.{Lawful}
 use Rattle.op_model.specs.Settled.{State, Turn, turn, pass}
 use Rattle.op_model.specs.Settled.Turn.{Append, Drop, Stay, Refuse}
 use Rattle.op_model.specs.Steps.{older}
-use Rattle.op_model.proofs.Insertion.{each_map}
-use Rattle.op_model.proofs.Restricted.{each_append}
-use Rattle.op_model.proofs.Passed.{none_find}
-use Rattle.op_model.proofs.SameSets.{each_in}
-use Rattle.op_model.proofs.MoreLawful.{lawful_more}
-use Rattle.op_model.proofs.Settling.{after, pass_is, pass_keeps}
+use Rattle.op_model.proofs.answers.Passed.{none_find}
+use Rattle.op_model.proofs.order.SameSets.{each_in}
+use Rattle.op_model.proofs.histories.MoreLawful.{lawful_more}
+use Rattle.op_model.proofs.settling.Settling.{after, pass_is, pass_keeps}
 use Rattle.text_buffer.specs.Settling.{pass_until, pass_step}
 use Rattle.text_buffer.proofs.Turns.{pass_nil, differ}
 
@@ -25,19 +25,19 @@ use Rattle.text_buffer.proofs.Turns.{pass_nil, differ}
 pub record Leaves (h : History) (w : List Operation) (g : History) (v : List Operation) : Type 0 where
   pub new : List Operation
   pub history : g ≡ h ++ new
-  pub apart : Each (λ (op : Operation). operation_at v (stamp_of op) ≡ None) new
+  pub apart : AllByRecursion (λ (op : Operation). operation_at v (stamp_of op) ≡ None) new
   pub waiting : (t : Lamport) → operation_at w t ≡ None → operation_at v t ≡ None
 
 -- what is applied was waiting
 record Takes (h : History) (w : List Operation) (g : History) (v : List Operation) : Type 0 where
   leaves : Leaves h w g v
-  from : Each (λ (op : Operation). In w op) leaves.new
+  from : AllByRecursion (λ (op : Operation). In w op) leaves.new
 
 found_later : (b : Bool) (op : Operation) (o : Option Operation) → cond b (Some op) o ≡ None → (b ≡ false) × (o ≡ None)
 found_later true op o e = cc
 found_later false op o e = (refl, e)
 
-absent : (op : Operation) (w : List Operation) → Each (λ (o : Operation). older op o ≡ true) w → operation_at w (stamp_of op) ≡ None
+absent : (op : Operation) (w : List Operation) → AllByRecursion (λ (o : Operation). older op o ≡ true) w → operation_at w (stamp_of op) ≡ None
 absent op w u = none_find (λ o. same_stamp (stamp_of o) (stamp_of op)) w
     (each_map (λ (o : Operation). older op o ≡ true) (λ (o : Operation). same_stamp (stamp_of o) (stamp_of op) ≡ false) (λ o e. (differ (stamp_of op) (stamp_of o) e).1) w u)
 
@@ -84,8 +84,8 @@ module _ (l : LimitsType) (rest : List Operation) where
         from = each_map (λ (o : Operation). In (front ++ rest) o) (λ (o : Operation). In (op ∷ (front ++ rest)) o) (λ o i. inr i) k.new b.from;
       }
         where
-          both : (new : List Operation) → Each (λ (o : Operation). operation_at ((pass l h front).waiting ++ rest) (stamp_of o) ≡ None) new → Each (λ (o : Operation). In (front ++ rest) o) new
-              → Each (λ (o : Operation). operation_at (op ∷ ((pass l h front).waiting ++ rest)) (stamp_of o) ≡ None) new
+          both : (new : List Operation) → AllByRecursion (λ (o : Operation). operation_at ((pass l h front).waiting ++ rest) (stamp_of o) ≡ None) new → AllByRecursion (λ (o : Operation). In (front ++ rest) o) new
+              → AllByRecursion (λ (o : Operation). operation_at (op ∷ ((pass l h front).waiting ++ rest)) (stamp_of o) ≡ None) new
           both [] x y = tt
           both (o ∷ new) x y = (rw (differ (stamp_of op) (stamp_of o) (each_in (λ (z : Operation). older op z ≡ true) (front ++ rest) o u.0 y.0)).0 x.0, both new x.1 y.1)
       go (Refuse f) a b = let k = b.leaves in record {
@@ -129,11 +129,11 @@ leaves_longer h w g v k = let e = ap length k.history in let a = length-append h
 
 -- ---- what passes keep
 
-anything : (w : List Operation) → Each (λ (op : Operation). Unit {0}) w
+anything : (w : List Operation) → AllByRecursion (λ (op : Operation). Unit {0}) w
 anything [] = tt
 anything (op ∷ w) = (tt, anything w)
 
-each_kept : (Q : Operation → Type 0) (l : LimitsType) (h : History) (w : List Operation) → Each Q w → Each Q (pass l h w).waiting
+each_kept : (Q : Operation → Type 0) (l : LimitsType) (h : History) (w : List Operation) → AllByRecursion Q w → AllByRecursion Q (pass l h w).waiting
 each_kept Q l h w e = (pass_keeps l (λ h. Unit {0}) Q (λ h op a b c. tt) h w tt e).1
 
 pub pass_up : (l : LimitsType) (h : History) (w : List Operation) → Ascending older w → Ascending older (pass l h w).waiting

@@ -1,5 +1,5 @@
 -- A history has as many cells as its texts have bytes.
-use Rattle.std.proofs.Common.{◌≡◌, ℕ, zero, suc, ◌+◌, ◌≤◌, Bool, true, false, not, cond, List, [], ◌∷◌, ◌++◌, length, map, take, drop, drop-cons, get_or, refl, sym, ◌∙◌, ap, arith, inl, length-append}
+use Rattle.std.proofs.Common.{◌≡◌, ℕ, zero, suc, ◌+◌, ◌≤◌, Bool, true, false, not, cond, List, [], ◌∷◌, ◌++◌, length, take, drop, drop-cons, get_or, refl, sym, ◌∙◌, ap, arith, inl, length-append}
 use Rattle.std.specs.List.{filter}
 use Rattle.std.proofs.lemmas.List.{append-nil, take_all}
 use Rattle.lamport_clock.specs.declared.stamp.Lamport.{Lamport}
@@ -8,12 +8,12 @@ use Rattle.op_model.specs.declared.operation.Piece.{Piece}
 use Rattle.op_model.specs.Sorted.{insert_by, insert_all}
 use Rattle.op_model.specs.Operations.{stamp_of, version_of, pieces_of, text_total, bytes_of}
 use Rattle.op_model.specs.Histories.{History, base, bytes_held, by_stamp, newer, newest_first, sort_onto}
-use Rattle.op_model.specs.Cells.{Cell, Place, before, both, cells, everything, new_places, op_places, left_path, seq, seq_where, text_places}
+use Rattle.op_model.specs.Cells.{Cell, PathCell, before, both, cells, everything, new_places, op_places, left_path, seq, seq_where, text_places}
 use Rattle.op_model.specs.Facts.{Fact, alike}
-use Rattle.op_model.specs.Shown.{byte, full, hidden, shown, shown_where, text, text_where}
-use Rattle.op_model.proofs.Good.{full_length}
-use Rattle.op_model.proofs.Utf8Runs.{bytes}
-use Rattle.op_model.proofs.WholeTexts.{base_told, byte_is, byte_of, text_told}
+use Rattle.op_model.specs.Shown.{byte, full, hidden_text, shown, shown_where, text, text_where}
+use Rattle.op_model.proofs.answers.Good.{full_length, map_length}
+use Rattle.op_model.proofs.texts.Utf8Runs.{bytes}
+use Rattle.op_model.proofs.texts.WholeTexts.{base_told, byte_is, byte_of, text_told}
 
 -- ---- all cells
 
@@ -29,7 +29,7 @@ text_len : (above : List Cell) (t : Lamport) (k : ℕ) (bs : List ℕ) → lengt
 text_len above t k [] = refl
 text_len above t k (b ∷ bs) = ap suc (text_len (above ++ record { stamp = t; k = k } ∷ []) t (suc k) bs)
 
-new_len : (s : List Place) (t : Lamport) (k : ℕ) (ps : List Piece) → length (new_places s t k ps) ≡ text_total ps
+new_len : (s : List PathCell) (t : Lamport) (k : ℕ) (ps : List Piece) → length (new_places s t k ps) ≡ text_total ps
 new_len s t k [] = refl
 new_len s t k (p ∷ ps) =
     let l = length-append (text_places (left_path s p.start) t k p.text) (new_places s t (k + length p.text) ps) in
@@ -41,7 +41,7 @@ seq_len : (h : History) → length (seq_where everything h) ≡ bytes_held h
 unfolding seq_where
 seq_len [] = refl
 seq_len (op ∷ h) =
-    let s : List Place = seq_where (both everything (version_of op)) h in
+    let s : List PathCell = seq_where (both everything (version_of op)) h in
     let l = all_len before (op_places s op) (seq_where everything h) in
     let a = new_len s (stamp_of op) 0 (pieces_of op) in
     let b = seq_len h in
@@ -64,10 +64,6 @@ full_bytes h = let a = full_length everything (newest_first h) in let b = seq_le
 
 -- ---- shown and hidden ones
 
-map_len : {A B : Type 0} (f : A → B) (xs : List A) → length (map f xs) ≡ length xs
-map_len f [] = refl
-map_len f (x ∷ xs) = ap suc (map_len f xs)
-
 parts_length : (p : Cell → Bool) (s : List Cell) → length (filter p s) + length (filter (λ c. not (p c)) s) ≡ length s
 parts_length p [] = refl
 parts_length p (c ∷ s) = elim (p c) as (λ b. length (cond b (c ∷ filter p s) (filter p s)) + length (cond (not b) (c ∷ filter (λ c. not (p c)) s) (filter (λ c. not (p c)) s)) ≡ suc (length s)) [
@@ -75,15 +71,15 @@ parts_length p (c ∷ s) = elim (p c) as (λ b. length (cond b (c ∷ filter p s
   | false ↦ (let i = parts_length p s in omega (arith, i))
 ]
 
-pub both_bytes : (h : History) → length (text h) + length (hidden h) ≡ bytes_held h
+pub both_bytes : (h : History) → length (text h) + length (hidden_text h) ≡ bytes_held h
 unfolding text text_where shown seq
 both_bytes h =
     let d : History = newest_first h in
     let s : List Cell = cells (seq_where everything d) in
-    let a = map_len (byte d) (filter (shown_where everything d) s) in
-    let b = map_len (byte h) (filter (λ (c : Cell). not (shown_where everything d c)) s) in
+    let a = map_length (byte d) (filter (shown_where everything d) s) in
+    let b = map_length (byte h) (filter (λ (c : Cell). not (shown_where everything d c)) s) in
     let p = parts_length (shown_where everything d) s in
-    let c = map_len (λ (x : Place). x.cell) (seq_where everything d) in
+    let c = map_length (λ (x : PathCell). x.cell) (seq_where everything d) in
     let n = seq_len d in
     let m = sorted_bytes [] h in
     omega (arith, a, b, p, c, n, m)

@@ -1,4 +1,5 @@
 -- A buffer in the middle of a pass.
+use Rattle.op_model.proofs.Elements.{each_filter}
 use Rattle.std.proofs.Common.{◌≡◌, ◌<◌, Bool, true, cond, List, [], ◌∷◌, length, refl, sym, ◌∙◌, ap, subst, Option, None, Some, inl, inr}
 use Rattle.std.specs.Prelude.{option_map}
 use Rattle.std.specs.List.{filter}
@@ -13,8 +14,7 @@ use Rattle.op_model.specs.Answers.{Answer, answer}
 use Rattle.op_model.specs.Answers.Answer.{Good, Repeat, Waits, Refused}
 use Rattle.op_model.specs.Settled.{State, Turn, turn, turn_of, full_fault}
 use Rattle.op_model.specs.Settled.Turn.{Append, Drop, Stay, Refuse}
-use Rattle.op_model.specs.Steps.{older, limited}
-use Rattle.op_model.proofs.Insertion.{each_filter}
+use Rattle.op_model.specs.Steps.{older, ask_limits}
 use Rattle.deferred_ops.specs.Deferred.{without}
 use Rattle.text_buffer.specs.Buffer.{BufferState, IsBuffer, state, with_state}
 use Rattle.text_buffer.specs.Fields.{state_of, AreKept}
@@ -30,7 +30,7 @@ turn_for Repeat = Drop
 turn_for (Waits r v) = Stay
 turn_for (Refused f) = Refuse f
 
-by_answer : (a : Answer) (f : Option OpFault) → turn_of a f ≡ turn_for (limited a f)
+by_answer : (a : Answer) (f : Option OpFault) → turn_of a f ≡ turn_for (ask_limits a f)
 by_answer Good None = refl
 by_answer Good (Some x) = refl
 by_answer Repeat f = refl

@@ -1,16 +1,16 @@
 -- The fields of a base, of a new document and of a new buffer.
 use Rattle.std.proofs.Common.{◌≡◌, ℕ, ◌-◌, ◌^◌, ◌≤◌, List, [], ◌∷◌, length, refl, sym, ap, subst, ◌∙◌, arith}
+use Rattle.std.specs.List.{AllByRecursion}
 use Rattle.std.specs.Arc.{arc_value}
 use Rattle.std.specs.Str.{IsUtf8}
 use Rattle.lamport_clock.specs.declared.stamp.Lamport.{Lamport}
 use Rattle.op_model.specs.declared.operation.Operation.{Operation}
 use Rattle.op_model.specs.declared.limits.Limits.{Limits as LimitsType}
 use Rattle.op_model.specs.declared.faults.OpFault.{OpFault}
-use Rattle.op_model.specs.Sorted.{Each}
 use Rattle.op_model.specs.Domains.{IsProper}
 use Rattle.op_model.specs.Histories.{History, base, version, clock, bytes_held, entries_held}
 use Rattle.op_model.specs.Lawful.{Lawful}
-use Rattle.op_model.proofs.Proper.{utf8}
+use Rattle.op_model.proofs.histories.Proper.{utf8}
 use Rattle.text_buffer.specs.Base.{opening_text}
 use Rattle.text_buffer.specs.Buffer.{BufferState, IsBuffer}
 use Rattle.text_buffer.specs.Document.{IsContent, IsHistory}
@@ -22,7 +22,7 @@ pub history_opened : (t : List ℕ) → IsUtf8 t → length t ≤ 2 ^ 40 → IsH
 history_opened t u l =
     let one : History = base t ∷ [] in
     let law : Lawful one = ((t, refl), tt) in
-    let proper : Each IsProper one = ((omega arith, (u, tt)), tt) in
+    let proper : AllByRecursion IsProper one = ((omega arith, (u, tt)), tt) in
     record {
       lawful = law;
       proper = proper;

@@ -1,8 +1,9 @@
 -- What a buffer is after it settled, or after its settling was stopped.
 use Rattle.std.proofs.Common.{◌≡◌, ℕ, ◌<◌, ◌≤◌, ◌++◌, length, drop, refl, sym, ◌∙◌, ap, subst, arith, None}
+use Rattle.std.specs.List.{AllByRecursion}
 use Rattle.std.proofs.Math.Seq.{drop-append_seam}
 use Rattle.op_model.specs.declared.operation.Operation.{Operation}
-use Rattle.op_model.specs.Sorted.{Each, Ascending}
+use Rattle.op_model.specs.Sorted.{Ascending}
 use Rattle.op_model.specs.Operations.{stamp_of}
 use Rattle.op_model.specs.Histories.{operation_at}
 use Rattle.op_model.specs.Lawful.{Lawful}
@@ -46,7 +47,7 @@ partly b n p k r l =
     record {
       lawful = p;
       prefix = k.history ∙ ap (λ z. b.history ++ z) (sym d);
-      applied = subst (Each (λ (op : Operation). operation_at n.waiting (stamp_of op) ≡ None)) (sym d) k.apart;
+      applied = subst (AllByRecursion (λ (op : Operation). operation_at n.waiting (stamp_of op) ≡ None)) (sym d) k.apart;
       waiting = k.waiting;
       replica = r;
       limits = l;

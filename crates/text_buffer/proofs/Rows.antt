@@ -8,7 +8,7 @@ use Rattle.op_model.specs.Histories.{version, clock, bytes_held, entries_held}
 use Rattle.lamport_clock.specs.Stamps.{later, same_stamp}
 use Rattle.op_model.specs.Cells.{same_cell, sibling_first, seq_where, seq}
 use Rattle.op_model.specs.Shown.{deleters_where, shown_where, shown, text_where, text}
-use Rattle.op_model.specs.Made.{made as made_at}
+use Rattle.op_model.specs.Made.{local_edit as made_at}
 use Rattle.text_buffer.specs.Buffer.{BufferState, over_base, edit_fault, after_edit, edit_of}
 
 -- what the rows compute

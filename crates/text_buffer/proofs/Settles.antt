@@ -1,17 +1,18 @@
 -- Settling, told by its passes.
 use Rattle.std.proofs.Common.{◌≡◌, ℕ, ◌<◌, Bool, true, false, cond, eqb, List, [], ◌++◌, length, refl, sym, ◌∙◌, ap, append_assoc, arith}
+use Rattle.std.specs.List.{AllByRecursion}
 use Rattle.std.proofs.lemmas.List.{append-nil}
 use Rattle.std.proofs.lemmas.Bool.Decides.{nat_tests}
 use Rattle.lamport_clock.specs.Versions.{within}
 use Rattle.op_model.specs.declared.operation.Operation.{Operation}
 use Rattle.op_model.specs.declared.limits.Limits.{Limits as LimitsType}
-use Rattle.op_model.specs.Sorted.{Each, Ascending}
+use Rattle.op_model.specs.Sorted.{Ascending}
 use Rattle.op_model.specs.Operations.{version_of}
 use Rattle.op_model.specs.Histories.{History, version}
-use Rattle.op_model.specs.Settled.{State, pass, passes, settled}
+use Rattle.op_model.specs.Settled.{State, pass, passes, settle}
 use Rattle.op_model.specs.Steps.{older, settle_step}
-use Rattle.op_model.proofs.Settling.{settled_misses}
-use Rattle.op_model.proofs.TwoPasses.{two_passes}
+use Rattle.op_model.proofs.settling.Settling.{settled_misses}
+use Rattle.op_model.proofs.settling.TwoPasses.{two_passes}
 use Rattle.text_buffer.specs.Settling.{pass_step}
 
 -- passes, two at most
@@ -31,7 +32,7 @@ unfolding passes
 passes_two l h w = ap (λ (r : State). cond (eqb (length (pass l h w).history) (length h)) (pass l h w) (one_more (pass l h w) r)) (passes_one l (pass l h w).history (pass l h w).waiting)
 
 by_two : (l : LimitsType) (s : State) → Ascending older s.waiting
-    → settled l s.history s.waiting ≡ cond (eqb (length (pass_step l s).history) (length s.history)) (pass l s.history s.waiting) (one_more (pass l s.history s.waiting) (pass l (pass_step l s).history (pass_step l s).waiting))
+    → settle l s.history s.waiting ≡ cond (eqb (length (pass_step l s).history) (length s.history)) (pass l s.history s.waiting) (one_more (pass l s.history s.waiting) (pass l (pass_step l s).history (pass_step l s).waiting))
 by_two l s u = two_passes l s.history s.waiting u ∙ passes_two l s.history s.waiting
 
 abbrev after_refused : State → State → State
@@ -52,5 +53,5 @@ pub settled_twice : (l : LimitsType) (s : State) → Ascending older s.waiting �
 settled_twice l s u e = ap (after_refused s) (by_two l s u ∙ ap (λ b. cond b (pass l s.history s.waiting) (one_more (pass l s.history s.waiting) (pass l (pass_step l s).history (pass_step l s).waiting))) (eqb_other (length s.history) (length (pass_step l s).history) e))
     ∙ ap (λ z. record { history = (pass_step l (pass_step l s)).history; waiting = (pass_step l (pass_step l s)).waiting; refused = z }) (sym (append_assoc s.refused (pass l s.history s.waiting).refused (pass l (pass_step l s).history (pass_step l s).waiting).refused))
 
-pub settled_waits : (l : LimitsType) (s : State) → Each (λ (op : Operation). within (version_of op) (version (settle_step l s).history) ≡ false) (settle_step l s).waiting
+pub settled_waits : (l : LimitsType) (s : State) → AllByRecursion (λ (op : Operation). within (version_of op) (version (settle_step l s).history) ≡ false) (settle_step l s).waiting
 settled_waits l s = settled_misses l s.history s.waiting

@@ -1,19 +1,19 @@
 -- What is known once a taken operation is applied and the buffer has settled, or memory is wanted.
 use Rattle.std.proofs.Common.{◌≡◌, ℕ, suc, ◌-◌, ◌≤◌, List, [], ◌∷◌, ◌++◌, length, drop, sym, ap, subst, ◌∙◌, arith, None, Result, Ok, Err}
+use Rattle.std.specs.List.{AllByRecursion}
 use Rattle.std.specs.Result.{OnErr}
 use Rattle.std.proofs.lemmas.List.{append_assoc, length-append}
 use Rattle.std.proofs.Math.Seq.{drop-append_seam}
 use Rattle.op_model.specs.declared.operation.Operation.{Operation}
 use Rattle.op_model.specs.declared.limits.Limits.{Limits as LimitsType}
-use Rattle.op_model.specs.Sorted.{Each}
 use Rattle.op_model.specs.Operations.{stamp_of}
 use Rattle.op_model.specs.Histories.{History, operation_at}
-use Rattle.op_model.specs.Settled.{settled as settled_at, full_fault}
-use Rattle.op_model.specs.Steps.{limited, or_full}
+use Rattle.op_model.specs.Settled.{settle as settled_at, full_fault}
+use Rattle.op_model.specs.Steps.{ask_limits, or_full}
 use Rattle.op_model.specs.Answers.{Answer, answer}
 use Rattle.op_model.specs.Answers.Answer.{Good}
-use Rattle.op_model.proofs.Settling.{settled_keeps}
-use Rattle.op_model.proofs.Passed.{passed}
+use Rattle.op_model.proofs.settling.Settling.{settled_keeps}
+use Rattle.op_model.proofs.answers.Passed.{passed}
 use Rattle.text_buffer.specs.Buffer.{BufferState, IsPartly, answer_to, after_apply, after_settle, new_operations}
 use Rattle.text_buffer.specs.declared.outcomes.Took.TheVariants as took
 use Rattle.text_buffer.proofs.Waiting.{not_waiting}
@@ -23,7 +23,7 @@ use Rattle.text_buffer.proofs.Waiting.{not_waiting}
 grows : (l : LimitsType) (h : History) (w : List Operation) → length h ≤ length (settled_at l h w).history
 grows l h w = (settled_keeps l (λ (g : History). length h ≤ length g) (λ (op : Operation). Unit {0}) (λ g op p q e. let n = length-append g (op ∷ []) in omega arith) h w (omega arith) (all w)).0
   where
-    all : (w : List Operation) → Each (λ (op : Operation). Unit {0}) w
+    all : (w : List Operation) → AllByRecursion (λ (op : Operation). Unit {0}) w
     all [] = tt
     all (op ∷ w) = (tt, all w)
 
@@ -40,7 +40,7 @@ one_applied b n op g p =
     record {
       lawful = p.lawful;
       prefix = whole ∙ ap (λ (m : List Operation). b.history ++ m) (sym new);
-      applied = subst (Each (λ (o : Operation). operation_at n.waiting (stamp_of o) ≡ None)) (sym new)
+      applied = subst (AllByRecursion (λ (o : Operation). operation_at n.waiting (stamp_of o) ≡ None)) (sym new)
           (p.waiting (stamp_of op) (not_waiting b.history b.waiting op (passed b.history b.waiting op g).fresh), p.applied);
       waiting = p.waiting;
       replica = p.replica;
@@ -49,7 +49,7 @@ one_applied b n op g p =
 
 -- an operation that is good and passes no limit has that answer
 pub answer_good : (b : BufferState) (op : Operation) → answer b.history b.waiting op ≡ Good → full_fault b.limits b.history op ≡ None → answer_to b op ≡ Good
-answer_good b op g f = ap (λ (a : Answer). limited a (full_fault b.limits b.history op)) g ∙ ap or_full f
+answer_good b op g f = ap (λ (a : Answer). ask_limits a (full_fault b.limits b.history op)) g ∙ ap or_full f
 
 -- ---- what is told
 

@@ -4,26 +4,26 @@ use Rattle.std.proofs.lemmas.List.{append-nil}
 use Rattle.std.proofs.lemmas.Bool.{cases_Bool, and_parts}
 use Rattle.std.proofs.lemmas.Bool.Decides.{nat_tests}
 use Rattle.std.proofs.Math.Seq.{take-append_seam, drop-append_seam}
-use Rattle.std.specs.List.{find}
+use Rattle.std.specs.List.{AllByRecursion, find}
 use Rattle.lamport_clock.specs.declared.stamp.Lamport.{Lamport}
 use Rattle.lamport_clock.specs.Stamps.{later, same_stamp}
 use Rattle.lamport_clock.specs.Versions.{within}
 use Rattle.op_model.specs.declared.operation.Operation.{Operation}
 use Rattle.op_model.specs.declared.limits.Limits.{Limits as LimitsType}
 use Rattle.op_model.specs.declared.faults.OpFault.{OpFault}
-use Rattle.op_model.specs.Sorted.{Each, Ascending}
+use Rattle.op_model.specs.Sorted.{Ascending}
 use Rattle.op_model.specs.Operations.{stamp_of, version_of}
 use Rattle.op_model.specs.Histories.{History, version}
 use Rattle.op_model.specs.Settled.{State, Turn, turn, with_waiting, pass}
 use Rattle.op_model.specs.Settled.Turn.{Append, Drop, Stay, Refuse}
 use Rattle.op_model.specs.Steps.{older}
-use Rattle.op_model.proofs.Insertion.{each_map}
-use Rattle.op_model.proofs.Passed.{find_none}
-use Rattle.op_model.proofs.PathOrder.{same_stamp_refl}
-use Rattle.op_model.proofs.SameSets.{one_way}
-use Rattle.op_model.proofs.Settling.{after, pass_is, stay_misses}
+use Rattle.op_model.proofs.answers.Passed.{find_none}
+use Rattle.op_model.proofs.order.PathOrder.{same_stamp_refl}
+use Rattle.op_model.proofs.order.SameSets.{one_way}
+use Rattle.op_model.proofs.settling.Settling.{after, pass_is, stay_misses}
 use Rattle.deferred_ops.specs.Deferred.{is_past, least_ready, without}
 use Rattle.text_buffer.specs.Settling.{after_turn, turn_step, pass_front, pass_until, pass_step}
+use Rattle.op_model.proofs.Elements.{each_left, each_right, each_map}
 
 -- ---- a pass over a list in two parts
 
@@ -50,7 +50,7 @@ pass_append l h (op ∷ v) w = pass_is l h op (v ++ w) ∙ go (turn l h op) (pas
 -- ---- a pass over what misses a cause
 
 abbrev Missing : History → List Operation → Type 0
-Missing h w = Each (λ (o : Operation). within (version_of o) (version h) ≡ false) w
+Missing h w = AllByRecursion (λ (o : Operation). within (version_of o) (version h) ≡ false) w
 
 turn_missing : (l : LimitsType) (h : History) (op : Operation) → within (version_of op) (version h) ≡ false → turn l h op ≡ Stay
 turn_missing l h op e = rw e refl
@@ -65,7 +65,7 @@ record Parted (t : Operation → Bool) (w : List Operation) (op : Operation) : T
   missed : List Operation
   behind : List Operation
   is : w ≡ missed ++ op ∷ behind
-  misses : Each (λ (o : Operation). t o ≡ false) missed
+  misses : AllByRecursion (λ (o : Operation). t o ≡ false) missed
   hit : t op ≡ true
 
 part_of : (t : Operation → Bool) (w : List Operation) (op : Operation) → find t w ≡ Some op → Parted t w op
@@ -77,25 +77,17 @@ part_of t (o ∷ w) op e = elim (cases_Bool (t o)) [
       record { missed = o ∷ p.missed; behind = p.behind; is = ap (λ (x : List Operation). o ∷ x) p.is; misses = (n, p.misses); hit = p.hit })
 ]
 
-found_past : (t : Operation → Bool) (v w : List Operation) → Each (λ (o : Operation). t o ≡ false) v → find t (v ++ w) ≡ find t w
+found_past : (t : Operation → Bool) (v w : List Operation) → AllByRecursion (λ (o : Operation). t o ≡ false) v → find t (v ++ w) ≡ find t w
 found_past t [] w e = refl
 found_past t (o ∷ v) w e = rw e.0 (found_past t v w e.1)
 
 -- ---- stamps ascend
 
-each_mid : {A : Type 0} (P : A → Type 0) (v w : List A) (x : A) → Each P (v ++ x ∷ w) → P x
+each_mid : {A : Type 0} (P : A → Type 0) (v w : List A) (x : A) → AllByRecursion P (v ++ x ∷ w) → P x
 each_mid P [] w x e = e.0
 each_mid P (y ∷ v) w x e = each_mid P v w x e.1
 
-each_front : {A : Type 0} (P : A → Type 0) (v w : List A) → Each P (v ++ w) → Each P v
-each_front P [] w e = tt
-each_front P (x ∷ v) w e = (e.0, each_front P v w e.1)
-
-each_back : {A : Type 0} (P : A → Type 0) (v w : List A) → Each P (v ++ w) → Each P w
-each_back P [] w e = e
-each_back P (x ∷ v) w e = each_back P v w e.1
-
-around : (v : List Operation) (op : Operation) (w : List Operation) → Ascending older (v ++ op ∷ w) → Each (λ (o : Operation). older o op ≡ true) v × Each (λ (o : Operation). older op o ≡ true) w
+around : (v : List Operation) (op : Operation) (w : List Operation) → Ascending older (v ++ op ∷ w) → AllByRecursion (λ (o : Operation). older o op ≡ true) v × AllByRecursion (λ (o : Operation). older op o ≡ true) w
 around [] op w u = (tt, u.0)
 around (o ∷ v) op w u = let r = around v op w u.1 in ((each_mid (λ (x : Operation). older o x ≡ true) v w op u.0, r.0), r.1)
 
@@ -103,12 +95,12 @@ pub differ : (s t : Lamport) → later t s ≡ true → (same_stamp s t ≡ fals
 unfolding later same_stamp
 differ s t e = (grind (arith, nat_tests), grind (arith, nat_tests))
 
-others : (t : Lamport) (w : List Operation) → Each (λ (o : Operation). same_stamp (stamp_of o) t ≡ false) w → without t w ≡ w
+others : (t : Lamport) (w : List Operation) → AllByRecursion (λ (o : Operation). same_stamp (stamp_of o) t ≡ false) w → without t w ≡ w
 others t [] e = refl
 others t (o ∷ w) e = rw e.0 (ap (λ (z : List Operation). o ∷ z) (others t w e.1))
 
-out_of : (t : Lamport) (v : List Operation) (op : Operation) (w : List Operation) → same_stamp (stamp_of op) t ≡ true → Each (λ (o : Operation). same_stamp (stamp_of o) t ≡ false) v
-    → Each (λ (o : Operation). same_stamp (stamp_of o) t ≡ false) w → without t (v ++ op ∷ w) ≡ v ++ w
+out_of : (t : Lamport) (v : List Operation) (op : Operation) (w : List Operation) → same_stamp (stamp_of op) t ≡ true → AllByRecursion (λ (o : Operation). same_stamp (stamp_of o) t ≡ false) v
+    → AllByRecursion (λ (o : Operation). same_stamp (stamp_of o) t ≡ false) w → without t (v ++ op ∷ w) ≡ v ++ w
 out_of t [] op w s e f = rw s (others t w f)
 out_of t (o ∷ v) op w s e f = rw e.0 (ap (λ (z : List Operation). o ∷ z) (out_of t v op w s e.1 f))
 
@@ -152,10 +144,10 @@ pub record IsAt (l : LimitsType) (b : State) (after : Option Lamport) (s : State
   pub rest : List Operation
   pub split : b.waiting ≡ front ++ rest
   pub is : s ≡ pass_front l b front rest
-  pub behind : Each (λ (o : Operation). is_past after o ≡ false) (pass l b.history front).waiting
-  pub ahead : Each (λ (o : Operation). is_past after o ≡ true) rest
+  pub behind : AllByRecursion (λ (o : Operation). is_past after o ≡ false) (pass l b.history front).waiting
+  pub ahead : AllByRecursion (λ (o : Operation). is_past after o ≡ true) rest
 
-all_past : (w : List Operation) → Each (λ (o : Operation). is_past None o ≡ true) w
+all_past : (w : List Operation) → AllByRecursion (λ (o : Operation). is_past None o ≡ true) w
 all_past [] = tt
 all_past (o ∷ w) = (refl, all_past w)
 
@@ -165,12 +157,12 @@ at_start l b = record {
   rest = b.waiting;
   split = refl;
   is = sym (ap (λ (p : State). record { history = p.history; waiting = p.waiting ++ b.waiting; refused = b.refused ++ p.refused }) (pass_nil l b.history) ∙ ap (λ z. record { history = b.history; waiting = b.waiting; refused = z }) (append-nil b.refused));
-  behind = subst (λ (p : State). Each (λ (o : Operation). is_past None o ≡ false) p.waiting) (sym (pass_nil l b.history)) tt;
+  behind = subst (λ (p : State). AllByRecursion (λ (o : Operation). is_past None o ≡ false) p.waiting) (sym (pass_nil l b.history)) tt;
   ahead = all_past b.waiting;
 }
 
 -- it has ended where nothing more is ready
-past_missing : (after : Option Lamport) (h : History) (w : List Operation) → Each (λ (o : Operation). is_past after o ≡ true) w → Each (λ (o : Operation). is_ready after h o ≡ false) w → Missing h w
+past_missing : (after : Option Lamport) (h : History) (w : List Operation) → AllByRecursion (λ (o : Operation). is_past after o ≡ true) w → AllByRecursion (λ (o : Operation). is_ready after h o ≡ false) w → Missing h w
 past_missing after h [] a r = tt
 past_missing after h (o ∷ w) a r = (rw a.0 at r.0, past_missing after h w a.1 r.1)
 
@@ -178,7 +170,7 @@ pub at_end : (l : LimitsType) (b : State) (after : Option Lamport) (s : State) �
 at_end l b after s i e =
     let p : State = pass l b.history i.front in
     let n : least_ready after (version p.history) (p.waiting ++ i.rest) ≡ None = subst (λ (z : State). least_ready after (version z.history) z.waiting ≡ None) i.is e in
-    let m : Missing p.history i.rest = past_missing after p.history i.rest i.ahead (each_back (λ (o : Operation). is_ready after p.history o ≡ false) p.waiting i.rest (find_none (is_ready after p.history) (p.waiting ++ i.rest) n)) in
+    let m : Missing p.history i.rest = past_missing after p.history i.rest i.ahead (each_right (λ (o : Operation). is_ready after p.history o ≡ false) p.waiting i.rest (find_none (is_ready after p.history) (p.waiting ++ i.rest) n)) in
     let q : pass l b.history b.waiting ≡ record { history = p.history; waiting = p.waiting ++ i.rest; refused = p.refused } =
     ap (pass l b.history) i.split ∙ pass_append l b.history i.front i.rest ∙ ap (state_join p) (pass_missing l p.history i.rest m) ∙ ap (λ z. record { history = p.history; waiting = p.waiting ++ i.rest; refused = z }) (append-nil p.refused) in
     i.is ∙ sym (ap (λ (z : State). record { history = z.history; waiting = z.waiting; refused = b.refused ++ z.refused }) q)
@@ -235,7 +227,7 @@ module _ (l : LimitsType) (b : State) (front rest : List Operation) (op : Operat
       let a = around (waiting_front q) op q.behind (subst (Ascending older) (whole q) u) in
       let w : without (stamp_of op) (p.waiting ++ rest) ≡ (p.waiting ++ (q.missed ++ [])) ++ q.behind =
       ap (without (stamp_of op)) (whole q) ∙ without_mid (waiting_front q) op q.behind (subst (Ascending older) (whole q) u) ∙ ap (λ z. (p.waiting ++ z) ++ q.behind) (sym (append-nil q.missed)) in
-      let k : Each (λ (o : Operation). is_past (Some (stamp_of op)) o ≡ false) (p.waiting ++ (q.missed ++ [])) = subst (λ z. Each (λ (o : Operation). is_past (Some (stamp_of op)) o ≡ false) (p.waiting ++ z)) (sym (append-nil q.missed))
+      let k : AllByRecursion (λ (o : Operation). is_past (Some (stamp_of op)) o ≡ false) (p.waiting ++ (q.missed ++ [])) = subst (λ z. AllByRecursion (λ (o : Operation). is_past (Some (stamp_of op)) o ≡ false) (p.waiting ++ z)) (sym (append-nil q.missed))
       (each_map (λ (o : Operation). older o op ≡ true) (λ (o : Operation). is_past (Some (stamp_of op)) o ≡ false) (λ o y. one_way (stamp_of op) (stamp_of o) y) (waiting_front q) a.0) in
       record {
         front = front ++ (q.missed ++ op ∷ []);
@@ -243,18 +235,18 @@ module _ (l : LimitsType) (b : State) (front rest : List Operation) (op : Operat
         split = more q s;
         is = ap (λ z. record { history = g; waiting = z; refused = b.refused ++ (p.refused ++ x) }) w
             ∙ sym (ap (λ (z : State). record { history = z.history; waiting = z.waiting ++ q.behind; refused = b.refused ++ z.refused }) e);
-        behind = subst (λ (z : State). Each (λ (o : Operation). is_past (Some (stamp_of op)) o ≡ false) z.waiting) (sym e) k;
+        behind = subst (λ (z : State). AllByRecursion (λ (o : Operation). is_past (Some (stamp_of op)) o ≡ false) z.waiting) (sym e) k;
         ahead = a.1;
       }
 
-  step_at : b.waiting ≡ front ++ rest → Each (λ (o : Operation). is_past after o ≡ false) p.waiting → Each (λ (o : Operation). is_past after o ≡ true) rest
+  step_at : b.waiting ≡ front ++ rest → AllByRecursion (λ (o : Operation). is_past after o ≡ false) p.waiting → AllByRecursion (λ (o : Operation). is_past after o ≡ true) rest
       → Ascending older (p.waiting ++ rest) → least_ready after (version p.history) (p.waiting ++ rest) ≡ Some op
       → IsAt l b (Some (stamp_of op)) (turn_step l op (pass_front l b front rest))
   step_at s v a u e =
       let f : find (is_ready after p.history) rest ≡ Some op =
       sym (found_past (is_ready after p.history) p.waiting rest (each_map (λ (o : Operation). is_past after o ≡ false) (λ (o : Operation). is_ready after p.history o ≡ false) (λ o y. rw y refl) p.waiting v)) ∙ e in
       let q = part_of (is_ready after p.history) rest op f in
-      let m : Missing p.history q.missed = past_missing after p.history q.missed (each_front (λ (o : Operation). is_past after o ≡ true) q.missed (op ∷ q.behind) (subst (Each (λ (o : Operation). is_past after o ≡ true)) q.is a)) q.misses in
+      let m : Missing p.history q.missed = past_missing after p.history q.missed (each_left (λ (o : Operation). is_past after o ≡ true) q.missed (op ∷ q.behind) (subst (AllByRecursion (λ (o : Operation). is_past after o ≡ true)) q.is a)) q.misses in
       let y : within (version_of op) (version p.history) ≡ true = (and_parts (is_past after op) (within (version_of op) (version p.history)) q.hit).1 in
       go q m y (turn l p.history op) refl
     where

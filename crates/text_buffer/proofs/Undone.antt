@@ -16,12 +16,12 @@ use Rattle.op_model.specs.Domains.{IsProper}
 use Rattle.op_model.specs.Operations.{bytes_of, entries_of}
 use Rattle.op_model.specs.Histories.{History, version, clock}
 use Rattle.op_model.specs.Limited.{Excess, excess}
-use Rattle.op_model.specs.Made.{next_count, made_undo as made_undo_at}
+use Rattle.op_model.specs.Made.{next_count, local_undo as made_undo_at}
 use Rattle.op_model.specs.Answers.{answer}
 use Rattle.op_model.specs.Answers.Answer.{Good}
 use Rattle.op_model.specs.Settled.{full_fault}
-use Rattle.op_model.proofs.Passed.{first_none, map_none}
-use Rattle.op_model.proofs.Proper.{undo_good, undo_proper}
+use Rattle.op_model.proofs.answers.Passed.{first_none, map_none}
+use Rattle.op_model.proofs.histories.Proper.{undo_good, undo_proper}
 use Rattle.undo_map.specs.declared.entry.UndoEntry.{UndoEntry}
 use Rattle.undo_map.specs.Counts.{count_of}
 use Rattle.undo_map.specs.Undos.{undo_entries}

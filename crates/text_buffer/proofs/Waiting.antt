@@ -1,20 +1,22 @@
 -- What waits: it stands by stamps, and one more is put among it.
+use Rattle.op_model.proofs.Elements.{each_map}
 use Rattle.std.proofs.Common.{◌≡◌, ℕ, Bool, true, false, List, [], ◌∷◌, ◌++◌, inl, inr, refl, sym, ap, ◌∙◌, arith, Option, None, Some}
+use Rattle.std.specs.List.{AllByRecursion}
 use Rattle.std.proofs.lemmas.Bool.{cases_Bool}
 use Rattle.std.proofs.lemmas.Bool.Decides.{nat_tests}
 use Rattle.lamport_clock.specs.Stamps.{later, same_stamp}
 use Rattle.lamport_clock.specs.declared.stamp.Lamport.{Lamport}
 use Rattle.op_model.specs.declared.operation.Operation.{Operation}
-use Rattle.op_model.specs.Sorted.{Each, Ascending, insert_by}
+use Rattle.op_model.specs.Sorted.{Ascending, insert_by}
 use Rattle.op_model.specs.Operations.{stamp_of}
 use Rattle.op_model.specs.Histories.{Distinct, operation_at}
 use Rattle.op_model.specs.declared.faults.OpFault.{OpFault}
 use Rattle.op_model.specs.Answers.{answer, shape_fault, any_equal, any_stamp}
 use Rattle.op_model.specs.Answers.Answer.{Waits}
 use Rattle.op_model.specs.Steps.{older}
-use Rattle.op_model.proofs.Insertion.{each_map, each_insert, insert_past, insert_here}
-use Rattle.op_model.proofs.PathOrder.{later_trans, later_total, later_irrefl}
-use Rattle.op_model.proofs.Passed.{any_none, none_find}
+use Rattle.op_model.proofs.order.Insertion.{each_insert, insert_past, insert_here}
+use Rattle.op_model.proofs.order.PathOrder.{later_trans, later_total, later_irrefl}
+use Rattle.op_model.proofs.answers.Passed.{any_none, none_find}
 use Rattle.op_answers.proofs.Answering.{shaped_badly, repeated, conflicts}
 
 unlike : (o p : Operation) → older o p ≡ true → stamp_of p ≡ stamp_of o → ⊥
@@ -32,7 +34,7 @@ unfolding same_stamp
 unlike_flip s t e = grind (arith, nat_tests)
 
 -- one with another stamp is put among them
-pub ascends : (op : Operation) (w : List Operation) → Each (λ o. same_stamp (stamp_of o) (stamp_of op) ≡ false) w → Ascending older w → Ascending older (insert_by older op w)
+pub ascends : (op : Operation) (w : List Operation) → AllByRecursion (λ o. same_stamp (stamp_of o) (stamp_of op) ≡ false) w → Ascending older w → Ascending older (insert_by older op w)
 ascends op [] f a = (tt, tt)
 ascends op (y ∷ w) f a = elim (cases_Bool (older y op)) [
   | inl h ↦ rw (insert_past older op y w h) (each_insert (λ z. older y z ≡ true) older op w h a.0, ascends op w f.1 a.1)
@@ -40,12 +42,12 @@ ascends op (y ∷ w) f a = elim (cases_Bool (older y op)) [
       rw (insert_here older op y w h) ((xy, each_map (λ z. older y z ≡ true) (λ z. older op z ≡ true) (λ z yz. later_trans (stamp_of z) (stamp_of y) (stamp_of op) yz xy) w a.0), (a.0, a.1)))
 ]
 
-append_none : (t : Operation → Bool) (h w : List Operation) → Each (λ o. t o ≡ false) (h ++ w) → Each (λ o. t o ≡ false) w
+append_none : (t : Operation → Bool) (h w : List Operation) → AllByRecursion (λ o. t o ≡ false) (h ++ w) → AllByRecursion (λ o. t o ≡ false) w
 append_none t [] w e = e
 append_none t (o ∷ h) w e = append_none t h w e.1
 
 -- none of what waits has a stamp that is not there
-pub unlike_waiting : (h w : List Operation) (op : Operation) → any_stamp (h ++ w) op ≡ false → Each (λ o. same_stamp (stamp_of o) (stamp_of op) ≡ false) w
+pub unlike_waiting : (h w : List Operation) (op : Operation) → any_stamp (h ++ w) op ≡ false → AllByRecursion (λ o. same_stamp (stamp_of o) (stamp_of op) ≡ false) w
 unlike_waiting h w op e = append_none (λ o. same_stamp (stamp_of o) (stamp_of op)) h w (any_none (λ o. same_stamp (stamp_of o) (stamp_of op)) (h ++ w) e)
 
 pub not_waiting : (h w : List Operation) (op : Operation) → any_stamp (h ++ w) op ≡ false → operation_at w (stamp_of op) ≡ None

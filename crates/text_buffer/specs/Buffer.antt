@@ -1,5 +1,6 @@
 -- What contracts see of a buffer, the faults that edits and undos meet, what they make, and the answer to a taken operation.
 use Rattle.std.specs.Prelude.{◌≡◌, ℕ, ◌≤◌, ◌-◌, ◌^◌, Bool, true, false, List, [], ◌∷◌, ◌++◌, length, drop, nat_lt, Option, None, Some}
+use Rattle.std.specs.List.{AllByRecursion}
 use Rattle.std.specs.Str.{IsUtf8}
 use Rattle.op_model.specs.declared.operation.Piece.{Piece}
 use Rattle.op_model.specs.declared.operation.Operation.{Operation}
@@ -10,7 +11,7 @@ use Rattle.op_model.specs.declared.faults.OpFault.{OpFault}
 use Rattle.op_model.specs.declared.faults.Unit.TheVariants.{Bytes}
 use Rattle.lamport_clock.specs.declared.stamp.Lamport.{Lamport}
 use Rattle.lamport_clock.specs.Versions.{within}
-use Rattle.op_model.specs.Sorted.{Each, Ascending}
+use Rattle.op_model.specs.Sorted.{Ascending}
 use Rattle.op_model.specs.Choice.{when}
 use Rattle.op_model.specs.Domains.{IsProper}
 use Rattle.op_model.specs.Operations.{stamp_of, version_of}
@@ -20,7 +21,7 @@ use Rattle.op_model.specs.Answers.Answer.{Good, Repeat, Waits, Refused}
 use Rattle.op_model.specs.Lawful.{Lawful}
 use Rattle.op_model.specs.Settled.{State}
 use Rattle.op_model.specs.Steps.{older, take_answer, take_step, settle_step, growth, Step, step, run}
-use Rattle.op_model.specs.Made.{made as made_at, made_undo as made_undo_at, local_edit_fault, local_undo_fault}
+use Rattle.op_model.specs.Made.{local_edit as made_at, local_undo as made_undo_at, local_edit_fault, local_undo_fault}
 use Rattle.op_model.specs.Shown.{text}
 use Rattle.text_buffer.specs.declared.faults.NewFault.{NewFault}
 use Rattle.text_buffer.specs.declared.faults.NewFault.TheVariants.{Full}
@@ -127,7 +128,7 @@ is_kept (Refused f) = false
 
 -- each operation that waits misses a cause
 abbrev pub AllMiss : BufferState → Type 0
-AllMiss b = Each (λ (op : Operation). within (version_of op) (version b.history) ≡ false) b.waiting
+AllMiss b = AllByRecursion (λ (op : Operation). within (version_of op) (version b.history) ≡ false) b.waiting
 
 -- the operations that were applied from one buffer to the next
 abbrev pub new_operations : BufferState → BufferState → List Operation
@@ -138,7 +139,7 @@ new_operations b n = drop (length b.history) n.history
 pub record IsPartly (b n : BufferState) : Type 0 where
   pub lawful : Lawful n.history
   pub prefix : n.history ≡ b.history ++ new_operations b n
-  pub applied : Each (λ (op : Operation). operation_at n.waiting (stamp_of op) ≡ None) (new_operations b n)
+  pub applied : AllByRecursion (λ (op : Operation). operation_at n.waiting (stamp_of op) ≡ None) (new_operations b n)
   pub waiting : (t : Lamport) → operation_at b.waiting t ≡ None → operation_at n.waiting t ≡ None
   pub replica : n.replica ≡ b.replica
   pub limits : n.limits ≡ b.limits
@@ -146,7 +147,7 @@ pub record IsPartly (b n : BufferState) : Type 0 where
 -- what is true of every buffer
 pub record IsBuffer (b : BufferState) : Type 0 where
   pub lawful : Lawful b.history
-  pub proper : Each IsProper b.history
+  pub proper : AllByRecursion IsProper b.history
   pub waiting_ascending : Ascending older b.waiting
   pub least_replica : 1 ≤ b.replica
   pub greatest_replica : b.replica ≤ 1023

@@ -1,10 +1,10 @@
 -- What is true of the history of a document.
 use Rattle.std.specs.Prelude.{◌≡◌, ℕ, ◌+◌, ◌-◌, ◌^◌, ◌≤◌, List, [], ◌++◌, length, None}
+use Rattle.std.specs.List.{AllByRecursion}
 use Rattle.std.specs.Str.{IsUtf8}
 use Rattle.op_model.specs.declared.limits.Limits.{Limits as LimitsType}
 use Rattle.op_model.specs.declared.operation.Operation.{Operation}
 use Rattle.op_model.specs.declared.operation.Piece.{Piece}
-use Rattle.op_model.specs.Sorted.{Each}
 use Rattle.op_model.specs.Answers.{answer}
 use Rattle.op_model.specs.Answers.Answer.{Good}
 use Rattle.op_model.specs.Domains.{IsProper, IsReplica}
@@ -12,7 +12,7 @@ use Rattle.op_model.specs.Operations.{bytes_of, entries_of}
 use Rattle.op_model.specs.Histories.{bytes_held, entries_held}
 use Rattle.op_model.specs.Lawful.{Lawful}
 use Rattle.op_model.specs.Made.{local_edit_fault}
-use Rattle.op_model.specs.Shown.{text, hidden}
+use Rattle.op_model.specs.Shown.{text, hidden_text}
 use Rattle.op_model.specs.Walked.{IsWhole}
 use Rattle.undo_map.specs.declared.entry.UndoEntry.{UndoEntry}
 use Rattle.fragments.specs.Stand.{Stand, runs}
@@ -24,7 +24,7 @@ use Rattle.text_buffer.specs.declared.content.Content.{Content}
 -- what is true of the history of every buffer and of every snapshot
 pub record IsHistory (h : List Operation) : Type 0 where
   pub lawful : Lawful h
-  pub proper : Each IsProper h
+  pub proper : AllByRecursion IsProper h
   pub bytes : bytes_held h ≤ 2 ^ 40
   pub entries : entries_held h ≤ 2 ^ 40 - 1
   pub utf8 : IsUtf8 (text h)
@@ -44,9 +44,9 @@ IsFront h g = (more : List Operation) × (g ≡ h ++ more)
 pub record IsContent (c : Content) (h : List Operation) : Type 0 where
   pub fragments : c.fragments.items ≡ fragments_of h
   pub stand : Stand c.fragments.items c.index c.undos h
-  pub whole : Each (IsWhole h) (runs c.fragments.items)
+  pub whole : AllByRecursion (IsWhole h) (runs c.fragments.items)
   pub shown : c.text ≡ text h
-  pub hidden : c.hidden ≡ hidden h
+  pub hidden : c.hidden ≡ hidden_text h
 
 -- the content has the fragments and the index of what an operation made of those of h, the undo counts u, and both texts of h after
 -- its moves, n being its new text
@@ -54,7 +54,7 @@ pub record IsMoved (c : Content) (p : Placed) (u : List UndoEntry) (h : List Ope
   pub fragments : c.fragments.items ≡ p.fragments.items
   pub index : c.index ≡ p.index
   pub undos : c.undos ≡ u
-  pub texts : texts_of c.text c.hidden ≡ after_moves p.moves (text h) (hidden h) n
+  pub texts : texts_of c.text c.hidden ≡ after_moves p.moves (text h) (hidden_text h) n
 
 -- op is good behind h, and there is room for it
 pub record MayGrow (h : List Operation) (op : Operation) : Type 0 where

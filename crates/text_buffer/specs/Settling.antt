@@ -10,7 +10,7 @@ use Rattle.op_model.specs.Answers.{Answer, answer}
 use Rattle.op_model.specs.Answers.Answer.{Good, Repeat, Waits, Refused}
 use Rattle.op_model.specs.Settled.{State, Turn, turn, pass, full_fault}
 use Rattle.op_model.specs.Settled.Turn.{Append, Drop, Stay, Refuse}
-use Rattle.op_model.specs.Steps.{limited}
+use Rattle.op_model.specs.Steps.{ask_limits}
 use Rattle.deferred_ops.specs.Deferred.{least_ready, without}
 use Rattle.text_buffer.specs.Buffer.{BufferState, answer_to, after_apply, state, with_state}
 
@@ -48,7 +48,7 @@ after_next_turn (Some op) b = with_state (turn_step b.limits op (state b)) b
 
 -- the answer to an operation at its turn, the limits asked last
 abbrev pub turn_answer : BufferState → Operation → Answer
-turn_answer b op = limited (answer b.history [] op) (full_fault b.limits b.history op)
+turn_answer b op = ask_limits (answer b.history [] op) (full_fault b.limits b.history op)
 
 abbrev pub with_refusal : Lamport × OpFault → BufferState → BufferState
 with_refusal r b = record b { refused = b.refused ++ r ∷ [] }

@@ -5,10 +5,10 @@ ghost use Rattle.op_model.specs.Histories.{base};
 ghost use Rattle.text_buffer.specs.Buffer.{base_fault};
 ghost use Rattle.text_buffer.specs.declared.faults.NewFault.{NewFault};
 
-use crate::NewFault;
 use crate::document::Document;
 use crate::faults::length_fault;
-use std::alloc::{AllocError, Global};
+use crate::{NewFault, OutOfMemory};
+use std::alloc::Global;
 use std::marker::Model;
 
 /// The most bytes of a base: no limits let in more.
@@ -54,7 +54,7 @@ impl Base {
     }
 
     // The base of a text that is not too long.
-    pub(crate) fn over(alloc: Global, text: &str) -> Result<Base, AllocError>
+    pub(crate) fn over(alloc: Global, text: &str) -> Result<Base, OutOfMemory>
         requires { length text.now ≤ 2 ^ 40 }
         ensures { IfOk result (λ b. b ≡ text.now) }
     {
@@ -79,7 +79,7 @@ impl Base {
     }
 
     // What a buffer over it begins with. Nothing is copied. That the text is UTF-8 is a clause for callers.
-    pub(crate) fn document(&self) -> Result<Document, AllocError>
+    pub(crate) fn document(&self) -> Result<Document, OutOfMemory>
         ensures document { IfOk result (λ d. d ≡ base self.now ∷ []) }
         ensures utf8 { IsUtf8 self.now }
     {

@@ -1,13 +1,13 @@
 //! The buffer of one replica.
-ghost use Rattle.std.specs.Prelude.{◌≡◌, ◌≤◌, ◌^◌, ◌-◌, ◌+◌, ◌⊎◌, ◌++◌, ◌∷◌, [], length, IfOk, IfErr, OnErr, OnOk, None, Some, option_map, string_bytes, true};
+ghost use Rattle.std.specs.Prelude.{◌≡◌, ◌<◌, ◌≤◌, ◌^◌, ◌-◌, ◌+◌, ◌⊎◌, ◌++◌, ◌∷◌, [], length, IfOk, IfErr, OnErr, OnOk, None, Some, option_map, string_bytes, true};
 ghost use Rattle.op_model.specs.Histories.{SameSet, clock, version};
 ghost use Rattle.op_model.specs.Limited.{excess};
 ghost use Rattle.op_model.specs.Domains.{IsProper};
 ghost use Rattle.op_model.specs.Answers.{answer, shape_fault};
 ghost use Rattle.op_model.specs.Answers.Answer.{Good};
 ghost use Rattle.op_model.specs.Settled.{full_fault};
-ghost use Rattle.op_model.specs.Edits.{replaced};
-ghost use Rattle.op_model.specs.Steps.{opened};
+ghost use Rattle.op_model.specs.Edits.{replace_ranges};
+ghost use Rattle.op_model.specs.Steps.{new_state};
 ghost use Rattle.op_model.specs.Steps.Step.{Edits};
 ghost use Rattle.op_model.specs.Shown.{text};
 ghost use Rattle.text_dims.specs.Summaries.{summary_of};
@@ -18,14 +18,14 @@ use crate::base::Base;
 use crate::document::Document;
 use crate::faults::length_fault;
 use crate::pieces::{size, text_total};
-use crate::{NewFault, Refused};
+use crate::{NewFault, OutOfMemory, Refused};
 use deferred_ops::Deferred;
 use lamport_clock::{Lamport, Version};
 use op_model::{EditFault, Limits, OpFault, Operation, Piece};
 use rope_edits::piece_fault;
-use std::alloc::{AllocError, Global};
-use std::marker::Model;
-use std::sync::ledger::Ledger;
+use std::alloc::Global;
+use std::marker::{Brand, Model};
+use std::sync::ledger::{Blank, Ledger};
 use sum_tree::Steps;
 use text_dims::TextSummary;
 
@@ -68,7 +68,7 @@ impl Buffer {
         requires entries { limits.entries ≤ 2 ^ 40 - 1 }
         ensures ok { OnOk result (new_fault limits base.now ≡ None) }
         ensures new { IfOk result (λ b. b ≡ over_base replica base.now limits) }
-        ensures opened { IfOk result (λ b. state b ≡ opened base.now) }
+        ensures opened { IfOk result (λ b. state b ≡ new_state base.now) }
         ensures fault { IfErr result (λ e. (new_fault limits base.now ≡ Some e)
             ⊎ ((new_fault limits base.now ≡ None) × (e ≡ NewFault.OutOfMemory))) }
     {
@@ -84,7 +84,7 @@ impl Buffer {
         replica: u16,
         base: &str,
         limits: Limits,
-    ) -> Result<Buffer, AllocError>
+    ) -> Result<Buffer, OutOfMemory>
         requires least { 1 ≤ replica }
         requires greatest { replica ≤ 1023 }
         requires bytes { limits.bytes ≤ 2 ^ 40 }
@@ -114,7 +114,7 @@ impl Buffer {
         requires entries { limits.entries ≤ 2 ^ 40 - 1 }
         ensures ok { OnOk result (new_fault limits base.now ≡ None) }
         ensures new { IfOk result (λ b. b ≡ over_base replica base.now limits) }
-        ensures opened { IfOk result (λ b. state b ≡ opened base.now) }
+        ensures opened { IfOk result (λ b. state b ≡ new_state base.now) }
         ensures fault { IfErr result (λ e. (new_fault limits base.now ≡ Some e)
             ⊎ ((new_fault limits base.now ≡ None) × (e ≡ NewFault.OutOfMemory))) }
     {
@@ -125,7 +125,12 @@ impl Buffer {
     }
 
     // The buffer over a base that the limits let in.
-    fn begin(alloc: Global, replica: u16, base: &Base, limits: Limits) -> Result<Buffer, AllocError>
+    fn begin(
+        alloc: Global,
+        replica: u16,
+        base: &Base,
+        limits: Limits,
+    ) -> Result<Buffer, OutOfMemory>
         requires least { 1 ≤ replica }
         requires greatest { replica ≤ 1023 }
         requires bytes { limits.bytes ≤ 2 ^ 40 }
@@ -152,7 +157,7 @@ impl Buffer {
     }
 
     /// The text, copied. Linear in its length. What is true of every buffer, `IsBuffer`, is a clause for callers.
-    pub fn text(&self) -> Result<String, AllocError>
+    pub fn text(&self) -> Result<String, OutOfMemory>
         ensures text { IfOk result (λ s. string_bytes s ≡ text self.now.history) }
         ensures buffer { IsBuffer self.now }
     {
@@ -196,7 +201,7 @@ impl Buffer {
         ensures new { OnOk result (self.new ≡ after_edit self.old changes.now) }
         ensures history { IfOk result (λ op. self.new.history ≡ self.old.history ++ op ∷ []) }
         ensures text { OnOk result (text self.new.history
-            ≡ replaced changes.now (text self.old.history)) }
+            ≡ replace_ranges changes.now (text self.old.history)) }
         ensures fault { IfErr result (λ e. (edit_fault self.old changes.now ≡ Some e)
             ⊎ ((edit_fault self.old changes.now ≡ None) × (e ≡ EditFault.OutOfMemory))) }
         ensures err { OnErr result (self.new ≡ self.old) }
@@ -212,17 +217,65 @@ impl Buffer {
         }
     }
 
+    /// What `edit` does, at the same cost, where nobody asks for its steps.
+    ///
+    /// # Errors
+    ///
+    /// Those of `edit`. The buffer is then as before.
+    pub fn edit_uncounted(&mut self, changes: &[Piece]) -> Result<Operation, EditFault>
+        ensures ok { OnOk result (edit_fault self.old changes.now ≡ None) }
+        ensures made { IfOk result (λ op. op ≡ edit_of self.old changes.now) }
+        ensures new { OnOk result (self.new ≡ after_edit self.old changes.now) }
+        ensures history { IfOk result (λ op. self.new.history ≡ self.old.history ++ op ∷ []) }
+        ensures text { OnOk result (text self.new.history
+            ≡ replace_ranges changes.now (text self.old.history)) }
+        ensures fault { IfErr result (λ e. (edit_fault self.old changes.now ≡ Some e)
+            ⊎ ((edit_fault self.old changes.now ≡ None) × (e ≡ EditFault.OutOfMemory))) }
+        ensures err { OnErr result (self.new ≡ self.old) }
+        ensures step { OnOk result (self.new ≡ after_call (Edits changes.now) self.old) }
+        ensures refused { IfErr result (λ e. (self.new ≡ after_call (Edits changes.now) self.old)
+            ⊎ (e ≡ EditFault.OutOfMemory)) }
+    {
+        self.edit_with::<Brand>(changes, Blank::new(1))
+    }
+
+    // The same with a counter that is made of the blank.
+    fn edit_with<L: Ledger>(
+        &mut self,
+        changes: &[Piece],
+        blank: Blank,
+    ) -> Result<Operation, EditFault>
+        requires name { blank.name ≡ L.name }
+        requires parts { blank.parts ≡ L.parts }
+        requires some { 0 < blank.parts }
+        ensures ok { OnOk result (edit_fault self.old changes.now ≡ None) }
+        ensures made { IfOk result (λ op. op ≡ edit_of self.old changes.now) }
+        ensures new { OnOk result (self.new ≡ after_edit self.old changes.now) }
+        ensures history { IfOk result (λ op. self.new.history ≡ self.old.history ++ op ∷ []) }
+        ensures text { OnOk result (text self.new.history
+            ≡ replace_ranges changes.now (text self.old.history)) }
+        ensures fault { IfErr result (λ e. (edit_fault self.old changes.now ≡ Some e)
+            ⊎ ((edit_fault self.old changes.now ≡ None) × (e ≡ EditFault.OutOfMemory))) }
+        ensures err { OnErr result (self.new ≡ self.old) }
+        ensures step { OnOk result (self.new ≡ after_call (Edits changes.now) self.old) }
+        ensures refused { IfErr result (λ e. (self.new ≡ after_call (Edits changes.now) self.old)
+            ⊎ (e ≡ EditFault.OutOfMemory)) }
+    {
+        let mut steps = Steps::<L>::new(blank);
+        self.edit(changes, &mut steps)
+    }
+
     // Makes an edit that meets no fault.
     fn make_edit<L: Ledger>(
         &mut self,
         changes: &[Piece],
         steps: &mut Steps<L>,
-    ) -> Result<Operation, AllocError>
+    ) -> Result<Operation, OutOfMemory>
         requires { edit_fault self.old changes.now ≡ None }
         ensures made { IfOk result (λ op. op ≡ edit_of self.old changes.now) }
         ensures new { OnOk result (self.new ≡ after_edit self.old changes.now) }
         ensures text { OnOk result (text self.new.history
-            ≡ replaced changes.now (text self.old.history)) }
+            ≡ replace_ranges changes.now (text self.old.history)) }
         ensures err { OnErr result (self.new ≡ self.old) }
         ensures cost { IsEditCost self.old.history changes.now (steps.new - steps.old) }
     {
@@ -262,7 +315,7 @@ impl Buffer {
     }
 
     // Applies an operation that is good and passes no limit. On want of memory the operation is dropped.
-    pub(crate) fn apply(&mut self, op: Operation) -> Result<(), AllocError>
+    pub(crate) fn apply(&mut self, op: Operation) -> Result<(), OutOfMemory>
         requires proper { IsProper op }
         requires good { answer self.old.history [] op ≡ Good }
         requires room { full_fault self.old.limits self.old.history op ≡ None }

@@ -1,20 +1,21 @@
 //! What a history comes to, cell by cell.
 ghost use Rattle.std.specs.Prelude.{◌≡◌, ◌^◌, ◌≤◌, ℕ, List, ◌∷◌, [], length, IfOk};
+ghost use Rattle.std.specs.List.{AllByRecursion};
 ghost use Rattle.locators.specs.Locator.{IsLess, EndsAboveZero, between_digits, least_digits, greatest_digits};
 ghost use Rattle.op_model.specs.Histories.{History, base};
-ghost use Rattle.op_model.specs.Sorted.{Each};
 ghost use Rattle.op_model.specs.Walked.{IsWhole};
 ghost use Rattle.fragments.specs.Laws.{whole_base};
 ghost use Rattle.fragments.specs.Stand.{Stand, entry_of, runs};
 ghost use Rattle.remote_edit.specs.Fragments.{fragments_of};
 ghost use Rattle.text_buffer.specs.Document.{IsContent};
 
+use crate::OutOfMemory;
 use fragments::{Fragment, InsertionIndex, Stamps};
 use lamport_clock::{Lamport, Version};
 use locators::Locator;
 use rope_chunks::Rope;
 use rope_edits::TextRopes;
-use std::alloc::{AllocError, Global};
+use std::alloc::Global;
 use sum_tree::SumTree;
 use undo_map::UndoMap;
 
@@ -36,7 +37,7 @@ pub struct Content {
 
 impl Content {
     /// That of a base alone. Linear in its text.
-    pub fn over(alloc: Global, text: &str) -> Result<Content, AllocError>
+    pub fn over(alloc: Global, text: &str) -> Result<Content, OutOfMemory>
         requires { length text.now ≤ 2 ^ 40 }
         ensures { IfOk result (λ c. IsContent c (base text.now ∷ [])) }
     {
@@ -53,7 +54,7 @@ impl Content {
     }
 
     /// A second owner of all of it. Nothing is copied.
-    pub fn share(&self) -> Result<Content, AllocError>
+    pub fn share(&self) -> Result<Content, OutOfMemory>
         ensures { IfOk result (λ c. (h : History) → IsContent self.now h → IsContent c h) }
     {
         let undos = self.undos.share()?;
@@ -68,7 +69,7 @@ impl Content {
         })
     }
 
-    fn share_texts(&self) -> Result<TextRopes, AllocError>
+    fn share_texts(&self) -> Result<TextRopes, OutOfMemory>
         ensures shown { IfOk result (λ t. t.shown ≡ self.now.text) }
         ensures hidden { IfOk result (λ t. t.hidden ≡ self.now.hidden) }
     {
@@ -79,7 +80,7 @@ impl Content {
     }
 
     // The fragments and their index.
-    fn share_fragments(&self) -> Result<(SumTree<Fragment>, InsertionIndex), AllocError>
+    fn share_fragments(&self) -> Result<(SumTree<Fragment>, InsertionIndex), OutOfMemory>
         ensures fragments { IfOk result (λ r. r.0 ≡ self.now.fragments) }
         ensures index { IfOk result (λ r. r.1 ≡ self.now.index) }
     {
@@ -88,7 +89,7 @@ impl Content {
 }
 
 // Both texts of a base.
-fn base_texts(alloc: Global, text: &str) -> Result<TextRopes, AllocError>
+fn base_texts(alloc: Global, text: &str) -> Result<TextRopes, OutOfMemory>
     requires { length text.now ≤ 2 ^ 40 }
     ensures shown { IfOk result (λ t. t.shown ≡ text.now) }
     ensures hidden { IfOk result (λ t. t.hidden ≡ []) }
@@ -103,11 +104,11 @@ fn base_texts(alloc: Global, text: &str) -> Result<TextRopes, AllocError>
 fn base_fragments(
     alloc: Global,
     text: &str,
-) -> Result<(SumTree<Fragment>, InsertionIndex), AllocError>
+) -> Result<(SumTree<Fragment>, InsertionIndex), OutOfMemory>
     requires { length text.now ≤ 2 ^ 40 }
     ensures fragments { IfOk result (λ r. r.0.items ≡ fragments_of (base text.now ∷ [])) }
     ensures stand { IfOk result (λ r. Stand r.0.items r.1 [] (base text.now ∷ [])) }
-    ensures whole { IfOk result (λ r. Each (IsWhole (base text.now ∷ [])) (runs r.0.items)) }
+    ensures whole { IfOk result (λ r. AllByRecursion (IsWhole (base text.now ∷ [])) (runs r.0.items)) }
 {
     if text.is_empty() {
         return Ok((SumTree::new(alloc)?, InsertionIndex::new(alloc)?));
@@ -118,7 +119,7 @@ fn base_fragments(
 }
 
 // The index of one fragment.
-fn index_one(alloc: Global, fragment: &Fragment) -> Result<InsertionIndex, AllocError>
+fn index_one(alloc: Global, fragment: &Fragment) -> Result<InsertionIndex, OutOfMemory>
     ensures { IfOk result (λ w. w ≡ entry_of fragment.now ∷ []) }
 {
     let id = fragment.id.copy(alloc)?;
@@ -128,7 +129,7 @@ fn index_one(alloc: Global, fragment: &Fragment) -> Result<InsertionIndex, Alloc
 }
 
 // The tree of one fragment.
-fn plant_one(alloc: Global, fragment: Fragment) -> Result<SumTree<Fragment>, AllocError>
+fn plant_one(alloc: Global, fragment: Fragment) -> Result<SumTree<Fragment>, OutOfMemory>
     requires { fragment.len ≤ 2 ^ 40 }
     ensures { IfOk result (λ t. t.items ≡ fragment ∷ []) }
 {
@@ -138,7 +139,7 @@ fn plant_one(alloc: Global, fragment: Fragment) -> Result<SumTree<Fragment>, All
 }
 
 // One fragment with all cells of a base.
-fn whole_base(alloc: Global, len: u64) -> Result<Fragment, AllocError>
+fn whole_base(alloc: Global, len: u64) -> Result<Fragment, OutOfMemory>
     ensures fragment { IfOk result (λ f. (t : List ℕ) → length t ≡ len → f ≡ whole_base f.id t) }
     ensures id { IfOk result (λ f. f.id ≡ between_digits least_digits greatest_digits) }
     ensures above { IfOk result (λ f. IsLess least_digits f.id) }

@@ -1,7 +1,7 @@
 //! What a history comes to.
 ghost use Rattle.std.specs.Prelude.{◌≡◌, ◌+◌, ◌-◌, ◌^◌, ◌≤◌, ℕ, List, ◌++◌, ◌∷◌, [], None, length, map, IfOk, OnErr, OnOk, option_map};
 ghost use Rattle.std.specs.Arc.{arc_value};
-ghost use Rattle.lamport_clock.specs.Clocks.{observed};
+ghost use Rattle.lamport_clock.specs.Clocks.{clock_after};
 ghost use Rattle.lamport_clock.specs.Versions.{raise};
 ghost use Rattle.op_model.specs.declared.operation.Operation.TheVariants.{Edit, Undo};
 ghost use Rattle.op_model.specs.declared.operation.Piece.{Piece};
@@ -9,8 +9,8 @@ ghost use Rattle.op_model.specs.Domains.{IsProper};
 ghost use Rattle.op_model.specs.Operations.{bytes_of, entries_of, stamp_of, text_total};
 ghost use Rattle.op_model.specs.Histories.{Distinct, base, bytes_held, clock, operation_at, version};
 ghost use Rattle.op_model.specs.Limited.{excess};
-ghost use Rattle.op_model.specs.Made.{made};
-ghost use Rattle.op_model.specs.Shown.{hidden, text, texts};
+ghost use Rattle.op_model.specs.Made.{local_edit};
+ghost use Rattle.op_model.specs.Shown.{hidden_text, text, texts};
 ghost use Rattle.op_model.specs.Answers.{answer};
 ghost use Rattle.op_model.specs.Answers.Answer.{Good};
 ghost use Rattle.undo_map.specs.Undos.{undo_entries};
@@ -19,6 +19,7 @@ ghost use Rattle.remote_edit.specs.Moves.{TakeTexts};
 ghost use Rattle.text_buffer.specs.Costs.{IsEditCost};
 ghost use Rattle.text_buffer.specs.Document.{IsContent, IsHistory, IsMoved, MayEdit, MayGrow};
 
+use crate::OutOfMemory;
 use crate::content::{BASE, Content};
 use crate::pieces::size;
 use applied_ops::AppliedList;
@@ -31,7 +32,7 @@ use op_model::{
 use remote_edit::{Placed, mark_undo, place_local, place_remote};
 use rope_chunks::Rope;
 use rope_edits::apply_moves;
-use std::alloc::{AllocError, Global};
+use std::alloc::Global;
 use std::marker::Model;
 use std::sync::Arc;
 use std::sync::ledger::Ledger;
@@ -67,7 +68,7 @@ impl Model for Document {
 
 impl Document {
     /// The base alone. Linear in its text.
-    pub fn over(alloc: Global, text: &str) -> Result<Document, AllocError>
+    pub fn over(alloc: Global, text: &str) -> Result<Document, OutOfMemory>
         requires { length text.now ≤ 2 ^ 40 }
         ensures { IfOk result (λ d. d ≡ base text.now ∷ []) }
     {
@@ -86,7 +87,7 @@ impl Document {
     }
 
     /// A second owner of all of it. Nothing is copied.
-    pub fn share(&self) -> Result<Document, AllocError>
+    pub fn share(&self) -> Result<Document, OutOfMemory>
         ensures { IfOk result (λ d. d ≡ self.now) }
     {
         let operations = self.operations.share()?;
@@ -197,7 +198,7 @@ impl Document {
 
     /// Puts an operation last that is good. A few descents for each of its pieces, the fragments in their ranges and those that its
     /// counts concern; what does not change is shared. On want of memory the operation is dropped, and all is as before.
-    pub fn apply(&mut self, op: Operation) -> Result<(), AllocError>
+    pub fn apply(&mut self, op: Operation) -> Result<(), OutOfMemory>
         requires grows { MayGrow self.old op }
         ensures ok { OnOk result (self.new ≡ self.old ++ op ∷ []) }
         ensures err { OnErr result (self.new ≡ self.old) }
@@ -214,10 +215,10 @@ impl Document {
         replica: u16,
         changes: &[Piece],
         steps: &mut Steps<L>,
-    ) -> Result<Operation, AllocError>
+    ) -> Result<Operation, OutOfMemory>
         requires { MayEdit self.old replica changes.now }
-        ensures made { IfOk result (λ op. op ≡ made self.old replica changes.now) }
-        ensures new { OnOk result (self.new ≡ self.old ++ made self.old replica changes.now ∷ []) }
+        ensures made { IfOk result (λ op. op ≡ local_edit self.old replica changes.now) }
+        ensures new { OnOk result (self.new ≡ self.old ++ local_edit self.old replica changes.now ∷ []) }
         ensures err { OnErr result (self.new ≡ self.old) }
         ensures cost { IsEditCost self.old changes.now (steps.new - steps.old) }
     {
@@ -233,9 +234,9 @@ impl Document {
         replica: u16,
         changes: &[Piece],
         steps: &mut Steps<L>,
-    ) -> Result<(Operation, (u128, u64), Content), AllocError>
+    ) -> Result<(Operation, (u128, u64), Content), OutOfMemory>
         requires { MayEdit self.now replica changes.now }
-        ensures made { IfOk result (λ r. r.0 ≡ made self.now replica changes.now) }
+        ensures made { IfOk result (λ r. r.0 ≡ local_edit self.now replica changes.now) }
         ensures grows { IfOk result (λ r. MayGrow self.now r.0) }
         ensures bytes { IfOk result (λ r. r.1.0 ≡ bytes_of r.0) }
         ensures entries { IfOk result (λ r. r.1.1 ≡ entries_of r.0) }
@@ -265,7 +266,7 @@ impl Document {
     }
 
     // What the history comes to with an operation that is good.
-    fn content_with(&self, op: &Operation) -> Result<Content, AllocError>
+    fn content_with(&self, op: &Operation) -> Result<Content, OutOfMemory>
         requires { MayGrow self.now op.now }
         ensures { IfOk result (λ c. IsContent c (self.now ++ op.now ∷ [])) }
     {
@@ -276,7 +277,7 @@ impl Document {
     }
 
     // What the history comes to with an edit that is good.
-    fn with_edit(&self, edit: &EditOp) -> Result<Content, AllocError>
+    fn with_edit(&self, edit: &EditOp) -> Result<Content, OutOfMemory>
         requires { MayGrow self.now (Edit edit.now) }
         ensures { IfOk result (λ c. IsContent c (self.now ++ Edit edit.now ∷ [])) }
     {
@@ -291,7 +292,7 @@ impl Document {
     }
 
     // What the history comes to with an undo that is good.
-    fn with_undo(&self, undo: &UndoOp) -> Result<Content, AllocError>
+    fn with_undo(&self, undo: &UndoOp) -> Result<Content, OutOfMemory>
         requires { MayGrow self.now (Undo undo.now) }
         ensures { IfOk result (λ c. IsContent c (self.now ++ Undo undo.now ∷ [])) }
     {
@@ -314,8 +315,8 @@ impl Document {
         placed: Placed,
         undos: UndoMap,
         pieces: &[Piece],
-    ) -> Result<Content, AllocError>
-        requires texts { TakeTexts placed.moves (text self.now) (hidden self.now)
+    ) -> Result<Content, OutOfMemory>
+        requires texts { TakeTexts placed.moves (text self.now) (hidden_text self.now)
             (texts pieces.now) }
         requires room { bytes_held self.now + text_total pieces.now ≤ 2 ^ 40 }
         ensures { IfOk result (λ c. IsMoved c placed undos self.now (texts pieces.now)) }
@@ -337,7 +338,7 @@ impl Document {
     }
 
     // Puts an operation last that is good, which adds so many bytes and entries, with what the history comes to then.
-    fn put(&mut self, op: Operation, adds: (u128, u64), content: Content) -> Result<(), AllocError>
+    fn put(&mut self, op: Operation, adds: (u128, u64), content: Content) -> Result<(), OutOfMemory>
         requires grows { MayGrow self.old op }
         requires bytes { adds.0 ≡ bytes_of op }
         requires entries { adds.1 ≡ entries_of op }
@@ -358,7 +359,7 @@ impl Document {
 }
 
 /// An equal operation with a copy of it, which shares its pieces or counts. Linear in the version. On want of memory it is dropped.
-pub(crate) fn with_copy(alloc: Global, op: Operation) -> Result<(Operation, Operation), AllocError>
+pub(crate) fn with_copy(alloc: Global, op: Operation) -> Result<(Operation, Operation), OutOfMemory>
     ensures made { IfOk result (λ r. r.0 ≡ op) }
     ensures copy { IfOk result (λ r. r.1 ≡ op) }
 {
@@ -373,7 +374,7 @@ fn append(
     operations: &mut AppliedList,
     version: &Arc<Version>,
     op: Operation,
-) -> Result<Arc<Version>, AllocError>
+) -> Result<Arc<Version>, OutOfMemory>
     requires { operation_at operations.old (stamp_of op) ≡ None }
     ensures version { IfOk result (λ v. arc_value v ≡ raise (arc_value version.now) (stamp_of op)) }
     ensures ok { OnOk result (operations.new ≡ operations.old ++ op ∷ []) }
@@ -389,7 +390,7 @@ fn version_with(
     alloc: Global,
     version: &Arc<Version>,
     stamp: Lamport,
-) -> Result<Arc<Version>, AllocError>
+) -> Result<Arc<Version>, OutOfMemory>
     ensures { IfOk result (λ v. arc_value v ≡ raise (arc_value version.now) stamp) }
 {
     let mut version = version.copy(alloc)?;
@@ -398,7 +399,7 @@ fn version_with(
 }
 
 // The edits that counts are of.
-fn edits_of(alloc: Global, counts: &[UndoCount]) -> Result<Vec<Lamport>, AllocError>
+fn edits_of(alloc: Global, counts: &[UndoCount]) -> Result<Vec<Lamport>, OutOfMemory>
     ensures { IfOk result (λ ts. ts.items ≡ map (λ c. c.edit) counts.now) }
 {
     let mut edits = Vec::with_capacity(alloc, counts.len())?;
@@ -410,13 +411,13 @@ fn edits_of(alloc: Global, counts: &[UndoCount]) -> Result<Vec<Lamport>, AllocEr
 
 // The value of a clock that has seen a stamp.
 fn after(clock: u32, stamp: Lamport) -> u32
-    ensures { result ≡ observed clock stamp.value }
+    ensures { result ≡ clock_after clock stamp.value }
 {
     clock.max(stamp.value).saturating_add(1)
 }
 
 // The version of a base alone.
-fn base_version(alloc: Global) -> Result<Arc<Version>, AllocError>
+fn base_version(alloc: Global) -> Result<Arc<Version>, OutOfMemory>
     ensures { IfOk result (λ v. (t : List ℕ) → arc_value v ≡ version (base t ∷ [])) }
 {
     let mut version = Version::new(alloc);
@@ -425,7 +426,7 @@ fn base_version(alloc: Global) -> Result<Arc<Version>, AllocError>
 }
 
 // The base in a list of its own.
-fn base_list(alloc: Global, text: &str) -> Result<AppliedList, AllocError>
+fn base_list(alloc: Global, text: &str) -> Result<AppliedList, OutOfMemory>
     ensures { IfOk result (λ l. l ≡ base text.now ∷ []) }
 {
     let operation = base_operation(alloc, text)?;
@@ -435,7 +436,7 @@ fn base_list(alloc: Global, text: &str) -> Result<AppliedList, AllocError>
 }
 
 // The base as an operation.
-fn base_operation(alloc: Global, text: &str) -> Result<Operation, AllocError>
+fn base_operation(alloc: Global, text: &str) -> Result<Operation, OutOfMemory>
     ensures { IfOk result (λ op. op ≡ base text.now) }
 {
     let mut pieces = Vec::new(alloc);

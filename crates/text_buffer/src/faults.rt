@@ -3,8 +3,9 @@ ghost use Rattle.std.specs.Prelude.{◌≡◌, ◌≤◌, None};
 ghost use Rattle.text_buffer.specs.Buffer.{length_fault};
 ghost use Rattle.text_buffer.specs.declared.faults.NewFault.{NewFault};
 
+use crate::OutOfMemory;
 use op_model::Unit;
-use std::alloc::{AllocError, AllocFailed};
+use std::alloc::AllocFailed;
 use thiserror::Error;
 
 /// Why a buffer is not made over a base.
@@ -17,10 +18,10 @@ pub enum NewFault {
     OutOfMemory,
 }
 
-impl From<AllocError> for NewFault {
+impl From<OutOfMemory> for NewFault {
     ghost from_gives = { λ _ e. e ≡ NewFault.OutOfMemory };
 
-    fn from(_: AllocError) -> Self {
+    fn from(_: OutOfMemory) -> Self {
         NewFault::OutOfMemory
     }
 }

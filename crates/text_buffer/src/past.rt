@@ -4,12 +4,11 @@ ghost use Rattle.op_model.specs.Answers.{open_replica};
 ghost use Rattle.op_model.specs.Lawful.{IsClosed, unseen_replica};
 ghost use Rattle.op_model.specs.Since.{since, since_fault, text_at};
 
-use crate::{Edits, SinceFault, Snapshot};
+use crate::{Edits, OutOfMemory, SinceFault, Snapshot};
 use edits_since::moves_back;
 use lamport_clock::Version;
 use op_answers::open_replica;
 use rope_edits::apply_moves;
-use std::alloc::AllocError;
 
 impl Snapshot {
     // Why there is no answer at a version.
@@ -73,7 +72,7 @@ impl Snapshot {
     }
 
     // The text that a version saw which is closed.
-    fn text_back(&self, version: &Version) -> Result<String, AllocError>
+    fn text_back(&self, version: &Version) -> Result<String, OutOfMemory>
         requires { IsClosed self.now version.now }
         ensures { IfOk result (λ s. string_bytes s ≡ text_at self.now version.now) }
     {

@@ -1,7 +1,7 @@
 //! Anchors of a snapshot.
 ghost use Rattle.std.specs.Prelude.{◌≡◌, Some, IfOk, IfErr, if◌then◌else◌};
 ghost use Rattle.std.specs.Result.{result_err, result_ok};
-ghost use Rattle.op_model.specs.Anchors.{compared, is_known, place_fault, resolved};
+ghost use Rattle.op_model.specs.Anchors.{known_order, is_known, place_fault, known_place};
 ghost use Rattle.anchors.specs.Making.{made_anchor};
 
 use crate::{Anchor, Bias, PlaceFault, Snapshot, UnknownAnchor};
@@ -19,7 +19,7 @@ impl Snapshot {
     pub fn anchor(&self, o: u64, b: Bias) -> Result<Anchor, PlaceFault>
         ensures fault { result_err result ≡ place_fault self.now o }
         ensures anchor { IfOk result (λ a. made_anchor self.now o b ≡ Some a) }
-        ensures place { IfOk result (λ a. resolved self.now a ≡ Some o) }
+        ensures place { IfOk result (λ a. known_place self.now a ≡ Some o) }
     {
         self.known();
         let content = self.document.content();
@@ -39,7 +39,7 @@ impl Snapshot {
     ///
     /// `UnknownAnchor` exactly where the anchor's edit is not applied, or has no such byte, or no character begins or ends there.
     pub fn resolve(&self, a: &Anchor) -> Result<u64, UnknownAnchor>
-        ensures place { result_ok result ≡ resolved self.now a.now }
+        ensures place { result_ok result ≡ known_place self.now a.now }
         ensures unknown { IfErr result (λ e. e.anchor ≡ a.now) }
     {
         self.known();
@@ -60,7 +60,7 @@ impl Snapshot {
     ///
     /// `UnknownAnchor` exactly where one of the two is not known, with the first that is not.
     pub fn compare(&self, a: &Anchor, b: &Anchor) -> Result<Ordering, UnknownAnchor>
-        ensures order { result_ok result ≡ compared self.now a.now b.now }
+        ensures order { result_ok result ≡ known_order self.now a.now b.now }
         ensures unknown { IfErr result (λ e. e.anchor
             ≡ (if is_known self.now a.now then b.now else a.now)) }
     {

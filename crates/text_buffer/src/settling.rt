@@ -8,12 +8,11 @@ ghost use Rattle.text_buffer.specs.Outcomes.{pair_of};
 ghost use Rattle.text_buffer.specs.Buffer.{AllMiss, IsBuffer, IsPartly, after_call, number_applied, after_settle};
 ghost use Rattle.text_buffer.specs.Settling.{IsHalted, IsStopped, after_answer, after_pass, next_ready, turn_answer, after_next_turn, with_refusal, without_waiting};
 
-use crate::{Buffer, Refused};
+use crate::{Buffer, OutOfMemory, Refused};
 use deferred_ops::Deferred;
 use lamport_clock::Lamport;
 use op_answers::Verdict;
 use op_model::Operation;
-use std::alloc::AllocError;
 
 impl Buffer {
     /// Goes through what waits, the least stamp first, in passes, until one applies nothing. At its turn an operation that
@@ -23,7 +22,7 @@ impl Buffer {
     /// # Errors
     ///
     /// Want of memory alone. What is then applied stays applied, and a later call goes on.
-    pub fn settle(&mut self) -> Result<u64, AllocError>
+    pub fn settle(&mut self) -> Result<u64, OutOfMemory>
         ensures new { OnOk result (self.new ≡ after_settle self.old) }
         ensures applied { IfOk result (λ n. n ≡ number_applied self.old self.new) }
         ensures waiting { OnOk result (AllMiss self.new) }
@@ -42,7 +41,7 @@ impl Buffer {
     }
 
     // One pass over what waits.
-    fn pass(&mut self) -> Result<(), AllocError>
+    fn pass(&mut self) -> Result<(), OutOfMemory>
         ensures ok { OnOk result (self.new ≡ after_pass self.old) }
         ensures want { OnErr result (IsStopped self.old self.new) }
     {
@@ -54,7 +53,7 @@ impl Buffer {
     }
 
     // The turn of the least operation past a stamp that misses no cause. Gives its stamp, or None where there is none.
-    fn next_turn(&mut self, after: Option<Lamport>) -> Result<Option<Lamport>, AllocError>
+    fn next_turn(&mut self, after: Option<Lamport>) -> Result<Option<Lamport>, OutOfMemory>
         ensures ready { IfOk result (λ t. t ≡ option_map stamp_of (next_ready after self.old)) }
         ensures turn { OnOk result (self.new
             ≡ after_next_turn (next_ready after self.old) self.old) }
@@ -80,7 +79,7 @@ impl Buffer {
 
     // A copy of the least operation past a stamp that misses no cause, if there is one. What waits is
     // shared, so no text is copied.
-    fn next_ready(&self, after: Option<Lamport>) -> Result<Option<Operation>, AllocError>
+    fn next_ready(&self, after: Option<Lamport>) -> Result<Option<Operation>, OutOfMemory>
         ensures ready { IfOk result (λ op. op ≡ next_ready after self.now) }
         ensures buffer { IsBuffer self.now }
     {
@@ -91,38 +90,38 @@ impl Buffer {
     }
 
     // Applies an operation or puts it on the refused list, by the answer at its turn.
-    fn meet(&mut self, op: Operation) -> Result<(), AllocError>
+    fn meet(&mut self, op: Operation) -> Result<(), OutOfMemory>
         ensures ok { OnOk result (self.new ≡ after_answer (turn_answer self.old op) op self.old) }
         ensures err { OnErr result (self.new ≡ self.old) }
     {
         match self.turn(&op)? {
-            Verdict::Accept => self.apply(op),
-            Verdict::Refuse(fault) => {
+            Verdict::Good => self.apply(op),
+            Verdict::Refused(fault) => {
                 let stamp = op.stamp();
                 self.refuse(Refused { stamp, fault })
             }
-            Verdict::Repeated | Verdict::Missing { .. } => Ok(()),
+            Verdict::Repeat | Verdict::Waits { .. } => Ok(()),
         }
     }
 
     // The answer to an operation at its turn: with nothing waiting, the limits asked last. That its texts are UTF-8 is a clause
     // for callers.
-    fn turn(&self, op: &Operation) -> Result<Verdict, AllocError>
+    fn turn(&self, op: &Operation) -> Result<Verdict, OutOfMemory>
         ensures answer { IfOk result (λ v. answer_of v ≡ turn_answer self.now op.now) }
-        ensures proper { IfOk result (λ v. v ≡ Verdict.Accept → IsProper op.now) }
+        ensures proper { IfOk result (λ v. v ≡ Verdict.Good → IsProper op.now) }
     {
         let nothing = Deferred::new(self.alloc)?;
         match self.document.judge(&nothing, op) {
-            Verdict::Accept => match self.full(op) {
-                Some(fault) => Ok(Verdict::Refuse(fault)),
-                None => Ok(Verdict::Accept),
+            Verdict::Good => match self.full(op) {
+                Some(fault) => Ok(Verdict::Refused(fault)),
+                None => Ok(Verdict::Good),
             },
             verdict => Ok(verdict),
         }
     }
 
     // One more operation was refused while settling.
-    fn refuse(&mut self, refused: Refused) -> Result<(), AllocError>
+    fn refuse(&mut self, refused: Refused) -> Result<(), OutOfMemory>
         ensures ok { OnOk result (self.new ≡ with_refusal (pair_of refused) self.old) }
         ensures err { OnErr result (self.new ≡ self.old) }
     {

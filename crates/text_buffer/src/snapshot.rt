@@ -6,12 +6,11 @@ ghost use Rattle.op_model.specs.Shown.{text};
 ghost use Rattle.text_buffer.specs.Buffer.{BufferState, IsPartly, after_calls};
 ghost use Rattle.text_buffer.specs.Document.{IsFront, IsHistory};
 
-use crate::Buffer;
 use crate::document::Document;
+use crate::{Buffer, OutOfMemory};
 use applied_ops::Applied;
 use lamport_clock::Version;
 use rope_chunks::Rope;
-use std::alloc::AllocError;
 use std::marker::Model;
 use sum_tree::SumTree;
 
@@ -35,7 +34,7 @@ impl Model for Snapshot {
 impl Buffer {
     /// What the buffer is now. Everything is shared and nothing is copied, so the time does not grow with the text or with what is
     /// applied.
-    pub fn snapshot(&self) -> Result<Snapshot, AllocError>
+    pub fn snapshot(&self) -> Result<Snapshot, OutOfMemory>
         ensures { IfOk result (λ s. s ≡ self.now.history) }
     {
         let document = self.document.share()?;
@@ -45,7 +44,7 @@ impl Buffer {
 
 impl Snapshot {
     /// A second owner of all of it. Nothing is copied.
-    pub fn share(&self) -> Result<Snapshot, AllocError>
+    pub fn share(&self) -> Result<Snapshot, OutOfMemory>
         ensures { IfOk result (λ s. s ≡ self.now) }
     {
         Ok(Snapshot {

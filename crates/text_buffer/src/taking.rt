@@ -11,17 +11,17 @@ ghost use Rattle.text_buffer.specs.Outcomes.{pair_of};
 ghost use Rattle.text_buffer.specs.Settling.{IsTakenPartly};
 ghost use Rattle.text_buffer.specs.Buffer.{AllMiss, IsPartly, after_call, answer_to, is_kept, number_applied, after_take, took_of};
 
-use crate::{Buffer, Refused, Took};
+use crate::{Buffer, OutOfMemory, Refused, Took};
 use applied_ops::Applied;
 use deferred_ops::Deferred;
 use op_answers::Verdict;
 use op_model::{OpFault, Operation};
-use std::alloc::{AllocError, Global};
+use std::alloc::Global;
 use sum_tree::SumTree;
 
 // Lets an operation wait; none with its stamp waits yet. It is shared, so its turn copies no text.
 // On want of memory it is dropped.
-fn defer(waiting: &mut Deferred, alloc: Global, op: Operation) -> Result<(), AllocError>
+fn defer(waiting: &mut Deferred, alloc: Global, op: Operation) -> Result<(), OutOfMemory>
     requires { operation_at waiting.old (stamp_of op) ≡ None }
     ensures ok { OnOk result (waiting.new ≡ insert_by older op waiting.old) }
     ensures err { OnErr result (waiting.new ≡ waiting.old) }
@@ -58,13 +58,13 @@ impl Buffer {
             ⊎ (e ≡ OpFault.OutOfMemory)) }
     {
         match self.document.judge(&self.waiting, &op) {
-            Verdict::Accept => self.accept(op),
-            Verdict::Repeated => Ok(Took::Repeat),
-            Verdict::Missing { replica, value } => {
+            Verdict::Good => self.accept(op),
+            Verdict::Repeat => Ok(Took::Repeat),
+            Verdict::Waits { replica, value } => {
                 defer(&mut self.waiting, self.alloc, op)?;
                 Ok(Took::Waits { replica, value })
             }
-            Verdict::Refuse(fault) => Err(fault),
+            Verdict::Refused(fault) => Err(fault),
         }
     }
 

@@ -3,12 +3,11 @@ ghost use Rattle.std.specs.Prelude.{◌≡◌, ◌⊎◌, ◌++◌, ◌∷◌, [
 ghost use Rattle.op_model.specs.Steps.Step.{Undoes};
 ghost use Rattle.text_buffer.specs.Buffer.{after_call, undo_of, undo_fault, after_undo};
 
-use crate::Buffer;
 use crate::document::with_copy;
+use crate::{Buffer, OutOfMemory};
 use lamport_clock::Lamport;
 use op_answers::undo_fault;
 use op_model::{EditFault, Operation, UndoFault, UndoOp};
-use std::alloc::AllocError;
 use undo_map::next_counts;
 
 impl Buffer {
@@ -42,7 +41,7 @@ impl Buffer {
     }
 
     // Makes an undo that meets no fault.
-    fn make_undo(&mut self, edits: &[Lamport]) -> Result<Operation, AllocError>
+    fn make_undo(&mut self, edits: &[Lamport]) -> Result<Operation, OutOfMemory>
         requires { undo_fault self.old edits.now ≡ None }
         ensures made { IfOk result (λ op. op ≡ undo_of self.old edits.now) }
         ensures new { OnOk result (self.new ≡ after_undo self.old edits.now) }
@@ -80,7 +79,7 @@ impl Buffer {
     }
 
     // The operation of an undo that meets no fault.
-    fn undo_operation(&self, edits: &[Lamport]) -> Result<Operation, AllocError>
+    fn undo_operation(&self, edits: &[Lamport]) -> Result<Operation, OutOfMemory>
         requires { undo_fault self.now edits.now ≡ None }
         ensures { IfOk result (λ op. op ≡ undo_of self.now edits.now) }
     {

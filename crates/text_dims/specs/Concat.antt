@@ -1,7 +1,7 @@
 -- The summary of two texts, one after the other, is the sum of their summaries.
 use Rattle.std.specs.Prelude.{map}
 use Rattle.std.proofs.Common.{◌≡◌, ℕ, ◌+◌, Bool, true, false, cond, eqb, List, [], ◌∷◌, ◌++◌, length, refl, ap, sym, ◌∙◌, arith, length-append}
-use Rattle.std.proofs.lemmas.List.{length-map}
+use Rattle.std.proofs.lemmas.List.{length-map, map-append}
 use Rattle.std.proofs.lemmas.Bool.{eq-eqb, ne_eqb, eqb-true}
 use Rattle.std.proofs.lemmas.List.Sums.{sum_by-append}
 use Rattle.text_dims.specs.declared.points.Point.{Point}
@@ -23,10 +23,6 @@ utf16_count-append xs ys = sum_by-append byte_units xs ys
 pub newline_count-append : (xs ys : List ℕ) → newline_count (xs ++ ys) ≡ newline_count xs + newline_count ys
 unfolding newline_count
 newline_count-append xs ys = sum_by-append (λ b. cond (is_newline b) 1 0) xs ys
-
-map-append : {X Y : Type 0} (f : X → Y) (xs ys : List X) → map f (xs ++ ys) ≡ map f xs ++ map f ys
-map-append f [] ys = refl
-map-append f (x ∷ xs) ys = ap (λ t. f x ∷ t) (map-append f xs ys)
 
 -- a count of bytes: of two texts it is the sum
 pub record Adds (q : List ℕ → ℕ) : Type 0 where

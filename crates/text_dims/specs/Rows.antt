@@ -26,7 +26,7 @@ onto_begun : (x : ℕ) (rs : List (List ℕ)) → Begun (onto_first x rs)
 onto_begun x [] = cons_begun (x ∷ []) []
 onto_begun x (r ∷ rs) = cons_begun (x ∷ r) rs
 
-split_begun : (bs : List ℕ) → Begun (slice_split is_newline bs)
+pub split_begun : (bs : List ℕ) → Begun (slice_split is_newline bs)
 split_begun [] = cons_begun [] []
 split_begun (b ∷ bs) =
     elim (is_newline b) as (λ t. Begun (cond t ([] ∷ slice_split is_newline bs) (onto_first b (slice_split is_newline bs)))) [

@@ -19,5 +19,6 @@ pub use bytes::{is_char_start, units_at};
 pub use lanes::{LANES, LaneMasks, Run, run_at};
 pub use places::Place;
 pub use points::{OffsetUtf16, Point, PointUtf16};
+pub use sum_tree::OutOfMemory;
 pub use summary::TextSummary;
 pub use threads::crosses_threads;

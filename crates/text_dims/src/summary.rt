@@ -6,10 +6,11 @@ ghost use Rattle.text_dims.specs.Summaries.{summary_of, text_sum, no_text, longe
 ghost use Rattle.text_dims.specs.Bytes.{newline_summary, run_summary};
 ghost use Rattle.text_dims.specs.Monoid.{text_laws};
 
+use crate::OutOfMemory;
 use crate::bytes::{is_char_start, units_at};
 use crate::lanes::{LANES, run_at};
 use crate::points::Point;
-use std::alloc::{AllocError, Global};
+use std::alloc::Global;
 use sum_tree::Summary;
 
 /// The counts of a text, all of them plain: nothing of the text itself is kept.
@@ -172,7 +173,7 @@ impl Summary for TextSummary {
         TextSummary::empty()
     }
 
-    fn add(&mut self, _alloc: Global, other: &TextSummary) -> Result<(), AllocError> {
+    fn add(&mut self, _alloc: Global, other: &TextSummary) -> Result<(), OutOfMemory> {
         *self = TextSummary::sum(self, other);
         Ok(())
     }

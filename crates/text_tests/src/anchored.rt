@@ -1,13 +1,13 @@
 //! Anchors, each asked of a snapshot that is taken while the buffer goes on.
-use crate::plain::edit_plainly;
 use Anchor::{Greatest, Least};
 use Bias::{Left, Right};
 use Ordering::{Equal, Greater, Less};
 use Step::{Compare, Edit, Make, Resolve, Undo};
 use buffer_tests::operations::{Change, pieces};
 use lamport_clock::Lamport;
-use std::alloc::{AllocError, Global};
+use std::alloc::Global;
 use std::cmp::Ordering;
+use sum_tree::OutOfMemory;
 use text_buffer::PlaceFault::{InsideChar, PastEnd};
 use text_buffer::{
     Anchor, Bias, Buffer, Limits, NewFault, PlaceFault, Snapshot, UnknownAnchor, anchors_stay,
@@ -193,9 +193,9 @@ const WIDE_CHARACTERS: Case = (
 const CASES: &[Case] = &[BOTH_SIDES, OVER_A_DELETION, EMPTY, WIDE_CHARACTERS];
 
 // Whether an edit is made.
-fn edits(alloc: Global, buffer: &mut Buffer, changes: &[Change]) -> Result<bool, AllocError> {
+fn edits(alloc: Global, buffer: &mut Buffer, changes: &[Change]) -> Result<bool, OutOfMemory> {
     let pieces = pieces(alloc, changes)?;
-    Ok(edit_plainly(buffer, pieces.as_slice()).is_ok())
+    Ok(buffer.edit_uncounted(pieces.as_slice()).is_ok())
 }
 
 // Whether an undo is made.
@@ -233,7 +233,7 @@ fn answers(snapshot: &Snapshot, step: Step) -> bool {
 }
 
 // Whether a call comes out as it should.
-fn comes(alloc: Global, buffer: &mut Buffer, step: Step) -> Result<bool, AllocError> {
+fn comes(alloc: Global, buffer: &mut Buffer, step: Step) -> Result<bool, OutOfMemory> {
     match step {
         Edit(changes) => edits(alloc, buffer, changes),
         Undo(undone) => Ok(undoes(buffer, undone)),
@@ -241,7 +241,7 @@ fn comes(alloc: Global, buffer: &mut Buffer, step: Step) -> Result<bool, AllocEr
     }
 }
 
-fn all_come(alloc: Global, buffer: &mut Buffer, steps: &[Step]) -> Result<bool, AllocError> {
+fn all_come(alloc: Global, buffer: &mut Buffer, steps: &[Step]) -> Result<bool, OutOfMemory> {
     let mut right = true;
     for &step in steps {
         right = comes(alloc, buffer, step)? && right;
@@ -249,19 +249,19 @@ fn all_come(alloc: Global, buffer: &mut Buffer, steps: &[Step]) -> Result<bool, 
     Ok(right)
 }
 
-fn play(alloc: Global, opened: Result<Buffer, NewFault>, case: &Case) -> Result<bool, AllocError> {
+fn play(alloc: Global, opened: Result<Buffer, NewFault>, case: &Case) -> Result<bool, OutOfMemory> {
     match opened {
         Ok(mut buffer) => all_come(alloc, &mut buffer, case.1),
         Err(_) => Ok(false),
     }
 }
 
-fn plays(alloc: Global, case: &Case) -> Result<bool, AllocError> {
+fn plays(alloc: Global, case: &Case) -> Result<bool, OutOfMemory> {
     play(alloc, Buffer::new(alloc, 9, case.0, AMPLE), case)
 }
 
 #[test]
-fn anchors_keep_to_their_bytes(rt: HostRuntime) -> Result<(), AllocError> {
+fn anchors_keep_to_their_bytes(rt: HostRuntime) -> Result<(), OutOfMemory> {
     for case in CASES {
         assert!(rt; plays(rt.alloc(), case)?, "over {}", case.0);
     }

@@ -1,5 +1,4 @@
 //! Calls of buffers, with ample memory.
-use crate::plain::edit_plainly;
 use Call::{Edit, Settle, Take, Undo};
 use Came::{Made, NoEdit, NoUndo, NotTaken, Settles, Taken};
 use Parts::{Counts, Letters, Pieces};
@@ -7,7 +6,8 @@ use Took::{Applied, Repeat, Waits};
 use buffer_tests::operations::{Change, Entries, Parts, operation, pieces};
 use lamport_clock::Lamport;
 use op_model::Operation;
-use std::alloc::{AllocError, Global};
+use std::alloc::Global;
+use sum_tree::OutOfMemory;
 use text_buffer::EditFault::InsideChar;
 use text_buffer::UndoFault::{ClockEnd, NoSuchEdit, Twice};
 use text_buffer::{
@@ -523,8 +523,8 @@ fn few(alloc: Global, base: &str) -> Result<Buffer, NewFault> {
     Buffer::new(alloc, 9, base, FEW)
 }
 
-fn edit(alloc: Global, buffer: &mut Buffer, changes: &[Change]) -> Result<Came, AllocError> {
-    match edit_plainly(buffer, pieces(alloc, changes)?.as_slice()) {
+fn edit(alloc: Global, buffer: &mut Buffer, changes: &[Change]) -> Result<Came, OutOfMemory> {
+    match buffer.edit_uncounted(pieces(alloc, changes)?.as_slice()) {
         Ok(operation) => Ok(Made(operation.stamp().value)),
         Err(fault) => Ok(NoEdit(fault)),
     }
@@ -544,11 +544,11 @@ fn take(buffer: &mut Buffer, operation: Operation) -> Came {
     }
 }
 
-fn settle(buffer: &mut Buffer) -> Result<Came, AllocError> {
+fn settle(buffer: &mut Buffer) -> Result<Came, OutOfMemory> {
     Ok(Settles(buffer.settle()?))
 }
 
-fn answer(alloc: Global, buffer: &mut Buffer, call: Call) -> Result<Came, AllocError> {
+fn answer(alloc: Global, buffer: &mut Buffer, call: Call) -> Result<Came, OutOfMemory> {
     match call {
         Edit(changes) => edit(alloc, buffer, changes),
         Undo(edits) => Ok(undo(buffer, edits)),
@@ -558,7 +558,7 @@ fn answer(alloc: Global, buffer: &mut Buffer, call: Call) -> Result<Came, AllocE
 }
 
 // Whether a call answers what it should, and the text after it is that of the row.
-fn comes(alloc: Global, buffer: &mut Buffer, row: &Row) -> Result<bool, AllocError> {
+fn comes(alloc: Global, buffer: &mut Buffer, row: &Row) -> Result<bool, OutOfMemory> {
     let came = answer(alloc, buffer, row.0)?;
     Ok(buffer.text()?.as_str() == row.2 && came == row.1)
 }
@@ -569,7 +569,7 @@ fn keeps(buffer: &Buffer, waits: u64, refused: &[Refused]) -> bool {
 }
 
 // Whether a case comes out as it should, in a buffer of its base.
-fn all_come(alloc: Global, buffer: &mut Buffer, case: &Case) -> Result<bool, AllocError> {
+fn all_come(alloc: Global, buffer: &mut Buffer, case: &Case) -> Result<bool, OutOfMemory> {
     let mut right = true;
     for row in case.1 {
         right = comes(alloc, buffer, row)? && right;
@@ -577,29 +577,29 @@ fn all_come(alloc: Global, buffer: &mut Buffer, case: &Case) -> Result<bool, All
     Ok(right && keeps(buffer, case.2, case.3))
 }
 
-fn play(alloc: Global, opened: Result<Buffer, NewFault>, case: &Case) -> Result<bool, AllocError> {
+fn play(alloc: Global, opened: Result<Buffer, NewFault>, case: &Case) -> Result<bool, OutOfMemory> {
     match opened {
         Ok(mut buffer) => all_come(alloc, &mut buffer, case),
         Err(_) => Ok(false),
     }
 }
 
-fn plays(alloc: Global, case: &Case) -> Result<bool, AllocError> {
+fn plays(alloc: Global, case: &Case) -> Result<bool, OutOfMemory> {
     play(alloc, ample(alloc, case.0), case)
 }
 
-fn plays_in_few(alloc: Global, case: &Case) -> Result<bool, AllocError> {
+fn plays_in_few(alloc: Global, case: &Case) -> Result<bool, OutOfMemory> {
     play(alloc, few(alloc, case.0), case)
 }
 
 // Whether a case comes out as it should in one buffer over a base, and then in a second one over the same.
-fn plays_twice(alloc: Global, base: &Base, case: &Case) -> Result<bool, AllocError> {
+fn plays_twice(alloc: Global, base: &Base, case: &Case) -> Result<bool, OutOfMemory> {
     let first = play(alloc, Buffer::over(alloc, 9, base, AMPLE), case)?;
     let second = play(alloc, Buffer::over(alloc, 9, base, AMPLE), case)?;
     Ok(first && second)
 }
 
-fn plays_over_one(alloc: Global, case: &Case) -> Result<bool, AllocError> {
+fn plays_over_one(alloc: Global, case: &Case) -> Result<bool, OutOfMemory> {
     match Base::new(alloc, case.0) {
         Ok(base) => plays_twice(alloc, &base, case),
         Err(_) => Ok(false),
@@ -630,7 +630,7 @@ const CASES_OF_FEW: &[Case] = &[
 ];
 
 #[test]
-fn calls_and_their_answers(rt: HostRuntime) -> Result<(), AllocError> {
+fn calls_and_their_answers(rt: HostRuntime) -> Result<(), OutOfMemory> {
     for case in CASES {
         assert!(rt; plays(rt.alloc(), case)?, "over {}", case.0);
     }
@@ -638,7 +638,7 @@ fn calls_and_their_answers(rt: HostRuntime) -> Result<(), AllocError> {
 }
 
 #[test]
-fn calls_over_one_base(rt: HostRuntime) -> Result<(), AllocError> {
+fn calls_over_one_base(rt: HostRuntime) -> Result<(), OutOfMemory> {
     for case in CASES {
         assert!(rt; plays_over_one(rt.alloc(), case)?, "over {}", case.0);
     }
@@ -646,19 +646,19 @@ fn calls_over_one_base(rt: HostRuntime) -> Result<(), AllocError> {
 }
 
 #[test]
-fn calls_at_the_limits(rt: HostRuntime) -> Result<(), AllocError> {
+fn calls_at_the_limits(rt: HostRuntime) -> Result<(), OutOfMemory> {
     for case in CASES_OF_FEW {
         assert!(rt; plays_in_few(rt.alloc(), case)?, "over {}", case.0);
     }
     Ok(())
 }
 
-fn is_told(alloc: Global, fault: NewFault, words: &str) -> Result<bool, AllocError> {
+fn is_told(alloc: Global, fault: NewFault, words: &str) -> Result<bool, OutOfMemory> {
     Ok(format!(in alloc; "{fault}")?.as_str() == words)
 }
 
 // Whether no buffer of few bytes is opened, and its fault is told in these words.
-fn is_refused(alloc: Global, base: &str, words: &str) -> Result<bool, AllocError> {
+fn is_refused(alloc: Global, base: &str, words: &str) -> Result<bool, OutOfMemory> {
     match few(alloc, base).err() {
         None => Ok(false),
         Some(fault) => is_told(alloc, fault, words),
@@ -674,7 +674,7 @@ fn fault_over(alloc: Global, base: &str) -> Option<NewFault> {
 }
 
 #[test]
-fn a_base_past_the_limit(rt: HostRuntime) -> Result<(), AllocError> {
+fn a_base_past_the_limit(rt: HostRuntime) -> Result<(), OutOfMemory> {
     let words = "full: 0 bytes are held, and 6 more pass the limit";
     assert!(rt; is_refused(rt.alloc(), "abcdef", words)?);
     assert!(rt; fault_over(rt.alloc(), "abcdef") == few(rt.alloc(), "abcdef").err());
@@ -705,7 +705,7 @@ fn counted(operation: &Operation) -> (u64, u64, u32) {
 }
 
 fn made(alloc: Global, buffer: &mut Buffer, change: Change) -> Result<Operation, EditFault> {
-    edit_plainly(buffer, pieces(alloc, [change].as_slice())?.as_slice())
+    buffer.edit_uncounted(pieces(alloc, [change].as_slice())?.as_slice())
 }
 
 // Whether the range of an edit is counted so, and the text is then that of the row.
@@ -736,7 +736,7 @@ fn ranges_count_hidden_bytes(rt: HostRuntime) {
 }
 
 // Digits, 2,000 of them but for those of a range.
-fn digits(alloc: Global, from: u32, to: u32) -> Result<String, AllocError> {
+fn digits(alloc: Global, from: u32, to: u32) -> Result<String, OutOfMemory> {
     let mut text = String::new(alloc);
     for n in 0..2_000u32 {
         if n < from || to <= n {
@@ -755,13 +755,13 @@ const LONG_PARTS: &[Hiding] = &[
     (Undo(&[EDIT]), 100, 1_500),
 ];
 
-fn hides(alloc: Global, buffer: &mut Buffer, row: &Hiding) -> Result<bool, AllocError> {
+fn hides(alloc: Global, buffer: &mut Buffer, row: &Hiding) -> Result<bool, OutOfMemory> {
     answer(alloc, buffer, row.0)?;
     let wanted = digits(alloc, row.1, row.2)?;
     Ok(buffer.text()?.as_str() == wanted.as_str())
 }
 
-fn each_hides(alloc: Global, buffer: &mut Buffer) -> Result<bool, AllocError> {
+fn each_hides(alloc: Global, buffer: &mut Buffer) -> Result<bool, OutOfMemory> {
     let mut right = true;
     for row in LONG_PARTS {
         right = hides(alloc, buffer, row)? && right;
@@ -769,20 +769,20 @@ fn each_hides(alloc: Global, buffer: &mut Buffer) -> Result<bool, AllocError> {
     Ok(right)
 }
 
-fn all_hide(alloc: Global, opened: Result<Buffer, NewFault>) -> Result<bool, AllocError> {
+fn all_hide(alloc: Global, opened: Result<Buffer, NewFault>) -> Result<bool, OutOfMemory> {
     match opened {
         Ok(mut buffer) => each_hides(alloc, &mut buffer),
         Err(_) => Ok(false),
     }
 }
 
-fn hide_long(alloc: Global) -> Result<bool, AllocError> {
+fn hide_long(alloc: Global) -> Result<bool, OutOfMemory> {
     let base = digits(alloc, 0, 0)?;
     all_hide(alloc, ample(alloc, base.as_str()))
 }
 
 #[test]
-fn long_parts_change_sides(rt: HostRuntime) -> Result<(), AllocError> {
+fn long_parts_change_sides(rt: HostRuntime) -> Result<(), OutOfMemory> {
     assert!(rt; hide_long(rt.alloc())?);
     Ok(())
 }

@@ -6,8 +6,8 @@ mod anchored;
 #[cfg(test)]
 mod buffers;
 #[cfg(test)]
-mod pasts;
+mod counted;
 #[cfg(test)]
-mod plain;
+mod pasts;
 #[cfg(test)]
 mod snapshots;

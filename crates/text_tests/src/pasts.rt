@@ -1,9 +1,9 @@
 //! Texts at versions and edits since them, each asked of a snapshot that is taken while the buffer goes on.
-use crate::plain::edit_plainly;
 use Step::{Edit, Tell, Undo};
 use buffer_tests::operations::{Change, Entries, pieces, version};
 use lamport_clock::{Lamport, Version};
-use std::alloc::{AllocError, Global};
+use std::alloc::Global;
+use sum_tree::OutOfMemory;
 use text_buffer::SinceFault::{OpenVersion, Unseen};
 use text_buffer::{
     Buffer, Edits, Limits, NewFault, SinceFault, Snapshot, TextEdit, edits_make_the_text,
@@ -153,9 +153,9 @@ const NEVER_SHOWN: Case = (
 const CASES: &[Case] = &[MARKS, NEVER_SHOWN];
 
 // Whether an edit is made.
-fn edits(alloc: Global, buffer: &mut Buffer, changes: &[Change]) -> Result<bool, AllocError> {
+fn edits(alloc: Global, buffer: &mut Buffer, changes: &[Change]) -> Result<bool, OutOfMemory> {
     let pieces = pieces(alloc, changes)?;
-    Ok(edit_plainly(buffer, pieces.as_slice()).is_ok())
+    Ok(buffer.edit_uncounted(pieces.as_slice()).is_ok())
 }
 
 // Whether an undo is made.
@@ -202,14 +202,14 @@ fn tells(
     snapshot: &Snapshot,
     entries: Entries,
     told: Told,
-) -> Result<bool, AllocError> {
+) -> Result<bool, OutOfMemory> {
     edits_make_the_text(snapshot);
     let version = version(alloc, entries)?;
     Ok(text_is(snapshot, &version, told) && edits_are(snapshot, &version, told))
 }
 
 // Whether a call comes out as it should.
-fn comes(alloc: Global, buffer: &mut Buffer, step: Step) -> Result<bool, AllocError> {
+fn comes(alloc: Global, buffer: &mut Buffer, step: Step) -> Result<bool, OutOfMemory> {
     match step {
         Edit(changes) => edits(alloc, buffer, changes),
         Undo(undone) => Ok(undoes(buffer, undone)),
@@ -217,7 +217,7 @@ fn comes(alloc: Global, buffer: &mut Buffer, step: Step) -> Result<bool, AllocEr
     }
 }
 
-fn all_come(alloc: Global, buffer: &mut Buffer, steps: &[Step]) -> Result<bool, AllocError> {
+fn all_come(alloc: Global, buffer: &mut Buffer, steps: &[Step]) -> Result<bool, OutOfMemory> {
     let mut right = true;
     for &step in steps {
         right = comes(alloc, buffer, step)? && right;
@@ -225,19 +225,19 @@ fn all_come(alloc: Global, buffer: &mut Buffer, steps: &[Step]) -> Result<bool, 
     Ok(right)
 }
 
-fn play(alloc: Global, opened: Result<Buffer, NewFault>, case: &Case) -> Result<bool, AllocError> {
+fn play(alloc: Global, opened: Result<Buffer, NewFault>, case: &Case) -> Result<bool, OutOfMemory> {
     match opened {
         Ok(mut buffer) => all_come(alloc, &mut buffer, case.1),
         Err(_) => Ok(false),
     }
 }
 
-fn plays(alloc: Global, case: &Case) -> Result<bool, AllocError> {
+fn plays(alloc: Global, case: &Case) -> Result<bool, OutOfMemory> {
     play(alloc, Buffer::new(alloc, 9, case.0, AMPLE), case)
 }
 
 #[test]
-fn versions_have_texts_and_edits_since(rt: HostRuntime) -> Result<(), AllocError> {
+fn versions_have_texts_and_edits_since(rt: HostRuntime) -> Result<(), OutOfMemory> {
     for case in CASES {
         assert!(rt; plays(rt.alloc(), case)?, "over {}", case.0);
     }

@@ -1,8 +1,9 @@
 //! Snapshots of a buffer, each taken before an edit, with ample memory.
-use crate::plain::edit_plainly;
+use crate::counted::edit_counted;
 use lamport_clock::Lamport;
 use op_model::{Limits, Piece, Text};
-use std::alloc::{AllocError, Global};
+use std::alloc::Global;
+use sum_tree::OutOfMemory;
 use text_buffer::{
     Buffer, EditFault, NewFault, Snapshot, UndoFault, snapshots_agree, snapshots_append,
 };
@@ -45,7 +46,7 @@ fn edit(alloc: Global, buffer: &mut Buffer, row: &Row) -> Result<(), EditFault> 
         end: row.1,
         text: Text::new(String::from_str(alloc, row.2)?),
     })?;
-    let _made = edit_plainly(buffer, changes.as_slice())?;
+    let _made = edit_counted(buffer, changes.as_slice())?;
     Ok(())
 }
 
@@ -73,21 +74,21 @@ fn has_base(snapshot: &Snapshot) -> bool {
     }
 }
 
-fn is_as_wanted(alloc: Global, snapshot: &Snapshot, want: &Want) -> Result<bool, AllocError> {
+fn is_as_wanted(alloc: Global, snapshot: &Snapshot, want: &Want) -> Result<bool, OutOfMemory> {
     let text = snapshot.text().to_string(alloc)?;
     let seen = (snapshot.applied().len(), snapshot.version().get(9));
     Ok(text.as_str() == want.0 && seen == (want.1, want.2))
 }
 
 // Whether a share of a snapshot is as wanted.
-fn shares(alloc: Global, snapshot: &Snapshot, want: &Want) -> Result<bool, AllocError> {
+fn shares(alloc: Global, snapshot: &Snapshot, want: &Want) -> Result<bool, OutOfMemory> {
     let shared = snapshot.share()?;
     snapshots_agree(snapshot, &shared);
     snapshots_append(snapshot, &shared);
     Ok(is_as_wanted(alloc, &shared, want)? && has_base(&shared))
 }
 
-fn all_show(alloc: Global, snapshots: &[Snapshot]) -> Result<bool, AllocError> {
+fn all_show(alloc: Global, snapshots: &[Snapshot]) -> Result<bool, OutOfMemory> {
     let mut right = snapshots.len() == WANTS.len();
     for (snapshot, want) in snapshots.iter().zip(WANTS.iter()) {
         let shown = is_as_wanted(alloc, snapshot, want)? && has_base(snapshot);

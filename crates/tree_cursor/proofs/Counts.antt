@@ -8,7 +8,7 @@ use Rattle.sum_tree.specs.Laws.{fold}
 use Rattle.sum_tree.specs.Count.{count_sum}
 use Rattle.sum_tree.specs.declared.count.Count.{Count}
 use Rattle.tree_cursor.specs.Halts.{ahead}
-use Rattle.tree_cursor.specs.Place.{Place, Filtering}
+use Rattle.tree_cursor.specs.Place.{CursorState, Filtering}
 
 more : (b : Bool) (n m : ℕ) → n ≡ m → cond b 0 (1 + n) ≡ cond b 0 (1 + m)
 more b n m e = ap (λ (k : ℕ). cond b 0 (1 + k)) e
@@ -50,7 +50,7 @@ unfolding first_of
 get_ahead whole rest item i e = sym (first_ahead item rest) ∙ ap first_of e ∙ sym (get_at_drop whole i)
 
 -- a cursor's value at an index
-abbrev pub placed : {T D : Type 0} → List T → ℕ → D → ℕ → Place T D
+abbrev pub placed : {T D : Type 0} → List T → ℕ → D → ℕ → CursorState T D
 placed xs h from n = record { items = xs; height = h; index = n; from = from }
 
 -- a filter's value at two indexes

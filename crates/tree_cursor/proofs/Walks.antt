@@ -7,17 +7,15 @@ use Rattle.sum_tree.proofs.Folds.{fold-append, fold_single, fold_admitted}
 use Rattle.tree_cursor.specs.Places.{DimensionLaws, behind, place_behind, passed_over, seek_count}
 use Rattle.tree_cursor.specs.Halts.{IsAt, gone_over, ahead, index_behind}
 use Rattle.tree_cursor.specs.Walking.{IsWalking}
+use Rattle.std.proofs.lemmas.Option.{same_Some}
 
 pub place_behind-append : {P S T : Type 0} (moved : P → S → Option P) (sum_of : T → S) (p : P) (ys xs : List T) → place_behind moved sum_of p (ys ++ xs) ≡ place_behind moved sum_of (place_behind moved sum_of p ys) xs
 place_behind-append moved sum_of p [] xs = refl
 place_behind-append moved sum_of p (y ∷ ys) xs = place_behind-append moved sum_of (behind p (moved p (sum_of y))) ys xs
 
-some_same : {P : Type 0} (r q : P) → Some r ≡ Some q → r ≡ q
-some_same r q e = cc
-
 went_at : {P : Type 0} (b : Bool) (r q : P) (halts : P → Bool) → halts r ≡ b → cond b None (Some r) ≡ Some q → (Some r ≡ Some q) × (halts q ≡ false)
 went_at true r q halts s e = cc
-went_at false r q halts s e = (e, ap halts (sym (some_same r q e)) ∙ s)
+went_at false r q halts s e = (e, ap halts (sym (same_Some r q e)) ∙ s)
 
 -- a sum that is gone over is added whole, and the walk does not halt there
 pub went : {P : Type 0} (halts : P → Bool) (o : Option P) (q : P) → gone_over halts o ≡ Some q → (o ≡ Some q) × (halts q ≡ false)

@@ -9,6 +9,7 @@ use Rattle.std.proofs.lemmas.Bool.Decides.{nat_tests}
 use Rattle.tree_cursor.specs.Places.{DimensionLaws}
 use Rattle.tree_cursor.specs.declared.traits.Bias.{Bias}
 use Rattle.tree_cursor.specs.declared.traits.Bias.TheVariants.{Left, Right}
+use Rattle.std.proofs.lemmas.Option.{same_Some}
 
 -- less is an order in which not less is transitive too
 pub record IsLess {K : Type 0} (less : K → K → Bool) : Type 0 where
@@ -43,9 +44,6 @@ not_true : (b : Bool) → not b ≡ true → b ≡ false
 not_true true h = cc
 not_true false h = refl
 
-some_is : {X : Type 0} (a b : X) → Some a ≡ Some b → a ≡ b
-some_is a b e = cc
-
 module _ {K : Type 0} (less : K → K → Bool) (order : IsLess less) where
   greater_at : (a b c : K) (ab bc : Bool) → less a b ≡ ab → less b c ≡ bc → greater less (greater less (Some a) (Some b)) (Some c) ≡ greater less (Some a) (greater less (Some b) (Some c))
   greater_at a b c true true e f = let h = order.up a b c e f in rw (e, f, h) refl
@@ -62,10 +60,10 @@ module _ {K : Type 0} (less : K → K → Bool) (order : IsLess less) where
   -- where a summary tells the greatest of its items' keys, the greatest so far is a place
   pub key_laws : {S : Type 0} (empty : S) (op : S → S → S) (admits single : S → Type 0) (key : S → Option K) → key empty ≡ None → ((a b : S) → admits a → admits b → key (op a b) ≡ greater less (key a) (key b)) → DimensionLaws {P = Option K} {S = S} empty op admits single (IsLaterKey less) (λ p s. Some (greater less p (key s))) (λ p s. Unit)
   key_laws empty op admits single key none sum = record {
-    nothing = λ p q e. sym (some_is _ _ e) ∙ ap (greater less p) none ∙ greater_none less p;
+    nothing = λ p q e. sym (same_Some _ _ e) ∙ ap (greater less p) none ∙ greater_none less p;
     parts = λ p q a b f g e. (greater less p (key a), refl, ap (λ (o : Option K). Some o) (greater_assoc p (key a) (key b) ∙ ap (greater less p) (sym (sum a b f g))) ∙ e);
     one = λ p a f s r. (greater less p (key a), refl);
-    forward = λ p q a f e. (key a, sym (some_is _ _ e));
+    forward = λ p q a f e. (key a, sym (same_Some _ _ e));
     fits_front = λ p a b f g h. tt;
     fits_back = λ p r a b f g h e. tt;
   }
@@ -107,7 +105,7 @@ module _ {K : Type 0} (less : K → K → Bool) (order : IsLess less) where
       ap (λ (o : Option K). not (key_less less o g)) l.1 ∙ ap not (left_stays g p l.0 before)
   key_stays g p q Right h l = ap (key_less less g) l.1 ∙ right_stays g p l.0 h
 
-lt_is : (o : Ordering) → is_lt o ≡ true → o ≡ Less
+pub lt_is : (o : Ordering) → is_lt o ≡ true → o ≡ Less
 lt_is Less h = refl
 lt_is Equal h = cc
 lt_is Greater h = cc

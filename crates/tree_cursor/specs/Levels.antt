@@ -2,7 +2,7 @@
 use Rattle.std.specs.Prelude.{◌≡◌, ◌≢◌, ℕ, ◌+◌, ◌*◌, ◌^◌, ◌≤◌, List, [], ◌∷◌, ◌++◌, length}
 use Rattle.std.specs.List.{All}
 use Rattle.sum_tree.specs.Seen.{Seen}
-use Rattle.sum_tree.specs.Shape.{joined, IsChild}
+use Rattle.sum_tree.specs.Shape.{join_items, IsChild}
 use Rattle.tree_cursor.specs.Rest.{Rest}
 use Rattle.tree_cursor.specs.declared.path.Left.{Left}
 use Rattle.tree_cursor.specs.declared.path.Left.TheVariants.{Trees, Entries}
@@ -18,7 +18,7 @@ weights [] = 0
 weights (t ∷ ts) = weight t + weights ts
 
 abbrev pub left_items : {T S : Type 0} → Left T S → List T
-left_items (Trees ts) = joined ts.now
+left_items (Trees ts) = join_items ts.now
 left_items (Entries es) = es.now
 
 abbrev pub left_work : {T S : Type 0} → Left T S → ℕ

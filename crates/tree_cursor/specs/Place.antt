@@ -2,7 +2,7 @@
 use Rattle.std.specs.Prelude.{ℕ, List}
 
 -- the tree's items and height, the index of the item that it is on, and where the first starts
-pub record Place (T D : Type 0) : Type 0 where
+pub record CursorState (T D : Type 0) : Type 0 where
   pub items : List T
   pub height : ℕ
   pub index : ℕ

@@ -31,9 +31,9 @@ pub struct Cursor<'a, T: Item, D: Dimension<'a, T::Summary>> {
 }
 
 impl<'a, T: Item, D: Dimension<'a, T::Summary>> Model for Cursor<'a, T, D> {
-    ghost use Rattle.tree_cursor.specs.Place.{Place};
+    ghost use Rattle.tree_cursor.specs.Place.{CursorState};
 
-    ghost Value = { Place T D };
+    ghost Value = { CursorState T D };
 
     ghost use Rattle.sum_tree.specs.Laws.{fold};
     ghost use Rattle.tree_cursor.specs.Halts.{IsAt};

@@ -14,5 +14,5 @@ pub use cursor::Cursor;
 pub use filter::FilterCursor;
 pub use ready::{Greatest, KeySummary};
 pub use seek::{locate, look_up};
-pub use std::alloc::AllocError as OutOfMemory;
+pub use sum_tree::OutOfMemory;
 pub use traits::{Bias, Dimension, Keep, Moves, Plain, Target};

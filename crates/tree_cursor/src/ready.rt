@@ -2,8 +2,9 @@
 ghost use Rattle.tree_cursor.specs.Keys.{greater, key_less, cmp_less};
 ghost use Rattle.std.specs.Prelude.{◌≡◌, ℕ, ◌+◌, ◌^◌, ◌<◌, ◌≤◌, Option, Some, None, Bool, nat_lt, cond, refl};
 
+use crate::OutOfMemory;
 use crate::traits::{Bias, Dimension, Moves, Plain, Target};
-use std::alloc::{AllocError, Global};
+use std::alloc::Global;
 use std::cmp::Ordering;
 use sum_tree::{Count, Summary};
 
@@ -93,7 +94,7 @@ impl<K: Ord + Copy> Summary for Greatest<K> {
         Greatest { key: None }
     }
 
-    fn add(&mut self, _alloc: Global, other: &Greatest<K>) -> Result<(), AllocError> {
+    fn add(&mut self, _alloc: Global, other: &Greatest<K>) -> Result<(), OutOfMemory> {
         self.key = greater(self.key, other.key);
         Ok(())
     }

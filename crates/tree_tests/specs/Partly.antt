@@ -3,12 +3,10 @@ use Rattle.std.specs.Prelude.{◌≡◌, ℕ, zero, suc, ◌+◌, ◌-◌, ◌^�
 use Rattle.std.proofs.Common.{ap, sym, refl, ◌∙◌, arith, ◌⊎◌, inl, inr}
 use Rattle.std.proofs.lemmas.Bool.Decides.{nat_tests}
 use Rattle.tree_cursor.specs.Places.{DimensionLaws}
+use Rattle.std.proofs.lemmas.Option.{same_Some}
 
 abbrev pair : {C : Type 0} → C → ℕ → Option (C × ℕ)
 pair c n = Some (c, n)
-
-some_is : {X : Type 0} (a b : X) → Some a ≡ Some b → a ≡ b
-some_is a b e = cc
 
 module _ {C S : Type 0} (items : S → ℕ) (inside : C → S → ℕ) where
   abbrev pub partly : C × ℕ → S → Option (C × ℕ)
@@ -19,8 +17,8 @@ module _ {C S : Type 0} (items : S → ℕ) (inside : C → S → ℕ) where
   Went p s q = (p.0 ≡ q.0) × (((inside p.0 s ≡ items s) × (q.1 ≡ p.1 + items s)) ⊎ ((inside p.0 s ≡ 0) × (q.1 ≡ p.1)))
 
   went_at : (p q : C × ℕ) (s : S) (all none : Bool) → nat_eq (inside p.0 s) (items s) ≡ all → nat_eq (inside p.0 s) 0 ≡ none → cond all (Some (p.0, p.1 + items s)) (cond none (Some (p.0, p.1)) None) ≡ Some q → Went p s q
-  went_at p q s true none e f h = (ap (λ (u : C × ℕ). u.0) (some_is _ _ h), inl (grind (arith, nat_tests), sym (ap (λ (u : C × ℕ). u.1) (some_is _ _ h))))
-  went_at p q s false true e f h = (ap (λ (u : C × ℕ). u.0) (some_is _ _ h), inr (grind (arith, nat_tests), sym (ap (λ (u : C × ℕ). u.1) (some_is _ _ h))))
+  went_at p q s true none e f h = (ap (λ (u : C × ℕ). u.0) (same_Some _ _ h), inl (grind (arith, nat_tests), sym (ap (λ (u : C × ℕ). u.1) (same_Some _ _ h))))
+  went_at p q s false true e f h = (ap (λ (u : C × ℕ). u.0) (same_Some _ _ h), inr (grind (arith, nat_tests), sym (ap (λ (u : C × ℕ). u.1) (same_Some _ _ h))))
   went_at p q s false false e f h = cc
 
   went : (p q : C × ℕ) (s : S) → partly p s ≡ Some q → Went p s q
@@ -63,8 +61,8 @@ module _ {C S : Type 0} (items : S → ℕ) (inside : C → S → ℕ) where
     back_of p r a b h (e, inr w) = omega (arith, w.1, h, adds a b)
 
     nothing_of : (p q : C × ℕ) → Went p empty q → q ≡ p
-    nothing_of p q (e, inl h) = some_is _ _ (sym (same p q p.1 e (omega (arith, h.1, none))))
-    nothing_of p q (e, inr h) = some_is _ _ (sym (same p q p.1 e h.1))
+    nothing_of p q (e, inl h) = same_Some _ _ (sym (same p q p.1 e (omega (arith, h.1, none))))
+    nothing_of p q (e, inr h) = same_Some _ _ (sym (same p q p.1 e h.1))
 
     pub partly_laws : DimensionLaws {P = C × ℕ} {S = S} empty op admits single (λ p q. (p.0 ≡ q.0) × (p.1 ≤ q.1)) partly (λ p s. p.1 + items s < 2 ^ 64)
     partly_laws = record {

@@ -1,7 +1,7 @@
 //! An item whose sums are refused where they have some width, as if there were no memory.
 use crate::numbered::Numbered;
-use std::alloc::{AllocError, Global};
-use sum_tree::{Item, KeyedItem, Summary};
+use std::alloc::Global;
+use sum_tree::{Item, KeyedItem, OutOfMemory, Summary};
 
 // A width modulo 64. No sum has room for the width 63.
 #[derive(Drop)]
@@ -37,10 +37,10 @@ impl Summary for Barred {
         Barred { width: 0 }
     }
 
-    fn add(&mut self, _alloc: Global, other: &Barred) -> Result<(), AllocError> {
+    fn add(&mut self, _alloc: Global, other: &Barred) -> Result<(), OutOfMemory> {
         let width = self.width.wrapping_add(other.width) % 64;
         if width == 63 {
-            return Err(AllocError);
+            return Err(OutOfMemory);
         }
         self.width = width;
         Ok(())
@@ -65,13 +65,13 @@ impl Item for Bead {
 
     ghost is_single = { λ bead. tt };
 
-    fn summary(&self, _alloc: Global) -> Result<Barred, AllocError> {
+    fn summary(&self, _alloc: Global) -> Result<Barred, OutOfMemory> {
         Ok(Barred {
             width: self.number % 3 + 1,
         })
     }
 
-    fn copy(&self, _alloc: Global) -> Result<Bead, AllocError> {
+    fn copy(&self, _alloc: Global) -> Result<Bead, OutOfMemory> {
         Ok(*self)
     }
 }
@@ -87,7 +87,7 @@ impl KeyedItem for Bead {
 }
 
 impl Numbered for Bead {
-    fn numbered(_alloc: Global, number: u64) -> Result<Bead, AllocError> {
+    fn numbered(_alloc: Global, number: u64) -> Result<Bead, OutOfMemory> {
         Ok(Bead { number })
     }
 

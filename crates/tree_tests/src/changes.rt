@@ -5,8 +5,8 @@ ghost use Rattle.sum_tree.specs.Keyed.{Ascending};
 
 use crate::mirror::number_of;
 use crate::numbered::Numbered;
-use std::alloc::{AllocError, Global};
-use sum_tree::SumTree;
+use std::alloc::Global;
+use sum_tree::{OutOfMemory, SumTree};
 
 // The most items that a tree here gets.
 const MOST: u64 = 1 << 39;
@@ -16,7 +16,7 @@ pub(crate) fn push_to<T: Numbered>(
     alloc: Global,
     tree: &mut SumTree<T>,
     number: u64,
-) -> Result<(), AllocError>
+) -> Result<(), OutOfMemory>
     requires { (xs : List T) → T.Summary.fits (fold T.Summary.empty T.Summary.op T.sum_of xs) }
 {
     let item = T::numbered(alloc, number)?;
@@ -27,7 +27,7 @@ pub(crate) fn push_to<T: Numbered>(
 }
 
 /// The tree of the numbers from 0 up to n, pushed one by one.
-pub(crate) fn pushed<T: Numbered>(alloc: Global, n: u64) -> Result<SumTree<T>, AllocError>
+pub(crate) fn pushed<T: Numbered>(alloc: Global, n: u64) -> Result<SumTree<T>, OutOfMemory>
     requires { (xs : List T) → T.Summary.fits (fold T.Summary.empty T.Summary.op T.sum_of xs) }
 {
     let mut tree = SumTree::new(alloc)?;
@@ -38,7 +38,7 @@ pub(crate) fn pushed<T: Numbered>(alloc: Global, n: u64) -> Result<SumTree<T>, A
 }
 
 /// The items of the numbers from 0 up to n.
-pub(crate) fn listed<T: Numbered>(alloc: Global, n: u64) -> Result<Vec<T>, AllocError> {
+pub(crate) fn listed<T: Numbered>(alloc: Global, n: u64) -> Result<Vec<T>, OutOfMemory> {
     let mut items = Vec::new(alloc);
     for number in 0..n {
         items.push(T::numbered(alloc, number)?)?;
@@ -47,7 +47,7 @@ pub(crate) fn listed<T: Numbered>(alloc: Global, n: u64) -> Result<Vec<T>, Alloc
 }
 
 /// The tree of the same items, made of a list.
-pub(crate) fn made<T: Numbered>(alloc: Global, n: u64) -> Result<SumTree<T>, AllocError>
+pub(crate) fn made<T: Numbered>(alloc: Global, n: u64) -> Result<SumTree<T>, OutOfMemory>
     requires { (xs : List T) → T.Summary.fits (fold T.Summary.empty T.Summary.op T.sum_of xs) }
 {
     let items = listed(alloc, n)?;
@@ -62,7 +62,7 @@ pub(crate) fn append_to<T: Numbered>(
     alloc: Global,
     front: &mut SumTree<T>,
     back: SumTree<T>,
-) -> Result<(), AllocError>
+) -> Result<(), OutOfMemory>
     requires { (xs : List T) → T.Summary.fits (fold T.Summary.empty T.Summary.op T.sum_of xs) }
 {
     if front.len() >= MOST || back.len() >= MOST {
@@ -78,7 +78,7 @@ pub(crate) fn splice_in<T: Numbered>(
     tree: &mut SumTree<T>,
     range: (usize, usize),
     n: u64,
-) -> Result<(), AllocError>
+) -> Result<(), OutOfMemory>
     requires { (xs : List T) → T.Summary.fits (fold T.Summary.empty T.Summary.op T.sum_of xs) }
 {
     let from = range.0 as u64;
@@ -95,7 +95,7 @@ pub(crate) fn insert_to<T: Numbered>(
     alloc: Global,
     tree: &mut SumTree<T>,
     number: u64,
-) -> Result<Option<u64>, AllocError>
+) -> Result<Option<u64>, OutOfMemory>
     requires fits { (xs : List T) → T.Summary.fits (fold T.Summary.empty T.Summary.op T.sum_of xs) }
     requires ascending { Ascending T.Key.cmp T.key_of tree.old.items }
     ensures ascending { Ascending T.Key.cmp T.key_of tree.new.items }
@@ -113,7 +113,7 @@ pub(crate) fn remove_from<T: Numbered>(
     alloc: Global,
     tree: &mut SumTree<T>,
     number: u64,
-) -> Result<Option<u64>, AllocError>
+) -> Result<Option<u64>, OutOfMemory>
     requires ascending { Ascending T.Key.cmp T.key_of tree.old.items }
     ensures ascending { Ascending T.Key.cmp T.key_of tree.new.items }
 {

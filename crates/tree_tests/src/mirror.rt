@@ -1,7 +1,7 @@
 //! Trees beside plain lists of their numbers.
 use crate::numbered::Numbered;
-use std::alloc::{AllocError, Global};
-use sum_tree::{Parts, SumTree};
+use std::alloc::Global;
+use sum_tree::{OutOfMemory, Parts, SumTree};
 
 // The number of an item.
 pub(crate) fn number_of<T: Numbered>(item: Option<&T>) -> Option<u64> {
@@ -24,7 +24,7 @@ fn children_onto<'a, T: Numbered>(
     node: &'a SumTree<T>,
     height: u32,
     next: &mut Vec<&'a SumTree<T>>,
-) -> Result<bool, AllocError> {
+) -> Result<bool, OutOfMemory> {
     match node.parts() {
         Parts::Leaf(_) => Ok(false),
         Parts::Inner(children) => {
@@ -40,7 +40,7 @@ fn children_onto<'a, T: Numbered>(
 }
 
 // Whether all leaves lie at one depth, and each node below the root has 6 to 12 entries.
-pub(crate) fn is_even<T: Numbered>(alloc: Global, tree: &SumTree<T>) -> Result<bool, AllocError> {
+pub(crate) fn is_even<T: Numbered>(alloc: Global, tree: &SumTree<T>) -> Result<bool, OutOfMemory> {
     let mut level = Vec::new(alloc);
     level.push(tree)?;
     let mut even = true;
@@ -80,12 +80,12 @@ pub(crate) fn mirrors<T: Numbered>(
     alloc: Global,
     tree: &SumTree<T>,
     numbers: &[u64],
-) -> Result<bool, AllocError> {
+) -> Result<bool, OutOfMemory> {
     Ok(is_even(alloc, tree)? && has_numbers(tree, numbers) && has_ends(tree, numbers))
 }
 
 // The numbers from 0 up to n.
-pub(crate) fn counting(alloc: Global, n: u64) -> Result<Vec<u64>, AllocError> {
+pub(crate) fn counting(alloc: Global, n: u64) -> Result<Vec<u64>, OutOfMemory> {
     let mut numbers = Vec::new(alloc);
     for number in 0..n {
         numbers.push(number)?;
@@ -99,7 +99,7 @@ pub(crate) fn replaced(
     numbers: &[u64],
     range: (usize, usize),
     others: &[u64],
-) -> Result<Vec<u64>, AllocError> {
+) -> Result<Vec<u64>, OutOfMemory> {
     let (from, to) = range;
     let mut all = Vec::new(alloc);
     if from <= to && to <= numbers.len() {

@@ -2,8 +2,8 @@
 ghost use Rattle.std.specs.Prelude.{Some};
 
 use crate::numbered::Numbered;
-use std::alloc::{AllocError, Global};
-use sum_tree::{Count, Item, KeyedItem};
+use std::alloc::Global;
+use sum_tree::{Count, Item, KeyedItem, OutOfMemory};
 use tree_cursor::Greatest;
 
 // A number among others that are counted.
@@ -29,11 +29,11 @@ impl Item for Number {
 
     ghost is_single = { λ x. tt };
 
-    fn summary(&self, _alloc: Global) -> Result<Count, AllocError> {
+    fn summary(&self, _alloc: Global) -> Result<Count, OutOfMemory> {
         Ok(Count { items: 1 })
     }
 
-    fn copy(&self, _alloc: Global) -> Result<Number, AllocError> {
+    fn copy(&self, _alloc: Global) -> Result<Number, OutOfMemory> {
         Ok(*self)
     }
 }
@@ -63,13 +63,13 @@ impl Item for Ranked {
 
     ghost is_single = { λ x. tt };
 
-    fn summary(&self, _alloc: Global) -> Result<Greatest<u64>, AllocError> {
+    fn summary(&self, _alloc: Global) -> Result<Greatest<u64>, OutOfMemory> {
         Ok(Greatest {
             key: Some(self.key),
         })
     }
 
-    fn copy(&self, _alloc: Global) -> Result<Ranked, AllocError> {
+    fn copy(&self, _alloc: Global) -> Result<Ranked, OutOfMemory> {
         Ok(*self)
     }
 }
@@ -85,7 +85,7 @@ impl KeyedItem for Ranked {
 }
 
 impl Numbered for Ranked {
-    fn numbered(_alloc: Global, number: u64) -> Result<Ranked, AllocError> {
+    fn numbered(_alloc: Global, number: u64) -> Result<Ranked, OutOfMemory> {
         Ok(Ranked { key: number })
     }
 

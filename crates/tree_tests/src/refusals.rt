@@ -10,8 +10,8 @@ use crate::mirror::{counting, mirrors, replaced};
 use crate::numbered::Numbered;
 use crate::ranked::Ranked;
 use crate::word::Word;
-use std::alloc::{AllocError, Global};
-use sum_tree::SumTree;
+use std::alloc::Global;
+use sum_tree::{OutOfMemory, SumTree};
 
 // What a tree should hold, how many changes it refused, how many rounds wanted memory of their own, and whether the tree
 // was right after each.
@@ -34,7 +34,7 @@ impl Account {
     }
 
     // Notes how a round came out.
-    fn note(&mut self, round: Result<(), AllocError>) {
+    fn note(&mut self, round: Result<(), OutOfMemory>) {
         if round.is_err() {
             self.ended = self.ended.saturating_add(1);
         }
@@ -52,7 +52,7 @@ impl Account {
         tree: &SumTree<T>,
         after: Vec<u64>,
         made: bool,
-    ) -> Result<(), AllocError> {
+    ) -> Result<(), OutOfMemory> {
         if made {
             self.numbers = after;
         } else {
@@ -69,7 +69,7 @@ fn push<T: Numbered>(
     tree: &mut SumTree<T>,
     account: &mut Account,
     number: u64,
-) -> Result<(), AllocError>
+) -> Result<(), OutOfMemory>
     requires { (xs : List T) → T.Summary.fits (fold T.Summary.empty T.Summary.op T.sum_of xs) }
 {
     let len = account.numbers.len();
@@ -84,7 +84,7 @@ fn append<T: Numbered>(
     tree: &mut SumTree<T>,
     account: &mut Account,
     n: u64,
-) -> Result<(), AllocError>
+) -> Result<(), OutOfMemory>
     requires { (xs : List T) → T.Summary.fits (fold T.Summary.empty T.Summary.op T.sum_of xs) }
 {
     let len = account.numbers.len();
@@ -103,7 +103,7 @@ fn splice<T: Numbered>(
     account: &mut Account,
     range: (usize, usize),
     n: u64,
-) -> Result<(), AllocError>
+) -> Result<(), OutOfMemory>
     requires { (xs : List T) → T.Summary.fits (fold T.Summary.empty T.Summary.op T.sum_of xs) }
 {
     let after = replaced(alloc, &account.numbers, range, &counting(alloc, n)?)?;
@@ -117,7 +117,7 @@ fn cut<T: Numbered>(
     tree: &SumTree<T>,
     account: &mut Account,
     at: usize,
-) -> Result<(), AllocError> {
+) -> Result<(), OutOfMemory> {
     let numbers = account.numbers.clone()?;
     if at > numbers.len() {
         return Ok(());
@@ -140,7 +140,7 @@ fn change<T: Numbered>(
     tree: &mut SumTree<T>,
     account: &mut Account,
     x: u64,
-) -> Result<(), AllocError>
+) -> Result<(), OutOfMemory>
     requires { (xs : List T) → T.Summary.fits (fold T.Summary.empty T.Summary.op T.sum_of xs) }
 {
     let len = account.numbers.len();
@@ -166,7 +166,7 @@ fn change_shared<T: Numbered>(
     tree: &mut SumTree<T>,
     account: &mut Account,
     x: u64,
-) -> Result<(), AllocError>
+) -> Result<(), OutOfMemory>
     requires { (xs : List T) → T.Summary.fits (fold T.Summary.empty T.Summary.op T.sum_of xs) }
 {
     let before = account.numbers.clone()?;
@@ -177,7 +177,7 @@ fn change_shared<T: Numbered>(
 }
 
 // Many changes, from no items on.
-fn changed<T: Numbered>(alloc: Global, rounds: u64) -> Result<Account, AllocError>
+fn changed<T: Numbered>(alloc: Global, rounds: u64) -> Result<Account, OutOfMemory>
     requires { (xs : List T) → T.Summary.fits (fold T.Summary.empty T.Summary.op T.sum_of xs) }
 {
     let mut tree: SumTree<T> = SumTree::new(alloc)?;
@@ -202,7 +202,7 @@ fn toggle<T: Numbered>(
     tree: &mut SumTree<T>,
     account: &mut Account,
     number: u64,
-) -> Result<(), AllocError>
+) -> Result<(), OutOfMemory>
     requires fits { (xs : List T) → T.Summary.fits (fold T.Summary.empty T.Summary.op T.sum_of xs) }
     requires ascending { Ascending T.Key.cmp T.key_of tree.old.items }
     ensures ascending { Ascending T.Key.cmp T.key_of tree.new.items }
@@ -227,7 +227,7 @@ fn toggled<T: Numbered>(
     tree: &mut SumTree<T>,
     account: &mut Account,
     rounds: u64,
-) -> Result<(), AllocError>
+) -> Result<(), OutOfMemory>
     requires fits { (xs : List T) → T.Summary.fits (fold T.Summary.empty T.Summary.op T.sum_of xs) }
     requires ascending { Ascending T.Key.cmp T.key_of tree.old.items }
 {
@@ -242,7 +242,7 @@ fn toggled<T: Numbered>(
     Ok(())
 }
 
-fn keyed<T: Numbered>(alloc: Global, rounds: u64) -> Result<Account, AllocError>
+fn keyed<T: Numbered>(alloc: Global, rounds: u64) -> Result<Account, OutOfMemory>
     requires { (xs : List T) → T.Summary.fits (fold T.Summary.empty T.Summary.op T.sum_of xs) }
 {
     let mut tree: SumTree<T> = SumTree::new(alloc)?;
@@ -253,7 +253,7 @@ fn keyed<T: Numbered>(alloc: Global, rounds: u64) -> Result<Account, AllocError>
 
 // Where a test is run with one allocation that fails, it fails in one of these rounds.
 #[test]
-fn changes_with_memory(rt: HostRuntime) -> Result<(), AllocError> {
+fn changes_with_memory(rt: HostRuntime) -> Result<(), OutOfMemory> {
     assert!(rt; changed::<Ranked>(rt.alloc(), 300)?.is_right(0, 1));
     assert!(rt; changed::<Word>(rt.alloc(), 300)?.is_right(0, 1));
     assert!(rt; keyed::<Ranked>(rt.alloc(), 400)?.is_right(0, 1));
@@ -262,7 +262,7 @@ fn changes_with_memory(rt: HostRuntime) -> Result<(), AllocError> {
 }
 
 #[test]
-fn changes_that_are_refused(rt: HostRuntime) -> Result<(), AllocError> {
+fn changes_that_are_refused(rt: HostRuntime) -> Result<(), OutOfMemory> {
     assert!(rt; changed::<Bead>(rt.alloc(), 600)?.is_right(30, 300));
     assert!(rt; keyed::<Bead>(rt.alloc(), 600)?.is_right(30, 300));
     Ok(())

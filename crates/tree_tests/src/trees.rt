@@ -10,8 +10,8 @@ use crate::mirror::{counting, is_even, mirrors, number_of, replaced};
 use crate::numbered::Numbered;
 use crate::ranked::Ranked;
 use crate::word::Word;
-use std::alloc::{AllocError, Global};
-use sum_tree::SumTree;
+use std::alloc::Global;
+use sum_tree::{OutOfMemory, SumTree};
 
 // Cuts a tree into a front and a rest, and puts them end to end.
 fn rejoins<T: Numbered>(
@@ -19,7 +19,7 @@ fn rejoins<T: Numbered>(
     tree: &SumTree<T>,
     cut: usize,
     numbers: &[u64],
-) -> Result<bool, AllocError>
+) -> Result<bool, OutOfMemory>
     requires { (xs : List T) → T.Summary.fits (fold T.Summary.empty T.Summary.op T.sum_of xs) }
 {
     if cut > numbers.len() {
@@ -36,7 +36,7 @@ fn rejoins_everywhere<T: Numbered>(
     alloc: Global,
     tree: &SumTree<T>,
     numbers: &[u64],
-) -> Result<bool, AllocError>
+) -> Result<bool, OutOfMemory>
     requires { (xs : List T) → T.Summary.fits (fold T.Summary.empty T.Summary.op T.sum_of xs) }
 {
     let n = numbers.len();
@@ -54,7 +54,7 @@ fn splices<T: Numbered>(
     numbers: &[u64],
     range: (usize, usize),
     n: u64,
-) -> Result<(bool, Vec<u64>), AllocError>
+) -> Result<(bool, Vec<u64>), OutOfMemory>
     requires { (xs : List T) → T.Summary.fits (fold T.Summary.empty T.Summary.op T.sum_of xs) }
 {
     let old = tree.share()?;
@@ -69,7 +69,7 @@ fn splices_often<T: Numbered>(
     alloc: Global,
     tree: &mut SumTree<T>,
     mut numbers: Vec<u64>,
-) -> Result<bool, AllocError>
+) -> Result<bool, OutOfMemory>
     requires { (xs : List T) → T.Summary.fits (fold T.Summary.empty T.Summary.op T.sum_of xs) }
 {
     let mut same = true;
@@ -87,7 +87,7 @@ fn splices_often<T: Numbered>(
 }
 
 // Cuts a tree of the numbers up to n and puts it together again, and then replaces ranges of it.
-fn changes<T: Numbered>(alloc: Global, tree: &mut SumTree<T>, n: u64) -> Result<bool, AllocError>
+fn changes<T: Numbered>(alloc: Global, tree: &mut SumTree<T>, n: u64) -> Result<bool, OutOfMemory>
     requires { (xs : List T) → T.Summary.fits (fold T.Summary.empty T.Summary.op T.sum_of xs) }
 {
     let numbers = counting(alloc, n)?;
@@ -96,14 +96,14 @@ fn changes<T: Numbered>(alloc: Global, tree: &mut SumTree<T>, n: u64) -> Result<
     Ok(splices_often(alloc, tree, numbers)? && same && cuts)
 }
 
-fn pushed_changes<T: Numbered>(alloc: Global, n: u64) -> Result<bool, AllocError>
+fn pushed_changes<T: Numbered>(alloc: Global, n: u64) -> Result<bool, OutOfMemory>
     requires { (xs : List T) → T.Summary.fits (fold T.Summary.empty T.Summary.op T.sum_of xs) }
 {
     let mut tree: SumTree<T> = pushed(alloc, n)?;
     changes(alloc, &mut tree, n)
 }
 
-fn listed_changes<T: Numbered>(alloc: Global, n: u64) -> Result<bool, AllocError>
+fn listed_changes<T: Numbered>(alloc: Global, n: u64) -> Result<bool, OutOfMemory>
     requires { (xs : List T) → T.Summary.fits (fold T.Summary.empty T.Summary.op T.sum_of xs) }
 {
     let mut tree: SumTree<T> = made(alloc, n)?;
@@ -112,7 +112,7 @@ fn listed_changes<T: Numbered>(alloc: Global, n: u64) -> Result<bool, AllocError
 
 // Trees of so many items are made by pushes, and of a list.
 #[test]
-fn trees_are_lists(rt: HostRuntime) -> Result<(), AllocError> {
+fn trees_are_lists(rt: HostRuntime) -> Result<(), OutOfMemory> {
     for n in [0, 1, 6, 12, 13, 72, 73, 156, 157, 2000, 5000] {
         assert!(rt;
             pushed_changes::<Ranked>(rt.alloc(), n)?,
@@ -131,20 +131,20 @@ fn trees_are_lists(rt: HostRuntime) -> Result<(), AllocError> {
 }
 
 // Whether the sum of so many words lists their numbers.
-fn lists_numbers(alloc: Global, n: u64) -> Result<bool, AllocError> {
+fn lists_numbers(alloc: Global, n: u64) -> Result<bool, OutOfMemory> {
     let tree: SumTree<Word> = pushed(alloc, n)?;
     Ok(tree.summary().as_slice() == counting(alloc, n)?.as_slice())
 }
 
 #[test]
-fn sums_hold_lists(rt: HostRuntime) -> Result<(), AllocError> {
+fn sums_hold_lists(rt: HostRuntime) -> Result<(), OutOfMemory> {
     for n in [0, 1, 4, 5, 12, 13, 73, 157, 2000] {
         assert!(rt; lists_numbers(rt.alloc(), n)?, "{n} words");
     }
     Ok(())
 }
 
-fn alone<T: Numbered>(alloc: Global, number: u64) -> Result<SumTree<T>, AllocError>
+fn alone<T: Numbered>(alloc: Global, number: u64) -> Result<SumTree<T>, OutOfMemory>
     requires { (xs : List T) → T.Summary.fits (fold T.Summary.empty T.Summary.op T.sum_of xs) }
 {
     let item = T::numbered(alloc, number)?;
@@ -155,7 +155,7 @@ fn alone<T: Numbered>(alloc: Global, number: u64) -> Result<SumTree<T>, AllocErr
 fn keyed_answers<T: Numbered>(
     alloc: Global,
     tree: &mut SumTree<T>,
-) -> Result<[Option<u64>; 6], AllocError>
+) -> Result<[Option<u64>; 6], OutOfMemory>
     requires fits { (xs : List T) → T.Summary.fits (fold T.Summary.empty T.Summary.op T.sum_of xs) }
     requires ascending { Ascending T.Key.cmp T.key_of tree.old.items }
     ensures ascending { Ascending T.Key.cmp T.key_of tree.new.items }
@@ -176,7 +176,7 @@ fn finds_three<T: Numbered>(tree: &SumTree<T>) -> bool
 }
 
 // Whether these are the answers, and the tree has what is left, and then one number more.
-fn keyed_rows<T: Numbered>(alloc: Global, tree: &mut SumTree<T>) -> Result<bool, AllocError>
+fn keyed_rows<T: Numbered>(alloc: Global, tree: &mut SumTree<T>) -> Result<bool, OutOfMemory>
     requires fits { (xs : List T) → T.Summary.fits (fold T.Summary.empty T.Summary.op T.sum_of xs) }
     requires ascending { Ascending T.Key.cmp T.key_of tree.old.items }
 {
@@ -187,7 +187,7 @@ fn keyed_rows<T: Numbered>(alloc: Global, tree: &mut SumTree<T>) -> Result<bool,
 }
 
 // Inserts the numbers below 1000 in a mixed order.
-fn fills<T: Numbered>(alloc: Global, tree: &mut SumTree<T>) -> Result<bool, AllocError>
+fn fills<T: Numbered>(alloc: Global, tree: &mut SumTree<T>) -> Result<bool, OutOfMemory>
     requires fits { (xs : List T) → T.Summary.fits (fold T.Summary.empty T.Summary.op T.sum_of xs) }
     requires ascending { Ascending T.Key.cmp T.key_of tree.old.items }
     ensures ascending { Ascending T.Key.cmp T.key_of tree.new.items }
@@ -200,7 +200,7 @@ fn fills<T: Numbered>(alloc: Global, tree: &mut SumTree<T>) -> Result<bool, Allo
 }
 
 // Removes the even numbers below 1000.
-fn halves<T: Numbered>(alloc: Global, tree: &mut SumTree<T>) -> Result<bool, AllocError>
+fn halves<T: Numbered>(alloc: Global, tree: &mut SumTree<T>) -> Result<bool, OutOfMemory>
     requires ascending { Ascending T.Key.cmp T.key_of tree.old.items }
     ensures ascending { Ascending T.Key.cmp T.key_of tree.new.items }
 {
@@ -224,7 +224,7 @@ fn finds<T: Numbered>(tree: &SumTree<T>, every: u64) -> bool
     right
 }
 
-fn many_keys<T: Numbered>(alloc: Global, tree: &mut SumTree<T>) -> Result<bool, AllocError>
+fn many_keys<T: Numbered>(alloc: Global, tree: &mut SumTree<T>) -> Result<bool, OutOfMemory>
     requires fits { (xs : List T) → T.Summary.fits (fold T.Summary.empty T.Summary.op T.sum_of xs) }
     requires ascending { Ascending T.Key.cmp T.key_of tree.old.items }
 {
@@ -235,14 +235,14 @@ fn many_keys<T: Numbered>(alloc: Global, tree: &mut SumTree<T>) -> Result<bool, 
     Ok(is_even(alloc, tree)? && half && halved && all && filled)
 }
 
-fn few_keyed<T: Numbered>(alloc: Global) -> Result<bool, AllocError>
+fn few_keyed<T: Numbered>(alloc: Global) -> Result<bool, OutOfMemory>
     requires { (xs : List T) → T.Summary.fits (fold T.Summary.empty T.Summary.op T.sum_of xs) }
 {
     let mut tree: SumTree<T> = SumTree::new(alloc)?;
     keyed_rows(alloc, &mut tree)
 }
 
-fn many_keyed<T: Numbered>(alloc: Global) -> Result<bool, AllocError>
+fn many_keyed<T: Numbered>(alloc: Global) -> Result<bool, OutOfMemory>
     requires { (xs : List T) → T.Summary.fits (fold T.Summary.empty T.Summary.op T.sum_of xs) }
 {
     let mut tree: SumTree<T> = SumTree::new(alloc)?;
@@ -250,7 +250,7 @@ fn many_keyed<T: Numbered>(alloc: Global) -> Result<bool, AllocError>
 }
 
 #[test]
-fn keys_ascend(rt: HostRuntime) -> Result<(), AllocError> {
+fn keys_ascend(rt: HostRuntime) -> Result<(), OutOfMemory> {
     assert!(rt; few_keyed::<Ranked>(rt.alloc())?);
     assert!(rt; many_keyed::<Ranked>(rt.alloc())?);
     assert!(rt; few_keyed::<Word>(rt.alloc())?);
@@ -259,14 +259,14 @@ fn keys_ascend(rt: HostRuntime) -> Result<(), AllocError> {
 }
 
 // Whether n items of width 1 are n wide together, in a tree of this height.
-fn is_wide(alloc: Global, n: u64, height: u32) -> Result<bool, AllocError> {
+fn is_wide(alloc: Global, n: u64, height: u32) -> Result<bool, OutOfMemory> {
     let tree = tree_of(alloc, &[1], n)?;
     let extent = tree.summary();
     Ok(extent.items == n && extent.width == n && tree.height() == height)
 }
 
 #[test]
-fn widths_are_added(rt: HostRuntime) -> Result<(), AllocError> {
+fn widths_are_added(rt: HostRuntime) -> Result<(), OutOfMemory> {
     for (n, height) in [(0, 0), (12, 0), (13, 1), (48, 1)] {
         assert!(rt; is_wide(rt.alloc(), n, height)?, "{n} items");
     }

@@ -3,8 +3,8 @@ ghost use Rattle.std.specs.Prelude.{◌≡◌, ℕ, ◌+◌, ◌-◌, ◌^◌, �
 ghost use Rattle.std.specs.Option.{option_copied};
 ghost use Rattle.tree_cursor.specs.Keys.{greater};
 
-use std::alloc::{AllocError, Global};
-use sum_tree::{Item, Summary};
+use std::alloc::Global;
+use sum_tree::{Item, OutOfMemory, Summary};
 use tree_cursor::{Bias, Dimension, Keep, Moves, Plain, Target};
 
 // A name, which is not `Copy`.
@@ -77,7 +77,7 @@ impl Summary for Extent {
         }
     }
 
-    fn add(&mut self, _alloc: Global, other: &Extent) -> Result<(), AllocError> {
+    fn add(&mut self, _alloc: Global, other: &Extent) -> Result<(), OutOfMemory> {
         self.items += other.items;
         self.width += other.width;
         self.odd += other.odd;
@@ -112,7 +112,7 @@ impl Item for Wide {
 
     ghost is_single = { λ x. refl };
 
-    fn summary(&self, _alloc: Global) -> Result<Extent, AllocError> {
+    fn summary(&self, _alloc: Global) -> Result<Extent, OutOfMemory> {
         Ok(Extent {
             items: 1,
             width: self.width,
@@ -121,7 +121,7 @@ impl Item for Wide {
         })
     }
 
-    fn copy(&self, _alloc: Global) -> Result<Wide, AllocError> {
+    fn copy(&self, _alloc: Global) -> Result<Wide, OutOfMemory> {
         Ok(Wide {
             width: self.width,
             id: self.id,

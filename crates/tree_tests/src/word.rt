@@ -3,9 +3,9 @@ ghost use Rattle.std.specs.Prelude.{◌≡◌};
 
 use crate::numbered::Numbered;
 use smallvec::SmallVec;
-use std::alloc::{AllocError, Global};
+use std::alloc::Global;
 use std::marker::Model;
-use sum_tree::{Item, KeyedItem, Summary};
+use sum_tree::{Item, KeyedItem, OutOfMemory, Summary};
 
 // The numbers of a run of items, of which four take no memory. Contracts see it as their list.
 #[derive(Drop)]
@@ -59,7 +59,7 @@ impl Summary for Numbers {
         }
     }
 
-    fn add(&mut self, _alloc: Global, other: &Numbers) -> Result<(), AllocError> {
+    fn add(&mut self, _alloc: Global, other: &Numbers) -> Result<(), OutOfMemory> {
         self.list.extend_from_slice(other.as_slice())
     }
 }
@@ -90,12 +90,12 @@ impl Item for Word {
 
     ghost is_single = { λ word. tt };
 
-    fn summary(&self, alloc: Global) -> Result<Numbers, AllocError> {
+    fn summary(&self, alloc: Global) -> Result<Numbers, OutOfMemory> {
         let list = SmallVec::from_slice(alloc, &[self.number])?;
         Ok(Numbers { list })
     }
 
-    fn copy(&self, alloc: Global) -> Result<Word, AllocError> {
+    fn copy(&self, alloc: Global) -> Result<Word, OutOfMemory> {
         let text = String::from_str(alloc, self.text.as_str())?;
         Ok(Word {
             number: self.number,
@@ -115,7 +115,7 @@ impl KeyedItem for Word {
 }
 
 impl Numbered for Word {
-    fn numbered(alloc: Global, number: u64) -> Result<Word, AllocError> {
+    fn numbered(alloc: Global, number: u64) -> Result<Word, OutOfMemory> {
         let text = format!(in alloc; "{number}")?;
         Ok(Word { number, text })
     }

@@ -1,5 +1,6 @@
 -- The undo counts of a history, by the entries that are kept of them.
 use Rattle.std.proofs.Common.{◌≡◌, ℕ, suc, ◌+◌, ◌<◌, ◌≤◌, ◌^◌, ◌%◌, max, Bool, true, false, cond, ◌&&◌, eqb, List, [], ◌∷◌, ◌++◌, length, get_or, drop, drop-cons, Option, None, Some, refl, sym, subst, ◌∙◌, ap, arith}
+use Rattle.std.specs.List.{AllByRecursion}
 use Rattle.std.proofs.lemmas.List.{drop_all}
 use Rattle.lamport_clock.specs.declared.stamp.Lamport.{Lamport}
 use Rattle.lamport_clock.specs.Stamps.{same_stamp}
@@ -8,13 +9,12 @@ use Rattle.op_model.specs.declared.operation.UndoCount.{UndoCount}
 use Rattle.op_model.specs.declared.operation.Operation.{Operation}
 use Rattle.op_model.specs.declared.operation.Operation.TheVariants.{Undo}
 use Rattle.op_model.specs.declared.operation.UndoOp.{UndoOp}
-use Rattle.op_model.specs.Sorted.{Each}
 use Rattle.op_model.specs.Operations.{stamp_of, counts_of}
-use Rattle.op_model.specs.Histories.{History, kept, seen, base, entries_held}
-use Rattle.op_model.specs.Shown.{given, count, undone}
+use Rattle.op_model.specs.Histories.{History, kept_history, seen_history, base, entries_held}
+use Rattle.op_model.specs.Shown.{greatest_given, count, undone}
 use Rattle.op_model.specs.Lawful.{Lawful}
-use Rattle.op_model.proofs.Good.{stamp_parts}
-use Rattle.op_model.proofs.VersionLaws.{shaped_good, each_lawful}
+use Rattle.op_model.proofs.answers.Good.{stamp_parts}
+use Rattle.op_model.proofs.histories.VersionLaws.{shaped_good, each_lawful}
 use Rattle.undo_map.specs.declared.entry.UndoEntry.{UndoEntry}
 use Rattle.undo_map.specs.Counts.{with_count, greatest, counts_for, is_seen, count_of, count_seen, is_odd}
 use Rattle.undo_map.specs.Laws.{CountsAreOfHistory}
@@ -26,8 +26,8 @@ module _ (t : Lamport) (at : Option Entries) where
   abbrev most : List UndoEntry → ℕ
   most w = greatest (counts_for t at) w
 
-  one_adds : (e : UndoEntry) (cs : List UndoCount) → max (adds (counts_for t at) e) (cond (is_seen at e.by) (given cs t) 0)
-      ≡ cond (is_seen at e.by) (given (record { edit = e.edit; count = e.count } ∷ cs) t) 0
+  one_adds : (e : UndoEntry) (cs : List UndoCount) → max (adds (counts_for t at) e) (cond (is_seen at e.by) (greatest_given cs t) 0)
+      ≡ cond (is_seen at e.by) (greatest_given (record { edit = e.edit; count = e.count } ∷ cs) t) 0
   one_adds e cs = go at
     where
       pick : (x y : Bool) (n g : ℕ) → max (cond (x && y) n 0) (cond y g 0) ≡ cond y (cond x (max n g) g) 0
@@ -40,11 +40,11 @@ module _ (t : Lamport) (at : Option Entries) where
       pick_all true n g = refl
       pick_all false n g = omega arith
 
-      go : (o : Option Entries) → max (adds (counts_for t o) e) (cond (is_seen o e.by) (given cs t) 0) ≡ cond (is_seen o e.by) (given (record { edit = e.edit; count = e.count } ∷ cs) t) 0
-      go None = pick_all (same_stamp e.edit t) e.count (given cs t)
-      go (Some v) = pick (same_stamp e.edit t) (sees v e.by) e.count (given cs t)
+      go : (o : Option Entries) → max (adds (counts_for t o) e) (cond (is_seen o e.by) (greatest_given cs t) 0) ≡ cond (is_seen o e.by) (greatest_given (record { edit = e.edit; count = e.count } ∷ cs) t) 0
+      go None = pick_all (same_stamp e.edit t) e.count (greatest_given cs t)
+      go (Some v) = pick (same_stamp e.edit t) (sees v e.by) e.count (greatest_given cs t)
 
-  counts_kept : (by : Lamport) (cs : List UndoCount) (w : List UndoEntry) → most (with_counts by cs w) ≡ max (most w) (cond (is_seen at by) (given cs t) 0)
+  counts_kept : (by : Lamport) (cs : List UndoCount) (w : List UndoEntry) → most (with_counts by cs w) ≡ max (most w) (cond (is_seen at by) (greatest_given cs t) 0)
   counts_kept by [] w = zero_max (is_seen at by) (most w)
     where
       zero_max : (b : Bool) (n : ℕ) → n ≡ max n (cond b 0 0)
@@ -58,7 +58,7 @@ module _ (t : Lamport) (at : Option Entries) where
       omega (arith, a, b, d)
 
   -- the greatest counts that are kept are those of the history
-  undos_kept : (h : History) (w : List UndoEntry) → most (with_undos h w) ≡ max (most w) (count (kept (is_seen at) h) t)
+  undos_kept : (h : History) (w : List UndoEntry) → most (with_undos h w) ≡ max (most w) (count (kept_history (is_seen at) h) t)
   undos_kept [] w = omega arith
   undos_kept (op ∷ h) w =
       let a = undos_kept h (with_counts (stamp_of op) (counts_of op) w) in
@@ -66,24 +66,24 @@ module _ (t : Lamport) (at : Option Entries) where
       let d = split (is_seen at (stamp_of op)) in
       omega (arith, a, b, d)
     where
-      split : (b : Bool) → count (cond b (op ∷ kept (is_seen at) h) (kept (is_seen at) h)) t ≡ max (cond b (given (counts_of op) t) 0) (count (kept (is_seen at) h) t)
+      split : (b : Bool) → count (cond b (op ∷ kept_history (is_seen at) h) (kept_history (is_seen at) h)) t ≡ max (cond b (greatest_given (counts_of op) t) 0) (count (kept_history (is_seen at) h) t)
       split true = refl
       split false = omega arith
 
-all_kept : (h : History) → kept (is_seen None) h ≡ h
+all_kept : (h : History) → kept_history (is_seen None) h ≡ h
 all_kept [] = refl
 all_kept (op ∷ h) = ap (λ (x : History). op ∷ x) (all_kept h)
 
 pub count_kept : (h : History) (t : Lamport) → count_of (undo_entries h) t ≡ count h t
 count_kept h t = let a = undos_kept t None h [] in let b = ap (λ (x : History). count x t) (all_kept h) in omega (arith, a, b)
 
-pub count_seen_kept : (h : History) (t : Lamport) (v : Entries) → count_seen (undo_entries h) t v ≡ count (seen h v) t
+pub count_seen_kept : (h : History) (t : Lamport) (v : Entries) → count_seen (undo_entries h) t v ≡ count (seen_history h v) t
 count_seen_kept h t v = let a = undos_kept t (Some v) h [] in omega (arith, a)
 
 pub undone_kept : (h : History) (t : Lamport) → is_odd (count_of (undo_entries h) t) ≡ undone h t
 undone_kept h t = ap (λ (n : ℕ). eqb (n % 2) 1) (count_kept h t)
 
-pub undone_seen : (h : History) (v : Entries) (t : Lamport) → is_odd (count_seen (undo_entries h) t v) ≡ undone (seen h v) t
+pub undone_seen : (h : History) (v : Entries) (t : Lamport) → is_odd (count_seen (undo_entries h) t v) ≡ undone (seen_history h v) t
 undone_seen h v t = ap (λ (n : ℕ). eqb (n % 2) 1) (count_seen_kept h t v)
 
 -- with one operation more
@@ -138,7 +138,7 @@ pub entries_counted : (h : History) → length (undo_entries h) ≤ number_of_co
 entries_counted h = let a = undos_long h [] in omega (arith, a)
 
 -- operations but the base hold an entry for each of their counts
-counts_held : (h : History) → Each (λ (op : Operation). eqb (stamp_of op).replica 0 ≡ false) h → number_of_counts h ≤ entries_held h
+counts_held : (h : History) → AllByRecursion (λ (op : Operation). eqb (stamp_of op).replica 0 ≡ false) h → number_of_counts h ≤ entries_held h
 counts_held [] e = omega arith
 counts_held (op ∷ h) e = let r = e.0 in let a = counts_held h e.1 in rw r (omega (arith, a))
 

@@ -7,7 +7,7 @@ use Rattle.std.specs.List.{find}
 use Rattle.std.specs.Ordering.{is_eq, is_lt, is_gt, nat_cmp}
 use Rattle.std.specs.declared.cmp.Ordering.{Ordering}
 use Rattle.std.specs.declared.cmp.Ordering.TheVariants.{Less, Equal, Greater}
-use Rattle.sum_tree.specs.Keyed.{held, inserted, below, above}
+use Rattle.sum_tree.specs.Keyed.{item_of_key, insert_item, below, above}
 use Rattle.undo_map.specs.declared.entry.UndoKey.{UndoKey}
 use Rattle.undo_map.specs.declared.entry.UndoEntry.{UndoEntry}
 use Rattle.undo_map.specs.Counts.{key_of, key_cmp, greatest, IsAscending, count_at_key, with_count, stamp_cmp, counts_for}
@@ -33,7 +33,7 @@ apart k e f l q = go (cases_Bool (is_eq (key_cmp (key_of f) k)))
     go (inr n) = n
     go (inl y) = let same : key_cmp (key_of e) (key_of f) ≡ Equal = alike_right key_order (key_of f) k (key_of e) (is_equal _ y) ∙ is_equal _ q in let bad : Less ≡ Equal = sym l ∙ same in cc
 
-pub count_held : (w : List UndoEntry) (k : UndoKey) → IsAscending w → count_at_key k w ≡ count_in (held key_cmp key_of k w)
+pub count_held : (w : List UndoEntry) (k : UndoKey) → IsAscending w → count_at_key k w ≡ count_in (item_of_key key_cmp key_of k w)
 count_held [] k a = refl
 count_held (e ∷ w) k a =
     let p : UndoEntry → Bool = λ f. is_eq (key_cmp (key_of f) k) in
@@ -43,8 +43,8 @@ count_held (e ∷ w) k a =
     ] refl
 
 -- the entry that is put in
-pub set_in : (e : UndoEntry) (w u : List UndoEntry) (h x : ℕ) → w ≡ u → h ≡ count_at_key (key_of e) w → x ≡ max e.count h → inserted key_cmp key_of (record e { count = x }) w ≡ with_count e u
-set_in e w u h x v q r = ap (λ (y : ℕ). inserted key_cmp key_of (record e { count = y }) w) (r ∙ ap (max e.count) q) ∙ ap (with_count e) v
+pub set_in : (e : UndoEntry) (w u : List UndoEntry) (h x : ℕ) → w ≡ u → h ≡ count_at_key (key_of e) w → x ≡ max e.count h → insert_item key_cmp key_of (record e { count = x }) w ≡ with_count e u
+set_in e w u h x v q r = ap (λ (y : ℕ). insert_item key_cmp key_of (record e { count = y }) w) (r ∙ ap (max e.count) q) ∙ ap (with_count e) v
 
 -- stamps and keys that compare alike are one
 exact_stamps : CmpEqualImpliesEq stamp_cmp

@@ -2,7 +2,7 @@
 use Rattle.std.specs.Prelude.{ℕ, max, ◌%◌, ◌==◌, Bool, true, if◌then◌else◌, ◌&&◌, List, [], ◌∷◌, Option, Some, None}
 use Rattle.std.specs.Ordering.{nat_cmp, ordering_then, is_lt, is_eq}
 use Rattle.std.specs.declared.cmp.Ordering.{Ordering}
-use Rattle.sum_tree.specs.Keyed.{Ascending, inserted}
+use Rattle.sum_tree.specs.Keyed.{Ascending, insert_item}
 use Rattle.lamport_clock.specs.declared.stamp.Lamport.{Lamport}
 use Rattle.lamport_clock.specs.Stamps.{same_stamp}
 use Rattle.lamport_clock.specs.Versions.{Entries, sees}
@@ -45,7 +45,7 @@ count_at_key k w = greatest (λ e. is_eq (key_cmp (key_of e) k)) w
 
 -- w with an entry, which keeps the greater of two counts that one undo gives an edit
 abbrev pub with_count : UndoEntry → List UndoEntry → List UndoEntry
-with_count e w = inserted key_cmp key_of (record e { count = max e.count (count_at_key (key_of e) w) }) w
+with_count e w = insert_item key_cmp key_of (record e { count = max e.count (count_at_key (key_of e) w) }) w
 
 -- ---- for private clauses
 

@@ -2,8 +2,9 @@
 ghost use Rattle.std.specs.Prelude.{◌≡◌, Some};
 ghost use Rattle.undo_map.specs.Counts.{key_of};
 
+use crate::OutOfMemory;
 use lamport_clock::Lamport;
-use std::alloc::{AllocError, Global};
+use std::alloc::Global;
 use sum_tree::{Item, KeyedItem};
 use tree_cursor::Greatest;
 
@@ -31,13 +32,13 @@ impl Item for UndoEntry {
 
     ghost is_single = { λ e. tt };
 
-    fn summary(&self, _alloc: Global) -> Result<Greatest<UndoKey>, AllocError> {
+    fn summary(&self, _alloc: Global) -> Result<Greatest<UndoKey>, OutOfMemory> {
         Ok(Greatest {
             key: Some(self.key()),
         })
     }
 
-    fn copy(&self, _alloc: Global) -> Result<UndoEntry, AllocError> {
+    fn copy(&self, _alloc: Global) -> Result<UndoEntry, OutOfMemory> {
         Ok(*self)
     }
 }

@@ -7,9 +7,9 @@ ghost use Rattle.lamport_clock.specs.Stamps.{same_stamp};
 ghost use Rattle.lamport_clock.specs.Versions.{Entries, sees};
 ghost use Rattle.undo_map.specs.Counts.{count_of, count_seen, is_odd, with_count, count_at_key, greatest, counts_for, is_seen, is_earlier, IsAscending};
 
-use crate::{UndoEntry, UndoKey};
+use crate::{OutOfMemory, UndoEntry, UndoKey};
 use lamport_clock::{Lamport, Version, is_same};
-use std::alloc::{AllocError, Global};
+use std::alloc::Global;
 use std::marker::Model;
 use sum_tree::SumTree;
 use tree_cursor::{Bias, Cursor, Greatest};
@@ -35,7 +35,7 @@ impl Model for UndoMap {
 
 impl UndoMap {
     /// No counts.
-    pub fn new(alloc: Global) -> Result<UndoMap, AllocError>
+    pub fn new(alloc: Global) -> Result<UndoMap, OutOfMemory>
         ensures { IfOk result (λ m. m ≡ []) }
     {
         Ok(UndoMap {
@@ -44,7 +44,7 @@ impl UndoMap {
     }
 
     /// A second owner of the same entries.
-    pub fn share(&self) -> Result<UndoMap, AllocError>
+    pub fn share(&self) -> Result<UndoMap, OutOfMemory>
         ensures { IfOk result (λ m. m ≡ self.now) }
     {
         Ok(UndoMap {
@@ -67,7 +67,7 @@ impl UndoMap {
         edit: Lamport,
         by: Lamport,
         count: u32,
-    ) -> Result<(), AllocError>
+    ) -> Result<(), OutOfMemory>
         requires { length (with_count (record { edit = edit; by = by; count = count }) self.old)
             ≤ 2 ^ 40 }
         ensures ok { OnOk result (self.new

@@ -6,10 +6,10 @@ ghost use Rattle.op_model.specs.Made.{next_count};
 ghost use Rattle.undo_map.specs.Counts.{count_of};
 ghost use Rattle.undo_map.specs.Undos.{next_of, undo_entries};
 
-use crate::UndoMap;
+use crate::{OutOfMemory, UndoMap};
 use lamport_clock::Lamport;
 use op_model::{Counts, UndoCount};
-use std::alloc::{AllocError, Global};
+use std::alloc::Global;
 
 // The count that an undo gives an edit: one more than it has.
 fn next_count(undos: &UndoMap, edit: Lamport) -> UndoCount
@@ -25,7 +25,7 @@ fn next_count(undos: &UndoMap, edit: Lamport) -> UndoCount
 /// The counts that an undo of edits, or a redo, gives: each edit's count and one. None of them stands at its end. Where
 /// `undos` has the undo counts of a history, these are the counts of the undo made there. For each edit as
 /// `UndoMap::count`.
-pub fn next_counts(alloc: Global, undos: &UndoMap, edits: &[Lamport]) -> Result<Counts, AllocError>
+pub fn next_counts(alloc: Global, undos: &UndoMap, edits: &[Lamport]) -> Result<Counts, OutOfMemory>
     requires { find (λ t. count_of undos.now t == 4294967295) edits.now ≡ None }
     ensures counts { IfOk result (λ cs. cs ≡ map (next_of undos.now) edits.now) }
     ensures history { IfOk result (λ cs. (h : History) → undos.now ≡ undo_entries h

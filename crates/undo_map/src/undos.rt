@@ -4,15 +4,15 @@ ghost use Rattle.op_model.specs.declared.operation.Operation.TheVariants.{Undo};
 ghost use Rattle.op_model.specs.Histories.{History};
 ghost use Rattle.undo_map.specs.Undos.{undo_entries, with_counts};
 
-use crate::UndoMap;
+use crate::{OutOfMemory, UndoMap};
 use op_model::UndoOp;
-use std::alloc::{AllocError, Global};
+use std::alloc::Global;
 
 impl UndoMap {
     /// The map with the counts of an undo kept too: where the map has those of a history, those of the history with the
     /// undo. Afterwards there are at most 2^40 entries. Logarithmic in their number for each count; the nodes that do not
     /// change are shared, and this map stays as it is.
-    pub fn with_undo(&self, alloc: Global, undo: &UndoOp) -> Result<UndoMap, AllocError>
+    pub fn with_undo(&self, alloc: Global, undo: &UndoOp) -> Result<UndoMap, OutOfMemory>
         requires { length self.now + length undo.now.counts ≤ 2 ^ 40 }
         ensures counts { IfOk result (λ m. m ≡ with_counts undo.now.stamp undo.now.counts
             self.now) }

@@ -1,6 +1,7 @@
 //! The text that ropes are made of.
 use crate::chance::step;
-use std::alloc::{AllocError, Global};
+use std::alloc::Global;
+use sum_tree::OutOfMemory;
 
 /// Texts of 1 to 8 bytes, which come in the place of others.
 const SHORT: [&str; 8] = [
@@ -13,7 +14,7 @@ pub fn short(x: u64) -> &'static str {
 }
 
 /// A text of so many bytes: small letters, and an LF at one place in sixty.
-pub fn long(alloc: Global, bytes: u64) -> Result<String, AllocError> {
+pub fn long(alloc: Global, bytes: u64) -> Result<String, OutOfMemory> {
     let mut text = String::new(alloc);
     let mut x = 1u64;
     for _ in 0..bytes {

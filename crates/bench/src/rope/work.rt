@@ -5,14 +5,15 @@ ghost use Rattle.std.specs.Str.{IsAscii};
 use super::text::short;
 use crate::chance::step;
 use rope_chunks::Rope;
-use std::alloc::{AllocError, Global};
+use std::alloc::Global;
+use sum_tree::OutOfMemory;
 use text_dims::Point;
 
 // The most bytes that a rope here gets.
 const MOST: u64 = 1 << 39;
 
 /// The rope of a text, where that is ASCII and not too long; else the empty rope.
-pub fn made(alloc: Global, text: &str) -> Result<Rope, AllocError>
+pub fn made(alloc: Global, text: &str) -> Result<Rope, OutOfMemory>
     ensures ascii { IfOk result (λ rope. IsAscii rope) }
     ensures whole { IsAscii text.now → length text.now < 2 ^ 39
         → IfOk result (λ rope. rope ≡ text.now) }
@@ -69,7 +70,7 @@ fn range(rope: &Rope, x: u64, most: u64) -> (u64, u64)
 }
 
 /// The part of an ASCII rope.
-fn part(alloc: Global, rope: &Rope, start: u64, end: u64) -> Result<Rope, AllocError>
+fn part(alloc: Global, rope: &Rope, start: u64, end: u64) -> Result<Rope, OutOfMemory>
     requires ascii { IsAscii rope.now }
     requires order { start ≤ end }
     requires within { end ≤ length rope.now }
@@ -80,7 +81,7 @@ fn part(alloc: Global, rope: &Rope, start: u64, end: u64) -> Result<Rope, AllocE
 }
 
 /// Puts a rope behind another, where there is room.
-fn join(alloc: Global, front: &mut Rope, back: Rope) -> Result<(), AllocError>
+fn join(alloc: Global, front: &mut Rope, back: Rope) -> Result<(), OutOfMemory>
     requires front { IsAscii front.old }
     requires back { IsAscii back }
     ensures ascii { IfOk result (λ _. IsAscii front.new) }
@@ -96,7 +97,7 @@ fn join(alloc: Global, front: &mut Rope, back: Rope) -> Result<(), AllocError>
 
 /// Takes n parts, of up to half of the rope, and puts each behind a rope that is begun anew once it is as long as this
 /// one.
-pub fn slices(alloc: Global, rope: &Rope, n: u64) -> Result<u64, AllocError>
+pub fn slices(alloc: Global, rope: &Rope, n: u64) -> Result<u64, OutOfMemory>
     requires { IsAscii rope.now }
 {
     let most = (rope.len() / 2).max(1);
@@ -117,7 +118,7 @@ pub fn slices(alloc: Global, rope: &Rope, n: u64) -> Result<u64, AllocError>
 }
 
 /// Replaces a range of up to 8 bytes by a text of 1 to 8.
-fn replace(alloc: Global, rope: &mut Rope, x: u64) -> Result<(), AllocError>
+fn replace(alloc: Global, rope: &mut Rope, x: u64) -> Result<(), OutOfMemory>
     requires { IsAscii rope.old }
     ensures { IfOk result (λ _. IsAscii rope.new) }
 {
@@ -130,7 +131,7 @@ fn replace(alloc: Global, rope: &mut Rope, x: u64) -> Result<(), AllocError>
 }
 
 /// Replaces n ranges, and answers the rope's length.
-pub fn replaces(alloc: Global, rope: &mut Rope, n: u64) -> Result<u64, AllocError>
+pub fn replaces(alloc: Global, rope: &mut Rope, n: u64) -> Result<u64, OutOfMemory>
     requires { IsAscii rope.old }
     ensures ascii { IfOk result (λ _. IsAscii rope.new) }
     ensures len { IfOk result (λ len. len ≡ length rope.new) }
@@ -144,7 +145,7 @@ pub fn replaces(alloc: Global, rope: &mut Rope, n: u64) -> Result<u64, AllocErro
 }
 
 /// The same as `replace`, by parts.
-fn put_together(alloc: Global, rope: &Rope, x: u64) -> Result<Rope, AllocError>
+fn put_together(alloc: Global, rope: &Rope, x: u64) -> Result<Rope, OutOfMemory>
     requires { IsAscii rope.now }
     ensures { IfOk result (λ new. IsAscii new) }
 {
@@ -160,7 +161,7 @@ fn put_together(alloc: Global, rope: &Rope, x: u64) -> Result<Rope, AllocError>
 }
 
 /// The same as `replaces`, by parts.
-pub fn puts_together(alloc: Global, rope: &Rope, n: u64) -> Result<u64, AllocError>
+pub fn puts_together(alloc: Global, rope: &Rope, n: u64) -> Result<u64, OutOfMemory>
     requires { IsAscii rope.now }
 {
     let mut whole = rope.share()?;
@@ -173,7 +174,7 @@ pub fn puts_together(alloc: Global, rope: &Rope, n: u64) -> Result<u64, AllocErr
 }
 
 // The length of a rope, told by another that shares its chunks.
-fn shared_len(rope: &Rope) -> Result<u64, AllocError>
+fn shared_len(rope: &Rope) -> Result<u64, OutOfMemory>
     ensures { IfOk result (λ len. len ≡ length rope.now) }
 {
     let other = rope.share()?;
@@ -182,7 +183,7 @@ fn shared_len(rope: &Rope) -> Result<u64, AllocError>
 
 /// Shares a rope n times, and answers the sum of the lengths of those that share it.
 #[tactic(auto, using(crate::proofs::Sums::one_more))]
-pub fn shares(rope: &Rope, n: u64) -> Result<u64, AllocError>
+pub fn shares(rope: &Rope, n: u64) -> Result<u64, OutOfMemory>
     ensures { IfOk result (λ sum. sum ≡ (n * length rope.now) % 2 ^ 64) }
 {
     let mut sum = 0u64;
@@ -193,7 +194,7 @@ pub fn shares(rope: &Rope, n: u64) -> Result<u64, AllocError>
 }
 
 /// Shares a rope and replaces a range of it, n times.
-pub fn shares_and_replaces(alloc: Global, rope: &mut Rope, n: u64) -> Result<u64, AllocError>
+pub fn shares_and_replaces(alloc: Global, rope: &mut Rope, n: u64) -> Result<u64, OutOfMemory>
     requires { IsAscii rope.old }
     ensures { IfOk result (λ _. IsAscii rope.new) }
 {

@@ -2,9 +2,9 @@
 use super::numbered::Numbered;
 use super::span::Span;
 use arrayvec::ArrayString;
-use std::alloc::{AllocError, Global};
+use std::alloc::Global;
 use std::marker::Model;
-use sum_tree::{Item, KeyedItem};
+use sum_tree::{Item, KeyedItem, OutOfMemory};
 
 // What each line says.
 const TEXT: &str =
@@ -38,14 +38,14 @@ impl Item for Line {
 
     ghost is_single = { λ _. tt };
 
-    fn summary(&self, _alloc: Global) -> Result<Span, AllocError> {
+    fn summary(&self, _alloc: Global) -> Result<Span, OutOfMemory> {
         Ok(Span {
             items: 1,
             width: 0u64.wrapping_add(self.text.as_str().len() as u64),
         })
     }
 
-    fn copy(&self, _alloc: Global) -> Result<Line, AllocError> {
+    fn copy(&self, _alloc: Global) -> Result<Line, OutOfMemory> {
         Ok(Line {
             number: self.number,
             text: self.text,
@@ -64,7 +64,7 @@ impl KeyedItem for Line {
 }
 
 impl Numbered for Line {
-    fn numbered(_alloc: Global, number: u64) -> Result<Line, AllocError> {
+    fn numbered(_alloc: Global, number: u64) -> Result<Line, OutOfMemory> {
         let mut text = ArrayString::new();
         text.push_str(TEXT);
         Ok(Line { number, text })

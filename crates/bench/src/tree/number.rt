@@ -3,8 +3,8 @@ ghost use Rattle.bench.specs.Spans.{number_sum, number_admitted, number_key};
 
 use super::numbered::Numbered;
 use super::span::Span;
-use std::alloc::{AllocError, Global};
-use sum_tree::{Item, KeyedItem};
+use std::alloc::Global;
+use sum_tree::{Item, KeyedItem, OutOfMemory};
 
 /// An item that is ordered by its key.
 #[derive(Clone, Copy, Debug, PartialEq, Eq)]
@@ -22,14 +22,14 @@ impl Item for Number {
 
     ghost is_single = { λ _. tt };
 
-    fn summary(&self, _alloc: Global) -> Result<Span, AllocError> {
+    fn summary(&self, _alloc: Global) -> Result<Span, OutOfMemory> {
         Ok(Span {
             items: 1,
             width: 0u64.wrapping_add(self.width),
         })
     }
 
-    fn copy(&self, _alloc: Global) -> Result<Number, AllocError> {
+    fn copy(&self, _alloc: Global) -> Result<Number, OutOfMemory> {
         Ok(*self)
     }
 }
@@ -45,7 +45,7 @@ impl KeyedItem for Number {
 }
 
 impl Numbered for Number {
-    fn numbered(_alloc: Global, number: u64) -> Result<Number, AllocError> {
+    fn numbered(_alloc: Global, number: u64) -> Result<Number, OutOfMemory> {
         Ok(Number {
             key: number,
             width: 1,

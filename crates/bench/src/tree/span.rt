@@ -1,8 +1,8 @@
 //! A summary that counts items and adds their widths, modulo 2^64.
 ghost use Rattle.bench.specs.Spans.{no_span, span_sum, IsSpan, AnySpan, span_laws};
 
-use std::alloc::{AllocError, Global};
-use sum_tree::Summary;
+use std::alloc::Global;
+use sum_tree::{OutOfMemory, Summary};
 
 /// How many items there are, and how wide they are together.
 #[derive(Clone, Copy, Debug, PartialEq, Eq)]
@@ -28,7 +28,7 @@ impl Summary for Span {
         Span { items: 0, width: 0 }
     }
 
-    fn add(&mut self, _alloc: Global, other: &Span) -> Result<(), AllocError> {
+    fn add(&mut self, _alloc: Global, other: &Span) -> Result<(), OutOfMemory> {
         self.items = self.items.wrapping_add(other.items);
         self.width = self.width.wrapping_add(other.width);
         Ok(())

@@ -2,18 +2,18 @@
 ghost use Rattle.std.specs.Prelude.{◌≡◌, ◌<◌, ◌≤◌, ◌^◌, ◌+◌, ◌-◌, ◌++◌, ◌∷◌, [], List, IfOk, OnOk, OnErr, length};
 ghost use Rattle.sum_tree.specs.Laws.{fold};
 ghost use Rattle.sum_tree.specs.Keyed.{Ascending};
-ghost use Rattle.sum_tree.specs.Spliced.{spliced};
+ghost use Rattle.sum_tree.specs.Spliced.{splice_list};
 
 use super::numbered::Numbered;
 use crate::chance::step;
-use std::alloc::{AllocError, Global};
-use sum_tree::{Item, SumTree};
+use std::alloc::Global;
+use sum_tree::{Item, OutOfMemory, SumTree};
 
 // The most items that a tree here gets.
 const MOST: u64 = 1 << 39;
 
 /// Pushes an item, where there is room for one. On want of memory the tree is as before.
-pub fn push_to<T: Item>(alloc: Global, tree: &mut SumTree<T>, item: T) -> Result<(), AllocError>
+pub fn push_to<T: Item>(alloc: Global, tree: &mut SumTree<T>, item: T) -> Result<(), OutOfMemory>
     requires { (xs : List T) → T.Summary.fits (fold T.Summary.empty T.Summary.op T.sum_of xs) }
     ensures ok { OnOk result (length tree.old.items < 2 ^ 39
         → tree.new.items ≡ tree.old.items ++ item ∷ []) }
@@ -26,7 +26,7 @@ pub fn push_to<T: Item>(alloc: Global, tree: &mut SumTree<T>, item: T) -> Result
 }
 
 /// The tree of the numbers from `from` up to `to`, pushed one by one.
-pub fn pushed<T: Numbered>(alloc: Global, from: u64, to: u64) -> Result<SumTree<T>, AllocError>
+pub fn pushed<T: Numbered>(alloc: Global, from: u64, to: u64) -> Result<SumTree<T>, OutOfMemory>
     requires { (xs : List T) → T.Summary.fits (fold T.Summary.empty T.Summary.op T.sum_of xs) }
     ensures { to - from ≤ 2 ^ 39 → IfOk result (λ tree. length tree.items ≡ to - from) }
 {
@@ -38,7 +38,7 @@ pub fn pushed<T: Numbered>(alloc: Global, from: u64, to: u64) -> Result<SumTree<
 }
 
 /// The same numbers as a list.
-pub fn listed<T: Numbered>(alloc: Global, from: u64, to: u64) -> Result<Vec<T>, AllocError>
+pub fn listed<T: Numbered>(alloc: Global, from: u64, to: u64) -> Result<Vec<T>, OutOfMemory>
     ensures { IfOk result (λ items. length items.items ≡ to - from) }
 {
     let mut items = Vec::new(alloc);
@@ -49,7 +49,7 @@ pub fn listed<T: Numbered>(alloc: Global, from: u64, to: u64) -> Result<Vec<T>, 
 }
 
 /// The tree of a list, where the list is not too long for one.
-pub fn made<T: Item>(alloc: Global, items: Vec<T>) -> Result<SumTree<T>, AllocError>
+pub fn made<T: Item>(alloc: Global, items: Vec<T>) -> Result<SumTree<T>, OutOfMemory>
     requires { (xs : List T) → T.Summary.fits (fold T.Summary.empty T.Summary.op T.sum_of xs) }
     ensures { length items.items ≤ 2 ^ 39 → IfOk result (λ tree. tree.items ≡ items.items) }
 {
@@ -77,7 +77,7 @@ pub fn got<T: Numbered>(tree: &SumTree<T>, n: u64) -> u64 {
 }
 
 // Pushes an item while another tree shares all nodes, and answers the length of that.
-fn push_shared<T: Item>(alloc: Global, tree: &mut SumTree<T>, item: T) -> Result<u64, AllocError>
+fn push_shared<T: Item>(alloc: Global, tree: &mut SumTree<T>, item: T) -> Result<u64, OutOfMemory>
     requires { (xs : List T) → T.Summary.fits (fold T.Summary.empty T.Summary.op T.sum_of xs) }
     ensures len { IfOk result (λ len. len ≡ length tree.old.items) }
     ensures ok { OnOk result (length tree.old.items < 2 ^ 39
@@ -90,7 +90,7 @@ fn push_shared<T: Item>(alloc: Global, tree: &mut SumTree<T>, item: T) -> Result
 }
 
 /// Shares the tree and pushes an item to it, n times.
-pub fn shared<T: Numbered>(alloc: Global, tree: &mut SumTree<T>, n: u64) -> Result<u64, AllocError>
+pub fn shared<T: Numbered>(alloc: Global, tree: &mut SumTree<T>, n: u64) -> Result<u64, OutOfMemory>
     requires { (xs : List T) → T.Summary.fits (fold T.Summary.empty T.Summary.op T.sum_of xs) }
     ensures { OnOk result (length tree.old.items + n ≤ 2 ^ 39
         → length tree.new.items ≡ length tree.old.items + n) }
@@ -110,11 +110,11 @@ pub fn splice_in<T: Item>(
     from: u64,
     to: u64,
     items: Vec<T>,
-) -> Result<(), AllocError>
+) -> Result<(), OutOfMemory>
     requires { (xs : List T) → T.Summary.fits (fold T.Summary.empty T.Summary.op T.sum_of xs) }
     ensures ok { OnOk result (from ≤ to → to ≤ length tree.old.items
         → length tree.old.items < 2 ^ 39 → length items.items < 2 ^ 39
-        → tree.new.items ≡ spliced from to items.items tree.old.items) }
+        → tree.new.items ≡ splice_list from to items.items tree.old.items) }
     ensures err { OnErr result (tree.new ≡ tree.old) }
 {
     if from > to || to > tree.len() || tree.len() >= MOST || items.len() as u64 >= MOST {
@@ -125,7 +125,7 @@ pub fn splice_in<T: Item>(
 
 // One change of a text, as typing makes it, at a place that x draws: mostly one item for one, now and then two for one
 // or one for two.
-fn splice_at<T: Numbered>(alloc: Global, tree: &mut SumTree<T>, x: u64) -> Result<(), AllocError>
+fn splice_at<T: Numbered>(alloc: Global, tree: &mut SumTree<T>, x: u64) -> Result<(), OutOfMemory>
     requires { (xs : List T) → T.Summary.fits (fold T.Summary.empty T.Summary.op T.sum_of xs) }
     ensures { OnErr result (tree.new ≡ tree.old) }
 {
@@ -143,7 +143,7 @@ fn splice_at<T: Numbered>(alloc: Global, tree: &mut SumTree<T>, x: u64) -> Resul
 }
 
 /// Replaces items as typing does, n times, and answers how many there are then.
-pub fn typed<T: Numbered>(alloc: Global, tree: &mut SumTree<T>, n: u64) -> Result<u64, AllocError>
+pub fn typed<T: Numbered>(alloc: Global, tree: &mut SumTree<T>, n: u64) -> Result<u64, OutOfMemory>
     requires { (xs : List T) → T.Summary.fits (fold T.Summary.empty T.Summary.op T.sum_of xs) }
     ensures { IfOk result (λ len. len ≡ length tree.new.items) }
 {
@@ -156,7 +156,7 @@ pub fn typed<T: Numbered>(alloc: Global, tree: &mut SumTree<T>, n: u64) -> Resul
 }
 
 // Replaces items while another tree shares all nodes.
-fn type_shared<T: Numbered>(alloc: Global, tree: &mut SumTree<T>, x: u64) -> Result<(), AllocError>
+fn type_shared<T: Numbered>(alloc: Global, tree: &mut SumTree<T>, x: u64) -> Result<(), OutOfMemory>
     requires { (xs : List T) → T.Summary.fits (fold T.Summary.empty T.Summary.op T.sum_of xs) }
     ensures { OnErr result (tree.new ≡ tree.old) }
 {
@@ -169,7 +169,7 @@ pub fn shared_typed<T: Numbered>(
     alloc: Global,
     tree: &mut SumTree<T>,
     n: u64,
-) -> Result<u64, AllocError>
+) -> Result<u64, OutOfMemory>
     requires { (xs : List T) → T.Summary.fits (fold T.Summary.empty T.Summary.op T.sum_of xs) }
     ensures { IfOk result (λ len. len ≡ length tree.new.items) }
 {
@@ -186,7 +186,7 @@ pub fn insert_to<T: Numbered>(
     alloc: Global,
     tree: &mut SumTree<T>,
     number: u64,
-) -> Result<Option<u64>, AllocError>
+) -> Result<Option<u64>, OutOfMemory>
     requires fits { (xs : List T) → T.Summary.fits (fold T.Summary.empty T.Summary.op T.sum_of xs) }
     requires ascending { Ascending T.Key.cmp T.key_of tree.old.items }
     ensures ascending { Ascending T.Key.cmp T.key_of tree.new.items }
@@ -203,7 +203,7 @@ pub fn insert_to<T: Numbered>(
 }
 
 /// Inserts the items of the even numbers below 2 n, in their order, and answers how many there are then.
-pub fn filled<T: Numbered>(alloc: Global, tree: &mut SumTree<T>, n: u32) -> Result<u64, AllocError>
+pub fn filled<T: Numbered>(alloc: Global, tree: &mut SumTree<T>, n: u32) -> Result<u64, OutOfMemory>
     requires fits { (xs : List T) → T.Summary.fits (fold T.Summary.empty T.Summary.op T.sum_of xs) }
     requires ascending { Ascending T.Key.cmp T.key_of tree.old.items }
     ensures ascending { Ascending T.Key.cmp T.key_of tree.new.items }
@@ -221,7 +221,7 @@ pub fn inserted<T: Numbered>(
     tree: &mut SumTree<T>,
     bound: u64,
     n: u64,
-) -> Result<u64, AllocError>
+) -> Result<u64, OutOfMemory>
     requires fits { (xs : List T) → T.Summary.fits (fold T.Summary.empty T.Summary.op T.sum_of xs) }
     requires bound { 0 < bound }
     requires ascending { Ascending T.Key.cmp T.key_of tree.old.items }
@@ -245,7 +245,7 @@ pub fn removed<T: Numbered>(
     tree: &mut SumTree<T>,
     bound: u64,
     n: u64,
-) -> Result<u64, AllocError>
+) -> Result<u64, OutOfMemory>
     requires bound { 0 < bound }
     requires ascending { Ascending T.Key.cmp T.key_of tree.old.items }
     ensures ascending { Ascending T.Key.cmp T.key_of tree.new.items }

@@ -5,4 +5,4 @@ use Rattle.locators.proofs.runs_to.Goals as goal
 
 pub returns-in_err-front-clause-short : goal.returns-in_err-front-clause-short
 returns-in_err-front-clause-short c = λ l.
-    absurd (false≢true (c.in_err-front.ensures.short (inline-front (digits_with (kept_runs c.args.runs.now) c.args.place.count c.args.place.part) c.args.place.digit l)))
+    absurd (false≢true (c.in_err-front.ensures.short (inline-front (digits_with (kept_runs c.args.runs.now) c.args.point.count c.args.point.part) c.args.point.digit l)))

@@ -1,5 +1,5 @@
 use Rattle.std.proofs.Common.{◌≡◌, ◌∙◌, ◌++◌, sym, ap, subst, max, [], ◌∷◌, get_or, drop, ◌+◌, ℕ}
-use Rattle.lamport_clock.specs.Versions.{Entries, IsVersion, behind, joined}
+use Rattle.lamport_clock.specs.Versions.{Entries, IsVersion, behind, join_versions}
 use Rattle.lamport_clock.proofs.Joining.{joined_turn, version_drop, version_behind}
 use Rattle.lamport_clock.proofs.version.merged.Goals as goal
 
@@ -14,5 +14,5 @@ loop-replica-preserved c =
     let pushed = c.in_ok-push.ensures.ok ∙ ap (λ (z : Entries). z ++ (e.0, c.max.result) ∷ []) c.in_ok-extend_from_slice.ensures.ok in
     record {
       version = subst IsVersion (sym c.behind-rest.ensures) (version_behind 0 e.0 from (subst IsVersion (sym c.split_at.ensures.back) (version_drop 0 c.place_in.result c.loop-replica.rest.now i.version)));
-      same = i.same ∙ turn ∙ ap (λ z. z ++ joined (behind from e.0) w) (sym pushed) ∙ ap (λ z. c.push.new.self.items ++ joined z w) (sym c.behind-rest.ensures);
+      same = i.same ∙ turn ∙ ap (λ z. z ++ join_versions (behind from e.0) w) (sym pushed) ∙ ap (λ z. c.push.new.self.items ++ join_versions z w) (sym c.behind-rest.ensures);
     }

@@ -3,8 +3,8 @@ use Rattle.std.specs.Option.{option_copied}
 use Rattle.lamport_clock.specs.Versions.{Entries, IsVersion, within}
 use Rattle.op_model.specs.Operations.{version_of}
 use Rattle.op_model.specs.Histories.{version}
-use Rattle.op_model.specs.Answers.{entry_closed}
-use Rattle.op_model.proofs.Good.{lawful_ready}
+use Rattle.op_model.specs.Answers.{is_entry_closed}
+use Rattle.op_model.proofs.answers.Good.{lawful_ready}
 use Rattle.op_answers.proofs.Closing.{same_closed, told_closed}
 use Rattle.op_answers.proofs.found.open_among.Goals as goal
 
@@ -24,5 +24,5 @@ first_open-requires-clause-applied c = (lawful_ready c.args.applied.now c.requir
 pub first_open-requires-clause-latest : goal.first_open-requires-clause-latest
 first_open-requires-clause-latest c e t =
     let h = c.args.applied.now in
-    subst (λ (v : Entries). (ltb 0 e.1 && not (entry_closed h v e)) ≡ false) (sym c.version-theirs.ensures)
+    subst (λ (v : Entries). (ltb 0 e.1 && not (is_entry_closed h v e)) ≡ false) (sym c.version-theirs.ensures)
     (told_closed h (version_of c.args.op.now) (option_copied c.latest_of.result) c.requires.lawful c.latest_of.ensures e t)

@@ -1,15 +1,16 @@
+use Rattle.op_model.proofs.texts.WholeWalks.{texts_of as proper_texts}
+use Rattle.op_model.proofs.Elements.{each_append}
 use Rattle.std.proofs.Common.{◌++◌, ◌∷◌, [], List, length, sym, subst, ◌∙◌, refl}
+use Rattle.std.specs.List.{AllByRecursion}
 use Rattle.locators.specs.Locator.{least_digits}
 use Rattle.op_model.specs.declared.operation.Operation.TheVariants.{Edit}
-use Rattle.op_model.specs.Sorted.{Each}
 use Rattle.op_model.specs.Shown.{texts}
 use Rattle.op_model.specs.Domains.{IsProper}
 use Rattle.op_model.specs.Histories.{History}
 use Rattle.op_model.specs.Walked.{IsWhole}
-use Rattle.op_model.proofs.Restricted.{each_append}
-use Rattle.op_model.proofs.MoreLawful.{lawful_more}
-use Rattle.op_model.proofs.Utf8Runs.{Utf8}
-use Rattle.op_model.proofs.WholeTexts.{byte_of}
+use Rattle.op_model.proofs.histories.MoreLawful.{lawful_more}
+use Rattle.op_model.proofs.texts.Utf8Runs.{Utf8}
+use Rattle.op_model.proofs.texts.WholeTexts.{byte_of}
 use Rattle.undo_map.specs.declared.entry.UndoEntry.{UndoEntry}
 use Rattle.fragments.specs.declared.fragment.Fragment.{Fragment}
 use Rattle.fragments.specs.Stand.{runs, IsFilled, Tell, Rise, SeesUndos}
@@ -23,7 +24,7 @@ use Rattle.remote_edit.proofs.Undos.{walk_undos}
 use Rattle.remote_edit.proofs.Standing.{indexed_start, unseen_self, fit_start}
 use Rattle.remote_edit.proofs.EditTexts.{told_before, brings, shown_by_counts}
 use Rattle.remote_edit.proofs.Texts.{carried_texts, carried_characters}
-use Rattle.remote_edit.proofs.WholeFragments.{proper_texts, texts_are, whole_fragments, utf8_more, placed_utf8}
+use Rattle.remote_edit.proofs.WholeFragments.{texts_are, whole_fragments, utf8_more, placed_utf8}
 use Rattle.remote_edit.proofs.place.place_counted.Goals as goal
 
 pub walk_in-requires-clause-fit : goal.walk_in-requires-clause-fit
@@ -71,7 +72,7 @@ returns-clause-stands o c = λ h s l g.
       ascending = w.indexed.ascending;
       index = w.indexed.entries;
       counts = s.counts ∙ sym (entries_edit h (Edit e) refl);
-      undos = subst (Each (SeesUndos (h ++ Edit e ∷ []))) (sym w.walked) (walk_undos h (Edit e) u fs l g refl s.undos);
+      undos = subst (AllByRecursion (SeesUndos (h ++ Edit e ∷ []))) (sym w.walked) (walk_undos h (Edit e) u fs l g refl s.undos);
     }
 
 pub returns-clause-moves : goal.returns-clause-moves
@@ -98,9 +99,9 @@ returns-clause-characters o c = λ h s l p q g k.
     let tells : Tell gs next = subst (λ (v : List UndoEntry). Tell (walk v e.stamp e.version 0 0 e.pieces [] fs) next) (sym s.counts) (walk_tells h (Edit e) fs l g refl s.filled s.cells) in
     let old : Utf8 (byte_of next) (runs fs) = utf8_more h (Edit e) fs l (proper_texts h p) g s.cells k in
     let new : Utf8 (byte_of next) (runs gs) = placed_utf8 h (Edit e) u fs i s l g q.1 old in
-    let proper : Each IsProper next = each_append IsProper h (Edit e ∷ []) p (q, tt) in (
-      subst (λ (z : List Fragment). Each (IsWhole next) (runs z)) (sym w.walked)
-          (whole_fragments next (lawful_more h (Edit e) l g) (proper_texts next proper) gs (subst (Each IsFilled) w.walked w.fit.0) tells new),
+    let proper : AllByRecursion IsProper next = each_append IsProper h (Edit e ∷ []) p (q, tt) in (
+      subst (λ (z : List Fragment). AllByRecursion (IsWhole next) (runs z)) (sym w.walked)
+          (whole_fragments next (lawful_more h (Edit e) l g) (proper_texts next proper) gs (subst (AllByRecursion IsFilled) w.walked w.fit.0) tells new),
       carried_characters h (Edit e) (before_edit u e.stamp gs) gs c.in_ok-moves.moves l g (told_before h (Edit e) u fs i s l g)
           (subst (λ (z : List Fragment). CarryOn e.stamp [] [] (before_edit u e.stamp z) 0 c.in_ok-moves.moves z [] (length (texts e.pieces))) w.walked c.in_ok-moves.ensures)
           (texts_are (byte_of next) gs new),

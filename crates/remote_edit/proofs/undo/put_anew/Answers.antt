@@ -1,7 +1,7 @@
 use Rattle.std.proofs.Common.{◌≡◌, ◌∙◌, ◌+◌, sym, subst, arith, [], ◌∷◌}
 use Rattle.std.specs.Prelude.{OnOk}
 use Rattle.sum_tree.specs.Laws.{fold}
-use Rattle.sum_tree.specs.Spliced.{spliced}
+use Rattle.sum_tree.specs.Spliced.{splice_list}
 use Rattle.fragments.specs.declared.fragment.Fragment.{Fragment}
 use Rattle.fragments.specs.Summaries.{no_fragments, summaries, summary_of, SummaryFits}
 use Rattle.remote_edit.proofs.Anew.{concerned, unconcerned}
@@ -15,8 +15,8 @@ pub replace-requires-clause-within : goal.replace-requires-clause-within
 replace-requires-clause-within c = let l = some_within c.args.fragments.now.items c.args.i c.args.fragment.now c.requires.stands in omega (arith, l)
 
 pub replace-requires-clause-fits : goal.replace-requires-clause-fits
-replace-requires-clause-fits c = subst (λ (f : Fragment). SummaryFits (fold no_fragments summaries summary_of (spliced c.args.i (c.args.i + 1) (f ∷ []) c.args.fragments.now.items))) (concerned c.args.undos.now c.args.by c.args.edits.now c.args.fragment.now (sym c.is_concerned.ensures ∙ c.if-not-is_concerned.false) ∙ sym c.in_ok-one.ensures) c.requires.fits
+replace-requires-clause-fits c = subst (λ (f : Fragment). SummaryFits (fold no_fragments summaries summary_of (splice_list c.args.i (c.args.i + 1) (f ∷ []) c.args.fragments.now.items))) (concerned c.args.undos.now c.args.by c.args.edits.now c.args.fragment.now (sym c.is_concerned.ensures ∙ c.if-not-is_concerned.false) ∙ sym c.in_ok-one.ensures) c.requires.fits
 
 pub returns : goal.returns
-returns c = subst (λ (f : Fragment). OnOk c.replace.result (c.replace.new.fragments.items ≡ spliced c.args.i (c.args.i + 1) (f ∷ []) c.args.fragments.now.items))
+returns c = subst (λ (f : Fragment). OnOk c.replace.result (c.replace.new.fragments.items ≡ splice_list c.args.i (c.args.i + 1) (f ∷ []) c.args.fragments.now.items))
     (c.in_ok-one.ensures ∙ sym (concerned c.args.undos.now c.args.by c.args.edits.now c.args.fragment.now (sym c.is_concerned.ensures ∙ c.if-not-is_concerned.false))) c.replace.ensures

@@ -1,6 +1,6 @@
 use Rattle.std.proofs.Common.{◌≡◌, ◌+◌, ◌-◌, ◌<◌, length, take, ap, arith, length-append}
 use Rattle.std.specs.List.{concat}
-use Rattle.sum_tree.specs.Shape.{joined}
+use Rattle.sum_tree.specs.Shape.{join_items}
 use Rattle.sum_tree.proofs.Children.{step_len, joined-take_le}
 use Rattle.rope_chunks.proofs.Spots.{fold_len, read_any, child_step, last_child}
 use Rattle.rope_chunks.proofs.spot.child_at.Goals as goal
@@ -25,7 +25,7 @@ loop-k-preserved c =
     let here : k < length ts = omega (arith, c.loop-k-test.true) in
     record {
       count = step_len ts k c.index-children-k-in-loop-k.result c.loop-k.count c.len-count.result here c.index-children-k-in-loop-k.is c.loop-k.invariant.count c.len-count.ensures;
-      before = omega (arith, c.if-rest-bytes.false, c.loop-k.invariant.before, fold_len t.items c.summary.result.now c.summary.ensures, ap length (child_step ts k t here c.index-children-k.is), length-append (concat (joined (take k ts))) (concat t.items));
+      before = omega (arith, c.if-rest-bytes.false, c.loop-k.invariant.before, fold_len t.items c.summary.result.now c.summary.ensures, ap length (child_step ts k t here c.index-children-k.is), length-append (concat (join_items (take k ts))) (concat t.items));
     }
 
 pub returns-clause-within : goal.returns-clause-within

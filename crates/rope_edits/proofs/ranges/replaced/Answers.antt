@@ -1,7 +1,7 @@
 use Rattle.std.proofs.Common.{List, ◌++◌, ◌∙◌, length, take, drop, ap, sym, subst, arith}
 use Rattle.std.specs.Str.{IsUtf8}
 use Rattle.op_model.specs.declared.operation.Piece.{Piece}
-use Rattle.op_model.specs.Edits.{replaced}
+use Rattle.op_model.specs.Edits.{replace_ranges}
 use Rattle.rope_edits.specs.Fit.{AreUtf8}
 use Rattle.rope_edits.proofs.Ropes.{at_turn}
 use Rattle.rope_edits.proofs.ranges.replaced.Goals as goal
@@ -31,6 +31,6 @@ loop-i-preserved c =
           c.in_ok-replace.ensures.ok
           ∙ ap (λ z. (take c.index-changes-i.result.start c.loop-i.new ++ z) ++ drop c.index-changes-i.result.end c.loop-i.new) c.as_str.ensures
           ∙ sym t.next.text
-          ∙ sym (ap (λ (ps : List Piece). replaced ps c.args.rope.now) t.split);
+          ∙ sym (ap (λ (ps : List Piece). replace_ranges ps c.args.rope.now) t.split);
       utf8 = subst (λ (ps : List Piece). AreUtf8 ps) (sym t.split) (subst IsUtf8 c.as_str.ensures c.as_str.utf8, c.loop-i.invariant.utf8);
     }

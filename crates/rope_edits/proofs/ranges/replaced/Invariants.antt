@@ -1,10 +1,10 @@
 use Rattle.std.proofs.Common.{◌≡◌, drop}
-use Rattle.op_model.specs.Edits.{replaced}
+use Rattle.op_model.specs.Edits.{replace_ranges}
 use Rattle.rope_edits.specs.Fit.{AreUtf8}
 use Rattle.rope_edits.proofs.ranges.replaced.Given as goal
 
 abbrev pub invariant-loop-i : goal.invariant-loop-i
 invariant-loop-i l = record {
-  text : l.new ≡ replaced (drop l.i l.changes) l.rope;
+  text : l.new ≡ replace_ranges (drop l.i l.changes) l.rope;
   utf8 : AreUtf8 (drop l.i l.changes);
 }

@@ -1,5 +1,6 @@
+use Rattle.session_lines.proofs.Cut.{behind as rest_of}
 use Rattle.std.proofs.Common.{arith, ap, length}
-use Rattle.session_replay.proofs.Moved.{more_written, rest_of}
+use Rattle.session_replay.proofs.Moved.{more_written}
 use Rattle.std.proofs.Common.{length-drop}
 use Rattle.session_replay.proofs.traffic.write_all.Goals as goal
 

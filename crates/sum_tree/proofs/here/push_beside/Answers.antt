@@ -1,6 +1,6 @@
 use Rattle.std.proofs.Common.{◌≡◌, ◌-◌, ◌<◌, ◌++◌, [], ◌∷◌, length, take, List, subst, arith}
 use Rattle.sum_tree.specs.Laws.{fold}
-use Rattle.sum_tree.specs.Shape.{joined, IsChild}
+use Rattle.sum_tree.specs.Shape.{join_items, IsChild}
 use Rattle.sum_tree.proofs.Opened.{last_is_child}
 use Rattle.sum_tree.proofs.Folds.{fits_right}
 use Rattle.sum_tree.proofs.Pairs.{last_whole, pushed_beside}
@@ -13,8 +13,8 @@ followed-requires-clause-fits g c =
     let t = c.index.result.now in
     let ys = c.in_ok-other.other.items in
     let len : n ≡ length ts = omega (arith, c.len-last.ensures, c.args.children.now.ok) in
-    let whole : joined ts ++ c.args.entry ∷ [] ≡ joined (take (n - 1) ts) ++ (t.items ++ ys) = last_whole ts n t c.args.entry ys len c.requires.least c.index.ensures c.in_ok-other.ensures.items in
-    fits_right g.met.T.Summary.Summary.laws g.T.Item.sum_of g.met.T.Item.admitted (joined (take (n - 1) ts)) (t.items ++ ys) (subst (λ (zs : List _). g.T.Summary.Summary.fits (fold g.T.Summary.Summary.empty g.T.Summary.Summary.op g.T.Item.sum_of zs)) whole c.requires.fits)
+    let whole : join_items ts ++ c.args.entry ∷ [] ≡ join_items (take (n - 1) ts) ++ (t.items ++ ys) = last_whole ts n t c.args.entry ys len c.requires.least c.index.ensures c.in_ok-other.ensures.items in
+    fits_right g.met.T.Summary.Summary.laws g.T.Item.sum_of g.met.T.Item.admitted (join_items (take (n - 1) ts)) (t.items ++ ys) (subst (λ (zs : List _). g.T.Summary.Summary.fits (fold g.T.Summary.Summary.empty g.T.Summary.Summary.op g.T.Item.sum_of zs)) whole c.requires.fits)
 
 pub returns-clause-pushed : goal.returns-clause-pushed
 returns-clause-pushed g c =

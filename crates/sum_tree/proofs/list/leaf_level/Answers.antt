@@ -1,7 +1,7 @@
 use Rattle.std.proofs.Common.{length, ap, arith, [], ◌∷◌, length-append}
 use Rattle.std.specs.Vec.Iter.{into_iter_items}
-use Rattle.sum_tree.specs.Shape.{IsChild, joined}
-use Rattle.sum_tree.specs.Groups.{chained, IsGroup}
+use Rattle.sum_tree.specs.Shape.{IsChild, join_items}
+use Rattle.sum_tree.specs.Groups.{elements, IsGroup}
 use Rattle.sum_tree.proofs.Runs.{fits_middle, first_of, rest_of, All_push, next_level, leaf_child}
 use Rattle.sum_tree.proofs.list.leaf_level.Goals as goal
 
@@ -9,7 +9,7 @@ pub leaf-requires-clause-fits : goal.leaf-requires-clause-fits
 leaf-requires-clause-fits g c =
     let left = into_iter_items c.loop-group.group-iterator in
     let rest = into_iter_items c.next.new.self in
-    fits_middle g.met.T.Summary.Summary.laws g.T.Item.sum_of g.met.T.Item.admitted (joined c.loop-group.nodes.items) (chained left) c.in-Some.group.items (chained rest) (chained c.args.groups.items) c.loop-group.invariant.2 (ap chained c.in-Some.ensures.steps.0) c.requires.fits
+    fits_middle g.met.T.Summary.Summary.laws g.T.Item.sum_of g.met.T.Item.admitted (join_items c.loop-group.nodes.items) (elements left) c.in-Some.group.items (elements rest) (elements c.args.groups.items) c.loop-group.invariant.2 (ap elements c.in-Some.ensures.steps.0) c.requires.fits
 
 pub loop-group-preserved : goal.loop-group-preserved
 loop-group-preserved g c =
@@ -19,7 +19,7 @@ loop-group-preserved g c =
     let child : IsChild 1 c.in_ok-leaf.field-0 = leaf_child c.in_ok-leaf.field-0 c.in-Some.group c.in_ok-leaf.ensures.items c.in_ok-leaf.ensures.height c.in_ok-leaf.ensures.width size in (
       tt,
       tt,
-      next_level c.loop-group.nodes.items c.push.new.self.items c.in_ok-leaf.field-0 (chained left) c.in-Some.group.items (chained rest) (chained c.args.groups.items) c.in_ok-push.ensures.items c.in_ok-leaf.ensures.items (ap chained c.in-Some.ensures.steps.0) c.loop-group.invariant.2,
+      next_level c.loop-group.nodes.items c.push.new.self.items c.in_ok-leaf.field-0 (elements left) c.in-Some.group.items (elements rest) (elements c.args.groups.items) c.in_ok-push.ensures.items c.in_ok-leaf.ensures.items (ap elements c.in-Some.ensures.steps.0) c.loop-group.invariant.2,
       rest_of IsGroup left c.in-Some.group rest c.in-Some.ensures.steps.0 c.loop-group.invariant.3,
       All_push (IsChild 1) c.loop-group.nodes.items c.in_ok-leaf.field-0 c.push.new.self.items c.in_ok-push.ensures.items c.loop-group.invariant.4 child,
       omega (arith, ap length c.in_ok-push.ensures.items, length-append c.loop-group.nodes.items (c.in_ok-leaf.field-0 ∷ []), ap length c.in-Some.ensures.steps.0, c.loop-group.invariant.5),

@@ -1,15 +1,15 @@
 use Rattle.std.proofs.Common.{◌≡◌, ◌+◌, ◌≤◌, ◌++◌, length}
 use Rattle.std.specs.List.{All}
 use Rattle.std.specs.Vec.Iter.{into_iter_items}
-use Rattle.sum_tree.specs.Shape.{IsChild, joined}
-use Rattle.sum_tree.specs.Groups.{chained, IsGroup}
+use Rattle.sum_tree.specs.Shape.{IsChild, join_items}
+use Rattle.sum_tree.specs.Groups.{elements, IsGroup}
 use Rattle.sum_tree.proofs.list.leaf_level.Given as goal
 
 abbrev pub invariant-loop-group : goal.invariant-loop-group
 invariant-loop-group g l =
     (goal.iterator-loop-group g).can_next l.group-iterator ×
     (goal.iterator-loop-group g).is_finite l.group-iterator ×
-    (joined l.nodes.items ++ chained (into_iter_items l.group-iterator) ≡ chained l.fn.groups.items) ×
+    (join_items l.nodes.items ++ elements (into_iter_items l.group-iterator) ≡ elements l.fn.groups.items) ×
     All IsGroup (into_iter_items l.group-iterator) ×
     All (IsChild 1) l.nodes.items ×
     (length l.nodes.items + length (into_iter_items l.group-iterator) ≡ length l.fn.groups.items) ×

@@ -1,5 +1,5 @@
 use Rattle.std.proofs.Common.{◌≡◌, ◌+◌, ◌-◌, ◌++◌, take, drop, length, List, None, IfOk, sym, subst, refl, arith}
-use Rattle.sum_tree.specs.Shape.{joined, IsChild}
+use Rattle.sum_tree.specs.Shape.{join_items, IsChild}
 use Rattle.sum_tree.specs.Seen.{Seen}
 use Rattle.sum_tree.specs.Grown.{with_pair, with_run}
 use Rattle.sum_tree.specs.Spliced.{IsSpliced}
@@ -14,8 +14,8 @@ beside-requires-clause-fits g c =
     let k = c.args.k in
     let t = c.index-nodes-k.result in
     let m = t.items ++ c.args.child.items in
-    let r = joined (drop (k + 1) ts) in
-    fits_middle g.met.T.Summary.Summary.laws g.T.Item.sum_of g.met.T.Item.admitted (joined (take (k - 1) ts)) (m ++ r) m r (joined (with_pair ts k c.args.child None)) (sym (beside_left ts k t c.args.child None c.requires.past c.requires.within c.index-nodes-k.is refl)) refl c.requires.fits
+    let r = join_items (drop (k + 1) ts) in
+    fits_middle g.met.T.Summary.Summary.laws g.T.Item.sum_of g.met.T.Item.admitted (join_items (take (k - 1) ts)) (m ++ r) m r (join_items (with_pair ts k c.args.child None)) (sym (beside_left ts k t c.args.child None c.requires.past c.requires.within c.index-nodes-k.is refl)) refl c.requires.fits
 
 pub with_children-requires-clause-pair : goal.with_children-requires-clause-pair
 with_children-requires-clause-pair g c =
@@ -30,7 +30,7 @@ with_children-requires-clause-short g c =
     let ts = c.args.nodes.now in
     let k = c.args.k in
     let t = c.index-nodes-k.result in
-    let same : joined (with_run ts (k - 1) (k + 1) c.in_ok-front.front c.in_ok-front.back) ≡ joined (with_pair ts k c.args.child None) = joined_left ts k t.height (t.width + c.args.child.width) t c.args.child c.in_ok-front.front None c.in_ok-front.back c.requires.past c.requires.within c.index-nodes-k.is refl c.in_ok-front.ensures.split in
+    let same : join_items (with_run ts (k - 1) (k + 1) c.in_ok-front.front c.in_ok-front.back) ≡ join_items (with_pair ts k c.args.child None) = joined_left ts k t.height (t.width + c.args.child.width) t c.args.child c.in_ok-front.front None c.in_ok-front.back c.requires.past c.requires.within c.index-nodes-k.is refl c.in_ok-front.ensures.split in
     rw same c.requires.short
 
 pub with_children-requires-clause-fits : goal.with_children-requires-clause-fits
@@ -38,7 +38,7 @@ with_children-requires-clause-fits g c =
     let ts = c.args.nodes.now in
     let k = c.args.k in
     let t = c.index-nodes-k.result in
-    let same : joined (with_run ts (k - 1) (k + 1) c.in_ok-front.front c.in_ok-front.back) ≡ joined (with_pair ts k c.args.child None) = joined_left ts k t.height (t.width + c.args.child.width) t c.args.child c.in_ok-front.front None c.in_ok-front.back c.requires.past c.requires.within c.index-nodes-k.is refl c.in_ok-front.ensures.split in
+    let same : join_items (with_run ts (k - 1) (k + 1) c.in_ok-front.front c.in_ok-front.back) ≡ join_items (with_pair ts k c.args.child None) = joined_left ts k t.height (t.width + c.args.child.width) t c.args.child c.in_ok-front.front None c.in_ok-front.back c.requires.past c.requires.within c.index-nodes-k.is refl c.in_ok-front.ensures.split in
     rw same c.requires.fits
 
 pub returns-clause-spliced : goal.returns-clause-spliced
@@ -46,5 +46,5 @@ returns-clause-spliced g c =
     let ts = c.args.nodes.now in
     let k = c.args.k in
     let t = c.index-nodes-k.result in
-    let same : joined (with_run ts (k - 1) (k + 1) c.in_ok-front.front c.in_ok-front.back) ≡ joined (with_pair ts k c.args.child None) = joined_left ts k t.height (t.width + c.args.child.width) t c.args.child c.in_ok-front.front None c.in_ok-front.back c.requires.past c.requires.within c.index-nodes-k.is refl c.in_ok-front.ensures.split in
+    let same : join_items (with_run ts (k - 1) (k + 1) c.in_ok-front.front c.in_ok-front.back) ≡ join_items (with_pair ts k c.args.child None) = joined_left ts k t.height (t.width + c.args.child.width) t c.args.child c.in_ok-front.front None c.in_ok-front.back c.requires.past c.requires.within c.index-nodes-k.is refl c.in_ok-front.ensures.split in
     subst (λ (zs : List _). IfOk c.with_children.result (λ p. IsSpliced c.args.height (length ts) zs p.0 p.1)) same c.with_children.ensures.spliced

@@ -1,6 +1,6 @@
 use Rattle.std.proofs.Common.{◌≡◌, ◌+◌, ◌++◌, drop, length, List, None, IfOk, sym, subst, refl, arith}
 use Rattle.sum_tree.specs.Laws.{fold}
-use Rattle.sum_tree.specs.Shape.{joined, IsChild}
+use Rattle.sum_tree.specs.Shape.{join_items, IsChild}
 use Rattle.sum_tree.specs.Seen.{Seen}
 use Rattle.sum_tree.specs.Grown.{with_pair, with_run}
 use Rattle.sum_tree.specs.Spliced.{IsSpliced}
@@ -14,7 +14,7 @@ beside-requires-clause-fits g c =
     let ts = c.args.nodes.now in
     let t = c.index-nodes-1.result in
     let m = c.args.child.items ++ t.items in
-    fits_left g.met.T.Summary.Summary.laws g.T.Item.sum_of g.met.T.Item.admitted m (joined (drop 2 ts)) (subst (λ (zs : List _). g.T.Summary.Summary.fits (fold g.T.Summary.Summary.empty g.T.Summary.Summary.op g.T.Item.sum_of zs)) (beside_right ts 0 t c.args.child None refl c.requires.least c.index-nodes-1.is refl) c.requires.fits)
+    fits_left g.met.T.Summary.Summary.laws g.T.Item.sum_of g.met.T.Item.admitted m (join_items (drop 2 ts)) (subst (λ (zs : List _). g.T.Summary.Summary.fits (fold g.T.Summary.Summary.empty g.T.Summary.Summary.op g.T.Item.sum_of zs)) (beside_right ts 0 t c.args.child None refl c.requires.least c.index-nodes-1.is refl) c.requires.fits)
 
 pub with_children-requires-clause-pair : goal.with_children-requires-clause-pair
 with_children-requires-clause-pair g c =
@@ -27,19 +27,19 @@ pub with_children-requires-clause-short : goal.with_children-requires-clause-sho
 with_children-requires-clause-short g c =
     let ts = c.args.nodes.now in
     let t = c.index-nodes-1.result in
-    let same : joined (with_run ts 0 2 c.in_ok-front.front c.in_ok-front.back) ≡ joined (with_pair ts 0 c.args.child None) = joined_right ts 0 c.args.child.height (c.args.child.width + t.width) t c.args.child c.in_ok-front.front None c.in_ok-front.back refl c.requires.least c.index-nodes-1.is refl c.in_ok-front.ensures.split in
+    let same : join_items (with_run ts 0 2 c.in_ok-front.front c.in_ok-front.back) ≡ join_items (with_pair ts 0 c.args.child None) = joined_right ts 0 c.args.child.height (c.args.child.width + t.width) t c.args.child c.in_ok-front.front None c.in_ok-front.back refl c.requires.least c.index-nodes-1.is refl c.in_ok-front.ensures.split in
     rw same c.requires.short
 
 pub with_children-requires-clause-fits : goal.with_children-requires-clause-fits
 with_children-requires-clause-fits g c =
     let ts = c.args.nodes.now in
     let t = c.index-nodes-1.result in
-    let same : joined (with_run ts 0 2 c.in_ok-front.front c.in_ok-front.back) ≡ joined (with_pair ts 0 c.args.child None) = joined_right ts 0 c.args.child.height (c.args.child.width + t.width) t c.args.child c.in_ok-front.front None c.in_ok-front.back refl c.requires.least c.index-nodes-1.is refl c.in_ok-front.ensures.split in
+    let same : join_items (with_run ts 0 2 c.in_ok-front.front c.in_ok-front.back) ≡ join_items (with_pair ts 0 c.args.child None) = joined_right ts 0 c.args.child.height (c.args.child.width + t.width) t c.args.child c.in_ok-front.front None c.in_ok-front.back refl c.requires.least c.index-nodes-1.is refl c.in_ok-front.ensures.split in
     rw same c.requires.fits
 
 pub returns-clause-spliced : goal.returns-clause-spliced
 returns-clause-spliced g c =
     let ts = c.args.nodes.now in
     let t = c.index-nodes-1.result in
-    let same : joined (with_run ts 0 2 c.in_ok-front.front c.in_ok-front.back) ≡ joined (with_pair ts 0 c.args.child None) = joined_right ts 0 c.args.child.height (c.args.child.width + t.width) t c.args.child c.in_ok-front.front None c.in_ok-front.back refl c.requires.least c.index-nodes-1.is refl c.in_ok-front.ensures.split in
+    let same : join_items (with_run ts 0 2 c.in_ok-front.front c.in_ok-front.back) ≡ join_items (with_pair ts 0 c.args.child None) = joined_right ts 0 c.args.child.height (c.args.child.width + t.width) t c.args.child c.in_ok-front.front None c.in_ok-front.back refl c.requires.least c.index-nodes-1.is refl c.in_ok-front.ensures.split in
     subst (λ (zs : List _). IfOk c.with_children.result (λ p. IsSpliced c.args.height (length ts) zs p.0 p.1)) same c.with_children.ensures.spliced

@@ -1,13 +1,13 @@
 use Rattle.std.proofs.Common.{◌+◌, ◌^◌, ◌≤◌, ap, sym, subst, length, arith}
 use Rattle.sum_tree.specs.Seen.{Seen}
-use Rattle.sum_tree.specs.Shape.{joined}
+use Rattle.sum_tree.specs.Shape.{join_items}
 use Rattle.sum_tree.proofs.Children.{step_len, many_enough, joined-take_le}
 use Rattle.sum_tree.proofs.Heights.{of_ok}
 use Rattle.sum_tree.proofs.tree.inner.Goals as goal
 
 pub overflow_add-len : goal.overflow_add-len
 overflow_add-len g c =
-    omega (arith, step_len c.deref-child-items.result.now c.loop-child.child-index c.child-item.result c.loop-child.len c.len-len.result c.loop-child-test.true c.child-item.is c.loop-child.invariant c.len-len.ensures, joined-take_le c.deref-child-items.result.now (c.loop-child.child-index + 1), ap (λ ts. length (joined ts)) c.deref-child-items.ensures.value, c.requires.short)
+    omega (arith, step_len c.deref-child-items.result.now c.loop-child.child-index c.child-item.result c.loop-child.len c.len-len.result c.loop-child-test.true c.child-item.is c.loop-child.invariant c.len-len.ensures, joined-take_le c.deref-child-items.result.now (c.loop-child.child-index + 1), ap (λ ts. length (join_items ts)) c.deref-child-items.ensures.value, c.requires.short)
 
 pub loop-child-preserved : goal.loop-child-preserved
 loop-child-preserved g c =

@@ -1,5 +1,5 @@
 use Rattle.std.proofs.Common.{refl, subst, sym}
-use Rattle.applied_ops.specs.Placed.{ArePlaced}
+use Rattle.applied_ops.specs.Placed.{AreEntriesOf}
 use Rattle.applied_ops.proofs.list.AppliedList.share.Goals as goal
 
 pub same-result : goal.same-result
@@ -7,4 +7,4 @@ same-result c = refl
 
 pub invariant_of-result : goal.invariant_of-result
 invariant_of-result c =
-    subst (λ t. ArePlaced t.items c.in_ok-share.field-0.items) (sym c.in_ok-share-2.ensures) (subst (λ t. ArePlaced c.self.inside.places.items t.items) (sym c.in_ok-share.ensures) c.self.invariant)
+    subst (λ t. AreEntriesOf t.items c.in_ok-share.field-0.items) (sym c.in_ok-share-2.ensures) (subst (λ t. AreEntriesOf c.self.inside.entries.items t.items) (sym c.in_ok-share.ensures) c.self.invariant)

@@ -1,229 +1,93 @@
-use Rattle.std.proofs.Common.{rules, ◌≡◌, ◌+◌, ◌-◌, ◌*◌, ◌^◌, ◌<◌, ◌≤◌, [], ◌∷◌, ◌++◌, List, Option, IfOk, length, take, set, refl, All, ap, sym, subst, ◌∙◌, arith, length-append}
+use Rattle.std.proofs.Common.{rules, ◌≡◌, ◌+◌, ◌-◌, ◌*◌, ◌^◌, ◌<◌, [], ◌∷◌, ◌++◌, List, Option, IfOk, length, set, refl, ap, sym, subst, ◌∙◌, arith, length-append}
 use Rattle.std.specs.Prelude.{IfSome}
-use Rattle.std.proofs.lemmas.List.{length-set}
-use Rattle.std.proofs.lemmas.List.Elements.{All-set}
 use Rattle.sum_tree.specs.Laws.{fold}
 use Rattle.sum_tree.specs.Seen.{Seen}
-use Rattle.sum_tree.specs.Shape.{IsChild, IsContent, IsNode, joined, content_items}
+use Rattle.sum_tree.specs.Shape.{IsContent, IsNode, join_items, content_items}
 use Rattle.sum_tree.specs.Placed.{AreChildren, inner_seen}
 use Rattle.sum_tree.specs.declared.tree.Content.{Content}
 use Rattle.sum_tree.specs.declared.tree.Node.{Node}
-use Rattle.sum_tree.proofs.Folds.{fits_right}
-use Rattle.sum_tree.proofs.Opened.{last_is_child}
-use Rattle.sum_tree.proofs.Heres.{start_sum, start_fits, next_fits, set_same, pushed_none, pushed_some, grown_child, joined-set_last}
-use Rattle.sum_tree.proofs.Pairs.{last_whole}
+use Rattle.sum_tree.proofs.Heres.{start_sum, start_fits, next_fits}
+use Rattle.sum_tree.proofs.Nodes.{node_height, inner_of}
+use Rattle.sum_tree.proofs.Ends.{last_of, last_length, last_same, last_children, last_behind, last_growth, last_fits}
 use Rattle.sum_tree.proofs.Pushes.{beside_children, beside_pushed, pushed_node}
 use Rattle.sum_tree.proofs.tree.SumTree.+pushing.Goals as goal
 
 pub push_in_children-push_here-requires : goal.push_in_children-push_here-requires
 push_in_children-push_here-requires g t' c κs within =
-    let h = c.args.height in
-    let x = c.args.entry in
-    let ts = c.args.children.now.items in
-    let n = c.len-last.result in
-    let t = c.index_mut.result.now in
-    let read = c.index_mut.ensures.value in
-    let len : n ≡ length ts = omega (arith, c.len-last.ensures, c.args.children.now.ok) in
-    let some : 1 ≤ n = omega (arith, len, c.requires.children.1) in
-    let child : IsChild h t = last_is_child h ts n t c.requires.children.0 len some read in
-    let fewer : 3 * t.height + 2 < 3 * h = omega (arith, child.lower) in
-    let ends : joined ts ++ x ∷ [] ≡ joined (take (n - 1) ts) ++ (t.items ++ x ∷ []) = last_whole ts n t x (x ∷ []) len c.requires.children.1 read refl in
-    let short : length t.items < 2 ^ 40 = omega (arith, ap length ends, length-append (joined ts) (x ∷ []), length-append (joined (take (n - 1) ts)) (t.items ++ x ∷ []), length-append t.items (x ∷ []), c.requires.short) in
-    let fits = fits_right g.met.T.Summary.Summary.laws g.T.Item.sum_of g.met.T.Item.admitted (joined (take (n - 1) ts)) (t.items ++ x ∷ []) (subst (λ (zs : List _). g.T.Summary.Summary.fits (fold g.T.Summary.Summary.empty g.T.Summary.Summary.op g.T.Item.sum_of zs)) ends c.requires.fits) in
+    let last = last_of (inner_of c.args.height c.args.children.now.items c.requires.children) (c.len-last.ensures ∙ c.args.children.now.ok.0) c.index_mut.ensures.value in
+    let fewer : 3 * c.index_mut.result.now.height + 2 < 3 * c.args.height = omega (arith, last.child.lower) in
+    let short : length c.index_mut.result.now.items < 2 ^ 40 = omega (arith, last_length last, c.requires.short) in
+    let fits = last_fits g.met.T.Summary.Summary.laws g.T.Item.sum_of g.met.T.Item.admitted (c.args.entry ∷ []) last c.requires.fits in
     search rules
 
 pub push_in_children-returns-in_err-entry-clause-children : goal.push_in_children-returns-in_err-entry-clause-children
 push_in_children-returns-in_err-entry-clause-children g t' c =
-    let h = c.args.height in
-    let x = c.args.entry in
-    let ts = c.args.children.now.items in
-    let n = c.len-last.result in
-    let t = c.index_mut.result.now in
-    let read = c.index_mut.ensures.value in
-    let len : n ≡ length ts = omega (arith, c.len-last.ensures, c.args.children.now.ok) in
-    let some : 1 ≤ n = omega (arith, len, c.requires.children.1) in
-    let child : IsChild h t = last_is_child h ts n t c.requires.children.0 len some read in
-    let u = c.push_here.new.self in
-    let same : set ts (n - 1) u ≡ ts = set_same ts n t u read c.in_err-entry.ensures.pushed in
-    subst (λ (zs : List (Seen _)). AreChildren h zs) (sym same) c.requires.children
+    let last = last_of (inner_of c.args.height c.args.children.now.items c.requires.children) (c.len-last.ensures ∙ c.args.children.now.ok.0) c.index_mut.ensures.value in
+    last_children last c.in_err-entry.ensures.pushed
 
 pub push_in_children-returns-in_err-entry-clause-pushed : goal.push_in_children-returns-in_err-entry-clause-pushed
 push_in_children-returns-in_err-entry-clause-pushed g t' c =
-    let h = c.args.height in
-    let x = c.args.entry in
-    let ts = c.args.children.now.items in
-    let n = c.len-last.result in
-    let t = c.index_mut.result.now in
-    let read = c.index_mut.ensures.value in
-    let len : n ≡ length ts = omega (arith, c.len-last.ensures, c.args.children.now.ok) in
-    let some : 1 ≤ n = omega (arith, len, c.requires.children.1) in
-    let child : IsChild h t = last_is_child h ts n t c.requires.children.0 len some read in
-    let u = c.push_here.new.self in
-    let same : set ts (n - 1) u ≡ ts = set_same ts n t u read c.in_err-entry.ensures.pushed in
-    let kept : inner_seen h (set ts (n - 1) u) ≡ inner_seen h ts = ap (inner_seen h) same in
+    let last = last_of (inner_of c.args.height c.args.children.now.items c.requires.children) (c.len-last.ensures ∙ c.args.children.now.ok.0) c.index_mut.ensures.value in
+    let kept = ap (inner_seen c.args.height) (last_same last c.in_err-entry.ensures.pushed) in
     search rules
 
 pub push_in_children-returns-in_err-entry-clause-cost : goal.push_in_children-returns-in_err-entry-clause-cost
 push_in_children-returns-in_err-entry-clause-cost g t' c =
-    let h = c.args.height in
-    let x = c.args.entry in
-    let ts = c.args.children.now.items in
-    let n = c.len-last.result in
-    let t = c.index_mut.result.now in
-    let read = c.index_mut.ensures.value in
-    let len : n ≡ length ts = omega (arith, c.len-last.ensures, c.args.children.now.ok) in
-    let some : 1 ≤ n = omega (arith, len, c.requires.children.1) in
-    let child : IsChild h t = last_is_child h ts n t c.requires.children.0 len some read in
-    omega (arith, child.lower, c.push_here.ensures.cost)
+    let last = last_of (inner_of c.args.height c.args.children.now.items c.requires.children) (c.len-last.ensures ∙ c.args.children.now.ok.0) c.index_mut.ensures.value in
+    omega (arith, last.child.lower, c.push_here.ensures.cost)
 
 pub push_in_children-returns-in-None-clause-children : goal.push_in_children-returns-in-None-clause-children
 push_in_children-returns-in-None-clause-children g t' c =
-    let h = c.args.height in
-    let x = c.args.entry in
-    let ts = c.args.children.now.items in
-    let n = c.len-last.result in
-    let t = c.index_mut.result.now in
-    let read = c.index_mut.ensures.value in
-    let len : n ≡ length ts = omega (arith, c.len-last.ensures, c.args.children.now.ok) in
-    let some : 1 ≤ n = omega (arith, len, c.requires.children.1) in
-    let child : IsChild h t = last_is_child h ts n t c.requires.children.0 len some read in
-    let u = c.push_here.new.self in
-    let p = pushed_none t u x _ c.in-None.is c.in_ok-entry.ensures.pushed in
-    let count : length (set ts (n - 1) u) ≡ length ts = length-set ts (n - 1) u in
-    (All-set (IsChild h) ts (n - 1) u (grown_child h t u x child p.0 p.1 p.2 p.3) c.requires.children.0, omega (arith, count, c.requires.children.1), omega (arith, count, c.requires.children.2))
+    let last = last_of (inner_of c.args.height c.args.children.now.items c.requires.children) (c.len-last.ensures ∙ c.args.children.now.ok.0) c.index_mut.ensures.value in
+    let grown = last_growth c.push_here.new.self c.args.entry last (rw c.in-None.is at c.in_ok-entry.ensures.pushed) in
+    grown.0
 
 pub push_in_children-returns-in-None-clause-pushed : goal.push_in_children-returns-in-None-clause-pushed
 push_in_children-returns-in-None-clause-pushed g t' c =
-    let h = c.args.height in
-    let x = c.args.entry in
-    let ts = c.args.children.now.items in
-    let n = c.len-last.result in
-    let t = c.index_mut.result.now in
-    let read = c.index_mut.ensures.value in
-    let len : n ≡ length ts = omega (arith, c.len-last.ensures, c.args.children.now.ok) in
-    let some : 1 ≤ n = omega (arith, len, c.requires.children.1) in
-    let child : IsChild h t = last_is_child h ts n t c.requires.children.0 len some read in
-    let u = c.push_here.new.self in
-    let p = pushed_none t u x _ c.in-None.is c.in_ok-entry.ensures.pushed in
-    let count : length (set ts (n - 1) u) ≡ length ts = length-set ts (n - 1) u in
-    (joined-set_last ts n t u x len some read p.0, refl, omega (arith, count), omega (arith, count, c.requires.children.2))
+    let last = last_of (inner_of c.args.height c.args.children.now.items c.requires.children) (c.len-last.ensures ∙ c.args.children.now.ok.0) c.index_mut.ensures.value in
+    let grown = last_growth c.push_here.new.self c.args.entry last (rw c.in-None.is at c.in_ok-entry.ensures.pushed) in
+    grown.1
 
 pub push_in_children-returns-in-None-clause-cost : goal.push_in_children-returns-in-None-clause-cost
 push_in_children-returns-in-None-clause-cost g t' c =
-    let h = c.args.height in
-    let x = c.args.entry in
-    let ts = c.args.children.now.items in
-    let n = c.len-last.result in
-    let t = c.index_mut.result.now in
-    let read = c.index_mut.ensures.value in
-    let len : n ≡ length ts = omega (arith, c.len-last.ensures, c.args.children.now.ok) in
-    let some : 1 ≤ n = omega (arith, len, c.requires.children.1) in
-    let child : IsChild h t = last_is_child h ts n t c.requires.children.0 len some read in
-    omega (arith, child.lower, c.push_here.ensures.cost)
+    let last = last_of (inner_of c.args.height c.args.children.now.items c.requires.children) (c.len-last.ensures ∙ c.args.children.now.ok.0) c.index_mut.ensures.value in
+    omega (arith, last.child.lower, c.push_here.ensures.cost)
 
 pub push_in_children-push_beside-requires-clause-children : goal.push_in_children-push_beside-requires-clause-children
 push_in_children-push_beside-requires-clause-children g t' c =
-    let h = c.args.height in
-    let x = c.args.entry in
-    let ts = c.args.children.now.items in
-    let n = c.len-last.result in
-    let t = c.index_mut.result.now in
-    let read = c.index_mut.ensures.value in
-    let len : n ≡ length ts = omega (arith, c.len-last.ensures, c.args.children.now.ok) in
-    let some : 1 ≤ n = omega (arith, len, c.requires.children.1) in
-    let child : IsChild h t = last_is_child h ts n t c.requires.children.0 len some read in
-    let u = c.push_here.new.self in
-    let y = c.in-Some.entry in
-    let p = pushed_some t u x y _ c.in-Some.is c.in_ok-entry.ensures.pushed in
-    let same : set ts (n - 1) u ≡ ts = set_same ts n t u read p.0 in
-    subst (λ (zs : List (Seen _)). All (IsChild h) zs) (sym same) c.requires.children.0
+    let last = last_of (inner_of c.args.height c.args.children.now.items c.requires.children) (c.len-last.ensures ∙ c.args.children.now.ok.0) c.index_mut.ensures.value in
+    let same = rw c.in-Some.is at c.in_ok-entry.ensures.pushed in
+    (last_children last same.0).0
 
 pub push_in_children-push_beside-requires-clause-least : goal.push_in_children-push_beside-requires-clause-least
 push_in_children-push_beside-requires-clause-least g t' c =
-    let h = c.args.height in
-    let x = c.args.entry in
-    let ts = c.args.children.now.items in
-    let n = c.len-last.result in
-    let t = c.index_mut.result.now in
-    let read = c.index_mut.ensures.value in
-    let len : n ≡ length ts = omega (arith, c.len-last.ensures, c.args.children.now.ok) in
-    let some : 1 ≤ n = omega (arith, len, c.requires.children.1) in
-    let child : IsChild h t = last_is_child h ts n t c.requires.children.0 len some read in
-    let u = c.push_here.new.self in
-    let y = c.in-Some.entry in
-    let p = pushed_some t u x y _ c.in-Some.is c.in_ok-entry.ensures.pushed in
-    let same : set ts (n - 1) u ≡ ts = set_same ts n t u read p.0 in
-    omega (arith, length-set ts (n - 1) u, c.requires.children.1)
+    let last = last_of (inner_of c.args.height c.args.children.now.items c.requires.children) (c.len-last.ensures ∙ c.args.children.now.ok.0) c.index_mut.ensures.value in
+    let same = rw c.in-Some.is at c.in_ok-entry.ensures.pushed in
+    (last_children last same.0).1
 
 pub push_in_children-push_beside-requires-clause-short : goal.push_in_children-push_beside-requires-clause-short
 push_in_children-push_beside-requires-clause-short g t' c =
-    let h = c.args.height in
-    let x = c.args.entry in
-    let ts = c.args.children.now.items in
-    let n = c.len-last.result in
-    let t = c.index_mut.result.now in
-    let read = c.index_mut.ensures.value in
-    let len : n ≡ length ts = omega (arith, c.len-last.ensures, c.args.children.now.ok) in
-    let some : 1 ≤ n = omega (arith, len, c.requires.children.1) in
-    let child : IsChild h t = last_is_child h ts n t c.requires.children.0 len some read in
-    let u = c.push_here.new.self in
-    let y = c.in-Some.entry in
-    let p = pushed_some t u x y _ c.in-Some.is c.in_ok-entry.ensures.pushed in
-    let same : set ts (n - 1) u ≡ ts = set_same ts n t u read p.0 in
-    let whole : joined (set ts (n - 1) u) ++ y ∷ [] ≡ joined ts ++ x ∷ [] = ap (λ (zs : List (Seen _)). joined zs ++ y ∷ []) same ∙ ap (λ (z : _). joined ts ++ z ∷ []) p.1 in
-    omega (arith, ap length whole, length-append (joined ts) (x ∷ []), c.requires.short)
+    let last = last_of (inner_of c.args.height c.args.children.now.items c.requires.children) (c.len-last.ensures ∙ c.args.children.now.ok.0) c.index_mut.ensures.value in
+    let same = rw c.in-Some.is at c.in_ok-entry.ensures.pushed in
+    omega (arith, ap length (last_behind last same.0 same.1), length-append (join_items c.args.children.now.items) (c.args.entry ∷ []), c.requires.short)
 
 pub push_in_children-push_beside-requires-clause-fits : goal.push_in_children-push_beside-requires-clause-fits
 push_in_children-push_beside-requires-clause-fits g t' c =
-    let h = c.args.height in
-    let x = c.args.entry in
-    let ts = c.args.children.now.items in
-    let n = c.len-last.result in
-    let t = c.index_mut.result.now in
-    let read = c.index_mut.ensures.value in
-    let len : n ≡ length ts = omega (arith, c.len-last.ensures, c.args.children.now.ok) in
-    let some : 1 ≤ n = omega (arith, len, c.requires.children.1) in
-    let child : IsChild h t = last_is_child h ts n t c.requires.children.0 len some read in
-    let u = c.push_here.new.self in
-    let y = c.in-Some.entry in
-    let p = pushed_some t u x y _ c.in-Some.is c.in_ok-entry.ensures.pushed in
-    let same : set ts (n - 1) u ≡ ts = set_same ts n t u read p.0 in
-    let whole : joined (set ts (n - 1) u) ++ y ∷ [] ≡ joined ts ++ x ∷ [] = ap (λ (zs : List (Seen _)). joined zs ++ y ∷ []) same ∙ ap (λ (z : _). joined ts ++ z ∷ []) p.1 in
-    subst (λ (zs : List _). g.T.Summary.Summary.fits (fold g.T.Summary.Summary.empty g.T.Summary.Summary.op g.T.Item.sum_of zs)) (sym whole) c.requires.fits
+    let last = last_of (inner_of c.args.height c.args.children.now.items c.requires.children) (c.len-last.ensures ∙ c.args.children.now.ok.0) c.index_mut.ensures.value in
+    let same = rw c.in-Some.is at c.in_ok-entry.ensures.pushed in
+    subst (λ (zs : List _). g.T.Summary.Summary.fits (fold g.T.Summary.Summary.empty g.T.Summary.Summary.op g.T.Item.sum_of zs)) (sym (last_behind last same.0 same.1)) c.requires.fits
 
 pub push_in_children-returns-in-Some-clause-children : goal.push_in_children-returns-in-Some-clause-children
 push_in_children-returns-in-Some-clause-children g t' c =
-    let h = c.args.height in
-    let x = c.args.entry in
-    let ts = c.args.children.now.items in
-    let n = c.len-last.result in
-    let t = c.index_mut.result.now in
-    let read = c.index_mut.ensures.value in
-    let len : n ≡ length ts = omega (arith, c.len-last.ensures, c.args.children.now.ok) in
-    let some : 1 ≤ n = omega (arith, len, c.requires.children.1) in
-    let child : IsChild h t = last_is_child h ts n t c.requires.children.0 len some read in
-    let u = c.push_here.new.self in
-    let y = c.in-Some.entry in
-    let p = pushed_some t u x y _ c.in-Some.is c.in_ok-entry.ensures.pushed in
-    let same : set ts (n - 1) u ≡ ts = set_same ts n t u read p.0 in
-    beside_children h (set ts (n - 1) u) c.push_beside.new.children.items y c.push_beside.result c.push_beside.ensures.pushed (subst (λ (zs : List (Seen _)). AreChildren h zs) (sym same) c.requires.children)
+    let last = last_of (inner_of c.args.height c.args.children.now.items c.requires.children) (c.len-last.ensures ∙ c.args.children.now.ok.0) c.index_mut.ensures.value in
+    let same = rw c.in-Some.is at c.in_ok-entry.ensures.pushed in
+    beside_children c.args.height (set c.args.children.now.items (c.len-last.result - 1) c.push_here.new.self) c.push_beside.new.children.items c.in-Some.entry c.push_beside.result c.push_beside.ensures.pushed (last_children last same.0)
 
 pub push_in_children-returns-in-Some-clause-pushed : goal.push_in_children-returns-in-Some-clause-pushed
 push_in_children-returns-in-Some-clause-pushed g t' c =
-    let h = c.args.height in
-    let x = c.args.entry in
-    let ts = c.args.children.now.items in
-    let n = c.len-last.result in
-    let t = c.index_mut.result.now in
-    let read = c.index_mut.ensures.value in
-    let len : n ≡ length ts = omega (arith, c.len-last.ensures, c.args.children.now.ok) in
-    let some : 1 ≤ n = omega (arith, len, c.requires.children.1) in
-    let child : IsChild h t = last_is_child h ts n t c.requires.children.0 len some read in
-    let u = c.push_here.new.self in
-    let y = c.in-Some.entry in
-    let p = pushed_some t u x y _ c.in-Some.is c.in_ok-entry.ensures.pushed in
-    let same : set ts (n - 1) u ≡ ts = set_same ts n t u read p.0 in
-    beside_pushed h (set ts (n - 1) u) ts c.push_beside.new.children.items y x c.push_beside.result same p.1 c.push_beside.ensures.pushed
+    let last = last_of (inner_of c.args.height c.args.children.now.items c.requires.children) (c.len-last.ensures ∙ c.args.children.now.ok.0) c.index_mut.ensures.value in
+    let same = rw c.in-Some.is at c.in_ok-entry.ensures.pushed in
+    beside_pushed c.args.height (set c.args.children.now.items (c.len-last.result - 1) c.push_here.new.self) c.args.children.now.items c.push_beside.new.children.items c.in-Some.entry c.args.entry c.push_beside.result (last_same last same.0) same.1 c.push_beside.ensures.pushed
 
 pub push_in_children-returns-in-Some-clause-back : goal.push_in_children-returns-in-Some-clause-back
 push_in_children-returns-in-Some-clause-back g t' c =
@@ -247,10 +111,7 @@ push_in-push_in_children-requires g t c κs within =
 
 pub push_here-push_in-requires : goal.push_here-push_in-requires
 push_here-push_in-requires g t c κs within =
-    let s = c.args.self.now in
-    let m = c.in-Some.node.now in
-    let height : m.height ≡ s.height = ap (λ (q : _). q.height) c.in-Some.ensures.value ∙ ap (λ (q : Seen _). q.height) c.self.view_is in
-    let fewer : 3 * m.height + 1 < 3 * s.height + 2 = omega (arith, height) in
+    let fewer : 3 * c.in-Some.node.now.height + 1 < 3 * c.args.self.now.height + 2 = omega (arith, node_height c.in-Some.ensures.value c.self.view_is) in
     search rules
 
 pub push_here-sum_with-requires-clause-begun : goal.push_here-sum_with-requires-clause-begun
@@ -285,15 +146,12 @@ push_here-invariant_of-self-in-None-2 g t c =
 
 pub push_here-returns-in_err-entry-clause-cost : goal.push_here-returns-in_err-entry-clause-cost
 push_here-returns-in_err-entry-clause-cost g t c =
-    let height : c.in-Some.node.now.height ≡ c.args.self.now.height = ap (λ (q : _). q.height) c.in-Some.ensures.value ∙ ap (λ (q : Seen _). q.height) c.self.view_is in
-    omega (arith, height, c.push_in.ensures.cost)
+    omega (arith, node_height c.in-Some.ensures.value c.self.view_is, c.push_in.ensures.cost)
 
 pub push_here-returns-in-Some-2-clause-cost : goal.push_here-returns-in-Some-2-clause-cost
 push_here-returns-in-Some-2-clause-cost g t c =
-    let height : c.in-Some.node.now.height ≡ c.args.self.now.height = ap (λ (q : _). q.height) c.in-Some.ensures.value ∙ ap (λ (q : Seen _). q.height) c.self.view_is in
-    omega (arith, height, c.push_in.ensures.cost)
+    omega (arith, node_height c.in-Some.ensures.value c.self.view_is, c.push_in.ensures.cost)
 
 pub push_here-returns-in-None-2-clause-cost : goal.push_here-returns-in-None-2-clause-cost
 push_here-returns-in-None-2-clause-cost g t c =
-    let height : c.in-Some.node.now.height ≡ c.args.self.now.height = ap (λ (q : _). q.height) c.in-Some.ensures.value ∙ ap (λ (q : Seen _). q.height) c.self.view_is in
-    omega (arith, height, c.push_in.ensures.cost)
+    omega (arith, node_height c.in-Some.ensures.value c.self.view_is, c.push_in.ensures.cost)

@@ -1,12 +1,12 @@
 use Rattle.std.proofs.Common.{List, Some, sym, ap, subst, ◌∙◌}
-use Rattle.sum_tree.specs.Keyed.{Ascending, held}
+use Rattle.sum_tree.specs.Keyed.{Ascending, item_of_key}
 use Rattle.sum_tree.proofs.Keys.{put_inserted, put_between, ascending_inserted}
 use Rattle.sum_tree.proofs.tree.SumTree.insert.Goals as goal
 
 pub returns-in_ok-put_item-in-Ok-clause-replaced : goal.returns-in_ok-put_item-in-Ok-clause-replaced
 returns-in_ok-put_item-in-Ok-clause-replaced g c =
     let x = c.at.result.now in
-    ap Some (c.in_ok-old-in-Ok.ensures ∙ c.at.ensures x) ∙ sym (ap (λ q. held g.T.Key.Ord.cmp g.T.KeyedItem.key_of q c.args.self.now.items) (sym c.key.ensures) ∙ c.in-Ok.ensures.3 x)
+    ap Some (c.in_ok-old-in-Ok.ensures ∙ c.at.ensures x) ∙ sym (ap (λ q. item_of_key g.T.Key.Ord.cmp g.T.KeyedItem.key_of q c.args.self.now.items) (sym c.key.ensures) ∙ c.in-Ok.ensures.3 x)
 
 pub returns-in_ok-put_item-in-Ok-clause-ascending : goal.returns-in_ok-put_item-in-Ok-clause-ascending
 returns-in_ok-put_item-in-Ok-clause-ascending g c =

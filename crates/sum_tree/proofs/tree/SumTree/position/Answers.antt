@@ -1,10 +1,11 @@
-use Rattle.std.proofs.Common.{rules, true, ℕ, ◌≡◌, ◌+◌, ◌≤◌, List, Ok, Err, length, get_or, sym, ap, subst, ◌∙◌, arith}
+use Rattle.std.proofs.Common.{rules, true, ℕ, ◌≡◌, ◌≤◌, List, Ok, Err, length, get_or, sym, ap, subst, arith}
 use Rattle.std.specs.List.{All}
 use Rattle.sum_tree.specs.Seen.{Seen}
-use Rattle.sum_tree.specs.Shape.{joined}
+use Rattle.sum_tree.specs.Shape.{join_items}
 use Rattle.sum_tree.specs.Keyed.{Ascending, IsPlace}
 use Rattle.sum_tree.proofs.Children.{child_filled, joined-take_le}
-use Rattle.sum_tree.proofs.Opened.{IsInner, opened, opened_leaf}
+use Rattle.sum_tree.proofs.Opened.{opened}
+use Rattle.sum_tree.proofs.Nodes.{leaf_items, inner_items}
 use Rattle.sum_tree.proofs.Keys.{IsAround, around_all, around_ascending, around_length, around_child, around_within, place_ok, place_err, place_end}
 use Rattle.sum_tree.proofs.tree.SumTree.position.Goals as goal
 
@@ -19,82 +20,54 @@ loop-entries-init g c = around_all g.T.Key.Ord.cmp g.T.KeyedItem.key_of g.met.T.
 
 pub place-requires : goal.place-requires
 place-requires g c =
-    let n = c.loop-entries.node.now in
-    let xs = c.args.self.now.items in
-    let there : c.deref-in-Leaf.result.now ≡ n.items = c.deref-in-Leaf.ensures.value ∙ sym (opened_leaf n c.node.inside.node.value c.deref.result.now c.in-Leaf.entries c.node.view_is c.deref.ensures c.in-Leaf.is) in
-    record { ascending = subst (λ (zs : List _). Ascending g.T.Key.Ord.cmp g.T.KeyedItem.key_of zs) (sym there) (around_ascending g.T.Key.Ord.cmp g.T.KeyedItem.key_of g.met.T.Key.Ord.total c.args.key.now xs c.loop-entries.before n.items c.loop-entries.invariant c.requires.ascending) }
+    let there = leaf_items c.node.view_is c.deref.ensures c.in-Leaf.is c.deref-in-Leaf.ensures.value in
+    record { ascending = subst (λ (zs : List _). Ascending g.T.Key.Ord.cmp g.T.KeyedItem.key_of zs) (sym there) (around_ascending g.T.Key.Ord.cmp g.T.KeyedItem.key_of g.met.T.Key.Ord.total c.args.key.now c.args.self.now.items c.loop-entries.before c.loop-entries.node.now.items c.loop-entries.invariant c.requires.ascending) }
 
 pub overflow_add-result : goal.overflow_add-result
 overflow_add-result g c =
-    let n = c.loop-entries.node.now in
-    let xs = c.args.self.now.items in
-    let there : c.deref-in-Leaf.result.now ≡ n.items = c.deref-in-Leaf.ensures.value ∙ sym (opened_leaf n c.node.inside.node.value c.deref.result.now c.in-Leaf.entries c.node.view_is c.deref.ensures c.in-Leaf.is) in
-    let size : c.loop-entries.before + length n.items ≤ length xs = around_length g.T.Key.Ord.cmp g.T.KeyedItem.key_of g.met.T.Key.Ord.total c.args.key.now xs c.loop-entries.before n.items c.loop-entries.invariant in
+    let there = leaf_items c.node.view_is c.deref.ensures c.in-Leaf.is c.deref-in-Leaf.ensures.value in
+    let size = around_length g.T.Key.Ord.cmp g.T.KeyedItem.key_of g.met.T.Key.Ord.total c.args.key.now c.args.self.now.items c.loop-entries.before c.loop-entries.node.now.items c.loop-entries.invariant in
     omega (arith, size, ap length there, c.in-Ok.ensures.0, c.known.ensures.short)
 
 pub overflow_add-result-in-Err : goal.overflow_add-result-in-Err
 overflow_add-result-in-Err g c =
-    let n = c.loop-entries.node.now in
-    let xs = c.args.self.now.items in
-    let there : c.deref-in-Leaf.result.now ≡ n.items = c.deref-in-Leaf.ensures.value ∙ sym (opened_leaf n c.node.inside.node.value c.deref.result.now c.in-Leaf.entries c.node.view_is c.deref.ensures c.in-Leaf.is) in
-    let size : c.loop-entries.before + length n.items ≤ length xs = around_length g.T.Key.Ord.cmp g.T.KeyedItem.key_of g.met.T.Key.Ord.total c.args.key.now xs c.loop-entries.before n.items c.loop-entries.invariant in
+    let there = leaf_items c.node.view_is c.deref.ensures c.in-Leaf.is c.deref-in-Leaf.ensures.value in
+    let size = around_length g.T.Key.Ord.cmp g.T.KeyedItem.key_of g.met.T.Key.Ord.total c.args.key.now c.args.self.now.items c.loop-entries.before c.loop-entries.node.now.items c.loop-entries.invariant in
     omega (arith, size, ap length there, c.in-Err.ensures.0, c.known.ensures.short)
 
 pub returns-in-Ok : goal.returns-in-Ok
 returns-in-Ok g c =
-    let n = c.loop-entries.node.now in
-    let xs = c.args.self.now.items in
-    let there : c.deref-in-Leaf.result.now ≡ n.items = c.deref-in-Leaf.ensures.value ∙ sym (opened_leaf n c.node.inside.node.value c.deref.result.now c.in-Leaf.entries c.node.view_is c.deref.ensures c.in-Leaf.is) in
-    place_ok g.T.Key.Ord.cmp g.T.KeyedItem.key_of g.met.T.Key.Ord.total c.args.key.now xs c.loop-entries.before c.in-Ok.i n.items c.loop-entries.invariant (subst (λ (zs : List _). IsPlace g.T.Key.Ord.cmp g.T.KeyedItem.key_of c.args.key.now zs (Ok c.in-Ok.i)) there c.in-Ok.ensures)
+    let there = leaf_items c.node.view_is c.deref.ensures c.in-Leaf.is c.deref-in-Leaf.ensures.value in
+    place_ok g.T.Key.Ord.cmp g.T.KeyedItem.key_of g.met.T.Key.Ord.total c.args.key.now c.args.self.now.items c.loop-entries.before c.in-Ok.i c.loop-entries.node.now.items c.loop-entries.invariant (subst (λ (zs : List _). IsPlace g.T.Key.Ord.cmp g.T.KeyedItem.key_of c.args.key.now zs (Ok c.in-Ok.i)) there c.in-Ok.ensures)
 
 pub returns-in-Err : goal.returns-in-Err
 returns-in-Err g c =
-    let n = c.loop-entries.node.now in
-    let xs = c.args.self.now.items in
-    let there : c.deref-in-Leaf.result.now ≡ n.items = c.deref-in-Leaf.ensures.value ∙ sym (opened_leaf n c.node.inside.node.value c.deref.result.now c.in-Leaf.entries c.node.view_is c.deref.ensures c.in-Leaf.is) in
-    place_err g.T.Key.Ord.cmp g.T.KeyedItem.key_of g.met.T.Key.Ord.total c.args.key.now xs c.loop-entries.before c.in-Err.i n.items c.loop-entries.invariant (subst (λ (zs : List _). IsPlace g.T.Key.Ord.cmp g.T.KeyedItem.key_of c.args.key.now zs (Err c.in-Err.i)) there c.in-Err.ensures)
+    let there = leaf_items c.node.view_is c.deref.ensures c.in-Leaf.is c.deref-in-Leaf.ensures.value in
+    place_err g.T.Key.Ord.cmp g.T.KeyedItem.key_of g.met.T.Key.Ord.total c.args.key.now c.args.self.now.items c.loop-entries.before c.in-Err.i c.loop-entries.node.now.items c.loop-entries.invariant (subst (λ (zs : List _). IsPlace g.T.Key.Ord.cmp g.T.KeyedItem.key_of c.args.key.now zs (Err c.in-Err.i)) there c.in-Err.ensures)
 
 pub child_for-k-requires-clause-filled : goal.child_for-k-requires-clause-filled
 child_for-k-requires-clause-filled g c =
-    let n = c.loop-entries.node.now in
-    let xs = c.args.self.now.items in
-    let ts = c.in-Inner.children.items in
-    let o : IsInner n ts = opened n c.node.inside.node.value c.deref.result.now c.in-Inner.children c.node.view_is c.deref.ensures c.in-Inner.is c.node.invariant.0 in
-    let us = c.deref-in-Inner.result.now in
-    let there : joined us ≡ n.items = ap joined c.deref-in-Inner.ensures.value ∙ sym o.items in
-    subst (λ (ws : List (Seen _)). All (λ t. 1 ≤ length t.items) ws) (sym c.deref-in-Inner.ensures.value) (λ k d lt. child_filled n.height (get_or ts k d) (o.children k d lt))
+    let inner = opened _ _ _ _ c.node.view_is c.deref.ensures c.in-Inner.is c.node.invariant.0 in
+    subst (λ (ws : List (Seen _)). All (λ t. 1 ≤ length t.items) ws) (sym c.deref-in-Inner.ensures.value) (λ k d lt. child_filled c.loop-entries.node.now.height (get_or c.in-Inner.children.items k d) (inner.children k d lt))
 
 pub child_for-k-requires-clause-ascending : goal.child_for-k-requires-clause-ascending
 child_for-k-requires-clause-ascending g c =
-    let n = c.loop-entries.node.now in
-    let xs = c.args.self.now.items in
-    let ts = c.in-Inner.children.items in
-    let o : IsInner n ts = opened n c.node.inside.node.value c.deref.result.now c.in-Inner.children c.node.view_is c.deref.ensures c.in-Inner.is c.node.invariant.0 in
-    let us = c.deref-in-Inner.result.now in
-    let there : joined us ≡ n.items = ap joined c.deref-in-Inner.ensures.value ∙ sym o.items in
-    subst (λ (zs : List _). Ascending g.T.Key.Ord.cmp g.T.KeyedItem.key_of zs) (sym there) (around_ascending g.T.Key.Ord.cmp g.T.KeyedItem.key_of g.met.T.Key.Ord.total c.args.key.now xs c.loop-entries.before n.items c.loop-entries.invariant c.requires.ascending)
+    let there = inner_items c.node.view_is c.deref.ensures c.in-Inner.is c.node.invariant.0 c.deref-in-Inner.ensures.value in
+    subst (λ (zs : List _). Ascending g.T.Key.Ord.cmp g.T.KeyedItem.key_of zs) (sym there) (around_ascending g.T.Key.Ord.cmp g.T.KeyedItem.key_of g.met.T.Key.Ord.total c.args.key.now c.args.self.now.items c.loop-entries.before c.loop-entries.node.now.items c.loop-entries.invariant c.requires.ascending)
 
 pub overflow_add-before : goal.overflow_add-before
 overflow_add-before g c =
-    let n = c.loop-entries.node.now in
-    let xs = c.args.self.now.items in
-    let ts = c.in-Inner.children.items in
-    let o : IsInner n ts = opened n c.node.inside.node.value c.deref.result.now c.in-Inner.children c.node.view_is c.deref.ensures c.in-Inner.is c.node.invariant.0 in
-    let us = c.deref-in-Inner.result.now in
-    let there : joined us ≡ n.items = ap joined c.deref-in-Inner.ensures.value ∙ sym o.items in
-    let size : c.loop-entries.before + length n.items ≤ length xs = around_length g.T.Key.Ord.cmp g.T.KeyedItem.key_of g.met.T.Key.Ord.total c.args.key.now xs c.loop-entries.before n.items c.loop-entries.invariant in
-    omega (arith, size, ap length there, c.child_for-k.ensures.count, joined-take_le us c.child_for-k.result.0, c.known.ensures.short)
+    let there = inner_items c.node.view_is c.deref.ensures c.in-Inner.is c.node.invariant.0 c.deref-in-Inner.ensures.value in
+    let size = around_length g.T.Key.Ord.cmp g.T.KeyedItem.key_of g.met.T.Key.Ord.total c.args.key.now c.args.self.now.items c.loop-entries.before c.loop-entries.node.now.items c.loop-entries.invariant in
+    omega (arith, size, ap length there, c.child_for-k.ensures.count, joined-take_le c.deref-in-Inner.result.now c.child_for-k.result.0, c.known.ensures.short)
 
 pub loop-entries-preserved : goal.loop-entries-preserved
 loop-entries-preserved g c =
     let n = c.loop-entries.node.now in
-    let xs = c.args.self.now.items in
-    let ts = c.in-Inner.children.items in
-    let o : IsInner n ts = opened n c.node.inside.node.value c.deref.result.now c.in-Inner.children c.node.view_is c.deref.ensures c.in-Inner.is c.node.invariant.0 in
     let us = c.deref-in-Inner.result.now in
-    let there : joined us ≡ n.items = ap joined c.deref-in-Inner.ensures.value ∙ sym o.items in
+    let there = inner_items c.node.view_is c.deref.ensures c.in-Inner.is c.node.invariant.0 c.deref-in-Inner.ensures.value in
     let t = c.index-node.result.now in
     let j = c.child_for-k.result.0 in
     let read : t ≡ get_or us j t = subst (λ (ws : List (Seen _)). t ≡ get_or ws j t) (sym c.deref-in-Inner.ensures.value) c.index-node.ensures in
-    let here : IsAround g.T.Key.Ord.cmp g.T.KeyedItem.key_of c.args.key.now (joined us) c.child_for-k.result.1 t.items = around_child g.T.Key.Ord.cmp g.T.KeyedItem.key_of g.met.T.Key.Ord.total c.args.key.now us c.child_for-k.result.1 j t c.child_for-k.ensures.child read c.child_for-k.ensures.count c.child_for-k.ensures.before c.child_for-k.ensures.behind in
-    around_within g.T.Key.Ord.cmp g.T.KeyedItem.key_of g.met.T.Key.Ord.total c.args.key.now xs n.items t.items c.loop-entries.before c.child_for-k.result.1 c.loop-entries.invariant (subst (λ (zs : List _). IsAround g.T.Key.Ord.cmp g.T.KeyedItem.key_of c.args.key.now zs c.child_for-k.result.1 t.items) there here)
+    let here : IsAround g.T.Key.Ord.cmp g.T.KeyedItem.key_of c.args.key.now (join_items us) c.child_for-k.result.1 t.items = around_child g.T.Key.Ord.cmp g.T.KeyedItem.key_of g.met.T.Key.Ord.total c.args.key.now us c.child_for-k.result.1 j t c.child_for-k.ensures.child read c.child_for-k.ensures.count c.child_for-k.ensures.before c.child_for-k.ensures.behind in
+    around_within g.T.Key.Ord.cmp g.T.KeyedItem.key_of g.met.T.Key.Ord.total c.args.key.now c.args.self.now.items n.items t.items c.loop-entries.before c.child_for-k.result.1 c.loop-entries.invariant (subst (λ (zs : List _). IsAround g.T.Key.Ord.cmp g.T.KeyedItem.key_of c.args.key.now zs c.child_for-k.result.1 t.items) there here)

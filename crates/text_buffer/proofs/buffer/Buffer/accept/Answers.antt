@@ -1,5 +1,5 @@
 use Rattle.std.proofs.Common.{inr, sym, ◌∙◌, ap, subst, length}
-use Rattle.op_model.proofs.Settling.{good_alone}
+use Rattle.op_model.proofs.settling.Settling.{good_alone}
 use Rattle.text_buffer.specs.Buffer.{BufferState, AllMiss, IsPartly, after_settle}
 use Rattle.text_buffer.specs.Settling.{IsHalted, IsTakenPartly}
 use Rattle.text_buffer.proofs.Applied.{shape_of}

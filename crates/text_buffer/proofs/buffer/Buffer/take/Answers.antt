@@ -8,9 +8,9 @@ pub judge-requires : goal.judge-requires
 judge-requires c = distinct c.self.inside.waiting c.self.invariant.waiting_ascending
 
 pub defer-requires : goal.defer-requires
-defer-requires c = not_waiting c.self.inside.document c.self.inside.waiting c.args.op (waits_new c.self.inside.document c.self.inside.waiting c.args.op _ _ (sym c.in-Missing.ensures))
+defer-requires c = not_waiting c.self.inside.document c.self.inside.waiting c.args.op (waits_new c.self.inside.document c.self.inside.waiting c.args.op _ _ (sym c.in-Waits.ensures))
 
-pub invariant_of-self-in-Missing : goal.invariant_of-self-in-Missing
-invariant_of-self-in-Missing c =
-    let n = waits_new c.self.inside.document c.self.inside.waiting c.args.op _ _ (sym c.in-Missing.ensures) in
-    IsBuffer-deferred (state_of c.self.inside) c.args.op _ c.self.invariant n c.in_ok-defer-in-Missing.ensures.ok
+pub invariant_of-self-in-Waits : goal.invariant_of-self-in-Waits
+invariant_of-self-in-Waits c =
+    let n = waits_new c.self.inside.document c.self.inside.waiting c.args.op _ _ (sym c.in-Waits.ensures) in
+    IsBuffer-deferred (state_of c.self.inside) c.args.op _ c.self.invariant n c.in_ok-defer-in-Waits.ensures.ok

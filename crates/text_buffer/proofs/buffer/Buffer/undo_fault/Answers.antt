@@ -1,6 +1,6 @@
 use Rattle.std.proofs.Common.{sym, subst}
 use Rattle.op_model.specs.Histories.{Distinct}
-use Rattle.op_model.proofs.Good.{lawful_ready}
+use Rattle.op_model.proofs.answers.Good.{lawful_ready}
 use Rattle.text_buffer.proofs.buffer.Buffer.undo_fault.Goals as goal
 
 pub undo_fault-requires-clause-distinct : goal.undo_fault-requires-clause-distinct

@@ -3,8 +3,8 @@ use Rattle.op_model.specs.declared.operation.Operation.{Operation}
 use Rattle.op_model.specs.declared.operation.Operation.TheVariants.{Edit}
 use Rattle.op_model.specs.Operations.{pieces_of}
 use Rattle.op_model.specs.Histories.{clock, version}
-use Rattle.op_model.specs.Made.{made}
-use Rattle.op_model.specs.Shown.{hidden, text, texts}
+use Rattle.op_model.specs.Made.{local_edit}
+use Rattle.op_model.specs.Shown.{hidden_text, text, texts}
 use Rattle.remote_edit.specs.Moves.{TakeTexts}
 use Rattle.remote_edit.proofs.Fragments.{fragments_with_edit}
 use Rattle.text_buffer.specs.Document.{IsContent, IsHistory}
@@ -28,9 +28,9 @@ content_of-requires-clause-texts g c =
     let v = c.self.invariant.clock ∙ ap clock c.self.view_is in
     let z = c.in_ok-copy.ensures ∙ c.deref.ensures ∙ c.self.invariant.version ∙ ap version c.self.view_is in
     let op = Edit c.in_ok-edit.edit in
-    let i : op ≡ made h c.args.replica c.args.changes.now = c.in_ok-edit.ensures.made h k.stand v z in
+    let i : op ≡ local_edit h c.args.replica c.args.changes.now = c.in_ok-edit.ensures.made h k.stand v z in
     let g = made_grows h c.args.replica c.args.changes.now op s c.requires i c.size-adds.ensures.proper in
-    subst (λ (n : List ℕ). TakeTexts c.in_ok-edit.placed.moves (text h) (hidden h) n) (ap (λ (o : Operation). texts (pieces_of o)) i ∙ made_texts h c.args.replica c.args.changes.now)
+    subst (λ (n : List ℕ). TakeTexts c.in_ok-edit.placed.moves (text h) (hidden_text h) n) (ap (λ (o : Operation). texts (pieces_of o)) i ∙ made_texts h c.args.replica c.args.changes.now)
     (c.in_ok-edit.ensures.characters h k.stand s.lawful s.proper g.proper g.good k.whole).1
 
 pub content_of-requires-clause-room : goal.content_of-requires-clause-room
@@ -53,7 +53,7 @@ returns-clause-grows g c =
     let v = c.self.invariant.clock ∙ ap clock c.self.view_is in
     let z = c.in_ok-copy.ensures ∙ c.deref.ensures ∙ c.self.invariant.version ∙ ap version c.self.view_is in
     let op = Edit c.in_ok-edit.edit in
-    let i : op ≡ made h c.args.replica c.args.changes.now = c.in_ok-edit.ensures.made h k.stand v z in
+    let i : op ≡ local_edit h c.args.replica c.args.changes.now = c.in_ok-edit.ensures.made h k.stand v z in
     made_grows h c.args.replica c.args.changes.now op s c.requires i c.size-adds.ensures.proper
 
 pub returns-clause-bytes : goal.returns-clause-bytes
@@ -70,7 +70,7 @@ returns-clause-content g c =
     let v = c.self.invariant.clock ∙ ap clock c.self.view_is in
     let z = c.in_ok-copy.ensures ∙ c.deref.ensures ∙ c.self.invariant.version ∙ ap version c.self.view_is in
     let op = Edit c.in_ok-edit.edit in
-    let i : op ≡ made h c.args.replica c.args.changes.now = c.in_ok-edit.ensures.made h k.stand v z in
+    let i : op ≡ local_edit h c.args.replica c.args.changes.now = c.in_ok-edit.ensures.made h k.stand v z in
     let g = made_grows h c.args.replica c.args.changes.now op s c.requires i c.size-adds.ensures.proper in
     content_after c.in_ok-content.content c.in_ok-edit.placed h op c.self.inside.content.undos c.in_ok-undos.undos (texts c.args.changes.now) c.in_ok-content.ensures
     (sym (ap (λ (o : Operation). texts (pieces_of o)) i ∙ made_texts h c.args.replica c.args.changes.now)) c.in_ok-undos.ensures

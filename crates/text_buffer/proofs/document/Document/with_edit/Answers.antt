@@ -4,7 +4,7 @@ use Rattle.op_model.specs.declared.operation.Operation.TheVariants.{Edit}
 use Rattle.op_model.specs.declared.operation.Piece.{Piece}
 use Rattle.op_model.specs.Operations.{text_total}
 use Rattle.op_model.specs.Histories.{bytes_held}
-use Rattle.op_model.specs.Shown.{hidden, text, texts}
+use Rattle.op_model.specs.Shown.{hidden_text, text, texts}
 use Rattle.remote_edit.specs.Moves.{TakeTexts}
 use Rattle.remote_edit.proofs.Fragments.{fragments_with_edit}
 use Rattle.text_buffer.specs.Document.{IsContent, IsHistory}
@@ -23,7 +23,7 @@ content_of-requires-clause-texts c =
     let h = c.args.self.now in
     let k : IsContent c.self.inside.content h = subst (IsContent c.self.inside.content) c.self.view_is c.self.invariant.content in
     let s : IsHistory h = subst IsHistory c.self.view_is c.self.invariant.history in
-    subst (λ (ps : List Piece). TakeTexts c.in_ok-placed.placed.moves (text h) (hidden h) (texts ps)) (sym c.as_slice.ensures)
+    subst (λ (ps : List Piece). TakeTexts c.in_ok-placed.placed.moves (text h) (hidden_text h) (texts ps)) (sym c.as_slice.ensures)
     (c.in_ok-placed.ensures.characters h k.stand s.lawful s.proper c.requires.proper c.requires.good k.whole).1
 
 pub content_of-requires-clause-room : goal.content_of-requires-clause-room

@@ -1,6 +1,6 @@
 use Rattle.std.proofs.Common.{◌∙◌, sym, subst}
 use Rattle.op_model.specs.Histories.{Distinct}
-use Rattle.op_model.proofs.Good.{lawful_ready}
+use Rattle.op_model.proofs.answers.Good.{lawful_ready}
 use Rattle.text_buffer.proofs.snapshot.Snapshot.since_fault.Goals as goal
 
 pub open_replica-requires : goal.open_replica-requires

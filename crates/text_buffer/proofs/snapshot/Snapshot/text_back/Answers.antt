@@ -1,5 +1,5 @@
 use Rattle.std.proofs.Common.{◌≡◌, ◌∙◌, ℕ, List, [], length, ap, refl, subst, arith}
-use Rattle.op_model.specs.Shown.{text, hidden}
+use Rattle.op_model.specs.Shown.{text, hidden_text}
 use Rattle.remote_edit.specs.Moves.{Texts, after_moves}
 use Rattle.text_buffer.specs.Document.{IsContent}
 use Rattle.text_buffer.proofs.Lengths.{both_bytes}
@@ -26,6 +26,6 @@ pub returns : goal.returns
 returns c =
     let h = c.args.self.now in
     let k : IsContent c.content-content.result.now h = subst (IsContent c.content-content.result.now) c.self.view_is c.content-content.ensures in
-    let same : after_moves c.as_slice.result.now c.content-content.result.now.text c.content-content.result.now.hidden [] ≡ after_moves c.in_ok-moves.moves (text h) (hidden h) [] = rw (c.as_slice.ensures, k.shown, k.hidden) refl in
+    let same : after_moves c.as_slice.result.now c.content-content.result.now.text c.content-content.result.now.hidden [] ≡ after_moves c.in_ok-moves.moves (text h) (hidden_text h) [] = rw (c.as_slice.ensures, k.shown, k.hidden) refl in
     c.in_ok-to_string.ensures ∙ ap (λ (x : Texts). x.shown) (c.in_ok-texts.ensures ∙ same)
     ∙ c.in_ok-moves.ensures.text h (may_tell c.content-content.result.now h c.args.version.now k c.known.ensures.lawful c.requires)

@@ -1,0 +1,28 @@
+-- What holds of each element of a list, and of its parts.
+use Rattle.std.proofs.Common.{Bool, true, false, List, [], ◌∷◌, ◌++◌, cond}
+use Rattle.std.specs.List.{AllByRecursion, filter}
+
+pub each_left : {A : Type 0} (P : A → Type 0) (xs ys : List A) → AllByRecursion P (xs ++ ys) → AllByRecursion P xs
+each_left P [] ys e = tt
+each_left P (x ∷ xs) ys e = (e.0, each_left P xs ys e.1)
+
+pub each_right : {A : Type 0} (P : A → Type 0) (xs ys : List A) → AllByRecursion P (xs ++ ys) → AllByRecursion P ys
+each_right P [] ys e = e
+each_right P (x ∷ xs) ys e = each_right P xs ys e.1
+
+pub each_append : {A : Type 0} (P : A → Type 0) (xs ys : List A) → AllByRecursion P xs → AllByRecursion P ys → AllByRecursion P (xs ++ ys)
+each_append P [] ys e f = f
+each_append P (x ∷ xs) ys e f = (e.0, each_append P xs ys e.1 f)
+
+pub each_filter : {A : Type 0} (P : A → Type 0) (p : A → Bool) (s : List A) → AllByRecursion P s → AllByRecursion P (filter p s)
+each_filter P p [] e = tt
+each_filter P p (x ∷ s) e = elim (p x) as (λ b. AllByRecursion P (cond b (x ∷ filter p s) (filter p s)))
+    [ true ↦ (e.0, each_filter P p s e.1) | false ↦ each_filter P p s e.1 ]
+
+pub each_last : {A : Type 0} (P : A → Type 0) (xs : List A) (x : A) → AllByRecursion P (xs ++ x ∷ []) → P x
+each_last P [] x e = e.0
+each_last P (y ∷ xs) x e = each_last P xs x e.1
+
+pub each_map : {A : Type 0} (P Q : A → Type 0) → ((x : A) → P x → Q x) → (s : List A) → AllByRecursion P s → AllByRecursion Q s
+each_map P Q f [] e = tt
+each_map P Q f (x ∷ s) e = (f x e.0, each_map P Q f s e.1)

@@ -1,0 +1,5 @@
+pub mod AnchorOrder
+pub mod AnchorPlaces
+pub mod KnownAnchors
+pub mod KeptOrder
+pub mod LeftAnchors

@@ -1,0 +1,235 @@
+-- From the answer Good to the sequence with one more operation.
+use Rattle.op_model.proofs.Elements.{each_map}
+use Rattle.std.proofs.Common.{◌≡◌, ℕ, suc, ◌<◌, ◌≤◌, ◌⊎◌, Bool, List, [], ◌∷◌, ◌++◌, length, map, refl, sym, ◌∙◌, ap, subst, inl, inr, true, false, not, ◌||◌, ◌&&◌, eqb, ltb, leb, arith, append_assoc, None}
+use Rattle.std.proofs.lemmas.Bool.{cases_Bool, and_parts, or_cases, leb-true, leb-false, ltb-false, eqb-true, le-leb, lt-ltb, cases_lt, not-false}
+use Rattle.std.proofs.lemmas.Bool.Decides.{nat_tests}
+use Rattle.lamport_clock.specs.declared.stamp.Lamport.{Lamport}
+use Rattle.op_model.specs.declared.operation.Operation.{Operation}
+use Rattle.op_model.specs.Histories.{History, newer, newest_first, version, seen_history, base, SameSet, In}
+use Rattle.lamport_clock.specs.Versions.{Entries, sees, entry, within}
+use Rattle.op_model.specs.declared.operation.Piece.{Piece}
+use Rattle.lamport_clock.specs.Stamps.{later, same_stamp}
+use Rattle.op_model.specs.Operations.{stamp_of, version_of, pieces_of}
+use Rattle.op_model.specs.Cells.{PathCell, seq_where, seq, cells}
+use Rattle.op_model.specs.Laid.{lay}
+use Rattle.op_model.specs.Shown.{full, text, full_where, byte}
+use Rattle.op_model.specs.Lawful.{Lawful, LawfulFrom}
+use Rattle.std.specs.List.{AllByRecursion, find, list_any}
+use Rattle.op_model.specs.declared.faults.OpFault.TheVariants.{Forked}
+use Rattle.op_model.specs.Edits.{is_past, is_reversed}
+use Rattle.op_model.specs.Answers.{answer, bad_stamp, any_stamp, is_entry_closed, open_replica, first_missing}
+use Rattle.op_model.specs.Answers.Answer.{Good}
+use Rattle.op_model.proofs.answers.Passed.{any_none, find_none, map_none, when_none, or_parts, passed, shaped, ranged}
+use Rattle.op_model.proofs.shown.Bytes.{full_seen}
+use Rattle.op_model.proofs.order.PathOrder.{same_stamp_eq, same_stamp_refl}
+use Rattle.op_model.proofs.order.LateOperation.{Apart}
+use Rattle.op_model.proofs.order.Restricted.{Closed}
+use Rattle.op_model.proofs.order.SameSets.{seq_of_set, text_of_set, each_in, newest_same}
+use Rattle.op_model.proofs.histories.Lawful.{entry_version, Checked, LawInv, closed_op, law_step, law_base, each_of_in}
+use Rattle.op_model.proofs.histories.OneMore.{Fits, Core, one_more, none_yet}
+
+pub later_of : (t u : Lamport) → u.value < t.value → later t u ≡ true
+unfolding later
+later_of t u h = grind (arith, nat_tests)
+
+not_newer : (t u : Lamport) → not (later t u) ≡ true → later t u ≡ true → ⊥
+not_newer t u h g = cc
+
+pub in_tail : (keep : Lamport → Bool) (h : History) → ((o p : Operation) → In h o → In h p → keep (stamp_of o) ≡ true → sees (version_of o) (stamp_of p) ≡ true → keep (stamp_of p) ≡ true)
+    → Closed keep h
+in_tail keep [] f = tt
+in_tail keep (o ∷ h) f = (
+  (λ k. each_of_in (λ (p : Operation). sees (version_of o) (stamp_of p) ≡ true → keep (stamp_of p) ≡ true) h (λ p i s. f o p (inl refl) (inr i) k s)),
+  in_tail keep h (λ a b i j. f a b (inr i) (inr j)),
+)
+
+apart_of : (op : Operation) (h : History)
+    → ((o : Operation) → In h o → newer o op ≡ true → (sees (version_of o) (stamp_of op) ≡ false) × (sees (version_of op) (stamp_of o) ≡ false)) → Apart op h
+apart_of op [] f = tt
+apart_of op (o ∷ h) f = (f o (inl refl), apart_of op h (λ p i. f p (inr i)))
+
+pub fits_of : (h : History) (op : Operation) → LawInv h → Checked h op
+    → AllByRecursion (λ (p : Piece). p.start ≤ length (seq_where (sees (version_of op)) (newest_first h))) (pieces_of op) → Fits h op
+fits_of h op inv c st = record {
+  fresh = each_of_in (λ (o : Operation). stamp_of o ≡ stamp_of op → ⊥) (newest_first h) (λ o i. each_in (λ (x : Operation). stamp_of x ≡ stamp_of op → ⊥) h o c.new ((newest_same h o).0 i));
+  above = above;
+  closed = closed;
+  apart = apart;
+  starts = st;
+}
+  where
+    above : (u : Lamport) → sees (version_of op) u ≡ true → later (stamp_of op) u ≡ true
+    above u s = let l = leb-true u.value (entry (version_of op) u.replica) s in let k = c.above u.replica in later_of (stamp_of op) u (omega arith)
+
+    closed : Closed (sees (version_of op)) (newest_first h)
+    closed = in_tail (sees (version_of op)) (newest_first h) (λ o p i j k s.
+        let l = leb-true (stamp_of p).value (entry (version_of o) (stamp_of p).replica) s in
+        let g = closed_op h op inv c o ((newest_same h o).0 i) k (stamp_of p).replica in
+        le-leb (stamp_of p).value (entry (version_of op) (stamp_of p).replica) (omega arith))
+
+    apart : Apart op (newest_first h)
+    apart = apart_of op (newest_first h) (λ o i n. (unseen o ((newest_same h o).0 i) (cases_Bool (sees (version_of o) (stamp_of op))), unseeing o n (cases_Bool (sees (version_of op) (stamp_of o)))))
+      where
+        unseen : (o : Operation) → In h o → (sees (version_of o) (stamp_of op) ≡ true) ⊎ (sees (version_of o) (stamp_of op) ≡ false) → sees (version_of o) (stamp_of op) ≡ false
+        unseen o i (inl s) = let l = leb-true (stamp_of op).value (entry (version_of o) (stamp_of op).replica) s in
+            let g = inv.caused o i (stamp_of op).replica in let k = c.chained in let n = c.above (stamp_of op).replica in absurd (omega arith)
+        unseen o i (inr s) = s
+
+        unseeing : (o : Operation) → newer o op ≡ true → (sees (version_of op) (stamp_of o) ≡ true) ⊎ (sees (version_of op) (stamp_of o) ≡ false) → sees (version_of op) (stamp_of o) ≡ false
+        unseeing o n (inl s) = absurd (not_newer (stamp_of op) (stamp_of o) n (above (stamp_of o) s))
+        unseeing o n (inr s) = s
+
+stamp_none : (h : History) (op : Operation) → any_stamp h op ≡ false → AllByRecursion (λ (o : Operation). stamp_of o ≡ stamp_of op → ⊥) h
+stamp_none h op e = each_map (λ (o : Operation). same_stamp (stamp_of o) (stamp_of op) ≡ false) (λ (o : Operation). stamp_of o ≡ stamp_of op → ⊥)
+    (λ o n q. differ (stamp_of o) (stamp_of op) q n) h (any_none (λ o. same_stamp (stamp_of o) (stamp_of op)) h e)
+  where
+    differ : (s t : Lamport) → s ≡ t → same_stamp s t ≡ false → ⊥
+    differ s t q n = let r : same_stamp t t ≡ false = subst (λ (x : Lamport). same_stamp x t ≡ false) q n in
+        let i = same_stamp_refl t in cc
+
+pub append_nil : (h : History) → h ++ [] ≡ h
+append_nil [] = refl
+append_nil (o ∷ h) = ap (λ (x : History). o ∷ x) (append_nil h)
+
+-- what holds of each entry holds of what the version says of r
+pub each_entry : (P : ℕ × ℕ → Type 0) (v : Entries) (r : ℕ) → AllByRecursion P v → 0 < entry v r → P (r, entry v r)
+each_entry P [] r e h = absurd (omega arith)
+each_entry P (x ∷ v) r e h = go (cases_Bool (eqb x.0 r)) (each_entry P v r e.1)
+  where
+    go : (eqb x.0 r ≡ true) ⊎ (eqb x.0 r ≡ false) → (0 < entry v r → P (r, entry v r)) → P (r, entry (x ∷ v) r)
+    go (inl q) f = let z : x.0 ≡ r = eqb-true x.0 r q in rw q (subst (λ (y : ℕ). P (y, x.1)) z e.0)
+    go (inr q) f = rw q (f (rw q at h))
+
+pub within_entry : (u v : Entries) → within u v ≡ true → (q : ℕ) → entry u q ≤ entry v q
+within_entry [] v e q = omega arith
+within_entry (x ∷ u) v e q = go (cases_Bool (eqb x.0 q)) (and_parts (leb x.1 (entry v x.0)) (within u v) e)
+    (λ w. within_entry u v w q)
+  where
+    go : (eqb x.0 q ≡ true) ⊎ (eqb x.0 q ≡ false) → (leb x.1 (entry v x.0) ≡ true) × (within u v ≡ true)
+        → (within u v ≡ true → entry u q ≤ entry v q) → entry (x ∷ u) q ≤ entry v q
+    go (inl z) n f = rw z (subst (λ (y : ℕ). x.1 ≤ entry v y) (eqb-true x.0 q z) (leb-true x.1 (entry v x.0) n.0))
+    go (inr z) n f = rw z (f n.1)
+
+-- the operation that the entry names, with its version within v
+abbrev pub Named : History → Entries → ℕ × ℕ → Type 0
+Named h v e = (m : Operation) × In h m × (stamp_of m ≡ record { value = e.1; replica = e.0 }) × ((q : ℕ) → entry (version_of m) q ≤ entry v q)
+
+pub entry_named : (h : History) (v : Entries) (e : ℕ × ℕ) → is_entry_closed h v e ≡ true → Named h v e
+entry_named [] v e t = cc
+entry_named (o ∷ h) v e t = go (or_cases (same_stamp (stamp_of o) (record { value = e.1; replica = e.0 }) && within (version_of o) v) (is_entry_closed h v e) t) (entry_named h v e)
+  where
+    go : (same_stamp (stamp_of o) (record { value = e.1; replica = e.0 }) && within (version_of o) v ≡ true) ⊎ (is_entry_closed h v e ≡ true)
+        → (is_entry_closed h v e ≡ true → Named h v e) → Named (o ∷ h) v e
+    go (inl z) f = let a = and_parts (same_stamp (stamp_of o) (record { value = e.1; replica = e.0 })) (within (version_of o) v) z in
+        (o, inl refl, same_stamp_eq (stamp_of o) (record { value = e.1; replica = e.0 }) a.0, within_entry (version_of o) v a.1)
+    go (inr z) f = let w = f z in (w.0, inr w.1, w.2, w.3)
+
+pub map_length : {A B : Type 0} (f : A → B) (xs : List A) → length (map f xs) ≡ length xs
+map_length f [] = refl
+map_length f (x ∷ xs) = ap suc (map_length f xs)
+
+pub full_length : (keep : Lamport → Bool) (h : History) → length (full_where keep h) ≡ length (seq_where keep h)
+unfolding full_where
+full_length keep h = map_length (byte h) (cells (seq_where keep h)) ∙ map_length (λ (p : PathCell). p.cell) (seq_where keep h)
+
+pub seen_length : (h : History) (v : Entries) → length (full (seen_history h v)) ≡ length (seq_where (sees v) (newest_first h))
+seen_length h v = ap length (full_seen h v) ∙ full_length (sees v) (newest_first h)
+
+nat_above : (x y : ℕ) → (0 < x → leb y x ≡ false) → 0 < y → x < y
+nat_above x y f h = elim (cases_lt 0 x) [ inl p ↦ leb-false y x (f p) | inr p ↦ omega arith ]
+
+pub positive : (x : ℕ) → eqb x 0 ≡ false → 0 < x
+positive x e = grind (arith, nat_tests)
+
+pub named : (b : Bool) (x : ℕ) → 0 < x → (ltb 0 x && not b) ≡ false → b ≡ true
+named b x h e = let l : ltb 0 x ≡ true = lt-ltb 0 x h in not-false b (rw l at e)
+
+assemble : (h : History) (op : Operation) → 0 < (stamp_of op).value → AllByRecursion (λ (x : ℕ × ℕ). leb (stamp_of op).value x.1 ≡ false) (version_of op)
+    → any_stamp h op ≡ false → ltb (entry (version_of op) (stamp_of op).replica) (entry (version h) (stamp_of op).replica) ≡ false
+    → first_missing h (version_of op) ≡ None → open_replica h (version_of op) ≡ None → Checked h op
+assemble h op pos bad n f w o = record {
+  new = stamp_none h op n;
+  above = λ r. nat_above (entry (version_of op) r) (stamp_of op).value (each_entry (λ (x : ℕ × ℕ). leb (stamp_of op).value x.1 ≡ false) (version_of op) r bad) pos;
+  chained = subst (λ (x : ℕ). x ≤ entry (version_of op) (stamp_of op).replica) (entry_version h (stamp_of op).replica)
+      (ltb-false (entry (version_of op) (stamp_of op).replica) (entry (version h) (stamp_of op).replica) f);
+  caused = λ r. subst (λ (x : ℕ). entry (version_of op) r ≤ x) (entry_version h r) (cause r (cases_lt 0 (entry (version_of op) r)));
+  closed = λ r q. entry_named h (version_of op) (r, entry (version_of op) r)
+      (named (is_entry_closed h (version_of op) (r, entry (version_of op) r)) (entry (version_of op) r) q
+      (each_entry (λ (e : ℕ × ℕ). (ltb 0 e.1 && not (is_entry_closed h (version_of op) e)) ≡ false) (version_of op) r opens q));
+}
+  where
+    opens : AllByRecursion (λ (e : ℕ × ℕ). (ltb 0 e.1 && not (is_entry_closed h (version_of op) e)) ≡ false) (version_of op)
+    opens = find_none (λ e. ltb 0 e.1 && not (is_entry_closed h (version_of op) e)) (version_of op)
+        (map_none (λ e. e.0) (find (λ e. ltb 0 e.1 && not (is_entry_closed h (version_of op) e)) (version_of op)) o)
+
+    cause : (r : ℕ) → (0 < entry (version_of op) r) ⊎ (entry (version_of op) r ≤ 0) → entry (version_of op) r ≤ entry (version h) r
+    cause r (inl q) = ltb-false (entry (version h) r) (entry (version_of op) r)
+        (each_entry (λ (e : ℕ × ℕ). ltb (entry (version h) e.0) e.1 ≡ false) (version_of op) r (find_none (λ e. ltb (entry (version h) e.0) e.1) (version_of op) w) q)
+    cause r (inr q) = omega arith
+
+starts_of : (len : ℕ) (ps : List Piece) → AllByRecursion (λ (p : Piece). is_past len p ≡ false) ps → AllByRecursion (λ (p : Piece). is_reversed p ≡ false) ps → AllByRecursion (λ (p : Piece). p.start ≤ len) ps
+starts_of len [] a b = tt
+starts_of len (p ∷ ps) a b =
+    let u = ltb-false len p.end a.0 in let v = ltb-false p.end p.start b.0 in
+    (omega arith, starts_of len ps a.1 b.1)
+
+-- the parts of a stamp that is not bad
+pub stamp_parts : (op : Operation) → bad_stamp op ≡ false → (0 < (stamp_of op).value) × AllByRecursion (λ (x : ℕ × ℕ). leb (stamp_of op).value x.1 ≡ false) (version_of op) × (eqb (stamp_of op).replica 0 ≡ false)
+stamp_parts op e =
+    let t : Lamport = stamp_of op in
+    let v : Entries = version_of op in
+    let b5 = or_parts (eqb t.value 0 || eqb t.value 4294967295 || eqb t.replica 0 || ltb 1023 t.replica || list_any (λ x. ltb 1023 x.0) v) (list_any (λ x. leb t.value x.1) v) e in
+    let b4 = or_parts (eqb t.value 0 || eqb t.value 4294967295 || eqb t.replica 0 || ltb 1023 t.replica) (list_any (λ x. ltb 1023 x.0) v) b5.0 in
+    let b3 = or_parts (eqb t.value 0 || eqb t.value 4294967295 || eqb t.replica 0) (ltb 1023 t.replica) b4.0 in
+    let b2 = or_parts (eqb t.value 0 || eqb t.value 4294967295) (eqb t.replica 0) b3.0 in
+    let b1 = or_parts (eqb t.value 0) (eqb t.value 4294967295) b2.0 in
+    (positive t.value b1.0, any_none (λ x. leb t.value x.1) v b5.1, b2.1)
+
+pub checked_of : (h : History) (op : Operation) → answer h [] op ≡ Good
+    → Checked h op × AllByRecursion (λ (p : Piece). p.start ≤ length (seq_where (sees (version_of op)) (newest_first h))) (pieces_of op)
+checked_of h op e =
+    let p = passed h [] op e in
+    let s = shaped op p.shape in
+    let t = stamp_parts op s.stamp in
+    let n : any_stamp h op ≡ false = subst (λ (x : History). any_stamp x op ≡ false) (append_nil h) p.fresh in
+    let f = when_none (ltb (entry (version_of op) (stamp_of op).replica) (entry (version h) (stamp_of op).replica)) (Forked (entry (version h) (stamp_of op).replica)) p.chained in
+    let r = ranged (full (seen_history h (version_of op))) (pieces_of op) p.ranges in
+    let q : AllByRecursion (λ (x : Piece). is_past (length (seq_where (sees (version_of op)) (newest_first h))) x ≡ false) (pieces_of op) =
+    subst (λ (x : ℕ). AllByRecursion (λ (y : Piece). is_past x y ≡ false) (pieces_of op)) (seen_length h (version_of op)) r.0 in (
+      assemble h op t.0 t.1 n f p.caused p.closed,
+      starts_of (length (seq_where (sees (version_of op)) (newest_first h))) (pieces_of op) q s.forward,
+    )
+
+pub base_fits : (t : List ℕ) → Fits [] (base t)
+base_fits t = record { fresh = tt; above = λ u s. none_seen u s; closed = tt; apart = tt; starts = (omega arith, tt) }
+  where
+    none_seen : (u : Lamport) → sees [] u ≡ true → later (stamp_of (base t)) u ≡ true
+    none_seen u s = let l = leb-true u.value 0 s in later_of (stamp_of (base t)) u (omega arith)
+
+-- what a history needs for one operation more
+abbrev pub Ready : History → Type 0
+Ready h = LawInv h × Core (seq h)
+
+pub ready_base : (t : List ℕ) → Ready (base t ∷ [])
+ready_base t = (law_base (base t) (omega arith) refl, (one_more [] (base t) (base_fits t) none_yet).0)
+
+-- an operation whose answer is Good: the next history is ready, and its sequence is the old one with the pieces laid in
+pub good_more : (h : History) (op : Operation) → Ready h → answer h [] op ≡ Good
+    → Ready (h ++ op ∷ []) × (seq (h ++ op ∷ []) ≡ lay (sees (version_of op)) (stamp_of op) 0 (pieces_of op) (seq h))
+good_more h op r e =
+    let c = checked_of h op e in
+    let m = one_more h op (fits_of h op r.0 c.0 c.1) r.1 in
+    ((law_step h op r.0 c.0, m.0), m.1)
+
+ready_from : (h : History) (ops : List Operation) → Ready h → LawfulFrom h ops → Ready (h ++ ops)
+ready_from h [] r l = subst Ready (sym (append_nil h)) r
+ready_from h (op ∷ ops) r l = subst Ready (append_assoc h (op ∷ []) ops) (ready_from (h ++ op ∷ []) ops (good_more h op r l.0).0 l.1)
+
+pub lawful_ready : (h : History) → Lawful h → Ready h
+lawful_ready [] l = absurd l
+lawful_ready (op ∷ ops) l = ready_from (op ∷ []) ops (subst (λ (x : Operation). Ready (x ∷ [])) (sym l.0.1) (ready_base l.0.0)) l.1
+
+-- two lawful histories of one set of operations show the same
+pub lawful_same : (h g : History) → Lawful h → Lawful g → SameSet h g → (seq h ≡ seq g) × (text h ≡ text g)
+lawful_same h g l m s = let a = (lawful_ready h l).0 in let b = (lawful_ready g m).0 in
+    (seq_of_set h g a.distinct b.distinct s, text_of_set h g a.distinct b.distinct s)

@@ -1,0 +1,9 @@
+pub mod Append
+pub mod Lawful
+pub mod OneMore
+pub mod VersionLaws
+pub mod Proper
+pub mod MoreLawful
+pub mod Causes
+pub mod ClosedVersions
+pub mod SameVersions

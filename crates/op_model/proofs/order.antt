@@ -1,0 +1,12 @@
+pub mod PathOrder
+pub mod Insertion
+pub mod LateOperation
+pub mod Restricted
+pub mod Skipping
+pub mod Laying
+pub mod SameSets
+pub mod Groups
+pub mod Replayed
+pub mod Unique
+pub mod Literal
+pub mod CellsOnce

@@ -1,0 +1,11 @@
+pub mod Deleters
+pub mod Parts
+pub mod Bytes
+pub mod Deletions
+pub mod Facts
+pub mod Told
+pub mod EditTold
+pub mod UndoTold
+pub mod Walking
+pub mod OnePass
+pub mod Changes

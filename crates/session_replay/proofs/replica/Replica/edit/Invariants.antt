@@ -1,4 +1,0 @@
-use Rattle.session_replay.proofs.replica.Replica.edit.Given as goal
-
-abbrev pub ghosts-edit_with : goal.ghosts-edit_with
-ghosts-edit_with a = record { name = a.blank.name; parts = a.blank.parts }
