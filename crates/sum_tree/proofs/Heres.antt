@@ -51,9 +51,6 @@ module _ {S T : Type 0} {empty : S} {op : S → S → S} {admits fits : S → Ty
   pub held : (n m : Node T S) → m ≡ n → IsNode empty op fits sum_of n → Held m.height m.len m.sum m.content
   held n m e h = subst (λ (x : Node T S). IsNode empty op fits sum_of x) (sym e) h
 
-  pub held_at : (n m : Node T S) (d : Content T S) → m ≡ n → m.content ≡ d → IsNode empty op fits sum_of n → Held m.height m.len m.sum d
-  held_at n m d e is h = subst (λ (c : Content T S). Held m.height m.len m.sum c) is (held n m e h)
-
   pub start_sum : (n m : Node T S) (z : S) → m ≡ n → z ≡ empty → IsNode empty op fits sum_of n → op z m.sum ≡ fold empty op sum_of (content_items n.content)
   start_sum n m z e f h =
       let same : m.sum ≡ fold empty op sum_of (content_items n.content) = ap (λ (x : Node T S). x.sum) e ∙ h.2 in
@@ -68,25 +65,8 @@ module _ {S T : Type 0} {empty : S} {op : S → S → S} {admits fits : S → Ty
   pub next_fits : (xs : List T) (x : T) (s t : S) → s ≡ fold empty op sum_of xs → t ≡ sum_of x → fits (fold empty op sum_of (xs ++ x ∷ [])) → fits (op s t)
   next_fits xs x s t e f h = subst fits (sym (next_sum xs x s t e f)) h
 
-  pub leaf_grown : (h len : ℕ) (s u : S) (v : Vec T Global) (us : List T) (x : T) → Held h len s (Leaf v) → us ≡ v.items ++ x ∷ [] → length v.items < 12 → u ≡ fold empty op sum_of (v.items ++ x ∷ []) → fits (fold empty op sum_of (v.items ++ x ∷ [])) → length v.items < 2 ^ 40 → ((h ≡ 0) × (length us ≤ 12)) × (len + 1 ≡ length us) × (u ≡ fold empty op sum_of us) × fits (fold empty op sum_of us) × (length us ≤ 2 ^ 40)
-  leaf_grown h len s u v us x k grown room sum ok short =
-      let more : length us ≡ length v.items + 1 = omega (arith, ap length grown, length-append v.items (x ∷ [])) in
-      ((k.0.0, omega (arith, more)), omega (arith, more, k.1), rw grown sum, rw grown ok, omega (arith, more))
-
   abbrev pub HeldInner : ℕ → ℕ → S → List (Seen T) → Type 0
   HeldInner h len s ts = (All (IsChild h) ts × (2 ≤ length ts) × (length ts ≤ 12)) × (len ≡ length (join_items ts)) × (s ≡ fold empty op sum_of (join_items ts)) × fits (fold empty op sum_of (join_items ts)) × (length (join_items ts) ≤ 2 ^ 40)
-
-  pub inner_same : (h len : ℕ) (s : S) (v : Vec (Seen T) Global) (n : ℕ) (t u : Seen T) → Held h len s (Inner v) → t ≡ get_or v.items (n - 1) t → u ≡ t → HeldInner h len s (set v.items (n - 1) u)
-  inner_same h len s v n t u k read same = subst (λ (ts : List (Seen T)). HeldInner h len s ts) (sym (set_same v.items n t u read same)) k
-
-  pub inner_grown : (h len : ℕ) (s r : S) (v : Vec (Seen T) Global) (n : ℕ) (t u : Seen T) (x : T) → Held h len s (Inner v) → n ≡ length v.items → t ≡ get_or v.items (n - 1) t → u.items ≡ t.items ++ x ∷ [] → u.height ≡ t.height → t.width ≤ u.width → u.width ≤ 12 → r ≡ fold empty op sum_of (join_items v.items ++ x ∷ []) → fits (fold empty op sum_of (join_items v.items ++ x ∷ [])) → length (join_items v.items) < 2 ^ 40 → HeldInner h (len + 1) r (set v.items (n - 1) u)
-  inner_grown h len s r v n t u x k e read items height wide narrow sum ok short =
-      let l : 1 ≤ n = omega (arith, k.0.1) in
-      let grown : join_items (set v.items (n - 1) u) ≡ join_items v.items ++ x ∷ [] = joined-set_last v.items n t u x e l read items in
-      let child : IsChild h u = grown_child h t u x (last_is_child h v.items n t k.0.0 e l read) items height wide narrow in
-      let count : length (set v.items (n - 1) u) ≡ length v.items = length-set v.items (n - 1) u in
-      let more : length (join_items (set v.items (n - 1) u)) ≡ length (join_items v.items) + 1 = omega (arith, ap length grown, length-append (join_items v.items) (x ∷ [])) in
-      ((All-set (IsChild h) v.items (n - 1) u child k.0.0, omega (arith, count, k.0.1), omega (arith, count, k.0.2)), omega (arith, more, k.1), rw grown sum, rw grown ok, omega (arith, more))
 
 pub same_seen : {T S : Type 0} (s : Seen T) (n m : Node T S) (v : Vec (Seen T) Global) (ts : List (Seen T)) → node_view n ≡ s → m ≡ n → m.content ≡ Inner v → ts ≡ v.items → record { items = join_items ts; height = m.height; width = length ts } ≡ s
 same_seen {T} {S} s n m v ts e f is g =

@@ -16,10 +16,6 @@ module _ {X : Type 0} where
       let first : take b three ≡ drop to xs = ap (take b) whole ∙ ap (λ (n : ℕ). take n (drop to xs ++ (take from xs ++ run))) (sym back) ∙ take-append_seam (drop to xs) (take from xs ++ run) in
       i ∙ ap (λ (ys : List X). ys ++ take b three) last ∙ ap (λ (ys : List X). (take from xs ++ run) ++ ys) first
 
-  pub put_length : (from to : ℕ) (run xs : List X) → from ≤ to → to ≤ length xs → length (splice_list from to run xs) ≡ from + length run + (length xs - to)
-  put_length from to run xs le within =
-      omega (arith, length-append (take from xs ++ run) (drop to xs), length-append (take from xs) run, length-take-le from xs (omega (arith, le, within)), length-drop to xs)
-
   pub popped : (xs all rest : List X) (n : ℕ) (x : X) → n ≡ length all → rest ≡ take (n - 1) all → all ≡ xs ++ x ∷ [] → rest ≡ xs
   popped xs all rest n x e f g =
       let size : n - 1 ≡ length xs = omega (arith, e, ap length g, length-append xs (x ∷ [])) in

@@ -73,13 +73,6 @@ module _ {T : Type 0} where
       let children : All (IsChild h) us = subst (λ (vs : List (Seen T)). All (IsChild h) vs) (sym made) (run_children h ts (n - 1) (n - 1 + 1) a b all (split_children h t.height t.width (t.items ++ ys) a b child.lower child.wide split)) in
       (items, children, omega (arith, size, two.0, least), omega (arith, size, two.1, few))
 
-  pub beside_some : (h : ℕ) (old new : List (Seen T)) (x y : T) (o : Option T) → o ≡ Some y → IsPushedBesideOr h old new x o → (new ≡ old) × (y ≡ x)
-  beside_some h old new x y o e p = subst (λ (q : Option T). IsPushedBesideOr h old new x q) e p
-
-  pub beside_none : (h : ℕ) (old ts new : List (Seen T)) (y x : T) (o : Option T) → o ≡ None → old ≡ ts → y ≡ x → IsPushedBesideOr h old new y o → IsPushedBesideOr h ts new x None
-  beside_none h old ts new y x o e f g p =
-      subst (λ (z : T). IsPushedBesideOr h ts new z None) g (subst (λ (zs : List (Seen T)). IsPushedBesideOr h zs new y None) f (subst (λ (q : Option T). IsPushedBesideOr h old new y q) e p))
-
   pub split_moved : (h h' w : ℕ) (xs ys : List T) (a b : Seen T) → h ≡ h' → xs ≡ ys → IsSplit h w xs a (Some b) → IsSplit h' 0 ys a (Some b)
   split_moved h h' w xs ys a b e f s = (s.0 ∙ f, subst (λ (n : ℕ). IsChild (n + 1) a) e s.1, subst (λ (n : ℕ). IsChild (n + 1) b) e s.2)
 
@@ -93,10 +86,6 @@ module _ {T : Type 0} where
   pub paired_all : (ts us : List (Seen T)) (k h w : ℕ) (a b : Seen T) (m xs : List T) → us ≡ with_pair ts k a (Some b) → IsSplit h w m a (Some b) → join_items (take k ts) ++ (m ++ join_items (drop (k + 1) ts)) ≡ xs → join_items us ≡ xs
   paired_all ts us k h w a b m xs made split whole =
       ap join_items made ∙ run-joined ts k (k + 1) a (Some b) ∙ ap (λ (zs : List T). join_items (take k ts) ++ (zs ++ join_items (drop (k + 1) ts))) (pair-joined h w m a (Some b) split) ∙ whole
-
-  pub paired_children : (h : ℕ) (ts us : List (Seen T)) (k : ℕ) (t a b : Seen T) (w : ℕ) (m : List T) → All (IsChild h) ts → IsChild h t → us ≡ with_pair ts k a (Some b) → IsSplit t.height w m a (Some b) → All (IsChild h) us
-  paired_children h ts us k t a b w m all child made split =
-      subst (λ (vs : List (Seen T)). All (IsChild h) vs) (sym made) (run_children h ts k (k + 1) a (Some b) all (split_children h t.height 6 m a (Some b) child.lower (omega arith) split))
 
   -- a pair that there is room for
   pub paired_placed : (h : ℕ) (ts us : List (Seen T)) (k : ℕ) (a b : Seen T) → k < length ts → length ts < 12 → AreChildren h ts → IsChild h a → IsChild h b → us ≡ with_pair ts k a (Some b) → AreChildren h us × IsPlaced (length ts) (join_items (with_pair ts k a (Some b))) (inner_seen h ts) (inner_seen h us)

@@ -61,19 +61,6 @@ module _ {T : Type 0} where
       } in
       subst (λ (z : Seen T). IsPlaced w xs s z) (sym e) new
 
-  -- a changed leaf
-  pub leaf_is_placed : (w h : ℕ) (s : Seen T) (us xs : List T) → us ≡ xs → h ≡ s.height → s.height ≡ 0 → w ≤ length xs → length xs ≤ 12 → IsPlaced w xs s (record { items = us; height = h; width = length us })
-  leaf_is_placed w h s us xs e height low wide narrow =
-      let same : length us ≡ length xs = ap length e in
-      let leaf : h ≡ 0 = height ∙ low in
-      record {
-        items = e;
-        height = height;
-        wide = omega (arith, same, wide);
-        narrow = omega (arith, same, narrow);
-        many = λ l. subst (λ (n : ℕ). 6 ^ (n + 1) ≤ length us) (sym leaf) (omega (arith, l));
-      }
-
 module _ {S E N : Type 0} where
   -- the sum that is taken off is written where the change is made
   pub noted_done : (n len : ℕ) (s : S) (p : Placing (Vec S Global) E N) (sums rest : Vec S Global) (last : S) → p ≡ Done sums → sums.items ≡ rest.items ++ last ∷ [] → IsNoted n len n s last p (Done rest)
@@ -107,10 +94,6 @@ module _ {S T : Type 0} {empty : S} {op : S → S → S} {admits fits : S → Ty
   around_fits f m z all a b e h =
       rw b (subst fits (fold-append laws sum_of admitted f m) (fits_left laws sum_of admitted (f ++ m) z (subst (λ (us : List T). fits (fold empty op sum_of us)) (sym e ∙ sym (append_assoc f m z)) h)))
 
-  -- the children are as they were
-  pub same_inner : (h len : ℕ) (s : S) (v : Vec (Seen T) Global) (us : List (Seen T)) → Held laws sum_of admitted h len s (Inner v) → us ≡ v.items → HeldInner laws sum_of admitted h len s us
-  same_inner h len s v us held same = subst (λ (ts : List (Seen T)). HeldInner laws sum_of admitted h len s ts) (sym same) held
-
   -- a node in which a change was noted
   pub noted_node : (n len len' h w : ℕ) (s s' x : S) (c d : Content T S) (ss : List S) (xs ys : List T) (p q : Placing (Vec S Global) (Vec T Global) (Seen T)) → IsNode empty op fits sum_of (record { height = h; len = len; sum = s; content = c }) → IsContent h d → IsPlacing (ss ++ x ∷ []) w xs ys (content_seen h c) (content_seen h d) p → IsNoted n len len' s s' p q → n ≡ length xs → x ≡ fold empty op sum_of xs → fits (fold empty op sum_of xs) → length xs ≤ 2 ^ 40 → IsNode empty op fits sum_of (record { height = h; len = len'; sum = s'; content = d })
   noted_node n len len' h w s s' x c d ss xs ys (Done sums) q node held p k size sum ok short =
@@ -123,8 +106,3 @@ module _ {S T : Type 0} {empty : S} {op : S → S → S} {admits fits : S → Ty
   noted_node n len len' h w s s' x c d ss xs ys (Back es) q node held p k size sum ok short =
       let all : content_items d ≡ content_items c = ap (λ (z : Seen T). z.items) p.0 in
       (held, rw all (k.0 ∙ node.1), rw all (k.1 ∙ node.2), rw all node.3, rw all node.4)
-
-  pub kept_node : (len h : ℕ) (s : S) (c d : Content T S) → IsNode empty op fits sum_of (record { height = h; len = len; sum = s; content = c }) → IsContent h d → content_seen h d ≡ content_seen h c → IsNode empty op fits sum_of (record { height = h; len = len; sum = s; content = d })
-  kept_node len h s c d node held same =
-      let all : content_items d ≡ content_items c = ap (λ (z : Seen T). z.items) same in
-      (held, rw all node.1, rw all node.2, rw all node.3, rw all node.4)

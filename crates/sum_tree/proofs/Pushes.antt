@@ -23,11 +23,6 @@ beside_pushed {T} h old ts new y x (Ok None) e f p =
 beside_pushed h old ts new y x (Ok (Some z)) e f p = (ap (inner_seen h) (p.0 ∙ e), p.1 ∙ f)
 beside_pushed h old ts new y x (Err z) e f p = ap (inner_seen h) (p ∙ e)
 
--- a leaf as a node's content
-pub leaf_pushed : {S T E : Type 0} (h : ℕ) (c : Content T S) (v w : Vec T Global) (x : T) (r : Result (Option T) E) → c ≡ Leaf v → h ≡ 0 → IsPushed (leaf_seen v.items) (leaf_seen w.items) x r → IsPushed (content_seen h c) (content_seen {S = S} h (Leaf w)) x r
-leaf_pushed {S} {T} h c v w x r is low p =
-    subst (λ (q : Content T S). IsPushed (content_seen h q) (content_seen {S = S} h (Leaf w)) x r) (sym is) (subst (λ (n : ℕ). IsPushed (content_seen {S = S} n (Leaf v)) (content_seen {S = S} n (Leaf w)) x r) (sym low) p)
-
 module _ {S T : Type 0} {empty : S} {op : S → S → S} {admits fits : S → Type 0} (laws : SummaryLaws empty op admits fits) (sum_of : T → S) (admitted : (x : T) → admits (sum_of x)) where
   -- the sum that a push writes
   pub pushed_sum : (xs : List T) (x : T) (s : S) → s ≡ fold empty op sum_of xs → op (op empty s) (sum_of x) ≡ fold empty op sum_of (xs ++ x ∷ [])
