@@ -3,23 +3,17 @@ ghost use Rattle.std.specs.Prelude.{◌≡◌};
 ghost use Rattle.std.specs.List.{position};
 ghost use Rattle.op_model.specs.Histories.{History, seen_history};
 ghost use Rattle.op_model.specs.Shown.{full};
-ghost use Rattle.op_model.specs.Edits.{is_inside, is_past};
+ghost use Rattle.op_model.specs.Edits.{is_inside};
 ghost use Rattle.op_model.specs.Answers.{range_fault};
 ghost use Rattle.op_model.specs.Lawful.{Lawful, IsClosed};
 ghost use Rattle.seen_text.specs.Texts.{TellTexts};
 
 use fragments::Fragment;
 use lamport_clock::Version;
-use op_model::{OpFault, Piece};
+use op_model::{OpFault, Piece, first_past};
 use rope_chunks::Rope;
 use seen_text::{is_seen_boundary, seen_len};
 use sum_tree::SumTree;
-
-fn past_end(len: u64, pieces: &[Piece]) -> Option<usize>
-    ensures { result ≡ position (is_past len) pieces.now }
-{
-    pieces.iter().position(|piece| len < piece.end)
-}
 
 // Whether a piece starts or ends inside a character: an empty range is asked for one end.
 fn is_inside(
@@ -75,7 +69,7 @@ pub fn range_fault(
         → result ≡ range_fault (full (seen_history h version.now)) pieces.now }
 {
     let len = seen_len(fragments, version);
-    if let Some(i) = past_end(len, pieces) {
+    if let Some(i) = first_past(len, pieces) {
         return Some(OpFault::PastEnd(i as u64, len));
     }
     if let Some(i) = inside_char(fragments, shown, hidden, version, pieces) {

@@ -6,9 +6,13 @@ use Rattle.op_model.specs.declared.operation.Operation.{Operation}
 use Rattle.op_model.specs.Operations.{stamp_of, pieces_of}
 use Rattle.op_model.specs.Histories.{History, Distinct, base}
 
+-- the texts of pieces are UTF-8
+abbrev pub AreUtf8 : List Piece → Type 0
+AreUtf8 ps = AllByRecursion (λ (p : Piece). IsUtf8 p.text) ps
+
 -- what laws of whole histories need of an operation: the value of its stamp is one of its type, its texts are UTF-8
 abbrev pub IsProper : Operation → Type 0
-IsProper op = ((stamp_of op).value < 4294967296) × AllByRecursion (λ (p : Piece). IsUtf8 p.text) (pieces_of op)
+IsProper op = ((stamp_of op).value < 4294967296) × AreUtf8 (pieces_of op)
 
 -- the id of an editor's replica
 abbrev pub IsReplica : ℕ → Type 0

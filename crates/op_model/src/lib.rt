@@ -33,5 +33,5 @@ pub use laws::{
 pub use limits::Limits;
 pub use lists::{Counts, Pieces, Text};
 pub use operation::{EditOp, Operation, Piece, UndoCount, UndoOp};
-pub use pieces::{first_overlap, first_reversed, text_total};
+pub use pieces::{TEXT_LIMIT, first_overlap, first_past, first_reversed, text_total};
 pub use shapes::{ShapeFault, shape};

@@ -1,8 +1,9 @@
-//! What is asked of pieces with no text at hand.
+//! What is asked of pieces with no text at hand, or with its length alone.
 ghost use Rattle.std.specs.Prelude.{◌≡◌};
 ghost use Rattle.std.specs.List.{position};
+ghost use Rattle.op_model.specs.Domains.{AreUtf8};
 ghost use Rattle.op_model.specs.Operations.{text_total};
-ghost use Rattle.op_model.specs.Edits.{is_reversed, overlap_from};
+ghost use Rattle.op_model.specs.Edits.{is_past, is_reversed, overlap_from};
 
 use crate::Piece;
 
@@ -27,9 +28,20 @@ pub fn first_overlap(pieces: &[Piece]) -> Option<usize>
     None
 }
 
-/// The bytes of all new texts.
+/// The least piece that ends past a text of so many bytes.
+pub fn first_past(len: u64, pieces: &[Piece]) -> Option<usize>
+    ensures { result ≡ position (is_past len) pieces.now }
+{
+    pieces.iter().position(|p| len < p.end)
+}
+
+/// The most bytes that the new texts of an operation have together.
+pub const TEXT_LIMIT: u128 = 65_536;
+
+/// The bytes of all new texts. That these are UTF-8 is a clause for callers.
 pub fn text_total(pieces: &[Piece]) -> u128
-    ensures { result ≡ text_total pieces.now }
+    ensures total { result ≡ text_total pieces.now }
+    ensures utf8 { AreUtf8 pieces.now }
 {
     let mut sum = 0u128;
     for p in pieces {

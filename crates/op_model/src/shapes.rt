@@ -5,15 +5,12 @@ ghost use Rattle.op_model.specs.Operations.{version_of, pieces_of};
 ghost use Rattle.op_model.specs.Answers.{bad_stamp, no_base, shape_fault};
 ghost use Rattle.op_model.specs.Shapes.{op_fault};
 
-use crate::{OpFault, Operation, Piece, first_overlap, first_reversed, text_total};
+use crate::{OpFault, Operation, Piece, TEXT_LIMIT, first_overlap, first_reversed, text_total};
 use lamport_clock::Version;
 use thiserror::Error;
 
 // The greatest id of an editor's replica.
 const LAST_REPLICA: u16 = 1023;
-
-// The most bytes that the new texts of an operation have together.
-const TEXT_LIMIT: u128 = 65_536;
 
 /// Why an operation alone is none that a replica makes. A piece's index counts from 0.
 #[derive(Clone, Copy, Debug, PartialEq, Eq, Error)]

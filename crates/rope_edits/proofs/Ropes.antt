@@ -9,7 +9,8 @@ use Rattle.op_model.specs.declared.operation.Piece.{Piece}
 use Rattle.op_model.specs.Operations.{text_total}
 use Rattle.op_model.specs.Edits.{is_boundary, piece_fault, replace_ranges, replaced_from}
 use Rattle.op_model.proofs.texts.WholeTexts.{boundary_of, of_boundary}
-use Rattle.rope_edits.specs.Fit.{AreFit, AreUtf8}
+use Rattle.op_model.specs.Domains.{AreUtf8}
+use Rattle.rope_edits.specs.Fit.{AreFit}
 use Rattle.rope_edits.proofs.Fit.{fits_of_none, length_replaced}
 
 -- the test of a boundary is std's

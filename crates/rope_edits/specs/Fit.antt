@@ -1,14 +1,9 @@
 -- For private clauses: pieces that meet no fault against a text.
 use Rattle.std.specs.Prelude.{ℕ, ◌≤◌, List, [], ◌∷◌}
-use Rattle.std.specs.List.{AllByRecursion}
-use Rattle.std.specs.Str.{IsCharBoundary, IsUtf8}
+use Rattle.std.specs.Str.{IsCharBoundary}
 use Rattle.op_model.specs.declared.operation.Piece.{Piece}
 
 -- from a place on, the pieces stand in order on boundaries of the text
 abbrev pub AreFit : ℕ → List Piece → List ℕ → Type 0
 AreFit at [] text = IsCharBoundary text at
 AreFit at (p ∷ ps) text = IsCharBoundary text at × (at ≤ p.start) × IsCharBoundary text p.start × (p.start ≤ p.end) × AreFit p.end ps text
-
--- the texts of the pieces are UTF-8
-abbrev pub AreUtf8 : List Piece → Type 0
-AreUtf8 ps = AllByRecursion (λ (p : Piece). IsUtf8 p.text) ps

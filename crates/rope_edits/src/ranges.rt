@@ -2,10 +2,10 @@
 ghost use Rattle.std.specs.Prelude.{◌≡◌, ◌+◌, ◌^◌, ◌≤◌, None, length, IfOk};
 ghost use Rattle.std.specs.List.{position};
 ghost use Rattle.op_model.specs.Operations.{text_total};
-ghost use Rattle.op_model.specs.Edits.{is_boundary, is_past, is_inside, piece_fault, replace_ranges};
+ghost use Rattle.op_model.specs.Edits.{is_boundary, is_inside, piece_fault, replace_ranges};
 
 use crate::OutOfMemory;
-use op_model::{EditFault, Piece, first_overlap, first_reversed};
+use op_model::{EditFault, Piece, first_overlap, first_past, first_reversed};
 use rope_chunks::Rope;
 use std::alloc::Global;
 
@@ -13,12 +13,6 @@ fn is_boundary(rope: &Rope, i: u64) -> bool
     ensures { result ≡ is_boundary rope.now i }
 {
     rope.is_char_boundary(i)
-}
-
-fn past_end(len: u64, changes: &[Piece]) -> Option<usize>
-    ensures { result ≡ position (is_past len) changes.now }
-{
-    changes.iter().position(|change| len < change.end)
 }
 
 fn inside_char(rope: &Rope, changes: &[Piece]) -> Option<usize>
@@ -38,7 +32,7 @@ pub fn piece_fault(rope: &Rope, changes: &[Piece]) -> Option<EditFault>
     if let Some(i) = first_overlap(changes) {
         return Some(EditFault::Overlap(i as u64));
     }
-    if let Some(i) = past_end(rope.len(), changes) {
+    if let Some(i) = first_past(rope.len(), changes) {
         return Some(EditFault::PastEnd(i as u64, rope.len()));
     }
     if let Some(i) = inside_char(rope, changes) {

@@ -17,11 +17,11 @@ ghost use Rattle.text_buffer.specs.Costs.{IsEditCost};
 use crate::base::Base;
 use crate::document::Document;
 use crate::faults::length_fault;
-use crate::pieces::{size, text_total};
+use crate::pieces::size;
 use crate::{NewFault, OutOfMemory, Refused};
 use deferred_ops::Deferred;
 use lamport_clock::{Lamport, Version};
-use op_model::{EditFault, Limits, OpFault, Operation, Piece};
+use op_model::{EditFault, Limits, OpFault, Operation, Piece, TEXT_LIMIT, text_total};
 use rope_edits::piece_fault;
 use std::alloc::Global;
 use std::marker::{Brand, Model};
@@ -292,7 +292,7 @@ impl Buffer {
             return Some(fault);
         }
         let total = text_total(changes);
-        if total > 65_536 {
+        if TEXT_LIMIT < total {
             return Some(EditFault::TextLimit(total));
         }
         if self.document.clock() == u32::MAX {

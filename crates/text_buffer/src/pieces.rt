@@ -1,22 +1,9 @@
-//! What pieces and operations add to what a buffer holds.
+//! What an operation adds to what a buffer holds.
 ghost use Rattle.std.specs.Prelude.{◌≡◌};
 ghost use Rattle.op_model.specs.Domains.{IsProper};
-ghost use Rattle.op_model.specs.Operations.{text_total, bytes_of, entries_of};
-ghost use Rattle.rope_edits.specs.Fit.{AreUtf8};
+ghost use Rattle.op_model.specs.Operations.{bytes_of, entries_of};
 
-use op_model::{Operation, Piece};
-
-/// The bytes of all new texts. That these are UTF-8 is a clause for callers.
-pub fn text_total(pieces: &[Piece]) -> u128
-    ensures total { result ≡ text_total pieces.now }
-    ensures utf8 { AreUtf8 pieces.now }
-{
-    let mut sum = 0u128;
-    for p in pieces {
-        sum += p.text.as_str().len() as u128;
-    }
-    sum
-}
+use op_model::{Operation, text_total};
 
 /// What an operation adds to the bytes and to the entries that a buffer holds. That its stamp's value is one of its type and its texts
 /// are UTF-8 is a clause for callers.

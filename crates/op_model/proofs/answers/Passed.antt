@@ -5,6 +5,7 @@ use Rattle.std.specs.List.{AllByRecursion, find, list_any, position, position_fr
 use Rattle.std.proofs.lemmas.Iterator.Adapters.{position_from-zero}
 use Rattle.op_model.specs.declared.operation.Operation.{Operation}
 use Rattle.op_model.specs.declared.operation.Piece.{Piece}
+use Rattle.op_model.specs.declared.faults.OpFault.{OpFault}
 use Rattle.op_model.specs.declared.faults.OpFault.TheVariants.{BadStamp, NoBase, TextLimit, Reversed, Overlap, Conflict, OpenVersion, PastEnd, InsideChar}
 use Rattle.op_model.specs.Choice.{first_of, when}
 use Rattle.op_model.specs.Operations.{version_of, pieces_of, counts_of, stamp_of, text_total}
@@ -86,23 +87,23 @@ any_some t P (x ∷ xs) f e = go (t x) refl (any_some t P xs f e.1)
     go true i j = absurd (f x i e.0)
     go false i j = j
 
--- none of the list is Good
-abbrev NotGood : List (Option Answer) → Type 0
-NotGood [] = Unit {0}
-NotGood (o ∷ r) = (o ≡ Some Good → ⊥) × NotGood r
+-- none of the list is that answer
+abbrev pub Not : Answer → List (Option Answer) → Type 0
+Not a [] = Unit {0}
+Not a (o ∷ r) = (o ≡ Some a → ⊥) × Not a r
 
-first_not : (r : List (Option Answer)) → NotGood r → first_of r ≡ Some Good → ⊥
-first_not [] n e = cc
-first_not (None ∷ r) n e = first_not r n.1 e
-first_not (Some a ∷ r) n e = n.0 e
+pub first_other : (a : Answer) (r : List (Option Answer)) → Not a r → first_of r ≡ Some a → ⊥
+first_other a [] n e = cc
+first_other a (None ∷ r) n e = first_other a r n.1 e
+first_other a (Some x ∷ r) n e = n.0 e
 
-map_not : {A : Type 0} (f : A → Answer) → ((x : A) → f x ≡ Good → ⊥) → (o : Option A) → option_map f o ≡ Some Good → ⊥
-map_not f n None e = cc
-map_not f n (Some x) e = let g : f x ≡ Good = cc in n x g
+pub map_other : {A : Type 0} (a : Answer) (f : A → Answer) → ((x : A) → f x ≡ a → ⊥) → (o : Option A) → option_map f o ≡ Some a → ⊥
+map_other a f n None e = cc
+map_other a f n (Some x) e = let g : f x ≡ a = cc in n x g
 
-when_not : (b : Bool) (a : Answer) → (a ≡ Good → ⊥) → when b a ≡ Some Good → ⊥
-when_not true a n e = let g : a ≡ Good = cc in n g
-when_not false a n e = cc
+pub when_other : (a : Answer) (b : Bool) (x : Answer) → (x ≡ a → ⊥) → when b x ≡ Some a → ⊥
+when_other a true x n e = let g : x ≡ a = cc in n g
+when_other a false x n e = cc
 
 pub no_objection : (o : Option Answer) → (o ≡ Some Good → ⊥) → unwrap_or o Good ≡ Good → o ≡ None
 no_objection None n e = refl
@@ -118,43 +119,43 @@ pub record Passed (h : History) (w : List Operation) (op : Operation) : Type 0 w
   pub ranges : range_fault (full (seen_history h (version_of op))) (pieces_of op) ≡ None
   pub counts : count_fault (seen_history h (version_of op)) (counts_of op) ≡ None
 
-objection_not : (h : History) (w : List Operation) (op : Operation) → objection h w op ≡ Some Good → ⊥
-objection_not h w op = first_not (
-    option_map Refused (shape_fault op)
-    ∷ when (any_equal (h ++ w) op) Repeat
-    ∷ when (any_stamp (h ++ w) op) (Refused (Conflict (stamp_of op)))
-    ∷ option_map Refused (fork_fault h op)
-    ∷ option_map (λ e. Waits e.0 e.1) (first_missing h (version_of op))
-    ∷ option_map (λ r. Refused (OpenVersion r)) (open_replica h (version_of op))
-    ∷ option_map Refused (range_fault (full (seen_history h (version_of op))) (pieces_of op))
-    ∷ option_map Refused (count_fault (seen_history h (version_of op)) (counts_of op))
-    ∷ []) (
-      map_not Refused (λ x e. cc) (shape_fault op),
+-- an answer that is no refusal, no repeat and no wait is no objection
+pub objection_not : (a : Answer) (h : History) (w : List Operation) (op : Operation)
+    → ((f : OpFault) → Refused f ≡ a → ⊥)
+    → (when (any_equal (h ++ w) op) Repeat ≡ Some a → ⊥)
+    → (option_map (λ (e : ℕ × ℕ). Waits e.0 e.1) (first_missing h (version_of op)) ≡ Some a → ⊥)
+    → objection h w op ≡ Some a → ⊥
+objection_not a h w op fault repeat waits = first_other a _ (
+  map_other a Refused fault (shape_fault op),
+  (
+    repeat,
+    (
+      when_other a (any_stamp (h ++ w) op) (Refused (Conflict (stamp_of op))) (fault (Conflict (stamp_of op))),
       (
-        when_not (any_equal (h ++ w) op) Repeat (λ e. cc),
+        map_other a Refused fault (fork_fault h op),
         (
-          when_not (any_stamp (h ++ w) op) (Refused (Conflict (stamp_of op))) (λ e. cc),
+          waits,
           (
-            map_not Refused (λ x e. cc) (fork_fault h op),
+            map_other a (λ r. Refused (OpenVersion r)) (λ r. fault (OpenVersion r)) (open_replica h (version_of op)),
             (
-              map_not (λ e. Waits e.0 e.1) (λ x e. cc) (first_missing h (version_of op)),
-              (
-                map_not (λ r. Refused (OpenVersion r)) (λ x e. cc) (open_replica h (version_of op)),
-                (
-                  map_not Refused (λ x e. cc) (range_fault (full (seen_history h (version_of op))) (pieces_of op)),
-                  (map_not Refused (λ x e. cc) (count_fault (seen_history h (version_of op)) (counts_of op)), tt),
-                ),
-              ),
+              map_other a Refused fault (range_fault (full (seen_history h (version_of op))) (pieces_of op)),
+              (map_other a Refused fault (count_fault (seen_history h (version_of op)) (counts_of op)), tt),
             ),
           ),
         ),
       ),
-    )
+    ),
+  ),
+)
+
+good_not : (h : History) (w : List Operation) (op : Operation) → objection h w op ≡ Some Good → ⊥
+good_not h w op = objection_not Good h w op (λ f e. cc) (when_other Good (any_equal (h ++ w) op) Repeat (λ e. cc))
+    (map_other Good (λ (e : ℕ × ℕ). Waits e.0 e.1) (λ x e. cc) (first_missing h (version_of op)))
 
 pub passed : (h : History) (w : List Operation) (op : Operation) → answer h w op ≡ Good → Passed h w op
 unfolding answer
 passed h w op e =
-    let s0 : objection h w op ≡ None = no_objection (objection h w op) (objection_not h w op) e in
+    let s0 : objection h w op ≡ None = no_objection (objection h w op) (good_not h w op) e in
     let s1 = first_none _ _ s0 in
     let s2 = first_none _ _ s1.1 in
     let s3 = first_none _ _ s2.1 in

@@ -8,17 +8,16 @@ use Rattle.lamport_clock.specs.Versions.{within}
 use Rattle.op_model.specs.declared.operation.Operation.{Operation}
 use Rattle.op_model.specs.declared.limits.Limits.{Limits as LimitsType}
 use Rattle.op_model.specs.declared.faults.OpFault.{OpFault}
-use Rattle.op_model.specs.declared.faults.OpFault.TheVariants.{BadStamp, Conflict, OpenVersion, Full}
+use Rattle.op_model.specs.declared.faults.OpFault.TheVariants.{BadStamp, Full}
 use Rattle.op_model.specs.declared.faults.Unit.{Unit as LimitUnit}
 use Rattle.op_model.specs.Choice.{when}
 use Rattle.op_model.specs.Sorted.{Member, insert_by}
-use Rattle.op_model.specs.Operations.{stamp_of, version_of, pieces_of, counts_of, bytes_of, entries_of}
-use Rattle.op_model.specs.Histories.{History, In, SameSet, base, version, seen_history}
+use Rattle.op_model.specs.Operations.{stamp_of, version_of, bytes_of, entries_of}
+use Rattle.op_model.specs.Histories.{History, In, SameSet, base, version}
 use Rattle.op_model.specs.Domains.{IsReplica}
 use Rattle.op_model.specs.Limited.{Excess, excess}
-use Rattle.op_model.specs.Shown.{full}
 use Rattle.op_model.specs.Made.{local_edit, local_undo, local_edit_fault, local_undo_fault}
-use Rattle.op_model.specs.Answers.{Answer, answer, objection, shape_fault, any_equal, any_stamp, same_op, fork_fault, first_missing, open_replica, range_fault, count_fault}
+use Rattle.op_model.specs.Answers.{Answer, answer, objection, any_equal, same_op, first_missing}
 use Rattle.op_model.specs.Answers.Answer.{Good, Repeat, Waits, Refused}
 use Rattle.op_model.specs.Lawful.{Lawful}
 use Rattle.op_model.specs.Settled.{State, Turn, turn, turn_of, full_fault, pass, passes, settle}
@@ -34,45 +33,17 @@ use Rattle.op_model.proofs.answers.Good.{lawful_ready}
 use Rattle.op_model.proofs.histories.MoreLawful.{lawful_more}
 use Rattle.op_model.proofs.texts.WholeTexts.{in_more, in_last}
 use Rattle.op_model.proofs.histories.Proper.{same_is, edit_good, undo_good}
+use Rattle.op_model.proofs.answers.Passed.{map_other, objection_not}
 use Rattle.op_model.proofs.answers.SameAnswers.{any_from}
-use Rattle.op_model.proofs.settling.Settling.{after, pass_is, append_good, pass_keeps, settled_keeps, settled_misses, good_alone, limited_good, first_other, map_other, when_other, unwrapped, none_or, Holds, step_holds, opened_holds}
+use Rattle.op_model.proofs.settling.Settling.{after, pass_is, append_good, pass_keeps, settled_keeps, settled_misses, good_alone, limited_good, unwrapped, none_or, Holds, step_holds, opened_holds}
 use Rattle.op_model.proofs.settling.AllApplied.{all_applied}
 use Rattle.op_model.proofs.answers.NeverRefused.{never_refused}
 
 -- a repeat is applied or waits
 not_repeat : (h : History) (w : List Operation) (op : Operation) → any_equal (h ++ w) op ≡ false → answer h w op ≡ Repeat → ⊥
 unfolding answer
-not_repeat h w op n e = unwrapped (objection h w op) Repeat (λ q. cc) (first_other Repeat (
-    option_map Refused (shape_fault op)
-    ∷ when (any_equal (h ++ w) op) Repeat
-    ∷ when (any_stamp (h ++ w) op) (Refused (Conflict (stamp_of op)))
-    ∷ option_map Refused (fork_fault h op)
-    ∷ option_map (λ e. Waits e.0 e.1) (first_missing h (version_of op))
-    ∷ option_map (λ r. Refused (OpenVersion r)) (open_replica h (version_of op))
-    ∷ option_map Refused (range_fault (full (seen_history h (version_of op))) (pieces_of op))
-    ∷ option_map Refused (count_fault (seen_history h (version_of op)) (counts_of op))
-    ∷ []) (
-      map_other Repeat Refused (λ x e. cc) (shape_fault op),
-      (
-        same n,
-        (
-          when_other Repeat (any_stamp (h ++ w) op) (Refused (Conflict (stamp_of op))) (λ e. cc),
-          (
-            map_other Repeat Refused (λ x e. cc) (fork_fault h op),
-            (
-              map_other Repeat (λ e. Waits e.0 e.1) (λ x e. cc) (first_missing h (version_of op)),
-              (
-                map_other Repeat (λ r. Refused (OpenVersion r)) (λ x e. cc) (open_replica h (version_of op)),
-                (
-                  map_other Repeat Refused (λ x e. cc) (range_fault (full (seen_history h (version_of op))) (pieces_of op)),
-                  (map_other Repeat Refused (λ x e. cc) (count_fault (seen_history h (version_of op)) (counts_of op)), tt),
-                ),
-              ),
-            ),
-          ),
-        ),
-      ),
-    )) e
+not_repeat h w op n e = unwrapped (objection h w op) Repeat (λ q. cc) (objection_not Repeat h w op (λ f q. cc) (same n)
+    (map_other Repeat (λ (e : ℕ × ℕ). Waits e.0 e.1) (λ x q. cc) (first_missing h (version_of op)))) e
   where
     same : any_equal (h ++ w) op ≡ false → when (any_equal (h ++ w) op) Repeat ≡ Some Repeat → ⊥
     same n q = let z : when false Repeat ≡ Some Repeat = subst (λ (b : Bool). when b Repeat ≡ Some Repeat) n q in cc

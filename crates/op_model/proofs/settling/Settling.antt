@@ -10,14 +10,11 @@ use Rattle.lamport_clock.specs.Versions.{Entries, entry, within}
 use Rattle.op_model.specs.declared.operation.Operation.{Operation}
 use Rattle.op_model.specs.declared.limits.Limits.{Limits as LimitsType}
 use Rattle.op_model.specs.declared.faults.OpFault.{OpFault}
-use Rattle.op_model.specs.declared.faults.OpFault.TheVariants.{Conflict, OpenVersion}
-use Rattle.op_model.specs.Choice.{first_of, when}
-use Rattle.op_model.specs.Operations.{stamp_of, version_of, pieces_of, counts_of}
-use Rattle.op_model.specs.Histories.{History, version, seen_history}
+use Rattle.op_model.specs.Operations.{stamp_of, version_of}
+use Rattle.op_model.specs.Histories.{History, version}
 use Rattle.op_model.specs.Domains.{IsProper, IsReplica}
-use Rattle.op_model.specs.Shown.{full}
 use Rattle.op_model.specs.Made.{local_edit, local_undo, local_edit_fault, local_undo_fault}
-use Rattle.op_model.specs.Answers.{Answer, answer, objection, shape_fault, any_equal, any_stamp, same_op, fork_fault, first_missing, open_replica, range_fault, count_fault}
+use Rattle.op_model.specs.Answers.{Answer, answer, objection, any_equal, same_op, first_missing}
 use Rattle.op_model.specs.Answers.Answer.{Good, Repeat, Waits, Refused}
 use Rattle.op_model.specs.Lawful.{Lawful}
 use Rattle.op_model.specs.Settled.{State, Turn, turn, turn_of, full_fault, with_waiting, with_refused, pass, passes, settle}
@@ -25,7 +22,7 @@ use Rattle.op_model.specs.Settled.Turn.{Append, Drop, Stay, Refuse}
 use Rattle.op_model.specs.Steps.{new_state, with_applied, settle_step, ask_limits, take_answer, older, with_deferred, Step, step, run, IsProperStep}
 use Rattle.op_model.specs.Steps.Step.{Edits, Undoes, Takes, Settles}
 use Rattle.op_model.proofs.order.Insertion.{each_insert}
-use Rattle.op_model.proofs.answers.Passed.{passed, good, none_find, any_none, none_any}
+use Rattle.op_model.proofs.answers.Passed.{passed, good, none_find, any_none, none_any, when_other, objection_not}
 use Rattle.op_model.proofs.histories.MoreLawful.{lawful_more}
 use Rattle.op_model.proofs.histories.Proper.{edit_good, undo_good, made_proper, undo_proper}
 use Rattle.op_model.proofs.Elements.{each_left, each_map, each_append}
@@ -163,23 +160,6 @@ settled_fixed l h w = pass_fixed l (settle l h w).history (settle l h w).waiting
 
 -- ---- what stays misses a cause
 
-abbrev pub Not : Answer → List (Option Answer) → Type 0
-Not a [] = Unit {0}
-Not a (o ∷ r) = (o ≡ Some a → ⊥) × Not a r
-
-pub first_other : (a : Answer) (r : List (Option Answer)) → Not a r → first_of r ≡ Some a → ⊥
-first_other a [] n e = cc
-first_other a (None ∷ r) n e = first_other a r n.1 e
-first_other a (Some x ∷ r) n e = n.0 e
-
-pub map_other : {A : Type 0} (a : Answer) (f : A → Answer) → ((x : A) → f x ≡ a → ⊥) → (o : Option A) → option_map f o ≡ Some a → ⊥
-map_other a f n None e = cc
-map_other a f n (Some x) e = let g : f x ≡ a = cc in n x g
-
-pub when_other : (a : Answer) (b : Bool) (x : Answer) → (x ≡ a → ⊥) → when b x ≡ Some a → ⊥
-when_other a true x n e = let g : x ≡ a = cc in n g
-when_other a false x n e = cc
-
 pub unwrapped : (o : Option Answer) (a : Answer) → (Good ≡ a → ⊥) → (o ≡ Some a → ⊥) → unwrap_or o Good ≡ a → ⊥
 unwrapped None a n m e = n e
 unwrapped (Some x) a n m e = m (ap Some e)
@@ -187,37 +167,8 @@ unwrapped (Some x) a n m e = m (ap Some e)
 -- an operation that misses nothing does not wait
 pub not_waits : (h : History) (w : List Operation) (op : Operation) (r v : ℕ) → first_missing h (version_of op) ≡ None → answer h w op ≡ Waits r v → ⊥
 unfolding answer
-not_waits h w op r v m e = unwrapped (objection h w op) (Waits r v) (λ q. cc) (first_other (Waits r v) (
-    option_map Refused (shape_fault op)
-    ∷ when (any_equal (h ++ w) op) Repeat
-    ∷ when (any_stamp (h ++ w) op) (Refused (Conflict (stamp_of op)))
-    ∷ option_map Refused (fork_fault h op)
-    ∷ option_map (λ e. Waits e.0 e.1) (first_missing h (version_of op))
-    ∷ option_map (λ r. Refused (OpenVersion r)) (open_replica h (version_of op))
-    ∷ option_map Refused (range_fault (full (seen_history h (version_of op))) (pieces_of op))
-    ∷ option_map Refused (count_fault (seen_history h (version_of op)) (counts_of op))
-    ∷ []) (
-      map_other (Waits r v) Refused (λ x e. cc) (shape_fault op),
-      (
-        when_other (Waits r v) (any_equal (h ++ w) op) Repeat (λ e. cc),
-        (
-          when_other (Waits r v) (any_stamp (h ++ w) op) (Refused (Conflict (stamp_of op))) (λ e. cc),
-          (
-            map_other (Waits r v) Refused (λ x e. cc) (fork_fault h op),
-            (
-              none m,
-              (
-                map_other (Waits r v) (λ r. Refused (OpenVersion r)) (λ x e. cc) (open_replica h (version_of op)),
-                (
-                  map_other (Waits r v) Refused (λ x e. cc) (range_fault (full (seen_history h (version_of op))) (pieces_of op)),
-                  (map_other (Waits r v) Refused (λ x e. cc) (count_fault (seen_history h (version_of op)) (counts_of op)), tt),
-                ),
-              ),
-            ),
-          ),
-        ),
-      ),
-    )) e
+not_waits h w op r v m e = unwrapped (objection h w op) (Waits r v) (λ q. cc) (objection_not (Waits r v) h w op (λ f q. cc)
+    (when_other (Waits r v) (any_equal (h ++ w) op) Repeat (λ q. cc)) (none m)) e
   where
     none : first_missing h (version_of op) ≡ None → option_map (λ (e : ℕ × ℕ). Waits e.0 e.1) (first_missing h (version_of op)) ≡ Some (Waits r v) → ⊥
     none m q = let z : option_map (λ (e : ℕ × ℕ). Waits e.0 e.1) None ≡ Some (Waits r v) = subst (λ (o : Option (ℕ × ℕ)). option_map (λ (e : ℕ × ℕ). Waits e.0 e.1) o ≡ Some (Waits r v)) m q in cc

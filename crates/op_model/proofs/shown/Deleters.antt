@@ -67,6 +67,15 @@ deleters_anywhere keep op (o ∷ h) c e = elim (cases_Bool (newer o op)) [
     )
     under (inr k) f g = rw (deleters_unkept keep o (by_stamp op h) c k, deleters_unkept keep o h c k, f)
 
+-- whether op deletes c does not hang on an operation that op does not see
+pub hits_tail : (keep : Lamport → Bool) (op o : Operation) (h : History) (c : Cell) → both keep (version_of op) (stamp_of o) ≡ false
+    → hits keep op (o ∷ h) c ≡ hits keep op h c
+hits_tail keep op o h c w =
+    let f : Lamport → Bool = both keep (version_of op) in
+    ap (λ (x : List PathCell). in_ranges x 0 (pieces_of op) c && shown_by (kept_history f (o ∷ h)) (deleters_where f (o ∷ h) c) c) (seq_unkept f o h w)
+    ∙ ap (λ (x : History). in_ranges (seq_where f h) 0 (pieces_of op) c && shown_by x (deleters_where f (o ∷ h) c) c) (ap (λ (b : Bool). cond b (o ∷ kept_history f h) (kept_history f h)) w)
+    ∙ ap (λ (x : List Lamport). in_ranges (seq_where f h) 0 (pieces_of op) c && shown_by (kept_history f h) x c) (deleters_unkept f o h c w)
+
 -- all deleters are undone, op among them where it deletes c
 pub late_deleters : (keep : Lamport → Bool) (op : Operation) (h u : History) (c : Cell) → Apart op h → keep (stamp_of op) ≡ true
     → all_undone u (deleters_where keep (by_stamp op h) c) ≡ (cond (hits keep op h c) (undone u (stamp_of op)) true && all_undone u (deleters_where keep h c))
@@ -79,21 +88,13 @@ late_deleters keep op (o ∷ h) u c a e = elim (cases_Bool (newer o op)) [
   | inl n ↦ rw (insert_past newer op o h n) (under (cases_Bool (keep (stamp_of o))) (late_deleters keep op h u c a.1 e)
       (hits_same keep o op h c (and_right (keep (stamp_of op)) (sees (version_of o) (stamp_of op)) (a.0 n).0)
       (deleters_anywhere (both keep (version_of o)) op h c (and_right (keep (stamp_of op)) (sees (version_of o) (stamp_of op)) (a.0 n).0)))
-      (hits_tail n))
+      (hits_tail keep op o h c (and_right (keep (stamp_of o)) (sees (version_of op) (stamp_of o)) (a.0 n).1)))
   | inr n ↦ rw (insert_here newer op o h n) (ap (all_undone u) (deleters_kept keep op (o ∷ h) c e) ∙ spread (hits keep op (o ∷ h) c) (deleters_where keep (o ∷ h) c))
 ]
   where
     spread : (b : Bool) (d : List Lamport) → all_undone u (cond b (stamp_of op ∷ d) d) ≡ (cond b (undone u (stamp_of op)) true && all_undone u d)
     spread true d = refl
     spread false d = refl
-
-    hits_tail : newer o op ≡ true → hits keep op (o ∷ h) c ≡ hits keep op h c
-    hits_tail n =
-        let f : Lamport → Bool = both keep (version_of op) in
-        let w : f (stamp_of o) ≡ false = and_right (keep (stamp_of o)) (sees (version_of op) (stamp_of o)) (a.0 n).1 in
-        ap (λ (x : List PathCell). in_ranges x 0 (pieces_of op) c && shown_by (kept_history f (o ∷ h)) (deleters_where f (o ∷ h) c) c) (seq_unkept f o h w)
-        ∙ ap (λ (x : History). in_ranges (seq_where f h) 0 (pieces_of op) c && shown_by x (deleters_where f (o ∷ h) c) c) (ap (λ (b : Bool). cond b (o ∷ kept_history f h) (kept_history f h)) w)
-        ∙ ap (λ (x : List Lamport). in_ranges (seq_where f h) 0 (pieces_of op) c && shown_by (kept_history f h) x c) (deleters_unkept f o h c w)
 
     mix : (b : Bool) (x y : Bool) (d d' : List Lamport) → all_undone u d ≡ (y && all_undone u d')
         → all_undone u (cond b (stamp_of o ∷ d) d) ≡ (y && all_undone u (cond b (stamp_of o ∷ d') d'))

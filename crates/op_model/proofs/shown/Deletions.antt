@@ -15,12 +15,12 @@ use Rattle.op_model.specs.Shown.{in_ranges, shown_by, deleters_where}
 use Rattle.op_model.specs.Facts.{stamp_first, with_deletion}
 use Rattle.op_model.proofs.order.Insertion.{insert_past, insert_here}
 use Rattle.op_model.proofs.order.PathOrder.{same_stamp_eq}
-use Rattle.op_model.proofs.order.LateOperation.{Apart, seq_unkept}
+use Rattle.op_model.proofs.order.LateOperation.{Apart}
 use Rattle.op_model.proofs.order.Restricted.{Agree, seq_agree, Closed, closed_agree}
 use Rattle.op_model.proofs.order.SameSets.{one_way, newer_trans, Desc}
 use Rattle.op_model.proofs.histories.OneMore.{No, no_stamp}
 use Rattle.op_model.proofs.shown.Parts.{deleters_agree, kept_agree}
-use Rattle.op_model.proofs.shown.Deleters.{hits, deleters_kept, deleters_unkept, deleters_anywhere, hits_same}
+use Rattle.op_model.proofs.shown.Deleters.{hits, hits_same, hits_tail, deleters_kept, deleters_unkept, deleters_anywhere}
 
 hits_agree : (f g : Lamport → Bool) (o : Operation) (h : History) (c : Cell) → Agree (both f (version_of o)) (both g (version_of o)) h → hits f o h c ≡ hits g o h c
 hits_agree f g o h c e = rw (
@@ -94,18 +94,10 @@ late_deletions keep op (o ∷ h) c a d e = elim (cases_Bool (newer o op)) [
   | inl n ↦ rw (insert_past newer op o h n) (under n (cases_Bool (keep (stamp_of o))) (late_deletions keep op h c a.1 d.1 e)
       (hits_same keep o op h c (and_right (keep (stamp_of op)) (sees (version_of o) (stamp_of op)) (a.0 n).0)
       (deleters_anywhere (both keep (version_of o)) op h c (and_right (keep (stamp_of op)) (sees (version_of o) (stamp_of op)) (a.0 n).0)))
-      (hits_tail n))
+      (hits_tail keep op o h c (and_right (keep (stamp_of o)) (sees (version_of op) (stamp_of o)) (a.0 n).1)))
   | inr n ↦ rw (insert_here newer op o h n) (front_case keep op (o ∷ h) c e (desc_older op o h n d))
 ]
   where
-    hits_tail : newer o op ≡ true → hits keep op (o ∷ h) c ≡ hits keep op h c
-    hits_tail n =
-        let f : Lamport → Bool = both keep (version_of op) in
-        let w : f (stamp_of o) ≡ false = and_right (keep (stamp_of o)) (sees (version_of op) (stamp_of o)) (a.0 n).1 in
-        ap (λ (x : List PathCell). in_ranges x 0 (pieces_of op) c && shown_by (kept_history f (o ∷ h)) (deleters_where f (o ∷ h) c) c) (seq_unkept f o h w)
-        ∙ ap (λ (x : History). in_ranges (seq_where f h) 0 (pieces_of op) c && shown_by x (deleters_where f (o ∷ h) c) c) (ap (λ (b : Bool). cond b (o ∷ kept_history f h) (kept_history f h)) w)
-        ∙ ap (λ (x : List Lamport). in_ranges (seq_where f h) 0 (pieces_of op) c && shown_by (kept_history f h) x c) (deleters_unkept f o h c w)
-
     mix : newer o op ≡ true → (b x : Bool) (d : List Lamport) → cond b (stamp_of o ∷ cond x (with_deletion (stamp_of op) d) d) (cond x (with_deletion (stamp_of op) d) d)
         ≡ cond x (with_deletion (stamp_of op) (cond b (stamp_of o ∷ d) d)) (cond b (stamp_of o ∷ d) d)
     mix n true true d = sym (insert_past stamp_first (stamp_of op) (stamp_of o) d n)

@@ -2,7 +2,7 @@ use Rattle.std.proofs.Common.{List, ◌++◌, ◌∙◌, length, take, drop, ap,
 use Rattle.std.specs.Str.{IsUtf8}
 use Rattle.op_model.specs.declared.operation.Piece.{Piece}
 use Rattle.op_model.specs.Edits.{replace_ranges}
-use Rattle.rope_edits.specs.Fit.{AreUtf8}
+use Rattle.op_model.specs.Domains.{AreUtf8}
 use Rattle.rope_edits.proofs.Ropes.{at_turn}
 use Rattle.rope_edits.proofs.ranges.replaced.Goals as goal
 

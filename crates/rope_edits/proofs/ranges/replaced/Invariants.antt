@@ -1,6 +1,6 @@
 use Rattle.std.proofs.Common.{◌≡◌, drop}
 use Rattle.op_model.specs.Edits.{replace_ranges}
-use Rattle.rope_edits.specs.Fit.{AreUtf8}
+use Rattle.op_model.specs.Domains.{AreUtf8}
 use Rattle.rope_edits.proofs.ranges.replaced.Given as goal
 
 abbrev pub invariant-loop-i : goal.invariant-loop-i
