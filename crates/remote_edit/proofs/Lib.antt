@@ -5,6 +5,8 @@ pub mod Carrying
 pub mod Texts
 pub mod Beside
 pub mod PassedPlaces
+pub mod Finding
+pub mod MovesAmong
 pub mod Anew
 pub mod OfFacts
 pub mod Halves
@@ -34,6 +36,7 @@ pub mod WholeFragments
 pub mod UndoCharacters
 pub mod Starts
 pub mod Intake
+pub mod OneFurther
 pub mod PieceStarts
 pub mod Budget
 pub mod Fragments

@@ -10,7 +10,9 @@ use Rattle.op_model.specs.Operations.{counts_of}
 use Rattle.op_model.specs.Sorted.{Member}
 use Rattle.undo_map.specs.declared.entry.UndoEntry.{UndoEntry}
 use Rattle.fragments.specs.declared.fragment.Fragment.{Fragment}
+use Rattle.remote_edit.specs.declared.moves.Move.{Move}
 use Rattle.remote_edit.specs.Marks.{is_shown}
+use Rattle.remote_edit.specs.Carried.{move_for}
 
 -- edit t, not earlier than the cells of the fragment, brought them or deletes them
 abbrev pub concerns : Fragment → Lamport → Bool
@@ -23,6 +25,10 @@ recount w by f = record { id = f.id; stamp = f.stamp; offset = f.offset; len = f
 -- a fragment where an undo counts the edits ts
 abbrev pub anew : List UndoEntry → Lamport → List Lamport → Fragment → Fragment
 anew w by ts f = if list_any (concerns f) ts then recount w by f else f
+
+-- what an undo that counts the edits ts does to the bytes of a fragment
+abbrev pub undo_move : List UndoEntry → List Lamport → Fragment → Move
+undo_move w ts f = move_for f.visible (if list_any (concerns f) ts then is_shown w f.stamp f.deletions else f.visible) f.len
 
 -- all fragments where an undo counts the edits ts
 abbrev pub all_anew : List UndoEntry → Lamport → List Lamport → List Fragment → List Fragment

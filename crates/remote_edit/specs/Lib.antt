@@ -4,6 +4,7 @@ pub mod Walk
 pub mod Beside
 pub mod Passed
 pub mod Carried
+pub mod Among
 pub mod CarriedLaws
 pub mod Offsets
 pub mod SeesLaws

@@ -6,17 +6,16 @@ ghost use Rattle.op_model.specs.Shown.{texts};
 ghost use Rattle.undo_map.specs.Counts.{count_of, is_odd};
 ghost use Rattle.remote_edit.specs.Marks.{is_shown};
 ghost use Rattle.remote_edit.specs.Carried.{CarryOn};
-ghost use Rattle.remote_edit.specs.BeforeEdit.{without, before_edit, edit_move, IsByCounts, Brings};
+ghost use Rattle.remote_edit.specs.BeforeEdit.{without, before_edit, IsByCounts, Brings};
 
-use crate::passed::Passed;
-use crate::undo_moves::keep;
+use crate::among::{Change, moves_among};
 use crate::{Move, Moves, OutOfMemory};
 use fragments::{Fragment, FragmentSummary};
 use lamport_clock::{Lamport, is_same};
 use op_model::EditOp;
 use std::alloc::Global;
 use sum_tree::SumTree;
-use tree_cursor::{FilterCursor, Keep};
+use tree_cursor::Keep;
 use undo_map::UndoMap;
 
 // Which runs of fragments may have cells that an edit brought or deletes: those that have seen it.
@@ -55,18 +54,28 @@ fn was_shown(fragment: &Fragment, undos: &UndoMap, edit: Lamport) -> bool
     !undos.is_undone(fragment.stamp) && others
 }
 
-// What an edit, which is told of in the fragments, did to the bytes of one.
-fn move_of(fragment: &Fragment, undos: &UndoMap, edit: Lamport) -> Move
-    ensures { result ≡ edit_move undos.now edit fragment.now }
-{
-    if is_same(edit, fragment.stamp) {
-        return Move::Insert(fragment.len);
+// An edit that is told of in the fragments.
+#[derive(Drop)]
+struct Editing<'u> {
+    undos: &'u UndoMap,
+    edit: Lamport,
+}
+
+impl<'u> Change for Editing<'u> {
+    ghost use Rattle.remote_edit.specs.BeforeEdit.{edit_move};
+
+    ghost does = { λ e f. edit_move e.undos.now e.edit f };
+
+    fn move_of(&self, fragment: &Fragment) -> Move {
+        if is_same(self.edit, fragment.stamp) {
+            return Move::Insert(fragment.len);
+        }
+        Move::of(
+            was_shown(fragment, self.undos, self.edit),
+            fragment.visible,
+            fragment.len,
+        )
     }
-    Move::of(
-        was_shown(fragment, undos, edit),
-        fragment.visible,
-        fragment.len,
-    )
 }
 
 // What an edit, which is told of in the fragments of the tree, did to the two texts. Runs of fragments that have not seen the
@@ -83,20 +92,6 @@ pub(crate) fn edit_moves(
         (before_edit undos.now edit.now.stamp tree.now.items) 0 ms tree.now.items []
         (length (texts edit.now.pieces))) }
 {
-    tree.known();
-    let mut moves = Moves::new(alloc);
-    let mut at = Passed {
-        visible: 0,
-        hidden: 0,
-    };
-    let mut found = FilterCursor::new(tree, at, SeesEdit { edit: edit.stamp })?;
-    while let Some(fragment) = found.next()? {
-        let from = found.start();
-        keep(&mut moves, at, from)?;
-        moves.push(move_of(fragment, undos, edit.stamp))?;
-        at = found.end();
-    }
-    let end = found.start();
-    keep(&mut moves, at, end)?;
-    Ok(moves)
+    let edit = edit.stamp;
+    moves_among(alloc, tree, &SeesEdit { edit }, &Editing { undos, edit })
 }

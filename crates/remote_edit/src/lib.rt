@@ -1,6 +1,7 @@
 //! What an operation does among fragments, and to the shown and the hidden text.
 #![tactic(auto)]
 
+mod among;
 mod edit_moves;
 mod gather;
 mod laws;
@@ -15,6 +16,7 @@ mod undo;
 mod undo_moves;
 mod walk;
 
+pub use among::{Change, moves_among};
 pub use laws::{
     base_is_whole, carried_texts_are_those, joined_moves_do_the_same, kept_bytes_commute,
     moves_compose,

@@ -1,0 +1,82 @@
+//! The moves of a walk over fragments, which passes those whole that stay as they are.
+ghost use Rattle.std.specs.Prelude.{◌≡◌, ◌-◌, ◌≤◌, IfOk, OnOk};
+ghost use Rattle.fragments.specs.declared.fragment.Fragment.{Fragment};
+ghost use Rattle.remote_edit.specs.declared.moves.Move.{Move};
+ghost use Rattle.remote_edit.specs.declared.moves.Move.TheVariants.{Visible, Hidden};
+ghost use Rattle.remote_edit.specs.Moves.{with_move};
+ghost use Rattle.remote_edit.specs.Among.{moves_among};
+
+use crate::passed::Passed;
+use crate::{Move, Moves, OutOfMemory};
+use fragments::{Fragment, FragmentSummary};
+use std::alloc::Global;
+use sum_tree::SumTree;
+use tree_cursor::{FilterCursor, Keep};
+
+/// What becomes of the bytes of fragments.
+pub trait Change {
+    ghost does: { Self → Fragment → Move };
+
+    /// What becomes of the bytes of a fragment. Takes no memory.
+    fn move_of(&self, fragment: &Fragment) -> Move
+        ensures { result ≡ does self.now fragment.now };
+}
+
+// A filter that is lent to the walk.
+#[derive(Drop)]
+struct Lent<'k, K> {
+    keep: &'k K,
+}
+
+impl<'k, K: Keep<FragmentSummary>> Keep<FragmentSummary> for Lent<'k, K> {
+    ghost keeps = { λ l s. K.keeps l.keep.now s };
+
+    ghost parts = { λ l a b p q h. K.parts l.keep.now a b p q h };
+
+    fn keep(&self, s: &FragmentSummary) -> bool {
+        self.keep.keep(s)
+    }
+}
+
+// The bytes between two places stay as they are.
+fn keep(moves: &mut Moves, from: Passed, to: Passed) -> Result<(), OutOfMemory>
+    requires visible { from.visible ≤ to.visible }
+    requires hidden { from.hidden ≤ to.hidden }
+    ensures { OnOk result (moves.new
+        ≡ with_move (with_move moves.old (Visible (to.visible - from.visible)))
+        (Hidden (to.hidden - from.hidden))) }
+{
+    moves.keep(to.visible - from.visible, to.hidden - from.hidden)
+}
+
+/// What a change does to the shown and to the hidden text: it moves the bytes of the fragments that may change, and those of
+/// the others stay. Runs of fragments that stay are passed whole.
+///
+/// There are at most three moves for each fragment that may change, and the cost is that many fragments times the height. It
+/// answers want of memory alone.
+pub fn moves_among<K: Keep<FragmentSummary>, C: Change>(
+    alloc: Global,
+    tree: &SumTree<Fragment>,
+    may_change: &K,
+    change: &C,
+) -> Result<Moves, OutOfMemory>
+    ensures { IfOk result (λ ms. ms
+        ≡ moves_among (K.keeps may_change.now) (C.does change.now) tree.now.items) }
+{
+    tree.known();
+    let mut moves = Moves::new(alloc);
+    let mut at = Passed {
+        visible: 0,
+        hidden: 0,
+    };
+    let mut found = FilterCursor::new(tree, at, Lent { keep: may_change })?;
+    while let Some(fragment) = found.next()? {
+        let from = found.start();
+        keep(&mut moves, at, from)?;
+        moves.push(change.move_of(fragment))?;
+        at = found.end();
+    }
+    let end = found.start();
+    keep(&mut moves, at, end)?;
+    Ok(moves)
+}
