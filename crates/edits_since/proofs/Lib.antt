@@ -2,6 +2,5 @@ pub mod Runs
 pub mod Walking
 pub mod Standing
 pub mod Apart
-pub mod Finding
 pub mod Moving
 pub mod Back

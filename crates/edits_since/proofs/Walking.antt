@@ -1,26 +1,25 @@
 -- One walk over fragments, which goes over those of which the version has seen all in one step.
-use Rattle.op_model.proofs.Elements.{each_left, each_right}
-use Rattle.std.proofs.Common.{◌≡◌, ℕ, zero, suc, ◌+◌, ◌-◌, ◌<◌, ◌≤◌, ◌^◌, min, Bool, true, false, cond, List, [], ◌∷◌, ◌++◌, length, take, drop, refl, sym, ap, ◌∙◌, arith, subst, Some, None, append_assoc, append-nil, ne_eqb}
+use Rattle.std.proofs.Common.{◌≡◌, ℕ, zero, suc, ◌+◌, ◌-◌, ◌<◌, ◌≤◌, ◌^◌, Bool, true, false, cond, List, [], ◌∷◌, ◌++◌, length, refl, sym, ap, ◌∙◌, arith, subst, Some, None, append_assoc, append-nil, ne_eqb}
 use Rattle.std.specs.List.{AllByRecursion, slice_get}
 use Rattle.sum_tree.specs.Laws.{fold}
-use Rattle.tree_cursor.specs.Places.{place_behind, filter_count}
 use Rattle.lamport_clock.specs.Versions.{Entries}
 use Rattle.op_model.specs.declared.anchor.TextEdit.{TextEdit}
+use Rattle.op_model.proofs.Elements.{each_left, each_right}
 use Rattle.op_model.specs.Since.{Fate, fate, runs, edits_of}
 use Rattle.op_model.specs.Since.Fate.{Kept}
 use Rattle.undo_map.specs.declared.entry.UndoEntry.{UndoEntry}
 use Rattle.fragments.specs.declared.fragment.Fragment.{Fragment}
+use Rattle.fragments.specs.declared.fragment.FragmentSummary.{FragmentSummary}
 use Rattle.fragments.specs.Summaries.{no_fragments, summaries, summary_of, SummaryFits}
 use Rattle.fragments.specs.Laws.{shown_len}
+use Rattle.remote_edit.specs.declared.passed.Passed.{Passed}
 use Rattle.remote_edit.specs.Carried.{hidden_len}
-use Rattle.remote_edit.specs.Passed.{move_passed}
 use Rattle.remote_edit.proofs.PassedPlaces.{shown_append_len, hidden_append_len, whole_sum}
-use Rattle.remote_edit.proofs.UndoMoves.{both, IsBehind, Unkept}
+use Rattle.remote_edit.proofs.Finding.{Cursor, IsNext, IsPast, Stands, Unkept, find, find_end, nothing_passed, over, place_at, stands_first}
 use Rattle.edits_since.specs.declared.open_run.OpenRun.{OpenRun}
 use Rattle.edits_since.specs.Fates.{was_in_text, alike, fates_of}
 use Rattle.edits_since.specs.Differs.{may_differ}
 use Rattle.edits_since.specs.Opened.{at_start, all_edits, old_end, new_end, with_kept, with_bytes}
-use Rattle.edits_since.proofs.Finding.{Place, find, stop, find_end}
 use Rattle.edits_since.proofs.Runs.{edits_on, with_fates, over_kept, over_bytes, from_start, at_end, Same, same_after, alike_more, never_on}
 
 -- a fragment of which v has seen all was in its text where it is shown now
@@ -83,121 +82,107 @@ module _ (u : List UndoEntry) (v : Entries) where
           ∙ ap (λ (z : List Fate). edits_on old new g m z) (alike_more x.len (shown_len xs) Kept s)
       go false ih old new g m = never_on x.len old new g m (f_of xs ++ s) ∙ ih old new g m
 
--- the edits of the fragments before a place, and those to come
-pub record Walking (u : List UndoEntry) (v : Entries) (fs : List Fragment) (r : OpenRun) (shown hidden next : ℕ) : Type 0 where
-  pub pre : List Fragment
-  pub rest : List Fragment
-  pub place : Place fs pre rest shown hidden next
-  pub old_low : old_end r ≤ total pre
-  pub new_low : new_end r ≡ shown_len pre
-  pub edits : AllByRecursion (IsSettled u v) fs → with_fates r (fates_of u v rest) ≡ edits_of 0 0 (runs (fates_of u v fs))
+-- ---- the walk
 
-pub begin : (u : List UndoEntry) (v : Entries) (fs : List Fragment) (r : OpenRun) (shown hidden next : ℕ) → r ≡ at_start → shown ≡ 0 → hidden ≡ 0 → next ≡ 0 → Walking u v fs r shown hidden next
-begin u v fs r shown hidden next a b c d = record {
-  pre = [];
-  rest = fs;
-  place = record { whole = refl; count = d; at = record { shown_is = b; hidden_is = c } };
-  old_low = let e = ap old_end a in omega (arith, e);
-  new_low = let e = ap new_end a in omega (arith, e);
-  edits = λ e. ap (λ (x : OpenRun). with_fates x (fates_of u v fs)) a ∙ from_start (fates_of u v fs);
-}
+module _ {K : Type 0} (keeps : K → FragmentSummary → Bool) (u : List UndoEntry) (v : Entries) (fs : List Fragment) where
+  -- the edits of the fragments before the cursor's place, and those to come
+  pub record Walking (r : OpenRun) (a : Cursor K) (at : Passed) : Type 0 where
+    pub pre : List Fragment
+    pub rest : List Fragment
+    pub stands : Stands keeps (may_differ v) fs pre rest a at
+    pub old_low : old_end r ≤ total pre
+    pub new_low : new_end r ≡ shown_len pre
+    pub edits : AllByRecursion (IsSettled u v) fs → with_fates r (fates_of u v rest) ≡ edits_of 0 0 (runs (fates_of u v fs))
 
-module _ (u : List UndoEntry) (v w : Entries) (fs items : List Fragment) (r : OpenRun) (shown hidden next : ℕ) (fits : SummaryFits (fold no_fragments summaries summary_of fs)) (w_is : w ≡ v) (items_are : items ≡ fs)
-    (p : Walking u v fs r shown hidden next) where
-  abbrev over : ℕ
-  over = filter_count (may_differ w) summary_of (drop next items)
+  pub begin : (k : K) (r : OpenRun) (a : Cursor K) → keeps k ≡ may_differ v → r ≡ at_start → a ≡ record { items = fs; from = nothing_passed; keep = k; given = 0; next = 0 } → Walking r a nothing_passed
+  begin k r a w e f = record {
+    pre = [];
+    rest = fs;
+    stands = stands_first keeps (may_differ v) fs k a w f;
+    old_low = let q = ap old_end e in omega (arith, q);
+    new_low = let q = ap new_end e in omega (arith, q);
+    edits = λ z. ap (λ (x : OpenRun). with_fates x (fates_of u v fs)) e ∙ from_start (fates_of u v fs);
+  }
 
-  -- a stretch that is gone over: the bytes from the place to s, h are kept
-  pub record Over (xs ys : List Fragment) (s : ℕ) : Type 0 where
-    pub low : shown ≤ s
-    pub old_room : old_end r + (s - shown) + total ys < 2 ^ 64
-    pub new_room : new_end r + (s - shown) + total ys < 2 ^ 64
-    pub old_low : old_end r + (s - shown) ≤ total (p.pre ++ xs)
-    pub new_low : new_end r + (s - shown) ≡ shown_len (p.pre ++ xs)
-    pub edits : AllByRecursion (IsSettled u v) fs → with_fates (with_kept (s - shown) r) (fates_of u v ys) ≡ edits_of 0 0 (runs (fates_of u v fs))
+  module _ (fits : SummaryFits (fold no_fragments summaries summary_of fs)) (r : OpenRun) (a b : Cursor K) (at s : Passed) (p : Walking r a at) (m : IsNext keeps a b) (e : (s.visible, s.hidden) ≡ place_at b b.given) where
+    abbrev kept : ℕ
+    kept = s.visible - at.visible
 
-  stretch : (xs ys : List Fragment) (s h : ℕ) → p.rest ≡ xs ++ ys → AllByRecursion (Unkept (may_differ v) summary_of) xs → IsBehind s h (p.pre ++ xs) → Over xs ys s
-  stretch xs ys s h e n b =
-      let a = b.shown_is in let o = p.place.at.shown_is in let q = shown_append_len p.pre xs in let l = hidden_append_len p.pre xs in
-      let t = total_fits fs fits in
-      let z : total fs ≡ total p.pre + total (xs ++ ys) = ap total p.place.whole ∙ total_append p.pre p.rest ∙ ap (λ (k : List Fragment). total p.pre + total k) e in
-      let y = total_append xs ys in
-      let i = p.old_low in let j = p.new_low in
-      let x : s - shown ≡ shown_len xs = omega (arith, a, o, q) in
-      record {
-        low = omega (arith, a, o, q);
-        old_room = omega (arith, t, z, y, i, x);
-        new_room = omega (arith, t, z, y, j, x);
-        old_low = omega (arith, i, x, q, l);
-        new_low = omega (arith, j, x, q);
-        edits = λ k.
-            let m : AllByRecursion (IsSettled u v) xs = each_left (IsSettled u v) xs ys (subst (AllByRecursion (IsSettled u v)) e (each_right (IsSettled u v) p.pre p.rest (subst (AllByRecursion (IsSettled u v)) p.place.whole k))) in
-            over_kept (s - shown) r (fates_of u v ys)
-            ∙ ap (λ (c : ℕ). with_fates r (alike c Kept ++ fates_of u v ys)) x
-            ∙ ap (λ (c : List TextEdit). r.edits ++ c) (sym (same_over u v xs (fates_of u v ys) n m r.old_start r.new_start r.gone r.fresh))
-            ∙ ap (with_fates r) (sym (fates_append u v xs ys) ∙ ap (fates_of u v) (sym e)) ∙ p.edits k;
-      }
+    -- a stretch that is gone over: the bytes up to s are kept
+    record Over (xs ys : List Fragment) : Type 0 where
+      old_room : old_end r + kept + total ys < 2 ^ 64
+      new_room : new_end r + kept + total ys < 2 ^ 64
+      old_low : old_end r + kept ≤ total (p.pre ++ xs)
+      new_low : new_end r + kept ≡ shown_len (p.pre ++ xs)
+      edits : AllByRecursion (IsSettled u v) fs → with_fates (with_kept kept r) (fates_of u v ys) ≡ edits_of 0 0 (runs (fates_of u v fs))
 
-  -- fragment i comes next: s, h is the place at which it starts, and s2, h2 the place at which it ends
-  pub record Come (x : Fragment) (i s s2 h2 after : ℕ) : Type 0 where
-    pub within : i < length fs
-    pub forward : next ≤ i
-    pub after_is : after ≡ i + 1
-    pub on : (r2 : OpenRun) → r2 ≡ with_bytes x.len (was_in_text u v x) x.visible (with_kept (s - shown) r) → Walking u v fs r2 s2 h2 after
+    stretch : (xs ys : List Fragment) → p.rest ≡ xs ++ ys → AllByRecursion (Unkept (may_differ v) summary_of) xs → IsPast at s xs → Over xs ys
+    stretch xs ys w n o =
+        let q = shown_append_len p.pre xs in let l = hidden_append_len p.pre xs in
+        let t = total_fits fs fits in
+        let z : total fs ≡ total p.pre + total (xs ++ ys) = ap total p.stands.whole ∙ total_append p.pre p.rest ∙ ap (λ (k : List Fragment). total p.pre + total k) w in
+        let y = total_append xs ys in
+        let i = p.old_low in let j = p.new_low in
+        let x : kept ≡ shown_len xs = o.shown_is in
+        record {
+          old_room = omega (arith, t, z, y, i, x);
+          new_room = omega (arith, t, z, y, j, x);
+          old_low = omega (arith, i, x, q, l);
+          new_low = omega (arith, j, x, q);
+          edits = λ k.
+              let m : AllByRecursion (IsSettled u v) xs = each_left (IsSettled u v) xs ys (subst (AllByRecursion (IsSettled u v)) w (each_right (IsSettled u v) p.pre p.rest (subst (AllByRecursion (IsSettled u v)) p.stands.whole k))) in
+              over_kept kept r (fates_of u v ys)
+              ∙ ap (λ (c : ℕ). with_fates r (alike c Kept ++ fates_of u v ys)) x
+              ∙ ap (λ (c : List TextEdit). r.edits ++ c) (sym (same_over u v xs (fates_of u v ys) n m r.old_start r.new_start r.gone r.fresh))
+              ∙ ap (with_fates r) (sym (fates_append u v xs ys) ∙ ap (fates_of u v) (sym w)) ∙ p.edits k;
+        }
 
-  pub come : (x : Fragment) (items2 : List Fragment) (i s h s2 h2 v0 h0 after : ℕ) → items2 ≡ items → slice_get items (next + over) ≡ Some x → i ≡ next + over → after ≡ min (i + 1) (length items) → v0 ≡ 0 → h0 ≡ 0
-      → both s h ≡ place_behind move_passed summary_of (both v0 h0) (take i items2) → both s2 h2 ≡ place_behind move_passed summary_of (both v0 h0) (take after items2) → Come x i s s2 h2 after
-  come x items2 i s h s2 h2 v0 h0 after same g e o a b q t =
-      let k = find v w fs items p.pre p.rest shown hidden next w_is items_are p.place x items2 i s h v0 h0 same g e a b q in
-      let before : List Fragment = p.pre ++ k.xs in
-      let z = stop v w fs items p.pre p.rest shown hidden next w_is items_are p.place x items2 i s h s2 h2 v0 h0 after k same o a b t in
-      let y = stretch k.xs (x ∷ k.ahead) s h k.parts k.unkept k.start in
-      let kept = kept_ends (s - shown) r in
-      let ends = passed_ends x.len (was_in_text u v x) x.visible (with_kept (s - shown) r) in
-      record {
-        within = k.within;
-        forward = k.forward;
-        after_is = z.after_is;
-        on = λ r2 f. record {
-          pre = before ++ x ∷ [];
-          rest = k.ahead;
-          place = z.place;
-          old_low = let m = ap old_end f in let n = ends.0 in let j = kept.0 in let l = y.old_low in let g1 = total_append before (x ∷ []) in let g2 = one_len x [] in omega (arith, m, n, j, l, g1, g2);
-          new_low = let m = ap new_end f in let n = ends.1 in let j = kept.1 in let l = y.new_low in let g1 = shown_append_len before (x ∷ []) in let g2 = one_shown x in omega (arith, m, n, j, l, g1, g2);
-          edits = λ n. ap (λ (c : OpenRun). with_fates c (fates_of u v k.ahead)) f ∙ over_bytes x.len (was_in_text u v x) x.visible (with_kept (s - shown) r) (fates_of u v k.ahead) ∙ y.edits n;
-        };
-      }
+    -- the fragment x comes next, and starts at s
+    pub record Step (x : Fragment) : Type 0 where
+      pub low : at.visible ≤ s.visible
+      pub old_room : old_end r + kept + x.len < 2 ^ 64
+      pub new_room : new_end r + kept + x.len < 2 ^ 64
+      pub smaller : length fs - b.next < length fs - a.next
+      pub on : (r2 : OpenRun) (q : Passed) → r2 ≡ with_bytes x.len (was_in_text u v x) x.visible (with_kept kept r) → (q.visible, q.hidden) ≡ place_at b b.next → Walking r2 b q
 
-  -- before it: the same of the place at which it starts
-  pub record Started (x : Fragment) (s : ℕ) : Type 0 where
-    pub low : shown ≤ s
-    pub old_room : old_end r + (s - shown) + x.len < 2 ^ 64
-    pub new_room : new_end r + (s - shown) + x.len < 2 ^ 64
+    pub step : (x : Fragment) → slice_get a.items (a.next + over keeps a) ≡ Some x → Step x
+    step x g =
+        let k = find keeps (may_differ v) fs p.pre p.rest a b at p.stands m x s g e in
+        let before : List Fragment = p.pre ++ k.xs in
+        let y = stretch k.xs (x ∷ k.ahead) k.parts k.unkept k.skipped in
+        let first = kept_ends kept r in
+        let ends = passed_ends x.len (was_in_text u v x) x.visible (with_kept kept r) in
+        let long = one_len x k.ahead in let c = y.old_room in let d = y.new_room in
+        record {
+          low = k.skipped.low;
+          old_room = omega (arith, c, long);
+          new_room = omega (arith, d, long);
+          smaller = k.smaller;
+          on = λ r2 q f o. record {
+            pre = before ++ x ∷ [];
+            rest = k.ahead;
+            stands = k.on q o;
+            old_low = let i = ap old_end f in let n = ends.0 in let j = first.0 in let l = y.old_low in let g1 = total_append before (x ∷ []) in let g2 = one_len x [] in omega (arith, i, n, j, l, g1, g2);
+            new_low = let i = ap new_end f in let n = ends.1 in let j = first.1 in let l = y.new_low in let g1 = shown_append_len before (x ∷ []) in let g2 = one_shown x in omega (arith, i, n, j, l, g1, g2);
+            edits = λ n. ap (λ (c : OpenRun). with_fates c (fates_of u v k.ahead)) f ∙ over_bytes x.len (was_in_text u v x) x.visible (with_kept kept r) (fates_of u v k.ahead) ∙ y.edits n;
+          };
+        }
 
-  pub start : (x : Fragment) (items2 : List Fragment) (i s h v0 h0 : ℕ) → items2 ≡ items → slice_get items (next + over) ≡ Some x → i ≡ next + over → v0 ≡ 0 → h0 ≡ 0
-      → both s h ≡ place_behind move_passed summary_of (both v0 h0) (take i items2) → Started x s
-  start x items2 i s h v0 h0 same g e a b q =
-      let k = find v w fs items p.pre p.rest shown hidden next w_is items_are p.place x items2 i s h v0 h0 same g e a b q in
-      let y = stretch k.xs (x ∷ k.ahead) s h k.parts k.unkept k.start in
-      let l = one_len x k.ahead in
-      let c = y.old_room in let d = y.new_room in
-      record { low = y.low; old_room = omega (arith, c, l); new_room = omega (arith, d, l) }
+    -- no further one comes, and all end at s
+    pub record End : Type 0 where
+      pub low : at.visible ≤ s.visible
+      pub old_room : old_end r + kept < 2 ^ 64
+      pub new_room : new_end r + kept < 2 ^ 64
+      pub edits : (r1 : OpenRun) → r1 ≡ with_kept kept r → AllByRecursion (IsSettled u v) fs → all_edits r1 ≡ edits_of 0 0 (runs (fates_of u v fs))
 
-  -- no further one comes: s, h is the place at which all end
-  pub record Ended (s : ℕ) : Type 0 where
-    pub low : shown ≤ s
-    pub old_room : old_end r + (s - shown) < 2 ^ 64
-    pub new_room : new_end r + (s - shown) < 2 ^ 64
-    pub edits : (r1 : OpenRun) → r1 ≡ with_kept (s - shown) r → AllByRecursion (IsSettled u v) fs → all_edits r1 ≡ edits_of 0 0 (runs (fates_of u v fs))
-
-  pub end : (items2 : List Fragment) (i s h v0 h0 : ℕ) → items2 ≡ items → slice_get items (next + over) ≡ None → i ≡ next + over → v0 ≡ 0 → h0 ≡ 0 → both s h ≡ place_behind move_passed summary_of (both v0 h0) (take i items2) → Ended s
-  end items2 i s h v0 h0 same g e a b q =
-      let k = find_end v w fs items p.pre p.rest shown hidden next w_is items_are p.place items2 i s h v0 h0 same g e a b q in
-      let y = stretch p.rest [] s h (sym (append-nil p.rest)) k.unkept k.start in
-      let c = y.old_room in let d = y.new_room in
-      record {
-        low = y.low;
-        old_room = omega (arith, c);
-        new_room = omega (arith, d);
-        edits = λ r1 f z. ap all_edits f ∙ at_end (with_kept (s - shown) r) ∙ y.edits z;
-      }
+    pub end : slice_get a.items (a.next + over keeps a) ≡ None → End
+    end g =
+        let k = find_end keeps (may_differ v) fs p.pre p.rest a b at p.stands m s g e in
+        let y = stretch p.rest [] (sym (append-nil p.rest)) k.unkept k.skipped in
+        let c = y.old_room in let d = y.new_room in
+        record {
+          low = k.skipped.low;
+          old_room = omega (arith, c);
+          new_room = omega (arith, d);
+          edits = λ r1 f z. ap all_edits f ∙ at_end (with_kept kept r) ∙ y.edits z;
+        }

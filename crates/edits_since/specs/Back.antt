@@ -12,7 +12,13 @@ use Rattle.fragments.specs.declared.fragment.Fragment.{Fragment}
 use Rattle.fragments.specs.Stand.{runs}
 use Rattle.remote_edit.specs.declared.moves.Move.{Move}
 use Rattle.remote_edit.specs.Moves.{after_moves, TakeTexts}
+use Rattle.remote_edit.specs.Carried.{move_for}
+use Rattle.edits_since.specs.Fates.{was_in_text}
 use Rattle.edits_since.specs.Telling.{MayTell}
+
+-- what takes the bytes of a fragment back to where v saw them
+abbrev pub move_back : List UndoEntry → Entries → Fragment → Move
+move_back u v f = move_for f.visible (was_in_text u v f) f.len
 
 -- of each such history, the moves make the text that v saw
 abbrev pub AreMovesBack : List Fragment → List UndoEntry → Entries → List Move → Type 0

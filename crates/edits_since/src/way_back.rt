@@ -1,40 +1,32 @@
 //! What takes the texts back to those that a version saw.
-ghost use Rattle.std.specs.Prelude.{◌≡◌, ◌-◌, ◌≤◌, IfOk, OnOk};
-ghost use Rattle.remote_edit.specs.declared.moves.Move.TheVariants.{Visible, Hidden};
-ghost use Rattle.remote_edit.specs.Moves.{with_move};
-ghost use Rattle.remote_edit.specs.Carried.{move_for};
-ghost use Rattle.edits_since.specs.Fates.{was_in_text};
+ghost use Rattle.std.specs.Prelude.{IfOk};
 ghost use Rattle.edits_since.specs.Back.{AreMovesBack, TakeCharacters};
 
 use crate::OutOfMemory;
 use crate::differ::{MayDiffer, was_in_text};
 use fragments::Fragment;
 use lamport_clock::Version;
-use remote_edit::{Move, Moves, Passed};
+use remote_edit::{Change, Move, Moves, moves_among};
 use std::alloc::Global;
 use sum_tree::SumTree;
-use tree_cursor::FilterCursor;
 use undo_map::UndoMap;
 
-// What takes the bytes of a fragment back.
-fn move_of(fragment: &Fragment, undos: &UndoMap, version: &Version) -> Move
-    ensures { result ≡ move_for fragment.now.visible
-        (was_in_text undos.now version.now fragment.now) fragment.now.len }
-{
-    let was = was_in_text(fragment, undos, version);
-    Move::of(fragment.visible, was, fragment.len)
+// The way back to the texts that a version saw.
+#[derive(Drop)]
+struct WayBack<'u> {
+    undos: &'u UndoMap,
+    version: &'u Version,
 }
 
-// The bytes between two places stay as they are.
-fn keep(moves: &mut Moves, from: Passed, to: Passed) -> Result<(), OutOfMemory>
-    requires visible { from.visible ≤ to.visible }
-    requires hidden { from.hidden ≤ to.hidden }
-    ensures { OnOk result (moves.new
-        ≡ with_move (with_move moves.old (Visible (to.visible - from.visible)))
-        (Hidden (to.hidden - from.hidden))) }
-{
-    moves.push(Move::Visible(to.visible - from.visible))?;
-    moves.push(Move::Hidden(to.hidden - from.hidden))
+impl<'u> Change for WayBack<'u> {
+    ghost use Rattle.edits_since.specs.Back.{move_back};
+
+    ghost does = { λ b f. move_back b.undos.now b.version.now f };
+
+    fn move_of(&self, fragment: &Fragment) -> Move {
+        let was = was_in_text(fragment, self.undos, self.version);
+        Move::of(fragment.visible, was, fragment.len)
+    }
 }
 
 /// What takes the text now and the hidden text back to those that a version saw, where the fragments and the undo counts stand
@@ -54,20 +46,6 @@ pub fn moves_back(
     ensures characters { IfOk result (λ ms. TakeCharacters tree.now.items undos.now version.now
         ms) }
 {
-    tree.known();
-    let mut moves = Moves::new(alloc);
-    let mut at = Passed {
-        visible: 0,
-        hidden: 0,
-    };
-    let mut found = FilterCursor::new(tree, at, MayDiffer { version })?;
-    while let Some(fragment) = found.next()? {
-        let from = found.start();
-        keep(&mut moves, at, from)?;
-        moves.push(move_of(fragment, undos, version))?;
-        at = found.end();
-    }
-    let end = found.start();
-    keep(&mut moves, at, end)?;
-    Ok(moves)
+    let back = WayBack { undos, version };
+    moves_among(alloc, tree, &MayDiffer { version }, &back)
 }

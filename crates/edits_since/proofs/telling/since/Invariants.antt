@@ -1,16 +1,11 @@
-use Rattle.std.proofs.Common.{◌≡◌, ◌≤◌, ◌-◌, length}
+use Rattle.std.proofs.Common.{◌-◌, length}
+use Rattle.edits_since.specs.declared.differ.MayDiffer.{MayDiffer}
+use Rattle.edits_since.specs.Differs.{may_differ}
 use Rattle.edits_since.proofs.Walking.{Walking}
 use Rattle.edits_since.proofs.telling.since.Given as goal
 
 abbrev pub invariant-loop-run : goal.invariant-loop-run
-invariant-loop-run l = record {
-  items : l.found.items ≡ l.tree.items;
-  keep : l.found.keep.version.now ≡ l.version;
-  visible : l.found.from.visible ≡ 0;
-  hidden : l.found.from.hidden ≡ 0;
-  within : l.found.next ≤ length l.tree.items;
-  walking : Walking l.undos l.version l.tree.items l.run l.at.visible l.at.hidden l.found.next;
-}
+invariant-loop-run l = Walking (λ (k : MayDiffer). may_differ k.version.now) l.undos l.version l.tree.items l.run l.found l.at
 
 abbrev pub decreases-loop-run : goal.decreases-loop-run
 decreases-loop-run l = length l.tree.items - l.found.next
