@@ -1,8 +1,8 @@
 -- Which anchors are known, and where they stand.
-use Rattle.std.proofs.Common.{◌≡◌, ℕ, ◌+◌, ◌-◌, ◌<◌, ◌≤◌, ◌⊎◌, Bool, true, false, cond, ◌&&◌, ◌||◌, ltb, leb, List, [], ◌∷◌, ◌++◌, length, get_or, Some, None, refl, sym, ap, ◌∙◌, arith, inl, inr}
+use Rattle.std.proofs.Common.{◌≡◌, ℕ, ◌+◌, ◌-◌, ◌<◌, ◌≤◌, ◌⊎◌, Bool, true, false, cond, ◌&&◌, ◌||◌, ltb, leb, List, [], ◌∷◌, ◌++◌, length, Some, None, refl, sym, ap, ◌∙◌, arith, inl, inr}
 use Rattle.std.specs.Ordering.{nat_cmp, ordering_then}
 use Rattle.std.specs.declared.cmp.Ordering.{Ordering}
-use Rattle.std.proofs.lemmas.Bool.{cases_Bool, cases_lt, and_parts, lt-ltb, le-leb, ltb-true, ltb-false, leb-true, false_from_ne_true}
+use Rattle.std.proofs.lemmas.Bool.{cases_Bool, cases_lt, and_parts, lt-ltb, le-leb, ltb-true, ltb-false, leb-true, false_from_ne_true, lt-leb, and_right}
 use Rattle.std.proofs.lemmas.Option.{same_Some, none-some}
 use Rattle.lamport_clock.specs.declared.stamp.Lamport.{Lamport}
 use Rattle.op_model.specs.Edits.{is_boundary}
@@ -25,6 +25,7 @@ use Rattle.anchors.specs.Standing.{StandFor, bias_of, side, standing_of}
 use Rattle.anchors.proofs.Splits.{split_at, before_is, number_upto, length_upto, in_text, in_hidden, both_lengths}
 use Rattle.anchors.proofs.Runs.{cell_at}
 use Rattle.op_model.proofs.anchors.KnownAnchors.{edit_there}
+use Rattle.op_model.proofs.texts.WholeTexts.{same_byte}
 
 -- ---- spots
 
@@ -43,15 +44,6 @@ none_spot h c e = go (cases_Bool (ltb c.k (length (new_bytes h c.stamp))))
     go (inr t) = ltb-false c.k (length (new_bytes h c.stamp)) t
 
 -- ---- boundaries
-
-not_least : (m n : ℕ) → m < n → leb n m ≡ false
-not_least m n l = false_from_ne_true (leb n m) (λ q. let r = leb-true n m q in absurd (omega (arith, l, r)))
-
-inner : (xs : List ℕ) (i : ℕ) → i < length xs → is_boundary xs i ≡ (ltb (get_or xs i 0) 128 || leb 192 (get_or xs i 0))
-inner xs i l = rw (le-leb i (length xs) (omega (arith, l)), not_least i (length xs) l) refl
-
-same_boundary : (xs ys : List ℕ) (i j : ℕ) → i < length xs → j < length ys → get_or xs i 0 ≡ get_or ys j 0 → is_boundary xs i ≡ is_boundary ys j
-same_boundary xs ys i j l m e = inner xs i l ∙ ap (λ (b : ℕ). ltb b 128 || leb 192 b) e ∙ sym (inner ys j m)
 
 at_end : (xs : List ℕ) (i : ℕ) → i ≡ length xs → is_boundary xs i ≡ true
 at_end xs i e = rw (le-leb i (length xs) (omega (arith, e)), le-leb (length xs) i (omega (arith, e))) refl
@@ -79,20 +71,17 @@ module _ (fs : List Fragment) (w : List IndexEntry) (v n : List ℕ) (h : Histor
           let y = in_text h s.lawful cs c ds x t in
           ap (λ (b : Bool). cond b (is_boundary v p.shown) (is_boundary n (p.cells - p.shown))) (a ∙ t)
           ∙ ap (λ (z : List ℕ). is_boundary z p.shown) s.shows ∙ ap (is_boundary (text h)) m
-          ∙ same_boundary (text h) (new_bytes h c.stamp) (shown_count h cs) c.k y.0 i y.1
+          ∙ same_byte (text h) (new_bytes h c.stamp) (shown_count h cs) c.k y.0 i y.1
       go (inr t) cs ds x a m q i =
           let y = in_hidden h s.lawful cs c ds x t in
           ap (λ (b : Bool). cond b (is_boundary v p.shown) (is_boundary n (p.cells - p.shown))) (a ∙ t)
           ∙ ap (λ (z : List ℕ). is_boundary z (p.cells - p.shown)) s.hides ∙ ap (is_boundary (hidden_text h)) q
-          ∙ same_boundary (hidden_text h) (new_bytes h c.stamp) (length cs - shown_count h cs) c.k y.0 i y.1
+          ∙ same_byte (hidden_text h) (new_bytes h c.stamp) (length cs - shown_count h cs) c.k y.0 i y.1
 
 pub ends_none : (h : History) (c : Cell) → spot_of h c ≡ None → c.k ≤ length (new_bytes h c.stamp) → true ≡ is_boundary (new_bytes h c.stamp) c.k
 ends_none h c e m = let k = none_spot h c e in sym (at_end (new_bytes h c.stamp) c.k (omega (arith, k, m)))
 
 -- ---- what is known
-
-last_false : (a b : Bool) → b ≡ false → (a && b) ≡ false
-last_false a b e = false_from_ne_true (a && b) (λ q. let k = and_parts a b q in let f = k.1 in let g : true ≡ false = sym f ∙ e in cc)
 
 middle_of : (a b c : Bool) → a ≡ true → c ≡ true → (a && b && c) ≡ b
 middle_of true true true e f = refl
@@ -110,7 +99,7 @@ second_of true b true false e f g = absurd (cc)
 module _ (h : History) (t : Lamport) (k : ℕ) where
   right_unknown : length (new_bytes h t) ≤ k → is_known h (At t k Right) ≡ false
   unfolding is_known
-  right_unknown l = last_false (has_edit h t && is_boundary (new_bytes h t) k) (ltb k (length (new_bytes h t)))
+  right_unknown l = and_right (has_edit h t && is_boundary (new_bytes h t) k) (ltb k (length (new_bytes h t)))
       (false_from_ne_true (ltb k (length (new_bytes h t))) (λ q. let r = ltb-true k (length (new_bytes h t)) q in absurd (omega (arith, l, r))))
 
   right_known : k < length (new_bytes h t) → is_known h (At t k Right) ≡ is_boundary (new_bytes h t) k
@@ -123,7 +112,7 @@ module _ (h : History) (t : Lamport) (k : ℕ) where
       let x = and_parts (has_edit h t && is_boundary (new_bytes h t) k && leb 1 k) (leb k (length (new_bytes h t))) q in
       let y = and_parts (has_edit h t && is_boundary (new_bytes h t) k) (leb 1 k) x.0 in
       let z = leb-true 1 k y.1 in absurd (omega (arith, z, e)))
-  left_unknown (inr l) = last_false (has_edit h t && is_boundary (new_bytes h t) k && leb 1 k) (leb k (length (new_bytes h t))) (not_least (length (new_bytes h t)) k l)
+  left_unknown (inr l) = and_right (has_edit h t && is_boundary (new_bytes h t) k && leb 1 k) (leb k (length (new_bytes h t))) (lt-leb k (length (new_bytes h t)) l)
 
   left_known : (k ≡ 0 → ⊥) → k - 1 < length (new_bytes h t) → is_known h (At t k Left) ≡ is_boundary (new_bytes h t) k
   unfolding is_known

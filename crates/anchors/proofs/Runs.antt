@@ -10,6 +10,7 @@ use Rattle.op_model.specs.Shown.{shown}
 use Rattle.op_model.specs.Anchors.{shown_count}
 use Rattle.op_model.specs.Facts.{Fact, fact, cell_facts, alike}
 use Rattle.op_model.specs.Walked.{facts_of}
+use Rattle.op_model.proofs.texts.Utf8Runs.{length_alike}
 use Rattle.fragments.specs.declared.fragment.Fragment.{Fragment}
 use Rattle.fragments.specs.Stand.{runs, Tell}
 use Rattle.fragments.specs.Laws.{shown_len}
@@ -71,10 +72,6 @@ visible_alike t o zero true d = refl
 visible_alike t o zero false d = refl
 visible_alike t o (suc n) true d = ap suc (visible_alike t (suc o) n true d)
 visible_alike t o (suc n) false d = visible_alike t (suc o) n false d
-
-length_alike : (t : Lamport) (o n : ℕ) (v : Bool) (d : List Lamport) → length (alike t o n v d) ≡ n
-length_alike t o zero v d = refl
-length_alike t o (suc n) v d = ap suc (length_alike t (suc o) n v d)
 
 visible_runs : (fs : List Fragment) → visible_in (facts_of (runs fs)) ≡ shown_len fs
 unfolding visible_in

@@ -6,7 +6,7 @@ use Rattle.std.specs.Ordering.{nat_cmp, is_lt, ordering_reverse}
 use Rattle.std.specs.declared.cmp.Ordering.{Ordering}
 use Rattle.std.specs.declared.cmp.Ordering.TheVariants.{Less, Equal, Greater}
 use Rattle.std.proofs.lemmas.Cmp.{nat_list_cmp_total}
-use Rattle.std.proofs.lemmas.Bool.{cases_Bool, ltb-true, ltb-false, false_from_ne_true}
+use Rattle.std.proofs.lemmas.Bool.{cases_Bool, ltb-true, ltb-false}
 use Rattle.sum_tree.specs.Laws.{fold}
 use Rattle.tree_cursor.specs.Places.{behind, place_behind, seek_count, filter_count}
 use Rattle.tree_cursor.specs.Counting.{number_passes}
@@ -19,7 +19,7 @@ use Rattle.fragments.specs.SummaryLaws.{id_order}
 use Rattle.fragments.specs.SeenPlaces.{cells_of, move_visible}
 use Rattle.fragments.specs.Stand.{Rise}
 use Rattle.fragments.specs.Laws.{shown_len}
-use Rattle.fragments.proofs.Counts.{own_cells, places_count_cells}
+use Rattle.fragments.proofs.Counts.{own_cells, visible_more, places_count_cells}
 use Rattle.anchors.specs.Before.{Place, at, move_before, reaches}
 use Rattle.std.proofs.lemmas.Option.{same_Some, none-some}
 use Rattle.anchors.specs.Spots.{cells_len, run_behind, RunFits}
@@ -55,11 +55,7 @@ seek_id (g ∷ pre) post f low r =
 -- ---- places
 
 shown_more : (f : Fragment) (fs : List Fragment) (n : ℕ) → n + (summary_of f).visible + shown_len fs ≡ n + shown_len (f ∷ fs)
-shown_more f fs n = go f.visible
-  where
-    go : (b : Bool) → n + cond b f.len 0 + shown_len fs ≡ n + cond b (f.len + shown_len fs) (shown_len fs)
-    go true = omega arith
-    go false = omega arith
+shown_more f fs n = let e = visible_more f fs in omega (arith, e)
 
 pub shown_behind : (p : Place) (fs : List Fragment) → (place_behind move_before summary_of p fs).0 ≡ p.0 + shown_len fs
 shown_behind p [] = omega arith
@@ -68,10 +64,6 @@ shown_behind p (f ∷ fs) = shown_behind (behind p (move_before p (summary_of f)
 pub cells_behind : (p : Place) (fs : List Fragment) → (place_behind move_before summary_of p fs).1 ≡ p.1 + cells_len fs
 cells_behind p [] = omega arith
 cells_behind p (f ∷ fs) = let c = own_cells f in cells_behind (behind p (move_before p (summary_of f))) fs ∙ omega (arith, c)
-
-visible_sum : (s : FragmentSummary) (fs : List Fragment) → (fold s summaries summary_of fs).visible ≡ s.visible + shown_len fs
-visible_sum s [] = omega arith
-visible_sum s (f ∷ fs) = visible_sum (summaries s (summary_of f)) fs ∙ shown_more f fs s.visible
 
 cells_sum : (s : FragmentSummary) (fs : List Fragment) → cells_of (fold s summaries summary_of fs) ≡ cells_of s + cells_len fs
 cells_sum s [] = omega arith

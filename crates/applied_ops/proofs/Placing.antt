@@ -13,8 +13,8 @@ use Rattle.sum_tree.specs.Laws.{fold}
 use Rattle.sum_tree.specs.Count.{count_sum}
 use Rattle.sum_tree.specs.Keyed.{Ascending, below, above, insert_item}
 use Rattle.lamport_clock.specs.declared.stamp.Lamport.{Lamport}
-use Rattle.lamport_clock.specs.Stamps.{same_stamp}
-use Rattle.lamport_clock.proofs.Order.{stamp_cmp, is_eq-same}
+use Rattle.lamport_clock.specs.Stamps.{same_stamp, stamp_cmp}
+use Rattle.lamport_clock.proofs.Order.{is_eq-same, stamp_cmp-refl}
 use Rattle.op_model.specs.declared.operation.Operation.{Operation}
 use Rattle.op_model.specs.Operations.{stamp_of}
 use Rattle.op_model.specs.Histories.{History, operation_at}
@@ -122,14 +122,6 @@ is_at t p = is_eq (stamp_cmp p.stamp t)
 at_stamp : (t : Lamport) (p : StampEntry) → is_at t p ≡ true → p.stamp ≡ t
 at_stamp t p e = same_stamp_eq p.stamp t (sym (is_eq-same p.stamp t) ∙ e)
 
-cmp_same : (t : Lamport) → stamp_cmp t t ≡ Equal
-cmp_same t = go (stamp_cmp t t) (is_eq-same t t ∙ same_stamp_refl t)
-  where
-    go : (o : Ordering) → is_eq o ≡ true → o ≡ Equal
-    go Less e = cc
-    go Equal e = refl
-    go Greater e = cc
-
 or_none : (o : Option StampEntry) → option_or o None ≡ o
 or_none None = refl
 or_none (Some p) = refl
@@ -144,8 +136,8 @@ module _ (p : StampEntry) (ps : List StampEntry) where
   -- its stamp leads to it
   pub put_at : entry_at (insert_item stamp_cmp stamp_at p ps) p.stamp ≡ Some p
   put_at = find-append (is_at p.stamp) (below stamp_cmp stamp_at p.stamp ps) (p ∷ above stamp_cmp stamp_at p.stamp ps)
-      ∙ ap (λ (o : Option StampEntry). option_or o (entry_at (p ∷ above stamp_cmp stamp_at p.stamp ps) p.stamp)) (low_found p.stamp ∙ ap (λ (o : Ordering). cond (is_lt o) (entry_at ps p.stamp) None) (cmp_same p.stamp))
-      ∙ ap (λ (o : Ordering). cond (is_eq o) (Some p) (entry_at (above stamp_cmp stamp_at p.stamp ps) p.stamp)) (cmp_same p.stamp)
+      ∙ ap (λ (o : Option StampEntry). option_or o (entry_at (p ∷ above stamp_cmp stamp_at p.stamp ps) p.stamp)) (low_found p.stamp ∙ ap (λ (o : Ordering). cond (is_lt o) (entry_at ps p.stamp) None) (stamp_cmp-refl p.stamp))
+      ∙ ap (λ (o : Ordering). cond (is_eq o) (Some p) (entry_at (above stamp_cmp stamp_at p.stamp ps) p.stamp)) (stamp_cmp-refl p.stamp)
 
   -- all others lead where they led
   pub put_beside : (t : Lamport) → (p.stamp ≡ t → ⊥) → entry_at (insert_item stamp_cmp stamp_at p ps) t ≡ entry_at ps t

@@ -2,7 +2,7 @@
 use Rattle.std.specs.Prelude.{◌≡◌, ℕ, ◌<◌, Bool, false, List, length, get_or, Option, Some, None}
 use Rattle.sum_tree.specs.Keyed.{Ascending, item_of_key}
 use Rattle.lamport_clock.specs.declared.stamp.Lamport.{Lamport}
-use Rattle.lamport_clock.proofs.Order.{stamp_cmp}
+use Rattle.lamport_clock.specs.Stamps.{stamp_cmp}
 use Rattle.op_model.specs.declared.operation.Operation.{Operation}
 use Rattle.op_model.specs.Operations.{stamp_of, is_edit}
 use Rattle.applied_ops.specs.declared.stamp_entry.StampEntry.{StampEntry}

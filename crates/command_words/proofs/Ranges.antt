@@ -23,10 +23,6 @@ use Rattle.command_words.specs.Words.{number_in, number_of}
 use Rattle.command_words.proofs.Kept.{neither}
 
 -- no test of a list of two passes
-pub no_or : (a b : Bool) → (a || b) ≡ false → (a ≡ false) × (b ≡ false)
-no_or true b e = absurd (true≢false e)
-no_or false b e = (refl, e)
-
 -- ---- the option of a name, with a number of `least` to `most`
 
 some_is : (a b : Rule) → Some a ≡ Some b → a ≡ b

@@ -12,7 +12,7 @@ use Rattle.clap.specs.Faults.{check_fault, defaults_fault, entered_fault, fault_
 use Rattle.clap.specs.Takes.{is_given}
 use Rattle.command_words.specs.Words.{command_from, command_line, command_with, number_of}
 use Rattle.command_words.proofs.Kept.{neither, settle_keeps, walk_keeps}
-use Rattle.command_words.proofs.Ranges.{AllRead, EachTakes, defaults_read, found_takes, given_there, no_or, number_there, used_reads}
+use Rattle.command_words.proofs.Ranges.{AllRead, EachTakes, defaults_read, found_takes, given_there, number_there, used_reads}
 use Rattle.command_words.proofs.Stops.{StopsElsewhere, walk_stops}
 use Rattle.clap.specs.declared.error.kind.ErrorKind.TheVariants as kind
 use Rattle.clap.specs.declared.builder.value_parser.Reading.{Reading}
@@ -21,7 +21,7 @@ use Rattle.clap.specs.declared.parser.matches.ValueSource.TheVariants.{DefaultVa
 use Rattle.command_words.specs.declared.command.Command.{Command}
 use Rattle.command_words.specs.declared.command.Command.TheVariants.{Make, Read}
 use Rattle.command_words.specs.declared.command.Task.TheVariants.{Replay}
-use Rattle.std.proofs.lemmas.Bool.{not-false}
+use Rattle.std.proofs.lemmas.Bool.{not-false, or_parts}
 
 -- ---- a subcommand without fault
 
@@ -132,9 +132,9 @@ make_taken words e =
     let rows = rows_after make_shape.rules [] words in
     let seed = level_reads (codes "seed") 0 2147483647 make_shape seed_takes words e in
     let given = nothing_wanted _ seed.1 in
-    let first = no_or (not (is_given (codes "seed") rows)) _ given in
-    let second = no_or (not (is_given (codes "replicas") rows)) _ first.1 in
-    let third = no_or (not (is_given (codes "edits") rows)) _ second.1 in
+    let first = or_parts (not (is_given (codes "seed") rows)) _ given in
+    let second = or_parts (not (is_given (codes "replicas") rows)) _ first.1 in
+    let third = or_parts (not (is_given (codes "edits") rows)) _ second.1 in
     made (number_of 0 2147483647 (codes "seed") rows) (number_of 1 16 (codes "replicas") rows) (number_of 0 20000 (codes "edits") rows)
     (number_there (codes "seed") 0 2147483647 rows seed.0 (given_there (codes "seed") rows (not-false _ first.0)))
     (number_there (codes "replicas") 1 16 rows (level_reads (codes "replicas") 1 16 make_shape replicas_take words e).0 (given_there (codes "replicas") rows (not-false _ second.0)))

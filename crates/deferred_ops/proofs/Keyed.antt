@@ -11,9 +11,9 @@ use Rattle.std.specs.BTreeMap.{insert_entry, is_at}
 use Rattle.std.specs.BTreeMap.Range.{entries_between}
 use Rattle.std.specs.Map.{keys_of, values_of, lookup, remove_entry}
 use Rattle.lamport_clock.specs.declared.stamp.Lamport.{Lamport}
-use Rattle.lamport_clock.specs.Stamps.{later, same_stamp}
+use Rattle.lamport_clock.specs.Stamps.{later, same_stamp, stamp_cmp}
 use Rattle.lamport_clock.specs.Versions.{Entries}
-use Rattle.lamport_clock.proofs.Order.{stamp_cmp, is_gt-later, is_lt-later, is_eq-same}
+use Rattle.lamport_clock.proofs.Order.{is_gt-later, is_lt-later, is_eq-same}
 use Rattle.op_model.specs.declared.operation.Operation.{Operation}
 use Rattle.op_model.specs.Sorted.{insert_by, Ascending}
 use Rattle.op_model.specs.Operations.{stamp_of}

@@ -3,7 +3,7 @@ use Rattle.std.proofs.Common.{◌≡◌, ◌⊎◌, inl, inr, ◌<◌, ◌≤◌
 use Rattle.std.specs.List.{AllByRecursion}
 use Rattle.std.specs.Prelude.{nat_le, nat_lt, IfSome, unwrap_or}
 use Rattle.std.proofs.lemmas.Bool.Decides.{nat_tests}
-use Rattle.std.proofs.lemmas.Bool.{cases_Bool, cases_lt, false_from_ne_true, le-leb, leb-true, ltb-true}
+use Rattle.std.proofs.lemmas.Bool.{cases_Bool, cases_lt, false_from_ne_true, le-leb, leb-true, ltb-true, and_right}
 use Rattle.std.specs.Ordering.{is_eq, is_gt, nat_cmp, ordering_then}
 use Rattle.std.specs.declared.cmp.Ordering.{Ordering}
 use Rattle.std.specs.declared.cmp.Ordering.TheVariants.{Less, Equal, Greater}
@@ -109,23 +109,19 @@ unseen s (e ∷ have) r x t none has some = go (e.0 == r) refl (unseen s have r 
       ]
     ]
 
-and_false : (a b : Bool) → b ≡ false → (a && b) ≡ false
-and_false true b e = e
-and_false false b e = refl
-
 misses : (have v : Entries) (e : ℕ × ℕ) → Member e v → entry have e.0 < e.1 → within v have ≡ false
 misses have [] e among past = absurd among
 misses have (x ∷ v) e (inl q) past =
     let here : nat_le x.1 (entry have x.0) ≡ false = subst (λ (y : ℕ × ℕ). nat_le y.1 (entry have y.0) ≡ false) q (false_from_ne_true _ (λ le. let bad = leb-true e.1 (entry have e.0) le in omega arith)) in
     ap (λ b. b && within v have) here
-misses have (x ∷ v) e (inr among) past = and_false (nat_le x.1 (entry have x.0)) (within v have) (misses have v e among past)
+misses have (x ∷ v) e (inr among) past = and_right (nat_le x.1 (entry have x.0)) (within v have) (misses have v e among past)
 
 pub none_ready : (s : Causes) (have : Entries) (w : List Operation) → AllNone s have → AreListed s w → (after : Option Lamport) → least_ready after have w ≡ None
 none_ready s have [] none listed after = refl
 none_ready s have (op ∷ w) none listed after =
     let cause = listed.0 in
     let missed = misses have (version_of op) (cause.0, cause.1) cause.4 (unseen s have cause.0 cause.1 (stamp_of op) none cause.2 cause.3) in
-    ap (λ b. cond b (Some op) (least_ready after have w)) (and_false (is_past after op) (misses_nothing have op) missed) ∙ none_ready s have w none listed.1 after
+    ap (λ b. cond b (Some op) (least_ready after have w)) (and_right (is_past after op) (misses_nothing have op) missed) ∙ none_ready s have w none listed.1 after
 
 -- ---- what waits changes
 

@@ -2,10 +2,12 @@
 use Rattle.std.proofs.Common.{◌≡◌, ℕ, ◌+◌, Bool, true, false, cond, List, [], ◌∷◌, Option, refl, ap, ◌∙◌, arith, inl, inr}
 use Rattle.std.proofs.lemmas.Bool.{cases_Bool, and_from, leb-false, lt-ltb}
 use Rattle.lamport_clock.specs.Versions.{Entries, sees, entry}
+use Rattle.sum_tree.specs.Laws.{fold}
 use Rattle.tree_cursor.specs.Places.{behind, place_behind}
 use Rattle.op_model.specs.Walked.{kept_len}
 use Rattle.fragments.specs.declared.fragment.Fragment.{Fragment}
-use Rattle.fragments.specs.Summaries.{summary_of}
+use Rattle.fragments.specs.declared.fragment.FragmentSummary.{FragmentSummary}
+use Rattle.fragments.specs.Summaries.{summaries, summary_of}
 use Rattle.fragments.specs.SummaryLaws.{one_admitted}
 use Rattle.fragments.specs.SeenPlaces.{At, cells_of, move_full, move_visible, move_at, all_in, none_in}
 use Rattle.fragments.specs.Stand.{runs}
@@ -21,6 +23,17 @@ own_cells f = all_or_none f.visible f.len
 full_behind : (fs : List Fragment) (n : ℕ) → place_behind move_full summary_of n fs ≡ n + kept_len (λ t. true) (runs fs)
 full_behind [] n = omega arith
 full_behind (f ∷ fs) n = let c = own_cells f in full_behind fs (n + cells_of (summary_of f)) ∙ omega arith
+
+pub visible_more : (f : Fragment) (fs : List Fragment) → shown_len (f ∷ fs) ≡ (summary_of f).visible + shown_len fs
+visible_more f fs = go f.visible
+  where
+    go : (b : Bool) → cond b (f.len + shown_len fs) (shown_len fs) ≡ cond b f.len 0 + shown_len fs
+    go true = refl
+    go false = omega arith
+
+pub visible_sum : (s : FragmentSummary) (fs : List Fragment) → (fold s summaries summary_of fs).visible ≡ s.visible + shown_len fs
+visible_sum s [] = omega arith
+visible_sum s (f ∷ fs) = let e = visible_more f fs in let ih = visible_sum (summaries s (summary_of f)) fs in omega (arith, e, ih)
 
 visible_at : (b : Bool) (n k m : ℕ) → n + cond b k 0 + m ≡ n + cond b (k + m) m
 visible_at true n k m = omega arith

@@ -10,11 +10,12 @@ use Rattle.sum_tree.specs.Keyed.{below, above}
 use Rattle.sum_tree.proofs.Keys.{ascending_inserted}
 use Rattle.lamport_clock.specs.declared.stamp.Lamport.{Lamport}
 use Rattle.lamport_clock.proofs.Order.{is_eq-same}
+use Rattle.lamport_clock.specs.Stamps.{stamp_cmp}
 use Rattle.op_model.specs.Sorted.{Member}
 use Rattle.op_model.proofs.order.PathOrder.{same_stamp_eq}
 use Rattle.fragments.specs.declared.index_entry.IndexKey.{IndexKey}
 use Rattle.fragments.specs.declared.index_entry.IndexEntry.{IndexEntry}
-use Rattle.fragments.specs.Index.{key_of, stamp_cmp, key_cmp, key_order, with_entry}
+use Rattle.fragments.specs.Index.{key_of, key_cmp, key_order, with_entry}
 use Rattle.fragments.specs.Laws.{EntryTakesItsPlace}
 use Rattle.locators.proofs.Between.{nat_cmp-Equal}
 

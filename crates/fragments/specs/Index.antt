@@ -7,16 +7,12 @@ use Rattle.std.proofs.lemmas.Cmp.{nat_cmp_total, on_total, back_total, then_tota
 use Rattle.sum_tree.specs.Keyed.{Ascending, insert_item}
 use Rattle.tree_cursor.specs.Keys.{cmp_less}
 use Rattle.lamport_clock.specs.declared.stamp.Lamport.{Lamport}
-use Rattle.lamport_clock.specs.Stamps.{same_stamp}
+use Rattle.lamport_clock.specs.Stamps.{same_stamp, stamp_cmp}
 use Rattle.fragments.specs.declared.index_entry.IndexKey.{IndexKey}
 use Rattle.fragments.specs.declared.index_entry.IndexEntry.{IndexEntry}
 
 abbrev pub key_of : IndexEntry → IndexKey
 key_of e = record { stamp = e.stamp; offset = record { 0 = e.offset } }
-
--- by value, then by replica
-abbrev pub stamp_cmp : Lamport → Lamport → Ordering
-stamp_cmp s t = ordering_then (nat_cmp s.value t.value) (nat_cmp s.replica t.replica)
 
 -- by stamp, then by offset, the greatest first
 abbrev pub key_cmp : IndexKey → IndexKey → Ordering

@@ -1,20 +1,19 @@
 -- The order of stamps, as std's comparisons tell it.
 use Rattle.std.proofs.Common.{◌≡◌, refl, sym, arith, Ordering, Some, eq-eqb, ne_eqb}
 use Rattle.std.proofs.lemmas.Bool.{lt-ltb, le-ltb}
-use Rattle.std.specs.Ordering.{nat_cmp, ordering_then, partial_ordering_then, is_some_and, is_gt, is_lt, is_eq}
+use Rattle.std.specs.Ordering.{ordering_then, partial_ordering_then, is_some_and, is_gt, is_lt, is_eq}
 use Rattle.std.specs.declared.cmp.Ordering.TheVariants.{Less, Equal, Greater}
 use Rattle.lamport_clock.specs.declared.stamp.Lamport.{Lamport}
-use Rattle.lamport_clock.specs.Stamps.{later, same_stamp}
+use Rattle.lamport_clock.specs.Stamps.{stamp_cmp, later, same_stamp}
 use Rattle.lamport_clock.proofs.Raises.{by_order}
-
--- by value, then by replica
-abbrev pub stamp_cmp : Lamport → Lamport → Ordering
-stamp_cmp s t = ordering_then (nat_cmp s.value t.value) (nat_cmp s.replica t.replica)
 
 pub gt-partial : (o p : Ordering) → is_some_and is_gt (partial_ordering_then (Some o) (Some p)) ≡ is_gt (ordering_then o p)
 gt-partial Less p = refl
 gt-partial Equal p = refl
 gt-partial Greater p = refl
+
+pub stamp_cmp-refl : (s : Lamport) → stamp_cmp s s ≡ Equal
+stamp_cmp-refl s = rw (le-ltb s.value s.value (omega arith), eq-eqb s.value s.value refl, le-ltb s.replica s.replica (omega arith), eq-eqb s.replica s.replica refl) refl
 
 pub is_gt-later : (s t : Lamport) → is_gt (stamp_cmp s t) ≡ later s t
 unfolding later

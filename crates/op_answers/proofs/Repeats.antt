@@ -5,8 +5,8 @@ use Rattle.std.specs.Ordering.{is_eq}
 use Rattle.std.proofs.lemmas.List.{take_more}
 use Rattle.std.proofs.lemmas.List.Folds.{list_any-append}
 use Rattle.lamport_clock.specs.declared.stamp.Lamport.{Lamport}
-use Rattle.lamport_clock.specs.Stamps.{same_stamp}
-use Rattle.lamport_clock.proofs.Order.{stamp_cmp, is_eq-same}
+use Rattle.lamport_clock.specs.Stamps.{same_stamp, stamp_cmp}
+use Rattle.lamport_clock.proofs.Order.{is_eq-same}
 use Rattle.op_model.specs.Made.{first_twice}
 use Rattle.deferred_ops.proofs.Keyed.{same_sym}
 

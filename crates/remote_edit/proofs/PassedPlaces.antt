@@ -13,7 +13,7 @@ use Rattle.fragments.specs.SummaryLaws.{one_admitted}
 use Rattle.fragments.specs.SeenPlaces.{At, cells_of, move_visible, move_at, all_in, none_in}
 use Rattle.fragments.specs.Stand.{runs}
 use Rattle.fragments.specs.Laws.{shown_len}
-use Rattle.fragments.proofs.Counts.{places_count_cells}
+use Rattle.fragments.proofs.Counts.{visible_more, visible_sum, places_count_cells}
 use Rattle.remote_edit.specs.Walk.{bytes}
 use Rattle.remote_edit.specs.Beside.{beside, move_beside}
 use Rattle.remote_edit.specs.Passed.{move_passed, PassedFits, move_seen, SeenFits}
@@ -38,13 +38,6 @@ number_whole : (n : ℕ) (f : Fragment) → (m : ℕ) × (move_visible n (summar
 number_whole n f = (n + (summary_of f).visible, refl)
 
 -- ---- the numbers
-
-visible_more : (f : Fragment) (fs : List Fragment) → shown_len (f ∷ fs) ≡ (summary_of f).visible + shown_len fs
-visible_more f fs = go f.visible
-  where
-    go : (b : Bool) → cond b (f.len + shown_len fs) (shown_len fs) ≡ cond b f.len 0 + shown_len fs
-    go true = refl
-    go false = omega arith
 
 hidden_more : (f : Fragment) (fs : List Fragment) → hidden_len (f ∷ fs) ≡ (summary_of f).hidden + hidden_len fs
 hidden_more f fs = go f.visible
@@ -95,10 +88,6 @@ pub passed_behind : (m n : ℕ) (fs : List Fragment) → place_behind move_passe
 passed_behind m n fs = place_beside move_visible (λ s. s.hidden) summary_of number_whole hidden_len refl hidden_more m n fs ∙ ap (beside (n + hidden_len fs)) (places_count_cells fs m).1
 
 -- ---- sums
-
-pub visible_sum : (s : FragmentSummary) (fs : List Fragment) → (fold s summaries summary_of fs).visible ≡ s.visible + shown_len fs
-visible_sum s [] = omega arith
-visible_sum s (f ∷ fs) = let e = visible_more f fs in let ih = visible_sum (summaries s (summary_of f)) fs in omega (arith, e, ih)
 
 pub hidden_sum : (s : FragmentSummary) (fs : List Fragment) → (fold s summaries summary_of fs).hidden ≡ s.hidden + hidden_len fs
 hidden_sum s [] = omega arith

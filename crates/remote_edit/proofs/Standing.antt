@@ -25,6 +25,7 @@ use Rattle.op_model.proofs.histories.Lawful.{each_of_in}
 use Rattle.op_model.proofs.histories.VersionLaws.{sees_own}
 use Rattle.op_model.proofs.answers.Good.{lawful_ready, checked_of, fits_of, full_length}
 use Rattle.undo_map.specs.declared.entry.UndoEntry.{UndoEntry}
+use Rattle.op_model.proofs.texts.Utf8Runs.{length_alike}
 use Rattle.fragments.specs.declared.fragment.Fragment.{Fragment}
 use Rattle.fragments.specs.declared.index_entry.IndexEntry.{IndexEntry}
 use Rattle.fragments.specs.Stand.{Stand, Tell, IsFilled, runs}
@@ -36,10 +37,6 @@ use Rattle.remote_edit.specs.Placing.{MayPlace}
 use Rattle.remote_edit.proofs.Indexing.{apart_start}
 
 -- ---- how many cells
-
-length_alike : (t : Lamport) (k n : ℕ) (v : Bool) (d : List Lamport) → length (alike t k n v d) ≡ n
-length_alike t k zero v d = refl
-length_alike t k (suc n) v d = ap suc (length_alike t (suc k) n v d)
 
 length_facts : (fs : List Fragment) → length (facts_of (runs fs)) ≡ bytes fs
 length_facts [] = refl

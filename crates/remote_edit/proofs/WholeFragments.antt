@@ -6,6 +6,7 @@ use Rattle.std.proofs.lemmas.Str.{IsCharBoundary-start}
 use Rattle.std.specs.List.{AllByRecursion, filter}
 use Rattle.std.specs.Str.{IsUtf8}
 use Rattle.std.specs.Prelude.{IsCharBoundary}
+use Rattle.std.proofs.lemmas.List.{nil_from_length}
 use Rattle.lamport_clock.specs.declared.stamp.Lamport.{Lamport}
 use Rattle.lamport_clock.specs.Stamps.{later}
 use Rattle.lamport_clock.specs.Versions.{sees}
@@ -92,10 +93,6 @@ utf8_more h op fs l u g s w =
 
 -- ---- an edit
 
-none_in : (x : List ℕ) → length x ≡ 0 → x ≡ []
-none_in [] e = refl
-none_in (y ∷ x) e = absurd (omega (arith, e))
-
 new_changing : (f : Cell → ℕ) (m : Marking) (keep : Lamport → Bool) (t : Lamport) (nu : (u : Lamport) → later u t ≡ true → keep u ≡ false) (whole : List ℕ)
     → ((k : ℕ) → f (record { stamp = t; k = k }) ≡ get_or whole k 0)
     → (pre : List ℕ) (ps : List Piece) (k : ℕ) → whole ≡ pre ++ texts ps → k ≡ length pre → AllByRecursion (λ (p : Piece). IsUtf8 p.text) ps → NewUtf8 f m keep t nu k (changing ps)
@@ -106,7 +103,7 @@ new_changing f m keep t nu whole g pre (p ∷ ps) k e l u = elim (cases_Bool (ch
         subst IsUtf8 (sym (new_text f t whole g pre p.text (texts ps) k e l)) u.0,
         new_changing f m keep t nu whole g (pre ++ p.text) ps (k + length p.text) (e ∙ sym (append_assoc pre p.text (texts ps))) (omega (arith, l, n)) u.1,
       )))
-  | inr c ↦ rw c (new_changing f m keep t nu whole g pre ps k (e ∙ ap (λ (x : List ℕ). pre ++ (x ++ texts ps)) (none_in p.text (no_text p c))) l u.1)
+  | inr c ↦ rw c (new_changing f m keep t nu whole g pre ps k (e ∙ ap (λ (x : List ℕ). pre ++ (x ++ texts ps)) (nil_from_length p.text (no_text p c))) l u.1)
 ]
 
 module _ (h : History) (op : Operation) (u : List UndoEntry) (fs : List Fragment) (i : List IndexEntry) (s : Stand fs i u h) (l : Lawful h) (g : answer h [] op ≡ Good) where

@@ -1,22 +1,16 @@
 -- Ranges of a text that are replaced from the last to the first.
-use Rattle.std.proofs.Common.{◌≡◌, ℕ, zero, suc, ◌+◌, ◌-◌, ◌<◌, ◌≤◌, ◌^◌, List, [], ◌∷◌, ◌++◌, length, take, drop, get_or, refl, sym, ◌∙◌, ap, subst, arith, Bool, true, false, None, append_assoc, IsTrue, ◌↔◌}
-use Rattle.std.proofs.lemmas.Bool.{false_from_ne_true, false≢true}
+use Rattle.std.proofs.Common.{◌≡◌, ℕ, zero, suc, ◌+◌, ◌-◌, ◌<◌, ◌≤◌, ◌^◌, List, [], ◌∷◌, ◌++◌, length, take, drop, get_or, sym, ◌∙◌, ap, subst, arith, None, append_assoc, ◌↔◌}
+use Rattle.std.proofs.lemmas.Bool.{false≢true}
 use Rattle.std.proofs.lemmas.List.{length-take-le, take-take, take-append-le, take-append-drop, drop_at, drop-take, drop_more}
 use Rattle.std.proofs.lemmas.Str.{IsCharBoundary-start, IsCharBoundary-at_seam, IsUtf8-append, IsUtf8-between, IsUtf8-drop}
 use Rattle.std.specs.List.{slice_range}
 use Rattle.std.specs.Str.{IsCharBoundary, IsUtf8}
 use Rattle.op_model.specs.declared.operation.Piece.{Piece}
 use Rattle.op_model.specs.Operations.{text_total}
-use Rattle.op_model.specs.Edits.{is_boundary, piece_fault, replace_ranges, replaced_from}
-use Rattle.op_model.proofs.texts.WholeTexts.{boundary_of, of_boundary}
+use Rattle.op_model.specs.Edits.{piece_fault, replace_ranges, replaced_from}
 use Rattle.op_model.specs.Domains.{AreUtf8}
 use Rattle.rope_edits.specs.Fit.{AreFit}
 use Rattle.rope_edits.proofs.Fit.{fits_of_none, length_replaced}
-
--- the test of a boundary is std's
-pub boundary_is : (text : List ℕ) (i : ℕ) (b : Bool) → (IsTrue b ↔ IsCharBoundary text i) → b ≡ is_boundary text i
-boundary_is text i true h = sym (of_boundary text i (h.0 refl))
-boundary_is text i false h = sym (false_from_ne_true (is_boundary text i) (λ e. false≢true (h.1 (boundary_of text i e))))
 
 pub take_split : (a b : ℕ) (xs : List ℕ) → a ≤ b → take b xs ≡ take a xs ++ slice_range xs a b
 take_split a b xs h =

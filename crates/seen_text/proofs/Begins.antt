@@ -14,7 +14,7 @@ use Rattle.op_model.specs.Shown.{full, text, hidden_text}
 use Rattle.op_model.specs.Edits.{is_boundary}
 use Rattle.op_model.specs.Lawful.{Lawful, IsClosed}
 use Rattle.op_model.proofs.answers.Good.{lawful_ready}
-use Rattle.op_model.proofs.texts.WholeTexts.{byte_of}
+use Rattle.op_model.proofs.texts.WholeTexts.{byte_of, boundary_is, same_byte}
 use Rattle.fragments.specs.declared.fragment.Fragment.{Fragment}
 use Rattle.fragments.specs.Summaries.{no_fragments, summaries, summary_of, SummaryFits}
 use Rattle.fragments.specs.Stand.{Tell}
@@ -27,7 +27,7 @@ use Rattle.remote_edit.proofs.PassedPlaces.{seek_seen, seen_behind, shown_append
 use Rattle.remote_edit.proofs.Texts.{text_bytes, hidden_text_bytes}
 use Rattle.remote_edit.proofs.Carrying.{shown_long}
 use Rattle.seen_text.proofs.Found.{sought, Found, found, Ended, ended}
-use Rattle.seen_text.proofs.Bytes.{boundary_is, same_byte, seen_full, seen_in, seen_long, hidden_long, seen_at, shown_at, hidden_at}
+use Rattle.seen_text.proofs.Bytes.{seen_full, seen_in, seen_long, hidden_long, seen_at, shown_at, hidden_at}
 
 abbrev pub start : Entries → SeenPlace
 start v = (((v, 0), 0), 0)

@@ -1,8 +1,7 @@
 -- The bytes of the cells that a version sees, and where each lies in the shown or the hidden text.
-use Rattle.std.proofs.Common.{◌≡◌, ℕ, zero, suc, ◌+◌, ◌<◌, ◌↔◌, IsTrue, List, [], ◌∷◌, ◌++◌, length, map, get_or, refl, sym, ap, ◌∙◌, arith, cond, true, false, not, ◌||◌, Bool, ltb, leb, append_assoc}
+use Rattle.std.proofs.Common.{◌≡◌, ℕ, zero, suc, ◌+◌, ◌<◌, ◌↔◌, List, [], ◌∷◌, ◌++◌, length, map, get_or, refl, sym, ap, ◌∙◌, arith, cond, true, false, not, ◌||◌, Bool, append_assoc}
 use Rattle.std.specs.List.{filter}
-use Rattle.std.specs.Str.{IsCharBoundary}
-use Rattle.std.proofs.lemmas.Bool.{le-leb, lt-leb, false_from_ne_true, false≢true}
+use Rattle.std.proofs.lemmas.Bool.{false≢true}
 use Rattle.std.proofs.lemmas.List.{length-append}
 use Rattle.lamport_clock.specs.declared.stamp.Lamport.{Lamport}
 use Rattle.lamport_clock.specs.Versions.{Entries, sees}
@@ -10,33 +9,18 @@ use Rattle.op_model.specs.Histories.{History, newest_first, seen_history}
 use Rattle.op_model.specs.Cells.{Cell, PathCell, cells, seq, seq_where, everything}
 use Rattle.op_model.specs.Shown.{full, full_where}
 use Rattle.op_model.specs.Facts.{Fact, cell_facts, alike}
-use Rattle.op_model.specs.Edits.{is_boundary}
 use Rattle.op_model.specs.Lawful.{Lawful, IsClosed}
 use Rattle.op_model.proofs.order.Restricted.{restrict}
 use Rattle.op_model.proofs.shown.Bytes.{full_seen}
 use Rattle.op_model.proofs.histories.ClosedVersions.{closed_part}
 use Rattle.op_model.proofs.texts.Utf8Runs.{bytes, kept_bytes, facts_kept, get_right}
-use Rattle.op_model.proofs.texts.WholeTexts.{byte_of, kept_told, boundary_of, of_boundary}
+use Rattle.op_model.proofs.texts.WholeTexts.{byte_of, kept_told}
 use Rattle.fragments.specs.declared.fragment.Fragment.{Fragment}
 use Rattle.fragments.specs.Stand.{runs, Tell}
 use Rattle.fragments.specs.Laws.{shown_len}
 use Rattle.remote_edit.specs.Walk.{seen_bytes}
 use Rattle.remote_edit.specs.Carried.{cell_bytes, shown_bytes, hidden_bytes, hidden_len}
 use Rattle.remote_edit.proofs.Carrying.{bytes_of, long, shown_first, hidden_first, shown_append, hidden_append, shown_long}
-
--- ---- boundaries
-
--- the test of a boundary is std's
-pub boundary_is : (bs : List ℕ) (i : ℕ) (b : Bool) → (IsTrue b ↔ IsCharBoundary bs i) → b ≡ is_boundary bs i
-boundary_is bs i true h = sym (of_boundary bs i (h.0 refl))
-boundary_is bs i false h = sym (false_from_ne_true (is_boundary bs i) (λ e. false≢true (h.1 (boundary_of bs i e))))
-
-within : (bs : List ℕ) (i : ℕ) → i < length bs → is_boundary bs i ≡ (ltb (get_or bs i 0) 128 || leb 192 (get_or bs i 0))
-within bs i h = rw (le-leb i (length bs) (omega (arith, h)), lt-leb (length bs) i h) refl
-
--- two places with one byte
-pub same_byte : (xs ys : List ℕ) (i j : ℕ) → i < length xs → j < length ys → get_or xs i 0 ≡ get_or ys j 0 → is_boundary xs i ≡ is_boundary ys j
-same_byte xs ys i j h k e = within xs i h ∙ ap (λ (b : ℕ). ltb b 128 || leb 192 b) e ∙ sym (within ys j k)
 
 -- ---- what a closed version sees of a history
 

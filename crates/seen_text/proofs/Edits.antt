@@ -7,10 +7,9 @@ use Rattle.op_model.specs.Cells.{Cell, seq, cells}
 use Rattle.op_model.specs.Shown.{full, full_where, new_bytes}
 use Rattle.op_model.proofs.answers.Good.{lawful_ready}
 use Rattle.op_model.proofs.order.CellsOnce.{all_cells}
-use Rattle.op_model.proofs.texts.WholeTexts.{byte_of}
+use Rattle.op_model.proofs.texts.WholeTexts.{byte_of, same_byte}
 use Rattle.op_model.proofs.texts.WholeRuns.{byte_new}
 use Rattle.seen_text.specs.Laws.{CellsBeginAsInTheirEdits}
-use Rattle.seen_text.proofs.Bytes.{same_byte}
 use Rattle.op_model.proofs.anchors.KnownAnchors.{got_map}
 
 member_at : (s : List Cell) (i : ℕ) (c : Cell) → slice_get s i ≡ Some c → Member c s

@@ -4,11 +4,8 @@ use Rattle.session_replay.specs.Traffic.{Moves, Had}
 use Rattle.std.specs.Io.KnownBytes.{Appends, Consumes, IsAtEnd}
 use Rattle.std.proofs.KnownBytes.{Appends-trans, Consumes-trans, Consumes-whole}
 use Rattle.std.proofs.Math.Seq.{take-add}
+use Rattle.std.proofs.lemmas.List.{nil_from_length}
 use Rattle.session_lines.proofs.Cut.{behind}
-
-no_bytes : (l : List ℕ) → length l ≡ 0 → l ≡ []
-no_bytes [] e = refl
-no_bytes (x ∷ l) e = absurd (omega arith)
 
 pub more_written : (a b c : Option (List ℕ)) (text : List ℕ) (i n : ℕ) → Appends a b (take i text) → Appends b c (take n (take (length text - i) (drop i text))) → Appends a c (take (i + n) text)
 more_written a b c text i n p q = subst (Appends a c) (ap (λ l. take i text ++ take n l) (behind text i) ∙ sym (take-add i n text)) (Appends-trans a b c _ _ p q)
@@ -24,7 +21,7 @@ more_read a b c all all_after n p m = subst (Consumes a c) (sym m.added) (Consum
 
 -- nothing more was read
 pub none_read : (all all_after : List ℕ) (b c : Option (List ℕ)) (n : ℕ) → n ≡ 0 → Moves b c all all_after n → (all_after ≡ all) × IsAtEnd c
-none_read all all_after b c n z m = (m.added ∙ ap (λ l. all ++ l) (no_bytes m.bytes (m.count ∙ z)) ∙ append-nil all, m.end z)
+none_read all all_after b c n z m = (m.added ∙ ap (λ l. all ++ l) (nil_from_length m.bytes (m.count ∙ z)) ∙ append-nil all, m.end z)
 
 pub all_read : (a c : Option (List ℕ)) (all : List ℕ) → Consumes a c all → IsAtEnd c → IfSome a (λ xs. all ≡ xs)
 all_read a c all p e = Consumes-whole a c all (λ xs. all ≡ xs) p e refl

@@ -2,6 +2,7 @@
 use Rattle.std.proofs.Common.{◌≡◌, ℕ, ◌+◌, ◌≤◌, ◌^◌, List, [], ◌∷◌, ◌++◌, length, map, refl, sym, ap, subst, ◌∙◌, arith, inl, inr}
 use Rattle.std.specs.List.{AllByRecursion}
 use Rattle.std.specs.Str.{IsUtf8}
+use Rattle.std.proofs.lemmas.List.{nil_from_length}
 use Rattle.lamport_clock.specs.declared.stamp.Lamport.{Lamport}
 use Rattle.lamport_clock.specs.Versions.{Entries}
 use Rattle.locators.specs.Locator.{IsLess, EndsAboveZero, least_digits, greatest_digits}
@@ -57,12 +58,8 @@ content_shared c d h a b u e f k = record {
 
 -- ---- a base
 
-no_bytes : (h : List ℕ) → length h ≡ 0 → h ≡ []
-no_bytes [] e = refl
-no_bytes (b ∷ h) e = absurd (omega (arith, e))
-
 pub empty_base : (fs : List Fragment) (w : List IndexEntry) (t : List ℕ) → length t ≡ 0 → fs ≡ [] → w ≡ [] → Stand fs w [] (base t ∷ [])
-empty_base fs w t e f g = subst (λ (x : List ℕ). Stand fs w [] (base x ∷ [])) (sym (no_bytes t e)) (stand_is fs [] w [] [] [] (base [] ∷ []) f g refl base_stands.1)
+empty_base fs w t e f g = subst (λ (x : List ℕ). Stand fs w [] (base x ∷ [])) (sym (nil_from_length t e)) (stand_is fs [] w [] [] [] (base [] ∷ []) f g refl base_stands.1)
 
 pub one_base : (fs : List Fragment) (w : List IndexEntry) (f : Fragment) (t : List ℕ) → (length t ≡ 0 → ⊥) → length t ≤ 2 ^ 40 → f ≡ whole_base f.id t → IsLess least_digits f.id → IsLess f.id greatest_digits → EndsAboveZero f.id
     → fs ≡ f ∷ [] → w ≡ entry_of (whole_base f.id t) ∷ [] → Stand fs w [] (base t ∷ [])
@@ -84,7 +81,7 @@ base_content c t fr s w u e f =
       stand = subst (λ (x : List UndoEntry). Stand c.fragments.items c.index x h) (sym u) s;
       whole = w;
       shown = e ∙ sym (text_base t);
-      hidden = f ∙ sym (no_bytes (hidden_text h) (omega (arith, b, l, held)));
+      hidden = f ∙ sym (nil_from_length (hidden_text h) (omega (arith, b, l, held)));
     }
 
 -- ---- what an operation asks

@@ -1,13 +1,12 @@
 -- The greatest count of the entries that pass.
-use Rattle.std.proofs.Common.{◌≡◌, ℕ, max, Bool, true, false, cond, List, [], ◌∷◌, ◌++◌, refl, ap, arith, eq-eqb}
+use Rattle.std.proofs.Common.{◌≡◌, ℕ, max, Bool, true, false, cond, List, [], ◌∷◌, ◌++◌, refl, ap, arith}
 use Rattle.std.specs.Ordering.{is_lt, is_eq, is_gt}
 use Rattle.std.specs.declared.cmp.Ordering.TheVariants.{Less, Equal, Greater}
 use Rattle.sum_tree.specs.Keyed.{below, above}
 use Rattle.undo_map.specs.declared.entry.UndoKey.{UndoKey}
 use Rattle.undo_map.specs.declared.entry.UndoEntry.{UndoEntry}
-use Rattle.undo_map.specs.Counts.{key_of, key_cmp, stamp_cmp, greatest, count_at_key, with_count}
-use Rattle.std.proofs.lemmas.Bool.{le-ltb}
-use Rattle.lamport_clock.specs.declared.stamp.Lamport.{Lamport}
+use Rattle.undo_map.specs.Counts.{key_of, key_cmp, greatest, count_at_key, with_count}
+use Rattle.lamport_clock.proofs.Order.{stamp_cmp-refl}
 
 -- what one entry adds
 abbrev pub adds : (UndoEntry → Bool) → UndoEntry → ℕ
@@ -51,11 +50,8 @@ parted p e (f ∷ w) o =
     both false true q ce cf g x y w t h k = cc
     both false false q ce cf g x y w t h k = omega arith
 
-tied_stamp : (s : Lamport) → stamp_cmp s s ≡ Equal
-tied_stamp s = rw (le-ltb s.value s.value (omega arith), eq-eqb s.value s.value refl, le-ltb s.replica s.replica (omega arith), eq-eqb s.replica s.replica refl) refl
-
 tied : (k : UndoKey) → is_eq (key_cmp k k) ≡ true
-tied k = rw (tied_stamp k.edit, tied_stamp k.by) refl
+tied k = rw (stamp_cmp-refl k.edit, stamp_cmp-refl k.by) refl
 
 -- the greatest counts after one more is kept
 pub greatest-with_count : (p : UndoEntry → Bool) (e : UndoEntry) (w : List UndoEntry) → OfKeys p → greatest p (with_count e w) ≡ max (greatest p w) (adds p e)

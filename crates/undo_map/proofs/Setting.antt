@@ -5,14 +5,13 @@ use Rattle.std.proofs.lemmas.Cmp.{alike_right}
 use Rattle.std.proofs.lemmas.Map.Lookups.{CmpEqualImpliesEq, exact_pairs, exact_unsigned}
 use Rattle.std.specs.List.{find}
 use Rattle.std.specs.Ordering.{is_eq, is_lt, is_gt, nat_cmp}
-use Rattle.std.specs.declared.cmp.Ordering.{Ordering}
 use Rattle.std.specs.declared.cmp.Ordering.TheVariants.{Less, Equal, Greater}
 use Rattle.sum_tree.specs.Keyed.{item_of_key, insert_item, below, above}
 use Rattle.undo_map.specs.declared.entry.UndoKey.{UndoKey}
 use Rattle.undo_map.specs.declared.entry.UndoEntry.{UndoEntry}
-use Rattle.undo_map.specs.Counts.{key_of, key_cmp, greatest, IsAscending, count_at_key, with_count, stamp_cmp, counts_for}
+use Rattle.undo_map.specs.Counts.{key_of, key_cmp, greatest, IsAscending, count_at_key, with_count, counts_for}
 use Rattle.lamport_clock.specs.declared.stamp.Lamport.{Lamport}
-use Rattle.lamport_clock.specs.Stamps.{same_stamp}
+use Rattle.lamport_clock.specs.Stamps.{same_stamp, stamp_cmp}
 use Rattle.lamport_clock.specs.Versions.{Entries, sees}
 use Rattle.undo_map.proofs.Greatest.{OfKeys, adds, greatest-with_count}
 use Rattle.undo_map.specs.Keys.{key_order}

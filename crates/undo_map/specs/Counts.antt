@@ -1,10 +1,10 @@
 -- Undo counts: a list of entries, ascending by edit, then by undo.
 use Rattle.std.specs.Prelude.{ℕ, max, ◌%◌, ◌==◌, Bool, true, if◌then◌else◌, ◌&&◌, List, [], ◌∷◌, Option, Some, None}
-use Rattle.std.specs.Ordering.{nat_cmp, ordering_then, is_lt, is_eq}
+use Rattle.std.specs.Ordering.{ordering_then, is_lt, is_eq}
 use Rattle.std.specs.declared.cmp.Ordering.{Ordering}
 use Rattle.sum_tree.specs.Keyed.{Ascending, insert_item}
 use Rattle.lamport_clock.specs.declared.stamp.Lamport.{Lamport}
-use Rattle.lamport_clock.specs.Stamps.{same_stamp}
+use Rattle.lamport_clock.specs.Stamps.{same_stamp, stamp_cmp}
 use Rattle.lamport_clock.specs.Versions.{Entries, sees}
 use Rattle.undo_map.specs.declared.entry.UndoKey.{UndoKey}
 use Rattle.undo_map.specs.declared.entry.UndoEntry.{UndoEntry}
@@ -29,9 +29,6 @@ abbrev pub is_odd : ℕ → Bool
 is_odd n = n % 2 == 1
 
 -- by edit, then by undo
-abbrev pub stamp_cmp : Lamport → Lamport → Ordering
-stamp_cmp s t = ordering_then (nat_cmp s.value t.value) (nat_cmp s.replica t.replica)
-
 abbrev pub key_cmp : UndoKey → UndoKey → Ordering
 key_cmp a b = ordering_then (stamp_cmp a.edit b.edit) (stamp_cmp a.by b.by)
 

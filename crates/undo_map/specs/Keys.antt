@@ -1,10 +1,10 @@
 -- The order of keys is total.
-use Rattle.std.specs.Ordering.{nat_cmp}
 use Rattle.std.specs.Cmp.{IsTotalOrder}
 use Rattle.std.proofs.lemmas.Cmp.{nat_cmp_total, on_total, then_total}
 use Rattle.lamport_clock.specs.declared.stamp.Lamport.{Lamport}
+use Rattle.lamport_clock.specs.Stamps.{stamp_cmp}
 use Rattle.undo_map.specs.declared.entry.UndoKey.{UndoKey}
-use Rattle.undo_map.specs.Counts.{stamp_cmp, key_cmp}
+use Rattle.undo_map.specs.Counts.{key_cmp}
 
 pub stamp_order : IsTotalOrder stamp_cmp
 stamp_order = then_total (on_total (λ (s : Lamport). s.value) nat_cmp_total) (on_total (λ (s : Lamport). s.replica) nat_cmp_total)

@@ -14,12 +14,12 @@ use Rattle.op_model.specs.Cells.{PathCell, seq_where, seq, cells}
 use Rattle.op_model.specs.Laid.{lay}
 use Rattle.op_model.specs.Shown.{full, text, full_where, byte}
 use Rattle.op_model.specs.Lawful.{Lawful, LawfulFrom}
-use Rattle.std.specs.List.{AllByRecursion, find, list_any}
+use Rattle.std.specs.List.{AllByRecursion, find}
 use Rattle.op_model.specs.declared.faults.OpFault.TheVariants.{Forked}
 use Rattle.op_model.specs.Edits.{is_past, is_reversed}
 use Rattle.op_model.specs.Answers.{answer, bad_stamp, any_stamp, is_entry_closed, open_replica, first_missing}
 use Rattle.op_model.specs.Answers.Answer.{Good}
-use Rattle.op_model.proofs.answers.Passed.{any_none, find_none, map_none, when_none, or_parts, passed, shaped, ranged}
+use Rattle.op_model.proofs.answers.Passed.{any_none, find_none, map_none, when_none, stamp_tests, passed, shaped, ranged}
 use Rattle.op_model.proofs.shown.Bytes.{full_seen}
 use Rattle.op_model.proofs.order.PathOrder.{same_stamp_eq, same_stamp_refl}
 use Rattle.op_model.proofs.order.LateOperation.{Apart}
@@ -175,15 +175,7 @@ starts_of len (p ∷ ps) a b =
 
 -- the parts of a stamp that is not bad
 pub stamp_parts : (op : Operation) → bad_stamp op ≡ false → (0 < (stamp_of op).value) × AllByRecursion (λ (x : ℕ × ℕ). leb (stamp_of op).value x.1 ≡ false) (version_of op) × (eqb (stamp_of op).replica 0 ≡ false)
-stamp_parts op e =
-    let t : Lamport = stamp_of op in
-    let v : Entries = version_of op in
-    let b5 = or_parts (eqb t.value 0 || eqb t.value 4294967295 || eqb t.replica 0 || ltb 1023 t.replica || list_any (λ x. ltb 1023 x.0) v) (list_any (λ x. leb t.value x.1) v) e in
-    let b4 = or_parts (eqb t.value 0 || eqb t.value 4294967295 || eqb t.replica 0 || ltb 1023 t.replica) (list_any (λ x. ltb 1023 x.0) v) b5.0 in
-    let b3 = or_parts (eqb t.value 0 || eqb t.value 4294967295 || eqb t.replica 0) (ltb 1023 t.replica) b4.0 in
-    let b2 = or_parts (eqb t.value 0 || eqb t.value 4294967295) (eqb t.replica 0) b3.0 in
-    let b1 = or_parts (eqb t.value 0) (eqb t.value 4294967295) b2.0 in
-    (positive t.value b1.0, any_none (λ x. leb t.value x.1) v b5.1, b2.1)
+stamp_parts op e = let s = stamp_tests op e in (positive (stamp_of op).value s.some, s.above, s.author)
 
 pub checked_of : (h : History) (op : Operation) → answer h [] op ≡ Good
     → Checked h op × AllByRecursion (λ (p : Piece). p.start ≤ length (seq_where (sees (version_of op)) (newest_first h))) (pieces_of op)

@@ -1,8 +1,9 @@
 -- What the answer Good says, case by case.
-use Rattle.std.proofs.Common.{◌≡◌, ℕ, ◌+◌, Bool, List, [], ◌∷◌, ◌++◌, length, refl, sym, ◌∙◌, ap, true, false, cond, ◌||◌, ltb, Some, None, Option}
+use Rattle.std.proofs.Common.{◌≡◌, ℕ, ◌+◌, Bool, List, [], ◌∷◌, ◌++◌, length, refl, sym, ◌∙◌, ap, true, false, cond, ◌||◌, ltb, Some, None, Option, eqb, leb}
 use Rattle.std.specs.Prelude.{option_map, unwrap_or}
 use Rattle.std.specs.List.{AllByRecursion, find, list_any, position, position_from}
 use Rattle.std.proofs.lemmas.Iterator.Adapters.{position_from-zero}
+use Rattle.std.proofs.lemmas.Bool.{or_parts}
 use Rattle.op_model.specs.declared.operation.Operation.{Operation}
 use Rattle.op_model.specs.declared.operation.Piece.{Piece}
 use Rattle.op_model.specs.declared.faults.OpFault.{OpFault}
@@ -14,6 +15,8 @@ use Rattle.op_model.specs.Edits.{is_reversed, overlap_from, is_past, is_inside}
 use Rattle.op_model.specs.Shown.{full}
 use Rattle.op_model.specs.Answers.{Answer, bad_stamp, no_base, shape_fault, any_equal, any_stamp, fork_fault, first_missing, open_replica, range_fault, count_fault, objection, answer}
 use Rattle.op_model.specs.Answers.Answer.{Good, Repeat, Waits, Refused}
+use Rattle.lamport_clock.specs.declared.stamp.Lamport.{Lamport}
+use Rattle.lamport_clock.specs.Versions.{Entries}
 
 pub first_none : {A : Type 0} (o : Option A) (r : List (Option A)) → first_of (o ∷ r) ≡ None → (o ≡ None) × (first_of r ≡ None)
 first_none None r e = (refl, e)
@@ -66,10 +69,6 @@ position_none t xs e = from_none t 0 xs (sym (position_from-zero t xs) ∙ e)
 pub none_position : {A : Type 0} (t : A → Bool) (xs : List A) → AllByRecursion (λ x. t x ≡ false) xs → position t xs ≡ None
 none_position t xs e = position_from-zero t xs ∙ none_from t 0 xs e
 
-pub or_parts : (a b : Bool) → (a || b) ≡ false → (a ≡ false) × (b ≡ false)
-or_parts true b e = cc
-or_parts false b e = (refl, e)
-
 pub any_none : {A : Type 0} (t : A → Bool) (xs : List A) → list_any t xs ≡ false → AllByRecursion (λ x. t x ≡ false) xs
 any_none t [] e = tt
 any_none t (x ∷ xs) e = let n = or_parts (t x) (list_any t xs) e in (n.0, any_none t xs n.1)
@@ -108,6 +107,33 @@ when_other a false x n e = cc
 pub no_objection : (o : Option Answer) → (o ≡ Some Good → ⊥) → unwrap_or o Good ≡ Good → o ≡ None
 no_objection None n e = refl
 no_objection (Some a) n e = let g : Some a ≡ Some Good = ap Some e in absurd (n g)
+
+-- the tests of a stamp that is not bad
+pub record StampTests (op : Operation) : Type 0 where
+  pub some : eqb (stamp_of op).value 0 ≡ false
+  pub under : eqb (stamp_of op).value 4294967295 ≡ false
+  pub author : eqb (stamp_of op).replica 0 ≡ false
+  pub small : ltb 1023 (stamp_of op).replica ≡ false
+  pub ids : AllByRecursion (λ (x : ℕ × ℕ). ltb 1023 x.0 ≡ false) (version_of op)
+  pub above : AllByRecursion (λ (x : ℕ × ℕ). leb (stamp_of op).value x.1 ≡ false) (version_of op)
+
+pub stamp_tests : (op : Operation) → bad_stamp op ≡ false → StampTests op
+stamp_tests op e =
+    let t : Lamport = stamp_of op in
+    let v : Entries = version_of op in
+    let b5 = or_parts (eqb t.value 0 || eqb t.value 4294967295 || eqb t.replica 0 || ltb 1023 t.replica || list_any (λ x. ltb 1023 x.0) v) (list_any (λ x. leb t.value x.1) v) e in
+    let b4 = or_parts (eqb t.value 0 || eqb t.value 4294967295 || eqb t.replica 0 || ltb 1023 t.replica) (list_any (λ x. ltb 1023 x.0) v) b5.0 in
+    let b3 = or_parts (eqb t.value 0 || eqb t.value 4294967295 || eqb t.replica 0) (ltb 1023 t.replica) b4.0 in
+    let b2 = or_parts (eqb t.value 0 || eqb t.value 4294967295) (eqb t.replica 0) b3.0 in
+    let b1 = or_parts (eqb t.value 0) (eqb t.value 4294967295) b2.0 in
+    record {
+      some = b1.0;
+      under = b1.1;
+      author = b2.1;
+      small = b3.1;
+      ids = any_none (λ x. ltb 1023 x.0) v b4.1;
+      above = any_none (λ x. leb t.value x.1) v b5.1;
+    }
 
 pub record Passed (h : History) (w : List Operation) (op : Operation) : Type 0 where
   pub shape : shape_fault op ≡ None

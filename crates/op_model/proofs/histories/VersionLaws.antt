@@ -3,7 +3,7 @@ use Rattle.op_model.proofs.Elements.{each_map}
 use Rattle.std.proofs.Common.{◌≡◌, ℕ, suc, ◌+◌, ◌<◌, ◌≤◌, ◌⊎◌, max, min, Bool, List, [], ◌∷◌, ◌++◌, refl, sym, ap, subst, inl, inr, true, false, ◌||◌, eqb, ltb, leb, arith}
 use Rattle.std.proofs.lemmas.Bool.{cases_Bool, eqb-true, leb-false, ltb-false, le-leb, cases_lt}
 use Rattle.std.proofs.lemmas.Bool.Decides.{nat_tests}
-use Rattle.std.specs.List.{AllByRecursion, list_any}
+use Rattle.std.specs.List.{AllByRecursion}
 use Rattle.lamport_clock.specs.declared.stamp.Lamport.{Lamport}
 use Rattle.lamport_clock.specs.Clocks.{clock_after}
 use Rattle.lamport_clock.specs.Versions.{Entries, IsVersion, IsVersionFrom, entry, sees, within, raise}
@@ -15,7 +15,7 @@ use Rattle.op_model.specs.Answers.{answer, bad_stamp}
 use Rattle.op_model.specs.Answers.Answer.{Good}
 use Rattle.op_model.specs.Lawful.{Lawful, LawfulFrom}
 use Rattle.op_model.proofs.histories.Lawful.{greatest, entry_version, greatest_in, greatest_more, each_of_in}
-use Rattle.op_model.proofs.answers.Passed.{passed, shaped, find_none, or_parts, any_none}
+use Rattle.op_model.proofs.answers.Passed.{passed, shaped, find_none, stamp_tests}
 use Rattle.op_model.proofs.histories.MoreLawful.{each_of_lawful}
 use Rattle.op_model.proofs.answers.Good.{positive}
 
@@ -57,19 +57,14 @@ pub record Stamped (op : Operation) : Type 0 where
 pub stamped : (op : Operation) → (stamp_of op).value < 4294967296 → bad_stamp op ≡ false → Stamped op
 stamped op l e =
     let t : Lamport = stamp_of op in
-    let v : Entries = version_of op in
-    let b5 = or_parts (eqb t.value 0 || eqb t.value 4294967295 || eqb t.replica 0 || ltb 1023 t.replica || list_any (λ x. ltb 1023 x.0) v) (list_any (λ x. leb t.value x.1) v) e in
-    let b4 = or_parts (eqb t.value 0 || eqb t.value 4294967295 || eqb t.replica 0 || ltb 1023 t.replica) (list_any (λ x. ltb 1023 x.0) v) b5.0 in
-    let b3 = or_parts (eqb t.value 0 || eqb t.value 4294967295 || eqb t.replica 0) (ltb 1023 t.replica) b4.0 in
-    let b2 = or_parts (eqb t.value 0 || eqb t.value 4294967295) (eqb t.replica 0) b3.0 in
-    let b1 = or_parts (eqb t.value 0) (eqb t.value 4294967295) b2.0 in
+    let s = stamp_tests op e in
     record {
-      some = positive t.value b1.0;
-      under = apart_end t.value b1.1 (omega arith);
-      author = positive t.replica b2.1;
-      small = ltb-false 1023 t.replica b3.1;
-      ids = any_none (λ x. ltb 1023 x.0) v b4.1;
-      above = any_none (λ x. leb t.value x.1) v b5.1;
+      some = positive t.value s.some;
+      under = apart_end t.value s.under (omega arith);
+      author = positive t.replica s.author;
+      small = ltb-false 1023 t.replica s.small;
+      ids = s.ids;
+      above = s.above;
     }
 
 -- no stamp value passes what its type holds

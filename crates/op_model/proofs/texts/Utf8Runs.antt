@@ -41,6 +41,11 @@ get_right [] ys n m e = let i : n ≡ m = omega arith in ap (λ (k : ℕ). get_o
 get_right (x ∷ xs) ys zero m e = absurd (omega arith)
 get_right (x ∷ xs) ys (suc n) m e = get_right xs ys n m (omega arith)
 
+-- as many facts as cells
+pub length_alike : (t : Lamport) (k n : ℕ) (v : Bool) (d : List Lamport) → length (alike t k n v d) ≡ n
+length_alike t k zero v d = refl
+length_alike t k (suc n) v d = ap suc (length_alike t (suc k) n v d)
+
 get_drop : (xs : List ℕ) (a n m : ℕ) → n ≡ a + m → get_or (drop a xs) m 0 ≡ get_or xs n 0
 get_drop xs zero n m e = let i : m ≡ n = omega arith in ap (λ (k : ℕ). get_or xs k 0) i
 get_drop [] (suc a) n m e = refl

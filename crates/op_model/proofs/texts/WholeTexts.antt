@@ -1,8 +1,8 @@
 -- The cells of a lawful history with UTF-8 texts are runs of UTF-8.
-use Rattle.std.proofs.Common.{◌≡◌, ℕ, zero, suc, ◌+◌, ◌<◌, ◌≤◌, ◌⊎◌, Bool, List, [], ◌∷◌, ◌++◌, length, map, get_or, refl, sym, ◌∙◌, ap, subst, inl, inr, true, false, cond, ◌&&◌, ◌||◌, leb, ltb, arith, append_assoc}
+use Rattle.std.proofs.Common.{◌≡◌, ℕ, zero, suc, ◌+◌, ◌<◌, ◌≤◌, ◌⊎◌, Bool, List, [], ◌∷◌, ◌++◌, length, map, get_or, refl, sym, ◌∙◌, ap, subst, inl, inr, true, false, cond, ◌&&◌, ◌||◌, leb, ltb, arith, append_assoc, IsTrue, ◌↔◌}
 use Rattle.std.specs.Prelude.{IsUtf8, IsCharBoundary}
 use Rattle.std.specs.List.{AllByRecursion, filter}
-use Rattle.std.proofs.lemmas.Bool.{cases_Bool, leb-true, le-leb, ltb-true, or_cases, and_parts, lt-ltb, cases_lt, not-false}
+use Rattle.std.proofs.lemmas.Bool.{cases_Bool, leb-true, le-leb, ltb-true, or_cases, and_parts, lt-ltb, cases_lt, not-false, lt-leb, false_from_ne_true, false≢true}
 use Rattle.std.proofs.lemmas.List.{length-append}
 use Rattle.lamport_clock.specs.declared.stamp.Lamport.{Lamport}
 use Rattle.lamport_clock.specs.Stamps.{later}
@@ -202,6 +202,18 @@ of_boundary bs i b = rw (le-leb i (length bs) b.0) (go (cases_lt i (length bs)))
         or_right true c e = refl
         or_right false c e = e
     go (inr l) = rw (le-leb (length bs) i l) refl
+
+-- the test of a boundary is std's
+pub boundary_is : (bs : List ℕ) (i : ℕ) (b : Bool) → (IsTrue b ↔ IsCharBoundary bs i) → b ≡ is_boundary bs i
+boundary_is bs i true h = sym (of_boundary bs i (h.0 refl))
+boundary_is bs i false h = sym (false_from_ne_true (is_boundary bs i) (λ e. false≢true (h.1 (boundary_of bs i e))))
+
+boundary_within : (bs : List ℕ) (i : ℕ) → i < length bs → is_boundary bs i ≡ (ltb (get_or bs i 0) 128 || leb 192 (get_or bs i 0))
+boundary_within bs i h = rw (le-leb i (length bs) (omega (arith, h)), lt-leb (length bs) i h) refl
+
+-- two places with one byte
+pub same_byte : (xs ys : List ℕ) (i j : ℕ) → i < length xs → j < length ys → get_or xs i 0 ≡ get_or ys j 0 → is_boundary xs i ≡ is_boundary ys j
+same_byte xs ys i j h k e = boundary_within xs i h ∙ ap (λ (b : ℕ). ltb b 128 || leb 192 b) e ∙ sym (boundary_within ys j k)
 
 pub bounds_of : (bs : List ℕ) (ps : List Piece) → AllByRecursion (λ (p : Piece). is_inside bs p ≡ false) ps → AllByRecursion (λ (p : Piece). IsCharBoundary bs p.start × IsCharBoundary bs p.end) ps
 bounds_of bs ps e = each_map (λ (p : Piece). is_inside bs p ≡ false) (λ (p : Piece). IsCharBoundary bs p.start × IsCharBoundary bs p.end)

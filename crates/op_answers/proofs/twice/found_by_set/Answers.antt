@@ -1,7 +1,7 @@
 use Rattle.std.proofs.Common.{sym, ◌∙◌, get_or}
 use Rattle.std.specs.BTreeSet.{contains}
 use Rattle.lamport_clock.specs.declared.stamp.Lamport.{Lamport}
-use Rattle.lamport_clock.proofs.Order.{stamp_cmp}
+use Rattle.lamport_clock.specs.Stamps.{stamp_cmp}
 use Rattle.op_answers.proofs.Repeats.{goes_on, kept_on, not_new}
 use Rattle.op_answers.proofs.twice.found_by_set.Goals as goal
 

@@ -2,8 +2,7 @@ use Rattle.std.proofs.Common.{◌≡◌, take, drop, []}
 use Rattle.std.specs.List.{list_any}
 use Rattle.std.specs.BTreeSet.{contains}
 use Rattle.lamport_clock.specs.declared.stamp.Lamport.{Lamport}
-use Rattle.lamport_clock.specs.Stamps.{same_stamp}
-use Rattle.lamport_clock.proofs.Order.{stamp_cmp}
+use Rattle.lamport_clock.specs.Stamps.{same_stamp, stamp_cmp}
 use Rattle.op_model.specs.Made.{first_twice}
 use Rattle.op_answers.proofs.twice.found_by_set.Given as goal
 

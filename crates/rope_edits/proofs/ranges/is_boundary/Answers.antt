@@ -1,4 +1,4 @@
-use Rattle.rope_edits.proofs.Ropes.{boundary_is}
+use Rattle.op_model.proofs.texts.WholeTexts.{boundary_is}
 use Rattle.rope_edits.proofs.ranges.is_boundary.Goals as goal
 
 pub returns : goal.returns

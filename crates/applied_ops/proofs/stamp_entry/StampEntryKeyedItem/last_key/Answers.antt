@@ -1,5 +1,5 @@
-use Rattle.lamport_clock.proofs.Order.{stamp_cmp}
 use Rattle.tree_cursor.proofs.Lasts.{greatest_is_last}
+use Rattle.lamport_clock.specs.Stamps.{stamp_cmp}
 use Rattle.applied_ops.specs.Placed.{stamp_at}
 use Rattle.applied_ops.proofs.stamp_entry.StampEntryKeyedItem.last_key.Goals as goal
 

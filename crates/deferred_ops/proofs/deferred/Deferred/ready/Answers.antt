@@ -3,7 +3,7 @@ use Rattle.std.specs.List.{find}
 use Rattle.std.specs.Map.{values_of}
 use Rattle.std.specs.declared.ops.Bound.TheVariants.{Unbounded}
 use Rattle.std.specs.BTreeMap.Range.{entries_between}
-use Rattle.lamport_clock.proofs.Order.{stamp_cmp}
+use Rattle.lamport_clock.specs.Stamps.{stamp_cmp}
 use Rattle.deferred_ops.specs.Deferred.{least_ready, misses_nothing}
 use Rattle.deferred_ops.proofs.Keyed.{first_ready}
 use Rattle.deferred_ops.proofs.deferred.Deferred.ready.Goals as goal
