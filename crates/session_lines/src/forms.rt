@@ -42,6 +42,7 @@ fn undo_from(alloc: Global, members: &[Value]) -> Result<Option<SessionLine>, Ou
     }
 }
 
+// The operation's copies share its pieces.
 fn op_from(alloc: Global, members: &[Value]) -> Result<Option<SessionLine>, OutOfMemory>
     ensures { IfOk result (λ l. l ≡ op_from (map view members.now)) }
 {
@@ -58,12 +59,13 @@ fn op_from(alloc: Global, members: &[Value]) -> Result<Option<SessionLine>, OutO
         Some(pieces) => Ok(Some(SessionLine::Op(EditOp {
             stamp,
             version,
-            pieces,
+            pieces: pieces.into_shared(alloc)?,
         }))),
         None => Ok(None),
     }
 }
 
+// The operation's copies share its counts.
 fn uop_from(alloc: Global, members: &[Value]) -> Result<Option<SessionLine>, OutOfMemory>
     ensures { IfOk result (λ l. l ≡ uop_from (map view members.now)) }
 {
@@ -80,7 +82,7 @@ fn uop_from(alloc: Global, members: &[Value]) -> Result<Option<SessionLine>, Out
         Some(counts) => Ok(Some(SessionLine::Uop(UndoOp {
             stamp,
             version,
-            counts,
+            counts: counts.into_shared(alloc)?,
         }))),
         None => Ok(None),
     }

@@ -51,20 +51,18 @@ fn copy_of(alloc: Global, operation: Option<&Operation>) -> Result<Option<Operat
     }
 }
 
-/// The edit as an operation of its own, whose copies share its texts.
+/// The edit of a line as an operation of its own, which shares the pieces that were read.
 fn edit_operation(alloc: Global, edit: &EditOp) -> Result<Operation, OutOfMemory>
     ensures { IfOk result (λ op. op ≡ Edit edit.now) }
 {
-    let copy = edit.copy(alloc)?;
-    Ok(Operation::Edit(copy.into_shared(alloc)?))
+    Ok(Operation::Edit(edit.copy(alloc)?))
 }
 
-/// The undo as an operation of its own, whose copies share its counts.
+/// The undo of a line as an operation of its own, which shares the counts that were read.
 fn undo_operation(alloc: Global, undo: &UndoOp) -> Result<Operation, OutOfMemory>
     ensures { IfOk result (λ op. op ≡ Undo undo.now) }
 {
-    let copy = undo.copy(alloc)?;
-    Ok(Operation::Undo(copy.into_shared(alloc)?))
+    Ok(Operation::Undo(undo.copy(alloc)?))
 }
 
 impl Progress {

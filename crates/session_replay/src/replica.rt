@@ -233,6 +233,7 @@ impl Replica {
         ensures len { result ≡ length (text self.now.history) }
         ensures bound { result ≤ 2 ^ 40 }
     {
+        self.buffer.known();
         self.buffer.summary().len
     }
 
@@ -240,6 +241,7 @@ impl Replica {
     fn row_count(&self) -> u64
         ensures { result ≡ feeds (text self.now.history) + 1 }
     {
+        self.buffer.known();
         self.buffer.summary().lines.row + 1
     }
 

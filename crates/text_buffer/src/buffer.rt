@@ -156,26 +156,23 @@ impl Buffer {
         let _alloc = &self.alloc;
     }
 
-    /// The text, copied. Linear in its length. What is true of every buffer, `IsBuffer`, is a clause for callers.
+    /// The text, copied. Linear in its length.
     pub fn text(&self) -> Result<String, OutOfMemory>
-        ensures text { IfOk result (λ s. string_bytes s ≡ text self.now.history) }
-        ensures buffer { IsBuffer self.now }
+        ensures { IfOk result (λ s. string_bytes s ≡ text self.now.history) }
     {
         self.document.text().to_string(self.alloc)
     }
 
     /// What is counted of the text: its bytes, its rows, where it ends. Takes no memory, and no time by the text's length.
     pub fn summary(&self) -> &TextSummary
-        ensures summary { result.now ≡ summary_of (text self.now.history) }
-        ensures buffer { IsBuffer self.now }
+        ensures { result.now ≡ summary_of (text self.now.history) }
     {
         self.document.text().summary()
     }
 
     /// The greatest stamp value applied of each replica, the base's among them.
     pub fn version(&self) -> &Version
-        ensures version { result.now ≡ version self.now.history }
-        ensures buffer { IsBuffer self.now }
+        ensures { result.now ≡ version self.now.history }
     {
         self.document.version()
     }

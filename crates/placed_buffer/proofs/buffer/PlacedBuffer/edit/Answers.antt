@@ -5,11 +5,11 @@ use Rattle.placed_buffer.proofs.buffer.PlacedBuffer.edit.Goals as goal
 
 pub make_timed-requires : goal.make_timed-requires
 make_timed-requires c = may_make c.self.inside.standing.fragments.items c.self.inside.standing.index c.self.inside.standing.undos c.self.inside.buffer c.in-Some.buffer c.self.invariant
-    c.args.changes.now c.in-Some.stamp c.in_ok-version.version c.in-Some.ensures (c.in_ok-version.ensures ∙ c.version.ensures.version)
+    c.args.changes.now c.in-Some.stamp c.in_ok-version.version c.in-Some.ensures (c.in_ok-version.ensures ∙ c.version.ensures)
 
 pub invariant_of-result : goal.invariant_of-result
 invariant_of-result c = edit_stands c.self.inside.standing.fragments.items c.self.inside.standing.index c.self.inside.standing.undos c.self.inside.buffer c.in-Some.buffer c.self.invariant
-    c.args.changes.now c.in-Some.stamp c.in_ok-version.version c.in-Some.ensures (c.in_ok-version.ensures ∙ c.version.ensures.version)
+    c.args.changes.now c.in-Some.stamp c.in_ok-version.version c.in-Some.ensures (c.in_ok-version.ensures ∙ c.version.ensures)
     c.in_ok-standing.standing.fragments.items c.in_ok-standing.standing.index c.in_ok-standing.standing.undos c.in_ok-standing.ensures
 
 pub same-version : goal.same-version

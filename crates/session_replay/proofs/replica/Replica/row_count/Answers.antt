@@ -7,9 +7,9 @@ use Rattle.session_replay.proofs.Ends.{rows_few, feeds_are}
 use Rattle.session_replay.proofs.replica.Replica.row_count.Goals as goal
 
 pub overflow_add-result : goal.overflow_add-result
-overflow_add-result c = omega (arith, rows_few c.self.inside.buffer c.summary.result.now c.summary.ensures.buffer c.summary.ensures.summary)
+overflow_add-result c = omega (arith, rows_few c.self.inside.buffer c.summary.result.now c.known.ensures c.summary.ensures)
 
 pub returns : goal.returns
 returns c =
     let same : c.self.inside.buffer ≡ c.args.self.now = cc c.self.view_is in
-    ap (λ (s : TextSummary). s.lines.row + 1) (c.summary.ensures.summary ∙ ap (λ (b : BufferState). summary_of (text b.history)) same) ∙ ap (λ n. n + 1) (feeds_are (text c.args.self.now.history))
+    ap (λ (s : TextSummary). s.lines.row + 1) (c.summary.ensures ∙ ap (λ (b : BufferState). summary_of (text b.history)) same) ∙ ap (λ n. n + 1) (feeds_are (text c.args.self.now.history))

@@ -11,5 +11,5 @@ returns c =
     let same : c.self.inside.buffer ≡ c.args.self.now = cc c.self.view_is in
     line_reported _ _ _ _
     (shown_is c.args.self.now c.self.inside.id c.row_count.result c.summary-counted.result.now (text c.args.self.now.history) (ap (λ (b : BufferState). b.replica) (sym same) ∙ c.self.invariant)
-    (c.summary-counted.ensures.summary ∙ ap (λ (b : BufferState). summary_of (text b.history)) same) c.row_count.ensures refl)
+    (c.summary-counted.ensures ∙ ap (λ (b : BufferState). summary_of (text b.history)) same) c.row_count.ensures refl)
     c.in_ok-write_text.ensures
