@@ -99,9 +99,9 @@ range_fault bytes ps = first_of (
 abbrev pub count_fault : History → List UndoCount → Option OpFault
 count_fault h cs = option_map (λ c. NoSuchEdit c.edit) (find (λ c. not (has_edit h c.edit)) cs)
 
--- what stands against op at h, w waiting
-abbrev pub objection : History → List Operation → Operation → Option Answer
-objection h w op = first_of (
+-- what can stand against op at h, w waiting, in the order in which it is asked
+abbrev pub objections : History → List Operation → Operation → List (Option Answer)
+objections h w op =
     option_map Refused (shape_fault op)
     ∷ when (any_equal (h ++ w) op) Repeat
     ∷ when (any_stamp (h ++ w) op) (Refused (Conflict (stamp_of op)))
@@ -110,7 +110,11 @@ objection h w op = first_of (
     ∷ option_map (λ r. Refused (OpenVersion r)) (open_replica h (version_of op))
     ∷ option_map Refused (range_fault (full (seen_history h (version_of op))) (pieces_of op))
     ∷ option_map Refused (count_fault (seen_history h (version_of op)) (counts_of op))
-    ∷ [])
+    ∷ []
+
+-- what stands against op at h, w waiting
+abbrev pub objection : History → List Operation → Operation → Option Answer
+objection h w op = first_of (objections h w op)
 
 -- the answer to op at h, w waiting
 unfoldable pub answer : History → List Operation → Operation → Answer

@@ -13,7 +13,7 @@ use Rattle.op_model.specs.Operations.{version_of, pieces_of, counts_of, stamp_of
 use Rattle.op_model.specs.Histories.{History, seen_history}
 use Rattle.op_model.specs.Edits.{is_reversed, overlap_from, is_past, is_inside}
 use Rattle.op_model.specs.Shown.{full}
-use Rattle.op_model.specs.Answers.{Answer, bad_stamp, no_base, shape_fault, any_equal, any_stamp, fork_fault, first_missing, open_replica, range_fault, count_fault, objection, answer}
+use Rattle.op_model.specs.Answers.{Answer, bad_stamp, no_base, shape_fault, any_equal, any_stamp, fork_fault, first_missing, open_replica, range_fault, count_fault, objections, objection, answer}
 use Rattle.op_model.specs.Answers.Answer.{Good, Repeat, Waits, Refused}
 use Rattle.lamport_clock.specs.declared.stamp.Lamport.{Lamport}
 use Rattle.lamport_clock.specs.Versions.{Entries}
@@ -151,7 +151,7 @@ pub objection_not : (a : Answer) (h : History) (w : List Operation) (op : Operat
     → (when (any_equal (h ++ w) op) Repeat ≡ Some a → ⊥)
     → (option_map (λ (e : ℕ × ℕ). Waits e.0 e.1) (first_missing h (version_of op)) ≡ Some a → ⊥)
     → objection h w op ≡ Some a → ⊥
-objection_not a h w op fault repeat waits = first_other a _ (
+objection_not a h w op fault repeat waits = first_other a (objections h w op) (
   map_other a Refused fault (shape_fault op),
   (
     repeat,
