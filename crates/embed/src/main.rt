@@ -24,7 +24,7 @@ fn replace(
     text: &str,
 ) -> Result<Operation> {
     let text = Text::new(String::from_str(alloc, text)?);
-    Ok(author.edit_uncounted(&[Piece { start, end, text }])?)
+    Ok(author.edit_uncounted(&[Piece::new(start, end, text)])?)
 }
 
 // Both edit at the same time, and then each takes what the other made. Operations may come in any order, and more than once.

@@ -89,7 +89,12 @@ impl Version {
         unseen_in(self.entries.as_slice(), o.entries.as_slice())
     }
 
-    /// Takes the stamp's value as that of its replica where it is greater than the one seen.
+    /// Takes the stamp's value as that of its replica where it is greater than the one seen. Linear in the number of replicas,
+    /// and without memory where the stamp is seen already.
+    ///
+    /// # Errors
+    ///
+    /// `OutOfMemory` alone. The version is then as before.
     pub fn observe(&mut self, t: Lamport) -> Result<(), OutOfMemory>
         ensures ok { OnOk result (self.new ≡ raise self.old t) }
         ensures err { OnErr result (self.new ≡ self.old) }
@@ -104,6 +109,10 @@ impl Version {
     /// Sees all that the other version has seen too: for each replica the greater value. Linear in the replicas of both,
     /// and without memory where the other has seen nothing more. Where both have seen the same replicas, the values are
     /// raised in place.
+    ///
+    /// # Errors
+    ///
+    /// `OutOfMemory` alone. The version is then as before.
     pub fn join(&mut self, o: &Version) -> Result<(), OutOfMemory>
         ensures ok { OnOk result (self.new ≡ join_versions self.old o.now) }
         ensures greater { OnOk result ((r : ℕ)
@@ -118,7 +127,11 @@ impl Version {
         Ok(())
     }
 
-    /// An equal version.
+    /// An equal version. Linear in the number of replicas.
+    ///
+    /// # Errors
+    ///
+    /// `OutOfMemory` alone.
     pub fn copy(&self, alloc: Global) -> Result<Version, OutOfMemory>
         ensures { IfOk result (λ v. v ≡ self.now) }
     {

@@ -29,6 +29,8 @@ pub enum Anchor {
 /// A range of an old text, in bytes, and the range of the new text that stands in its place.
 #[derive(Clone, Copy, Debug, PartialEq, Eq)]
 pub struct TextEdit {
+    /// The range of the old text, in bytes, half-open: where it starts, and the byte behind its last one.
     pub old: (u64, u64),
+    /// The range of the new text, in bytes, half-open: where it starts, and the byte behind its last one.
     pub new: (u64, u64),
 }

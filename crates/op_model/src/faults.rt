@@ -14,7 +14,9 @@ use thiserror::Error;
 /// What a buffer's limits count: bytes of new texts, or entries (1 for an operation, and 1 for each piece or count).
 #[derive(Clone, Copy, Debug, PartialEq, Eq)]
 pub enum Unit {
+    /// The bytes of new texts, hidden ones too, and those of the base.
     Bytes,
+    /// One for each operation but the base, and one for each of its pieces or counts.
     Entries,
 }
 

@@ -29,6 +29,7 @@ impl Text {
         Text { inner }
     }
 
+    /// The text, lent. Constant time, without memory.
     pub fn as_str(&self) -> &str
         ensures { result.now ≡ self.now }
     {
@@ -84,6 +85,7 @@ impl Pieces {
         }
     }
 
+    /// The pieces in their order, lent. Constant time, without memory.
     pub fn as_slice(&self) -> &[Piece]
         ensures { result.now ≡ self.now }
     {
@@ -147,6 +149,7 @@ impl Counts {
         }
     }
 
+    /// The counts in their order, lent. Constant time, without memory.
     pub fn as_slice(&self) -> &[UndoCount]
         ensures { result.now ≡ self.now }
     {

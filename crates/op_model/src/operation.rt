@@ -12,6 +12,7 @@ pub struct Piece {
     pub start: u64,
     /// Where the range ends, in bytes; the range is empty where this is its start.
     pub end: u64,
+    /// What stands there then; it is empty where the range is only deleted.
     pub text: Text,
 }
 
@@ -28,30 +29,40 @@ impl Piece {
 /// bytes of all insertions that the version sees, hidden ones too.
 #[derive(Drop)]
 pub struct EditOp {
+    /// The name of the edit: the author, and the value of its clock.
     pub stamp: Lamport,
+    /// What the author had applied before it: of each replica the greatest stamp value.
     pub version: Version,
+    /// The pieces, in the order of their ranges, in full offsets.
     pub pieces: Pieces,
 }
 
 /// The undo count that an undo operation gives an edit. An edit is undone where its greatest count is odd.
 #[derive(Clone, Copy, Debug, PartialEq, Eq)]
 pub struct UndoCount {
+    /// The stamp of the edit.
     pub edit: Lamport,
+    /// The count that the edit is given; of all its counts the greatest holds.
     pub count: u32,
 }
 
 /// An undo or redo: its stamp, its author's version before it, and the counts that it gives.
 #[derive(Drop)]
 pub struct UndoOp {
+    /// The name of the undo: the author, and the value of its clock.
     pub stamp: Lamport,
+    /// What the author had applied before it: of each replica the greatest stamp value.
     pub version: Version,
+    /// One count for each edit that it concerns.
     pub counts: Counts,
 }
 
 /// What one replica did and the others take.
 #[derive(Drop)]
 pub enum Operation {
+    /// New texts in place of ranges.
     Edit(EditOp),
+    /// Edits that are undone or redone.
     Undo(UndoOp),
 }
 

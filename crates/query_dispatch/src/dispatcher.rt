@@ -14,6 +14,10 @@ use text_buffer::Snapshot;
 
 /// The inboxes of all workers, into which queries are put in turn: query q, from 1, goes to worker (q - 1) mod so many. Contracts see
 /// the inboxes, how many queries were put, and how many there may be.
+///
+/// # Examples
+///
+/// `ask`: `put`, `count` and `end`: `leave`, of `crates/session_replay/src/beside.rt`.
 #[derive(Drop)]
 pub struct Dispatcher<Q> {
     pub(crate) inboxes: Vec<Inbox<Q>>,

@@ -18,6 +18,10 @@ use text_buffer::Snapshot;
 
 /// What the editor leaves: the closed inboxes of all workers; what was last published to the pairs of each; how many operations that
 /// is, of each replica; and how many queries were asked.
+///
+/// # Examples
+///
+/// `leave` of `crates/session_replay/src/beside.rt` makes one; `gather`: the function of this name there.
 #[derive(Drop)]
 pub struct Gathering<Q> {
     pub inboxes: Vec<Inbox<Q>>,

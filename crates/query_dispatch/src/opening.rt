@@ -21,6 +21,10 @@ use text_buffer::Snapshot;
 /// # Errors
 ///
 /// `OutOfMemory` alone. Some pairs are then open.
+///
+/// # Examples
+///
+/// `replay_beside` of `crates/session_replay/src/beside.rt`.
 pub fn open_desks<R: Wait, Q: Drop>(
     rt: &R,
     alloc: Global,

@@ -16,6 +16,11 @@ use text_buffer::Snapshot;
 
 /// The publishers of all replicas, in their order, each with a pair for every worker. Contracts see how many workers there are, the
 /// publishers, and how many operations were last published of each. It is not `Drop`: end it by `close`.
+///
+/// # Examples
+///
+/// `new` and `close`: `report_beside`, `tell_all`: `tell_workers`, `sizes`: `leave`, of `crates/session_replay/src/beside.rt`.
+/// [`open_desks`](crate::open_desks) opens the pairs by `open`, and [`Dispatcher::ask`](crate::Dispatcher::ask) publishes by `show`.
 pub struct Publishers {
     pub(crate) workers: u32,
     pub(crate) list: Vec<Publisher>,

@@ -44,6 +44,7 @@ pub fn value_of(alloc: Global, line: &[u8]) -> Result<Value, LineFault>
     }
 }
 
+/// The members of an array, lent; None where the value is none. Constant time, without memory.
 pub fn members_of(value: &Value) -> Option<&[Value]>
     ensures { option_map (λ vs. map view vs.now) result ≡ members_of (view value.now) }
 {
@@ -53,6 +54,7 @@ pub fn members_of(value: &Value) -> Option<&[Value]>
     }
 }
 
+/// Whether the value is this text. Linear in it, without memory.
 pub fn is_text(value: &Value, text: &str) -> bool
     ensures { result ≡ is_text text.now (view value.now) }
 {
@@ -62,6 +64,7 @@ pub fn is_text(value: &Value, text: &str) -> bool
     }
 }
 
+/// Whether the value is this whole number. Constant time, without memory.
 pub fn is_number(value: &Value, n: u64) -> bool
     ensures { result ≡ is_number n (view value.now) }
 {

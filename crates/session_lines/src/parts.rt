@@ -51,6 +51,7 @@ fn stamp_from(members: &[Value]) -> Option<Lamport>
     }
 }
 
+/// The stamp that the value is: `[VALUE,REPLICA]`; None where it is none. Constant time, without memory.
 pub fn stamp_of(value: &Value) -> Option<Lamport>
     ensures { result ≡ stamp_of (view value.now) }
 {
@@ -125,6 +126,11 @@ fn pieces_from(alloc: Global, members: &[Value]) -> Result<Option<Pieces>, OutOf
     Ok(Some(Pieces::new(pieces)))
 }
 
+/// The pieces that the value is: a list of `[START,END,TEXT]`; None where it is none. Linear in them and their texts, which are copied.
+///
+/// # Errors
+///
+/// `OutOfMemory` alone.
 pub fn pieces_of(alloc: Global, value: &Value) -> Result<Option<Pieces>, OutOfMemory>
     ensures { IfOk result (λ p. p ≡ pieces_of (view value.now)) }
 {
@@ -259,6 +265,11 @@ fn counts_from(alloc: Global, members: &[Value]) -> Result<Option<Counts>, OutOf
     Ok(Some(Counts::new(counts)))
 }
 
+/// The undo counts that the value is: a list of `[VALUE,REPLICA,COUNT]`; None where it is none. Linear in them.
+///
+/// # Errors
+///
+/// `OutOfMemory` alone.
 pub fn counts_of(alloc: Global, value: &Value) -> Result<Option<Counts>, OutOfMemory>
     ensures { IfOk result (λ c. c ≡ counts_of (view value.now)) }
 {
@@ -281,6 +292,11 @@ fn numbers_from(alloc: Global, members: &[Value]) -> Result<Option<Numbers>, Out
     Ok(Some(Numbers::new(numbers)))
 }
 
+/// The whole numbers that the value is a list of; None where it is none. Linear in them.
+///
+/// # Errors
+///
+/// `OutOfMemory` alone.
 pub fn numbers_of(alloc: Global, value: &Value) -> Result<Option<Numbers>, OutOfMemory>
     ensures { IfOk result (λ ns. ns ≡ numbers_of (view value.now)) }
 {

@@ -66,6 +66,7 @@ impl TextEdits {
         TextEdits { inner }
     }
 
+    /// The edits in their order, lent. Constant time, without memory.
     pub fn as_slice(&self) -> &[TextEdit]
         ensures { result.now ≡ self.now }
     {

@@ -143,6 +143,7 @@ impl SessionLines {
         SessionLines { inner }
     }
 
+    /// The lines in their order, lent. Constant time, without memory.
     pub fn as_slice(&self) -> &[SessionLine]
         ensures { result.now ≡ self.now }
     {
@@ -172,6 +173,7 @@ impl Ids {
         Ids { inner }
     }
 
+    /// The ids in their order, lent. Constant time, without memory.
     pub fn as_slice(&self) -> &[u16]
         ensures { result.now ≡ self.now }
     {
@@ -201,6 +203,7 @@ impl Numbers {
         Numbers { inner }
     }
 
+    /// The numbers in their order, lent. Constant time, without memory.
     pub fn as_slice(&self) -> &[u64]
         ensures { result.now ≡ self.now }
     {

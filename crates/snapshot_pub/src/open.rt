@@ -22,6 +22,10 @@ use text_buffer::Snapshot;
 /// # Errors
 ///
 /// `OutOfMemory` alone. No writer is then left.
+///
+/// # Examples
+///
+/// `opens` of `crates/pub_tests/src/pairs.rt`.
 pub fn open_pairs<R: Wait>(
     rt: &R,
     alloc: Global,

@@ -84,6 +84,10 @@ impl Side {
 
 /// Shows snapshots to readers, each in a pair of its own. Contracts see which pairs there are, and the list that was last published
 /// to each. It is not `Drop`: end it by `close`.
+///
+/// # Examples
+///
+/// `publish`: `publish_both`, `tell`: `publish_and_tell`, `close`: `both_show`, of `crates/pub_tests/src/pairs.rt`.
 pub struct Publisher {
     pub(crate) sides: Vec<Side>,
 }

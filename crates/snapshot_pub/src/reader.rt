@@ -11,6 +11,10 @@ use text_buffer::Snapshot;
 
 /// A reader of snapshots, which never gives one that lacks what it gave or learned before. Contracts see which pair it is of, the
 /// longest list that it gave or learned, the list that its last step enter saw, and whether the last Ok of `latest` entered.
+///
+/// # Examples
+///
+/// `latest`: `gives`, `learn`: `publish_and_tell`, `entered`: `shows`, of `crates/pub_tests/src/pairs.rt`.
 #[derive(Drop)]
 pub struct SnapReader {
     pub(crate) end: ReadEnd,

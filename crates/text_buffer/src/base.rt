@@ -64,14 +64,14 @@ impl Base {
         })
     }
 
-    /// How many bytes the text has. Takes no memory, and no time by its length.
+    /// How many bytes the text has. Constant time, without memory.
     pub fn len(&self) -> u64
         ensures { result ≡ length self.now }
     {
         self.len
     }
 
-    /// Whether the text has no bytes.
+    /// Whether the text has no bytes. Constant time, without memory.
     pub fn is_empty(&self) -> bool
         ensures { result ≡ (length self.now == 0) }
     {

@@ -32,6 +32,20 @@ use text_dims::TextSummary;
 /// A replica's text, and the operations that made it. Contracts see the operations in the order in which they were
 /// applied, the base first, those that wait, those that were refused while settling, the replica's id and the limits; all
 /// else is a function of these. Each applied operation is good against those before it.
+///
+/// # Examples
+///
+/// Each call stands in a function of this repository, of a program or of a test:
+///
+/// - `new`: `main` of `crates/embed/src/main.rt`; `over`, with [`Base::new`]: `plays_over_one` and `plays_twice` of
+///   `crates/text_tests/src/buffers.rt`
+/// - `edit_uncounted`: `replace` of `crates/embed/src/main.rt`; `edit`, with a counter: `edit_with` of `crates/text_tests/src/counted.rt`
+/// - `take`: `edit_both` of `crates/embed/src/main.rt`; `settle` and `undo`: the functions of these names of
+///   `crates/text_tests/src/buffers.rt`
+/// - `text` and `snapshot`: `show` of `crates/embed/src/main.rt`
+/// - `summary`: `len` of `crates/placing_tests/src/replica.rt`
+/// - `version` and `applied`: `are_counted`, and `deferred` and `refused`: `keeps`, of `crates/text_tests/src/buffers.rt`
+/// - `known`, which is for proofs: `edit_one` of `crates/placed_buffer/src/one_more.rt`
 #[derive(Drop)]
 pub struct Buffer {
     pub(crate) alloc: Global,
@@ -157,20 +171,24 @@ impl Buffer {
     }
 
     /// The text, copied. Linear in its length.
+    ///
+    /// # Errors
+    ///
+    /// `OutOfMemory` alone.
     pub fn text(&self) -> Result<String, OutOfMemory>
         ensures { IfOk result (λ s. string_bytes s ≡ text self.now.history) }
     {
         self.document.text().to_string(self.alloc)
     }
 
-    /// What is counted of the text: its bytes, its rows, where it ends. Takes no memory, and no time by the text's length.
+    /// What is counted of the text: its bytes, its rows, where it ends. Constant time, without memory.
     pub fn summary(&self) -> &TextSummary
         ensures { result.now ≡ summary_of (text self.now.history) }
     {
         self.document.text().summary()
     }
 
-    /// The greatest stamp value applied of each replica, the base's among them.
+    /// The greatest stamp value applied of each replica, the base's among them. Constant time, without memory.
     pub fn version(&self) -> &Version
         ensures { result.now ≡ version self.now.history }
     {
@@ -180,7 +198,8 @@ impl Buffer {
     /// Replaces ranges of the text, given in bytes and in order: each starts at or past the end of the one before it.
     /// Gives the operation, whose pieces count hidden bytes too, and keeps an equal one. Each range costs a few descents,
     /// what lies in it and its new text; the length of the whole text does not matter. A step is counted for each node made
-    /// of the tree of fragments, and `IsEditCost` says how many there are at most, also where there is a fault.
+    /// of the tree of fragments, the runs of bytes that the buffer keeps: of p changes whose ranges touch f of its fragments there
+    /// are at most 256 (p + f + 1) (h + 1), where h is the height of that tree before, also where there is a fault.
     ///
     /// # Errors
     ///
@@ -214,11 +233,11 @@ impl Buffer {
         }
     }
 
-    /// What `edit` does, at the same cost, where nobody asks for its steps.
+    /// What [`Buffer::edit`] does, at the same cost, where nobody asks for its steps.
     ///
     /// # Errors
     ///
-    /// Those of `edit`. The buffer is then as before.
+    /// Those of [`Buffer::edit`]. The buffer is then as before.
     pub fn edit_uncounted(&mut self, changes: &[Piece]) -> Result<Operation, EditFault>
         ensures ok { OnOk result (edit_fault self.old changes.now ≡ None) }
         ensures made { IfOk result (λ op. op ≡ edit_of self.old changes.now) }

@@ -132,6 +132,7 @@ impl Document {
         self.clock
     }
 
+    /// The greatest stamp value of each replica, the base's among them.
     pub fn version(&self) -> &Version
         ensures { result.now ≡ version self.now }
     {
@@ -152,6 +153,7 @@ impl Document {
         &self.content
     }
 
+    /// The shown text.
     pub fn text(&self) -> &Rope
         ensures { result.now ≡ text self.now }
     {

@@ -1,4 +1,23 @@
 //! The buffer of one replica: a text, and the operations that made it.
+//!
+//! Each author has a [`Buffer`] over the same base. What one edits or undoes is an operation, which the others take, in any order and
+//! as often as it comes. A [`Snapshot`] is what a buffer was at one time: it is asked for places and for the past.
+//!
+//! ```text
+//! let mut ann = Buffer::new(alloc, 1, "The cat sat.\n", LIMITS)?;
+//! let mut ben = Buffer::new(alloc, 2, "The cat sat.\n", LIMITS)?;
+//!
+//! let dog = Text::new(String::from_str(alloc, "dog")?);
+//! let by_ann = ann.edit_uncounted(&[Piece::new(4, 7, dog)])?;
+//! let _answer = ben.take(by_ann)?;
+//! agree(&ann, &ben); // it does nothing: by its contract both show the same text
+//!
+//! let snapshot = ben.snapshot()?;
+//! let anchor = snapshot.anchor(8, Bias::Right)?; // keeps to the `s` of `sat`
+//! let place = snapshot.resolve(&anchor)?; // 8, the byte offset
+//! ```
+//!
+//! `crates/embed` is a whole program of this kind.
 #![tactic(auto)]
 
 mod base;

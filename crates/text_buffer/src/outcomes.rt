@@ -19,6 +19,8 @@ pub enum Took {
 /// An operation that waited and was refused while settling: its stamp, and its fault at its turn.
 #[derive(Clone, Copy, Debug, PartialEq, Eq)]
 pub struct Refused {
+    /// The stamp of the operation.
     pub stamp: Lamport,
+    /// Why it was refused, against what was applied at its turn.
     pub fault: OpFault,
 }

@@ -21,7 +21,7 @@ impl Buffer {
     ///
     /// # Errors
     ///
-    /// Want of memory alone. What is then applied stays applied, and a later call goes on.
+    /// `OutOfMemory` alone. What is then applied stays applied, and a later call goes on.
     pub fn settle(&mut self) -> Result<u64, OutOfMemory>
         ensures new { OnOk result (self.new ≡ after_settle self.old) }
         ensures applied { IfOk result (λ n. n ≡ number_applied self.old self.new) }

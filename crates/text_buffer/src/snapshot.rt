@@ -15,8 +15,18 @@ use std::marker::Model;
 use sum_tree::SumTree;
 
 /// What a buffer was at one time: its applied operations, and what they come to. Contracts see it as the list of its applied
-/// operations, the base first, which is lawful; all its answers are functions of this list. It shares everything with the
-/// buffer and with other snapshots, and never changes.
+/// operations, the base first, each of which is good against those before it; all its answers are functions of this list. It
+/// shares everything with the buffer and with other snapshots, and never changes.
+///
+/// # Examples
+///
+/// [`Buffer::snapshot`] makes one. Each call stands in a function of this repository, of a program or of a test:
+///
+/// - `text` and `resolve`: `search` of `crates/embed/src/main.rt`; `anchor`: `anchor_at` there
+/// - `compare`: `answers` of `crates/text_tests/src/anchored.rt`
+/// - `text_at`: `text_is`, and `since`: `edits_are`, of `crates/text_tests/src/pasts.rt`
+/// - `share`: `shares`, and `applied` and `version`: `is_as_wanted`, of `crates/text_tests/src/snapshots.rt`
+/// - `known`, which is for proofs: [`snapshots_agree`]
 #[derive(Drop)]
 pub struct Snapshot {
     pub(crate) document: Document,
@@ -32,8 +42,11 @@ impl Model for Snapshot {
 }
 
 impl Buffer {
-    /// What the buffer is now. Everything is shared and nothing is copied, so the time does not grow with the text or with what is
-    /// applied.
+    /// What the buffer is now. Everything is shared and nothing is copied: constant time.
+    ///
+    /// # Errors
+    ///
+    /// `OutOfMemory` alone.
     pub fn snapshot(&self) -> Result<Snapshot, OutOfMemory>
         ensures { IfOk result (λ s. s ≡ self.now.history) }
     {
@@ -43,7 +56,11 @@ impl Buffer {
 }
 
 impl Snapshot {
-    /// A second owner of all of it. Nothing is copied.
+    /// A second owner of all of it. Nothing is copied: constant time.
+    ///
+    /// # Errors
+    ///
+    /// `OutOfMemory` alone.
     pub fn share(&self) -> Result<Snapshot, OutOfMemory>
         ensures { IfOk result (λ s. s ≡ self.now) }
     {
@@ -52,21 +69,21 @@ impl Snapshot {
         })
     }
 
-    /// The text, without memory.
+    /// The text. Constant time, without memory.
     pub fn text(&self) -> &Rope
         ensures { result.now ≡ text self.now }
     {
         self.document.text()
     }
 
-    /// The applied operations, in their order, the base first, without memory.
+    /// The applied operations, in their order, the base first. Constant time, without memory.
     pub fn applied(&self) -> &SumTree<Applied>
         ensures { result.now.items ≡ self.now }
     {
         self.document.operations().tree()
     }
 
-    /// The greatest stamp value applied of each replica, the base's among them, without memory.
+    /// The greatest stamp value applied of each replica, the base's among them. Constant time, without memory.
     pub fn version(&self) -> &Version
         ensures { result.now ≡ version self.now }
     {

@@ -94,21 +94,21 @@ impl Buffer {
         Ok(Took::Applied(self.document.operations().len() - before))
     }
 
-    /// The operations that are applied, in their order, the base first, without memory.
+    /// The operations that are applied, in their order, the base first. Constant time, without memory.
     pub fn applied(&self) -> &SumTree<Applied>
         ensures { result.now.items ≡ self.now.history }
     {
         self.document.operations().tree()
     }
 
-    /// The operations that wait, without memory.
+    /// The operations that wait. Constant time, without memory.
     pub fn deferred(&self) -> &Deferred
         ensures { result.now ≡ self.now.waiting }
     {
         &self.waiting
     }
 
-    /// The operations that were refused while settling, in the order of their turns, without memory.
+    /// The operations that were refused while settling, in the order of their turns. Constant time, without memory.
     pub fn refused(&self) -> &[Refused]
         ensures { map pair_of result.now ≡ self.now.refused }
     {
