@@ -37,6 +37,29 @@ impl Version {
         }
     }
 
+    /// The version that has seen the stamp of each of these entries (replica, value), in any order: for each replica the
+    /// greatest value given. Entries of value 0 make none. The number of entries times the number of replicas.
+    ///
+    /// # Errors
+    ///
+    /// `OutOfMemory`.
+    pub fn from_entries(alloc: Global, entries: &[(u16, u32)]) -> Result<Version, OutOfMemory>
+        ensures { IfOk result (λ v. v ≡ join_versions [] entries.now) }
+    {
+        let mut version = Version::new(alloc);
+        for &(replica, value) in entries {
+            version.observe(Lamport { value, replica })?;
+        }
+        Ok(version)
+    }
+
+    /// What holds of every version, for callers. It does nothing when it runs.
+    pub fn known(&self)
+        ensures { IsVersion self.now }
+    {
+        let _entries = &self.entries;
+    }
+
     /// The entries, replicas ascending.
     pub fn as_slice(&self) -> &[(u16, u32)]
         ensures entries { result.now ≡ self.now }
