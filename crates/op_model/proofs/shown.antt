@@ -3,6 +3,7 @@ pub mod Parts
 pub mod Bytes
 pub mod Deletions
 pub mod Facts
+pub mod FactCells
 pub mod Told
 pub mod EditTold
 pub mod UndoTold

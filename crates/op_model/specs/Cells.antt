@@ -14,6 +14,9 @@ pub record Cell : Type 0 where
   pub stamp : Lamport
   pub k : ℕ
 
+abbrev pub cell_at : Lamport → ℕ → Cell
+cell_at t k = record { stamp = t; k = k }
+
 unfoldable pub same_cell : Cell → Cell → Bool
 same_cell a b = same_stamp a.stamp b.stamp && a.k == b.k
 

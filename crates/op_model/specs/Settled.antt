@@ -44,8 +44,8 @@ turn l h op = if within (version_of op) (version h) then turn_of (answer h [] op
 abbrev pub with_waiting : Operation → State → State
 with_waiting op s = record { history = s.history; waiting = op ∷ s.waiting; refused = s.refused }
 
-abbrev pub with_refused : Lamport × OpFault → State → State
-with_refused r s = record { history = s.history; waiting = s.waiting; refused = r ∷ s.refused }
+abbrev pub with_first_refusal : Lamport × OpFault → State → State
+with_first_refusal r s = record { history = s.history; waiting = s.waiting; refused = r ∷ s.refused }
 
 -- one pass over w, which stands by stamps; the refused are those of the pass
 unfoldable pub pass : LimitsType → History → List Operation → State
@@ -54,7 +54,7 @@ pass l h (op ∷ w) = elim (turn l h op) [
   | Append ↦ pass l (h ++ op ∷ []) w
   | Drop ↦ pass l h w
   | Stay ↦ with_waiting op (pass l h w)
-  | Refuse f ↦ with_refused (stamp_of op, f) (pass l h w)
+  | Refuse f ↦ with_first_refusal (stamp_of op, f) (pass l h w)
 ]
 
 -- passes until one applies nothing, at most n

@@ -34,4 +34,4 @@ pub use limits::Limits;
 pub use lists::{Counts, Pieces, Text};
 pub use operation::{EditOp, Operation, Piece, UndoCount, UndoOp};
 pub use pieces::{TEXT_LIMIT, first_overlap, first_past, first_reversed, text_total};
-pub use shapes::{ShapeFault, shape};
+pub use shapes::{LAST_REPLICA, ShapeFault, shape};

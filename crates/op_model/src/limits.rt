@@ -8,3 +8,11 @@ pub struct Limits {
     /// An operation counts 1, and 1 for each of its pieces or counts; the base counts nothing.
     pub entries: u64,
 }
+
+impl Limits {
+    /// The greatest limits of a buffer.
+    pub const MOST: Limits = Limits {
+        bytes: 1 << 40,
+        entries: (1 << 40) - 1,
+    };
+}

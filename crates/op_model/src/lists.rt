@@ -1,5 +1,5 @@
 //! Texts and the lists of an operation, which contracts see as lists.
-ghost use Rattle.std.specs.Prelude.{◌≡◌, string_bytes, IfOk};
+ghost use Rattle.std.specs.Prelude.{◌≡◌, [], ◌∷◌, string_bytes, IfOk};
 
 use crate::items::Items;
 use crate::{OutOfMemory, Piece, UndoCount};
@@ -37,6 +37,10 @@ impl Text {
     }
 
     /// An equal text. Linear in its bytes.
+    ///
+    /// # Errors
+    ///
+    /// `OutOfMemory`.
     pub fn copy(&self, alloc: Global) -> Result<Text, OutOfMemory>
         ensures { IfOk result (λ text. text ≡ self.now) }
     {
@@ -74,6 +78,19 @@ impl Pieces {
             })?;
         }
         Ok(Pieces::new(copies))
+    }
+
+    /// One piece. Constant time. On want of memory the piece is dropped.
+    ///
+    /// # Errors
+    ///
+    /// `OutOfMemory`.
+    pub fn of(alloc: Global, piece: Piece) -> Result<Pieces, OutOfMemory>
+        ensures { IfOk result (λ ps. ps ≡ piece ∷ []) }
+    {
+        let mut pieces = Vec::new(alloc);
+        pieces.push(piece)?;
+        Ok(Pieces::new(pieces))
     }
 
     /// Makes a list of pieces of a vector, without memory.

@@ -9,8 +9,8 @@ use crate::{OpFault, Operation, Piece, TEXT_LIMIT, first_overlap, first_reversed
 use lamport_clock::Version;
 use thiserror::Error;
 
-// The greatest id of an editor's replica.
-const LAST_REPLICA: u16 = 1023;
+/// The greatest id of an editor's replica. The least one is 1.
+pub const LAST_REPLICA: u16 = 1023;
 
 /// Why an operation alone is none that a replica makes. A piece's index counts from 0.
 #[derive(Clone, Copy, Debug, PartialEq, Eq, Error)]

@@ -9,6 +9,7 @@ use Rattle.op_model.specs.Histories.{History, newer, newest_first, version, seen
 use Rattle.lamport_clock.specs.Versions.{Entries, sees, entry, within}
 use Rattle.op_model.specs.declared.operation.Piece.{Piece}
 use Rattle.lamport_clock.specs.Stamps.{later, same_stamp}
+use Rattle.lamport_clock.proofs.Joined.{entry_within}
 use Rattle.op_model.specs.Operations.{stamp_of, version_of, pieces_of}
 use Rattle.op_model.specs.Cells.{PathCell, seq_where, seq, cells}
 use Rattle.op_model.specs.Laid.{lay}
@@ -100,16 +101,6 @@ each_entry P (x ∷ v) r e h = go (cases_Bool (eqb x.0 r)) (each_entry P v r e.1
     go (inl q) f = let z : x.0 ≡ r = eqb-true x.0 r q in rw q (subst (λ (y : ℕ). P (y, x.1)) z e.0)
     go (inr q) f = rw q (f (rw q at h))
 
-pub within_entry : (u v : Entries) → within u v ≡ true → (q : ℕ) → entry u q ≤ entry v q
-within_entry [] v e q = omega arith
-within_entry (x ∷ u) v e q = go (cases_Bool (eqb x.0 q)) (and_parts (leb x.1 (entry v x.0)) (within u v) e)
-    (λ w. within_entry u v w q)
-  where
-    go : (eqb x.0 q ≡ true) ⊎ (eqb x.0 q ≡ false) → (leb x.1 (entry v x.0) ≡ true) × (within u v ≡ true)
-        → (within u v ≡ true → entry u q ≤ entry v q) → entry (x ∷ u) q ≤ entry v q
-    go (inl z) n f = rw z (subst (λ (y : ℕ). x.1 ≤ entry v y) (eqb-true x.0 q z) (leb-true x.1 (entry v x.0) n.0))
-    go (inr z) n f = rw z (f n.1)
-
 -- the operation that the entry names, with its version within v
 abbrev pub Named : History → Entries → ℕ × ℕ → Type 0
 Named h v e = (m : Operation) × In h m × (stamp_of m ≡ record { value = e.1; replica = e.0 }) × ((q : ℕ) → entry (version_of m) q ≤ entry v q)
@@ -121,7 +112,7 @@ entry_named (o ∷ h) v e t = go (or_cases (same_stamp (stamp_of o) (record { va
     go : (same_stamp (stamp_of o) (record { value = e.1; replica = e.0 }) && within (version_of o) v ≡ true) ⊎ (is_entry_closed h v e ≡ true)
         → (is_entry_closed h v e ≡ true → Named h v e) → Named (o ∷ h) v e
     go (inl z) f = let a = and_parts (same_stamp (stamp_of o) (record { value = e.1; replica = e.0 })) (within (version_of o) v) z in
-        (o, inl refl, same_stamp_eq (stamp_of o) (record { value = e.1; replica = e.0 }) a.0, within_entry (version_of o) v a.1)
+        (o, inl refl, same_stamp_eq (stamp_of o) (record { value = e.1; replica = e.0 }) a.0, λ q. entry_within (version_of o) v q a.1)
     go (inr z) f = let w = f z in (w.0, inr w.1, w.2, w.3)
 
 pub map_length : {A B : Type 0} (f : A → B) (xs : List A) → length (map f xs) ≡ length xs

@@ -1,5 +1,5 @@
 -- The operations that a replica makes are good against its history.
-use Rattle.std.proofs.lemmas.List.{map-append as map_append}
+use Rattle.std.proofs.lemmas.List.{length-map, map-append as map_append}
 use Rattle.std.proofs.Common.{◌≡◌, ℕ, zero, suc, ◌+◌, ◌-◌, ◌<◌, ◌≤◌, ◌⊎◌, Bool, List, [], ◌∷◌, ◌++◌, length, map, refl, sym, ◌∙◌, ap, subst, inl, inr, true, false, cond, not, eqb, ltb, arith, None, Option}
 use Rattle.std.specs.Prelude.{IsCharBoundary, option_map}
 use Rattle.std.specs.List.{AllByRecursion, filter, find, position}
@@ -17,7 +17,7 @@ use Rattle.op_model.specs.declared.faults.UndoFault.{UndoFault}
 use Rattle.op_model.specs.declared.faults.OpFault.TheVariants.{NoSuchEdit}
 use Rattle.op_model.specs.Choice.{when}
 use Rattle.op_model.specs.Operations.{text_total}
-use Rattle.op_model.specs.Histories.{History, clock, has_edit}
+use Rattle.op_model.specs.Histories.{History, newest_first, clock, has_edit}
 use Rattle.op_model.specs.Limited.{excess}
 use Rattle.op_model.specs.Domains.{IsReplica}
 use Rattle.op_model.specs.Edits.{is_reversed, is_past, is_inside, overlap_from}
@@ -30,6 +30,7 @@ use Rattle.op_model.specs.Answers.{answer, range_fault, count_fault}
 use Rattle.op_model.specs.Answers.Answer.{Good}
 use Rattle.op_model.specs.Lawful.{Lawful}
 use Rattle.op_model.proofs.answers.Passed.{good, well_shaped, well_ranged, first_none, map_none, when_none, position_none, find_none, none_find, none_map}
+use Rattle.op_model.proofs.shown.FactCells.{cells_in, told_cells}
 use Rattle.op_model.proofs.answers.Counted.{ordered_from}
 use Rattle.op_model.proofs.histories.VersionLaws.{seen_all}
 use Rattle.op_model.proofs.answers.OwnVersion.{Stamps, Own, own_stamp, own_base, own_fresh, none_equal, own_chained, own_caused, own_closed}
@@ -55,17 +56,14 @@ module _ (f : Cell → Bool) where
   past_shown (c ∷ xs) ys zero m e h = absurd (omega arith)
   past_shown (c ∷ xs) ys (suc o) m e h = let i = past_shown xs ys o m e.1 (omega arith) in rw e.0 (omega arith)
 
-  abbrev pub cells_of : List Fact → List Cell
-  cells_of s = map (λ (q : Fact). q.cell) s
-
   abbrev pub Agree : List Fact → Type 0
   Agree s = AllByRecursion (λ (q : Fact). f q.cell ≡ q.visible) s
 
-  run_cells : (t : Lamport) (k n : ℕ) (v : Bool) (d : List Lamport) → length (cells_of (alike t k n v d)) ≡ n
+  run_cells : (t : Lamport) (k n : ℕ) (v : Bool) (d : List Lamport) → length (cells_in (alike t k n v d)) ≡ n
   run_cells t k zero v d = refl
   run_cells t k (suc n) v d = ap suc (run_cells t (suc k) n v d)
 
-  run_agrees : (t : Lamport) (k n : ℕ) (v : Bool) (d : List Lamport) → Agree (alike t k n v d) → AllByRecursion (λ (c : Cell). f c ≡ v) (cells_of (alike t k n v d))
+  run_agrees : (t : Lamport) (k n : ℕ) (v : Bool) (d : List Lamport) → Agree (alike t k n v d) → AllByRecursion (λ (c : Cell). f c ≡ v) (cells_in (alike t k n v d))
   run_agrees t k zero v d e = tt
   run_agrees t k (suc n) v d e = (e.0, run_agrees t (suc k) n v d e.1)
 
@@ -81,38 +79,38 @@ module _ (f : Cell → Bool) where
     run_len : (r : Run) → length (run_bytes b r) ≡ r.len
     run_len r = bytes_length b r.stamp r.offset r.len r.visible r.deletions
 
-    split_cells : (r : Run) (rs : List Run) → cells_of (facts_of (r ∷ rs)) ≡ cells_of (run_facts r) ++ cells_of (facts_of rs)
+    split_cells : (r : Run) (rs : List Run) → cells_in (facts_of (r ∷ rs)) ≡ cells_in (run_facts r) ++ cells_in (facts_of rs)
     split_cells r rs = map_append (λ (q : Fact). q.cell) (run_facts r) (facts_of rs)
 
-    cells_len : (r : Run) → length (cells_of (run_facts r)) ≡ r.len
+    cells_len : (r : Run) → length (cells_in (run_facts r)) ≡ r.len
     cells_len r = run_cells r.stamp r.offset r.len r.visible r.deletions
 
-    seen_as : (r : Run) (v : Bool) → r.visible ≡ v → Agree (run_facts r) → AllByRecursion (λ (c : Cell). f c ≡ v) (cells_of (run_facts r))
-    seen_as r v e a = subst (λ (w : Bool). AllByRecursion (λ (c : Cell). f c ≡ w) (cells_of (run_facts r))) e (run_agrees r.stamp r.offset r.len r.visible r.deletions a)
+    seen_as : (r : Run) (v : Bool) → r.visible ≡ v → Agree (run_facts r) → AllByRecursion (λ (c : Cell). f c ≡ v) (cells_in (run_facts r))
+    seen_as r v e a = subst (λ (w : Bool). AllByRecursion (λ (c : Cell). f c ≡ w) (cells_in (run_facts r))) e (run_agrees r.stamp r.offset r.len r.visible r.deletions a)
 
     -- where a character of the shown bytes begins, one of all bytes begins
-    pub start_boundary : (rs : List Run) (o : ℕ) → Agree (facts_of rs) → Utf8 b rs → IsCharBoundary (shown_bytes b rs) o → IsCharBoundary (all_bytes b rs) (full_offset f (cells_of (facts_of rs)) o)
+    pub start_boundary : (rs : List Run) (o : ℕ) → Agree (facts_of rs) → Utf8 b rs → IsCharBoundary (shown_bytes b rs) o → IsCharBoundary (all_bytes b rs) (full_offset f (cells_in (facts_of rs)) o)
     start_boundary [] o a u c = (omega arith, λ l g. absurd (omega arith))
     start_boundary (r ∷ rs) o a u c = go (cases_Bool r.visible) (λ n d. start_boundary rs n (each_right (run_facts r) (facts_of rs) a) u.1 d)
       where
-        there : (n : ℕ) → full_offset f (cells_of (run_facts r) ++ cells_of (facts_of rs)) o ≡ n → IsCharBoundary (run_bytes b r ++ all_bytes b rs) n
-            → IsCharBoundary (all_bytes b (r ∷ rs)) (full_offset f (cells_of (facts_of (r ∷ rs))) o)
+        there : (n : ℕ) → full_offset f (cells_in (run_facts r) ++ cells_in (facts_of rs)) o ≡ n → IsCharBoundary (run_bytes b r ++ all_bytes b rs) n
+            → IsCharBoundary (all_bytes b (r ∷ rs)) (full_offset f (cells_in (facts_of (r ∷ rs))) o)
         there n e d = subst (λ (x : List Cell). IsCharBoundary (run_bytes b r ++ all_bytes b rs) (full_offset f x o)) (sym (split_cells r rs))
             (subst (λ (x : ℕ). IsCharBoundary (run_bytes b r ++ all_bytes b rs) x) (sym e) d)
 
-        go : (r.visible ≡ true) ⊎ (r.visible ≡ false) → ((n : ℕ) → IsCharBoundary (shown_bytes b rs) n → IsCharBoundary (all_bytes b rs) (full_offset f (cells_of (facts_of rs)) n))
-            → IsCharBoundary (all_bytes b (r ∷ rs)) (full_offset f (cells_of (facts_of (r ∷ rs))) o)
+        go : (r.visible ≡ true) ⊎ (r.visible ≡ false) → ((n : ℕ) → IsCharBoundary (shown_bytes b rs) n → IsCharBoundary (all_bytes b rs) (full_offset f (cells_in (facts_of rs)) n))
+            → IsCharBoundary (all_bytes b (r ∷ rs)) (full_offset f (cells_in (facts_of (r ∷ rs))) o)
         go (inl v) ih =
             let s = seen_as r true v (each_left (run_facts r) (facts_of rs) a) in
             let l = run_len r in
             let k = cells_len r in
             let d : IsCharBoundary (run_bytes b r ++ shown_bytes b rs) o = subst (λ (w : Bool). IsCharBoundary (cond w (run_bytes b r ++ shown_bytes b rs) (shown_bytes b rs)) o) v c in
             elim (cases_lt o r.len) [
-              | inl h ↦ there o (in_shown (cells_of (run_facts r)) (cells_of (facts_of rs)) o s (omega arith))
+              | inl h ↦ there o (in_shown (cells_in (run_facts r)) (cells_in (facts_of rs)) o s (omega arith))
                   (boundary_in (run_bytes b r) (all_bytes b rs) o (boundary_left (run_bytes b r) (shown_bytes b rs) o d (omega arith)) (omega arith))
               | inr h ↦ (let m : ℕ = o - r.len in
-                  there (length (cells_of (run_facts r)) + full_offset f (cells_of (facts_of rs)) m) (past_shown (cells_of (run_facts r)) (cells_of (facts_of rs)) o m s (omega arith))
-                  (boundary_on (run_bytes b r) (all_bytes b rs) (length (cells_of (run_facts r)) + full_offset f (cells_of (facts_of rs)) m) (full_offset f (cells_of (facts_of rs)) m) (omega arith)
+                  there (length (cells_in (run_facts r)) + full_offset f (cells_in (facts_of rs)) m) (past_shown (cells_in (run_facts r)) (cells_in (facts_of rs)) o m s (omega arith))
+                  (boundary_on (run_bytes b r) (all_bytes b rs) (length (cells_in (run_facts r)) + full_offset f (cells_in (facts_of rs)) m) (full_offset f (cells_in (facts_of rs)) m) (omega arith)
                   (ih m (boundary_right (run_bytes b r) (shown_bytes b rs) o m (omega arith) d))))
             ]
         go (inr v) ih =
@@ -120,36 +118,36 @@ module _ (f : Cell → Bool) where
             let l = run_len r in
             let k = cells_len r in
             let d : IsCharBoundary (shown_bytes b rs) o = subst (λ (w : Bool). IsCharBoundary (cond w (run_bytes b r ++ shown_bytes b rs) (shown_bytes b rs)) o) v c in
-            there (length (cells_of (run_facts r)) + full_offset f (cells_of (facts_of rs)) o) (over_hidden (cells_of (run_facts r)) (cells_of (facts_of rs)) o s)
-            (boundary_on (run_bytes b r) (all_bytes b rs) (length (cells_of (run_facts r)) + full_offset f (cells_of (facts_of rs)) o) (full_offset f (cells_of (facts_of rs)) o) (omega arith) (ih o d))
+            there (length (cells_in (run_facts r)) + full_offset f (cells_in (facts_of rs)) o) (over_hidden (cells_in (run_facts r)) (cells_in (facts_of rs)) o s)
+            (boundary_on (run_bytes b r) (all_bytes b rs) (length (cells_in (run_facts r)) + full_offset f (cells_in (facts_of rs)) o) (full_offset f (cells_in (facts_of rs)) o) (omega arith) (ih o d))
 
     -- the same one past the last byte of a character
     pub end_boundary : (rs : List Run) (o : ℕ) → Agree (facts_of rs) → Utf8 b rs → IsCharBoundary (shown_bytes b rs) (suc o)
-        → IsCharBoundary (all_bytes b rs) (suc (full_offset f (cells_of (facts_of rs)) o))
+        → IsCharBoundary (all_bytes b rs) (suc (full_offset f (cells_in (facts_of rs)) o))
     end_boundary [] o a u c = absurd (let x = c.0 in omega arith)
     end_boundary (r ∷ rs) o a u c = go (cases_Bool r.visible) (λ n d. end_boundary rs n (each_right (run_facts r) (facts_of rs) a) u.1 d)
       where
-        there : (n : ℕ) → full_offset f (cells_of (run_facts r) ++ cells_of (facts_of rs)) o ≡ n → IsCharBoundary (run_bytes b r ++ all_bytes b rs) (suc n)
-            → IsCharBoundary (all_bytes b (r ∷ rs)) (suc (full_offset f (cells_of (facts_of (r ∷ rs))) o))
+        there : (n : ℕ) → full_offset f (cells_in (run_facts r) ++ cells_in (facts_of rs)) o ≡ n → IsCharBoundary (run_bytes b r ++ all_bytes b rs) (suc n)
+            → IsCharBoundary (all_bytes b (r ∷ rs)) (suc (full_offset f (cells_in (facts_of (r ∷ rs))) o))
         there n e d = subst (λ (x : List Cell). IsCharBoundary (run_bytes b r ++ all_bytes b rs) (suc (full_offset f x o))) (sym (split_cells r rs))
             (subst (λ (x : ℕ). IsCharBoundary (run_bytes b r ++ all_bytes b rs) (suc x)) (sym e) d)
 
-        go : (r.visible ≡ true) ⊎ (r.visible ≡ false) → ((n : ℕ) → IsCharBoundary (shown_bytes b rs) (suc n) → IsCharBoundary (all_bytes b rs) (suc (full_offset f (cells_of (facts_of rs)) n)))
-            → IsCharBoundary (all_bytes b (r ∷ rs)) (suc (full_offset f (cells_of (facts_of (r ∷ rs))) o))
+        go : (r.visible ≡ true) ⊎ (r.visible ≡ false) → ((n : ℕ) → IsCharBoundary (shown_bytes b rs) (suc n) → IsCharBoundary (all_bytes b rs) (suc (full_offset f (cells_in (facts_of rs)) n)))
+            → IsCharBoundary (all_bytes b (r ∷ rs)) (suc (full_offset f (cells_in (facts_of (r ∷ rs))) o))
         go (inl v) ih =
             let s = seen_as r true v (each_left (run_facts r) (facts_of rs) a) in
             let l = run_len r in
             let k = cells_len r in
             let d : IsCharBoundary (run_bytes b r ++ shown_bytes b rs) (suc o) = subst (λ (w : Bool). IsCharBoundary (cond w (run_bytes b r ++ shown_bytes b rs) (shown_bytes b rs)) (suc o)) v c in
             elim (cases_lt (suc o) r.len) [
-              | inl h ↦ there o (in_shown (cells_of (run_facts r)) (cells_of (facts_of rs)) o s (omega arith))
+              | inl h ↦ there o (in_shown (cells_in (run_facts r)) (cells_in (facts_of rs)) o s (omega arith))
                   (boundary_in (run_bytes b r) (all_bytes b rs) (suc o) (boundary_left (run_bytes b r) (shown_bytes b rs) (suc o) d (omega arith)) (omega arith))
               | inr h ↦ elim (cases_lt o r.len) [
-                | inl i ↦ there o (in_shown (cells_of (run_facts r)) (cells_of (facts_of rs)) o s (omega arith))
+                | inl i ↦ there o (in_shown (cells_in (run_facts r)) (cells_in (facts_of rs)) o s (omega arith))
                     (boundary_on (run_bytes b r) (all_bytes b rs) (suc o) 0 (omega arith) (IsCharBoundary-start (all_bytes b rs) (utf8_all b rs u.1)))
                 | inr i ↦ (let m : ℕ = o - r.len in
-                    there (length (cells_of (run_facts r)) + full_offset f (cells_of (facts_of rs)) m) (past_shown (cells_of (run_facts r)) (cells_of (facts_of rs)) o m s (omega arith))
-                    (boundary_on (run_bytes b r) (all_bytes b rs) (suc (length (cells_of (run_facts r)) + full_offset f (cells_of (facts_of rs)) m)) (suc (full_offset f (cells_of (facts_of rs)) m)) (omega arith)
+                    there (length (cells_in (run_facts r)) + full_offset f (cells_in (facts_of rs)) m) (past_shown (cells_in (run_facts r)) (cells_in (facts_of rs)) o m s (omega arith))
+                    (boundary_on (run_bytes b r) (all_bytes b rs) (suc (length (cells_in (run_facts r)) + full_offset f (cells_in (facts_of rs)) m)) (suc (full_offset f (cells_in (facts_of rs)) m)) (omega arith)
                     (ih m (boundary_right (run_bytes b r) (shown_bytes b rs) (suc o) (suc m) (omega arith) d))))
               ]
             ]
@@ -158,30 +156,22 @@ module _ (f : Cell → Bool) where
             let l = run_len r in
             let k = cells_len r in
             let d : IsCharBoundary (shown_bytes b rs) (suc o) = subst (λ (w : Bool). IsCharBoundary (cond w (run_bytes b r ++ shown_bytes b rs) (shown_bytes b rs)) (suc o)) v c in
-            there (length (cells_of (run_facts r)) + full_offset f (cells_of (facts_of rs)) o) (over_hidden (cells_of (run_facts r)) (cells_of (facts_of rs)) o s)
-            (boundary_on (run_bytes b r) (all_bytes b rs) (suc (length (cells_of (run_facts r)) + full_offset f (cells_of (facts_of rs)) o)) (suc (full_offset f (cells_of (facts_of rs)) o)) (omega arith) (ih o d))
+            there (length (cells_in (run_facts r)) + full_offset f (cells_in (facts_of rs)) o) (over_hidden (cells_in (run_facts r)) (cells_in (facts_of rs)) o s)
+            (boundary_on (run_bytes b r) (all_bytes b rs) (suc (length (cells_in (run_facts r)) + full_offset f (cells_in (facts_of rs)) o)) (suc (full_offset f (cells_in (facts_of rs)) o)) (omega arith) (ih o d))
 
 -- ---- pieces taken to full offsets
 
 pub text_number : (h : History) → length (text h) ≡ number (shown h) (cells (seq h))
 unfolding text text_where shown seq
-text_number h = map_length (byte (Rattle.op_model.specs.Histories.newest_first h)) (filter (shown_where everything (Rattle.op_model.specs.Histories.newest_first h)) (cells (seq_where everything (Rattle.op_model.specs.Histories.newest_first h))))
-  where
-    map_length : {A B : Type 0} (g : A → B) (xs : List A) → length (map g xs) ≡ length xs
-    map_length g [] = refl
-    map_length g (x ∷ xs) = ap suc (map_length g xs)
-
-same_cells : (h : History) (s : List Cell) → cells_of (shown h) (map (fact h) s) ≡ s
-same_cells h [] = refl
-same_cells h (c ∷ s) = ap (λ x. c ∷ x) (same_cells h s)
+text_number h = length-map (filter (shown_where everything (newest_first h)) (cells (seq_where everything (newest_first h)))) (byte (newest_first h))
 
 told_agree : (h : History) (s : List Cell) → Agree (shown h) (map (fact h) s)
 told_agree h [] = tt
 told_agree h (c ∷ s) = (refl, told_agree h s)
 
 module _ (h : History) (w : Whole h) where
-  cells_whole : cells_of (shown h) (facts_of w.runs) ≡ cells (seq h)
-  cells_whole = ap (cells_of (shown h)) w.tell ∙ same_cells h (cells (seq h))
+  cells_whole : cells_in (facts_of w.runs) ≡ cells (seq h)
+  cells_whole = ap cells_in w.tell ∙ told_cells h (cells (seq h))
 
   agree_whole : Agree (shown h) (facts_of w.runs)
   agree_whole = subst (Agree (shown h)) (sym w.tell) (told_agree h (cells (seq h)))
@@ -194,12 +184,12 @@ module _ (h : History) (w : Whole h) where
 
   pub start_whole : (o : ℕ) → IsCharBoundary (text h) o → IsCharBoundary (full h) (full_offset (shown h) (cells (seq h)) o)
   start_whole o c = subst (λ (s : List Cell). IsCharBoundary (full h) (full_offset (shown h) s o)) cells_whole
-      (subst (λ (x : List ℕ). IsCharBoundary x (full_offset (shown h) (cells_of (shown h) (facts_of w.runs)) o)) (sym full_whole)
+      (subst (λ (x : List ℕ). IsCharBoundary x (full_offset (shown h) (cells_in (facts_of w.runs)) o)) (sym full_whole)
       (start_boundary (shown h) (byte_of h) w.runs o agree_whole w.utf8 (subst (λ (x : List ℕ). IsCharBoundary x o) text_whole c)))
 
   pub end_whole : (o : ℕ) → IsCharBoundary (text h) (suc o) → IsCharBoundary (full h) (suc (full_offset (shown h) (cells (seq h)) o))
   end_whole o c = subst (λ (s : List Cell). IsCharBoundary (full h) (suc (full_offset (shown h) s o))) cells_whole
-      (subst (λ (x : List ℕ). IsCharBoundary x (suc (full_offset (shown h) (cells_of (shown h) (facts_of w.runs)) o))) (sym full_whole)
+      (subst (λ (x : List ℕ). IsCharBoundary x (suc (full_offset (shown h) (cells_in (facts_of w.runs)) o))) (sym full_whole)
       (end_boundary (shown h) (byte_of h) w.runs o agree_whole w.utf8 (subst (λ (x : List ℕ). IsCharBoundary x (suc o)) text_whole c)))
 
 module _ (h : History) where

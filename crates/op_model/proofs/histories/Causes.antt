@@ -6,6 +6,7 @@ use Rattle.std.proofs.lemmas.Bool.{cases_Bool, and_parts, leb-true, le-leb, case
 use Rattle.lamport_clock.specs.declared.stamp.Lamport.{Lamport}
 use Rattle.lamport_clock.specs.Stamps.{same_stamp}
 use Rattle.lamport_clock.specs.Versions.{Entries, entry, sees, within}
+use Rattle.lamport_clock.proofs.Joined.{entry_within}
 use Rattle.op_model.specs.declared.operation.Operation.{Operation}
 use Rattle.op_model.specs.Operations.{stamp_of, version_of}
 use Rattle.op_model.specs.Histories.{History, In}
@@ -14,7 +15,7 @@ use Rattle.op_model.specs.Lawful.{Lawful}
 use Rattle.op_model.proofs.order.PathOrder.{same_stamp_eq, stamp_path as stamp_is}
 use Rattle.op_model.proofs.histories.Lawful.{LawInv, distinct_same}
 use Rattle.op_model.proofs.answers.Passed.{passed, map_none, none_map, find_none, none_find}
-use Rattle.op_model.proofs.answers.Good.{each_entry, within_entry, named, lawful_ready}
+use Rattle.op_model.proofs.answers.Good.{each_entry, named, lawful_ready}
 use Rattle.op_model.proofs.histories.MoreLawful.{each_of_lawful}
 use Rattle.op_model.proofs.texts.WholeTexts.{in_more}
 use Rattle.op_model.proofs.answers.SameAnswers.{any_in, any_from}
@@ -76,7 +77,7 @@ within_trans [] v w a b = refl
 within_trans (e ∷ u) v w a b =
     let k = and_parts (leb e.1 (entry v e.0)) (within u v) a in
     let x = leb-true e.1 (entry v e.0) k.0 in
-    let y = within_entry v w b e.0 in
+    let y = entry_within v w e.0 b in
     let z : leb e.1 (entry w e.0) ≡ true = le-leb e.1 (entry w e.0) (omega arith) in
     rw z (within_trans u v w k.1 b)
 

@@ -7,6 +7,7 @@ use Rattle.std.proofs.lemmas.List.Elements.{filter-append}
 use Rattle.lamport_clock.specs.declared.stamp.Lamport.{Lamport}
 use Rattle.lamport_clock.specs.Stamps.{same_stamp}
 use Rattle.lamport_clock.specs.Versions.{Entries, IsVersion, entry, sees, within, put_entry, raise}
+use Rattle.lamport_clock.proofs.Joined.{entry_within}
 use Rattle.op_model.specs.declared.operation.Operation.{Operation}
 use Rattle.op_model.specs.Operations.{stamp_of, version_of}
 use Rattle.op_model.specs.Histories.{History, In, base, version, kept_history, seen_history, newest_first}
@@ -26,7 +27,7 @@ use Rattle.op_model.proofs.shown.Deleters.{kept_all}
 use Rattle.op_model.proofs.shown.OnePass.{undone_newest, all_newest}
 use Rattle.op_model.proofs.shown.Parts.{deleters_part}
 use Rattle.op_model.proofs.answers.Passed.{passed, shaped}
-use Rattle.op_model.proofs.answers.Good.{in_tail, checked_of, stamp_parts, within_entry, append_nil}
+use Rattle.op_model.proofs.answers.Good.{in_tail, checked_of, stamp_parts, append_nil}
 use Rattle.op_model.proofs.shown.Deletions.{deleters_restrict}
 use Rattle.op_model.proofs.histories.VersionLaws.{lawful_caused, caused_within, seen_all, own_entries, shaped_good, each_lawful}
 use Rattle.op_model.proofs.histories.MoreLawful.{lawful_more, lawful_parts}
@@ -127,7 +128,7 @@ module _ (h : History) (l : Lawful h) (v : Entries) (c : IsClosed h v) where
 
   pub closed_part : Closed (sees v) (newest_first h)
   closed_part = in_tail (sees v) (newest_first h) (λ o p i j k s.
-      let a = within_entry (version_of o) v (causes o ((newest_same h o).0 i) k) (stamp_of p).replica in
+      let a = entry_within (version_of o) v (stamp_of p).replica (causes o ((newest_same h o).0 i) k) in
       let b = leb-true (stamp_of p).value (entry (version_of o) (stamp_of p).replica) s in
       le-leb (stamp_of p).value (entry v (stamp_of p).replica) (omega arith))
 
@@ -202,7 +203,7 @@ base_seen [] l v c m i w = absurd l
 base_seen (b ∷ ops) l v c m i w = elim i [
   | inl e ↦ inl (l.0.0, e ∙ l.0.1)
   | inr n ↦ (let z : entry (version_of m) 0 ≡ 1 = each_in (λ (o : Operation). entry (version_of o) 0 ≡ 1) ops m (each_lawful (λ (o : Operation). entry (version_of o) 0 ≡ 1) (b ∷ []) ops one l.1) n in
-      let a = within_entry (version_of m) v w 0 in inr (le-leb 1 (entry v 0) (omega arith)))
+      let a = entry_within (version_of m) v 0 w in inr (le-leb 1 (entry v 0) (omega arith)))
 ]
   where
     is_one : (x : ℕ) → not (eqb x 1) ≡ false → x ≡ 1

@@ -10,12 +10,12 @@ use Rattle.op_model.specs.declared.operation.Piece.{Piece}
 use Rattle.lamport_clock.specs.Stamps.{later}
 use Rattle.op_model.specs.Operations.{stamp_of, version_of, pieces_of}
 use Rattle.lamport_clock.specs.Versions.{sees}
-use Rattle.op_model.specs.Cells.{Cell, PathCell, path, path_at, left_path, before, put_all, op_places, new_places, text_places, both, everything, seq_where, seq}
+use Rattle.op_model.specs.Cells.{Cell, cell_at, PathCell, path, path_at, left_path, before, put_all, op_places, new_places, text_places, both, everything, seq_where, seq}
 use Rattle.op_model.specs.Laid.{only, lay}
 use Rattle.op_model.proofs.order.Insertion.{each_insert_all}
 use Rattle.op_model.proofs.order.LateOperation.{seq_nil, seq_kept, seq_unkept, late, Apart}
 use Rattle.op_model.proofs.order.Restricted.{Closed, restrict}
-use Rattle.op_model.proofs.order.Skipping.{Strict, Rises, AllOn, cell_of}
+use Rattle.op_model.proofs.order.Skipping.{Strict, Rises, AllOn}
 use Rattle.op_model.proofs.order.Laying.{Held, Inv, From, laid, end_of}
 
 sort_append : (d h : History) (op : Operation) → sort_onto d (h ++ op ∷ []) ≡ by_stamp op (sort_onto d h)
@@ -31,8 +31,8 @@ No t q = AllByRecursion (λ (d : Cell). d.stamp ≡ t → ⊥) q
 
 no_text : (t : Lamport) (u : List Cell) (s : Lamport) (k : ℕ) (bs : List ℕ) → (s ≡ t → ⊥) → No t u → AllByRecursion (λ (p : PathCell). No t (path p)) (text_places u s k bs)
 no_text t u s k [] n e = tt
-no_text t u s k (b ∷ bs) n e = let g = each_append (λ (d : Cell). d.stamp ≡ t → ⊥) u (cell_of s k ∷ []) e (n, tt) in
-    (g, no_text t (u ++ cell_of s k ∷ []) s (suc k) bs n g)
+no_text t u s k (b ∷ bs) n e = let g = each_append (λ (d : Cell). d.stamp ≡ t → ⊥) u (cell_at s k ∷ []) e (n, tt) in
+    (g, no_text t (u ++ cell_at s k ∷ []) s (suc k) bs n g)
 
 no_at : (t : Lamport) (s : List PathCell) (j : ℕ) → AllByRecursion (λ (p : PathCell). No t (path p)) s → No t (path_at s j)
 no_at t [] j e = tt

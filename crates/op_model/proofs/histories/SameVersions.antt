@@ -5,7 +5,7 @@ use Rattle.std.specs.List.{find}
 use Rattle.std.proofs.lemmas.Bool.{cases_Bool, eqb-true, ltb-true, ltb-false, leb-false, cases_lt}
 use Rattle.std.proofs.lemmas.Bool.Decides.{nat_tests}
 use Rattle.lamport_clock.specs.Stamps.{same_stamp}
-use Rattle.lamport_clock.specs.Versions.{Entries, entry, sees, within, put_entry}
+use Rattle.lamport_clock.specs.Versions.{Entries, AreEntriesFrom, entry, sees, within, put_entry}
 use Rattle.op_model.specs.declared.anchor.Anchor.{Anchor}
 use Rattle.op_model.specs.declared.faults.SinceFault.TheVariants.{Unseen, OpenVersion}
 use Rattle.op_model.specs.declared.faults.PlaceFault.TheVariants.{PastEnd, InsideChar}
@@ -22,33 +22,28 @@ use Rattle.op_model.proofs.answers.Good.{lawful_same}
 use Rattle.op_model.proofs.settling.AllApplied.{greatest_part}
 use Rattle.op_model.proofs.answers.SameAnswers.{any_same, known_same, place_same, compare_same}
 
--- the replicas ascend from n on, the values are above 0
-abbrev Rising : ℕ → Entries → Type 0
-Rising n [] = Unit {0}
-Rising n (e ∷ v) = (n ≤ e.0) × (0 < e.1) × Rising (suc e.0) v
-
 less : (x y : ℕ) → y ≤ x → eqb x y ≡ false → suc y ≤ x
 less x y h e = grind (arith, nat_tests)
 
-rising_put : (n r x : ℕ) (v : Entries) → n ≤ r → 0 < x → Rising n v → Rising n (put_entry r x v)
-rising_put n r x [] a b i = (a, b, tt)
-rising_put n r x (e ∷ v) a b i = go (cases_Bool (ltb e.0 r)) (cases_Bool (eqb e.0 r)) (λ l. rising_put (suc e.0) r x v l b i.2)
+entries_put : (n r x : ℕ) (v : Entries) → n ≤ r → 0 < x → AreEntriesFrom n v → AreEntriesFrom n (put_entry r x v)
+entries_put n r x [] a b i = (a, b, tt)
+entries_put n r x (e ∷ v) a b i = go (cases_Bool (ltb e.0 r)) (cases_Bool (eqb e.0 r)) (λ l. entries_put (suc e.0) r x v l b i.2)
   where
-    go : (ltb e.0 r ≡ true) ⊎ (ltb e.0 r ≡ false) → (eqb e.0 r ≡ true) ⊎ (eqb e.0 r ≡ false) → (suc e.0 ≤ r → Rising (suc e.0) (put_entry r x v)) → Rising n (put_entry r x (e ∷ v))
+    go : (ltb e.0 r ≡ true) ⊎ (ltb e.0 r ≡ false) → (eqb e.0 r ≡ true) ⊎ (eqb e.0 r ≡ false) → (suc e.0 ≤ r → AreEntriesFrom (suc e.0) (put_entry r x v)) → AreEntriesFrom n (put_entry r x (e ∷ v))
     go (inl l) s f = let k = ltb-true e.0 r l in rw l (i.0, i.1, f (omega arith))
-    go (inr l) (inl s) f = let k : e.0 ≡ r = eqb-true e.0 r s in rw (l, s) (a, b, subst (λ (m : ℕ). Rising (suc m) v) k i.2)
+    go (inr l) (inl s) f = let k : e.0 ≡ r = eqb-true e.0 r s in rw (l, s) (a, b, subst (λ (m : ℕ). AreEntriesFrom (suc m) v) k i.2)
     go (inr l) (inr s) f = let k = ltb-false e.0 r l in rw (l, s) (a, b, (less e.0 r k s, i.1, i.2))
 
-rising_version : (h : History) → Rising 0 (version h)
-rising_version [] = tt
-rising_version (o ∷ h) = go (cases_Bool (sees (version h) (stamp_of o))) (rising_version h)
+version_entries : (h : History) → AreEntriesFrom 0 (version h)
+version_entries [] = tt
+version_entries (o ∷ h) = go (cases_Bool (sees (version h) (stamp_of o))) (version_entries h)
   where
-    go : (sees (version h) (stamp_of o) ≡ true) ⊎ (sees (version h) (stamp_of o) ≡ false) → Rising 0 (version h) → Rising 0 (version (o ∷ h))
+    go : (sees (version h) (stamp_of o) ≡ true) ⊎ (sees (version h) (stamp_of o) ≡ false) → AreEntriesFrom 0 (version h) → AreEntriesFrom 0 (version (o ∷ h))
     go (inl s) i = rw s i
     go (inr s) i = let g = leb-false (stamp_of o).value (entry (version h) (stamp_of o).replica) s in
-        rw s (rising_put 0 (stamp_of o).replica (stamp_of o).value (version h) (omega arith) (omega arith) i)
+        rw s (entries_put 0 (stamp_of o).replica (stamp_of o).value (version h) (omega arith) (omega arith) i)
 
-below : (n : ℕ) (v : Entries) (r : ℕ) → Rising n v → r < n → entry v r ≡ 0
+below : (n : ℕ) (v : Entries) (r : ℕ) → AreEntriesFrom n v → r < n → entry v r ≡ 0
 below n [] r i l = refl
 below n (e ∷ v) r i l = let a = i.0 in let t = apart e.0 r (omega arith) in rw t (below (suc e.0) v r i.2 (omega arith))
   where
@@ -58,7 +53,7 @@ below n (e ∷ v) r i l = let a = i.0 in let t = apart e.0 r (omega arith) in rw
 here : (x : ℕ) → eqb x x ≡ true
 here x = grind (arith, nat_tests)
 
-entries_same : (n : ℕ) (u v : Entries) → Rising n u → Rising n v → ((r : ℕ) → entry u r ≡ entry v r) → u ≡ v
+entries_same : (n : ℕ) (u v : Entries) → AreEntriesFrom n u → AreEntriesFrom n v → ((r : ℕ) → entry u r ≡ entry v r) → u ≡ v
 entries_same n [] [] i j f = refl
 entries_same n [] (e ∷ v) i j f = let t : eqb e.0 e.0 ≡ true = here e.0 in let z : ◌≡◌ {A = ℕ} 0 e.1 = rw t at (f e.0) in let p = j.1 in absurd (omega arith)
 entries_same n (d ∷ u) [] i j f = let t : eqb d.0 d.0 ≡ true = here d.0 in let z : d.1 ≡ 0 = rw t at (f d.0) in let p = i.1 in absurd (omega arith)
@@ -79,18 +74,18 @@ entries_same n (d ∷ u) (e ∷ v) i j f = go (cases_lt d.0 e.0) (cases_lt e.0 d
         off : (x y : ℕ) → x < y → eqb x y ≡ false
         off x y h = grind (arith, nat_tests)
 
-    go : (d.0 < e.0) ⊎ (e.0 ≤ d.0) → (e.0 < d.0) ⊎ (d.0 ≤ e.0) → ((m : ℕ) → Rising m u → Rising m v → ((r : ℕ) → entry u r ≡ entry v r) → u ≡ v) → d ∷ u ≡ e ∷ v
+    go : (d.0 < e.0) ⊎ (e.0 ≤ d.0) → (e.0 < d.0) ⊎ (d.0 ≤ e.0) → ((m : ℕ) → AreEntriesFrom m u → AreEntriesFrom m v → ((r : ℕ) → entry u r ≡ entry v r) → u ≡ v) → d ∷ u ≡ e ∷ v
     go (inl l) m ih = let z = below (suc d.0) (e ∷ v) d.0 (omega arith, j.1, j.2) (omega arith) in let y = f d.0 in let x = at_d in let p = i.1 in absurd (omega arith)
     go (inr l) (inl m) ih = let z = below (suc e.0) (d ∷ u) e.0 (omega arith, i.1, i.2) (omega arith) in let y = f e.0 in let x = at_e in let p = j.1 in absurd (omega arith)
     go (inr l) (inr m) ih =
         let q : d.0 ≡ e.0 = omega arith in
         let w : d.1 ≡ e.1 = sym at_d ∙ f d.0 ∙ ap (entry (e ∷ v)) q ∙ at_e in
-        let s : u ≡ v = ih (suc d.0) i.2 (subst (λ (m : ℕ). Rising (suc m) v) (sym q) j.2) (tails q) in
+        let s : u ≡ v = ih (suc d.0) i.2 (subst (λ (m : ℕ). AreEntriesFrom (suc m) v) (sym q) j.2) (tails q) in
         λ k. (q k, w k) ∷ s k
 
 module _ (h g : History) (l : Lawful h) (m : Lawful g) (s : SameSet h g) where
   pub version_same : version h ≡ version g
-  version_same = entries_same 0 (version h) (version g) (rising_version h) (rising_version g)
+  version_same = entries_same 0 (version h) (version g) (version_entries h) (version_entries g)
       (λ r. let a = greatest_part h g r (λ o. (s o).0) in let b = greatest_part g h r (λ o. (s o).1) in let x = entry_version h r in let y = entry_version g r in omega arith)
 
   closed_same : (v : Entries) (e : ℕ × ℕ) → is_entry_closed h v e ≡ is_entry_closed g v e

@@ -7,13 +7,13 @@ use Rattle.std.proofs.lemmas.Bool.Decides.{nat_tests}
 use Rattle.lamport_clock.specs.declared.stamp.Lamport.{Lamport}
 use Rattle.lamport_clock.specs.Stamps.{later}
 use Rattle.op_model.specs.declared.operation.Piece.{Piece}
-use Rattle.op_model.specs.Cells.{Cell, PathCell, path, path_at, left_path, text_places, new_places, before, put_all}
+use Rattle.op_model.specs.Cells.{Cell, cell_at, PathCell, path, path_at, left_path, text_places, new_places, before, put_all}
 use Rattle.op_model.specs.Laid.{after_run, after_run_from, only, index_after, lay}
 use Rattle.op_model.proofs.order.PathOrder.{later_irrefl}
 use Rattle.op_model.proofs.order.Insertion.{each_insert, each_insert_all, insert_past, insert_here, filter_all_none}
 use Rattle.op_model.proofs.order.LateOperation.{before_trans, before_total, before_antisym}
 use Rattle.op_model.proofs.order.Restricted.{new_of, each_of}
-use Rattle.op_model.proofs.order.Skipping.{put, Strict, Sound, Fresh, Rises, AllOn, Has, at, cell_of, text_placed}
+use Rattle.op_model.proofs.order.Skipping.{put, Strict, Sound, Fresh, Rises, AllOn, Has, at, text_placed}
 use Rattle.op_model.proofs.order.SameSets.{one_way}
 
 -- a cell of edit t is number k or a later one
@@ -27,11 +27,11 @@ Held s t k q = AllOn s [] (path q) × Rises q × AllByRecursion (From t k) (path
 abbrev pub Inv : List PathCell → Lamport → ℕ → Type 0
 Inv s t k = Strict s × AllByRecursion (Held s t k) s
 
-fresh_from : (t : Lamport) (k n : ℕ) (q : List Cell) → 0 < n → AllByRecursion (From t (k + n)) q → AllByRecursion (Fresh (cell_of t k)) q
+fresh_from : (t : Lamport) (k n : ℕ) (q : List Cell) → 0 < n → AllByRecursion (From t (k + n)) q → AllByRecursion (Fresh (cell_at t k)) q
 fresh_from t k n [] h e = tt
 fresh_from t k n (d ∷ q) h e = (λ i. (let g : k + n ≤ d.k = e.0 i in omega arith), fresh_from t k n q h e.1)
 
-sound_from : (s : List PathCell) (t : Lamport) (k n : ℕ) (r : List PathCell) → 0 < n → AllByRecursion (Held s t (k + n)) r → AllByRecursion (Sound s (cell_of t k)) r
+sound_from : (s : List PathCell) (t : Lamport) (k n : ℕ) (r : List PathCell) → 0 < n → AllByRecursion (Held s t (k + n)) r → AllByRecursion (Sound s (cell_at t k)) r
 sound_from s t k n [] h e = tt
 sound_from s t k n (q ∷ r) h e = ((e.0.0, e.0.1, fresh_from t k n (path q) h e.0.2), sound_from s t k n r h e.1)
 
@@ -121,11 +121,11 @@ past_down t k m [] h e = tt
 past_down t k m (y ∷ s) h e = (λ i. (let g : m ≤ y.cell.k = e.0 i in omega arith), past_down t k m s h e.1)
 
 apart : (u : List Cell) (t : Lamport) (k : ℕ) (s : List PathCell) → AllByRecursion (Past t (suc k)) s
-    → AllByRecursion (λ (y : PathCell). before (at u (cell_of t k)) y ≡ true → before y (at u (cell_of t k)) ≡ true → ⊥) s
+    → AllByRecursion (λ (y : PathCell). before (at u (cell_at t k)) y ≡ true → before y (at u (cell_at t k)) ≡ true → ⊥) s
 apart u t k [] e = tt
-apart u t k (y ∷ s) e = (λ a b. no (before_antisym (at u (cell_of t k)) y a b), apart u t k s e.1)
+apart u t k (y ∷ s) e = (λ a b. no (before_antisym (at u (cell_at t k)) y a b), apart u t k s e.1)
   where
-    no : at u (cell_of t k) ≡ y → ⊥
+    no : at u (cell_at t k) ≡ y → ⊥
     no i = let g : suc k ≤ y.cell.k = e.0 (sym (ap (λ (z : PathCell). z.cell.stamp) i)) in
         let h : k ≡ y.cell.k = ap (λ (z : PathCell). z.cell.k) i in omega arith
 
@@ -133,10 +133,10 @@ text_strict : (u : List Cell) (t : Lamport) (k m : ℕ) (bs : List ℕ) (r : Lis
     → Strict (put_all (text_places u t k bs) r) × AllByRecursion (Past t k) (put_all (text_places u t k bs) r)
 text_strict u t k m [] r h st e = (st, past_down t k m r (omega arith) e)
 text_strict u t k m (b ∷ bs) r h st e =
-    let ih = text_strict (u ++ cell_of t k ∷ []) t (suc k) m bs r (omega arith) st e in (
-      strict_insert (at u (cell_of t k)) (put_all (text_places (u ++ cell_of t k ∷ []) t (suc k) bs) r) (apart u t k (put_all (text_places (u ++ cell_of t k ∷ []) t (suc k) bs) r) ih.1) ih.0,
-      each_insert (Past t k) before (at u (cell_of t k)) (put_all (text_places (u ++ cell_of t k ∷ []) t (suc k) bs) r) (λ i. omega arith)
-          (past_down t k (suc k) (put_all (text_places (u ++ cell_of t k ∷ []) t (suc k) bs) r) (omega arith) ih.1),
+    let ih = text_strict (u ++ cell_at t k ∷ []) t (suc k) m bs r (omega arith) st e in (
+      strict_insert (at u (cell_at t k)) (put_all (text_places (u ++ cell_at t k ∷ []) t (suc k) bs) r) (apart u t k (put_all (text_places (u ++ cell_at t k ∷ []) t (suc k) bs) r) ih.1) ih.0,
+      each_insert (Past t k) before (at u (cell_at t k)) (put_all (text_places (u ++ cell_at t k ∷ []) t (suc k) bs) r) (λ i. omega arith)
+          (past_down t k (suc k) (put_all (text_places (u ++ cell_at t k ∷ []) t (suc k) bs) r) (omega arith) ih.1),
     )
 
 has_put : (x : PathCell) (s : List PathCell) (q : List Cell) → Has s q → Has (put x s) q
@@ -170,18 +170,18 @@ on_snoc s f (d ∷ u) c e h = (e.0, on_snoc s (f ++ d ∷ []) u c e.1 (subst (Ha
 text_on : (r : List PathCell) (u : List Cell) (t : Lamport) (k : ℕ) (bs : List ℕ) → AllOn r [] u
     → AllByRecursion (λ (x : PathCell). Has r (path x)) (text_places u t k bs) → AllByRecursion (λ (x : PathCell). AllOn r [] (path x)) (text_places u t k bs)
 text_on r u t k [] e h = tt
-text_on r u t k (b ∷ bs) e h = let g : AllOn r [] (u ++ cell_of t k ∷ []) = on_snoc r [] u (cell_of t k) e h.0 in
-    (g, text_on r (u ++ cell_of t k ∷ []) t (suc k) bs g h.1)
+text_on r u t k (b ∷ bs) e h = let g : AllOn r [] (u ++ cell_at t k ∷ []) = on_snoc r [] u (cell_at t k) e h.0 in
+    (g, text_on r (u ++ cell_at t k ∷ []) t (suc k) bs g h.1)
 
 text_rises : (u : List Cell) (t : Lamport) (k : ℕ) (bs : List ℕ) → AllByRecursion (λ (a : Cell). later a.stamp t ≡ false) u → AllByRecursion Rises (text_places u t k bs)
 text_rises u t k [] e = tt
-text_rises u t k (b ∷ bs) e = let g = each_append (λ (a : Cell). later a.stamp t ≡ false) u (cell_of t k ∷ []) e (later_irrefl t, tt) in
-    (g, text_rises (u ++ cell_of t k ∷ []) t (suc k) bs g)
+text_rises u t k (b ∷ bs) e = let g = each_append (λ (a : Cell). later a.stamp t ≡ false) u (cell_at t k ∷ []) e (later_irrefl t, tt) in
+    (g, text_rises (u ++ cell_at t k ∷ []) t (suc k) bs g)
 
 text_from : (u : List Cell) (t : Lamport) (low k : ℕ) (bs : List ℕ) → low ≤ k → AllByRecursion (From t low) u → AllByRecursion (λ (x : PathCell). AllByRecursion (From t low) (path x)) (text_places u t k bs)
 text_from u t low k [] h e = tt
-text_from u t low k (b ∷ bs) h e = let g = each_append (From t low) u (cell_of t k ∷ []) e ((λ i. h), tt) in
-    (g, text_from (u ++ cell_of t k ∷ []) t low (suc k) bs (omega arith) g)
+text_from u t low k (b ∷ bs) h e = let g = each_append (From t low) u (cell_at t k ∷ []) e ((λ i. h), tt) in
+    (g, text_from (u ++ cell_at t k ∷ []) t low (suc k) bs (omega arith) g)
 
 all_three : (s : List PathCell) (t : Lamport) (k : ℕ) (r : List PathCell) → AllByRecursion (λ (x : PathCell). AllOn s [] (path x)) r → AllByRecursion Rises r
     → AllByRecursion (λ (x : PathCell). AllByRecursion (From t k) (path x)) r → AllByRecursion (Held s t k) r

@@ -5,7 +5,7 @@ use Rattle.std.proofs.lemmas.Bool.{cases_Bool}
 use Rattle.std.proofs.lemmas.Bool.Decides.{nat_tests}
 use Rattle.lamport_clock.specs.declared.stamp.Lamport.{Lamport}
 use Rattle.lamport_clock.specs.Stamps.{later, same_stamp}
-use Rattle.op_model.specs.Cells.{path_at, left_path, text_places, put_all, Cell, PathCell, same_cell, sibling_first, path, path_before, before}
+use Rattle.op_model.specs.Cells.{path_at, left_path, text_places, put_all, Cell, PathCell, same_cell, sibling_first, path, path_before, before, cell_at}
 use Rattle.op_model.specs.Laid.{after_run, after_run_from}
 use Rattle.op_model.proofs.order.PathOrder.{path_refl, same_cell_refl, later_trans, same_stamp_eq, first_by_stamp, path_trans, path_antisym}
 use Rattle.op_model.specs.Sorted.{insert_by, Ascending}
@@ -318,17 +318,14 @@ not_before_more : (p front : List Cell) (d : Cell) → path_before (p ++ (front 
 not_before_more [] front d = some_before_none front d
 not_before_more (a ∷ p) front d = let e = same_cell_refl a in rw e (not_before_more p front d)
 
-abbrev pub cell_of : Lamport → ℕ → Cell
-cell_of t k = record { stamp = t; k = k }
-
 below_each : (p : List Cell) (c : Cell) (front : List Cell) (t : Lamport) (k : ℕ) (bs : List ℕ)
     → AllByRecursion (λ (z : PathCell). before z (at p c) ≡ false) (text_places (p ++ c ∷ front) t k bs)
 below_each p c front t k [] = tt
 below_each p c front t k (b ∷ bs) = (
-  rw (append_assoc p (c ∷ front) (cell_of t k ∷ []) ∙ sym (append_assoc p (c ∷ []) (front ++ cell_of t k ∷ [])))
-      (not_before_more (p ++ c ∷ []) front (cell_of t k)),
-  subst (λ (f : List Cell). AllByRecursion (λ (z : PathCell). before z (at p c) ≡ false) (text_places f t (suc k) bs)) (sym (append_assoc p (c ∷ front) (cell_of t k ∷ [])))
-      (below_each p c (front ++ cell_of t k ∷ []) t (suc k) bs),
+  rw (append_assoc p (c ∷ front) (cell_at t k ∷ []) ∙ sym (append_assoc p (c ∷ []) (front ++ cell_at t k ∷ [])))
+      (not_before_more (p ++ c ∷ []) front (cell_at t k)),
+  subst (λ (f : List Cell). AllByRecursion (λ (z : PathCell). before z (at p c) ≡ false) (text_places f t (suc k) bs)) (sym (append_assoc p (c ∷ front) (cell_at t k ∷ [])))
+      (below_each p c (front ++ cell_at t k ∷ []) t (suc k) bs),
 )
 
 -- the rest of a text whose first cell is c
@@ -336,10 +333,10 @@ text_alike : (p : List Cell) (c : Cell) (front : List Cell) (t : Lamport) (k : �
     → AllByRecursion (λ (q : PathCell). AllByRecursion (Fresh c) (path q)) s → Alike (at p c) (text_places (p ++ c ∷ front) t k bs) s
 text_alike p c front t k [] s f = tt
 text_alike p c front t k (b ∷ bs) s f = (
-  alike_each p c front (cell_of t k) s f,
-  below_each (p ++ c ∷ front) (cell_of t k) [] t (suc k) bs,
-  subst (λ (g : List Cell). Alike (at p c) (text_places g t (suc k) bs) s) (sym (append_assoc p (c ∷ front) (cell_of t k ∷ [])))
-      (text_alike p c (front ++ cell_of t k ∷ []) t (suc k) bs s f),
+  alike_each p c front (cell_at t k) s f,
+  below_each (p ++ c ∷ front) (cell_at t k) [] t (suc k) bs,
+  subst (λ (g : List Cell). Alike (at p c) (text_places g t (suc k) bs) s) (sym (append_assoc p (c ∷ front) (cell_at t k ∷ [])))
+      (text_alike p c (front ++ cell_at t k ∷ []) t (suc k) bs s f),
 )
 
 each_refl : (x : PathCell) (s : List PathCell) → AllByRecursion (λ (q : PathCell). before q x ≡ before q x) s
@@ -351,15 +348,15 @@ sound_fresh s c [] e = tt
 sound_fresh s c (q ∷ r) e = (e.0.2, sound_fresh s c r e.1)
 
 -- one text put into s
-pub text_placed : (s : List PathCell) (t : Lamport) (k : ℕ) (bs : List ℕ) (i : ℕ) → Strict s → AllByRecursion (Sound s (cell_of t k)) s
-    → Low (cell_of t k) (left_path s i) → i ≤ length s
+pub text_placed : (s : List PathCell) (t : Lamport) (k : ℕ) (bs : List ℕ) (i : ℕ) → Strict s → AllByRecursion (Sound s (cell_at t k)) s
+    → Low (cell_at t k) (left_path s i) → i ≤ length s
     → 0 < length bs
     → put_all (text_places (left_path s i) t k bs) s ≡ after_run_from i t (text_places (left_path s i) t k bs) s
 text_placed s t k [] i st so low h n = absurd (omega arith)
 text_placed s t k (b ∷ bs) i st so low h n =
-    chain (at (left_path s i) (cell_of t k)) (text_places (left_path s i) t k (b ∷ bs)) s (
-      each_refl (at (left_path s i) (cell_of t k)) s,
-      below_each (left_path s i) (cell_of t k) [] t (suc k) bs,
-      text_alike (left_path s i) (cell_of t k) [] t (suc k) bs s (sound_fresh s (cell_of t k) s so),
+    chain (at (left_path s i) (cell_at t k)) (text_places (left_path s i) t k (b ∷ bs)) s (
+      each_refl (at (left_path s i) (cell_at t k)) s,
+      below_each (left_path s i) (cell_at t k) [] t (suc k) bs,
+      text_alike (left_path s i) (cell_at t k) [] t (suc k) bs s (sound_fresh s (cell_at t k) s so),
     )
-    ∙ placed s (cell_of t k) (text_places (left_path s i) t k (b ∷ bs)) i st so low h
+    ∙ placed s (cell_at t k) (text_places (left_path s i) t k (b ∷ bs)) i st so low h

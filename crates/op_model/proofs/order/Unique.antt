@@ -10,11 +10,11 @@ use Rattle.op_model.specs.Histories.{History}
 use Rattle.op_model.specs.declared.operation.Piece.{Piece}
 use Rattle.lamport_clock.specs.Stamps.{later, same_stamp}
 use Rattle.op_model.specs.Operations.{stamp_of, version_of, pieces_of}
-use Rattle.op_model.specs.Cells.{Cell, same_cell, PathCell, path, before, put_all, text_places, new_places, left_path, both, seq_where}
+use Rattle.op_model.specs.Cells.{Cell, cell_at, same_cell, PathCell, path, before, put_all, text_places, new_places, left_path, both, seq_where}
 use Rattle.op_model.proofs.order.Insertion.{each_insert, insert_past, insert_here}
 use Rattle.op_model.proofs.order.PathOrder.{same_stamp_eq, later_irrefl}
 use Rattle.op_model.proofs.order.LateOperation.{seq_nil, seq_kept, seq_unkept}
-use Rattle.op_model.proofs.order.Skipping.{cell_of, put}
+use Rattle.op_model.proofs.order.Skipping.{put}
 use Rattle.op_model.proofs.order.Laying.{Past, past_down, put_all_append, end_of}
 use Rattle.op_model.proofs.order.SameSets.{Desc}
 use Rattle.op_model.proofs.histories.OneMore.{No, no_stamp}
@@ -48,8 +48,8 @@ text_unique u t k m [] r h st e = (st, past_down t k m r (omega arith) e)
 text_unique u t k m (b ∷ bs) r h st e =
     let c : Cell = record { stamp = t; k = k } in
     let x : PathCell = record { above = u; cell = c } in
-    let z : List PathCell = put_all (text_places (u ++ cell_of t k ∷ []) t (suc k) bs) r in
-    let ih = text_unique (u ++ cell_of t k ∷ []) t (suc k) m bs r (omega arith) st e in (
+    let z : List PathCell = put_all (text_places (u ++ cell_at t k ∷ []) t (suc k) bs) r in
+    let ih = text_unique (u ++ cell_at t k ∷ []) t (suc k) m bs r (omega arith) st e in (
       put_unique x z (each_map (Past t (suc k)) (λ (y : PathCell). same_cell c y.cell ≡ false) (λ y p. less_k y.cell t k p) z ih.1) ih.0,
       each_insert (Past t k) before x z (λ i. omega arith) (past_down t k (suc k) z (omega arith) ih.1),
     )

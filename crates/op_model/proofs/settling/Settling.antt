@@ -17,7 +17,7 @@ use Rattle.op_model.specs.Made.{local_edit, local_undo, local_edit_fault, local_
 use Rattle.op_model.specs.Answers.{Answer, answer, objection, any_equal, same_op, first_missing}
 use Rattle.op_model.specs.Answers.Answer.{Good, Repeat, Waits, Refused}
 use Rattle.op_model.specs.Lawful.{Lawful}
-use Rattle.op_model.specs.Settled.{State, Turn, turn, turn_of, full_fault, with_waiting, with_refused, pass, passes, settle}
+use Rattle.op_model.specs.Settled.{State, Turn, turn, turn_of, full_fault, with_waiting, with_first_refusal, pass, passes, settle}
 use Rattle.op_model.specs.Settled.Turn.{Append, Drop, Stay, Refuse}
 use Rattle.op_model.specs.Steps.{new_state, with_applied, settle_step, ask_limits, take_answer, older, with_deferred, Step, step, run, IsProperStep}
 use Rattle.op_model.specs.Steps.Step.{Edits, Undoes, Takes, Settles}
@@ -47,13 +47,13 @@ abbrev pub after : Turn → LimitsType → History → Operation → List Operat
 after Append l h op w = pass l (h ++ op ∷ []) w
 after Drop l h op w = pass l h w
 after Stay l h op w = with_waiting op (pass l h w)
-after (Refuse f) l h op w = with_refused (stamp_of op, f) (pass l h w)
+after (Refuse f) l h op w = with_first_refusal (stamp_of op, f) (pass l h w)
 
 pub pass_is : (l : LimitsType) (h : History) (op : Operation) (w : List Operation) → pass l h (op ∷ w) ≡ after (turn l h op) l h op w
 unfolding pass
 pass_is l h op w = go (turn l h op)
   where
-    go : (t : Turn) → elim t [ Append ↦ pass l (h ++ op ∷ []) w | Drop ↦ pass l h w | Stay ↦ with_waiting op (pass l h w) | Refuse f ↦ with_refused (stamp_of op, f) (pass l h w) ] ≡ after t l h op w
+    go : (t : Turn) → elim t [ Append ↦ pass l (h ++ op ∷ []) w | Drop ↦ pass l h w | Stay ↦ with_waiting op (pass l h w) | Refuse f ↦ with_first_refusal (stamp_of op, f) (pass l h w) ] ≡ after t l h op w
     go Append = refl
     go Drop = refl
     go Stay = refl

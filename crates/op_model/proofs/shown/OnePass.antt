@@ -27,24 +27,24 @@ use Rattle.op_model.proofs.shown.Deleters.{count_by_stamp}
 use Rattle.op_model.proofs.histories.OneMore.{Fits}
 use Rattle.op_model.proofs.answers.Good.{Ready, good_more, checked_of, fits_of}
 
--- the facts that pass
-passing_facts : (Lamport → Bool) → List Fact → ℕ
+-- how many facts are of cells whose stamps pass
+pub passing_facts : (Lamport → Bool) → List Fact → ℕ
 passing_facts keep [] = 0
 passing_facts keep (q ∷ s) = cond (keep q.cell.stamp) (suc (passing_facts keep s)) (passing_facts keep s)
 
-count_alike : (keep : Lamport → Bool) (u : Lamport) (o n : ℕ) (v : Bool) (d : List Lamport) (s : List Fact)
+pub count_alike : (keep : Lamport → Bool) (u : Lamport) (o n : ℕ) (v : Bool) (d : List Lamport) (s : List Fact)
     → passing_facts keep (alike u o n v d ++ s) ≡ cond (keep u) (n + passing_facts keep s) (passing_facts keep s)
 unfolding passing_facts
 count_alike keep u o zero v d s = elim (cases_Bool (keep u)) [ inl k ↦ rw k (omega arith) | inr k ↦ rw k refl ]
 count_alike keep u o (suc n) v d s = let ih = count_alike keep u (suc o) n v d s in
     elim (cases_Bool (keep u)) [ inl k ↦ (let g = rw k at ih in rw k (omega arith)) | inr k ↦ (let g = rw k at ih in rw k g) ]
 
-count_runs : (keep : Lamport → Bool) (fs : List Run) → passing_facts keep (facts_of fs) ≡ kept_len keep fs
+pub count_runs : (keep : Lamport → Bool) (fs : List Run) → passing_facts keep (facts_of fs) ≡ kept_len keep fs
 unfolding passing_facts
 count_runs keep [] = refl
 count_runs keep (f ∷ fs) = count_alike keep f.stamp f.offset f.len f.visible f.deletions (facts_of fs) ∙ rw (count_runs keep fs) refl
 
-count_places : (h : History) (keep : Lamport → Bool) (s : List PathCell) → passing_facts keep (map (fact h) (cells s)) ≡ length (only keep s)
+pub count_places : (h : History) (keep : Lamport → Bool) (s : List PathCell) → passing_facts keep (map (fact h) (cells s)) ≡ length (only keep s)
 unfolding passing_facts
 count_places h keep [] = refl
 count_places h keep (q ∷ s) = elim (cases_Bool (keep q.cell.stamp)) [ inl k ↦ rw k (ap suc (count_places h keep s)) | inr k ↦ rw k (count_places h keep s) ]

@@ -7,12 +7,11 @@ use Rattle.std.proofs.lemmas.Bool.{cases_Bool}
 use Rattle.lamport_clock.specs.declared.stamp.Lamport.{Lamport}
 use Rattle.op_model.specs.declared.operation.Piece.{Piece}
 use Rattle.lamport_clock.specs.Stamps.{later}
-use Rattle.op_model.specs.Cells.{Cell, same_cell, PathCell, text_places, left_path, cells}
+use Rattle.op_model.specs.Cells.{Cell, cell_at, same_cell, PathCell, text_places, left_path, cells}
 use Rattle.op_model.specs.Laid.{after_run, after_run_from, only, index_after, lay}
 use Rattle.op_model.specs.Shown.{in_pieces, in_ranges}
 use Rattle.op_model.specs.Facts.{Fact, alike, past_later, put_at, fact_index_after, lay_facts, mark, marks, Marking}
 use Rattle.op_model.proofs.order.Unique.{Unique, other_way}
-use Rattle.op_model.proofs.order.Skipping.{cell_of}
 
 module _ (gv : Cell → Bool) (gd : Cell → List Lamport) where
   abbrev pub tell : Cell → Fact
@@ -45,7 +44,7 @@ module _ (gv : Cell → Bool) (gd : Cell → List Lamport) where
   module _ (t : Lamport) (new_v : (k : ℕ) → gv (record { stamp = t; k = k }) ≡ true) (new_d : (k : ℕ) → gd (record { stamp = t; k = k }) ≡ []) where
     tell_text : (u : List Cell) (k : ℕ) (bs : List ℕ) → telling (text_places u t k bs) ≡ alike t k (length bs) true []
     tell_text u k [] = refl
-    tell_text u k (b ∷ bs) = rw (new_v k, new_d k) (ap (λ (z : List Fact). record { cell = record { stamp = t; k = k }; visible = true; deletions = [] } ∷ z) (tell_text (u ++ cell_of t k ∷ []) (suc k) bs))
+    tell_text u k (b ∷ bs) = rw (new_v k, new_d k) (ap (λ (z : List Fact). record { cell = record { stamp = t; k = k }; visible = true; deletions = [] } ∷ z) (tell_text (u ++ cell_at t k ∷ []) (suc k) bs))
 
     pub tell_lay : (keep : Lamport → Bool) (k : ℕ) (ps : List Piece) (s : List PathCell) → telling (lay keep t k ps s) ≡ lay_facts keep t 0 k ps (telling s)
     tell_lay keep k [] s = refl
