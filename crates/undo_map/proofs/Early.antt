@@ -7,11 +7,10 @@ use Rattle.std.specs.Ordering.{ordering_then, is_lt, is_eq, is_gt}
 use Rattle.std.specs.declared.cmp.Ordering.{Ordering}
 use Rattle.std.specs.declared.cmp.Ordering.TheVariants.{Less, Equal, Greater}
 use Rattle.lamport_clock.specs.declared.stamp.Lamport.{Lamport}
-use Rattle.lamport_clock.specs.Stamps.{same_stamp, stamp_cmp}
+use Rattle.lamport_clock.specs.Stamps.{same_stamp, stamp_cmp, stamp_order}
 use Rattle.lamport_clock.specs.Versions.{Entries, sees}
 use Rattle.lamport_clock.proofs.Order.{is_eq-same}
 use Rattle.undo_map.specs.declared.entry.UndoEntry.{UndoEntry}
-use Rattle.undo_map.specs.Keys.{stamp_order}
 use Rattle.undo_map.specs.Counts.{greatest, IsAscending, is_earlier, counts_for, is_seen}
 use Rattle.undo_map.proofs.Greatest.{greatest-append, greatest-cons, adds}
 
