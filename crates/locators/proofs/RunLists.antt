@@ -2,6 +2,7 @@
 use Rattle.std.proofs.Common.{◌≡◌, ◌≢◌, ℕ, zero, suc, ◌+◌, ◌-◌, ◌≤◌, ◌<◌, ◌⊎◌, ◌^◌, List, [], ◌∷◌, ◌++◌, refl, sym, ap, subst, inl, inr, true, false, length, take, replicate, get_or, Result, Ok, Err, IfOk, nat_eq, append_assoc, length-append, ◌∙◌, arith}
 use Rattle.std.proofs.lemmas.Bool.{cases_Bool, eqb-true, eqb-false}
 use Rattle.std.proofs.lemmas.List.{take_more, get_or-append_right, append-nil, length-replicate, length-take-le, replicate-append-replicate}
+use Rattle.std.proofs.lemmas.Result.{IfOk-weaker}
 use Rattle.locators.specs.Runs.{run_digits, kept_runs, BeginsOther, AreMaximal, SharesLong, IsKept, count_runs, digits_with, LieInline}
 use Rattle.locators.specs.declared.runs.Runs.{Runs}
 use Rattle.std.proofs.Math.Seq.{take-length, take-append-add}
@@ -167,10 +168,6 @@ pub digits_to-two : (rs front : List Run) (point : BranchPoint) → run_digits f
 digits_to-two rs front point e = rw (take-length front, e) refl
 
 -- what holds of the value, if there is one
-pub if_ok : {T E : Type 0} {P Q : T → Type 0} → ((x : T) → P x → Q x) → (r : Result T E) → IfOk r P → IfOk r Q
-if_ok f (Ok x) h = f x h
-if_ok f (Err e) h = h
-
 pub if_both : {T E : Type 0} {P Q R : T → Type 0} → ((x : T) → P x → Q x → R x) → (r : Result T E) → IfOk r P → IfOk r Q → IfOk r R
 if_both f (Ok x) h k = f x h k
 if_both f (Err e) h k = h
@@ -187,7 +184,7 @@ take_in_last f l k n d e p q =
 
 -- what the first runs and one more give, of a call that gives them
 pub gives_digits : {E : Type 0} (rs : List Run) (count : ℕ) (r : Run) (all : List Run) → GivesRuns rs count r all → (result : Result Runs E) → IfOk result (λ runs. kept_runs runs ≡ all) → IfOk result (λ runs. run_digits (kept_runs runs) ≡ digits_with rs count r)
-gives_digits rs count r all g = if_ok {P = λ runs. kept_runs runs ≡ all} {Q = λ runs. run_digits (kept_runs runs) ≡ digits_with rs count r} (λ x e. ap run_digits e ∙ g.0)
+gives_digits rs count r all g result = IfOk-weaker result (λ runs. kept_runs runs ≡ all) (λ runs. run_digits (kept_runs runs) ≡ digits_with rs count r) (λ x e. ap run_digits e ∙ g.0)
 
 pub gives_kept : {E : Type 0} (rs : List Run) (count : ℕ) (r : Run) (all : List Run) → GivesRuns rs count r all → (result : Result Runs E) → IfOk result (λ runs. kept_runs runs ≡ all) → IfOk result SharesLong → IfOk result IsKept
 gives_kept rs count r all g = if_both {P = λ runs. kept_runs runs ≡ all} {Q = SharesLong} {R = IsKept} (λ x e l. (subst AreMaximal (sym e) g.1, l))
