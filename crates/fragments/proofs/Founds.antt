@@ -10,13 +10,14 @@ use Rattle.op_model.specs.declared.operation.UndoCount.{UndoCount}
 use Rattle.op_model.specs.Operations.{counts_of}
 use Rattle.op_model.specs.Sorted.{EachPair, Member}
 use Rattle.op_model.specs.Histories.{History, base}
-use Rattle.op_model.specs.Cells.{Cell, seq, cells}
-use Rattle.op_model.specs.Facts.{Fact, fact, alike}
+use Rattle.op_model.specs.Cells.{Cell, seq, cells, cell_at}
+use Rattle.op_model.specs.Facts.{Fact, alike}
 use Rattle.op_model.specs.Walked.{facts_of}
 use Rattle.op_model.specs.Lawful.{Lawful}
 use Rattle.op_model.proofs.order.CellsOnce.{each_member}
 use Rattle.op_model.proofs.order.PathOrder.{same_stamp_eq, same_stamp_refl}
 use Rattle.op_model.proofs.MainLaws.{each_cell_once}
+use Rattle.op_model.proofs.shown.FactCells.{cells_in, told_cells}
 use Rattle.op_model.proofs.texts.WholeTexts.{base_told}
 use Rattle.fragments.specs.declared.fragment.Fragment.{Fragment}
 use Rattle.fragments.specs.declared.index_entry.IndexEntry.{IndexEntry}
@@ -103,13 +104,6 @@ best t o x (y ∷ w) (inr m) c = elim (cases_Bool (covers t o y)) [
 
 -- ---- cells
 
-abbrev cell_at : Lamport → ℕ → Cell
-cell_at t k = record { stamp = t; k = k }
-
--- the cells that are told of
-abbrev cells_in : List Fact → List Cell
-cells_in s = map (λ (q : Fact). q.cell) s
-
 abbrev cells_of : List Fragment → List Cell
 cells_of fs = cells_in (facts_of (runs fs))
 
@@ -157,10 +151,6 @@ same_fragment (x ∷ fs) f g t k d m n h i = go m n (λ r. same_fragment fs f g 
     go (inl e) (inr o) rest = absurd (apart f g e o h i)
     go (inr e) (inl o) rest = absurd (apart g f o e i h)
     go (inr e) (inr o) rest = rest (pairs_right Differ (cells_in (facts x)) (cells_of fs) whole) e o h i
-
-pub told_cells : (h : History) (s : List Cell) → cells_in (map (fact h) s) ≡ s
-told_cells h [] = refl
-told_cells h (c ∷ s) = ap (λ z. c ∷ z) (told_cells h s)
 
 pub cells_differ : (fs : List Fragment) (h : History) → Lawful h → Tell fs h → EachPair Differ (cells_of fs)
 cells_differ fs h l e = subst (EachPair Differ) (sym (ap cells_in e ∙ told_cells h (cells (seq h)))) (each_cell_once h l).1

@@ -10,11 +10,11 @@ use Rattle.tree_cursor.specs.Keys.{greater, key_less, key_passes, cmp_less, lt_i
 use Rattle.tree_cursor.specs.declared.ready.Greatest.{Greatest}
 use Rattle.tree_cursor.specs.declared.traits.Bias.TheVariants.{Left}
 use Rattle.lamport_clock.specs.declared.stamp.Lamport.{Lamport}
-use Rattle.lamport_clock.specs.Stamps.{same_stamp, stamp_cmp}
+use Rattle.lamport_clock.specs.Stamps.{same_stamp, stamp_cmp, stamp_order}
 use Rattle.lamport_clock.proofs.Order.{is_eq-same}
 use Rattle.fragments.specs.declared.index_entry.IndexKey.{IndexKey}
 use Rattle.fragments.specs.declared.index_entry.IndexEntry.{IndexEntry}
-use Rattle.fragments.specs.Index.{key_of, key_cmp, stamp_order, key_order, IsAscending, first_from, covers, nearest, entry_for, id_for}
+use Rattle.fragments.specs.Index.{key_of, key_cmp, key_order, IsAscending, first_from, covers, nearest, entry_for, id_for}
 use Rattle.undo_map.proofs.Early.{is_equal}
 use Rattle.locators.proofs.Between.{nat_cmp-below, nat_cmp-Less}
 

@@ -7,7 +7,7 @@ use Rattle.std.proofs.lemmas.Cmp.{nat_cmp_total, on_total, back_total, then_tota
 use Rattle.sum_tree.specs.Keyed.{Ascending, insert_item}
 use Rattle.tree_cursor.specs.Keys.{cmp_less}
 use Rattle.lamport_clock.specs.declared.stamp.Lamport.{Lamport}
-use Rattle.lamport_clock.specs.Stamps.{same_stamp, stamp_cmp}
+use Rattle.lamport_clock.specs.Stamps.{same_stamp, stamp_cmp, stamp_order}
 use Rattle.fragments.specs.declared.index_entry.IndexKey.{IndexKey}
 use Rattle.fragments.specs.declared.index_entry.IndexEntry.{IndexEntry}
 
@@ -52,9 +52,6 @@ first_from k [] = None
 first_from k (e ∷ w) = if cmp_less key_cmp (key_of e) k then first_from k w else Some e
 
 -- ---- the order of keys is total
-
-pub stamp_order : IsTotalOrder stamp_cmp
-stamp_order = then_total (on_total (λ (s : Lamport). s.value) nat_cmp_total) (on_total (λ (s : Lamport). s.replica) nat_cmp_total)
 
 pub key_order : IsTotalOrder key_cmp
 key_order = then_total (on_total (λ (k : IndexKey). k.stamp) stamp_order) (on_total (λ (k : IndexKey). k.offset.0) (back_total nat_cmp_total))
