@@ -12,7 +12,7 @@ use Rattle.std.specs.BTreeMap.{is_at}
 use Rattle.std.specs.BTreeSet.{IsKeyInRange, IsKeyRangeOf}
 use Rattle.std.specs.BTreeMap.Range.{IsLeBy}
 use Rattle.lamport_clock.specs.declared.stamp.Lamport.{Lamport}
-use Rattle.lamport_clock.specs.Stamps.{later, same_stamp}
+use Rattle.lamport_clock.specs.Stamps.{later, same_stamp, stamp_cmp}
 use Rattle.lamport_clock.specs.Versions.{Entries, IsVersion, entry, first_unseen, within}
 use Rattle.lamport_clock.proofs.Order.{is_eq-same}
 use Rattle.lamport_clock.proofs.Raises.{by_order}
@@ -22,7 +22,7 @@ use Rattle.op_model.specs.Operations.{stamp_of, version_of}
 use Rattle.op_model.specs.Histories.{operation_at}
 use Rattle.op_model.specs.Steps.{older}
 use Rattle.op_model.proofs.order.PathOrder.{same_stamp_eq, same_stamp_refl}
-use Rattle.deferred_ops.specs.Deferred.{AreListed, Cause, Causes, IsListed, NoneSeen, cause_order, has_cause, is_past, least_ready, misses_nothing, stamp_order, without}
+use Rattle.deferred_ops.specs.Deferred.{AreListed, Cause, Causes, IsListed, NoneSeen, cause_order, has_cause, is_past, least_ready, misses_nothing, without}
 use Rattle.deferred_ops.proofs.Keyed.{same_sym}
 
 -- ---- numbers that come first in an order
@@ -56,7 +56,7 @@ least = record { value = 0; replica = 0 }
 
 in_reach : (r x : ℕ) (t : Lamport) → is_gt (cause_order (r, 0, least) (r, x, t)) ≡ false
 in_reach r x t =
-    ap is_gt (regrouped (nat_cmp r r) (nat_cmp 0 x) (stamp_order least t))
+    ap is_gt (regrouped (nat_cmp r r) (nat_cmp 0 x) (stamp_cmp least t))
     ∙ not_before r r _ (omega arith) (not_before 0 x _ (omega arith) (not_before 0 t.value _ (omega arith) (last (nat_cmp 0 t.replica) (not_before 0 t.replica Equal (omega arith) refl))))
   where
     last : (o : Ordering) → is_gt (ordering_then o Equal) ≡ false → is_gt o ≡ false
@@ -66,7 +66,7 @@ in_reach r x t =
 
 by_parts : (a b : Cause) → is_gt (cause_order a b) ≡ false → (a.0 ≤ b.0) × (a.0 ≡ b.0 → a.1 ≤ b.1)
 by_parts a b h =
-    let parts = sym (ap is_gt (regrouped (nat_cmp a.0 b.0) (nat_cmp a.1 b.1) (stamp_order a.2 b.2))) ∙ h in
+    let parts = sym (ap is_gt (regrouped (nat_cmp a.0 b.0) (nat_cmp a.1 b.1) (stamp_cmp a.2 b.2))) ∙ h in
     (first_at_most a.0 b.0 _ parts, λ q. first_at_most a.1 b.1 _ (then_second a.0 b.0 _ q parts))
 
 abbrev InReach : Causes → ℕ → List Cause → Type 0
@@ -155,7 +155,7 @@ then_eq Greater p e = absurd (true≢false (sym e))
 
 other_stamp : (a b : Cause) → same_stamp a.2 b.2 ≡ false → is_at (cause_order a) b ≡ false
 other_stamp a b apart = elim (cases_Bool (is_at (cause_order a) b)) [
-  | inl e ↦ absurd (true≢false (sym (then_eq (ordering_then (nat_cmp a.0 b.0) (nat_cmp a.1 b.1)) (stamp_order a.2 b.2) e) ∙ is_eq-same a.2 b.2 ∙ apart))
+  | inl e ↦ absurd (true≢false (sym (then_eq (ordering_then (nat_cmp a.0 b.0) (nat_cmp a.1 b.1)) (stamp_cmp a.2 b.2) e) ∙ is_eq-same a.2 b.2 ∙ apart))
   | inr e ↦ e
 ]
 

@@ -8,7 +8,7 @@ use Rattle.std.specs.BTreeSet.{BTreeSet, contains}
 use Rattle.std.specs.declared.ops.Bound.{Bound}
 use Rattle.std.specs.declared.ops.Bound.TheVariants.{Excluded, Unbounded}
 use Rattle.lamport_clock.specs.declared.stamp.Lamport.{Lamport}
-use Rattle.lamport_clock.specs.Stamps.{later, same_stamp}
+use Rattle.lamport_clock.specs.Stamps.{later, same_stamp, stamp_cmp}
 use Rattle.lamport_clock.specs.Versions.{Entries, within}
 use Rattle.op_model.specs.Sorted.{Member}
 use Rattle.op_model.specs.declared.operation.Operation.{Operation}
@@ -48,11 +48,8 @@ start_past (Some t) = Excluded t
 abbrev pub Cause : Type 0
 Cause = ℕ × ℕ × Lamport
 
-abbrev pub stamp_order : Lamport → Lamport → Ordering
-stamp_order s t = ordering_then (nat_cmp s.value t.value) (nat_cmp s.replica t.replica)
-
 abbrev pub cause_order : Cause → Cause → Ordering
-cause_order a b = ordering_then (ordering_then (nat_cmp a.0 b.0) (nat_cmp a.1 b.1)) (stamp_order a.2 b.2)
+cause_order a b = ordering_then (ordering_then (nat_cmp a.0 b.0) (nat_cmp a.1 b.1)) (stamp_cmp a.2 b.2)
 
 abbrev pub Causes : Type 0
 Causes = BTreeSet Cause
