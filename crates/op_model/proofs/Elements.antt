@@ -26,3 +26,7 @@ each_last P (y ∷ xs) x e = each_last P xs x e.1
 pub each_map : {A : Type 0} (P Q : A → Type 0) → ((x : A) → P x → Q x) → (s : List A) → AllByRecursion P s → AllByRecursion Q s
 each_map P Q f [] e = tt
 each_map P Q f (x ∷ s) e = (f x e.0, each_map P Q f s e.1)
+
+pub each_both : {A : Type 0} (P Q R : A → Type 0) → ((x : A) → P x → Q x → R x) → (s : List A) → AllByRecursion P s → AllByRecursion Q s → AllByRecursion R s
+each_both P Q R f [] a b = tt
+each_both P Q R f (x ∷ s) a b = (f x a.0 b.0, each_both P Q R f s a.1 b.1)

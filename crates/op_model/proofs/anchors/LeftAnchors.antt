@@ -2,7 +2,7 @@
 use Rattle.std.proofs.Common.{◌≡◌, ℕ, zero, suc, ◌<◌, ◌≤◌, ◌⊎◌, Bool, List, [], ◌∷◌, ◌++◌, length, map, get_or, refl, sym, ◌∙◌, ap, subst, inl, inr, true, false, cond, eqb, ltb, arith, Some, None, Option}
 use Rattle.std.specs.Prelude.{option_map, slice_get, is_some, not, IsCharBoundary}
 use Rattle.std.specs.List.{AllByRecursion, filter}
-use Rattle.std.proofs.lemmas.Bool.{cases_Bool, ltb-false, le-leb}
+use Rattle.std.proofs.lemmas.Bool.{cases_Bool, ltb-false, le-leb, not-false}
 use Rattle.std.proofs.lemmas.Bool.Decides.{nat_tests}
 use Rattle.std.proofs.lemmas.List.{length-map, map-append}
 use Rattle.op_model.specs.declared.anchor.Anchor.{Anchor}
@@ -134,10 +134,6 @@ module _ (h : History) (l : Lawful h) (proper : AllByRecursion IsProper h) where
           subst (λ (x : Anchor). is_known h x ≡ true) j
           (rw (edit_there h c.stamp c.k n, w, le-leb 1 (suc c.k) (omega arith), le-leb (suc c.k) (length (new_bytes h c.stamp)) (omega (arith, n))) refl)
 
-  not_true : (b : Bool) → not b ≡ false → b ≡ true
-  not_true true e = refl
-  not_true false e = cc
-
   number_of : length (text h) ≡ length (shown_cells h)
   number_of = ap length (text_is h d) ∙ length-map (shown_cells h) (byte h)
 
@@ -169,7 +165,7 @@ module _ (h : History) (l : Lawful h) (proper : AllByRecursion IsProper h) where
       within = ltb-false (length (text h)) o (when_none (ltb (length (text h)) o) (PastEnd (length (text h))) parts.0)
 
       bound : is_boundary (text h) o ≡ true
-      bound = not_true (is_boundary (text h) o) (when_none (not (is_boundary (text h) o)) InsideChar (first_none (when (not (is_boundary (text h) o)) InsideChar) [] parts.1).0)
+      bound = not-false (is_boundary (text h) o) (when_none (not (is_boundary (text h) o)) InsideChar (first_none (when (not (is_boundary (text h) o)) InsideChar) [] parts.1).0)
 
       left_back : (a : Anchor) → left_anchor h o ≡ Some a → known_place h a ≡ Some o
       left_back a i = let k = left_known o a bound i in rw k (ap Some (left_place h d o a i))

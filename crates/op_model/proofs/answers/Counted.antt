@@ -1,7 +1,8 @@
 -- What Good says of an operation's pieces and counts: the pieces are in order, and undos count edits that are there.
 use Rattle.op_model.proofs.Elements.{each_map}
 use Rattle.std.proofs.Common.{◌≡◌, ℕ, suc, ◌≤◌, ◌⊎◌, Bool, List, [], ◌∷◌, ◌++◌, length, append_assoc, refl, sym, subst, inl, inr, true, false, cond, not, ◌||◌, ◌&&◌, ltb, arith, Some, None}
-use Rattle.std.proofs.lemmas.Bool.{cases_Bool, ltb-false, not-false}
+use Rattle.std.proofs.lemmas.List.{append-nil}
+use Rattle.std.proofs.lemmas.Bool.{cases_Bool, ltb-false, not-false, or_right}
 use Rattle.lamport_clock.specs.declared.stamp.Lamport.{Lamport}
 use Rattle.op_model.specs.declared.operation.Operation.{Operation}
 use Rattle.op_model.specs.Histories.{History, newest_first, seen_history, has_edit, base, In}
@@ -22,7 +23,7 @@ use Rattle.op_model.specs.Answers.{answer}
 use Rattle.op_model.specs.Answers.Answer.{Good}
 use Rattle.op_model.proofs.histories.Lawful.{in_append}
 use Rattle.op_model.proofs.answers.Passed.{passed, shaped, ranged, find_none, map_none}
-use Rattle.op_model.proofs.answers.Good.{seen_length, append_nil}
+use Rattle.op_model.proofs.answers.Good.{seen_length}
 use Rattle.op_model.proofs.order.PathOrder.{same_stamp_eq}
 use Rattle.op_model.proofs.order.SameSets.{newest_same}
 
@@ -58,15 +59,11 @@ counts_there h op e =
 abbrev pub Counted : History → Type 0
 Counted h = (o : Operation) → In h o → AllByRecursion (λ (c : UndoCount). has_edit h c.edit ≡ true) (counts_of o)
 
-or_yes : (a b : Bool) → b ≡ true → (a || b) ≡ true
-or_yes true b e = refl
-or_yes false b e = e
-
 seen_there : (v : Entries) (h : History) (t : Lamport) → has_edit (seen_history h v) t ≡ true → has_edit h t ≡ true
 seen_there v [] t e = e
 seen_there v (o ∷ h) t e = elim (cases_Bool (sees v (stamp_of o))) [
   | inl s ↦ both (is_edit o && same_stamp (stamp_of o) t) (seen_there v h t) (rw s at e)
-  | inr s ↦ or_yes (is_edit o && same_stamp (stamp_of o) t) (has_edit h t) (seen_there v h t (rw s at e))
+  | inr s ↦ or_right (is_edit o && same_stamp (stamp_of o) t) (has_edit h t) (seen_there v h t (rw s at e))
 ]
   where
     both : (b : Bool) → (has_edit (seen_history h v) t ≡ true → has_edit h t ≡ true) → (b || has_edit (seen_history h v) t) ≡ true → (b || has_edit h t) ≡ true
@@ -120,7 +117,7 @@ pub uncounted_new : (h : History) (t : Lamport) → Counted h → AllByRecursion
 uncounted_new h t c n = count_none (newest_first h) t (λ o i. given_none h t (counts_of o) n (c o ((newest_same h o).0 i)))
 
 counted_from : (h : History) (ops : List Operation) → Counted h → LawfulFrom h ops → Counted (h ++ ops)
-counted_from h [] c l = subst Counted (sym (append_nil h)) c
+counted_from h [] c l = subst Counted (sym (append-nil h)) c
 counted_from h (op ∷ ops) c l = subst Counted (append_assoc h (op ∷ []) ops) (counted_from (h ++ op ∷ []) ops (counted_more h op c l.0) l.1)
 
 pub lawful_counted : (h : History) → Lawful h → Counted h

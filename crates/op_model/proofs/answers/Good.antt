@@ -1,6 +1,7 @@
 -- From the answer Good to the sequence with one more operation.
 use Rattle.op_model.proofs.Elements.{each_map}
-use Rattle.std.proofs.Common.{◌≡◌, ℕ, suc, ◌<◌, ◌≤◌, ◌⊎◌, Bool, List, [], ◌∷◌, ◌++◌, length, map, refl, sym, ◌∙◌, ap, subst, inl, inr, true, false, not, ◌||◌, ◌&&◌, eqb, ltb, leb, arith, append_assoc, None}
+use Rattle.std.proofs.Common.{◌≡◌, ℕ, ◌<◌, ◌≤◌, ◌⊎◌, Bool, List, [], ◌∷◌, ◌++◌, length, refl, sym, ◌∙◌, ap, subst, inl, inr, true, false, not, ◌&&◌, eqb, ltb, leb, arith, append_assoc, None}
+use Rattle.std.proofs.lemmas.List.{append-nil, length-map}
 use Rattle.std.proofs.lemmas.Bool.{cases_Bool, and_parts, or_cases, leb-true, leb-false, ltb-false, eqb-true, le-leb, lt-ltb, cases_lt, not-false}
 use Rattle.std.proofs.lemmas.Bool.Decides.{nat_tests}
 use Rattle.lamport_clock.specs.declared.stamp.Lamport.{Lamport}
@@ -49,6 +50,15 @@ apart_of : (op : Operation) (h : History)
 apart_of op [] f = tt
 apart_of op (o ∷ h) f = (f o (inl refl), apart_of op h (λ p i. f p (inr i)))
 
+-- what stands in the history has not seen a new operation
+pub new_unseen : (h : History) (op : Operation) → LawInv h → Checked h op → (o : Operation) → In h o → sees (version_of o) (stamp_of op) ≡ false
+new_unseen h op inv c o i = go (cases_Bool (sees (version_of o) (stamp_of op)))
+  where
+    go : (sees (version_of o) (stamp_of op) ≡ true) ⊎ (sees (version_of o) (stamp_of op) ≡ false) → sees (version_of o) (stamp_of op) ≡ false
+    go (inl s) = let l = leb-true (stamp_of op).value (entry (version_of o) (stamp_of op).replica) s in
+        let g = inv.caused o i (stamp_of op).replica in let k = c.chained in let n = c.above (stamp_of op).replica in absurd (omega arith)
+    go (inr s) = s
+
 pub fits_of : (h : History) (op : Operation) → LawInv h → Checked h op
     → AllByRecursion (λ (p : Piece). p.start ≤ length (seq_where (sees (version_of op)) (newest_first h))) (pieces_of op) → Fits h op
 fits_of h op inv c st = record {
@@ -69,13 +79,8 @@ fits_of h op inv c st = record {
         le-leb (stamp_of p).value (entry (version_of op) (stamp_of p).replica) (omega arith))
 
     apart : Apart op (newest_first h)
-    apart = apart_of op (newest_first h) (λ o i n. (unseen o ((newest_same h o).0 i) (cases_Bool (sees (version_of o) (stamp_of op))), unseeing o n (cases_Bool (sees (version_of op) (stamp_of o)))))
+    apart = apart_of op (newest_first h) (λ o i n. (new_unseen h op inv c o ((newest_same h o).0 i), unseeing o n (cases_Bool (sees (version_of op) (stamp_of o)))))
       where
-        unseen : (o : Operation) → In h o → (sees (version_of o) (stamp_of op) ≡ true) ⊎ (sees (version_of o) (stamp_of op) ≡ false) → sees (version_of o) (stamp_of op) ≡ false
-        unseen o i (inl s) = let l = leb-true (stamp_of op).value (entry (version_of o) (stamp_of op).replica) s in
-            let g = inv.caused o i (stamp_of op).replica in let k = c.chained in let n = c.above (stamp_of op).replica in absurd (omega arith)
-        unseen o i (inr s) = s
-
         unseeing : (o : Operation) → newer o op ≡ true → (sees (version_of op) (stamp_of o) ≡ true) ⊎ (sees (version_of op) (stamp_of o) ≡ false) → sees (version_of op) (stamp_of o) ≡ false
         unseeing o n (inl s) = absurd (not_newer (stamp_of op) (stamp_of o) n (above (stamp_of o) s))
         unseeing o n (inr s) = s
@@ -87,10 +92,6 @@ stamp_none h op e = each_map (λ (o : Operation). same_stamp (stamp_of o) (stamp
     differ : (s t : Lamport) → s ≡ t → same_stamp s t ≡ false → ⊥
     differ s t q n = let r : same_stamp t t ≡ false = subst (λ (x : Lamport). same_stamp x t ≡ false) q n in
         let i = same_stamp_refl t in cc
-
-pub append_nil : (h : History) → h ++ [] ≡ h
-append_nil [] = refl
-append_nil (o ∷ h) = ap (λ (x : History). o ∷ x) (append_nil h)
 
 -- what holds of each entry holds of what the version says of r
 pub each_entry : (P : ℕ × ℕ → Type 0) (v : Entries) (r : ℕ) → AllByRecursion P v → 0 < entry v r → P (r, entry v r)
@@ -115,13 +116,9 @@ entry_named (o ∷ h) v e t = go (or_cases (same_stamp (stamp_of o) (record { va
         (o, inl refl, same_stamp_eq (stamp_of o) (record { value = e.1; replica = e.0 }) a.0, λ q. entry_within (version_of o) v q a.1)
     go (inr z) f = let w = f z in (w.0, inr w.1, w.2, w.3)
 
-pub map_length : {A B : Type 0} (f : A → B) (xs : List A) → length (map f xs) ≡ length xs
-map_length f [] = refl
-map_length f (x ∷ xs) = ap suc (map_length f xs)
-
 pub full_length : (keep : Lamport → Bool) (h : History) → length (full_where keep h) ≡ length (seq_where keep h)
 unfolding full_where
-full_length keep h = map_length (byte h) (cells (seq_where keep h)) ∙ map_length (λ (p : PathCell). p.cell) (seq_where keep h)
+full_length keep h = length-map (cells (seq_where keep h)) (byte h) ∙ length-map (seq_where keep h) (λ (p : PathCell). p.cell)
 
 pub seen_length : (h : History) (v : Entries) → length (full (seen_history h v)) ≡ length (seq_where (sees v) (newest_first h))
 seen_length h v = ap length (full_seen h v) ∙ full_length (sees v) (newest_first h)
@@ -174,7 +171,7 @@ checked_of h op e =
     let p = passed h [] op e in
     let s = shaped op p.shape in
     let t = stamp_parts op s.stamp in
-    let n : any_stamp h op ≡ false = subst (λ (x : History). any_stamp x op ≡ false) (append_nil h) p.fresh in
+    let n : any_stamp h op ≡ false = subst (λ (x : History). any_stamp x op ≡ false) (append-nil h) p.fresh in
     let f = when_none (ltb (entry (version_of op) (stamp_of op).replica) (entry (version h) (stamp_of op).replica)) (Forked (entry (version h) (stamp_of op).replica)) p.chained in
     let r = ranged (full (seen_history h (version_of op))) (pieces_of op) p.ranges in
     let q : AllByRecursion (λ (x : Piece). is_past (length (seq_where (sees (version_of op)) (newest_first h))) x ≡ false) (pieces_of op) =
@@ -205,7 +202,7 @@ good_more h op r e =
     ((law_step h op r.0 c.0, m.0), m.1)
 
 ready_from : (h : History) (ops : List Operation) → Ready h → LawfulFrom h ops → Ready (h ++ ops)
-ready_from h [] r l = subst Ready (sym (append_nil h)) r
+ready_from h [] r l = subst Ready (sym (append-nil h)) r
 ready_from h (op ∷ ops) r l = subst Ready (append_assoc h (op ∷ []) ops) (ready_from (h ++ op ∷ []) ops (good_more h op r l.0).0 l.1)
 
 pub lawful_ready : (h : History) → Lawful h → Ready h

@@ -1,6 +1,7 @@
 -- An operation with the clock's stamp and the version of a lawful history passes every case but those of its pieces and counts.
 use Rattle.op_model.proofs.Elements.{each_map}
 use Rattle.std.proofs.Common.{◌≡◌, ℕ, ◌<◌, ◌≤◌, ◌⊎◌, Bool, [], ◌∷◌, ◌++◌, refl, sym, ◌∙◌, ap, subst, inl, inr, true, false, cond, not, ◌||◌, ◌&&◌, eqb, ltb, leb, arith, None}
+use Rattle.std.proofs.lemmas.List.{append-nil}
 use Rattle.std.proofs.lemmas.Bool.{cases_Bool, lt-leb, le-ltb, cases_lt, and_parts}
 use Rattle.std.proofs.lemmas.Bool.Decides.{nat_tests}
 use Rattle.std.specs.List.{AllByRecursion, find, list_any}
@@ -18,7 +19,6 @@ use Rattle.op_model.specs.Lawful.{Lawful}
 use Rattle.op_model.proofs.order.PathOrder.{same_stamp_eq, same_stamp_refl}
 use Rattle.op_model.proofs.histories.Lawful.{greatest, entry_version}
 use Rattle.op_model.proofs.answers.Passed.{none_find, none_map, none_when, none_any}
-use Rattle.op_model.proofs.answers.Good.{append_nil}
 use Rattle.op_model.proofs.histories.VersionLaws.{clock_above, clock_under, Stamped, InRange, stamped_from, version_is, own_entries, has_greatest, lawful_caused, caused_within}
 use Rattle.op_model.proofs.answers.SameAnswers.{any_in}
 
@@ -122,7 +122,7 @@ module _ (h : History) (l : Lawful h) (st : Stamps h) (open_clock : eqb (clock h
   own_base r op o = let e : entry (version_of op) 0 ≡ 1 = ap (λ (v : Entries). entry v 0) o.1 ∙ entry_version h 0 ∙ st.base_value in rw e refl
 
   pub own_fresh : (r : ℕ) (op : Operation) → Own r op → any_stamp (h ++ []) op ≡ false
-  own_fresh r op o = subst (λ (x : History). any_stamp x op ≡ false) (sym (append_nil h)) (none_any (λ x. same_stamp (stamp_of x) (stamp_of op)) h
+  own_fresh r op o = subst (λ (x : History). any_stamp x op ≡ false) (sym (append-nil h)) (none_any (λ x. same_stamp (stamp_of x) (stamp_of op)) h
       (each_map (λ (x : Operation). (stamp_of x).value < clock h) (λ (x : Operation). same_stamp (stamp_of x) (stamp_of op) ≡ false) (λ x a. other x a (cases_Bool (same_stamp (stamp_of x) (stamp_of op)))) h past))
     where
       other : (x : Operation) → (stamp_of x).value < clock h → (same_stamp (stamp_of x) (stamp_of op) ≡ true) ⊎ (same_stamp (stamp_of x) (stamp_of op) ≡ false) → same_stamp (stamp_of x) (stamp_of op) ≡ false

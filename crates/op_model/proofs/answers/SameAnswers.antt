@@ -1,7 +1,7 @@
 -- Texts, anchors and edits since hang on the set of operations alone.
-use Rattle.std.proofs.Common.{◌≡◌, ℕ, zero, suc, ◌<◌, ◌⊎◌, Bool, List, [], ◌∷◌, length, map, get_or, refl, sym, ◌∙◌, ap, subst, inl, inr, true, false, ◌&&◌, ◌||◌}
+use Rattle.std.proofs.Common.{◌≡◌, ℕ, zero, suc, ◌<◌, ◌⊎◌, Bool, List, [], ◌∷◌, length, map, get_or, refl, sym, ◌∙◌, ap, subst, inl, inr, true, false, ◌&&◌}
 use Rattle.std.specs.List.{AllByRecursion, filter, list_any}
-use Rattle.std.proofs.lemmas.Bool.{cases_Bool, or_cases}
+use Rattle.std.proofs.lemmas.Bool.{cases_Bool, or_cases, or_right}
 use Rattle.lamport_clock.specs.declared.stamp.Lamport.{Lamport}
 use Rattle.lamport_clock.specs.Stamps.{same_stamp}
 use Rattle.lamport_clock.specs.Versions.{Entries, sees}
@@ -53,10 +53,6 @@ any_in t (o ∷ h) m i e = elim i [
   | inl q ↦ (let f : t o ≡ true = subst (λ (x : Operation). t x ≡ true) q e in rw f refl)
   | inr n ↦ or_right (t o) (list_any t h) (any_in t h m n e)
 ]
-  where
-    or_right : (a c : Bool) → c ≡ true → (a || c) ≡ true
-    or_right true c e = refl
-    or_right false c e = e
 
 pub any_from : (t : Operation → Bool) (h : History) → list_any t h ≡ true → (m : Operation) × In h m × (t m ≡ true)
 any_from t [] e = cc

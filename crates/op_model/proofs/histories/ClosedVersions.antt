@@ -1,5 +1,6 @@
 -- Closed versions: that of a front sees that front, and what one sees is lawful, with the cells and the deletions that it sees.
 use Rattle.std.proofs.Common.{◌≡◌, ℕ, suc, ◌<◌, ◌≤◌, ◌⊎◌, Bool, List, [], ◌∷◌, ◌++◌, map, refl, sym, ◌∙◌, ap, subst, inl, inr, true, false, cond, not, ◌&&◌, eqb, ltb, leb, arith, append_assoc}
+use Rattle.std.proofs.lemmas.List.{append-nil}
 use Rattle.std.specs.List.{AllByRecursion, filter}
 use Rattle.std.proofs.lemmas.Bool.{cases_Bool, and_parts, leb-true, le-leb, cases_lt}
 use Rattle.std.proofs.lemmas.Bool.Decides.{nat_tests}
@@ -27,7 +28,7 @@ use Rattle.op_model.proofs.shown.Deleters.{kept_all}
 use Rattle.op_model.proofs.shown.OnePass.{undone_newest, all_newest}
 use Rattle.op_model.proofs.shown.Parts.{deleters_part}
 use Rattle.op_model.proofs.answers.Passed.{passed, shaped}
-use Rattle.op_model.proofs.answers.Good.{in_tail, checked_of, stamp_parts, append_nil}
+use Rattle.op_model.proofs.answers.Good.{in_tail, checked_of, stamp_parts}
 use Rattle.op_model.proofs.shown.Deletions.{deleters_restrict}
 use Rattle.op_model.proofs.histories.VersionLaws.{lawful_caused, caused_within, seen_all, own_entries, shaped_good, each_lawful}
 use Rattle.op_model.proofs.histories.MoreLawful.{lawful_more, lawful_parts}
@@ -107,7 +108,7 @@ front_seen (b ∷ h) g l m =
     let f : LawfulFrom (b ∷ h) g = (lawful_parts (b ∷ []) h g m.1).1 in
     filter-append (λ (o : Operation). sees (version (b ∷ h)) (stamp_of o)) (b ∷ h) g
     ∙ ap (λ (x : History). seen_history (b ∷ h) (version (b ∷ h)) ++ x) (none_kept (sees (version (b ∷ h))) g (behind_unseen (b ∷ h) (b ∷ h) g (λ r. omega arith) f))
-    ∙ append_nil (seen_history (b ∷ h) (version (b ∷ h))) ∙ seen_all (b ∷ h)
+    ∙ append-nil (seen_history (b ∷ h) (version (b ∷ h))) ∙ seen_all (b ∷ h)
 
 pub fronts_seen : (h g : History) → Lawful h → Lawful (h ++ g) → IsClosed (h ++ g) (version h) × (seen_history (h ++ g) (version h) ≡ h)
 fronts_seen h g l m = ((front_within h g, of_opens (h ++ g) (version h) (front_opens h g l)), front_seen h g l m)
@@ -184,13 +185,13 @@ module _ (h : History) (l : Lawful h) (v : Entries) (c : IsClosed h v) where
   seen_more p op = filter-append (λ (o : Operation). sees v (stamp_of o)) p (op ∷ [])
 
   lawful_from : (p ops : List Operation) → ((o : Operation) → In ops o → In h o) → Lawful p → LawfulFrom p ops → Lawful (seen_history p v) → Lawful (seen_history (p ++ ops) v)
-  lawful_from p [] f lp ll ls = subst (λ (x : History). Lawful (seen_history x v)) (sym (append_nil p)) ls
+  lawful_from p [] f lp ll ls = subst (λ (x : History). Lawful (seen_history x v)) (sym (append-nil p)) ls
   lawful_from p (op ∷ ops) f lp ll ls = subst (λ (x : History). Lawful (seen_history x v)) (append_assoc p (op ∷ []) ops)
       (lawful_from (p ++ op ∷ []) ops (λ o i. f o (inr i)) (lawful_more p op lp ll.0) ll.1 (one (cases_Bool (sees v (stamp_of op)))))
     where
       one : (sees v (stamp_of op) ≡ true) ⊎ (sees v (stamp_of op) ≡ false) → Lawful (seen_history (p ++ op ∷ []) v)
       one (inl s) = rw (seen_more p op, s) (lawful_more (seen_history p v) op ls (good_in_part p op lp ll.0 ls (causes op (f op (inl refl)) s)))
-      one (inr s) = rw (seen_more p op, s) (subst Lawful (sym (append_nil (seen_history p v))) ls)
+      one (inr s) = rw (seen_more p op, s) (subst Lawful (sym (append-nil (seen_history p v))) ls)
 
 seen_lawful : (h : History) (l : Lawful h) (v : Entries) → IsClosed h v → sees v (record { value = 1; replica = 0 }) ≡ true → Lawful (seen_history h v)
 seen_lawful [] l v c s = absurd l

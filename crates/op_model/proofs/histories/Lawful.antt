@@ -1,7 +1,7 @@
 -- A lawful history has what the sequence needs.
 use Rattle.std.proofs.Common.{◌≡◌, ℕ, ◌<◌, ◌≤◌, ◌⊎◌, max, Bool, [], ◌∷◌, ◌++◌, refl, sym, ◌∙◌, ap, subst, inl, inr, true, false, cond, eqb, ltb, arith}
 use Rattle.std.specs.List.{AllByRecursion}
-use Rattle.std.proofs.lemmas.Bool.{cases_Bool, leb-true, eqb-true, le-leb, leb-false, cases_lt}
+use Rattle.std.proofs.lemmas.Bool.{cases_Bool, leb-true, eqb-true, le-leb, leb-false, cases_lt, eq-eqb}
 use Rattle.std.proofs.lemmas.Bool.Decides.{nat_tests}
 use Rattle.lamport_clock.specs.declared.stamp.Lamport.{Lamport}
 use Rattle.op_model.specs.declared.operation.Operation.{Operation}
@@ -48,9 +48,6 @@ entry_raise v t r = go (cases_Bool (sees v t)) (cases_Bool (eqb t.replica r))
         let p : entry (put_entry t.replica t.value v) r ≡ t.value = entry_put t.replica t.value v r ∙ ap (λ (b : Bool). cond b t.value (entry v r)) e in rw (s, e) (p ∙ omega arith)
     go (inr s) (inr e) = let p : entry (put_entry t.replica t.value v) r ≡ entry v r = entry_put t.replica t.value v r ∙ ap (λ (b : Bool). cond b t.value (entry v r)) e in rw (s, e) p
 
-eqb-refl-true : (x : ℕ) → eqb x x ≡ true
-eqb-refl-true x = grind (arith, nat_tests)
-
 pub entry_version : (h : History) (r : ℕ) → entry (version h) r ≡ greatest h r
 entry_version [] r = refl
 entry_version (o ∷ h) r = entry_raise (version h) (stamp_of o) r
@@ -63,7 +60,7 @@ max_left false x y = omega arith
 pub greatest_in : (h : History) (o : Operation) → In h o → (stamp_of o).value ≤ greatest h (stamp_of o).replica
 greatest_in [] o i = absurd i
 greatest_in (p ∷ h) o i = elim i [
-  | inl e ↦ subst (λ (x : Operation). (stamp_of x).value ≤ greatest (p ∷ h) (stamp_of x).replica) (sym e) (here (eqb-refl-true (stamp_of p).replica))
+  | inl e ↦ subst (λ (x : Operation). (stamp_of x).value ≤ greatest (p ∷ h) (stamp_of x).replica) (sym e) (here (eq-eqb (stamp_of p).replica (stamp_of p).replica refl))
   | inr j ↦ (let g = greatest_in h o j in let m = max_left (eqb (stamp_of p).replica (stamp_of o).replica) (greatest h (stamp_of o).replica) (stamp_of p).value in omega arith)
 ]
   where

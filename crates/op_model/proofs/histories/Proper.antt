@@ -3,8 +3,7 @@ use Rattle.op_model.proofs.Elements.{each_map}
 use Rattle.std.proofs.Common.{◌≡◌, ℕ, ◌<◌, Bool, List, [], ◌∷◌, ◌++◌, map, refl, ◌∙◌, ap, true, ◌&&◌, eqb, arith, None}
 use Rattle.std.specs.List.{AllByRecursion}
 use Rattle.std.specs.Prelude.{IsUtf8}
-use Rattle.std.proofs.lemmas.Bool.{and_parts, eqb-true}
-use Rattle.std.proofs.lemmas.Bool.Decides.{nat_tests}
+use Rattle.std.proofs.lemmas.Bool.{and_parts, eqb-true, and_from, eq-eqb}
 use Rattle.lamport_clock.specs.declared.stamp.Lamport.{Lamport}
 use Rattle.lamport_clock.specs.Stamps.{same_stamp}
 use Rattle.lamport_clock.specs.Versions.{Entries}
@@ -65,12 +64,6 @@ undo_proper l h r ts f = let c = clock_under h (sound_undo l h ts f).open_clock 
 
 -- ---- equality
 
-both : (a b : Bool) → a ≡ true → b ≡ true → (a && b) ≡ true
-both a b e f = rw (e, f) refl
-
-eqb_self : (x : ℕ) → eqb x x ≡ true
-eqb_self x = grind (arith, nat_tests)
-
 list_eq : {A : Type 0} (same : A → A → Bool) → ((x y : A) → same x y ≡ true → x ≡ y) → (xs ys : List A) → same_list same xs ys ≡ true → xs ≡ ys
 list_eq same f [] [] e = refl
 list_eq same f [] (y ∷ ys) e = cc
@@ -81,7 +74,7 @@ list_eq same f (x ∷ xs) (y ∷ ys) e =
 
 list_refl : {A : Type 0} (same : A → A → Bool) → ((x : A) → same x x ≡ true) → (xs : List A) → same_list same xs xs ≡ true
 list_refl same f [] = refl
-list_refl same f (x ∷ xs) = both (same x x) (same_list same xs xs) (f x) (list_refl same f xs)
+list_refl same f (x ∷ xs) = and_from (same x x) (same_list same xs xs) (f x) (list_refl same f xs)
 
 pair_eq : (d e : ℕ × ℕ) → (eqb d.0 e.0 && eqb d.1 e.1) ≡ true → d ≡ e
 pair_eq d e q = let a = and_parts (eqb d.0 e.0) (eqb d.1 e.1) q in let x = eqb-true d.0 e.0 a.0 in let y = eqb-true d.1 e.1 a.1 in λ i. (x i, y i)
@@ -103,7 +96,7 @@ count_eq c d e =
     λ i. record { edit = x i; count = y i }
 
 version_refl : (v : Entries) → same_version v v ≡ true
-version_refl v = list_refl (λ (d e : ℕ × ℕ). eqb d.0 e.0 && eqb d.1 e.1) (λ x. both (eqb x.0 x.0) (eqb x.1 x.1) (eqb_self x.0) (eqb_self x.1)) v
+version_refl v = list_refl (λ (d e : ℕ × ℕ). eqb d.0 e.0 && eqb d.1 e.1) (λ x. and_from (eqb x.0 x.0) (eqb x.1 x.1) (eq-eqb x.0 x.0 refl) (eq-eqb x.1 x.1 refl)) v
 
 pub same_is : (a b : Operation) → same_op a b ≡ true → a ≡ b
 same_is (Edit a) (Edit b) e =
@@ -124,9 +117,9 @@ same_is (Undo a) (Undo b) e =
     λ i. Undo (record { stamp = x i; version = y i; counts = z i })
 
 pub is_same : (a : Operation) → same_op a a ≡ true
-is_same (Edit a) = both (same_stamp a.stamp a.stamp && same_version a.version a.version) (same_list same_piece a.pieces a.pieces)
-    (both (same_stamp a.stamp a.stamp) (same_version a.version a.version) (same_stamp_refl a.stamp) (version_refl a.version))
-    (list_refl same_piece (λ p. both (eqb p.start p.start && eqb p.end p.end) (same_list (λ x y. eqb x y) p.text p.text) (both (eqb p.start p.start) (eqb p.end p.end) (eqb_self p.start) (eqb_self p.end)) (list_refl (λ x y. eqb x y) eqb_self p.text)) a.pieces)
-is_same (Undo a) = both (same_stamp a.stamp a.stamp && same_version a.version a.version) (same_list same_count a.counts a.counts)
-    (both (same_stamp a.stamp a.stamp) (same_version a.version a.version) (same_stamp_refl a.stamp) (version_refl a.version))
-    (list_refl same_count (λ c. both (same_stamp c.edit c.edit) (eqb c.count c.count) (same_stamp_refl c.edit) (eqb_self c.count)) a.counts)
+is_same (Edit a) = and_from (same_stamp a.stamp a.stamp && same_version a.version a.version) (same_list same_piece a.pieces a.pieces)
+    (and_from (same_stamp a.stamp a.stamp) (same_version a.version a.version) (same_stamp_refl a.stamp) (version_refl a.version))
+    (list_refl same_piece (λ p. and_from (eqb p.start p.start && eqb p.end p.end) (same_list (λ x y. eqb x y) p.text p.text) (and_from (eqb p.start p.start) (eqb p.end p.end) (eq-eqb p.start p.start refl) (eq-eqb p.end p.end refl)) (list_refl (λ x y. eqb x y) (λ x. eq-eqb x x refl) p.text)) a.pieces)
+is_same (Undo a) = and_from (same_stamp a.stamp a.stamp && same_version a.version a.version) (same_list same_count a.counts a.counts)
+    (and_from (same_stamp a.stamp a.stamp) (same_version a.version a.version) (same_stamp_refl a.stamp) (version_refl a.version))
+    (list_refl same_count (λ c. and_from (same_stamp c.edit c.edit) (eqb c.count c.count) (same_stamp_refl c.edit) (eq-eqb c.count c.count refl)) a.counts)

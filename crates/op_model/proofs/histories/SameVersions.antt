@@ -2,7 +2,7 @@
 use Rattle.std.proofs.Common.{◌≡◌, ℕ, suc, ◌<◌, ◌≤◌, ◌⊎◌, List, [], ◌∷◌, length, refl, sym, ◌∙◌, ap, subst, inl, inr, true, false, ◌&&◌, eqb, ltb, arith}
 use Rattle.std.specs.Prelude.{option_map, not}
 use Rattle.std.specs.List.{find}
-use Rattle.std.proofs.lemmas.Bool.{cases_Bool, eqb-true, ltb-true, ltb-false, leb-false, cases_lt}
+use Rattle.std.proofs.lemmas.Bool.{cases_Bool, eqb-true, ltb-true, ltb-false, leb-false, cases_lt, eq-eqb}
 use Rattle.std.proofs.lemmas.Bool.Decides.{nat_tests}
 use Rattle.lamport_clock.specs.Stamps.{same_stamp}
 use Rattle.lamport_clock.specs.Versions.{Entries, AreEntriesFrom, entry, sees, within, put_entry}
@@ -50,20 +50,17 @@ below n (e ∷ v) r i l = let a = i.0 in let t = apart e.0 r (omega arith) in rw
     apart : (x y : ℕ) → y < x → eqb x y ≡ false
     apart x y h = grind (arith, nat_tests)
 
-here : (x : ℕ) → eqb x x ≡ true
-here x = grind (arith, nat_tests)
-
 entries_same : (n : ℕ) (u v : Entries) → AreEntriesFrom n u → AreEntriesFrom n v → ((r : ℕ) → entry u r ≡ entry v r) → u ≡ v
 entries_same n [] [] i j f = refl
-entries_same n [] (e ∷ v) i j f = let t : eqb e.0 e.0 ≡ true = here e.0 in let z : ◌≡◌ {A = ℕ} 0 e.1 = rw t at (f e.0) in let p = j.1 in absurd (omega arith)
-entries_same n (d ∷ u) [] i j f = let t : eqb d.0 d.0 ≡ true = here d.0 in let z : d.1 ≡ 0 = rw t at (f d.0) in let p = i.1 in absurd (omega arith)
+entries_same n [] (e ∷ v) i j f = let t : eqb e.0 e.0 ≡ true = eq-eqb e.0 e.0 refl in let z : ◌≡◌ {A = ℕ} 0 e.1 = rw t at (f e.0) in let p = j.1 in absurd (omega arith)
+entries_same n (d ∷ u) [] i j f = let t : eqb d.0 d.0 ≡ true = eq-eqb d.0 d.0 refl in let z : d.1 ≡ 0 = rw t at (f d.0) in let p = i.1 in absurd (omega arith)
 entries_same n (d ∷ u) (e ∷ v) i j f = go (cases_lt d.0 e.0) (cases_lt e.0 d.0) (λ m a b c. entries_same m u v a b c)
   where
     at_d : entry (d ∷ u) d.0 ≡ d.1
-    at_d = let t : eqb d.0 d.0 ≡ true = here d.0 in rw t refl
+    at_d = let t : eqb d.0 d.0 ≡ true = eq-eqb d.0 d.0 refl in rw t refl
 
     at_e : entry (e ∷ v) e.0 ≡ e.1
-    at_e = let t : eqb e.0 e.0 ≡ true = here e.0 in rw t refl
+    at_e = let t : eqb e.0 e.0 ≡ true = eq-eqb e.0 e.0 refl in rw t refl
 
     tails : d.0 ≡ e.0 → (r : ℕ) → entry u r ≡ entry v r
     tails q r = elim (cases_lt d.0 r) [

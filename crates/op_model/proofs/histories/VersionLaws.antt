@@ -1,7 +1,7 @@
 -- What the version and the clock of a lawful history say of its operations.
-use Rattle.op_model.proofs.Elements.{each_map}
-use Rattle.std.proofs.Common.{◌≡◌, ℕ, suc, ◌+◌, ◌<◌, ◌≤◌, ◌⊎◌, max, min, Bool, List, [], ◌∷◌, ◌++◌, refl, sym, ap, subst, inl, inr, true, false, ◌||◌, eqb, ltb, leb, arith}
-use Rattle.std.proofs.lemmas.Bool.{cases_Bool, eqb-true, leb-false, ltb-false, le-leb, cases_lt}
+use Rattle.op_model.proofs.Elements.{each_map, each_both}
+use Rattle.std.proofs.Common.{◌≡◌, ℕ, suc, ◌+◌, ◌<◌, ◌≤◌, ◌⊎◌, max, min, Bool, List, [], ◌∷◌, ◌++◌, refl, sym, ap, subst, inl, inr, true, false, eqb, ltb, leb, arith}
+use Rattle.std.proofs.lemmas.Bool.{cases_Bool, eqb-true, leb-false, ltb-false, le-leb, cases_lt, eq-eqb}
 use Rattle.std.proofs.lemmas.Bool.Decides.{nat_tests}
 use Rattle.std.specs.List.{AllByRecursion}
 use Rattle.lamport_clock.specs.declared.stamp.Lamport.{Lamport}
@@ -79,12 +79,8 @@ each_lawful P h (o ∷ ops) f l = (f h o l.0, each_lawful P (h ++ o ∷ []) ops 
 pub shaped_good : (g : History) (o : Operation) → answer g [] o ≡ Good → bad_stamp o ≡ false
 shaped_good g o e = (shaped o (passed g [] o e).shape).stamp
 
-both_each : {A : Type 0} (P Q R : A → Type 0) → ((x : A) → P x → Q x → R x) → (s : List A) → AllByRecursion P s → AllByRecursion Q s → AllByRecursion R s
-both_each P Q R f [] a b = tt
-both_each P Q R f (x ∷ s) a b = (f x a.0 b.0, both_each P Q R f s a.1 b.1)
-
 pub stamped_from : (h : History) (ops : List Operation) → InRange ops → LawfulFrom h ops → AllByRecursion Stamped ops
-stamped_from h ops r l = both_each (λ (o : Operation). (stamp_of o).value < 4294967296) (λ (o : Operation). bad_stamp o ≡ false) Stamped (λ o a b. stamped o a b) ops r
+stamped_from h ops r l = each_both (λ (o : Operation). (stamp_of o).value < 4294967296) (λ (o : Operation). bad_stamp o ≡ false) Stamped (λ o a b. stamped o a b) ops r
     (each_lawful (λ (o : Operation). bad_stamp o ≡ false) h ops shaped_good l)
 
 -- ---- the version
@@ -107,15 +103,12 @@ ids_from n (e ∷ v) i = (i.0, each_map (λ (d : ℕ × ℕ). suc e.0 ≤ d.0) (
 apart : (x y : ℕ) → suc x ≤ y → eqb x y ≡ false
 apart x y h = grind (arith, nat_tests)
 
-eqb_self : (x : ℕ) → eqb x x ≡ true
-eqb_self x = grind (arith, nat_tests)
-
 -- each entry is what the version says
 pub own_entries : (n : ℕ) (v : Entries) → IsVersionFrom n v → AllByRecursion (λ (e : ℕ × ℕ). entry v e.0 ≡ e.1) v
 own_entries n [] i = tt
 own_entries n (e ∷ v) i = (
-  (let s = eqb_self e.0 in rw s refl),
-  both_each (λ (d : ℕ × ℕ). entry v d.0 ≡ d.1) (λ (d : ℕ × ℕ). suc e.0 ≤ d.0) (λ (d : ℕ × ℕ). entry (e ∷ v) d.0 ≡ d.1)
+  (let s = eq-eqb e.0 e.0 refl in rw s refl),
+  each_both (λ (d : ℕ × ℕ). entry v d.0 ≡ d.1) (λ (d : ℕ × ℕ). suc e.0 ≤ d.0) (λ (d : ℕ × ℕ). entry (e ∷ v) d.0 ≡ d.1)
       (λ d a b. (let s = apart e.0 d.0 b in rw s a)) v (own_entries (suc e.0) v i.4) (ids_from (suc e.0) v i.4),
 )
 

@@ -1,5 +1,6 @@
 -- An operation that comes late: where its stamp is not the greatest, its cells go into the sequence of the others all the same.
-use Rattle.std.proofs.Common.{◌≡◌, ◌⊎◌, Bool, List, [], ◌∷◌, ◌++◌, refl, inl, inr, true, false}
+use Rattle.std.proofs.Common.{◌≡◌, ◌⊎◌, Bool, List, [], ◌∷◌, refl, inl, inr, true, false}
+use Rattle.std.proofs.lemmas.List.{same_from_push}
 use Rattle.std.proofs.lemmas.Bool.{cases_Bool, and_left, and_right}
 use Rattle.lamport_clock.specs.declared.stamp.Lamport.{Lamport}
 use Rattle.op_model.specs.declared.operation.Operation.{Operation}
@@ -9,25 +10,6 @@ use Rattle.lamport_clock.specs.Versions.{sees}
 use Rattle.op_model.specs.Cells.{PathCell, path, before, put_all, op_places, both, seq_where}
 use Rattle.op_model.proofs.order.PathOrder.{path_trans, path_total, path_antisym}
 use Rattle.op_model.proofs.order.Insertion.{insert_all_comm, insert_past, insert_here}
-
-pub snoc_inj : {A : Type 0} (xs ys : List A) (x y : A) → xs ++ x ∷ [] ≡ ys ++ y ∷ [] → (xs ≡ ys) × (x ≡ y)
-snoc_inj [] [] x y e = let f : x ≡ y = cc in (refl, f)
-snoc_inj [] (b ∷ ys) x y e = let f : [] ≡ ys ++ y ∷ [] = cc in absurd (none ys y f)
-  where
-    none : {A : Type 0} (ys : List A) (y : A) → [] ≡ ys ++ y ∷ [] → ⊥
-    none [] y e = cc
-    none (b ∷ ys) y e = cc
-snoc_inj (a ∷ xs) [] x y e = let f : xs ++ x ∷ [] ≡ [] = cc in absurd (none xs x f)
-  where
-    none : {A : Type 0} (ys : List A) (y : A) → ys ++ y ∷ [] ≡ [] → ⊥
-    none [] y e = cc
-    none (b ∷ ys) y e = cc
-snoc_inj (a ∷ xs) (b ∷ ys) x y e =
-    let h : a ≡ b = cc in
-    let t : xs ++ x ∷ [] ≡ ys ++ y ∷ [] = cc in
-    let r = snoc_inj xs ys x y t in
-    let u : xs ≡ ys = r.0 in
-    let f : a ∷ xs ≡ b ∷ ys = cc in (f, r.1)
 
 pub before_trans : (p q r : PathCell) → before p q ≡ true → before q r ≡ true → before p r ≡ true
 before_trans p q r h g = path_trans (path p) (path q) (path r) h g
@@ -40,7 +22,7 @@ place_path p q e f = λ i. record { above = e i; cell = f i }
 
 pub before_antisym : (p q : PathCell) → before p q ≡ true → before q p ≡ true → p ≡ q
 before_antisym p q h g =
-    let e = snoc_inj p.above q.above p.cell q.cell (path_antisym (path p) (path q) h g) in place_path p q e.0 e.1
+    let e = same_from_push p.above q.above p.cell q.cell (path_antisym (path p) (path q) h g) in place_path p q e.0 e.1
 
 pub put_all_comm : (xs ys s : List PathCell) → put_all xs (put_all ys s) ≡ put_all ys (put_all xs s)
 put_all_comm xs ys s = insert_all_comm before before_trans before_total before_antisym xs ys s

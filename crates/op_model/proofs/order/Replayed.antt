@@ -1,6 +1,7 @@
 -- By stamps each text stands directly after its left neighbour: no later stamp is there to be passed.
 use Rattle.op_model.proofs.Elements.{each_map, each_append}
 use Rattle.std.proofs.Common.{◌≡◌, ℕ, zero, suc, ◌+◌, ◌≤◌, ◌⊎◌, Bool, List, [], ◌∷◌, ◌++◌, length, refl, sym, ◌∙◌, ap, subst, inl, inr, true, false, cond, arith}
+use Rattle.std.proofs.lemmas.List.{append-nil}
 use Rattle.std.specs.List.{AllByRecursion}
 use Rattle.std.proofs.lemmas.Bool.{cases_Bool}
 use Rattle.std.proofs.Common.{append_assoc}
@@ -23,17 +24,13 @@ use Rattle.op_model.proofs.order.SameSets.{Desc, each_in, newest_same, newest_de
 use Rattle.op_model.proofs.histories.Lawful.{Checked, LawInv, each_of_in}
 use Rattle.op_model.proofs.order.Laying.{laid, end_of}
 use Rattle.op_model.proofs.histories.OneMore.{Core, core_of, inv_of, no_stamp, newest_append}
-use Rattle.op_model.proofs.answers.Good.{later_of, in_tail, checked_of, Ready, ready_base, good_more, append_nil}
-
-append_none : {A : Type 0} (xs : List A) → xs ++ [] ≡ xs
-append_none [] = refl
-append_none (x ∷ xs) = ap (λ r. x ∷ r) (append_none xs)
+use Rattle.op_model.proofs.answers.Good.{later_of, in_tail, checked_of, Ready, ready_base, good_more, new_unseen}
 
 abbrev pub NoLater : Lamport → List PathCell → Type 0
 NoLater t s = AllByRecursion (λ (q : PathCell). later q.cell.stamp t ≡ false) s
 
 run_none : (t : Lamport) (ns s : List PathCell) → NoLater t s → after_run t ns s ≡ ns ++ s
-run_none t ns [] e = sym (append_none ns)
+run_none t ns [] e = sym (append-nil ns)
 run_none t ns (q ∷ s) e = let h : later q.cell.stamp t ≡ false = e.0 in rw h
 
 pub skip_none : (i : ℕ) (t : Lamport) (ns s : List PathCell) → NoLater t s → after_run_from i t ns s ≡ put_direct i ns s
@@ -168,21 +165,16 @@ starts_step h op inv c st s =
     (each_append (λ (o : Operation). AllByRecursion (λ (p : Piece). p.start ≤ length (seq_where (sees (version_of o)) (by_stamp op d))) (pieces_of o)) h (op ∷ [])
     (starts_same d (by_stamp op d) h
     (each_of_in (λ (o : Operation). seq_where (sees (version_of o)) d ≡ seq_where (sees (version_of o)) (by_stamp op d)) h
-    (λ o i. sym (unkept_anywhere (sees (version_of o)) op d (unseen o i (cases_Bool (sees (version_of o) (stamp_of op))))))) s)
+    (λ o i. sym (unkept_anywhere (sees (version_of o)) op d (new_unseen h op inv c o i)))) s)
     (subst (λ (x : List PathCell). AllByRecursion (λ (p : Piece). p.start ≤ length x) (pieces_of op)) (sym (unkept_anywhere (sees (version_of op)) op d (own (cases_Bool (sees (version_of op) (stamp_of op)))))) st, tt))
   where
-    unseen : (o : Operation) → In h o → (sees (version_of o) (stamp_of op) ≡ true) ⊎ (sees (version_of o) (stamp_of op) ≡ false) → sees (version_of o) (stamp_of op) ≡ false
-    unseen o i (inl z) = let l = leb-true (stamp_of op).value (entry (version_of o) (stamp_of op).replica) z in
-        let g = inv.caused o i (stamp_of op).replica in let k = c.chained in let n = c.above (stamp_of op).replica in absurd (omega arith)
-    unseen o i (inr z) = z
-
     own : (sees (version_of op) (stamp_of op) ≡ true) ⊎ (sees (version_of op) (stamp_of op) ≡ false) → sees (version_of op) (stamp_of op) ≡ false
     own (inl z) = let l = leb-true (stamp_of op).value (entry (version_of op) (stamp_of op).replica) z in
         let n = c.above (stamp_of op).replica in absurd (omega arith)
     own (inr z) = z
 
 starts_from : (h : History) (ops : List Operation) → Ready h → LawfulFrom h ops → Starts (newest_first h) h → Ready (h ++ ops) × Starts (newest_first (h ++ ops)) (h ++ ops)
-starts_from h [] r l s = subst (λ (x : History). Ready x × Starts (newest_first x) x) (sym (append_nil h)) (r, s)
+starts_from h [] r l s = subst (λ (x : History). Ready x × Starts (newest_first x) x) (sym (append-nil h)) (r, s)
 starts_from h (op ∷ ops) r l s =
     let c = checked_of h op l.0 in
     subst (λ (x : History). Ready x × Starts (newest_first x) x) (append_assoc h (op ∷ []) ops)

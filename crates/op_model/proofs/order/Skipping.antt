@@ -1,5 +1,6 @@
 -- A new cell stands after its left neighbour, past the cells there whose stamps are later.
 use Rattle.std.proofs.Common.{◌≡◌, ℕ, zero, suc, ◌<◌, ◌≤◌, ◌⊎◌, Bool, List, [], ◌∷◌, ◌++◌, length, refl, sym, ◌∙◌, ap, subst, inl, inr, true, false, cond, ◌||◌, arith, append_assoc}
+use Rattle.std.proofs.lemmas.List.{same_from_push}
 use Rattle.std.specs.List.{AllByRecursion}
 use Rattle.std.proofs.lemmas.Bool.{cases_Bool}
 use Rattle.std.proofs.lemmas.Bool.Decides.{nat_tests}
@@ -10,7 +11,7 @@ use Rattle.op_model.specs.Laid.{after_run, after_run_from}
 use Rattle.op_model.proofs.order.PathOrder.{path_refl, same_cell_refl, later_trans, same_stamp_eq, first_by_stamp, path_trans, path_antisym}
 use Rattle.op_model.specs.Sorted.{insert_by, Ascending}
 use Rattle.op_model.proofs.order.Insertion.{insert_past, insert_here}
-use Rattle.op_model.proofs.order.LateOperation.{before_total, snoc_inj}
+use Rattle.op_model.proofs.order.LateOperation.{before_total}
 
 abbrev pub put : PathCell → List PathCell → List PathCell
 put p s = insert_by before p s
@@ -130,7 +131,7 @@ Later t w = AllByRecursion (λ (q : PathCell). later q.cell.stamp t ≡ true) w
 has_later : (t : Lamport) (w : List PathCell) (front : List Cell) (e : Cell) → Later t w → Has w (front ++ e ∷ []) → later e.stamp t ≡ true
 has_later t [] front e l h = absurd h
 has_later t (q ∷ w) front e l h = elim h [
-  | inl g ↦ (let i = snoc_inj q.above front q.cell e g in subst (λ (x : Cell). later x.stamp t ≡ true) i.1 l.0)
+  | inl g ↦ (let i = same_from_push q.above front q.cell e g in subst (λ (x : Cell). later x.stamp t ≡ true) i.1 l.0)
   | inr g ↦ has_later t w front e l.1 g
 ]
 
@@ -157,7 +158,7 @@ own_stamp s c p w r rest cover fine up lw = elim (cases_Bool (later (root c p (p
 ]
   where
     same : path r ≡ fork c p (path r) → later (root c p (path r)).stamp c.stamp ≡ later r.cell.stamp c.stamp
-    same e = let i = snoc_inj r.above (trunk p (path r)) r.cell (root c p (path r)) e in ap (λ (x : Cell). later x.stamp c.stamp) (sym i.1)
+    same e = let i = same_from_push r.above (trunk p (path r)) r.cell (root c p (path r)) e in ap (λ (x : Cell). later x.stamp c.stamp) (sym i.1)
 
 -- ns put where x would be put
 abbrev pub gap : PathCell → List PathCell → List PathCell → List PathCell

@@ -1,6 +1,7 @@
 -- Settling and calls append to a history.
 use Rattle.op_model.proofs.Elements.{each_append}
 use Rattle.std.proofs.Common.{◌≡◌, ℕ, List, [], ◌∷◌, ◌++◌, refl, sym, ◌∙◌, ap, subst, true, None, inl, inr, append_assoc}
+use Rattle.std.proofs.lemmas.List.{append-nil}
 use Rattle.std.specs.List.{AllByRecursion}
 use Rattle.std.specs.Prelude.{is_some}
 use Rattle.lamport_clock.specs.declared.stamp.Lamport.{Lamport}
@@ -16,7 +17,6 @@ use Rattle.op_model.specs.Settled.{State, settle}
 use Rattle.op_model.specs.Steps.{with_applied, settle_step, take_answer, with_deferred, Step, step, run}
 use Rattle.op_model.specs.Steps.Step.{Edits, Undoes, Takes, Settles}
 use Rattle.op_model.proofs.histories.Lawful.{each_of_in}
-use Rattle.op_model.proofs.answers.Good.{append_nil}
 use Rattle.op_model.proofs.settling.Settling.{settled_keeps, none_or}
 
 -- n is h with operations of w behind it
@@ -31,7 +31,7 @@ longer_more h w n op p m = (
 )
 
 pub settled_longer : (l : LimitsType) (h : History) (w : List Operation) → Longer h w (settle l h w).history
-settled_longer l h w = (settled_keeps l (Longer h w) (λ op. Member op w) (λ n op p m a. longer_more h w n op p m) h w ([], sym (append_nil h), tt)
+settled_longer l h w = (settled_keeps l (Longer h w) (λ op. Member op w) (λ n op p m a. longer_more h w n op p m) h w ([], sym (append-nil h), tt)
     (each_of_in (λ (op : Operation). Member op w) w (λ o i. i))).0
 
 -- ---- calls
@@ -40,7 +40,7 @@ abbrev pub Grows : State → State → Type 0
 Grows s n = (g : List Operation) × (n.history ≡ s.history ++ g)
 
 still : (s : State) → Grows s s
-still s = ([], sym (append_nil s.history))
+still s = ([], sym (append-nil s.history))
 
 further : (s n m : State) → Grows s n → Grows n m → Grows s m
 further s n m a b = (a.0 ++ b.0, b.1 ∙ ap (λ (x : History). x ++ b.0) a.1 ∙ append_assoc s.history a.0 b.0)

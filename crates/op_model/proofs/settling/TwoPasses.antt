@@ -1,7 +1,7 @@
 -- Two passes are enough: what the second finds without a missing cause it refuses or drops.
 use Rattle.std.proofs.Common.{◌≡◌, ℕ, suc, ◌<◌, ◌≤◌, ◌⊎◌, List, [], ◌∷◌, ◌++◌, length, refl, sym, ◌∙◌, ap, subst, inl, inr, true, false, cond, not, ◌&&◌, eqb, ltb, leb, arith}
 use Rattle.std.specs.List.{AllByRecursion, find}
-use Rattle.std.proofs.lemmas.Bool.{leb-false, le-leb, cases_lt}
+use Rattle.std.proofs.lemmas.Bool.{leb-false, le-leb, cases_lt, eq-eqb}
 use Rattle.std.proofs.lemmas.Bool.Decides.{nat_tests}
 use Rattle.lamport_clock.specs.declared.stamp.Lamport.{Lamport}
 use Rattle.lamport_clock.specs.Stamps.{later}
@@ -103,12 +103,9 @@ unmoved l h (op ∷ w) e = ap (λ (s : State). s.history) (pass_is l h op w) ∙
     go Stay q f = f
     go (Refuse x) q f = f
 
-eqb_self : (x : ℕ) → eqb x x ≡ true
-eqb_self x = grind (arith, nat_tests)
-
 last_pass : (n : ℕ) (l : LimitsType) (h : History) (w : List Operation) → (pass l h w).history ≡ h → passes (suc n) l h w ≡ pass l h w
 unfolding passes
-last_pass n l h w e = let t : eqb (length (pass l h w).history) (length h) ≡ true = ap (λ (g : History). eqb (length g) (length h)) e ∙ eqb_self (length h) in rw t refl
+last_pass n l h w e = let t : eqb (length (pass l h w).history) (length h) ≡ true = ap (λ (g : History). eqb (length g) (length h)) e ∙ eq-eqb (length h) (length h) refl in rw t refl
 
 two : (n m : ℕ) (l : LimitsType) (h : History) (w : List Operation) → Ascending older w → passes (suc (suc n)) l h w ≡ passes (suc (suc m)) l h w
 unfolding passes

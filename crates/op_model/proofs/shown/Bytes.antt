@@ -1,5 +1,6 @@
 -- The bytes of h|v, read from h.
-use Rattle.std.proofs.Common.{◌≡◌, ℕ, ◌⊎◌, Bool, List, [], ◌∷◌, map, get_or, refl, sym, ◌∙◌, ap, subst, inl, inr, true, false, cond}
+use Rattle.std.proofs.Common.{◌≡◌, ℕ, ◌⊎◌, Bool, List, [], ◌∷◌, map, get_or, refl, sym, ◌∙◌, ap, subst, inl, inr, true, false}
+use Rattle.std.proofs.lemmas.List.Elements.{filter_agree}
 use Rattle.std.proofs.lemmas.Bool.{cases_Bool}
 use Rattle.std.specs.List.{AllByRecursion, filter}
 use Rattle.lamport_clock.specs.declared.stamp.Lamport.{Lamport}
@@ -40,10 +41,6 @@ pub map_each : (f g : Cell → ℕ) (s : List Cell) → AllByRecursion (λ (c : 
 map_each f g [] e = refl
 map_each f g (c ∷ s) e = ap (λ (x : ℕ). x ∷ map f s) e.0 ∙ ap (λ (x : List ℕ). g c ∷ x) (map_each f g s e.1)
 
-filter_agree : (p q : Cell → Bool) (s : List Cell) → ((c : Cell) → p c ≡ q c) → filter p s ≡ filter q s
-filter_agree p q [] f = refl
-filter_agree p q (c ∷ s) f = ap (λ (b : Bool). cond b (c ∷ filter p s) (filter p s)) (f c) ∙ ap (λ (x : List Cell). cond (q c) (c ∷ x) x) (filter_agree p q s f)
-
 byte_each : (keep : Lamport → Bool) (h : History) (s : List PathCell) → AllByRecursion (λ (q : PathCell). keep q.cell.stamp ≡ true) s
     → AllByRecursion (λ (c : Cell). byte (kept_history keep h) c ≡ byte h c) (cells s)
 byte_each keep h [] e = tt
@@ -53,7 +50,7 @@ text_part : (keep : Lamport → Bool) (h : History) → text_where everything (k
 unfolding text_where
 text_part keep h =
     ap (λ (s : List PathCell). map (byte (kept_history keep h)) (filter (shown_where everything (kept_history keep h)) (cells s))) (seq_part everything keep h)
-    ∙ ap (map (byte (kept_history keep h))) (filter_agree (shown_where everything (kept_history keep h)) (shown_where keep h) (cells (seq_where keep h)) (λ c. shown_part everything keep h c))
+    ∙ ap (map (byte (kept_history keep h))) (filter_agree (shown_where everything (kept_history keep h)) (shown_where keep h) (λ c. shown_part everything keep h c) (cells (seq_where keep h)))
     ∙ map_each (byte (kept_history keep h)) (byte h) (filter (shown_where keep h) (cells (seq_where keep h)))
     (each_filter (λ (c : Cell). byte (kept_history keep h) c ≡ byte h c) (shown_where keep h) (cells (seq_where keep h)) (byte_each keep h (seq_where keep h) (passing keep h)))
 

@@ -1,6 +1,6 @@
 -- The edits that delete a cell, as a list, with one operation more and in a part.
 use Rattle.op_model.proofs.Elements.{each_map, each_last}
-use Rattle.std.proofs.Common.{◌≡◌, ℕ, suc, eqb, ◌⊎◌, Bool, List, [], ◌∷◌, ◌++◌, refl, sym, ◌∙◌, ap, inl, inr, true, false, cond, ◌&&◌}
+use Rattle.std.proofs.Common.{◌≡◌, ℕ, suc, eqb, ◌⊎◌, Bool, List, [], ◌∷◌, refl, sym, ◌∙◌, ap, inl, inr, true, false, cond}
 use Rattle.std.proofs.lemmas.Bool.{cases_Bool, and_left, and_right, not_from_false, false_from_ne_true}
 use Rattle.std.specs.List.{AllByRecursion, filter}
 use Rattle.lamport_clock.specs.declared.stamp.Lamport.{Lamport}

@@ -1,5 +1,6 @@
 -- One pass from left to right over cells with what is told of them.
 use Rattle.std.proofs.Common.{◌≡◌, ℕ, zero, suc, ◌+◌, ◌-◌, ◌<◌, ◌≤◌, Bool, List, [], ◌∷◌, ◌++◌, length, refl, sym, ◌∙◌, ap, inl, inr, true, false, cond, arith}
+use Rattle.std.proofs.lemmas.List.{append-nil}
 use Rattle.std.specs.List.{AllByRecursion}
 use Rattle.std.proofs.lemmas.Bool.{cases_Bool}
 use Rattle.lamport_clock.specs.declared.stamp.Lamport.{Lamport}
@@ -69,11 +70,7 @@ module _ (keep : Lamport → Bool) (t : Lamport) where
   stops_text k (suc n) h = h
 
   past_stops : (ns r : List Fact) → Stops t r → past_later t ns r ≡ ns ++ r
-  past_stops ns [] e = sym (append_nil ns)
-    where
-      append_nil : (x : List Fact) → x ++ [] ≡ x
-      append_nil [] = refl
-      append_nil (a ∷ x) = ap (λ y. a ∷ y) (append_nil x)
+  past_stops ns [] e = sym (append-nil ns)
   past_stops ns (q ∷ s) e = rw e refl
 
   -- what is laid in does not change that nothing later is in front

@@ -1,6 +1,6 @@
 -- What is told of the cells of a history with one edit more.
 use Rattle.op_model.proofs.order.PathOrder.{same_cell_refl as same_self}
-use Rattle.op_model.proofs.Elements.{each_map}
+use Rattle.op_model.proofs.Elements.{each_map, each_both}
 use Rattle.std.proofs.Common.{◌≡◌, ℕ, zero, suc, ◌+◌, ◌-◌, ◌⊎◌, Bool, List, [], ◌∷◌, ◌++◌, length, map, refl, sym, ◌∙◌, ap, inl, inr, true, false, cond, ◌||◌, arith}
 use Rattle.std.specs.List.{AllByRecursion}
 use Rattle.std.proofs.lemmas.Bool.{cases_Bool}
@@ -89,10 +89,6 @@ module _ (m : Marking) (keep : Lamport → Bool) (ps : List Piece)
       beside k x a = let g : in_ranges (only keep (q ∷ s)) i ps x.cell ≡ in_ranges (only keep s) i ps x.cell = rw k refl in
           a ∙ ap (λ (b : Bool). cond b (mark m (tell gv gd x.cell)) (tell gv gd x.cell)) g
 
-      both_each : {P Q R : PathCell → Type 0} → ((x : PathCell) → P x → Q x → R x) → (z : List PathCell) → AllByRecursion P z → AllByRecursion Q z → AllByRecursion R z
-      both_each f [] a b = tt
-      both_each f (x ∷ z) a b = (f x a.0 b.0, both_each f z a.1 b.1)
-
       go : (keep q.cell.stamp ≡ true) ⊎ (keep q.cell.stamp ≡ false)
           → ((j : ℕ) → AllByRecursion (Anew s j) s → telling hv hd s ≡ marks m keep (in_pieces ps) j (telling gv gd s))
           → telling hv hd (q ∷ s) ≡ marks m keep (in_pieces ps) i (telling gv gd (q ∷ s))
@@ -100,7 +96,7 @@ module _ (m : Marking) (keep : Lamport → Bool) (ps : List Piece)
         k,
         ← here k,
         ← e.0,
-        ← ih (suc i) (both_each (below k) s u.0 e.1),
+        ← ih (suc i) (each_both (λ (x : PathCell). same_cell q.cell x.cell ≡ false) (Anew (q ∷ s) i) (Anew s (suc i)) (below k) s u.0 e.1),
       ) refl
       go (inr k) ih = let a : in_ranges (only keep (q ∷ s)) i ps q.cell ≡ false = rw k (absent q.cell s i u.0) in
           let b : tell hv hd q.cell ≡ tell gv gd q.cell = e.0 ∙ ap (λ (b : Bool). cond b (mark m (tell gv gd q.cell)) (tell gv gd q.cell)) a in

@@ -1,8 +1,9 @@
 -- One walk over runs lays in all pieces of an edit and marks all its ranges.
 use Rattle.op_model.proofs.Elements.{each_append}
 use Rattle.std.proofs.Common.{◌≡◌, ℕ, zero, suc, ◌+◌, ◌-◌, ◌<◌, ◌≤◌, ◌⊎◌, Bool, List, [], ◌∷◌, ◌++◌, length, refl, sym, ◌∙◌, ap, subst, inl, inr, true, false, cond, ◌&&◌, ◌||◌, ltb, leb, arith, append_assoc}
+use Rattle.std.proofs.lemmas.List.{append-nil}
 use Rattle.std.specs.List.{AllByRecursion}
-use Rattle.std.proofs.lemmas.Bool.{cases_Bool, leb-true, leb-false, le-leb, lt-leb, le-ltb, lt-ltb}
+use Rattle.std.proofs.lemmas.Bool.{cases_Bool, leb-true, leb-false, le-leb, lt-leb, le-ltb, lt-ltb, or_left}
 use Rattle.lamport_clock.specs.declared.stamp.Lamport.{Lamport}
 use Rattle.lamport_clock.specs.Stamps.{later}
 use Rattle.op_model.specs.declared.operation.Piece.{Piece}
@@ -14,21 +15,32 @@ use Rattle.op_model.proofs.shown.Facts.{From, from_after, from_down, Stops, run_
 pub or_no : (c b : Bool) → c ≡ false → (c || b) ≡ b
 or_no c b e = rw e refl
 
-or_yes : (c b : Bool) → c ≡ true → (c || b) ≡ true
-or_yes c b e = rw e refl
-
 before_piece : (i a z : ℕ) → i < a → (leb a i && ltb i z) ≡ false
 before_piece i a z h = rw (lt-leb a i h) refl
 
-inside_piece : (i a z : ℕ) → a ≤ i → i < z → (leb a i && ltb i z) ≡ true
+pub inside_piece : (i a z : ℕ) → a ≤ i → i < z → (leb a i && ltb i z) ≡ true
 inside_piece i a z h g = rw (le-leb a i h, lt-ltb i z g) refl
 
-past_piece : (i a z : ℕ) → z ≤ i → (leb a i && ltb i z) ≡ false
+pub past_piece : (i a z : ℕ) → z ≤ i → (leb a i && ltb i z) ≡ false
 past_piece i a z h = elim (cases_Bool (leb a i)) [ inl b ↦ rw b (le-ltb i z h) | inr b ↦ rw b refl ]
 
 pub out_of : (i n : ℕ) (ps : List Piece) → i < n → From n ps → in_pieces ps i ≡ false
 out_of i n [] h e = refl
 out_of i n (p ∷ ps) h e = let g : n ≤ p.start = e.0 in or_no (leb p.start i && ltb i p.end) (in_pieces ps i) (before_piece i p.start p.end (omega arith)) ∙ out_of i n ps h e.1
+
+-- pieces in order begin at the first one's bound or past it, and end at the last one's or before it
+pub from_ordered : (at end : ℕ) (ps : List Piece) → Ordered at end ps → From at ps
+from_ordered at end [] o = tt
+from_ordered at end (p ∷ ps) o = (o.0, from_down at p.end ps (let a = o.0 in let b = o.1 in omega arith) (from_ordered p.end end ps o.2))
+
+pub ordered_le : (at end : ℕ) (ps : List Piece) → Ordered at end ps → at ≤ end
+ordered_le at end [] o = o
+ordered_le at end (p ∷ ps) o = let a = o.0 in let b = o.1 in let c = ordered_le p.end end ps o.2 in omega arith
+
+pub facts_append : (xs ys : List Run) → facts_of (xs ++ ys) ≡ facts_of xs ++ facts_of ys
+facts_append [] ys = refl
+facts_append (x ∷ xs) ys = ap (λ (z : List Fact). alike x.stamp x.offset x.len x.visible x.deletions ++ z) (facts_append xs ys)
+    ∙ sym (append_assoc (alike x.stamp x.offset x.len x.visible x.deletions) (facts_of xs) (facts_of ys))
 
 pub run_add : (u : Lamport) (o m n : ℕ) (v : Bool) (d : List Lamport) (l : ℕ) → l ≡ m + n → alike u o l v d ≡ alike u o m v d ++ alike u (o + m) n v d
 run_add u o zero n v d l i = let e : l ≡ n = omega arith in let g : o + 0 ≡ o = omega arith in rw (e, g) refl
@@ -114,11 +126,7 @@ module _ (mk : Marking) (keep : Lamport → Bool) (t : Lamport) where
             ap (λ (z : List Fact). lay_facts keep t at k ps (marks mk keep hit at (z ++ facts_of fs))) (run_add x.stamp x.offset (suc n) (x.len - suc n) x.visible x.deletions x.len (omega arith))
             ∙ ap (λ (z : List Fact). lay_facts keep t at k ps (marks mk keep hit at z)) (append_assoc (alike x.stamp x.offset (suc n) x.visible x.deletions) tail (facts_of fs))
             ∙ run_kept keep t mk hit b at k (suc n) to ps x.stamp x.offset x.visible x.deletions (tail ++ facts_of fs) i kp e f
-            ∙ ap (λ (z : List Fact). z ++ Laid to k ps (back x (suc n) ∷ fs)) (sym (append_nil (r (suc n)))))
-          where
-            append_nil : (z : List Fact) → z ++ [] ≡ z
-            append_nil [] = refl
-            append_nil (a ∷ z) = ap (λ y. a ∷ y) (append_nil z)
+            ∙ ap (λ (z : List Fact). z ++ Laid to k ps (back x (suc n) ∷ fs)) (sym (append-nil (r (suc n)))))
 
         by_kept : (keep x.stamp ≡ true) ⊎ (keep x.stamp ≡ false) → Advances b to k ps fs
             → Laid at k ps (x ∷ fs) ≡ facts_of (advance mk keep b (suc n) (x ∷ fs)).out ++ Laid to k ps (advance mk keep b (suc n) (x ∷ fs)).rest
@@ -180,26 +188,9 @@ module _ (mk : Marking) (keep : Lamport → Bool) (t : Lamport) where
           long kp g (inl l) ih = let m = leb-true x.len (suc n) l in let q = ih (omega arith) in rw (kp, l) (omega arith)
           long kp g (inr l) ih = let m = leb-false x.len (suc n) l in rw (kp, l, kp) (omega arith)
 
-      facts_append : (xs ys : List Run) → facts_of (xs ++ ys) ≡ facts_of xs ++ facts_of ys
-      facts_append [] ys = refl
-      facts_append (x ∷ xs) ys = ap (λ (z : List Fact). alike x.stamp x.offset x.len x.visible x.deletions ++ z) (facts_append xs ys)
-          ∙ sym (append_assoc (alike x.stamp x.offset x.len x.visible x.deletions) (facts_of xs) (facts_of ys))
-
       placed_facts : (k n : ℕ) → facts_of (new_runs t k n) ≡ alike t k n true []
       placed_facts k zero = refl
-      placed_facts k (suc n) = append_nil (alike t k (suc n) true [])
-        where
-          append_nil : (z : List Fact) → z ++ [] ≡ z
-          append_nil [] = refl
-          append_nil (a ∷ z) = ap (λ y. a ∷ y) (append_nil z)
-
-      from_ordered : (at end : ℕ) (ps : List Piece) → Ordered at end ps → From at ps
-      from_ordered at end [] o = tt
-      from_ordered at end (p ∷ ps) o = (o.0, from_down at p.end ps (let a = o.0 in let b = o.1 in omega arith) (from_ordered p.end end ps o.2))
-
-      ordered_le : (at end : ℕ) (ps : List Piece) → Ordered at end ps → at ≤ end
-      ordered_le at end [] o = o
-      ordered_le at end (p ∷ ps) o = let a = o.0 in let b = o.1 in let c = ordered_le p.end end ps o.2 in omega arith
+      placed_facts k (suc n) = append-nil (alike t k (suc n) true [])
 
       four : (a b c d r : List Run) (n z : List Fact) → facts_of c ≡ n → facts_of r ≡ z
           → facts_of a ++ (facts_of b ++ (n ++ (facts_of d ++ z))) ≡ facts_of ((a ++ (b ++ (c ++ d))) ++ r)
@@ -235,7 +226,7 @@ module _ (mk : Marking) (keep : Lamport → Bool) (t : Lamport) where
           (λ i x y. f i x ∙ out_of i p.start (p ∷ ps) y (omega arith, from_down p.start p.end ps o1 fr)) in
           let s2 = skip_lays p.start k (p ∷ ps) a.rest (omega arith, from_down p.start p.end ps (omega arith) fr) in
           let s3 = step_piece keep t p.start k p ps (marks mk keep hit p.start (facts_of b.rest)) refl self (stops_marks p.start (facts_of b.rest) (skip_stops a.rest ea)) in
-          let s4 = advance_lays true (p.end - p.start) p.start p.end (k + len) ps b.rest (omega arith) (omega arith) fr (λ i x y. f i (omega arith) ∙ or_yes (leb p.start i && ltb i p.end) (in_pieces ps i) (inside_piece i p.start p.end x y)) in
+          let s4 = advance_lays true (p.end - p.start) p.start p.end (k + len) ps b.rest (omega arith) (omega arith) fr (λ i x y. f i (omega arith) ∙ or_left (leb p.start i && ltb i p.end) (in_pieces ps i) (inside_piece i p.start p.end x y)) in
           let s5 = walk_lays p.end (k + len) ps d.rest ed (subst (λ z. Ordered p.end z ps) (omega arith) o.2) (λ i x. f i (omega arith) ∙ or_no (leb p.start i && ltb i p.end) (in_pieces ps i) (past_piece i p.start p.end x)) in
           s1 ∙ ap (λ (z : List Fact). facts_of a.out ++ z) (s2 ∙ ap (λ (z : List Fact). facts_of b.out ++ z) (s3 ∙ ap (λ (z : List Fact). alike t k len true [] ++ z) s4))
           ∙ four a.out b.out c d.out (walk mk keep t p.end (k + len) ps d.rest) (alike t k len true []) (Laid p.end (k + len) ps d.rest) (placed_facts k len) (sym s5)

@@ -3,7 +3,7 @@ use Rattle.std.proofs.Common.{◌≡◌, ℕ, zero, suc, ◌+◌, ◌-◌, ◌�
 use Rattle.std.specs.Prelude.{slice_range}
 use Rattle.std.specs.List.{AllByRecursion, filter}
 use Rattle.std.proofs.lemmas.Bool.{cases_Bool}
-use Rattle.std.proofs.lemmas.List.{length-map, drop_all}
+use Rattle.std.proofs.lemmas.List.{length-map, drop_all, append-nil}
 use Rattle.std.proofs.lemmas.List.Folds.{drop_split}
 use Rattle.lamport_clock.specs.Versions.{Entries, sees}
 use Rattle.op_model.specs.Histories.{History, newest_first, seen_history}
@@ -11,7 +11,7 @@ use Rattle.op_model.specs.Cells.{Cell, PathCell, everything, seq_where, seq, cel
 use Rattle.op_model.specs.Shown.{byte, shown, text_where, text}
 use Rattle.op_model.specs.Lawful.{Lawful, IsClosed}
 use Rattle.op_model.specs.Since.{Fate, fate, is_shown_at, lengthen, runs, number_gone, number_new, changes, edits_of, since, text_at, apply_edits}
-use Rattle.op_model.specs.Since.Fate.{Kept, Gone, New, Never}
+use Rattle.op_model.specs.Since.Fate.{Gone, New, Never}
 use Rattle.op_model.proofs.order.Restricted.{restrict}
 use Rattle.op_model.proofs.shown.Parts.{shown_seen}
 use Rattle.op_model.proofs.shown.Bytes.{text_seen}
@@ -33,10 +33,6 @@ slice_more xs i j x rest l e =
 
 slice_none : (xs : List ℕ) (i : ℕ) → slice_range xs i i ≡ []
 slice_none xs i = let n : i - i ≡ 0 = omega arith in ap (λ (k : ℕ). take k (drop i xs)) n
-
-nil_right : (xs : List ℕ) → xs ++ [] ≡ xs
-nil_right [] = refl
-nil_right (x ∷ xs) = ap (λ z. x ∷ z) (nil_right xs)
 
 -- ---- a list of which some stood then and some stand now
 
@@ -153,10 +149,10 @@ module _ {A : Type 0} (f : A → ℕ) (a b : A → Bool) where
             let gl = length-map (filter a r) f in
             let nl = length-map (filter b r) f in
             let x : slice_range new_text new (new + n) ≡ now r =
-            ap (take (new + n - new)) q ∙ ap (take (new + n - new)) (sym (nil_right (now r))) ∙ take_front (now r) [] (new + n - new) (omega arith) in
+            ap (take (new + n - new)) q ∙ ap (take (new + n - new)) (sym (append-nil (now r))) ∙ take_front (now r) [] (new + n - new) (omega arith) in
             let y : drop (old + g) old_text ≡ [] = sym (drop_more old_text old g (old + g) refl) ∙ ap (drop g) p ∙ drop_all g (was r) (omega arith) in
             rw e (ap (λ (z : List ℕ). slice_range old_text at old ++ (z ++ drop (old + g) old_text)) x
-            ∙ ap (λ (z : List ℕ). slice_range old_text at old ++ (now r ++ z)) y ∙ ap (λ (z : List ℕ). slice_range old_text at old ++ z) (nil_right (now r)))
+            ∙ ap (λ (z : List ℕ). slice_range old_text at old ++ (now r ++ z)) y ∙ ap (λ (z : List ℕ). slice_range old_text at old ++ z) (append-nil (now r)))
         go (inr e) = let k = unchanged r u e in
             rw e (drop_split old_text at old l ∙ ap (λ (z : List ℕ). slice_range old_text at old ++ z) (p ∙ ap (map f) k.0 ∙ sym (ap (map f) k.1)))
 

@@ -3,7 +3,7 @@ use Rattle.std.proofs.Common.{◌≡◌, ℕ, suc, ◌+◌, ◌-◌, ◌≤◌, 
 use Rattle.std.specs.Prelude.{IsUtf8, IsCharBoundary}
 use Rattle.std.specs.List.{AllByRecursion, filter}
 use Rattle.std.proofs.lemmas.Bool.{cases_Bool}
-use Rattle.std.proofs.lemmas.List.{length-append, length-map, map-append}
+use Rattle.std.proofs.lemmas.List.{length-append, length-map, map-append, length-drop}
 use Rattle.std.proofs.lemmas.List.Elements.{filter-append}
 use Rattle.std.proofs.lemmas.Str.{IsUtf8-nil, IsCharBoundary-from_drop}
 use Rattle.lamport_clock.specs.declared.stamp.Lamport.{Lamport}
@@ -18,7 +18,7 @@ use Rattle.op_model.specs.Walked.{Run, facts_of}
 use Rattle.op_model.specs.Lawful.{Lawful, IsClosed}
 use Rattle.op_model.specs.Since.{Fate, fates, is_shown_at, runs, number_gone, number_new, changes, edits_of, since, text_at}
 use Rattle.op_model.proofs.answers.Good.{lawful_ready}
-use Rattle.op_model.proofs.texts.Utf8Runs.{drop_past, drop_more, length_drop, bytes, Utf8}
+use Rattle.op_model.proofs.texts.Utf8Runs.{drop_past, drop_more, bytes, Utf8}
 use Rattle.op_model.proofs.texts.WholeTexts.{byte_of, Whole, lawful_whole}
 use Rattle.op_model.proofs.texts.WholeRuns.{passes, utf8_where, told_where, told_parted}
 use Rattle.op_model.proofs.texts.WholeWalks.{texts_of}
@@ -32,7 +32,7 @@ module _ {A : Type 0} (f : A → ℕ) where
   past g xs i k r rest l e q =
       let p : drop i xs ≡ map f (filter g r) ++ map f (filter g rest) = e ∙ ap (map f) (filter-append g r rest) ∙ map-append f (filter g r) (filter g rest) in
       let n = length-map (filter g r) f in
-      let d = length_drop xs i in
+      let d = length-drop i xs in
       let m = length-append (map f (filter g r)) (map f (filter g rest)) in
       let o = ap length p in
       let z : k - length (map f (filter g r)) ≡ 0 = omega arith in

@@ -1,10 +1,11 @@
 -- The text after a local edit is the old one with each range replaced.
-use Rattle.std.proofs.Common.{◌≡◌, ℕ, zero, suc, ◌+◌, ◌-◌, ◌<◌, ◌≤◌, Bool, List, [], ◌∷◌, ◌++◌, length, map, take, drop, get_or, refl, sym, ◌∙◌, ap, subst, inl, inr, true, false, cond, not, ◌&&◌, ◌||◌, eqb, ltb, leb, arith, append_assoc}
+use Rattle.std.proofs.Common.{◌≡◌, ℕ, zero, suc, ◌+◌, ◌-◌, ◌<◌, ◌≤◌, Bool, List, [], ◌∷◌, ◌++◌, length, map, take, drop, get_or, refl, sym, ◌∙◌, ap, subst, inl, inr, true, false, cond, not, ◌&&◌, eqb, ltb, leb, arith, append_assoc}
+use Rattle.std.proofs.lemmas.List.Elements.{filter-append}
 use Rattle.std.specs.Prelude.{slice_range}
 use Rattle.std.specs.List.{AllByRecursion, filter}
-use Rattle.std.proofs.lemmas.Bool.{cases_Bool, eqb-true, le-leb, le-ltb, lt-ltb}
+use Rattle.std.proofs.lemmas.Bool.{cases_Bool, eqb-true, or_left}
 use Rattle.std.proofs.lemmas.Bool.Decides.{nat_tests}
-use Rattle.std.proofs.lemmas.List.{take-append-drop, length-append, map-append as map_append}
+use Rattle.std.proofs.lemmas.List.{take-append-drop, length-append, map-append as map_append, length-take-le, length-drop}
 use Rattle.lamport_clock.specs.declared.stamp.Lamport.{Lamport}
 use Rattle.lamport_clock.specs.Stamps.{later}
 use Rattle.lamport_clock.specs.Versions.{sees}
@@ -32,7 +33,7 @@ use Rattle.op_model.proofs.shown.Deletions.{deleters_restrict}
 use Rattle.op_model.proofs.shown.EditTold.{edit_told}
 use Rattle.op_model.proofs.answers.Counted.{Counted, uncounted_new}
 use Rattle.op_model.proofs.order.CellsOnce.{From as CellFrom, all_from}
-use Rattle.op_model.proofs.shown.Walking.{out_of}
+use Rattle.op_model.proofs.shown.Walking.{out_of, or_no, inside_piece, past_piece, from_ordered, ordered_le}
 use Rattle.op_model.proofs.texts.FullOffsets.{number, offset_count, offset_next, offset_length}
 use Rattle.op_model.proofs.texts.Utf8Runs.{bytes, drop_more}
 use Rattle.op_model.proofs.texts.WholeTexts.{byte_of, text_told, bytes_told, same_bytes, new_text, byte_is, in_last}
@@ -43,16 +44,6 @@ use Rattle.op_model.proofs.answers.MadeGood.{at, full_end, end_after, end_before
 
 abbrev pub slice : {A : Type 0} → List A → ℕ → ℕ → List A
 slice s a b = take (b - a) (drop a s)
-
-length_take : {A : Type 0} (n : ℕ) (s : List A) → n ≤ length s → length (take n s) ≡ n
-length_take zero s h = refl
-length_take (suc n) [] h = absurd (omega arith)
-length_take (suc n) (x ∷ s) h = ap suc (length_take n s (omega arith))
-
-length_drop : {A : Type 0} (n : ℕ) (s : List A) → length (drop n s) ≡ length s - n
-length_drop zero s = omega arith
-length_drop (suc n) [] = omega arith
-length_drop (suc n) (x ∷ s) = let e = length_drop n s in omega arith
 
 each_take : {A : Type 0} (P : A → Type 0) (n : ℕ) (s : List A) → AllByRecursion P s → AllByRecursion P (take n s)
 each_take P zero s e = tt
@@ -91,16 +82,11 @@ module _ (b : Cell → ℕ) where
   abbrev pub count : List Fact → ℕ
   count s = length (filter visible s)
 
-  filter_append : (xs ys : List Fact) → filter visible (xs ++ ys) ≡ filter visible xs ++ filter visible ys
-  filter_append [] ys = refl
-  filter_append (x ∷ xs) ys = elim x.visible as (λ v. cond v (x ∷ filter visible (xs ++ ys)) (filter visible (xs ++ ys)) ≡ cond v (x ∷ filter visible xs) (filter visible xs) ++ filter visible ys)
-      [ true ↦ ap (λ z. x ∷ z) (filter_append xs ys) | false ↦ filter_append xs ys ]
-
   shows_append : (xs ys : List Fact) → shows (xs ++ ys) ≡ shows xs ++ shows ys
-  shows_append xs ys = ap (bytes b) (filter_append xs ys) ∙ map_append (λ (q : Fact). b q.cell) (filter visible xs) (filter visible ys)
+  shows_append xs ys = ap (bytes b) (filter-append visible xs ys) ∙ map_append (λ (q : Fact). b q.cell) (filter visible xs) (filter visible ys)
 
   count_append : (xs ys : List Fact) → count (xs ++ ys) ≡ count xs + count ys
-  count_append xs ys = ap length (filter_append xs ys) ∙ length-append (filter visible xs) (filter visible ys)
+  count_append xs ys = ap length (filter-append visible xs ys) ∙ length-append (filter visible xs) (filter visible ys)
 
   shows_take : (n : ℕ) (s : List Fact) → shows (take n s) ≡ take (count (take n s)) (shows s)
   shows_take zero s = refl
@@ -175,30 +161,10 @@ module _ (keep : Lamport → Bool) (t : Lamport) (m : Marking) (hit : ℕ → Bo
     plain from k (p ∷ ps) = slice s0 from p.start ++ (alike t k (length p.text) true [] ++ (map (mark m) (slice s0 p.start p.end) ++ plain p.end (k + length p.text) ps))
 
     slice_length : (x y : ℕ) → x ≤ y → y ≤ length s0 → x + length (slice s0 x y) ≡ y
-    slice_length x y h l = let e = length_drop x s0 in let g = length_take (y - x) (drop x s0) (omega arith) in omega arith
+    slice_length x y h l = let e = length-drop x s0 in let g = length-take-le (y - x) (drop x s0) (omega arith) in omega arith
 
     slice_pass : (x y : ℕ) → AllByRecursion (λ (q : Fact). keep q.cell.stamp ≡ true) (slice s0 x y)
     slice_pass x y = each_take (λ (q : Fact). keep q.cell.stamp ≡ true) (y - x) (drop x s0) (each_drop (λ (q : Fact). keep q.cell.stamp ≡ true) x s0 pass)
-
-    from_ordered : (x end : ℕ) (ps : List Piece) → Ordered x end ps → From x ps
-    from_ordered x end [] o = tt
-    from_ordered x end (p ∷ ps) o = (o.0, from_down x p.end ps (let a = o.0 in let b = o.1 in omega arith) (from_ordered p.end end ps o.2))
-
-    ordered_le : (x end : ℕ) (ps : List Piece) → Ordered x end ps → x ≤ end
-    ordered_le x end [] o = o
-    ordered_le x end (p ∷ ps) o = let a = o.0 in let b = o.1 in let c = ordered_le p.end end ps o.2 in omega arith
-
-    or_first : (a c : Bool) → a ≡ true → (a || c) ≡ true
-    or_first a c e = rw e refl
-
-    or_second : (a c : Bool) → a ≡ false → (a || c) ≡ c
-    or_second a c e = rw e refl
-
-    inside : (i a z : ℕ) → a ≤ i → i < z → (leb a i && ltb i z) ≡ true
-    inside i a z h g = rw (le-leb a i h, lt-ltb i z g) refl
-
-    behind : (i a z : ℕ) → z ≤ i → (leb a i && ltb i z) ≡ false
-    behind i a z h = elim (cases_Bool (leb a i)) [ inl c ↦ rw c (le-ltb i z h) | inr c ↦ rw c refl ]
 
     pub lays_plain : (from k : ℕ) (ps : List Piece) → Ordered from (length s0) ps → ((i : ℕ) → from ≤ i → hit i ≡ in_pieces ps i)
         → lay_facts keep t from k ps (marks m keep hit from (drop from s0)) ≡ plain from k ps
@@ -213,8 +179,8 @@ module _ (keep : Lamport → Bool) (t : Lamport) (m : Marking) (hit : ℕ → Bo
         (λ i x y. h i x ∙ out_of i p.start (p ∷ ps) y g) in
         let s2 = step_piece keep t p.start k p ps (marks m keep hit p.start (drop p.start s0)) refl self (stops p.start (drop p.start s0) (each_drop (λ (q : Fact). later q.cell.stamp t ≡ false) p.start s0 low)) in
         let s3 = over true (slice s0 p.start p.end) (drop p.end s0) p.start (k + length p.text) p.end ps (slice_length p.start p.end o1 e) (slice_pass p.start p.end) f
-        (λ i x y. h i (omega arith) ∙ or_first (leb p.start i && ltb i p.end) (in_pieces ps i) (inside i p.start p.end x y)) in
-        let s4 = lays_plain p.end (k + length p.text) ps o.2 (λ i x. h i (omega arith) ∙ or_second (leb p.start i && ltb i p.end) (in_pieces ps i) (behind i p.start p.end x)) in
+        (λ i x y. h i (omega arith) ∙ or_left (leb p.start i && ltb i p.end) (in_pieces ps i) (inside_piece i p.start p.end x y)) in
+        let s4 = lays_plain p.end (k + length p.text) ps o.2 (λ i x. h i (omega arith) ∙ or_no (leb p.start i && ltb i p.end) (in_pieces ps i) (past_piece i p.start p.end x)) in
         ap (λ (z : List Fact). lay_facts keep t from k (p ∷ ps) (marks m keep hit from z)) (slice_split s0 from p.start o0)
         ∙ s1 ∙ ap (λ (z : List Fact). z ++ lay_facts keep t p.start k (p ∷ ps) (marks m keep hit p.start (drop p.start s0))) (touch_none (slice s0 from p.start))
         ∙ ap (λ (z : List Fact). slice s0 from p.start ++ z) (s2 ∙ ap (λ (z : List Fact). alike t k (length p.text) true [] ++ z)

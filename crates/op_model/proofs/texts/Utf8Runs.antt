@@ -1,10 +1,11 @@
 -- Runs whose bytes are UTF-8: what a walk makes of them, and where boundaries are taken.
 use Rattle.op_model.proofs.Elements.{each_append}
 use Rattle.std.proofs.Common.{◌≡◌, ℕ, zero, suc, ◌+◌, ◌-◌, ◌<◌, ◌≤◌, ◌⊎◌, Bool, List, [], ◌∷◌, ◌++◌, length, map, take, drop, get_or, refl, sym, ◌∙◌, ap, subst, inl, inr, true, false, cond, leb, arith, append_assoc}
+use Rattle.std.proofs.lemmas.List.Elements.{filter-append}
 use Rattle.std.specs.Prelude.{IsUtf8, IsCharBoundary}
 use Rattle.std.specs.List.{AllByRecursion, filter}
 use Rattle.std.proofs.lemmas.Bool.{cases_Bool, leb-true, leb-false}
-use Rattle.std.proofs.lemmas.List.{length-append, map-append}
+use Rattle.std.proofs.lemmas.List.{length-append, map-append, length-drop}
 use Rattle.std.proofs.lemmas.Str.{IsUtf8-append, IsUtf8-nil, IsUtf8-take, IsUtf8-drop}
 use Rattle.lamport_clock.specs.declared.stamp.Lamport.{Lamport}
 use Rattle.lamport_clock.specs.Stamps.{later}
@@ -52,11 +53,6 @@ get_drop [] (suc a) n m e = refl
 get_drop (x ∷ xs) (suc a) zero m e = absurd (omega arith)
 get_drop (x ∷ xs) (suc a) (suc n) m e = get_drop xs a n m (omega arith)
 
-pub length_drop : (xs : List ℕ) (a : ℕ) → length (drop a xs) ≡ length xs - a
-length_drop xs zero = omega arith
-length_drop [] (suc a) = omega arith
-length_drop (x ∷ xs) (suc a) = let e = length_drop xs a in omega arith
-
 pub drop_more : {A : Type 0} (xs : List A) (a b n : ℕ) → n ≡ a + b → drop b (drop a xs) ≡ drop n xs
 drop_more xs zero b n e = let i : b ≡ n = omega arith in ap (λ (k : ℕ). drop k xs) i
 drop_more [] (suc a) zero n e = let i : n ≡ suc a = omega arith in rw i refl
@@ -81,7 +77,7 @@ boundary_on xs ys n m i b = let k = length-append xs ys in let a = b.0 in let e 
     (omega arith, λ l g. rw e (b.1 (omega arith) (rw (← e) g)))
 
 pub boundary_drop : (xs : List ℕ) (a n m : ℕ) → n ≡ a + m → IsCharBoundary xs n → IsCharBoundary (drop a xs) m
-boundary_drop xs a n m i b = let k = length_drop xs a in let c = b.0 in let e = get_drop xs a n m i in
+boundary_drop xs a n m i b = let k = length-drop a xs in let c = b.0 in let e = get_drop xs a n m i in
     (omega arith, λ l g. rw e (b.1 (omega arith) (rw (← e) g)))
 
 -- ---- runs
@@ -148,18 +144,13 @@ module _ (byte_of : Cell → ℕ) where
   alike_unkept keep t k zero v d e = refl
   alike_unkept keep t k (suc n) v d e = rw e (alike_unkept keep t (suc k) n v d e)
 
-  filter_append : (f : Fact → Bool) (xs ys : List Fact) → filter f (xs ++ ys) ≡ filter f xs ++ filter f ys
-  filter_append f [] ys = refl
-  filter_append f (x ∷ xs) ys = elim (f x) as (λ b. cond b (x ∷ filter f (xs ++ ys)) (filter f (xs ++ ys)) ≡ cond b (x ∷ filter f xs) (filter f xs) ++ filter f ys)
-      [ true ↦ ap (λ z. x ∷ z) (filter_append f xs ys) | false ↦ filter_append f xs ys ]
-
   pub facts_all : (rs : List Run) → bytes (facts_of rs) ≡ all_bytes rs
   facts_all [] = refl
   facts_all (r ∷ rs) = map-append (λ (q : Fact). byte_of q.cell) (run_facts r) (facts_of rs) ∙ ap (λ z. run_bytes r ++ z) (facts_all rs)
 
   pub facts_shown : (rs : List Run) → bytes (filter (λ (q : Fact). q.visible) (facts_of rs)) ≡ shown_bytes rs
   facts_shown [] = refl
-  facts_shown (r ∷ rs) = ap bytes (filter_append (λ (q : Fact). q.visible) (run_facts r) (facts_of rs)) ∙ go (facts_shown rs) r.visible
+  facts_shown (r ∷ rs) = ap bytes (filter-append (λ (q : Fact). q.visible) (run_facts r) (facts_of rs)) ∙ go (facts_shown rs) r.visible
     where
       go : bytes (filter (λ (q : Fact). q.visible) (facts_of rs)) ≡ shown_bytes rs → (v : Bool) → bytes (filter (λ (q : Fact). q.visible) (alike r.stamp r.offset r.len v r.deletions) ++ filter (λ (q : Fact). q.visible) (facts_of rs))
           ≡ cond v (bytes (alike r.stamp r.offset r.len v r.deletions) ++ shown_bytes rs) (shown_bytes rs)
@@ -170,7 +161,7 @@ module _ (byte_of : Cell → ℕ) where
 
   pub facts_kept : (keep : Lamport → Bool) (rs : List Run) → bytes (filter (λ (q : Fact). keep q.cell.stamp) (facts_of rs)) ≡ kept_bytes keep rs
   facts_kept keep [] = refl
-  facts_kept keep (r ∷ rs) = ap bytes (filter_append (λ (q : Fact). keep q.cell.stamp) (run_facts r) (facts_of rs)) ∙ go (facts_kept keep rs) (cases_Bool (keep r.stamp))
+  facts_kept keep (r ∷ rs) = ap bytes (filter-append (λ (q : Fact). keep q.cell.stamp) (run_facts r) (facts_of rs)) ∙ go (facts_kept keep rs) (cases_Bool (keep r.stamp))
     where
       go : bytes (filter (λ (q : Fact). keep q.cell.stamp) (facts_of rs)) ≡ kept_bytes keep rs → (keep r.stamp ≡ true) ⊎ (keep r.stamp ≡ false) → bytes (filter (λ (q : Fact). keep q.cell.stamp) (run_facts r) ++ filter (λ (q : Fact). keep q.cell.stamp) (facts_of rs)) ≡ kept_bytes keep (r ∷ rs)
       go ih (inl e) = ap (λ z. bytes (z ++ filter (λ (q : Fact). keep q.cell.stamp) (facts_of rs))) (alike_kept keep r.stamp r.offset r.len r.visible r.deletions e)

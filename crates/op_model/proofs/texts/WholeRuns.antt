@@ -1,5 +1,5 @@
 -- Runs that begin and end where characters of their texts do, and the hidden bytes.
-use Rattle.std.proofs.lemmas.List.{map-append as map_append}
+use Rattle.std.proofs.lemmas.List.{map-append as map_append, length-drop}
 use Rattle.op_model.proofs.Elements.{each_left, each_right}
 use Rattle.std.proofs.Common.{◌≡◌, ℕ, zero, suc, ◌+◌, ◌-◌, ◌<◌, ◌≤◌, Bool, List, [], ◌∷◌, ◌++◌, length, map, take, drop, drop-cons, get_or, refl, sym, ◌∙◌, ap, subst, inl, inr, true, false, cond, not, arith}
 use Rattle.std.specs.Prelude.{IsUtf8, IsCharBoundary}
@@ -19,7 +19,7 @@ use Rattle.op_model.specs.Facts.{Fact, Continues, fact, cell_facts, alike}
 use Rattle.op_model.specs.Walked.{Run, run_facts, facts_of}
 use Rattle.op_model.proofs.order.SameSets.{newest_desc, newest_same}
 use Rattle.op_model.proofs.order.CellsOnce.{all_cells}
-use Rattle.op_model.proofs.texts.Utf8Runs.{length_drop, bytes, run_bytes, Utf8}
+use Rattle.op_model.proofs.texts.Utf8Runs.{bytes, run_bytes, Utf8}
 use Rattle.op_model.proofs.texts.WholeTexts.{byte_of, desc_distinct, Whole, some_runs, some_facts, some_some, some_utf8}
 use Rattle.op_model.proofs.answers.SameAnswers.{bytes_same}
 
@@ -112,7 +112,7 @@ module _ (h : History) (d : Distinct h) where
         let b = byte_new t k in
         let a : IsCharBoundary s k = (omega arith, λ i g. subst (λ (x : ℕ). 192 ≤ x) b (z (omega arith) (subst (λ (x : ℕ). 128 ≤ x) (sym b) g))) in
         let x : IsUtf8 (take (suc n) (drop k s)) = subst IsUtf8 (slice_is t k (suc n) v e l) w in
-        let y = length_drop s k in
+        let y = length-drop k s in
         let c : IsCharBoundary (drop k s) (suc n) = IsCharBoundary-from_take (drop k s) (suc n) (IsUtf8-drop s k (utf8_new h u t) a) (omega arith) x in
         (a, IsCharBoundary-from_rest s k (suc n) (omega arith) c)
 

@@ -2,8 +2,8 @@
 use Rattle.std.proofs.Common.{◌≡◌, ℕ, zero, suc, ◌+◌, ◌<◌, ◌≤◌, ◌⊎◌, Bool, List, [], ◌∷◌, ◌++◌, length, map, get_or, refl, sym, ◌∙◌, ap, subst, inl, inr, true, false, cond, ◌&&◌, ◌||◌, leb, ltb, arith, append_assoc, IsTrue, ◌↔◌}
 use Rattle.std.specs.Prelude.{IsUtf8, IsCharBoundary}
 use Rattle.std.specs.List.{AllByRecursion, filter}
-use Rattle.std.proofs.lemmas.Bool.{cases_Bool, leb-true, le-leb, ltb-true, or_cases, and_parts, lt-ltb, cases_lt, not-false, lt-leb, false_from_ne_true, false≢true}
-use Rattle.std.proofs.lemmas.List.{length-append}
+use Rattle.std.proofs.lemmas.Bool.{cases_Bool, leb-true, le-leb, ltb-true, or_cases, and_parts, lt-ltb, cases_lt, not-false, lt-leb, false_from_ne_true, false≢true, or_right}
+use Rattle.std.proofs.lemmas.List.{length-append, append-nil}
 use Rattle.lamport_clock.specs.declared.stamp.Lamport.{Lamport}
 use Rattle.lamport_clock.specs.Stamps.{later}
 use Rattle.lamport_clock.specs.Versions.{sees}
@@ -26,7 +26,7 @@ use Rattle.op_model.proofs.order.SameSets.{Desc, newest_desc, newest_same}
 use Rattle.op_model.proofs.histories.OneMore.{Fits, one_more, none_yet}
 use Rattle.op_model.proofs.shown.Bytes.{full_seen}
 use Rattle.op_model.proofs.answers.Passed.{passed, ranged}
-use Rattle.op_model.proofs.answers.Good.{Ready, base_fits, ready_base, checked_of, fits_of, good_more, append_nil}
+use Rattle.op_model.proofs.answers.Good.{Ready, base_fits, ready_base, checked_of, fits_of, good_more}
 use Rattle.op_model.proofs.order.Unique.{unlike}
 use Rattle.op_model.proofs.order.CellsOnce.{From, all_from, bytes_of_one}
 use Rattle.op_model.proofs.answers.Counted.{lawful_counted, Counted, counted_more, good_ordered}
@@ -197,10 +197,6 @@ of_boundary bs i b = rw (le-leb i (length bs) b.0) (go (cases_lt i (length bs)))
       | inl x ↦ rw (lt-ltb (get_or bs i 0) 128 x) refl
       | inr x ↦ or_right (ltb (get_or bs i 0) 128) (leb 192 (get_or bs i 0)) (le-leb 192 (get_or bs i 0) (b.1 l x))
     ])
-      where
-        or_right : (a c : Bool) → c ≡ true → (a || c) ≡ true
-        or_right true c e = refl
-        or_right false c e = e
     go (inr l) = rw (le-leb (length bs) i l) refl
 
 -- the test of a boundary is std's
@@ -319,10 +315,6 @@ base_facts f e u s k [] = refl
 base_facts f e u s k (b ∷ bs) = ap (λ x. x ∷ map f (cells (text_places (u ++ record { stamp = s; k = k } ∷ []) s (suc k) bs))) (e (record { stamp = s; k = k }))
     ∙ ap (λ (z : List Fact). record { cell = record { stamp = s; k = k }; visible = true; deletions = [] } ∷ z) (base_facts f e (u ++ record { stamp = s; k = k } ∷ []) s (suc k) bs)
 
-append_none : (s : List Fact) → s ++ [] ≡ s
-append_none [] = refl
-append_none (x ∷ s) = ap (λ z. x ∷ z) (append_none s)
-
 -- the base alone tells of its bytes in order
 pub base_told : (t : List ℕ) → cell_facts (base t ∷ []) ≡ alike (record { value = 1; replica = 0 }) 0 (length t) true []
 base_told t =
@@ -335,19 +327,15 @@ whole_base t u =
     let s : Lamport = record { value = 1; replica = 0 } in
     let r : Run = record { stamp = s; offset = 0; len = length t; visible = true; deletions = [] } in
     let d : Distinct h = (tt, tt) in
-    let w : texts (pieces_of (base t)) ≡ t = nil t in
+    let w : texts (pieces_of (base t)) ≡ t = append-nil t in
     record {
       runs = r ∷ [];
-      tell = append_none (run_facts r) ∙ sym (base_told t);
+      tell = append-nil (run_facts r) ∙ sym (base_told t);
       utf8 = (subst IsUtf8 (sym (new_text (byte_of h) s (t ++ []) (λ k. byte_is h d (base t) (inl refl) k) [] t [] 0 refl refl)) u, tt);
     }
-  where
-    nil : (x : List ℕ) → x ++ [] ≡ x
-    nil [] = refl
-    nil (b ∷ x) = ap (λ z. b ∷ z) (nil x)
 
 whole_from : (h : History) (ops : List Operation) → Ready h → Counted h → Whole h → LawfulFrom h ops → AllByRecursion (λ (o : Operation). AllByRecursion (λ (p : Piece). IsUtf8 p.text) (pieces_of o)) ops → Whole (h ++ ops)
-whole_from h [] r c w l u = subst Whole (sym (append_nil h)) w
+whole_from h [] r c w l u = subst Whole (sym (append-nil h)) w
 whole_from h (op ∷ ops) r c w l u = subst Whole (append_assoc h (op ∷ []) ops)
     (whole_from (h ++ op ∷ []) ops (good_more h op r l.0).0 (counted_more h op c l.0) (whole_more h op r c w l.0 u.0) l.1 u.1)
 
