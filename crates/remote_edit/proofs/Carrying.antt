@@ -142,7 +142,7 @@ module _ (byte : Cell → ℕ) where
       go true e = let a = length-append (bytes_of x) (shown_bytes byte xs) in let l = long x.stamp x.offset x.len in omega (arith, a, l, e)
       go false e = e
 
-  hidden_long : (xs : List Fragment) → hidden_len xs ≡ length (hidden_bytes byte xs)
+  pub hidden_long : (xs : List Fragment) → hidden_len xs ≡ length (hidden_bytes byte xs)
   hidden_long [] = refl
   hidden_long (x ∷ xs) = rw (hidden_first x xs) (go x.visible (hidden_long xs))
     where

@@ -4,6 +4,7 @@ use Rattle.std.specs.List.{AllByRecursion}
 use Rattle.lamport_clock.specs.declared.stamp.Lamport.{Lamport}
 use Rattle.lamport_clock.specs.Versions.{Entries}
 use Rattle.op_model.specs.Facts.{with_deletion}
+use Rattle.op_model.proofs.Elements.{each_append, each_left, each_right}
 use Rattle.undo_map.specs.declared.entry.UndoEntry.{UndoEntry}
 use Rattle.fragments.specs.declared.fragment.Fragment.{Fragment}
 use Rattle.fragments.specs.declared.index_entry.IndexEntry.{IndexEntry}
@@ -13,7 +14,7 @@ use Rattle.remote_edit.specs.Marks.{was_shown, touch}
 use Rattle.remote_edit.specs.Walk.{bytes, Fit, front, back, new_fragment}
 use Rattle.remote_edit.specs.Steps.{head, tail}
 use Rattle.remote_edit.specs.Indexes.{IsIndexed}
-use Rattle.remote_edit.proofs.Places.{few, touch_len, filled_append, filled_front, filled_back, bytes_append}
+use Rattle.remote_edit.proofs.Places.{few, touch_len, bytes_append}
 use Rattle.remote_edit.proofs.Gathers.{headed, fit_swap}
 use Rattle.remote_edit.proofs.Indexing.{few_entries, indexed_same, indexed_front, indexed_split, indexed_new}
 
@@ -54,7 +55,7 @@ module _ (t : Lamport) (k : ℕ) (pre rest : List Fragment) (f a b : Fragment) (
       omega arith
 
   both_filled : AllByRecursion IsFilled (front f n id ∷ back f n ∷ [])
-  both_filled = let o = filled_back pre (f ∷ tail rest) fi_of.0 in let o1 = o.0.1 in ((h, omega arith), (((omega arith), (omega arith)), tt))
+  both_filled = let o = each_right IsFilled pre (f ∷ tail rest) fi_of.0 in let o1 = o.0.1 in ((h, omega arith), (((omega arith), (omega arith)), tt))
 
   split_indexed : IsIndexed t k (pre ++ front f n id ∷ back f n ∷ tail rest) (with_entry (entry_of b) (with_entry (entry_of a) w))
   split_indexed = rw (ea, eb) (indexed_split t k pre (tail rest) f n id w fi_of.0 h l x_of)
@@ -77,7 +78,7 @@ module _ (t : Lamport) (k n : ℕ) (pre rest : List Fragment) (f : Fragment) (id
 
   pub new_room : length (with_entry (entry_of f) w) ≤ 2 ^ 40
   new_room =
-      let g = filled_append pre (new_fragment t k n id ∷ rest) (filled_front pre rest fi.0) ((h, o), filled_back pre rest fi.0) in
+      let g = each_append IsFilled pre (new_fragment t k n id ∷ rest) (each_left IsFilled pre rest fi.0) ((h, o), each_right IsFilled pre rest fi.0) in
       let b1 = bytes_append pre rest in
       let b2 = bytes_append pre (new_fragment t k n id ∷ rest) in
       few_in t (k + n) (pre ++ f ∷ rest) (with_entry (entry_of f) w) new_indexed (rw e (g, omega arith))

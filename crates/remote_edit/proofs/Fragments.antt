@@ -1,6 +1,7 @@
 -- The fragments of a history with one operation more, and those of a base.
-use Rattle.std.proofs.Common.{◌≡◌, ℕ, suc, Bool, cond, List, [], ◌∷◌, ◌++◌, length, map, refl, sym, ap, ◌∙◌, arith}
+use Rattle.std.proofs.Common.{◌≡◌, ℕ, suc, Bool, cond, List, [], ◌∷◌, ◌++◌, length, map, refl, sym, ap, ◌∙◌, arith, append_assoc}
 use Rattle.std.proofs.lemmas.Bool.{lt-ltb}
+use Rattle.std.proofs.lemmas.List.{append-nil}
 use Rattle.lamport_clock.specs.declared.stamp.Lamport.{Lamport}
 use Rattle.locators.specs.Locator.{between_digits, least_digits, greatest_digits}
 use Rattle.op_model.specs.declared.operation.EditOp.{EditOp}
@@ -16,20 +17,12 @@ use Rattle.fragments.specs.Laws.{whole_base}
 use Rattle.remote_edit.specs.Anew.{all_anew}
 use Rattle.remote_edit.specs.Fragments.{fragments_of, with_edit, with_operation, with_operations}
 
-nothing_behind : (h : History) → h ++ [] ≡ h
-nothing_behind [] = refl
-nothing_behind (o ∷ h) = ap (λ (z : History). o ∷ z) (nothing_behind h)
-
-one_behind : (h : History) (o : Operation) (ops : List Operation) → (h ++ o ∷ []) ++ ops ≡ h ++ o ∷ ops
-one_behind [] o ops = refl
-one_behind (p ∷ h) o ops = ap (λ (z : History). p ∷ z) (one_behind h o ops)
-
 with_one_more : (h : History) (fs : List Fragment) (ops : List Operation) (op : Operation)
     → with_operations h fs (ops ++ op ∷ []) ≡ with_operation (h ++ ops) (with_operations h fs ops) op
-with_one_more h fs [] op = ap (λ (z : History). with_operation z fs op) (sym (nothing_behind h))
+with_one_more h fs [] op = ap (λ (z : History). with_operation z fs op) (sym (append-nil h))
 with_one_more h fs (o ∷ ops) op =
     with_one_more (h ++ o ∷ []) (with_operation h fs o) ops op
-    ∙ ap (λ (z : History). with_operation z (with_operations (h ++ o ∷ []) (with_operation h fs o) ops) op) (one_behind h o ops)
+    ∙ ap (λ (z : History). with_operation z (with_operations (h ++ o ∷ []) (with_operation h fs o) ops) op) (append_assoc h (o ∷ []) ops)
 
 -- what an edit makes of them
 pub fragments_with_edit : (h : History) (e : EditOp) (w : List UndoEntry) (fs gs : List Fragment) → w ≡ undo_entries h → fs ≡ fragments_of h → gs ≡ with_edit w fs e → gs ≡ fragments_of (h ++ Edit e ∷ [])

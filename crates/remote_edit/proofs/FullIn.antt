@@ -153,9 +153,3 @@ pub each_at : (P : Piece → Type 0) (ps : List Piece) (i : ℕ) (p : Piece) →
 each_at P [] i p e l q = absurd (omega (arith, l))
 each_at P (x ∷ ps) zero p e l q = subst P (sym q) e.0
 each_at P (x ∷ ps) (suc i) p e l q = each_at P ps i p e.1 (omega (arith, l)) q
-
-pub take_whole : (ps : List Piece) (i : ℕ) → length ps ≤ i → take i ps ≡ ps
-take_whole [] zero l = refl
-take_whole [] (suc i) l = refl
-take_whole (p ∷ ps) zero l = absurd (omega (arith, l))
-take_whole (p ∷ ps) (suc i) l = ap (λ qs. p ∷ qs) (take_whole ps i (omega (arith, l)))

@@ -1,19 +1,20 @@
 -- Steps of a walk that gathers what comes in the place of a range.
-use Rattle.std.proofs.Common.{◌≡◌, ℕ, zero, suc, ◌+◌, ◌-◌, ◌<◌, ◌≤◌, ◌^◌, Bool, Option, List, [], ◌∷◌, ◌++◌, length, take, drop, refl, sym, ap, ◌∙◌, arith, subst, not, ◌&&◌, true, false, Some, None, append_assoc}
+use Rattle.std.proofs.Common.{◌≡◌, ℕ, zero, suc, ◌+◌, ◌-◌, ◌<◌, ◌≤◌, ◌^◌, Option, List, [], ◌∷◌, ◌++◌, length, take, drop, refl, sym, ap, ◌∙◌, arith, subst, not, ◌&&◌, true, false, Some, None, append_assoc}
 use Rattle.std.specs.List.{AllByRecursion, slice_get}
-use Rattle.std.proofs.lemmas.Bool.{and_parts}
+use Rattle.std.proofs.lemmas.Bool.{and_parts, not-true}
 use Rattle.std.proofs.lemmas.List.{append-nil}
 use Rattle.lamport_clock.specs.declared.stamp.Lamport.{Lamport}
 use Rattle.lamport_clock.specs.Stamps.{later}
 use Rattle.lamport_clock.specs.Versions.{Entries, sees}
 use Rattle.locators.specs.Locator.{between_digits}
+use Rattle.op_model.proofs.Elements.{each_append, each_left, each_right}
 use Rattle.undo_map.specs.declared.entry.UndoEntry.{UndoEntry}
 use Rattle.fragments.specs.declared.fragment.Fragment.{Fragment}
 use Rattle.fragments.specs.Stand.{IsFilled}
 use Rattle.remote_edit.specs.Marks.{touch}
 use Rattle.remote_edit.specs.Walk.{bytes, seen_bytes, Fit, last_id, front, back, new_fragment, next_id, zip, advance, skip_later, put_new}
 use Rattle.remote_edit.specs.Steps.{later_first, head, tail, before, after, IsOnWay, IsAt}
-use Rattle.remote_edit.proofs.Places.{bytes_append, touch_len, touch_stamp, filled_append, filled_front, filled_back}
+use Rattle.remote_edit.proofs.Places.{bytes_append, touch_len, touch_stamp}
 use Rattle.remote_edit.proofs.Passing.{seen_more, seen_own, unseen_own, seen_within, adv_unseen, adv_whole, adv_split, adv_zero}
 
 pub head_drop : (xs : List Fragment) (i : ℕ) → head (drop i xs) ≡ slice_get xs i
@@ -38,7 +39,7 @@ headed (x ∷ xs) f e = let q : x ≡ f = cc in ap (λ (z : Fragment). z ∷ xs)
 
 fit_one : (pre r : List Fragment) (f : Fragment) → Fit (pre ++ f ∷ r) → (0 < f.len) × (f.offset + f.len < 2 ^ 64) × (f.len ≤ 2 ^ 40)
 fit_one pre r f h =
-    let k = filled_back pre (f ∷ r) h.0 in
+    let k = each_right IsFilled pre (f ∷ r) h.0 in
     let b = bytes_append pre (f ∷ r) in
     let h1 = h.1 in (k.0.0, k.0.1, omega arith)
 
@@ -48,10 +49,10 @@ fit_swap pre r ys f h k e =
     let b1 = bytes_append pre (f ∷ r) in
     let b2 = bytes_append pre (ys ++ r) in
     let b3 = bytes_append ys r in
-    let g = filled_back pre (f ∷ r) h.0 in
+    let g = each_right IsFilled pre (f ∷ r) h.0 in
     let h1 = h.1 in
     let q : bytes (pre ++ (ys ++ r)) ≡ bytes (pre ++ f ∷ r) = omega arith in
-    ((filled_append pre (ys ++ r) (filled_front pre (f ∷ r) h.0) (filled_append ys r k g.1), (omega arith)), q)
+    ((each_append IsFilled pre (ys ++ r) (each_left IsFilled pre (f ∷ r) h.0) (each_append IsFilled ys r k g.1), (omega arith)), q)
 
 module _ (m : Option (List UndoEntry)) (t : Lamport) (v : Entries) where
   -- over one that v does not see
@@ -190,7 +191,7 @@ pub record Kept (t : Lamport) (v : Entries) (pre rest pre2 rest2 : List Fragment
 pub over_later : (t : Lamport) (v : Entries) (pre rest pre2 rest2 : List Fragment) (p : ℕ) → later_first t v rest ≡ true → p ≡ seen_bytes v pre → Fit (pre ++ rest) → pre2 ≡ pre ++ take 1 rest → rest2 ≡ tail rest → Kept t v pre rest pre2 rest2 p
 over_later t v pre [] pre2 rest2 p e q h a b = cc
 over_later t v pre (f ∷ r) pre2 rest2 p e q h a b =
-    let u : sees v f.stamp ≡ false = unseen (sees v f.stamp) (and_parts (later f.stamp t) (not (sees v f.stamp)) e).1 in
+    let u : sees v f.stamp ≡ false = not-true (sees v f.stamp) (and_parts (later f.stamp t) (not (sees v f.stamp)) e).1 in
     let c = seen_more v (pre ++ f ∷ []) pre f p 0 refl q (unseen_own v f u) in
     let d = append_assoc pre (f ∷ []) r in
     let g : Kept t v pre (f ∷ r) (pre ++ f ∷ []) r p = record { place = omega arith; goes = sym (step f r e); fit = subst Fit (sym d) h; same = ap bytes d; less = omega arith } in
@@ -198,10 +199,6 @@ over_later t v pre (f ∷ r) pre2 rest2 p e q h a b =
   where
     step : (f : Fragment) (r : List Fragment) → (later f.stamp t && not (sees v f.stamp)) ≡ true → skip_later t v pre (f ∷ r) ≡ skip_later t v (pre ++ f ∷ []) r
     step f r e = rw e refl
-
-    unseen : (b : Bool) → not b ≡ true → b ≡ false
-    unseen true e = cc
-    unseen false e = refl
 
 pub over_earlier : (pre r : List Fragment) (t : Lamport) (v : Entries) → later_first t v r ≡ false → skip_later t v pre r ≡ zip pre r
 over_earlier pre [] t v e = refl
@@ -217,7 +214,7 @@ over_new v t pre rest pre2 f k (suc n) p h s q fi r o e a =
     let d = append_assoc pre (g ∷ []) rest in
     let b1 = bytes_append pre rest in
     let b2 = bytes_append pre (g ∷ rest) in
-    let fl = filled_append pre (g ∷ rest) (filled_front pre rest fi.0) ((h, o), filled_back pre rest fi.0) in
+    let fl = each_append IsFilled pre (g ∷ rest) (each_left IsFilled pre rest fi.0) ((h, o), each_right IsFilled pre rest fi.0) in
     let m : bytes ((pre ++ g ∷ []) ++ rest) ≡ bytes (pre ++ rest) + suc n = ap bytes d ∙ omega arith in
     let w : IsAt v (put_new t k (suc n) pre rest) (bytes (pre ++ rest) + suc n) (pre ++ g ∷ []) rest p = record { place = omega arith; goes = refl; fit = subst Fit (sym d) (fl, (omega arith)); same = m } in
     rw x w

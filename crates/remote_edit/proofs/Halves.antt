@@ -7,7 +7,7 @@ use Rattle.tree_cursor.specs.Places.{filter_count}
 use Rattle.fragments.specs.declared.fragment.Fragment.{Fragment}
 use Rattle.fragments.specs.declared.fragment.FragmentSummary.{FragmentSummary}
 use Rattle.fragments.specs.Summaries.{no_fragments, summaries, summary_of, SummaryFits}
-use Rattle.std.proofs.lemmas.Option.{same_Some}
+use Rattle.std.proofs.lemmas.Option.{same_Some, slice_get_within}
 
 -- the first i changed, the others as they were
 abbrev pub half : {A : Type 0} → (A → A) → ℕ → List A → List A
@@ -66,11 +66,6 @@ over_behind m (suc i) n (suc j) (x ∷ xs) e h = ap (λ ys. m x ∷ ys) (over_be
 pub half_over : {A S : Type 0} (m : A → A) (keeps : S → Bool) (sum_of : A → S) → ((x : A) → keeps (sum_of x) ≡ false → m x ≡ x)
     → (i : ℕ) (xs : List A) → half m (i + filter_count keeps sum_of (drop i xs)) xs ≡ half m i xs
 half_over m keeps sum_of f i xs = over_behind m i (filter_count keeps sum_of (drop i xs)) (i + filter_count keeps sum_of (drop i xs)) xs refl (over_here m keeps sum_of f (drop i xs))
-
-pub some_within : {A : Type 0} (xs : List A) (i : ℕ) (x : A) → slice_get xs i ≡ Some x → i < length xs
-some_within [] i x h = cc
-some_within (y ∷ xs) zero x h = omega arith
-some_within (y ∷ xs) (suc i) x h = let l = some_within xs i x h in omega arith
 
 pub none_past : {A : Type 0} (xs : List A) (i : ℕ) → slice_get xs i ≡ None → length xs ≤ i
 none_past [] i h = omega arith
@@ -143,7 +138,7 @@ turn {A} m keeps sum_of fs items gs x next i after same e d s q r =
     let at : i ≡ next + filter_count keeps sum_of (drop next fs) = q ∙ ap (λ (z : List A). next + filter_count keeps sum_of (drop next z)) e in
     let here : slice_get fs i ≡ Some x = ap (slice_get fs) q ∙ subst (λ (z : List A). slice_get z (next + filter_count keeps sum_of (drop next items)) ≡ Some x) e s in
     let half_is : gs ≡ half m i fs = d ∙ sym (half_over m keeps sum_of same next fs) ∙ ap (λ (j : ℕ). half m j fs) (sym at) in
-    let l = some_within fs i x here in
+    let l = slice_get_within fs i x here in
     let long = ap length e in
     record {
       here = here;

@@ -1,7 +1,7 @@
 -- A move behind others, and what it does with them.
 use Rattle.std.proofs.Common.{◌≡◌, ℕ, zero, suc, ◌+◌, ◌^◌, ◌<◌, ◌==◌, Bool, true, false, cond, nat_lt, List, [], ◌∷◌, ◌++◌, length, take, drop, set, get_or, Option, Some, None, refl, sym, ap, ◌∙◌, arith, append_assoc, inl, inr, ◌-◌}
 use Rattle.std.proofs.Math.Seq.{take-add}
-use Rattle.std.proofs.lemmas.List.{drop-drop}
+use Rattle.std.proofs.lemmas.List.{append-nil, drop-drop}
 use Rattle.std.proofs.lemmas.Bool.{cases_Bool, eqb-true, false_from_ne_true}
 use Rattle.remote_edit.specs.declared.moves.Move.{Move}
 use Rattle.remote_edit.specs.declared.moves.Move.TheVariants.{Visible, Hidden, Hide, Show, Insert}
@@ -111,13 +111,9 @@ last_same (m ∷ []) next s h n = go (as_one m next) refl s h n
     go None e = λ s h n. refl
 last_same (m ∷ k ∷ ms) next s h n = same_behind (m ∷ []) (with_last (k ∷ ms) next) ((k ∷ ms) ++ next ∷ []) (last_same (k ∷ ms) next) s h n
 
-nothing_behind : (ms : List Move) → ms ++ [] ≡ ms
-nothing_behind [] = refl
-nothing_behind (m ∷ ms) = ap (λ k. m ∷ k) (nothing_behind ms)
-
 pub joined_same : JoinedMovesDoTheSame
 joined_same ms next s h n = elim (cases_Bool (length_of next == 0)) [
-  | inl e ↦ rw e (sym (same_behind ms (next ∷ []) [] (no_bytes next [] (eqb-true (length_of next) 0 e)) s h n ∙ ap (λ k. after_moves k s h n) (nothing_behind ms)))
+  | inl e ↦ rw e (sym (same_behind ms (next ∷ []) [] (no_bytes next [] (eqb-true (length_of next) 0 e)) s h n ∙ ap (λ k. after_moves k s h n) (append-nil ms)))
   | inr e ↦ rw e (last_same ms next s h n)
 ]
 

@@ -1,9 +1,7 @@
 -- Fragments where some are put in the place of others.
-use Rattle.std.proofs.Common.{◌≡◌, ℕ, zero, suc, ◌+◌, ◌≤◌, ◌^◌, List, [], ◌∷◌, ◌++◌, length, take, drop, min, subst, append_assoc, length-append, refl, sym, ap, ◌∙◌, arith, Option, Bool, cond, true, false, Some, None, inl, inr}
+use Rattle.std.proofs.Common.{◌≡◌, ℕ, zero, suc, ◌+◌, ◌≤◌, ◌^◌, List, [], ◌∷◌, ◌++◌, length, take, drop, min, subst, append_assoc, length-append, refl, sym, ap, ◌∙◌, arith, Option, Bool, cond, true, false, Some, None}
 use Rattle.std.specs.List.{AllByRecursion, slice_get}
-use Rattle.std.proofs.lemmas.Bool.{cases_lt}
-use Rattle.std.proofs.lemmas.List.{take_at, drop_at, drop_all, length-take-le}
-use Rattle.std.proofs.lemmas.Option.{slice_get_cases}
+use Rattle.std.proofs.lemmas.List.{take_at, drop_at, drop_min, length-take-le}
 use Rattle.locators.specs.Locator.{least_digits}
 use Rattle.lamport_clock.specs.declared.stamp.Lamport.{Lamport}
 use Rattle.lamport_clock.specs.Versions.{Entries}
@@ -36,22 +34,7 @@ pub bytes_append : (a b : List Fragment) → bytes (a ++ b) ≡ bytes a + bytes 
 bytes_append [] b = omega arith
 bytes_append (f ∷ a) b = let ih = bytes_append a b in omega arith
 
-pub filled_append : (a b : List Fragment) → AllByRecursion IsFilled a → AllByRecursion IsFilled b → AllByRecursion IsFilled (a ++ b)
-filled_append [] b h k = k
-filled_append (f ∷ a) b h k = (h.0, filled_append a b h.1 k)
-
-pub filled_front : (a b : List Fragment) → AllByRecursion IsFilled (a ++ b) → AllByRecursion IsFilled a
-filled_front [] b h = tt
-filled_front (f ∷ a) b h = (h.0, filled_front a b h.1)
-
-pub filled_back : (a b : List Fragment) → AllByRecursion IsFilled (a ++ b) → AllByRecursion IsFilled b
-filled_back [] b h = h
-filled_back (f ∷ a) b h = filled_back a b h.1
-
 -- ---- the fragment before a place
-
-pub high : (xs : List Fragment) (i : ℕ) → None ≡ slice_get xs i → length xs ≤ i
-high xs i e = elim (slice_get_cases xs i).1 [ inl k ↦ (let q = e ∙ k.2 in cc) | inr k ↦ k.0 ]
 
 pub last_taken : (xs : List Fragment) (n i : ℕ) (f : Fragment) → i ≡ suc n → Some f ≡ slice_get xs n → last_id (take i xs) ≡ f.id
 last_taken xs n i f q e = ap (λ j. last_id (take j xs)) q ∙ go xs n e
@@ -85,16 +68,9 @@ touch_id (Some w) t v f = elim (was_shown w v f.stamp f.deletions) as (λ (b : B
 put_in : (i j : ℕ) (made lo xs : List Fragment) → splice_list i j (made ++ lo) xs ≡ (take i xs ++ made) ++ (lo ++ drop j xs)
 put_in i j made lo xs = ap (λ (z : List Fragment). z ++ drop j xs) (sym (append_assoc (take i xs) made lo)) ∙ append_assoc (take i xs ++ made) lo (drop j xs)
 
-drop_least : (j : ℕ) (xs : List Fragment) → drop (min j (length xs)) xs ≡ drop j xs
-drop_least j xs = elim (cases_lt (length xs) j) [
-  | inl l ↦ (let e : min j (length xs) ≡ length xs = omega arith in
-      ap (λ (k : ℕ). drop k xs) e ∙ drop_all (length xs) xs (omega arith) ∙ sym (drop_all j xs (omega arith)))
-  | inr l ↦ (let e : min j (length xs) ≡ j = omega arith in ap (λ (k : ℕ). drop k xs) e)
-]
-
 module _ (i j k n : ℕ) (made lo whole xs : List Fragment) (w : whole ≡ made ++ lo) (m : k ≡ min j (length xs)) where
   put_whole : splice_list i k whole xs ≡ (take i xs ++ made) ++ (lo ++ drop j xs)
-  put_whole = ap (λ (z : List Fragment). splice_list i k z xs) w ∙ put_in i k made lo xs ∙ ap (λ (z : List Fragment). (take i xs ++ made) ++ (lo ++ z)) (ap (λ (q : ℕ). drop q xs) m ∙ drop_least j xs)
+  put_whole = ap (λ (z : List Fragment). splice_list i k z xs) w ∙ put_in i k made lo xs ∙ ap (λ (z : List Fragment). (take i xs ++ made) ++ (lo ++ z)) (ap (λ (q : ℕ). drop q xs) m ∙ drop_min j xs)
 
   pub change_fit : Fit ((take i xs ++ made) ++ (lo ++ drop j xs)) → Fit (splice_list i k whole xs)
   change_fit h = subst Fit (sym put_whole) h

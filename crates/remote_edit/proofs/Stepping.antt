@@ -1,6 +1,6 @@
 -- One move more.
 use Rattle.std.proofs.Common.{◌≡◌, ℕ, ◌+◌, List, [], ◌∷◌, ◌++◌, length, drop, refl, ap, ◌∙◌, arith}
-use Rattle.std.proofs.lemmas.List.{drop-drop}
+use Rattle.std.proofs.lemmas.List.{append-nil, drop-drop}
 use Rattle.op_model.proofs.texts.Utf8Runs.{take_front, drop_front}
 use Rattle.remote_edit.specs.declared.moves.Move.{Move}
 use Rattle.remote_edit.specs.declared.moves.Move.TheVariants.{Visible, Hidden}
@@ -26,10 +26,6 @@ step s h n ms out left left_new m put after after_new a b = record {
     all : (r q : Texts) (x x' y y' z z' : List ℕ) → after_moves (m ∷ []) x' y' z' ≡ put → r ≡ q → x ≡ x' → y ≡ y' → z ≡ z' → followed_by r.shown r.hidden (after_moves (m ∷ []) x y z) ≡ followed_by q.shown q.hidden put
     all r q x x' y y' z z' p e f g i = ap (λ (k : Texts). followed_by k.shown k.hidden (after_moves (m ∷ []) x y z)) e ∙ ap (followed_by q.shown q.hidden) (same x x' y y' z z' f g i ∙ p)
 
-none_behind : (x : List ℕ) → x ++ [] ≡ x
-none_behind [] = refl
-none_behind (y ∷ x) = ap (λ z. y ∷ z) (none_behind x)
-
 -- shown and hidden bytes that stay what they are
 pub keep : (s h n : List ℕ) (ms : List Move) (out : Texts) (a b c d x : List ℕ) (v u : ℕ) → v ≡ length a → u ≡ length c → HaveMoved s h n ms out (texts_of (a ++ b) (c ++ d)) x
     → HaveMoved s h n (with_move (with_move ms (Visible v)) (Hidden u)) (followed_by out.shown out.hidden (texts_of a c)) (texts_of b d) x
@@ -40,11 +36,11 @@ keep s h n ms out a b c d x v u e f m = rw (← end) second
 
     first : HaveMoved s h n (with_move ms (Visible v)) (followed_by out.shown out.hidden (texts_of a [])) (texts_of b (c ++ d)) x
     first = step s h n ms out (texts_of (a ++ b) (c ++ d)) x (Visible v) (texts_of a []) (texts_of b (c ++ d)) x m
-        (record { put = rw (take_front a b v e, none_behind a) refl; left_shown = rw (over v) (drop_front a b v e); left_hidden = refl; news = refl })
+        (record { put = rw (take_front a b v e, append-nil a) refl; left_shown = rw (over v) (drop_front a b v e); left_hidden = refl; news = refl })
 
     second : HaveMoved s h n (with_move (with_move ms (Visible v)) (Hidden u)) (followed_by (out.shown ++ a) (out.hidden ++ []) (texts_of [] c)) (texts_of b d) x
     second = step s h n (with_move ms (Visible v)) (followed_by out.shown out.hidden (texts_of a [])) (texts_of b (c ++ d)) x (Hidden u) (texts_of [] c) (texts_of b d) x first
-        (record { put = rw (take_front c d u f, none_behind c) refl; left_shown = refl; left_hidden = rw (over u) (drop_front c d u f); news = refl })
+        (record { put = rw (take_front c d u f, append-nil c) refl; left_shown = refl; left_hidden = rw (over u) (drop_front c d u f); news = refl })
 
     end : followed_by (out.shown ++ a) (out.hidden ++ []) (texts_of [] c) ≡ followed_by out.shown out.hidden (texts_of a c)
-    end = ap (λ z. texts_of z ((out.hidden ++ []) ++ c)) (none_behind (out.shown ++ a)) ∙ ap (λ z. texts_of (out.shown ++ a) (z ++ c)) (none_behind out.hidden)
+    end = ap (λ z. texts_of z ((out.hidden ++ []) ++ c)) (append-nil (out.shown ++ a)) ∙ ap (λ z. texts_of (out.shown ++ a) (z ++ c)) (append-nil out.hidden)

@@ -12,7 +12,7 @@ use Rattle.op_model.specs.declared.operation.UndoOp.{UndoOp}
 use Rattle.op_model.specs.declared.operation.Operation.TheVariants.{Undo}
 use Rattle.op_model.specs.Sorted.{Member}
 use Rattle.op_model.specs.Operations.{stamp_of, counts_of, is_edit}
-use Rattle.op_model.specs.Histories.{History, In, newest_first}
+use Rattle.op_model.specs.Histories.{History, newest_first}
 use Rattle.op_model.specs.Cells.{Cell, PathCell, cells, seq}
 use Rattle.op_model.specs.Shown.{greatest_given, count, undone, all_undone, deleters, shown, shown_where}
 use Rattle.op_model.specs.Answers.{answer}
@@ -20,6 +20,7 @@ use Rattle.op_model.specs.Answers.Answer.{Good}
 use Rattle.op_model.specs.Lawful.{Lawful}
 use Rattle.op_model.specs.Facts.{Fact, fact, alike, seen_by}
 use Rattle.op_model.specs.Walked.{Run, run_facts, facts_of}
+use Rattle.op_model.proofs.histories.Lawful.{in_append}
 use Rattle.op_model.proofs.shown.Deleters.{kept_all}
 use Rattle.op_model.proofs.shown.OnePass.{undone_newest, all_newest}
 use Rattle.op_model.proofs.MainLaws.{undo_is_told}
@@ -158,21 +159,15 @@ module _ (h : History) (op : Operation) (w : List UndoEntry) (ts : List Lamport)
   all_entries [] = refl
   all_entries (f ∷ fs) = rw (kept_by (λ (g : Fragment). entry_of g ≡ entry_of f) f refl refl) (ap (λ (z : List IndexEntry). entry_of f ∷ z) (all_entries fs))
 
-  in_more : (h : History) (o : Operation) → In (h ++ op ∷ []) o → In h o ⊎ (o ≡ op)
-  in_more [] o (inl e) = inr e
-  in_more [] o (inr i) = absurd i
-  in_more (p ∷ h) o (inl e) = inl (inl e)
-  in_more (p ∷ h) o (inr i) = elim (in_more h o i) [ inl j ↦ inl (inr j) | inr e ↦ inr e ]
-
   -- the undos that a fragment's counts come from are seen
   sees_counted : (f : Fragment) → SeesUndos h f → SeesUndos next (recount w (stamp_of op) f)
-  sees_counted f s o i c j k = elim (in_more h o i) [
+  sees_counted f s o i c j k = elim (in_append h op o i) [
     | inl n ↦ sees_raise f.max_undos (stamp_of op) (stamp_of o) (s o n c j k)
     | inr e ↦ subst (λ (p : Operation). sees (raise f.max_undos (stamp_of op)) (stamp_of p) ≡ true) (sym e) (raise_sees f.max_undos (stamp_of op))
   ]
 
   sees_same : (f : Fragment) → HasLaterDeletions f → list_any (concerns f) ts ≡ false → SeesUndos h f → SeesUndos next f
-  sees_same f z n s o i c j k = elim (in_more h o i) [
+  sees_same f z n s o i c j k = elim (in_append h op o i) [
     | inl l ↦ s o l c j k
     | inr e ↦ (let d = uncounted f z n c c.edit (subst (λ (p : Operation). Member c (counts_of p)) e j) k in let r = same_stamp_refl c.edit in cc)
   ]

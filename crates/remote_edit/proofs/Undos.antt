@@ -16,6 +16,8 @@ use Rattle.op_model.specs.Answers.Answer.{Good}
 use Rattle.op_model.specs.Lawful.{Lawful}
 use Rattle.op_model.specs.Sorted.{Member, insert_by}
 use Rattle.op_model.specs.Facts.{with_deletion, stamp_first}
+use Rattle.op_model.proofs.Elements.{each_append}
+use Rattle.op_model.proofs.histories.Lawful.{in_append}
 use Rattle.op_model.proofs.order.CellsOnce.{each_member}
 use Rattle.op_model.proofs.answers.Counted.{lawful_counted, not_there}
 use Rattle.op_model.proofs.answers.Good.{checked_of}
@@ -34,12 +36,7 @@ module _ (P : Fragment → Type 0) (t : Lamport) (v : Entries)
   Both z = AllByRecursion P z.pre × AllByRecursion P z.rest
 
   with_one : (pre : List Fragment) (f : Fragment) → AllByRecursion P pre → P f → AllByRecursion P (pre ++ f ∷ [])
-  with_one [] f h p = (p, tt)
-  with_one (x ∷ pre) f h p = (h.0, with_one pre f h.1 p)
-
-  both_all : (pre rest : List Fragment) → AllByRecursion P pre → AllByRecursion P rest → AllByRecursion P (pre ++ rest)
-  both_all [] rest h k = k
-  both_all (x ∷ pre) rest h k = (h.0, both_all pre rest h.1 k)
+  with_one pre f h p = each_append P pre (f ∷ []) h (p, tt)
 
   each_advance : (m : Option (List UndoEntry)) (n : ℕ) (pre rest : List Fragment) → AllByRecursion P pre → AllByRecursion P rest → Both (advance m t v n pre rest)
   each_advance m zero pre [] h k = (h, k)
@@ -68,7 +65,7 @@ module _ (P : Fragment → Type 0) (t : Lamport) (v : Entries)
       (with_one pre (new_fragment t k (suc n) id) h (of_new k (suc n) id), l)
 
   pub each_walk : (w : List UndoEntry) (at k : ℕ) (ps : List Piece) (pre rest : List Fragment) → AllByRecursion P pre → AllByRecursion P rest → AllByRecursion P (walk w t v at k ps pre rest)
-  each_walk w at k [] pre rest h l = both_all pre rest h l
+  each_walk w at k [] pre rest h l = each_append P pre rest h l
   each_walk w at k (p ∷ ps) pre rest h l = elim (cases_Bool (changes p)) [
     | inr e ↦ rw e (each_walk w at k ps pre rest h l)
     | inl e ↦ (let a : Zip = advance None t v (p.start - at) pre rest in
@@ -120,14 +117,8 @@ sees_more : (h : History) (op : Operation) → is_edit op ≡ true → (fs : Lis
 sees_more h op e [] s = tt
 sees_more h op e (f ∷ fs) s = (one, sees_more h op e fs s.1)
   where
-    in_more : (h : History) (o : Operation) → In (h ++ op ∷ []) o → In h o ⊎ (o ≡ op)
-    in_more [] o (inl q) = inr q
-    in_more [] o (inr m) = absurd m
-    in_more (x ∷ h) o (inl q) = inl (inl q)
-    in_more (x ∷ h) o (inr m) = elim (in_more h o m) [ inl k ↦ inl (inr k) | inr q ↦ inr q ]
-
     one : SeesUndos (h ++ op ∷ []) f
-    one o i c m n = elim (in_more h o i) [
+    one o i c m n = elim (in_append h op o i) [
       | inl k ↦ s.0 o k c m n
       | inr q ↦ absurd (subst (Member c) (ap counts_of q ∙ no_counts op e) m)
     ]

@@ -47,7 +47,7 @@ fn all_others_are_undone(undos: &UndoMap, edits: &[Lamport], edit: Lamport) -> b
 }
 
 // Whether a fragment was shown before an edit that is told of in it.
-fn was_shown(fragment: &Fragment, undos: &UndoMap, edit: Lamport) -> bool
+fn was_shown_before(fragment: &Fragment, undos: &UndoMap, edit: Lamport) -> bool
     ensures { result ≡ is_shown undos.now fragment.now.stamp (without edit fragment.now.deletions) }
 {
     let others = all_others_are_undone(undos, fragment.deletions.as_slice(), edit);
@@ -71,7 +71,7 @@ impl<'u> Change for Editing<'u> {
             return Move::Insert(fragment.len);
         }
         Move::of(
-            was_shown(fragment, self.undos, self.edit),
+            was_shown_before(fragment, self.undos, self.edit),
             fragment.visible,
             fragment.len,
         )

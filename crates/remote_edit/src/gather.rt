@@ -24,9 +24,9 @@ use std::alloc::Global;
 use sum_tree::{Item, SumTree};
 use undo_map::UndoMap;
 
-// The fragments made so far stand in the place of those from `from` up to `at`; `back` is what is left of the last of these.
-// `place` tells how many cells lie before that the edit's version sees, `number` how many of the edit's new cells; `index` is
-// that of all fragments, those that were made among them.
+/// The fragments made so far stand in the place of those from `from` up to `at`; `back` is what is left of the last of these.
+/// `place` tells how many cells lie before that the edit's version sees, `number` how many of the edit's new cells; `index` is
+/// that of all fragments, those that were made among them.
 #[derive(Drop)]
 pub struct Gather {
     pub from: u64,
@@ -200,8 +200,8 @@ impl Gather {
         Ok(())
     }
 
-    // Over `count` cells that the edit's version sees, and what stands between them; those that it sees are marked where
-    // undo counts are given.
+    /// Over `count` cells that the edit's version sees, and what stands between them; those that it sees are marked where
+    /// undo counts are given.
     pub fn pass(
         &mut self,
         alloc: Global,
@@ -266,7 +266,7 @@ impl Gather {
         Ok(())
     }
 
-    // Over the fragments that are later than the edit, which has not seen them.
+    /// Over the fragments that are later than the edit, which has not seen them.
     pub fn skip_later(
         &mut self,
         alloc: Global,
@@ -298,7 +298,7 @@ impl Gather {
         Ok(())
     }
 
-    // Over n new cells of the edit, which are put here where there are some.
+    /// Over n new cells of the edit, which are put here where there are some.
     pub fn put_new(
         &mut self,
         alloc: Global,

@@ -21,6 +21,7 @@ pub use laws::{
     base_is_whole, carried_texts_are_those, joined_moves_do_the_same, kept_bytes_commute,
     moves_compose,
 };
+pub use mark::was_shown;
 pub use moves::{Move, Moves};
 pub use offsets::full_pieces;
 pub use passed::{Passed, SeenPassed};

@@ -14,7 +14,7 @@ use std::alloc::Global;
 use sum_tree::Item;
 use undo_map::UndoMap;
 
-// The fragment, where undo counts are given as it is in a range of the edit.
+/// The fragment, where undo counts are given as it is in a range of the edit.
 pub fn touch(
     alloc: Global,
     edit: &EditOp,
@@ -47,9 +47,9 @@ fn mark(
     Ok(marked)
 }
 
-// Whether it was shown at the version: its edit was not undone there, and each edit that deletes it and that the version
-// sees was.
-fn was_shown(fragment: &Fragment, undos: &UndoMap, version: &Version) -> bool
+/// Whether a fragment whose edit the version sees was shown at it: its edit was not undone there, and each edit that deletes it
+/// and that the version sees was. It is a look-up of the undo counts for each of these edits, without memory.
+pub fn was_shown(fragment: &Fragment, undos: &UndoMap, version: &Version) -> bool
     ensures { result ≡ was_shown undos.now version.now fragment.now.stamp fragment.now.deletions }
 {
     !undos.was_undone(fragment.stamp, version)

@@ -48,7 +48,7 @@ impl Move {
     }
 
     // This one and the next as one, where they are of a kind.
-    fn joined(self, next: Move) -> Option<Move>
+    fn as_one(self, next: Move) -> Option<Move>
         ensures { result ≡ as_one self next }
     {
         Some(match (self, next) {
@@ -112,7 +112,7 @@ impl Moves {
         }
         let len = self.inner.len();
         if len > 0
-            && let Some(one) = self.inner[len - 1].joined(next)
+            && let Some(one) = self.inner[len - 1].as_one(next)
         {
             self.inner[len - 1] = one;
             return Ok(());

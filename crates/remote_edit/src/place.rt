@@ -71,12 +71,12 @@ fn place_with<L: Ledger>(
         undos.now (Edit op.now) p.fragments.items p.moves) }
 {
     let mut steps = Steps::<L>::new(blank);
-    place_counted(alloc, tree, index, undos, op, &mut steps)
+    place_edit(alloc, tree, index, undos, op, &mut steps)
 }
 
 // What `place_remote` does, with a step for each node of the tree that is made. Where the edit has seen all fragments, these are at
 // most 256 for each piece and for each fragment that the ranges touch.
-fn place_counted<L: Ledger>(
+fn place_edit<L: Ledger>(
     alloc: Global,
     tree: &SumTree<Fragment>,
     index: &InsertionIndex,
@@ -141,6 +141,6 @@ pub fn place_local<L: Ledger>(
         version,
         pieces,
     };
-    let placed = place_counted(alloc, tree, index, undos, &op, steps)?;
+    let placed = place_edit(alloc, tree, index, undos, &op, steps)?;
     Ok((op, placed))
 }

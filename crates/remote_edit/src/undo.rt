@@ -88,7 +88,7 @@ pub(crate) fn is_shown(undos: &UndoMap, fragment: &Fragment) -> bool
 }
 
 // A fragment as the counts show it, of which the undo `by` gave some.
-fn counted(
+fn recount(
     alloc: Global,
     fragment: &Fragment,
     undos: &UndoMap,
@@ -147,7 +147,7 @@ fn put_anew(
     if !is_concerned(fragment, edits) {
         return Ok(());
     }
-    let one = counted(alloc, fragment, undos, by)?;
+    let one = recount(alloc, fragment, undos, by)?;
     replace(alloc, fragments, i, one)
 }
 

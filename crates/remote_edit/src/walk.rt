@@ -24,8 +24,8 @@ use undo_map::UndoMap;
 // A tree has no more cells.
 const MOST_CELLS: u64 = 1 << 40;
 
-// How many fragments are passed, how many cells of these the edit's version sees and how many are its own, all fragments, and
-// their index.
+/// How many fragments are passed, how many cells of these the edit's version sees and how many are its own, all fragments, and
+/// their index.
 #[derive(Drop)]
 pub struct Walk {
     pub tree: SumTree<Fragment>,
@@ -299,8 +299,8 @@ fn changes(piece: &Piece) -> bool
     piece.start < piece.end || !piece.text.as_str().is_empty()
 }
 
-// The walk over all pieces of an edit, with a step for each node made. Where the edit has seen all fragments, these are at most 256
-// for each piece and for each fragment that the ranges touch.
+/// The walk over all pieces of an edit, with a step for each node made. Where the edit has seen all fragments, these are at most 256
+/// for each piece and for each fragment that the ranges touch.
 pub fn walk_in<L: Ledger>(
     alloc: Global,
     tree: &SumTree<Fragment>,

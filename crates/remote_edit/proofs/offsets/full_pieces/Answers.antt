@@ -1,6 +1,7 @@
 use Rattle.std.proofs.Common.{◌∙◌, ◌≤◌, length, map, ap, arith}
+use Rattle.std.proofs.lemmas.List.{take_all}
 use Rattle.remote_edit.specs.Offsets.{IsInText, piece_in}
-use Rattle.remote_edit.proofs.FullIn.{each_at, take_whole, pieces_are}
+use Rattle.remote_edit.proofs.FullIn.{each_at, pieces_are}
 use Rattle.remote_edit.proofs.offsets.full_pieces.Goals as goal
 
 pub full_piece-requires-clause-range : goal.full_piece-requires-clause-range
@@ -9,4 +10,4 @@ full_piece-requires-clause-range c = each_at (IsInText c.args.tree.now.items) c.
 pub returns : goal.returns
 returns c = λ h t.
     let l : length c.args.changes.now ≤ c.loop-change.change-index = omega (arith, c.loop-change-test.false) in
-    c.new.ensures ∙ c.loop-change.invariant ∙ ap (map (piece_in c.args.tree.now.items)) (take_whole c.args.changes.now c.loop-change.change-index l) ∙ pieces_are h c.args.tree.now.items t c.args.changes.now
+    c.new.ensures ∙ c.loop-change.invariant ∙ ap (map (piece_in c.args.tree.now.items)) (take_all c.loop-change.change-index c.args.changes.now l) ∙ pieces_are h c.args.tree.now.items t c.args.changes.now

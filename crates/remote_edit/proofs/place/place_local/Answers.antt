@@ -8,8 +8,8 @@ full_pieces-requires-clause-room g c = room_in c.args.tree.now.items c.args.inde
 pub full_pieces-requires-clause-ranges : goal.full_pieces-requires-clause-ranges
 full_pieces-requires-clause-ranges g c = in_text c.requires.limits c.requires.history c.args.tree.now.items c.args.changes.now c.requires.stands.cells c.requires.faultless
 
-pub place_counted-requires : goal.place_counted-requires
-place_counted-requires g c = may_place c.args.tree.now.items c.args.index.now c.args.undos.now c.args.stamp c.args.version c.args.changes.now c.requires c.in_ok-pieces.pieces (c.in_ok-pieces.ensures c.requires.history c.requires.stands.cells)
+pub place_edit-requires : goal.place_edit-requires
+place_edit-requires g c = may_place c.args.tree.now.items c.args.index.now c.args.undos.now c.args.stamp c.args.version c.args.changes.now c.requires c.in_ok-pieces.pieces (c.in_ok-pieces.ensures c.requires.history c.requires.stands.cells)
 
 pub returns-clause-made : goal.returns-clause-made
 returns-clause-made g c = λ h s e f. made_is h c.args.stamp c.args.changes.now c.in_ok-pieces.pieces c.args.version e f (c.in_ok-pieces.ensures h s.cells)
@@ -31,13 +31,13 @@ returns-clause-cost g c =
     let a = c.args in
     let e = c.in_ok-pieces.ensures c.requires.history c.requires.stands.cells in
     let qs = c.in_ok-pieces.pieces in
-    steps_in a.tree.now.items a.index.now a.undos.now a.stamp a.version a.changes.now c.requires qs e a.steps.now c.place_counted.new.steps a.tree.now.height
-    (c.place_counted.ensures.cost (seen_in a.tree.now.items a.index.now a.undos.now a.stamp a.version a.changes.now c.requires) (ordered_in a.tree.now.items a.index.now a.undos.now a.stamp a.version a.changes.now c.requires qs e))
+    steps_in a.tree.now.items a.index.now a.undos.now a.stamp a.version a.changes.now c.requires qs e a.steps.now c.place_edit.new.steps a.tree.now.height
+    (c.place_edit.ensures.cost (seen_in a.tree.now.items a.index.now a.undos.now a.stamp a.version a.changes.now c.requires) (ordered_in a.tree.now.items a.index.now a.undos.now a.stamp a.version a.changes.now c.requires qs e))
 
 pub returns-in_err-placed-clause-cost : goal.returns-in_err-placed-clause-cost
 returns-in_err-placed-clause-cost g c =
     let a = c.args in
     let e = c.in_ok-pieces.ensures c.requires.history c.requires.stands.cells in
     let qs = c.in_ok-pieces.pieces in
-    steps_in a.tree.now.items a.index.now a.undos.now a.stamp a.version a.changes.now c.requires qs e a.steps.now c.place_counted.new.steps a.tree.now.height
-    (c.place_counted.ensures.cost (seen_in a.tree.now.items a.index.now a.undos.now a.stamp a.version a.changes.now c.requires) (ordered_in a.tree.now.items a.index.now a.undos.now a.stamp a.version a.changes.now c.requires qs e))
+    steps_in a.tree.now.items a.index.now a.undos.now a.stamp a.version a.changes.now c.requires qs e a.steps.now c.place_edit.new.steps a.tree.now.height
+    (c.place_edit.ensures.cost (seen_in a.tree.now.items a.index.now a.undos.now a.stamp a.version a.changes.now c.requires) (ordered_in a.tree.now.items a.index.now a.undos.now a.stamp a.version a.changes.now c.requires qs e))

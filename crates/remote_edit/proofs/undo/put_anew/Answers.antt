@@ -1,18 +1,19 @@
 use Rattle.std.proofs.Common.{◌≡◌, ◌∙◌, ◌+◌, sym, subst, arith, [], ◌∷◌}
 use Rattle.std.specs.Prelude.{OnOk}
+use Rattle.std.proofs.lemmas.Option.{slice_get_within}
 use Rattle.sum_tree.specs.Laws.{fold}
 use Rattle.sum_tree.specs.Spliced.{splice_list}
 use Rattle.fragments.specs.declared.fragment.Fragment.{Fragment}
 use Rattle.fragments.specs.Summaries.{no_fragments, summaries, summary_of, SummaryFits}
 use Rattle.remote_edit.proofs.Anew.{concerned, unconcerned}
-use Rattle.remote_edit.proofs.Halves.{some_within, spliced_self}
+use Rattle.remote_edit.proofs.Halves.{spliced_self}
 use Rattle.remote_edit.proofs.undo.put_anew.Goals as goal
 
 pub returns-then-not-is_concerned : goal.returns-then-not-is_concerned
 returns-then-not-is_concerned c = spliced_self c.args.i c.args.fragments.now.items c.args.fragment.now _ c.requires.stands (unconcerned c.args.undos.now c.args.by c.args.edits.now c.args.fragment.now (sym c.is_concerned.ensures ∙ c.if-not-is_concerned.true))
 
 pub replace-requires-clause-within : goal.replace-requires-clause-within
-replace-requires-clause-within c = let l = some_within c.args.fragments.now.items c.args.i c.args.fragment.now c.requires.stands in omega (arith, l)
+replace-requires-clause-within c = let l = slice_get_within c.args.fragments.now.items c.args.i c.args.fragment.now c.requires.stands in omega (arith, l)
 
 pub replace-requires-clause-fits : goal.replace-requires-clause-fits
 replace-requires-clause-fits c = subst (λ (f : Fragment). SummaryFits (fold no_fragments summaries summary_of (splice_list c.args.i (c.args.i + 1) (f ∷ []) c.args.fragments.now.items))) (concerned c.args.undos.now c.args.by c.args.edits.now c.args.fragment.now (sym c.is_concerned.ensures ∙ c.if-not-is_concerned.false) ∙ sym c.in_ok-one.ensures) c.requires.fits

@@ -8,7 +8,7 @@ use Rattle.remote_edit.proofs.moves.Moves.push.Goals.{else-len-gt0-via-else-len-
 pub returns-clause-ok : goal.returns-clause-ok
 returns-clause-ok c =
     let n : c.len-len.result ≡ length c.self.inside.inner.items = search rules in
-    one_longer c.self.inside.inner.items c.len-len.result c.index.result.now c.args.next c.in-Some.one (λ e. c.if-len-eq0.false (c.len.ensures ∙ e)) n c.if-len-gt0.true c.index.ensures (sym c.joined.ensures ∙ c.in-Some.is)
+    one_longer c.self.inside.inner.items c.len-len.result c.index.result.now c.args.next c.in-Some.one (λ e. c.if-len-eq0.false (c.len.ensures ∙ e)) n c.if-len-gt0.true c.index.ensures (sym c.as_one.ensures ∙ c.in-Some.is)
     ∙ ap (λ (ms : List Move). with_move ms c.args.next) c.self.view_is
 
 pub returns-2-clause-ok : goal.returns-2-clause-ok

@@ -25,7 +25,7 @@ use Rattle.remote_edit.proofs.Standing.{indexed_start, unseen_self, fit_start}
 use Rattle.remote_edit.proofs.EditTexts.{told_before, brings, shown_by_counts}
 use Rattle.remote_edit.proofs.Texts.{carried_texts, carried_characters}
 use Rattle.remote_edit.proofs.WholeFragments.{texts_are, whole_fragments, utf8_more, placed_utf8}
-use Rattle.remote_edit.proofs.place.place_counted.Goals as goal
+use Rattle.remote_edit.proofs.place.place_edit.Goals as goal
 
 pub walk_in-requires-clause-fit : goal.walk_in-requires-clause-fit
 walk_in-requires-clause-fit g c = (fit_start c.args.tree.now.items c.args.index.now c.args.undos.now (Edit c.args.op.now) c.requires).0
