@@ -1,12 +1,10 @@
 //! Which fragments may have changed since a version, and which were in its text.
-ghost use Rattle.std.specs.Prelude.{◌≡◌, ◌||◌, not};
-ghost use Rattle.std.specs.List.{list_all};
-ghost use Rattle.lamport_clock.specs.Versions.{sees};
-ghost use Rattle.undo_map.specs.Counts.{count_seen, is_odd};
+ghost use Rattle.std.specs.Prelude.{◌≡◌};
 ghost use Rattle.edits_since.specs.Fates.{was_in_text};
 
 use fragments::{Fragment, FragmentSummary};
-use lamport_clock::{Lamport, Version};
+use lamport_clock::Version;
+use remote_edit::was_shown;
 use tree_cursor::Keep;
 use undo_map::UndoMap;
 
@@ -29,22 +27,10 @@ impl<'v> Keep<FragmentSummary> for MayDiffer<'v> {
     }
 }
 
-// Whether a fragment was in the text that the version saw: the version sees its edit, which was not undone there, and each
-// edit that deletes it and that the version sees was. It is a look-up of the undo counts for each of these edits, without memory.
+// Whether a fragment was in the text that the version saw: the version sees its edit, and it was shown there. It is a look-up of the
+// undo counts for each of the edits that brought and delete it, without memory.
 pub(crate) fn was_in_text(fragment: &Fragment, undos: &UndoMap, version: &Version) -> bool
     ensures { result ≡ was_in_text undos.now version.now fragment.now }
 {
-    version.sees(fragment.stamp)
-        && !undos.was_undone(fragment.stamp, version)
-        && all_were_undone(undos, fragment.deletions.as_slice(), version)
-}
-
-// Whether each edit that the version sees was undone at it.
-fn all_were_undone(undos: &UndoMap, edits: &[Lamport], version: &Version) -> bool
-    ensures { result ≡ list_all (λ t. not (sees version.now t) || is_odd
-        (count_seen undos.now t version.now)) edits.now }
-{
-    edits
-        .iter()
-        .all(|t| !version.sees(*t) || undos.was_undone(*t, version))
+    version.sees(fragment.stamp) && was_shown(fragment, undos, version)
 }

@@ -45,6 +45,13 @@ impl Edits {
         &self.list
     }
 
+    /// The list of the edits. It takes no memory.
+    pub fn into_vec(self) -> Vec<TextEdit>
+        ensures { result.items ≡ self }
+    {
+        self.list
+    }
+
     // Puts an edit behind the others.
     pub(crate) fn push(&mut self, edit: TextEdit) -> Result<(), OutOfMemory>
         ensures ok { OnOk result (self.new ≡ self.old ++ edit ∷ []) }
