@@ -12,7 +12,7 @@ use Rattle.op_model.specs.Facts.{Fact, Marking, stamp_first, with_deletion}
 use Rattle.op_model.specs.Walked.{Run, run_facts, facts_of, Walked}
 use Rattle.op_model.specs.Walked as W
 use Rattle.op_model.proofs.order.PathOrder.{same_stamp_refl}
-use Rattle.op_model.proofs.shown.Walking.{run_add}
+use Rattle.op_model.proofs.shown.Walking.{run_add, facts_append}
 use Rattle.undo_map.specs.declared.entry.UndoEntry.{UndoEntry}
 use Rattle.undo_map.specs.Counts.{count_of, is_odd}
 use Rattle.fragments.specs.declared.fragment.Fragment.{Fragment}
@@ -53,10 +53,6 @@ was_shown_before w u t d e undone others a n i o = o ∙ ap (list_all (λ s. sam
     ∙ ap (λ (b : Bool). b && list_all (λ s. is_odd (count_of w s)) (without t d)) (ap not (sym n ∙ a))
 
 -- ---- lists of runs
-
-facts_append : (xs ys : List Run) → facts_of (xs ++ ys) ≡ facts_of xs ++ facts_of ys
-facts_append [] ys = refl
-facts_append (x ∷ xs) ys = ap (λ (z : List Fact). run_facts x ++ z) (facts_append xs ys) ∙ sym (append_assoc (run_facts x) (facts_of xs) (facts_of ys))
 
 brought_append : (t : Lamport) (xs ys : List Run) → runs_by t (xs ++ ys) ≡ runs_by t xs ++ runs_by t ys
 brought_append t [] ys = refl

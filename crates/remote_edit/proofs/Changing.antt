@@ -1,5 +1,5 @@
 -- A piece without range and text changes nothing that is told of the cells.
-use Rattle.std.proofs.Common.{◌≡◌, ℕ, zero, suc, ◌+◌, ◌-◌, ◌<◌, ◌≤◌, Bool, List, [], ◌∷◌, ◌++◌, length, map, refl, sym, ap, ◌∙◌, arith, subst, cond, ◌&&◌, ◌||◌, true, false, inl, inr, leb, ltb}
+use Rattle.std.proofs.Common.{◌≡◌, ℕ, zero, suc, ◌+◌, ◌-◌, ◌<◌, ◌≤◌, Bool, List, [], ◌∷◌, ◌++◌, length, refl, sym, ap, ◌∙◌, arith, subst, ◌&&◌, ◌||◌, true, false, inl, inr, leb, ltb}
 use Rattle.std.proofs.lemmas.Bool.{cases_Bool, leb-true, le-ltb, ltb-false}
 use Rattle.std.specs.List.{AllByRecursion, filter}
 use Rattle.lamport_clock.specs.declared.stamp.Lamport.{Lamport}
@@ -9,20 +9,19 @@ use Rattle.op_model.specs.declared.operation.Piece.{Piece}
 use Rattle.op_model.specs.declared.operation.Operation.{Operation}
 use Rattle.op_model.specs.Operations.{stamp_of, version_of, pieces_of}
 use Rattle.op_model.specs.Histories.{History, newest_first}
-use Rattle.op_model.specs.Cells.{PathCell, seq, seq_where, cells}
-use Rattle.op_model.specs.Laid.{only}
+use Rattle.op_model.specs.Cells.{seq, seq_where}
 use Rattle.op_model.specs.Shown.{in_pieces}
 use Rattle.op_model.specs.Answers.{answer}
 use Rattle.op_model.specs.Answers.Answer.{Good}
 use Rattle.op_model.specs.Lawful.{Lawful}
-use Rattle.op_model.specs.Facts.{Fact, fact, cell_facts, alike, Marking, lay_facts, marks, past_later, put_at, fact_index_after}
+use Rattle.op_model.specs.Facts.{Fact, cell_facts, alike, Marking, lay_facts, marks, past_later, put_at, fact_index_after}
 use Rattle.op_model.specs.Walked.{Run, facts_of, kept_len, Ordered, walk}
 use Rattle.op_model.proofs.shown.Walking.{walk_lays}
 use Rattle.op_model.proofs.answers.Counted.{good_ordered}
 use Rattle.op_model.proofs.order.PathOrder.{later_irrefl}
 use Rattle.op_model.proofs.order.Groups.{passed_unseen}
 use Rattle.op_model.proofs.order.Restricted.{restrict}
-use Rattle.op_model.proofs.shown.OnePass.{not_self}
+use Rattle.op_model.proofs.shown.OnePass.{passing_facts, count_runs, count_places, not_self}
 use Rattle.op_model.proofs.histories.OneMore.{Fits}
 use Rattle.op_model.proofs.answers.Good.{lawful_ready, checked_of, fits_of}
 use Rattle.remote_edit.specs.Walk.{changes}
@@ -93,27 +92,6 @@ ordered_changing at end (p ∷ ps) o = elim (cases_Bool (changes p)) [
 
 -- ---- how many cells a version sees
 
-count_facts : (Lamport → Bool) → List Fact → ℕ
-count_facts keep [] = 0
-count_facts keep (q ∷ s) = cond (keep q.cell.stamp) (suc (count_facts keep s)) (count_facts keep s)
-
-count_alike : (keep : Lamport → Bool) (u : Lamport) (o n : ℕ) (v : Bool) (d : List Lamport) (s : List Fact)
-    → count_facts keep (alike u o n v d ++ s) ≡ cond (keep u) (n + count_facts keep s) (count_facts keep s)
-unfolding count_facts
-count_alike keep u o zero v d s = elim (cases_Bool (keep u)) [ inl k ↦ rw k (omega arith) | inr k ↦ rw k refl ]
-count_alike keep u o (suc n) v d s = let ih = count_alike keep u (suc o) n v d s in
-    elim (cases_Bool (keep u)) [ inl k ↦ (let g = rw k at ih in rw k (omega arith)) | inr k ↦ (let g = rw k at ih in rw k g) ]
-
-count_runs : (keep : Lamport → Bool) (rs : List Run) → count_facts keep (facts_of rs) ≡ kept_len keep rs
-unfolding count_facts
-count_runs keep [] = refl
-count_runs keep (r ∷ rs) = count_alike keep r.stamp r.offset r.len r.visible r.deletions (facts_of rs) ∙ rw (count_runs keep rs) refl
-
-count_places : (h : History) (keep : Lamport → Bool) (s : List PathCell) → count_facts keep (map (fact h) (cells s)) ≡ length (only keep s)
-unfolding count_facts
-count_places h keep [] = refl
-count_places h keep (q ∷ s) = elim (cases_Bool (keep q.cell.stamp)) [ inl k ↦ rw k (ap suc (count_places h keep s)) | inr k ↦ rw k (count_places h keep s) ]
-
 -- the cells of a history that the version of an operation sees
 pub count_seen : (h : History) (op : Operation) (rs : List Run) → Lawful h → answer h [] op ≡ Good → facts_of rs ≡ cell_facts h
     → kept_len (sees (version_of op)) rs ≡ length (seq_where (sees (version_of op)) (newest_first h))
@@ -122,7 +100,7 @@ count_seen h op rs l g s =
     let v : Lamport → Bool = sees (version_of op) in
     let k = checked_of h op g in
     let f : Fits h op = fits_of h op (lawful_ready h l).0 k.0 k.1 in
-    sym (count_runs v rs) ∙ ap (count_facts v) s ∙ count_places h v (seq h) ∙ ap length (restrict v (newest_first h) f.closed)
+    sym (count_runs v rs) ∙ ap (passing_facts v) s ∙ count_places h v (seq h) ∙ ap length (restrict v (newest_first h) f.closed)
 
 -- the walk with and without them
 pub walk_changing : (h : History) (op : Operation) (m : Marking) (rs : List Run) → Lawful h → answer h [] op ≡ Good → AllByRecursion (λ (r : Run). 0 < r.len) rs → facts_of rs ≡ cell_facts h

@@ -1,5 +1,5 @@
 -- What stands for a history in which an edit is good: there is room for the walk, and an index to begin with.
-use Rattle.std.proofs.Common.{◌≡◌, ℕ, zero, suc, ◌+◌, ◌<◌, ◌≤◌, ◌^◌, Bool, true, false, List, [], ◌∷◌, ◌++◌, length, map, refl, sym, ap, ◌∙◌, arith, subst, inl, inr}
+use Rattle.std.proofs.Common.{◌≡◌, ℕ, zero, suc, ◌+◌, ◌<◌, ◌≤◌, ◌^◌, Bool, true, false, List, [], ◌∷◌, ◌++◌, length, refl, sym, ap, ◌∙◌, arith, subst, inl, inr}
 use Rattle.std.specs.List.{AllByRecursion}
 use Rattle.std.proofs.lemmas.Bool.{cases_Bool}
 use Rattle.std.proofs.lemmas.List.{length-map, length-append}
@@ -10,7 +10,7 @@ use Rattle.locators.specs.Locator.{least_digits}
 use Rattle.op_model.specs.declared.operation.Operation.{Operation}
 use Rattle.op_model.specs.Operations.{stamp_of, version_of, pieces_of, text_total}
 use Rattle.op_model.specs.Histories.{History, version, newest_first}
-use Rattle.op_model.specs.Cells.{Cell, PathCell, seq, cells, everything}
+use Rattle.op_model.specs.Cells.{Cell, PathCell, seq, cells, everything, cell_at}
 use Rattle.op_model.specs.Shown.{new_bytes, IsCell, full}
 use Rattle.op_model.specs.Answers.{answer}
 use Rattle.op_model.specs.Answers.Answer.{Good}
@@ -20,6 +20,7 @@ use Rattle.op_model.specs.Facts.{Fact, fact, alike}
 use Rattle.op_model.specs.Walked.{facts_of}
 use Rattle.op_model.proofs.order.CellsOnce.{all_cells}
 use Rattle.op_model.proofs.order.PathOrder.{same_stamp_eq}
+use Rattle.op_model.proofs.shown.FactCells.{cells_in, told_cells}
 use Rattle.op_model.proofs.shown.OnePass.{not_self}
 use Rattle.op_model.proofs.histories.Lawful.{each_of_in}
 use Rattle.op_model.proofs.histories.VersionLaws.{sees_own}
@@ -58,23 +59,16 @@ no_bytes : (h : History) (t : Lamport) → AllByRecursion (λ (o : Operation). s
 no_bytes [] t n = refl
 no_bytes (o ∷ h) t n = elim (cases_Bool (same_stamp (stamp_of o) t)) [ inl e ↦ absurd (n.0 (same_stamp_eq (stamp_of o) t e)) | inr e ↦ rw e (no_bytes h t n.1) ]
 
-abbrev cell_at : Lamport → ℕ → Cell
-cell_at t k = record { stamp = t; k = k }
-
-cell_in : (n : ℕ) (t : Lamport) (k : ℕ) (v : Bool) (d : List Lamport) (s : List Fact) → 0 < n → Member (cell_at t k) (map (λ (q : Fact). q.cell) (alike t k n v d ++ s))
+cell_in : (n : ℕ) (t : Lamport) (k : ℕ) (v : Bool) (d : List Lamport) (s : List Fact) → 0 < n → Member (cell_at t k) (cells_in (alike t k n v d ++ s))
 cell_in zero t k v d s h = absurd (omega arith)
 cell_in (suc n) t k v d s h = inl refl
 
-told_cells : (h : History) (s : List Cell) → map (λ (q : Fact). q.cell) (map (fact h) s) ≡ s
-told_cells h [] = refl
-told_cells h (c ∷ s) = ap (λ z. c ∷ z) (told_cells h s)
-
-in_more : (c : Cell) (a s : List Fact) → Member c (map (λ (q : Fact). q.cell) s) → Member c (map (λ (q : Fact). q.cell) (a ++ s))
+in_more : (c : Cell) (a s : List Fact) → Member c (cells_in s) → Member c (cells_in (a ++ s))
 in_more c [] s m = m
 in_more c (x ∷ a) s m = inr (in_more c a s m)
 
 all_new : (h : History) (op : Operation) → Lawful h → AllByRecursion (λ (o : Operation). stamp_of o ≡ stamp_of op → ⊥) h → (fs : List Fragment) → AllByRecursion IsFilled fs
-    → ((c : Cell) → Member c (map (λ (q : Fact). q.cell) (facts_of (runs fs))) → IsCell h c) → AllByRecursion (EndsBefore (stamp_of op) 0) fs
+    → ((c : Cell) → Member c (cells_in (facts_of (runs fs))) → IsCell h c) → AllByRecursion (EndsBefore (stamp_of op) 0) fs
 all_new h op l n [] fl m = tt
 all_new h op l n (f ∷ fs) fl m = (
   λ e. (let c = m (cell_at f.stamp f.offset) (cell_in f.len f.stamp f.offset f.visible f.deletions (facts_of (runs fs)) fl.0.0) in
@@ -93,7 +87,7 @@ seen_cell v (o ∷ h) t e l = elim (cases_Bool (same_stamp (stamp_of o) t)) [
 ]
 
 seen_each : (v : Entries) (h : History) → AllByRecursion (λ (o : Operation). sees v (stamp_of o) ≡ true) h → (fs : List Fragment) → AllByRecursion IsFilled fs
-    → ((c : Cell) → Member c (map (λ (q : Fact). q.cell) (facts_of (runs fs))) → IsCell h c) → AllSeen v fs
+    → ((c : Cell) → Member c (cells_in (facts_of (runs fs))) → IsCell h c) → AllSeen v fs
 seen_each v h e [] fl m = tt
 seen_each v h e (f ∷ fs) fl m = (
   (let c = m (cell_at f.stamp f.offset) (cell_in f.len f.stamp f.offset f.visible f.deletions (facts_of (runs fs)) fl.0.0) in seen_cell v h f.stamp e (omega (arith, c))),
@@ -102,7 +96,7 @@ seen_each v h e (f ∷ fs) fl m = (
 
 pub all_seen : (h : History) (fs : List Fragment) → Lawful h → Tell fs h → AllByRecursion IsFilled fs → AllSeen (version h) fs
 all_seen h fs l t fl = seen_each (version h) h (each_of_in (λ (o : Operation). sees (version h) (stamp_of o) ≡ true) h (sees_own h)) fs fl
-    (λ c m. (all_cells h (lawful_ready h l).0.distinct c).0 (subst (Member c) (ap (map (λ (q : Fact). q.cell)) t ∙ told_cells h (cells (seq h))) m))
+    (λ c m. (all_cells h (lawful_ready h l).0.distinct c).0 (subst (Member c) (ap cells_in t ∙ told_cells h (cells (seq h))) m))
 
 -- ---- before the walk
 
@@ -112,7 +106,7 @@ indexed_start fs w u h op s l g = record {
   entries = s.index;
   apart = apart_start least_digits fs w s.ids s.filled (index_finds_fragments fs w u h l s).0;
   before = all_new h op l (checked_of h op g).0.new fs s.filled
-      (λ c m. (all_cells h (lawful_ready h l).0.distinct c).0 (subst (Member c) (ap (map (λ (q : Fact). q.cell)) s.cells ∙ told_cells h (cells (seq h))) m));
+      (λ c m. (all_cells h (lawful_ready h l).0.distinct c).0 (subst (Member c) (ap cells_in s.cells ∙ told_cells h (cells (seq h))) m));
 }
 
 pub unseen_self : (h : History) (op : Operation) → Lawful h → answer h [] op ≡ Good → sees (version_of op) (stamp_of op) ≡ false
