@@ -32,7 +32,7 @@ use Rattle.undo_map.specs.Undos.{undo_entries}
 use Rattle.undo_map.proofs.Entries.{entries_within}
 use Rattle.text_buffer.specs.Buffer.{BufferState, IsBuffer}
 use Rattle.text_buffer.specs.Document.{IsContent, IsHistory, HasRoom}
-use Rattle.text_buffer.specs.Told.{AreTold}
+use Rattle.text_buffer.specs.DocumentInside.{IsDocumentInside}
 use Rattle.text_buffer.specs.declared.document.Document.TheInside.{Inside}
 use Rattle.text_buffer.proofs.Fit.{room_in}
 use Rattle.text_buffer.proofs.Lengths.{text_length}
@@ -93,17 +93,17 @@ IsHistory-applied h op k p g r =
     }
 
 -- what is held stays far below the end of its type
-pub stay_few : (i : Inside) (h : History) (op : Operation) (n m : ℕ) → AreTold i → i.operations ≡ h → HasRoom h op → n ≡ bytes_of op → m ≡ entries_of op → (i.bytes + n ≤ 2 ^ 40) × (i.entries + m ≤ 2 ^ 40)
+pub stay_few : (i : Inside) (h : History) (op : Operation) (n m : ℕ) → IsDocumentInside i → i.operations ≡ h → HasRoom h op → n ≡ bytes_of op → m ≡ entries_of op → (i.bytes + n ≤ 2 ^ 40) × (i.entries + m ≤ 2 ^ 40)
 stay_few i h op n m k e r x y =
     let b : bytes_held i.operations ≡ bytes_held h = ap bytes_held e in
     let f : entries_held i.operations ≡ entries_held h = ap entries_held e in
     (omega (arith, k.bytes, b, r.bytes, x), omega (arith, k.entries, f, r.entries, y))
 
 -- the clock and the version observe its stamp, it stands last, and the content is that which is then
-pub AreTold-applied : (i j : Inside) (op : Operation) (s : Lamport) → AreTold i → IsProper op → answer i.operations [] op ≡ Good → HasRoom i.operations op → s ≡ stamp_of op
+pub IsDocumentInside-applied : (i j : Inside) (op : Operation) (s : Lamport) → IsDocumentInside i → IsProper op → answer i.operations [] op ≡ Good → HasRoom i.operations op → s ≡ stamp_of op
     → j.operations ≡ i.operations ++ op ∷ [] → j.clock ≡ clock_after i.clock s.value → arc_value j.version ≡ raise (version i.operations) s
-    → IsContent j.content (i.operations ++ op ∷ []) → j.bytes ≡ i.bytes + bytes_of op → j.entries ≡ i.entries + entries_of op → AreTold j
-AreTold-applied i j op s k p g r t items clocks versions content bytes entries =
+    → IsContent j.content (i.operations ++ op ∷ []) → j.bytes ≡ i.bytes + bytes_of op → j.entries ≡ i.entries + entries_of op → IsDocumentInside j
+IsDocumentInside-applied i j op s k p g r t items clocks versions content bytes entries =
     record {
       clock = clocks ∙ ap (λ (u : Lamport). clock_after i.clock u.value) t ∙ ap (λ c. clock_after c (stamp_of op).value) k.clock ∙ sym (clock-append i.operations op) ∙ ap clock (sym items);
       version = versions ∙ ap (raise (version i.operations)) t ∙ sym (version-append i.operations op) ∙ ap version (sym items);

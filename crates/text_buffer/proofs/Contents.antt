@@ -36,7 +36,9 @@ use Rattle.remote_edit.specs.Placing.{MayMake, MayPlace}
 use Rattle.remote_edit.specs.Undoing.{MayMark}
 use Rattle.remote_edit.proofs.WholeFragments.{base_whole}
 use Rattle.text_buffer.specs.declared.content.Content.{Content}
+use Rattle.text_buffer.specs.declared.document.Document.TheInside.{Inside}
 use Rattle.text_buffer.specs.Buffer.{BufferState}
+use Rattle.text_buffer.specs.DocumentInside.{IsDocumentInside}
 use Rattle.text_buffer.specs.Document.{IsContent, IsHistory, IsMoved, HasRoom, MayEdit, MayGrow}
 use Rattle.text_buffer.proofs.Edited.{made_entries, made_total}
 use Rattle.text_buffer.proofs.Fit.{room_in, room_of}
@@ -105,6 +107,13 @@ edit_room h r ps m =
     let l = m.most_bytes in
     omega (arith, n, l)
 
+-- the content of a document and what is true of its history, said of the history that contracts see
+pub content_seen : (d : Inside) (h : History) → IsDocumentInside d → d.operations ≡ h → IsContent d.content h
+content_seen d h t e = subst (IsContent d.content) e t.content
+
+pub history_seen : (d : Inside) (h : History) → IsDocumentInside d → d.operations ≡ h → IsHistory h
+history_seen d h t e = subst IsHistory e t.history
+
 pub may_make : (c : Content) (h : History) (t : Lamport) (v : Entries) (ps : List Piece) → IsContent c h → IsHistory h → MayEdit h t.replica ps → t.value ≡ clock h → v ≡ version h → MayMake c.fragments.items c.index c.undos t v ps
 may_make c h t v ps k s m e f = record {
   history = h;
@@ -119,7 +128,8 @@ may_make c h t v ps k s m e f = record {
   room = (let n = full_bytes h in let r = edit_room h t.replica ps m in omega (arith, n, r));
 }
 
-edit_member : (c : UndoCount) (cs : List UndoCount) → Member c cs → Member c.edit (map (λ (x : UndoCount). x.edit) cs)
+-- the edit of a count is among the edits of all
+pub edit_member : (c : UndoCount) (cs : List UndoCount) → Member c cs → Member c.edit (map (λ (x : UndoCount). x.edit) cs)
 edit_member c [] m = absurd m
 edit_member c (x ∷ cs) (inl e) = inl (ap (λ (z : UndoCount). z.edit) e)
 edit_member c (x ∷ cs) (inr m) = inr (edit_member c cs m)

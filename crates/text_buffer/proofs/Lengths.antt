@@ -2,6 +2,7 @@
 use Rattle.std.proofs.Common.{◌≡◌, ℕ, zero, suc, ◌+◌, ◌≤◌, Bool, true, false, not, cond, List, [], ◌∷◌, ◌++◌, length, take, drop, drop-cons, get_or, refl, sym, ◌∙◌, ap, arith, inl, length-append}
 use Rattle.std.specs.List.{filter}
 use Rattle.std.proofs.lemmas.List.{append-nil, take_all}
+use Rattle.std.proofs.lemmas.List.Filters.{length-filter_both}
 use Rattle.lamport_clock.specs.declared.stamp.Lamport.{Lamport}
 use Rattle.op_model.specs.declared.operation.Operation.{Operation}
 use Rattle.op_model.specs.declared.operation.Piece.{Piece}
@@ -64,13 +65,6 @@ full_bytes h = let a = full_length everything (newest_first h) in let b = seq_le
 
 -- ---- shown and hidden ones
 
-parts_length : (p : Cell → Bool) (s : List Cell) → length (filter p s) + length (filter (λ c. not (p c)) s) ≡ length s
-parts_length p [] = refl
-parts_length p (c ∷ s) = elim (p c) as (λ b. length (cond b (c ∷ filter p s) (filter p s)) + length (cond (not b) (c ∷ filter (λ c. not (p c)) s) (filter (λ c. not (p c)) s)) ≡ suc (length s)) [
-  | true ↦ (let i = parts_length p s in omega (arith, i))
-  | false ↦ (let i = parts_length p s in omega (arith, i))
-]
-
 pub both_bytes : (h : History) → length (text h) + length (hidden_text h) ≡ bytes_held h
 unfolding text text_where shown seq
 both_bytes h =
@@ -78,7 +72,7 @@ both_bytes h =
     let s : List Cell = cells (seq_where everything d) in
     let a = map_length (byte d) (filter (shown_where everything d) s) in
     let b = map_length (byte h) (filter (λ (c : Cell). not (shown_where everything d c)) s) in
-    let p = parts_length (shown_where everything d) s in
+    let p = length-filter_both (shown_where everything d) (λ (c : Cell). not (shown_where everything d c)) (λ (c : Cell). refl) s in
     let c = map_length (λ (x : PathCell). x.cell) (seq_where everything d) in
     let n = seq_len d in
     let m = sorted_bytes [] h in

@@ -17,7 +17,7 @@ use Rattle.op_model.specs.Settled.Turn.{Append, Drop, Stay, Refuse}
 use Rattle.op_model.specs.Steps.{older, ask_limits}
 use Rattle.deferred_ops.specs.Deferred.{without}
 use Rattle.text_buffer.specs.Buffer.{BufferState, IsBuffer, state, with_state}
-use Rattle.text_buffer.specs.Fields.{state_of, AreKept}
+use Rattle.text_buffer.specs.BufferInside.{state_of, IsBufferInside}
 use Rattle.text_buffer.specs.declared.buffer.Buffer.TheInside.{Inside}
 use Rattle.text_buffer.specs.Settling.{after_turn, turn_step, pass_until, pass_step, next_ready, after_next_turn, turn_answer, after_answer, without_waiting, after_pass, IsStopped}
 use Rattle.text_buffer.proofs.Turns.{IsAt, at_start, at_end, at_turn, at_until, fewer, not_stay, ready_within}
@@ -79,8 +79,8 @@ IsBuffer-without b t k = record {
 }
 
 -- the fields of a buffer from which an operation leaves
-pub AreKept-without : (i : Inside) (t : Lamport) (w : List Operation) → AreKept i → w ≡ without t i.waiting → AreKept (record i { waiting = w })
-AreKept-without i t w k e = subst (λ (x : List Operation). IsBuffer (record (state_of i) { waiting = x })) (sym e) (IsBuffer-without (state_of i) t k)
+pub IsBufferInside-without : (i : Inside) (t : Lamport) (w : List Operation) → IsBufferInside i → w ≡ without t i.waiting → IsBufferInside (record i { waiting = w })
+IsBufferInside-without i t w k e = subst (λ (x : List Operation). IsBuffer (record (state_of i) { waiting = x })) (sym e) (IsBuffer-without (state_of i) t k)
 
 -- ---- a pass
 

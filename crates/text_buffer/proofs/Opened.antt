@@ -11,10 +11,10 @@ use Rattle.op_model.specs.Domains.{IsProper}
 use Rattle.op_model.specs.Histories.{History, base, version, clock, bytes_held, entries_held}
 use Rattle.op_model.specs.Lawful.{Lawful}
 use Rattle.op_model.proofs.histories.Proper.{utf8}
-use Rattle.text_buffer.specs.Base.{opening_text}
+use Rattle.text_buffer.specs.BaseInside.{opening_text}
 use Rattle.text_buffer.specs.Buffer.{BufferState, IsBuffer}
 use Rattle.text_buffer.specs.Document.{IsContent, IsHistory}
-use Rattle.text_buffer.specs.Told.{AreTold}
+use Rattle.text_buffer.specs.DocumentInside.{IsDocumentInside}
 use Rattle.text_buffer.specs.declared.document.Document.TheInside.{Inside as DocumentInside}
 use Rattle.text_buffer.proofs.Lengths.{text_length}
 
@@ -32,10 +32,10 @@ history_opened t u l =
       text_bytes = text_length one;
     }
 
-pub AreTold-opened : (j : DocumentInside) (t : List ℕ) → IsUtf8 t → length t ≤ 2 ^ 40
+pub IsDocumentInside-opened : (j : DocumentInside) (t : List ℕ) → IsUtf8 t → length t ≤ 2 ^ 40
     → j.operations ≡ base t ∷ [] → j.clock ≡ 2 → arc_value j.version ≡ version (base t ∷ []) → IsContent j.content (base t ∷ []) → j.bytes ≡ length t → j.entries ≡ 0
-    → AreTold j
-AreTold-opened j t u l h clocks versions content bytes entries =
+    → IsDocumentInside j
+IsDocumentInside-opened j t u l h clocks versions content bytes entries =
     let one : History = base t ∷ [] in
     let held : bytes_held one ≡ length t = omega arith in
     record {

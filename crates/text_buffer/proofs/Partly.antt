@@ -10,7 +10,7 @@ use Rattle.op_model.specs.Lawful.{Lawful}
 use Rattle.op_model.specs.Settled.{State}
 use Rattle.op_model.specs.Steps.{older}
 use Rattle.text_buffer.specs.Buffer.{BufferState, IsPartly, AllMiss, new_operations, after_settle, state, with_state}
-use Rattle.text_buffer.specs.Fields.{state_of, AreKept}
+use Rattle.text_buffer.specs.BufferInside.{state_of, IsBufferInside}
 use Rattle.text_buffer.specs.declared.buffer.Buffer.TheInside.{Inside}
 use Rattle.text_buffer.specs.Settling.{pass_until, after_pass, IsStopped}
 use Rattle.text_buffer.proofs.Settles.{settled_once, settled_twice, settled_waits}
@@ -64,24 +64,24 @@ stopped_later b n p u s = subst (IsPartly b) (sym s.1)
 
 -- ---- from the fields
 
-pub up : (i : Inside) (b : BufferState) → AreKept i → state_of i ≡ b → Ascending older b.waiting
+pub up : (i : Inside) (b : BufferState) → IsBufferInside i → state_of i ≡ b → Ascending older b.waiting
 up i b k v = subst (λ (x : BufferState). Ascending older x.waiting) v k.waiting_ascending
 
-pub lawful : (i : Inside) (b : BufferState) → AreKept i → state_of i ≡ b → Lawful b.history
+pub lawful : (i : Inside) (b : BufferState) → IsBufferInside i → state_of i ≡ b → Lawful b.history
 lawful i b k v = subst (λ (x : BufferState). Lawful x.history) v k.lawful
 
 length_is : (i : Inside) (b : BufferState) (s : ℕ) → s ≡ length i.document → state_of i ≡ b → s ≡ length b.history
 length_is i b s e v = e ∙ ap (λ (x : BufferState). length x.history) v
 
 -- the histories before and after the first pass
-module _ (i j : Inside) (b m : BufferState) (s r : ℕ) (k : AreKept i) (v : state_of i ≡ b) (w : state_of j ≡ m) (e : s ≡ length i.document) (f : r ≡ length j.document) (p : m ≡ after_pass b) where
+module _ (i j : Inside) (b m : BufferState) (s r : ℕ) (k : IsBufferInside i) (v : state_of i ≡ b) (w : state_of j ≡ m) (e : s ≡ length i.document) (f : r ≡ length j.document) (p : m ≡ after_pass b) where
   pub after_one : r ≡ s → m ≡ after_settle b
   after_one n = p ∙ sym (once b (up i b k v) (ap (λ (x : BufferState). length x.history) (sym p) ∙ sym (length_is j m r f w) ∙ n ∙ length_is i b s e v))
 
   pub after_two : (n : BufferState) → (r ≡ s → ⊥) → n ≡ after_pass m → n ≡ after_settle b
   after_two n d q = q ∙ ap after_pass p ∙ sym (twice b (up i b k v) (λ x. d (length_is j m r f w ∙ ap (λ (y : BufferState). length y.history) p ∙ x ∙ sym (length_is i b s e v))))
 
-pub no_shorter : (i j : Inside) (b m n : BufferState) (s r : ℕ) → AreKept i → state_of i ≡ b → state_of j ≡ n → s ≡ length i.document → r ≡ length j.document → m ≡ after_pass b → n ≡ after_pass m → s ≤ r
+pub no_shorter : (i j : Inside) (b m n : BufferState) (s r : ℕ) → IsBufferInside i → state_of i ≡ b → state_of j ≡ n → s ≡ length i.document → r ≡ length j.document → m ≡ after_pass b → n ≡ after_pass m → s ≤ r
 no_shorter i j b m n s r k v w e f p q =
     let x : length b.history ≤ length (after_pass (after_pass b)).history = longer_twice b (up i b k v) in
     let y : r ≡ length (after_pass (after_pass b)).history = length_is j n r f w ∙ ap (λ (z : BufferState). length z.history) (q ∙ ap after_pass p) in

@@ -20,6 +20,7 @@ use Rattle.op_model.specs.Steps.{older}
 use Rattle.op_model.proofs.answers.Passed.{find_none}
 use Rattle.op_model.proofs.order.PathOrder.{same_stamp_refl}
 use Rattle.op_model.proofs.order.SameSets.{one_way}
+use Rattle.op_model.proofs.settling.AllApplied.{AllMiss}
 use Rattle.op_model.proofs.settling.Settling.{after, pass_is, stay_misses}
 use Rattle.deferred_ops.specs.Deferred.{is_past, least_ready, without}
 use Rattle.text_buffer.specs.Settling.{after_turn, turn_step, pass_front, pass_until, pass_step}
@@ -49,13 +50,10 @@ pass_append l h (op ∷ v) w = pass_is l h op (v ++ w) ∙ go (turn l h op) (pas
 
 -- ---- a pass over what misses a cause
 
-abbrev Missing : History → List Operation → Type 0
-Missing h w = AllByRecursion (λ (o : Operation). within (version_of o) (version h) ≡ false) w
-
 turn_missing : (l : LimitsType) (h : History) (op : Operation) → within (version_of op) (version h) ≡ false → turn l h op ≡ Stay
 turn_missing l h op e = rw e refl
 
-pass_missing : (l : LimitsType) (h : History) (w : List Operation) → Missing h w → pass l h w ≡ record { history = h; waiting = w; refused = [] }
+pass_missing : (l : LimitsType) (h : History) (w : List Operation) → AllMiss h w → pass l h w ≡ record { history = h; waiting = w; refused = [] }
 pass_missing l h [] m = pass_nil l h
 pass_missing l h (op ∷ w) m = pass_is l h op w ∙ ap (λ (t : Turn). after t l h op w) (turn_missing l h op m.0) ∙ ap (with_waiting op) (pass_missing l h w m.1)
 
@@ -83,13 +81,9 @@ found_past t (o ∷ v) w e = rw e.0 (found_past t v w e.1)
 
 -- ---- stamps ascend
 
-each_mid : {A : Type 0} (P : A → Type 0) (v w : List A) (x : A) → AllByRecursion P (v ++ x ∷ w) → P x
-each_mid P [] w x e = e.0
-each_mid P (y ∷ v) w x e = each_mid P v w x e.1
-
 around : (v : List Operation) (op : Operation) (w : List Operation) → Ascending older (v ++ op ∷ w) → AllByRecursion (λ (o : Operation). older o op ≡ true) v × AllByRecursion (λ (o : Operation). older op o ≡ true) w
 around [] op w u = (tt, u.0)
-around (o ∷ v) op w u = let r = around v op w u.1 in ((each_mid (λ (x : Operation). older o x ≡ true) v w op u.0, r.0), r.1)
+around (o ∷ v) op w u = let r = around v op w u.1 in (((each_right (λ (x : Operation). older o x ≡ true) v (op ∷ w) u.0).0, r.0), r.1)
 
 pub differ : (s t : Lamport) → later t s ≡ true → (same_stamp s t ≡ false) × (same_stamp t s ≡ false)
 unfolding later same_stamp
@@ -162,7 +156,7 @@ at_start l b = record {
 }
 
 -- it has ended where nothing more is ready
-past_missing : (after : Option Lamport) (h : History) (w : List Operation) → AllByRecursion (λ (o : Operation). is_past after o ≡ true) w → AllByRecursion (λ (o : Operation). is_ready after h o ≡ false) w → Missing h w
+past_missing : (after : Option Lamport) (h : History) (w : List Operation) → AllByRecursion (λ (o : Operation). is_past after o ≡ true) w → AllByRecursion (λ (o : Operation). is_ready after h o ≡ false) w → AllMiss h w
 past_missing after h [] a r = tt
 past_missing after h (o ∷ w) a r = (rw a.0 at r.0, past_missing after h w a.1 r.1)
 
@@ -170,7 +164,7 @@ pub at_end : (l : LimitsType) (b : State) (after : Option Lamport) (s : State) �
 at_end l b after s i e =
     let p : State = pass l b.history i.front in
     let n : least_ready after (version p.history) (p.waiting ++ i.rest) ≡ None = subst (λ (z : State). least_ready after (version z.history) z.waiting ≡ None) i.is e in
-    let m : Missing p.history i.rest = past_missing after p.history i.rest i.ahead (each_right (λ (o : Operation). is_ready after p.history o ≡ false) p.waiting i.rest (find_none (is_ready after p.history) (p.waiting ++ i.rest) n)) in
+    let m : AllMiss p.history i.rest = past_missing after p.history i.rest i.ahead (each_right (λ (o : Operation). is_ready after p.history o ≡ false) p.waiting i.rest (find_none (is_ready after p.history) (p.waiting ++ i.rest) n)) in
     let q : pass l b.history b.waiting ≡ record { history = p.history; waiting = p.waiting ++ i.rest; refused = p.refused } =
     ap (pass l b.history) i.split ∙ pass_append l b.history i.front i.rest ∙ ap (state_join p) (pass_missing l p.history i.rest m) ∙ ap (λ z. record { history = p.history; waiting = p.waiting ++ i.rest; refused = z }) (append-nil p.refused) in
     i.is ∙ sym (ap (λ (z : State). record { history = z.history; waiting = z.waiting; refused = b.refused ++ z.refused }) q)
@@ -199,7 +193,7 @@ pass_last l h op t e = pass_is l h op [] ∙ ap (λ (u : Turn). after u l h op [
     go Stay = ap (with_waiting op) (pass_nil l h)
     go (Refuse f) = ap (λ (s : State). record { history = s.history; waiting = s.waiting; refused = (stamp_of op, f) ∷ s.refused }) (pass_nil l h)
 
-pass_more : (l : LimitsType) (h : History) (front missed : List Operation) (op : Operation) (t : Turn) → Missing (pass l h front).history missed → turn l (pass l h front).history op ≡ t
+pass_more : (l : LimitsType) (h : History) (front missed : List Operation) (op : Operation) (t : Turn) → AllMiss (pass l h front).history missed → turn l (pass l h front).history op ≡ t
     → pass l h (front ++ (missed ++ op ∷ [])) ≡ state_join (pass l h front) (state_join (record { history = (pass l h front).history; waiting = missed; refused = [] }) (left t (pass l h front).history op))
 pass_more l h front missed op t m e =
     let p : State = pass l h front in
@@ -246,11 +240,11 @@ module _ (l : LimitsType) (b : State) (front rest : List Operation) (op : Operat
       let f : find (is_ready after p.history) rest ≡ Some op =
       sym (found_past (is_ready after p.history) p.waiting rest (each_map (λ (o : Operation). is_past after o ≡ false) (λ (o : Operation). is_ready after p.history o ≡ false) (λ o y. rw y refl) p.waiting v)) ∙ e in
       let q = part_of (is_ready after p.history) rest op f in
-      let m : Missing p.history q.missed = past_missing after p.history q.missed (each_left (λ (o : Operation). is_past after o ≡ true) q.missed (op ∷ q.behind) (subst (AllByRecursion (λ (o : Operation). is_past after o ≡ true)) q.is a)) q.misses in
+      let m : AllMiss p.history q.missed = past_missing after p.history q.missed (each_left (λ (o : Operation). is_past after o ≡ true) q.missed (op ∷ q.behind) (subst (AllByRecursion (λ (o : Operation). is_past after o ≡ true)) q.is a)) q.misses in
       let y : within (version_of op) (version p.history) ≡ true = (and_parts (is_past after op) (within (version_of op) (version p.history)) q.hit).1 in
       go q m y (turn l p.history op) refl
     where
-      go : (q : Parted (is_ready after p.history) rest op) → Missing p.history q.missed → within (version_of op) (version p.history) ≡ true
+      go : (q : Parted (is_ready after p.history) rest op) → AllMiss p.history q.missed → within (version_of op) (version p.history) ≡ true
           → (t : Turn) → turn l p.history op ≡ t → IsAt l b (Some (stamp_of op)) (after_turn t op (pass_front l b front rest))
       go q m y Append t = subst (λ z. IsAt l b (Some (stamp_of op)) (record { history = p.history ++ op ∷ []; waiting = without (stamp_of op) (p.waiting ++ rest); refused = b.refused ++ z })) (append-nil p.refused)
           (further q (p.history ++ op ∷ []) [] s u (pass_more l b.history front q.missed op Append m t))

@@ -119,12 +119,12 @@ took_of n Repeat = Some took.Repeat
 took_of n (Waits r v) = Some (took.Waits r v)
 took_of n (Refused f) = None
 
--- the operation is applied, or waits
-abbrev pub is_kept : Answer → Bool
-is_kept Good = true
-is_kept Repeat = false
-is_kept (Waits r v) = true
-is_kept (Refused f) = false
+-- the operation is taken in: it is applied, or waits
+abbrev pub is_taken_in : Answer → Bool
+is_taken_in Good = true
+is_taken_in Repeat = false
+is_taken_in (Waits r v) = true
+is_taken_in (Refused f) = false
 
 -- each operation that waits misses a cause
 abbrev pub AllMiss : BufferState → Type 0

@@ -2,8 +2,8 @@ pub mod Outcomes
 pub mod Buffer
 pub mod Document
 pub mod Costs
-pub mod Told
-pub mod Fields
+pub mod DocumentInside
+pub mod BufferInside
 pub mod Settling
 pub mod SnapshotLaws
-pub mod Base
+pub mod BaseInside

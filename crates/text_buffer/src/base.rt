@@ -27,11 +27,11 @@ impl Model for Base {
 
     ghost Value = { List ℕ };
 
-    ghost use Rattle.text_buffer.specs.Base.{text_of, IsBase};
+    ghost use Rattle.text_buffer.specs.BaseInside.{text_of, IsBaseInside};
 
     ghost view = { text_of };
 
-    ghost invariant = { IsBase };
+    ghost invariant = { IsBaseInside };
 }
 
 impl Base {
@@ -78,12 +78,17 @@ impl Base {
         self.len == 0
     }
 
-    // What a buffer over it begins with. Nothing is copied. That the text is UTF-8 is a clause for callers.
-    pub(crate) fn document(&self) -> Result<Document, OutOfMemory>
-        ensures document { IfOk result (λ d. d ≡ base self.now ∷ []) }
-        ensures utf8 { IsUtf8 self.now }
+    /// What holds of every base, for callers. It does nothing when it runs.
+    pub fn known(&self)
+        ensures { IsUtf8 self.now }
     {
         self.document.known();
+    }
+
+    // What a buffer over it begins with. Nothing is copied.
+    pub(crate) fn document(&self) -> Result<Document, OutOfMemory>
+        ensures { IfOk result (λ d. d ≡ base self.now ∷ []) }
+    {
         self.document.share()
     }
 }

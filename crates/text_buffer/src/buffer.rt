@@ -61,11 +61,11 @@ impl Model for Buffer {
 
     ghost Value = { BufferState };
 
-    ghost use Rattle.text_buffer.specs.Fields.{state_of, AreKept};
+    ghost use Rattle.text_buffer.specs.BufferInside.{state_of, IsBufferInside};
 
     ghost view = { state_of };
 
-    ghost invariant = { AreKept };
+    ghost invariant = { IsBufferInside };
 }
 
 impl Buffer {
@@ -152,6 +152,7 @@ impl Buffer {
         requires room { length base.now ≤ limits.bytes }
         ensures { IfOk result (λ b. b ≡ over_base replica base.now limits) }
     {
+        base.known();
         let waiting = Deferred::new(alloc)?;
         Ok(Buffer {
             alloc,
@@ -226,7 +227,7 @@ impl Buffer {
             ⊎ (e ≡ EditFault.OutOfMemory)) }
         ensures cost { IsEditCost self.old.history changes.now (steps.new - steps.old) }
     {
-        self.document.known_tree();
+        self.document.known_cost();
         match self.fault(changes) {
             Some(fault) => Err(fault),
             None => Ok(self.make_edit(changes, steps)?),

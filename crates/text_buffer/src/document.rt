@@ -59,11 +59,11 @@ impl Model for Document {
 
     ghost Value = { List Operation };
 
-    ghost use Rattle.text_buffer.specs.Told.{AreTold};
+    ghost use Rattle.text_buffer.specs.DocumentInside.{IsDocumentInside};
 
     ghost view = { λ d. d.operations };
 
-    ghost invariant = { AreTold };
+    ghost invariant = { IsDocumentInside };
 }
 
 impl Document {
@@ -112,7 +112,7 @@ impl Document {
     }
 
     /// An edit that makes no node costs no more than it may, for callers. It does nothing when it runs.
-    pub fn known_tree(&self)
+    pub fn known_cost(&self)
         ensures { (changes : List Piece) → IsEditCost self.now changes 0 }
     {
         self.content.fragments.known();
@@ -207,7 +207,7 @@ impl Document {
     {
         let adds = size(&op);
         let content = self.content_with(&op)?;
-        self.put(op, adds, content)
+        self.push(op, adds, content)
     }
 
     /// Makes an edit of changes that meet no fault, and puts it last. Gives the edit; a copy is kept, which shares its texts. It costs
@@ -226,7 +226,7 @@ impl Document {
     {
         let (edit, adds, content) = self.with_changes(replica, changes, steps)?;
         let (made, kept) = with_copy(self.alloc, edit)?;
-        self.put(kept, adds, content)?;
+        self.push(kept, adds, content)?;
         Ok(made)
     }
 
@@ -340,7 +340,12 @@ impl Document {
     }
 
     // Puts an operation last that is good, which adds so many bytes and entries, with what the history comes to then.
-    fn put(&mut self, op: Operation, adds: (u128, u64), content: Content) -> Result<(), OutOfMemory>
+    fn push(
+        &mut self,
+        op: Operation,
+        adds: (u128, u64),
+        content: Content,
+    ) -> Result<(), OutOfMemory>
         requires grows { MayGrow self.old op }
         requires bytes { adds.0 ≡ bytes_of op }
         requires entries { adds.1 ≡ entries_of op }

@@ -60,6 +60,7 @@ impl Buffer {
         ensures err { OnErr result (self.new ≡ self.old) }
         ensures buffer { IsBuffer self.old }
     {
+        self.known();
         self.watch();
         let Some(op) = self.next_ready(after)? else {
             return Ok(None);
@@ -80,8 +81,7 @@ impl Buffer {
     // A copy of the least operation past a stamp that misses no cause, if there is one. What waits is
     // shared, so no text is copied.
     fn next_ready(&self, after: Option<Lamport>) -> Result<Option<Operation>, OutOfMemory>
-        ensures ready { IfOk result (λ op. op ≡ next_ready after self.now) }
-        ensures buffer { IsBuffer self.now }
+        ensures { IfOk result (λ op. op ≡ next_ready after self.now) }
     {
         match self.waiting.ready(after, self.document.version()) {
             Some(op) => Ok(Some(op.copy(self.alloc)?)),

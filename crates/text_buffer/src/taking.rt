@@ -9,7 +9,7 @@ ghost use Rattle.op_model.specs.Steps.{older};
 ghost use Rattle.op_model.specs.Steps.Step.{Takes};
 ghost use Rattle.text_buffer.specs.Outcomes.{pair_of};
 ghost use Rattle.text_buffer.specs.Settling.{IsTakenPartly};
-ghost use Rattle.text_buffer.specs.Buffer.{AllMiss, IsPartly, after_call, answer_to, is_kept, number_applied, after_take, took_of};
+ghost use Rattle.text_buffer.specs.Buffer.{AllMiss, IsPartly, after_call, answer_to, is_taken_in, number_applied, after_take, took_of};
 
 use crate::{Buffer, OutOfMemory, Refused, Took};
 use applied_ops::Applied;
@@ -49,7 +49,7 @@ impl Buffer {
         ensures applied { IfOk result (λ t. (n : ℕ) → t ≡ Took.Applied n
             → (1 ≤ n) × AllMiss self.new) }
         ensures fault { IfErr result (λ e. (answer_to self.old op ≡ refused e)
-            ⊎ ((is_kept (answer_to self.old op) ≡ true) × (e ≡ OpFault.OutOfMemory))) }
+            ⊎ ((is_taken_in (answer_to self.old op) ≡ true) × (e ≡ OpFault.OutOfMemory))) }
         ensures err { OnErr result ((self.new ≡ self.old) ⊎ (answer_to self.old op ≡ Good)) }
         ensures want { OnErr result (IsPartly self.old self.new) }
         ensures stopped { OnErr result (IsTakenPartly op self.old self.new) }
@@ -77,7 +77,7 @@ impl Buffer {
         ensures applied { IfOk result (λ t. (n : ℕ) → t ≡ Took.Applied n
             → (1 ≤ n) × AllMiss self.new) }
         ensures fault { IfErr result (λ e. (answer_to self.old op ≡ refused e)
-            ⊎ ((is_kept (answer_to self.old op) ≡ true) × (e ≡ OpFault.OutOfMemory))) }
+            ⊎ ((is_taken_in (answer_to self.old op) ≡ true) × (e ≡ OpFault.OutOfMemory))) }
         ensures err { OnErr result ((self.new ≡ self.old) ⊎ (answer_to self.old op ≡ Good)) }
         ensures want { OnErr result (IsPartly self.old self.new) }
         ensures stopped { OnErr result (IsTakenPartly op self.old self.new) }

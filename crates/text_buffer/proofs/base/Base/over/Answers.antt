@@ -1,5 +1,5 @@
 use Rattle.std.proofs.Common.{length, sym, ap}
-use Rattle.text_buffer.specs.Base.{opening_text}
+use Rattle.text_buffer.specs.BaseInside.{opening_text}
 use Rattle.text_buffer.proofs.Opened.{base_alone}
 use Rattle.text_buffer.proofs.base.Base.over.Goals as goal
 

@@ -2,7 +2,7 @@ use Rattle.std.proofs.Common.{◌∙◌, [], ap}
 use Rattle.op_model.specs.Answers.{answer}
 use Rattle.op_model.specs.Settled.{full_fault}
 use Rattle.text_buffer.specs.Buffer.{BufferState}
-use Rattle.text_buffer.specs.Fields.{state_of}
+use Rattle.text_buffer.specs.BufferInside.{state_of}
 use Rattle.text_buffer.proofs.Applied.{IsBuffer-put, room_for}
 use Rattle.text_buffer.proofs.buffer.Buffer.apply.Goals as goal
 

@@ -4,5 +4,5 @@ use Rattle.text_buffer.proofs.Opened.{IsBuffer-opened}
 use Rattle.text_buffer.proofs.buffer.Buffer.begin.Goals as goal
 
 pub invariant_of-result : goal.invariant_of-result
-invariant_of-result c = IsBuffer-opened _ _ _ _ _ c.args.base.now c.document.ensures.utf8 c.requires.least c.requires.greatest c.requires.bytes c.requires.entries c.requires.room
-    c.in_ok-document.ensures.document c.in_ok-waiting.ensures.empty (ap (map pair_of) c.new-2.ensures.items)
+invariant_of-result c = IsBuffer-opened _ _ _ _ _ c.args.base.now c.known.ensures c.requires.least c.requires.greatest c.requires.bytes c.requires.entries c.requires.room
+    c.in_ok-document.ensures c.in_ok-waiting.ensures.empty (ap (map pair_of) c.new-2.ensures.items)

@@ -1,7 +1,7 @@
 use Rattle.std.proofs.Common.{◌≡◌, ◌∙◌, [], ◌∷◌, ◌++◌, None, ap, subst}
 use Rattle.op_model.specs.Shown.{text}
 use Rattle.text_buffer.specs.Buffer.{BufferState, IsBuffer, edit_fault, edit_of}
-use Rattle.text_buffer.specs.Fields.{state_of}
+use Rattle.text_buffer.specs.BufferInside.{state_of}
 use Rattle.text_buffer.proofs.Edited.{good_of, room_made}
 use Rattle.text_buffer.proofs.Applied.{IsBuffer-put}
 use Rattle.text_buffer.proofs.buffer.Buffer.make_edit.Goals as goal

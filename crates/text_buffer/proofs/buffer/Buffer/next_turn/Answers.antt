@@ -6,5 +6,5 @@ use Rattle.text_buffer.proofs.buffer.Buffer.next_turn.Goals as goal
 
 pub returns-clause-turn : goal.returns-clause-turn
 returns-clause-turn c =
-    turn_done c.args.after c.watch.new.self c.meet.new.self c.leave.new.self c.in-Some.op c.stamp-stamp.result (sym c.in_ok-op.ensures.ready ∙ c.in-Some.is) c.stamp-stamp.ensures c.in_ok-meet.ensures.ok c.leave.ensures
+    turn_done c.args.after c.watch.new.self c.meet.new.self c.leave.new.self c.in-Some.op c.stamp-stamp.result (sym c.in_ok-op.ensures ∙ c.in-Some.is) c.stamp-stamp.ensures c.in_ok-meet.ensures.ok c.leave.ensures
     ∙ ap (λ (b : BufferState). after_next_turn (next_ready c.args.after b) b) c.watch.ensures

@@ -1,7 +1,7 @@
 use Rattle.std.proofs.Common.{sym}
 use Rattle.text_buffer.proofs.Waiting.{distinct, not_waiting, waits_new}
 use Rattle.text_buffer.proofs.Applied.{IsBuffer-deferred}
-use Rattle.text_buffer.specs.Fields.{state_of}
+use Rattle.text_buffer.specs.BufferInside.{state_of}
 use Rattle.text_buffer.proofs.buffer.Buffer.take.Goals as goal
 
 pub judge-requires : goal.judge-requires

@@ -7,15 +7,14 @@ use Rattle.op_model.specs.Made.{local_edit}
 use Rattle.op_model.specs.Shown.{hidden_text, text, texts}
 use Rattle.remote_edit.specs.Moves.{TakeTexts}
 use Rattle.remote_edit.proofs.Fragments.{fragments_with_edit}
-use Rattle.text_buffer.specs.Document.{IsContent, IsHistory}
-use Rattle.text_buffer.proofs.Contents.{content_after, edit_room, made_grows, made_texts, may_make}
+use Rattle.text_buffer.proofs.Contents.{content_after, content_seen, history_seen, edit_room, made_grows, made_texts, may_make}
 use Rattle.text_buffer.proofs.document.Document.with_changes.Goals as goal
 
 pub place_local-requires : goal.place_local-requires
 place_local-requires g c =
     let h = c.args.self.now in
-    let k : IsContent c.self.inside.content h = subst (IsContent c.self.inside.content) c.self.view_is c.self.invariant.content in
-    let s : IsHistory h = subst IsHistory c.self.view_is c.self.invariant.history in
+    let k = content_seen c.self.inside h c.self.invariant c.self.view_is in
+    let s = history_seen c.self.inside h c.self.invariant c.self.view_is in
     let v = c.self.invariant.clock ∙ ap clock c.self.view_is in
     let z = c.in_ok-copy.ensures ∙ c.deref.ensures ∙ c.self.invariant.version ∙ ap version c.self.view_is in
     may_make c.self.inside.content h (record { value = c.self.inside.clock; replica = c.args.replica }) c.in_ok-copy.field-0 c.args.changes.now k s c.requires v z
@@ -23,8 +22,8 @@ place_local-requires g c =
 pub content_of-requires-clause-texts : goal.content_of-requires-clause-texts
 content_of-requires-clause-texts g c =
     let h = c.args.self.now in
-    let k : IsContent c.self.inside.content h = subst (IsContent c.self.inside.content) c.self.view_is c.self.invariant.content in
-    let s : IsHistory h = subst IsHistory c.self.view_is c.self.invariant.history in
+    let k = content_seen c.self.inside h c.self.invariant c.self.view_is in
+    let s = history_seen c.self.inside h c.self.invariant c.self.view_is in
     let v = c.self.invariant.clock ∙ ap clock c.self.view_is in
     let z = c.in_ok-copy.ensures ∙ c.deref.ensures ∙ c.self.invariant.version ∙ ap version c.self.view_is in
     let op = Edit c.in_ok-edit.edit in
@@ -39,8 +38,8 @@ content_of-requires-clause-room g c = edit_room c.args.self.now c.args.replica c
 pub returns-clause-made : goal.returns-clause-made
 returns-clause-made g c =
     let h = c.args.self.now in
-    let k : IsContent c.self.inside.content h = subst (IsContent c.self.inside.content) c.self.view_is c.self.invariant.content in
-    let s : IsHistory h = subst IsHistory c.self.view_is c.self.invariant.history in
+    let k = content_seen c.self.inside h c.self.invariant c.self.view_is in
+    let s = history_seen c.self.inside h c.self.invariant c.self.view_is in
     let v = c.self.invariant.clock ∙ ap clock c.self.view_is in
     let z = c.in_ok-copy.ensures ∙ c.deref.ensures ∙ c.self.invariant.version ∙ ap version c.self.view_is in
     c.in_ok-edit.ensures.made h k.stand v z
@@ -48,8 +47,8 @@ returns-clause-made g c =
 pub returns-clause-grows : goal.returns-clause-grows
 returns-clause-grows g c =
     let h = c.args.self.now in
-    let k : IsContent c.self.inside.content h = subst (IsContent c.self.inside.content) c.self.view_is c.self.invariant.content in
-    let s : IsHistory h = subst IsHistory c.self.view_is c.self.invariant.history in
+    let k = content_seen c.self.inside h c.self.invariant c.self.view_is in
+    let s = history_seen c.self.inside h c.self.invariant c.self.view_is in
     let v = c.self.invariant.clock ∙ ap clock c.self.view_is in
     let z = c.in_ok-copy.ensures ∙ c.deref.ensures ∙ c.self.invariant.version ∙ ap version c.self.view_is in
     let op = Edit c.in_ok-edit.edit in
@@ -65,8 +64,8 @@ returns-clause-entries g c = c.size-adds.ensures.entries
 pub returns-clause-content : goal.returns-clause-content
 returns-clause-content g c =
     let h = c.args.self.now in
-    let k : IsContent c.self.inside.content h = subst (IsContent c.self.inside.content) c.self.view_is c.self.invariant.content in
-    let s : IsHistory h = subst IsHistory c.self.view_is c.self.invariant.history in
+    let k = content_seen c.self.inside h c.self.invariant c.self.view_is in
+    let s = history_seen c.self.inside h c.self.invariant c.self.view_is in
     let v = c.self.invariant.clock ∙ ap clock c.self.view_is in
     let z = c.in_ok-copy.ensures ∙ c.deref.ensures ∙ c.self.invariant.version ∙ ap version c.self.view_is in
     let op = Edit c.in_ok-edit.edit in

@@ -7,22 +7,21 @@ use Rattle.op_model.specs.Histories.{bytes_held}
 use Rattle.op_model.specs.Shown.{hidden_text, text, texts}
 use Rattle.remote_edit.specs.Moves.{TakeTexts}
 use Rattle.remote_edit.proofs.Fragments.{fragments_with_edit}
-use Rattle.text_buffer.specs.Document.{IsContent, IsHistory}
-use Rattle.text_buffer.proofs.Contents.{content_after, may_place}
+use Rattle.text_buffer.proofs.Contents.{content_after, content_seen, history_seen, may_place}
 use Rattle.text_buffer.proofs.document.Document.with_edit.Goals as goal
 
 pub place_remote-requires : goal.place_remote-requires
 place_remote-requires c =
     let h = c.args.self.now in
-    let k : IsContent c.self.inside.content h = subst (IsContent c.self.inside.content) c.self.view_is c.self.invariant.content in
-    let s : IsHistory h = subst IsHistory c.self.view_is c.self.invariant.history in
+    let k = content_seen c.self.inside h c.self.invariant c.self.view_is in
+    let s = history_seen c.self.inside h c.self.invariant c.self.view_is in
     may_place c.self.inside.content h (Edit c.args.edit.now) k s c.requires
 
 pub content_of-requires-clause-texts : goal.content_of-requires-clause-texts
 content_of-requires-clause-texts c =
     let h = c.args.self.now in
-    let k : IsContent c.self.inside.content h = subst (IsContent c.self.inside.content) c.self.view_is c.self.invariant.content in
-    let s : IsHistory h = subst IsHistory c.self.view_is c.self.invariant.history in
+    let k = content_seen c.self.inside h c.self.invariant c.self.view_is in
+    let s = history_seen c.self.inside h c.self.invariant c.self.view_is in
     subst (λ (ps : List Piece). TakeTexts c.in_ok-placed.placed.moves (text h) (hidden_text h) (texts ps)) (sym c.as_slice.ensures)
     (c.in_ok-placed.ensures.characters h k.stand s.lawful s.proper c.requires.proper c.requires.good k.whole).1
 
@@ -35,8 +34,8 @@ content_of-requires-clause-room c =
 pub returns : goal.returns
 returns c =
     let h = c.args.self.now in
-    let k : IsContent c.self.inside.content h = subst (IsContent c.self.inside.content) c.self.view_is c.self.invariant.content in
-    let s : IsHistory h = subst IsHistory c.self.view_is c.self.invariant.history in
+    let k = content_seen c.self.inside h c.self.invariant c.self.view_is in
+    let s = history_seen c.self.inside h c.self.invariant c.self.view_is in
     IfOk-weaker c.content_of.result _ _ (λ x m. content_after x c.in_ok-placed.placed h (Edit c.args.edit.now) c.self.inside.content.undos c.in_ok-share.field-0 (texts c.as_slice.result.now) m (ap texts c.as_slice.ensures) c.in_ok-share.ensures
     (fragments_with_edit h c.args.edit.now c.self.inside.content.undos c.self.inside.content.fragments.items c.in_ok-placed.placed.fragments.items k.stand.counts k.fragments c.in_ok-placed.ensures.fragments)
     (c.in_ok-placed.ensures.stands h k.stand s.lawful c.requires.good)

@@ -1,27 +1,26 @@
-use Rattle.std.proofs.Common.{◌∙◌, ◌+◌, ◌≤◌, ◌^◌, [], map, refl, ap, subst, arith}
+use Rattle.std.proofs.Common.{◌∙◌, ◌+◌, ◌≤◌, ◌^◌, [], map, refl, ap, arith}
 use Rattle.std.proofs.lemmas.Result.{IfOk-weaker}
 use Rattle.op_model.specs.declared.operation.Operation.TheVariants.{Undo}
 use Rattle.op_model.specs.declared.operation.UndoCount.{UndoCount}
 use Rattle.op_model.specs.Histories.{bytes_held}
 use Rattle.remote_edit.specs.Undoing.{MayMark}
 use Rattle.remote_edit.proofs.Fragments.{fragments_with_undo}
-use Rattle.text_buffer.specs.Document.{IsContent, IsHistory}
 use Rattle.text_buffer.proofs.Applied.{counts_fit}
-use Rattle.text_buffer.proofs.Contents.{content_after, may_mark}
+use Rattle.text_buffer.proofs.Contents.{content_after, content_seen, history_seen, may_mark}
 use Rattle.text_buffer.proofs.document.Document.with_undo.Goals as goal
 
 pub with_undo-requires : goal.with_undo-requires
 with_undo-requires c =
     let h = c.args.self.now in
-    let k : IsContent c.self.inside.content h = subst (IsContent c.self.inside.content) c.self.view_is c.self.invariant.content in
-    let s : IsHistory h = subst IsHistory c.self.view_is c.self.invariant.history in
+    let k = content_seen c.self.inside h c.self.invariant c.self.view_is in
+    let s = history_seen c.self.inside h c.self.invariant c.self.view_is in
     counts_fit h c.args.undo.now c.self.inside.content.undos s k.stand.counts c.requires.room
 
 pub content_of-requires-clause-texts : goal.content_of-requires-clause-texts
 content_of-requires-clause-texts c =
     let h = c.args.self.now in
-    let k : IsContent c.self.inside.content h = subst (IsContent c.self.inside.content) c.self.view_is c.self.invariant.content in
-    let s : IsHistory h = subst IsHistory c.self.view_is c.self.invariant.history in
+    let k = content_seen c.self.inside h c.self.invariant c.self.view_is in
+    let s = history_seen c.self.inside h c.self.invariant c.self.view_is in
     let m : MayMark c.self.inside.content.fragments.items c.self.inside.content.index c.in_ok-undos.undos c.args.undo.now.stamp c.as_slice-2.result.now h c.args.undo.now =
     may_mark c.self.inside.content h c.args.undo.now c.in_ok-undos.undos c.as_slice-2.result.now k s c.requires (c.in_ok-undos.ensures.history h k.stand.counts)
     (c.as_slice-2.ensures.value ∙ c.in_ok-edits.ensures ∙ ap (map (λ (x : UndoCount). x.edit)) c.as_slice.ensures) in
@@ -33,8 +32,8 @@ content_of-requires-clause-room c = let r : bytes_held c.args.self.now + 0 ≤ 2
 pub returns : goal.returns
 returns c =
     let h = c.args.self.now in
-    let k : IsContent c.self.inside.content h = subst (IsContent c.self.inside.content) c.self.view_is c.self.invariant.content in
-    let s : IsHistory h = subst IsHistory c.self.view_is c.self.invariant.history in
+    let k = content_seen c.self.inside h c.self.invariant c.self.view_is in
+    let s = history_seen c.self.inside h c.self.invariant c.self.view_is in
     let m : MayMark c.self.inside.content.fragments.items c.self.inside.content.index c.in_ok-undos.undos c.args.undo.now.stamp c.as_slice-2.result.now h c.args.undo.now =
     may_mark c.self.inside.content h c.args.undo.now c.in_ok-undos.undos c.as_slice-2.result.now k s c.requires (c.in_ok-undos.ensures.history h k.stand.counts)
     (c.as_slice-2.ensures.value ∙ c.in_ok-edits.ensures ∙ ap (map (λ (x : UndoCount). x.edit)) c.as_slice.ensures) in

@@ -5,7 +5,7 @@ use Rattle.op_model.specs.Histories.{version, clock, bytes_held, entries_held}
 use Rattle.text_buffer.specs.Document.{IsContent, IsHistory}
 use Rattle.text_buffer.specs.declared.document.Document.TheInside.{Inside}
 
-pub record AreTold (d : Inside) : Type 0 where
+pub record IsDocumentInside (d : Inside) : Type 0 where
   pub clock : d.clock ≡ clock d.operations
   pub version : arc_value d.version ≡ version d.operations
   pub content : IsContent d.content d.operations

@@ -1,7 +1,7 @@
 use Rattle.std.proofs.Common.{subst}
 use Rattle.text_buffer.specs.Document.{IsContent}
 use Rattle.text_buffer.proofs.Costs.{no_cost}
-use Rattle.text_buffer.proofs.document.Document.known_tree.Goals as goal
+use Rattle.text_buffer.proofs.document.Document.known_cost.Goals as goal
 
 pub returns : goal.returns
 returns c = λ changes.

@@ -20,6 +20,6 @@ abbrev pub text_of : Inside → List ℕ
 text_of b = opening_text b.document
 
 -- the document has the base alone
-pub record IsBase (b : Inside) : Type 0 where
+pub record IsBaseInside (b : Inside) : Type 0 where
   pub alone : b.document ≡ base (text_of b) ∷ []
   pub len : b.len ≡ length (text_of b)
