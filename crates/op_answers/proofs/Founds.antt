@@ -1,8 +1,9 @@
 -- What is found by a stamp, and what the definitions look for in the whole list.
-use Rattle.std.proofs.Common.{◌≡◌, ◌⊎◌, Bool, true, false, cond, ◌&&◌, ◌||◌, List, [], ◌∷◌, ◌++◌, refl, sym, ◌∙◌, ap, inl, inr, Option, Some}
+use Rattle.std.proofs.Common.{◌≡◌, ◌⊎◌, Bool, true, false, cond, ◌&&◌, ◌||◌, [], ◌∷◌, ◌++◌, refl, sym, ◌∙◌, ap, inl, inr, Option, Some}
 use Rattle.std.specs.Prelude.{is_some}
 use Rattle.std.specs.List.{list_any}
 use Rattle.std.proofs.lemmas.Bool.{cases_Bool, and_parts}
+use Rattle.std.proofs.lemmas.List.Folds.{list_any-append}
 use Rattle.lamport_clock.specs.declared.stamp.Lamport.{Lamport}
 use Rattle.lamport_clock.specs.Stamps.{same_stamp}
 use Rattle.lamport_clock.specs.Versions.{Entries, within, sees}
@@ -16,14 +17,6 @@ use Rattle.op_answers.specs.Verdicts.{equals, causes}
 use Rattle.op_model.proofs.shown.Walking.{or_no}
 use Rattle.op_model.proofs.answers.OwnVersion.{equal_stamps}
 use Rattle.applied_ops.proofs.Found.{no_more}
-
-pub any_append : (t : Operation → Bool) (h w : List Operation) → list_any t (h ++ w) ≡ (list_any t h || list_any t w)
-any_append t [] w = refl
-any_append t (o ∷ h) w = ap (λ (b : Bool). t o || b) (any_append t h w) ∙ more (t o) (list_any t h) (list_any t w)
-  where
-    more : (a b c : Bool) → (a || (b || c)) ≡ ((a || b) || c)
-    more true b c = refl
-    more false b c = refl
 
 not_same : (o op : Operation) → same_stamp (stamp_of o) (stamp_of op) ≡ false → same_op o op ≡ false
 not_same o op e = go (cases_Bool (same_op o op))
@@ -54,13 +47,13 @@ pub held_both : (h w : History) (op : Operation) (a b : Option Operation) → Di
 held_both h w op a b d e p q =
     ap (λ (x : Bool). x || equals b op) (ap (λ (o : Option Operation). equals o op) p ∙ held h op d)
     ∙ ap (λ (x : Bool). any_equal h op || x) (ap (λ (o : Option Operation). equals o op) q ∙ held w op e)
-    ∙ sym (any_append (λ o. same_op o op) h w)
+    ∙ sym (list_any-append (λ o. same_op o op) h w)
 
 pub there_both : (h w : History) (op : Operation) (a b : Option Operation) → a ≡ operation_at h (stamp_of op) → b ≡ operation_at w (stamp_of op) → (is_some a || is_some b) ≡ any_stamp (h ++ w) op
 there_both h w op a b p q =
     ap (λ (x : Bool). x || is_some b) (ap is_some p ∙ there h (stamp_of op))
     ∙ ap (λ (x : Bool). any_stamp h op || x) (ap is_some q ∙ there w (stamp_of op))
-    ∙ sym (any_append (λ o. same_stamp (stamp_of o) (stamp_of op)) h w)
+    ∙ sym (list_any-append (λ o. same_stamp (stamp_of o) (stamp_of op)) h w)
 
 -- the one of the stamp is a cause that the version has seen
 pub caused : (h : History) (t : Lamport) (v : Entries) → Distinct h → causes (operation_at h t) v ≡ list_any (λ o. same_stamp (stamp_of o) t && within (version_of o) v) h

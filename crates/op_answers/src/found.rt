@@ -59,7 +59,7 @@ pub fn applied_at<'a>(applied: &'a AppliedList, have: &Version, t: Lamport) -> O
 }
 
 /// Whether one of the two is equal: the applied operation of its stamp, and the one that waits.
-pub fn is_held(applied: Option<&Operation>, waiting: Option<&Operation>, op: &Operation) -> bool
+pub fn is_repeat(applied: Option<&Operation>, waiting: Option<&Operation>, op: &Operation) -> bool
     ensures { result ≡ (equals (option_copied applied.entry) op.now || equals
         (option_copied waiting.entry) op.now) }
 {
@@ -69,7 +69,7 @@ pub fn is_held(applied: Option<&Operation>, waiting: Option<&Operation>, op: &Op
 }
 
 /// Whether there is one of the two: the applied operation of a stamp, and the one that waits.
-pub fn is_taken(applied: Option<&Operation>, waiting: Option<&Operation>) -> bool
+pub fn is_conflict(applied: Option<&Operation>, waiting: Option<&Operation>) -> bool
     ensures { result ≡ (is_some (option_copied applied.entry) || is_some
         (option_copied waiting.entry)) }
 {

@@ -14,13 +14,13 @@ use std::collections::BTreeSet;
 pub fn first_twice(alloc: Global, stamps: &[Lamport]) -> Option<Lamport>
     ensures { result ≡ first_twice [] stamps.now }
 {
-    match found_by_set(alloc, stamps) {
+    match find_by_set(alloc, stamps) {
         Ok(found) => found,
-        Err(_) => found_by_comparing(stamps),
+        Err(_) => find_by_comparing(stamps),
     }
 }
 
-fn found_by_set(alloc: Global, stamps: &[Lamport]) -> Result<Option<Lamport>, OutOfMemory>
+fn find_by_set(alloc: Global, stamps: &[Lamport]) -> Result<Option<Lamport>, OutOfMemory>
     ensures { IfOk result (λ t. t ≡ first_twice [] stamps.now) }
 {
     let mut past = BTreeSet::new(alloc);
@@ -33,7 +33,7 @@ fn found_by_set(alloc: Global, stamps: &[Lamport]) -> Result<Option<Lamport>, Ou
     Ok(None)
 }
 
-fn found_by_comparing(stamps: &[Lamport]) -> Option<Lamport>
+fn find_by_comparing(stamps: &[Lamport]) -> Option<Lamport>
     ensures { result ≡ first_twice [] stamps.now }
 {
     for (i, &stamp) in stamps.iter().enumerate() {

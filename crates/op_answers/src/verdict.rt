@@ -7,7 +7,7 @@ ghost use Rattle.op_model.specs.Answers.{answer, fork_fault};
 ghost use Rattle.seen_text.specs.Texts.{TellTexts};
 ghost use Rattle.op_answers.specs.Verdicts.{answer_of, cause_objection, part_fault, stamp_objection};
 
-use crate::found::{applied_at, count_fault, is_held, is_taken, open_among};
+use crate::found::{applied_at, count_fault, is_conflict, is_repeat, open_among};
 use crate::ranges::range_fault;
 use applied_ops::AppliedList;
 use deferred_ops::Deferred;
@@ -44,10 +44,10 @@ fn stamp_verdict(
     let stamp = op.stamp();
     let applied_one = applied_at(applied, have, stamp);
     let waiting_one = waiting.get(stamp);
-    if is_held(applied_one, waiting_one, op) {
+    if is_repeat(applied_one, waiting_one, op) {
         return Some(Verdict::Repeat);
     }
-    if is_taken(applied_one, waiting_one) {
+    if is_conflict(applied_one, waiting_one) {
         return Some(Verdict::Refused(OpFault::Conflict(stamp)));
     }
     None

@@ -4,7 +4,7 @@ use Rattle.std.specs.BTreeSet.{contains}
 use Rattle.lamport_clock.specs.declared.stamp.Lamport.{Lamport}
 use Rattle.lamport_clock.specs.Stamps.{same_stamp, stamp_cmp}
 use Rattle.op_model.specs.Made.{first_twice}
-use Rattle.op_answers.proofs.twice.found_by_set.Given as goal
+use Rattle.op_answers.proofs.twice.find_by_set.Given as goal
 
 abbrev pub invariant-loop-stamp : goal.invariant-loop-stamp
 invariant-loop-stamp l = record {

@@ -3,7 +3,7 @@ use Rattle.std.specs.BTreeSet.{contains}
 use Rattle.lamport_clock.specs.declared.stamp.Lamport.{Lamport}
 use Rattle.lamport_clock.specs.Stamps.{stamp_cmp}
 use Rattle.op_answers.proofs.Repeats.{goes_on, kept_on, not_new}
-use Rattle.op_answers.proofs.twice.found_by_set.Goals as goal
+use Rattle.op_answers.proofs.twice.find_by_set.Goals as goal
 
 pub loop-stamp-preserved : goal.loop-stamp-preserved
 loop-stamp-preserved c =
