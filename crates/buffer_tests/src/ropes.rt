@@ -2,7 +2,7 @@
 use crate::operations::{Change, pieces};
 use op_model::{EditFault, Piece, text_total};
 use rope_chunks::Rope;
-use rope_edits::{piece_fault, replaced};
+use rope_edits::{piece_fault, replace_ranges};
 use std::alloc::Global;
 use std::test::Fail;
 use sum_tree::OutOfMemory;
@@ -61,7 +61,7 @@ fn text_with(alloc: Global, text: &str, changes: &[Piece]) -> Result<String, Edi
     if let Some(fault) = piece_fault(&rope, changes) {
         return Err(fault);
     }
-    Ok(replaced(alloc, &rope, changes)?.to_string(alloc)?)
+    Ok(replace_ranges(alloc, &rope, changes)?.to_string(alloc)?)
 }
 
 // Whether a case comes to its answer.

@@ -1,9 +1,8 @@
 -- Pieces without a fault stand in order on boundaries, and how long the text is that they make.
-use Rattle.std.proofs.Common.{◌≡◌, ℕ, suc, ◌+◌, ◌-◌, ◌<◌, ◌≤◌, List, [], ◌∷◌, ◌++◌, length, drop, refl, sym, ◌∙◌, arith, Bool, true, false, not, cond, ◌&&◌, ◌||◌, Option, None, Some, option_map, nat_lt, length-append, length-drop}
+use Rattle.std.proofs.Common.{◌≡◌, ℕ, suc, ◌+◌, ◌-◌, ◌<◌, ◌≤◌, List, [], ◌∷◌, ◌++◌, length, drop, refl, ◌∙◌, arith, Bool, true, false, not, cond, ◌&&◌, ◌||◌, Option, None, Some, option_map, nat_lt, length-append, length-drop}
 use Rattle.std.proofs.lemmas.Bool.{ltb-false}
 use Rattle.std.proofs.lemmas.List.{length-take-le}
-use Rattle.std.proofs.lemmas.Iterator.Adapters.{position_from-zero}
-use Rattle.std.specs.List.{AllByRecursion, position, position_from}
+use Rattle.std.specs.List.{AllByRecursion, position}
 use Rattle.std.proofs.lemmas.Str.{IsCharBoundary-start}
 use Rattle.std.specs.List.{slice_range}
 use Rattle.std.specs.Str.{IsCharBoundary, IsUtf8}
@@ -14,23 +13,12 @@ use Rattle.op_model.specs.Operations.{text_total}
 use Rattle.op_model.specs.Edits.{is_boundary, is_reversed, is_past, is_inside, overlap_from, replaced_from, piece_fault}
 use Rattle.rope_edits.specs.Fit.{AreFit}
 use Rattle.op_model.proofs.texts.WholeTexts.{boundary_of}
-use Rattle.op_model.proofs.answers.Passed.{map_none}
+use Rattle.op_model.proofs.answers.Passed.{map_none, position_none}
 
 pub all_none : {A : Type 0} (os : List (Option A)) → first_of os ≡ None → AllByRecursion (λ o. o ≡ None) os
 all_none [] h = tt
 all_none (None ∷ os) h = (refl, all_none os h)
 all_none (Some x ∷ os) h = cc
-
-none_from : (t : Piece → Bool) (i : ℕ) (ps : List Piece) → position_from t i ps ≡ None → AllByRecursion (λ p. t p ≡ false) ps
-none_from t i [] h = tt
-none_from t i (p ∷ ps) h =
-    elim (t p) as (λ b. t p ≡ b → cond b (Some i) (position_from t (i + 1) ps) ≡ None → (t p ≡ false) × AllByRecursion (λ p. t p ≡ false) ps) [
-      | true ↦ λ e h. cc
-      | false ↦ λ e h. (e, none_from t (i + 1) ps h)
-    ] refl h
-
-none_at : (t : Piece → Bool) (ps : List Piece) → position t ps ≡ None → AllByRecursion (λ p. t p ≡ false) ps
-none_at t ps h = none_from t 0 ps (sym (position_from-zero t ps) ∙ h)
 
 neither : (a b : Bool) → not (a && b) ≡ false → (a ≡ true) × (b ≡ true)
 neither true true h = (refl, refl)
@@ -72,4 +60,4 @@ fits_of_none text ps e u =
     let ordered = map_none Reversed (position is_reversed ps) none.0 in
     let sorted = map_none Overlap (overlap_from 0 0 ps) none.1.0 in
     let cut = map_none InsideChar (position (is_inside text) ps) none.1.1.1.0 in
-    fits 0 0 ps text (IsCharBoundary-start text u) (none_at _ ps ordered) sorted (none_at _ ps cut)
+    fits 0 0 ps text (IsCharBoundary-start text u) (position_none _ ps ordered) sorted (position_none _ ps cut)

@@ -7,4 +7,4 @@ mod side;
 
 pub use moving::{TextRopes, apply_moves};
 pub use op_model::OutOfMemory;
-pub use ranges::{piece_fault, replaced};
+pub use ranges::{piece_fault, replace_ranges};

@@ -43,7 +43,7 @@ pub fn piece_fault(rope: &Rope, changes: &[Piece]) -> Option<EditFault>
 
 /// A rope with each range of the rope's text replaced, from the last to the first, so that the offsets of those before it
 /// hold. Chunks that no range touches are shared. Each change is a descent for each of its ends and a splice.
-pub fn replaced(alloc: Global, rope: &Rope, changes: &[Piece]) -> Result<Rope, OutOfMemory>
+pub fn replace_ranges(alloc: Global, rope: &Rope, changes: &[Piece]) -> Result<Rope, OutOfMemory>
     requires fit { piece_fault rope.now changes.now ≡ None }
     requires room { length rope.now + text_total changes.now ≤ 2 ^ 40 }
     ensures { IfOk result (λ r. r ≡ replace_ranges changes.now rope.now) }

@@ -1,7 +1,7 @@
 use Rattle.std.proofs.Common.{◌≡◌, drop}
 use Rattle.op_model.specs.Edits.{replace_ranges}
 use Rattle.op_model.specs.Domains.{AreUtf8}
-use Rattle.rope_edits.proofs.ranges.replaced.Given as goal
+use Rattle.rope_edits.proofs.ranges.replace_ranges.Given as goal
 
 abbrev pub invariant-loop-i : goal.invariant-loop-i
 invariant-loop-i l = record {

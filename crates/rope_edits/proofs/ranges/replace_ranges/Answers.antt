@@ -4,7 +4,7 @@ use Rattle.op_model.specs.declared.operation.Piece.{Piece}
 use Rattle.op_model.specs.Edits.{replace_ranges}
 use Rattle.op_model.specs.Domains.{AreUtf8}
 use Rattle.rope_edits.proofs.Ropes.{at_turn}
-use Rattle.rope_edits.proofs.ranges.replaced.Goals as goal
+use Rattle.rope_edits.proofs.ranges.replace_ranges.Goals as goal
 
 pub replace-requires-clause-start : goal.replace-requires-clause-start
 replace-requires-clause-start c =
