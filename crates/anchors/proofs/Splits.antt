@@ -5,6 +5,8 @@ use Rattle.std.specs.List.{AllByRecursion, filter}
 use Rattle.std.proofs.lemmas.Bool.{cases_Bool, false_from_ne_true}
 use Rattle.std.proofs.lemmas.List.{length-append, length-map}
 use Rattle.std.proofs.lemmas.List.Elements.{filter-append}
+use Rattle.std.proofs.lemmas.List.Filters.{length-filter_both}
+use Rattle.op_model.proofs.Elements.{each_right}
 use Rattle.op_model.specs.Sorted.{EachPair, Member}
 use Rattle.op_model.specs.Histories.{History}
 use Rattle.op_model.specs.Cells.{Cell, same_cell, seq, cells}
@@ -22,19 +24,10 @@ split_at x [] m = absurd m
 split_at x (y ∷ xs) (inl e) = ([], xs, ap (λ z. z ∷ xs) (sym e))
 split_at x (y ∷ xs) (inr m) = let k = split_at x xs m in (y ∷ k.0, k.1, ap (λ z. y ∷ z) k.2)
 
-each_split : {A : Type 0} (P : A → Type 0) (xs : List A) (y : A) (ys : List A) → AllByRecursion P (xs ++ y ∷ ys) → P y
-each_split P [] y ys e = e.0
-each_split P (x ∷ xs) y ys e = each_split P xs y ys e.1
-
 -- the n-th that passes, n being the number of those before it that do
 pub got_at : {A : Type 0} (p : A → Bool) (xs : List A) (x : A) (ys : List A) → p x ≡ true → slice_get (filter p (xs ++ x ∷ ys)) (length (filter p xs)) ≡ Some x
 got_at p [] x ys e = rw e refl
 got_at p (y ∷ xs) x ys e = elim (cases_Bool (p y)) [ inl k ↦ rw k (got_at p xs x ys e) | inr k ↦ rw k (got_at p xs x ys e) ]
-
--- those that pass and those that do not
-pub passed_or_not : {A : Type 0} (p : A → Bool) (xs : List A) → length (filter p xs) + length (filter (λ x. not (p x)) xs) ≡ length xs
-passed_or_not p [] = refl
-passed_or_not p (x ∷ xs) = let ih = passed_or_not p xs in elim (cases_Bool (p x)) [ inl k ↦ rw k (omega (arith, ih)) | inr k ↦ rw k (omega (arith, ih)) ]
 
 -- ---- cells before one
 
@@ -44,7 +37,7 @@ Apart c cs = AllByRecursion (λ (d : Cell). same_cell d c ≡ false) cs
 apart : (cs : List Cell) (c : Cell) (ds : List Cell) → EachPair (λ (a b : Cell). a ≡ b → ⊥) (cs ++ c ∷ ds) → Apart c cs
 unfolding Apart
 apart [] c ds e = tt
-apart (d ∷ cs) c ds e = (false_from_ne_true (same_cell d c) (λ q. each_split (λ (b : Cell). d ≡ b → ⊥) cs c ds e.0 (same_cell_eq d c q)), apart cs c ds e.1)
+apart (d ∷ cs) c ds e = (false_from_ne_true (same_cell d c) (λ q. (each_right (λ (b : Cell). d ≡ b → ⊥) cs (c ∷ ds) e.0).0 (same_cell_eq d c q)), apart cs c ds e.1)
 
 before_at : (cs : List Cell) (c : Cell) (ds : List Cell) → Apart c cs → cells_before (cs ++ c ∷ ds) c ≡ cs
 unfolding Apart
@@ -90,7 +83,7 @@ module _ (h : History) (l : Lawful h) (cs : List Cell) (c : Cell) (ds : List Cel
 
   hidden_count : number_hidden ≡ length cs - shown_count h cs
   unfolding number_hidden
-  hidden_count = let k = passed_or_not (shown h) cs in omega (arith, k)
+  hidden_count = let k = length-filter_both (shown h) (λ (c : Cell). not (shown h c)) (λ (c : Cell). refl) cs in omega (arith, k)
 
   pub in_hidden : shown h c ≡ false → (length cs - shown_count h cs < length (hidden_text h)) × (get_or (hidden_text h) (length cs - shown_count h cs) 0 ≡ byte h c)
   unfolding number_hidden
@@ -105,6 +98,6 @@ pub both_lengths : (h : History) → Lawful h → length (text h) + length (hidd
 both_lengths h l =
     let a = ap length (texts_are_shown_cells h l).0 ∙ length-map (filter (shown h) (cells (seq h))) (byte h) in
     let b = length-map (filter (λ (c : Cell). not (shown h c)) (cells (seq h))) (byte h) in
-    let k = passed_or_not (shown h) (cells (seq h)) in
+    let k = length-filter_both (shown h) (λ (c : Cell). not (shown h c)) (λ (c : Cell). refl) (cells (seq h)) in
     let n = length-map (seq h) (λ p. p.cell) in
     omega (arith, a, b, k, n)

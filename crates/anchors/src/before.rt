@@ -5,7 +5,7 @@ use fragments::FragmentSummary;
 use locators::Locator;
 use tree_cursor::{Dimension, Keep, Moves, Plain};
 
-// How many shown cells and how many of all lie before.
+/// How many shown cells and how many of all lie before.
 #[derive(Clone, Copy)]
 pub struct Before {
     pub shown: u64,
@@ -37,8 +37,8 @@ impl<'a> Dimension<'a, FragmentSummary> for Before {
     }
 }
 
-// The runs of fragments whose greatest id is not less than an id. Where ids ascend, the first fragment among them is the one that
-// has the id.
+/// The runs of fragments whose greatest id is not less than an id. Where ids ascend, the first fragment among them is the one that
+/// has the id.
 #[derive(Drop)]
 pub struct Reaching<'i> {
     pub id: &'i Locator,

@@ -21,7 +21,7 @@ use rope_chunks::Rope;
 use sum_tree::SumTree;
 use tree_cursor::look_up;
 
-// A byte, by its edit and its number among all bytes of that edit.
+/// A byte, by its edit and its number among all bytes of that edit.
 #[derive(Clone, Copy)]
 pub struct Byte {
     pub stamp: Lamport,

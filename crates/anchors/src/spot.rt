@@ -18,7 +18,7 @@ use rope_chunks::Rope;
 use sum_tree::SumTree;
 use tree_cursor::FilterCursor;
 
-// Whether a cell is shown, and how many shown cells and how many of all stand before it.
+/// Whether a cell is shown, and how many shown cells and how many of all stand before it.
 #[derive(Clone, Copy)]
 pub struct Spot {
     pub is_shown: bool,
@@ -26,7 +26,7 @@ pub struct Spot {
     pub cells: u64,
 }
 
-// The cells of a fragment: `len` of an edit from number `offset` on, and how many shown cells and how many of all stand before them.
+/// The cells of a fragment: `len` of an edit from number `offset` on, and how many shown cells and how many of all stand before them.
 #[derive(Clone, Copy)]
 pub struct Run {
     pub stamp: Lamport,
@@ -105,7 +105,7 @@ fn run_of(tree: &SumTree<Fragment>, index: &InsertionIndex, stamp: Lamport, k: u
     run_at(tree, id)
 }
 
-// The spot of cell `k` of an edit, where there is such a cell, by the descents of [`run_of`].
+/// The spot of cell `k` of an edit, where there is such a cell, by the descents of [`run_of`].
 pub fn spot_of(
     tree: &SumTree<Fragment>,
     index: &InsertionIndex,
@@ -122,8 +122,8 @@ pub fn spot_of(
     spot_in(run, stamp, k)
 }
 
-// The spot of cell `k - 1` of an edit, where there is such a cell, and that of cell `k` where it is in the same fragment, by the
-// descents of [`run_of`].
+/// The spot of cell `k - 1` of an edit, where there is such a cell, and that of cell `k` where it is in the same fragment, by the
+/// descents of [`run_of`].
 pub fn spots_of(
     tree: &SumTree<Fragment>,
     index: &InsertionIndex,
@@ -150,7 +150,7 @@ fn is_boundary(rope: &Rope, i: u64) -> bool
     rope.is_char_boundary(i)
 }
 
-// Whether a character begins at a spot.
+/// Whether a character begins at a spot.
 pub fn begins(visible: &Rope, hidden: &Rope, spot: Spot) -> bool
     requires { spot.shown ≤ spot.cells }
     ensures { result ≡ begins visible.now hidden.now spot }

@@ -15,7 +15,7 @@ use op_model::{Anchor, Bias};
 use rope_chunks::Rope;
 use sum_tree::SumTree;
 
-// Where an anchor stands: how many shown cells are before it, how many of all, and on which side of that gap it keeps.
+/// Where an anchor stands: how many shown cells are before it, how many of all, and on which side of that gap it keeps.
 #[derive(Clone, Copy)]
 pub struct Standing {
     pub place: u64,
@@ -23,7 +23,7 @@ pub struct Standing {
     pub bias: Bias,
 }
 
-// Left before Right.
+/// Left before Right.
 pub fn side(bias: Bias) -> u8
     ensures { result ≡ side bias }
 {
@@ -165,7 +165,7 @@ fn end(visible: &Rope, hidden: &Rope) -> Standing
     }
 }
 
-// Where an anchor stands, where it is known.
+/// Where an anchor stands, where it is known.
 pub fn standing_of(
     tree: &SumTree<Fragment>,
     index: &InsertionIndex,
