@@ -20,7 +20,7 @@ use Rattle.fragments.specs.Stand.{runs, Tell}
 use Rattle.fragments.specs.Laws.{shown_len}
 use Rattle.remote_edit.specs.Walk.{seen_bytes}
 use Rattle.remote_edit.specs.Carried.{cell_bytes, shown_bytes, hidden_bytes, hidden_len}
-use Rattle.remote_edit.proofs.Carrying.{bytes_of, long, shown_first, hidden_first, shown_append, hidden_append, shown_long}
+use Rattle.remote_edit.proofs.Carrying.{bytes_of, long, shown_first, hidden_first, shown_append, hidden_append, shown_long, hidden_long}
 
 -- ---- what a closed version sees of a history
 
@@ -47,14 +47,6 @@ module _ (byte : Cell → ℕ) where
   alike_bytes : (t : Lamport) (k n : ℕ) (b : Bool) (d : List Lamport) → bytes byte (alike t k n b d) ≡ cell_bytes byte t k n
   alike_bytes t k zero b d = refl
   alike_bytes t k (suc n) b d = ap (λ (z : List ℕ). byte (record { stamp = t; k = k }) ∷ z) (alike_bytes t (suc k) n b d)
-
-  pub hidden_long : (xs : List Fragment) → hidden_len xs ≡ length (hidden_bytes byte xs)
-  hidden_long [] = refl
-  hidden_long (x ∷ xs) = go x.visible (hidden_long xs) ∙ ap length (sym (hidden_first byte x xs))
-    where
-      go : (b : Bool) → hidden_len xs ≡ length (hidden_bytes byte xs) → cond b (hidden_len xs) (x.len + hidden_len xs) ≡ length (cond (not b) (bytes_of byte x ++ hidden_bytes byte xs) (hidden_bytes byte xs))
-      go true e = e
-      go false e = let a = length-append (bytes_of byte x) (hidden_bytes byte xs) in let l = long byte x.stamp x.offset x.len in omega (arith, a, l, e)
 
   module _ (v : Entries) where
     abbrev pub seen_in : List Fragment → List ℕ
@@ -98,6 +90,6 @@ module _ (byte : Cell → ℕ) where
       pub hidden_at : f.visible ≡ false → get_or (hidden_bytes byte (pre ++ f ∷ post)) (hidden_len pre + d) 0 ≡ cell_at f d
       unfolding cell_at
       hidden_at s = ap (λ (z : List ℕ). get_or z (hidden_len pre + d) 0) (hidden_append byte pre (f ∷ post))
-          ∙ get_right (hidden_bytes byte pre) (hidden_bytes byte (f ∷ post)) (hidden_len pre + d) d (ap (λ (n : ℕ). n + d) (hidden_long pre))
+          ∙ get_right (hidden_bytes byte pre) (hidden_bytes byte (f ∷ post)) (hidden_len pre + d) d (ap (λ (n : ℕ). n + d) (hidden_long byte pre))
           ∙ ap (λ (z : List ℕ). get_or z d 0) (hidden_first byte f post ∙ ap (λ (b : Bool). cond (not b) (bytes_of byte f ++ hidden_bytes byte post) (hidden_bytes byte post)) s)
           ∙ nth f.stamp f.offset f.len d (hidden_bytes byte post) h
