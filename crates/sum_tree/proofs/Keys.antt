@@ -57,7 +57,8 @@ module _ {X : Type 0} where
       let first : All (R x) xs = AllPairs-cross R (x ∷ []) xs 0 x a (omega arith) in
       AllPairs-cons R x (xs ++ ys) (All-append (R x) xs ys first (All-head (λ y. All (R y) ys) x xs c)) (AllPairs-append R xs ys (AllPairs-right R (x ∷ []) xs a) b (All-tail (λ y. All (R y) ys) x xs c))
 
-option_or_none : {X : Type 0} (q : Option X) → option_or q None ≡ q
+-- the answer of the first of two where the second has none
+pub option_or_none : {X : Type 0} (q : Option X) → option_or q None ≡ q
 option_or_none None = refl
 option_or_none (Some x) = refl
 

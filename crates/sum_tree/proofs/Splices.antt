@@ -1,5 +1,5 @@
 -- What a change within one child leaves of a node.
-use Rattle.std.proofs.Common.{◌≡◌, ℕ, ◌+◌, ◌-◌, ◌<◌, ◌≤◌, List, [], ◌∷◌, ◌++◌, length, get_or, take, drop, Option, Some, None, sym, ap, subst, refl, ◌∙◌, append_assoc, arith, length-append, take-append-drop}
+use Rattle.std.proofs.Common.{◌≡◌, ℕ, ◌+◌, ◌-◌, ◌<◌, ◌≤◌, List, [], ◌∷◌, ◌++◌, length, get_or, take, drop, Option, Some, None, sym, ap, subst, ◌∙◌, append_assoc, arith, length-append, take-append-drop}
 use Rattle.std.proofs.lemmas.List.{append-nil, take-append-le, drop-append-le, length-take-le, length-drop, drop-drop}
 use Rattle.std.proofs.Math.Seq.{take-append-add, drop-append-add}
 use Rattle.sum_tree.specs.Laws.{SummaryLaws, fold}
@@ -11,10 +11,6 @@ use Rattle.sum_tree.proofs.Folds.{fits_left, fits_right, fits_without}
 use Rattle.sum_tree.proofs.Children.{joined-append, joined-take_more, joined-split}
 use Rattle.sum_tree.proofs.Opened.{IsInner, pair-joined}
 use Rattle.sum_tree.proofs.Fronts.{slice_rest}
-
-pub nil_of : {X : Type 0} (xs : List X) → length xs ≡ 0 → xs ≡ []
-nil_of [] e = refl
-nil_of (x ∷ xs) e = absurd (omega (arith, e))
 
 module _ {T : Type 0} where
   pub run-joined : (ts : List (Seen T)) (i j : ℕ) (a : Seen T) (b : Option (Seen T)) → join_items (with_run ts i j a b) ≡ join_items (take i ts) ++ (join_items (pair_list a b) ++ join_items (drop j ts))

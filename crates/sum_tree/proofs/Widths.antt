@@ -1,6 +1,5 @@
 -- How many children there are where some are replaced, and what is made of them.
-use Rattle.std.proofs.Common.{◌≡◌, ℕ, ◌+◌, ◌-◌, ◌^◌, ◌≤◌, List, [], ◌∷◌, ◌++◌, length, take, drop, All, Option, Some, None, IfOk, ap, sym, refl, subst, append-nil, ◌∙◌, take-append-drop, arith, length-append}
-use Rattle.std.specs.Prelude.{Result, Ok, Err}
+use Rattle.std.proofs.Common.{◌≡◌, ℕ, ◌+◌, ◌-◌, ◌^◌, ◌≤◌, List, [], ◌∷◌, ◌++◌, length, take, drop, All, Option, Some, None, ap, sym, refl, subst, append-nil, ◌∙◌, take-append-drop, arith, length-append}
 use Rattle.std.proofs.lemmas.List.{length-take-le, length-drop}
 use Rattle.std.proofs.lemmas.List.Elements.{All-cons, All-nil}
 use Rattle.sum_tree.specs.Seen.{Seen}
@@ -8,10 +7,6 @@ use Rattle.sum_tree.specs.Shape.{join_items, IsChild}
 use Rattle.sum_tree.specs.Grown.{IsSplit, pair_list, with_run}
 use Rattle.sum_tree.specs.Spliced.{IsSpliced}
 use Rattle.sum_tree.proofs.Pairs.{split_root}
-
-pub if_ok : {A E : Type 0} {P Q : A → Type 0} (r : Result A E) → ((x : A) → P x → Q x) → IfOk r P → IfOk r Q
-if_ok (Ok x) f h = f x h
-if_ok (Err e) f h = h
 
 pub run_length : {X : Type 0} (xs : List X) (i j : ℕ) (a : X) (b : Option X) → i ≤ j → j ≤ length xs → length (with_run xs i j a b) ≡ length xs - (j - i) + length (pair_list a b)
 run_length xs i j a b ij le =

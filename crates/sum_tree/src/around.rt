@@ -98,7 +98,7 @@ pub(crate) fn three_sum<T: Item>(
 }
 
 // The sums of the nodes above one with this sum, the root's first, and then that sum.
-pub(crate) fn settled<S: Summary>(
+pub(crate) fn settle<S: Summary>(
     alloc: Global,
     mut around: Vec<Around<S>>,
     sum: S,
@@ -116,7 +116,7 @@ pub(crate) fn settled<S: Summary>(
             let Around { mut before, behind } = level;
             before.add_before(alloc, &sum, &behind)?;
             before.add(alloc, &behind)?;
-            let mut sums = settled(alloc, around, before)?;
+            let mut sums = settle(alloc, around, before)?;
             sums.push(sum)?;
             return Ok(sums);
         }

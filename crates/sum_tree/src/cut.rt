@@ -58,15 +58,16 @@ fn copied_leaf<T: Item, L: Ledger>(
 
 impl<T: Item> SumTree<T> {
     /// The first n items, or all if there are not more, in a tree that shares each subtree which lies within them. It
-    /// makes nodes along one path, and what it takes to join the runs of shared children there.
-    pub fn taken(&self, alloc: Global, n: u64) -> Result<SumTree<T>, OutOfMemory>
+    /// makes nodes along one path, and what it takes to join the runs of shared children there: at most 8 h + 3, with h the
+    /// height of this tree. This tree stays as it is; `OutOfMemory` is the one error.
+    pub fn take_front(&self, alloc: Global, n: u64) -> Result<SumTree<T>, OutOfMemory>
         ensures { IfOk result (λ t. t.items ≡ take n self.now.items) }
     {
-        self.taken_with::<Brand>(alloc, n, Blank::new(1))
+        self.take_front_with::<Brand>(alloc, n, Blank::new(1))
     }
 
     // The same with a counter that is made of the blank.
-    fn taken_with<L: Ledger>(
+    fn take_front_with<L: Ledger>(
         &self,
         alloc: Global,
         n: u64,
@@ -78,11 +79,12 @@ impl<T: Item> SumTree<T> {
         ensures { IfOk result (λ t. t.items ≡ take n self.now.items) }
     {
         let mut steps = Steps::<L>::new(blank);
-        self.taken_counted(alloc, n, &mut steps)
+        self.take_front_counted(alloc, n, &mut steps)
     }
 
-    /// What `taken` gives, with a step for each node made. A lower tree took fewer of them.
-    pub fn taken_counted<L: Ledger>(
+    /// What `take_front` gives, with a step for each node made: at most 8 h + 3, with h the height of this tree, whatever comes
+    /// of the call; and at most 2 t + 6 h + 1 where a tree of height t comes of it, so a lower one took fewer.
+    pub fn take_front_counted<L: Ledger>(
         &self,
         alloc: Global,
         n: u64,
@@ -104,7 +106,7 @@ impl<T: Item> SumTree<T> {
             Content::Leaf(entries) => copied_leaf(alloc, &entries[..n as usize], steps),
             Content::Inner(children) => {
                 let (k, rest) = child_at(children, n);
-                let last = children[k].taken_counted(alloc, rest, steps)?;
+                let last = children[k].take_front_counted(alloc, rest, steps)?;
                 if k == 0 {
                     return Ok(last);
                 }
@@ -115,15 +117,16 @@ impl<T: Item> SumTree<T> {
     }
 
     /// The items behind the first n, if there are any, in a tree that shares each subtree which lies within them. It
-    /// makes nodes along one path, and what it takes to join the runs of shared children there.
-    pub fn dropped(&self, alloc: Global, n: u64) -> Result<SumTree<T>, OutOfMemory>
+    /// makes nodes along one path, and what it takes to join the runs of shared children there: at most 8 h + 3, with h the
+    /// height of this tree. This tree stays as it is; `OutOfMemory` is the one error.
+    pub fn drop_front(&self, alloc: Global, n: u64) -> Result<SumTree<T>, OutOfMemory>
         ensures { IfOk result (λ t. t.items ≡ drop n self.now.items) }
     {
-        self.dropped_with::<Brand>(alloc, n, Blank::new(1))
+        self.drop_front_with::<Brand>(alloc, n, Blank::new(1))
     }
 
     // The same with a counter that is made of the blank.
-    fn dropped_with<L: Ledger>(
+    fn drop_front_with<L: Ledger>(
         &self,
         alloc: Global,
         n: u64,
@@ -135,11 +138,12 @@ impl<T: Item> SumTree<T> {
         ensures { IfOk result (λ t. t.items ≡ drop n self.now.items) }
     {
         let mut steps = Steps::<L>::new(blank);
-        self.dropped_counted(alloc, n, &mut steps)
+        self.drop_front_counted(alloc, n, &mut steps)
     }
 
-    /// What `dropped` gives, with a step for each node made. A lower tree took fewer of them.
-    pub fn dropped_counted<L: Ledger>(
+    /// What `drop_front` gives, with a step for each node made: at most 8 h + 3, with h the height of this tree, whatever comes
+    /// of the call; and at most 2 t + 6 h + 1 where a tree of height t comes of it, so a lower one took fewer.
+    pub fn drop_front_counted<L: Ledger>(
         &self,
         alloc: Global,
         n: u64,
@@ -161,7 +165,7 @@ impl<T: Item> SumTree<T> {
             Content::Leaf(entries) => copied_leaf(alloc, &entries[n as usize..], steps),
             Content::Inner(children) => {
                 let (k, passed) = child_at(children, n);
-                let rest = children[k].dropped_counted(alloc, passed, steps)?;
+                let rest = children[k].drop_front_counted(alloc, passed, steps)?;
                 let next = k + 1;
                 if next == children.len() {
                     return Ok(rest);

@@ -139,7 +139,7 @@ fn pair_onto<T: Item>(
 }
 
 // These children, where those from `from` up to `to` are replaced.
-pub(crate) fn gathered<T: Item>(
+pub(crate) fn gather<T: Item>(
     alloc: Global,
     nodes: &[SumTree<T>],
     from: usize,
@@ -180,7 +180,7 @@ fn with_child<T: Item, L: Ledger>(
         (join_items (with_pair nodes.now k front back)) p.0 p.1) }
     ensures cost { steps.new ≤ steps.old + 2 }
 {
-    let children = gathered(alloc, nodes, k, k + 1, front, back)?;
+    let children = gather(alloc, nodes, k, k + 1, front, back)?;
     inners(alloc, height, children, steps)
 }
 
@@ -218,7 +218,7 @@ impl<T: Item> SumTree<T> {
     }
 
     // This tree and then a lower one, at this height.
-    pub(crate) fn followed<L: Ledger>(
+    pub(crate) fn with_behind<L: Ledger>(
         &self,
         alloc: Global,
         other: &SumTree<T>,
@@ -239,14 +239,14 @@ impl<T: Item> SumTree<T> {
             Content::Leaf(_) => unreachable!(),
             Content::Inner(nodes) => {
                 let last = nodes.len() - 1;
-                let (front, back) = nodes[last].followed(alloc, other, steps)?;
+                let (front, back) = nodes[last].with_behind(alloc, other, steps)?;
                 with_child(alloc, self.node.height, nodes, last, front, back, steps)
             }
         }
     }
 
     // A lower tree and then this one, at this height.
-    fn preceded<L: Ledger>(
+    fn with_before<L: Ledger>(
         &self,
         alloc: Global,
         other: &SumTree<T>,
@@ -266,15 +266,15 @@ impl<T: Item> SumTree<T> {
         match &self.node.content {
             Content::Leaf(_) => unreachable!(),
             Content::Inner(nodes) => {
-                let (front, back) = nodes[0].preceded(alloc, other, steps)?;
+                let (front, back) = nodes[0].with_before(alloc, other, steps)?;
                 with_child(alloc, self.node.height, nodes, 0, front, back, steps)
             }
         }
     }
 
-    /// Puts the items of `other` behind those of this tree. With h the greater height of the two, it makes at most
-    /// 2 (h + 1) + 1 nodes, those where the two trees meet; the others are shared. On want of memory this tree is as
-    /// before, and `other` is let go.
+    /// Puts the items of `other` behind those of this tree. Together they are at most 2^40, and their sum fits. With h
+    /// the greater height of the two, it makes at most 2 (h + 1) + 1 nodes, those where the two trees meet; the others
+    /// are shared. On want of memory this tree is as before, and `other` is let go.
     pub fn append(&mut self, alloc: Global, other: SumTree<T>) -> Result<(), OutOfMemory>
         requires short { length (self.old.items ++ other.items) ≤ 2 ^ 40 }
         requires fits { T.Summary.fits (fold T.Summary.empty T.Summary.op T.sum_of
@@ -305,7 +305,8 @@ impl<T: Item> SumTree<T> {
         self.append_counted(alloc, other, &mut steps)
     }
 
-    /// What `append` does, with a step for each node made.
+    /// What `append` does, under its conditions, with a step for each node made: at most 2 (h + 2), with h the greater height
+    /// of the two, whatever comes of the call.
     pub fn append_counted<L: Ledger>(
         &mut self,
         alloc: Global,
@@ -323,10 +324,11 @@ impl<T: Item> SumTree<T> {
         Ok(())
     }
 
-    /// Puts one item behind the others. Nodes of the last path that no other tree shares, nor those above them, are
-    /// changed in place: where the leaf is one and has room, no node is made; else only below the lowest of them that has
-    /// room for one child more, at most two for each level and one more. Else at most 2 (h + 2), with h the height. On
-    /// want of memory the tree is as before, and the item is let go.
+    /// Puts one item behind the others, which are fewer than 2^40; the sum of all with it fits. Nodes of the last path
+    /// that no other tree shares, nor those above them, are changed in place: where the leaf is one and has room, no
+    /// node is made; else only below the lowest of them that has room for one child more, at most two for each level
+    /// and one more. Else at most 2 (h + 2), with h the height. On want of memory the tree is as before, and the item
+    /// is let go.
     pub fn push(&mut self, alloc: Global, item: T) -> Result<(), OutOfMemory>
         requires short { length self.old.items < 2 ^ 40 }
         requires fits { T.Summary.fits (fold T.Summary.empty T.Summary.op T.sum_of
@@ -357,7 +359,8 @@ impl<T: Item> SumTree<T> {
         self.push_counted(alloc, item, &mut steps)
     }
 
-    /// What `push` does, with a step for each node made.
+    /// What `push` does, under its conditions, with a step for each node made: at most 2 (h + 2), with h the height before,
+    /// whatever comes of the call.
     pub fn push_counted<L: Ledger>(
         &mut self,
         alloc: Global,
@@ -408,10 +411,10 @@ pub(crate) fn both<T: Item, L: Ledger>(
         return back.share();
     }
     if back.height() <= front.height() {
-        let (a, b) = front.followed(alloc, back, steps)?;
+        let (a, b) = front.with_behind(alloc, back, steps)?;
         root(alloc, a, b, steps)
     } else {
-        let (a, b) = back.preceded(alloc, front, steps)?;
+        let (a, b) = back.with_before(alloc, front, steps)?;
         root(alloc, a, b, steps)
     }
 }

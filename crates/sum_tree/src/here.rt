@@ -9,9 +9,9 @@ ghost use Rattle.sum_tree.specs.Placed.{AreChildren, IsNoted, IsPlacing, IsPlaci
 ghost use Rattle.sum_tree.specs.Spliced.{splice_list};
 
 use crate::OutOfMemory;
-use crate::around::{Around, around_child, entries_sum, settled, three_sum};
+use crate::around::{Around, around_child, entries_sum, settle, three_sum};
 use crate::entry::Entry;
-use crate::grow::{gathered, two_inners, two_leaves};
+use crate::grow::{gather, two_inners, two_leaves};
 use crate::splice::{child_with, three_parts};
 use crate::steps::Steps;
 use crate::traits::{Item, Summary};
@@ -113,7 +113,7 @@ fn split_leaf<T: Item, L: Ledger>(
 {
     let all = three_parts(alloc, &old[..from], entries, &old[to..])?;
     let sum = entries_sum(alloc, &all)?;
-    let sums = settled(alloc, around, sum)?;
+    let sums = settle(alloc, around, sum)?;
     let (front, back) = two_leaves(alloc, all, steps)?;
     Ok(Placing::Split(front, back, sums))
 }
@@ -155,7 +155,7 @@ fn place_in_leaf<T: Item, L: Ledger>(
         return split_leaf(alloc, old, first, after, entries, around, steps);
     }
     let sum = three_sum(alloc, &old[..first], &entries, &old[after..])?;
-    let sums = settled(alloc, around, sum)?;
+    let sums = settle(alloc, around, sum)?;
     put_run(old, first, after, entries)?;
     Ok(Placing::Done(sums))
 }
@@ -213,13 +213,13 @@ fn pair_in_place<T: Item, L: Ledger>(
         put_pair(children, k, front, Some(back))?;
         return Ok(Placing::Done(sums));
     }
-    let all = gathered(alloc, children, k, k + 1, front, Some(back))?;
+    let all = gather(alloc, children, k, k + 1, front, Some(back))?;
     let (front, back) = two_inners(alloc, height, all, steps)?;
     Ok(Placing::Split(front, back, sums))
 }
 
 // Takes the last sum off. Where the change is made, it is the node's new sum, and `count` its new length.
-fn noted<S: Drop, E: Drop, N: Drop>(
+fn note<S: Drop, E: Drop, N: Drop>(
     count: u64,
     len: &mut u64,
     sum: &mut S,
@@ -267,7 +267,7 @@ fn push_beside<T: Item, L: Ledger>(
     }
     let last = children.len() - 1;
     let other = single(alloc, entry, steps)?;
-    let (front, back) = children[last].followed(alloc, &other, steps)?;
+    let (front, back) = children[last].with_behind(alloc, &other, steps)?;
     put_pair(children, last, front, back)?;
     Ok(None)
 }
@@ -562,6 +562,6 @@ impl<T: Item> SumTree<T> {
             around,
             steps,
         )?;
-        Ok(noted(len, &mut node.len, &mut node.sum, placing))
+        Ok(note(len, &mut node.len, &mut node.sum, placing))
     }
 }

@@ -10,6 +10,7 @@ ghost use Rattle.sum_tree.specs.Keyed.{Ascending, item_of_key, insert_item, remo
 use crate::OutOfMemory;
 use crate::entry::Entry;
 use crate::here::push_alone;
+use crate::list::list_of_one;
 use crate::traits::{Item, KeyedItem, Summary};
 use crate::tree::{Content, SumTree};
 use std::alloc::Global;
@@ -80,15 +81,6 @@ fn child_for<T: KeyedItem>(children: &[SumTree<T>], key: &T::Key) -> (usize, u64
     (last, before)
 }
 
-// The list of one entry.
-fn one<T: Item>(alloc: Global, entry: Entry<T>) -> Result<Vec<Entry<T>>, OutOfMemory>
-    ensures { IfOk result (λ es. es.items ≡ entry ∷ []) }
-{
-    let mut entries = Vec::with_capacity(alloc, 1)?;
-    entries.push(entry)?;
-    Ok(entries)
-}
-
 impl<T: KeyedItem> SumTree<T> {
     // Where a key stands among the items.
     fn position(&self, key: &T::Key) -> Result<u64, u64>
@@ -143,7 +135,7 @@ impl<T: KeyedItem> SumTree<T> {
             ≡ (take from self.old.items ++ item ∷ []) ++ drop to self.old.items) }
         ensures err { OnErr result (self.new ≡ self.old) }
     {
-        let entries = one(alloc, Entry::new(alloc, item)?)?;
+        let entries = list_of_one(alloc, Entry::new(alloc, item)?)?;
         self.put(alloc, from, to, entries)
     }
 
@@ -164,16 +156,16 @@ impl<T: KeyedItem> SumTree<T> {
         match push_alone(alloc, self, Entry::new(alloc, item)?)? {
             None => Ok(()),
             Some(entry) => {
-                let entries = one(alloc, entry)?;
+                let entries = list_of_one(alloc, entry)?;
                 self.put(alloc, i, i, entries)
             }
         }
     }
 
     /// Puts an item at the place of its key, and answers the item of an equal key that stood there. The keys of the
-    /// items ascend strictly. Where no other tree shares the nodes on the way and the leaf has room, no node is made;
-    /// else at most two nodes for each level, and one more for the root. On want of memory the tree is as before, and
-    /// the item is let go.
+    /// items ascend strictly; at most 2^40 items come of it, and their sum fits. Where no other tree shares the nodes
+    /// on the way and the leaf has room, no node is made; else at most two nodes for each level, and one more for the
+    /// root. On want of memory the tree is as before, and the item is let go.
     pub fn insert(&mut self, alloc: Global, item: T) -> Result<Option<T>, OutOfMemory>
         requires ascending { Ascending T.Key.cmp T.key_of self.old.items }
         requires short { length (insert_item T.Key.cmp T.key_of item self.old.items) ≤ 2 ^ 40 }

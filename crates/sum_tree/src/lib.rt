@@ -19,7 +19,9 @@ mod tree;
 
 pub use count::Count;
 pub use entry::Entry;
+pub use list::list_of_one;
 pub use parts::Parts;
+pub use read::child_at;
 pub use std::alloc::AllocError as OutOfMemory;
 pub use steps::Steps;
 pub use threads::crosses_threads;

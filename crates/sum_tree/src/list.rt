@@ -1,5 +1,5 @@
 //! A tree made of a list, level by level.
-ghost use Rattle.std.specs.Prelude.{◌≡◌, ℕ, ◌+◌, ◌*◌, ◌^◌, ◌<◌, ◌≤◌, ◌++◌, length, IfOk, All};
+ghost use Rattle.std.specs.Prelude.{◌≡◌, ℕ, ◌+◌, ◌*◌, ◌^◌, ◌<◌, ◌≤◌, [], ◌∷◌, ◌++◌, length, IfOk, All};
 ghost use Rattle.sum_tree.specs.Laws.{fold};
 ghost use Rattle.sum_tree.specs.Shape.{IsChild, join_items};
 ghost use Rattle.sum_tree.specs.Groups.{elements, IsGroup};
@@ -48,6 +48,15 @@ fn groups<X: Drop>(alloc: Global, mut items: Vec<X>) -> Result<Vec<Vec<X>>, OutO
     }
     groups.reverse();
     Ok(groups)
+}
+
+/// The list of one element. On want of memory, which is the one error, the element is let go.
+pub fn list_of_one<X: Drop>(alloc: Global, element: X) -> Result<Vec<X>, OutOfMemory>
+    ensures { IfOk result (λ xs. xs.items ≡ element ∷ []) }
+{
+    let mut list = Vec::with_capacity(alloc, 1)?;
+    list.push(element)?;
+    Ok(list)
 }
 
 // An entry for each item.
@@ -153,8 +162,9 @@ pub(crate) fn from_entries_with<T: Item, L: Ledger>(
 }
 
 impl<T: Item> SumTree<T> {
-    /// The tree of these items, in time that grows with their number alone. Nodes are made level by level and are full,
-    /// but for two at most in each level. On want of memory the items are let go.
+    /// The tree of these items, in time that grows with their number alone. They are at most 2^40, and their sum fits. Nodes
+    /// are made level by level and are full, but for two at most in each level. On want of memory, which is the one error,
+    /// the items are let go.
     pub fn from_list(alloc: Global, items: Vec<T>) -> Result<SumTree<T>, OutOfMemory>
         requires short { length items.items ≤ 2 ^ 40 }
         requires fits { T.Summary.fits (fold T.Summary.empty T.Summary.op T.sum_of items.items) }

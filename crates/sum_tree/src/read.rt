@@ -7,8 +7,10 @@ ghost use Rattle.sum_tree.specs.Shape.{join_items};
 use crate::traits::Item;
 use crate::tree::{Content, SumTree};
 
-// The child that holds item i of them all, and the item's index there.
-pub(crate) fn child_at<T: Item>(children: &[SumTree<T>], i: u64) -> (usize, u64)
+/// The child that holds item `i` of all children's together, and the item's index there: both are counted from 0, and `i` is
+/// less than the number of the children's items. It takes no memory, and asks at most each child for its length, so in a node
+/// that `SumTree::parts` lends, 12 of them.
+pub fn child_at<T: Item>(children: &[SumTree<T>], i: u64) -> (usize, u64)
     requires { i < length (join_items children.now) }
     ensures child { result.0 < length children.now }
     ensures within { (d : Seen T) → result.1

@@ -7,7 +7,7 @@ ghost use Rattle.sum_tree.specs.Spliced.{splice_list, IsPiece, IsReturn, IsSplic
 
 use crate::OutOfMemory;
 use crate::entry::Entry;
-use crate::grow::{both, copy_onto, gathered, inners, leaves, root};
+use crate::grow::{both, copy_onto, gather, inners, leaves, root};
 use crate::here::Placing;
 use crate::list::{entries_of, from_entries};
 use crate::steps::Steps;
@@ -96,12 +96,12 @@ fn with_children<T: Item, L: Ledger>(
     if to - from == nodes.len() && back.is_none() {
         return Ok((front, None));
     }
-    let children = gathered(alloc, nodes, from, to, front, back)?;
+    let children = gather(alloc, nodes, from, to, front, back)?;
     inners(alloc, height, children, steps)
 }
 
 // What stands in the place of a node whose child at k became this narrow one, which is joined with the one before it.
-fn mended_left<T: Item, L: Ledger>(
+fn mend_left<T: Item, L: Ledger>(
     alloc: Global,
     height: u32,
     nodes: &[SumTree<T>],
@@ -127,7 +127,7 @@ fn mended_left<T: Item, L: Ledger>(
 }
 
 // The same where it is the first, and is joined with the second.
-fn mended_right<T: Item, L: Ledger>(
+fn mend_right<T: Item, L: Ledger>(
     alloc: Global,
     height: u32,
     nodes: &[SumTree<T>],
@@ -151,7 +151,7 @@ fn mended_right<T: Item, L: Ledger>(
 
 // What stands in the place of a node whose child at k became `front` and `back`. A narrow child is joined with one
 // beside it.
-fn mended<T: Item, L: Ledger>(
+fn mend<T: Item, L: Ledger>(
     alloc: Global,
     height: u32,
     nodes: &[SumTree<T>],
@@ -176,9 +176,9 @@ fn mended<T: Item, L: Ledger>(
         return with_children(alloc, height, nodes, k, k + 1, front, back, steps);
     }
     if k > 0 {
-        return mended_left(alloc, height, nodes, k, front, steps);
+        return mend_left(alloc, height, nodes, k, front, steps);
     }
-    mended_right(alloc, height, nodes, front, steps)
+    mend_right(alloc, height, nodes, front, steps)
 }
 
 impl<T: Item> SumTree<T> {
@@ -230,7 +230,7 @@ impl<T: Item> SumTree<T> {
                 match children[k].spliced_leaf(alloc, first, count, entries, steps)? {
                     Splicing::Back(entries) => Ok(Splicing::Back(entries)),
                     Splicing::Done(front, back) => {
-                        let (front, back) = mended(
+                        let (front, back) = mend(
                             alloc,
                             self.node.height,
                             children,
@@ -269,10 +269,10 @@ impl<T: Item> SumTree<T> {
         match self.spliced_leaf(alloc, from, to - from, entries, steps)? {
             Splicing::Done(front, back) => root(alloc, front, back, steps),
             Splicing::Back(entries) => {
-                let front = self.taken_counted(alloc, from, steps)?;
+                let front = self.take_front_counted(alloc, from, steps)?;
                 let middle = from_entries(alloc, entries, steps)?;
                 let whole = both(alloc, &front, &middle, steps)?;
-                let rest = self.dropped_counted(alloc, to, steps)?;
+                let rest = self.drop_front_counted(alloc, to, steps)?;
                 both(alloc, &whole, &rest, steps)
             }
         }
@@ -356,14 +356,15 @@ impl<T: Item> SumTree<T> {
         self.put_with::<Brand>(alloc, from, to, entries, Blank::new(1))
     }
 
-    /// Puts items in the place of those from `from` up to `to`. Where the range lies in one leaf, at most 12 items come,
-    /// that leaf keeps 6 entries or more (a root any number) and no other tree shares the nodes above it or itself, they
-    /// are changed in place: the leaf's own list takes the items, and each node on the path a new sum. Where the leaf would
-    /// have more than 12 entries, two new ones stand in its place, and two in that of each node above it that has no
-    /// room for one child more, up to the first that has; no other node is made. Else, where the range lies in one leaf
-    /// and at most 12 items come, it is one descent that makes at most two nodes for each level, and one more node for a
-    /// child that became narrow; else a front, the new items and a rest are put together. On want of memory the tree is
-    /// as before, and the items are let go.
+    /// Puts items in the place of those from `from` up to `to`, without the latter: indices that count from 0, with
+    /// `from ≤ to` and `to` at most the number of items. At most 2^40 items come of it, and their sum fits. Where the
+    /// range lies in one leaf, at most 12 items come, that leaf keeps 6 entries or more (a root any number) and no
+    /// other tree shares the nodes above it or itself, they are changed in place: the leaf's own list takes the items,
+    /// and each node on the path a new sum. Where the leaf would have more than 12 entries, two new ones stand in its
+    /// place, and two in that of each node above it that has no room for one child more, up to the first that has; no
+    /// other node is made. Else, where the range lies in one leaf and at most 12 items come, it is one descent that
+    /// makes at most two nodes for each level, and one more node for a child that became narrow; else a front, the new
+    /// items and a rest are put together. On want of memory the tree is as before, and the items are let go.
     pub fn splice(
         &mut self,
         alloc: Global,
@@ -383,7 +384,9 @@ impl<T: Item> SumTree<T> {
         self.put(alloc, from, to, entries)
     }
 
-    /// What `splice` does, with a step for each node made.
+    /// What `splice` does, under its conditions, with a step for each node made: with h the height before and m the number of
+    /// the new items, at most 26 (h + 1) + 2 m, and at most 6 (h + 1) where at most one item goes and at most 12 come, whatever
+    /// comes of the call.
     pub fn splice_counted<L: Ledger>(
         &mut self,
         alloc: Global,

@@ -7,7 +7,7 @@ ghost use Rattle.sum_tree.specs.Grown.{IsSplit};
 use crate::OutOfMemory;
 use crate::around::{entries_sum, trees_sum};
 use crate::entry::Entry;
-use crate::list::from_entries_with;
+use crate::list::{from_entries_with, list_of_one};
 use crate::steps::Steps;
 use crate::traits::{Item, Summary};
 use std::alloc::Global;
@@ -26,7 +26,33 @@ pub(crate) const MOST: usize = 12;
 /// Contracts see a tree as a record of its `items` in order, its `height` and its `width`, the number of its root's
 /// entries. Leaves have height 0 and lie at one depth. Every node but the root has 6 to 12 entries, an inner root at
 /// least 2, a leaf root 0 to 12; a tree has at most 2^40 items, so a height is at most 15. Nodes stand behind `Arc`:
-/// trees share them, and a change makes new nodes for those on its path.
+/// trees share them, and a change makes new nodes for those on its path, unless no other tree shares them, as then they are
+/// changed in place.
+///
+/// A call that puts items in asks of its caller that no more than 2^40 come of it and that their sum fits (`fits`). Running out
+/// of memory is the one error; a tree that is changed is then as before.
+///
+/// # Examples
+///
+/// ```text
+/// let mut tree = SumTree::new(alloc)?;
+/// tree.push(alloc, Number { key: 3 })?;
+/// tree.push(alloc, Number { key: 8 })?;
+/// tree.insert(alloc, Number { key: 5 })?;
+/// let old = tree.share()?;
+/// let gone = tree.remove(alloc, &3)?;
+/// let rest = old.drop_front(alloc, 1)?;
+/// ```
+///
+/// Now `tree` and `rest` hold 5 and 8, `old` still holds 3, 5 and 8, and `gone` is the number 3. Each call is used in the files of
+/// `crates/tree_tests/src`:
+///
+/// - `new`, `push`, `from_list`: `changes.rt`, in `pushed`, `push_to` and `made`; `from_item`: `trees.rt`, in `alone`
+/// - `len`, `is_empty`, `get`, `first`, `last`, `height`, `parts`: `mirror.rt`, in `has_numbers`, `has_ends` and `is_even`
+/// - `summary`: `trees.rt`, in `is_wide`; `share` and `splice`: `trees.rt`, in `splices`
+/// - `take_front`, `drop_front` and `append`: `trees.rt`, in `rejoins`
+/// - `find`: `trees.rt`, in `finds`; `insert` and `remove`: `keys.rt`, in `put` and `take_out`
+/// - `known`, `Steps` and the calls in `_counted`: `counted.rt`, in `spot`, `works_on_three` and `ends_with`
 #[cycle(tree)]
 #[derive(Drop)]
 pub struct SumTree<T: Item> {
@@ -70,7 +96,7 @@ impl<T: Item> Model for SumTree<T> {
 }
 
 impl<T: Item> SumTree<T> {
-    /// The tree without items: one node.
+    /// The tree without items: one node. Running out of memory is the one error.
     pub fn new(alloc: Global) -> Result<SumTree<T>, OutOfMemory>
         ensures items { IfOk result (λ t. t.items ≡ []) }
         ensures height { IfOk result (λ t. t.height ≡ 0) }
@@ -117,7 +143,8 @@ impl<T: Item> SumTree<T> {
         let _node = &self.node;
     }
 
-    /// A second owner of the same nodes. No node is made; the count of owners can be refused.
+    /// A second owner of the same nodes. No node is made; `OutOfMemory`, the one error, is that the count of owners is
+    /// refused.
     pub fn share(&self) -> Result<SumTree<T>, OutOfMemory>
         ensures { IfOk result (λ t. t ≡ self.now) }
     {
@@ -125,14 +152,14 @@ impl<T: Item> SumTree<T> {
         Ok(SumTree { node })
     }
 
-    /// The tree of one item: one node.
+    /// The tree of one item, whose summary has to fit: one node. On want of memory, which is the one error, the item is let
+    /// go.
     pub fn from_item(alloc: Global, item: T) -> Result<SumTree<T>, OutOfMemory>
         requires { T.Summary.fits (fold T.Summary.empty T.Summary.op T.sum_of (item ∷ [])) }
         ensures items { IfOk result (λ t. t.items ≡ item ∷ []) }
         ensures height { IfOk result (λ t. t.height ≡ 0) }
     {
-        let mut entries = Vec::with_capacity(alloc, 1)?;
-        entries.push(Entry::new(alloc, item)?)?;
+        let entries = list_of_one(alloc, Entry::new(alloc, item)?)?;
         from_entries_with::<T, Brand>(alloc, entries, Blank::new(1))
     }
 }
@@ -182,9 +209,7 @@ pub(crate) fn single<T: Item, L: Ledger>(
     ensures height { IfOk result (λ t. t.height ≡ 0) }
     ensures cost { steps.new ≤ steps.old + 1 }
 {
-    let mut entries = Vec::new(alloc);
-    entries.push(entry)?;
-    leaf(alloc, entries, steps)
+    leaf(alloc, list_of_one(alloc, entry)?, steps)
 }
 
 // The leaf of these entries.

@@ -6,8 +6,8 @@ use Rattle.sum_tree.proofs.Folds.{fits_right}
 use Rattle.sum_tree.proofs.Pairs.{last_whole, pushed_beside}
 use Rattle.sum_tree.proofs.here.push_beside.Goals as goal
 
-pub followed-requires-clause-fits : goal.followed-requires-clause-fits
-followed-requires-clause-fits g c =
+pub with_behind-requires-clause-fits : goal.with_behind-requires-clause-fits
+with_behind-requires-clause-fits g c =
     let ts = c.args.children.now.items in
     let n = c.len-last.result in
     let t = c.index.result.now in
@@ -30,7 +30,7 @@ returns-in_err-front-clause-cost g c =
     let n = c.len-last.result in
     let len : n ≡ length ts = omega (arith, c.len-last.ensures, c.args.children.now.ok) in
     let child : IsChild c.args.height c.index.result.now = last_is_child c.args.height ts n c.index.result.now c.requires.children len (omega (arith, len, c.requires.least)) c.index.ensures in
-    omega (arith, child.lower, c.single.ensures.cost, c.in_ok-other.ensures.height, c.followed.ensures.cost)
+    omega (arith, child.lower, c.single.ensures.cost, c.in_ok-other.ensures.height, c.with_behind.ensures.cost)
 
 pub returns-in_err-put_pair-clause-cost : goal.returns-in_err-put_pair-clause-cost
 returns-in_err-put_pair-clause-cost g c =
@@ -38,7 +38,7 @@ returns-in_err-put_pair-clause-cost g c =
     let n = c.len-last.result in
     let len : n ≡ length ts = omega (arith, c.len-last.ensures, c.args.children.now.ok) in
     let child : IsChild c.args.height c.index.result.now = last_is_child c.args.height ts n c.index.result.now c.requires.children len (omega (arith, len, c.requires.least)) c.index.ensures in
-    omega (arith, child.lower, c.single.ensures.cost, c.in_ok-other.ensures.height, c.followed.ensures.cost)
+    omega (arith, child.lower, c.single.ensures.cost, c.in_ok-other.ensures.height, c.with_behind.ensures.cost)
 
 pub returns-clause-cost : goal.returns-clause-cost
 returns-clause-cost g c =
@@ -46,4 +46,4 @@ returns-clause-cost g c =
     let n = c.len-last.result in
     let len : n ≡ length ts = omega (arith, c.len-last.ensures, c.args.children.now.ok) in
     let child : IsChild c.args.height c.index.result.now = last_is_child c.args.height ts n c.index.result.now c.requires.children len (omega (arith, len, c.requires.least)) c.index.ensures in
-    omega (arith, child.lower, c.single.ensures.cost, c.in_ok-other.ensures.height, c.followed.ensures.cost)
+    omega (arith, child.lower, c.single.ensures.cost, c.in_ok-other.ensures.height, c.with_behind.ensures.cost)

@@ -1,9 +1,8 @@
 use Rattle.std.proofs.Common.{◌≡◌, ◌-◌, [], ◌++◌, length, reverse, List, arith, ap, subst}
-use Rattle.std.proofs.lemmas.List.{length-take, length-drop}
+use Rattle.std.proofs.lemmas.List.{nil_from_length, length-take, length-drop}
 use Rattle.sum_tree.specs.Groups.{elements, IsGroup}
 use Rattle.sum_tree.proofs.Runs.{cut_last, All_push, All_reverse, few_groups, enough_groups}
 use Rattle.std.proofs.lemmas.Grind.{common_steps}
-use Rattle.sum_tree.proofs.Splices.{nil_of}
 use Rattle.sum_tree.proofs.list.groups.Goals as goal
 
 pub loop-items-preserved : goal.loop-items-preserved
@@ -20,13 +19,13 @@ loop-items-preserved g c =
 pub returns-clause-few : goal.returns-clause-few
 returns-clause-few g c =
     let gs = c.loop-items.groups.items in
-    let nil : c.loop-items.items.items ≡ [] = nil_of c.loop-items.items.items (grind (arith, common_steps)) in
+    let nil : c.loop-items.items.items ≡ [] = nil_from_length c.loop-items.items.items (grind (arith, common_steps)) in
     let whole : elements (reverse gs) ≡ c.args.items.items = subst (λ (xs : List _). xs ++ elements (reverse gs) ≡ c.args.items.items) nil c.loop-items.invariant.0 in
     rw c.reverse.ensures.items (omega (arith, ap length whole, few_groups (reverse gs) (All_reverse IsGroup gs c.loop-items.invariant.1)))
 
 pub returns-clause-enough : goal.returns-clause-enough
 returns-clause-enough g c =
     let gs = c.loop-items.groups.items in
-    let nil : c.loop-items.items.items ≡ [] = nil_of c.loop-items.items.items (grind (arith, common_steps)) in
+    let nil : c.loop-items.items.items ≡ [] = nil_from_length c.loop-items.items.items (grind (arith, common_steps)) in
     let whole : elements (reverse gs) ≡ c.args.items.items = subst (λ (xs : List _). xs ++ elements (reverse gs) ≡ c.args.items.items) nil c.loop-items.invariant.0 in
     rw c.reverse.ensures.items (omega (arith, ap length whole, enough_groups (reverse gs) (All_reverse IsGroup gs c.loop-items.invariant.1)))

@@ -1,18 +1,19 @@
 use Rattle.std.proofs.Common.{rules, ◌≡◌, ℕ, ◌+◌, ◌-◌, ◌<◌, ◌≤◌, ◌++◌, List, [], length, take, drop, Option, None, All, sym, subst, ap, refl, ◌∙◌, arith}
-use Rattle.std.proofs.lemmas.List.{append-nil, drop_all, length-take-le}
+use Rattle.std.proofs.lemmas.List.{append-nil, nil_from_length, drop_all, length-take-le}
+use Rattle.std.proofs.lemmas.Result.{IfOk-weaker}
 use Rattle.sum_tree.specs.Seen.{Seen}
 use Rattle.sum_tree.specs.Shape.{IsChild, join_items}
 use Rattle.sum_tree.specs.Grown.{pair_list, with_run}
 use Rattle.sum_tree.specs.Spliced.{IsSpliced}
 use Rattle.sum_tree.proofs.Pairs.{run_children, pair_few}
-use Rattle.sum_tree.proofs.Splices.{nil_of, run-joined, pair_none, split_spliced}
-use Rattle.sum_tree.proofs.Widths.{if_ok, run_length}
+use Rattle.sum_tree.proofs.Splices.{run-joined, pair_none, split_spliced}
+use Rattle.sum_tree.proofs.Widths.{run_length}
 use Rattle.sum_tree.proofs.splice.with_children.Goals as goal
 
 -- one child in the place of both that a node has
 one_for_all : {T : Type 0} (h : ℕ) (ts : List (Seen T)) (i j : ℕ) (a : Seen T) (b : Option (Seen T)) → b ≡ None → j - i ≡ length ts → i < j → j ≤ i + 2 → j ≤ length ts → All (IsChild h) (pair_list a b) → IsSpliced h (length ts) (join_items (with_run ts i j a b)) a None
 one_for_all h ts i j a b none all order few within pair =
-    let front : take i ts ≡ [] = nil_of (take i ts) (omega (arith, all, order, within, length-take-le i ts (omega (arith, order, within)))) in
+    let front : take i ts ≡ [] = nil_from_length (take i ts) (omega (arith, all, order, within, length-take-le i ts (omega (arith, order, within)))) in
     let back : drop j ts ≡ [] = drop_all j ts (omega (arith, all, order, within)) in
     let items : join_items (with_run ts i j a b) ≡ a.items = run-joined ts i j a b ∙ ap (λ us. join_items us ++ (join_items (pair_list a b) ++ join_items (drop j ts))) front ∙ ap (λ us. join_items (pair_list a b) ++ join_items us) back ∙ append-nil (join_items (pair_list a b)) ∙ pair_none a b none in
     let child : IsChild h a = subst (λ o. All (IsChild h) (pair_list a o)) none pair 0 a (omega arith) in
@@ -39,4 +40,4 @@ inners-requires-clause-fits g c = rw c.in_ok-children.ensures c.requires.fits
 
 pub returns-clause-spliced : goal.returns-clause-spliced
 returns-clause-spliced g c =
-    if_ok c.inners.result (λ p s. split_spliced c.args.height c.args.height (length c.in_ok-children.children.items) (length c.args.nodes.now) _ _ p.0 p.1 refl (ap join_items c.in_ok-children.ensures) s) c.inners.ensures.split
+    IfOk-weaker c.inners.result _ _ (λ p s. split_spliced c.args.height c.args.height (length c.in_ok-children.children.items) (length c.args.nodes.now) _ _ p.0 p.1 refl (ap join_items c.in_ok-children.ensures) s) c.inners.ensures.split

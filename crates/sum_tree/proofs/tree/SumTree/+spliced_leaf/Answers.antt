@@ -19,15 +19,15 @@ spliced_leaf-requires g t' c κs within' =
     let fits = step_fits g.met.T.Summary.Summary.laws g.T.Item.sum_of g.met.T.Item.admitted st c.requires.fits in
     search rules
 
-pub mended-requires-clause-short : goal.mended-requires-clause-short
-mended-requires-clause-short g t' c =
+pub mend-requires-clause-short : goal.mend-requires-clause-short
+mend-requires-clause-short g t' c =
     let st = node_step c.in-Some.place.0 c.in-Some.place.1 c.args.count c.args.from c.args.entries.items c.self.view_is c.deref.ensures c.in-Inner.is c.self.invariant.0 c.deref-in-Inner.ensures.value c.in-Some.ensures.some c.index.ensures in
     let done = rw c.in-Done.is at c.in_ok-entries-in-Inner.ensures.splicing in
     let same = step_items c.in-Done.front c.in-Done.back st done in
     rw (c.deref-in-Done-2.ensures.value, same) c.requires.short
 
-pub mended-requires-clause-fits : goal.mended-requires-clause-fits
-mended-requires-clause-fits g t' c =
+pub mend-requires-clause-fits : goal.mend-requires-clause-fits
+mend-requires-clause-fits g t' c =
     let st = node_step c.in-Some.place.0 c.in-Some.place.1 c.args.count c.args.from c.args.entries.items c.self.view_is c.deref.ensures c.in-Inner.is c.self.invariant.0 c.deref-in-Inner.ensures.value c.in-Some.ensures.some c.index.ensures in
     let done = rw c.in-Done.is at c.in_ok-entries-in-Inner.ensures.splicing in
     let same = step_items c.in-Done.front c.in-Done.back st done in
@@ -46,28 +46,28 @@ returns-in_ok-front-in-Leaf-clause-splicing g t' c =
     let all = leaf_spliced c.args.from (c.args.from + c.args.count) c.args.self.now.items c.in-Leaf.old.items c.deref-in-Leaf.result.now c.deref-in-Leaf-2.result.now c.args.entries.items c.in_ok-all-in-Leaf.all.items leaf.items c.deref-in-Leaf.ensures.value c.deref-in-Leaf-2.ensures.value c.in_ok-all-in-Leaf.ensures in
     split_spliced 0 c.args.self.now.height (length c.in_ok-all-in-Leaf.all.items) c.args.self.now.width c.in_ok-all-in-Leaf.all.items _ c.in_ok-front-in-Leaf.front c.in_ok-front-in-Leaf.back (sym leaf.low) all c.in_ok-front-in-Leaf.ensures.split
 
-pub mended-requires-clause-children : goal.mended-requires-clause-children
-mended-requires-clause-children g t' c =
+pub mend-requires-clause-children : goal.mend-requires-clause-children
+mend-requires-clause-children g t' c =
     let inner = opened _ _ _ _ c.self.view_is c.deref.ensures c.in-Inner.is c.self.invariant.0 in
     rw (node_height c.deref-in-Done.ensures c.self.view_is, c.deref-in-Done-2.ensures.value) inner.children
 
-pub mended-requires-clause-least : goal.mended-requires-clause-least
-mended-requires-clause-least g t' c =
+pub mend-requires-clause-least : goal.mend-requires-clause-least
+mend-requires-clause-least g t' c =
     let inner = opened _ _ _ _ c.self.view_is c.deref.ensures c.in-Inner.is c.self.invariant.0 in
     rw c.deref-in-Done-2.ensures.value inner.least
 
-pub mended-requires-clause-most : goal.mended-requires-clause-most
-mended-requires-clause-most g t' c =
+pub mend-requires-clause-most : goal.mend-requires-clause-most
+mend-requires-clause-most g t' c =
     let inner = opened _ _ _ _ c.self.view_is c.deref.ensures c.in-Inner.is c.self.invariant.0 in
     rw c.deref-in-Done-2.ensures.value inner.most
 
-pub mended-requires-clause-within : goal.mended-requires-clause-within
-mended-requires-clause-within g t' c =
+pub mend-requires-clause-within : goal.mend-requires-clause-within
+mend-requires-clause-within g t' c =
     let st = node_step c.in-Some.place.0 c.in-Some.place.1 c.args.count c.args.from c.args.entries.items c.self.view_is c.deref.ensures c.in-Inner.is c.self.invariant.0 c.deref-in-Inner.ensures.value c.in-Some.ensures.some c.index.ensures in
     rw c.deref-in-Done-2.ensures.value st.lt
 
-pub mended-requires-clause-pair : goal.mended-requires-clause-pair
-mended-requires-clause-pair g t' c =
+pub mend-requires-clause-pair : goal.mend-requires-clause-pair
+mend-requires-clause-pair g t' c =
     let st = node_step c.in-Some.place.0 c.in-Some.place.1 c.args.count c.args.from c.args.entries.items c.self.view_is c.deref.ensures c.in-Inner.is c.self.invariant.0 c.deref-in-Inner.ensures.value c.in-Some.ensures.some c.index.ensures in
     let done = rw c.in-Done.is at c.in_ok-entries-in-Inner.ensures.splicing in
     rw (node_height c.deref-in-Done.ensures c.self.view_is) (step_piece c.in-Done.front c.in-Done.back st done)
@@ -107,12 +107,12 @@ returns-in-Back-clause-cost g t' c =
 pub returns-in_err-front-in-Done-clause-cost : goal.returns-in_err-front-in-Done-clause-cost
 returns-in_err-front-in-Done-clause-cost g t' c =
     let st = node_step c.in-Some.place.0 c.in-Some.place.1 c.args.count c.args.from c.args.entries.items c.self.view_is c.deref.ensures c.in-Inner.is c.self.invariant.0 c.deref-in-Inner.ensures.value c.in-Some.ensures.some c.index.ensures in
-    omega (arith, st.child.lower, c.spliced_leaf.ensures.cost, c.mended.ensures.cost)
+    omega (arith, st.child.lower, c.spliced_leaf.ensures.cost, c.mend.ensures.cost)
 
 pub returns-in_ok-front-in-Done-clause-cost : goal.returns-in_ok-front-in-Done-clause-cost
 returns-in_ok-front-in-Done-clause-cost g t' c =
     let st = node_step c.in-Some.place.0 c.in-Some.place.1 c.args.count c.args.from c.args.entries.items c.self.view_is c.deref.ensures c.in-Inner.is c.self.invariant.0 c.deref-in-Inner.ensures.value c.in-Some.ensures.some c.index.ensures in
-    omega (arith, st.child.lower, c.spliced_leaf.ensures.cost, c.mended.ensures.cost)
+    omega (arith, st.child.lower, c.spliced_leaf.ensures.cost, c.mend.ensures.cost)
 
 pub returns-in-None-clause-returned : goal.returns-in-None-clause-returned
 returns-in-None-clause-returned g t' c =

@@ -88,7 +88,7 @@ returns-in_err-whole-in-Back-clause-cost g c =
 pub returns-in_err-rest-in-Back-clause-cost : goal.returns-in_err-rest-in-Back-clause-cost
 returns-in_err-rest-in-Back-clause-cost g c =
     let back = rw c.in-Back.is at c.in_ok-front.ensures.splicing in
-    omega (arith, ap length back, c.spliced_leaf.ensures.cost, c.in_ok-front-in-Back.ensures.height, c.in_ok-front-in-Back.ensures.low, c.from_entries.ensures.cost, c.in_ok-middle-in-Back.ensures.height, c.both.ensures.cost, c.in_ok-whole-in-Back.ensures.most, c.dropped_counted.ensures.cost)
+    omega (arith, ap length back, c.spliced_leaf.ensures.cost, c.in_ok-front-in-Back.ensures.height, c.in_ok-front-in-Back.ensures.low, c.from_entries.ensures.cost, c.in_ok-middle-in-Back.ensures.height, c.both.ensures.cost, c.in_ok-whole-in-Back.ensures.most, c.drop_front_counted.ensures.cost)
 
 pub returns-in_ok-rest-in-Back-clause-cost : goal.returns-in_ok-rest-in-Back-clause-cost
 returns-in_ok-rest-in-Back-clause-cost g c =

@@ -6,7 +6,7 @@ use Rattle.sum_tree.specs.Spliced.{IsSpliced}
 use Rattle.sum_tree.proofs.Pairs.{split_children}
 use Rattle.sum_tree.proofs.Runs.{fits_middle}
 use Rattle.sum_tree.proofs.Splices.{beside_left, joined_left}
-use Rattle.sum_tree.proofs.splice.mended_left.Goals as goal
+use Rattle.sum_tree.proofs.splice.mend_left.Goals as goal
 
 pub beside-requires-clause-fits : goal.beside-requires-clause-fits
 beside-requires-clause-fits g c =

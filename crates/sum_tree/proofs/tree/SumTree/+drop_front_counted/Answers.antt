@@ -10,7 +10,7 @@ use Rattle.sum_tree.proofs.Fronts.{slice_rest}
 use Rattle.sum_tree.proofs.Heights.{of_ok, on_ok}
 use Rattle.sum_tree.proofs.Nodes.{leaf_of, node_height, seen_short, seen_fits}
 use Rattle.sum_tree.proofs.Cuts.{cut_of, cut_rest, cut_behind}
-use Rattle.sum_tree.proofs.tree.SumTree.+dropped_counted.Goals as goal
+use Rattle.sum_tree.proofs.tree.SumTree.+drop_front_counted.Goals as goal
 
 pub copied_leaf-requires-clause-fits : goal.copied_leaf-requires-clause-fits
 copied_leaf-requires-clause-fits g t' c =
@@ -79,7 +79,7 @@ run-requires-clause-some g t' c =
 pub returns-in_err-rest-in-Inner-clause-cost : goal.returns-in_err-rest-in-Inner-clause-cost
 returns-in_err-rest-in-Inner-clause-cost g t' c =
     let cut = cut_of c.child_at-k.result.0 c.child_at-k.result.1 c.args.n c.self.view_is c.deref.ensures c.in-Inner.is c.self.invariant.0 c.deref-in-Inner.ensures.value c.child_at-k.ensures.child c.child_at-k.ensures.within c.child_at-k.ensures.before c.index.ensures in
-    omega (arith, cut.child.lower, c.dropped_counted.ensures.cost)
+    omega (arith, cut.child.lower, c.drop_front_counted.ensures.cost)
 
 pub returns-then-next-len-clause-height : goal.returns-then-next-len-clause-height
 returns-then-next-len-clause-height g t' c =
@@ -94,7 +94,7 @@ returns-then-next-len-clause-low g t' c =
 pub returns-then-next-len-clause-cost : goal.returns-then-next-len-clause-cost
 returns-then-next-len-clause-cost g t' c =
     let cut = cut_of c.child_at-k.result.0 c.child_at-k.result.1 c.args.n c.self.view_is c.deref.ensures c.in-Inner.is c.self.invariant.0 c.deref-in-Inner.ensures.value c.child_at-k.ensures.child c.child_at-k.ensures.within c.child_at-k.ensures.before c.index.ensures in
-    omega (arith, cut.child.lower, c.dropped_counted.ensures.cost)
+    omega (arith, cut.child.lower, c.drop_front_counted.ensures.cost)
 
 pub returns-in_err-back-in-Inner-clause-cost : goal.returns-in_err-back-in-Inner-clause-cost
 returns-in_err-back-in-Inner-clause-cost g t' c =

@@ -1,5 +1,5 @@
 use Rattle.sum_tree.proofs.Placeds.{noted_done, noted_split}
-use Rattle.sum_tree.proofs.here.noted.Goals as goal
+use Rattle.sum_tree.proofs.here.note.Goals as goal
 
 pub returns-in-Some : goal.returns-in-Some
 returns-in-Some g c =

@@ -2,7 +2,7 @@ use Rattle.std.proofs.Common.{rules, ◌≡◌, ◌<◌, List, [], ◌∷◌, �
 use Rattle.sum_tree.specs.declared.around.Around.{Around}
 use Rattle.sum_tree.specs.Around.{outer_sums, Fitting}
 use Rattle.sum_tree.proofs.Arounds.{outer_sums-snoc, Fitting-last}
-use Rattle.sum_tree.proofs.around.+settled.Goals as goal
+use Rattle.sum_tree.proofs.around.+settle.Goals as goal
 
 pub add_before-requires-clause-sum : goal.add_before-requires-clause-sum
 add_before-requires-clause-sum g t c =
@@ -28,8 +28,8 @@ add-requires g t c =
     let split : c.args.around.items ≡ c.pop.new.self.items ++ a ∷ [] = c.in-Some.ensures.items in
     subst g.S.Summary.fits (sym c.in_ok-add_before-in-Some.ensures) ((Fitting-last op g.S.Summary.fits c.pop.new.self.items a x (op (op a.before x) a.behind) refl (subst (λ (ls : List (Around _)). Fitting g.S.Summary.fits op ls x) split c.requires)).2)
 
-pub settled-requires : goal.settled-requires
-settled-requires g t c κs within =
+pub settle-requires : goal.settle-requires
+settle-requires g t c κs within =
     let a = c.in-Some.level in
     let x = c.args.sum in
     let op = g.S.Summary.op in

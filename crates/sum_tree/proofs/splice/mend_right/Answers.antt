@@ -7,7 +7,7 @@ use Rattle.sum_tree.specs.Spliced.{IsSpliced}
 use Rattle.sum_tree.proofs.Folds.{fits_left}
 use Rattle.sum_tree.proofs.Pairs.{split_children}
 use Rattle.sum_tree.proofs.Splices.{beside_right, joined_right}
-use Rattle.sum_tree.proofs.splice.mended_right.Goals as goal
+use Rattle.sum_tree.proofs.splice.mend_right.Goals as goal
 
 pub beside-requires-clause-fits : goal.beside-requires-clause-fits
 beside-requires-clause-fits g c =

@@ -8,7 +8,7 @@ use Rattle.sum_tree.proofs.Opened.{opened}
 use Rattle.sum_tree.proofs.Heights.{of_ok, on_ok}
 use Rattle.sum_tree.proofs.Nodes.{leaf_of, node_height, seen_short, seen_fits}
 use Rattle.sum_tree.proofs.Cuts.{cut_of, cut_front, cut_before}
-use Rattle.sum_tree.proofs.tree.SumTree.+taken_counted.Goals as goal
+use Rattle.sum_tree.proofs.tree.SumTree.+take_front_counted.Goals as goal
 
 pub run-requires-clause-fits : goal.run-requires-clause-fits
 run-requires-clause-fits g t' c =
@@ -71,7 +71,7 @@ returns-then-k-eq0-clause-items g t' c =
 pub returns-in_err-last-in-Inner-clause-cost : goal.returns-in_err-last-in-Inner-clause-cost
 returns-in_err-last-in-Inner-clause-cost g t' c =
     let cut = cut_of c.child_at-k.result.0 c.child_at-k.result.1 c.args.n c.self.view_is c.deref.ensures c.in-Inner.is c.self.invariant.0 c.deref-in-Inner.ensures.value c.child_at-k.ensures.child c.child_at-k.ensures.within c.child_at-k.ensures.before c.index.ensures in
-    omega (arith, cut.child.lower, c.taken_counted.ensures.cost)
+    omega (arith, cut.child.lower, c.take_front_counted.ensures.cost)
 
 pub returns-then-k-eq0-clause-height : goal.returns-then-k-eq0-clause-height
 returns-then-k-eq0-clause-height g t' c =
@@ -86,7 +86,7 @@ returns-then-k-eq0-clause-low g t' c =
 pub returns-then-k-eq0-clause-cost : goal.returns-then-k-eq0-clause-cost
 returns-then-k-eq0-clause-cost g t' c =
     let cut = cut_of c.child_at-k.result.0 c.child_at-k.result.1 c.args.n c.self.view_is c.deref.ensures c.in-Inner.is c.self.invariant.0 c.deref-in-Inner.ensures.value c.child_at-k.ensures.child c.child_at-k.ensures.within c.child_at-k.ensures.before c.index.ensures in
-    omega (arith, cut.child.lower, c.taken_counted.ensures.cost)
+    omega (arith, cut.child.lower, c.take_front_counted.ensures.cost)
 
 pub returns-in_err-front-in-Inner-clause-cost : goal.returns-in_err-front-in-Inner-clause-cost
 returns-in_err-front-in-Inner-clause-cost g t' c =

@@ -1,10 +1,10 @@
 use Rattle.std.proofs.Common.{rules, ◌≤◌, ◌<◌, ◌^◌, ◌++◌, length, arith, ◌∙◌, length-append}
 use Rattle.sum_tree.proofs.Opened.{opened, grown_last}
 use Rattle.sum_tree.proofs.Ends.{last_of, last_length, last_fits}
-use Rattle.sum_tree.proofs.tree.SumTree.+followed.Goals as goal
+use Rattle.sum_tree.proofs.tree.SumTree.+with_behind.Goals as goal
 
-pub followed-requires : goal.followed-requires
-followed-requires g t c κs =
+pub with_behind-requires : goal.with_behind-requires
+with_behind-requires g t c κs =
     let inner = opened _ _ _ _ c.self.view_is c.deref.ensures c.in-Inner.is c.self.invariant.0 in
     let last = last_of inner (c.len-last.ensures ∙ c.in-Inner.nodes.ok.0) c.index.ensures in
     let lower : c.index.result.now.height < c.args.self.now.height = omega (arith, last.child.lower) in
@@ -37,10 +37,10 @@ pub returns-in_err-front-in-Inner-clause-cost : goal.returns-in_err-front-in-Inn
 returns-in_err-front-in-Inner-clause-cost g t c =
     let inner = opened _ _ _ _ c.self.view_is c.deref.ensures c.in-Inner.is c.self.invariant.0 in
     let last = last_of inner (c.len-last.ensures ∙ c.in-Inner.nodes.ok.0) c.index.ensures in
-    omega (arith, last.child.lower, c.followed.ensures.cost)
+    omega (arith, last.child.lower, c.with_behind.ensures.cost)
 
 pub returns-clause-cost : goal.returns-clause-cost
 returns-clause-cost g t c =
     let inner = opened _ _ _ _ c.self.view_is c.deref.ensures c.in-Inner.is c.self.invariant.0 in
     let last = last_of inner (c.len-last.ensures ∙ c.in-Inner.nodes.ok.0) c.index.ensures in
-    omega (arith, last.child.lower, c.followed.ensures.cost, c.with_child.ensures.cost)
+    omega (arith, last.child.lower, c.with_behind.ensures.cost, c.with_child.ensures.cost)
