@@ -8,17 +8,12 @@ use std::alloc::Global;
 use sum_tree::OutOfMemory;
 use text_buffer::{Buffer, Limits};
 
-const AMPLE: Limits = Limits {
-    bytes: 1 << 40,
-    entries: (1 << 40) - 1,
-};
-
 /// A replica's buffer over a text.
 pub fn opened(alloc: Global, replica: u16, base: &str) -> Result<Buffer, OutOfMemory>
     requires least { 1 ≤ replica }
     requires greatest { replica ≤ 1023 }
 {
-    match Buffer::new(alloc, replica, base, AMPLE) {
+    match Buffer::new(alloc, replica, base, Limits::MOST) {
         Ok(buffer) => Ok(buffer),
         Err(_) => Err(OutOfMemory),
     }

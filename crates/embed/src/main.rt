@@ -10,11 +10,6 @@ use text_buffer::{Anchor, Bias, Buffer, Limits, Snapshot, agree};
 
 const BASE: &str = "The cat sat.\n";
 
-const LIMITS: Limits = Limits {
-    bytes: 1 << 40,
-    entries: (1 << 40) - 1,
-};
-
 // Puts a text in the place of the bytes from `start` to `end`. Gives the operation, which the other authors take.
 fn replace(
     alloc: Global,
@@ -68,7 +63,7 @@ fn play(rt: &impl Print, alloc: Global, ann: &mut Buffer, ben: &mut Buffer) -> R
 
 fn main(rt: HostRuntime) -> Result<()> {
     let alloc = rt.alloc();
-    let mut ann = Buffer::new(alloc, 1, BASE, LIMITS)?;
-    let mut ben = Buffer::new(alloc, 2, BASE, LIMITS)?;
+    let mut ann = Buffer::new(alloc, 1, BASE, Limits::MOST)?;
+    let mut ben = Buffer::new(alloc, 2, BASE, Limits::MOST)?;
     play(&rt, alloc, &mut ann, &mut ben)
 }

@@ -17,11 +17,6 @@ use sum_tree::SumTree;
 use text_buffer::{Buffer, Limits};
 use undo_map::UndoMap;
 
-const AMPLE: Limits = Limits {
-    bytes: 1 << 40,
-    entries: (1 << 40) - 1,
-};
-
 /// The buffer of a replica, and what stands for its history. Nothing waits.
 #[derive(Drop)]
 pub struct PlacedBuffer {
@@ -120,7 +115,7 @@ fn empty_buffer(alloc: Global, replica: u16) -> Result<Buffer, OutOfMemory>
     ensures { IfOk result (λ b. b ≡ over_base replica []
         (record { bytes = 2 ^ 40; entries = 2 ^ 40 - 1 })) }
 {
-    match Buffer::new(alloc, replica, "", AMPLE) {
+    match Buffer::new(alloc, replica, "", Limits::MOST) {
         Ok(buffer) => Ok(buffer),
         Err(_) => Err(OutOfMemory),
     }

@@ -10,7 +10,7 @@ use crate::OutOfMemory;
 use crate::line_value::{is_number, is_text, members_of};
 use crate::parts::id_of;
 use crate::session::Ids;
-use op_model::Text;
+use op_model::{LAST_REPLICA, Text};
 use serde_json::Value;
 use std::alloc::Global;
 
@@ -24,7 +24,7 @@ pub struct Header {
 fn are_editors(ids: &[u16]) -> bool
     ensures { result ≡ list_all is_editor ids.now }
 {
-    ids.iter().all(|id| 1 <= *id && *id <= 1023)
+    ids.iter().all(|id| 1 <= *id && *id <= LAST_REPLICA)
 }
 
 fn are_distinct(ids: &[u16]) -> bool

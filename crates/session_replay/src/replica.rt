@@ -19,12 +19,6 @@ use std::alloc::Global;
 use std::marker::Model;
 use text_buffer::{Base, Buffer, Refused, Snapshot, Took};
 
-/// The limits of a session's buffers.
-const LIMITS: Limits = Limits {
-    bytes: 1 << 40,
-    entries: (1 << 40) - 1,
-};
-
 /// A replica, seen as its buffer.
 #[derive(Drop)]
 pub struct Replica {
@@ -52,7 +46,7 @@ impl Replica {
         requires base { length base.now ≤ 67108864 }
         ensures { IfOk result (λ r. r ≡ first_buffer base.now id) }
     {
-        match Buffer::over(alloc, id, base, LIMITS) {
+        match Buffer::over(alloc, id, base, Limits::MOST) {
             Ok(buffer) => Ok(Replica { id, buffer }),
             Err(_) => Err(OutOfMemory),
         }

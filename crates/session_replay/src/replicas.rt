@@ -8,14 +8,14 @@ ghost use Rattle.session_replay.specs.Work.{after_give, after_outcome, buffer_of
 
 use crate::OutOfMemory;
 use crate::replica::Replica;
-use op_model::{Operation, Pieces};
+use op_model::{LAST_REPLICA, Operation, Pieces};
 use session_lines::Given;
 use std::alloc::Global;
 use std::marker::Model;
 use text_buffer::Base;
 
 /// How many ids the table has, from 0: an id in a header is one of them.
-const IDS: u16 = 1024;
+const IDS: u16 = LAST_REPLICA + 1;
 
 /// Replicas in the header's order, each found by its id in constant time. Seen as the list of their buffers.
 #[derive(Drop)]
