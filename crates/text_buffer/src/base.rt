@@ -7,12 +7,9 @@ ghost use Rattle.text_buffer.specs.declared.faults.NewFault.{NewFault};
 
 use crate::document::Document;
 use crate::faults::length_fault;
-use crate::{NewFault, OutOfMemory};
+use crate::{Limits, NewFault, OutOfMemory};
 use std::alloc::Global;
 use std::marker::Model;
-
-/// The most bytes of a base: no limits let in more.
-const MOST: u64 = 1 << 40;
 
 /// A base text with all that a buffer over it begins with, made once and shared by the buffers over it. Contracts see it as the
 /// bytes of the text.
@@ -47,7 +44,7 @@ impl Base {
         ensures fault { IfErr result (λ e. (base_fault text.now ≡ Some e)
             ⊎ ((base_fault text.now ≡ None) × (e ≡ NewFault.OutOfMemory))) }
     {
-        match length_fault(MOST, text.len() as u64) {
+        match length_fault(Limits::MOST.bytes, text.len() as u64) {
             Some(fault) => Err(fault),
             None => Ok(Base::over(alloc, text)?),
         }

@@ -4,8 +4,8 @@
 //! as often as it comes. A [`Snapshot`] is what a buffer was at one time: it is asked for places and for the past.
 //!
 //! ```text
-//! let mut ann = Buffer::new(alloc, 1, "The cat sat.\n", LIMITS)?;
-//! let mut ben = Buffer::new(alloc, 2, "The cat sat.\n", LIMITS)?;
+//! let mut ann = Buffer::new(alloc, 1, "The cat sat.\n", Limits::MOST)?;
+//! let mut ben = Buffer::new(alloc, 2, "The cat sat.\n", Limits::MOST)?;
 //!
 //! let dog = Text::new(String::from_str(alloc, "dog")?);
 //! let by_ann = ann.edit_uncounted(&[Piece::new(4, 7, dog)])?;
