@@ -137,9 +137,9 @@ unfolding report_text line_text query_line digits
 places_found = refl
 
 pub points_found : report_text (
-    report.Query 1 0 (query.Point (point.Place (record { row = 0; column = 6 }) (record { 0 = 3 }) (record { row = 1; column = 3 })))
+    report.Query 1 0 (query.Point (point.Point (record { row = 0; column = 6 }) (record { 0 = 3 }) (record { row = 1; column = 3 })))
     ∷ report.Query 2 0 (query.Point (point.Clips 2 6))
-    ∷ report.Query 3 0 (query.Offset (offset.Place 6))
+    ∷ report.Query 3 0 (query.Offset (offset.Offset 6))
     ∷ report.Query 4 0 (query.Offset (offset.Clips (record { row = 0; column = 2 }) (record { row = 0; column = 6 })))
     ∷ [])
     ≡ codes "point 1 at 0: 0:6 3 1:3\npoint 2 at 0: none 2 6\noffset 3 at 0: 6\noffset 4 at 0: none 0:2 0:6\n"
@@ -175,7 +175,7 @@ a_third_side = refl
 pub names_told : report_text (
     report.Anchor (codes "a") anchor.Set
     ∷ report.Anchor (codes "\"") (anchor.Fault (PastEnd 12))
-    ∷ report.Where (codes "a") 7 (position.Place 30)
+    ∷ report.Where (codes "a") 7 (position.Offset 30)
     ∷ report.Where [] 7 position.Unknown
     ∷ report.Mark (codes "m")
     ∷ report.Since (codes "m") 7 (edits.Edits (record { old = (1, 2); new = (3, 4) } ∷ record { old = (5, 6); new = (7, 8) } ∷ []))

@@ -21,8 +21,8 @@ use Rattle.op_model.specs.declared.faults.SinceFault.TheVariants as since
 use Rattle.op_model.specs.declared.anchor.TextEdit.{TextEdit}
 use Rattle.session_lines.specs.Session.{operation_count, query_count}
 use Rattle.session_lines.specs.declared.session.Session.{Session}
-use Rattle.session_lines.specs.declared.report.Given.{Given}
-use Rattle.session_lines.specs.declared.report.Given.TheVariants as given
+use Rattle.session_lines.specs.declared.report.GiveAnswer.{GiveAnswer}
+use Rattle.session_lines.specs.declared.report.GiveAnswer.TheVariants as given
 use Rattle.session_lines.specs.declared.report.AnchorAnswer.{AnchorAnswer}
 use Rattle.session_lines.specs.declared.report.AnchorAnswer.TheVariants as anchor
 use Rattle.session_lines.specs.declared.report.WhereAnswer.{WhereAnswer}
@@ -113,14 +113,14 @@ unnamed_line n named = decimal n ++ (codes ": nothing " ++ (decimal named ++ cod
 unfoldable pub settled_line : ℕ → ℕ → List ℕ
 settled_line r count = codes "settled " ++ (decimal r ++ (codes ": " ++ (decimal count ++ codes "\n")))
 
-abbrev pub given_words : Given → List ℕ
+abbrev pub given_words : GiveAnswer → List ℕ
 given_words (given.Applied count) = codes "applied " ++ decimal count
 given_words (given.Waits r v) = codes "waits " ++ (decimal r ++ (codes " " ++ decimal v))
 given_words given.Repeat = codes "repeat"
 given_words given.Nothing = codes "nothing"
-given_words (given.Fault e) = op_fault_words e
+given_words (given.Refused e) = op_fault_words e
 
-unfoldable pub give_line : ℕ → ℕ → Given → List ℕ
+unfoldable pub give_line : ℕ → ℕ → GiveAnswer → List ℕ
 give_line n r answer = codes "give " ++ (decimal n ++ (codes " to " ++ (decimal r ++ (codes ": " ++ (given_words answer ++ codes "\n")))))
 
 -- ---- anchors and marks, by their names, which are written as JSON strings
@@ -137,7 +137,7 @@ unfoldable pub anchor_line : List ℕ → AnchorAnswer → List ℕ
 anchor_line name answer = codes "anchor " ++ (quoted name ++ (codes ": " ++ (anchor_words answer ++ codes "\n")))
 
 abbrev pub where_words : WhereAnswer → List ℕ
-where_words (position.Place o) = decimal o
+where_words (position.Offset o) = decimal o
 where_words position.Unknown = codes "unknown"
 where_words position.Nothing = codes "nothing"
 
@@ -189,11 +189,11 @@ clips_words left right = codes "none " ++ (left ++ (codes " " ++ right))
 
 -- the point, the UTF-16 offset and the UTF-16 point
 abbrev pub point_words : PointAnswer → List ℕ
-point_words (point.Place p u q) = place_words p.row p.column ++ (codes " " ++ (decimal u.0 ++ (codes " " ++ place_words q.row q.column)))
+point_words (point.Point p u q) = place_words p.row p.column ++ (codes " " ++ (decimal u.0 ++ (codes " " ++ place_words q.row q.column)))
 point_words (point.Clips left right) = clips_words (decimal left) (decimal right)
 
 abbrev pub offset_words : OffsetAnswer → List ℕ
-offset_words (offset.Place o) = decimal o
+offset_words (offset.Offset o) = decimal o
 offset_words (offset.Clips left right) = clips_words (place_words left.row left.column) (place_words right.row right.column)
 
 abbrev pub query_word : QueryAnswer → List ℕ

@@ -18,8 +18,8 @@ pub use decoding::decode;
 pub use fault::{DecodeFault, Word};
 pub use lamport_clock::OutOfMemory;
 pub use report::{
-    AnchorAnswer, FindAnswer, Given, OffsetAnswer, PointAnswer, QueryAnswer, Report, SinceAnswer,
-    TextEdits, TextHead, WhereAnswer,
+    AnchorAnswer, FindAnswer, GiveAnswer, OffsetAnswer, PointAnswer, QueryAnswer, Report,
+    SinceAnswer, TextEdits, TextHead, WhereAnswer,
 };
 pub use session::{Ids, Numbers, Session, SessionLine, SessionLines};
 pub use text::{write_line, write_text};

@@ -18,7 +18,13 @@ pub fn id_of(value: &Value) -> Option<u16>
     ensures { result ≡ id_of (view value.now) }
 {
     match value.as_u64() {
-        Some(id) => { if id <= 65_535 { Some(id as u16) } else { None } }
+        Some(id) => {
+            if id <= u64::from(u16::MAX) {
+                Some(id as u16)
+            } else {
+                None
+            }
+        }
         None => None,
     }
 }
@@ -29,7 +35,7 @@ fn clock_value(value: &Value) -> Option<u32>
 {
     match value.as_u64() {
         Some(n) => {
-            if n <= 4_294_967_295 {
+            if n <= u64::from(u32::MAX) {
                 Some(n as u32)
             } else {
                 None

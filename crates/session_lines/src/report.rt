@@ -10,7 +10,7 @@ use text_dims::{OffsetUtf16, Point, PointUtf16};
 
 /// What a replica answers to an operation that it is given.
 #[derive(Clone, Copy, Debug, PartialEq, Eq)]
-pub enum Given {
+pub enum GiveAnswer {
     /// `applied C`: it was applied, and with it others that waited, C in all.
     Applied(u64),
     /// `waits R V`: it waits for the operation with value V of replica R.
@@ -20,7 +20,7 @@ pub enum Given {
     /// `nothing`: no operation stands under the number.
     Nothing,
     /// `FAULT`: it was refused.
-    Fault(OpFault),
+    Refused(OpFault),
 }
 
 /// What comes of a line that makes an anchor.
@@ -36,7 +36,7 @@ pub enum AnchorAnswer {
 #[derive(Clone, Copy, Debug, PartialEq, Eq)]
 pub enum WhereAnswer {
     /// `O`: at this byte offset.
-    Place(u64),
+    Offset(u64),
     /// `unknown`: the replica does not know the byte that it keeps to.
     Unknown,
     /// `nothing`: no anchor is kept under the name.
@@ -97,7 +97,7 @@ pub enum FindAnswer {
 #[derive(Clone, Copy, Debug, PartialEq, Eq)]
 pub enum PointAnswer {
     /// `ROW:COLUMN U ROW:UCOLUMN`: the point, the offset in UTF-16 units, and the point in UTF-16 units.
-    Place {
+    Point {
         point: Point,
         utf16: OffsetUtf16,
         point_utf16: PointUtf16,
@@ -113,7 +113,7 @@ pub enum PointAnswer {
 #[derive(Clone, Copy, Debug, PartialEq, Eq)]
 pub enum OffsetAnswer {
     /// `O`: the byte offset.
-    Place { offset: u64 },
+    Offset { offset: u64 },
     /// `none ROW:COLUMN ROW:COLUMN`: the point is no position of the text; clipped Left and Right it is these.
     Clips { left: Point, right: Point },
 }
@@ -175,7 +175,7 @@ pub enum Report {
     Give {
         number: u64,
         replica: u16,
-        answer: Given,
+        answer: GiveAnswer,
     },
     /// A head and then `STRING`: a text of a replica.
     Text {
@@ -236,7 +236,7 @@ pub enum Report {
 impl Report {
     /// What is counted of the session: all its lines, the header too, the ids of its header, its operation lines and its
     /// queries. Linear in its lines.
-    pub fn checked(session: &Session) -> Report
+    pub fn check_line(session: &Session) -> Report
         ensures { result ≡ session_counts session.now }
     {
         Report::Checked {

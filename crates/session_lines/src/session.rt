@@ -149,6 +149,14 @@ impl SessionLines {
     {
         &self.inner
     }
+
+    /// The vector of the lines, without memory.
+    pub fn into_vec(self) -> Vec<SessionLine>
+        ensures { result.items ≡ self }
+    {
+        let SessionLines { inner } = self;
+        inner
+    }
 }
 
 /// The ids of replicas, seen as their list.

@@ -1,13 +1,13 @@
 //! The text of a report's line.
-ghost use Rattle.std.specs.Prelude.{◌≡◌, ◌++◌, false, length, string_bytes, take, true, OnOk, OnErr, IfOk};
+ghost use Rattle.std.specs.Prelude.{◌≡◌, ◌<◌, ◌-◌, ◌++◌, false, length, string_bytes, take, true, OnOk, OnErr, IfOk};
 ghost use Rattle.std.specs.Iterator.{IsFinite};
 ghost use Rattle.json.specs.Print.{escape, quoted};
 ghost use Rattle.session_lines.specs.Report.{made_line, settled_line, given_words, give_line, text_line, place_fault_words, anchor_words, anchor_line, where_words, where_line, mark_line, edit_words, edits_words, since_fault_words, since_words, since_line, starts_words, find_words, place_words, clips_words, point_words, offset_words, query_word, query_words, query_line, counts_words, waits_words, replica_line, head_words, OnText, fault_words, op_fault_words, undo_fault_words, refused_line, refused_undo_line, unnamed_line, refused_op_line, checked_line, line_text, has_string, is_end};
 
 use crate::OutOfMemory;
 use crate::report::{
-    AnchorAnswer, FindAnswer, Given, OffsetAnswer, PointAnswer, QueryAnswer, Report, SinceAnswer,
-    TextHead, WhereAnswer,
+    AnchorAnswer, FindAnswer, GiveAnswer, OffsetAnswer, PointAnswer, QueryAnswer, Report,
+    SinceAnswer, TextHead, WhereAnswer,
 };
 use json::Writer;
 use lamport_clock::Lamport;
@@ -64,20 +64,22 @@ fn push_around(
     pushed
 }
 
-// Writes a text as it stands between the quotes of a JSON string, by way of `string`, whose bytes are replaced. On want of
-// memory nothing is written.
-fn push_escaped(
-    alloc: Global,
-    out: &mut Vec<u8>,
-    string: &mut Vec<u8>,
-    text: &str,
-) -> Result<(), OutOfMemory>
+// Writes a text as it stands between the quotes of a JSON string, behind a byte that is there: the writer's opening quote
+// goes over that byte, which is then put back. On want of memory that byte is gone.
+fn push_escaped(alloc: Global, out: &mut Vec<u8>, text: &str) -> Result<(), OutOfMemory>
+    requires { 0 < length out.old.items }
     ensures ok { OnOk result (out.new.items ≡ out.old.items ++ escape text.now) }
-    ensures err { OnErr result (out.new.items ≡ out.old.items) }
+    ensures err { OnErr result (out.new.items
+        ≡ take (length out.old.items - 1) out.old.items) }
 {
-    string.clear();
-    push_quoted(alloc, string, text)?;
-    out.extend_from_slice(&string[1..string.len() - 1])
+    let Some(last) = out.pop() else {
+        unreachable!();
+    };
+    let seam = out.len();
+    push_quoted(alloc, out, text)?;
+    out[seam] = last;
+    out.pop();
+    Ok(())
 }
 
 // Writes the text that the parts are as a JSON string. On want of memory some of it may be written.
@@ -93,10 +95,9 @@ fn push_text<'a, I: Iterator<Item = &'a str> + Drop>(
         (λ text. out.new.items ≡ out.old.items ++ quoted text)) }
     ensures kept { take (length out.old.items) out.new.items ≡ out.old.items }
 {
-    let mut string = Vec::new(alloc);
     out.push(b'"')?;
     for part in parts {
-        push_escaped(alloc, out, &mut string, part)?;
+        push_escaped(alloc, out, part)?;
     }
     out.push(b'"')?;
     Ok(())
@@ -207,15 +208,15 @@ fn push_settled(out: &mut String, r: u16, count: u64) -> Result<(), OutOfMemory>
     write!(out, "settled {r}: {count}\n")
 }
 
-fn given_words(alloc: Global, answer: Given) -> Result<String, OutOfMemory>
+fn given_words(alloc: Global, answer: GiveAnswer) -> Result<String, OutOfMemory>
     ensures { IfOk result (λ s. string_bytes s ≡ given_words answer) }
 {
     match answer {
-        Given::Applied(count) => format!(in alloc; "applied {count}"),
-        Given::Waits { replica, value } => format!(in alloc; "waits {replica} {value}"),
-        Given::Repeat => String::from_str(alloc, "repeat"),
-        Given::Nothing => String::from_str(alloc, "nothing"),
-        Given::Fault(fault) => op_fault_words(alloc, fault),
+        GiveAnswer::Applied(count) => format!(in alloc; "applied {count}"),
+        GiveAnswer::Waits { replica, value } => format!(in alloc; "waits {replica} {value}"),
+        GiveAnswer::Repeat => String::from_str(alloc, "repeat"),
+        GiveAnswer::Nothing => String::from_str(alloc, "nothing"),
+        GiveAnswer::Refused(fault) => op_fault_words(alloc, fault),
     }
 }
 
@@ -225,7 +226,7 @@ fn push_give(
     out: &mut String,
     n: u64,
     r: u16,
-    answer: Given,
+    answer: GiveAnswer,
 ) -> Result<(), OutOfMemory>
     ensures { OnOk result (string_bytes out.new ≡ string_bytes out.old ++ give_line n r answer) }
 {
@@ -270,7 +271,7 @@ fn where_words(alloc: Global, answer: WhereAnswer) -> Result<String, OutOfMemory
     ensures { IfOk result (λ s. string_bytes s ≡ where_words answer) }
 {
     match answer {
-        WhereAnswer::Place(offset) => format!(in alloc; "{offset}"),
+        WhereAnswer::Offset(offset) => format!(in alloc; "{offset}"),
         WhereAnswer::Unknown => String::from_str(alloc, "unknown"),
         WhereAnswer::Nothing => String::from_str(alloc, "nothing"),
     }
@@ -396,7 +397,7 @@ fn point_words(alloc: Global, answer: PointAnswer) -> Result<String, OutOfMemory
     ensures { IfOk result (λ s. string_bytes s ≡ point_words answer) }
 {
     match answer {
-        PointAnswer::Place {
+        PointAnswer::Point {
             point,
             utf16,
             point_utf16,
@@ -414,7 +415,7 @@ fn offset_words(alloc: Global, answer: OffsetAnswer) -> Result<String, OutOfMemo
     ensures { IfOk result (λ s. string_bytes s ≡ offset_words answer) }
 {
     match answer {
-        OffsetAnswer::Place { offset } => format!(in alloc; "{offset}"),
+        OffsetAnswer::Offset { offset } => format!(in alloc; "{offset}"),
         OffsetAnswer::Clips { left, right } => {
             let left = place_words(alloc, left.row, left.column)?;
             let right = place_words(alloc, right.row, right.column)?;
@@ -676,8 +677,7 @@ fn push_with_text<'a, I: Iterator<Item = &'a str> + Drop>(
 }
 
 /// Writes a line that ends with a text, with its line feed, at the end of `out`: the line with that head and the text that
-/// the parts are, one after the other. Linear in the line. The text is nowhere made as a whole: a part is quoted in a buffer
-/// of one part, and goes from there into `out`.
+/// the parts are, one after the other. Linear in the line. A part is quoted at its place in `out`, and copied nowhere else.
 ///
 /// # Errors
 ///

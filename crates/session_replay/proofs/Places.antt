@@ -95,7 +95,7 @@ place_at_its_point bs o k e =
 
 module _ (bs : List ℕ) (o : ℕ) where
   by_place : (k : Option Place) → place_at_offset bs o ≡ k → (p : Point) (u : OffsetUtf16) (q : PointUtf16) → Some p ≡ option_map point_of k → Some u ≡ option_map offset_utf16_of k
-      → Some q ≡ option_map point_utf16_of (place_at_point bs p) → Some (point.Place p u q) ≡ option_map place_answer k
+      → Some q ≡ option_map point_utf16_of (place_at_point bs p) → Some (point.Point p u q) ≡ option_map place_answer k
   by_place None e p u q f g h = absurd (cc f)
   by_place (Some k) e p u q f g h =
       let one : p ≡ point_of k = cc f in
@@ -106,7 +106,7 @@ module _ (bs : List ℕ) (o : ℕ) where
       cc (one, two, three)
 
   pub place_found : (p : Point) (u : OffsetUtf16) (q : PointUtf16) → Some p ≡ option_map point_of (place_at_offset bs o) → Some u ≡ option_map offset_utf16_of (place_at_offset bs o)
-      → Some q ≡ option_map point_utf16_of (place_at_point bs p) → Some (point.Place p u q) ≡ option_map place_answer (place_at_offset bs o)
+      → Some q ≡ option_map point_utf16_of (place_at_point bs p) → Some (point.Point p u q) ≡ option_map place_answer (place_at_offset bs o)
   place_found p u q f g h = by_place (place_at_offset bs o) refl p u q f g h
 
   no_point_by : (k : Option Place) → place_at_offset bs o ≡ k → (p : Point) → Some p ≡ option_map point_of k → None ≡ option_map point_utf16_of (place_at_point bs p) → ⊥

@@ -48,7 +48,7 @@ anchor_answer (Some e) = anchor.Fault e
 
 abbrev pub place_answer : Option ℕ → WhereAnswer
 place_answer None = position.Unknown
-place_answer (Some o) = position.Place o
+place_answer (Some o) = position.Offset o
 
 -- where an anchor, if there is one, is in the text of h
 abbrev pub where_answer : Option Anchor → History → WhereAnswer

@@ -35,7 +35,7 @@ find_answer needle t = if length needle == 0 then EmptyNeedle else Starts (start
 
 -- a place as a point, as an offset in UTF-16 units and as a point in UTF-16 units
 abbrev pub place_answer : Place → PointAnswer
-place_answer k = point.Place (point_of k) (offset_utf16_of k) (point_utf16_of k)
+place_answer k = point.Point (point_of k) (offset_utf16_of k) (point_utf16_of k)
 
 -- the place at a byte offset, or where that is clipped to
 abbrev pub point_answer : ℕ → List ℕ → PointAnswer
@@ -44,7 +44,7 @@ point_answer o t = unwrap_or (option_map place_answer (place_at_offset t o)) (po
 -- the place at a point, or where that is clipped to
 abbrev pub offset_answer : Point → List ℕ → OffsetAnswer
 offset_answer p t =
-    unwrap_or (option_map (λ (k : Place). offset.Place k.offset) (place_at_point t p)) (offset.Clips (point_of (point_clipped_back t p)) (point_of (point_clipped_on t p)))
+    unwrap_or (option_map (λ (k : Place). offset.Offset k.offset) (place_at_point t p)) (offset.Clips (point_of (point_clipped_back t p)) (point_of (point_clipped_on t p)))
 
 -- the plain answer to what a query asks of a text
 abbrev pub answer_on : Question → List ℕ → QueryAnswer

@@ -23,8 +23,8 @@ use Rattle.session_lines.specs.Session.{unless}
 use Rattle.session_lines.specs.declared.session.SessionLine.{SessionLine}
 use Rattle.session_lines.specs.declared.session.SessionLine.TheVariants as line
 use Rattle.session_lines.specs.declared.session.Session.{Session}
-use Rattle.session_lines.specs.declared.report.Given.{Given}
-use Rattle.session_lines.specs.declared.report.Given.TheVariants as given
+use Rattle.session_lines.specs.declared.report.GiveAnswer.{GiveAnswer}
+use Rattle.session_lines.specs.declared.report.GiveAnswer.TheVariants as given
 use Rattle.session_lines.specs.declared.report.TextHead.TheVariants as head
 use Rattle.session_lines.specs.declared.report.Report.{Report}
 use Rattle.session_lines.specs.declared.report.Report.TheVariants as report
@@ -106,14 +106,14 @@ after_outcome (Err r) b = b
 
 -- ---- what stands under a number is given to a buffer: an operation, or nothing
 
-abbrev pub given_by : Answer → ℕ → Given
+abbrev pub given_by : Answer → ℕ → GiveAnswer
 given_by Good c = given.Applied c
 given_by Repeat c = given.Repeat
 given_by (Waits r v) c = given.Waits r v
-given_by (Refused f) c = given.Fault f
+given_by (Refused f) c = given.Refused f
 
 -- what the buffer answers; where it applied the operation, with how many it applied in all
-abbrev pub give_answer : Option Operation → BufferState → Given
+abbrev pub give_answer : Option Operation → BufferState → GiveAnswer
 give_answer None b = given.Nothing
 give_answer (Some op) b = given_by (answer_to b op) (number_applied b (after_take b op))
 

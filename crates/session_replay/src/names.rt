@@ -61,7 +61,7 @@ pub fn where_answer(snapshot: &Snapshot, anchor: Option<&Anchor>) -> WhereAnswer
         return WhereAnswer::Nothing;
     };
     match snapshot.resolve(anchor) {
-        Ok(place) => WhereAnswer::Place(place),
+        Ok(offset) => WhereAnswer::Offset(offset),
         Err(_) => WhereAnswer::Unknown,
     }
 }

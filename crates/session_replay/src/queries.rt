@@ -154,7 +154,7 @@ fn place_answer(rope: &Rope, offset: u64) -> Option<PointAnswer>
     let point = rope.offset_to_point(offset)?;
     let utf16 = rope.offset_to_utf16(offset)?;
     let point_utf16 = rope.point_to_utf16(point)?;
-    Some(PointAnswer::Place {
+    Some(PointAnswer::Point {
         point,
         utf16,
         point_utf16,
@@ -177,7 +177,7 @@ fn offset_answer(rope: &Rope, point: Point) -> OffsetAnswer
     ensures { result ≡ offset_answer point rope.now }
 {
     match rope.point_to_offset(point) {
-        Some(offset) => OffsetAnswer::Place { offset },
+        Some(offset) => OffsetAnswer::Offset { offset },
         None => OffsetAnswer::Clips {
             left: rope.clip_point(point, Bias::Left),
             right: rope.clip_point(point, Bias::Right),

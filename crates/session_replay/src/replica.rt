@@ -14,7 +14,7 @@ ghost use Rattle.session_replay.specs.Work.{after_give, after_outcome, at_end, c
 use crate::OutOfMemory;
 use lamport_clock::Lamport;
 use op_model::{EditFault, Limits, OpFault, Operation, Piece, Pieces, Text, UndoFault};
-use session_lines::{Given, Report, TextHead, write_line, write_text};
+use session_lines::{GiveAnswer, Report, TextHead, write_line, write_text};
 use std::alloc::Global;
 use std::marker::Model;
 use text_buffer::{Base, Buffer, Refused, Snapshot, Took};
@@ -151,28 +151,28 @@ impl Replica {
     }
 
     /// Takes what stands under a number: an operation, or nothing.
-    pub fn give(&mut self, operation: Option<Operation>) -> Result<Given, OutOfMemory>
+    pub fn give(&mut self, operation: Option<Operation>) -> Result<GiveAnswer, OutOfMemory>
         ensures answer { IfOk result (λ g. g ≡ give_answer operation self.old) }
         ensures after { OnOk result (self.new ≡ after_give operation self.old) }
         ensures id { self.new.replica ≡ self.old.replica }
     {
         match operation {
             Some(operation) => self.take(operation),
-            None => Ok(Given::Nothing),
+            None => Ok(GiveAnswer::Nothing),
         }
     }
 
-    fn take(&mut self, operation: Operation) -> Result<Given, OutOfMemory>
+    fn take(&mut self, operation: Operation) -> Result<GiveAnswer, OutOfMemory>
         ensures answer { IfOk result (λ g. g ≡ give_answer (Some operation) self.old) }
         ensures after { OnOk result (self.new ≡ after_give (Some operation) self.old) }
         ensures id { self.new.replica ≡ self.old.replica }
     {
         match self.buffer.take(operation) {
-            Ok(Took::Applied(count)) => Ok(Given::Applied(count)),
-            Ok(Took::Waits { replica, value }) => Ok(Given::Waits { replica, value }),
-            Ok(Took::Repeat) => Ok(Given::Repeat),
+            Ok(Took::Applied(count)) => Ok(GiveAnswer::Applied(count)),
+            Ok(Took::Waits { replica, value }) => Ok(GiveAnswer::Waits { replica, value }),
+            Ok(Took::Repeat) => Ok(GiveAnswer::Repeat),
             Err(OpFault::OutOfMemory) => Err(OutOfMemory),
-            Err(fault) => Ok(Given::Fault(fault)),
+            Err(fault) => Ok(GiveAnswer::Refused(fault)),
         }
     }
 

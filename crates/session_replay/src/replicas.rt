@@ -9,7 +9,7 @@ ghost use Rattle.session_replay.specs.Work.{after_give, after_outcome, buffer_of
 use crate::OutOfMemory;
 use crate::replica::Replica;
 use op_model::{LAST_REPLICA, Operation, Pieces};
-use session_lines::Given;
+use session_lines::GiveAnswer;
 use std::alloc::Global;
 use std::marker::Model;
 use text_buffer::Base;
@@ -136,7 +136,7 @@ impl Replicas {
         &mut self,
         id: u16,
         operation: Option<Operation>,
-    ) -> Result<Option<Given>, OutOfMemory>
+    ) -> Result<Option<GiveAnswer>, OutOfMemory>
         ensures answer { IfOk result (λ g. g ≡ option_map (give_answer operation)
             (buffer_of id self.old)) }
         ensures after { OnOk result (self.new ≡ with_buffer id (after_give operation) self.old) }

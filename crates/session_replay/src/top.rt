@@ -71,7 +71,7 @@ fn check(alloc: Global, session: &Session) -> Result<Vec<u8>, OutOfMemory>
     ensures { IfOk result (λ v. v.items ≡ line_text (session_counts session.now)) }
 {
     let mut line = Vec::new(alloc);
-    write_line(alloc, &mut line, &Report::checked(session))?;
+    write_line(alloc, &mut line, &Report::check_line(session))?;
     Ok(line)
 }
 

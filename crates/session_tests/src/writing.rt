@@ -4,7 +4,7 @@ use op_model::{
     EditFault, OpFault, OutOfMemory, PlaceFault, SinceFault, Text, TextEdit, UndoFault, Unit,
 };
 use session_lines::{
-    AnchorAnswer, FindAnswer, Given, Numbers, OffsetAnswer, PointAnswer, QueryAnswer, Report,
+    AnchorAnswer, FindAnswer, GiveAnswer, Numbers, OffsetAnswer, PointAnswer, QueryAnswer, Report,
     SinceAnswer, TextEdits, TextHead, WhereAnswer, decode, write_line, write_text,
 };
 use std::alloc::Global;
@@ -99,21 +99,21 @@ const OP_FAULTS: &[(OpFault, &str)] = &[
     ),
 ];
 
-const ANSWERS: &[(Given, &str)] = &[
+const ANSWERS: &[(GiveAnswer, &str)] = &[
     (
-        Given::Applied(18_446_744_073_709_551_615),
+        GiveAnswer::Applied(18_446_744_073_709_551_615),
         "applied 18446744073709551615",
     ),
     (
-        Given::Waits {
+        GiveAnswer::Waits {
             replica: 1,
             value: 2,
         },
         "waits 1 2",
     ),
-    (Given::Repeat, "repeat"),
-    (Given::Nothing, "nothing"),
-    (Given::Fault(OpFault::BadStamp), "badstamp"),
+    (GiveAnswer::Repeat, "repeat"),
+    (GiveAnswer::Nothing, "nothing"),
+    (GiveAnswer::Refused(OpFault::BadStamp), "badstamp"),
 ];
 
 #[test]
@@ -203,7 +203,7 @@ const STARTS: &[(&[u64], &str)] = &[
 
 const POINTS: &[(PointAnswer, &str)] = &[
     (
-        PointAnswer::Place {
+        PointAnswer::Point {
             point: Point { row: 1, column: 2 },
             utf16: OffsetUtf16(3),
             point_utf16: PointUtf16 { row: 1, column: 4 },
@@ -215,7 +215,7 @@ const POINTS: &[(PointAnswer, &str)] = &[
 
 const OFFSETS: &[(OffsetAnswer, &str)] = &[
     (
-        OffsetAnswer::Place {
+        OffsetAnswer::Offset {
             offset: 18_446_744_073_709_551_615,
         },
         "18446744073709551615",
@@ -289,9 +289,9 @@ const ANCHORS: &[(AnchorAnswer, &str)] = &[
 ];
 
 const PLACES: &[(WhereAnswer, &str)] = &[
-    (WhereAnswer::Place(0), "0"),
+    (WhereAnswer::Offset(0), "0"),
     (
-        WhereAnswer::Place(18_446_744_073_709_551_615),
+        WhereAnswer::Offset(18_446_744_073_709_551_615),
         "18446744073709551615",
     ),
     (WhereAnswer::Unknown, "unknown"),
@@ -485,7 +485,7 @@ const COUNTED: &[(&str, &str)] = &[
 
 fn is_counted(alloc: Global, input: &str, want: &str) -> Result<bool, OutOfMemory> {
     match decode(alloc, input.as_bytes()) {
-        Ok(session) => writes(alloc, Report::checked(&session), "session ok: ", want),
+        Ok(session) => writes(alloc, Report::check_line(&session), "session ok: ", want),
         Err(_) => Ok(false),
     }
 }
