@@ -133,6 +133,14 @@ module _ {P S T : Type 0} {moved : P → S → Option P} {fits : P → S → Typ
             },
           )
 
+module _ {P S T : Type 0} {moved : P → S → Option P} {fits : P → S → Type 0} {empty : S} {op : S → S → S} {sum_of : T → S} {whole : List T} {from : P} {rest : List T} {start end : P} {i : ℕ} where
+  -- behind the item on which a walk stands
+  pub behind_item : {item : Option (Bor T)} {x : Bor T} → IsAt moved fits empty op sum_of whole from rest item start end i → item ≡ Some x → (i + 1 + length rest ≡ length whole) × (rest ≡ drop (i + 1) whole) × (drop i whole ≡ x.now ∷ rest)
+  behind_item {item} {x} o e =
+      let here : x.now ∷ rest ≡ drop i whole = ap (λ (u : Option (Bor T)). ahead u rest) (sym e) ∙ o.here in
+      let many : length (x.now ∷ rest) ≡ length whole - i = ap length here ∙ length-drop i whole in
+      (omega (arith, many, o.within), ap (drop 1) here ∙ drop-drop 1 i whole, sym here)
+
 -- a walk that begins at an index stands in the whole
 module _ {P S T : Type 0} (moved : P → S → Option P) (fits : P → S → Type 0) (empty : S) (op : S → S → S) (sum_of : T → S) where
   places_add : (whole : List T) (from p : P) (i n : ℕ) → p ≡ place_behind moved sum_of from (take i whole) → place_behind moved sum_of p (take n (drop i whole)) ≡ place_behind moved sum_of from (take (i + n) whole)
@@ -150,56 +158,51 @@ module _ {P S T : Type 0} (moved : P → S → Option P) (fits : P → S → Typ
         room = o.room;
       }
 
-  -- behind the item on which a walk stands
-  pub behind_item : (whole : List T) (from : P) (rest : List T) (item : Option (Bor T)) (x : Bor T) (start end : P) (i : ℕ) → IsAt moved fits empty op sum_of whole from rest item start end i → item ≡ Some x → (i + 1 + length rest ≡ length whole) × (rest ≡ drop (i + 1) whole) × (drop i whole ≡ x.now ∷ rest)
-  behind_item whole from rest item x start end i o e =
-      let here : x.now ∷ rest ≡ drop i whole = ap (λ (u : Option (Bor T)). ahead u rest) (sym e) ∙ o.here in
-      let many : length (x.now ∷ rest) ≡ length whole - i = ap length here ∙ length-drop i whole in
-      (omega (arith, many, o.within), ap (drop 1) here ∙ drop-drop 1 i whole, sym here)
-
-  -- a walk on from behind the item on which one stands
-  pub walks_on : (whole : List T) (from : P) (rest : List T) (item : Option (Bor T)) (x : Bor T) (start end : P) (i n k : ℕ) (rest2 : List T) (item2 : Option (Bor T)) (start2 end2 : P) → IsAt moved fits empty op sum_of whole from rest item start end i → item ≡ Some x → IsAt moved fits empty op sum_of rest end rest2 item2 start2 end2 n → k ≡ i + 1 + n → IsAt moved fits empty op sum_of whole from rest2 item2 start2 end2 k
-  walks_on whole from rest item x start end i n k rest2 item2 start2 end2 o e w f =
-      let b = behind_item whole from rest item x start end i o e in
-      let on : IsAt moved fits empty op sum_of whole from rest2 item2 start2 end2 (i + 1 + n) = at_further whole rest from end (i + 1) n rest2 item2 start2 end2 (omega (arith, b.0)) b.1 o.ends w in
-      subst (IsAt moved fits empty op sum_of whole from rest2 item2 start2 end2) (sym f) on
-
   -- the item ends behind its start
   end_is : (whole : List T) (from : P) (rest : List T) (item : Option (Bor T)) (x : Bor T) (start end : P) (i : ℕ) → IsAt moved fits empty op sum_of whole from rest item start end i → item ≡ Some x → end ≡ behind start (moved start (sum_of x.now))
   end_is whole from rest item x start end i o e =
-      let b = behind_item whole from rest item x start end i o e in
+      let b = behind_item o e in
       o.ends ∙ sym (places_add whole from start i 1 o.starts) ∙ ap (λ (zs : List T). place_behind moved sum_of start (take 1 zs)) b.2
 
+-- what follows where a walk stands
+module _ {P S T : Type 0} {moved : P → S → Option P} {fits : P → S → Type 0} {empty : S} {op : S → S → S} {sum_of : T → S} {whole : List T} {from : P} {rest : List T} {start end : P} {i : ℕ} where
+  -- a walk on from behind the item on which one stands
+  pub walks_on : {item : Option (Bor T)} {x : Bor T} {n k : ℕ} {rest2 : List T} {item2 : Option (Bor T)} {start2 end2 : P} → IsAt moved fits empty op sum_of whole from rest item start end i → item ≡ Some x → IsAt moved fits empty op sum_of rest end rest2 item2 start2 end2 n → k ≡ i + 1 + n → IsAt moved fits empty op sum_of whole from rest2 item2 start2 end2 k
+  walks_on {item} {x} {n} {k} {rest2} {item2} {start2} {end2} o e w f =
+      let b = behind_item o e in
+      let on : IsAt moved fits empty op sum_of whole from rest2 item2 start2 end2 (i + 1 + n) = at_further moved fits empty op sum_of whole rest from end (i + 1) n rest2 item2 start2 end2 (omega (arith, b.0)) b.1 o.ends w in
+      subst (IsAt moved fits empty op sum_of whole from rest2 item2 start2 end2) (sym f) on
+
   -- a seek stays on an item whose end stops it
-  pub seek_stays : (stops : P → Bool) (whole : List T) (from : P) (rest : List T) (item : Option (Bor T)) (x : Bor T) (start end : P) (i : ℕ) → IsAt moved fits empty op sum_of whole from rest item start end i → item ≡ Some x → stops end ≡ true → seek_count moved sum_of stops (place_behind moved sum_of from (take i whole)) (drop i whole) ≡ 0
-  seek_stays stops whole from rest item x start end i o e h =
-      let b = behind_item whole from rest item x start end i o e in
-      let t : stops (behind start (moved start (sum_of x.now))) ≡ true = ap stops (sym (end_is whole from rest item x start end i o e)) ∙ h in
+  pub seek_stays : {item : Option (Bor T)} {x : Bor T} (stops : P → Bool) → IsAt moved fits empty op sum_of whole from rest item start end i → item ≡ Some x → stops end ≡ true → seek_count moved sum_of stops (place_behind moved sum_of from (take i whole)) (drop i whole) ≡ 0
+  seek_stays {item} {x} stops o e h =
+      let b = behind_item o e in
+      let t : stops (behind start (moved start (sum_of x.now))) ≡ true = ap stops (sym (end_is moved fits empty op sum_of whole from rest item x start end i o e)) ∙ h in
       ap (λ (p : P). seek_count moved sum_of stops p (drop i whole)) (sym o.starts) ∙ ap (seek_count moved sum_of stops start) b.2 ∙ ap (λ (c : Bool). cond c 0 (1 + seek_count moved sum_of stops (behind start (moved start (sum_of x.now))) rest)) t
 
   -- a seek goes over an item whose end does not stop it
-  pub seek_goes : (stops : P → Bool) (whole : List T) (from : P) (rest : List T) (item : Option (Bor T)) (x : Bor T) (start end : P) (i n : ℕ) → IsAt moved fits empty op sum_of whole from rest item start end i → item ≡ Some x → stops end ≡ false → n ≡ seek_count moved sum_of stops end rest → 1 + n ≡ seek_count moved sum_of stops (place_behind moved sum_of from (take i whole)) (drop i whole)
-  seek_goes stops whole from rest item x start end i n o e h m =
-      let b = behind_item whole from rest item x start end i o e in
-      let ended = end_is whole from rest item x start end i o e in
+  pub seek_goes : {item : Option (Bor T)} {x : Bor T} {n : ℕ} (stops : P → Bool) → IsAt moved fits empty op sum_of whole from rest item start end i → item ≡ Some x → stops end ≡ false → n ≡ seek_count moved sum_of stops end rest → 1 + n ≡ seek_count moved sum_of stops (place_behind moved sum_of from (take i whole)) (drop i whole)
+  seek_goes {item} {x} {n} stops o e h m =
+      let b = behind_item o e in
+      let ended = end_is moved fits empty op sum_of whole from rest item x start end i o e in
       let t : stops (behind start (moved start (sum_of x.now))) ≡ false = ap stops (sym ended) ∙ h in
       let over : seek_count moved sum_of stops (place_behind moved sum_of from (take i whole)) (drop i whole) ≡ 1 + seek_count moved sum_of stops (behind start (moved start (sum_of x.now))) rest =
       ap (λ (p : P). seek_count moved sum_of stops p (drop i whole)) (sym o.starts) ∙ ap (seek_count moved sum_of stops start) b.2 ∙ ap (λ (c : Bool). cond c 0 (1 + seek_count moved sum_of stops (behind start (moved start (sum_of x.now))) rest)) t in
       omega (arith, over, m, ap (λ (p : P). seek_count moved sum_of stops p rest) ended)
 
   -- nothing stands past the last item
-  pub none_at : (whole : List T) (from : P) (rest : List T) (item : Option (Bor T)) (start end : P) (i : ℕ) → IsAt moved fits empty op sum_of whole from rest item start end i → item ≡ None → (i ≡ length whole) × (drop i whole ≡ [])
-  none_at whole from rest item start end i o e =
+  pub none_at : {item : Option (Bor T)} → IsAt moved fits empty op sum_of whole from rest item start end i → item ≡ None → (i ≡ length whole) × (drop i whole ≡ [])
+  none_at {item} o e =
       let here : [] ≡ drop i whole = ap (λ (u : Option (Bor T)). ahead u rest) (sym e) ∙ o.here in
       let many : length {A = T} [] ≡ length whole - i = ap length here ∙ length-drop i whole in
       (omega (arith, many, o.within), sym here)
 
   -- where the next walk begins
-  pub walk_begins : (whole : List T) (from : P) (rest : List T) (item : Option (Bor T)) (start end : P) (i : ℕ) → IsAt moved fits empty op sum_of whole from rest item start end i → (index_behind item i ≡ min (i + 1) (length whole)) × (rest ≡ drop (index_behind item i) whole) × (end ≡ place_behind moved sum_of from (take (index_behind item i) whole))
-  walk_begins whole from rest (Some x) start end i o =
-      let b = behind_item whole from rest (Some x) x start end i o refl in
+  pub walk_begins : (item : Option (Bor T)) → IsAt moved fits empty op sum_of whole from rest item start end i → (index_behind item i ≡ min (i + 1) (length whole)) × (rest ≡ drop (index_behind item i) whole) × (end ≡ place_behind moved sum_of from (take (index_behind item i) whole))
+  walk_begins (Some x) o =
+      let b = behind_item o refl in
       (grind (arith, b.0), o.behind, o.ends)
-  walk_begins whole from rest None start end i o =
-      let n = none_at whole from rest None start end i o refl in
+  walk_begins None o =
+      let n = none_at o refl in
       let far : take (i + 1) whole ≡ take i whole = take_all (i + 1) whole (omega (arith, n.0)) ∙ sym (take_all i whole (omega (arith, n.0))) in
       (grind (arith, n.0), o.behind ∙ sym (drop-drop 1 i whole) ∙ ap (drop 1) n.1 ∙ sym n.1, o.ends ∙ ap (place_behind moved sum_of from) far)

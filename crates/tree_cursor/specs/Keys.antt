@@ -5,6 +5,7 @@ use Rattle.std.specs.Ordering.{is_lt, ordering_reverse}
 use Rattle.std.specs.declared.cmp.Ordering.{Ordering}
 use Rattle.std.specs.declared.cmp.Ordering.TheVariants.{Less, Equal, Greater}
 use Rattle.std.proofs.Common.{sym, ap, ◌∙◌, arith}
+use Rattle.std.proofs.lemmas.Bool.{not-true}
 use Rattle.std.proofs.lemmas.Bool.Decides.{nat_tests}
 use Rattle.tree_cursor.specs.Places.{DimensionLaws}
 use Rattle.tree_cursor.specs.declared.traits.Bias.{Bias}
@@ -39,10 +40,6 @@ module _ {K : Type 0} (less : K → K → Bool) where
 pub greater_none : {K : Type 0} (less : K → K → Bool) (o : Option K) → greater less o None ≡ o
 greater_none less None = refl
 greater_none less (Some a) = refl
-
-not_true : (b : Bool) → not b ≡ true → b ≡ false
-not_true true h = cc
-not_true false h = refl
 
 module _ {K : Type 0} (less : K → K → Bool) (order : IsLess less) where
   greater_at : (a b c : K) (ab bc : Bool) → less a b ≡ ab → less b c ≡ bc → greater less (greater less (Some a) (Some b)) (Some c) ≡ greater less (Some a) (greater less (Some b) (Some c))
@@ -101,7 +98,7 @@ module _ {K : Type 0} (less : K → K → Bool) (order : IsLess less) where
 
   pub key_stays : (g p q : Option K) (b : Bias) → key_passes less g p b ≡ true → IsLaterKey less p q → key_passes less g q b ≡ true
   key_stays g p q Left h l =
-      let before : key_less less p g ≡ false = not_true (key_less less p g) h in
+      let before : key_less less p g ≡ false = not-true (key_less less p g) h in
       ap (λ (o : Option K). not (key_less less o g)) l.1 ∙ ap not (left_stays g p l.0 before)
   key_stays g p q Right h l = ap (key_less less g) l.1 ∙ right_stays g p l.0 h
 

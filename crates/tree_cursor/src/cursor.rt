@@ -202,7 +202,7 @@ impl<'a, T: Item, D: Dimension<'a, T::Summary>> Cursor<'a, T, D> {
         ensures moved { OnOk result (self.new ≡ record self.old { index = length self.old.items }) }
         ensures err { OnErr result (self.new ≡ self.old) }
     {
-        let rest = self.tree.dropped(alloc, self.index)?;
+        let rest = self.tree.drop_front(alloc, self.index)?;
         self.go_past();
         Ok(rest)
     }
@@ -218,7 +218,7 @@ impl<'a, T: Item, D: Dimension<'a, T::Summary>> Cursor<'a, T, D> {
         ensures err { OnErr result (self.new ≡ self.old) }
         ensures cost { steps.new ≤ steps.old + 8 * (self.old.height + 1) * (self.old.height + 2) }
     {
-        let rest = self.tree.dropped_counted(alloc, self.index, steps)?;
+        let rest = self.tree.drop_front_counted(alloc, self.index, steps)?;
         self.go_past();
         Ok(rest)
     }
@@ -289,8 +289,8 @@ fn cut<T: Item>(
     requires { first ≤ end }
     ensures { IfOk result (λ t. t.items ≡ slice_range tree.now.items first end) }
 {
-    let front = tree.taken(alloc, end)?;
-    Ok(front.dropped(alloc, first)?)
+    let front = tree.take_front(alloc, end)?;
+    Ok(front.drop_front(alloc, first)?)
 }
 
 // The same, with a step for each node made.
@@ -305,6 +305,6 @@ fn cut_counted<T: Item, L: Ledger>(
     ensures items { IfOk result (λ t. t.items ≡ slice_range tree.now.items first end) }
     ensures cost { steps.new ≤ steps.old + (16 * tree.now.height + 14) }
 {
-    let front = tree.taken_counted(alloc, end, steps)?;
-    front.dropped_counted(alloc, first, steps)
+    let front = tree.take_front_counted(alloc, end, steps)?;
+    front.drop_front_counted(alloc, first, steps)
 }

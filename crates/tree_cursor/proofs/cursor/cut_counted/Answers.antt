@@ -12,7 +12,7 @@ returns-clause-items g c =
     let all = c.args.tree.now.items in
     let far : c.args.first + (c.args.end - c.args.first) ≡ c.args.end = omega (arith, c.requires) in
     let cut = ap (drop c.args.first) c.in_ok-front.ensures.items ∙ ap (λ (n : ℕ). drop c.args.first (take n all)) (sym far) ∙ drop-take c.args.first (c.args.end - c.args.first) all in
-    of_ok c.dropped_counted.result c.dropped_counted.ensures.items (λ t e. e ∙ cut)
+    of_ok c.drop_front_counted.result c.drop_front_counted.ensures.items (λ t e. e ∙ cut)
 
 pub returns-clause-cost : goal.returns-clause-cost
-returns-clause-cost g c = omega (arith, c.taken_counted.ensures.cost, c.in_ok-front.ensures.height, c.dropped_counted.ensures.cost)
+returns-clause-cost g c = omega (arith, c.take_front_counted.ensures.cost, c.in_ok-front.ensures.height, c.drop_front_counted.ensures.cost)

@@ -5,20 +5,18 @@ use Rattle.tree_cursor.proofs.cursor.Cursor.go_past.Goals as goal
 
 pub walk-self-inside-requires : goal.walk-self-inside-requires
 walk-self-inside-requires g c κs =
-    let i = c.self.inside in
-    let b = behind_item g.D.Moves.moved g.D.Moves.fits g.T.Summary.Summary.empty g.T.Summary.Summary.op g.T.Item.sum_of i.tree.now.items (g.D.Plain.plain i.from) i.path.items i.halt.item c.in-Some._item (g.D.Plain.plain i.halt.start) (g.D.Plain.plain i.halt.end) i.index c.self.invariant.1 c.in-Some.is in
-    (omega arith, ((refl, tt), (omega (arith, b.0, c.known.ensures.short), c.self.invariant.1.room)))
+    (omega arith, ((refl, tt), (omega (arith, (behind_item c.self.invariant.1 c.in-Some.is).0, c.known.ensures.short), c.self.invariant.1.room)))
 
 pub invariant_of-self : goal.invariant_of-self
 invariant_of-self g c =
     let i = c.self.inside in
     let w = c.walk-self-inside in
-    let b = behind_item g.D.Moves.moved g.D.Moves.fits g.T.Summary.Summary.empty g.T.Summary.Summary.op g.T.Item.sum_of i.tree.now.items (g.D.Plain.plain i.from) i.path.items i.halt.item c.in-Some._item (g.D.Plain.plain i.halt.start) (g.D.Plain.plain i.halt.end) i.index c.self.invariant.1 c.in-Some.is in
+    let b = behind_item c.self.invariant.1 c.in-Some.is in
     let all : w.result.passed ≡ length i.path.items = grind (arith, b.0, c.len-items.ensures, w.ensures.passed, over_passes g.D.Moves.moved g.T.Item.sum_of c.len-items.result (g.D.Plain.plain i.halt.end) 0 i.path.items) in
-    (c.self.invariant.0, walks_on g.D.Moves.moved g.D.Moves.fits g.T.Summary.Summary.empty g.T.Summary.Summary.op g.T.Item.sum_of i.tree.now.items (g.D.Plain.plain i.from) i.path.items i.halt.item c.in-Some._item (g.D.Plain.plain i.halt.start) (g.D.Plain.plain i.halt.end) i.index w.result.passed c.len-items.result w.new.path.items w.result.item (g.D.Plain.plain w.result.start) (g.D.Plain.plain w.result.end) c.self.invariant.1 c.in-Some.is w.ensures.at (omega (arith, all, b.0, c.len-items.ensures)))
+    (c.self.invariant.0, walks_on c.self.invariant.1 c.in-Some.is w.ensures.at (omega (arith, all, b.0, c.len-items.ensures)))
 
 pub returns-in_default : goal.returns-in_default
 returns-in_default g c =
     let i = c.self.inside in
-    let n = none_at g.D.Moves.moved g.D.Moves.fits g.T.Summary.Summary.empty g.T.Summary.Summary.op g.T.Item.sum_of i.tree.now.items (g.D.Plain.plain i.from) i.path.items i.halt.item (g.D.Plain.plain i.halt.start) (g.D.Plain.plain i.halt.end) i.index c.self.invariant.1 c.in_default.is in
+    let n = none_at c.self.invariant.1 c.in_default.is in
     rw (← c.self.view_is) (ap (placed i.tree.now.items i.tree.now.height i.from) n.0)

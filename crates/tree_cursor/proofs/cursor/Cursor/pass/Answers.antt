@@ -6,27 +6,20 @@ use Rattle.tree_cursor.proofs.cursor.Cursor.pass.Goals as goal
 
 pub walk-self-inside-requires : goal.walk-self-inside-requires
 walk-self-inside-requires g c κs =
-    let i = c.self.inside in
-    let b = behind_item g.D.Moves.moved g.D.Moves.fits g.T.Summary.Summary.empty g.T.Summary.Summary.op g.T.Item.sum_of i.tree.now.items (g.D.Plain.plain i.from) i.path.items i.halt.item c.in-Some._item (g.D.Plain.plain i.halt.start) (g.D.Plain.plain i.halt.end) i.index c.self.invariant.1 c.in-Some.is in
-    (omega arith, ((refl, tt), (omega (arith, b.0, c.known.ensures.short), c.self.invariant.1.room)))
+    (omega arith, ((refl, tt), (omega (arith, (behind_item c.self.invariant.1 c.in-Some.is).0, c.known.ensures.short), c.self.invariant.1.room)))
 
 pub overflow_add-self : goal.overflow_add-self
 overflow_add-self g c =
-    let i = c.self.inside in
-    let b = behind_item g.D.Moves.moved g.D.Moves.fits g.T.Summary.Summary.empty g.T.Summary.Summary.op g.T.Item.sum_of i.tree.now.items (g.D.Plain.plain i.from) i.path.items i.halt.item c.in-Some._item (g.D.Plain.plain i.halt.start) (g.D.Plain.plain i.halt.end) i.index c.self.invariant.1 c.in-Some.is in
-    omega (arith, b.0, c.known.ensures.short, c.walk-self-inside.ensures.at.within)
+    omega (arith, (behind_item c.self.invariant.1 c.in-Some.is).0, c.known.ensures.short, c.walk-self-inside.ensures.at.within)
 
 pub overflow_add-self-then-not-passed : goal.overflow_add-self-then-not-passed
 overflow_add-self-then-not-passed g c =
-    let i = c.self.inside in
-    let b = behind_item g.D.Moves.moved g.D.Moves.fits g.T.Summary.Summary.empty g.T.Summary.Summary.op g.T.Item.sum_of i.tree.now.items (g.D.Plain.plain i.from) i.path.items i.halt.item c.in-Some._item (g.D.Plain.plain i.halt.start) (g.D.Plain.plain i.halt.end) i.index c.self.invariant.1 c.in-Some.is in
-    omega (arith, b.0, c.known.ensures.short, c.walk-self-inside.ensures.at.within)
+    omega (arith, (behind_item c.self.invariant.1 c.in-Some.is).0, c.known.ensures.short, c.walk-self-inside.ensures.at.within)
 
 pub invariant_of-self : goal.invariant_of-self
 invariant_of-self g c =
-    let i = c.self.inside in
     let w = c.walk-self-inside in
-    (c.self.invariant.0, walks_on g.D.Moves.moved g.D.Moves.fits g.T.Summary.Summary.empty g.T.Summary.Summary.op g.T.Item.sum_of i.tree.now.items (g.D.Plain.plain i.from) i.path.items i.halt.item c.in-Some._item (g.D.Plain.plain i.halt.start) (g.D.Plain.plain i.halt.end) i.index w.result.passed (i.index + (1 + w.result.passed)) w.new.path.items w.result.item (g.D.Plain.plain w.result.start) (g.D.Plain.plain w.result.end) c.self.invariant.1 c.in-Some.is w.ensures.at (omega arith))
+    (c.self.invariant.0, walks_on c.self.invariant.1 c.in-Some.is w.ensures.at (omega arith))
 
 pub returns-then-not-passed : goal.returns-then-not-passed
 returns-then-not-passed g c =
@@ -34,13 +27,13 @@ returns-then-not-passed g c =
     let w = c.walk-self-inside in
     let stops = λ (p : g.row.D-Value.Denot). g.G.Target.passes c.args.target.now p c.args.bias in
     let count = w.ensures.passed ∙ seek_passes g.D.Moves.moved g.T.Item.sum_of stops (g.D.Plain.plain i.halt.end) 0 i.path.items in
-    let goes = seek_goes g.D.Moves.moved g.D.Moves.fits g.T.Summary.Summary.empty g.T.Summary.Summary.op g.T.Item.sum_of stops i.tree.now.items (g.D.Plain.plain i.from) i.path.items i.halt.item c.in-Some._item (g.D.Plain.plain i.halt.start) (g.D.Plain.plain i.halt.end) i.index w.result.passed c.self.invariant.1 c.in-Some.is (sym c.passed.ensures ∙ c.if-not-passed.true) count in
+    let goes = seek_goes stops c.self.invariant.1 c.in-Some.is (sym c.passed.ensures ∙ c.if-not-passed.true) count in
     rw (← c.self.view_is) (ap (λ (n : ℕ). placed i.tree.now.items i.tree.now.height i.from (i.index + n)) goes)
 
 pub returns-else-not-passed : goal.returns-else-not-passed
 returns-else-not-passed g c =
     let i = c.self.inside in
     let stops = λ (p : g.row.D-Value.Denot). g.G.Target.passes c.args.target.now p c.args.bias in
-    let stays = seek_stays g.D.Moves.moved g.D.Moves.fits g.T.Summary.Summary.empty g.T.Summary.Summary.op g.T.Item.sum_of stops i.tree.now.items (g.D.Plain.plain i.from) i.path.items i.halt.item c.in-Some._item (g.D.Plain.plain i.halt.start) (g.D.Plain.plain i.halt.end) i.index c.self.invariant.1 c.in-Some.is (sym c.passed.ensures ∙ c.if-not-passed.false) in
+    let stays = seek_stays stops c.self.invariant.1 c.in-Some.is (sym c.passed.ensures ∙ c.if-not-passed.false) in
     let here : i.index ≡ i.index + seek_count g.D.Moves.moved g.T.Item.sum_of stops (place_behind g.D.Moves.moved g.T.Item.sum_of (g.D.Plain.plain i.from) (take i.index i.tree.now.items)) (drop i.index i.tree.now.items) = omega (arith, stays) in
     rw (← c.self.view_is) (ap (placed i.tree.now.items i.tree.now.height i.from) here)

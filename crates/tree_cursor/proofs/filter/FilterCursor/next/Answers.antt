@@ -13,7 +13,7 @@ invariant_of-self g c =
     let from = g.D.Plain.plain i.from in
     let k = i.next + w.result.passed in
     let at = at_further g.D.Moves.moved g.D.Moves.fits g.T.Summary.Summary.empty g.T.Summary.Summary.op g.T.Item.sum_of whole i.path.items from (g.D.Plain.plain i.end) i.next w.result.passed w.new.path.items w.result.item (g.D.Plain.plain w.result.start) (g.D.Plain.plain w.result.end) c.self.invariant.0 c.self.invariant.1 c.self.invariant.3 w.ensures.at in
-    let b = walk_begins g.D.Moves.moved g.D.Moves.fits g.T.Summary.Summary.empty g.T.Summary.Summary.op g.T.Item.sum_of whole from w.new.path.items w.result.item (g.D.Plain.plain w.result.start) (g.D.Plain.plain w.result.end) k at in
+    let b = walk_begins w.result.item at in
     let m = c.index_behind-self-inside.ensures in
     (grind (arith, m, b.0), b.1 ∙ ap (λ (n : ℕ). drop n whole) (sym m), at.starts, b.2 ∙ ap (λ (n : ℕ). place_behind g.D.Moves.moved g.T.Item.sum_of from (take n whole)) (sym m), at.room)
 
@@ -37,7 +37,7 @@ returns-clause-moved g c =
     let from = g.D.Plain.plain i.from in
     let k = i.next + w.result.passed in
     let at = at_further g.D.Moves.moved g.D.Moves.fits g.T.Summary.Summary.empty g.T.Summary.Summary.op g.T.Item.sum_of whole i.path.items from (g.D.Plain.plain i.end) i.next w.result.passed w.new.path.items w.result.item (g.D.Plain.plain w.result.start) (g.D.Plain.plain w.result.end) c.self.invariant.0 c.self.invariant.1 c.self.invariant.3 w.ensures.at in
-    let b = walk_begins g.D.Moves.moved g.D.Moves.fits g.T.Summary.Summary.empty g.T.Summary.Summary.op g.T.Item.sum_of whole from w.new.path.items w.result.item (g.D.Plain.plain w.result.start) (g.D.Plain.plain w.result.end) k at in
+    let b = walk_begins w.result.item at in
     let m = c.index_behind-self-inside.ensures in
     let keeps = g.K.Keep.keeps i.keep in
     let count : w.result.passed ≡ filter_count keeps g.T.Item.sum_of (drop i.next whole) = w.ensures.passed ∙ filter_passes g.D.Moves.moved g.T.Item.sum_of keeps (g.D.Plain.plain i.end) 0 i.path.items ∙ ap (filter_count keeps g.T.Item.sum_of) c.self.invariant.1 in
