@@ -8,7 +8,7 @@ use Rattle.lamport_clock.specs.declared.stamp.Lamport.{Lamport}
 use Rattle.lamport_clock.specs.Stamps.{same_stamp}
 use Rattle.op_model.specs.Sorted.{Member}
 use Rattle.op_model.specs.Histories.{History}
-use Rattle.op_model.specs.Cells.{Cell, seq, cells}
+use Rattle.op_model.specs.Cells.{Cell, seq, cells, cell_at}
 use Rattle.op_model.specs.Shown.{new_bytes, IsCell}
 use Rattle.op_model.specs.Anchors.{shown_count}
 use Rattle.op_model.specs.Facts.{Fact, alike}
@@ -17,19 +17,20 @@ use Rattle.op_model.specs.Lawful.{Lawful}
 use Rattle.op_model.proofs.order.PathOrder.{same_stamp_eq, same_stamp_refl}
 use Rattle.op_model.proofs.MainLaws.{each_cell_once}
 use Rattle.undo_map.specs.declared.entry.UndoEntry.{UndoEntry}
+use Rattle.op_model.proofs.shown.FactCells.{cells_in, told_cells}
 use Rattle.fragments.specs.declared.fragment.Fragment.{Fragment}
 use Rattle.fragments.specs.declared.index_entry.IndexEntry.{IndexEntry}
 use Rattle.fragments.specs.Index.{covers, nearest, entry_for, id_for}
 use Rattle.fragments.specs.Stand.{Stand, Tell, runs, Rise}
 use Rattle.fragments.specs.Laws.{shown_len}
 use Rattle.fragments.proofs.Entries.{member_right, member_either}
-use Rattle.fragments.proofs.Founds.{index_finds_fragments, told_cells, fragment_of}
+use Rattle.fragments.proofs.Founds.{index_finds_fragments, fragment_of}
 use Rattle.locators.specs.Locator.{least_digits}
 use Rattle.anchors.specs.declared.spot.Spot.{Spot}
 use Rattle.anchors.specs.declared.spot.Run.{Run}
 use Rattle.anchors.specs.Spots.{spot, spot_of, spot_in, spot_if, run_behind, IsRunOf, cells_len}
 use Rattle.anchors.proofs.Splits.{split_at, before_is}
-use Rattle.anchors.proofs.Runs.{cell_at, cells_in, before, behind, cells_split, is_shown, shown_before, length_before}
+use Rattle.anchors.proofs.Runs.{before, behind, cells_split, is_shown, shown_before, length_before}
 
 -- ---- entries
 

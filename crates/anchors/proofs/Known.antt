@@ -7,7 +7,7 @@ use Rattle.std.proofs.lemmas.Option.{same_Some, none-some}
 use Rattle.lamport_clock.specs.declared.stamp.Lamport.{Lamport}
 use Rattle.op_model.specs.Edits.{is_boundary}
 use Rattle.op_model.specs.Histories.{History, has_edit}
-use Rattle.op_model.specs.Cells.{Cell, seq, cells}
+use Rattle.op_model.specs.Cells.{Cell, seq, cells, cell_at}
 use Rattle.op_model.specs.Shown.{new_bytes, shown, text, hidden_text}
 use Rattle.op_model.specs.Lawful.{Lawful}
 use Rattle.op_model.specs.declared.anchor.Anchor.{Anchor}
@@ -23,7 +23,6 @@ use Rattle.anchors.specs.declared.standing.Standing.{Standing}
 use Rattle.anchors.specs.Spots.{spot, spot_of, begins}
 use Rattle.anchors.specs.Standing.{StandFor, bias_of, side, standing_of}
 use Rattle.anchors.proofs.Splits.{split_at, before_is, number_upto, length_upto, in_text, in_hidden, both_lengths}
-use Rattle.anchors.proofs.Runs.{cell_at}
 use Rattle.op_model.proofs.anchors.KnownAnchors.{edit_there}
 use Rattle.op_model.proofs.texts.WholeTexts.{same_byte}
 

@@ -7,7 +7,7 @@ use Rattle.std.proofs.lemmas.Bool.{cases_Bool, cases_lt, ltb-false, eqb-true, eq
 use Rattle.std.proofs.lemmas.List.{length-map}
 use Rattle.std.proofs.lemmas.Option.{slice_get_past, slice_get_within, slice_get-get_or, none-some}
 use Rattle.op_model.specs.Histories.{History}
-use Rattle.op_model.specs.Cells.{Cell}
+use Rattle.op_model.specs.Cells.{Cell, cell_at}
 use Rattle.op_model.specs.Shown.{shown, text, byte}
 use Rattle.op_model.specs.Lawful.{Lawful}
 use Rattle.op_model.specs.declared.anchor.Anchor.TheVariants.{Least, Greatest, At}
@@ -23,7 +23,7 @@ use Rattle.fragments.specs.Laws.{shown_len}
 use Rattle.anchors.specs.declared.making.Byte.{Byte}
 use Rattle.anchors.specs.Making.{cell_of}
 use Rattle.anchors.proofs.Splits.{got_shown}
-use Rattle.anchors.proofs.Runs.{cell_at, before, behind, cells_split, is_shown, shown_before, all_visible}
+use Rattle.anchors.proofs.Runs.{before, behind, cells_split, is_shown, shown_before, all_visible}
 use Rattle.anchors.proofs.Seeking.{ByteAt, seek_none, shown_sought}
 
 -- ---- shown cells among fragments

@@ -11,7 +11,7 @@ use Rattle.std.proofs.lemmas.Bool.Decides.{nat_tests}
 use Rattle.std.proofs.lemmas.Option.{same_Some, none-some}
 use Rattle.std.proofs.lemmas.List.{length-map, length-append}
 use Rattle.op_model.specs.Histories.{History}
-use Rattle.op_model.specs.Cells.{Cell, PathCell, seq, cells}
+use Rattle.op_model.specs.Cells.{Cell, PathCell, seq, cells, cell_at}
 use Rattle.op_model.specs.Shown.{new_bytes}
 use Rattle.op_model.specs.Lawful.{Lawful}
 use Rattle.op_model.specs.declared.anchor.Anchor.{Anchor}
@@ -23,7 +23,6 @@ use Rattle.op_model.proofs.MainLaws.{anchors_keep_their_order, anchors_stand_in_
 use Rattle.anchors.specs.Standing.{side}
 use Rattle.anchors.specs.Laws.{OrderIsTotal, LeftBeforeRight, AnchorsStayInOrder, AnchorsComeBack}
 use Rattle.anchors.proofs.Splits.{before_is, length_upto}
-use Rattle.anchors.proofs.Runs.{cell_at}
 use Rattle.anchors.proofs.Known.{split_cell, side_is, right_cell, left_cell}
 
 -- ---- a total order

@@ -5,7 +5,7 @@ use Rattle.std.specs.List.{AllByRecursion, filter}
 use Rattle.std.proofs.lemmas.List.{length-append, length-map, map-append}
 use Rattle.lamport_clock.specs.declared.stamp.Lamport.{Lamport}
 use Rattle.op_model.specs.Histories.{History}
-use Rattle.op_model.specs.Cells.{Cell, seq, cells}
+use Rattle.op_model.specs.Cells.{Cell, seq, cells, cell_at}
 use Rattle.op_model.specs.Shown.{shown}
 use Rattle.op_model.specs.Anchors.{shown_count}
 use Rattle.op_model.specs.Facts.{Fact, fact, cell_facts, alike}
@@ -15,16 +15,10 @@ use Rattle.fragments.specs.declared.fragment.Fragment.{Fragment}
 use Rattle.fragments.specs.Stand.{runs, Tell}
 use Rattle.fragments.specs.Laws.{shown_len}
 use Rattle.anchors.specs.Spots.{cells_len}
-use Rattle.fragments.proofs.Founds.{told_cells}
-
-abbrev pub cell_at : Lamport → ℕ → Cell
-cell_at t k = record { stamp = t; k = k }
+use Rattle.op_model.proofs.shown.FactCells.{cells_in, told_cells}
 
 abbrev fact_at : Lamport → ℕ → Bool → List Lamport → Fact
 fact_at t k v d = record { cell = cell_at t k; visible = v; deletions = d }
-
-abbrev pub cells_in : List Fact → List Cell
-cells_in s = map (λ (q : Fact). q.cell) s
 
 -- a run, split at its cell j
 alike_split : (t : Lamport) (o n j k : ℕ) (v : Bool) (d : List Lamport) → j < n → k ≡ o + j → (m : ℕ) → n ≡ j + suc m → alike t o n v d ≡ alike t o j v d ++ fact_at t k v d ∷ alike t (suc k) m v d

@@ -4,7 +4,7 @@ use Rattle.lamport_clock.specs.declared.stamp.Lamport.{Lamport}
 use Rattle.lamport_clock.specs.Stamps.{same_stamp}
 use Rattle.op_model.specs.Histories.{History}
 use Rattle.op_model.specs.Edits.{is_boundary}
-use Rattle.op_model.specs.Cells.{Cell, seq, cells}
+use Rattle.op_model.specs.Cells.{Cell, seq, cells, cell_at}
 use Rattle.op_model.specs.Shown.{shown, new_bytes}
 use Rattle.op_model.specs.Anchors.{cells_before, shown_count}
 use Rattle.op_model.specs.Walked.{kept_len}
@@ -17,9 +17,6 @@ use Rattle.locators.specs.Locator.{least_digits}
 use Rattle.undo_map.specs.declared.entry.UndoEntry.{UndoEntry}
 use Rattle.anchors.specs.declared.spot.Spot.{Spot}
 use Rattle.anchors.specs.declared.spot.Run.{Run}
-
-abbrev pub cell : Lamport → ℕ → Cell
-cell t k = record { stamp = t; k = k }
 
 -- whether c is shown, and how many shown cells and how many of all stand before it
 abbrev pub spot : History → Cell → Spot
@@ -75,12 +72,12 @@ OfEach fs w P = (u : List UndoEntry) → (h : History) → Stand fs w u h → La
 
 -- r tells where cell k of edit t of h stands, and tells nothing wrong of the edit's other cells
 pub record IsRunOf (h : History) (t : Lamport) (k : ℕ) (r : Option Run) : Type 0 where
-  pub here : spot_if r t k ≡ spot_of h (cell t k)
-  pub others : (j : ℕ) → (s : Spot) → spot_if r t j ≡ Some s → Some s ≡ spot_of h (cell t j)
+  pub here : spot_if r t k ≡ spot_of h (cell_at t k)
+  pub others : (j : ℕ) → (s : Spot) → spot_if r t j ≡ Some s → Some s ≡ spot_of h (cell_at t j)
 
 -- o is the spot of cell k of edit t of h, or None
 abbrev pub MayBeSpot : History → Lamport → ℕ → Option Spot → Type 0
-MayBeSpot h t k o = IfSome o (λ s. Some s ≡ spot_of h (cell t k))
+MayBeSpot h t k o = IfSome o (λ s. Some s ≡ spot_of h (cell_at t k))
 
 -- a character begins at the spot, or the text that the cell is of ends
 abbrev pub begins : List ℕ → List ℕ → Spot → Bool

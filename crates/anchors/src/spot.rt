@@ -2,13 +2,14 @@
 ghost use Rattle.std.specs.Prelude.{◌≡◌, ◌++◌, ◌∷◌, ◌≤◌, ◌<◌, ◌+◌, ◌-◌, ◌^◌, List, Some, IfSome};
 ghost use Rattle.op_model.specs.Histories.{History};
 ghost use Rattle.op_model.specs.Lawful.{Lawful};
+ghost use Rattle.op_model.specs.Cells.{cell_at};
 ghost use Rattle.op_model.specs.Edits.{is_boundary};
 ghost use Rattle.undo_map.specs.declared.entry.UndoEntry.{UndoEntry};
 ghost use Rattle.locators.specs.Locator.{least_digits};
 ghost use Rattle.fragments.specs.declared.fragment.Fragment.{Fragment};
 ghost use Rattle.fragments.specs.Laws.{shown_len};
 ghost use Rattle.fragments.specs.Stand.{Stand, Rise};
-ghost use Rattle.anchors.specs.Spots.{cell, spot_of, spot_in, run_behind, begins, IsCounted, IsRunAt, IsRunOf, MayBeSpot, OfEach, RunFits};
+ghost use Rattle.anchors.specs.Spots.{spot_of, spot_in, run_behind, begins, IsCounted, IsRunAt, IsRunOf, MayBeSpot, OfEach, RunFits};
 
 use crate::before::{Before, Reaching};
 use fragments::{Fragment, InsertionIndex};
@@ -132,7 +133,7 @@ pub fn spots_of(
 ) -> (Option<Spot>, Option<Spot>)
     requires { 1 ≤ k }
     ensures first { OfEach tree.now.items index.now
-        (λ h. result.0 ≡ spot_of h (cell stamp (k - 1))) }
+        (λ h. result.0 ≡ spot_of h (cell_at stamp (k - 1))) }
     ensures next { OfEach tree.now.items index.now (λ h. MayBeSpot h stamp k result.1) }
     ensures first_counted { IfSome result.0 IsCounted }
     ensures next_counted { IfSome result.1 IsCounted }

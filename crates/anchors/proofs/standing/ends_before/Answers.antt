@@ -1,5 +1,5 @@
 use Rattle.std.proofs.Common.{sym, ◌∙◌}
-use Rattle.anchors.proofs.Runs.{cell_at}
+use Rattle.op_model.specs.Cells.{cell_at}
 use Rattle.anchors.proofs.Known.{ends_none, begins_is}
 use Rattle.anchors.proofs.standing.ends_before.Goals as goal
 

@@ -2,7 +2,7 @@ use Rattle.std.proofs.Common.{◌≡◌, Option, Some, subst, sym, ◌∙◌}
 use Rattle.std.specs.Prelude.{IfSome}
 use Rattle.anchors.specs.declared.spot.Spot.{Spot}
 use Rattle.anchors.specs.Spots.{spot_of}
-use Rattle.anchors.proofs.Runs.{cell_at}
+use Rattle.op_model.specs.Cells.{cell_at}
 use Rattle.anchors.proofs.Known.{begins_is}
 use Rattle.anchors.proofs.standing.ends_behind.Goals as goal
 

@@ -1,5 +1,5 @@
 use Rattle.std.proofs.Common.{sym, ap, ◌∙◌, Some}
-use Rattle.anchors.proofs.Runs.{cell_at}
+use Rattle.op_model.specs.Cells.{cell_at}
 use Rattle.anchors.proofs.Known.{begins_is, right_none, right_not, right_some}
 use Rattle.anchors.proofs.standing.right_standing.Goals as goal
 
