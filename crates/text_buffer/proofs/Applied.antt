@@ -1,6 +1,7 @@
 -- A document and a buffer after an operation is applied.
 use Rattle.op_model.proofs.Elements.{each_append}
 use Rattle.std.proofs.Common.{◌≡◌, ℕ, ◌+◌, ◌^◌, ◌≤◌, List, [], ◌∷◌, ◌++◌, length, sym, ap, subst, ◌∙◌, arith, false, None}
+use Rattle.std.proofs.lemmas.List.{append-nil}
 use Rattle.std.proofs.lemmas.Bool.{ltb-false}
 use Rattle.std.specs.Arc.{arc_value}
 use Rattle.std.specs.List.{AllByRecursion, list_any}
@@ -24,7 +25,7 @@ use Rattle.op_model.specs.Settled.{full_fault}
 use Rattle.op_model.specs.Steps.{older}
 use Rattle.op_model.proofs.histories.Append.{version-append, clock-append, bytes_held-append, entries_held-append}
 use Rattle.op_model.proofs.answers.Passed.{passed, shaped, map_none, none_map, none_find, any_none}
-use Rattle.op_model.proofs.answers.Good.{append_nil, stamp_parts}
+use Rattle.op_model.proofs.answers.Good.{stamp_parts}
 use Rattle.op_model.proofs.histories.MoreLawful.{lawful_more}
 use Rattle.op_model.proofs.histories.Proper.{utf8}
 use Rattle.undo_map.specs.declared.entry.UndoEntry.{UndoEntry}
@@ -71,7 +72,7 @@ counts_fit h u w k e r =
 pub fresh_of : (h : History) (op : Operation) → answer h [] op ≡ Good → operation_at h (stamp_of op) ≡ None
 fresh_of h op g =
     let same : Operation → Rattle.std.specs.Prelude.Bool = λ o. same_stamp (stamp_of o) (stamp_of op) in
-    none_find same h (any_none same h (ap (λ (z : History). list_any same z) (sym (append_nil h)) ∙ (passed h [] op g).fresh))
+    none_find same h (any_none same h (ap (λ (z : History). list_any same z) (sym (append-nil h)) ∙ (passed h [] op g).fresh))
 
 -- an operation that passes no limit finds room
 pub room_for : (b : BufferState) (op : Operation) → IsBuffer b → full_fault b.limits b.history op ≡ None → HasRoom b.history op

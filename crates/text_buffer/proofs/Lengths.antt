@@ -1,7 +1,7 @@
 -- A history has as many cells as its texts have bytes.
 use Rattle.std.proofs.Common.{◌≡◌, ℕ, zero, suc, ◌+◌, ◌≤◌, Bool, true, false, not, cond, List, [], ◌∷◌, ◌++◌, length, take, drop, drop-cons, get_or, refl, sym, ◌∙◌, ap, arith, inl, length-append}
 use Rattle.std.specs.List.{filter}
-use Rattle.std.proofs.lemmas.List.{append-nil, take_all}
+use Rattle.std.proofs.lemmas.List.{append-nil, length-map, take_all}
 use Rattle.std.proofs.lemmas.List.Filters.{length-filter_both}
 use Rattle.lamport_clock.specs.declared.stamp.Lamport.{Lamport}
 use Rattle.op_model.specs.declared.operation.Operation.{Operation}
@@ -12,7 +12,7 @@ use Rattle.op_model.specs.Histories.{History, base, bytes_held, by_stamp, newer,
 use Rattle.op_model.specs.Cells.{Cell, PathCell, before, both, cells, everything, new_places, op_places, left_path, seq, seq_where, text_places}
 use Rattle.op_model.specs.Facts.{Fact, alike}
 use Rattle.op_model.specs.Shown.{byte, full, hidden_text, shown, shown_where, text, text_where}
-use Rattle.op_model.proofs.answers.Good.{full_length, map_length}
+use Rattle.op_model.proofs.answers.Good.{full_length}
 use Rattle.op_model.proofs.texts.Utf8Runs.{bytes}
 use Rattle.op_model.proofs.texts.WholeTexts.{base_told, byte_is, byte_of, text_told}
 
@@ -70,10 +70,10 @@ unfolding text text_where shown seq
 both_bytes h =
     let d : History = newest_first h in
     let s : List Cell = cells (seq_where everything d) in
-    let a = map_length (byte d) (filter (shown_where everything d) s) in
-    let b = map_length (byte h) (filter (λ (c : Cell). not (shown_where everything d c)) s) in
+    let a = length-map (filter (shown_where everything d) s) (byte d) in
+    let b = length-map (filter (λ (c : Cell). not (shown_where everything d c)) s) (byte h) in
     let p = length-filter_both (shown_where everything d) (λ (c : Cell). not (shown_where everything d c)) (λ (c : Cell). refl) s in
-    let c = map_length (λ (x : PathCell). x.cell) (seq_where everything d) in
+    let c = length-map (seq_where everything d) (λ (x : PathCell). x.cell) in
     let n = seq_len d in
     let m = sorted_bytes [] h in
     omega (arith, a, b, p, c, n, m)
