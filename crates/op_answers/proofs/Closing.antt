@@ -1,11 +1,13 @@
 -- What the version of a history tells: no operation has a stamp that it has not seen, and a version that sees the same is closed.
 use Rattle.op_model.proofs.Elements.{each_map}
 use Rattle.std.proofs.Common.{◌≡◌, ℕ, ◌<◌, Bool, cond, Option, Some, [], ◌∷◌, refl, sym, ◌∙◌, ap, subst, inl, inr, true, false, not, ◌&&◌, ltb, eqb, arith, None}
+use Rattle.std.proofs.lemmas.List.{append-nil}
 use Rattle.std.specs.Prelude.{IfSome}
 use Rattle.std.proofs.lemmas.Bool.{cases_Bool, cases_lt, le-ltb, or_cases, eqb-true}
 use Rattle.lamport_clock.specs.declared.stamp.Lamport.{Lamport}
 use Rattle.lamport_clock.specs.Stamps.{same_stamp}
 use Rattle.lamport_clock.specs.Versions.{Entries, IsVersion, entry, sees, within}
+use Rattle.lamport_clock.proofs.Joined.{entry_within}
 use Rattle.op_model.specs.declared.operation.Operation.{Operation}
 use Rattle.op_model.specs.Operations.{stamp_of, version_of}
 use Rattle.op_model.specs.Histories.{History, In, operation_at, version}
@@ -14,7 +16,6 @@ use Rattle.op_model.specs.Lawful.{Lawful}
 use Rattle.op_model.proofs.order.PathOrder.{same_stamp_eq, same_stamp_refl}
 use Rattle.op_model.proofs.histories.Lawful.{each_of_in}
 use Rattle.op_model.proofs.answers.Passed.{none_find}
-use Rattle.op_model.proofs.answers.Good.{append_nil, within_entry}
 use Rattle.op_model.proofs.histories.VersionLaws.{own_entries, sees_own}
 use Rattle.op_model.proofs.histories.Causes.{Opens, opens_of, of_opens, named_at, names_closed, within_trans, lawful_opens}
 use Rattle.op_model.proofs.histories.ClosedVersions.{fronts_seen}
@@ -41,7 +42,7 @@ entry_shared h u v c b e q = elim (cases_lt 0 e.1) [
 ]
 
 whole_opens : (h : History) → Lawful h → Opens h (version h)
-whole_opens h l = opens_of h (version h) (subst (λ (g : History). open_replica g (version h) ≡ None) (append_nil h) (fronts_seen h [] l (subst Lawful (sym (append_nil h)) l)).0.1)
+whole_opens h l = opens_of h (version h) (subst (λ (g : History). open_replica g (version h) ≡ None) (append-nil h) (fronts_seen h [] l (subst Lawful (sym (append-nil h)) l)).0.1)
 
 -- a version that sees the same as that of the history is closed
 pub same_closed : (h : History) (v : Entries) → Lawful h → IsVersion v → within v (version h) ≡ true → within (version h) v ≡ true → open_replica h v ≡ None
@@ -49,8 +50,8 @@ same_closed h v l i a b = of_opens h v (each_map (λ (e : ℕ × ℕ). entry v e
   where
     one : (e : ℕ × ℕ) → entry v e.0 ≡ e.1 → (ltb 0 e.1 && not (is_entry_closed h v e)) ≡ false
     one e q =
-        let x = within_entry v (version h) a e.0 in
-        let y = within_entry (version h) v b e.0 in
+        let x = entry_within v (version h) e.0 a in
+        let y = entry_within (version h) v e.0 b in
         entry_shared h (version h) v (whole_opens h l) b e (omega arith)
 
 -- what an operation of a lawful history tells is so, where the version has seen all that it has
