@@ -10,7 +10,7 @@ use Rattle.std.proofs.lemmas.Str.{IsUtf8-append}
 use Rattle.sum_tree.specs.Spliced.{splice_list}
 use Rattle.rope_chunks.specs.Chunks.{IsChunk, AreChunks}
 use Rattle.rope_chunks.specs.Spots.{IsSpot, IsChange, text_with}
-use Rattle.rope_chunks.proofs.Texts.{concat-append}
+use Rattle.std.proofs.lemmas.List.Folds.{concat-append}
 use Rattle.rope_chunks.proofs.Grows.{concat-more, get_drop}
 use Rattle.rope_chunks.proofs.Stops.{front-short}
 use Rattle.rope_chunks.proofs.Spots.{spot_front, spot_back}

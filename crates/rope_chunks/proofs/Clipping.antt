@@ -11,7 +11,7 @@ use Rattle.text_dims.specs.Places.{end_place, places, place_after, walk, last_pl
 use Rattle.text_dims.proofs.Walks.{places-walk}
 use Rattle.rope_chunks.specs.declared.look.Stop.{Stop}
 use Rattle.rope_chunks.specs.Stops.{stop, stop_place}
-use Rattle.rope_chunks.specs.Targets.{offset_passed, offset_stays}
+use Rattle.rope_chunks.specs.Targets.{passes_offset, offset_stays}
 use Rattle.rope_chunks.proofs.Stops.{after-later, Begins, Begins-utf8, Stays}
 
 -- what is found by a search is where a look-up stops
@@ -29,9 +29,9 @@ last-walk d e a (b ∷ bs) = elim (begins_char b) as (λ t. last_place d (cond t
   | false ↦ last-walk d e (place_after a b) bs
 ]
 
-pub clipped_on : (bs : List ℕ) (o : ℕ) (s : Stop) → s ≡ stop (λ k. offset_passed o k Left) (end_place []) (places bs) → unwrap_or s.here s.before ≡ offset_clipped_on bs o
+pub clipped_on : (bs : List ℕ) (o : ℕ) (s : Stop) → s ≡ stop (λ k. passes_offset o k Left) (end_place []) (places bs) → unwrap_or s.here s.before ≡ offset_clipped_on bs o
 clipped_on bs o s e =
-    let p : Place → Bool = λ k. offset_passed o k Left in
+    let p : Place → Bool = λ k. passes_offset o k Left in
     rw (e, places-walk bs, last-walk (end_place bs) (end_place []) (end_place []) bs) (sym (find-stop p (end_place []) (walk (end_place []) bs)))
 
 -- From a row on, q tells which places are not strictly past a target. One that is at it is followed by places strictly past.
@@ -101,7 +101,7 @@ upto_is o n = grind (arith, nat_tests)
 past_next : (o n m : ℕ) → nat_le o n ≡ true → m ≡ n + 1 → nat_lt o m ≡ true
 past_next o n m h e = grind (arith, nat_tests)
 
-offset_upto : (o : ℕ) → Upto (λ k. offset_passed o k Left) (λ k. offset_passed o k Right) (λ k. nat_le k.offset o) 0
+offset_upto : (o : ℕ) → Upto (λ k. passes_offset o k Left) (λ k. passes_offset o k Right) (λ k. nat_le k.offset o) 0
 offset_upto o = record {
   stays = record { stays = λ a b e l. offset_stays o a b Right e l };
   past = λ k h. past_at o k.offset h;
@@ -113,9 +113,9 @@ at_zero : (o : ℕ) → nat_le (end_place []).offset o ≡ true
 unfolding end_place
 at_zero o = grind (arith, nat_tests)
 
-pub clipped_back : (bs : List ℕ) (o : ℕ) → IsUtf8 bs → stop_place (λ k. offset_passed o k Right) (stop (λ k. offset_passed o k Left) (end_place []) (places bs)) ≡ offset_clipped_back bs o
+pub clipped_back : (bs : List ℕ) (o : ℕ) → IsUtf8 bs → stop_place (λ k. passes_offset o k Right) (stop (λ k. passes_offset o k Left) (end_place []) (places bs)) ≡ offset_clipped_back bs o
 clipped_back bs o u =
     let q : Place → Bool = λ k. nat_le k.offset o in
     rw (places-walk bs)
     (sym (either q (end_place bs) (end_place []) (end_place []) bs (Begins-utf8 bs u) (at_zero o)
-    ∙ clip-walk (λ k. offset_passed o k Left) (λ k. offset_passed o k Right) q 0 (offset_upto o) (end_place []) (end_place []) bs (omega arith)))
+    ∙ clip-walk (λ k. passes_offset o k Left) (λ k. passes_offset o k Right) q 0 (offset_upto o) (end_place []) (end_place []) bs (omega arith)))

@@ -12,7 +12,8 @@ use Rattle.sum_tree.specs.Spliced.{splice_list}
 use Rattle.text_dims.specs.Summaries.{summary_of, text_sum, no_text, TextFits}
 use Rattle.text_dims.proofs.Characters.{text_fits}
 use Rattle.rope_chunks.specs.Chunks.{IsChunk, AreChunks}
-use Rattle.rope_chunks.proofs.Texts.{each_head, each_tail, concat-append, concat-push, fold_is}
+use Rattle.std.proofs.lemmas.List.Folds.{concat-append}
+use Rattle.rope_chunks.proofs.Texts.{each_head, each_tail, concat-push, fold_is}
 
 few_chunks : (cs : List (List ℕ)) → All IsChunk cs → length cs ≤ length (concat cs)
 few_chunks [] a = omega arith

@@ -10,7 +10,7 @@ use Rattle.text_dims.specs.declared.points.OffsetUtf16.{OffsetUtf16}
 use Rattle.text_dims.specs.Places.{end_place, places, place_at_offset, place_at_utf16, place_at_point, place_at_point_utf16}
 use Rattle.text_dims.proofs.Walks.{places-walk}
 use Rattle.rope_chunks.specs.Stops.{stop, pick_place}
-use Rattle.rope_chunks.specs.Targets.{offset_passed, utf16_passed, point_passed, point_utf16_passed, offset_stays, utf16_stays, point_stays, point_utf16_stays}
+use Rattle.rope_chunks.specs.Targets.{passes_offset, passes_utf16, passes_point, passes_point_utf16, offset_stays, utf16_stays, point_stays, point_utf16_stays}
 use Rattle.rope_chunks.proofs.Stops.{Sought, found}
 
 -- the place of a text that passes the target and is not strictly past it
@@ -23,18 +23,18 @@ number_is x y = grind (arith, nat_tests)
 pair_is : (r c s d : ℕ) → (s == r && d == c) ≡ ((nat_lt r s || (r == s && nat_le c d)) && not (nat_lt r s || (r == s && nat_lt c d)))
 pair_is r c s d = grind (arith, nat_tests)
 
-pub found_at_offset : (bs : List ℕ) (o : ℕ) → pick_place (λ k. offset_passed o k Right) (stop (λ k. offset_passed o k Left) (end_place []) (places bs)).here ≡ place_at_offset bs o
+pub found_at_offset : (bs : List ℕ) (o : ℕ) → pick_place (λ k. passes_offset o k Right) (stop (λ k. passes_offset o k Left) (end_place []) (places bs)).here ≡ place_at_offset bs o
 found_at_offset bs o =
-    found_in (λ k. offset_passed o k Left) (λ k. offset_passed o k Right) (λ k. k.offset == o) (record { stays = record { stays = λ a b e l. offset_stays o a b Right e l }; is = λ k. number_is o k.offset }) bs
+    found_in (λ k. passes_offset o k Left) (λ k. passes_offset o k Right) (λ k. k.offset == o) (record { stays = record { stays = λ a b e l. offset_stays o a b Right e l }; is = λ k. number_is o k.offset }) bs
 
-pub found_at_utf16 : (bs : List ℕ) (u : OffsetUtf16) → pick_place (λ k. utf16_passed u k Right) (stop (λ k. utf16_passed u k Left) (end_place []) (places bs)).here ≡ place_at_utf16 bs u
+pub found_at_utf16 : (bs : List ℕ) (u : OffsetUtf16) → pick_place (λ k. passes_utf16 u k Right) (stop (λ k. passes_utf16 u k Left) (end_place []) (places bs)).here ≡ place_at_utf16 bs u
 found_at_utf16 bs u =
-    found_in (λ k. utf16_passed u k Left) (λ k. utf16_passed u k Right) (λ k. k.utf16 == u.0) (record { stays = record { stays = λ a b e l. utf16_stays u a b Right e l }; is = λ k. number_is u.0 k.utf16 }) bs
+    found_in (λ k. passes_utf16 u k Left) (λ k. passes_utf16 u k Right) (λ k. k.utf16 == u.0) (record { stays = record { stays = λ a b e l. utf16_stays u a b Right e l }; is = λ k. number_is u.0 k.utf16 }) bs
 
-pub found_at_point : (bs : List ℕ) (p : Point) → pick_place (λ k. point_passed p k Right) (stop (λ k. point_passed p k Left) (end_place []) (places bs)).here ≡ place_at_point bs p
+pub found_at_point : (bs : List ℕ) (p : Point) → pick_place (λ k. passes_point p k Right) (stop (λ k. passes_point p k Left) (end_place []) (places bs)).here ≡ place_at_point bs p
 found_at_point bs p =
-    found_in (λ k. point_passed p k Left) (λ k. point_passed p k Right) (λ k. k.row == p.row && k.column == p.column) (record { stays = record { stays = λ a b e l. point_stays p a b Right e l }; is = λ k. pair_is p.row p.column k.row k.column }) bs
+    found_in (λ k. passes_point p k Left) (λ k. passes_point p k Right) (λ k. k.row == p.row && k.column == p.column) (record { stays = record { stays = λ a b e l. point_stays p a b Right e l }; is = λ k. pair_is p.row p.column k.row k.column }) bs
 
-pub found_at_point_utf16 : (bs : List ℕ) (p : PointUtf16) → pick_place (λ k. point_utf16_passed p k Right) (stop (λ k. point_utf16_passed p k Left) (end_place []) (places bs)).here ≡ place_at_point_utf16 bs p
+pub found_at_point_utf16 : (bs : List ℕ) (p : PointUtf16) → pick_place (λ k. passes_point_utf16 p k Right) (stop (λ k. passes_point_utf16 p k Left) (end_place []) (places bs)).here ≡ place_at_point_utf16 bs p
 found_at_point_utf16 bs p =
-    found_in (λ k. point_utf16_passed p k Left) (λ k. point_utf16_passed p k Right) (λ k. k.row == p.row && k.column_utf16 == p.column) (record { stays = record { stays = λ a b e l. point_utf16_stays p a b Right e l }; is = λ k. pair_is p.row p.column k.row k.column_utf16 }) bs
+    found_in (λ k. passes_point_utf16 p k Left) (λ k. passes_point_utf16 p k Right) (λ k. k.row == p.row && k.column_utf16 == p.column) (record { stays = record { stays = λ a b e l. point_utf16_stays p a b Right e l }; is = λ k. pair_is p.row p.column k.row k.column_utf16 }) bs

@@ -15,7 +15,7 @@ use Rattle.text_dims.specs.Places.{end_place, places, place_after, walk, last_pl
 use Rattle.text_dims.proofs.Walks.{places-walk, end_place-append}
 use Rattle.rope_chunks.specs.declared.look.Stop.{Stop}
 use Rattle.rope_chunks.specs.Stops.{stop, stop_place}
-use Rattle.rope_chunks.specs.Targets.{point_passed, point_stays}
+use Rattle.rope_chunks.specs.Targets.{passes_point, point_stays}
 use Rattle.rope_chunks.proofs.Stops.{after-later, Begins, Begins-utf8, lead, walk_end, walk_end-is}
 use Rattle.rope_chunks.proofs.Clipping.{Upto, clip-walk, either}
 
@@ -43,20 +43,20 @@ rows_begin xs (b ∷ bs) u =
 -- where a walk begins with the row.
 pub record Agrees (p : Point) (answer : Stop → Place) (clip : Place → List Place → Place) : Type 0 where
   pub none : (e : Place) → answer (record { before = e; here = None }) ≡ clip e []
-  pub row : (e d a : Place) (bs : List ℕ) → a.row ≡ p.row → a.column ≡ 0 → Begins bs → answer (stop (λ k. point_passed p k Left) d (walk a bs)) ≡ clip e (filter (λ k. k.row == p.row) (walk a bs))
+  pub row : (e d a : Place) (bs : List ℕ) → a.row ≡ p.row → a.column ≡ 0 → Begins bs → answer (stop (λ k. passes_point p k Left) d (walk a bs)) ≡ clip e (filter (λ k. k.row == p.row) (walk a bs))
 
-not_passed : (p : Point) (a : Place) → a.row < p.row → point_passed p a Left ≡ false
+not_passed : (p : Point) (a : Place) → a.row < p.row → passes_point p a Left ≡ false
 not_passed p a l = grind (arith, nat_tests)
 
 skip : (p : Point) (answer : Stop → Place) (clip : Place → List Place → Place) (e d a : Place) (us : List Place) (t : Bool) → a.row < p.row →
-    ((x : Place) → answer (stop (λ k. point_passed p k Left) x us) ≡ clip e (filter (λ k. k.row == p.row) us)) →
-    answer (stop (λ k. point_passed p k Left) d (cond t (a ∷ us) us)) ≡ clip e (filter (λ k. k.row == p.row) (cond t (a ∷ us) us))
+    ((x : Place) → answer (stop (λ k. passes_point p k Left) x us) ≡ clip e (filter (λ k. k.row == p.row) us)) →
+    answer (stop (λ k. passes_point p k Left) d (cond t (a ∷ us) us)) ≡ clip e (filter (λ k. k.row == p.row) (cond t (a ∷ us) us))
 skip p answer clip e d a us true l h = rw (not_passed p a l, ne_eqb a.row p.row (λ z. omega (arith, l, z))) (h a)
 skip p answer clip e d a us false l h = h d
 
 turn : (p : Point) (answer : Stop → Place) (clip : Place → List Place → Place) → Agrees p answer clip → (x a : Place) (b : ℕ) (bs : List ℕ) → RowsBegin (b ∷ bs) → a.row < p.row → (t : Bool) → is_newline b ≡ t →
-    ((place_after a b).row < p.row → answer (stop (λ k. point_passed p k Left) x (walk (place_after a b) bs)) ≡ clip (walk_end (place_after a b) bs) (filter (λ k. k.row == p.row) (walk (place_after a b) bs))) →
-    answer (stop (λ k. point_passed p k Left) x (walk (place_after a b) bs)) ≡ clip (walk_end (place_after a b) bs) (filter (λ k. k.row == p.row) (walk (place_after a b) bs))
+    ((place_after a b).row < p.row → answer (stop (λ k. passes_point p k Left) x (walk (place_after a b) bs)) ≡ clip (walk_end (place_after a b) bs) (filter (λ k. k.row == p.row) (walk (place_after a b) bs))) →
+    answer (stop (λ k. passes_point p k Left) x (walk (place_after a b) bs)) ≡ clip (walk_end (place_after a b) bs) (filter (λ k. k.row == p.row) (walk (place_after a b) bs))
 turn p answer clip g x a b bs h l true e k =
     ⊎_elim
     (λ (before : a.row + 1 < p.row). k (rw e before))
@@ -65,7 +65,7 @@ turn p answer clip g x a b bs h l true e k =
 turn p answer clip g x a b bs h l false e k = k (rw e l)
 
 reach : (p : Point) (answer : Stop → Place) (clip : Place → List Place → Place) → Agrees p answer clip → (d a : Place) (bs : List ℕ) → RowsBegin bs → a.row < p.row →
-    answer (stop (λ k. point_passed p k Left) d (walk a bs)) ≡ clip (walk_end a bs) (filter (λ k. k.row == p.row) (walk a bs))
+    answer (stop (λ k. passes_point p k Left) d (walk a bs)) ≡ clip (walk_end a bs) (filter (λ k. k.row == p.row) (walk a bs))
 unfolding walk_end
 reach p answer clip g d a [] h l = rw (not_passed p a l, ne_eqb a.row p.row (λ z. omega (arith, l, z))) (g.none a)
 reach p answer clip g d a (b ∷ bs) h l =
@@ -78,7 +78,7 @@ begin = (refl, refl)
 
 -- so they agree at any text
 pub agree : (p : Point) (answer : Stop → Place) (clip : Place → List Place → Place) → Agrees p answer clip → (bs : List ℕ) → IsUtf8 bs →
-    answer (stop (λ k. point_passed p k Left) (end_place []) (places bs)) ≡ clip (end_place bs) (filter (λ k. k.row == p.row) (places bs))
+    answer (stop (λ k. passes_point p k Left) (end_place []) (places bs)) ≡ clip (end_place bs) (filter (λ k. k.row == p.row) (places bs))
 agree p answer clip g bs u =
     let end : walk_end (end_place []) bs ≡ end_place bs = walk_end-is (end_place []) bs ∙ sym (end_place-append [] bs) in
     rw (places-walk bs)
@@ -105,21 +105,21 @@ no_more r a [] l = rw (ne_eqb a.row r (λ z. omega (arith, l, z))) refl
 no_more r a (b ∷ bs) l =
     row_step r a (walk (place_after a b) bs) (begins_char b) l (no_more r (place_after a b) bs (omega (arith, l, (after-later a b).point.0)))
 
-past_is : (p : Point) (a : Place) → p.row < a.row → point_passed p a Left ≡ true
+past_is : (p : Point) (a : Place) → p.row < a.row → passes_point p a Left ≡ true
 past_is p a l = grind (arith, nat_tests)
 
-in_row_is : (p : Point) (a : Place) → a.row ≡ p.row → point_passed p a Left ≡ nat_le p.column a.column
+in_row_is : (p : Point) (a : Place) → a.row ≡ p.row → passes_point p a Left ≡ nat_le p.column a.column
 in_row_is p a e = grind (arith, nat_tests)
 
 on_at : (p : Point) (d a : Place) (us : List Place) (t : Bool) → nat_le p.column a.column ≡ t → a.row ≡ p.row →
-    in_row p.row (stop (λ k. point_passed p k Left) a us).here (stop (λ k. point_passed p k Left) a us).before ≡ on_clip p a (filter (λ k. k.row == p.row) us) →
-    in_row p.row (stop (λ k. point_passed p k Left) d (a ∷ us)).here (stop (λ k. point_passed p k Left) d (a ∷ us)).before ≡ on_clip p d (filter (λ k. k.row == p.row) (a ∷ us))
+    in_row p.row (stop (λ k. passes_point p k Left) a us).here (stop (λ k. passes_point p k Left) a us).before ≡ on_clip p a (filter (λ k. k.row == p.row) us) →
+    in_row p.row (stop (λ k. passes_point p k Left) d (a ∷ us)).here (stop (λ k. passes_point p k Left) d (a ∷ us)).before ≡ on_clip p d (filter (λ k. k.row == p.row) (a ∷ us))
 on_at p d a us true f e h = rw (in_row_is p a e, eq-eqb a.row p.row e, f, eq-eqb a.row p.row e) refl
 on_at p d a us false f e h = rw (in_row_is p a e, eq-eqb a.row p.row e, f) h
 
 on_here : (p : Point) (d a : Place) (us : List Place) → p.row ≤ a.row → (p.row < a.row → filter (λ k. k.row == p.row) us ≡ []) →
-    in_row p.row (stop (λ k. point_passed p k Left) a us).here (stop (λ k. point_passed p k Left) a us).before ≡ on_clip p a (filter (λ k. k.row == p.row) us) →
-    in_row p.row (stop (λ k. point_passed p k Left) d (a ∷ us)).here (stop (λ k. point_passed p k Left) d (a ∷ us)).before ≡ on_clip p d (filter (λ k. k.row == p.row) (a ∷ us))
+    in_row p.row (stop (λ k. passes_point p k Left) a us).here (stop (λ k. passes_point p k Left) a us).before ≡ on_clip p a (filter (λ k. k.row == p.row) us) →
+    in_row p.row (stop (λ k. passes_point p k Left) d (a ∷ us)).here (stop (λ k. passes_point p k Left) d (a ∷ us)).before ≡ on_clip p d (filter (λ k. k.row == p.row) (a ∷ us))
 on_here p d a us l n h =
     ⊎_elim
     (λ (past : p.row < a.row). rw (past_is p a past, ne_eqb a.row p.row (λ z. omega (arith, past, z)), n past) refl)
@@ -127,14 +127,14 @@ on_here p d a us l n h =
     (cases_lt p.row a.row)
 
 on_step : (p : Point) (d a : Place) (us : List Place) (t : Bool) →
-    in_row p.row (stop (λ k. point_passed p k Left) d (a ∷ us)).here (stop (λ k. point_passed p k Left) d (a ∷ us)).before ≡ on_clip p d (filter (λ k. k.row == p.row) (a ∷ us)) →
-    in_row p.row (stop (λ k. point_passed p k Left) d us).here (stop (λ k. point_passed p k Left) d us).before ≡ on_clip p d (filter (λ k. k.row == p.row) us) →
-    in_row p.row (stop (λ k. point_passed p k Left) d (cond t (a ∷ us) us)).here (stop (λ k. point_passed p k Left) d (cond t (a ∷ us) us)).before ≡ on_clip p d (filter (λ k. k.row == p.row) (cond t (a ∷ us) us))
+    in_row p.row (stop (λ k. passes_point p k Left) d (a ∷ us)).here (stop (λ k. passes_point p k Left) d (a ∷ us)).before ≡ on_clip p d (filter (λ k. k.row == p.row) (a ∷ us)) →
+    in_row p.row (stop (λ k. passes_point p k Left) d us).here (stop (λ k. passes_point p k Left) d us).before ≡ on_clip p d (filter (λ k. k.row == p.row) us) →
+    in_row p.row (stop (λ k. passes_point p k Left) d (cond t (a ∷ us) us)).here (stop (λ k. passes_point p k Left) d (cond t (a ∷ us) us)).before ≡ on_clip p d (filter (λ k. k.row == p.row) (cond t (a ∷ us) us))
 on_step p d a us true h k = h
 on_step p d a us false h k = k
 
 on-walk : (p : Point) (d a : Place) (bs : List ℕ) → p.row ≤ a.row →
-    in_row p.row (stop (λ k. point_passed p k Left) d (walk a bs)).here (stop (λ k. point_passed p k Left) d (walk a bs)).before ≡ on_clip p d (filter (λ k. k.row == p.row) (walk a bs))
+    in_row p.row (stop (λ k. passes_point p k Left) d (walk a bs)).here (stop (λ k. passes_point p k Left) d (walk a bs)).before ≡ on_clip p d (filter (λ k. k.row == p.row) (walk a bs))
 on-walk p d a [] l = on_here p d a [] l (λ m. refl) refl
 on-walk p d a (b ∷ bs) l =
     let later = after-later a b in
@@ -154,7 +154,7 @@ on_agrees p = record {
   row = λ e d a bs r c h. on-walk p d a bs (omega (arith, r)) ∙ on_either p d e a bs h r;
 }
 
-pub point_on : (bs : List ℕ) (p : Point) (s : Stop) → IsUtf8 bs → s ≡ stop (λ k. point_passed p k Left) (end_place []) (places bs) → in_row p.row s.here s.before ≡ point_clipped_on bs p
+pub point_on : (bs : List ℕ) (p : Point) (s : Stop) → IsUtf8 bs → s ≡ stop (λ k. passes_point p k Left) (end_place []) (places bs) → in_row p.row s.here s.before ≡ point_clipped_on bs p
 point_on bs p s u e = rw e (agree p (λ x. in_row p.row x.here x.before) (on_clip p) (on_agrees p) bs u)
 
 -- what is clipped back
@@ -169,10 +169,10 @@ both : (f g : Place → Bool) (ks : List Place) → filter f (filter g ks) ≡ f
 both f g [] = refl
 both f g (k ∷ ks) = both_step f g k ks (g k) refl (both f g ks)
 
-right_left : (p : Point) (k : Place) → point_passed p k Right ≡ true → point_passed p k Left ≡ true
+right_left : (p : Point) (k : Place) → passes_point p k Right ≡ true → passes_point p k Left ≡ true
 right_left p k h = grind (arith, nat_tests)
 
-upto_is : (p : Point) (k : Place) → p.row ≤ k.row → (k.row == p.row && nat_le k.column p.column) ≡ not (point_passed p k Right)
+upto_is : (p : Point) (k : Place) → p.row ≤ k.row → (k.row == p.row && nat_le k.column p.column) ≡ not (passes_point p k Right)
 upto_is p k l = grind (arith, nat_tests)
 
 alone_by : (r c s d t e : ℕ) → (nat_lt r s || (r == s && nat_le c d)) ≡ true → (nat_lt r s || (r == s && nat_lt c d)) ≡ false → (t ≡ s + 1) ⊎ ((t ≡ s) × (e ≡ d + 1)) → (nat_lt r t || (r == t && nat_lt c e)) ≡ true
@@ -182,7 +182,7 @@ after_point : (a : Place) (b : ℕ) (t : Bool) → is_newline b ≡ t → ((plac
 after_point a b true e = inl (rw e refl)
 after_point a b false e = inr (rw e refl, rw e refl)
 
-point_upto : (p : Point) → Upto (λ k. point_passed p k Left) (λ k. point_passed p k Right) (λ k. k.row == p.row && nat_le k.column p.column) p.row
+point_upto : (p : Point) → Upto (λ k. passes_point p k Left) (λ k. passes_point p k Right) (λ k. k.row == p.row && nat_le k.column p.column) p.row
 point_upto p = record {
   stays = record { stays = λ a b e l. point_stays p a b Right e l };
   past = λ k h. right_left p k h;
@@ -193,15 +193,15 @@ point_upto p = record {
 at_begin : (p : Point) (a : Place) → a.row ≡ p.row → a.column ≡ 0 → (a.row == p.row && nat_le a.column p.column) ≡ true
 at_begin p a r c = grind (arith, nat_tests)
 
-back_agrees : (p : Point) → Agrees p (λ s. stop_place (λ k. point_passed p k Right) s) (back_clip p)
+back_agrees : (p : Point) → Agrees p (λ s. stop_place (λ k. passes_point p k Right) s) (back_clip p)
 back_agrees p = record {
   none = λ e. refl;
   row = λ e d a bs r c h.
       let q : Place → Bool = λ k. k.row == p.row && nat_le k.column p.column in
-      sym (clip-walk (λ k. point_passed p k Left) (λ k. point_passed p k Right) q p.row (point_upto p) d a bs (omega (arith, r)))
+      sym (clip-walk (λ k. passes_point p k Left) (λ k. passes_point p k Right) q p.row (point_upto p) d a bs (omega (arith, r)))
       ∙ either q d e a bs h (at_begin p a r c)
       ∙ ap (last_place e) (sym (both (λ k. nat_le k.column p.column) (λ k. k.row == p.row) (walk a bs)));
 }
 
-pub point_back : (bs : List ℕ) (p : Point) → IsUtf8 bs → stop_place (λ k. point_passed p k Right) (stop (λ k. point_passed p k Left) (end_place []) (places bs)) ≡ point_clipped_back bs p
-point_back bs p u = agree p (λ s. stop_place (λ k. point_passed p k Right) s) (back_clip p) (back_agrees p) bs u
+pub point_back : (bs : List ℕ) (p : Point) → IsUtf8 bs → stop_place (λ k. passes_point p k Right) (stop (λ k. passes_point p k Left) (end_place []) (places bs)) ≡ point_clipped_back bs p
+point_back bs p u = agree p (λ s. stop_place (λ k. passes_point p k Right) s) (back_clip p) (back_agrees p) bs u

@@ -16,7 +16,8 @@ use Rattle.std.proofs.lemmas.List.Elements.{All-drop}
 use Rattle.std.proofs.lemmas.Str.{IsCharBoundary-from_drop, IsUtf8-append, IsUtf8-drop}
 use Rattle.rope_chunks.specs.Chunks.{IsChunk}
 use Rattle.rope_chunks.specs.Spots.{IsSpot}
-use Rattle.rope_chunks.proofs.Texts.{concat-append, concat-push, concat-utf8, fold_is}
+use Rattle.std.proofs.lemmas.List.Folds.{concat-append}
+use Rattle.rope_chunks.proofs.Texts.{concat-push, concat-utf8, fold_is}
 use Rattle.rope_chunks.proofs.Grows.{get_drop, chunk_at}
 
 -- what a summary says of the length

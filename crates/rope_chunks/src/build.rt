@@ -8,13 +8,14 @@ ghost use Rattle.rope_chunks.specs.Chunks.{IsChunk, AreChunks};
 
 use crate::OutOfMemory;
 use crate::chunk::{CHUNK_BYTES, Chunk, LEAST_BYTES};
-use crate::pieces::{BLOCK, cut_block, cut_up, filled};
+use crate::pieces::{BLOCK, cut_block, cut_up, fill};
 use crate::rope::Rope;
 use std::alloc::Global;
 use sum_tree::SumTree;
 
 impl Rope {
-    /// The rope of a text, in full chunks.
+    /// The rope of a text, in full chunks. The text has at most 2^40 bytes. The time grows with its length alone;
+    /// `OutOfMemory` is the one error.
     pub fn from_str(alloc: Global, text: &str) -> Result<Rope, OutOfMemory>
         requires { length text.now ≤ 2 ^ 40 }
         ensures { IfOk result (λ rope. rope ≡ text.now) }
@@ -27,13 +28,15 @@ impl Rope {
         Ok(Rope { chunks })
     }
 
-    /// Puts a text behind. The last chunk is filled before a new one is begun. On want of memory the rope is as before.
+    /// Puts a text behind. The rope's bytes and the text's are at most 2^40 together. The last chunk is filled before a new one
+    /// is begun. It is one walk down the end of the tree for a short text, and the time grows with the length of a long one. On
+    /// want of memory, which is the one error, the rope is as before.
     pub fn push_str(&mut self, alloc: Global, text: &str) -> Result<(), OutOfMemory>
         requires { length self.old + length text.now ≤ 2 ^ 40 }
         ensures ok { OnOk result (self.new ≡ self.old ++ text.now) }
         ensures err { OnErr result (self.new ≡ self.old) }
     {
-        let (kept, chunks) = grown(alloc, &self.chunks, text)?;
+        let (kept, chunks) = growth(alloc, &self.chunks, text)?;
         let len = self.chunks.len();
         put(&mut self.chunks, alloc, kept, len, chunks)?;
         Ok(())
@@ -41,19 +44,20 @@ impl Rope {
 }
 
 impl Rope {
-    /// Puts another rope's text behind, and shares its chunks. The last chunk and the other's first are made one where
-    /// they fit. On want of memory the rope is as before.
+    /// Puts another rope's text behind, and shares its chunks. Both have at most 2^40 bytes together. The last chunk and the
+    /// other's first are made one where they fit. Nodes are made where the two trees meet, a few for each level, however long
+    /// the texts are. On want of memory, which is the one error, the rope is as before, and `other` is let go.
     pub fn append(&mut self, alloc: Global, other: Rope) -> Result<(), OutOfMemory>
         requires { length self.old + length other ≤ 2 ^ 40 }
         ensures ok { OnOk result (self.new ≡ self.old ++ other) }
         ensures err { OnErr result (self.new ≡ self.old) }
     {
-        let chunks = chained(alloc, &self.chunks, &other.chunks)?;
+        let chunks = chain(alloc, &self.chunks, &other.chunks)?;
         self.chunks = chunks;
         Ok(())
     }
 
-    /// The text, copied.
+    /// The text, copied. `OutOfMemory` is the one error.
     pub fn to_string(&self, alloc: Global) -> Result<String, OutOfMemory>
         ensures { IfOk result (λ text. string_bytes text ≡ self.now) }
     {
@@ -88,7 +92,7 @@ fn push_block<'a>(
 }
 
 // The chunks of two texts, one after the other. The chunks at the seam are made one where they fit.
-fn chained(
+fn chain(
     alloc: Global,
     front: &SumTree<Chunk>,
     back: &SumTree<Chunk>,
@@ -102,7 +106,7 @@ fn chained(
 {
     if let (Some(last), Some(first)) = (front.last(), back.first()) {
         if last.as_str().len() + first.as_str().len() <= CHUNK_BYTES {
-            return joined(alloc, front, back, last, first);
+            return fuse(alloc, front, back, last, first);
         }
     }
     let mut whole = front.share()?;
@@ -111,7 +115,7 @@ fn chained(
 }
 
 // The same, where the chunks at the seam fit one.
-fn joined(
+fn fuse(
     alloc: Global,
     front: &SumTree<Chunk>,
     back: &SumTree<Chunk>,
@@ -129,7 +133,7 @@ fn joined(
     ensures each { IfOk result (λ tree. All IsChunk tree.items) }
 {
     let mut whole = with_seam(alloc, front, last, first)?;
-    join(&mut whole, alloc, back.dropped(alloc, 1)?)?;
+    join(&mut whole, alloc, back.drop_front(alloc, 1)?)?;
     Ok(whole)
 }
 
@@ -149,7 +153,7 @@ fn with_seam(
     ensures each { IfOk result (λ tree. All IsChunk tree.items) }
 {
     let mut seam = Vec::new(alloc);
-    seam.push(Chunk::joined(last.as_str(), next.as_str()))?;
+    seam.push(Chunk::join(last.as_str(), next.as_str()))?;
     let len = front.len();
     let mut whole = front.share()?;
     put(&mut whole, alloc, len - 1, len, seam)?;
@@ -191,7 +195,11 @@ pub(crate) fn put(
 }
 
 // How many chunks stay where a text is put behind, and those that follow them then.
-fn grown(alloc: Global, tree: &SumTree<Chunk>, text: &str) -> Result<(u64, Vec<Chunk>), OutOfMemory>
+fn growth(
+    alloc: Global,
+    tree: &SumTree<Chunk>,
+    text: &str,
+) -> Result<(u64, Vec<Chunk>), OutOfMemory>
     requires { All IsChunk tree.now.items }
     ensures within { IfOk result (λ r. r.0 ≤ length tree.now.items) }
     ensures text { IfOk result (λ r. concat (take r.0 tree.now.items) ++ concat r.1.items
@@ -205,7 +213,7 @@ fn grown(alloc: Global, tree: &SumTree<Chunk>, text: &str) -> Result<(u64, Vec<C
             Ok((0, chunks))
         }
         Some(last) => {
-            let chunks = filled(alloc, last.as_str(), text)?;
+            let chunks = fill(alloc, last.as_str(), text)?;
             Ok((tree.len() - 1, chunks))
         }
     }

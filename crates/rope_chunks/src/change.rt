@@ -74,8 +74,8 @@ pub(crate) fn one_chunk(
         ≡ (front.now ++ middle.now) ++ back.now) }
     ensures each { IfOk result (λ chunks. All IsChunk chunks.items) }
 {
-    let front = Chunk::joined(front, middle);
-    let chunk = Chunk::joined(front.as_str(), back);
+    let front = Chunk::join(front, middle);
+    let chunk = Chunk::join(front.as_str(), back);
     let mut chunks = Vec::with_capacity(alloc, 1)?;
     if chunk.as_str().is_empty() {
         return Ok(chunks);

@@ -41,7 +41,7 @@ impl Chunk {
     }
 
     /// The chunk of two texts, one after the other.
-    pub fn joined(first: &str, second: &str) -> Chunk
+    pub fn join(first: &str, second: &str) -> Chunk
         requires { length first.now + length second.now ≤ 128 }
         ensures { result ≡ first.now ++ second.now }
     {

@@ -25,7 +25,7 @@ fn up_to(alloc: Global, tree: &SumTree<Chunk>, end: u64) -> Result<SumTree<Chunk
     }
     let spot = spot_of(tree, end);
     let (piece, _) = spot.chunk.as_str().split_at(spot.place as usize);
-    let mut front = tree.taken(alloc, spot.index + 1)?;
+    let mut front = tree.take_front(alloc, spot.index + 1)?;
     let change = change_to(alloc, &front, spot.index, spot.index + 1, piece)?;
     make(&mut front, alloc, change)?;
     Ok(front)
@@ -43,7 +43,7 @@ fn from_on(alloc: Global, tree: &SumTree<Chunk>, start: u64) -> Result<SumTree<C
     }
     let spot = spot_of(tree, start);
     let (_, piece) = spot.chunk.as_str().split_at(spot.place as usize);
-    let mut back = tree.dropped(alloc, spot.index)?;
+    let mut back = tree.drop_front(alloc, spot.index)?;
     let change = change_to(alloc, &back, 0, 1, piece)?;
     make(&mut back, alloc, change)?;
     Ok(back)
@@ -89,6 +89,7 @@ impl Rope {
     ///
     /// Chunks that lie within the part are shared in whole subtrees. With h the height of the tree, about 2 h nodes are
     /// made for each end, and the chunks that the ends cut are copied in part; the length does not matter.
+    /// The rope stays as it is, and `OutOfMemory` is the one error.
     pub fn slice(&self, alloc: Global, start: u64, end: u64) -> Result<Rope, OutOfMemory>
         requires start { IsCharBoundary self.now start }
         requires end { IsCharBoundary self.now end }

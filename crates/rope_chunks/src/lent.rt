@@ -1,14 +1,12 @@
 //! A rope's chunks, lent one by one.
-ghost use Rattle.std.specs.Prelude.{◌≡◌, ◌+◌, ◌<◌, ◌++◌, List, ℕ, length, take, drop, slice_index_or};
+ghost use Rattle.std.specs.Prelude.{◌≡◌, ◌+◌, ◌<◌, ◌++◌, length, drop};
 ghost use Rattle.std.specs.Iterator.{YieldsFirstRef, item_count};
 ghost use Rattle.std.specs.List.{concat};
-ghost use Rattle.sum_tree.specs.Seen.{Seen};
-ghost use Rattle.sum_tree.specs.Shape.{join_items};
 
 use crate::chunk::Chunk;
 use crate::rope::Rope;
 use std::marker::Model;
-use sum_tree::{Entry, Parts, SumTree};
+use sum_tree::{Entry, Parts, SumTree, child_at};
 
 /// The texts of a rope's chunks, from the first to the last: one after the other they are the rope's text.
 ///
@@ -57,25 +55,6 @@ impl<'a> Iterator for Chunks<'a> {
     }
 }
 
-// The child that holds chunk i of them all, and the chunk's index there.
-fn child_with(children: &[SumTree<Chunk>], i: u64) -> (usize, u64)
-    requires { i < length (join_items children.now) }
-    ensures child { result.0 < length children.now }
-    ensures within { (d : Seen (List ℕ)) → result.1
-        < length (slice_index_or children.now result.0 d).items }
-    ensures before { length (join_items (take result.0 children.now)) + result.1 ≡ i }
-{
-    let mut rest = i;
-    for (k, child) in children.iter().enumerate() {
-        let len = child.len();
-        if rest < len {
-            return (k, rest);
-        }
-        rest -= len;
-    }
-    unreachable!()
-}
-
 // What is left of a leaf from chunk `index` on.
 fn leaf_from(tree: &SumTree<Chunk>, index: u64) -> &[Entry<Chunk>]
     requires { index < length tree.now.items }
@@ -89,7 +68,7 @@ fn leaf_from(tree: &SumTree<Chunk>, index: u64) -> &[Entry<Chunk>]
         match node.parts() {
             Parts::Leaf(entries) => return &entries[rest as usize..],
             Parts::Inner(children) => {
-                let (k, i) = child_with(children, rest);
+                let (k, i) = child_at(children, rest);
                 node = &children[k];
                 rest = i;
             }

@@ -68,7 +68,7 @@ fn first_piece(text: &str) -> (&str, &str)
 }
 
 /// The chunks of two texts, one after the other, the first of which fits a chunk: it is filled from the second.
-pub(crate) fn filled(alloc: Global, front: &str, text: &str) -> Result<Vec<Chunk>, OutOfMemory>
+pub(crate) fn fill(alloc: Global, front: &str, text: &str) -> Result<Vec<Chunk>, OutOfMemory>
     requires some { 0 < length front.now }
     requires few { length front.now ≤ 128 }
     ensures text { IfOk result (λ chunks. concat chunks.items ≡ front.now ++ text.now) }
@@ -76,7 +76,7 @@ pub(crate) fn filled(alloc: Global, front: &str, text: &str) -> Result<Vec<Chunk
 {
     let (piece, rest) = text.split_at(text.floor_char_boundary(CHUNK_BYTES - front.len()));
     let mut chunks = Vec::new(alloc);
-    chunks.push(Chunk::joined(front, piece))?;
+    chunks.push(Chunk::join(front, piece))?;
     cut_up(&mut chunks, rest)?;
     Ok(chunks)
 }

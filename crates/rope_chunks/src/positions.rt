@@ -11,7 +11,8 @@ use crate::targets::{ByOffset, ByPoint, ByPointUtf16, ByUtf16};
 use text_dims::{OffsetUtf16, Place, Point, PointUtf16};
 
 impl Rope {
-    /// The point of a byte offset, or None if that is past the text's end or inside a character.
+    /// The point of a byte offset, or None if that is past the text's end or inside a character. It is one
+    /// descent and one look inside a chunk, and takes no memory.
     pub fn offset_to_point(&self, offset: u64) -> Option<Point>
         ensures { result ≡ option_map point_of (place_at_offset self.now offset) }
     {
@@ -20,7 +21,7 @@ impl Rope {
     }
 
     /// The byte offset of a point, or None if there is no such row, or the column is past the row's end or inside a
-    /// character.
+    /// character. It is one descent and one look inside a chunk, and takes no memory.
     pub fn point_to_offset(&self, point: Point) -> Option<u64>
         ensures { result ≡ option_map offset_of (place_at_point self.now point) }
     {
@@ -28,7 +29,8 @@ impl Rope {
         Some(place.offset)
     }
 
-    /// The offset in UTF-16 units of a byte offset, or None if that is past the text's end or inside a character.
+    /// The offset in UTF-16 units of a byte offset, or None if that is past the text's end or inside a character. It is one
+    /// descent and one look inside a chunk, and takes no memory.
     pub fn offset_to_utf16(&self, offset: u64) -> Option<OffsetUtf16>
         ensures { result ≡ option_map offset_utf16_of (place_at_offset self.now offset) }
     {
@@ -36,7 +38,8 @@ impl Rope {
         Some(place.offset_utf16())
     }
 
-    /// The byte offset of an offset in UTF-16 units, or None if that is past the text's end or inside a character.
+    /// The byte offset of an offset in UTF-16 units, or None if that is past the text's end or inside a character. It is one
+    /// descent and one look inside a chunk, and takes no memory.
     pub fn utf16_to_offset(&self, offset: OffsetUtf16) -> Option<u64>
         ensures { result ≡ option_map offset_of (place_at_utf16 self.now offset) }
     {
@@ -45,7 +48,7 @@ impl Rope {
     }
 
     /// A point with its column in UTF-16 units, or None if there is no such row, or the column is past the row's end or
-    /// inside a character.
+    /// inside a character. It is one descent and one look inside a chunk, and takes no memory.
     pub fn point_to_utf16(&self, point: Point) -> Option<PointUtf16>
         ensures { result ≡ option_map point_utf16_of (place_at_point self.now point) }
     {
@@ -54,7 +57,7 @@ impl Rope {
     }
 
     /// A point in UTF-16 units with its column in bytes, or None if there is no such row, or the column is past the
-    /// row's end or inside a character.
+    /// row's end or inside a character. It is one descent and one look inside a chunk, and takes no memory.
     pub fn utf16_to_point(&self, point: PointUtf16) -> Option<Point>
         ensures { result ≡ option_map point_of (place_at_point_utf16 self.now point) }
     {

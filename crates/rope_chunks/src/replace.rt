@@ -37,7 +37,7 @@ fn spot_behind<'a>(tree: &'a SumTree<Chunk>, first: &Spot<'a>, start: u64, bytes
 }
 
 // Three texts, one after the other.
-fn joined(alloc: Global, front: &str, middle: &str, back: &str) -> Result<String, OutOfMemory>
+fn join_texts(alloc: Global, front: &str, middle: &str, back: &str) -> Result<String, OutOfMemory>
     ensures { IfOk result (λ text. string_bytes text ≡ (front.now ++ middle.now) ++ back.now) }
 {
     let bytes = front
@@ -81,7 +81,7 @@ fn change_of(
             chunks,
         });
     }
-    let whole = joined(alloc, front, text, back)?;
+    let whole = join_texts(alloc, front, text, back)?;
     Ok(change_to(alloc, tree, first.index, last.index + 1, whole.as_str())?)
 }
 

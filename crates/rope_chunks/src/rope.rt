@@ -17,7 +17,28 @@ use tree_cursor::{Bias, Plain, Target, look_up};
 
 /// A text as a tree of chunks of at most 128 bytes.
 ///
-/// Contracts see a rope as its text, the list of its bytes in UTF-8. Its length is at most 2^40.
+/// Contracts see a rope as its text, the list of its bytes in UTF-8. Its length is at most 2^40. Offsets, rows and columns count
+/// from 0. Running out of memory is the one error; a rope that is changed is then as before.
+///
+/// # Examples
+///
+/// ```text
+/// let mut rope = Rope::from_str(alloc, "one\ntwo")?;
+/// let old = rope.share()?;
+/// rope.replace(alloc, 0, 3, "three")?;
+/// let word = rope.text_of(alloc, 6, 9)?;
+/// let place = rope.offset_to_point(7);
+/// let len = old.row_len(0);
+/// ```
+///
+/// Now `rope` is `three`, an LF and `two`, and `old` as it was; `word` is `two`, `place` is row 1 with column 1, and `len` is 3. Each
+/// call is used in the files of `crates/rope_tests/src`:
+///
+/// - `new`, `from_str`: `parts.rt`, in `rope_of`; `push_str`, `append`: `parts.rt`, in `grow`; `share`: `ropes.rt`, in `shared_len`
+/// - `to_string`, `len`: `parts.rt`, in `has`; `summary`: `ropes.rt`, in `counts`; `chunks`: `parts.rt`, in `count`
+/// - `is_char_boundary`, `slice`, `text_of`: `parts.rt`, in `cuts_alike`; `replace`: `parts.rt`, in `replace`
+/// - conversions: `ropes.rt`, in `names_offsets`, `names_units` and `names_points`, and those of long texts in `positions.rt`
+/// - `clip_offset`: `ropes.rt`, in `clips_offsets`; `clip_point`: `positions.rt`, in `clips`; `row_len`: `positions.rt`, in `rows`
 #[derive(Drop)]
 pub struct Rope {
     pub(crate) chunks: SumTree<Chunk>,
@@ -37,7 +58,7 @@ impl Model for Rope {
 }
 
 impl Rope {
-    /// The empty rope.
+    /// The empty rope: one node. `OutOfMemory` is the one error.
     pub fn new(alloc: Global) -> Result<Rope, OutOfMemory>
         ensures { IfOk result (λ rope. rope ≡ []) }
     {
@@ -45,7 +66,8 @@ impl Rope {
         Ok(Rope { chunks })
     }
 
-    /// A rope of the same text, which shares all its chunks.
+    /// A rope of the same text, which shares all its chunks. Nothing is copied; `OutOfMemory`, the one error, is that the count
+    /// of owners is refused.
     pub fn share(&self) -> Result<Rope, OutOfMemory>
         ensures { IfOk result (λ rope. rope ≡ self.now) }
     {

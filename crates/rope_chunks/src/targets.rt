@@ -1,6 +1,6 @@
 //! What a rope's look-ups look for.
 ghost use Rattle.std.specs.Prelude.{◌≡◌};
-ghost use Rattle.rope_chunks.specs.Targets.{pair_passed, offset_passed, utf16_passed, point_passed, point_utf16_passed, row_passed, offset_stays, utf16_stays, point_stays, point_utf16_stays, row_stays};
+ghost use Rattle.rope_chunks.specs.Targets.{passes_pair, passes_offset, passes_utf16, passes_point, passes_point_utf16, passes_row, offset_stays, utf16_stays, point_stays, point_utf16_stays, row_stays};
 
 use crate::at::At;
 use text_dims::{OffsetUtf16, Point, PointUtf16};
@@ -11,7 +11,7 @@ use tree_cursor::{Bias, Plain, Target};
 pub(crate) struct ByOffset(pub(crate) u64);
 
 impl Target<At> for ByOffset {
-    ghost passes = { λ target place bias. offset_passed target.0 place bias };
+    ghost passes = { λ target place bias. passes_offset target.0 place bias };
 
     ghost stays = { λ target p q bias. offset_stays target.0 p q bias };
 
@@ -28,7 +28,7 @@ impl Target<At> for ByOffset {
 pub(crate) struct ByUtf16(pub(crate) OffsetUtf16);
 
 impl Target<At> for ByUtf16 {
-    ghost passes = { λ target place bias. utf16_passed target.0 place bias };
+    ghost passes = { λ target place bias. passes_utf16 target.0 place bias };
 
     ghost stays = { λ target p q bias. utf16_stays target.0 p q bias };
 
@@ -45,7 +45,7 @@ impl Target<At> for ByUtf16 {
 pub(crate) struct ByPoint(pub(crate) Point);
 
 impl Target<At> for ByPoint {
-    ghost passes = { λ target place bias. point_passed target.0 place bias };
+    ghost passes = { λ target place bias. passes_point target.0 place bias };
 
     ghost stays = { λ target p q bias. point_stays target.0 p q bias };
 
@@ -59,7 +59,7 @@ impl Target<At> for ByPoint {
 pub(crate) struct ByPointUtf16(pub(crate) PointUtf16);
 
 impl Target<At> for ByPointUtf16 {
-    ghost passes = { λ target place bias. point_utf16_passed target.0 place bias };
+    ghost passes = { λ target place bias. passes_point_utf16 target.0 place bias };
 
     ghost stays = { λ target p q bias. point_utf16_stays target.0 p q bias };
 
@@ -77,7 +77,7 @@ impl Target<At> for ByPointUtf16 {
 pub(crate) struct ByRow(pub(crate) u64);
 
 impl Target<At> for ByRow {
-    ghost passes = { λ target place bias. row_passed target.0 place };
+    ghost passes = { λ target place bias. passes_row target.0 place };
 
     ghost stays = { λ target p q bias. row_stays target.0 p q };
 
@@ -88,7 +88,7 @@ impl Target<At> for ByRow {
 
 // Whether a row and a column are at or past those of a target (Left), or strictly past them (Right).
 fn is_passed(target: (u64, u64), at: (u64, u64), bias: Bias) -> bool
-    ensures { result ≡ pair_passed target.0 target.1 at.0 at.1 bias }
+    ensures { result ≡ passes_pair target.0 target.1 at.0 at.1 bias }
 {
     match bias {
         Bias::Left => target.0 < at.0 || (target.0 == at.0 && target.1 <= at.1),

@@ -2,15 +2,8 @@
 use Rattle.std.proofs.Common.{◌≡◌, ℕ, ◌+◌, ◌-◌, ◌<◌, ◌≤◌, List, [], ◌∷◌, ◌++◌, length, take, drop, sym, ap, subst, ◌∙◌, arith, ⊎_elim, length-drop}
 use Rattle.std.specs.List.{concat}
 use Rattle.std.proofs.lemmas.Bool.{cases_lt}
-use Rattle.std.proofs.lemmas.List.{drop-drop, take-append-le, length-take, length-take-le}
-use Rattle.std.proofs.lemmas.List.{append-nil}
-use Rattle.std.proofs.Math.Seq.{take-add, take-length, take-nil, drop-length, take-append_seam, drop-append_seam}
-
-pub take-whole : (xs : List ℕ) (n : ℕ) → length xs ≤ n → take n xs ≡ xs
-take-whole xs n h =
-    let more : n ≡ length xs + (n - length xs) = omega arith in
-    let past : take (n - length xs) (drop (length xs) xs) ≡ [] = ap (take (n - length xs)) (drop-length xs) ∙ take-nil (n - length xs) in
-    ap (λ k. take k xs) more ∙ (take-add (length xs) (n - length xs) xs ∙ ((λ i. take-length xs i ++ past i) ∙ append-nil xs))
+use Rattle.std.proofs.lemmas.List.{take_all, drop-drop, take-append-le, length-take, length-take-le}
+use Rattle.std.proofs.Math.Seq.{take-add, take-append_seam, drop-append_seam}
 
 -- what is taken of the front of a text, of a chunk at the most
 taken : (chunk rest : List ℕ) (left : ℕ) → take (length (take left chunk)) (chunk ++ rest) ≡ take left chunk
@@ -19,7 +12,7 @@ taken chunk rest left =
     let size = length-take-le left chunk (omega arith) in
     ap (λ n. take n (chunk ++ rest)) size ∙ take-append-le left chunk rest (omega arith))
     (λ (whole : length chunk ≤ left).
-    let all = take-whole chunk left whole in
+    let all = take_all left chunk whole in
     ap (λ l. take (length l) (chunk ++ rest)) all ∙ (take-append_seam chunk rest ∙ sym all))
     (cases_lt left (length chunk))
 
@@ -33,7 +26,7 @@ pub rest_more : (text chunk rest : List ℕ) (n left : ℕ) → drop n text ≡ 
 rest_more text chunk rest n left e less =
     ⊎_elim (λ (few : left < length chunk). let size = length-take-le left chunk (omega arith) in absurd (omega arith))
     (λ (whole : length chunk ≤ left).
-    let all = ap length (take-whole chunk left whole) in
+    let all = ap length (take_all left chunk whole) in
     sym (ap (λ k. drop (n + k) text) all ∙ (sym (drop-drop (length chunk) n text) ∙ (ap (drop (length chunk)) e ∙ drop-append_seam chunk rest))))
     (cases_lt left (length chunk))
 

@@ -2,12 +2,29 @@
 use Rattle.std.proofs.Common.{◌≡◌, ℕ, zero, suc, ◌+◌, ◌-◌, ◌<◌, ◌≤◌, true, false, List, [], ◌∷◌, ◌++◌, length, take, drop, slice_range, refl, sym, ap, ◌∙◌, arith, ⊎_elim, length-drop}
 use Rattle.std.specs.List.{filter, range_with_len}
 use Rattle.std.proofs.lemmas.Bool.{cases_Bool, cond-true, cond-false, cases_lt}
-use Rattle.std.proofs.lemmas.List.{append-nil, length-take}
+use Rattle.std.proofs.lemmas.List.{append-nil, length-take, length-take-le, get_or-take}
 use Rattle.std.proofs.lemmas.List.Elements.{filter-append}
 use Rattle.std.proofs.lemmas.Slice.Eq.{bytes_eq-Decides}
 use Rattle.memchr.specs.Find.{OccursAt, Nowhere}
 use Rattle.memchr.proofs.lemmas.MatchLemmas.{OccursAt-part, OccursAt-from_part}
 use Rattle.snapshot_search.specs.Starts.{stands_at, starts_between, starts}
+
+-- a match in a text is one in the front of it that it ends in
+pub in_front : (text needle : List ℕ) (k n : ℕ) → k + length needle ≤ n → n ≤ length text → OccursAt text needle k → OccursAt (take n text) needle k
+in_front text needle k n high le occurs = record {
+  fits = omega (arith, length-take-le n text le);
+  reads = λ j h. get_or-take n text (k + j) 0 (omega arith) ∙ occurs.reads j h;
+}
+
+-- a match in the front of a text is one in the text
+pub from_front : (text needle : List ℕ) (k n : ℕ) → n ≤ length text → OccursAt (take n text) needle k → OccursAt text needle k
+from_front text needle k n le occurs =
+    let size = length-take-le n text le in
+    let fits = occurs.fits in
+    record {
+      fits = omega arith;
+      reads = λ j h. sym (get_or-take n text (k + j) 0 (omega arith)) ∙ occurs.reads j h;
+    }
 
 range-append : (i m n : ℕ) → range_with_len i (m + n) ≡ range_with_len i m ++ range_with_len (i + m) n
 range-append i zero n =

@@ -2,13 +2,12 @@
 use Rattle.std.proofs.Common.{◌≡◌, ℕ, zero, suc, ◌+◌, ◌-◌, ◌<◌, ◌≤◌, true, false, List, [], ◌∷◌, length, take, drop, slice_range, refl, sym, ap, subst, ◌∙◌, arith, ⊎_elim, cond, length-drop}
 use Rattle.std.specs.List.{filter, range_with_len}
 use Rattle.std.proofs.lemmas.Bool.{cases_Bool, cases_lt, false≢true}
-use Rattle.std.proofs.lemmas.List.{get_or-take, get_or-drop, length-take-le}
+use Rattle.std.proofs.lemmas.List.{take_all, get_or-drop}
 use Rattle.memchr.specs.Find.{OccursAt}
 use Rattle.snapshot_search.specs.Starts.{stands_at, starts_between}
 use Rattle.snapshot_search.specs.declared.progress.Progress.{Progress}
 use Rattle.snapshot_search.specs.Progress.{Follows, Reads, place_of}
-use Rattle.snapshot_search.proofs.Places.{stands-true, true-stands, starts-none, starts-passed}
-use Rattle.snapshot_search.proofs.Chunks.{take-whole}
+use Rattle.snapshot_search.proofs.Places.{in_front, from_front, stands-true, true-stands, starts-none, starts-passed}
 
 module _ (text other needle : List ℕ) (some : 0 < length needle) where
   same_test : (i : ℕ) → (OccursAt text needle i → OccursAt other needle i) → (OccursAt other needle i → OccursAt text needle i) → stands_at text needle i ≡ stands_at other needle i
@@ -33,22 +32,6 @@ module _ (text other needle : List ℕ) (some : 0 < length needle) where
       → starts_between text needle i j ≡ starts_between other needle i j
   unfolding starts_between
   starts-same i j h = same_from i (j - i) (λ k low high. h k low (omega arith))
-
--- a match in the front of a text, and one in the text that ends in its front
-front_of : (text needle : List ℕ) (end k : ℕ) → end ≤ length text → OccursAt (take end text) needle k → OccursAt text needle k
-front_of text needle end k le h =
-    let size = length-take-le end text le in
-    let fits = h.fits in
-    record {
-      fits = omega arith;
-      reads = λ j low. sym (get_or-take end text (k + j) 0 (omega arith)) ∙ h.reads j low;
-    }
-
-to_front : (text needle : List ℕ) (end k : ℕ) → end ≤ length text → k + length needle ≤ end → OccursAt text needle k → OccursAt (take end text) needle k
-to_front text needle end k le high h = record {
-  fits = omega (arith, length-take-le end text le);
-  reads = λ j low. get_or-take end text (k + j) 0 (omega arith) ∙ h.reads j low;
-}
 
 -- a part of a text stands in its front where it stands in the text
 part_there : (text : List ℕ) (from end : ℕ) → from ≤ end → end ≤ length text → OccursAt (take end text) (slice_range text from end) from
@@ -91,9 +74,9 @@ found_between text needle piece from to end p q some order within inside short r
     sym (starts-passed front needle some from to q.start order past (λ t low high other. let fits = other.fits in absurd (omega arith))))
     (cases_lt q.start to) in
     ends.found ∙ (up_to ∙ starts-same front text needle some from to
-    (λ k low high. (front_of text needle end k inside, λ (h : OccursAt text needle k). to_front text needle end k inside (reaches k high h.fits) h)))
+    (λ k low high. (from_front text needle k end inside, λ (h : OccursAt text needle k). in_front text needle k end (reaches k high h.fits) inside h)))
 
 -- what is read of the text behind an offset
 pub piece_read : (text rest : List ℕ) (from end len : ℕ) → from ≤ end → end ≤ len → len ≡ length text → rest ≡ slice_range text from len → take (end - from) rest ≡ slice_range text from end
 piece_read text rest from end len a b e is =
-    ap (take (end - from)) (is ∙ take-whole (drop from text) (len - from) (omega (arith, length-drop from text)))
+    ap (take (end - from)) (is ∙ take_all (len - from) (drop from text) (omega (arith, length-drop from text)))

@@ -1,16 +1,15 @@
 -- What becomes of the places that were found as more of a text is read.
 use Rattle.std.proofs.Common.{◌≡◌, ℕ, ◌+◌, ◌-◌, ◌<◌, ◌≤◌, Result, Ok, Err, OnOk, List, [], ◌∷◌, ◌++◌, length, take, drop, slice_range, slice_index, sym, ap, subst, ◌∙◌, arith, length-append, append_assoc}
-use Rattle.std.proofs.lemmas.List.{append-nil, get_or_append_left, get_or-append-add, get_or-take, length-take-le, take-append-drop}
+use Rattle.std.proofs.lemmas.List.{append-nil, take_all, get_or_append_left, get_or-append-add, length-take-le, take-append-drop}
 use Rattle.std.proofs.Common.{length-drop}
 use Rattle.std.proofs.Math.Seq.{take-add}
-use Rattle.snapshot_search.proofs.Chunks.{take-whole}
 use Rattle.memchr.specs.Find.{OccursAt, Nowhere, NoneBefore}
 use Rattle.snapshot_search.specs.Starts.{starts_between}
 use Rattle.snapshot_search.specs.Shifts.{Agrees, IsFallback, Moves}
 use Rattle.snapshot_search.specs.declared.progress.Progress.{Progress}
 use Rattle.snapshot_search.specs.Progress.{Follows, Reads, Holds, Gathers, place_of}
 use Rattle.snapshot_search.proofs.Sliding.{Agrees-fewer, moved_on, none_passed}
-use Rattle.snapshot_search.proofs.Places.{starts-passed, starts-hit}
+use Rattle.snapshot_search.proofs.Places.{in_front, from_front, starts-passed, starts-hit}
 
 occurs_front : (text a b : List ℕ) (e : ℕ) → OccursAt text (a ++ b) e → OccursAt text a e
 occurs_front text a b e h =
@@ -141,22 +140,6 @@ of_piece text piece needle e k there occurs =
           ap (slice_index text) place ∙ (there.reads (k + j) (omega arith) ∙ occurs.reads j h);
     }
 
--- a match in a piece is one in the front of it that it ends
-in_front : (piece needle : List ℕ) (k n : ℕ) → k + length needle ≤ n → n ≤ length piece → OccursAt piece needle k → OccursAt (take n piece) needle k
-in_front piece needle k n high le occurs = record {
-  fits = omega (arith, length-take-le n piece le);
-  reads = λ j h. get_or-take n piece (k + j) 0 (omega arith) ∙ occurs.reads j h;
-}
-
-from_front : (piece needle : List ℕ) (k n : ℕ) → n ≤ length piece → OccursAt (take n piece) needle k → OccursAt piece needle k
-from_front piece needle k n le occurs =
-    let size = length-take-le n piece le in
-    let fits = occurs.fits in
-    record {
-      fits = omega arith;
-      reads = λ j h. sym (get_or-take n piece (k + j) 0 (omega arith)) ∙ occurs.reads j h;
-    }
-
 -- up to the end of the first match of a piece
 pub reads_jump : (needle piece : List ℕ) (k n : ℕ) (p q : Progress) → 0 < length needle → p.matched ≡ 0 → n ≡ k + length needle
     → NoneBefore (OccursAt piece needle) 0 (length piece + 1) k → OccursAt piece needle k
@@ -188,7 +171,7 @@ pub reads_rest : (needle piece : List ℕ) (passed : ℕ) (p r q : Progress) →
     → r.start ≡ p.start + passed → r.matched ≡ 0 → r.found.items ≡ p.found.items → Reads needle (slice_range piece passed (length piece)) r q → Reads needle piece p q
 reads_rest needle piece passed p r q some none_matched count nowhere start matched found reads =
     let size = length-drop passed piece in
-    let all : slice_range piece passed (length piece) ≡ drop passed piece = take-whole (drop passed piece) _ (omega arith) in
+    let all : slice_range piece passed (length piece) ≡ drop passed piece = take_all _ (drop passed piece) (omega arith) in
     let behind = subst (λ xs. Reads needle xs r q) all reads in
     let place = behind.place in
     record {

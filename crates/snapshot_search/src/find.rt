@@ -17,8 +17,8 @@ const MOST_PARTS: u32 = 16;
 /// All places of the rope's text, as byte offsets, at which the needle stands, ascending, where these overlap too: in
 /// `baaaa` the needle `aa` stands at 1, 2 and 3.
 ///
-/// `EmptyNeedle` is for the empty needle alone. The time grows with the length of the text and that of the needle, whatever
-/// they are; memory is taken for the places, and for one number for each byte of the needle.
+/// `EmptyNeedle` is for the empty needle alone; the one other error is `OutOfMemory`. The time grows with the length of the text
+/// and that of the needle, whatever they are; memory is taken for the places, and for one number for each byte of the needle.
 pub fn find_all(alloc: Global, rope: &Rope, needle: &str) -> Result<Vec<u64>, FindFault>
     ensures starts { IfOk result (λ found. found.items ≡ starts rope.now needle.now) }
     ensures empty { (result ≡ Err FindFault.EmptyNeedle) ↔ (length needle.now ≡ 0) }
@@ -33,7 +33,10 @@ pub fn find_all(alloc: Global, rope: &Rope, needle: &str) -> Result<Vec<u64>, Fi
 }
 
 /// The same places, found in so many parts of the text, which `rayon` shares out among threads: up to two for each processor.
-/// More than 16 parts are as 16.
+/// `parts` is above 0, and more than 16 are as 16.
+///
+/// The errors are those of `find_all`: `EmptyNeedle` for the empty needle alone, `OutOfMemory` else. Beside what `find_all` takes,
+/// memory is taken for the parts' ends, and for the places of each part until they are put together; the text is not copied.
 pub fn find_all_par<R: Threads + Sync>(
     rt: &R,
     alloc: Global,

@@ -2,7 +2,7 @@
 ghost use Rattle.std.specs.Prelude.{◌≡◌, ◌+◌, ◌-◌, ◌<◌, ◌≤◌, ℕ, Result, length, slice_index, slice_index_or, IfOk};
 ghost use Rattle.std.specs.declared.vec.Vec.{Vec};
 ghost use Rattle.std.specs.declared.alloc.Global.{Global};
-ghost use Rattle.std.specs.declared.alloc.AllocError.{AllocError};
+ghost use Rattle.std.specs.declared.alloc.AllocError.{AllocError as OutOfMemory};
 ghost use Rattle.std.specs.Str.{IsCharBoundary};
 ghost use Rattle.snapshot_search.specs.Starts.{starts, starts_between};
 ghost use Rattle.snapshot_search.specs.Parts.{AreCuts};
@@ -86,7 +86,7 @@ fn find_each<R: Threads + Sync>(
 ) -> Result<Vec<Result<Vec<u64>, OutOfMemory>>, OutOfMemory>
     requires { AreCuts rope.now cuts.now (length rope.now) }
     ensures len { IfOk result (λ found. length found.items + 1 ≡ length cuts.now) }
-    ensures each { IfOk result (λ found. (j : ℕ) (d : Result (Vec ℕ Global) AllocError)
+    ensures each { IfOk result (λ found. (j : ℕ) (d : Result (Vec ℕ Global) OutOfMemory)
         → j + 1 < length cuts.now
         → IfOk (slice_index_or found.items j d)
         (λ part. part.items ≡ starts_between rope.now needle.now (slice_index cuts.now j)

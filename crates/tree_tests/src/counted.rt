@@ -11,6 +11,15 @@ use std::sync::ledger::{Blank, Ledger};
 use sum_tree::{Count, Steps, SumTree};
 use tree_cursor::{Bias, Cursor, OutOfMemory, locate};
 
+/// How many of the keys 3, 5 and 8 are asked for, the first so many, and the others.
+const ENDS: &[(u64, &[u64], &[u64])] = &[
+    (0, &[], &[3, 5, 8]),
+    (1, &[3], &[5, 8]),
+    (2, &[3, 5], &[8]),
+    (3, &[3, 5, 8], &[]),
+    (4, &[3, 5, 8], &[]),
+];
+
 // The name of the item that a seek from the start finds, and where it starts.
 fn spot<L: Ledger>(tree: &SumTree<Wide>, at: u64, bias: Bias, blank: Blank) -> (Option<u64>, u64)
     requires name { blank.name ≡ L.name }
@@ -144,5 +153,37 @@ fn works_on_three<L: Ledger>(alloc: Global, blank: Blank) -> Result<[bool; 6], O
 #[test]
 fn works_counted(rt: HostRuntime) -> Result<(), OutOfMemory> {
     assert!(rt; works_on_three::<Brand>(rt.alloc(), Blank::new(1))? == [true; 6]);
+    Ok(())
+}
+
+// So many of the keys 3, 5 and 8 from the first on, and the others.
+fn ends_with<L: Ledger>(
+    alloc: Global,
+    count: u64,
+    blank: Blank,
+) -> Result<(SumTree<Number>, SumTree<Number>), OutOfMemory>
+    requires name { blank.name ≡ L.name }
+    requires parts { blank.parts ≡ L.parts }
+    requires some { 0 < blank.parts }
+{
+    let mut steps = Steps::<L>::new(blank);
+    let tree = three(alloc, &mut steps)?;
+    let front = tree.take_front_counted(alloc, count, &mut steps)?;
+    let rest = tree.drop_front_counted(alloc, count, &mut steps)?;
+    Ok((front, rest))
+}
+
+// The same with a counter of its own.
+fn ends(alloc: Global, count: u64) -> Result<(SumTree<Number>, SumTree<Number>), OutOfMemory> {
+    ends_with::<Brand>(alloc, count, Blank::new(1))
+}
+
+#[test]
+fn cuts_counted(rt: HostRuntime) -> Result<(), OutOfMemory> {
+    for &(count, first, others) in ENDS {
+        let (front, rest) = ends(rt.alloc(), count)?;
+        assert!(rt; has_keys(&front, first), "the first {count}");
+        assert!(rt; has_keys(&rest, others), "behind the first {count}");
+    }
     Ok(())
 }

@@ -122,7 +122,10 @@ fn cut<T: Numbered>(
     if at > numbers.len() {
         return Ok(());
     }
-    let parts = (tree.taken(alloc, at as u64), tree.dropped(alloc, at as u64));
+    let parts = (
+        tree.take_front(alloc, at as u64),
+        tree.drop_front(alloc, at as u64),
+    );
     let made = match &parts {
         (Ok(front), Ok(rest)) => {
             let front = mirrors(alloc, front, &numbers[..at])?;

@@ -25,8 +25,8 @@ fn rejoins<T: Numbered>(
     if cut > numbers.len() {
         return Ok(true);
     }
-    let mut front = tree.taken(alloc, cut as u64)?;
-    let back = tree.dropped(alloc, cut as u64)?;
+    let mut front = tree.take_front(alloc, cut as u64)?;
+    let back = tree.drop_front(alloc, cut as u64)?;
     let parts = mirrors(alloc, &front, &numbers[..cut])? && mirrors(alloc, &back, &numbers[cut..])?;
     append_to(alloc, &mut front, back)?;
     Ok(mirrors(alloc, &front, numbers)? && parts)

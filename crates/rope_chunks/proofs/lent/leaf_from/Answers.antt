@@ -12,8 +12,8 @@ loop-entries-preserved c =
     let node = c.loop-entries.node.now in
     let ts = c.in-Inner.children.now in
     let t = c.index-children-k.result in
-    let fits : c.child_with-k.result.1 < length t.items = subst (λ (u : Seen _). c.child_with-k.result.1 < length u.items) (sym c.index-children-k.is) (c.child_with-k.ensures.within t) in
-    tail_child c.args.tree.now.items node.items ts c.loop-entries.rest c.args.index c.child_with-k.result.0 c.child_with-k.result.1 t c.loop-entries.invariant c.in-Inner.ensures.0 c.child_with-k.ensures.child c.index-children-k.is c.child_with-k.ensures.before fits
+    let fits : c.child_at-k.result.1 < length t.items = subst (λ (u : Seen _). c.child_at-k.result.1 < length u.items) (sym c.index-children-k.is) (c.child_at-k.ensures.within t) in
+    tail_child c.args.tree.now.items node.items ts c.loop-entries.rest c.args.index c.child_at-k.result.0 c.child_at-k.result.1 t c.loop-entries.invariant c.in-Inner.ensures.0 c.child_at-k.ensures.child c.index-children-k.is c.child_at-k.ensures.before fits
 
 pub returns-in-Leaf-clause-rest : goal.returns-in-Leaf-clause-rest
 returns-in-Leaf-clause-rest c =

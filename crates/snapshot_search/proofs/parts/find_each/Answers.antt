@@ -1,7 +1,7 @@
 use Rattle.std.proofs.Common.{◌≡◌, ℕ, ◌+◌, ◌-◌, ◌<◌, ◌∙◌, length, ap, sym, subst, arith, Result, Vec, Global, IfOk}
 use Rattle.std.specs.Prelude.{slice_index, slice_index_or}
 use Rattle.std.specs.List.{AllZip, range_with_len}
-use Rattle.std.specs.declared.alloc.AllocError.{AllocError}
+use Rattle.std.specs.declared.alloc.AllocError.{AllocError as OutOfMemory}
 use Rattle.std.proofs.lemmas.List.FromFn.{length-range_with_len}
 use Rattle.std.proofs.lemmas.Slice.Zip.{AllZip-long}
 use Rattle.rayon.specs.Numbers.{nat_range}
@@ -43,7 +43,7 @@ returns-clause-each g c =
     let n = length cuts - 1 in
     let ends = c.into_par_iter.ensures in
     let whole : n - 0 ≡ n = omega arith in
-    let Finds : ℕ → Result (Vec ℕ Global) AllocError → Type 0 = λ j r. IfOk r (λ part. part.items ≡ starts_between text needle (slice_index cuts j) (slice_index cuts (j + 1))) in
+    let Finds : ℕ → Result (Vec ℕ Global) OutOfMemory → Type 0 = λ j r. IfOk r (λ part. part.items ≡ starts_between text needle (slice_index cuts j) (slice_index cuts (j + 1))) in
     IfOk-then c.collect.result _ _ c.collect.ensures (λ v h j d within.
     let chain = rw (c.map.ensures.base, c.map.ensures.f, c.with_min_len.ensures.base) at h.1 in
     let numbers = chain.1 ∙ (λ i. nat_range (ends.0 i) (ends.1 i)) ∙ ap (range_with_len 0) whole in

@@ -2,7 +2,7 @@ use Rattle.std.proofs.Common.{◌≡◌, sym, refl, append_assoc, List, ℕ, Som
 use Rattle.std.specs.Prelude.{slice_get}
 use Rattle.std.specs.List.{concat}
 use Rattle.rope_chunks.proofs.Grows.{concat-last, no_last}
-use Rattle.rope_chunks.proofs.build.grown.Goals as goal
+use Rattle.rope_chunks.proofs.build.growth.Goals as goal
 
 pub returns-in_ok-cut_up-in-None-clause-text : goal.returns-in_ok-cut_up-in-None-clause-text
 returns-in_ok-cut_up-in-None-clause-text c =

@@ -4,7 +4,7 @@ use Rattle.std.proofs.lemmas.Str.{IsUtf8-take, IsUtf8-append}
 use Rattle.std.specs.Str.{IsUtf8}
 use Rattle.std.specs.List.{All}
 use Rattle.rope_chunks.specs.Chunks.{IsChunk}
-use Rattle.rope_chunks.proofs.pieces.filled.Goals as goal
+use Rattle.rope_chunks.proofs.pieces.fill.Goals as goal
 
 one : (cs ds : List (List ℕ)) (c d : List ℕ) → cs ≡ [] → ds ≡ cs ++ d ∷ [] → d ≡ c → IsChunk c → All IsChunk ds
 one cs ds c d e f g h = subst (λ xs. All IsChunk xs) (sym (f ∙ ap (λ xs. xs ++ d ∷ []) e ∙ ap (λ x. x ∷ []) g)) (All-push IsChunk [] c (All-nil IsChunk) h)
@@ -19,4 +19,4 @@ cut_up-requires c =
       some = omega (arith, length-append front piece, c.requires.some);
       few = omega (arith, length-append front piece, c.requires.few, c.split_at.ensures.front_len, c.floor_char_boundary.ensures.bound);
     } in
-    one c.new-chunks.result.items c.push.new.self.items (front ++ piece) c.joined.result c.new-chunks.ensures.items c.in_ok-push.ensures.items c.joined.ensures is
+    one c.new-chunks.result.items c.push.new.self.items (front ++ piece) c.join.result c.new-chunks.ensures.items c.in_ok-push.ensures.items c.join.ensures is

@@ -1,9 +1,9 @@
 use Rattle.std.proofs.Common.{◌∙◌, ◌++◌, ap, sym, subst}
 use Rattle.std.specs.List.{concat, All}
 use Rattle.rope_chunks.specs.Chunks.{IsChunk, AreChunks}
-use Rattle.rope_chunks.proofs.Texts.{concat-append}
+use Rattle.std.proofs.lemmas.List.Folds.{concat-append}
 use Rattle.rope_chunks.proofs.Grows.{are_beside}
-use Rattle.rope_chunks.proofs.build.chained.Goals as goal
+use Rattle.rope_chunks.proofs.build.chain.Goals as goal
 
 pub join-requires : goal.join-requires
 join-requires c =
