@@ -1,5 +1,5 @@
 -- There is room for what is placed.
-use Rattle.std.proofs.Common.{◌≡◌, ℕ, ◌+◌, ◌≤◌, ◌^◌, List, [], ◌∷◌, length, map, sym, ap, ◌∙◌, subst, arith, None, inl, inr}
+use Rattle.std.proofs.Common.{◌≡◌, ℕ, ◌+◌, ◌≤◌, ◌^◌, List, [], ◌∷◌, length, map, sym, ap, ◌∙◌, subst, arith, None}
 use Rattle.op_model.specs.declared.operation.Operation.{Operation}
 use Rattle.op_model.specs.declared.operation.UndoCount.{UndoCount}
 use Rattle.op_model.specs.declared.operation.Piece.{Piece}
@@ -12,6 +12,7 @@ use Rattle.op_model.specs.Settled.{full_fault}
 use Rattle.op_model.specs.Made.{local_edit}
 use Rattle.text_buffer.specs.Buffer.{BufferState, IsBuffer, edit_fault}
 use Rattle.text_buffer.proofs.Applied.{room_of}
+use Rattle.text_buffer.proofs.Contents.{edit_member}
 use Rattle.text_buffer.proofs.Lengths.{full_bytes}
 use Rattle.text_buffer.proofs.Fit as fit
 
@@ -33,11 +34,5 @@ pub made_by : (h : History) (r : ℕ) (ps : List Piece) (op : Operation) → op 
 unfolding local_edit
 made_by h r ps op e = ap (λ (o : Operation). (stamp_of o).replica) e
 
--- the edit of a count is among the edits of all
-pub edit_among : (cs : List UndoCount) (c : UndoCount) → Member c cs → Member c.edit (map (λ (d : UndoCount). d.edit) cs)
-edit_among [] c m = absurd m
-edit_among (d ∷ cs) c (inl e) = inl (ap (λ (x : UndoCount). x.edit) e)
-edit_among (d ∷ cs) c (inr m) = inr (edit_among cs c m)
-
 pub edits_among : (cs ds : List UndoCount) (ts : List Lamport) → ts ≡ map (λ (d : UndoCount). d.edit) cs → cs ≡ ds → (c : UndoCount) → Member c ds → Member c.edit ts
-edits_among cs ds ts e f c m = subst (λ (x : List Lamport). Member c.edit x) (sym (e ∙ ap (map (λ (d : UndoCount). d.edit)) f)) (edit_among ds c m)
+edits_among cs ds ts e f c m = subst (λ (x : List Lamport). Member c.edit x) (sym (e ∙ ap (map (λ (d : UndoCount). d.edit)) f)) (edit_member c ds m)
