@@ -2,7 +2,7 @@
 use Rattle.std.proofs.Common.{◌≡◌, ℕ, zero, suc, ◌+◌, ◌-◌, ◌<◌, ◌≤◌, true, false, List, [], ◌∷◌, length, take, drop, slice_range, refl, sym, ap, subst, ◌∙◌, arith, ⊎_elim, cond, length-drop}
 use Rattle.std.specs.List.{filter, range_with_len}
 use Rattle.std.proofs.lemmas.Bool.{cases_Bool, cases_lt, false≢true}
-use Rattle.std.proofs.lemmas.List.{take_all, get_or-drop}
+use Rattle.std.proofs.lemmas.List.{take_all, get_or-take, get_or-drop, length-take-le}
 use Rattle.memchr.specs.Find.{OccursAt}
 use Rattle.snapshot_search.specs.Starts.{stands_at, starts_between}
 use Rattle.snapshot_search.specs.declared.progress.Progress.{Progress}
