@@ -178,12 +178,19 @@ fn ends(alloc: Global, count: u64) -> Result<(SumTree<Number>, SumTree<Number>),
     ends_with::<Brand>(alloc, count, Blank::new(1))
 }
 
+// Whether the first so many of the keys 3, 5 and 8, and the others, are these.
+fn cuts_at(alloc: Global, count: u64, first: &[u64], others: &[u64]) -> Result<bool, OutOfMemory> {
+    let (front, rest) = ends(alloc, count)?;
+    Ok(has_keys(&front, first) && has_keys(&rest, others))
+}
+
 #[test]
 fn cuts_counted(rt: HostRuntime) -> Result<(), OutOfMemory> {
     for &(count, first, others) in ENDS {
-        let (front, rest) = ends(rt.alloc(), count)?;
-        assert!(rt; has_keys(&front, first), "the first {count}");
-        assert!(rt; has_keys(&rest, others), "behind the first {count}");
+        assert!(rt;
+            cuts_at(rt.alloc(), count, first, others)?,
+            "the first {count}"
+        );
     }
     Ok(())
 }
