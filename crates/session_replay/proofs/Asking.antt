@@ -1,8 +1,8 @@
 -- What an editor asks of the workers beside it, line by line.
-use Rattle.std.proofs.Common.{◌≡◌, ℕ, zero, suc, ◌+◌, ◌<◌, ◌≤◌, ◌==◌, Bool, true, false, cond, not, List, [], ◌∷◌, ◌++◌, length, drop, get_or, slice_index_or, slice_set, nat_lt, Option, None, Some, refl, sym, ap, ap₂, ◌∙◌, subst, arith, append_assoc, append-nil}
+use Rattle.std.proofs.Common.{◌≡◌, ℕ, zero, suc, ◌+◌, ◌<◌, ◌≤◌, ◌==◌, Bool, true, false, cond, not, List, [], ◌∷◌, ◌++◌, length, get_or, slice_index_or, slice_set, nat_lt, Option, None, Some, Result, Ok, Err, OnOk, refl, sym, ap, ap₂, ◌∙◌, subst, arith, append_assoc, append-nil}
 use Rattle.std.specs.List.{position}
 use Rattle.std.proofs.lemmas.Bool.{ltb-true}
-use Rattle.std.proofs.lemmas.List.{drop_all, length-append, length-map, map-append}
+use Rattle.std.proofs.lemmas.List.{length-append, length-map, map-append}
 use Rattle.std.proofs.lemmas.List.Sums.{sum_by-cons}
 use Rattle.op_model.specs.declared.operation.Operation.{Operation}
 use Rattle.text_buffer.specs.Buffer.{BufferState}
@@ -16,13 +16,12 @@ use Rattle.query_workers.specs.Asks.{Ask}
 use Rattle.query_dispatch.specs.Dealt.{HasAsked, pairs_in}
 use Rattle.query_dispatch.specs.Shown.{AreLevel, columns, rows_of, shown_lists, shown_of}
 use Rattle.query_dispatch.specs.States.{DispatcherState, PublishersState}
-use Rattle.session_replay.specs.Work.{State, buffer_of, step}
+use Rattle.session_replay.specs.Work.{State, buffer_of, events, step}
 use Rattle.session_replay.specs.Queries.{Query, queries_from, query_at, query_of, query_with, question_of}
-use Rattle.session_replay.specs.Beside.{IsAsking, KeepsEnds, ask_among, asks_among, histories, place_among}
+use Rattle.session_replay.specs.Beside.{IsAsking, KeepsEnds, ask_among, asks_among, histories, index_among}
 use Rattle.session_replay.specs.declared.queries.Question.{Question}
 use Rattle.session_replay.proofs.Buffers.{at_some, found, not_found}
 use Rattle.session_replay.proofs.Growth.{AllGrow, step_keeps}
-use Rattle.session_replay.proofs.Steps.{behind}
 
 -- what asks query n of the replica at place i
 abbrev pub one_ask : ℕ → ℕ → Question → List Operation → Ask Question
@@ -31,7 +30,7 @@ one_ask n i q h = record { number = n; replica = i; query = q; history = h }
 -- ---- replicas that grow
 
 -- they keep their places
-pub same_place : (r : ℕ) (bs cs : List BufferState) → AllGrow bs cs → place_among cs r ≡ place_among bs r
+pub same_place : (r : ℕ) (bs cs : List BufferState) → AllGrow bs cs → index_among cs r ≡ index_among bs r
 same_place r [] [] g = refl
 same_place r [] (c ∷ cs) g = absurd g
 same_place r (b ∷ bs) [] g = absurd g
@@ -77,9 +76,9 @@ fronts_set (h ∷ hs) (b ∷ bs) zero d f l = (front_itself b.history, f.1)
 fronts_set (h ∷ hs) (b ∷ bs) (suc i) d f l = (f.0, fronts_set hs bs i d f.1 (omega arith))
 
 module _ (bs : List BufferState) (r i : ℕ) (d : BufferState) (e : Some i ≡ position (λ (b : BufferState). b.replica == r) bs) where
-  pub at_place : (i < length bs) × (place_among bs r ≡ i)
-  at_place = let p = at_some (nat_lt (place_among bs r) (length bs)) (place_among bs r) i e in
-      (subst (λ (k : ℕ). k < length bs) (sym p.1) (ltb-true (place_among bs r) (length bs) p.0), sym p.1)
+  pub at_place : (i < length bs) × (index_among bs r ≡ i)
+  at_place = let p = at_some (nat_lt (index_among bs r) (length bs)) (index_among bs r) i e in
+      (subst (λ (k : ℕ). k < length bs) (sym p.1) (ltb-true (index_among bs r) (length bs) p.0), sym p.1)
 
   -- what is asked of it
   pub asked_one : (q : ℕ) (ask : Question) (h : List Operation) → h ≡ (get_or bs i d).history
@@ -181,18 +180,12 @@ leads_first ls s asks d p a room =
       room = fits;
     }
 
-module _ (ls : List SessionLine) (s0 : State) (asks : List (Ask Question)) (i : ℕ) (x : SessionLine) (s : State) (d : DispatcherState Question) (p : PublishersState)
-    (lt : i < length ls) (l : Leads ls s0 asks (drop i ls) s d p) where
-  abbrev next : SessionLine
-  next = get_or ls i x
-
-  abbrev rest : List SessionLine
-  rest = drop (i + 1) ls
-
+module _ (ls : List SessionLine) (s0 : State) (asks : List (Ask Question)) (left : List SessionLine) (next : SessionLine) (rest : List SessionLine) (s : State) (d : DispatcherState Question) (p : PublishersState)
+    (splits : left ≡ next ∷ rest) (l : Leads ls s0 asks left s d p) where
   -- the room that is left for the line
   pub room_for : d.count + query_count (next ∷ []) ≤ d.limit
   room_for =
-      let split : query_count (drop i ls) ≡ cond (is_query next) 1 0 + query_count rest = ap query_count (behind ls i x lt) ∙ count_cons next rest in
+      let split : query_count left ≡ cond (is_query next) 1 0 + query_count rest = ap query_count splits ∙ count_cons next rest in
       let one : query_count (next ∷ []) ≡ cond (is_query next) 1 0 + query_count [] = count_cons next [] in
       omega (arith, l.room, split, one, l.asking.asked.count, count_all s0.buffers asks l.more)
 
@@ -208,7 +201,7 @@ module _ (ls : List SessionLine) (s0 : State) (asks : List (Ask Question)) (i : 
       ap (λ (js : List (Ask Question)). ks ++ js) same ∙ (append_assoc asks (asks_among s0.buffers l.more) (asks_among s0.buffers qs)
       ∙ ap (λ (js : List (Ask Question)). asks ++ js) (sym (map-append (ask_among s0.buffers) l.more qs))) in
       let count : length asks + length (l.more ++ qs) + 1 ≡ length asks + length l.more + 1 + length qs = omega (arith, length-append l.more qs) in
-      let split : query_count (drop i ls) ≡ cond (is_query next) 1 0 + query_count rest = ap query_count (behind ls i x lt) ∙ count_cons next rest in
+      let split : query_count left ≡ cond (is_query next) 1 0 + query_count rest = ap query_count splits ∙ count_cons next rest in
       record {
         more = l.more ++ qs;
         asking = subst (λ (js : List (Ask Question)). IsAsking t.buffers js e q) all (h ks l.asking);
@@ -216,24 +209,49 @@ module _ (ls : List SessionLine) (s0 : State) (asks : List (Ask Question)) (i : 
             append_assoc l.more qs (queries_from (length asks + length (l.more ++ qs) + 1) rest t)
             ∙ (ap (λ (m : ℕ). l.more ++ (qs ++ queries_from m rest t)) count
             ∙ (ap (λ (u : State). l.more ++ (qs ++ queries_from (length asks + length l.more + 1 + length qs) rest u)) is
-            ∙ (ap (λ (k : List SessionLine). l.more ++ queries_from (length asks + length l.more + 1) k s) (sym (behind ls i x lt)) ∙ l.whole)));
+            ∙ (ap (λ (k : List SessionLine). l.more ++ queries_from (length asks + length l.more + 1) k s) (sym splits) ∙ l.whole)));
         room = omega (arith, l.room, split, limit, length-append l.more qs, few_at (length asks + length l.more + 1) next s);
       }
 
 -- no line is left
-pub leads_last : (ls : List SessionLine) (s0 : State) (asks : List (Ask Question)) (i : ℕ) (s : State) (d : DispatcherState Question) (p : PublishersState) → length ls ≤ i
-    → Leads ls s0 asks (drop i ls) s d p → IsAsking s.buffers (asks ++ asks_among s0.buffers (queries_from (length asks + 1) ls s0)) d p
-leads_last ls s0 asks i s d p le l =
-    let none : queries_from (length asks + length l.more + 1) (drop i ls) s ≡ [] = ap (λ (k : List SessionLine). queries_from (length asks + length l.more + 1) k s) (drop_all i ls le) in
-    let all : l.more ≡ queries_from (length asks + 1) ls s0 = sym (append-nil l.more) ∙ (ap (λ (qs : List Query). l.more ++ qs) (sym none) ∙ l.whole) in
+pub leads_last : (ls : List SessionLine) (s0 : State) (asks : List (Ask Question)) (left : List SessionLine) (s : State) (d : DispatcherState Question) (p : PublishersState) → left ≡ []
+    → Leads ls s0 asks left s d p → IsAsking s.buffers (asks ++ asks_among s0.buffers (queries_from (length asks + 1) ls s0)) d p
+leads_last ls s0 asks left s d p none l =
+    let unasked : queries_from (length asks + length l.more + 1) left s ≡ [] = ap (λ (k : List SessionLine). queries_from (length asks + length l.more + 1) k s) none in
+    let all : l.more ≡ queries_from (length asks + 1) ls s0 = sym (append-nil l.more) ∙ (ap (λ (qs : List Query). l.more ++ qs) (sym unasked) ∙ l.whole) in
     subst (λ (qs : List Query). IsAsking s.buffers (asks ++ asks_among s0.buffers qs) d p) all l.asking
 
 -- ---- one line
+
+-- what holds of an answer
+pub on_ok : {X Y : Type 0} (r : Result X Y) (P Q : Type 0) → (P → Q) → OnOk r P → OnOk r Q
+on_ok (Ok x) P Q f p = f p
+on_ok (Err y) P Q f p = tt
+
+pub on_any : {X Y : Type 0} (r : Result X Y) (P : Type 0) → P → OnOk r P
+on_any (Ok x) P p = p
+on_any (Err y) P p = tt
 
 -- the line asks nothing
 pub nothing_asked : (bs : List BufferState) (asks : List (Ask Question)) (d : DispatcherState Question) (p : PublishersState) (qs : List Query) → qs ≡ [] → IsAsking bs asks d p → IsAsking bs (asks ++ asks_among bs qs) d p
 nothing_asked bs asks d p qs e a =
     subst (λ (ks : List (Ask Question)). IsAsking bs ks d p) (sym (ap (λ (js : List Query). asks ++ asks_among bs js) e ∙ append-nil asks)) a
+
+-- a line that asks reports no event and changes nothing
+pub asks_only : (l : SessionLine) (a : ℕ × Question) → Some a ≡ question_of l → (s : State) → (events l s ≡ []) × (step l s ≡ s)
+asks_only (line.Edit r ps) a e s = absurd (cc e)
+asks_only (line.Undo r ms) a e s = absurd (cc e)
+asks_only (line.Op o) a e s = absurd (cc e)
+asks_only (line.Uop u) a e s = absurd (cc e)
+asks_only (line.Give r n) a e s = absurd (cc e)
+asks_only (line.Text r) a e s = absurd (cc e)
+asks_only (line.Anchor r n o b) a e s = absurd (cc e)
+asks_only (line.Where r n) a e s = absurd (cc e)
+asks_only (line.Mark r n) a e s = absurd (cc e)
+asks_only (line.Since r n) a e s = absurd (cc e)
+asks_only (line.Find r t) a e s = (refl, refl)
+asks_only (line.Point r o) a e s = (refl, refl)
+asks_only (line.Offset r k c) a e s = (refl, refl)
 
 pub no_question : (q : ℕ) (l : SessionLine) (s : State) → None ≡ question_of l → query_at q l s ≡ []
 no_question q l s e = ap (query_with q s) (sym e)

@@ -19,7 +19,7 @@ use Rattle.query_dispatch.specs.Settled.{AreGathered, IsPast, IsSettled, NeverFa
 use Rattle.session_replay.specs.Work.{State, buffer_of}
 use Rattle.session_replay.specs.Queries as replies
 use Rattle.session_replay.specs.Queries.{AreReplies, IsWithin, Query, Reply, count_of, end_of, final_of, history_of, plain_answer, queries_of, reply_line}
-use Rattle.session_replay.specs.Beside.{ask_among, asks_among, histories, line_of, place_among}
+use Rattle.session_replay.specs.Beside.{ask_among, asks_among, histories, line_of, index_among}
 use Rattle.session_replay.specs.declared.queries.Question.{Question}
 use Rattle.session_replay.proofs.Growth.{AllGrow}
 use Rattle.session_replay.proofs.Asking.{same_place}
@@ -40,15 +40,15 @@ line_more ls more line a rest from all grown is step was =
 
 -- a replica that has its base is there
 pub stands : (r : ℕ) (bs : List BufferState) → 1 ≤ length (history_of (buffer_of r bs))
-    → (place_among bs r < length (histories bs)) × (slice_index_or (histories bs) (place_among bs r) [] ≡ history_of (buffer_of r bs))
+    → (index_among bs r < length (histories bs)) × (slice_index_or (histories bs) (index_among bs r) [] ≡ history_of (buffer_of r bs))
 stands r [] l = absurd (omega arith)
 stands r (b ∷ bs) l =
     elim (b.replica == r) as (λ (t : Bool). 1 ≤ length (history_of (cond t (Some b) (buffer_of r bs)))
-    → (cond (not t) (1 + place_among bs r) 0 < length (histories (b ∷ bs))) × (slice_index_or (histories (b ∷ bs)) (cond (not t) (1 + place_among bs r) 0) [] ≡ history_of (cond t (Some b) (buffer_of r bs)))) [
+    → (cond (not t) (1 + index_among bs r) 0 < length (histories (b ∷ bs))) × (slice_index_or (histories (b ∷ bs)) (cond (not t) (1 + index_among bs r) 0) [] ≡ history_of (cond t (Some b) (buffer_of r bs)))) [
       | true ↦ (λ l. (omega arith, refl))
       | false ↦ (λ l.
           let s = stands r bs l in
-          let e : suc (place_among bs r) ≡ 1 + place_among bs r = omega arith in
+          let e : suc (index_among bs r) ≡ 1 + index_among bs r = omega arith in
           (omega (arith, s.0), subst (λ (k : ℕ). slice_index_or (histories (b ∷ bs)) k [] ≡ history_of (buffer_of r bs)) e s.1))
     ] l
 
@@ -90,7 +90,7 @@ module _ (bs : List BufferState) (end : State) (g : AllGrow bs end.buffers) wher
   past (c ∷ cs) f =
       let one = All-head (IsPlaced end) c cs f in
       let s = stands c.replica end.buffers (long c one) in
-      let i : place_among end.buffers c.replica ≡ place_among bs c.replica = same_place c.replica bs end.buffers g in
+      let i : index_among end.buffers c.replica ≡ index_among bs c.replica = same_place c.replica bs end.buffers g in
       All-cons (IsPast {Q = Question} (histories end.buffers)) (ask_among bs c) (asks_among bs cs) (
         subst (λ (k : ℕ). k < length (histories end.buffers)) i s.0,
         subst (IsFront c.history) (sym (ap (λ (k : ℕ). slice_index_or (histories end.buffers) k []) (sym i) ∙ s.1)) one.0,
@@ -128,7 +128,7 @@ module _ (bs : List BufferState) (end : State) (g : AllGrow bs end.buffers) wher
     falls_one a b c d t u h same_replica same_worker =
         let turn : worker_of workers a.number ≡ worker_of workers b.number =
         ap (worker_of workers) t.answer.number ∙ (same_worker ∙ ap (worker_of workers) (sym u.answer.number)) in
-        let place : a.replica ≡ b.replica = t.answer.replica ∙ (ap (place_among bs) same_replica ∙ sym u.answer.replica) in
+        let place : a.replica ≡ b.replica = t.answer.replica ∙ (ap (index_among bs) same_replica ∙ sym u.answer.replica) in
         omega (arith, h turn place)
 
     first_falls : (a : Made) (c : Query) → IsTo bs end a c → (xs : List Made) (cs : List Query) → AreTo xs cs → All (NeverFalls workers a) xs

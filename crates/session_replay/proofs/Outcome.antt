@@ -12,7 +12,7 @@ use Rattle.session_lines.proofs.Faults.{too_many, never_memory}
 use Rattle.session_replay.specs.Causes.{RoseBy}
 use Rattle.session_replay.specs.Traffic.{Had}
 use Rattle.session_replay.specs.Queries.{IsReport}
-use Rattle.session_replay.specs.Replay.{answer_of, answer_with, large_line, refusal, written_for, Answered, IsAnswer, Writes}
+use Rattle.session_replay.specs.Replay.{answer_of, answer_with, large_line, refusal, written_for, AnswersSource, IsAnswer, Writes}
 use Rattle.session_replay.proofs.Replies.{plain_report}
 use Rattle.command_words.specs.declared.command.Task.{Task}
 use Rattle.command_words.specs.declared.command.Task.TheVariants as task
@@ -105,7 +105,7 @@ told c input st text (inr e) = plainly_told c input st text e
 
 module _ (c : Task) (left left_after : Option (List ℕ)) (given given_after ends ends_after : ℕ) where
   abbrev Answer : Status → List ℕ → Type 0
-  Answer st text = Answered c left left_after given given_after ends ends_after st text
+  Answer st text = AnswersSource c left left_after given given_after ends ends_after st text
 
   pub answered_large : (text : List ℕ) → text ≡ large_line → (input : List ℕ) × Had left input × (67108864 < length input) → RoseBy 67108865 given given_after → Answer status.TooLarge text
   answered_large text e h r = record {

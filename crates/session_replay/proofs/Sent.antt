@@ -11,7 +11,7 @@ use Rattle.session_lines.specs.declared.session.Session.{Session}
 use Rattle.session_lines.specs.declared.fault.Word.{Word}
 use Rattle.session_lines.specs.declared.fault.DecodeFault.{DecodeFault}
 use Rattle.session_lines.specs.declared.fault.DecodeFault.TheVariants.{Bad, Lines}
-use Rattle.session_replay.specs.Replay.{large_line, Answered, Does, IsAnswer, IsOutput, Writes}
+use Rattle.session_replay.specs.Replay.{large_line, AnswersSource, Does, IsAnswer, IsOutput, Writes}
 use Rattle.command_words.specs.declared.command.Task.{Task}
 use Rattle.command_words.specs.declared.command.Task.TheVariants as task
 use Rattle.session_replay.specs.declared.top.Status.{Status}
@@ -23,7 +23,7 @@ if_had None input P h p = tt
 if_had (Some xs) input P h p = subst P h p
 
 module _ (c : Task) (left left_after : Option (List ℕ)) (given given_after ends ends_after : ℕ) (written written_after : Option (List ℕ)) (r st : Status) (shown text : List ℕ)
-    (is : shown ≡ text) (a : Answered c left left_after given given_after ends ends_after st text) (either : (r ≡ st) ⊎ (r ≡ status.WriteFault))
+    (is : shown ≡ text) (a : AnswersSource c left left_after given given_after ends ends_after st text) (either : (r ≡ st) ⊎ (r ≡ status.WriteFault))
     (whole : r ≡ st → Appends written written_after shown) where
   kept : Told c a.input st text
   kept = told c a.input st text a.answer
@@ -130,5 +130,5 @@ no_fault_by st (inr (inl e)) k = let f : status.Session ≡ status.WriteFault = 
 no_fault_by st (inr (inr e)) k = let f : status.TooLarge ≡ status.WriteFault = sym e ∙ k in cc
 
 pub never_fails : (c : Task) (left left_after : Option (List ℕ)) (given given_after ends ends_after : ℕ) (st : Status) (text : List ℕ)
-    → Answered c left left_after given given_after ends ends_after st text → st ≡ status.WriteFault → ⊥
+    → AnswersSource c left left_after given given_after ends ends_after st text → st ≡ status.WriteFault → ⊥
 never_fails c left left_after given given_after ends ends_after st text a = no_fault_by st (told c a.input st text a.answer).kinds

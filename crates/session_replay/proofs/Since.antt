@@ -18,8 +18,8 @@ pub reports-nowhere : (g : History → List Report) (o : Option History) → Non
 reports-nowhere g o e = ap (reports_at g) e
 
 -- where both are there
-pub reports-kept : (name copy : List ℕ) (r : ℕ) (v : Entries) (h : History) (w : Option Entries) (o : Option History) (a : SinceAnswer) → copy ≡ name → a ≡ since_answer v h → Some v ≡ w → Some h ≡ o
-    → report.Since copy r a ∷ [] ≡ reports_at (since_reports name r w) o
-reports-kept name copy r v h w o a c e f g =
-    ap (λ (n : List ℕ). report.Since n r a ∷ []) c ∙ ap (λ (b : SinceAnswer). report.Since name r b ∷ []) e
+pub reports-kept : (name : List ℕ) (r : ℕ) (v : Entries) (h : History) (w : Option Entries) (o : Option History) (a : SinceAnswer) → a ≡ since_answer v h → Some v ≡ w → Some h ≡ o
+    → report.Since name r a ∷ [] ≡ reports_at (since_reports name r w) o
+reports-kept name r v h w o a e f g =
+    ap (λ (b : SinceAnswer). report.Since name r b ∷ []) e
     ∙ ap₂ (λ (w : Option Entries) (o : Option History). reports_at (since_reports name r w) o) f g

@@ -84,18 +84,19 @@ of_no_history g o out e = nothing_written out ∙ ap (λ o. out ++ report_text (
 pub behind : {A : Type 0} (xs : List A) (i : ℕ) (d : A) → i < length xs → drop i xs ≡ get_or xs i d ∷ drop (i + 1) xs
 behind xs i d lt = rw (add-one) (drop-cons xs i d lt)
 
-module _ (ls : List SessionLine) (i : ℕ) (d : SessionLine) (s t : State) (lt : i < length ls) (is : t ≡ step (get_or ls i d) s) where
-  pub more_report : (out new all : List ℕ) → out ++ report_text (all_events (drop i ls) s) ≡ all → new ≡ out ++ report_text (events (get_or ls i d) s) → new ++ report_text (all_events (drop (i + 1) ls) t) ≡ all
+-- the next of the lines that are left
+module _ (left : List SessionLine) (l : SessionLine) (rest : List SessionLine) (s t : State) (begins : left ≡ l ∷ rest) (is : t ≡ step l s) where
+  pub more_report : (out new all : List ℕ) → out ++ report_text (all_events left s) ≡ all → new ≡ out ++ report_text (events l s) → new ++ report_text (all_events rest t) ≡ all
   more_report out new all e n =
-      ap (λ u. new ++ report_text (all_events (drop (i + 1) ls) u)) is
-      ∙ written (events (get_or ls i d) s) (all_events (drop (i + 1) ls) (step (get_or ls i d) s)) out new all (ap (λ l. out ++ report_text (all_events l s)) (sym (behind ls i d lt)) ∙ e) n
+      ap (λ u. new ++ report_text (all_events rest u)) is
+      ∙ written (events l s) (all_events rest (step l s)) out new all (ap (λ ls. out ++ report_text (all_events ls s)) (sym begins) ∙ e) n
 
-  pub more_state : (all : State) → after_all (drop i ls) s ≡ all → after_all (drop (i + 1) ls) t ≡ all
-  more_state all e = ap (after_all (drop (i + 1) ls)) is ∙ ap (λ l. after_all l s) (sym (behind ls i d lt)) ∙ e
+  pub more_state : (all : State) → after_all left s ≡ all → after_all rest t ≡ all
+  more_state all e = ap (after_all rest) is ∙ ap (λ ls. after_all ls s) (sym begins) ∙ e
 
 -- no line is left
-pub lines_done : (ls : List SessionLine) (i : ℕ) (s : State) (out all : List ℕ) → length ls ≤ i → out ++ report_text (all_events (drop i ls) s) ≡ all → out ≡ all
-lines_done ls i s out all le e = all_written out all (ap (λ l. out ++ report_text (all_events l s)) (sym (drop_all i ls le)) ∙ e)
+pub lines_done : (left : List SessionLine) (s : State) (out all : List ℕ) → left ≡ [] → out ++ report_text (all_events left s) ≡ all → out ≡ all
+lines_done left s out all none e = all_written out all (ap (λ ls. out ++ report_text (all_events ls s)) (sym none) ∙ e)
 
 -- ---- the end
 

@@ -28,13 +28,13 @@ use Rattle.session_replay.specs.declared.beside.Edited.{Edited}
 abbrev pub histories : List BufferState → List (List Operation)
 histories bs = map (λ (b : BufferState). b.history) bs
 
--- the place of replica r
-abbrev pub place_among : List BufferState → ℕ → ℕ
-place_among bs r = position_or_len (λ (b : BufferState). b.replica == r) bs
+-- the index of replica r
+abbrev pub index_among : List BufferState → ℕ → ℕ
+index_among bs r = position_or_len (λ (b : BufferState). b.replica == r) bs
 
--- what a query asks of a worker, its replica being named by its place
+-- what a query asks of a worker, its replica being named by its index
 abbrev pub ask_among : List BufferState → Query → Ask Question
-ask_among bs c = record { number = c.number; replica = place_among bs c.replica; query = c.question; history = c.history }
+ask_among bs c = record { number = c.number; replica = index_among bs c.replica; query = c.question; history = c.history }
 
 abbrev pub asks_among : List BufferState → List Query → List (Ask Question)
 asks_among bs cs = map (ask_among bs) cs

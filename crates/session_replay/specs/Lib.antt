@@ -4,11 +4,11 @@ pub mod Memory
 pub mod Names
 pub mod Work
 pub mod Queries
-pub mod Held
+pub mod ReplicaId
 pub mod Working
 pub mod Beside
 pub mod Making
 pub mod MakingOn
 pub mod Replay
 pub mod Laws
-pub mod Found
+pub mod ReplicaIndices

@@ -93,7 +93,7 @@ abbrev pub IsAnswer : Task → List ℕ → Status → List ℕ → Type 0
 IsAnswer c input st text = IsWork c input st text ⊎ (answer_of c input ≡ (st, text))
 
 -- the status and the text that answer what a source had left
-pub record Answered (c : Task) (left left_after : Option (List ℕ)) (given given_after ends ends_after : ℕ) (status : Status) (text : List ℕ) : Type 0 where
+pub record AnswersSource (c : Task) (left left_after : Option (List ℕ)) (given given_after ends ends_after : ℕ) (status : Status) (text : List ℕ) : Type 0 where
   pub input : List ℕ
   pub taken : WasTaken left left_after given given_after ends ends_after input
   pub answer : IsAnswer c input status text

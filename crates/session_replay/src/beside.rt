@@ -44,33 +44,6 @@ pub struct Edited {
 }
 
 impl Editor {
-    /// Puts the query that a line is, if it is one.
-    fn ask<R: Wait>(
-        &mut self,
-        rt: &R,
-        alloc: Global,
-        publishers: &mut Publishers,
-        line: &SessionLine,
-    ) -> Result<(), OutOfMemory>
-        requires asking { (asks : List (Ask Question))
-            × IsAsking self.old.progress.replicas asks self.old.dispatcher publishers.old }
-        requires room { self.old.dispatcher.count + query_count (line.now ∷ [])
-            ≤ self.old.dispatcher.limit }
-        ensures same { (self.new.workers ≡ self.old.workers)
-            × (self.new.progress ≡ self.old.progress) }
-        ensures ends { KeepsEnds self.old.dispatcher publishers.old self.new.dispatcher
-            publishers.new }
-        ensures asking { OnOk result (AsksMore self.old.progress.replicas self.old.dispatcher
-            publishers.old (λ n. query_at n line.now (state_of self.old.progress))
-            self.old.progress.replicas self.new.dispatcher publishers.new) }
-        ensures err { OnErr result (self.new.dispatcher ≡ self.old.dispatcher) }
-    {
-        let Some((id, question)) = question_of(alloc, line)? else {
-            return Ok(());
-        };
-        self.put(rt, publishers, id, question)
-    }
-
     /// Puts a query of the replica with that id, if it is there.
     fn put<R: Wait>(
         &mut self,
@@ -91,45 +64,46 @@ impl Editor {
             self.old.progress.replicas self.new.dispatcher publishers.new) }
         ensures err { OnErr result (self.new.dispatcher ≡ self.old.dispatcher) }
     {
-        let Some(place) = self.progress.place_of(id) else {
+        let Some(index) = self.progress.index_of(id) else {
             return Ok(());
         };
-        let snapshot = self.progress.replicas()[place].snapshot()?;
-        let place = place as u32;
+        let snapshot = self.progress.replicas()[index].snapshot()?;
+        let index = index as u32;
         self.dispatcher
-            .ask(rt, publishers, place, &snapshot, question)?;
+            .ask(rt, publishers, index, &snapshot, question)?;
         Ok(())
     }
 
-    /// Works a line, and puts it where it is a query.
+    /// Puts a line that is a query, and works any other.
     fn work_line<R: Wait>(
         &mut self,
         rt: &R,
         alloc: Global,
         publishers: &mut Publishers,
-        line: &SessionLine,
+        line: SessionLine,
     ) -> Result<(), OutOfMemory>
         requires asking { (asks : List (Ask Question))
             × IsAsking self.old.progress.replicas asks self.old.dispatcher publishers.old }
-        requires room { self.old.dispatcher.count + query_count (line.now ∷ [])
+        requires room { self.old.dispatcher.count + query_count (line ∷ [])
             ≤ self.old.dispatcher.limit }
         ensures same { self.new.workers ≡ self.old.workers }
         ensures report { OnOk result (self.new.progress.report.items
             ≡ self.old.progress.report.items
-            ++ report_text (events line.now (state_of self.old.progress))) }
+            ++ report_text (events line (state_of self.old.progress))) }
         ensures state { OnOk result (state_of self.new.progress
-            ≡ step line.now (state_of self.old.progress)) }
+            ≡ step line (state_of self.old.progress)) }
         ensures ends { KeepsEnds self.old.dispatcher publishers.old self.new.dispatcher
             publishers.new }
         ensures asking { OnOk result (AsksMore self.old.progress.replicas self.old.dispatcher
-            publishers.old (λ n. query_at n line.now (state_of self.old.progress))
+            publishers.old (λ n. query_at n line (state_of self.old.progress))
             self.new.progress.replicas self.new.dispatcher publishers.new) }
         ensures err { OnErr result ((asks : List (Ask Question))
             × HasAsked self.new.dispatcher asks) }
     {
-        self.ask(rt, alloc, publishers, line)?;
-        self.progress.work_line(alloc, line)?;
-        Ok(())
+        match question_of(line) {
+            Ok((id, question)) => self.put(rt, publishers, id, question),
+            Err(line) => self.progress.work_line(alloc, line),
+        }
     }
 
     /// Works the lines in their order, each once the gate lets the editor pass, and puts those that are queries.
@@ -139,22 +113,22 @@ impl Editor {
         alloc: Global,
         gate: &G,
         publishers: &mut Publishers,
-        lines: &[SessionLine],
+        lines: Vec<SessionLine>,
     ) -> Result<(), OutOfMemory>
         requires asking { (asks : List (Ask Question))
             × IsAsking self.old.progress.replicas asks self.old.dispatcher publishers.old }
-        requires room { self.old.dispatcher.count + query_count lines.now
+        requires room { self.old.dispatcher.count + query_count lines.items
             ≤ self.old.dispatcher.limit }
         ensures same { self.new.workers ≡ self.old.workers }
         ensures report { OnOk result (self.new.progress.report.items
             ≡ self.old.progress.report.items
-            ++ report_text (all_events lines.now (state_of self.old.progress))) }
+            ++ report_text (all_events lines.items (state_of self.old.progress))) }
         ensures state { OnOk result (state_of self.new.progress
-            ≡ after_all lines.now (state_of self.old.progress)) }
+            ≡ after_all lines.items (state_of self.old.progress)) }
         ensures ends { KeepsEnds self.old.dispatcher publishers.old self.new.dispatcher
             publishers.new }
         ensures asking { OnOk result (AsksMore self.old.progress.replicas self.old.dispatcher
-            publishers.old (λ n. queries_from n lines.now (state_of self.old.progress))
+            publishers.old (λ n. queries_from n lines.items (state_of self.old.progress))
             self.new.progress.replicas self.new.dispatcher publishers.new) }
         ensures err { OnErr result ((asks : List (Ask Question))
             × HasAsked self.new.dispatcher asks) }
@@ -223,10 +197,10 @@ impl Editor {
         alloc: Global,
         gate: &G,
         publishers: &mut Publishers,
-        lines: &[SessionLine],
+        lines: Vec<SessionLine>,
     ) -> Result<Edited, OutOfMemory>
-        requires { CanEdit lines.now self publishers.old }
-        ensures { IfOk result (λ e. HasEdited lines.now self e) }
+        requires { CanEdit lines.items self publishers.old }
+        ensures { IfOk result (λ e. HasEdited lines.items self e) }
     {
         match self.work_lines(rt, alloc, gate, publishers, lines) {
             Ok(()) => self.leave(rt, alloc, publishers),
@@ -316,10 +290,10 @@ fn edit_beside<R: Threads + Wait + Sync, G: Gate>(
     publishers: &mut Publishers,
     editor: Editor,
     desks: Vec<Desk<Question>>,
-    lines: &[SessionLine],
+    lines: Vec<SessionLine>,
 ) -> Result<(Edited, Vec<Done<Question, QueryAnswer>>), OutOfMemory>
-    requires { CanEdit lines.now editor publishers.old }
-    ensures edited { IfOk result (λ r. HasEdited lines.now editor r.0) }
+    requires { CanEdit lines.items editor publishers.old }
+    ensures edited { IfOk result (λ r. HasEdited lines.items editor r.0) }
     ensures worked { IfOk result (λ r. HaveWorked plain_answer desks.items r.1.items) }
 {
     let (edited, dones) = work_beside(
@@ -328,8 +302,8 @@ fn edit_beside<R: Threads + Wait + Sync, G: Gate>(
         gate,
         desks,
         move || -> Result<Edited, OutOfMemory>
-            requires { CanEdit lines.now editor publishers.now }
-            ensures { IfOk result (λ e. HasEdited lines.entry.now editor e) }
+            requires { CanEdit lines.items editor publishers.now }
+            ensures { IfOk result (λ e. HasEdited lines.items editor e) }
         { editor.edit(rt, alloc, gate, publishers, lines) },
     );
     Ok((edited?, dones?))
@@ -342,18 +316,18 @@ fn replay_beside<R: Threads + Wait + Sync, G: Gate>(
     gate: &G,
     publishers: &mut Publishers,
     workers: u32,
-    session: &Session,
+    session: Session,
 ) -> Result<Vec<u8>, OutOfMemory>
-    requires session { IsSession 67108864 session.now }
+    requires session { IsSession 67108864 session }
     requires some { 1 ≤ workers }
     requires none { (publishers.old.workers ≡ workers) × (publishers.old.list ≡ [])
         × (publishers.old.sizes ≡ []) }
-    ensures { IfOk result (λ v. IsReport session.now workers v.items) }
+    ensures { IfOk result (λ v. IsReport session workers v.items) }
 {
     let progress = Progress::new(alloc, session.replicas.as_slice(), session.base.as_str())?;
     let firsts = progress.snapshots(alloc)?;
-    let lines = session.lines.as_slice();
     let limit = session.query_count();
+    let lines = session.lines.into_vec();
     let (dispatcher, desks) = open_desks(rt, alloc, publishers, firsts, limit)?;
     let editor = Editor {
         workers,
@@ -370,11 +344,11 @@ pub fn report_beside<R: Threads + Wait + Sync, G: Gate>(
     alloc: Global,
     gate: &G,
     workers: u32,
-    session: &Session,
+    session: Session,
 ) -> Result<Vec<u8>, OutOfMemory>
-    requires session { IsSession 67108864 session.now }
+    requires session { IsSession 67108864 session }
     requires some { 1 ≤ workers }
-    ensures { IfOk result (λ v. IsReport session.now workers v.items) }
+    ensures { IfOk result (λ v. IsReport session workers v.items) }
 {
     let mut publishers = Publishers::new(alloc, workers);
     let report = replay_beside(rt, alloc, gate, &mut publishers, workers, session);

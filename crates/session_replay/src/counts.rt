@@ -23,7 +23,7 @@ impl ReadCounts {
     }
 
     /// Counts a read that gave so many bytes into so much room.
-    pub fn gave(&mut self, room: usize, count: usize)
+    pub fn count_read(&mut self, room: usize, count: usize)
         ensures given { self.new.given ≡ saturating_sum self.old.given count }
         ensures ends { self.new.ends ≡ saturating_sum self.old.ends (end_met room count) }
         ensures faults { self.new.faults ≡ self.old.faults }
@@ -35,7 +35,7 @@ impl ReadCounts {
     }
 
     /// Counts a read that failed.
-    pub fn failed(&mut self)
+    pub fn count_failure(&mut self)
         ensures { self.new ≡ record self.old { faults = saturating_sum self.old.faults 1 } }
     {
         self.faults = self.faults.saturating_add(1);

@@ -50,7 +50,7 @@ impl Making {
     fn work(&mut self, alloc: Global, line: SessionLine) -> Result<(), OutOfMemory>
         ensures { OnOk result (Works self.old self.new self.old.draws (line ∷ [])) }
     {
-        self.progress.work_line(alloc, &line)?;
+        self.progress.work_copy(alloc, &line)?;
         self.lines.push(line)?;
         Ok(())
     }

@@ -56,12 +56,12 @@ impl Source for MemSource {
     fn read(&mut self, into: &mut [u8]) -> Result<usize, Failed> {
         self.calls = self.calls.saturating_add(1);
         if self.failing.contains(&self.calls) {
-            self.counts.failed();
+            self.counts.count_failure();
             return Err(Failed);
         }
         let count = copy_from(&self.bytes, self.at, into, self.most);
         self.at += count;
-        self.counts.gave(into.len(), count);
+        self.counts.count_read(into.len(), count);
         Ok(count)
     }
 }
@@ -201,7 +201,7 @@ impl Source for SureSource {
     fn read(&mut self, into: &mut [u8]) -> Result<usize, Failed> {
         let count = copy_from(&self.bytes, self.at, into, usize::MAX);
         self.at += count;
-        self.counts.gave(into.len(), count);
+        self.counts.count_read(into.len(), count);
         Ok(count)
     }
 }

@@ -67,15 +67,11 @@ pub fn where_answer(snapshot: &Snapshot, anchor: Option<&Anchor>) -> WhereAnswer
 }
 
 /// What changed in the snapshot's text since the version.
-pub fn since_answer(
-    alloc: Global,
-    snapshot: &Snapshot,
-    version: &Version,
-) -> Result<SinceAnswer, OutOfMemory>
+pub fn since_answer(snapshot: &Snapshot, version: &Version) -> Result<SinceAnswer, OutOfMemory>
     ensures { IfOk result (λ a. a ≡ since_answer version.now snapshot.now) }
 {
     match snapshot.since(version) {
-        Ok(edits) => Ok(SinceAnswer::Edits(TextEdits::new(edits.as_slice().to_vec(alloc)?))),
+        Ok(edits) => Ok(SinceAnswer::Edits(TextEdits::new(edits.into_vec()))),
         Err(SinceFault::OutOfMemory) => Err(OutOfMemory),
         Err(fault) => Ok(SinceAnswer::Fault(fault)),
     }

@@ -1,5 +1,5 @@
 //! The answers to queries, from what a replica was.
-ghost use Rattle.std.specs.Prelude.{◌≡◌, ◌↔◌, ℕ, List, length, map, Err, IfOk};
+ghost use Rattle.std.specs.Prelude.{◌≡◌, ◌↔◌, ℕ, List, length, map, Err, IfErr, IfOk, None, Some};
 ghost use Rattle.std.specs.Option.{option_map, option_to_list};
 ghost use Rattle.op_model.specs.Shown.{text};
 ghost use Rattle.text_dims.specs.Places.{place_at_offset};
@@ -67,41 +67,23 @@ impl Query<QueryAnswer> for Question {
 }
 
 /// The replica that a line asks, and what it asks, where the line is a query.
-pub fn question_of(
-    alloc: Global,
-    line: &SessionLine,
-) -> Result<Option<(u16, Question)>, OutOfMemory>
-    ensures { IfOk result (λ o. o ≡ question_of line.now) }
+///
+/// # Errors
+///
+/// The line itself, where it is none.
+pub fn question_of(line: SessionLine) -> Result<(u16, Question), SessionLine>
+    ensures ok { IfOk result (λ asked. question_of line ≡ Some asked) }
+    ensures err { IfErr result (λ other. (other ≡ line) × (question_of line ≡ None)) }
 {
     match line {
-        SessionLine::Edit { .. } => Ok(None),
-        SessionLine::Undo { .. } => Ok(None),
-        SessionLine::Op(_) => Ok(None),
-        SessionLine::Uop(_) => Ok(None),
-        SessionLine::Give { .. } => Ok(None),
-        SessionLine::Text { .. } => Ok(None),
-        SessionLine::Anchor { .. } => Ok(None),
-        SessionLine::Where { .. } => Ok(None),
-        SessionLine::Mark { .. } => Ok(None),
-        SessionLine::Since { .. } => Ok(None),
-        SessionLine::Find { replica, needle } => {
-            let needle = needle.copy(alloc)?;
-            Ok(Some((*replica, Question::StartsOf(needle))))
-        }
-        SessionLine::Point { replica, offset } => {
-            Ok(Some((*replica, Question::PointOf(*offset))))
-        }
+        SessionLine::Find { replica, needle } => Ok((replica, Question::StartsOf(needle))),
+        SessionLine::Point { replica, offset } => Ok((replica, Question::PointOf(offset))),
         SessionLine::Offset {
             replica,
             row,
             column,
-        } => {
-            let point = Point {
-                row: *row,
-                column: *column,
-            };
-            Ok(Some((*replica, Question::OffsetOf(point))))
-        }
+        } => Ok((replica, Question::OffsetOf(Point { row, column }))),
+        other => Err(other),
     }
 }
 

@@ -3,7 +3,6 @@ ghost use Rattle.std.specs.Prelude.{◌≡◌, ◌≤◌, ◌+◌, ◌^◌, ◌+
 ghost use Rattle.std.specs.Option.{option_copied, option_map, option_to_list};
 ghost use Rattle.std.specs.List.{All, count_by, flat_map, position};
 ghost use Rattle.op_model.specs.Operations.{stamp_of};
-ghost use Rattle.op_model.specs.declared.operation.Operation.TheVariants.{Edit, Undo};
 ghost use Rattle.session_lines.specs.Report.{report_text};
 ghost use Rattle.session_lines.specs.Session.{IsSession};
 ghost use Rattle.session_lines.specs.declared.report.Report.{Report};
@@ -20,7 +19,7 @@ use crate::replica::{Replica, operation_of};
 use crate::replicas::Replicas;
 use crate::{OutOfMemory, names};
 use lamport_clock::Version;
-use op_model::{Anchor, Bias, EditOp, Operation, Pieces, Text, UndoOp};
+use op_model::{Anchor, Bias, Operation, Pieces, Text};
 use session_lines::{Numbers, Report, Session, SessionLine, write_line};
 use std::alloc::Global;
 use std::collections::BTreeMap;
@@ -49,20 +48,6 @@ fn copy_of(alloc: Global, operation: Option<&Operation>) -> Result<Option<Operat
         Some(operation) => Ok(Some(operation.copy(alloc)?)),
         None => Ok(None),
     }
-}
-
-/// The edit of a line as an operation of its own, which shares the pieces that were read.
-fn edit_operation(alloc: Global, edit: &EditOp) -> Result<Operation, OutOfMemory>
-    ensures { IfOk result (λ op. op ≡ Edit edit.now) }
-{
-    Ok(Operation::Edit(edit.copy(alloc)?))
-}
-
-/// The undo of a line as an operation of its own, which shares the counts that were read.
-fn undo_operation(alloc: Global, undo: &UndoOp) -> Result<Operation, OutOfMemory>
-    ensures { IfOk result (λ op. op ≡ Undo undo.now) }
-{
-    Ok(Operation::Undo(undo.copy(alloc)?))
 }
 
 impl Progress {
@@ -178,43 +163,42 @@ impl Progress {
         &mut self,
         alloc: Global,
         id: u16,
-        name: &Text,
+        name: Text,
         offset: u64,
         bias: Bias,
     ) -> Result<(), OutOfMemory>
         ensures report { OnOk result (self.new.report.items
             ≡ self.old.report.items
-            ++ report_text (events (SessionLine.Anchor id name.now offset bias)
+            ++ report_text (events (SessionLine.Anchor id name offset bias)
             (state_of self.old))) }
         ensures state { OnOk result (state_of self.new
-            ≡ step (SessionLine.Anchor id name.now offset bias) (state_of self.old)) }
+            ≡ step (SessionLine.Anchor id name offset bias) (state_of self.old)) }
     {
         let Some(snapshot) = self.snapshot_of(id)? else {
             return Ok(());
         };
         let made = snapshot.anchor(offset, bias);
         drop(snapshot);
-        let answer = names::keep_anchor(alloc, &mut self.anchors, name, made)?;
-        let name = name.copy(alloc)?;
+        let answer = names::keep_anchor(alloc, &mut self.anchors, &name, made)?;
         write_line(alloc, &mut self.report, &Report::Anchor { name, answer })?;
         Ok(())
     }
 
     /// Works a line that asks where an anchor is.
-    fn work_where(&mut self, alloc: Global, id: u16, name: &Text) -> Result<(), OutOfMemory>
+    fn work_where(&mut self, alloc: Global, id: u16, name: Text) -> Result<(), OutOfMemory>
         ensures report { OnOk result (self.new.report.items
             ≡ self.old.report.items
-            ++ report_text (events (SessionLine.Where id name.now) (state_of self.old))) }
+            ++ report_text (events (SessionLine.Where id name) (state_of self.old))) }
         ensures state { OnOk result (state_of self.new
-            ≡ step (SessionLine.Where id name.now) (state_of self.old)) }
+            ≡ step (SessionLine.Where id name) (state_of self.old)) }
     {
         let Some(snapshot) = self.snapshot_of(id)? else {
             return Ok(());
         };
-        let answer = names::where_answer(&snapshot, names::find(&self.anchors, name));
+        let answer = names::where_answer(&snapshot, names::find(&self.anchors, &name));
         drop(snapshot);
         let report = Report::Where {
-            name: name.copy(alloc)?,
+            name,
             replica: id,
             answer,
         };
@@ -223,62 +207,83 @@ impl Progress {
     }
 
     /// Works a line that keeps a version.
-    fn work_mark(&mut self, alloc: Global, id: u16, name: &Text) -> Result<(), OutOfMemory>
+    fn work_mark(&mut self, alloc: Global, id: u16, name: Text) -> Result<(), OutOfMemory>
         ensures report { OnOk result (self.new.report.items
             ≡ self.old.report.items
-            ++ report_text (events (SessionLine.Mark id name.now) (state_of self.old))) }
+            ++ report_text (events (SessionLine.Mark id name) (state_of self.old))) }
         ensures state { OnOk result (state_of self.new
-            ≡ step (SessionLine.Mark id name.now) (state_of self.old)) }
+            ≡ step (SessionLine.Mark id name) (state_of self.old)) }
     {
         let Some(snapshot) = self.snapshot_of(id)? else {
             return Ok(());
         };
         let version = snapshot.version().copy(alloc)?;
         drop(snapshot);
-        names::keep(alloc, &mut self.marks, name, version)?;
-        let name = name.copy(alloc)?;
+        names::keep(alloc, &mut self.marks, &name, version)?;
         write_line(alloc, &mut self.report, &Report::Mark { name })?;
         Ok(())
     }
 
     /// What a line reports that asks what changed since a version, where both are there.
-    fn since_of(&self, alloc: Global, id: u16, name: &Text) -> Result<Option<Report>, OutOfMemory>
+    fn since_of(&self, id: u16, name: Text) -> Result<Option<Report>, OutOfMemory>
         ensures { IfOk result (λ r. option_to_list r
-            ≡ events (SessionLine.Since id name.now) (state_of self.now)) }
+            ≡ events (SessionLine.Since id name) (state_of self.now)) }
     {
-        let Some(version) = names::find(&self.marks, name) else {
+        let Some(version) = names::find(&self.marks, &name) else {
             return Ok(None);
         };
         let Some(snapshot) = self.snapshot_of(id)? else {
             return Ok(None);
         };
-        let answer = names::since_answer(alloc, &snapshot, version)?;
+        let answer = names::since_answer(&snapshot, version)?;
         drop(snapshot);
         Ok(Some(Report::Since {
-            name: name.copy(alloc)?,
+            name,
             replica: id,
             answer,
         }))
     }
 
     /// Works a line that asks what changed since a version.
-    fn work_since(&mut self, alloc: Global, id: u16, name: &Text) -> Result<(), OutOfMemory>
+    fn work_since(&mut self, alloc: Global, id: u16, name: Text) -> Result<(), OutOfMemory>
         ensures report { OnOk result (self.new.report.items
             ≡ self.old.report.items
-            ++ report_text (events (SessionLine.Since id name.now) (state_of self.old))) }
+            ++ report_text (events (SessionLine.Since id name) (state_of self.old))) }
         ensures state { OnOk result (state_of self.new
-            ≡ step (SessionLine.Since id name.now) (state_of self.old)) }
+            ≡ step (SessionLine.Since id name) (state_of self.old)) }
     {
-        let Some(report) = self.since_of(alloc, id, name)? else {
+        let Some(report) = self.since_of(id, name)? else {
             return Ok(());
         };
         write_line(alloc, &mut self.report, &report)?;
         Ok(())
     }
 
-    /// Works a line.
+    /// Works a line. An operation or a name in it is moved to where it is kept or reported.
+    pub fn work_line(&mut self, alloc: Global, line: SessionLine) -> Result<(), OutOfMemory>
+        ensures report { OnOk result (self.new.report.items
+            ≡ self.old.report.items ++ report_text (events line (state_of self.old))) }
+        ensures state { OnOk result (state_of self.new ≡ step line (state_of self.old)) }
+    {
+        match line {
+            SessionLine::Op(edit) => self.work_operation(alloc, Operation::Edit(edit)),
+            SessionLine::Uop(undo) => self.work_operation(alloc, Operation::Undo(undo)),
+            SessionLine::Anchor {
+                replica,
+                name,
+                offset,
+                bias,
+            } => self.work_anchor(alloc, replica, name, offset, bias),
+            SessionLine::Where { replica, name } => self.work_where(alloc, replica, name),
+            SessionLine::Mark { replica, name } => self.work_mark(alloc, replica, name),
+            SessionLine::Since { replica, name } => self.work_since(alloc, replica, name),
+            line => self.work_copy(alloc, &line),
+        }
+    }
+
+    /// Works a line that its caller keeps: an operation or a name in it is copied.
     #[tactic(auto, using(crate::proofs::Steps::nothing_written))]
-    pub fn work_line(&mut self, alloc: Global, line: &SessionLine) -> Result<(), OutOfMemory>
+    pub fn work_copy(&mut self, alloc: Global, line: &SessionLine) -> Result<(), OutOfMemory>
         ensures report { OnOk result (self.new.report.items
             ≡ self.old.report.items ++ report_text (events line.now (state_of self.old))) }
         ensures state { OnOk result (state_of self.new ≡ step line.now (state_of self.old)) }
@@ -286,8 +291,12 @@ impl Progress {
         match line {
             SessionLine::Edit { replica, pieces } => self.work_edit(alloc, *replica, pieces)?,
             SessionLine::Undo { replica, numbers } => self.work_undo(alloc, *replica, numbers)?,
-            SessionLine::Op(edit) => self.work_operation(alloc, edit_operation(alloc, edit)?)?,
-            SessionLine::Uop(undo) => self.work_operation(alloc, undo_operation(alloc, undo)?)?,
+            SessionLine::Op(edit) => {
+                self.work_operation(alloc, Operation::Edit(edit.copy(alloc)?))?
+            }
+            SessionLine::Uop(undo) => {
+                self.work_operation(alloc, Operation::Undo(undo.copy(alloc)?))?
+            }
             SessionLine::Give { replica, number } => self.work_give(alloc, *replica, *number)?,
             SessionLine::Text { replica } => self.work_text(alloc, *replica)?,
             SessionLine::Anchor {
@@ -295,10 +304,16 @@ impl Progress {
                 name,
                 offset,
                 bias,
-            } => self.work_anchor(alloc, *replica, name, *offset, *bias)?,
-            SessionLine::Where { replica, name } => self.work_where(alloc, *replica, name)?,
-            SessionLine::Mark { replica, name } => self.work_mark(alloc, *replica, name)?,
-            SessionLine::Since { replica, name } => self.work_since(alloc, *replica, name)?,
+            } => self.work_anchor(alloc, *replica, name.copy(alloc)?, *offset, *bias)?,
+            SessionLine::Where { replica, name } => {
+                self.work_where(alloc, *replica, name.copy(alloc)?)?
+            }
+            SessionLine::Mark { replica, name } => {
+                self.work_mark(alloc, *replica, name.copy(alloc)?)?
+            }
+            SessionLine::Since { replica, name } => {
+                self.work_since(alloc, *replica, name.copy(alloc)?)?
+            }
             // queries change nothing, and are answered apart
             SessionLine::Find { .. } => {}
             SessionLine::Point { .. } => {}
@@ -347,10 +362,10 @@ impl Progress {
     }
 
     /// The place of the replica with that id.
-    pub fn place_of(&self, id: u16) -> Option<usize>
+    pub fn index_of(&self, id: u16) -> Option<usize>
         ensures { result ≡ position (λ b. b.replica == id) self.now.replicas }
     {
-        self.replicas.place_of(id)
+        self.replicas.index_of(id)
     }
 
     /// What each replica is now.
@@ -405,19 +420,20 @@ fn answer_line(
 fn work_lines(
     progress: &mut Progress,
     alloc: Global,
-    lines: &[SessionLine],
+    lines: Vec<SessionLine>,
     answers: &mut Vec<Report>,
 ) -> Result<(), OutOfMemory>
     ensures report { OnOk result (progress.new.report.items
-        ≡ progress.old.report.items ++ report_text (all_events lines.now (state_of progress.old))) }
+        ≡ progress.old.report.items
+        ++ report_text (all_events lines.items (state_of progress.old))) }
     ensures state { OnOk result (state_of progress.new
-        ≡ after_all lines.now (state_of progress.old)) }
+        ≡ after_all lines.items (state_of progress.old)) }
     ensures answers { OnOk result (answers.new.items
         ≡ answers.old.items ++ map plain_line
-        (queries_from (length answers.old.items + 1) lines.now (state_of progress.old))) }
+        (queries_from (length answers.old.items + 1) lines.items (state_of progress.old))) }
 {
     for line in lines {
-        answer_line(progress, alloc, line, answers)?;
+        answer_line(progress, alloc, &line, answers)?;
         progress.work_line(alloc, line)?;
     }
     Ok(())
@@ -456,9 +472,9 @@ fn write_ends(alloc: Global, replicas: &[Replica], out: &mut Vec<u8>) -> Result<
 }
 
 /// The text of a session's report.
-pub fn report(alloc: Global, session: &Session) -> Result<Vec<u8>, OutOfMemory>
-    requires { IsSession 67108864 session.now }
-    ensures { IfOk result (λ v. v.items ≡ report_text (report_of session.now)) }
+pub fn report(alloc: Global, session: Session) -> Result<Vec<u8>, OutOfMemory>
+    requires { IsSession 67108864 session }
+    ensures { IfOk result (λ v. v.items ≡ report_text (report_of session)) }
 {
     let mut progress = Progress {
         replicas: Replicas::over(alloc, session.replicas.as_slice(), session.base.as_str())?,
@@ -468,7 +484,7 @@ pub fn report(alloc: Global, session: &Session) -> Result<Vec<u8>, OutOfMemory>
         report: Vec::new(alloc),
     };
     let mut answers = Vec::new(alloc);
-    work_lines(&mut progress, alloc, session.lines.as_slice(), &mut answers)?;
+    work_lines(&mut progress, alloc, session.lines.into_vec(), &mut answers)?;
     write_answers(alloc, answers.as_slice(), &mut progress.report)?;
     write_ends(alloc, progress.replicas.as_slice(), &mut progress.report)?;
     Ok(progress.report)

@@ -33,7 +33,7 @@ impl Model for Replica {
 
     ghost view = { λ r. r.buffer };
 
-    ghost use Rattle.session_replay.specs.Held.{IsReplica};
+    ghost use Rattle.session_replay.specs.ReplicaId.{IsReplica};
 
     ghost invariant = { IsReplica };
 }
@@ -76,9 +76,9 @@ impl Replica {
         ensures made { IfOk result (λ o. o ≡ result_ok (edit_outcome number pieces.now self.old)) }
     {
         match self.buffer.edit_uncounted(pieces.as_slice()) {
-            Ok(operation) => self.made(alloc, number, operation, out),
+            Ok(operation) => self.report_and_settle(alloc, number, operation, out),
             Err(EditFault::OutOfMemory) => Err(OutOfMemory),
-            Err(fault) => refused(alloc, &Report::EditRefused { number, fault }, out),
+            Err(fault) => report_refusal(alloc, &Report::EditRefused { number, fault }, out),
         }
     }
 
@@ -103,18 +103,18 @@ impl Replica {
             (undo_outcome number operations.now numbers.now self.old)) }
     {
         if let Some(named) = first_unnamed(operations, numbers) {
-            return refused(alloc, &Report::Unnamed { number, named }, out);
+            return report_refusal(alloc, &Report::Unnamed { number, named }, out);
         }
         let edits = stamps_under(alloc, operations, numbers)?;
         match self.buffer.undo(edits.as_slice()) {
-            Ok(operation) => self.made(alloc, number, operation, out),
+            Ok(operation) => self.report_and_settle(alloc, number, operation, out),
             Err(UndoFault::OutOfMemory) => Err(OutOfMemory),
-            Err(fault) => refused(alloc, &Report::UndoRefused { number, fault }, out),
+            Err(fault) => report_refusal(alloc, &Report::UndoRefused { number, fault }, out),
         }
     }
 
     // Reports the operation that was made, as the operation line with that number, and settles.
-    fn made(
+    fn report_and_settle(
         &mut self,
         alloc: Global,
         number: u64,
@@ -267,7 +267,7 @@ impl Replica {
 }
 
 // Reports what refuses an operation line, which then makes no operation.
-fn refused(
+fn report_refusal(
     alloc: Global,
     refusal: &Report,
     out: &mut Vec<u8>,

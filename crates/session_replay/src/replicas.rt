@@ -21,8 +21,8 @@ const IDS: u16 = LAST_REPLICA + 1;
 #[derive(Drop)]
 pub struct Replicas {
     list: Vec<Replica>,
-    /// The place in the list of the first replica with each id of the table, if one has it.
-    places: Vec<Option<usize>>,
+    /// The index in the list of the first replica with each id of the table, if one has it.
+    indices: Vec<Option<usize>>,
 }
 
 impl Model for Replicas {
@@ -31,7 +31,7 @@ impl Model for Replicas {
 
     ghost Value = { List BufferState };
 
-    ghost use Rattle.session_replay.specs.Found.{AreFound};
+    ghost use Rattle.session_replay.specs.ReplicaIndices.{AreFound};
 
     ghost view = { λ r. r.list.items };
 
@@ -47,8 +47,8 @@ impl Replicas {
         ensures { IfOk result (λ r. r ≡ map (first_buffer base.now) ids.now) }
     {
         let list = replicas_over(alloc, ids, base)?;
-        let places = places_of(alloc, ids)?;
-        Ok(Replicas { list, places })
+        let indices = indices_of(alloc, ids)?;
+        Ok(Replicas { list, indices })
     }
 
     /// The replicas, in the header's order.
@@ -58,13 +58,13 @@ impl Replicas {
         self.list.as_slice()
     }
 
-    /// The place of the replica with that id, where it is there. In constant time, where the id is one of the table.
-    pub fn place_of(&self, id: u16) -> Option<usize>
+    /// The index of the replica with that id, where it is there. In constant time, where the id is one of the table.
+    pub fn index_of(&self, id: u16) -> Option<usize>
         ensures { result ≡ position (λ b. b.replica == id) self.now }
     {
-        match self.places.get(id as usize) {
-            Some(place) => *place,
-            None => place_among(self.list.as_slice(), id),
+        match self.indices.get(id as usize) {
+            Some(index) => *index,
+            None => index_among(self.list.as_slice(), id),
         }
     }
 
@@ -72,8 +72,8 @@ impl Replicas {
     pub fn find(&self, id: u16) -> Option<&Replica>
         ensures { option_copied result ≡ buffer_of id self.now }
     {
-        match self.place_of(id) {
-            Some(place) => Some(&self.list[place]),
+        match self.index_of(id) {
+            Some(index) => Some(&self.list[index]),
             None => None,
         }
     }
@@ -97,10 +97,10 @@ impl Replicas {
         ensures made { IfOk result (λ o. o ≡ option_and_then
             (λ b. result_ok (edit_outcome number pieces.now b)) (buffer_of id self.old)) }
     {
-        let Some(place) = self.place_of(id) else {
+        let Some(index) = self.index_of(id) else {
             return Ok(None);
         };
-        self.list[place].edit(alloc, number, pieces, out)
+        self.list[index].edit(alloc, number, pieces, out)
     }
 
     /// Undoes or redoes what stands under the numbers among the operations, at the replica with that id, where it is there, as the
@@ -125,10 +125,10 @@ impl Replicas {
             (λ b. result_ok (undo_outcome number operations.now numbers.now b))
             (buffer_of id self.old)) }
     {
-        let Some(place) = self.place_of(id) else {
+        let Some(index) = self.index_of(id) else {
             return Ok(None);
         };
-        self.list[place].undo(alloc, number, operations, numbers, out)
+        self.list[index].undo(alloc, number, operations, numbers, out)
     }
 
     /// Gives what stands under a number, an operation or nothing, to the replica with that id, where it is there. Gives its answer.
@@ -141,37 +141,37 @@ impl Replicas {
             (buffer_of id self.old)) }
         ensures after { OnOk result (self.new ≡ with_buffer id (after_give operation) self.old) }
     {
-        let Some(place) = self.place_of(id) else {
+        let Some(index) = self.index_of(id) else {
             return Ok(None);
         };
-        Ok(Some(self.list[place].give(operation)?))
+        Ok(Some(self.list[index].give(operation)?))
     }
 }
 
-/// The place of the replica with that id, by a walk along them.
-fn place_among(replicas: &[Replica], id: u16) -> Option<usize>
+/// The index of the replica with that id, by a walk along them.
+fn index_among(replicas: &[Replica], id: u16) -> Option<usize>
     ensures { result ≡ position (λ b. b.replica == id) replicas.now }
 {
     replicas.iter().position(|replica| replica.has_id(id))
 }
 
-/// The place of an id among the ids.
-fn place_in(ids: &[u16], id: u16) -> Option<usize>
+/// The index of an id among the ids.
+fn index_in(ids: &[u16], id: u16) -> Option<usize>
     ensures { result ≡ position (λ i. i == id) ids.now }
 {
     ids.iter().position(|other| *other == id)
 }
 
-/// The place among the ids of each id of the table.
-fn places_of(alloc: Global, ids: &[u16]) -> Result<Vec<Option<usize>>, OutOfMemory>
+/// The index among the ids of each id of the table.
+fn indices_of(alloc: Global, ids: &[u16]) -> Result<Vec<Option<usize>>, OutOfMemory>
     ensures { IfOk result (λ v. (k : ℕ) → k < length v.items
         → get_or v.items k None ≡ position (λ i. i == k) ids.now) }
 {
-    let mut places = Vec::with_capacity(alloc, IDS as usize)?;
+    let mut indices = Vec::with_capacity(alloc, IDS as usize)?;
     for id in 0..IDS {
-        places.push(place_in(ids, id))?;
+        indices.push(index_in(ids, id))?;
     }
-    Ok(places)
+    Ok(indices)
 }
 
 /// The replicas over the base, which is made ready once for all of them.

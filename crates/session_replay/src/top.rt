@@ -12,7 +12,7 @@ ghost use Rattle.session_lines.specs.Words.{bad_line, many_line};
 ghost use Rattle.session_lines.specs.Report.{session_counts, line_text};
 ghost use Rattle.session_replay.specs.Making.{Makes};
 ghost use Rattle.session_replay.specs.Queries.{IsReport};
-ghost use Rattle.session_replay.specs.Replay.{Answered, Does, Ends, IsAnswer, IsOutput, Writes, large_line, usage_line};
+ghost use Rattle.session_replay.specs.Replay.{AnswersSource, Does, Ends, IsAnswer, IsOutput, Writes, large_line, usage_line};
 ghost use Rattle.session_lines.specs.declared.session.Session.{Session};
 ghost use Rattle.session_lines.specs.declared.fault.Word.{Word};
 ghost use Rattle.session_lines.specs.declared.fault.DecodeFault.{DecodeFault};
@@ -81,10 +81,10 @@ fn report_with<R: Threads + Wait + Sync, G: Gate>(
     alloc: Global,
     gate: &G,
     workers: u32,
-    session: &Session,
+    session: Session,
 ) -> Result<Vec<u8>, OutOfMemory>
-    requires { IsSession 67108864 session.now }
-    ensures { IfOk result (λ v. IsReport session.now workers v.items) }
+    requires { IsSession 67108864 session }
+    ensures { IfOk result (λ v. IsReport session workers v.items) }
 {
     if workers == 0 {
         report(alloc, session)
@@ -94,19 +94,19 @@ fn report_with<R: Threads + Wait + Sync, G: Gate>(
 }
 
 /// What the task writes for a session.
-fn written<R: Threads + Wait + Sync, G: Gate>(
+fn task_output<R: Threads + Wait + Sync, G: Gate>(
     rt: &R,
     alloc: Global,
     gate: &G,
     task: Task,
-    session: &Session,
+    session: Session,
 ) -> Result<Vec<u8>, OutOfMemory>
-    requires { IsSession 67108864 session.now }
-    ensures { IfOk result (λ v. Writes task session.now v.items) }
+    requires { IsSession 67108864 session }
+    ensures { IfOk result (λ v. Writes task session v.items) }
 {
     match task {
         Task::Replay { workers } => report_with(rt, alloc, gate, workers, session),
-        Task::Check => check(alloc, session),
+        Task::Check => check(alloc, &session),
     }
 }
 
@@ -123,7 +123,7 @@ fn answer<R: Threads + Wait + Sync, G: Gate>(
     ensures { IfOk result (λ p. IsAnswer task input.now p.0 p.1.items) }
 {
     match decode(alloc, input) {
-        Ok(session) => Ok((Status::Done, written(rt, alloc, gate, task, &session)?)),
+        Ok(session) => Ok((Status::Done, task_output(rt, alloc, gate, task, session)?)),
         Err(DecodeFault::Lines(_)) => {
             Ok((Status::TooLarge, bytes_of(alloc, "too large: lines\n")?))
         }
@@ -158,7 +158,7 @@ fn answer_source<R: Threads + Wait + Sync, I: Source, G: Gate>(
     task: Task,
     src: &mut I,
 ) -> Result<(Status, Vec<u8>), InputFault>
-    ensures answer { IfOk result (λ p. Answered task (I.left src.old) (I.left src.new)
+    ensures answer { IfOk result (λ p. AnswersSource task (I.left src.old) (I.left src.new)
         (I.given src.old) (I.given src.new) (I.ends src.old) (I.ends src.new) p.0 p.1.items) }
     ensures failed { IsErrOf result InputFault.Failed → Rose (I.faults src.old) (I.faults src.new) }
     ensures answered { IsErrOf result InputFault.TooLarge → ⊥ }
@@ -258,8 +258,8 @@ fn make_session<O: Sink>(alloc: Global, seed: u32, replicas: u16, edits: u32, ou
 /// counted of it. For `make` it reads no source: it makes a session, works it and writes its summary.
 ///
 /// The input and the report are held whole. An edit or undo, made or taken, costs a few descents for each of its pieces and for
-/// each run of bytes that it shows or hides, and a line that shows a text as much as the text. A `give` copies the one operation that
-/// it names. A query is answered on a snapshot, for which nothing is copied: a `find` goes over the text once, and keeps 8 bytes for
+/// each run of bytes that it shows or hides, and a line that shows a text as much as the text. A `give` makes the buffer a further
+/// owner of the one operation that it names. A query is answered on a snapshot, for which nothing is copied: a `find` goes over the text once, and keeps 8 bytes for
 /// each place; a `point` or an `offset` goes down the rope.
 pub fn run<R: Threads + Wait + Sync, I: Source, O: Sink, G: Gate>(
     rt: &R,

@@ -25,11 +25,11 @@ impl<R: Read> Source for Input<R> {
     fn read(&mut self, into: &mut [u8]) -> Result<usize, Failed> {
         match self.inner.read(into) {
             Ok(count) => {
-                self.counts.gave(into.len(), count);
+                self.counts.count_read(into.len(), count);
                 Ok(count)
             }
             Err(_) => {
-                self.counts.failed();
+                self.counts.count_failure();
                 Err(Failed)
             }
         }

@@ -6,4 +6,4 @@ use Rattle.session_replay.proofs.top.report_with.Goals as goal
 
 pub returns-then-workers-eq0 : goal.returns-then-workers-eq0
 returns-then-workers-eq0 g c =
-    IfOk-weaker c.report.result _ _ (λ v is. subst (IsReport c.args.session.now c.args.workers) (sym is) (plain_report c.args.session.now c.args.workers)) c.report.ensures
+    IfOk-weaker c.report.result _ _ (λ v is. subst (IsReport c.args.session c.args.workers) (sym is) (plain_report c.args.session c.args.workers)) c.report.ensures

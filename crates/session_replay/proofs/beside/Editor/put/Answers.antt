@@ -15,24 +15,24 @@ returns-in_default-clause-asking g c =
 
 pub ask-requires-clause-replica : goal.ask-requires-clause-replica
 ask-requires-clause-replica g c =
-    is_listed _ c.args.id c.in-Some.place c.index-replicas-place.result c.in-Some.ensures c.requires.asking.0 c.args.self.now.dispatcher c.args.publishers.now c.requires.asking.1
+    is_listed _ c.args.id c.in-Some.index c.index-replicas-index.result c.in-Some.ensures c.requires.asking.0 c.args.self.now.dispatcher c.args.publishers.now c.requires.asking.1
 
 pub ask-requires-clause-grows : goal.ask-requires-clause-grows
 ask-requires-clause-grows g c =
-    begins _ c.args.id c.in-Some.place c.index-replicas-place.result c.in-Some.ensures c.requires.asking.0 c.args.self.now.dispatcher c.args.publishers.now c.requires.asking.1
-    _ (c.in_ok-snapshot.ensures ∙ (ap (λ (b : BufferState). b.history) c.index-replicas-place.is ∙ ap (λ bs. (get_or bs c.in-Some.place c.index-replicas-place.result).history) c.replicas.ensures))
+    begins _ c.args.id c.in-Some.index c.index-replicas-index.result c.in-Some.ensures c.requires.asking.0 c.args.self.now.dispatcher c.args.publishers.now c.requires.asking.1
+    _ (c.in_ok-snapshot.ensures ∙ (ap (λ (b : BufferState). b.history) c.index-replicas-index.is ∙ ap (λ bs. (get_or bs c.in-Some.index c.index-replicas-index.result).history) c.replicas.ensures))
 
 pub returns-clause-asking : goal.returns-clause-asking
 returns-clause-asking g c =
     let s = state_of c.args.self.now.progress in
     let bs = c.args.self.now.progress.replicas in
     let r = c.args.id in
-    let i = c.in-Some.place in
-    let x = c.index-replicas-place.result in
+    let i = c.in-Some.index in
+    let x = c.index-replicas-index.result in
     let question = c.args.question in
     let h = c.in_ok-snapshot.snapshot in
     let e = c.in-Some.ensures in
-    let is : h ≡ (get_or bs i x).history = c.in_ok-snapshot.ensures ∙ (ap (λ (b : BufferState). b.history) c.index-replicas-place.is ∙ ap (λ all. (get_or all i x).history) c.replicas.ensures) in
+    let is : h ≡ (get_or bs i x).history = c.in_ok-snapshot.ensures ∙ (ap (λ (b : BufferState). b.history) c.index-replicas-index.is ∙ ap (λ all. (get_or all i x).history) c.replicas.ensures) in
     let put = c.in_ok-ask.ensures in
     λ asks a. asks_more bs asks _ _ _ _ i x (query_with (length asks + 1) s (Some (r, question))) question h (at_place bs r i x e).0 is
     (asked_one bs r i x e (length asks + 1) question h is)

@@ -12,13 +12,13 @@ pub returns-in_default-clause-report : goal.returns-in_default-clause-report
 returns-in_default-clause-report c =
     let s = state_of c.args.self.now in
     let e : None ≡ history_at c.args.id s = cc (c.in_default.is, c.in_ok-snapshot.ensures) in
-    of_no_history (λ h. report.Anchor c.args.name.now (anchor_answer (place_fault h c.args.offset)) ∷ []) (history_at c.args.id s) c.args.self.now.report.items e
+    of_no_history (λ h. report.Anchor c.args.name (anchor_answer (place_fault h c.args.offset)) ∷ []) (history_at c.args.id s) c.args.self.now.report.items e
 
 pub returns-in_default-clause-state : goal.returns-in_default-clause-state
 returns-in_default-clause-state c =
     let s = state_of c.args.self.now in
     let e : None ≡ history_at c.args.id s = cc (c.in_default.is, c.in_ok-snapshot.ensures) in
-    same_names s s.anchors _ s.marks s.marks (ap (λ h. with_name c.args.name.now (option_and_then (new_anchor c.args.offset c.args.bias) h) s.anchors) e) refl
+    same_names s s.anchors _ s.marks s.marks (ap (λ h. with_name c.args.name (option_and_then (new_anchor c.args.offset c.args.bias) h) s.anchors) e) refl
 
 pub returns-clause-report : goal.returns-clause-report
 returns-clause-report c =
@@ -26,8 +26,8 @@ returns-clause-report c =
     let h = c.in-Some.snapshot in
     let e : Some h ≡ history_at c.args.id s = cc (c.in-Some.is, c.in_ok-snapshot.ensures) in
     let answer : c.in_ok-answer.answer ≡ anchor_answer (place_fault h c.args.offset) = c.in_ok-answer.ensures.answer ∙ ap anchor_answer c.anchor-made.ensures.fault in
-    of_history (λ h. report.Anchor c.args.name.now (anchor_answer (place_fault h c.args.offset)) ∷ []) (history_at c.args.id s) h _ _ e
-    (line_reported _ _ _ _ (ap (λ n. report.Anchor n c.in_ok-answer.answer) c.in_ok-name.ensures ∙ ap (report.Anchor c.args.name.now) answer) c.in_ok-write_line.ensures.ok)
+    of_history (λ h. report.Anchor c.args.name (anchor_answer (place_fault h c.args.offset)) ∷ []) (history_at c.args.id s) h _ _ e
+    (line_reported _ _ _ _ (ap (report.Anchor c.args.name) answer) c.in_ok-write_line.ensures.ok)
 
 pub returns-clause-state : goal.returns-clause-state
 returns-clause-state c =
@@ -36,4 +36,4 @@ returns-clause-state c =
     let e : Some h ≡ history_at c.args.id s = cc (c.in-Some.is, c.in_ok-snapshot.ensures) in
     let made = made_is c.args.offset c.args.bias h c.anchor-made.result c.anchor-made.ensures.fault c.anchor-made.ensures.anchor in
     same_names s _ _ s.marks s.marks
-    (c.in_ok-answer.ensures.anchors ∙ ap (λ x. with_name c.args.name.now x s.anchors) (made ∙ ap (option_and_then (new_anchor c.args.offset c.args.bias)) e)) refl
+    (c.in_ok-answer.ensures.anchors ∙ ap (λ x. with_name c.args.name x s.anchors) (made ∙ ap (option_and_then (new_anchor c.args.offset c.args.bias)) e)) refl

@@ -12,24 +12,24 @@ pub returns-in_default-clause-report : goal.returns-in_default-clause-report
 returns-in_default-clause-report c =
     let s = state_of c.args.self.now in
     let e : None ≡ history_at c.args.id s = cc (c.in_default.is, c.in_ok-snapshot.ensures) in
-    of_no_history (λ h. report.Mark c.args.name.now ∷ []) (history_at c.args.id s) c.args.self.now.report.items e
+    of_no_history (λ h. report.Mark c.args.name ∷ []) (history_at c.args.id s) c.args.self.now.report.items e
 
 pub returns-in_default-clause-state : goal.returns-in_default-clause-state
 returns-in_default-clause-state c =
     let s = state_of c.args.self.now in
     let e : None ≡ history_at c.args.id s = cc (c.in_default.is, c.in_ok-snapshot.ensures) in
-    same_names s s.anchors s.anchors s.marks _ refl (ap (λ h. with_name c.args.name.now (option_map version h) s.marks) e)
+    same_names s s.anchors s.anchors s.marks _ refl (ap (λ h. with_name c.args.name (option_map version h) s.marks) e)
 
 pub returns-clause-report : goal.returns-clause-report
 returns-clause-report c =
     let s = state_of c.args.self.now in
     let e : Some c.in-Some.snapshot ≡ history_at c.args.id s = cc (c.in-Some.is, c.in_ok-snapshot.ensures) in
-    of_history (λ h. report.Mark c.args.name.now ∷ []) (history_at c.args.id s) c.in-Some.snapshot _ _ e
-    (line_reported _ _ _ _ (ap report.Mark c.in_ok-name.ensures) c.in_ok-write_line.ensures.ok)
+    of_history (λ h. report.Mark c.args.name ∷ []) (history_at c.args.id s) c.in-Some.snapshot _ _ e
+    (line_reported _ _ _ _ refl c.in_ok-write_line.ensures.ok)
 
 pub returns-clause-state : goal.returns-clause-state
 returns-clause-state c =
     let s = state_of c.args.self.now in
     let e : Some c.in-Some.snapshot ≡ history_at c.args.id s = cc (c.in-Some.is, c.in_ok-snapshot.ensures) in
     same_names s s.anchors s.anchors _ _ refl
-    (c.in_ok-keep.ensures ∙ ap (λ v. with_name c.args.name.now v s.marks) (ap Some (c.in_ok-version.ensures ∙ c.version.ensures) ∙ ap (option_map version) e))
+    (c.in_ok-keep.ensures ∙ ap (λ v. with_name c.args.name v s.marks) (ap Some (c.in_ok-version.ensures ∙ c.version.ensures) ∙ ap (option_map version) e))

@@ -14,9 +14,9 @@ returns-in_default-clause-after c = unchanged c.args.id c.args.self.now c.in_def
 pub returns-clause-answer : goal.returns-clause-answer
 returns-clause-answer c =
     ap Some c.in_ok-give.ensures.answer
-    ∙ ap (option_map (give_answer c.args.operation)) (there c.args.id (λ (b : BufferState). b) c.args.self.now c.self.inside.list.items c.self.view_is c.in-Some.place c.index_mut.result.now c.in-Some.ensures c.index_mut.ensures.value)
+    ∙ ap (option_map (give_answer c.args.operation)) (there c.args.id (λ (b : BufferState). b) c.args.self.now c.self.inside.list.items c.self.view_is c.in-Some.index c.index_mut.result.now c.in-Some.ensures c.index_mut.ensures.value)
 
 pub returns-clause-after : goal.returns-clause-after
 returns-clause-after c =
-    put c.args.id (after_give c.args.operation) c.args.self.now c.self.inside.list.items c.self.view_is c.in-Some.place c.index_mut.result.now c.in-Some.ensures c.index_mut.ensures.value
+    put c.args.id (after_give c.args.operation) c.args.self.now c.self.inside.list.items c.self.view_is c.in-Some.index c.index_mut.result.now c.in-Some.ensures c.index_mut.ensures.value
     c.give.new.self c.in_ok-give.ensures.after

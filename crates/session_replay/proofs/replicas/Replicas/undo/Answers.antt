@@ -18,15 +18,15 @@ returns-in_default-clause-made c = ap (option_and_then (λ (b : BufferState). re
 
 pub returns-clause-report : goal.returns-clause-report
 returns-clause-report c =
-    reported c.args.id (λ (b : BufferState). b) c.args.self.now c.self.inside.list.items c.self.view_is c.in-Some.place c.index_mut.result.now c.in-Some.ensures c.index_mut.ensures.value
+    reported c.args.id (λ (b : BufferState). b) c.args.self.now c.self.inside.list.items c.self.view_is c.in-Some.index c.index_mut.result.now c.in-Some.ensures c.index_mut.ensures.value
     (λ (b : BufferState). outcome_reports c.args.number (undo_outcome c.args.number c.args.operations.now c.args.numbers.now b) b) c.undo.result _ _ c.undo.ensures.report
 
 pub returns-clause-after : goal.returns-clause-after
 returns-clause-after c =
-    changed c.args.id (λ (b : BufferState). after_outcome (undo_outcome c.args.number c.args.operations.now c.args.numbers.now b) b) c.args.self.now c.self.inside.list.items c.self.view_is c.in-Some.place c.index_mut.result.now c.in-Some.ensures c.index_mut.ensures.value
+    changed c.args.id (λ (b : BufferState). after_outcome (undo_outcome c.args.number c.args.operations.now c.args.numbers.now b) b) c.args.self.now c.self.inside.list.items c.self.view_is c.in-Some.index c.index_mut.result.now c.in-Some.ensures c.index_mut.ensures.value
     c.undo.result c.undo.new.self c.undo.ensures.after
 
 pub returns-clause-made : goal.returns-clause-made
 returns-clause-made c =
-    told c.args.id (λ (b : BufferState). b) c.args.self.now c.self.inside.list.items c.self.view_is c.in-Some.place c.index_mut.result.now c.in-Some.ensures c.index_mut.ensures.value
+    told c.args.id (λ (b : BufferState). b) c.args.self.now c.self.inside.list.items c.self.view_is c.in-Some.index c.index_mut.result.now c.in-Some.ensures c.index_mut.ensures.value
     (λ (b : BufferState). result_ok (undo_outcome c.args.number c.args.operations.now c.args.numbers.now b)) c.undo.result c.undo.ensures.made
