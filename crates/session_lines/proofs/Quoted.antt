@@ -1,10 +1,9 @@
 -- A text that a writer wrote alone, and one that is written in parts.
-use Rattle.std.proofs.Common.{◌≡◌, List, ℕ, ◌-◌, [], ◌∷◌, ◌++◌, length, take, set, Result, Ok, Err, OnOk, OnErr, ap, ap₂, sym, ◌∙◌, Option, map, refl, subst, append-nil, arith}
-use Rattle.std.proofs.Math.Seq.{set-append_seam, take-append_seam}
+use Rattle.std.proofs.Common.{◌≡◌, List, ℕ, [], ◌∷◌, ◌++◌, Result, Ok, Err, OnOk, OnErr, ap, ap₂, sym, ◌∙◌, Option, map, refl, subst, append-nil}
 use denote.Bor.{Bor}
 use Rattle.std.specs.List.{concat}
 use Rattle.std.specs.Iterator.{YieldsFirstRef}
-use Rattle.std.proofs.lemmas.List.{append_assoc, length-append, map-append}
+use Rattle.std.proofs.lemmas.List.{append_assoc, map-append}
 use Rattle.std.proofs.lemmas.List.Folds.{concat-append}
 use Rattle.std.proofs.lemmas.Grind.{flat_map-append}
 use Rattle.std.proofs.lemmas.Iterator.{items_from_drains}
@@ -40,15 +39,6 @@ escape_more v front parts part =
     let joined : concat (map v (parts ++ part ∷ [])) ≡ concat (map v parts) ++ v part =
     ap concat (map-append v parts (part ∷ [])) ∙ concat-append (map v parts) (v part ∷ []) ∙ ap (λ t. concat (map v parts) ++ t) (append-nil (v part)) in
     append_assoc front (34 ∷ escape (concat (map v parts))) (escape (v part)) ∙ ap (λ t. front ++ 34 ∷ t) (sym (flat_map-append escape_byte (concat (map v parts)) (v part)) ∙ ap escape (sym joined))
-
--- a text that was quoted over the last byte, which was put back, and its closing quote taken away
-pub put_back : (front e all quoted_over over cut : List ℕ) (last : ℕ) → all ≡ front ++ last ∷ [] → quoted_over ≡ front ++ (34 ∷ (e ++ 34 ∷ [])) → over ≡ set quoted_over (length front) last → cut ≡ take (length over - 1) over → cut ≡ all ++ e
-put_back front e all quoted_over over cut last a q o c =
-    let whole : List ℕ = (front ++ last ∷ []) ++ e in
-    let behind : over ≡ whole ++ 34 ∷ [] =
-    o ∙ ap (λ (xs : List ℕ). set xs (length front) last) q ∙ set-append_seam front 34 (e ++ 34 ∷ []) last ∙ sym (append_assoc (front ++ last ∷ []) e (34 ∷ []) ∙ append_assoc front (last ∷ []) (e ++ 34 ∷ [])) in
-    let size : length over - 1 ≡ length whole = omega (arith, ap (λ (xs : List ℕ). length xs) behind, length-append whole (34 ∷ [])) in
-    c ∙ ap₂ (λ (n : ℕ) (xs : List ℕ). take n xs) size behind ∙ take-append_seam whole (34 ∷ []) ∙ ap (λ (xs : List ℕ). xs ++ e) (sym a)
 
 -- the line is written by its head, the text that the parts are, and a line feed
 pub text_written : {S : Type 0} (steps : S → Option (Bor (List ℕ)) → S → Type 0) (s : S) (h : TextHead) (words old one two new : List ℕ) → words ≡ head_words h → one ≡ old ++ words → OnText steps s (λ text. two ≡ one ++ quoted text) → new ≡ two ++ 10 ∷ [] → OnText steps s (λ text. new ≡ old ++ line_text (Text h text))

@@ -1,5 +1,5 @@
 //! The text of a report's line.
-ghost use Rattle.std.specs.Prelude.{◌≡◌, ◌<◌, ◌-◌, ◌++◌, false, length, string_bytes, take, true, OnOk, OnErr, IfOk};
+ghost use Rattle.std.specs.Prelude.{◌≡◌, ◌++◌, false, length, string_bytes, take, true, OnOk, OnErr, IfOk};
 ghost use Rattle.std.specs.Iterator.{IsFinite};
 ghost use Rattle.json.specs.Print.{escape, quoted};
 ghost use Rattle.session_lines.specs.Report.{made_line, settled_line, given_words, give_line, text_line, place_fault_words, anchor_words, anchor_line, where_words, where_line, mark_line, edit_words, edits_words, since_fault_words, since_words, since_line, starts_words, find_words, place_words, clips_words, point_words, offset_words, query_word, query_words, query_line, counts_words, waits_words, replica_line, head_words, OnText, fault_words, op_fault_words, undo_fault_words, refused_line, refused_undo_line, unnamed_line, refused_op_line, checked_line, line_text, has_string, is_end};
@@ -64,22 +64,20 @@ fn push_around(
     pushed
 }
 
-// Writes a text as it stands between the quotes of a JSON string, behind a byte that is there: the writer's opening quote
-// goes over that byte, which is then put back. On want of memory that byte is gone.
-fn push_escaped(alloc: Global, out: &mut Vec<u8>, text: &str) -> Result<(), OutOfMemory>
-    requires { 0 < length out.old.items }
+// Writes a text as it stands between the quotes of a JSON string, by way of `string`, whose bytes are replaced. On want of
+// memory nothing is written.
+fn push_escaped(
+    alloc: Global,
+    out: &mut Vec<u8>,
+    string: &mut Vec<u8>,
+    text: &str,
+) -> Result<(), OutOfMemory>
     ensures ok { OnOk result (out.new.items ≡ out.old.items ++ escape text.now) }
-    ensures err { OnErr result (out.new.items
-        ≡ take (length out.old.items - 1) out.old.items) }
+    ensures err { OnErr result (out.new.items ≡ out.old.items) }
 {
-    let Some(last) = out.pop() else {
-        unreachable!();
-    };
-    let seam = out.len();
-    push_quoted(alloc, out, text)?;
-    out[seam] = last;
-    out.pop();
-    Ok(())
+    string.clear();
+    push_quoted(alloc, string, text)?;
+    out.extend_from_slice(&string[1..string.len() - 1])
 }
 
 // Writes the text that the parts are as a JSON string. On want of memory some of it may be written.
@@ -95,9 +93,10 @@ fn push_text<'a, I: Iterator<Item = &'a str> + Drop>(
         (λ text. out.new.items ≡ out.old.items ++ quoted text)) }
     ensures kept { take (length out.old.items) out.new.items ≡ out.old.items }
 {
+    let mut string = Vec::new(alloc);
     out.push(b'"')?;
     for part in parts {
-        push_escaped(alloc, out, part)?;
+        push_escaped(alloc, out, &mut string, part)?;
     }
     out.push(b'"')?;
     Ok(())
@@ -677,7 +676,8 @@ fn push_with_text<'a, I: Iterator<Item = &'a str> + Drop>(
 }
 
 /// Writes a line that ends with a text, with its line feed, at the end of `out`: the line with that head and the text that
-/// the parts are, one after the other. Linear in the line. A part is quoted at its place in `out`, and copied nowhere else.
+/// the parts are, one after the other. Linear in the line. The text is nowhere made as a whole: a part is quoted in a buffer
+/// of one part, and goes from there into `out`.
 ///
 /// # Errors
 ///
