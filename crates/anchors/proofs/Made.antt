@@ -1,11 +1,11 @@
 -- Anchors made at shown cells.
 use Rattle.std.proofs.Common.{[], min, ◌^◌, ◌≡◌, ℕ, zero, suc, ◌+◌, ◌-◌, ◌<◌, ◌≤◌, ◌⊎◌, Bool, true, false, cond, eqb, ltb, List, ◌∷◌, ◌++◌, length, Some, None, refl, sym, ap, ◌∙◌, arith, subst, inl, inr}
 use Rattle.std.specs.List.{AllByRecursion}
-use Rattle.std.specs.Prelude.{slice_get, get_or}
+use Rattle.std.specs.Prelude.{slice_get}
 use Rattle.std.specs.Option.{option_map}
 use Rattle.std.proofs.lemmas.Bool.{cases_Bool, cases_lt, ltb-false, eqb-true, eq-eqb, false_from_ne_true}
 use Rattle.std.proofs.lemmas.List.{length-map}
-use Rattle.std.proofs.lemmas.Option.{slice_get_past, slice_get_within, slice_get-get_or, none-some}
+use Rattle.std.proofs.lemmas.Option.{slice_get_past, slice_get_within, none-some}
 use Rattle.op_model.specs.Histories.{History}
 use Rattle.op_model.specs.Cells.{Cell, cell_at}
 use Rattle.op_model.specs.Shown.{shown, text, byte}
@@ -16,6 +16,7 @@ use Rattle.op_model.specs.declared.faults.PlaceFault.TheVariants.{PastEnd}
 use Rattle.op_model.specs.Anchors.{shown_cells, left_anchor, right_anchor, place_fault, shown_count}
 use Rattle.op_model.proofs.MainLaws.{texts_are_shown_cells}
 use Rattle.undo_map.specs.declared.entry.UndoEntry.{UndoEntry}
+use Rattle.undo_map.proofs.Seeking.{none_past}
 use Rattle.fragments.specs.declared.fragment.Fragment.{Fragment}
 use Rattle.fragments.specs.declared.index_entry.IndexEntry.{IndexEntry}
 use Rattle.fragments.specs.Stand.{Stand, Tell, IsFilled}
@@ -77,19 +78,13 @@ byte_room fs w u h o b n f s a e = (number_is fs w u h o b n f s a e).1
 text_length : (h : History) → Lawful h → length (text h) ≡ length (shown_cells h)
 text_length h l = ap length (texts_are_shown_cells h l).0 ∙ length-map (shown_cells h) (byte h)
 
-got_none : (s : List Cell) (o : ℕ) → None ≡ slice_get s o → length s ≤ o
-got_none s o e = elim (cases_lt o (length s)) [
-  | inl l ↦ (let c : Cell = cell_at (record { value = 0; replica = 0 }) 0 in absurd (none-some (get_or s o c) (e ∙ slice_get-get_or s o c l)))
-  | inr l ↦ l
-]
-
 pub left_start : (h : History) (o : ℕ) → o ≡ 0 → left_anchor h o ≡ Some Least
 unfolding left_anchor
 left_start h zero e = refl
 left_start h (suc o) e = absurd (omega (arith, e))
 
 pub left_within : (h : History) (o : ℕ) → Lawful h → (o ≡ 0 → ⊥) → o ≤ length (text h) → None ≡ slice_get (shown_cells h) (o - 1) → ⊥
-left_within h o l z m e = let n = got_none (shown_cells h) (o - 1) e in let t = text_length h l in
+left_within h o l z m e = let n = none_past (shown_cells h) (o - 1) (sym e) in let t = text_length h l in
     elim (cases_lt 0 o) [ inl p ↦ absurd (omega (arith, n, t, m, p)) | inr p ↦ z (omega (arith, p)) ]
 
 pub left_some : (h : History) (o : ℕ) (b : Byte) (n : ℕ) → (o ≡ 0 → ⊥) → Some (cell_of b) ≡ slice_get (shown_cells h) (o - 1) → b.k + 1 < 2 ^ 64 → n ≡ min (b.k + 1) (2 ^ 64 - 1)
@@ -104,7 +99,7 @@ left_some h (suc o) b n z e m i =
 pub right_end : (h : History) (o : ℕ) → Lawful h → o ≤ length (text h) → None ≡ slice_get (shown_cells h) o → right_anchor h o ≡ Some Greatest
 unfolding right_anchor
 right_end h o l m e =
-    let n = got_none (shown_cells h) o e in let t = text_length h l in
+    let n = none_past (shown_cells h) o (sym e) in let t = text_length h l in
     let q : o ≡ length (text h) = omega (arith, n, t, m) in
     ap (λ (b : Bool). cond b (Some Greatest) (option_map (λ (c : Cell). At c.stamp c.k Right) (slice_get (shown_cells h) o))) (eq-eqb o (length (text h)) q)
 

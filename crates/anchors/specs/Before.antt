@@ -9,6 +9,7 @@ use Rattle.fragments.specs.Summaries.{no_fragments, summaries, IsSummary, IsOne,
 use Rattle.fragments.specs.SummaryLaws.{id_order}
 use Rattle.fragments.specs.SeenPlaces.{cells_of}
 use Rattle.std.proofs.lemmas.Bool.{not-false}
+use Rattle.std.proofs.lemmas.Option.{same_Some}
 
 abbrev pub Place : Type 0
 Place = ℕ × ℕ
@@ -25,9 +26,6 @@ IsLaterBefore p q = (p.0 ≤ q.0) × (p.1 ≤ q.1)
 abbrev pub BeforeFits : Place → FragmentSummary → Type 0
 BeforeFits p s = (p.0 + s.visible < 2 ^ 64) × (p.1 + cells_of s < 2 ^ 64)
 
-some_is : (a b : Place) → Some a ≡ Some b → a ≡ b
-some_is a b e = cc
-
 two : (v w m n : ℕ) → v ≡ w → m ≡ n → at v m ≡ at w n
 two v w m n a b = ap (λ k. at k m) a ∙ ap (at w) b
 
@@ -36,7 +34,7 @@ Went p s q = (p.0 + s.visible ≡ q.0) × (p.1 + cells_of s ≡ q.1)
 
 went : (p q : Place) (s : FragmentSummary) → move_before p s ≡ Some q → Went p s q
 went p q s e =
-    let f = some_is (at (p.0 + s.visible) (p.1 + cells_of s)) q e in
+    let f = same_Some (at (p.0 + s.visible) (p.1 + cells_of s)) q e in
     (ap (λ (z : Place). z.0) f, ap (λ (z : Place). z.1) f)
 
 goes : (p q : Place) (s : FragmentSummary) → Went p s q → move_before p s ≡ Some q

@@ -21,11 +21,13 @@ OrderIsTotal = (h : History) → IsTotalOrder (compare_anchors h)
 
 -- in one gap a Left anchor is less than a Right one
 abbrev pub LeftBeforeRight : Type 0
-LeftBeforeRight = (h : History) → (a b : Anchor) → (gap h a).0 ≡ (gap h b).0 → bias_of a ≡ Left → bias_of b ≡ Right → compare_anchors h a b ≡ Less
+LeftBeforeRight = (h : History) → (a b : Anchor) → (gap h a).0 ≡ (gap h b).0 → bias_of a ≡ Left
+    → bias_of b ≡ Right → compare_anchors h a b ≡ Less
 
 -- two anchors that have an order keep it when the history grows, and the lesser never has the greater place
 abbrev pub AnchorsStayInOrder : Type 0
-AnchorsStayInOrder = (h g : History) → Lawful h → Lawful (h ++ g) → (a b : Anchor) → (o : Ordering) → known_order h a b ≡ Some o
+AnchorsStayInOrder = (h g : History) → Lawful h → Lawful (h ++ g) → (a b : Anchor) → (o : Ordering)
+    → known_order h a b ≡ Some o
     → (known_order (h ++ g) a b ≡ Some o)
     × (o ≡ Less → (p q : ℕ) → known_place (h ++ g) a ≡ Some p → known_place (h ++ g) b ≡ Some q → p ≤ q)
 

@@ -41,13 +41,24 @@ cells_len fs = kept_len (λ t. true) (runs fs)
 
 -- the cells of a fragment, before which v shown cells stand, and n of all
 abbrev pub run_behind : Fragment → ℕ → ℕ → Run
-run_behind f v n = record { stamp = f.stamp; offset = f.offset; len = f.len; is_shown = f.visible; shown = v; cells = n }
+run_behind f v n = record {
+  stamp = f.stamp;
+  offset = f.offset;
+  len = f.len;
+  is_shown = f.visible;
+  shown = v;
+  cells = n;
+}
 
 -- the spot of cell k of edit t in a run
 abbrev pub spot_in : Run → Lamport → ℕ → Option Spot
 spot_in r t k =
     if same_stamp r.stamp t && nat_le r.offset k && nat_lt (k - r.offset) r.len
-    then Some (record { is_shown = r.is_shown; shown = r.shown + (if r.is_shown then k - r.offset else 0); cells = r.cells + (k - r.offset) })
+    then Some (record {
+      is_shown = r.is_shown;
+      shown = r.shown + (if r.is_shown then k - r.offset else 0);
+      cells = r.cells + (k - r.offset);
+    })
     else None
 
 -- the cells before a run and in it are counted in a u64

@@ -40,7 +40,8 @@ side Right = 1
 
 -- where a known anchor stands, None for one that is not known
 abbrev pub standing_of : History → Anchor → Option Standing
-standing_of h a = if is_known h a then Some (record { place = place h a; gap = (gap h a).0; bias = bias_of a }) else None
+standing_of h a = if is_known h a
+    then Some (record { place = place h a; gap = (gap h a).0; bias = bias_of a }) else None
 
 -- where edit t of h has at least k cells, b says whether a character ends before the next one
 abbrev pub EndsAt : History → Lamport → ℕ → Bool → Type 0

@@ -13,7 +13,8 @@ use Rattle.sum_tree.specs.Laws.{fold}
 use Rattle.sum_tree.specs.Count.{count_sum}
 use Rattle.sum_tree.specs.Keyed.{Ascending, below, above, insert_item}
 use Rattle.lamport_clock.specs.declared.stamp.Lamport.{Lamport}
-use Rattle.lamport_clock.specs.Stamps.{same_stamp, stamp_cmp}
+use Rattle.sum_tree.proofs.Keys.{inserted_short}
+use Rattle.lamport_clock.specs.Stamps.{same_stamp, stamp_cmp, stamp_order}
 use Rattle.lamport_clock.proofs.Order.{is_eq-same, stamp_cmp-refl}
 use Rattle.op_model.specs.declared.operation.Operation.{Operation}
 use Rattle.op_model.specs.Operations.{stamp_of}
@@ -200,23 +201,8 @@ counted n (x ∷ xs) = let e = counted (n + 1) xs in omega arith
 pub counts_fit : {X : Type 0} (xs : List X) → length xs ≤ 2 ^ 40 → (fold (record { items = 0 }) count_sum (λ (x : X). record { items = 1 }) xs).items < 2 ^ 64
 counts_fit xs l = let e = counted 0 xs in omega arith
 
-parts_long : (t : Lamport) (ps : List StampEntry) → length (below stamp_cmp stamp_at t ps) + length (above stamp_cmp stamp_at t ps) ≤ length ps
-parts_long t [] = omega arith
-parts_long t (p ∷ ps) =
-    let ih = parts_long t ps in
-    let B : List StampEntry = below stamp_cmp stamp_at t ps in
-    let A : List StampEntry = above stamp_cmp stamp_at t ps in
-    elim (stamp_cmp p.stamp t) as (λ r. length (cond (is_lt r) (p ∷ B) B) + length (cond (is_gt r) (p ∷ A) A) ≤ suc (length ps)) [
-      | Less ↦ omega arith
-      | Equal ↦ omega arith
-      | Greater ↦ omega arith
-    ]
-
 pub inserted_long : (p : StampEntry) (ps : List StampEntry) → length ps < 2 ^ 40 → length (insert_item stamp_cmp stamp_at p ps) ≤ 2 ^ 40
-inserted_long p ps l =
-    let long = length-append (below stamp_cmp stamp_at p.stamp ps) (p ∷ above stamp_cmp stamp_at p.stamp ps) in
-    let parts = parts_long p.stamp ps in
-    omega arith
+inserted_long p ps l = omega (arith, inserted_short stamp_cmp stamp_at stamp_order p ps, l)
 
 pub pushed_long : (h : History) (x : Operation) → length h < 2 ^ 40 → length (h ++ x ∷ []) ≤ 2 ^ 40
 pushed_long h x l = let long = length-append h (x ∷ []) in omega arith

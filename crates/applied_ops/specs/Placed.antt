@@ -17,7 +17,8 @@ entry_at ps t = item_of_key stamp_cmp stamp_at t ps
 -- the stamps of the entries ascend, and the stamp of each operation has its index
 abbrev pub AreEntriesOf : List StampEntry → List Operation → Type 0
 AreEntriesOf ps h = Ascending stamp_cmp stamp_at ps
-    × ((i : ℕ) (d : Operation) → i < length h → entry_at ps (stamp_of (get_or h i d)) ≡ Some (record { stamp = stamp_of (get_or h i d); index = i }))
+    × ((i : ℕ) (d : Operation) → i < length h
+    → entry_at ps (stamp_of (get_or h i d)) ≡ Some (record { stamp = stamp_of (get_or h i d); index = i }))
 
 -- an operation is found, and it is an edit
 abbrev pub is_edit_found : Option Operation → Bool

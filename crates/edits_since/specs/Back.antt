@@ -22,8 +22,10 @@ move_back u v f = move_for f.visible (was_in_text u v f) f.len
 
 -- of each such history, the moves make the text that v saw
 abbrev pub AreMovesBack : List Fragment → List UndoEntry → Entries → List Move → Type 0
-AreMovesBack fs u v ms = (h : History) → MayTell fs u v h → (after_moves ms (text h) (hidden_text h) []).shown ≡ text_at h v
+AreMovesBack fs u v ms = (h : History) → MayTell fs u v h
+    → (after_moves ms (text h) (hidden_text h) []).shown ≡ text_at h v
 
 -- of each such history, they take whole characters where the fragments begin and end between characters
 abbrev pub TakeCharacters : List Fragment → List UndoEntry → Entries → List Move → Type 0
-TakeCharacters fs u v ms = (h : History) → MayTell fs u v h → AllByRecursion IsProper h → AllByRecursion (IsWhole h) (runs fs) → TakeTexts ms (text h) (hidden_text h) []
+TakeCharacters fs u v ms = (h : History) → MayTell fs u v h → AllByRecursion IsProper h
+    → AllByRecursion (IsWhole h) (runs fs) → TakeTexts ms (text h) (hidden_text h) []

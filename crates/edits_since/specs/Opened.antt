@@ -27,6 +27,18 @@ with_kept n r = if n == 0 then r
 -- n bytes more that were in the text then or not, and are now or not
 abbrev pub with_bytes : ℕ → Bool → Bool → OpenRun → OpenRun
 with_bytes n true true r = with_kept n r
-with_bytes n true false r = record { edits = r.edits; old_start = r.old_start; new_start = r.new_start; gone = r.gone + n; fresh = r.fresh }
-with_bytes n false true r = record { edits = r.edits; old_start = r.old_start; new_start = r.new_start; gone = r.gone; fresh = r.fresh + n }
+with_bytes n true false r = record {
+  edits = r.edits;
+  old_start = r.old_start;
+  new_start = r.new_start;
+  gone = r.gone + n;
+  fresh = r.fresh;
+}
+with_bytes n false true r = record {
+  edits = r.edits;
+  old_start = r.old_start;
+  new_start = r.new_start;
+  gone = r.gone;
+  fresh = r.fresh + n;
+}
 with_bytes n false false r = r

@@ -1,13 +1,12 @@
 -- An index with an entry more.
-use Rattle.std.proofs.Common.{◌≡◌, ℕ, suc, ◌+◌, ◌≤◌, ◌⊎◌, Bool, true, false, cond, List, [], ◌∷◌, ◌++◌, length, length-append, refl, sym, ap, ◌∙◌, arith, subst, inl, inr}
+use Rattle.std.proofs.Common.{◌≡◌, ℕ, ◌+◌, ◌≤◌, ◌⊎◌, Bool, true, false, cond, List, [], ◌∷◌, ◌++◌, length, refl, sym, ap, ◌∙◌, arith, subst, inl, inr}
 use Rattle.std.proofs.lemmas.Bool.{cases_Bool}
 use Rattle.std.proofs.lemmas.Cmp.{tied_itself}
 use Rattle.std.specs.Ordering.{nat_cmp, ordering_then, is_lt, is_eq, is_gt}
 use Rattle.std.specs.declared.cmp.Ordering.{Ordering}
 use Rattle.std.specs.declared.cmp.Ordering.TheVariants.{Less, Equal, Greater}
 use Rattle.std.specs.List.{filter}
-use Rattle.sum_tree.specs.Keyed.{below, above}
-use Rattle.sum_tree.proofs.Keys.{ascending_inserted}
+use Rattle.sum_tree.proofs.Keys.{ascending_inserted, inserted_short}
 use Rattle.lamport_clock.specs.declared.stamp.Lamport.{Lamport}
 use Rattle.lamport_clock.proofs.Order.{is_eq-same}
 use Rattle.lamport_clock.specs.Stamps.{stamp_cmp}
@@ -88,25 +87,8 @@ entry_takes_its_place x w a = (ascending_inserted key_cmp key_of key_order x w a
 
 -- ---- how many entries
 
-parts_long : (k : IndexKey) (w : List IndexEntry) → length (below key_cmp key_of k w) + length (above key_cmp key_of k w) ≤ length w
-parts_long k [] = omega arith
-parts_long k (f ∷ w) =
-    let ih = parts_long k w in
-    let b : List IndexEntry = below key_cmp key_of k w in
-    let a : List IndexEntry = above key_cmp key_of k w in
-    elim (key_cmp (key_of f) k) as (λ r. length (cond (is_lt r) (f ∷ b) b) + length (cond (is_gt r) (f ∷ a) a) ≤ suc (length w)) [
-      | Less ↦ omega arith
-      | Equal ↦ omega arith
-      | Greater ↦ omega arith
-    ]
-
 pub with_entry_long : (e : IndexEntry) (w : List IndexEntry) → length (with_entry e w) ≤ length w + 1
-with_entry_long e w =
-    let b : List IndexEntry = below key_cmp key_of (key_of e) w in
-    let a : List IndexEntry = above key_cmp key_of (key_of e) w in
-    let n = length-append b (e ∷ a) in
-    let m = parts_long (key_of e) w in
-    omega arith
+with_entry_long e w = inserted_short key_cmp key_of key_order e w
 
 pub grown : (e : IndexEntry) (w n : List IndexEntry) → n ≡ with_entry e w → length n ≤ length w + 1
 grown e w n q = subst (λ z. length z ≤ length w + 1) (sym q) (with_entry_long e w)

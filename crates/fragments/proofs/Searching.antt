@@ -16,6 +16,7 @@ use Rattle.fragments.specs.declared.index_entry.IndexKey.{IndexKey}
 use Rattle.fragments.specs.declared.index_entry.IndexEntry.{IndexEntry}
 use Rattle.fragments.specs.Index.{key_of, key_cmp, key_order, IsAscending, first_from, covers, nearest, entry_for, id_for}
 use Rattle.undo_map.proofs.Early.{is_equal}
+use Rattle.undo_map.proofs.Seeking.{key_less_next}
 use Rattle.locators.proofs.Between.{nat_cmp-below, nat_cmp-Less}
 
 abbrev less : IndexKey → IndexKey → Bool
@@ -29,18 +30,6 @@ key_sum e = record { key = Some (key_of e) }
 
 -- ---- the seek
 
--- a key that is less than k does not hide one that is not
-on_at : (a b k : IndexKey) (ab : Bool) → less a b ≡ ab → less a k ≡ true → key_less less (cond ab (Some b) (Some a)) (Some k) ≡ less b k
-on_at a b k true e h = refl
-on_at a b k false e h = elim (cases_Bool (less b k)) [
-  | inl l ↦ h ∙ sym l
-  | inr l ↦ absurd (both_ways _ (order.down a b k e l) h)
-]
-
-on : (p : Option IndexKey) (b k : IndexKey) → key_less less p (Some k) ≡ true → key_less less (greater less p (Some b)) (Some k) ≡ less b k
-on None b k h = refl
-on (Some a) b k h = on_at a b k (less a b) refl h
-
 abbrev move : Option IndexKey → Greatest IndexKey → Option (Option IndexKey)
 move p s = Some (greater less p s.key)
 
@@ -51,10 +40,10 @@ pub sought : (k : IndexKey) (p : Option IndexKey) (w : List IndexEntry) → key_
     → slice_get w (seek_count move key_sum (λ q. key_passes less (Some k) q Left) p w) ≡ first_from k w
 sought k p [] h = refl
 sought k p (e ∷ w) h = elim (cases_Bool (less (key_of e) k)) [
-  | inl l ↦ (let q = on p (key_of e) k h ∙ l in
+  | inl l ↦ (let q = key_less_next less order p (key_of e) k h ∙ l in
       let next : Option IndexKey = greater less p (Some (key_of e)) in
       rw (q, l) (step e w (seek_count move key_sum (λ r. key_passes less (Some k) r Left) next w) ∙ sought k next w q))
-  | inr l ↦ (let q = on p (key_of e) k h ∙ l in rw (q, l) refl)
+  | inr l ↦ (let q = key_less_next less order p (key_of e) k h ∙ l in rw (q, l) refl)
 ]
 
 -- ---- the entry of an edit

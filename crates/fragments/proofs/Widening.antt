@@ -2,6 +2,7 @@
 use Rattle.std.proofs.Common.{◌≡◌, ℕ, suc, List, [], ◌∷◌, ◌++◌, length, take, refl, sym, ap, ◌∙◌, arith, true, false, cond, eqb, nat_lt, set, append-nil, eq-eqb, ne_eqb, Some, slice_get}
 use Rattle.std.proofs.Math.ListN.{length-set}
 use Rattle.std.proofs.lemmas.List.{take_all, drop_all}
+use Rattle.std.proofs.lemmas.Option.{same_Some}
 use Rattle.std.specs.List.{refill, insert}
 use Rattle.fragments.specs.declared.spans.Span.{Span}
 use Rattle.fragments.specs.Spans.{hull, with_span, spans_before}
@@ -12,12 +13,9 @@ widen_set (y ∷ u) x old =
     elim (nat_lt y.replica x.replica) as (λ b. nat_lt y.replica x.replica ≡ b → slice_get (y ∷ u) (cond b (suc (spans_before u x.replica)) 0) ≡ Some old → old.replica ≡ x.replica
     → set (y ∷ u) (cond b (suc (spans_before u x.replica)) 0) (hull old x) ≡ cond b (y ∷ with_span x u) (cond (eqb y.replica x.replica) (hull y x ∷ u) (x ∷ y ∷ u))) [
       | true ↦ λ b h e. ap (λ l. y ∷ l) (widen_set u x old h e)
-      | false ↦ λ b h e. let same : y ≡ old = some_is y old h in let q : eqb y.replica x.replica ≡ true = eq-eqb y.replica x.replica (ap (λ (z : Span). z.replica) same ∙ e) in
+      | false ↦ λ b h e. let same : y ≡ old = same_Some y old h in let q : eqb y.replica x.replica ≡ true = eq-eqb y.replica x.replica (ap (λ (z : Span). z.replica) same ∙ e) in
           ap (λ (z : Span). hull z x ∷ u) (sym same) ∙ ap (λ t. cond t (hull y x ∷ u) (x ∷ y ∷ u)) (sym q)
     ] refl
-  where
-    some_is : (a b : Span) → Some a ≡ Some b → a ≡ b
-    some_is a b e = cc
 
 widen_insert : (u : List Span) (x : Span) → ((old : Span) → slice_get u (spans_before u x.replica) ≡ Some old → old.replica ≡ x.replica → ⊥) → insert u (spans_before u x.replica) x ≡ with_span x u
 widen_insert [] x = λ h. refl

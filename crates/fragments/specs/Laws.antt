@@ -20,24 +20,36 @@ use Rattle.fragments.specs.SeenPlaces.{move_full, move_visible, move_at}
 -- where fragments and an index stand for a lawful history, the index finds the fragment of each cell, and nothing for the cells
 -- of an edit of which no fragment is
 abbrev pub IndexFindsFragments : Type 0
-IndexFindsFragments = (fs : List Fragment) → (w : List IndexEntry) → (u : List UndoEntry) → (h : History) → Lawful h → Stand fs w u h
+IndexFindsFragments = (fs : List Fragment) → (w : List IndexEntry) → (u : List UndoEntry)
+    → (h : History) → Lawful h → Stand fs w u h
     → ((f : Fragment) → Member f fs → (j : ℕ) → j < f.len → id_for f.stamp (f.offset + j) w ≡ Some f.id)
     × ((t : Lamport) → AllByRecursion (λ (f : Fragment). f.stamp ≡ t → ⊥) fs → (o : ℕ) → id_for t o w ≡ None)
 
 -- one fragment with all cells of the base
 abbrev pub whole_base : List ℕ → List ℕ → Fragment
-whole_base id t = record { id = id; stamp = record { value = 1; replica = 0 }; offset = 0; len = length t; visible = true; deletions = []; max_undos = [] }
+whole_base id t = record {
+  id = id;
+  stamp = record { value = 1; replica = 0 };
+  offset = 0;
+  len = length t;
+  visible = true;
+  deletions = [];
+  max_undos = [];
+}
 
 -- one fragment stands for a base with a text, and none stands for one without
 abbrev pub BaseStands : Type 0
-BaseStands = ((id : List ℕ) → (t : List ℕ) → 0 < length t → length t < 2 ^ 64 → IsLess least_digits id → IsLess id greatest_digits → EndsAboveZero id
+BaseStands = ((id : List ℕ) → (t : List ℕ) → 0 < length t → length t < 2 ^ 64
+    → IsLess least_digits id → IsLess id greatest_digits → EndsAboveZero id
     → Stand (whole_base id t ∷ []) (entry_of (whole_base id t) ∷ []) [] (base t ∷ []))
     × Stand [] [] [] (base [] ∷ [])
 
 -- an entry takes the place of the one with its key, and of no other
 abbrev pub EntryTakesItsPlace : Type 0
 EntryTakesItsPlace = (x : IndexEntry) → (w : List IndexEntry) → IsAscending w
-    → IsAscending (with_entry x w) × ((e : IndexEntry) → Member e (with_entry x w) ↔ ((e ≡ x) ⊎ (Member e w × (key_of e ≡ key_of x → ⊥))))
+    → IsAscending (with_entry x w)
+    × ((e : IndexEntry) → Member e (with_entry x w)
+    ↔ ((e ≡ x) ⊎ (Member e w × (key_of e ≡ key_of x → ⊥))))
 
 -- the cells that are shown
 abbrev pub shown_len : List Fragment → ℕ

@@ -2,6 +2,7 @@
 use Rattle.std.specs.Prelude.{◌≡◌, ℕ, ◌+◌, ◌^◌, ◌<◌, ◌≤◌, Bool, true, false, cond, Option, Some, None, nat_le}
 use Rattle.std.proofs.Common.{ap, sym, refl, ◌∙◌, arith, ◌⊎◌, inl, inr, [], ◌∷◌}
 use Rattle.std.proofs.lemmas.Bool.{cases_Bool, and_from, leb-false, lt-ltb}
+use Rattle.std.proofs.lemmas.Option.{same_Some}
 use Rattle.tree_cursor.specs.Places.{DimensionLaws}
 use Rattle.lamport_clock.specs.Versions.{Entries, entry}
 use Rattle.fragments.specs.declared.fragment.FragmentSummary.{FragmentSummary}
@@ -27,7 +28,8 @@ abbrev pub at_place : Entries → ℕ → Option At
 at_place v n = Some (v, n)
 
 abbrev pub move_at : At → FragmentSummary → Option At
-move_at p s = cond (sees_all p.0 s.span) (at_place p.0 (p.1 + cells_of s)) (cond (sees_none p.0 s.span) (at_place p.0 p.1) None)
+move_at p s = cond (sees_all p.0 s.span) (at_place p.0 (p.1 + cells_of s))
+    (cond (sees_none p.0 s.span) (at_place p.0 p.1) None)
 
 abbrev pub IsLaterAt : At → At → Type 0
 IsLaterAt p q = (p.0 ≡ q.0) × (p.1 ≤ q.1)
@@ -35,15 +37,13 @@ IsLaterAt p q = (p.0 ≡ q.0) × (p.1 ≤ q.1)
 abbrev pub AtFits : At → FragmentSummary → Type 0
 AtFits p s = p.1 + cells_of s < 2 ^ 64
 
-some_is : (a b : At) → Some a ≡ Some b → a ≡ b
-some_is a b e = cc
-
 abbrev Went : At → FragmentSummary → At → Type 0
-Went p s q = (p.0 ≡ q.0) × (((sees_all p.0 s.span ≡ true) × (q.1 ≡ p.1 + cells_of s)) ⊎ ((sees_none p.0 s.span ≡ true) × (q.1 ≡ p.1)))
+Went p s q = (p.0 ≡ q.0)
+    × (((sees_all p.0 s.span ≡ true) × (q.1 ≡ p.1 + cells_of s)) ⊎ ((sees_none p.0 s.span ≡ true) × (q.1 ≡ p.1)))
 
 went_at : (p q : At) (s : FragmentSummary) (all none : Bool) → sees_all p.0 s.span ≡ all → sees_none p.0 s.span ≡ none → cond all (at_place p.0 (p.1 + cells_of s)) (cond none (at_place p.0 p.1) None) ≡ Some q → Went p s q
-went_at p q s true none e f h = (ap (λ (u : At). u.0) (some_is _ _ h), inl (e, sym (ap (λ (u : At). u.1) (some_is _ _ h))))
-went_at p q s false true e f h = (ap (λ (u : At). u.0) (some_is _ _ h), inr (f, sym (ap (λ (u : At). u.1) (some_is _ _ h))))
+went_at p q s true none e f h = (ap (λ (u : At). u.0) (same_Some _ _ h), inl (e, sym (ap (λ (u : At). u.1) (same_Some _ _ h))))
+went_at p q s false true e f h = (ap (λ (u : At). u.0) (same_Some _ _ h), inr (f, sym (ap (λ (u : At). u.1) (same_Some _ _ h))))
 went_at p q s false false e f h = cc
 
 went : (p q : At) (s : FragmentSummary) → move_at p s ≡ Some q → Went p s q
@@ -84,8 +84,8 @@ back_of p r a b h (e, inl w) = let n = w.1 in omega arith
 back_of p r a b h (e, inr w) = let n = w.1 in omega arith
 
 nothing_of : (p q : At) → Went p no_fragments q → q ≡ p
-nothing_of p q (e, inl h) = let n = h.1 in some_is _ _ (sym (same p q p.1 e (omega arith)))
-nothing_of p q (e, inr h) = some_is _ _ (sym (same p q p.1 e h.1))
+nothing_of p q (e, inl h) = let n = h.1 in same_Some _ _ (sym (same p q p.1 e (omega arith)))
+nothing_of p q (e, inr h) = same_Some _ _ (sym (same p q p.1 e h.1))
 
 pub at_laws : DimensionLaws {P = At} {S = FragmentSummary} no_fragments summaries IsSummary IsOne IsLaterAt move_at AtFits
 at_laws = record {

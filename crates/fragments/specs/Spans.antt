@@ -10,7 +10,8 @@ hull a b = record { replica = a.replica; least = min a.least b.least; greatest =
 -- u with a span taken in, at its replica's place
 abbrev pub with_span : Span → List Span → List Span
 with_span x [] = x ∷ []
-with_span x (y ∷ u) = if nat_lt y.replica x.replica then y ∷ with_span x u else (if y.replica == x.replica then hull y x ∷ u else x ∷ y ∷ u)
+with_span x (y ∷ u) = if nat_lt y.replica x.replica then y ∷ with_span x u
+    else (if y.replica == x.replica then hull y x ∷ u else x ∷ y ∷ u)
 
 -- u with the spans of v taken in
 abbrev pub join_spans : List Span → List Span → List Span

@@ -46,7 +46,8 @@ IsIndexOf fs w = (e : IndexEntry) → Member e w ↔ Member e (map entry_of fs)
 
 -- max_undos sees every undo of h that counts the fragment's edit or one of its deletions
 abbrev pub SeesUndos : History → Fragment → Type 0
-SeesUndos h f = (op : Operation) → In h op → (c : UndoCount) → Member c (counts_of op) → Member c.edit (f.stamp ∷ f.deletions) → sees f.max_undos (stamp_of op) ≡ true
+SeesUndos h f = (op : Operation) → In h op → (c : UndoCount) → Member c (counts_of op)
+    → Member c.edit (f.stamp ∷ f.deletions) → sees f.max_undos (stamp_of op) ≡ true
 
 -- The fragments fs, the index w and the undo counts u stand for the history h.
 pub record Stand (fs : List Fragment) (w : List IndexEntry) (u : List UndoEntry) (h : History) : Type 0 where

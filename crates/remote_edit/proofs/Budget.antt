@@ -5,6 +5,7 @@ use Rattle.lamport_clock.specs.declared.stamp.Lamport.{Lamport}
 use Rattle.lamport_clock.specs.Versions.{Entries}
 use Rattle.op_model.specs.declared.operation.Piece.{Piece}
 use Rattle.op_model.specs.Walked.{Ordered}
+use Rattle.op_model.proofs.shown.Walking.{ordered_le}
 use Rattle.undo_map.specs.declared.entry.UndoEntry.{UndoEntry}
 use Rattle.fragments.specs.declared.fragment.Fragment.{Fragment}
 use Rattle.fragments.specs.Stand.{IsFilled}
@@ -40,10 +41,6 @@ pub ordered_up : (at end more : ℕ) (ps : List Piece) → end ≤ more → Orde
 ordered_up at end more [] h o = omega (arith, h, o)
 ordered_up at end more (p ∷ ps) h o = (o.0, o.1, ordered_up p.end end more ps h o.2)
 
-pub ordered_end : (at end : ℕ) (ps : List Piece) → Ordered at end ps → at ≤ end
-ordered_end at end [] o = o
-ordered_end at end (p ∷ ps) o = let a = o.0 in let b = o.1 in let c = ordered_end p.end end ps o.2 in omega (arith, a, b, c)
-
 module _ (v : Entries) (fs : List Fragment) (ps : List Piece) (place : ℕ) (rest : List Fragment) (p : Piece) (qs : List Piece) (old new : ℕ) (b : IsOnBudget v fs ps place rest (p ∷ qs) old new) where
   -- a piece is passed over
   pub budget_none : IsOnBudget v fs ps place rest qs old new
@@ -60,7 +57,7 @@ module _ (v : Entries) (fs : List Fragment) (ps : List Piece) (place : ℕ) (res
 
   -- it begins not far behind
   pub budget_near : p.start - place ≤ 2 ^ 40
-  budget_near = let o1 = b.order.1 in let k = ordered_end p.end (2 ^ 40) qs b.order.2 in omega (arith, o1, k)
+  budget_near = let o1 = b.order.1 in let k = ordered_le p.end (2 ^ 40) qs b.order.2 in omega (arith, o1, k)
 
   -- what a piece costs
   spent : (n : ℕ) → n ≤ new + 256 * (1 + starts (max 1 (p.start - place)) (p.start - place + (p.end - p.start)) rest) → n ≤ new + 256 * (1 + starts p.start p.end fs)

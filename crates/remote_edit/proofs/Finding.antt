@@ -1,6 +1,7 @@
 -- The fragments that a walk finds by a filter, and the places at which it stands.
 use Rattle.std.proofs.Common.{◌≡◌, ℕ, zero, suc, ◌+◌, ◌-◌, ◌<◌, ◌≤◌, min, Bool, true, false, cond, List, [], ◌∷◌, ◌++◌, length, take, drop, refl, sym, ap, ◌∙◌, arith, Option, Some, None, append_assoc, append-nil, length-append}
 use Rattle.std.proofs.Math.Seq.{take-append_seam, drop-append_seam}
+use Rattle.std.proofs.lemmas.Option.{same_Some}
 use Rattle.std.specs.List.{AllByRecursion, slice_get}
 use Rattle.tree_cursor.specs.Place.{Filtering}
 use Rattle.tree_cursor.specs.Places.{place_behind, filter_count}
@@ -28,9 +29,6 @@ module _ {A S : Type 0} (keeps : S → Bool) (sum_of : A → S) where
     pub unkept : AllByRecursion Unkept over
     pub kept : keeps (sum_of x) ≡ true
 
-  some_is : (a b : A) → Some a ≡ Some b → a ≡ b
-  some_is a b e = cc
-
   next_here : (y x : A) (rest : List A) → keeps (sum_of y) ≡ true → y ≡ x → Next (y ∷ rest) 0 x
   next_here y x rest t e = record { over = []; ahead = rest; parts = ap (λ (z : A). z ∷ rest) e; count = refl; unkept = tt; kept = ap (λ (z : A). keeps (sum_of z)) (sym e) ∙ t }
 
@@ -46,7 +44,7 @@ module _ {A S : Type 0} (keeps : S → Bool) (sum_of : A → S) where
     where
       go : (b : Bool) → keeps (sum_of y) ≡ b → slice_get (y ∷ rest) (cond b 0 (1 + filter_count keeps sum_of rest)) ≡ Some x
           → (slice_get rest (filter_count keeps sum_of rest) ≡ Some x → Next rest (filter_count keeps sum_of rest) x) → Next (y ∷ rest) (cond b 0 (1 + filter_count keeps sum_of rest)) x
-      go true e h ih = next_here y x rest e (some_is y x h)
+      go true e h ih = next_here y x rest e (same_Some y x h)
       go false e h ih = next_on y x rest (filter_count keeps sum_of rest) e (ih (get_on y rest (filter_count keeps sum_of rest) (Some x) h))
 
   -- none is kept

@@ -4,6 +4,7 @@ use Rattle.std.specs.List.{slice_get}
 use Rattle.sum_tree.specs.Laws.{fold}
 use Rattle.sum_tree.specs.Spliced.{splice_list}
 use Rattle.tree_cursor.specs.Places.{filter_count}
+use Rattle.undo_map.proofs.Seeking.{none_past}
 use Rattle.fragments.specs.declared.fragment.Fragment.{Fragment}
 use Rattle.fragments.specs.declared.fragment.FragmentSummary.{FragmentSummary}
 use Rattle.fragments.specs.Summaries.{no_fragments, summaries, summary_of, SummaryFits}
@@ -66,11 +67,6 @@ over_behind m (suc i) n (suc j) (x ∷ xs) e h = ap (λ ys. m x ∷ ys) (over_be
 pub half_over : {A S : Type 0} (m : A → A) (keeps : S → Bool) (sum_of : A → S) → ((x : A) → keeps (sum_of x) ≡ false → m x ≡ x)
     → (i : ℕ) (xs : List A) → half m (i + filter_count keeps sum_of (drop i xs)) xs ≡ half m i xs
 half_over m keeps sum_of f i xs = over_behind m i (filter_count keeps sum_of (drop i xs)) (i + filter_count keeps sum_of (drop i xs)) xs refl (over_here m keeps sum_of f (drop i xs))
-
-pub none_past : {A : Type 0} (xs : List A) (i : ℕ) → slice_get xs i ≡ None → length xs ≤ i
-none_past [] i h = omega arith
-none_past (y ∷ xs) zero h = cc
-none_past (y ∷ xs) (suc i) h = let l = none_past xs i h in omega arith
 
 half_get : {A : Type 0} (m : A → A) (i : ℕ) (xs : List A) → slice_get (half m i xs) i ≡ slice_get xs i
 half_get m zero xs = refl

@@ -1,4 +1,5 @@
 -- An index keeps the entries of fragments that are split and put in.
+use Rattle.std.proofs.lemmas.Option.{same_Some}
 use Rattle.op_model.proofs.Elements.{each_left, each_right, each_map, each_append}
 use Rattle.std.proofs.Common.{◌≡◌, ◌⊎◌, ◌↔◌, ℕ, suc, ◌+◌, ◌-◌, ◌<◌, ◌≤◌, ◌^◌, List, [], ◌∷◌, ◌++◌, length, map, refl, sym, ap, ◌∙◌, arith, subst, inl, inr, Some, append_assoc}
 use Rattle.std.specs.List.{AllByRecursion, slice_index_or}
@@ -268,9 +269,6 @@ pub apart_start : (low : List ℕ) (fs : List Fragment) (w : List IndexEntry) �
 apart_start low [] w h fl d = tt
 apart_start low (f ∷ fs) w h fl d = (all fs (λ g m. m) fl.1, apart_start f.id fs w h.2 fl.1 (λ g m. d g (inr m)))
   where
-    some_is : (a b : List ℕ) → Some a ≡ Some b → a ≡ b
-    some_is a b e = cc
-
     one : (g : Fragment) → Member g fs → 0 < g.len → IsApart f g
     one g m k s = elim (cases_lt g.offset (f.offset + f.len)) [
       | inr l ↦ inl l
@@ -289,7 +287,7 @@ apart_start low (f ∷ fs) w h fl d = (all fs (λ g m. m) fl.1, apart_start f.id
             let y = d g (inr m) j q in
             let xc : id_for f.stamp c w ≡ Some f.id = ap (λ (n : ℕ). id_for f.stamp n w) (sym a) ∙ x in
             let yc : id_for f.stamp c w ≡ Some g.id = ap (λ (u : Lamport). id_for u c w) s ∙ ap (λ (n : ℕ). id_for g.stamp n w) (sym b) ∙ y in
-            let e : f.id ≡ g.id = some_is f.id g.id (sym xc ∙ yc) in
+            let e : f.id ≡ g.id = same_Some f.id g.id (sym xc ∙ yc) in
             less_self g.id (subst (λ (z : List ℕ). IsLess z g.id) e (rise_above f.id fs g h.2 m))
 
     all : (s : List Fragment) → ((g : Fragment) → Member g s → Member g fs) → AllByRecursion IsFilled s → AllByRecursion (IsApart f) s

@@ -12,7 +12,8 @@ use Rattle.remote_edit.specs.Moves.{with_move}
 abbrev pub moves_on : (FragmentSummary → Bool) → (Fragment → Move) → List Move → ℕ → ℕ → List Fragment → List Move
 moves_on keeps does ms s h [] = with_move (with_move ms (Visible s)) (Hidden h)
 moves_on keeps does ms s h (f ∷ fs) =
-    if keeps (summary_of f) then moves_on keeps does (with_move (with_move (with_move ms (Visible s)) (Hidden h)) (does f)) 0 0 fs
+    if keeps (summary_of f)
+    then moves_on keeps does (with_move (with_move (with_move ms (Visible s)) (Hidden h)) (does f)) 0 0 fs
     else moves_on keeps does ms (if f.visible then s + f.len else s) (if f.visible then h else h + f.len) fs
 
 -- the moves of all fragments

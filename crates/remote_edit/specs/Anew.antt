@@ -20,7 +20,15 @@ concerns f t = nat_le f.stamp.value t.value && list_any (same_stamp t) (f.stamp 
 
 -- a fragment that is shown by undo counts w, of which the undo `by` gave some
 abbrev pub recount : List UndoEntry → Lamport → Fragment → Fragment
-recount w by f = record { id = f.id; stamp = f.stamp; offset = f.offset; len = f.len; visible = is_shown w f.stamp f.deletions; deletions = f.deletions; max_undos = raise f.max_undos by }
+recount w by f = record {
+  id = f.id;
+  stamp = f.stamp;
+  offset = f.offset;
+  len = f.len;
+  visible = is_shown w f.stamp f.deletions;
+  deletions = f.deletions;
+  max_undos = raise f.max_undos by;
+}
 
 -- a fragment where an undo counts the edits ts
 abbrev pub anew : List UndoEntry → Lamport → List Lamport → Fragment → Fragment
@@ -28,7 +36,8 @@ anew w by ts f = if list_any (concerns f) ts then recount w by f else f
 
 -- what an undo that counts the edits ts does to the bytes of a fragment
 abbrev pub undo_move : List UndoEntry → List Lamport → Fragment → Move
-undo_move w ts f = move_for f.visible (if list_any (concerns f) ts then is_shown w f.stamp f.deletions else f.visible) f.len
+undo_move w ts f = move_for f.visible
+    (if list_any (concerns f) ts then is_shown w f.stamp f.deletions else f.visible) f.len
 
 -- all fragments where an undo counts the edits ts
 abbrev pub all_anew : List UndoEntry → Lamport → List Lamport → List Fragment → List Fragment

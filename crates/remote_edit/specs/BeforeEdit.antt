@@ -18,16 +18,26 @@ without t d = filter (λ s. not (same_stamp t s)) d
 
 -- a fragment that edit t does not delete, shown by undo counts w
 abbrev pub without_deletion : List UndoEntry → Lamport → Fragment → Fragment
-without_deletion w t f = record { id = f.id; stamp = f.stamp; offset = f.offset; len = f.len; visible = is_shown w f.stamp (without t f.deletions); deletions = without t f.deletions; max_undos = f.max_undos }
+without_deletion w t f = record {
+  id = f.id;
+  stamp = f.stamp;
+  offset = f.offset;
+  len = f.len;
+  visible = is_shown w f.stamp (without t f.deletions);
+  deletions = without t f.deletions;
+  max_undos = f.max_undos;
+}
 
 -- fragments before edit t
 abbrev pub before_edit : List UndoEntry → Lamport → List Fragment → List Fragment
 before_edit w t [] = []
-before_edit w t (f ∷ fs) = if same_stamp t f.stamp then before_edit w t fs else without_deletion w t f ∷ before_edit w t fs
+before_edit w t (f ∷ fs) = if same_stamp t f.stamp then before_edit w t fs
+    else without_deletion w t f ∷ before_edit w t fs
 
 -- what edit t does to the bytes of a fragment
 abbrev pub edit_move : List UndoEntry → Lamport → Fragment → Move
-edit_move w t f = if same_stamp t f.stamp then Insert f.len else move_for (is_shown w f.stamp (without t f.deletions)) f.visible f.len
+edit_move w t f = if same_stamp t f.stamp then Insert f.len
+    else move_for (is_shown w f.stamp (without t f.deletions)) f.visible f.len
 
 -- a fragment is shown as undo counts w have it
 abbrev pub IsByCounts : List UndoEntry → Fragment → Type 0

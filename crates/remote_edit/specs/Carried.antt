@@ -18,7 +18,8 @@ use Rattle.remote_edit.specs.Moves.{Texts, texts_of, after_moves, TakeTexts, Hav
 
 -- moves take the shown and the hidden text of h, with the new text of op, to those of the history with op
 abbrev pub AreMovesOf : List Move → History → Operation → Type 0
-AreMovesOf ms h op = after_moves ms (text h) (hidden_text h) (texts (pieces_of op)) ≡ texts_of (text (h ++ op ∷ [])) (hidden_text (h ++ op ∷ []))
+AreMovesOf ms h op = after_moves ms (text h) (hidden_text h) (texts (pieces_of op))
+    ≡ texts_of (text (h ++ op ∷ [])) (hidden_text (h ++ op ∷ []))
 
 -- where the fragments fs begin and end between characters, so do gs of h with op, and the moves take whole characters
 abbrev pub KeepCharacters : List Fragment → List Fragment → List Move → History → Operation → Type 0
@@ -55,14 +56,17 @@ IsText byte f = IsUtf8 (cell_bytes byte f.stamp f.offset f.len)
 
 -- of the texts s and h and of n, the new text of edit t, the moves ms have put out the bytes of the fragments pre, whole characters
 -- where each of these is UTF-8; those to come find the bytes of rest, and of the new text those from k on
-pub record Carried (byte : Cell → ℕ) (t : Lamport) (s h n : List ℕ) (ms : List Move) (pre rest : List Fragment) (k : ℕ) : Type 0 where
+pub record Carried (byte : Cell → ℕ) (t : Lamport) (s h n : List ℕ) (ms : List Move)
+    (pre rest : List Fragment) (k : ℕ) : Type 0 where
   pub moves : HaveMoved s h n ms (both_bytes byte pre) (both_bytes byte rest) (drop k n)
   pub text : (j : ℕ) → byte (record { stamp = t; k = j }) ≡ slice_index n j
   pub characters : AllByRecursion (IsText byte) pre → TakeTexts ms s h n
 
 -- moves that go on as a walk over fragments goes on, putting in new cells of edit t
-abbrev pub CarryOn : Lamport → List Move → List Fragment → List Fragment → ℕ → List Move → List Fragment → List Fragment → ℕ → Type 0
-CarryOn t ms pre rest k ms2 pre2 rest2 k2 = (byte : Cell → ℕ) → (s h n : List ℕ) → k2 ≤ length n → Carried byte t s h n ms pre rest k → Carried byte t s h n ms2 pre2 rest2 k2
+abbrev pub CarryOn : Lamport → List Move → List Fragment → List Fragment → ℕ → List Move
+    → List Fragment → List Fragment → ℕ → Type 0
+CarryOn t ms pre rest k ms2 pre2 rest2 k2 = (byte : Cell → ℕ) → (s h n : List ℕ) → k2 ≤ length n
+    → Carried byte t s h n ms pre rest k → Carried byte t s h n ms2 pre2 rest2 k2
 
 -- moves that carry the bytes of all fragments fs along to gs, where op puts in all its new cells
 abbrev pub Carry : List Move → Operation → List Fragment → List Fragment → Type 0

@@ -17,7 +17,8 @@ use Rattle.remote_edit.specs.Carried.{AreMovesOf, Carry}
 -- moves that carry the bytes of fragments that tell of h along to those of fragments that tell of h with op take the texts of h to
 -- those of h with op
 abbrev pub CarriedTextsAreThose : Type 0
-CarriedTextsAreThose = (h : History) → (op : Operation) → (fs gs : List Fragment) → (ms : List Move) → Lawful h → answer h [] op ≡ Good
+CarriedTextsAreThose = (h : History) → (op : Operation) → (fs gs : List Fragment) → (ms : List Move)
+    → Lawful h → answer h [] op ≡ Good
     → Tell fs h → Tell gs (h ++ op ∷ []) → Carry ms op fs gs → AreMovesOf ms h op
 
 -- the fragment of a base, whose text is UTF-8, begins and ends between characters

@@ -12,7 +12,8 @@ is_met k n p = nat_lt (max k p.start) (min (k + n) p.end)
 -- how many fragments hold a cell of a range, where k cells lie before them
 abbrev pub touch_count_behind : ℕ → List Piece → List Fragment → ℕ
 touch_count_behind k ps [] = 0
-touch_count_behind k ps (f ∷ fs) = (if list_any (is_met k f.len) ps then 1 else 0) + touch_count_behind (k + f.len) ps fs
+touch_count_behind k ps (f ∷ fs) = (if list_any (is_met k f.len) ps then 1 else 0)
+    + touch_count_behind (k + f.len) ps fs
 
 -- how many fragments hold a cell of a range of changes, which count shown cells
 abbrev pub touch_count : List Fragment → List Piece → ℕ

@@ -18,7 +18,8 @@ with_edit w fs e = walk w e.stamp e.version 0 0 e.pieces [] fs
 -- the fragments fs of a history, with an operation behind it
 abbrev pub with_operation : History → List Fragment → Operation → List Fragment
 with_operation h fs (Edit e) = with_edit (undo_entries h) fs e
-with_operation h fs (Undo u) = all_anew (undo_entries (h ++ Undo u ∷ [])) u.stamp (map (λ (c : UndoCount). c.edit) u.counts) fs
+with_operation h fs (Undo u) = all_anew (undo_entries (h ++ Undo u ∷ [])) u.stamp
+    (map (λ (c : UndoCount). c.edit) u.counts) fs
 
 -- the fragments fs of a history, with operations behind it
 abbrev pub with_operations : History → List Fragment → List Operation → List Fragment

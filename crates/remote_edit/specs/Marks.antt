@@ -26,7 +26,16 @@ marking w t v = record {
 -- a fragment in a range of an edit t with version v: t deletes it where it was shown at v
 abbrev pub mark : List UndoEntry → Lamport → Entries → Fragment → Fragment
 mark w t v f = if was_shown w v f.stamp f.deletions
-    then record { id = f.id; stamp = f.stamp; offset = f.offset; len = f.len; visible = false; deletions = with_deletion t f.deletions; max_undos = f.max_undos } else f
+    then record {
+      id = f.id;
+      stamp = f.stamp;
+      offset = f.offset;
+      len = f.len;
+      visible = false;
+      deletions = with_deletion t f.deletions;
+      max_undos = f.max_undos;
+    }
+    else f
 
 -- a fragment that is gone over: marked where undo counts are given
 abbrev pub touch : Option (List UndoEntry) → Lamport → Entries → Fragment → Fragment

@@ -100,7 +100,9 @@ from_new (Insert k ∷ ms) = k + from_new ms
 -- moves behind others find the texts that those leave, and put behind what those put
 abbrev pub MovesCompose : Type 0
 MovesCompose = (ms ns : List Move) → (s h n : List ℕ)
-    → after_moves (ms ++ ns) s h n ≡ followed_by (after_moves ms s h n).shown (after_moves ms s h n).hidden (after_moves ns (drop (from_shown ms) s) (drop (from_hidden ms) h) (drop (from_new ms) n))
+    → after_moves (ms ++ ns) s h n ≡ followed_by (after_moves ms s h n).shown
+    (after_moves ms s h n).hidden
+    (after_moves ns (drop (from_shown ms) s) (drop (from_hidden ms) h) (drop (from_new ms) n))
 
 -- a move that is put behind others does the same where it is made one with the last
 abbrev pub JoinedMovesDoTheSame : Type 0
@@ -108,7 +110,8 @@ JoinedMovesDoTheSame = (ms : List Move) → (next : Move) → DoTheSame (with_mo
 
 -- whether shown bytes or hidden ones are kept first does not matter
 abbrev pub KeptBytesCommute : Type 0
-KeptBytesCommute = (ms ns : List Move) → (a b : ℕ) → DoTheSame (ms ++ Visible a ∷ Hidden b ∷ ns) (ms ++ Hidden b ∷ Visible a ∷ ns)
+KeptBytesCommute = (ms ns : List Move) → (a b : ℕ)
+    → DoTheSame (ms ++ Visible a ∷ Hidden b ∷ ns) (ms ++ Hidden b ∷ Visible a ∷ ns)
 
 -- ---- moves on the way
 

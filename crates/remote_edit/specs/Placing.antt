@@ -31,20 +31,25 @@ pub record MayPlace (fs : List Fragment) (w : List IndexEntry) (u : List UndoEnt
   pub room : length (full history) + text_total (pieces_of op) ≤ 2 ^ 40
 
 -- for each lawful history in which the operation is good and for which the old ones stand, the new ones stand for it with the operation
-abbrev pub ArePlaced : List Fragment → List IndexEntry → List UndoEntry → Operation → List Fragment → List IndexEntry → Type 0
-ArePlaced fs w u op gs v = (h : History) → Stand fs w u h → Lawful h → answer h [] op ≡ Good → Stand gs v u (h ++ op ∷ [])
+abbrev pub ArePlaced : List Fragment → List IndexEntry → List UndoEntry → Operation → List Fragment
+    → List IndexEntry → Type 0
+ArePlaced fs w u op gs v = (h : History) → Stand fs w u h → Lawful h → answer h [] op ≡ Good
+    → Stand gs v u (h ++ op ∷ [])
 
 -- for each such history, the moves take its texts to those of it with the operation
 abbrev pub MoveWithEdit : List Fragment → List IndexEntry → List UndoEntry → Operation → List Move → Type 0
 MoveWithEdit fs w u op ms = (h : History) → Stand fs w u h → Lawful h → answer h [] op ≡ Good → AreMovesOf ms h op
 
 -- for each such history, where the texts are UTF-8, whole fragments stay whole and the moves take whole characters
-abbrev pub KeepCharactersWithEdit : List Fragment → List IndexEntry → List UndoEntry → Operation → List Fragment → List Move → Type 0
-KeepCharactersWithEdit fs w u op gs ms = (h : History) → Stand fs w u h → Lawful h → AllByRecursion IsProper h → IsProper op → answer h [] op ≡ Good → KeepCharacters fs gs ms h op
+abbrev pub KeepCharactersWithEdit : List Fragment → List IndexEntry → List UndoEntry → Operation
+    → List Fragment → List Move → Type 0
+KeepCharactersWithEdit fs w u op gs ms = (h : History) → Stand fs w u h → Lawful h
+    → AllByRecursion IsProper h → IsProper op → answer h [] op ≡ Good → KeepCharacters fs gs ms h op
 
 -- the fragments, the index and the undo counts stand for a lawful history, the stamp t and the version v are those of what a
 -- replica makes there, the changes meet no fault, and the bytes of the history and the new ones are at most 2^40
-pub record MayMake (fs : List Fragment) (w : List IndexEntry) (u : List UndoEntry) (t : Lamport) (v : Entries) (changes : List Piece) : Type 0 where
+pub record MayMake (fs : List Fragment) (w : List IndexEntry) (u : List UndoEntry) (t : Lamport)
+    (v : Entries) (changes : List Piece) : Type 0 where
   pub history : History
   pub stands : Stand fs w u history
   pub lawful : Lawful history
@@ -58,5 +63,7 @@ pub record MayMake (fs : List Fragment) (w : List IndexEntry) (u : List UndoEntr
 
 -- for each history for which the fragments stand, and of which the stamp t and the version v are what a replica makes there, the
 -- operation is the one that is made
-abbrev pub IsMade : List Fragment → List IndexEntry → List UndoEntry → Lamport → Entries → List Piece → Operation → Type 0
-IsMade fs w u t v changes op = (h : History) → Stand fs w u h → t.value ≡ clock h → v ≡ version h → op ≡ local_edit h t.replica changes
+abbrev pub IsMade : List Fragment → List IndexEntry → List UndoEntry → Lamport → Entries
+    → List Piece → Operation → Type 0
+IsMade fs w u t v changes op = (h : History) → Stand fs w u h → t.value ≡ clock h → v ≡ version h
+    → op ≡ local_edit h t.replica changes

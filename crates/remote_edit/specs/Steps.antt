@@ -33,7 +33,8 @@ later_first t v [] = false
 later_first t v (f ∷ fs) = later f.stamp t && not (sees v f.stamp)
 
 -- from one place with n cells to pass to another with k of them, on one way
-pub record IsOnWay (m : Option (List UndoEntry)) (t : Lamport) (v : Entries) (n : ℕ) (pre rest : List Fragment) (k : ℕ) (pre2 rest2 : List Fragment) (p : ℕ) : Type 0 where
+pub record IsOnWay (m : Option (List UndoEntry)) (t : Lamport) (v : Entries) (n : ℕ)
+    (pre rest : List Fragment) (k : ℕ) (pre2 rest2 : List Fragment) (p : ℕ) : Type 0 where
   pub place : p ≡ seen_bytes v pre2
   pub goes : advance m t v k pre2 rest2 ≡ advance m t v n pre rest
   pub fit : Fit (pre2 ++ rest2)

@@ -20,7 +20,8 @@ use Rattle.remote_edit.specs.Anew.{Counts}
 
 -- the fragments fs and the index w stand for the lawful history h, in which the undo u with stamp `by` is good; it counts edits of
 -- ts alone, and us are the counts with it
-pub record MayMark (fs : List Fragment) (w : List IndexEntry) (us : List UndoEntry) (by : Lamport) (ts : List Lamport) (h : History) (u : UndoOp) : Type 0 where
+pub record MayMark (fs : List Fragment) (w : List IndexEntry) (us : List UndoEntry) (by : Lamport)
+    (ts : List Lamport) (h : History) (u : UndoOp) : Type 0 where
   pub stamp : u.stamp ≡ by
   pub counts : Counts (Undo u) ts
   pub lawful : Lawful h
@@ -29,13 +30,17 @@ pub record MayMark (fs : List Fragment) (w : List IndexEntry) (us : List UndoEnt
   pub stands : Stand fs w (undo_entries h) h
 
 -- the fragments gs and the index x stand for each such history with the undo
-abbrev pub StandWithUndo : List Fragment → List IndexEntry → List UndoEntry → Lamport → List Lamport → List Fragment → List IndexEntry → Type 0
-StandWithUndo fs w us by ts gs x = (h : History) → (u : UndoOp) → MayMark fs w us by ts h u → Stand gs x us (h ++ Undo u ∷ [])
+abbrev pub StandWithUndo : List Fragment → List IndexEntry → List UndoEntry → Lamport → List Lamport
+    → List Fragment → List IndexEntry → Type 0
+StandWithUndo fs w us by ts gs x = (h : History) → (u : UndoOp) → MayMark fs w us by ts h u
+    → Stand gs x us (h ++ Undo u ∷ [])
 
 -- the moves take the texts of each such history to those of it with the undo
 abbrev pub MoveWithUndo : List Fragment → List IndexEntry → List UndoEntry → Lamport → List Lamport → List Move → Type 0
 MoveWithUndo fs w us by ts ms = (h : History) → (u : UndoOp) → MayMark fs w us by ts h u → AreMovesOf ms h (Undo u)
 
 -- where the texts of each such history are UTF-8, whole fragments stay whole and the moves take whole characters
-abbrev pub KeepCharactersWithUndo : List Fragment → List IndexEntry → List UndoEntry → Lamport → List Lamport → List Fragment → List Move → Type 0
-KeepCharactersWithUndo fs w us by ts gs ms = (h : History) → (u : UndoOp) → MayMark fs w us by ts h u → AllByRecursion IsProper h → KeepCharacters fs gs ms h (Undo u)
+abbrev pub KeepCharactersWithUndo : List Fragment → List IndexEntry → List UndoEntry → Lamport
+    → List Lamport → List Fragment → List Move → Type 0
+KeepCharactersWithUndo fs w us by ts gs ms = (h : History) → (u : UndoOp)
+    → MayMark fs w us by ts h u → AllByRecursion IsProper h → KeepCharacters fs gs ms h (Undo u)

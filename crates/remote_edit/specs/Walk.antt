@@ -38,15 +38,39 @@ next_id (f ∷ fs) = f.id
 
 -- the first n cells of a fragment, with an id of their own
 abbrev pub front : Fragment → ℕ → List ℕ → Fragment
-front f n id = record { id = id; stamp = f.stamp; offset = f.offset; len = n; visible = f.visible; deletions = f.deletions; max_undos = f.max_undos }
+front f n id = record {
+  id = id;
+  stamp = f.stamp;
+  offset = f.offset;
+  len = n;
+  visible = f.visible;
+  deletions = f.deletions;
+  max_undos = f.max_undos;
+}
 
 -- the cells behind its first n
 abbrev pub back : Fragment → ℕ → Fragment
-back f n = record { id = f.id; stamp = f.stamp; offset = f.offset + n; len = f.len - n; visible = f.visible; deletions = f.deletions; max_undos = f.max_undos }
+back f n = record {
+  id = f.id;
+  stamp = f.stamp;
+  offset = f.offset + n;
+  len = f.len - n;
+  visible = f.visible;
+  deletions = f.deletions;
+  max_undos = f.max_undos;
+}
 
 -- the n new cells of edit t from k on
 abbrev pub new_fragment : Lamport → ℕ → ℕ → List ℕ → Fragment
-new_fragment t k n id = record { id = id; stamp = t; offset = k; len = n; visible = true; deletions = []; max_undos = [] }
+new_fragment t k n id = record {
+  id = id;
+  stamp = t;
+  offset = k;
+  len = n;
+  visible = true;
+  deletions = [];
+  max_undos = [];
+}
 
 -- what lies before a place, and what lies behind it
 pub record Zip : Type 0 where
@@ -69,12 +93,14 @@ advance m t v (suc n) pre (f ∷ fs) =
 -- over the fragments that are later than t and that v does not see
 abbrev pub skip_later : Lamport → Entries → List Fragment → List Fragment → Zip
 skip_later t v pre [] = zip pre []
-skip_later t v pre (f ∷ fs) = if later f.stamp t && not (sees v f.stamp) then skip_later t v (pre ++ f ∷ []) fs else zip pre (f ∷ fs)
+skip_later t v pre (f ∷ fs) = if later f.stamp t && not (sees v f.stamp)
+    then skip_later t v (pre ++ f ∷ []) fs else zip pre (f ∷ fs)
 
 -- over the n new cells of edit t from k on, which are put here where there are some
 abbrev pub put_new : Lamport → ℕ → ℕ → List Fragment → List Fragment → Zip
 put_new t k zero pre rest = zip pre rest
-put_new t k (suc n) pre rest = zip (pre ++ new_fragment t k (suc n) (between_digits (last_id pre) (next_id rest)) ∷ []) rest
+put_new t k (suc n) pre rest = zip
+    (pre ++ new_fragment t k (suc n) (between_digits (last_id pre) (next_id rest)) ∷ []) rest
 
 -- from n cells that v sees before a piece to its end; k new cells of the edit are before its text
 abbrev pub one_piece : List UndoEntry → Lamport → Entries → ℕ → ℕ → Piece → List Fragment → List Fragment → Zip
@@ -89,7 +115,8 @@ abbrev pub changes : Piece → Bool
 changes p = nat_lt p.start p.end || nat_lt 0 (length p.text)
 
 -- all pieces that change something, from the first to the last; `at` cells that v sees lie before the place
-abbrev pub walk : List UndoEntry → Lamport → Entries → ℕ → ℕ → List Piece → List Fragment → List Fragment → List Fragment
+abbrev pub walk : List UndoEntry → Lamport → Entries → ℕ → ℕ → List Piece → List Fragment
+    → List Fragment → List Fragment
 walk w t v at k [] pre rest = pre ++ rest
 walk w t v at k (p ∷ ps) pre rest =
     let z : Zip = one_piece w t v (p.start - at) k p pre rest in

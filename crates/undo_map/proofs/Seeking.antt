@@ -1,7 +1,7 @@
 -- Where a seek for an edit stops: at the first entry that is of no earlier edit.
 use Rattle.std.proofs.Common.{◌≡◌, ℕ, zero, suc, ◌+◌, ◌<◌, ◌≤◌, Bool, true, false, cond, not, ◌⊎◌, List, [], ◌∷◌, length, get_or, take, drop, refl, sym, ap, ◌∙◌, subst, inl, inr, Option, None, Some, arith, slice_get}
 use Rattle.std.proofs.lemmas.List.{take_all}
-use Rattle.std.proofs.lemmas.Option.{get_or_from_slice_get}
+use Rattle.std.proofs.lemmas.Option.{get_or_from_slice_get, slice_get_within}
 use Rattle.std.proofs.lemmas.Bool.{cases_Bool, both_ways}
 use Rattle.std.specs.Ordering.{ordering_then, is_lt}
 use Rattle.std.specs.declared.cmp.Ordering.TheVariants.{Less, Equal, Greater}
@@ -33,17 +33,18 @@ move p s = Some (greater less p s.key)
 abbrev pub sought : UndoKey → Option UndoKey → List UndoEntry → ℕ
 sought k p w = seek_count move key_sum (λ q. key_passes less (Some k) q Left) p w
 
--- a key that is less than k does not hide one that is not
-on_at : (a b k : UndoKey) (ab : Bool) → less a b ≡ ab → less a k ≡ true → key_less less (cond ab (Some b) (Some a)) (Some k) ≡ less b k
-on_at a b k true e h = refl
-on_at a b k false e h = elim (cases_Bool (less b k)) [
-  | inl l ↦ h ∙ sym l
-  | inr l ↦ absurd (both_ways _ (order.down a b k e l) h)
-]
+-- a greatest key so far that is less than k does not hide a key that is not
+module _ {K : Type 0} (less : K → K → Bool) (order : IsLess less) where
+  next_at : (a b k : K) (ab : Bool) → less a b ≡ ab → less a k ≡ true → key_less less (cond ab (Some b) (Some a)) (Some k) ≡ less b k
+  next_at a b k true e h = refl
+  next_at a b k false e h = elim (cases_Bool (less b k)) [
+    | inl l ↦ h ∙ sym l
+    | inr l ↦ absurd (both_ways _ (order.down a b k e l) h)
+  ]
 
-on : (p : Option UndoKey) (b k : UndoKey) → key_less less p (Some k) ≡ true → key_less less (greater less p (Some b)) (Some k) ≡ less b k
-on None b k h = refl
-on (Some a) b k h = on_at a b k (less a b) refl h
+  pub key_less_next : (p : Option K) (b k : K) → key_less less p (Some k) ≡ true → key_less less (greater less p (Some b)) (Some k) ≡ less b k
+  key_less_next None b k h = refl
+  key_less_next (Some a) b k h = next_at a b k (less a b) refl h
 
 -- what the seek goes over is less than the key, and what it stops at is not
 pub record IsSought (k : UndoKey) (w : List UndoEntry) (n : ℕ) : Type 0 where
@@ -72,7 +73,7 @@ pub seek_stops : (k : UndoKey) (p : Option UndoKey) (w : List UndoEntry) → key
 seek_stops k p [] h = record { within = omega arith; low = λ i d l. absurd (omega arith); high = λ d l. absurd (omega arith) }
 seek_stops k p (e ∷ w) h =
     let next : Option UndoKey = greater less p (Some (key_of e)) in
-    let q : key_less less next (Some k) ≡ less (key_of e) k = on p (key_of e) k h in
+    let q : key_less less next (Some k) ≡ less (key_of e) k = key_less_next less order p (key_of e) k h in
     subst (λ (b : Bool). IsSought k (e ∷ w) (cond (not b) 0 (1 + sought k next w))) (sym q) (go (cases_Bool (less (key_of e) k)) next q (λ r. seek_stops k next w r))
   where
     go : (less (key_of e) k ≡ true) ⊎ (less (key_of e) k ≡ false) → (next : Option UndoKey) → key_less less next (Some k) ≡ less (key_of e) k
@@ -122,11 +123,6 @@ cursor_first t w items from i n a e f z q =
 
 -- ---- one entry more
 
-some_within : (xs : List UndoEntry) (i : ℕ) (x : UndoEntry) → Some x ≡ slice_get xs i → i < length xs
-some_within [] i x h = cc
-some_within (y ∷ xs) zero x h = omega arith
-some_within (y ∷ xs) (suc i) x h = let l = some_within xs i x h in omega arith
-
 -- x stands at i
 pub record IsHere (w : List UndoEntry) (i : ℕ) (x : UndoEntry) : Type 0 where
   pub within : i < length w
@@ -135,13 +131,14 @@ pub record IsHere (w : List UndoEntry) (i : ℕ) (x : UndoEntry) : Type 0 where
 pub here : (w items : List UndoEntry) (i : ℕ) (x : UndoEntry) → items ≡ w → Some x ≡ slice_get items i → IsHere w i x
 here w items i x e h =
     let r : Some x ≡ slice_get w i = h ∙ ap (λ (v : List UndoEntry). slice_get v i) e in
-    record { within = some_within w i x r; at = λ d. get_or_from_slice_get w i x d (sym r) }
+    record { within = slice_get_within w i x (sym r); at = λ d. get_or_from_slice_get w i x d (sym r) }
 
-none_past : (xs : List UndoEntry) (i : ℕ) → None ≡ slice_get xs i → length xs ≤ i
+-- where nothing is read the list has ended
+pub none_past : {A : Type 0} (xs : List A) (i : ℕ) → slice_get xs i ≡ None → length xs ≤ i
 none_past [] i h = omega arith
 none_past (y ∷ xs) zero h = cc
 none_past (y ∷ xs) (suc i) h = let l = none_past xs i h in omega arith
 
 -- past the last entry, those before are all
 pub all_before : (w items : List UndoEntry) (i : ℕ) → items ≡ w → None ≡ slice_get items i → take i w ≡ w
-all_before w items i e h = take_all i w (none_past w i (h ∙ ap (λ (v : List UndoEntry). slice_get v i) e))
+all_before w items i e h = take_all i w (none_past w i (sym (h ∙ ap (λ (v : List UndoEntry). slice_get v i) e)))

@@ -1,12 +1,13 @@
 -- One more count is kept.
-use Rattle.std.proofs.Common.{◌≡◌, ℕ, suc, ◌<◌, ◌≤◌, ◌^◌, max, Bool, true, false, cond, ◌&&◌, List, [], ◌∷◌, length, get_or, refl, sym, ap, ◌∙◌, inl, inr, ◌⊎◌, Option, None, Some, arith, length-append, ◌+◌, subst}
+use Rattle.std.proofs.Common.{◌≡◌, ℕ, suc, ◌<◌, ◌≤◌, ◌^◌, max, Bool, true, false, cond, ◌&&◌, List, [], ◌∷◌, length, get_or, refl, sym, ap, ◌∙◌, inl, inr, ◌⊎◌, Option, None, Some, arith, ◌+◌, subst}
 use Rattle.std.proofs.lemmas.Bool.{cases_Bool}
 use Rattle.std.proofs.lemmas.Cmp.{alike_right}
 use Rattle.std.proofs.lemmas.Map.Lookups.{CmpEqualImpliesEq, exact_pairs, exact_unsigned}
 use Rattle.std.specs.List.{find}
-use Rattle.std.specs.Ordering.{is_eq, is_lt, is_gt, nat_cmp}
-use Rattle.std.specs.declared.cmp.Ordering.TheVariants.{Less, Equal, Greater}
-use Rattle.sum_tree.specs.Keyed.{item_of_key, insert_item, below, above}
+use Rattle.std.specs.Ordering.{is_eq, nat_cmp}
+use Rattle.std.specs.declared.cmp.Ordering.TheVariants.{Less, Equal}
+use Rattle.sum_tree.specs.Keyed.{item_of_key, insert_item}
+use Rattle.sum_tree.proofs.Keys.{inserted_short}
 use Rattle.undo_map.specs.declared.entry.UndoKey.{UndoKey}
 use Rattle.undo_map.specs.declared.entry.UndoEntry.{UndoEntry}
 use Rattle.undo_map.specs.Counts.{key_of, key_cmp, greatest, IsAscending, count_at_key, with_count, counts_for}
@@ -65,26 +66,8 @@ counts_set e w n t at q = ap (greatest (counts_for t at)) q ∙ greatest-with_co
 
 -- ---- how many there are
 
-parts_long : (k : UndoKey) (w : List UndoEntry) → length (below key_cmp key_of k w) + length (above key_cmp key_of k w) ≤ length w
-parts_long k [] = omega arith
-parts_long k (f ∷ w) =
-    let ih = parts_long k w in
-    let B : List UndoEntry = below key_cmp key_of k w in
-    let A : List UndoEntry = above key_cmp key_of k w in
-    elim (key_cmp (key_of f) k) as (λ r. length (cond (is_lt r) (f ∷ B) B) + length (cond (is_gt r) (f ∷ A) A) ≤ suc (length w)) [
-      | Less ↦ omega arith
-      | Equal ↦ omega arith
-      | Greater ↦ omega arith
-    ]
-
 pub with_count_long : (e : UndoEntry) (w : List UndoEntry) → length (with_count e w) ≤ length w + 1
-with_count_long e w =
-    let m : UndoEntry = record e { count = max e.count (count_at_key (key_of e) w) } in
-    let B : List UndoEntry = below key_cmp key_of (key_of e) w in
-    let A : List UndoEntry = above key_cmp key_of (key_of e) w in
-    let a = length-append B (m ∷ A) in
-    let b = parts_long (key_of e) w in
-    omega arith
+with_count_long e w = inserted_short key_cmp key_of key_order (record e { count = max e.count (count_at_key (key_of e) w) }) w
 
 pub grown : (e : UndoEntry) (w n : List UndoEntry) → n ≡ with_count e w → length n ≤ length w + 1
 grown e w n q = subst (λ z. length z ≤ length w + 1) (sym q) (with_count_long e w)

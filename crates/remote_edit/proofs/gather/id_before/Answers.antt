@@ -1,5 +1,5 @@
 use Rattle.std.proofs.Common.{◌≡◌, ℕ, ◌-◌, List, sym, subst, ◌∙◌, IfOk, arith}
-use Rattle.remote_edit.proofs.Halves.{none_past}
+use Rattle.undo_map.proofs.Seeking.{none_past}
 use Rattle.remote_edit.proofs.Places.{last_taken, none_before}
 use Rattle.remote_edit.proofs.gather.id_before.Goals as goal
 use Rattle.remote_edit.proofs.gather.id_before.Goals.{then-at-gt0+in_default, else-at-gt0}
