@@ -38,7 +38,10 @@ check_line = new_app (codes "check")
 -- `make --seed N --replicas N --edits N`
 abbrev pub make_line : App
 make_line =
-    with_rule (with_rule (with_rule (new_app (codes "make")) (wanted_rule (codes "seed") (Unsigned 0 2147483647))) (wanted_rule (codes "replicas") (Unsigned 1 16))) (wanted_rule (codes "edits") (Unsigned 0 20000))
+    with_rule (with_rule (with_rule (new_app (codes "make"))
+    (wanted_rule (codes "seed") (Unsigned 0 2147483647)))
+    (wanted_rule (codes "replicas") (Unsigned 1 16)))
+    (wanted_rule (codes "edits") (Unsigned 0 20000))
 
 -- the program without its commands: it has no name of a program before it, and asks for a command
 abbrev pub program : App
@@ -52,7 +55,10 @@ command_line = with_subcommand (with_subcommand (with_subcommand program replay_
 
 -- the whole number of `least` to `most` that a value is
 abbrev pub number_in : ℕ → ℕ → Text → Option ℕ
-number_in least most value = if is_unsigned_in least most value then Some (digits_value 10 (without_leading_plus value)) else None
+number_in least most value =
+    if is_unsigned_in least most value
+    then Some (digits_value 10 (without_leading_plus value))
+    else None
 
 -- the number that an option has
 abbrev pub number_of : ℕ → ℕ → Text → List Row → Option ℕ
@@ -63,17 +69,25 @@ replay_from found = option_map (λ n. Read (Replay n)) (number_of 0 16 (codes "w
 
 abbrev pub make_from : List Row → Option Command
 make_from found =
-    option_and_then (λ seed. option_and_then (λ replicas. option_map (Make seed replicas) (number_of 0 20000 (codes "edits") found)) (number_of 1 16 (codes "replicas") found)) (number_of 0 2147483647 (codes "seed") found)
+    option_and_then (λ seed. option_and_then (λ replicas.
+    option_map (Make seed replicas) (number_of 0 20000 (codes "edits") found))
+    (number_of 1 16 (codes "replicas") found))
+    (number_of 0 2147483647 (codes "seed") found)
 
 -- the command with that name and what was found of its options
 abbrev pub command_from : Text → List Row → Option Command
 command_from name found =
-    if bytes_eq name (codes "replay") then replay_from found else if bytes_eq name (codes "check") then Some (Read Check) else if bytes_eq name (codes "make") then make_from found else None
+    if bytes_eq name (codes "replay") then replay_from found
+    else if bytes_eq name (codes "check") then Some (Read Check)
+    else if bytes_eq name (codes "make") then make_from found
+    else None
 
 -- the command of the words where `clap` finds no fault in them
 abbrev pub command_with : List Text → Option Command
 command_with words =
-    if is_empty (fault_of command_line words) then option_and_then (λ p. command_from p.0 p.1) (subcommand_of command_line words) else None
+    if is_empty (fault_of command_line words)
+    then option_and_then (λ p. command_from p.0 p.1) (subcommand_of command_line words)
+    else None
 
 abbrev pub command_of : List (String Global) → Option Command
 command_of words = command_with (map string_bytes words)
