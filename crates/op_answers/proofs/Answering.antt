@@ -41,10 +41,6 @@ first_map f [] = refl
 first_map f (None ∷ r) = first_map f r
 first_map f (Some x ∷ r) = refl
 
-some_map : {A B : Type 0} (f : A → B) (o : Option A) (x : A) → o ≡ Some x → option_map f o ≡ Some (f x)
-some_map f None x e = cc
-some_map f (Some y) x e = let g : y ≡ x = cc in ap (λ z. Some (f z)) g
-
 some_when : {A : Type 0} (b : Bool) (x : A) → b ≡ true → when b x ≡ Some x
 some_when true x e = refl
 some_when false x e = cc

@@ -2,7 +2,7 @@
 use Rattle.std.proofs.Common.{◌≡◌, ◌⊎◌, Bool, true, false, cond, ◌&&◌, ◌||◌, [], ◌∷◌, ◌++◌, refl, sym, ◌∙◌, ap, inl, inr, Option, Some}
 use Rattle.std.specs.Prelude.{is_some}
 use Rattle.std.specs.List.{list_any}
-use Rattle.std.proofs.lemmas.Bool.{cases_Bool, and_parts}
+use Rattle.std.proofs.lemmas.Bool.{cases_Bool, and_parts, and_right}
 use Rattle.std.proofs.lemmas.List.Folds.{list_any-append}
 use Rattle.lamport_clock.specs.declared.stamp.Lamport.{Lamport}
 use Rattle.lamport_clock.specs.Stamps.{same_stamp}
@@ -69,22 +69,14 @@ caused (o ∷ h) t v d = elim (cases_Bool (same_stamp (stamp_of o) t)) [
 
 -- a version sees an edit where it sees its stamp
 pub seen_edit : (h : History) (v : Entries) (t : Lamport) → has_edit (seen_history h v) t ≡ (sees v t && has_edit h t)
-seen_edit [] v t = none (sees v t)
-  where
-    none : (b : Bool) → false ≡ (b && false)
-    none true = refl
-    none false = refl
+seen_edit [] v t = sym (and_right (sees v t) false refl)
 seen_edit (o ∷ h) v t = elim (cases_Bool (same_stamp (stamp_of o) t)) [
   | inl e ↦ (let s : sees v (stamp_of o) ≡ sees v t = ap (sees v) (same_stamp_eq (stamp_of o) t e) in
       ap (λ (b : Bool). has_edit (cond b (o ∷ seen_history h v) (seen_history h v)) t) s ∙ kept (sees v t) (seen_edit h v t))
-  | inr e ↦ (let n : (is_edit o && same_stamp (stamp_of o) t) ≡ false = ap (λ (b : Bool). is_edit o && b) e ∙ no_edit (is_edit o) in
+  | inr e ↦ (let n : (is_edit o && same_stamp (stamp_of o) t) ≡ false = ap (λ (b : Bool). is_edit o && b) e ∙ and_right (is_edit o) false refl in
       dropped (sees v (stamp_of o)) n ∙ seen_edit h v t ∙ sym (ap (λ (b : Bool). sees v t && (b || has_edit h t)) n))
 ]
   where
-    no_edit : (b : Bool) → (b && false) ≡ false
-    no_edit true = refl
-    no_edit false = refl
-
     kept : (b : Bool) → has_edit (seen_history h v) t ≡ (b && has_edit h t) → has_edit (cond b (o ∷ seen_history h v) (seen_history h v)) t ≡ (b && (is_edit o && same_stamp (stamp_of o) t || has_edit h t))
     kept true e = ap (λ (z : Bool). is_edit o && same_stamp (stamp_of o) t || z) e
     kept false e = e

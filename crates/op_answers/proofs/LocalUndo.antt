@@ -11,7 +11,7 @@ use Rattle.op_model.specs.Choice.{first_of, when}
 use Rattle.op_model.specs.Histories.{History, clock, has_edit}
 use Rattle.op_model.specs.Shown.{count}
 use Rattle.op_model.specs.Made.{first_twice, local_undo_fault}
-use Rattle.op_model.proofs.answers.Passed.{map_none}
+use Rattle.op_model.proofs.answers.Passed.{first_none, map_none}
 use Rattle.undo_map.specs.declared.entry.UndoEntry.{UndoEntry}
 use Rattle.undo_map.specs.Counts.{count_of}
 use Rattle.undo_map.specs.Undos.{undo_entries}
@@ -50,16 +50,14 @@ module _ (h : History) (ts : List Lamport) where
       pub faultless : find (λ t. eqb (count h t) 4294967295) ts ≡ None → None ≡ undo_fault h ts
       faultless e = sym (last ∙ ap (λ (o : Option Lamport). first_of (option_map CountEnd o ∷ [])) e)
 
-third_none : {A : Type 0} (a b c : Option A) → first_of (a ∷ b ∷ c ∷ []) ≡ None → c ≡ None
-third_none (Some x) b c e = cc
-third_none None (Some x) c e = cc
-third_none None None (Some x) e = cc
-third_none None None None e = refl
-
 -- without a fault no count stands at its end
 pub room : (h : History) (w : List UndoEntry) (ts : List Lamport) → w ≡ undo_entries h → undo_fault h ts ≡ None → find (λ t. eqb (count_of w t) 4294967295) ts ≡ None
-room h w ts q e = at_end h w ts q ∙ map_none CountEnd (find (λ t. eqb (count h t) 4294967295) ts)
-    (third_none (option_map NoSuchEdit (find (λ t. not (has_edit h t)) ts)) (option_map Twice (first_twice [] ts)) (option_map CountEnd (find (λ t. eqb (count h t) 4294967295) ts)) e)
+room h w ts q e =
+    let a : Option UndoFault = option_map NoSuchEdit (find (λ t. not (has_edit h t)) ts) in
+    let b : Option UndoFault = option_map Twice (first_twice [] ts) in
+    let c : Option UndoFault = option_map CountEnd (find (λ t. eqb (count h t) 4294967295) ts) in
+    at_end h w ts q ∙ map_none CountEnd (find (λ t. eqb (count h t) 4294967295) ts)
+    (first_none c [] (first_none b (c ∷ []) (first_none a (b ∷ c ∷ []) e).1).1).0
 
 -- what stands behind the fault
 pub local_of : (l : LimitsType) (h : History) (ts : List Lamport) (r : Option UndoFault) → r ≡ undo_fault h ts

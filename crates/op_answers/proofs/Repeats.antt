@@ -1,5 +1,5 @@
 -- The first stamp that stands before too, place by place.
-use Rattle.std.proofs.Common.{◌≡◌, ℕ, suc, ◌+◌, ◌<◌, Bool, true, false, cond, not, ◌||◌, List, [], ◌∷◌, length, get_or, take, drop, refl, sym, ◌∙◌, ap, Some, Option, drop-cons, arith, ◌⊎◌}
+use Rattle.std.proofs.Common.{◌≡◌, ℕ, suc, ◌+◌, ◌<◌, Bool, true, false, cond, ◌||◌, List, [], ◌∷◌, length, get_or, take, drop, refl, sym, ◌∙◌, ap, Some, Option, drop-cons, arith, ◌⊎◌}
 use Rattle.std.specs.List.{list_any}
 use Rattle.std.specs.Ordering.{is_eq}
 use Rattle.std.proofs.lemmas.List.{take_more}
@@ -42,10 +42,6 @@ pub goes_on : (s : List Lamport) (i : ℕ) (d : Lamport) (r : Option Lamport) (b
     → first_twice (take i s) (drop i s) ≡ r → first_twice (take (i + 1) s) (drop (i + 1) s) ≡ r
 goes_on s i d r b l e f q =
     sym (at_place s i d l ∙ ap (λ (b : Bool). cond b (Some (get_or s i d)) (first_twice (take (i + 1) s) (drop (i + 1) s))) (sym e ∙ f)) ∙ q
-
-pub not_new : (b : Bool) → true ≡ not b → b ≡ false
-not_new true e = cc
-not_new false e = refl
 
 cond_or : (a b : Bool) → cond a true b ≡ (a || b)
 cond_or true b = refl

@@ -43,11 +43,16 @@ IsCause h v o = In h o × (within (version_of o) v ≡ true)
 
 -- the fault of an operation's pieces or counts against what its version sees
 abbrev pub part_fault : History → Operation → Option OpFault
-part_fault h op = let g = seen_history h (version_of op) in first_of (range_fault (full g) (pieces_of op) ∷ count_fault g (counts_of op) ∷ [])
+part_fault h op =
+    let g = seen_history h (version_of op) in
+    first_of (range_fault (full g) (pieces_of op) ∷ count_fault g (counts_of op) ∷ [])
 
 -- what stands against op's stamp at h, w waiting: an equal operation, or another of its stamp
 abbrev pub stamp_objection : History → List Operation → Operation → Option Answer
-stamp_objection h w op = first_of (when (any_equal (h ++ w) op) Repeat ∷ when (any_stamp (h ++ w) op) (Refused (Conflict (stamp_of op))) ∷ [])
+stamp_objection h w op = first_of (
+    when (any_equal (h ++ w) op) Repeat
+    ∷ when (any_stamp (h ++ w) op) (Refused (Conflict (stamp_of op)))
+    ∷ [])
 
 -- what stands at h against what op has seen: a fork, a cause that misses, or an open version
 abbrev pub cause_objection : History → Operation → Option Answer

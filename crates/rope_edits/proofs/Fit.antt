@@ -1,6 +1,6 @@
 -- Pieces without a fault stand in order on boundaries, and how long the text is that they make.
-use Rattle.std.proofs.Common.{◌≡◌, ℕ, suc, ◌+◌, ◌-◌, ◌<◌, ◌≤◌, List, [], ◌∷◌, ◌++◌, length, drop, refl, ◌∙◌, arith, Bool, true, false, not, cond, ◌&&◌, ◌||◌, Option, None, Some, option_map, nat_lt, length-append, length-drop}
-use Rattle.std.proofs.lemmas.Bool.{ltb-false}
+use Rattle.std.proofs.Common.{◌≡◌, ℕ, suc, ◌+◌, ◌-◌, ◌<◌, ◌≤◌, List, [], ◌∷◌, ◌++◌, length, drop, refl, ◌∙◌, arith, Bool, true, false, cond, ◌&&◌, ◌||◌, Option, None, Some, option_map, nat_lt, length-append, length-drop}
+use Rattle.std.proofs.lemmas.Bool.{and_parts, ltb-false, not-false}
 use Rattle.std.proofs.lemmas.List.{length-take-le}
 use Rattle.std.specs.List.{AllByRecursion, position}
 use Rattle.std.proofs.lemmas.Str.{IsCharBoundary-start}
@@ -20,11 +20,6 @@ all_none [] h = tt
 all_none (None ∷ os) h = (refl, all_none os h)
 all_none (Some x ∷ os) h = cc
 
-neither : (a b : Bool) → not (a && b) ≡ false → (a ≡ true) × (b ≡ true)
-neither true true h = (refl, refl)
-neither true false h = cc
-neither false b h = cc
-
 in_order : (b : Bool) (i : ℕ) (o : Option ℕ) → cond b (Some i) o ≡ None → (b ≡ false) × (o ≡ None)
 in_order true i o h = cc
 in_order false i o h = (refl, h)
@@ -32,7 +27,7 @@ in_order false i o h = (refl, h)
 fits : (at i : ℕ) (ps : List Piece) (text : List ℕ) → IsCharBoundary text at → AllByRecursion (λ p. is_reversed p ≡ false) ps → overlap_from at i ps ≡ None → AllByRecursion (λ p. is_inside text p ≡ false) ps → AreFit at ps text
 fits at i [] text h r o b = h
 fits at i (p ∷ ps) text h r o b =
-    let n = neither (is_boundary text p.start) (is_boundary text p.end) b.0 in
+    let n = and_parts (is_boundary text p.start) (is_boundary text p.end) (not-false (is_boundary text p.start && is_boundary text p.end) b.0) in
     let k = in_order (nat_lt p.start at) i (overlap_from p.end (suc i) ps) o in
     (h, ltb-false _ _ k.0, boundary_of text p.start n.0, ltb-false _ _ r.0, fits p.end (suc i) ps text (boundary_of text p.end n.1) r.1 k.1 b.1)
 

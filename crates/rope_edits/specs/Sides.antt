@@ -41,9 +41,12 @@ sides_len s = side_len s.shown + side_len s.hidden + length s.fresh
 abbrev pub after_move : Move → SidesState → SidesState
 after_move (Visible k) s = record { shown = pass_bytes k s.shown; hidden = s.hidden; fresh = s.fresh }
 after_move (Hidden k) s = record { shown = s.shown; hidden = pass_bytes k s.hidden; fresh = s.fresh }
-after_move (Hide k) s = record { shown = without k s.shown; hidden = with_text (take k s.shown.left) s.hidden; fresh = s.fresh }
-after_move (Show k) s = record { shown = with_text (take k s.hidden.left) s.shown; hidden = without k s.hidden; fresh = s.fresh }
-after_move (Insert k) s = record { shown = with_text (take k s.fresh) s.shown; hidden = s.hidden; fresh = drop k s.fresh }
+after_move (Hide k) s =
+    record { shown = without k s.shown; hidden = with_text (take k s.shown.left) s.hidden; fresh = s.fresh }
+after_move (Show k) s =
+    record { shown = with_text (take k s.hidden.left) s.shown; hidden = without k s.hidden; fresh = s.fresh }
+after_move (Insert k) s =
+    record { shown = with_text (take k s.fresh) s.shown; hidden = s.hidden; fresh = drop k s.fresh }
 
 -- what moves make of the two from there on
 abbrev pub outcome : SidesState → List Move → Texts
