@@ -1,5 +1,5 @@
 -- A text that is divided, and what is found in its parts.
-use Rattle.std.proofs.Common.{◌≡◌, ℕ, zero, suc, ◌+◌, ◌-◌, ◌<◌, ◌≤◌, List, [], ◌∷◌, ◌++◌, length, slice_index, slice_index_or, refl, sym, ap, subst, ◌∙◌, arith, ⊎_elim, length-append, Result, Ok, IfOk}
+use Rattle.std.proofs.Common.{◌≡◌, ℕ, zero, suc, ◌+◌, ◌-◌, ◌<◌, ◌≤◌, List, [], ◌∷◌, ◌++◌, length, slice_index, slice_index_or, refl, sym, ap, subst, ◌∙◌, arith, ⊎_elim, length-append}
 use Rattle.std.specs.List.{AllZip, range_with_len}
 use Rattle.std.specs.Str.{IsCharBoundary, IsUtf8}
 use Rattle.std.proofs.lemmas.Bool.{cases_lt}
@@ -64,9 +64,6 @@ no_part text needle some a e =
 
 pub all_parts : (text needle all : List ℕ) (some : 0 < length needle) (a : ℕ) → a ≡ length text → all ≡ starts_between text needle 0 a → all ≡ starts text needle
 all_parts text needle all some a e h = h ∙ (ap (starts_between text needle 0) e ∙ starts-whole text needle some)
-
-pub IfOk_at : {T E : Type 0} (P : T → Type 0) (r s : Result T E) (x : T) → IfOk r P → s ≡ r → s ≡ Ok x → P x
-IfOk_at {T} {E} P r s x h e f = let Q : Result T E → Type 0 = λ z. IfOk z P in subst Q (sym e ∙ f) h
 
 -- what stands beside the numbers of a range, at one place
 pub item_at : {Y : Type 0} (R : ℕ → Y → Type 0) (a n : ℕ) (ys : List Y) → AllZip R (range_with_len a n) ys → (j : ℕ) (d : Y) → j < n → (k : ℕ) → a + j ≡ k → R k (slice_index_or ys j d)

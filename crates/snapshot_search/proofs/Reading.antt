@@ -228,7 +228,3 @@ holds_begin needle text window n p h none empty =
       joined = empty ∙ sym front;
       reads = reads_none needle p h;
     }
-
-pub on_ok : {T E : Type 0} (r : Result T E) (A B : Type 0) → OnOk r A → (A → B) → OnOk r B
-on_ok (Ok x) A B a f = f a
-on_ok (Err e) A B a f = tt

@@ -19,7 +19,8 @@ pub record Follows (text needle : List ℕ) (from : ℕ) (p : Progress) : Type 0
 pub record Reads (needle piece : List ℕ) (p q : Progress) : Type 0 where
   pub place : place_of q ≡ place_of p + length piece
   pub partial : q.matched < length needle
-  pub follows : (text : List ℕ) (from : ℕ) → OccursAt text piece (place_of p) → Follows text needle from p → Follows text needle from q
+  pub follows : (text : List ℕ) (from : ℕ) → OccursAt text piece (place_of p)
+      → Follows text needle from p → Follows text needle from q
 
 -- q is what p becomes where the front of a text is read but for what is held in the window.
 pub record Holds (needle front : List ℕ) (p q : Progress) (window : List ℕ) : Type 0 where
@@ -29,4 +30,5 @@ pub record Holds (needle front : List ℕ) (p q : Progress) (window : List ℕ) 
 
 -- the same front with a piece more is held after as was held before
 abbrev pub Gathers : List ℕ → List ℕ → Progress → List ℕ → Progress → List ℕ → Type 0
-Gathers needle piece p v q w = (begin : Progress) (front : List ℕ) → Holds needle front begin p v → Holds needle (front ++ piece) begin q w
+Gathers needle piece p v q w = (begin : Progress) (front : List ℕ)
+    → Holds needle front begin p v → Holds needle (front ++ piece) begin q w

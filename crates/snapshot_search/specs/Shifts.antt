@@ -23,7 +23,8 @@ pub record IsSlid (needle : List ℕ) (q b k : ℕ) (text : List ℕ) (s : ℕ) 
 
 -- whatever the text, if the first q bytes of the needle stand in it, and b follows
 abbrev pub Slides : List ℕ → ℕ → ℕ → ℕ → Type 0
-Slides needle q b k = (text : List ℕ) (s : ℕ) → Agrees text needle s q → slice_index text (s + q) ≡ b → IsSlid needle q b k text s
+Slides needle q b k = (text : List ℕ) (s : ℕ)
+    → Agrees text needle s q → slice_index text (s + q) ≡ b → IsSlid needle q b k text s
 
 -- The same with the byte b: the first r bytes of the needle stand up to it, and at no place before those does the needle
 -- stand as far.
@@ -32,4 +33,5 @@ pub record IsMoved (needle : List ℕ) (q r : ℕ) (text : List ℕ) (s : ℕ) :
   pub none : (t : ℕ) → s ≤ t → t < s + q + 1 - r → ¬ Agrees text needle t (s + q + 1 - t)
 
 abbrev pub Moves : List ℕ → ℕ → ℕ → ℕ → Type 0
-Moves needle q b r = (text : List ℕ) (s : ℕ) → Agrees text needle s q → slice_index text (s + q) ≡ b → IsMoved needle q r text s
+Moves needle q b r = (text : List ℕ) (s : ℕ)
+    → Agrees text needle s q → slice_index text (s + q) ≡ b → IsMoved needle q r text s

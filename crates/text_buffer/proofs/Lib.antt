@@ -2,6 +2,7 @@ pub mod Fit
 pub mod Lengths
 pub mod Crossing
 pub mod Edited
+pub mod EditResult
 pub mod Contents
 pub mod Waiting
 pub mod Applied

@@ -2,6 +2,7 @@
 use Rattle.std.proofs.Common.{◌≡◌, ℕ, ◌<◌, Bool, true, false, cond, eqb, List, [], ◌++◌, length, refl, sym, ◌∙◌, ap, append_assoc, arith}
 use Rattle.std.specs.List.{AllByRecursion}
 use Rattle.std.proofs.lemmas.List.{append-nil}
+use Rattle.std.proofs.lemmas.Bool.{eq-eqb}
 use Rattle.std.proofs.lemmas.Bool.Decides.{nat_tests}
 use Rattle.lamport_clock.specs.Versions.{within}
 use Rattle.op_model.specs.declared.operation.Operation.{Operation}
@@ -36,15 +37,12 @@ by_two : (l : LimitsType) (s : State) → Ascending older s.waiting
     → settle l s.history s.waiting ≡ cond (eqb (length (pass_step l s).history) (length s.history)) (pass l s.history s.waiting) (after_refused (pass l s.history s.waiting) (pass l (pass_step l s).history (pass_step l s).waiting))
 by_two l s u = two_passes l s.history s.waiting u ∙ passes_two l s.history s.waiting
 
-eqb_same : (x y : ℕ) → x ≡ y → eqb x y ≡ true
-eqb_same x y e = grind (arith, nat_tests)
-
 eqb_other : (x y : ℕ) → x < y → eqb y x ≡ false
 eqb_other x y e = grind (arith, nat_tests)
 
 -- a pass that applied nothing is all
 pub settled_once : (l : LimitsType) (s : State) → Ascending older s.waiting → length (pass_step l s).history ≡ length s.history → settle_step l s ≡ pass_step l s
-settled_once l s u e = ap (after_refused s) (by_two l s u ∙ ap (λ b. cond b (pass l s.history s.waiting) (after_refused (pass l s.history s.waiting) (pass l (pass_step l s).history (pass_step l s).waiting))) (eqb_same (length (pass_step l s).history) (length s.history) e))
+settled_once l s u e = ap (after_refused s) (by_two l s u ∙ ap (λ b. cond b (pass l s.history s.waiting) (after_refused (pass l s.history s.waiting) (pass l (pass_step l s).history (pass_step l s).waiting))) (eq-eqb (length (pass_step l s).history) (length s.history) e))
 
 -- else a second one is
 pub settled_twice : (l : LimitsType) (s : State) → Ascending older s.waiting → length s.history < length (pass_step l s).history → settle_step l s ≡ pass_step l (pass_step l s)

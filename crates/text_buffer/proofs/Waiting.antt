@@ -1,6 +1,6 @@
 -- What waits: it stands by stamps, and one more is put among it.
-use Rattle.op_model.proofs.Elements.{each_map}
-use Rattle.std.proofs.Common.{◌≡◌, ℕ, Bool, true, false, List, [], ◌∷◌, ◌++◌, inl, inr, refl, sym, ap, ◌∙◌, arith, Option, None, Some}
+use Rattle.op_model.proofs.Elements.{each_map, each_right}
+use Rattle.std.proofs.Common.{◌≡◌, ℕ, true, false, List, [], ◌∷◌, ◌++◌, inl, inr, refl, sym, ap, ◌∙◌, arith, Option, None, Some}
 use Rattle.std.specs.List.{AllByRecursion}
 use Rattle.std.proofs.lemmas.Bool.{cases_Bool}
 use Rattle.std.proofs.lemmas.Bool.Decides.{nat_tests}
@@ -42,13 +42,9 @@ ascends op (y ∷ w) f a = elim (cases_Bool (older y op)) [
       rw (insert_here older op y w h) ((xy, each_map (λ z. older y z ≡ true) (λ z. older op z ≡ true) (λ z yz. later_trans (stamp_of z) (stamp_of y) (stamp_of op) yz xy) w a.0), (a.0, a.1)))
 ]
 
-append_none : (t : Operation → Bool) (h w : List Operation) → AllByRecursion (λ o. t o ≡ false) (h ++ w) → AllByRecursion (λ o. t o ≡ false) w
-append_none t [] w e = e
-append_none t (o ∷ h) w e = append_none t h w e.1
-
 -- none of what waits has a stamp that is not there
 pub unlike_waiting : (h w : List Operation) (op : Operation) → any_stamp (h ++ w) op ≡ false → AllByRecursion (λ o. same_stamp (stamp_of o) (stamp_of op) ≡ false) w
-unlike_waiting h w op e = append_none (λ o. same_stamp (stamp_of o) (stamp_of op)) h w (any_none (λ o. same_stamp (stamp_of o) (stamp_of op)) (h ++ w) e)
+unlike_waiting h w op e = each_right (λ o. same_stamp (stamp_of o) (stamp_of op) ≡ false) h w (any_none (λ o. same_stamp (stamp_of o) (stamp_of op)) (h ++ w) e)
 
 pub not_waiting : (h w : List Operation) (op : Operation) → any_stamp (h ++ w) op ≡ false → operation_at w (stamp_of op) ≡ None
 not_waiting h w op e = none_find (λ o. same_stamp (stamp_of o) (stamp_of op)) w (unlike_waiting h w op e)

@@ -5,7 +5,13 @@ use Rattle.text_buffer.specs.Outcomes.{pair_of}
 use Rattle.text_buffer.specs.declared.buffer.Buffer.TheInside.{Inside}
 
 abbrev pub state_of : Inside → BufferState
-state_of b = record { history = b.document; waiting = b.waiting; refused = map pair_of b.refused.items; replica = b.replica; limits = b.limits }
+state_of b = record {
+  history = b.document;
+  waiting = b.waiting;
+  refused = map pair_of b.refused.items;
+  replica = b.replica;
+  limits = b.limits;
+}
 
 abbrev pub IsBufferInside : Inside → Type 0
 IsBufferInside b = IsBuffer (state_of b)

@@ -7,3 +7,4 @@ pub mod BufferInside
 pub mod Settling
 pub mod SnapshotLaws
 pub mod BaseInside
+pub mod EditResult

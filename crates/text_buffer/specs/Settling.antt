@@ -16,10 +16,18 @@ use Rattle.text_buffer.specs.Buffer.{BufferState, answer_to, after_apply, state,
 
 -- what a turn of op makes
 abbrev pub after_turn : Turn → Operation → State → State
-after_turn Append op s = record { history = s.history ++ op ∷ []; waiting = without (stamp_of op) s.waiting; refused = s.refused }
+after_turn Append op s = record {
+  history = s.history ++ op ∷ [];
+  waiting = without (stamp_of op) s.waiting;
+  refused = s.refused;
+}
 after_turn Drop op s = record { history = s.history; waiting = without (stamp_of op) s.waiting; refused = s.refused }
 after_turn Stay op s = s
-after_turn (Refuse f) op s = record { history = s.history; waiting = without (stamp_of op) s.waiting; refused = s.refused ++ (stamp_of op, f) ∷ [] }
+after_turn (Refuse f) op s = record {
+  history = s.history;
+  waiting = without (stamp_of op) s.waiting;
+  refused = s.refused ++ (stamp_of op, f) ∷ [];
+}
 
 -- op has its turn
 abbrev pub turn_step : LimitsType → Operation → State → State
@@ -27,7 +35,9 @@ turn_step l op s = after_turn (turn l s.history op) op s
 
 -- the operations of `front` had their turns in a pass, those of `rest` wait for theirs
 abbrev pub pass_front : LimitsType → State → List Operation → List Operation → State
-pass_front l s front rest = let p : State = pass l s.history front in record { history = p.history; waiting = p.waiting ++ rest; refused = s.refused ++ p.refused }
+pass_front l s front rest =
+    let p : State = pass l s.history front in
+    record { history = p.history; waiting = p.waiting ++ rest; refused = s.refused ++ p.refused }
 
 -- a pass that was stopped after the first k of what waits
 abbrev pub pass_until : ℕ → LimitsType → State → State
@@ -35,7 +45,9 @@ pass_until k l s = pass_front l s (take k s.waiting) (drop k s.waiting)
 
 -- one pass
 abbrev pub pass_step : LimitsType → State → State
-pass_step l s = let p : State = pass l s.history s.waiting in record { history = p.history; waiting = p.waiting; refused = s.refused ++ p.refused }
+pass_step l s =
+    let p : State = pass l s.history s.waiting in
+    record { history = p.history; waiting = p.waiting; refused = s.refused ++ p.refused }
 
 -- the least operation past a stamp that misses no cause
 abbrev pub next_ready : Option Lamport → BufferState → Option Operation

@@ -26,9 +26,11 @@ pub record AnswerAlike (h g : History) : Type 0 where
 pub record AnchorsStay (h g : History) : Type 0 where
   pub known : (a : Anchor) → is_known h a ≡ true → is_known g a ≡ true
   pub orders : (a b : Anchor) → (o : Ordering) → known_order h a b ≡ Some o → known_order g a b ≡ Some o
-  pub places : (a b : Anchor) → known_order h a b ≡ Some Less → (p q : ℕ) → known_place g a ≡ Some p → known_place g b ≡ Some q → p ≤ q
+  pub places : (a b : Anchor) → known_order h a b ≡ Some Less
+      → (p q : ℕ) → known_place g a ≡ Some p → known_place g b ≡ Some q → p ≤ q
 
 -- at each version without fault: the text then, with each old range replaced by the new text's range, is the text of h; the ranges
 -- ascend and do not touch
 abbrev pub EditsMakeTheText : History → Type 0
-EditsMakeTheText h = (v : Entries) → since_fault h v ≡ None → (apply_edits 0 (since h v) (text_at h v) (text h) ≡ text h) × AreApart (since h v)
+EditsMakeTheText h = (v : Entries) → since_fault h v ≡ None
+    → (apply_edits 0 (since h v) (text_at h v) (text h) ≡ text h) × AreApart (since h v)

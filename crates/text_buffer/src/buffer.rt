@@ -13,6 +13,7 @@ ghost use Rattle.op_model.specs.Shown.{text};
 ghost use Rattle.text_dims.specs.Summaries.{summary_of};
 ghost use Rattle.text_buffer.specs.Buffer.{BufferState, IsBuffer, after_call, after_apply, edit_fault, after_edit, edit_of, new_fault, over_base, state};
 ghost use Rattle.text_buffer.specs.Costs.{IsEditCost};
+ghost use Rattle.text_buffer.specs.EditResult.{IsEditResult};
 
 use crate::base::Base;
 use crate::document::Document;
@@ -265,18 +266,7 @@ impl Buffer {
         requires name { blank.name ≡ L.name }
         requires parts { blank.parts ≡ L.parts }
         requires some { 0 < blank.parts }
-        ensures ok { OnOk result (edit_fault self.old changes.now ≡ None) }
-        ensures made { IfOk result (λ op. op ≡ edit_of self.old changes.now) }
-        ensures new { OnOk result (self.new ≡ after_edit self.old changes.now) }
-        ensures history { IfOk result (λ op. self.new.history ≡ self.old.history ++ op ∷ []) }
-        ensures text { OnOk result (text self.new.history
-            ≡ replace_ranges changes.now (text self.old.history)) }
-        ensures fault { IfErr result (λ e. (edit_fault self.old changes.now ≡ Some e)
-            ⊎ ((edit_fault self.old changes.now ≡ None) × (e ≡ EditFault.OutOfMemory))) }
-        ensures err { OnErr result (self.new ≡ self.old) }
-        ensures step { OnOk result (self.new ≡ after_call (Edits changes.now) self.old) }
-        ensures refused { IfErr result (λ e. (self.new ≡ after_call (Edits changes.now) self.old)
-            ⊎ (e ≡ EditFault.OutOfMemory)) }
+        ensures { IsEditResult self.old self.new changes.now result }
     {
         let mut steps = Steps::<L>::new(blank);
         self.edit(changes, &mut steps)

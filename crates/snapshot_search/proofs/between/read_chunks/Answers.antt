@@ -2,8 +2,9 @@ use Rattle.std.proofs.Common.{rules, ℕ, List, ◌≡◌, ◌-◌, ◌<◌, len
 use Rattle.std.specs.List.{concat}
 use Rattle.snapshot_search.specs.Progress.{Holds, Reads}
 use Rattle.snapshot_search.proofs.Chunks.{text_on, rest_on, none_left}
-use Rattle.snapshot_search.proofs.Reading.{holds_begin, held_place, held_read, on_ok}
+use Rattle.snapshot_search.proofs.Reading.{holds_begin, held_place, held_read}
 use Rattle.std.proofs.lemmas.List.{length-take}
+use Rattle.std.proofs.lemmas.Result.{on_ok_weaker}
 use Rattle.snapshot_search.proofs.between.read_chunks.Goals as goal
 
 pub loop-chunk-init : goal.loop-chunk-init
@@ -73,10 +74,11 @@ returns-then-left-eq0 c =
     let r = c.read.new.self in
     let none = c.if-left-eq0.true in
     let all : count - c.loop-chunk.left ≡ count = omega arith in
-    on_ok c.read.result _ _ c.read.ensures
+    on_ok_weaker c.read.result
     (λ (reads : Reads needle c.deref.result.now q r).
     subst (λ n. Reads needle (take n text) p r) all
     (held_read needle (take (count - c.loop-chunk.left) text) p q r c.loop-chunk.window.items c.loop-chunk.invariant.holds (subst (λ (l : List ℕ). Reads needle l q r) c.deref.ensures.value reads)))
+    c.read.ensures
 
 -- no chunk is left
 pub returns : goal.returns
@@ -89,7 +91,8 @@ returns c =
     let r = c.read-2.new.self in
     let was = c.loop-chunk.invariant in
     let steps = c.in-None.ensures.steps in
-    on_ok c.read-2.result _ _ c.read-2.ensures
+    on_ok_weaker c.read-2.result
     (λ (reads : Reads needle c.deref-2.result.now q r).
     subst (λ (l : List ℕ). Reads needle l p r) (none_left text c.loop-chunk.chunk-iterator count c.loop-chunk.left was.within c.requires.enough was.rest steps.0)
     (held_read needle (take (count - c.loop-chunk.left) text) p q r c.loop-chunk.window.items was.holds (subst (λ (l : List ℕ). Reads needle l q r) c.deref-2.ensures.value reads)))
+    c.read-2.ensures

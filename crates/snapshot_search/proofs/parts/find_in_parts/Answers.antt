@@ -1,6 +1,7 @@
-use Rattle.std.proofs.Common.{◌≡◌, ◌+◌, ◌-◌, ◌++◌, ℕ, length, slice_index, Vec, Global, ap, ◌∙◌, arith}
+use Rattle.std.proofs.Common.{◌≡◌, ◌+◌, ◌-◌, ◌++◌, ℕ, length, slice_index, Vec, Global, ap, sym, ◌∙◌, arith}
+use Rattle.std.proofs.lemmas.Result.{IfOk-at_ok}
 use Rattle.snapshot_search.specs.Starts.{starts_between}
-use Rattle.snapshot_search.proofs.Dividing.{no_part, part_more, all_parts, IfOk_at}
+use Rattle.snapshot_search.proofs.Dividing.{no_part, part_more, all_parts}
 use Rattle.snapshot_search.proofs.parts.find_in_parts.Goals as goal
 
 pub loop-j-init : goal.loop-j-init
@@ -15,7 +16,7 @@ loop-j-preserved g c =
     let few = c.in_ok-found.ensures.len in
     let end = c.len-j-end.ensures in
     let each = c.in_ok-found.ensures.each j c.index.result.now (omega arith) in
-    let part = IfOk_at (λ (v : Vec ℕ Global). v.items ≡ starts_between text needle (slice_index cuts j) (slice_index cuts (j + 1))) _ c.index.result.now c.in-Ok.part each c.index.ensures c.in-Ok.is in
+    let part = IfOk-at_ok (λ (v : Vec ℕ Global). v.items ≡ starts_between text needle (slice_index cuts j) (slice_index cuts (j + 1))) (sym c.index.ensures ∙ c.in-Ok.is) each in
     part_more text needle c.loop-j.all.items c.in-Ok.part.items c.extend_from_slice.new.self.items c.requires.some (slice_index cuts j) (slice_index cuts (j + 1)) (c.requires.cuts.rise j (omega arith))
     c.loop-j.invariant part (c.in_ok-extend_from_slice-in-Ok.ensures.items ∙ ap (λ l. c.loop-j.all.items ++ l) c.as_slice.ensures.value)
 
