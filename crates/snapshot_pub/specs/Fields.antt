@@ -28,7 +28,12 @@ seen_list [] = []
 seen_list (k ∷ ks) = k.snapshot
 
 abbrev pub reader_state : ReaderInside → ReaderState
-reader_state r = record { pair = r.longest.reached.book; longest = r.longest.snapshot; seen = seen_list (view r.end.place); entered = r.entered }
+reader_state r = record {
+  pair = r.longest.reached.book;
+  longest = r.longest.snapshot;
+  seen = seen_list (view r.end.place);
+  entered = r.entered;
+}
 
 -- one snapshot was seen last, and it is of the reader's own pair
 abbrev pub IsOwn : ReaderInside → Type 0
