@@ -2,15 +2,10 @@
 use Rattle.std.proofs.Common.{◌≡◌, ◌<◌, ◌+◌, ℕ, zero, suc, List, [], ◌∷◌, ◌++◌, set, get_or, length, refl, sym, ap, ◌∙◌, subst, arith, length-append}
 use Rattle.std.specs.List.{All}
 use Rattle.std.proofs.lemmas.List.{append-nil, nil_from_length, get_or_default, length-set}
-use Rattle.std.proofs.lemmas.List.Elements.{All-cons, All-head, All-tail}
+use Rattle.std.proofs.lemmas.List.Elements.{All-set}
 use Rattle.op_model.specs.declared.operation.Operation.{Operation}
 use Rattle.text_buffer.specs.Document.{IsFront}
 use Rattle.snapshot_pub.proofs.Fronts.{front_itself}
-
-pub All-set : {X : Type 0} (P : X → Type 0) (xs : List X) (i : ℕ) (y : X) → All P xs → P y → All P (set xs i y)
-All-set P [] i y a p = a
-All-set P (x ∷ xs) zero y a p = All-cons P y xs p (All-tail P x xs a)
-All-set P (x ∷ xs) (suc i) y a p = All-cons P x (set xs i y) (All-head P x xs a) (All-set P xs i y (All-tail P x xs a) p)
 
 pub set_below : (xs : List (List Operation)) (i : ℕ) (y : List Operation) → i < length xs → ((j : ℕ) → j < i → get_or xs j [] ≡ y) → (j : ℕ) → j < i + 1 → get_or (set xs i y) j [] ≡ y
 set_below [] i y within h j below = absurd (omega arith)
@@ -34,6 +29,6 @@ pub published_more : (old new : List (List Operation)) (i n : ℕ) (y : List Ope
 published_more old new i n y is within count grows shown =
     let here : i < length old = omega arith in (
       ap (λ (l : List (List Operation)). length l) is ∙ (length-set old i y ∙ count),
-      subst (All (λ x. IsFront x y)) (sym is) (All-set (λ x. IsFront x y) old i y grows (front_itself y)),
+      subst (All (λ x. IsFront x y)) (sym is) (All-set (λ x. IsFront x y) old i y (front_itself y) grows),
       λ j below. subst (λ (l : List (List Operation)). get_or l j [] ≡ y) (sym is) (set_below old i y here shown j below),
     )

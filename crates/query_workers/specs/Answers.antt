@@ -37,13 +37,15 @@ abbrev pub IsKnown : {Q A : Type 0} → List ReaderState → Answer Q A → Type
 IsKnown readers a = IsFront a.snapshot (slice_index_or (lists_of readers) a.replica [])
 
 -- each ask has one answer, in their order, on what these readers gave
-pub record HasAnswered {Q A : Type 0} (plain : Q → List Operation → A) (asks : List (Ask Q)) (readers : List ReaderState) (answers : List (Answer Q A)) : Type 0 where
+pub record HasAnswered {Q A : Type 0} (plain : Q → List Operation → A) (asks : List (Ask Q))
+    (readers : List ReaderState) (answers : List (Answer Q A)) : Type 0 where
   pub each : ArePaired (IsAnswerTo plain) answers asks
   pub never_fewer : AllPairs NeverFewer answers
   pub known : All (IsKnown readers) answers
 
 -- a worker took jobs up to the end mark, and answered each of them, unless it missed memory
-pub record HasWorked {Q A : Type 0} (plain : Q → List Operation → A) (desk : DeskState) (done : DoneState Q A) : Type 0 where
+pub record HasWorked {Q A : Type 0} (plain : Q → List Operation → A)
+    (desk : DeskState) (done : DoneState Q A) : Type 0 where
   pub queue : done.queue ≡ desk.queue
   pub pairs : pairs_of done.readers ≡ pairs_of desk.readers
   pub ended : IsEnded done.taken

@@ -12,8 +12,12 @@ use Rattle.query_workers.specs.declared.desk.Done.TheInside.{Inside as DoneInsid
 
 module _ {Q : Type 0} where
   abbrev pub inbox_state : InboxInside Q → InboxState Q
-  inbox_state i =
-      record { queue = i.pass.table_id; room = ruled_capacity (arc_value i.line); sent = (view i.pass).sent; readers = (view i.pass).readers }
+  inbox_state i = record {
+    queue = i.pass.table_id;
+    room = ruled_capacity (arc_value i.line);
+    sent = (view i.pass).sent;
+    readers = (view i.pass).readers;
+  }
 
   -- its pass is the one that sends
   pub record IsSending (i : InboxInside Q) : Type 0 where
@@ -32,8 +36,12 @@ module _ {Q : Type 0} where
 
 module _ {Q A : Type 0} where
   abbrev pub done_state : DoneInside Q A → DoneState Q A
-  done_state d =
-      record { queue = d.pass.table_id; taken = (view d.pass).taken; readers = d.readers.items; answers = option_map (λ v. v.items) (result_ok d.answers) }
+  done_state d = record {
+    queue = d.pass.table_id;
+    taken = (view d.pass).taken;
+    readers = d.readers.items;
+    answers = option_map (λ v. v.items) (result_ok d.answers);
+  }
 
   -- its pass is the one that takes, and no slot of the queue is out with it
   pub record HasTaken (d : DoneInside Q A) : Type 0 where

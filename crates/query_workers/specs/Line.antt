@@ -16,20 +16,26 @@ pairs_of rs = map (λ (r : ReaderState). r.pair) rs
 
 module _ {Q : Type 0} where
   abbrev pub log : Bool → Bool → List (Entry Q) → List (Entry Q) → List ReaderState → Log Q
-  log sends takes sent taken readers = record { sends = sends; takes = takes; sent = sent; taken = taken; readers = readers }
+  log sends takes sent taken readers =
+      record { sends = sends; takes = takes; sent = sent; taken = taken; readers = readers }
 
   -- its token is of the pair of the reader of its replica
   abbrev pub IsFor : List ReaderState → Entry Q → Type 0
-  IsFor readers (entry.Job j) = (j.replica < length readers) × (j.told.pair ≡ slice_index_or (pairs_of readers) j.replica j.told.pair)
+  IsFor readers (entry.Job j) =
+      (j.replica < length readers)
+      × (j.told.pair ≡ slice_index_or (pairs_of readers) j.replica j.told.pair)
   IsFor readers entry.End = Unit {0}
 
   abbrev pub Fits : ℕ → ℕ → List (Entry Q) → List (Entry Q) → List ReaderState → ℕ → Log Q → Type 0
   Fits editor worker sent taken readers port v =
-      (v.sends ≡ true → (port ≡ editor) × (v.sent ≡ sent) × (v.readers ≡ readers)) × (v.takes ≡ true → (port ≡ worker) × (v.taken ≡ taken) × (v.readers ≡ readers))
+      (v.sends ≡ true → (port ≡ editor) × (v.sent ≡ sent) × (v.readers ≡ readers))
+      × (v.takes ≡ true → (port ≡ worker) × (v.taken ≡ taken) × (v.readers ≡ readers))
 
   abbrev pub IsHandedOn : List (Entry Q) → List (Log Q) → Type 0
   IsHandedOn items views =
-      (editor : ℕ) × (worker : ℕ) × (sent : List (Entry Q)) × (taken : List (Entry Q)) × (readers : List ReaderState) × (sent ≡ taken ++ items) × All (IsFor readers) sent
+      (editor : ℕ) × (worker : ℕ) × (sent : List (Entry Q)) × (taken : List (Entry Q))
+      × (readers : List ReaderState) × (sent ≡ taken ++ items)
+      × All (IsFor readers) sent
       × ((port : ℕ) (v : Log Q) → get_elem? views port ≡ some v → Fits editor worker sent taken readers port v)
 
   -- the jobs among them
