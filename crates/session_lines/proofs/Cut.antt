@@ -18,10 +18,6 @@ first_cut (x ∷ y ∷ text) h =
     subst (λ (k : ℕ). onto_first x (lines_of (y ∷ text)) ≡ take k (x ∷ y ∷ text) ∷ lines_of (drop (suc k) (x ∷ y ∷ text))) (sym e) (ap (onto_first x) rest) in
     elim (x == 10) as (λ b. let n = cond (not b) (1 + m) 0 in cond b ([] ∷ lines_of (y ∷ text)) (onto_first x (lines_of (y ∷ text))) ≡ take n (x ∷ y ∷ text) ∷ lines_of (drop (suc n) (x ∷ y ∷ text))) [ true ↦ refl | false ↦ step ]
 
-pub at_some : (b : Bool) (k i : ℕ) → Some i ≡ cond b (Some k) None → i ≡ k
-at_some true k i e = cc
-at_some false k i e = cc
-
 pub at_none : (b : Bool) (k : ℕ) → None ≡ cond b (Some k) None → b ≡ false
 at_none true k e = cc
 at_none false k e = refl

@@ -3,7 +3,7 @@ use Rattle.std.proofs.Common.{◌≡◌, ℕ, suc, ◌+◌, ◌<◌, ◌≤◌, 
 use Rattle.std.specs.Prelude.{⊤}
 use Rattle.std.specs.List.{list_all}
 use Rattle.std.proofs.lemmas.List.{take-append-drop}
-use Rattle.std.proofs.lemmas.Bool.{lt-ltb, le-ltb, leb-true, cases_eq, ne_eqb, eq-eqb}
+use Rattle.std.proofs.lemmas.Bool.{and_right, lt-ltb, le-ltb, leb-true, cases_eq, ne_eqb, eq-eqb}
 use Rattle.lamport_clock.specs.declared.stamp.Lamport.{Lamport}
 use Rattle.lamport_clock.specs.Versions.{Entries, IsVersionFrom, IsVersion, entry, put_entry, raise, join_versions}
 use Rattle.lamport_clock.proofs.Raises.{by_order, by_bound, raise_seen, raise_new, entry-put_at, entry-put_off}
@@ -108,10 +108,6 @@ absent-raise u e (r ∷ rs) p z =
           rw (ne_eqb r e.0 n, off, ih) (flip (entry u r == 0) (not (is_among rs e.0)) (are_absent u rs))
     ]
 
-never : (b : Bool) → (b && false) ≡ false
-never true = refl
-never false = refl
-
 turn : (n d a : Bool) → (d && (n && a)) ≡ ((n && d) && a)
 turn true d a = refl
 turn false true a = refl
@@ -129,7 +125,7 @@ all_new-distinct u (e ∷ es) v =
     let back = absent-raise u e rs positive (omega arith) in
     rw yes (ih ∙ ap (λ b. are_distinct rs && b) back ∙ turn (not (is_among rs e.0)) (are_distinct rs) (are_absent u rs)))
     (λ p. let no = ne_eqb (entry u e.0) 0 (λ q. absurd (omega arith)) in
-    rw no (sym (never (not (is_among rs e.0) && are_distinct rs))))
+    rw no (sym (and_right (not (is_among rs e.0) && are_distinct rs) false refl)))
 
 all_absent : (rs : List ℕ) → are_absent [] rs ≡ true
 all_absent [] = refl

@@ -31,7 +31,9 @@ undo_from (r ∷ ns ∷ []) = undo_with (id_of r) (numbers_of ns)
 undo_from _ = None
 
 abbrev pub op_with : Option Lamport → Option Entries → Option (List Piece) → Option SessionLine
-op_with t v ps = option_and_then (λ s. option_and_then (λ u. option_map (λ x. Op (record { stamp = s; version = u; pieces = x })) ps) v) t
+op_with t v ps =
+    option_and_then (λ s. option_and_then (λ u.
+    option_map (λ x. Op (record { stamp = s; version = u; pieces = x })) ps) v) t
 
 -- [value, replica], [[r, v], ..], [[s, e, "t"], ..]
 abbrev pub op_from : List Data → Option SessionLine
@@ -39,7 +41,9 @@ op_from (t ∷ v ∷ ps ∷ []) = op_with (stamp_of t) (version_of v) (pieces_of
 op_from _ = None
 
 abbrev pub uop_with : Option Lamport → Option Entries → Option (List UndoCount) → Option SessionLine
-uop_with t v cs = option_and_then (λ s. option_and_then (λ u. option_map (λ x. Uop (record { stamp = s; version = u; counts = x })) cs) v) t
+uop_with t v cs =
+    option_and_then (λ s. option_and_then (λ u.
+    option_map (λ x. Uop (record { stamp = s; version = u; counts = x })) cs) v) t
 
 -- [value, replica], [[r, v], ..], [[value, replica, count], ..]
 abbrev pub uop_from : List Data → Option SessionLine
@@ -60,7 +64,9 @@ text_from (r ∷ []) = option_map Text (id_of r)
 text_from _ = None
 
 abbrev pub anchor_with : Option ℕ → Option (List ℕ) → Option ℕ → Option Bias → Option SessionLine
-anchor_with r t o b = option_and_then (λ id. option_and_then (λ name. option_and_then (λ place. option_map (Anchor id name place) b) o) t) r
+anchor_with r t o b =
+    option_and_then (λ id. option_and_then (λ name.
+    option_and_then (λ place. option_map (Anchor id name place) b) o) t) r
 
 -- r, "name", o, "left" or "right"
 abbrev pub anchor_from : List Data → Option SessionLine

@@ -24,7 +24,10 @@ header_with b rs = option_and_then (λ base. option_map (λ ids. record { base =
 
 -- ["zedbuf", 1, BASE, [R, ..]]
 abbrev pub header_from : List Data → Option Header
-header_from (w ∷ v ∷ b ∷ rs ∷ []) = if is_text (codes "zedbuf") w && is_number 1 v then header_with (as_str b) (option_and_then replicas_from (members_of rs)) else None
+header_from (w ∷ v ∷ b ∷ rs ∷ []) =
+    if is_text (codes "zedbuf") w && is_number 1 v
+    then header_with (as_str b) (option_and_then replicas_from (members_of rs))
+    else None
 header_from _ = None
 
 unfoldable pub header_of_value : Data → Option Header

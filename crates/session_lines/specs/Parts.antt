@@ -88,7 +88,8 @@ version_of d = option_and_then version_from (members_of d)
 -- ---- pieces
 
 abbrev pub piece_with : Option ℕ → Option ℕ → Option (List ℕ) → Option Piece
-piece_with s e t = option_and_then (λ a. option_and_then (λ b. option_map (λ x. record { start = a; end = b; text = x }) t) e) s
+piece_with s e t =
+    option_and_then (λ a. option_and_then (λ b. option_map (λ x. record { start = a; end = b; text = x }) t) e) s
 
 -- [s, e, "t"]
 abbrev pub piece_from : List Data → Option Piece

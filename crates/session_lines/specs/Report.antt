@@ -56,7 +56,9 @@ made_line n t = decimal n ++ (codes ": " ++ (decimal t.value ++ (codes "." ++ (d
 -- what stands before the text in a line that ends with one
 abbrev pub head_words : TextHead → List ℕ
 head_words (head.CurrentText r bytes row column rows) =
-    codes "text " ++ (decimal r ++ (codes ": " ++ (decimal bytes ++ (codes " bytes, end " ++ (decimal row ++ (codes ":" ++ (decimal column ++ (codes ", " ++ (decimal rows ++ codes " rows, ")))))))))
+    codes "text " ++ (decimal r ++ (codes ": " ++ (decimal bytes ++ (codes " bytes, end "
+    ++ (decimal row ++ (codes ":" ++ (decimal column
+    ++ (codes ", " ++ (decimal rows ++ codes " rows, ")))))))))
 head_words (head.FinalText r) = codes "final " ++ (decimal r ++ codes ": ")
 
 unfoldable pub text_line : TextHead → List ℕ → List ℕ
@@ -121,7 +123,9 @@ given_words given.Nothing = codes "nothing"
 given_words (given.Refused e) = op_fault_words e
 
 unfoldable pub give_line : ℕ → ℕ → GiveAnswer → List ℕ
-give_line n r answer = codes "give " ++ (decimal n ++ (codes " to " ++ (decimal r ++ (codes ": " ++ (given_words answer ++ codes "\n")))))
+give_line n r answer =
+    codes "give " ++ (decimal n ++ (codes " to " ++ (decimal r ++ (codes ": "
+    ++ (given_words answer ++ codes "\n")))))
 
 -- ---- anchors and marks, by their names, which are written as JSON strings
 
@@ -142,14 +146,18 @@ where_words position.Unknown = codes "unknown"
 where_words position.Nothing = codes "nothing"
 
 unfoldable pub where_line : List ℕ → ℕ → WhereAnswer → List ℕ
-where_line name r answer = codes "where " ++ (quoted name ++ (codes " at " ++ (decimal r ++ (codes ": " ++ (where_words answer ++ codes "\n")))))
+where_line name r answer =
+    codes "where " ++ (quoted name ++ (codes " at " ++ (decimal r ++ (codes ": "
+    ++ (where_words answer ++ codes "\n")))))
 
 unfoldable pub mark_line : List ℕ → List ℕ
 mark_line name = codes "mark " ++ (quoted name ++ codes ": set\n")
 
 -- the old range and the new one
 abbrev pub edit_words : TextEdit → List ℕ
-edit_words e = decimal e.old.0 ++ (codes ".." ++ (decimal e.old.1 ++ (codes " -> " ++ (decimal e.new.0 ++ (codes ".." ++ decimal e.new.1)))))
+edit_words e =
+    decimal e.old.0 ++ (codes ".." ++ (decimal e.old.1
+    ++ (codes " -> " ++ (decimal e.new.0 ++ (codes ".." ++ decimal e.new.1)))))
 
 -- the edits with a comma and a space between them
 abbrev pub edits_words : List TextEdit → List ℕ
@@ -166,7 +174,9 @@ since_words (edits.Edits es) = edits_words es
 since_words (edits.Fault e) = since_fault_words e
 
 unfoldable pub since_line : List ℕ → ℕ → SinceAnswer → List ℕ
-since_line name r answer = codes "since " ++ (quoted name ++ (codes " at " ++ (decimal r ++ (codes ": " ++ (since_words answer ++ codes "\n")))))
+since_line name r answer =
+    codes "since " ++ (quoted name ++ (codes " at " ++ (decimal r ++ (codes ": "
+    ++ (since_words answer ++ codes "\n")))))
 
 -- ---- answers to queries
 
@@ -189,12 +199,15 @@ clips_words left right = codes "none " ++ (left ++ (codes " " ++ right))
 
 -- the point, the UTF-16 offset and the UTF-16 point
 abbrev pub point_words : PointAnswer → List ℕ
-point_words (point.Point p u q) = place_words p.row p.column ++ (codes " " ++ (decimal u.0 ++ (codes " " ++ place_words q.row q.column)))
+point_words (point.Point p u q) =
+    place_words p.row p.column
+    ++ (codes " " ++ (decimal u.0 ++ (codes " " ++ place_words q.row q.column)))
 point_words (point.Clips left right) = clips_words (decimal left) (decimal right)
 
 abbrev pub offset_words : OffsetAnswer → List ℕ
 offset_words (offset.Offset o) = decimal o
-offset_words (offset.Clips left right) = clips_words (place_words left.row left.column) (place_words right.row right.column)
+offset_words (offset.Clips left right) =
+    clips_words (place_words left.row left.column) (place_words right.row right.column)
 
 abbrev pub query_word : QueryAnswer → List ℕ
 query_word (query.Find a) = codes "find"
@@ -208,12 +221,17 @@ query_words (query.Offset a) = offset_words a
 
 -- query q, which was answered on n operations
 unfoldable pub query_line : ℕ → ℕ → QueryAnswer → List ℕ
-query_line q n a = query_word a ++ (codes " " ++ (decimal q ++ (codes " at " ++ (decimal n ++ (codes ": " ++ (query_words a ++ codes "\n"))))))
+query_line q n a =
+    query_word a ++ (codes " " ++ (decimal q ++ (codes " at " ++ (decimal n ++ (codes ": "
+    ++ (query_words a ++ codes "\n"))))))
 
 -- ---- replicas at the end
 
 abbrev pub counts_words : ℕ → ℕ → ℕ → ℕ → List ℕ
-counts_words r bytes rows applied = codes "replica " ++ (decimal r ++ (codes ": " ++ (decimal bytes ++ (codes " bytes, " ++ (decimal rows ++ (codes " rows, " ++ (decimal applied ++ codes " applied, ")))))))
+counts_words r bytes rows applied =
+    codes "replica " ++ (decimal r ++ (codes ": " ++ (decimal bytes ++ (codes " bytes, "
+    ++ (decimal rows ++ (codes " rows, "
+    ++ (decimal applied ++ codes " applied, ")))))))
 
 abbrev pub waits_words : ℕ → ℕ → List ℕ
 waits_words waiting refused = decimal waiting ++ (codes " waiting, " ++ (decimal refused ++ codes " refused\n"))
@@ -222,11 +240,16 @@ unfoldable pub replica_line : ℕ → ℕ → ℕ → ℕ → ℕ → ℕ → Li
 replica_line r bytes rows applied waiting refused = counts_words r bytes rows applied ++ waits_words waiting refused
 
 unfoldable pub refused_op_line : ℕ → Lamport → OpFault → List ℕ
-refused_op_line r t e = codes "refused " ++ (decimal r ++ (codes ": " ++ (stamp_text t ++ (codes " " ++ (op_fault_words e ++ codes "\n")))))
+refused_op_line r t e =
+    codes "refused " ++ (decimal r ++ (codes ": " ++ (stamp_text t ++ (codes " "
+    ++ (op_fault_words e ++ codes "\n")))))
 
 unfoldable pub checked_line : ℕ → ℕ → ℕ → ℕ → List ℕ
 checked_line lines replicas operations queries =
-    codes "session ok: " ++ (decimal lines ++ (codes " lines, " ++ (decimal replicas ++ (codes " replicas, " ++ (decimal operations ++ (codes " operations, " ++ (decimal queries ++ codes " queries\n")))))))
+    codes "session ok: " ++ (decimal lines ++ (codes " lines, "
+    ++ (decimal replicas ++ (codes " replicas, "
+    ++ (decimal operations ++ (codes " operations, "
+    ++ (decimal queries ++ codes " queries\n")))))))
 
 -- ---- a line of each kind
 

@@ -209,7 +209,8 @@ then_from n (Ok x) next = next x
 -- the lines behind the header, those `before` being read
 abbrev pub rest_of : List ℕ → List SessionLine → List (List ℕ) → Result (List SessionLine) DecodeFault
 rest_of ids before [] = Ok before
-rest_of ids before (l ∷ ls) = then_from (2 + length before) (line_of ids before l) (λ x. rest_of ids (before ++ x ∷ []) ls)
+rest_of ids before (l ∷ ls) =
+    then_from (2 + length before) (line_of ids before l) (λ x. rest_of ids (before ++ x ∷ []) ls)
 
 abbrev pub with_header : Header → Result (List SessionLine) DecodeFault → Result Session DecodeFault
 with_header h (Err e) = Err e
@@ -221,7 +222,10 @@ session_of (l ∷ ls) = then_from 1 (header_of l) (λ h. with_header h (rest_of 
 
 -- the session that a text is, or why it is none: lines are counted before any is read
 unfoldable pub session_of_text : List ℕ → Result Session DecodeFault
-session_of_text input = if nat_lt 1048576 (length (lines_of input)) then Err (Lines (length (lines_of input))) else session_of (lines_of input)
+session_of_text input =
+    if nat_lt 1048576 (length (lines_of input))
+    then Err (Lines (length (lines_of input)))
+    else session_of (lines_of input)
 
 -- ---- what every session is like that was read from so many bytes
 

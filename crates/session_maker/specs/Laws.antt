@@ -9,5 +9,7 @@ use Rattle.session_maker.specs.Written.{session_text}
 -- told to be the lengths of texts: `after` works lines, and `length_at` tells how many bytes the text of a replica has.
 abbrev pub MadeSessionsDecode : Type 0 → Type 0
 MadeSessionsDecode S =
-    (after : List SessionLine → S → S) → (length_at : ℕ → S → ℕ) → (s : S) → (seed n edits : ℕ) → 1 ≤ n → n ≤ 16 → edits ≤ 20000
-    → let session = session_with n (made_lines after length_at seed n edits s) in session_of_text (session_text session) ≡ Ok session
+    (after : List SessionLine → S → S) → (length_at : ℕ → S → ℕ) → (s : S) → (seed n edits : ℕ)
+    → 1 ≤ n → n ≤ 16 → edits ≤ 20000
+    → let session = session_with n (made_lines after length_at seed n edits s) in
+    session_of_text (session_text session) ≡ Ok session

@@ -20,7 +20,11 @@ undo_turn r i x = let y = next x in (Undo r ((1 + draw_below (i - 1) y) ∷ []),
 
 -- replica r, whose text has l bytes, deletes 1 to 4 of them, or as many as there are
 abbrev pub delete_turn : ℕ → ℕ → ℕ → SessionLine × ℕ
-delete_turn r l x = let y = next x in let z = next y in let s = draw_below (l + 1) y in (edit_line r s (min l (s + (1 + draw_below 4 z))) [], z)
+delete_turn r l x =
+    let y = next x in
+    let z = next y in
+    let s = draw_below (l + 1) y in
+    (edit_line r s (min l (s + (1 + draw_below 4 z))) [], z)
 
 -- replica r, whose text has l bytes, inserts 1 to 3 times a letter of a to z
 abbrev pub insert_turn : ℕ → ℕ → ℕ → SessionLine × ℕ
@@ -32,4 +36,6 @@ insert_turn r l x =
 abbrev pub turn_of : ℕ → ℕ → ℕ → ℕ → SessionLine × ℕ
 turn_of i r l x =
     let y = next x in let kind = draw_below 8 y in
-    if kind == 0 && nat_lt 1 i then undo_turn r i y else if kind == 1 || kind == 2 then delete_turn r l y else insert_turn r l y
+    if kind == 0 && nat_lt 1 i then undo_turn r i y
+    else if kind == 1 || kind == 2 then delete_turn r l y
+    else insert_turn r l y

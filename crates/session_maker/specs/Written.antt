@@ -28,7 +28,8 @@ line_value _ = null
 
 -- ["zedbuf", 1, "base", [replica, ..]]
 abbrev pub header_value : List ℕ → List ℕ → Data
-header_value base ids = list_value (string (codes "zedbuf") ∷ number_value 1 ∷ string base ∷ list_value (map number_value ids) ∷ [])
+header_value base ids =
+    list_value (string (codes "zedbuf") ∷ number_value 1 ∷ string base ∷ list_value (map number_value ids) ∷ [])
 
 -- each value on a line of its own, without spaces
 abbrev pub lines_text : List Data → List ℕ
