@@ -4,6 +4,7 @@ use Rattle.std.specs.List.{range_with_len}
 use Rattle.std.proofs.lemmas.List.{map-append, get_or-map, get_or-set_other, get_or_default, length-map, length-set}
 use Rattle.std.proofs.lemmas.List.FromFn.{get_or-map-range_with_len, length-map-range_with_len}
 use Rattle.std.proofs.lemmas.Nat.{mod_below}
+use Rattle.std.proofs.lemmas.Bool.{eq-eqb, eqb-true, ne_eqb}
 use Rattle.atomic_table.specs.Seated.{TableId}
 use Rattle.logbook.specs.Pages.{Book}
 use Rattle.op_model.specs.declared.operation.Operation.{Operation}
@@ -20,7 +21,7 @@ use Rattle.query_dispatch.specs.Shown.{AreLevel, AreTied, column, no_pair, rows_
 use Rattle.query_dispatch.specs.Dealt.{AllAt, AreEnds, AreNumbered, HasAsked, IsClosed, IsDealt}
 use Rattle.query_dispatch.proofs.Levels.{level_shows, level_shown}
 use Rattle.query_dispatch.proofs.Places.{each_set}
-use Rattle.query_dispatch.proofs.Turns.{few_go, filter_in, filter_out, is_number, other_number, range_more, same_number}
+use Rattle.query_dispatch.proofs.Turns.{few_go, filter_in, filter_out, range_more}
 
 module _ {Q : Type 0} where
   -- an open inbox has as many entries as asks
@@ -47,7 +48,7 @@ module _ {Q : Type 0} where
   module _ (workers limit : ℕ) (asks : List (Ask Q)) (ask : Ask Q) (turn : ℕ) (is : worker_of workers ask.number ≡ turn) where
     pub dealt_here : (old new : InboxState Q) → IsDealt workers limit asks turn old → HasPut old new ask → IsDealt workers limit (asks ++ ask ∷ []) turn new
     dealt_here old new h put =
-        let goes : (worker_of workers ask.number == turn) ≡ true = ap (λ (m : ℕ). m == turn) is ∙ same_number turn in
+        let goes : (worker_of workers ask.number == turn) ≡ true = ap (λ (m : ℕ). m == turn) is ∙ eq-eqb turn turn refl in
         let next : InboxState Q = put_into old (entry.Job put.0) in
         subst (IsDealt workers limit (asks ++ ask ∷ []) turn) (sym put.2) (record {
           open_ = open_more old.sent next.sent put.0 refl h.open_;
@@ -58,7 +59,7 @@ module _ {Q : Type 0} where
 
     pub dealt_there : (w : ℕ) (i : InboxState Q) → w ≢ turn → IsDealt workers limit asks w i → IsDealt workers limit (asks ++ ask ∷ []) w i
     dealt_there w i other h =
-        let stays : (worker_of workers ask.number == w) ≡ false = other_number (worker_of workers ask.number) w (λ e. other (sym e ∙ is)) in
+        let stays : (worker_of workers ask.number == w) ≡ false = ne_eqb (worker_of workers ask.number) w (λ e. other (sym e ∙ is)) in
         record { open_ = h.open_; has = h.has ∙ sym (filter_out (λ (a : Ask Q). worker_of workers a.number == w) asks ask stays); room = h.room }
 
   module _ (d : DispatcherState Q) (asks : List (Ask Q)) (ask : Ask Q) (old new : InboxState Q) (turn : ℕ) where
@@ -77,12 +78,12 @@ module _ {Q : Type 0} where
 
       at_place : (w : ℕ) (e : InboxState Q) → w < length d.inboxes → (b : Bool) → (w == turn) ≡ b → IsDealt (length d.inboxes) d.limit (asks ++ ask ∷ []) w (get_or (set d.inboxes turn new) w e)
       at_place w e within true is =
-          let here : w ≡ turn = is_number w turn is in
+          let here : w ≡ turn = eqb-true w turn is in
           subst (λ (k : ℕ). IsDealt (length d.inboxes) d.limit (asks ++ ask ∷ []) k (get_or (set d.inboxes turn new) k e)) (sym here)
           (subst (IsDealt (length d.inboxes) d.limit (asks ++ ask ∷ []) turn) (sym (get_or-set_same d.inboxes turn new e below))
           (dealt_here (length d.inboxes) d.limit asks ask turn its_turn old new (subst (IsDealt (length d.inboxes) d.limit asks turn) (sym at) (h.each turn old below)) put))
       at_place w e within false is =
-          let other : w ≢ turn = λ f. absurd (cc (is, ap (λ (k : ℕ). k == turn) f ∙ same_number turn)) in
+          let other : w ≢ turn = λ f. absurd (cc (is, ap (λ (k : ℕ). k == turn) f ∙ eq-eqb turn turn refl)) in
           subst (IsDealt (length d.inboxes) d.limit (asks ++ ask ∷ []) w) (sym (get_or-set_other d.inboxes turn w new e other))
           (dealt_there (length d.inboxes) d.limit asks ask turn its_turn w (get_or d.inboxes w e) other (h.each w e within))
 

@@ -2,11 +2,10 @@
 use Rattle.std.proofs.Common.{◌≡◌, ℕ, ◌+◌, ◌<◌, ◌≤◌, List, [], ◌∷◌, ◌++◌, length, map, set, get_or, take, replicate, refl, sym, ap, ◌∙◌, subst, arith}
 use Rattle.std.specs.List.{All}
 use Rattle.std.proofs.lemmas.List.{map-set, map-append, get_or-map, get_or_default, get_or-replicate, length-map, length-replicate, take_more}
-use Rattle.std.proofs.lemmas.List.Elements.{All-head, All-tail}
+use Rattle.std.proofs.lemmas.List.Elements.{All-head, All-set, All-tail}
 use Rattle.op_model.specs.declared.operation.Operation.{Operation}
 use Rattle.logbook.specs.Pages.{Book}
 use Rattle.snapshot_pub.specs.States.{PublisherState, ToldState}
-use Rattle.query_workers.proofs.Places.{All-set}
 use Rattle.query_dispatch.specs.States.{PublishersState}
 use Rattle.query_dispatch.specs.Dealt.{told_lists, told_pairs}
 use Rattle.query_dispatch.specs.Shown.{AreLevel, Shows, column, no_pair, rows_of, shown_lists, shown_of}
@@ -55,7 +54,7 @@ module _ (s : PublishersState) (r : ℕ) (old new : PublisherState) (h : List Op
     pub next_level : AreLevel shown_next
     next_level = record {
       some = a.some;
-      each = All-set (Shows s.workers) s.list r new a.each shows;
+      each = All-set (Shows s.workers) s.list r new shows a.each;
       sizes = ap (λ (l : List ℕ). set l r (length h)) a.sizes ∙ (ap (λ (g : List Operation). set (map (λ (q : PublisherState). length (shown_of q)) s.list) r (length g)) (sym shown) ∙ sym (map-set (λ (q : PublisherState). length (shown_of q)) s.list r new));
     }
 

@@ -4,6 +4,7 @@ use Rattle.std.specs.List.{AllPairs, filter}
 use Rattle.std.proofs.lemmas.List.{append-nil, get_or-map, drop_more, drop_all, take_more, take_all}
 use Rattle.std.proofs.lemmas.List.FromFn.{get_or-range_with_len}
 use Rattle.std.proofs.lemmas.Nat.{mod_below}
+use Rattle.std.proofs.lemmas.Bool.{cases_lt, eq-eqb, ne_eqb}
 use Rattle.op_model.specs.declared.operation.Operation.{Operation}
 use Rattle.query_workers.specs.Asks.{Ask, asks_to, worker_of}
 use Rattle.query_workers.specs.Answers.{ArePaired, NeverFewer}
@@ -12,7 +13,7 @@ use Rattle.query_workers.proofs.Working.{paired_more}
 use Rattle.query_dispatch.specs.Dealt.{AllAt, AreNumbered}
 use Rattle.query_dispatch.specs.Settled.{AreGathered, IsSettled}
 use Rattle.query_dispatch.proofs.Places.{each_set}
-use Rattle.query_dispatch.proofs.Turns.{filter_in, filter_out, other_number, pairs_dealt, same_number, side}
+use Rattle.query_dispatch.proofs.Turns.{filter_in, filter_out, pairs_dealt}
 
 pub paired_length : {X Y : Type 0} (R : X → Y → Type 0) (xs : List X) (ys : List Y) → ArePaired R xs ys → length xs ≡ length ys
 paired_length R [] [] p = refl
@@ -25,14 +26,14 @@ none_paired R [] ys p e = refl
 none_paired R (x ∷ xs) [] p e = absurd p
 none_paired R (x ∷ xs) (y ∷ ys) p e = absurd (cc e)
 
-pub first_of : {X : Type 0} (xs : List X) → 0 < length xs → X
-first_of [] h = absurd (omega (arith, h))
-first_of (x ∷ xs) h = x
+pub head_of : {X : Type 0} (xs : List X) → 0 < length xs → X
+head_of [] h = absurd (omega (arith, h))
+head_of (x ∷ xs) h = x
 
 -- none goes where no worker is
 none_go : {X : Type 0} (turn : X → ℕ) (xs : List X) (w : ℕ) → ((x : X) → turn x < w) → filter (λ x. turn x == w) xs ≡ []
 none_go turn [] w h = refl
-none_go turn (x ∷ xs) w h = let no : (turn x == w) ≡ false = other_number (turn x) w (λ e. absurd (omega (arith, e, h x))) in
+none_go turn (x ∷ xs) w h = let no : (turn x == w) ≡ false = ne_eqb (turn x) w (λ e. absurd (omega (arith, e, h x))) in
     ap (λ (b : Bool). cond b (x ∷ filter (λ y. turn y == w) xs) (filter (λ y. turn y == w) xs)) no ∙ none_go turn xs w h
 
 module _ {Q A : Type 0} (plain : Q → List Operation → A) (lasts : List (List Operation)) (workers : ℕ) (asks : List (Ask Q)) where
@@ -58,12 +59,12 @@ module _ {Q A : Type 0} (plain : Q → List Operation → A) (lasts : List (List
       left_here : (q : ℕ) (d : Ask Q) → q < length asks → asks_to workers (q % workers) (drop q asks) ≡ get_or asks q d ∷ asks_to workers (q % workers) (drop (q + 1) asks)
       left_here q d below =
           ap (asks_to workers (q % workers)) (drop_more asks q d below)
-          ∙ ap (λ (b : Bool). cond b (get_or asks q d ∷ asks_to workers (q % workers) (drop (q + 1) asks)) (asks_to workers (q % workers) (drop (q + 1) asks))) (ap (λ (m : ℕ). m == q % workers) (turn_at q d below) ∙ same_number (q % workers))
+          ∙ ap (λ (b : Bool). cond b (get_or asks q d ∷ asks_to workers (q % workers) (drop (q + 1) asks)) (asks_to workers (q % workers) (drop (q + 1) asks))) (ap (λ (m : ℕ). m == q % workers) (turn_at q d below) ∙ eq-eqb (q % workers) (q % workers) refl)
 
       left_there : (q w : ℕ) (d : Ask Q) → q < length asks → w ≢ q % workers → asks_to workers w (drop q asks) ≡ asks_to workers w (drop (q + 1) asks)
       left_there q w d below other =
           ap (asks_to workers w) (drop_more asks q d below)
-          ∙ ap (λ (b : Bool). cond b (get_or asks q d ∷ asks_to workers w (drop (q + 1) asks)) (asks_to workers w (drop (q + 1) asks))) (ap (λ (m : ℕ). m == w) (turn_at q d below) ∙ other_number (q % workers) w (λ e. other (sym e)))
+          ∙ ap (λ (b : Bool). cond b (get_or asks q d ∷ asks_to workers w (drop (q + 1) asks)) (asks_to workers w (drop (q + 1) asks))) (ap (λ (m : ℕ). m == w) (turn_at q d below) ∙ ne_eqb (q % workers) w (λ e. other (sym e)))
 
       pub turn_more : (q : ℕ) (answers : List (Answer Q A)) (lists : List X) (old new : X) (a : Answer Q A) (d : Ask Q) → q < length asks → q % workers < length lists → IsTurn q answers lists
           → old ≡ get_or lists (q % workers) old → f old ≡ a ∷ f new → IsTurn (q + 1) (answers ++ a ∷ []) (set lists (q % workers) new)
@@ -76,13 +77,13 @@ module _ {Q A : Type 0} (plain : Q → List Operation → A) (lasts : List (List
           let number : a.number ≡ k.number = two.0.answer.number in
           let turn : worker_of workers a.number ≡ w = ap (worker_of workers) number ∙ turn_at q d below in
           let front : (e : X) → filter (its w) answers ++ f old ≡ f (get_or all w e) = subst (λ (x : X). (e : X) → filter (its w) answers ++ f x ≡ f (get_or all w e)) (sym at) (h.whole w old within) in
-          let goes : its w a ≡ true = ap (λ (m : ℕ). m == w) turn ∙ same_number w in record {
+          let goes : its w a ≡ true = ap (λ (m : ℕ). m == w) turn ∙ eq-eqb w w refl in record {
             done = subst (ArePaired (IsSettled plain lasts) (answers ++ a ∷ [])) (sym (take_more asks q d below)) (paired_more (IsSettled plain lasts) answers (take q asks) a k h.done two.0);
             rest = each_set (λ i r. ArePaired (IsSettled plain lasts) (f r) (asks_to workers i (drop q asks))) (λ i r. ArePaired (IsSettled plain lasts) (f r) (asks_to workers i (drop (q + 1) asks))) lists w new within h.rest two.1
                 (λ i x other p. subst (ArePaired (IsSettled plain lasts) (f x)) (left_there q i d below other) p);
             whole = each_set (λ i r. (e : X) → filter (its i) answers ++ f r ≡ f (get_or all i e)) (λ i r. (e : X) → filter (its i) (answers ++ a ∷ []) ++ f r ≡ f (get_or all i e)) lists w new within h.whole
                 (λ e. ap (λ (l : List (Answer Q A)). l ++ f new) (filter_in (its w) answers a goes) ∙ (append_assoc (filter (its w) answers) (a ∷ []) (f new) ∙ (ap (λ (l : List (Answer Q A)). filter (its w) answers ++ l) (sym is) ∙ front e)))
-                (λ i x other p e. ap (λ (l : List (Answer Q A)). l ++ f x) (filter_out (its i) answers a (other_number (worker_of workers a.number) i (λ z. other (sym z ∙ turn)))) ∙ p e);
+                (λ i x other p e. ap (λ (l : List (Answer Q A)). l ++ f x) (filter_out (its i) answers a (ne_eqb (worker_of workers a.number) i (λ z. other (sym z ∙ turn)))) ∙ p e);
           }
 
       -- the same at a place that is the worker whose turn it is
@@ -90,7 +91,7 @@ module _ {Q A : Type 0} (plain : Q → List Operation → A) (lasts : List (List
           → old ≡ get_or lists k old → f old ≡ a ∷ f new → IsTurn (q + 1) (answers ++ a ∷ []) (set lists k new)
       turn_at_place q k answers lists old new a k_is below within h at is =
           subst (λ (w : ℕ). IsTurn (q + 1) (answers ++ a ∷ []) (set lists w new)) (sym k_is)
-          (turn_more q answers lists old new a (first_of asks (omega (arith, below))) below (omega (arith, within, k_is)) h (subst (λ (w : ℕ). old ≡ get_or lists w old) k_is at) is)
+          (turn_more q answers lists old new a (head_of asks (omega (arith, below))) below (omega (arith, within, k_is)) h (subst (λ (w : ℕ). old ≡ get_or lists w old) k_is at) is)
 
       -- as many as are left to each worker
       abbrev pub AreLeft : (X → ℕ) → ℕ → List X → Type 0
@@ -98,7 +99,7 @@ module _ {Q A : Type 0} (plain : Q → List Operation → A) (lasts : List (List
 
       pub left_more : (size : X → ℕ) (q k : ℕ) (lists : List X) (old new : X) → k ≡ q % workers → q < length asks → k < length lists → AreLeft size q lists → old ≡ get_or lists k old → size old ≡ size new + 1 → AreLeft size (q + 1) (set lists k new)
       left_more size q k lists old new k_is below within h at is =
-          let d = first_of asks (omega (arith, below)) in
+          let d = head_of asks (omega (arith, below)) in
           let mine : size old ≡ length (asks_to workers k (drop q asks)) = ap size at ∙ h k old within in
           let one : asks_to workers k (drop q asks) ≡ get_or asks q d ∷ asks_to workers k (drop (q + 1) asks) =
           subst (λ (w : ℕ). asks_to workers w (drop q asks) ≡ get_or asks q d ∷ asks_to workers w (drop (q + 1) asks)) (sym k_is) (left_here q d below) in
@@ -108,7 +109,7 @@ module _ {Q A : Type 0} (plain : Q → List Operation → A) (lasts : List (List
 
       pub some_left : (size : X → ℕ) (q k : ℕ) (lists : List X) (old : X) → k ≡ q % workers → q < length asks → k < length lists → AreLeft size q lists → old ≡ get_or lists k old → 0 < size old
       some_left size q k lists old k_is below within h at =
-          let d = first_of asks (omega (arith, below)) in
+          let d = head_of asks (omega (arith, below)) in
           let mine : size old ≡ length (asks_to workers k (drop q asks)) = ap size at ∙ h k old within in
           let one : asks_to workers k (drop q asks) ≡ get_or asks q d ∷ asks_to workers k (drop (q + 1) asks) =
           subst (λ (w : ℕ). asks_to workers w (drop q asks) ≡ get_or asks q d ∷ asks_to workers w (drop (q + 1) asks)) (sym k_is) (left_here q d below) in
@@ -125,9 +126,9 @@ module _ {Q A : Type 0} (plain : Q → List Operation → A) (lasts : List (List
 
         of_worker : 0 < workers → AllAt (λ w r. AllPairs NeverFewer (f r)) all → length all ≡ workers → (w : ℕ) → AllPairs NeverFewer (filter (its w) answers)
         of_worker some never count w = ⊎_elim
-            (λ (far : workers ≤ w). subst (AllPairs NeverFewer) (sym (none_go (λ (a : Answer Q A). worker_of workers a.number) answers w (λ a. omega (arith, far, mod_below (a.number - 1) workers some)))) (λ i j e lt below. absurd (omega arith)))
             (λ (within : w < workers). subst (AllPairs NeverFewer) (sym (whole_list w within)) (never w d (omega (arith, within, count))))
-            (side w workers)
+            (λ (far : workers ≤ w). subst (AllPairs NeverFewer) (sym (none_go (λ (a : Answer Q A). worker_of workers a.number) answers w (λ a. omega (arith, far, mod_below (a.number - 1) workers some)))) (λ i j e lt below. absurd (omega arith)))
+            (cases_lt w workers)
 
         pub turns_end : 0 < workers → AllAt (λ w r. AllPairs NeverFewer (f r)) all → length all ≡ workers → AreGathered plain workers lasts asks answers
         turns_end some never count = record {

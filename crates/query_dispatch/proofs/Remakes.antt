@@ -1,6 +1,7 @@
 -- An answer on more than was last published is made anew, and later answers stay on no fewer operations.
-use Rattle.std.proofs.Common.{◌≡◌, ℕ, zero, suc, ◌<◌, ◌≤◌, Bool, true, false, cond, nat_lt, List, [], ◌∷◌, ◌++◌, length, map, get_or, drop, refl, sym, ap, ◌∙◌, subst, arith, ⊎_elim}
+use Rattle.std.proofs.Common.{◌≡◌, ℕ, zero, suc, ◌<◌, ◌≤◌, Bool, true, false, cond, nat_lt, List, [], ◌∷◌, ◌++◌, length, map, get_or, drop, sym, ap, ◌∙◌, subst, arith, ⊎_elim}
 use Rattle.std.specs.List.{All, AllPairs}
+use Rattle.std.proofs.lemmas.Bool.{cases_lt}
 use Rattle.std.proofs.lemmas.Bool.Decides.{nat_tests}
 use Rattle.std.proofs.lemmas.List.Elements.{All-cons, All-head, All-nil, All-tail}
 use Rattle.std.proofs.lemmas.List.Kept.{AllPairs-cons}
@@ -16,7 +17,7 @@ use Rattle.query_workers.specs.Asks.{Ask}
 use Rattle.query_workers.specs.Answers.{ArePaired, HasAnswered, IsAnswerTo, IsKnown, NeverFewer, lists_of}
 use Rattle.query_workers.specs.declared.query.Answer.{Answer}
 use Rattle.query_dispatch.proofs.Places.{all_at_more, drop_at}
-use Rattle.query_dispatch.proofs.Turns.{side}
+use Rattle.query_dispatch.proofs.Merges.{paired_length}
 use Rattle.query_dispatch.specs.Dealt.{AllAt, told_lists, told_pairs}
 use Rattle.query_dispatch.specs.Settled.{AreSettled, ComesTo, IsLimit, IsPast, IsSettled, last_of, settled_list}
 use Rattle.query_workers.proofs.Working.{front_length}
@@ -34,14 +35,14 @@ list_goes limit h last many = let test : nat_lt limit (length h) ≡ true = grin
 -- what is settled grows with what it comes from
 settled_grows : (limit : ℕ) (g h last : List Operation) → limit ≤ length last → length g ≤ length h → length (settled_list limit g last) ≤ length (settled_list limit h last)
 settled_grows limit g h last bound le =
-    ⊎_elim (λ (few : length h ≤ limit).
+    ⊎_elim (λ (many : limit < length h).
+    let two = ap (λ (l : List Operation). length l) (list_goes limit h last many) in
+    ⊎_elim (λ (both : limit < length g). let one = ap (λ (l : List Operation). length l) (list_goes limit g last both) in omega (arith, one, two))
+    (λ (few : length g ≤ limit). let one = ap (λ (l : List Operation). length l) (list_stays limit g last few) in omega (arith, one, two, few, bound)) (cases_lt limit (length g)))
+    (λ (few : length h ≤ limit).
     let one = ap (λ (l : List Operation). length l) (list_stays limit g last (omega arith)) in
     let two = ap (λ (l : List Operation). length l) (list_stays limit h last few) in omega (arith, one, two, le))
-    (λ (many : limit < length h).
-    let two = ap (λ (l : List Operation). length l) (list_goes limit h last many) in
-    ⊎_elim (λ (few : length g ≤ limit). let one = ap (λ (l : List Operation). length l) (list_stays limit g last few) in omega (arith, one, two, few, bound))
-    (λ (both : limit < length g). let one = ap (λ (l : List Operation). length l) (list_goes limit g last both) in omega (arith, one, two)) (side limit (length g)))
-    (side limit (length h))
+    (cases_lt limit (length h))
 
 -- each list begins the one at its place
 pub fronts_at : (xs ys : List (List Operation)) (r : ℕ) → ArePaired IsFront xs ys → IsFront (get_or xs r []) (get_or ys r [])
@@ -51,33 +52,27 @@ fronts_at (x ∷ xs) [] r p = absurd p
 fronts_at (x ∷ xs) (y ∷ ys) zero p = p.0
 fronts_at (x ∷ xs) (y ∷ ys) (suc r) p = fronts_at xs ys r p.1
 
-pub fronts_length : (xs ys : List (List Operation)) → ArePaired IsFront xs ys → length xs ≡ length ys
-fronts_length [] [] p = refl
-fronts_length [] (y ∷ ys) p = absurd p
-fronts_length (x ∷ xs) [] p = absurd p
-fronts_length (x ∷ xs) (y ∷ ys) p = ap suc (fronts_length xs ys p.1)
-
 module _ {Q A : Type 0} (plain : Q → List Operation → A) (limits : List ℕ) (lasts shown : List (List Operation)) (readers : List ReaderState)
     (fronts : ArePaired IsFront shown lasts) (bounds : (r : ℕ) → r < length lasts → IsLimit shown readers r (get_or limits r 0)) where
   settled_front : (a b : Answer Q A) (r : ℕ) → a.replica ≡ r → r < length lasts → ComesTo plain limits lasts b a → IsKnown readers a → IsFront b.snapshot (last_of lasts r)
   settled_front a b r at within c known =
       let bound : IsLimit shown readers a.replica (get_or limits a.replica 0) = bounds a.replica (omega (arith, at, within)) in
       subst (λ (k : ℕ). IsFront b.snapshot (last_of lasts k)) at (⊎_elim
-      (λ (few : length a.snapshot ≤ get_or limits a.replica 0).
-      let same : a.snapshot ≡ b.snapshot = list_stays (get_or limits a.replica 0) a.snapshot (last_of lasts a.replica) few ∙ sym c.snapshot in
-      subst (λ (l : List Operation). IsFront l (last_of lasts a.replica)) same (front_trans a.snapshot (get_or shown a.replica []) (last_of lasts a.replica) (bound.1 a.snapshot known few) (fronts_at shown lasts a.replica fronts)))
       (λ (many : get_or limits a.replica 0 < length a.snapshot).
       let same : last_of lasts a.replica ≡ b.snapshot = list_goes (get_or limits a.replica 0) a.snapshot (last_of lasts a.replica) many ∙ sym c.snapshot in
       subst (λ (l : List Operation). IsFront l (last_of lasts a.replica)) same (front_itself (last_of lasts a.replica)))
-      (side (get_or limits a.replica 0) (length a.snapshot)))
+      (λ (few : length a.snapshot ≤ get_or limits a.replica 0).
+      let same : a.snapshot ≡ b.snapshot = list_stays (get_or limits a.replica 0) a.snapshot (last_of lasts a.replica) few ∙ sym c.snapshot in
+      subst (λ (l : List Operation). IsFront l (last_of lasts a.replica)) same (front_trans a.snapshot (get_or shown a.replica []) (last_of lasts a.replica) (bound.1 a.snapshot known few) (fronts_at shown lasts a.replica fronts)))
+      (cases_lt (get_or limits a.replica 0) (length a.snapshot)))
 
   settled_told : (a b : Answer Q A) (k : Ask Q) → IsAnswerTo plain a k → IsPast lasts k → ComesTo plain limits lasts b a → IsFront k.history b.snapshot
   settled_told a b k h past c = ⊎_elim
-      (λ (few : length a.snapshot ≤ get_or limits a.replica 0).
-      subst (IsFront k.history) (list_stays (get_or limits a.replica 0) a.snapshot (last_of lasts a.replica) few ∙ sym c.snapshot) h.told)
       (λ (many : get_or limits a.replica 0 < length a.snapshot).
       subst (IsFront k.history) (ap (last_of lasts) (sym h.replica) ∙ (list_goes (get_or limits a.replica 0) a.snapshot (last_of lasts a.replica) many ∙ sym c.snapshot)) past.1)
-      (side (get_or limits a.replica 0) (length a.snapshot))
+      (λ (few : length a.snapshot ≤ get_or limits a.replica 0).
+      subst (IsFront k.history) (list_stays (get_or limits a.replica 0) a.snapshot (last_of lasts a.replica) few ∙ sym c.snapshot) h.told)
+      (cases_lt (get_or limits a.replica 0) (length a.snapshot))
 
   settled_one : (a b : Answer Q A) (k : Ask Q) → IsAnswerTo plain a k → IsPast lasts k → IsKnown readers a → ComesTo plain limits lasts b a → IsSettled plain lasts b k
   settled_one a b k h past known c = record {
@@ -145,11 +140,11 @@ module _ {Q A : Type 0} (plain : Q → List Operation → A) (limits : List ℕ)
 -- there is a limit for each replica
 pub bounds_of : (limits : List ℕ) (lasts shown : List (List Operation)) (readers : List ReaderState) → ArePaired IsFront shown lasts → length limits ≡ length shown → AllAt (IsLimit shown readers) limits
     → (r : ℕ) → r < length lasts → IsLimit shown readers r (get_or limits r 0)
-bounds_of limits lasts shown readers fronts many h r within = h r 0 (omega (arith, within, many, fronts_length shown lasts fronts))
+bounds_of limits lasts shown readers fronts many h r within = h r 0 (omega (arith, within, many, paired_length IsFront shown lasts fronts))
 
 pub all_there : {Q A : Type 0} (limits : List ℕ) (lasts shown : List (List Operation)) → ArePaired IsFront shown lasts → length limits ≡ length shown → (as_ : List (Answer Q A)) → All (λ (a : Answer Q A). a.replica < length lasts) as_
     → All (λ (a : Answer Q A). (a.replica < length limits) × (a.replica < length lasts)) as_
-all_there limits lasts shown fronts many as_ h i d below = let within = h i d below in (omega (arith, within, many, fronts_length shown lasts fronts), within)
+all_there limits lasts shown fronts many as_ h i d below = let within = h i d below in (omega (arith, within, many, paired_length IsFront shown lasts fronts), within)
 
 -- what settling the answers of one worker needs, and what comes of it
 pub settles : {Q A : Type 0} (plain : Q → List Operation → A) (limits looked : List ℕ) (lasts shown : List (List Operation)) (rs readers : List ReaderState) (as_ : List (Answer Q A)) (ks : List (Ask Q)) → ArePaired IsFront shown lasts → limits ≡ looked → length looked ≡ length shown

@@ -1,31 +1,13 @@
 -- What goes to workers in turn.
-use Rattle.std.proofs.Common.{◌≡◌, ℕ, zero, suc, ◌+◌, ◌-◌, ◌*◌, ◌%◌, ◌/◌, ◌<◌, ◌≤◌, ◌==◌, Bool, true, false, cond, List, [], ◌∷◌, ◌++◌, length, map, refl, sym, ap, ◌∙◌, subst, arith, length-append, append-nil, ◌⊎◌, inl, inr, nat_lt}
+use Rattle.std.proofs.Common.{◌≡◌, ℕ, zero, suc, ◌+◌, ◌-◌, ◌*◌, ◌%◌, ◌/◌, ◌<◌, ◌≤◌, ◌==◌, Bool, true, false, cond, List, [], ◌∷◌, ◌++◌, length, map, refl, sym, ap, ◌∙◌, subst, arith, length-append, append-nil}
 use Rattle.std.specs.List.{All, AllPairs, filter, range_with_len}
 use Rattle.std.proofs.lemmas.List.Elements.{All-cons, All-nil, All-head, All-tail, filter-append}
 use Rattle.std.proofs.lemmas.List.Kept.{AllPairs-cons}
 use Rattle.std.proofs.lemmas.Nat.{div-add-mod', div-mul-add, le-div, mod_below, mul-le}
 use Rattle.std.proofs.Math.Nat.{suc-mul}
 use Rattle.std.proofs.Math.Numerals.{suc-eq-add-one}
-use Rattle.std.proofs.lemmas.Bool.Decides.{nat_tests}
+use Rattle.std.proofs.lemmas.Bool.{eq-eqb, eqb-true}
 use Rattle.sum_tree.proofs.Keys.{AllPairs-cross, AllPairs-right}
-
-pub side : (limit n : ℕ) → (n ≤ limit) ⊎ (limit < n)
-side limit n = elim (nat_lt limit n) as (λ (b : Bool). nat_lt limit n ≡ b → (n ≤ limit) ⊎ (limit < n)) [
-  | true ↦ (λ e. inr (grind (arith, nat_tests)))
-  | false ↦ (λ e. inl (grind (arith, nat_tests)))
-] refl
-
-pub same_number : (m : ℕ) → (m == m) ≡ true
-same_number m = grind (arith, nat_tests)
-
-pub is_number : (m n : ℕ) → (m == n) ≡ true → m ≡ n
-is_number m n e = grind (arith, nat_tests)
-
-pub other_number : (m n : ℕ) → (m ≡ n → ⊥) → (m == n) ≡ false
-other_number m n h = elim (m == n) as (λ (b : Bool). (m == n) ≡ b → b ≡ false) [
-  | true ↦ (λ e. absurd (h (is_number m n e)))
-  | false ↦ (λ e. refl)
-] refl
 
 module _ {X : Type 0} (p : X → Bool) where
   -- where it holds of what is kept, it holds of what would be kept
@@ -74,8 +56,8 @@ module _ {X : Type 0} (turn : X → ℕ) where
   pairs_dealt R [] h = λ i j d lt within. absurd (omega arith)
   pairs_dealt R (x ∷ xs) h =
       let S : X → X → Type 0 = λ y z. turn y ≡ turn z → R y z in
-      let first : All (R x) (filter (λ y. turn y == turn x) xs) = pairs_first (λ y. turn y == turn x) R x xs (same_number (turn x)) (h (turn x)) in
-      AllPairs-cons S x xs (λ i d within e. All-unfilter (λ y. turn y == turn x) (R x) xs first i d within (ap (λ m. m == turn x) (sym e) ∙ same_number (turn x)))
+      let first : All (R x) (filter (λ y. turn y == turn x) xs) = pairs_first (λ y. turn y == turn x) R x xs (eq-eqb (turn x) (turn x) refl) (h (turn x)) in
+      AllPairs-cons S x xs (λ i d within e. All-unfilter (λ y. turn y == turn x) (R x) xs first i d within (ap (λ m. m == turn x) (sym e) ∙ eq-eqb (turn x) (turn x) refl))
       (pairs_dealt R xs (λ w. pairs_behind (λ y. turn y == w) R x xs (h w)))
 
 -- ---- how many go to one of so many workers
@@ -111,7 +93,7 @@ module _ (workers w : ℕ) (some : w < workers) where
     where
       by_turn : (b : Bool) → goes (1 + n) ≡ b → count_to n * workers + w + 1 ≤ n + workers → count_to (suc n) * workers + w + 1 ≤ suc n + workers
       by_turn true e was =
-          let turn : n % workers ≡ w = ap (λ (m : ℕ). m % workers) (omega arith) ∙ is_number ((1 + n - 1) % workers) w e in
+          let turn : n % workers ≡ w = ap (λ (m : ℕ). m % workers) (omega arith) ∙ eqb-true ((1 + n - 1) % workers) w e in
           let row : n ≡ n / workers * workers + w = sym (div-add-mod' n workers) ∙ ap (λ (m : ℕ). n / workers * workers + m) turn in
           let more : count_to (suc n) ≡ count_to n + 1 = count_to-more n ∙ ap (λ (b : Bool). count_to n + length (cond b ((1 + n) ∷ []) [])) e in
           let h = row_below (count_to n) (n / workers) n workers w some row was in

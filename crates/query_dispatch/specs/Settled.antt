@@ -25,14 +25,17 @@ IsPast lasts k = (k.replica < length lasts) × IsFront k.history (last_of lasts 
 -- what was known to the reader at that place, and has no more than n operations, begins what was last published
 abbrev pub IsLimit : Lasts → List ReaderState → ℕ → ℕ → Type 0
 IsLimit shown readers r n =
-    (n ≤ length (last_of shown r)) × ((h : List Operation) → IsFront h (slice_index_or (lists_of readers) r []) → length h ≤ n → IsFront h (last_of shown r))
+    (n ≤ length (last_of shown r))
+    × ((h : List Operation) → IsFront h (slice_index_or (lists_of readers) r [])
+    → length h ≤ n → IsFront h (last_of shown r))
 
 -- a list of no more than so many operations stays; a longer one gives way to what the replica is at the end
 abbrev pub settled_list : ℕ → List Operation → List Operation → List Operation
 settled_list limit h last = if nat_lt limit (length h) then last else h
 
 -- the second answer comes to the first: where it is on more operations than its replica's limit, it is made anew
-pub record ComesTo {Q A : Type 0} (plain : Q → List Operation → A) (limits : List ℕ) (lasts : Lasts) (b a : Answer Q A) : Type 0 where
+pub record ComesTo {Q A : Type 0} (plain : Q → List Operation → A) (limits : List ℕ)
+    (lasts : Lasts) (b a : Answer Q A) : Type 0 where
   pub number : b.number ≡ a.number
   pub replica : b.replica ≡ a.replica
   pub query : b.query ≡ a.query
@@ -40,12 +43,14 @@ pub record ComesTo {Q A : Type 0} (plain : Q → List Operation → A) (limits :
   pub answer : b.answer ≡ plain b.query b.snapshot
 
 -- the plain answer to an ask, on a snapshot that begins what the replica is at the end
-pub record IsSettled {Q A : Type 0} (plain : Q → List Operation → A) (lasts : Lasts) (a : Answer Q A) (k : Ask Q) : Type 0 where
+pub record IsSettled {Q A : Type 0} (plain : Q → List Operation → A) (lasts : Lasts)
+    (a : Answer Q A) (k : Ask Q) : Type 0 where
   pub answer : IsAnswerTo plain a k
   pub front : IsFront a.snapshot (last_of lasts k.replica)
 
 -- the asks of one worker have one answer each, in their order
-pub record AreSettled {Q A : Type 0} (plain : Q → List Operation → A) (lasts : Lasts) (asks : List (Ask Q)) (answers : List (Answer Q A)) : Type 0 where
+pub record AreSettled {Q A : Type 0} (plain : Q → List Operation → A) (lasts : Lasts)
+    (asks : List (Ask Q)) (answers : List (Answer Q A)) : Type 0 where
   pub each : ArePaired (IsSettled plain lasts) answers asks
   pub never_fewer : AllPairs NeverFewer answers
 
@@ -54,12 +59,14 @@ abbrev pub NeverFalls : {Q A : Type 0} → ℕ → Answer Q A → Answer Q A →
 NeverFalls workers a b = worker_of workers a.number ≡ worker_of workers b.number → NeverFewer a b
 
 -- the asks of all workers have one answer each, in their order
-pub record AreGathered {Q A : Type 0} (plain : Q → List Operation → A) (workers : ℕ) (lasts : Lasts) (asks : List (Ask Q)) (answers : List (Answer Q A)) : Type 0 where
+pub record AreGathered {Q A : Type 0} (plain : Q → List Operation → A) (workers : ℕ) (lasts : Lasts)
+    (asks : List (Ask Q)) (answers : List (Answer Q A)) : Type 0 where
   pub each : ArePaired (IsSettled plain lasts) answers asks
   pub never_falls : AllPairs (NeverFalls workers) answers
 
 -- all inboxes are closed, and each worker's tokens tell it what was last published, of its own pairs
-pub record IsReady {Q : Type 0} (inboxes : List (InboxState Q)) (tolds : List (List ToldState)) (sizes : List ℕ) (shown : Lasts) (asks : List (Ask Q)) : Type 0 where
+pub record IsReady {Q : Type 0} (inboxes : List (InboxState Q)) (tolds : List (List ToldState)) (sizes : List ℕ)
+    (shown : Lasts) (asks : List (Ask Q)) : Type 0 where
   pub some : 1 ≤ length inboxes
   pub closed : AllAt (IsClosed (length inboxes) asks) inboxes
   pub pairs : map told_pairs tolds ≡ pairs_in inboxes
@@ -70,10 +77,12 @@ pub record IsReady {Q : Type 0} (inboxes : List (InboxState Q)) (tolds : List (L
 -- what the workers gave back is of the desks that they began with
 abbrev pub HaveWorked : {Q A : Type 0} → (Q → List Operation → A) → List DeskState → List (DoneState Q A) → Type 0
 HaveWorked {Q} {A} plain desks dones = (length dones ≡ length desks)
-    × ((i : ℕ) (d : DoneState Q A) (e : DeskState) → i < length desks → HasWorked plain (slice_index_or desks i e) (slice_index_or dones i d))
+    × ((i : ℕ) (d : DoneState Q A) (e : DeskState) → i < length desks
+    → HasWorked plain (slice_index_or desks i e) (slice_index_or dones i d))
 
 -- a worker's inbox, what it gave back, and what was last published to its pairs
-pub record CanSettle {Q A : Type 0} (plain : Q → List Operation → A) (sizes : List ℕ) (lasts : Lasts) (i : InboxState Q) (d : DoneState Q A) (ts : List ToldState) : Type 0 where
+pub record CanSettle {Q A : Type 0} (plain : Q → List Operation → A) (sizes : List ℕ) (lasts : Lasts)
+    (i : InboxState Q) (d : DoneState Q A) (ts : List ToldState) : Type 0 where
   pub own : d.queue ≡ i.queue
   pub ended : IsEnded i.sent × IsEnded d.taken
   pub answered : IfSome d.answers (λ v. HasAnswered plain (asks_of d.taken) d.readers v)
@@ -83,10 +92,13 @@ pub record CanSettle {Q A : Type 0} (plain : Q → List Operation → A) (sizes 
   pub asked : All (IsPast lasts) (asks_of i.sent)
 
 -- the same of each worker
-abbrev pub CanSettleAll : {Q A : Type 0} → (Q → List Operation → A) → List ℕ → Lasts → List (InboxState Q) → List (DoneState Q A) → List (List ToldState) → Type 0
+abbrev pub CanSettleAll : {Q A : Type 0} → (Q → List Operation → A)
+    → List ℕ → Lasts → List (InboxState Q) → List (DoneState Q A) → List (List ToldState) → Type 0
 CanSettleAll plain sizes lasts [] [] [] = Unit {0}
 CanSettleAll plain sizes lasts [] [] (t ∷ ts) = ⊥
 CanSettleAll plain sizes lasts [] (d ∷ ds) ts = ⊥
 CanSettleAll plain sizes lasts (i ∷ is) [] ts = ⊥
 CanSettleAll plain sizes lasts (i ∷ is) (d ∷ ds) [] = ⊥
-CanSettleAll plain sizes lasts (i ∷ is) (d ∷ ds) (t ∷ ts) = CanSettle plain sizes lasts i d t × CanSettleAll plain sizes lasts is ds ts
+CanSettleAll plain sizes lasts (i ∷ is) (d ∷ ds) (t ∷ ts) =
+    CanSettle plain sizes lasts i d t
+    × CanSettleAll plain sizes lasts is ds ts

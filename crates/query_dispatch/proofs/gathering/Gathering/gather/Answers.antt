@@ -6,7 +6,7 @@ use Rattle.query_workers.specs.States.{InboxState}
 use Rattle.query_workers.specs.declared.query.Answer.{Answer}
 use Rattle.query_dispatch.specs.Dealt.{AllAt}
 use Rattle.query_dispatch.specs.Settled.{AreGathered, AreSettled, CanSettleAll}
-use Rattle.query_dispatch.proofs.Merges.{first_of, paired_length}
+use Rattle.query_dispatch.proofs.Merges.{head_of, paired_length}
 use Rattle.query_dispatch.proofs.Readiness.{can_settle_all, lists_enough, lists_settled}
 use Rattle.query_dispatch.proofs.gathering.Gathering.gather.Goals as goal
 
@@ -25,7 +25,7 @@ in_order-requires-clause-enough g c =
       r.1,
       r.3.numbers,
       r.6,
-      lists_enough g.Q.Query.plain c.args.lasts.now (λ (v : list). reverse v.items) inboxes r.1 (λ (v : list). v.items) (λ v. refl) c.in_ok-lists.lists.items c.in_ok-lists.ensures r.3.closed (first_of inboxes r.3.some),
+      lists_enough g.Q.Query.plain c.args.lasts.now (λ (v : list). reverse v.items) inboxes r.1 (λ (v : list). v.items) (λ v. refl) c.in_ok-lists.lists.items c.in_ok-lists.ensures r.3.closed (head_of inboxes r.3.some),
     )
 
 pub returns : goal.returns
@@ -38,4 +38,4 @@ returns g c = λ asks numbers count shown ready.
     let same : length lists ≡ length inboxes = paired_length (λ (v : list) (i : InboxState g.row.Q.Denot). AreSettled plain lasts (asks_of i.sent) (reverse v.items)) lists inboxes c.in_ok-lists.ensures in
     subst (λ (n : ℕ). IfOk c.in_order.result (λ (v : list). AreGathered plain n lasts asks v.items)) same
     (c.in_order.ensures lasts asks numbers count (subst (λ (n : ℕ). AllAt (λ w (v : list). AreSettled plain lasts (asks_to n w asks) (reverse v.items)) lists) (sym same)
-    (lists_settled plain lasts (λ (v : list). reverse v.items) inboxes asks lists c.in_ok-lists.ensures ready.closed (first_of inboxes ready.some))))
+    (lists_settled plain lasts (λ (v : list). reverse v.items) inboxes asks lists c.in_ok-lists.ensures ready.closed (head_of inboxes ready.some))))
