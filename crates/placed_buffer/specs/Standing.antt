@@ -23,13 +23,18 @@ pub record Stands (fs : List Fragment) (w : List IndexEntry) (u : List UndoEntry
   pub none : b.waiting ≡ []
 
 -- for each lawful history in which the operation is good and for which the old ones stand, the new ones stand for it with the operation
-abbrev pub AreStanding : List Fragment → List IndexEntry → List UndoEntry → Operation → List Fragment → List IndexEntry → List UndoEntry → Type 0
-AreStanding fs w u op gs v x = (h : History) → Stand fs w u h → Lawful h → answer h [] op ≡ Good → Stand gs v x (h ++ op ∷ [])
+abbrev pub AreStanding : List Fragment → List IndexEntry → List UndoEntry → Operation
+    → List Fragment → List IndexEntry → List UndoEntry → Type 0
+AreStanding fs w u op gs v x = (h : History) → Stand fs w u h → Lawful h → answer h [] op ≡ Good
+    → Stand gs v x (h ++ op ∷ [])
 
 -- for each lawful history for which the old ones stand, and of which the stamp t and the version s are what a replica makes there, the
 -- new ones stand for it with the edit that is made of the changes, where that is good
-abbrev pub AreMade : List Fragment → List IndexEntry → List UndoEntry → Lamport → Entries → List Piece → List Fragment → List IndexEntry → List UndoEntry → Type 0
-AreMade fs w u t s ps gs v x = (h : History) → Stand fs w u h → Lawful h → t.value ≡ clock h → s ≡ version h → answer h [] (made_at h t.replica ps) ≡ Good → Stand gs v x (h ++ made_at h t.replica ps ∷ [])
+abbrev pub AreMade : List Fragment → List IndexEntry → List UndoEntry → Lamport → Entries
+    → List Piece → List Fragment → List IndexEntry → List UndoEntry → Type 0
+AreMade fs w u t s ps gs v x = (h : History) → Stand fs w u h → Lawful h → t.value ≡ clock h
+    → s ≡ version h → answer h [] (made_at h t.replica ps) ≡ Good
+    → Stand gs v x (h ++ made_at h t.replica ps ∷ [])
 
 -- n is the buffer b with an edit that meets no fault, and t is the edit's stamp
 pub record EditsOne (b : BufferState) (ps : List Piece) (t : Lamport) (n : BufferState) : Type 0 where
