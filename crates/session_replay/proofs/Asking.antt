@@ -2,6 +2,7 @@
 use Rattle.std.proofs.Common.{◌≡◌, ℕ, zero, suc, ◌+◌, ◌<◌, ◌≤◌, ◌==◌, Bool, true, false, cond, not, List, [], ◌∷◌, ◌++◌, length, get_or, slice_index_or, slice_set, nat_lt, Option, None, Some, Result, Ok, Err, OnOk, refl, sym, ap, ap₂, ◌∙◌, subst, arith, append_assoc, append-nil}
 use Rattle.std.specs.List.{position}
 use Rattle.std.proofs.lemmas.Bool.{ltb-true}
+use Rattle.std.proofs.lemmas.Option.{cond_some}
 use Rattle.std.proofs.lemmas.List.{length-append, length-map, map-append}
 use Rattle.std.proofs.lemmas.List.Sums.{sum_by-cons}
 use Rattle.op_model.specs.declared.operation.Operation.{Operation}
@@ -20,7 +21,7 @@ use Rattle.session_replay.specs.Work.{State, buffer_of, events, step}
 use Rattle.session_replay.specs.Queries.{Query, queries_from, query_at, query_of, query_with, question_of}
 use Rattle.session_replay.specs.Beside.{IsAsking, KeepsEnds, ask_among, asks_among, histories, index_among}
 use Rattle.session_replay.specs.declared.queries.Question.{Question}
-use Rattle.session_replay.proofs.Buffers.{at_some, found, not_found}
+use Rattle.session_replay.proofs.Buffers.{found, not_found}
 use Rattle.session_replay.proofs.Growth.{AllGrow, step_keeps}
 
 -- what asks query n of the replica at place i
@@ -77,8 +78,8 @@ fronts_set (h ∷ hs) (b ∷ bs) (suc i) d f l = (f.0, fronts_set hs bs i d f.1 
 
 module _ (bs : List BufferState) (r i : ℕ) (d : BufferState) (e : Some i ≡ position (λ (b : BufferState). b.replica == r) bs) where
   pub at_place : (i < length bs) × (index_among bs r ≡ i)
-  at_place = let p = at_some (nat_lt (index_among bs r) (length bs)) (index_among bs r) i e in
-      (subst (λ (k : ℕ). k < length bs) (sym p.1) (ltb-true (index_among bs r) (length bs) p.0), sym p.1)
+  at_place = let p = cond_some (nat_lt (index_among bs r) (length bs)) (index_among bs r) i (sym e) in
+      (subst (λ (k : ℕ). k < length bs) p.1 (ltb-true (index_among bs r) (length bs) p.0), p.1)
 
   -- what is asked of it
   pub asked_one : (q : ℕ) (ask : Question) (h : List Operation) → h ≡ (get_or bs i d).history
@@ -224,10 +225,6 @@ leads_last ls s0 asks left s d p none l =
 -- ---- one line
 
 -- what holds of an answer
-pub on_ok : {X Y : Type 0} (r : Result X Y) (P Q : Type 0) → (P → Q) → OnOk r P → OnOk r Q
-on_ok (Ok x) P Q f p = f p
-on_ok (Err y) P Q f p = tt
-
 pub on_any : {X Y : Type 0} (r : Result X Y) (P : Type 0) → P → OnOk r P
 on_any (Ok x) P p = p
 on_any (Err y) P p = tt

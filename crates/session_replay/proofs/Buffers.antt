@@ -2,15 +2,12 @@
 use Rattle.std.proofs.Common.{◌≡◌, ℕ, suc, ◌+◌, ◌<◌, ◌≤◌, Bool, true, false, not, cond, ◌==◌, nat_lt, List, [], ◌∷◌, length, get_or, set, None, Some, refl, sym, ap, subst, arith}
 use Rattle.std.specs.List.{position, position_or_len}
 use Rattle.std.proofs.lemmas.Bool.{ltb-true, ltb-false}
+use Rattle.std.proofs.lemmas.Option.{cond_some}
 use Rattle.text_buffer.specs.Buffer.{BufferState}
 use Rattle.session_replay.specs.Work.{buffer_of, with_buffer}
 use Rattle.session_lines.proofs.Cut.{at_none}
 
 -- ---- the first of a list that passes a test
-
-pub at_some : (b : Bool) (k i : ℕ) → Some i ≡ cond b (Some k) None → (b ≡ true) × (i ≡ k)
-at_some true k i e = (refl, cc)
-at_some false k i e = cc
 
 module _ (r : ℕ) (f : BufferState → BufferState) where
   abbrev is_own : BufferState → Bool
@@ -47,8 +44,8 @@ module _ (r : ℕ) (f : BufferState → BufferState) where
 
   pub found : (bs : List BufferState) (i : ℕ) (d : BufferState) → Some i ≡ position is_own bs → Tells d i bs
   found bs i d e =
-      let p = at_some (nat_lt (place bs) (length bs)) (place bs) i e in
-      subst (λ (k : ℕ). Tells d k bs) (sym p.1) (at_place d bs (ltb-true (place bs) (length bs) p.0))
+      let p = cond_some (nat_lt (place bs) (length bs)) (place bs) i (sym e) in
+      subst (λ (k : ℕ). Tells d k bs) p.1 (at_place d bs (ltb-true (place bs) (length bs) p.0))
 
   pub not_found : (bs : List BufferState) → None ≡ position is_own bs → (buffer_of r bs ≡ None) × (with_buffer r f bs ≡ bs)
   not_found bs e = at_no_place bs (ltb-false (place bs) (length bs) (at_none (nat_lt (place bs) (length bs)) (place bs) e))

@@ -1,7 +1,8 @@
 -- What an editor leaves once it has put the end marks.
 use Rattle.std.proofs.Common.{◌≡◌, ℕ, ◌+◌, List, [], ◌∷◌, ◌++◌, length, map, IfOk, Result, Ok, Err, refl, sym, ap, ap₂, ◌∙◌, subst, arith}
-use Rattle.std.specs.List.{All, range_with_len}
-use Rattle.std.proofs.lemmas.List.{length-map, map-append}
+use Rattle.std.specs.List.{All}
+use Rattle.std.proofs.lemmas.List.{length-map}
+use Rattle.std.proofs.lemmas.List.FromFn.{map-range_with_len_more}
 use Rattle.logbook.specs.Pages.{Book}
 use Rattle.op_model.specs.declared.operation.Operation.{Operation}
 use Rattle.snapshot_pub.specs.States.{PublisherState}
@@ -19,7 +20,6 @@ use Rattle.session_replay.specs.Queries.{plain_answer}
 use Rattle.session_replay.specs.Beside.{HasLeft, IsAsking, histories}
 use Rattle.session_replay.specs.declared.beside.Edited.{Edited}
 use Rattle.session_replay.specs.declared.queries.Question.{Question}
-use Rattle.session_replay.proofs.Rounds.{range_more}
 
 -- two facts of what was given, as one
 pub both : {X Y : Type 0} (r : Result X Y) (P Q R : X → Type 0) → ((x : X) → P x → Q x → R x) → IfOk r P → IfOk r Q → IfOk r R
@@ -31,10 +31,8 @@ both (Err y) P Q R f p q = tt
 -- one worker more
 pub pairs_more : (ts : List (List Book)) (w : ℕ) (rows : List (List Book)) (t : List Book) → ts ≡ columns w rows → t ≡ column w rows → ts ++ t ∷ [] ≡ columns (w + 1) rows
 pairs_more ts w rows t e f =
-    let each : ℕ → List Book = λ (v : ℕ). column v rows in
-    let same : w ≡ 0 + w = omega arith in
     ap₂ (λ (us : List (List Book)) (u : List Book). us ++ u ∷ []) e f
-    ∙ (sym (map-append each (range_with_len 0 w) (w ∷ [])) ∙ (ap (λ (k : ℕ). map each (range_with_len 0 w ++ k ∷ [])) same ∙ ap (map each) (sym (range_more 0 w))))
+    ∙ sym (map-range_with_len_more (λ (v : ℕ). column v rows) 0 w w (omega arith))
 
 -- ---- the same queues
 

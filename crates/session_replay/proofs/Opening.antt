@@ -1,8 +1,9 @@
 -- A session at its opening, and what an editor over it has once all is gathered.
-use Rattle.std.proofs.Common.{◌≡◌, ℕ, ◌≤◌, Bool, true, false, nat_le, ◌&&◌, List, [], ◌∷◌, ◌++◌, length, map, refl, sym, ap, ◌∙◌, subst, arith}
+use Rattle.std.proofs.Common.{◌≡◌, ℕ, ◌≤◌, nat_le, ◌&&◌, List, [], ◌∷◌, ◌++◌, length, map, sym, ap, ◌∙◌, subst, arith}
 use Rattle.std.specs.List.{All, flat_map, range_with_len}
 use Rattle.std.proofs.lemmas.List.{length-map}
 use Rattle.std.proofs.lemmas.List.FromFn.{length-range_with_len}
+use Rattle.std.proofs.lemmas.Bool.{and_parts}
 use Rattle.std.proofs.lemmas.Bool.Decides.{nat_tests}
 use Rattle.op_model.specs.declared.operation.Operation.{Operation}
 use Rattle.snapshot_pub.proofs.Fronts.{front_itself}
@@ -22,6 +23,7 @@ use Rattle.query_dispatch.specs.Shown.{AreLevel, AreTied, column, rows_of, shown
 use Rattle.query_dispatch.specs.States.{PublishersState}
 use Rattle.session_replay.specs.Work.{State, after_all, all_events, at_end, first_buffer, opening}
 use Rattle.session_replay.specs.Working.{state_of}
+use Rattle.session_replay.specs.Traffic.{session_limit}
 use Rattle.session_replay.specs.Names.{by_bytes}
 use Rattle.session_replay.specs.Queries.{IsReport, end_of, plain_answer, queries_from, queries_of, reply_line}
 use Rattle.session_replay.specs.Beside.{CanEdit, HasEdited, asks_among, histories, line_of}
@@ -39,14 +41,8 @@ use Rattle.session_replay.proofs.Gathered.{gathered, gathered_lines, past, repli
 pub opened_state : (s : Session) (p : Progress) → p.replicas ≡ map (first_buffer s.base) s.replicas → p.operations.items ≡ [] → by_bytes p.anchors.entries ≡ [] → by_bytes p.marks.entries ≡ [] → state_of p ≡ opening s
 opened_state s p b o n m = same_state p.replicas (map (first_buffer s.base) s.replicas) p.operations.items [] b o ∙ same_names (opening s) (by_bytes p.anchors.entries) [] (by_bytes p.marks.entries) [] n m
 
-few_by : (a b c : Bool) → ((a && b) && c) ≡ true → b ≡ true
-few_by true true true e = refl
-few_by true true false e = refl
-few_by true false c e = absurd (cc e)
-few_by false b c e = absurd (cc e)
-
-few_replicas : (s : Session) → IsSession 67108864 s → length s.replicas ≤ 64
-few_replicas s h = let few = few_by (nat_le 1 (length s.replicas)) (nat_le (length s.replicas) 64) _ h.replicas in grind (arith, nat_tests)
+few_replicas : (s : Session) → IsSession session_limit s → length s.replicas ≤ 64
+few_replicas s h = let few = (and_parts (nat_le 1 (length s.replicas)) (nat_le (length s.replicas) 64) (and_parts _ _ h.replicas).0).1 in grind (arith, nat_tests)
 
 fronts_same : (hs : List (List Operation)) → ArePaired IsFront hs hs
 fronts_same [] = tt
@@ -58,7 +54,7 @@ tied_count is p t =
     sym (length-map is (λ (i : InboxState Question). pairs_of i.readers)) ∙ (ap (λ l. length l) t
     ∙ (length-map (range_with_len 0 p.workers) (λ (w : ℕ). column w (rows_of p)) ∙ length-range_with_len 0 p.workers))
 
-module _ (s : Session) (h : IsSession 67108864 s) (o : Editor) (p : PublishersState) (start : o.progress.replicas ≡ map (first_buffer s.base) s.replicas) where
+module _ (s : Session) (h : IsSession session_limit s) (o : Editor) (p : PublishersState) (start : o.progress.replicas ≡ map (first_buffer s.base) s.replicas) where
   pub can_edit : (workers limit : ℕ) (ls : List SessionLine) → ls ≡ s.lines → o.workers ≡ workers → length o.dispatcher.inboxes ≡ workers → limit ≡ query_count s.lines
       → HasAsked o.dispatcher [] → o.dispatcher.limit ≡ limit → AreLevel p → AreTied o.dispatcher.inboxes p → shown_lists p ≡ histories o.progress.replicas → CanEdit ls o p
   can_edit workers limit ls l w n room asked most level tied shown = record {

@@ -1,5 +1,5 @@
 -- What an answer says of its input.
-use Rattle.std.proofs.Common.{◌≡◌, ℕ, ◌<◌, ◌≤◌, ◌⊎◌, inl, inr, List, length, refl, sym, ap, ◌∙◌, subst, cond, Bool, true, false, nat_lt, arith, Option, Result, Ok, Err}
+use Rattle.std.proofs.Common.{◌≡◌, ℕ, ◌+◌, ◌<◌, ◌≤◌, ◌⊎◌, inl, inr, List, length, refl, sym, ap, ◌∙◌, subst, cond, Bool, true, false, nat_lt, arith, Option, Result, Ok, Err}
 use Rattle.std.proofs.lemmas.Bool.{lt-ltb, le-ltb, ltb-true, ltb-false}
 use Rattle.session_lines.specs.Cut.{lines_of}
 use Rattle.session_lines.specs.Session.{session_of_text}
@@ -10,7 +10,7 @@ use Rattle.session_lines.specs.declared.fault.DecodeFault.{DecodeFault}
 use Rattle.session_lines.specs.declared.fault.DecodeFault.TheVariants.{Lines, Bad, OutOfMemory}
 use Rattle.session_lines.proofs.Faults.{too_many, never_memory}
 use Rattle.session_replay.specs.Causes.{RoseBy}
-use Rattle.session_replay.specs.Traffic.{Had}
+use Rattle.session_replay.specs.Traffic.{Had, session_limit}
 use Rattle.session_replay.specs.Queries.{IsReport}
 use Rattle.session_replay.specs.Replay.{answer_of, answer_with, large_line, refusal, written_for, AnswersSource, IsAnswer, Writes}
 use Rattle.session_replay.proofs.Replies.{plain_report}
@@ -21,26 +21,26 @@ use Rattle.session_replay.specs.declared.top.Status.TheVariants as status
 
 -- ---- the answer to an input
 
-pub large_answer : (c : Task) (input : List ℕ) → 67108864 < length input → answer_of c input ≡ (status.TooLarge, large_line)
+pub large_answer : (c : Task) (input : List ℕ) → session_limit < length input → answer_of c input ≡ (status.TooLarge, large_line)
 unfolding answer_of
-large_answer c input h = ap (λ b. cond b (status.TooLarge, large_line) (answer_with c (session_of_text input))) (lt-ltb 67108864 (length input) h)
+large_answer c input h = ap (λ b. cond b (status.TooLarge, large_line) (answer_with c (session_of_text input))) (lt-ltb session_limit (length input) h)
 
-small_answer : (c : Task) (input : List ℕ) → length input ≤ 67108864 → answer_of c input ≡ answer_with c (session_of_text input)
+small_answer : (c : Task) (input : List ℕ) → length input ≤ session_limit → answer_of c input ≡ answer_with c (session_of_text input)
 unfolding answer_of
-small_answer c input le = ap (λ b. cond b (status.TooLarge, large_line) (answer_with c (session_of_text input))) (le-ltb 67108864 (length input) le)
+small_answer c input le = ap (λ b. cond b (status.TooLarge, large_line) (answer_with c (session_of_text input))) (le-ltb session_limit (length input) le)
 
-pub session_answer : (c : Task) (input : List ℕ) (s : Session) → length input ≤ 67108864 → session_of_text input ≡ Ok s → answer_of c input ≡ (status.Done, written_for c s)
+pub session_answer : (c : Task) (input : List ℕ) (s : Session) → length input ≤ session_limit → session_of_text input ≡ Ok s → answer_of c input ≡ (status.Done, written_for c s)
 session_answer c input s le e = small_answer c input le ∙ ap (answer_with c) e
 
-pub refused_answer : (c : Task) (input : List ℕ) (e : DecodeFault) → length input ≤ 67108864 → session_of_text input ≡ Err e → answer_of c input ≡ refusal e
+pub refused_answer : (c : Task) (input : List ℕ) (e : DecodeFault) → length input ≤ session_limit → session_of_text input ≡ Err e → answer_of c input ≡ refusal e
 refused_answer c input e le d = small_answer c input le ∙ ap (answer_with c) d
 
 -- ---- what a status tells
 
 pub record Told (c : Task) (input : List ℕ) (st : Status) (text : List ℕ) : Type 0 where
-  pub done : st ≡ status.Done → (length input ≤ 67108864) × ((s : Session) × (session_of_text input ≡ Ok s) × Writes c s text)
-  pub session : st ≡ status.Session → (length input ≤ 67108864) × ((n : ℕ) × (w : Word) × (session_of_text input ≡ Err (Bad n w)) × (bad_line n w ≡ text))
-  pub large : st ≡ status.TooLarge → ((67108864 < length input) × (large_line ≡ text)) ⊎ ((length input ≤ 67108864) × (1048576 < length (lines_of input)) × (many_line ≡ text))
+  pub done : st ≡ status.Done → (length input ≤ session_limit) × ((s : Session) × (session_of_text input ≡ Ok s) × Writes c s text)
+  pub session : st ≡ status.Session → (length input ≤ session_limit) × ((n : ℕ) × (w : Word) × (session_of_text input ≡ Err (Bad n w)) × (bad_line n w ≡ text))
+  pub large : st ≡ status.TooLarge → ((session_limit < length input) × (large_line ≡ text)) ⊎ ((length input ≤ session_limit) × (1048576 < length (lines_of input)) × (many_line ≡ text))
   pub kinds : (st ≡ status.Done) ⊎ ((st ≡ status.Session) ⊎ (st ≡ status.TooLarge))
 
 differ : {P : Type 0} (a st b : Status) → a ≡ st → st ≡ b → (a ≡ b → ⊥) → P
@@ -56,18 +56,18 @@ plain_written : (c : Task) (s : Session) (text : List ℕ) → written_for c s �
 plain_written (task.Replay workers) s text e = subst (IsReport s workers) e (plain_report s workers)
 plain_written task.Check s text e = sym e
 
-told_by : (c : Task) (input : List ℕ) (b : Bool) (r : Result Session DecodeFault) (st : Status) (text : List ℕ) → nat_lt 67108864 (length input) ≡ b → session_of_text input ≡ r
+told_by : (c : Task) (input : List ℕ) (b : Bool) (r : Result Session DecodeFault) (st : Status) (text : List ℕ) → nat_lt session_limit (length input) ≡ b → session_of_text input ≡ r
     → cond b (status.TooLarge, large_line) (answer_with c r) ≡ (st, text) → Told c input st text
 told_by c input true r st text l d e =
     let f = first status.TooLarge st large_line text e in record {
       done = λ k. differ status.TooLarge st status.Done f k (λ x. cc);
       session = λ k. differ status.TooLarge st status.Session f k (λ x. cc);
-      large = λ k. inl (ltb-true 67108864 (length input) l, second status.TooLarge st large_line text e);
+      large = λ k. inl (ltb-true session_limit (length input) l, second status.TooLarge st large_line text e);
       kinds = inr (inr (sym f));
     }
 told_by c input false (Ok s) st text l d e =
     let f = first status.Done st (written_for c s) text e in record {
-      done = λ k. (ltb-false 67108864 (length input) l, (s, d, plain_written c s text (second status.Done st (written_for c s) text e)));
+      done = λ k. (ltb-false session_limit (length input) l, (s, d, plain_written c s text (second status.Done st (written_for c s) text e)));
       session = λ k. differ status.Done st status.Session f k (λ x. cc);
       large = λ k. differ status.Done st status.TooLarge f k (λ x. cc);
       kinds = inl (sym f);
@@ -76,13 +76,13 @@ told_by c input false (Err (Lines n)) st text l d e =
     let f = first status.TooLarge st many_line text e in record {
       done = λ k. differ status.TooLarge st status.Done f k (λ x. cc);
       session = λ k. differ status.TooLarge st status.Session f k (λ x. cc);
-      large = λ k. inr (ltb-false 67108864 (length input) l, too_many input n d, second status.TooLarge st many_line text e);
+      large = λ k. inr (ltb-false session_limit (length input) l, too_many input n d, second status.TooLarge st many_line text e);
       kinds = inr (inr (sym f));
     }
 told_by c input false (Err (Bad n w)) st text l d e =
     let f = first status.Session st (bad_line n w) text e in record {
       done = λ k. differ status.Session st status.Done f k (λ x. cc);
-      session = λ k. (ltb-false 67108864 (length input) l, (n, w, d, second status.Session st (bad_line n w) text e));
+      session = λ k. (ltb-false session_limit (length input) l, (n, w, d, second status.Session st (bad_line n w) text e));
       large = λ k. differ status.Session st status.TooLarge f k (λ x. cc);
       kinds = inr (inl (sym f));
     }
@@ -90,7 +90,7 @@ told_by c input false (Err OutOfMemory) st text l d e = absurd (never_memory inp
 
 plainly_told : (c : Task) (input : List ℕ) (st : Status) (text : List ℕ) → answer_of c input ≡ (st, text) → Told c input st text
 unfolding answer_of
-plainly_told c input st text e = told_by c input (nat_lt 67108864 (length input)) (session_of_text input) st text refl refl e
+plainly_told c input st text e = told_by c input (nat_lt session_limit (length input)) (session_of_text input) st text refl refl e
 
 pub told : (c : Task) (input : List ℕ) (st : Status) (text : List ℕ) → IsAnswer c input st text → Told c input st text
 told c input st text (inl w) = record {
@@ -107,7 +107,7 @@ module _ (c : Task) (left left_after : Option (List ℕ)) (given given_after end
   abbrev Answer : Status → List ℕ → Type 0
   Answer st text = AnswersSource c left left_after given given_after ends ends_after st text
 
-  pub answered_large : (text : List ℕ) → text ≡ large_line → (input : List ℕ) × Had left input × (67108864 < length input) → RoseBy 67108865 given given_after → Answer status.TooLarge text
+  pub answered_large : (text : List ℕ) → text ≡ large_line → (input : List ℕ) × Had left input × (session_limit < length input) → RoseBy (session_limit + 1) given given_after → Answer status.TooLarge text
   answered_large text e h r = record {
     input = h.0;
     taken = record { had = h.1; whole = λ le. absurd (omega (arith, h.2)); large = λ _. r };

@@ -6,6 +6,7 @@ use Rattle.std.specs.List.{All, flat_map, range_with_len}
 use Rattle.std.proofs.lemmas.List.{drop_all}
 use Rattle.std.proofs.lemmas.List.FromFn.{length-range_with_len}
 use Rattle.std.proofs.lemmas.List.Elements.{All-cons, All-nil}
+use Rattle.query_dispatch.proofs.Turns.{range_more}
 use Rattle.session_lines.specs.declared.session.SessionLine.{SessionLine}
 use Rattle.session_lines.specs.declared.session.SessionLine.TheVariants.{Give}
 use Rattle.session_maker.specs.Draws.{next}
@@ -195,15 +196,11 @@ makes seed n edits output some few at_most is = (is, made_sessions_decode State 
 
 -- ---- ids
 
-pub range_more : (a n : ℕ) → range_with_len a (n + 1) ≡ range_with_len a n ++ (a + n) ∷ []
-range_more a zero = let e : a ≡ a + 0 = omega arith in ap (λ z. z ∷ []) e
-range_more a (suc n) =
-    let one : suc n + 1 ≡ suc (n + 1) = omega arith in
-    let e : (a + 1) + n ≡ a + suc n = omega arith in
-    ap (range_with_len a) one ∙ ap (λ z. a ∷ z) (range_more (a + 1) n ∙ ap (λ z. range_with_len (a + 1) n ++ z ∷ []) e)
-
 pub number_more : (n : ℕ) (xs ys : List ℕ) → xs ≡ range_with_len 1 n → ys ≡ xs ++ (n + 1) ∷ [] → ys ≡ range_with_len 1 (n + 1)
-number_more n xs ys e f = let swap : n + 1 ≡ 1 + n = omega arith in f ∙ ap₂ (λ z x. z ++ x ∷ []) e swap ∙ sym (range_more 1 n)
+number_more n xs ys e f =
+    let swap : n + 1 ≡ 1 + n = omega arith in
+    let one : suc n ≡ n + 1 = omega arith in
+    f ∙ ap₂ (λ z x. z ++ x ∷ []) e swap ∙ sym (range_more 1 n) ∙ ap (range_with_len 1) one
 
 pub ids_counted : (ids : List ℕ) (n : ℕ) → ids ≡ ids_to n → length ids ≡ n
 ids_counted ids n e = ap length e ∙ length-range_with_len 1 n

@@ -1,9 +1,9 @@
 -- What the status says once the answer to a source was sent.
 use Rattle.session_lines.proofs.Faults.{session_of_many}
-use Rattle.std.proofs.Common.{◌≡◌, ℕ, ◌<◌, ◌≤◌, ◌⊎◌, inl, inr, List, length, sym, ap, ◌∙◌, subst, arith, Option, None, Some, IfSome, Ok, Err}
+use Rattle.std.proofs.Common.{◌≡◌, ℕ, ◌+◌, ◌<◌, ◌≤◌, ◌⊎◌, inl, inr, List, length, sym, ap, ◌∙◌, subst, arith, Option, None, Some, IfSome, Ok, Err}
 use Rattle.std.specs.Io.KnownBytes.{Appends}
 use Rattle.session_replay.specs.Causes.{Rose, RoseBy}
-use Rattle.session_replay.specs.Traffic.{AppendsFront, Had, WasRead, WasTaken}
+use Rattle.session_replay.specs.Traffic.{AppendsFront, Had, WasRead, WasTaken, session_limit}
 use Rattle.session_lines.specs.Cut.{lines_of}
 use Rattle.session_lines.specs.Session.{session_of_text}
 use Rattle.session_lines.specs.Words.{bad_line, many_line}
@@ -71,17 +71,17 @@ module _ (c : Task) (left left_after : Option (List ℕ)) (given given_after end
   -- what is sent for too many bytes, or for too many lines
   abbrev TooLarge : Type 0
   TooLarge =
-      (IfSome left (λ input. 67108864 < length input) × RoseBy 67108865 given given_after × Appends written written_after large_line)
+      (IfSome left (λ input. session_limit < length input) × RoseBy (session_limit + 1) given given_after × Appends written written_after large_line)
       ⊎ ((input : List ℕ) × WasRead left left_after given given_after ends ends_after input × (1048576 < length (lines_of input)) × Appends written written_after many_line)
 
-  large_by : r ≡ st → ((67108864 < length a.input) × (large_line ≡ text)) ⊎ ((length a.input ≤ 67108864) × (1048576 < length (lines_of a.input)) × (many_line ≡ text)) → TooLarge
-  large_by e (inl f) = inl (if_had left a.input (λ input. 67108864 < length input) a.taken.had f.0, a.taken.large f.0, wrote e large_line f.1)
+  large_by : r ≡ st → ((session_limit < length a.input) × (large_line ≡ text)) ⊎ ((length a.input ≤ session_limit) × (1048576 < length (lines_of a.input)) × (many_line ≡ text)) → TooLarge
+  large_by e (inl f) = inl (if_had left a.input (λ input. session_limit < length input) a.taken.had f.0, a.taken.large f.0, wrote e large_line f.1)
   large_by e (inr f) = inr (a.input, a.taken.whole f.0, f.1, wrote e many_line f.2)
 
   pub sent_large : r ≡ status.TooLarge → TooLarge
   sent_large k = let s = same status.TooLarge k (λ x. cc) in large_by s.1 (kept.large s.0)
 
-  large_output : ((67108864 < length a.input) × (large_line ≡ text)) ⊎ ((length a.input ≤ 67108864) × (1048576 < length (lines_of a.input)) × (many_line ≡ text)) → IsOutput c a.input text
+  large_output : ((session_limit < length a.input) × (large_line ≡ text)) ⊎ ((length a.input ≤ session_limit) × (1048576 < length (lines_of a.input)) × (many_line ≡ text)) → IsOutput c a.input text
   large_output (inl f) = inr (inl (f.0, sym f.1))
   large_output (inr f) = inr (inr (f.0, (Lines (length (lines_of a.input)), session_of_many a.input f.1, sym f.2)))
 
@@ -100,28 +100,28 @@ module _ (c : Task) (left left_after : Option (List ℕ)) (given given_after end
     sent_by (inr e) = absurd (no_fault e)
 
     -- what answers a session is not the text of a bad line, nor of too many bytes
-    done_by : (s : Session) → length a.input ≤ 67108864 → session_of_text a.input ≡ Ok s → IsAnswer c a.input st text → st ≡ status.Done
+    done_by : (s : Session) → length a.input ≤ session_limit → session_of_text a.input ≡ Ok s → IsAnswer c a.input st text → st ≡ status.Done
     done_by s le e (inl w) = w.0
     done_by s le e (inr k) = ap (λ p. p.0) (sym k ∙ session_answer c a.input s le e)
 
-    pub completes : IfSome left (λ input. length input ≤ 67108864 → (s : Session) → session_of_text input ≡ Ok s → (r ≡ status.Done) ⊎ (r ≡ status.Memory))
+    pub completes : IfSome left (λ input. length input ≤ session_limit → (s : Session) → session_of_text input ≡ Ok s → (r ≡ status.Done) ⊎ (r ≡ status.Memory))
     completes =
-        if_had left a.input (λ input. length input ≤ 67108864 → (s : Session) → session_of_text input ≡ Ok s → (r ≡ status.Done) ⊎ (r ≡ status.Memory)) a.taken.had
+        if_had left a.input (λ input. length input ≤ session_limit → (s : Session) → session_of_text input ≡ Ok s → (r ≡ status.Done) ⊎ (r ≡ status.Memory)) a.taken.had
         (λ le s e. inl (sent_by either ∙ done_by s le e a.answer))
 
-    none_done : st ≡ status.Done → (67108864 < length a.input) ⊎ ((e : DecodeFault) × (session_of_text a.input ≡ Err e)) → ⊥
+    none_done : st ≡ status.Done → (session_limit < length a.input) ⊎ ((e : DecodeFault) × (session_of_text a.input ≡ Err e)) → ⊥
     none_done k (inl h) = omega (arith, (kept.done k).0)
     none_done k (inr h) = let e : Ok (kept.done k).1.0 ≡ Err h.0 = sym (kept.done k).1.1 ∙ h.1 in cc
 
-    by_kind : (st ≡ status.Done) ⊎ ((st ≡ status.Session) ⊎ (st ≡ status.TooLarge)) → (67108864 < length a.input) ⊎ ((e : DecodeFault) × (session_of_text a.input ≡ Err e))
+    by_kind : (st ≡ status.Done) ⊎ ((st ≡ status.Session) ⊎ (st ≡ status.TooLarge)) → (session_limit < length a.input) ⊎ ((e : DecodeFault) × (session_of_text a.input ≡ Err e))
         → (r ≡ status.Session) ⊎ ((r ≡ status.TooLarge) ⊎ (r ≡ status.Memory))
     by_kind (inl k) h = absurd (none_done k h)
     by_kind (inr (inl k)) h = inl (sent_by either ∙ k)
     by_kind (inr (inr k)) h = inr (inl (sent_by either ∙ k))
 
-    pub refuses : IfSome left (λ input. (67108864 < length input) ⊎ ((e : DecodeFault) × (session_of_text input ≡ Err e)) → (r ≡ status.Session) ⊎ ((r ≡ status.TooLarge) ⊎ (r ≡ status.Memory)))
+    pub refuses : IfSome left (λ input. (session_limit < length input) ⊎ ((e : DecodeFault) × (session_of_text input ≡ Err e)) → (r ≡ status.Session) ⊎ ((r ≡ status.TooLarge) ⊎ (r ≡ status.Memory)))
     refuses =
-        if_had left a.input (λ input. (67108864 < length input) ⊎ ((e : DecodeFault) × (session_of_text input ≡ Err e)) → (r ≡ status.Session) ⊎ ((r ≡ status.TooLarge) ⊎ (r ≡ status.Memory))) a.taken.had
+        if_had left a.input (λ input. (session_limit < length input) ⊎ ((e : DecodeFault) × (session_of_text input ≡ Err e)) → (r ≡ status.Session) ⊎ ((r ≡ status.TooLarge) ⊎ (r ≡ status.Memory))) a.taken.had
         (by_kind kept.kinds)
 
 no_fault_by : (st : Status) → (st ≡ status.Done) ⊎ ((st ≡ status.Session) ⊎ (st ≡ status.TooLarge)) → st ≡ status.WriteFault → ⊥

@@ -34,7 +34,8 @@ index_among bs r = position_or_len (λ (b : BufferState). b.replica == r) bs
 
 -- what a query asks of a worker, its replica being named by its index
 abbrev pub ask_among : List BufferState → Query → Ask Question
-ask_among bs c = record { number = c.number; replica = index_among bs c.replica; query = c.question; history = c.history }
+ask_among bs c =
+    record { number = c.number; replica = index_among bs c.replica; query = c.question; history = c.history }
 
 abbrev pub asks_among : List BufferState → List Query → List (Ask Question)
 asks_among bs cs = map (ask_among bs) cs
@@ -44,7 +45,8 @@ abbrev pub line_of : Answer Question QueryAnswer → Report
 line_of a = report.Query a.number (count_of a.snapshot) a.answer
 
 -- an editor over these buffers that has asked this: each pair shows a front of what its replica has applied
-pub record IsAsking (bs : List BufferState) (asks : List (Ask Question)) (d : DispatcherState Question) (p : PublishersState) : Type 0 where
+pub record IsAsking (bs : List BufferState) (asks : List (Ask Question))
+    (d : DispatcherState Question) (p : PublishersState) : Type 0 where
   pub few : length bs ≤ 64
   pub asked : HasAsked d asks
   pub level : AreLevel p
@@ -53,11 +55,14 @@ pub record IsAsking (bs : List BufferState) (asks : List (Ask Question)) (d : Di
 
 -- an editor over bs asks more, and is over cs then: whatever it had asked, it has asked these queries too, the first of which has
 -- the next number
-abbrev pub AsksMore : List BufferState → DispatcherState Question → PublishersState → (ℕ → List Query) → List BufferState → DispatcherState Question → PublishersState → Type 0
-AsksMore bs d p queries cs e q = (asks : List (Ask Question)) → IsAsking bs asks d p → IsAsking cs (asks ++ asks_among bs (queries (length asks + 1))) e q
+abbrev pub AsksMore : List BufferState → DispatcherState Question → PublishersState
+    → (ℕ → List Query) → List BufferState → DispatcherState Question → PublishersState → Type 0
+AsksMore bs d p queries cs e q = (asks : List (Ask Question))
+    → IsAsking bs asks d p → IsAsking cs (asks ++ asks_among bs (queries (length asks + 1))) e q
 
 -- the queues, the pairs and the room are as before
-pub record KeepsEnds (d : DispatcherState Question) (p : PublishersState) (e : DispatcherState Question) (q : PublishersState) : Type 0 where
+pub record KeepsEnds (d : DispatcherState Question) (p : PublishersState)
+    (e : DispatcherState Question) (q : PublishersState) : Type 0 where
   pub workers : q.workers ≡ p.workers
   pub rows : rows_of q ≡ rows_of p
   pub queues : queues_of e.inboxes ≡ queues_of d.inboxes
@@ -65,10 +70,12 @@ pub record KeepsEnds (d : DispatcherState Question) (p : PublishersState) (e : D
   pub limit : e.limit ≡ d.limit
 
 -- an editor over these buffers that has asked this has left: its answers can be gathered from the other ends of the same queues
-pub record HasLeft (bs : List BufferState) (asks : List (Ask Question)) (d : DispatcherState Question) (e : Edited) : Type 0 where
+pub record HasLeft (bs : List BufferState) (asks : List (Ask Question))
+    (d : DispatcherState Question) (e : Edited) : Type 0 where
   pub shown : List (List Operation)
   pub fronts : ArePaired IsFront shown (histories bs)
-  pub ready : IsReady e.gathering.inboxes.items (map (λ v. v.items) e.gathering.tolds.items) e.gathering.sizes.items shown asks
+  pub ready : IsReady e.gathering.inboxes.items (map (λ v. v.items) e.gathering.tolds.items)
+      e.gathering.sizes.items shown asks
   pub count : e.gathering.count ≡ length asks
   pub queues : queues_of e.gathering.inboxes.items ≡ queues_of d.inboxes
   pub pairs : pairs_in e.gathering.inboxes.items ≡ pairs_in d.inboxes
@@ -83,4 +90,5 @@ pub record CanEdit (lines : List SessionLine) (o : Editor) (p : PublishersState)
 pub record HasEdited (lines : List SessionLine) (o : Editor) (e : Edited) : Type 0 where
   pub report : e.progress.report.items ≡ o.progress.report.items ++ report_text (all_events lines (state_of o.progress))
   pub state : state_of e.progress ≡ after_all lines (state_of o.progress)
-  pub left : HasLeft e.progress.replicas (asks_among o.progress.replicas (queries_from 1 lines (state_of o.progress))) o.dispatcher e
+  pub left : HasLeft e.progress.replicas (asks_among o.progress.replicas (queries_from 1 lines (state_of o.progress)))
+      o.dispatcher e

@@ -37,7 +37,8 @@ abbrev pub made_count : State → ℕ
 made_count s = count_by is_some s.operations
 
 unfoldable pub made_line : ℕ → ℕ → List ℕ
-made_line lines operations = codes "made " ++ (decimal lines ++ (codes " lines, " ++ (decimal operations ++ codes " operations\n")))
+made_line lines operations =
+    codes "made " ++ (decimal lines ++ (codes " lines, " ++ (decimal operations ++ codes " operations\n")))
 
 -- all buffers have that text
 abbrev pub have_text : List ℕ → List BufferState → Bool
@@ -57,7 +58,8 @@ count_lines bs = flat_map (λ b. line_text (counts_report b)) bs
 -- the summary of lines that come to a state: how many there are, the header too, and how many operations they made; what
 -- each replica counts; whether all texts are equal
 abbrev pub summary_with : ℕ → State → List ℕ
-summary_with lines s = made_line (1 + lines) (made_count s) ++ (count_lines s.buffers ++ texts_line (have_equal_texts s.buffers))
+summary_with lines s =
+    made_line (1 + lines) (made_count s) ++ (count_lines s.buffers ++ texts_line (have_equal_texts s.buffers))
 
 unfoldable pub summary_of : Session → List ℕ
 summary_of s = summary_with (length s.lines) (end_of s)

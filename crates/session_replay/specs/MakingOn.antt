@@ -24,8 +24,12 @@ pub record Leaves (old now : Making) (all rest : List SessionLine) : Type 0 wher
 
 -- turn i of n replicas was taken
 unfoldable pub TakesTurn : Making → Making → ℕ → ℕ → Type 0
-TakesTurn old new n i = let p = turn_at after_all length_at n i old.draws (work_state old) in Works old new p.1 (p.0 ∷ [])
+TakesTurn old new n i =
+    let p = turn_at after_all length_at n i old.draws (work_state old) in
+    Works old new p.1 (p.0 ∷ [])
 
 -- and what is given behind it
 unfoldable pub WorksRound : Making → Making → ℕ → ℕ → Type 0
-WorksRound old new n i = let p = turn_at after_all length_at n i old.draws (work_state old) in Works old new p.1 (round_of n i p.0)
+WorksRound old new n i =
+    let p = turn_at after_all length_at n i old.draws (work_state old) in
+    Works old new p.1 (round_of n i p.0)

@@ -39,12 +39,15 @@ place_answer k = point.Point (point_of k) (offset_utf16_of k) (point_utf16_of k)
 
 -- the place at a byte offset, or where that is clipped to
 abbrev pub point_answer : ℕ → List ℕ → PointAnswer
-point_answer o t = unwrap_or (option_map place_answer (place_at_offset t o)) (point.Clips (offset_clipped_back t o).offset (offset_clipped_on t o).offset)
+point_answer o t =
+    unwrap_or (option_map place_answer (place_at_offset t o))
+    (point.Clips (offset_clipped_back t o).offset (offset_clipped_on t o).offset)
 
 -- the place at a point, or where that is clipped to
 abbrev pub offset_answer : Point → List ℕ → OffsetAnswer
 offset_answer p t =
-    unwrap_or (option_map (λ (k : Place). offset.Offset k.offset) (place_at_point t p)) (offset.Clips (point_of (point_clipped_back t p)) (point_of (point_clipped_on t p)))
+    unwrap_or (option_map (λ (k : Place). offset.Offset k.offset) (place_at_point t p))
+    (offset.Clips (point_of (point_clipped_back t p)) (point_of (point_clipped_on t p)))
 
 -- the plain answer to what a query asks of a text
 abbrev pub answer_on : Question → List ℕ → QueryAnswer
@@ -158,7 +161,9 @@ worker_of workers c = (c.number - 1) % workers
 
 -- where two queries of one replica go to one worker, the later is not answered on fewer operations
 abbrev pub NeverFalls : ℕ → Reply → Reply → Type 0
-NeverFalls workers p q = p.query.replica ≡ q.query.replica → worker_of workers p.query ≡ worker_of workers q.query → p.count ≤ q.count
+NeverFalls workers p q =
+    p.query.replica ≡ q.query.replica → worker_of workers p.query ≡ worker_of workers q.query
+    → p.count ≤ q.count
 
 -- the replies to the queries of a session, in their order, with so many workers; with none each query is answered on the spot
 pub record AreReplies (s : Session) (workers : ℕ) (ps : List Reply) : Type 0 where
@@ -169,4 +174,6 @@ pub record AreReplies (s : Session) (workers : ℕ) (ps : List Reply) : Type 0 w
 
 -- the text is the session's report with some replies to its queries that so many workers may give
 abbrev pub IsReport : Session → ℕ → List ℕ → Type 0
-IsReport s workers output = (ps : List Reply) × AreReplies s workers ps × (output ≡ report_text (report_with s (map (reply_line (end_of s)) ps)))
+IsReport s workers output =
+    (ps : List Reply) × AreReplies s workers ps
+    × (output ≡ report_text (report_with s (map (reply_line (end_of s)) ps)))

@@ -6,7 +6,7 @@ use Rattle.session_lines.specs.Words.{bad_line, many_line}
 use Rattle.session_lines.specs.declared.session.Session.{Session}
 use Rattle.session_lines.specs.declared.fault.DecodeFault.{DecodeFault}
 use Rattle.session_lines.specs.declared.fault.DecodeFault.TheVariants.{Lines, Bad, OutOfMemory}
-use Rattle.session_replay.specs.Traffic.{WasRead, WasTaken}
+use Rattle.session_replay.specs.Traffic.{WasRead, WasTaken, session_limit}
 use Rattle.session_replay.specs.Making.{Makes}
 use Rattle.session_replay.specs.Queries.{AreReplies, IsReport, Reply, end_of, reply_line, report_of, report_with}
 use Rattle.command_words.specs.declared.command.Command.{Command}
@@ -19,7 +19,8 @@ use Rattle.session_replay.specs.declared.top.Status.TheVariants as status
 -- the input is a session, and the output is its report with some replies to its queries that so many workers may give
 abbrev pub Replays : List ℕ → List ℕ → ℕ → Type 0
 Replays input output workers = (s : Session) × (session_of_text input ≡ Ok s)
-    × ((ps : List Reply) × AreReplies s workers ps × (output ≡ report_text (report_with s (map (reply_line (end_of s)) ps))))
+    × ((ps : List Reply) × AreReplies s workers ps
+    × (output ≡ report_text (report_with s (map (reply_line (end_of s)) ps))))
 
 -- the input is a session, and the output is the line with what is counted of it
 abbrev pub Checks : List ℕ → List ℕ → Type 0
@@ -56,25 +57,32 @@ answer_with c (Ok s) = (status.Done, written_for c s)
 answer_with c (Err e) = refusal e
 
 unfoldable pub answer_of : Task → List ℕ → Status × List ℕ
-answer_of c input = if nat_lt 67108864 (length input) then (status.TooLarge, large_line) else answer_with c (session_of_text input)
+answer_of c input =
+    if nat_lt session_limit (length input)
+    then (status.TooLarge, large_line)
+    else answer_with c (session_of_text input)
 
 -- ---- what may be written for an input
 
 -- the input is no session, and the output is the line that says why
 abbrev pub Refuses : List ℕ → List ℕ → Type 0
 Refuses input output =
-    ((67108864 < length input) × (output ≡ large_line))
-    ⊎ ((length input ≤ 67108864) × ((e : DecodeFault) × (session_of_text input ≡ Err e) × (output ≡ (refusal e).1)))
+    ((session_limit < length input) × (output ≡ large_line))
+    ⊎ ((length input ≤ session_limit) × ((e : DecodeFault) × (session_of_text input ≡ Err e)
+    × (output ≡ (refusal e).1)))
 
 -- the output is one for the input: what the task makes of a session, or the line that refuses what is none
 abbrev pub IsOutput : Task → List ℕ → List ℕ → Type 0
-IsOutput c input output = ((length input ≤ 67108864) × Does c input output) ⊎ Refuses input output
+IsOutput c input output = ((length input ≤ session_limit) × Does c input output) ⊎ Refuses input output
 
 -- ---- what a command ends with
 
 -- the input was read to its end, and the output is what the task makes of it; a session that is made is not read
-abbrev pub Ends : Command → (left left_after : Option (List ℕ)) → (given given_after ends ends_after : ℕ) → List ℕ → Type 0
-Ends (command.Read t) left left_after given given_after ends ends_after output = (input : List ℕ) × WasRead left left_after given given_after ends ends_after input × Does t input output
+abbrev pub Ends : Command → (left left_after : Option (List ℕ)) → (given given_after ends ends_after : ℕ)
+    → List ℕ → Type 0
+Ends (command.Read t) left left_after given given_after ends ends_after output =
+    (input : List ℕ) × WasRead left left_after given given_after ends ends_after input
+    × Does t input output
 Ends (command.Make seed n edits) left left_after given given_after ends ends_after output = Makes seed n edits output
 
 -- ---- for private clauses
@@ -86,14 +94,18 @@ Writes task.Check s output = output ≡ line_text (session_counts s)
 
 -- the input is a session, and the text is what the task may write for it
 abbrev pub IsWork : Task → List ℕ → Status → List ℕ → Type 0
-IsWork c input st text = (st ≡ status.Done) × (length input ≤ 67108864) × ((s : Session) × (session_of_text input ≡ Ok s) × Writes c s text)
+IsWork c input st text =
+    (st ≡ status.Done) × (length input ≤ session_limit)
+    × ((s : Session) × (session_of_text input ≡ Ok s) × Writes c s text)
 
 -- the status and the text answer an input: the plain answer, or what workers make of a session
 abbrev pub IsAnswer : Task → List ℕ → Status → List ℕ → Type 0
 IsAnswer c input st text = IsWork c input st text ⊎ (answer_of c input ≡ (st, text))
 
 -- the status and the text that answer what a source had left
-pub record AnswersSource (c : Task) (left left_after : Option (List ℕ)) (given given_after ends ends_after : ℕ) (status : Status) (text : List ℕ) : Type 0 where
+pub record AnswersSource (c : Task) (left left_after : Option (List ℕ))
+    (given given_after ends ends_after : ℕ)
+    (status : Status) (text : List ℕ) : Type 0 where
   pub input : List ℕ
   pub taken : WasTaken left left_after given given_after ends ends_after input
   pub answer : IsAnswer c input status text

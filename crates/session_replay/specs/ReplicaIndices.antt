@@ -6,4 +6,5 @@ use Rattle.session_replay.specs.declared.replicas.Replicas.TheInside.{Inside}
 
 -- the table has the index of the first replica with each of its ids
 abbrev pub AreFound : Inside → Type 0
-AreFound r = (k : ℕ) → k < length r.indices.items → get_or r.indices.items k None ≡ position (λ (b : BufferState). b.replica == k) r.list.items
+AreFound r = (k : ℕ) → k < length r.indices.items
+    → get_or r.indices.items k None ≡ position (λ (b : BufferState). b.replica == k) r.list.items

@@ -1,7 +1,11 @@
 -- What a whole read or a write did to the known bytes and to the counts.
-use Rattle.std.specs.Prelude.{◌≡◌, ℕ, ◌<◌, ◌≤◌, List, ◌++◌, length, take, Option, IfSome}
+use Rattle.std.specs.Prelude.{◌≡◌, ℕ, ◌+◌, ◌<◌, ◌≤◌, List, ◌++◌, length, take, Option, IfSome}
 use Rattle.std.specs.Io.KnownBytes.{Appends, Consumes, IsAtEnd}
 use Rattle.session_replay.specs.Causes.{saturating_sum, end_met, Rose, RoseBy}
+
+-- the most bytes that a session may have
+abbrev pub session_limit : ℕ
+session_limit = 67108864
 
 -- some front of the text was written
 abbrev pub AppendsFront : Option (List ℕ) → Option (List ℕ) → List ℕ → Type 0
@@ -12,17 +16,19 @@ abbrev pub Had : Option (List ℕ) → List ℕ → Type 0
 Had left input = IfSome left (λ xs. input ≡ xs)
 
 -- the source had this input left, gave all of it, and met its end
-pub record WasRead (left left_after : Option (List ℕ)) (given given_after ends ends_after : ℕ) (input : List ℕ) : Type 0 where
+pub record WasRead (left left_after : Option (List ℕ))
+    (given given_after ends ends_after : ℕ) (input : List ℕ) : Type 0 where
   pub had : Had left input
   pub at_end : IsAtEnd left_after
   pub count : given_after ≡ saturating_sum given (length input)
   pub ended : Rose ends ends_after
 
 -- the source had this input left, and gave all of it, or more than a session may have
-pub record WasTaken (left left_after : Option (List ℕ)) (given given_after ends ends_after : ℕ) (input : List ℕ) : Type 0 where
+pub record WasTaken (left left_after : Option (List ℕ))
+    (given given_after ends ends_after : ℕ) (input : List ℕ) : Type 0 where
   pub had : Had left input
-  pub whole : length input ≤ 67108864 → WasRead left left_after given given_after ends ends_after input
-  pub large : 67108864 < length input → RoseBy 67108865 given given_after
+  pub whole : length input ≤ session_limit → WasRead left left_after given given_after ends ends_after input
+  pub large : session_limit < length input → RoseBy (session_limit + 1) given given_after
 
 -- n bytes moved from a source to the end of a list, none only at the source's end
 pub record Moves (left left_after : Option (List ℕ)) (all all_after : List ℕ) (n : ℕ) : Type 0 where

@@ -126,7 +126,8 @@ after_give (Some op) b = after_take b op
 
 abbrev pub text_report : BufferState → Report
 text_report b =
-    let t = text b.history in report.Text (head.CurrentText b.replica (length t) (feeds t) (last_column t) (feeds t + 1)) t
+    let t = text b.history in
+    report.Text (head.CurrentText b.replica (length t) (feeds t) (last_column t) (feeds t + 1)) t
 
 -- ---- a line
 
@@ -150,10 +151,13 @@ events (line.Edit r ps) s = line_events r (edit_outcome (next_number s) ps) s
 events (line.Undo r ms) s = line_events r (undo_outcome (next_number s) s.operations ms) s
 events (line.Op e) s = report.Made (next_number s) e.stamp ∷ []
 events (line.Uop u) s = report.Made (next_number s) u.stamp ∷ []
-events (line.Give r n) s = reports_at (λ b. report.Give n r (give_answer (operation_of n s.operations) b) ∷ []) (buffer_of r s.buffers)
+events (line.Give r n) s =
+    reports_at (λ b. report.Give n r (give_answer (operation_of n s.operations) b) ∷ []) (buffer_of r s.buffers)
 events (line.Text r) s = reports_at (λ b. text_report b ∷ []) (buffer_of r s.buffers)
-events (line.Anchor r name o b) s = reports_at (λ h. report.Anchor name (anchor_answer (place_fault h o)) ∷ []) (history_at r s)
-events (line.Where r name) s = reports_at (λ h. report.Where name r (where_answer (under name s.anchors) h) ∷ []) (history_at r s)
+events (line.Anchor r name o b) s =
+    reports_at (λ h. report.Anchor name (anchor_answer (place_fault h o)) ∷ []) (history_at r s)
+events (line.Where r name) s =
+    reports_at (λ h. report.Where name r (where_answer (under name s.anchors) h) ∷ []) (history_at r s)
 events (line.Mark r name) s = reports_at (λ h. report.Mark name ∷ []) (history_at r s)
 events (line.Since r name) s = reports_at (since_reports name r (under name s.marks)) (history_at r s)
 events (line.Find r needle) s = []
@@ -166,7 +170,9 @@ with_operation_line bs o s = record s { buffers = bs; operations = s.operations 
 
 -- the session after the next operation line, f being what comes of it at the buffer of replica r
 abbrev pub after_line : ℕ → (BufferState → Result Operation Report) → State → State
-after_line r f s = with_operation_line (with_buffer r (λ b. after_outcome (f b) b) s.buffers) (option_and_then (λ b. result_ok (f b)) (buffer_of r s.buffers)) s
+after_line r f s =
+    with_operation_line (with_buffer r (λ b. after_outcome (f b) b) s.buffers)
+    (option_and_then (λ b. result_ok (f b)) (buffer_of r s.buffers)) s
 
 -- the session after the line
 abbrev pub step : SessionLine → State → State
@@ -176,7 +182,8 @@ step (line.Op e) s = with_operation_line s.buffers (Some (operation.Edit e)) s
 step (line.Uop u) s = with_operation_line s.buffers (Some (operation.Undo u)) s
 step (line.Give r n) s = record s { buffers = with_buffer r (after_give (operation_of n s.operations)) s.buffers }
 step (line.Text r) s = s
-step (line.Anchor r name o b) s = record s { anchors = with_name name (option_and_then (new_anchor o b) (history_at r s)) s.anchors }
+step (line.Anchor r name o b) s =
+    record s { anchors = with_name name (option_and_then (new_anchor o b) (history_at r s)) s.anchors }
 step (line.Where r name) s = s
 step (line.Mark r name) s = record s { marks = with_name name (option_map version (history_at r s)) s.marks }
 step (line.Since r name) s = s
@@ -201,11 +208,14 @@ refused_report r e = report.Refused r e.0 e.1
 -- what a replica counts at the end; the base is no applied operation
 abbrev pub counts_report : BufferState → Report
 counts_report b =
-    report.Replica b.replica (length (text b.history)) (feeds (text b.history) + 1) (length b.history - 1) (length b.waiting) (length b.refused)
+    report.Replica b.replica (length (text b.history)) (feeds (text b.history) + 1)
+    (length b.history - 1) (length b.waiting) (length b.refused)
 
 -- what a replica reports at the end
 abbrev pub at_end : BufferState → List Report
-at_end b = counts_report b ∷ (map (refused_report b.replica) b.refused ++ report.Text (head.FinalText b.replica) (text b.history) ∷ [])
+at_end b =
+    counts_report b
+    ∷ (map (refused_report b.replica) b.refused ++ report.Text (head.FinalText b.replica) (text b.history) ∷ [])
 
 -- a replica's buffer at first, with the limits of a session's buffers
 abbrev pub first_buffer : List ℕ → ℕ → BufferState

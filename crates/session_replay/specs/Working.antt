@@ -4,4 +4,9 @@ use Rattle.session_replay.specs.Work.{State}
 use Rattle.session_replay.specs.declared.replay.Progress.{Progress}
 
 abbrev pub state_of : Progress → State
-state_of p = record { buffers = p.replicas; operations = p.operations.items; anchors = by_bytes p.anchors.entries; marks = by_bytes p.marks.entries }
+state_of p = record {
+  buffers = p.replicas;
+  operations = p.operations.items;
+  anchors = by_bytes p.anchors.entries;
+  marks = by_bytes p.marks.entries;
+}

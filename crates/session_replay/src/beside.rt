@@ -13,6 +13,7 @@ ghost use Rattle.query_dispatch.specs.Shown.{AreLevel, columns, rows_of, shown_l
 ghost use Rattle.query_dispatch.specs.States.{DispatcherState};
 ghost use Rattle.session_replay.specs.Beside.{AsksMore, CanEdit, HasEdited, HasLeft, IsAsking, KeepsEnds, histories, line_of};
 ghost use Rattle.session_replay.specs.Queries.{IsReport, plain_answer, queries_from, query_at, query_with};
+ghost use Rattle.session_replay.specs.Traffic.{session_limit};
 ghost use Rattle.session_replay.specs.Work.{after_all, all_events, at_end, events, step};
 ghost use Rattle.session_replay.specs.Working.{state_of};
 ghost use Rattle.session_replay.specs.declared.queries.Question.{Question};
@@ -318,7 +319,7 @@ fn replay_beside<R: Threads + Wait + Sync, G: Gate>(
     workers: u32,
     session: Session,
 ) -> Result<Vec<u8>, OutOfMemory>
-    requires session { IsSession 67108864 session }
+    requires session { IsSession session_limit session }
     requires some { 1 ≤ workers }
     requires none { (publishers.old.workers ≡ workers) × (publishers.old.list ≡ [])
         × (publishers.old.sizes ≡ []) }
@@ -346,7 +347,7 @@ pub fn report_beside<R: Threads + Wait + Sync, G: Gate>(
     workers: u32,
     session: Session,
 ) -> Result<Vec<u8>, OutOfMemory>
-    requires session { IsSession 67108864 session }
+    requires session { IsSession session_limit session }
     requires some { 1 ≤ workers }
     ensures { IfOk result (λ v. IsReport session workers v.items) }
 {

@@ -12,6 +12,7 @@ ghost use Rattle.session_replay.specs.Queries.{plain_line, queries_from, query_a
 ghost use Rattle.session_replay.specs.Making.{text_len};
 ghost use Rattle.session_replay.specs.Beside.{histories};
 ghost use Rattle.session_replay.specs.Names.{by_bytes};
+ghost use Rattle.session_replay.specs.Traffic.{session_limit};
 ghost use Rattle.session_replay.specs.Working.{state_of};
 ghost use Rattle.text_buffer.specs.Buffer.{BufferState};
 
@@ -327,7 +328,7 @@ impl Progress {
     /// Replicas over a base, which have done nothing yet.
     pub fn new(alloc: Global, ids: &[u16], base: &str) -> Result<Progress, OutOfMemory>
         requires ids { All (λ (r : ℕ). (1 ≤ r) × (r ≤ 1023)) ids.now }
-        requires base { length base.now ≤ 67108864 }
+        requires base { length base.now ≤ session_limit }
         ensures buffers { IfOk result (λ p. p.replicas ≡ map (first_buffer base.now) ids.now) }
         ensures operations { IfOk result (λ p. p.operations.items ≡ []) }
         ensures anchors { IfOk result (λ p. by_bytes p.anchors.entries ≡ []) }
@@ -473,7 +474,7 @@ fn write_ends(alloc: Global, replicas: &[Replica], out: &mut Vec<u8>) -> Result<
 
 /// The text of a session's report.
 pub fn report(alloc: Global, session: Session) -> Result<Vec<u8>, OutOfMemory>
-    requires { IsSession 67108864 session }
+    requires { IsSession session_limit session }
     ensures { IfOk result (λ v. v.items ≡ report_text (report_of session)) }
 {
     let mut progress = Progress {

@@ -9,6 +9,7 @@ ghost use Rattle.session_lines.specs.Report.{line_text, report_text};
 ghost use Rattle.session_lines.specs.declared.report.Report.{Report};
 ghost use Rattle.text_buffer.specs.Buffer.{after_settle};
 ghost use Rattle.text_buffer.specs.Outcomes.{pair_of};
+ghost use Rattle.session_replay.specs.Traffic.{session_limit};
 ghost use Rattle.session_replay.specs.Work.{after_give, after_outcome, at_end, counts_report, edit_outcome, first_unnamed, give_answer, operation_of, first_buffer, outcome_reports, refused_report, settled_reports, stamps_under, text_report, undo_outcome};
 
 use crate::OutOfMemory;
@@ -43,7 +44,7 @@ impl Replica {
     pub fn new(alloc: Global, id: u16, base: &Base) -> Result<Replica, OutOfMemory>
         requires least { 1 ≤ id }
         requires greatest { id ≤ 1023 }
-        requires base { length base.now ≤ 67108864 }
+        requires base { length base.now ≤ session_limit }
         ensures { IfOk result (λ r. r ≡ first_buffer base.now id) }
     {
         match Buffer::over(alloc, id, base, Limits::MOST) {

@@ -4,6 +4,7 @@ ghost use Rattle.std.specs.Option.{option_and_then, option_copied, option_map};
 ghost use Rattle.std.specs.Result.{result_ok};
 ghost use Rattle.std.specs.List.{position};
 ghost use Rattle.session_lines.specs.Report.{report_text};
+ghost use Rattle.session_replay.specs.Traffic.{session_limit};
 ghost use Rattle.session_replay.specs.Work.{after_give, after_outcome, buffer_of, edit_outcome, give_answer, first_buffer, outcome_reports, reports_at, undo_outcome, with_buffer};
 
 use crate::OutOfMemory;
@@ -43,7 +44,7 @@ impl Replicas {
     /// each id of the table.
     pub fn over(alloc: Global, ids: &[u16], base: &str) -> Result<Replicas, OutOfMemory>
         requires ids { All (λ (r : ℕ). (1 ≤ r) × (r ≤ 1023)) ids.now }
-        requires base { length base.now ≤ 67108864 }
+        requires base { length base.now ≤ session_limit }
         ensures { IfOk result (λ r. r ≡ map (first_buffer base.now) ids.now) }
     {
         let list = replicas_over(alloc, ids, base)?;
@@ -177,7 +178,7 @@ fn indices_of(alloc: Global, ids: &[u16]) -> Result<Vec<Option<usize>>, OutOfMem
 /// The replicas over the base, which is made ready once for all of them.
 fn replicas_over(alloc: Global, ids: &[u16], base: &str) -> Result<Vec<Replica>, OutOfMemory>
     requires ids { All (λ (r : ℕ). (1 ≤ r) × (r ≤ 1023)) ids.now }
-    requires base { length base.now ≤ 67108864 }
+    requires base { length base.now ≤ session_limit }
     ensures { IfOk result (λ v. v.items ≡ map (first_buffer base.now) ids.now) }
 {
     match Base::new(alloc, base) {
@@ -189,7 +190,7 @@ fn replicas_over(alloc: Global, ids: &[u16], base: &str) -> Result<Vec<Replica>,
 /// The replicas over a base that they share.
 fn open_replicas(alloc: Global, ids: &[u16], base: &Base) -> Result<Vec<Replica>, OutOfMemory>
     requires ids { All (λ (r : ℕ). (1 ≤ r) × (r ≤ 1023)) ids.now }
-    requires base { length base.now ≤ 67108864 }
+    requires base { length base.now ≤ session_limit }
     ensures { IfOk result (λ v. v.items ≡ map (first_buffer base.now) ids.now) }
 {
     let mut replicas = Vec::with_capacity(alloc, ids.len())?;

@@ -2,7 +2,7 @@
 ghost use Rattle.std.specs.Prelude.{◌≡◌, ◌≤◌, ◌<◌, ◌+◌, ◌⊎◌, ℕ, List, length, string_bytes, false, IfOk, IfSome, IsErrOf, Ok, Err, Some, None};
 ghost use Rattle.std.specs.Io.KnownBytes.{Appends};
 ghost use Rattle.session_replay.specs.Causes.{Rose, RoseBy};
-ghost use Rattle.session_replay.specs.Traffic.{AppendsFront, WasRead, WasTaken};
+ghost use Rattle.session_replay.specs.Traffic.{AppendsFront, WasRead, WasTaken, session_limit};
 ghost use Rattle.command_words.specs.Words.{clap_takes, command_of};
 ghost use Rattle.command_words.specs.declared.command.Command.{Command};
 ghost use Rattle.command_words.specs.declared.command.Task.{Task};
@@ -83,7 +83,7 @@ fn report_with<R: Threads + Wait + Sync, G: Gate>(
     workers: u32,
     session: Session,
 ) -> Result<Vec<u8>, OutOfMemory>
-    requires { IsSession 67108864 session }
+    requires { IsSession session_limit session }
     ensures { IfOk result (λ v. IsReport session workers v.items) }
 {
     if workers == 0 {
@@ -101,7 +101,7 @@ fn task_output<R: Threads + Wait + Sync, G: Gate>(
     task: Task,
     session: Session,
 ) -> Result<Vec<u8>, OutOfMemory>
-    requires { IsSession 67108864 session }
+    requires { IsSession session_limit session }
     ensures { IfOk result (λ v. Writes task session v.items) }
 {
     match task {
@@ -119,7 +119,7 @@ fn answer<R: Threads + Wait + Sync, G: Gate>(
     task: Task,
     input: &[u8],
 ) -> Result<(Status, Vec<u8>), OutOfMemory>
-    requires { length input.now ≤ 67108864 }
+    requires { length input.now ≤ session_limit }
     ensures { IfOk result (λ p. IsAnswer task input.now p.0 p.1.items) }
 {
     match decode(alloc, input) {
@@ -162,7 +162,7 @@ fn answer_source<R: Threads + Wait + Sync, I: Source, G: Gate>(
         (I.given src.old) (I.given src.new) (I.ends src.old) (I.ends src.new) p.0 p.1.items) }
     ensures failed { IsErrOf result InputFault.Failed → Rose (I.faults src.old) (I.faults src.new) }
     ensures answered { IsErrOf result InputFault.TooLarge → ⊥ }
-    ensures bounded { I.given src.new ≤ I.given src.old + 67108865 }
+    ensures bounded { I.given src.new ≤ I.given src.old + (session_limit + 1) }
 {
     match read_all(alloc, src) {
         Ok(input) => Ok(answer(rt, alloc, gate, task, input.as_slice())?),
@@ -194,15 +194,15 @@ fn work<R: Threads + Wait + Sync, I: Source, O: Sink, G: Gate>(
     ensures ended { (result ≡ Status.Done) ⊎ (result ≡ Status.Session)
         → Rose (I.ends src.old) (I.ends src.new) }
     ensures large { result ≡ Status.TooLarge →
-        (IfSome (I.left src.old) (λ input. 67108864 < length input)
-        × RoseBy 67108865 (I.given src.old) (I.given src.new)
+        (IfSome (I.left src.old) (λ input. session_limit < length input)
+        × RoseBy (session_limit + 1) (I.given src.old) (I.given src.new)
         × Appends (O.written out.old) (O.written out.new) large_line)
         ⊎ ((input : List ℕ)
         × WasRead (I.left src.old) (I.left src.new) (I.given src.old) (I.given src.new)
         (I.ends src.old) (I.ends src.new) input
         × (1048576 < length (lines_of input))
         × Appends (O.written out.old) (O.written out.new) many_line) }
-    ensures bounded { I.given src.new ≤ I.given src.old + 67108865 }
+    ensures bounded { I.given src.new ≤ I.given src.old + (session_limit + 1) }
     ensures read_fault { result ≡ Status.ReadFault
         → Rose (I.faults src.old) (I.faults src.new) × (out.new ≡ out.old) }
     ensures write_fault { result ≡ Status.WriteFault → Rose (O.faults out.old) (O.faults out.new) }
@@ -214,12 +214,12 @@ fn work<R: Threads + Wait + Sync, I: Source, O: Sink, G: Gate>(
     ensures memory { result ≡ Status.Memory → out.new ≡ out.old }
     ensures completes { (Rose (I.faults src.old) (I.faults src.new) → ⊥)
         → (Rose (O.faults out.old) (O.faults out.new) → ⊥)
-        → IfSome (I.left src.old) (λ input. length input ≤ 67108864
+        → IfSome (I.left src.old) (λ input. length input ≤ session_limit
         → (s : Session) → session_of_text input ≡ Ok s
         → (result ≡ Status.Done) ⊎ (result ≡ Status.Memory)) }
     ensures refuses { (Rose (I.faults src.old) (I.faults src.new) → ⊥)
         → (Rose (O.faults out.old) (O.faults out.new) → ⊥)
-        → IfSome (I.left src.old) (λ input. (67108864 < length input)
+        → IfSome (I.left src.old) (λ input. (session_limit < length input)
         ⊎ ((e : DecodeFault) × (session_of_text input ≡ Err e))
         → (result ≡ Status.Session) ⊎ ((result ≡ Status.TooLarge) ⊎ (result ≡ Status.Memory))) }
 {
@@ -304,15 +304,15 @@ pub fn run<R: Threads + Wait + Sync, I: Source, O: Sink, G: Gate>(
 
     // TooLarge: more bytes than the limit were read, or the input was read to its end and has more lines than the limit.
     ensures large { result ≡ Status.TooLarge →
-        (IfSome (I.left src.old) (λ input. 67108864 < length input)
-        × RoseBy 67108865 (I.given src.old) (I.given src.new)
+        (IfSome (I.left src.old) (λ input. session_limit < length input)
+        × RoseBy (session_limit + 1) (I.given src.old) (I.given src.new)
         × Appends (O.written out.old) (O.written out.new) large_line)
         ⊎ ((input : List ℕ)
         × WasRead (I.left src.old) (I.left src.new) (I.given src.old) (I.given src.new)
         (I.ends src.old) (I.ends src.new) input
         × (1048576 < length (lines_of input))
         × Appends (O.written out.old) (O.written out.new) many_line) }
-    ensures bounded { I.given src.new ≤ I.given src.old + 67108865 }
+    ensures bounded { I.given src.new ≤ I.given src.old + (session_limit + 1) }
 
     // Faults come only where a count rose.
     ensures read_fault { result ≡ Status.ReadFault
@@ -340,13 +340,13 @@ pub fn run<R: Threads + Wait + Sync, I: Source, O: Sink, G: Gate>(
     ensures completes { (Rose (I.faults src.old) (I.faults src.new) → ⊥)
         → (Rose (O.faults out.old) (O.faults out.new) → ⊥)
         → (task : Task) → command_of words.now ≡ Some (Command.Read task)
-        → IfSome (I.left src.old) (λ input. length input ≤ 67108864
+        → IfSome (I.left src.old) (λ input. length input ≤ session_limit
         → (s : Session) → session_of_text input ≡ Ok s
         → (result ≡ Status.Done) ⊎ (result ≡ Status.Memory)) }
     ensures refuses { (Rose (I.faults src.old) (I.faults src.new) → ⊥)
         → (Rose (O.faults out.old) (O.faults out.new) → ⊥)
         → (task : Task) → command_of words.now ≡ Some (Command.Read task)
-        → IfSome (I.left src.old) (λ input. (67108864 < length input)
+        → IfSome (I.left src.old) (λ input. (session_limit < length input)
         ⊎ ((e : DecodeFault) × (session_of_text input ≡ Err e))
         → (result ≡ Status.Session) ⊎ ((result ≡ Status.TooLarge) ⊎ (result ≡ Status.Memory))) }
 {

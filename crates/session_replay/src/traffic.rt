@@ -2,14 +2,14 @@
 ghost use Rattle.std.specs.Prelude.{◌≡◌, ◌<◌, ◌≤◌, ◌+◌, ◌^◌, ℕ, List, length, IfOk, IfSome, OnOk, OnErr, IsErrOf, vec_len};
 ghost use Rattle.std.specs.Io.KnownBytes.{Appends};
 ghost use Rattle.session_replay.specs.Causes.{HasCause, Rose, RoseBy};
-ghost use Rattle.session_replay.specs.Traffic.{AppendsFront, Counts, Had, Moves, WasRead};
+ghost use Rattle.session_replay.specs.Traffic.{AppendsFront, Counts, Had, Moves, WasRead, session_limit};
 ghost use Rattle.session_replay.specs.declared.traffic.InputFault.{InputFault};
 
 use crate::{Failed, OutOfMemory, Sink, Source};
 use std::alloc::{AllocFailed, Global};
 
-/// The most bytes of a session.
-pub const LIMIT: usize = 67_108_864;
+/// The most bytes of a session, `session_limit` of contracts.
+const LIMIT: usize = 67_108_864;
 
 /// How many bytes the source is asked for at a time.
 const PIECE: usize = 65_536;
@@ -71,14 +71,14 @@ fn read_piece<I: Source>(
 pub fn read_all<I: Source>(alloc: Global, src: &mut I) -> Result<Vec<u8>, InputFault>
     ensures whole { IfOk result (λ v. WasRead (I.left src.old) (I.left src.new) (I.given src.old)
         (I.given src.new) (I.ends src.old) (I.ends src.new) v.items) }
-    ensures small { IfOk result (λ v. length v.items ≤ LIMIT) }
+    ensures small { IfOk result (λ v. length v.items ≤ session_limit) }
     ensures large { IsErrOf result InputFault.TooLarge
-        → (input : List ℕ) × Had (I.left src.old) input × (LIMIT < length input) }
+        → (input : List ℕ) × Had (I.left src.old) input × (session_limit < length input) }
     ensures passed { IsErrOf result InputFault.TooLarge
-        → RoseBy 67108865 (I.given src.old) (I.given src.new) }
+        → RoseBy (session_limit + 1) (I.given src.old) (I.given src.new) }
     ensures failed { IsErrOf result InputFault.Failed → Rose (I.faults src.old) (I.faults src.new) }
     ensures later { I.faults src.old ≤ I.faults src.new }
-    ensures bounded { I.given src.new ≤ I.given src.old + 67108865 }
+    ensures bounded { I.given src.new ≤ I.given src.old + (session_limit + 1) }
 {
     let mut all = Vec::new(alloc);
     let mut piece = buffer(alloc, PIECE)?;

@@ -1,4 +1,5 @@
 use Rattle.std.proofs.Common.{◌≡◌, ℕ, ◌+◌, List, ◌++◌, length, Option, OnOk, sym, ap, ◌∙◌, subst, arith}
+use Rattle.std.proofs.lemmas.Result.{on_ok_weaker}
 use Rattle.query_workers.specs.Asks.{Ask}
 use Rattle.session_lines.specs.Report.{report_text}
 use Rattle.session_lines.specs.declared.session.SessionLine.{SessionLine}
@@ -9,7 +10,7 @@ use Rattle.session_replay.specs.Queries.{query_at, query_with}
 use Rattle.session_replay.specs.declared.queries.Question.{Question}
 use Rattle.session_replay.specs.declared.replay.Progress.{Progress}
 use Rattle.session_replay.proofs.Steps.{nothing_written}
-use Rattle.session_replay.proofs.Asking.{asking_steps, asks_count, asks_only, no_question, nothing_asked, on_any, on_ok}
+use Rattle.session_replay.proofs.Asking.{asking_steps, asks_count, asks_only, no_question, nothing_asked, on_any}
 use Rattle.session_replay.proofs.beside.Editor.work_line.Goals as goal
 
 pub put-requires-clause-room : goal.put-requires-clause-room
@@ -53,5 +54,5 @@ returns-in-Err-clause-asking g c =
     let s = state_of c.args.self.now.progress in
     let t = state_of c.work_line.new.self in
     let state = subst (λ (l : SessionLine). OnOk c.work_line.result (t ≡ step l s)) c.in-Err.ensures.err.0 c.work_line.ensures.state in
-    on_ok c.work_line.result (t ≡ step line s) _ (λ is asks a.
+    on_ok_weaker {P = t ≡ step line s} c.work_line.result (λ is asks a.
     asking_steps line s t _ _ _ is (nothing_asked s.buffers asks _ _ (query_at (length asks + 1) line s) (no_question (length asks + 1) line s (sym c.in-Err.ensures.err.1)) a)) state
