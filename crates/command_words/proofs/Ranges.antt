@@ -1,8 +1,9 @@
 -- Each option has a number of its range, where `clap` finds no fault.
 use Rattle.std.proofs.Common.{◌≡◌, ◌⊎◌, inl, inr, ◌++◌, ◌||◌, ℕ, Bool, true, false, cond, List, [], ◌∷◌, length, nat_lt, Some, None, is_some, refl, sym, ap, ◌∙◌, subst, true≢false, option_map, ne_eqb, arith}
+use Rattle.std.proofs.lemmas.Option.{same_Some}
 use Rattle.std.specs.Prelude.{⊤, option_and_then, slice_get}
 use Rattle.std.specs.List.{find, fold}
-use Rattle.std.specs.Option.{option_map_or, unwrap_or}
+use Rattle.std.specs.Option.{option_map_or}
 use Rattle.std.specs.Str.{bytes_eq}
 use Rattle.std.specs.Str.Parse.{digits_value, without_leading_plus}
 use Rattle.clap.specs.Facts.{explicit_source, parser_of_value, unwrap_or_range}
@@ -22,11 +23,7 @@ use Rattle.clap.specs.declared.parser.matches.ValueSource.TheVariants.{CommandLi
 use Rattle.command_words.specs.Words.{number_in, number_of}
 use Rattle.command_words.proofs.Kept.{neither}
 
--- no test of a list of two passes
 -- ---- the option of a name, with a number of `least` to `most`
-
-some_is : (a b : Rule) → Some a ≡ Some b → a ≡ b
-some_is a b e = ap (λ o. unwrap_or o a) e
 
 module _ (name : Text) (least most : ℕ) where
   abbrev begins_in : List Text → Bool
@@ -140,7 +137,7 @@ module _ (name : Text) (least most : ℕ) where
   found_takes (x ∷ rest) t p a e = go (p x) e (found_takes rest t.1 p a)
     where
       go : (b : Bool) → cond b (Some x) (find p rest) ≡ Some a → (find p rest ≡ Some a → Takes a) → Takes a
-      go true e later = subst Takes (some_is x a e) t.0
+      go true e later = subst Takes (same_Some x a e) t.0
       go false e later = later e
 
   -- ---- the number

@@ -6,6 +6,7 @@ use Rattle.lamport_clock.specs.Versions.{Entries, AreEntriesFrom, entry, sees, w
 use Rattle.fragments.specs.declared.fragment.FragmentSummary.{FragmentSummary}
 use Rattle.fragments.specs.Summaries.{IsSummary, summaries}
 use Rattle.lamport_clock.proofs.Joined.{entry_within}
+use Rattle.op_model.proofs.histories.SameVersions.{none_below}
 use Rattle.remote_edit.specs.SeesLaws.{sees_joined}
 
 -- v has not seen all that a sum has
@@ -15,10 +16,6 @@ may_differ v s = not (within s.greatest v)
 -- what is seen by a version is seen by one that it lies within
 pub sees_within : (u v : Entries) (t : Lamport) → within u v ≡ true → sees u t ≡ true → sees v t ≡ true
 sees_within u v t w s = le-leb t.value (entry v t.replica) (let a = leb-true t.value (entry u t.replica) s in let b = entry_within u v t.replica w in omega arith)
-
-none_below : (n : ℕ) (u : Entries) (r : ℕ) → AreEntriesFrom n u → r < n → entry u r ≡ 0
-none_below n [] r h l = refl
-none_below n (e ∷ u) r h l = rw (ne_eqb e.0 r (λ q. absurd (let a = h.0 in omega arith))) (none_below (suc e.0) u r h.2 (let a = h.0 in omega arith))
 
 -- a version lies within one that sees what it sees
 within_by_seen : (n : ℕ) (u v : Entries) → AreEntriesFrom n u → ((t : Lamport) → sees u t ≡ true → sees v t ≡ true) → within u v ≡ true

@@ -5,8 +5,9 @@ use Rattle.std.proofs.lemmas.Cmp.{alike_right}
 use Rattle.std.specs.Ordering.{nat_cmp, ordering_then, ordering_reverse, is_lt, is_eq}
 use Rattle.std.specs.declared.cmp.Ordering.{Ordering}
 use Rattle.std.specs.declared.cmp.Ordering.TheVariants.{Less, Equal, Greater}
+use Rattle.sum_tree.proofs.Keys.{less_of}
 use Rattle.tree_cursor.specs.Places.{seek_count}
-use Rattle.tree_cursor.specs.Keys.{greater, key_less, key_passes, cmp_less, lt_is, order_less, IsLess}
+use Rattle.tree_cursor.specs.Keys.{greater, key_less, key_passes, cmp_less, order_less, IsLess}
 use Rattle.tree_cursor.specs.declared.ready.Greatest.{Greatest}
 use Rattle.tree_cursor.specs.declared.traits.Bias.TheVariants.{Left}
 use Rattle.lamport_clock.specs.declared.stamp.Lamport.{Lamport}
@@ -63,7 +64,7 @@ past_covers : (t : Lamport) (o : ℕ) (e : IndexEntry) → less (key_of e) (at t
 past_covers t o e l = elim (cases_Bool (covers t o e)) [
   | inr f ↦ f
   | inl c ↦ (let k = and_parts (same_stamp e.stamp t) (leb e.offset o) c in
-      let m : o < e.offset = nat_cmp-Less o e.offset (sym (same_edit (key_of e) (at t o) k.0) ∙ lt_is _ l) in
+      let m : o < e.offset = nat_cmp-Less o e.offset (sym (same_edit (key_of e) (at t o) k.0) ∙ less_of _ l) in
       let n : e.offset ≤ o = leb-true _ _ k.1 in absurd (omega arith))
 ]
 

@@ -51,7 +51,7 @@ pub joined_assoc : (a b c : Entries) → join_versions (join_versions a b) c ≡
 joined_assoc a b [] = refl
 joined_assoc a b (e ∷ c) = let s : Lamport = record { value = e.1; replica = e.0 } in ap (λ z. join_versions z c) (sym (raise_in s a b)) ∙ joined_assoc a (raise b s) c
 
-put_kept : (n r x : ℕ) (v : Entries) → n ≤ r → 0 < x → AreEntriesFrom n v → AreEntriesFrom n (put_entry r x v)
+pub put_kept : (n r x : ℕ) (v : Entries) → n ≤ r → 0 < x → AreEntriesFrom n v → AreEntriesFrom n (put_entry r x v)
 put_kept n r x [] a b h = (a, b, tt)
 put_kept n r x (e ∷ v) a b h = by_order _ e.0 r
     (λ l. subst (AreEntriesFrom n) (sym (put_past e v r x l)) (h.0, h.1, put_kept (suc e.0) r x v (omega arith) b h.2))

@@ -62,7 +62,8 @@ pub option_or_none : {X : Type 0} (q : Option X) → option_or q None ≡ q
 option_or_none None = refl
 option_or_none (Some x) = refl
 
-less_of : (r : Ordering) → is_lt r ≡ true → r ≡ Less
+-- what the tests of an order tell
+pub less_of : (r : Ordering) → is_lt r ≡ true → r ≡ Less
 less_of Less e = refl
 less_of Equal e = absurd (true≢false (sym e))
 less_of Greater e = absurd (true≢false (sym e))

@@ -1,13 +1,11 @@
 -- Sums that tell the last key of a list whose keys ascend.
 use Rattle.std.proofs.Common.{◌≡◌, ℕ, suc, ◌-◌, List, [], ◌∷◌, length, get_or, Option, Some, None, sym, ap, subst, ◌∙◌, arith}
+use Rattle.std.proofs.lemmas.Option.{same_Some}
 use Rattle.std.specs.declared.cmp.Ordering.{Ordering}
 use Rattle.std.specs.declared.cmp.Ordering.TheVariants.{Less}
 use Rattle.sum_tree.specs.Laws.{fold}
 use Rattle.sum_tree.specs.Keyed.{Ascending, IsLastKey}
 use Rattle.sum_tree.proofs.Keys.{AllPairs-right}
-
-some_is : {X : Type 0} (a b : X) → Some a ≡ Some b → a ≡ b
-some_is a b e = cc
 
 -- the last of two or more is the last without the first
 get_or-last : {X : Type 0} (w x : X) (xs : List X) (d : X) → get_or (w ∷ x ∷ xs) (length (w ∷ x ∷ xs) - 1) d ≡ get_or (x ∷ xs) (length (x ∷ xs) - 1) d
@@ -17,7 +15,7 @@ get_or-last w x xs d =
 
 is_last : {T K : Type 0} (key : T → K) (xs : List T) (o : Option K) → ((d : T) → o ≡ Some (key (get_or xs (length xs - 1) d))) → IsLastKey key xs o
 is_last key xs None e = tt
-is_last key xs (Some k) e = λ d. some_is k (key (get_or xs (length xs - 1) d)) (e d)
+is_last key xs (Some k) e = λ d. same_Some k (key (get_or xs (length xs - 1) d)) (e d)
 
 -- Where the sum of no items tells no key, that of one its key, and each further item, whose key is greater, puts its own key in
 -- the place of the one before.

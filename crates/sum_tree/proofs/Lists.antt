@@ -27,3 +27,10 @@ module _ {X : Type 0} where
       let next : to ≡ suc from = omega arith in
       rw (next, append-nil (take from xs)) refl
   taken_out from to xs (x ∷ run) le one none = absurd (omega arith)
+
+  -- how long a list is after a splice
+  pub spliced_length : (i n : ℕ) (ys xs : List X) → i + n ≤ length xs → length (splice_list i (i + n) ys xs) ≡ length xs - n + length ys
+  spliced_length i n ys xs le = omega (arith, le, length-append (take i xs ++ ys) (drop (i + n) xs), length-append (take i xs) ys, length-take-le i xs (omega (arith, le)), length-drop (i + n) xs)
+
+  pub spliced_short : (i j : ℕ) (ys xs : List X) → i ≤ j → j ≤ length xs → length (splice_list i j ys xs) ≤ length xs + length ys
+  spliced_short i j ys xs l m = omega (arith, length-append (take i xs ++ ys) (drop j xs), length-append (take i xs) ys, length-take-le i xs (omega (arith, l, m)), length-drop j xs, l, m)

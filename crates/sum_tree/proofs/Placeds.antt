@@ -1,6 +1,6 @@
 -- What a change of one child in place leaves of a node.
-use Rattle.std.proofs.Common.{refl, ◌≡◌, ℕ, ◌+◌, ◌-◌, ◌^◌, ◌<◌, ◌≤◌, List, [], ◌∷◌, ◌++◌, length, get_or, set, take, drop, Vec, Global, sym, ap, subst, ◌∙◌, append_assoc, arith, length-append}
-use Rattle.std.proofs.lemmas.List.{length-set, set-get_or, drop-set, take-set-le, length-take-le, length-drop, same_from_push}
+use Rattle.std.proofs.Common.{refl, ◌≡◌, ℕ, ◌+◌, ◌-◌, ◌^◌, ◌<◌, ◌≤◌, List, [], ◌∷◌, ◌++◌, length, get_or, set, take, drop, Vec, Global, sym, ap, subst, ◌∙◌, append_assoc, arith}
+use Rattle.std.proofs.lemmas.List.{length-set, set-get_or, drop-set, take-set-le, same_from_push}
 use Rattle.std.proofs.lemmas.List.Elements.{All-set}
 use Rattle.std.specs.List.{All}
 use Rattle.sum_tree.specs.Laws.{SummaryLaws, fold}
@@ -8,7 +8,6 @@ use Rattle.sum_tree.specs.Seen.{Seen}
 use Rattle.std.specs.Prelude.{Result}
 use Rattle.sum_tree.specs.Shape.{join_items, content_items, IsChild, IsContent, IsNode}
 use Rattle.sum_tree.specs.declared.tree.Content.{Content}
-use Rattle.sum_tree.specs.Spliced.{splice_list}
 use Rattle.sum_tree.specs.Placed.{IsPlaced, IsPlacing, IsPlacingOr, IsNoted, content_seen, inner_seen}
 use Rattle.sum_tree.specs.declared.around.Around.{Around}
 use Rattle.sum_tree.specs.declared.here.Placing.{Placing}
@@ -18,9 +17,6 @@ use Rattle.sum_tree.proofs.Folds.{fold-append, fits_left}
 use Rattle.sum_tree.proofs.Lists.{popped}
 use Rattle.sum_tree.proofs.Children.{joined-split, many_enough}
 use Rattle.sum_tree.proofs.Heres.{Held, HeldInner}
-
-pub spliced_length : {X : Type 0} (i n : ℕ) (ys xs : List X) → i + n ≤ length xs → length (splice_list i (i + n) ys xs) ≡ length xs - n + length ys
-spliced_length i n ys xs le = omega (arith, le, length-append (take i xs ++ ys) (drop (i + n) xs), length-append (take i xs) ys, length-take-le i xs (omega (arith, le)), length-drop (i + n) xs)
 
 pub same_last : {X : Type 0} (xs ys zs : List X) (x y : X) → zs ≡ xs ++ x ∷ [] → zs ≡ ys ++ y ∷ [] → x ≡ y
 same_last xs ys zs x y e f = (same_from_push xs ys x y (sym e ∙ f)).1

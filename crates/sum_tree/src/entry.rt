@@ -28,7 +28,8 @@ impl<T: Item> Model for Entry<T> {
 
     ghost view = { λ a. (arc_value a.summed).item };
 
-    ghost invariant = { λ a. ((arc_value a.summed).sum ≡ T.sum_of (arc_value a.summed).item) × T.Summary.fits (T.sum_of (arc_value a.summed).item) };
+    ghost invariant = { λ a. ((arc_value a.summed).sum ≡ T.sum_of (arc_value a.summed).item)
+        × T.Summary.fits (T.sum_of (arc_value a.summed).item) };
 }
 
 impl<T: Item> Entry<T> {

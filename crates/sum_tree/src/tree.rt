@@ -85,14 +85,19 @@ impl<T: Item> Model for SumTree<T> {
 
     ghost view = { λ a. node_view (arc_value a.node) };
 
-    ghost invariant = { λ a. IsNode T.Summary.empty T.Summary.op T.Summary.fits T.sum_of (arc_value a.node) };
+    ghost invariant = { λ a. IsNode T.Summary.empty T.Summary.op T.Summary.fits T.sum_of
+        (arc_value a.node) };
 
     ghost size = { λ v. v.height };
 
     ghost use Rattle.sum_tree.specs.Falls.{content_lower};
     ghost use Rattle.std.proofs.Common.{arith};
 
-    ghost size_decreases = { λ a h. Prim.omega (arith, content_lower T.Item T.Summary.Summary (arc_value a.node).height (arc_value a.node).content h.0) };
+    ghost size_decreases = { λ a h. Prim.omega (
+      arith,
+      content_lower T.Item T.Summary.Summary
+          (arc_value a.node).height (arc_value a.node).content h.0,
+    ) };
 }
 
 impl<T: Item> SumTree<T> {

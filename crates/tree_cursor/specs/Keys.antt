@@ -7,6 +7,7 @@ use Rattle.std.specs.declared.cmp.Ordering.TheVariants.{Less, Equal, Greater}
 use Rattle.std.proofs.Common.{sym, ap, ◌∙◌, arith}
 use Rattle.std.proofs.lemmas.Bool.{not-true}
 use Rattle.std.proofs.lemmas.Bool.Decides.{nat_tests}
+use Rattle.sum_tree.proofs.Keys.{less_of}
 use Rattle.tree_cursor.specs.Places.{DimensionLaws}
 use Rattle.tree_cursor.specs.declared.traits.Bias.{Bias}
 use Rattle.tree_cursor.specs.declared.traits.Bias.TheVariants.{Left, Right}
@@ -102,11 +103,6 @@ module _ {K : Type 0} (less : K → K → Bool) (order : IsLess less) where
       ap (λ (o : Option K). not (key_less less o g)) l.1 ∙ ap not (left_stays g p l.0 before)
   key_stays g p q Right h l = ap (key_less less g) l.1 ∙ right_stays g p l.0 h
 
-pub lt_is : (o : Ordering) → is_lt o ≡ true → o ≡ Less
-lt_is Less h = refl
-lt_is Equal h = cc
-lt_is Greater h = cc
-
 not_lt : (o : Ordering) → (o ≡ Less → ⊥) → is_lt o ≡ false
 not_lt Less h = absurd (h refl)
 not_lt Equal h = refl
@@ -128,7 +124,7 @@ module _ {K : Type 0} (cmp : K → K → Ordering) (t : IsTotalOrder cmp) where
 
   pub order_less : IsLess (cmp_less cmp)
   order_less = record {
-    up = λ a b c h k. ap is_lt (t.trans a b c (lt_is _ h) (lt_is _ k));
+    up = λ a b c h k. ap is_lt (t.trans a b c (less_of _ h) (less_of _ k));
     down = λ a b c h k. not_lt (cmp a c) (down_at a b c (cmp a b) refl h k);
   }
 

@@ -38,9 +38,18 @@ impl<'a, T: Item, D: Dimension<'a, T::Summary>> Model for Cursor<'a, T, D> {
     ghost use Rattle.sum_tree.specs.Laws.{fold};
     ghost use Rattle.tree_cursor.specs.Halts.{IsAt};
 
-    ghost view = { λ a. record { items = a.tree.now.items; height = a.tree.now.height; index = a.index; from = a.from } };
+    ghost view = { λ a. record {
+      items = a.tree.now.items;
+      height = a.tree.now.height;
+      index = a.index;
+      from = a.from;
+    } };
 
-    ghost invariant = { λ a. D.fits (D.plain a.from) (fold T.Summary.empty T.Summary.op T.sum_of a.tree.now.items) × IsAt D.moved D.fits T.Summary.empty T.Summary.op T.sum_of a.tree.now.items (D.plain a.from) a.path.items a.halt.item (D.plain a.halt.start) (D.plain a.halt.end) a.index };
+    ghost invariant = { λ a. D.fits (D.plain a.from)
+        (fold T.Summary.empty T.Summary.op T.sum_of a.tree.now.items)
+        × IsAt D.moved D.fits T.Summary.empty T.Summary.op T.sum_of a.tree.now.items
+        (D.plain a.from) a.path.items a.halt.item (D.plain a.halt.start) (D.plain a.halt.end)
+        a.index };
 }
 
 impl<'a, T: Item, D: Dimension<'a, T::Summary>> Cursor<'a, T, D> {

@@ -57,9 +57,21 @@ impl<'a, T: Item, D: Dimension<'a, T::Summary>, K: Keep<T::Summary>> Model
     ghost use Rattle.sum_tree.specs.Laws.{fold};
     ghost use Rattle.tree_cursor.specs.Places.{place_behind};
 
-    ghost view = { λ a. record { items = a.tree.now.items; from = a.from; keep = a.keep; given = a.given; next = a.next } };
+    ghost view = { λ a. record {
+      items = a.tree.now.items;
+      from = a.from;
+      keep = a.keep;
+      given = a.given;
+      next = a.next;
+    } };
 
-    ghost invariant = { λ a. (a.next ≤ length a.tree.now.items) × (a.path.items ≡ drop a.next a.tree.now.items) × (D.plain a.start ≡ place_behind D.moved T.sum_of (D.plain a.from) (take a.given a.tree.now.items)) × (D.plain a.end ≡ place_behind D.moved T.sum_of (D.plain a.from) (take a.next a.tree.now.items)) × D.fits (D.plain a.end) (fold T.Summary.empty T.Summary.op T.sum_of a.path.items) };
+    ghost invariant = { λ a. (a.next ≤ length a.tree.now.items)
+        × (a.path.items ≡ drop a.next a.tree.now.items)
+        × (D.plain a.start ≡ place_behind D.moved T.sum_of (D.plain a.from)
+        (take a.given a.tree.now.items))
+        × (D.plain a.end ≡ place_behind D.moved T.sum_of (D.plain a.from)
+        (take a.next a.tree.now.items))
+        × D.fits (D.plain a.end) (fold T.Summary.empty T.Summary.op T.sum_of a.path.items) };
 }
 
 impl<'a, T: Item, D: Dimension<'a, T::Summary>, K: Keep<T::Summary>> FilterCursor<'a, T, D, K> {

@@ -42,7 +42,13 @@ impl<'a, T: Item> Model for Path<'a, T> {
     ghost use Rattle.std.specs.Prelude.{◌∷◌, length, reverse};
     ghost use Rattle.tree_cursor.specs.Levels.{items_left, left_items, left_looks, work_left, AreLevels};
 
-    ghost view = { λ a. record { items = items_left (a.level ∷ reverse a.above.items); inner = left_items a.level; depth = length a.above.items; work = work_left (a.level ∷ reverse a.above.items); looks = left_looks a.level } };
+    ghost view = { λ a. record {
+      items = items_left (a.level ∷ reverse a.above.items);
+      inner = left_items a.level;
+      depth = length a.above.items;
+      work = work_left (a.level ∷ reverse a.above.items);
+      looks = left_looks a.level;
+    } };
 
     ghost invariant = { λ a. AreLevels (a.level ∷ reverse a.above.items) };
 }

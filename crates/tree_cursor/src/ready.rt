@@ -65,7 +65,8 @@ pub trait KeySummary: Summary {
 
     ghost no_key: { key_of Self.empty ≡ None };
 
-    ghost greater_key: { (a b : Self) → Self.admits a → Self.admits b → key_of (Self.op a b) ≡ greater (cmp_less Self.Key.cmp) (key_of a) (key_of b) };
+    ghost greater_key: { (a b : Self) → Self.admits a → Self.admits b
+        → key_of (Self.op a b) ≡ greater (cmp_less Self.Key.cmp) (key_of a) (key_of b) };
 }
 
 /// The greatest key of a run of items, the first of equal ones; None where there is no item. It is a summary of items
@@ -131,7 +132,8 @@ impl<K: Ord + Copy, S: KeySummary<Key = K>> Moves<S> for Greatest<K> {
 
     ghost fits = { λ p s. Unit };
 
-    ghost laws = { key_laws (cmp_less K.cmp) (order_less K.cmp K.total) S.empty S.op S.admits S.single S.key_of S.no_key S.greater_key };
+    ghost laws = { key_laws (cmp_less K.cmp) (order_less K.cmp K.total) S.empty S.op S.admits
+        S.single S.key_of S.no_key S.greater_key };
 }
 
 impl<'a, K: Ord + Copy, S: KeySummary<Key = K>> Dimension<'a, S> for Greatest<K> {

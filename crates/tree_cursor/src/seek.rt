@@ -23,7 +23,8 @@ impl<'t, S: Summary, D: Plain, G: Target<D>> Rule<S, D> for Seeking<'t, G> {
 
     ghost halts = { λ r s q j. G.passes r.target.now q r.bias };
 
-    ghost parts = { λ r a b p q i j f h l m n. seek_parts (G.passes r.target.now p r.bias) (G.passes r.target.now q r.bias) (λ t. G.stays r.target.now p q r.bias t l) n };
+    ghost parts = { λ r a b p q i j f h l m n. seek_parts (G.passes r.target.now p r.bias)
+        (G.passes r.target.now q r.bias) (λ t. G.stays r.target.now p q r.bias t l) n };
 
     fn halts(&self, _sum: &S, end: D, _count: u64) -> bool {
         self.target.passed(end, self.bias)

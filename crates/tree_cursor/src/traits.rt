@@ -54,7 +54,8 @@ pub trait Target<D: Plain> {
     fn passed(&self, at: D, bias: Bias) -> bool
         ensures { result ≡ passes self.now (D.plain at) bias };
 
-    ghost stays: { (g : Self) (p q : D.Value) (b : Bias) → passes g p b ≡ true → D.later p q → passes g q b ≡ true };
+    ghost stays: { (g : Self) (p q : D.Value) (b : Bias) → passes g p b ≡ true → D.later p q
+        → passes g q b ≡ true };
 }
 
 /// Which items a filter gives.
@@ -66,5 +67,6 @@ pub trait Keep<S: Summary> {
     fn keep(&self, s: &S) -> bool
         ensures { result ≡ keeps self.now s.now };
 
-    ghost parts: { (k : Self) (a b : S) → S.admits a → S.admits b → keeps k (S.op a b) ≡ false → (keeps k a ≡ false) × (keeps k b ≡ false) };
+    ghost parts: { (k : Self) (a b : S) → S.admits a → S.admits b → keeps k (S.op a b) ≡ false
+        → (keeps k a ≡ false) × (keeps k b ≡ false) };
 }

@@ -19,7 +19,9 @@ pub(crate) trait Rule<S: Summary, D: Plain> {
     fn halts(&self, sum: &S, end: D, count: u64) -> bool
         ensures { result ≡ halts self.now sum.now (D.plain end) count };
 
-    ghost parts: { (r : Self) (a b : S) (p q : D.Value) (i j : ℕ) → S.admits a → S.admits b → D.later p q → i ≤ j → halts r (S.op a b) q j ≡ false → (halts r a p i ≡ false) × (halts r b q j ≡ false) };
+    ghost parts: { (r : Self) (a b : S) (p q : D.Value) (i j : ℕ) → S.admits a → S.admits b
+        → D.later p q → i ≤ j → halts r (S.op a b) q j ≡ false
+        → (halts r a p i ≡ false) × (halts r b q j ≡ false) };
 }
 
 // A walk that halts behind so many items.

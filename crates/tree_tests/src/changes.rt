@@ -72,7 +72,7 @@ pub(crate) fn append_to<T: Numbered>(
 }
 
 /// Puts the items of the numbers from 0 up to n in the place of a range.
-#[tactic(auto, using(crate::proofs::Lengths::spliced_short))]
+#[tactic(auto, using(sum_tree::proofs::Lists::spliced_short))]
 pub(crate) fn splice_in<T: Numbered>(
     alloc: Global,
     tree: &mut SumTree<T>,

@@ -103,7 +103,7 @@ pub fn shared<T: Numbered>(alloc: Global, tree: &mut SumTree<T>, n: u64) -> Resu
 }
 
 /// Puts items in the place of a range, where there is room for them. On want of memory the tree is as before.
-#[tactic(auto, using(crate::proofs::Lengths::spliced_short))]
+#[tactic(auto, using(sum_tree::proofs::Lists::spliced_short))]
 pub fn splice_in<T: Item>(
     alloc: Global,
     tree: &mut SumTree<T>,

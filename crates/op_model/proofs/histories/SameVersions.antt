@@ -1,11 +1,12 @@
 -- Two lawful histories of one set of operations have one version, and meet the same faults.
-use Rattle.std.proofs.Common.{◌≡◌, ℕ, suc, ◌<◌, ◌≤◌, ◌⊎◌, List, [], ◌∷◌, length, refl, sym, ◌∙◌, ap, subst, inl, inr, true, false, ◌&&◌, eqb, ltb, arith}
+use Rattle.std.proofs.Common.{◌≡◌, ℕ, suc, ◌<◌, ◌≤◌, ◌⊎◌, List, [], ◌∷◌, length, refl, sym, ◌∙◌, ap, subst, inl, inr, true, false, ◌&&◌, eqb, arith}
 use Rattle.std.specs.Prelude.{option_map, not}
 use Rattle.std.specs.List.{find}
-use Rattle.std.proofs.lemmas.Bool.{cases_Bool, eqb-true, ltb-true, ltb-false, leb-false, cases_lt, eq-eqb}
+use Rattle.std.proofs.lemmas.Bool.{cases_Bool, leb-false, cases_lt, eq-eqb}
 use Rattle.std.proofs.lemmas.Bool.Decides.{nat_tests}
+use Rattle.lamport_clock.proofs.Associative.{put_kept}
 use Rattle.lamport_clock.specs.Stamps.{same_stamp}
-use Rattle.lamport_clock.specs.Versions.{Entries, AreEntriesFrom, entry, sees, within, put_entry}
+use Rattle.lamport_clock.specs.Versions.{Entries, AreEntriesFrom, entry, sees, within}
 use Rattle.op_model.specs.declared.anchor.Anchor.{Anchor}
 use Rattle.op_model.specs.declared.faults.SinceFault.TheVariants.{Unseen, OpenVersion}
 use Rattle.op_model.specs.declared.faults.PlaceFault.TheVariants.{PastEnd, InsideChar}
@@ -22,18 +23,6 @@ use Rattle.op_model.proofs.answers.Good.{lawful_same}
 use Rattle.op_model.proofs.settling.AllApplied.{greatest_part}
 use Rattle.op_model.proofs.answers.SameAnswers.{any_same, known_same, place_same, compare_same}
 
-less : (x y : ℕ) → y ≤ x → eqb x y ≡ false → suc y ≤ x
-less x y h e = grind (arith, nat_tests)
-
-entries_put : (n r x : ℕ) (v : Entries) → n ≤ r → 0 < x → AreEntriesFrom n v → AreEntriesFrom n (put_entry r x v)
-entries_put n r x [] a b i = (a, b, tt)
-entries_put n r x (e ∷ v) a b i = go (cases_Bool (ltb e.0 r)) (cases_Bool (eqb e.0 r)) (λ l. entries_put (suc e.0) r x v l b i.2)
-  where
-    go : (ltb e.0 r ≡ true) ⊎ (ltb e.0 r ≡ false) → (eqb e.0 r ≡ true) ⊎ (eqb e.0 r ≡ false) → (suc e.0 ≤ r → AreEntriesFrom (suc e.0) (put_entry r x v)) → AreEntriesFrom n (put_entry r x (e ∷ v))
-    go (inl l) s f = let k = ltb-true e.0 r l in rw l (i.0, i.1, f (omega arith))
-    go (inr l) (inl s) f = let k : e.0 ≡ r = eqb-true e.0 r s in rw (l, s) (a, b, subst (λ (m : ℕ). AreEntriesFrom (suc m) v) k i.2)
-    go (inr l) (inr s) f = let k = ltb-false e.0 r l in rw (l, s) (a, b, (less e.0 r k s, i.1, i.2))
-
 version_entries : (h : History) → AreEntriesFrom 0 (version h)
 version_entries [] = tt
 version_entries (o ∷ h) = go (cases_Bool (sees (version h) (stamp_of o))) (version_entries h)
@@ -41,11 +30,12 @@ version_entries (o ∷ h) = go (cases_Bool (sees (version h) (stamp_of o))) (ver
     go : (sees (version h) (stamp_of o) ≡ true) ⊎ (sees (version h) (stamp_of o) ≡ false) → AreEntriesFrom 0 (version h) → AreEntriesFrom 0 (version (o ∷ h))
     go (inl s) i = rw s i
     go (inr s) i = let g = leb-false (stamp_of o).value (entry (version h) (stamp_of o).replica) s in
-        rw s (entries_put 0 (stamp_of o).replica (stamp_of o).value (version h) (omega arith) (omega arith) i)
+        rw s (put_kept 0 (stamp_of o).replica (stamp_of o).value (version h) (omega arith) (omega arith) i)
 
-below : (n : ℕ) (v : Entries) (r : ℕ) → AreEntriesFrom n v → r < n → entry v r ≡ 0
-below n [] r i l = refl
-below n (e ∷ v) r i l = let a = i.0 in let t = apart e.0 r (omega arith) in rw t (below (suc e.0) v r i.2 (omega arith))
+-- no entry is below the least replica
+pub none_below : (n : ℕ) (v : Entries) (r : ℕ) → AreEntriesFrom n v → r < n → entry v r ≡ 0
+none_below n [] r i l = refl
+none_below n (e ∷ v) r i l = let a = i.0 in let t = apart e.0 r (omega arith) in rw t (none_below (suc e.0) v r i.2 (omega arith))
   where
     apart : (x y : ℕ) → y < x → eqb x y ≡ false
     apart x y h = grind (arith, nat_tests)
@@ -65,15 +55,15 @@ entries_same n (d ∷ u) (e ∷ v) i j f = go (cases_lt d.0 e.0) (cases_lt e.0 d
     tails : d.0 ≡ e.0 → (r : ℕ) → entry u r ≡ entry v r
     tails q r = elim (cases_lt d.0 r) [
       | inl l ↦ (let x = off d.0 r l in let y = off e.0 r (omega arith) in let z : entry u r ≡ entry v r = rw (x, y) at (f r) in z)
-      | inr l ↦ below (suc d.0) u r i.2 (omega arith) ∙ sym (below (suc e.0) v r j.2 (omega arith))
+      | inr l ↦ none_below (suc d.0) u r i.2 (omega arith) ∙ sym (none_below (suc e.0) v r j.2 (omega arith))
     ]
       where
         off : (x y : ℕ) → x < y → eqb x y ≡ false
         off x y h = grind (arith, nat_tests)
 
     go : (d.0 < e.0) ⊎ (e.0 ≤ d.0) → (e.0 < d.0) ⊎ (d.0 ≤ e.0) → ((m : ℕ) → AreEntriesFrom m u → AreEntriesFrom m v → ((r : ℕ) → entry u r ≡ entry v r) → u ≡ v) → d ∷ u ≡ e ∷ v
-    go (inl l) m ih = let z = below (suc d.0) (e ∷ v) d.0 (omega arith, j.1, j.2) (omega arith) in let y = f d.0 in let x = at_d in let p = i.1 in absurd (omega arith)
-    go (inr l) (inl m) ih = let z = below (suc e.0) (d ∷ u) e.0 (omega arith, i.1, i.2) (omega arith) in let y = f e.0 in let x = at_e in let p = j.1 in absurd (omega arith)
+    go (inl l) m ih = let z = none_below (suc d.0) (e ∷ v) d.0 (omega arith, j.1, j.2) (omega arith) in let y = f d.0 in let x = at_d in let p = i.1 in absurd (omega arith)
+    go (inr l) (inl m) ih = let z = none_below (suc e.0) (d ∷ u) e.0 (omega arith, i.1, i.2) (omega arith) in let y = f e.0 in let x = at_e in let p = j.1 in absurd (omega arith)
     go (inr l) (inr m) ih =
         let q : d.0 ≡ e.0 = omega arith in
         let w : d.1 ≡ e.1 = sym at_d ∙ f d.0 ∙ ap (entry (e ∷ v)) q ∙ at_e in

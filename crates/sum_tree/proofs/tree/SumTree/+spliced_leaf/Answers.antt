@@ -5,7 +5,7 @@ use Rattle.sum_tree.specs.Spliced.{IsReturn}
 use Rattle.sum_tree.specs.declared.splice.Splicing.{Splicing}
 use Rattle.sum_tree.proofs.Opened.{opened}
 use Rattle.sum_tree.proofs.Nodes.{node_height, leaf_of}
-use Rattle.sum_tree.proofs.Placeds.{spliced_length}
+use Rattle.sum_tree.proofs.Lists.{spliced_length}
 use Rattle.sum_tree.proofs.Descents.{node_step, step_short, step_fits, step_items, step_piece}
 use Rattle.sum_tree.proofs.Splices.{split_spliced, leaf_spliced}
 use Rattle.sum_tree.proofs.tree.SumTree.+spliced_leaf.Goals as goal
