@@ -10,7 +10,7 @@ use Rattle.op_model.specs.declared.operation.Operation.TheVariants.{Edit, Undo}
 use Rattle.op_model.specs.declared.faults.OpFault.{OpFault}
 use Rattle.op_model.specs.declared.faults.OpFault.TheVariants.{BadStamp, NoBase, TextLimit, Reversed, Overlap, Conflict, Forked, OpenVersion, PastEnd, InsideChar, NoSuchEdit}
 use Rattle.op_model.specs.Choice.{first_of, when}
-use Rattle.op_model.specs.Operations.{stamp_of, version_of, pieces_of, counts_of, text_total}
+use Rattle.op_model.specs.Operations.{stamp_of, version_of, pieces_of, counts_of, text_total, text_limit, last_replica}
 use Rattle.op_model.specs.Histories.{History, version, seen_history, has_edit}
 use Rattle.op_model.specs.Edits.{is_reversed, overlap_from, is_past, is_inside}
 use Rattle.op_model.specs.Shown.{full}
@@ -23,8 +23,8 @@ pub data Answer : Type 0 where
 -- a stamp, an author or a version that no replica makes
 abbrev pub bad_stamp : Operation → Bool
 bad_stamp op = let t = stamp_of op in
-    t.value == 0 || t.value == 4294967295 || t.replica == 0 || nat_lt 1023 t.replica
-    || list_any (λ e. nat_lt 1023 e.0) (version_of op) || list_any (λ e. nat_le t.value e.1) (version_of op)
+    t.value == 0 || t.value == 4294967295 || t.replica == 0 || nat_lt last_replica t.replica
+    || list_any (λ e. nat_lt last_replica e.0) (version_of op) || list_any (λ e. nat_le t.value e.1) (version_of op)
 
 abbrev pub no_base : Operation → Bool
 no_base op = not (entry (version_of op) 0 == 1)
@@ -34,7 +34,7 @@ abbrev pub shape_fault : Operation → Option OpFault
 shape_fault op = first_of (
     when (bad_stamp op) BadStamp
     ∷ when (no_base op) NoBase
-    ∷ when (nat_lt 65536 (text_total (pieces_of op))) (TextLimit (text_total (pieces_of op)))
+    ∷ when (nat_lt text_limit (text_total (pieces_of op))) (TextLimit (text_total (pieces_of op)))
     ∷ option_map Reversed (position is_reversed (pieces_of op))
     ∷ option_map Overlap (overlap_from 0 0 (pieces_of op))
     ∷ [])

@@ -3,7 +3,7 @@ use Rattle.std.specs.Prelude.{◌≡◌, ℕ, ◌<◌, ◌≤◌, List, [], ◌�
 use Rattle.std.specs.List.{AllByRecursion}
 use Rattle.op_model.specs.declared.operation.Piece.{Piece}
 use Rattle.op_model.specs.declared.operation.Operation.{Operation}
-use Rattle.op_model.specs.Operations.{stamp_of, pieces_of}
+use Rattle.op_model.specs.Operations.{stamp_of, pieces_of, last_replica}
 use Rattle.op_model.specs.Histories.{History, Distinct, base}
 
 -- the texts of pieces are UTF-8
@@ -16,7 +16,7 @@ IsProper op = ((stamp_of op).value < 4294967296) × AreUtf8 (pieces_of op)
 
 -- the id of an editor's replica
 abbrev pub IsReplica : ℕ → Type 0
-IsReplica r = (1 ≤ r) × (r ≤ 1023)
+IsReplica r = (1 ≤ r) × (r ≤ last_replica)
 
 -- a list of operations with distinct stamps, the base first
 abbrev pub IsHistory : History → Type 0

@@ -6,7 +6,7 @@ use Rattle.op_model.specs.declared.limits.Limits.{Limits as LimitsType}
 use Rattle.op_model.specs.declared.faults.EditFault.{EditFault}
 use Rattle.op_model.specs.declared.faults.EditFault.TheVariants.{Reversed, Overlap, PastEnd, InsideChar, TextLimit, ClockEnd, Full}
 use Rattle.op_model.specs.Choice.{first_of, when}
-use Rattle.op_model.specs.Operations.{text_total}
+use Rattle.op_model.specs.Operations.{text_total, text_limit}
 use Rattle.op_model.specs.Histories.{History, clock}
 use Rattle.op_model.specs.Limited.{excess}
 
@@ -50,7 +50,7 @@ piece_fault text ps = first_of (
 abbrev pub edit_fault : LimitsType → History → List ℕ → List Piece → Option EditFault
 edit_fault l h text ps = first_of (
     piece_fault text ps
-    ∷ when (nat_lt 65536 (text_total ps)) (TextLimit (text_total ps))
+    ∷ when (nat_lt text_limit (text_total ps)) (TextLimit (text_total ps))
     ∷ when (clock h == 4294967295) ClockEnd
     ∷ option_map (λ e. Full e.unit e.held e.adds) (excess l h (text_total ps) (1 + length ps))
     ∷ [])

@@ -27,6 +27,14 @@ abbrev pub is_edit : Operation → Bool
 is_edit (Edit e) = true
 is_edit (Undo u) = false
 
+-- the most bytes of the new texts of one operation
+abbrev pub text_limit : ℕ
+text_limit = 65536
+
+-- the greatest id of an editor's replica
+abbrev pub last_replica : ℕ
+last_replica = 1023
+
 -- the bytes of all new texts
 abbrev pub text_total : List Piece → ℕ
 text_total [] = 0

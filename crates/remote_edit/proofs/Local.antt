@@ -10,7 +10,7 @@ use Rattle.op_model.specs.declared.operation.Operation.TheVariants.{Edit}
 use Rattle.op_model.specs.declared.limits.Limits.{Limits as LimitsType}
 use Rattle.op_model.specs.declared.faults.EditFault.TheVariants.{Reversed, Overlap, PastEnd, InsideChar, TextLimit, ClockEnd, Full}
 use Rattle.op_model.specs.Choice.{first_of, when}
-use Rattle.op_model.specs.Operations.{text_total}
+use Rattle.op_model.specs.Operations.{text_total, text_limit}
 use Rattle.op_model.specs.Histories.{History, version, clock}
 use Rattle.op_model.specs.Shown.{text}
 use Rattle.op_model.specs.Edits.{is_reversed, is_past, is_inside, overlap_from, piece_fault}
@@ -44,7 +44,7 @@ two_none a b c d e =
 pub in_text : (l : LimitsType) (h : History) (fs : List Fragment) (ps : List Piece) → Tell fs h → local_edit_fault l h ps ≡ None → AllByRecursion (IsInText fs) ps
 in_text l h fs ps e g =
     let n : ℕ = length (text h) in
-    let a = first_none (piece_fault (text h) ps) (when (nat_lt 65536 (text_total ps)) (TextLimit (text_total ps)) ∷ when (clock h == 4294967295) ClockEnd
+    let a = first_none (piece_fault (text h) ps) (when (nat_lt text_limit (text_total ps)) (TextLimit (text_total ps)) ∷ when (clock h == 4294967295) ClockEnd
     ∷ option_map (λ x. Full x.unit x.held x.adds) (excess l h (text_total ps) (1 + length ps)) ∷ []) g in
     let b = two_none (option_map Reversed (position is_reversed ps)) (option_map Overlap (overlap_from 0 0 ps)) (option_map (λ i. PastEnd i n) (position (is_past n) ps)) (option_map InsideChar (position (is_inside (text h)) ps)) a.0 in
     ranges_in fs n ps (text_long h fs e) (position_none is_reversed ps (map_none Reversed (position is_reversed ps) b.0)) (position_none (is_past n) ps (map_none (λ i. PastEnd i n) (position (is_past n) ps) b.1))

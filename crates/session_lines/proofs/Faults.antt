@@ -3,7 +3,7 @@ use Rattle.std.proofs.Common.{◌≡◌, ℕ, ◌+◌, ◌<◌, ◌≤◌, Bool,
 use Rattle.std.specs.Prelude.{⊤}
 use Rattle.std.proofs.lemmas.Bool.{lt-ltb, le-ltb, ltb-true}
 use Rattle.session_lines.specs.Cut.{lines_of}
-use Rattle.session_lines.specs.Session.{then_from, with_header, rest_of, header_of, line_of, session_of, session_of_text}
+use Rattle.session_lines.specs.Session.{then_from, with_header, rest_of, header_of, line_of, session_of, session_of_text, lines_limit}
 use Rattle.session_lines.specs.declared.header.Header.{Header as FirstLine}
 use Rattle.session_lines.specs.declared.session.SessionLine.{SessionLine}
 use Rattle.session_lines.specs.declared.session.Session.{Session}
@@ -14,13 +14,13 @@ use Rattle.session_lines.specs.declared.fault.DecodeFault.TheVariants.{Lines, Ba
 
 -- ---- lines are counted before any is read
 
-pub session_of_many : (input : List ℕ) → 1048576 < length (lines_of input) → session_of_text input ≡ Err (Lines (length (lines_of input)))
+pub session_of_many : (input : List ℕ) → lines_limit < length (lines_of input) → session_of_text input ≡ Err (Lines (length (lines_of input)))
 unfolding session_of_text
-session_of_many input h = ap (λ b. cond b (Err (Lines (length (lines_of input)))) (session_of (lines_of input))) (lt-ltb 1048576 (length (lines_of input)) h)
+session_of_many input h = ap (λ b. cond b (Err (Lines (length (lines_of input)))) (session_of (lines_of input))) (lt-ltb lines_limit (length (lines_of input)) h)
 
-pub session_of_few : (input : List ℕ) → length (lines_of input) ≤ 1048576 → session_of_text input ≡ session_of (lines_of input)
+pub session_of_few : (input : List ℕ) → length (lines_of input) ≤ lines_limit → session_of_text input ≡ session_of (lines_of input)
 unfolding session_of_text
-session_of_few input h = ap (λ b. cond b (Err (Lines (length (lines_of input)))) (session_of (lines_of input))) (le-ltb 1048576 (length (lines_of input)) h)
+session_of_few input h = ap (λ b. cond b (Err (Lines (length (lines_of input)))) (session_of (lines_of input))) (le-ltb lines_limit (length (lines_of input)) h)
 
 -- a text without a byte has no line
 pub session_of_nothing : (input : List ℕ) → length input ≡ 0 → (session_of_text input ≡ Err (Bad 1 Header)) × (length (lines_of input) ≡ 0)
@@ -58,14 +58,14 @@ not_bad : (ls : List (List ℕ)) (e : DecodeFault) → session_of ls ≡ Err e �
 not_bad ls e h = subst (IsBad {A = Session}) h (session_bad ls)
 
 -- too many lines are told only where there are too many
-lines_by : (input : List ℕ) (n : ℕ) (b : Bool) → nat_lt 1048576 (length (lines_of input)) ≡ b
-    → cond b (Err (Lines (length (lines_of input)))) (session_of (lines_of input)) ≡ Err (Lines n) → 1048576 < length (lines_of input)
-lines_by input n true l e = ltb-true 1048576 (length (lines_of input)) l
+lines_by : (input : List ℕ) (n : ℕ) (b : Bool) → nat_lt lines_limit (length (lines_of input)) ≡ b
+    → cond b (Err (Lines (length (lines_of input)))) (session_of (lines_of input)) ≡ Err (Lines n) → lines_limit < length (lines_of input)
+lines_by input n true l e = ltb-true lines_limit (length (lines_of input)) l
 lines_by input n false l e = absurd (not_bad (lines_of input) (Lines n) e)
 
-pub too_many : (input : List ℕ) (n : ℕ) → session_of_text input ≡ Err (Lines n) → 1048576 < length (lines_of input)
+pub too_many : (input : List ℕ) (n : ℕ) → session_of_text input ≡ Err (Lines n) → lines_limit < length (lines_of input)
 unfolding session_of_text
-too_many input n e = lines_by input n (nat_lt 1048576 (length (lines_of input))) refl e
+too_many input n e = lines_by input n (nat_lt lines_limit (length (lines_of input))) refl e
 
 never_by : (input : List ℕ) (b : Bool) → cond b (Err (Lines (length (lines_of input)))) (session_of (lines_of input)) ≡ Err OutOfMemory → ⊥
 never_by input true e = cc
@@ -74,4 +74,4 @@ never_by input false e = not_bad (lines_of input) OutOfMemory e
 -- want of memory is no part of what a text is
 pub never_memory : (input : List ℕ) → session_of_text input ≡ Err OutOfMemory → ⊥
 unfolding session_of_text
-never_memory input e = never_by input (nat_lt 1048576 (length (lines_of input))) e
+never_memory input e = never_by input (nat_lt lines_limit (length (lines_of input))) e

@@ -1,4 +1,6 @@
 -- What a session keeps of its header: a base no longer than the text, and 1 to 64 distinct ids of editors.
+use Rattle.op_model.specs.Operations.{last_replica}
+use Rattle.op_model.specs.Domains.{IsReplica}
 use Rattle.std.proofs.Common.{◌≡◌, ℕ, suc, ◌≤◌, Bool, true, false, cond, ◌&&◌, ◌==◌, nat_le, List, [], ◌∷◌, length, get_or, Option, Some, None, option_map, option_and_then, Result, Ok, Err, refl, subst, arith}
 use Rattle.std.specs.Prelude.{⊤, codes}
 use Rattle.std.specs.List.{All, list_all}
@@ -129,13 +131,13 @@ first_short [] = tt
 first_short (x ∷ xs) = line_or (x == 10) x (length xs) (lines_of xs) (first_short xs)
 
 -- each of the ids is an editor's
-editors_of : (ids : List ℕ) → are_replicas ids ≡ true → All (λ (r : ℕ). (1 ≤ r) × (r ≤ 1023)) ids
+editors_of : (ids : List ℕ) → are_replicas ids ≡ true → All IsReplica ids
 editors_of ids e =
     let p = and_parts (nat_le 1 (length ids) && nat_le (length ids) 64) (list_all is_editor ids && are_distinct ids) e in
     let q = and_parts (list_all is_editor ids) (are_distinct ids) p.1 in
     λ k d l.
-    let x = and_parts (nat_le 1 (get_or ids k d)) (nat_le (get_or ids k d) 1023) (AllPass-from_list_all is_editor ids q.0 k d l) in
-    (leb-true 1 (get_or ids k d) x.0, leb-true (get_or ids k d) 1023 x.1)
+    let x = and_parts (nat_le 1 (get_or ids k d)) (nat_le (get_or ids k d) last_replica) (AllPass-from_list_all is_editor ids q.0 k d l) in
+    (leb-true 1 (get_or ids k d) x.0, leb-true (get_or ids k d) last_replica x.1)
 
 abbrev SessionOf : ℕ → Result Session DecodeFault → Type 0
 SessionOf n (Err e) = ⊤

@@ -1,4 +1,5 @@
 -- The header of a session.
+use Rattle.op_model.specs.Operations.{last_replica}
 use Rattle.std.specs.Prelude.{ℕ, List, [], ◌∷◌, length, ◌&&◌, nat_le, Bool, codes, Option, Some, None, option_map, option_and_then, if◌then◌else◌}
 use Rattle.std.specs.List.{list_all}
 use Rattle.serde_json.specs.Data.{Data}
@@ -9,7 +10,7 @@ use Rattle.session_lines.specs.declared.header.Header.{Header}
 
 -- an editor's id
 abbrev pub is_editor : ℕ → Bool
-is_editor n = nat_le 1 n && nat_le n 1023
+is_editor n = nat_le 1 n && nat_le n last_replica
 
 -- 1 to 64 distinct ids of editors
 abbrev pub are_replicas : List ℕ → Bool

@@ -2,6 +2,7 @@
 use Rattle.std.specs.Prelude.{◌≡◌, ℕ, ◌+◌, ◌≤◌, List, [], ◌∷◌, ◌++◌, length, not, ◌&&◌, nat_lt, nat_le, Bool, true, false, Option, Some, None, Result, Ok, Err, if◌then◌else◌}
 use Rattle.std.specs.List.{All, count_by, list_all, list_any}
 use Rattle.std.specs.Str.{bytes_eq}
+use Rattle.op_model.specs.Domains.{IsReplica}
 use Rattle.op_model.specs.Choice.{first_of, when}
 use Rattle.serde_json.specs.Data.{Data}
 use Rattle.session_lines.specs.Json.{value_of}
@@ -220,10 +221,14 @@ abbrev pub session_of : List (List ℕ) → Result Session DecodeFault
 session_of [] = Err (Bad 1 word.Header)
 session_of (l ∷ ls) = then_from 1 (header_of l) (λ h. with_header h (rest_of h.replicas [] ls))
 
+-- the most lines of a session
+abbrev pub lines_limit : ℕ
+lines_limit = 1048576
+
 -- the session that a text is, or why it is none: lines are counted before any is read
 unfoldable pub session_of_text : List ℕ → Result Session DecodeFault
 session_of_text input =
-    if nat_lt 1048576 (length (lines_of input))
+    if nat_lt lines_limit (length (lines_of input))
     then Err (Lines (length (lines_of input)))
     else session_of (lines_of input)
 
@@ -233,4 +238,4 @@ pub record IsSession (bytes : ℕ) (s : Session) : Type 0 where
   pub version : s.version ≡ 1
   pub base : length s.base ≤ bytes
   pub replicas : are_replicas s.replicas ≡ true
-  pub editors : All (λ (r : ℕ). (1 ≤ r) × (r ≤ 1023)) s.replicas
+  pub editors : All IsReplica s.replicas

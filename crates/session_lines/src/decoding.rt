@@ -2,7 +2,7 @@
 ghost use Rattle.std.specs.Prelude.{◌≡◌, ◌<◌, ◌≤◌, ◌⊎◌, [], length, IfOk, IfErr, Ok, Err, None, Some};
 ghost use Rattle.std.specs.List.{list_all};
 ghost use Rattle.session_lines.specs.Cut.{lines_of};
-ghost use Rattle.session_lines.specs.Session.{IsSession, session_of_text, header_of, is_known, is_number_of, is_numbered, line_of, rest_of, session_of, word_of};
+ghost use Rattle.session_lines.specs.Session.{IsSession, session_of_text, header_of, is_known, is_number_of, is_numbered, line_of, rest_of, session_of, word_of, lines_limit};
 ghost use Rattle.session_lines.specs.declared.fault.Word.{Word};
 
 use crate::cutting::{first_line, line_count};
@@ -168,10 +168,10 @@ fn session_of(alloc: Global, input: &[u8]) -> Result<Session, DecodeFault>
 pub fn decode(alloc: Global, input: &[u8]) -> Result<Session, DecodeFault>
     ensures ok { IfOk result (λ s. session_of_text input.now ≡ Ok s) }
     ensures session { IfOk result (λ s. IsSession (length input.now) s) }
-    ensures lines { 1048576 < length (lines_of input.now)
+    ensures lines { lines_limit < length (lines_of input.now)
         → result ≡ Err (DecodeFault.Lines (length (lines_of input.now))) }
     ensures fault { IfErr result (λ e. (session_of_text input.now ≡ Err e)
-        ⊎ ((0 < length input.now) × (length (lines_of input.now) ≤ 1048576)
+        ⊎ ((0 < length input.now) × (length (lines_of input.now) ≤ lines_limit)
         × (e ≡ DecodeFault.OutOfMemory))) }
 {
     if input.is_empty() {

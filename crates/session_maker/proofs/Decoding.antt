@@ -11,7 +11,7 @@ use Rattle.session_lines.specs.Cut.{lines_of, onto_first}
 use Rattle.session_lines.specs.Heading.{are_replicas, header_of_value, header_with, replicas_from}
 use Rattle.session_lines.specs.Json.{list_of}
 use Rattle.session_lines.specs.Parts.{all_of, id_of}
-use Rattle.session_lines.specs.Session.{session_of_text, header_of, header_or_word, is_operation, or_word, rest_of, session_of, then_from, with_header}
+use Rattle.session_lines.specs.Session.{session_of_text, header_of, header_or_word, is_operation, or_word, rest_of, session_of, then_from, with_header, lines_limit}
 use Rattle.session_lines.specs.declared.fault.DecodeFault.TheVariants.{Lines}
 use Rattle.session_lines.specs.declared.fault.Word.TheVariants as word
 use Rattle.session_lines.specs.declared.header.Header.{Header}
@@ -103,9 +103,9 @@ module _ (n : ℕ) (some : 1 ≤ n) (most : n ≤ 16) where
       let header : Header = record { base = base_text; replicas = ids_to n } in
       let lines : lines_of (session_text (session_with n ls)) ≡ first ∷ texts_of ls =
       cut_value d (map line_value ls) (plain_line d 2 (head_short n some most)) ∙ ap (λ ts. first ∷ ts) (cut_lines (ids_to n) 0 b ls h) in
-      let few : nat_lt 1048576 (length (first ∷ texts_of ls)) ≡ false =
-      le-ltb 1048576 (length (first ∷ texts_of ls)) (omega (arith, length-map ls (λ l. compact_text (line_value l)))) in
-      ap (λ ts. cond (nat_lt 1048576 (length ts)) (Err (Lines (length ts))) (session_of ts)) lines
+      let few : nat_lt lines_limit (length (first ∷ texts_of ls)) ≡ false =
+      le-ltb lines_limit (length (first ∷ texts_of ls)) (omega (arith, length-map ls (λ l. compact_text (line_value l)))) in
+      ap (λ ts. cond (nat_lt lines_limit (length ts)) (Err (Lines (length ts))) (session_of ts)) lines
       ∙ ap (λ (t : Bool). cond t (Err (Lines (length (first ∷ texts_of ls)))) (session_of (first ∷ texts_of ls))) few
       ∙ ap (λ o. then_from 1 o (λ h. with_header h (rest_of h.replicas [] (texts_of ls)))) (head_read n some most)
       ∙ ap (with_header header) (rest_read (ids_to n) [] 0 b ls refl h)

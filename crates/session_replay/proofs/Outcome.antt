@@ -2,7 +2,7 @@
 use Rattle.std.proofs.Common.{◌≡◌, ℕ, ◌+◌, ◌<◌, ◌≤◌, ◌⊎◌, inl, inr, List, length, refl, sym, ap, ◌∙◌, subst, cond, Bool, true, false, nat_lt, arith, Option, Result, Ok, Err}
 use Rattle.std.proofs.lemmas.Bool.{lt-ltb, le-ltb, ltb-true, ltb-false}
 use Rattle.session_lines.specs.Cut.{lines_of}
-use Rattle.session_lines.specs.Session.{session_of_text}
+use Rattle.session_lines.specs.Session.{session_of_text, lines_limit}
 use Rattle.session_lines.specs.Words.{bad_line, many_line}
 use Rattle.session_lines.specs.declared.session.Session.{Session}
 use Rattle.session_lines.specs.declared.fault.Word.{Word}
@@ -40,7 +40,7 @@ refused_answer c input e le d = small_answer c input le ∙ ap (answer_with c) d
 pub record Told (c : Task) (input : List ℕ) (st : Status) (text : List ℕ) : Type 0 where
   pub done : st ≡ status.Done → (length input ≤ session_limit) × ((s : Session) × (session_of_text input ≡ Ok s) × Writes c s text)
   pub session : st ≡ status.Session → (length input ≤ session_limit) × ((n : ℕ) × (w : Word) × (session_of_text input ≡ Err (Bad n w)) × (bad_line n w ≡ text))
-  pub large : st ≡ status.TooLarge → ((session_limit < length input) × (large_line ≡ text)) ⊎ ((length input ≤ session_limit) × (1048576 < length (lines_of input)) × (many_line ≡ text))
+  pub large : st ≡ status.TooLarge → ((session_limit < length input) × (large_line ≡ text)) ⊎ ((length input ≤ session_limit) × (lines_limit < length (lines_of input)) × (many_line ≡ text))
   pub kinds : (st ≡ status.Done) ⊎ ((st ≡ status.Session) ⊎ (st ≡ status.TooLarge))
 
 differ : {P : Type 0} (a st b : Status) → a ≡ st → st ≡ b → (a ≡ b → ⊥) → P

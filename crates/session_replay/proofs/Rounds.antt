@@ -12,6 +12,8 @@ use Rattle.session_lines.specs.declared.session.SessionLine.TheVariants.{Give}
 use Rattle.session_maker.specs.Draws.{next}
 use Rattle.session_maker.specs.Made.{gives_behind, gives_of, gives_to, ids_to, last_eight, made_lines, round_of, rounds_from, turn_at}
 use Rattle.session_maker.specs.Turns.{author_of, turn_of}
+use Rattle.op_model.specs.Operations.{last_replica}
+use Rattle.op_model.specs.Domains.{IsReplica}
 use Rattle.op_model.specs.Shown.{text}
 use Rattle.text_buffer.specs.Buffer.{BufferState}
 use Rattle.session_lines.specs.Report.{line_text}
@@ -208,9 +210,9 @@ ids_counted ids n e = ap length e ∙ length-range_with_len 1 n
 pub ids_again : (ids : List ℕ) (n : ℕ) → ids ≡ ids_to n → ids ≡ ids_to (length ids)
 ids_again ids n e = e ∙ ap ids_to (sym (ids_counted ids n e))
 
-ids_from : (k n : ℕ) → 1 ≤ k → k + n ≤ 1024 → All (λ (r : ℕ). (1 ≤ r) × (r ≤ 1023)) (range_with_len k n)
-ids_from k zero h le = All-nil (λ (r : ℕ). (1 ≤ r) × (r ≤ 1023))
-ids_from k (suc n) h le = All-cons (λ (r : ℕ). (1 ≤ r) × (r ≤ 1023)) k (range_with_len (k + 1) n) (h, omega arith) (ids_from (k + 1) n (omega arith) (omega arith))
+ids_from : (k n : ℕ) → 1 ≤ k → k + n ≤ 1024 → All IsReplica (range_with_len k n)
+ids_from k zero h le = All-nil IsReplica
+ids_from k (suc n) h le = All-cons IsReplica k (range_with_len (k + 1) n) (h, omega arith) (ids_from (k + 1) n (omega arith) (omega arith))
 
-pub ids_are_editors : (ids : List ℕ) (n : ℕ) → ids ≡ ids_to n → n ≤ 1023 → All (λ (r : ℕ). (1 ≤ r) × (r ≤ 1023)) ids
-ids_are_editors ids n e le = subst (All (λ (r : ℕ). (1 ≤ r) × (r ≤ 1023))) (sym e) (ids_from 1 n (omega arith) (omega arith))
+pub ids_are_editors : (ids : List ℕ) (n : ℕ) → ids ≡ ids_to n → n ≤ last_replica → All IsReplica ids
+ids_are_editors ids n e le = subst (All IsReplica) (sym e) (ids_from 1 n (omega arith) (omega arith))

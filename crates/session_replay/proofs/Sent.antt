@@ -5,7 +5,7 @@ use Rattle.std.specs.Io.KnownBytes.{Appends}
 use Rattle.session_replay.specs.Causes.{Rose, RoseBy}
 use Rattle.session_replay.specs.Traffic.{AppendsFront, Had, WasRead, WasTaken, session_limit}
 use Rattle.session_lines.specs.Cut.{lines_of}
-use Rattle.session_lines.specs.Session.{session_of_text}
+use Rattle.session_lines.specs.Session.{session_of_text, lines_limit}
 use Rattle.session_lines.specs.Words.{bad_line, many_line}
 use Rattle.session_lines.specs.declared.session.Session.{Session}
 use Rattle.session_lines.specs.declared.fault.Word.{Word}
@@ -72,16 +72,16 @@ module _ (c : Task) (left left_after : Option (List ℕ)) (given given_after end
   abbrev TooLarge : Type 0
   TooLarge =
       (IfSome left (λ input. session_limit < length input) × RoseBy (session_limit + 1) given given_after × Appends written written_after large_line)
-      ⊎ ((input : List ℕ) × WasRead left left_after given given_after ends ends_after input × (1048576 < length (lines_of input)) × Appends written written_after many_line)
+      ⊎ ((input : List ℕ) × WasRead left left_after given given_after ends ends_after input × (lines_limit < length (lines_of input)) × Appends written written_after many_line)
 
-  large_by : r ≡ st → ((session_limit < length a.input) × (large_line ≡ text)) ⊎ ((length a.input ≤ session_limit) × (1048576 < length (lines_of a.input)) × (many_line ≡ text)) → TooLarge
+  large_by : r ≡ st → ((session_limit < length a.input) × (large_line ≡ text)) ⊎ ((length a.input ≤ session_limit) × (lines_limit < length (lines_of a.input)) × (many_line ≡ text)) → TooLarge
   large_by e (inl f) = inl (if_had left a.input (λ input. session_limit < length input) a.taken.had f.0, a.taken.large f.0, wrote e large_line f.1)
   large_by e (inr f) = inr (a.input, a.taken.whole f.0, f.1, wrote e many_line f.2)
 
   pub sent_large : r ≡ status.TooLarge → TooLarge
   sent_large k = let s = same status.TooLarge k (λ x. cc) in large_by s.1 (kept.large s.0)
 
-  large_output : ((session_limit < length a.input) × (large_line ≡ text)) ⊎ ((length a.input ≤ session_limit) × (1048576 < length (lines_of a.input)) × (many_line ≡ text)) → IsOutput c a.input text
+  large_output : ((session_limit < length a.input) × (large_line ≡ text)) ⊎ ((length a.input ≤ session_limit) × (lines_limit < length (lines_of a.input)) × (many_line ≡ text)) → IsOutput c a.input text
   large_output (inl f) = inr (inl (f.0, sym f.1))
   large_output (inr f) = inr (inr (f.0, (Lines (length (lines_of a.input)), session_of_many a.input f.1, sym f.2)))
 

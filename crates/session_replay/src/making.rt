@@ -1,4 +1,5 @@
 //! A session that is made, worked as it is made.
+ghost use Rattle.op_model.specs.Domains.{IsReplica};
 ghost use Rattle.std.specs.Prelude.{◌≡◌, ◌≤◌, ◌<◌, ◌^◌, ◌++◌, [], ◌∷◌, length, ℕ, string_bytes, IfOk, OnOk};
 ghost use Rattle.std.specs.List.{All, flat_map, range_with_len};
 ghost use Rattle.session_maker.specs.Made.{gives_behind, gives_to, ids_to, rounds_from};
@@ -33,7 +34,7 @@ pub struct Making {
 impl Making {
     fn new(alloc: Global, seed: u32, ids: &[u16]) -> Result<Making, OutOfMemory>
         requires ids { ids.now ≡ ids_to (length ids.now) }
-        requires editors { All (λ (r : ℕ). (1 ≤ r) × (r ≤ 1023)) ids.now }
+        requires editors { All IsReplica ids.now }
         ensures state { IfOk result (λ m. work_state m ≡ made_opening (length ids.now)) }
         ensures draws { IfOk result (λ m. m.draws ≡ seed) }
         ensures lines { IfOk result (λ m. m.lines.items ≡ []) }

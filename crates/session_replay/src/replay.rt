@@ -2,6 +2,7 @@
 ghost use Rattle.std.specs.Prelude.{◌≡◌, ◌≤◌, ◌+◌, ◌^◌, ◌++◌, ◌==◌, [], ◌∷◌, is_some, length, map, ℕ, Some, IfOk, OnOk};
 ghost use Rattle.std.specs.Option.{option_copied, option_map, option_to_list};
 ghost use Rattle.std.specs.List.{All, count_by, flat_map, position};
+ghost use Rattle.op_model.specs.Domains.{IsReplica};
 ghost use Rattle.op_model.specs.Operations.{stamp_of};
 ghost use Rattle.session_lines.specs.Report.{report_text};
 ghost use Rattle.session_lines.specs.Session.{IsSession};
@@ -327,7 +328,7 @@ impl Progress {
 impl Progress {
     /// Replicas over a base, which have done nothing yet.
     pub fn new(alloc: Global, ids: &[u16], base: &str) -> Result<Progress, OutOfMemory>
-        requires ids { All (λ (r : ℕ). (1 ≤ r) × (r ≤ 1023)) ids.now }
+        requires ids { All IsReplica ids.now }
         requires base { length base.now ≤ session_limit }
         ensures buffers { IfOk result (λ p. p.replicas ≡ map (first_buffer base.now) ids.now) }
         ensures operations { IfOk result (λ p. p.operations.items ≡ []) }

@@ -1,4 +1,5 @@
 //! The replicas of a session, which are found by their ids.
+ghost use Rattle.op_model.specs.Domains.{IsReplica};
 ghost use Rattle.std.specs.Prelude.{◌≡◌, ◌≤◌, ◌<◌, ◌++◌, ◌==◌, ℕ, None, get_or, length, map, All, IfOk, OnOk};
 ghost use Rattle.std.specs.Option.{option_and_then, option_copied, option_map};
 ghost use Rattle.std.specs.Result.{result_ok};
@@ -43,7 +44,7 @@ impl Replicas {
     /// The replicas over a base, which is made ready once for all of them. Takes the time of that, and of a walk along the ids for
     /// each id of the table.
     pub fn over(alloc: Global, ids: &[u16], base: &str) -> Result<Replicas, OutOfMemory>
-        requires ids { All (λ (r : ℕ). (1 ≤ r) × (r ≤ 1023)) ids.now }
+        requires ids { All IsReplica ids.now }
         requires base { length base.now ≤ session_limit }
         ensures { IfOk result (λ r. r ≡ map (first_buffer base.now) ids.now) }
     {
@@ -177,7 +178,7 @@ fn indices_of(alloc: Global, ids: &[u16]) -> Result<Vec<Option<usize>>, OutOfMem
 
 /// The replicas over the base, which is made ready once for all of them.
 fn replicas_over(alloc: Global, ids: &[u16], base: &str) -> Result<Vec<Replica>, OutOfMemory>
-    requires ids { All (λ (r : ℕ). (1 ≤ r) × (r ≤ 1023)) ids.now }
+    requires ids { All IsReplica ids.now }
     requires base { length base.now ≤ session_limit }
     ensures { IfOk result (λ v. v.items ≡ map (first_buffer base.now) ids.now) }
 {
@@ -189,7 +190,7 @@ fn replicas_over(alloc: Global, ids: &[u16], base: &str) -> Result<Vec<Replica>,
 
 /// The replicas over a base that they share.
 fn open_replicas(alloc: Global, ids: &[u16], base: &Base) -> Result<Vec<Replica>, OutOfMemory>
-    requires ids { All (λ (r : ℕ). (1 ≤ r) × (r ≤ 1023)) ids.now }
+    requires ids { All IsReplica ids.now }
     requires base { length base.now ≤ session_limit }
     ensures { IfOk result (λ v. v.items ≡ map (first_buffer base.now) ids.now) }
 {

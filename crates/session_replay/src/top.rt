@@ -7,7 +7,7 @@ ghost use Rattle.command_words.specs.Words.{clap_takes, command_of};
 ghost use Rattle.command_words.specs.declared.command.Command.{Command};
 ghost use Rattle.command_words.specs.declared.command.Task.{Task};
 ghost use Rattle.session_lines.specs.Cut.{lines_of};
-ghost use Rattle.session_lines.specs.Session.{IsSession, session_of_text};
+ghost use Rattle.session_lines.specs.Session.{IsSession, session_of_text, lines_limit};
 ghost use Rattle.session_lines.specs.Words.{bad_line, many_line};
 ghost use Rattle.session_lines.specs.Report.{session_counts, line_text};
 ghost use Rattle.session_replay.specs.Making.{Makes};
@@ -200,7 +200,7 @@ fn work<R: Threads + Wait + Sync, I: Source, O: Sink, G: Gate>(
         ⊎ ((input : List ℕ)
         × WasRead (I.left src.old) (I.left src.new) (I.given src.old) (I.given src.new)
         (I.ends src.old) (I.ends src.new) input
-        × (1048576 < length (lines_of input))
+        × (lines_limit < length (lines_of input))
         × Appends (O.written out.old) (O.written out.new) many_line) }
     ensures bounded { I.given src.new ≤ I.given src.old + (session_limit + 1) }
     ensures read_fault { result ≡ Status.ReadFault
@@ -310,7 +310,7 @@ pub fn run<R: Threads + Wait + Sync, I: Source, O: Sink, G: Gate>(
         ⊎ ((input : List ℕ)
         × WasRead (I.left src.old) (I.left src.new) (I.given src.old) (I.given src.new)
         (I.ends src.old) (I.ends src.new) input
-        × (1048576 < length (lines_of input))
+        × (lines_limit < length (lines_of input))
         × Appends (O.written out.old) (O.written out.new) many_line) }
     ensures bounded { I.given src.new ≤ I.given src.old + (session_limit + 1) }
 

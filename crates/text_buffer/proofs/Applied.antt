@@ -15,7 +15,7 @@ use Rattle.op_model.specs.declared.operation.UndoOp.{UndoOp}
 use Rattle.op_model.specs.declared.faults.OpFault.TheVariants.{Full}
 use Rattle.op_model.specs.Sorted.{Ascending, insert_by}
 use Rattle.op_model.specs.Domains.{IsProper}
-use Rattle.op_model.specs.Operations.{text_total, stamp_of, pieces_of, bytes_of, entries_of}
+use Rattle.op_model.specs.Operations.{text_total, stamp_of, pieces_of, bytes_of, entries_of, text_limit}
 use Rattle.op_model.specs.Histories.{History, version, clock, bytes_held, entries_held, operation_at}
 use Rattle.op_model.specs.Limited.{Excess, excess}
 use Rattle.op_model.specs.Answers.{answer, shape_fault, any_stamp}
@@ -40,8 +40,8 @@ use Rattle.text_buffer.proofs.Lengths.{text_length}
 use Rattle.text_buffer.proofs.Waiting.{ascends, unlike_waiting}
 
 -- what the shape of an operation bounds
-pub total_of : (op : Operation) → shape_fault op ≡ None → text_total (pieces_of op) ≤ 65536
-total_of op e = ltb-false 65536 (text_total (pieces_of op)) (shaped op e).limit
+pub total_of : (op : Operation) → shape_fault op ≡ None → text_total (pieces_of op) ≤ text_limit
+total_of op e = ltb-false text_limit (text_total (pieces_of op)) (shaped op e).limit
 
 pub shape_of : (h w : History) (op : Operation) → answer h w op ≡ Good → shape_fault op ≡ None
 shape_of h w op g = (passed h w op g).shape

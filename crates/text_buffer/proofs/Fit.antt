@@ -8,7 +8,7 @@ use Rattle.op_model.specs.declared.faults.EditFault.{EditFault}
 use Rattle.op_model.specs.declared.faults.EditFault.TheVariants.{TextLimit, ClockEnd, Full}
 use Rattle.op_model.specs.declared.faults.Unit.TheVariants.{Bytes, Entries}
 use Rattle.op_model.specs.Choice.{when}
-use Rattle.op_model.specs.Operations.{text_total}
+use Rattle.op_model.specs.Operations.{text_total, text_limit}
 use Rattle.op_model.specs.Histories.{History, clock, bytes_held, entries_held}
 use Rattle.op_model.specs.Limited.{Excess, excess}
 use Rattle.op_model.specs.Edits.{piece_fault}
@@ -22,7 +22,7 @@ full e = Full e.unit e.held e.adds
 -- what an edit that meets no fault meets none of
 meets_none : (b : BufferState) (ps : List Piece) → edit_fault b ps ≡ None → (piece_fault (text b.history) ps ≡ None) × (excess b.limits b.history (text_total ps) (1 + length ps) ≡ None)
 meets_none b ps e =
-    let long = when (nat_lt 65536 (text_total ps)) (TextLimit (text_total ps)) in
+    let long = when (nat_lt text_limit (text_total ps)) (TextLimit (text_total ps)) in
     let late = when (clock b.history == 4294967295) ClockEnd in
     let over = excess b.limits b.history (text_total ps) (1 + length ps) in
     let none = all_none (piece_fault (text b.history) ps ∷ long ∷ late ∷ option_map full over ∷ []) e in

@@ -16,7 +16,7 @@ use Rattle.op_model.specs.declared.faults.UndoFault.TheVariants as undo_faults
 use Rattle.op_model.specs.declared.faults.UndoFault.{UndoFault}
 use Rattle.op_model.specs.declared.faults.OpFault.TheVariants.{NoSuchEdit}
 use Rattle.op_model.specs.Choice.{when}
-use Rattle.op_model.specs.Operations.{text_total}
+use Rattle.op_model.specs.Operations.{text_total, text_limit}
 use Rattle.op_model.specs.Histories.{History, newest_first, clock, has_edit}
 use Rattle.op_model.specs.Limited.{excess}
 use Rattle.op_model.specs.Domains.{IsReplica}
@@ -248,7 +248,7 @@ module _ (h : History) where
 pub record Sound (h : History) (ps : List Piece) : Type 0 where
   pub ordered : Ordered 0 (length (text h)) ps
   pub inside : AllByRecursion (λ (p : Piece). is_inside (text h) p ≡ false) ps
-  pub total : ltb 65536 (text_total ps) ≡ false
+  pub total : ltb text_limit (text_total ps) ≡ false
   pub open_clock : eqb (clock h) 4294967295 ≡ false
 
 pub sound : (l : LimitsType) (h : History) (ps : List Piece) → local_edit_fault l h ps ≡ None → Sound h ps
@@ -265,7 +265,7 @@ sound l h ps e =
       ordered = ordered_from len 0 0 ps (position_none (is_past len) ps (map_none (λ i. edit_faults.PastEnd i len) (position (is_past len) ps) p3.0))
           (position_none is_reversed ps (map_none edit_faults.Reversed (position is_reversed ps) p1.0)) (map_none edit_faults.Overlap (overlap_from 0 0 ps) p2.0) (omega arith);
       inside = position_none (is_inside (text h)) ps (map_none edit_faults.InsideChar (position (is_inside (text h)) ps) p4.0);
-      total = when_none (ltb 65536 (text_total ps)) (edit_faults.TextLimit (text_total ps)) s2.0;
+      total = when_none (ltb text_limit (text_total ps)) (edit_faults.TextLimit (text_total ps)) s2.0;
       open_clock = when_none (eqb (clock h) 4294967295) edit_faults.ClockEnd s3.0;
     }
 
@@ -293,7 +293,7 @@ made_good h r ps l st w i s =
       shape = well_shaped op (record {
         stamp = own_stamp h l st s.open_clock r op i o;
         base = own_base h l st s.open_clock r op o;
-        limit = subst (λ (n : ℕ). ltb 65536 n ≡ false) (sym (total_full h ps)) s.total;
+        limit = subst (λ (n : ℕ). ltb text_limit n ≡ false) (sym (total_full h ps)) s.total;
         forward = forward_full h 0 ps s.ordered;
         apart = apart_full h 0 0 0 ps s.ordered (λ q k. omega arith);
       });

@@ -11,7 +11,7 @@ use Rattle.lamport_clock.specs.Versions.{Entries, entry, sees, within, put_entry
 use Rattle.op_model.specs.declared.operation.Operation.{Operation}
 use Rattle.op_model.specs.declared.operation.Operation.TheVariants.{Edit, Undo}
 use Rattle.op_model.specs.declared.faults.OpFault.TheVariants.{Forked}
-use Rattle.op_model.specs.Operations.{stamp_of, version_of}
+use Rattle.op_model.specs.Operations.{stamp_of, version_of, last_replica}
 use Rattle.op_model.specs.Histories.{History, version, clock}
 use Rattle.op_model.specs.Domains.{IsReplica}
 use Rattle.op_model.specs.Answers.{bad_stamp, no_base, any_equal, any_stamp, same_op, same_version, same_list, same_piece, same_count, fork_fault, first_missing, open_replica, is_entry_closed}
@@ -62,7 +62,7 @@ equal_stamps (Undo a) (Undo b) e = (and_parts (same_stamp a.stamp b.stamp) (same
 -- what the stamps of a lawful history are
 pub record Stamps (h : History) : Type 0 where
   pub values : AllByRecursion (λ (o : Operation). ((stamp_of o).value < 4294967296) × ((stamp_of o).replica < 65536)) h
-  pub small : AllByRecursion (λ (o : Operation). (stamp_of o).replica ≤ 1023) h
+  pub small : AllByRecursion (λ (o : Operation). (stamp_of o).replica ≤ last_replica) h
   pub base_value : greatest h 0 ≡ 1
 
 pub stamps_of : (h : History) → Lawful h → InRange h → Stamps h
@@ -75,7 +75,7 @@ stamps_of (op ∷ ops) l r =
     let g : greatest ops 0 ≡ 0 = greatest_none ops (each_map Stamped (λ (o : Operation). 0 < (stamp_of o).replica) (λ o x. x.author) ops s) in
     record {
       values = ((r.0, omega arith), each_map Stamped (λ (o : Operation). ((stamp_of o).value < 4294967296) × ((stamp_of o).replica < 65536)) (λ o x. ((let a = x.under in omega arith), (let a = x.small in omega arith))) ops s);
-      small = (omega arith, each_map Stamped (λ (o : Operation). (stamp_of o).replica ≤ 1023) (λ o x. x.small) ops s);
+      small = (omega arith, each_map Stamped (λ (o : Operation). (stamp_of o).replica ≤ last_replica) (λ o x. x.small) ops s);
       base_value = rw (q, v, g) refl;
     }
 
@@ -92,8 +92,8 @@ module _ (h : History) (l : Lawful h) (st : Stamps h) (open_clock : eqb (clock h
   entries : AllByRecursion (λ (e : ℕ × ℕ). entry (version h) e.0 ≡ e.1) (version h)
   entries = own_entries 0 (version h) (version_is h st.values)
 
-  small_ids : AllByRecursion (λ (e : ℕ × ℕ). ltb 1023 e.0 ≡ false) (version h)
-  small_ids = each_map (λ (e : ℕ × ℕ). e.0 ≤ 1023) (λ (e : ℕ × ℕ). ltb 1023 e.0 ≡ false) (λ e a. le-ltb 1023 e.0 a) (version h) (version_each (λ n. n ≤ 1023) h st.small)
+  small_ids : AllByRecursion (λ (e : ℕ × ℕ). ltb last_replica e.0 ≡ false) (version h)
+  small_ids = each_map (λ (e : ℕ × ℕ). e.0 ≤ last_replica) (λ (e : ℕ × ℕ). ltb last_replica e.0 ≡ false) (λ e a. le-ltb last_replica e.0 a) (version h) (version_each (λ n. n ≤ last_replica) h st.small)
 
   below_clock : AllByRecursion (λ (e : ℕ × ℕ). leb (clock h) e.1 ≡ false) (version h)
   below_clock = each_map (λ (e : ℕ × ℕ). entry (version h) e.0 ≡ e.1) (λ (e : ℕ × ℕ). leb (clock h) e.1 ≡ false)
@@ -106,15 +106,15 @@ module _ (h : History) (l : Lawful h) (st : Stamps h) (open_clock : eqb (clock h
   own_stamp r op i o = subst (λ (t : Lamport). bad t (version_of op) ≡ false) (sym o.0) (subst (λ (v : Entries). bad (record { value = clock h; replica = r }) v ≡ false) (sym o.1) good)
     where
       bad : Lamport → Entries → Bool
-      bad t v = eqb t.value 0 || eqb t.value 4294967295 || eqb t.replica 0 || ltb 1023 t.replica || list_any (λ e. ltb 1023 e.0) v || list_any (λ e. leb t.value e.1) v
+      bad t v = eqb t.value 0 || eqb t.value 4294967295 || eqb t.replica 0 || ltb last_replica t.replica || list_any (λ e. ltb last_replica e.0) v || list_any (λ e. leb t.value e.1) v
 
       good : bad (record { value = clock h; replica = r }) (version h) ≡ false
       good = rw (
         apart_zero (clock h) some,
         open_clock,
         apart_zero r (let a = i.0 in omega arith),
-        le-ltb 1023 r i.1,
-        none_any (λ e. ltb 1023 e.0) (version h) small_ids,
+        le-ltb last_replica r i.1,
+        none_any (λ e. ltb last_replica e.0) (version h) small_ids,
         none_any (λ e. leb (clock h) e.1) (version h) below_clock,
       ) refl
 

@@ -9,7 +9,7 @@ use Rattle.op_model.specs.declared.operation.Piece.{Piece}
 use Rattle.op_model.specs.declared.faults.OpFault.{OpFault}
 use Rattle.op_model.specs.declared.faults.OpFault.TheVariants.{BadStamp, NoBase, TextLimit, Reversed, Overlap, Conflict, OpenVersion, PastEnd, InsideChar}
 use Rattle.op_model.specs.Choice.{first_of, when}
-use Rattle.op_model.specs.Operations.{version_of, pieces_of, counts_of, stamp_of, text_total}
+use Rattle.op_model.specs.Operations.{version_of, pieces_of, counts_of, stamp_of, text_total, text_limit, last_replica}
 use Rattle.op_model.specs.Histories.{History, seen_history}
 use Rattle.op_model.specs.Edits.{is_reversed, overlap_from, is_past, is_inside}
 use Rattle.op_model.specs.Shown.{full}
@@ -113,17 +113,17 @@ pub record StampTests (op : Operation) : Type 0 where
   pub some : eqb (stamp_of op).value 0 ≡ false
   pub under : eqb (stamp_of op).value 4294967295 ≡ false
   pub author : eqb (stamp_of op).replica 0 ≡ false
-  pub small : ltb 1023 (stamp_of op).replica ≡ false
-  pub ids : AllByRecursion (λ (x : ℕ × ℕ). ltb 1023 x.0 ≡ false) (version_of op)
+  pub small : ltb last_replica (stamp_of op).replica ≡ false
+  pub ids : AllByRecursion (λ (x : ℕ × ℕ). ltb last_replica x.0 ≡ false) (version_of op)
   pub above : AllByRecursion (λ (x : ℕ × ℕ). leb (stamp_of op).value x.1 ≡ false) (version_of op)
 
 pub stamp_tests : (op : Operation) → bad_stamp op ≡ false → StampTests op
 stamp_tests op e =
     let t : Lamport = stamp_of op in
     let v : Entries = version_of op in
-    let b5 = or_parts (eqb t.value 0 || eqb t.value 4294967295 || eqb t.replica 0 || ltb 1023 t.replica || list_any (λ x. ltb 1023 x.0) v) (list_any (λ x. leb t.value x.1) v) e in
-    let b4 = or_parts (eqb t.value 0 || eqb t.value 4294967295 || eqb t.replica 0 || ltb 1023 t.replica) (list_any (λ x. ltb 1023 x.0) v) b5.0 in
-    let b3 = or_parts (eqb t.value 0 || eqb t.value 4294967295 || eqb t.replica 0) (ltb 1023 t.replica) b4.0 in
+    let b5 = or_parts (eqb t.value 0 || eqb t.value 4294967295 || eqb t.replica 0 || ltb last_replica t.replica || list_any (λ x. ltb last_replica x.0) v) (list_any (λ x. leb t.value x.1) v) e in
+    let b4 = or_parts (eqb t.value 0 || eqb t.value 4294967295 || eqb t.replica 0 || ltb last_replica t.replica) (list_any (λ x. ltb last_replica x.0) v) b5.0 in
+    let b3 = or_parts (eqb t.value 0 || eqb t.value 4294967295 || eqb t.replica 0) (ltb last_replica t.replica) b4.0 in
     let b2 = or_parts (eqb t.value 0 || eqb t.value 4294967295) (eqb t.replica 0) b3.0 in
     let b1 = or_parts (eqb t.value 0) (eqb t.value 4294967295) b2.0 in
     record {
@@ -131,7 +131,7 @@ stamp_tests op e =
       under = b1.1;
       author = b2.1;
       small = b3.1;
-      ids = any_none (λ x. ltb 1023 x.0) v b4.1;
+      ids = any_none (λ x. ltb last_replica x.0) v b4.1;
       above = any_none (λ x. leb t.value x.1) v b5.1;
     }
 
@@ -218,7 +218,7 @@ good h w op p = ap (λ (o : Option Answer). unwrap_or o Good) none
 pub record Shaped (op : Operation) : Type 0 where
   pub stamp : bad_stamp op ≡ false
   pub base : no_base op ≡ false
-  pub limit : ltb 65536 (text_total (pieces_of op)) ≡ false
+  pub limit : ltb text_limit (text_total (pieces_of op)) ≡ false
   pub forward : AllByRecursion (λ (p : Piece). is_reversed p ≡ false) (pieces_of op)
   pub apart : overlap_from 0 0 (pieces_of op) ≡ None
 
@@ -232,7 +232,7 @@ shaped op e =
     record {
       stamp = when_none (bad_stamp op) BadStamp s1.0;
       base = when_none (no_base op) NoBase s2.0;
-      limit = when_none (ltb 65536 (text_total (pieces_of op))) (TextLimit (text_total (pieces_of op))) s3.0;
+      limit = when_none (ltb text_limit (text_total (pieces_of op))) (TextLimit (text_total (pieces_of op))) s3.0;
       forward = position_none is_reversed (pieces_of op) (map_none Reversed (position is_reversed (pieces_of op)) s4.0);
       apart = map_none Overlap (overlap_from 0 0 (pieces_of op)) s5.0;
     }
@@ -240,7 +240,7 @@ shaped op e =
 pub well_shaped : (op : Operation) → Shaped op → shape_fault op ≡ None
 well_shaped op p = first_past _ _ (none_when (bad_stamp op) BadStamp p.stamp)
     ∙ first_past _ _ (none_when (no_base op) NoBase p.base)
-    ∙ first_past _ _ (none_when (ltb 65536 (text_total (pieces_of op))) (TextLimit (text_total (pieces_of op))) p.limit)
+    ∙ first_past _ _ (none_when (ltb text_limit (text_total (pieces_of op))) (TextLimit (text_total (pieces_of op))) p.limit)
     ∙ first_past _ _ (none_map Reversed (position is_reversed (pieces_of op)) (none_position is_reversed (pieces_of op) p.forward))
     ∙ first_past _ _ (none_map Overlap (overlap_from 0 0 (pieces_of op)) p.apart)
 

@@ -9,7 +9,7 @@ use Rattle.lamport_clock.specs.Clocks.{clock_after}
 use Rattle.lamport_clock.specs.Versions.{Entries, IsVersion, IsVersionFrom, entry, sees, within, raise}
 use Rattle.lamport_clock.proofs.Entries.{IsVersion-put}
 use Rattle.op_model.specs.declared.operation.Operation.{Operation}
-use Rattle.op_model.specs.Operations.{stamp_of, version_of}
+use Rattle.op_model.specs.Operations.{stamp_of, version_of, last_replica}
 use Rattle.op_model.specs.Histories.{History, In, version, clock_from, clock, kept_history, seen_history}
 use Rattle.op_model.specs.Answers.{answer, bad_stamp}
 use Rattle.op_model.specs.Answers.Answer.{Good}
@@ -50,8 +50,8 @@ pub record Stamped (op : Operation) : Type 0 where
   pub some : 0 < (stamp_of op).value
   pub under : (stamp_of op).value < 4294967295
   pub author : 0 < (stamp_of op).replica
-  pub small : (stamp_of op).replica ≤ 1023
-  pub ids : AllByRecursion (λ (x : ℕ × ℕ). ltb 1023 x.0 ≡ false) (version_of op)
+  pub small : (stamp_of op).replica ≤ last_replica
+  pub ids : AllByRecursion (λ (x : ℕ × ℕ). ltb last_replica x.0 ≡ false) (version_of op)
   pub above : AllByRecursion (λ (x : ℕ × ℕ). leb (stamp_of op).value x.1 ≡ false) (version_of op)
 
 pub stamped : (op : Operation) → (stamp_of op).value < 4294967296 → bad_stamp op ≡ false → Stamped op
@@ -62,7 +62,7 @@ stamped op l e =
       some = positive t.value s.some;
       under = apart_end t.value s.under (omega arith);
       author = positive t.replica s.author;
-      small = ltb-false 1023 t.replica s.small;
+      small = ltb-false last_replica t.replica s.small;
       ids = s.ids;
       above = s.above;
     }
