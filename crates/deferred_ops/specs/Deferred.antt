@@ -75,8 +75,9 @@ KeepsCauses s n = (q : Cause) → has_cause s q ≡ true → has_cause n q ≡ t
 
 -- a cause is listed in place of another
 abbrev pub ListsFor : Causes → Causes → Cause → Cause → Type 0
-ListsFor s n seen missed =
-    (q : Cause) → has_cause n q ≡ (if is_at (cause_order missed) q then true else (if is_at (cause_order seen) q then false else has_cause s q))
+ListsFor s n seen missed = (q : Cause) → has_cause n q
+    ≡ (if is_at (cause_order missed) q then true
+    else (if is_at (cause_order seen) q then false else has_cause s q))
 
 -- no operation of the list is ready
 abbrev pub NoneReady : Entries → List Operation → Type 0

@@ -5,7 +5,8 @@ use Rattle.lamport_clock.specs.Versions.{Entries, IsVersion, within, first_unsee
 -- a join is the least version that both lie within
 abbrev pub JoinIsLeast : Type 0
 JoinIsLeast = (u v w : Entries) → IsVersion u → IsVersion v
-    → (within u (join_versions u v) ≡ true) × (within v (join_versions u v) ≡ true) × (within u w ≡ true → within v w ≡ true → within (join_versions u v) w ≡ true)
+    → (within u (join_versions u v) ≡ true) × (within v (join_versions u v) ≡ true)
+    × (within u w ≡ true → within v w ≡ true → within (join_versions u v) w ≡ true)
 
 -- there is no first entry unseen exactly where one version lies within the other
 abbrev pub NoneUnseen : Type 0

@@ -76,4 +76,5 @@ IsAt v i r = (i < length v) × ((slice_index_or v i (0, 0)).0 ≡ r)
 
 -- as many entries, of the same replicas
 abbrev pub OfSameReplicas : Entries → Entries → Type 0
-OfSameReplicas u v = (length u ≡ length v) × ((k : ℕ) → k < length u → (slice_index_or u k (0, 0)).0 ≡ (slice_index_or v k (0, 0)).0)
+OfSameReplicas u v = (length u ≡ length v)
+    × ((k : ℕ) → k < length u → (slice_index_or u k (0, 0)).0 ≡ (slice_index_or v k (0, 0)).0)

@@ -66,7 +66,8 @@ compare_anchors h a b = ordering_then (nat_cmp (gap h a).0 (gap h b).0) (nat_cmp
 unfoldable pub is_known : History → Anchor → Bool
 is_known h Least = true
 is_known h Greatest = true
-is_known h (At t k Left) = has_edit h t && is_boundary (new_bytes h t) k && nat_le 1 k && nat_le k (length (new_bytes h t))
+is_known h (At t k Left) = has_edit h t && is_boundary (new_bytes h t) k && nat_le 1 k
+    && nat_le k (length (new_bytes h t))
 is_known h (At t k Right) = has_edit h t && is_boundary (new_bytes h t) k && nat_lt k (length (new_bytes h t))
 
 -- why no anchor is made at an offset: it passes the text's length, or it is inside a character

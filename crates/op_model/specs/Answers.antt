@@ -58,10 +58,12 @@ same_count c d = same_stamp c.edit d.edit && c.count == d.count
 
 -- two operations are equal
 abbrev pub same_op : Operation → Operation → Bool
-same_op (Edit a) (Edit b) = same_stamp a.stamp b.stamp && same_version a.version b.version && same_list same_piece a.pieces b.pieces
+same_op (Edit a)
+    (Edit b) = same_stamp a.stamp b.stamp && same_version a.version b.version && same_list same_piece a.pieces b.pieces
 same_op (Edit a) (Undo b) = false
 same_op (Undo a) (Edit b) = false
-same_op (Undo a) (Undo b) = same_stamp a.stamp b.stamp && same_version a.version b.version && same_list same_count a.counts b.counts
+same_op (Undo a)
+    (Undo b) = same_stamp a.stamp b.stamp && same_version a.version b.version && same_list same_count a.counts b.counts
 
 -- h has an operation equal to op
 abbrev pub any_equal : History → Operation → Bool
@@ -82,7 +84,8 @@ first_missing h v = first_unseen (version h) v
 
 -- the operation that the entry names is in h, and its version lies within v
 abbrev pub is_entry_closed : History → Entries → ℕ × ℕ → Bool
-is_entry_closed h v e = list_any (λ o. same_stamp (stamp_of o) (record { value = e.1; replica = e.0 }) && within (version_of o) v) h
+is_entry_closed h v e = list_any
+    (λ o. same_stamp (stamp_of o) (record { value = e.1; replica = e.0 }) && within (version_of o) v) h
 
 -- the first, so the least, replica at which v has an entry that is not closed
 abbrev pub open_replica : History → Entries → Option ℕ

@@ -14,15 +14,18 @@ use Rattle.op_model.specs.Steps.Step.{Edits, Undoes, Takes, Settles}
 
 -- the operation that a call of replica r makes or takes at s, if it makes or takes one
 abbrev pub operation_of_call : LimitsType → ℕ → Step → State → Option Operation
-operation_of_call l r (Edits ps) s = if is_some (local_edit_fault l s.history ps) then None else Some (local_edit s.history r ps)
-operation_of_call l r (Undoes ts) s = if is_some (local_undo_fault l s.history ts) then None else Some (local_undo s.history r ts)
+operation_of_call l r (Edits ps) s = if is_some (local_edit_fault l s.history ps) then None
+    else Some (local_edit s.history r ps)
+operation_of_call l r (Undoes ts) s = if is_some (local_undo_fault l s.history ts) then None
+    else Some (local_undo s.history r ts)
 operation_of_call l r (Takes op) s = Some op
 operation_of_call l r Settles s = None
 
 -- all that a list of calls makes and takes
 abbrev pub operations_of_calls : LimitsType → ℕ → List Step → State → List Operation
 operations_of_calls l r [] s = []
-operations_of_calls l r (c ∷ cs) s = option_to_list (operation_of_call l r c s) ++ operations_of_calls l r cs (step l r c s)
+operations_of_calls l r (c ∷ cs) s = option_to_list (operation_of_call l r c s)
+    ++ operations_of_calls l r cs (step l r c s)
 
 -- the limits are not why an operation is refused that a call takes at s; an edit or undo that they refuse is not made
 abbrev pub TakesNoFull : LimitsType → Step → State → Type 0

@@ -21,7 +21,8 @@ replace_ranges ps text = replaced_from 0 ps text
 
 -- a character begins there, or the text ends (RFC 3629: a byte that continues a character is 128 to 191)
 abbrev pub is_boundary : List ℕ → ℕ → Bool
-is_boundary text i = nat_le i (length text) && (nat_le (length text) i || (nat_lt (slice_index text i) 128 || nat_le 192 (slice_index text i)))
+is_boundary text i = nat_le i (length text) &&
+    (nat_le (length text) i || (nat_lt (slice_index text i) 128 || nat_le 192 (slice_index text i)))
 
 abbrev pub is_reversed : Piece → Bool
 is_reversed p = nat_lt p.end p.start

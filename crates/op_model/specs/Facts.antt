@@ -25,12 +25,21 @@ cell_facts h = map (fact h) (cells (seq h))
 
 -- the cell of q stands directly behind that of p in the texts of one edit, and the same is told of both
 abbrev pub Continues : Fact → Fact → Type 0
-Continues p q = q ≡ record { cell = record { stamp = p.cell.stamp; k = suc p.cell.k }; visible = p.visible; deletions = p.deletions }
+Continues p q = q ≡ record {
+  cell = record {
+    stamp = p.cell.stamp;
+    k = suc p.cell.k;
+  };
+  visible = p.visible;
+  deletions = p.deletions;
+}
 
 -- n cells of edit t from k on, of which one thing is told
 abbrev pub alike : Lamport → ℕ → ℕ → Bool → List Lamport → List Fact
 alike t k zero v d = []
-alike t k (suc n) v d = record { cell = record { stamp = t; k = k }; visible = v; deletions = d } ∷ alike t (suc k) n v d
+alike t k
+    (suc n) v d = record { cell = record { stamp = t; k = k }; visible = v; deletions = d } ∷ alike t
+    (suc k) n v d
 
 -- stamps descend
 abbrev pub stamp_first : Lamport → Lamport → Bool
@@ -84,7 +93,11 @@ pub record Marking : Type 0 where
   pub deletions : Lamport → List Lamport → List Lamport
 
 abbrev pub mark : Marking → Fact → Fact
-mark m q = record { cell = q.cell; visible = m.visible q.cell.stamp q.visible q.deletions; deletions = m.deletions q.cell.stamp q.deletions }
+mark m q = record {
+  cell = q.cell;
+  visible = m.visible q.cell.stamp q.visible q.deletions;
+  deletions = m.deletions q.cell.stamp q.deletions;
+}
 
 -- those that pass, counted from i, are marked where their number is hit
 abbrev pub marks : Marking → (Lamport → Bool) → (ℕ → Bool) → ℕ → List Fact → List Fact

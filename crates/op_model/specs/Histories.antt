@@ -15,7 +15,11 @@ History = List Operation
 
 -- the base: edit 1.0 with an empty version and one piece 0..0
 abbrev pub base : List ℕ → Operation
-base t = Edit (record { stamp = record { value = 1; replica = 0 }; version = []; pieces = record { start = 0; end = 0; text = t } ∷ [] })
+base t = Edit (record {
+  stamp = record { value = 1; replica = 0 };
+  version = [];
+  pieces = record { start = 0; end = 0; text = t } ∷ [];
+})
 
 -- the greatest value for each replica
 abbrev pub version : History → Entries

@@ -16,5 +16,6 @@ pub record Excess : Type 0 where
 abbrev pub excess : LimitsType → History → ℕ → ℕ → Option Excess
 excess l h bytes entries = first_of (
     when (nat_lt l.bytes (bytes_held h + bytes)) (record { unit = Bytes; held = bytes_held h; adds = bytes })
-    ∷ when (nat_lt l.entries (entries_held h + entries)) (record { unit = Entries; held = entries_held h; adds = entries })
+    ∷ when (nat_lt l.entries (entries_held h + entries))
+    (record { unit = Entries; held = entries_held h; adds = entries })
     ∷ [])

@@ -32,14 +32,22 @@ full_piece h p =
 
 -- the edit that replica r, 1 to 1023, makes at h, where it meets no fault
 unfoldable pub local_edit : History → ℕ → List Piece → Operation
-local_edit h r ps = Edit (record { stamp = record { value = clock h; replica = r }; version = version h; pieces = map (full_piece h) ps })
+local_edit h r ps = Edit (record {
+  stamp = record { value = clock h; replica = r };
+  version = version h;
+  pieces = map (full_piece h) ps;
+})
 
 abbrev pub next_count : History → Lamport → UndoCount
 next_count h t = record { edit = t; count = count h t + 1 }
 
 -- the undo of the edits that replica r, 1 to 1023, makes at h, where it meets no fault
 unfoldable pub local_undo : History → ℕ → List Lamport → Operation
-local_undo h r ts = Undo (record { stamp = record { value = clock h; replica = r }; version = version h; counts = map (next_count h) ts })
+local_undo h r ts = Undo (record {
+  stamp = record { value = clock h; replica = r };
+  version = version h;
+  counts = map (next_count h) ts;
+})
 
 -- the first stamp that stands in the list before too
 abbrev pub first_twice : List Lamport → List Lamport → Option Lamport

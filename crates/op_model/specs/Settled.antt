@@ -62,7 +62,11 @@ unfoldable pub passes : ℕ → LimitsType → History → List Operation → St
 passes zero l h w = record { history = h; waiting = w; refused = [] }
 passes (suc n) l h w = let s : State = pass l h w in
     if length s.history == length h then s
-    else (let r : State = passes n l s.history s.waiting in record { history = r.history; waiting = r.waiting; refused = s.refused ++ r.refused })
+    else (let r : State = passes n l s.history s.waiting in record {
+      history = r.history;
+      waiting = r.waiting;
+      refused = s.refused ++ r.refused;
+    })
 
 -- h, w, which stands by stamps, and the refused after settling: passes until one applies nothing. Each pass but the last
 -- applies at least one of w, so one more than w has are enough

@@ -65,7 +65,8 @@ shown h c = shown_where everything (newest_first h) c
 
 -- op, of h, deletes c: c stands at a range of op in the sequence of what op's version sees, and is shown there
 abbrev pub deletes : History → Operation → Cell → Bool
-deletes h op c = in_ranges (seq (seen_history h (version_of op))) 0 (pieces_of op) c && shown (seen_history h (version_of op)) c
+deletes h op c = in_ranges (seq (seen_history h (version_of op))) 0 (pieces_of op) c && shown
+    (seen_history h (version_of op)) c
 
 abbrev pub texts : List Piece → List ℕ
 texts [] = []

@@ -16,7 +16,8 @@ pub data Fate : Type 0 where
   Kept Gone New Never : Fate
 
 abbrev pub fate : Bool → Bool → Fate
-fate then_shown now_shown = if then_shown then (if now_shown then Kept else Gone) else (if now_shown then New else Never)
+fate then_shown now_shown = if then_shown then (if now_shown then Kept else Gone)
+    else (if now_shown then New else Never)
 
 -- c is a cell of what v sees, and shown there
 abbrev pub is_shown_at : History → Entries → Cell → Bool
@@ -87,4 +88,5 @@ since_fault h v = first_of (
 -- the text then from a place on, with the old range of each edit replaced by its new range of the text now
 abbrev pub apply_edits : ℕ → List TextEdit → List ℕ → List ℕ → List ℕ
 apply_edits at [] then_text now_text = drop at then_text
-apply_edits at (e ∷ es) then_text now_text = slice_range then_text at e.old.0 ++ (slice_range now_text e.new.0 e.new.1 ++ apply_edits e.old.1 es then_text now_text)
+apply_edits at (e ∷ es) then_text now_text = slice_range then_text at e.old.0
+    ++ (slice_range now_text e.new.0 e.new.1 ++ apply_edits e.old.1 es then_text now_text)

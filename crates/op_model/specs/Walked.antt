@@ -26,7 +26,8 @@ facts_of (r ∷ rs) = run_facts r ++ facts_of rs
 
 -- a run begins and ends where characters of its edit's texts do
 abbrev pub IsWhole : History → Run → Type 0
-IsWhole h r = (is_boundary (new_bytes h r.stamp) r.offset ≡ true) × (is_boundary (new_bytes h r.stamp) (r.offset + r.len) ≡ true)
+IsWhole h r = (is_boundary (new_bytes h r.stamp) r.offset ≡ true)
+    × (is_boundary (new_bytes h r.stamp) (r.offset + r.len) ≡ true)
 
 -- the cells of the runs that pass
 abbrev pub kept_len : (Lamport → Bool) → List Run → ℕ
@@ -43,7 +44,13 @@ abbrev pub front : Run → ℕ → Run
 front r n = record { stamp = r.stamp; offset = r.offset; len = n; visible = r.visible; deletions = r.deletions }
 
 abbrev pub back : Run → ℕ → Run
-back r n = record { stamp = r.stamp; offset = r.offset + n; len = r.len - n; visible = r.visible; deletions = r.deletions }
+back r n = record {
+  stamp = r.stamp;
+  offset = r.offset + n;
+  len = r.len - n;
+  visible = r.visible;
+  deletions = r.deletions;
+}
 
 -- a run, marked where b says so
 abbrev pub mark_run : Marking → Bool → Run → Run

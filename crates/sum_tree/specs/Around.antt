@@ -19,4 +19,5 @@ path_sums op around x = outer_sums op around x ++ x ∷ []
 -- the type has room for each of these sums, also half made
 abbrev pub Fitting : {S : Type 0} → (S → Type 0) → (S → S → S) → List (Around S) → S → Type 0
 Fitting fits op [] x = Unit
-Fitting fits op (a ∷ rest) x = fits (op a.before (outer_sum op rest x)) × fits (outer_sum op (a ∷ rest) x) × Fitting fits op rest x
+Fitting fits op (a ∷ rest) x = fits (op a.before (outer_sum op rest x))
+    × fits (outer_sum op (a ∷ rest) x) × Fitting fits op rest x

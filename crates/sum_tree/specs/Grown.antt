@@ -5,7 +5,8 @@ use Rattle.sum_tree.specs.Shape.{IsChild}
 
 -- a, and then b where there is one, are of height h and have the items xs. Alone, a has at least w entries.
 abbrev pub IsSplit : {T : Type 0} → ℕ → ℕ → List T → Seen T → Option (Seen T) → Type 0
-IsSplit h w xs a None = (a.items ≡ xs) × (a.height ≡ h) × (w ≤ a.width) × (a.width ≤ 12) × (6 ≤ a.width → 6 ^ (a.height + 1) ≤ length a.items)
+IsSplit h w xs a None = (a.items ≡ xs) × (a.height ≡ h) × (w ≤ a.width) × (a.width ≤ 12)
+    × (6 ≤ a.width → 6 ^ (a.height + 1) ≤ length a.items)
 IsSplit h w xs a (Some b) = (a.items ++ b.items ≡ xs) × IsChild (h + 1) a × IsChild (h + 1) b
 
 -- a, and then b where there is one

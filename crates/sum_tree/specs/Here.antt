@@ -6,7 +6,8 @@ use Rattle.sum_tree.specs.Shape.{IsChild, join_items}
 
 -- the item is behind the others, in a tree of the same height; or it came back, and the tree is as it was
 abbrev pub IsPushedOr : {T : Type 0} → Seen T → Seen T → T → Option T → Type 0
-IsPushedOr old new x None = (new.items ≡ old.items ++ x ∷ []) × (new.height ≡ old.height) × (old.width ≤ new.width) × (new.width ≤ 12)
+IsPushedOr old new x None = (new.items ≡ old.items ++ x ∷ []) × (new.height ≡ old.height)
+    × (old.width ≤ new.width) × (new.width ≤ 12)
 IsPushedOr old new x (Some y) = (new ≡ old) × (y ≡ x)
 
 abbrev pub IsPushed : {T E : Type 0} → Seen T → Seen T → T → Result (Option T) E → Type 0
@@ -15,7 +16,8 @@ IsPushed old new x (Err e) = new ≡ old
 
 -- the item is behind those of the old children of a node of height h; or it came back, and the children are as they were
 abbrev pub IsPushedBesideOr : {T : Type 0} → ℕ → List (Seen T) → List (Seen T) → T → Option T → Type 0
-IsPushedBesideOr h old new x None = (join_items new ≡ join_items old ++ x ∷ []) × All (IsChild h) new × (length old ≤ length new) × (length new ≤ 12)
+IsPushedBesideOr h old new x None = (join_items new ≡ join_items old ++ x ∷ [])
+    × All (IsChild h) new × (length old ≤ length new) × (length new ≤ 12)
 IsPushedBesideOr h old new x (Some y) = (new ≡ old) × (y ≡ x)
 
 abbrev pub IsPushedBeside : {T E : Type 0} → ℕ → List (Seen T) → List (Seen T) → T → Result (Option T) E → Type 0

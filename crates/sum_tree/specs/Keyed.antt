@@ -30,8 +30,11 @@ remove_key cmp key k xs = below cmp key k xs ++ above cmp key k xs
 
 -- the item of key k stands at i; or none does, and i is its place
 abbrev pub IsPlace : {T K : Type 0} → (K → K → Ordering) → (T → K) → K → List T → Result ℕ ℕ → Type 0
-IsPlace {T} cmp key k xs (Ok i) = (i < length xs) × (take i xs ≡ below cmp key k xs) × (drop (i + 1) xs ≡ above cmp key k xs) × ((d : T) → item_of_key cmp key k xs ≡ Some (get_or xs i d))
-IsPlace cmp key k xs (Err i) = (i ≤ length xs) × (take i xs ≡ below cmp key k xs) × (drop i xs ≡ above cmp key k xs) × (item_of_key cmp key k xs ≡ None)
+IsPlace {T} cmp key k xs (Ok i) = (i < length xs) × (take i xs ≡ below cmp key k xs)
+    × (drop (i + 1) xs ≡ above cmp key k xs)
+    × ((d : T) → item_of_key cmp key k xs ≡ Some (get_or xs i d))
+IsPlace cmp key k xs (Err i) = (i ≤ length xs) × (take i xs ≡ below cmp key k xs)
+    × (drop i xs ≡ above cmp key k xs) × (item_of_key cmp key k xs ≡ None)
 
 -- where there is a key, it is that of the last item
 abbrev pub IsLastKey : {T K : Type 0} → (T → K) → List T → Option K → Type 0

@@ -3,7 +3,8 @@ use Rattle.std.specs.Prelude.{◌≡◌, List, [], ◌∷◌}
 
 -- Of the values that the type admits: empty is neutral, the addition is associative, and where a sum fits, so does the
 -- sum of a part of what was added.
-pub record SummaryLaws {S : Type 0} (empty : S) (op : S → S → S) (admits : S → Type 0) (fits : S → Type 0) : Type 0 where
+pub record SummaryLaws {S : Type 0} (empty : S) (op : S → S → S) (admits : S → Type 0)
+    (fits : S → Type 0) : Type 0 where
   pub empty_admitted : admits empty
   pub op_admitted : (a b : S) → admits a → admits b → admits (op a b)
   pub left_identity : (a : S) → admits a → op empty a ≡ a

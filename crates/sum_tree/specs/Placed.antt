@@ -33,17 +33,22 @@ pub record IsPlaced {T : Type 0} (w : ℕ) (xs : List T) (old new : Seen T) : Ty
 
 -- either that is done; or the tree is as it was, and a and b are to stand in its place; each time these sums are answered.
 -- Or the tree is as it was, and the new entries ys came back.
-abbrev pub IsPlacing : {S T : Type 0} → List S → ℕ → List T → List T → Seen T → Seen T → Placing (Vec S Global) (Vec T Global) (Seen T) → Type 0
+abbrev pub IsPlacing : {S T : Type 0} → List S → ℕ → List T → List T → Seen T → Seen T
+    → Placing (Vec S Global) (Vec T Global) (Seen T) → Type 0
 IsPlacing ss w xs ys old new (Done sums) = IsPlaced w xs old new × (sums.items ≡ ss)
 IsPlacing ss w xs ys old new (Split a b sums) = (new ≡ old) × IsSplit old.height 0 xs a (Some b) × (sums.items ≡ ss)
 IsPlacing ss w xs ys old new (Back es) = (new ≡ old) × (es.items ≡ ys)
 
-abbrev pub IsPlacingOr : {S T E : Type 0} → List S → ℕ → List T → List T → Seen T → Seen T → Result (Placing (Vec S Global) (Vec T Global) (Seen T)) E → Type 0
+abbrev pub IsPlacingOr : {S T E : Type 0} → List S → ℕ → List T → List T → Seen T → Seen T
+    → Result (Placing (Vec S Global) (Vec T Global) (Seen T)) E → Type 0
 IsPlacingOr ss w xs ys old new (Ok p) = IsPlacing ss w xs ys old new p
 IsPlacingOr ss w xs ys old new (Err e) = new ≡ old
 
 -- the last of the sums is taken off; where the change is made, it and the new length n are written, else all is as it was
-abbrev pub IsNoted : {S E N : Type 0} → ℕ → ℕ → ℕ → S → S → Placing (Vec S Global) E N → Placing (Vec S Global) E N → Type 0
-IsNoted {S} n len len' s s' (Done sums) q = (xs : List S) (x : S) → sums.items ≡ xs ++ x ∷ [] → (len' ≡ n) × (s' ≡ x) × ((ss : Vec S Global) × (q ≡ Done ss) × (ss.items ≡ xs))
-IsNoted {S} n len len' s s' (Split a b sums) q = (len' ≡ len) × (s' ≡ s) × ((xs : List S) (x : S) → sums.items ≡ xs ++ x ∷ [] → (ss : Vec S Global) × (q ≡ Split a b ss) × (ss.items ≡ xs))
+abbrev pub IsNoted : {S E N : Type 0} → ℕ → ℕ → ℕ → S → S → Placing (Vec S Global) E N
+    → Placing (Vec S Global) E N → Type 0
+IsNoted {S} n len len' s s' (Done sums) q = (xs : List S) (x : S) → sums.items ≡ xs ++ x ∷ []
+    → (len' ≡ n) × (s' ≡ x) × ((ss : Vec S Global) × (q ≡ Done ss) × (ss.items ≡ xs))
+IsNoted {S} n len len' s s' (Split a b sums) q = (len' ≡ len) × (s' ≡ s)
+    × ((xs : List S) (x : S) → sums.items ≡ xs ++ x ∷ [] → (ss : Vec S Global) × (q ≡ Split a b ss) × (ss.items ≡ xs))
 IsNoted n len len' s s' (Back es) q = (len' ≡ len) × (s' ≡ s) × (q ≡ Back es)

@@ -34,4 +34,8 @@ IsContent h (Leaf v) = (h ≡ 0) × (length v.items ≤ 12)
 IsContent h (Inner v) = All (IsChild h) v.items × (2 ≤ length v.items) × (length v.items ≤ 12)
 
 abbrev pub IsNode : {T S : Type 0} → S → (S → S → S) → (S → Type 0) → (T → S) → Node T S → Type 0
-IsNode empty op fits sum_of n = IsContent n.height n.content × (n.len ≡ length (content_items n.content)) × (n.sum ≡ fold empty op sum_of (content_items n.content)) × fits (fold empty op sum_of (content_items n.content)) × (length (content_items n.content) ≤ 2 ^ 40)
+IsNode empty op fits sum_of n = IsContent n.height n.content
+    × (n.len ≡ length (content_items n.content))
+    × (n.sum ≡ fold empty op sum_of (content_items n.content))
+    × fits (fold empty op sum_of (content_items n.content))
+    × (length (content_items n.content) ≤ 2 ^ 40)

@@ -18,7 +18,8 @@ IsPiece h a (Some b) = IsChild h a × IsChild h b
 -- a, and then b where there is one, have the items xs and stand in the place of a node of height h with w entries.
 -- Alone, a may be narrow, and lower where w is 2.
 abbrev pub IsSpliced : {T : Type 0} → ℕ → ℕ → List T → Seen T → Option (Seen T) → Type 0
-IsSpliced h w xs a None = (a.items ≡ xs) × (3 ≤ w → a.height ≡ h) × (a.width ≤ 12) × (6 ≤ a.width → 6 ^ (a.height + 1) ≤ length a.items)
+IsSpliced h w xs a None = (a.items ≡ xs) × (3 ≤ w → a.height ≡ h) × (a.width ≤ 12)
+    × (6 ≤ a.width → 6 ^ (a.height + 1) ≤ length a.items)
 IsSpliced h w xs a (Some b) = (a.items ++ b.items ≡ xs) × IsChild (h + 1) a × IsChild (h + 1) b
 
 -- either that is done, or the new entries came back
@@ -33,4 +34,5 @@ IsReturn n ys (Back es) = (1 < n) ⊎ (12 < length ys)
 
 -- from its item r on, child k holds the n items from i on
 abbrev pub IsWithin : {T : Type 0} → List (Seen T) → ℕ → ℕ → ℕ → ℕ → Type 0
-IsWithin {T} ts i n k r = (k < length ts) × ((d : Seen T) → r + n ≤ length (get_or ts k d).items) × (length (join_items (take k ts)) + r ≡ i)
+IsWithin {T} ts i n k r = (k < length ts) × ((d : Seen T) → r + n ≤ length (get_or ts k d).items)
+    × (length (join_items (take k ts)) + r ≡ i)

@@ -21,7 +21,9 @@ index_behind (Some x) i = i + 1
 
 -- A walk over the items whole, which begin at the place from, stands at an index: before it are so many items, on it
 -- stands the item, if there is one, and rest is left behind that.
-pub record IsAt {P S T : Type 0} (moved : P → S → Option P) (fits : P → S → Type 0) (empty : S) (op : S → S → S) (sum_of : T → S) (whole : List T) (from : P) (rest : List T) (item : Option (Bor T)) (start end : P) (index : ℕ) : Type 0 where
+pub record IsAt {P S T : Type 0} (moved : P → S → Option P) (fits : P → S → Type 0) (empty : S)
+    (op : S → S → S) (sum_of : T → S) (whole : List T) (from : P) (rest : List T)
+    (item : Option (Bor T)) (start end : P) (index : ℕ) : Type 0 where
   pub within : index ≤ length whole
   pub here : ahead item rest ≡ drop index whole
   pub behind : rest ≡ drop (index + 1) whole

@@ -41,8 +41,14 @@ IsBelow h (Entries es) = Unit
 
 -- the part that comes first in a node, and what is left of the node behind it
 abbrev pub IsSplit : {T S : Type 0} → Left T S → Part T S → Left T S → Type 0
-IsSplit old (Node t) new = (left_items old ≡ t.now.items ++ left_items new) × (left_work old ≡ weight t.now + left_work new) × ((h : ℕ) → IsBelow h old → (t.now.height + 1 ≡ h) × IsBelow h new) × ((h : ℕ) → IsBelow h old → (1 ≤ length t.now.items) × (1 + left_looks new ≤ left_looks old)) × (1 + 12 * (t.now.height + 1) ≤ left_looks old)
-IsSplit old (One e) new = (left_items old ≡ e.now ∷ left_items new) × (left_work old ≡ 1 + left_work new) × ((h : ℕ) → IsBelow h old → IsBelow h new) × (1 + left_looks new ≤ left_looks old)
+IsSplit old (Node t) new = (left_items old ≡ t.now.items ++ left_items new)
+    × (left_work old ≡ weight t.now + left_work new)
+    × ((h : ℕ) → IsBelow h old → (t.now.height + 1 ≡ h) × IsBelow h new)
+    × ((h : ℕ) → IsBelow h old → (1 ≤ length t.now.items) × (1 + left_looks new ≤ left_looks old))
+    × (1 + 12 * (t.now.height + 1) ≤ left_looks old)
+IsSplit old (One e) new = (left_items old ≡ e.now ∷ left_items new)
+    × (left_work old ≡ 1 + left_work new) × ((h : ℕ) → IsBelow h old → IsBelow h new)
+    × (1 + left_looks new ≤ left_looks old)
 
 abbrev pub IsDone : {T S : Type 0} → Left T S → Type 0
 IsDone l = (left_items l ≡ []) × (left_work l ≡ 0)
@@ -68,11 +74,15 @@ AreLevels (l ∷ ls) = IsLevel ls l × AreLevels ls
 
 -- taking the part that comes first leaves the others
 abbrev pub TakesPart : {T S : Type 0} → Rest T → Part T S → Rest T → Type 0
-TakesPart before (Node t) after = (before.items ≡ t.now.items ++ after.items) × (before.work ≡ weight t.now + after.work) × (after.depth + 1 + t.now.height ≤ 15)
+TakesPart before (Node t) after = (before.items ≡ t.now.items ++ after.items)
+    × (before.work ≡ weight t.now + after.work) × (after.depth + 1 + t.now.height ≤ 15)
 TakesPart before (One e) after = (before.items ≡ e.now ∷ after.items) × (before.work ≡ 1 + after.work)
 
 -- The same where something is left in the innermost level: what is taken is of that level. There is a look less, and
 -- for a node those below it too.
 abbrev pub TakesInner : {T S : Type 0} → Rest T → Part T S → Rest T → Type 0
-TakesInner before (Node t) after = (1 ≤ length t.now.items) × (before.inner ≢ [] → (before.inner ≡ t.now.items ++ after.inner) × (1 + after.looks ≤ before.looks) × (1 + 12 * (t.now.height + 1) ≤ before.looks))
-TakesInner before (One e) after = before.inner ≢ [] → (before.inner ≡ e.now ∷ after.inner) × (1 + after.looks ≤ before.looks)
+TakesInner before (Node t) after = (1 ≤ length t.now.items) × (before.inner ≢ []
+    → (before.inner ≡ t.now.items ++ after.inner) × (1 + after.looks ≤ before.looks)
+    × (1 + 12 * (t.now.height + 1) ≤ before.looks))
+TakesInner before (One e) after = before.inner ≢ []
+    → (before.inner ≡ e.now ∷ after.inner) × (1 + after.looks ≤ before.looks)
