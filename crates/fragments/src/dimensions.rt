@@ -134,7 +134,8 @@ impl Moves<FragmentSummary> for Visible {
 
     ghost fits = { λ p s. p + s.visible < 2 ^ 64 };
 
-    ghost laws = { adding_laws no_fragments summaries IsSummary IsOne (λ s. s.visible) refl (λ a b. refl) };
+    ghost laws = { adding_laws no_fragments summaries IsSummary IsOne (λ s. s.visible) refl
+        (λ a b. refl) };
 }
 
 impl<'a> Dimension<'a, FragmentSummary> for Visible {

@@ -129,7 +129,8 @@ fn branch_point(a: &Runs, b: &Runs) -> Option<BranchPoint>
     requires a_kept { IsKept a.now }
     requires b_kept { IsKept b.now }
     ensures { MatchOption result
-        (2 ^ 64 ≤ length (between_digits (run_digits (kept_runs a.now)) (run_digits (kept_runs b.now))))
+        (2 ^ 64 ≤ length
+        (between_digits (run_digits (kept_runs a.now)) (run_digits (kept_runs b.now))))
         (λ point. (point.count ≤ length (kept_runs a.now))
         × (digits_to (kept_runs a.now) point
         ≡ between_digits (run_digits (kept_runs a.now)) (run_digits (kept_runs b.now)))) }
@@ -154,7 +155,8 @@ fn runs_between(alloc: Global, a: &Runs, b: &Runs) -> Result<Runs, OutOfMemory>
     ensures digits { IfOk result (λ runs. run_digits (kept_runs runs)
         ≡ between_digits (run_digits (kept_runs a.now)) (run_digits (kept_runs b.now))) }
     ensures kept { IfOk result IsKept }
-    ensures short { LieInline (between_digits (run_digits (kept_runs a.now)) (run_digits (kept_runs b.now)))
+    ensures short { LieInline
+        (between_digits (run_digits (kept_runs a.now)) (run_digits (kept_runs b.now)))
         → IsOk result }
 {
     let point = branch_point(a, b).ok_or(OutOfMemory)?;

@@ -132,7 +132,8 @@ pub(crate) fn pass_same(a: &mut Ahead<'_>, b: &mut Ahead<'_>)
     requires b_full { AreFull (runs_ahead b.old) }
     ensures a_full { AreFull (runs_ahead a.new) }
     ensures b_full { AreFull (runs_ahead b.new) }
-    ensures order { slice_cmp nat_cmp (run_digits (runs_ahead a.old)) (run_digits (runs_ahead b.old))
+    ensures order { slice_cmp nat_cmp (run_digits (runs_ahead a.old))
+        (run_digits (runs_ahead b.old))
         ≡ slice_cmp nat_cmp (run_digits (runs_ahead a.new)) (run_digits (runs_ahead b.new)) }
 {
     'same: while let Some((run, behind)) = a.front.split_first() {

@@ -33,7 +33,8 @@ impl Model for PlacedBuffer {
 
     ghost view = { λ p. p.buffer };
 
-    ghost invariant = { λ p. Stands p.standing.fragments.items p.standing.index p.standing.undos p.buffer };
+    ghost invariant = { λ p. Stands p.standing.fragments.items p.standing.index
+        p.standing.undos p.buffer };
 }
 
 impl PlacedBuffer {

@@ -53,7 +53,8 @@ pub fn make_timed(
     version: Version,
     changes: &[Piece],
 ) -> io::Result<Standing>
-    requires { MayMake at.now.fragments.items at.now.index at.now.undos stamp version changes.now }
+    requires { MayMake at.now.fragments.items at.now.index at.now.undos
+        stamp version changes.now }
     ensures { IfOk result (λ s. AreMade at.now.fragments.items at.now.index at.now.undos stamp
         version changes.now s.fragments.items s.index s.undos) }
 {
@@ -95,7 +96,8 @@ fn make<L: Ledger>(
     requires name { blank.name ≡ L.name }
     requires parts { blank.parts ≡ L.parts }
     requires some { 0 < blank.parts }
-    requires changes { MayMake at.now.fragments.items at.now.index at.now.undos stamp version changes.now }
+    requires changes { MayMake at.now.fragments.items at.now.index at.now.undos
+        stamp version changes.now }
     ensures { IfOk result (λ s. AreMade at.now.fragments.items at.now.index at.now.undos stamp
         version changes.now s.fragments.items s.index s.undos) }
 {

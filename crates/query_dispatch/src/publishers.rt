@@ -32,7 +32,11 @@ impl Model for Publishers {
 
     ghost Value = { PublishersState };
 
-    ghost view = { λ p. record { workers = p.workers; list = p.list.items; sizes = p.sizes.items } };
+    ghost view = { λ p. record {
+      workers = p.workers;
+      list = p.list.items;
+      sizes = p.sizes.items;
+    } };
 }
 
 impl Publishers {

@@ -90,7 +90,8 @@ impl<Q> Outcome<Entry<Q>, Log<Q>> for Pop {
     ghost use Rattle.std.specs.Prelude.{◌≡◌, [], ◌∷◌, ◌++◌};
     ghost use Rattle.query_workers.specs.Line.{log, IsFor};
 
-    ghost then = { λ v x w. (w ≡ log v.sends v.takes v.sent (v.taken ++ x ∷ []) v.readers) × IsFor v.readers x };
+    ghost then = { λ v x w. (w ≡ log v.sends v.takes v.sent (v.taken ++ x ∷ []) v.readers)
+        × IsFor v.readers x };
 }
 
 impl<Q> Lesson<Entry<Q>, Log<Q>> for Pop {

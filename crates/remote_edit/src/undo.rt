@@ -140,9 +140,11 @@ fn put_anew(
 ) -> Result<(), OutOfMemory>
     requires stands { slice_get fragments.old.items i ≡ Some fragment.now }
     requires fits { SummaryFits (fold no_fragments summaries summary_of
-        (splice_list i (i + 1) (anew undos.now by edits.now fragment.now ∷ []) fragments.old.items)) }
+        (splice_list i (i + 1)
+        (anew undos.now by edits.now fragment.now ∷ []) fragments.old.items)) }
     ensures { OnOk result (fragments.new.items
-        ≡ splice_list i (i + 1) (anew undos.now by edits.now fragment.now ∷ []) fragments.old.items) }
+        ≡ splice_list i (i + 1)
+        (anew undos.now by edits.now fragment.now ∷ []) fragments.old.items) }
 {
     if !is_concerned(fragment, edits) {
         return Ok(());

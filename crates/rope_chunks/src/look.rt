@@ -31,7 +31,8 @@ impl Front {
         ensures room { IfSome result (λ front. HasRoom front.place (length bytes.now - front.len)) }
         ensures rest { IfSome result (λ front.
             stop (λ k. G.passes target.now k Bias.Left) start (walk start bytes.now)
-            ≡ stop (λ k. G.passes target.now k Bias.Left) front.place (walk front.place (drop front.len bytes.now))) }
+            ≡ stop (λ k. G.passes target.now k Bias.Left) front.place
+            (walk front.place (drop front.len bytes.now))) }
     {
         if bytes.len() < LANES {
             return None;

@@ -75,7 +75,8 @@ fn replicas_from(alloc: Global, members: &[Value]) -> Result<Option<Ids>, OutOfM
 }
 
 fn replicas_of(alloc: Global, value: &Value) -> Result<Option<Ids>, OutOfMemory>
-    ensures { IfOk result (λ ids. ids ≡ option_and_then replicas_from (members_of (view value.now))) }
+    ensures { IfOk result (λ ids. ids
+        ≡ option_and_then replicas_from (members_of (view value.now))) }
 {
     match members_of(value) {
         Some(members) => replicas_from(alloc, members),

@@ -43,8 +43,10 @@ pub(crate) fn trees_sum<T: Item>(
     alloc: Global,
     trees: &[SumTree<T>],
 ) -> Result<T::Summary, OutOfMemory>
-    requires fits { T.Summary.fits (fold T.Summary.empty T.Summary.op T.sum_of (join_items trees.now)) }
-    ensures { IfOk result (λ s. s ≡ fold T.Summary.empty T.Summary.op T.sum_of (join_items trees.now)) }
+    requires fits { T.Summary.fits
+        (fold T.Summary.empty T.Summary.op T.sum_of (join_items trees.now)) }
+    ensures { IfOk result (λ s. s
+        ≡ fold T.Summary.empty T.Summary.op T.sum_of (join_items trees.now)) }
 {
     let mut sum = T::Summary::zero(alloc);
     let Some((first, rest)) = trees.split_first() else {
@@ -66,7 +68,8 @@ pub(crate) fn around_child<T: Item>(
     k: usize,
 ) -> Result<Around<T::Summary>, OutOfMemory>
     requires within { k < length nodes.now }
-    requires fits { T.Summary.fits (fold T.Summary.empty T.Summary.op T.sum_of (join_items nodes.now)) }
+    requires fits { T.Summary.fits
+        (fold T.Summary.empty T.Summary.op T.sum_of (join_items nodes.now)) }
     ensures before { IfOk result (λ a. a.before
         ≡ fold T.Summary.empty T.Summary.op T.sum_of (join_items (take k nodes.now))) }
     ensures behind { IfOk result (λ a. a.behind

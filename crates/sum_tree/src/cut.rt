@@ -25,7 +25,8 @@ fn run<T: Item, L: Ledger>(
     requires children { All (IsChild height) nodes.now }
     requires most { length nodes.now ≤ 12 }
     requires short { length (join_items nodes.now) ≤ 2 ^ 40 }
-    requires fits { T.Summary.fits (fold T.Summary.empty T.Summary.op T.sum_of (join_items nodes.now)) }
+    requires fits { T.Summary.fits
+        (fold T.Summary.empty T.Summary.op T.sum_of (join_items nodes.now)) }
     ensures items { IfOk result (λ t. t.items ≡ join_items nodes.now) }
     ensures least { IfOk result (λ t. height ≤ t.height + 1) }
     ensures most { IfOk result (λ t. t.height ≤ height) }

@@ -200,7 +200,8 @@ fn pair_in_place<T: Item, L: Ledger>(
     requires within { k < length children.old.items }
     requires front { IsChild height front }
     requires back { IsChild height back }
-    requires short { length (join_items (with_pair children.old.items k front (Some back))) ≤ 2 ^ 40 }
+    requires short { length (join_items
+        (with_pair children.old.items k front (Some back))) ≤ 2 ^ 40 }
     requires fits { T.Summary.fits (fold T.Summary.empty T.Summary.op T.sum_of
         (join_items (with_pair children.old.items k front (Some back)))) }
     ensures children { AreChildren height children.new.items }
@@ -454,7 +455,8 @@ impl<T: Item> SumTree<T> {
             (fold T.Summary.empty T.Summary.op T.sum_of
             (splice_list from (from + count) entries.items (join_items children.old.items))))
             (length children.old.items)
-            (splice_list from (from + count) entries.items (join_items children.old.items)) entries.items
+            (splice_list from (from + count) entries.items
+            (join_items children.old.items)) entries.items
             (inner_seen height children.old.items) (inner_seen height children.new.items) result }
         ensures cost { steps.new ≤ steps.old + 2 * (height + 1) }
     {
@@ -501,7 +503,8 @@ impl<T: Item> SumTree<T> {
         ensures placing { IsPlacingOr (path_sums T.Summary.op around.items
             (fold T.Summary.empty T.Summary.op T.sum_of
             (splice_list from (from + count) entries.items (content_items content.old)))) least
-            (splice_list from (from + count) entries.items (content_items content.old)) entries.items
+            (splice_list from (from + count) entries.items
+            (content_items content.old)) entries.items
             (content_seen height content.old) (content_seen height content.new) result }
         ensures cost { steps.new ≤ steps.old + 2 * (height + 1) }
     {

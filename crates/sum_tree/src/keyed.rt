@@ -197,7 +197,8 @@ impl<T: KeyedItem> SumTree<T> {
     /// tree is as before.
     pub fn remove(&mut self, alloc: Global, key: &T::Key) -> Result<Option<T>, OutOfMemory>
         requires ascending { Ascending T.Key.cmp T.key_of self.old.items }
-        ensures removed { IfOk result (λ o. o ≡ item_of_key T.Key.cmp T.key_of key.now self.old.items) }
+        ensures removed { IfOk result (λ o. o
+            ≡ item_of_key T.Key.cmp T.key_of key.now self.old.items) }
         ensures ok { OnOk result (self.new.items
             ≡ remove_key T.Key.cmp T.key_of key.now self.old.items) }
         ensures err { OnErr result (self.new ≡ self.old) }

@@ -260,7 +260,8 @@ impl<T: Item> SumTree<T> {
         requires short { length (splice_list from to entries.items self.now.items) ≤ 2 ^ 40 }
         requires fits { T.Summary.fits (fold T.Summary.empty T.Summary.op T.sum_of
             (splice_list from to entries.items self.now.items)) }
-        ensures items { IfOk result (λ t. t.items ≡ splice_list from to entries.items self.now.items) }
+        ensures items { IfOk result (λ t. t.items
+            ≡ splice_list from to entries.items self.now.items) }
         ensures cost { steps.new ≤ steps.old +
             (24 * self.now.height + 2 * length entries.items + 21) }
         ensures narrow { to ≤ from + 1 → length entries.items ≤ 12
@@ -292,7 +293,8 @@ impl<T: Item> SumTree<T> {
         requires short { length (splice_list from to entries.items self.old.items) ≤ 2 ^ 40 }
         requires fits { T.Summary.fits (fold T.Summary.empty T.Summary.op T.sum_of
             (splice_list from to entries.items self.old.items)) }
-        ensures ok { OnOk result (self.new.items ≡ splice_list from to entries.items self.old.items) }
+        ensures ok { OnOk result (self.new.items
+            ≡ splice_list from to entries.items self.old.items) }
         ensures err { OnErr result (self.new ≡ self.old) }
         ensures cost { steps.new ≤ steps.old +
             (26 * (self.old.height + 1) + 2 * length entries.items) }
@@ -330,7 +332,8 @@ impl<T: Item> SumTree<T> {
         requires short { length (splice_list from to entries.items self.old.items) ≤ 2 ^ 40 }
         requires fits { T.Summary.fits (fold T.Summary.empty T.Summary.op T.sum_of
             (splice_list from to entries.items self.old.items)) }
-        ensures ok { OnOk result (self.new.items ≡ splice_list from to entries.items self.old.items) }
+        ensures ok { OnOk result (self.new.items
+            ≡ splice_list from to entries.items self.old.items) }
         ensures err { OnErr result (self.new ≡ self.old) }
     {
         let mut steps = Steps::<L>::new(blank);
@@ -350,7 +353,8 @@ impl<T: Item> SumTree<T> {
         requires short { length (splice_list from to entries.items self.old.items) ≤ 2 ^ 40 }
         requires fits { T.Summary.fits (fold T.Summary.empty T.Summary.op T.sum_of
             (splice_list from to entries.items self.old.items)) }
-        ensures ok { OnOk result (self.new.items ≡ splice_list from to entries.items self.old.items) }
+        ensures ok { OnOk result (self.new.items
+            ≡ splice_list from to entries.items self.old.items) }
         ensures err { OnErr result (self.new ≡ self.old) }
     {
         self.put_with::<Brand>(alloc, from, to, entries, Blank::new(1))

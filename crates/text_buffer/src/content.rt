@@ -108,7 +108,8 @@ fn base_fragments(
     requires { length text.now ≤ 2 ^ 40 }
     ensures fragments { IfOk result (λ r. r.0.items ≡ fragments_of (base text.now ∷ [])) }
     ensures stand { IfOk result (λ r. Stand r.0.items r.1 [] (base text.now ∷ [])) }
-    ensures whole { IfOk result (λ r. AllByRecursion (IsWhole (base text.now ∷ [])) (runs r.0.items)) }
+    ensures whole { IfOk result
+        (λ r. AllByRecursion (IsWhole (base text.now ∷ [])) (runs r.0.items)) }
 {
     if text.is_empty() {
         return Ok((SumTree::new(alloc)?, InsertionIndex::new(alloc)?));

@@ -220,7 +220,8 @@ impl Document {
     ) -> Result<Operation, OutOfMemory>
         requires { MayEdit self.old replica changes.now }
         ensures made { IfOk result (λ op. op ≡ local_edit self.old replica changes.now) }
-        ensures new { OnOk result (self.new ≡ self.old ++ local_edit self.old replica changes.now ∷ []) }
+        ensures new { OnOk result (self.new
+            ≡ self.old ++ local_edit self.old replica changes.now ∷ []) }
         ensures err { OnErr result (self.new ≡ self.old) }
         ensures cost { IsEditCost self.old changes.now (steps.new - steps.old) }
     {

@@ -24,7 +24,8 @@ impl Moves<Count> for Count {
 
     ghost fits = { λ p s. p + s.items < 2 ^ 64 };
 
-    ghost laws = { adding_laws no_items count_sum AnyCount AnyCount (λ s. s.items) refl (λ a b. refl) };
+    ghost laws = { adding_laws no_items count_sum AnyCount AnyCount (λ s. s.items) refl
+        (λ a b. refl) };
 }
 
 /// The count of items is a place: the index of what follows.
@@ -151,7 +152,8 @@ impl<K: Ord + Copy> Target<Greatest<K>> for Greatest<K> {
 
     ghost passes = { λ g p b. key_passes (cmp_less K.cmp) g.key p b };
 
-    ghost stays = { λ g p q b h l. key_stays (cmp_less K.cmp) (order_less K.cmp K.total) g.key p q b h l };
+    ghost stays = { λ g p q b h l. key_stays (cmp_less K.cmp)
+        (order_less K.cmp K.total) g.key p q b h l };
 
     fn passed(&self, at: Greatest<K>, bias: Bias) -> bool {
         match bias {

@@ -50,7 +50,12 @@ impl Summary for Extent {
 
     ghost empty = { record { items = 0; width = 0; odd = 0; name = None } };
 
-    ghost op = { λ a b. record { items = a.items + b.items; width = a.width + b.width; odd = a.odd + b.odd; name = greater (λ x y. nat_lt x.id y.id) a.name b.name } };
+    ghost op = { λ a b. record {
+      items = a.items + b.items;
+      width = a.width + b.width;
+      odd = a.odd + b.odd;
+      name = greater (λ x y. nat_lt x.id y.id) a.name b.name;
+    } };
 
     ghost admits = { λ a. a.odd ≤ a.items };
 
@@ -61,9 +66,13 @@ impl Summary for Extent {
     ghost laws = { record {
       empty_admitted = Prim.omega arith;
       op_admitted = λ a b p q. Prim.omega arith;
-      left_identity = λ a p. four (λ i w o n. record { items = i; width = w; odd = o; name = n }) (Prim.omega arith) (Prim.omega arith) (Prim.omega arith) refl;
-      right_identity = λ a p. four (λ i w o n. record { items = i; width = w; odd = o; name = n }) (Prim.omega arith) (Prim.omega arith) (Prim.omega arith) (greater_none _ a.name);
-      assoc = λ a b c p q r. four (λ i w o n. record { items = i; width = w; odd = o; name = n }) (Prim.omega arith) (Prim.omega arith) (Prim.omega arith) (greater_assoc _ (number_less (λ x. x.id)) a.name b.name c.name);
+      left_identity = λ a p. four (λ i w o n. record { items = i; width = w; odd = o; name = n })
+          (Prim.omega arith) (Prim.omega arith) (Prim.omega arith) refl;
+      right_identity = λ a p. four (λ i w o n. record { items = i; width = w; odd = o; name = n })
+          (Prim.omega arith) (Prim.omega arith) (Prim.omega arith) (greater_none _ a.name);
+      assoc = λ a b c p q r. four (λ i w o n. record { items = i; width = w; odd = o; name = n })
+          (Prim.omega arith) (Prim.omega arith) (Prim.omega arith)
+          (greater_assoc _ (number_less (λ x. x.id)) a.name b.name c.name);
       empty_fits = (Prim.omega arith, Prim.omega arith, Prim.omega arith);
       fits_parts = λ a b c p q r h. (Prim.omega arith, Prim.omega arith, Prim.omega arith);
     } };
@@ -106,7 +115,12 @@ impl Item for Wide {
 
     ghost use Rattle.std.proofs.Common.{arith};
 
-    ghost sum_of = { λ x. record { items = 1; width = x.width; odd = x.id % 2; name = Some (record { id = x.id }) } };
+    ghost sum_of = { λ x. record {
+      items = 1;
+      width = x.width;
+      odd = x.id % 2;
+      name = Some (record { id = x.id });
+    } };
 
     ghost admitted = { λ x. Prim.omega arith };
 
@@ -199,7 +213,8 @@ impl<'a> Moves<Extent> for ByName<'a> {
 
     ghost fits = { λ p s. Unit };
 
-    ghost laws = { key_laws _ (number_less (λ x. x.id)) _ _ _ _ (λ s. s.name) refl (λ a b f g. refl) };
+    ghost laws = { key_laws _ (number_less (λ x. x.id)) _ _ _ _ (λ s. s.name) refl
+        (λ a b f g. refl) };
 }
 
 impl<'a> Dimension<'a, Extent> for ByName<'a> {
@@ -211,7 +226,8 @@ impl<'a> Dimension<'a, Extent> for ByName<'a> {
 }
 
 fn later_name<'n>(a: Option<&'n Name>, b: &'n Option<Name>) -> Option<&'n Name>
-    ensures { option_copied result ≡ greater (λ x y. nat_lt x.id y.id) (option_copied a.entry) b.now }
+    ensures { option_copied result
+        ≡ greater (λ x y. nat_lt x.id y.id) (option_copied a.entry) b.now }
 {
     match (a, b) {
         (None, None) => None,
@@ -267,7 +283,9 @@ impl<'v> Moves<Extent> for Chosen<'v> {
 
     ghost fits = { λ p s. p.1 + s.items < 2 ^ 64 };
 
-    ghost laws = { partly_laws (λ x. x.items) (λ c x. chosen c.odd x.items x.odd) _ _ _ _ refl (λ a b. refl) (λ c a b f g. chosen_sum c.odd a.items a.odd b.items b.odd f g) (λ c a f. chosen_few c.odd a.items a.odd f) (λ a s. s) };
+    ghost laws = { partly_laws (λ x. x.items) (λ c x. chosen c.odd x.items x.odd) _ _ _ _ refl
+        (λ a b. refl) (λ c a b f g. chosen_sum c.odd a.items a.odd b.items b.odd f g)
+        (λ c a f. chosen_few c.odd a.items a.odd f) (λ a s. s) };
 }
 
 impl<'a, 'v> Dimension<'a, Extent> for Chosen<'v> {
