@@ -16,7 +16,7 @@ use Rattle.remote_edit.specs.declared.gather.Gather.{Gather}
 use Rattle.remote_edit.specs.Gathers.{ahead}
 use Rattle.remote_edit.specs.Starts.{AllSeen, intake, starts, IsFew, IsLeft, MakeFew}
 use Rattle.remote_edit.proofs.Starts.{later_none}
-use Rattle.remote_edit.proofs.Gathers.{headed}
+use Rattle.remote_edit.proofs.Gathers.{headed, none_rest}
 
 -- ---- a walk makes at most three fragments more
 
@@ -120,13 +120,9 @@ few_more v xs g g2 g3 n k m a b = record { seen = b.seen; few = λ r. (let x = a
 pub few_none : (v : Entries) (xs : List Fragment) (g : Gather) (n : ℕ) → AllSeen v (ahead xs g) → None ≡ head (ahead xs g) → IsFew v xs g n g 0
 few_none v xs g n h e = record {
   seen = h;
-  few = λ r. (let w : ahead xs g ≡ [] = empty (ahead xs g) e in
+  few = λ r. (let w : ahead xs g ≡ [] = none_rest (ahead xs g) e in
       let x : starts (length (left_over g.back)) (0 + r) (ahead xs g) ≡ 0 = ap (starts (length (left_over g.back)) (0 + r)) w in omega (arith, x));
 }
-  where
-    empty : (rest : List Fragment) → None ≡ head rest → rest ≡ []
-    empty [] e = refl
-    empty (x ∷ r) e = cc
 
 pub few_whole : (v : Entries) (xs : List Fragment) (g g2 : Gather) (f : Fragment) (n : ℕ) → AllSeen v (ahead xs g) → Some f ≡ head (ahead xs g) → 0 < f.len → 0 < n → f.len ≤ n
     → ahead xs g2 ≡ tail (ahead xs g) → g2.back ≡ None → g2.at + length (left_over g.back) ≡ g.at + 1 → IsFew v xs g n g2 (n - f.len)

@@ -1,4 +1,5 @@
 -- Versions made of entries in any order: there are as many of them in the version exactly where no id is there twice.
+use Rattle.op_model.proofs.Elements.{and_swap}
 use Rattle.std.proofs.Common.{◌≡◌, ℕ, suc, ◌+◌, ◌<◌, ◌≤◌, ◌≢◌, max, List, [], ◌∷◌, ◌++◌, length, map, refl, sym, ap, ◌∙◌, subst, arith, Bool, true, false, cond, eqb, leb, ◌&&◌, ◌==◌, not, Option, None, Some, option_map, option_and_then, inl, inr, take, drop, zero}
 use Rattle.std.specs.Prelude.{⊤}
 use Rattle.std.specs.List.{list_all}
@@ -86,11 +87,6 @@ as_many u (e ∷ es) h v =
 abbrev are_absent : Entries → List ℕ → Bool
 are_absent u rs = list_all (λ r. entry u r == 0) rs
 
-flip : (a b c : Bool) → (a && (b && c)) ≡ (b && (a && c))
-flip true b c = refl
-flip false true c = refl
-flip false false c = refl
-
 -- what a version has not with one entry more
 absent-raise : (u : Entries) (e : ℕ × ℕ) (rs : List ℕ) → 0 < e.1 → entry u e.0 ≡ 0
     → are_absent (raise u (record { value = e.1; replica = e.0 })) rs ≡ (not (is_among rs e.0) && are_absent u rs)
@@ -105,7 +101,7 @@ absent-raise u e (r ∷ rs) p z =
           rw (ne_eqb (entry (raise u t) r) 0 (λ k. absurd (omega arith)), eq-eqb r e.0 q) refl
       | inr n ↦
           let off : entry (raise u t) r ≡ entry u r = ap (λ w. entry w r) put_there ∙ entry-put_off u e.0 e.1 r n in
-          rw (ne_eqb r e.0 n, off, ih) (flip (entry u r == 0) (not (is_among rs e.0)) (are_absent u rs))
+          rw (ne_eqb r e.0 n, off, ih) (and_swap (entry u r == 0) (not (is_among rs e.0)) (are_absent u rs))
     ]
 
 turn : (n d a : Bool) → (d && (n && a)) ≡ ((n && d) && a)

@@ -1,5 +1,5 @@
 -- What a pass that is stopped leaves: what it applied stands behind what was applied, and waits no longer.
-use Rattle.op_model.proofs.Elements.{each_map, each_append}
+use Rattle.op_model.proofs.Elements.{each_map, each_append, each_unit}
 use Rattle.std.proofs.Common.{◌≡◌, ℕ, ◌≤◌, Bool, true, false, cond, List, [], ◌∷◌, ◌++◌, length, take, drop, refl, sym, ◌∙◌, ap, subst, append_assoc, arith, Option, Some, None, length-append, inl, inr}
 use Rattle.std.specs.List.{AllByRecursion}
 use Rattle.std.proofs.lemmas.List.{append-nil, take-append-drop}
@@ -129,10 +129,6 @@ leaves_longer h w g v k = let e = ap length k.history in let a = length-append h
 
 -- ---- what passes keep
 
-anything : (w : List Operation) → AllByRecursion (λ (op : Operation). Unit {0}) w
-anything [] = tt
-anything (op ∷ w) = (tt, anything w)
-
 each_kept : (Q : Operation → Type 0) (l : LimitsType) (h : History) (w : List Operation) → AllByRecursion Q w → AllByRecursion Q (pass l h w).waiting
 each_kept Q l h w e = (pass_keeps l (λ h. Unit {0}) Q (λ h op a b c. tt) h w tt e).1
 
@@ -147,4 +143,4 @@ pass_up l h (op ∷ w) u = subst (λ (s : State). Ascending older s.waiting) (sy
     go (Refuse f) a b = b
 
 pub pass_lawful : (l : LimitsType) (h : History) (w : List Operation) → Lawful h → Lawful (pass l h w).history
-pass_lawful l h w p = (pass_keeps l Lawful (λ op. Unit {0}) (λ g op a b c. lawful_more g op a c) h w p (anything w)).0
+pass_lawful l h w p = (pass_keeps l Lawful (λ op. Unit {0}) (λ g op a b c. lawful_more g op a c) h w p (each_unit w)).0

@@ -4,6 +4,7 @@ use Rattle.std.specs.List.{AllByRecursion}
 use Rattle.std.specs.Result.{OnErr}
 use Rattle.std.proofs.lemmas.List.{append_assoc, length-append}
 use Rattle.std.proofs.Math.Seq.{drop-append_seam}
+use Rattle.op_model.proofs.Elements.{each_unit}
 use Rattle.op_model.specs.declared.operation.Operation.{Operation}
 use Rattle.op_model.specs.declared.limits.Limits.{Limits as LimitsType}
 use Rattle.op_model.specs.Operations.{stamp_of}
@@ -21,11 +22,7 @@ use Rattle.text_buffer.proofs.Waiting.{not_waiting}
 -- ---- how much settling applies
 
 grows : (l : LimitsType) (h : History) (w : List Operation) → length h ≤ length (settled_at l h w).history
-grows l h w = (settled_keeps l (λ (g : History). length h ≤ length g) (λ (op : Operation). Unit {0}) (λ g op p q e. let n = length-append g (op ∷ []) in omega arith) h w (omega arith) (all w)).0
-  where
-    all : (w : List Operation) → AllByRecursion (λ (op : Operation). Unit {0}) w
-    all [] = tt
-    all (op ∷ w) = (tt, all w)
+grows l h w = (settled_keeps l (λ (g : History). length h ≤ length g) (λ (op : Operation). Unit {0}) (λ g op p q e. let n = length-append g (op ∷ []) in omega arith) h w (omega arith) (each_unit w)).0
 
 pub more_applied : (b : BufferState) (op : Operation) → suc (length b.history) ≤ length (after_settle (after_apply b op)).history
 more_applied b op = let n = grows b.limits (b.history ++ op ∷ []) b.waiting in let m = length-append b.history (op ∷ []) in omega arith

@@ -29,6 +29,7 @@ use Rattle.op_model.specs.Made.{full_offset, full_piece, local_edit, local_undo,
 use Rattle.op_model.specs.Answers.{answer, range_fault, count_fault}
 use Rattle.op_model.specs.Answers.Answer.{Good}
 use Rattle.op_model.specs.Lawful.{Lawful}
+use Rattle.op_model.proofs.shown.Walking.{ordered_le}
 use Rattle.op_model.proofs.answers.Passed.{good, well_shaped, well_ranged, first_none, map_none, when_none, position_none, find_none, none_find, none_map}
 use Rattle.op_model.proofs.shown.FactCells.{cells_in, told_cells}
 use Rattle.op_model.proofs.answers.Counted.{ordered_from}
@@ -219,15 +220,11 @@ module _ (h : History) where
   forward_full so [] o = tt
   forward_full so (p ∷ ps) o = (le-ltb (full_end p.start p.end) (at p.start) (end_after p.start p.end o.1), forward_full p.end ps o.2)
 
-  pub last_end : (so len : ℕ) (ps : List Piece) → Ordered so len ps → so ≤ len
-  last_end so len [] o = o
-  last_end so len (p ∷ ps) o = let a = o.0 in let b = o.1 in let c = last_end p.end len ps o.2 in omega arith
-
   pub apart_full : (so a i : ℕ) (ps : List Piece) → Ordered so (length (text h)) ps → ((q : ℕ) → so ≤ q → a ≤ at q) → overlap_from a i (map (full_piece h) ps) ≡ None
   apart_full so a i [] o f = refl
   apart_full so a i (p ∷ ps) o f =
       let n : ltb (at p.start) a ≡ false = le-ltb (at p.start) a (f p.start o.0) in
-      rw n (apart_full p.end (full_end p.start p.end) (suc i) ps o.2 (λ q k. end_before p.start p.end q o.1 (last_end p.end (length (text h)) ps o.2) k))
+      rw n (apart_full p.end (full_end p.start p.end) (suc i) ps o.2 (λ q k. end_before p.start p.end q o.1 (ordered_le p.end (length (text h)) ps o.2) k))
 
   total_full : (ps : List Piece) → text_total (map (full_piece h) ps) ≡ text_total ps
   total_full [] = refl

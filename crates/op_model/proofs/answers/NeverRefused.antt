@@ -1,5 +1,5 @@
 -- An operation of a lawful set is never refused by a history of operations of the set.
-use Rattle.op_model.proofs.Elements.{each_map, each_filter}
+use Rattle.op_model.proofs.Elements.{each_map, each_filter, and_not}
 use Rattle.std.proofs.Common.{◌≡◌, ℕ, zero, suc, ◌<◌, ◌≤◌, ◌⊎◌, Bool, List, [], ◌∷◌, ◌++◌, refl, sym, ◌∙◌, ap, subst, inl, inr, true, false, cond, not, ◌&&◌, ltb, arith, Some, None, Option}
 use Rattle.std.specs.Prelude.{option_map, unwrap_or}
 use Rattle.std.specs.List.{AllByRecursion, find}
@@ -165,17 +165,13 @@ module _ (g : History) (lg : Lawful g) (h : History) (lh : Lawful h) (part : (o 
         (both (version_of op) (find_none (λ e. ltb 0 e.1 && not (is_entry_closed p (version_of op) e)) (version_of op) (map_none (λ e. e.0) (find (λ e. ltb 0 e.1 && not (is_entry_closed p (version_of op) e)) (version_of op)) was.closed))
         (find_none (λ e. ltb (entry (version h) e.0) e.1) (version_of op) caused)))
       where
-        and_no : (x y : Bool) → (x ≡ true → y ≡ true) → (x && not y) ≡ false
-        and_no true y f = let e = f refl in rw e refl
-        and_no false y f = refl
-
         from_no : (x y : Bool) → (x && not y) ≡ false → x ≡ true → y ≡ true
         from_no true true e f = refl
         from_no true false e f = cc
         from_no false y e f = cc
 
         one : (e : ℕ × ℕ) → (ltb 0 e.1 && not (is_entry_closed p (version_of op) e)) ≡ false → ltb (entry (version h) e.0) e.1 ≡ false → (ltb 0 e.1 && not (is_entry_closed h (version_of op) e)) ≡ false
-        one e a b = and_no (ltb 0 e.1) (is_entry_closed h (version_of op) e) (λ t.
+        one e a b = and_not (ltb 0 e.1) (is_entry_closed h (version_of op) e) (λ t.
             let w = any_from (λ o. same_stamp (stamp_of o) (record { value = e.1; replica = e.0 }) && within (version_of o) (version_of op)) p (from_no (ltb 0 e.1) (is_entry_closed p (version_of op) e) a t) in
             let s = same_stamp_eq (stamp_of w.0) (record { value = e.1; replica = e.0 }) (and_parts (same_stamp (stamp_of w.0) (record { value = e.1; replica = e.0 })) (within (version_of w.0) (version_of op)) w.2).0 in
             let v : (stamp_of w.0).value ≡ e.1 = ap (λ (x : Lamport). x.value) s in

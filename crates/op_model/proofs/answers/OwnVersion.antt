@@ -1,5 +1,5 @@
 -- An operation with the clock's stamp and the version of a lawful history passes every case but those of its pieces and counts.
-use Rattle.op_model.proofs.Elements.{each_map}
+use Rattle.op_model.proofs.Elements.{each_map, and_not}
 use Rattle.std.proofs.Common.{◌≡◌, ℕ, ◌<◌, ◌≤◌, ◌⊎◌, Bool, [], ◌∷◌, ◌++◌, refl, sym, ◌∙◌, ap, subst, inl, inr, true, false, cond, not, ◌||◌, ◌&&◌, eqb, ltb, leb, arith, None}
 use Rattle.std.proofs.lemmas.List.{append-nil}
 use Rattle.std.proofs.lemmas.Bool.{cases_Bool, lt-leb, le-ltb, cases_lt, and_parts}
@@ -153,10 +153,6 @@ module _ (h : History) (l : Lawful h) (st : Stamps h) (open_clock : eqb (clock h
   named : (e : ℕ × ℕ) → entry (version h) e.0 ≡ e.1 → (ltb 0 e.1 && not (is_entry_closed h (version h) e)) ≡ false
   named e a = go (cases_lt 0 e.1)
     where
-      and_no : (x y : Bool) → y ≡ true → (x && not y) ≡ false
-      and_no true y e = rw e refl
-      and_no false y e = refl
-
       go : (0 < e.1) ⊎ (e.1 ≤ 0) → (ltb 0 e.1 && not (is_entry_closed h (version h) e)) ≡ false
       go (inl p) =
           let g : greatest h e.0 ≡ e.1 = sym (entry_version h e.0) ∙ a in
@@ -164,8 +160,8 @@ module _ (h : History) (l : Lawful h) (st : Stamps h) (open_clock : eqb (clock h
           let s : stamp_of w.0 ≡ record { value = e.1; replica = e.0 } = w.2 ∙ ap (λ (n : ℕ). record { value = n; replica = e.0 }) g in
           let k : same_stamp (stamp_of w.0) (record { value = e.1; replica = e.0 }) ≡ true = subst (λ (t : Lamport). same_stamp t (record { value = e.1; replica = e.0 }) ≡ true) (sym s) (same_stamp_refl (record { value = e.1; replica = e.0 })) in
           let c = caused_within h w.0 (lawful_caused h l w.0 w.1) in
-          and_no (ltb 0 e.1) (is_entry_closed h (version h) e)
-          (any_in (λ o. same_stamp (stamp_of o) (record { value = e.1; replica = e.0 }) && within (version_of o) (version h)) h w.0 w.1 (rw (k, c) refl))
+          and_not (ltb 0 e.1) (is_entry_closed h (version h) e)
+          (λ q. any_in (λ o. same_stamp (stamp_of o) (record { value = e.1; replica = e.0 }) && within (version_of o) (version h)) h w.0 w.1 (rw (k, c) refl))
       go (inr p) = let n = le-ltb 0 e.1 p in rw n refl
 
   pub own_closed : open_replica h (version h) ≡ None

@@ -25,7 +25,7 @@ use Rattle.op_model.proofs.order.Insertion.{each_insert}
 use Rattle.op_model.proofs.answers.Passed.{passed, good, none_find, any_none, none_any, when_other, objection_not}
 use Rattle.op_model.proofs.histories.MoreLawful.{lawful_more}
 use Rattle.op_model.proofs.histories.Proper.{edit_good, undo_good, made_proper, undo_proper}
-use Rattle.op_model.proofs.Elements.{each_left, each_map, each_append}
+use Rattle.op_model.proofs.Elements.{each_left, each_map, each_append, each_unit}
 
 -- ---- a turn
 
@@ -200,11 +200,7 @@ settled_misses l h w = each_map (λ (op : Operation). turn l (settle l h w).hist
     (λ op e. stay_misses l (settle l h w).history op e) (settle l h w).waiting (settled_stay l h w)
 
 pub settled_lawful : (l : LimitsType) (h : History) (w : List Operation) → Lawful h → Lawful (settle l h w).history
-settled_lawful l h w p = (settled_keeps l Lawful (λ op. Unit {0}) (λ g op a b c. lawful_more g op a c) h w p (all w)).0
-  where
-    all : (w : List Operation) → AllByRecursion (λ (op : Operation). Unit {0}) w
-    all [] = tt
-    all (op ∷ w) = (tt, all w)
+settled_lawful l h w p = (settled_keeps l Lawful (λ op. Unit {0}) (λ g op a b c. lawful_more g op a c) h w p (each_unit w)).0
 
 -- ---- runs of calls
 

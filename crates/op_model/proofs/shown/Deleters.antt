@@ -2,6 +2,7 @@
 use Rattle.std.proofs.Common.{◌≡◌, ◌⊎◌, max, Bool, List, [], ◌∷◌, ◌++◌, refl, ◌∙◌, ap, inl, inr, true, false, cond, not, ◌&&◌, arith}
 use Rattle.std.proofs.lemmas.Bool.{cases_Bool, and_left, and_right}
 use Rattle.lamport_clock.specs.declared.stamp.Lamport.{Lamport}
+use Rattle.op_model.proofs.Elements.{and_swap}
 use Rattle.op_model.specs.declared.operation.Operation.{Operation}
 use Rattle.op_model.specs.Histories.{History, newer, by_stamp, newest_first, kept_history}
 use Rattle.op_model.specs.Operations.{stamp_of, version_of, pieces_of, counts_of}
@@ -98,13 +99,7 @@ late_deleters keep op (o ∷ h) u c a e = elim (cases_Bool (newer o op)) [
 
     mix : (b : Bool) (x y : Bool) (d d' : List Lamport) → all_undone u d ≡ (y && all_undone u d')
         → all_undone u (cond b (stamp_of o ∷ d) d) ≡ (y && all_undone u (cond b (stamp_of o ∷ d') d'))
-    mix true x y d d' i = ap (λ z. undone u (stamp_of o) && z) i ∙ swap (undone u (stamp_of o)) y (all_undone u d')
-      where
-        swap : (p q r : Bool) → (p && (q && r)) ≡ (q && (p && r))
-        swap true true r = refl
-        swap true false r = refl
-        swap false true r = refl
-        swap false false r = refl
+    mix true x y d d' i = ap (λ z. undone u (stamp_of o) && z) i ∙ and_swap (undone u (stamp_of o)) y (all_undone u d')
     mix false x y d d' i = i
 
     under : (keep (stamp_of o) ≡ true) ⊎ (keep (stamp_of o) ≡ false)

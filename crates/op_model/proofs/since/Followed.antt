@@ -12,6 +12,7 @@ use Rattle.op_model.specs.Shown.{byte, shown, text_where, text}
 use Rattle.op_model.specs.Lawful.{Lawful, IsClosed}
 use Rattle.op_model.specs.Since.{Fate, fate, is_shown_at, lengthen, runs, number_gone, number_new, changes, edits_of, since, text_at, apply_edits}
 use Rattle.op_model.specs.Since.Fate.{Gone, New, Never}
+use Rattle.op_model.proofs.Elements.{same_first, same_rest}
 use Rattle.op_model.proofs.order.Restricted.{restrict}
 use Rattle.op_model.proofs.shown.Parts.{shown_seen}
 use Rattle.op_model.proofs.shown.Bytes.{text_seen}
@@ -218,15 +219,9 @@ module _ {A : Type 0} (f : A → ℕ) (a b : A → Bool) where
         go c ih = elim c.2 [
           | inl w ↦ subst (λ (z : List A). Follows (r0 ∷ rs) z) (sym w.0) (subst (λ (z : List (List Fate)). Follows z c.0) (sym w.1 ∙ e) (last_run c.0 c.1))
           | inr w ↦ (let q : fates_of c.0 ∷ runs (fates_of w.1) ≡ r0 ∷ rs = sym w.5 ∙ e in
-              let j : runs (fates_of w.1) ≡ rs = tail q in
-              subst (λ (z : List A). Follows (r0 ∷ rs) z) (sym w.2) (subst (λ (z : List Fate). Follows (z ∷ rs) (c.0 ++ w.0 ∷ w.1)) (head q) (next_run c.0 w.0 w.1 rs c.1 w.3 w.4 (ih w.1 j))))
+              let j : runs (fates_of w.1) ≡ rs = same_rest q in
+              subst (λ (z : List A). Follows (r0 ∷ rs) z) (sym w.2) (subst (λ (z : List Fate). Follows (z ∷ rs) (c.0 ++ w.0 ∷ w.1)) (same_first q) (next_run c.0 w.0 w.1 rs c.1 w.3 w.4 (ih w.1 j))))
         ]
-          where
-            head : {x y : List Fate} {xs ys : List (List Fate)} → x ∷ xs ≡ y ∷ ys → x ≡ y
-            head i = cc
-
-            tail : {x y : List Fate} {xs ys : List (List Fate)} → x ∷ xs ≡ y ∷ ys → xs ≡ ys
-            tail i = cc
 
 -- ---- the texts of a history
 

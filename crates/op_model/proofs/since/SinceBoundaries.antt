@@ -17,6 +17,7 @@ use Rattle.op_model.specs.Facts.{Fact, fact, cell_facts, was_visible}
 use Rattle.op_model.specs.Walked.{Run, facts_of}
 use Rattle.op_model.specs.Lawful.{Lawful, IsClosed}
 use Rattle.op_model.specs.Since.{Fate, fates, is_shown_at, runs, number_gone, number_new, changes, edits_of, since, text_at}
+use Rattle.op_model.proofs.Elements.{same_first, same_rest}
 use Rattle.op_model.proofs.answers.Good.{lawful_ready}
 use Rattle.op_model.proofs.texts.Utf8Runs.{drop_past, drop_more, bytes, Utf8}
 use Rattle.op_model.proofs.texts.WholeTexts.{byte_of, Whole, lawful_whole}
@@ -153,15 +154,9 @@ module _ {A : Type 0} (f : A → ℕ) (a b : A → Bool) (whole : List A) where
           go c ih = elim c.2 [
             | inl w ↦ subst (λ (z : List A). Bounded (r0 ∷ rs) z) (sym w.0) (subst (λ (z : List (List Fate)). Bounded z c.0) (sym w.1 ∙ e) (last_run c.0 c.1))
             | inr w ↦ (let q : fates_of f a b c.0 ∷ runs (fates_of f a b w.1) ≡ r0 ∷ rs = sym w.5 ∙ e in
-                let j : runs (fates_of f a b w.1) ≡ rs = tail q in
-                subst (λ (z : List A). Bounded (r0 ∷ rs) z) (sym w.2) (subst (λ (z : List Fate). Bounded (z ∷ rs) (c.0 ++ w.0 ∷ w.1)) (head q) (next_run c.0 w.0 w.1 rs c.1 w.3 w.4 (ih w.1 j))))
+                let j : runs (fates_of f a b w.1) ≡ rs = same_rest q in
+                subst (λ (z : List A). Bounded (r0 ∷ rs) z) (sym w.2) (subst (λ (z : List Fate). Bounded (z ∷ rs) (c.0 ++ w.0 ∷ w.1)) (same_first q) (next_run c.0 w.0 w.1 rs c.1 w.3 w.4 (ih w.1 j))))
           ]
-            where
-              head : {x y : List Fate} {xs ys : List (List Fate)} → x ∷ xs ≡ y ∷ ys → x ≡ y
-              head i = cc
-
-              tail : {x y : List Fate} {xs ys : List (List Fate)} → x ∷ xs ≡ y ∷ ys → xs ≡ ys
-              tail i = cc
 
 -- ---- the texts of a history
 

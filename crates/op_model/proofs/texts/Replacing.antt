@@ -38,7 +38,7 @@ use Rattle.op_model.proofs.texts.FullOffsets.{number, offset_count, offset_next,
 use Rattle.op_model.proofs.texts.Utf8Runs.{bytes, drop_more}
 use Rattle.op_model.proofs.texts.WholeTexts.{byte_of, text_told, bytes_told, same_bytes, new_text, byte_is, in_last}
 use Rattle.op_model.proofs.histories.VersionLaws.{sees_own, clock_above, clock_under}
-use Rattle.op_model.proofs.answers.MadeGood.{at, full_end, end_after, end_before, last_end, text_number, Sound}
+use Rattle.op_model.proofs.answers.MadeGood.{at, full_end, end_after, end_before, text_number, Sound}
 
 -- ---- lists
 
@@ -247,7 +247,7 @@ module _ (h : History) where
         let s0 : List Fact = cell_facts h in
         let o0 = o.0 in
         let o1 = o.1 in
-        let le : p.end ≤ length (text h) = last_end h p.end (length (text h)) ps o.2 in
+        let le : p.end ≤ length (text h) = ordered_le p.end (length (text h)) ps o.2 in
         let x : ℕ = at h p.start in
         let y : ℕ = full_end h p.start p.end in
         let cx : count b (take x s0) ≡ p.start = start_count b p.start (omega arith) in
@@ -329,4 +329,4 @@ replaced_text h r ps rd ct so g =
 
     full_ordered : (from so : ℕ) (qs : List Piece) → Ordered so (length (text h)) qs → ((q : ℕ) → so ≤ q → from ≤ at h q) → length (cell_facts h) ≡ length (cells (seq h)) → Ordered from (length (cell_facts h)) (map (full_piece h) qs)
     full_ordered from so [] o f l = (let a = f (length (text h)) o in let c = offset_length (shown h) (cells (seq h)) (length (text h)) in omega arith)
-    full_ordered from so (p ∷ qs) o f l = (f p.start o.0, end_after h p.start p.end o.1, full_ordered (full_end h p.start p.end) p.end qs o.2 (λ q k. end_before h p.start p.end q o.1 (last_end h p.end (length (text h)) qs o.2) k) l)
+    full_ordered from so (p ∷ qs) o f l = (f p.start o.0, end_after h p.start p.end o.1, full_ordered (full_end h p.start p.end) p.end qs o.2 (λ q k. end_before h p.start p.end q o.1 (ordered_le p.end (length (text h)) qs o.2) k) l)
