@@ -1,6 +1,6 @@
 //! A replica's clock.
 ghost use Rattle.std.specs.Prelude.{◌≡◌, ◌+◌, ◌<◌, ◌≤◌, ◌↔◌, IfOk, IsErr, OnErr, OnOk};
-ghost use Rattle.lamport_clock.specs.Clocks.{clock_after};
+ghost use Rattle.lamport_clock.specs.Clocks.{clock_after, last_value};
 
 use crate::Lamport;
 use std::marker::Model;
@@ -55,7 +55,7 @@ impl Clock {
     ///
     /// `ClockEnd` exactly where the clock stands at 4,294,967,295; it stays there.
     pub fn tick(&mut self) -> Result<Lamport, ClockEnd>
-        ensures end { IsErr result ↔ (self.old.value ≡ 4294967295) }
+        ensures end { IsErr result ↔ (self.old.value ≡ last_value) }
         ensures stamp { IfOk result (λ t. t ≡ self.old) }
         ensures ok { OnOk result (self.new ≡ record self.old { value = self.old.value + 1 }) }
         ensures err { OnErr result (self.new ≡ self.old) }

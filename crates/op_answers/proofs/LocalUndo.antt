@@ -2,6 +2,7 @@
 use Rattle.std.proofs.Common.{◌≡◌, ℕ, ◌+◌, Bool, cond, eqb, List, [], ◌∷◌, length, refl, sym, ◌∙◌, ap, Some, None, Option}
 use Rattle.std.specs.Prelude.{option_map, not}
 use Rattle.std.specs.List.{find}
+use Rattle.lamport_clock.specs.Clocks.{last_value}
 use Rattle.lamport_clock.specs.declared.stamp.Lamport.{Lamport}
 use Rattle.op_model.specs.declared.faults.UndoFault.{UndoFault}
 use Rattle.op_model.specs.declared.faults.UndoFault.TheVariants.{NoSuchEdit, Twice, CountEnd, ClockEnd, Full}
@@ -24,48 +25,48 @@ find_same p q [] e = refl
 find_same p q (t ∷ ts) e = ap (λ (b : Bool). cond b (Some t) (find p ts)) (e t) ∙ ap (cond (q t) (Some t)) (find_same p q ts e)
 
 -- the entries of a history tell which count stands at its end
-pub at_end : (h : History) (w : List UndoEntry) (ts : List Lamport) → w ≡ undo_entries h → find (λ t. eqb (count_of w t) 4294967295) ts ≡ find (λ t. eqb (count h t) 4294967295) ts
-at_end h w ts q = find_same (λ t. eqb (count_of w t) 4294967295) (λ t. eqb (count h t) 4294967295) ts
-    (λ t. ap (λ (z : List UndoEntry). eqb (count_of z t) 4294967295) q ∙ ap (λ (n : ℕ). eqb n 4294967295) (count_kept h t))
+pub at_end : (h : History) (w : List UndoEntry) (ts : List Lamport) → w ≡ undo_entries h → find (λ t. eqb (count_of w t) last_value) ts ≡ find (λ t. eqb (count h t) last_value) ts
+at_end h w ts q = find_same (λ t. eqb (count_of w t) last_value) (λ t. eqb (count h t) last_value) ts
+    (λ t. ap (λ (z : List UndoEntry). eqb (count_of z t) last_value) q ∙ ap (λ (n : ℕ). eqb n last_value) (count_kept h t))
 
 module _ (h : History) (ts : List Lamport) where
   pub unknown : (t : Lamport) → find (λ t. not (has_edit h t)) ts ≡ Some t → Some (NoSuchEdit t) ≡ undo_fault h ts
-  unknown t e = sym (ap (λ (o : Option Lamport). first_of (option_map NoSuchEdit o ∷ option_map Twice (first_twice [] ts) ∷ option_map CountEnd (find (λ t. eqb (count h t) 4294967295) ts) ∷ [])) e)
+  unknown t e = sym (ap (λ (o : Option Lamport). first_of (option_map NoSuchEdit o ∷ option_map Twice (first_twice [] ts) ∷ option_map CountEnd (find (λ t. eqb (count h t) last_value) ts) ∷ [])) e)
 
   module _ (k : find (λ t. not (has_edit h t)) ts ≡ None) where
-    behind : (o : Option Lamport) → first_of (option_map NoSuchEdit (find (λ t. not (has_edit h t)) ts) ∷ option_map Twice o ∷ option_map CountEnd (find (λ t. eqb (count h t) 4294967295) ts) ∷ [])
-        ≡ first_of (option_map Twice o ∷ option_map CountEnd (find (λ t. eqb (count h t) 4294967295) ts) ∷ [])
-    behind o = ap (λ (u : Option Lamport). first_of (option_map NoSuchEdit u ∷ option_map Twice o ∷ option_map CountEnd (find (λ t. eqb (count h t) 4294967295) ts) ∷ [])) k
+    behind : (o : Option Lamport) → first_of (option_map NoSuchEdit (find (λ t. not (has_edit h t)) ts) ∷ option_map Twice o ∷ option_map CountEnd (find (λ t. eqb (count h t) last_value) ts) ∷ [])
+        ≡ first_of (option_map Twice o ∷ option_map CountEnd (find (λ t. eqb (count h t) last_value) ts) ∷ [])
+    behind o = ap (λ (u : Option Lamport). first_of (option_map NoSuchEdit u ∷ option_map Twice o ∷ option_map CountEnd (find (λ t. eqb (count h t) last_value) ts) ∷ [])) k
 
     pub twice : (t : Lamport) → first_twice [] ts ≡ Some t → Some (Twice t) ≡ undo_fault h ts
-    twice t e = sym (behind (first_twice [] ts) ∙ ap (λ (o : Option Lamport). first_of (option_map Twice o ∷ option_map CountEnd (find (λ t. eqb (count h t) 4294967295) ts) ∷ [])) e)
+    twice t e = sym (behind (first_twice [] ts) ∙ ap (λ (o : Option Lamport). first_of (option_map Twice o ∷ option_map CountEnd (find (λ t. eqb (count h t) last_value) ts) ∷ [])) e)
 
     module _ (d : first_twice [] ts ≡ None) where
-      last : undo_fault h ts ≡ first_of (option_map CountEnd (find (λ t. eqb (count h t) 4294967295) ts) ∷ [])
-      last = behind (first_twice [] ts) ∙ ap (λ (o : Option Lamport). first_of (option_map Twice o ∷ option_map CountEnd (find (λ t. eqb (count h t) 4294967295) ts) ∷ [])) d
+      last : undo_fault h ts ≡ first_of (option_map CountEnd (find (λ t. eqb (count h t) last_value) ts) ∷ [])
+      last = behind (first_twice [] ts) ∙ ap (λ (o : Option Lamport). first_of (option_map Twice o ∷ option_map CountEnd (find (λ t. eqb (count h t) last_value) ts) ∷ [])) d
 
-      pub ended : (t : Lamport) → find (λ t. eqb (count h t) 4294967295) ts ≡ Some t → Some (CountEnd t) ≡ undo_fault h ts
+      pub ended : (t : Lamport) → find (λ t. eqb (count h t) last_value) ts ≡ Some t → Some (CountEnd t) ≡ undo_fault h ts
       ended t e = sym (last ∙ ap (λ (o : Option Lamport). first_of (option_map CountEnd o ∷ [])) e)
 
-      pub faultless : find (λ t. eqb (count h t) 4294967295) ts ≡ None → None ≡ undo_fault h ts
+      pub faultless : find (λ t. eqb (count h t) last_value) ts ≡ None → None ≡ undo_fault h ts
       faultless e = sym (last ∙ ap (λ (o : Option Lamport). first_of (option_map CountEnd o ∷ [])) e)
 
 -- without a fault no count stands at its end
-pub room : (h : History) (w : List UndoEntry) (ts : List Lamport) → w ≡ undo_entries h → undo_fault h ts ≡ None → find (λ t. eqb (count_of w t) 4294967295) ts ≡ None
+pub room : (h : History) (w : List UndoEntry) (ts : List Lamport) → w ≡ undo_entries h → undo_fault h ts ≡ None → find (λ t. eqb (count_of w t) last_value) ts ≡ None
 room h w ts q e =
     let a : Option UndoFault = option_map NoSuchEdit (find (λ t. not (has_edit h t)) ts) in
     let b : Option UndoFault = option_map Twice (first_twice [] ts) in
-    let c : Option UndoFault = option_map CountEnd (find (λ t. eqb (count h t) 4294967295) ts) in
-    at_end h w ts q ∙ map_none CountEnd (find (λ t. eqb (count h t) 4294967295) ts)
+    let c : Option UndoFault = option_map CountEnd (find (λ t. eqb (count h t) last_value) ts) in
+    at_end h w ts q ∙ map_none CountEnd (find (λ t. eqb (count h t) last_value) ts)
     (first_none c [] (first_none b (c ∷ []) (first_none a (b ∷ c ∷ []) e).1).1).0
 
 -- what stands behind the fault
 pub local_of : (l : LimitsType) (h : History) (ts : List Lamport) (r : Option UndoFault) → r ≡ undo_fault h ts
-    → local_undo_fault l h ts ≡ first_of (r ∷ when (eqb (clock h) 4294967295) ClockEnd ∷ option_map (λ e. Full e.unit e.held e.adds) (excess l h 0 (1 + length ts)) ∷ [])
+    → local_undo_fault l h ts ≡ first_of (r ∷ when (eqb (clock h) last_value) ClockEnd ∷ option_map (λ e. Full e.unit e.held e.adds) (excess l h 0 (1 + length ts)) ∷ [])
 local_of l h ts r e =
-    let rest : List (Option UndoFault) = when (eqb (clock h) 4294967295) ClockEnd ∷ option_map (λ e. Full e.unit e.held e.adds) (excess l h 0 (1 + length ts)) ∷ [] in
-    first_append (option_map NoSuchEdit (find (λ t. not (has_edit h t)) ts) ∷ option_map Twice (first_twice [] ts) ∷ option_map CountEnd (find (λ t. eqb (count h t) 4294967295) ts) ∷ []) rest
+    let rest : List (Option UndoFault) = when (eqb (clock h) last_value) ClockEnd ∷ option_map (λ e. Full e.unit e.held e.adds) (excess l h 0 (1 + length ts)) ∷ [] in
+    first_append (option_map NoSuchEdit (find (λ t. not (has_edit h t)) ts) ∷ option_map Twice (first_twice [] ts) ∷ option_map CountEnd (find (λ t. eqb (count h t) last_value) ts) ∷ []) rest
     ∙ ap (λ (o : Option UndoFault). first_of (o ∷ rest)) (sym e)
 
-pub room_of : (h : History) (w : List UndoEntry) (ts : List Lamport) (r : Option UndoFault) → w ≡ undo_entries h → r ≡ undo_fault h ts → r ≡ None → find (λ t. eqb (count_of w t) 4294967295) ts ≡ None
+pub room_of : (h : History) (w : List UndoEntry) (ts : List Lamport) (r : Option UndoFault) → w ≡ undo_entries h → r ≡ undo_fault h ts → r ≡ None → find (λ t. eqb (count_of w t) last_value) ts ≡ None
 room_of h w ts r q e n = room h w ts q (sym e ∙ n)

@@ -1,6 +1,7 @@
 -- The answer to a local undo.
 use Rattle.std.specs.Prelude.{◌==◌, List, [], ◌∷◌, not, Option, option_map}
 use Rattle.std.specs.List.{find}
+use Rattle.lamport_clock.specs.Clocks.{last_value}
 use Rattle.lamport_clock.specs.declared.stamp.Lamport.{Lamport}
 use Rattle.op_model.specs.declared.faults.UndoFault.{UndoFault}
 use Rattle.op_model.specs.declared.faults.UndoFault.TheVariants.{NoSuchEdit, Twice, CountEnd}
@@ -14,5 +15,5 @@ abbrev pub undo_fault : History → List Lamport → Option UndoFault
 undo_fault h ts = first_of (
     option_map NoSuchEdit (find (λ t. not (has_edit h t)) ts)
     ∷ option_map Twice (first_twice [] ts)
-    ∷ option_map CountEnd (find (λ t. count h t == 4294967295) ts)
+    ∷ option_map CountEnd (find (λ t. count h t == last_value) ts)
     ∷ [])

@@ -1,6 +1,7 @@
 //! The answer to a local undo.
 ghost use Rattle.std.specs.Prelude.{◌≡◌, ◌+◌, ◌==◌, [], ◌∷◌, length, option_map, not, Some, None};
 ghost use Rattle.std.specs.List.{find};
+ghost use Rattle.lamport_clock.specs.Clocks.{last_value};
 ghost use Rattle.op_model.specs.Choice.{first_of, when};
 ghost use Rattle.op_model.specs.Histories.{Distinct, clock, has_edit};
 ghost use Rattle.op_model.specs.Limited.{excess};
@@ -33,7 +34,7 @@ fn first_unknown(applied: &AppliedList, edits: &[Lamport]) -> Option<Lamport>
 
 // The first stamp whose count stands at its end.
 fn first_at_end(undos: &UndoMap, edits: &[Lamport]) -> Option<Lamport>
-    ensures { result ≡ find (λ t. count_of undos.now t == 4294967295) edits.now }
+    ensures { result ≡ find (λ t. count_of undos.now t == last_value) edits.now }
 {
     for &edit in edits {
         if undos.count(edit) == u32::MAX {
@@ -57,10 +58,10 @@ pub fn undo_fault(
     requires counts { undos.now ≡ undo_entries applied.now }
     ensures fault { result ≡ undo_fault applied.now edits.now }
     ensures local { (l : LimitsType) → local_undo_fault l applied.now edits.now
-        ≡ first_of (result ∷ when (clock applied.now == 4294967295) ClockEnd
+        ≡ first_of (result ∷ when (clock applied.now == last_value) ClockEnd
         ∷ option_map (λ e. Full e.unit e.held e.adds)
         (excess l applied.now 0 (1 + length edits.now)) ∷ []) }
-    ensures room { result ≡ None → find (λ t. count_of undos.now t == 4294967295) edits.now ≡ None }
+    ensures room { result ≡ None → find (λ t. count_of undos.now t == last_value) edits.now ≡ None }
 {
     if let Some(edit) = first_unknown(applied, edits) {
         return Some(UndoFault::NoSuchEdit(edit));

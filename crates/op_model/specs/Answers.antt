@@ -1,6 +1,7 @@
 -- The answer to an operation.
 use Rattle.std.specs.Prelude.{ℕ, ◌==◌, nat_lt, nat_le, Bool, true, false, not, ◌&&◌, ◌||◌, List, [], ◌∷◌, ◌++◌, length, Option, option_map, unwrap_or}
 use Rattle.std.specs.List.{find, list_any, position}
+use Rattle.lamport_clock.specs.Clocks.{last_value}
 use Rattle.lamport_clock.specs.Stamps.{same_stamp}
 use Rattle.lamport_clock.specs.Versions.{Entries, entry, within, first_unseen}
 use Rattle.op_model.specs.declared.operation.Piece.{Piece}
@@ -23,7 +24,7 @@ pub data Answer : Type 0 where
 -- a stamp, an author or a version that no replica makes
 abbrev pub bad_stamp : Operation → Bool
 bad_stamp op = let t = stamp_of op in
-    t.value == 0 || t.value == 4294967295 || t.replica == 0 || nat_lt last_replica t.replica
+    t.value == 0 || t.value == last_value || t.replica == 0 || nat_lt last_replica t.replica
     || list_any (λ e. nat_lt last_replica e.0) (version_of op) || list_any (λ e. nat_le t.value e.1) (version_of op)
 
 abbrev pub no_base : Operation → Bool

@@ -1,6 +1,7 @@
 -- A local edit: the plain replacement of ranges of a text, and the fault that it meets.
 use Rattle.std.specs.Prelude.{ℕ, ◌+◌, suc, ◌==◌, ◌&&◌, ◌||◌, Bool, not, nat_lt, nat_le, if◌then◌else◌, List, [], ◌∷◌, ◌++◌, length, drop, slice_range, slice_index, Option, Some, None, option_map}
 use Rattle.std.specs.List.{position}
+use Rattle.lamport_clock.specs.Clocks.{last_value}
 use Rattle.op_model.specs.declared.operation.Piece.{Piece}
 use Rattle.op_model.specs.declared.limits.Limits.{Limits as LimitsType}
 use Rattle.op_model.specs.declared.faults.EditFault.{EditFault}
@@ -52,6 +53,6 @@ abbrev pub edit_fault : LimitsType → History → List ℕ → List Piece → O
 edit_fault l h text ps = first_of (
     piece_fault text ps
     ∷ when (nat_lt text_limit (text_total ps)) (TextLimit (text_total ps))
-    ∷ when (clock h == 4294967295) ClockEnd
+    ∷ when (clock h == last_value) ClockEnd
     ∷ option_map (λ e. Full e.unit e.held e.adds) (excess l h (text_total ps) (1 + length ps))
     ∷ [])

@@ -1,6 +1,7 @@
 -- The operations that a replica makes, and the fault that a local undo meets.
 use Rattle.std.specs.Prelude.{ℕ, zero, suc, ◌+◌, ◌-◌, ◌==◌, Bool, not, if◌then◌else◌, List, [], ◌∷◌, map, length, Option, Some, None, option_map}
 use Rattle.std.specs.List.{find, list_any}
+use Rattle.lamport_clock.specs.Clocks.{last_value}
 use Rattle.lamport_clock.specs.declared.stamp.Lamport.{Lamport}
 use Rattle.lamport_clock.specs.Stamps.{same_stamp}
 use Rattle.op_model.specs.declared.operation.Piece.{Piece}
@@ -63,7 +64,7 @@ abbrev pub local_undo_fault : LimitsType → History → List Lamport → Option
 local_undo_fault l h ts = first_of (
     option_map NoSuchEdit (find (λ t. not (has_edit h t)) ts)
     ∷ option_map Twice (first_twice [] ts)
-    ∷ option_map CountEnd (find (λ t. count h t == 4294967295) ts)
-    ∷ when (clock h == 4294967295) ClockEnd
+    ∷ option_map CountEnd (find (λ t. count h t == last_value) ts)
+    ∷ when (clock h == last_value) ClockEnd
     ∷ option_map (λ e. Full e.unit e.held e.adds) (excess l h 0 (1 + length ts))
     ∷ [])

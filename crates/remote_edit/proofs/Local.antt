@@ -3,6 +3,7 @@ use Rattle.std.proofs.Common.{◌≡◌, ℕ, ◌+◌, ◌≤◌, false, List, [
 use Rattle.std.proofs.lemmas.Bool.{ltb-false}
 use Rattle.std.specs.Prelude.{nat_lt, ◌==◌, option_map}
 use Rattle.std.specs.List.{AllByRecursion, position}
+use Rattle.lamport_clock.specs.Clocks.{last_value}
 use Rattle.lamport_clock.specs.declared.stamp.Lamport.{Lamport}
 use Rattle.lamport_clock.specs.Versions.{Entries}
 use Rattle.op_model.specs.declared.operation.Piece.{Piece}
@@ -44,7 +45,7 @@ two_none a b c d e =
 pub in_text : (l : LimitsType) (h : History) (fs : List Fragment) (ps : List Piece) → Tell fs h → local_edit_fault l h ps ≡ None → AllByRecursion (IsInText fs) ps
 in_text l h fs ps e g =
     let n : ℕ = length (text h) in
-    let a = first_none (piece_fault (text h) ps) (when (nat_lt text_limit (text_total ps)) (TextLimit (text_total ps)) ∷ when (clock h == 4294967295) ClockEnd
+    let a = first_none (piece_fault (text h) ps) (when (nat_lt text_limit (text_total ps)) (TextLimit (text_total ps)) ∷ when (clock h == last_value) ClockEnd
     ∷ option_map (λ x. Full x.unit x.held x.adds) (excess l h (text_total ps) (1 + length ps)) ∷ []) g in
     let b = two_none (option_map Reversed (position is_reversed ps)) (option_map Overlap (overlap_from 0 0 ps)) (option_map (λ i. PastEnd i n) (position (is_past n) ps)) (option_map InsideChar (position (is_inside (text h)) ps)) a.0 in
     ranges_in fs n ps (text_long h fs e) (position_none is_reversed ps (map_none Reversed (position is_reversed ps) b.0)) (position_none (is_past n) ps (map_none (λ i. PastEnd i n) (position (is_past n) ps) b.1))

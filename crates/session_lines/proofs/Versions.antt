@@ -5,6 +5,7 @@ use Rattle.std.specs.Prelude.{⊤}
 use Rattle.std.specs.List.{list_all}
 use Rattle.std.proofs.lemmas.List.{take-append-drop}
 use Rattle.std.proofs.lemmas.Bool.{and_right, lt-ltb, le-ltb, leb-true, cases_eq, ne_eqb, eq-eqb}
+use Rattle.lamport_clock.specs.Clocks.{last_value}
 use Rattle.lamport_clock.specs.declared.stamp.Lamport.{Lamport}
 use Rattle.lamport_clock.specs.Versions.{Entries, IsVersionFrom, IsVersion, entry, put_entry, raise, join_versions}
 use Rattle.lamport_clock.proofs.Raises.{by_order, by_bound, raise_seen, raise_new, entry-put_at, entry-put_off}
@@ -237,7 +238,7 @@ abbrev EntryOf : Option (ℕ × ℕ) → Type 0
 EntryOf None = ⊤
 EntryOf (Some e) = IsEntry e
 
-with_both : (r v : Option ℕ) → Below 65535 r → Below 4294967295 v → EntryOf (entry_with r v)
+with_both : (r v : Option ℕ) → Below 65535 r → Below last_value v → EntryOf (entry_with r v)
 with_both None v a b = tt
 with_both (Some id) None a b = tt
 with_both (Some id) (Some x) a b = elim (leb 1 x) as (λ c. leb 1 x ≡ c → EntryOf (cond c (Some (id, x)) None)) [ true ↦ λ e. (let k = leb-true 1 x e in (omega arith, omega arith, omega arith)) | false ↦ λ e. tt ] refl
@@ -245,7 +246,7 @@ with_both (Some id) (Some x) a b = elim (leb 1 x) as (λ c. leb 1 x ≡ c → En
 from_members : (ds : List Data) → EntryOf (entry_from ds)
 from_members [] = tt
 from_members (r ∷ []) = tt
-from_members (r ∷ v ∷ []) = with_both (id_of r) (clock_value v) (below 65535 (whole_number r)) (below 4294967295 (whole_number v))
+from_members (r ∷ v ∷ []) = with_both (id_of r) (clock_value v) (below 65535 (whole_number r)) (below last_value (whole_number v))
 from_members (r ∷ v ∷ d ∷ ds) = tt
 
 from_list : (o : Option (List Data)) → EntryOf (option_and_then entry_from o)

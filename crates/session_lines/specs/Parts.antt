@@ -3,6 +3,7 @@ use Rattle.std.specs.Prelude.{ℕ, ◌<◌, List, [], ◌∷◌, codes, map, ◌
 use Rattle.std.specs.List.{list_any}
 use Rattle.serde_json.specs.Data.{Data}
 use Rattle.serde_json.specs.Find.{as_str}
+use Rattle.lamport_clock.specs.Clocks.{last_value}
 use Rattle.lamport_clock.specs.Versions.{Entries, join_versions}
 use Rattle.lamport_clock.specs.declared.stamp.Lamport.{Lamport}
 use Rattle.op_model.specs.declared.operation.Piece.{Piece}
@@ -27,7 +28,7 @@ id_of d = at_most 65535 d
 
 -- the value of a stamp or of a version, or an undo count
 abbrev pub clock_value : Data → Option ℕ
-clock_value d = at_most 4294967295 d
+clock_value d = at_most last_value d
 
 -- ---- lists of ids
 

@@ -1,4 +1,5 @@
 -- What an edit without fault says of its pieces and of the limits.
+use Rattle.lamport_clock.specs.Clocks.{last_value}
 use Rattle.op_model.proofs.answers.Passed.{map_none, when_none}
 use Rattle.std.proofs.Common.{◌≡◌, ℕ, ◌+◌, ◌≤◌, List, ◌∷◌, [], length, ◌==◌, None, option_map, nat_lt}
 use Rattle.std.proofs.lemmas.Bool.{ltb-false}
@@ -23,7 +24,7 @@ full e = Full e.unit e.held e.adds
 meets_none : (b : BufferState) (ps : List Piece) → edit_fault b ps ≡ None → (piece_fault (text b.history) ps ≡ None) × (excess b.limits b.history (text_total ps) (1 + length ps) ≡ None)
 meets_none b ps e =
     let long = when (nat_lt text_limit (text_total ps)) (TextLimit (text_total ps)) in
-    let late = when (clock b.history == 4294967295) ClockEnd in
+    let late = when (clock b.history == last_value) ClockEnd in
     let over = excess b.limits b.history (text_total ps) (1 + length ps) in
     let none = all_none (piece_fault (text b.history) ps ∷ long ∷ late ∷ option_map full over ∷ []) e in
     (none.0, map_none full over none.1.1.1.0)

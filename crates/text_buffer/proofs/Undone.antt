@@ -3,6 +3,7 @@ use Rattle.std.proofs.Common.{◌≡◌, ℕ, ◌+◌, eqb, List, [], ◌∷◌,
 use Rattle.std.specs.Prelude.{option_map}
 use Rattle.std.specs.List.{find}
 use Rattle.std.proofs.lemmas.List.{length-map}
+use Rattle.lamport_clock.specs.Clocks.{last_value}
 use Rattle.lamport_clock.specs.declared.stamp.Lamport.{Lamport}
 use Rattle.lamport_clock.specs.Versions.{Entries}
 use Rattle.op_model.specs.declared.operation.Operation.{Operation}
@@ -32,7 +33,7 @@ use Rattle.text_buffer.proofs.Applied.{within_limits}
 
 -- the faults that come behind those of the list
 abbrev late : LimitsType → History → List Lamport → List (Option UndoFault)
-late l h ts = when (eqb (clock h) 4294967295) ClockEnd ∷ option_map (λ e. Full e.unit e.held e.adds) (excess l h 0 (1 + length ts)) ∷ []
+late l h ts = when (eqb (clock h) last_value) ClockEnd ∷ option_map (λ e. Full e.unit e.held e.adds) (excess l h 0 (1 + length ts)) ∷ []
 
 abbrev full : Excess → UndoFault
 full e = Full e.unit e.held e.adds
@@ -46,14 +47,14 @@ record Unmet (b : BufferState) (ts : List Lamport) : Type 0 where
 
 meets_none : (b : BufferState) (ts : List Lamport) → undo_fault b ts ≡ None → Unmet b ts
 meets_none b ts e =
-    let clocked : Option UndoFault = when (eqb (clock b.history) 4294967295) ClockEnd in
+    let clocked : Option UndoFault = when (eqb (clock b.history) last_value) ClockEnd in
     let over : Option Excess = excess b.limits b.history 0 (1 + length ts) in
     let one = first_none (listed_fault b.history ts) (late b.limits b.history ts) (sym (local_of b.limits b.history ts (listed_fault b.history ts) refl) ∙ e) in
     let two = first_none clocked (option_map full over ∷ []) one.1 in
     record { listed = one.0; excess = map_none full over (first_none (option_map full over) [] two.1).0 }
 
 -- no count stands at its end
-pub counts_open : (b : BufferState) (ts : List Lamport) (w : List UndoEntry) → w ≡ undo_entries b.history → undo_fault b ts ≡ None → find (λ t. eqb (count_of w t) 4294967295) ts ≡ None
+pub counts_open : (b : BufferState) (ts : List Lamport) (w : List UndoEntry) → w ≡ undo_entries b.history → undo_fault b ts ≡ None → find (λ t. eqb (count_of w t) last_value) ts ≡ None
 counts_open b ts w q e = room b.history w ts q (meets_none b ts e).listed
 
 -- ---- the operation

@@ -1,6 +1,7 @@
 //! The counts of a local undo.
 ghost use Rattle.std.specs.Prelude.{◌≡◌, ◌==◌, false, IfOk, None, map};
 ghost use Rattle.std.specs.List.{find};
+ghost use Rattle.lamport_clock.specs.Clocks.{last_value};
 ghost use Rattle.op_model.specs.Histories.{History};
 ghost use Rattle.op_model.specs.Made.{next_count};
 ghost use Rattle.undo_map.specs.Counts.{count_of};
@@ -13,7 +14,7 @@ use std::alloc::Global;
 
 // The count that an undo gives an edit: one more than it has.
 fn next_count(undos: &UndoMap, edit: Lamport) -> UndoCount
-    requires { (count_of undos.now edit == 4294967295) ≡ false }
+    requires { (count_of undos.now edit == last_value) ≡ false }
     ensures { result ≡ next_of undos.now edit }
 {
     UndoCount {
@@ -26,7 +27,7 @@ fn next_count(undos: &UndoMap, edit: Lamport) -> UndoCount
 /// `undos` has the undo counts of a history, these are the counts of the undo made there. For each edit as
 /// `UndoMap::count`.
 pub fn next_counts(alloc: Global, undos: &UndoMap, edits: &[Lamport]) -> Result<Counts, OutOfMemory>
-    requires { find (λ t. count_of undos.now t == 4294967295) edits.now ≡ None }
+    requires { find (λ t. count_of undos.now t == last_value) edits.now ≡ None }
     ensures counts { IfOk result (λ cs. cs ≡ map (next_of undos.now) edits.now) }
     ensures history { IfOk result (λ cs. (h : History) → undos.now ≡ undo_entries h
         → cs ≡ map (next_count h) edits.now) }

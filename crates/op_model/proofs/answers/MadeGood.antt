@@ -6,6 +6,7 @@ use Rattle.std.specs.List.{AllByRecursion, filter, find, position}
 use Rattle.std.proofs.lemmas.Bool.{cases_Bool, le-ltb, cases_lt}
 use Rattle.std.proofs.lemmas.Bool.Decides.{nat_tests}
 use Rattle.std.proofs.lemmas.Str.{IsCharBoundary-start}
+use Rattle.lamport_clock.specs.Clocks.{last_value}
 use Rattle.lamport_clock.specs.declared.stamp.Lamport.{Lamport}
 use Rattle.op_model.specs.declared.operation.Piece.{Piece}
 use Rattle.op_model.specs.declared.operation.UndoCount.{UndoCount}
@@ -246,7 +247,7 @@ pub record Sound (h : History) (ps : List Piece) : Type 0 where
   pub ordered : Ordered 0 (length (text h)) ps
   pub inside : AllByRecursion (λ (p : Piece). is_inside (text h) p ≡ false) ps
   pub total : ltb text_limit (text_total ps) ≡ false
-  pub open_clock : eqb (clock h) 4294967295 ≡ false
+  pub open_clock : eqb (clock h) last_value ≡ false
 
 pub sound : (l : LimitsType) (h : History) (ps : List Piece) → local_edit_fault l h ps ≡ None → Sound h ps
 sound l h ps e =
@@ -263,7 +264,7 @@ sound l h ps e =
           (position_none is_reversed ps (map_none edit_faults.Reversed (position is_reversed ps) p1.0)) (map_none edit_faults.Overlap (overlap_from 0 0 ps) p2.0) (omega arith);
       inside = position_none (is_inside (text h)) ps (map_none edit_faults.InsideChar (position (is_inside (text h)) ps) p4.0);
       total = when_none (ltb text_limit (text_total ps)) (edit_faults.TextLimit (text_total ps)) s2.0;
-      open_clock = when_none (eqb (clock h) 4294967295) edit_faults.ClockEnd s3.0;
+      open_clock = when_none (eqb (clock h) last_value) edit_faults.ClockEnd s3.0;
     }
 
 starts_before : (so len : ℕ) (ps : List Piece) → Ordered so len ps → AllByRecursion (λ (p : Piece). p.start ≤ p.end) ps
@@ -311,14 +312,14 @@ counts_there h (t ∷ ts) e = (e.0, counts_there h ts e.1)
 
 pub record SoundUndo (h : History) (ts : List Lamport) : Type 0 where
   pub edits : AllByRecursion (λ (t : Lamport). not (has_edit h t) ≡ false) ts
-  pub open_clock : eqb (clock h) 4294967295 ≡ false
+  pub open_clock : eqb (clock h) last_value ≡ false
 
 pub sound_undo : (l : LimitsType) (h : History) (ts : List Lamport) → local_undo_fault l h ts ≡ None → SoundUndo h ts
 sound_undo l h ts e =
     let a : Option UndoFault = option_map undo_faults.NoSuchEdit (find (λ t. not (has_edit h t)) ts) in
     let b : Option UndoFault = option_map undo_faults.Twice (first_twice [] ts) in
-    let c : Option UndoFault = option_map undo_faults.CountEnd (find (λ t. eqb (count h t) 4294967295) ts) in
-    let d : Option UndoFault = when (eqb (clock h) 4294967295) undo_faults.ClockEnd in
+    let c : Option UndoFault = option_map undo_faults.CountEnd (find (λ t. eqb (count h t) last_value) ts) in
+    let d : Option UndoFault = when (eqb (clock h) last_value) undo_faults.ClockEnd in
     let f : Option UndoFault = option_map (λ x. undo_faults.Full x.unit x.held x.adds) (excess l h 0 (1 + length ts)) in
     let s1 = first_none a (b ∷ c ∷ d ∷ f ∷ []) e in
     let s2 = first_none b (c ∷ d ∷ f ∷ []) s1.1 in
@@ -326,7 +327,7 @@ sound_undo l h ts e =
     let s4 = first_none d (f ∷ []) s3.1 in
     record {
       edits = find_none (λ t. not (has_edit h t)) ts (map_none undo_faults.NoSuchEdit (find (λ t. not (has_edit h t)) ts) s1.0);
-      open_clock = when_none (eqb (clock h) 4294967295) undo_faults.ClockEnd s4.0;
+      open_clock = when_none (eqb (clock h) last_value) undo_faults.ClockEnd s4.0;
     }
 
 pub made_undo_good : (h : History) (r : ℕ) (ts : List Lamport) → Lawful h → Stamps h → IsReplica r → SoundUndo h ts → answer h [] (local_undo h r ts) ≡ Good

@@ -5,6 +5,7 @@ use Rattle.std.proofs.lemmas.List.{append-nil}
 use Rattle.std.proofs.lemmas.Bool.{cases_Bool, lt-leb, le-ltb, cases_lt, and_parts}
 use Rattle.std.proofs.lemmas.Bool.Decides.{nat_tests}
 use Rattle.std.specs.List.{AllByRecursion, find, list_any}
+use Rattle.lamport_clock.specs.Clocks.{last_value}
 use Rattle.lamport_clock.specs.declared.stamp.Lamport.{Lamport}
 use Rattle.lamport_clock.specs.Stamps.{same_stamp}
 use Rattle.lamport_clock.specs.Versions.{Entries, entry, sees, within, put_entry, raise}
@@ -79,8 +80,8 @@ stamps_of (op ∷ ops) l r =
       base_value = rw (q, v, g) refl;
     }
 
-module _ (h : History) (l : Lawful h) (st : Stamps h) (open_clock : eqb (clock h) 4294967295 ≡ false) where
-  under : clock h < 4294967295
+module _ (h : History) (l : Lawful h) (st : Stamps h) (open_clock : eqb (clock h) last_value ≡ false) where
+  under : clock h < last_value
   under = clock_under h open_clock
 
   past : AllByRecursion (λ (o : Operation). (stamp_of o).value < clock h) h
@@ -106,7 +107,7 @@ module _ (h : History) (l : Lawful h) (st : Stamps h) (open_clock : eqb (clock h
   own_stamp r op i o = subst (λ (t : Lamport). bad t (version_of op) ≡ false) (sym o.0) (subst (λ (v : Entries). bad (record { value = clock h; replica = r }) v ≡ false) (sym o.1) good)
     where
       bad : Lamport → Entries → Bool
-      bad t v = eqb t.value 0 || eqb t.value 4294967295 || eqb t.replica 0 || ltb last_replica t.replica || list_any (λ e. ltb last_replica e.0) v || list_any (λ e. leb t.value e.1) v
+      bad t v = eqb t.value 0 || eqb t.value last_value || eqb t.replica 0 || ltb last_replica t.replica || list_any (λ e. ltb last_replica e.0) v || list_any (λ e. leb t.value e.1) v
 
       good : bad (record { value = clock h; replica = r }) (version h) ≡ false
       good = rw (

@@ -15,6 +15,7 @@ use Rattle.op_model.specs.Edits.{is_reversed, overlap_from, is_past, is_inside}
 use Rattle.op_model.specs.Shown.{full}
 use Rattle.op_model.specs.Answers.{Answer, bad_stamp, no_base, shape_fault, any_equal, any_stamp, fork_fault, first_missing, open_replica, range_fault, count_fault, objections, objection, answer}
 use Rattle.op_model.specs.Answers.Answer.{Good, Repeat, Waits, Refused}
+use Rattle.lamport_clock.specs.Clocks.{last_value}
 use Rattle.lamport_clock.specs.declared.stamp.Lamport.{Lamport}
 use Rattle.lamport_clock.specs.Versions.{Entries}
 
@@ -111,7 +112,7 @@ no_objection (Some a) n e = let g : Some a ≡ Some Good = ap Some e in absurd (
 -- the tests of a stamp that is not bad
 pub record StampTests (op : Operation) : Type 0 where
   pub some : eqb (stamp_of op).value 0 ≡ false
-  pub under : eqb (stamp_of op).value 4294967295 ≡ false
+  pub under : eqb (stamp_of op).value last_value ≡ false
   pub author : eqb (stamp_of op).replica 0 ≡ false
   pub small : ltb last_replica (stamp_of op).replica ≡ false
   pub ids : AllByRecursion (λ (x : ℕ × ℕ). ltb last_replica x.0 ≡ false) (version_of op)
@@ -121,11 +122,11 @@ pub stamp_tests : (op : Operation) → bad_stamp op ≡ false → StampTests op
 stamp_tests op e =
     let t : Lamport = stamp_of op in
     let v : Entries = version_of op in
-    let b5 = or_parts (eqb t.value 0 || eqb t.value 4294967295 || eqb t.replica 0 || ltb last_replica t.replica || list_any (λ x. ltb last_replica x.0) v) (list_any (λ x. leb t.value x.1) v) e in
-    let b4 = or_parts (eqb t.value 0 || eqb t.value 4294967295 || eqb t.replica 0 || ltb last_replica t.replica) (list_any (λ x. ltb last_replica x.0) v) b5.0 in
-    let b3 = or_parts (eqb t.value 0 || eqb t.value 4294967295 || eqb t.replica 0) (ltb last_replica t.replica) b4.0 in
-    let b2 = or_parts (eqb t.value 0 || eqb t.value 4294967295) (eqb t.replica 0) b3.0 in
-    let b1 = or_parts (eqb t.value 0) (eqb t.value 4294967295) b2.0 in
+    let b5 = or_parts (eqb t.value 0 || eqb t.value last_value || eqb t.replica 0 || ltb last_replica t.replica || list_any (λ x. ltb last_replica x.0) v) (list_any (λ x. leb t.value x.1) v) e in
+    let b4 = or_parts (eqb t.value 0 || eqb t.value last_value || eqb t.replica 0 || ltb last_replica t.replica) (list_any (λ x. ltb last_replica x.0) v) b5.0 in
+    let b3 = or_parts (eqb t.value 0 || eqb t.value last_value || eqb t.replica 0) (ltb last_replica t.replica) b4.0 in
+    let b2 = or_parts (eqb t.value 0 || eqb t.value last_value) (eqb t.replica 0) b3.0 in
+    let b1 = or_parts (eqb t.value 0) (eqb t.value last_value) b2.0 in
     record {
       some = b1.0;
       under = b1.1;

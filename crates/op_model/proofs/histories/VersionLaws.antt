@@ -5,7 +5,7 @@ use Rattle.std.proofs.lemmas.Bool.{cases_Bool, eqb-true, leb-false, ltb-false, l
 use Rattle.std.proofs.lemmas.Bool.Decides.{nat_tests}
 use Rattle.std.specs.List.{AllByRecursion}
 use Rattle.lamport_clock.specs.declared.stamp.Lamport.{Lamport}
-use Rattle.lamport_clock.specs.Clocks.{clock_after}
+use Rattle.lamport_clock.specs.Clocks.{clock_after, last_value}
 use Rattle.lamport_clock.specs.Versions.{Entries, IsVersion, IsVersionFrom, entry, sees, within, raise}
 use Rattle.lamport_clock.proofs.Entries.{IsVersion-put}
 use Rattle.op_model.specs.declared.operation.Operation.{Operation}
@@ -21,10 +21,10 @@ use Rattle.op_model.proofs.answers.Good.{positive}
 
 -- ---- the clock
 
-below_end : (x : ℕ) → min x 4294967295 < 4294967295 → min x 4294967295 ≡ x
+below_end : (x : ℕ) → min x last_value < last_value → min x last_value ≡ x
 below_end x h = omega arith
 
-pub clock_above : (c : ℕ) (h : History) → clock_from c h < 4294967295 → (c ≤ clock_from c h) × AllByRecursion (λ (o : Operation). (stamp_of o).value < clock_from c h) h
+pub clock_above : (c : ℕ) (h : History) → clock_from c h < last_value → (c ≤ clock_from c h) × AllByRecursion (λ (o : Operation). (stamp_of o).value < clock_from c h) h
 clock_above c [] l = (omega arith, tt)
 clock_above c (o ∷ h) l =
     let n : ℕ = clock_after c (stamp_of o).value in
@@ -33,14 +33,14 @@ clock_above c (o ∷ h) l =
     let e : n ≡ max c (stamp_of o).value + 1 = below_end (max c (stamp_of o).value + 1) (omega arith) in
     (omega arith, (omega arith, ih.1))
 
-pub clock_most : (c : ℕ) (h : History) → c ≤ 4294967295 → clock_from c h ≤ 4294967295
+pub clock_most : (c : ℕ) (h : History) → c ≤ last_value → clock_from c h ≤ last_value
 clock_most c [] l = l
 clock_most c (o ∷ h) l = clock_most (clock_after c (stamp_of o).value) h (omega arith)
 
-apart_end : (x : ℕ) → eqb x 4294967295 ≡ false → x ≤ 4294967295 → x < 4294967295
+apart_end : (x : ℕ) → eqb x last_value ≡ false → x ≤ last_value → x < last_value
 apart_end x e h = grind (arith, nat_tests)
 
-pub clock_under : (h : History) → eqb (clock h) 4294967295 ≡ false → clock h < 4294967295
+pub clock_under : (h : History) → eqb (clock h) last_value ≡ false → clock h < last_value
 clock_under h e = apart_end (clock h) e (clock_most 1 h (omega arith))
 
 -- ---- stamps of a lawful history
@@ -48,7 +48,7 @@ clock_under h e = apart_end (clock h) e (clock_most 1 h (omega arith))
 -- the parts of a stamp and a version that a replica makes
 pub record Stamped (op : Operation) : Type 0 where
   pub some : 0 < (stamp_of op).value
-  pub under : (stamp_of op).value < 4294967295
+  pub under : (stamp_of op).value < last_value
   pub author : 0 < (stamp_of op).replica
   pub small : (stamp_of op).replica ≤ last_replica
   pub ids : AllByRecursion (λ (x : ℕ × ℕ). ltb last_replica x.0 ≡ false) (version_of op)
