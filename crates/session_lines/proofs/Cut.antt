@@ -3,8 +3,8 @@ use Rattle.std.proofs.Common.{◌≡◌, ℕ, suc, ◌+◌, ◌-◌, ◌<◌, �
 use Rattle.std.proofs.lemmas.Bool.{ltb-false}
 use Rattle.std.proofs.lemmas.List.Sums.{prefix_len-le-length, sum_by-cons}
 use Rattle.std.proofs.lemmas.List.{take_all, drop_all}
-use Rattle.std.specs.List.{position, position_or_len, prefix_len}
-use Rattle.session_lines.specs.Cut.{lines_of, onto_first, feeds}
+use Rattle.std.specs.List.{onto_first, position, position_or_len, prefix_len}
+use Rattle.session_lines.specs.Cut.{lines_of, feeds}
 
 pub first_cut : (text : List ℕ) → 0 < length text → let n = position_or_len (λ b. b == 10) text in lines_of text ≡ take n text ∷ lines_of (drop (suc n) text)
 first_cut [] h = absurd (omega arith)

@@ -1,9 +1,9 @@
--- What a session keeps of its header: a base no longer than the text, and 1 to 64 distinct ids of editors.
+-- What a session keeps of its header: a base no longer than the text, and 1 to 64 distinct ids of replicas.
 use Rattle.op_model.specs.Operations.{last_replica}
 use Rattle.op_model.specs.Domains.{IsReplica}
 use Rattle.std.proofs.Common.{◌≡◌, ℕ, suc, ◌≤◌, Bool, true, false, cond, ◌&&◌, ◌==◌, nat_le, List, [], ◌∷◌, length, get_or, Option, Some, None, option_map, option_and_then, Result, Ok, Err, refl, subst, arith}
-use Rattle.std.specs.Prelude.{⊤, codes}
-use Rattle.std.specs.List.{All, list_all}
+use Rattle.std.specs.Prelude.{⊤, codes, ok_or}
+use Rattle.std.specs.List.{All, list_all, onto_first}
 use Rattle.std.specs.Str.{is_utf8}
 use Rattle.std.proofs.lemmas.Bool.{and_parts, leb-true}
 use Rattle.std.proofs.lemmas.List.Sums.{AllPass-from_list_all}
@@ -11,10 +11,10 @@ use Rattle.serde_json.specs.Data.{Data, Items, no_items, item}
 use Rattle.serde_json.specs.Find.{as_str, as_array}
 use Rattle.serde_json.specs.Read.{read}
 use Rattle.session_lines.specs.Json.{value_of, list_of, members_of, is_text, is_number}
-use Rattle.session_lines.specs.Cut.{lines_of, onto_first}
-use Rattle.session_lines.specs.Parts.{all_of, id_of, are_distinct}
-use Rattle.session_lines.specs.Heading.{is_editor, are_replicas, replicas_from, header_with, header_from, header_of_value}
-use Rattle.session_lines.specs.Session.{or_word, header_or_word, header_of, then_from, rest_of, with_header, session_of, IsSession}
+use Rattle.session_lines.specs.Cut.{lines_of}
+use Rattle.session_lines.specs.Parts.{all_of, id_of_value, are_distinct}
+use Rattle.session_lines.specs.Heading.{is_replica, most_replicas, are_replicas, replicas_from, header_with, header_from, header_of_value}
+use Rattle.session_lines.specs.Session.{header_or_word, header_of, then_from, rest_of, with_header, session_of, IsSession}
 use Rattle.session_lines.specs.declared.header.Header.{Header}
 use Rattle.session_lines.specs.declared.session.SessionLine.{SessionLine}
 use Rattle.session_lines.specs.declared.session.Session.{Session}
@@ -68,7 +68,7 @@ ids_checked (Some ids) = checked ids (are_replicas ids) refl
 
 ids_listed : (o : Option (List Data)) → IdsOf (option_and_then replicas_from o)
 ids_listed None = tt
-ids_listed (Some ds) = ids_checked (all_of id_of ds)
+ids_listed (Some ds) = ids_checked (all_of id_of_value ds)
 
 with_both : (n : ℕ) (b : Option (List ℕ)) (rs : Option (List ℕ)) → AtMost n b → IdsOf rs → HeaderOf n (header_with b rs)
 with_both n None rs h i = tt
@@ -100,7 +100,7 @@ abbrev HeaderOrWord : ℕ → Result Header Word → Type 0
 HeaderOrWord n (Err w) = ⊤
 HeaderOrWord n (Ok h) = Fits n h
 
-or_short : (n : ℕ) (w : Word) (o : Option Header) → HeaderOf n o → HeaderOrWord n (or_word w o)
+or_short : (n : ℕ) (w : Word) (o : Option Header) → HeaderOf n o → HeaderOrWord n (ok_or o w)
 or_short n w None h = tt
 or_short n w (Some x) h = h
 
@@ -130,13 +130,13 @@ first_short : (text : List ℕ) → IsFirst (length text) (lines_of text)
 first_short [] = tt
 first_short (x ∷ xs) = line_or (x == 10) x (length xs) (lines_of xs) (first_short xs)
 
--- each of the ids is an editor's
-editors_of : (ids : List ℕ) → are_replicas ids ≡ true → All IsReplica ids
-editors_of ids e =
-    let p = and_parts (nat_le 1 (length ids) && nat_le (length ids) 64) (list_all is_editor ids && are_distinct ids) e in
-    let q = and_parts (list_all is_editor ids) (are_distinct ids) p.1 in
+-- each of the ids is that of an editor's replica
+ids_are_replicas : (ids : List ℕ) → are_replicas ids ≡ true → All IsReplica ids
+ids_are_replicas ids e =
+    let p = and_parts (nat_le 1 (length ids) && nat_le (length ids) most_replicas) (list_all is_replica ids && are_distinct ids) e in
+    let q = and_parts (list_all is_replica ids) (are_distinct ids) p.1 in
     λ k d l.
-    let x = and_parts (nat_le 1 (get_or ids k d)) (nat_le (get_or ids k d) last_replica) (AllPass-from_list_all is_editor ids q.0 k d l) in
+    let x = and_parts (nat_le 1 (get_or ids k d)) (nat_le (get_or ids k d) last_replica) (AllPass-from_list_all is_replica ids q.0 k d l) in
     (leb-true 1 (get_or ids k d) x.0, leb-true (get_or ids k d) last_replica x.1)
 
 abbrev SessionOf : ℕ → Result Session DecodeFault → Type 0
@@ -145,7 +145,7 @@ SessionOf n (Ok s) = IsSession n s
 
 with_lines : (n m : ℕ) (h : Header) (r : Result (List SessionLine) DecodeFault) → n ≤ m → Fits n h → SessionOf m (with_header h r)
 with_lines n m h (Err e) le f = tt
-with_lines n m h (Ok ls) le f = record { version = refl; base = omega (arith, f.0); replicas = f.1; editors = editors_of h.replicas f.1 }
+with_lines n m h (Ok ls) le f = record { version = refl; base = omega (arith, f.0); replicas = f.1; ids = ids_are_replicas h.replicas f.1 }
 
 header_lines : (n m : ℕ) (r : Result Header Word) (ls : List (List ℕ)) → n ≤ m → HeaderOrWord n r → SessionOf m (then_from 1 r (λ h. with_header h (rest_of h.replicas [] ls)))
 header_lines n m (Err w) ls le f = tt

@@ -14,7 +14,7 @@ use Rattle.lamport_clock.proofs.Joined.{entry-joined, IsVersion-joined}
 use Rattle.lamport_clock.proofs.Joining.{entry_below}
 use Rattle.serde_json.specs.Data.{Data}
 use Rattle.session_lines.specs.Json.{whole_number, members_of}
-use Rattle.session_lines.specs.Parts.{all_of, id_of, clock_value, is_among, are_distinct, entry_with, entry_from, entry_of, IsEntry, AreEntries}
+use Rattle.session_lines.specs.Parts.{all_of, id_of_value, clock_value, is_among, are_distinct, entry_with, entry_from, entry_of_value, IsEntry, AreEntries}
 
 -- ---- how many entries a version has with one more
 
@@ -246,7 +246,7 @@ with_both (Some id) (Some x) a b = elim (leb 1 x) as (λ c. leb 1 x ≡ c → En
 from_members : (ds : List Data) → EntryOf (entry_from ds)
 from_members [] = tt
 from_members (r ∷ []) = tt
-from_members (r ∷ v ∷ []) = with_both (id_of r) (clock_value v) (below 65535 (whole_number r)) (below last_value (whole_number v))
+from_members (r ∷ v ∷ []) = with_both (id_of_value r) (clock_value v) (below 65535 (whole_number r)) (below last_value (whole_number v))
 from_members (r ∷ v ∷ d ∷ ds) = tt
 
 from_list : (o : Option (List Data)) → EntryOf (option_and_then entry_from o)
@@ -262,9 +262,9 @@ one_more None p a b = tt
 one_more (Some e) None a b = tt
 one_more (Some e) (Some es) a b = (a, b)
 
-all_entries : (ds : List Data) → EntriesOf (all_of entry_of ds)
+all_entries : (ds : List Data) → EntriesOf (all_of entry_of_value ds)
 all_entries [] = tt
-all_entries (d ∷ ds) = one_more (entry_of d) (all_of entry_of ds) (from_list (members_of d)) (all_entries ds)
+all_entries (d ∷ ds) = one_more (entry_of_value d) (all_of entry_of_value ds) (from_list (members_of d)) (all_entries ds)
 
-pub entries_of : (ds : List Data) (es : Entries) → Some es ≡ all_of entry_of ds → AreEntries es
+pub entries_of : (ds : List Data) (es : Entries) → Some es ≡ all_of entry_of_value ds → AreEntries es
 entries_of ds es e = subst EntriesOf (sym e) (all_entries ds)

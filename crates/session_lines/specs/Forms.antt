@@ -8,7 +8,7 @@ use Rattle.op_model.specs.declared.operation.Piece.{Piece}
 use Rattle.op_model.specs.declared.operation.UndoCount.{UndoCount}
 use Rattle.session_lines.specs.Json.{whole_number, members_of, is_text}
 use Rattle.op_model.specs.declared.anchor.Bias.{Bias}
-use Rattle.session_lines.specs.Parts.{id_of, stamp_of, version_of, pieces_of, counts_of, numbers_of, bias_of}
+use Rattle.session_lines.specs.Parts.{id_of_value, stamp_of_value, version_of_value, pieces_of_value, counts_of_value, numbers_of_value, bias_of_value}
 use Rattle.session_lines.specs.declared.session.SessionLine.{SessionLine}
 use Rattle.session_lines.specs.declared.session.SessionLine.TheVariants.{Edit, Undo, Op, Uop, Give, Text, Anchor, Where, Mark, Since, Find, Point, Offset}
 
@@ -19,7 +19,7 @@ edit_with r ps = option_and_then (λ id. option_map (Edit id) ps) r
 
 -- r, [[s, e, "t"], ..]
 abbrev pub edit_from : List Data → Option SessionLine
-edit_from (r ∷ ps ∷ []) = edit_with (id_of r) (pieces_of ps)
+edit_from (r ∷ ps ∷ []) = edit_with (id_of_value r) (pieces_of_value ps)
 edit_from _ = None
 
 abbrev pub undo_with : Option ℕ → Option (List ℕ) → Option SessionLine
@@ -27,7 +27,7 @@ undo_with r ns = option_and_then (λ id. option_map (Undo id) ns) r
 
 -- r, [n, ..]
 abbrev pub undo_from : List Data → Option SessionLine
-undo_from (r ∷ ns ∷ []) = undo_with (id_of r) (numbers_of ns)
+undo_from (r ∷ ns ∷ []) = undo_with (id_of_value r) (numbers_of_value ns)
 undo_from _ = None
 
 abbrev pub op_with : Option Lamport → Option Entries → Option (List Piece) → Option SessionLine
@@ -37,7 +37,7 @@ op_with t v ps =
 
 -- [value, replica], [[r, v], ..], [[s, e, "t"], ..]
 abbrev pub op_from : List Data → Option SessionLine
-op_from (t ∷ v ∷ ps ∷ []) = op_with (stamp_of t) (version_of v) (pieces_of ps)
+op_from (t ∷ v ∷ ps ∷ []) = op_with (stamp_of_value t) (version_of_value v) (pieces_of_value ps)
 op_from _ = None
 
 abbrev pub uop_with : Option Lamport → Option Entries → Option (List UndoCount) → Option SessionLine
@@ -47,7 +47,7 @@ uop_with t v cs =
 
 -- [value, replica], [[r, v], ..], [[value, replica, count], ..]
 abbrev pub uop_from : List Data → Option SessionLine
-uop_from (t ∷ v ∷ cs ∷ []) = uop_with (stamp_of t) (version_of v) (counts_of cs)
+uop_from (t ∷ v ∷ cs ∷ []) = uop_with (stamp_of_value t) (version_of_value v) (counts_of_value cs)
 uop_from _ = None
 
 abbrev pub give_with : Option ℕ → Option ℕ → Option SessionLine
@@ -55,12 +55,12 @@ give_with r n = option_and_then (λ id. option_map (Give id) n) r
 
 -- r, n
 abbrev pub give_from : List Data → Option SessionLine
-give_from (r ∷ n ∷ []) = give_with (id_of r) (whole_number n)
+give_from (r ∷ n ∷ []) = give_with (id_of_value r) (whole_number n)
 give_from _ = None
 
 -- r
 abbrev pub text_from : List Data → Option SessionLine
-text_from (r ∷ []) = option_map Text (id_of r)
+text_from (r ∷ []) = option_map Text (id_of_value r)
 text_from _ = None
 
 abbrev pub anchor_with : Option ℕ → Option (List ℕ) → Option ℕ → Option Bias → Option SessionLine
@@ -70,7 +70,7 @@ anchor_with r t o b =
 
 -- r, "name", o, "left" or "right"
 abbrev pub anchor_from : List Data → Option SessionLine
-anchor_from (r ∷ t ∷ o ∷ b ∷ []) = anchor_with (id_of r) (as_str t) (whole_number o) (bias_of b)
+anchor_from (r ∷ t ∷ o ∷ b ∷ []) = anchor_with (id_of_value r) (as_str t) (whole_number o) (bias_of_value b)
 anchor_from _ = None
 
 abbrev pub name_with : Option ℕ → Option (List ℕ) → Option (ℕ × List ℕ)
@@ -78,7 +78,7 @@ name_with r t = option_and_then (λ id. option_map (λ name. (id, name)) t) r
 
 -- r, "name"
 abbrev pub name_from : List Data → Option (ℕ × List ℕ)
-name_from (r ∷ t ∷ []) = name_with (id_of r) (as_str t)
+name_from (r ∷ t ∷ []) = name_with (id_of_value r) (as_str t)
 name_from _ = None
 
 abbrev pub where_from : List Data → Option SessionLine
@@ -95,7 +95,7 @@ find_with r t = option_and_then (λ id. option_map (Find id) t) r
 
 -- r, "needle"
 abbrev pub find_from : List Data → Option SessionLine
-find_from (r ∷ t ∷ []) = find_with (id_of r) (as_str t)
+find_from (r ∷ t ∷ []) = find_with (id_of_value r) (as_str t)
 find_from _ = None
 
 abbrev pub point_with : Option ℕ → Option ℕ → Option SessionLine
@@ -103,7 +103,7 @@ point_with r o = option_and_then (λ id. option_map (Point id) o) r
 
 -- r, o
 abbrev pub point_from : List Data → Option SessionLine
-point_from (r ∷ o ∷ []) = point_with (id_of r) (whole_number o)
+point_from (r ∷ o ∷ []) = point_with (id_of_value r) (whole_number o)
 point_from _ = None
 
 abbrev pub offset_with : Option ℕ → Option ℕ → Option ℕ → Option SessionLine
@@ -111,7 +111,7 @@ offset_with r k c = option_and_then (λ id. option_and_then (λ row. option_map 
 
 -- r, row, column
 abbrev pub offset_from : List Data → Option SessionLine
-offset_from (r ∷ k ∷ c ∷ []) = offset_with (id_of r) (whole_number k) (whole_number c)
+offset_from (r ∷ k ∷ c ∷ []) = offset_with (id_of_value r) (whole_number k) (whole_number c)
 offset_from _ = None
 
 -- ---- a line, by its word

@@ -5,20 +5,24 @@ use Rattle.std.specs.List.{list_all}
 use Rattle.serde_json.specs.Data.{Data}
 use Rattle.serde_json.specs.Find.{as_str}
 use Rattle.session_lines.specs.Json.{members_of, is_text, is_number}
-use Rattle.session_lines.specs.Parts.{all_of, id_of, are_distinct}
+use Rattle.session_lines.specs.Parts.{all_of, id_of_value, are_distinct}
 use Rattle.session_lines.specs.declared.header.Header.{Header}
 
--- an editor's id
-abbrev pub is_editor : ℕ → Bool
-is_editor n = nat_le 1 n && nat_le n last_replica
+-- the id of an editor's replica
+abbrev pub is_replica : ℕ → Bool
+is_replica n = nat_le 1 n && nat_le n last_replica
 
--- 1 to 64 distinct ids of editors
+-- the most replicas of a session
+abbrev pub most_replicas : ℕ
+most_replicas = 64
+
+-- at least one id, each of an editor's replica, and none twice
 abbrev pub are_replicas : List ℕ → Bool
-are_replicas ids = (nat_le 1 (length ids) && nat_le (length ids) 64) && (list_all is_editor ids && are_distinct ids)
+are_replicas ids = (nat_le 1 (length ids) && nat_le (length ids) most_replicas) && (list_all is_replica ids && are_distinct ids)
 
 -- the ids that the members are
 abbrev pub replicas_from : List Data → Option (List ℕ)
-replicas_from ds = option_and_then (λ ids. if are_replicas ids then Some ids else None) (all_of id_of ds)
+replicas_from ds = option_and_then (λ ids. if are_replicas ids then Some ids else None) (all_of id_of_value ds)
 
 abbrev pub header_with : Option (List ℕ) → Option (List ℕ) → Option Header
 header_with b rs = option_and_then (λ base. option_map (λ ids. record { base = base; replicas = ids }) rs) b

@@ -23,8 +23,8 @@ abbrev pub at_most : ℕ → Data → Option ℕ
 at_most m d = option_and_then (λ n. if nat_le n m then Some n else None) (whole_number d)
 
 -- the id of a replica, of a header or not
-abbrev pub id_of : Data → Option ℕ
-id_of d = at_most 65535 d
+abbrev pub id_of_value : Data → Option ℕ
+id_of_value d = at_most 65535 d
 
 -- the value of a stamp or of a version, or an undo count
 abbrev pub clock_value : Data → Option ℕ
@@ -47,11 +47,11 @@ stamp_with v r = option_and_then (λ x. option_map (λ id. record { value = x; r
 
 -- [value, replica]
 abbrev pub stamp_from : List Data → Option Lamport
-stamp_from (v ∷ r ∷ []) = stamp_with (clock_value v) (id_of r)
+stamp_from (v ∷ r ∷ []) = stamp_with (clock_value v) (id_of_value r)
 stamp_from _ = None
 
-abbrev pub stamp_of : Data → Option Lamport
-stamp_of d = option_and_then stamp_from (members_of d)
+abbrev pub stamp_of_value : Data → Option Lamport
+stamp_of_value d = option_and_then stamp_from (members_of d)
 
 -- ---- versions
 
@@ -61,11 +61,11 @@ entry_with r v = option_and_then (λ id. option_and_then (λ x. if nat_le 1 x th
 
 -- [r, v]
 abbrev pub entry_from : List Data → Option (ℕ × ℕ)
-entry_from (r ∷ v ∷ []) = entry_with (id_of r) (clock_value v)
+entry_from (r ∷ v ∷ []) = entry_with (id_of_value r) (clock_value v)
 entry_from _ = None
 
-abbrev pub entry_of : Data → Option (ℕ × ℕ)
-entry_of d = option_and_then entry_from (members_of d)
+abbrev pub entry_of_value : Data → Option (ℕ × ℕ)
+entry_of_value d = option_and_then entry_from (members_of d)
 
 -- for a private clause
 abbrev pub IsEntry : ℕ × ℕ → Type 0
@@ -81,10 +81,10 @@ version_with es = if are_distinct (map (λ e. e.0) es) then Some (join_versions 
 
 -- [[r, v], ..]
 abbrev pub version_from : List Data → Option Entries
-version_from ds = option_and_then version_with (all_of entry_of ds)
+version_from ds = option_and_then version_with (all_of entry_of_value ds)
 
-abbrev pub version_of : Data → Option Entries
-version_of d = option_and_then version_from (members_of d)
+abbrev pub version_of_value : Data → Option Entries
+version_of_value d = option_and_then version_from (members_of d)
 
 -- ---- pieces
 
@@ -97,11 +97,11 @@ abbrev pub piece_from : List Data → Option Piece
 piece_from (s ∷ e ∷ t ∷ []) = piece_with (whole_number s) (whole_number e) (as_str t)
 piece_from _ = None
 
-abbrev pub piece_of : Data → Option Piece
-piece_of d = option_and_then piece_from (members_of d)
+abbrev pub piece_of_value : Data → Option Piece
+piece_of_value d = option_and_then piece_from (members_of d)
 
-abbrev pub pieces_of : Data → Option (List Piece)
-pieces_of d = option_and_then (all_of piece_of) (members_of d)
+abbrev pub pieces_of_value : Data → Option (List Piece)
+pieces_of_value d = option_and_then (all_of piece_of_value) (members_of d)
 
 -- ---- undo counts
 
@@ -110,22 +110,22 @@ count_with t c = option_and_then (λ s. option_map (λ n. record { edit = s; cou
 
 -- [value, replica, count]
 abbrev pub count_from : List Data → Option UndoCount
-count_from (v ∷ r ∷ c ∷ []) = count_with (stamp_with (clock_value v) (id_of r)) (clock_value c)
+count_from (v ∷ r ∷ c ∷ []) = count_with (stamp_with (clock_value v) (id_of_value r)) (clock_value c)
 count_from _ = None
 
-abbrev pub count_of : Data → Option UndoCount
-count_of d = option_and_then count_from (members_of d)
+abbrev pub count_of_value : Data → Option UndoCount
+count_of_value d = option_and_then count_from (members_of d)
 
-abbrev pub counts_of : Data → Option (List UndoCount)
-counts_of d = option_and_then (all_of count_of) (members_of d)
+abbrev pub counts_of_value : Data → Option (List UndoCount)
+counts_of_value d = option_and_then (all_of count_of_value) (members_of d)
 
 -- ---- numbers of operation lines
 
-abbrev pub numbers_of : Data → Option (List ℕ)
-numbers_of d = option_and_then (all_of whole_number) (members_of d)
+abbrev pub numbers_of_value : Data → Option (List ℕ)
+numbers_of_value d = option_and_then (all_of whole_number) (members_of d)
 
 -- ---- anchors
 
 -- the side of its place that an anchor keeps to
-abbrev pub bias_of : Data → Option Bias
-bias_of d = if is_text (codes "left") d then Some Left else if is_text (codes "right") d then Some Right else None
+abbrev pub bias_of_value : Data → Option Bias
+bias_of_value d = if is_text (codes "left") d then Some Left else if is_text (codes "right") d then Some Right else None

@@ -1,9 +1,10 @@
 -- The lines of a report.
-use Rattle.std.specs.Prelude.{ℕ, ◌+◌, ◌==◌, Bool, true, false, List, [], ◌∷◌, ◌++◌, length, map, reverse, codes, decimal, Option}
+use Rattle.std.specs.Prelude.{ℕ, ◌+◌, Bool, true, false, List, [], ◌∷◌, ◌++◌, length, map, reverse, codes, decimal, Option}
 use Rattle.std.specs.Iterator.{Drains}
 use Rattle.std.specs.List.{concat, flat_map, join_by, position_or_len}
 use denote.Bor.{Bor}
 use Rattle.json.specs.Print.{quoted}
+use Rattle.text_dims.specs.Counts.{is_newline}
 use Rattle.lamport_clock.specs.Stamps.{stamp_text}
 use Rattle.lamport_clock.specs.declared.stamp.Lamport.{Lamport}
 use Rattle.op_model.specs.declared.faults.Unit.{Unit as LimitUnit}
@@ -46,7 +47,7 @@ use Rattle.session_lines.specs.declared.report.Report.TheVariants.{Made, EditRef
 
 -- the bytes behind the last line feed
 abbrev pub last_column : List ℕ → ℕ
-last_column text = position_or_len (λ b. b == 10) (reverse text)
+last_column text = position_or_len is_newline (reverse text)
 
 -- ---- lines
 
@@ -68,30 +69,30 @@ abbrev pub unit_words : LimitUnit → List ℕ
 unit_words Bytes = codes "full bytes "
 unit_words Entries = codes "full entries "
 
-abbrev pub fault_words : EditFault → List ℕ
-fault_words (Reversed i) = codes "reversed " ++ decimal i
-fault_words (Overlap i) = codes "overlap " ++ decimal i
-fault_words (PastEnd i len) = codes "pastend " ++ (decimal i ++ (codes " " ++ decimal len))
-fault_words (InsideChar i) = codes "insidechar " ++ decimal i
-fault_words (TextLimit n) = codes "textlimit " ++ decimal n
-fault_words ClockEnd = codes "clockend"
-fault_words (Full unit held adds) = unit_words unit ++ (decimal held ++ (codes " " ++ decimal adds))
-fault_words OutOfMemory = []
+abbrev pub edit_fault_words : EditFault → List ℕ
+edit_fault_words (Reversed i) = codes "reversed " ++ decimal i
+edit_fault_words (Overlap i) = codes "overlap " ++ decimal i
+edit_fault_words (PastEnd i len) = codes "pastend " ++ (decimal i ++ (codes " " ++ decimal len))
+edit_fault_words (InsideChar i) = codes "insidechar " ++ decimal i
+edit_fault_words (TextLimit n) = codes "textlimit " ++ decimal n
+edit_fault_words ClockEnd = codes "clockend"
+edit_fault_words (Full unit held adds) = unit_words unit ++ (decimal held ++ (codes " " ++ decimal adds))
+edit_fault_words OutOfMemory = []
 
 -- the faults of taken operations; one that an edit has too is told by the same words
 abbrev pub op_fault_words : OpFault → List ℕ
 op_fault_words taken.BadStamp = codes "badstamp"
 op_fault_words taken.NoBase = codes "nobase"
-op_fault_words (taken.TextLimit n) = fault_words (TextLimit n)
-op_fault_words (taken.Reversed i) = fault_words (Reversed i)
-op_fault_words (taken.Overlap i) = fault_words (Overlap i)
+op_fault_words (taken.TextLimit n) = edit_fault_words (TextLimit n)
+op_fault_words (taken.Reversed i) = edit_fault_words (Reversed i)
+op_fault_words (taken.Overlap i) = edit_fault_words (Overlap i)
 op_fault_words (taken.Conflict t) = codes "conflict " ++ stamp_text t
 op_fault_words (taken.Forked kept) = codes "forked " ++ decimal kept
 op_fault_words (taken.OpenVersion r) = codes "openversion " ++ decimal r
-op_fault_words (taken.PastEnd i len) = fault_words (PastEnd i len)
-op_fault_words (taken.InsideChar i) = fault_words (InsideChar i)
+op_fault_words (taken.PastEnd i len) = edit_fault_words (PastEnd i len)
+op_fault_words (taken.InsideChar i) = edit_fault_words (InsideChar i)
 op_fault_words (taken.NoSuchEdit t) = codes "nosuchedit " ++ stamp_text t
-op_fault_words (taken.Full unit held adds) = fault_words (Full unit held adds)
+op_fault_words (taken.Full unit held adds) = edit_fault_words (Full unit held adds)
 op_fault_words taken.OutOfMemory = []
 
 -- the faults of undos; one that an edit or a taken operation has too is told by the same words
@@ -99,12 +100,12 @@ abbrev pub undo_fault_words : UndoFault → List ℕ
 undo_fault_words (undo.NoSuchEdit t) = op_fault_words (taken.NoSuchEdit t)
 undo_fault_words (undo.Twice t) = codes "twice " ++ stamp_text t
 undo_fault_words (undo.CountEnd t) = codes "countend " ++ stamp_text t
-undo_fault_words undo.ClockEnd = fault_words ClockEnd
-undo_fault_words (undo.Full unit held adds) = fault_words (Full unit held adds)
+undo_fault_words undo.ClockEnd = edit_fault_words ClockEnd
+undo_fault_words (undo.Full unit held adds) = edit_fault_words (Full unit held adds)
 undo_fault_words undo.OutOfMemory = []
 
-unfoldable pub refused_line : ℕ → EditFault → List ℕ
-refused_line n e = decimal n ++ (codes ": " ++ (fault_words e ++ codes "\n"))
+unfoldable pub refused_edit_line : ℕ → EditFault → List ℕ
+refused_edit_line n e = decimal n ++ (codes ": " ++ (edit_fault_words e ++ codes "\n"))
 
 unfoldable pub refused_undo_line : ℕ → UndoFault → List ℕ
 refused_undo_line n e = decimal n ++ (codes ": " ++ (undo_fault_words e ++ codes "\n"))
@@ -115,17 +116,17 @@ unnamed_line n named = decimal n ++ (codes ": nothing " ++ (decimal named ++ cod
 unfoldable pub settled_line : ℕ → ℕ → List ℕ
 settled_line r count = codes "settled " ++ (decimal r ++ (codes ": " ++ (decimal count ++ codes "\n")))
 
-abbrev pub given_words : GiveAnswer → List ℕ
-given_words (given.Applied count) = codes "applied " ++ decimal count
-given_words (given.Waits r v) = codes "waits " ++ (decimal r ++ (codes " " ++ decimal v))
-given_words given.Repeat = codes "repeat"
-given_words given.Nothing = codes "nothing"
-given_words (given.Refused e) = op_fault_words e
+abbrev pub give_words : GiveAnswer → List ℕ
+give_words (given.Applied count) = codes "applied " ++ decimal count
+give_words (given.Waits r v) = codes "waits " ++ (decimal r ++ (codes " " ++ decimal v))
+give_words given.Repeat = codes "repeat"
+give_words given.Nothing = codes "nothing"
+give_words (given.Refused e) = op_fault_words e
 
 unfoldable pub give_line : ℕ → ℕ → GiveAnswer → List ℕ
 give_line n r answer =
     codes "give " ++ (decimal n ++ (codes " to " ++ (decimal r ++ (codes ": "
-    ++ (given_words answer ++ codes "\n")))))
+    ++ (give_words answer ++ codes "\n")))))
 
 -- ---- anchors and marks, by their names, which are written as JSON strings
 
@@ -255,7 +256,7 @@ checked_line lines replicas operations queries =
 
 unfoldable pub line_text : Report → List ℕ
 line_text (Made n t) = made_line n t
-line_text (EditRefused n e) = refused_line n e
+line_text (EditRefused n e) = refused_edit_line n e
 line_text (UndoRefused n e) = refused_undo_line n e
 line_text (Unnamed n named) = unnamed_line n named
 line_text (Settled r count) = settled_line r count

@@ -1,5 +1,5 @@
 -- Which session a text is, or its first bad line and the first word that applies to it.
-use Rattle.std.specs.Prelude.{◌≡◌, ℕ, ◌+◌, ◌≤◌, List, [], ◌∷◌, ◌++◌, length, not, ◌&&◌, nat_lt, nat_le, Bool, true, false, Option, Some, None, Result, Ok, Err, if◌then◌else◌}
+use Rattle.std.specs.Prelude.{◌≡◌, ℕ, ◌+◌, ◌≤◌, List, [], ◌∷◌, ◌++◌, length, not, ◌&&◌, nat_lt, nat_le, Bool, true, false, Option, Some, None, Result, Ok, Err, ok_or, if◌then◌else◌}
 use Rattle.std.specs.List.{All, count_by, list_all, list_any}
 use Rattle.std.specs.Str.{bytes_eq}
 use Rattle.op_model.specs.Domains.{IsReplica}
@@ -21,15 +21,10 @@ use Rattle.session_lines.specs.declared.fault.DecodeFault.TheVariants.{Lines, Ba
 
 -- ---- one line
 
--- the value, or the word for that there is none
-abbrev pub or_word : {A : Type 0} → Word → Option A → Result A Word
-or_word w None = Err w
-or_word w (Some x) = Ok x
-
 -- the header that a first line is
 abbrev pub header_or_word : Option Data → Result Header Word
 header_or_word None = Err word.Json
-header_or_word (Some d) = or_word word.Header (header_of_value d)
+header_or_word (Some d) = ok_or (header_of_value d) word.Header
 
 unfoldable pub header_of : List ℕ → Result Header Word
 header_of line = header_or_word (value_of line)
@@ -238,4 +233,4 @@ pub record IsSession (bytes : ℕ) (s : Session) : Type 0 where
   pub version : s.version ≡ 1
   pub base : length s.base ≤ bytes
   pub replicas : are_replicas s.replicas ≡ true
-  pub editors : All IsReplica s.replicas
+  pub ids : All IsReplica s.replicas

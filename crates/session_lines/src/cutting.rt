@@ -1,16 +1,17 @@
 //! The lines of a text.
-ghost use Rattle.std.specs.Prelude.{◌≡◌, ◌<◌, ◌∷◌, ◌==◌, ◌+◌, length};
+ghost use Rattle.std.specs.Prelude.{◌≡◌, ◌<◌, ◌∷◌, ◌+◌, length};
 ghost use Rattle.std.specs.List.{position, position_or_len};
+ghost use Rattle.text_dims.specs.Counts.{is_newline};
 ghost use Rattle.session_lines.specs.Cut.{feeds, lines_of};
 
 fn line_end(text: &[u8]) -> Option<usize>
-    ensures { result ≡ position (λ b. b == 10) text.now }
+    ensures { result ≡ position is_newline text.now }
 {
     text.iter().position(|b| *b == 10)
 }
 
 fn line_len(text: &[u8]) -> usize
-    ensures { result ≡ position_or_len (λ b. b == 10) text.now }
+    ensures { result ≡ position_or_len is_newline text.now }
 {
     match line_end(text) {
         Some(end) => end,

@@ -14,7 +14,7 @@ use crate::line_value::{LineFault, value_of};
 use crate::session::{Session, SessionLine, SessionLines};
 use std::alloc::Global;
 
-/// The most lines of a session.
+/// The most lines of a session, `lines_limit` of contracts.
 const LINES: usize = 1_048_576;
 
 #[tactic(auto, unfolding(crate::specs::Session::header_of))]

@@ -6,7 +6,10 @@ ghost use Rattle.session_lines.specs.Forms.{edit_from, undo_from, op_from, uop_f
 
 use crate::OutOfMemory;
 use crate::line_value::{is_text, members_of};
-use crate::parts::{bias_of, counts_of, id_of, numbers_of, pieces_of, stamp_of, version_of};
+use crate::parts::{
+    bias_of_value, counts_of_value, id_of_value, numbers_of_value, pieces_of_value, stamp_of_value,
+    version_of_value,
+};
 use crate::session::SessionLine;
 use op_model::{EditOp, Text, UndoOp};
 use serde_json::Value;
@@ -18,10 +21,10 @@ fn edit_from(alloc: Global, members: &[Value]) -> Result<Option<SessionLine>, Ou
     let [replica, pieces] = members else {
         return Ok(None);
     };
-    let Some(replica) = id_of(replica) else {
+    let Some(replica) = id_of_value(replica) else {
         return Ok(None);
     };
-    match pieces_of(alloc, pieces)? {
+    match pieces_of_value(alloc, pieces)? {
         Some(pieces) => Ok(Some(SessionLine::Edit { replica, pieces })),
         None => Ok(None),
     }
@@ -33,10 +36,10 @@ fn undo_from(alloc: Global, members: &[Value]) -> Result<Option<SessionLine>, Ou
     let [replica, numbers] = members else {
         return Ok(None);
     };
-    let Some(replica) = id_of(replica) else {
+    let Some(replica) = id_of_value(replica) else {
         return Ok(None);
     };
-    match numbers_of(alloc, numbers)? {
+    match numbers_of_value(alloc, numbers)? {
         Some(numbers) => Ok(Some(SessionLine::Undo { replica, numbers })),
         None => Ok(None),
     }
@@ -49,13 +52,13 @@ fn op_from(alloc: Global, members: &[Value]) -> Result<Option<SessionLine>, OutO
     let [stamp, version, pieces] = members else {
         return Ok(None);
     };
-    let Some(stamp) = stamp_of(stamp) else {
+    let Some(stamp) = stamp_of_value(stamp) else {
         return Ok(None);
     };
-    let Some(version) = version_of(alloc, version)? else {
+    let Some(version) = version_of_value(alloc, version)? else {
         return Ok(None);
     };
-    match pieces_of(alloc, pieces)? {
+    match pieces_of_value(alloc, pieces)? {
         Some(pieces) => Ok(Some(SessionLine::Op(EditOp {
             stamp,
             version,
@@ -72,13 +75,13 @@ fn uop_from(alloc: Global, members: &[Value]) -> Result<Option<SessionLine>, Out
     let [stamp, version, counts] = members else {
         return Ok(None);
     };
-    let Some(stamp) = stamp_of(stamp) else {
+    let Some(stamp) = stamp_of_value(stamp) else {
         return Ok(None);
     };
-    let Some(version) = version_of(alloc, version)? else {
+    let Some(version) = version_of_value(alloc, version)? else {
         return Ok(None);
     };
-    match counts_of(alloc, counts)? {
+    match counts_of_value(alloc, counts)? {
         Some(counts) => Ok(Some(SessionLine::Uop(UndoOp {
             stamp,
             version,
@@ -94,7 +97,7 @@ fn give_from(members: &[Value]) -> Option<SessionLine>
     let [replica, number] = members else {
         return None;
     };
-    match (id_of(replica), number.as_u64()) {
+    match (id_of_value(replica), number.as_u64()) {
         (Some(replica), Some(number)) => Some(SessionLine::Give { replica, number }),
         _ => None,
     }
@@ -106,7 +109,7 @@ fn text_from(members: &[Value]) -> Option<SessionLine>
     let [replica] = members else {
         return None;
     };
-    match id_of(replica) {
+    match id_of_value(replica) {
         Some(replica) => Some(SessionLine::Text { replica }),
         None => None,
     }
@@ -119,10 +122,10 @@ fn anchor_from(alloc: Global, members: &[Value]) -> Result<Option<SessionLine>, 
         return Ok(None);
     };
     match (
-        id_of(replica),
+        id_of_value(replica),
         name.as_str(),
         offset.as_u64(),
-        bias_of(bias),
+        bias_of_value(bias),
     ) {
         (Some(replica), Some(name), Some(offset), Some(bias)) => Ok(Some(SessionLine::Anchor {
             replica,
@@ -141,7 +144,7 @@ fn name_from(alloc: Global, members: &[Value]) -> Result<Option<(u16, Text)>, Ou
     let [replica, name] = members else {
         return Ok(None);
     };
-    match (id_of(replica), name.as_str()) {
+    match (id_of_value(replica), name.as_str()) {
         (Some(replica), Some(name)) => {
             Ok(Some((replica, Text::new(String::from_str(alloc, name)?))))
         }
@@ -182,7 +185,7 @@ fn find_from(alloc: Global, members: &[Value]) -> Result<Option<SessionLine>, Ou
     let [replica, needle] = members else {
         return Ok(None);
     };
-    match (id_of(replica), needle.as_str()) {
+    match (id_of_value(replica), needle.as_str()) {
         (Some(replica), Some(needle)) => Ok(Some(SessionLine::Find {
             replica,
             needle: Text::new(String::from_str(alloc, needle)?),
@@ -197,7 +200,7 @@ fn point_from(members: &[Value]) -> Option<SessionLine>
     let [replica, offset] = members else {
         return None;
     };
-    match (id_of(replica), offset.as_u64()) {
+    match (id_of_value(replica), offset.as_u64()) {
         (Some(replica), Some(offset)) => Some(SessionLine::Point { replica, offset }),
         _ => None,
     }
@@ -209,7 +212,7 @@ fn offset_from(members: &[Value]) -> Option<SessionLine>
     let [replica, row, column] = members else {
         return None;
     };
-    match (id_of(replica), row.as_u64(), column.as_u64()) {
+    match (id_of_value(replica), row.as_u64(), column.as_u64()) {
         (Some(replica), Some(row), Some(column)) => Some(SessionLine::Offset {
             replica,
             row,

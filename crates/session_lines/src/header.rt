@@ -3,12 +3,12 @@ ghost use Rattle.std.specs.Prelude.{◌≡◌, map, option_and_then, IfOk, None,
 ghost use Rattle.std.specs.List.{list_all};
 ghost use Rattle.serde_json.specs.View.{view};
 ghost use Rattle.session_lines.specs.Json.{members_of};
-ghost use Rattle.session_lines.specs.Parts.{all_of, are_distinct, id_of};
-ghost use Rattle.session_lines.specs.Heading.{is_editor, are_replicas, replicas_from, header_from, header_of_value};
+ghost use Rattle.session_lines.specs.Parts.{all_of, are_distinct, id_of_value};
+ghost use Rattle.session_lines.specs.Heading.{is_replica, are_replicas, replicas_from, header_from, header_of_value};
 
 use crate::OutOfMemory;
 use crate::line_value::{is_number, is_text, members_of};
-use crate::parts::id_of;
+use crate::parts::id_of_value;
 use crate::session::Ids;
 use op_model::{LAST_REPLICA, Text};
 use serde_json::Value;
@@ -21,8 +21,11 @@ pub struct Header {
     pub replicas: Ids,
 }
 
-fn are_editors(ids: &[u16]) -> bool
-    ensures { result ≡ list_all is_editor ids.now }
+// The most replicas of a session, `most_replicas` of contracts.
+const MOST_REPLICAS: usize = 64;
+
+fn are_ids_of_replicas(ids: &[u16]) -> bool
+    ensures { result ≡ list_all is_replica ids.now }
 {
     ids.iter().all(|id| 1 <= *id && *id <= LAST_REPLICA)
 }
@@ -43,15 +46,16 @@ fn are_distinct(ids: &[u16]) -> bool
 fn are_replicas(ids: &[u16]) -> bool
     ensures { result ≡ are_replicas ids.now }
 {
-    (1 <= ids.len() && ids.len() <= 64) && (are_editors(ids) && are_distinct(ids))
+    (1 <= ids.len() && ids.len() <= MOST_REPLICAS)
+        && (are_ids_of_replicas(ids) && are_distinct(ids))
 }
 
 fn ids_from(alloc: Global, members: &[Value]) -> Result<Option<Ids>, OutOfMemory>
-    ensures { IfOk result (λ ids. ids ≡ all_of id_of (map view members.now)) }
+    ensures { IfOk result (λ ids. ids ≡ all_of id_of_value (map view members.now)) }
 {
     let mut ids = Vec::new(alloc);
     for member in members {
-        match id_of(member) {
+        match id_of_value(member) {
             Some(id) => ids.push(id)?,
             None => return Ok(None),
         }

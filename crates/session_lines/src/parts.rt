@@ -3,7 +3,7 @@ ghost use Rattle.std.specs.Prelude.{◌≡◌, ◌<◌, ◌≤◌, [], length, m
 ghost use Rattle.lamport_clock.specs.Versions.{join_versions};
 ghost use Rattle.serde_json.specs.View.{view};
 ghost use Rattle.session_lines.specs.Json.{members_of, whole_number};
-ghost use Rattle.session_lines.specs.Parts.{AreEntries, all_of, bias_of, clock_value, count_from, count_of, counts_of, entry_from, entry_of, id_of, numbers_of, piece_from, piece_of, pieces_of, stamp_from, stamp_of, version_from, version_of, version_with};
+ghost use Rattle.session_lines.specs.Parts.{AreEntries, all_of, bias_of_value, clock_value, count_from, count_of_value, counts_of_value, entry_from, entry_of_value, id_of_value, numbers_of_value, piece_from, piece_of_value, pieces_of_value, stamp_from, stamp_of_value, version_from, version_of_value, version_with};
 
 use crate::OutOfMemory;
 use crate::line_value::{is_text, members_of};
@@ -14,8 +14,8 @@ use serde_json::Value;
 use std::alloc::Global;
 
 /// The id of a replica, of the header or not.
-pub fn id_of(value: &Value) -> Option<u16>
-    ensures { result ≡ id_of (view value.now) }
+pub fn id_of_value(value: &Value) -> Option<u16>
+    ensures { result ≡ id_of_value (view value.now) }
 {
     match value.as_u64() {
         Some(id) => {
@@ -51,15 +51,15 @@ fn stamp_from(members: &[Value]) -> Option<Lamport>
     let [value, replica] = members else {
         return None;
     };
-    match (clock_value(value), id_of(replica)) {
+    match (clock_value(value), id_of_value(replica)) {
         (Some(value), Some(replica)) => Some(Lamport { value, replica }),
         _ => None,
     }
 }
 
 /// The stamp that the value is: `[VALUE,REPLICA]`; None where it is none. Constant time, without memory.
-pub fn stamp_of(value: &Value) -> Option<Lamport>
-    ensures { result ≡ stamp_of (view value.now) }
+pub fn stamp_of_value(value: &Value) -> Option<Lamport>
+    ensures { result ≡ stamp_of_value (view value.now) }
 {
     match members_of(value) {
         Some(members) => stamp_from(members),
@@ -73,7 +73,7 @@ fn entry_from(members: &[Value]) -> Option<(u16, u32)>
     let [replica, value] = members else {
         return None;
     };
-    match (id_of(replica), clock_value(value)) {
+    match (id_of_value(replica), clock_value(value)) {
         (Some(replica), Some(value)) => {
             if 1 <= value {
                 Some((replica, value))
@@ -85,8 +85,8 @@ fn entry_from(members: &[Value]) -> Option<(u16, u32)>
     }
 }
 
-fn entry_of(value: &Value) -> Option<(u16, u32)>
-    ensures { result ≡ entry_of (view value.now) }
+fn entry_of_value(value: &Value) -> Option<(u16, u32)>
+    ensures { result ≡ entry_of_value (view value.now) }
 {
     match members_of(value) {
         Some(members) => entry_from(members),
@@ -110,8 +110,8 @@ fn piece_from(alloc: Global, members: &[Value]) -> Result<Option<Piece>, OutOfMe
     }
 }
 
-fn piece_of(alloc: Global, value: &Value) -> Result<Option<Piece>, OutOfMemory>
-    ensures { IfOk result (λ p. p ≡ piece_of (view value.now)) }
+fn piece_of_value(alloc: Global, value: &Value) -> Result<Option<Piece>, OutOfMemory>
+    ensures { IfOk result (λ p. p ≡ piece_of_value (view value.now)) }
 {
     match members_of(value) {
         Some(members) => piece_from(alloc, members),
@@ -120,11 +120,11 @@ fn piece_of(alloc: Global, value: &Value) -> Result<Option<Piece>, OutOfMemory>
 }
 
 fn pieces_from(alloc: Global, members: &[Value]) -> Result<Option<Pieces>, OutOfMemory>
-    ensures { IfOk result (λ p. p ≡ all_of piece_of (map view members.now)) }
+    ensures { IfOk result (λ p. p ≡ all_of piece_of_value (map view members.now)) }
 {
     let mut pieces = Vec::new(alloc);
     for member in members {
-        match piece_of(alloc, member)? {
+        match piece_of_value(alloc, member)? {
             Some(piece) => pieces.push(piece)?,
             None => return Ok(None),
         }
@@ -137,8 +137,8 @@ fn pieces_from(alloc: Global, members: &[Value]) -> Result<Option<Pieces>, OutOf
 /// # Errors
 ///
 /// `OutOfMemory` alone.
-pub fn pieces_of(alloc: Global, value: &Value) -> Result<Option<Pieces>, OutOfMemory>
-    ensures { IfOk result (λ p. p ≡ pieces_of (view value.now)) }
+pub fn pieces_of_value(alloc: Global, value: &Value) -> Result<Option<Pieces>, OutOfMemory>
+    ensures { IfOk result (λ p. p ≡ pieces_of_value (view value.now)) }
 {
     match members_of(value) {
         Some(members) => pieces_from(alloc, members),
@@ -148,11 +148,11 @@ pub fn pieces_of(alloc: Global, value: &Value) -> Result<Option<Pieces>, OutOfMe
 
 fn entries_from(alloc: Global, members: &[Value]) -> Result<Option<Vec<(u16, u32)>>, OutOfMemory>
     ensures { IfOk result (λ o. option_map (λ v. v.items) o
-        ≡ all_of entry_of (map view members.now)) }
+        ≡ all_of entry_of_value (map view members.now)) }
 {
     let mut entries = Vec::new(alloc);
     for member in members {
-        match entry_of(member) {
+        match entry_of_value(member) {
             Some(entry) => entries.push(entry)?,
             None => return Ok(None),
         }
@@ -225,8 +225,8 @@ fn version_from(alloc: Global, members: &[Value]) -> Result<Option<Version>, Out
 }
 
 /// The version that the value is: ids of replicas, each once, with values of at least 1, in any order.
-pub fn version_of(alloc: Global, value: &Value) -> Result<Option<Version>, OutOfMemory>
-    ensures { IfOk result (λ v. v ≡ version_of (view value.now)) }
+pub fn version_of_value(alloc: Global, value: &Value) -> Result<Option<Version>, OutOfMemory>
+    ensures { IfOk result (λ v. v ≡ version_of_value (view value.now)) }
 {
     match members_of(value) {
         Some(members) => version_from(alloc, members),
@@ -240,7 +240,7 @@ fn count_from(members: &[Value]) -> Option<UndoCount>
     let [value, replica, count] = members else {
         return None;
     };
-    match (clock_value(value), id_of(replica), clock_value(count)) {
+    match (clock_value(value), id_of_value(replica), clock_value(count)) {
         (Some(value), Some(replica), Some(count)) => Some(UndoCount {
             edit: Lamport { value, replica },
             count,
@@ -249,8 +249,8 @@ fn count_from(members: &[Value]) -> Option<UndoCount>
     }
 }
 
-fn count_of(value: &Value) -> Option<UndoCount>
-    ensures { result ≡ count_of (view value.now) }
+fn count_of_value(value: &Value) -> Option<UndoCount>
+    ensures { result ≡ count_of_value (view value.now) }
 {
     match members_of(value) {
         Some(members) => count_from(members),
@@ -259,11 +259,11 @@ fn count_of(value: &Value) -> Option<UndoCount>
 }
 
 fn counts_from(alloc: Global, members: &[Value]) -> Result<Option<Counts>, OutOfMemory>
-    ensures { IfOk result (λ c. c ≡ all_of count_of (map view members.now)) }
+    ensures { IfOk result (λ c. c ≡ all_of count_of_value (map view members.now)) }
 {
     let mut counts = Vec::new(alloc);
     for member in members {
-        match count_of(member) {
+        match count_of_value(member) {
             Some(count) => counts.push(count)?,
             None => return Ok(None),
         }
@@ -276,8 +276,8 @@ fn counts_from(alloc: Global, members: &[Value]) -> Result<Option<Counts>, OutOf
 /// # Errors
 ///
 /// `OutOfMemory` alone.
-pub fn counts_of(alloc: Global, value: &Value) -> Result<Option<Counts>, OutOfMemory>
-    ensures { IfOk result (λ c. c ≡ counts_of (view value.now)) }
+pub fn counts_of_value(alloc: Global, value: &Value) -> Result<Option<Counts>, OutOfMemory>
+    ensures { IfOk result (λ c. c ≡ counts_of_value (view value.now)) }
 {
     match members_of(value) {
         Some(members) => counts_from(alloc, members),
@@ -303,8 +303,8 @@ fn numbers_from(alloc: Global, members: &[Value]) -> Result<Option<Numbers>, Out
 /// # Errors
 ///
 /// `OutOfMemory` alone.
-pub fn numbers_of(alloc: Global, value: &Value) -> Result<Option<Numbers>, OutOfMemory>
-    ensures { IfOk result (λ ns. ns ≡ numbers_of (view value.now)) }
+pub fn numbers_of_value(alloc: Global, value: &Value) -> Result<Option<Numbers>, OutOfMemory>
+    ensures { IfOk result (λ ns. ns ≡ numbers_of_value (view value.now)) }
 {
     match members_of(value) {
         Some(members) => numbers_from(alloc, members),
@@ -313,8 +313,8 @@ pub fn numbers_of(alloc: Global, value: &Value) -> Result<Option<Numbers>, OutOf
 }
 
 /// The side of its place that an anchor keeps to, by its word.
-pub fn bias_of(value: &Value) -> Option<Bias>
-    ensures { result ≡ bias_of (view value.now) }
+pub fn bias_of_value(value: &Value) -> Option<Bias>
+    ensures { result ≡ bias_of_value (view value.now) }
 {
     if is_text(value, "left") {
         return Some(Bias::Left);

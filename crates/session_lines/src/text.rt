@@ -2,7 +2,7 @@
 ghost use Rattle.std.specs.Prelude.{◌≡◌, ◌++◌, false, length, string_bytes, take, true, OnOk, OnErr, IfOk};
 ghost use Rattle.std.specs.Iterator.{IsFinite};
 ghost use Rattle.json.specs.Print.{escape, quoted};
-ghost use Rattle.session_lines.specs.Report.{made_line, settled_line, given_words, give_line, text_line, place_fault_words, anchor_words, anchor_line, where_words, where_line, mark_line, edit_words, edits_words, since_fault_words, since_words, since_line, starts_words, find_words, place_words, clips_words, point_words, offset_words, query_word, query_words, query_line, counts_words, waits_words, replica_line, head_words, OnText, fault_words, op_fault_words, undo_fault_words, refused_line, refused_undo_line, unnamed_line, refused_op_line, checked_line, line_text, has_string, is_end};
+ghost use Rattle.session_lines.specs.Report.{made_line, settled_line, give_words, give_line, text_line, place_fault_words, anchor_words, anchor_line, where_words, where_line, mark_line, edit_words, edits_words, since_fault_words, since_words, since_line, starts_words, find_words, place_words, clips_words, point_words, offset_words, query_word, query_words, query_line, counts_words, waits_words, replica_line, head_words, OnText, edit_fault_words, op_fault_words, undo_fault_words, refused_edit_line, refused_undo_line, unnamed_line, refused_op_line, checked_line, line_text, has_string, is_end};
 
 use crate::OutOfMemory;
 use crate::report::{
@@ -110,8 +110,8 @@ fn push_made(out: &mut String, n: u64, stamp: Lamport) -> Result<(), OutOfMemory
     write!(out, "{n}: {value}.{replica}\n")
 }
 
-fn fault_words(alloc: Global, fault: EditFault) -> Result<String, OutOfMemory>
-    ensures { IfOk result (λ s. string_bytes s ≡ fault_words fault) }
+fn edit_fault_words(alloc: Global, fault: EditFault) -> Result<String, OutOfMemory>
+    ensures { IfOk result (λ s. string_bytes s ≡ edit_fault_words fault) }
 {
     match fault {
         EditFault::Reversed(i) => format!(in alloc; "reversed {i}"),
@@ -147,7 +147,7 @@ fn op_fault_words(alloc: Global, fault: OpFault) -> Result<String, OutOfMemory>
         OpFault::Full { unit, held, adds } => EditFault::Full { unit, held, adds },
         OpFault::OutOfMemory => EditFault::OutOfMemory,
     };
-    fault_words(alloc, shared)
+    edit_fault_words(alloc, shared)
 }
 
 // A fault that an edit or a taken operation has too is told by the same words.
@@ -158,24 +158,24 @@ fn undo_fault_words(alloc: Global, fault: UndoFault) -> Result<String, OutOfMemo
         UndoFault::NoSuchEdit(stamp) => op_fault_words(alloc, OpFault::NoSuchEdit(stamp)),
         UndoFault::Twice(stamp) => format!(in alloc; "twice {stamp}"),
         UndoFault::CountEnd(stamp) => format!(in alloc; "countend {stamp}"),
-        UndoFault::ClockEnd => fault_words(alloc, EditFault::ClockEnd),
+        UndoFault::ClockEnd => edit_fault_words(alloc, EditFault::ClockEnd),
         UndoFault::Full { unit, held, adds } => {
-            fault_words(alloc, EditFault::Full { unit, held, adds })
+            edit_fault_words(alloc, EditFault::Full { unit, held, adds })
         }
-        UndoFault::OutOfMemory => fault_words(alloc, EditFault::OutOfMemory),
+        UndoFault::OutOfMemory => edit_fault_words(alloc, EditFault::OutOfMemory),
     }
 }
 
-#[tactic(auto, unfolding(crate::specs::Report::refused_line))]
-fn push_refused(
+#[tactic(auto, unfolding(crate::specs::Report::refused_edit_line))]
+fn push_refused_edit(
     alloc: Global,
     out: &mut String,
     n: u64,
     fault: EditFault,
 ) -> Result<(), OutOfMemory>
-    ensures { OnOk result (string_bytes out.new ≡ string_bytes out.old ++ refused_line n fault) }
+    ensures { OnOk result (string_bytes out.new ≡ string_bytes out.old ++ refused_edit_line n fault) }
 {
-    let words = fault_words(alloc, fault)?;
+    let words = edit_fault_words(alloc, fault)?;
     write!(out, "{n}: {words}\n")
 }
 
@@ -207,8 +207,8 @@ fn push_settled(out: &mut String, r: u16, count: u64) -> Result<(), OutOfMemory>
     write!(out, "settled {r}: {count}\n")
 }
 
-fn given_words(alloc: Global, answer: GiveAnswer) -> Result<String, OutOfMemory>
-    ensures { IfOk result (λ s. string_bytes s ≡ given_words answer) }
+fn give_words(alloc: Global, answer: GiveAnswer) -> Result<String, OutOfMemory>
+    ensures { IfOk result (λ s. string_bytes s ≡ give_words answer) }
 {
     match answer {
         GiveAnswer::Applied(count) => format!(in alloc; "applied {count}"),
@@ -229,7 +229,7 @@ fn push_give(
 ) -> Result<(), OutOfMemory>
     ensures { OnOk result (string_bytes out.new ≡ string_bytes out.old ++ give_line n r answer) }
 {
-    let words = given_words(alloc, answer)?;
+    let words = give_words(alloc, answer)?;
     write!(out, "give {n} to {r}: {words}\n")
 }
 
@@ -332,7 +332,7 @@ fn push_since_fault(out: &mut String, fault: SinceFault) -> Result<(), OutOfMemo
     }
 }
 
-fn push_changes(out: &mut String, answer: &SinceAnswer) -> Result<(), OutOfMemory>
+fn push_since_words(out: &mut String, answer: &SinceAnswer) -> Result<(), OutOfMemory>
     ensures { OnOk result (string_bytes out.new ≡ string_bytes out.old ++ since_words answer.now) }
 {
     match answer {
@@ -353,7 +353,7 @@ fn push_since(
     ensures err { OnErr result (out.new.items ≡ out.old.items) }
 {
     let mut back = format!(in alloc; " at {r}: ")?;
-    push_changes(&mut back, answer)?;
+    push_since_words(&mut back, answer)?;
     back.push_str("\n")?;
     push_around(alloc, out, "since ", name, back.as_str())
 }
@@ -371,7 +371,7 @@ fn push_starts(out: &mut String, starts: &[u64]) -> Result<(), OutOfMemory>
     Ok(())
 }
 
-fn push_found(out: &mut String, answer: &FindAnswer) -> Result<(), OutOfMemory>
+fn push_find_words(out: &mut String, answer: &FindAnswer) -> Result<(), OutOfMemory>
     ensures { OnOk result (string_bytes out.new ≡ string_bytes out.old ++ find_words answer.now) }
 {
     match answer {
@@ -433,11 +433,15 @@ fn query_word(answer: &QueryAnswer) -> &'static str
     }
 }
 
-fn push_answer(alloc: Global, out: &mut String, answer: &QueryAnswer) -> Result<(), OutOfMemory>
+fn push_query_words(
+    alloc: Global,
+    out: &mut String,
+    answer: &QueryAnswer,
+) -> Result<(), OutOfMemory>
     ensures { OnOk result (string_bytes out.new ≡ string_bytes out.old ++ query_words answer.now) }
 {
     match answer {
-        QueryAnswer::Find(found) => push_found(out, found),
+        QueryAnswer::Find(found) => push_find_words(out, found),
         QueryAnswer::Point(point) => {
             let words = point_words(alloc, *point)?;
             out.push_str(words.as_str())
@@ -462,7 +466,7 @@ fn push_query(
 {
     let word = query_word(answer);
     write!(out, "{word} {number} at {applied}: ")?;
-    push_answer(alloc, out, answer)?;
+    push_query_words(alloc, out, answer)?;
     out.push_str("\n")
 }
 
@@ -595,7 +599,7 @@ fn push_plain(alloc: Global, out: &mut String, line: &Report) -> Result<(), OutO
 {
     match line {
         Report::Made { number, stamp } => push_made(out, *number, *stamp),
-        Report::EditRefused { number, fault } => push_refused(alloc, out, *number, *fault),
+        Report::EditRefused { number, fault } => push_refused_edit(alloc, out, *number, *fault),
         Report::UndoRefused { number, fault } => push_refused_undo(alloc, out, *number, *fault),
         Report::Unnamed { number, named } => push_unnamed(out, *number, *named),
         Report::Settled { replica, count } => push_settled(out, *replica, *count),

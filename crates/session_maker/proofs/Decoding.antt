@@ -1,17 +1,18 @@
 -- The text of a session that is made decodes to it.
 use Rattle.std.proofs.Common.{◌≡◌, ℕ, zero, suc, ◌+◌, ◌≤◌, Bool, true, false, cond, List, [], ◌∷◌, ◌++◌, map, length, Some, None, Ok, Err, inl, inr, refl, ap, ap₂, ◌∙◌, arith, append_assoc}
-use Rattle.std.specs.Prelude.{◌&&◌, codes, nat_le, nat_lt, option_and_then, option_map}
+use Rattle.std.specs.Prelude.{◌&&◌, codes, nat_le, nat_lt, ok_or, option_and_then, option_map}
+use Rattle.std.specs.List.{onto_first}
 use Rattle.std.proofs.lemmas.Bool.{and_parts, cases_eq, le-leb, le-ltb, leb-true, ne_eqb}
 use Rattle.std.proofs.lemmas.List.{length-map}
 use Rattle.json.specs.Print.{escape_byte, quoted}
 use Rattle.serde_json.specs.Data.{Data}
 use Rattle.serde_json.specs.View.{items_of}
 use Rattle.serde_json.specs.Written.{compact_text}
-use Rattle.session_lines.specs.Cut.{lines_of, onto_first}
+use Rattle.session_lines.specs.Cut.{lines_of}
 use Rattle.session_lines.specs.Heading.{are_replicas, header_of_value, header_with, replicas_from}
 use Rattle.session_lines.specs.Json.{list_of}
-use Rattle.session_lines.specs.Parts.{all_of, id_of}
-use Rattle.session_lines.specs.Session.{session_of_text, header_of, header_or_word, is_operation, or_word, rest_of, session_of, then_from, with_header, lines_limit}
+use Rattle.session_lines.specs.Parts.{all_of, id_of_value}
+use Rattle.session_lines.specs.Session.{session_of_text, header_of, header_or_word, is_operation, rest_of, session_of, then_from, with_header, lines_limit}
 use Rattle.session_lines.specs.declared.fault.DecodeFault.TheVariants.{Lines}
 use Rattle.session_lines.specs.declared.fault.Word.TheVariants as word
 use Rattle.session_lines.specs.declared.header.Header.{Header}
@@ -41,7 +42,7 @@ ids_short : (ids rs : List ℕ) → AreKnown ids rs → AreLine (items_of (map n
 ids_short ids [] h = tt
 ids_short ids (r ∷ rs) h = let small : r ≤ 65535 = h.0 in (omega arith, ids_short ids rs h.2)
 
-ids_from : (ids rs : List ℕ) → AreKnown ids rs → all_of id_of (map number_value rs) ≡ Some rs
+ids_from : (ids rs : List ℕ) → AreKnown ids rs → all_of id_of_value (map number_value rs) ≡ Some rs
 ids_from ids [] h = refl
 ids_from ids (r ∷ rs) h =
     ap₂ (λ (b : Bool) o. option_and_then (λ x. option_map (λ xs. x ∷ xs) o) (cond b (Some r) None)) (le-leb r 65535 h.0) (ids_from ids rs h.2)
@@ -73,7 +74,7 @@ module _ (n : ℕ) (some : 1 ≤ n) (most : n ≤ 16) where
 
   head_read : header_of (compact_text (header_value base_text (ids_to n))) ≡ Ok (record { base = base_text; replicas = ids_to n })
   unfolding header_of
-  head_read = ap header_or_word (value_back (header_value base_text (ids_to n)) 2 (omega arith) head_short) ∙ ap (or_word word.Header) head_form
+  head_read = ap header_or_word (value_back (header_value base_text (ids_to n)) 2 (omega arith) head_short) ∙ ap (λ o. ok_or o word.Header) head_form
 
 -- ---- the lines of the text
 

@@ -8,6 +8,7 @@ use Rattle.std.proofs.lemmas.Bool.Decides.{nat_tests}
 use Rattle.op_model.specs.declared.operation.Operation.{Operation}
 use Rattle.snapshot_pub.proofs.Fronts.{front_itself}
 use Rattle.text_buffer.specs.Document.{IsFront}
+use Rattle.session_lines.specs.Heading.{most_replicas}
 use Rattle.session_lines.specs.Report.{report_text}
 use Rattle.session_lines.specs.Session.{IsSession, query_count}
 use Rattle.session_lines.specs.declared.report.QueryAnswer.{QueryAnswer}
@@ -41,8 +42,8 @@ use Rattle.session_replay.proofs.Gathered.{gathered, gathered_lines, past, repli
 pub opened_state : (s : Session) (p : Progress) → p.replicas ≡ map (first_buffer s.base) s.replicas → p.operations.items ≡ [] → by_bytes p.anchors.entries ≡ [] → by_bytes p.marks.entries ≡ [] → state_of p ≡ opening s
 opened_state s p b o n m = same_state p.replicas (map (first_buffer s.base) s.replicas) p.operations.items [] b o ∙ same_names (opening s) (by_bytes p.anchors.entries) [] (by_bytes p.marks.entries) [] n m
 
-few_replicas : (s : Session) → IsSession session_limit s → length s.replicas ≤ 64
-few_replicas s h = let few = (and_parts (nat_le 1 (length s.replicas)) (nat_le (length s.replicas) 64) (and_parts _ _ h.replicas).0).1 in grind (arith, nat_tests)
+few_replicas : (s : Session) → IsSession session_limit s → length s.replicas ≤ most_replicas
+few_replicas s h = let few = (and_parts (nat_le 1 (length s.replicas)) (nat_le (length s.replicas) most_replicas) (and_parts _ _ h.replicas).0).1 in grind (arith, nat_tests)
 
 fronts_same : (hs : List (List Operation)) → ArePaired IsFront hs hs
 fronts_same [] = tt

@@ -10,7 +10,7 @@ use Rattle.session_lines.specs.Forms.{line_of_value}
 use Rattle.session_lines.specs.Heading.{header_of_value}
 use Rattle.session_lines.specs.Session.{session_of_text, header_of, line_of}
 use Rattle.session_lines.specs.Words.{bad_line}
-use Rattle.session_lines.specs.Report.{report_text, line_text, made_line, refused_line, refused_undo_line, unnamed_line, settled_line, give_line, text_line, replica_line, refused_op_line, query_line, anchor_line, where_line, mark_line, since_line, checked_line}
+use Rattle.session_lines.specs.Report.{report_text, line_text, made_line, refused_edit_line, refused_undo_line, unnamed_line, settled_line, give_line, text_line, replica_line, refused_op_line, query_line, anchor_line, where_line, mark_line, since_line, checked_line}
 use Rattle.text_dims.specs.Counts.{utf16_count, newline_count, rows, last_row}
 use Rattle.text_dims.specs.Places.{end_place, places}
 use Rattle.snapshot_search.specs.Starts.{starts}
@@ -36,53 +36,53 @@ open_histories = 0
 
 pub one_edit : answer_of (Replay 2) (codes "[\"zedbuf\",1,\"ab\",[1]]\n[\"edit\",1,[[1,1,\"X\"]]]\n[\"text\",1]\n")
     ≡ (status.Done, codes "1: 2.1\ntext 1: 3 bytes, end 0:3, 1 rows, \"aXb\"\nreplica 1: 3 bytes, 1 rows, 1 applied, 0 waiting, 0 refused\nfinal 1: \"aXb\"\n")
-unfolding answer_of open_histories report_of report_text session_of_text value_of line_of_value header_of_value header_of line_of line_text made_line refused_line text_line replica_line digits escape_byte is_utf8 chars serde_json_on_literals
+unfolding answer_of open_histories report_of report_text session_of_text value_of line_of_value header_of_value header_of line_of line_text made_line refused_edit_line text_line replica_line digits escape_byte is_utf8 chars serde_json_on_literals
 one_edit = refl
 
 pub no_line_but_the_header : answer_of (Replay 2) (codes "[\"zedbuf\",1,\"ab\",[1,2]]\n")
     ≡ (status.Done, codes "replica 1: 2 bytes, 1 rows, 0 applied, 0 waiting, 0 refused\nfinal 1: \"ab\"\nreplica 2: 2 bytes, 1 rows, 0 applied, 0 waiting, 0 refused\nfinal 2: \"ab\"\n")
-unfolding answer_of open_histories report_of report_text session_of_text value_of line_of_value header_of_value header_of line_of line_text made_line refused_line text_line replica_line digits escape_byte is_utf8 chars serde_json_on_literals
+unfolding answer_of open_histories report_of report_text session_of_text value_of line_of_value header_of_value header_of line_of line_text made_line refused_edit_line text_line replica_line digits escape_byte is_utf8 chars serde_json_on_literals
 no_line_but_the_header = refl
 
 pub two_replicas : answer_of (Replay 2) (codes "[\"zedbuf\",1,\"\",[2,1]]\n[\"edit\",1,[[0,0,\"X\"]]]\n[\"edit\",2,[[1,1,\"Y\"]]]\n[\"edit\",2,[[0,0,\"Z\"]]]\n[\"text\",1]\n")
     ≡ (status.Done, codes "1: 2.1\n2: pastend 0 0\n3: 2.2\ntext 1: 1 bytes, end 0:1, 1 rows, \"X\"\nreplica 2: 1 bytes, 1 rows, 1 applied, 0 waiting, 0 refused\nfinal 2: \"Z\"\nreplica 1: 1 bytes, 1 rows, 1 applied, 0 waiting, 0 refused\nfinal 1: \"X\"\n")
-unfolding answer_of open_histories report_of report_text session_of_text value_of line_of_value header_of_value header_of line_of line_text made_line refused_line text_line replica_line digits escape_byte is_utf8 chars serde_json_on_literals
+unfolding answer_of open_histories report_of report_text session_of_text value_of line_of_value header_of_value header_of line_of line_text made_line refused_edit_line text_line replica_line digits escape_byte is_utf8 chars serde_json_on_literals
 two_replicas = refl
 
 pub refused_edits : answer_of (Replay 2) (codes "[\"zedbuf\",1,\"ab\",[9]]\n[\"edit\",9,[[2,1,\"\"]]]\n[\"edit\",9,[[0,2,\"\"],[1,1,\"x\"]]]\n[\"edit\",9,[]]\n")
     ≡ (status.Done, codes "1: reversed 0\n2: overlap 1\n3: 2.9\nreplica 9: 2 bytes, 1 rows, 1 applied, 0 waiting, 0 refused\nfinal 9: \"ab\"\n")
-unfolding answer_of open_histories report_of report_text session_of_text value_of line_of_value header_of_value header_of line_of line_text made_line refused_line text_line replica_line digits escape_byte is_utf8 chars serde_json_on_literals
+unfolding answer_of open_histories report_of report_text session_of_text value_of line_of_value header_of_value header_of line_of line_text made_line refused_edit_line text_line replica_line digits escape_byte is_utf8 chars serde_json_on_literals
 refused_edits = refl
 
 pub two_rows : answer_of (Replay 2) (codes "[\"zedbuf\",1,\"a\\nbc\\\"\",[1]]\n[\"text\",1]\n")
     ≡ (status.Done, codes "text 1: 5 bytes, end 1:3, 2 rows, \"a\\nbc\\\"\"\nreplica 1: 5 bytes, 2 rows, 0 applied, 0 waiting, 0 refused\nfinal 1: \"a\\nbc\\\"\"\n")
-unfolding answer_of open_histories report_of report_text session_of_text value_of line_of_value header_of_value header_of line_of line_text made_line refused_line text_line replica_line digits escape_byte is_utf8 chars serde_json_on_literals
+unfolding answer_of open_histories report_of report_text session_of_text value_of line_of_value header_of_value header_of line_of line_text made_line refused_edit_line text_line replica_line digits escape_byte is_utf8 chars serde_json_on_literals
 two_rows = refl
 
 pub edits_at_one_place : answer_of (Replay 2) (codes "[\"zedbuf\",1,\"ab\",[1,2]]\n[\"edit\",1,[[1,1,\"X\"]]]\n[\"edit\",2,[[1,1,\"Y\"]]]\n[\"give\",2,1]\n[\"give\",1,2]\n")
     ≡ (status.Done, codes "1: 2.1\n2: 2.2\ngive 1 to 2: applied 1\ngive 2 to 1: applied 1\nreplica 1: 4 bytes, 1 rows, 2 applied, 0 waiting, 0 refused\nfinal 1: \"aYXb\"\nreplica 2: 4 bytes, 1 rows, 2 applied, 0 waiting, 0 refused\nfinal 2: \"aYXb\"\n")
-unfolding answer_of open_histories report_of report_text session_of_text value_of line_of_value header_of_value header_of line_of line_text made_line refused_line settled_line give_line text_line replica_line refused_op_line digits escape_byte is_utf8 chars serde_json_on_literals
+unfolding answer_of open_histories report_of report_text session_of_text value_of line_of_value header_of_value header_of line_of line_text made_line refused_edit_line settled_line give_line text_line replica_line refused_op_line digits escape_byte is_utf8 chars serde_json_on_literals
 edits_at_one_place = refl
 
 pub applied_behind_an_edit : answer_of (Replay 2) (codes "[\"zedbuf\",1,\"ab\",[1,2]]\n[\"op\",[3,2],[[0,1],[1,2]],[[0,0,\"q\"]]]\n[\"give\",1,1]\n[\"edit\",1,[[2,2,\"c\"]]]\n[\"text\",1]\n")
     ≡ (status.Done, codes "1: 3.2\ngive 1 to 1: waits 1 2\n2: 2.1\nsettled 1: 1\ntext 1: 4 bytes, end 0:4, 1 rows, \"qabc\"\nreplica 1: 4 bytes, 1 rows, 2 applied, 0 waiting, 0 refused\nfinal 1: \"qabc\"\nreplica 2: 2 bytes, 1 rows, 0 applied, 0 waiting, 0 refused\nfinal 2: \"ab\"\n")
-unfolding answer_of open_histories report_of report_text session_of_text value_of line_of_value header_of_value header_of line_of line_text made_line refused_line settled_line give_line text_line replica_line refused_op_line digits escape_byte is_utf8 chars serde_json_on_literals
+unfolding answer_of open_histories report_of report_text session_of_text value_of line_of_value header_of_value header_of line_of line_text made_line refused_edit_line settled_line give_line text_line replica_line refused_op_line digits escape_byte is_utf8 chars serde_json_on_literals
 applied_behind_an_edit = refl
 
 pub refused_while_settling : answer_of (Replay 2) (codes "[\"zedbuf\",1,\"ab\",[1,2]]\n[\"op\",[3,2],[[0,1],[3,2]],[[9,9,\"q\"]]]\n[\"give\",1,1]\n[\"op\",[2,3],[[0,1]],[]]\n[\"give\",1,2]\n")
     ≡ (status.Done, codes "1: 3.2\ngive 1 to 1: waits 3 2\n2: 2.3\ngive 2 to 1: applied 1\nreplica 1: 2 bytes, 1 rows, 1 applied, 0 waiting, 1 refused\nrefused 1: 3.2 pastend 0 2\nfinal 1: \"ab\"\nreplica 2: 2 bytes, 1 rows, 0 applied, 0 waiting, 0 refused\nfinal 2: \"ab\"\n")
-unfolding answer_of open_histories report_of report_text session_of_text value_of line_of_value header_of_value header_of line_of line_text made_line refused_line settled_line give_line text_line replica_line refused_op_line digits escape_byte is_utf8 chars serde_json_on_literals
+unfolding answer_of open_histories report_of report_text session_of_text value_of line_of_value header_of_value header_of line_of line_text made_line refused_edit_line settled_line give_line text_line replica_line refused_op_line digits escape_byte is_utf8 chars serde_json_on_literals
 refused_while_settling = refl
 
 -- two undos of one edit that have not seen each other, and a redo
 pub undos_count_once : answer_of (Replay 2) (codes "[\"zedbuf\",1,\"ab\",[1,2]]\n[\"edit\",1,[[1,1,\"X\"]]]\n[\"give\",2,1]\n[\"undo\",1,[1]]\n[\"undo\",2,[1]]\n[\"give\",1,3]\n[\"text\",1]\n[\"undo\",1,[1]]\n")
     ≡ (status.Done, codes "1: 2.1\ngive 1 to 2: applied 1\n2: 3.1\n3: 3.2\ngive 3 to 1: applied 1\ntext 1: 2 bytes, end 0:2, 1 rows, \"ab\"\n4: 5.1\nreplica 1: 3 bytes, 1 rows, 4 applied, 0 waiting, 0 refused\nfinal 1: \"aXb\"\nreplica 2: 2 bytes, 1 rows, 2 applied, 0 waiting, 0 refused\nfinal 2: \"ab\"\n")
-unfolding answer_of open_histories report_of report_text session_of_text value_of line_of_value header_of_value header_of line_of line_text made_line refused_line refused_undo_line unnamed_line settled_line give_line text_line replica_line refused_op_line digits escape_byte is_utf8 chars serde_json_on_literals
+unfolding answer_of open_histories report_of report_text session_of_text value_of line_of_value header_of_value header_of line_of line_text made_line refused_edit_line refused_undo_line unnamed_line settled_line give_line text_line replica_line refused_op_line digits escape_byte is_utf8 chars serde_json_on_literals
 undos_count_once = refl
 
 pub refused_undos : answer_of (Replay 2) (codes "[\"zedbuf\",1,\"ab\",[1,2]]\n[\"edit\",1,[[1,1,\"X\"]]]\n[\"undo\",2,[1]]\n[\"undo\",1,[1,1]]\n[\"undo\",1,[1,1,2]]\n[\"uop\",[3,2],[[0,1],[1,2]],[[2,1,4294967295]]]\n[\"give\",1,5]\n[\"undo\",1,[1]]\n")
     ≡ (status.Done, codes "1: 2.1\n2: nosuchedit 2.1\n3: twice 2.1\n4: nothing 2\n5: 3.2\ngive 5 to 1: applied 1\n6: countend 2.1\nreplica 1: 2 bytes, 1 rows, 2 applied, 0 waiting, 0 refused\nfinal 1: \"ab\"\nreplica 2: 2 bytes, 1 rows, 0 applied, 0 waiting, 0 refused\nfinal 2: \"ab\"\n")
-unfolding answer_of open_histories report_of report_text session_of_text value_of line_of_value header_of_value header_of line_of line_text made_line refused_line refused_undo_line unnamed_line settled_line give_line text_line replica_line refused_op_line digits escape_byte is_utf8 chars serde_json_on_literals
+unfolding answer_of open_histories report_of report_text session_of_text value_of line_of_value header_of_value header_of line_of line_text made_line refused_edit_line refused_undo_line unnamed_line settled_line give_line text_line replica_line refused_op_line digits escape_byte is_utf8 chars serde_json_on_literals
 refused_undos = refl
 
 -- queries before an edit and behind it, in an order of their own behind the events

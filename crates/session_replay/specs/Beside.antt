@@ -4,6 +4,7 @@ use Rattle.std.specs.List.{position_or_len}
 use Rattle.op_model.specs.declared.operation.Operation.{Operation}
 use Rattle.text_buffer.specs.Buffer.{BufferState}
 use Rattle.text_buffer.specs.Document.{IsFront}
+use Rattle.session_lines.specs.Heading.{most_replicas}
 use Rattle.session_lines.specs.Report.{report_text}
 use Rattle.session_lines.specs.Session.{query_count}
 use Rattle.session_lines.specs.declared.session.SessionLine.{SessionLine}
@@ -47,7 +48,7 @@ line_of a = report.Query a.number (count_of a.snapshot) a.answer
 -- an editor over these buffers that has asked this: each pair shows a front of what its replica has applied
 pub record IsAsking (bs : List BufferState) (asks : List (Ask Question))
     (d : DispatcherState Question) (p : PublishersState) : Type 0 where
-  pub few : length bs ≤ 64
+  pub few : length bs ≤ most_replicas
   pub asked : HasAsked d asks
   pub level : AreLevel p
   pub tied : AreTied d.inboxes p
