@@ -1,4 +1,4 @@
-//! A rope's positions: conversions, clips and the lengths of rows.
+//! A rope's positions: each kind as each other.
 //!
 //! Each is one descent, and one look inside a chunk. None takes memory.
 ghost use Rattle.std.specs.Prelude.{◌≡◌};

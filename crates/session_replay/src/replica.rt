@@ -250,7 +250,7 @@ impl Replica {
             rows: self.row_count(),
             // the base is none
             applied: self.buffer.applied().len().saturating_sub(1),
-            waiting: self.buffer.deferred().len(),
+            waiting: self.buffer.waiting().len(),
             refused: self.buffer.refused().len() as u64,
         }
     }

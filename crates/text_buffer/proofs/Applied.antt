@@ -32,7 +32,7 @@ use Rattle.undo_map.specs.declared.entry.UndoEntry.{UndoEntry}
 use Rattle.undo_map.specs.Undos.{undo_entries}
 use Rattle.undo_map.proofs.Entries.{entries_within}
 use Rattle.text_buffer.specs.Buffer.{BufferState, IsBuffer}
-use Rattle.text_buffer.specs.Document.{IsContent, IsHistory, HasRoom}
+use Rattle.text_buffer.specs.Document.{IsContent, IsBufferHistory, HasRoom}
 use Rattle.text_buffer.specs.DocumentInside.{IsDocumentInside}
 use Rattle.text_buffer.specs.declared.document.Document.TheInside.{Inside}
 use Rattle.text_buffer.proofs.Fit.{room_in}
@@ -62,7 +62,7 @@ entries_more h op g =
     rw n at e
 
 -- there is room for the counts of an undo
-pub counts_fit : (h : History) (u : UndoOp) (w : List UndoEntry) → IsHistory h → w ≡ undo_entries h → HasRoom h (Undo u) → length w + length u.counts ≤ 2 ^ 40
+pub counts_fit : (h : History) (u : UndoOp) (w : List UndoEntry) → IsBufferHistory h → w ≡ undo_entries h → HasRoom h (Undo u) → length w + length u.counts ≤ 2 ^ 40
 counts_fit h u w k e r =
     let held = entries_within h k.lawful in
     let same : length w ≡ length (undo_entries h) = ap length e in
@@ -80,8 +80,8 @@ room_for b op k f =
     let r = room_of b op f in
     record { bytes = omega (arith, r.0, k.most_bytes); entries = omega (arith, r.1, k.most_entries) }
 
-pub IsHistory-applied : (h : History) (op : Operation) → IsHistory h → IsProper op → answer h [] op ≡ Good → HasRoom h op → IsHistory (h ++ op ∷ [])
-IsHistory-applied h op k p g r =
+pub IsBufferHistory-applied : (h : History) (op : Operation) → IsBufferHistory h → IsProper op → answer h [] op ≡ Good → HasRoom h op → IsBufferHistory (h ++ op ∷ [])
+IsBufferHistory-applied h op k p g r =
     let law : Lawful (h ++ op ∷ []) = lawful_more h op k.lawful g in
     let proper : AllByRecursion IsProper (h ++ op ∷ []) = each_append IsProper h (op ∷ []) k.proper (p, tt) in
     record {
@@ -111,11 +111,11 @@ IsDocumentInside-applied i j op s k p g r t items clocks versions content bytes 
       content = subst (IsContent j.content) (sym items) content;
       bytes = omega (arith, bytes, k.bytes, bytes_held-append i.operations op, ap bytes_held items);
       entries = omega (arith, entries, k.entries, entries_more i.operations op g, ap entries_held items);
-      history = subst IsHistory (sym items) (IsHistory-applied i.operations op k.history p g r);
+      history = subst IsBufferHistory (sym items) (IsBufferHistory-applied i.operations op k.history p g r);
     }
 
 -- a buffer whose document has one operation more
-pub IsBuffer-put : (b : BufferState) (op : Operation) (h : History) → IsBuffer b → IsHistory h → answer b.history [] op ≡ Good → full_fault b.limits b.history op ≡ None → h ≡ b.history ++ op ∷ []
+pub IsBuffer-put : (b : BufferState) (op : Operation) (h : History) → IsBuffer b → IsBufferHistory h → answer b.history [] op ≡ Good → full_fault b.limits b.history op ≡ None → h ≡ b.history ++ op ∷ []
     → IsBuffer (record b { history = h })
 IsBuffer-put b op h k n g f e =
     let room = room_of b op f in

@@ -39,7 +39,7 @@ use Rattle.text_buffer.specs.declared.content.Content.{Content}
 use Rattle.text_buffer.specs.declared.document.Document.TheInside.{Inside}
 use Rattle.text_buffer.specs.Buffer.{BufferState}
 use Rattle.text_buffer.specs.DocumentInside.{IsDocumentInside}
-use Rattle.text_buffer.specs.Document.{IsContent, IsHistory, IsMoved, HasRoom, MayEdit, MayGrow}
+use Rattle.text_buffer.specs.Document.{IsContent, IsBufferHistory, IsMoved, HasRoom, MayEdit, MayGrow}
 use Rattle.text_buffer.proofs.Edited.{made_entries, made_total}
 use Rattle.text_buffer.proofs.Fit.{room_in, room_of}
 use Rattle.text_buffer.proofs.Lengths.{both_bytes, full_bytes, text_base}
@@ -88,7 +88,7 @@ base_content c t fr s w u e f =
 
 -- ---- what an operation asks
 
-pub may_place : (c : Content) (h : History) (op : Operation) → IsContent c h → IsHistory h → MayGrow h op → MayPlace c.fragments.items c.index c.undos op
+pub may_place : (c : Content) (h : History) (op : Operation) → IsContent c h → IsBufferHistory h → MayGrow h op → MayPlace c.fragments.items c.index c.undos op
 may_place c h op k s g = record {
   history = h;
   stands = k.stand;
@@ -111,10 +111,10 @@ edit_room h r ps m =
 pub content_seen : (d : Inside) (h : History) → IsDocumentInside d → d.operations ≡ h → IsContent d.content h
 content_seen d h t e = subst (IsContent d.content) e t.content
 
-pub history_seen : (d : Inside) (h : History) → IsDocumentInside d → d.operations ≡ h → IsHistory h
-history_seen d h t e = subst IsHistory e t.history
+pub history_seen : (d : Inside) (h : History) → IsDocumentInside d → d.operations ≡ h → IsBufferHistory h
+history_seen d h t e = subst IsBufferHistory e t.history
 
-pub may_make : (c : Content) (h : History) (t : Lamport) (v : Entries) (ps : List Piece) → IsContent c h → IsHistory h → MayEdit h t.replica ps → t.value ≡ clock h → v ≡ version h → MayMake c.fragments.items c.index c.undos t v ps
+pub may_make : (c : Content) (h : History) (t : Lamport) (v : Entries) (ps : List Piece) → IsContent c h → IsBufferHistory h → MayEdit h t.replica ps → t.value ≡ clock h → v ≡ version h → MayMake c.fragments.items c.index c.undos t v ps
 may_make c h t v ps k s m e f = record {
   history = h;
   stands = k.stand;
@@ -134,7 +134,7 @@ edit_member c [] m = absurd m
 edit_member c (x ∷ cs) (inl e) = inl (ap (λ (z : UndoCount). z.edit) e)
 edit_member c (x ∷ cs) (inr m) = inr (edit_member c cs m)
 
-pub may_mark : (c : Content) (h : History) (u : UndoOp) (w : List UndoEntry) (ts : List Lamport) → IsContent c h → IsHistory h → MayGrow h (Undo u) → w ≡ undo_entries (h ++ Undo u ∷ []) → ts ≡ map (λ (x : UndoCount). x.edit) u.counts
+pub may_mark : (c : Content) (h : History) (u : UndoOp) (w : List UndoEntry) (ts : List Lamport) → IsContent c h → IsBufferHistory h → MayGrow h (Undo u) → w ≡ undo_entries (h ++ Undo u ∷ []) → ts ≡ map (λ (x : UndoCount). x.edit) u.counts
     → MayMark c.fragments.items c.index w u.stamp ts h u
 may_mark c h u w ts k s g e f = record {
   stamp = refl;
@@ -189,7 +189,7 @@ made_room h r ps m =
     record { bytes = omega (arith, n.0, b, x); entries = omega (arith, n.1, e, y) }
 
 -- the edit op that is made may grow the history
-pub made_grows : (h : History) (r : ℕ) (ps : List Piece) (op : Operation) → IsHistory h → MayEdit h r ps → op ≡ made_at h r ps → IsProper op → MayGrow h op
+pub made_grows : (h : History) (r : ℕ) (ps : List Piece) (op : Operation) → IsBufferHistory h → MayEdit h r ps → op ≡ made_at h r ps → IsProper op → MayGrow h op
 made_grows h r ps op s m e p = record {
   proper = p;
   good = ap (answer h []) e ∙ (edit_good m.limits h r ps s.lawful s.proper m.replica m.faultless).0;

@@ -4,6 +4,7 @@ use Rattle.std.specs.List.{AllByRecursion}
 use Rattle.std.specs.Arc.{arc_value}
 use Rattle.std.specs.Str.{IsUtf8}
 use Rattle.lamport_clock.specs.declared.stamp.Lamport.{Lamport}
+use Rattle.op_model.specs.Operations.{last_replica}
 use Rattle.op_model.specs.declared.operation.Operation.{Operation}
 use Rattle.op_model.specs.declared.limits.Limits.{Limits as LimitsType}
 use Rattle.op_model.specs.declared.faults.OpFault.{OpFault}
@@ -13,12 +14,12 @@ use Rattle.op_model.specs.Lawful.{Lawful}
 use Rattle.op_model.proofs.histories.Proper.{utf8}
 use Rattle.text_buffer.specs.BaseInside.{opening_text}
 use Rattle.text_buffer.specs.Buffer.{BufferState, IsBuffer}
-use Rattle.text_buffer.specs.Document.{IsContent, IsHistory}
+use Rattle.text_buffer.specs.Document.{IsContent, IsBufferHistory}
 use Rattle.text_buffer.specs.DocumentInside.{IsDocumentInside}
 use Rattle.text_buffer.specs.declared.document.Document.TheInside.{Inside as DocumentInside}
 use Rattle.text_buffer.proofs.Lengths.{text_length}
 
-pub history_opened : (t : List ℕ) → IsUtf8 t → length t ≤ 2 ^ 40 → IsHistory (base t ∷ [])
+pub history_opened : (t : List ℕ) → IsUtf8 t → length t ≤ 2 ^ 40 → IsBufferHistory (base t ∷ [])
 history_opened t u l =
     let one : History = base t ∷ [] in
     let law : Lawful one = ((t, refl), tt) in
@@ -44,10 +45,10 @@ IsDocumentInside-opened j t u l h clocks versions content bytes entries =
       content = subst (IsContent j.content) (sym h) content;
       bytes = bytes ∙ sym held ∙ ap bytes_held (sym h);
       entries = entries ∙ ap entries_held (sym h);
-      history = subst IsHistory (sym h) (history_opened t u l);
+      history = subst IsBufferHistory (sym h) (history_opened t u l);
     }
 
-pub IsBuffer-opened : (r : ℕ) (l : LimitsType) (h w : List Operation) (f : List (Lamport × OpFault)) (t : List ℕ) → IsUtf8 t → 1 ≤ r → r ≤ 1023 → l.bytes ≤ 2 ^ 40 → l.entries ≤ 2 ^ 40 - 1 → length t ≤ l.bytes
+pub IsBuffer-opened : (r : ℕ) (l : LimitsType) (h w : List Operation) (f : List (Lamport × OpFault)) (t : List ℕ) → IsUtf8 t → 1 ≤ r → r ≤ last_replica → l.bytes ≤ 2 ^ 40 → l.entries ≤ 2 ^ 40 - 1 → length t ≤ l.bytes
     → h ≡ base t ∷ [] → w ≡ [] → f ≡ [] → IsBuffer (record { history = h; waiting = w; refused = f; replica = r; limits = l })
 IsBuffer-opened r l h w f t u low high most_bytes most_entries room he we fe =
     let one : History = base t ∷ [] in
@@ -75,5 +76,5 @@ pub base_alone : (h : List Operation) (t : List ℕ) → h ≡ base t ∷ [] →
 base_alone h t e = e ∙ ap (λ (u : List ℕ). base u ∷ []) (sym (ap opening_text e))
 
 -- it is UTF-8
-pub base_utf8 : (t : List ℕ) → IsHistory (base t ∷ []) → IsUtf8 t
+pub base_utf8 : (t : List ℕ) → IsBufferHistory (base t ∷ []) → IsUtf8 t
 base_utf8 t k = k.proper.0.1.0

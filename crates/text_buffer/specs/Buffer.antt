@@ -14,7 +14,7 @@ use Rattle.lamport_clock.specs.Versions.{within}
 use Rattle.op_model.specs.Sorted.{Ascending}
 use Rattle.op_model.specs.Choice.{when}
 use Rattle.op_model.specs.Domains.{IsProper}
-use Rattle.op_model.specs.Operations.{stamp_of, version_of}
+use Rattle.op_model.specs.Operations.{stamp_of, version_of, last_replica}
 use Rattle.op_model.specs.Histories.{base, version, bytes_held, entries_held, operation_at}
 use Rattle.op_model.specs.Answers.{Answer}
 use Rattle.op_model.specs.Answers.Answer.{Good, Repeat, Waits, Refused}
@@ -150,7 +150,7 @@ pub record IsBuffer (b : BufferState) : Type 0 where
   pub proper : AllByRecursion IsProper b.history
   pub waiting_ascending : Ascending older b.waiting
   pub least_replica : 1 ≤ b.replica
-  pub greatest_replica : b.replica ≤ 1023
+  pub greatest_replica : b.replica ≤ last_replica
   pub most_bytes : b.limits.bytes ≤ 2 ^ 40
   pub most_entries : b.limits.entries ≤ 2 ^ 40 - 1
   pub bytes : bytes_held b.history ≤ b.limits.bytes

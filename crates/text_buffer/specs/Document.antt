@@ -22,7 +22,7 @@ use Rattle.remote_edit.specs.Moves.{after_moves, texts_of}
 use Rattle.text_buffer.specs.declared.content.Content.{Content}
 
 -- what is true of the history of every buffer and of every snapshot
-pub record IsHistory (h : List Operation) : Type 0 where
+pub record IsBufferHistory (h : List Operation) : Type 0 where
   pub lawful : Lawful h
   pub proper : AllByRecursion IsProper h
   pub bytes : bytes_held h ≤ 2 ^ 40

@@ -2,7 +2,7 @@
 use Rattle.std.specs.Prelude.{◌≡◌}
 use Rattle.std.specs.Arc.{arc_value}
 use Rattle.op_model.specs.Histories.{version, clock, bytes_held, entries_held}
-use Rattle.text_buffer.specs.Document.{IsContent, IsHistory}
+use Rattle.text_buffer.specs.Document.{IsContent, IsBufferHistory}
 use Rattle.text_buffer.specs.declared.document.Document.TheInside.{Inside}
 
 pub record IsDocumentInside (d : Inside) : Type 0 where
@@ -11,4 +11,4 @@ pub record IsDocumentInside (d : Inside) : Type 0 where
   pub content : IsContent d.content d.operations
   pub bytes : d.bytes ≡ bytes_held d.operations
   pub entries : d.entries ≡ entries_held d.operations
-  pub history : IsHistory d.operations
+  pub history : IsBufferHistory d.operations

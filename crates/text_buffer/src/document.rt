@@ -17,7 +17,7 @@ ghost use Rattle.undo_map.specs.Undos.{undo_entries};
 ghost use Rattle.op_answers.specs.Verdicts.{answer_of};
 ghost use Rattle.remote_edit.specs.Moves.{TakeTexts};
 ghost use Rattle.text_buffer.specs.Costs.{IsEditCost};
-ghost use Rattle.text_buffer.specs.Document.{IsContent, IsHistory, IsMoved, MayEdit, MayGrow};
+ghost use Rattle.text_buffer.specs.Document.{IsContent, IsBufferHistory, IsMoved, MayEdit, MayGrow};
 
 use crate::OutOfMemory;
 use crate::content::{BASE, Content};
@@ -106,7 +106,7 @@ impl Document {
 
     /// What holds of every document, for callers. It does nothing when it runs.
     pub fn known(&self)
-        ensures { IsHistory self.now }
+        ensures { IsBufferHistory self.now }
     {
         let _alloc = &self.alloc;
     }

@@ -4,7 +4,7 @@ ghost use Rattle.op_model.specs.Steps.{Step};
 ghost use Rattle.op_model.specs.Histories.{SameSet, version};
 ghost use Rattle.op_model.specs.Shown.{text};
 ghost use Rattle.text_buffer.specs.Buffer.{BufferState, IsPartly, after_calls};
-ghost use Rattle.text_buffer.specs.Document.{IsFront, IsHistory};
+ghost use Rattle.text_buffer.specs.Document.{IsFront, IsBufferHistory};
 
 use crate::document::Document;
 use crate::{Buffer, OutOfMemory};
@@ -92,7 +92,7 @@ impl Snapshot {
 
     /// What holds of every snapshot: its list is lawful, and more. It does nothing when it runs.
     pub fn known(&self)
-        ensures { IsHistory self.now }
+        ensures { IsBufferHistory self.now }
     {
         self.document.known()
     }

@@ -102,7 +102,7 @@ impl Buffer {
     }
 
     /// The operations that wait. Constant time, without memory.
-    pub fn deferred(&self) -> &Deferred
+    pub fn waiting(&self) -> &Deferred
         ensures { result.now ≡ self.now.waiting }
     {
         &self.waiting

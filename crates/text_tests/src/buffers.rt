@@ -565,7 +565,7 @@ fn comes(alloc: Global, buffer: &mut Buffer, row: &Row) -> Result<bool, OutOfMem
 
 fn keeps(buffer: &Buffer, waits: u64, refused: &[Refused]) -> bool {
     agree(buffer, buffer);
-    buffer.deferred().len() == waits && buffer.refused() == refused
+    buffer.waiting().len() == waits && buffer.refused() == refused
 }
 
 // Whether a case comes out as it should, in a buffer of its base.

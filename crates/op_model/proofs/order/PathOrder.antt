@@ -1,3 +1,4 @@
+-- The orders of stamps, of siblings and of paths are total, and what their tests call the same is one.
 use Rattle.std.proofs.Common.{◌≡◌, ◌<◌, ◌⊎◌, Bool, List, [], ◌∷◌, refl, sym, ◌∙◌, subst, inl, inr, true, false, cond, ltb, arith}
 use Rattle.std.proofs.lemmas.Bool.{eqb-true, and_parts, or_cases, ltb-true, lt-ltb, cases_Bool}
 use Rattle.std.proofs.lemmas.Bool.Decides.{nat_tests}

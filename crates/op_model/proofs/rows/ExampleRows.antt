@@ -1,4 +1,4 @@
--- The two examples of docs/MODEL.md. Letters: a 97, b 98, c 99, g 103, h 104, o 111, t 116, x 120.
+-- The first two examples of docs/MODEL.md. Letters: a 97, b 98, c 99, g 103, h 104, o 111, t 116, x 120.
 use Rattle.std.proofs.Common.{◌≡◌, [], ◌∷◌, refl, Some}
 use Rattle.op_model.specs.declared.operation.Operation.{Operation}
 use Rattle.op_model.specs.Histories.{History, base}
