@@ -8,9 +8,9 @@ use Rattle.std.proofs.lemmas.List.Kept.{AllPairs-cons}
 use Rattle.sum_tree.proofs.Keys.{AllPairs-cross, AllPairs-right}
 use Rattle.op_model.specs.declared.operation.Operation.{Operation}
 use Rattle.text_buffer.specs.Document.{IsFront}
+use Rattle.text_buffer.proofs.Fronts.{front_itself, front_length, front_shorter, front_trans}
 use Rattle.std.proofs.lemmas.List.{get_or-map, length-map}
 use Rattle.snapshot_pub.specs.States.{ReaderState, ToldState}
-use Rattle.snapshot_pub.proofs.Fronts.{front_itself, front_shorter, front_trans}
 use Rattle.logbook.specs.Pages.{Book}
 use Rattle.query_workers.specs.Line.{pairs_of}
 use Rattle.query_workers.specs.Asks.{Ask}
@@ -20,7 +20,6 @@ use Rattle.query_dispatch.proofs.Places.{all_at_more, drop_at}
 use Rattle.query_dispatch.proofs.Merges.{paired_length}
 use Rattle.query_dispatch.specs.Dealt.{AllAt, told_lists, told_pairs}
 use Rattle.query_dispatch.specs.Settled.{AreSettled, ComesTo, IsLimit, IsPast, IsSettled, last_of, settled_list}
-use Rattle.query_workers.proofs.Working.{front_length}
 
 -- of what a reader knew, as much as was last published begins that
 pub limit_holds : (old new told h : List Operation) (n : ℕ) → IsFront old new → IsFront told new → n ≤ length told → IsFront h old → length h ≤ n → IsFront h told

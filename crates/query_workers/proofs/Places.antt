@@ -1,11 +1,11 @@
 -- One list of those that are published is another.
-use Rattle.std.proofs.Common.{◌≡◌, ◌<◌, ◌+◌, ℕ, zero, suc, List, [], ◌∷◌, ◌++◌, set, get_or, length, refl, sym, ap, ◌∙◌, subst, arith, length-append}
+use Rattle.std.proofs.Common.{◌≡◌, ◌<◌, ◌+◌, ℕ, zero, suc, List, [], ◌∷◌, set, get_or, length, refl, sym, ap, ◌∙◌, subst, arith}
 use Rattle.std.specs.List.{All}
-use Rattle.std.proofs.lemmas.List.{append-nil, nil_from_length, get_or_default, length-set}
+use Rattle.std.proofs.lemmas.List.{get_or_default, length-set}
 use Rattle.std.proofs.lemmas.List.Elements.{All-set}
 use Rattle.op_model.specs.declared.operation.Operation.{Operation}
 use Rattle.text_buffer.specs.Document.{IsFront}
-use Rattle.snapshot_pub.proofs.Fronts.{front_itself}
+use Rattle.text_buffer.proofs.Fronts.{front_itself}
 
 pub set_below : (xs : List (List Operation)) (i : ℕ) (y : List Operation) → i < length xs → ((j : ℕ) → j < i → get_or xs j [] ≡ y) → (j : ℕ) → j < i + 1 → get_or (set xs i y) j [] ≡ y
 set_below [] i y within h j below = absurd (omega arith)
@@ -13,12 +13,6 @@ set_below (x ∷ xs) zero y within h zero below = refl
 set_below (x ∷ xs) zero y within h (suc j) below = absurd (omega arith)
 set_below (x ∷ xs) (suc i) y within h zero below = h zero (omega arith)
 set_below (x ∷ xs) (suc i) y within h (suc j) below = set_below xs i y (omega arith) (λ k lt. h (suc k) (omega arith)) j (omega arith)
-
--- a front of as many operations is all
-pub whole_front : (h g : List Operation) → IsFront h g → length h ≡ length g → h ≡ g
-whole_front h g f same =
-    let none : f.0 ≡ [] = nil_from_length f.0 (omega (arith, same, ap (λ (l : List Operation). length l) f.1, length-append h f.0)) in
-    sym (f.1 ∙ (ap (λ (l : List Operation). h ++ l) none ∙ append-nil h))
 
 pub all_from_places : (xs : List (List Operation)) (y : List Operation) → ((j : ℕ) → j < length xs → get_or xs j [] ≡ y) → All (λ x. x ≡ y) xs
 all_from_places xs y h k d below = get_or_default xs k d [] below ∙ h k below

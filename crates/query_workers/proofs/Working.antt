@@ -1,5 +1,5 @@
 -- A worker that has answered one job more.
-use Rattle.std.proofs.Common.{Bool, true, false, ◌≡◌, ◌<◌, ◌≤◌, ℕ, zero, suc, List, [], ◌∷◌, ◌++◌, set, get_or, length, sym, ap, ◌∙◌, subst, arith, length-append, get_or-set_same, Option, Result, Ok, Err, IfOk, IfSome}
+use Rattle.std.proofs.Common.{Bool, true, false, ◌≡◌, ◌<◌, ℕ, zero, suc, List, [], ◌∷◌, ◌++◌, set, get_or, length, sym, ap, ◌∙◌, subst, arith, get_or-set_same, Option, Result, Ok, Err, IfOk, IfSome}
 use Rattle.std.specs.Option.{option_map}
 use Rattle.std.specs.Result.{result_ok}
 use Rattle.std.specs.List.{All, AllPairs}
@@ -9,8 +9,8 @@ use Rattle.std.proofs.lemmas.List.Kept.{AllPairs-cons}
 use Rattle.sum_tree.proofs.Keys.{AllPairs-append}
 use Rattle.op_model.specs.declared.operation.Operation.{Operation}
 use Rattle.text_buffer.specs.Document.{IsFront}
+use Rattle.text_buffer.proofs.Fronts.{front_itself, front_length, front_trans}
 use Rattle.snapshot_pub.specs.States.{ReaderState}
-use Rattle.snapshot_pub.proofs.Fronts.{front_itself, front_trans}
 use Rattle.logbook.specs.Pages.{Book}
 use Rattle.snapshot_pub.proofs.Places.{put_same}
 use Rattle.query_workers.specs.declared.job.Job.{Job}
@@ -23,9 +23,6 @@ use Rattle.query_workers.specs.declared.query.Answer.{Answer}
 use Rattle.query_workers.specs.Asks.{Ask, ask_of, asks_of}
 use Rattle.query_workers.specs.Answers.{lists_of, ArePaired, IsAnswerTo, NeverFewer, IsKnown, HasAnswered}
 use Rattle.snapshot_pub.proofs.Following.{All-single}
-
-pub front_length : (xs ys : List Operation) → IsFront xs ys → length xs ≤ length ys
-front_length xs ys f = omega (arith, ap (λ (l : List Operation). length l) f.1, length-append xs f.0)
 
 -- where one list grows, each does or stays
 lists_grow : (ls : List (List Operation)) (i : ℕ) (new : List Operation) → IsFront (get_or ls i []) new → (k : ℕ) → IsFront (get_or ls k []) (get_or (set ls i new) k [])

@@ -8,7 +8,7 @@ use Rattle.std.proofs.lemmas.List.Sums.{sum_by-cons}
 use Rattle.op_model.specs.declared.operation.Operation.{Operation}
 use Rattle.text_buffer.specs.Buffer.{BufferState}
 use Rattle.text_buffer.specs.Document.{IsFront}
-use Rattle.snapshot_pub.proofs.Fronts.{front_itself, front_trans}
+use Rattle.text_buffer.proofs.Fronts.{front_itself, front_trans}
 use Rattle.session_lines.specs.Session.{is_query, query_count}
 use Rattle.session_lines.specs.declared.session.SessionLine.{SessionLine}
 use Rattle.session_lines.specs.declared.session.SessionLine.TheVariants as line

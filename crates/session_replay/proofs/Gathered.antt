@@ -1,5 +1,4 @@
 -- The answers of workers, gathered in the order of the queries, are replies that so many workers may give.
-use Rattle.query_workers.proofs.Working.{front_length as front_longer}
 use Rattle.std.proofs.Common.{◌≡◌, ℕ, suc, ◌+◌, ◌<◌, ◌≤◌, ◌==◌, Bool, true, false, cond, not, List, [], ◌∷◌, ◌++◌, length, map, slice_index_or, take, Some, refl, sym, ap, ap₂, append_assoc, ◌∙◌, subst, arith}
 use Rattle.std.specs.List.{All, AllPairs}
 use Rattle.std.proofs.lemmas.List.Elements.{All-cons, All-head, All-nil, All-tail}
@@ -8,6 +7,7 @@ use Rattle.sum_tree.proofs.Keys.{AllPairs-cross, AllPairs-right}
 use Rattle.op_model.specs.declared.operation.Operation.{Operation}
 use Rattle.text_buffer.specs.Buffer.{BufferState}
 use Rattle.text_buffer.specs.Document.{IsFront}
+use Rattle.text_buffer.proofs.Fronts.{front_length}
 use Rattle.session_lines.specs.declared.report.QueryAnswer.{QueryAnswer}
 use Rattle.session_lines.specs.declared.report.Report.{Report}
 use Rattle.session_lines.specs.declared.report.Report.TheVariants as report
@@ -64,7 +64,7 @@ reply_to a c = record { query = c; count = count_of a.snapshot }
 
 module _ (bs : List BufferState) (end : State) (g : AllGrow bs end.buffers) where
   long : (c : Query) → IsPlaced end c → 1 ≤ length (history_of (buffer_of c.replica end.buffers))
-  long c f = omega (arith, f.1, front_longer c.history (history_of (buffer_of c.replica end.buffers)) f.0)
+  long c f = omega (arith, f.1, front_length c.history (history_of (buffer_of c.replica end.buffers)) f.0)
 
   -- its snapshot begins what the replica has applied at the end
   front_of : (a : Made) (c : Query) → IsTo bs end a c → IsPlaced end c → IsFront a.snapshot (final_of end (reply_to a c))
@@ -78,7 +78,7 @@ module _ (bs : List BufferState) (end : State) (g : AllGrow bs end.buffers) wher
   line_one : (a : Made) (c : Query) → IsTo bs end a c → IsPlaced end c → line_of a ≡ reply_line end (reply_to a c)
   line_one a c t f =
       let final : List Operation = final_of end (reply_to a c) in
-      let some : 1 ≤ length a.snapshot = omega (arith, f.1, front_longer c.history a.snapshot t.answer.told) in
+      let some : 1 ≤ length a.snapshot = omega (arith, f.1, front_length c.history a.snapshot t.answer.told) in
       let taken : take (count_of a.snapshot + 1) final ≡ a.snapshot = front_taken a.snapshot final (front_of a c t f) some in
       ap₂ (λ (n : ℕ) (answer : QueryAnswer). report.Query n (count_of a.snapshot) answer) t.answer.number
       (t.answer.answer ∙ (ap (λ (q : Question). plain_answer q a.snapshot) t.answer.query ∙ ap (λ (h : List Operation). plain_answer c.question h) (sym taken)))

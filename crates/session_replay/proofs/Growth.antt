@@ -10,7 +10,7 @@ use Rattle.session_lines.specs.declared.report.Report.{Report}
 use Rattle.session_lines.specs.declared.session.SessionLine.{SessionLine}
 use Rattle.session_lines.specs.declared.session.SessionLine.TheVariants as line
 use Rattle.session_replay.specs.Work.{State, after_all, after_give, after_outcome, buffer_of, edit_outcome, next_number, operation_of, step, undo_outcome, with_buffer}
-use Rattle.query_workers.proofs.Working.{front_length}
+use Rattle.text_buffer.proofs.Fronts.{front_length}
 
 -- ---- one buffer
 

@@ -6,7 +6,7 @@ use Rattle.std.proofs.lemmas.List.FromFn.{length-range_with_len}
 use Rattle.std.proofs.lemmas.Bool.{and_parts}
 use Rattle.std.proofs.lemmas.Bool.Decides.{nat_tests}
 use Rattle.op_model.specs.declared.operation.Operation.{Operation}
-use Rattle.snapshot_pub.proofs.Fronts.{front_itself}
+use Rattle.text_buffer.proofs.Fronts.{front_itself}
 use Rattle.text_buffer.specs.Document.{IsFront}
 use Rattle.session_lines.specs.Heading.{most_replicas}
 use Rattle.session_lines.specs.Report.{report_text}

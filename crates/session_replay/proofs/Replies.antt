@@ -1,7 +1,6 @@
 -- The queries of a session that are answered on the spot: what they are answered on is the front of what is applied at the end.
 use Rattle.std.proofs.Common.{◌≡◌, Bool, true, false, cond, Ok, ℕ, ◌+◌, ◌≤◌, List, [], ◌∷◌, ◌++◌, length, map, take, Option, None, Some, refl, sym, ap, ◌∙◌, subst, arith}
 use Rattle.std.specs.List.{All, AllPairs}
-use Rattle.std.proofs.lemmas.List.{length-append}
 use Rattle.std.proofs.Math.Seq.{take-append_seam}
 use Rattle.std.proofs.lemmas.List.Elements.{All-append, All-cons, All-head, All-map, All-nil, All-same, All-tail, All-weaker}
 use Rattle.std.proofs.lemmas.List.Kept.{AllPairs-cons}
@@ -11,7 +10,7 @@ use Rattle.op_model.specs.declared.operation.Operation.{Operation}
 use Rattle.op_model.specs.Shown.{text}
 use Rattle.text_buffer.specs.Buffer.{BufferState}
 use Rattle.text_buffer.specs.Document.{IsFront}
-use Rattle.snapshot_pub.proofs.Fronts.{front_trans}
+use Rattle.text_buffer.proofs.Fronts.{front_length, front_trans}
 use Rattle.session_lines.specs.Report.{report_text}
 use Rattle.session_lines.specs.Session.{is_query, query_count}
 use Rattle.session_lines.specs.declared.report.Report.{Report}
@@ -28,7 +27,7 @@ use Rattle.query_workers.proofs.Working.{no_pairs}
 -- ---- fronts
 
 pub front_count : (h g : List Operation) → IsFront h g → count_of h ≤ count_of g
-front_count h g f = omega (arith, ap (λ (x : List Operation). length x) f.1, length-append h f.0)
+front_count h g f = omega (arith, front_length h g f)
 
 -- the front of a list with as many operations as one that begins it
 pub front_taken : (h g : List Operation) → IsFront h g → 1 ≤ length h → take (count_of h + 1) g ≡ h

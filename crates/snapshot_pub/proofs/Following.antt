@@ -12,7 +12,7 @@ use Rattle.logbook.specs.Pages.{Book}
 use Rattle.text_buffer.specs.Document.{IsFront}
 use Rattle.snapshot_pub.specs.Rule.{Follows, KeepsAll, Sees}
 use Rattle.snapshot_pub.specs.Fields.{seen_list}
-use Rattle.snapshot_pub.proofs.Fronts.{front_itself, front_trans}
+use Rattle.text_buffer.proofs.Fronts.{front_itself, front_trans}
 
 pub All-single : {A : Type 0} (P : A → Type 0) (x : A) → P x → All P (x ∷ [])
 All-single P x h zero d below = h

@@ -8,7 +8,8 @@ use Rattle.logbook.specs.Pages.{Cell, View, cell, keeps, no_nib, step, Moves, Go
 use Rattle.op_model.specs.declared.operation.Operation.{Operation}
 use Rattle.text_buffer.specs.Document.{IsFront}
 use Rattle.snapshot_pub.specs.Logs.{log_list, IsCounted, Adds}
-use Rattle.snapshot_pub.proofs.Fronts.{front-rest, log_list-append}
+use Rattle.text_buffer.proofs.Fronts.{front-rest}
+use Rattle.snapshot_pub.proofs.Fronts.{log_list-append}
 
 -- clients see nothing of a log
 abbrev pub no_view : List (List Operation) → List (List Operation)

@@ -18,3 +18,4 @@ pub mod Partly
 pub mod Standing
 pub mod Alike
 pub mod Costs
+pub mod Fronts

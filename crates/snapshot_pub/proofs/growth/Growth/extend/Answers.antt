@@ -1,7 +1,7 @@
 use Rattle.std.proofs.Common.{◌≡◌, ◌+◌, length, drop, ap, sym, ◌∙◌, length-append}
 use Rattle.text_buffer.specs.Document.{IsFront}
 use Rattle.snapshot_pub.specs.Logs.{log_list}
-use Rattle.snapshot_pub.proofs.Fronts.{front-rest}
+use Rattle.text_buffer.proofs.Fronts.{front-rest}
 use Rattle.snapshot_pub.proofs.Growing.{adds_moves}
 use Rattle.snapshot_pub.proofs.growth.Growth.extend.Goals as goal
 
