@@ -9,7 +9,7 @@ use Rattle.atomic_table.specs.Seated.{TableId}
 use Rattle.logbook.specs.Pages.{Book}
 use Rattle.op_model.specs.declared.operation.Operation.{Operation}
 use Rattle.snapshot_pub.specs.States.{PublisherState, ReaderState}
-use Rattle.query_workers.specs.Line.{jobs_of, pairs_of, IsOpen}
+use Rattle.query_workers.specs.Queue.{jobs_of, pairs_of, IsOpen}
 use Rattle.query_workers.specs.States.{DeskState, InboxState}
 use Rattle.query_workers.specs.Asks.{Ask, HasPut, ask_of, asks_of, asks_to, put_into, worker_of}
 use Rattle.query_workers.specs.Asked.{IsOfPair}
@@ -17,9 +17,9 @@ use Rattle.query_workers.specs.declared.job.Entry.{Entry}
 use Rattle.query_workers.specs.declared.job.Entry.TheVariants as entry
 use Rattle.query_workers.proofs.Jobs.{asks_more, asks_ended, open_more, ended_more}
 use Rattle.query_dispatch.specs.States.{DispatcherState, PublishersState}
-use Rattle.query_dispatch.specs.Shown.{AreLevel, AreTied, column, no_pair, rows_of, shown_lists}
+use Rattle.query_dispatch.specs.Published.{AreLevel, AreTied, column, no_pair, rows_of, published_lists}
 use Rattle.query_dispatch.specs.Dealt.{AllAt, AreEnds, AreNumbered, HasAsked, IsClosed, IsDealt}
-use Rattle.query_dispatch.proofs.Levels.{level_shows, level_shown}
+use Rattle.query_dispatch.proofs.Levels.{level_publishes, level_published}
 use Rattle.query_dispatch.proofs.Places.{each_set}
 use Rattle.query_dispatch.proofs.Turns.{few_go, filter_in, filter_out, range_more}
 
@@ -128,7 +128,7 @@ module _ {Q : Type 0} where
     pub pair : IsOfPair i r turn p
     pub room : length i.sent < i.room
     pub worker : turn < length p.published
-    pub history : get_or p.published turn [] ≡ get_or (shown_lists s) r []
+    pub history : get_or p.published turn [] ≡ get_or (published_lists s) r []
 
   pub is_next : (d e : DispatcherState Q) (s t : PublishersState) (asks : List (Ask Q)) (r workers : ℕ) (i : InboxState Q) (p : PublisherState) → d ≡ e → s ≡ t → length d.inboxes ≡ workers → HasAsked e asks → AreTied e.inboxes t → AreLevel t → r < length t.list
       → i ≡ get_or d.inboxes (d.count % workers) i → p ≡ get_or s.list r p → IsNext d asks t r (d.count % workers) i p
@@ -139,27 +139,27 @@ module _ {Q : Type 0} where
       let turn_is : turn ≡ d.count % length d.inboxes = ap (λ (n : ℕ). d.count % n) (sym many) in
       let below : turn < length d.inboxes = omega (arith, mod_below d.count (length d.inboxes) mine.some, turn_is) in
       let p_is : p ≡ get_or t.list r p = is_p ∙ ap (λ (x : PublishersState). get_or x.list r p) alike in
-      let shows = level_shows t r p level there p_is in
-      let worker : turn < length p.published = omega (arith, below, tied_length d.inboxes t bound, shows.0) in record {
+      let publishes = level_publishes t r p level there p_is in
+      let worker : turn < length p.published = omega (arith, below, tied_length d.inboxes t bound, publishes.0) in record {
         asked = mine;
         turn_is = turn_is;
         at = at;
         pair = of_pair d.inboxes t turn r i p bound level below there at p_is;
         room = has_room d asks turn i mine below at;
         worker = worker;
-        history = shows.1 turn [] worker ∙ sym (level_shown t r p there p_is);
+        history = publishes.1 turn [] worker ∙ sym (level_published t r p there p_is);
       }
 
   pub put_more : (d e : DispatcherState Q) (asks : List (Ask Q)) (s : PublishersState) (r turn : ℕ) (i new : InboxState Q) (p : PublisherState) (query : Q) → d ≡ e → IsNext d asks s r turn i p → e.count < e.limit
-      → HasPut i new (record { number = d.count + 1; replica = r; query = query; history = get_or p.published turn [] })
-      → HasAsked (record { inboxes = set d.inboxes turn new; count = d.count + 1; limit = d.limit }) (asks ++ record { number = e.count + 1; replica = r; query = query; history = get_or (shown_lists s) r [] } ∷ [])
+      → HasPut i new (record { number = d.count + 1; index = r; query = query; history = get_or p.published turn [] })
+      → HasAsked (record { inboxes = set d.inboxes turn new; count = d.count + 1; limit = d.limit }) (asks ++ record { number = e.count + 1; index = r; query = query; history = get_or (published_lists s) r [] } ∷ [])
   put_more d e asks s r turn i new p query same f more put =
-      let with_history : HasPut i new (record { number = d.count + 1; replica = r; query = query; history = get_or (shown_lists s) r [] }) =
-      subst (λ (h : List Operation). HasPut i new (record { number = d.count + 1; replica = r; query = query; history = h })) f.history put in
+      let with_history : HasPut i new (record { number = d.count + 1; index = r; query = query; history = get_or (published_lists s) r [] }) =
+      subst (λ (h : List Operation). HasPut i new (record { number = d.count + 1; index = r; query = query; history = h })) f.history put in
       let below : d.count < d.limit = omega (arith, more, ap (λ (x : DispatcherState Q). x.count) same, ap (λ (x : DispatcherState Q). x.limit) same) in
-      subst (λ (n : ℕ). HasAsked (record { inboxes = set d.inboxes turn new; count = d.count + 1; limit = d.limit }) (asks ++ record { number = n; replica = r; query = query; history = get_or (shown_lists s) r [] } ∷ []))
+      subst (λ (n : ℕ). HasAsked (record { inboxes = set d.inboxes turn new; count = d.count + 1; limit = d.limit }) (asks ++ record { number = n; index = r; query = query; history = get_or (published_lists s) r [] } ∷ []))
       (ap (λ (x : DispatcherState Q). x.count + 1) same)
-      (asked_more d asks (record { number = d.count + 1; replica = r; query = query; history = get_or (shown_lists s) r [] }) i new turn f.asked f.turn_is f.at refl with_history below)
+      (asked_more d asks (record { number = d.count + 1; index = r; query = query; history = get_or (published_lists s) r [] }) i new turn f.asked f.turn_is f.at refl with_history below)
 
   -- ---- the end marks
 

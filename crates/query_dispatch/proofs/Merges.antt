@@ -1,27 +1,21 @@
 -- The answers of all workers, one after another from their lists in turn.
-use Rattle.std.proofs.Common.{◌≡◌, ◌≢◌, ℕ, suc, ◌+◌, ◌-◌, ◌%◌, ◌<◌, ◌≤◌, ◌==◌, Bool, true, false, cond, List, [], ◌∷◌, ◌++◌, length, set, get_or, take, drop, refl, sym, ap, ◌∙◌, subst, arith, append_assoc, ⊎_elim}
-use Rattle.std.specs.List.{AllPairs, filter}
+use Rattle.std.proofs.Common.{◌≡◌, ◌≢◌, ℕ, ◌+◌, ◌-◌, ◌%◌, ◌<◌, ◌≤◌, ◌==◌, Bool, true, false, cond, List, [], ◌∷◌, ◌++◌, length, set, get_or, take, drop, refl, sym, ap, ◌∙◌, subst, arith, append_assoc, ⊎_elim}
+use Rattle.std.specs.List.{AllPairs, AllZip, filter}
 use Rattle.std.proofs.lemmas.List.{append-nil, get_or-map, drop_more, drop_all, take_more, take_all}
 use Rattle.std.proofs.lemmas.List.FromFn.{get_or-range_with_len}
 use Rattle.std.proofs.lemmas.Nat.{mod_below}
 use Rattle.std.proofs.lemmas.Bool.{cases_lt, eq-eqb, ne_eqb}
 use Rattle.op_model.specs.declared.operation.Operation.{Operation}
 use Rattle.query_workers.specs.Asks.{Ask, asks_to, worker_of}
-use Rattle.query_workers.specs.Answers.{ArePaired, NeverFewer}
+use Rattle.query_workers.specs.Answers.{NeverFewer}
 use Rattle.query_workers.specs.declared.query.Answer.{Answer}
 use Rattle.query_workers.proofs.Working.{paired_more}
 use Rattle.query_dispatch.specs.Dealt.{AllAt, AreNumbered}
-use Rattle.query_dispatch.specs.Settled.{AreGathered, IsSettled}
+use Rattle.query_dispatch.specs.Final.{AreGathered, IsFinal}
 use Rattle.query_dispatch.proofs.Places.{each_set}
 use Rattle.query_dispatch.proofs.Turns.{filter_in, filter_out, pairs_dealt}
 
-pub paired_length : {X Y : Type 0} (R : X → Y → Type 0) (xs : List X) (ys : List Y) → ArePaired R xs ys → length xs ≡ length ys
-paired_length R [] [] p = refl
-paired_length R [] (y ∷ ys) p = absurd p
-paired_length R (x ∷ xs) [] p = absurd p
-paired_length R (x ∷ xs) (y ∷ ys) p = ap suc (paired_length R xs ys p.1)
-
-none_paired : {X Y : Type 0} (R : X → Y → Type 0) (xs : List X) (ys : List Y) → ArePaired R xs ys → ys ≡ [] → xs ≡ []
+none_paired : {X Y : Type 0} (R : X → Y → Type 0) (xs : List X) (ys : List Y) → AllZip R xs ys → ys ≡ [] → xs ≡ []
 none_paired R [] ys p e = refl
 none_paired R (x ∷ xs) [] p e = absurd p
 none_paired R (x ∷ xs) (y ∷ ys) p e = absurd (cc e)
@@ -43,8 +37,8 @@ module _ {Q A : Type 0} (plain : Q → List Operation → A) (lasts : List (List
   -- after q answers: those of the first q asks are in order, and each worker's list has the others; all is what the lists were
   module _ {X : Type 0} (f : X → List (Answer Q A)) (all : List X) where
     pub record IsTurn (q : ℕ) (answers : List (Answer Q A)) (lists : List X) : Type 0 where
-      pub done : ArePaired (IsSettled plain lasts) answers (take q asks)
-      pub rest : AllAt (λ w r. ArePaired (IsSettled plain lasts) (f r) (asks_to workers w (drop q asks))) lists
+      pub done : AllZip (IsFinal plain lasts) answers (take q asks)
+      pub rest : AllAt (λ w r. AllZip (IsFinal plain lasts) (f r) (asks_to workers w (drop q asks))) lists
       pub whole : AllAt (λ w r. (d : X) → filter (its w) answers ++ f r ≡ f (get_or all w d)) lists
 
     module _ (numbers : AreNumbered asks) where
@@ -71,16 +65,16 @@ module _ {Q A : Type 0} (plain : Q → List Operation → A) (lasts : List (List
       turn_more q answers lists old new a d below within h at is =
           let w = q % workers in
           let k = get_or asks q d in
-          let mine : ArePaired (IsSettled plain lasts) (f old) (asks_to workers w (drop q asks)) = subst (λ (x : X). ArePaired (IsSettled plain lasts) (f x) (asks_to workers w (drop q asks))) (sym at) (h.rest w old within) in
-          let two : ArePaired (IsSettled plain lasts) (a ∷ f new) (k ∷ asks_to workers w (drop (q + 1) asks)) =
-          subst (λ (l : List (Answer Q A)). ArePaired (IsSettled plain lasts) l (k ∷ asks_to workers w (drop (q + 1) asks))) is (subst (ArePaired (IsSettled plain lasts) (f old)) (left_here q d below) mine) in
+          let mine : AllZip (IsFinal plain lasts) (f old) (asks_to workers w (drop q asks)) = subst (λ (x : X). AllZip (IsFinal plain lasts) (f x) (asks_to workers w (drop q asks))) (sym at) (h.rest w old within) in
+          let two : AllZip (IsFinal plain lasts) (a ∷ f new) (k ∷ asks_to workers w (drop (q + 1) asks)) =
+          subst (λ (l : List (Answer Q A)). AllZip (IsFinal plain lasts) l (k ∷ asks_to workers w (drop (q + 1) asks))) is (subst (AllZip (IsFinal plain lasts) (f old)) (left_here q d below) mine) in
           let number : a.number ≡ k.number = two.0.answer.number in
           let turn : worker_of workers a.number ≡ w = ap (worker_of workers) number ∙ turn_at q d below in
           let front : (e : X) → filter (its w) answers ++ f old ≡ f (get_or all w e) = subst (λ (x : X). (e : X) → filter (its w) answers ++ f x ≡ f (get_or all w e)) (sym at) (h.whole w old within) in
           let goes : its w a ≡ true = ap (λ (m : ℕ). m == w) turn ∙ eq-eqb w w refl in record {
-            done = subst (ArePaired (IsSettled plain lasts) (answers ++ a ∷ [])) (sym (take_more asks q d below)) (paired_more (IsSettled plain lasts) answers (take q asks) a k h.done two.0);
-            rest = each_set (λ i r. ArePaired (IsSettled plain lasts) (f r) (asks_to workers i (drop q asks))) (λ i r. ArePaired (IsSettled plain lasts) (f r) (asks_to workers i (drop (q + 1) asks))) lists w new within h.rest two.1
-                (λ i x other p. subst (ArePaired (IsSettled plain lasts) (f x)) (left_there q i d below other) p);
+            done = subst (AllZip (IsFinal plain lasts) (answers ++ a ∷ [])) (sym (take_more asks q d below)) (paired_more (IsFinal plain lasts) answers (take q asks) a k h.done two.0);
+            rest = each_set (λ i r. AllZip (IsFinal plain lasts) (f r) (asks_to workers i (drop q asks))) (λ i r. AllZip (IsFinal plain lasts) (f r) (asks_to workers i (drop (q + 1) asks))) lists w new within h.rest two.1
+                (λ i x other p. subst (AllZip (IsFinal plain lasts) (f x)) (left_there q i d below other) p);
             whole = each_set (λ i r. (e : X) → filter (its i) answers ++ f r ≡ f (get_or all i e)) (λ i r. (e : X) → filter (its i) (answers ++ a ∷ []) ++ f r ≡ f (get_or all i e)) lists w new within h.whole
                 (λ e. ap (λ (l : List (Answer Q A)). l ++ f new) (filter_in (its w) answers a goes) ∙ (append_assoc (filter (its w) answers) (a ∷ []) (f new) ∙ (ap (λ (l : List (Answer Q A)). filter (its w) answers ++ l) (sym is) ∙ front e)))
                 (λ i x other p e. ap (λ (l : List (Answer Q A)). l ++ f x) (filter_out (its i) answers a (ne_eqb (worker_of workers a.number) i (λ z. other (sym z ∙ turn)))) ∙ p e);
@@ -118,7 +112,7 @@ module _ {Q A : Type 0} (plain : Q → List Operation → A) (lasts : List (List
       -- once all are in order, each worker's are what its list was
       module _ (q : ℕ) (answers : List (Answer Q A)) (lists : List X) (d : X) (finished : length asks ≤ q) (many : length lists ≡ workers) (h : IsTurn q answers lists) where
         nothing_left : (w : ℕ) → w < workers → f (get_or lists w d) ≡ []
-        nothing_left w within = none_paired (IsSettled plain lasts) (f (get_or lists w d)) (asks_to workers w (drop q asks)) (h.rest w d (omega (arith, within, many))) (ap (asks_to workers w) (drop_all q asks finished))
+        nothing_left w within = none_paired (IsFinal plain lasts) (f (get_or lists w d)) (asks_to workers w (drop q asks)) (h.rest w d (omega (arith, within, many))) (ap (asks_to workers w) (drop_all q asks finished))
 
         whole_list : (w : ℕ) → w < workers → filter (its w) answers ≡ f (get_or all w d)
         whole_list w within =
@@ -132,6 +126,6 @@ module _ {Q A : Type 0} (plain : Q → List Operation → A) (lasts : List (List
 
         pub turns_end : 0 < workers → AllAt (λ w r. AllPairs NeverFewer (f r)) all → length all ≡ workers → AreGathered plain workers lasts asks answers
         turns_end some never count = record {
-          each = subst (ArePaired (IsSettled plain lasts) answers) (take_all q asks finished) h.done;
+          each = subst (AllZip (IsFinal plain lasts) answers) (take_all q asks finished) h.done;
           never_falls = pairs_dealt (λ (a : Answer Q A). worker_of workers a.number) NeverFewer answers (of_worker some never count);
         }

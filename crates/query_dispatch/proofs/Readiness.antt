@@ -1,6 +1,7 @@
 -- What the editor leaves and what the workers give back are of each other, worker by worker.
 use Rattle.std.proofs.Common.{◌≡◌, ℕ, zero, suc, ◌<◌, ◌==◌, List, [], ◌∷◌, length, map, get_or, reverse, refl, sym, ap, ◌∙◌, subst, arith}
-use Rattle.std.specs.List.{All}
+use Rattle.std.proofs.lemmas.Slice.Zip.{AllZip-long}
+use Rattle.std.specs.List.{All, AllZip}
 use Rattle.std.proofs.lemmas.List.{get_or-map, length-map, length-reverse}
 use Rattle.std.proofs.lemmas.List.Elements.{All-filter}
 use Rattle.atomic_table.specs.Seated.{TableId}
@@ -8,14 +9,13 @@ use Rattle.logbook.specs.Pages.{Book}
 use Rattle.op_model.specs.declared.operation.Operation.{Operation}
 use Rattle.text_buffer.specs.Document.{IsFront}
 use Rattle.snapshot_pub.specs.States.{ToldState}
-use Rattle.query_workers.specs.Line.{pairs_of}
+use Rattle.query_workers.specs.Queue.{pairs_of}
 use Rattle.query_workers.specs.States.{DeskState, DoneState, InboxState}
 use Rattle.query_workers.specs.Asks.{Ask, asks_of, asks_to, worker_of}
-use Rattle.query_workers.specs.Answers.{ArePaired, HasWorked}
+use Rattle.query_workers.specs.Answers.{HasWorked}
 use Rattle.query_workers.specs.declared.query.Answer.{Answer}
 use Rattle.query_dispatch.specs.Dealt.{AllAt, AreEnds, IsClosed, told_lists, told_pairs}
-use Rattle.query_dispatch.specs.Settled.{AreSettled, CanSettle, CanSettleAll, HaveWorked, IsPast, IsReady, IsSettled}
-use Rattle.query_dispatch.proofs.Merges.{paired_length}
+use Rattle.query_dispatch.specs.Final.{AreFinal, CanRenew, CanRenewAll, HaveWorked, IsPast, IsReady, IsFinal}
 
 -- where two lists are alike under a map, what stands at one place is
 pub same_at : {X Y B : Type 0} (f : X → B) (g : Y → B) (xs : List X) (ys : List Y) (w : ℕ) (x : X) (y : Y) → map f xs ≡ map g ys → w < length xs → length ys ≡ length xs → f (get_or xs w x) ≡ g (get_or ys w y)
@@ -23,16 +23,16 @@ same_at f g xs ys w x y same within count =
     sym (get_or-map f xs w x (f x) within) ∙ (ap (λ l. get_or l w (f x)) same ∙ get_or-map g ys w y (f x) (omega (arith, within, count)))
 
 -- what is paired is so at each place
-pub paired_at : {X Y : Type 0} (R : X → Y → Type 0) (xs : List X) (ys : List Y) (w : ℕ) (x : X) (y : Y) → ArePaired R xs ys → w < length xs → R (get_or xs w x) (get_or ys w y)
+pub paired_at : {X Y : Type 0} (R : X → Y → Type 0) (xs : List X) (ys : List Y) (w : ℕ) (x : X) (y : Y) → AllZip R xs ys → w < length xs → R (get_or xs w x) (get_or ys w y)
 paired_at R [] ys w x y p within = absurd (omega arith)
 paired_at R (a ∷ xs) [] w x y p within = absurd p
 paired_at R (a ∷ xs) (b ∷ ys) zero x y p within = p.0
 paired_at R (a ∷ xs) (b ∷ ys) (suc w) x y p within = paired_at R xs ys w x y p.1 (omega arith)
 
 module _ {Q A : Type 0} (plain : Q → List Operation → A) (sizes : List ℕ) (lasts : List (List Operation)) where
-  -- the settling of all workers, from that of each
+  -- the renewing of all workers, from that of each
   build : (is : List (InboxState Q)) (ds : List (DoneState Q A)) (ts : List (List ToldState)) → length ds ≡ length is → length ts ≡ length is
-      → ((w : ℕ) (i : InboxState Q) (d : DoneState Q A) (t : List ToldState) → w < length is → CanSettle plain sizes lasts (get_or is w i) (get_or ds w d) (get_or ts w t)) → CanSettleAll plain sizes lasts is ds ts
+      → ((w : ℕ) (i : InboxState Q) (d : DoneState Q A) (t : List ToldState) → w < length is → CanRenew plain sizes lasts (get_or is w i) (get_or ds w d) (get_or ts w t)) → CanRenewAll plain sizes lasts is ds ts
   build [] [] [] a b h = tt
   build [] [] (t ∷ ts) a b h = absurd (omega (arith, b))
   build [] (d ∷ ds) ts a b h = absurd (omega (arith, a))
@@ -41,14 +41,14 @@ module _ {Q A : Type 0} (plain : Q → List Operation → A) (sizes : List ℕ) 
   build (i ∷ is) (d ∷ ds) (t ∷ ts) a b h = (h 0 i d t (omega arith), build is ds ts (omega (arith, a)) (omega (arith, b)) (λ w x y z within. h (suc w) x y z (omega (arith, within))))
 
   module _ (inboxes : List (InboxState Q)) (tolds : List (List ToldState)) (shown : List (List Operation)) (asks : List (Ask Q)) (desks : List DeskState) (dones : List (DoneState Q A))
-      (r : IsReady inboxes tolds sizes shown asks) (fronts : ArePaired IsFront shown lasts) (past : All (IsPast lasts) asks) (e : AreEnds inboxes desks) (h : HaveWorked plain desks dones) where
+      (r : IsReady inboxes tolds sizes shown asks) (fronts : AllZip IsFront shown lasts) (past : All (IsPast lasts) asks) (e : AreEnds inboxes desks) (h : HaveWorked plain desks dones) where
     desks_length : length desks ≡ length inboxes
     desks_length = sym (length-map desks (λ (d : DeskState). d.queue)) ∙ (ap (λ (l : List TableId). length l) (sym e.queues) ∙ length-map inboxes (λ (i : InboxState Q). i.queue))
 
     tolds_length : length tolds ≡ length inboxes
     tolds_length = sym (length-map tolds told_pairs) ∙ (ap (λ (l : List (List Book)). length l) r.pairs ∙ length-map inboxes (λ (i : InboxState Q). pairs_of i.readers))
 
-    one : (w : ℕ) (i : InboxState Q) (d : DoneState Q A) (t : List ToldState) → w < length inboxes → CanSettle plain sizes lasts (get_or inboxes w i) (get_or dones w d) (get_or tolds w t)
+    one : (w : ℕ) (i : InboxState Q) (d : DoneState Q A) (t : List ToldState) → w < length inboxes → CanRenew plain sizes lasts (get_or inboxes w i) (get_or dones w d) (get_or tolds w t)
     one w i d t within =
         let k : DeskState = record { queue = i.queue; readers = i.readers } in
         let worked : HasWorked plain (get_or desks w k) (get_or dones w d) = h.1 w d k (omega (arith, within, desks_length)) in
@@ -62,42 +62,42 @@ module _ {Q A : Type 0} (plain : Q → List Operation → A) (sizes : List ℕ) 
           answered = worked.answered;
           pairs = told ∙ (ends ∙ sym worked.pairs);
           counts = r.counts ∙ ap (λ (ls : List (List Operation)). map (λ (l : List Operation). length l) ls) (sym lists);
-          fronts = subst (λ (ls : List (List Operation)). ArePaired IsFront ls lasts) (sym lists) fronts;
+          fronts = subst (λ (ls : List (List Operation)). AllZip IsFront ls lasts) (sym lists) fronts;
           asked = subst (All (IsPast lasts)) (sym closed.has) (All-filter (λ (a : Ask Q). worker_of (length inboxes) a.number == w) (IsPast lasts) asks past);
         }
 
-    pub can_settle_all : CanSettleAll plain sizes lasts inboxes dones tolds
-    can_settle_all = build inboxes dones tolds (h.0 ∙ desks_length) tolds_length one
+    pub can_renew_all : CanRenewAll plain sizes lasts inboxes dones tolds
+    can_renew_all = build inboxes dones tolds (h.0 ∙ desks_length) tolds_length one
 
 -- the lists of all workers, by the worker of each
 module _ {Q A X : Type 0} (plain : Q → List Operation → A) (lasts : List (List Operation)) (f : X → List (Answer Q A)) (inboxes : List (InboxState Q)) (asks : List (Ask Q)) where
-  pub lists_settled : (lists : List X) → ArePaired (λ r i. AreSettled plain lasts (asks_of i.sent) (f r)) lists inboxes → AllAt (IsClosed (length inboxes) asks) inboxes → InboxState Q
-      → AllAt (λ w r. AreSettled plain lasts (asks_to (length inboxes) w asks) (f r)) lists
-  lists_settled lists p closed i w d within =
-      let same = paired_length (λ r i. AreSettled plain lasts (asks_of i.sent) (f r)) lists inboxes p in
-      let h = paired_at (λ r i. AreSettled plain lasts (asks_of i.sent) (f r)) lists inboxes w d i p within in
-      subst (λ (ks : List (Ask Q)). AreSettled plain lasts ks (f (get_or lists w d))) (closed w i (omega (arith, within, same))).has h
+  pub lists_final : (lists : List X) → AllZip (λ r i. AreFinal plain lasts (asks_of i.sent) (f r)) lists inboxes → AllAt (IsClosed (length inboxes) asks) inboxes → InboxState Q
+      → AllAt (λ w r. AreFinal plain lasts (asks_to (length inboxes) w asks) (f r)) lists
+  lists_final lists p closed i w d within =
+      let same = sym (AllZip-long (λ r i. AreFinal plain lasts (asks_of i.sent) (f r)) lists inboxes p) in
+      let h = paired_at (λ r i. AreFinal plain lasts (asks_of i.sent) (f r)) lists inboxes w d i p within in
+      subst (λ (ks : List (Ask Q)). AreFinal plain lasts ks (f (get_or lists w d))) (closed w i (omega (arith, within, same))).has h
 
-  pub lists_enough : (g : X → List (Answer Q A)) → ((r : X) → f r ≡ reverse (g r)) → (lists : List X) → ArePaired (λ r i. AreSettled plain lasts (asks_of i.sent) (f r)) lists inboxes → AllAt (IsClosed (length inboxes) asks) inboxes → InboxState Q
+  pub lists_enough : (g : X → List (Answer Q A)) → ((r : X) → f r ≡ reverse (g r)) → (lists : List X) → AllZip (λ r i. AreFinal plain lasts (asks_of i.sent) (f r)) lists inboxes → AllAt (IsClosed (length inboxes) asks) inboxes → InboxState Q
       → AllAt (λ w r. length (g r) ≡ length (asks_to (length lists) w asks)) lists
   lists_enough g is lists p closed i w d within =
-      let same = paired_length (λ r i. AreSettled plain lasts (asks_of i.sent) (f r)) lists inboxes p in
+      let same = sym (AllZip-long (λ r i. AreFinal plain lasts (asks_of i.sent) (f r)) lists inboxes p) in
       let x = get_or lists w d in
-      sym (length-reverse (g x)) ∙ (ap (λ (l : List (Answer Q A)). length l) (sym (is x)) ∙ (paired_length (IsSettled plain lasts) (f x) (asks_to (length inboxes) w asks) (lists_settled lists p closed i w d within).each
+      sym (length-reverse (g x)) ∙ (ap (λ (l : List (Answer Q A)). length l) (sym (is x)) ∙ (sym (AllZip-long (IsFinal plain lasts) (f x) (asks_to (length inboxes) w asks) (lists_final lists p closed i w d within).each)
       ∙ ap (λ (n : ℕ). length (asks_to n w asks)) (sym same)))
 
 -- ---- worker by worker
 
 module _ {Q A X : Type 0} (plain : Q → List Operation → A) (sizes : List ℕ) (lasts : List (List Operation)) (f : X → List ToldState) where
   pub can_first : (is more : List (InboxState Q)) (ds rest : List (DoneState Q A)) (ts others : List X) (i : InboxState Q) (d : DoneState Q A) (t : X) → is ≡ i ∷ more → ds ≡ d ∷ rest → ts ≡ t ∷ others
-      → CanSettleAll plain sizes lasts is ds (map f ts) → CanSettle plain sizes lasts i d (f t) × CanSettleAll plain sizes lasts more rest (map f others)
+      → CanRenewAll plain sizes lasts is ds (map f ts) → CanRenew plain sizes lasts i d (f t) × CanRenewAll plain sizes lasts more rest (map f others)
   can_first is more ds rest ts others i d t is_i is_d is_t h =
-      let one : CanSettleAll plain sizes lasts (i ∷ more) ds (map f ts) = subst (λ (x : List (InboxState Q)). CanSettleAll plain sizes lasts x ds (map f ts)) is_i h in
-      let two : CanSettleAll plain sizes lasts (i ∷ more) (d ∷ rest) (map f ts) = subst (λ (x : List (DoneState Q A)). CanSettleAll plain sizes lasts (i ∷ more) x (map f ts)) is_d one in
-      subst (λ (x : List X). CanSettleAll plain sizes lasts (i ∷ more) (d ∷ rest) (map f x)) is_t two
+      let one : CanRenewAll plain sizes lasts (i ∷ more) ds (map f ts) = subst (λ (x : List (InboxState Q)). CanRenewAll plain sizes lasts x ds (map f ts)) is_i h in
+      let two : CanRenewAll plain sizes lasts (i ∷ more) (d ∷ rest) (map f ts) = subst (λ (x : List (DoneState Q A)). CanRenewAll plain sizes lasts (i ∷ more) x (map f ts)) is_d one in
+      subst (λ (x : List X). CanRenewAll plain sizes lasts (i ∷ more) (d ∷ rest) (map f x)) is_t two
 
   -- there is one of each
-  pub as_many : (is : List (InboxState Q)) (ds : List (DoneState Q A)) (ts : List X) → CanSettleAll plain sizes lasts is ds (map f ts) → (length ds ≡ length is) × (length ts ≡ length is)
+  pub as_many : (is : List (InboxState Q)) (ds : List (DoneState Q A)) (ts : List X) → CanRenewAll plain sizes lasts is ds (map f ts) → (length ds ≡ length is) × (length ts ≡ length is)
   as_many [] [] [] h = (refl, refl)
   as_many [] [] (t ∷ ts) h = absurd h
   as_many [] (d ∷ ds) ts h = absurd h

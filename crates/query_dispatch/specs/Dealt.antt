@@ -5,7 +5,7 @@ use Rattle.atomic_table.specs.Seated.{TableId}
 use Rattle.op_model.specs.declared.operation.Operation.{Operation}
 use Rattle.logbook.specs.Pages.{Book}
 use Rattle.snapshot_pub.specs.States.{ToldState}
-use Rattle.query_workers.specs.Line.{pairs_of, IsOpen, IsEnded}
+use Rattle.query_workers.specs.Queue.{pairs_of, IsOpen, IsEnded}
 use Rattle.query_workers.specs.States.{InboxState, DeskState}
 use Rattle.query_workers.specs.Asks.{Ask, asks_of, asks_to}
 use Rattle.query_dispatch.specs.States.{DispatcherState}

@@ -1,4 +1,4 @@
 pub mod States
-pub mod Shown
+pub mod Published
 pub mod Dealt
-pub mod Settled
+pub mod Final

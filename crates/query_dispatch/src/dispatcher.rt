@@ -3,7 +3,7 @@ ghost use Rattle.std.specs.Prelude.{◌≡◌, ◌+◌, ◌<◌, [], ◌∷◌, 
 ghost use Rattle.text_buffer.specs.Document.{IsFront};
 ghost use Rattle.query_workers.specs.Asks.{Ask};
 ghost use Rattle.query_dispatch.specs.Dealt.{AllAt, HasAsked, IsClosed, pairs_in, queues_of};
-ghost use Rattle.query_dispatch.specs.Shown.{AreLevel, AreTied, rows_of, shown_lists};
+ghost use Rattle.query_dispatch.specs.Published.{AreLevel, AreTied, rows_of, published_lists};
 
 use crate::OutOfMemory;
 use crate::publishers::Publishers;
@@ -56,36 +56,36 @@ impl<Q: Drop> Dispatcher<Q> {
         &mut self,
         rt: &R,
         publishers: &mut Publishers,
-        replica: u32,
+        index: u32,
         snapshot: &Snapshot,
         query: Q,
     ) -> Result<(), OutOfMemory>
-        requires replica { replica < length publishers.old.list }
+        requires index { index < length publishers.old.list }
         requires level { AreLevel publishers.old }
         requires tied { AreTied self.old.inboxes publishers.old }
-        requires grows { IsFront (slice_index_or (shown_lists publishers.old) replica [])
+        requires grows { IsFront (slice_index_or (published_lists publishers.old) index [])
             snapshot.now }
         requires asked { (asks : List (Ask Q)) × HasAsked self.old asks }
         requires more { self.old.count < self.old.limit }
         ensures level { OnOk result (AreLevel publishers.new) }
         ensures workers { publishers.new.workers ≡ publishers.old.workers }
         ensures rows { rows_of publishers.new ≡ rows_of publishers.old }
-        ensures shown { OnOk result (shown_lists publishers.new
-            ≡ slice_set (shown_lists publishers.old) replica snapshot.now) }
+        ensures published { OnOk result (published_lists publishers.new
+            ≡ slice_set (published_lists publishers.old) index snapshot.now) }
         ensures queues { queues_of self.new.inboxes ≡ queues_of self.old.inboxes }
         ensures pairs { pairs_in self.new.inboxes ≡ pairs_in self.old.inboxes }
         ensures limit { self.new.limit ≡ self.old.limit }
         ensures asked { OnOk result ((asks : List (Ask Q)) → HasAsked self.old asks
             → HasAsked self.new (asks ++ record {
               number = self.old.count + 1;
-              replica = replica;
+              index = index;
               query = query;
               history = snapshot.now;
             } ∷ [])) }
         ensures err { OnErr result (self.new ≡ self.old) }
     {
-        publishers.show(rt, replica as usize, snapshot)?;
-        self.put(rt, publishers, replica, query)
+        publishers.publish(rt, index as usize, snapshot)?;
+        self.put(rt, publishers, index, query)
     }
 
     // Puts the query into the inbox whose turn it is.
@@ -93,10 +93,10 @@ impl<Q: Drop> Dispatcher<Q> {
         &mut self,
         rt: &R,
         publishers: &Publishers,
-        replica: u32,
+        index: u32,
         query: Q,
     ) -> Result<(), OutOfMemory>
-        requires replica { replica < length publishers.now.list }
+        requires index { index < length publishers.now.list }
         requires level { AreLevel publishers.now }
         requires tied { AreTied self.old.inboxes publishers.now }
         requires asked { (asks : List (Ask Q)) × HasAsked self.old asks }
@@ -107,16 +107,16 @@ impl<Q: Drop> Dispatcher<Q> {
         ensures asked { OnOk result ((asks : List (Ask Q)) → HasAsked self.old asks
             → HasAsked self.new (asks ++ record {
               number = self.old.count + 1;
-              replica = replica;
+              index = index;
               query = query;
-              history = slice_index_or (shown_lists publishers.now) replica [];
+              history = slice_index_or (published_lists publishers.now) index [];
             } ∷ [])) }
         ensures err { OnErr result (self.new ≡ self.old) }
     {
         let worker = (self.count % self.workers as u64) as u32;
         let number = self.count + 1;
-        let publisher = &publishers.list[replica as usize];
-        self.inboxes[worker as usize].ask(rt, worker, publisher, number, replica, query)?;
+        let publisher = &publishers.list[index as usize];
+        self.inboxes[worker as usize].ask(rt, worker, publisher, number, index, query)?;
         self.count = number;
         Ok(())
     }

@@ -1,15 +1,15 @@
 //! The answers of all workers, in the order of the queries.
 ghost use Rattle.std.specs.Prelude.{◌≡◌, ◌<◌, ◌≤◌, List, length, map, reverse, IfOk, All};
+ghost use Rattle.std.specs.List.{AllZip};
 ghost use Rattle.op_model.specs.declared.operation.Operation.{Operation};
 ghost use Rattle.text_buffer.specs.Document.{IsFront};
-ghost use Rattle.query_workers.specs.Answers.{ArePaired};
 ghost use Rattle.query_workers.specs.Asks.{Ask, asks_of, asks_to};
 ghost use Rattle.query_workers.specs.States.{DeskState};
 ghost use Rattle.query_dispatch.specs.Dealt.{AllAt, AreEnds, AreNumbered, told_lists};
-ghost use Rattle.query_dispatch.specs.Settled.{AreGathered, AreSettled, CanSettleAll, HaveWorked, IsPast, IsReady};
+ghost use Rattle.query_dispatch.specs.Final.{AreGathered, AreFinal, CanRenewAll, HaveWorked, IsPast, IsReady};
 
 use crate::OutOfMemory;
-use crate::settling::settle_worker;
+use crate::renewing::renew_worker;
 use query_workers::{Answer, Done, Inbox, Query};
 use snapshot_pub::Told;
 use std::alloc::Global;
@@ -50,7 +50,7 @@ impl<Q: Drop> Gathering<Q> {
             × (desks : List DeskState)
             × IsReady self.inboxes.items (map (λ v. v.items) self.tolds.items) self.sizes.items
             shown asks
-            × ArePaired IsFront shown lasts.now × All (IsPast lasts.now) asks
+            × AllZip IsFront shown lasts.now × All (IsPast lasts.now) asks
             × (self.count ≡ length asks)
             × AreEnds self.inboxes.items desks × HaveWorked Q.plain desks dones.items }
         ensures { (asks : List (Ask Q)) → AreNumbered asks → self.count ≡ length asks
@@ -66,13 +66,13 @@ impl<Q: Drop> Gathering<Q> {
             sizes,
             count,
         } = self;
-        let lists = settle_workers(rt, alloc, inboxes, dones, tolds, sizes.as_slice(), lasts)?;
+        let lists = renew_workers(rt, alloc, inboxes, dones, tolds, sizes.as_slice(), lasts)?;
         in_order(alloc, lists, count)
     }
 }
 
-// The settled answers of each worker, the last of them first.
-fn settle_workers<R: Threads + Sync, Q: Query<A> + Drop, A: Drop>(
+// The renewed answers of each worker, the last of them first.
+fn renew_workers<R: Threads + Sync, Q: Query<A> + Drop, A: Drop>(
     rt: &R,
     alloc: Global,
     inboxes: Vec<Inbox<Q>>,
@@ -81,10 +81,10 @@ fn settle_workers<R: Threads + Sync, Q: Query<A> + Drop, A: Drop>(
     sizes: &[u64],
     lasts: &[Snapshot],
 ) -> Result<Vec<Vec<Answer<Q, A>>>, OutOfMemory>
-    requires { CanSettleAll Q.plain sizes.now lasts.now inboxes.items dones.items
+    requires { CanRenewAll Q.plain sizes.now lasts.now inboxes.items dones.items
         (map (λ v. v.items) tolds.items) }
-    ensures { IfOk result (λ v. ArePaired
-        (λ r i. AreSettled Q.plain lasts.now (asks_of i.sent) (reverse r.items)) v.items
+    ensures { IfOk result (λ v. AllZip
+        (λ r i. AreFinal Q.plain lasts.now (asks_of i.sent) (reverse r.items)) v.items
         inboxes.items) }
 {
     let mut lists = Vec::new(alloc);
@@ -95,7 +95,7 @@ fn settle_workers<R: Threads + Sync, Q: Query<A> + Drop, A: Drop>(
         let (Some(done), Some(told)) = (dones.next(), tolds.next()) else {
             unreachable!()
         };
-        lists.push(settle_worker(rt, alloc, inbox, done, told, sizes, lasts)?)?;
+        lists.push(renew_worker(rt, alloc, inbox, done, told, sizes, lasts)?)?;
     }
     Ok(lists)
 }
@@ -112,7 +112,7 @@ fn in_order<Q: Query<A> + Drop, A: Drop>(
         lists.items }
     ensures { (lasts : List (List Operation)) → (asks : List (Ask Q)) → AreNumbered asks
         → count ≡ length asks
-        → AllAt (λ w r. AreSettled Q.plain lasts (asks_to (length lists.items) w asks)
+        → AllAt (λ w r. AreFinal Q.plain lasts (asks_to (length lists.items) w asks)
         (reverse r.items)) lists.items
         → IfOk result (λ v. AreGathered Q.plain (length lists.items) lasts asks v.items) }
 {

@@ -7,7 +7,7 @@ mod dispatcher;
 mod gathering;
 mod opening;
 mod publishers;
-mod settling;
+mod renewing;
 
 pub use dispatcher::Dispatcher;
 pub use gathering::Gathering;

@@ -2,9 +2,9 @@
 ghost use Rattle.std.specs.Prelude.{◌≡◌, ◌≤◌, ◌<◌, ◌+◌, ◌/◌, ◌^◌, [], ◌∷◌, ◌++◌, List, length, map, All, IfOk, OnOk};
 ghost use Rattle.std.specs.List.{range_with_len};
 ghost use Rattle.logbook.specs.Pages.{Book};
-ghost use Rattle.query_workers.specs.Line.{pairs_of};
+ghost use Rattle.query_workers.specs.Queue.{pairs_of};
 ghost use Rattle.query_dispatch.specs.Dealt.{AllAt, AreEnds, HasAsked, pairs_in};
-ghost use Rattle.query_dispatch.specs.Shown.{AreLevel, AreTied, column, columns, rows_of, shown_lists};
+ghost use Rattle.query_dispatch.specs.Published.{AreLevel, AreTied, column, columns, rows_of, published_lists};
 
 use crate::OutOfMemory;
 use crate::dispatcher::Dispatcher;
@@ -36,19 +36,19 @@ pub fn open_desks<R: Wait, Q: Drop>(
     requires none { (publishers.old.list ≡ []) × (publishers.old.sizes ≡ []) }
     requires limit { limit < 2 ^ 63 }
     ensures level { OnOk result (AreLevel publishers.new) }
-    ensures shown { OnOk result (shown_lists publishers.new ≡ firsts.items) }
+    ensures published { OnOk result (published_lists publishers.new ≡ firsts.items) }
     ensures tied { IfOk result (λ r. AreTied r.0.inboxes publishers.new) }
     ensures ends { IfOk result (λ r. AreEnds r.0.inboxes r.1.items) }
     ensures count { IfOk result (λ r. length r.0.inboxes ≡ publishers.old.workers) }
     ensures asked { IfOk result (λ r. HasAsked r.0 [] × (r.0.limit ≡ limit)) }
 {
     let workers = publishers.workers;
-    let crews = open_crews(rt, alloc, publishers, firsts)?;
-    open_queues(alloc, workers, crews, limit)
+    let readers_by_worker = open_readers(rt, alloc, publishers, firsts)?;
+    open_queues(alloc, workers, readers_by_worker, limit)
 }
 
 // The readers of each worker, replica by replica.
-fn open_crews<R: Wait>(
+fn open_readers<R: Wait>(
     rt: &R,
     alloc: Global,
     publishers: &mut Publishers,
@@ -58,45 +58,48 @@ fn open_crews<R: Wait>(
     requires none { (publishers.old.list ≡ []) × (publishers.old.sizes ≡ []) }
     ensures level { OnOk result (AreLevel publishers.new) }
     ensures workers { publishers.new.workers ≡ publishers.old.workers }
-    ensures shown { OnOk result (shown_lists publishers.new ≡ firsts.items) }
+    ensures published { OnOk result (published_lists publishers.new ≡ firsts.items) }
     ensures count { IfOk result (λ v. length v.items ≡ publishers.old.workers) }
     ensures pairs { IfOk result (λ v. map (λ c. pairs_of c.items) v.items
         ≡ columns publishers.old.workers (rows_of publishers.new)) }
 {
-    let mut crews = empty_crews(alloc, publishers.workers)?;
+    let mut readers_by_worker = empty_readers(alloc, publishers.workers)?;
     let mut firsts = firsts.into_iter();
     while let Some(first) = firsts.next() {
         let readers = publishers.open(rt, alloc, first)?;
-        deal(&mut crews, readers)?;
+        deal(&mut readers_by_worker, readers)?;
     }
-    Ok(crews)
+    Ok(readers_by_worker)
 }
 
 // No reader yet for each worker.
-fn empty_crews(alloc: Global, workers: u32) -> Result<Vec<Vec<SnapReader>>, OutOfMemory>
+fn empty_readers(alloc: Global, workers: u32) -> Result<Vec<Vec<SnapReader>>, OutOfMemory>
     ensures count { IfOk result (λ v. length v.items ≡ workers) }
     ensures none { IfOk result (λ v. All (λ c. pairs_of c.items ≡ []) v.items) }
 {
-    let mut crews = Vec::new(alloc);
+    let mut readers_by_worker = Vec::new(alloc);
     for _ in 0..workers {
-        crews.push(Vec::new(alloc))?;
+        readers_by_worker.push(Vec::new(alloc))?;
     }
-    Ok(crews)
+    Ok(readers_by_worker)
 }
 
 // Gives one reader to each worker.
-fn deal(crews: &mut Vec<Vec<SnapReader>>, readers: Vec<SnapReader>) -> Result<(), OutOfMemory>
-    requires { length readers.items ≡ length crews.old.items }
-    ensures count { length crews.new.items ≡ length crews.old.items }
+fn deal(
+    readers_by_worker: &mut Vec<Vec<SnapReader>>,
+    readers: Vec<SnapReader>,
+) -> Result<(), OutOfMemory>
+    requires { length readers.items ≡ length readers_by_worker.old.items }
+    ensures count { length readers_by_worker.new.items ≡ length readers_by_worker.old.items }
     ensures pairs { OnOk result ((rows : List (List Book))
-        → AllAt (λ w c. pairs_of c.items ≡ column w rows) crews.old.items
+        → AllAt (λ w c. pairs_of c.items ≡ column w rows) readers_by_worker.old.items
         → AllAt (λ w c. pairs_of c.items ≡ column w (rows ++ pairs_of readers.items ∷ []))
-        crews.new.items) }
+        readers_by_worker.new.items) }
 {
     let mut readers = readers.into_iter();
-    for worker in 0..crews.len() {
+    for worker in 0..readers_by_worker.len() {
         match readers.next() {
-            Some(reader) => crews[worker].push(reader)?,
+            Some(reader) => readers_by_worker[worker].push(reader)?,
             None => unreachable!(),
         }
     }
@@ -107,14 +110,14 @@ fn deal(crews: &mut Vec<Vec<SnapReader>>, readers: Vec<SnapReader>) -> Result<()
 fn open_queues<Q: Drop>(
     alloc: Global,
     workers: u32,
-    crews: Vec<Vec<SnapReader>>,
+    readers_by_worker: Vec<Vec<SnapReader>>,
     limit: u64,
 ) -> Result<(Dispatcher<Q>, Vec<Desk<Q>>), OutOfMemory>
     requires some { 1 ≤ workers }
     requires limit { limit < 2 ^ 63 }
-    requires count { length crews.items ≡ workers }
+    requires count { length readers_by_worker.items ≡ workers }
     ensures pairs { IfOk result (λ r. pairs_in r.0.inboxes
-        ≡ map (λ c. pairs_of c.items) crews.items) }
+        ≡ map (λ c. pairs_of c.items) readers_by_worker.items) }
     ensures ends { IfOk result (λ r. AreEnds r.0.inboxes r.1.items) }
     ensures count { IfOk result (λ r. length r.0.inboxes ≡ workers) }
     ensures asked { IfOk result (λ r. HasAsked r.0 [] × (r.0.limit ≡ limit)) }
@@ -122,9 +125,9 @@ fn open_queues<Q: Drop>(
     let room = (limit / workers as u64) as usize + 2;
     let mut inboxes = Vec::new(alloc);
     let mut desks = Vec::new(alloc);
-    let mut crews = crews.into_iter();
+    let mut readers_by_worker = readers_by_worker.into_iter();
     for worker in 0..workers {
-        let Some(readers) = crews.next() else {
+        let Some(readers) = readers_by_worker.next() else {
             unreachable!()
         };
         let (inbox, desk) = open_queue(alloc, room, readers, worker)?;

@@ -2,9 +2,9 @@
 ghost use Rattle.std.specs.Prelude.{◌≡◌, ◌<◌, ◌≤◌, [], ◌∷◌, ◌++◌, length, map, replicate, slice_index_or, slice_set, IfOk, OnOk, vec_capacity};
 ghost use Rattle.text_buffer.specs.Document.{IsFront};
 ghost use Rattle.snapshot_pub.specs.States.{PublisherState};
-ghost use Rattle.query_workers.specs.Line.{pairs_of};
+ghost use Rattle.query_workers.specs.Queue.{pairs_of};
 ghost use Rattle.query_dispatch.specs.Dealt.{told_lists, told_pairs};
-ghost use Rattle.query_dispatch.specs.Shown.{AreLevel, column, rows_of, shown_lists};
+ghost use Rattle.query_dispatch.specs.Published.{AreLevel, column, rows_of, published_lists};
 
 use crate::OutOfMemory;
 use query_workers::publish_new;
@@ -20,7 +20,7 @@ use text_buffer::Snapshot;
 /// # Examples
 ///
 /// `new` and `close`: `report_beside`, `tell_all`: `tell_workers`, `sizes`: `leave`, of `crates/session_replay/src/beside.rt`.
-/// [`open_desks`](crate::open_desks) opens the pairs by `open`, and [`Dispatcher::ask`](crate::Dispatcher::ask) publishes by `show`.
+/// [`open_desks`](crate::open_desks) opens the pairs by `open`, and [`Dispatcher::ask`](crate::Dispatcher::ask) publishes by `publish`.
 pub struct Publishers {
     pub(crate) workers: u32,
     pub(crate) list: Vec<Publisher>,
@@ -66,7 +66,8 @@ impl Publishers {
         requires level { AreLevel self.old }
         ensures level { OnOk result (AreLevel self.new) }
         ensures workers { self.new.workers ≡ self.old.workers }
-        ensures shown { OnOk result (shown_lists self.new ≡ shown_lists self.old ++ first ∷ []) }
+        ensures published { OnOk result (published_lists self.new
+            ≡ published_lists self.old ++ first ∷ []) }
         ensures count { IfOk result (λ v. length v.items ≡ self.old.workers) }
         ensures pairs { IfOk result (λ v. rows_of self.new
             ≡ rows_of self.old ++ pairs_of v.items ∷ []) }
@@ -82,29 +83,30 @@ impl Publishers {
     /// # Errors
     ///
     /// `OutOfMemory` alone. It is then published to some of the pairs.
-    pub fn show<R: Wait>(
+    pub fn publish<R: Wait>(
         &mut self,
         rt: &R,
-        replica: usize,
+        index: usize,
         snapshot: &Snapshot,
     ) -> Result<(), OutOfMemory>
-        requires replica { replica < length self.old.list }
+        requires index { index < length self.old.list }
         requires level { AreLevel self.old }
-        requires grows { IsFront (slice_index_or (shown_lists self.old) replica []) snapshot.now }
+        requires grows { IsFront
+            (slice_index_or (published_lists self.old) index []) snapshot.now }
         ensures level { OnOk result (AreLevel self.new) }
         ensures workers { self.new.workers ≡ self.old.workers }
         ensures pairs { rows_of self.new ≡ rows_of self.old }
-        ensures shown { OnOk result (shown_lists self.new
-            ≡ slice_set (shown_lists self.old) replica snapshot.now) }
+        ensures published { OnOk result (published_lists self.new
+            ≡ slice_set (published_lists self.old) index snapshot.now) }
     {
-        let shown = publish_new(
+        let published = publish_new(
             rt,
-            &mut self.list[replica],
+            &mut self.list[index],
             self.workers,
-            self.sizes[replica],
+            self.sizes[index],
             snapshot,
         )?;
-        self.sizes[replica] = shown;
+        self.sizes[index] = published;
         Ok(())
     }
 
@@ -117,7 +119,7 @@ impl Publishers {
         requires worker { worker < self.now.workers }
         requires level { AreLevel self.now }
         ensures pairs { IfOk result (λ v. told_pairs v.items ≡ column worker (rows_of self.now)) }
-        ensures lists { IfOk result (λ v. told_lists v.items ≡ shown_lists self.now) }
+        ensures lists { IfOk result (λ v. told_lists v.items ≡ published_lists self.now) }
     {
         let mut all = Vec::new(alloc);
         for publisher in &self.list {

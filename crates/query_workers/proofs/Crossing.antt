@@ -23,9 +23,9 @@ use Rattle.crossbeam_queue.specs.contracts.array_queue.Slotted as slots
 use Rattle.crossbeam_queue.specs.contracts.array_queue.Doing as doing
 use Rattle.crossbeam_queue.specs.contracts.array_queue.Turns as turns
 use Rattle.crossbeam_queue.specs.contracts.array_queue.TurnsTableRuleOptionDoingUnit.TheImpl as turns_rule
-use Rattle.query_workers.specs.contracts.line.Log as log
-use Rattle.query_workers.specs.contracts.line.InOrder as in_order
-use Rattle.query_workers.specs.contracts.line.InOrderProtocolEntryLog.TheImpl as in_order_rule
+use Rattle.query_workers.specs.contracts.queue.Log as log
+use Rattle.query_workers.specs.contracts.queue.InOrder as in_order
+use Rattle.query_workers.specs.contracts.queue.InOrderProtocolEntryLog.TheImpl as in_order_rule
 use Rattle.query_workers.specs.contracts.job.Job as job
 use Rattle.query_workers.specs.contracts.job.Entry as entry
 use Rattle.query_workers.specs.declared.job.Entry.{Entry}
@@ -65,8 +65,8 @@ by_rows (F ∷ Fs) h = (as_row_send F h.0, by_rows Fs h.1)
 abbrev doing_row : RattleType → RattleType
 doing_row Q = doing.the_row (entry.the_row Q) (log.the_row Q)
 
-abbrev line_row : RattleType → RattleType
-line_row Q =
+abbrev queue_row : RattleType → RattleType
+queue_row Q =
     slots.the_row (option.the_row (entry.the_row Q)) (doing_row Q) (turns.the_row in_order.the_row) heap.the_row
     (turns_rule.ghosts (entry.the_row Q) (log.the_row Q) in_order.the_row (in_order_rule.ghosts Q) turns_rule.no_dict) alloc.ghosts
 
@@ -77,21 +77,21 @@ entries_parts Q s (Some e) = let h = entry_sent Q s in ((h.owned e, λ k. h.leav
 entries_sent : (Q : RattleType) → IsSend Q → IsSend (option.the_row (entry.the_row Q))
 entries_sent Q s = let T = option.the_type (entry.the_row Q) in recorded_send_of (Enum (shape T)) T.D T.to T.to_one (λ d. enum_send_at (shape T) (T.to d) (entries_parts Q s d))
 
-line_sent : (Q : RattleType) → IsSend Q → IsSend (line_row Q)
-line_sent Q s =
+queue_sent : (Q : RattleType) → IsSend Q → IsSend (queue_row Q)
+queue_sent Q s =
     slotted.the_send (option.the_row (entry.the_row Q)) (doing_row Q) (turns.the_row in_order.the_row) heap.the_row
     (turns_rule.ghosts (entry.the_row Q) (log.the_row Q) in_order.the_row (in_order_rule.ghosts Q) turns_rule.no_dict) alloc.ghosts (entries_sent Q s) heap_send frees
 
-line_shared : (Q : RattleType) → IsSend Q → IsSync (line_row Q)
-line_shared Q s =
+queue_shared : (Q : RattleType) → IsSend Q → IsSync (queue_row Q)
+queue_shared Q s =
     slotted.the_sync (option.the_row (entry.the_row Q)) (doing_row Q) (turns.the_row in_order.the_row) heap.the_row
     (turns_rule.ghosts (entry.the_row Q) (log.the_row Q) in_order.the_row (in_order_rule.ghosts Q) turns_rule.no_dict) alloc.ghosts (entries_sent Q s) heap_send heap_sync frees
 
 pass_sent : (Q : RattleType) → IsSend Q → IsSend (seats.the_row (option.the_row (entry.the_row Q)) (doing_row Q))
 pass_sent Q s = search (entries_sent Q s, seat.the_send, sendable) depth 60 fits 20000
 
-arc_sent : (Q : RattleType) → IsSend Q → IsSend (arc.the_row (line_row Q) heap.the_row alloc.ghosts)
-arc_sent Q s = Arc-send (line_row Q) (line_sent Q s) (line_shared Q s)
+arc_sent : (Q : RattleType) → IsSend Q → IsSend (arc.the_row (queue_row Q) heap.the_row alloc.ghosts)
+arc_sent Q s = Arc-send (queue_row Q) (queue_sent Q s) (queue_shared Q s)
 
 desk_rows : (Q : RattleType) → IsSend Q → RowsHave (desk_inside.the_type Q).parts
 desk_rows Q s = (arc_sent Q s, (pass_sent Q s, (search (reader_sent, crosses, sendable) depth 60 fits 20000, (search (crosses, sendable), tt))))

@@ -4,7 +4,7 @@ use Rattle.std.proofs.lemmas.List.{map-append}
 use Rattle.query_workers.specs.declared.job.Job.{Job}
 use Rattle.query_workers.specs.declared.job.Entry.{Entry}
 use Rattle.query_workers.specs.declared.job.Entry.TheVariants as entry
-use Rattle.query_workers.specs.Line.{jobs_of, IsOpen, IsEnded}
+use Rattle.query_workers.specs.Queue.{jobs_of, IsOpen, IsEnded}
 use Rattle.query_workers.specs.Asks.{ask_of, asks_of}
 
 module _ {Q : Type 0} where

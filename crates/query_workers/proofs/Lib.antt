@@ -1,4 +1,4 @@
-pub mod Lines
+pub mod Queues
 pub mod Jobs
 pub mod Working
 pub mod Places

@@ -2,7 +2,7 @@
 use Rattle.std.proofs.Common.{Bool, true, false, ◌≡◌, ◌<◌, ℕ, zero, suc, List, [], ◌∷◌, ◌++◌, set, get_or, length, sym, ap, ◌∙◌, subst, arith, get_or-set_same, Option, Result, Ok, Err, IfOk, IfSome}
 use Rattle.std.specs.Option.{option_map}
 use Rattle.std.specs.Result.{result_ok}
-use Rattle.std.specs.List.{All, AllPairs}
+use Rattle.std.specs.List.{All, AllPairs, AllZip}
 use Rattle.std.proofs.lemmas.List.{map-set, get_or-map, length-map}
 use Rattle.std.proofs.lemmas.List.Elements.{All-append, All-nil, All-weaker}
 use Rattle.std.proofs.lemmas.List.Kept.{AllPairs-cons}
@@ -16,12 +16,12 @@ use Rattle.snapshot_pub.proofs.Places.{put_same}
 use Rattle.query_workers.specs.declared.job.Job.{Job}
 use Rattle.query_workers.specs.declared.job.Entry.{Entry}
 use Rattle.query_workers.specs.declared.job.Entry.TheVariants as entry
-use Rattle.query_workers.specs.Line.{log, pairs_of, IsFor, IsOpen, IsEnded}
-use Rattle.query_workers.specs.declared.line.Log.{Log}
+use Rattle.query_workers.specs.Queue.{log, pairs_of, IsFor, IsOpen, IsEnded}
+use Rattle.query_workers.specs.declared.queue.Log.{Log}
 use Rattle.query_workers.proofs.Jobs.{asks_more, asks_ended, open_more, ended_more}
 use Rattle.query_workers.specs.declared.query.Answer.{Answer}
 use Rattle.query_workers.specs.Asks.{Ask, ask_of, asks_of}
-use Rattle.query_workers.specs.Answers.{lists_of, ArePaired, IsAnswerTo, NeverFewer, IsKnown, HasAnswered}
+use Rattle.query_workers.specs.Answers.{lists_of, IsAnswerTo, NeverFewer, IsKnown, HasAnswered}
 use Rattle.snapshot_pub.proofs.Following.{All-single}
 
 -- where one list grows, each does or stays
@@ -38,7 +38,7 @@ no_pairs R = λ i j d lt within. absurd (omega arith)
 one_pair : {X : Type 0} (R : X → X → Type 0) (x : X) → AllPairs R (x ∷ [])
 one_pair R x = AllPairs-cons R x [] (All-nil (R x)) (no_pairs R)
 
-pub paired_more : {X Y : Type 0} (R : X → Y → Type 0) (xs : List X) (ys : List Y) (x : X) (y : Y) → ArePaired R xs ys → R x y → ArePaired R (xs ++ x ∷ []) (ys ++ y ∷ [])
+pub paired_more : {X Y : Type 0} (R : X → Y → Type 0) (xs : List X) (ys : List Y) (x : X) (y : Y) → AllZip R xs ys → R x y → AllZip R (xs ++ x ∷ []) (ys ++ y ∷ [])
 paired_more R [] [] x y h one = (one, tt)
 paired_more R [] (z ∷ ys) x y h one = absurd h
 paired_more R (w ∷ xs) [] x y h one = absurd h
@@ -55,41 +55,41 @@ module _ {Q A : Type 0} (plain : Q → List Operation → A) where
   module _ (readers news : List ReaderState) (old new : ReaderState) (j : Ask Q) (a : Answer Q A) where
     -- the reader of the job's replica gave the answer's snapshot
     pub record GaveOn : Type 0 where
-      pub within : j.replica < length readers
-      pub was : old ≡ get_or readers j.replica old
-      pub is : news ≡ set readers j.replica new
+      pub within : j.index < length readers
+      pub was : old ≡ get_or readers j.index old
+      pub is : news ≡ set readers j.index new
       pub begins : IsFront old.longest new.longest
       pub answer : IsAnswerTo plain a j
       pub latest : a.snapshot ≡ new.longest
 
-    old_list : GaveOn → get_or (lists_of readers) j.replica [] ≡ old.longest
-    old_list g = get_or-map (λ (r : ReaderState). r.longest) readers j.replica old [] g.within ∙ ap (λ (r : ReaderState). r.longest) (sym g.was)
+    old_list : GaveOn → get_or (lists_of readers) j.index [] ≡ old.longest
+    old_list g = get_or-map (λ (r : ReaderState). r.longest) readers j.index old [] g.within ∙ ap (λ (r : ReaderState). r.longest) (sym g.was)
 
-    new_lists : GaveOn → lists_of news ≡ set (lists_of readers) j.replica new.longest
-    new_lists g = ap lists_of g.is ∙ map-set (λ (r : ReaderState). r.longest) readers j.replica new
+    new_lists : GaveOn → lists_of news ≡ set (lists_of readers) j.index new.longest
+    new_lists g = ap lists_of g.is ∙ map-set (λ (r : ReaderState). r.longest) readers j.index new
 
-    new_list : GaveOn → get_or (lists_of news) j.replica [] ≡ new.longest
-    new_list g = ap (λ (ls : List (List Operation)). get_or ls j.replica []) (new_lists g)
-        ∙ get_or-set_same (lists_of readers) j.replica new.longest [] (omega (arith, g.within, length-map readers (λ (r : ReaderState). r.longest)))
+    new_list : GaveOn → get_or (lists_of news) j.index [] ≡ new.longest
+    new_list g = ap (λ (ls : List (List Operation)). get_or ls j.index []) (new_lists g)
+        ∙ get_or-set_same (lists_of readers) j.index new.longest [] (omega (arith, g.within, length-map readers (λ (r : ReaderState). r.longest)))
 
     lists_grown : GaveOn → (k : ℕ) → IsFront (get_or (lists_of readers) k []) (get_or (lists_of news) k [])
     lists_grown g k =
-        let begins : IsFront (get_or (lists_of readers) j.replica []) new.longest = subst (λ (l : List Operation). IsFront l new.longest) (sym (old_list g)) g.begins in
-        subst (λ (ls : List (List Operation)). IsFront (get_or (lists_of readers) k []) (get_or ls k [])) (sym (new_lists g)) (lists_grow (lists_of readers) j.replica new.longest begins k)
+        let begins : IsFront (get_or (lists_of readers) j.index []) new.longest = subst (λ (l : List Operation). IsFront l new.longest) (sym (old_list g)) g.begins in
+        subst (λ (ls : List (List Operation)). IsFront (get_or (lists_of readers) k []) (get_or ls k [])) (sym (new_lists g)) (lists_grow (lists_of readers) j.index new.longest begins k)
 
     known_still : GaveOn → (b : Answer Q A) → IsKnown readers b → IsKnown news b
-    known_still g b h = front_trans b.snapshot (get_or (lists_of readers) b.replica []) (get_or (lists_of news) b.replica []) h (lists_grown g b.replica)
+    known_still g b h = front_trans b.snapshot (get_or (lists_of readers) b.index []) (get_or (lists_of news) b.index []) h (lists_grown g b.index)
 
     known_new : GaveOn → IsKnown news a
     known_new g =
-        let latest : IsFront new.longest (get_or (lists_of news) j.replica []) = subst (λ (l : List Operation). IsFront new.longest l) (sym (new_list g)) (front_itself new.longest) in
-        let mine : IsFront a.snapshot (get_or (lists_of news) j.replica []) = subst (λ (l : List Operation). IsFront l (get_or (lists_of news) j.replica [])) (sym g.latest) latest in
-        subst (λ (n : ℕ). IsFront a.snapshot (get_or (lists_of news) n [])) (sym g.answer.replica) mine
+        let latest : IsFront new.longest (get_or (lists_of news) j.index []) = subst (λ (l : List Operation). IsFront new.longest l) (sym (new_list g)) (front_itself new.longest) in
+        let mine : IsFront a.snapshot (get_or (lists_of news) j.index []) = subst (λ (l : List Operation). IsFront l (get_or (lists_of news) j.index [])) (sym g.latest) latest in
+        subst (λ (n : ℕ). IsFront a.snapshot (get_or (lists_of news) n [])) (sym g.answer.index) mine
 
     fewer_new : GaveOn → (b : Answer Q A) → IsKnown readers b → NeverFewer b a
     fewer_new g b h same =
-        let at : b.replica ≡ j.replica = same ∙ g.answer.replica in
-        let there : IsFront b.snapshot (get_or (lists_of readers) j.replica []) = subst (λ (n : ℕ). IsFront b.snapshot (get_or (lists_of readers) n [])) at h in
+        let at : b.index ≡ j.index = same ∙ g.answer.index in
+        let there : IsFront b.snapshot (get_or (lists_of readers) j.index []) = subst (λ (n : ℕ). IsFront b.snapshot (get_or (lists_of readers) n [])) at h in
         let before : IsFront b.snapshot old.longest = subst (λ (l : List Operation). IsFront b.snapshot l) (old_list g) there in
         let now : IsFront b.snapshot new.longest = front_trans b.snapshot old.longest new.longest before g.begins in
         omega (arith, front_length b.snapshot new.longest now, ap (λ (l : List Operation). length l) g.latest)
@@ -107,14 +107,14 @@ module _ {Q A : Type 0} (plain : Q → List Operation → A) where
 
 module _ {Q : Type 0} where
   -- the token of a job is of the pair of its replica's reader
-  pub own_pair : (readers : List ReaderState) (j : Job Q) (old : ReaderState) → IsFor readers (entry.Job j) → old ≡ get_or readers j.replica old → j.told.pair ≡ old.pair
-  own_pair readers j old own was = own.1 ∙ (get_or-map (λ (r : ReaderState). r.pair) readers j.replica old j.told.pair own.0 ∙ ap (λ (r : ReaderState). r.pair) (sym was))
+  pub own_pair : (readers : List ReaderState) (j : Job Q) (old : ReaderState) → IsFor readers (entry.Job j) → old ≡ get_or readers j.index old → j.told.pair ≡ old.pair
+  own_pair readers j old own was = own.1 ∙ (get_or-map (λ (r : ReaderState). r.pair) readers j.index old j.told.pair own.0 ∙ ap (λ (r : ReaderState). r.pair) (sym was))
 
   -- what is for some readers is for readers of the same pairs
   pub for_tied : (readers others : List ReaderState) (e : Entry Q) → pairs_of readers ≡ pairs_of others → IsFor others e → IsFor readers e
   for_tied readers others (entry.Job j) same own = (
     omega (arith, own.0, ap (λ (l : List Book). length l) same, length-map readers (λ (r : ReaderState). r.pair), length-map others (λ (r : ReaderState). r.pair)),
-    subst (λ (l : List Book). j.told.pair ≡ get_or l j.replica j.told.pair) (sym same) own.1,
+    subst (λ (l : List Book). j.told.pair ≡ get_or l j.index j.told.pair) (sym same) own.1,
   )
   for_tied readers others entry.End same own = tt
 

@@ -1,10 +1,10 @@
 -- What workers answer.
-use Rattle.std.specs.Prelude.{◌≡◌, ◌≤◌, List, [], ◌∷◌, length, map, slice_index_or, All, IfSome}
-use Rattle.std.specs.List.{AllPairs}
+use Rattle.std.specs.Prelude.{◌≡◌, ◌≤◌, List, [], length, map, slice_index_or, All, IfSome}
+use Rattle.std.specs.List.{AllPairs, AllZip}
 use Rattle.op_model.specs.declared.operation.Operation.{Operation}
 use Rattle.text_buffer.specs.Document.{IsFront}
 use Rattle.snapshot_pub.specs.States.{ReaderState}
-use Rattle.query_workers.specs.Line.{pairs_of, IsEnded}
+use Rattle.query_workers.specs.Queue.{pairs_of, IsEnded}
 use Rattle.query_workers.specs.States.{DeskState, DoneState}
 use Rattle.query_workers.specs.Asks.{Ask, asks_of}
 use Rattle.query_workers.specs.declared.query.Answer.{Answer}
@@ -16,30 +16,23 @@ lists_of rs = map (λ (r : ReaderState). r.longest) rs
 -- the answer is the plain one to the query that was asked, on a snapshot that begins with what was applied then
 pub record IsAnswerTo {Q A : Type 0} (plain : Q → List Operation → A) (a : Answer Q A) (k : Ask Q) : Type 0 where
   pub number : a.number ≡ k.number
-  pub replica : a.replica ≡ k.replica
+  pub index : a.index ≡ k.index
   pub query : a.query ≡ k.query
   pub told : IsFront k.history a.snapshot
   pub answer : a.answer ≡ plain a.query a.snapshot
 
--- each of the first is in that relation to the one at its place among the second
-abbrev pub ArePaired : {X Y : Type 0} → (X → Y → Type 0) → List X → List Y → Type 0
-ArePaired R [] [] = Unit {0}
-ArePaired R [] (y ∷ ys) = ⊥
-ArePaired R (x ∷ xs) [] = ⊥
-ArePaired R (x ∷ xs) (y ∷ ys) = R x y × ArePaired R xs ys
-
 -- a later answer of the same replica is on no fewer operations
 abbrev pub NeverFewer : {Q A : Type 0} → Answer Q A → Answer Q A → Type 0
-NeverFewer a b = a.replica ≡ b.replica → length a.snapshot ≤ length b.snapshot
+NeverFewer a b = a.index ≡ b.index → length a.snapshot ≤ length b.snapshot
 
 -- the reader of its replica begins with the answer's snapshot
 abbrev pub IsKnown : {Q A : Type 0} → List ReaderState → Answer Q A → Type 0
-IsKnown readers a = IsFront a.snapshot (slice_index_or (lists_of readers) a.replica [])
+IsKnown readers a = IsFront a.snapshot (slice_index_or (lists_of readers) a.index [])
 
 -- each ask has one answer, in their order, on what these readers gave
 pub record HasAnswered {Q A : Type 0} (plain : Q → List Operation → A) (asks : List (Ask Q))
     (readers : List ReaderState) (answers : List (Answer Q A)) : Type 0 where
-  pub each : ArePaired (IsAnswerTo plain) answers asks
+  pub each : AllZip (IsAnswerTo plain) answers asks
   pub never_fewer : AllPairs NeverFewer answers
   pub known : All (IsKnown readers) answers
 

@@ -2,11 +2,11 @@
 use Rattle.std.specs.Prelude.{◌≡◌, ℕ, ◌<◌, length, slice_index_or}
 use Rattle.logbook.specs.Pages.{Book}
 use Rattle.snapshot_pub.specs.States.{PublisherState}
-use Rattle.query_workers.specs.Line.{pairs_of}
+use Rattle.query_workers.specs.Queue.{pairs_of}
 use Rattle.query_workers.specs.States.{InboxState}
 
 -- the inbox's worker has a reader of that replica, whose pair is that of the worker at its publisher
 abbrev pub IsOfPair : {Q : Type 0} → InboxState Q → ℕ → ℕ → PublisherState → Type 0
-IsOfPair inbox replica worker publisher =
-    (replica < length inbox.readers)
-    × ((d : Book) → slice_index_or publisher.pairs worker d ≡ slice_index_or (pairs_of inbox.readers) replica d)
+IsOfPair inbox index worker publisher =
+    (index < length inbox.readers)
+    × ((d : Book) → slice_index_or publisher.pairs worker d ≡ slice_index_or (pairs_of inbox.readers) index d)

@@ -2,16 +2,16 @@
 use Rattle.std.specs.Prelude.{◌≡◌, ℕ, ◌-◌, ◌%◌, ◌==◌, List, [], ◌∷◌, ◌++◌, map}
 use Rattle.std.specs.List.{filter}
 use Rattle.op_model.specs.declared.operation.Operation.{Operation}
-use Rattle.query_workers.specs.Line.{jobs_of}
+use Rattle.query_workers.specs.Queue.{jobs_of}
 use Rattle.query_workers.specs.States.{InboxState}
 use Rattle.query_workers.specs.declared.job.Job.{Job}
 use Rattle.query_workers.specs.declared.job.Entry.{Entry}
 use Rattle.query_workers.specs.declared.job.Entry.TheVariants as entry
 
--- a query with its number, the place of its replica, and what that had applied when it was asked
+-- a query with its number, the index of its replica, and what that had applied when it was asked
 pub record Ask (Q : Type 0) : Type 0 where
   pub number : ℕ
-  pub replica : ℕ
+  pub index : ℕ
   pub query : Q
   pub history : List Operation
 
@@ -22,7 +22,7 @@ worker_of workers number = (number - 1) % workers
 module _ {Q : Type 0} where
   -- what a job asks
   abbrev pub ask_of : Job Q → Ask Q
-  ask_of j = record { number = j.number; replica = j.replica; query = j.query; history = j.told.list }
+  ask_of j = record { number = j.number; index = j.index; query = j.query; history = j.told.list }
 
   -- what is asked by the jobs among the entries of a queue
   abbrev pub asks_of : List (Entry Q) → List (Ask Q)

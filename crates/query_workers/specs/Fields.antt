@@ -4,7 +4,7 @@ use Rattle.std.specs.Option.{option_map}
 use Rattle.std.specs.Result.{result_ok}
 use Rattle.std.specs.Arc.{arc_value}
 use Rattle.crossbeam_queue.specs.Passes.{view, IsPassOf, ruled_capacity}
-use Rattle.query_workers.specs.Line.{pairs_of}
+use Rattle.query_workers.specs.Queue.{pairs_of}
 use Rattle.query_workers.specs.States.{InboxState, DeskState, DoneState}
 use Rattle.query_workers.specs.declared.desk.Inbox.TheInside.{Inside as InboxInside}
 use Rattle.query_workers.specs.declared.desk.Desk.TheInside.{Inside as DeskInside}
@@ -14,14 +14,14 @@ module _ {Q : Type 0} where
   abbrev pub inbox_state : InboxInside Q → InboxState Q
   inbox_state i = record {
     queue = i.pass.table_id;
-    room = ruled_capacity (arc_value i.line);
+    room = ruled_capacity (arc_value i.queue);
     sent = (view i.pass).sent;
     readers = (view i.pass).readers;
   }
 
   -- its pass is the one that sends
   pub record IsSending (i : InboxInside Q) : Type 0 where
-    pub own : IsPassOf (arc_value i.line) i.pass
+    pub own : IsPassOf (arc_value i.queue) i.pass
     pub sends : (view i.pass).sends ≡ true
 
   abbrev pub desk_state : DeskInside Q → DeskState
@@ -29,7 +29,7 @@ module _ {Q : Type 0} where
 
   -- its pass is the one that takes, and has taken nothing yet; the readers are those that the queue's rule names
   pub record IsTaking (d : DeskInside Q) : Type 0 where
-    pub own : IsPassOf (arc_value d.line) d.pass
+    pub own : IsPassOf (arc_value d.queue) d.pass
     pub takes : (view d.pass).takes ≡ true
     pub none : (view d.pass).taken ≡ []
     pub tied : pairs_of d.readers.items ≡ pairs_of (view d.pass).readers

@@ -1,4 +1,4 @@
-pub mod Line
+pub mod Queue
 pub mod States
 pub mod Fields
 pub mod Asks

@@ -1,6 +1,6 @@
 //! What an editor puts into the queue of a worker.
 ghost use Rattle.std.specs.Prelude.{◌≡◌, ◌<◌, [], length, slice_index_or, MatchResult};
-ghost use Rattle.query_workers.specs.Line.{IsFor};
+ghost use Rattle.query_workers.specs.Queue.{IsFor};
 ghost use Rattle.query_workers.specs.Asks.{HasPut, put_into};
 ghost use Rattle.query_workers.specs.Asked.{IsOfPair};
 ghost use Rattle.query_workers.specs.declared.job.Entry.{Entry};
@@ -19,10 +19,10 @@ impl<Q: Drop> Inbox<Q> {
         requires room { length self.old.sent < self.old.room }
         ensures { self.new ≡ put_into self.old entry }
     {
-        send(rt, &self.line, &mut self.pass, entry);
+        send(rt, &self.queue, &mut self.pass, entry);
     }
 
-    /// Puts query `number` of the replica at place `replica`, with what was last published to the pair that the inbox's worker,
+    /// Puts query `number` of the replica at place `index`, with what was last published to the pair that the inbox's worker,
     /// `worker`, has there. Waits for nobody.
     ///
     /// # Errors
@@ -34,16 +34,16 @@ impl<Q: Drop> Inbox<Q> {
         worker: u32,
         publisher: &Publisher,
         number: u64,
-        replica: u32,
+        index: u32,
         query: Q,
     ) -> Result<(), OutOfMemory>
         requires worker { worker < length publisher.now.published }
-        requires pair { IsOfPair self.old replica worker publisher.now }
+        requires pair { IsOfPair self.old index worker publisher.now }
         requires room { length self.old.sent < self.old.room }
         ensures { MatchResult result (λ _. HasPut self.old self.new
             (record {
               number = number;
-              replica = replica;
+              index = index;
               query = query;
               history = slice_index_or publisher.now.published worker [];
             }))
@@ -52,7 +52,7 @@ impl<Q: Drop> Inbox<Q> {
         let told = publisher.tell(worker)?;
         let job = Job {
             number,
-            replica,
+            index,
             query,
             told,
         };

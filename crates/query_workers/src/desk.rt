@@ -1,7 +1,7 @@
 //! The two ends of a worker's queue, and what a worker gives back.
 use crate::OutOfMemory;
-use crate::line::{Line, LinePass};
 use crate::query::Answer;
+use crate::queue::{Queue, QueuePass};
 use snapshot_pub::SnapReader;
 use std::alloc::Global;
 use std::marker::Model;
@@ -11,8 +11,8 @@ use std::sync::Arc;
 /// which queue it is, and the readers.
 #[derive(Drop)]
 pub struct Desk<Q> {
-    pub(crate) line: Arc<Line<Q>, Global>,
-    pub(crate) pass: LinePass<Q>,
+    pub(crate) queue: Arc<Queue<Q>, Global>,
+    pub(crate) pass: QueuePass<Q>,
     pub(crate) readers: Vec<SnapReader>,
     pub(crate) number: u32,
 }
@@ -33,8 +33,8 @@ impl<Q> Model for Desk<Q> {
 /// readers of the worker.
 #[derive(Drop)]
 pub struct Inbox<Q> {
-    pub(crate) line: Arc<Line<Q>, Global>,
-    pub(crate) pass: LinePass<Q>,
+    pub(crate) queue: Arc<Queue<Q>, Global>,
+    pub(crate) pass: QueuePass<Q>,
 }
 
 impl<Q> Model for Inbox<Q> {
@@ -53,7 +53,7 @@ impl<Q> Model for Inbox<Q> {
 /// which queue it worked on, what it took, its readers and the answers.
 #[derive(Drop)]
 pub struct Done<Q, A> {
-    pub(crate) pass: LinePass<Q>,
+    pub(crate) pass: QueuePass<Q>,
     pub(crate) readers: Vec<SnapReader>,
     pub(crate) answers: Result<Vec<Answer<Q, A>>, OutOfMemory>,
 }

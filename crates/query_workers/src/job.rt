@@ -6,8 +6,8 @@ use snapshot_pub::Told;
 pub struct Job<Q> {
     /// The number of the query, from 1.
     pub number: u64,
-    /// The place of the replica, from 0.
-    pub replica: u32,
+    /// The index of the replica, from 0.
+    pub index: u32,
     pub query: Q,
     pub told: Told,
 }

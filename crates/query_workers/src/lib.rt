@@ -4,25 +4,25 @@
 #![tactic(auto)]
 
 mod asking;
+mod beside;
+mod collect;
 mod desk;
 mod gate;
-mod gather;
 mod job;
-mod line;
 mod open;
 mod publishing;
 mod query;
+mod queue;
 mod steps;
-mod together;
 mod worker;
 
+pub use beside::work_beside;
+pub use collect::collect;
 pub use desk::{Desk, Done, Inbox};
 pub use gate::Gate;
-pub use gather::collect;
 pub use job::{Entry, Job};
-pub use line::{Line, LinePass};
 pub use op_model::OutOfMemory;
 pub use open::open_queue;
 pub use publishing::publish_new;
 pub use query::{Answer, Query};
-pub use together::work_beside;
+pub use queue::{Queue, QueuePass};

@@ -3,7 +3,7 @@ ghost use Rattle.std.specs.Prelude.{◌≡◌, ◌<◌, [], IfOk};
 
 use crate::OutOfMemory;
 use crate::desk::{Desk, Inbox};
-use crate::line::Line;
+use crate::queue::Queue;
 use crate::steps::split;
 use snapshot_pub::SnapReader;
 use std::alloc::Global;
@@ -26,14 +26,14 @@ pub fn open_queue<Q: Drop>(
         ≡ record { queue = r.1.queue; room = room; sent = []; readers = readers.items }) }
     ensures desk { IfOk result (λ r. r.1.readers ≡ readers.items) }
 {
-    let (line, mut pass) = Line::ruled(alloc, room)?;
-    let theirs = split::<Brand, Q>(&line, &mut pass, &readers);
-    let line = Arc::new(alloc, line)?;
-    let shared = Arc::try_clone(&line)?;
+    let (queue, mut pass) = Queue::ruled(alloc, room)?;
+    let theirs = split::<Brand, Q>(&queue, &mut pass, &readers);
+    let queue = Arc::new(alloc, queue)?;
+    let shared = Arc::try_clone(&queue)?;
     Ok((
-        Inbox { line, pass },
+        Inbox { queue, pass },
         Desk {
-            line: shared,
+            queue: shared,
             pass: theirs,
             readers,
             number,

@@ -18,19 +18,19 @@ pub fn publish_new<R: Wait>(
     rt: &R,
     publisher: &mut Publisher,
     pairs: u32,
-    shown: u64,
+    published: u64,
     snapshot: &Snapshot,
 ) -> Result<u64, OutOfMemory>
     requires count { length publisher.old.published ≡ pairs }
-    requires shown { (h : List Operation) × (length h ≡ shown)
+    requires published { (h : List Operation) × (length h ≡ published)
         × All (λ x. x ≡ h) publisher.old.published × IsFront h snapshot.now }
     ensures pairs { publisher.new.pairs ≡ publisher.old.pairs }
     ensures count { length publisher.new.published ≡ length publisher.old.published }
     ensures published { OnOk result (All (λ x. x ≡ snapshot.now) publisher.new.published) }
-    ensures shown { IfOk result (λ n. n ≡ length snapshot.now) }
+    ensures size { IfOk result (λ n. n ≡ length snapshot.now) }
 {
     let operations = size_of(snapshot);
-    if operations != shown {
+    if operations != published {
         publish_all(rt, publisher, pairs, snapshot)?;
     }
     Ok(operations)

@@ -31,8 +31,8 @@ pub trait Query<A> {
 pub struct Answer<Q, A> {
     /// The number of the query, from 1.
     pub number: u64,
-    /// The place of the replica, from 0.
-    pub replica: u32,
+    /// The index of the replica, from 0.
+    pub index: u32,
     pub query: Q,
     pub snapshot: Snapshot,
     pub answer: A,

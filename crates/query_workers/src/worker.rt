@@ -1,7 +1,7 @@
 //! A worker.
 ghost use Rattle.std.specs.Prelude.{◌≡◌, false, [], ◌∷◌, ◌++◌, List, IfOk, OnOk};
 ghost use Rattle.text_buffer.specs.Document.{IsFront};
-ghost use Rattle.query_workers.specs.Line.{IsFor, pairs_of};
+ghost use Rattle.query_workers.specs.Queue.{IsFor, pairs_of};
 ghost use Rattle.query_workers.specs.Asks.{Ask, ask_of};
 ghost use Rattle.query_workers.specs.Answers.{HasAnswered, HasWorked, IsAnswerTo};
 ghost use Rattle.query_workers.specs.declared.job.Entry.{Entry};
@@ -28,7 +28,7 @@ pub(crate) fn work<R: Threads + Wait + Sync, G: Gate, Q: Query<A> + Drop, A: Dro
     ensures { HasWorked Q.plain desk result }
 {
     let Desk {
-        line,
+        queue,
         mut pass,
         mut readers,
         number,
@@ -36,7 +36,7 @@ pub(crate) fn work<R: Threads + Wait + Sync, G: Gate, Q: Query<A> + Drop, A: Dro
     let mut answers = Vec::new(alloc);
     let mut failed = false;
     for _ in rt.forever() {
-        match take(rt, &line, &mut pass) {
+        match take(rt, &queue, &mut pass) {
             None => thread::yield_now(),
             Some(Entry::End) => {
                 let answers = unless_failed(failed, answers);
@@ -105,7 +105,7 @@ fn answer_in<R: Threads + Wait + Sync, Q: Query<A> + Drop, A: Drop>(
         → HasAnswered Q.plain asks readers.old.items answers.old.items
         → HasAnswered Q.plain (asks ++ ask_of job ∷ []) readers.new.items answers.new.items) }
 {
-    let place = job.replica as usize;
+    let place = job.index as usize;
     let answer = answer_on(rt, alloc, &mut readers[place], job)?;
     answers.push(answer)?;
     Ok(())
@@ -126,7 +126,7 @@ fn answer_on<R: Threads + Wait + Sync, Q: Query<A> + Drop, A: Drop>(
 {
     let Job {
         number,
-        replica,
+        index,
         query,
         told,
     } = job;
@@ -135,7 +135,7 @@ fn answer_on<R: Threads + Wait + Sync, Q: Query<A> + Drop, A: Drop>(
     let answer = query.answer(rt, alloc, &snapshot)?;
     Ok(Answer {
         number,
-        replica,
+        index,
         query,
         snapshot,
         answer,

@@ -1,6 +1,6 @@
 -- What an editor asks of the workers beside it, line by line.
 use Rattle.std.proofs.Common.{◌≡◌, ℕ, zero, suc, ◌+◌, ◌<◌, ◌≤◌, ◌==◌, Bool, true, false, cond, not, List, [], ◌∷◌, ◌++◌, length, get_or, slice_index_or, slice_set, nat_lt, Option, None, Some, Result, Ok, Err, OnOk, refl, sym, ap, ap₂, ◌∙◌, subst, arith, append_assoc, append-nil}
-use Rattle.std.specs.List.{position}
+use Rattle.std.specs.List.{AllZip, position}
 use Rattle.std.proofs.lemmas.Bool.{ltb-true}
 use Rattle.std.proofs.lemmas.Option.{cond_some}
 use Rattle.std.proofs.lemmas.List.{length-append, length-map, map-append}
@@ -12,10 +12,9 @@ use Rattle.text_buffer.proofs.Fronts.{front_itself, front_trans}
 use Rattle.session_lines.specs.Session.{is_query, query_count}
 use Rattle.session_lines.specs.declared.session.SessionLine.{SessionLine}
 use Rattle.session_lines.specs.declared.session.SessionLine.TheVariants as line
-use Rattle.query_workers.specs.Answers.{ArePaired}
 use Rattle.query_workers.specs.Asks.{Ask}
 use Rattle.query_dispatch.specs.Dealt.{HasAsked, pairs_in}
-use Rattle.query_dispatch.specs.Shown.{AreLevel, columns, rows_of, shown_lists, shown_of}
+use Rattle.query_dispatch.specs.Published.{AreLevel, columns, rows_of, published_lists, published_of}
 use Rattle.query_dispatch.specs.States.{DispatcherState, PublishersState}
 use Rattle.session_replay.specs.Work.{State, buffer_of, events, step}
 use Rattle.session_replay.specs.Queries.{Query, queries_from, query_at, query_of, query_with, question_of}
@@ -26,7 +25,7 @@ use Rattle.session_replay.proofs.Growth.{AllGrow, step_keeps}
 
 -- what asks query n of the replica at place i
 abbrev pub one_ask : ℕ → ℕ → Question → List Operation → Ask Question
-one_ask n i q h = record { number = n; replica = i; query = q; history = h }
+one_ask n i q h = record { number = n; index = i; query = q; history = h }
 
 -- ---- replicas that grow
 
@@ -49,7 +48,7 @@ same_asks bs cs (q ∷ qs) g =
     ap₂ (λ (m : ℕ) (ks : List (Ask Question)). one_ask q.number m q.question q.history ∷ ks) (same_place q.replica bs cs g) (same_asks bs cs qs g)
 
 -- what begins what they had begins what they have
-pub fronts_grow : (hs : List (List Operation)) (bs cs : List BufferState) → ArePaired IsFront hs (histories bs) → AllGrow bs cs → ArePaired IsFront hs (histories cs)
+pub fronts_grow : (hs : List (List Operation)) (bs cs : List BufferState) → AllZip IsFront hs (histories bs) → AllGrow bs cs → AllZip IsFront hs (histories cs)
 fronts_grow [] [] [] f g = tt
 fronts_grow [] [] (c ∷ cs) f g = absurd g
 fronts_grow [] (b ∷ bs) cs f g = absurd f
@@ -59,7 +58,7 @@ fronts_grow (h ∷ hs) (b ∷ bs) (c ∷ cs) f g = (front_trans h b.history c.hi
 
 -- ---- the replica of a query
 
-pub front_at : (hs : List (List Operation)) (bs : List BufferState) (i : ℕ) (d : BufferState) → ArePaired IsFront hs (histories bs) → i < length bs
+pub front_at : (hs : List (List Operation)) (bs : List BufferState) (i : ℕ) (d : BufferState) → AllZip IsFront hs (histories bs) → i < length bs
     → (i < length hs) × IsFront (slice_index_or hs i []) (get_or bs i d).history
 front_at [] [] i d f l = absurd (omega arith)
 front_at [] (b ∷ bs) i d f l = absurd f
@@ -68,8 +67,8 @@ front_at (h ∷ hs) (b ∷ bs) zero d f l = (omega arith, f.0)
 front_at (h ∷ hs) (b ∷ bs) (suc i) d f l = let r = front_at hs bs i d f.1 (omega arith) in (omega (arith, r.0), r.1)
 
 -- the front of a place stays one, where what is there is shown
-pub fronts_set : (hs : List (List Operation)) (bs : List BufferState) (i : ℕ) (d : BufferState) → ArePaired IsFront hs (histories bs) → i < length bs
-    → ArePaired IsFront (slice_set hs i (get_or bs i d).history) (histories bs)
+pub fronts_set : (hs : List (List Operation)) (bs : List BufferState) (i : ℕ) (d : BufferState) → AllZip IsFront hs (histories bs) → i < length bs
+    → AllZip IsFront (slice_set hs i (get_or bs i d).history) (histories bs)
 fronts_set [] [] i d f l = absurd (omega arith)
 fronts_set [] (b ∷ bs) i d f l = absurd f
 fronts_set (h ∷ hs) [] i d f l = absurd f
@@ -91,17 +90,17 @@ module _ (bs : List BufferState) (r i : ℕ) (d : BufferState) (e : Some i ≡ p
 
   -- what the dispatcher wants to know of it
   module _ (asks : List (Ask Question)) (o : DispatcherState Question) (p : PublishersState) (a : IsAsking bs asks o p) where
-    front : (i < length (shown_lists p)) × IsFront (slice_index_or (shown_lists p) i []) (get_or bs i d).history
-    front = front_at (shown_lists p) bs i d a.fronts at_place.0
+    front : (i < length (published_lists p)) × IsFront (slice_index_or (published_lists p) i []) (get_or bs i d).history
+    front = front_at (published_lists p) bs i d a.fronts at_place.0
 
     pub is_listed : i < length p.list
-    is_listed = omega (arith, front.0, length-map p.list shown_of)
+    is_listed = omega (arith, front.0, length-map p.list published_of)
 
     pub is_few : i < 64
     is_few = omega (arith, at_place.0, a.few)
 
-    pub begins : (h : List Operation) → h ≡ (get_or bs i d).history → IsFront (slice_index_or (shown_lists p) i []) h
-    begins h is = subst (IsFront (slice_index_or (shown_lists p) i [])) (sym is) front.1
+    pub begins : (h : List Operation) → h ≡ (get_or bs i d).history → IsFront (slice_index_or (published_lists p) i []) h
+    begins h is = subst (IsFront (slice_index_or (published_lists p) i [])) (sym is) front.1
 
 -- ---- how many queries a line is
 
@@ -260,7 +259,7 @@ no_replica q l s r ask e n = ap (query_with q s) (sym e) ∙ ap (query_of q r as
 module _ (bs : List BufferState) (asks : List (Ask Question)) (d e : DispatcherState Question) (p q : PublishersState) (i : ℕ) (x : BufferState) (qs : List Query) (ask : Question) (h : List Operation) where
   pub asks_more : i < length bs → h ≡ (get_or bs i x).history → one_ask (length asks + 1) i ask h ∷ [] ≡ asks_among bs qs
       → ((ks : List (Ask Question)) → HasAsked d ks → HasAsked e (ks ++ one_ask (d.count + 1) i ask h ∷ []))
-      → AreLevel q → q.workers ≡ p.workers → rows_of q ≡ rows_of p → pairs_in e.inboxes ≡ pairs_in d.inboxes → shown_lists q ≡ slice_set (shown_lists p) i h
+      → AreLevel q → q.workers ≡ p.workers → rows_of q ≡ rows_of p → pairs_in e.inboxes ≡ pairs_in d.inboxes → published_lists q ≡ slice_set (published_lists p) i h
       → IsAsking bs asks d p → IsAsking bs (asks ++ asks_among bs qs) e q
   asks_more lt is one put level workers rows pairs shown a =
       let all : asks ++ one_ask (d.count + 1) i ask h ∷ [] ≡ asks ++ asks_among bs qs =
@@ -270,14 +269,14 @@ module _ (bs : List BufferState) (asks : List (Ask Question)) (d e : DispatcherS
         asked = subst (HasAsked e) all (put asks a.asked);
         level = level;
         tied = pairs ∙ (a.tied ∙ ap₂ columns (sym workers) (sym rows));
-        fronts = subst (λ (hs : List (List Operation)). ArePaired IsFront hs (histories bs))
-            (sym (shown ∙ ap (slice_set (shown_lists p) i) is)) (fronts_set (shown_lists p) bs i x a.fronts lt);
+        fronts = subst (λ (hs : List (List Operation)). AllZip IsFront hs (histories bs))
+            (sym (shown ∙ ap (slice_set (published_lists p) i) is)) (fronts_set (published_lists p) bs i x a.fronts lt);
       }
 
 -- the line is worked, and the replicas grow
 pub asking_grows : (bs cs : List BufferState) (asks : List (Ask Question)) (d : DispatcherState Question) (p : PublishersState) → AllGrow bs cs → IsAsking bs asks d p → IsAsking cs asks d p
 asking_grows bs cs asks d p g a =
-    record { few = omega (arith, a.few, same_count bs cs g); asked = a.asked; level = a.level; tied = a.tied; fronts = fronts_grow (shown_lists p) bs cs a.fronts g }
+    record { few = omega (arith, a.few, same_count bs cs g); asked = a.asked; level = a.level; tied = a.tied; fronts = fronts_grow (published_lists p) bs cs a.fronts g }
 
 pub asking_steps : (l : SessionLine) (s t : State) (asks : List (Ask Question)) (d : DispatcherState Question) (p : PublishersState) → t ≡ step l s → IsAsking s.buffers asks d p → IsAsking t.buffers asks d p
 asking_steps l s t asks d p is a =

@@ -1,6 +1,6 @@
 -- The answers of workers, gathered in the order of the queries, are replies that so many workers may give.
 use Rattle.std.proofs.Common.{◌≡◌, ℕ, suc, ◌+◌, ◌<◌, ◌≤◌, ◌==◌, Bool, true, false, cond, not, List, [], ◌∷◌, ◌++◌, length, map, slice_index_or, take, Some, refl, sym, ap, ap₂, append_assoc, ◌∙◌, subst, arith}
-use Rattle.std.specs.List.{All, AllPairs}
+use Rattle.std.specs.List.{All, AllPairs, AllZip}
 use Rattle.std.proofs.lemmas.List.Elements.{All-cons, All-head, All-nil, All-tail}
 use Rattle.std.proofs.lemmas.List.Kept.{AllPairs-cons}
 use Rattle.sum_tree.proofs.Keys.{AllPairs-cross, AllPairs-right}
@@ -12,10 +12,9 @@ use Rattle.session_lines.specs.declared.report.QueryAnswer.{QueryAnswer}
 use Rattle.session_lines.specs.declared.report.Report.{Report}
 use Rattle.session_lines.specs.declared.report.Report.TheVariants as report
 use Rattle.session_lines.specs.declared.session.Session.{Session}
-use Rattle.query_workers.specs.Answers.{ArePaired}
 use Rattle.query_workers.specs.Asks.{worker_of}
 use Rattle.query_workers.specs.declared.query.Answer.{Answer}
-use Rattle.query_dispatch.specs.Settled.{AreGathered, IsPast, IsSettled, NeverFalls}
+use Rattle.query_dispatch.specs.Final.{AreGathered, IsPast, IsFinal, NeverFalls}
 use Rattle.session_replay.specs.Work.{State, buffer_of}
 use Rattle.session_replay.specs.Queries as replies
 use Rattle.session_replay.specs.Queries.{AreReplies, IsWithin, Query, Reply, count_of, end_of, final_of, history_of, plain_answer, queries_of, reply_line}
@@ -56,7 +55,7 @@ stands r (b ∷ bs) l =
 
 -- the answer is to that query of a session that ends so
 abbrev IsTo : List BufferState → State → Made → Query → Type 0
-IsTo bs end a c = IsSettled plain_answer (histories end.buffers) a (ask_among bs c)
+IsTo bs end a c = IsFinal plain_answer (histories end.buffers) a (ask_among bs c)
 
 -- the reply that it is
 abbrev reply_to : Made → Query → Reply
@@ -98,7 +97,7 @@ module _ (bs : List BufferState) (end : State) (g : AllGrow bs end.buffers) wher
       (past cs (All-tail (IsPlaced end) c cs f))
 
   abbrev AreTo : List Made → List Query → Type 0
-  AreTo xs cs = ArePaired (IsSettled plain_answer (histories end.buffers)) xs (asks_among bs cs)
+  AreTo xs cs = AllZip (IsFinal plain_answer (histories end.buffers)) xs (asks_among bs cs)
 
   abbrev pub replies_to : List Made → List Query → List Reply
   replies_to [] cs = []
@@ -128,7 +127,7 @@ module _ (bs : List BufferState) (end : State) (g : AllGrow bs end.buffers) wher
     falls_one a b c d t u h same_replica same_worker =
         let turn : worker_of workers a.number ≡ worker_of workers b.number =
         ap (worker_of workers) t.answer.number ∙ (same_worker ∙ ap (worker_of workers) (sym u.answer.number)) in
-        let place : a.replica ≡ b.replica = t.answer.replica ∙ (ap (index_among bs) same_replica ∙ sym u.answer.replica) in
+        let place : a.index ≡ b.index = t.answer.index ∙ (ap (index_among bs) same_replica ∙ sym u.answer.index) in
         omega (arith, h turn place)
 
     first_falls : (a : Made) (c : Query) → IsTo bs end a c → (xs : List Made) (cs : List Query) → AreTo xs cs → All (NeverFalls workers a) xs

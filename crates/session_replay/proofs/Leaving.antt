@@ -1,17 +1,16 @@
 -- What an editor leaves once it has put the end marks.
 use Rattle.std.proofs.Common.{◌≡◌, ℕ, ◌+◌, List, [], ◌∷◌, ◌++◌, length, map, IfOk, Result, Ok, Err, refl, sym, ap, ap₂, ◌∙◌, subst, arith}
-use Rattle.std.specs.List.{All}
+use Rattle.std.specs.List.{All, AllZip}
 use Rattle.std.proofs.lemmas.List.{length-map}
 use Rattle.std.proofs.lemmas.List.FromFn.{map-range_with_len_more}
 use Rattle.logbook.specs.Pages.{Book}
 use Rattle.op_model.specs.declared.operation.Operation.{Operation}
 use Rattle.snapshot_pub.specs.States.{PublisherState}
 use Rattle.query_workers.specs.Asks.{Ask}
-use Rattle.query_workers.specs.Answers.{ArePaired}
 use Rattle.query_workers.specs.States.{DeskState, DoneState, InboxState}
 use Rattle.query_dispatch.specs.Dealt.{AllAt, AreEnds, IsClosed, pairs_in, queues_of, told_lists, told_pairs}
-use Rattle.query_dispatch.specs.Settled.{HaveWorked, IsPast, IsReady, Lasts}
-use Rattle.query_dispatch.specs.Shown.{column, columns, rows_of, shown_lists, shown_of}
+use Rattle.query_dispatch.specs.Final.{HaveWorked, IsPast, IsReady, Lasts}
+use Rattle.query_dispatch.specs.Published.{column, columns, rows_of, published_lists, published_of}
 use Rattle.query_dispatch.specs.States.{DispatcherState, PublishersState}
 use Rattle.text_buffer.specs.Buffer.{BufferState}
 use Rattle.text_buffer.specs.Document.{IsFront}
@@ -40,20 +39,20 @@ pub same_length : (xs ys : List (InboxState Question)) → queues_of xs ≡ queu
 same_length xs ys e =
     sym (length-map xs (λ (i : InboxState Question). i.queue)) ∙ (ap (λ l. length l) e ∙ length-map ys (λ (i : InboxState Question). i.queue))
 
-sizes_of : (ps : List PublisherState) → map (λ (p : PublisherState). length (shown_of p)) ps ≡ map (λ (h : List Operation). length h) (map shown_of ps)
+sizes_of : (ps : List PublisherState) → map (λ (p : PublisherState). length (published_of p)) ps ≡ map (λ (h : List Operation). length h) (map published_of ps)
 sizes_of [] = refl
-sizes_of (p ∷ ps) = ap (λ (ns : List ℕ). length (shown_of p) ∷ ns) (sizes_of ps)
+sizes_of (p ∷ ps) = ap (λ (ns : List ℕ). length (published_of p) ∷ ns) (sizes_of ps)
 
 module _ (bs : List BufferState) (asks : List (Ask Question)) (d : DispatcherState Question) (p : PublishersState) (a : IsAsking bs asks d p) (e : Edited)
     (queues : queues_of e.gathering.inboxes.items ≡ queues_of d.inboxes) (pairs : pairs_in e.gathering.inboxes.items ≡ pairs_in d.inboxes)
     (closed : AllAt (IsClosed (length d.inboxes) asks) e.gathering.inboxes.items)
     (told : map told_pairs (map (λ v. v.items) e.gathering.tolds.items) ≡ columns p.workers (rows_of p))
-    (lists : All (λ ts. told_lists ts ≡ shown_lists p) (map (λ v. v.items) e.gathering.tolds.items))
+    (lists : All (λ ts. told_lists ts ≡ published_lists p) (map (λ v. v.items) e.gathering.tolds.items))
     (sizes : e.gathering.sizes.items ≡ p.sizes) (count : e.gathering.count ≡ d.count) where
   as_many : length e.gathering.inboxes.items ≡ length d.inboxes
   as_many = same_length e.gathering.inboxes.items d.inboxes queues
 
-  ready : IsReady e.gathering.inboxes.items (map (λ v. v.items) e.gathering.tolds.items) e.gathering.sizes.items (shown_lists p) asks
+  ready : IsReady e.gathering.inboxes.items (map (λ v. v.items) e.gathering.tolds.items) e.gathering.sizes.items (published_lists p) asks
   ready = record {
     some = omega (arith, as_many, a.asked.some);
     closed = subst (λ (n : ℕ). AllAt (IsClosed n asks) e.gathering.inboxes.items) (sym as_many) closed;
@@ -64,14 +63,14 @@ module _ (bs : List BufferState) (asks : List (Ask Question)) (d : DispatcherSta
   }
 
   pub leaves : HasLeft bs asks d e
-  leaves = record { shown = shown_lists p; fronts = a.fronts; ready = ready; count = count ∙ a.asked.count; queues = queues; pairs = pairs }
+  leaves = record { shown = published_lists p; fronts = a.fronts; ready = ready; count = count ∙ a.asked.count; queues = queues; pairs = pairs }
 
 -- the same, said of the editor as it began: its queues and pairs have stayed
 pub left_before : (bs cs : List BufferState) (asks : List (Ask Question)) (d o : DispatcherState Question) (e : Edited) → cs ≡ bs → queues_of o.inboxes ≡ queues_of d.inboxes → pairs_in o.inboxes ≡ pairs_in d.inboxes
     → HasLeft bs asks o e → HasLeft cs asks d e
 left_before bs cs asks d o e same queues pairs l = record {
   shown = l.shown;
-  fronts = subst (λ (xs : List BufferState). ArePaired IsFront l.shown (histories xs)) (sym same) l.fronts;
+  fronts = subst (λ (xs : List BufferState). AllZip IsFront l.shown (histories xs)) (sym same) l.fronts;
   ready = l.ready;
   count = l.count;
   queues = l.queues ∙ queues;
@@ -83,13 +82,13 @@ left_before bs cs asks d o e same queues pairs l = record {
 pub can_gather : (bs : List BufferState) (asks : List (Ask Question)) (d : DispatcherState Question) (desks : List DeskState) (e : Edited) (dones : List (DoneState Question QueryAnswer)) (lasts : Lasts)
     → lasts ≡ histories bs → HasLeft bs asks d e → All (IsPast (histories bs)) asks → AreEnds d.inboxes desks → HaveWorked plain_answer desks dones
     → (shown : List (List Operation)) × (ks : List (Ask Question)) × (ds : List DeskState) × IsReady e.gathering.inboxes.items (map (λ v. v.items) e.gathering.tolds.items) e.gathering.sizes.items shown ks
-    × ArePaired IsFront shown lasts × All (IsPast lasts) ks × (e.gathering.count ≡ length ks) × AreEnds e.gathering.inboxes.items ds × HaveWorked plain_answer ds dones
+    × AllZip IsFront shown lasts × All (IsPast lasts) ks × (e.gathering.count ≡ length ks) × AreEnds e.gathering.inboxes.items ds × HaveWorked plain_answer ds dones
 can_gather bs asks d desks e dones lasts is left past ends worked = (
   left.shown,
   asks,
   desks,
   left.ready,
-  subst (ArePaired IsFront left.shown) (sym is) left.fronts,
+  subst (AllZip IsFront left.shown) (sym is) left.fronts,
   subst (λ (hs : Lasts). All (IsPast hs) asks) (sym is) past,
   left.count,
   record { queues = left.queues ∙ ends.queues; pairs = left.pairs ∙ ends.pairs },

@@ -1,6 +1,6 @@
 -- A session at its opening, and what an editor over it has once all is gathered.
 use Rattle.std.proofs.Common.{◌≡◌, ℕ, ◌≤◌, nat_le, ◌&&◌, List, [], ◌∷◌, ◌++◌, length, map, sym, ap, ◌∙◌, subst, arith}
-use Rattle.std.specs.List.{All, flat_map, range_with_len}
+use Rattle.std.specs.List.{All, AllZip, flat_map, range_with_len}
 use Rattle.std.proofs.lemmas.List.{length-map}
 use Rattle.std.proofs.lemmas.List.FromFn.{length-range_with_len}
 use Rattle.std.proofs.lemmas.Bool.{and_parts}
@@ -14,13 +14,12 @@ use Rattle.session_lines.specs.Session.{IsSession, query_count}
 use Rattle.session_lines.specs.declared.report.QueryAnswer.{QueryAnswer}
 use Rattle.session_lines.specs.declared.session.Session.{Session}
 use Rattle.session_lines.specs.declared.session.SessionLine.{SessionLine}
-use Rattle.query_workers.specs.Answers.{ArePaired}
-use Rattle.query_workers.specs.Line.{pairs_of}
+use Rattle.query_workers.specs.Queue.{pairs_of}
 use Rattle.query_workers.specs.States.{InboxState}
 use Rattle.query_workers.specs.declared.query.Answer.{Answer}
 use Rattle.query_dispatch.specs.Dealt.{HasAsked}
-use Rattle.query_dispatch.specs.Settled.{AreGathered, IsPast}
-use Rattle.query_dispatch.specs.Shown.{AreLevel, AreTied, column, rows_of, shown_lists}
+use Rattle.query_dispatch.specs.Final.{AreGathered, IsPast}
+use Rattle.query_dispatch.specs.Published.{AreLevel, AreTied, column, rows_of, published_lists}
 use Rattle.query_dispatch.specs.States.{PublishersState}
 use Rattle.session_replay.specs.Work.{State, after_all, all_events, at_end, first_buffer, opening}
 use Rattle.session_replay.specs.Working.{state_of}
@@ -45,7 +44,7 @@ opened_state s p b o n m = same_state p.replicas (map (first_buffer s.base) s.re
 few_replicas : (s : Session) → IsSession session_limit s → length s.replicas ≤ most_replicas
 few_replicas s h = let few = (and_parts (nat_le 1 (length s.replicas)) (nat_le (length s.replicas) most_replicas) (and_parts _ _ h.replicas).0).1 in grind (arith, nat_tests)
 
-fronts_same : (hs : List (List Operation)) → ArePaired IsFront hs hs
+fronts_same : (hs : List (List Operation)) → AllZip IsFront hs hs
 fronts_same [] = tt
 fronts_same (h ∷ hs) = (front_itself h, fronts_same hs)
 
@@ -57,14 +56,14 @@ tied_count is p t =
 
 module _ (s : Session) (h : IsSession session_limit s) (o : Editor) (p : PublishersState) (start : o.progress.replicas ≡ map (first_buffer s.base) s.replicas) where
   pub can_edit : (workers limit : ℕ) (ls : List SessionLine) → ls ≡ s.lines → o.workers ≡ workers → length o.dispatcher.inboxes ≡ workers → limit ≡ query_count s.lines
-      → HasAsked o.dispatcher [] → o.dispatcher.limit ≡ limit → AreLevel p → AreTied o.dispatcher.inboxes p → shown_lists p ≡ histories o.progress.replicas → CanEdit ls o p
+      → HasAsked o.dispatcher [] → o.dispatcher.limit ≡ limit → AreLevel p → AreTied o.dispatcher.inboxes p → published_lists p ≡ histories o.progress.replicas → CanEdit ls o p
   can_edit workers limit ls l w n room asked most level tied shown = record {
     asking = record {
       few = omega (arith, few_replicas s h, ap (λ bs. length bs) start, length-map s.replicas (first_buffer s.base));
       asked = asked;
       level = level;
       tied = tied;
-      fronts = subst (λ (hs : List (List Operation)). ArePaired IsFront hs (histories o.progress.replicas)) (sym shown) (fronts_same (histories o.progress.replicas));
+      fronts = subst (λ (hs : List (List Operation)). AllZip IsFront hs (histories o.progress.replicas)) (sym shown) (fronts_same (histories o.progress.replicas));
     };
     workers = w ∙ (sym n ∙ tied_count o.dispatcher.inboxes p tied);
     room = omega (arith, asked.count, most, room, ap query_count l);

@@ -1,6 +1,6 @@
 -- What an editor asks of the workers beside it, and what it leaves.
 use Rattle.std.specs.Prelude.{◌≡◌, ℕ, ◌+◌, ◌≤◌, ◌==◌, List, [], ◌++◌, length, map}
-use Rattle.std.specs.List.{position_or_len}
+use Rattle.std.specs.List.{AllZip, position_or_len}
 use Rattle.op_model.specs.declared.operation.Operation.{Operation}
 use Rattle.text_buffer.specs.Buffer.{BufferState}
 use Rattle.text_buffer.specs.Document.{IsFront}
@@ -11,12 +11,11 @@ use Rattle.session_lines.specs.declared.session.SessionLine.{SessionLine}
 use Rattle.session_lines.specs.declared.report.Report.{Report}
 use Rattle.session_lines.specs.declared.report.Report.TheVariants as report
 use Rattle.session_lines.specs.declared.report.QueryAnswer.{QueryAnswer}
-use Rattle.query_workers.specs.Answers.{ArePaired}
 use Rattle.query_workers.specs.Asks.{Ask}
 use Rattle.query_workers.specs.declared.query.Answer.{Answer}
 use Rattle.query_dispatch.specs.Dealt.{HasAsked, pairs_in, queues_of}
-use Rattle.query_dispatch.specs.Shown.{AreLevel, AreTied, rows_of, shown_lists}
-use Rattle.query_dispatch.specs.Settled.{IsReady}
+use Rattle.query_dispatch.specs.Published.{AreLevel, AreTied, rows_of, published_lists}
+use Rattle.query_dispatch.specs.Final.{IsReady}
 use Rattle.query_dispatch.specs.States.{DispatcherState, PublishersState}
 use Rattle.session_replay.specs.Queries.{Query, count_of, queries_from}
 use Rattle.session_replay.specs.declared.queries.Question.{Question}
@@ -36,7 +35,7 @@ index_among bs r = position_or_len (λ (b : BufferState). b.replica == r) bs
 -- what a query asks of a worker, its replica being named by its index
 abbrev pub ask_among : List BufferState → Query → Ask Question
 ask_among bs c =
-    record { number = c.number; replica = index_among bs c.replica; query = c.question; history = c.history }
+    record { number = c.number; index = index_among bs c.replica; query = c.question; history = c.history }
 
 abbrev pub asks_among : List BufferState → List Query → List (Ask Question)
 asks_among bs cs = map (ask_among bs) cs
@@ -52,7 +51,7 @@ pub record IsAsking (bs : List BufferState) (asks : List (Ask Question))
   pub asked : HasAsked d asks
   pub level : AreLevel p
   pub tied : AreTied d.inboxes p
-  pub fronts : ArePaired IsFront (shown_lists p) (histories bs)
+  pub fronts : AllZip IsFront (published_lists p) (histories bs)
 
 -- an editor over bs asks more, and is over cs then: whatever it had asked, it has asked these queries too, the first of which has
 -- the next number
@@ -74,7 +73,7 @@ pub record KeepsEnds (d : DispatcherState Question) (p : PublishersState)
 pub record HasLeft (bs : List BufferState) (asks : List (Ask Question))
     (d : DispatcherState Question) (e : Edited) : Type 0 where
   pub shown : List (List Operation)
-  pub fronts : ArePaired IsFront shown (histories bs)
+  pub fronts : AllZip IsFront shown (histories bs)
   pub ready : IsReady e.gathering.inboxes.items (map (λ v. v.items) e.gathering.tolds.items)
       e.gathering.sizes.items shown asks
   pub count : e.gathering.count ≡ length asks

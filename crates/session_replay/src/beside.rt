@@ -8,8 +8,8 @@ ghost use Rattle.query_workers.specs.Asks.{Ask};
 ghost use Rattle.query_workers.specs.States.{DeskState};
 ghost use Rattle.query_workers.specs.declared.query.Answer.{Answer};
 ghost use Rattle.query_dispatch.specs.Dealt.{AreEnds, HasAsked, told_lists, told_pairs};
-ghost use Rattle.query_dispatch.specs.Settled.{AreGathered, HaveWorked, IsPast};
-ghost use Rattle.query_dispatch.specs.Shown.{AreLevel, columns, rows_of, shown_lists};
+ghost use Rattle.query_dispatch.specs.Final.{AreGathered, HaveWorked, IsPast};
+ghost use Rattle.query_dispatch.specs.Published.{AreLevel, columns, rows_of, published_lists};
 ghost use Rattle.query_dispatch.specs.States.{DispatcherState};
 ghost use Rattle.session_replay.specs.Beside.{AsksMore, CanEdit, HasEdited, HasLeft, IsAsking, KeepsEnds, histories, line_of};
 ghost use Rattle.session_replay.specs.Queries.{IsReport, plain_answer, queries_from, query_at, query_with};
@@ -223,7 +223,7 @@ fn tell_workers(
     requires level { AreLevel publishers.now }
     ensures pairs { IfOk result (λ v. map told_pairs (map (λ t. t.items) v.items)
         ≡ columns workers (rows_of publishers.now)) }
-    ensures lists { IfOk result (λ v. All (λ t. told_lists t ≡ shown_lists publishers.now)
+    ensures lists { IfOk result (λ v. All (λ t. told_lists t ≡ published_lists publishers.now)
         (map (λ t. t.items) v.items)) }
 {
     let mut tolds = Vec::new(alloc);
@@ -244,7 +244,7 @@ fn lines_of(
     for answer in answers {
         let Answer {
             number,
-            replica: _,
+            index: _,
             query: _,
             snapshot,
             answer,

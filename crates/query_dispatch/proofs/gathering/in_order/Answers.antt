@@ -34,15 +34,15 @@ loop-turn-preserved g c =
       enough = λ asks numbers count each.
           left_more g.Q.Query.plain [] n asks (λ (r : list). reverse r.items) c.args.lists.items numbers (λ (r : list). length r.items) q k c.loop-turn.lists.items c.index_mut.result.now c.pop.new.self k_is (omega (arith, c.loop-turn-test.true, count)) within
           (was.enough asks numbers count each) c.index_mut.ensures.value (omega (arith, ap (λ (l : List _). length l) items, length-append c.pop.new.self.items (a ∷ [])));
-      turns = λ lasts asks numbers count settled.
+      turns = λ lasts asks numbers count final.
           subst (λ (as_ : List (Answer g.row.Q.Denot g.row.A.Denot)). IsTurn g.Q.Query.plain lasts n asks (λ (r : list). reverse r.items) c.args.lists.items (q + 1) as_ (set c.loop-turn.lists.items k c.pop.new.self)) (sym c.in_ok-push-in-Some.ensures.items)
           (turn_at_place g.Q.Query.plain lasts n asks (λ (r : list). reverse r.items) c.args.lists.items numbers q k c.loop-turn.answers.items c.loop-turn.lists.items c.index_mut.result.now c.pop.new.self a k_is (omega (arith, c.loop-turn-test.true, count)) within
-          (was.turns lasts asks numbers count settled) c.index_mut.ensures.value first);
+          (was.turns lasts asks numbers count final) c.index_mut.ensures.value first);
     }
 
 pub returns : goal.returns
-returns g c = λ lasts asks numbers count settled.
+returns g c = λ lasts asks numbers count final.
     let list = Vec (Answer g.row.Q.Denot g.row.A.Denot) Global in
     let n = length c.args.lists.items in
     turns_end g.Q.Query.plain lasts n asks (λ (r : list). reverse r.items) c.args.lists.items numbers c.loop-turn.turn c.loop-turn.answers.items c.loop-turn.lists.items c.loop-turn.answers (omega (arith, c.loop-turn-test.false, count)) c.loop-turn.invariant.count
-    (c.loop-turn.invariant.turns lasts asks numbers count settled) c.requires.some (λ w r within. (settled w r within).never_fewer) refl
+    (c.loop-turn.invariant.turns lasts asks numbers count final) c.requires.some (λ w r within. (final w r within).never_fewer) refl

@@ -2,7 +2,7 @@ use Rattle.std.proofs.Common.{◌≡◌, List, length, drop, reverse}
 use Rattle.op_model.specs.declared.operation.Operation.{Operation}
 use Rattle.query_workers.specs.Asks.{Ask, asks_to}
 use Rattle.query_dispatch.specs.Dealt.{AllAt, AreNumbered}
-use Rattle.query_dispatch.specs.Settled.{AreSettled}
+use Rattle.query_dispatch.specs.Final.{AreFinal}
 use Rattle.query_dispatch.proofs.Merges.{IsTurn}
 use Rattle.query_dispatch.proofs.gathering.in_order.Given as goal
 
@@ -12,6 +12,6 @@ invariant-loop-turn g l = record {
   enough : (asks : List (Ask g.row.Q.Denot)) → AreNumbered asks → l.fn.count ≡ length asks → AllAt (λ w r. length r.items ≡ length (asks_to (length l.fn.lists.items) w asks)) l.fn.lists.items
       → AllAt (λ w r. length r.items ≡ length (asks_to (length l.fn.lists.items) w (drop l.turn asks))) l.lists.items;
   turns : (lasts : List (List Operation)) (asks : List (Ask g.row.Q.Denot)) → AreNumbered asks → l.fn.count ≡ length asks
-      → AllAt (λ w r. AreSettled g.Q.Query.plain lasts (asks_to (length l.fn.lists.items) w asks) (reverse r.items)) l.fn.lists.items
+      → AllAt (λ w r. AreFinal g.Q.Query.plain lasts (asks_to (length l.fn.lists.items) w asks) (reverse r.items)) l.fn.lists.items
       → IsTurn g.Q.Query.plain lasts (length l.fn.lists.items) asks (λ r. reverse r.items) l.fn.lists.items l.turn l.answers.items l.lists.items;
 }

@@ -2,16 +2,16 @@ use Rattle.std.proofs.Common.{◌≡◌, ◌+◌, List, length, drop, Vec, Globa
 use Rattle.std.specs.Vec.Iter.{into_iter_items, into_iter_len}
 use Rattle.logbook.specs.Pages.{Book}
 use Rattle.snapshot_pub.specs.States.{ReaderState}
-use Rattle.query_workers.specs.Line.{pairs_of}
+use Rattle.query_workers.specs.Queue.{pairs_of}
 use Rattle.query_dispatch.specs.Dealt.{AllAt}
-use Rattle.query_dispatch.proofs.Crews.{IsCrew, IsServed}
+use Rattle.query_dispatch.proofs.Readers.{HasColumn, IsServed}
 use Rattle.query_dispatch.proofs.opening.deal.Given as goal
 
 abbrev pub invariant-loop-worker : goal.invariant-loop-worker
 invariant-loop-worker l = record {
-  count : length l.crews.items ≡ length l.fn.crews.items;
+  count : length l.readers_by_worker.items ≡ length l.fn.readers_by_worker.items;
   left : l.worker + into_iter_len l.readers ≡ length l.fn.readers.items;
   rest : into_iter_items l.readers ≡ drop l.worker l.fn.readers.items;
-  each : (rows : List (List Book)) → AllAt (IsCrew (λ (c : Vec ReaderState Global). pairs_of c.items) rows) l.fn.crews.items
-      → AllAt (IsServed (λ (c : Vec ReaderState Global). pairs_of c.items) rows (pairs_of l.fn.readers.items) l.worker) l.crews.items;
+  each : (rows : List (List Book)) → AllAt (HasColumn (λ (c : Vec ReaderState Global). pairs_of c.items) rows) l.fn.readers_by_worker.items
+      → AllAt (IsServed (λ (c : Vec ReaderState Global). pairs_of c.items) rows (pairs_of l.fn.readers.items) l.worker) l.readers_by_worker.items;
 }

@@ -5,7 +5,7 @@ use Rattle.std.proofs.lemmas.List.{map-append}
 use Rattle.std.proofs.lemmas.List.Elements.{All-append, All-cons, All-nil}
 use Rattle.logbook.specs.Pages.{Book}
 use Rattle.snapshot_pub.specs.States.{ReaderState}
-use Rattle.query_workers.specs.Line.{pairs_of}
+use Rattle.query_workers.specs.Queue.{pairs_of}
 use Rattle.query_workers.specs.States.{DeskState, InboxState}
 use Rattle.query_dispatch.specs.Dealt.{AreEnds, pairs_in}
 use Rattle.query_dispatch.proofs.Dealing.{IsFresh, ends_more}

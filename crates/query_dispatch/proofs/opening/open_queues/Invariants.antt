@@ -2,15 +2,15 @@ use Rattle.std.proofs.Common.{◌≡◌, ◌+◌, ◌++◌, length, map, Vec, Gl
 use Rattle.std.specs.List.{All}
 use Rattle.std.specs.Vec.Iter.{into_iter_items, into_iter_len}
 use Rattle.snapshot_pub.specs.States.{ReaderState}
-use Rattle.query_workers.specs.Line.{pairs_of}
+use Rattle.query_workers.specs.Queue.{pairs_of}
 use Rattle.query_dispatch.specs.Dealt.{AreEnds, pairs_in}
 use Rattle.query_dispatch.proofs.Dealing.{IsFresh}
 use Rattle.query_dispatch.proofs.opening.open_queues.Given as goal
 
 abbrev pub invariant-loop-worker : goal.invariant-loop-worker
 invariant-loop-worker g l = record {
-  left : l.worker + into_iter_len l.crews ≡ l.workers;
-  pairs : pairs_in l.inboxes.items ++ map (λ (c : Vec ReaderState Global). pairs_of c.items) (into_iter_items l.crews) ≡ map (λ (c : Vec ReaderState Global). pairs_of c.items) l.fn.crews.items;
+  left : l.worker + into_iter_len l.readers_by_worker ≡ l.workers;
+  pairs : pairs_in l.inboxes.items ++ map (λ (c : Vec ReaderState Global). pairs_of c.items) (into_iter_items l.readers_by_worker) ≡ map (λ (c : Vec ReaderState Global). pairs_of c.items) l.fn.readers_by_worker.items;
   many : length l.inboxes.items ≡ l.worker;
   ends : AreEnds l.inboxes.items l.desks.items;
   fresh : All (IsFresh l.room) l.inboxes.items;

@@ -1,4 +1,4 @@
-use Rattle.query_workers.proofs.Lines.{begins}
+use Rattle.query_workers.proofs.Queues.{begins}
 use Rattle.query_workers.proofs.open.open_queue.Goals as goal
 
 pub ruled-requires-clause-rule : goal.ruled-requires-clause-rule

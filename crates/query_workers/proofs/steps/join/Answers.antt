@@ -1,4 +1,4 @@
-use Rattle.query_workers.proofs.Lines.{merges, joined_rests, joined_rest}
+use Rattle.query_workers.proofs.Queues.{merges, joined_rests, joined_rest}
 use Rattle.query_workers.proofs.steps.join.Goals as goal
 
 pub absorb-requires-clause-rule : goal.absorb-requires-clause-rule

@@ -1,4 +1,4 @@
-use Rattle.query_workers.proofs.Lines.{sends, sent_bound}
+use Rattle.query_workers.proofs.Queues.{sends, sent_bound}
 use Rattle.query_workers.proofs.steps.send.Goals as goal
 
 pub push_as-requires-clause-rule : goal.push_as-requires-clause-rule

@@ -1,4 +1,4 @@
-use Rattle.query_workers.proofs.Lines.{fresh_forks}
+use Rattle.query_workers.proofs.Queues.{fresh_forks}
 use Rattle.query_workers.proofs.steps.split.Goals as goal
 
 pub another-requires-clause-rule : goal.another-requires-clause-rule

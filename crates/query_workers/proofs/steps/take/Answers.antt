@@ -1,4 +1,4 @@
-use Rattle.query_workers.proofs.Lines.{gets}
+use Rattle.query_workers.proofs.Queues.{gets}
 use Rattle.query_workers.proofs.steps.take.Goals as goal
 
 pub pop_as-requires-clause-rule : goal.pop_as-requires-clause-rule

@@ -7,15 +7,15 @@ use Rattle.query_workers.proofs.worker.answer_in.Goals as goal
 
 pub returns-in_err-answer-clause-pairs : goal.returns-in_err-answer-clause-pairs
 returns-in_err-answer-clause-pairs g c =
-    put_same (λ (r : ReaderState). r.pair) c.args.readers.now.items c.args.job.replica c.index_mut.result.now c.answer_on.new.reader c.index_mut.ensures.value c.answer_on.ensures.pair
+    put_same (λ (r : ReaderState). r.pair) c.args.readers.now.items c.args.job.index c.index_mut.result.now c.answer_on.new.reader c.index_mut.ensures.value c.answer_on.ensures.pair
 
 pub returns-in_err-push-clause-pairs : goal.returns-in_err-push-clause-pairs
 returns-in_err-push-clause-pairs g c =
-    put_same (λ (r : ReaderState). r.pair) c.args.readers.now.items c.args.job.replica c.index_mut.result.now c.answer_on.new.reader c.index_mut.ensures.value c.answer_on.ensures.pair
+    put_same (λ (r : ReaderState). r.pair) c.args.readers.now.items c.args.job.index c.index_mut.result.now c.answer_on.new.reader c.index_mut.ensures.value c.answer_on.ensures.pair
 
 pub returns-clause-pairs : goal.returns-clause-pairs
 returns-clause-pairs g c =
-    put_same (λ (r : ReaderState). r.pair) c.args.readers.now.items c.args.job.replica c.index_mut.result.now c.answer_on.new.reader c.index_mut.ensures.value c.answer_on.ensures.pair
+    put_same (λ (r : ReaderState). r.pair) c.args.readers.now.items c.args.job.index c.index_mut.result.now c.answer_on.new.reader c.index_mut.ensures.value c.answer_on.ensures.pair
 
 pub returns-clause-answered : goal.returns-clause-answered
 returns-clause-answered g c = λ jobs h.

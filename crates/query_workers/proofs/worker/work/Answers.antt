@@ -1,6 +1,6 @@
 use Rattle.std.proofs.Common.{rules, ◌≡◌, false, List, sym, subst, ap, ◌∙◌}
 use Rattle.crossbeam_queue.specs.Passes.{view}
-use Rattle.query_workers.specs.Line.{pairs_of}
+use Rattle.query_workers.specs.Queue.{pairs_of}
 use Rattle.query_workers.specs.Asks.{Ask, asks_of}
 use Rattle.query_workers.specs.Answers.{HasAnswered}
 use Rattle.query_workers.specs.States.{DeskState}

@@ -1,14 +1,14 @@
 use Rattle.std.proofs.Common.{◌≡◌, true, false}
 use Rattle.std.specs.Arc.{arc_value}
 use Rattle.crossbeam_queue.specs.Passes.{view, IsPassOf}
-use Rattle.query_workers.specs.Line.{pairs_of, IsOpen}
+use Rattle.query_workers.specs.Queue.{pairs_of, IsOpen}
 use Rattle.query_workers.specs.Asks.{asks_of}
 use Rattle.query_workers.specs.Answers.{HasAnswered}
 use Rattle.query_workers.proofs.worker.work.Given as goal
 
 abbrev pub invariant-loop : goal.invariant-loop
 invariant-loop g l = record {
-  own : IsPassOf (arc_value l.line) l.pass;
+  own : IsPassOf (arc_value l.queue) l.pass;
   takes : (view l.pass).takes ≡ true;
   open_ : IsOpen (view l.pass).taken;
   tied : pairs_of l.readers.items ≡ pairs_of (view l.pass).readers;

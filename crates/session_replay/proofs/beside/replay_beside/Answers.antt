@@ -11,7 +11,7 @@ edit_beside-requires-after_bounds g c κs within =
     let start = p.buffers ∙ ap (λ base. map (first_buffer base) c.as_slice.result.now) c.as_str.ensures ∙ ap (map (first_buffer s.base)) c.as_slice.ensures in
     let made = c.in_ok-dispatcher.ensures in
     can_edit s c.requires.session _ c.open_desks.new.publishers start c.args.workers c.query_count-limit.result c.into_vec-lines.result.items c.into_vec-lines.ensures refl (made.count ∙ c.requires.none.0) c.query_count-limit.ensures
-    made.asked.0 made.asked.1 made.level made.tied (made.shown ∙ c.in_ok-firsts.ensures)
+    made.asked.0 made.asked.1 made.level made.tied (made.published ∙ c.in_ok-firsts.ensures)
 
 pub gather-requires-after_bounds : goal.gather-requires-after_bounds
 gather-requires-after_bounds g c κs within =

@@ -4,7 +4,7 @@ use Rattle.std.proofs.lemmas.List.{map-append}
 use Rattle.std.proofs.lemmas.List.Elements.{All-append, All-cons, All-nil}
 use Rattle.snapshot_pub.specs.States.{ToldState}
 use Rattle.query_dispatch.specs.Dealt.{told_lists, told_pairs}
-use Rattle.query_dispatch.specs.Shown.{rows_of, shown_lists}
+use Rattle.query_dispatch.specs.Published.{rows_of, published_lists}
 use Rattle.session_replay.proofs.Leaving.{pairs_more}
 use Rattle.session_replay.proofs.beside.tell_workers.Goals as goal
 
@@ -18,6 +18,6 @@ loop-worker-preserved c =
     ap (map (λ t. t.items)) c.in_ok-push.ensures.items ∙ map-append (λ t. t.items) c.loop-worker.tolds.items (c.in_ok-tell_all.field-0 ∷ []) in
     let was = c.loop-worker.invariant in record {
       pairs = ap (map told_pairs) more ∙ (map-append told_pairs ts (t ∷ []) ∙ pairs_more (map told_pairs ts) c.loop-worker.worker (rows_of p) (told_pairs t) was.pairs told.pairs);
-      lists = subst (All (λ (us : List ToldState). told_lists us ≡ shown_lists p)) (sym more)
-          (All-append (λ (us : List ToldState). told_lists us ≡ shown_lists p) ts (t ∷ []) was.lists (All-cons (λ (us : List ToldState). told_lists us ≡ shown_lists p) t [] told.lists (All-nil (λ (us : List ToldState). told_lists us ≡ shown_lists p))));
+      lists = subst (All (λ (us : List ToldState). told_lists us ≡ published_lists p)) (sym more)
+          (All-append (λ (us : List ToldState). told_lists us ≡ published_lists p) ts (t ∷ []) was.lists (All-cons (λ (us : List ToldState). told_lists us ≡ published_lists p) t [] told.lists (All-nil (λ (us : List ToldState). told_lists us ≡ published_lists p))));
     }

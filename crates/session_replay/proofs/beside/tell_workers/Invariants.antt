@@ -1,11 +1,11 @@
 use Rattle.std.proofs.Common.{◌≡◌, map}
 use Rattle.std.specs.List.{All}
 use Rattle.query_dispatch.specs.Dealt.{told_lists, told_pairs}
-use Rattle.query_dispatch.specs.Shown.{columns, rows_of, shown_lists}
+use Rattle.query_dispatch.specs.Published.{columns, rows_of, published_lists}
 use Rattle.session_replay.proofs.beside.tell_workers.Given as goal
 
 abbrev pub invariant-loop-worker : goal.invariant-loop-worker
 invariant-loop-worker l = record {
   pairs : map told_pairs (map (λ t. t.items) l.tolds.items) ≡ columns l.worker (rows_of l.publishers);
-  lists : All (λ t. told_lists t ≡ shown_lists l.publishers) (map (λ t. t.items) l.tolds.items);
+  lists : All (λ t. told_lists t ≡ published_lists l.publishers) (map (λ t. t.items) l.tolds.items);
 }

@@ -1,7 +1,7 @@
 use Rattle.std.proofs.Common.{◌≡◌, ◌+◌, ◌<◌, length, get_or, set, sym, ap, ◌∙◌, subst, arith}
 use Rattle.std.proofs.lemmas.List.{get_or_default, length-set, with_items_is}
 use Rattle.snapshot_pub.proofs.Places.{put_same}
-use Rattle.query_workers.specs.Line.{pairs_of}
+use Rattle.query_workers.specs.Queue.{pairs_of}
 use Rattle.query_workers.specs.States.{InboxState}
 use Rattle.query_dispatch.specs.States.{DispatcherState}
 use Rattle.query_dispatch.specs.Dealt.{AllAt, IsClosed}

@@ -1,6 +1,6 @@
 use Rattle.std.proofs.Common.{ap, ◌∙◌}
 use Rattle.snapshot_pub.proofs.Places.{put_same}
-use Rattle.query_workers.specs.Line.{pairs_of}
+use Rattle.query_workers.specs.Queue.{pairs_of}
 use Rattle.query_workers.specs.States.{InboxState}
 use Rattle.query_dispatch.specs.States.{DispatcherState}
 use Rattle.query_dispatch.specs.Dealt.{pairs_in, queues_of}
@@ -9,17 +9,17 @@ use Rattle.query_dispatch.proofs.dispatcher.Dispatcher.put.Goals as goal
 
 pub ask-requires-clause-worker : goal.ask-requires-clause-worker
 ask-requires-clause-worker g c =
-    (is_next _ _ _ _ c.requires.asked.0 c.args.replica c.self.inside.workers c.index_mut.result.now c.index-publisher.result.now c.self.view_is c.publishers.view_is c.self.invariant c.requires.asked.1 c.requires.tied c.requires.level c.requires.replica
+    (is_next _ _ _ _ c.requires.asked.0 c.args.index c.self.inside.workers c.index_mut.result.now c.index-publisher.result.now c.self.view_is c.publishers.view_is c.self.invariant c.requires.asked.1 c.requires.tied c.requires.level c.requires.index
     c.index_mut.ensures.value c.index-publisher.ensures).worker
 
 pub ask-requires-clause-pair : goal.ask-requires-clause-pair
 ask-requires-clause-pair g c =
-    (is_next _ _ _ _ c.requires.asked.0 c.args.replica c.self.inside.workers c.index_mut.result.now c.index-publisher.result.now c.self.view_is c.publishers.view_is c.self.invariant c.requires.asked.1 c.requires.tied c.requires.level c.requires.replica
+    (is_next _ _ _ _ c.requires.asked.0 c.args.index c.self.inside.workers c.index_mut.result.now c.index-publisher.result.now c.self.view_is c.publishers.view_is c.self.invariant c.requires.asked.1 c.requires.tied c.requires.level c.requires.index
     c.index_mut.ensures.value c.index-publisher.ensures).pair
 
 pub ask-requires-clause-room : goal.ask-requires-clause-room
 ask-requires-clause-room g c =
-    (is_next _ _ _ _ c.requires.asked.0 c.args.replica c.self.inside.workers c.index_mut.result.now c.index-publisher.result.now c.self.view_is c.publishers.view_is c.self.invariant c.requires.asked.1 c.requires.tied c.requires.level c.requires.replica
+    (is_next _ _ _ _ c.requires.asked.0 c.args.index c.self.inside.workers c.index_mut.result.now c.index-publisher.result.now c.self.view_is c.publishers.view_is c.self.invariant c.requires.asked.1 c.requires.tied c.requires.level c.requires.index
     c.index_mut.ensures.value c.index-publisher.ensures).room
 
 pub returns-clause-queues : goal.returns-clause-queues
@@ -34,6 +34,6 @@ returns-clause-pairs g c =
 
 pub returns-clause-asked : goal.returns-clause-asked
 returns-clause-asked g c = λ asks h.
-    let next = is_next _ _ _ _ asks c.args.replica c.self.inside.workers c.index_mut.result.now c.index-publisher.result.now c.self.view_is c.publishers.view_is c.self.invariant h c.requires.tied c.requires.level c.requires.replica c.index_mut.ensures.value
+    let next = is_next _ _ _ _ asks c.args.index c.self.inside.workers c.index_mut.result.now c.index-publisher.result.now c.self.view_is c.publishers.view_is c.self.invariant h c.requires.tied c.requires.level c.requires.index c.index_mut.ensures.value
     c.index-publisher.ensures in
-    put_more _ _ asks _ c.args.replica _ c.index_mut.result.now c.ask.new.self c.index-publisher.result.now c.args.query c.self.view_is next c.requires.more c.in_ok-ask.ensures
+    put_more _ _ asks _ c.args.index _ c.index_mut.result.now c.ask.new.self c.index-publisher.result.now c.args.query c.self.view_is next c.requires.more c.in_ok-ask.ensures

@@ -1,21 +1,22 @@
 use Rattle.std.proofs.Common.{◌≡◌, ℕ, List, Vec, Global, length, map, refl, reverse, sym, subst}
+use Rattle.std.proofs.lemmas.Slice.Zip.{AllZip-long}
 use Rattle.std.specs.Result.{IfOk}
 use Rattle.snapshot_pub.specs.States.{ToldState}
 use Rattle.query_workers.specs.Asks.{asks_of, asks_to}
 use Rattle.query_workers.specs.States.{InboxState}
 use Rattle.query_workers.specs.declared.query.Answer.{Answer}
 use Rattle.query_dispatch.specs.Dealt.{AllAt}
-use Rattle.query_dispatch.specs.Settled.{AreGathered, AreSettled, CanSettleAll}
-use Rattle.query_dispatch.proofs.Merges.{head_of, paired_length}
-use Rattle.query_dispatch.proofs.Readiness.{can_settle_all, lists_enough, lists_settled}
+use Rattle.query_dispatch.specs.Final.{AreGathered, AreFinal, CanRenewAll}
+use Rattle.query_dispatch.proofs.Merges.{head_of}
+use Rattle.query_dispatch.proofs.Readiness.{can_renew_all, lists_enough, lists_final}
 use Rattle.query_dispatch.proofs.gathering.Gathering.gather.Goals as goal
 
-pub settle_workers-requires-after_bounds : goal.settle_workers-requires-after_bounds
-settle_workers-requires-after_bounds g c = λ κs within.
+pub renew_workers-requires-after_bounds : goal.renew_workers-requires-after_bounds
+renew_workers-requires-after_bounds g c = λ κs within.
     let r = c.requires.ready in
     let tolds = map (λ (v : Vec ToldState Global). v.items) c.args.self.tolds.items in
-    subst (λ (sizes : List ℕ). CanSettleAll g.Q.Query.plain sizes c.args.lasts.now c.args.self.inboxes.items c.args.dones.items tolds) (sym c.as_slice.ensures.value)
-    (can_settle_all g.Q.Query.plain c.args.self.sizes.items c.args.lasts.now c.args.self.inboxes.items tolds r.0 r.1 r.2 c.args.dones.items r.3 r.4 r.5 r.7 r.8)
+    subst (λ (sizes : List ℕ). CanRenewAll g.Q.Query.plain sizes c.args.lasts.now c.args.self.inboxes.items c.args.dones.items tolds) (sym c.as_slice.ensures.value)
+    (can_renew_all g.Q.Query.plain c.args.self.sizes.items c.args.lasts.now c.args.self.inboxes.items tolds r.0 r.1 r.2 c.args.dones.items r.3 r.4 r.5 r.7 r.8)
 
 pub in_order-requires-clause-enough : goal.in_order-requires-clause-enough
 in_order-requires-clause-enough g c =
@@ -35,7 +36,7 @@ returns g c = λ asks numbers count shown ready.
     let lasts = c.args.lasts.now in
     let inboxes : List (InboxState g.row.Q.Denot) = c.args.self.inboxes.items in
     let lists = c.in_ok-lists.lists.items in
-    let same : length lists ≡ length inboxes = paired_length (λ (v : list) (i : InboxState g.row.Q.Denot). AreSettled plain lasts (asks_of i.sent) (reverse v.items)) lists inboxes c.in_ok-lists.ensures in
+    let same : length lists ≡ length inboxes = sym (AllZip-long (λ (v : list) (i : InboxState g.row.Q.Denot). AreFinal plain lasts (asks_of i.sent) (reverse v.items)) lists inboxes c.in_ok-lists.ensures) in
     subst (λ (n : ℕ). IfOk c.in_order.result (λ (v : list). AreGathered plain n lasts asks v.items)) same
-    (c.in_order.ensures lasts asks numbers count (subst (λ (n : ℕ). AllAt (λ w (v : list). AreSettled plain lasts (asks_to n w asks) (reverse v.items)) lists) (sym same)
-    (lists_settled plain lasts (λ (v : list). reverse v.items) inboxes asks lists c.in_ok-lists.ensures ready.closed (head_of inboxes ready.some))))
+    (c.in_order.ensures lasts asks numbers count (subst (λ (n : ℕ). AllAt (λ w (v : list). AreFinal plain lasts (asks_to n w asks) (reverse v.items)) lists) (sym same)
+    (lists_final plain lasts (λ (v : list). reverse v.items) inboxes asks lists c.in_ok-lists.ensures ready.closed (head_of inboxes ready.some))))

@@ -13,8 +13,8 @@ returns-in_default-clause-asking g c =
     let none : None ≡ position (λ (b : BufferState). b.replica == c.args.id) bs = c.in_default.ensures in
     λ asks a. nothing_asked _ asks _ _ _ (ap (query_of (length asks + 1) c.args.id c.args.question) (not_found c.args.id (λ (b : BufferState). b) bs none).0) a
 
-pub ask-requires-clause-replica : goal.ask-requires-clause-replica
-ask-requires-clause-replica g c =
+pub ask-requires-clause-index : goal.ask-requires-clause-index
+ask-requires-clause-index g c =
     is_listed _ c.args.id c.in-Some.index c.index-replicas-index.result c.in-Some.ensures c.requires.asking.0 c.args.self.now.dispatcher c.args.publishers.now c.requires.asking.1
 
 pub ask-requires-clause-grows : goal.ask-requires-clause-grows
@@ -36,4 +36,4 @@ returns-clause-asking g c =
     let put = c.in_ok-ask.ensures in
     λ asks a. asks_more bs asks _ _ _ _ i x (query_with (length asks + 1) s (Some (r, question))) question h (at_place bs r i x e).0 is
     (asked_one bs r i x e (length asks + 1) question h is)
-    put.asked put.level put.workers put.rows put.pairs put.shown a
+    put.asked put.level put.workers put.rows put.pairs put.published a

@@ -1,0 +1,202 @@
+//! The answers of one worker, once it and the editor have ended.
+ghost use Rattle.std.specs.Prelude.{◌≡◌, ◌<◌, ◌≤◌, List, [], length, map, reverse, IfOk, IfSome, OnOk, All};
+ghost use Rattle.std.specs.List.{AllZip};
+ghost use Rattle.op_model.specs.declared.operation.Operation.{Operation};
+ghost use Rattle.text_buffer.specs.Document.{IsFront};
+ghost use Rattle.query_workers.specs.Answers.{HasAnswered};
+ghost use Rattle.query_workers.specs.Asks.{asks_of};
+ghost use Rattle.query_workers.specs.Queue.{IsEnded, pairs_of};
+ghost use Rattle.query_workers.specs.declared.query.Answer.{Answer};
+ghost use Rattle.query_dispatch.specs.Dealt.{AllAt, told_lists, told_pairs};
+ghost use Rattle.query_dispatch.specs.Final.{AreFinal, ComesTo, IsBound, IsPast};
+
+use crate::OutOfMemory;
+use query_workers::{Answer, Done, Inbox, Query, collect};
+use snapshot_pub::{SnapReader, Told};
+use std::alloc::Global;
+use std::thread::Threads;
+use text_buffer::Snapshot;
+
+// A last look of a reader: it learns what was last published to its pair, which has so many operations, and takes `latest` once
+// more. How many operations an answer of this reader may have that stays: none, where it did not enter.
+fn look_last(mut reader: SnapReader, told: Told, size: u64) -> Result<u64, OutOfMemory>
+    requires pair { told.pair ≡ reader.pair }
+    requires size { size ≡ length told.list }
+    ensures most { IfOk result (λ n. n ≤ length told.list) }
+    ensures bound { IfOk result (λ n. (h : List Operation) → IsFront h reader.longest
+        → length h ≤ n → IsFront h told.list) }
+{
+    look_again(&mut reader, told, size)
+}
+
+// The same, of a reader that is lent.
+fn look_again(reader: &mut SnapReader, told: Told, size: u64) -> Result<u64, OutOfMemory>
+    requires pair { told.pair ≡ reader.old.pair }
+    requires size { size ≡ length told.list }
+    ensures most { IfOk result (λ n. n ≤ length told.list) }
+    ensures bound { IfOk result (λ n. (h : List Operation) → IsFront h reader.old.longest
+        → length h ≤ n → IsFront h told.list) }
+{
+    reader.learn(told);
+    drop(reader.latest()?);
+    if reader.entered() { Ok(size) } else { Ok(0) }
+}
+
+// The last looks of a worker's readers, in the order of the replicas.
+fn look_all(
+    alloc: Global,
+    readers: Vec<SnapReader>,
+    tolds: Vec<Told>,
+    sizes: &[u64],
+) -> Result<Vec<u64>, OutOfMemory>
+    requires pairs { told_pairs tolds.items ≡ pairs_of readers.items }
+    requires sizes { sizes.now ≡ map (λ (h : List Operation). length h) (told_lists tolds.items) }
+    ensures count { IfOk result (λ v. length v.items ≡ length tolds.items) }
+    ensures bounds { IfOk result (λ v. AllAt
+        (IsBound (told_lists tolds.items) readers.items) v.items) }
+{
+    let mut bounds = Vec::new(alloc);
+    let mut readers = readers.into_iter();
+    let mut tolds = tolds.into_iter();
+    for size in sizes {
+        let (Some(reader), Some(told)) = (readers.next(), tolds.next()) else {
+            unreachable!()
+        };
+        bounds.push(look_last(reader, told, *size)?)?;
+    }
+    Ok(bounds)
+}
+
+// The answer as it is, where it is on no more operations than its replica's bound; else it is made anew on what the replica is at
+// the end.
+fn renew<R: Threads + Sync, Q: Query<A> + Drop, A: Drop>(
+    rt: &R,
+    alloc: Global,
+    answer: Answer<Q, A>,
+    bounds: &[u64],
+    lasts: &[Snapshot],
+) -> Result<Answer<Q, A>, OutOfMemory>
+    requires index { (answer.index < length bounds.now) × (answer.index < length lasts.now) }
+    requires plain { answer.answer ≡ Q.plain answer.query answer.snapshot }
+    ensures { IfOk result (λ a. ComesTo Q.plain bounds.now lasts.now a answer) }
+{
+    let place = answer.index as usize;
+    if answer.snapshot.applied().len() <= bounds[place] {
+        return Ok(answer);
+    }
+    answer_anew(rt, alloc, answer, &lasts[place])
+}
+
+// The answer to the same query on another snapshot.
+fn answer_anew<R: Threads + Sync, Q: Query<A> + Drop, A: Drop>(
+    rt: &R,
+    alloc: Global,
+    former: Answer<Q, A>,
+    snapshot: &Snapshot,
+) -> Result<Answer<Q, A>, OutOfMemory>
+    ensures number { IfOk result (λ a. a.number ≡ former.number) }
+    ensures index { IfOk result (λ a. a.index ≡ former.index) }
+    ensures query { IfOk result (λ a. a.query ≡ former.query) }
+    ensures snapshot { IfOk result (λ a. a.snapshot ≡ snapshot.now) }
+    ensures answer { IfOk result (λ a. a.answer ≡ Q.plain former.query snapshot.now) }
+{
+    let (number, index, query) = ask_parts(former);
+    let answer = query.answer(rt, alloc, snapshot)?;
+    let snapshot = snapshot.share()?;
+    Ok(Answer {
+        number,
+        index,
+        query,
+        snapshot,
+        answer,
+    })
+}
+
+// What was asked: the number, the replica and the query. The answer is dropped.
+fn ask_parts<Q: Drop, A: Drop>(answer: Answer<Q, A>) -> (u64, u32, Q)
+    ensures number { result.0 ≡ answer.number }
+    ensures index { result.1 ≡ answer.index }
+    ensures query { result.2 ≡ answer.query }
+{
+    let Answer {
+        number,
+        index,
+        query,
+        snapshot: _,
+        answer: _,
+    } = answer;
+    (number, index, query)
+}
+
+// The answers, each renewed; the last of them first.
+fn renew_all<R: Threads + Sync, Q: Query<A> + Drop, A: Drop>(
+    rt: &R,
+    alloc: Global,
+    mut answers: Vec<Answer<Q, A>>,
+    bounds: &[u64],
+    lasts: &[Snapshot],
+) -> Result<Vec<Answer<Q, A>>, OutOfMemory>
+    requires indices { All (λ (a : Answer Q A). (a.index < length bounds.now)
+        × (a.index < length lasts.now)) answers.items }
+    requires plain { All (λ (a : Answer Q A). a.answer ≡ Q.plain a.query a.snapshot) answers.items }
+    ensures { IfOk result (λ v. AllZip (ComesTo Q.plain bounds.now lasts.now)
+        (reverse v.items) answers.items) }
+{
+    let mut renewed = Vec::new(alloc);
+    renew_each(rt, alloc, &mut answers, &mut renewed, bounds, lasts)?;
+    Ok(renewed)
+}
+
+// The same, into a list that is empty at first.
+fn renew_each<R: Threads + Sync, Q: Query<A> + Drop, A: Drop>(
+    rt: &R,
+    alloc: Global,
+    answers: &mut Vec<Answer<Q, A>>,
+    renewed: &mut Vec<Answer<Q, A>>,
+    bounds: &[u64],
+    lasts: &[Snapshot],
+) -> Result<(), OutOfMemory>
+    requires indices { All (λ (a : Answer Q A). (a.index < length bounds.now)
+        × (a.index < length lasts.now)) answers.old.items }
+    requires plain { All (λ (a : Answer Q A). a.answer ≡ Q.plain a.query a.snapshot)
+        answers.old.items }
+    requires none { renewed.old.items ≡ [] }
+    ensures { OnOk result (AllZip (ComesTo Q.plain bounds.now lasts.now)
+        (reverse renewed.new.items) answers.old.items) }
+{
+    while let Some(answer) = answers.pop() {
+        renewed.push(renew(rt, alloc, answer, bounds, lasts)?)?;
+    }
+    Ok(())
+}
+
+/// The answers of a worker, renewed, the last of them first: those that its readers gave on more than was last published are made
+/// anew.
+///
+/// # Errors
+///
+/// `OutOfMemory` alone.
+pub(crate) fn renew_worker<R: Threads + Sync, Q: Query<A> + Drop, A: Drop>(
+    rt: &R,
+    alloc: Global,
+    inbox: Inbox<Q>,
+    done: Done<Q, A>,
+    tolds: Vec<Told>,
+    sizes: &[u64],
+    lasts: &[Snapshot],
+) -> Result<Vec<Answer<Q, A>>, OutOfMemory>
+    requires own { done.queue ≡ inbox.queue }
+    requires ended { IsEnded inbox.sent × IsEnded done.taken }
+    requires answered { IfSome done.answers (λ v. HasAnswered Q.plain
+        (asks_of done.taken) done.readers v) }
+    requires pairs { told_pairs tolds.items ≡ pairs_of done.readers }
+    requires sizes { sizes.now ≡ map (λ (h : List Operation). length h) (told_lists tolds.items) }
+    requires fronts { AllZip IsFront (told_lists tolds.items) lasts.now }
+    requires asked { All (IsPast lasts.now) (asks_of inbox.sent) }
+    ensures { IfOk result (λ v. AreFinal Q.plain lasts.now (asks_of inbox.sent)
+        (reverse v.items)) }
+{
+    let (readers, answers) = collect(inbox, done)?;
+    let bounds = look_all(alloc, readers, tolds, sizes)?;
+    renew_all(rt, alloc, answers, bounds.as_slice(), lasts)
+}

@@ -1,0 +1,38 @@
+//! What a worker has answered, once it and the editor have ended.
+ghost use Rattle.std.specs.Prelude.{◌≡◌, IfOk, IfSome};
+ghost use Rattle.query_workers.specs.Queue.{IsEnded};
+ghost use Rattle.query_workers.specs.Asks.{asks_of};
+ghost use Rattle.query_workers.specs.Answers.{HasAnswered};
+
+use crate::OutOfMemory;
+use crate::desk::{Done, Inbox};
+use crate::query::{Answer, Query};
+use crate::steps::join;
+use snapshot_pub::SnapReader;
+
+/// The readers of a worker, and its answers: one to each job that was put into its inbox, in their order.
+///
+/// # Errors
+///
+/// `OutOfMemory` alone: the worker missed memory for an answer.
+pub fn collect<Q: Query<A> + Drop, A: Drop>(
+    inbox: Inbox<Q>,
+    done: Done<Q, A>,
+) -> Result<(Vec<SnapReader>, Vec<Answer<Q, A>>), OutOfMemory>
+    requires own { done.queue ≡ inbox.queue }
+    requires ended { IsEnded inbox.sent × IsEnded done.taken }
+    requires answered { IfSome done.answers (λ v. HasAnswered Q.plain
+        (asks_of done.taken) done.readers v) }
+    ensures readers { IfOk result (λ r. r.0.items ≡ done.readers) }
+    ensures answered { IfOk result (λ r. HasAnswered Q.plain
+        (asks_of inbox.sent) done.readers r.1.items) }
+{
+    let Inbox { queue, pass } = inbox;
+    let Done {
+        pass: theirs,
+        readers,
+        answers,
+    } = done;
+    join(&queue, pass, theirs);
+    Ok((readers, answers?))
+}
