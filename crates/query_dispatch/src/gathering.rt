@@ -21,7 +21,7 @@ use text_buffer::Snapshot;
 ///
 /// # Examples
 ///
-/// `leave` of `crates/session_replay/src/beside.rt` makes one; `gather`: the function of this name there.
+/// `leave` of `crates/session_replay/src/beside.rt` makes one; `gather`: `gathered_report` there.
 #[derive(Drop)]
 pub struct Gathering<Q> {
     pub inboxes: Vec<Inbox<Q>>,

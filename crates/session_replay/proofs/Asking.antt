@@ -17,7 +17,7 @@ use Rattle.query_dispatch.specs.Dealt.{HasAsked, pairs_in}
 use Rattle.query_dispatch.specs.Published.{AreLevel, columns, rows_of, published_lists, published_of}
 use Rattle.query_dispatch.specs.States.{DispatcherState, PublishersState}
 use Rattle.session_replay.specs.Work.{State, buffer_of, events, step}
-use Rattle.session_replay.specs.Queries.{Query, queries_from, query_at, query_of, query_with, question_of}
+use Rattle.session_replay.specs.Queries.{AskedQuery, queries_from, query_at, query_of, query_with, question_of}
 use Rattle.session_replay.specs.Beside.{IsAsking, KeepsEnds, ask_among, asks_among, histories, index_among}
 use Rattle.session_replay.specs.declared.queries.Question.{Question}
 use Rattle.session_replay.proofs.Buffers.{found, not_found}
@@ -42,7 +42,7 @@ same_count [] (c ∷ cs) g = absurd g
 same_count (b ∷ bs) [] g = absurd g
 same_count (b ∷ bs) (c ∷ cs) g = ap suc (same_count bs cs g.1)
 
-pub same_asks : (bs cs : List BufferState) (qs : List Query) → AllGrow bs cs → asks_among cs qs ≡ asks_among bs qs
+pub same_asks : (bs cs : List BufferState) (qs : List AskedQuery) → AllGrow bs cs → asks_among cs qs ≡ asks_among bs qs
 same_asks bs cs [] g = refl
 same_asks bs cs (q ∷ qs) g =
     ap₂ (λ (m : ℕ) (ks : List (Ask Question)). one_ask q.number m q.question q.history ∷ ks) (same_place q.replica bs cs g) (same_asks bs cs qs g)
@@ -161,12 +161,12 @@ asks_count l a e = count_cons l [] ∙ ap (λ (b : Bool). cond b 1 0 + query_cou
 
 -- where it had asked these before lines that it works, and works the rest of them now
 pub record Leads (ls : List SessionLine) (s0 : State) (asks : List (Ask Question)) (rest : List SessionLine) (s : State) (d : DispatcherState Question) (p : PublishersState) : Type 0 where
-  pub more : List Query
+  pub more : List AskedQuery
   pub asking : IsAsking s.buffers (asks ++ asks_among s0.buffers more) d p
   pub whole : more ++ queries_from (length asks + length more + 1) rest s ≡ queries_from (length asks + 1) ls s0
   pub room : length asks + length more + query_count rest ≤ d.limit
 
-count_all : (bs : List BufferState) (asks : List (Ask Question)) (more : List Query) → length (asks ++ asks_among bs more) ≡ length asks + length more
+count_all : (bs : List BufferState) (asks : List (Ask Question)) (more : List AskedQuery) → length (asks ++ asks_among bs more) ≡ length asks + length more
 count_all bs asks more = omega (arith, length-append asks (asks_among bs more), length-map more (ask_among bs))
 
 pub leads_first : (ls : List SessionLine) (s : State) (asks : List (Ask Question)) (d : DispatcherState Question) (p : PublishersState) → IsAsking s.buffers asks d p → d.count + query_count ls ≤ d.limit
@@ -194,7 +194,7 @@ module _ (ls : List SessionLine) (s0 : State) (asks : List (Ask Question)) (left
   leads_more t e q g is limit h =
       let ks : List (Ask Question) = asks ++ asks_among s0.buffers l.more in
       let n : length ks ≡ length asks + length l.more = count_all s0.buffers asks l.more in
-      let qs : List Query = query_at (length asks + length l.more + 1) next s in
+      let qs : List AskedQuery = query_at (length asks + length l.more + 1) next s in
       let same : asks_among s.buffers (query_at (length ks + 1) next s) ≡ asks_among s0.buffers qs =
       ap (λ (k : ℕ). asks_among s.buffers (query_at (k + 1) next s)) n ∙ same_asks s0.buffers s.buffers qs g in
       let all : ks ++ asks_among s.buffers (query_at (length ks + 1) next s) ≡ asks ++ asks_among s0.buffers (l.more ++ qs) =
@@ -218,8 +218,8 @@ pub leads_last : (ls : List SessionLine) (s0 : State) (asks : List (Ask Question
     → Leads ls s0 asks left s d p → IsAsking s.buffers (asks ++ asks_among s0.buffers (queries_from (length asks + 1) ls s0)) d p
 leads_last ls s0 asks left s d p none l =
     let unasked : queries_from (length asks + length l.more + 1) left s ≡ [] = ap (λ (k : List SessionLine). queries_from (length asks + length l.more + 1) k s) none in
-    let all : l.more ≡ queries_from (length asks + 1) ls s0 = sym (append-nil l.more) ∙ (ap (λ (qs : List Query). l.more ++ qs) (sym unasked) ∙ l.whole) in
-    subst (λ (qs : List Query). IsAsking s.buffers (asks ++ asks_among s0.buffers qs) d p) all l.asking
+    let all : l.more ≡ queries_from (length asks + 1) ls s0 = sym (append-nil l.more) ∙ (ap (λ (qs : List AskedQuery). l.more ++ qs) (sym unasked) ∙ l.whole) in
+    subst (λ (qs : List AskedQuery). IsAsking s.buffers (asks ++ asks_among s0.buffers qs) d p) all l.asking
 
 -- ---- one line
 
@@ -229,9 +229,9 @@ on_any (Ok x) P p = p
 on_any (Err y) P p = tt
 
 -- the line asks nothing
-pub nothing_asked : (bs : List BufferState) (asks : List (Ask Question)) (d : DispatcherState Question) (p : PublishersState) (qs : List Query) → qs ≡ [] → IsAsking bs asks d p → IsAsking bs (asks ++ asks_among bs qs) d p
+pub nothing_asked : (bs : List BufferState) (asks : List (Ask Question)) (d : DispatcherState Question) (p : PublishersState) (qs : List AskedQuery) → qs ≡ [] → IsAsking bs asks d p → IsAsking bs (asks ++ asks_among bs qs) d p
 nothing_asked bs asks d p qs e a =
-    subst (λ (ks : List (Ask Question)). IsAsking bs ks d p) (sym (ap (λ (js : List Query). asks ++ asks_among bs js) e ∙ append-nil asks)) a
+    subst (λ (ks : List (Ask Question)). IsAsking bs ks d p) (sym (ap (λ (js : List AskedQuery). asks ++ asks_among bs js) e ∙ append-nil asks)) a
 
 -- a line that asks reports no event and changes nothing
 pub asks_only : (l : SessionLine) (a : ℕ × Question) → Some a ≡ question_of l → (s : State) → (events l s ≡ []) × (step l s ≡ s)
@@ -256,7 +256,7 @@ pub no_replica : (q : ℕ) (l : SessionLine) (s : State) (r : ℕ) (ask : Questi
 no_replica q l s r ask e n = ap (query_with q s) (sym e) ∙ ap (query_of q r ask) (not_found r (λ (b : BufferState). b) s.buffers n).0
 
 -- the line asks a replica, and is put
-module _ (bs : List BufferState) (asks : List (Ask Question)) (d e : DispatcherState Question) (p q : PublishersState) (i : ℕ) (x : BufferState) (qs : List Query) (ask : Question) (h : List Operation) where
+module _ (bs : List BufferState) (asks : List (Ask Question)) (d e : DispatcherState Question) (p q : PublishersState) (i : ℕ) (x : BufferState) (qs : List AskedQuery) (ask : Question) (h : List Operation) where
   pub asks_more : i < length bs → h ≡ (get_or bs i x).history → one_ask (length asks + 1) i ask h ∷ [] ≡ asks_among bs qs
       → ((ks : List (Ask Question)) → HasAsked d ks → HasAsked e (ks ++ one_ask (d.count + 1) i ask h ∷ []))
       → AreLevel q → q.workers ≡ p.workers → rows_of q ≡ rows_of p → pairs_in e.inboxes ≡ pairs_in d.inboxes → published_lists q ≡ slice_set (published_lists p) i h

@@ -1,5 +1,5 @@
 -- Where a text ends, by its summary.
-use Rattle.std.proofs.Common.{◌≡◌, ℕ, ◌+◌, ◌-◌, ◌^◌, ◌≤◌, ◌==◌, cond, List, [], ◌∷◌, length, reverse, refl, sym, ◌∙◌, ap, arith, inl, inr}
+use Rattle.std.proofs.Common.{◌≡◌, ℕ, ◌+◌, ◌^◌, ◌≤◌, ◌==◌, cond, List, [], ◌∷◌, length, reverse, refl, sym, ◌∙◌, ap, arith, inl, inr}
 use Rattle.std.proofs.lemmas.Bool.{cases_Bool}
 use Rattle.std.proofs.lemmas.Grind.{reverse_onto}
 use Rattle.std.proofs.lemmas.List.{reverse-reverse}
@@ -15,7 +15,7 @@ use Rattle.session_lines.specs.Report.{last_column}
 use Rattle.session_lines.specs.declared.report.TextHead.TheVariants as head
 use Rattle.session_lines.specs.declared.report.Report.TheVariants as report
 use Rattle.text_buffer.specs.Buffer.{BufferState, IsBuffer}
-use Rattle.session_replay.specs.Work.{counts_report, text_report}
+use Rattle.session_replay.specs.Work.{applied_count, counts_report, text_report}
 
 -- how long the last row of a text is that is given from its end
 abbrev column : List ℕ → ℕ
@@ -66,7 +66,7 @@ shown_is b r rows s t i e n h =
     cc
 
 pub counts_are : (b : BufferState) (r rows applied waiting refused : ℕ) (s : TextSummary) → b.replica ≡ r → s ≡ summary_of (text b.history) → rows ≡ feeds (text b.history) + 1
-    → applied ≡ length b.history - 1 → waiting ≡ length b.waiting → refused ≡ length b.refused → report.Replica r s.len rows applied waiting refused ≡ counts_report b
+    → applied ≡ applied_count b.history → waiting ≡ length b.waiting → refused ≡ length b.refused → report.Replica r s.len rows applied waiting refused ≡ counts_report b
 counts_are b r rows applied waiting refused s i e n a w f =
     let len : s.len ≡ length (text b.history) = ap (λ (z : TextSummary). z.len) e ∙ bytes_are (text b.history) in
     cc

@@ -15,9 +15,9 @@ use Rattle.session_lines.specs.declared.session.Session.{Session}
 use Rattle.query_workers.specs.Asks.{worker_of}
 use Rattle.query_workers.specs.declared.query.Answer.{Answer}
 use Rattle.query_dispatch.specs.Final.{AreGathered, IsPast, IsFinal, NeverFalls}
-use Rattle.session_replay.specs.Work.{State, buffer_of}
+use Rattle.session_replay.specs.Work.{State, applied_count, buffer_of}
 use Rattle.session_replay.specs.Queries as replies
-use Rattle.session_replay.specs.Queries.{AreReplies, IsWithin, Query, Reply, count_of, end_of, final_of, history_of, plain_answer, queries_of, reply_line}
+use Rattle.session_replay.specs.Queries.{AreReplies, AskedQuery, IsWithin, Reply, end_of, final_of, history_of, plain_answer, queries_of, reply_line}
 use Rattle.session_replay.specs.Beside.{ask_among, asks_among, histories, line_of, index_among}
 use Rattle.session_replay.specs.declared.queries.Question.{Question}
 use Rattle.session_replay.proofs.Growth.{AllGrow}
@@ -54,37 +54,37 @@ stands r (b ∷ bs) l =
 -- ---- one answer
 
 -- the answer is to that query of a session that ends so
-abbrev IsTo : List BufferState → State → Made → Query → Type 0
+abbrev IsTo : List BufferState → State → Made → AskedQuery → Type 0
 IsTo bs end a c = IsFinal plain_answer (histories end.buffers) a (ask_among bs c)
 
 -- the reply that it is
-abbrev reply_to : Made → Query → Reply
-reply_to a c = record { query = c; count = count_of a.snapshot }
+abbrev reply_to : Made → AskedQuery → Reply
+reply_to a c = record { query = c; count = applied_count a.snapshot }
 
 module _ (bs : List BufferState) (end : State) (g : AllGrow bs end.buffers) where
-  long : (c : Query) → IsPlaced end c → 1 ≤ length (history_of (buffer_of c.replica end.buffers))
+  long : (c : AskedQuery) → IsPlaced end c → 1 ≤ length (history_of (buffer_of c.replica end.buffers))
   long c f = omega (arith, f.1, front_length c.history (history_of (buffer_of c.replica end.buffers)) f.0)
 
   -- its snapshot begins what the replica has applied at the end
-  front_of : (a : Made) (c : Query) → IsTo bs end a c → IsPlaced end c → IsFront a.snapshot (final_of end (reply_to a c))
+  front_of : (a : Made) (c : AskedQuery) → IsTo bs end a c → IsPlaced end c → IsFront a.snapshot (final_of end (reply_to a c))
   front_of a c t f =
       let s = stands c.replica end.buffers (long c f) in
       subst (IsFront a.snapshot) (ap (λ (i : ℕ). slice_index_or (histories end.buffers) i []) (sym (same_place c.replica bs end.buffers g)) ∙ s.1) t.front
 
-  within_one : (a : Made) (c : Query) → IsTo bs end a c → IsPlaced end c → IsWithin end (reply_to a c)
+  within_one : (a : Made) (c : AskedQuery) → IsTo bs end a c → IsPlaced end c → IsWithin end (reply_to a c)
   within_one a c t f = (front_count c.history a.snapshot t.answer.told, front_count a.snapshot (final_of end (reply_to a c)) (front_of a c t f))
 
-  line_one : (a : Made) (c : Query) → IsTo bs end a c → IsPlaced end c → line_of a ≡ reply_line end (reply_to a c)
+  line_one : (a : Made) (c : AskedQuery) → IsTo bs end a c → IsPlaced end c → line_of a ≡ reply_line end (reply_to a c)
   line_one a c t f =
       let final : List Operation = final_of end (reply_to a c) in
       let some : 1 ≤ length a.snapshot = omega (arith, f.1, front_length c.history a.snapshot t.answer.told) in
-      let taken : take (count_of a.snapshot + 1) final ≡ a.snapshot = front_taken a.snapshot final (front_of a c t f) some in
-      ap₂ (λ (n : ℕ) (answer : QueryAnswer). report.Query n (count_of a.snapshot) answer) t.answer.number
+      let taken : take (applied_count a.snapshot + 1) final ≡ a.snapshot = front_taken a.snapshot final (front_of a c t f) some in
+      ap₂ (λ (n : ℕ) (answer : QueryAnswer). report.Query n (applied_count a.snapshot) answer) t.answer.number
       (t.answer.answer ∙ (ap (λ (q : Question). plain_answer q a.snapshot) t.answer.query ∙ ap (λ (h : List Operation). plain_answer c.question h) (sym taken)))
 
   -- ---- all answers
 
-  pub past : (cs : List Query) → All (IsPlaced end) cs → All (IsPast {Q = Question} (histories end.buffers)) (asks_among bs cs)
+  pub past : (cs : List AskedQuery) → All (IsPlaced end) cs → All (IsPast {Q = Question} (histories end.buffers)) (asks_among bs cs)
   past [] f = All-nil (IsPast {Q = Question} (histories end.buffers))
   past (c ∷ cs) f =
       let one = All-head (IsPlaced end) c cs f in
@@ -96,41 +96,41 @@ module _ (bs : List BufferState) (end : State) (g : AllGrow bs end.buffers) wher
       )
       (past cs (All-tail (IsPlaced end) c cs f))
 
-  abbrev AreTo : List Made → List Query → Type 0
+  abbrev AreTo : List Made → List AskedQuery → Type 0
   AreTo xs cs = AllZip (IsFinal plain_answer (histories end.buffers)) xs (asks_among bs cs)
 
-  abbrev pub replies_to : List Made → List Query → List Reply
+  abbrev pub replies_to : List Made → List AskedQuery → List Reply
   replies_to [] cs = []
   replies_to (a ∷ xs) [] = []
   replies_to (a ∷ xs) (c ∷ cs) = reply_to a c ∷ replies_to xs cs
 
-  their_queries : (xs : List Made) (cs : List Query) → AreTo xs cs → map (λ (p : Reply). p.query) (replies_to xs cs) ≡ cs
+  their_queries : (xs : List Made) (cs : List AskedQuery) → AreTo xs cs → map (λ (p : Reply). p.query) (replies_to xs cs) ≡ cs
   their_queries [] [] t = refl
   their_queries [] (c ∷ cs) t = absurd t
   their_queries (a ∷ xs) [] t = refl
-  their_queries (a ∷ xs) (c ∷ cs) t = ap (λ (ds : List Query). c ∷ ds) (their_queries xs cs t.1)
+  their_queries (a ∷ xs) (c ∷ cs) t = ap (λ (ds : List AskedQuery). c ∷ ds) (their_queries xs cs t.1)
 
-  all_within : (xs : List Made) (cs : List Query) → AreTo xs cs → All (IsPlaced end) cs → All (IsWithin end) (replies_to xs cs)
+  all_within : (xs : List Made) (cs : List AskedQuery) → AreTo xs cs → All (IsPlaced end) cs → All (IsWithin end) (replies_to xs cs)
   all_within [] cs t f = All-nil (IsWithin end)
   all_within (a ∷ xs) [] t f = All-nil (IsWithin end)
   all_within (a ∷ xs) (c ∷ cs) t f =
       All-cons (IsWithin end) (reply_to a c) (replies_to xs cs) (within_one a c t.0 (All-head (IsPlaced end) c cs f)) (all_within xs cs t.1 (All-tail (IsPlaced end) c cs f))
 
-  all_lines : (xs : List Made) (cs : List Query) → AreTo xs cs → All (IsPlaced end) cs → map line_of xs ≡ map (reply_line end) (replies_to xs cs)
+  all_lines : (xs : List Made) (cs : List AskedQuery) → AreTo xs cs → All (IsPlaced end) cs → map line_of xs ≡ map (reply_line end) (replies_to xs cs)
   all_lines [] cs t f = refl
   all_lines (a ∷ xs) [] t f = absurd t
   all_lines (a ∷ xs) (c ∷ cs) t f = ap₂ (λ (l : Report) (ls : List Report). l ∷ ls) (line_one a c t.0 (All-head (IsPlaced end) c cs f)) (all_lines xs cs t.1 (All-tail (IsPlaced end) c cs f))
 
   module _ (workers : ℕ) where
     -- where the later answer is not on fewer operations, so is the later reply
-    falls_one : (a b : Made) (c d : Query) → IsTo bs end a c → IsTo bs end b d → NeverFalls workers a b → replies.NeverFalls workers (reply_to a c) (reply_to b d)
+    falls_one : (a b : Made) (c d : AskedQuery) → IsTo bs end a c → IsTo bs end b d → NeverFalls workers a b → replies.NeverFalls workers (reply_to a c) (reply_to b d)
     falls_one a b c d t u h same_replica same_worker =
         let turn : worker_of workers a.number ≡ worker_of workers b.number =
         ap (worker_of workers) t.answer.number ∙ (same_worker ∙ ap (worker_of workers) (sym u.answer.number)) in
         let place : a.index ≡ b.index = t.answer.index ∙ (ap (index_among bs) same_replica ∙ sym u.answer.index) in
         omega (arith, h turn place)
 
-    first_falls : (a : Made) (c : Query) → IsTo bs end a c → (xs : List Made) (cs : List Query) → AreTo xs cs → All (NeverFalls workers a) xs
+    first_falls : (a : Made) (c : AskedQuery) → IsTo bs end a c → (xs : List Made) (cs : List AskedQuery) → AreTo xs cs → All (NeverFalls workers a) xs
         → All (replies.NeverFalls workers (reply_to a c)) (replies_to xs cs)
     first_falls a c t [] cs u h = All-nil (replies.NeverFalls workers (reply_to a c))
     first_falls a c t (b ∷ xs) [] u h = All-nil (replies.NeverFalls workers (reply_to a c))
@@ -138,7 +138,7 @@ module _ (bs : List BufferState) (end : State) (g : AllGrow bs end.buffers) wher
         All-cons (replies.NeverFalls workers (reply_to a c)) (reply_to b d) (replies_to xs cs) (falls_one a b c d t u.0 (All-head (NeverFalls workers a) b xs h))
         (first_falls a c t xs cs u.1 (All-tail (NeverFalls workers a) b xs h))
 
-    never_falls : (xs : List Made) (cs : List Query) → AreTo xs cs → AllPairs (NeverFalls workers) xs → AllPairs (replies.NeverFalls workers) (replies_to xs cs)
+    never_falls : (xs : List Made) (cs : List AskedQuery) → AreTo xs cs → AllPairs (NeverFalls workers) xs → AllPairs (replies.NeverFalls workers) (replies_to xs cs)
     never_falls [] cs t h = λ i j d lt within. absurd (omega arith)
     never_falls (a ∷ xs) [] t h = λ i j d lt within. absurd (omega arith)
     never_falls (a ∷ xs) (c ∷ cs) t h =

@@ -12,7 +12,7 @@ use Rattle.session_lines.proofs.Faults.{too_many, never_memory}
 use Rattle.session_replay.specs.Causes.{RoseBy}
 use Rattle.session_replay.specs.Traffic.{Had, session_limit}
 use Rattle.session_replay.specs.Queries.{IsReport}
-use Rattle.session_replay.specs.Replay.{answer_of, answer_with, large_line, refusal, written_for, AnswersSource, IsAnswer, Writes}
+use Rattle.session_replay.specs.Replay.{large_line, refusal, response_of, response_with, written_for, IsResponse, RespondsToSource, Writes}
 use Rattle.session_replay.proofs.Replies.{plain_report}
 use Rattle.command_words.specs.declared.command.Task.{Task}
 use Rattle.command_words.specs.declared.command.Task.TheVariants as task
@@ -21,19 +21,19 @@ use Rattle.session_replay.specs.declared.top.Status.TheVariants as status
 
 -- ---- the answer to an input
 
-pub large_answer : (c : Task) (input : List ℕ) → session_limit < length input → answer_of c input ≡ (status.TooLarge, large_line)
-unfolding answer_of
-large_answer c input h = ap (λ b. cond b (status.TooLarge, large_line) (answer_with c (session_of_text input))) (lt-ltb session_limit (length input) h)
+pub large_answer : (c : Task) (input : List ℕ) → session_limit < length input → response_of c input ≡ (status.TooLarge, large_line)
+unfolding response_of
+large_answer c input h = ap (λ b. cond b (status.TooLarge, large_line) (response_with c (session_of_text input))) (lt-ltb session_limit (length input) h)
 
-small_answer : (c : Task) (input : List ℕ) → length input ≤ session_limit → answer_of c input ≡ answer_with c (session_of_text input)
-unfolding answer_of
-small_answer c input le = ap (λ b. cond b (status.TooLarge, large_line) (answer_with c (session_of_text input))) (le-ltb session_limit (length input) le)
+small_answer : (c : Task) (input : List ℕ) → length input ≤ session_limit → response_of c input ≡ response_with c (session_of_text input)
+unfolding response_of
+small_answer c input le = ap (λ b. cond b (status.TooLarge, large_line) (response_with c (session_of_text input))) (le-ltb session_limit (length input) le)
 
-pub session_answer : (c : Task) (input : List ℕ) (s : Session) → length input ≤ session_limit → session_of_text input ≡ Ok s → answer_of c input ≡ (status.Done, written_for c s)
-session_answer c input s le e = small_answer c input le ∙ ap (answer_with c) e
+pub session_answer : (c : Task) (input : List ℕ) (s : Session) → length input ≤ session_limit → session_of_text input ≡ Ok s → response_of c input ≡ (status.Done, written_for c s)
+session_answer c input s le e = small_answer c input le ∙ ap (response_with c) e
 
-pub refused_answer : (c : Task) (input : List ℕ) (e : DecodeFault) → length input ≤ session_limit → session_of_text input ≡ Err e → answer_of c input ≡ refusal e
-refused_answer c input e le d = small_answer c input le ∙ ap (answer_with c) d
+pub refused_answer : (c : Task) (input : List ℕ) (e : DecodeFault) → length input ≤ session_limit → session_of_text input ≡ Err e → response_of c input ≡ refusal e
+refused_answer c input e le d = small_answer c input le ∙ ap (response_with c) d
 
 -- ---- what a status tells
 
@@ -57,7 +57,7 @@ plain_written (task.Replay workers) s text e = subst (IsReport s workers) e (pla
 plain_written task.Check s text e = sym e
 
 told_by : (c : Task) (input : List ℕ) (b : Bool) (r : Result Session DecodeFault) (st : Status) (text : List ℕ) → nat_lt session_limit (length input) ≡ b → session_of_text input ≡ r
-    → cond b (status.TooLarge, large_line) (answer_with c r) ≡ (st, text) → Told c input st text
+    → cond b (status.TooLarge, large_line) (response_with c r) ≡ (st, text) → Told c input st text
 told_by c input true r st text l d e =
     let f = first status.TooLarge st large_line text e in record {
       done = λ k. differ status.TooLarge st status.Done f k (λ x. cc);
@@ -88,11 +88,11 @@ told_by c input false (Err (Bad n w)) st text l d e =
     }
 told_by c input false (Err OutOfMemory) st text l d e = absurd (never_memory input d)
 
-plainly_told : (c : Task) (input : List ℕ) (st : Status) (text : List ℕ) → answer_of c input ≡ (st, text) → Told c input st text
-unfolding answer_of
+plainly_told : (c : Task) (input : List ℕ) (st : Status) (text : List ℕ) → response_of c input ≡ (st, text) → Told c input st text
+unfolding response_of
 plainly_told c input st text e = told_by c input (nat_lt session_limit (length input)) (session_of_text input) st text refl refl e
 
-pub told : (c : Task) (input : List ℕ) (st : Status) (text : List ℕ) → IsAnswer c input st text → Told c input st text
+pub told : (c : Task) (input : List ℕ) (st : Status) (text : List ℕ) → IsResponse c input st text → Told c input st text
 told c input st text (inl w) = record {
   done = λ k. (w.1, w.2);
   session = λ k. differ status.Done st status.Session (sym w.0) k (λ x. cc);
@@ -105,11 +105,11 @@ told c input st text (inr e) = plainly_told c input st text e
 
 module _ (c : Task) (left left_after : Option (List ℕ)) (given given_after ends ends_after : ℕ) where
   abbrev Answer : Status → List ℕ → Type 0
-  Answer st text = AnswersSource c left left_after given given_after ends ends_after st text
+  Answer st text = RespondsToSource c left left_after given given_after ends ends_after st text
 
   pub answered_large : (text : List ℕ) → text ≡ large_line → (input : List ℕ) × Had left input × (session_limit < length input) → RoseBy (session_limit + 1) given given_after → Answer status.TooLarge text
   answered_large text e h r = record {
     input = h.0;
     taken = record { had = h.1; whole = λ le. absurd (omega (arith, h.2)); large = λ _. r };
-    answer = inr (large_answer c h.0 h.2 ∙ ap (λ t. (status.TooLarge, t)) (sym e));
+    response = inr (large_answer c h.0 h.2 ∙ ap (λ t. (status.TooLarge, t)) (sym e));
   }

@@ -7,9 +7,9 @@ use Rattle.op_model.specs.Shown.{text}
 use Rattle.text_buffer.specs.Buffer.{BufferState}
 use Rattle.session_lines.specs.declared.report.Report.{Report}
 use Rattle.session_lines.specs.declared.session.SessionLine.{SessionLine}
-use Rattle.session_replay.specs.Work.{State, step}
+use Rattle.session_replay.specs.Work.{State, applied_count, step}
 use Rattle.session_replay.specs.declared.queries.Question.{Question}
-use Rattle.session_replay.specs.Queries.{Query, answer_line, count_of, plain_line, queries_from, query_at, query_of}
+use Rattle.session_replay.specs.Queries.{AskedQuery, answer_line, plain_line, queries_from, query_at, query_of}
 
 abbrev pub history : BufferState → List Operation
 history b = b.history
@@ -17,10 +17,10 @@ history b = b.history
 -- ---- one query
 
 -- the replica is there, and its line is made of what it is
-pub asked : (q r : ℕ) (ask : Question) (o : Option BufferState) (h : List Operation) (line : Report) → Some h ≡ option_map history o → line ≡ answer_line q (count_of h) ask (text h)
+pub asked : (q r : ℕ) (ask : Question) (o : Option BufferState) (h : List Operation) (line : Report) → Some h ≡ option_map history o → line ≡ answer_line q (applied_count h) ask (text h)
     → line ∷ [] ≡ map plain_line (query_of q r ask o)
 asked q r ask None h line e f = absurd (cc e)
-asked q r ask (Some b) h line e f = let same : h ≡ b.history = cc e in ap (λ (x : Report). x ∷ []) (f ∙ ap (λ (k : List Operation). answer_line q (count_of k) ask (text k)) same)
+asked q r ask (Some b) h line e f = let same : h ≡ b.history = cc e in ap (λ (x : Report). x ∷ []) (f ∙ ap (λ (k : List Operation). answer_line q (applied_count k) ask (text k)) same)
 
 -- it is not there
 pub not_asked : (q r : ℕ) (ask : Question) (o : Option BufferState) → None ≡ option_map history o → [] ≡ map plain_line (query_of q r ask o)
@@ -35,9 +35,9 @@ answers_of q ls s = map plain_line (queries_from q ls s)
 pub more_answers : (left : List SessionLine) (l : SessionLine) (rest : List SessionLine) (s t : State) → left ≡ l ∷ rest → t ≡ step l s → (old new all : List Report)
     → old ++ answers_of (length old + 1) left s ≡ all → new ≡ old ++ map plain_line (query_at (length old + 1) l s) → new ++ answers_of (length new + 1) rest t ≡ all
 more_answers left l rest s t begins is old new all e n =
-    let cs : List Query = query_at (length old + 1) l s in
+    let cs : List AskedQuery = query_at (length old + 1) l s in
     let count : length new + 1 ≡ length old + 1 + length cs = omega (arith, ap (λ (rs : List Report). length rs) n, length-append old (map plain_line cs), length-map cs plain_line) in
-    let qs : List Query = queries_from (length old + 1 + length cs) rest (step l s) in
+    let qs : List AskedQuery = queries_from (length old + 1 + length cs) rest (step l s) in
     ap (λ (k : ℕ). new ++ answers_of k rest t) count ∙ ap (λ (u : State). new ++ answers_of (length old + 1 + length cs) rest u) is
     ∙ ap (λ (rs : List Report). rs ++ map plain_line qs) n ∙ append_assoc old (map plain_line cs) (map plain_line qs)
     ∙ ap (λ (rs : List Report). old ++ rs) (sym (map-append plain_line cs qs))

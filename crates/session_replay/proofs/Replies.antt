@@ -18,27 +18,27 @@ use Rattle.session_lines.specs.declared.session.Session.{Session}
 use Rattle.session_lines.specs.declared.session.SessionLine.{SessionLine}
 use Rattle.session_lines.specs.declared.session.SessionLine.TheVariants as line
 use Rattle.session_replay.specs.declared.queries.Question.{Question}
-use Rattle.session_replay.specs.Work.{State, after_all, buffer_of, first_buffer, opening, step}
-use Rattle.session_replay.specs.Queries.{AreReplies, IsReport, IsWithin, NeverFalls, Query, Reply, answer_line, count_of, end_of, history_of, plain_line, queries_from, queries_of, query_at, query_of, query_with, question_of, reply_line, report_of, report_with}
+use Rattle.session_replay.specs.Work.{State, after_all, applied_count, buffer_of, first_buffer, opening, step}
+use Rattle.session_replay.specs.Queries.{AreReplies, AskedQuery, IsReport, IsWithin, NeverFalls, Reply, answer_line, end_of, history_of, plain_line, queries_from, queries_of, query_at, query_of, query_with, question_of, reply_line, report_of, report_with}
 use Rattle.session_replay.specs.Laws.{PlainWithWorkers, PlainWithoutQueries, PlainWithoutWorkers}
 use Rattle.session_replay.proofs.Growth.{AllGrow, AreBased, based_grow, based_one, later, lines_grow, step_keeps}
 use Rattle.query_workers.proofs.Working.{no_pairs}
 
 -- ---- fronts
 
-pub front_count : (h g : List Operation) → IsFront h g → count_of h ≤ count_of g
+pub front_count : (h g : List Operation) → IsFront h g → applied_count h ≤ applied_count g
 front_count h g f = omega (arith, front_length h g f)
 
 -- the front of a list with as many operations as one that begins it
-pub front_taken : (h g : List Operation) → IsFront h g → 1 ≤ length h → take (count_of h + 1) g ≡ h
+pub front_taken : (h g : List Operation) → IsFront h g → 1 ≤ length h → take (applied_count h + 1) g ≡ h
 front_taken h g f l =
-    let n : count_of h + 1 ≡ length h = omega arith in
+    let n : applied_count h + 1 ≡ length h = omega arith in
     ap (λ (m : ℕ). take m g) n ∙ ap (λ (x : List Operation). take (length h) x) f.1 ∙ take-append_seam h f.0
 
 -- ---- queries among the lines of a session
 
 -- the query's history begins what its replica has applied in a later state
-abbrev pub IsPlaced : State → Query → Type 0
+abbrev pub IsPlaced : State → AskedQuery → Type 0
 IsPlaced end c = IsFront c.history (history_of (buffer_of c.replica end.buffers)) × (1 ≤ length c.history)
 
 module _ (q : ℕ) (s end : State) (g : AllGrow s.buffers end.buffers) (a : AreBased s.buffers) where
@@ -64,8 +64,8 @@ all_placed q (l ∷ ls) s a =
 -- ---- a later query of a replica finds no fewer operations
 
 -- what a query of replica r finds, if this asks r
-abbrev Finds : ℕ → List Operation → Query → Type 0
-Finds r h d = r ≡ d.replica → count_of h ≤ count_of d.history
+abbrev Finds : ℕ → List Operation → AskedQuery → Type 0
+Finds r h d = r ≡ d.replica → applied_count h ≤ applied_count d.history
 
 module _ (r : ℕ) (h : List Operation) where
   same_buffer : (i : ℕ) (s : State) (b n : BufferState) → buffer_of r s.buffers ≡ Some b → buffer_of i s.buffers ≡ Some n → r ≡ i → b ≡ n
@@ -90,17 +90,17 @@ module _ (r : ℕ) (h : List Operation) where
       All-append (Finds r h) (query_at q l s) (queries_from next ls (step l s)) (query_finds q s b e f (question_of l))
       (all_find next ls (step l s) n.0 n.1 (front_trans h b.history n.0.history f n.2))
 
-abbrev Follows : Query → Query → Type 0
+abbrev Follows : AskedQuery → AskedQuery → Type 0
 Follows c d = Finds c.replica c.history d
 
 module _ (q next : ℕ) (l : SessionLine) (ls : List SessionLine) (s : State) where
-  abbrev rest : List Query
+  abbrev rest : List AskedQuery
   rest = queries_from next ls (step l s)
 
   one_pair : (r : ℕ) (ask : Question) (o : Option BufferState) → AllPairs Follows (query_of q r ask o)
   one_pair r ask None = no_pairs Follows
   one_pair r ask (Some b) =
-      let c : Query = record { number = q; replica = r; history = b.history; question = ask } in
+      let c : AskedQuery = record { number = q; replica = r; history = b.history; question = ask } in
       AllPairs-cons Follows c [] (All-nil (Follows c)) (no_pairs Follows)
 
   query_pair : (o : Option (ℕ × Question)) → AllPairs Follows (query_with q s o)
@@ -126,14 +126,14 @@ all_follow q (l ∷ ls) s =
 
 -- ---- replies on the spot
 
-abbrev on_the_spot : Query → Reply
-on_the_spot c = record { query = c; count = count_of c.history }
+abbrev on_the_spot : AskedQuery → Reply
+on_the_spot c = record { query = c; count = applied_count c.history }
 
-their_queries : (cs : List Query) → map (λ (p : Reply). p.query) (map on_the_spot cs) ≡ cs
+their_queries : (cs : List AskedQuery) → map (λ (p : Reply). p.query) (map on_the_spot cs) ≡ cs
 their_queries [] = refl
-their_queries (c ∷ cs) = ap (λ (ds : List Query). c ∷ ds) (their_queries cs)
+their_queries (c ∷ cs) = ap (λ (ds : List AskedQuery). c ∷ ds) (their_queries cs)
 
-pairs_of : (workers : ℕ) (cs : List Query) → AllPairs Follows cs → AllPairs (NeverFalls workers) (map on_the_spot cs)
+pairs_of : (workers : ℕ) (cs : List AskedQuery) → AllPairs Follows cs → AllPairs (NeverFalls workers) (map on_the_spot cs)
 pairs_of workers [] a = no_pairs (NeverFalls workers)
 pairs_of workers (c ∷ cs) a =
     let first : All (Follows c) cs = AllPairs-cross Follows (c ∷ []) cs 0 c a (omega arith) in
@@ -153,31 +153,31 @@ spot_replies s workers = record {
   queries = their_queries (queries_of s);
   within = All-map (IsWithin (end_of s)) on_the_spot (queries_of s)
       (All-weaker (IsPlaced (end_of s)) (λ c. IsWithin (end_of s) (on_the_spot c)) (λ c f. (omega arith, front_count c.history (history_of (buffer_of c.replica (end_of s).buffers)) f.0)) (queries_of s) (placed s));
-  on_the_spot = λ z. All-map (λ (p : Reply). p.count ≡ count_of p.query.history) on_the_spot (queries_of s) (λ k d lt. refl);
+  on_the_spot = λ z. All-map (λ (p : Reply). p.count ≡ applied_count p.query.history) on_the_spot (queries_of s) (λ k d lt. refl);
   never_falls = pairs_of workers (queries_of s) (all_follow 1 s.lines (opening s));
 }
 
 -- ---- their lines
 
-one_line : (end : State) (p : Reply) → p.count ≡ count_of p.query.history → IsPlaced end p.query → reply_line end p ≡ plain_line p.query
+one_line : (end : State) (p : Reply) → p.count ≡ applied_count p.query.history → IsPlaced end p.query → reply_line end p ≡ plain_line p.query
 one_line end p e f =
     let final : List Operation = history_of (buffer_of p.query.replica end.buffers) in
     ap (λ (n : ℕ). answer_line p.query.number n p.query.question (text (take (n + 1) final))) e
-    ∙ ap (λ (h : List Operation). answer_line p.query.number (count_of p.query.history) p.query.question (text h)) (front_taken p.query.history final f.0 f.1)
+    ∙ ap (λ (h : List Operation). answer_line p.query.number (applied_count p.query.history) p.query.question (text h)) (front_taken p.query.history final f.0 f.1)
 
-same_lines : (end : State) (ps : List Reply) → All (λ (p : Reply). p.count ≡ count_of p.query.history) ps → All (IsPlaced end) (map (λ (p : Reply). p.query) ps)
+same_lines : (end : State) (ps : List Reply) → All (λ (p : Reply). p.count ≡ applied_count p.query.history) ps → All (IsPlaced end) (map (λ (p : Reply). p.query) ps)
     → map (reply_line end) ps ≡ map plain_line (map (λ (p : Reply). p.query) ps)
 same_lines end [] a f = refl
 same_lines end (p ∷ ps) a f =
-    let head = one_line end p (All-head (λ (p : Reply). p.count ≡ count_of p.query.history) p ps a) (All-head (IsPlaced end) p.query (map (λ (p : Reply). p.query) ps) f) in
-    let tail = same_lines end ps (All-tail (λ (p : Reply). p.count ≡ count_of p.query.history) p ps a) (All-tail (IsPlaced end) p.query (map (λ (p : Reply). p.query) ps) f) in
+    let head = one_line end p (All-head (λ (p : Reply). p.count ≡ applied_count p.query.history) p ps a) (All-head (IsPlaced end) p.query (map (λ (p : Reply). p.query) ps) f) in
+    let tail = same_lines end ps (All-tail (λ (p : Reply). p.count ≡ applied_count p.query.history) p ps a) (All-tail (IsPlaced end) p.query (map (λ (p : Reply). p.query) ps) f) in
     cc (head, tail)
 
-plain_lines : (s : Session) (ps : List Reply) → map (λ (p : Reply). p.query) ps ≡ queries_of s → All (λ (p : Reply). p.count ≡ count_of p.query.history) ps
+plain_lines : (s : Session) (ps : List Reply) → map (λ (p : Reply). p.query) ps ≡ queries_of s → All (λ (p : Reply). p.count ≡ applied_count p.query.history) ps
     → map (reply_line (end_of s)) ps ≡ map plain_line (queries_of s)
 plain_lines s ps e a = same_lines (end_of s) ps a (All-same (IsPlaced (end_of s)) (map (λ (p : Reply). p.query) ps) (queries_of s) e (placed s)) ∙ ap (map plain_line) e
 
-plain_text : (s : Session) (ps : List Reply) → map (λ (p : Reply). p.query) ps ≡ queries_of s → All (λ (p : Reply). p.count ≡ count_of p.query.history) ps
+plain_text : (s : Session) (ps : List Reply) → map (λ (p : Reply). p.query) ps ≡ queries_of s → All (λ (p : Reply). p.count ≡ applied_count p.query.history) ps
     → report_text (report_with s (map (reply_line (end_of s)) ps)) ≡ report_text (report_of s)
 unfolding report_of
 plain_text s ps e a = ap (λ (rs : List Report). report_text (report_with s rs)) (plain_lines s ps e a)
@@ -219,7 +219,7 @@ no_queries : (q : ℕ) (ls : List SessionLine) (s : State) → query_count ls �
 no_queries q [] s e = refl
 no_queries q (l ∷ ls) s e =
     let f = none_first (is_query l) (query_count ls) (sym (sum_by-cons (λ (k : SessionLine). cond (is_query k) 1 0) l ls) ∙ e) in
-    ap (λ (cs : List Query). cs ++ queries_from (q + length cs) ls (step l s)) (no_query_of q l s f.0) ∙ no_queries (q + 0) ls (step l s) f.1
+    ap (λ (cs : List AskedQuery). cs ++ queries_from (q + length cs) ls (step l s)) (no_query_of q l s f.0) ∙ no_queries (q + 0) ls (step l s) f.1
 
 no_reply : (ps : List Reply) → map (λ (p : Reply). p.query) ps ≡ [] → ps ≡ []
 no_reply [] e = refl
@@ -229,7 +229,7 @@ one_report : (s : Session) (ps : List Reply) → query_count s.lines ≡ 0 → m
 unfolding report_of
 one_report s ps n e =
     let none : queries_of s ≡ [] = no_queries 1 s.lines (opening s) n in
-    ap (λ (ps : List Reply). report_text (report_with s (map (reply_line (end_of s)) ps))) (no_reply ps (e ∙ none)) ∙ ap (λ (cs : List Query). report_text (report_with s (map plain_line cs))) (sym none)
+    ap (λ (ps : List Reply). report_text (report_with s (map (reply_line (end_of s)) ps))) (no_reply ps (e ∙ none)) ∙ ap (λ (cs : List AskedQuery). report_text (report_with s (map plain_line cs))) (sym none)
 
 pub plain_without_queries : PlainWithoutQueries
 plain_without_queries input output workers r s d n =

@@ -11,7 +11,7 @@ use Rattle.session_lines.specs.declared.session.Session.{Session}
 use Rattle.session_lines.specs.declared.fault.Word.{Word}
 use Rattle.session_lines.specs.declared.fault.DecodeFault.{DecodeFault}
 use Rattle.session_lines.specs.declared.fault.DecodeFault.TheVariants.{Bad, Lines}
-use Rattle.session_replay.specs.Replay.{large_line, AnswersSource, Does, IsAnswer, IsOutput, Writes}
+use Rattle.session_replay.specs.Replay.{large_line, Does, IsOutput, IsResponse, RespondsToSource, Writes}
 use Rattle.command_words.specs.declared.command.Task.{Task}
 use Rattle.command_words.specs.declared.command.Task.TheVariants as task
 use Rattle.session_replay.specs.declared.top.Status.{Status}
@@ -23,10 +23,10 @@ if_had None input P h p = tt
 if_had (Some xs) input P h p = subst P h p
 
 module _ (c : Task) (left left_after : Option (List ℕ)) (given given_after ends ends_after : ℕ) (written written_after : Option (List ℕ)) (r st : Status) (shown text : List ℕ)
-    (is : shown ≡ text) (a : AnswersSource c left left_after given given_after ends ends_after st text) (either : (r ≡ st) ⊎ (r ≡ status.WriteFault))
+    (is : shown ≡ text) (a : RespondsToSource c left left_after given given_after ends ends_after st text) (either : (r ≡ st) ⊎ (r ≡ status.WriteFault))
     (whole : r ≡ st → Appends written written_after shown) where
   kept : Told c a.input st text
-  kept = told c a.input st text a.answer
+  kept = told c a.input st text a.response
 
   same_by : (d : Status) → (r ≡ st) ⊎ (r ≡ status.WriteFault) → r ≡ d → (status.WriteFault ≡ d → ⊥) → (st ≡ d) × (r ≡ st)
   same_by d (inl e) k n = (sym e ∙ k, e)
@@ -100,14 +100,14 @@ module _ (c : Task) (left left_after : Option (List ℕ)) (given given_after end
     sent_by (inr e) = absurd (no_fault e)
 
     -- what answers a session is not the text of a bad line, nor of too many bytes
-    done_by : (s : Session) → length a.input ≤ session_limit → session_of_text a.input ≡ Ok s → IsAnswer c a.input st text → st ≡ status.Done
+    done_by : (s : Session) → length a.input ≤ session_limit → session_of_text a.input ≡ Ok s → IsResponse c a.input st text → st ≡ status.Done
     done_by s le e (inl w) = w.0
     done_by s le e (inr k) = ap (λ p. p.0) (sym k ∙ session_answer c a.input s le e)
 
     pub completes : IfSome left (λ input. length input ≤ session_limit → (s : Session) → session_of_text input ≡ Ok s → (r ≡ status.Done) ⊎ (r ≡ status.Memory))
     completes =
         if_had left a.input (λ input. length input ≤ session_limit → (s : Session) → session_of_text input ≡ Ok s → (r ≡ status.Done) ⊎ (r ≡ status.Memory)) a.taken.had
-        (λ le s e. inl (sent_by either ∙ done_by s le e a.answer))
+        (λ le s e. inl (sent_by either ∙ done_by s le e a.response))
 
     none_done : st ≡ status.Done → (session_limit < length a.input) ⊎ ((e : DecodeFault) × (session_of_text a.input ≡ Err e)) → ⊥
     none_done k (inl h) = omega (arith, (kept.done k).0)
@@ -130,5 +130,5 @@ no_fault_by st (inr (inl e)) k = let f : status.Session ≡ status.WriteFault = 
 no_fault_by st (inr (inr e)) k = let f : status.TooLarge ≡ status.WriteFault = sym e ∙ k in cc
 
 pub never_fails : (c : Task) (left left_after : Option (List ℕ)) (given given_after ends ends_after : ℕ) (st : Status) (text : List ℕ)
-    → AnswersSource c left left_after given given_after ends ends_after st text → st ≡ status.WriteFault → ⊥
-never_fails c left left_after given given_after ends ends_after st text a = no_fault_by st (told c a.input st text a.answer).kinds
+    → RespondsToSource c left left_after given given_after ends ends_after st text → st ≡ status.WriteFault → ⊥
+never_fails c left left_after given given_after ends ends_after st text a = no_fault_by st (told c a.input st text a.response).kinds

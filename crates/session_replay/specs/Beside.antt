@@ -17,9 +17,9 @@ use Rattle.query_dispatch.specs.Dealt.{HasAsked, pairs_in, queues_of}
 use Rattle.query_dispatch.specs.Published.{AreLevel, AreTied, rows_of, published_lists}
 use Rattle.query_dispatch.specs.Final.{IsReady}
 use Rattle.query_dispatch.specs.States.{DispatcherState, PublishersState}
-use Rattle.session_replay.specs.Queries.{Query, count_of, queries_from}
+use Rattle.session_replay.specs.Queries.{AskedQuery, queries_from}
 use Rattle.session_replay.specs.declared.queries.Question.{Question}
-use Rattle.session_replay.specs.Work.{after_all, all_events}
+use Rattle.session_replay.specs.Work.{after_all, all_events, applied_count}
 use Rattle.session_replay.specs.Working.{state_of}
 use Rattle.session_replay.specs.declared.beside.Editor.{Editor}
 use Rattle.session_replay.specs.declared.beside.Edited.{Edited}
@@ -33,16 +33,16 @@ abbrev pub index_among : List BufferState → ℕ → ℕ
 index_among bs r = position_or_len (λ (b : BufferState). b.replica == r) bs
 
 -- what a query asks of a worker, its replica being named by its index
-abbrev pub ask_among : List BufferState → Query → Ask Question
+abbrev pub ask_among : List BufferState → AskedQuery → Ask Question
 ask_among bs c =
     record { number = c.number; index = index_among bs c.replica; query = c.question; history = c.history }
 
-abbrev pub asks_among : List BufferState → List Query → List (Ask Question)
+abbrev pub asks_among : List BufferState → List AskedQuery → List (Ask Question)
 asks_among bs cs = map (ask_among bs) cs
 
 -- the line of an answer
 abbrev pub line_of : Answer Question QueryAnswer → Report
-line_of a = report.Query a.number (count_of a.snapshot) a.answer
+line_of a = report.Query a.number (applied_count a.snapshot) a.answer
 
 -- an editor over these buffers that has asked this: each pair shows a front of what its replica has applied
 pub record IsAsking (bs : List BufferState) (asks : List (Ask Question))
@@ -56,7 +56,7 @@ pub record IsAsking (bs : List BufferState) (asks : List (Ask Question))
 -- an editor over bs asks more, and is over cs then: whatever it had asked, it has asked these queries too, the first of which has
 -- the next number
 abbrev pub AsksMore : List BufferState → DispatcherState Question → PublishersState
-    → (ℕ → List Query) → List BufferState → DispatcherState Question → PublishersState → Type 0
+    → (ℕ → List AskedQuery) → List BufferState → DispatcherState Question → PublishersState → Type 0
 AsksMore bs d p queries cs e q = (asks : List (Ask Question))
     → IsAsking bs asks d p → IsAsking cs (asks ++ asks_among bs (queries (length asks + 1))) e q
 

@@ -46,14 +46,15 @@ abbrev pub anchor_answer : Option PlaceFault → AnchorAnswer
 anchor_answer None = anchor.Set
 anchor_answer (Some e) = anchor.Fault e
 
-abbrev pub place_answer : Option ℕ → WhereAnswer
-place_answer None = position.Unknown
-place_answer (Some o) = position.Offset o
+-- what is told of a place, which may be unknown
+abbrev pub where_at : Option ℕ → WhereAnswer
+where_at None = position.Unknown
+where_at (Some o) = position.Offset o
 
 -- where an anchor, if there is one, is in the text of h
 abbrev pub where_answer : Option Anchor → History → WhereAnswer
 where_answer None h = position.Nothing
-where_answer (Some a) h = place_answer (known_place h a)
+where_answer (Some a) h = where_at (known_place h a)
 
 -- ---- versions
 

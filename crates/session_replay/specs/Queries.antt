@@ -1,5 +1,5 @@
 -- The queries of a session: what they ask, the plain answers, and on which text each may be answered.
-use Rattle.std.specs.Prelude.{◌≡◌, ℕ, ◌+◌, ◌-◌, ◌%◌, ◌≤◌, ◌==◌, List, [], ◌∷◌, ◌++◌, length, map, take, Option, None, Some, if◌then◌else◌}
+use Rattle.std.specs.Prelude.{◌≡◌, ℕ, ◌+◌, ◌≤◌, ◌==◌, List, [], ◌∷◌, ◌++◌, length, map, take, Option, None, Some, if◌then◌else◌}
 use Rattle.std.specs.List.{All, AllPairs, flat_map}
 use Rattle.std.specs.Option.{option_map, unwrap_or}
 use Rattle.text_dims.specs.declared.points.Point.{Point}
@@ -23,9 +23,10 @@ use Rattle.session_lines.specs.declared.report.QueryAnswer.{QueryAnswer}
 use Rattle.session_lines.specs.declared.report.QueryAnswer.TheVariants as query
 use Rattle.session_lines.specs.declared.report.Report.{Report}
 use Rattle.session_lines.specs.declared.report.Report.TheVariants as report
+use Rattle.query_workers.specs.Asks.{worker_of}
 use Rattle.session_replay.specs.declared.queries.Question.{Question}
 use Rattle.session_replay.specs.declared.queries.Question.TheVariants.{StartsOf, PointOf, OffsetOf}
-use Rattle.session_replay.specs.Work.{State, after_all, all_events, at_end, buffer_of, opening, step}
+use Rattle.session_replay.specs.Work.{State, after_all, all_events, applied_count, at_end, buffer_of, opening, step}
 
 -- ---- the plain answers, on a text
 
@@ -82,15 +83,11 @@ question_of (line.Offset r row column) = Some (r, OffsetOf (record { row = row; 
 -- ---- the queries of a session
 
 -- a query: its number, the replica that it asks, what that has applied at the query's place in the session, and what it asks
-pub record Query : Type 0 where
+pub record AskedQuery : Type 0 where
   pub number : ℕ
   pub replica : ℕ
   pub history : List Operation
   pub question : Question
-
--- how many operations a history has, the base not counted
-abbrev pub count_of : List Operation → ℕ
-count_of h = length h - 1
 
 -- what a replica has applied, the base first
 abbrev pub history_of : Option BufferState → List Operation
@@ -98,24 +95,24 @@ history_of None = []
 history_of (Some b) = b.history
 
 -- query q of a replica's buffer; a replica that is not there is not asked
-abbrev pub query_of : ℕ → ℕ → Question → Option BufferState → List Query
+abbrev pub query_of : ℕ → ℕ → Question → Option BufferState → List AskedQuery
 query_of q r ask None = []
 query_of q r ask (Some b) = record { number = q; replica = r; history = b.history; question = ask } ∷ []
 
-abbrev pub query_with : ℕ → State → Option (ℕ × Question) → List Query
+abbrev pub query_with : ℕ → State → Option (ℕ × Question) → List AskedQuery
 query_with q s None = []
 query_with q s (Some a) = query_of q a.0 a.1 (buffer_of a.0 s.buffers)
 
 -- the query that a line is, as query q
-abbrev pub query_at : ℕ → SessionLine → State → List Query
+abbrev pub query_at : ℕ → SessionLine → State → List AskedQuery
 query_at q l s = query_with q s (question_of l)
 
 -- the queries of the lines, numbered from q
-abbrev pub queries_from : ℕ → List SessionLine → State → List Query
+abbrev pub queries_from : ℕ → List SessionLine → State → List AskedQuery
 queries_from q [] s = []
 queries_from q (l ∷ ls) s = query_at q l s ++ queries_from (q + length (query_at q l s)) ls (step l s)
 
-abbrev pub queries_of : Session → List Query
+abbrev pub queries_of : Session → List AskedQuery
 queries_of s = queries_from 1 s.lines (opening s)
 
 -- ---- reports
@@ -129,8 +126,8 @@ abbrev pub report_with : Session → List Report → List Report
 report_with s answers = all_events s.lines (opening s) ++ (answers ++ flat_map at_end (end_of s).buffers)
 
 -- the line of a query that is answered on the spot, at its place in the session
-abbrev pub plain_line : Query → Report
-plain_line c = answer_line c.number (count_of c.history) c.question (text c.history)
+abbrev pub plain_line : AskedQuery → Report
+plain_line c = answer_line c.number (applied_count c.history) c.question (text c.history)
 
 -- the plain report: each query is answered on the spot
 unfoldable pub report_of : Session → List Report
@@ -140,7 +137,7 @@ report_of s = report_with s (map plain_line (queries_of s))
 
 -- a query, and the number of the operations on which it is answered, the base not counted
 pub record Reply : Type 0 where
-  pub query : Query
+  pub query : AskedQuery
   pub count : ℕ
 
 -- what the replica of a reply has applied at the end of the session
@@ -153,23 +150,19 @@ reply_line end p = answer_line p.query.number p.count p.query.question (text (ta
 
 -- a reply counts no less than was applied at its query's place, and no more than is applied at the end
 abbrev pub IsWithin : State → Reply → Type 0
-IsWithin end p = (count_of p.query.history ≤ p.count) × (p.count ≤ count_of (final_of end p))
-
--- the worker that a query goes to, of so many
-abbrev pub worker_of : ℕ → Query → ℕ
-worker_of workers c = (c.number - 1) % workers
+IsWithin end p = (applied_count p.query.history ≤ p.count) × (p.count ≤ applied_count (final_of end p))
 
 -- where two queries of one replica go to one worker, the later is not answered on fewer operations
 abbrev pub NeverFalls : ℕ → Reply → Reply → Type 0
 NeverFalls workers p q =
-    p.query.replica ≡ q.query.replica → worker_of workers p.query ≡ worker_of workers q.query
+    p.query.replica ≡ q.query.replica → worker_of workers p.query.number ≡ worker_of workers q.query.number
     → p.count ≤ q.count
 
 -- the replies to the queries of a session, in their order, with so many workers; with none each query is answered on the spot
 pub record AreReplies (s : Session) (workers : ℕ) (ps : List Reply) : Type 0 where
   pub queries : map (λ (p : Reply). p.query) ps ≡ queries_of s
   pub within : All (IsWithin (end_of s)) ps
-  pub on_the_spot : workers ≡ 0 → All (λ (p : Reply). p.count ≡ count_of p.query.history) ps
+  pub on_the_spot : workers ≡ 0 → All (λ (p : Reply). p.count ≡ applied_count p.query.history) ps
   pub never_falls : AllPairs (NeverFalls workers) ps
 
 -- the text is the session's report with some replies to its queries that so many workers may give

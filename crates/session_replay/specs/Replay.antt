@@ -39,7 +39,7 @@ usage_line = codes "usage: zedbuf replay [--workers N] | check | make --seed N -
 abbrev pub large_line : List ℕ
 large_line = codes "too large: bytes\n"
 
--- ---- the plain answer to an input: the status and the output, each query of a session being answered on the spot
+-- ---- the plain response to an input: the status and the output, each query of a session being answered on the spot
 
 -- want of memory is no part of what an input is
 abbrev pub refusal : DecodeFault → Status × List ℕ
@@ -52,15 +52,15 @@ abbrev pub written_for : Task → Session → List ℕ
 written_for (task.Replay workers) s = report_text (report_of s)
 written_for task.Check s = line_text (session_counts s)
 
-abbrev pub answer_with : Task → Result Session DecodeFault → Status × List ℕ
-answer_with c (Ok s) = (status.Done, written_for c s)
-answer_with c (Err e) = refusal e
+abbrev pub response_with : Task → Result Session DecodeFault → Status × List ℕ
+response_with c (Ok s) = (status.Done, written_for c s)
+response_with c (Err e) = refusal e
 
-unfoldable pub answer_of : Task → List ℕ → Status × List ℕ
-answer_of c input =
+unfoldable pub response_of : Task → List ℕ → Status × List ℕ
+response_of c input =
     if nat_lt session_limit (length input)
     then (status.TooLarge, large_line)
-    else answer_with c (session_of_text input)
+    else response_with c (session_of_text input)
 
 -- ---- what may be written for an input
 
@@ -98,14 +98,14 @@ IsWork c input st text =
     (st ≡ status.Done) × (length input ≤ session_limit)
     × ((s : Session) × (session_of_text input ≡ Ok s) × Writes c s text)
 
--- the status and the text answer an input: the plain answer, or what workers make of a session
-abbrev pub IsAnswer : Task → List ℕ → Status → List ℕ → Type 0
-IsAnswer c input st text = IsWork c input st text ⊎ (answer_of c input ≡ (st, text))
+-- the status and the text respond to an input: the plain response, or what workers make of a session
+abbrev pub IsResponse : Task → List ℕ → Status → List ℕ → Type 0
+IsResponse c input st text = IsWork c input st text ⊎ (response_of c input ≡ (st, text))
 
--- the status and the text that answer what a source had left
-pub record AnswersSource (c : Task) (left left_after : Option (List ℕ))
+-- the status and the text that respond to what a source had left
+pub record RespondsToSource (c : Task) (left left_after : Option (List ℕ))
     (given given_after ends ends_after : ℕ)
     (status : Status) (text : List ℕ) : Type 0 where
   pub input : List ℕ
   pub taken : WasTaken left left_after given given_after ends ends_after input
-  pub answer : IsAnswer c input status text
+  pub response : IsResponse c input status text

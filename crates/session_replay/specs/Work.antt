@@ -205,11 +205,15 @@ after_all (l ∷ ls) s = after_all ls (step l s)
 abbrev pub refused_report : ℕ → Lamport × OpFault → Report
 refused_report r e = report.Refused r e.0 e.1
 
+-- how many operations a history has, the base not counted
+abbrev pub applied_count : List Operation → ℕ
+applied_count h = length h - 1
+
 -- what a replica counts at the end; the base is no applied operation
 abbrev pub counts_report : BufferState → Report
 counts_report b =
     report.Replica b.replica (length (text b.history)) (feeds (text b.history) + 1)
-    (length b.history - 1) (length b.waiting) (length b.refused)
+    (applied_count b.history) (length b.waiting) (length b.refused)
 
 -- what a replica reports at the end
 abbrev pub at_end : BufferState → List Report

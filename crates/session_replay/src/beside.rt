@@ -234,7 +234,7 @@ fn tell_workers(
 }
 
 /// The lines of the answers.
-fn lines_of(
+fn answer_lines(
     alloc: Global,
     answers: Vec<Answer<Question, QueryAnswer>>,
 ) -> Result<Vec<Report>, OutOfMemory>
@@ -255,7 +255,7 @@ fn lines_of(
 }
 
 /// The text of the report, with the workers' answers in the order of the queries.
-fn gather<R: Threads + Sync>(
+fn gathered_report<R: Threads + Sync>(
     rt: &R,
     alloc: Global,
     edited: Edited,
@@ -279,8 +279,8 @@ fn gather<R: Threads + Sync>(
     } = edited;
     let lasts = progress.snapshots(alloc)?;
     let answers = gathering.gather(rt, alloc, dones, lasts.as_slice())?;
-    let lines = lines_of(alloc, answers)?;
-    progress.report_with(alloc, lines.as_slice())
+    let lines = answer_lines(alloc, answers)?;
+    progress.finish(alloc, lines.as_slice())
 }
 
 /// Runs the editor beside its workers, until all have ended.
@@ -336,7 +336,7 @@ fn replay_beside<R: Threads + Wait + Sync, G: Gate>(
         dispatcher,
     };
     let (edited, dones) = edit_beside(rt, alloc, gate, publishers, editor, desks, lines)?;
-    gather(rt, alloc, edited, dones)
+    gathered_report(rt, alloc, edited, dones)
 }
 
 /// The text of a session's report, its queries answered by so many workers, each in a thread, beside the editor.

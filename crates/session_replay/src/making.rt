@@ -1,5 +1,6 @@
 //! A session that is made, worked as it is made.
 ghost use Rattle.op_model.specs.Domains.{IsReplica};
+ghost use Rattle.op_model.specs.Operations.{last_replica};
 ghost use Rattle.std.specs.Prelude.{◌≡◌, ◌≤◌, ◌<◌, ◌^◌, ◌++◌, [], ◌∷◌, length, ℕ, string_bytes, IfOk, OnOk};
 ghost use Rattle.std.specs.List.{All, flat_map, range_with_len};
 ghost use Rattle.session_maker.specs.Made.{gives_behind, gives_to, ids_to, rounds_from};
@@ -15,7 +16,7 @@ use session_maker::{Draws, author, turn};
 use std::alloc::Global;
 
 /// The text that each replica begins with.
-const BASE: &str = "ab\ncd\n";
+const BASE_TEXT: &str = "ab\ncd\n";
 
 /// Behind so many turns all replicas are given what was done in them.
 const TURNS: u64 = 8;
@@ -33,13 +34,13 @@ pub struct Making {
 
 impl Making {
     fn new(alloc: Global, seed: u32, ids: &[u16]) -> Result<Making, OutOfMemory>
-        requires ids { ids.now ≡ ids_to (length ids.now) }
-        requires editors { All IsReplica ids.now }
+        requires counted { ids.now ≡ ids_to (length ids.now) }
+        requires ids { All IsReplica ids.now }
         ensures state { IfOk result (λ m. work_state m ≡ made_opening (length ids.now)) }
         ensures draws { IfOk result (λ m. m.draws ≡ seed) }
         ensures lines { IfOk result (λ m. m.lines.items ≡ []) }
     {
-        let progress = Progress::new(alloc, ids, BASE)?;
+        let progress = Progress::new(alloc, ids, BASE_TEXT)?;
         Ok(Making {
             progress,
             draws: Draws::new(seed),
@@ -99,7 +100,7 @@ impl Making {
     /// Gives all replicas what was done in the last turns, where so many were taken.
     fn give_last(&mut self, alloc: Global, ids: &[u16], number: u64) -> Result<(), OutOfMemory>
         requires first { 0 < number }
-        requires ids { ids.now ≡ ids_to (length ids.now) }
+        requires counted { ids.now ≡ ids_to (length ids.now) }
         ensures { OnOk result (Works self.old self.new self.old.draws
             (gives_behind (length ids.now) number)) }
     {
@@ -116,7 +117,7 @@ impl Making {
     fn work_round(&mut self, alloc: Global, ids: &[u16], number: u64) -> Result<(), OutOfMemory>
         requires some { 0 < length ids.now }
         requires few { length ids.now < 2 ^ 16 }
-        requires ids { ids.now ≡ ids_to (length ids.now) }
+        requires counted { ids.now ≡ ids_to (length ids.now) }
         requires first { 0 < number }
         ensures { OnOk result (WorksRound self.old self.new (length ids.now) number) }
     {
@@ -129,7 +130,7 @@ impl Making {
     fn work_rounds(&mut self, alloc: Global, ids: &[u16], edits: u64) -> Result<(), OutOfMemory>
         requires some { 0 < length ids.now }
         requires few { length ids.now < 2 ^ 16 }
-        requires ids { ids.now ≡ ids_to (length ids.now) }
+        requires counted { ids.now ≡ ids_to (length ids.now) }
         requires edits { edits < 2 ^ 32 }
         ensures lines { OnOk result (self.new.lines.items
             ≡ self.old.lines.items
@@ -214,7 +215,7 @@ fn have_equal_texts(replicas: &[Replica]) -> Result<bool, OutOfMemory>
 
 /// The numbers from 1 on, so many of them.
 fn ids_to(alloc: Global, count: u16) -> Result<Vec<u16>, OutOfMemory>
-    requires { count ≤ 1023 }
+    requires { count ≤ last_replica }
     ensures { IfOk result (λ v. v.items ≡ ids_to count) }
 {
     let mut ids = Vec::new(alloc);
@@ -246,7 +247,7 @@ fn numbers_to(alloc: Global, count: u64) -> Result<Vec<u64>, OutOfMemory>
 /// Want of memory alone.
 pub fn make(alloc: Global, seed: u32, replicas: u16, edits: u32) -> Result<Vec<u8>, OutOfMemory>
     requires some { 1 ≤ replicas }
-    requires few { replicas ≤ 1023 }
+    requires few { replicas ≤ last_replica }
     ensures { IfOk result (λ v. v.items ≡ summary_of (made_session seed replicas edits)) }
 {
     let ids = ids_to(alloc, replicas)?;

@@ -8,7 +8,8 @@ ghost use Rattle.snapshot_search.specs.declared.fault.FindFault.{FindFault};
 ghost use Rattle.session_lines.specs.declared.session.SessionLine.{SessionLine};
 ghost use Rattle.session_lines.specs.declared.report.Report.{Report};
 ghost use Rattle.session_replay.specs.Working.{state_of};
-ghost use Rattle.session_replay.specs.Queries.{answer_line, count_of, find_answer, offset_answer, place_answer, plain_line, point_answer, query_at, question_of};
+ghost use Rattle.session_replay.specs.Work.{applied_count};
+ghost use Rattle.session_replay.specs.Queries.{answer_line, find_answer, offset_answer, place_answer, plain_line, point_answer, query_at, question_of};
 ghost use Rattle.session_replay.specs.declared.queries.Question.TheVariants.{OffsetOf, PointOf, StartsOf};
 
 use crate::OutOfMemory;
@@ -89,7 +90,7 @@ pub fn question_of(line: SessionLine) -> Result<(u16, Question), SessionLine>
 
 // How many operations it has, the base not counted.
 fn applied_count(snapshot: &Snapshot) -> u64
-    ensures { result ≡ count_of snapshot.now }
+    ensures { result ≡ applied_count snapshot.now }
 {
     snapshot.applied().len().saturating_sub(1)
 }
@@ -169,7 +170,7 @@ fn offset_answer(rope: &Rope, point: Point) -> OffsetAnswer
 
 /// The line of a query with that number, which was answered so on the snapshot.
 pub fn query_line(number: u64, answer: QueryAnswer, snapshot: &Snapshot) -> Report
-    ensures { result ≡ Report.Query number (count_of snapshot.now) answer }
+    ensures { result ≡ Report.Query number (applied_count snapshot.now) answer }
 {
     Report::Query {
         number,
@@ -186,7 +187,8 @@ fn find_line(
     snapshot: &Snapshot,
 ) -> Result<Report, OutOfMemory>
     ensures { IfOk result (λ line. line
-        ≡ answer_line number (count_of snapshot.now) (StartsOf needle.now) (text snapshot.now)) }
+        ≡ answer_line number (applied_count snapshot.now) (StartsOf needle.now)
+        (text snapshot.now)) }
 {
     let answer = find_answer(alloc, snapshot.text(), needle)?;
     Ok(query_line(number, QueryAnswer::Find(answer), snapshot))
@@ -194,7 +196,7 @@ fn find_line(
 
 // The point at a byte offset of the snapshot's text.
 fn point_line(number: u64, offset: u64, snapshot: &Snapshot) -> Report
-    ensures { result ≡ answer_line number (count_of snapshot.now) (PointOf offset)
+    ensures { result ≡ answer_line number (applied_count snapshot.now) (PointOf offset)
         (text snapshot.now) }
 {
     let answer = point_answer(snapshot.text(), offset);
@@ -203,7 +205,7 @@ fn point_line(number: u64, offset: u64, snapshot: &Snapshot) -> Report
 
 // The byte offset at a point of the snapshot's text.
 fn offset_line(number: u64, point: Point, snapshot: &Snapshot) -> Report
-    ensures { result ≡ answer_line number (count_of snapshot.now) (OffsetOf point)
+    ensures { result ≡ answer_line number (applied_count snapshot.now) (OffsetOf point)
         (text snapshot.now) }
 {
     let answer = offset_answer(snapshot.text(), point);
@@ -232,8 +234,10 @@ impl Progress {
             SessionLine::Where { .. } => Ok(None),
             SessionLine::Mark { .. } => Ok(None),
             SessionLine::Since { .. } => Ok(None),
-            SessionLine::Find { replica, needle } => self.find(alloc, number, *replica, needle),
-            SessionLine::Point { replica, offset } => self.point(number, *replica, *offset),
+            SessionLine::Find { replica, needle } => self.answer_find(
+                alloc, number, *replica, needle,
+            ),
+            SessionLine::Point { replica, offset } => self.answer_point(number, *replica, *offset),
             SessionLine::Offset {
                 replica,
                 row,
@@ -243,12 +247,13 @@ impl Progress {
                     row: *row,
                     column: *column,
                 };
-                self.offset(number, *replica, point)
+                self.answer_offset(number, *replica, point)
             }
         }
     }
 
-    fn find(
+    /// The line of a query for the places of a needle, where the replica is there.
+    fn answer_find(
         &self,
         alloc: Global,
         number: u64,
@@ -265,7 +270,8 @@ impl Progress {
         }
     }
 
-    fn point(&self, number: u64, id: u16, offset: u64) -> Result<Option<Report>, OutOfMemory>
+    /// The line of a query for the point at a byte offset, where the replica is there.
+    fn answer_point(&self, number: u64, id: u16, offset: u64) -> Result<Option<Report>, OutOfMemory>
         ensures { IfOk result (λ r. option_to_list r
             ≡ map plain_line (query_at number (SessionLine.Point id offset) (state_of self.now))) }
     {
@@ -275,7 +281,13 @@ impl Progress {
         }
     }
 
-    fn offset(&self, number: u64, id: u16, point: Point) -> Result<Option<Report>, OutOfMemory>
+    /// The line of a query for the byte offset at a point, where the replica is there.
+    fn answer_offset(
+        &self,
+        number: u64,
+        id: u16,
+        point: Point,
+    ) -> Result<Option<Report>, OutOfMemory>
         ensures { IfOk result (λ r. option_to_list r
             ≡ map plain_line (query_at number (SessionLine.Offset id point.row point.column)
             (state_of self.now))) }

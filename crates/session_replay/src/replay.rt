@@ -363,7 +363,7 @@ impl Progress {
         self.replicas.as_slice()
     }
 
-    /// The place of the replica with that id.
+    /// The index of the replica with that id.
     pub fn index_of(&self, id: u16) -> Option<usize>
         ensures { result ≡ position (λ b. b.replica == id) self.now.replicas }
     {
@@ -378,7 +378,7 @@ impl Progress {
     }
 
     /// The text of the report, with these lines for the queries.
-    pub fn report_with(mut self, alloc: Global, answers: &[Report]) -> Result<Vec<u8>, OutOfMemory>
+    pub fn finish(mut self, alloc: Global, answers: &[Report]) -> Result<Vec<u8>, OutOfMemory>
         ensures { IfOk result (λ v. v.items
             ≡ (self.report.items ++ report_text answers.now)
             ++ report_text (flat_map at_end self.replicas)) }
@@ -401,7 +401,7 @@ impl Progress {
 }
 
 /// Answers the line on the spot, where it is a query.
-fn answer_line(
+fn answer_if_query(
     progress: &Progress,
     alloc: Global,
     line: &SessionLine,
@@ -435,7 +435,7 @@ fn work_lines(
         (queries_from (length answers.old.items + 1) lines.items (state_of progress.old))) }
 {
     for line in lines {
-        answer_line(progress, alloc, &line, answers)?;
+        answer_if_query(progress, alloc, &line, answers)?;
         progress.work_line(alloc, line)?;
     }
     Ok(())

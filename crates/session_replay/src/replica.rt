@@ -34,9 +34,9 @@ impl Model for Replica {
 
     ghost view = { λ r. r.buffer };
 
-    ghost use Rattle.session_replay.specs.ReplicaId.{IsReplica};
+    ghost use Rattle.session_replay.specs.ReplicaId.{GoesByBuffersId};
 
-    ghost invariant = { IsReplica };
+    ghost invariant = { GoesByBuffersId };
 }
 
 impl Replica {

@@ -12,7 +12,7 @@ ghost use Rattle.session_lines.specs.Words.{bad_line, many_line};
 ghost use Rattle.session_lines.specs.Report.{session_counts, line_text};
 ghost use Rattle.session_replay.specs.Making.{Makes};
 ghost use Rattle.session_replay.specs.Queries.{IsReport};
-ghost use Rattle.session_replay.specs.Replay.{AnswersSource, Does, Ends, IsAnswer, IsOutput, Writes, large_line, usage_line};
+ghost use Rattle.session_replay.specs.Replay.{Does, Ends, IsOutput, IsResponse, RespondsToSource, Writes, large_line, usage_line};
 ghost use Rattle.session_lines.specs.declared.session.Session.{Session};
 ghost use Rattle.session_lines.specs.declared.fault.Word.{Word};
 ghost use Rattle.session_lines.specs.declared.fault.DecodeFault.{DecodeFault};
@@ -33,7 +33,7 @@ use std::thread::Threads;
 /// What the program ends with; its number is the exit status.
 #[derive(Clone, Copy, Debug, PartialEq, Eq)]
 pub enum Status {
-    /// The report was written whole.
+    /// What the command makes was written whole.
     Done = 0,
     /// Memory was wanted; nothing was written.
     Memory = 1,
@@ -76,7 +76,7 @@ fn check(alloc: Global, session: &Session) -> Result<Vec<u8>, OutOfMemory>
 }
 
 /// The text of a session's report. Without workers each query is answered on the spot, and the gate is not called.
-fn report_with<R: Threads + Wait + Sync, G: Gate>(
+fn replay_report<R: Threads + Wait + Sync, G: Gate>(
     rt: &R,
     alloc: Global,
     gate: &G,
@@ -105,14 +105,14 @@ fn task_output<R: Threads + Wait + Sync, G: Gate>(
     ensures { IfOk result (λ v. Writes task session v.items) }
 {
     match task {
-        Task::Replay { workers } => report_with(rt, alloc, gate, workers, session),
+        Task::Replay { workers } => replay_report(rt, alloc, gate, workers, session),
         Task::Check => check(alloc, &session),
     }
 }
 
 /// What the task writes for an input, with the status.
-#[tactic(auto, unfolding(crate::specs::Replay::answer_of))]
-fn answer<R: Threads + Wait + Sync, G: Gate>(
+#[tactic(auto, unfolding(crate::specs::Replay::response_of))]
+fn respond<R: Threads + Wait + Sync, G: Gate>(
     rt: &R,
     alloc: Global,
     gate: &G,
@@ -120,7 +120,7 @@ fn answer<R: Threads + Wait + Sync, G: Gate>(
     input: &[u8],
 ) -> Result<(Status, Vec<u8>), OutOfMemory>
     requires { length input.now ≤ session_limit }
-    ensures { IfOk result (λ p. IsAnswer task input.now p.0 p.1.items) }
+    ensures { IfOk result (λ p. IsResponse task input.now p.0 p.1.items) }
 {
     match decode(alloc, input) {
         Ok(session) => Ok((Status::Done, task_output(rt, alloc, gate, task, session)?)),
@@ -150,22 +150,22 @@ fn send<O: Sink>(out: &mut O, text: &[u8], status: Status) -> Status
     }
 }
 
-/// Reads all that there is, at most one byte past the limit, and answers it.
-fn answer_source<R: Threads + Wait + Sync, I: Source, G: Gate>(
+/// Reads all that there is, at most one byte past the limit, and responds to it.
+fn respond_to_source<R: Threads + Wait + Sync, I: Source, G: Gate>(
     rt: &R,
     alloc: Global,
     gate: &G,
     task: Task,
     src: &mut I,
 ) -> Result<(Status, Vec<u8>), InputFault>
-    ensures answer { IfOk result (λ p. AnswersSource task (I.left src.old) (I.left src.new)
+    ensures response { IfOk result (λ p. RespondsToSource task (I.left src.old) (I.left src.new)
         (I.given src.old) (I.given src.new) (I.ends src.old) (I.ends src.new) p.0 p.1.items) }
     ensures failed { IsErrOf result InputFault.Failed → Rose (I.faults src.old) (I.faults src.new) }
     ensures answered { IsErrOf result InputFault.TooLarge → ⊥ }
     ensures bounded { I.given src.new ≤ I.given src.old + (session_limit + 1) }
 {
     match read_all(alloc, src) {
-        Ok(input) => Ok(answer(rt, alloc, gate, task, input.as_slice())?),
+        Ok(input) => Ok(respond(rt, alloc, gate, task, input.as_slice())?),
         Err(InputFault::TooLarge) => Ok((Status::TooLarge, bytes_of(alloc, "too large: bytes\n")?)),
         Err(fault) => Err(fault),
     }
@@ -223,7 +223,7 @@ fn work<R: Threads + Wait + Sync, I: Source, O: Sink, G: Gate>(
         ⊎ ((e : DecodeFault) × (session_of_text input ≡ Err e))
         → (result ≡ Status.Session) ⊎ ((result ≡ Status.TooLarge) ⊎ (result ≡ Status.Memory))) }
 {
-    match answer_source(rt, alloc, gate, task, src) {
+    match respond_to_source(rt, alloc, gate, task, src) {
         Ok((status, text)) => send(out, text.as_slice(), status),
         Err(InputFault::Failed) => Status::ReadFault,
         Err(_) => Status::Memory,
@@ -259,8 +259,8 @@ fn make_session<O: Sink>(alloc: Global, seed: u32, replicas: u16, edits: u32, ou
 ///
 /// The input and the report are held whole. An edit or undo, made or taken, costs a few descents for each of its pieces and for
 /// each run of bytes that it shows or hides, and a line that shows a text as much as the text. A `give` makes the buffer a further
-/// owner of the one operation that it names. A query is answered on a snapshot, for which nothing is copied: a `find` goes over the text once, and keeps 8 bytes for
-/// each place; a `point` or an `offset` goes down the rope.
+/// owner of the one operation that it names. A query is answered on a snapshot, for which nothing is copied: a `find` goes over the
+/// text once, and keeps 8 bytes for each place; a `point` or an `offset` goes down the rope.
 pub fn run<R: Threads + Wait + Sync, I: Source, O: Sink, G: Gate>(
     rt: &R,
     alloc: Global,

@@ -8,17 +8,17 @@ use Rattle.session_replay.specs.declared.making.Making.{Making}
 use Rattle.session_replay.proofs.Rounds.{ids_again, ids_are_editors, ids_counted, summed}
 use Rattle.session_replay.proofs.making.make.Goals as goal
 
-pub new-requires-clause-ids : goal.new-requires-clause-ids
-new-requires-clause-ids c = ids_again _ c.args.replicas (c.as_slice.ensures.value ∙ c.in_ok-ids.ensures)
+pub new-requires-clause-counted : goal.new-requires-clause-counted
+new-requires-clause-counted c = ids_again _ c.args.replicas (c.as_slice.ensures.value ∙ c.in_ok-ids.ensures)
 
-pub new-requires-clause-editors : goal.new-requires-clause-editors
-new-requires-clause-editors c = ids_are_editors _ c.args.replicas (c.as_slice.ensures.value ∙ c.in_ok-ids.ensures) c.requires.few
+pub new-requires-clause-ids : goal.new-requires-clause-ids
+new-requires-clause-ids c = ids_are_editors _ c.args.replicas (c.as_slice.ensures.value ∙ c.in_ok-ids.ensures) c.requires.few
 
 pub work_rounds-requires-clause-few : goal.work_rounds-requires-clause-few
 work_rounds-requires-clause-few c = omega (arith, ids_counted _ c.args.replicas (c.as_slice-2.ensures.value ∙ c.in_ok-ids.ensures), c.requires.few)
 
-pub work_rounds-requires-clause-ids : goal.work_rounds-requires-clause-ids
-work_rounds-requires-clause-ids c = ids_again _ c.args.replicas (c.as_slice-2.ensures.value ∙ c.in_ok-ids.ensures)
+pub work_rounds-requires-clause-counted : goal.work_rounds-requires-clause-counted
+work_rounds-requires-clause-counted c = ids_again _ c.args.replicas (c.as_slice-2.ensures.value ∙ c.in_ok-ids.ensures)
 
 pub returns : goal.returns
 returns c =

@@ -18,7 +18,7 @@ loop-line-preserved c =
     let is : t ≡ step l s = c.in_ok-work_line.ensures.state in
     record {
       report = more_report left l rest s t begins is _ _ _ c.loop-line.invariant.report c.in_ok-work_line.ensures.report;
-      answers = more_answers left l rest s t begins is c.loop-line.answers.items _ _ c.loop-line.invariant.answers c.in_ok-answer_line.ensures;
+      answers = more_answers left l rest s t begins is c.loop-line.answers.items _ _ c.loop-line.invariant.answers c.in_ok-answer_if_query.ensures;
       state = more_state left l rest s t begins is _ c.loop-line.invariant.state;
     }
 

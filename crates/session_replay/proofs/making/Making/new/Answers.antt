@@ -8,5 +8,5 @@ use Rattle.session_replay.proofs.making.Making.new.Goals as goal
 pub returns-clause-state : goal.returns-clause-state
 returns-clause-state c =
     let made = c.in_ok-progress.ensures in
-    same_state _ _ _ _ (made.buffers ∙ ap (map (first_buffer base_text)) c.requires.ids) made.operations
+    same_state _ _ _ _ (made.buffers ∙ ap (map (first_buffer base_text)) c.requires.counted) made.operations
     ∙ same_names (made_opening _) _ _ _ _ made.anchors made.marks

@@ -3,7 +3,7 @@ use Rattle.std.specs.Option.{option_map}
 use Rattle.session_replay.specs.declared.queries.Question.TheVariants.{OffsetOf}
 use Rattle.session_replay.specs.Work.{buffer_of}
 use Rattle.session_replay.proofs.QueryLines.{asked, history}
-use Rattle.session_replay.proofs.replay.Progress.offset.Goals as goal
+use Rattle.session_replay.proofs.replay.Progress.answer_offset.Goals as goal
 
 pub returns-in-Some : goal.returns-in-Some
 returns-in-Some c =

@@ -2,7 +2,7 @@ use Rattle.std.proofs.Common.{sym, subst}
 use Rattle.std.proofs.lemmas.Result.{IfOk-weaker}
 use Rattle.session_replay.specs.Queries.{IsReport}
 use Rattle.session_replay.proofs.Replies.{plain_report}
-use Rattle.session_replay.proofs.top.report_with.Goals as goal
+use Rattle.session_replay.proofs.top.replay_report.Goals as goal
 
 pub returns-then-workers-eq0 : goal.returns-then-workers-eq0
 returns-then-workers-eq0 g c =

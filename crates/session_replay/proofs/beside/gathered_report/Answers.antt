@@ -6,7 +6,7 @@ use Rattle.query_dispatch.specs.Final.{AreGathered}
 use Rattle.session_replay.specs.Work.{at_end}
 use Rattle.session_replay.specs.Queries.{plain_answer}
 use Rattle.session_replay.proofs.Leaving.{can_gather, same_length}
-use Rattle.session_replay.proofs.beside.gather.Goals as goal
+use Rattle.session_replay.proofs.beside.gathered_report.Goals as goal
 
 pub gather-requires-clause-ready : goal.gather-requires-clause-ready
 gather-requires-clause-ready g c κs within =
@@ -16,9 +16,9 @@ pub returns : goal.returns
 returns g c = λ asks d left.
     let gathered = c.in_ok-answers.ensures asks left.ready.numbers left.count left.shown left.ready in
     let made = c.in_ok-answers.answers.items in
-    IfOk-weaker c.report_with.result _ _ (λ v is. (
+    IfOk-weaker c.finish.result _ _ (λ v is. (
       made,
       subst (λ lasts. AreGathered plain_answer (length d.inboxes) lasts asks made) (c.as_slice.ensures.value ∙ c.in_ok-lasts.ensures)
           (subst (λ n. AreGathered plain_answer n c.as_slice.result.now asks made) (same_length c.args.edited.gathering.inboxes.items d.inboxes left.queues) gathered),
       is ∙ ap (λ rs. (c.args.edited.progress.report.items ++ report_text rs) ++ report_text (flat_map at_end c.args.edited.progress.replicas)) (c.as_slice-2.ensures.value ∙ c.in_ok-lines.ensures),
-    )) c.report_with.ensures
+    )) c.finish.ensures

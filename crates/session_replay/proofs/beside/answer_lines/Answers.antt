@@ -1,6 +1,6 @@
 use Rattle.std.specs.Vec.Iter.{into_iter_items}
 use Rattle.session_replay.proofs.Gathered.{line_more}
-use Rattle.session_replay.proofs.beside.lines_of.Goals as goal
+use Rattle.session_replay.proofs.beside.answer_lines.Goals as goal
 
 pub loop-answer-preserved-in_ok-push : goal.loop-answer-preserved-in_ok-push
 loop-answer-preserved-in_ok-push c =
