@@ -17,9 +17,9 @@ use Rattle.query_workers.specs.declared.job.Entry.{Entry}
 use Rattle.query_workers.specs.declared.job.Entry.TheVariants as entry
 use Rattle.query_workers.proofs.Jobs.{asks_more, asks_ended, open_more, ended_more}
 use Rattle.query_dispatch.specs.States.{DispatcherState, PublishersState}
-use Rattle.query_dispatch.specs.Published.{AreLevel, AreTied, column, no_pair, rows_of, published_lists}
+use Rattle.query_dispatch.specs.Published.{AreLevel, AreTied, column, no_pair, published_lists, rows_of}
 use Rattle.query_dispatch.specs.Dealt.{AllAt, AreEnds, AreNumbered, HasAsked, IsClosed, IsDealt}
-use Rattle.query_dispatch.proofs.Levels.{level_publishes, level_published}
+use Rattle.query_dispatch.proofs.Levels.{level_published, level_publishes}
 use Rattle.query_dispatch.proofs.Places.{each_set}
 use Rattle.query_dispatch.proofs.Turns.{few_go, filter_in, filter_out, range_more}
 

@@ -8,7 +8,7 @@ use Rattle.logbook.specs.Pages.{Book}
 use Rattle.snapshot_pub.specs.States.{PublisherState, ToldState}
 use Rattle.query_dispatch.specs.States.{PublishersState}
 use Rattle.query_dispatch.specs.Dealt.{told_lists, told_pairs}
-use Rattle.query_dispatch.specs.Published.{AreLevel, PublishesToAll, column, no_pair, rows_of, published_lists, published_of}
+use Rattle.query_dispatch.specs.Published.{AreLevel, PublishesToAll, column, no_pair, published_lists, published_of, rows_of}
 
 all_replicate : {X : Type 0} (n : ℕ) (x : X) → All (λ y. y ≡ x) (replicate n x)
 all_replicate n x i d below = get_or-replicate n i x d (omega (arith, below, length-replicate n x))

@@ -15,7 +15,7 @@ use Rattle.query_workers.specs.Asks.{Ask, asks_of, asks_to, worker_of}
 use Rattle.query_workers.specs.Answers.{HasWorked}
 use Rattle.query_workers.specs.declared.query.Answer.{Answer}
 use Rattle.query_dispatch.specs.Dealt.{AllAt, AreEnds, IsClosed, told_lists, told_pairs}
-use Rattle.query_dispatch.specs.Final.{AreFinal, CanRenew, CanRenewAll, HaveWorked, IsPast, IsReady, IsFinal}
+use Rattle.query_dispatch.specs.Final.{AreFinal, CanRenew, CanRenewAll, HaveWorked, IsFinal, IsPast, IsReady}
 
 -- where two lists are alike under a map, what stands at one place is
 pub same_at : {X Y B : Type 0} (f : X → B) (g : Y → B) (xs : List X) (ys : List Y) (w : ℕ) (x : X) (y : Y) → map f xs ≡ map g ys → w < length xs → length ys ≡ length xs → f (get_or xs w x) ≡ g (get_or ys w y)

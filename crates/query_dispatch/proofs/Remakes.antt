@@ -19,7 +19,7 @@ use Rattle.query_workers.specs.Answers.{HasAnswered, IsAnswerTo, IsKnown, NeverF
 use Rattle.query_workers.specs.declared.query.Answer.{Answer}
 use Rattle.query_dispatch.proofs.Places.{all_at_more, drop_at}
 use Rattle.query_dispatch.specs.Dealt.{AllAt, told_lists, told_pairs}
-use Rattle.query_dispatch.specs.Final.{AreFinal, ComesTo, IsBound, IsPast, IsFinal, last_of, final_list}
+use Rattle.query_dispatch.specs.Final.{AreFinal, ComesTo, IsBound, IsFinal, IsPast, final_list, last_of}
 
 -- of what a reader knew, as much as was last published begins that
 pub bound_holds : (old new told h : List Operation) (n : ℕ) → IsFront old new → IsFront told new → n ≤ length told → IsFront h old → length h ≤ n → IsFront h told

@@ -3,7 +3,7 @@ ghost use Rattle.std.specs.Prelude.{◌≡◌, ◌+◌, ◌<◌, [], ◌∷◌, 
 ghost use Rattle.text_buffer.specs.Document.{IsFront};
 ghost use Rattle.query_workers.specs.Asks.{Ask};
 ghost use Rattle.query_dispatch.specs.Dealt.{AllAt, HasAsked, IsClosed, pairs_in, queues_of};
-ghost use Rattle.query_dispatch.specs.Published.{AreLevel, AreTied, rows_of, published_lists};
+ghost use Rattle.query_dispatch.specs.Published.{AreLevel, AreTied, published_lists, rows_of};
 
 use crate::OutOfMemory;
 use crate::publishers::Publishers;

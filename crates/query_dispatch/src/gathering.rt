@@ -6,7 +6,7 @@ ghost use Rattle.text_buffer.specs.Document.{IsFront};
 ghost use Rattle.query_workers.specs.Asks.{Ask, asks_of, asks_to};
 ghost use Rattle.query_workers.specs.States.{DeskState};
 ghost use Rattle.query_dispatch.specs.Dealt.{AllAt, AreEnds, AreNumbered, told_lists};
-ghost use Rattle.query_dispatch.specs.Final.{AreGathered, AreFinal, CanRenewAll, HaveWorked, IsPast, IsReady};
+ghost use Rattle.query_dispatch.specs.Final.{AreFinal, AreGathered, CanRenewAll, HaveWorked, IsPast, IsReady};
 
 use crate::OutOfMemory;
 use crate::renewing::renew_worker;

@@ -4,7 +4,7 @@ ghost use Rattle.std.specs.List.{range_with_len};
 ghost use Rattle.logbook.specs.Pages.{Book};
 ghost use Rattle.query_workers.specs.Queue.{pairs_of};
 ghost use Rattle.query_dispatch.specs.Dealt.{AllAt, AreEnds, HasAsked, pairs_in};
-ghost use Rattle.query_dispatch.specs.Published.{AreLevel, AreTied, column, columns, rows_of, published_lists};
+ghost use Rattle.query_dispatch.specs.Published.{AreLevel, AreTied, column, columns, published_lists, rows_of};
 
 use crate::OutOfMemory;
 use crate::dispatcher::Dispatcher;

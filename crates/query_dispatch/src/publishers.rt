@@ -4,7 +4,7 @@ ghost use Rattle.text_buffer.specs.Document.{IsFront};
 ghost use Rattle.snapshot_pub.specs.States.{PublisherState};
 ghost use Rattle.query_workers.specs.Queue.{pairs_of};
 ghost use Rattle.query_dispatch.specs.Dealt.{told_lists, told_pairs};
-ghost use Rattle.query_dispatch.specs.Published.{AreLevel, column, rows_of, published_lists};
+ghost use Rattle.query_dispatch.specs.Published.{AreLevel, column, published_lists, rows_of};
 
 use crate::OutOfMemory;
 use query_workers::publish_new;

@@ -173,7 +173,8 @@ fn push_refused_edit(
     n: u64,
     fault: EditFault,
 ) -> Result<(), OutOfMemory>
-    ensures { OnOk result (string_bytes out.new ≡ string_bytes out.old ++ refused_edit_line n fault) }
+    ensures { OnOk result (string_bytes out.new
+        ≡ string_bytes out.old ++ refused_edit_line n fault) }
 {
     let words = edit_fault_words(alloc, fault)?;
     write!(out, "{n}: {words}\n")

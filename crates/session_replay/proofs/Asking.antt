@@ -14,7 +14,7 @@ use Rattle.session_lines.specs.declared.session.SessionLine.{SessionLine}
 use Rattle.session_lines.specs.declared.session.SessionLine.TheVariants as line
 use Rattle.query_workers.specs.Asks.{Ask}
 use Rattle.query_dispatch.specs.Dealt.{HasAsked, pairs_in}
-use Rattle.query_dispatch.specs.Published.{AreLevel, columns, rows_of, published_lists, published_of}
+use Rattle.query_dispatch.specs.Published.{AreLevel, columns, published_lists, published_of, rows_of}
 use Rattle.query_dispatch.specs.States.{DispatcherState, PublishersState}
 use Rattle.session_replay.specs.Work.{State, buffer_of, events, step}
 use Rattle.session_replay.specs.Queries.{AskedQuery, queries_from, query_at, query_of, query_with, question_of}

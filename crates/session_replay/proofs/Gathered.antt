@@ -14,7 +14,7 @@ use Rattle.session_lines.specs.declared.report.Report.TheVariants as report
 use Rattle.session_lines.specs.declared.session.Session.{Session}
 use Rattle.query_workers.specs.Asks.{worker_of}
 use Rattle.query_workers.specs.declared.query.Answer.{Answer}
-use Rattle.query_dispatch.specs.Final.{AreGathered, IsPast, IsFinal, NeverFalls}
+use Rattle.query_dispatch.specs.Final.{AreGathered, IsFinal, IsPast, NeverFalls}
 use Rattle.session_replay.specs.Work.{State, applied_count, buffer_of}
 use Rattle.session_replay.specs.Queries as replies
 use Rattle.session_replay.specs.Queries.{AreReplies, AskedQuery, IsWithin, Reply, end_of, final_of, history_of, plain_answer, queries_of, reply_line}

@@ -10,7 +10,7 @@ use Rattle.query_workers.specs.Asks.{Ask}
 use Rattle.query_workers.specs.States.{DeskState, DoneState, InboxState}
 use Rattle.query_dispatch.specs.Dealt.{AllAt, AreEnds, IsClosed, pairs_in, queues_of, told_lists, told_pairs}
 use Rattle.query_dispatch.specs.Final.{HaveWorked, IsPast, IsReady, Lasts}
-use Rattle.query_dispatch.specs.Published.{column, columns, rows_of, published_lists, published_of}
+use Rattle.query_dispatch.specs.Published.{column, columns, published_lists, published_of, rows_of}
 use Rattle.query_dispatch.specs.States.{DispatcherState, PublishersState}
 use Rattle.text_buffer.specs.Buffer.{BufferState}
 use Rattle.text_buffer.specs.Document.{IsFront}

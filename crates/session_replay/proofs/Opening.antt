@@ -19,7 +19,7 @@ use Rattle.query_workers.specs.States.{InboxState}
 use Rattle.query_workers.specs.declared.query.Answer.{Answer}
 use Rattle.query_dispatch.specs.Dealt.{HasAsked}
 use Rattle.query_dispatch.specs.Final.{AreGathered, IsPast}
-use Rattle.query_dispatch.specs.Published.{AreLevel, AreTied, column, rows_of, published_lists}
+use Rattle.query_dispatch.specs.Published.{AreLevel, AreTied, column, published_lists, rows_of}
 use Rattle.query_dispatch.specs.States.{PublishersState}
 use Rattle.session_replay.specs.Work.{State, after_all, all_events, at_end, first_buffer, opening}
 use Rattle.session_replay.specs.Working.{state_of}

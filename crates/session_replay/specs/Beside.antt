@@ -14,7 +14,7 @@ use Rattle.session_lines.specs.declared.report.QueryAnswer.{QueryAnswer}
 use Rattle.query_workers.specs.Asks.{Ask}
 use Rattle.query_workers.specs.declared.query.Answer.{Answer}
 use Rattle.query_dispatch.specs.Dealt.{HasAsked, pairs_in, queues_of}
-use Rattle.query_dispatch.specs.Published.{AreLevel, AreTied, rows_of, published_lists}
+use Rattle.query_dispatch.specs.Published.{AreLevel, AreTied, published_lists, rows_of}
 use Rattle.query_dispatch.specs.Final.{IsReady}
 use Rattle.query_dispatch.specs.States.{DispatcherState, PublishersState}
 use Rattle.session_replay.specs.Queries.{AskedQuery, queries_from}

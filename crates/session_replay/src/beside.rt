@@ -9,7 +9,7 @@ ghost use Rattle.query_workers.specs.States.{DeskState};
 ghost use Rattle.query_workers.specs.declared.query.Answer.{Answer};
 ghost use Rattle.query_dispatch.specs.Dealt.{AreEnds, HasAsked, told_lists, told_pairs};
 ghost use Rattle.query_dispatch.specs.Final.{AreGathered, HaveWorked, IsPast};
-ghost use Rattle.query_dispatch.specs.Published.{AreLevel, columns, rows_of, published_lists};
+ghost use Rattle.query_dispatch.specs.Published.{AreLevel, columns, published_lists, rows_of};
 ghost use Rattle.query_dispatch.specs.States.{DispatcherState};
 ghost use Rattle.session_replay.specs.Beside.{AsksMore, CanEdit, HasEdited, HasLeft, IsAsking, KeepsEnds, histories, line_of};
 ghost use Rattle.session_replay.specs.Queries.{IsReport, plain_answer, queries_from, query_at, query_with};

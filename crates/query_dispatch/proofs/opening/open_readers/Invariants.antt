@@ -3,7 +3,7 @@ use Rattle.std.specs.Vec.Iter.{into_iter_items, into_iter_len}
 use Rattle.snapshot_pub.specs.States.{ReaderState}
 use Rattle.query_workers.specs.Queue.{pairs_of}
 use Rattle.query_dispatch.specs.Dealt.{AllAt}
-use Rattle.query_dispatch.specs.Published.{AreLevel, rows_of, published_lists}
+use Rattle.query_dispatch.specs.Published.{AreLevel, published_lists, rows_of}
 use Rattle.query_dispatch.proofs.Readers.{HasColumn}
 use Rattle.query_dispatch.proofs.opening.open_readers.Given as goal
 

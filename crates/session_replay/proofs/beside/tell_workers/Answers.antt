@@ -4,7 +4,7 @@ use Rattle.std.proofs.lemmas.List.{map-append}
 use Rattle.std.proofs.lemmas.List.Elements.{All-append, All-cons, All-nil}
 use Rattle.snapshot_pub.specs.States.{ToldState}
 use Rattle.query_dispatch.specs.Dealt.{told_lists, told_pairs}
-use Rattle.query_dispatch.specs.Published.{rows_of, published_lists}
+use Rattle.query_dispatch.specs.Published.{published_lists, rows_of}
 use Rattle.session_replay.proofs.Leaving.{pairs_more}
 use Rattle.session_replay.proofs.beside.tell_workers.Goals as goal
 

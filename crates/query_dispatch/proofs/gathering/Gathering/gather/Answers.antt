@@ -6,7 +6,7 @@ use Rattle.query_workers.specs.Asks.{asks_of, asks_to}
 use Rattle.query_workers.specs.States.{InboxState}
 use Rattle.query_workers.specs.declared.query.Answer.{Answer}
 use Rattle.query_dispatch.specs.Dealt.{AllAt}
-use Rattle.query_dispatch.specs.Final.{AreGathered, AreFinal, CanRenewAll}
+use Rattle.query_dispatch.specs.Final.{AreFinal, AreGathered, CanRenewAll}
 use Rattle.query_dispatch.proofs.Merges.{head_of}
 use Rattle.query_dispatch.proofs.Readiness.{can_renew_all, lists_enough, lists_final}
 use Rattle.query_dispatch.proofs.gathering.Gathering.gather.Goals as goal
