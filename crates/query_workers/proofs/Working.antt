@@ -11,12 +11,9 @@ use Rattle.op_model.specs.declared.operation.Operation.{Operation}
 use Rattle.text_buffer.specs.Document.{IsFront}
 use Rattle.text_buffer.proofs.Fronts.{front_itself, front_length, front_trans}
 use Rattle.snapshot_pub.specs.States.{ReaderState}
-use Rattle.logbook.specs.Pages.{Book}
-use Rattle.snapshot_pub.proofs.Places.{put_same}
 use Rattle.query_workers.specs.declared.job.Job.{Job}
-use Rattle.query_workers.specs.declared.job.Entry.{Entry}
 use Rattle.query_workers.specs.declared.job.Entry.TheVariants as entry
-use Rattle.query_workers.specs.Queue.{log, pairs_of, IsFor, IsOpen, IsEnded}
+use Rattle.query_workers.specs.Queue.{log, pairs_of, IsOpen, IsEnded}
 use Rattle.query_workers.specs.declared.queue.Log.{Log}
 use Rattle.query_workers.proofs.Jobs.{asks_more, asks_ended, open_more, ended_more}
 use Rattle.query_workers.specs.declared.query.Answer.{Answer}
@@ -45,13 +42,6 @@ paired_more R (w ∷ xs) [] x y h one = absurd h
 paired_more R (w ∷ xs) (z ∷ ys) x y h one = (h.0, paired_more R xs ys x y h.1 one)
 
 module _ {Q A : Type 0} (plain : Q → List Operation → A) where
-  pub none_answered : (readers : List ReaderState) → HasAnswered plain [] readers []
-  none_answered readers = record {
-    each = tt;
-    never_fewer = no_pairs NeverFewer;
-    known = All-nil (IsKnown readers);
-  }
-
   module _ (readers news : List ReaderState) (old new : ReaderState) (j : Ask Q) (a : Answer Q A) where
     -- the reader of the job's replica gave the answer's snapshot
     pub record GaveOn : Type 0 where
@@ -102,24 +92,6 @@ module _ {Q A : Type 0} (plain : Q → List Operation → A) where
           (All-weaker (IsKnown readers) (λ b. All (NeverFewer b) (a ∷ [])) (λ b k. All-single (NeverFewer b) a (fewer_new g b k)) answers h.known);
       known = All-append (IsKnown news) answers (a ∷ []) (All-weaker (IsKnown readers) (IsKnown news) (known_still g) answers h.known) (All-single (IsKnown news) a (known_new g));
     })
-
--- ---- the pairs of readers
-
-module _ {Q : Type 0} where
-  -- the token of a job is of the pair of its replica's reader
-  pub own_pair : (readers : List ReaderState) (j : Job Q) (old : ReaderState) → IsFor readers (entry.Job j) → old ≡ get_or readers j.index old → j.told.pair ≡ old.pair
-  own_pair readers j old own was = own.1 ∙ (get_or-map (λ (r : ReaderState). r.pair) readers j.index old j.told.pair own.0 ∙ ap (λ (r : ReaderState). r.pair) (sym was))
-
-  -- what is for some readers is for readers of the same pairs
-  pub for_tied : (readers others : List ReaderState) (e : Entry Q) → pairs_of readers ≡ pairs_of others → IsFor others e → IsFor readers e
-  for_tied readers others (entry.Job j) same own = (
-    omega (arith, own.0, ap (λ (l : List Book). length l) same, length-map readers (λ (r : ReaderState). r.pair), length-map others (λ (r : ReaderState). r.pair)),
-    subst (λ (l : List Book). j.told.pair ≡ get_or l j.index j.told.pair) (sym same) own.1,
-  )
-  for_tied readers others entry.End same own = tt
-
-pub pairs_stay : (readers news : List ReaderState) (i : ℕ) (old new : ReaderState) → old ≡ get_or readers i old → news ≡ set readers i new → new.pair ≡ old.pair → pairs_of news ≡ pairs_of readers
-pairs_stay readers news i old new was is same = ap pairs_of is ∙ put_same (λ (r : ReaderState). r.pair) readers i old new was same
 
 -- ---- the worker's loop
 

@@ -96,9 +96,6 @@ module _ (bs : List BufferState) (r i : ℕ) (d : BufferState) (e : Some i ≡ p
     pub is_listed : i < length p.list
     is_listed = omega (arith, front.0, length-map p.list published_of)
 
-    pub is_few : i < 64
-    is_few = omega (arith, at_place.0, a.few)
-
     pub begins : (h : List Operation) → h ≡ (get_or bs i d).history → IsFront (slice_index_or (published_lists p) i []) h
     begins h is = subst (IsFront (slice_index_or (published_lists p) i [])) (sym is) front.1
 

@@ -1,8 +1,8 @@
 -- Known bytes that move in several pieces.
-use Rattle.std.proofs.Common.{◌≡◌, ℕ, ◌+◌, ◌-◌, ◌<◌, List, [], ◌∷◌, ◌++◌, length, take, drop, refl, sym, ap, ◌∙◌, subst, arith, IfSome, None, Some, Option, length-append, append-nil}
+use Rattle.std.proofs.Common.{◌≡◌, ℕ, ◌+◌, ◌-◌, ◌<◌, List, [], ◌∷◌, ◌++◌, length, take, drop, refl, sym, ap, ◌∙◌, subst, arith, None, Some, Option, length-append, append-nil}
 use Rattle.session_replay.specs.Traffic.{Moves, Had}
 use Rattle.std.specs.Io.KnownBytes.{Appends, Consumes, IsAtEnd}
-use Rattle.std.proofs.KnownBytes.{Appends-trans, Consumes-trans, Consumes-whole}
+use Rattle.std.proofs.KnownBytes.{Appends-trans}
 use Rattle.std.proofs.Math.Seq.{take-add}
 use Rattle.std.proofs.lemmas.List.{nil_from_length}
 use Rattle.session_lines.proofs.Cut.{behind}
@@ -10,21 +10,9 @@ use Rattle.session_lines.proofs.Cut.{behind}
 pub more_written : (a b c : Option (List ℕ)) (text : List ℕ) (i n : ℕ) → Appends a b (take i text) → Appends b c (take n (take (length text - i) (drop i text))) → Appends a c (take (i + n) text)
 more_written a b c text i n p q = subst (Appends a c) (ap (λ l. take i text ++ take n l) (behind text i) ∙ sym (take-add i n text)) (Appends-trans a b c _ _ p q)
 
-pub at_least : (a b : Option (List ℕ)) (bs : List ℕ) (n : ℕ) → Consumes a b bs → n < length bs → IfSome a (λ xs. n < length xs)
-at_least None b bs n p h = tt
-at_least (Some x) None bs n p h = absurd p
-at_least (Some x) (Some y) bs n p h = omega (arith, ap length p, length-append bs y)
-
--- one more piece was read
-pub more_read : (a b c : Option (List ℕ)) (all all_after : List ℕ) (n : ℕ) → Consumes a b all → Moves b c all all_after n → Consumes a c all_after
-more_read a b c all all_after n p m = subst (Consumes a c) (sym m.added) (Consumes-trans a b c _ _ p m.taken)
-
 -- nothing more was read
 pub none_read : (all all_after : List ℕ) (b c : Option (List ℕ)) (n : ℕ) → n ≡ 0 → Moves b c all all_after n → (all_after ≡ all) × IsAtEnd c
 none_read all all_after b c n z m = (m.added ∙ ap (λ l. all ++ l) (nil_from_length m.bytes (m.count ∙ z)) ∙ append-nil all, m.end z)
-
-pub all_read : (a c : Option (List ℕ)) (all : List ℕ) → Consumes a c all → IsAtEnd c → IfSome a (λ xs. all ≡ xs)
-all_read a c all p e = Consumes-whole a c all (λ xs. all ≡ xs) p e refl
 
 pub some_input : (a b : Option (List ℕ)) (all : List ℕ) (n : ℕ) → Consumes a b all → n < length all → (input : List ℕ) × Had a input × (n < length input)
 some_input None b all n p h = (all, tt, h)

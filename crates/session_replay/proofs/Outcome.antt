@@ -12,7 +12,7 @@ use Rattle.session_lines.proofs.Faults.{too_many, never_memory}
 use Rattle.session_replay.specs.Causes.{RoseBy}
 use Rattle.session_replay.specs.Traffic.{Had, session_limit}
 use Rattle.session_replay.specs.Queries.{IsReport}
-use Rattle.session_replay.specs.Replay.{large_line, refusal, response_of, response_with, written_for, IsResponse, RespondsToSource, Writes}
+use Rattle.session_replay.specs.Replay.{large_line, response_of, response_with, written_for, IsResponse, RespondsToSource, Writes}
 use Rattle.session_replay.proofs.Replies.{plain_report}
 use Rattle.command_words.specs.declared.command.Task.{Task}
 use Rattle.command_words.specs.declared.command.Task.TheVariants as task
@@ -31,9 +31,6 @@ small_answer c input le = ap (λ b. cond b (status.TooLarge, large_line) (respon
 
 pub session_answer : (c : Task) (input : List ℕ) (s : Session) → length input ≤ session_limit → session_of_text input ≡ Ok s → response_of c input ≡ (status.Done, written_for c s)
 session_answer c input s le e = small_answer c input le ∙ ap (response_with c) e
-
-pub refused_answer : (c : Task) (input : List ℕ) (e : DecodeFault) → length input ≤ session_limit → session_of_text input ≡ Err e → response_of c input ≡ refusal e
-refused_answer c input e le d = small_answer c input le ∙ ap (response_with c) d
 
 -- ---- what a status tells
 

@@ -1,5 +1,5 @@
 -- Queries, which are answered one after another.
-use Rattle.std.proofs.Common.{◌≡◌, ℕ, ◌+◌, List, [], ◌∷◌, ◌++◌, length, map, Option, None, Some, refl, sym, ap, ◌∙◌, arith, append_assoc, append-nil}
+use Rattle.std.proofs.Common.{◌≡◌, ℕ, ◌+◌, List, [], ◌∷◌, ◌++◌, length, map, Option, None, Some, sym, ap, ◌∙◌, arith, append_assoc, append-nil}
 use Rattle.std.specs.Option.{option_map}
 use Rattle.std.proofs.lemmas.List.{length-append, length-map, map-append}
 use Rattle.op_model.specs.declared.operation.Operation.{Operation}
@@ -21,11 +21,6 @@ pub asked : (q r : ℕ) (ask : Question) (o : Option BufferState) (h : List Oper
     → line ∷ [] ≡ map plain_line (query_of q r ask o)
 asked q r ask None h line e f = absurd (cc e)
 asked q r ask (Some b) h line e f = let same : h ≡ b.history = cc e in ap (λ (x : Report). x ∷ []) (f ∙ ap (λ (k : List Operation). answer_line q (applied_count k) ask (text k)) same)
-
--- it is not there
-pub not_asked : (q r : ℕ) (ask : Question) (o : Option BufferState) → None ≡ option_map history o → [] ≡ map plain_line (query_of q r ask o)
-not_asked q r ask None e = refl
-not_asked q r ask (Some b) e = absurd (cc e)
 
 -- ---- one line more
 

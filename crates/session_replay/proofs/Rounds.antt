@@ -1,7 +1,6 @@
 -- A session that is worked as it is made.
-use Rattle.std.proofs.Common.{◌≡◌, ℕ, zero, suc, ◌+◌, ◌-◌, ◌<◌, ◌≤◌, ◌==◌, ◌%◌, Bool, true, false, cond, List, [], ◌∷◌, ◌++◌, length, drop, get_or, refl, sym, ap, ap₂, ◌∙◌, subst, arith, append_assoc, append-nil}
-use Rattle.std.specs.Prelude.{◌&&◌, nat_eq}
-use Rattle.std.specs.Cmp.Lexicographic.{pointwise}
+use Rattle.std.proofs.Common.{◌≡◌, ℕ, zero, suc, ◌+◌, ◌-◌, ◌<◌, ◌≤◌, ◌==◌, ◌%◌, List, [], ◌∷◌, ◌++◌, length, drop, get_or, refl, sym, ap, ap₂, ◌∙◌, subst, arith, append_assoc, append-nil}
+use Rattle.std.specs.Prelude.{◌&&◌}
 use Rattle.std.specs.List.{All, flat_map, range_with_len}
 use Rattle.std.proofs.lemmas.List.{drop_all}
 use Rattle.std.proofs.lemmas.List.FromFn.{length-range_with_len}
@@ -10,15 +9,14 @@ use Rattle.query_dispatch.proofs.Turns.{range_more}
 use Rattle.session_lines.specs.declared.session.SessionLine.{SessionLine}
 use Rattle.session_lines.specs.declared.session.SessionLine.TheVariants.{Give}
 use Rattle.session_maker.specs.Draws.{next}
-use Rattle.session_maker.specs.Made.{gives_behind, gives_of, gives_to, ids_to, last_eight, made_lines, round_of, rounds_from, turn_at}
+use Rattle.session_maker.specs.Made.{gives_behind, gives_of, gives_to, ids_to, made_lines, round_of, rounds_from, turn_at}
 use Rattle.session_maker.specs.Turns.{author_of, turn_of}
 use Rattle.op_model.specs.Operations.{last_replica}
 use Rattle.op_model.specs.Domains.{IsReplica}
-use Rattle.op_model.specs.Shown.{text}
 use Rattle.text_buffer.specs.Buffer.{BufferState}
 use Rattle.session_lines.specs.Report.{line_text}
 use Rattle.session_maker.proofs.Decoding.{made_sessions_decode}
-use Rattle.session_replay.specs.Making.{Makes, count_lines, have_text, length_at, made_opening, made_session, summary_of, summary_with}
+use Rattle.session_replay.specs.Making.{Makes, count_lines, length_at, made_opening, made_session, summary_of, summary_with}
 use Rattle.session_replay.specs.MakingOn.{Leaves, TakesTurn, Works, WorksRound, work_state}
 use Rattle.session_replay.specs.Work.{State, after_all, counts_report, step}
 use Rattle.session_replay.specs.declared.making.Making.{Making}
@@ -36,9 +34,6 @@ works_then a b c x y ls ks f g = record {
   state = g.state ∙ ap (after_all ks) f.state ∙ sym (after_all-append ls ks (work_state a));
   draws = g.draws;
 }
-
-pub works_nothing : (a : Making) → Works a a a.draws []
-works_nothing a = record { lines = sym (append-nil a.lines.items); state = refl; draws = refl }
 
 -- ---- what is left of them
 
@@ -147,14 +142,6 @@ module _ (a : Making) (n edits : ℕ) where
 
 -- ---- what is given behind a turn
 
-pub nothing_behind : (a : Making) (n i : ℕ) → (i % 8 == 0) ≡ false → Works a a a.draws (gives_behind n i)
-nothing_behind a n i e = subst (λ (ls : List SessionLine). Works a a a.draws ls) (ap (λ b. cond b (gives_of n (last_eight i)) []) (sym e)) (works_nothing a)
-
-pub eight_behind : (a b : Making) (n i : ℕ) (ids ns : List ℕ) → (i % 8 == 0) ≡ true → ids ≡ ids_to n → ns ≡ last_eight i → Works a b a.draws (flat_map (gives_to ns) ids) → Works a b a.draws (gives_behind n i)
-eight_behind a b n i ids ns e is last w =
-    subst (λ (ls : List SessionLine). Works a b a.draws ls)
-    (ap₂ (λ xs ys. flat_map (gives_to xs) ys) last is ∙ ap (λ b. cond b (gives_of n (last_eight i)) []) (sym e)) w
-
 -- ---- the summary
 
 pub more_counts : (bs : List BufferState) (i : ℕ) (d : BufferState) (out new all : List ℕ) → i < length bs → out ++ count_lines (drop i bs) ≡ all → new ≡ out ++ line_text (counts_report (get_or bs i d))
@@ -165,15 +152,6 @@ more_counts bs i d out new all lt e n =
 
 pub counts_done : (bs : List BufferState) (i : ℕ) (out all : List ℕ) → length bs ≤ i → out ++ count_lines (drop i bs) ≡ all → out ≡ all
 counts_done bs i out all le e = sym (append-nil out) ∙ ap (λ cs. out ++ count_lines cs) (sym (drop_all i bs le)) ∙ e
-
-pub more_text : (t : List ℕ) (bs : List BufferState) (i : ℕ) (d : BufferState) (all : Bool) → i < length bs → pointwise nat_eq (text (get_or bs i d).history) t ≡ true → have_text t (drop i bs) ≡ all → have_text t (drop (i + 1) bs) ≡ all
-more_text t bs i d all lt same e = ap (λ b. b && have_text t (drop (i + 1) bs)) (sym same) ∙ ap (have_text t) (sym (behind bs i d lt)) ∙ e
-
-pub other_text : (t : List ℕ) (bs : List BufferState) (i : ℕ) (d : BufferState) (all : Bool) → i < length bs → pointwise nat_eq (text (get_or bs i d).history) t ≡ false → have_text t (drop i bs) ≡ all → false ≡ all
-other_text t bs i d all lt other e = ap (λ b. b && have_text t (drop (i + 1) bs)) (sym other) ∙ ap (have_text t) (sym (behind bs i d lt)) ∙ e
-
-pub text_done : (t : List ℕ) (bs : List BufferState) (i : ℕ) (all : Bool) → length bs ≤ i → have_text t (drop i bs) ≡ all → true ≡ all
-text_done t bs i all le e = ap (have_text t) (sym (drop_all i bs le)) ∙ e
 
 module _ (m a b : Making) (seed n edits : ℕ) (ids ns : List ℕ) where
   abbrev rounds : List SessionLine

@@ -1,14 +1,12 @@
 -- The step that adds to a log keeps its rule: the word is the number of the log's operations.
-use Rattle.std.proofs.Common.{◌≡◌, ℕ, ◌+◌, ◌<◌, ◌==◌, Bool, true, false, List, [], ◌∷◌, ◌++◌, length, refl, ap, sym, subst, ◌∙◌, arith, inl, length-append, None, drop, MatchBool}
+use Rattle.std.proofs.Common.{◌≡◌, ℕ, ◌+◌, ◌<◌, ◌==◌, Bool, true, false, List, [], ◌∷◌, ◌++◌, length, refl, ap, sym, subst, ◌∙◌, arith, inl, length-append, None}
 use Rattle.std.proofs.lemmas.List.{append-nil, nil_from_length}
 use Rattle.std.proofs.lemmas.Bool.Decides.{nat_tests}
 use mathlib.Core.List.{IsPrefix}
 use prog.Atomic.{either}
 use Rattle.logbook.specs.Pages.{Cell, View, cell, keeps, no_nib, step, Moves, Goes}
 use Rattle.op_model.specs.declared.operation.Operation.{Operation}
-use Rattle.text_buffer.specs.Document.{IsFront}
 use Rattle.snapshot_pub.specs.Logs.{log_list, IsCounted, Adds}
-use Rattle.text_buffer.proofs.Fronts.{front-rest}
 use Rattle.snapshot_pub.proofs.Fronts.{log_list-append}
 
 -- clients see nothing of a log
@@ -79,11 +77,3 @@ pub adds_moves : (v : List (List Operation)) (e : List Operation) (old new : ℕ
 adds_moves v e old new reached more cells log counted pre away =
     let P : List Cell → Type 0 = λ c. (0 < length c) × ((cell c 0).1 ≡ true) × Goes IsCounted no_view anyhow 0 (reached_at v) (λ n. either (n == old) new n) (Adds (step 0 old new e) (reached_at v)) c log in
     subst P (sym counted) (omega arith, refl, goes log v e old new (length (log_list log) == old) refl reached more pre)
-
--- after the step the log comes to the snapshot's list
-pub adds_all : (found old : ℕ) (log after : List (List Operation)) (asked list : List Operation) → found ≡ old → IsFront (log_list log) list → asked ≡ drop (length (log_list log)) list
-    → MatchBool (found == old) (log_list after ≡ log_list log ++ asked) (Unit {0}) → log_list after ≡ list
-adds_all found old log after asked list same front asks told =
-    let t : (found == old) ≡ true = grind (arith, nat_tests) in
-    let is : log_list after ≡ log_list log ++ asked = rw t at told in
-    is ∙ (ap (λ (l : List Operation). log_list log ++ l) asks ∙ sym (front-rest (log_list log) list front))
