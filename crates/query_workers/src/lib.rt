@@ -5,7 +5,7 @@
 
 mod asking;
 mod beside;
-mod collect;
+mod collecting;
 mod desk;
 mod gate;
 mod job;
@@ -17,7 +17,7 @@ mod steps;
 mod worker;
 
 pub use beside::work_beside;
-pub use collect::collect;
+pub use collecting::collect;
 pub use desk::{Desk, Done, Inbox};
 pub use gate::Gate;
 pub use job::{Entry, Job};

@@ -4,7 +4,7 @@ use Rattle.query_workers.specs.Answers.{HasAnswered}
 use Rattle.query_workers.specs.States.{DoneState, InboxState}
 use Rattle.query_workers.proofs.Jobs.{all_taken}
 use Rattle.query_workers.proofs.Working.{if_ok}
-use Rattle.query_workers.proofs.collect.collect.Goals as goal
+use Rattle.query_workers.proofs.collecting.collect.Goals as goal
 
 pub returns-clause-answered : goal.returns-clause-answered
 returns-clause-answered g c =
