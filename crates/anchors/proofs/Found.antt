@@ -18,18 +18,18 @@ use Rattle.op_model.proofs.order.PathOrder.{same_stamp_eq, same_stamp_refl}
 use Rattle.op_model.proofs.MainLaws.{each_cell_once}
 use Rattle.undo_map.specs.declared.entry.UndoEntry.{UndoEntry}
 use Rattle.op_model.proofs.shown.FactCells.{cells_in, told_cells}
+use Rattle.op_model.proofs.Elements.{member_right, member_either, split_at}
 use Rattle.fragments.specs.declared.fragment.Fragment.{Fragment}
 use Rattle.fragments.specs.declared.index_entry.IndexEntry.{IndexEntry}
 use Rattle.fragments.specs.Index.{covers, nearest, entry_for, id_for}
 use Rattle.fragments.specs.Stand.{Stand, Tell, runs, Rise}
-use Rattle.fragments.specs.Laws.{shown_len}
-use Rattle.fragments.proofs.Entries.{member_right, member_either}
+use Rattle.fragments.specs.Laws.{shown_len, cells_len}
 use Rattle.fragments.proofs.Founds.{index_finds_fragments, fragment_of}
 use Rattle.locators.specs.Locator.{least_digits}
 use Rattle.anchors.specs.declared.spot.Spot.{Spot}
 use Rattle.anchors.specs.declared.spot.Run.{Run}
-use Rattle.anchors.specs.Spots.{spot, spot_of, spot_in, spot_if, run_behind, IsRunOf, cells_len}
-use Rattle.anchors.proofs.Splits.{split_at, before_is}
+use Rattle.anchors.specs.Spots.{spot, spot_of, spot_in, spot_if, run_behind, IsRunOf}
+use Rattle.anchors.proofs.Splits.{before_is}
 use Rattle.anchors.proofs.Runs.{before, behind, cells_split, is_shown, shown_before, length_before}
 
 -- ---- entries

@@ -22,9 +22,10 @@ use Rattle.anchors.specs.declared.spot.Spot.{Spot}
 use Rattle.anchors.specs.declared.standing.Standing.{Standing}
 use Rattle.anchors.specs.Spots.{spot, spot_of, begins}
 use Rattle.anchors.specs.Standing.{StandFor, bias_of, side, standing_of}
-use Rattle.anchors.proofs.Splits.{split_at, before_is, number_upto, length_upto, in_text, in_hidden, both_lengths}
+use Rattle.anchors.proofs.Splits.{before_is, number_upto, length_upto, in_text, in_hidden, both_lengths}
 use Rattle.op_model.proofs.anchors.KnownAnchors.{edit_there}
 use Rattle.op_model.proofs.texts.WholeTexts.{same_byte}
+use Rattle.op_model.proofs.Elements.{split_at}
 
 -- ---- spots
 

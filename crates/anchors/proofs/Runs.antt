@@ -13,9 +13,9 @@ use Rattle.op_model.specs.Walked.{facts_of}
 use Rattle.op_model.proofs.texts.Utf8Runs.{length_alike}
 use Rattle.fragments.specs.declared.fragment.Fragment.{Fragment}
 use Rattle.fragments.specs.Stand.{runs, Tell}
-use Rattle.fragments.specs.Laws.{shown_len}
-use Rattle.anchors.specs.Spots.{cells_len}
+use Rattle.fragments.specs.Laws.{shown_len, cells_len}
 use Rattle.op_model.proofs.shown.FactCells.{cells_in, told_cells}
+use Rattle.fragments.proofs.Counts.{length_facts}
 
 abbrev fact_at : Lamport → ℕ → Bool → List Lamport → Fact
 fact_at t k v d = record { cell = cell_at t k; visible = v; deletions = d }
@@ -77,10 +77,6 @@ visible_runs (f ∷ fs) = visible_append (alike f.stamp f.offset f.len f.visible
     go true n e i = omega (arith, e, i)
     go false n e i = omega (arith, e, i)
 
-length_runs : (fs : List Fragment) → length (facts_of (runs fs)) ≡ cells_len fs
-length_runs [] = refl
-length_runs (f ∷ fs) = let ih = length_runs fs in length-append (alike f.stamp f.offset f.len f.visible f.deletions) (facts_of (runs fs)) ∙ (let a = length_alike f.stamp f.offset f.len f.visible f.deletions in omega (arith, a, ih))
-
 -- ---- the cells before cell j of fragment f
 
 module _ (h : History) (pre post : List Fragment) (f : Fragment) (j : ℕ) (tell : Tell (pre ++ f ∷ post) h) (l : j < f.len) where
@@ -127,7 +123,7 @@ module _ (h : History) (pre post : List Fragment) (f : Fragment) (j : ℕ) (tell
   pub length_before : length before ≡ cells_len pre + j
   unfolding before front
   length_before = length-map front (λ (q : Fact). q.cell) ∙ length-append (facts_of (runs pre)) (alike f.stamp f.offset j f.visible f.deletions)
-      ∙ (let a = length_runs pre in let b = length_alike f.stamp f.offset j f.visible f.deletions in omega (arith, a, b))
+      ∙ (let a = length_facts pre in let b = length_alike f.stamp f.offset j f.visible f.deletions in omega (arith, a, b))
 
 -- all shown cells
 pub all_visible : (h : History) (fs : List Fragment) → Tell fs h → length (filter (shown h) (cells (seq h))) ≡ shown_len fs

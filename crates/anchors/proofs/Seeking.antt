@@ -16,13 +16,13 @@ use Rattle.fragments.specs.declared.fragment.Fragment.{Fragment}
 use Rattle.fragments.specs.declared.fragment.FragmentSummary.{FragmentSummary}
 use Rattle.fragments.specs.Summaries.{no_fragments, summaries, summary_of, id_less, SummaryFits}
 use Rattle.fragments.specs.SummaryLaws.{id_order}
-use Rattle.fragments.specs.SeenPlaces.{cells_of, move_visible}
+use Rattle.fragments.specs.SeenPlaces.{move_visible}
 use Rattle.fragments.specs.Stand.{Rise}
-use Rattle.fragments.specs.Laws.{shown_len}
-use Rattle.fragments.proofs.Counts.{own_cells, visible_more, places_count_cells}
-use Rattle.anchors.specs.Before.{Place, at, move_before, reaches}
+use Rattle.fragments.specs.Laws.{shown_len, cells_len}
+use Rattle.fragments.proofs.Counts.{own_cells, visible_more, places_count_cells, fold_cells, cells_len-append}
+use Rattle.anchors.specs.Before.{CellsBefore, at, move_before, reaches}
 use Rattle.std.proofs.lemmas.Option.{same_Some, none-some}
-use Rattle.anchors.specs.Spots.{cells_len, run_behind, RunFits}
+use Rattle.anchors.specs.Spots.{run_behind, RunFits}
 
 -- ---- ids
 
@@ -57,23 +57,19 @@ seek_id (g ∷ pre) post f low r =
 shown_more : (f : Fragment) (fs : List Fragment) (n : ℕ) → n + (summary_of f).visible + shown_len fs ≡ n + shown_len (f ∷ fs)
 shown_more f fs n = let e = visible_more f fs in omega (arith, e)
 
-pub shown_behind : (p : Place) (fs : List Fragment) → (place_behind move_before summary_of p fs).0 ≡ p.0 + shown_len fs
+pub shown_behind : (p : CellsBefore) (fs : List Fragment) → (place_behind move_before summary_of p fs).0 ≡ p.0 + shown_len fs
 shown_behind p [] = omega arith
 shown_behind p (f ∷ fs) = shown_behind (behind p (move_before p (summary_of f))) fs ∙ shown_more f fs p.0
 
-pub cells_behind : (p : Place) (fs : List Fragment) → (place_behind move_before summary_of p fs).1 ≡ p.1 + cells_len fs
+pub cells_behind : (p : CellsBefore) (fs : List Fragment) → (place_behind move_before summary_of p fs).1 ≡ p.1 + cells_len fs
 cells_behind p [] = omega arith
 cells_behind p (f ∷ fs) = let c = own_cells f in cells_behind (behind p (move_before p (summary_of f))) fs ∙ omega (arith, c)
-
-cells_sum : (s : FragmentSummary) (fs : List Fragment) → cells_of (fold s summaries summary_of fs) ≡ cells_of s + cells_len fs
-cells_sum s [] = omega arith
-cells_sum s (f ∷ fs) = let c = own_cells f in cells_sum (summaries s (summary_of f)) fs ∙ omega (arith, c)
 
 abbrev pub whole : List Fragment → FragmentSummary
 whole fs = fold no_fragments summaries summary_of fs
 
 pub whole_cells : (fs : List Fragment) → SummaryFits (whole fs) → cells_len fs < 2 ^ 64
-whole_cells fs h = let a = cells_sum no_fragments fs in omega (arith, a, h)
+whole_cells fs h = let a = fold_cells no_fragments fs in omega (arith, a, h)
 
 pub shown_less : (fs : List Fragment) → shown_len fs ≤ cells_len fs
 shown_less [] = omega arith
@@ -82,10 +78,6 @@ shown_less (f ∷ fs) = go f.visible (shown_less fs)
     go : (b : Bool) → shown_len fs ≤ cells_len fs → cond b (f.len + shown_len fs) (shown_len fs) ≤ f.len + cells_len fs
     go true h = omega (arith, h)
     go false h = omega (arith, h)
-
-pub cells_append : (xs ys : List Fragment) → cells_len (xs ++ ys) ≡ cells_len xs + cells_len ys
-cells_append [] ys = omega arith
-cells_append (x ∷ xs) ys = let ih = cells_append xs ys in omega (arith, ih)
 
 -- ---- what stands at an index
 
@@ -170,7 +162,7 @@ seek_none (g ∷ fs) o n h e = elim (cases_Bool (nat_lt o (n + (summary_of g).vi
 
 -- ---- what a seek by an id gives
 
-abbrev pub start : Place
+abbrev pub start : CellsBefore
 start = (0, 0)
 
 pub seek_finds : (fs : List Fragment) (i : List ℕ) (pre post : List Fragment) (f : Fragment) → fs ≡ pre ++ f ∷ post → Rise least_digits fs → f.id ≡ i
@@ -183,27 +175,27 @@ seek_finds fs i pre post f e r d =
 pub seek_not_none : (fs : List Fragment) (i : List ℕ) (pre post : List Fragment) (f : Fragment) → fs ≡ pre ++ f ∷ post → Rise least_digits fs → f.id ≡ i → None ≡ slice_get fs (sought i fs) → ⊥
 seek_not_none fs i pre post f e r d n = none-some f (n ∙ (seek_finds fs i pre post f e r d).0)
 
-pub seek_room : (fs : List Fragment) (n : ℕ) (f : Fragment) (p : Place) → slice_get fs n ≡ Some f → p ≡ place_behind move_before summary_of start (take n fs) → SummaryFits (whole fs) → RunFits (run_behind f p.0 p.1)
+pub seek_room : (fs : List Fragment) (n : ℕ) (f : Fragment) (p : CellsBefore) → slice_get fs n ≡ Some f → p ≡ place_behind move_before summary_of start (take n fs) → SummaryFits (whole fs) → RunFits (run_behind f p.0 p.1)
 seek_room fs n f p e q h =
     let a = at_index fs n f e in
-    let s : p.0 ≡ 0 + shown_len (take n fs) = ap (λ (z : Place). z.0) q ∙ shown_behind start (take n fs) in
-    let c : p.1 ≡ 0 + cells_len (take n fs) = ap (λ (z : Place). z.1) q ∙ cells_behind start (take n fs) in
+    let s : p.0 ≡ 0 + shown_len (take n fs) = ap (λ (z : CellsBefore). z.0) q ∙ shown_behind start (take n fs) in
+    let c : p.1 ≡ 0 + cells_len (take n fs) = ap (λ (z : CellsBefore). z.1) q ∙ cells_behind start (take n fs) in
     let l = shown_less (take n fs) in
     let w = whole_cells fs h in
-    let t : cells_len fs ≡ cells_len (take n fs) + (f.len + cells_len a.post) = ap cells_len a.parts ∙ cells_append (take n fs) (f ∷ a.post) in
+    let t : cells_len fs ≡ cells_len (take n fs) + (f.len + cells_len a.post) = ap cells_len a.parts ∙ cells_len-append (take n fs) (f ∷ a.post) in
     record { shown = omega (arith, s, l, w, t); cells = omega (arith, c, w, t); fewer = omega (arith, s, c, l) }
 
 same_run : (f g : Fragment) (v w m n : ℕ) → f ≡ g → v ≡ w → m ≡ n → run_behind f v m ≡ run_behind g w n
 same_run f g v w m n a b c = ap (λ (z : Fragment). run_behind z v m) a ∙ ap (λ (z : ℕ). run_behind g z m) b ∙ ap (λ (z : ℕ). run_behind g w z) c
 
 pub seek_run : (fs : List Fragment) (i : List ℕ) (pre post : List Fragment) (f : Fragment) → fs ≡ pre ++ f ∷ post → Rise least_digits fs → f.id ≡ i
-    → (g : Fragment) (p : Place) → slice_get fs (sought i fs) ≡ Some g → p ≡ place_behind move_before summary_of start (take (sought i fs) fs)
+    → (g : Fragment) (p : CellsBefore) → slice_get fs (sought i fs) ≡ Some g → p ≡ place_behind move_before summary_of start (take (sought i fs) fs)
     → run_behind g p.0 p.1 ≡ run_behind f (shown_len pre) (cells_len pre)
 seek_run fs i pre post f e r d g p a q =
     let z = seek_finds fs i pre post f e r d in
     let m : List Fragment = take (sought i fs) fs in
-    let s : p.0 ≡ 0 + shown_len m = ap (λ (x : Place). x.0) q ∙ shown_behind start m in
-    let c : p.1 ≡ 0 + cells_len m = ap (λ (x : Place). x.1) q ∙ cells_behind start m in
+    let s : p.0 ≡ 0 + shown_len m = ap (λ (x : CellsBefore). x.0) q ∙ shown_behind start m in
+    let c : p.1 ≡ 0 + cells_len m = ap (λ (x : CellsBefore). x.1) q ∙ cells_behind start m in
     let u = ap shown_len z.1 in
     let v = ap cells_len z.1 in
     same_run g f p.0 (shown_len pre) p.1 (cells_len pre) (same_Some g f (sym a ∙ z.0)) (omega (arith, s, u)) (omega (arith, c, v))
@@ -216,7 +208,7 @@ module _ (fs items : List Fragment) (i j : List ℕ) (next : ℕ) (items_are : i
   pub first_is : (g : Option Fragment) → g ≡ slice_get items (next + filter_count (reaches j) summary_of (drop next items)) → g ≡ slice_get fs (sought i fs)
   first_is g q = q ∙ ap (slice_get items) over_is ∙ ap (λ (xs : List Fragment). slice_get xs (sought i fs)) items_are
 
-  pub start_is : (p : Place) (v n given : ℕ) (items2 : List Fragment) → p ≡ place_behind move_before summary_of (at v n) (take given items2)
+  pub start_is : (p : CellsBefore) (v n given : ℕ) (items2 : List Fragment) → p ≡ place_behind move_before summary_of (at v n) (take given items2)
       → items2 ≡ items → given ≡ next + filter_count (reaches j) summary_of (drop next items) → v ≡ 0 → n ≡ 0
       → p ≡ place_behind move_before summary_of start (take (sought i fs) fs)
   start_is p v n given items2 q e g a b =

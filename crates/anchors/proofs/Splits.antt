@@ -7,7 +7,7 @@ use Rattle.std.proofs.lemmas.List.{length-append, length-map}
 use Rattle.std.proofs.lemmas.List.Elements.{filter-append}
 use Rattle.std.proofs.lemmas.List.Filters.{length-filter_both}
 use Rattle.op_model.proofs.Elements.{each_right}
-use Rattle.op_model.specs.Sorted.{EachPair, Member}
+use Rattle.op_model.specs.Sorted.{EachPair}
 use Rattle.op_model.specs.Histories.{History}
 use Rattle.op_model.specs.Cells.{Cell, same_cell, seq, cells}
 use Rattle.op_model.specs.Shown.{shown, byte, text, hidden_text}
@@ -18,11 +18,6 @@ use Rattle.op_model.proofs.MainLaws.{each_cell_once, texts_are_shown_cells}
 use Rattle.op_model.proofs.anchors.KnownAnchors.{got_map}
 
 -- ---- lists
-
-pub split_at : {A : Type 0} (x : A) (xs : List A) → Member x xs → (ys zs : List A) × (xs ≡ ys ++ x ∷ zs)
-split_at x [] m = absurd m
-split_at x (y ∷ xs) (inl e) = ([], xs, ap (λ z. z ∷ xs) (sym e))
-split_at x (y ∷ xs) (inr m) = let k = split_at x xs m in (y ∷ k.0, k.1, ap (λ z. y ∷ z) k.2)
 
 -- the n-th that passes, n being the number of those before it that do
 pub got_at : {A : Type 0} (p : A → Bool) (xs : List A) (x : A) (ys : List A) → p x ≡ true → slice_get (filter p (xs ++ x ∷ ys)) (length (filter p xs)) ≡ Some x

@@ -11,36 +11,37 @@ use Rattle.fragments.specs.SeenPlaces.{cells_of}
 use Rattle.std.proofs.lemmas.Bool.{not-false}
 use Rattle.std.proofs.lemmas.Option.{same_Some}
 
-abbrev pub Place : Type 0
-Place = ℕ × ℕ
+-- how many shown cells lie before, and how many of all
+abbrev pub CellsBefore : Type 0
+CellsBefore = ℕ × ℕ
 
-abbrev pub at : ℕ → ℕ → Place
+abbrev pub at : ℕ → ℕ → CellsBefore
 at v n = (v, n)
 
-abbrev pub move_before : Place → FragmentSummary → Option Place
+abbrev pub move_before : CellsBefore → FragmentSummary → Option CellsBefore
 move_before p s = Some (at (p.0 + s.visible) (p.1 + cells_of s))
 
-abbrev pub IsLaterBefore : Place → Place → Type 0
+abbrev pub IsLaterBefore : CellsBefore → CellsBefore → Type 0
 IsLaterBefore p q = (p.0 ≤ q.0) × (p.1 ≤ q.1)
 
-abbrev pub BeforeFits : Place → FragmentSummary → Type 0
+abbrev pub BeforeFits : CellsBefore → FragmentSummary → Type 0
 BeforeFits p s = (p.0 + s.visible < 2 ^ 64) × (p.1 + cells_of s < 2 ^ 64)
 
 two : (v w m n : ℕ) → v ≡ w → m ≡ n → at v m ≡ at w n
 two v w m n a b = ap (λ k. at k m) a ∙ ap (at w) b
 
-abbrev Went : Place → FragmentSummary → Place → Type 0
+abbrev Went : CellsBefore → FragmentSummary → CellsBefore → Type 0
 Went p s q = (p.0 + s.visible ≡ q.0) × (p.1 + cells_of s ≡ q.1)
 
-went : (p q : Place) (s : FragmentSummary) → move_before p s ≡ Some q → Went p s q
+went : (p q : CellsBefore) (s : FragmentSummary) → move_before p s ≡ Some q → Went p s q
 went p q s e =
     let f = same_Some (at (p.0 + s.visible) (p.1 + cells_of s)) q e in
-    (ap (λ (z : Place). z.0) f, ap (λ (z : Place). z.1) f)
+    (ap (λ (z : CellsBefore). z.0) f, ap (λ (z : CellsBefore). z.1) f)
 
-goes : (p q : Place) (s : FragmentSummary) → Went p s q → move_before p s ≡ Some q
-goes p q s w = ap (λ (z : Place). Some z) (two (p.0 + s.visible) q.0 (p.1 + cells_of s) q.1 w.0 w.1)
+goes : (p q : CellsBefore) (s : FragmentSummary) → Went p s q → move_before p s ≡ Some q
+goes p q s w = ap (λ (z : CellsBefore). Some z) (two (p.0 + s.visible) q.0 (p.1 + cells_of s) q.1 w.0 w.1)
 
-pub before_laws : DimensionLaws {P = Place} {S = FragmentSummary} no_fragments summaries IsSummary IsOne IsLaterBefore move_before BeforeFits
+pub before_laws : DimensionLaws {P = CellsBefore} {S = FragmentSummary} no_fragments summaries IsSummary IsOne IsLaterBefore move_before BeforeFits
 before_laws = record {
   nothing = λ p q e. let w = went p q no_fragments e in let a = w.0 in let b = w.1 in
       two q.0 p.0 q.1 p.1 (omega (arith, a)) (omega (arith, b));

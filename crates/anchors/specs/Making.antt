@@ -19,5 +19,5 @@ abbrev pub cell_of : Byte → Cell
 cell_of b = record { stamp = b.stamp; k = b.k }
 
 -- the number behind a byte is a u64
-abbrev pub HasRoom : Byte → Type 0
-HasRoom b = b.k + 1 < 2 ^ 64
+abbrev pub NextFits : Byte → Type 0
+NextFits b = b.k + 1 < 2 ^ 64

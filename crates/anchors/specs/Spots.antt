@@ -1,5 +1,5 @@
 -- Where a cell stands among all cells.
-use Rattle.std.specs.Prelude.{◌≡◌, ◌++◌, ◌∷◌, IfSome, ℕ, ◌+◌, ◌-◌, ◌<◌, ◌≤◌, ◌^◌, ◌&&◌, Bool, true, nat_lt, nat_le, length, List, Option, Some, None, if◌then◌else◌}
+use Rattle.std.specs.Prelude.{◌≡◌, ◌++◌, ◌∷◌, IfSome, ℕ, ◌+◌, ◌-◌, ◌<◌, ◌≤◌, ◌^◌, ◌&&◌, Bool, nat_lt, nat_le, length, List, Option, Some, None, if◌then◌else◌}
 use Rattle.lamport_clock.specs.declared.stamp.Lamport.{Lamport}
 use Rattle.lamport_clock.specs.Stamps.{same_stamp}
 use Rattle.op_model.specs.Histories.{History}
@@ -7,12 +7,11 @@ use Rattle.op_model.specs.Edits.{is_boundary}
 use Rattle.op_model.specs.Cells.{Cell, seq, cells, cell_at}
 use Rattle.op_model.specs.Shown.{shown, new_bytes}
 use Rattle.op_model.specs.Anchors.{cells_before, shown_count}
-use Rattle.op_model.specs.Walked.{kept_len}
 use Rattle.op_model.specs.Lawful.{Lawful}
 use Rattle.fragments.specs.declared.fragment.Fragment.{Fragment}
 use Rattle.fragments.specs.declared.index_entry.IndexEntry.{IndexEntry}
-use Rattle.fragments.specs.Laws.{shown_len}
-use Rattle.fragments.specs.Stand.{Stand, Rise, runs}
+use Rattle.fragments.specs.Laws.{shown_len, cells_len}
+use Rattle.fragments.specs.Stand.{Stand, Rise}
 use Rattle.locators.specs.Locator.{least_digits}
 use Rattle.undo_map.specs.declared.entry.UndoEntry.{UndoEntry}
 use Rattle.anchors.specs.declared.spot.Spot.{Spot}
@@ -34,10 +33,6 @@ spot_of h c = if nat_lt c.k (length (new_bytes h c.stamp)) then Some (spot h c) 
 pub record IsCounted (s : Spot) : Type 0 where
   pub fewer : s.shown ≤ s.cells
   pub room : s.cells + 1 < 2 ^ 64
-
--- how many cells fragments have
-abbrev pub cells_len : List Fragment → ℕ
-cells_len fs = kept_len (λ t. true) (runs fs)
 
 -- the cells of a fragment, before which v shown cells stand, and n of all
 abbrev pub run_behind : Fragment → ℕ → ℕ → Run

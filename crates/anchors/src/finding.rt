@@ -21,7 +21,8 @@ pub struct UnknownAnchor {
     pub anchor: Anchor,
 }
 
-fn known(
+// Where an anchor stands; [`UnknownAnchor`] where it is not known.
+fn known_standing(
     tree: &SumTree<Fragment>,
     index: &InsertionIndex,
     visible: &Rope,
@@ -56,7 +57,7 @@ pub fn resolve(
         → result_ok result ≡ known_place h a.now }
     ensures unknown { IfErr result (λ e. e.anchor ≡ a.now) }
 {
-    let standing = known(tree, index, visible, hidden, *a)?;
+    let standing = known_standing(tree, index, visible, hidden, *a)?;
     Ok(standing.place)
 }
 
@@ -77,8 +78,8 @@ pub fn compare(
     ensures unknown { (h : History) → StandFor tree.now.items index.now visible.now hidden.now h
         → IfErr result (λ e. e.anchor ≡ (if is_known h a.now then b.now else a.now)) }
 {
-    let first = known(tree, index, visible, hidden, *a)?;
-    let second = known(tree, index, visible, hidden, *b)?;
+    let first = known_standing(tree, index, visible, hidden, *a)?;
+    let second = known_standing(tree, index, visible, hidden, *b)?;
     Ok(order(first, second))
 }
 

@@ -11,7 +11,7 @@ ghost use Rattle.op_model.specs.Anchors.{place_fault, shown_cells, left_anchor, 
 ghost use Rattle.undo_map.specs.declared.entry.UndoEntry.{UndoEntry};
 ghost use Rattle.fragments.specs.declared.index_entry.IndexEntry.{IndexEntry};
 ghost use Rattle.fragments.specs.Stand.{Stand};
-ghost use Rattle.anchors.specs.Making.{cell_of, HasRoom, made_anchor};
+ghost use Rattle.anchors.specs.Making.{cell_of, NextFits, made_anchor};
 ghost use Rattle.anchors.specs.Standing.{StandFor};
 
 use fragments::{Fragment, InsertionIndex, Visible};
@@ -34,7 +34,7 @@ fn shown_byte(tree: &SumTree<Fragment>, o: u64) -> Option<Byte>
         → Stand tree.now.items w u h → Lawful h
         → option_map cell_of result ≡ slice_get (shown_cells h) o }
     ensures room { (w : List IndexEntry) → (u : List UndoEntry) → (h : History)
-        → Stand tree.now.items w u h → IfSome result HasRoom }
+        → Stand tree.now.items w u h → IfSome result NextFits }
 {
     tree.known();
     let start = Visible { bytes: 0 };

@@ -23,7 +23,7 @@ pub struct Standing {
     pub bias: Bias,
 }
 
-/// Left before Right.
+/// 0 for Left and 1 for Right, as Left comes first.
 pub fn side(bias: Bias) -> u8
     ensures { result ≡ side bias }
 {

@@ -12,8 +12,9 @@ use Rattle.std.proofs.lemmas.List.Folds.{find-append}
 use Rattle.sum_tree.specs.Laws.{fold}
 use Rattle.sum_tree.specs.Count.{count_sum}
 use Rattle.sum_tree.specs.Keyed.{Ascending, below, above, insert_item}
+use Rattle.tree_cursor.proofs.Counts.{fold_counts}
 use Rattle.lamport_clock.specs.declared.stamp.Lamport.{Lamport}
-use Rattle.sum_tree.proofs.Keys.{inserted_short}
+use Rattle.sum_tree.proofs.Keys.{inserted_short, option_or_none}
 use Rattle.lamport_clock.specs.Stamps.{same_stamp, stamp_cmp, stamp_order}
 use Rattle.lamport_clock.proofs.Order.{is_eq-same, stamp_cmp-refl}
 use Rattle.op_model.specs.declared.operation.Operation.{Operation}
@@ -123,10 +124,6 @@ is_at t p = is_eq (stamp_cmp p.stamp t)
 at_stamp : (t : Lamport) (p : StampEntry) → is_at t p ≡ true → p.stamp ≡ t
 at_stamp t p e = same_stamp_eq p.stamp t (sym (is_eq-same p.stamp t) ∙ e)
 
-or_none : (o : Option StampEntry) → option_or o None ≡ o
-or_none None = refl
-or_none (Some p) = refl
-
 module _ (p : StampEntry) (ps : List StampEntry) where
   low_found : (t : Lamport) → entry_at (below stamp_cmp stamp_at p.stamp ps) t ≡ cond (is_lt (stamp_cmp t p.stamp)) (entry_at ps t) None
   low_found t = find_filter (is_at t) (λ x. is_lt (stamp_cmp x.stamp p.stamp)) (is_lt (stamp_cmp t p.stamp)) (λ x e. ap (λ (s : Lamport). is_lt (stamp_cmp s p.stamp)) (at_stamp t x e)) ps
@@ -153,7 +150,7 @@ module _ (p : StampEntry) (ps : List StampEntry) where
       passed (inr e) = rw e refl
 
       one : (o : Ordering) → stamp_cmp t p.stamp ≡ o → option_or (cond (is_lt o) (entry_at ps t) None) (cond (is_gt o) (entry_at ps t) None) ≡ entry_at ps t
-      one Less e = or_none (entry_at ps t)
+      one Less e = option_or_none (entry_at ps t)
       one Equal e = absurd (n (sym (same_stamp_eq t p.stamp (sym (is_eq-same t p.stamp) ∙ ap is_eq e))))
       one Greater e = refl
 
@@ -193,13 +190,9 @@ module _ (ps new : List StampEntry) (h : History) (p : StampEntry) (k : AreEntri
 
 -- ---- how many there are
 
-counted : {X : Type 0} (n : ℕ) (xs : List X) → (fold (record { items = n }) count_sum (λ (x : X). record { items = 1 }) xs).items ≡ n + length xs
-counted n [] = omega arith
-counted n (x ∷ xs) = let e = counted (n + 1) xs in omega arith
-
 -- so many are counted
 pub counts_fit : {X : Type 0} (xs : List X) → length xs ≤ 2 ^ 40 → (fold (record { items = 0 }) count_sum (λ (x : X). record { items = 1 }) xs).items < 2 ^ 64
-counts_fit xs l = let e = counted 0 xs in omega arith
+counts_fit {X} xs l = let e = fold_counts (λ (x : X). record { items = 1 }) (λ x. refl) (record { items = 0 }) xs in omega arith
 
 pub inserted_long : (p : StampEntry) (ps : List StampEntry) → length ps < 2 ^ 40 → length (insert_item stamp_cmp stamp_at p ps) ≤ 2 ^ 40
 inserted_long p ps l = omega (arith, inserted_short stamp_cmp stamp_at stamp_order p ps, l)

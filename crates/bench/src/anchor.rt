@@ -40,7 +40,7 @@ fn snapshot_of(alloc: Global, fragments: u32) -> Result<Snapshot, OutOfMemory> {
 
 fn draw(rt: &HostRuntime, timed: bool, snapshot: &Snapshot) -> io::Result<()> {
     let start = Instant::now(rt)?;
-    let drawn = drawn(rt.alloc(), snapshot)?;
+    let drawn = draw_anchors(rt.alloc(), snapshot)?;
     tell(rt, timed, "Anchors", start, drawn.len() as u64)?;
     ask(rt, timed, snapshot, drawn.as_slice())
 }
@@ -80,7 +80,7 @@ fn compare(
 }
 
 // Anchors at places drawn by chance, of both kinds.
-fn drawn(alloc: Global, snapshot: &Snapshot) -> Result<Vec<Anchor>, OutOfMemory> {
+fn draw_anchors(alloc: Global, snapshot: &Snapshot) -> Result<Vec<Anchor>, OutOfMemory> {
     let len = snapshot.text().len();
     let mut anchors = Vec::new(alloc);
     let mut x = 1u64;

@@ -9,7 +9,7 @@ use sum_tree::OutOfMemory;
 use text_buffer::{Buffer, Limits};
 
 /// A replica's buffer over a text.
-pub fn opened(alloc: Global, replica: u16, base: &str) -> Result<Buffer, OutOfMemory>
+pub fn open_buffer(alloc: Global, replica: u16, base: &str) -> Result<Buffer, OutOfMemory>
     requires least { 1 ≤ replica }
     requires greatest { replica ≤ 1023 }
 {
@@ -50,13 +50,13 @@ impl EditPlace {
 /// A buffer of some so many fragments: letters were put into its base one by one, each at a place drawn by chance.
 pub fn among(alloc: Global, fragments: u32) -> Result<Buffer, OutOfMemory> {
     let base = long(alloc, fragments as u64 * 8)?;
-    let mut buffer = opened(alloc, 1, base.as_str())?;
-    made(alloc, &mut buffer, fragments / 2, EditPlace::Letter)?;
+    let mut buffer = open_buffer(alloc, 1, base.as_str())?;
+    make_edits(alloc, &mut buffer, fragments / 2, EditPlace::Letter)?;
     Ok(buffer)
 }
 
 /// Makes so many edits, and gives their operations.
-pub fn made(
+pub fn make_edits(
     alloc: Global,
     buffer: &mut Buffer,
     count: u32,

@@ -25,14 +25,14 @@ fn read_pairs(rt: &HostRuntime) -> io::Result<Vec<Pair>> {
 
 fn between_work(rt: &HostRuntime, timed: bool, pairs: &[Pair]) -> io::Result<Vec<Locator>> {
     let start = Instant::now(rt)?;
-    let all = made(rt.alloc(), pairs)?;
+    let all = make_all(rt.alloc(), pairs)?;
     tell(rt, timed, "Between", start, all.len() as u64)?;
     Ok(all)
 }
 
 fn copy_work(rt: &HostRuntime, timed: bool, all: &[Locator]) -> io::Result<()> {
     let start = Instant::now(rt)?;
-    let copies = copied(rt.alloc(), all)?;
+    let copies = copy_all(rt.alloc(), all)?;
     tell(rt, timed, "Copy", start, copies.len() as u64)
 }
 
@@ -54,7 +54,7 @@ fn pairs(alloc: Global, text: &str) -> Result<Vec<Pair>, OutOfMemory> {
 }
 
 // All locators, as far as the pairs name some that are made.
-fn made(alloc: Global, pairs: &[Pair]) -> Result<Vec<Locator>, OutOfMemory> {
+fn make_all(alloc: Global, pairs: &[Pair]) -> Result<Vec<Locator>, OutOfMemory> {
     let mut all = Vec::with_capacity(alloc, pairs.len().saturating_add(2))?;
     all.push(Locator::least(alloc)?)?;
     all.push(Locator::greatest(alloc)?)?;
@@ -67,7 +67,7 @@ fn made(alloc: Global, pairs: &[Pair]) -> Result<Vec<Locator>, OutOfMemory> {
     Ok(all)
 }
 
-fn copied(alloc: Global, all: &[Locator]) -> Result<Vec<Locator>, OutOfMemory> {
+fn copy_all(alloc: Global, all: &[Locator]) -> Result<Vec<Locator>, OutOfMemory> {
     let mut copies = Vec::with_capacity(alloc, all.len())?;
     for locator in all {
         copies.push(locator.copy(alloc)?)?;

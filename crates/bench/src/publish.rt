@@ -1,7 +1,7 @@
 //! Publishes a snapshot of a buffer to a reader again and again, alone and beside it.
 ghost use Rattle.std.specs.Prelude.{◌≡◌, ◌∷◌, []};
 
-use crate::buffers::opened;
+use crate::buffers::open_buffer;
 use crate::report::tell;
 use crate::rope::text::long;
 use snapshot_pub::{Publisher, SnapReader, open_pairs};
@@ -24,7 +24,7 @@ pub fn works<R: Threads + Wait + Sync>(
     n: u32,
 ) -> io::Result<()> {
     let text = long(rt.alloc(), bytes as u64)?;
-    let mut buffer = opened(rt.alloc(), 1, text.as_str())?;
+    let mut buffer = open_buffer(rt.alloc(), 1, text.as_str())?;
     let first = buffer.snapshot()?;
     pairs((rt, workers), timed, &mut buffer, first, n as u64)
 }
@@ -60,10 +60,10 @@ fn timed_works<R: Threads + Wait + Sync>(
 {
     let (rt, workers) = handles;
     let start = Instant::now(rt)?;
-    let answer = published(workers, publisher, buffer, n);
+    let answer = publish_all(workers, publisher, buffer, n);
     tell(rt, timed, "Publish", start, answer)?;
     let start = Instant::now(rt)?;
-    let answer = looked(reader, n);
+    let answer = look_all(reader, n);
     tell(rt, timed, "Latest", start, answer)?;
     let start = Instant::now(rt)?;
     let answer = both(workers, publisher, reader, buffer);
@@ -71,18 +71,18 @@ fn timed_works<R: Threads + Wait + Sync>(
 }
 
 // Publishes what the buffer is n times: how often memory sufficed.
-fn published<R: Wait>(rt: &R, publisher: &mut Publisher, buffer: &mut Buffer, n: u64) -> u64
+fn publish_all<R: Wait>(rt: &R, publisher: &mut Publisher, buffer: &mut Buffer, n: u64) -> u64
     requires { publisher.old.published ≡ buffer.old.history ∷ [] }
     ensures { publisher.new.published ≡ buffer.new.history ∷ [] }
 {
     let mut count = 0u64;
     for _i in 0..n {
-        count = count.wrapping_add(published_once(rt, publisher, buffer) as u64);
+        count = count.wrapping_add(publish_once(rt, publisher, buffer) as u64);
     }
     count
 }
 
-fn published_once<R: Wait>(rt: &R, publisher: &mut Publisher, buffer: &Buffer) -> bool
+fn publish_once<R: Wait>(rt: &R, publisher: &mut Publisher, buffer: &Buffer) -> bool
     requires { publisher.old.published ≡ buffer.now.history ∷ [] }
     ensures { publisher.new.published ≡ buffer.now.history ∷ [] }
 {
@@ -93,15 +93,15 @@ fn published_once<R: Wait>(rt: &R, publisher: &mut Publisher, buffer: &Buffer) -
 }
 
 // Takes the latest snapshot n times: how many bytes they have together.
-fn looked(reader: &mut SnapReader, n: u64) -> u64 {
+fn look_all(reader: &mut SnapReader, n: u64) -> u64 {
     let mut sum = 0u64;
     for _i in 0..n {
-        sum = sum.wrapping_add(looked_once(reader));
+        sum = sum.wrapping_add(look_once(reader));
     }
     sum
 }
 
-fn looked_once(reader: &mut SnapReader) -> u64 {
+fn look_once(reader: &mut SnapReader) -> u64 {
     match reader.latest() {
         Ok(snapshot) => snapshot.text().len(),
         Err(_) => 0,
@@ -109,10 +109,10 @@ fn looked_once(reader: &mut SnapReader) -> u64 {
 }
 
 // As often as a reader beside it looks.
-fn published_beside<R: Wait>(rt: &R, publisher: &mut Publisher, buffer: &mut Buffer) -> u64
+fn publish_beside<R: Wait>(rt: &R, publisher: &mut Publisher, buffer: &mut Buffer) -> u64
     requires { publisher.old.published ≡ buffer.old.history ∷ [] }
 {
-    published(rt, publisher, buffer, BESIDE)
+    publish_all(rt, publisher, buffer, BESIDE)
 }
 
 // Both at once, in two threads.
@@ -128,8 +128,8 @@ fn both<R: Threads + Wait + Sync>(
         rt,
         || -> u64
             requires { publisher.now.published ≡ buffer.now.history ∷ [] }
-        { published_beside(rt, publisher, buffer) },
-        || looked(reader, BESIDE),
+        { publish_beside(rt, publisher, buffer) },
+        || look_all(reader, BESIDE),
     );
     count.wrapping_add(sum)
 }

@@ -85,7 +85,7 @@ fn writes(rt: &HostRuntime, timed: bool, rope: &mut Rope, n: u64) -> io::Result<
 pub fn works(rt: &HostRuntime, timed: bool, bytes: u32, n: u32) -> io::Result<()> {
     let text = text::long(rt.alloc(), bytes as u64)?;
     let start = Instant::now(rt)?;
-    let mut rope = work::made(rt.alloc(), text.as_str())?;
+    let mut rope = work::make_rope(rt.alloc(), text.as_str())?;
     tell(rt, timed, "Build", start, rope.len())?;
     println!(rt; "ChunksBuilt {}", work::chunks(&rope))?;
     reads(rt, timed, &rope, n as u64)?;

@@ -86,19 +86,30 @@ fn search<R: Threads + Sync>(
     needle: &str,
 ) -> io::Result<()> {
     let start = Instant::now(rt)?;
-    tell(rt, timed, names[0], start, found(rt.alloc(), rope, needle))?;
+    tell(
+        rt,
+        timed,
+        names[0],
+        start,
+        count_found(rt.alloc(), rope, needle),
+    )?;
     let start = Instant::now(rt)?;
-    let found = found_in_parts(workers, rt.alloc(), rope, needle);
+    let found = count_found_in_parts(workers, rt.alloc(), rope, needle);
     tell(rt, timed, names[1], start, found)
 }
 
 // How many places are found, 0 where the search is refused.
-fn found(alloc: Global, rope: &Rope, needle: &str) -> u64 {
+fn count_found(alloc: Global, rope: &Rope, needle: &str) -> u64 {
     find_all(alloc, rope, needle).map_or(0, |found| found.len() as u64)
 }
 
 // The same in four parts.
-fn found_in_parts<R: Threads + Sync>(workers: &R, alloc: Global, rope: &Rope, needle: &str) -> u64 {
+fn count_found_in_parts<R: Threads + Sync>(
+    workers: &R,
+    alloc: Global,
+    rope: &Rope,
+    needle: &str,
+) -> u64 {
     find_all_par(workers, alloc, rope, needle, 4).map_or(0, |found| found.len() as u64)
 }
 

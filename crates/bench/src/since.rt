@@ -1,5 +1,5 @@
 //! Edits since a version, among fragments.
-use crate::buffers::{EditPlace, among, made};
+use crate::buffers::{EditPlace, among, make_edits};
 use crate::report::tell;
 use lamport_clock::{Lamport, Version};
 use std::alloc::Global;
@@ -40,7 +40,7 @@ fn versions(alloc: Global, fragments: u32) -> Result<(Version, Snapshot), OutOfM
 // Makes a few edits: the version before them, and the snapshot after them.
 fn change(alloc: Global, buffer: &mut Buffer) -> Result<(Version, Snapshot), OutOfMemory> {
     let before = buffer.version().copy(alloc)?;
-    made(alloc, buffer, EDITS, EditPlace::Random)?;
+    make_edits(alloc, buffer, EDITS, EditPlace::Random)?;
     let snapshot = buffer.snapshot()?;
     Ok((before, snapshot))
 }
@@ -53,7 +53,7 @@ fn ask(
     version: &Version,
 ) -> io::Result<()> {
     let start = Instant::now(rt)?;
-    let answer = told(snapshot, version);
+    let answer = count_edits(snapshot, version);
     tell(rt, timed, name, start, answer)
 }
 
@@ -68,15 +68,15 @@ fn base(alloc: Global) -> Result<Version, OutOfMemory> {
 }
 
 // How many edits there are since a version, asked for again and again.
-fn told(snapshot: &Snapshot, version: &Version) -> u64 {
+fn count_edits(snapshot: &Snapshot, version: &Version) -> u64 {
     let mut count = 0u64;
     for _ in 0..TIMES {
-        count = count.wrapping_add(told_once(snapshot, version));
+        count = count.wrapping_add(count_edits_once(snapshot, version));
     }
     count
 }
 
-fn told_once(snapshot: &Snapshot, version: &Version) -> u64 {
+fn count_edits_once(snapshot: &Snapshot, version: &Version) -> u64 {
     match snapshot.since(version) {
         Ok(edits) => edits.as_slice().len() as u64,
         Err(_) => 0,

@@ -17,7 +17,8 @@ use std::io;
 use std::time::Instant;
 use sum_tree::SumTree;
 use work::{
-    filled, found, got, inserted, listed, made, pushed, removed, shared, shared_typed, typed,
+    count_found, fill, get_all, insert_all, list_items, make_tree, push_all, push_all_shared,
+    remove_all, type_all, type_all_shared,
 };
 
 // Looks by index, and pushes while another tree shares the nodes.
@@ -30,10 +31,10 @@ fn listed_work<T: Numbered>(
     requires { (xs : List T) → T.Summary.fits (fold T.Summary.empty T.Summary.op T.sum_of xs) }
 {
     let start = Instant::now(rt)?;
-    let sum = got(tree, n);
+    let sum = get_all(tree, n);
     tell(rt, timed, "Get", start, sum)?;
     let start = Instant::now(rt)?;
-    let sum = shared(rt.alloc(), tree, n / 10)?;
+    let sum = push_all_shared(rt.alloc(), tree, n / 10)?;
     tell(rt, timed, "SharePush", start, sum)
 }
 
@@ -42,7 +43,7 @@ fn timed_pushes<T: Numbered>(rt: &HostRuntime, timed: bool, n: u64) -> io::Resul
     requires { (xs : List T) → T.Summary.fits (fold T.Summary.empty T.Summary.op T.sum_of xs) }
 {
     let start = Instant::now(rt)?;
-    let tree = pushed(rt.alloc(), 0, n)?;
+    let tree = push_all(rt.alloc(), 0, n)?;
     tell(rt, timed, "Push", start, tree.len())?;
     Ok(tree)
 }
@@ -59,9 +60,9 @@ fn push_work<T: Numbered>(rt: &HostRuntime, timed: bool, n: u64) -> io::Result<(
 fn list_work<T: Numbered>(rt: &HostRuntime, timed: bool, n: u64) -> io::Result<()>
     requires { (xs : List T) → T.Summary.fits (fold T.Summary.empty T.Summary.op T.sum_of xs) }
 {
-    let items: Vec<T> = listed(rt.alloc(), 0, n)?;
+    let items: Vec<T> = list_items(rt.alloc(), 0, n)?;
     let start = Instant::now(rt)?;
-    let tree = made(rt.alloc(), items)?;
+    let tree = make_tree(rt.alloc(), items)?;
     tell(rt, timed, "FromList", start, tree.len())
 }
 
@@ -75,10 +76,10 @@ fn typed_work<T: Numbered>(
     requires { (xs : List T) → T.Summary.fits (fold T.Summary.empty T.Summary.op T.sum_of xs) }
 {
     let start = Instant::now(rt)?;
-    let len = typed(rt.alloc(), tree, n)?;
+    let len = type_all(rt.alloc(), tree, n)?;
     tell(rt, timed, "Type", start, len)?;
     let start = Instant::now(rt)?;
-    let len = shared_typed(rt.alloc(), tree, n)?;
+    let len = type_all_shared(rt.alloc(), tree, n)?;
     tell(rt, timed, "ShareType", start, len)
 }
 
@@ -86,7 +87,7 @@ fn typed_work<T: Numbered>(
 fn text_work<T: Numbered>(rt: &HostRuntime, timed: bool, n: u64) -> io::Result<()>
     requires { (xs : List T) → T.Summary.fits (fold T.Summary.empty T.Summary.op T.sum_of xs) }
 {
-    let mut tree: SumTree<T> = made(rt.alloc(), listed(rt.alloc(), 0, n)?)?;
+    let mut tree: SumTree<T> = make_tree(rt.alloc(), list_items(rt.alloc(), 0, n)?)?;
     typed_work(rt, timed, &mut tree, n)
 }
 
@@ -102,7 +103,7 @@ fn fill_work<T: Numbered>(
     ensures ascending { Ascending T.Key.cmp T.key_of tree.new.items }
 {
     let start = Instant::now(rt)?;
-    let len = filled(rt.alloc(), tree, count)?;
+    let len = fill(rt.alloc(), tree, count)?;
     tell(rt, timed, "Fill", start, len)
 }
 
@@ -117,7 +118,7 @@ fn find_work<T: Numbered>(
     requires ascending { Ascending T.Key.cmp T.key_of tree.now.items }
 {
     let start = Instant::now(rt)?;
-    let there = found(tree, bound, n);
+    let there = count_found(tree, bound, n);
     tell(rt, timed, "Find", start, there)
 }
 
@@ -134,7 +135,7 @@ fn insert_work<T: Numbered>(
     ensures ascending { Ascending T.Key.cmp T.key_of tree.new.items }
 {
     let start = Instant::now(rt)?;
-    let replaced = inserted(rt.alloc(), tree, bound, n)?;
+    let replaced = insert_all(rt.alloc(), tree, bound, n)?;
     tell(rt, timed, "Insert", start, replaced)
 }
 
@@ -149,12 +150,12 @@ fn remove_work<T: Numbered>(
     requires ascending { Ascending T.Key.cmp T.key_of tree.old.items }
 {
     let start = Instant::now(rt)?;
-    let there = removed(rt.alloc(), tree, bound, n)?;
+    let there = remove_all(rt.alloc(), tree, bound, n)?;
     tell(rt, timed, "Remove", start, there)
 }
 
 // Works by keys, on a tree that had none at first.
-fn keyed<T: Numbered>(
+fn keyed_works<T: Numbered>(
     rt: &HostRuntime,
     timed: bool,
     tree: &mut SumTree<T>,
@@ -175,7 +176,7 @@ fn key_work<T: Numbered>(rt: &HostRuntime, timed: bool, count: u32) -> io::Resul
     requires { (xs : List T) → T.Summary.fits (fold T.Summary.empty T.Summary.op T.sum_of xs) }
 {
     let mut tree: SumTree<T> = SumTree::new(rt.alloc())?;
-    keyed(rt, timed, &mut tree, count)
+    keyed_works(rt, timed, &mut tree, count)
 }
 
 /// Works on a tree that gets so many items.

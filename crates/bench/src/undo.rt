@@ -53,24 +53,24 @@ fn undo(
     let tree = tree_of(rt.alloc(), fragments, deleted, old)?;
     let undos = counts(rt.alloc())?;
     let start = Instant::now(rt)?;
-    let shown = undone(rt.alloc(), &tree, &undos)?;
+    let shown = undo_often(rt.alloc(), &tree, &undos)?;
     tell(rt, timed, name, start, shown)
 }
 
 // Undoes the edit again and again, and answers how many bytes are shown after the last time.
-fn undone(alloc: Global, tree: &SumTree<Fragment>, undos: &UndoMap) -> Result<u64, OutOfMemory> {
-    let mut shown = 0u64;
-    for _ in 0..TIMES {
-        shown = undone_once(alloc, tree, undos)?;
-    }
-    Ok(shown)
-}
-
-fn undone_once(
+fn undo_often(
     alloc: Global,
     tree: &SumTree<Fragment>,
     undos: &UndoMap,
 ) -> Result<u64, OutOfMemory> {
+    let mut shown = 0u64;
+    for _ in 0..TIMES {
+        shown = undo_once(alloc, tree, undos)?;
+    }
+    Ok(shown)
+}
+
+fn undo_once(alloc: Global, tree: &SumTree<Fragment>, undos: &UndoMap) -> Result<u64, OutOfMemory> {
     let index = InsertionIndex::new(alloc)?;
     let placed = mark_undo(alloc, tree, &index, undos, UNDO, &[EDIT])?;
     Ok(placed.fragments.summary().visible)

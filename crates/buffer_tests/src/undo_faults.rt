@@ -7,7 +7,7 @@ ghost use Rattle.buffer_tests.specs.UndoSample.{edit_at, undo_at, sample};
 use applied_ops::AppliedList;
 use lamport_clock::{Lamport, Version};
 use op_answers::UndoFault::{CountEnd, NoSuchEdit, Twice};
-use op_answers::{UndoFault, undo_fault};
+use op_answers::{UndoFault, listed_fault};
 use op_model::{Counts, EditOp, Operation, Pieces, UndoCount, UndoOp};
 use std::alloc::Global;
 use std::test::Fail;
@@ -96,7 +96,7 @@ fn undos(alloc: Global) -> Result<UndoMap, OutOfMemory>
 fn fault(alloc: Global, edits: &[Lamport]) -> Result<Option<UndoFault>, OutOfMemory> {
     let undos = undos(alloc)?;
     let applied = applied(alloc)?;
-    Ok(undo_fault(alloc, &applied, &undos, edits))
+    Ok(listed_fault(alloc, &applied, &undos, edits))
 }
 
 #[test]
@@ -114,7 +114,7 @@ fn each_fault(rt: HostRuntime) -> Result<(), Fail> {
 fn counts(alloc: Global, edits: &[Lamport]) -> Result<Option<Counts>, OutOfMemory> {
     let applied = applied(alloc)?;
     let undos = undos(alloc)?;
-    match undo_fault(alloc, &applied, &undos, edits) {
+    match listed_fault(alloc, &applied, &undos, edits) {
         Some(_) => Ok(None),
         None => Ok(Some(next_counts(alloc, &undos, edits)?)),
     }

@@ -1,8 +1,8 @@
 -- Each option has a number of its range, where `clap` finds no fault.
 use Rattle.std.proofs.Common.{◌≡◌, ◌⊎◌, inl, inr, ◌++◌, ◌||◌, ℕ, Bool, true, false, cond, List, [], ◌∷◌, length, nat_lt, Some, None, is_some, refl, sym, ap, ◌∙◌, subst, true≢false, option_map, ne_eqb, arith}
 use Rattle.std.proofs.lemmas.Option.{same_Some}
-use Rattle.std.specs.Prelude.{⊤, option_and_then, slice_get}
-use Rattle.std.specs.List.{find, fold}
+use Rattle.std.specs.Prelude.{option_and_then, slice_get}
+use Rattle.std.specs.List.{AllByRecursion, find, fold}
 use Rattle.std.specs.Option.{option_map_or}
 use Rattle.std.specs.Str.{bytes_eq}
 use Rattle.std.specs.Str.Parse.{digits_value, without_leading_plus}
@@ -38,8 +38,7 @@ module _ (name : Text) (least most : ℕ) where
 
   -- each row of that name has a number of the range
   abbrev pub AllRead : List Row → Type 0
-  AllRead [] = ⊤
-  AllRead (r ∷ rs) = IsRead r × AllRead rs
+  AllRead rows = AllByRecursion IsRead rows
 
   -- an option of one value or more, each a number of the range where it has that name; or a request for help
   abbrev pub Takes : Rule → Type 0
@@ -121,8 +120,7 @@ module _ (name : Text) (least most : ℕ) where
       go false e = standing a.defaults e
 
   abbrev pub EachTakes : List Rule → Type 0
-  EachTakes [] = ⊤
-  EachTakes (a ∷ rest) = Takes a × EachTakes rest
+  EachTakes rules = AllByRecursion Takes rules
 
   pub defaults_read : (rows : List Row) (rules : List Rule) → EachTakes rules → defaults_fault rows rules ≡ [] → AllRead rows → AllRead (fold with_default rows rules)
   unfolding defaults_fault

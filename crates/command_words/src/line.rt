@@ -19,7 +19,7 @@ fn option<'a>(alloc: Global, name: &'a str, parser: ValueParser<'a>) -> Arg<'a>
 }
 
 /// An option that has to be there.
-fn wanted<'a>(alloc: Global, name: &'a str, parser: ValueParser<'a>) -> Arg<'a>
+fn wanted_option<'a>(alloc: Global, name: &'a str, parser: ValueParser<'a>) -> Arg<'a>
     ensures rule { rule_of result ≡ wanted_rule name.entry.now parser.entry }
     ensures local { result.global ≡ false }
 {
@@ -45,21 +45,21 @@ fn seed<'a>(alloc: Global) -> Arg<'a>
     ensures rule { rule_of result ≡ wanted_rule (codes "seed") (Unsigned 0 2147483647) }
     ensures local { result.global ≡ false }
 {
-    wanted(alloc, "seed", value_parser!(u64).range(0..=2_147_483_647))
+    wanted_option(alloc, "seed", value_parser!(u64).range(0..=2_147_483_647))
 }
 
 fn replicas<'a>(alloc: Global) -> Arg<'a>
     ensures rule { rule_of result ≡ wanted_rule (codes "replicas") (Unsigned 1 16) }
     ensures local { result.global ≡ false }
 {
-    wanted(alloc, "replicas", value_parser!(u64).range(1..=16))
+    wanted_option(alloc, "replicas", value_parser!(u64).range(1..=16))
 }
 
 fn edits<'a>(alloc: Global) -> Arg<'a>
     ensures rule { rule_of result ≡ wanted_rule (codes "edits") (Unsigned 0 20000) }
     ensures local { result.global ≡ false }
 {
-    wanted(alloc, "edits", value_parser!(u64).range(0..=20_000))
+    wanted_option(alloc, "edits", value_parser!(u64).range(0..=20_000))
 }
 
 fn make_line<'a>(alloc: Global) -> Result<Command<'a>, OutOfMemory>

@@ -84,7 +84,7 @@ fn is_memory(error: &Error) -> bool
 ///
 /// # Errors
 ///
-/// Want of memory alone.
+/// `OutOfMemory` alone.
 pub fn command_of(alloc: Global, words: &[String]) -> Result<Option<Command>, OutOfMemory>
     ensures command { IfOk result (λ c. c ≡ command_of words.now) }
     ensures taken { IfOk result (λ c. is_some c ≡ clap_takes words.now) }

@@ -1,10 +1,8 @@
 -- A map from stamps to operations, as the list of its operations.
 use Rattle.std.proofs.Common.{◌≡◌, Bool, true, false, cond, not, ◌&&◌, List, [], ◌∷◌, refl, sym, ap, ◌∙◌, Option, Some, None, arith, subst}
-use Rattle.std.proofs.lemmas.Bool.Decides.{nat_tests}
-use Rattle.std.specs.Ordering.{match_ordering}
+use Rattle.std.specs.Ordering.{match_ordering, is_gt, is_lt, is_eq}
 use Rattle.std.specs.List.{find, filter, AllByRecursion}
 use Rattle.std.specs.List.Sorted.{IsStrictlySortedBy}
-use Rattle.std.specs.Ordering.{is_gt, is_lt, is_eq}
 use Rattle.std.specs.declared.cmp.Ordering.TheVariants.{Less, Equal, Greater}
 use Rattle.std.specs.declared.ops.Bound.TheVariants.{Excluded, Unbounded}
 use Rattle.std.specs.BTreeMap.{insert_entry, is_at}
@@ -13,7 +11,7 @@ use Rattle.std.specs.Map.{keys_of, values_of, lookup, remove_entry}
 use Rattle.lamport_clock.specs.declared.stamp.Lamport.{Lamport}
 use Rattle.lamport_clock.specs.Stamps.{later, same_stamp, stamp_cmp}
 use Rattle.lamport_clock.specs.Versions.{Entries}
-use Rattle.lamport_clock.proofs.Order.{is_gt-later, is_lt-later, is_eq-same}
+use Rattle.lamport_clock.proofs.Order.{is_gt-later, is_lt-later, is_eq-same, same_sym}
 use Rattle.op_model.specs.declared.operation.Operation.{Operation}
 use Rattle.op_model.specs.Sorted.{insert_by, Ascending}
 use Rattle.op_model.specs.Operations.{stamp_of}
@@ -23,10 +21,6 @@ use Rattle.deferred_ops.specs.Deferred.{AreKeyed, is_past, misses_nothing, least
 
 abbrev pub Keyed : Type 0
 Keyed = List (Lamport × Operation)
-
-pub same_sym : (s t : Lamport) → same_stamp s t ≡ same_stamp t s
-unfolding same_stamp
-same_sym s t = grind (arith, nat_tests)
 
 -- ---- an operation is looked up
 

@@ -1,8 +1,7 @@
 -- Causes that are listed of what waits.
-use Rattle.std.proofs.Common.{◌≡◌, ◌⊎◌, inl, inr, ◌<◌, ◌≤◌, ◌==◌, ℕ, Bool, true, false, cond, not, ◌&&◌, List, [], ◌∷◌, length, refl, sym, ap, ◌∙◌, Option, Some, None, arith, subst, true≢false, eqb-true, eq-eqb, ne_eqb, lt-ltb, le-ltb, slice_get}
+use Rattle.std.proofs.Common.{◌≡◌, ◌⊎◌, inl, inr, ◌<◌, ◌≤◌, ◌==◌, ℕ, Bool, true, false, cond, not, ◌&&◌, List, [], ◌∷◌, refl, sym, ap, ◌∙◌, Option, Some, None, arith, subst, true≢false, eqb-true, eq-eqb, ne_eqb, lt-ltb, le-ltb, slice_get}
 use Rattle.std.specs.List.{AllByRecursion}
 use Rattle.std.specs.Prelude.{nat_le, nat_lt, IfSome, unwrap_or}
-use Rattle.std.proofs.lemmas.Bool.Decides.{nat_tests}
 use Rattle.std.proofs.lemmas.Bool.{cases_Bool, cases_lt, false_from_ne_true, le-leb, leb-true, ltb-true, and_right}
 use Rattle.std.specs.Ordering.{is_eq, is_gt, nat_cmp, ordering_then}
 use Rattle.std.specs.declared.cmp.Ordering.{Ordering}
@@ -14,16 +13,15 @@ use Rattle.std.specs.BTreeMap.Range.{IsLeBy}
 use Rattle.lamport_clock.specs.declared.stamp.Lamport.{Lamport}
 use Rattle.lamport_clock.specs.Stamps.{later, same_stamp, stamp_cmp}
 use Rattle.lamport_clock.specs.Versions.{Entries, IsVersion, entry, first_unseen, within}
-use Rattle.lamport_clock.proofs.Order.{is_eq-same}
+use Rattle.lamport_clock.proofs.Order.{is_eq-same, same_sym}
 use Rattle.lamport_clock.proofs.Raises.{by_order}
 use Rattle.op_model.specs.declared.operation.Operation.{Operation}
 use Rattle.op_model.specs.Sorted.{Ascending, Member, insert_by}
 use Rattle.op_model.specs.Operations.{stamp_of, version_of}
 use Rattle.op_model.specs.Histories.{operation_at}
 use Rattle.op_model.specs.Steps.{older}
-use Rattle.op_model.proofs.order.PathOrder.{same_stamp_eq, same_stamp_refl}
+use Rattle.op_model.proofs.order.PathOrder.{later_differs, same_stamp_eq, same_stamp_refl}
 use Rattle.deferred_ops.specs.Deferred.{AreListed, Cause, Causes, IsListed, NoneSeen, cause_order, has_cause, is_past, least_ready, misses_nothing, without}
-use Rattle.deferred_ops.proofs.Keyed.{same_sym}
 
 -- ---- numbers that come first in an order
 
@@ -163,10 +161,6 @@ same_here : (a : Cause) → is_at (cause_order a) a ≡ true
 same_here a =
     rw (le-ltb a.0 a.0 (omega arith), eq-eqb a.0 a.0 refl, le-ltb a.1 a.1 (omega arith), eq-eqb a.1 a.1 refl) (is_eq-same a.2 a.2 ∙ same_stamp_refl a.2)
 
-older_apart : (t u : Lamport) → later u t ≡ true → same_stamp t u ≡ false
-unfolding later same_stamp
-older_apart t u e = grind (arith, nat_tests)
-
 -- the causes of all operations of other stamps stay
 module _ (s anew : Causes) (seen : Cause) (stays : (q : Cause) → is_at (cause_order seen) q ≡ false → has_cause s q ≡ true → has_cause anew q ≡ true) where
   listed_on : (op : Operation) → same_stamp (stamp_of op) seen.2 ≡ false → IsListed s op → IsListed anew op
@@ -188,7 +182,7 @@ module _ (s anew : Causes) (seen : Cause) (stays : (q : Cause) → is_at (cause_
   behind_listed o [] here before listed = tt
   behind_listed o (y ∷ w) here before listed =
       let apart : same_stamp (stamp_of y) seen.2 ≡ false =
-      same_sym (stamp_of y) seen.2 ∙ ap (λ t. same_stamp t (stamp_of y)) (sym (same_stamp_eq (stamp_of o) seen.2 here)) ∙ older_apart (stamp_of o) (stamp_of y) before.0 in
+      same_sym (stamp_of y) seen.2 ∙ ap (λ t. same_stamp t (stamp_of y)) (sym (same_stamp_eq (stamp_of o) seen.2 here)) ∙ (later_differs (stamp_of o) (stamp_of y) before.0).0 in
       (listed_on y apart listed.0, behind_listed o w here before.1 listed.1)
 
   -- the operation of that stamp has another cause
@@ -200,19 +194,22 @@ module _ (s anew : Causes) (seen : Cause) (stays : (q : Cause) → is_at (cause_
       go true q e later = (subst (IsListed anew) (sym (ap (λ x. unwrap_or x o) e)) is, behind_listed o w q up.0 listed.1)
       go false q e later = (listed_on o q listed.0, later e)
 
+-- what an operation is listed by that has such a cause
+pub inserted_listed : (s anew : Causes) (missed : Cause) (op : Operation) (b : Cause → Bool)
+    → ((q : Cause) → has_cause anew q ≡ cond (is_at (cause_order missed) q) true (b q))
+    → missed.2 ≡ stamp_of op → (0 < missed.1) × Member (missed.0, missed.1) (version_of op) → IsListed anew op
+inserted_listed s anew missed op b changes is cause =
+    (missed.0, missed.1, ap (has_cause anew) key ∙ changes missed ∙ ap (λ x. cond x true (b missed)) (same_here missed), cause.0, cause.1)
+  where
+    key : ◌≡◌ {A = Cause} (missed.0, missed.1, stamp_of op) missed
+    key = λ i. (missed.0, missed.1, (sym is) i)
+
 pub relisted : (s anew : Causes) (seen missed : Cause)
     → ((q : Cause) → has_cause anew q ≡ cond (is_at (cause_order missed) q) true (cond (is_at (cause_order seen) q) false (has_cause s q)))
     → (op : Operation) (w : List Operation) → Ascending older w → operation_at w seen.2 ≡ Some op → missed.2 ≡ stamp_of op → 0 < missed.1 → Member (missed.0, missed.1) (version_of op) → AreListed s w → AreListed anew w
 relisted s anew seen missed changes op w up found is some among listed =
     relisted_by s anew seen (λ q apart has. changes q ∙ ap (λ b. cond (is_at (cause_order missed) q) true (cond b false (has_cause s q))) apart ∙ stays_true (is_at (cause_order missed) q) (has_cause s q) has) op w up found
-    (missed.0, missed.1, ap (has_cause anew) key ∙ changes missed ∙ ap (λ b. cond b true (cond (is_at (cause_order seen) missed) false (has_cause s missed))) (same_here missed), some, among) listed
-  where
-    key : ◌≡◌ {A = Cause} (missed.0, missed.1, stamp_of op) missed
-    key = λ i. (missed.0, missed.1, (sym is) i)
-
-pub none_listed : (s : Causes) (w : List Operation) → length w ≡ 0 → AreListed s w
-none_listed s [] none = tt
-none_listed s (o ∷ w) none = absurd (omega arith)
+    (inserted_listed s anew missed op (λ q. cond (is_at (cause_order seen) q) false (has_cause s q)) changes is (some, among)) listed
 
 pub more_listed : (s anew : Causes) → ((q : Cause) → has_cause s q ≡ true → has_cause anew q ≡ true) → (w : List Operation) → AreListed s w → AreListed anew w
 more_listed s anew keeps [] listed = tt
@@ -235,13 +232,3 @@ first_listed [] e kept first = absurd (cc first)
 first_listed (x ∷ v) e kept first =
     let same : x ≡ e = ap (λ o. unwrap_or o x) first in
     (subst (λ (y : ℕ × ℕ). 0 < y.1) same kept.2, inl (sym same))
-
--- what an operation is listed by that has such a cause
-pub inserted_listed : (s anew : Causes) (missed : Cause) (op : Operation) (b : Cause → Bool)
-    → ((q : Cause) → has_cause anew q ≡ cond (is_at (cause_order missed) q) true (b q))
-    → missed.2 ≡ stamp_of op → (0 < missed.1) × Member (missed.0, missed.1) (version_of op) → IsListed anew op
-inserted_listed s anew missed op b changes is cause =
-    (missed.0, missed.1, ap (has_cause anew) key ∙ changes missed ∙ ap (λ x. cond x true (b missed)) (same_here missed), cause.0, cause.1)
-  where
-    key : ◌≡◌ {A = Cause} (missed.0, missed.1, stamp_of op) missed
-    key = λ i. (missed.0, missed.1, (sym is) i)

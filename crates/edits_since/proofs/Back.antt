@@ -1,26 +1,22 @@
 -- Moves that carry the bytes of fragments back to what a version saw make the text that it saw.
 use Rattle.op_model.proofs.texts.WholeWalks.{texts_of as proper_texts}
-use Rattle.std.proofs.Common.{◌≡◌, ℕ, zero, suc, Bool, true, false, ◌&&◌, cond, List, [], ◌∷◌, ◌++◌, map, get_or, refl, sym, ap, ◌∙◌, arith, inl, inr, ◌⊎◌}
+use Rattle.std.proofs.Common.{◌≡◌, ℕ, zero, suc, Bool, true, false, ◌&&◌, cond, List, [], ◌∷◌, ◌++◌, map, get_or, refl, sym, ap, ◌∙◌, arith, ◌⊎◌}
 use Rattle.std.specs.List.{AllByRecursion, filter}
-use Rattle.std.proofs.lemmas.Bool.{cases_Bool}
 use Rattle.lamport_clock.specs.declared.stamp.Lamport.{Lamport}
-use Rattle.lamport_clock.specs.Stamps.{same_stamp}
 use Rattle.lamport_clock.specs.Versions.{Entries, sees}
 use Rattle.op_model.specs.declared.operation.Operation.{Operation}
 use Rattle.op_model.specs.Domains.{IsProper}
 use Rattle.op_model.specs.Operations.{stamp_of}
 use Rattle.op_model.specs.Histories.{History, In, newest_first}
 use Rattle.op_model.specs.Cells.{Cell, seq, cells}
-use Rattle.op_model.specs.Shown.{byte, deleters, hidden_text, new_bytes, text}
+use Rattle.op_model.specs.Shown.{byte, deleters, hidden_text, text}
 use Rattle.op_model.specs.Facts.{Fact, fact, cell_facts, alike}
 use Rattle.op_model.specs.Walked.{IsWhole, facts_of}
 use Rattle.op_model.specs.Lawful.{Lawful, IsClosed}
 use Rattle.op_model.specs.Since.{text_at, is_shown_at as was_shown_in}
 use Rattle.op_model.proofs.histories.Lawful.{LawInv}
 use Rattle.op_model.proofs.answers.Good.{lawful_ready}
-use Rattle.op_model.proofs.order.PathOrder.{same_stamp_eq}
 use Rattle.op_model.proofs.order.SameSets.{newest_same}
-use Rattle.op_model.proofs.histories.ClosedVersions.{shown_closed}
 use Rattle.op_model.proofs.MainLaws.{texts_at_closed_versions}
 use Rattle.op_model.proofs.texts.WholeTexts.{byte_of}
 use Rattle.op_model.proofs.texts.WholeRuns.{byte_new}
@@ -33,14 +29,14 @@ use Rattle.remote_edit.specs.declared.moves.Move.{Move}
 use Rattle.remote_edit.specs.Marks.{was_shown}
 use Rattle.remote_edit.specs.Moves.{Texts, after_moves, TakeTexts}
 use Rattle.remote_edit.specs.Carried.{Carried, IsText, shown_bytes}
-use Rattle.remote_edit.proofs.Marks.{was_told}
 use Rattle.remote_edit.proofs.Texts.{text_bytes, hidden_text_bytes}
 use Rattle.remote_edit.proofs.WholeFragments.{texts_are, whole_runs}
 use Rattle.edits_since.specs.Fates.{was_in_text}
 use Rattle.edits_since.specs.Back.{AreMovesBack, TakeCharacters}
 use Rattle.edits_since.proofs.Walking.{IsSettled}
-use Rattle.edits_since.proofs.Standing.{settled}
+use Rattle.edits_since.proofs.Standing.{settled, was_is}
 use Rattle.edits_since.proofs.Moving.{as_seen, CarryBack}
+use Rattle.op_model.proofs.answers.SameAnswers.{no_bytes}
 
 -- ---- the text at a version
 
@@ -61,13 +57,10 @@ module _ (h : History) (v : Entries) (l : Lawful h) (k : IsClosed h v) where
   laws : LawInv h
   laws = (lawful_ready h l).0
 
-  was_is : (c : Cell) → (sees v c.stamp && was_shown (undo_entries h) v c.stamp (deleters h c)) ≡ was_shown_in h v c
-  was_is c = sym (ap (λ (b : Bool). sees v c.stamp && b) (shown_closed h l v k c ∙ was_told h v c.stamp (deleters h c)))
-
   bytes_seen : (s : List Cell) → bytes (byte_of h) (filter (λ (q : Fact). q.visible) (map (refact (undo_entries h) v) (map (fact h) s))) ≡ map (byte h) (filter (was_shown_in h v) s)
   bytes_seen [] = refl
   bytes_seen (c ∷ s) =
-      ap (λ (b : Bool). bytes (byte_of h) (cond b (record { cell = c; visible = b; deletions = deleters h c } ∷ others) others)) (was_is c)
+      ap (λ (b : Bool). bytes (byte_of h) (cond b (record { cell = c; visible = b; deletions = deleters h c } ∷ others) others)) (sym (was_is h v l k c))
       ∙ pick (was_shown_in h v c) (bytes_seen s)
     where
       others : List Fact
@@ -90,19 +83,11 @@ module _ (h : History) (v : Entries) (l : Lawful h) (k : IsClosed h v) where
   abbrev nobody : Lamport
   nobody = record { value = 0; replica = 0 }
 
-  no_bytes : (g : History) → ((o : Operation) → In g o → stamp_of o ≡ nobody → ⊥) → new_bytes g nobody ≡ []
-  no_bytes [] f = refl
-  no_bytes (o ∷ g) f = go (cases_Bool (same_stamp (stamp_of o) nobody)) (no_bytes g (λ p i. f p (inr i)))
-    where
-      go : (same_stamp (stamp_of o) nobody ≡ true) ⊎ (same_stamp (stamp_of o) nobody ≡ false) → new_bytes g nobody ≡ [] → new_bytes (o ∷ g) nobody ≡ []
-      go (inl e) ih = absurd (f o (inl refl) (same_stamp_eq (stamp_of o) nobody e))
-      go (inr e) ih = rw e ih
-
   positive : (o : Operation) → In h o → stamp_of o ≡ nobody → ⊥
   positive o i e = let a = laws.above o i 0 in let b : (stamp_of o).value ≡ 0 = ap (λ (t : Lamport). t.value) e in absurd (omega arith)
 
   of_nobody : (j : ℕ) → byte_of h (record { stamp = nobody; k = j }) ≡ get_or [] j 0
-  of_nobody j = ap (λ (x : List ℕ). get_or x j 0) (no_bytes (newest_first h) (λ o i. positive o ((newest_same h o).0 i)))
+  of_nobody j = ap (λ (x : List ℕ). get_or x j 0) (no_bytes (newest_first h) nobody (λ o i. positive o ((newest_same h o).0 i)))
 
   module _ (fs : List Fragment) (u : List UndoEntry) (ms : List Move) (counts : u ≡ undo_entries h) (tell : facts_of (runs fs) ≡ cell_facts h) (c : CarryBack fs u v ms) where
     carried : Carried (byte_of h) nobody (text h) (hidden_text h) [] ms (map (as_seen u v) fs) [] 0

@@ -1,6 +1,7 @@
 -- The edits of fates, along one walk with the run that is open.
 use Rattle.std.proofs.Common.{◌≡◌, ℕ, zero, suc, ◌+◌, Bool, true, false, cond, ◌||◌, nat_lt, List, [], ◌∷◌, ◌++◌, refl, sym, ap, ◌∙◌, arith, append_assoc, append-nil, ne_eqb, eqb}
 use Rattle.std.proofs.lemmas.Bool.{lt-ltb}
+use Rattle.std.proofs.Math.Bool.{or-true}
 use Rattle.op_model.specs.declared.anchor.TextEdit.{TextEdit}
 use Rattle.op_model.specs.Since.{Fate, fate, lengthen, runs, number_gone, number_new, changes, edits_of}
 use Rattle.op_model.specs.Since.Fate.{Kept, Gone, New, Never}
@@ -35,11 +36,7 @@ open_runs old new g n (r ∷ rs) = run_first old new (g + number_gone r) (n + nu
 changes_is : (r : List Fate) → changes r ≡ (nat_lt 0 (number_gone r) || nat_lt 0 (number_new r))
 changes_is [] = refl
 changes_is (Gone ∷ r) = rw (lt-ltb 0 (suc (number_gone r)) (omega arith)) refl
-changes_is (New ∷ r) = rw (lt-ltb 0 (suc (number_new r)) (omega arith)) (sym (or_true (nat_lt 0 (number_gone r))))
-  where
-    or_true : (b : Bool) → (b || true) ≡ true
-    or_true true = refl
-    or_true false = refl
+changes_is (New ∷ r) = rw (lt-ltb 0 (suc (number_new r)) (omega arith)) (sym (or-true (nat_lt 0 (number_gone r))))
 changes_is (Kept ∷ r) = changes_is r
 changes_is (Never ∷ r) = changes_is r
 

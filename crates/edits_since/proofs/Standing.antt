@@ -5,6 +5,7 @@ use Rattle.std.proofs.lemmas.Bool.{cases_Bool}
 use Rattle.lamport_clock.specs.declared.stamp.Lamport.{Lamport}
 use Rattle.lamport_clock.specs.Stamps.{same_stamp}
 use Rattle.lamport_clock.specs.Versions.{Entries, join_versions, sees}
+use Rattle.lamport_clock.proofs.Sees.{sees_joined, sees_within}
 use Rattle.op_model.specs.declared.anchor.TextEdit.{TextEdit}
 use Rattle.op_model.specs.declared.operation.Operation.{Operation}
 use Rattle.op_model.specs.declared.operation.UndoCount.{UndoCount}
@@ -13,25 +14,26 @@ use Rattle.op_model.specs.Operations.{stamp_of, counts_of}
 use Rattle.op_model.specs.Histories.{History, In, seen_history}
 use Rattle.op_model.specs.Cells.{Cell, seq, cells}
 use Rattle.op_model.specs.Shown.{greatest_given, count, undone, all_undone, deleters, shown}
-use Rattle.op_model.specs.Facts.{Fact, fact, cell_facts, alike as alike_facts, seen_by, was_visible}
-use Rattle.op_model.specs.Walked.{run_facts, facts_of}
+use Rattle.op_model.specs.Facts.{Fact, fact, cell_facts, alike as alike_facts, visible_by, was_visible}
+use Rattle.op_model.specs.Walked.{facts_of}
 use Rattle.op_model.specs.Lawful.{Lawful, IsClosed}
 use Rattle.op_model.specs.Since.{Fate, fate, fates, is_shown_at as was_shown_in, runs as fate_runs, edits_of, since}
 use Rattle.op_model.proofs.histories.ClosedVersions.{shown_closed}
 use Rattle.op_model.proofs.order.PathOrder.{same_stamp_eq, same_stamp_refl}
+use Rattle.op_model.proofs.Elements.{any_member}
 use Rattle.undo_map.specs.declared.entry.UndoEntry.{UndoEntry}
 use Rattle.undo_map.specs.Undos.{undo_entries}
 use Rattle.fragments.specs.declared.fragment.Fragment.{Fragment}
-use Rattle.fragments.specs.Stand.{run_of, runs, IsFilled, SeesUndos}
+use Rattle.fragments.specs.Stand.{runs, SeesUndos}
 use Rattle.fragments.specs.Summaries.{summary_of}
+use Rattle.fragments.specs.SummaryLaws.{sees_stamps, stamps_seen}
 use Rattle.remote_edit.specs.Marks.{was_shown}
-use Rattle.remote_edit.specs.SeesLaws.{sees_joined, sees_stamps, stamps_seen, any_member}
 use Rattle.remote_edit.proofs.Marks.{was_told}
+use Rattle.remote_edit.proofs.OfFacts.{OfFact, of_facts}
 use Rattle.edits_since.specs.Fates.{was_in_text, alike, fates_of}
-use Rattle.edits_since.specs.Differs.{may_differ, sees_within, all_within}
+use Rattle.edits_since.specs.Differs.{may_differ, all_within}
 use Rattle.edits_since.specs.Telling.{MayTell}
 use Rattle.edits_since.proofs.Walking.{IsSettled}
-use Rattle.op_model.proofs.Elements.{each_right}
 use Rattle.remote_edit.proofs.UndoStands.{shown_seen}
 
 -- ---- the fates of a history are those of its fragments
@@ -39,15 +41,16 @@ use Rattle.remote_edit.proofs.UndoStands.{shown_seen}
 abbrev told_fate : List UndoEntry → Entries → Fact → Fate
 told_fate u v q = fate (sees v q.cell.stamp && was_shown u v q.cell.stamp q.deletions) q.visible
 
+-- a cell was in the text that v saw, as the undo counts tell
+pub was_is : (h : History) (v : Entries) → Lawful h → IsClosed h v → (c : Cell) → was_shown_in h v c ≡ (sees v c.stamp && was_shown (undo_entries h) v c.stamp (deleters h c))
+was_is h v l k c = ap (λ (b : Bool). sees v c.stamp && b) (shown_closed h l v k c ∙ was_told h v c.stamp (deleters h c))
+
 told_fates : (h : History) (v : Entries) → Lawful h → IsClosed h v → fates h v ≡ map (told_fate (undo_entries h) v) (cell_facts h)
 told_fates h v l k = go (cells (seq h))
   where
-    was_is : (c : Cell) → was_shown_in h v c ≡ (sees v c.stamp && was_shown (undo_entries h) v c.stamp (deleters h c))
-    was_is c = ap (λ (b : Bool). sees v c.stamp && b) (shown_closed h l v k c ∙ was_told h v c.stamp (deleters h c))
-
     go : (s : List Cell) → map (λ (c : Cell). fate (was_shown_in h v c) (shown h c)) s ≡ map (told_fate (undo_entries h) v) (map (fact h) s)
     go [] = refl
-    go (c ∷ s) = ap (λ (b : Bool). fate b (shown h c) ∷ map (λ (d : Cell). fate (was_shown_in h v d) (shown h d)) s) (was_is c)
+    go (c ∷ s) = ap (λ (b : Bool). fate b (shown h c) ∷ map (λ (d : Cell). fate (was_shown_in h v d) (shown h d)) s) (was_is h v l k c)
         ∙ ap (λ (z : List Fate). told_fate (undo_entries h) v (fact h c) ∷ z) (go s)
 
 alike_fates : (u : List UndoEntry) (v : Entries) (t : Lamport) (k n : ℕ) (b : Bool) (d : List Lamport) (s : List Fact)
@@ -69,27 +72,16 @@ fates_are fs u v h m =
 
 -- ---- each fragment has a cell
 
-abbrev IsTold : History → Fact → Type 0
-IsTold h q = (q.visible ≡ shown h q.cell) × (q.deletions ≡ deleters h q.cell)
+-- a cell of edit t that is shown or not, and deleted by these
+abbrev IsTold : History → Lamport → Bool → List Lamport → Type 0
+IsTold h t v d = (c : Cell) × (c.stamp ≡ t) × (v ≡ shown h c) × (d ≡ deleters h c)
 
 abbrev HasCell : History → Fragment → Type 0
-HasCell h f = (c : Cell) × (c.stamp ≡ f.stamp) × (f.visible ≡ shown h c) × (f.deletions ≡ deleters h c)
+HasCell h f = IsTold h f.stamp f.visible f.deletions
 
-all_told : (h : History) (s : List Cell) → AllByRecursion (IsTold h) (map (fact h) s)
+all_told : (h : History) (s : List Cell) → AllByRecursion (OfFact (IsTold h)) (map (fact h) s)
 all_told h [] = tt
-all_told h (c ∷ s) = ((refl, refl), all_told h s)
-
-first_cell : (h : History) (t : Lamport) (k n : ℕ) (b : Bool) (d : List Lamport) (s : List Fact) → 0 < n → AllByRecursion (IsTold h) (alike_facts t k n b d ++ s)
-    → (c : Cell) × (c.stamp ≡ t) × (b ≡ shown h c) × (d ≡ deleters h c)
-first_cell h t k zero b d s l e = absurd (omega arith)
-first_cell h t k (suc n) b d s l e = (record { stamp = t; k = k }, refl, e.0.0, e.0.1)
-
-have_cells : (h : History) (fs : List Fragment) → AllByRecursion IsFilled fs → AllByRecursion (IsTold h) (facts_of (runs fs)) → AllByRecursion (HasCell h) fs
-have_cells h [] l e = tt
-have_cells h (f ∷ fs) l e = (
-  first_cell h f.stamp f.offset f.len f.visible f.deletions (facts_of (runs fs)) l.0.0 e,
-  have_cells h fs l.1 (each_right (IsTold h) (run_facts (run_of f)) (facts_of (runs fs)) e),
-)
+all_told h (c ∷ s) = ((c, refl, refl, refl), all_told h s)
 
 -- ---- what was counted at a version
 
@@ -133,11 +125,11 @@ module _ (h : History) (v : Entries) (f : Fragment) (u : List UndoEntry) (counts
   counts_same : (t : Lamport) → Member t (f.stamp ∷ f.deletions) → count (seen_history h v) t ≡ count h t
   counts_same t m = count_seen h v t (λ op i c k e. sees_undo (stamp_of op) (undos op i c k (subst (λ (s : Lamport). Member s (f.stamp ∷ f.deletions)) (sym e) m)))
 
-  was_now : was_visible (seen_history h v) v f.stamp f.deletions ≡ seen_by h f.stamp f.deletions
+  was_now : was_visible (seen_history h v) v f.stamp f.deletions ≡ visible_by h f.stamp f.deletions
   was_now = rw (undone_seen h v f.stamp (counts_same f.stamp (inl refl)), all_seen h v f.deletions (λ t m. (sees_edit t (inr m), counts_same t (inr m)))) refl
 
-  by_counts : HasCell h f → f.visible ≡ seen_by h f.stamp f.deletions
-  by_counts k = k.2 ∙ shown_seen h k.0 ∙ ap (λ (t : Lamport). seen_by h t (deleters h k.0)) k.1 ∙ ap (seen_by h f.stamp) (sym k.3)
+  by_counts : HasCell h f → f.visible ≡ visible_by h f.stamp f.deletions
+  by_counts k = k.2 ∙ shown_seen h k.0 ∙ ap (λ (t : Lamport). visible_by h t (deleters h k.0)) k.1 ∙ ap (visible_by h f.stamp) (sym k.3)
 
   same_then : HasCell h f → was_in_text u v f ≡ f.visible
   same_then k =
@@ -150,7 +142,7 @@ all_settled h v u [] e c s = tt
 all_settled h v u (f ∷ fs) e c s = ((λ n. same_then h v f u e s.0 n c.0), all_settled h v u fs e c.1 s.1)
 
 pub settled : (fs : List Fragment) (u : List UndoEntry) (v : Entries) (h : History) → MayTell fs u v h → AllByRecursion (IsSettled u v) fs
-settled fs u v h m = all_settled h v u fs m.stands.counts (have_cells h fs m.stands.filled (subst (AllByRecursion (IsTold h)) (sym m.stands.cells) (all_told h (cells (seq h))))) m.stands.undos
+settled fs u v h m = all_settled h v u fs m.stands.counts (of_facts (IsTold h) fs m.stands.filled (subst (AllByRecursion (OfFact (IsTold h))) (sym m.stands.cells) (all_told h (cells (seq h))))) m.stands.undos
 
 pub since_is : (fs : List Fragment) (u : List UndoEntry) (v : Entries) (es : List TextEdit) → (AllByRecursion (IsSettled u v) fs → es ≡ edits_of 0 0 (fate_runs (fates_of u v fs)))
     → (h : History) → MayTell fs u v h → es ≡ since h v

@@ -1,17 +1,20 @@
 -- The places behind fragments count their cells.
-use Rattle.std.proofs.Common.{◌≡◌, ℕ, ◌+◌, Bool, true, false, cond, List, [], ◌∷◌, Option, refl, ap, ◌∙◌, arith, inl, inr}
+use Rattle.std.proofs.Common.{◌≡◌, ℕ, ◌+◌, Bool, true, false, cond, List, [], ◌∷◌, ◌++◌, length, Option, refl, ap, ◌∙◌, arith, inl, inr}
 use Rattle.std.proofs.lemmas.Bool.{cases_Bool, and_from, leb-false, lt-ltb}
+use Rattle.std.proofs.lemmas.List.{length-append}
 use Rattle.lamport_clock.specs.Versions.{Entries, sees, entry}
 use Rattle.sum_tree.specs.Laws.{fold}
 use Rattle.tree_cursor.specs.Places.{behind, place_behind}
-use Rattle.op_model.specs.Walked.{kept_len}
+use Rattle.op_model.specs.Facts.{alike}
+use Rattle.op_model.specs.Walked.{kept_len, facts_of}
+use Rattle.op_model.proofs.texts.Utf8Runs.{length_alike}
 use Rattle.fragments.specs.declared.fragment.Fragment.{Fragment}
 use Rattle.fragments.specs.declared.fragment.FragmentSummary.{FragmentSummary}
 use Rattle.fragments.specs.Summaries.{summaries, summary_of}
 use Rattle.fragments.specs.SummaryLaws.{one_admitted}
 use Rattle.fragments.specs.SeenPlaces.{At, cells_of, move_full, move_visible, move_at, all_in, none_in}
 use Rattle.fragments.specs.Stand.{runs}
-use Rattle.fragments.specs.Laws.{PlacesCountCells, shown_len}
+use Rattle.fragments.specs.Laws.{PlacesCountCells, shown_len, cells_len}
 
 all_or_none : (b : Bool) (n : ℕ) → cond b n 0 + cond b 0 n ≡ n
 all_or_none true n = omega arith
@@ -20,7 +23,24 @@ all_or_none false n = omega arith
 pub own_cells : (f : Fragment) → cells_of (summary_of f) ≡ f.len
 own_cells f = all_or_none f.visible f.len
 
-full_behind : (fs : List Fragment) (n : ℕ) → place_behind move_full summary_of n fs ≡ n + kept_len (λ t. true) (runs fs)
+pub cells_len-append : (a b : List Fragment) → cells_len (a ++ b) ≡ cells_len a + cells_len b
+cells_len-append [] b = omega arith
+cells_len-append (f ∷ a) b = let ih = cells_len-append a b in omega arith
+
+-- the sum of fragments counts their cells
+pub fold_cells : (s : FragmentSummary) (fs : List Fragment) → cells_of (fold s summaries summary_of fs) ≡ cells_of s + cells_len fs
+fold_cells s [] = omega arith
+fold_cells s (f ∷ fs) = let ih = fold_cells (summaries s (summary_of f)) fs in let o = own_cells f in omega arith
+
+-- and so do their facts
+pub length_facts : (fs : List Fragment) → length (facts_of (runs fs)) ≡ cells_len fs
+length_facts [] = refl
+length_facts (f ∷ fs) =
+    let a = length-append (alike f.stamp f.offset f.len f.visible f.deletions) (facts_of (runs fs)) in
+    let b = length_alike f.stamp f.offset f.len f.visible f.deletions in
+    let ih = length_facts fs in omega arith
+
+full_behind : (fs : List Fragment) (n : ℕ) → place_behind move_full summary_of n fs ≡ n + cells_len fs
 full_behind [] n = omega arith
 full_behind (f ∷ fs) n = let c = own_cells f in full_behind fs (n + cells_of (summary_of f)) ∙ omega arith
 

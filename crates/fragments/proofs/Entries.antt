@@ -1,6 +1,5 @@
 -- An index with an entry more.
-use Rattle.std.proofs.Common.{◌≡◌, ℕ, ◌+◌, ◌≤◌, ◌⊎◌, Bool, true, false, cond, List, [], ◌∷◌, ◌++◌, length, refl, sym, ap, ◌∙◌, arith, subst, inl, inr}
-use Rattle.std.proofs.lemmas.Bool.{cases_Bool}
+use Rattle.std.proofs.Common.{◌≡◌, ℕ, ◌+◌, ◌≤◌, ◌⊎◌, true, List, [], ◌∷◌, ◌++◌, length, refl, sym, ap, ◌∙◌, arith, subst, inl, inr}
 use Rattle.std.proofs.lemmas.Cmp.{tied_itself}
 use Rattle.std.specs.Ordering.{nat_cmp, ordering_then, is_lt, is_eq, is_gt}
 use Rattle.std.specs.declared.cmp.Ordering.{Ordering}
@@ -12,39 +11,12 @@ use Rattle.lamport_clock.proofs.Order.{is_eq-same}
 use Rattle.lamport_clock.specs.Stamps.{stamp_cmp}
 use Rattle.op_model.specs.Sorted.{Member}
 use Rattle.op_model.proofs.order.PathOrder.{same_stamp_eq}
+use Rattle.op_model.proofs.Elements.{member_left, member_right, member_either, filter_has, filter_of}
 use Rattle.fragments.specs.declared.index_entry.IndexKey.{IndexKey}
 use Rattle.fragments.specs.declared.index_entry.IndexEntry.{IndexEntry}
 use Rattle.fragments.specs.Index.{key_of, key_cmp, key_order, with_entry}
 use Rattle.fragments.specs.Laws.{EntryTakesItsPlace}
 use Rattle.locators.proofs.Between.{nat_cmp-Equal}
-
-pub member_left : {A : Type 0} (x : A) (xs ys : List A) → Member x xs → Member x (xs ++ ys)
-member_left x [] ys m = absurd m
-member_left x (y ∷ xs) ys (inl e) = inl e
-member_left x (y ∷ xs) ys (inr m) = inr (member_left x xs ys m)
-
-pub member_right : {A : Type 0} (x : A) (xs ys : List A) → Member x ys → Member x (xs ++ ys)
-member_right x [] ys m = m
-member_right x (y ∷ xs) ys m = inr (member_right x xs ys m)
-
-pub member_either : {A : Type 0} (x : A) (xs ys : List A) → Member x (xs ++ ys) → Member x xs ⊎ Member x ys
-member_either x [] ys m = inr m
-member_either x (y ∷ xs) ys (inl e) = inl (inl e)
-member_either x (y ∷ xs) ys (inr m) = elim (member_either x xs ys m) [ inl k ↦ inl (inr k) | inr k ↦ inr k ]
-
-filter_has : {A : Type 0} (p : A → Bool) (x : A) (xs : List A) → Member x xs → p x ≡ true → Member x (filter p xs)
-filter_has p x [] m e = m
-filter_has p x (y ∷ xs) (inl q) e = let k : p y ≡ true = ap p (sym q) ∙ e in rw k (inl q)
-filter_has p x (y ∷ xs) (inr m) e = elim (cases_Bool (p y)) [ inl k ↦ rw k (inr (filter_has p x xs m e)) | inr k ↦ rw k (filter_has p x xs m e) ]
-
-filter_of : {A : Type 0} (p : A → Bool) (x : A) (xs : List A) → Member x (filter p xs) → Member x xs × (p x ≡ true)
-filter_of p x [] m = absurd m
-filter_of {A} p x (y ∷ xs) m = go (p y) refl m (filter_of p x xs)
-  where
-    go : (b : Bool) → p y ≡ b → Member x (cond b (y ∷ filter p xs) (filter p xs)) → (Member x (filter p xs) → Member x xs × (p x ≡ true)) → Member x (y ∷ xs) × (p x ≡ true)
-    go true e (inl q) rest = (inl q, ap p q ∙ e)
-    go true e (inr n) rest = let k = rest n in (inr k.0, k.1)
-    go false e n rest = let k = rest n in (inr k.0, k.1)
 
 then_equal : (a b : Ordering) → ordering_then a b ≡ Equal → (a ≡ Equal) × (b ≡ Equal)
 then_equal Less b h = cc

@@ -14,17 +14,17 @@ use Rattle.op_model.specs.Cells.{Cell, seq, cells, cell_at}
 use Rattle.op_model.specs.Facts.{Fact, alike}
 use Rattle.op_model.specs.Walked.{facts_of}
 use Rattle.op_model.specs.Lawful.{Lawful}
-use Rattle.op_model.proofs.order.CellsOnce.{each_member}
+use Rattle.op_model.proofs.order.CellsOnce.{each_member, member_map}
 use Rattle.op_model.proofs.order.PathOrder.{same_stamp_eq, same_stamp_refl}
 use Rattle.op_model.proofs.MainLaws.{each_cell_once}
 use Rattle.op_model.proofs.shown.FactCells.{cells_in, told_cells}
 use Rattle.op_model.proofs.texts.WholeTexts.{base_told}
+use Rattle.op_model.proofs.Elements.{member_left, member_right}
 use Rattle.fragments.specs.declared.fragment.Fragment.{Fragment}
 use Rattle.fragments.specs.declared.index_entry.IndexEntry.{IndexEntry}
 use Rattle.fragments.specs.Index.{covers, nearest, entry_for, id_for}
 use Rattle.fragments.specs.Stand.{runs, Tell, IsFilled, entry_of, IsIndexOf}
 use Rattle.fragments.specs.Laws.{IndexFindsFragments, BaseStands}
-use Rattle.fragments.proofs.Entries.{member_left, member_right}
 
 -- ---- pairs
 
@@ -36,11 +36,6 @@ pairs_across : {A : Type 0} (R : A → A → Type 0) (a b : A) (xs ys : List A) 
 pairs_across R a b [] ys h m n = absurd m
 pairs_across R a b (x ∷ xs) ys h (inl e) n = subst (λ z. R z b) (sym e) (each_member (R x) (xs ++ ys) b h.0 (member_right b xs ys n))
 pairs_across R a b (x ∷ xs) ys h (inr m) n = pairs_across R a b xs ys h.1 m n
-
-entry_in : (f : Fragment) (fs : List Fragment) → Member f fs → Member (entry_of f) (map entry_of fs)
-entry_in f [] m = absurd m
-entry_in f (g ∷ fs) (inl e) = inl (ap entry_of e)
-entry_in f (g ∷ fs) (inr m) = inr (entry_in f fs m)
 
 pub fragment_of : (e : IndexEntry) (fs : List Fragment) → Member e (map entry_of fs) → (f : Fragment) × Member f fs × (e ≡ entry_of f)
 fragment_of e [] m = absurd m
@@ -161,7 +156,7 @@ pub finds : (fs : List Fragment) (w : List IndexEntry) → EachPair Differ (cell
 finds fs w d filled index f m j l = go (entry_for f.stamp (f.offset + j) w) refl (sound f.stamp (f.offset + j) w) (best f.stamp (f.offset + j) (entry_of f) w in_w over)
   where
     in_w : Member (entry_of f) w
-    in_w = (index (entry_of f)).1 (entry_in f fs m)
+    in_w = (index (entry_of f)).1 (member_map entry_of f fs m)
 
     over : covers f.stamp (f.offset + j) (entry_of f) ≡ true
     over = and_from _ _ (same_stamp_refl f.stamp) (le-leb f.offset (f.offset + j) (omega arith))

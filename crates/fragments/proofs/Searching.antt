@@ -5,7 +5,7 @@ use Rattle.std.proofs.lemmas.Cmp.{alike_right}
 use Rattle.std.specs.Ordering.{nat_cmp, ordering_then, ordering_reverse, is_lt, is_eq}
 use Rattle.std.specs.declared.cmp.Ordering.{Ordering}
 use Rattle.std.specs.declared.cmp.Ordering.TheVariants.{Less, Equal, Greater}
-use Rattle.sum_tree.proofs.Keys.{less_of}
+use Rattle.sum_tree.proofs.Keys.{less_of, ascending_rest}
 use Rattle.tree_cursor.specs.Places.{seek_count}
 use Rattle.tree_cursor.specs.Keys.{greater, key_less, key_passes, cmp_less, order_less, IsLess}
 use Rattle.tree_cursor.specs.declared.ready.Greatest.{Greatest}
@@ -82,9 +82,6 @@ Behind x w = (j : ℕ) (d : IndexEntry) → j < length w → key_cmp (key_of x) 
 behind_first : (x : IndexEntry) (w : List IndexEntry) → IsAscending (x ∷ w) → Behind x w
 behind_first x w a = λ j d l. a 0 (suc j) d (omega arith) (omega arith)
 
-pub ascending_rest : (x : IndexEntry) (w : List IndexEntry) → IsAscending (x ∷ w) → IsAscending w
-ascending_rest x w a = λ i j d l m. a (suc i) (suc j) d (omega arith) (omega arith)
-
 behind_rest : (x y : IndexEntry) (w : List IndexEntry) → Behind x (y ∷ w) → Behind x w
 behind_rest x y w a = λ j d l. a (suc j) d (omega arith)
 
@@ -149,7 +146,7 @@ of_edit t (Some e) = cond (same_stamp e.stamp t) (Some e) None
 pub front_entry : (t : Lamport) (o : ℕ) (w : List IndexEntry) → IsAscending w → of_edit t (first_from (at t o) w) ≡ entry_for t o w
 front_entry t o [] a = refl
 front_entry t o (x ∷ w) a = elim (cases_Bool (less (key_of x) (at t o))) [
-  | inl l ↦ (let c = past_covers t o x l in rw (l, c) (front_entry t o w (ascending_rest x w a)))
+  | inl l ↦ (let c = past_covers t o x l in rw (l, c) (front_entry t o w (ascending_rest key_cmp key_of x w a)))
   | inr l ↦ elim (cases_Bool (same_stamp x.stamp t)) [
     | inl s ↦ (let c = up_to_covers t o x l s in
         let n = nearest_first x (entry_for t o w) (none_nearer t o x w s (behind_first x w a)) in

@@ -1,9 +1,9 @@
 -- Spans where one is put among them.
-use Rattle.std.proofs.Common.{◌≡◌, ℕ, suc, List, [], ◌∷◌, ◌++◌, length, take, refl, sym, ap, ◌∙◌, arith, true, false, cond, eqb, nat_lt, set, append-nil, eq-eqb, ne_eqb, Some, slice_get}
+use Rattle.std.proofs.Common.{◌≡◌, ℕ, suc, List, [], ◌∷◌, ◌++◌, length, refl, sym, ap, ◌∙◌, arith, true, false, cond, eqb, nat_lt, set, eq-eqb, ne_eqb, Some, slice_get}
 use Rattle.std.proofs.Math.ListN.{length-set}
-use Rattle.std.proofs.lemmas.List.{take_all, drop_all}
 use Rattle.std.proofs.lemmas.Option.{same_Some}
 use Rattle.std.specs.List.{refill, insert}
+use Rattle.lamport_clock.proofs.Entries.{refilled}
 use Rattle.fragments.specs.declared.spans.Span.{Span}
 use Rattle.fragments.specs.Spans.{hull, with_span, spans_before}
 
@@ -25,9 +25,6 @@ widen_insert (y ∷ u) x =
       | true ↦ λ b h. ap (λ l. y ∷ l) (widen_insert u x h)
       | false ↦ λ b h. let q : eqb y.replica x.replica ≡ false = ne_eqb y.replica x.replica (h y refl) in ap (λ t. cond t (hull y x ∷ u) (x ∷ y ∷ u)) (sym q)
     ] refl
-
-refilled : (v w : List Span) → length w ≡ length v → refill (length v) v w ≡ w
-refilled v w e = ap (λ l. take (length v) (w ++ l)) (drop_all (length w) v (omega arith)) ∙ ap (take (length v)) (append-nil w) ∙ take_all (length v) w (omega arith)
 
 pub set_here : (u s1 s2 s3 : List Span) (i : ℕ) (x old h : Span) → s1 ≡ u → s2 ≡ u → s3 ≡ u → i ≡ spans_before s1 x.replica → (slice_get s2 i ≡ Some old) × (old.replica ≡ x.replica) → h ≡ hull old x
     → refill (length u) u (set s3 i h) ≡ with_span x u

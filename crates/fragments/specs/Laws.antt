@@ -51,6 +51,11 @@ EntryTakesItsPlace = (x : IndexEntry) → (w : List IndexEntry) → IsAscending 
     × ((e : IndexEntry) → Member e (with_entry x w)
     ↔ ((e ≡ x) ⊎ (Member e w × (key_of e ≡ key_of x → ⊥))))
 
+-- how many cells fragments have
+abbrev pub cells_len : List Fragment → ℕ
+cells_len [] = 0
+cells_len (f ∷ fs) = f.len + cells_len fs
+
 -- the cells that are shown
 abbrev pub shown_len : List Fragment → ℕ
 shown_len [] = 0
@@ -59,6 +64,6 @@ shown_len (f ∷ fs) = if f.visible then f.len + shown_len fs else shown_len fs
 -- the places behind fragments count their cells: all, those that are shown, and those of stamps that a version sees
 abbrev pub PlacesCountCells : Type 0
 PlacesCountCells = (fs : List Fragment) → (n : ℕ)
-    → (place_behind move_full summary_of n fs ≡ n + kept_len (λ t. true) (runs fs))
+    → (place_behind move_full summary_of n fs ≡ n + cells_len fs)
     × (place_behind move_visible summary_of n fs ≡ n + shown_len fs)
     × ((v : Entries) → place_behind move_at summary_of (v, n) fs ≡ (v, n + kept_len (sees v) (runs fs)))

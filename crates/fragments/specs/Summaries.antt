@@ -45,7 +45,7 @@ abbrev pub with_stamps : List Lamport → Entries → Entries
 with_stamps [] v = v
 with_stamps (t ∷ d) v = with_stamps d (raise v t)
 
--- v in order
+-- what is kept of one fragment
 abbrev pub summary_of : Fragment → FragmentSummary
 summary_of f = record {
   visible = if f.visible then f.len else 0;

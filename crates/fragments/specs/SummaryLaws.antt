@@ -1,16 +1,21 @@
 -- What sums of fragments keep.
-use Rattle.std.proofs.Common.{◌≡◌, ℕ, List, [], ◌∷◌, Option, refl, ap, ◌∙◌, arith}
+use Rattle.std.proofs.Common.{◌≡◌, ◌||◌, ℕ, Bool, true, List, [], ◌∷◌, Option, refl, sym, ap, subst, ◌∙◌, arith, inl, inr}
+use Rattle.std.proofs.lemmas.Bool.{cases_Bool}
+use Rattle.std.specs.List.{list_any}
 use Rattle.std.proofs.lemmas.Cmp.{nat_list_cmp_total}
 use Rattle.std.specs.Cmp.Lexicographic.{slice_cmp}
 use Rattle.std.specs.Ordering.{nat_cmp}
 use Rattle.sum_tree.specs.Laws.{SummaryLaws}
 use Rattle.tree_cursor.specs.Keys.{greater_none, greater_assoc, order_less, IsLess}
 use Rattle.lamport_clock.specs.declared.stamp.Lamport.{Lamport}
-use Rattle.lamport_clock.specs.Versions.{Entries, AreEntriesFrom, raise, join_versions}
+use Rattle.lamport_clock.specs.Stamps.{same_stamp}
+use Rattle.lamport_clock.specs.Versions.{Entries, AreEntriesFrom, raise, join_versions, sees}
 use Rattle.fragments.specs.declared.spans.Span.{Span}
 use Rattle.fragments.specs.declared.fragment.Fragment.{Fragment}
 use Rattle.fragments.specs.declared.fragment.FragmentSummary.{FragmentSummary}
 use Rattle.lamport_clock.proofs.Associative.{joined_assoc, joined_left, joined_kept, raise_kept}
+use Rattle.lamport_clock.proofs.Sees.{raise_sees, sees_raise}
+use Rattle.op_model.proofs.order.PathOrder.{same_stamp_eq}
 use Rattle.fragments.specs.SpanLaws.{spans_assoc, spans_left, spans_kept, spans_none}
 use Rattle.fragments.specs.Summaries.{no_fragments, summaries, IsSummary, SummaryFits, IsOne, id_less, with_stamps, summary_of}
 
@@ -44,6 +49,19 @@ summary_laws = record {
 stamps_kept : (d : List Lamport) (v : Entries) → AreEntriesFrom 0 v → AreEntriesFrom 0 (with_stamps d v)
 stamps_kept [] v h = h
 stamps_kept (t ∷ d) v h = stamps_kept d (raise v t) (raise_kept v t h)
+
+-- what is seen stays seen where stamps are taken in
+pub sees_stamps : (d : List Lamport) (v : Entries) (t : Lamport) → sees v t ≡ true → sees (with_stamps d v) t ≡ true
+sees_stamps [] v t h = h
+sees_stamps (s ∷ d) v t h = sees_stamps d (raise v s) t (sees_raise v s t h)
+
+-- each of the stamps that are taken in is seen
+pub stamps_seen : (d : List Lamport) (v : Entries) (t : Lamport) → list_any (same_stamp t) d ≡ true → sees (with_stamps d v) t ≡ true
+stamps_seen [] v t h = cc
+stamps_seen (s ∷ d) v t h = elim (cases_Bool (same_stamp t s)) [
+  | inl e ↦ sees_stamps d (raise v s) t (subst (λ (x : Lamport). sees (raise v x) t ≡ true) (same_stamp_eq t s e) (raise_sees v t))
+  | inr e ↦ stamps_seen d (raise v s) t (ap (λ (b : Bool). b || list_any (same_stamp t) d) (sym e) ∙ h)
+]
 
 pub one_admitted : (f : Fragment) → IsSummary (summary_of f)
 one_admitted f = record {

@@ -90,3 +90,8 @@ are_entries n (e ∷ v) h = (h.0, h.2, are_entries (suc e.0) v h.4)
 -- a version is in order
 pub in_order : (v : Entries) → IsVersionFrom 0 v → join_versions [] v ≡ v
 in_order v h = joined_left 0 v (are_entries 0 v h)
+
+-- no entry is below the least replica
+pub none_below : (n : ℕ) (v : Entries) (r : ℕ) → AreEntriesFrom n v → r < n → entry v r ≡ 0
+none_below n [] r i l = refl
+none_below n (e ∷ v) r i l = let a = i.0 in let t = ne_eqb e.0 r (λ q. omega arith) in rw t (none_below (suc e.0) v r i.2 (omega arith))

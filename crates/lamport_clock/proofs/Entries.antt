@@ -1,5 +1,5 @@
 -- A version's entries where one is put among them.
-use Rattle.std.proofs.Common.{◌≡◌, ℕ, suc, ◌<◌, ◌≤◌, ◌≢◌, [], ◌∷◌, ◌++◌, length, get_or, take, refl, sym, ap, ◌∙◌, subst, arith, true, false, cond, eqb, nat_lt, set, append-nil, eq-eqb, ne_eqb}
+use Rattle.std.proofs.Common.{◌≡◌, ℕ, suc, ◌<◌, ◌≤◌, ◌≢◌, [], ◌∷◌, ◌++◌, length, get_or, take, List, refl, sym, ap, ◌∙◌, subst, arith, true, false, cond, eqb, nat_lt, set, append-nil, eq-eqb, ne_eqb}
 use Rattle.std.proofs.Math.ListN.{length-set}
 use Rattle.std.proofs.lemmas.List.{take_all, drop_all}
 use Rattle.std.proofs.lemmas.Bool.{ltb-true, ltb-false}
@@ -24,7 +24,8 @@ put-insert (y ∷ v) r x d =
       | false ↦ λ b h. let q : eqb y.0 r ≡ false = ne_eqb y.0 r (h (omega arith)) in ap (λ t. cond t ((r, x) ∷ v) ((r, x) ∷ y ∷ v)) (sym q)
     ] refl
 
-pub refilled : (v w : Entries) → length w ≡ length v → refill (length v) v w ≡ w
+-- a list that is filled from another of its length is that one
+pub refilled : {A : Type 0} (v w : List A) → length w ≡ length v → refill (length v) v w ≡ w
 refilled v w e = ap (λ l. take (length v) (w ++ l)) (drop_all (length w) v (omega arith)) ∙ ap (take (length v)) (append-nil w) ∙ take_all (length v) w (omega arith)
 
 pub set_here : (v s1 s2 s3 : Entries) (i r x : ℕ) → s1 ≡ v → s2 ≡ v → s3 ≡ v → i ≡ place_of s1 r → IsAt s2 i r → refill (length v) v (set s3 i (r, x)) ≡ put_entry r x v

@@ -7,12 +7,12 @@ use Rattle.lamport_clock.proofs.Raises.{by_bound, raise_seen, raise_new, entry-p
 use Rattle.lamport_clock.proofs.Entries.{IsVersion-put}
 use Rattle.lamport_clock.proofs.Joining.{entry_below}
 
-entry-raise_at : (u : Entries) (t : Lamport) → entry (raise u t) t.replica ≡ max (entry u t.replica) t.value
+pub entry-raise_at : (u : Entries) (t : Lamport) → entry (raise u t) t.replica ≡ max (entry u t.replica) t.value
 entry-raise_at u t = by_bound _ t.value (entry u t.replica)
     (λ l. ap (λ w. entry w t.replica) (raise_seen u t l) ∙ omega arith)
     (λ l. ap (λ w. entry w t.replica) (raise_new u t l) ∙ entry-put_at u t.replica t.value ∙ omega arith)
 
-entry-raise_off : (u : Entries) (t : Lamport) (q : ℕ) → q ≢ t.replica → entry (raise u t) q ≡ entry u q
+pub entry-raise_off : (u : Entries) (t : Lamport) (q : ℕ) → q ≢ t.replica → entry (raise u t) q ≡ entry u q
 entry-raise_off u t q n = by_bound _ t.value (entry u t.replica)
     (λ l. ap (λ w. entry w q) (raise_seen u t l))
     (λ l. ap (λ w. entry w q) (raise_new u t l) ∙ entry-put_off u t.replica t.value q n)

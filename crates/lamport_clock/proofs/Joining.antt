@@ -4,13 +4,10 @@ use Rattle.std.proofs.lemmas.List.{drop_more, take_more_set, drop-set-lt}
 use Rattle.std.proofs.lemmas.Bool.{lt-ltb, le-ltb, lt-leb, le-leb, ltb-true}
 use Rattle.lamport_clock.specs.Versions.{Entries, IsVersionFrom, entry, put_entry, raise, place_of, front, behind, first_unseen, join_versions}
 use Rattle.lamport_clock.proofs.Raises.{by_order, by_bound}
+use Rattle.lamport_clock.proofs.Associative.{none_below, are_entries}
 
 pub entry_below : (n : ℕ) (v : Entries) (r : ℕ) → IsVersionFrom n v → r < n → entry v r ≡ 0
-entry_below n [] r h l = refl
-entry_below n (e ∷ v) r h l =
-    let ne : eqb e.0 r ≡ false = ne_eqb e.0 r (λ q. (let k = h.0 in absurd (omega (arith, q, k)))) in
-    let k = h.0 in
-    rw ne (entry_below (suc e.0) v r h.4 (omega arith))
+entry_below n v r h l = none_below n v r (are_entries n v h) l
 
 -- ---- what one version has of the entries of another
 

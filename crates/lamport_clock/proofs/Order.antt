@@ -1,6 +1,7 @@
 -- The order of stamps, as std's comparisons tell it.
 use Rattle.std.proofs.Common.{◌≡◌, refl, sym, arith, Ordering, Some, eq-eqb, ne_eqb}
 use Rattle.std.proofs.lemmas.Bool.{lt-ltb, le-ltb}
+use Rattle.std.proofs.lemmas.Bool.Decides.{nat_tests}
 use Rattle.std.specs.Ordering.{ordering_then, partial_ordering_then, is_some_and, is_gt, is_lt, is_eq}
 use Rattle.std.specs.declared.cmp.Ordering.TheVariants.{Less, Equal, Greater}
 use Rattle.lamport_clock.specs.declared.stamp.Lamport.{Lamport}
@@ -50,3 +51,7 @@ is_lt-later s t =
     (λ p. rw (le-ltb s.replica t.replica (omega arith), eq-eqb s.replica t.replica p) refl)
     (λ g. rw (le-ltb s.replica t.replica (omega arith), ne_eqb s.replica t.replica (λ q. absurd (omega arith))) refl)))
     (λ g. rw (le-ltb s.value t.value (omega arith), ne_eqb s.value t.value (λ q. absurd (omega arith))) refl)
+
+pub same_sym : (s t : Lamport) → same_stamp s t ≡ same_stamp t s
+unfolding same_stamp
+same_sym s t = grind (arith, nat_tests)

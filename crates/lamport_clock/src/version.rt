@@ -239,7 +239,7 @@ fn join_entries(
         return Ok(());
     }
     let alloc = *entries.allocator();
-    *entries = merged(alloc, entries.as_slice(), theirs)?;
+    *entries = merge(alloc, entries.as_slice(), theirs)?;
     Ok(())
 }
 
@@ -272,7 +272,7 @@ fn raise_each(ours: &mut [(u16, u32)], theirs: &[(u16, u32)])
 }
 
 // All entries of both, the greater value where a replica is in both.
-fn merged(
+fn merge(
     alloc: Global,
     ours: &[(u16, u32)],
     theirs: &[(u16, u32)],

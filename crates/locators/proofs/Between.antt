@@ -163,16 +163,6 @@ same_digits (suc n) x y a b e = go (same_digits n x y a b e) (last_or_same x y (
     go rest (inl p) = absurd (omega (arith, p.0, e))
     go rest (inr p) = p.1 ∙ ap (λ z. x ∷ z) rest
 
--- where something lies between, the digit there is the last
-pub last_digit : (n m x y : ℕ) (a b : List ℕ) → 0 < n → 0 < m → x < middle x y → between_digits (replicate n x ++ a) (replicate m y ++ b) ≡ middle x y ∷ []
-last_digit zero m x y a b p q h = absurd (omega arith)
-last_digit (suc n) zero x y a b p q h = absurd (omega arith)
-last_digit (suc n) (suc m) x y a b p q h = go (last_or_same x y (between_digits (replicate n x ++ a) (replicate m y ++ b)))
-  where
-    go : LastOrSame x y (between_digits (replicate n x ++ a) (replicate m y ++ b)) → between_digits (replicate (suc n) x ++ a) (replicate (suc m) y ++ b) ≡ middle x y ∷ []
-    go (inl p) = p.1
-    go (inr p) = absurd (omega (arith, h, p.0))
-
 -- digits 0 behind the first, and greatest ones behind the second, change nothing
 zeros_behind_none : (n : ℕ) (b : List ℕ) → between_digits (replicate n 0) b ≡ between_digits [] b
 zeros_behind_none zero b = refl
@@ -200,27 +190,7 @@ some_digit [] (y ∷ b) = omega arith
 some_digit (x ∷ a) [] = omega arith
 some_digit (x ∷ a) (y ∷ b) = omega arith
 
--- equal digits before both do not change the order; two that differ decide it
+-- equal digits before both do not change the order
 pub cmp-same : (n x : ℕ) (a b : List ℕ) → slice_cmp nat_cmp (replicate n x ++ a) (replicate n x ++ b) ≡ slice_cmp nat_cmp a b
 cmp-same zero x a b = refl
 cmp-same (suc n) x a b = rw (nat_cmp-same x) (cmp-same n x a b)
-
-pub cmp-other : (n m x y : ℕ) (a b : List ℕ) → 0 < n → 0 < m → (x ≡ y → ⊥) → nat_cmp x y ≡ slice_cmp nat_cmp (replicate n x ++ a) (replicate m y ++ b)
-cmp-other zero m x y a b p q h = absurd (omega arith)
-cmp-other (suc n) zero x y a b p q h = absurd (omega arith)
-cmp-other (suc n) (suc m) x y a b p q h = go (nat_cmp x y) refl
-  where
-    go : (o : Ordering) → nat_cmp x y ≡ o → o ≡ ordering_then o (slice_cmp nat_cmp (replicate n x ++ a) (replicate m y ++ b))
-    go Less e = refl
-    go Equal e = absurd (h (nat_cmp-Equal x y e))
-    go Greater e = refl
-
-pub cmp-ends : (n m x y : ℕ) (a b : List ℕ) → (n ≡ 0) ⊎ (m ≡ 0) → (n ≡ 0 → a ≡ []) → (m ≡ 0 → b ≡ []) → nat_cmp n m ≡ slice_cmp nat_cmp (replicate n x ++ a) (replicate m y ++ b)
-cmp-ends zero zero x y a b o p q = rw (p refl, q refl) refl
-cmp-ends zero (suc m) x y a b o p q = rw (p refl, nat_cmp-below 0 (suc m) (omega arith)) refl
-cmp-ends (suc n) zero x y a b o p q = rw (q refl) (above_zero n)
-  where
-    above_zero : (n : ℕ) → nat_cmp (suc n) 0 ≡ Greater
-    above_zero n = grind (arith, nat_tests)
-cmp-ends (suc n) (suc m) x y a b (inl o) p q = absurd (omega arith)
-cmp-ends (suc n) (suc m) x y a b (inr o) p q = absurd (omega arith)

@@ -9,18 +9,8 @@ use Rattle.locators.specs.Runs.{run_digits, digits_with}
 use Rattle.locators.specs.Reading.{runs_ahead, digits_left, from_whole, AreFull, IsReady, GoesOn, IsStep, IsAt, GoAlong, Meet, IsContinued}
 use Rattle.locators.specs.declared.runs.Run.{Run}
 use Rattle.locators.specs.declared.reader.Reader.{Reader}
-use Rattle.locators.proofs.Between.{same_digits, last_digit, zeros_behind, greatest_behind, some_digit, cmp-same}
+use Rattle.locators.proofs.Between.{same_digits, zeros_behind, greatest_behind, some_digit, cmp-same}
 use Rattle.locators.proofs.RunLists.{run_digits-append, run_digits-one}
-
-pub along-start : (a b : Reader) → IsReady a → IsReady b → GoAlong a b a b
-along-start a b p q = record {
-  a_ready = p;
-  b_ready = q;
-  read = [];
-  at = record { runs = []; passes = refl; reads = refl };
-  b_reads = omega arith;
-  digits = refl;
-}
 
 at-step : (a x x' : Reader) (read : List ℕ) (count : ℕ) → IsAt a x read → GoesOn x x' → digits_left x ≡ replicate count x.run.digit ++ digits_left x' → IsAt a x' (read ++ replicate count x.run.digit)
 at-step a x x' read count h g e = go g
@@ -55,11 +45,6 @@ along-step a b x y x' y' h e s =
         ← s.b_reads,
       ) h.digits;
     }
-
-pub along-meet : (a b x y : Reader) (digit : ℕ) → GoAlong a b x y → 0 < x.run.count → 0 < y.run.count → digit ≡ middle x.run.digit y.run.digit → x.run.digit < digit → Meet a b x digit
-along-meet a b x y digit h p q e l =
-    let last = last_digit x.run.count y.run.count x.run.digit y.run.digit (run_digits (runs_ahead x.ahead)) (run_digits (runs_ahead y.ahead)) p q (omega (arith, e, l)) in
-    record { read = h.read; at = h.at; digits = rw (e, ← last) h.digits }
 
 none_left : (x : Reader) → IsReady x → x.run.count ≡ 0 → digits_left x ≡ []
 none_left x h e = rw (e, h.present e) refl

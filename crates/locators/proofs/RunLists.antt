@@ -5,9 +5,8 @@ use Rattle.std.proofs.lemmas.List.{take_more, get_or-append_right, append-nil, l
 use Rattle.std.proofs.lemmas.Result.{IfOk-weaker}
 use Rattle.locators.specs.Runs.{run_digits, kept_runs, BeginsOther, AreMaximal, SharesLong, IsKept, count_runs, digits_with, LieInline}
 use Rattle.locators.specs.declared.runs.Runs.{Runs}
-use Rattle.std.proofs.Math.Seq.{take-length, take-append-add}
-use Rattle.locators.specs.Reading.{AreFull, digits_to}
-use Rattle.locators.specs.declared.BranchPoint.{BranchPoint}
+use Rattle.std.proofs.Math.Seq.{take-append-add}
+use Rattle.locators.specs.Reading.{AreFull}
 use Rattle.locators.specs.declared.TheConstants.{INLINE_RUNS}
 use Rattle.locators.specs.declared.runs.Run.{Run}
 
@@ -159,13 +158,6 @@ too_long rs count s r t n l =
       length-append (run_digits (take (count - 1) rs)) (replicate s.count s.digit),
       length-replicate s.count s.digit,
     )
-
--- the digits up to a point, by one run or by two
-pub digits_to-one : (rs : List Run) (point : BranchPoint) → point.part.count ≡ 0 → digits_with rs point.count (record { digit = point.digit; count = 1 }) ≡ digits_to rs point
-digits_to-one rs point e = rw (e, append-nil (run_digits (take point.count rs))) refl
-
-pub digits_to-two : (rs front : List Run) (point : BranchPoint) → run_digits front ≡ digits_with rs point.count point.part → digits_with front (length front) (record { digit = point.digit; count = 1 }) ≡ digits_to rs point
-digits_to-two rs front point e = rw (take-length front, e) refl
 
 -- what holds of the value, if there is one
 pub if_both : {T E : Type 0} {P Q R : T → Type 0} → ((x : T) → P x → Q x → R x) → (r : Result T E) → IfOk r P → IfOk r Q → IfOk r R

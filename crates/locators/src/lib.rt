@@ -135,7 +135,7 @@ fn branch_point(a: &Runs, b: &Runs) -> Option<BranchPoint>
         × (digits_to (kept_runs a.now) point
         ≡ between_digits (run_digits (kept_runs a.now)) (run_digits (kept_runs b.now)))) }
 {
-    match meet(continued(a, 0), continued(b, u64::MAX)) {
+    match meet(continuation(a, 0), continuation(b, u64::MAX)) {
         None => None,
         Some((met, digit)) => Some(BranchPoint {
             count: a.len() - met.ahead.len(),
@@ -184,7 +184,7 @@ fn runs_to(alloc: Global, runs: &Runs, point: BranchPoint) -> Result<Runs, OutOf
 }
 
 // The runs from the first digit on, and behind them one digit again and again.
-fn continued(runs: &Runs, digit: u64) -> Reader<'_>
+fn continuation(runs: &Runs, digit: u64) -> Reader<'_>
     requires { IsKept runs.now }
     ensures { IsContinued (kept_runs runs.now) digit result }
 {

@@ -23,7 +23,7 @@ pub(crate) enum Runs {
 }
 
 // Both lists one after the other, if there is room.
-fn joined<const N: usize>(a: &[Run], b: &[Run]) -> Option<ArrayVec<Run, N>>
+fn join<const N: usize>(a: &[Run], b: &[Run]) -> Option<ArrayVec<Run, N>>
     ensures { MatchOption result (N < length a.now + length b.now)
         (λ runs. runs.items ≡ a.now ++ b.now) }
 {
@@ -35,7 +35,7 @@ fn joined<const N: usize>(a: &[Run], b: &[Run]) -> Option<ArrayVec<Run, N>>
 }
 
 // What does not fit inline: all but the last run go into an allocation of their own.
-fn shared(alloc: Global, front: &[Run], own: &[Run], run: Run) -> Result<Runs, OutOfMemory>
+fn share_front(alloc: Global, front: &[Run], own: &[Run], run: Run) -> Result<Runs, OutOfMemory>
     requires long { INLINE_RUNS ≤ length front.now + length own.now }
     ensures runs { IfOk result (λ runs. kept_runs runs ≡ front.now ++ own.now ++ run ∷ []) }
     ensures long { IfOk result SharesLong }
@@ -61,9 +61,9 @@ fn behind(
     ensures runs { IfOk result (λ runs. kept_runs runs ≡ front.now ++ own.now ++ run ∷ []) }
     ensures long { IfOk result SharesLong }
 {
-    match joined(own, &[run]) {
+    match join(own, &[run]) {
         Some(last) => Ok(Runs::Shared(Arc::try_clone(shares)?, last)),
-        None => shared(alloc, front, own, run),
+        None => share_front(alloc, front, own, run),
     }
 }
 
@@ -96,14 +96,14 @@ fn sum(a: u64, b: u64) -> Result<u64, OutOfMemory>
 }
 
 // These runs and one more, inline if they fit.
-fn laid(alloc: Global, own: &[Run], run: Run) -> Result<Runs, OutOfMemory>
+fn lay(alloc: Global, own: &[Run], run: Run) -> Result<Runs, OutOfMemory>
     ensures runs { IfOk result (λ runs. kept_runs runs ≡ own.now ++ run ∷ []) }
     ensures long { IfOk result SharesLong }
     ensures short { length own.now < INLINE_RUNS → IsOk result }
 {
-    match joined(own, &[run]) {
+    match join(own, &[run]) {
         Some(runs) => Ok(Runs::Inline(runs)),
-        None => shared(alloc, &[], own, run),
+        None => share_front(alloc, &[], own, run),
     }
 }
 
@@ -145,11 +145,11 @@ impl Runs {
     {
         match self {
             Runs::Inline(runs) => {
-                let runs = joined(runs.as_slice(), &[]).ok_or(OutOfMemory)?;
+                let runs = join(runs.as_slice(), &[]).ok_or(OutOfMemory)?;
                 Ok(Runs::Inline(runs))
             }
             Runs::Shared(front, last) => {
-                let last = joined(last.as_slice(), &[]).ok_or(OutOfMemory)?;
+                let last = join(last.as_slice(), &[]).ok_or(OutOfMemory)?;
                 Ok(Runs::Shared(Arc::try_clone(front)?, last))
             }
         }
@@ -174,7 +174,7 @@ impl Runs {
     }
 
     // The first `count` runs, and one behind them.
-    fn followed(&self, alloc: Global, count: usize, run: Run) -> Result<Runs, OutOfMemory>
+    fn front_with(&self, alloc: Global, count: usize, run: Run) -> Result<Runs, OutOfMemory>
         requires within { count ≤ length (kept_runs self.now) }
         requires long { SharesLong self.now }
         ensures runs { IfOk result (λ runs. kept_runs runs
@@ -183,8 +183,8 @@ impl Runs {
         ensures short { count < INLINE_RUNS → IsOk result }
     {
         match self {
-            Runs::Inline(runs) => laid(alloc, &runs.as_slice()[..count], run),
-            Runs::Shared(front, _) if count < front.len() => laid(
+            Runs::Inline(runs) => lay(alloc, &runs.as_slice()[..count], run),
+            Runs::Shared(front, _) if count < front.len() => lay(
                 alloc,
                 &front.as_slice()[..count],
                 run,
@@ -211,7 +211,7 @@ impl Runs {
         ensures short { LieInline (digits_with (kept_runs self.now) count run) → IsOk result }
     {
         match self.before(count) {
-            None => self.followed(alloc, count, run),
+            None => self.front_with(alloc, count, run),
             Some(before) => self.with_more(alloc, count, before, run),
         }
     }
@@ -236,13 +236,13 @@ impl Runs {
         ensures short { LieInline (digits_with (kept_runs self.now) count run) → IsOk result }
     {
         if before.digit != run.digit {
-            return self.followed(alloc, count, run);
+            return self.front_with(alloc, count, run);
         }
         let total = sum(before.count, run.count)?;
         let both = Run {
             digit: run.digit,
             count: total,
         };
-        self.followed(alloc, count - 1, both)
+        self.front_with(alloc, count - 1, both)
     }
 }

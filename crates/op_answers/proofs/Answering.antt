@@ -18,48 +18,21 @@ use Rattle.op_model.specs.Shown.{full}
 use Rattle.op_model.specs.Answers.{Answer, shape_fault, any_equal, any_stamp, fork_fault, first_missing, open_replica, range_fault, count_fault, objection, answer}
 use Rattle.op_model.specs.Answers.Answer.{Good, Repeat, Waits, Refused}
 use Rattle.op_model.proofs.answers.Good.{lawful_ready}
-use Rattle.op_model.proofs.answers.Passed.{first_past, none_when}
+use Rattle.op_model.proofs.answers.Passed.{first_past, none_when, first_here, first_behind, first_append, first_map, some_when, first_alone}
 use Rattle.op_answers.specs.Verdicts.{cause_objection, equals, part_fault, stamp_objection}
 use Rattle.op_answers.proofs.Founds.{held_both, there_both}
-
-first_here : {A : Type 0} (o : Option A) (r : List (Option A)) (a : A) → o ≡ Some a → first_of (o ∷ r) ≡ Some a
-first_here None r a e = cc
-first_here (Some x) r a e = e
-
-first_behind : {A : Type 0} (o : Option A) (r s : List (Option A)) → first_of r ≡ first_of s → first_of (o ∷ r) ≡ first_of (o ∷ s)
-first_behind None r s e = e
-first_behind (Some x) r s e = refl
-
--- the first of one list, else that of another
-pub first_append : {A : Type 0} (r s : List (Option A)) → first_of (r ++ s) ≡ first_of (first_of r ∷ s)
-first_append [] s = refl
-first_append (None ∷ r) s = first_append r s
-first_append (Some x ∷ r) s = refl
-
-first_map : {A B : Type 0} (f : A → B) (r : List (Option A)) → first_of (map (option_map f) r) ≡ option_map f (first_of r)
-first_map f [] = refl
-first_map f (None ∷ r) = first_map f r
-first_map f (Some x ∷ r) = refl
-
-some_when : {A : Type 0} (b : Bool) (x : A) → b ≡ true → when b x ≡ Some x
-some_when true x e = refl
-some_when false x e = cc
-
-first_alone : {A : Type 0} (a : Option A) → a ≡ first_of (a ∷ [])
-first_alone None = refl
-first_alone (Some x) = refl
 
 first_before : (a : Option OpFault) → a ≡ first_of (a ∷ None ∷ [])
 first_before None = refl
 first_before (Some x) = refl
 
 -- an edit has no counts
-pub edit_fault : (h : History) (e : EditOp) → range_fault (full (seen_history h e.version)) e.pieces ≡ part_fault h (Edit e)
-edit_fault h e = first_before (range_fault (full (seen_history h e.version)) e.pieces)
+pub range_fault-part : (h : History) (e : EditOp) → range_fault (full (seen_history h e.version)) e.pieces ≡ part_fault h (Edit e)
+range_fault-part h e = first_before (range_fault (full (seen_history h e.version)) e.pieces)
 
 -- an undo has no pieces
-pub undo_fault : (h : History) (u : UndoOp) → count_fault (seen_history h u.version) u.counts ≡ part_fault h (Undo u)
-undo_fault h u = first_alone (count_fault (seen_history h u.version) u.counts)
+pub count_fault-part : (h : History) (u : UndoOp) → count_fault (seen_history h u.version) u.counts ≡ part_fault h (Undo u)
+count_fault-part h u = first_alone (count_fault (seen_history h u.version) u.counts)
 
 module _ (h : History) (w : List Operation) (op : Operation) where
   in_parts : objection h w op ≡ first_of (option_map Refused (shape_fault op) ∷ stamp_objection h w op ∷ cause_objection h op ∷ option_map Refused (part_fault h op) ∷ [])

@@ -14,9 +14,8 @@ use Rattle.op_model.specs.Answers.{any_equal, any_stamp, same_op}
 use Rattle.op_model.proofs.answers.Passed.{any_some}
 use Rattle.op_model.proofs.order.PathOrder.{same_stamp_eq}
 use Rattle.op_answers.specs.Verdicts.{equals, causes}
-use Rattle.op_model.proofs.shown.Walking.{or_no}
 use Rattle.op_model.proofs.answers.OwnVersion.{equal_stamps}
-use Rattle.applied_ops.proofs.Found.{no_more}
+use Rattle.op_model.proofs.Elements.{or_no, no_more}
 
 not_same : (o op : Operation) → same_stamp (stamp_of o) (stamp_of op) ≡ false → same_op o op ≡ false
 not_same o op e = go (cases_Bool (same_op o op))

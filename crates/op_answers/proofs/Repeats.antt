@@ -6,9 +6,8 @@ use Rattle.std.proofs.lemmas.List.{take_more}
 use Rattle.std.proofs.lemmas.List.Folds.{list_any-append}
 use Rattle.lamport_clock.specs.declared.stamp.Lamport.{Lamport}
 use Rattle.lamport_clock.specs.Stamps.{same_stamp, stamp_cmp}
-use Rattle.lamport_clock.proofs.Order.{is_eq-same}
+use Rattle.lamport_clock.proofs.Order.{is_eq-same, same_sym}
 use Rattle.op_model.specs.Made.{first_twice}
-use Rattle.deferred_ops.proofs.Keyed.{same_sym}
 
 -- what stands before counts by what it contains
 pub first_twice_same : (p q ts : List Lamport) → ((t : Lamport) → list_any (same_stamp t) p ≡ list_any (same_stamp t) q) → first_twice p ts ≡ first_twice q ts

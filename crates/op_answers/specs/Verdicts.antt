@@ -54,7 +54,7 @@ stamp_objection h w op = first_of (
     ∷ when (any_stamp (h ++ w) op) (Refused (Conflict (stamp_of op)))
     ∷ [])
 
--- what stands at h against what op has seen: a fork, a cause that misses, or an open version
+-- what stands at h against what op has seen: a fork, a missing cause, or an open version
 abbrev pub cause_objection : History → Operation → Option Answer
 cause_objection h op = first_of (
     option_map Refused (fork_fault h op)

@@ -9,6 +9,6 @@ mod twice;
 mod verdict;
 
 pub use found::open_replica;
-pub use local_undo::undo_fault;
+pub use local_undo::listed_fault;
 pub use op_model::{OpFault, OutOfMemory, UndoFault};
 pub use verdict::{Verdict, judge};

@@ -1,4 +1,4 @@
-//! The answer to a local undo.
+//! The fault that a local undo meets.
 ghost use Rattle.std.specs.Prelude.{◌≡◌, ◌+◌, ◌==◌, [], ◌∷◌, length, option_map, not, Some, None};
 ghost use Rattle.std.specs.List.{find};
 ghost use Rattle.lamport_clock.specs.Clocks.{last_value};
@@ -10,7 +10,7 @@ ghost use Rattle.op_model.specs.declared.limits.Limits.{Limits as LimitsType};
 ghost use Rattle.op_model.specs.declared.faults.UndoFault.TheVariants.{ClockEnd, Full};
 ghost use Rattle.undo_map.specs.Counts.{count_of};
 ghost use Rattle.undo_map.specs.Undos.{undo_entries};
-ghost use Rattle.op_answers.specs.LocalUndo.{undo_fault};
+ghost use Rattle.op_answers.specs.LocalUndo.{listed_fault};
 
 use crate::twice::first_twice;
 use applied_ops::AppliedList;
@@ -48,7 +48,7 @@ fn first_at_end(undos: &UndoMap, edits: &[Lamport]) -> Option<Lamport>
 /// the order of `UndoFault` the first, each for the first stamp in the list that meets it. `undos` has the undo counts of
 /// the applied operations. It never fails for want of memory: memory only speeds up the search for a stamp that is named
 /// twice. Linear in the list times the logarithm of what is applied.
-pub fn undo_fault(
+pub fn listed_fault(
     alloc: Global,
     applied: &AppliedList,
     undos: &UndoMap,
@@ -56,7 +56,7 @@ pub fn undo_fault(
 ) -> Option<UndoFault>
     requires distinct { Distinct applied.now }
     requires counts { undos.now ≡ undo_entries applied.now }
-    ensures fault { result ≡ undo_fault applied.now edits.now }
+    ensures fault { result ≡ listed_fault applied.now edits.now }
     ensures local { (l : LimitsType) → local_undo_fault l applied.now edits.now
         ≡ first_of (result ∷ when (clock applied.now == last_value) ClockEnd
         ∷ option_map (λ e. Full e.unit e.held e.adds)

@@ -4,3 +4,4 @@ pub mod WholeTexts
 pub mod Replacing
 pub mod WholeRuns
 pub mod WholeWalks
+pub mod Lengths

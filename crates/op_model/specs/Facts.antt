@@ -61,8 +61,8 @@ abbrev pub new_deletions : Lamport → History → Entries → Lamport → List 
 new_deletions t w v u d = if was_visible w v u d then with_deletion t d else d
 
 -- what is told of a cell by the counts of e
-abbrev pub seen_by : History → Lamport → List Lamport → Bool
-seen_by e u d = not (undone e u) && all_undone e d
+abbrev pub visible_by : History → Lamport → List Lamport → Bool
+visible_by e u d = not (undone e u) && all_undone e d
 
 -- ns put past those at the front whose stamps are later than t
 abbrev pub past_later : Lamport → List Fact → List Fact → List Fact

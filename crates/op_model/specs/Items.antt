@@ -1,4 +1,4 @@
--- Items: a list of its own, or one that is shared.
+-- Items: a list with one owner, or one that is shared.
 use Rattle.std.specs.Prelude.{List}
 use Rattle.std.specs.Arc.{arc_value}
 use Rattle.op_model.specs.declared.items.Items.{Items}

@@ -12,7 +12,7 @@ use Rattle.op_model.specs.Laid.{only, lay, replay_by_stamps}
 use Rattle.op_model.specs.Shown.{byte, IsCell, shown_where, shown, deleters, deletes, text_where, text, full_where, full, hidden_text, new_bytes}
 use Rattle.op_model.specs.Answers.Answer.{Good, Repeat, Waits}
 use Rattle.op_model.specs.Lawful.{Lawful, Honest, IsClosed}
-use Rattle.op_model.specs.Facts.{Fact, Marking, Continues, was_visible, cell_facts, edit_marking, with_deletion, seen_by}
+use Rattle.op_model.specs.Facts.{Fact, Marking, Continues, was_visible, cell_facts, edit_marking, with_deletion, visible_by}
 use Rattle.op_model.specs.Walked.{Run, IsWhole, facts_of, walk}
 use Rattle.op_model.specs.Domains.{IsProper, IsReplica, IsHistory}
 use Rattle.op_model.specs.Edits.{is_boundary, replace_ranges}
@@ -85,7 +85,7 @@ NewCellsShown = (h : History) → (op : Operation) → Lawful h → answer h [] 
 abbrev pub UndoChanges : Type 0
 UndoChanges = (h : History) → (op : Operation) → Lawful h → answer h [] op ≡ Good → is_edit op ≡ false → (c : Cell)
     → (deleters (h ++ op ∷ []) c ≡ deleters h c)
-    × (shown (h ++ op ∷ []) c ≡ seen_by (h ++ op ∷ []) c.stamp (deleters h c))
+    × (shown (h ++ op ∷ []) c ≡ visible_by (h ++ op ∷ []) c.stamp (deleters h c))
 
 -- one walk over runs of cells, from the first piece of a good edit to the last, makes runs that tell of the history with it
 -- from runs that tell of the history: a run is passed whole where it is later, and split at most at the ends of ranges
@@ -263,7 +263,7 @@ abbrev pub UndoIsTold : Type 0
 UndoIsTold = (h : History) → (op : Operation) → Lawful h → answer h [] op ≡ Good → is_edit op ≡ false
     → cell_facts (h ++ op ∷ []) ≡ map (λ (q : Fact). record {
       cell = q.cell;
-      visible = seen_by (h ++ op ∷ []) q.cell.stamp q.deletions;
+      visible = visible_by (h ++ op ∷ []) q.cell.stamp q.deletions;
       deletions = q.deletions;
     }) (cell_facts h)
 

@@ -1,4 +1,4 @@
-//! A list of its own, or one that is shared.
+//! A list with one owner, or one that is shared.
 ghost use Rattle.std.specs.Prelude.{◌≡◌, IfOk};
 ghost use Rattle.op_model.specs.Items.{items_of};
 

@@ -101,7 +101,7 @@ pub fn texts_are_shown_cells()
     ensures { TextsAreShownCells }
 {}
 
-/// Anchors and edits since hang on the set of operations alone.
+/// Anchors and edits since depend on the set of operations alone.
 pub fn same_sets_answer_alike()
     ensures { SameSetsAnswerAlike }
 {}
@@ -166,7 +166,7 @@ pub fn closed_parts()
     ensures { ClosedParts }
 {}
 
-/// Versions, faults and answers about anchors hang on the set of operations alone.
+/// Versions, faults and answers about anchors depend on the set of operations alone.
 pub fn same_sets_refuse_alike()
     ensures { SameSetsRefuseAlike }
 {}

@@ -10,10 +10,10 @@ use Rattle.op_model.specs.Histories.{History, clock}
 use Rattle.op_model.specs.Shown.{full}
 use Rattle.op_model.specs.Settled.{full_fault}
 use Rattle.op_model.specs.Made.{local_edit}
+use Rattle.op_model.proofs.order.CellsOnce.{member_map}
+use Rattle.op_model.proofs.texts.Lengths.{full_bytes}
 use Rattle.text_buffer.specs.Buffer.{BufferState, IsBuffer, edit_fault}
 use Rattle.text_buffer.proofs.Applied.{room_of}
-use Rattle.text_buffer.proofs.Contents.{edit_member}
-use Rattle.text_buffer.proofs.Lengths.{full_bytes}
 use Rattle.text_buffer.proofs.Fit as fit
 
 pub room_taken : (b : BufferState) (op : Operation) → IsBuffer b → full_fault b.limits b.history op ≡ None → length (full b.history) + text_total (pieces_of op) ≤ 2 ^ 40
@@ -22,7 +22,7 @@ room_taken b op k f = let e = full_bytes b.history in let r = (room_of b op f).0
 pub room_edited : (b : BufferState) (ps : List Piece) → IsBuffer b → edit_fault b ps ≡ None → length (full b.history) + text_total ps ≤ 2 ^ 40
 room_edited b ps k f =
     let e = full_bytes b.history in
-    let r = (fit.room_in b.limits b.history (text_total ps) (1 + length ps) (fit.room_of b ps f)).0 in
+    let r = (fit.room_in b.limits b.history (text_total ps) (1 + length ps) (fit.no_excess b ps f)).0 in
     let m = k.most_bytes in omega (arith, e, r, m)
 
 -- the stamp of what is made
@@ -35,4 +35,4 @@ unfolding local_edit
 made_by h r ps op e = ap (λ (o : Operation). (stamp_of o).replica) e
 
 pub edits_among : (cs ds : List UndoCount) (ts : List Lamport) → ts ≡ map (λ (d : UndoCount). d.edit) cs → cs ≡ ds → (c : UndoCount) → Member c ds → Member c.edit ts
-edits_among cs ds ts e f c m = subst (λ (x : List Lamport). Member c.edit x) (sym (e ∙ ap (map (λ (d : UndoCount). d.edit)) f)) (edit_member c ds m)
+edits_among cs ds ts e f c m = subst (λ (x : List Lamport). Member c.edit x) (sym (e ∙ ap (map (λ (d : UndoCount). d.edit)) f)) (member_map (λ (d : UndoCount). d.edit) c ds m)

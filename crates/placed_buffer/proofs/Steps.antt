@@ -14,12 +14,12 @@ use Rattle.op_model.specs.Made.{local_edit as made_at, local_undo as made_undo_a
 use Rattle.op_model.specs.Answers.{answer}
 use Rattle.op_model.specs.Answers.Answer.{Good}
 use Rattle.op_model.proofs.MainLaws.{edits_are_good, undos_are_good}
+use Rattle.op_model.proofs.texts.Lengths.{full_bytes}
 use Rattle.undo_map.specs.declared.entry.UndoEntry.{UndoEntry}
 use Rattle.fragments.specs.declared.fragment.Fragment.{Fragment}
 use Rattle.fragments.specs.declared.index_entry.IndexEntry.{IndexEntry}
 use Rattle.fragments.specs.Stand.{Stand}
 use Rattle.remote_edit.specs.Placing.{MayPlace, MayMake, ArePlaced, IsMade}
-use Rattle.text_buffer.proofs.Lengths.{full_bytes}
 use Rattle.text_buffer.specs.Buffer.{BufferState, edit_of, over_base}
 use Rattle.placed_buffer.specs.Standing.{Stands, AreStanding, AreMade, EditsOne, UndoesOne, TakesOne}
 use Rattle.placed_buffer.proofs.Rooms.{room_edited, room_taken, made_stamp, made_by}

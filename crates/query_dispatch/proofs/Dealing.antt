@@ -8,6 +8,7 @@ use Rattle.std.proofs.lemmas.Bool.{eq-eqb, eqb-true, ne_eqb}
 use Rattle.atomic_table.specs.Seated.{TableId}
 use Rattle.logbook.specs.Pages.{Book}
 use Rattle.op_model.specs.declared.operation.Operation.{Operation}
+use Rattle.op_model.proofs.Elements.{range_more}
 use Rattle.snapshot_pub.specs.States.{PublisherState, ReaderState}
 use Rattle.query_workers.specs.Queue.{jobs_of, pairs_of, IsOpen}
 use Rattle.query_workers.specs.States.{DeskState, InboxState}
@@ -21,7 +22,7 @@ use Rattle.query_dispatch.specs.Published.{AreLevel, AreTied, column, no_pair, p
 use Rattle.query_dispatch.specs.Dealt.{AllAt, AreEnds, AreNumbered, HasAsked, IsClosed, IsDealt}
 use Rattle.query_dispatch.proofs.Levels.{level_published, level_publishes}
 use Rattle.query_dispatch.proofs.Places.{each_set}
-use Rattle.query_dispatch.proofs.Turns.{few_go, filter_in, filter_out, range_more}
+use Rattle.query_dispatch.proofs.Turns.{few_go, filter_in, filter_out}
 
 module _ {Q : Type 0} where
   -- an open inbox has as many entries as asks
@@ -98,7 +99,8 @@ module _ {Q : Type 0} where
 
   -- ---- the pairs of an inbox
 
-  tied_length : (is : List (InboxState Q)) (s : PublishersState) → AreTied is s → length is ≡ s.workers
+  -- as many inboxes as workers
+  pub tied_length : (is : List (InboxState Q)) (s : PublishersState) → AreTied is s → length is ≡ s.workers
   tied_length is s t = sym (length-map is (λ (i : InboxState Q). pairs_of i.readers)) ∙ (ap (λ (l : List (List Book)). length l) t ∙ length-map-range_with_len (λ w. column w (rows_of s)) 0 s.workers)
 
   tied_at : (is : List (InboxState Q)) (s : PublishersState) (w : ℕ) (i : InboxState Q) → AreTied is s → w < length is → i ≡ get_or is w i → pairs_of i.readers ≡ column w (rows_of s)

@@ -1,17 +1,14 @@
--- Publishers of which every pair has the same.
+-- Publishers that have the same list in every pair.
 use Rattle.std.proofs.Common.{◌≡◌, ℕ, ◌+◌, ◌<◌, ◌≤◌, List, [], ◌∷◌, ◌++◌, length, map, set, get_or, take, replicate, refl, sym, ap, ◌∙◌, subst, arith}
 use Rattle.std.specs.List.{All}
-use Rattle.std.proofs.lemmas.List.{map-set, map-append, get_or-map, get_or_default, get_or-replicate, length-map, length-replicate, take_more}
-use Rattle.std.proofs.lemmas.List.Elements.{All-head, All-set, All-tail}
+use Rattle.std.proofs.lemmas.List.{map-set, map-append, get_or-map, get_or_default, length-map, length-replicate, take_more}
+use Rattle.std.proofs.lemmas.List.Elements.{All-head, All-replicate, All-set, All-tail}
 use Rattle.op_model.specs.declared.operation.Operation.{Operation}
 use Rattle.logbook.specs.Pages.{Book}
 use Rattle.snapshot_pub.specs.States.{PublisherState, ToldState}
 use Rattle.query_dispatch.specs.States.{PublishersState}
 use Rattle.query_dispatch.specs.Dealt.{told_lists, told_pairs}
 use Rattle.query_dispatch.specs.Published.{AreLevel, PublishesToAll, column, no_pair, published_lists, published_of, rows_of}
-
-all_replicate : {X : Type 0} (n : ℕ) (x : X) → All (λ y. y ≡ x) (replicate n x)
-all_replicate n x i d below = get_or-replicate n i x d (omega (arith, below, length-replicate n x))
 
 same_all : {X : Type 0} (xs : List X) (x : X) → All (λ y. y ≡ x) xs → xs ≡ replicate (length xs) x
 same_all [] x a = refl
@@ -23,7 +20,7 @@ pub level_publishes : (s : PublishersState) (r : ℕ) (p : PublisherState) → A
 level_publishes s r p a within at =
     let publishes : PublishesToAll s.workers p = subst (PublishesToAll s.workers) (sym at) (a.each r p within) in (
       ap (λ (l : List (List Operation)). length l) publishes.0 ∙ length-replicate s.workers (published_of p),
-      subst (All (λ x. x ≡ published_of p)) (sym publishes.0) (all_replicate s.workers (published_of p)),
+      subst (All (λ x. x ≡ published_of p)) (sym publishes.0) (All-replicate (λ x. x ≡ published_of p) s.workers (published_of p) refl),
     )
 
 pub level_published : (s : PublishersState) (r : ℕ) (p : PublisherState) → r < length s.list → p ≡ get_or s.list r p → get_or (published_lists s) r [] ≡ published_of p

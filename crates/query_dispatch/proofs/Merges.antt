@@ -5,11 +5,11 @@ use Rattle.std.proofs.lemmas.List.{append-nil, get_or-map, drop_more, drop_all, 
 use Rattle.std.proofs.lemmas.List.FromFn.{get_or-range_with_len}
 use Rattle.std.proofs.lemmas.Nat.{mod_below}
 use Rattle.std.proofs.lemmas.Bool.{cases_lt, eq-eqb, ne_eqb}
+use Rattle.std.proofs.lemmas.Slice.Zip.{all_zipped_more}
 use Rattle.op_model.specs.declared.operation.Operation.{Operation}
 use Rattle.query_workers.specs.Asks.{Ask, asks_to, worker_of}
 use Rattle.query_workers.specs.Answers.{NeverFewer}
 use Rattle.query_workers.specs.declared.query.Answer.{Answer}
-use Rattle.query_workers.proofs.Working.{paired_more}
 use Rattle.query_dispatch.specs.Dealt.{AllAt, AreNumbered}
 use Rattle.query_dispatch.specs.Final.{AreGathered, IsFinal}
 use Rattle.query_dispatch.proofs.Places.{each_set}
@@ -72,7 +72,7 @@ module _ {Q A : Type 0} (plain : Q → List Operation → A) (lasts : List (List
           let turn : worker_of workers a.number ≡ w = ap (worker_of workers) number ∙ turn_at q d below in
           let front : (e : X) → filter (its w) answers ++ f old ≡ f (get_or all w e) = subst (λ (x : X). (e : X) → filter (its w) answers ++ f x ≡ f (get_or all w e)) (sym at) (h.whole w old within) in
           let goes : its w a ≡ true = ap (λ (m : ℕ). m == w) turn ∙ eq-eqb w w refl in record {
-            done = subst (AllZip (IsFinal plain lasts) (answers ++ a ∷ [])) (sym (take_more asks q d below)) (paired_more (IsFinal plain lasts) answers (take q asks) a k h.done two.0);
+            done = subst (AllZip (IsFinal plain lasts) (answers ++ a ∷ [])) (sym (take_more asks q d below)) (all_zipped_more (IsFinal plain lasts) answers (take q asks) a k h.done two.0);
             rest = each_set (λ i r. AllZip (IsFinal plain lasts) (f r) (asks_to workers i (drop q asks))) (λ i r. AllZip (IsFinal plain lasts) (f r) (asks_to workers i (drop (q + 1) asks))) lists w new within h.rest two.1
                 (λ i x other p. subst (AllZip (IsFinal plain lasts) (f x)) (left_there q i d below other) p);
             whole = each_set (λ i r. (e : X) → filter (its i) answers ++ f r ≡ f (get_or all i e)) (λ i r. (e : X) → filter (its i) (answers ++ a ∷ []) ++ f r ≡ f (get_or all i e)) lists w new within h.whole

@@ -40,8 +40,8 @@ module _ {Q A : Type 0} (plain : Q → List Operation → A) (sizes : List ℕ) 
   build (i ∷ is) (d ∷ ds) [] a b h = absurd (omega (arith, b))
   build (i ∷ is) (d ∷ ds) (t ∷ ts) a b h = (h 0 i d t (omega arith), build is ds ts (omega (arith, a)) (omega (arith, b)) (λ w x y z within. h (suc w) x y z (omega (arith, within))))
 
-  module _ (inboxes : List (InboxState Q)) (tolds : List (List ToldState)) (shown : List (List Operation)) (asks : List (Ask Q)) (desks : List DeskState) (dones : List (DoneState Q A))
-      (r : IsReady inboxes tolds sizes shown asks) (fronts : AllZip IsFront shown lasts) (past : All (IsPast lasts) asks) (e : AreEnds inboxes desks) (h : HaveWorked plain desks dones) where
+  module _ (inboxes : List (InboxState Q)) (tolds : List (List ToldState)) (published : List (List Operation)) (asks : List (Ask Q)) (desks : List DeskState) (dones : List (DoneState Q A))
+      (r : IsReady inboxes tolds sizes published asks) (fronts : AllZip IsFront published lasts) (past : All (IsPast lasts) asks) (e : AreEnds inboxes desks) (h : HaveWorked plain desks dones) where
     desks_length : length desks ≡ length inboxes
     desks_length = sym (length-map desks (λ (d : DeskState). d.queue)) ∙ (ap (λ (l : List TableId). length l) (sym e.queues) ∙ length-map inboxes (λ (i : InboxState Q). i.queue))
 
@@ -56,7 +56,7 @@ module _ {Q A : Type 0} (plain : Q → List Operation → A) (sizes : List ℕ) 
         let queue = same_at (λ (x : InboxState Q). x.queue) (λ (x : DeskState). x.queue) inboxes desks w i k e.queues within desks_length in
         let ends = same_at (λ (x : InboxState Q). pairs_of x.readers) (λ (x : DeskState). pairs_of x.readers) inboxes desks w i k e.pairs within desks_length in
         let told = same_at told_pairs (λ (x : InboxState Q). pairs_of x.readers) tolds inboxes w t i r.pairs (omega (arith, within, tolds_length)) (sym tolds_length) in
-        let lists : told_lists (get_or tolds w t) ≡ shown = r.lists w t (omega (arith, within, tolds_length)) in record {
+        let lists : told_lists (get_or tolds w t) ≡ published = r.lists w t (omega (arith, within, tolds_length)) in record {
           own = worked.queue ∙ sym queue;
           ended = (closed.ended, worked.ended);
           answered = worked.answered;

@@ -51,18 +51,18 @@ fronts_at (x ∷ xs) [] r p = absurd p
 fronts_at (x ∷ xs) (y ∷ ys) zero p = p.0
 fronts_at (x ∷ xs) (y ∷ ys) (suc r) p = fronts_at xs ys r p.1
 
-module _ {Q A : Type 0} (plain : Q → List Operation → A) (bounds : List ℕ) (lasts shown : List (List Operation)) (readers : List ReaderState)
-    (fronts : AllZip IsFront shown lasts) (are_bounds : (r : ℕ) → r < length lasts → IsBound shown readers r (get_or bounds r 0)) where
+module _ {Q A : Type 0} (plain : Q → List Operation → A) (bounds : List ℕ) (lasts published : List (List Operation)) (readers : List ReaderState)
+    (fronts : AllZip IsFront published lasts) (are_bounds : (r : ℕ) → r < length lasts → IsBound published readers r (get_or bounds r 0)) where
   final_front : (a b : Answer Q A) (r : ℕ) → a.index ≡ r → r < length lasts → ComesTo plain bounds lasts b a → IsKnown readers a → IsFront b.snapshot (last_of lasts r)
   final_front a b r at within c known =
-      let is_bound : IsBound shown readers a.index (get_or bounds a.index 0) = are_bounds a.index (omega (arith, at, within)) in
+      let is_bound : IsBound published readers a.index (get_or bounds a.index 0) = are_bounds a.index (omega (arith, at, within)) in
       subst (λ (k : ℕ). IsFront b.snapshot (last_of lasts k)) at (⊎_elim
       (λ (many : get_or bounds a.index 0 < length a.snapshot).
       let same : last_of lasts a.index ≡ b.snapshot = list_goes (get_or bounds a.index 0) a.snapshot (last_of lasts a.index) many ∙ sym c.snapshot in
       subst (λ (l : List Operation). IsFront l (last_of lasts a.index)) same (front_itself (last_of lasts a.index)))
       (λ (few : length a.snapshot ≤ get_or bounds a.index 0).
       let same : a.snapshot ≡ b.snapshot = list_stays (get_or bounds a.index 0) a.snapshot (last_of lasts a.index) few ∙ sym c.snapshot in
-      subst (λ (l : List Operation). IsFront l (last_of lasts a.index)) same (front_trans a.snapshot (get_or shown a.index []) (last_of lasts a.index) (is_bound.1 a.snapshot known few) (fronts_at shown lasts a.index fronts)))
+      subst (λ (l : List Operation). IsFront l (last_of lasts a.index)) same (front_trans a.snapshot (get_or published a.index []) (last_of lasts a.index) (is_bound.1 a.snapshot known few) (fronts_at published lasts a.index fronts)))
       (cases_lt (get_or bounds a.index 0) (length a.snapshot)))
 
   final_told : (a b : Answer Q A) (k : Ask Q) → IsAnswerTo plain a k → IsPast lasts k → ComesTo plain bounds lasts b a → IsFront k.history b.snapshot
@@ -106,7 +106,7 @@ module _ {Q A : Type 0} (plain : Q → List Operation → A) (bounds : List ℕ)
       (all_within as_ ks h.1 (All-tail (IsPast lasts) k ks past))
 
   bound_below : (r : ℕ) → r < length lasts → get_or bounds r 0 ≤ length (last_of lasts r)
-  bound_below r within = let b = (are_bounds r within).0 in let f = front_length (get_or shown r []) (last_of lasts r) (fronts_at shown lasts r fronts) in omega (arith, b, f)
+  bound_below r within = let b = (are_bounds r within).0 in let f = front_length (get_or published r []) (last_of lasts r) (fronts_at published lasts r fronts) in omega (arith, b, f)
 
   one_grows : (a b c d : Answer Q A) → c.index < length lasts → ComesTo plain bounds lasts b a → ComesTo plain bounds lasts d c → NeverFewer a c → NeverFewer b d
   one_grows a b c d within e f h same =
@@ -137,24 +137,24 @@ module _ {Q A : Type 0} (plain : Q → List Operation → A) (bounds : List ℕ)
   }
 
 -- there is a bound for each replica
-pub each_bound : (bounds : List ℕ) (lasts shown : List (List Operation)) (readers : List ReaderState) → AllZip IsFront shown lasts → length bounds ≡ length shown → AllAt (IsBound shown readers) bounds
-    → (r : ℕ) → r < length lasts → IsBound shown readers r (get_or bounds r 0)
-each_bound bounds lasts shown readers fronts many h r within = h r 0 (omega (arith, within, many, AllZip-long IsFront shown lasts fronts))
+pub each_bound : (bounds : List ℕ) (lasts published : List (List Operation)) (readers : List ReaderState) → AllZip IsFront published lasts → length bounds ≡ length published → AllAt (IsBound published readers) bounds
+    → (r : ℕ) → r < length lasts → IsBound published readers r (get_or bounds r 0)
+each_bound bounds lasts published readers fronts many h r within = h r 0 (omega (arith, within, many, AllZip-long IsFront published lasts fronts))
 
-pub all_there : {Q A : Type 0} (bounds : List ℕ) (lasts shown : List (List Operation)) → AllZip IsFront shown lasts → length bounds ≡ length shown → (as_ : List (Answer Q A)) → All (λ (a : Answer Q A). a.index < length lasts) as_
+pub all_there : {Q A : Type 0} (bounds : List ℕ) (lasts published : List (List Operation)) → AllZip IsFront published lasts → length bounds ≡ length published → (as_ : List (Answer Q A)) → All (λ (a : Answer Q A). a.index < length lasts) as_
     → All (λ (a : Answer Q A). (a.index < length bounds) × (a.index < length lasts)) as_
-all_there bounds lasts shown fronts many as_ h i d below = let within = h i d below in (omega (arith, within, many, AllZip-long IsFront shown lasts fronts), within)
+all_there bounds lasts published fronts many as_ h i d below = let within = h i d below in (omega (arith, within, many, AllZip-long IsFront published lasts fronts), within)
 
 -- what renewing the answers of one worker needs, and what comes of it
-pub renews : {Q A : Type 0} (plain : Q → List Operation → A) (bounds looked : List ℕ) (lasts shown : List (List Operation)) (rs readers : List ReaderState) (as_ : List (Answer Q A)) (ks : List (Ask Q)) → AllZip IsFront shown lasts → bounds ≡ looked → length looked ≡ length shown
-    → rs ≡ readers → AllAt (IsBound shown rs) looked → HasAnswered plain ks readers as_ → All (IsPast lasts) ks
+pub renews : {Q A : Type 0} (plain : Q → List Operation → A) (bounds looked : List ℕ) (lasts published : List (List Operation)) (rs readers : List ReaderState) (as_ : List (Answer Q A)) (ks : List (Ask Q)) → AllZip IsFront published lasts → bounds ≡ looked → length looked ≡ length published
+    → rs ≡ readers → AllAt (IsBound published rs) looked → HasAnswered plain ks readers as_ → All (IsPast lasts) ks
     → All (λ (a : Answer Q A). (a.index < length bounds) × (a.index < length lasts)) as_ × ((bs : List (Answer Q A)) → AllZip (ComesTo plain bounds lasts) bs as_ → AreFinal plain lasts ks bs)
-renews plain bounds looked lasts shown rs readers as_ ks fronts same many mine h answered past =
-    let count : length bounds ≡ length shown = ap (λ (l : List ℕ). length l) same ∙ many in
-    let here : AllAt (IsBound shown readers) bounds = subst (AllAt (IsBound shown readers)) (sym same) (subst (λ (x : List ReaderState). AllAt (IsBound shown x) looked) mine h) in
-    let are_bounds = each_bound bounds lasts shown readers fronts count here in (
-      all_there bounds lasts shown fronts count as_ (all_within plain bounds lasts shown readers fronts are_bounds as_ ks answered.each past),
-      λ bs c. worker_final plain bounds lasts shown readers fronts are_bounds bs as_ ks c answered past,
+renews plain bounds looked lasts published rs readers as_ ks fronts same many mine h answered past =
+    let count : length bounds ≡ length published = ap (λ (l : List ℕ). length l) same ∙ many in
+    let here : AllAt (IsBound published readers) bounds = subst (AllAt (IsBound published readers)) (sym same) (subst (λ (x : List ReaderState). AllAt (IsBound published x) looked) mine h) in
+    let are_bounds = each_bound bounds lasts published readers fronts count here in (
+      all_there bounds lasts published fronts count as_ (all_within plain bounds lasts published readers fronts are_bounds as_ ks answered.each past),
+      λ bs c. worker_final plain bounds lasts published readers fronts are_bounds bs as_ ks c answered past,
     )
 
 pub plain_answers : {Q A : Type 0} (plain : Q → List Operation → A) (as_ : List (Answer Q A)) (ks : List (Ask Q)) → AllZip (IsAnswerTo plain) as_ ks → All (λ (a : Answer Q A). a.answer ≡ plain a.query a.snapshot) as_

@@ -8,6 +8,7 @@ use Rattle.std.proofs.Math.Nat.{suc-mul}
 use Rattle.std.proofs.Math.Numerals.{suc-eq-add-one}
 use Rattle.std.proofs.lemmas.Bool.{eq-eqb, eqb-true}
 use Rattle.sum_tree.proofs.Keys.{AllPairs-cross, AllPairs-right}
+use Rattle.op_model.proofs.Elements.{range_more}
 
 module _ {X : Type 0} (p : X → Bool) where
   -- where it holds of what is kept, it holds of what would be kept
@@ -61,10 +62,6 @@ module _ {X : Type 0} (turn : X → ℕ) where
       (pairs_dealt R xs (λ w. pairs_behind (λ y. turn y == w) R x xs (h w)))
 
 -- ---- how many go to one of so many workers
-
-pub range_more : (a n : ℕ) → range_with_len a (suc n) ≡ range_with_len a n ++ (a + n) ∷ []
-range_more a zero = ap (λ (m : ℕ). m ∷ []) (omega arith)
-range_more a (suc n) = ap (λ (l : List ℕ). a ∷ l) (range_more (a + 1) n ∙ ap (λ (m : ℕ). range_with_len (a + 1) n ++ m ∷ []) (omega arith))
 
 -- one more fits, where the next number goes to worker w
 row_below : (c q n workers w : ℕ) → w < workers → n ≡ q * workers + w → c * workers + w + 1 ≤ n + workers → (c + 1) * workers + w + 1 ≤ n + 1 + workers

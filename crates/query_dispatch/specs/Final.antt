@@ -24,10 +24,10 @@ IsPast lasts k = (k.index < length lasts) × IsFront k.history (last_of lasts k.
 
 -- what was known to the reader at that place, and has no more than n operations, begins what was last published
 abbrev pub IsBound : Lasts → List ReaderState → ℕ → ℕ → Type 0
-IsBound shown readers r n =
-    (n ≤ length (last_of shown r))
+IsBound published readers r n =
+    (n ≤ length (last_of published r))
     × ((h : List Operation) → IsFront h (slice_index_or (lists_of readers) r [])
-    → length h ≤ n → IsFront h (last_of shown r))
+    → length h ≤ n → IsFront h (last_of published r))
 
 -- a list of no more than so many operations stays; a longer one gives way to what the replica is at the end
 abbrev pub final_list : ℕ → List Operation → List Operation → List Operation
@@ -66,12 +66,12 @@ pub record AreGathered {Q A : Type 0} (plain : Q → List Operation → A) (work
 
 -- all inboxes are closed, and each worker's tokens tell it what was last published, of its own pairs
 pub record IsReady {Q : Type 0} (inboxes : List (InboxState Q)) (tolds : List (List ToldState)) (sizes : List ℕ)
-    (shown : Lasts) (asks : List (Ask Q)) : Type 0 where
+    (published : Lasts) (asks : List (Ask Q)) : Type 0 where
   pub some : 1 ≤ length inboxes
   pub closed : AllAt (IsClosed (length inboxes) asks) inboxes
   pub pairs : map told_pairs tolds ≡ pairs_in inboxes
-  pub lists : All (λ ts. told_lists ts ≡ shown) tolds
-  pub counts : sizes ≡ map (λ (h : List Operation). length h) shown
+  pub lists : All (λ ts. told_lists ts ≡ published) tolds
+  pub counts : sizes ≡ map (λ (h : List Operation). length h) published
   pub numbers : AreNumbered asks
 
 -- what the workers gave back is of the desks that they began with

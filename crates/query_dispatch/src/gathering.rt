@@ -46,17 +46,17 @@ impl<Q: Drop> Gathering<Q> {
     ) -> Result<Vec<Answer<Q, A>>, OutOfMemory>
     where
         Q: Query<A>,
-        requires ready { (shown : List (List Operation)) × (asks : List (Ask Q))
+        requires ready { (published : List (List Operation)) × (asks : List (Ask Q))
             × (desks : List DeskState)
             × IsReady self.inboxes.items (map (λ v. v.items) self.tolds.items) self.sizes.items
-            shown asks
-            × AllZip IsFront shown lasts.now × All (IsPast lasts.now) asks
+            published asks
+            × AllZip IsFront published lasts.now × All (IsPast lasts.now) asks
             × (self.count ≡ length asks)
             × AreEnds self.inboxes.items desks × HaveWorked Q.plain desks dones.items }
         ensures { (asks : List (Ask Q)) → AreNumbered asks → self.count ≡ length asks
-            → (shown : List (List Operation))
+            → (published : List (List Operation))
             → IsReady self.inboxes.items (map (λ v. v.items) self.tolds.items) self.sizes.items
-            shown asks
+            published asks
             → IfOk result (λ v. AreGathered Q.plain (length self.inboxes.items) lasts.now asks
             v.items) }
     {

@@ -2,12 +2,14 @@
 use Rattle.std.proofs.Common.{Bool, true, false, ◌≡◌, ◌<◌, ℕ, zero, suc, List, [], ◌∷◌, ◌++◌, set, get_or, length, sym, ap, ◌∙◌, subst, arith, get_or-set_same, Option, Result, Ok, Err, IfOk, IfSome}
 use Rattle.std.specs.Option.{option_map}
 use Rattle.std.specs.Result.{result_ok}
-use Rattle.std.specs.List.{All, AllPairs, AllZip}
+use Rattle.std.specs.List.{All, AllPairs}
 use Rattle.std.proofs.lemmas.List.{map-set, get_or-map, length-map}
 use Rattle.std.proofs.lemmas.List.Elements.{All-append, All-nil, All-weaker}
 use Rattle.std.proofs.lemmas.List.Kept.{AllPairs-cons}
+use Rattle.std.proofs.lemmas.Slice.Zip.{all_zipped_more}
 use Rattle.sum_tree.proofs.Keys.{AllPairs-append}
 use Rattle.op_model.specs.declared.operation.Operation.{Operation}
+use Rattle.op_model.proofs.Elements.{All-single, AllPairs-nil}
 use Rattle.text_buffer.specs.Document.{IsFront}
 use Rattle.text_buffer.proofs.Fronts.{front_itself, front_length, front_trans}
 use Rattle.snapshot_pub.specs.States.{ReaderState}
@@ -19,7 +21,6 @@ use Rattle.query_workers.proofs.Jobs.{asks_more, asks_ended, open_more, ended_mo
 use Rattle.query_workers.specs.declared.query.Answer.{Answer}
 use Rattle.query_workers.specs.Asks.{Ask, ask_of, asks_of}
 use Rattle.query_workers.specs.Answers.{lists_of, IsAnswerTo, NeverFewer, IsKnown, HasAnswered}
-use Rattle.snapshot_pub.proofs.Following.{All-single}
 
 -- where one list grows, each does or stays
 lists_grow : (ls : List (List Operation)) (i : ℕ) (new : List Operation) → IsFront (get_or ls i []) new → (k : ℕ) → IsFront (get_or ls k []) (get_or (set ls i new) k [])
@@ -29,17 +30,8 @@ lists_grow (l ∷ ls) zero new f (suc k) = front_itself (get_or ls k [])
 lists_grow (l ∷ ls) (suc i) new f zero = front_itself l
 lists_grow (l ∷ ls) (suc i) new f (suc k) = lists_grow ls i new f k
 
-pub no_pairs : {X : Type 0} (R : X → X → Type 0) → AllPairs R []
-no_pairs R = λ i j d lt within. absurd (omega arith)
-
 one_pair : {X : Type 0} (R : X → X → Type 0) (x : X) → AllPairs R (x ∷ [])
-one_pair R x = AllPairs-cons R x [] (All-nil (R x)) (no_pairs R)
-
-pub paired_more : {X Y : Type 0} (R : X → Y → Type 0) (xs : List X) (ys : List Y) (x : X) (y : Y) → AllZip R xs ys → R x y → AllZip R (xs ++ x ∷ []) (ys ++ y ∷ [])
-paired_more R [] [] x y h one = (one, tt)
-paired_more R [] (z ∷ ys) x y h one = absurd h
-paired_more R (w ∷ xs) [] x y h one = absurd h
-paired_more R (w ∷ xs) (z ∷ ys) x y h one = (h.0, paired_more R xs ys x y h.1 one)
+one_pair R x = AllPairs-cons R x [] (All-nil (R x)) (AllPairs-nil R)
 
 module _ {Q A : Type 0} (plain : Q → List Operation → A) where
   module _ (readers news : List ReaderState) (old new : ReaderState) (j : Ask Q) (a : Answer Q A) where
@@ -87,7 +79,7 @@ module _ {Q A : Type 0} (plain : Q → List Operation → A) where
     pub answered_more : GaveOn → (jobs : List (Ask Q)) (answers more : List (Answer Q A)) → more ≡ answers ++ a ∷ [] → HasAnswered plain jobs readers answers
         → HasAnswered plain (jobs ++ j ∷ []) news more
     answered_more g jobs answers more is h = subst (HasAnswered plain (jobs ++ j ∷ []) news) (sym is) (record {
-      each = paired_more (IsAnswerTo plain) answers jobs a j h.each g.answer;
+      each = all_zipped_more (IsAnswerTo plain) answers jobs a j h.each g.answer;
       never_fewer = AllPairs-append NeverFewer answers (a ∷ []) h.never_fewer (one_pair NeverFewer a)
           (All-weaker (IsKnown readers) (λ b. All (NeverFewer b) (a ∷ [])) (λ b k. All-single (NeverFewer b) a (fewer_new g b k)) answers h.known);
       known = All-append (IsKnown news) answers (a ∷ []) (All-weaker (IsKnown readers) (IsKnown news) (known_still g) answers h.known) (All-single (IsKnown news) a (known_new g));

@@ -8,8 +8,8 @@ use snapshot_pub::Publisher;
 use std::sync::Wait;
 use text_buffer::Snapshot;
 
-/// Publishes the snapshot of a replica to each of its `pairs` pairs, where it has more than was last published, which was so many operations.
-/// Answers how many these are now.
+/// Publishes the snapshot of a replica to each of its `pairs` pairs, where it has more than the `published` operations that were last
+/// published. Gives how many it has.
 ///
 /// # Errors
 ///

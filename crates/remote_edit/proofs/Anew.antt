@@ -1,30 +1,28 @@
 -- Fragments where an undo counts edits.
-use Rattle.std.proofs.Common.{◌≡◌, Bool, true, false, cond, leb, ◌||◌, List, [], ◌∷◌, refl, ap, inl, inr, sym, ◌∙◌}
-use Rattle.std.proofs.lemmas.Bool.{cases_Bool, and_parts, and_from}
+use Rattle.std.proofs.Common.{◌≡◌, Bool, true, false, cond, leb, ◌||◌, List, [], ◌∷◌, ap, inl, inr, sym, ◌∙◌}
+use Rattle.std.proofs.lemmas.Bool.{cases_Bool, and_parts, and_from, or_left}
 use Rattle.std.specs.List.{list_any}
 use Rattle.lamport_clock.specs.declared.stamp.Lamport.{Lamport}
 use Rattle.lamport_clock.specs.Stamps.{same_stamp}
 use Rattle.lamport_clock.specs.Versions.{join_versions, sees}
+use Rattle.op_model.proofs.Elements.{none_up}
 use Rattle.undo_map.specs.declared.entry.UndoEntry.{UndoEntry}
 use Rattle.fragments.specs.declared.fragment.Fragment.{Fragment}
 use Rattle.fragments.specs.Summaries.{summary_of}
-use Rattle.remote_edit.specs.SeesLaws.{begins_by, may_touch, may_concern, none_up, stamps_seen}
+use Rattle.fragments.specs.SummaryLaws.{stamps_seen}
+use Rattle.remote_edit.specs.SeesLaws.{begins_by, may_concern, may_concern_any}
 use Rattle.remote_edit.specs.Anew.{concerns, recount, anew}
 
--- a sum that an edit cannot touch is of a fragment that it does not concern
-untouched : (f : Fragment) (t : Lamport) → concerns f t ≡ true → may_touch (summary_of f) t ≡ true
-untouched f t h =
+-- an edit that concerns a fragment may concern its sum
+concerns_may : (f : Fragment) (t : Lamport) → concerns f t ≡ true → may_concern (summary_of f) t ≡ true
+concerns_may f t h =
     let k = and_parts (leb f.stamp.value t.value) (list_any (same_stamp t) (f.stamp ∷ f.deletions)) h in
-    and_from (begins_by t (summary_of f).span) (sees (summary_of f).greatest t) (or_left (leb f.stamp.value t.value) k.0) (stamps_seen (f.stamp ∷ f.deletions) (join_versions [] f.max_undos) t k.1)
-  where
-    or_left : (b : Bool) → b ≡ true → (b || false) ≡ true
-    or_left true e = refl
-    or_left false e = e
+    and_from (begins_by t (summary_of f).span) (sees (summary_of f).greatest t) (or_left (leb f.stamp.value t.value) false k.0) (stamps_seen (f.stamp ∷ f.deletions) (join_versions [] f.max_undos) t k.1)
 
 -- a fragment whose sum none of the edits can concern stays
-pub unmet_same : (w : List UndoEntry) (by : Lamport) (ts : List Lamport) (f : Fragment) → may_concern ts (summary_of f) ≡ false → anew w by ts f ≡ f
+pub unmet_same : (w : List UndoEntry) (by : Lamport) (ts : List Lamport) (f : Fragment) → may_concern_any ts (summary_of f) ≡ false → anew w by ts f ≡ f
 unmet_same w by ts f h =
-    let none : list_any (concerns f) ts ≡ false = none_up (concerns f) (may_touch (summary_of f)) (untouched f) ts h in
+    let none : list_any (concerns f) ts ≡ false = none_up (concerns f) (may_concern (summary_of f)) (concerns_may f) ts h in
     ap (λ (b : Bool). cond b (recount w by f) f) none
 
 -- a fragment that one of the edits concerns is counted, another stays
@@ -41,5 +39,5 @@ same_len w by ts f = elim (cases_Bool (list_any (concerns f) ts)) [
 ]
 
 -- the same, for a list of edits that is ts
-pub unmet_kept : (w : List UndoEntry) (by : Lamport) (ts us : List Lamport) → us ≡ ts → (f : Fragment) → may_concern us (summary_of f) ≡ false → anew w by ts f ≡ f
-unmet_kept w by ts us e f h = unmet_same w by ts f (ap (λ (z : List Lamport). may_concern z (summary_of f)) (sym e) ∙ h)
+pub unmet_kept : (w : List UndoEntry) (by : Lamport) (ts us : List Lamport) → us ≡ ts → (f : Fragment) → may_concern_any us (summary_of f) ≡ false → anew w by ts f ≡ f
+unmet_kept w by ts us e f h = unmet_same w by ts f (ap (λ (z : List Lamport). may_concern_any z (summary_of f)) (sym e) ∙ h)

@@ -22,17 +22,6 @@ pub record IsOnBudget (v : Entries) (fs : List Fragment) (ps : List Piece) (plac
   pub few : (a b : ℕ) → starts (suc a) b rest ≤ starts (place + suc a) (place + b) fs
   pub cost : new + 256 * piece_starts fs qs ≤ old + 256 * piece_starts fs ps
 
-pub budget_start : (v : Entries) (fs : List Fragment) (ps : List Piece) (n : ℕ) → AllSeen v fs → Ordered 0 (2 ^ 40) ps → IsOnBudget v fs ps 0 fs ps n n
-budget_start v fs ps n h o = record {
-  order = o;
-  seen = h;
-  few = λ a b. (let e : suc a ≡ 0 + suc a = omega arith in
-      let g : b ≡ 0 + b = omega arith in
-      let k : starts (suc a) b fs ≡ starts (0 + suc a) (0 + b) fs = ap (λ (i : ℕ). starts i b fs) e ∙ ap (λ (i : ℕ). starts (0 + suc a) i fs) g in
-      omega (arith, k));
-  cost = omega arith;
-}
-
 pub ordered_down : (at from end : ℕ) (ps : List Piece) → at ≤ from → Ordered from end ps → Ordered at end ps
 ordered_down at from end [] h o = omega (arith, h, o)
 ordered_down at from end (p ∷ ps) h o = let k = o.0 in (omega (arith, k, h), o.1, o.2)

@@ -11,13 +11,14 @@ use Rattle.fragments.specs.declared.fragment.Fragment.{Fragment}
 use Rattle.fragments.specs.Summaries.{summary_of}
 use Rattle.fragments.specs.Stand.{run_of, runs}
 use Rattle.fragments.specs.Laws.{shown_len}
+use Rattle.fragments.specs.SummaryLaws.{stamps_seen}
 use Rattle.remote_edit.specs.declared.moves.Move.{Move}
 use Rattle.remote_edit.specs.declared.moves.Move.TheVariants.{Insert}
 use Rattle.remote_edit.specs.Moves.{with_move}
 use Rattle.remote_edit.specs.Marks.{is_shown}
 use Rattle.remote_edit.specs.Carried.{move_for, hidden_len, CarryOn}
 use Rattle.remote_edit.specs.Among.{moves_on, moves_among}
-use Rattle.remote_edit.specs.SeesLaws.{sees_edit, stamps_seen}
+use Rattle.remote_edit.specs.SeesLaws.{sees_edit}
 use Rattle.remote_edit.specs.BeforeEdit.{without, without_deletion, before_edit, edit_move, IsByCounts, runs_by, InOrder, Brings}
 use Rattle.remote_edit.proofs.MovesAmong.{kept_moves, one_more}
 use Rattle.remote_edit.proofs.BeforeEdit.{none_without}

@@ -13,7 +13,7 @@ use Rattle.op_model.specs.Shown.{texts, deleters, deletes}
 use Rattle.op_model.specs.Answers.{answer}
 use Rattle.op_model.specs.Answers.Answer.{Good}
 use Rattle.op_model.specs.Lawful.{Lawful}
-use Rattle.op_model.specs.Facts.{Fact, fact, seen_by}
+use Rattle.op_model.specs.Facts.{Fact, fact, visible_by}
 use Rattle.op_model.specs.Walked.{Run, run_facts, facts_of}
 use Rattle.op_model.specs.Walked as W
 use Rattle.op_model.proofs.order.Groups.{passed_unseen}
@@ -35,15 +35,15 @@ use Rattle.remote_edit.proofs.Changing.{changing}
 use Rattle.remote_edit.proofs.Runs.{walk_as}
 use Rattle.remote_edit.proofs.Standing.{indexed_start}
 use Rattle.remote_edit.proofs.OfFacts.{of_facts}
-use Rattle.remote_edit.proofs.UndoStands.{told_by_counts}
+use Rattle.remote_edit.proofs.UndoStands.{told_by_history}
 use Rattle.remote_edit.proofs.BeforeEdit.{IsOld, old_runs, runs_before, walk_kept, text_totals}
 
 -- fragments that tell of a history are shown by its counts
 pub shown_by_counts : (h : History) (u : List UndoEntry) (fs : List Fragment) → u ≡ undo_entries h → AllByRecursion IsFilled fs → Tell fs h → AllByRecursion (IsByCounts u) fs
 shown_by_counts h u fs e l s = of_facts (λ t v d. v ≡ is_shown u t d) fs l
-    (subst (AllByRecursion (λ (q : Fact). q.visible ≡ is_shown u q.cell.stamp q.deletions)) (sym s) (go (cells (seq h)) (told_by_counts h (seq h))))
+    (subst (AllByRecursion (λ (q : Fact). q.visible ≡ is_shown u q.cell.stamp q.deletions)) (sym s) (go (cells (seq h)) (told_by_history h (seq h))))
   where
-    go : (s : List Cell) → AllByRecursion (λ (q : Fact). q.visible ≡ seen_by h q.cell.stamp q.deletions) (map (fact h) s) → AllByRecursion (λ (q : Fact). q.visible ≡ is_shown u q.cell.stamp q.deletions) (map (fact h) s)
+    go : (s : List Cell) → AllByRecursion (λ (q : Fact). q.visible ≡ visible_by h q.cell.stamp q.deletions) (map (fact h) s) → AllByRecursion (λ (q : Fact). q.visible ≡ is_shown u q.cell.stamp q.deletions) (map (fact h) s)
     go [] x = tt
     go (c ∷ s) x = (x.0 ∙ is_told h c.stamp (deleters h c) ∙ ap (λ (w : List UndoEntry). is_shown w c.stamp (deleters h c)) (sym e), go s x.1)
 

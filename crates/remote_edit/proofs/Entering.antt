@@ -10,11 +10,13 @@ use Rattle.fragments.specs.declared.fragment.Fragment.{Fragment}
 use Rattle.fragments.specs.declared.index_entry.IndexEntry.{IndexEntry}
 use Rattle.fragments.specs.Index.{with_entry}
 use Rattle.fragments.specs.Stand.{IsFilled, entry_of}
+use Rattle.fragments.specs.Laws.{cells_len}
+use Rattle.fragments.proofs.Counts.{cells_len-append}
 use Rattle.remote_edit.specs.Marks.{was_shown, touch}
-use Rattle.remote_edit.specs.Walk.{bytes, Fit, front, back, new_fragment}
+use Rattle.remote_edit.specs.Walk.{Fit, front, back, new_fragment}
 use Rattle.remote_edit.specs.Steps.{head, tail}
 use Rattle.remote_edit.specs.Indexes.{IsIndexed}
-use Rattle.remote_edit.proofs.Places.{few, touch_len, bytes_append}
+use Rattle.remote_edit.proofs.Places.{few, touch_len}
 use Rattle.remote_edit.proofs.Gathers.{headed, fit_swap}
 use Rattle.remote_edit.proofs.Indexing.{few_entries, indexed_same, indexed_front, indexed_split, indexed_new}
 
@@ -72,15 +74,15 @@ module _ (t : Lamport) (k : ℕ) (pre rest : List Fragment) (f a b : Fragment) (
       rw (ep, r, ek, ew) (subst (λ (z : List Fragment). IsIndexed t k z (with_entry (entry_of b) (with_entry (entry_of a) w))) (sym (append_assoc pre (g ∷ []) (back f n ∷ tail rest))) q)
 
 -- new cells
-module _ (t : Lamport) (k n : ℕ) (pre rest : List Fragment) (f : Fragment) (id : List ℕ) (w : List IndexEntry) (e : f ≡ new_fragment t k n id) (h : 0 < n) (o : k + n < 2 ^ 64) (fi : Fit (pre ++ rest)) (r : bytes (pre ++ rest) + n ≤ 2 ^ 40) (x : IsIndexed t k (pre ++ rest) w) where
+module _ (t : Lamport) (k n : ℕ) (pre rest : List Fragment) (f : Fragment) (id : List ℕ) (w : List IndexEntry) (e : f ≡ new_fragment t k n id) (h : 0 < n) (o : k + n < 2 ^ 64) (fi : Fit (pre ++ rest)) (r : cells_len (pre ++ rest) + n ≤ 2 ^ 40) (x : IsIndexed t k (pre ++ rest) w) where
   new_indexed : IsIndexed t (k + n) (pre ++ f ∷ rest) (with_entry (entry_of f) w)
   new_indexed = rw e (indexed_new t k n pre rest id w fi.0 h o x)
 
   pub new_room : length (with_entry (entry_of f) w) ≤ 2 ^ 40
   new_room =
       let g = each_append IsFilled pre (new_fragment t k n id ∷ rest) (each_left IsFilled pre rest fi.0) ((h, o), each_right IsFilled pre rest fi.0) in
-      let b1 = bytes_append pre rest in
-      let b2 = bytes_append pre (new_fragment t k n id ∷ rest) in
+      let b1 = cells_len-append pre rest in
+      let b2 = cells_len-append pre (new_fragment t k n id ∷ rest) in
       few_in t (k + n) (pre ++ f ∷ rest) (with_entry (entry_of f) w) new_indexed (rw e (g, omega arith))
 
   pub enter_new : (k2 : ℕ) (w2 : List IndexEntry) (pre2 : List Fragment) → pre2 ≡ pre ++ f ∷ [] → k2 ≡ k + n → w2 ≡ with_entry (entry_of f) w → IsIndexed t k2 (pre2 ++ rest) w2

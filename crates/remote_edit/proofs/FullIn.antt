@@ -1,7 +1,7 @@
 -- Where shown cells are among all cells.
 use Rattle.std.proofs.Common.{◌≡◌, ℕ, zero, suc, ◌+◌, ◌-◌, ◌<◌, ◌≤◌, ltb, Bool, true, false, cond, List, [], ◌∷◌, ◌++◌, length, map, take, drop, get_or, refl, sym, ap, ◌∙◌, arith, inl, inr, subst}
 use Rattle.std.specs.List.{AllByRecursion}
-use Rattle.std.proofs.lemmas.Bool.{cases_Bool, lt-ltb, ltb-true, ltb-false}
+use Rattle.std.proofs.lemmas.Bool.{cases_Bool, le-ltb, lt-ltb, ltb-true, ltb-false}
 use Rattle.tree_cursor.specs.Places.{place_behind, seek_count}
 use Rattle.tree_cursor.specs.Counting.{number_passes}
 use Rattle.tree_cursor.specs.Place.{CursorState}
@@ -17,16 +17,12 @@ use Rattle.op_model.specs.Made.{full_offset, full_piece}
 use Rattle.fragments.specs.declared.fragment.Fragment.{Fragment}
 use Rattle.fragments.specs.Summaries.{summary_of}
 use Rattle.fragments.specs.Stand.{runs, Tell}
-use Rattle.fragments.specs.Laws.{shown_len}
+use Rattle.fragments.specs.Laws.{shown_len, cells_len}
 use Rattle.remote_edit.specs.declared.passed.Passed.{Passed}
-use Rattle.remote_edit.specs.Walk.{bytes}
 use Rattle.remote_edit.specs.Passed.{move_passed}
 use Rattle.remote_edit.specs.Carried.{hidden_len}
 use Rattle.remote_edit.specs.Offsets.{full_in, piece_in}
 use Rattle.remote_edit.proofs.PassedPlaces.{passed_behind}
-
-low : (x y : ℕ) → y ≤ x → ltb x y ≡ false
-low x y h = elim (cases_Bool (ltb x y)) [ inl e ↦ (let l : x < y = ltb-true x y e in absurd (omega (arith, l, h))) | inr e ↦ e ]
 
 -- ---- among what is told
 
@@ -82,11 +78,11 @@ pub pieces_are : (h : History) (fs : List Fragment) → Tell fs h → (ps : List
 pieces_are h fs e [] = refl
 pieces_are h fs e (p ∷ ps) = ap (λ q. q ∷ map (piece_in fs) ps) (piece_is h fs e p) ∙ ap (λ qs. full_piece h p ∷ qs) (pieces_are h fs e ps)
 
-pub full_low : (fs : List Fragment) (o : ℕ) → full_in fs o ≤ bytes fs
+pub full_low : (fs : List Fragment) (o : ℕ) → full_in fs o ≤ cells_len fs
 full_low [] o = omega arith
 full_low (f ∷ fs) o = go f.visible (full_low fs (o - f.len)) (full_low fs o)
   where
-    go : (b : Bool) → full_in fs (o - f.len) ≤ bytes fs → full_in fs o ≤ bytes fs → cond b (cond (ltb o f.len) o (f.len + full_in fs (o - f.len))) (f.len + full_in fs o) ≤ f.len + bytes fs
+    go : (b : Bool) → full_in fs (o - f.len) ≤ cells_len fs → full_in fs o ≤ cells_len fs → cond b (cond (ltb o f.len) o (f.len + full_in fs (o - f.len))) (f.len + full_in fs o) ≤ f.len + cells_len fs
     go true h k = elim (cases_Bool (ltb o f.len)) [ inl e ↦ rw e (let l : o < f.len = ltb-true o f.len e in omega (arith, l)) | inr e ↦ rw e (omega (arith, h)) ]
     go false h k = omega (arith, k)
 
@@ -109,14 +105,14 @@ seek_hidden (f ∷ fs) o a b l h = go f.visible refl h (λ c d. seek_hidden fs o
       | inl t ↦ (let g : o < a + f.len = ltb-true o (a + f.len) t in
           let u : ltb (o - a) f.len ≡ true = lt-ltb (o - a) f.len (omega (arith, g, l)) in rw (t, u) (omega arith))
       | inr t ↦ (let g : a + f.len ≤ o = ltb-false o (a + f.len) t in
-          let u : ltb (o - a) f.len ≡ false = low (o - a) f.len (omega (arith, g)) in
+          let u : ltb (o - a) f.len ≡ false = le-ltb (o - a) f.len (omega (arith, g)) in
           let q : o - a - f.len ≡ o - (a + f.len) = omega arith in
           let i = ih (a + f.len) (b + 0) g (omega (arith, h)) in
           let n = hidden_next f fs true (sought o (a + f.len) (b + 0) fs) e in
           rw (t, u, q) (omega (arith, i, n, g)))
     ]
     go false e h ih =
-        let t : ltb o (a + 0) ≡ false = low o (a + 0) (omega (arith, l)) in
+        let t : ltb o (a + 0) ≡ false = le-ltb o (a + 0) (omega (arith, l)) in
         let q : o - (a + 0) ≡ o - a = omega arith in
         let i : full_in fs (o - a) ≡ (o - a) + hidden_len (take (sought o (a + 0) (b + f.len) fs) fs) = subst (λ n. full_in fs n ≡ n + hidden_len (take (sought o (a + 0) (b + f.len) fs) fs)) q (ih (a + 0) (b + f.len) (omega (arith, l)) (omega (arith, h))) in
         let n = hidden_next f fs false (sought o (a + 0) (b + f.len) fs) e in

@@ -11,10 +11,12 @@ use Rattle.op_model.proofs.Elements.{each_append, each_left, each_right}
 use Rattle.undo_map.specs.declared.entry.UndoEntry.{UndoEntry}
 use Rattle.fragments.specs.declared.fragment.Fragment.{Fragment}
 use Rattle.fragments.specs.Stand.{IsFilled}
+use Rattle.fragments.specs.Laws.{cells_len}
+use Rattle.fragments.proofs.Counts.{cells_len-append}
 use Rattle.remote_edit.specs.Marks.{touch}
-use Rattle.remote_edit.specs.Walk.{bytes, seen_bytes, Fit, last_id, front, back, new_fragment, next_id, zip, advance, skip_later, put_new}
+use Rattle.remote_edit.specs.Walk.{seen_bytes, Fit, last_id, front, back, new_fragment, next_id, advance, skip_later, put_new}
 use Rattle.remote_edit.specs.Steps.{later_first, head, tail, before, after, IsOnWay, IsAt}
-use Rattle.remote_edit.proofs.Places.{bytes_append, touch_len, touch_stamp}
+use Rattle.remote_edit.proofs.Places.{touch_len, touch_stamp}
 use Rattle.remote_edit.proofs.Passing.{seen_more, seen_own, unseen_own, seen_within, adv_unseen, adv_whole, adv_split, adv_zero}
 
 pub head_drop : (xs : List Fragment) (i : ℕ) → head (drop i xs) ≡ slice_get xs i
@@ -40,18 +42,18 @@ headed (x ∷ xs) f e = let q : x ≡ f = cc in ap (λ (z : Fragment). z ∷ xs)
 fit_one : (pre r : List Fragment) (f : Fragment) → Fit (pre ++ f ∷ r) → (0 < f.len) × (f.offset + f.len < 2 ^ 64) × (f.len ≤ 2 ^ 40)
 fit_one pre r f h =
     let k = each_right IsFilled pre (f ∷ r) h.0 in
-    let b = bytes_append pre (f ∷ r) in
+    let b = cells_len-append pre (f ∷ r) in
     let h1 = h.1 in (k.0.0, k.0.1, omega arith)
 
 -- others in the place of one, with as many cells
-pub fit_swap : (pre r ys : List Fragment) (f : Fragment) → Fit (pre ++ f ∷ r) → AllByRecursion IsFilled ys → bytes ys ≡ f.len → Fit (pre ++ (ys ++ r)) × (bytes (pre ++ (ys ++ r)) ≡ bytes (pre ++ f ∷ r))
+pub fit_swap : (pre r ys : List Fragment) (f : Fragment) → Fit (pre ++ f ∷ r) → AllByRecursion IsFilled ys → cells_len ys ≡ f.len → Fit (pre ++ (ys ++ r)) × (cells_len (pre ++ (ys ++ r)) ≡ cells_len (pre ++ f ∷ r))
 fit_swap pre r ys f h k e =
-    let b1 = bytes_append pre (f ∷ r) in
-    let b2 = bytes_append pre (ys ++ r) in
-    let b3 = bytes_append ys r in
+    let b1 = cells_len-append pre (f ∷ r) in
+    let b2 = cells_len-append pre (ys ++ r) in
+    let b3 = cells_len-append ys r in
     let g = each_right IsFilled pre (f ∷ r) h.0 in
     let h1 = h.1 in
-    let q : bytes (pre ++ (ys ++ r)) ≡ bytes (pre ++ f ∷ r) = omega arith in
+    let q : cells_len (pre ++ (ys ++ r)) ≡ cells_len (pre ++ f ∷ r) = omega arith in
     ((each_append IsFilled pre (ys ++ r) (each_left IsFilled pre (f ∷ r) h.0) (each_append IsFilled ys r k g.1), (omega arith)), q)
 
 module _ (m : Option (List UndoEntry)) (t : Lamport) (v : Entries) where
@@ -64,7 +66,7 @@ module _ (m : Option (List UndoEntry)) (t : Lamport) (v : Entries) where
         place = omega arith;
         goes = sym (adv_unseen m t v pre r f n h s);
         fit = subst Fit (sym a) k;
-        same = ap bytes a;
+        same = ap cells_len a;
         less = omega arith;
       }
 
@@ -83,7 +85,7 @@ module _ (m : Option (List UndoEntry)) (t : Lamport) (v : Entries) where
         place = seen_more v (pre ++ g ∷ []) pre g p f.len refl q (seen_own v g (ap (sees v) gs ∙ s) ∙ gl);
         goes = ap (λ (z : Fragment). advance m t v (n - f.len) (pre ++ z ∷ []) r) e ∙ sym (adv_whole m t v pre r f n h s l);
         fit = subst Fit (sym a) w.0;
-        same = ap bytes a ∙ w.1;
+        same = ap cells_len a ∙ w.1;
         less = omega arith;
       }
 
@@ -105,7 +107,7 @@ module _ (m : Option (List UndoEntry)) (t : Lamport) (v : Entries) where
         place = seen_more v (pre ++ g ∷ []) pre g p n refl q (seen_own v g (ap (sees v) gs ∙ s) ∙ gl);
         goes = ap (λ (z : Fragment). advance m t v 0 (pre ++ z ∷ []) (b ∷ r)) e ∙ ap (λ (z : Fragment). advance m t v 0 (pre ++ touch m t v a ∷ []) (z ∷ r)) d ∙ adv_zero m t v (pre ++ touch m t v a ∷ []) (back f n ∷ r) 0 refl ∙ sym (adv_split m t v pre r f n h s l);
         fit = subst Fit (sym c) w.0;
-        same = ap bytes c ∙ w.1;
+        same = ap cells_len c ∙ w.1;
         less = omega arith;
       }
 
@@ -153,27 +155,17 @@ room_of v pre rest f p h q e =
     let w = headed rest f e in
     let o = fit_one pre (tail rest) f (subst (λ (z : List Fragment). Fit (pre ++ z)) w h) in
     let a = seen_within v pre in
-    let b = bytes_append pre rest in
+    let b = cells_len-append pre rest in
     let c = h.1 in (omega arith, o.2, o.1)
 
 pub some_len : (pre rest : List Fragment) (f : Fragment) → Fit (pre ++ rest) → Some f ≡ head rest → 0 < f.len
 some_len pre rest f h e = (fit_one pre (tail rest) f (subst (λ (z : List Fragment). Fit (pre ++ z)) (headed rest f e) h)).0
-
-pub some_rest : (rest : List Fragment) (f : Fragment) → Some f ≡ head rest → rest ≡ [] → ⊥
-some_rest [] f e q = cc
-some_rest (x ∷ r) f e q = cc
 
 pub none_rest : (rest : List Fragment) → None ≡ head rest → rest ≡ []
 none_rest [] e = refl
 none_rest (x ∷ r) e = cc
 
 -- ---- the ends of loops
-
--- the one that comes next, as it is
-pub kept_one : (xs made made2 rest : List Fragment) (i j : ℕ) (f g : Fragment) → Some f ≡ head rest → g ≡ f → j ≡ i → made2 ≡ made ++ g ∷ [] → before xs j made2 ≡ before xs i made ++ take 1 rest
-kept_one xs made made2 rest i j f g e d q p =
-    let w : take 1 rest ≡ f ∷ [] = ap (take 1) (headed rest f e) in
-    grown xs made made2 i j g q p ∙ ap (λ (z : Fragment). before xs i made ++ z ∷ []) d ∙ ap (λ (z : List Fragment). before xs i made ++ z) (sym w)
 
 pub none_kept : (xs made rest : List Fragment) (i : ℕ) → None ≡ head rest → (before xs i made ≡ before xs i made ++ take 1 rest) × (rest ≡ tail rest)
 none_kept xs made rest i e =
@@ -185,7 +177,7 @@ pub record Kept (t : Lamport) (v : Entries) (pre rest pre2 rest2 : List Fragment
   pub place : p ≡ seen_bytes v pre2
   pub goes : skip_later t v pre2 rest2 ≡ skip_later t v pre rest
   pub fit : Fit (pre2 ++ rest2)
-  pub same : bytes (pre2 ++ rest2) ≡ bytes (pre ++ rest)
+  pub same : cells_len (pre2 ++ rest2) ≡ cells_len (pre ++ rest)
   pub less : length rest2 < length rest
 
 pub over_later : (t : Lamport) (v : Entries) (pre rest pre2 rest2 : List Fragment) (p : ℕ) → later_first t v rest ≡ true → p ≡ seen_bytes v pre → Fit (pre ++ rest) → pre2 ≡ pre ++ take 1 rest → rest2 ≡ tail rest → Kept t v pre rest pre2 rest2 p
@@ -194,27 +186,23 @@ over_later t v pre (f ∷ r) pre2 rest2 p e q h a b =
     let u : sees v f.stamp ≡ false = not-true (sees v f.stamp) (and_parts (later f.stamp t) (not (sees v f.stamp)) e).1 in
     let c = seen_more v (pre ++ f ∷ []) pre f p 0 refl q (unseen_own v f u) in
     let d = append_assoc pre (f ∷ []) r in
-    let g : Kept t v pre (f ∷ r) (pre ++ f ∷ []) r p = record { place = omega arith; goes = sym (step f r e); fit = subst Fit (sym d) h; same = ap bytes d; less = omega arith } in
+    let g : Kept t v pre (f ∷ r) (pre ++ f ∷ []) r p = record { place = omega arith; goes = sym (step f r e); fit = subst Fit (sym d) h; same = ap cells_len d; less = omega arith } in
     rw (a, b) g
   where
     step : (f : Fragment) (r : List Fragment) → (later f.stamp t && not (sees v f.stamp)) ≡ true → skip_later t v pre (f ∷ r) ≡ skip_later t v (pre ++ f ∷ []) r
     step f r e = rw e refl
 
-pub over_earlier : (pre r : List Fragment) (t : Lamport) (v : Entries) → later_first t v r ≡ false → skip_later t v pre r ≡ zip pre r
-over_earlier pre [] t v e = refl
-over_earlier pre (f ∷ r) t v e = rw e refl
-
-pub over_new : (v : Entries) (t : Lamport) (pre rest pre2 : List Fragment) (f : Fragment) (k n p : ℕ) → 0 < n → sees v t ≡ false → p ≡ seen_bytes v pre → Fit (pre ++ rest) → bytes (pre ++ rest) + n ≤ 2 ^ 40 → k + n < 2 ^ 64
-    → f ≡ new_fragment t k n (between_digits (last_id pre) (next_id rest)) → pre2 ≡ pre ++ f ∷ [] → IsAt v (put_new t k n pre rest) (bytes (pre ++ rest) + n) pre2 rest p
+pub over_new : (v : Entries) (t : Lamport) (pre rest pre2 : List Fragment) (f : Fragment) (k n p : ℕ) → 0 < n → sees v t ≡ false → p ≡ seen_bytes v pre → Fit (pre ++ rest) → cells_len (pre ++ rest) + n ≤ 2 ^ 40 → k + n < 2 ^ 64
+    → f ≡ new_fragment t k n (between_digits (last_id pre) (next_id rest)) → pre2 ≡ pre ++ f ∷ [] → IsAt v (put_new t k n pre rest) (cells_len (pre ++ rest) + n) pre2 rest p
 over_new v t pre rest pre2 f k zero p h s q fi r o e a = absurd (omega arith)
 over_new v t pre rest pre2 f k (suc n) p h s q fi r o e a =
     let g : Fragment = new_fragment t k (suc n) (between_digits (last_id pre) (next_id rest)) in
     let x : pre2 ≡ pre ++ g ∷ [] = a ∙ ap (λ (z : Fragment). pre ++ z ∷ []) e in
     let c = seen_more v (pre ++ g ∷ []) pre g p 0 refl q (unseen_own v g s) in
     let d = append_assoc pre (g ∷ []) rest in
-    let b1 = bytes_append pre rest in
-    let b2 = bytes_append pre (g ∷ rest) in
+    let b1 = cells_len-append pre rest in
+    let b2 = cells_len-append pre (g ∷ rest) in
     let fl = each_append IsFilled pre (g ∷ rest) (each_left IsFilled pre rest fi.0) ((h, o), each_right IsFilled pre rest fi.0) in
-    let m : bytes ((pre ++ g ∷ []) ++ rest) ≡ bytes (pre ++ rest) + suc n = ap bytes d ∙ omega arith in
-    let w : IsAt v (put_new t k (suc n) pre rest) (bytes (pre ++ rest) + suc n) (pre ++ g ∷ []) rest p = record { place = omega arith; goes = refl; fit = subst Fit (sym d) (fl, (omega arith)); same = m } in
+    let m : cells_len ((pre ++ g ∷ []) ++ rest) ≡ cells_len (pre ++ rest) + suc n = ap cells_len d ∙ omega arith in
+    let w : IsAt v (put_new t k (suc n) pre rest) (cells_len (pre ++ rest) + suc n) (pre ++ g ∷ []) rest p = record { place = omega arith; goes = refl; fit = subst Fit (sym d) (fl, (omega arith)); same = m } in
     rw x w

@@ -3,11 +3,13 @@ use Rattle.std.proofs.Common.{◌≡◌, ℕ, zero, suc, ◌+◌, ◌<◌, ◌�
 use Rattle.std.specs.List.{slice_get}
 use Rattle.sum_tree.specs.Laws.{fold}
 use Rattle.sum_tree.specs.Spliced.{splice_list}
+use Rattle.sum_tree.proofs.Lists.{spliced_length}
 use Rattle.tree_cursor.specs.Places.{filter_count}
 use Rattle.undo_map.proofs.Seeking.{none_past}
 use Rattle.fragments.specs.declared.fragment.Fragment.{Fragment}
 use Rattle.fragments.specs.declared.fragment.FragmentSummary.{FragmentSummary}
 use Rattle.fragments.specs.Summaries.{no_fragments, summaries, summary_of, SummaryFits}
+use Rattle.fragments.specs.SeenPlaces.{cells_of}
 use Rattle.std.proofs.lemmas.Option.{same_Some, slice_get_within}
 
 -- the first i changed, the others as they were
@@ -43,10 +45,6 @@ same_next m zero (y ∷ xs) x h e = let k : y ≡ x = same_Some y x h in ap (λ 
 same_next m (suc i) [] x h e = cc
 same_next m (suc i) (y ∷ xs) x h e = ap (λ ys. m y ∷ ys) (same_next m i xs x h e)
 
--- one more that stays
-pub half_same : {A : Type 0} (m : A → A) (i : ℕ) (xs : List A) (x : A) → slice_get xs i ≡ Some x → m x ≡ x → half m (i + 1) xs ≡ half m i xs
-half_same m i xs x h e = let q : suc i ≡ i + 1 = omega arith in subst (λ j. half m j xs ≡ half m i xs) q (same_next m i xs x h e)
-
 over_here : {A S : Type 0} (m : A → A) (keeps : S → Bool) (sum_of : A → S) → ((x : A) → keeps (sum_of x) ≡ false → m x ≡ x) → (xs : List A) → half m (filter_count keeps sum_of xs) xs ≡ xs
 over_here m keeps sum_of f [] = refl
 over_here m keeps sum_of f (x ∷ xs) = go (keeps (sum_of x)) refl (over_here m keeps sum_of f xs)
@@ -73,14 +71,8 @@ half_get m zero xs = refl
 half_get m (suc i) [] = refl
 half_get m (suc i) (x ∷ xs) = half_get m i xs
 
-long_next : {A : Type 0} (i : ℕ) (xs : List A) (y : A) → i < length xs → length (splice_list i (suc i) (y ∷ []) xs) ≡ length xs
-long_next zero [] y l = absurd (omega arith)
-long_next zero (x ∷ xs) y l = refl
-long_next (suc i) [] y l = absurd (omega arith)
-long_next (suc i) (x ∷ xs) y l = ap suc (long_next i xs y (omega arith))
-
 pub spliced_long : {A : Type 0} (i : ℕ) (xs : List A) (y : A) → i + 1 ≤ length xs → length (splice_list i (i + 1) (y ∷ []) xs) ≡ length xs
-spliced_long i xs y l = let q : suc i ≡ i + 1 = omega arith in subst (λ j. length (splice_list i j (y ∷ []) xs) ≡ length xs) q (long_next i xs y (omega arith))
+spliced_long i xs y l = spliced_length i 1 (y ∷ []) xs l ∙ omega (arith, l)
 
 self_next : {A : Type 0} (i : ℕ) (xs : List A) (x : A) → slice_get xs i ≡ Some x → splice_list i (suc i) (x ∷ []) xs ≡ xs
 self_next i [] x h = cc
@@ -93,9 +85,6 @@ spliced_self i xs x y h e = let q : suc i ≡ i + 1 = omega arith in sym (subst 
 
 -- ---- room
 
-abbrev cells : FragmentSummary → ℕ
-cells s = s.visible + s.hidden
-
 abbrev sum : FragmentSummary → List Fragment → FragmentSummary
 sum a fs = fold a summaries summary_of fs
 
@@ -104,7 +93,7 @@ one_cells true v h n = omega arith
 one_cells false v h n = omega arith
 
 -- the cells of a sum depend on the lengths alone
-half_cells : (m : Fragment → Fragment) → ((f : Fragment) → (m f).len ≡ f.len) → (i : ℕ) (fs : List Fragment) (a b : FragmentSummary) → cells a ≡ cells b → cells (sum a (half m i fs)) ≡ cells (sum b fs)
+half_cells : (m : Fragment → Fragment) → ((f : Fragment) → (m f).len ≡ f.len) → (i : ℕ) (fs : List Fragment) (a b : FragmentSummary) → cells_of a ≡ cells_of b → cells_of (sum a (half m i fs)) ≡ cells_of (sum b fs)
 half_cells m k zero [] a b e = e
 half_cells m k (suc i) [] a b e = e
 half_cells m k zero (f ∷ fs) a b e = half_cells m k zero fs (summaries a (summary_of f)) (summaries b (summary_of f))

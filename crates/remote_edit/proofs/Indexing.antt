@@ -1,6 +1,6 @@
 -- An index keeps the entries of fragments that are split and put in.
 use Rattle.std.proofs.lemmas.Option.{same_Some}
-use Rattle.op_model.proofs.Elements.{each_left, each_right, each_map, each_append}
+use Rattle.op_model.proofs.Elements.{each_left, each_right, each_map, each_append, member_left, member_right, member_either, split_at}
 use Rattle.std.proofs.Common.{◌≡◌, ◌⊎◌, ◌↔◌, ℕ, suc, ◌+◌, ◌-◌, ◌<◌, ◌≤◌, ◌^◌, List, [], ◌∷◌, ◌++◌, length, map, refl, sym, ap, ◌∙◌, arith, subst, inl, inr, Some, append_assoc}
 use Rattle.std.specs.List.{AllByRecursion, slice_index_or}
 use Rattle.std.specs.Cmp.Lexicographic.{nat_list_cmp_total}
@@ -17,10 +17,10 @@ use Rattle.fragments.specs.declared.index_entry.IndexEntry.{IndexEntry}
 use Rattle.fragments.specs.declared.index_entry.IndexKey.{IndexKey}
 use Rattle.fragments.specs.Index.{key_of, key_cmp, key_order, IsAscending, with_entry, id_for}
 use Rattle.fragments.specs.Stand.{IsFilled, Rise, entry_of, IsIndexOf}
-use Rattle.fragments.proofs.Entries.{entry_takes_its_place, member_left, member_right, member_either}
+use Rattle.fragments.proofs.Entries.{entry_takes_its_place}
 use Rattle.remote_edit.specs.Walk.{front, back, new_fragment}
 use Rattle.remote_edit.specs.Indexes.{IsApart, EndsBefore, IsIndexed}
-use Rattle.fragments.proofs.Searching.{ascending_rest}
+use Rattle.sum_tree.proofs.Keys.{ascending_rest}
 
 -- ---- lists
 
@@ -41,11 +41,6 @@ pairs_out R (x ∷ xs) ys a h =
 
 abbrev Differ : {A : Type 0} → A → A → Type 0
 Differ a b = a ≡ b → ⊥
-
-split_at : {A : Type 0} (x : A) (ys : List A) → Member x ys → (a : List A) × (b : List A) × (ys ≡ a ++ x ∷ b)
-split_at x [] m = absurd m
-split_at x (y ∷ ys) (inl e) = ([], ys, ap (λ z. z ∷ ys) (sym e))
-split_at x (y ∷ ys) (inr m) = let k = split_at x ys m in (y ∷ k.0, k.1, ap (λ z. y ∷ z) k.2)
 
 left_member : {A : Type 0} (x z : A) (a b : List A) → Member z (a ++ x ∷ b) → Differ x z → Member z (a ++ b)
 left_member x z a b m d = elim (member_either z a (x ∷ b) m) [
@@ -81,7 +76,7 @@ ascending_first e z w h m q =
 
 ascending_differ : (w : List IndexEntry) → IsAscending w → EachPair Differ w
 ascending_differ [] h = tt
-ascending_differ (e ∷ w) h = (all w (λ z m. ascending_first e z w h m), ascending_differ w (ascending_rest e w h))
+ascending_differ (e ∷ w) h = (all w (λ z m. ascending_first e z w h m), ascending_differ w (ascending_rest key_cmp key_of e w h))
   where
     all : (s : List IndexEntry) → ((z : IndexEntry) → Member z s → Differ e z) → AllByRecursion (Differ e) s
     all [] f = tt
@@ -127,35 +122,34 @@ mid_entry e (x ∷ pre) r a = go (mid_entry e pre r a)
         from (inr (inl q)) = inl q
         from (inr (inr n)) = inr (ih.1 (inr n))
 
+-- what is in an index with one entry more
+with_one_more : (e : IndexEntry) (a : Fragment) (w : List IndexEntry) → IsAscending w
+    → Member e (with_entry (entry_of a) w) ↔ ((e ≡ entry_of a) ⊎ (Member e w × (key_of e ≡ key_of (entry_of a) → ⊥)))
+with_one_more e a w s = (entry_takes_its_place (entry_of a) w s).1 e
+
 -- an entry more, of a key that no other fragment has
 entry_in : (pre r : List Fragment) (a : Fragment) (w : List IndexEntry) → IsAscending w → IsIndexOf (pre ++ r) w → AllByRecursion (OtherKey (entry_of a)) (pre ++ r) → IsIndexOf (pre ++ a ∷ r) (with_entry (entry_of a) w)
 entry_in pre r a w s i o e = (to, from)
   where
-    p : Member e (with_entry (entry_of a) w) ↔ ((e ≡ entry_of a) ⊎ (Member e w × (key_of e ≡ key_of (entry_of a) → ⊥)))
-    p = (entry_takes_its_place (entry_of a) w s).1 e
-
     to : Member e (with_entry (entry_of a) w) → Member e (map entry_of (pre ++ a ∷ r))
-    to m = (mid_entry e pre r a).1 (elim (p.0 m) [ inl q ↦ inl q | inr k ↦ inr ((i e).0 k.0) ])
+    to m = (mid_entry e pre r a).1 (elim ((with_one_more e a w s).0 m) [ inl q ↦ inl q | inr k ↦ inr ((i e).0 k.0) ])
 
     from : Member e (map entry_of (pre ++ a ∷ r)) → Member e (with_entry (entry_of a) w)
-    from m = p.1 (elim ((mid_entry e pre r a).0 m) [ inl q ↦ inl q | inr n ↦ inr ((i e).1 n, other_keys (entry_of a) e (pre ++ r) o n) ])
+    from m = (with_one_more e a w s).1 (elim ((mid_entry e pre r a).0 m) [ inl q ↦ inl q | inr n ↦ inr ((i e).1 n, other_keys (entry_of a) e (pre ++ r) o n) ])
 
 -- an entry in the place of that of a fragment with its key
 entry_for_entry : (pre r : List Fragment) (f a : Fragment) (w : List IndexEntry) → IsAscending w → key_of (entry_of a) ≡ key_of (entry_of f) → IsIndexOf (pre ++ f ∷ r) w → AllByRecursion (OtherKey (entry_of a)) (pre ++ r)
     → IsIndexOf (pre ++ a ∷ r) (with_entry (entry_of a) w)
 entry_for_entry pre r f a w s same i o e = (to, from)
   where
-    p : Member e (with_entry (entry_of a) w) ↔ ((e ≡ entry_of a) ⊎ (Member e w × (key_of e ≡ key_of (entry_of a) → ⊥)))
-    p = (entry_takes_its_place (entry_of a) w s).1 e
-
     kept : Member e w → (key_of e ≡ key_of (entry_of a) → ⊥) → Member e (map entry_of (pre ++ r))
     kept m d = elim ((mid_entry e pre r f).0 ((i e).0 m)) [ inl q ↦ absurd (d (ap key_of q ∙ sym same)) | inr n ↦ n ]
 
     to : Member e (with_entry (entry_of a) w) → Member e (map entry_of (pre ++ a ∷ r))
-    to m = (mid_entry e pre r a).1 (elim (p.0 m) [ inl q ↦ inl q | inr k ↦ inr (kept k.0 k.1) ])
+    to m = (mid_entry e pre r a).1 (elim ((with_one_more e a w s).0 m) [ inl q ↦ inl q | inr k ↦ inr (kept k.0 k.1) ])
 
     from : Member e (map entry_of (pre ++ a ∷ r)) → Member e (with_entry (entry_of a) w)
-    from m = p.1 (elim ((mid_entry e pre r a).0 m) [ inl q ↦ inl q | inr n ↦ inr ((i e).1 ((mid_entry e pre r f).1 (inr n)), other_keys (entry_of a) e (pre ++ r) o n) ])
+    from m = (with_one_more e a w s).1 (elim ((mid_entry e pre r a).0 m) [ inl q ↦ inl q | inr n ↦ inr ((i e).1 ((mid_entry e pre r f).1 (inr n)), other_keys (entry_of a) e (pre ++ r) o n) ])
 
 -- a fragment with the same entry in the place of one
 same_entries : (pre r : List Fragment) (f g : Fragment) → entry_of g ≡ entry_of f → map entry_of (pre ++ g ∷ r) ≡ map entry_of (pre ++ f ∷ r)

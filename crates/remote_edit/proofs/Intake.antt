@@ -1,5 +1,6 @@
 -- How many of a tree's fragments a gather takes, and how many it makes.
 use Rattle.std.proofs.Common.{◌≡◌, ℕ, zero, suc, ◌+◌, ◌-◌, ◌*◌, ◌<◌, ◌≤◌, max, min, true, false, List, [], ◌∷◌, ◌++◌, length, take, drop, refl, sym, ap, ◌∙◌, arith, subst, inl, inr, leb, Option, Some, None, not, ◌&&◌, length-append, length-drop}
+use Rattle.std.specs.Prelude.{option_to_list}
 use Rattle.std.proofs.lemmas.Bool.{cases_Bool}
 use Rattle.std.proofs.lemmas.List.{length-take-le}
 use Rattle.lamport_clock.specs.declared.stamp.Lamport.{Lamport}
@@ -11,7 +12,7 @@ use Rattle.undo_map.specs.declared.entry.UndoEntry.{UndoEntry}
 use Rattle.fragments.specs.declared.fragment.Fragment.{Fragment}
 use Rattle.remote_edit.specs.Marks.{touch}
 use Rattle.remote_edit.specs.Walk.{Zip, zip, last_id, next_id, new_fragment, front, back, advance, skip_later, put_new, one_piece}
-use Rattle.remote_edit.specs.Steps.{left_over, head, tail, after, later_first}
+use Rattle.remote_edit.specs.Steps.{head, tail, after, later_first}
 use Rattle.remote_edit.specs.declared.gather.Gather.{Gather}
 use Rattle.remote_edit.specs.Gathers.{ahead}
 use Rattle.remote_edit.specs.Starts.{AllSeen, intake, starts, IsFew, IsLeft, MakeFew}
@@ -57,20 +58,20 @@ one_piece-length w t v n k p pre rest =
     omega (arith, ea, eb, ec, ed)
 
 -- so where few are taken, few are made
-made_few : (xs made : List Fragment) (i j c : ℕ) (b : Option Fragment) (z : Zip) → i ≤ length xs → zip (take i xs ++ made) (left_over b ++ drop j xs) ≡ z → all z ≤ length (take i xs) + length (drop i xs) + 3 → j ≤ i + 1 + c
-    → length made + length (left_over b) ≤ c + 4
+made_few : (xs made : List Fragment) (i j c : ℕ) (b : Option Fragment) (z : Zip) → i ≤ length xs → zip (take i xs ++ made) (option_to_list b ++ drop j xs) ≡ z → all z ≤ length (take i xs) + length (drop i xs) + 3 → j ≤ i + 1 + c
+    → length made + length (option_to_list b) ≤ c + 4
 made_few xs made i j c b z h e l q =
-    let p : all (zip (take i xs ++ made) (left_over b ++ drop j xs)) ≡ all z = ap all e in
+    let p : all (zip (take i xs ++ made) (option_to_list b ++ drop j xs)) ≡ all z = ap all e in
     let x = length-append (take i xs) made in
-    let y = length-append (left_over b) (drop j xs) in
+    let y = length-append (option_to_list b) (drop j xs) in
     let t = length-take-le i xs h in
     let d = length-drop i xs in
     let g = length-drop j xs in
     omega (arith, p, x, y, t, d, g, l, q, h)
 
-pub piece_made : (xs made : List Fragment) (low i j c : ℕ) (b : Option Fragment) (z : Zip) → low ≡ i → i ≤ length xs → zip (take low xs ++ made) (left_over b ++ drop j xs) ≡ z → all z ≤ length (take i xs) + length (drop i xs) + 3
-    → j ≤ i + 1 + c → length made + length (left_over b) ≤ c + 4
-piece_made xs made low i j c b z q h e l k = made_few xs made i j c b z h (subst (λ (m : ℕ). zip (take m xs ++ made) (left_over b ++ drop j xs) ≡ z) q e) l k
+pub piece_made : (xs made : List Fragment) (low i j c : ℕ) (b : Option Fragment) (z : Zip) → low ≡ i → i ≤ length xs → zip (take low xs ++ made) (option_to_list b ++ drop j xs) ≡ z → all z ≤ length (take i xs) + length (drop i xs) + 3
+    → j ≤ i + 1 + c → length made + length (option_to_list b) ≤ c + 4
+piece_made xs made low i j c b z q h e l k = made_few xs made i j c b z h (subst (λ (m : ℕ). zip (take m xs ++ made) (option_to_list b ++ drop j xs) ≡ z) q e) l k
 
 -- ---- one fragment further
 
@@ -78,41 +79,38 @@ pub next_seen : (v : Entries) (f : Fragment) (xs : List Fragment) → AllSeen v 
 next_seen v f [] h e = cc
 next_seen v f (x ∷ xs) h e = let q : x ≡ f = cc in (subst (λ (z : Fragment). sees v z.stamp ≡ true) q h.0, h.1)
 
-one_over : (b : Option Fragment) → length (left_over b) ≤ 1
+one_over : (b : Option Fragment) → length (option_to_list b) ≤ 1
 one_over None = omega arith
 one_over (Some f) = omega arith
 
 -- all of it
-pub intake_whole : (i j n r : ℕ) (b : Option Fragment) (f : Fragment) (rest rest2 : List Fragment) → rest ≡ f ∷ tail rest → rest2 ≡ tail rest → 0 < f.len → 0 < n → f.len ≤ n → j + length (left_over b) ≡ i + 1
-    → j + starts 0 (n - f.len + r) rest2 ≤ i + starts (length (left_over b)) (n + r) rest
+pub intake_whole : (i j n r : ℕ) (b : Option Fragment) (f : Fragment) (rest rest2 : List Fragment) → rest ≡ f ∷ tail rest → rest2 ≡ tail rest → 0 < f.len → 0 < n → f.len ≤ n → j + length (option_to_list b) ≡ i + 1
+    → j + starts 0 (n - f.len + r) rest2 ≤ i + starts (length (option_to_list b)) (n + r) rest
 intake_whole i j n r b f rest rest2 e d l h k q =
-    let o : length (left_over b) ≤ 1 = one_over b in
+    let o : length (option_to_list b) ≤ 1 = one_over b in
     let c : n - f.len + r ≡ n + r - f.len = omega (arith, k) in
-    let a : length (left_over b) - f.len ≡ 0 = omega (arith, o, l) in
-    let x : starts (length (left_over b)) (n + r) rest ≡ (min 1 (n + r) - length (left_over b)) + starts (length (left_over b) - f.len) (n + r - f.len) (tail rest) = ap (starts (length (left_over b)) (n + r)) e in
-    let y : starts (length (left_over b) - f.len) (n + r - f.len) (tail rest) ≡ starts 0 (n - f.len + r) rest2
+    let a : length (option_to_list b) - f.len ≡ 0 = omega (arith, o, l) in
+    let x : starts (length (option_to_list b)) (n + r) rest ≡ (min 1 (n + r) - length (option_to_list b)) + starts (length (option_to_list b) - f.len) (n + r - f.len) (tail rest) = ap (starts (length (option_to_list b)) (n + r)) e in
+    let y : starts (length (option_to_list b) - f.len) (n + r - f.len) (tail rest) ≡ starts 0 (n - f.len + r) rest2
     = ap (λ (m : ℕ). starts m (n + r - f.len) (tail rest)) a ∙ ap (λ (m : ℕ). starts 0 m (tail rest)) (sym c) ∙ ap (starts 0 (n - f.len + r)) (sym d) in
     omega (arith, x, y, q, h, o)
 
 -- its first n cells
-pub intake_split : (i j n r : ℕ) (b b2 : Option Fragment) (f g : Fragment) (rest rest2 : List Fragment) → rest ≡ f ∷ tail rest → rest2 ≡ g ∷ tail rest → b2 ≡ Some g → g ≡ back f n → 0 < n → n < f.len → j + length (left_over b) ≡ i + 1
-    → j + starts (length (left_over b2)) (0 + r) rest2 ≤ i + starts (length (left_over b)) (n + r) rest
+pub intake_split : (i j n r : ℕ) (b b2 : Option Fragment) (f g : Fragment) (rest rest2 : List Fragment) → rest ≡ f ∷ tail rest → rest2 ≡ g ∷ tail rest → b2 ≡ Some g → g ≡ back f n → 0 < n → n < f.len → j + length (option_to_list b) ≡ i + 1
+    → j + starts (length (option_to_list b2)) (0 + r) rest2 ≤ i + starts (length (option_to_list b)) (n + r) rest
 intake_split i j n r b b2 f g rest rest2 e d u w h k q =
-    let o : length (left_over b) ≤ 1 = one_over b in
-    let s : length (left_over b2) ≡ 1 = ap (λ (z : Option Fragment). length (left_over z)) u in
+    let o : length (option_to_list b) ≤ 1 = one_over b in
+    let s : length (option_to_list b2) ≡ 1 = ap (λ (z : Option Fragment). length (option_to_list z)) u in
     let l : g.len ≡ f.len - n = ap (λ (z : Fragment). z.len) w in
-    let x : starts (length (left_over b)) (n + r) rest ≡ (min 1 (n + r) - length (left_over b)) + starts (length (left_over b) - f.len) (n + r - f.len) (tail rest) = ap (starts (length (left_over b)) (n + r)) e in
-    let y : starts (length (left_over b2)) (0 + r) rest2 ≡ (min 1 (0 + r) - length (left_over b2)) + starts (length (left_over b2) - g.len) (0 + r - g.len) (tail rest) = ap (starts (length (left_over b2)) (0 + r)) d in
-    let a : length (left_over b) - f.len ≡ length (left_over b2) - g.len = omega (arith, o, s, l, k, h) in
+    let x : starts (length (option_to_list b)) (n + r) rest ≡ (min 1 (n + r) - length (option_to_list b)) + starts (length (option_to_list b) - f.len) (n + r - f.len) (tail rest) = ap (starts (length (option_to_list b)) (n + r)) e in
+    let y : starts (length (option_to_list b2)) (0 + r) rest2 ≡ (min 1 (0 + r) - length (option_to_list b2)) + starts (length (option_to_list b2) - g.len) (0 + r - g.len) (tail rest) = ap (starts (length (option_to_list b2)) (0 + r)) d in
+    let a : length (option_to_list b) - f.len ≡ length (option_to_list b2) - g.len = omega (arith, o, s, l, k, h) in
     let c : n + r - f.len ≡ 0 + r - g.len = omega (arith, l, k) in
-    let z : starts (length (left_over b) - f.len) (n + r - f.len) (tail rest) ≡ starts (length (left_over b2) - g.len) (0 + r - g.len) (tail rest)
-    = ap (λ (m : ℕ). starts m (n + r - f.len) (tail rest)) a ∙ ap (λ (m : ℕ). starts (length (left_over b2) - g.len) m (tail rest)) c in
+    let z : starts (length (option_to_list b) - f.len) (n + r - f.len) (tail rest) ≡ starts (length (option_to_list b2) - g.len) (0 + r - g.len) (tail rest)
+    = ap (λ (m : ℕ). starts m (n + r - f.len) (tail rest)) a ∙ ap (λ (m : ℕ). starts (length (option_to_list b2) - g.len) m (tail rest)) c in
     omega (arith, x, y, z, q, s, o, h)
 
 -- ---- of a gather
-
-pub few_start : (v : Entries) (xs : List Fragment) (g : Gather) (n : ℕ) → AllSeen v (ahead xs g) → IsFew v xs g n g n
-few_start v xs g n h = record { seen = h; few = λ r. omega arith }
 
 pub few_more : (v : Entries) (xs : List Fragment) (g g2 g3 : Gather) (n k m : ℕ) → IsFew v xs g n g2 k → IsFew v xs g2 k g3 m → IsFew v xs g n g3 m
 few_more v xs g g2 g3 n k m a b = record { seen = b.seen; few = λ r. (let x = a.few r in let y = b.few r in omega (arith, x, y)) }
@@ -121,21 +119,21 @@ pub few_none : (v : Entries) (xs : List Fragment) (g : Gather) (n : ℕ) → All
 few_none v xs g n h e = record {
   seen = h;
   few = λ r. (let w : ahead xs g ≡ [] = none_rest (ahead xs g) e in
-      let x : starts (length (left_over g.back)) (0 + r) (ahead xs g) ≡ 0 = ap (starts (length (left_over g.back)) (0 + r)) w in omega (arith, x));
+      let x : starts (length (option_to_list g.back)) (0 + r) (ahead xs g) ≡ 0 = ap (starts (length (option_to_list g.back)) (0 + r)) w in omega (arith, x));
 }
 
 pub few_whole : (v : Entries) (xs : List Fragment) (g g2 : Gather) (f : Fragment) (n : ℕ) → AllSeen v (ahead xs g) → Some f ≡ head (ahead xs g) → 0 < f.len → 0 < n → f.len ≤ n
-    → ahead xs g2 ≡ tail (ahead xs g) → g2.back ≡ None → g2.at + length (left_over g.back) ≡ g.at + 1 → IsFew v xs g n g2 (n - f.len)
+    → ahead xs g2 ≡ tail (ahead xs g) → g2.back ≡ None → g2.at + length (option_to_list g.back) ≡ g.at + 1 → IsFew v xs g n g2 (n - f.len)
 few_whole v xs g g2 f n h e l k m a b q = record {
   seen = subst (AllSeen v) (sym a) (next_seen v f (ahead xs g) h e).1;
-  few = λ r. (let z : length (left_over g2.back) ≡ 0 = ap (λ (o : Option Fragment). length (left_over o)) b in
+  few = λ r. (let z : length (option_to_list g2.back) ≡ 0 = ap (λ (o : Option Fragment). length (option_to_list o)) b in
       let t = intake_whole g.at g2.at n r g.back f (ahead xs g) (ahead xs g2) (headed (ahead xs g) f e) a l k m q in
-      let y : starts (length (left_over g2.back)) (n - f.len + r) (ahead xs g2) ≡ starts 0 (n - f.len + r) (ahead xs g2) = ap (λ (i : ℕ). starts i (n - f.len + r) (ahead xs g2)) z in
+      let y : starts (length (option_to_list g2.back)) (n - f.len + r) (ahead xs g2) ≡ starts 0 (n - f.len + r) (ahead xs g2) = ap (λ (i : ℕ). starts i (n - f.len + r) (ahead xs g2)) z in
       omega (arith, t, y));
 }
 
 pub few_split : (v : Entries) (xs : List Fragment) (g g2 : Gather) (f b : Fragment) (n : ℕ) → AllSeen v (ahead xs g) → Some f ≡ head (ahead xs g) → b ≡ back f n → 0 < n → n < f.len
-    → ahead xs g2 ≡ b ∷ tail (ahead xs g) → g2.back ≡ Some b → g2.at + length (left_over g.back) ≡ g.at + 1 → IsFew v xs g n g2 0
+    → ahead xs g2 ≡ b ∷ tail (ahead xs g) → g2.back ≡ Some b → g2.at + length (option_to_list g.back) ≡ g.at + 1 → IsFew v xs g n g2 0
 few_split v xs g g2 f b n h e w k m a d q =
     let s = next_seen v f (ahead xs g) h e in
     let o : b.stamp ≡ f.stamp = ap (λ (z : Fragment). z.stamp) w in
@@ -150,7 +148,7 @@ pub few_all : (v : Entries) (xs : List Fragment) (g g1 g2 g3 g4 : Gather) (n r :
 few_all v xs g g1 g2 g3 g4 n r a e p q f =
     let i : g1.at ≡ g3.at = sym (p ∙ e.0) in
     let b : g1.back ≡ g3.back = sym (q ∙ e.1) in
-    let here : ℕ → Option Fragment → ℕ → ℕ = λ j d m. j + starts (length (left_over d)) m (after xs j d) in
+    let here : ℕ → Option Fragment → ℕ → ℕ = λ j d m. j + starts (length (option_to_list d)) m (after xs j d) in
     let w : ahead xs g1 ≡ ahead xs g3 = ap (λ (j : ℕ). after xs j g1.back) i ∙ ap (after xs g3.at) b in
     let s : intake xs g1 (0 + r) ≡ intake xs g3 (r + 0) = ap (λ (j : ℕ). here j g1.back (0 + r)) i ∙ ap (λ (d : Option Fragment). here g3.at d (0 + r)) b ∙ ap (here g3.at g3.back) (let z : 0 + r ≡ r + 0 = omega arith in z) in
     let x = a.few r in
@@ -171,11 +169,8 @@ pub back_few : (old new low high at n m : ℕ) → high ≤ at → n ≡ m → M
 back_few old new low high at n m l e f c q k = f c (omega (arith, q, l)) (omega (arith, e, k))
 
 -- with what is left of one
-pub all_long : (made all : List Fragment) (f : Fragment) (b : Option Fragment) → all ≡ made ++ f ∷ [] → b ≡ Some f → length all ≡ length made + length (left_over b)
-all_long made all f b e q = let x = ap length e ∙ length-append made (f ∷ []) in let y = ap (λ (o : Option Fragment). length (left_over o)) q in omega (arith, x, y)
-
-pub none_few : (old new low high n : ℕ) → new ≤ old → MakeFew old new low high n
-none_few old new low high n l c q m = omega (arith, l)
+pub all_long : (made all : List Fragment) (f : Fragment) (b : Option Fragment) → all ≡ made ++ f ∷ [] → b ≡ Some f → length all ≡ length made + length (option_to_list b)
+all_long made all f b e q = let x = ap length e ∙ length-append made (f ∷ []) in let y = ap (λ (o : Option Fragment). length (option_to_list o)) q in omega (arith, x, y)
 
 -- what a piece makes
 pub piece_few : (v : Entries) (xs ys : List Fragment) (old new low high i n k r m : ℕ) → IsLeft v n ys k (drop i xs) → high ≤ i + starts 0 (k + r) (drop i xs) → low ≡ i → ((c : ℕ) → high ≤ i + 1 + c → m ≤ c + 4) → MakeFew old new low high m

@@ -41,26 +41,23 @@ first_one (m ∷ ms) next b e = absurd (omega (arith, e))
 pub twice : (a b c d : List ℕ) (r : Texts) → followed_by a b (followed_by c d r) ≡ followed_by (a ++ c) (b ++ d) r
 twice a b c d r = ap (λ x. texts_of x (b ++ (d ++ r.hidden))) (sym (append_assoc a c r.shown)) ∙ ap (λ x. texts_of ((a ++ c) ++ r.shown) x) (sym (append_assoc b d r.hidden))
 
-dropped : (a b : ℕ) (s : List ℕ) → drop b (drop a s) ≡ drop (a + b) s
-dropped a b s = drop-drop b a s
-
 pub compose : MovesCompose
 compose [] ns s h n = refl
 compose (Visible k ∷ ms) ns s h n =
     let r : Texts = after_moves ms (drop k s) h n in
-    rw (← dropped k (from_shown ms) s, compose ms ns (drop k s) h n) (twice (take k s) [] r.shown r.hidden (after_moves ns (drop (from_shown ms) (drop k s)) (drop (from_hidden ms) h) (drop (from_new ms) n)))
+    rw (← drop-drop (from_shown ms) k s, compose ms ns (drop k s) h n) (twice (take k s) [] r.shown r.hidden (after_moves ns (drop (from_shown ms) (drop k s)) (drop (from_hidden ms) h) (drop (from_new ms) n)))
 compose (Hidden k ∷ ms) ns s h n =
     let r : Texts = after_moves ms s (drop k h) n in
-    rw (← dropped k (from_hidden ms) h, compose ms ns s (drop k h) n) (twice [] (take k h) r.shown r.hidden (after_moves ns (drop (from_shown ms) s) (drop (from_hidden ms) (drop k h)) (drop (from_new ms) n)))
+    rw (← drop-drop (from_hidden ms) k h, compose ms ns s (drop k h) n) (twice [] (take k h) r.shown r.hidden (after_moves ns (drop (from_shown ms) s) (drop (from_hidden ms) (drop k h)) (drop (from_new ms) n)))
 compose (Hide k ∷ ms) ns s h n =
     let r : Texts = after_moves ms (drop k s) h n in
-    rw (← dropped k (from_shown ms) s, compose ms ns (drop k s) h n) (twice [] (take k s) r.shown r.hidden (after_moves ns (drop (from_shown ms) (drop k s)) (drop (from_hidden ms) h) (drop (from_new ms) n)))
+    rw (← drop-drop (from_shown ms) k s, compose ms ns (drop k s) h n) (twice [] (take k s) r.shown r.hidden (after_moves ns (drop (from_shown ms) (drop k s)) (drop (from_hidden ms) h) (drop (from_new ms) n)))
 compose (Show k ∷ ms) ns s h n =
     let r : Texts = after_moves ms s (drop k h) n in
-    rw (← dropped k (from_hidden ms) h, compose ms ns s (drop k h) n) (twice (take k h) [] r.shown r.hidden (after_moves ns (drop (from_shown ms) s) (drop (from_hidden ms) (drop k h)) (drop (from_new ms) n)))
+    rw (← drop-drop (from_hidden ms) k h, compose ms ns s (drop k h) n) (twice (take k h) [] r.shown r.hidden (after_moves ns (drop (from_shown ms) s) (drop (from_hidden ms) (drop k h)) (drop (from_new ms) n)))
 compose (Insert k ∷ ms) ns s h n =
     let r : Texts = after_moves ms s h (drop k n) in
-    rw (← dropped k (from_new ms) n, compose ms ns s h (drop k n)) (twice (take k n) [] r.shown r.hidden (after_moves ns (drop (from_shown ms) s) (drop (from_hidden ms) h) (drop (from_new ms) (drop k n))))
+    rw (← drop-drop (from_new ms) k n, compose ms ns s h (drop k n)) (twice (take k n) [] r.shown r.hidden (after_moves ns (drop (from_shown ms) s) (drop (from_hidden ms) h) (drop (from_new ms) (drop k n))))
 
 -- ---- equal lists in front and behind
 
@@ -78,10 +75,10 @@ kept_commute ms ns a b = same_behind ms (Visible a ∷ Hidden b ∷ ns) (Hidden 
 -- ---- two moves of a kind
 
 to_shown : (a b : ℕ) (s : List ℕ) (f : List ℕ → Texts) → followed_by (take (a + b) s) [] (f (drop (a + b) s)) ≡ followed_by (take a s) [] (followed_by (take b (drop a s)) [] (f (drop b (drop a s))))
-to_shown a b s f = rw (take-add a b s, ← dropped a b s) (sym (twice (take a s) [] (take b (drop a s)) [] (f (drop b (drop a s)))))
+to_shown a b s f = rw (take-add a b s, ← drop-drop b a s) (sym (twice (take a s) [] (take b (drop a s)) [] (f (drop b (drop a s)))))
 
 to_hidden : (a b : ℕ) (s : List ℕ) (f : List ℕ → Texts) → followed_by [] (take (a + b) s) (f (drop (a + b) s)) ≡ followed_by [] (take a s) (followed_by [] (take b (drop a s)) (f (drop b (drop a s))))
-to_hidden a b s f = rw (take-add a b s, ← dropped a b s) (sym (twice [] (take a s) [] (take b (drop a s)) (f (drop b (drop a s)))))
+to_hidden a b s f = rw (take-add a b s, ← drop-drop b a s) (sym (twice [] (take a s) [] (take b (drop a s)) (f (drop b (drop a s)))))
 
 pub fitted : {A : Type 0} (b : Bool) (x y : A) → cond b (Some x) None ≡ Some y → x ≡ y
 fitted true x y e = cc

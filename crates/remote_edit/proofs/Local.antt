@@ -1,5 +1,5 @@
 -- A local edit without fault has its ranges in the text, and the operation with full ranges is the one that is made.
-use Rattle.std.proofs.Common.{◌≡◌, ℕ, ◌+◌, ◌≤◌, false, List, [], ◌∷◌, length, map, Option, None, refl, sym, ap, ◌∙◌, arith}
+use Rattle.std.proofs.Common.{◌≡◌, ℕ, ◌+◌, ◌≤◌, false, List, [], ◌∷◌, length, map, None, refl, sym, ap, ◌∙◌, arith}
 use Rattle.std.proofs.lemmas.Bool.{ltb-false}
 use Rattle.std.specs.Prelude.{nat_lt, ◌==◌, option_map}
 use Rattle.std.specs.List.{AllByRecursion, position}
@@ -10,14 +10,14 @@ use Rattle.op_model.specs.declared.operation.Piece.{Piece}
 use Rattle.op_model.specs.declared.operation.Operation.TheVariants.{Edit}
 use Rattle.op_model.specs.declared.limits.Limits.{Limits as LimitsType}
 use Rattle.op_model.specs.declared.faults.EditFault.TheVariants.{Reversed, Overlap, PastEnd, InsideChar, TextLimit, ClockEnd, Full}
-use Rattle.op_model.specs.Choice.{first_of, when}
+use Rattle.op_model.specs.Choice.{when}
 use Rattle.op_model.specs.Operations.{text_total, text_limit}
 use Rattle.op_model.specs.Histories.{History, version, clock}
 use Rattle.op_model.specs.Shown.{text}
 use Rattle.op_model.specs.Edits.{is_reversed, is_past, is_inside, overlap_from, piece_fault}
 use Rattle.op_model.specs.Limited.{excess}
 use Rattle.op_model.specs.Made.{local_edit, full_piece, local_edit_fault}
-use Rattle.op_model.proofs.answers.Passed.{first_none, map_none, position_none}
+use Rattle.op_model.proofs.answers.Passed.{all_none, first_none, map_none, position_none}
 use Rattle.op_model.proofs.texts.WholeTexts.{byte_of}
 use Rattle.fragments.specs.declared.fragment.Fragment.{Fragment}
 use Rattle.fragments.specs.Stand.{Tell}
@@ -36,25 +36,15 @@ ranges_in fs n (p ∷ ps) q a b =
     let w : p.end ≤ n = ltb-false n p.end b.0 in
     (record { forward = f; within = omega (arith, w, q) }, ranges_in fs n ps q a.1 b.1)
 
-two_none : {A : Type 0} (a b c d : Option A) → first_of (a ∷ b ∷ c ∷ d ∷ []) ≡ None → (a ≡ None) × (c ≡ None)
-two_none a b c d e =
-    let x = first_none a (b ∷ c ∷ d ∷ []) e in
-    let y = first_none b (c ∷ d ∷ []) x.1 in
-    let z = first_none c (d ∷ []) y.1 in (x.0, z.0)
-
 pub in_text : (l : LimitsType) (h : History) (fs : List Fragment) (ps : List Piece) → Tell fs h → local_edit_fault l h ps ≡ None → AllByRecursion (IsInText fs) ps
 in_text l h fs ps e g =
     let n : ℕ = length (text h) in
     let a = first_none (piece_fault (text h) ps) (when (nat_lt text_limit (text_total ps)) (TextLimit (text_total ps)) ∷ when (clock h == last_value) ClockEnd
     ∷ option_map (λ x. Full x.unit x.held x.adds) (excess l h (text_total ps) (1 + length ps)) ∷ []) g in
-    let b = two_none (option_map Reversed (position is_reversed ps)) (option_map Overlap (overlap_from 0 0 ps)) (option_map (λ i. PastEnd i n) (position (is_past n) ps)) (option_map InsideChar (position (is_inside (text h)) ps)) a.0 in
-    ranges_in fs n ps (text_long h fs e) (position_none is_reversed ps (map_none Reversed (position is_reversed ps) b.0)) (position_none (is_past n) ps (map_none (λ i. PastEnd i n) (position (is_past n) ps) b.1))
+    let b = all_none (option_map Reversed (position is_reversed ps) ∷ option_map Overlap (overlap_from 0 0 ps) ∷ option_map (λ (i : ℕ). PastEnd i n) (position (is_past n) ps) ∷ option_map InsideChar (position (is_inside (text h)) ps) ∷ []) a.0 in
+    ranges_in fs n ps (text_long h fs e) (position_none is_reversed ps (map_none Reversed (position is_reversed ps) b.0)) (position_none (is_past n) ps (map_none (λ i. PastEnd i n) (position (is_past n) ps) b.1.1.0))
 
 pub made_is : (h : History) (stamp : Lamport) (ps qs : List Piece) (v : Entries) → stamp.value ≡ clock h → v ≡ version h → qs ≡ map (full_piece h) ps
     → Edit (record { stamp = stamp; version = v; pieces = qs }) ≡ local_edit h stamp.replica ps
 unfolding local_edit
 made_is h stamp ps qs v e f g = rw (f, g, ← e) refl
-
-pub same_total : (h : History) (ps : List Piece) → text_total (map (full_piece h) ps) ≡ text_total ps
-same_total h [] = refl
-same_total h (p ∷ ps) = ap (λ n. length p.text + n) (same_total h ps)

@@ -17,16 +17,17 @@ use Rattle.op_model.specs.Answers.Answer.{Good}
 use Rattle.op_model.specs.Made.{local_edit, full_piece}
 use Rattle.op_model.proofs.answers.Counted.{good_ordered}
 use Rattle.op_model.proofs.MainLaws.{edits_are_good}
+use Rattle.op_model.proofs.answers.MadeGood.{total_full}
 use Rattle.undo_map.specs.declared.entry.UndoEntry.{UndoEntry}
 use Rattle.fragments.specs.declared.fragment.Fragment.{Fragment}
 use Rattle.fragments.specs.declared.index_entry.IndexEntry.{IndexEntry}
 use Rattle.fragments.specs.Stand.{Tell, runs}
-use Rattle.remote_edit.specs.Walk.{bytes}
+use Rattle.fragments.specs.Laws.{cells_len}
 use Rattle.remote_edit.specs.Offsets.{piece_in}
 use Rattle.remote_edit.specs.Costs.{touch_count, touch_count_behind}
 use Rattle.remote_edit.specs.Starts.{AllSeen}
 use Rattle.remote_edit.specs.Placing.{MayPlace, MayMake}
-use Rattle.remote_edit.proofs.Local.{made_is, same_total}
+use Rattle.remote_edit.proofs.Local.{made_is}
 use Rattle.remote_edit.proofs.Standing.{fit_start, all_seen}
 use Rattle.remote_edit.proofs.Budget.{ordered_up}
 use Rattle.remote_edit.proofs.Changing.{count_seen}
@@ -34,7 +35,7 @@ use Rattle.remote_edit.proofs.FullIn.{pieces_are}
 use Rattle.remote_edit.proofs.Passing.{seen_within}
 
 -- the pieces of a good edit are in order
-in_order : (h : History) (op : Operation) (fs : List Fragment) → Lawful h → answer h [] op ≡ Good → Tell fs h → bytes fs ≤ 2 ^ 40 → Ordered 0 (2 ^ 40) (pieces_of op)
+in_order : (h : History) (op : Operation) (fs : List Fragment) → Lawful h → answer h [] op ≡ Good → Tell fs h → cells_len fs ≤ 2 ^ 40 → Ordered 0 (2 ^ 40) (pieces_of op)
 in_order h op fs l g t b =
     let n = count_seen h op (runs fs) l g t in
     let w = seen_within (version_of op) fs in
@@ -45,7 +46,7 @@ module _ (fs : List Fragment) (w : List IndexEntry) (u : List UndoEntry) (t : La
   may_place qs e =
       let o : Edit (record { stamp = t; version = v; pieces = qs }) ≡ local_edit m.history t.replica ps = made_is m.history t ps qs v m.value m.sees e in
       let g = (edits_are_good m.limits m.history t.replica ps m.lawful m.proper m.replica m.faultless).0 in
-      let k : text_total qs ≡ text_total ps = ap text_total e ∙ same_total m.history ps in
+      let k : text_total qs ≡ text_total ps = ap text_total e ∙ total_full m.history ps in
       let r = m.room in
       record {
         history = m.history;
@@ -55,7 +56,7 @@ module _ (fs : List Fragment) (w : List IndexEntry) (u : List UndoEntry) (t : La
         room = omega (arith, k, r);
       }
 
-  pub room_in : bytes fs ≤ 2 ^ 40
+  pub room_in : cells_len fs ≤ 2 ^ 40
   room_in = (fit_start fs w u (Edit (record { stamp = t; version = v; pieces = map (full_piece m.history) ps })) (may_place (map (full_piece m.history) ps) refl)).0.1
 
   -- the replica has seen all fragments

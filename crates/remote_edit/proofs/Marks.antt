@@ -9,7 +9,7 @@ use Rattle.op_model.specs.declared.operation.Operation.{Operation}
 use Rattle.op_model.specs.Operations.{stamp_of, is_edit}
 use Rattle.op_model.specs.Histories.{History, seen_history}
 use Rattle.op_model.specs.Shown.{all_undone}
-use Rattle.op_model.specs.Facts.{was_visible, seen_by, edit_marking, with_deletion}
+use Rattle.op_model.specs.Facts.{was_visible, visible_by, edit_marking, with_deletion}
 use Rattle.op_model.proofs.shown.OnePass.{no_counts}
 use Rattle.undo_map.specs.Counts.{count_of, count_seen, is_odd}
 use Rattle.undo_map.specs.Undos.{with_counts, undo_entries}
@@ -28,7 +28,7 @@ was_told h v u d = rw (undone_seen h v u, all d) refl
     ]
 
 -- a cell is shown
-pub is_told : (h : History) (u : Lamport) (d : List Lamport) → seen_by h u d ≡ is_shown (undo_entries h) u d
+pub is_told : (h : History) (u : Lamport) (d : List Lamport) → visible_by h u d ≡ is_shown (undo_entries h) u d
 is_told h u d = rw (undone_kept h u, all d) refl
   where
     all : (d : List Lamport) → all_undone h d ≡ list_all (λ t. is_odd (count_of (undo_entries h) t)) d

@@ -12,9 +12,8 @@ use Rattle.fragments.specs.Summaries.{no_fragments, summaries, summary_of}
 use Rattle.fragments.specs.SummaryLaws.{one_admitted}
 use Rattle.fragments.specs.SeenPlaces.{At, cells_of, move_visible, move_at, all_in, none_in}
 use Rattle.fragments.specs.Stand.{runs}
-use Rattle.fragments.specs.Laws.{shown_len}
+use Rattle.fragments.specs.Laws.{shown_len, cells_len}
 use Rattle.fragments.proofs.Counts.{visible_more, visible_sum, places_count_cells}
-use Rattle.remote_edit.specs.Walk.{bytes}
 use Rattle.remote_edit.specs.Beside.{beside, move_beside}
 use Rattle.remote_edit.specs.Passed.{move_passed, PassedFits, move_seen, SeenFits}
 use Rattle.remote_edit.specs.Carried.{hidden_len}
@@ -46,11 +45,11 @@ hidden_more f fs = go f.visible
     go true = omega arith
     go false = refl
 
-pub all_cells : (fs : List Fragment) → shown_len fs + hidden_len fs ≡ bytes fs
+pub all_cells : (fs : List Fragment) → shown_len fs + hidden_len fs ≡ cells_len fs
 all_cells [] = omega arith
 all_cells (f ∷ fs) = go f.visible (all_cells fs)
   where
-    go : (b : Bool) → shown_len fs + hidden_len fs ≡ bytes fs → cond b (f.len + shown_len fs) (shown_len fs) + cond b (hidden_len fs) (f.len + hidden_len fs) ≡ f.len + bytes fs
+    go : (b : Bool) → shown_len fs + hidden_len fs ≡ cells_len fs → cond b (f.len + shown_len fs) (shown_len fs) + cond b (hidden_len fs) (f.len + hidden_len fs) ≡ f.len + cells_len fs
     go true e = omega (arith, e)
     go false e = omega (arith, e)
 
@@ -97,8 +96,8 @@ pub whole_sum : (fs : List Fragment) → ((fold no_fragments summaries summary_o
 whole_sum fs = let a = visible_sum no_fragments fs in let b = hidden_sum no_fragments fs in (omega (arith, a), omega (arith, b))
 
 -- where there are at most 2^40 cells, each place fits
-pub seen_fits : (v : Entries) (fs : List Fragment) → bytes fs ≤ 2 ^ 40 → SeenFits (((v, 0), 0), 0) (fold no_fragments summaries summary_of fs)
+pub seen_fits : (v : Entries) (fs : List Fragment) → cells_len fs ≤ 2 ^ 40 → SeenFits (((v, 0), 0), 0) (fold no_fragments summaries summary_of fs)
 seen_fits v fs h = let a = (whole_sum fs).0 in let b = (whole_sum fs).1 in let c = all_cells fs in ((omega (arith, a, b, c, h), omega (arith, a, c, h)), omega (arith, b, c, h))
 
-pub passed_fits : (fs : List Fragment) → bytes fs ≤ 2 ^ 40 → PassedFits (0, 0) (fold no_fragments summaries summary_of fs)
+pub passed_fits : (fs : List Fragment) → cells_len fs ≤ 2 ^ 40 → PassedFits (0, 0) (fold no_fragments summaries summary_of fs)
 passed_fits fs h = let a = (whole_sum fs).0 in let b = (whole_sum fs).1 in let c = all_cells fs in (omega (arith, a, c, h), omega (arith, b, c, h))

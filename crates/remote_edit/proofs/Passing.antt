@@ -6,12 +6,13 @@ use Rattle.lamport_clock.specs.Versions.{Entries, sees}
 use Rattle.locators.specs.Locator.{between_digits}
 use Rattle.undo_map.specs.declared.entry.UndoEntry.{UndoEntry}
 use Rattle.fragments.specs.declared.fragment.Fragment.{Fragment}
+use Rattle.fragments.specs.Laws.{cells_len}
+use Rattle.fragments.proofs.Counts.{cells_len-append}
 use Rattle.remote_edit.specs.Marks.{touch}
-use Rattle.remote_edit.specs.Walk.{bytes, seen_bytes, Fit, last_id, front, back, zip, advance}
-use Rattle.remote_edit.proofs.Places.{bytes_append}
+use Rattle.remote_edit.specs.Walk.{seen_bytes, Fit, last_id, front, back, zip, advance}
 
-pub bytes_cut : (ys : List Fragment) (i : ℕ) → bytes ys ≡ bytes (take i ys) + bytes (drop i ys)
-bytes_cut ys i = sym (ap bytes (take-append-drop i ys)) ∙ bytes_append (take i ys) (drop i ys)
+pub cells_len-cut : (ys : List Fragment) (i : ℕ) → cells_len ys ≡ cells_len (take i ys) + cells_len (drop i ys)
+cells_len-cut ys i = sym (ap cells_len (take-append-drop i ys)) ∙ cells_len-append (take i ys) (drop i ys)
 
 -- ---- the cells that a version sees
 
@@ -28,7 +29,7 @@ seen_append v (f ∷ a) b = let ih = seen_append v a b in let x = seen_cons v f 
 pub own_len : (v : Entries) (f : Fragment) → own v f ≤ f.len
 own_len v f = elim (cases_Bool (sees v f.stamp)) [ inl s ↦ rw s (omega arith) | inr s ↦ rw s (omega arith) ]
 
-pub seen_within : (v : Entries) (fs : List Fragment) → seen_bytes v fs ≤ bytes fs
+pub seen_within : (v : Entries) (fs : List Fragment) → seen_bytes v fs ≤ cells_len fs
 seen_within v [] = omega arith
 seen_within v (f ∷ fs) = let ih = seen_within v fs in let x = seen_cons v f fs in let y = own_len v f in omega arith
 
@@ -63,4 +64,4 @@ module _ (m : Option (List UndoEntry)) (t : Lamport) (v : Entries) where
 -- ---- room
 
 pub place_room : (v : Entries) (xs : List Fragment) (i p : ℕ) → Fit xs → p ≡ seen_bytes v (take i xs) → p ≤ 2 ^ 40
-place_room v xs i p h e = let a = seen_within v (take i xs) in let b = bytes_cut xs i in let c = h.1 in omega arith
+place_room v xs i p h e = let a = seen_within v (take i xs) in let b = cells_len-cut xs i in let c = h.1 in omega arith

@@ -2,7 +2,7 @@
 use Rattle.std.proofs.Common.{◌≡◌, ℕ, zero, suc, ◌+◌, ◌<◌, ◌≤◌, ◌^◌, Bool, true, false, List, [], ◌∷◌, ◌++◌, length, refl, sym, ap, ◌∙◌, arith, subst, inl, inr}
 use Rattle.std.specs.List.{AllByRecursion}
 use Rattle.std.proofs.lemmas.Bool.{cases_Bool}
-use Rattle.std.proofs.lemmas.List.{length-map, length-append}
+use Rattle.std.proofs.lemmas.List.{length-map}
 use Rattle.lamport_clock.specs.declared.stamp.Lamport.{Lamport}
 use Rattle.lamport_clock.specs.Stamps.{same_stamp}
 use Rattle.lamport_clock.specs.Versions.{Entries, sees}
@@ -26,38 +26,30 @@ use Rattle.op_model.proofs.histories.Lawful.{each_of_in}
 use Rattle.op_model.proofs.histories.VersionLaws.{sees_own}
 use Rattle.op_model.proofs.answers.Good.{lawful_ready, checked_of, fits_of, full_length}
 use Rattle.undo_map.specs.declared.entry.UndoEntry.{UndoEntry}
-use Rattle.op_model.proofs.texts.Utf8Runs.{length_alike}
 use Rattle.fragments.specs.declared.fragment.Fragment.{Fragment}
 use Rattle.fragments.specs.declared.index_entry.IndexEntry.{IndexEntry}
 use Rattle.fragments.specs.Stand.{Stand, Tell, IsFilled, runs}
 use Rattle.fragments.proofs.Founds.{index_finds_fragments}
-use Rattle.remote_edit.specs.Walk.{bytes, Fit}
+use Rattle.fragments.specs.Laws.{cells_len}
+use Rattle.fragments.proofs.Counts.{length_facts}
+use Rattle.remote_edit.specs.Walk.{Fit}
 use Rattle.remote_edit.specs.Starts.{AllSeen}
 use Rattle.remote_edit.specs.Indexes.{EndsBefore, IsIndexed}
 use Rattle.remote_edit.specs.Placing.{MayPlace}
 use Rattle.remote_edit.proofs.Indexing.{apart_start}
+use Rattle.op_model.proofs.answers.SameAnswers.{no_bytes}
+use Rattle.op_model.proofs.order.SameSets.{each_in}
 
 -- ---- how many cells
-
-length_facts : (fs : List Fragment) → length (facts_of (runs fs)) ≡ bytes fs
-length_facts [] = refl
-length_facts (f ∷ fs) =
-    let a = length-append (alike f.stamp f.offset f.len f.visible f.deletions) (facts_of (runs fs)) in
-    let b = length_alike f.stamp f.offset f.len f.visible f.deletions in
-    let ih = length_facts fs in omega arith
 
 length_cells : (s : List PathCell) → length (cells s) ≡ length s
 length_cells s = length-map s (λ (p : PathCell). p.cell)
 
-pub bytes_told : (fs : List Fragment) (h : History) → Tell fs h → bytes fs ≡ length (full h)
+pub cells_len-told : (fs : List Fragment) (h : History) → Tell fs h → cells_len fs ≡ length (full h)
 unfolding full seq
-bytes_told fs h e = sym (length_facts fs) ∙ ap length e ∙ length-map (cells (seq h)) (fact h) ∙ length_cells (seq h) ∙ sym (full_length everything (newest_first h))
+cells_len-told fs h e = sym (length_facts fs) ∙ ap length e ∙ length-map (cells (seq h)) (fact h) ∙ length_cells (seq h) ∙ sym (full_length everything (newest_first h))
 
 -- ---- an edit's stamp is new
-
-no_bytes : (h : History) (t : Lamport) → AllByRecursion (λ (o : Operation). stamp_of o ≡ t → ⊥) h → new_bytes h t ≡ []
-no_bytes [] t n = refl
-no_bytes (o ∷ h) t n = elim (cases_Bool (same_stamp (stamp_of o) t)) [ inl e ↦ absurd (n.0 (same_stamp_eq (stamp_of o) t e)) | inr e ↦ rw e (no_bytes h t n.1) ]
 
 cell_in : (n : ℕ) (t : Lamport) (k : ℕ) (v : Bool) (d : List Lamport) (s : List Fact) → 0 < n → Member (cell_at t k) (cells_in (alike t k n v d ++ s))
 cell_in zero t k v d s h = absurd (omega arith)
@@ -72,7 +64,7 @@ all_new : (h : History) (op : Operation) → Lawful h → AllByRecursion (λ (o 
 all_new h op l n [] fl m = tt
 all_new h op l n (f ∷ fs) fl m = (
   λ e. (let c = m (cell_at f.stamp f.offset) (cell_in f.len f.stamp f.offset f.visible f.deletions (facts_of (runs fs)) fl.0.0) in
-      let z : length (new_bytes h f.stamp) ≡ 0 = ap (λ (t : Lamport). length (new_bytes h t)) e ∙ ap length (no_bytes h (stamp_of op) n) in
+      let z : length (new_bytes h f.stamp) ≡ 0 = ap (λ (t : Lamport). length (new_bytes h t)) e ∙ ap length (no_bytes h (stamp_of op) (λ o i. each_in (λ (p : Operation). stamp_of p ≡ stamp_of op → ⊥) h o n i)) in
       absurd (omega arith)),
   all_new h op l n fs fl.1 (λ c k. m c (in_more c (alike f.stamp f.offset f.len f.visible f.deletions) (facts_of (runs fs)) k)),
 )
@@ -112,8 +104,8 @@ indexed_start fs w u h op s l g = record {
 pub unseen_self : (h : History) (op : Operation) → Lawful h → answer h [] op ≡ Good → sees (version_of op) (stamp_of op) ≡ false
 unseen_self h op l g = let k = checked_of h op g in not_self h op (fits_of h op (lawful_ready h l).0 k.0 k.1)
 
-pub fit_start : (fs : List Fragment) (w : List IndexEntry) (u : List UndoEntry) (op : Operation) → MayPlace fs w u op → Fit fs × (bytes fs + text_total (pieces_of op) ≤ 2 ^ 40)
+pub fit_start : (fs : List Fragment) (w : List IndexEntry) (u : List UndoEntry) (op : Operation) → MayPlace fs w u op → Fit fs × (cells_len fs + text_total (pieces_of op) ≤ 2 ^ 40)
 fit_start fs w u op m =
-    let b = bytes_told fs m.history m.stands.cells in
+    let b = cells_len-told fs m.history m.stands.cells in
     let r = m.room in
     ((m.stands.filled, (omega arith)), (omega arith))

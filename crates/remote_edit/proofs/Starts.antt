@@ -8,11 +8,13 @@ use Rattle.lamport_clock.specs.declared.stamp.Lamport.{Lamport}
 use Rattle.lamport_clock.specs.Stamps.{later}
 use Rattle.lamport_clock.specs.Versions.{Entries, sees}
 use Rattle.op_model.specs.declared.operation.Piece.{Piece}
+use Rattle.op_model.proofs.Elements.{each_drop}
 use Rattle.undo_map.specs.declared.entry.UndoEntry.{UndoEntry}
 use Rattle.fragments.specs.declared.fragment.Fragment.{Fragment}
 use Rattle.fragments.specs.Stand.{IsFilled}
+use Rattle.fragments.specs.Laws.{cells_len}
 use Rattle.remote_edit.specs.Marks.{touch}
-use Rattle.remote_edit.specs.Walk.{bytes, seen_bytes, back, Zip, advance, skip_later, put_new, one_piece}
+use Rattle.remote_edit.specs.Walk.{seen_bytes, back, Zip, advance, skip_later, put_new, one_piece}
 use Rattle.remote_edit.specs.Starts.{AllSeen, starts, IsLeft}
 use Rattle.remote_edit.proofs.Passing.{seen_cons, seen_append, seen_own}
 
@@ -112,29 +114,19 @@ near n k r (f ∷ fs) e s h =
     omega (arith, g)
 
 -- over d of them
-pub landed : (d n k r : ℕ) (fs : List Fragment) → AllByRecursion IsFilled fs → bytes (take d fs) + k ≡ n → IsWithin k (drop d fs) → starts 0 (k + r) (drop d fs) ≤ 1 + starts (max 1 n) (n + r) fs
+pub landed : (d n k r : ℕ) (fs : List Fragment) → AllByRecursion IsFilled fs → cells_len (take d fs) + k ≡ n → IsWithin k (drop d fs) → starts 0 (k + r) (drop d fs) ≤ 1 + starts (max 1 n) (n + r) fs
 landed zero n k r fs s e h = near n k r fs (omega (arith, e)) s h
 landed (suc d) n k r [] s e h = omega arith
 landed (suc d) n k r (f ∷ fs) s e h =
     let s0 = s.0.0 in
-    let m : ℕ = bytes (take d fs) + k in
+    let m : ℕ = cells_len (take d fs) + k in
     let ih = landed d m k r fs s.1 refl h in
     let w = starts_fewer (max 1 n - f.len) (max 1 m) (m + r) fs (omega (arith, e, s0)) in
     let q : m + r ≡ n + r - f.len = omega (arith, e) in
     let g : starts (max 1 n - f.len) (m + r) fs ≡ starts (max 1 n - f.len) (n + r - f.len) fs = ap (λ (i : ℕ). starts (max 1 n - f.len) i fs) q in
     omega (arith, ih, w, g)
 
-pub seen_drop : (v : Entries) (n : ℕ) (fs : List Fragment) → AllSeen v fs → AllSeen v (drop n fs)
-seen_drop v zero fs h = h
-seen_drop v (suc n) [] h = tt
-seen_drop v (suc n) (f ∷ fs) h = seen_drop v n fs h.1
-
-pub filled_drop : (n : ℕ) (fs : List Fragment) → AllByRecursion IsFilled fs → AllByRecursion IsFilled (drop n fs)
-filled_drop zero fs h = h
-filled_drop (suc n) [] h = tt
-filled_drop (suc n) (f ∷ fs) h = filled_drop n fs h.1
-
-pub seen_all : (v : Entries) (n : ℕ) (fs : List Fragment) → AllSeen v fs → seen_bytes v (take n fs) ≡ bytes (take n fs)
+pub seen_all : (v : Entries) (n : ℕ) (fs : List Fragment) → AllSeen v fs → seen_bytes v (take n fs) ≡ cells_len (take n fs)
 seen_all v zero fs h = refl
 seen_all v (suc n) [] h = refl
 seen_all v (suc n) (f ∷ fs) h = let ih = seen_all v n fs h.1 in let c = seen_cons v f (take n fs) in let o = seen_own v f h.0 in omega (arith, ih, c, o)
@@ -148,6 +140,6 @@ left_of v xs i j n k p q a fl l w ep eq ek h =
     let ij : j ≡ i + d = omega (arith, l) in
     let dr : drop j xs ≡ drop d ys = ap (λ (m : ℕ). drop m xs) ij ∙ sym (drop-drop d i xs) in
     let tk : take j xs ≡ take i xs ++ take d ys = ap (λ (m : ℕ). take m xs) ij ∙ take-add i d xs in
-    let b : seen_bytes v (take j xs) ≡ seen_bytes v (take i xs) + bytes (take d ys) = ap (seen_bytes v) tk ∙ seen_append v (take i xs) (take d ys) ∙ ap (λ (m : ℕ). seen_bytes v (take i xs) + m) (seen_all v d ys a) in
+    let b : seen_bytes v (take j xs) ≡ seen_bytes v (take i xs) + cells_len (take d ys) = ap (seen_bytes v) tk ∙ seen_append v (take i xs) (take d ys) ∙ ap (λ (m : ℕ). seen_bytes v (take i xs) + m) (seen_all v d ys a) in
     subst (λ (zs : List Fragment). IsLeft v n ys k zs) (sym dr)
-    (seen_drop v d ys a, λ r. landed d n k r ys (filled_drop i xs fl) (omega (arith, b, ep, eq, ek)) (subst (IsWithin k) dr h))
+    (each_drop (λ (f : Fragment). sees v f.stamp ≡ true) d ys a, λ r. landed d n k r ys (each_drop IsFilled i xs fl) (omega (arith, b, ep, eq, ek)) (subst (IsWithin k) dr h))

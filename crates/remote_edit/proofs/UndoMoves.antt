@@ -16,7 +16,7 @@ use Rattle.fragments.specs.declared.index_entry.IndexEntry.{IndexEntry}
 use Rattle.fragments.specs.Stand.{Stand}
 use Rattle.remote_edit.specs.declared.moves.Move.{Move}
 use Rattle.remote_edit.specs.Carried.{move_for, CarryOn, AreMovesOf}
-use Rattle.remote_edit.specs.SeesLaws.{may_concern}
+use Rattle.remote_edit.specs.SeesLaws.{may_concern_any}
 use Rattle.remote_edit.specs.Among.{moves_among}
 use Rattle.remote_edit.specs.Anew.{anew, concerns, recount, all_anew, undo_move, Counts}
 use Rattle.remote_edit.proofs.MovesAmong.{Becomes, carried}
@@ -33,20 +33,20 @@ same_cells w by ts f = elim (cases_Bool (list_any (concerns f) ts)) [
 ]
 
 module _ (w : List UndoEntry) (by : Lamport) (ts : List Lamport) where
-  becomes : (f : Fragment) → Becomes (may_concern ts) (undo_move w ts) (anew w by ts) f
+  becomes : (f : Fragment) → Becomes (may_concern_any ts) (undo_move w ts) (anew w by ts) f
   becomes f = record { cells = same_cells w by ts f; move = go (list_any (concerns f) ts); stays = unmet_same w by ts f }
     where
       go : (b : Bool) → move_for f.visible (cond b (recount w by f).visible f.visible) f.len ≡ move_for f.visible (cond b (recount w by f) f).visible f.len
       go true = refl
       go false = refl
 
-  all_become : (fs : List Fragment) → AllByRecursion (Becomes (may_concern ts) (undo_move w ts) (anew w by ts)) fs
+  all_become : (fs : List Fragment) → AllByRecursion (Becomes (may_concern_any ts) (undo_move w ts) (anew w by ts)) fs
   all_become [] = tt
   all_become (f ∷ fs) = (becomes f, all_become fs)
 
   -- the moves of the walk carry the bytes along
-  pub undo_carried : (fs : List Fragment) (ms : List Move) (t : Lamport) → ms ≡ moves_among (may_concern ts) (undo_move w ts) fs → CarryOn t [] [] fs 0 ms (all_anew w by ts fs) [] 0
-  undo_carried fs ms t e = subst (λ (z : List Move). CarryOn t [] [] fs 0 z (all_anew w by ts fs) [] 0) (sym e) (carried (may_concern ts) (undo_move w ts) (anew w by ts) t fs (all_become fs))
+  pub undo_carried : (fs : List Fragment) (ms : List Move) (t : Lamport) → ms ≡ moves_among (may_concern_any ts) (undo_move w ts) fs → CarryOn t [] [] fs 0 ms (all_anew w by ts fs) [] 0
+  undo_carried fs ms t e = subst (λ (z : List Move). CarryOn t [] [] fs 0 z (all_anew w by ts fs) [] 0) (sym e) (carried (may_concern_any ts) (undo_move w ts) (anew w by ts) t fs (all_become fs))
 
 -- ---- the texts of the history with the undo
 

@@ -1,10 +1,11 @@
 -- Fragments where an undo counts edits stand for the history with the undo.
 use Rattle.std.proofs.Common.{◌≡◌, ℕ, zero, suc, ◌%◌, ◌<◌, ◌⊎◌, ◌↔◌, max, eqb, leb, Bool, true, false, List, [], ◌∷◌, ◌++◌, map, refl, sym, ap, ◌∙◌, arith, subst, inl, inr}
 use Rattle.std.proofs.lemmas.Bool.{cases_Bool, and_from, le-leb}
-use Rattle.std.specs.List.{AllByRecursion, list_any, list_all}
+use Rattle.std.specs.List.{AllByRecursion, list_any}
 use Rattle.lamport_clock.specs.declared.stamp.Lamport.{Lamport}
 use Rattle.lamport_clock.specs.Stamps.{same_stamp}
 use Rattle.lamport_clock.specs.Versions.{raise, sees}
+use Rattle.lamport_clock.proofs.Sees.{raise_sees, sees_raise}
 use Rattle.locators.specs.Locator.{least_digits}
 use Rattle.op_model.specs.declared.operation.Operation.{Operation}
 use Rattle.op_model.specs.declared.operation.UndoCount.{UndoCount}
@@ -18,7 +19,7 @@ use Rattle.op_model.specs.Shown.{greatest_given, count, undone, all_undone, dele
 use Rattle.op_model.specs.Answers.{answer}
 use Rattle.op_model.specs.Answers.Answer.{Good}
 use Rattle.op_model.specs.Lawful.{Lawful}
-use Rattle.op_model.specs.Facts.{Fact, fact, alike, seen_by}
+use Rattle.op_model.specs.Facts.{Fact, fact, alike, visible_by}
 use Rattle.op_model.specs.Walked.{Run, run_facts, facts_of}
 use Rattle.op_model.proofs.histories.Lawful.{in_append}
 use Rattle.op_model.proofs.shown.Deleters.{kept_all}
@@ -26,37 +27,37 @@ use Rattle.op_model.proofs.shown.OnePass.{undone_newest, all_newest}
 use Rattle.op_model.proofs.MainLaws.{undo_is_told}
 use Rattle.op_model.proofs.order.PathOrder.{same_stamp_eq, same_stamp_refl}
 use Rattle.op_model.proofs.order.CellsOnce.{each_member}
+use Rattle.op_model.proofs.Elements.{any_member}
 use Rattle.undo_map.specs.declared.entry.UndoEntry.{UndoEntry}
-use Rattle.undo_map.specs.Counts.{count_of, is_odd}
 use Rattle.undo_map.specs.Undos.{undo_entries}
-use Rattle.undo_map.proofs.Entries.{undone_kept}
 use Rattle.fragments.specs.declared.fragment.Fragment.{Fragment}
 use Rattle.fragments.specs.declared.index_entry.IndexEntry.{IndexEntry}
 use Rattle.fragments.specs.Stand.{run_of, runs, Tell, IsFilled, Rise, entry_of, SeesUndos, Stand}
 use Rattle.remote_edit.specs.Marks.{is_shown}
 use Rattle.remote_edit.specs.Anew.{concerns, recount, anew, all_anew, Counts}
-use Rattle.remote_edit.specs.SeesLaws.{raise_sees, sees_raise, any_member}
+use Rattle.remote_edit.proofs.Marks.{is_told}
 use Rattle.remote_edit.proofs.LaterDeletions.{HasLaterDeletions, late_deletions}
 use Rattle.remote_edit.proofs.OfFacts.{of_facts}
 
 -- ---- what is told of a cell is told by the counts
 
-pub shown_seen : (h : History) (c : Cell) → shown h c ≡ seen_by h c.stamp (deleters h c)
+pub shown_seen : (h : History) (c : Cell) → shown h c ≡ visible_by h c.stamp (deleters h c)
 unfolding shown shown_where
 shown_seen h c = rw (kept_all (newest_first h), undone_newest h c.stamp, all_newest h (deleters h c)) refl
 
-abbrev ByCounts : History → Fact → Type 0
-ByCounts h q = q.visible ≡ seen_by h q.cell.stamp q.deletions
+-- a cell, and a fragment, is shown as the history has it
+abbrev ByHistory : History → Fact → Type 0
+ByHistory h q = q.visible ≡ visible_by h q.cell.stamp q.deletions
 
-pub told_by_counts : (h : History) (s : List PathCell) → AllByRecursion (ByCounts h) (map (fact h) (cells s))
-told_by_counts h [] = tt
-told_by_counts h (p ∷ s) = (shown_seen h p.cell, told_by_counts h s)
+pub told_by_history : (h : History) (s : List PathCell) → AllByRecursion (ByHistory h) (map (fact h) (cells s))
+told_by_history h [] = tt
+told_by_history h (p ∷ s) = (shown_seen h p.cell, told_by_history h s)
 
-abbrev pub IsByCounts : History → Fragment → Type 0
-IsByCounts h f = f.visible ≡ seen_by h f.stamp f.deletions
+abbrev pub IsByHistory : History → Fragment → Type 0
+IsByHistory h f = f.visible ≡ visible_by h f.stamp f.deletions
 
-by_counts : (h : History) (fs : List Fragment) → AllByRecursion IsFilled fs → AllByRecursion (ByCounts h) (facts_of (runs fs)) → AllByRecursion (IsByCounts h) fs
-by_counts h fs l e = of_facts (λ t v d. v ≡ seen_by h t d) fs l e
+by_history : (h : History) (fs : List Fragment) → AllByRecursion IsFilled fs → AllByRecursion (ByHistory h) (facts_of (runs fs)) → AllByRecursion (IsByHistory h) fs
+by_history h fs l e = of_facts (λ t v d. v ≡ visible_by h t d) fs l e
 
 -- ---- counts with an undo more
 
@@ -77,15 +78,6 @@ undone_same h op t f =
 all_same : (h : History) (op : Operation) (d : List Lamport) → ((c : UndoCount) (t : Lamport) → Member c (counts_of op) → Member t d → same_stamp c.edit t ≡ false) → all_undone (h ++ op ∷ []) d ≡ all_undone h d
 all_same h op [] f = refl
 all_same h op (t ∷ d) f = rw (undone_same h op t (λ c m. f c t m (inl refl)), all_same h op d (λ c s m n. f c s m (inr n))) refl
-
--- ---- is_shown is the history's
-
-shown_kept : (h : History) (u : Lamport) (d : List Lamport) → is_shown (undo_entries h) u d ≡ seen_by h u d
-shown_kept h u d = rw (undone_kept h u, all d) refl
-  where
-    all : (d : List Lamport) → list_all (λ t. is_odd (count_of (undo_entries h) t)) d ≡ all_undone h d
-    all [] = refl
-    all (x ∷ d) = rw (undone_kept h x, all d) refl
 
 module _ (h : History) (op : Operation) (w : List UndoEntry) (ts : List Lamport) (lawful : Lawful h) (good : answer h [] op ≡ Good) (undo : is_edit op ≡ false)
     (now : w ≡ undo_entries (h ++ op ∷ [])) (all : Counts op ts) where
@@ -108,13 +100,13 @@ module _ (h : History) (op : Operation) (w : List UndoEntry) (ts : List Lamport)
     | inr e ↦ e
   ]
 
-  run_anew : (f : Fragment) → HasLaterDeletions f → IsByCounts h f → run_of (m f) ≡ record { stamp = f.stamp; offset = f.offset; len = f.len; visible = seen_by next f.stamp f.deletions; deletions = f.deletions }
+  run_anew : (f : Fragment) → HasLaterDeletions f → IsByHistory h f → run_of (m f) ≡ record { stamp = f.stamp; offset = f.offset; len = f.len; visible = visible_by next f.stamp f.deletions; deletions = f.deletions }
   run_anew f z e = elim (cases_Bool (list_any (concerns f) ts)) [
-    | inl k ↦ rw k (ap (λ (b : Bool). as_run f b) (ap (λ (x : List UndoEntry). is_shown x f.stamp f.deletions) now ∙ shown_kept next f.stamp f.deletions))
+    | inl k ↦ rw k (ap (λ (b : Bool). as_run f b) (ap (λ (x : List UndoEntry). is_shown x f.stamp f.deletions) now ∙ sym (is_told next f.stamp f.deletions)))
     | inr k ↦ (let n = uncounted f z k in
         let a = undone_same h op f.stamp (λ c i. n c f.stamp i (inl refl)) in
         let b = all_same h op f.deletions (λ c t i j. n c t i (inr j)) in
-        let s : seen_by next f.stamp f.deletions ≡ seen_by h f.stamp f.deletions = rw (a, b) refl in
+        let s : visible_by next f.stamp f.deletions ≡ visible_by h f.stamp f.deletions = rw (a, b) refl in
         rw k (ap (λ (b : Bool). as_run f b) (e ∙ sym s)))
   ]
     where
@@ -122,21 +114,21 @@ module _ (h : History) (op : Operation) (w : List UndoEntry) (ts : List Lamport)
       as_run f b = record { stamp = f.stamp; offset = f.offset; len = f.len; visible = b; deletions = f.deletions }
 
   abbrev told_anew : Fact → Fact
-  told_anew q = record { cell = q.cell; visible = seen_by next q.cell.stamp q.deletions; deletions = q.deletions }
+  told_anew q = record { cell = q.cell; visible = visible_by next q.cell.stamp q.deletions; deletions = q.deletions }
 
-  facts_anew : (t : Lamport) (k n : ℕ) (v : Bool) (d : List Lamport) (s : List Fact) → alike t k n (seen_by next t d) d ++ map told_anew s ≡ map told_anew (alike t k n v d ++ s)
+  facts_anew : (t : Lamport) (k n : ℕ) (v : Bool) (d : List Lamport) (s : List Fact) → alike t k n (visible_by next t d) d ++ map told_anew s ≡ map told_anew (alike t k n v d ++ s)
   facts_anew t k zero v d s = refl
-  facts_anew t k (suc n) v d s = ap (λ (z : List Fact). record { cell = record { stamp = t; k = k }; visible = seen_by next t d; deletions = d } ∷ z) (facts_anew t (suc k) n v d s)
+  facts_anew t k (suc n) v d s = ap (λ (z : List Fact). record { cell = record { stamp = t; k = k }; visible = visible_by next t d; deletions = d } ∷ z) (facts_anew t (suc k) n v d s)
 
-  all_told : (fs : List Fragment) → AllByRecursion HasLaterDeletions fs → AllByRecursion (IsByCounts h) fs → facts_of (runs (map m fs)) ≡ map told_anew (facts_of (runs fs))
+  all_told : (fs : List Fragment) → AllByRecursion HasLaterDeletions fs → AllByRecursion (IsByHistory h) fs → facts_of (runs (map m fs)) ≡ map told_anew (facts_of (runs fs))
   all_told [] z e = refl
   all_told (f ∷ fs) z e =
       ap (λ (r : Run). run_facts r ++ facts_of (runs (map m fs))) (run_anew f z.0 e.0)
-      ∙ ap (λ (z : List Fact). alike f.stamp f.offset f.len (seen_by next f.stamp f.deletions) f.deletions ++ z) (all_told fs z.1 e.1)
+      ∙ ap (λ (z : List Fact). alike f.stamp f.offset f.len (visible_by next f.stamp f.deletions) f.deletions ++ z) (all_told fs z.1 e.1)
       ∙ facts_anew f.stamp f.offset f.len f.visible f.deletions (facts_of (runs fs))
 
   cells_told : (fs : List Fragment) → AllByRecursion IsFilled fs → Tell fs h → Tell (map m fs) next
-  cells_told fs l t = all_told fs (late_deletions h lawful fs l t) (by_counts h fs l (subst (AllByRecursion (ByCounts h)) (sym t) (told_by_counts h (seq h)))) ∙ ap (map told_anew) t ∙ sym (undo_is_told h op lawful good undo)
+  cells_told fs l t = all_told fs (late_deletions h lawful fs l t) (by_history h fs l (subst (AllByRecursion (ByHistory h)) (sym t) (told_by_history h (seq h)))) ∙ ap (map told_anew) t ∙ sym (undo_is_told h op lawful good undo)
 
   -- ---- what stays
 

@@ -48,17 +48,18 @@ use Rattle.remote_edit.proofs.EditTexts.{placed_fragments, placed_runs, fits}
 
 -- ---- bytes of runs and of fragments
 
-same_cells : (f : Cell → ℕ) (t : Lamport) (k n : ℕ) (v : Bool) (d : List Lamport) → bytes f (alike t k n v d) ≡ cell_bytes f t k n
-same_cells f t k zero v d = refl
-same_cells f t k (suc n) v d = ap (λ (z : List ℕ). f (record { stamp = t; k = k }) ∷ z) (same_cells f t (suc k) n v d)
+-- the bytes of alike cells are those of their edit
+pub alike_bytes : (f : Cell → ℕ) (t : Lamport) (k n : ℕ) (v : Bool) (d : List Lamport) → bytes f (alike t k n v d) ≡ cell_bytes f t k n
+alike_bytes f t k zero v d = refl
+alike_bytes f t k (suc n) v d = ap (λ (z : List ℕ). f (record { stamp = t; k = k }) ∷ z) (alike_bytes f t (suc k) n v d)
 
 pub texts_are : (f : Cell → ℕ) (fs : List Fragment) → Utf8 f (runs fs) → AllByRecursion (IsText f) fs
 texts_are f [] u = tt
-texts_are f (x ∷ fs) u = (subst IsUtf8 (same_cells f x.stamp x.offset x.len x.visible x.deletions) u.0, texts_are f fs u.1)
+texts_are f (x ∷ fs) u = (subst IsUtf8 (alike_bytes f x.stamp x.offset x.len x.visible x.deletions) u.0, texts_are f fs u.1)
 
 pub texts_of_runs : (f : Cell → ℕ) (fs : List Fragment) → AllByRecursion (IsText f) fs → Utf8 f (runs fs)
 texts_of_runs f [] u = tt
-texts_of_runs f (x ∷ fs) u = (subst IsUtf8 (sym (same_cells f x.stamp x.offset x.len x.visible x.deletions)) u.0, texts_of_runs f fs u.1)
+texts_of_runs f (x ∷ fs) u = (subst IsUtf8 (sym (alike_bytes f x.stamp x.offset x.len x.visible x.deletions)) u.0, texts_of_runs f fs u.1)
 
 -- ---- whole fragments have bytes of UTF-8, and those alone
 

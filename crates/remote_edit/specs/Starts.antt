@@ -1,10 +1,9 @@
 -- What bounds the nodes that an edit makes where it has seen all fragments.
-use Rattle.std.specs.Prelude.{◌≡◌, ℕ, ◌+◌, ◌-◌, ◌*◌, ◌≤◌, max, min, true, List, [], ◌∷◌, length}
+use Rattle.std.specs.Prelude.{◌≡◌, ℕ, ◌+◌, ◌-◌, ◌*◌, ◌≤◌, max, min, true, List, [], ◌∷◌, length, option_to_list}
 use Rattle.std.specs.List.{AllByRecursion}
 use Rattle.lamport_clock.specs.Versions.{Entries, sees}
 use Rattle.fragments.specs.declared.fragment.Fragment.{Fragment}
 use Rattle.remote_edit.specs.declared.gather.Gather.{Gather}
-use Rattle.remote_edit.specs.Steps.{left_over}
 use Rattle.remote_edit.specs.Gathers.{ahead}
 
 -- v sees the edit of each fragment
@@ -23,7 +22,7 @@ IsLeft v n xs k ys = AllSeen v ys × ((r : ℕ) → starts 0 (k + r) ys ≤ 1 + 
 
 -- how many of a tree's fragments xs a gather has taken once it has passed n cells more
 abbrev pub intake : List Fragment → Gather → ℕ → ℕ
-intake xs g n = g.at + starts (length (left_over g.back)) n (ahead xs g)
+intake xs g n = g.at + starts (length (option_to_list g.back)) n (ahead xs g)
 
 -- from the gather g with n cells to pass to g2 with k of them, no more fragments are taken than the n cells touch
 pub record IsFew (v : Entries) (xs : List Fragment) (g : Gather) (n : ℕ) (g2 : Gather) (k : ℕ) : Type 0 where

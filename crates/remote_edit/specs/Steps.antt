@@ -1,15 +1,12 @@
 -- Steps of the walk over a tree.
-use Rattle.std.specs.Prelude.{◌≡◌, ℕ, ◌+◌, ◌<◌, ◌≤◌, ◌&&◌, not, Bool, false, List, [], ◌∷◌, ◌++◌, length, take, drop, Option, Some, None}
+use Rattle.std.specs.Prelude.{◌≡◌, ℕ, ◌+◌, ◌<◌, ◌≤◌, ◌&&◌, not, Bool, false, List, [], ◌∷◌, ◌++◌, length, take, drop, Option, Some, None, option_to_list}
 use Rattle.lamport_clock.specs.declared.stamp.Lamport.{Lamport}
 use Rattle.lamport_clock.specs.Stamps.{later}
 use Rattle.lamport_clock.specs.Versions.{Entries, sees}
 use Rattle.undo_map.specs.declared.entry.UndoEntry.{UndoEntry}
 use Rattle.fragments.specs.declared.fragment.Fragment.{Fragment}
-use Rattle.remote_edit.specs.Walk.{bytes, seen_bytes, Fit, Zip, zip, advance}
-
-abbrev pub left_over : Option Fragment → List Fragment
-left_over None = []
-left_over (Some f) = f ∷ []
+use Rattle.fragments.specs.Laws.{cells_len}
+use Rattle.remote_edit.specs.Walk.{seen_bytes, Fit, Zip, zip, advance}
 
 abbrev pub head : List Fragment → Option Fragment
 head [] = None
@@ -25,7 +22,7 @@ before xs i made = take i xs ++ made
 
 -- what is left of one, and those from j on, lie behind it
 abbrev pub after : List Fragment → ℕ → Option Fragment → List Fragment
-after xs j back = left_over back ++ drop j xs
+after xs j back = option_to_list back ++ drop j xs
 
 -- the first of fragments is later than t, and v does not see it
 abbrev pub later_first : Lamport → Entries → List Fragment → Bool
@@ -38,7 +35,7 @@ pub record IsOnWay (m : Option (List UndoEntry)) (t : Lamport) (v : Entries) (n 
   pub place : p ≡ seen_bytes v pre2
   pub goes : advance m t v k pre2 rest2 ≡ advance m t v n pre rest
   pub fit : Fit (pre2 ++ rest2)
-  pub same : bytes (pre2 ++ rest2) ≡ bytes (pre ++ rest)
+  pub same : cells_len (pre2 ++ rest2) ≡ cells_len (pre ++ rest)
   pub less : k + length rest2 < n + length rest
 
 -- the place z is reached, with n cells in all
@@ -46,7 +43,7 @@ pub record IsAt (v : Entries) (z : Zip) (n : ℕ) (pre rest : List Fragment) (p 
   pub place : p ≡ seen_bytes v pre
   pub goes : zip pre rest ≡ z
   pub fit : Fit (pre ++ rest)
-  pub same : bytes (pre ++ rest) ≡ n
+  pub same : cells_len (pre ++ rest) ≡ n
 
 -- from place i of xs with n cells to pass to place j with k of them, on one way over whole fragments
 pub record IsSought (t : Lamport) (v : Entries) (xs : List Fragment) (n : ℕ) (i : ℕ) (k : ℕ) (j p : ℕ) : Type 0 where

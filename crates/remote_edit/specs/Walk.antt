@@ -10,20 +10,16 @@ use Rattle.op_model.specs.Walked.{kept_len}
 use Rattle.undo_map.specs.declared.entry.UndoEntry.{UndoEntry}
 use Rattle.fragments.specs.declared.fragment.Fragment.{Fragment}
 use Rattle.fragments.specs.Stand.{IsFilled, runs}
+use Rattle.fragments.specs.Laws.{cells_len}
 use Rattle.remote_edit.specs.Marks.{touch}
 
--- how many cells fragments have together
-abbrev pub bytes : List Fragment → ℕ
-bytes [] = 0
-bytes (f ∷ fs) = f.len + bytes fs
-
--- how many of them v sees
+-- how many cells of fragments v sees
 abbrev pub seen_bytes : Entries → List Fragment → ℕ
 seen_bytes v fs = kept_len (sees v) (runs fs)
 
 -- a tree has room for them
 abbrev pub Fit : List Fragment → Type 0
-Fit fs = AllByRecursion IsFilled fs × (bytes fs ≤ 2 ^ 40)
+Fit fs = AllByRecursion IsFilled fs × (cells_len fs ≤ 2 ^ 40)
 
 -- the id of the last, or the least
 abbrev pub last_id : List Fragment → List ℕ

@@ -52,8 +52,8 @@ fn keep(moves: &mut Moves, from: Passed, to: Passed) -> Result<(), OutOfMemory>
 /// What a change does to the shown and to the hidden text: it moves the bytes of the fragments that may change, and those of
 /// the others stay. Runs of fragments that stay are passed whole.
 ///
-/// There are at most three moves for each fragment that may change, and the cost is that many fragments times the height. It
-/// answers want of memory alone.
+/// There are at most three moves for each fragment that may change, and the cost is that many fragments times the height. It fails
+/// for want of memory alone.
 pub fn moves_among<K: Keep<FragmentSummary>, C: Change>(
     alloc: Global,
     tree: &SumTree<Fragment>,

@@ -1,15 +1,16 @@
 //! What a piece of an edit makes of a range of a tree.
-ghost use Rattle.std.specs.Prelude.{◌≡◌, ℕ, ◌+◌, ◌-◌, ◌<◌, ◌≤◌, ◌^◌, ◌++◌, ◌∷◌, ◌&&◌, not, false, [], length, take, Some, None, IfOk};
+ghost use Rattle.std.specs.Prelude.{◌≡◌, ℕ, ◌+◌, ◌-◌, ◌<◌, ◌≤◌, ◌^◌, ◌++◌, ◌∷◌, ◌&&◌, not, false, [], length, take, Some, None, IfOk, option_to_list};
 ghost use Rattle.std.specs.Option.{option_copied};
 ghost use Rattle.lamport_clock.specs.Versions.{sees};
 ghost use Rattle.lamport_clock.specs.Stamps.{later};
 ghost use Rattle.locators.specs.Locator.{between_digits};
 ghost use Rattle.fragments.specs.Index.{with_entry};
 ghost use Rattle.fragments.specs.Stand.{entry_of};
+ghost use Rattle.fragments.specs.Laws.{cells_len};
 ghost use Rattle.remote_edit.specs.Indexes.{IsIndexed};
-ghost use Rattle.remote_edit.specs.Walk.{bytes, seen_bytes, Fit, last_id, next_id, new_fragment, front, back, advance, skip_later, put_new};
+ghost use Rattle.remote_edit.specs.Walk.{seen_bytes, Fit, last_id, next_id, new_fragment, front, back, advance, skip_later, put_new};
 ghost use Rattle.remote_edit.specs.Marks.{touch};
-ghost use Rattle.remote_edit.specs.Steps.{left_over, later_first, head, tail, IsOnWay, IsAt};
+ghost use Rattle.remote_edit.specs.Steps.{later_first, head, tail, IsOnWay, IsAt};
 ghost use Rattle.remote_edit.specs.Gathers.{so_far, ahead};
 ghost use Rattle.remote_edit.specs.Starts.{AllSeen, IsFew};
 
@@ -81,7 +82,7 @@ impl Gather {
         ensures order { self.old.at ≤ self.new.at }
         ensures place { self.new.place ≡ self.old.place }
         ensures none { IfOk result (λ _. self.new.back ≡ None) }
-        ensures count { IfOk result (λ _. self.new.at + length (left_over self.old.back)
+        ensures count { IfOk result (λ _. self.new.at + length (option_to_list self.old.back)
             ≡ self.old.at + 1) }
         ensures number { self.new.number ≡ self.old.number }
         ensures index { self.new.index ≡ self.old.index }
@@ -184,7 +185,7 @@ impl Gather {
         ensures rest { IfOk result (λ _. ahead tree.now.items self.new
             ≡ upper ∷ tail (ahead tree.now.items self.old)) }
         ensures back { IfOk result (λ _. self.new.back ≡ Some upper) }
-        ensures count { IfOk result (λ _. self.new.at + length (left_over self.old.back)
+        ensures count { IfOk result (λ _. self.new.at + length (option_to_list self.old.back)
             ≡ self.old.at + 1) }
         ensures from { self.new.from ≡ self.old.from }
         ensures order { self.old.at ≤ self.new.at }
@@ -221,7 +222,7 @@ impl Gather {
         ensures gathered { IfOk result (λ _. IsAt edit.now.version
             (advance (option_copied marks.entry) edit.now.stamp edit.now.version count
             (so_far tree.now.items self.old) (ahead tree.now.items self.old))
-            (bytes (so_far tree.now.items self.old ++ ahead tree.now.items self.old))
+            (cells_len (so_far tree.now.items self.old ++ ahead tree.now.items self.old))
             (so_far tree.now.items self.new) (ahead tree.now.items self.new) self.new.place) }
         ensures few { AllSeen edit.now.version (ahead tree.now.items self.old)
             → IfOk result (λ _. IsFew edit.now.version tree.now.items self.old count self.new 0) }
@@ -284,7 +285,7 @@ impl Gather {
         ensures gathered { IfOk result (λ _. IsAt edit.now.version
             (skip_later edit.now.stamp edit.now.version
             (so_far tree.now.items self.old) (ahead tree.now.items self.old))
-            (bytes (so_far tree.now.items self.old ++ ahead tree.now.items self.old))
+            (cells_len (so_far tree.now.items self.old ++ ahead tree.now.items self.old))
             (so_far tree.now.items self.new) (ahead tree.now.items self.new) self.new.place) }
         ensures none { AllSeen edit.now.version (ahead tree.now.items self.old)
             → IfOk result (λ _. (self.new.at ≡ self.old.at) × (self.new.back ≡ self.old.back)) }
@@ -307,8 +308,8 @@ impl Gather {
         n: u64,
     ) -> Result<(), OutOfMemory>
         requires unseen { sees edit.now.version edit.now.stamp ≡ false }
-        requires room { bytes (so_far tree.now.items self.old ++ ahead tree.now.items self.old) + n
-            ≤ 2 ^ 40 }
+        requires room { cells_len (so_far tree.now.items self.old ++ ahead tree.now.items self.old)
+            + n ≤ 2 ^ 40 }
         requires numbers { self.old.number + n < 2 ^ 64 }
         requires within { self.old.from ≤ length tree.now.items }
         requires fit { Fit (so_far tree.now.items self.old ++ ahead tree.now.items self.old) }
@@ -323,7 +324,7 @@ impl Gather {
         ensures gathered { IfOk result (λ _. IsAt edit.now.version
             (put_new edit.now.stamp self.old.number n
             (so_far tree.now.items self.old) (ahead tree.now.items self.old))
-            (bytes (so_far tree.now.items self.old ++ ahead tree.now.items self.old) + n)
+            (cells_len (so_far tree.now.items self.old ++ ahead tree.now.items self.old) + n)
             (so_far tree.now.items self.new) (ahead tree.now.items self.new) self.new.place) }
         ensures number { IfOk result (λ _. self.new.number ≡ self.old.number + n) }
         ensures indexed { IfOk result (λ _. IsIndexed edit.now.stamp self.new.number

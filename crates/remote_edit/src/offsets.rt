@@ -3,9 +3,8 @@ ghost use Rattle.std.specs.Prelude.{◌≡◌, ◌++◌, ◌≤◌, ◌^◌, map
 ghost use Rattle.std.specs.List.{AllByRecursion};
 ghost use Rattle.op_model.specs.Histories.{History};
 ghost use Rattle.op_model.specs.Made.{full_piece};
-ghost use Rattle.fragments.specs.Laws.{shown_len};
+ghost use Rattle.fragments.specs.Laws.{shown_len, cells_len};
 ghost use Rattle.fragments.specs.Stand.{Tell};
-ghost use Rattle.remote_edit.specs.Walk.{bytes};
 ghost use Rattle.remote_edit.specs.Offsets.{full_in, piece_in, IsInText};
 
 use crate::{OutOfMemory, Passed};
@@ -17,7 +16,7 @@ use tree_cursor::{Bias, Cursor};
 
 // The number of all cells before shown cell `offset`, or of all where the text ends there: one descent.
 fn full_offset(tree: &SumTree<Fragment>, offset: u64) -> Result<u64, OutOfMemory>
-    requires room { bytes tree.now.items ≤ 2 ^ 40 }
+    requires room { cells_len tree.now.items ≤ 2 ^ 40 }
     requires within { offset ≤ shown_len tree.now.items }
     ensures { IfOk result (λ n. n ≡ full_in tree.now.items offset) }
 {
@@ -33,7 +32,7 @@ fn full_offset(tree: &SumTree<Fragment>, offset: u64) -> Result<u64, OutOfMemory
 
 // A change, whose range counts shown cells, with a range that counts all cells.
 fn full_piece(alloc: Global, tree: &SumTree<Fragment>, change: &Piece) -> Result<Piece, OutOfMemory>
-    requires room { bytes tree.now.items ≤ 2 ^ 40 }
+    requires room { cells_len tree.now.items ≤ 2 ^ 40 }
     requires range { IsInText tree.now.items change.now }
     ensures { IfOk result (λ p. p ≡ piece_in tree.now.items change.now) }
 {
@@ -54,7 +53,7 @@ pub fn full_pieces(
     tree: &SumTree<Fragment>,
     changes: &[Piece],
 ) -> Result<Pieces, OutOfMemory>
-    requires room { bytes tree.now.items ≤ 2 ^ 40 }
+    requires room { cells_len tree.now.items ≤ 2 ^ 40 }
     requires ranges { AllByRecursion (IsInText tree.now.items) changes.now }
     ensures { IfOk result (λ ps. (h : History) → Tell tree.now.items h
         → ps ≡ map (full_piece h) changes.now) }

@@ -7,7 +7,7 @@ ghost use Rattle.lamport_clock.specs.Stamps.{same_stamp};
 ghost use Rattle.undo_map.specs.Counts.{count_of, is_odd};
 ghost use Rattle.fragments.specs.Summaries.{no_fragments, summaries, summary_of, SummaryFits};
 ghost use Rattle.remote_edit.specs.Marks.{is_shown};
-ghost use Rattle.remote_edit.specs.SeesLaws.{begins_by, may_touch};
+ghost use Rattle.remote_edit.specs.SeesLaws.{begins_by, may_concern};
 ghost use Rattle.remote_edit.specs.Anew.{concerns, recount, anew, all_anew};
 ghost use Rattle.remote_edit.specs.Undoing.{StandWithUndo, MoveWithUndo, KeepCharactersWithUndo};
 
@@ -28,20 +28,20 @@ pub(crate) struct MayConcern<'e> {
 }
 
 impl<'e> Keep<FragmentSummary> for MayConcern<'e> {
-    ghost use Rattle.remote_edit.specs.SeesLaws.{may_concern, concern_parts};
+    ghost use Rattle.remote_edit.specs.SeesLaws.{may_concern_any, concern_any_parts};
 
-    ghost keeps = { λ k s. may_concern k.edits.now s };
+    ghost keeps = { λ k s. may_concern_any k.edits.now s };
 
-    ghost parts = { λ k a b f g h. concern_parts k.edits.now a b h };
+    ghost parts = { λ k a b f g h. concern_any_parts k.edits.now a b h };
 
     fn keep(&self, s: &FragmentSummary) -> bool {
-        self.edits.iter().any(|t| may_touch(s, *t))
+        self.edits.iter().any(|t| may_concern(s, *t))
     }
 }
 
 // Whether a run of fragments may have cells that the edit brought or deletes.
-fn may_touch(s: &FragmentSummary, edit: Lamport) -> bool
-    ensures { result ≡ may_touch s.now edit }
+fn may_concern(s: &FragmentSummary, edit: Lamport) -> bool
+    ensures { result ≡ may_concern s.now edit }
 {
     begins_by(s.span.as_slice(), edit) && s.greatest.sees(edit)
 }
@@ -187,7 +187,7 @@ fn with_undo(
 /// An edit is later than what it deletes. So runs of fragments that have not seen it, or are all later than it, are
 /// passed over whole and stay shared; the index is not asked. The cost grows with the number of fragments that one of
 /// the edits brought or deletes, and of those as early as one whose neighbours were changed since by its author, times
-/// the height. It answers want of memory alone.
+/// the height. It fails for want of memory alone.
 pub fn mark_undo(
     alloc: Global,
     tree: &SumTree<Fragment>,

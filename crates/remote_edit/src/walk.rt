@@ -1,12 +1,13 @@
 //! One walk over a tree of fragments, from the first piece of an edit to the last.
-ghost use Rattle.std.specs.Prelude.{◌≡◌, ℕ, ◌+◌, ◌-◌, ◌*◌, ◌<◌, ◌≤◌, ◌^◌, ◌++◌, false, [], length, take, drop, max, IfOk};
+ghost use Rattle.std.specs.Prelude.{◌≡◌, ℕ, ◌+◌, ◌-◌, ◌*◌, ◌<◌, ◌≤◌, ◌^◌, ◌++◌, false, [], length, take, drop, max, IfOk, option_to_list};
 ghost use Rattle.lamport_clock.specs.Versions.{sees};
 ghost use Rattle.op_model.specs.Operations.{text_total};
 ghost use Rattle.op_model.specs.Walked.{Ordered};
+ghost use Rattle.fragments.specs.Laws.{cells_len};
 ghost use Rattle.sum_tree.specs.Spliced.{splice_list};
 ghost use Rattle.remote_edit.specs.Indexes.{IsIndexed};
-ghost use Rattle.remote_edit.specs.Walk.{bytes, seen_bytes, Fit, one_piece, changes, walk};
-ghost use Rattle.remote_edit.specs.Steps.{left_over, before, after, IsSought, IsAt};
+ghost use Rattle.remote_edit.specs.Walk.{seen_bytes, Fit, one_piece, changes, walk};
+ghost use Rattle.remote_edit.specs.Steps.{before, after, IsSought, IsAt};
 ghost use Rattle.remote_edit.specs.Gathers.{so_far, ahead};
 ghost use Rattle.remote_edit.specs.Costs.{touch_count_behind};
 ghost use Rattle.remote_edit.specs.Starts.{AllSeen, starts, IsLeft, MakeFew};
@@ -86,7 +87,7 @@ impl Walk {
         requires fit { Fit self.now.tree.items }
         requires place { self.now.place ≡ seen_bytes edit.now.version
             (take self.now.at self.now.tree.items) }
-        requires room { bytes self.now.tree.items + length piece.now.text ≤ 2 ^ 40 }
+        requires room { cells_len self.now.tree.items + length piece.now.text ≤ 2 ^ 40 }
         requires numbers { self.now.number + length piece.now.text < 2 ^ 64 }
         requires indexed { IsIndexed edit.now.stamp self.now.number
             (take self.now.at self.now.tree.items ++ drop self.now.at self.now.tree.items)
@@ -96,7 +97,7 @@ impl Walk {
         ensures gathered { IfOk result (λ g. IsAt edit.now.version
             (one_piece undos.now edit.now.stamp edit.now.version left self.now.number piece.now
             (take self.now.at self.now.tree.items) (drop self.now.at self.now.tree.items))
-            (bytes self.now.tree.items + length piece.now.text)
+            (cells_len self.now.tree.items + length piece.now.text)
             (so_far self.now.tree.items g) (ahead self.now.tree.items g) g.place) }
         ensures few { AllSeen edit.now.version (drop self.now.at self.now.tree.items)
             → IfOk result (λ g. g.at ≤ self.now.at
@@ -143,7 +144,7 @@ impl Walk {
         ensures number { IfOk result (λ _. self.new.number ≡ gather.number) }
         ensures index { IfOk result (λ _. self.new.index ≡ gather.index) }
         ensures cost { MakeFew steps.old steps.new gather.from gather.at
-            (length gather.made.items + length (left_over gather.back)) }
+            (length gather.made.items + length (option_to_list gather.back)) }
     {
         self.index = gather.index.share()?;
         self.number = gather.number;
@@ -176,7 +177,7 @@ impl Walk {
         requires fit { Fit self.old.tree.items }
         requires place { self.old.place ≡ seen_bytes edit.now.version
             (take self.old.at self.old.tree.items) }
-        requires room { bytes self.old.tree.items + length piece.now.text ≤ 2 ^ 40 }
+        requires room { cells_len self.old.tree.items + length piece.now.text ≤ 2 ^ 40 }
         requires numbers { self.old.number + length piece.now.text < 2 ^ 64 }
         requires indexed { IsIndexed edit.now.stamp self.old.number self.old.tree.items
             self.old.index }
@@ -184,7 +185,7 @@ impl Walk {
         ensures passed { IfOk result (λ _. IsAt edit.now.version
             (one_piece undos.now edit.now.stamp edit.now.version count self.old.number piece.now
             (take self.old.at self.old.tree.items) (drop self.old.at self.old.tree.items))
-            (bytes self.old.tree.items + length piece.now.text)
+            (cells_len self.old.tree.items + length piece.now.text)
             (take self.new.at self.new.tree.items) (drop self.new.at self.new.tree.items)
             self.new.place) }
         ensures number { IfOk result (λ _. self.new.number
@@ -214,7 +215,7 @@ impl Walk {
         requires number { self.old.number ≡ 0 }
         requires fit { Fit self.old.tree.items }
         requires unseen { sees edit.now.version edit.now.stamp ≡ false }
-        requires room { bytes self.old.tree.items + text_total edit.now.pieces ≤ 2 ^ 40 }
+        requires room { cells_len self.old.tree.items + text_total edit.now.pieces ≤ 2 ^ 40 }
         requires indexed { IsIndexed edit.now.stamp 0 self.old.tree.items self.old.index }
         ensures walked { IfOk result (λ _. self.new.tree.items
             ≡ walk undos.now edit.now.stamp edit.now.version 0 0 edit.now.pieces
@@ -258,7 +259,7 @@ fn put_back<L: Ledger>(
     ensures after { IfOk result (λ n. drop n tree.new.items ≡ after tree.old.items at back) }
     ensures within { IfOk result (λ n. n ≤ length tree.new.items) }
     ensures cost { MakeFew steps.old steps.new from at
-        (length made.items + length (left_over back)) }
+        (length made.items + length (option_to_list back)) }
 {
     tree.known();
     let mut all = made;
@@ -311,7 +312,7 @@ pub fn walk_in<L: Ledger>(
 ) -> Result<Walk, OutOfMemory>
     requires fit { Fit tree.now.items }
     requires unseen { sees edit.now.version edit.now.stamp ≡ false }
-    requires room { bytes tree.now.items + text_total edit.now.pieces ≤ 2 ^ 40 }
+    requires room { cells_len tree.now.items + text_total edit.now.pieces ≤ 2 ^ 40 }
     requires indexed { IsIndexed edit.now.stamp 0 tree.now.items index.now }
     ensures walked { IfOk result (λ w. w.tree.items
         ≡ walk undos.now edit.now.stamp edit.now.version 0 0 edit.now.pieces [] tree.now.items) }

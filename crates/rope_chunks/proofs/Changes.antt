@@ -1,15 +1,15 @@
 -- The text of chunks of which a range is changed.
 use Rattle.std.specs.Prelude.{slice_get}
-use Rattle.std.proofs.Common.{◌≡◌, ℕ, ◌+◌, ◌-◌, ◌^◌, ◌<◌, ◌≤◌, Some, List, [], ◌∷◌, ◌++◌, length, take, drop, get_or, refl, ap, sym, subst, ◌∙◌, arith, append_assoc, length-append, length-take, length-drop, ⊎_elim}
+use Rattle.std.proofs.Common.{◌≡◌, ℕ, ◌+◌, ◌-◌, ◌^◌, ◌<◌, ◌≤◌, Some, List, [], ◌∷◌, ◌++◌, length, take, drop, get_or, refl, ap, sym, subst, ◌∙◌, arith, append_assoc, length-append, length-take, ⊎_elim}
 use Rattle.std.specs.List.{All, concat}
 use Rattle.std.specs.Str.{IsUtf8, IsCharBoundary}
 use Rattle.std.proofs.lemmas.Bool.{cases_lt}
-use Rattle.std.proofs.lemmas.List.{append-nil, take_all, drop_all, take-take, drop-take, get_or-take}
+use Rattle.std.proofs.lemmas.List.{append-nil, drop_all, take-take, drop-take, get_or-take}
 use Rattle.std.proofs.lemmas.List.Elements.{All-append, All-take, All-drop, All-push, All-nil}
 use Rattle.std.proofs.lemmas.Str.{IsUtf8-append}
 use Rattle.sum_tree.specs.Spliced.{splice_list}
 use Rattle.rope_chunks.specs.Chunks.{IsChunk, AreChunks}
-use Rattle.rope_chunks.specs.Spots.{IsSpot, IsChange, text_with}
+use Rattle.rope_chunks.specs.Spots.{IsSpot, text_with}
 use Rattle.std.proofs.lemmas.List.Folds.{concat-append}
 use Rattle.rope_chunks.proofs.Grows.{concat-more, get_drop}
 use Rattle.rope_chunks.proofs.Stops.{front-short}
@@ -49,18 +49,6 @@ pub widened : (a f x b d : List ℕ) → (a ++ ((f ++ x) ++ b)) ++ d ≡ ((a ++ 
 widened a f x b d =
     rw (append_assoc f x b, append_assoc a (f ++ (x ++ b)) d, append_assoc f (x ++ b) d, append_assoc x b d, append_assoc (a ++ f) x (b ++ d), append_assoc a f (x ++ (b ++ d))) refl
 
-pub change_wide : (cs : List (List ℕ)) (i j f t : ℕ) (x front back : List ℕ) (ys : List (List ℕ)) → i ≤ j → f ≤ i → j ≤ t → t ≤ length cs → concat (take f cs) ++ front ≡ concat (take i cs) → back ++ concat (drop t cs) ≡ concat (drop j cs) → concat ys ≡ (front ++ x) ++ back → All IsChunk ys → IsChange cs (text_with i j x cs) f t ys
-change_wide cs i j f t x front back ys order before behind within g h e each = record {
-  order = omega (arith, order, before, behind);
-  within = within;
-  text =
-      ap (λ bs. text_with f t bs cs) e
-      ∙ widened (concat (take f cs)) front x back (concat (drop t cs))
-      ∙ ap (λ bs. (bs ++ x) ++ (back ++ concat (drop t cs))) g
-      ∙ ap (λ bs. (concat (take i cs) ++ x) ++ bs) h;
-  each = each;
-}
-
 -- a chunk further on is not before it
 shorter : (m n : ℕ) (cs : List (List ℕ)) → m ≤ n → length (concat (take m cs)) ≤ length (concat (take n cs))
 shorter m n cs h = subst (λ xs. length (concat xs) ≤ length (concat (take n cs))) (take-take m n cs h) (front-short m (take n cs))
@@ -84,16 +72,6 @@ pub replaced_all : (cs : List (List ℕ)) (s e i j r q : ℕ) (c d x front back 
 replaced_all cs s e i j r q c d x front back whole a b f g h =
     ap (λ bs. text_with i (j + 1) bs cs) (h ∙ ap (λ t. (t ++ x) ++ back) f ∙ ap (λ t. (take r c ++ x) ++ t) g)
     ∙ replaced_is cs s e i j r q c d x a b
-
-pub replaced_none : (s e : ℕ) (x : List ℕ) (cs : List (List ℕ)) → cs ≡ [] → text_with 0 0 x cs ≡ splice_list s e x (concat cs)
-replaced_none s e x cs none =
-    let front : take s (concat cs) ≡ [] = rw none (take_all s [] (omega arith)) in
-    let back : drop e (concat cs) ≡ [] = rw none (drop_all e [] (omega arith)) in
-    rw (front, back, none) refl
-
-pub replaced_short : (s e : ℕ) (x bs : List ℕ) → s ≤ e → e ≤ length bs → length bs + length x ≤ 2 ^ 40 + (e - s) → length (splice_list s e x bs) ≤ 2 ^ 40
-replaced_short s e x bs order within few =
-    omega (arith, length-append (take s bs ++ x) (drop e bs), length-append (take s bs) x, length-take s bs, length-drop e bs, order, within, few)
 
 -- the chunks up to an offset, and from it on
 pub front_is : (cs fs : List (List ℕ)) (o i : ℕ) (c : List ℕ) (r : ℕ) → IsSpot cs o i c r → fs ≡ take (i + 1) cs → text_with i (i + 1) (take r c) fs ≡ take o (concat cs)

@@ -3,9 +3,8 @@ use Rattle.std.specs.Prelude.{slice_get}
 use Rattle.std.proofs.Common.{◌≡◌, ℕ, zero, suc, ◌+◌, ◌-◌, ◌^◌, ◌<◌, ◌≤◌, Option, Some, None, List, [], ◌∷◌, ◌++◌, length, take, drop, refl, ap, sym, subst, ◌∙◌, arith, append_assoc, length-append, ⊎_elim}
 use Rattle.std.specs.List.{All, concat}
 use Rattle.std.proofs.lemmas.List.{append-nil, drop_all, take_all, take_more}
-use Rattle.std.proofs.lemmas.List.Elements.{All-append, All-take, All-drop, All-push, All-nil}
+use Rattle.std.proofs.lemmas.List.Elements.{All-append, All-drop, All-head, All-nil, All-push, All-tail, All-take}
 use Rattle.std.proofs.lemmas.Str.{IsUtf8-append}
-use Rattle.std.proofs.lemmas.Bool.{cases_lt}
 use Rattle.std.proofs.lemmas.Option.{slice_get_within, get_or_from_slice_get, slice_get-get_or}
 use Rattle.sum_tree.specs.Laws.{fold}
 use Rattle.sum_tree.specs.Spliced.{splice_list}
@@ -13,12 +12,12 @@ use Rattle.text_dims.specs.Summaries.{summary_of, text_sum, no_text, TextFits}
 use Rattle.text_dims.proofs.Characters.{text_fits}
 use Rattle.rope_chunks.specs.Chunks.{IsChunk, AreChunks}
 use Rattle.std.proofs.lemmas.List.Folds.{concat-append}
-use Rattle.rope_chunks.proofs.Texts.{each_head, each_tail, concat-push, fold_is}
+use Rattle.rope_chunks.proofs.Texts.{concat-push, fold_is}
 
 few_chunks : (cs : List (List ℕ)) → All IsChunk cs → length cs ≤ length (concat cs)
 few_chunks [] a = omega arith
 few_chunks (c ∷ cs) a =
-    omega (arith, few_chunks cs (each_tail IsChunk c cs a), (each_head IsChunk c cs a).some, length-append c (concat cs))
+    omega (arith, few_chunks cs (All-tail IsChunk c cs a), (All-head IsChunk c cs a).some, length-append c (concat cs))
 
 pub are_short : (cs : List (List ℕ)) → AreChunks cs → length cs ≤ 2 ^ 40
 are_short cs a = omega (arith, few_chunks cs a.each, a.few)
@@ -70,10 +69,6 @@ grown_is from n ys xs old text v a e h t f = record {
   text = t ∙ ap (λ bs. bs ++ text) v;
   few = omega (arith, length-append old text);
 }
-
--- the chunks of a text
-pub are_cut : (cs : List (List ℕ)) (rest text : List ℕ) → concat cs ++ rest ≡ text → All IsChunk cs → length text ≤ 2 ^ 40 → AreChunks cs
-are_cut cs rest text e each few = record { each = each; few = omega (arith, few, ap length e, length-append (concat cs) rest) }
 
 -- a rope behind another
 pub are_beside : (cs ds : List (List ℕ)) → All IsChunk cs → All IsChunk ds → length (concat cs) + length (concat ds) ≤ 2 ^ 40 → AreChunks (cs ++ ds)
@@ -136,16 +131,10 @@ pub concat-more : (cs : List (List ℕ)) (i : ℕ) (c : List ℕ) → slice_get 
 concat-more cs i c h =
     ap concat (take_more cs i c (slice_get_within cs i c h) ∙ ap (λ d. take i cs ++ d ∷ []) (get_or_from_slice_get cs i c c h)) ∙ concat-push (take i cs) c
 
-pub get_some : (cs : List (List ℕ)) (i : ℕ) → i < length cs → slice_get cs i ≡ None → ⊥
-get_some cs i h e = some_none _ (slice_get cs i) (slice_get-get_or cs i [] h) e
-
 pub get_drop : (cs : List (List ℕ)) (i : ℕ) (c : List ℕ) → slice_get cs i ≡ Some c → drop i cs ≡ c ∷ drop (i + 1) cs
 get_drop [] i c h = absurd (let g : None ≡ Some c = h in cc)
 get_drop (d ∷ cs) zero c h = let e : d ≡ c = cc in ap (λ x. x ∷ cs) e
 get_drop (d ∷ cs) (suc i) c h = let more : suc i + 1 ≡ suc (i + 1) = omega arith in rw more (get_drop cs i c h)
-
-pub none_drop : (cs : List (List ℕ)) (i : ℕ) → slice_get cs i ≡ None → drop i cs ≡ []
-none_drop cs i h = ⊎_elim (λ (l : i < length cs). absurd (get_some cs i l h)) (λ (l : length cs ≤ i). drop_all i cs l) (cases_lt i (length cs))
 
 -- a block of chunks, put behind others, and the rest of the text
 pub block_beside : (cs ds : List (List ℕ)) (text rest : List ℕ) → concat ds ++ rest ≡ text → length (concat cs) + length text ≤ 2 ^ 40 → All IsChunk cs → All IsChunk ds → AreChunks (cs ++ ds)

@@ -6,6 +6,7 @@ use Rattle.std.specs.Str.{IsUtf8}
 use Rattle.std.proofs.lemmas.Bool.{and_right}
 use Rattle.std.proofs.lemmas.Bool.Decides.{nat_tests}
 use Rattle.std.proofs.lemmas.List.{append-nil}
+use Rattle.std.proofs.lemmas.List.Elements.{All-tail}
 use Rattle.std.proofs.lemmas.Str.{IsCharBoundary-start}
 use Rattle.tree_cursor.specs.Places.{place_behind, seek_count}
 use Rattle.text_dims.specs.declared.places.Place.{Place}
@@ -21,7 +22,7 @@ use Rattle.rope_chunks.specs.At.{IsLater, IsWithin, RowAndColumn, PlaceAndTextFi
 use Rattle.text_dims.specs.Monoid.{summary-nil}
 use Rattle.rope_chunks.specs.Chunks.{IsChunk, AreChunks}
 use Rattle.rope_chunks.specs.Stops.{stop, pick_place, HasRoom}
-use Rattle.rope_chunks.proofs.Texts.{concat-utf8, each_tail, fold_is}
+use Rattle.rope_chunks.proofs.Texts.{concat-utf8, fold_is}
 
 -- the text is empty, or begins with a character
 abbrev pub Begins : List ℕ → Type 0
@@ -154,7 +155,7 @@ pub stop-chunks : (p : Place → Bool) → Stays p → (a : Place) (cs : List (L
 stop-chunks p s a [] h = refl
 stop-chunks p s a (c ∷ cs) h =
     let e = place_sum a (summary_end (summary_of c)) in
-    let tail = each_tail IsChunk c cs h in
+    let tail = All-tail IsChunk c cs h in
     found_by p s a c cs (Begins-utf8 (concat cs) (concat-utf8 cs tail)) e refl (chunk_end a c) (p e) refl (stop-chunks p s e cs tail)
 
 behind-is : (bs : List ℕ) (cs : List (List ℕ)) → place_behind moved_by summary_of (end_place bs) cs ≡ end_place (bs ++ concat cs)

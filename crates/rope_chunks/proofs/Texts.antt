@@ -1,5 +1,5 @@
 -- A rope's chunks and its text.
-use Rattle.std.proofs.Common.{◌≡◌, ℕ, ◌<◌, ◌≤◌, List, [], ◌∷◌, ◌++◌, length, suc, ap, sym, subst, ◌∙◌, arith, append_assoc, ⊎_elim}
+use Rattle.std.proofs.Common.{◌≡◌, ℕ, ◌<◌, ◌≤◌, List, [], ◌∷◌, ◌++◌, length, ap, sym, subst, ◌∙◌, arith, append_assoc, ⊎_elim}
 use Rattle.std.specs.List.{All, concat}
 use Rattle.std.specs.Str.{IsUtf8, IsCharBoundary}
 use Rattle.std.specs.Char.{len_utf8}
@@ -7,6 +7,7 @@ use lib.Utf8.{encodes}
 use Rattle.std.proofs.lemmas.Bool.{cases_lt}
 use Rattle.std.proofs.lemmas.Str.{IsUtf8-nil, IsUtf8-append, IsCharBoundary-past_char, len_utf8_bounds}
 use Rattle.std.proofs.lemmas.List.{append-nil}
+use Rattle.std.proofs.lemmas.List.Elements.{All-head, All-tail}
 use Rattle.std.proofs.lemmas.List.Folds.{concat-append}
 use Rattle.sum_tree.specs.Laws.{fold}
 use Rattle.text_dims.specs.Summaries.{summary_of, text_sum, no_text}
@@ -14,15 +15,9 @@ use Rattle.text_dims.specs.Concat.{summary-append}
 use Rattle.text_dims.specs.Monoid.{summary-nil}
 use Rattle.rope_chunks.specs.Chunks.{IsChunk}
 
-pub each_head : (P : List ℕ → Type 0) (c : List ℕ) (cs : List (List ℕ)) → All P (c ∷ cs) → P c
-each_head P c cs a = a 0 c (omega arith)
-
-pub each_tail : (P : List ℕ → Type 0) (c : List ℕ) (cs : List (List ℕ)) → All P (c ∷ cs) → All P cs
-each_tail P c cs a = λ k d h. a (suc k) d (omega arith)
-
 pub concat-utf8 : (cs : List (List ℕ)) → All IsChunk cs → IsUtf8 (concat cs)
 concat-utf8 [] a = IsUtf8-nil
-concat-utf8 (c ∷ cs) a = IsUtf8-append c (concat cs) (each_head IsChunk c cs a).text (concat-utf8 cs (each_tail IsChunk c cs a))
+concat-utf8 (c ∷ cs) a = IsUtf8-append c (concat cs) (All-head IsChunk c cs a).text (concat-utf8 cs (All-tail IsChunk c cs a))
 
 pub fold_from : (bs : List ℕ) (cs : List (List ℕ)) → fold (summary_of bs) text_sum summary_of cs ≡ summary_of (bs ++ concat cs)
 fold_from bs [] = ap summary_of (sym (append-nil bs))

@@ -3,6 +3,7 @@ use Rattle.std.specs.Prelude.{◌≡◌, ℕ, ◌+◌, ◌^◌, ◌<◌, ◌≤�
 use Rattle.std.proofs.Common.{arith, eqb, sym, ap, subst, ◌∙◌, add_assoc}
 use Rattle.std.proofs.lemmas.Bool.{eqb-true}
 use Rattle.std.proofs.lemmas.Bool.Decides.{nat_tests}
+use Rattle.std.proofs.lemmas.Option.{same_Some}
 use Rattle.tree_cursor.specs.Places.{DimensionLaws}
 use Rattle.text_dims.specs.declared.places.Place.{Place}
 use Rattle.text_dims.specs.declared.summary.TextSummary.{TextSummary}
@@ -39,9 +40,6 @@ pub record PlaceAndTextFit (a : Place) (s : TextSummary) : Type 0 where
   pub offset : a.offset + s.len < 2 ^ 64
   pub utf16 : a.utf16 + s.len_utf16 < 2 ^ 64
   pub row : a.row + s.lines.row < 2 ^ 64
-
-some_same : {X : Type 0} (x y : X) → Some x ≡ Some y → y ≡ x
-some_same x y e = cc
 
 plus_none : (n : ℕ) → n + 0 ≡ n
 plus_none n = omega arith
@@ -123,10 +121,10 @@ back p r a b t u f e =
 
 pub place_laws : DimensionLaws no_text text_sum IsOfText IsOfText IsLater moved_by PlaceAndTextFit
 place_laws = record {
-  nothing = λ p q e. some_same (place_sum p (summary_end no_text)) q e ∙ past_nothing p;
+  nothing = λ p q e. sym (same_Some (place_sum p (summary_end no_text)) q e) ∙ past_nothing p;
   parts = λ p q a b t u e. parts p q a b e;
   one = λ p a t s f. (place_sum p (summary_end a), refl);
-  forward = λ p q a t e. subst (λ k. IsLater p k) (sym (some_same (place_sum p (summary_end a)) q e)) (past_later p (summary_end a));
+  forward = λ p q a t e. subst (λ k. IsLater p k) (same_Some (place_sum p (summary_end a)) q e) (past_later p (summary_end a));
   fits_front = λ p a b t u f. front p a b t f;
-  fits_back = λ p r a b t u f e. back p r a b t u f (some_same (place_sum p (summary_end a)) r e);
+  fits_back = λ p r a b t u f e. back p r a b t u f (sym (same_Some (place_sum p (summary_end a)) r e));
 }

@@ -1,34 +1,23 @@
 -- Pieces without a fault stand in order on boundaries, and how long the text is that they make.
-use Rattle.std.proofs.Common.{◌≡◌, ℕ, suc, ◌+◌, ◌-◌, ◌<◌, ◌≤◌, List, [], ◌∷◌, ◌++◌, length, drop, refl, ◌∙◌, arith, Bool, true, false, cond, ◌&&◌, ◌||◌, Option, None, Some, option_map, nat_lt, length-append, length-drop}
+use Rattle.std.proofs.Common.{◌≡◌, ℕ, suc, ◌+◌, ◌-◌, ◌<◌, ◌≤◌, List, [], ◌∷◌, ◌++◌, length, drop, ◌∙◌, arith, false, ◌&&◌, ◌||◌, None, option_map, nat_lt, length-append, length-drop}
 use Rattle.std.proofs.lemmas.Bool.{and_parts, ltb-false, not-false}
 use Rattle.std.proofs.lemmas.List.{length-take-le}
-use Rattle.std.specs.List.{AllByRecursion, position}
+use Rattle.std.specs.List.{AllByRecursion, position, slice_range}
 use Rattle.std.proofs.lemmas.Str.{IsCharBoundary-start}
-use Rattle.std.specs.List.{slice_range}
 use Rattle.std.specs.Str.{IsCharBoundary, IsUtf8}
 use Rattle.op_model.specs.declared.operation.Piece.{Piece}
 use Rattle.op_model.specs.declared.faults.EditFault.TheVariants.{Reversed, Overlap, PastEnd, InsideChar}
-use Rattle.op_model.specs.Choice.{first_of}
 use Rattle.op_model.specs.Operations.{text_total}
 use Rattle.op_model.specs.Edits.{is_boundary, is_reversed, is_past, is_inside, overlap_from, replaced_from, piece_fault}
 use Rattle.rope_edits.specs.Fit.{AreFit}
 use Rattle.op_model.proofs.texts.WholeTexts.{boundary_of}
-use Rattle.op_model.proofs.answers.Passed.{map_none, position_none}
-
-pub all_none : {A : Type 0} (os : List (Option A)) → first_of os ≡ None → AllByRecursion (λ o. o ≡ None) os
-all_none [] h = tt
-all_none (None ∷ os) h = (refl, all_none os h)
-all_none (Some x ∷ os) h = cc
-
-in_order : (b : Bool) (i : ℕ) (o : Option ℕ) → cond b (Some i) o ≡ None → (b ≡ false) × (o ≡ None)
-in_order true i o h = cc
-in_order false i o h = (refl, h)
+use Rattle.op_model.proofs.answers.Passed.{all_none, if_some, map_none, position_none}
 
 fits : (at i : ℕ) (ps : List Piece) (text : List ℕ) → IsCharBoundary text at → AllByRecursion (λ p. is_reversed p ≡ false) ps → overlap_from at i ps ≡ None → AllByRecursion (λ p. is_inside text p ≡ false) ps → AreFit at ps text
 fits at i [] text h r o b = h
 fits at i (p ∷ ps) text h r o b =
     let n = and_parts (is_boundary text p.start) (is_boundary text p.end) (not-false (is_boundary text p.start && is_boundary text p.end) b.0) in
-    let k = in_order (nat_lt p.start at) i (overlap_from p.end (suc i) ps) o in
+    let k = if_some (nat_lt p.start at) i (overlap_from p.end (suc i) ps) o in
     (h, ltb-false _ _ k.0, boundary_of text p.start n.0, ltb-false _ _ r.0, fits p.end (suc i) ps text (boundary_of text p.end n.1) r.1 k.1 b.1)
 
 -- the new text is no longer than the old and the new texts together

@@ -10,8 +10,8 @@ use Rattle.op_model.specs.Operations.{text_total}
 use Rattle.op_model.specs.Shown.{texts}
 use Rattle.remote_edit.specs.declared.moves.Move.{Move}
 use Rattle.remote_edit.specs.declared.moves.Move.TheVariants.{Visible, Hidden, Hide, Show, Insert}
-use Rattle.remote_edit.specs.Moves.{Texts, texts_of, followed_by, after_moves}
-use Rattle.rope_edits.specs.Sides.{SideState, SidesState, side_len, sides_len, after_move, outcome, MayTake}
+use Rattle.remote_edit.specs.Moves.{Texts, followed_by, after_moves}
+use Rattle.rope_edits.specs.Sides.{SideState, SidesState, sides_len, after_move, outcome, MayTake}
 use Rattle.remote_edit.proofs.Joining.{twice}
 
 -- ---- one rope
@@ -61,10 +61,6 @@ parts_at rope a b made e l u = record {
   back = ap (drop made) e ∙ drop_at a b made (sym l);
 }
 
--- what is made and what is left are as long as the rope
-pub rope_len : (rope : List ℕ) (made : ℕ) → side_len (record { made = take made rope; left = drop made rope }) ≡ length rope
-rope_len rope made = sym (length-append (take made rope) (drop made rope)) ∙ ap length (take-append-drop made rope)
-
 abbrev side_of : List ℕ → List ℕ → SideState
 side_of a x = record { made = a; left = x }
 
@@ -76,13 +72,6 @@ pub parts_without : (rope next : List ℕ) (made n end : ℕ) → IsUtf8 rope �
 parts_without rope next made n end u h s e =
     parts_at next (take made rope) (drop n (drop made rope)) made (e ∙ ap (λ z. z ++ drop end rope) (append-nil (take made rope)) ∙ ap (λ z. take made rope ++ z) s.back)
     (sym (length-take-le made rope h.0)) (subst IsUtf8 s.back (IsUtf8-drop rope end u s.boundary))
-
--- what a text makes of a rope that comes
-pub parts_with : (rope next text : List ℕ) (made end : ℕ) → IsUtf8 rope → IsCharBoundary rope made → next ≡ (take made rope ++ text) ++ drop made rope → end ≡ made + length text → Parts next (take made rope ++ text) (drop made rope) end
-parts_with rope next text made end u h e l =
-    let a : length (take made rope) ≡ made = length-take-le made rope h.0 in
-    let b : length (take made rope ++ text) ≡ length (take made rope) + length text = length-append (take made rope) text in
-    parts_at next (take made rope ++ text) (drop made rope) end e (omega (arith, a, b, l)) (IsUtf8-drop rope made u h)
 
 -- ---- moves
 
@@ -98,13 +87,6 @@ outcome_step (Hidden k) ms s = to_hidden s.shown.made s.hidden.made (take k s.hi
 outcome_step (Hide k) ms s = to_hidden s.shown.made s.hidden.made (take k s.shown.left) (after_moves ms (drop k s.shown.left) s.hidden.left s.fresh)
 outcome_step (Show k) ms s = to_shown s.shown.made s.hidden.made (take k s.hidden.left) (after_moves ms s.shown.left (drop k s.hidden.left) s.fresh)
 outcome_step (Insert k) ms s = to_shown s.shown.made s.hidden.made (take k s.fresh) (after_moves ms s.shown.left s.hidden.left (drop k s.fresh))
-
-pub takes_first : (m : Move) (ms : List Move) (s : SidesState) → MayTake s (m ∷ ms) → MayTake s (m ∷ [])
-takes_first (Visible k) ms s h = (h.0, tt)
-takes_first (Hidden k) ms s h = (h.0, tt)
-takes_first (Hide k) ms s h = (h.0, tt)
-takes_first (Show k) ms s h = (h.0, tt)
-takes_first (Insert k) ms s h = (h.0, tt)
 
 pub takes_rest : (m : Move) (ms : List Move) (s : SidesState) → MayTake s (m ∷ ms) → MayTake (after_move m s) ms
 takes_rest (Visible k) ms s h = h.1
@@ -122,9 +104,6 @@ same_len (Hidden k) s = omega (arith, length-append s.hidden.made (take k s.hidd
 same_len (Hide k) s = omega (arith, length-append s.hidden.made (take k s.shown.left), cut_len k s.shown.left)
 same_len (Show k) s = omega (arith, length-append s.shown.made (take k s.hidden.left), cut_len k s.hidden.left)
 same_len (Insert k) s = omega (arith, length-append s.shown.made (take k s.fresh), cut_len k s.fresh)
-
-pub outcome_end : (s : SidesState) → outcome s [] ≡ texts_of s.shown.made s.hidden.made
-outcome_end s = ap (λ z. texts_of z (s.hidden.made ++ [])) (append-nil s.shown.made) ∙ ap (λ z. texts_of s.shown.made z) (append-nil s.hidden.made)
 
 -- the front of a text up to n of its bytes, or all of them, is whole where these are
 cut_take : (text : List ℕ) (n len : ℕ) → len ≡ min (length text) n → take len text ≡ take n text

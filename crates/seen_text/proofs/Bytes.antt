@@ -8,7 +8,7 @@ use Rattle.lamport_clock.specs.Versions.{Entries, sees}
 use Rattle.op_model.specs.Histories.{History, newest_first, seen_history}
 use Rattle.op_model.specs.Cells.{Cell, PathCell, cells, seq, seq_where, everything}
 use Rattle.op_model.specs.Shown.{full, full_where}
-use Rattle.op_model.specs.Facts.{Fact, cell_facts, alike}
+use Rattle.op_model.specs.Facts.{Fact, cell_facts}
 use Rattle.op_model.specs.Lawful.{Lawful, IsClosed}
 use Rattle.op_model.proofs.order.Restricted.{restrict}
 use Rattle.op_model.proofs.shown.Bytes.{full_seen}
@@ -20,6 +20,7 @@ use Rattle.fragments.specs.Stand.{runs, Tell}
 use Rattle.fragments.specs.Laws.{shown_len}
 use Rattle.remote_edit.specs.Walk.{seen_bytes}
 use Rattle.remote_edit.specs.Carried.{cell_bytes, shown_bytes, hidden_bytes, hidden_len}
+use Rattle.remote_edit.proofs.WholeFragments.{alike_bytes}
 use Rattle.remote_edit.proofs.Carrying.{bytes_of, long, shown_first, hidden_first, shown_append, hidden_append, shown_long, hidden_long}
 
 -- ---- what a closed version sees of a history
@@ -44,16 +45,12 @@ module _ (byte : Cell → ℕ) where
   nth t k (suc n) zero s h = let e : k ≡ k + 0 = omega arith in ap (λ (j : ℕ). byte (record { stamp = t; k = j })) e
   nth t k (suc n) (suc d) s h = let e : suc k + d ≡ k + suc d = omega arith in nth t (suc k) n d s (omega (arith, h)) ∙ ap (λ (j : ℕ). byte (record { stamp = t; k = j })) e
 
-  alike_bytes : (t : Lamport) (k n : ℕ) (b : Bool) (d : List Lamport) → bytes byte (alike t k n b d) ≡ cell_bytes byte t k n
-  alike_bytes t k zero b d = refl
-  alike_bytes t k (suc n) b d = ap (λ (z : List ℕ). byte (record { stamp = t; k = k }) ∷ z) (alike_bytes t (suc k) n b d)
-
   module _ (v : Entries) where
     abbrev pub seen_in : List Fragment → List ℕ
     seen_in fs = kept_bytes byte (sees v) (runs fs)
 
     seen_first : (f : Fragment) (fs : List Fragment) → seen_in (f ∷ fs) ≡ cond (sees v f.stamp) (bytes_of byte f ++ seen_in fs) (seen_in fs)
-    seen_first f fs = ap (λ (z : List ℕ). cond (sees v f.stamp) (z ++ seen_in fs) (seen_in fs)) (alike_bytes f.stamp f.offset f.len f.visible f.deletions)
+    seen_first f fs = ap (λ (z : List ℕ). cond (sees v f.stamp) (z ++ seen_in fs) (seen_in fs)) (alike_bytes byte f.stamp f.offset f.len f.visible f.deletions)
 
     pub seen_in_append : (xs ys : List Fragment) → seen_in (xs ++ ys) ≡ seen_in xs ++ seen_in ys
     seen_in_append [] ys = refl

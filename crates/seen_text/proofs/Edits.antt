@@ -1,9 +1,8 @@
 -- A character begins with a cell where one begins with it among the bytes of its edit.
-use Rattle.std.proofs.Common.{◌≡◌, ℕ, zero, suc, ◌<◌, List, [], ◌∷◌, length, map, get_or, refl, ap, ◌∙◌, arith, inl, inr, Some}
-use Rattle.std.specs.List.{slice_get}
-use Rattle.op_model.specs.Sorted.{Member}
+use Rattle.std.proofs.Common.{◌≡◌, ℕ, ◌<◌, List, [], ◌∷◌, length, map, get_or, refl, ap, ◌∙◌, arith}
+use Rattle.op_model.proofs.Elements.{member_at}
 use Rattle.op_model.specs.Histories.{History}
-use Rattle.op_model.specs.Cells.{Cell, seq, cells}
+use Rattle.op_model.specs.Cells.{seq, cells}
 use Rattle.op_model.specs.Shown.{full, full_where, new_bytes}
 use Rattle.op_model.proofs.answers.Good.{lawful_ready}
 use Rattle.op_model.proofs.order.CellsOnce.{all_cells}
@@ -11,11 +10,6 @@ use Rattle.op_model.proofs.texts.WholeTexts.{byte_of, same_byte}
 use Rattle.op_model.proofs.texts.WholeRuns.{byte_new}
 use Rattle.seen_text.specs.Laws.{CellsBeginAsInTheirEdits}
 use Rattle.op_model.proofs.anchors.KnownAnchors.{got_map}
-
-member_at : (s : List Cell) (i : ℕ) (c : Cell) → slice_get s i ≡ Some c → Member c s
-member_at [] i c e = cc
-member_at (x ∷ s) zero c e = let f : c ≡ x = cc in inl f
-member_at (x ∷ s) (suc i) c e = inr (member_at s i c e)
 
 full_cells : (h : History) → full h ≡ map (byte_of h) (cells (seq h))
 unfolding full full_where seq

@@ -1,5 +1,5 @@
 -- Where the first line of a text ends.
-use Rattle.std.proofs.Common.{◌≡◌, ℕ, suc, ◌+◌, ◌-◌, ◌<◌, ◌≤◌, List, [], ◌∷◌, length, take, drop, refl, subst, sym, ap, ◌∙◌, arith, cond, Bool, true, false, not, ◌==◌, length-drop, add-one, None, Some, nat_lt}
+use Rattle.std.proofs.Common.{◌≡◌, ℕ, suc, ◌+◌, ◌-◌, ◌<◌, ◌≤◌, List, [], ◌∷◌, length, take, drop, refl, subst, sym, ap, ◌∙◌, arith, cond, Bool, true, false, not, ◌==◌, add-one, None, Some, nat_lt}
 use Rattle.std.proofs.lemmas.Bool.{ltb-false}
 use Rattle.std.proofs.lemmas.List.Sums.{prefix_len-le-length, sum_by-cons}
 use Rattle.std.proofs.lemmas.List.{take_all, drop_all}
@@ -30,9 +30,6 @@ cut_here text rest n e h r = rw (r, e, add-one) (first_cut text h)
 
 pub whole_line : (text : List ℕ) (n : ℕ) → n ≡ position_or_len (λ b. b == 10) text → 0 < length text → length text ≤ n → lines_of text ≡ text ∷ []
 whole_line text n e h le = cut_here text [] n e h (sym (drop_all (n + 1) text (omega arith))) ∙ ap (λ l. l ∷ []) (take_all n text le)
-
-pub behind : (text : List ℕ) (i : ℕ) → take (length text - i) (drop i text) ≡ drop i text
-behind text i = take_all _ _ (omega (arith, length-drop i text))
 
 -- ---- how many lines there are
 

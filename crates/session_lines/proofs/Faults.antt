@@ -1,7 +1,7 @@
 -- Which faults the reading of a text has.
 use Rattle.std.proofs.Common.{◌≡◌, ℕ, ◌+◌, ◌<◌, ◌≤◌, Bool, true, false, cond, nat_lt, List, [], ◌∷◌, ◌++◌, length, Result, Ok, Err, refl, ap, subst, arith}
 use Rattle.std.specs.Prelude.{⊤}
-use Rattle.std.proofs.lemmas.Bool.{lt-ltb, le-ltb, ltb-true}
+use Rattle.std.proofs.lemmas.Bool.{lt-ltb, ltb-true}
 use Rattle.session_lines.specs.Cut.{lines_of}
 use Rattle.session_lines.specs.Session.{then_from, with_header, rest_of, header_of, line_of, session_of, session_of_text, lines_limit}
 use Rattle.session_lines.specs.declared.header.Header.{Header as FirstLine}
@@ -17,10 +17,6 @@ use Rattle.session_lines.specs.declared.fault.DecodeFault.TheVariants.{Lines, Ba
 pub session_of_many : (input : List ℕ) → lines_limit < length (lines_of input) → session_of_text input ≡ Err (Lines (length (lines_of input)))
 unfolding session_of_text
 session_of_many input h = ap (λ b. cond b (Err (Lines (length (lines_of input)))) (session_of (lines_of input))) (lt-ltb lines_limit (length (lines_of input)) h)
-
-pub session_of_few : (input : List ℕ) → length (lines_of input) ≤ lines_limit → session_of_text input ≡ session_of (lines_of input)
-unfolding session_of_text
-session_of_few input h = ap (λ b. cond b (Err (Lines (length (lines_of input)))) (session_of (lines_of input))) (le-ltb lines_limit (length (lines_of input)) h)
 
 -- a text without a byte has no line
 pub session_of_nothing : (input : List ℕ) → length input ≡ 0 → (session_of_text input ≡ Err (Bad 1 Header)) × (length (lines_of input) ≡ 0)

@@ -3,7 +3,7 @@ use Rattle.op_model.specs.Operations.{last_replica}
 use Rattle.op_model.specs.Domains.{IsReplica}
 use Rattle.std.proofs.Common.{◌≡◌, ℕ, suc, ◌≤◌, Bool, true, false, cond, ◌&&◌, ◌==◌, nat_le, List, [], ◌∷◌, length, get_or, Option, Some, None, option_map, option_and_then, Result, Ok, Err, refl, subst, arith}
 use Rattle.std.specs.Prelude.{⊤, codes, ok_or}
-use Rattle.std.specs.List.{All, list_all, onto_first}
+use Rattle.std.specs.List.{All, AllByRecursion, list_all, onto_first}
 use Rattle.std.specs.Str.{is_utf8}
 use Rattle.std.proofs.lemmas.Bool.{and_parts, leb-true}
 use Rattle.std.proofs.lemmas.List.Sums.{AllPass-from_list_all}
@@ -26,8 +26,7 @@ use Rattle.session_lines.proofs.Strings.{AtMost, ItemsOf, MembersOf, IsShortStri
 -- ---- the members of a line
 
 abbrev AreShortMembers : ℕ → List Data → Type 0
-AreShortMembers n [] = ⊤
-AreShortMembers n (d ∷ ds) = IsShortString n d × AreShortMembers n ds
+AreShortMembers n ds = AllByRecursion (IsShortString n) ds
 
 of_list : (n : ℕ) (ds : Items) → AreShortStrings n ds → AreShortMembers n (list_of ds)
 of_list n no_items h = tt

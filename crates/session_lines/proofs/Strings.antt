@@ -2,6 +2,7 @@
 use Rattle.std.proofs.Common.{◌≡◌, ℕ, suc, ◌+◌, ◌≤◌, Bool, true, false, cond, ◌&&◌, ◌==◌, nat_lt, List, [], ◌∷◌, ◌++◌, length, Option, Some, None, option_map, option_and_then, refl, ◌∙◌, subst, arith, append-nil}
 use Rattle.std.proofs.lemmas.List.{length-append}
 use Rattle.std.specs.Prelude.{⊤}
+use Rattle.std.specs.List.{AllByRecursion}
 use Rattle.std.specs.Char.{encode_utf8}
 use Rattle.json.specs.Text.{code_unit, short_escape, is_high_surrogate, is_low_surrogate, surrogate_pair, Within, plain, after_backslash, after_u, after_high, prepend, content}
 use Rattle.json.specs.Token.{Token}
@@ -13,6 +14,7 @@ use Rattle.json.proofs.Unique.Spelling.{value-json_tokens_back}
 use Rattle.serde_json.specs.Data.{Data, number, array, object, Items, no_items, item, no_members}
 use Rattle.serde_json.specs.Find.{as_str, as_array}
 use Rattle.serde_json.specs.Read.{read, of_json, of_items, of_members, number_of, max_depth}
+use Rattle.op_model.proofs.Elements.{each_left, each_right}
 
 -- ---- the content of a string
 
@@ -87,16 +89,7 @@ IsShort n Token.null = ⊤
 IsShort n Token.bad = ⊤
 
 abbrev AreShort : ℕ → List Token → Type 0
-AreShort n [] = ⊤
-AreShort n (t ∷ ts) = IsShort n t × AreShort n ts
-
-left_short : (n : ℕ) (ts us : List Token) → AreShort n (ts ++ us) → AreShort n ts
-left_short n [] us h = tt
-left_short n (t ∷ ts) us h = (h.0, left_short n ts us h.1)
-
-right_short : (n : ℕ) (ts us : List Token) → AreShort n (ts ++ us) → AreShort n us
-right_short n [] us h = h
-right_short n (t ∷ ts) us h = right_short n ts us h.1
+AreShort n ts = AllByRecursion (IsShort n) ts
 
 either : (n : ℕ) (b : Bool) (t u : Token) → IsShort n t → IsShort n u → IsShort n (cond b t u)
 either n true t u p q = p
@@ -124,8 +117,7 @@ IsShortLexeme n comma = ⊤
 IsShortLexeme n colon = ⊤
 
 abbrev AreShortLexemes : ℕ → List Lexeme → Type 0
-AreShortLexemes n [] = ⊤
-AreShortLexemes n (l ∷ ls) = IsShortLexeme n l × AreShortLexemes n ls
+AreShortLexemes n ls = AllByRecursion (IsShortLexeme n) ls
 
 either_lexeme : (n : ℕ) (b : Bool) (k l : Lexeme) → IsShortLexeme n k → IsShortLexeme n l → IsShortLexeme n (cond b k l)
 either_lexeme n true k l p q = p
@@ -238,7 +230,7 @@ one_more n (Some d) (Some ds) h g = (h, g)
 of_items-short : (n : ℕ) (js : json.Items) → AreShort n (items_tokens js) → ItemsOf n (of_items js)
 of_items-short n json.no_items h = tt
 of_items-short n (json.item j js) h =
-    one_more n (of_json j) (of_items js) (of_json-short n j (left_short n (json_tokens j) (items_tokens js) h)) (of_items-short n js (right_short n (json_tokens j) (items_tokens js) h))
+    one_more n (of_json j) (of_items js) (of_json-short n j (each_left (IsShort n) (json_tokens j) (items_tokens js) h)) (of_items-short n js (each_right (IsShort n) (json_tokens j) (items_tokens js) h))
 
 abbrev pub MembersOf : ℕ → Option Data → Type 0
 MembersOf n None = ⊤

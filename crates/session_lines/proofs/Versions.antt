@@ -1,6 +1,7 @@
 -- Versions made of entries in any order: there are as many of them in the version exactly where no id is there twice.
+use Rattle.std.proofs.Math.Bool.{and-true}
 use Rattle.op_model.proofs.Elements.{and_swap}
-use Rattle.std.proofs.Common.{◌≡◌, ℕ, suc, ◌+◌, ◌<◌, ◌≤◌, ◌≢◌, max, List, [], ◌∷◌, ◌++◌, length, map, refl, sym, ap, ◌∙◌, subst, arith, Bool, true, false, cond, eqb, leb, ◌&&◌, ◌==◌, not, Option, None, Some, option_map, option_and_then, inl, inr, take, drop, zero}
+use Rattle.std.proofs.Common.{◌≡◌, ℕ, suc, ◌+◌, ◌<◌, ◌≤◌, ◌≢◌, List, [], ◌∷◌, ◌++◌, length, map, refl, sym, ap, ◌∙◌, subst, arith, Bool, true, false, cond, eqb, leb, ◌&&◌, ◌==◌, not, Option, None, Some, option_map, option_and_then, inl, inr, take, drop, zero}
 use Rattle.std.specs.Prelude.{⊤}
 use Rattle.std.specs.List.{list_all}
 use Rattle.std.proofs.lemmas.List.{take-append-drop}
@@ -10,11 +11,11 @@ use Rattle.lamport_clock.specs.declared.stamp.Lamport.{Lamport}
 use Rattle.lamport_clock.specs.Versions.{Entries, IsVersionFrom, IsVersion, entry, put_entry, raise, join_versions}
 use Rattle.lamport_clock.proofs.Raises.{by_order, by_bound, raise_seen, raise_new, entry-put_at, entry-put_off}
 use Rattle.lamport_clock.proofs.Entries.{IsVersion-put}
-use Rattle.lamport_clock.proofs.Joined.{entry-joined, IsVersion-joined}
 use Rattle.lamport_clock.proofs.Joining.{entry_below}
 use Rattle.serde_json.specs.Data.{Data}
 use Rattle.session_lines.specs.Json.{whole_number, members_of}
-use Rattle.session_lines.specs.Parts.{all_of, id_of_value, clock_value, is_among, are_distinct, entry_with, entry_from, entry_of_value, IsEntry, AreEntries}
+use Rattle.session_lines.specs.Parts.{all_of, id_of_value, clock_value, is_among, are_distinct, entry_with, entry_from, entry_of_value, IsEntry, AreReadEntries}
+use Rattle.lamport_clock.proofs.Associative.{joined_assoc}
 
 -- ---- how many entries a version has with one more
 
@@ -60,7 +61,7 @@ abbrev all_new : Entries → Entries → Bool
 all_new u [] = true
 all_new u (e ∷ es) = (entry u e.0 == 0) && all_new (raise u (record { value = e.1; replica = e.0 })) es
 
-at_most_more : (u es : Entries) → IsVersion u → AreEntries es → length (join_versions u es) ≤ length u + length es
+at_most_more : (u es : Entries) → IsVersion u → AreReadEntries es → length (join_versions u es) ≤ length u + length es
 at_most_more u [] h v = omega arith
 at_most_more u (e ∷ es) h v =
     let ih = at_most_more (raise u (record { value = e.1; replica = e.0 })) es (IsVersion-raise u e h v.0) v.1 in
@@ -69,7 +70,7 @@ at_most_more u (e ∷ es) h v =
     (λ z. let k = length-raise_new u e h positive (omega arith) in omega arith)
     (λ p. let k = length-raise_old u e h p in omega arith)
 
-as_many : (u es : Entries) → IsVersion u → AreEntries es → (length (join_versions u es) == length u + length es) ≡ all_new u es
+as_many : (u es : Entries) → IsVersion u → AreReadEntries es → (length (join_versions u es) == length u + length es) ≡ all_new u es
 as_many u [] h v = eq-eqb (length u) (length u + 0) (omega arith)
 as_many u (e ∷ es) h v =
     let w : Entries = raise u (record { value = e.1; replica = e.0 }) in
@@ -110,7 +111,7 @@ turn true d a = refl
 turn false true a = refl
 turn false false a = refl
 
-all_new-distinct : (u es : Entries) → AreEntries es → all_new u es ≡ (are_distinct (map (λ e. e.0) es) && are_absent u (map (λ e. e.0) es))
+all_new-distinct : (u es : Entries) → AreReadEntries es → all_new u es ≡ (are_distinct (map (λ e. e.0) es) && are_absent u (map (λ e. e.0) es))
 all_new-distinct u [] v = refl
 all_new-distinct u (e ∷ es) v =
     let w : Entries = raise u (record { value = e.1; replica = e.0 }) in
@@ -128,101 +129,35 @@ all_absent : (rs : List ℕ) → are_absent [] rs ≡ true
 all_absent [] = refl
 all_absent (r ∷ rs) = all_absent rs
 
-alone : (b : Bool) → (b && true) ≡ b
-alone true = refl
-alone false = refl
-
 -- as many entries as were taken
-pub length_of_join : (es : Entries) → AreEntries es → (length (join_versions [] es) == length es) ≡ are_distinct (map (λ e. e.0) es)
+pub length_of_join : (es : Entries) → AreReadEntries es → (length (join_versions [] es) == length es) ≡ are_distinct (map (λ e. e.0) es)
 length_of_join es v =
     let none : length es ≡ 0 + length es = omega arith in
-    ap (λ n. length (join_versions [] es) == n) none ∙ as_many [] es tt v ∙ all_new-distinct [] es v ∙ ap (λ b. are_distinct (map (λ e. e.0) es) && b) (all_absent (map (λ e. e.0) es)) ∙ alone (are_distinct (map (λ e. e.0) es))
+    ap (λ n. length (join_versions [] es) == n) none ∙ as_many [] es tt v ∙ all_new-distinct [] es v ∙ ap (λ b. are_distinct (map (λ e. e.0) es) && b) (all_absent (map (λ e. e.0) es)) ∙ and-true (are_distinct (map (λ e. e.0) es))
 
 -- ---- entries taken in two halves
-
--- versions with the same values are the same
-same_values : (n : ℕ) (u v : Entries) → IsVersionFrom n u → IsVersionFrom n v → ((r : ℕ) → entry u r ≡ entry v r) → u ≡ v
-same_values n [] [] a b f = refl
-same_values n [] (e ∷ v) a b f =
-    let at : entry (e ∷ v) e.0 ≡ e.1 = ap (λ c. cond c e.1 (entry v e.0)) (eq-eqb e.0 e.0 refl) in
-    let k = f e.0 in let p = b.2 in absurd (omega arith)
-same_values n (d ∷ u) [] a b f =
-    let at : entry (d ∷ u) d.0 ≡ d.1 = ap (λ c. cond c d.1 (entry u d.0)) (eq-eqb d.0 d.0 refl) in
-    let k = f d.0 in let p = a.2 in absurd (omega arith)
-same_values n (d ∷ u) (e ∷ v) a b f =
-    let at_d : entry (d ∷ u) d.0 ≡ d.1 = ap (λ c. cond c d.1 (entry u d.0)) (eq-eqb d.0 d.0 refl) in
-    let at_e : entry (e ∷ v) e.0 ≡ e.1 = ap (λ c. cond c e.1 (entry v e.0)) (eq-eqb e.0 e.0 refl) in
-    let p = a.2 in
-    let q = b.2 in
-    by_order _ d.0 e.0
-    (λ l. let none = entry_below e.0 (e ∷ v) d.0 (omega arith, b.1, b.2, b.3, b.4) l in let k = f d.0 in absurd (omega arith))
-    (λ same. let at_both : entry (e ∷ v) d.0 ≡ e.1 = ap (entry (e ∷ v)) same ∙ at_e in
-    let first : d ≡ e = (let k = f d.0 in ap (λ x. (x, d.1)) same ∙ ap (λ y. (e.0, y)) (omega arith)) in
-    let rest : u ≡ v = same_values (suc d.0) u v a.4 (subst (λ k. IsVersionFrom (suc k) v) (sym same) b.4) (λ r. by_bound _ r d.0
-    (λ low. entry_below (suc d.0) u r a.4 (omega arith) ∙ sym (entry_below (suc e.0) v r b.4 (omega arith)))
-    (λ high. sym (ap (λ c. cond c d.1 (entry u r)) (ne_eqb d.0 r (λ x. absurd (omega arith)))) ∙ f r ∙ ap (λ c. cond c e.1 (entry v r)) (ne_eqb e.0 r (λ x. absurd (omega arith))))) in
-    ap (λ x. x ∷ u) first ∙ ap (λ w. e ∷ w) rest)
-    (λ g. let none = entry_below d.0 (d ∷ u) e.0 (omega arith, a.1, a.2, a.3, a.4) g in let k = f e.0 in absurd (omega arith))
-
-value-raise_at : (u : Entries) (e : ℕ × ℕ) → entry (raise u (record { value = e.1; replica = e.0 })) e.0 ≡ max (entry u e.0) e.1
-value-raise_at u e = by_bound _ e.1 (entry u e.0)
-    (λ l. ap (λ w. entry w e.0) (raise_seen u (record { value = e.1; replica = e.0 }) l) ∙ omega arith)
-    (λ l. ap (λ w. entry w e.0) (raise_new u (record { value = e.1; replica = e.0 }) l) ∙ entry-put_at u e.0 e.1 ∙ omega arith)
-
-value-raise_off : (u : Entries) (e : ℕ × ℕ) (r : ℕ) → r ≢ e.0 → entry (raise u (record { value = e.1; replica = e.0 })) r ≡ entry u r
-value-raise_off u e r n = by_bound _ e.1 (entry u e.0)
-    (λ l. ap (λ w. entry w r) (raise_seen u (record { value = e.1; replica = e.0 }) l))
-    (λ l. ap (λ w. entry w r) (raise_new u (record { value = e.1; replica = e.0 }) l) ∙ entry-put_off u e.0 e.1 r n)
-
-joined-raise : (u v : Entries) (e : ℕ × ℕ) → IsVersion u → IsVersion v → IsEntry e
-    → join_versions u (raise v (record { value = e.1; replica = e.0 })) ≡ raise (join_versions u v) (record { value = e.1; replica = e.0 })
-joined-raise u v e a b i =
-    let w : Entries = raise v (record { value = e.1; replica = e.0 }) in
-    let raised = IsVersion-raise v e b i in
-    let both = IsVersion-joined 0 u v a b in
-    same_values 0 (join_versions u w) (raise (join_versions u v) (record { value = e.1; replica = e.0 })) (IsVersion-joined 0 u w a raised) (IsVersion-raise (join_versions u v) e both i) (λ r.
-    let left = entry-joined 0 u w r raised in
-    let right = entry-joined 0 u v r b in
-    elim (cases_eq r e.0) [
-      | inl q ↦ subst (λ k. entry (join_versions u w) k ≡ entry (raise (join_versions u v) (record { value = e.1; replica = e.0 })) k) (sym q)
-          (let x = value-raise_at v e in let y = value-raise_at (join_versions u v) e in
-          let l = entry-joined 0 u w e.0 raised in let m = entry-joined 0 u v e.0 b in omega arith)
-      | inr n ↦ let x = value-raise_off v e r n in let y = value-raise_off (join_versions u v) e r n in omega arith
-    ])
-
--- a join with all that was taken takes it one by one
-joined-joined : (u v es : Entries) → IsVersion u → IsVersion v → AreEntries es → join_versions u (join_versions v es) ≡ join_versions (join_versions u v) es
-joined-joined u v [] a b i = refl
-joined-joined u v (e ∷ es) a b i =
-    joined-joined u (raise v (record { value = e.1; replica = e.0 })) es a (IsVersion-raise v e b i.0) i.1 ∙ ap (λ w. join_versions w es) (joined-raise u v e a b i.0)
 
 joined-append : (u xs ys : Entries) → join_versions u (xs ++ ys) ≡ join_versions (join_versions u xs) ys
 joined-append u [] ys = refl
 joined-append u (x ∷ xs) ys = joined-append (raise u (record { value = x.1; replica = x.0 })) xs ys
 
-IsVersion-taken : (u es : Entries) → IsVersion u → AreEntries es → IsVersion (join_versions u es)
-IsVersion-taken u [] a i = a
-IsVersion-taken u (e ∷ es) a i = IsVersion-taken (raise u (record { value = e.1; replica = e.0 })) es (IsVersion-raise u e a i.0) i.1
-
-entries_take : (k : ℕ) (es : Entries) → AreEntries es → AreEntries (take k es) × AreEntries (drop k es)
+entries_take : (k : ℕ) (es : Entries) → AreReadEntries es → AreReadEntries (take k es) × AreReadEntries (drop k es)
 entries_take zero es i = (tt, i)
 entries_take (suc k) [] i = (tt, tt)
 entries_take (suc k) (e ∷ es) i = let p = entries_take k es i.1 in ((i.0, p.0), p.1)
 
-pub entries_front : (k : ℕ) (es front : Entries) → AreEntries es → front ≡ take k es → AreEntries front
-entries_front k es front i e = subst AreEntries (sym e) (entries_take k es i).0
+pub entries_front : (k : ℕ) (es front : Entries) → AreReadEntries es → front ≡ take k es → AreReadEntries front
+entries_front k es front i e = subst AreReadEntries (sym e) (entries_take k es i).0
 
-pub entries_back : (k : ℕ) (es back : Entries) → AreEntries es → back ≡ drop k es → AreEntries back
-entries_back k es back i e = subst AreEntries (sym e) (entries_take k es i).1
+pub entries_back : (k : ℕ) (es back : Entries) → AreReadEntries es → back ≡ drop k es → AreReadEntries back
+entries_back k es back i e = subst AreReadEntries (sym e) (entries_take k es i).1
 
-taken_twice : (k : ℕ) (es : Entries) → AreEntries es → join_versions (join_versions [] (take k es)) (join_versions [] (drop k es)) ≡ join_versions [] es
-taken_twice k es i =
-    let p = entries_take k es i in
-    let first = IsVersion-taken [] (take k es) tt p.0 in
-    joined-joined (join_versions [] (take k es)) [] (drop k es) first tt p.1 ∙ sym (joined-append [] (take k es) (drop k es)) ∙ ap (join_versions []) (take-append-drop k es)
+taken_twice : (k : ℕ) (es : Entries) → join_versions (join_versions [] (take k es)) (join_versions [] (drop k es)) ≡ join_versions [] es
+taken_twice k es =
+    sym (joined_assoc (join_versions [] (take k es)) [] (drop k es)) ∙ sym (joined-append [] (take k es) (drop k es)) ∙ ap (join_versions []) (take-append-drop k es)
 
-pub halves : (k : ℕ) (es front back : Entries) → AreEntries es → front ≡ take k es → back ≡ drop k es → join_versions (join_versions [] front) (join_versions [] back) ≡ join_versions [] es
-halves k es front back i f b = ap (λ x. join_versions (join_versions [] x) (join_versions [] back)) f ∙ ap (λ y. join_versions (join_versions [] (take k es)) (join_versions [] y)) b ∙ taken_twice k es i
+pub halves : (k : ℕ) (es front back : Entries) → AreReadEntries es → front ≡ take k es → back ≡ drop k es → join_versions (join_versions [] front) (join_versions [] back) ≡ join_versions [] es
+halves k es front back i f b = ap (λ x. join_versions (join_versions [] x) (join_versions [] back)) f ∙ ap (λ y. join_versions (join_versions [] (take k es)) (join_versions [] y)) b ∙ taken_twice k es
 
 -- ---- what stands in a line
 
@@ -255,7 +190,7 @@ from_list (Some ds) = from_members ds
 
 abbrev EntriesOf : Option Entries → Type 0
 EntriesOf None = ⊤
-EntriesOf (Some es) = AreEntries es
+EntriesOf (Some es) = AreReadEntries es
 
 one_more : (o : Option (ℕ × ℕ)) (p : Option Entries) → EntryOf o → EntriesOf p → EntriesOf (option_and_then (λ x. option_map (λ xs. x ∷ xs) p) o)
 one_more None p a b = tt
@@ -266,5 +201,5 @@ all_entries : (ds : List Data) → EntriesOf (all_of entry_of_value ds)
 all_entries [] = tt
 all_entries (d ∷ ds) = one_more (entry_of_value d) (all_of entry_of_value ds) (from_list (members_of d)) (all_entries ds)
 
-pub entries_of : (ds : List Data) (es : Entries) → Some es ≡ all_of entry_of_value ds → AreEntries es
+pub entries_of : (ds : List Data) (es : Entries) → Some es ≡ all_of entry_of_value ds → AreReadEntries es
 entries_of ds es e = subst EntriesOf (sym e) (all_entries ds)

@@ -1,6 +1,6 @@
 -- The parts of a line.
 use Rattle.std.specs.Prelude.{ℕ, ◌<◌, List, [], ◌∷◌, codes, map, ◌&&◌, ◌==◌, not, nat_le, Bool, true, Option, Some, None, option_map, option_and_then, if◌then◌else◌}
-use Rattle.std.specs.List.{list_any}
+use Rattle.std.specs.List.{AllByRecursion, list_any}
 use Rattle.serde_json.specs.Data.{Data}
 use Rattle.serde_json.specs.Find.{as_str}
 use Rattle.lamport_clock.specs.Clocks.{last_value}
@@ -71,9 +71,9 @@ entry_of_value d = option_and_then entry_from (members_of d)
 abbrev pub IsEntry : ℕ × ℕ → Type 0
 IsEntry e = (e.0 < 65536) × (0 < e.1) × (e.1 < 4294967296)
 
-abbrev pub AreEntries : Entries → Type 0
-AreEntries [] = Unit {0}
-AreEntries (e ∷ es) = IsEntry e × AreEntries es
+-- entries as they are read, in whatever order they stand
+abbrev pub AreReadEntries : Entries → Type 0
+AreReadEntries es = AllByRecursion IsEntry es
 
 -- the version that has these entries, in whatever order they stand, where no id is there twice
 abbrev pub version_with : Entries → Option Entries

@@ -3,7 +3,7 @@ ghost use Rattle.std.specs.Prelude.{◌≡◌, ◌<◌, ◌≤◌, [], length, m
 ghost use Rattle.lamport_clock.specs.Versions.{join_versions};
 ghost use Rattle.serde_json.specs.View.{view};
 ghost use Rattle.session_lines.specs.Json.{members_of, whole_number};
-ghost use Rattle.session_lines.specs.Parts.{AreEntries, all_of, bias_of_value, clock_value, count_from, count_of_value, counts_of_value, entry_from, entry_of_value, id_of_value, numbers_of_value, piece_from, piece_of_value, pieces_of_value, stamp_from, stamp_of_value, version_from, version_of_value, version_with};
+ghost use Rattle.session_lines.specs.Parts.{AreReadEntries, all_of, bias_of_value, clock_value, count_from, count_of_value, counts_of_value, entry_from, entry_of_value, id_of_value, numbers_of_value, piece_from, piece_of_value, pieces_of_value, stamp_from, stamp_of_value, version_from, version_of_value, version_with};
 
 use crate::OutOfMemory;
 use crate::line_value::{is_text, members_of};
@@ -173,10 +173,10 @@ fn join_of_few(alloc: Global, entries: &[(u16, u32)]) -> Result<Version, OutOfMe
 
 #[tactic(auto, using(crate::proofs::Versions::halves, crate::proofs::Versions::entries_front, crate::proofs::Versions::entries_back))]
 fn halves(entries: &[(u16, u32)]) -> (&[(u16, u32)], &[(u16, u32)])
-    requires entries { AreEntries entries.now }
+    requires entries { AreReadEntries entries.now }
     requires several { 2 ≤ length entries.now }
-    ensures front { AreEntries result.0.now }
-    ensures back { AreEntries result.1.now }
+    ensures front { AreReadEntries result.0.now }
+    ensures back { AreReadEntries result.1.now }
     ensures shorter { (length result.0.now < length entries.now)
         × (length result.1.now < length entries.now) }
     ensures whole { join_versions (join_versions [] result.0.now) (join_versions [] result.1.now)
@@ -187,7 +187,7 @@ fn halves(entries: &[(u16, u32)]) -> (&[(u16, u32)], &[(u16, u32)])
 
 // The version that has seen each of the entries. Many are taken in halves, so that each is moved few times.
 fn join_of(alloc: Global, entries: &[(u16, u32)]) -> Result<Version, OutOfMemory>
-    requires { AreEntries entries.now }
+    requires { AreReadEntries entries.now }
     ensures { IfOk result (λ v. v ≡ join_versions [] entries.now) }
 {
     if entries.len() <= 16 {
@@ -202,7 +202,7 @@ fn join_of(alloc: Global, entries: &[(u16, u32)]) -> Result<Version, OutOfMemory
 
 #[tactic(auto, using(crate::proofs::Versions::length_of_join))]
 fn version_with(alloc: Global, entries: &[(u16, u32)]) -> Result<Option<Version>, OutOfMemory>
-    requires { AreEntries entries.now }
+    requires { AreReadEntries entries.now }
     ensures { IfOk result (λ v. v ≡ version_with entries.now) }
 {
     let version = join_of(alloc, entries)?;

@@ -40,12 +40,12 @@ replicas_below (suc k) all n some most =
 
 ids_short : (ids rs : List ℕ) → AreKnown ids rs → AreLine (items_of (map number_value rs)) 0
 ids_short ids [] h = tt
-ids_short ids (r ∷ rs) h = let small : r ≤ 65535 = h.0 in (omega arith, ids_short ids rs h.2)
+ids_short ids (r ∷ rs) h = let small : r ≤ 65535 = h.0.0 in (omega arith, ids_short ids rs h.1)
 
 ids_from : (ids rs : List ℕ) → AreKnown ids rs → all_of id_of_value (map number_value rs) ≡ Some rs
 ids_from ids [] h = refl
 ids_from ids (r ∷ rs) h =
-    ap₂ (λ (b : Bool) o. option_and_then (λ x. option_map (λ xs. x ∷ xs) o) (cond b (Some r) None)) (le-leb r 65535 h.0) (ids_from ids rs h.2)
+    ap₂ (λ (b : Bool) o. option_and_then (λ x. option_map (λ xs. x ∷ xs) o) (cond b (Some r) None)) (le-leb r 65535 h.0.0) (ids_from ids rs h.1)
 
 plain_head : is_plain (quoted (codes "zedbuf")) ≡ true
 unfolding escape_byte

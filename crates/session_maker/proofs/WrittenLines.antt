@@ -1,7 +1,7 @@
 -- Lines of the kinds that are made: what is written for one reads as it, behind the operation lines that it names.
 use Rattle.std.proofs.Common.{◌≡◌, ℕ, zero, suc, ◌+◌, ◌-◌, ◌<◌, ◌≤◌, ◌^◌, ◌==◌, Bool, true, false, cond, List, [], ◌∷◌, ◌++◌, map, length, get_or, replicate, Some, None, Ok, refl, sym, ap, ap₂, ◌∙◌, subst, arith, append_assoc, append-nil}
-use Rattle.std.specs.Prelude.{⊤, codes, nat_le, not}
-use Rattle.std.specs.List.{flat_map, range_with_len}
+use Rattle.std.specs.Prelude.{codes, nat_le, not}
+use Rattle.std.specs.List.{AllByRecursion, flat_map, range_with_len}
 use Rattle.std.proofs.lemmas.Bool.{and_from, eq-eqb, le-leb}
 use Rattle.std.proofs.lemmas.List.Folds.{list_any_at}
 use Rattle.std.proofs.lemmas.List.FromFn.{get_or-range_with_len, length-range_with_len}
@@ -123,21 +123,19 @@ rest_read ids before a b (l ∷ ls) e h =
 
 -- numbers of so many operation lines
 abbrev pub AreNumbers : ℕ → List ℕ → Type 0
-AreNumbers count [] = ⊤
-AreNumbers count (m ∷ ms) = (1 ≤ m) × (m ≤ count) × AreNumbers count ms
+AreNumbers count ms = AllByRecursion (λ m. (1 ≤ m) × (m ≤ count)) ms
 
 abbrev pub AreKnown : List ℕ → List ℕ → Type 0
-AreKnown ids [] = ⊤
-AreKnown ids (r ∷ rs) = (r ≤ 65535) × (is_among ids r ≡ true) × AreKnown ids rs
+AreKnown ids rs = AllByRecursion (λ r. (r ≤ 65535) × (is_among ids r ≡ true)) rs
 
 gives_to_read : (ids : List ℕ) (count r : ℕ) (ns : List ℕ) → count < 2 ^ 64 → r ≤ 65535 → is_among ids r ≡ true → AreNumbers count ns → AreRead ids count (gives_to ns r) count
 gives_to_read ids count r [] fits small known h = refl
-gives_to_read ids count r (m ∷ ms) fits small known h = (give_read ids count r small known m h.0 h.1 fits, gives_to_read ids count r ms fits small known h.2)
+gives_to_read ids count r (m ∷ ms) fits small known h = (give_read ids count r small known m h.0.0 h.0.1 fits, gives_to_read ids count r ms fits small known h.1)
 
 pub gives_read : (ids : List ℕ) (count : ℕ) (ns rs : List ℕ) → count < 2 ^ 64 → AreNumbers count ns → AreKnown ids rs → AreRead ids count (flat_map (gives_to ns) rs) count
 gives_read ids count ns [] fits h k = refl
 gives_read ids count ns (r ∷ rs) fits h k =
-    are_read-append ids count count count (gives_to ns r) (flat_map (gives_to ns) rs) (gives_to_read ids count r ns fits k.0 k.1 h) (gives_read ids count ns rs fits h k.2)
+    are_read-append ids count count count (gives_to ns r) (flat_map (gives_to ns) rs) (gives_to_read ids count r ns fits k.0.0 k.0.1 h) (gives_read ids count ns rs fits h k.1)
 
 -- ---- ids and numbers from 1 on
 
@@ -148,8 +146,8 @@ known_id n r low high =
 
 pub known_from : (n k m : ℕ) → 1 ≤ k → k + m ≤ n + 1 → n ≤ 65535 → AreKnown (ids_to n) (range_with_len k m)
 known_from n k zero low high small = tt
-known_from n k (suc m) low high small = (omega arith, known_id n k low (omega arith), known_from n (k + 1) m (omega arith) (omega arith) small)
+known_from n k (suc m) low high small = ((omega arith, known_id n k low (omega arith)), known_from n (k + 1) m (omega arith) (omega arith) small)
 
 pub numbers_from : (count k m : ℕ) → 1 ≤ k → k + m ≤ count + 1 → AreNumbers count (range_with_len k m)
 numbers_from count k zero low high = tt
-numbers_from count k (suc m) low high = (low, omega arith, numbers_from count (k + 1) m (omega arith) (omega arith))
+numbers_from count k (suc m) low high = ((low, omega arith), numbers_from count (k + 1) m (omega arith) (omega arith))

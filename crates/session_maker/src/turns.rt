@@ -109,7 +109,7 @@ fn insert(
 ///
 /// # Errors
 ///
-/// Want of memory alone.
+/// `OutOfMemory` alone.
 pub fn turn(
     alloc: Global,
     draws: &mut Draws,

@@ -5,6 +5,7 @@ use Rattle.std.proofs.lemmas.Bool.{ltb-true}
 use Rattle.std.proofs.lemmas.Option.{cond_some}
 use Rattle.std.proofs.lemmas.List.{length-append, length-map, map-append}
 use Rattle.std.proofs.lemmas.List.Sums.{sum_by-cons}
+use Rattle.std.proofs.lemmas.Slice.Zip.{AllZip-long}
 use Rattle.op_model.specs.declared.operation.Operation.{Operation}
 use Rattle.text_buffer.specs.Buffer.{BufferState}
 use Rattle.text_buffer.specs.Document.{IsFront}
@@ -21,7 +22,7 @@ use Rattle.session_replay.specs.Queries.{AskedQuery, queries_from, query_at, que
 use Rattle.session_replay.specs.Beside.{IsAsking, KeepsEnds, ask_among, asks_among, histories, index_among}
 use Rattle.session_replay.specs.declared.queries.Question.{Question}
 use Rattle.session_replay.proofs.Buffers.{found, not_found}
-use Rattle.session_replay.proofs.Growth.{AllGrow, step_keeps}
+use Rattle.session_replay.proofs.Growth.{AllGrow, Grows, step_grows}
 
 -- what asks query n of the replica at place i
 abbrev pub one_ask : ℕ → ℕ → Question → List Operation → Ask Question
@@ -35,12 +36,6 @@ same_place r [] [] g = refl
 same_place r [] (c ∷ cs) g = absurd g
 same_place r (b ∷ bs) [] g = absurd g
 same_place r (b ∷ bs) (c ∷ cs) g = ap₂ (λ (t : Bool) (m : ℕ). cond (not t) (1 + m) 0) (ap (λ (q : ℕ). q == r) g.0.0) (same_place r bs cs g.1)
-
-pub same_count : (bs cs : List BufferState) → AllGrow bs cs → length cs ≡ length bs
-same_count [] [] g = refl
-same_count [] (c ∷ cs) g = absurd g
-same_count (b ∷ bs) [] g = absurd g
-same_count (b ∷ bs) (c ∷ cs) g = ap suc (same_count bs cs g.1)
 
 pub same_asks : (bs cs : List BufferState) (qs : List AskedQuery) → AllGrow bs cs → asks_among cs qs ≡ asks_among bs qs
 same_asks bs cs [] g = refl
@@ -66,7 +61,7 @@ front_at (h ∷ hs) [] i d f l = absurd f
 front_at (h ∷ hs) (b ∷ bs) zero d f l = (omega arith, f.0)
 front_at (h ∷ hs) (b ∷ bs) (suc i) d f l = let r = front_at hs bs i d f.1 (omega arith) in (omega (arith, r.0), r.1)
 
--- the front of a place stays one, where what is there is shown
+-- the front of a place stays one, where what is there is published
 pub fronts_set : (hs : List (List Operation)) (bs : List BufferState) (i : ℕ) (d : BufferState) → AllZip IsFront hs (histories bs) → i < length bs
     → AllZip IsFront (slice_set hs i (get_or bs i d).history) (histories bs)
 fronts_set [] [] i d f l = absurd (omega arith)
@@ -258,7 +253,7 @@ module _ (bs : List BufferState) (asks : List (Ask Question)) (d e : DispatcherS
       → ((ks : List (Ask Question)) → HasAsked d ks → HasAsked e (ks ++ one_ask (d.count + 1) i ask h ∷ []))
       → AreLevel q → q.workers ≡ p.workers → rows_of q ≡ rows_of p → pairs_in e.inboxes ≡ pairs_in d.inboxes → published_lists q ≡ slice_set (published_lists p) i h
       → IsAsking bs asks d p → IsAsking bs (asks ++ asks_among bs qs) e q
-  asks_more lt is one put level workers rows pairs shown a =
+  asks_more lt is one put level workers rows pairs published a =
       let all : asks ++ one_ask (d.count + 1) i ask h ∷ [] ≡ asks ++ asks_among bs qs =
       ap (λ (n : ℕ). asks ++ one_ask (n + 1) i ask h ∷ []) a.asked.count ∙ ap (λ (ks : List (Ask Question)). asks ++ ks) one in
       record {
@@ -267,17 +262,17 @@ module _ (bs : List BufferState) (asks : List (Ask Question)) (d e : DispatcherS
         level = level;
         tied = pairs ∙ (a.tied ∙ ap₂ columns (sym workers) (sym rows));
         fronts = subst (λ (hs : List (List Operation)). AllZip IsFront hs (histories bs))
-            (sym (shown ∙ ap (slice_set (published_lists p) i) is)) (fronts_set (published_lists p) bs i x a.fronts lt);
+            (sym (published ∙ ap (slice_set (published_lists p) i) is)) (fronts_set (published_lists p) bs i x a.fronts lt);
       }
 
 -- the line is worked, and the replicas grow
 pub asking_grows : (bs cs : List BufferState) (asks : List (Ask Question)) (d : DispatcherState Question) (p : PublishersState) → AllGrow bs cs → IsAsking bs asks d p → IsAsking cs asks d p
 asking_grows bs cs asks d p g a =
-    record { few = omega (arith, a.few, same_count bs cs g); asked = a.asked; level = a.level; tied = a.tied; fronts = fronts_grow (published_lists p) bs cs a.fronts g }
+    record { few = omega (arith, a.few, AllZip-long Grows bs cs g); asked = a.asked; level = a.level; tied = a.tied; fronts = fronts_grow (published_lists p) bs cs a.fronts g }
 
 pub asking_steps : (l : SessionLine) (s t : State) (asks : List (Ask Question)) (d : DispatcherState Question) (p : PublishersState) → t ≡ step l s → IsAsking s.buffers asks d p → IsAsking t.buffers asks d p
 asking_steps l s t asks d p is a =
-    subst (λ (u : State). IsAsking u.buffers asks d p) (sym is) (asking_grows s.buffers (step l s).buffers asks d p (step_keeps l s) a)
+    subst (λ (u : State). IsAsking u.buffers asks d p) (sym is) (asking_grows s.buffers (step l s).buffers asks d p (step_grows l s) a)
 
 -- ---- the queues and the pairs
 

@@ -1,5 +1,5 @@
 -- A replica that is found by its id, and what is done at it.
-use Rattle.std.proofs.Common.{◌≡◌, ℕ, Bool, ◌+◌, ◌==◌, not, cond, nat_lt, List, [], ◌∷◌, ◌++◌, map, get_or, set, Option, None, Some, Result, Ok, Err, IfOk, OnOk, refl, sym, ap, ap₂, ◌∙◌}
+use Rattle.std.proofs.Common.{◌≡◌, ℕ, ◌+◌, ◌==◌, not, cond, nat_lt, List, [], ◌∷◌, ◌++◌, map, get_or, set, Option, None, Some, Result, Ok, Err, IfOk, OnOk, refl, sym, ap, ap₂, ◌∙◌}
 use Rattle.std.specs.Option.{option_and_then}
 use Rattle.std.specs.List.{position, position_or_len}
 use Rattle.std.proofs.lemmas.List.{length-map}
@@ -7,28 +7,24 @@ use Rattle.text_buffer.specs.Buffer.{BufferState}
 use Rattle.session_lines.specs.Report.{report_text}
 use Rattle.session_lines.specs.declared.report.Report.{Report}
 use Rattle.session_replay.specs.Work.{buffer_of, first_buffer, reports_at, with_buffer}
-use Rattle.session_replay.proofs.Buffers.{found, not_found}
+use Rattle.session_replay.proofs.Buffers.{found, is_own, not_found}
 use Rattle.session_replay.proofs.Steps.{none_reported}
-
--- whether a buffer is that of replica r
-abbrev pub own : ℕ → BufferState → Bool
-own r b = b.replica == r
 
 -- ---- buffers that are opened for ids
 
-place-opened : (base : List ℕ) (r : ℕ) (ids : List ℕ) → position_or_len (own r) (map (first_buffer base) ids) ≡ position_or_len (λ (i : ℕ). i == r) ids
+place-opened : (base : List ℕ) (r : ℕ) (ids : List ℕ) → position_or_len (is_own r) (map (first_buffer base) ids) ≡ position_or_len (λ (i : ℕ). i == r) ids
 place-opened base r [] = refl
 place-opened base r (i ∷ ids) = ap (λ (m : ℕ). cond (not (i == r)) (1 + m) 0) (place-opened base r ids)
 
 -- the place of a replica is that of its id
-pub position-opened : (base : List ℕ) (r : ℕ) (ids : List ℕ) → position (own r) (map (first_buffer base) ids) ≡ position (λ (i : ℕ). i == r) ids
+pub position-opened : (base : List ℕ) (r : ℕ) (ids : List ℕ) → position (is_own r) (map (first_buffer base) ids) ≡ position (λ (i : ℕ). i == r) ids
 position-opened base r ids = ap₂ (λ (m n : ℕ). cond (nat_lt m n) (Some m) None) (place-opened base r ids) (length-map ids (first_buffer base))
 
 -- ---- f is what becomes of the buffer of replica r
 
 module _ (r : ℕ) (f : BufferState → BufferState) (bs all : List BufferState) (same : all ≡ bs) where
   -- where it is there
-  module _ (i : ℕ) (b : BufferState) (at : Some i ≡ position (own r) bs) (is : b ≡ get_or all i b) where
+  module _ (i : ℕ) (b : BufferState) (at : Some i ≡ position (is_own r) bs) (is : b ≡ get_or all i b) where
     kept : b ≡ get_or bs i b
     kept = is ∙ ap (λ (l : List BufferState). get_or l i b) same
 
@@ -51,7 +47,7 @@ module _ (r : ℕ) (f : BufferState → BufferState) (bs all : List BufferState)
     told g (Err v) e = tt
 
 -- where it is not there
-module _ (r : ℕ) (bs : List BufferState) (at : None ≡ position (own r) bs) where
+module _ (r : ℕ) (bs : List BufferState) (at : None ≡ position (is_own r) bs) where
   pub nowhere : None ≡ buffer_of r bs
   nowhere = sym (not_found r (λ (b : BufferState). b) bs at).0
 
@@ -59,4 +55,4 @@ module _ (r : ℕ) (bs : List BufferState) (at : None ≡ position (own r) bs) w
   unchanged f = sym (not_found r f bs at).1
 
   pub unreported : (g : BufferState → List Report) (out : List ℕ) → out ≡ out ++ report_text (reports_at g (buffer_of r bs))
-  unreported g out = none_reported g (buffer_of r bs) out (sym nowhere)
+  unreported g out = none_reported g (buffer_of r bs) out nowhere

@@ -17,7 +17,7 @@ use Rattle.query_workers.specs.declared.query.Answer.{Answer}
 use Rattle.query_dispatch.specs.Final.{AreGathered, IsFinal, IsPast, NeverFalls}
 use Rattle.session_replay.specs.Work.{State, applied_count, buffer_of}
 use Rattle.session_replay.specs.Queries as replies
-use Rattle.session_replay.specs.Queries.{AreReplies, AskedQuery, IsWithin, Reply, end_of, final_of, history_of, plain_answer, queries_of, reply_line}
+use Rattle.session_replay.specs.Queries.{AreReplies, AskedQuery, IsWithin, Reply, end_of, history_at_end, history_or_empty, plain_answer, queries_of, reply_line}
 use Rattle.session_replay.specs.Beside.{ask_among, asks_among, histories, line_of, index_among}
 use Rattle.session_replay.specs.declared.queries.Question.{Question}
 use Rattle.session_replay.proofs.Growth.{AllGrow}
@@ -38,17 +38,17 @@ line_more ls more line a rest from all grown is step was =
 -- ---- what a replica is, by its place
 
 -- a replica that has its base is there
-pub stands : (r : ℕ) (bs : List BufferState) → 1 ≤ length (history_of (buffer_of r bs))
-    → (index_among bs r < length (histories bs)) × (slice_index_or (histories bs) (index_among bs r) [] ≡ history_of (buffer_of r bs))
+pub stands : (r : ℕ) (bs : List BufferState) → 1 ≤ length (history_or_empty (buffer_of r bs))
+    → (index_among bs r < length (histories bs)) × (slice_index_or (histories bs) (index_among bs r) [] ≡ history_or_empty (buffer_of r bs))
 stands r [] l = absurd (omega arith)
 stands r (b ∷ bs) l =
-    elim (b.replica == r) as (λ (t : Bool). 1 ≤ length (history_of (cond t (Some b) (buffer_of r bs)))
-    → (cond (not t) (1 + index_among bs r) 0 < length (histories (b ∷ bs))) × (slice_index_or (histories (b ∷ bs)) (cond (not t) (1 + index_among bs r) 0) [] ≡ history_of (cond t (Some b) (buffer_of r bs)))) [
+    elim (b.replica == r) as (λ (t : Bool). 1 ≤ length (history_or_empty (cond t (Some b) (buffer_of r bs)))
+    → (cond (not t) (1 + index_among bs r) 0 < length (histories (b ∷ bs))) × (slice_index_or (histories (b ∷ bs)) (cond (not t) (1 + index_among bs r) 0) [] ≡ history_or_empty (cond t (Some b) (buffer_of r bs)))) [
       | true ↦ (λ l. (omega arith, refl))
       | false ↦ (λ l.
           let s = stands r bs l in
           let e : suc (index_among bs r) ≡ 1 + index_among bs r = omega arith in
-          (omega (arith, s.0), subst (λ (k : ℕ). slice_index_or (histories (b ∷ bs)) k [] ≡ history_of (buffer_of r bs)) e s.1))
+          (omega (arith, s.0), subst (λ (k : ℕ). slice_index_or (histories (b ∷ bs)) k [] ≡ history_or_empty (buffer_of r bs)) e s.1))
     ] l
 
 -- ---- one answer
@@ -62,21 +62,21 @@ abbrev reply_to : Made → AskedQuery → Reply
 reply_to a c = record { query = c; count = applied_count a.snapshot }
 
 module _ (bs : List BufferState) (end : State) (g : AllGrow bs end.buffers) where
-  long : (c : AskedQuery) → IsPlaced end c → 1 ≤ length (history_of (buffer_of c.replica end.buffers))
-  long c f = omega (arith, f.1, front_length c.history (history_of (buffer_of c.replica end.buffers)) f.0)
+  long : (c : AskedQuery) → IsPlaced end c → 1 ≤ length (history_or_empty (buffer_of c.replica end.buffers))
+  long c f = omega (arith, f.1, front_length c.history (history_or_empty (buffer_of c.replica end.buffers)) f.0)
 
   -- its snapshot begins what the replica has applied at the end
-  front_of : (a : Made) (c : AskedQuery) → IsTo bs end a c → IsPlaced end c → IsFront a.snapshot (final_of end (reply_to a c))
+  front_of : (a : Made) (c : AskedQuery) → IsTo bs end a c → IsPlaced end c → IsFront a.snapshot (history_at_end end (reply_to a c))
   front_of a c t f =
       let s = stands c.replica end.buffers (long c f) in
       subst (IsFront a.snapshot) (ap (λ (i : ℕ). slice_index_or (histories end.buffers) i []) (sym (same_place c.replica bs end.buffers g)) ∙ s.1) t.front
 
   within_one : (a : Made) (c : AskedQuery) → IsTo bs end a c → IsPlaced end c → IsWithin end (reply_to a c)
-  within_one a c t f = (front_count c.history a.snapshot t.answer.told, front_count a.snapshot (final_of end (reply_to a c)) (front_of a c t f))
+  within_one a c t f = (front_count c.history a.snapshot t.answer.told, front_count a.snapshot (history_at_end end (reply_to a c)) (front_of a c t f))
 
   line_one : (a : Made) (c : AskedQuery) → IsTo bs end a c → IsPlaced end c → line_of a ≡ reply_line end (reply_to a c)
   line_one a c t f =
-      let final : List Operation = final_of end (reply_to a c) in
+      let final : List Operation = history_at_end end (reply_to a c) in
       let some : 1 ≤ length a.snapshot = omega (arith, f.1, front_length c.history a.snapshot t.answer.told) in
       let taken : take (applied_count a.snapshot + 1) final ≡ a.snapshot = front_taken a.snapshot final (front_of a c t f) some in
       ap₂ (λ (n : ℕ) (answer : QueryAnswer). report.Query n (applied_count a.snapshot) answer) t.answer.number

@@ -1,8 +1,9 @@
 -- What a replica has applied at one line of a session begins what it has applied at each later one.
-use Rattle.std.proofs.Common.{◌≡◌, ℕ, ◌≤◌, Bool, true, false, cond, ◌==◌, List, [], ◌∷◌, ◌++◌, length, Option, None, Some, Result, Ok, Err, refl, sym, ap, ◌∙◌, subst, arith, append_assoc, append-nil}
-use Rattle.std.specs.Prelude.{⊤}
+use Rattle.std.proofs.Common.{◌≡◌, ℕ, ◌≤◌, Bool, true, false, cond, ◌==◌, List, [], ◌∷◌, ◌++◌, length, Option, None, Some, Result, Ok, Err, refl, ap, ◌∙◌, subst, arith}
+use Rattle.std.specs.List.{AllByRecursion, AllZip}
 use Rattle.op_model.specs.declared.operation.Operation.{Operation}
 use Rattle.op_model.specs.Steps.{Step, Settles, Takes}
+use Rattle.op_model.proofs.Elements.{zip_itself}
 use Rattle.op_model.proofs.MainLaws.{runs_append}
 use Rattle.text_buffer.specs.Buffer.{BufferState, after_calls, after_apply, after_settle, state}
 use Rattle.text_buffer.specs.Document.{IsFront}
@@ -10,7 +11,7 @@ use Rattle.session_lines.specs.declared.report.Report.{Report}
 use Rattle.session_lines.specs.declared.session.SessionLine.{SessionLine}
 use Rattle.session_lines.specs.declared.session.SessionLine.TheVariants as line
 use Rattle.session_replay.specs.Work.{State, after_all, after_give, after_outcome, buffer_of, edit_outcome, next_number, operation_of, step, undo_outcome, with_buffer}
-use Rattle.text_buffer.proofs.Fronts.{front_length}
+use Rattle.text_buffer.proofs.Fronts.{front_itself, front_length, front_trans}
 
 -- ---- one buffer
 
@@ -19,11 +20,10 @@ abbrev pub Grows : BufferState → BufferState → Type 0
 Grows b n = (n.replica ≡ b.replica) × IsFront b.history n.history
 
 grows_itself : (b : BufferState) → Grows b b
-grows_itself b = (refl, ([], sym (append-nil b.history)))
+grows_itself b = (refl, front_itself b.history)
 
 grows_trans : (a b c : BufferState) → Grows a b → Grows b c → Grows a c
-grows_trans a b c f g =
-    (g.0 ∙ f.0, (f.1.0 ++ g.1.0, g.1.1 ∙ ap (λ (h : List Operation). h ++ g.1.0) f.1.1 ∙ append_assoc a.history f.1.0 g.1.0))
+grows_trans a b c f g = (g.0 ∙ f.0, front_trans a.history b.history c.history f.1 g.1)
 
 calls_grow : (cs : List Step) (b : BufferState) → Grows b (after_calls cs b)
 calls_grow cs b = (refl, runs_append b.limits b.replica cs (state b))
@@ -39,14 +39,10 @@ give_grows (Some op) b = calls_grow (Takes op ∷ []) b
 -- ---- the buffers of all replicas
 
 abbrev pub AllGrow : List BufferState → List BufferState → Type 0
-AllGrow [] [] = ⊤
-AllGrow [] (c ∷ cs) = ⊥
-AllGrow (b ∷ bs) [] = ⊥
-AllGrow (b ∷ bs) (c ∷ cs) = Grows b c × AllGrow bs cs
+AllGrow bs cs = AllZip Grows bs cs
 
 pub all_themselves : (bs : List BufferState) → AllGrow bs bs
-all_themselves [] = tt
-all_themselves (b ∷ bs) = (grows_itself b, all_themselves bs)
+all_themselves bs = zip_itself Grows grows_itself bs
 
 pub all_trans : (bs cs ds : List BufferState) → AllGrow bs cs → AllGrow cs ds → AllGrow bs ds
 all_trans [] [] [] f g = tt
@@ -64,7 +60,7 @@ one_grows r f g (b ∷ bs) =
       | false ↦ (grows_itself b, one_grows r f g bs)
     ]
 
-step_grows : (l : SessionLine) (s : State) → AllGrow s.buffers (step l s).buffers
+pub step_grows : (l : SessionLine) (s : State) → AllGrow s.buffers (step l s).buffers
 step_grows (line.Edit r ps) s = one_grows r (λ b. after_outcome (edit_outcome (next_number s) ps b) b) (λ b. outcome_grows (edit_outcome (next_number s) ps b) b) s.buffers
 step_grows (line.Undo r ms) s = one_grows r (λ b. after_outcome (undo_outcome (next_number s) s.operations ms b) b) (λ b. outcome_grows (undo_outcome (next_number s) s.operations ms b) b) s.buffers
 step_grows (line.Op e) s = all_themselves s.buffers
@@ -82,9 +78,6 @@ step_grows (line.Offset r k c) s = all_themselves s.buffers
 pub lines_grow : (ls : List SessionLine) (s : State) → AllGrow s.buffers (after_all ls s).buffers
 lines_grow [] s = all_themselves s.buffers
 lines_grow (l ∷ ls) s = all_trans s.buffers (step l s).buffers (after_all ls (step l s)).buffers (step_grows l s) (lines_grow ls (step l s))
-
-pub step_keeps : (l : SessionLine) (s : State) → AllGrow s.buffers (step l s).buffers
-step_keeps l s = step_grows l s
 
 -- ---- the buffer of one replica among them
 
@@ -109,8 +102,7 @@ module _ (r : ℕ) where
 -- ---- each has its base
 
 abbrev pub AreBased : List BufferState → Type 0
-AreBased [] = ⊤
-AreBased (b ∷ bs) = (1 ≤ length b.history) × AreBased bs
+AreBased bs = AllByRecursion (λ (b : BufferState). 1 ≤ length b.history) bs
 
 pub based_grow : (bs cs : List BufferState) → AllGrow bs cs → AreBased bs → AreBased cs
 based_grow [] [] g a = tt

@@ -63,14 +63,14 @@ module _ (bs : List BufferState) (asks : List (Ask Question)) (d : DispatcherSta
   }
 
   pub leaves : HasLeft bs asks d e
-  leaves = record { shown = published_lists p; fronts = a.fronts; ready = ready; count = count ∙ a.asked.count; queues = queues; pairs = pairs }
+  leaves = record { published = published_lists p; fronts = a.fronts; ready = ready; count = count ∙ a.asked.count; queues = queues; pairs = pairs }
 
 -- the same, said of the editor as it began: its queues and pairs have stayed
 pub left_before : (bs cs : List BufferState) (asks : List (Ask Question)) (d o : DispatcherState Question) (e : Edited) → cs ≡ bs → queues_of o.inboxes ≡ queues_of d.inboxes → pairs_in o.inboxes ≡ pairs_in d.inboxes
     → HasLeft bs asks o e → HasLeft cs asks d e
 left_before bs cs asks d o e same queues pairs l = record {
-  shown = l.shown;
-  fronts = subst (λ (xs : List BufferState). AllZip IsFront l.shown (histories xs)) (sym same) l.fronts;
+  published = l.published;
+  fronts = subst (λ (xs : List BufferState). AllZip IsFront l.published (histories xs)) (sym same) l.fronts;
   ready = l.ready;
   count = l.count;
   queues = l.queues ∙ queues;
@@ -81,14 +81,14 @@ left_before bs cs asks d o e same queues pairs l = record {
 
 pub can_gather : (bs : List BufferState) (asks : List (Ask Question)) (d : DispatcherState Question) (desks : List DeskState) (e : Edited) (dones : List (DoneState Question QueryAnswer)) (lasts : Lasts)
     → lasts ≡ histories bs → HasLeft bs asks d e → All (IsPast (histories bs)) asks → AreEnds d.inboxes desks → HaveWorked plain_answer desks dones
-    → (shown : List (List Operation)) × (ks : List (Ask Question)) × (ds : List DeskState) × IsReady e.gathering.inboxes.items (map (λ v. v.items) e.gathering.tolds.items) e.gathering.sizes.items shown ks
-    × AllZip IsFront shown lasts × All (IsPast lasts) ks × (e.gathering.count ≡ length ks) × AreEnds e.gathering.inboxes.items ds × HaveWorked plain_answer ds dones
+    → (published : List (List Operation)) × (ks : List (Ask Question)) × (ds : List DeskState) × IsReady e.gathering.inboxes.items (map (λ v. v.items) e.gathering.tolds.items) e.gathering.sizes.items published ks
+    × AllZip IsFront published lasts × All (IsPast lasts) ks × (e.gathering.count ≡ length ks) × AreEnds e.gathering.inboxes.items ds × HaveWorked plain_answer ds dones
 can_gather bs asks d desks e dones lasts is left past ends worked = (
-  left.shown,
+  left.published,
   asks,
   desks,
   left.ready,
-  subst (AllZip IsFront left.shown) (sym is) left.fronts,
+  subst (AllZip IsFront left.published) (sym is) left.fronts,
   subst (λ (hs : Lasts). All (IsPast hs) asks) (sym is) past,
   left.count,
   record { queues = left.queues ∙ ends.queues; pairs = left.pairs ∙ ends.pairs },

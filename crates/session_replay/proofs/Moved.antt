@@ -4,11 +4,10 @@ use Rattle.session_replay.specs.Traffic.{Moves, Had}
 use Rattle.std.specs.Io.KnownBytes.{Appends, Consumes, IsAtEnd}
 use Rattle.std.proofs.KnownBytes.{Appends-trans}
 use Rattle.std.proofs.Math.Seq.{take-add}
-use Rattle.std.proofs.lemmas.List.{nil_from_length}
-use Rattle.session_lines.proofs.Cut.{behind}
+use Rattle.std.proofs.lemmas.List.{nil_from_length, take_rest}
 
 pub more_written : (a b c : Option (List ℕ)) (text : List ℕ) (i n : ℕ) → Appends a b (take i text) → Appends b c (take n (take (length text - i) (drop i text))) → Appends a c (take (i + n) text)
-more_written a b c text i n p q = subst (Appends a c) (ap (λ l. take i text ++ take n l) (behind text i) ∙ sym (take-add i n text)) (Appends-trans a b c _ _ p q)
+more_written a b c text i n p q = subst (Appends a c) (ap (λ l. take i text ++ take n l) (take_rest text i) ∙ sym (take-add i n text)) (Appends-trans a b c _ _ p q)
 
 -- nothing more was read
 pub none_read : (all all_after : List ℕ) (b c : Option (List ℕ)) (n : ℕ) → n ≡ 0 → Moves b c all all_after n → (all_after ≡ all) × IsAtEnd c

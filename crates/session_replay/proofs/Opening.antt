@@ -1,11 +1,11 @@
 -- A session at its opening, and what an editor over it has once all is gathered.
 use Rattle.std.proofs.Common.{◌≡◌, ℕ, ◌≤◌, nat_le, ◌&&◌, List, [], ◌∷◌, ◌++◌, length, map, sym, ap, ◌∙◌, subst, arith}
-use Rattle.std.specs.List.{All, AllZip, flat_map, range_with_len}
+use Rattle.std.specs.List.{All, AllZip, flat_map}
 use Rattle.std.proofs.lemmas.List.{length-map}
-use Rattle.std.proofs.lemmas.List.FromFn.{length-range_with_len}
 use Rattle.std.proofs.lemmas.Bool.{and_parts}
 use Rattle.std.proofs.lemmas.Bool.Decides.{nat_tests}
 use Rattle.op_model.specs.declared.operation.Operation.{Operation}
+use Rattle.op_model.proofs.Elements.{zip_itself}
 use Rattle.text_buffer.proofs.Fronts.{front_itself}
 use Rattle.text_buffer.specs.Document.{IsFront}
 use Rattle.session_lines.specs.Heading.{most_replicas}
@@ -14,13 +14,12 @@ use Rattle.session_lines.specs.Session.{IsSession, query_count}
 use Rattle.session_lines.specs.declared.report.QueryAnswer.{QueryAnswer}
 use Rattle.session_lines.specs.declared.session.Session.{Session}
 use Rattle.session_lines.specs.declared.session.SessionLine.{SessionLine}
-use Rattle.query_workers.specs.Queue.{pairs_of}
-use Rattle.query_workers.specs.States.{InboxState}
 use Rattle.query_workers.specs.declared.query.Answer.{Answer}
 use Rattle.query_dispatch.specs.Dealt.{HasAsked}
 use Rattle.query_dispatch.specs.Final.{AreGathered, IsPast}
-use Rattle.query_dispatch.specs.Published.{AreLevel, AreTied, column, published_lists, rows_of}
+use Rattle.query_dispatch.specs.Published.{AreLevel, AreTied, published_lists}
 use Rattle.query_dispatch.specs.States.{PublishersState}
+use Rattle.query_dispatch.proofs.Dealing.{tied_length}
 use Rattle.session_replay.specs.Work.{State, after_all, all_events, at_end, first_buffer, opening}
 use Rattle.session_replay.specs.Working.{state_of}
 use Rattle.session_replay.specs.Traffic.{session_limit}
@@ -44,28 +43,18 @@ opened_state s p b o n m = same_state p.replicas (map (first_buffer s.base) s.re
 few_replicas : (s : Session) → IsSession session_limit s → length s.replicas ≤ most_replicas
 few_replicas s h = let few = (and_parts (nat_le 1 (length s.replicas)) (nat_le (length s.replicas) most_replicas) (and_parts _ _ h.replicas).0).1 in grind (arith, nat_tests)
 
-fronts_same : (hs : List (List Operation)) → AllZip IsFront hs hs
-fronts_same [] = tt
-fronts_same (h ∷ hs) = (front_itself h, fronts_same hs)
-
--- as many inboxes as workers
-tied_count : (is : List (InboxState Question)) (p : PublishersState) → AreTied is p → length is ≡ p.workers
-tied_count is p t =
-    sym (length-map is (λ (i : InboxState Question). pairs_of i.readers)) ∙ (ap (λ l. length l) t
-    ∙ (length-map (range_with_len 0 p.workers) (λ (w : ℕ). column w (rows_of p)) ∙ length-range_with_len 0 p.workers))
-
 module _ (s : Session) (h : IsSession session_limit s) (o : Editor) (p : PublishersState) (start : o.progress.replicas ≡ map (first_buffer s.base) s.replicas) where
   pub can_edit : (workers limit : ℕ) (ls : List SessionLine) → ls ≡ s.lines → o.workers ≡ workers → length o.dispatcher.inboxes ≡ workers → limit ≡ query_count s.lines
       → HasAsked o.dispatcher [] → o.dispatcher.limit ≡ limit → AreLevel p → AreTied o.dispatcher.inboxes p → published_lists p ≡ histories o.progress.replicas → CanEdit ls o p
-  can_edit workers limit ls l w n room asked most level tied shown = record {
+  can_edit workers limit ls l w n room asked most level tied published = record {
     asking = record {
       few = omega (arith, few_replicas s h, ap (λ bs. length bs) start, length-map s.replicas (first_buffer s.base));
       asked = asked;
       level = level;
       tied = tied;
-      fronts = subst (λ (hs : List (List Operation)). AllZip IsFront hs (histories o.progress.replicas)) (sym shown) (fronts_same (histories o.progress.replicas));
+      fronts = subst (λ (hs : List (List Operation)). AllZip IsFront hs (histories o.progress.replicas)) (sym published) (zip_itself IsFront front_itself (histories o.progress.replicas));
     };
-    workers = w ∙ (sym n ∙ tied_count o.dispatcher.inboxes p tied);
+    workers = w ∙ (sym n ∙ tied_length o.dispatcher.inboxes p tied);
     room = omega (arith, asked.count, most, room, ap query_count l);
   }
 

@@ -8,6 +8,7 @@ use Rattle.std.proofs.lemmas.List.Sums.{sum_by-cons}
 use Rattle.sum_tree.proofs.Keys.{AllPairs-append, AllPairs-cross, AllPairs-right}
 use Rattle.op_model.specs.declared.operation.Operation.{Operation}
 use Rattle.op_model.specs.Shown.{text}
+use Rattle.op_model.proofs.Elements.{AllPairs-nil}
 use Rattle.text_buffer.specs.Buffer.{BufferState}
 use Rattle.text_buffer.specs.Document.{IsFront}
 use Rattle.text_buffer.proofs.Fronts.{front_length, front_trans}
@@ -19,10 +20,9 @@ use Rattle.session_lines.specs.declared.session.SessionLine.{SessionLine}
 use Rattle.session_lines.specs.declared.session.SessionLine.TheVariants as line
 use Rattle.session_replay.specs.declared.queries.Question.{Question}
 use Rattle.session_replay.specs.Work.{State, after_all, applied_count, buffer_of, first_buffer, opening, step}
-use Rattle.session_replay.specs.Queries.{AreReplies, AskedQuery, IsReport, IsWithin, NeverFalls, Reply, answer_line, end_of, history_of, plain_line, queries_from, queries_of, query_at, query_of, query_with, question_of, reply_line, report_of, report_with}
+use Rattle.session_replay.specs.Queries.{AreReplies, AskedQuery, IsReport, IsWithin, NeverFalls, Reply, answer_line, end_of, history_or_empty, plain_line, queries_from, queries_of, query_at, query_of, query_with, question_of, reply_line, report_of, report_with}
 use Rattle.session_replay.specs.Laws.{PlainWithWorkers, PlainWithoutQueries, PlainWithoutWorkers}
-use Rattle.session_replay.proofs.Growth.{AllGrow, AreBased, based_grow, based_one, later, lines_grow, step_keeps}
-use Rattle.query_workers.proofs.Working.{no_pairs}
+use Rattle.session_replay.proofs.Growth.{AllGrow, AreBased, based_grow, based_one, later, lines_grow, step_grows}
 
 -- ---- fronts
 
@@ -39,7 +39,7 @@ front_taken h g f l =
 
 -- the query's history begins what its replica has applied in a later state
 abbrev pub IsPlaced : State → AskedQuery → Type 0
-IsPlaced end c = IsFront c.history (history_of (buffer_of c.replica end.buffers)) × (1 ≤ length c.history)
+IsPlaced end c = IsFront c.history (history_or_empty (buffer_of c.replica end.buffers)) × (1 ≤ length c.history)
 
 module _ (q : ℕ) (s end : State) (g : AllGrow s.buffers end.buffers) (a : AreBased s.buffers) where
   one_placed : (r : ℕ) (ask : Question) (o : Option BufferState) → buffer_of r s.buffers ≡ o → All (IsPlaced end) (query_of q r ask o)
@@ -47,7 +47,7 @@ module _ (q : ℕ) (s end : State) (g : AllGrow s.buffers end.buffers) (a : AreB
   one_placed r ask (Some b) e =
       let n = later r s.buffers end.buffers b g e in
       All-cons (IsPlaced end) (record { number = q; replica = r; history = b.history; question = ask }) []
-      (subst (λ (o : Option BufferState). IsFront b.history (history_of o)) (sym n.1) n.2, based_one r s.buffers b a e) (All-nil (IsPlaced end))
+      (subst (λ (o : Option BufferState). IsFront b.history (history_or_empty o)) (sym n.1) n.2, based_one r s.buffers b a e) (All-nil (IsPlaced end))
 
   query_placed : (o : Option (ℕ × Question)) → All (IsPlaced end) (query_with q s o)
   query_placed None = All-nil (IsPlaced end)
@@ -59,7 +59,7 @@ all_placed q (l ∷ ls) s a =
     let end : State = after_all ls (step l s) in
     let next : ℕ = q + length (query_at q l s) in
     All-append (IsPlaced end) (query_at q l s) (queries_from next ls (step l s)) (query_placed q s end (lines_grow (l ∷ ls) s) a (question_of l))
-    (all_placed next ls (step l s) (based_grow s.buffers (step l s).buffers (step_keeps l s) a))
+    (all_placed next ls (step l s) (based_grow s.buffers (step l s).buffers (step_grows l s) a))
 
 -- ---- a later query of a replica finds no fewer operations
 
@@ -85,7 +85,7 @@ module _ (r : ℕ) (h : List Operation) where
   all_find : (q : ℕ) (ls : List SessionLine) (s : State) (b : BufferState) → buffer_of r s.buffers ≡ Some b → IsFront h b.history → All (Finds r h) (queries_from q ls s)
   all_find q [] s b e f = All-nil (Finds r h)
   all_find q (l ∷ ls) s b e f =
-      let n = later r s.buffers (step l s).buffers b (step_keeps l s) e in
+      let n = later r s.buffers (step l s).buffers b (step_grows l s) e in
       let next : ℕ = q + length (query_at q l s) in
       All-append (Finds r h) (query_at q l s) (queries_from next ls (step l s)) (query_finds q s b e f (question_of l))
       (all_find next ls (step l s) n.0 n.1 (front_trans h b.history n.0.history f n.2))
@@ -98,19 +98,19 @@ module _ (q next : ℕ) (l : SessionLine) (ls : List SessionLine) (s : State) wh
   rest = queries_from next ls (step l s)
 
   one_pair : (r : ℕ) (ask : Question) (o : Option BufferState) → AllPairs Follows (query_of q r ask o)
-  one_pair r ask None = no_pairs Follows
+  one_pair r ask None = AllPairs-nil Follows
   one_pair r ask (Some b) =
       let c : AskedQuery = record { number = q; replica = r; history = b.history; question = ask } in
-      AllPairs-cons Follows c [] (All-nil (Follows c)) (no_pairs Follows)
+      AllPairs-cons Follows c [] (All-nil (Follows c)) (AllPairs-nil Follows)
 
   query_pair : (o : Option (ℕ × Question)) → AllPairs Follows (query_with q s o)
-  query_pair None = no_pairs Follows
+  query_pair None = AllPairs-nil Follows
   query_pair (Some (r, ask)) = one_pair r ask (buffer_of r s.buffers)
 
   one_first : (r : ℕ) (ask : Question) (o : Option BufferState) → buffer_of r s.buffers ≡ o → All (λ c. All (Follows c) rest) (query_of q r ask o)
   one_first r ask None e = All-nil (λ c. All (Follows c) rest)
   one_first r ask (Some b) e =
-      let n = later r s.buffers (step l s).buffers b (step_keeps l s) e in
+      let n = later r s.buffers (step l s).buffers b (step_grows l s) e in
       All-cons (λ c. All (Follows c) rest) (record { number = q; replica = r; history = b.history; question = ask }) []
       (all_find r b.history next ls (step l s) n.0 n.1 n.2) (All-nil (λ c. All (Follows c) rest))
 
@@ -119,7 +119,7 @@ module _ (q next : ℕ) (l : SessionLine) (ls : List SessionLine) (s : State) wh
   query_first (Some (r, ask)) = one_first r ask (buffer_of r s.buffers) refl
 
 all_follow : (q : ℕ) (ls : List SessionLine) (s : State) → AllPairs Follows (queries_from q ls s)
-all_follow q [] s = no_pairs Follows
+all_follow q [] s = AllPairs-nil Follows
 all_follow q (l ∷ ls) s =
     let next : ℕ = q + length (query_at q l s) in
     AllPairs-append Follows (query_at q l s) (queries_from next ls (step l s)) (query_pair q next l ls s (question_of l)) (all_follow next ls (step l s)) (query_first q next l ls s (question_of l))
@@ -134,7 +134,7 @@ their_queries [] = refl
 their_queries (c ∷ cs) = ap (λ (ds : List AskedQuery). c ∷ ds) (their_queries cs)
 
 pairs_of : (workers : ℕ) (cs : List AskedQuery) → AllPairs Follows cs → AllPairs (NeverFalls workers) (map on_the_spot cs)
-pairs_of workers [] a = no_pairs (NeverFalls workers)
+pairs_of workers [] a = AllPairs-nil (NeverFalls workers)
 pairs_of workers (c ∷ cs) a =
     let first : All (Follows c) cs = AllPairs-cross Follows (c ∷ []) cs 0 c a (omega arith) in
     AllPairs-cons (NeverFalls workers) (on_the_spot c) (map on_the_spot cs)
@@ -152,7 +152,7 @@ spot_replies : (s : Session) (workers : ℕ) → AreReplies s workers (map on_th
 spot_replies s workers = record {
   queries = their_queries (queries_of s);
   within = All-map (IsWithin (end_of s)) on_the_spot (queries_of s)
-      (All-weaker (IsPlaced (end_of s)) (λ c. IsWithin (end_of s) (on_the_spot c)) (λ c f. (omega arith, front_count c.history (history_of (buffer_of c.replica (end_of s).buffers)) f.0)) (queries_of s) (placed s));
+      (All-weaker (IsPlaced (end_of s)) (λ c. IsWithin (end_of s) (on_the_spot c)) (λ c f. (omega arith, front_count c.history (history_or_empty (buffer_of c.replica (end_of s).buffers)) f.0)) (queries_of s) (placed s));
   on_the_spot = λ z. All-map (λ (p : Reply). p.count ≡ applied_count p.query.history) on_the_spot (queries_of s) (λ k d lt. refl);
   never_falls = pairs_of workers (queries_of s) (all_follow 1 s.lines (opening s));
 }
@@ -161,7 +161,7 @@ spot_replies s workers = record {
 
 one_line : (end : State) (p : Reply) → p.count ≡ applied_count p.query.history → IsPlaced end p.query → reply_line end p ≡ plain_line p.query
 one_line end p e f =
-    let final : List Operation = history_of (buffer_of p.query.replica end.buffers) in
+    let final : List Operation = history_or_empty (buffer_of p.query.replica end.buffers) in
     ap (λ (n : ℕ). answer_line p.query.number n p.query.question (text (take (n + 1) final))) e
     ∙ ap (λ (h : List Operation). answer_line p.query.number (applied_count p.query.history) p.query.question (text h)) (front_taken p.query.history final f.0 f.1)
 

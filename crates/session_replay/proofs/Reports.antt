@@ -1,6 +1,6 @@
 -- What one replica reports of settling, and at the end.
 use Rattle.std.proofs.Common.{◌≡◌, ℕ, ◌+◌, ◌==◌, cond, if◌then◌else◌, ◌<◌, ◌≤◌, List, [], ◌∷◌, ◌++◌, length, drop, get_or, map, refl, sym, ap, ◌∙◌, append_assoc, append-nil}
-use Rattle.std.proofs.lemmas.List.{drop_all}
+use Rattle.std.proofs.lemmas.List.{drop_all, drop_more}
 use Rattle.std.proofs.lemmas.Bool.{ne_eqb}
 use Rattle.lamport_clock.specs.declared.stamp.Lamport.{Lamport}
 use Rattle.op_model.specs.Shown.{text}
@@ -13,7 +13,7 @@ use Rattle.session_lines.specs.declared.report.TextHead.TheVariants as head
 use Rattle.session_lines.specs.declared.report.Report.{Report}
 use Rattle.session_lines.specs.declared.report.Report.TheVariants as report
 use Rattle.session_replay.specs.Work.{at_end, counts_report, refused_report, settled_reports}
-use Rattle.session_replay.proofs.Steps.{all_written, behind, line_reported, text-append, text-none, written}
+use Rattle.session_replay.proofs.Steps.{all_written, line_reported, text-append, text-none, written}
 
 -- a line, and what follows it
 pub more_reported : (r : Report) (rs : List Report) (out mid new : List ℕ) → mid ≡ out ++ line_text r → new ≡ mid ++ report_text rs → new ≡ out ++ report_text (r ∷ rs)
@@ -53,7 +53,7 @@ pub more_refused : (r : ℕ) (es : List Entry) (i : ℕ) (d : Entry) (out new al
     → new ≡ out ++ line_text (report.Refused r (get_or es i d).stamp (get_or es i d).fault) → new ++ report_text (refusals r (drop (i + 1) es)) ≡ all
 more_refused r es i d out new all lt e n =
     let line : Report = report.Refused r (get_or es i d).stamp (get_or es i d).fault in
-    written (line ∷ []) (refusals r (drop (i + 1) es)) out new all (ap (λ l. out ++ report_text (refusals r l)) (sym (behind es i d lt)) ∙ e) (line_reported line line out new refl n)
+    written (line ∷ []) (refusals r (drop (i + 1) es)) out new all (ap (λ l. out ++ report_text (refusals r l)) (sym (drop_more es i d lt)) ∙ e) (line_reported line line out new refl n)
 
 pub refused_done : (r : ℕ) (es : List Entry) (i : ℕ) (out all : List ℕ) → length es ≤ i → out ++ report_text (refusals r (drop i es)) ≡ all → out ≡ all
 refused_done r es i out all le e = all_written out all (ap (λ l. out ++ report_text (refusals r l)) (sym (drop_all i es le)) ∙ e)

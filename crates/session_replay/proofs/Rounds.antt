@@ -2,10 +2,9 @@
 use Rattle.std.proofs.Common.{◌≡◌, ℕ, zero, suc, ◌+◌, ◌-◌, ◌<◌, ◌≤◌, ◌==◌, ◌%◌, List, [], ◌∷◌, ◌++◌, length, drop, get_or, refl, sym, ap, ap₂, ◌∙◌, subst, arith, append_assoc, append-nil}
 use Rattle.std.specs.Prelude.{◌&&◌}
 use Rattle.std.specs.List.{All, flat_map, range_with_len}
-use Rattle.std.proofs.lemmas.List.{drop_all}
+use Rattle.std.proofs.lemmas.List.{drop_all, drop_more}
 use Rattle.std.proofs.lemmas.List.FromFn.{length-range_with_len}
 use Rattle.std.proofs.lemmas.List.Elements.{All-cons, All-nil}
-use Rattle.query_dispatch.proofs.Turns.{range_more}
 use Rattle.session_lines.specs.declared.session.SessionLine.{SessionLine}
 use Rattle.session_lines.specs.declared.session.SessionLine.TheVariants.{Give}
 use Rattle.session_maker.specs.Draws.{next}
@@ -13,6 +12,7 @@ use Rattle.session_maker.specs.Made.{gives_behind, gives_of, gives_to, ids_to, m
 use Rattle.session_maker.specs.Turns.{author_of, turn_of}
 use Rattle.op_model.specs.Operations.{last_replica}
 use Rattle.op_model.specs.Domains.{IsReplica}
+use Rattle.op_model.proofs.Elements.{range_more}
 use Rattle.text_buffer.specs.Buffer.{BufferState}
 use Rattle.session_lines.specs.Report.{line_text}
 use Rattle.session_maker.proofs.Decoding.{made_sessions_decode}
@@ -20,7 +20,6 @@ use Rattle.session_replay.specs.Making.{Makes, count_lines, length_at, made_open
 use Rattle.session_replay.specs.MakingOn.{Leaves, TakesTurn, Works, WorksRound, work_state}
 use Rattle.session_replay.specs.Work.{State, after_all, counts_report, step}
 use Rattle.session_replay.specs.declared.making.Making.{Making}
-use Rattle.session_replay.proofs.Steps.{behind}
 
 -- ---- lines worked one after another
 
@@ -63,7 +62,7 @@ module _ (f : ℕ → List SessionLine) (a : Making) where
   pub going_on : (b c : Making) (xs : List ℕ) (i x d : ℕ) → i < length xs → x ≡ get_or xs i d → Going b xs i → Works b c b.draws (f x) → Going c xs (i + 1)
   going_on b c xs i x d lt is g w =
       let rest = flat_map f (drop (i + 1) xs) in
-      let is_rest : flat_map f (drop i xs) ≡ f x ++ rest = ap (flat_map f) (behind xs i d lt) ∙ ap (λ z. f z ++ rest) (sym is) in
+      let is_rest : flat_map f (drop i xs) ≡ f x ++ rest = ap (flat_map f) (drop_more xs i d lt) ∙ ap (λ z. f z ++ rest) (sym is) in
       (leaves_more a b c b.draws (flat_map f xs) (f x) rest (subst (λ (z : List SessionLine). Leaves a b (flat_map f xs) z) is_rest g.0) w, w.draws ∙ g.1)
 
   pub going_done : (b : Making) (xs : List ℕ) (i : ℕ) → length xs ≤ i → Going b xs i → Works a b a.draws (flat_map f xs)
@@ -148,7 +147,7 @@ pub more_counts : (bs : List BufferState) (i : ℕ) (d : BufferState) (out new a
     → new ++ count_lines (drop (i + 1) bs) ≡ all
 more_counts bs i d out new all lt e n =
     ap (λ t. t ++ count_lines (drop (i + 1) bs)) n ∙ append_assoc out (line_text (counts_report (get_or bs i d))) (count_lines (drop (i + 1) bs))
-    ∙ ap (λ cs. out ++ count_lines cs) (sym (behind bs i d lt)) ∙ e
+    ∙ ap (λ cs. out ++ count_lines cs) (sym (drop_more bs i d lt)) ∙ e
 
 pub counts_done : (bs : List BufferState) (i : ℕ) (out all : List ℕ) → length bs ≤ i → out ++ count_lines (drop i bs) ≡ all → out ≡ all
 counts_done bs i out all le e = sym (append-nil out) ∙ ap (λ cs. out ++ count_lines cs) (sym (drop_all i bs le)) ∙ e

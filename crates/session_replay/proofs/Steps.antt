@@ -1,8 +1,7 @@
 -- Lines worked one after another.
-use Rattle.std.proofs.Common.{◌≡◌, ℕ, ◌+◌, ◌<◌, ◌≤◌, List, [], ◌∷◌, ◌++◌, length, drop, get_or, map, Option, None, Some, refl, sym, ap, ◌∙◌, append_assoc, append-nil, add-one}
-use Rattle.std.proofs.Math.Seq.{drop-cons}
+use Rattle.std.proofs.Common.{◌≡◌, ℕ, ◌+◌, ◌<◌, ◌≤◌, List, [], ◌∷◌, ◌++◌, length, drop, get_or, map, Option, None, Some, refl, sym, ap, ◌∙◌, append_assoc, append-nil}
 use Rattle.std.specs.List.{flat_map}
-use Rattle.std.proofs.lemmas.List.{drop_all}
+use Rattle.std.proofs.lemmas.List.{drop_all, drop_more}
 use Rattle.std.proofs.lemmas.Grind.{flat_map-append}
 use Rattle.lamport_clock.specs.Versions.{Entries}
 use Rattle.op_model.specs.declared.anchor.Anchor.{Anchor}
@@ -63,26 +62,15 @@ same_names s ns ls ms ks d e =
 pub line_reported : (r q : Report) (out new : List ℕ) → r ≡ q → new ≡ out ++ line_text r → new ≡ out ++ report_text (q ∷ [])
 line_reported r q out new e n = n ∙ ap (λ r. out ++ line_text r) e ∙ ap (λ t. out ++ t) (sym (text-one q))
 
--- the buffer is there, and what it reports is written
-pub one_reported : (g : BufferState → List Report) (o : Option BufferState) (b : BufferState) (out new : List ℕ) → o ≡ Some b → new ≡ out ++ report_text (g b) → new ≡ out ++ report_text (reports_at g o)
-one_reported g o b out new e n = n ∙ ap (λ o. out ++ report_text (reports_at g o)) (sym e)
+-- it is there, a buffer or what a replica has applied, and what is reported of it is written
+pub one_reported : {A : Type 0} (g : A → List Report) (o : Option A) (x : A) (out new : List ℕ) → Some x ≡ o → new ≡ out ++ report_text (g x) → new ≡ out ++ report_text (reports_at g o)
+one_reported g o x out new e n = n ∙ ap (λ o. out ++ report_text (reports_at g o)) e
 
 -- it is not there, and nothing is written
-pub none_reported : (g : BufferState → List Report) (o : Option BufferState) (out : List ℕ) → o ≡ None → out ≡ out ++ report_text (reports_at g o)
-none_reported g o out e = sym (append-nil out) ∙ ap (λ t. out ++ t) (sym text-none) ∙ ap (λ o. out ++ report_text (reports_at g o)) (sym e)
-
--- the replica is there, and what is reported of what it has applied is written
-pub of_history : (g : List Operation → List Report) (o : Option (List Operation)) (h : List Operation) (out new : List ℕ) → Some h ≡ o → new ≡ out ++ report_text (g h) → new ≡ out ++ report_text (reports_at g o)
-of_history g o h out new e n = n ∙ ap (λ o. out ++ report_text (reports_at g o)) e
-
--- it is not there, and nothing is written
-pub of_no_history : (g : List Operation → List Report) (o : Option (List Operation)) (out : List ℕ) → None ≡ o → out ≡ out ++ report_text (reports_at g o)
-of_no_history g o out e = nothing_written out ∙ ap (λ o. out ++ report_text (reports_at g o)) e
+pub none_reported : {A : Type 0} (g : A → List Report) (o : Option A) (out : List ℕ) → None ≡ o → out ≡ out ++ report_text (reports_at g o)
+none_reported g o out e = nothing_written out ∙ ap (λ o. out ++ report_text (reports_at g o)) e
 
 -- ---- one line more
-
-pub behind : {A : Type 0} (xs : List A) (i : ℕ) (d : A) → i < length xs → drop i xs ≡ get_or xs i d ∷ drop (i + 1) xs
-behind xs i d lt = rw (add-one) (drop-cons xs i d lt)
 
 -- the next of the lines that are left
 module _ (left : List SessionLine) (l : SessionLine) (rest : List SessionLine) (s t : State) (begins : left ≡ l ∷ rest) (is : t ≡ step l s) where
@@ -102,7 +90,7 @@ lines_done left s out all none e = all_written out all (ap (λ ls. out ++ report
 
 pub more_ends : (bs : List BufferState) (i : ℕ) (d : BufferState) (out new all : List ℕ) → i < length bs → out ++ report_text (flat_map at_end (drop i bs)) ≡ all → new ≡ out ++ report_text (at_end (get_or bs i d))
     → new ++ report_text (flat_map at_end (drop (i + 1) bs)) ≡ all
-more_ends bs i d out new all lt e n = written (at_end (get_or bs i d)) (flat_map at_end (drop (i + 1) bs)) out new all (ap (λ l. out ++ report_text (flat_map at_end l)) (sym (behind bs i d lt)) ∙ e) n
+more_ends bs i d out new all lt e n = written (at_end (get_or bs i d)) (flat_map at_end (drop (i + 1) bs)) out new all (ap (λ l. out ++ report_text (flat_map at_end l)) (sym (drop_more bs i d lt)) ∙ e) n
 
 pub ends_done : (bs : List BufferState) (i : ℕ) (out all : List ℕ) → length bs ≤ i → out ++ report_text (flat_map at_end (drop i bs)) ≡ all → out ≡ all
 ends_done bs i out all le e = all_written out all (ap (λ l. out ++ report_text (flat_map at_end l)) (sym (drop_all i bs le)) ∙ e)
@@ -112,7 +100,7 @@ ends_done bs i out all le e = all_written out all (ap (λ l. out ++ report_text 
 pub more_lines : (rs : List Report) (i : ℕ) (d : Report) (out new all : List ℕ) → i < length rs → out ++ report_text (drop i rs) ≡ all → new ≡ out ++ line_text (get_or rs i d) → new ++ report_text (drop (i + 1) rs) ≡ all
 more_lines rs i d out new all lt e n =
     let l : Report = get_or rs i d in
-    written (l ∷ []) (drop (i + 1) rs) out new all (ap (λ l. out ++ report_text l) (sym (behind rs i d lt)) ∙ e) (line_reported l l out new refl n)
+    written (l ∷ []) (drop (i + 1) rs) out new all (ap (λ l. out ++ report_text l) (sym (drop_more rs i d lt)) ∙ e) (line_reported l l out new refl n)
 
 pub all_lines : (rs : List Report) (i : ℕ) (out all : List ℕ) → length rs ≤ i → out ++ report_text (drop i rs) ≡ all → out ≡ all
 all_lines rs i out all le e = all_written out all (ap (λ l. out ++ report_text l) (sym (drop_all i rs le)) ∙ e)

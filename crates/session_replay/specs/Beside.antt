@@ -72,10 +72,10 @@ pub record KeepsEnds (d : DispatcherState Question) (p : PublishersState)
 -- an editor over these buffers that has asked this has left: its answers can be gathered from the other ends of the same queues
 pub record HasLeft (bs : List BufferState) (asks : List (Ask Question))
     (d : DispatcherState Question) (e : Edited) : Type 0 where
-  pub shown : List (List Operation)
-  pub fronts : AllZip IsFront shown (histories bs)
+  pub published : List (List Operation)
+  pub fronts : AllZip IsFront published (histories bs)
   pub ready : IsReady e.gathering.inboxes.items (map (λ v. v.items) e.gathering.tolds.items)
-      e.gathering.sizes.items shown asks
+      e.gathering.sizes.items published asks
   pub count : e.gathering.count ≡ length asks
   pub queues : queues_of e.gathering.inboxes.items ≡ queues_of d.inboxes
   pub pairs : pairs_in e.gathering.inboxes.items ≡ pairs_in d.inboxes

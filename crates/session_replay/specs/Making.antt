@@ -1,7 +1,8 @@
 -- A session that is made by a seed, and its summary.
-use Rattle.std.specs.Prelude.{◌≡◌, ℕ, ◌+◌, List, [], ◌∷◌, ◌++◌, length, nat_eq, codes, decimal, Bool, true, Option, None, Some, Ok, is_some, if◌then◌else◌}
+use Rattle.std.specs.Prelude.{◌≡◌, ℕ, ◌+◌, List, [], ◌∷◌, ◌++◌, length, nat_eq, codes, decimal, Bool, true, Option, Ok, is_some, if◌then◌else◌}
 use Rattle.std.specs.List.{count_by, flat_map, list_all}
 use Rattle.std.specs.Cmp.Lexicographic.{pointwise}
+use Rattle.std.specs.Option.{option_map_or}
 use Rattle.op_model.specs.Shown.{text}
 use Rattle.text_buffer.specs.Buffer.{BufferState}
 use Rattle.session_lines.specs.Report.{line_text}
@@ -16,8 +17,7 @@ use Rattle.session_replay.specs.Queries.{end_of}
 
 -- how many bytes the text of a buffer has, if it is there
 abbrev pub text_len : Option BufferState → ℕ
-text_len None = 0
-text_len (Some b) = length (text b.history)
+text_len o = option_map_or (λ (b : BufferState). length (text b.history)) o 0
 
 abbrev pub length_at : ℕ → State → ℕ
 length_at r s = text_len (buffer_of r s.buffers)

@@ -1,7 +1,7 @@
 -- The queries of a session: what they ask, the plain answers, and on which text each may be answered.
 use Rattle.std.specs.Prelude.{◌≡◌, ℕ, ◌+◌, ◌≤◌, ◌==◌, List, [], ◌∷◌, ◌++◌, length, map, take, Option, None, Some, if◌then◌else◌}
 use Rattle.std.specs.List.{All, AllPairs, flat_map}
-use Rattle.std.specs.Option.{option_map, unwrap_or}
+use Rattle.std.specs.Option.{option_map, option_map_or, unwrap_or}
 use Rattle.text_dims.specs.declared.points.Point.{Point}
 use Rattle.text_dims.specs.declared.places.Place.{Place}
 use Rattle.text_dims.specs.Places.{place_at_offset, place_at_point, offset_clipped_back, offset_clipped_on, point_clipped_back, point_clipped_on, point_of, offset_utf16_of, point_utf16_of}
@@ -89,10 +89,9 @@ pub record AskedQuery : Type 0 where
   pub history : List Operation
   pub question : Question
 
--- what a replica has applied, the base first
-abbrev pub history_of : Option BufferState → List Operation
-history_of None = []
-history_of (Some b) = b.history
+-- what a replica has applied, the base first; nothing where it is not there
+abbrev pub history_or_empty : Option BufferState → List Operation
+history_or_empty o = option_map_or (λ (b : BufferState). b.history) o []
 
 -- query q of a replica's buffer; a replica that is not there is not asked
 abbrev pub query_of : ℕ → ℕ → Question → Option BufferState → List AskedQuery
@@ -141,16 +140,16 @@ pub record Reply : Type 0 where
   pub count : ℕ
 
 -- what the replica of a reply has applied at the end of the session
-abbrev pub final_of : State → Reply → List Operation
-final_of end p = history_of (buffer_of p.query.replica end.buffers)
+abbrev pub history_at_end : State → Reply → List Operation
+history_at_end end p = history_or_empty (buffer_of p.query.replica end.buffers)
 
 -- the line of a reply: the plain answer on the text of the base and the first `count` operations behind it at the end
 abbrev pub reply_line : State → Reply → Report
-reply_line end p = answer_line p.query.number p.count p.query.question (text (take (p.count + 1) (final_of end p)))
+reply_line end p = answer_line p.query.number p.count p.query.question (text (take (p.count + 1) (history_at_end end p)))
 
 -- a reply counts no less than was applied at its query's place, and no more than is applied at the end
 abbrev pub IsWithin : State → Reply → Type 0
-IsWithin end p = (applied_count p.query.history ≤ p.count) × (p.count ≤ applied_count (final_of end p))
+IsWithin end p = (applied_count p.query.history ≤ p.count) × (p.count ≤ applied_count (history_at_end end p))
 
 -- where two queries of one replica go to one worker, the later is not answered on fewer operations
 abbrev pub NeverFalls : ℕ → Reply → Reply → Type 0

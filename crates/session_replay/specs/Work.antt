@@ -1,6 +1,7 @@
 -- What the lines of a session report, and what they do to the buffers of its replicas.
 use Rattle.std.specs.Prelude.{ℕ, ◌+◌, ◌-◌, ◌^◌, ◌==◌, List, [], ◌∷◌, ◌++◌, length, map, get_or, Option, Some, None, is_none, option_and_then, option_map, Result, Ok, Err, if◌then◌else◌}
 use Rattle.std.specs.List.{find, flat_map}
+use Rattle.std.specs.Option.{option_map_or}
 use Rattle.std.specs.Result.{result_ok}
 use Rattle.lamport_clock.specs.Versions.{Entries}
 use Rattle.lamport_clock.specs.declared.stamp.Lamport.{Lamport}
@@ -71,13 +72,10 @@ edit_outcome n ps b = unless (edit_of b ps) (option_map (report.EditRefused n) (
 abbrev pub first_unnamed : List (Option Operation) → List ℕ → Option ℕ
 first_unnamed ops ms = find (λ m. is_none (operation_of m ops)) ms
 
-abbrev pub stamps_in : Option Operation → List Lamport
-stamps_in None = []
-stamps_in (Some op) = stamp_of op ∷ []
-
 -- the stamps of the operations that stand under the numbers
 abbrev pub stamps_under : List (Option Operation) → List ℕ → List Lamport
-stamps_under ops ms = flat_map (λ m. stamps_in (operation_of m ops)) ms
+stamps_under ops ms =
+    flat_map (λ m. option_map_or (λ (op : Operation). stamp_of op ∷ []) (operation_of m ops) []) ms
 
 -- what refuses it, if anything does; a number without an operation does before every fault
 abbrev pub undo_refusal : ℕ → List (Option Operation) → List ℕ → BufferState → Option Report
@@ -132,8 +130,7 @@ text_report b =
 -- ---- a line
 
 abbrev pub reports_at : {A : Type 0} → (A → List Report) → Option A → List Report
-reports_at f None = []
-reports_at f (Some b) = f b
+reports_at f o = option_map_or f o []
 
 -- what the next operation line reports, f being what comes of it at the buffer of replica r
 abbrev pub line_events : ℕ → (BufferState → Result Operation Report) → State → List Report

@@ -244,7 +244,7 @@ fn numbers_to(alloc: Global, count: u64) -> Result<Vec<u64>, OutOfMemory>
 ///
 /// # Errors
 ///
-/// Want of memory alone.
+/// `OutOfMemory` alone.
 pub fn make(alloc: Global, seed: u32, replicas: u16, edits: u32) -> Result<Vec<u8>, OutOfMemory>
     requires some { 1 ≤ replicas }
     requires few { replicas ≤ last_replica }

@@ -1,4 +1,4 @@
-//! Sources and sinks in memory, with calls that fail by a list, and such as never fail.
+//! Sources and sinks in memory, with calls that fail by a list, and some that never fail.
 ghost use Rattle.std.specs.Prelude.{◌≡◌, ◌<◌, ◌≤◌, ◌+◌, ◌++◌, [], Some, None, drop, take, length, IfOk, vec_len, vec_capacity};
 
 use crate::{Failed, OutOfMemory, ReadCounts, Sink, Source};

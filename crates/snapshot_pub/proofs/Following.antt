@@ -1,5 +1,5 @@
 -- Each step of a pair keeps its rule.
-use Rattle.std.proofs.Common.{◌≡◌, ◌≢◌, ℕ, zero, suc, List, [], ◌∷◌, ◌++◌, map, set, fold, sym, refl, ap, ◌∙◌, subst, ⊎_elim, arith, get_or}
+use Rattle.std.proofs.Common.{◌≡◌, ◌≢◌, ℕ, List, [], ◌∷◌, ◌++◌, map, set, fold, sym, refl, ap, ◌∙◌, subst, ⊎_elim, arith, get_or}
 use mathlib.Core.Option.{some, some-ne-none}
 use lib.ListN.{get_elem?}
 use Rattle.std.specs.List.{All}
@@ -7,16 +7,13 @@ use Rattle.std.proofs.lemmas.List.Elements.{All-nil}
 use Rattle.std.proofs.lemmas.List.Sums.{fold-append}
 use Rattle.crossbeam_utils.specs.Register.{Admits, TurnsAt, Forks, Merges}
 use Rattle.atomic_table.proofs.Lists.{at_set, at_snoc}
+use Rattle.op_model.proofs.Elements.{All-single}
 use Rattle.snapshot_pub.specs.declared.kept.Kept.{Kept}
 use Rattle.logbook.specs.Pages.{Book}
 use Rattle.text_buffer.specs.Document.{IsFront}
 use Rattle.snapshot_pub.specs.Rule.{Follows, KeepsAll, Sees}
 use Rattle.snapshot_pub.specs.Fields.{seen_list}
 use Rattle.text_buffer.proofs.Fronts.{front_itself, front_trans}
-
-pub All-single : {A : Type 0} (P : A → Type 0) (x : A) → P x → All P (x ∷ [])
-All-single P x h zero d below = h
-All-single P x h (suc k) d below = absurd (omega arith)
 
 pub follows_itself : (x : Kept) → Follows x x
 follows_itself x = (refl, front_itself x.snapshot)

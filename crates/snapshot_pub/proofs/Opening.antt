@@ -1,13 +1,13 @@
 -- One pair more is open.
-use Rattle.std.proofs.Common.{◌≡◌, ℕ, ◌+◌, List, [], ◌∷◌, ◌++◌, map, replicate, All, sym, ap, ◌∙◌}
+use Rattle.std.proofs.Common.{◌≡◌, ℕ, ◌+◌, List, [], ◌∷◌, ◌++◌, sym, ◌∙◌}
 use Rattle.std.proofs.lemmas.List.{map-append, replicate-append-replicate}
 use Rattle.std.proofs.lemmas.List.Elements.{All-append}
 use Rattle.op_model.specs.declared.operation.Operation.{Operation}
+use Rattle.op_model.proofs.Elements.{All-single}
 use Rattle.logbook.specs.Pages.{Book}
 use Rattle.snapshot_pub.specs.States.{ReaderState, HasLearned}
 use Rattle.snapshot_pub.specs.Fields.{AreOpen, Shows, side_pair, side_list}
 use Rattle.snapshot_pub.specs.declared.publisher.Side.{Side}
-use Rattle.snapshot_pub.proofs.Following.{All-single}
 
 pub open_more : (first : List Operation) (n : ℕ) (sides : List Side) (readers : List ReaderState) (s : Side) (r : ReaderState) → AreOpen first n sides readers
     → Shows first s → HasLearned first r → r.pair ≡ side_pair s → AreOpen first (n + 1) (sides ++ s ∷ []) (readers ++ r ∷ [])

@@ -1,9 +1,7 @@
 -- A text that is divided, and what is found in its parts.
-use Rattle.std.proofs.Common.{◌≡◌, ℕ, zero, suc, ◌+◌, ◌-◌, ◌<◌, ◌≤◌, List, [], ◌∷◌, ◌++◌, length, slice_index, slice_index_or, refl, sym, ap, subst, ◌∙◌, arith, ⊎_elim, length-append}
+use Rattle.std.proofs.Common.{◌≡◌, ℕ, zero, suc, ◌+◌, ◌-◌, ◌<◌, ◌≤◌, List, [], ◌∷◌, ◌++◌, length, slice_index, slice_index_or, refl, sym, ap, subst, ◌∙◌, arith, ⊎_elim}
 use Rattle.std.specs.List.{AllZip, range_with_len}
 use Rattle.std.specs.Str.{IsCharBoundary, IsUtf8}
-use Rattle.std.proofs.lemmas.Bool.{cases_lt}
-use Rattle.std.proofs.lemmas.List.{get_or_append_left, get_or_push}
 use Rattle.std.proofs.lemmas.Str.{IsCharBoundary-start}
 use Rattle.snapshot_search.specs.Starts.{starts, starts_between}
 use Rattle.snapshot_search.specs.Parts.{AreCuts}
@@ -18,38 +16,6 @@ cuts_first text cuts u is =
       last = refl;
       each = λ j h. let here : 0 ≡ j = omega arith in subst (λ i. IsCharBoundary text (slice_index (0 ∷ []) i)) here (IsCharBoundary-start text u);
       rise = λ j h. absurd (omega arith);
-    }
-
-pub cuts_more : (text cuts more : List ℕ) (last next : ℕ) → AreCuts text cuts last → last ≤ next → IsCharBoundary text next → more ≡ cuts ++ next ∷ [] → AreCuts text more next
-cuts_more text cuts more last next was order boundary is =
-    let some = was.some in
-    let size = length-append cuts (next ∷ []) in
-    let whole = cuts ++ next ∷ [] in
-    let old = λ (j : ℕ) (h : j < length cuts). get_or_append_left cuts (next ∷ []) 0 j h in
-    let new = get_or_push cuts next 0 (length cuts) refl in
-    subst (λ l. AreCuts text l next) (sym is)
-    record {
-      some = omega arith;
-      first = old 0 some ∙ was.first;
-      last = let at : length whole - 1 ≡ length cuts = omega arith in ap (slice_index whole) at ∙ new;
-      each = λ j h.
-          ⊎_elim (λ (below : j < length cuts). subst (IsCharBoundary text) (sym (old j below)) (was.each j below))
-          (λ (last_one : length cuts ≤ j).
-          let here : length cuts ≡ j = omega arith in
-          subst (IsCharBoundary text) (sym (ap (slice_index whole) (sym here) ∙ new)) boundary)
-          (cases_lt j (length cuts));
-      rise = λ j h.
-          ⊎_elim
-          (λ (below : j + 1 < length cuts).
-          let rises = was.rise j below in
-          omega (arith, old j (omega arith), old (j + 1) below))
-          (λ (last_one : length cuts ≤ j + 1).
-          let here : length cuts ≡ j + 1 = omega arith in
-          let place : length cuts - 1 ≡ j = omega arith in
-          let one : slice_index whole j ≡ last = old j (omega arith) ∙ (ap (slice_index cuts) (sym place) ∙ was.last) in
-          let two : slice_index whole (j + 1) ≡ next = ap (slice_index whole) (sym here) ∙ new in
-          omega arith)
-          (cases_lt (j + 1) (length cuts));
     }
 
 -- one part more

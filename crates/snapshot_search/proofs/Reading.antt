@@ -2,7 +2,6 @@
 use Rattle.std.proofs.Common.{◌≡◌, ℕ, ◌+◌, ◌-◌, ◌<◌, ◌≤◌, Result, Ok, Err, OnOk, List, [], ◌∷◌, ◌++◌, length, take, drop, slice_range, slice_index, sym, ap, subst, ◌∙◌, arith, length-append, append_assoc}
 use Rattle.std.proofs.lemmas.List.{append-nil, take_all, get_or_append_left, get_or-append-add, length-take-le, take-append-drop}
 use Rattle.std.proofs.Common.{length-drop}
-use Rattle.std.proofs.Math.Seq.{take-add}
 use Rattle.memchr.specs.Find.{OccursAt, Nowhere, NoneBefore}
 use Rattle.snapshot_search.specs.Starts.{starts_between}
 use Rattle.snapshot_search.specs.Shifts.{Agrees, IsFallback, Moves}
@@ -190,10 +189,6 @@ reads_rest needle piece passed p r q some none_matched count nowhere start match
                 ∙ ap (starts_between text needle from) (sym start)));
           };
     }
-
--- one piece more of a longer one
-pub reads_on : (needle piece : List ℕ) (at n : ℕ) (p q r : Progress) → Reads needle (take at piece) p q → Reads needle (take n (drop at piece)) q r → Reads needle (take (at + n) piece) p r
-reads_on needle piece at n p q r x y = subst (λ l. Reads needle l p r) (sym (take-add at n piece)) (reads_append needle (take at piece) (take n (drop at piece)) p q r x y)
 
 -- windows
 

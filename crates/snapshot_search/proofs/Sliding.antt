@@ -8,15 +8,6 @@ use Rattle.snapshot_search.specs.Shifts.{Agrees, IsFallback, AreFallbacks, Slide
 pub Agrees-fewer : (text needle : List ℕ) (s m n : ℕ) → m ≤ n → Agrees text needle s n → Agrees text needle s m
 Agrees-fewer text needle s m n le a = λ j h. a j (omega arith)
 
-pub Agrees-more : (text needle : List ℕ) (s n : ℕ) → Agrees text needle s n → slice_index text (s + n) ≡ slice_index needle n → Agrees text needle s (n + 1)
-Agrees-more text needle s n a e =
-    λ j h.
-    ⊎_elim (λ (below : j < n). a j below)
-    (λ (last : n ≤ j).
-    let here : j ≡ n = omega arith in
-    ap (λ i. slice_index text (s + i)) here ∙ (e ∙ ap (slice_index needle) (sym here)))
-    (cases_lt j n)
-
 -- what the needle has at e is what the text has at s + e
 shifted : (text needle : List ℕ) (s q t n : ℕ) → s < t → t < s + q → s + q ≤ t + n → Agrees text needle s q → Agrees text needle t n
     → Agrees needle needle (t - s) (q - (t - s))
@@ -41,13 +32,6 @@ none_passed text needle s q k f a t n low high reach b =
 
 -- Slides
 
-pub slides_at_first : (needle : List ℕ) (q b : ℕ) → Slides needle q b q
-slides_at_first needle q b text s a e =
-    let here : s ≡ s + q - q = omega arith in record {
-      stands = subst (λ p. Agrees text needle p q) here a;
-      none = λ t low high. absurd (omega arith);
-    }
-
 -- where the next byte is another, the needle is moved on to the fallback
 pub slides_on : (needle : List ℕ) (q b k l : ℕ) → k ≤ q → Slides needle q b k → (slice_index needle k ≡ b → ⊥) → IsFallback needle k l → Slides needle q b l
 slides_on needle q b k l le slid differs f text s a e =
@@ -66,29 +50,6 @@ slides_on needle q b k l le slid differs f text s a e =
           differs (sym (stands k (omega arith)) ∙ (ap (slice_index text) at ∙ e)))
           (cases_lt p t))
           (cases_lt t p);
-    }
-
-pub moves_more : (needle : List ℕ) (q b k : ℕ) → k ≤ q → Slides needle q b k → slice_index needle k ≡ b → Moves needle q b (k + 1)
-moves_more needle q b k le slid same text s a e =
-    let was = slid text s a e in
-    let place : s + q - k ≡ s + q + 1 - (k + 1) = omega arith in
-    let next : s + q - k + k ≡ s + q = omega arith in
-    record {
-      stands = subst (λ i. Agrees text needle i (k + 1)) place (Agrees-more text needle (s + q - k) k was.stands (ap (slice_index text) next ∙ (e ∙ sym same)));
-      none = λ t low high. was.none t low (omega arith);
-    }
-
-pub moves_past : (needle : List ℕ) (q b : ℕ) → Slides needle q b 0 → (slice_index needle 0 ≡ b → ⊥) → Moves needle q b 0
-moves_past needle q b slid differs text s a e =
-    let was = slid text s a e in
-    record {
-      stands = λ j h. absurd (omega arith);
-      none = λ t low high stands.
-          ⊎_elim (λ (before : t < s + q). was.none t low (omega arith) stands)
-          (λ (here : s + q ≤ t).
-          let at : t + 0 ≡ s + q = omega arith in
-          differs (sym (stands 0 (omega arith)) ∙ (ap (slice_index text) at ∙ e)))
-          (cases_lt t (s + q));
     }
 
 -- the table
@@ -110,13 +71,6 @@ next_fallback needle i k r le f moves =
           moved.none d behind (omega arith) (subst (λ n. Agrees needle needle d n) reach stands))
           (cases_lt d (i - k));
     }
-
-pub first_fallback : (needle : List ℕ) → IsFallback needle 1 0
-first_fallback needle = record {
-  fewer = omega arith;
-  ends = λ j h. absurd (omega arith);
-  most = λ d some low. absurd (omega arith);
-}
 
 pub fallback_at : (needle table : List ℕ) (q : ℕ) → AreFallbacks needle table → 0 < q → q ≤ length table → IsFallback needle q (slice_index table (q - 1))
 fallback_at needle table q each some le =

@@ -17,7 +17,8 @@ use Rattle.sum_tree.proofs.Nodes.{inner_of}
 use Rattle.sum_tree.proofs.Runs.{fits_middle}
 use Rattle.sum_tree.proofs.Splices.{spliced_within, spliced_child, spliced_piece, spliced-joined}
 use Rattle.sum_tree.proofs.Arounds.{outer_sums-snoc, Fitting-snoc}
-use Rattle.sum_tree.proofs.Placeds.{around_sum, around_fits, placed_child, placed_node, set_same_at}
+use Rattle.sum_tree.proofs.Placeds.{around_sum, around_fits, placed_child, placed_node}
+use Rattle.sum_tree.proofs.Heres.{set_same}
 use Rattle.sum_tree.proofs.Pairs.{paired_all}
 
 -- child k of a node seen as s, t, holds the n items from i on as its own from r on, and so they change together
@@ -76,7 +77,7 @@ module _ {T : Type 0} where
 
   -- where the child is as it was, so are all
   pub step_same : {s : Seen T} {ts : List (Seen T)} {k r n i : ℕ} {t : Seen T} {ys : List T} {u : Seen T} → IsStep s ts k r n i t ys → u ≡ t → set ts k u ≡ ts
-  step_same {s} {ts} {k} {r} {n} {i} {t} {ys} {u} st same = set_same_at ts k t u st.read same
+  step_same {s} {ts} {k} {r} {n} {i} {t} {ys} {u} st same = set_same ts k t u st.read same
 
   -- and are still the children of such a node
   pub step_children : {s : Seen T} {ts : List (Seen T)} {k r n i : ℕ} {t : Seen T} {ys : List T} {u : Seen T} → IsStep s ts k r n i t ys → u ≡ t → AreChildren s.height (set ts k u)

@@ -39,7 +39,7 @@ module _ {T : Type 0} where
 
   -- where it is as it was, so are all
   pub last_same : {s : Seen T} {ts : List (Seen T)} {n : ℕ} {t u : Seen T} → IsLast s ts n t → u ≡ t → set ts (n - 1) u ≡ ts
-  last_same {s} {ts} {n} {t} {u} last same = set_same ts n t u last.read same
+  last_same {s} {ts} {n} {t} {u} last same = set_same ts (n - 1) t u last.read same
 
   -- and are still the children of such a node
   pub last_children : {s : Seen T} {ts : List (Seen T)} {n : ℕ} {t u : Seen T} → IsLast s ts n t → u ≡ t → AreChildren s.height (set ts (n - 1) u)

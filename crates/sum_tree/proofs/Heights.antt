@@ -1,10 +1,9 @@
 -- How high trees are, and what a result says of that.
-use Rattle.std.proofs.Common.{◌≡◌, ℕ, ◌≤◌, List, [], ◌∷◌, length, Option, Some, None, IfOk, ap, arith, length-append}
+use Rattle.std.proofs.Common.{◌≡◌, ℕ, ◌≤◌, List, [], ◌∷◌, length, IfOk, ap, arith, length-append}
 use Rattle.std.specs.Prelude.{Result, Ok, Err}
 use Rattle.std.specs.List.{All}
 use Rattle.sum_tree.specs.Seen.{Seen}
 use Rattle.sum_tree.specs.Shape.{join_items, content_items, IsChild, IsContent}
-use Rattle.sum_tree.specs.Grown.{IsSplit}
 use Rattle.sum_tree.specs.declared.tree.Content.{Content}
 use Rattle.sum_tree.specs.declared.tree.Content.TheVariants.{Leaf, Inner}
 use Rattle.sum_tree.proofs.Children.{child_filled}
@@ -27,8 +26,3 @@ joined_filled h (t ∷ ts) a l = omega (arith, child_filled h t (a 0 t (omega ar
 pub empty_node : {S T : Type 0} (h : ℕ) (c : Content T S) → IsContent h c → content_items c ≡ [] → h ≡ 0
 empty_node h (Leaf v) k e = k.0
 empty_node h (Inner v) k e = absurd (omega (arith, ap length e, joined_filled h v.items k.0 k.1))
-
--- what was split stands at its height
-pub split_height : {T : Type 0} (h w : ℕ) (xs : List T) (a : Seen T) (b : Option (Seen T)) → IsSplit h w xs a b → a.height ≡ h
-split_height h w xs a None s = s.1
-split_height h w xs a (Some b) s = omega (arith, s.1.lower)

@@ -1,7 +1,6 @@
 -- What a push in place keeps of a node.
 use Rattle.std.proofs.Common.{◌≡◌, ℕ, ◌+◌, ◌-◌, ◌^◌, ◌<◌, ◌≤◌, List, [], ◌∷◌, ◌++◌, length, get_or, set, take, Vec, Global, Option, Some, None, sym, ap, subst, ◌∙◌, append_assoc, arith, length-append}
 use Rattle.std.proofs.lemmas.List.{take_all, take_more_set, length-set, set-get_or}
-use Rattle.std.proofs.lemmas.List.Elements.{All-set}
 use Rattle.std.specs.List.{All}
 use Rattle.sum_tree.specs.Laws.{SummaryLaws, fold}
 use Rattle.sum_tree.specs.Seen.{Seen}
@@ -9,10 +8,10 @@ use Rattle.sum_tree.specs.Here.{IsPushedOr}
 use Rattle.sum_tree.specs.Shape.{join_items, node_view, content_items, content_width, IsChild, IsContent, IsNode}
 use Rattle.sum_tree.specs.declared.tree.Node.{Node}
 use Rattle.sum_tree.specs.declared.tree.Content.{Content}
-use Rattle.sum_tree.specs.declared.tree.Content.TheVariants.{Leaf, Inner}
+use Rattle.sum_tree.specs.declared.tree.Content.TheVariants.{Inner}
 use Rattle.sum_tree.proofs.Folds.{fold_admitted, fold-append, fold_single}
 use Rattle.sum_tree.proofs.Children.{joined-append, joined_single}
-use Rattle.sum_tree.proofs.Opened.{joined-last, last_is_child}
+use Rattle.sum_tree.proofs.Opened.{joined-last}
 
 module _ {T : Type 0} where
   pub set_last : (ts : List (Seen T)) (n : ℕ) (u : Seen T) → n ≡ length ts → 1 ≤ n → set ts (n - 1) u ≡ take (n - 1) ts ++ u ∷ []
@@ -31,9 +30,9 @@ module _ {T : Type 0} where
   pub pushed_some : (t u : Seen T) (x y : T) (o : Option T) → o ≡ Some y → IsPushedOr t u x o → (u ≡ t) × (y ≡ x)
   pushed_some t u x y o e h = subst (λ (q : Option T). IsPushedOr t u x q) e h
 
-  -- the last child as it was
-  pub set_same : (ts : List (Seen T)) (n : ℕ) (t u : Seen T) → t ≡ get_or ts (n - 1) t → u ≡ t → set ts (n - 1) u ≡ ts
-  set_same ts n t u read same = ap (set ts (n - 1)) (same ∙ read) ∙ set-get_or ts (n - 1) t
+  -- child k as it was
+  pub set_same : (ts : List (Seen T)) (k : ℕ) (t u : Seen T) → t ≡ get_or ts k t → u ≡ t → set ts k u ≡ ts
+  set_same ts k t u read same = ap (set ts k) (same ∙ read) ∙ set-get_or ts k t
 
   pub grown_child : (h : ℕ) (t u : Seen T) (x : T) → IsChild h t → u.items ≡ t.items ++ x ∷ [] → u.height ≡ t.height → t.width ≤ u.width → u.width ≤ 12 → IsChild h u
   grown_child h t u x c items height wide narrow = record {

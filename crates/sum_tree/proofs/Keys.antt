@@ -82,6 +82,10 @@ pub record IsAround {T K : Type 0} (cmp : K → K → Ordering) (key : T → K) 
   pub before : All (λ x. cmp (key x) k ≡ Less) front
   pub behind : All (λ x. cmp (key x) k ≡ Greater) back
 
+-- behind the first of items whose keys ascend they ascend too
+pub ascending_rest : {T K : Type 0} (cmp : K → K → Ordering) (key : T → K) (x : T) (xs : List T) → Ascending cmp key (x ∷ xs) → Ascending cmp key xs
+ascending_rest cmp key x xs a = AllPairs-right (λ y z. cmp (key y) (key z) ≡ Less) (x ∷ []) xs a
+
 module _ {T K : Type 0} (cmp : K → K → Ordering) (key : T → K) (o : IsTotalOrder cmp) where
   -- what is not less than k stands before greater ones alone
   pub passed : (k : K) (x y : T) (r : Ordering) → cmp (key x) k ≡ r → is_lt r ≡ false → cmp (key x) (key y) ≡ Less → cmp (key y) k ≡ Greater

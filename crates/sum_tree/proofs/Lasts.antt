@@ -5,7 +5,7 @@ use Rattle.std.specs.declared.cmp.Ordering.{Ordering}
 use Rattle.std.specs.declared.cmp.Ordering.TheVariants.{Less}
 use Rattle.sum_tree.specs.Laws.{fold}
 use Rattle.sum_tree.specs.Keyed.{Ascending, IsLastKey}
-use Rattle.sum_tree.proofs.Keys.{AllPairs-right}
+use Rattle.sum_tree.proofs.Keys.{ascending_rest}
 
 -- the last of two or more is the last without the first
 get_or-last : {X : Type 0} (w x : X) (xs : List X) (d : X) → get_or (w ∷ x ∷ xs) (length (w ∷ x ∷ xs) - 1) d ≡ get_or (x ∷ xs) (length (x ∷ xs) - 1) d
@@ -26,7 +26,7 @@ module _ {S T K : Type 0} (empty : S) (op : S → S → S) (sum_of : T → S) (c
       e ∙ ap (λ (m : ℕ). Some (key (get_or (w ∷ []) m d))) (sym one)
   fold_last s w (x ∷ xs) d e a =
       let up : cmp (key w) (key x) ≡ Less = a 0 1 d (omega arith) (omega arith) in
-      let rest : Ascending cmp key (x ∷ xs) = AllPairs-right (λ y z. cmp (key y) (key z) ≡ Less) (w ∷ []) (x ∷ xs) a in
+      let rest : Ascending cmp key (x ∷ xs) = ascending_rest cmp key w (x ∷ xs) a in
       fold_last (op s (sum_of x)) x xs d (next s w x e up) rest ∙ ap (λ (y : T). Some (key y)) (sym (get_or-last w x xs d))
 
   -- the sum of a list tells its last key

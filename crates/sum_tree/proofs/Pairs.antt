@@ -1,19 +1,16 @@
 -- What stands in the place of one child, or of two, where a node is changed in place.
-use Rattle.std.proofs.Common.{refl, ◌≡◌, ℕ, ◌+◌, ◌-◌, ◌^◌, ◌<◌, ◌≤◌, List, [], ◌∷◌, ◌++◌, length, get_or, set, take, drop, Vec, Global, Option, Some, None, sym, ap, subst, ◌∙◌, append_assoc, take-append-drop, arith, length-append}
+use Rattle.std.proofs.Common.{refl, ◌≡◌, ℕ, ◌+◌, ◌-◌, ◌^◌, ◌<◌, ◌≤◌, List, [], ◌∷◌, ◌++◌, length, get_or, set, take, drop, Option, Some, None, sym, ap, subst, ◌∙◌, append_assoc, take-append-drop, arith, length-append}
 use Rattle.std.proofs.lemmas.List.{drop-set, drop_all, drop-append-le, take-set-le, take-take, take-append-le, length-take-le, length-drop}
 use Rattle.std.proofs.lemmas.List.Elements.{All-append, All-cons, All-nil, All-take, All-drop}
 use Rattle.std.specs.List.{All, insert}
-use Rattle.sum_tree.specs.Laws.{SummaryLaws, fold}
 use Rattle.sum_tree.specs.Seen.{Seen}
 use Rattle.sum_tree.specs.Shape.{join_items, IsChild}
 use Rattle.sum_tree.specs.Grown.{IsSplit, pair_list, with_pair, with_run}
 use Rattle.sum_tree.specs.Here.{IsPushedBesideOr}
 use Rattle.sum_tree.specs.Placed.{IsPlaced, inner_seen, AreChildren}
-use Rattle.sum_tree.specs.declared.tree.Content.TheVariants.{Inner}
 use Rattle.sum_tree.proofs.Children.{many_enough}
 use Rattle.sum_tree.proofs.Opened.{joined-last, with_last-joined, pair-joined, last_is_child}
 use Rattle.sum_tree.proofs.Splices.{run-joined}
-use Rattle.sum_tree.proofs.Heres.{Held, HeldInner}
 
 module _ {X : Type 0} where
   set_parts : (xs : List X) (k : ℕ) (a : X) → k < length xs → set xs k a ≡ take k xs ++ a ∷ drop (k + 1) xs
@@ -102,10 +99,3 @@ module _ {T : Type 0} where
           many = λ l. many_enough h us children l;
         },
       )
-
-module _ {S T : Type 0} {empty : S} {op : S → S → S} {admits fits : S → Type 0} (laws : SummaryLaws empty op admits fits) (sum_of : T → S) (admitted : (x : T) → admits (sum_of x)) where
-  -- one item more behind those of the children
-  pub pushed_inner : (h len : ℕ) (s r : S) (v : Vec (Seen T) Global) (us : List (Seen T)) (x : T) → Held laws sum_of admitted h len s (Inner v) → IsPushedBesideOr h v.items us x None → r ≡ fold empty op sum_of (join_items v.items ++ x ∷ []) → fits (fold empty op sum_of (join_items v.items ++ x ∷ [])) → length (join_items v.items) < 2 ^ 40 → HeldInner laws sum_of admitted h (len + 1) r us
-  pushed_inner h len s r v us x held p sum ok short =
-      let more : length (join_items us) ≡ length (join_items v.items) + 1 = omega (arith, ap length p.0, length-append (join_items v.items) (x ∷ [])) in
-      ((p.1, omega (arith, p.2, held.0.1), p.3), omega (arith, more, held.1), rw p.0 sum, rw p.0 ok, omega (arith, more, short))

@@ -1,22 +1,19 @@
 -- What a change of one child in place leaves of a node.
-use Rattle.std.proofs.Common.{refl, ◌≡◌, ℕ, ◌+◌, ◌-◌, ◌^◌, ◌<◌, ◌≤◌, List, [], ◌∷◌, ◌++◌, length, get_or, set, take, drop, Vec, Global, sym, ap, subst, ◌∙◌, append_assoc, arith}
-use Rattle.std.proofs.lemmas.List.{length-set, set-get_or, drop-set, take-set-le, same_from_push}
+use Rattle.std.proofs.Common.{refl, ◌≡◌, ℕ, ◌+◌, ◌-◌, ◌^◌, ◌<◌, ◌≤◌, List, [], ◌∷◌, ◌++◌, length, set, take, drop, Vec, Global, sym, ap, subst, ◌∙◌, append_assoc, arith}
+use Rattle.std.proofs.lemmas.List.{length-set, drop-set, take-set-le, same_from_push}
 use Rattle.std.proofs.lemmas.List.Elements.{All-set}
 use Rattle.std.specs.List.{All}
 use Rattle.sum_tree.specs.Laws.{SummaryLaws, fold}
 use Rattle.sum_tree.specs.Seen.{Seen}
 use Rattle.std.specs.Prelude.{Result}
-use Rattle.sum_tree.specs.Shape.{join_items, content_items, IsChild, IsContent, IsNode}
-use Rattle.sum_tree.specs.declared.tree.Content.{Content}
-use Rattle.sum_tree.specs.Placed.{IsPlaced, IsPlacing, IsPlacingOr, IsNoted, content_seen, inner_seen}
+use Rattle.sum_tree.specs.Shape.{join_items, IsChild}
+use Rattle.sum_tree.specs.Placed.{IsPlaced, IsPlacingOr, IsNoted, inner_seen}
 use Rattle.sum_tree.specs.declared.around.Around.{Around}
 use Rattle.sum_tree.specs.declared.here.Placing.{Placing}
-use Rattle.sum_tree.specs.declared.here.Placing.TheVariants.{Done, Split, Back}
-use Rattle.sum_tree.specs.declared.tree.Content.TheVariants.{Inner}
+use Rattle.sum_tree.specs.declared.here.Placing.TheVariants.{Done, Split}
 use Rattle.sum_tree.proofs.Folds.{fold-append, fits_left}
 use Rattle.sum_tree.proofs.Lists.{popped}
 use Rattle.sum_tree.proofs.Children.{joined-split, many_enough}
-use Rattle.sum_tree.proofs.Heres.{Held, HeldInner}
 
 pub same_last : {X : Type 0} (xs ys zs : List X) (x y : X) → zs ≡ xs ++ x ∷ [] → zs ≡ ys ++ y ∷ [] → x ≡ y
 same_last xs ys zs x y e f = (same_from_push xs ys x y (sym e ∙ f)).1
@@ -25,9 +22,6 @@ pub same_front : {X : Type 0} (xs ys zs : List X) (x y : X) → zs ≡ xs ++ x �
 same_front xs ys zs x y e f = (same_from_push xs ys x y (sym e ∙ f)).0
 
 module _ {T : Type 0} where
-  pub set_same_at : (ts : List (Seen T)) (k : ℕ) (t u : Seen T) → t ≡ get_or ts k t → u ≡ t → set ts k u ≡ ts
-  set_same_at ts k t u read same = ap (set ts k) (same ∙ read) ∙ set-get_or ts k t
-
   pub joined-set : (ts : List (Seen T)) (k : ℕ) (u : Seen T) → k < length ts → join_items (set ts k u) ≡ join_items (take k ts) ++ (u.items ++ join_items (drop (k + 1) ts))
   joined-set ts k u lt =
       sym (joined-split (set ts k u) k) ∙ ap (λ (us : List (Seen T)). join_items us ++ join_items (drop k (set ts k u))) (take-set-le k ts k u (omega arith)) ∙ ap (λ (us : List (Seen T)). join_items (take k ts) ++ join_items us) (drop-set ts k u lt)
@@ -67,15 +61,6 @@ module _ {S E N : Type 0} where
   noted_split n len s p a b sums rest m e f g = rw e (refl, refl, λ xs x h. (rest, refl, popped xs sums.items rest.items m x f g h))
 
 module _ {S T : Type 0} where
-  pub noted_placing : (n len len' : ℕ) (s s' x : S) (ss : List S) (w : ℕ) (xs ys : List T) (old new : Seen T) (p q : Placing (Vec S Global) (Vec T Global) (Seen T)) → IsPlacing (ss ++ x ∷ []) w xs ys old new p → IsNoted n len len' s s' p q → IsPlacing ss w xs ys old new q
-  noted_placing n len len' s s' x ss w xs ys old new (Done sums) q h k =
-      let d = k ss x h.1 in
-      rw d.2.1 (h.0, d.2.2)
-  noted_placing n len len' s s' x ss w xs ys old new (Split a b sums) q h k =
-      let d = k.2 ss x h.2 in
-      rw d.1 (h.0, h.1, d.2)
-  noted_placing n len len' s s' x ss w xs ys old new (Back es) q h k = rw k.2 h
-
   pub placing_moved : {E : Type 0} (h : ℕ) (ss zs : List S) (ts us : List (Seen T)) (xs vs ys : List T) (new : Seen T) (r : Result (Placing (Vec S Global) (Vec T Global) (Seen T)) E) → ss ≡ zs → us ≡ ts → vs ≡ xs → IsPlacingOr ss (length us) vs ys (inner_seen h us) new r → IsPlacingOr zs (length ts) xs ys (inner_seen h ts) new r
   placing_moved {E} h ss zs ts us xs vs ys new r e f g p =
       subst (λ (q : List S). IsPlacingOr q (length ts) xs ys (inner_seen h ts) new r) e (subst (λ (q : List (Seen T)). IsPlacingOr ss (length q) xs ys (inner_seen h q) new r) f (subst (λ (q : List T). IsPlacingOr ss (length us) q ys (inner_seen h us) new r) g p))
@@ -89,16 +74,3 @@ module _ {S T : Type 0} {empty : S} {op : S → S → S} {admits fits : S → Ty
   pub around_fits : (f m z all : List T) (a : Around S) → a.before ≡ fold empty op sum_of f → f ++ (m ++ z) ≡ all → fits (fold empty op sum_of all) → fits (op a.before (fold empty op sum_of m))
   around_fits f m z all a b e h =
       rw b (subst fits (fold-append laws sum_of admitted f m) (fits_left laws sum_of admitted (f ++ m) z (subst (λ (us : List T). fits (fold empty op sum_of us)) (sym e ∙ sym (append_assoc f m z)) h)))
-
-  -- a node in which a change was noted
-  pub noted_node : (n len len' h w : ℕ) (s s' x : S) (c d : Content T S) (ss : List S) (xs ys : List T) (p q : Placing (Vec S Global) (Vec T Global) (Seen T)) → IsNode empty op fits sum_of (record { height = h; len = len; sum = s; content = c }) → IsContent h d → IsPlacing (ss ++ x ∷ []) w xs ys (content_seen h c) (content_seen h d) p → IsNoted n len len' s s' p q → n ≡ length xs → x ≡ fold empty op sum_of xs → fits (fold empty op sum_of xs) → length xs ≤ 2 ^ 40 → IsNode empty op fits sum_of (record { height = h; len = len'; sum = s'; content = d })
-  noted_node n len len' h w s s' x c d ss xs ys (Done sums) q node held p k size sum ok short =
-      let e = k ss x p.1 in
-      let all : content_items d ≡ xs = p.0.items in
-      (held, rw all (e.0 ∙ size), rw all (e.1 ∙ sum), rw all ok, rw all short)
-  noted_node n len len' h w s s' x c d ss xs ys (Split a b sums) q node held p k size sum ok short =
-      let all : content_items d ≡ content_items c = ap (λ (z : Seen T). z.items) p.0 in
-      (held, rw all (k.0 ∙ node.1), rw all (k.1 ∙ node.2), rw all node.3, rw all node.4)
-  noted_node n len len' h w s s' x c d ss xs ys (Back es) q node held p k size sum ok short =
-      let all : content_items d ≡ content_items c = ap (λ (z : Seen T). z.items) p.0 in
-      (held, rw all (k.0 ∙ node.1), rw all (k.1 ∙ node.2), rw all node.3, rw all node.4)

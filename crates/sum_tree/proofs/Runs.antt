@@ -12,12 +12,9 @@ use Rattle.sum_tree.proofs.Folds.{fits_left, fits_right, fold_single}
 use Rattle.sum_tree.proofs.Children.{joined-append, joined_single}
 
 module _ {X : Type 0} where
-  -- what holds of all that is left holds of the first of it, and of the rest
+  -- what holds of all that is left holds of the first of it
   pub first_of : (P : X → Type 0) (ys : List X) (x : X) (xs : List X) → ys ≡ x ∷ xs → All P ys → P x
   first_of P ys x xs e a = All-head P x xs (subst (λ (zs : List X). All P zs) e a)
-
-  pub rest_of : (P : X → Type 0) (ys : List X) (x : X) (xs : List X) → ys ≡ x ∷ xs → All P ys → All P xs
-  rest_of P ys x xs e a = All-tail P x xs (subst (λ (zs : List X). All P zs) e a)
 
   pub All_push : (P : X → Type 0) (xs : List X) (x : X) (ys : List X) → ys ≡ xs ++ x ∷ [] → All P xs → P x → All P ys
   All_push P xs x ys e a p = subst (λ (zs : List X). All P zs) (sym e) (All-append P xs (x ∷ []) a (All-cons P x [] p (All-nil P)))
@@ -53,14 +50,6 @@ module _ {T : Type 0} where
   pub next_level : (nodes news : List (Seen T)) (n : Seen T) (b m r all : List T) → news ≡ nodes ++ n ∷ [] → n.items ≡ m → b ≡ m ++ r → join_items nodes ++ b ≡ all → join_items news ++ r ≡ all
   next_level nodes news n b m r all e i split whole =
       ap (λ (ts : List (Seen T)). join_items ts ++ r) e ∙ ap (λ (xs : List T). xs ++ r) (joined-append nodes (n ∷ []) ∙ ap (λ (xs : List T). join_items nodes ++ xs) (joined_single n ∙ i)) ∙ append_assoc (join_items nodes) m r ∙ ap (λ (xs : List T). join_items nodes ++ xs) (sym split) ∙ whole
-
-  pub leaf_child : (n : Seen T) (g : Vec T Global) → n.items ≡ g.items → n.height ≡ 0 → n.width ≡ length g.items → IsGroup g → IsChild 1 n
-  leaf_child n g i h w s = record {
-    lower = omega (arith, h);
-    wide = omega (arith, w, s.0);
-    narrow = omega (arith, w, s.1);
-    many = rw (h, i) s.0;
-  }
 
   pub inner_child : (h : ℕ) (n : Seen T) (g : Vec (Seen T) Global) → n.height ≡ h → n.width ≡ length g.items → (6 ≤ n.width → 6 ^ (n.height + 1) ≤ length n.items) → IsGroup g → IsChild (h + 1) n
   inner_child h n g e w m s =

@@ -1,6 +1,6 @@
 -- What a change within one child leaves of a node.
 use Rattle.std.proofs.Common.{◌≡◌, ℕ, ◌+◌, ◌-◌, ◌<◌, ◌≤◌, List, [], ◌∷◌, ◌++◌, length, get_or, take, drop, Option, Some, None, sym, ap, subst, ◌∙◌, append_assoc, arith, length-append, take-append-drop}
-use Rattle.std.proofs.lemmas.List.{append-nil, take-append-le, drop-append-le, length-take-le, length-drop, drop-drop}
+use Rattle.std.proofs.lemmas.List.{append-nil, take-append-le, drop-append-le, length-take-le, length-drop, drop-drop, take_rest}
 use Rattle.std.proofs.Math.Seq.{take-append-add, drop-append-add}
 use Rattle.sum_tree.specs.Laws.{SummaryLaws, fold}
 use Rattle.sum_tree.specs.Seen.{Seen}
@@ -10,7 +10,6 @@ use Rattle.sum_tree.specs.Spliced.{splice_list, IsPiece, IsSpliced}
 use Rattle.sum_tree.proofs.Folds.{fits_left, fits_right, fits_without}
 use Rattle.sum_tree.proofs.Children.{joined-append, joined-take_more, joined-split}
 use Rattle.sum_tree.proofs.Opened.{IsInner, pair-joined}
-use Rattle.sum_tree.proofs.Fronts.{slice_rest}
 
 module _ {T : Type 0} where
   pub run-joined : (ts : List (Seen T)) (i j : ℕ) (a : Seen T) (b : Option (Seen T)) → join_items (with_run ts i j a b) ≡ join_items (take i ts) ++ (join_items (pair_list a b) ++ join_items (drop j ts))
@@ -72,7 +71,7 @@ module _ {T : Type 0} where
   -- the entries that a changed leaf is made of
   pub leaf_spliced : (i j : ℕ) (xs old d e ys all : List T) → xs ≡ old → d ≡ old → e ≡ old → all ≡ (take i d ++ ys) ++ take (length e - j) (drop j e) → all ≡ splice_list i j ys xs
   leaf_spliced i j xs old d e ys all whole f g made =
-      made ∙ ap (λ (zs : List T). (take i d ++ ys) ++ zs) (slice_rest e j) ∙ ap (λ (zs : List T). (take i zs ++ ys) ++ drop j e) (f ∙ sym whole) ∙ ap (λ (zs : List T). (take i xs ++ ys) ++ drop j zs) (g ∙ sym whole)
+      made ∙ ap (λ (zs : List T). (take i d ++ ys) ++ zs) (take_rest e j) ∙ ap (λ (zs : List T). (take i zs ++ ys) ++ drop j e) (f ∙ sym whole) ∙ ap (λ (zs : List T). (take i xs ++ ys) ++ drop j zs) (g ∙ sym whole)
 
   pub split_spliced : (h h' v w : ℕ) (xs ys : List T) (a : Seen T) (b : Option (Seen T)) → h ≡ h' → xs ≡ ys → IsSplit h v xs a b → IsSpliced h' w ys a b
   split_spliced h h' v w xs ys a None e f s = (s.0 ∙ f, λ l. s.1 ∙ e, s.3, s.4)

@@ -28,11 +28,6 @@ module _ {T : Type 0} where
   pub split_as : (h h' v w : ℕ) (xs ys : List T) (a : Seen T) (b : Option (Seen T)) → h ≡ h' → w ≤ v → xs ≡ ys → IsSplit h v xs a b → IsSplit h' w ys a b
   split_as h h' v w xs ys a b level le e s = subst (λ (i : ℕ). IsSplit i w ys a b) level (split_widened h v w xs ys a b le e s)
 
-  -- 13 entries are not one node
-  pub not_alone : (h v : ℕ) (xs : List T) (a : Seen T) (b : Option (Seen T)) → b ≡ None → IsSplit h v xs a b → v ≤ 12
-  not_alone h v xs a None e s = omega (arith, s.2, s.3)
-  not_alone h v xs a (Some b) e s = cc
-
   leaf_many : (xs : List T) (a : Seen T) → a.items ≡ xs → a.height ≡ 0 → 6 ≤ length xs → 6 ^ (a.height + 1) ≤ length a.items
   leaf_many xs a i h six = rw (h, i) six
 

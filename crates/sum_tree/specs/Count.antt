@@ -16,16 +16,16 @@ AnyCount a = Unit {0}
 abbrev pub CountFits : Count → Type 0
 CountFits a = a.items < 2 ^ 64
 
-abbrev counted : ℕ → Count
-counted n = record { items = n }
+abbrev as_count : ℕ → Count
+as_count n = record { items = n }
 
 pub count_laws : SummaryLaws no_items count_sum AnyCount CountFits
 count_laws = record {
   empty_admitted = tt;
   op_admitted = λ a b p q. tt;
-  left_identity = λ a p. ap counted (omega arith);
-  right_identity = λ a p. ap counted (omega arith);
-  assoc = λ a b c p q r. ap counted (omega arith);
+  left_identity = λ a p. ap as_count (omega arith);
+  right_identity = λ a p. ap as_count (omega arith);
+  assoc = λ a b c p q r. ap as_count (omega arith);
   empty_fits = omega arith;
   fits_parts = λ a b c p q r h. omega arith;
 }

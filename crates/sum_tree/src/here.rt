@@ -394,7 +394,7 @@ impl<T: Item> SumTree<T> {
 }
 
 // What `push_here` does, with a counter that is made of the blank.
-fn push_with<T: Item, L: Ledger>(
+fn push_here_with<T: Item, L: Ledger>(
     alloc: Global,
     tree: &mut SumTree<T>,
     entry: Entry<T>,
@@ -423,7 +423,7 @@ pub(crate) fn push_alone<T: Item>(
         (tree.old.items ++ entry ∷ [])) }
     ensures { IsPushed tree.old tree.new entry result }
 {
-    push_with::<T, Brand>(alloc, tree, entry, Blank::new(1))
+    push_here_with::<T, Brand>(alloc, tree, entry, Blank::new(1))
 }
 
 impl<T: Item> SumTree<T> {

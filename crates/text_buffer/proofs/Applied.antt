@@ -2,7 +2,6 @@
 use Rattle.op_model.proofs.Elements.{each_append}
 use Rattle.std.proofs.Common.{◌≡◌, ℕ, ◌+◌, ◌^◌, ◌≤◌, List, [], ◌∷◌, ◌++◌, length, sym, ap, subst, ◌∙◌, arith, false, None}
 use Rattle.std.proofs.lemmas.List.{append-nil}
-use Rattle.std.proofs.lemmas.Bool.{ltb-false}
 use Rattle.std.specs.Arc.{arc_value}
 use Rattle.std.specs.List.{AllByRecursion, list_any}
 use Rattle.lamport_clock.specs.declared.stamp.Lamport.{Lamport}
@@ -15,7 +14,7 @@ use Rattle.op_model.specs.declared.operation.UndoOp.{UndoOp}
 use Rattle.op_model.specs.declared.faults.OpFault.TheVariants.{Full}
 use Rattle.op_model.specs.Sorted.{Ascending, insert_by}
 use Rattle.op_model.specs.Domains.{IsProper}
-use Rattle.op_model.specs.Operations.{text_total, stamp_of, pieces_of, bytes_of, entries_of, text_limit}
+use Rattle.op_model.specs.Operations.{stamp_of, bytes_of, entries_of}
 use Rattle.op_model.specs.Histories.{History, version, clock, bytes_held, entries_held, operation_at}
 use Rattle.op_model.specs.Limited.{Excess, excess}
 use Rattle.op_model.specs.Answers.{answer, shape_fault, any_stamp}
@@ -28,6 +27,7 @@ use Rattle.op_model.proofs.answers.Passed.{passed, shaped, map_none, none_map, n
 use Rattle.op_model.proofs.answers.Good.{stamp_parts}
 use Rattle.op_model.proofs.histories.MoreLawful.{lawful_more}
 use Rattle.op_model.proofs.histories.Proper.{utf8}
+use Rattle.op_model.proofs.texts.Lengths.{text_length}
 use Rattle.undo_map.specs.declared.entry.UndoEntry.{UndoEntry}
 use Rattle.undo_map.specs.Undos.{undo_entries}
 use Rattle.undo_map.proofs.Entries.{entries_within}
@@ -36,12 +36,7 @@ use Rattle.text_buffer.specs.Document.{IsContent, IsBufferHistory, HasRoom}
 use Rattle.text_buffer.specs.DocumentInside.{IsDocumentInside}
 use Rattle.text_buffer.specs.declared.document.Document.TheInside.{Inside}
 use Rattle.text_buffer.proofs.Fit.{room_in}
-use Rattle.text_buffer.proofs.Lengths.{text_length}
 use Rattle.text_buffer.proofs.Waiting.{ascends, unlike_waiting}
-
--- what the shape of an operation bounds
-pub total_of : (op : Operation) → shape_fault op ≡ None → text_total (pieces_of op) ≤ text_limit
-total_of op e = ltb-false text_limit (text_total (pieces_of op)) (shaped op e).limit
 
 pub shape_of : (h w : History) (op : Operation) → answer h w op ≡ Good → shape_fault op ≡ None
 shape_of h w op g = (passed h w op g).shape

@@ -1,5 +1,5 @@
 -- What a history comes to, cell by cell: that of a base, and after one operation more.
-use Rattle.std.proofs.Common.{◌≡◌, ℕ, ◌+◌, ◌≤◌, ◌^◌, List, [], ◌∷◌, ◌++◌, length, map, refl, sym, ap, subst, ◌∙◌, arith, inl, inr}
+use Rattle.std.proofs.Common.{◌≡◌, ℕ, ◌+◌, ◌≤◌, ◌^◌, List, [], ◌∷◌, ◌++◌, length, map, refl, sym, ap, subst, ◌∙◌, arith}
 use Rattle.std.specs.List.{AllByRecursion}
 use Rattle.std.specs.Str.{IsUtf8}
 use Rattle.std.proofs.lemmas.List.{nil_from_length}
@@ -15,11 +15,13 @@ use Rattle.op_model.specs.Sorted.{Member}
 use Rattle.op_model.specs.Domains.{IsProper}
 use Rattle.op_model.specs.Operations.{pieces_of, text_total}
 use Rattle.op_model.specs.Histories.{History, base, bytes_held, clock, version}
-use Rattle.op_model.specs.Made.{full_piece, local_edit as made_at}
+use Rattle.op_model.specs.Made.{local_edit as made_at}
 use Rattle.op_model.specs.Shown.{hidden_text, text, texts}
 use Rattle.op_model.specs.Walked.{IsWhole}
 use Rattle.op_model.specs.Answers.{answer}
 use Rattle.op_model.proofs.histories.Proper.{edit_good}
+use Rattle.op_model.proofs.order.CellsOnce.{member_map}
+use Rattle.op_model.proofs.texts.Lengths.{both_bytes, full_bytes, text_base}
 use Rattle.undo_map.specs.declared.entry.UndoEntry.{UndoEntry}
 use Rattle.undo_map.specs.Undos.{undo_entries}
 use Rattle.fragments.specs.declared.fragment.Fragment.{Fragment}
@@ -27,11 +29,10 @@ use Rattle.fragments.specs.declared.index_entry.IndexEntry.{IndexEntry}
 use Rattle.fragments.specs.Laws.{whole_base}
 use Rattle.fragments.specs.Stand.{Stand, entry_of, runs}
 use Rattle.fragments.proofs.Founds.{base_stands}
-use Rattle.remote_edit.specs.declared.moves.Move.{Move}
 use Rattle.remote_edit.specs.declared.placed.Placed.{Placed}
 use Rattle.remote_edit.specs.Carried.{AreMovesOf}
 use Rattle.remote_edit.specs.Fragments.{fragments_of}
-use Rattle.remote_edit.specs.Moves.{Texts, TakeTexts, after_moves}
+use Rattle.remote_edit.specs.Moves.{Texts, after_moves}
 use Rattle.remote_edit.specs.Placing.{MayMake, MayPlace}
 use Rattle.remote_edit.specs.Undoing.{MayMark}
 use Rattle.remote_edit.proofs.WholeFragments.{base_whole}
@@ -41,8 +42,8 @@ use Rattle.text_buffer.specs.Buffer.{BufferState}
 use Rattle.text_buffer.specs.DocumentInside.{IsDocumentInside}
 use Rattle.text_buffer.specs.Document.{IsContent, IsBufferHistory, IsMoved, HasRoom, MayEdit, MayGrow}
 use Rattle.text_buffer.proofs.Edited.{made_entries, made_total}
-use Rattle.text_buffer.proofs.Fit.{room_in, room_of}
-use Rattle.text_buffer.proofs.Lengths.{both_bytes, full_bytes, text_base}
+use Rattle.text_buffer.proofs.Fit.{room_in, no_excess}
+use Rattle.op_model.proofs.texts.Replacing.{texts_full}
 
 stand_is : (fs gs : List Fragment) (w v : List IndexEntry) (u s : List UndoEntry) (h : History) → fs ≡ gs → w ≡ v → u ≡ s → Stand gs v s h → Stand fs w u h
 stand_is fs gs w v u s h a b c k =
@@ -103,7 +104,7 @@ bare h r ps m = record { history = h; waiting = []; refused = []; replica = r; l
 
 pub edit_room : (h : History) (r : ℕ) (ps : List Piece) → MayEdit h r ps → bytes_held h + text_total ps ≤ 2 ^ 40
 edit_room h r ps m =
-    let n = (room_in m.limits h (text_total ps) (1 + length ps) (room_of (bare h r ps m) ps m.faultless)).0 in
+    let n = (room_in m.limits h (text_total ps) (1 + length ps) (no_excess (bare h r ps m) ps m.faultless)).0 in
     let l = m.most_bytes in
     omega (arith, n, l)
 
@@ -128,17 +129,11 @@ may_make c h t v ps k s m e f = record {
   room = (let n = full_bytes h in let r = edit_room h t.replica ps m in omega (arith, n, r));
 }
 
--- the edit of a count is among the edits of all
-pub edit_member : (c : UndoCount) (cs : List UndoCount) → Member c cs → Member c.edit (map (λ (x : UndoCount). x.edit) cs)
-edit_member c [] m = absurd m
-edit_member c (x ∷ cs) (inl e) = inl (ap (λ (z : UndoCount). z.edit) e)
-edit_member c (x ∷ cs) (inr m) = inr (edit_member c cs m)
-
 pub may_mark : (c : Content) (h : History) (u : UndoOp) (w : List UndoEntry) (ts : List Lamport) → IsContent c h → IsBufferHistory h → MayGrow h (Undo u) → w ≡ undo_entries (h ++ Undo u ∷ []) → ts ≡ map (λ (x : UndoCount). x.edit) u.counts
     → MayMark c.fragments.items c.index w u.stamp ts h u
 may_mark c h u w ts k s g e f = record {
   stamp = refl;
-  counts = λ x m. subst (λ (z : List Lamport). Member x.edit z) (sym f) (edit_member x u.counts m);
+  counts = λ x m. subst (λ (z : List Lamport). Member x.edit z) (sym f) (member_map (λ (c : UndoCount). c.edit) x u.counts m);
   lawful = s.lawful;
   good = g.good;
   entries = e;
@@ -148,12 +143,6 @@ may_mark c h u w ts k s g e f = record {
 -- the bytes of both texts and the new ones
 pub moves_room : (c : Content) (h : History) (n : ℕ) → IsContent c h → bytes_held h + n ≤ 2 ^ 40 → length c.text + length c.hidden + n ≤ 2 ^ 40
 moves_room c h n k r = let a = ap length k.shown in let b = ap length k.hidden in let d = both_bytes h in omega (arith, a, b, d, r)
-
-pub same_moved : (c : Content) (h : History) (ms : List Move) (n : List ℕ) → IsContent c h → after_moves ms c.text c.hidden n ≡ after_moves ms (text h) (hidden_text h) n
-same_moved c h ms n k = ap (λ z. after_moves ms z c.hidden n) k.shown ∙ ap (λ z. after_moves ms (text h) z n) k.hidden
-
-pub same_taken : (c : Content) (h : History) (ms : List Move) (n : List ℕ) → IsContent c h → TakeTexts ms (text h) (hidden_text h) n → TakeTexts ms c.text c.hidden n
-same_taken c h ms n k t = subst (λ z. TakeTexts ms z c.hidden n) (sym k.shown) (subst (λ z. TakeTexts ms (text h) z n) (sym k.hidden) t)
 
 -- ---- after an operation
 
@@ -170,18 +159,14 @@ content_after c p h op u w n k t e fr s d m =
     }
 
 -- the new texts of a local edit are those of its changes
-full_texts : (h : History) (ps : List Piece) → texts (map (full_piece h) ps) ≡ texts ps
-full_texts h [] = refl
-full_texts h (p ∷ ps) = ap (λ z. p.text ++ z) (full_texts h ps)
-
 pub made_texts : (h : History) (r : ℕ) (ps : List Piece) → texts (pieces_of (made_at h r ps)) ≡ texts ps
 unfolding made_at
-made_texts h r ps = full_texts h ps
+made_texts h r ps = texts_full h ps
 
 -- there is room for it
 pub made_room : (h : History) (r : ℕ) (ps : List Piece) → MayEdit h r ps → HasRoom h (made_at h r ps)
 made_room h r ps m =
-    let n = room_in m.limits h (text_total ps) (1 + length ps) (room_of (bare h r ps m) ps m.faultless) in
+    let n = room_in m.limits h (text_total ps) (1 + length ps) (no_excess (bare h r ps m) ps m.faultless) in
     let b = made_total h r ps in
     let e = made_entries h r ps in
     let x = m.most_bytes in

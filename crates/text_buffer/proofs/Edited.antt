@@ -1,5 +1,6 @@
 -- The fields of a buffer after an edit.
-use Rattle.std.proofs.Common.{◌≡◌, ℕ, suc, ◌+◌, List, [], ◌∷◌, ◌++◌, length, map, refl, ap, arith, None}
+use Rattle.std.proofs.Common.{◌≡◌, ℕ, ◌+◌, List, [], ◌∷◌, ◌++◌, length, map, arith, None}
+use Rattle.std.proofs.lemmas.List.{length-map}
 use Rattle.op_model.specs.declared.operation.Piece.{Piece}
 use Rattle.op_model.specs.Operations.{text_total, pieces_of, entries_of}
 use Rattle.op_model.specs.Histories.{History}
@@ -10,24 +11,20 @@ use Rattle.op_model.specs.Answers.{answer}
 use Rattle.op_model.specs.Answers.Answer.{Good}
 use Rattle.op_model.specs.Settled.{full_fault}
 use Rattle.op_model.proofs.histories.Proper.{edit_good}
+use Rattle.op_model.proofs.answers.MadeGood.{total_full}
 use Rattle.text_buffer.specs.Buffer.{BufferState, IsBuffer, edit_fault, edit_of}
-use Rattle.text_buffer.proofs.Fit.{room_of}
+use Rattle.text_buffer.proofs.Fit.{no_excess}
 use Rattle.text_buffer.proofs.Applied.{within_limits}
-use Rattle.remote_edit.proofs.Local.{same_total}
-
-count_full : (h : History) (ps : List Piece) → length (map (full_piece h) ps) ≡ length ps
-count_full h [] = refl
-count_full h (p ∷ ps) = ap suc (count_full h ps)
 
 -- ---- its operation
 
 pub made_total : (h : History) (r : ℕ) (ps : List Piece) → text_total (pieces_of (made_at h r ps)) ≡ text_total ps
 unfolding made_at
-made_total h r ps = same_total h ps
+made_total h r ps = total_full h ps
 
 pub made_entries : (h : History) (r : ℕ) (ps : List Piece) → entries_of (made_at h r ps) ≡ 1 + length ps
 unfolding made_at
-made_entries h r ps = let n : length (map (full_piece h) ps) ≡ length ps = count_full h ps in omega arith
+made_entries h r ps = let n : length (map (full_piece h) ps) ≡ length ps = length-map ps (full_piece h) in omega arith
 
 -- ---- an edit without fault
 
@@ -36,4 +33,4 @@ good_of b ps h e = edit_good b.limits b.history b.replica ps h.lawful h.proper (
 
 -- its operation passes no limit
 pub room_made : (b : BufferState) (ps : List Piece) → edit_fault b ps ≡ None → full_fault b.limits b.history (edit_of b ps) ≡ None
-room_made b ps e = within_limits b (edit_of b ps) (text_total ps) (1 + length ps) (made_total b.history b.replica ps) (made_entries b.history b.replica ps) (room_of b ps e)
+room_made b ps e = within_limits b (edit_of b ps) (text_total ps) (1 + length ps) (made_total b.history b.replica ps) (made_entries b.history b.replica ps) (no_excess b ps e)

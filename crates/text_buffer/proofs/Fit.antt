@@ -1,6 +1,6 @@
 -- What an edit without fault says of its pieces and of the limits.
 use Rattle.lamport_clock.specs.Clocks.{last_value}
-use Rattle.op_model.proofs.answers.Passed.{map_none, when_none}
+use Rattle.op_model.proofs.answers.Passed.{map_none, when_none, all_none}
 use Rattle.std.proofs.Common.{◌≡◌, ℕ, ◌+◌, ◌≤◌, List, ◌∷◌, [], length, ◌==◌, None, option_map, nat_lt}
 use Rattle.std.proofs.lemmas.Bool.{ltb-false}
 use Rattle.op_model.specs.declared.operation.Piece.{Piece}
@@ -14,7 +14,6 @@ use Rattle.op_model.specs.Histories.{History, clock, bytes_held, entries_held}
 use Rattle.op_model.specs.Limited.{Excess, excess}
 use Rattle.op_model.specs.Edits.{piece_fault}
 use Rattle.op_model.specs.Shown.{text}
-use Rattle.rope_edits.proofs.Fit.{all_none}
 use Rattle.text_buffer.specs.Buffer.{BufferState, edit_fault}
 
 abbrev full : Excess → EditFault
@@ -39,5 +38,5 @@ room_in l h n m e =
     let none = all_none (when bytes more_bytes ∷ when entries more_entries ∷ []) e in
     (ltb-false _ _ (when_none bytes more_bytes none.0), ltb-false _ _ (when_none entries more_entries none.1.0))
 
-pub room_of : (b : BufferState) (ps : List Piece) → edit_fault b ps ≡ None → excess b.limits b.history (text_total ps) (1 + length ps) ≡ None
-room_of b ps e = (meets_none b ps e).1
+pub no_excess : (b : BufferState) (ps : List Piece) → edit_fault b ps ≡ None → excess b.limits b.history (text_total ps) (1 + length ps) ≡ None
+no_excess b ps e = (meets_none b ps e).1

@@ -1,6 +1,6 @@
 -- Fronts of one history.
 use Rattle.std.proofs.Common.{◌≡◌, ◌≤◌, List, [], ◌∷◌, ◌++◌, drop, length, refl, ap, sym, ◌∙◌, arith, length-append, append_assoc}
-use Rattle.std.proofs.lemmas.List.{append-nil, nil_from_length}
+use Rattle.std.proofs.lemmas.List.{append-nil}
 use Rattle.op_model.specs.declared.operation.Operation.{Operation}
 use Rattle.text_buffer.specs.Document.{IsFront}
 
@@ -12,12 +12,6 @@ front_trans xs ys zs p q = (p.0 ++ q.0, q.1 ∙ (ap (λ (l : List Operation). l 
 
 pub front_length : (xs ys : List Operation) → IsFront xs ys → length xs ≤ length ys
 front_length xs ys f = omega (arith, ap (λ (l : List Operation). length l) f.1, length-append xs f.0)
-
--- a front of as many operations is all
-pub whole_front : (h g : List Operation) → IsFront h g → length h ≡ length g → h ≡ g
-whole_front h g f same =
-    let none : f.0 ≡ [] = nil_from_length f.0 (omega (arith, same, ap (λ (l : List Operation). length l) f.1, length-append h f.0)) in
-    sym (f.1 ∙ (ap (λ (l : List Operation). h ++ l) none ∙ append-nil h))
 
 -- what comes after a front
 pub front-rest : (xs zs : List Operation) → IsFront xs zs → zs ≡ xs ++ drop (length xs) zs

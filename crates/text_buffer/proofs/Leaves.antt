@@ -1,6 +1,6 @@
 -- What a pass that is stopped leaves: what it applied stands behind what was applied, and waits no longer.
 use Rattle.op_model.proofs.Elements.{each_map, each_append, each_unit}
-use Rattle.std.proofs.Common.{◌≡◌, ℕ, ◌≤◌, Bool, true, false, cond, List, [], ◌∷◌, ◌++◌, length, take, drop, refl, sym, ◌∙◌, ap, subst, append_assoc, arith, Option, Some, None, length-append, inl, inr}
+use Rattle.std.proofs.Common.{◌≡◌, ℕ, ◌≤◌, true, false, List, [], ◌∷◌, ◌++◌, length, take, drop, refl, sym, ◌∙◌, ap, subst, append_assoc, arith, None, length-append, inl, inr}
 use Rattle.std.specs.List.{AllByRecursion}
 use Rattle.std.proofs.lemmas.List.{append-nil, take-append-drop}
 use Rattle.lamport_clock.specs.declared.stamp.Lamport.{Lamport}
@@ -14,12 +14,13 @@ use Rattle.op_model.specs.Lawful.{Lawful}
 use Rattle.op_model.specs.Settled.{State, Turn, turn, pass}
 use Rattle.op_model.specs.Settled.Turn.{Append, Drop, Stay, Refuse}
 use Rattle.op_model.specs.Steps.{older}
-use Rattle.op_model.proofs.answers.Passed.{none_find}
+use Rattle.op_model.proofs.answers.Passed.{none_find, if_some}
 use Rattle.op_model.proofs.order.SameSets.{each_in}
 use Rattle.op_model.proofs.histories.MoreLawful.{lawful_more}
 use Rattle.op_model.proofs.settling.Settling.{after, pass_is, pass_keeps}
+use Rattle.op_model.proofs.order.PathOrder.{later_differs}
 use Rattle.text_buffer.specs.Settling.{pass_until, pass_step}
-use Rattle.text_buffer.proofs.Turns.{pass_nil, differ}
+use Rattle.text_buffer.proofs.Turns.{pass_nil}
 
 -- from what is applied and waits to what is applied and waits later
 pub record Leaves (h : History) (w : List Operation) (g : History) (v : List Operation) : Type 0 where
@@ -33,13 +34,9 @@ record Takes (h : History) (w : List Operation) (g : History) (v : List Operatio
   leaves : Leaves h w g v
   from : AllByRecursion (λ (op : Operation). In w op) leaves.new
 
-found_later : (b : Bool) (op : Operation) (o : Option Operation) → cond b (Some op) o ≡ None → (b ≡ false) × (o ≡ None)
-found_later true op o e = cc
-found_later false op o e = (refl, e)
-
 absent : (op : Operation) (w : List Operation) → AllByRecursion (λ (o : Operation). older op o ≡ true) w → operation_at w (stamp_of op) ≡ None
 absent op w u = none_find (λ o. same_stamp (stamp_of o) (stamp_of op)) w
-    (each_map (λ (o : Operation). older op o ≡ true) (λ (o : Operation). same_stamp (stamp_of o) (stamp_of op) ≡ false) (λ o e. (differ (stamp_of op) (stamp_of o) e).1) w u)
+    (each_map (λ (o : Operation). older op o ≡ true) (λ (o : Operation). same_stamp (stamp_of o) (stamp_of op) ≡ false) (λ o e. (later_differs (stamp_of op) (stamp_of o) e).1) w u)
 
 module _ (l : LimitsType) (rest : List Operation) where
   abbrev Taken : History → List Operation → State → Type 0
@@ -58,7 +55,7 @@ module _ (l : LimitsType) (rest : List Operation) where
           new = op ∷ k.new;
           history = k.history ∙ append_assoc h (op ∷ []) k.new;
           apart = (k.waiting (stamp_of op) (absent op (front ++ rest) u.0), k.apart);
-          waiting = λ t e. k.waiting t (found_later (same_stamp (stamp_of op) t) op (operation_at (front ++ rest) t) e).1;
+          waiting = λ t e. k.waiting t (if_some (same_stamp (stamp_of op) t) op (operation_at (front ++ rest) t) e).1;
         };
         from = (inl refl, each_map (λ (o : Operation). In (front ++ rest) o) (λ (o : Operation). In (op ∷ (front ++ rest)) o) (λ o i. inr i) k.new a.from);
       }
@@ -70,7 +67,7 @@ module _ (l : LimitsType) (rest : List Operation) where
               new = k.new;
               history = k.history;
               apart = k.apart;
-              waiting = λ t e. k.waiting t (found_later (same_stamp (stamp_of op) t) op (operation_at (front ++ rest) t) e).1;
+              waiting = λ t e. k.waiting t (if_some (same_stamp (stamp_of op) t) op (operation_at (front ++ rest) t) e).1;
             };
             from = each_map (λ (o : Operation). In (front ++ rest) o) (λ (o : Operation). In (op ∷ (front ++ rest)) o) (λ o i. inr i) k.new b.from;
           }
@@ -79,7 +76,7 @@ module _ (l : LimitsType) (rest : List Operation) where
           new = k.new;
           history = k.history;
           apart = both k.new k.apart b.from;
-          waiting = λ t e. let f = found_later (same_stamp (stamp_of op) t) op (operation_at (front ++ rest) t) e in rw f.0 (k.waiting t f.1);
+          waiting = λ t e. let f = if_some (same_stamp (stamp_of op) t) op (operation_at (front ++ rest) t) e in rw f.0 (k.waiting t f.1);
         };
         from = each_map (λ (o : Operation). In (front ++ rest) o) (λ (o : Operation). In (op ∷ (front ++ rest)) o) (λ o i. inr i) k.new b.from;
       }
@@ -87,13 +84,13 @@ module _ (l : LimitsType) (rest : List Operation) where
           both : (new : List Operation) → AllByRecursion (λ (o : Operation). operation_at ((pass l h front).waiting ++ rest) (stamp_of o) ≡ None) new → AllByRecursion (λ (o : Operation). In (front ++ rest) o) new
               → AllByRecursion (λ (o : Operation). operation_at (op ∷ ((pass l h front).waiting ++ rest)) (stamp_of o) ≡ None) new
           both [] x y = tt
-          both (o ∷ new) x y = (rw (differ (stamp_of op) (stamp_of o) (each_in (λ (z : Operation). older op z ≡ true) (front ++ rest) o u.0 y.0)).0 x.0, both new x.1 y.1)
+          both (o ∷ new) x y = (rw (later_differs (stamp_of op) (stamp_of o) (each_in (λ (z : Operation). older op z ≡ true) (front ++ rest) o u.0 y.0)).0 x.0, both new x.1 y.1)
       go (Refuse f) a b = let k = b.leaves in record {
         leaves = record {
           new = k.new;
           history = k.history;
           apart = k.apart;
-          waiting = λ t e. k.waiting t (found_later (same_stamp (stamp_of op) t) op (operation_at (front ++ rest) t) e).1;
+          waiting = λ t e. k.waiting t (if_some (same_stamp (stamp_of op) t) op (operation_at (front ++ rest) t) e).1;
         };
         from = each_map (λ (o : Operation). In (front ++ rest) o) (λ (o : Operation). In (op ∷ (front ++ rest)) o) (λ o i. inr i) k.new b.from;
       }

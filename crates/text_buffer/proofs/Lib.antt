@@ -1,5 +1,4 @@
 pub mod Fit
-pub mod Lengths
 pub mod Crossing
 pub mod Edited
 pub mod EditResult

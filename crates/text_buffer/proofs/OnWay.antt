@@ -19,7 +19,7 @@ use Rattle.deferred_ops.specs.Deferred.{without}
 use Rattle.text_buffer.specs.Buffer.{BufferState, IsBuffer, state, with_state}
 use Rattle.text_buffer.specs.BufferInside.{state_of, IsBufferInside}
 use Rattle.text_buffer.specs.declared.buffer.Buffer.TheInside.{Inside}
-use Rattle.text_buffer.specs.Settling.{after_turn, turn_step, pass_until, pass_step, next_ready, after_next_turn, turn_answer, after_answer, without_waiting, after_pass, IsStopped}
+use Rattle.text_buffer.specs.Settling.{after_turn, turn_step, pass_until, pass_step, next_ready, after_next_turn, turn_answer, after_answer, without_waiting, after_pass, IsStoppedPass}
 use Rattle.text_buffer.proofs.Turns.{IsAt, at_start, at_end, at_turn, at_until, fewer, not_stay, ready_within}
 
 -- ---- a turn
@@ -95,7 +95,7 @@ on_start b = record { at = at_start b.limits (state b); replica = refl; limits =
 same_buffer : (b n : BufferState) (s : State) → n.replica ≡ b.replica → n.limits ≡ b.limits → state n ≡ s → n ≡ with_state s b
 same_buffer b n s r l e = λ i. record { history = (e i).history; waiting = (e i).waiting; refused = (e i).refused; replica = r i; limits = l i }
 
-pub on_stopped : (b : BufferState) (after : Option Lamport) (n m : BufferState) → OnWay b after n → m ≡ n → IsStopped b m
+pub on_stopped : (b : BufferState) (after : Option Lamport) (n m : BufferState) → OnWay b after n → m ≡ n → IsStoppedPass b m
 on_stopped b after n m w e = let u = at_until b.limits (state b) after (state n) w.at in (u.0, e ∙ same_buffer b n (pass_until u.0 b.limits (state b)) w.replica w.limits u.1)
 
 abbrev Next : BufferState → BufferState → BufferState → Lamport → Type 0

@@ -12,12 +12,12 @@ use Rattle.op_model.specs.Domains.{IsProper}
 use Rattle.op_model.specs.Histories.{History, base, version, clock, bytes_held, entries_held}
 use Rattle.op_model.specs.Lawful.{Lawful}
 use Rattle.op_model.proofs.histories.Proper.{utf8}
+use Rattle.op_model.proofs.texts.Lengths.{text_length}
 use Rattle.text_buffer.specs.BaseInside.{opening_text}
 use Rattle.text_buffer.specs.Buffer.{BufferState, IsBuffer}
 use Rattle.text_buffer.specs.Document.{IsContent, IsBufferHistory}
 use Rattle.text_buffer.specs.DocumentInside.{IsDocumentInside}
 use Rattle.text_buffer.specs.declared.document.Document.TheInside.{Inside as DocumentInside}
-use Rattle.text_buffer.proofs.Lengths.{text_length}
 
 pub history_opened : (t : List ℕ) → IsUtf8 t → length t ≤ 2 ^ 40 → IsBufferHistory (base t ∷ [])
 history_opened t u l =

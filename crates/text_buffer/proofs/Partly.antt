@@ -12,8 +12,9 @@ use Rattle.op_model.specs.Steps.{older}
 use Rattle.text_buffer.specs.Buffer.{BufferState, IsPartly, AllMiss, new_operations, after_settle, state, with_state}
 use Rattle.text_buffer.specs.BufferInside.{state_of, IsBufferInside}
 use Rattle.text_buffer.specs.declared.buffer.Buffer.TheInside.{Inside}
-use Rattle.text_buffer.specs.Settling.{pass_until, after_pass, IsStopped}
-use Rattle.text_buffer.proofs.Settles.{settled_once, settled_twice, settled_waits}
+use Rattle.text_buffer.specs.Settling.{pass_until, after_pass, IsStoppedPass}
+use Rattle.op_model.proofs.settling.Settling.{settled_misses}
+use Rattle.text_buffer.proofs.Settles.{settled_once, settled_twice}
 use Rattle.text_buffer.proofs.Leaves.{LeavesState, until_leaves, step_leaves, leaves_both, leaves_longer, pass_up, pass_lawful}
 
 -- ---- it settled
@@ -37,7 +38,7 @@ twice b u n = let x = longer b u in ap (λ (s : State). with_state s b) (settled
     grows x n = omega arith
 
 pub all_miss : (b : BufferState) → AllMiss (after_settle b)
-all_miss b = settled_waits b.limits (state b)
+all_miss b = settled_misses b.limits b.history b.waiting
 
 -- ---- its settling was stopped
 
@@ -53,11 +54,11 @@ partly b n p k r l =
       limits = l;
     }
 
-pub stopped_partly : (b n : BufferState) → Lawful b.history → Ascending older b.waiting → IsStopped b n → IsPartly b n
+pub stopped_partly : (b n : BufferState) → Lawful b.history → Ascending older b.waiting → IsStoppedPass b n → IsPartly b n
 stopped_partly b n p u s = subst (IsPartly b) (sym s.1)
     (partly b (with_state (pass_until s.0 b.limits (state b)) b) (pass_lawful b.limits b.history _ p) (until_leaves s.0 b.limits (state b) u) refl refl)
 
-pub stopped_later : (b n : BufferState) → Lawful b.history → Ascending older b.waiting → IsStopped (after_pass b) n → IsPartly b n
+pub stopped_later : (b n : BufferState) → Lawful b.history → Ascending older b.waiting → IsStoppedPass (after_pass b) n → IsPartly b n
 stopped_later b n p u s = subst (IsPartly b) (sym s.1)
     (partly b (with_state (pass_until s.0 b.limits (state (after_pass b))) (after_pass b)) (pass_lawful b.limits (after_pass b).history _ (pass_lawful b.limits b.history b.waiting p))
     (leaves_both (state b) (state (after_pass b)) (pass_until s.0 b.limits (state (after_pass b))) (step_leaves b.limits (state b) u) (until_leaves s.0 b.limits (state (after_pass b)) (after_pass_up b u))) refl refl)

@@ -1,20 +1,16 @@
 -- Settling, told by its passes.
 use Rattle.std.proofs.Common.{◌≡◌, ℕ, ◌<◌, Bool, true, false, cond, eqb, List, [], ◌++◌, length, refl, sym, ◌∙◌, ap, append_assoc, arith}
-use Rattle.std.specs.List.{AllByRecursion}
 use Rattle.std.proofs.lemmas.List.{append-nil}
 use Rattle.std.proofs.lemmas.Bool.{eq-eqb}
-use Rattle.std.proofs.lemmas.Bool.Decides.{nat_tests}
-use Rattle.lamport_clock.specs.Versions.{within}
 use Rattle.op_model.specs.declared.operation.Operation.{Operation}
 use Rattle.op_model.specs.declared.limits.Limits.{Limits as LimitsType}
 use Rattle.op_model.specs.Sorted.{Ascending}
-use Rattle.op_model.specs.Operations.{version_of}
-use Rattle.op_model.specs.Histories.{History, version}
+use Rattle.op_model.specs.Histories.{History}
 use Rattle.op_model.specs.Settled.{State, pass, passes, settle}
 use Rattle.op_model.specs.Steps.{older, settle_step}
-use Rattle.op_model.proofs.settling.Settling.{settled_misses}
 use Rattle.op_model.proofs.settling.TwoPasses.{two_passes}
 use Rattle.text_buffer.specs.Settling.{pass_step}
+use Rattle.op_model.proofs.Elements.{eqb_less}
 
 -- a state behind what another refused
 abbrev after_refused : State → State → State
@@ -37,17 +33,11 @@ by_two : (l : LimitsType) (s : State) → Ascending older s.waiting
     → settle l s.history s.waiting ≡ cond (eqb (length (pass_step l s).history) (length s.history)) (pass l s.history s.waiting) (after_refused (pass l s.history s.waiting) (pass l (pass_step l s).history (pass_step l s).waiting))
 by_two l s u = two_passes l s.history s.waiting u ∙ passes_two l s.history s.waiting
 
-eqb_other : (x y : ℕ) → x < y → eqb y x ≡ false
-eqb_other x y e = grind (arith, nat_tests)
-
 -- a pass that applied nothing is all
 pub settled_once : (l : LimitsType) (s : State) → Ascending older s.waiting → length (pass_step l s).history ≡ length s.history → settle_step l s ≡ pass_step l s
 settled_once l s u e = ap (after_refused s) (by_two l s u ∙ ap (λ b. cond b (pass l s.history s.waiting) (after_refused (pass l s.history s.waiting) (pass l (pass_step l s).history (pass_step l s).waiting))) (eq-eqb (length (pass_step l s).history) (length s.history) e))
 
 -- else a second one is
 pub settled_twice : (l : LimitsType) (s : State) → Ascending older s.waiting → length s.history < length (pass_step l s).history → settle_step l s ≡ pass_step l (pass_step l s)
-settled_twice l s u e = ap (after_refused s) (by_two l s u ∙ ap (λ b. cond b (pass l s.history s.waiting) (after_refused (pass l s.history s.waiting) (pass l (pass_step l s).history (pass_step l s).waiting))) (eqb_other (length s.history) (length (pass_step l s).history) e))
+settled_twice l s u e = ap (after_refused s) (by_two l s u ∙ ap (λ b. cond b (pass l s.history s.waiting) (after_refused (pass l s.history s.waiting) (pass l (pass_step l s).history (pass_step l s).waiting))) (eqb_less (length s.history) (length (pass_step l s).history) e))
     ∙ ap (λ z. record { history = (pass_step l (pass_step l s)).history; waiting = (pass_step l (pass_step l s)).waiting; refused = z }) (sym (append_assoc s.refused (pass l s.history s.waiting).refused (pass l (pass_step l s).history (pass_step l s).waiting).refused))
-
-pub settled_waits : (l : LimitsType) (s : State) → AllByRecursion (λ (op : Operation). within (version_of op) (version (settle_step l s).history) ≡ false) (settle_step l s).waiting
-settled_waits l s = settled_misses l s.history s.waiting

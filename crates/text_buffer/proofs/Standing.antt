@@ -9,13 +9,9 @@ use Rattle.op_model.specs.Histories.{History, version}
 use Rattle.op_model.specs.Answers.{first_missing, open_replica}
 use Rattle.op_model.specs.Lawful.{Lawful, IsClosed}
 use Rattle.op_model.specs.Since.{since_fault}
-use Rattle.anchors.specs.Standing.{StandFor}
 use Rattle.edits_since.specs.Telling.{MayTell}
 use Rattle.text_buffer.specs.Document.{IsContent}
 use Rattle.text_buffer.specs.declared.content.Content.{Content}
-
-pub stands_for : (c : Content) (h : History) → IsContent c h → Lawful h → StandFor c.fragments.items c.index c.text c.hidden h
-stands_for c h k l = record { undos = c.undos; stands = k.stand; lawful = l; shows = k.shown; hides = k.hidden }
 
 pub may_tell : (c : Content) (h : History) (v : Entries) → IsContent c h → Lawful h → IsClosed h v → MayTell c.fragments.items c.undos v h
 may_tell c h v k l d = record { index = c.index; stands = k.stand; lawful = l; closed = d }

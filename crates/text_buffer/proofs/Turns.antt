@@ -2,11 +2,10 @@
 use Rattle.std.proofs.Common.{◌≡◌, ℕ, ◌<◌, Bool, true, false, cond, ◌&&◌, List, [], ◌∷◌, ◌++◌, length, take, drop, refl, sym, ◌∙◌, ap, subst, append_assoc, arith, Option, Some, None, length-append, inl, inr}
 use Rattle.std.proofs.lemmas.List.{append-nil}
 use Rattle.std.proofs.lemmas.Bool.{cases_Bool, and_parts}
-use Rattle.std.proofs.lemmas.Bool.Decides.{nat_tests}
 use Rattle.std.proofs.Math.Seq.{take-append_seam, drop-append_seam}
 use Rattle.std.specs.List.{AllByRecursion, find}
 use Rattle.lamport_clock.specs.declared.stamp.Lamport.{Lamport}
-use Rattle.lamport_clock.specs.Stamps.{later, same_stamp}
+use Rattle.lamport_clock.specs.Stamps.{same_stamp}
 use Rattle.lamport_clock.specs.Versions.{within}
 use Rattle.op_model.specs.declared.operation.Operation.{Operation}
 use Rattle.op_model.specs.declared.limits.Limits.{Limits as LimitsType}
@@ -18,7 +17,7 @@ use Rattle.op_model.specs.Settled.{State, Turn, turn, with_waiting, pass}
 use Rattle.op_model.specs.Settled.Turn.{Append, Drop, Stay, Refuse}
 use Rattle.op_model.specs.Steps.{older}
 use Rattle.op_model.proofs.answers.Passed.{find_none}
-use Rattle.op_model.proofs.order.PathOrder.{same_stamp_refl}
+use Rattle.op_model.proofs.order.PathOrder.{later_differs, same_stamp_refl}
 use Rattle.op_model.proofs.order.SameSets.{one_way}
 use Rattle.op_model.proofs.settling.AllApplied.{AllMiss}
 use Rattle.op_model.proofs.settling.Settling.{after, pass_is, stay_misses}
@@ -85,10 +84,6 @@ around : (v : List Operation) (op : Operation) (w : List Operation) → Ascendin
 around [] op w u = (tt, u.0)
 around (o ∷ v) op w u = let r = around v op w u.1 in (((each_right (λ (x : Operation). older o x ≡ true) v (op ∷ w) u.0).0, r.0), r.1)
 
-pub differ : (s t : Lamport) → later t s ≡ true → (same_stamp s t ≡ false) × (same_stamp t s ≡ false)
-unfolding later same_stamp
-differ s t e = (grind (arith, nat_tests), grind (arith, nat_tests))
-
 others : (t : Lamport) (w : List Operation) → AllByRecursion (λ (o : Operation). same_stamp (stamp_of o) t ≡ false) w → without t w ≡ w
 others t [] e = refl
 others t (o ∷ w) e = rw e.0 (ap (λ (z : List Operation). o ∷ z) (others t w e.1))
@@ -102,8 +97,8 @@ without_mid : (v : List Operation) (op : Operation) (w : List Operation) → Asc
 without_mid v op w u =
     let a = around v op w u in
     let t = stamp_of op in
-    out_of t v op w (same_stamp_refl t) (each_map (λ (o : Operation). older o op ≡ true) (λ (o : Operation). same_stamp (stamp_of o) t ≡ false) (λ o e. (differ (stamp_of o) t e).0) v a.0)
-    (each_map (λ (o : Operation). older op o ≡ true) (λ (o : Operation). same_stamp (stamp_of o) t ≡ false) (λ o e. (differ t (stamp_of o) e).1) w a.1)
+    out_of t v op w (same_stamp_refl t) (each_map (λ (o : Operation). older o op ≡ true) (λ (o : Operation). same_stamp (stamp_of o) t ≡ false) (λ o e. (later_differs (stamp_of o) t e).0) v a.0)
+    (each_map (λ (o : Operation). older op o ≡ true) (λ (o : Operation). same_stamp (stamp_of o) t ≡ false) (λ o e. (later_differs t (stamp_of o) e).1) w a.1)
 
 -- ---- what is ready
 

@@ -26,7 +26,7 @@ use Rattle.op_model.proofs.histories.Proper.{undo_good, undo_proper}
 use Rattle.undo_map.specs.declared.entry.UndoEntry.{UndoEntry}
 use Rattle.undo_map.specs.Counts.{count_of}
 use Rattle.undo_map.specs.Undos.{undo_entries}
-use Rattle.op_answers.specs.LocalUndo.{undo_fault as listed_fault}
+use Rattle.op_answers.specs.LocalUndo.{listed_fault}
 use Rattle.op_answers.proofs.LocalUndo.{local_of, room}
 use Rattle.text_buffer.specs.Buffer.{BufferState, IsBuffer, undo_fault, undo_of}
 use Rattle.text_buffer.proofs.Applied.{within_limits}

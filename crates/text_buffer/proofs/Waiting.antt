@@ -3,7 +3,6 @@ use Rattle.op_model.proofs.Elements.{each_map, each_right}
 use Rattle.std.proofs.Common.{◌≡◌, ℕ, true, false, List, [], ◌∷◌, ◌++◌, inl, inr, refl, sym, ap, ◌∙◌, arith, Option, None, Some}
 use Rattle.std.specs.List.{AllByRecursion}
 use Rattle.std.proofs.lemmas.Bool.{cases_Bool}
-use Rattle.std.proofs.lemmas.Bool.Decides.{nat_tests}
 use Rattle.lamport_clock.specs.Stamps.{later, same_stamp}
 use Rattle.lamport_clock.specs.declared.stamp.Lamport.{Lamport}
 use Rattle.op_model.specs.declared.operation.Operation.{Operation}
@@ -17,6 +16,7 @@ use Rattle.op_model.specs.Steps.{older}
 use Rattle.op_model.proofs.order.Insertion.{each_insert, insert_past, insert_here}
 use Rattle.op_model.proofs.order.PathOrder.{later_trans, later_total, later_irrefl}
 use Rattle.op_model.proofs.answers.Passed.{any_none, none_find}
+use Rattle.lamport_clock.proofs.Order.{same_sym}
 use Rattle.op_answers.proofs.Answering.{shaped_badly, repeated, conflicts}
 
 unlike : (o p : Operation) → older o p ≡ true → stamp_of p ≡ stamp_of o → ⊥
@@ -29,16 +29,12 @@ pub distinct : (w : List Operation) → Ascending older w → Distinct w
 distinct [] a = tt
 distinct (o ∷ w) a = (each_map (λ p. older o p ≡ true) (λ p. stamp_of p ≡ stamp_of o → ⊥) (λ p e. unlike o p e) w a.0, distinct w a.1)
 
-unlike_flip : (s t : Lamport) → same_stamp t s ≡ false → same_stamp s t ≡ false
-unfolding same_stamp
-unlike_flip s t e = grind (arith, nat_tests)
-
 -- one with another stamp is put among them
 pub ascends : (op : Operation) (w : List Operation) → AllByRecursion (λ o. same_stamp (stamp_of o) (stamp_of op) ≡ false) w → Ascending older w → Ascending older (insert_by older op w)
 ascends op [] f a = (tt, tt)
 ascends op (y ∷ w) f a = elim (cases_Bool (older y op)) [
   | inl h ↦ rw (insert_past older op y w h) (each_insert (λ z. older y z ≡ true) older op w h a.0, ascends op w f.1 a.1)
-  | inr h ↦ (let xy : older op y ≡ true = later_total (stamp_of op) (stamp_of y) h (unlike_flip (stamp_of op) (stamp_of y) f.0) in
+  | inr h ↦ (let xy : older op y ≡ true = later_total (stamp_of op) (stamp_of y) h (same_sym (stamp_of op) (stamp_of y) ∙ f.0) in
       rw (insert_here older op y w h) ((xy, each_map (λ z. older y z ≡ true) (λ z. older op z ≡ true) (λ z yz. later_trans (stamp_of z) (stamp_of y) (stamp_of op) yz xy) w a.0), (a.0, a.1)))
 ]
 

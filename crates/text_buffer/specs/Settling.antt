@@ -80,13 +80,13 @@ abbrev pub after_pass : BufferState → BufferState
 after_pass b = with_state (pass_step b.limits (state b)) b
 
 -- a pass was stopped: some operations, the least stamps first, had their turns, and the others wait on
-abbrev pub IsStopped : BufferState → BufferState → Type 0
-IsStopped b n = (k : ℕ) × (n ≡ with_state (pass_until k b.limits (state b)) b)
+abbrev pub IsStoppedPass : BufferState → BufferState → Type 0
+IsStoppedPass b n = (k : ℕ) × (n ≡ with_state (pass_until k b.limits (state b)) b)
 
 -- settling was stopped, in its first pass or in its second
-abbrev pub IsHalted : BufferState → BufferState → Type 0
-IsHalted b n = IsStopped b n ⊎ IsStopped (after_pass b) n
+abbrev pub IsStoppedSettling : BufferState → BufferState → Type 0
+IsStoppedSettling b n = IsStoppedPass b n ⊎ IsStoppedPass (after_pass b) n
 
 -- memory ran out while an operation was taken: the buffer is as before, or the operation is applied and settling was stopped
 abbrev pub IsTakenPartly : Operation → BufferState → BufferState → Type 0
-IsTakenPartly op b n = (n ≡ b) ⊎ ((answer_to b op ≡ Good) × IsHalted (after_apply b op) n)
+IsTakenPartly op b n = (n ≡ b) ⊎ ((answer_to b op ≡ Good) × IsStoppedSettling (after_apply b op) n)

@@ -45,7 +45,7 @@ use text_dims::TextSummary;
 ///   `crates/text_tests/src/buffers.rt`
 /// - `text` and `snapshot`: `show` of `crates/embed/src/main.rt`
 /// - `summary`: `len` of `crates/placing_tests/src/replica.rt`
-/// - `version` and `applied`: `are_counted`, and `deferred` and `refused`: `keeps`, of `crates/text_tests/src/buffers.rt`
+/// - `version` and `applied`: `are_counted`, and `waiting` and `refused`: `keeps`, of `crates/text_tests/src/buffers.rt`
 /// - `known`, which is for proofs: `edit_one` of `crates/placed_buffer/src/one_more.rt`
 #[derive(Drop)]
 pub struct Buffer {
@@ -199,9 +199,9 @@ impl Buffer {
 
     /// Replaces ranges of the text, given in bytes and in order: each starts at or past the end of the one before it.
     /// Gives the operation, whose pieces count hidden bytes too, and keeps an equal one. Each range costs a few descents,
-    /// what lies in it and its new text; the length of the whole text does not matter. A step is counted for each node made
-    /// of the tree of fragments, the runs of bytes that the buffer keeps: of p changes whose ranges touch f of its fragments there
-    /// are at most 256 (p + f + 1) (h + 1), where h is the height of that tree before, also where there is a fault.
+    /// what lies in it and its new text; the length of the whole text does not matter. A step is counted for each node
+    /// that is made in the tree of fragments, the runs of bytes that the buffer keeps: for p changes whose ranges touch f of its
+    /// fragments there are at most 256 (p + f + 1) (h + 1), where h is the height of that tree before, also where there is a fault.
     ///
     /// # Errors
     ///

@@ -1,4 +1,4 @@
-//! What a history comes to.
+//! A history, and what it comes to.
 ghost use Rattle.std.specs.Prelude.{◌≡◌, ◌+◌, ◌-◌, ◌^◌, ◌≤◌, ℕ, List, ◌++◌, ◌∷◌, [], None, length, map, IfOk, OnErr, OnOk, option_map};
 ghost use Rattle.std.specs.Arc.{arc_value};
 ghost use Rattle.lamport_clock.specs.Clocks.{clock_after};
@@ -211,7 +211,8 @@ impl Document {
     }
 
     /// Makes an edit of changes that meet no fault, and puts it last. Gives the edit; a copy is kept, which shares its texts. It costs
-    /// what `apply` does, and two descents for each change. A step is counted for each node made of the tree of fragments.
+    /// what `apply` does, and two descents for each change. A step is counted for each node that is made
+    /// in the tree of fragments.
     pub fn make_edit<L: Ledger>(
         &mut self,
         replica: u16,

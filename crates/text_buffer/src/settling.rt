@@ -6,7 +6,7 @@ ghost use Rattle.op_model.specs.Steps.Step.{Settles};
 ghost use Rattle.op_answers.specs.Verdicts.{answer_of};
 ghost use Rattle.text_buffer.specs.Outcomes.{pair_of};
 ghost use Rattle.text_buffer.specs.Buffer.{AllMiss, IsBuffer, IsPartly, after_call, number_applied, after_settle};
-ghost use Rattle.text_buffer.specs.Settling.{IsHalted, IsStopped, after_answer, after_pass, next_ready, turn_answer, after_next_turn, with_refusal, without_waiting};
+ghost use Rattle.text_buffer.specs.Settling.{IsStoppedPass, IsStoppedSettling, after_answer, after_pass, next_ready, turn_answer, after_next_turn, with_refusal, without_waiting};
 
 use crate::{Buffer, OutOfMemory, Refused};
 use deferred_ops::Deferred;
@@ -27,7 +27,7 @@ impl Buffer {
         ensures applied { IfOk result (λ n. n ≡ number_applied self.old self.new) }
         ensures waiting { OnOk result (AllMiss self.new) }
         ensures want { OnErr result (IsPartly self.old self.new) }
-        ensures stopped { OnErr result (IsHalted self.old self.new) }
+        ensures stopped { OnErr result (IsStoppedSettling self.old self.new) }
         ensures step { OnOk result (self.new ≡ after_call Settles self.old) }
     {
         let before = self.document.operations().len();
@@ -43,7 +43,7 @@ impl Buffer {
     // One pass over what waits.
     fn pass(&mut self) -> Result<(), OutOfMemory>
         ensures ok { OnOk result (self.new ≡ after_pass self.old) }
-        ensures want { OnErr result (IsStopped self.old self.new) }
+        ensures want { OnErr result (IsStoppedPass self.old self.new) }
     {
         let mut after = None;
         while let Some(stamp) = self.next_turn(after)? {

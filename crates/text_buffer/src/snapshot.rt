@@ -1,4 +1,4 @@
-//! What a buffer was.
+//! Snapshots: what a buffer was at one time.
 ghost use Rattle.std.specs.Prelude.{◌≡◌, List, IfOk};
 ghost use Rattle.op_model.specs.Steps.{Step};
 ghost use Rattle.op_model.specs.Histories.{SameSet, version};

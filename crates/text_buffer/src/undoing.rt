@@ -6,7 +6,7 @@ ghost use Rattle.text_buffer.specs.Buffer.{after_call, undo_of, undo_fault, afte
 use crate::document::with_copy;
 use crate::{Buffer, OutOfMemory};
 use lamport_clock::Lamport;
-use op_answers::undo_fault;
+use op_answers::listed_fault;
 use op_model::{EditFault, Operation, UndoFault, UndoOp};
 use undo_map::next_counts;
 
@@ -57,7 +57,7 @@ impl Buffer {
     fn undo_fault(&self, edits: &[Lamport]) -> Option<UndoFault>
         ensures { result ≡ undo_fault self.now edits.now }
     {
-        if let Some(fault) = undo_fault(
+        if let Some(fault) = listed_fault(
             self.alloc,
             self.document.operations(),
             self.document.undos(),

@@ -5,7 +5,7 @@ use Rattle.std.specs.List.{slice_split, onto_first}
 use Rattle.std.proofs.lemmas.Bool.Decides.{nat_tests}
 use Rattle.std.proofs.lemmas.List.{length-map}
 use Rattle.std.proofs.lemmas.List.Sums.{count_by-le-length}
-use Rattle.text_dims.specs.Counts.{begins_char, is_newline, char_count, utf16_count, newline_count, rows, first_of, last_of, first_row, last_row, greatest, first_greatest}
+use Rattle.text_dims.specs.Counts.{begins_char, is_newline, char_count, utf16_count, newline_count, rows, first_of_rows, last_of_rows, first_row, last_row, greatest, first_greatest}
 use Rattle.text_dims.specs.Summaries.{end_point, row_chars, summary_of, TextFits}
 use Rattle.text_dims.specs.Rows.{rows_begun, length-rows}
 use Rattle.text_dims.specs.Concat.{Adds, length_adds, chars_add, units_add}
@@ -26,16 +26,16 @@ total q (r ∷ rs) = q r + total q rs
 none : (q : List ℕ → ℕ) → Adds q → q [] ≡ 0
 none q a = omega (arith, a.adds [] [])
 
-first_of-le : (q : List ℕ → ℕ) → Adds q → (rs : List (List ℕ)) → q (first_of rs) ≤ total q rs
+first_of_rows-le : (q : List ℕ → ℕ) → Adds q → (rs : List (List ℕ)) → q (first_of_rows rs) ≤ total q rs
 unfolding total
-first_of-le q a [] = omega (arith, none q a)
-first_of-le q a (r ∷ rs) = omega arith
+first_of_rows-le q a [] = omega (arith, none q a)
+first_of_rows-le q a (r ∷ rs) = omega arith
 
-last_of-le : (q : List ℕ → ℕ) → Adds q → (rs : List (List ℕ)) → q (last_of rs) ≤ total q rs
+last_of_rows-le : (q : List ℕ → ℕ) → Adds q → (rs : List (List ℕ)) → q (last_of_rows rs) ≤ total q rs
 unfolding total
-last_of-le q a [] = omega (arith, none q a)
-last_of-le q a (r ∷ []) = omega arith
-last_of-le q a (r ∷ s ∷ rs) = omega (arith, last_of-le q a (s ∷ rs))
+last_of_rows-le q a [] = omega (arith, none q a)
+last_of_rows-le q a (r ∷ []) = omega arith
+last_of_rows-le q a (r ∷ s ∷ rs) = omega (arith, last_of_rows-le q a (s ∷ rs))
 
 greatest-le : (q : List ℕ → ℕ) (rs : List (List ℕ)) → greatest (map q rs) ≤ total q rs
 unfolding total
@@ -64,25 +64,25 @@ rows-total q a bs = split-total q a bs
 
 pub first_row-le : (q : List ℕ → ℕ) → Adds q → (bs : List ℕ) → q (first_row bs) ≤ q bs
 unfolding first_row
-first_row-le q a bs = omega (arith, first_of-le q a (rows bs), rows-total q a bs)
+first_row-le q a bs = omega (arith, first_of_rows-le q a (rows bs), rows-total q a bs)
 
 pub last_row-le : (q : List ℕ → ℕ) → Adds q → (bs : List ℕ) → q (last_row bs) ≤ q bs
 unfolding last_row
-last_row-le q a bs = omega (arith, last_of-le q a (rows bs), rows-total q a bs)
+last_row-le q a bs = omega (arith, last_of_rows-le q a (rows bs), rows-total q a bs)
 
 pub longest-le : (bs : List ℕ) → greatest (row_chars bs) ≤ char_count bs
 unfolding row_chars
 longest-le bs = omega (arith, greatest-le char_count (rows bs), rows-total char_count chars_add bs)
 
 -- the last row is no longer than the longest
-last_of-longest : (rs : List (List ℕ)) → char_count (last_of rs) ≤ greatest (map char_count rs)
-last_of-longest [] = omega (arith, char_count-le [])
-last_of-longest (r ∷ []) = omega arith
-last_of-longest (r ∷ s ∷ rs) = omega (arith, last_of-longest (s ∷ rs))
+last_of_rows-longest : (rs : List (List ℕ)) → char_count (last_of_rows rs) ≤ greatest (map char_count rs)
+last_of_rows-longest [] = omega (arith, char_count-le [])
+last_of_rows-longest (r ∷ []) = omega arith
+last_of_rows-longest (r ∷ s ∷ rs) = omega (arith, last_of_rows-longest (s ∷ rs))
 
 pub last_row-longest : (bs : List ℕ) → char_count (last_row bs) ≤ greatest (row_chars bs)
 unfolding last_row row_chars
-last_row-longest bs = last_of-longest (rows bs)
+last_row-longest bs = last_of_rows-longest (rows bs)
 
 place : (n : ℕ) (t : Bool) (i k : ℕ) → i ≤ k → cond t 0 (1 + i) ≤ 1 + k
 place n true i k h = omega arith

@@ -7,9 +7,9 @@ use Rattle.std.proofs.lemmas.List.Sums.{sum_by-append}
 use Rattle.text_dims.specs.declared.points.Point.{Point}
 use Rattle.text_dims.specs.declared.summary.Row.{Row}
 use Rattle.text_dims.specs.Points.{point_sum}
-use Rattle.text_dims.specs.Counts.{begins_char, byte_units, is_newline, char_count, utf16_count, newline_count, rows, first_of, last_of, first_row, last_row, greatest, first_greatest}
+use Rattle.text_dims.specs.Counts.{begins_char, byte_units, is_newline, char_count, utf16_count, newline_count, rows, first_of_rows, last_of_rows, first_row, last_row, greatest, first_greatest}
 use Rattle.text_dims.specs.Summaries.{end_point, row_chars, summary_of, longer, text_sum}
-use Rattle.text_dims.specs.Rows.{rows_begun, rows_ended, rows-append, last_of-append, length-rows}
+use Rattle.text_dims.specs.Rows.{rows_begun, rows_ended, rows-append, last_of_rows-append, length-rows}
 use Rattle.text_dims.specs.Greatest.{number-seam, chars-seam}
 
 pub char_count-append : (xs ys : List ℕ) → char_count (xs ++ ys) ≡ char_count xs + char_count ys
@@ -29,12 +29,12 @@ pub record Adds (q : List ℕ → ℕ) : Type 0 where
   pub adds : (xs ys : List ℕ) → q (xs ++ ys) ≡ q xs + q ys
 
 last_seam : (q : List ℕ → ℕ) → Adds q → (n : ℕ) (l s : List ℕ) (ss : List (List ℕ)) → n + 1 ≡ length (s ∷ ss) →
-    q (last_of ((l ++ s) ∷ ss)) ≡ cond (eqb n 0) (q l + q (last_of (s ∷ ss))) (q (last_of (s ∷ ss)))
+    q (last_of_rows ((l ++ s) ∷ ss)) ≡ cond (eqb n 0) (q l + q (last_of_rows (s ∷ ss))) (q (last_of_rows (s ∷ ss)))
 last_seam q a n l s [] e = let none : n ≡ 0 = omega arith in rw (eq-eqb n 0 none) (a.adds l s)
 last_seam q a n l s (t ∷ ss) e = let some : eqb n 0 ≡ false = ne_eqb n 0 (λ z. omega arith) in rw some refl
 
 first_seam : (q : List ℕ → ℕ) → Adds q → (n : ℕ) (f : List (List ℕ)) (l s : List ℕ) (ss : List (List ℕ)) → n ≡ length f →
-    q (first_of (f ++ (l ++ s) ∷ ss)) ≡ cond (eqb n 0) (q (first_of (f ++ l ∷ [])) + q s) (q (first_of (f ++ l ∷ [])))
+    q (first_of_rows (f ++ (l ++ s) ∷ ss)) ≡ cond (eqb n 0) (q (first_of_rows (f ++ l ∷ [])) + q s) (q (first_of_rows (f ++ l ∷ [])))
 first_seam q a n [] l s ss e = rw (eq-eqb n 0 e) (a.adds l s)
 first_seam q a n (g ∷ f) l s ss e = let some : eqb n 0 ≡ false = ne_eqb n 0 (λ z. omega arith) in rw some refl
 
@@ -71,7 +71,7 @@ pub last_row-append : (q : List ℕ → ℕ) → Adds q → (xs ys : List ℕ) �
 unfolding last_row
 last_row-append q a xs ys =
     let m = seam xs ys in
-    rw (m.both, m.before, m.after, last_of-append m.f (m.l ++ m.s) m.ss, last_of-append m.f m.l []) (last_seam q a (newline_count ys) m.l m.s m.ss m.more)
+    rw (m.both, m.before, m.after, last_of_rows-append m.f (m.l ++ m.s) m.ss, last_of_rows-append m.f m.l []) (last_seam q a (newline_count ys) m.l m.s m.ss m.more)
 
 pub first_row-append : (q : List ℕ → ℕ) → Adds q → (xs ys : List ℕ) →
     q (first_row (xs ++ ys)) ≡ cond (eqb (newline_count xs) 0) (q (first_row xs) + q (first_row ys)) (q (first_row xs))
@@ -131,7 +131,7 @@ chars_seam xs ys =
       before = rw m.before (map-append char_count m.f (m.l ∷ []));
       after = rw m.after refl;
       both = rw m.both (map-append char_count m.f ((m.l ++ m.s) ∷ m.ss) ∙ rw (char_count-append m.l m.s) refl);
-      last = rw (m.before, last_of-append m.f m.l []) refl;
+      last = rw (m.before, last_of_rows-append m.f m.l []) refl;
       first = rw m.after refl;
       many = m.many ∙ sym (length-map m.f char_count);
     }

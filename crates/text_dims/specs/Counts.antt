@@ -39,23 +39,23 @@ unfoldable pub rows : List ℕ → List (List ℕ)
 rows bs = slice_split is_newline bs
 
 -- the first of the rows
-abbrev pub first_of : List (List ℕ) → List ℕ
-first_of [] = []
-first_of (r ∷ rs) = r
+abbrev pub first_of_rows : List (List ℕ) → List ℕ
+first_of_rows [] = []
+first_of_rows (r ∷ rs) = r
 
 -- the last of the rows
-abbrev pub last_of : List (List ℕ) → List ℕ
-last_of [] = []
-last_of (r ∷ []) = r
-last_of (r ∷ s ∷ rs) = last_of (s ∷ rs)
+abbrev pub last_of_rows : List (List ℕ) → List ℕ
+last_of_rows [] = []
+last_of_rows (r ∷ []) = r
+last_of_rows (r ∷ s ∷ rs) = last_of_rows (s ∷ rs)
 
 -- what stands before the first LF
 unfoldable pub first_row : List ℕ → List ℕ
-first_row bs = first_of (rows bs)
+first_row bs = first_of_rows (rows bs)
 
 -- what stands after the last LF
 unfoldable pub last_row : List ℕ → List ℕ
-last_row bs = last_of (rows bs)
+last_row bs = last_of_rows (rows bs)
 
 -- the greatest of the numbers, 0 where there is none
 abbrev pub greatest : List ℕ → ℕ

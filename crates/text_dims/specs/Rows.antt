@@ -2,7 +2,7 @@
 use Rattle.std.proofs.Common.{◌≡◌, ℕ, ◌+◌, Bool, true, false, cond, List, [], ◌∷◌, ◌++◌, length, refl, ap, ◌∙◌, sym}
 use Rattle.std.specs.List.{slice_split, onto_first}
 use Rattle.std.proofs.lemmas.List.Splits.{length-slice_split}
-use Rattle.text_dims.specs.Counts.{is_newline, newline_count, rows, last_of}
+use Rattle.text_dims.specs.Counts.{is_newline, newline_count, rows, last_of_rows}
 
 pub record Begun {X : Type 0} (xs : List X) : Type 0 where
   pub first : X
@@ -84,10 +84,10 @@ pub rows-append : (xs ys : List ℕ) (f : List (List ℕ)) (l s : List ℕ) (ss 
 unfolding rows
 rows-append xs ys f l s ss e d = split-join xs ys ∙ rw (e, d) (join-ended f l s ss)
 
-pub last_of-append : (f : List (List ℕ)) (r : List ℕ) (rs : List (List ℕ)) → last_of (f ++ r ∷ rs) ≡ last_of (r ∷ rs)
-last_of-append [] r rs = refl
-last_of-append (g ∷ []) r rs = refl
-last_of-append (g ∷ h ∷ f) r rs = last_of-append (h ∷ f) r rs
+pub last_of_rows-append : (f : List (List ℕ)) (r : List ℕ) (rs : List (List ℕ)) → last_of_rows (f ++ r ∷ rs) ≡ last_of_rows (r ∷ rs)
+last_of_rows-append [] r rs = refl
+last_of_rows-append (g ∷ []) r rs = refl
+last_of_rows-append (g ∷ h ∷ f) r rs = last_of_rows-append (h ∷ f) r rs
 
 pub length-rows : (bs : List ℕ) → length (rows bs) ≡ newline_count bs + 1
 unfolding rows newline_count

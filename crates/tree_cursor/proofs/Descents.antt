@@ -5,9 +5,9 @@ use Rattle.std.proofs.lemmas.List.{drop_at}
 use Rattle.sum_tree.specs.Laws.{SummaryLaws, fold}
 use Rattle.sum_tree.specs.Seen.{Seen}
 use Rattle.sum_tree.proofs.Folds.{fold-append, fold_single, fold_admitted}
-use Rattle.tree_cursor.specs.Places.{AlwaysAdds, DimensionLaws, behind, place_behind, passed_over}
+use Rattle.tree_cursor.specs.Places.{AlwaysAdds, DimensionLaws, behind, place_behind, walk_count}
 use Rattle.tree_cursor.specs.Rules.{LooksAtEnds}
-use Rattle.tree_cursor.specs.Halts.{gone_over}
+use Rattle.tree_cursor.specs.Halts.{place_over}
 use Rattle.tree_cursor.specs.Rest.{Rest}
 use Rattle.tree_cursor.specs.Walking.{IsDescending}
 
@@ -56,7 +56,7 @@ stopped_at true q e = refl
 stopped_at false q e = cc
 
 -- where a sum is added whole and is not gone over, the walk halts at its end
-pub stopped : {P : Type 0} (halts : P → Bool) (o : Option P) → IsSome o → gone_over halts o ≡ None → (q : P) × (o ≡ Some q) × (halts q ≡ true)
+pub stopped : {P : Type 0} (halts : P → Bool) (o : Option P) → IsSome o → place_over halts o ≡ None → (q : P) × (o ≡ Some q) × (halts q ≡ true)
 stopped halts None s e = cc
 stopped halts (Some q) s e = (q, refl, stopped_at (halts q) q e)
 
@@ -75,23 +75,23 @@ module _ {P S T : Type 0} {moved : P → S → Option P} {fits : P → S → Typ
     first_halts false n k f = omega (arith, f refl)
 
     -- a walk that halts at the end of some items halts among them
-    halts_among : (s : S) (p : P) (i j : ℕ) (ys xs : List T) → 1 ≤ length ys → j ≡ i + length ys → halts s (place_behind moved sum_of p ys) j ≡ true → passed_over moved sum_of halts p i (ys ++ xs) < length ys
+    halts_among : (s : S) (p : P) (i j : ℕ) (ys xs : List T) → 1 ≤ length ys → j ≡ i + length ys → halts s (place_behind moved sum_of p ys) j ≡ true → walk_count moved sum_of halts p i (ys ++ xs) < length ys
     halts_among s p i j [] xs l n h = absurd (omega (arith, l))
     halts_among s p i j (y ∷ []) xs l n h =
         let r = behind p (moved p (sum_of y)) in
         let last : i + 1 ≡ j = omega (arith, n) in
         let here : halts (sum_of y) r (i + 1) ≡ true = ends (sum_of y) s r (i + 1) ∙ ap (halts s r) last ∙ h in
-        omega (arith, ap (λ (b : Bool). cond b 0 (1 + passed_over moved sum_of halts r (i + 1) xs)) here)
+        omega (arith, ap (λ (b : Bool). cond b 0 (1 + walk_count moved sum_of halts r (i + 1) xs)) here)
     halts_among s p i j (y ∷ z ∷ ys) xs l n h =
         let r = behind p (moved p (sum_of y)) in
-        let on : passed_over moved sum_of halts r (i + 1) ((z ∷ ys) ++ xs) < length (z ∷ ys) = halts_among s r (i + 1) j (z ∷ ys) xs (omega arith) (omega (arith, n)) h in
-        let first = first_halts (halts (sum_of y) r (i + 1)) (passed_over moved sum_of halts r (i + 1) ((z ∷ ys) ++ xs)) (length (z ∷ ys)) (λ e. on) in
+        let on : walk_count moved sum_of halts r (i + 1) ((z ∷ ys) ++ xs) < length (z ∷ ys) = halts_among s r (i + 1) j (z ∷ ys) xs (omega arith) (omega (arith, n)) h in
+        let first = first_halts (halts (sum_of y) r (i + 1)) (walk_count moved sum_of halts r (i + 1) ((z ∷ ys) ++ xs)) (length (z ∷ ys)) (λ e. on) in
         omega (arith, first)
 
     -- a walk that does not go over a node whose sum is added whole halts in it
-    pub halts_within : (p : P) (i j goal : ℕ) (s : S) (ys xs left : List T) → AlwaysAdds moved → 1 ≤ length ys → s ≡ fold empty op sum_of ys → j ≡ i + length ys → left ≡ ys ++ xs → gone_over (λ q. halts s q j) (moved p s) ≡ None → i + passed_over moved sum_of halts p i left ≡ goal → goal < i + length ys
+    pub halts_within : (p : P) (i j goal : ℕ) (s : S) (ys xs left : List T) → AlwaysAdds moved → 1 ≤ length ys → s ≡ fold empty op sum_of ys → j ≡ i + length ys → left ≡ ys ++ xs → place_over (λ q. halts s q j) (moved p s) ≡ None → i + walk_count moved sum_of halts p i left ≡ goal → goal < i + length ys
     halts_within p i j goal s ys xs left adds some f n e none sought =
         let k = stopped (λ q. halts s q j) (moved p s) (adds p s) none in
         let leads : place_behind moved sum_of p ys ≡ k.0 = sum_leads p k.0 ys (ap (moved p) (sym f) ∙ k.1) in
-        let among : passed_over moved sum_of halts p i (ys ++ xs) < length ys = halts_among s p i j ys xs some n (ap (λ (q : P). halts s q j) leads ∙ k.2) in
-        omega (arith, among, sought, ap (passed_over moved sum_of halts p i) e)
+        let among : walk_count moved sum_of halts p i (ys ++ xs) < length ys = halts_among s p i j ys xs some n (ap (λ (q : P). halts s q j) leads ∙ k.2) in
+        omega (arith, among, sought, ap (walk_count moved sum_of halts p i) e)

@@ -8,7 +8,7 @@ use Rattle.sum_tree.specs.Seen.{Seen}
 use Rattle.sum_tree.specs.Shape.{IsChild}
 use Rattle.tree_cursor.specs.Rest.{Rest}
 use Rattle.sum_tree.proofs.Children.{child_filled}
-use Rattle.tree_cursor.specs.Levels.{weights, looks_below, IsBelow, IsSplit, IsLevel, AreLevels, TakesInner, TakesPart, left_items, left_looks, left_work, items_left, work_left}
+use Rattle.tree_cursor.specs.Levels.{weights, looks_below, IsBelow, IsFirstPart, IsLevel, AreLevels, TakesInner, TakesPart, left_items, left_looks, left_work, items_left, work_left}
 use Rattle.tree_cursor.specs.declared.path.Part.{Part}
 use Rattle.tree_cursor.specs.declared.path.Part.TheVariants.{Node, One}
 use Rattle.tree_cursor.specs.declared.path.Left.{Left}
@@ -61,16 +61,16 @@ looks_into l ts t us e f =
     let looks : left_looks l ≡ looks_below (t ∷ us) = ap left_looks e ∙ ap looks_below f in
     omega (arith, looks)
 
-pub below_split : {T S : Type 0} (old new : Left T S) (part : Part T S) (h : ℕ) → IsSplit old part new → IsBelow h old → IsBelow h new
+pub below_split : {T S : Type 0} (old new : Left T S) (part : Part T S) (h : ℕ) → IsFirstPart old part new → IsBelow h old → IsBelow h new
 below_split old new (Node t) h s b = (s.2 h b).1
 below_split old new (One e) h s b = s.2 h b
 
 module _ {T S : Type 0} where
   -- a level of which less is left
-  pub level_split : (ls : List (Left T S)) (l new : Left T S) (part : Part T S) → IsLevel ls l → IsSplit l part new → IsLevel ls new
+  pub level_split : (ls : List (Left T S)) (l new : Left T S) (part : Part T S) → IsLevel ls l → IsFirstPart l part new → IsLevel ls new
   level_split ls l new part o s = record { height = o.height; low = o.low; below = below_split l new part o.height s o.below }
 
-  pub takes_split : (ls : List (Left T S)) (l new : Left T S) (part : Part T S) (before after : Rest T) → IsLevel ls l → IsSplit l part new → before.items ≡ left_items l ++ items_left ls → before.work ≡ left_work l + work_left ls → after.items ≡ left_items new ++ items_left ls → after.work ≡ left_work new + work_left ls → after.depth ≡ length ls → TakesPart before part after
+  pub takes_split : (ls : List (Left T S)) (l new : Left T S) (part : Part T S) (before after : Rest T) → IsLevel ls l → IsFirstPart l part new → before.items ≡ left_items l ++ items_left ls → before.work ≡ left_work l + work_left ls → after.items ≡ left_items new ++ items_left ls → after.work ≡ left_work new + work_left ls → after.depth ≡ length ls → TakesPart before part after
   takes_split ls l new (Node t) before after o s i w j v d = (
     i ∙ ap (λ xs. xs ++ items_left ls) s.0 ∙ append_assoc t.now.items (left_items new) (items_left ls) ∙ ap (λ xs. t.now.items ++ xs) (sym j),
     omega (arith, s.1, w, v),
@@ -81,7 +81,7 @@ module _ {T S : Type 0} where
     omega (arith, s.1, w, v),
   )
 
-  pub takes_inner : (ls : List (Left T S)) (l new : Left T S) (part : Part T S) (before after : Rest T) → IsLevel ls l → IsSplit l part new → (before.inner ≢ [] → (left_items l ≡ before.inner) × (left_looks l ≡ before.looks)) → after.inner ≡ left_items new → after.looks ≡ left_looks new → TakesInner before part after
+  pub takes_inner : (ls : List (Left T S)) (l new : Left T S) (part : Part T S) (before after : Rest T) → IsLevel ls l → IsFirstPart l part new → (before.inner ≢ [] → (left_items l ≡ before.inner) × (left_looks l ≡ before.looks)) → after.inner ≡ left_items new → after.looks ≡ left_looks new → TakesInner before part after
   takes_inner ls l new (Node t) before after o s inner j v = (
     (s.3 o.height o.below).0,
     λ some. let i = inner some in (sym i.0 ∙ s.0 ∙ ap (λ xs. t.now.items ++ xs) (sym j), omega (arith, (s.3 o.height o.below).1, i.1, v), omega (arith, s.4, i.1)),

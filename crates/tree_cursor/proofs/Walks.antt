@@ -4,8 +4,8 @@ use Rattle.std.proofs.lemmas.List.{length-drop, drop-drop, drop_at, take_at, tak
 use Rattle.std.proofs.Math.Seq.{take-add}
 use Rattle.sum_tree.specs.Laws.{SummaryLaws, fold}
 use Rattle.sum_tree.proofs.Folds.{fold-append, fold_single, fold_admitted}
-use Rattle.tree_cursor.specs.Places.{DimensionLaws, behind, place_behind, passed_over, seek_count}
-use Rattle.tree_cursor.specs.Halts.{IsAt, gone_over, ahead, index_behind}
+use Rattle.tree_cursor.specs.Places.{DimensionLaws, behind, place_behind, walk_count, seek_count}
+use Rattle.tree_cursor.specs.Halts.{IsAt, place_over, ahead, index_behind}
 use Rattle.tree_cursor.specs.Walking.{IsWalking}
 use Rattle.std.proofs.lemmas.Option.{same_Some}
 
@@ -18,7 +18,7 @@ went_at true r q halts s e = cc
 went_at false r q halts s e = (e, ap halts (sym (same_Some r q e)) ∙ s)
 
 -- a sum that is gone over is added whole, and the walk does not halt there
-pub went : {P : Type 0} (halts : P → Bool) (o : Option P) (q : P) → gone_over halts o ≡ Some q → (o ≡ Some q) × (halts q ≡ false)
+pub went : {P : Type 0} (halts : P → Bool) (o : Option P) (q : P) → place_over halts o ≡ Some q → (o ≡ Some q) × (halts q ≡ false)
 went halts None q e = cc
 went halts (Some r) q e = went_at (halts r) r q halts refl e
 
@@ -38,17 +38,17 @@ module _ {P S T : Type 0} {moved : P → S → Option P} {fits : P → S → Typ
       added.1 ∙ ap (λ (q : P). Some q) (sym (ap (behind p) added.1))
 
   module _ (halts : S → P → ℕ → Bool) (parts : (a b : S) (p q : P) (i j : ℕ) → admits a → admits b → later p q → i ≤ j → halts (op a b) q j ≡ false → (halts a p i ≡ false) × (halts b q j ≡ false)) where
-    stepped : (p r : P) (i n m : ℕ) (y : T) (zs : List T) → moved p (sum_of y) ≡ Some r → halts (sum_of y) r (i + 1) ≡ false → passed_over moved sum_of halts r (i + 1) zs ≡ n + m → passed_over moved sum_of halts p i (y ∷ zs) ≡ 1 + (n + m)
+    stepped : (p r : P) (i n m : ℕ) (y : T) (zs : List T) → moved p (sum_of y) ≡ Some r → halts (sum_of y) r (i + 1) ≡ false → walk_count moved sum_of halts r (i + 1) zs ≡ n + m → walk_count moved sum_of halts p i (y ∷ zs) ≡ 1 + (n + m)
     stepped p r i n m y zs e h k =
         let d : behind p (moved p (sum_of y)) ≡ r = ap (behind p) e in
-        ap (λ (q : P). cond (halts (sum_of y) q (i + 1)) 0 (1 + passed_over moved sum_of halts q (i + 1) zs)) d ∙ ap (λ (b : Bool). cond b 0 (1 + passed_over moved sum_of halts r (i + 1) zs)) h ∙ ap (λ (u : ℕ). 1 + u) k
+        ap (λ (q : P). cond (halts (sum_of y) q (i + 1)) 0 (1 + walk_count moved sum_of halts q (i + 1) zs)) d ∙ ap (λ (b : Bool). cond b 0 (1 + walk_count moved sum_of halts r (i + 1) zs)) h ∙ ap (λ (u : ℕ). 1 + u) k
 
     -- items that are gone over together are gone over one by one
-    passes : (p q : P) (i j : ℕ) (ys xs : List T) → j ≡ i + length ys → moved p (fold empty op sum_of ys) ≡ Some q → halts (fold empty op sum_of ys) q j ≡ false → (place_behind moved sum_of p ys ≡ q) × (passed_over moved sum_of halts p i (ys ++ xs) ≡ length ys + passed_over moved sum_of halts q j xs)
+    passes : (p q : P) (i j : ℕ) (ys xs : List T) → j ≡ i + length ys → moved p (fold empty op sum_of ys) ≡ Some q → halts (fold empty op sum_of ys) q j ≡ false → (place_behind moved sum_of p ys ≡ q) × (walk_count moved sum_of halts p i (ys ++ xs) ≡ length ys + walk_count moved sum_of halts q j xs)
     passes p q i j [] xs n m h =
         let same : q ≡ p = dim.nothing p q m in
         let here : i ≡ j = omega (arith, n) in
-        (sym same, ap (λ (r : P). passed_over moved sum_of halts r i xs) (sym same) ∙ ap (λ (k : ℕ). passed_over moved sum_of halts q k xs) here ∙ omega arith)
+        (sym same, ap (λ (r : P). walk_count moved sum_of halts r i xs) (sym same) ∙ ap (λ (k : ℕ). walk_count moved sum_of halts q k xs) here ∙ omega arith)
     passes p q i j (y ∷ ys) xs n m h =
         let a = sum_of y in
         let b = fold empty op sum_of ys in
@@ -59,9 +59,9 @@ module _ {P S T : Type 0} {moved : P → S → Option P} {fits : P → S → Typ
         let on : later r q = dim.forward r q b fine part.2 in
         let less : i + 1 ≤ j = omega (arith, n) in
         let not : (halts a r (i + 1) ≡ false) × (halts b q j ≡ false) = parts a b r q (i + 1) j (admitted y) fine on less (ap (λ (s : S). halts s q j) (sym split) ∙ h) in
-        let rest : (place_behind moved sum_of r ys ≡ q) × (passed_over moved sum_of halts r (i + 1) (ys ++ xs) ≡ length ys + passed_over moved sum_of halts q j xs) = passes r q (i + 1) j ys xs (omega (arith, n)) part.2 not.1 in (
+        let rest : (place_behind moved sum_of r ys ≡ q) × (walk_count moved sum_of halts r (i + 1) (ys ++ xs) ≡ length ys + walk_count moved sum_of halts q j xs) = passes r q (i + 1) j ys xs (omega (arith, n)) part.2 not.1 in (
           ap (λ (s : P). place_behind moved sum_of s ys) (ap (behind p) part.1) ∙ rest.0,
-          stepped p r i (length ys) (passed_over moved sum_of halts q j xs) y (ys ++ xs) part.1 not.0 rest.1 ∙ omega arith,
+          stepped p r i (length ys) (walk_count moved sum_of halts q j xs) y (ys ++ xs) part.1 not.0 rest.1 ∙ omega arith,
         )
 
     module _ (whole : List T) (from : P) (goal : ℕ) where
@@ -80,7 +80,7 @@ module _ {P S T : Type 0} {moved : P → S → Option P} {fits : P → S → Typ
             left_is = sym (ap (λ (k : ℕ). drop k whole) n ∙ sym (drop-drop (length ys) index whole) ∙ behind_them);
             starts = sym (ap (place_behind moved sum_of from) front ∙ place_behind-append moved sum_of from (take index whole) ys ∙ ap (λ (p : P). place_behind moved sum_of p ys) (sym w.starts) ∙ along.0);
             room = dim.fits_back at q (fold empty op sum_of ys) (fold empty op sum_of xs) (fold_admitted laws sum_of admitted ys) (fold_admitted laws sum_of admitted xs) (whole_fits at left ys xs e w.room) sums;
-            sought = omega (arith, n, along.1, w.sought, ap (passed_over moved sum_of halts at index) e);
+            sought = omega (arith, n, along.1, w.sought, ap (walk_count moved sum_of halts at index) e);
           }
 
       pub room_for : (left ys xs : List T) (at : P) (s : S) (index : ℕ) → IsWalking moved fits empty op sum_of halts whole from left at index goal → left ≡ ys ++ xs → s ≡ fold empty op sum_of ys → fits at s
@@ -99,8 +99,8 @@ module _ {P S T : Type 0} {moved : P → S → Option P} {fits : P → S → Typ
       halts_here left xs x at end s index w e f b h =
           let added : moved at s ≡ Some end = ap (moved at) f ∙ one_added at left xs x.now e w.room ∙ ap (λ (q : P). Some q) (sym (b ∙ ap (λ (t : S). behind at (moved at t)) f)) in
           let ended : behind at (moved at (sum_of x.now)) ≡ end = ap (λ (t : S). behind at (moved at t)) (sym f) ∙ sym b in
-          let none : passed_over moved sum_of halts at index left ≡ 0 =
-          ap (passed_over moved sum_of halts at index) e ∙ ap (λ (b : Bool). cond b 0 (1 + passed_over moved sum_of halts (behind at (moved at (sum_of x.now))) (index + 1) xs)) (ap (λ (q : P). halts (sum_of x.now) q (index + 1)) ended ∙ ap (λ (t : S). halts t end (index + 1)) (sym f) ∙ h) in
+          let none : walk_count moved sum_of halts at index left ≡ 0 =
+          ap (walk_count moved sum_of halts at index) e ∙ ap (λ (b : Bool). cond b 0 (1 + walk_count moved sum_of halts (behind at (moved at (sum_of x.now))) (index + 1) xs)) (ap (λ (q : P). halts (sum_of x.now) q (index + 1)) ended ∙ ap (λ (t : S). halts t end (index + 1)) (sym f) ∙ h) in
           let parted : drop index whole ≡ x.now ∷ xs = sym w.left_is ∙ e in
           let them : take 1 (drop index whole) ≡ x.now ∷ [] = ap (take 1) parted in
           let front : take (index + 1) whole ≡ take index whole ++ (x.now ∷ []) = take-add index 1 whole ∙ ap (λ (zs : List T). take index whole ++ zs) them in
@@ -120,7 +120,7 @@ module _ {P S T : Type 0} {moved : P → S → Option P} {fits : P → S → Typ
       pub halts_past : (left rest : List T) (at : P) (index : ℕ) → IsWalking moved fits empty op sum_of halts whole from left at index goal → left ≡ [] → rest ≡ [] → (index ≡ goal) × IsAt moved fits empty op sum_of whole from rest None at at index
       halts_past left rest at index w e r =
           let parted : drop index whole ≡ [] = sym w.left_is ∙ e in
-          let none : passed_over moved sum_of halts at index left ≡ 0 = ap (passed_over moved sum_of halts at index) e in
+          let none : walk_count moved sum_of halts at index left ≡ 0 = ap (walk_count moved sum_of halts at index) e in
           let front : take (index + 1) whole ≡ take index whole = take-add index 1 whole ∙ ap (λ (zs : List T). take index whole ++ take 1 zs) parted ∙ append-nil (take index whole) in (
             omega (arith, none, w.sought),
             record {

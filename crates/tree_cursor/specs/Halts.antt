@@ -5,9 +5,9 @@ use Rattle.tree_cursor.specs.Places.{place_behind}
 use denote.Bor.{Bor}
 
 -- the place behind a sum that is gone over whole, and None where the walk halts there or has to look inside
-abbrev pub gone_over : {P : Type 0} → (P → Bool) → Option P → Option P
-gone_over halts None = None
-gone_over halts (Some q) = cond (halts q) None (Some q)
+abbrev pub place_over : {P : Type 0} → (P → Bool) → Option P → Option P
+place_over halts None = None
+place_over halts (Some q) = cond (halts q) None (Some q)
 
 -- the item that the walk is on, and those that follow
 abbrev pub ahead : {T : Type 0} → Option (Bor T) → List T → List T

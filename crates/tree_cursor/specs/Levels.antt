@@ -40,13 +40,13 @@ IsBelow h (Trees ts) = All (IsChild h) ts.now
 IsBelow h (Entries es) = Unit
 
 -- the part that comes first in a node, and what is left of the node behind it
-abbrev pub IsSplit : {T S : Type 0} → Left T S → Part T S → Left T S → Type 0
-IsSplit old (Node t) new = (left_items old ≡ t.now.items ++ left_items new)
+abbrev pub IsFirstPart : {T S : Type 0} → Left T S → Part T S → Left T S → Type 0
+IsFirstPart old (Node t) new = (left_items old ≡ t.now.items ++ left_items new)
     × (left_work old ≡ weight t.now + left_work new)
     × ((h : ℕ) → IsBelow h old → (t.now.height + 1 ≡ h) × IsBelow h new)
     × ((h : ℕ) → IsBelow h old → (1 ≤ length t.now.items) × (1 + left_looks new ≤ left_looks old))
     × (1 + 12 * (t.now.height + 1) ≤ left_looks old)
-IsSplit old (One e) new = (left_items old ≡ e.now ∷ left_items new)
+IsFirstPart old (One e) new = (left_items old ≡ e.now ∷ left_items new)
     × (left_work old ≡ 1 + left_work new) × ((h : ℕ) → IsBelow h old → IsBelow h new)
     × (1 + left_looks new ≤ left_looks old)
 

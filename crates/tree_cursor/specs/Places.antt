@@ -39,8 +39,8 @@ filter_count keeps sum_of [] = 0
 filter_count keeps sum_of (x ∷ xs) = cond (keeps (sum_of x)) 0 (1 + filter_count keeps sum_of xs)
 
 -- how many items come before the first at which a walk halts, by that item's sum, its end and the index of its end
-abbrev pub passed_over : {P S T : Type 0} → (P → S → Option P) → (T → S) → (S → P → ℕ → Bool) → P → ℕ → List T → ℕ
-passed_over moved sum_of halts p i [] = 0
-passed_over moved sum_of halts p i (x ∷ xs) = cond
+abbrev pub walk_count : {P S T : Type 0} → (P → S → Option P) → (T → S) → (S → P → ℕ → Bool) → P → ℕ → List T → ℕ
+walk_count moved sum_of halts p i [] = 0
+walk_count moved sum_of halts p i (x ∷ xs) = cond
     (halts (sum_of x) (behind p (moved p (sum_of x))) (i + 1)) 0
-    (1 + passed_over moved sum_of halts (behind p (moved p (sum_of x))) (i + 1) xs)
+    (1 + walk_count moved sum_of halts (behind p (moved p (sum_of x))) (i + 1) xs)

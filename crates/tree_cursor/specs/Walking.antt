@@ -1,7 +1,7 @@
 -- What a walk keeps.
 use Rattle.std.specs.Prelude.{◌≡◌, ◌⊎◌, ℕ, ◌+◌, ◌<◌, ◌≤◌, Bool, Option, List, length, take, drop}
 use Rattle.sum_tree.specs.Laws.{fold}
-use Rattle.tree_cursor.specs.Places.{place_behind, passed_over}
+use Rattle.tree_cursor.specs.Places.{place_behind, walk_count}
 use Rattle.tree_cursor.specs.Rest.{Rest}
 
 -- A walk over the items whole, which begin at the place from, has come to an index, and will halt at the index goal.
@@ -12,7 +12,7 @@ pub record IsWalking {P S T : Type 0} (moved : P → S → Option P) (fits : P �
   pub left_is : left ≡ drop index whole
   pub starts : at ≡ place_behind moved sum_of from (take index whole)
   pub room : fits at (fold empty op sum_of left)
-  pub sought : index + passed_over moved sum_of halts at index left ≡ goal
+  pub sought : index + walk_count moved sum_of halts at index left ≡ goal
 
 -- With so many steps, and the looks that are left, it stays within the most; and it halts in the innermost level, or no
 -- other is left.

@@ -1,6 +1,6 @@
 //! What is left of a tree from some place on: the entries of a leaf, and at each level above the trees that follow.
 ghost use Rattle.std.specs.Prelude.{◌≡◌, ◌+◌, ◌*◌, ◌<◌, ◌≤◌, ◌++◌, [], MatchOption, IfNone, IfSome};
-ghost use Rattle.tree_cursor.specs.Levels.{IsBelow, IsDone, IsSplit, TakesInner, TakesPart, left_items, left_looks, left_work, weight};
+ghost use Rattle.tree_cursor.specs.Levels.{IsBelow, IsDone, IsFirstPart, TakesInner, TakesPart, left_items, left_looks, left_work, weight};
 
 use crate::tally::Tally;
 use arrayvec::ArrayVec;
@@ -68,7 +68,7 @@ fn left_of<'a, T: Item>(node: &'a SumTree<T>) -> Left<'a, T>
 
 // The part that comes first, if there is one, and what is left behind it.
 fn split<'a, T: Item>(left: Left<'a, T>) -> Option<(Part<'a, T>, Left<'a, T>)>
-    ensures { MatchOption result (IsDone left.entry) (λ r. IsSplit left.entry r.0 r.1) }
+    ensures { MatchOption result (IsDone left.entry) (λ r. IsFirstPart left.entry r.0 r.1) }
 {
     match left {
         Left::Trees(trees) => match trees.split_first() {

@@ -2,8 +2,8 @@
 ghost use Rattle.std.specs.Prelude.{◌≡◌, ◌+◌, ◌^◌, ◌<◌, ◌≤◌, ℕ, Bool, true, false, nat_lt, length, drop, take};
 ghost use Rattle.std.specs.Option.{option_copied, option_map};
 ghost use Rattle.sum_tree.specs.Laws.{fold};
-ghost use Rattle.tree_cursor.specs.Places.{AlwaysAdds, behind, place_behind, passed_over};
-ghost use Rattle.tree_cursor.specs.Halts.{IsAt, gone_over};
+ghost use Rattle.tree_cursor.specs.Places.{AlwaysAdds, behind, place_behind, walk_count};
+ghost use Rattle.tree_cursor.specs.Halts.{IsAt, place_over};
 ghost use Rattle.tree_cursor.specs.Rules.{LooksAtEnds};
 
 use crate::path::{Part, Path};
@@ -71,7 +71,7 @@ fn over<'a, S: Summary, D: Dimension<'a, S>, R: Rule<S, D>>(
 ) -> Option<D>
     requires { D.fits (D.plain at) sum.now }
     ensures { option_map D.plain result
-        ≡ gone_over (λ q. R.halts rule.now sum.now q count) (D.moved (D.plain at) sum.now) }
+        ≡ place_over (λ q. R.halts rule.now sum.now q count) (D.moved (D.plain at) sum.now) }
 {
     match at.try_add(sum) {
         None => None,
@@ -105,7 +105,7 @@ pub(crate) fn walk<'a, T: Item, D: Dimension<'a, T::Summary>, R: Rule<T::Summary
     requires short { length path.old.items ≤ 2 ^ 40 }
     requires room { D.fits (D.plain start)
         (fold T.Summary.empty T.Summary.op T.sum_of path.old.items) }
-    ensures passed { result.passed ≡ passed_over D.moved T.sum_of (R.halts rule.now)
+    ensures passed { result.passed ≡ walk_count D.moved T.sum_of (R.halts rule.now)
         (D.plain start) 0 path.old.items }
     ensures at { IsAt D.moved D.fits T.Summary.empty T.Summary.op T.sum_of path.old.items
         (D.plain start) path.new.items result.item (D.plain result.start)
@@ -126,7 +126,7 @@ pub(crate) fn walk_counted<
     requires short { length path.old.items ≤ 2 ^ 40 }
     requires room { D.fits (D.plain start)
         (fold T.Summary.empty T.Summary.op T.sum_of path.old.items) }
-    ensures passed { result.passed ≡ passed_over D.moved T.sum_of (R.halts rule.now)
+    ensures passed { result.passed ≡ walk_count D.moved T.sum_of (R.halts rule.now)
         (D.plain start) 0 path.old.items }
     ensures at { IsAt D.moved D.fits T.Summary.empty T.Summary.op T.sum_of path.old.items
         (D.plain start) path.new.items result.item (D.plain result.start)

@@ -7,7 +7,7 @@ use Rattle.std.specs.List.{find}
 use Rattle.std.specs.Ordering.{is_eq, nat_cmp}
 use Rattle.std.specs.declared.cmp.Ordering.TheVariants.{Less, Equal}
 use Rattle.sum_tree.specs.Keyed.{item_of_key, insert_item}
-use Rattle.sum_tree.proofs.Keys.{inserted_short}
+use Rattle.sum_tree.proofs.Keys.{inserted_short, ascending_rest}
 use Rattle.undo_map.specs.declared.entry.UndoKey.{UndoKey}
 use Rattle.undo_map.specs.declared.entry.UndoEntry.{UndoEntry}
 use Rattle.undo_map.specs.Counts.{key_of, key_cmp, greatest, IsAscending, count_at_key, with_count, counts_for}
@@ -23,9 +23,6 @@ abbrev pub count_in : Option UndoEntry → ℕ
 count_in None = 0
 count_in (Some e) = e.count
 
-tail_ascends : (e : UndoEntry) (w : List UndoEntry) → IsAscending (e ∷ w) → IsAscending w
-tail_ascends e w a = λ i j d l m. a (suc i) (suc j) d (omega arith) (omega arith)
-
 apart : (k : UndoKey) (e f : UndoEntry) → key_cmp (key_of e) (key_of f) ≡ Less → is_eq (key_cmp (key_of e) k) ≡ true → is_eq (key_cmp (key_of f) k) ≡ false
 apart k e f l q = go (cases_Bool (is_eq (key_cmp (key_of f) k)))
   where
@@ -39,7 +36,7 @@ count_held (e ∷ w) k a =
     let p : UndoEntry → Bool = λ f. is_eq (key_cmp (key_of f) k) in
     elim (p e) as (λ b. p e ≡ b → cond b (max e.count (greatest p w)) (greatest p w) ≡ count_in (cond b (Some e) (find p w))) [
       | true ↦ λ q. let none : greatest p w ≡ 0 = none_counts p w (λ i d l. apart k e (get_or w i d) (a 0 (suc i) d (omega arith) (omega arith)) q) in omega arith
-      | false ↦ λ q. count_held w k (tail_ascends e w a)
+      | false ↦ λ q. count_held w k (ascending_rest key_cmp key_of e w a)
     ] refl
 
 -- the entry that is put in

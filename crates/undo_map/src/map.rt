@@ -81,11 +81,11 @@ impl UndoMap {
             ≡ max (count_seen self.old t v) (if same_stamp edit t && sees v by then count else 0)) }
         ensures err { OnErr result (self.new ≡ self.old) }
     {
-        let held = held(&self.entries, UndoKey { edit, by });
+        let kept = kept_count(&self.entries, UndoKey { edit, by });
         let entry = UndoEntry {
             edit,
             by,
-            count: count.max(held),
+            count: count.max(kept),
         };
         self.entries.insert(alloc, entry)?;
         Ok(())
@@ -122,7 +122,7 @@ impl UndoMap {
 }
 
 // The count that an undo has given an edit so far, 0 where none.
-fn held(entries: &SumTree<UndoEntry>, key: UndoKey) -> u32
+fn kept_count(entries: &SumTree<UndoEntry>, key: UndoKey) -> u32
     requires ascending { IsAscending entries.now.items }
     ensures { result ≡ count_at_key key entries.now.items }
 {
@@ -162,7 +162,7 @@ fn entries_from(
 }
 
 // What an entry of the edit counts at the version.
-fn counted(entry: &UndoEntry, at: Option<&Version>) -> u32
+fn entry_count(entry: &UndoEntry, at: Option<&Version>) -> u32
     ensures { result ≡ (if is_seen
         (option_copied at.entry) entry.now.by then entry.now.count else 0) }
 {
@@ -183,7 +183,7 @@ fn greatest(entries: &SumTree<UndoEntry>, edit: Lamport, at: Option<&Version>) -
         if !is_same(entry.edit, edit) {
             return greatest;
         }
-        greatest = greatest.max(counted(entry, at));
+        greatest = greatest.max(entry_count(entry, at));
         let Ok(()) = cursor.next() else {
             unreachable!()
         };

@@ -13,7 +13,7 @@ use text_dims::Point;
 const MOST: u64 = 1 << 39;
 
 /// The rope of a text, where that is ASCII and not too long; else the empty rope.
-pub fn made(alloc: Global, text: &str) -> Result<Rope, OutOfMemory>
+pub fn make_rope(alloc: Global, text: &str) -> Result<Rope, OutOfMemory>
     ensures ascii { IfOk result (λ rope. IsAscii rope) }
     ensures whole { IsAscii text.now → length text.now < 2 ^ 39
         → IfOk result (λ rope. rope ≡ text.now) }

@@ -64,7 +64,7 @@ impl KeyedItem for Line {
 }
 
 impl Numbered for Line {
-    fn numbered(_alloc: Global, number: u64) -> Result<Line, OutOfMemory> {
+    fn of_number(_alloc: Global, number: u64) -> Result<Line, OutOfMemory> {
         let mut text = ArrayString::new();
         text.push_str(TEXT);
         Ok(Line { number, text })

@@ -45,7 +45,7 @@ impl KeyedItem for Number {
 }
 
 impl Numbered for Number {
-    fn numbered(_alloc: Global, number: u64) -> Result<Number, OutOfMemory> {
+    fn of_number(_alloc: Global, number: u64) -> Result<Number, OutOfMemory> {
         Ok(Number {
             key: number,
             width: 1,

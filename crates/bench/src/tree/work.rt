@@ -26,30 +26,30 @@ pub fn push_to<T: Item>(alloc: Global, tree: &mut SumTree<T>, item: T) -> Result
 }
 
 /// The tree of the numbers from `from` up to `to`, pushed one by one.
-pub fn pushed<T: Numbered>(alloc: Global, from: u64, to: u64) -> Result<SumTree<T>, OutOfMemory>
+pub fn push_all<T: Numbered>(alloc: Global, from: u64, to: u64) -> Result<SumTree<T>, OutOfMemory>
     requires { (xs : List T) → T.Summary.fits (fold T.Summary.empty T.Summary.op T.sum_of xs) }
     ensures { to - from ≤ 2 ^ 39 → IfOk result (λ tree. length tree.items ≡ to - from) }
 {
     let mut tree = SumTree::new(alloc)?;
     for number in from..to {
-        push_to(alloc, &mut tree, T::numbered(alloc, number)?)?;
+        push_to(alloc, &mut tree, T::of_number(alloc, number)?)?;
     }
     Ok(tree)
 }
 
 /// The same numbers as a list.
-pub fn listed<T: Numbered>(alloc: Global, from: u64, to: u64) -> Result<Vec<T>, OutOfMemory>
+pub fn list_items<T: Numbered>(alloc: Global, from: u64, to: u64) -> Result<Vec<T>, OutOfMemory>
     ensures { IfOk result (λ items. length items.items ≡ to - from) }
 {
     let mut items = Vec::new(alloc);
     for number in from..to {
-        items.push(T::numbered(alloc, number)?)?;
+        items.push(T::of_number(alloc, number)?)?;
     }
     Ok(items)
 }
 
 /// The tree of a list, where the list is not too long for one.
-pub fn made<T: Item>(alloc: Global, items: Vec<T>) -> Result<SumTree<T>, OutOfMemory>
+pub fn make_tree<T: Item>(alloc: Global, items: Vec<T>) -> Result<SumTree<T>, OutOfMemory>
     requires { (xs : List T) → T.Summary.fits (fold T.Summary.empty T.Summary.op T.sum_of xs) }
     ensures { length items.items ≤ 2 ^ 39 → IfOk result (λ tree. tree.items ≡ items.items) }
 {
@@ -61,7 +61,7 @@ pub fn made<T: Item>(alloc: Global, items: Vec<T>) -> Result<SumTree<T>, OutOfMe
 }
 
 /// The sum of the numbers of n items.
-pub fn got<T: Numbered>(tree: &SumTree<T>, n: u64) -> u64 {
+pub fn get_all<T: Numbered>(tree: &SumTree<T>, n: u64) -> u64 {
     let len = tree.len();
     let mut sum = 0u64;
     let mut x = 1u64;
@@ -90,14 +90,18 @@ fn push_shared<T: Item>(alloc: Global, tree: &mut SumTree<T>, item: T) -> Result
 }
 
 /// Shares the tree and pushes an item to it, n times.
-pub fn shared<T: Numbered>(alloc: Global, tree: &mut SumTree<T>, n: u64) -> Result<u64, OutOfMemory>
+pub fn push_all_shared<T: Numbered>(
+    alloc: Global,
+    tree: &mut SumTree<T>,
+    n: u64,
+) -> Result<u64, OutOfMemory>
     requires { (xs : List T) → T.Summary.fits (fold T.Summary.empty T.Summary.op T.sum_of xs) }
     ensures { OnOk result (length tree.old.items + n ≤ 2 ^ 39
         → length tree.new.items ≡ length tree.old.items + n) }
 {
     let mut sum = 0u64;
     for number in 0..n {
-        sum = sum.wrapping_add(push_shared(alloc, tree, T::numbered(alloc, number)?)?);
+        sum = sum.wrapping_add(push_shared(alloc, tree, T::of_number(alloc, number)?)?);
     }
     Ok(sum)
 }
@@ -139,11 +143,15 @@ fn splice_at<T: Numbered>(alloc: Global, tree: &mut SumTree<T>, x: u64) -> Resul
         1 if at + 1 < len => (2, 1),
         _ => (1, 1),
     };
-    splice_in(alloc, tree, at, at + replaced, listed(alloc, 0, count)?)
+    splice_in(alloc, tree, at, at + replaced, list_items(alloc, 0, count)?)
 }
 
 /// Replaces items as typing does, n times, and answers how many there are then.
-pub fn typed<T: Numbered>(alloc: Global, tree: &mut SumTree<T>, n: u64) -> Result<u64, OutOfMemory>
+pub fn type_all<T: Numbered>(
+    alloc: Global,
+    tree: &mut SumTree<T>,
+    n: u64,
+) -> Result<u64, OutOfMemory>
     requires { (xs : List T) → T.Summary.fits (fold T.Summary.empty T.Summary.op T.sum_of xs) }
     ensures { IfOk result (λ len. len ≡ length tree.new.items) }
 {
@@ -165,7 +173,7 @@ fn type_shared<T: Numbered>(alloc: Global, tree: &mut SumTree<T>, x: u64) -> Res
 }
 
 /// Shares the tree and replaces items as typing does, n times, and answers how many there are then.
-pub fn shared_typed<T: Numbered>(
+pub fn type_all_shared<T: Numbered>(
     alloc: Global,
     tree: &mut SumTree<T>,
     n: u64,
@@ -195,7 +203,7 @@ pub fn insert_to<T: Numbered>(
     if tree.len() >= MOST {
         return Ok(None);
     }
-    let item = T::numbered(alloc, number)?;
+    let item = T::of_number(alloc, number)?;
     match tree.insert(alloc, item)? {
         None => Ok(None),
         Some(old) => Ok(Some(old.number())),
@@ -203,7 +211,7 @@ pub fn insert_to<T: Numbered>(
 }
 
 /// Inserts the items of the even numbers below 2 n, in their order, and answers how many there are then.
-pub fn filled<T: Numbered>(alloc: Global, tree: &mut SumTree<T>, n: u32) -> Result<u64, OutOfMemory>
+pub fn fill<T: Numbered>(alloc: Global, tree: &mut SumTree<T>, n: u32) -> Result<u64, OutOfMemory>
     requires fits { (xs : List T) → T.Summary.fits (fold T.Summary.empty T.Summary.op T.sum_of xs) }
     requires ascending { Ascending T.Key.cmp T.key_of tree.old.items }
     ensures ascending { Ascending T.Key.cmp T.key_of tree.new.items }
@@ -216,7 +224,7 @@ pub fn filled<T: Numbered>(alloc: Global, tree: &mut SumTree<T>, n: u32) -> Resu
 }
 
 /// Inserts n items of numbers below `bound`, and answers how many replaced one.
-pub fn inserted<T: Numbered>(
+pub fn insert_all<T: Numbered>(
     alloc: Global,
     tree: &mut SumTree<T>,
     bound: u64,
@@ -240,7 +248,7 @@ pub fn inserted<T: Numbered>(
 }
 
 /// Removes the items of n numbers below `bound`, and answers how many were there.
-pub fn removed<T: Numbered>(
+pub fn remove_all<T: Numbered>(
     alloc: Global,
     tree: &mut SumTree<T>,
     bound: u64,
@@ -263,7 +271,7 @@ pub fn removed<T: Numbered>(
 }
 
 /// Looks for n numbers below `bound`, and answers how many are there.
-pub fn found<T: Numbered>(tree: &SumTree<T>, bound: u64, n: u64) -> u64
+pub fn count_found<T: Numbered>(tree: &SumTree<T>, bound: u64, n: u64) -> u64
     requires bound { 0 < bound }
     requires ascending { Ascending T.Key.cmp T.key_of tree.now.items }
     ensures few { result ≤ n }

@@ -1,7 +1,7 @@
 -- An anchor that is made at a place of the text stands there.
 use Rattle.std.proofs.Common.{◌≡◌, ℕ, zero, suc, ◌-◌, ◌⊎◌, Bool, List, [], ◌∷◌, length, refl, sym, ◌∙◌, ap, subst, inl, inr, true, false, eqb, arith, Some, None, Option}
 use Rattle.std.specs.Prelude.{option_map, slice_get}
-use Rattle.std.specs.List.{filter}
+use Rattle.std.specs.List.{AllByRecursion, filter}
 use Rattle.std.proofs.lemmas.Bool.{cases_Bool, eqb-true}
 use Rattle.op_model.specs.Sorted.{EachPair, Member}
 use Rattle.op_model.specs.Histories.{History, Distinct}
@@ -13,6 +13,7 @@ use Rattle.op_model.specs.declared.anchor.Anchor.TheVariants.{Least, Greatest, A
 use Rattle.op_model.specs.declared.anchor.Bias.TheVariants.{Left, Right}
 use Rattle.op_model.proofs.order.PathOrder.{same_cell_eq, same_cell_refl}
 use Rattle.op_model.proofs.order.CellsOnce.{once, each_member}
+use Rattle.op_model.proofs.Elements.{member_at, filter_of}
 
 module _ (f : Cell → Bool) where
   abbrev pub number : List Cell → ℕ
@@ -20,49 +21,37 @@ module _ (f : Cell → Bool) where
 
   -- what is got of the shown cells is one of all
   pub got_member : (s : List Cell) (o : ℕ) (c : Cell) → slice_get (filter f s) o ≡ Some c → Member c s
-  got_member [] o c e = cc
-  got_member (d ∷ s) o c e = go (cases_Bool (f d)) (λ n g. got_member s n c g)
-    where
-      front : (n : ℕ) → slice_get (d ∷ filter f s) n ≡ Some c → ((m : ℕ) → slice_get (filter f s) m ≡ Some c → Member c s) → Member c (d ∷ s)
-      front zero g ih = let i : d ≡ c = cc in inl (sym i)
-      front (suc n) g ih = inr (ih n g)
-
-      go : (f d ≡ true) ⊎ (f d ≡ false) → ((m : ℕ) → slice_get (filter f s) m ≡ Some c → Member c s) → Member c (d ∷ s)
-      go (inl v) ih = front o (rw v at e) ih
-      go (inr v) ih = inr (ih o (rw v at e))
+  got_member s o c e = (filter_of f c s (member_at (filter f s) o c e)).0
 
   other : (d c : Cell) → (d ≡ c → ⊥) → same_cell d c ≡ false
   other d c n = elim (cases_Bool (same_cell d c)) [ inl e ↦ absurd (n (same_cell_eq d c e)) | inr e ↦ e ]
+
+  other_member : (d c : Cell) (s : List Cell) → AllByRecursion (λ (b : Cell). d ≡ b → ⊥) s → Member c s → same_cell d c ≡ false
+  other_member d c s u m = other d c (each_member (λ (b : Cell). d ≡ b → ⊥) s c u m)
 
   pub upto_count : (s : List Cell) (o : ℕ) (c : Cell) → EachPair (λ (a b : Cell). a ≡ b → ⊥) s → slice_get (filter f s) o ≡ Some c → number (cells_upto s c) ≡ suc o
   upto_count [] o c u e = cc
   upto_count (d ∷ s) o c u e = go (cases_Bool (f d)) (λ n g. upto_count s n c u.1 g)
     where
-      apart : Member c s → same_cell d c ≡ false
-      apart m = other d c (each_member (λ (b : Cell). d ≡ b → ⊥) s c u.0 m)
-
       here : (n : ℕ) → f d ≡ true → slice_get (d ∷ filter f s) n ≡ Some c → ((m : ℕ) → slice_get (filter f s) m ≡ Some c → number (cells_upto s c) ≡ suc m) → number (cells_upto (d ∷ s) c) ≡ suc n
       here zero v g ih = let i : d ≡ c = cc in let t : same_cell d c ≡ true = subst (λ (x : Cell). same_cell d x ≡ true) i (same_cell_refl d) in rw t (rw v refl)
-      here (suc n) v g ih = let t = apart (got_member s n c g) in rw t (rw v (ap suc (ih n g)))
+      here (suc n) v g ih = let t = other_member d c s u.0 (got_member s n c g) in rw t (rw v (ap suc (ih n g)))
 
       go : (f d ≡ true) ⊎ (f d ≡ false) → ((m : ℕ) → slice_get (filter f s) m ≡ Some c → number (cells_upto s c) ≡ suc m) → number (cells_upto (d ∷ s) c) ≡ suc o
       go (inl v) ih = here o v (rw v at e) ih
-      go (inr v) ih = let g : slice_get (filter f s) o ≡ Some c = rw v at e in let t = apart (got_member s o c g) in rw t (rw v (ih o g))
+      go (inr v) ih = let g : slice_get (filter f s) o ≡ Some c = rw v at e in let t = other_member d c s u.0 (got_member s o c g) in rw t (rw v (ih o g))
 
   pub before_count : (s : List Cell) (o : ℕ) (c : Cell) → EachPair (λ (a b : Cell). a ≡ b → ⊥) s → slice_get (filter f s) o ≡ Some c → number (cells_before s c) ≡ o
   before_count [] o c u e = cc
   before_count (d ∷ s) o c u e = go (cases_Bool (f d)) (λ n g. before_count s n c u.1 g)
     where
-      apart : Member c s → same_cell d c ≡ false
-      apart m = other d c (each_member (λ (b : Cell). d ≡ b → ⊥) s c u.0 m)
-
       here : (n : ℕ) → f d ≡ true → slice_get (d ∷ filter f s) n ≡ Some c → ((m : ℕ) → slice_get (filter f s) m ≡ Some c → number (cells_before s c) ≡ m) → number (cells_before (d ∷ s) c) ≡ n
       here zero v g ih = let i : d ≡ c = cc in let t : same_cell d c ≡ true = subst (λ (x : Cell). same_cell d x ≡ true) i (same_cell_refl d) in rw t refl
-      here (suc n) v g ih = let t = apart (got_member s n c g) in rw t (rw v (ap suc (ih n g)))
+      here (suc n) v g ih = let t = other_member d c s u.0 (got_member s n c g) in rw t (rw v (ap suc (ih n g)))
 
       go : (f d ≡ true) ⊎ (f d ≡ false) → ((m : ℕ) → slice_get (filter f s) m ≡ Some c → number (cells_before s c) ≡ m) → number (cells_before (d ∷ s) c) ≡ o
       go (inl v) ih = here o v (rw v at e) ih
-      go (inr v) ih = let g : slice_get (filter f s) o ≡ Some c = rw v at e in let t = apart (got_member s o c g) in rw t (rw v (ih o g))
+      go (inr v) ih = let g : slice_get (filter f s) o ≡ Some c = rw v at e in let t = other_member d c s u.0 (got_member s o c g) in rw t (rw v (ih o g))
 
 same_record : (c : Cell) (k : ℕ) → k ≡ c.k → record { stamp = c.stamp; k = k } ≡ c
 same_record c k e = λ i. record { stamp = c.stamp; k = e i }

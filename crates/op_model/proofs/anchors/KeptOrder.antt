@@ -4,8 +4,7 @@ use Rattle.std.specs.List.{filter}
 use Rattle.std.specs.Ordering.{nat_cmp, ordering_then}
 use Rattle.std.specs.declared.cmp.Ordering.{Ordering}
 use Rattle.std.specs.declared.cmp.Ordering.TheVariants.{Less, Greater}
-use Rattle.std.proofs.lemmas.Bool.{cases_Bool, and_parts, leb-true, ltb-true, lt-ltb, le-ltb}
-use Rattle.std.proofs.lemmas.Bool.Decides.{nat_tests}
+use Rattle.std.proofs.lemmas.Bool.{cases_Bool, and_parts, eq-eqb, ne_eqb, leb-true, ltb-true, lt-ltb, le-ltb}
 use Rattle.std.proofs.lemmas.List.{length-map}
 use Rattle.lamport_clock.specs.declared.stamp.Lamport.{Lamport}
 use Rattle.lamport_clock.specs.Stamps.{same_stamp}
@@ -27,12 +26,17 @@ use Rattle.op_model.proofs.answers.Good.{lawful_ready}
 use Rattle.op_model.proofs.answers.Counted.{more_there}
 use Rattle.op_model.proofs.order.CellsOnce.{all_cells, bytes_of_one}
 use Rattle.op_model.proofs.answers.SameAnswers.{any_from}
-use Rattle.op_model.proofs.histories.ClosedVersions.{in_front, fronts_seen, cells_only, seq_closed}
+use Rattle.op_model.proofs.histories.ClosedVersions.{fronts_seen, cells_only, seq_closed}
+use Rattle.op_model.proofs.Elements.{member_left, filter_of}
 
 -- ---- the places of cells in a list
 
 abbrev pos : List Cell → Cell → ℕ
 pos s c = length (cells_before s c)
+
+-- a cell is the same as itself
+same_itself : (c d : Cell) → c ≡ d → same_cell d c ≡ false → ⊥
+same_itself c d q n = let r : same_cell d d ≡ false = subst (λ (x : Cell). same_cell d x ≡ false) q n in let t = same_cell_refl d in cc
 
 upto_pos : (s : List Cell) (c : Cell) → Member c s → length (cells_upto s c) ≡ suc (pos s c)
 upto_pos [] c m = absurd m
@@ -40,10 +44,7 @@ upto_pos (d ∷ s) c m = go (cases_Bool (same_cell d c)) (λ n. upto_pos s c n)
   where
     go : (same_cell d c ≡ true) ⊎ (same_cell d c ≡ false) → (Member c s → length (cells_upto s c) ≡ suc (pos s c)) → length (cells_upto (d ∷ s) c) ≡ suc (pos (d ∷ s) c)
     go (inl e) f = rw e refl
-    go (inr e) f = rw e (ap suc (f (elim m [ inl q ↦ absurd (self q e) | inr n ↦ n ])))
-      where
-        self : c ≡ d → same_cell d c ≡ false → ⊥
-        self q n = let r : same_cell d d ≡ false = subst (λ (x : Cell). same_cell d x ≡ false) q n in let t = same_cell_refl d in cc
+    go (inr e) f = rw e (ap suc (f (elim m [ inl q ↦ absurd (same_itself c d q e) | inr n ↦ n ])))
 
 -- a place in a text: before all cells, at one, or behind all
 data Spot : Type 0 where
@@ -65,32 +66,13 @@ abbrev Alike : ℕ → ℕ → ℕ → ℕ → Type 0
 Alike p q x y = ((p < q) × (x < y)) ⊎ (((p ≡ q) × (x ≡ y)) ⊎ ((q < p) × (y < x)))
 
 module _ (f : Cell → Bool) where
-  passes : (s : List Cell) (c : Cell) → Member c (filter f s) → f c ≡ true
-  passes [] c m = absurd m
-  passes (d ∷ s) c m = go (cases_Bool (f d)) (passes s c)
-    where
-      go : (f d ≡ true) ⊎ (f d ≡ false) → (Member c (filter f s) → f c ≡ true) → f c ≡ true
-      go (inl e) ih = let n : Member c (d ∷ filter f s) = rw e at m in elim n [ inl q ↦ ap f q ∙ e | inr k ↦ ih k ]
-      go (inr e) ih = ih (rw e at m)
-
-  whole : (s : List Cell) (c : Cell) → Member c (filter f s) → Member c s
-  whole [] c m = absurd m
-  whole (d ∷ s) c m = go (cases_Bool (f d)) (whole s c)
-    where
-      go : (f d ≡ true) ⊎ (f d ≡ false) → (Member c (filter f s) → Member c s) → Member c (d ∷ s)
-      go (inl e) ih = let n : Member c (d ∷ filter f s) = rw e at m in elim n [ inl q ↦ inl q | inr k ↦ inr (ih k) ]
-      go (inr e) ih = inr (ih (rw e at m))
-
   pos_less : (s : List Cell) (c : Cell) → Member c s → pos s c < length s
   pos_less [] c m = absurd m
   pos_less (d ∷ s) c m = go (cases_Bool (same_cell d c)) (pos_less s c)
     where
       go : (same_cell d c ≡ true) ⊎ (same_cell d c ≡ false) → (Member c s → pos s c < length s) → pos (d ∷ s) c < length (d ∷ s)
       go (inl e) g = rw e (omega arith)
-      go (inr e) g = rw e (let k = g (elim m [ inl q ↦ absurd (self q e) | inr n ↦ n ]) in omega arith)
-        where
-          self : c ≡ d → same_cell d c ≡ false → ⊥
-          self q n = let r : same_cell d d ≡ false = subst (λ (x : Cell). same_cell d x ≡ false) q n in let t = same_cell_refl d in cc
+      go (inr e) g = rw e (let k = g (elim m [ inl q ↦ absurd (same_itself c d q e) | inr n ↦ n ]) in omega arith)
 
   -- what passes keeps its order
   pos_alike : (s : List Cell) (c d : Cell) → Member c (filter f s) → Member d (filter f s) → Alike (pos s c) (pos s d) (pos (filter f s) c) (pos (filter f s) d)
@@ -99,7 +81,7 @@ module _ (f : Cell → Bool) where
     where
       apart : (e : Cell) → f x ≡ false → Member e (filter f s) → same_cell x e ≡ false
       apart e q k = elim (cases_Bool (same_cell x e)) [
-        | inl t ↦ (let a : f e ≡ false = subst (λ (y : Cell). f y ≡ false) (same_cell_eq x e t) q in let b = passes s e k in cc)
+        | inl t ↦ (let a : f e ≡ false = subst (λ (y : Cell). f y ≡ false) (same_cell_eq x e t) q in let b = (filter_of f e s k).1 in cc)
         | inr t ↦ t
       ]
 
@@ -139,9 +121,9 @@ module _ (f : Cell → Bool) where
   spots_alike s Low (On d) i j = inl (omega arith, omega arith)
   spots_alike s High Low i j = inr (inr (omega arith, omega arith))
   spots_alike s High High i j = inr (inl (refl, refl))
-  spots_alike s High (On d) i j = let u = pos_less s d (whole s d j) in let v = pos_less (filter f s) d j in inr (inr (omega arith, omega arith))
+  spots_alike s High (On d) i j = let u = pos_less s d (filter_of f d s j).0 in let v = pos_less (filter f s) d j in inr (inr (omega arith, omega arith))
   spots_alike s (On c) Low i j = inr (inr (omega arith, omega arith))
-  spots_alike s (On c) High i j = let u = pos_less s c (whole s c i) in let v = pos_less (filter f s) c i in inl (omega arith, omega arith)
+  spots_alike s (On c) High i j = let u = pos_less s c (filter_of f c s i).0 in let v = pos_less (filter f s) c i in inl (omega arith, omega arith)
   spots_alike s (On c) (On d) i j = elim (pos_alike s c d i j) [
     | inl k ↦ (let u = k.0 in let v = k.1 in inl (omega arith, omega arith))
     | inr k ↦ elim k [ inl e ↦ inr (inl (ap suc e.0, ap suc e.1)) | inr e ↦ (let u = e.0 in let v = e.1 in inr (inr (omega arith, omega arith))) ]
@@ -161,16 +143,10 @@ is_less : (x y : ℕ) (o : Ordering) → x < y → ordering_then (nat_cmp x y) o
 is_less x y o l = let t = lt-ltb x y l in rw t refl
 
 is_more : (x y : ℕ) (o : Ordering) → y < x → ordering_then (nat_cmp x y) o ≡ Greater
-is_more x y o l = let t : ltb x y ≡ false = le-ltb x y (omega arith) in let e : eqb x y ≡ false = apart x y l in rw (t, e) refl
-  where
-    apart : (x y : ℕ) → y < x → eqb x y ≡ false
-    apart x y l = grind (arith, nat_tests)
+is_more x y o l = let t : ltb x y ≡ false = le-ltb x y (omega arith) in let e : eqb x y ≡ false = ne_eqb x y (λ q. omega arith) in rw (t, e) refl
 
 is_equal : (x y : ℕ) (o : Ordering) → x ≡ y → ordering_then (nat_cmp x y) o ≡ o
-is_equal x y o e = let t : ltb x y ≡ false = le-ltb x y (omega arith) in let q : eqb x y ≡ true = same x y e in rw (t, q) refl
-  where
-    same : (x y : ℕ) → x ≡ y → eqb x y ≡ true
-    same x y e = grind (arith, nat_tests)
+is_equal x y o e = let t : ltb x y ≡ false = le-ltb x y (omega arith) in let q : eqb x y ≡ true = eq-eqb x y e in rw (t, q) refl
 
 -- places at or behind the first cell are those of Right anchors
 abbrev Fits : Bias → ℕ → Type 0
@@ -250,7 +226,7 @@ bytes_more : (h g : History) → Distinct h → Distinct (h ++ g) → (t : Lampo
 bytes_more h g d e t i =
     let w = any_from (λ o. is_edit o && same_stamp (stamp_of o) t) h i in
     let q : stamp_of w.0 ≡ t = same_stamp_eq (stamp_of w.0) t (and_parts (is_edit w.0) (same_stamp (stamp_of w.0) t) w.2).1 in
-    subst (λ (x : Lamport). new_bytes (h ++ g) x ≡ new_bytes h x) q (bytes_of_one (h ++ g) w.0 e (in_front h g w.0 w.1) ∙ sym (bytes_of_one h w.0 d w.1))
+    subst (λ (x : Lamport). new_bytes (h ++ g) x ≡ new_bytes h x) q (bytes_of_one (h ++ g) w.0 e (member_left w.0 h g w.1) ∙ sym (bytes_of_one h w.0 d w.1))
 
 known_more : (h g : History) → Distinct h → Distinct (h ++ g) → (a : Anchor) → is_known h a ≡ true → is_known (h ++ g) a ≡ true
 unfolding is_known

@@ -4,7 +4,6 @@ use Rattle.std.proofs.Common.{◌≡◌, ℕ, zero, suc, ◌+◌, ◌-◌, ◌<�
 use Rattle.std.specs.Prelude.{IsCharBoundary, option_map}
 use Rattle.std.specs.List.{AllByRecursion, filter, find, position}
 use Rattle.std.proofs.lemmas.Bool.{cases_Bool, le-ltb, cases_lt}
-use Rattle.std.proofs.lemmas.Bool.Decides.{nat_tests}
 use Rattle.std.proofs.lemmas.Str.{IsCharBoundary-start}
 use Rattle.lamport_clock.specs.Clocks.{last_value}
 use Rattle.lamport_clock.specs.declared.stamp.Lamport.{Lamport}
@@ -39,6 +38,7 @@ use Rattle.op_model.proofs.answers.OwnVersion.{Stamps, Own, own_stamp, own_base,
 use Rattle.op_model.proofs.texts.FullOffsets.{number, offset_step, offset_mono}
 use Rattle.op_model.proofs.texts.Utf8Runs.{bytes, run_bytes, all_bytes, shown_bytes, Utf8, utf8_all, facts_all, facts_shown, bytes_length, boundary_left, boundary_in, boundary_right, boundary_on}
 use Rattle.op_model.proofs.texts.WholeTexts.{Whole, byte_of, full_told, text_told, of_boundary, bounds_of}
+use Rattle.op_model.proofs.Elements.{less_than}
 
 -- ---- full offsets over runs
 
@@ -202,19 +202,16 @@ module _ (h : History) where
   abbrev pub full_end : ℕ → ℕ → ℕ
   full_end s e = cond (eqb s e) (at s) (suc (at (e - 1)))
 
-  apart : (s e : ℕ) → s ≤ e → eqb s e ≡ false → s < e
-  apart s e a b = grind (arith, nat_tests)
-
   pub end_after : (s e : ℕ) → s ≤ e → at s ≤ full_end s e
   end_after s e a = elim (cases_Bool (eqb s e)) [
     | inl q ↦ rw q (omega arith)
-    | inr q ↦ (let l = apart s e a q in let m = offset_mono (shown h) (cells (seq h)) s (e - 1) (omega arith) in rw q (omega arith))
+    | inr q ↦ (let l = less_than s e a q in let m = offset_mono (shown h) (cells (seq h)) s (e - 1) (omega arith) in rw q (omega arith))
   ]
 
   pub end_before : (s e q : ℕ) → s ≤ e → e ≤ length (text h) → e ≤ q → full_end s e ≤ at q
   end_before s e q a b c = elim (cases_Bool (eqb s e)) [
     | inl x ↦ (let m = offset_mono (shown h) (cells (seq h)) s q (omega arith) in rw x m)
-    | inr x ↦ (let l = apart s e a x in let n = text_number h in let m = offset_step (shown h) (cells (seq h)) (e - 1) q (omega arith) (omega arith) in rw x m)
+    | inr x ↦ (let l = less_than s e a x in let n = text_number h in let m = offset_step (shown h) (cells (seq h)) (e - 1) q (omega arith) (omega arith) in rw x m)
   ]
 
   pub forward_full : (so : ℕ) (ps : List Piece) → Ordered so (length (text h)) ps → AllByRecursion (λ (p : Piece). is_reversed p ≡ false) (map (full_piece h) ps)
@@ -227,7 +224,8 @@ module _ (h : History) where
       let n : ltb (at p.start) a ≡ false = le-ltb (at p.start) a (f p.start o.0) in
       rw n (apart_full p.end (full_end p.start p.end) (suc i) ps o.2 (λ q k. end_before p.start p.end q o.1 (ordered_le p.end (length (text h)) ps o.2) k))
 
-  total_full : (ps : List Piece) → text_total (map (full_piece h) ps) ≡ text_total ps
+  -- full pieces have the same texts
+  pub total_full : (ps : List Piece) → text_total (map (full_piece h) ps) ≡ text_total ps
   total_full [] = refl
   total_full (p ∷ ps) = ap (λ (n : ℕ). length p.text + n) (total_full ps)
 
@@ -238,7 +236,7 @@ module _ (h : History) where
     where
       ends : (eqb p.start p.end ≡ true) ⊎ (eqb p.start p.end ≡ false) → IsCharBoundary (full h) (full_end p.start p.end)
       ends (inl q) = rw q (start_whole h w p.start b.0.0)
-      ends (inr q) = let l = apart p.start p.end o.0 q in let e : p.end ≡ suc (p.end - 1) = omega arith in
+      ends (inr q) = let l = less_than p.start p.end o.0 q in let e : p.end ≡ suc (p.end - 1) = omega arith in
           rw q (end_whole h w (p.end - 1) (subst (λ (n : ℕ). IsCharBoundary (text h) n) e b.0.1))
 
 -- ---- a local edit without fault

@@ -1,5 +1,5 @@
 -- An operation of a lawful set is never refused by a history of operations of the set.
-use Rattle.op_model.proofs.Elements.{each_map, each_filter, and_not}
+use Rattle.op_model.proofs.Elements.{each_map, each_filter, and_not, member_left, member_either, filter_has, filter_of, any_member}
 use Rattle.std.proofs.Common.{◌≡◌, ℕ, zero, suc, ◌<◌, ◌≤◌, ◌⊎◌, Bool, List, [], ◌∷◌, ◌++◌, refl, sym, ◌∙◌, ap, subst, inl, inr, true, false, cond, not, ◌&&◌, ltb, arith, Some, None, Option}
 use Rattle.std.specs.Prelude.{option_map, unwrap_or}
 use Rattle.std.specs.List.{AllByRecursion, find}
@@ -27,29 +27,15 @@ use Rattle.op_model.proofs.histories.MoreLawful.{lawful_more}
 use Rattle.op_model.proofs.histories.Causes.{named_at, lawful_opens}
 use Rattle.op_model.proofs.histories.VersionLaws.{has_greatest}
 use Rattle.op_model.proofs.histories.Proper.{is_same}
-use Rattle.op_model.proofs.answers.SameAnswers.{any_in, any_from, any_same}
+use Rattle.op_model.proofs.answers.SameAnswers.{any_from, any_same}
 
 -- ---- parts of a history
 
 pub in_part : (keep : Lamport → Bool) (h : History) (o : Operation) → In (kept_history keep h) o → In h o × (keep (stamp_of o) ≡ true)
-in_part keep [] o i = absurd i
-in_part keep (p ∷ h) o i = go (cases_Bool (keep (stamp_of p))) (in_part keep h o)
-  where
-    go : (keep (stamp_of p) ≡ true) ⊎ (keep (stamp_of p) ≡ false) → (In (kept_history keep h) o → In h o × (keep (stamp_of o) ≡ true)) → In (p ∷ h) o × (keep (stamp_of o) ≡ true)
-    go (inl k) f = let j : In (p ∷ kept_history keep h) o = rw k at i in
-        elim j [ inl e ↦ (inl e, subst (λ (x : Operation). keep (stamp_of x) ≡ true) (sym e) k) | inr n ↦ (let w = f n in (inr w.0, w.1)) ]
-    go (inr k) f = let w = f (rw k at i) in (inr w.0, w.1)
+in_part keep h o i = filter_of (λ (x : Operation). keep (stamp_of x)) o h i
 
 pub part_in : (keep : Lamport → Bool) (h : History) (o : Operation) → In h o → keep (stamp_of o) ≡ true → In (kept_history keep h) o
-part_in keep [] o i k = absurd i
-part_in keep (p ∷ h) o i k = go (cases_Bool (keep (stamp_of p))) (λ n. part_in keep h o n k)
-  where
-    go : (keep (stamp_of p) ≡ true) ⊎ (keep (stamp_of p) ≡ false) → (In h o → In (kept_history keep h) o) → In (kept_history keep (p ∷ h)) o
-    go (inl q) f = rw q (elim i [ inl e ↦ inl e | inr n ↦ inr (f n) ])
-    go (inr q) f = rw q (elim i [ inl e ↦ absurd (other (subst (λ (x : Operation). keep (stamp_of x) ≡ true) e k)) | inr n ↦ f n ])
-      where
-        other : keep (stamp_of p) ≡ true → ⊥
-        other t = cc
+part_in keep h o i k = filter_has (λ (x : Operation). keep (stamp_of x)) o h i k
 
 distinct_part : (keep : Lamport → Bool) (h : History) → Distinct h → Distinct (kept_history keep h)
 distinct_part keep [] d = tt
@@ -178,7 +164,7 @@ module _ (g : History) (lg : Lawful g) (h : History) (lh : Lawful h) (part : (o 
             let r : (stamp_of w.0).replica ≡ e.0 = ap (λ (x : Lamport). x.replica) s in
             let c : e.1 ≤ greatest h e.0 = subst (λ (n : ℕ). e.1 ≤ n) (entry_version h e.0) (ltb-false (entry (version h) e.0) e.1 b) in
             let k : (stamp_of w.0).value ≤ greatest h (stamp_of w.0).replica = subst (λ (n : ℕ). (stamp_of w.0).value ≤ greatest h n) (sym r) (omega arith) in
-            any_in (λ o. same_stamp (stamp_of o) (record { value = e.1; replica = e.0 }) && within (version_of o) (version_of op)) h w.0 (top g lg h lh part w.0 (before w.0 w.1) k) w.2)
+            any_member (λ o. same_stamp (stamp_of o) (record { value = e.1; replica = e.0 }) && within (version_of o) (version_of op)) h w.0 (top g lg h lh part w.0 (before w.0 w.1) k) w.2)
 
         both : (v : Entries) → AllByRecursion (λ (e : ℕ × ℕ). (ltb 0 e.1 && not (is_entry_closed p (version_of op) e)) ≡ false) v → AllByRecursion (λ (e : ℕ × ℕ). ltb (entry (version h) e.0) e.1 ≡ false) v
             → AllByRecursion (λ (e : ℕ × ℕ). (ltb 0 e.1 && not (is_entry_closed h (version_of op) e)) ≡ false) v
@@ -215,26 +201,18 @@ module _ (g : History) (lg : Lawful g) (h : History) (lh : Lawful h) (part : (o 
       past_shape r = first_past (option_map Refused (shape_fault op)) r (none_map Refused (shape_fault op) was.shape)
 
       in_both : (o : Operation) → In (h ++ w) o → In g o
-      in_both o i = elim (split h o i) [ inl a ↦ part o a | inr b ↦ pw o b ]
-        where
-          split : (k : History) (o : Operation) → In (k ++ w) o → In k o ⊎ In w o
-          split [] o i = inr i
-          split (x ∷ k) o i = elim i [ inl e ↦ inl (inl e) | inr n ↦ elim (split k o n) [ inl a ↦ inl (inr a) | inr b ↦ inr b ] ]
+      in_both o i = elim (member_either o h w i) [ inl a ↦ part o a | inr b ↦ pw o b ]
 
       no_stamp : any_equal (h ++ w) op ≡ false → any_stamp (h ++ w) op ≡ false
       no_stamp e = elim (cases_Bool (any_stamp (h ++ w) op)) [
         | inl t ↦ (let m = any_from (λ o. same_stamp (stamp_of o) (stamp_of op)) (h ++ w) t in
             let q : m.0 ≡ op = distinct_same g m.0 op (lawful_ready g lg).0.distinct (in_both m.0 m.1) there (same_stamp_eq (stamp_of m.0) (stamp_of op) m.2) in
-            let y : any_equal (h ++ w) op ≡ true = any_in (λ o. same_op o op) (h ++ w) m.0 m.1 (subst (λ (x : Operation). same_op x op ≡ true) (sym q) (is_same op)) in cc)
+            let y : any_equal (h ++ w) op ≡ true = any_member (λ o. same_op o op) (h ++ w) m.0 m.1 (subst (λ (x : Operation). same_op x op ≡ true) (sym q) (is_same op)) in cc)
         | inr f ↦ f
       ]
 
-      in_front : (k : History) → In k op → In (k ++ w) op
-      in_front [] i = absurd i
-      in_front (x ∷ k) i = elim i [ inl e ↦ inl e | inr n ↦ inr (in_front k n) ]
-
       not_in : any_equal (h ++ w) op ≡ false → In h op → ⊥
-      not_in e i = let y : any_equal (h ++ w) op ≡ true = any_in (λ o. same_op o op) (h ++ w) op (in_front h i) (is_same op) in cc
+      not_in e i = let y : any_equal (h ++ w) op ≡ true = any_member (λ o. same_op o op) (h ++ w) op (member_left op h w i) (is_same op) in cc
 
       waits : any_equal (h ++ w) op ≡ false → (f : Option (ℕ × ℕ)) → first_missing h (version_of op) ≡ f
           → (answer h w op ≡ Repeat) ⊎ (((e : ℕ × ℕ) × (answer h w op ≡ Waits e.0 e.1)) ⊎ (answer h w op ≡ Good))

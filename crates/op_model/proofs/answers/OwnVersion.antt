@@ -1,9 +1,8 @@
 -- An operation with the clock's stamp and the version of a lawful history passes every case but those of its pieces and counts.
-use Rattle.op_model.proofs.Elements.{each_map, and_not}
+use Rattle.op_model.proofs.Elements.{each_map, and_not, eqb_less, any_member}
 use Rattle.std.proofs.Common.{◌≡◌, ℕ, ◌<◌, ◌≤◌, ◌⊎◌, Bool, [], ◌∷◌, ◌++◌, refl, sym, ◌∙◌, ap, subst, inl, inr, true, false, cond, not, ◌||◌, ◌&&◌, eqb, ltb, leb, arith, None}
 use Rattle.std.proofs.lemmas.List.{append-nil}
 use Rattle.std.proofs.lemmas.Bool.{cases_Bool, lt-leb, le-ltb, cases_lt, and_parts}
-use Rattle.std.proofs.lemmas.Bool.Decides.{nat_tests}
 use Rattle.std.specs.List.{AllByRecursion, find, list_any}
 use Rattle.lamport_clock.specs.Clocks.{last_value}
 use Rattle.lamport_clock.specs.declared.stamp.Lamport.{Lamport}
@@ -21,10 +20,6 @@ use Rattle.op_model.proofs.order.PathOrder.{same_stamp_eq, same_stamp_refl}
 use Rattle.op_model.proofs.histories.Lawful.{greatest, entry_version}
 use Rattle.op_model.proofs.answers.Passed.{none_find, none_map, none_when, none_any}
 use Rattle.op_model.proofs.histories.VersionLaws.{clock_above, clock_under, Stamped, InRange, stamped_from, version_is, own_entries, has_greatest, lawful_caused, caused_within}
-use Rattle.op_model.proofs.answers.SameAnswers.{any_in}
-
-apart_zero : (x : ℕ) → 0 < x → eqb x 0 ≡ false
-apart_zero x h = grind (arith, nat_tests)
 
 -- ---- the version's entries
 
@@ -51,7 +46,7 @@ greatest_below (o ∷ h) n r p e = elim (cases_Bool (eqb (stamp_of o).replica r)
 
 greatest_none : (h : History) → AllByRecursion (λ (o : Operation). 0 < (stamp_of o).replica) h → greatest h 0 ≡ 0
 greatest_none [] e = refl
-greatest_none (o ∷ h) e = let n = apart_zero (stamp_of o).replica e.0 in rw n (greatest_none h e.1)
+greatest_none (o ∷ h) e = let n = eqb_less 0 (stamp_of o).replica e.0 in rw n (greatest_none h e.1)
 
 -- equal operations have one stamp
 pub equal_stamps : (a b : Operation) → same_op a b ≡ true → same_stamp (stamp_of a) (stamp_of b) ≡ true
@@ -111,9 +106,9 @@ module _ (h : History) (l : Lawful h) (st : Stamps h) (open_clock : eqb (clock h
 
       good : bad (record { value = clock h; replica = r }) (version h) ≡ false
       good = rw (
-        apart_zero (clock h) some,
+        eqb_less 0 (clock h) some,
         open_clock,
-        apart_zero r (let a = i.0 in omega arith),
+        eqb_less 0 r (let a = i.0 in omega arith),
         le-ltb last_replica r i.1,
         none_any (λ e. ltb last_replica e.0) (version h) small_ids,
         none_any (λ e. leb (clock h) e.1) (version h) below_clock,
@@ -162,7 +157,7 @@ module _ (h : History) (l : Lawful h) (st : Stamps h) (open_clock : eqb (clock h
           let k : same_stamp (stamp_of w.0) (record { value = e.1; replica = e.0 }) ≡ true = subst (λ (t : Lamport). same_stamp t (record { value = e.1; replica = e.0 }) ≡ true) (sym s) (same_stamp_refl (record { value = e.1; replica = e.0 })) in
           let c = caused_within h w.0 (lawful_caused h l w.0 w.1) in
           and_not (ltb 0 e.1) (is_entry_closed h (version h) e)
-          (λ q. any_in (λ o. same_stamp (stamp_of o) (record { value = e.1; replica = e.0 }) && within (version_of o) (version h)) h w.0 w.1 (rw (k, c) refl))
+          (λ q. any_member (λ o. same_stamp (stamp_of o) (record { value = e.1; replica = e.0 }) && within (version_of o) (version h)) h w.0 w.1 (rw (k, c) refl))
       go (inr p) = let n = le-ltb 0 e.1 p in rw n refl
 
   pub own_closed : open_replica h (version h) ≡ None

@@ -1,5 +1,5 @@
 -- What the answer Good says, case by case.
-use Rattle.std.proofs.Common.{◌≡◌, ℕ, ◌+◌, Bool, List, [], ◌∷◌, ◌++◌, length, refl, sym, ◌∙◌, ap, true, false, cond, ◌||◌, ltb, Some, None, Option, eqb, leb}
+use Rattle.std.proofs.Common.{◌≡◌, ℕ, ◌+◌, Bool, List, [], ◌∷◌, ◌++◌, length, map, refl, sym, ◌∙◌, ap, true, false, cond, ◌||◌, ltb, Some, None, Option, eqb, leb}
 use Rattle.std.specs.Prelude.{option_map, unwrap_or}
 use Rattle.std.specs.List.{AllByRecursion, find, list_any, position, position_from}
 use Rattle.std.proofs.lemmas.Iterator.Adapters.{position_from-zero}
@@ -23,9 +23,41 @@ pub first_none : {A : Type 0} (o : Option A) (r : List (Option A)) → first_of 
 first_none None r e = (refl, e)
 first_none (Some x) r e = cc
 
+pub all_none : {A : Type 0} (os : List (Option A)) → first_of os ≡ None → AllByRecursion (λ o. o ≡ None) os
+all_none [] h = tt
+all_none (None ∷ os) h = (refl, all_none os h)
+all_none (Some x ∷ os) h = cc
+
 pub first_past : {A : Type 0} (o : Option A) (r : List (Option A)) → o ≡ None → first_of (o ∷ r) ≡ first_of r
 first_past None r e = refl
 first_past (Some x) r e = cc
+
+pub first_here : {A : Type 0} (o : Option A) (r : List (Option A)) (a : A) → o ≡ Some a → first_of (o ∷ r) ≡ Some a
+first_here None r a e = cc
+first_here (Some x) r a e = e
+
+pub first_behind : {A : Type 0} (o : Option A) (r s : List (Option A)) → first_of r ≡ first_of s → first_of (o ∷ r) ≡ first_of (o ∷ s)
+first_behind None r s e = e
+first_behind (Some x) r s e = refl
+
+-- the first of one list, else that of another
+pub first_append : {A : Type 0} (r s : List (Option A)) → first_of (r ++ s) ≡ first_of (first_of r ∷ s)
+first_append [] s = refl
+first_append (None ∷ r) s = first_append r s
+first_append (Some x ∷ r) s = refl
+
+pub first_map : {A B : Type 0} (f : A → B) (r : List (Option A)) → first_of (map (option_map f) r) ≡ option_map f (first_of r)
+first_map f [] = refl
+first_map f (None ∷ r) = first_map f r
+first_map f (Some x ∷ r) = refl
+
+pub some_when : {A : Type 0} (b : Bool) (x : A) → b ≡ true → when b x ≡ Some x
+some_when true x e = refl
+some_when false x e = cc
+
+pub first_alone : {A : Type 0} (a : Option A) → a ≡ first_of (a ∷ [])
+first_alone None = refl
+first_alone (Some x) = refl
 
 pub map_none : {A B : Type 0} (f : A → B) (o : Option A) → option_map f o ≡ None → o ≡ None
 map_none f None e = refl
@@ -43,7 +75,8 @@ pub none_when : {A : Type 0} (b : Bool) (a : A) → b ≡ false → when b a ≡
 none_when true a e = cc
 none_when false a e = refl
 
-if_some : {A : Type 0} (b : Bool) (x : A) (o : Option A) → cond b (Some x) o ≡ None → (b ≡ false) × (o ≡ None)
+-- where a choice gives nothing, its test is false
+pub if_some : {A : Type 0} (b : Bool) (x : A) (o : Option A) → cond b (Some x) o ≡ None → (b ≡ false) × (o ≡ None)
 if_some true x o e = cc
 if_some false x o e = (refl, e)
 

@@ -1,7 +1,7 @@
--- Texts, anchors and edits since hang on the set of operations alone.
+-- Texts, anchors and edits since depend on the set of operations alone.
 use Rattle.std.proofs.Common.{◌≡◌, ℕ, zero, suc, ◌<◌, ◌⊎◌, Bool, List, [], ◌∷◌, length, map, get_or, refl, sym, ◌∙◌, ap, subst, inl, inr, true, false, ◌&&◌}
 use Rattle.std.specs.List.{AllByRecursion, filter, list_any}
-use Rattle.std.proofs.lemmas.Bool.{cases_Bool, or_cases, or_right}
+use Rattle.std.proofs.lemmas.Bool.{cases_Bool, or_cases}
 use Rattle.lamport_clock.specs.declared.stamp.Lamport.{Lamport}
 use Rattle.lamport_clock.specs.Stamps.{same_stamp}
 use Rattle.lamport_clock.specs.Versions.{Entries, sees}
@@ -23,7 +23,7 @@ use Rattle.op_model.proofs.shown.Bytes.{text_seen, map_each}
 use Rattle.op_model.proofs.answers.Good.{lawful_ready, lawful_same}
 use Rattle.op_model.proofs.order.CellsOnce.{From, all_from, bytes_of_one}
 use Rattle.op_model.proofs.texts.WholeTexts.{byte_is}
-use Rattle.op_model.proofs.Elements.{each_filter}
+use Rattle.op_model.proofs.Elements.{each_filter, any_member}
 
 -- ---- the text in its own words
 
@@ -47,13 +47,6 @@ full_is h d = map_each (byte (newest_first h)) (byte h) (cells (seq_where everyt
 
 -- ---- equal sets
 
-pub any_in : (t : Operation → Bool) (h : History) (m : Operation) → In h m → t m ≡ true → list_any t h ≡ true
-any_in t [] m i e = absurd i
-any_in t (o ∷ h) m i e = elim i [
-  | inl q ↦ (let f : t o ≡ true = subst (λ (x : Operation). t x ≡ true) q e in rw f refl)
-  | inr n ↦ or_right (t o) (list_any t h) (any_in t h m n e)
-]
-
 pub any_from : (t : Operation → Bool) (h : History) → list_any t h ≡ true → (m : Operation) × In h m × (t m ≡ true)
 any_from t [] e = cc
 any_from t (o ∷ h) e = elim (or_cases (t o) (list_any t h) e) [
@@ -66,11 +59,12 @@ any_same t h g s = go (cases_Bool (list_any t h)) (cases_Bool (list_any t g))
   where
     go : (list_any t h ≡ true) ⊎ (list_any t h ≡ false) → (list_any t g ≡ true) ⊎ (list_any t g ≡ false) → list_any t h ≡ list_any t g
     go (inl a) (inl b) = a ∙ sym b
-    go (inl a) (inr b) = let w = any_from t h a in let c = any_in t g w.0 ((s w.0).0 w.1) w.2 in cc
-    go (inr a) (inl b) = let w = any_from t g b in let c = any_in t h w.0 ((s w.0).1 w.1) w.2 in cc
+    go (inl a) (inr b) = let w = any_from t h a in let c = any_member t g w.0 ((s w.0).0 w.1) w.2 in cc
+    go (inr a) (inl b) = let w = any_from t g b in let c = any_member t h w.0 ((s w.0).1 w.1) w.2 in cc
     go (inr a) (inr b) = a ∙ sym b
 
-no_bytes : (h : History) (t : Lamport) → ((o : Operation) → In h o → stamp_of o ≡ t → ⊥) → new_bytes h t ≡ []
+-- a stamp that no operation has names no bytes
+pub no_bytes : (h : History) (t : Lamport) → ((o : Operation) → In h o → stamp_of o ≡ t → ⊥) → new_bytes h t ≡ []
 no_bytes [] t f = refl
 no_bytes (o ∷ h) t f = go (cases_Bool (same_stamp (stamp_of o) t)) (no_bytes h t (λ p i. f p (inr i)))
   where

@@ -1,5 +1,5 @@
 -- What a version names of a history, and that it sees with each operation of a lawful history what that one has seen.
-use Rattle.op_model.proofs.Elements.{each_map, and_not}
+use Rattle.op_model.proofs.Elements.{each_map, and_not, member_left, any_member}
 use Rattle.std.proofs.Common.{◌≡◌, ℕ, zero, suc, ◌<◌, ◌≤◌, Bool, [], ◌∷◌, ◌++◌, refl, sym, ap, subst, inl, inr, true, false, not, ◌&&◌, ltb, leb, arith, None}
 use Rattle.std.specs.List.{AllByRecursion, find}
 use Rattle.std.proofs.lemmas.Bool.{cases_Bool, and_parts, leb-true, le-leb, cases_lt}
@@ -17,8 +17,7 @@ use Rattle.op_model.proofs.histories.Lawful.{LawInv, distinct_same}
 use Rattle.op_model.proofs.answers.Passed.{passed, map_none, none_map, find_none, none_find}
 use Rattle.op_model.proofs.answers.Good.{each_entry, named, lawful_ready}
 use Rattle.op_model.proofs.histories.MoreLawful.{each_of_lawful}
-use Rattle.op_model.proofs.texts.WholeTexts.{in_more}
-use Rattle.op_model.proofs.answers.SameAnswers.{any_in, any_from}
+use Rattle.op_model.proofs.answers.SameAnswers.{any_from}
 
 -- each entry of v is an operation of h whose version lies within v
 abbrev pub Opens : History → Entries → Type 0
@@ -45,7 +44,7 @@ named_at h v o r p = names h v (r, entry v r) p (each_entry (λ (e : ℕ × ℕ)
 -- an entry is closed where an operation of the history is what it names
 pub names_closed : (h : History) (v : Entries) (e : ℕ × ℕ) (m : Operation) → In h m → same_stamp (stamp_of m) (record { value = e.1; replica = e.0 }) ≡ true → within (version_of m) v ≡ true
     → (ltb 0 e.1 && not (is_entry_closed h v e)) ≡ false
-names_closed h v e m i s w = and_not (ltb 0 e.1) (is_entry_closed h v e) (λ q. any_in (λ o. same_stamp (stamp_of o) (record { value = e.1; replica = e.0 }) && within (version_of o) v) h m i (rw (s, w) refl))
+names_closed h v e m i s w = and_not (ltb 0 e.1) (is_entry_closed h v e) (λ q. any_member (λ o. same_stamp (stamp_of o) (record { value = e.1; replica = e.0 }) && within (version_of o) v) h m i (rw (s, w) refl))
 
 opens_more : (h : History) (op : Operation) (v : Entries) → Opens h v → Opens (h ++ op ∷ []) v
 opens_more h op v o = each_map (λ (e : ℕ × ℕ). (ltb 0 e.1 && not (is_entry_closed h v e)) ≡ false) (λ (e : ℕ × ℕ). (ltb 0 e.1 && not (is_entry_closed (h ++ op ∷ []) v e)) ≡ false) one v o
@@ -55,7 +54,7 @@ opens_more h op v o = each_map (λ (e : ℕ × ℕ). (ltb 0 e.1 && not (is_entry
 
     one : (e : ℕ × ℕ) → (ltb 0 e.1 && not (is_entry_closed h v e)) ≡ false → (ltb 0 e.1 && not (is_entry_closed (h ++ op ∷ []) v e)) ≡ false
     one e n = elim (cases_Bool (is_entry_closed h v e)) [
-      | inl c ↦ (let w = any_from (test e) h c in and_not (ltb 0 e.1) (is_entry_closed (h ++ op ∷ []) v e) (λ q. any_in (test e) (h ++ op ∷ []) w.0 (in_more h op w.0 w.1) w.2))
+      | inl c ↦ (let w = any_from (test e) h c in and_not (ltb 0 e.1) (is_entry_closed (h ++ op ∷ []) v e) (λ q. any_member (test e) (h ++ op ∷ []) w.0 (member_left w.0 h (op ∷ []) w.1) w.2))
       | inr c ↦ none (ltb 0 e.1) (rw c at n)
     ]
       where

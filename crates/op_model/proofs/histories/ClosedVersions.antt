@@ -2,7 +2,7 @@
 use Rattle.std.proofs.Common.{◌≡◌, ℕ, suc, ◌<◌, ◌≤◌, ◌⊎◌, Bool, List, [], ◌∷◌, ◌++◌, map, refl, sym, ◌∙◌, ap, subst, inl, inr, true, false, cond, not, ◌&&◌, eqb, ltb, leb, arith, append_assoc}
 use Rattle.std.proofs.lemmas.List.{append-nil}
 use Rattle.std.specs.List.{AllByRecursion, filter}
-use Rattle.std.proofs.lemmas.Bool.{cases_Bool, and_parts, leb-true, le-leb, cases_lt}
+use Rattle.std.proofs.lemmas.Bool.{cases_Bool, and_parts, leb-true, le-leb, lt-leb, cases_lt}
 use Rattle.std.proofs.lemmas.Bool.Decides.{nat_tests}
 use Rattle.std.proofs.lemmas.List.Elements.{filter-append}
 use Rattle.lamport_clock.specs.declared.stamp.Lamport.{Lamport}
@@ -23,7 +23,6 @@ use Rattle.op_model.proofs.order.PathOrder.{same_stamp_refl}
 use Rattle.op_model.proofs.order.Restricted.{Closed, restrict}
 use Rattle.op_model.proofs.order.SameSets.{each_in, newest_seen, newest_same, seq_seen}
 use Rattle.op_model.proofs.histories.Lawful.{greatest, entry_version, greatest_in, greatest_more}
-use Rattle.op_model.proofs.order.CellsOnce.{member_append}
 use Rattle.op_model.proofs.shown.Deleters.{kept_all}
 use Rattle.op_model.proofs.shown.OnePass.{undone_newest, all_newest}
 use Rattle.op_model.proofs.shown.Parts.{deleters_part}
@@ -32,12 +31,12 @@ use Rattle.op_model.proofs.answers.Good.{in_tail, checked_of, stamp_parts}
 use Rattle.op_model.proofs.shown.Deletions.{deleters_restrict}
 use Rattle.op_model.proofs.histories.VersionLaws.{lawful_caused, caused_within, seen_all, own_entries, shaped_good, each_lawful}
 use Rattle.op_model.proofs.histories.MoreLawful.{lawful_more, lawful_parts}
-use Rattle.op_model.proofs.texts.WholeTexts.{in_more, in_last}
+use Rattle.op_model.proofs.texts.WholeTexts.{in_last}
 use Rattle.op_model.proofs.histories.Causes.{Opens, opens_of, of_opens, names, names_closed, causes_within}
 use Rattle.op_model.proofs.answers.NeverRefused.{in_part, part_in, never_refused}
 use Rattle.op_model.proofs.settling.Settling.{not_waits, within_none}
 use Rattle.op_model.proofs.settling.HonestRuns.{repeat_in}
-use Rattle.op_model.proofs.Elements.{each_map}
+use Rattle.op_model.proofs.Elements.{each_map, member_left}
 
 -- ---- the version of a front
 
@@ -60,12 +59,9 @@ named_version [] = tt
 named_version (o ∷ h) = each_raise (Named (o ∷ h)) (version h) (stamp_of o) (o, inl refl, refl)
     (each_map (Named h) (Named (o ∷ h)) (λ e w. (w.0, inr w.1, w.2)) (version h) (named_version h))
 
-pub in_front : (h g : History) (o : Operation) → In h o → In (h ++ g) o
-in_front h g o i = member_append o h g (inl i)
-
 front_opens : (h g : History) → Lawful h → Opens (h ++ g) (version h)
 front_opens h g l = each_map (Named h) (λ (e : ℕ × ℕ). (ltb 0 e.1 && not (is_entry_closed (h ++ g) (version h) e)) ≡ false)
-    (λ e w. names_closed (h ++ g) (version h) e w.0 (in_front h g w.0 w.1)
+    (λ e w. names_closed (h ++ g) (version h) e w.0 (member_left w.0 h g w.1)
     (subst (λ (t : Lamport). same_stamp (stamp_of w.0) t ≡ true) w.2 (same_stamp_refl (stamp_of w.0))) (caused_within h w.0 (lawful_caused h l w.0 w.1)))
     (version h) (named_version h)
 
@@ -78,7 +74,7 @@ front_within h g = go (version h) (named_version h)
         let m : Operation = e.0.0 in
         let a : (stamp_of m).value ≡ d.1 = ap (λ (t : Lamport). t.value) e.0.2 in
         let b : (stamp_of m).replica ≡ d.0 = ap (λ (t : Lamport). t.replica) e.0.2 in
-        let c : (stamp_of m).value ≤ greatest (h ++ g) d.0 = subst (λ (r : ℕ). (stamp_of m).value ≤ greatest (h ++ g) r) b (greatest_in (h ++ g) m (in_front h g m e.0.1)) in
+        let c : (stamp_of m).value ≤ greatest (h ++ g) d.0 = subst (λ (r : ℕ). (stamp_of m).value ≤ greatest (h ++ g) r) b (greatest_in (h ++ g) m (member_left m h g e.0.1)) in
         let f = entry_version (h ++ g) d.0 in
         let t : leb d.1 (entry (version (h ++ g)) d.0) ≡ true = le-leb d.1 (entry (version (h ++ g)) d.0) (omega arith) in
         rw t (go v e.1)
@@ -93,10 +89,7 @@ behind_unseen h p (op ∷ g) f l =
     let b = c.chained in
     let d = c.above r in
     let e = entry_version h r in
-    (above (stamp_of op).value (entry (version h) r) (omega arith), behind_unseen h (p ++ op ∷ []) g (λ q. (let x = f q in let y = greatest_more p op q in omega arith)) l.1)
-  where
-    above : (x y : ℕ) → y < x → leb x y ≡ false
-    above x y i = grind (arith, nat_tests)
+    (lt-leb (stamp_of op).value (entry (version h) r) (omega arith), behind_unseen h (p ++ op ∷ []) g (λ q. (let x = f q in let y = greatest_more p op q in omega arith)) l.1)
 
 none_kept : (keep : Lamport → Bool) (g : List Operation) → AllByRecursion (λ (o : Operation). keep (stamp_of o) ≡ false) g → kept_history keep g ≡ []
 none_kept keep [] e = refl
@@ -152,7 +145,7 @@ module _ (h : History) (l : Lawful h) (v : Entries) (c : IsClosed h v) where
 
   -- a good operation that v sees is good against what v sees before it
   good_in_part : (p : History) (op : Operation) → Lawful p → answer p [] op ≡ Good → Lawful (seen_history p v) → within (version_of op) v ≡ true → answer (seen_history p v) [] op ≡ Good
-  good_in_part p op lp g ls w = elim (never_refused (p ++ op ∷ []) (seen_history p v) [] op (lawful_more p op lp g) ls (λ o i. in_more p op o (in_part (sees v) p o i).0) (λ o i. absurd i) (in_last p op)) [
+  good_in_part p op lp g ls w = elim (never_refused (p ++ op ∷ []) (seen_history p v) [] op (lawful_more p op lp g) ls (λ o i. member_left o p (op ∷ []) (in_part (sees v) p o i).0) (λ o i. absurd i) (in_last p op)) [
     | inl b ↦ absurd (no_base b.0 b.1)
     | inr r ↦ elim r [
       | inl a ↦ absurd (elim (repeat_in (seen_history p v) [] op a) [ inl i ↦ each_in (λ (o : Operation). stamp_of o ≡ stamp_of op → ⊥) p op (checked_of p op g).0.new (in_part (sees v) p op i).0 refl | inr i ↦ i ])

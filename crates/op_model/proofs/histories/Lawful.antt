@@ -1,52 +1,27 @@
 -- A lawful history has what the sequence needs.
-use Rattle.std.proofs.Common.{◌≡◌, ℕ, ◌<◌, ◌≤◌, ◌⊎◌, max, Bool, [], ◌∷◌, ◌++◌, refl, sym, ◌∙◌, ap, subst, inl, inr, true, false, cond, eqb, ltb, arith}
+use Rattle.std.proofs.Common.{◌≡◌, ℕ, ◌<◌, ◌≤◌, ◌⊎◌, max, Bool, [], ◌∷◌, ◌++◌, refl, sym, ◌∙◌, ap, subst, inl, inr, true, false, cond, eqb, arith}
 use Rattle.std.specs.List.{AllByRecursion}
-use Rattle.std.proofs.lemmas.Bool.{cases_Bool, leb-true, eqb-true, le-leb, leb-false, cases_lt, eq-eqb}
-use Rattle.std.proofs.lemmas.Bool.Decides.{nat_tests}
+use Rattle.std.proofs.lemmas.Bool.{cases_Bool, leb-true, eqb-true, eqb-false, le-leb, cases_lt, eq-eqb}
 use Rattle.lamport_clock.specs.declared.stamp.Lamport.{Lamport}
 use Rattle.op_model.specs.declared.operation.Operation.{Operation}
 use Rattle.op_model.specs.Histories.{History, version, In, Distinct}
-use Rattle.lamport_clock.specs.Versions.{Entries, sees, entry, raise, put_entry}
+use Rattle.lamport_clock.specs.Versions.{Entries, sees, entry, raise}
 use Rattle.op_model.specs.Operations.{stamp_of, version_of}
 use Rattle.op_model.proofs.order.SameSets.{each_in}
 use Rattle.op_model.proofs.order.PathOrder.{stamp_path}
+use Rattle.lamport_clock.proofs.Joined.{entry-raise_at, entry-raise_off}
 
 -- the greatest value of r in h
 abbrev pub greatest : History → ℕ → ℕ
 greatest [] r = 0
 greatest (o ∷ h) r = cond (eqb (stamp_of o).replica r) (max (greatest h r) (stamp_of o).value) (greatest h r)
 
-lower_apart : (x r q : ℕ) → ltb x r ≡ true → eqb r q ≡ true → eqb x q ≡ false
-lower_apart x r q l e = grind (arith, nat_tests)
-
-same_apart : (x r q : ℕ) → eqb x r ≡ true → eqb r q ≡ eqb x q
-same_apart x r q e = let i : x ≡ r = eqb-true x r e in rw i refl
-
-entry_put : (r x : ℕ) (v : Entries) (q : ℕ) → entry (put_entry r x v) q ≡ cond (eqb r q) x (entry v q)
-entry_put r x [] q = refl
-entry_put r x (e ∷ v) q = go (cases_Bool (ltb e.0 r)) (cases_Bool (eqb e.0 r)) (cases_Bool (eqb r q)) (entry_put r x v q)
-  where
-    go : (ltb e.0 r ≡ true) ⊎ (ltb e.0 r ≡ false) → (eqb e.0 r ≡ true) ⊎ (eqb e.0 r ≡ false) → (eqb r q ≡ true) ⊎ (eqb r q ≡ false)
-        → entry (put_entry r x v) q ≡ cond (eqb r q) x (entry v q) → entry (put_entry r x (e ∷ v)) q ≡ cond (eqb r q) x (entry (e ∷ v) q)
-    go (inl l) s (inl t) ih = let n = lower_apart e.0 r q l t in rw (l, n, t) (rw t at ih)
-    go (inl l) s (inr t) ih = rw (l, t) (ap (λ (y : ℕ). cond (eqb e.0 q) e.1 y) (rw t at ih))
-    go (inr l) (inl s) t ih = let i : eqb r q ≡ eqb e.0 q = same_apart e.0 r q s in rw (l, s, i) (pick (eqb e.0 q))
-      where
-        pick : (b : Bool) → cond b x (entry v q) ≡ cond b x (cond b e.1 (entry v q))
-        pick true = refl
-        pick false = refl
-    go (inr l) (inr s) t ih = rw (l, s) refl
-
 entry_raise : (v : Entries) (t : Lamport) (r : ℕ) → entry (raise v t) r ≡ cond (eqb t.replica r) (max (entry v r) t.value) (entry v r)
-entry_raise v t r = go (cases_Bool (sees v t)) (cases_Bool (eqb t.replica r))
+entry_raise v t r = go (cases_Bool (eqb t.replica r))
   where
-    go : (sees v t ≡ true) ⊎ (sees v t ≡ false) → (eqb t.replica r ≡ true) ⊎ (eqb t.replica r ≡ false)
-        → entry (raise v t) r ≡ cond (eqb t.replica r) (max (entry v r) t.value) (entry v r)
-    go (inl s) (inl e) = let i : t.value ≤ entry v r = subst (λ (q : ℕ). t.value ≤ entry v q) (eqb-true t.replica r e) (leb-true t.value (entry v t.replica) s) in rw (s, e) (omega arith)
-    go (inl s) (inr e) = rw (s, e) refl
-    go (inr s) (inl e) = let i : entry v r < t.value = subst (λ (q : ℕ). entry v q < t.value) (eqb-true t.replica r e) (leb-false t.value (entry v t.replica) s) in
-        let p : entry (put_entry t.replica t.value v) r ≡ t.value = entry_put t.replica t.value v r ∙ ap (λ (b : Bool). cond b t.value (entry v r)) e in rw (s, e) (p ∙ omega arith)
-    go (inr s) (inr e) = let p : entry (put_entry t.replica t.value v) r ≡ entry v r = entry_put t.replica t.value v r ∙ ap (λ (b : Bool). cond b t.value (entry v r)) e in rw (s, e) p
+    go : (eqb t.replica r ≡ true) ⊎ (eqb t.replica r ≡ false) → entry (raise v t) r ≡ cond (eqb t.replica r) (max (entry v r) t.value) (entry v r)
+    go (inl e) = rw e (subst (λ (q : ℕ). entry (raise v t) q ≡ max (entry v q) t.value) (eqb-true t.replica r e) (entry-raise_at v t))
+    go (inr e) = rw e (entry-raise_off v t r (λ q. eqb-false t.replica r e (sym q)))
 
 pub entry_version : (h : History) (r : ℕ) → entry (version h) r ≡ greatest h r
 entry_version [] r = refl

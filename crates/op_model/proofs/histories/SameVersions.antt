@@ -2,9 +2,8 @@
 use Rattle.std.proofs.Common.{◌≡◌, ℕ, suc, ◌<◌, ◌≤◌, ◌⊎◌, List, [], ◌∷◌, length, refl, sym, ◌∙◌, ap, subst, inl, inr, true, false, ◌&&◌, eqb, ltb, arith}
 use Rattle.std.specs.Prelude.{option_map, not}
 use Rattle.std.specs.List.{find}
-use Rattle.std.proofs.lemmas.Bool.{cases_Bool, leb-false, cases_lt, eq-eqb}
-use Rattle.std.proofs.lemmas.Bool.Decides.{nat_tests}
-use Rattle.lamport_clock.proofs.Associative.{put_kept}
+use Rattle.std.proofs.lemmas.Bool.{cases_Bool, leb-false, cases_lt, eq-eqb, ne_eqb}
+use Rattle.lamport_clock.proofs.Associative.{put_kept, none_below}
 use Rattle.lamport_clock.specs.Stamps.{same_stamp}
 use Rattle.lamport_clock.specs.Versions.{Entries, AreEntriesFrom, entry, sees, within}
 use Rattle.op_model.specs.declared.anchor.Anchor.{Anchor}
@@ -32,14 +31,6 @@ version_entries (o ∷ h) = go (cases_Bool (sees (version h) (stamp_of o))) (ver
     go (inr s) i = let g = leb-false (stamp_of o).value (entry (version h) (stamp_of o).replica) s in
         rw s (put_kept 0 (stamp_of o).replica (stamp_of o).value (version h) (omega arith) (omega arith) i)
 
--- no entry is below the least replica
-pub none_below : (n : ℕ) (v : Entries) (r : ℕ) → AreEntriesFrom n v → r < n → entry v r ≡ 0
-none_below n [] r i l = refl
-none_below n (e ∷ v) r i l = let a = i.0 in let t = apart e.0 r (omega arith) in rw t (none_below (suc e.0) v r i.2 (omega arith))
-  where
-    apart : (x y : ℕ) → y < x → eqb x y ≡ false
-    apart x y h = grind (arith, nat_tests)
-
 entries_same : (n : ℕ) (u v : Entries) → AreEntriesFrom n u → AreEntriesFrom n v → ((r : ℕ) → entry u r ≡ entry v r) → u ≡ v
 entries_same n [] [] i j f = refl
 entries_same n [] (e ∷ v) i j f = let t : eqb e.0 e.0 ≡ true = eq-eqb e.0 e.0 refl in let z : ◌≡◌ {A = ℕ} 0 e.1 = rw t at (f e.0) in let p = j.1 in absurd (omega arith)
@@ -54,12 +45,9 @@ entries_same n (d ∷ u) (e ∷ v) i j f = go (cases_lt d.0 e.0) (cases_lt e.0 d
 
     tails : d.0 ≡ e.0 → (r : ℕ) → entry u r ≡ entry v r
     tails q r = elim (cases_lt d.0 r) [
-      | inl l ↦ (let x = off d.0 r l in let y = off e.0 r (omega arith) in let z : entry u r ≡ entry v r = rw (x, y) at (f r) in z)
+      | inl l ↦ (let x = ne_eqb d.0 r (λ s. omega arith) in let y = ne_eqb e.0 r (λ s. omega arith) in let z : entry u r ≡ entry v r = rw (x, y) at (f r) in z)
       | inr l ↦ none_below (suc d.0) u r i.2 (omega arith) ∙ sym (none_below (suc e.0) v r j.2 (omega arith))
     ]
-      where
-        off : (x y : ℕ) → x < y → eqb x y ≡ false
-        off x y h = grind (arith, nat_tests)
 
     go : (d.0 < e.0) ⊎ (e.0 ≤ d.0) → (e.0 < d.0) ⊎ (d.0 ≤ e.0) → ((m : ℕ) → AreEntriesFrom m u → AreEntriesFrom m v → ((r : ℕ) → entry u r ≡ entry v r) → u ≡ v) → d ∷ u ≡ e ∷ v
     go (inl l) m ih = let z = none_below (suc d.0) (e ∷ v) d.0 (omega arith, j.1, j.2) (omega arith) in let y = f d.0 in let x = at_d in let p = i.1 in absurd (omega arith)

@@ -1,6 +1,6 @@
 -- A sequence has each cell of its history once, in path order.
-use Rattle.op_model.proofs.Elements.{each_map, each_append}
-use Rattle.std.proofs.Common.{◌≡◌, ℕ, zero, suc, ◌+◌, ◌-◌, ◌<◌, ◌≤◌, ◌⊎◌, ◌↔◌, List, [], ◌∷◌, ◌++◌, length, refl, sym, ◌∙◌, ap, subst, inl, inr, true, false, arith}
+use Rattle.op_model.proofs.Elements.{each_map, each_append, member_left, member_right}
+use Rattle.std.proofs.Common.{◌≡◌, ℕ, zero, suc, ◌+◌, ◌-◌, ◌<◌, ◌≤◌, ◌⊎◌, ◌↔◌, List, [], ◌∷◌, ◌++◌, length, map, refl, sym, ◌∙◌, ap, subst, inl, inr, true, false, arith}
 use Rattle.std.specs.List.{AllByRecursion}
 use Rattle.std.proofs.lemmas.Bool.{cases_Bool, cases_lt}
 use Rattle.std.proofs.lemmas.List.{length-append}
@@ -42,16 +42,18 @@ new_within s t k (p ∷ ps) =
     (each_map (Within t (k + length p.text) (length (texts ps))) (Within t k (length (p.text ++ texts ps))) (λ q w. (w.0, (let a = w.1 in omega arith), (let a = w.2 in omega arith)))
     (new_places s t (k + length p.text) ps) (new_within s t (k + length p.text) ps))
 
-pub member_append : {A : Type 0} (x : A) (xs ys : List A) → Member x xs ⊎ Member x ys → Member x (xs ++ ys)
-member_append x [] ys m = elim m [ inl n ↦ absurd n | inr n ↦ n ]
-member_append x (y ∷ xs) ys m = elim m [ inl n ↦ elim n [ inl e ↦ inl e | inr i ↦ inr (member_append x xs ys (inl i)) ] | inr n ↦ inr (member_append x xs ys (inr n)) ]
+-- what is made of an element is among what is made of the list
+pub member_map : {A B : Type 0} (f : A → B) (x : A) (xs : List A) → Member x xs → Member (f x) (map f xs)
+member_map f x [] m = absurd m
+member_map f x (y ∷ ys) (inl e) = inl (ap f e)
+member_map f x (y ∷ ys) (inr m) = inr (member_map f x ys m)
 
 -- s has a place of the cell
 abbrev At : List PathCell → Lamport → ℕ → Type 0
 At s t k = (p : PathCell) × Member p s × (p.cell ≡ record { stamp = t; k = k })
 
 at_append : (t : Lamport) (k : ℕ) (xs ys : List PathCell) → At xs t k ⊎ At ys t k → At (xs ++ ys) t k
-at_append t k xs ys m = elim m [ inl a ↦ (a.0, member_append a.0 xs ys (inl a.1), a.2) | inr a ↦ (a.0, member_append a.0 xs ys (inr a.1), a.2) ]
+at_append t k xs ys m = elim m [ inl a ↦ (a.0, member_left a.0 xs ys a.1, a.2) | inr a ↦ (a.0, member_right a.0 xs ys a.1, a.2) ]
 
 at_tail : (t : Lamport) (k : ℕ) (x : PathCell) (s : List PathCell) → At s t k → At (x ∷ s) t k
 at_tail t k x s a = (a.0, inr a.1, a.2)

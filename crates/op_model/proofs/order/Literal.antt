@@ -1,7 +1,7 @@
 -- The definitions in their own words: left neighbours, cells and deletions by the sequence of the part that a version sees.
-use Rattle.op_model.proofs.Elements.{each_map, each_append}
+use Rattle.op_model.proofs.Elements.{each_map, each_append, false_from}
 use Rattle.std.proofs.Common.{◌≡◌, Bool, List, [], ◌∷◌, ◌++◌, map, refl, sym, ◌∙◌, ap, subst, inl, inr, true, false, cond, ◌&&◌, arith, append_assoc}
-use Rattle.std.proofs.lemmas.Bool.{cases_Bool, leb-true}
+use Rattle.std.proofs.lemmas.Bool.{leb-true}
 use Rattle.std.specs.List.{AllByRecursion, filter}
 use Rattle.lamport_clock.specs.declared.stamp.Lamport.{Lamport}
 use Rattle.lamport_clock.specs.Stamps.{later}
@@ -131,15 +131,12 @@ module _ (h : History) where
 pub unseeing_of : (h : History) → Desc h → ((o : Operation) → In h o → (u : Lamport) → sees (version_of o) u ≡ true → later (stamp_of o) u ≡ true) → Unseeing h
 unseeing_of [] d f = tt
 unseeing_of (o ∷ h) d f = (
-  unsees (version_of o) (stamp_of o) (stamp_of o) (f o (inl refl) (stamp_of o)) (later_irrefl (stamp_of o)),
+  false_from (sees (version_of o) (stamp_of o)) (later (stamp_of o) (stamp_of o)) (f o (inl refl) (stamp_of o)) (later_irrefl (stamp_of o)),
   each_of_in (λ (p : Operation). sees (version_of p) (stamp_of o) ≡ false) h
-      (λ p i. unsees (version_of p) (stamp_of p) (stamp_of o) (f p (inr i) (stamp_of o))
+      (λ p i. false_from (sees (version_of p) (stamp_of o)) (later (stamp_of p) (stamp_of o)) (f p (inr i) (stamp_of o))
       (one_way (stamp_of o) (stamp_of p) (each_in (λ (q : Operation). later (stamp_of o) (stamp_of q) ≡ true) h p d.0 i))),
   unseeing_of h d.1 (λ p i. f p (inr i)),
 )
-  where
-    unsees : (v : Entries) (t u : Lamport) → (sees v u ≡ true → later t u ≡ true) → later t u ≡ false → sees v u ≡ false
-    unsees v t u g n = elim (cases_Bool (sees v u)) [ inl s ↦ (let l = g s in cc) | inr s ↦ s ]
 
 above : (h : History) → LawInv h → (o : Operation) → In (newest_first h) o → (u : Lamport) → sees (version_of o) u ≡ true → later (stamp_of o) u ≡ true
 above h inv o i u s = let n = leb-true u.value (entry (version_of o) u.replica) s in

@@ -18,6 +18,10 @@ pub later_total : (s t : Lamport) → later s t ≡ false → same_stamp s t ≡
 unfolding later same_stamp
 later_total s t p q = grind (arith, nat_tests)
 
+pub later_differs : (s t : Lamport) → later t s ≡ true → (same_stamp s t ≡ false) × (same_stamp t s ≡ false)
+unfolding later same_stamp
+later_differs s t e = (grind (arith, nat_tests), grind (arith, nat_tests))
+
 pub stamp_path : (s t : Lamport) → s.value ≡ t.value → s.replica ≡ t.replica → s ≡ t
 stamp_path s t e f = λ i. record { value = e i; replica = f i }
 

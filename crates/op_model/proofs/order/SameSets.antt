@@ -1,4 +1,5 @@
 -- What is defined from a history depends on its set of operations alone; the part that a version sees.
+use Rattle.std.proofs.Math.Bool.{and-true}
 use Rattle.op_model.proofs.Elements.{each_map}
 use Rattle.std.proofs.Common.{◌≡◌, ◌⊎◌, Bool, [], ◌∷◌, refl, sym, ◌∙◌, ap, subst, inl, inr, true, false, not, ◌&&◌, arith}
 use Rattle.std.specs.List.{AllByRecursion}
@@ -178,19 +179,15 @@ sort_kept keep d (o ∷ h) u = go (cases_Bool (keep (stamp_of o))) (sort_kept ke
 pub newest_seen : (h : History) (v : Entries) → newest_first (seen_history h v) ≡ kept_history (sees v) (newest_first h)
 newest_seen h v = sort_kept (sees v) [] h tt
 
-and_swap : (a b c : Bool) → ((a && b) && c) ≡ ((a && c) && b)
-and_swap true true c = sym (and_true c)
-  where
-    and_true : (c : Bool) → (c && true) ≡ c
-    and_true true = refl
-    and_true false = refl
-and_swap true false true = refl
-and_swap true false false = refl
-and_swap false b c = refl
+and_swap_last : (a b c : Bool) → ((a && b) && c) ≡ ((a && c) && b)
+and_swap_last true true c = sym (and-true c)
+and_swap_last true false true = refl
+and_swap_last true false false = refl
+and_swap_last false b c = refl
 
 pub agree_swap : (f g : Lamport → Bool) (v : Entries) (h : History) → Agree (both (λ t. f t && g t) v) (λ t. both f v t && g t) h
 agree_swap f g v [] = tt
-agree_swap f g v (o ∷ h) = (and_swap (f (stamp_of o)) (g (stamp_of o)) (sees v (stamp_of o)), agree_swap f g v h)
+agree_swap f g v (o ∷ h) = (and_swap_last (f (stamp_of o)) (g (stamp_of o)) (sees v (stamp_of o)), agree_swap f g v h)
 
 -- the sequence of a part is the sequence of what passes
 pub seq_part : (f g : Lamport → Bool) (h : History) → seq_where f (kept_history g h) ≡ seq_where (λ t. f t && g t) h

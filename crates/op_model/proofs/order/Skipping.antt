@@ -1,11 +1,12 @@
 -- A new cell stands after its left neighbour, past the cells there whose stamps are later.
-use Rattle.std.proofs.Common.{◌≡◌, ℕ, zero, suc, ◌<◌, ◌≤◌, ◌⊎◌, Bool, List, [], ◌∷◌, ◌++◌, length, refl, sym, ◌∙◌, ap, subst, inl, inr, true, false, cond, ◌||◌, arith, append_assoc}
+use Rattle.std.proofs.Common.{◌≡◌, ℕ, zero, suc, ◌<◌, ◌≤◌, ◌⊎◌, List, [], ◌∷◌, ◌++◌, length, refl, sym, ◌∙◌, ap, subst, inl, inr, true, false, cond, ◌||◌, arith, append_assoc}
 use Rattle.std.proofs.lemmas.List.{same_from_push}
 use Rattle.std.specs.List.{AllByRecursion}
 use Rattle.std.proofs.lemmas.Bool.{cases_Bool}
 use Rattle.std.proofs.lemmas.Bool.Decides.{nat_tests}
 use Rattle.lamport_clock.specs.declared.stamp.Lamport.{Lamport}
 use Rattle.lamport_clock.specs.Stamps.{later, same_stamp}
+use Rattle.std.proofs.Math.Bool.{or-false}
 use Rattle.op_model.specs.Cells.{path_at, left_path, text_places, put_all, Cell, PathCell, same_cell, sibling_first, path, path_before, before, cell_at}
 use Rattle.op_model.specs.Laid.{after_run, after_run_from}
 use Rattle.op_model.proofs.order.PathOrder.{path_refl, same_cell_refl, later_trans, same_stamp_eq, first_by_stamp, path_trans, path_antisym}
@@ -40,12 +41,8 @@ unfolding same_cell sibling_first
 fresh_test c d f = elim (cases_Bool (same_stamp d.stamp c.stamp)) [
   | inl s ↦ (let h : c.k < d.k = f (same_stamp_eq d.stamp c.stamp s) in
       (grind (arith, nat_tests), grind (arith, nat_tests)))
-  | inr s ↦ (rw s, rw s (or_false (later d.stamp c.stamp)))
+  | inr s ↦ (rw s, rw s (or-false (later d.stamp c.stamp)))
 ]
-  where
-    or_false : (b : Bool) → (b || false) ≡ b
-    or_false true = refl
-    or_false false = refl
 
 -- a cell after the left neighbour stands before the new cell exactly where its branch has the later stamp
 pub by_branch : (c : Cell) (p q : List Cell) → path_before q p ≡ false → AllByRecursion (λ (a : Cell). later c.stamp a.stamp ≡ true) p → AllByRecursion (Fresh c) q

@@ -3,6 +3,7 @@ use Rattle.std.proofs.Common.{◌≡◌, ℕ, zero, suc, ◌⊎◌, Bool, List, 
 use Rattle.std.specs.List.{AllByRecursion}
 use Rattle.std.specs.Prelude.{IsUtf8, option_map, option_to_list}
 use Rattle.std.proofs.lemmas.Bool.{cases_Bool}
+use Rattle.std.proofs.lemmas.Option.{none-some}
 use Rattle.lamport_clock.specs.declared.stamp.Lamport.{Lamport}
 use Rattle.lamport_clock.specs.Versions.{within}
 use Rattle.op_model.specs.declared.operation.Operation.{Operation}
@@ -27,17 +28,17 @@ use Rattle.op_model.specs.Steps.Step.{Edits, Undoes, Takes, Settles}
 use Rattle.op_model.specs.Brought.{operation_of_call, operations_of_calls, TakesNoFull, NoFull}
 use Rattle.op_model.proofs.order.Insertion.{member_one, member_past, each_insert}
 use Rattle.op_model.proofs.order.SameSets.{each_in}
-use Rattle.op_model.proofs.order.CellsOnce.{member_append}
 use Rattle.op_model.proofs.histories.Lawful.{distinct_same, in_append}
 use Rattle.op_model.proofs.answers.Good.{lawful_ready}
 use Rattle.op_model.proofs.histories.MoreLawful.{lawful_more}
-use Rattle.op_model.proofs.texts.WholeTexts.{in_more, in_last}
+use Rattle.op_model.proofs.texts.WholeTexts.{in_last}
 use Rattle.op_model.proofs.histories.Proper.{same_is, edit_good, undo_good}
 use Rattle.op_model.proofs.answers.Passed.{map_other, objection_not}
 use Rattle.op_model.proofs.answers.SameAnswers.{any_from}
 use Rattle.op_model.proofs.settling.Settling.{after, pass_is, append_good, pass_keeps, settled_keeps, settled_misses, good_alone, limited_good, unwrapped, none_or, Holds, step_holds, opened_holds}
 use Rattle.op_model.proofs.settling.AllApplied.{all_applied}
 use Rattle.op_model.proofs.answers.NeverRefused.{never_refused}
+use Rattle.op_model.proofs.Elements.{member_left, member_right, member_either}
 
 -- a repeat is applied or waits
 not_repeat : (h : History) (w : List Operation) (op : Operation) → any_equal (h ++ w) op ≡ false → answer h w op ≡ Repeat → ⊥
@@ -48,13 +49,9 @@ not_repeat h w op n e = unwrapped (objection h w op) Repeat (λ q. cc) (objectio
     same : any_equal (h ++ w) op ≡ false → when (any_equal (h ++ w) op) Repeat ≡ Some Repeat → ⊥
     same n q = let z : when false Repeat ≡ Some Repeat = subst (λ (b : Bool). when b Repeat ≡ Some Repeat) n q in cc
 
-split_in : (h w : List Operation) (o : Operation) → In (h ++ w) o → In h o ⊎ In w o
-split_in [] w o i = inr i
-split_in (x ∷ h) w o i = elim i [ inl e ↦ inl (inl e) | inr n ↦ elim (split_in h w o n) [ inl a ↦ inl (inr a) | inr b ↦ inr b ] ]
-
 pub repeat_in : (h : History) (w : List Operation) (op : Operation) → answer h w op ≡ Repeat → In h op ⊎ In w op
 repeat_in h w op e = elim (cases_Bool (any_equal (h ++ w) op)) [
-  | inl t ↦ (let m = any_from (λ o. same_op o op) (h ++ w) t in subst (λ (x : Operation). In h x ⊎ In w x) (same_is m.0 op m.2) (split_in h w m.0 m.1))
+  | inl t ↦ (let m = any_from (λ o. same_op o op) (h ++ w) t in subst (λ (x : Operation). In h x ⊎ In w x) (same_is m.0 op m.2) (member_either m.0 h w m.1))
   | inr f ↦ absurd (not_repeat h w op f e)
 ]
 
@@ -110,10 +107,10 @@ abbrev Clear : State → Type 0
 Clear s = s.refused ≡ []
 
 none_left : (xs ys : List (Lamport × OpFault)) → NoneFull (xs ++ ys) → NoneFull xs
-none_left xs ys f u n m t i = f u n m t (member_append (t, Full u n m) xs ys (inl i))
+none_left xs ys f u n m t i = f u n m t (member_left (t, Full u n m) xs ys i)
 
 none_right : (xs ys : List (Lamport × OpFault)) → NoneFull (xs ++ ys) → NoneFull ys
-none_right xs ys f u n m t i = f u n m t (member_append (t, Full u n m) xs ys (inr i))
+none_right xs ys f u n m t i = f u n m t (member_right (t, Full u n m) xs ys i)
 
 none_empty : (rs : List (Lamport × OpFault)) → rs ≡ [] → NoneFull rs
 none_empty rs e u n m t i = subst (Member (t, Full u n m)) e i
@@ -175,6 +172,9 @@ module _ (l : LimitsType) (g : History) (lg : Lawful g) where
       apart_good : Good ≡ Refused x → ⊥
       apart_good i = cc
 
+  none_waits : (o : Operation) → In [] o → In g o
+  none_waits o j = absurd j
+
   abbrev pub Held : State → Operation → Type 0
   Held s o = In s.history o ⊎ In s.waiting o
 
@@ -184,12 +184,9 @@ module _ (l : LimitsType) (g : History) (lg : Lawful g) where
   pass_held h (op ∷ w) p q nf o i = subst (λ (s : State). Held s o) (sym (pass_is l h op w))
       (go (turn l h op) refl (subst (λ (s : State). NoneFull s.refused) (pass_is l h op w) nf) (λ k a n b. pass_held k w a q.1 n o b))
     where
-      none_waits : (z : Operation) → In [] z → In g z
-      none_waits z j = absurd j
-
       go : (t : Turn) → turn l h op ≡ t → NoneFull (after t l h op w).refused → ((k : History) → Part k → NoneFull (pass l k w).refused → In k o ⊎ In w o → Held (pass l k w) o) → Held (after t l h op w) o
       go Append e n f = f (h ++ op ∷ []) (own_more h op p q.0 (append_good l h op e)) n (elim i [
-        | inl a ↦ inl (in_more h op o a)
+        | inl a ↦ inl (member_left o h (op ∷ []) a)
         | inr b ↦ elim b [ inl c ↦ inl (subst (In (h ++ op ∷ [])) (sym c) (in_last h op)) | inr c ↦ inr c ]
       ])
       go Drop e n f = f h p n (elim i [
@@ -247,7 +244,7 @@ module _ (l : LimitsType) (g : History) (lg : Lawful g) where
   applied_fits op s f i e = (part_more s.history op f.0 i e, f.1)
 
   applied_held : (op : Operation) (s : State) (o : Operation) → Held s o → Held (with_applied op s) o
-  applied_held op s o i = elim i [ inl a ↦ inl (in_more s.history op o a) | inr b ↦ inr b ]
+  applied_held op s o i = elim i [ inl a ↦ inl (member_left o s.history (op ∷ []) a) | inr b ↦ inr b ]
 
   waiting_part : (s : State) → Fits s → (o : Operation) → In s.waiting o → In g o
   waiting_part s f o i = (each_in Own s.waiting o f.1 i).0
@@ -315,10 +312,7 @@ module _ (l : LimitsType) (g : History) (lg : Lawful g) where
       is o j = cc
 
   still_step : (s : State) → Fits s → Steps s s None
-  still_step s f = (f, (λ o j. j), (λ o j. absurd (nothing o j)))
-    where
-      nothing : (o : Operation) → None ≡ Some o → ⊥
-      nothing o j = cc
+  still_step s f = (f, (λ o j. j), (λ o j. absurd (none-some o j)))
 
   module _ (r : ℕ) (ir : IsReplica r) (t : List ℕ) where
     step_all : (c : Step) (s : State) → IsProperStep c → Holds s → Fits s → In s.history (base t) → TakesNoFull l c s → NoneFull (step l r c s).refused
@@ -332,10 +326,7 @@ module _ (l : LimitsType) (g : History) (lg : Lawful g) where
       | inr e ↦ rw e (still_step s f)
     ]
     step_all (Takes op) s p h f b na nf w = taken t op s f b (w op refl) na nf
-    step_all Settles s p h f b na nf w = (settle_fits s f, (λ o j. settle_held s f nf o j), (λ o j. absurd (nothing o j)))
-      where
-        nothing : (o : Operation) → None ≡ Some o → ⊥
-        nothing o j = cc
+    step_all Settles s p h f b na nf w = (settle_fits s f, (λ o j. settle_held s f nf o j), (λ o j. absurd (none-some o j)))
 
     -- what was refused stays refused
     earlier : (c : Step) (s : State) → NoneFull (step l r c s).refused → NoneFull s.refused
@@ -362,10 +353,6 @@ module _ (l : LimitsType) (g : History) (lg : Lawful g) where
     some_in None xs o e = cc
     some_in (Some x) xs o e = let i : x ≡ o = cc in inl (sym i)
 
-    rest_in : (b : Option Operation) (xs : List Operation) (o : Operation) → Member o xs → Member o (option_to_list b ++ xs)
-    rest_in None xs o m = m
-    rest_in (Some x) xs o m = inr m
-
     from_in : (b : Option Operation) (xs : List Operation) (o : Operation) → Member o (option_to_list b ++ xs) → (b ≡ Some o) ⊎ Member o xs
     from_in None xs o m = inr m
     from_in (Some x) xs o m = elim m [ inl e ↦ inl (ap Some (sym e)) | inr n ↦ inr n ]
@@ -380,7 +367,7 @@ module _ (l : LimitsType) (g : History) (lg : Lawful g) where
         let n : State = step l r c s in
         let rest : List Operation = operations_of_calls l r cs n in
         let k = step_all c s p.0 h f b nf.0 (none_yet cs n nf.1) (λ o e. w o (some_in (operation_of_call l r c s) rest o e)) in
-        let i = run_all cs n p.1 (step_holds l r c s ir p.0 h) k.0 (base_stays n k.0 (k.1 (base t) (inl b))) nf.1 (λ o m. w o (rest_in (operation_of_call l r c s) rest o m)) in
+        let i = run_all cs n p.1 (step_holds l r c s ir p.0 h) k.0 (base_stays n k.0 (k.1 (base t) (inl b))) nf.1 (λ o m. w o (member_right o (option_to_list (operation_of_call l r c s)) rest m)) in
         (i.0, (λ o j. i.1 o (k.1 o j)), (λ o m. elim (from_in (operation_of_call l r c s) rest o m) [ inl e ↦ i.1 o (k.2 o e) | inr x ↦ i.2 o x ]))
 
     -- ---- where the limits hold the set, nothing is refused
@@ -391,9 +378,6 @@ module _ (l : LimitsType) (g : History) (lg : Lawful g) where
       pass_none h [] p q = refl
       pass_none h (op ∷ w) p q = ap (λ (s : State). s.refused) (pass_is l h op w) ∙ go (turn l h op) refl (λ k a. pass_none k w a q.1)
         where
-          none_waits : (z : Operation) → In [] z → In g z
-          none_waits z j = absurd j
-
           go : (x : Turn) → turn l h op ≡ x → ((k : History) → Part k → (pass l k w).refused ≡ []) → (after x l h op w).refused ≡ []
           go Append e f = f (h ++ op ∷ []) (own_more h op p q.0 (append_good l h op e))
           go Drop e f = f h p
@@ -470,7 +454,7 @@ module _ (l : LimitsType) (g : History) (lg : Lawful g) where
           let z : n.refused ≡ [] = step_none c s p.0 h f e own in
           let na = takes_none c s f own in
           let k = step_all c s p.0 h f b na (none_empty n.refused z) own in
-          (na, runs_none cs n p.1 (step_holds l r c s ir p.0 h) k.0 (base_stays n k.0 (k.1 (base t) (inl b))) z (λ o m. w o (rest_in (operation_of_call l r c s) rest o m)))
+          (na, runs_none cs n p.1 (step_holds l r c s ir p.0 h) k.0 (base_stays n k.0 (k.1 (base t) (inl b))) z (λ o m. w o (member_right o (option_to_list (operation_of_call l r c s)) rest m)))
 
 module _ (l : LimitsType) (r : ℕ) (t : List ℕ) (cs : List Step) (g : History) (ir : IsReplica r) (u : IsUtf8 t) (p : AllByRecursion IsProperStep cs) (lg : Lawful g) (b : In g (base t))
     (inside : (o : Operation) → Member o (operations_of_calls l r cs (new_state t)) → In g o) where

@@ -20,8 +20,9 @@ use Rattle.op_model.proofs.answers.Good.{lawful_ready, stamp_parts}
 use Rattle.op_model.proofs.histories.MoreLawful.{lawful_more}
 use Rattle.op_model.proofs.histories.VersionLaws.{shaped_good}
 use Rattle.op_model.proofs.histories.Append.{bytes_held-append, entries_held-append}
-use Rattle.op_model.proofs.texts.WholeTexts.{in_more, in_last}
+use Rattle.op_model.proofs.texts.WholeTexts.{in_last}
 use Rattle.op_model.proofs.settling.HonestRuns.{Roomy, room_enough, applied_whole}
+use Rattle.op_model.proofs.Elements.{member_left}
 
 -- ---- the list by stamps has the same operations
 
@@ -29,7 +30,7 @@ turned : (h : History) (o : Operation) → (In (reverse h) o → In h o) × (In 
 turned [] o = ((λ i. i), (λ i. i))
 turned (p ∷ h) o = let k = turned h o in let e : reverse (p ∷ h) ≡ reverse h ++ p ∷ [] = reverse_onto h p [] in (
   (λ i. elim (in_append (reverse h) p o (subst (λ (z : History). In z o) e i)) [ inl a ↦ inr (k.0 a) | inr q ↦ inl q ]),
-  (λ i. subst (λ (z : History). In z o) (sym e) (elim i [ inl q ↦ subst (In (reverse h ++ p ∷ [])) (sym q) (in_last (reverse h) p) | inr a ↦ in_more (reverse h) p o (k.1 a) ])),
+  (λ i. subst (λ (z : History). In z o) (sym e) (elim i [ inl q ↦ subst (In (reverse h ++ p ∷ [])) (sym q) (in_last (reverse h) p) | inr a ↦ member_left o (reverse h) (p ∷ []) (k.1 a) ])),
 )
 
 pub oldest_same : (ops : History) → SameSet (oldest_first ops) ops
@@ -61,18 +62,18 @@ module _ (size : Operation → ℕ) where
       ]) in omega arith
 
 -- the entries that an operation adds to those held
-abbrev pub counted : Operation → ℕ
-counted op = cond (eqb (stamp_of op).replica 0) 0 (entries_of op)
+abbrev pub added_entries : Operation → ℕ
+added_entries op = cond (eqb (stamp_of op).replica 0) 0 (entries_of op)
 
 bytes_total : (h : History) → bytes_held h ≡ total bytes_of h
 bytes_total [] = refl
 bytes_total (op ∷ h) = ap (λ n. bytes_of op + n) (bytes_total h)
 
-entries_total : (h : History) → entries_held h ≡ total counted h
+entries_total : (h : History) → entries_held h ≡ total added_entries h
 entries_total [] = refl
 entries_total (op ∷ h) = go (eqb (stamp_of op).replica 0) (entries_total h)
   where
-    go : (b : Bool) → entries_held h ≡ total counted h → cond b (entries_held h) (entries_of op + entries_held h) ≡ cond b 0 (entries_of op) + total counted h
+    go : (b : Bool) → entries_held h ≡ total added_entries h → cond b (entries_held h) (entries_of op + entries_held h) ≡ cond b 0 (entries_of op) + total added_entries h
     go true e = omega (arith, e)
     go false e = ap (λ n. entries_of op + n) e
 
@@ -84,7 +85,7 @@ holds_more l h op b e = rw (le-ltb l.bytes (bytes_held h + bytes_of op) b, le-lt
 pub roomy : (l : LimitsType) (ops g : History) (lg : Lawful g) → ((o : Operation) → In g o → In ops o) → bytes_held ops ≤ l.bytes → entries_held ops ≤ l.entries → Roomy l g lg
 roomy l ops g lg f b e h op p i a = holds_more l h op
     (let s = part_total bytes_of n ops d inside in let m = bytes_held-append h op in let x = bytes_total n in let y = bytes_total ops in omega arith)
-    (let s = part_total counted n ops d inside in let m = entries_held-append h op in let x = entries_total n in let y = entries_total ops in let z = own in omega arith)
+    (let s = part_total added_entries n ops d inside in let m = entries_held-append h op in let x = entries_total n in let y = entries_total ops in let z = own in omega arith)
   where
     n : History
     n = h ++ op ∷ []
@@ -95,7 +96,7 @@ roomy l ops g lg f b e h op p i a = holds_more l h op
     inside : (o : Operation) → In n o → In ops o
     inside o j = f o (elim (in_append h op o j) [ inl k ↦ p.1 o k | inr q ↦ subst (In g) (sym q) i ])
 
-    own : counted op ≡ entries_of op
+    own : added_entries op ≡ entries_of op
     own = rw ((stamp_parts op (shaped_good h op a)).2) refl
 
 module _ (l : LimitsType) (r : ℕ) (t : List ℕ) (cs : List Step) (ops : List Operation) (ir : IsReplica r) (u : IsUtf8 t) (p : AllByRecursion IsProperStep cs) (ho : Honest ops) (b : In ops (base t))

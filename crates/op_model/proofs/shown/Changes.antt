@@ -7,7 +7,7 @@ use Rattle.op_model.specs.Operations.{stamp_of, version_of, pieces_of, is_edit}
 use Rattle.op_model.specs.Histories.{History, newest_first, by_stamp, seen_history}
 use Rattle.op_model.specs.Cells.{Cell, PathCell, everything, seq}
 use Rattle.op_model.specs.Shown.{count, undone, all_undone, in_ranges, shown_where, shown, deleters_where, deleters, deletes}
-use Rattle.op_model.specs.Facts.{Fact, cell_facts, with_deletion, seen_by}
+use Rattle.op_model.specs.Facts.{Fact, cell_facts, with_deletion, visible_by}
 use Rattle.op_model.specs.Answers.{answer}
 use Rattle.op_model.specs.Answers.Answer.{Good}
 use Rattle.op_model.proofs.order.SameSets.{newest_desc, seq_seen}
@@ -64,7 +64,7 @@ module _ (h : History) (op : Operation) (r : Ready h) (k : Counted h) (g : answe
   all_now [] = refl
   all_now (t ∷ d) = rw (undone_now t, all_now d) refl
 
-  pub undo_shown : is_edit op ≡ false → (c : Cell) → shown (h ++ op ∷ []) c ≡ seen_by (h ++ op ∷ []) c.stamp (deleters h c)
+  pub undo_shown : is_edit op ≡ false → (c : Cell) → shown (h ++ op ∷ []) c ≡ visible_by (h ++ op ∷ []) c.stamp (deleters h c)
   undo_shown e c = shown_more h op c fits
       ∙ rw (hits_none op (newest_first h) c (no_pieces op e), undone_now c.stamp, all_now (deleters_where everything (newest_first h) c)) refl
 
@@ -72,5 +72,5 @@ module _ (h : History) (op : Operation) (r : Ready h) (k : Counted h) (g : answe
   pub told_anew : is_edit op ≡ false → cell_facts (h ++ op ∷ []) ≡ map (fact_anew (h ++ op ∷ [])) (cell_facts h)
   told_anew e = undo_told h op r g e ∙ ap (λ (f : Fact → Fact). map f (cell_facts h)) (λ i q. record { cell = q.cell; visible = now q i; deletions = q.deletions })
     where
-      now : (q : Fact) → seen_by (by_stamp op (newest_first h)) q.cell.stamp q.deletions ≡ seen_by (h ++ op ∷ []) q.cell.stamp q.deletions
+      now : (q : Fact) → visible_by (by_stamp op (newest_first h)) q.cell.stamp q.deletions ≡ visible_by (h ++ op ∷ []) q.cell.stamp q.deletions
       now q = rw (undone_now q.cell.stamp, all_now q.deletions) refl

@@ -19,10 +19,6 @@ abbrev pub hits : (Lamport → Bool) → Operation → History → Cell → Bool
 hits keep op h c = in_ranges (seq_where (both keep (version_of op)) h) 0 (pieces_of op) c
     && shown_by (kept_history (both keep (version_of op)) h) (deleters_where (both keep (version_of op)) h c) c
 
-and_assoc : (a b c : Bool) → ((a && b) && c) ≡ (a && (b && c))
-and_assoc true b c = refl
-and_assoc false b c = refl
-
 pub deleters_kept : (keep : Lamport → Bool) (op : Operation) (h : History) (c : Cell) → keep (stamp_of op) ≡ true
     → deleters_where keep (op ∷ h) c ≡ cond (hits keep op h c) (stamp_of op ∷ deleters_where keep h c) (deleters_where keep h c)
 unfolding deleters_where
@@ -36,7 +32,7 @@ deleters_unkept keep op h c k = rw k
 kept_unkept : (keep : Lamport → Bool) (op : Operation) (h : History) → keep (stamp_of op) ≡ false → kept_history keep (by_stamp op h) ≡ kept_history keep h
 kept_unkept keep op h k = filter_insert_none newer newer_trans newer_total (λ (p : Operation). keep (stamp_of p)) op h k
 
--- whether o deletes c does not hang on an operation that o does not see
+-- whether o deletes c does not depend on an operation that o does not see
 pub hits_same : (keep : Lamport → Bool) (o op : Operation) (h : History) (c : Cell) → both keep (version_of o) (stamp_of op) ≡ false
     → deleters_where (both keep (version_of o)) (by_stamp op h) c ≡ deleters_where (both keep (version_of o)) h c
     → hits keep o (by_stamp op h) c ≡ hits keep o h c
@@ -68,7 +64,7 @@ deleters_anywhere keep op (o ∷ h) c e = elim (cases_Bool (newer o op)) [
     )
     under (inr k) f g = rw (deleters_unkept keep o (by_stamp op h) c k, deleters_unkept keep o h c k, f)
 
--- whether op deletes c does not hang on an operation that op does not see
+-- whether op deletes c does not depend on an operation that op does not see
 pub hits_tail : (keep : Lamport → Bool) (op o : Operation) (h : History) (c : Cell) → both keep (version_of op) (stamp_of o) ≡ false
     → hits keep op (o ∷ h) c ≡ hits keep op h c
 hits_tail keep op o h c w =
@@ -77,26 +73,22 @@ hits_tail keep op o h c w =
     ∙ ap (λ (x : History). in_ranges (seq_where f h) 0 (pieces_of op) c && shown_by x (deleters_where f (o ∷ h) c) c) (ap (λ (b : Bool). cond b (o ∷ kept_history f h) (kept_history f h)) w)
     ∙ ap (λ (x : List Lamport). in_ranges (seq_where f h) 0 (pieces_of op) c && shown_by (kept_history f h) x c) (deleters_unkept f o h c w)
 
+deleter_more : (u : History) (t : Lamport) (b : Bool) (d : List Lamport) → all_undone u (cond b (t ∷ d) d) ≡ (cond b (undone u t) true && all_undone u d)
+deleter_more u t true d = refl
+deleter_more u t false d = refl
+
 -- all deleters are undone, op among them where it deletes c
 pub late_deleters : (keep : Lamport → Bool) (op : Operation) (h u : History) (c : Cell) → Apart op h → keep (stamp_of op) ≡ true
     → all_undone u (deleters_where keep (by_stamp op h) c) ≡ (cond (hits keep op h c) (undone u (stamp_of op)) true && all_undone u (deleters_where keep h c))
-late_deleters keep op [] u c a e = ap (all_undone u) (deleters_kept keep op [] c e) ∙ spread (hits keep op [] c) (undone u (stamp_of op)) (deleters_where keep [] c)
-  where
-    spread : (b x : Bool) (d : List Lamport) → all_undone u (cond b (stamp_of op ∷ d) d) ≡ (cond b (undone u (stamp_of op)) true && all_undone u d)
-    spread true x d = refl
-    spread false x d = refl
+late_deleters keep op [] u c a e = ap (all_undone u) (deleters_kept keep op [] c e) ∙ deleter_more u (stamp_of op) (hits keep op [] c) (deleters_where keep [] c)
 late_deleters keep op (o ∷ h) u c a e = elim (cases_Bool (newer o op)) [
   | inl n ↦ rw (insert_past newer op o h n) (under (cases_Bool (keep (stamp_of o))) (late_deleters keep op h u c a.1 e)
       (hits_same keep o op h c (and_right (keep (stamp_of op)) (sees (version_of o) (stamp_of op)) (a.0 n).0)
       (deleters_anywhere (both keep (version_of o)) op h c (and_right (keep (stamp_of op)) (sees (version_of o) (stamp_of op)) (a.0 n).0)))
       (hits_tail keep op o h c (and_right (keep (stamp_of o)) (sees (version_of op) (stamp_of o)) (a.0 n).1)))
-  | inr n ↦ rw (insert_here newer op o h n) (ap (all_undone u) (deleters_kept keep op (o ∷ h) c e) ∙ spread (hits keep op (o ∷ h) c) (deleters_where keep (o ∷ h) c))
+  | inr n ↦ rw (insert_here newer op o h n) (ap (all_undone u) (deleters_kept keep op (o ∷ h) c e) ∙ deleter_more u (stamp_of op) (hits keep op (o ∷ h) c) (deleters_where keep (o ∷ h) c))
 ]
   where
-    spread : (b : Bool) (d : List Lamport) → all_undone u (cond b (stamp_of op ∷ d) d) ≡ (cond b (undone u (stamp_of op)) true && all_undone u d)
-    spread true d = refl
-    spread false d = refl
-
     mix : (b : Bool) (x y : Bool) (d d' : List Lamport) → all_undone u d ≡ (y && all_undone u d')
         → all_undone u (cond b (stamp_of o ∷ d) d) ≡ (y && all_undone u (cond b (stamp_of o ∷ d') d'))
     mix true x y d d' i = ap (λ z. undone u (stamp_of o) && z) i ∙ and_swap (undone u (stamp_of o)) y (all_undone u d')
@@ -111,7 +103,7 @@ late_deleters keep op (o ∷ h) u c a e = elim (cases_Bool (newer o op)) [
         (mix (hits keep o h c) true (cond (hits keep op h c) (undone u (stamp_of op)) true) (deleters_where keep (by_stamp op h) c) (deleters_where keep h c) ih)
     under (inr k) ih g t = rw (deleters_unkept keep o (by_stamp op h) c k, deleters_unkept keep o h c k, t) ih
 
--- counts do not hang on the order
+-- counts do not depend on the order
 pub count_by_stamp : (op : Operation) (h : History) (t : Lamport) → count (by_stamp op h) t ≡ max (greatest_given (counts_of op) t) (count h t)
 count_by_stamp op [] t = refl
 count_by_stamp op (o ∷ h) t = elim (cases_Bool (newer o op)) [

@@ -75,7 +75,7 @@ walk_told h op rs r c e i l s =
     (not_self h op f) (later_irrefl (stamp_of op)) (λ u. passed_unseen (version_of op) (stamp_of op) u f.above) 0 0 (pieces_of op) rs l o (λ j x. refl))
     ∙ ap (λ (z : List Fact). lay_facts v (stamp_of op) 0 0 (pieces_of op) (marks m v (in_pieces (pieces_of op)) 0 z)) s ∙ sym t
 
--- counts do not hang on the order
+-- counts do not depend on the order
 count_onto : (d h : History) (t : Lamport) → count (sort_onto d h) t ≡ max (count d t) (count h t)
 count_onto d [] t = omega arith
 count_onto d (o ∷ h) t = let a = count_onto (by_stamp o d) h t in let b = count_by_stamp o d t in omega arith

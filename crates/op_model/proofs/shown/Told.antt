@@ -1,5 +1,6 @@
 -- What is told of the cells of a history with one edit more.
 use Rattle.op_model.proofs.order.PathOrder.{same_cell_refl as same_self}
+use Rattle.std.proofs.Math.Bool.{or-false}
 use Rattle.op_model.proofs.Elements.{each_map, each_both}
 use Rattle.std.proofs.Common.{◌≡◌, ℕ, zero, suc, ◌+◌, ◌-◌, ◌⊎◌, Bool, List, [], ◌∷◌, ◌++◌, length, map, refl, sym, ◌∙◌, ap, inl, inr, true, false, cond, ◌||◌, arith}
 use Rattle.std.specs.List.{AllByRecursion}
@@ -75,11 +76,7 @@ module _ (m : Marking) (keep : Lamport → Bool) (ps : List Piece)
   tell_marks (q ∷ s) i u e = go (cases_Bool (keep q.cell.stamp)) (λ j f. tell_marks s j u.1 f)
     where
       here : keep q.cell.stamp ≡ true → in_ranges (only keep (q ∷ s)) i ps q.cell ≡ in_pieces ps i
-      here k = rw (k, same_self q.cell, absent q.cell s (suc i) u.0) (no_or (in_pieces ps i))
-        where
-          no_or : (b : Bool) → (b || false) ≡ b
-          no_or true = refl
-          no_or false = refl
+      here k = rw (k, same_self q.cell, absent q.cell s (suc i) u.0) (or-false (in_pieces ps i))
 
       below : keep q.cell.stamp ≡ true → (x : PathCell) → same_cell q.cell x.cell ≡ false → Anew (q ∷ s) i x → Anew s (suc i) x
       below k x n a = let g : in_ranges (only keep (q ∷ s)) i ps x.cell ≡ in_ranges (only keep s) (suc i) ps x.cell = rw (k, n) refl in

@@ -1,35 +1,30 @@
 -- An undo sets visibilities anew.
-use Rattle.std.proofs.Common.{◌≡◌, ℕ, suc, ◌%◌, max, Bool, List, [], ◌∷◌, ◌++◌, map, refl, ◌∙◌, ap, true, false, ◌&&◌, ◌||◌, eqb, arith}
-use Rattle.std.specs.List.{AllByRecursion}
-use Rattle.lamport_clock.specs.declared.stamp.Lamport.{Lamport}
+use Rattle.std.proofs.Common.{◌≡◌, ℕ, suc, ◌%◌, List, [], ◌∷◌, ◌++◌, map, refl, ◌∙◌, ap, false, ◌&&◌, ◌||◌, arith}
 use Rattle.op_model.specs.declared.operation.Operation.{Operation}
 use Rattle.op_model.specs.Histories.{History, newest_first, by_stamp}
 use Rattle.op_model.specs.declared.operation.Piece.{Piece}
-use Rattle.op_model.specs.Operations.{stamp_of, version_of, pieces_of, counts_of, is_edit}
+use Rattle.op_model.specs.Operations.{stamp_of, version_of, pieces_of, is_edit}
 use Rattle.lamport_clock.specs.Versions.{sees}
 use Rattle.op_model.specs.Cells.{Cell, same_cell, PathCell, seq, seq_where, both, everything, cells}
 use Rattle.op_model.specs.Laid.{lay}
-use Rattle.op_model.specs.Shown.{greatest_given, count, undone, all_undone, in_ranges}
+use Rattle.op_model.specs.Shown.{in_ranges}
 use Rattle.op_model.specs.declared.operation.Operation.TheVariants.{Edit, Undo}
 use Rattle.op_model.specs.Answers.{answer}
 use Rattle.op_model.specs.Answers.Answer.{Good}
-use Rattle.op_model.specs.Facts.{Fact, fact, cell_facts, seen_by}
+use Rattle.op_model.specs.Facts.{Fact, fact, cell_facts, visible_by}
 use Rattle.op_model.proofs.order.SameSets.{Desc, newest_desc}
 use Rattle.op_model.proofs.histories.OneMore.{Fits, newest_append}
-use Rattle.op_model.proofs.shown.Deleters.{hits, count_by_stamp, shown_more}
+use Rattle.op_model.proofs.shown.Deleters.{hits, shown_more}
 use Rattle.op_model.proofs.shown.Deletions.{late_deletions}
 use Rattle.op_model.proofs.answers.Good.{Ready, good_more, checked_of, fits_of}
+use Rattle.op_model.proofs.Elements.{neither}
 
 abbrev pub fact_anew : History → Fact → Fact
-fact_anew e q = record { cell = q.cell; visible = seen_by e q.cell.stamp q.deletions; deletions = q.deletions }
+fact_anew e q = record { cell = q.cell; visible = visible_by e q.cell.stamp q.deletions; deletions = q.deletions }
 
 no_ranges : (s : List PathCell) (i : ℕ) (c : Cell) → in_ranges s i [] c ≡ false
 no_ranges [] i c = refl
-no_ranges (p ∷ s) i c = rw (no_ranges s (suc i) c) (pick (same_cell p.cell c))
-  where
-    pick : (b : Bool) → ((b && false) || false) ≡ false
-    pick true = refl
-    pick false = refl
+no_ranges (p ∷ s) i c = rw (no_ranges s (suc i) c) (neither (same_cell p.cell c) false)
 
 pub no_pieces : (op : Operation) → is_edit op ≡ false → pieces_of op ≡ []
 no_pieces (Edit x) e = cc
@@ -61,18 +56,3 @@ undo_told h op r g i =
     each_now : Fits h op → Desc (newest_first h) → (s : List PathCell) → map (fact (h ++ op ∷ [])) (cells s) ≡ map (fact_anew (by_stamp op (newest_first h))) (map (fact h) (cells s))
     each_now f d [] = refl
     each_now f d (p ∷ s) = rw (now f d p.cell) (ap (λ (z : List Fact). fact_anew (by_stamp op (newest_first h)) (fact h p.cell) ∷ z) (each_now f d s))
-
--- a cell whose stamp and deletions are not counted stays shown or hidden
-pub uncounted_same : (op : Operation) (h : History) (u : Lamport) (d : List Lamport) → greatest_given (counts_of op) u ≡ 0 → AllByRecursion (λ (x : Lamport). greatest_given (counts_of op) x ≡ 0) d
-    → seen_by (by_stamp op h) u d ≡ seen_by h u d
-uncounted_same op h u d a b = rw (one u a, all d b) refl
-  where
-    one : (x : Lamport) → greatest_given (counts_of op) x ≡ 0 → undone (by_stamp op h) x ≡ undone h x
-    one x e = ap (λ (n : ℕ). eqb (n % 2) 1) (count_by_stamp op h x ∙ rw e (max_zero (count h x)))
-      where
-        max_zero : (n : ℕ) → max 0 n ≡ n
-        max_zero n = omega arith
-
-    all : (l : List Lamport) → AllByRecursion (λ (x : Lamport). greatest_given (counts_of op) x ≡ 0) l → all_undone (by_stamp op h) l ≡ all_undone h l
-    all [] e = refl
-    all (x ∷ l) e = rw (one x e.0, all l e.1) refl

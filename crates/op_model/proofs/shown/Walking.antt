@@ -1,5 +1,5 @@
 -- One walk over runs lays in all pieces of an edit and marks all its ranges.
-use Rattle.op_model.proofs.Elements.{each_append}
+use Rattle.op_model.proofs.Elements.{each_append, or_no}
 use Rattle.std.proofs.Common.{◌≡◌, ℕ, zero, suc, ◌+◌, ◌-◌, ◌<◌, ◌≤◌, ◌⊎◌, Bool, List, [], ◌∷◌, ◌++◌, length, refl, sym, ◌∙◌, ap, subst, inl, inr, true, false, cond, ◌&&◌, ◌||◌, ltb, leb, arith, append_assoc}
 use Rattle.std.proofs.lemmas.List.{append-nil}
 use Rattle.std.specs.List.{AllByRecursion}
@@ -11,9 +11,6 @@ use Rattle.op_model.specs.Shown.{in_pieces}
 use Rattle.op_model.specs.Facts.{Fact, alike, Marking, lay_facts, mark, marks}
 use Rattle.op_model.specs.Walked.{Run, facts_of, kept_len, Ordered, back, Walked, advance, skip_later, new_runs, walk}
 use Rattle.op_model.proofs.shown.Facts.{From, from_after, from_down, Stops, run_kept, run_unkept, run_later, step_piece, marks_none}
-
-pub or_no : (c b : Bool) → c ≡ false → (c || b) ≡ b
-or_no c b e = rw e refl
 
 before_piece : (i a z : ℕ) → i < a → (leb a i && ltb i z) ≡ false
 before_piece i a z h = rw (lt-leb a i h) refl

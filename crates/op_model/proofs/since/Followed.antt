@@ -12,7 +12,7 @@ use Rattle.op_model.specs.Shown.{byte, shown, text_where, text}
 use Rattle.op_model.specs.Lawful.{Lawful, IsClosed}
 use Rattle.op_model.specs.Since.{Fate, fate, is_shown_at, lengthen, runs, number_gone, number_new, changes, edits_of, since, text_at, apply_edits}
 use Rattle.op_model.specs.Since.Fate.{Gone, New, Never}
-use Rattle.op_model.proofs.Elements.{same_first, same_rest}
+use Rattle.op_model.proofs.Elements.{same_first, same_rest, both_false}
 use Rattle.op_model.proofs.order.Restricted.{restrict}
 use Rattle.op_model.proofs.shown.Parts.{shown_seen}
 use Rattle.op_model.proofs.shown.Bytes.{text_seen}
@@ -88,10 +88,7 @@ module _ {A : Type 0} (f : A → ℕ) (a b : A → Bool) where
   gone_is (y ∷ r) u = go (cases_Bool (a y)) (cases_Bool (b y)) (gone_is r u.1)
     where
       go : (a y ≡ true) ⊎ (a y ≡ false) → (b y ≡ true) ⊎ (b y ≡ false) → number_gone (fates_of r) ≡ length (filter a r) → number_gone (fates_of (y ∷ r)) ≡ length (filter a (y ∷ r))
-      go (inl p) (inl q) ih = absurd (both p q u.0)
-        where
-          both : a y ≡ true → b y ≡ true → (a y && b y) ≡ false → ⊥
-          both p q n = let z : (true && true) ≡ false = rw (p, q) at n in cc
+      go (inl p) (inl q) ih = absurd (both_false (a y) (b y) p q u.0)
       go (inl p) (inr q) ih = rw (p, q) (ap suc ih)
       go (inr p) (inl q) ih = rw (p, q) ih
       go (inr p) (inr q) ih = rw (p, q) ih
@@ -101,10 +98,7 @@ module _ {A : Type 0} (f : A → ℕ) (a b : A → Bool) where
   new_is (y ∷ r) u = go (cases_Bool (a y)) (cases_Bool (b y)) (new_is r u.1)
     where
       go : (a y ≡ true) ⊎ (a y ≡ false) → (b y ≡ true) ⊎ (b y ≡ false) → number_new (fates_of r) ≡ length (filter b r) → number_new (fates_of (y ∷ r)) ≡ length (filter b (y ∷ r))
-      go (inl p) (inl q) ih = absurd (both p q u.0)
-        where
-          both : a y ≡ true → b y ≡ true → (a y && b y) ≡ false → ⊥
-          both p q n = let z : (true && true) ≡ false = rw (p, q) at n in cc
+      go (inl p) (inl q) ih = absurd (both_false (a y) (b y) p q u.0)
       go (inl p) (inr q) ih = rw (p, q) ih
       go (inr p) (inl q) ih = rw (p, q) (ap suc ih)
       go (inr p) (inr q) ih = rw (p, q) ih
@@ -116,10 +110,7 @@ module _ {A : Type 0} (f : A → ℕ) (a b : A → Bool) where
     where
       go : (a y ≡ true) ⊎ (a y ≡ false) → (b y ≡ true) ⊎ (b y ≡ false) → (changes (fates_of r) ≡ false → (filter a r ≡ []) × (filter b r ≡ []))
           → (filter a (y ∷ r) ≡ []) × (filter b (y ∷ r) ≡ [])
-      go (inl p) (inl q) f = absurd (both p q u.0)
-        where
-          both : a y ≡ true → b y ≡ true → (a y && b y) ≡ false → ⊥
-          both p q n = let z : (true && true) ≡ false = rw (p, q) at n in cc
+      go (inl p) (inl q) f = absurd (both_false (a y) (b y) p q u.0)
       go (inl p) (inr q) f = let z : true ≡ false = rw (p, q) at e in cc
       go (inr p) (inl q) f = let z : true ≡ false = rw (p, q) at e in cc
       go (inr p) (inr q) f = let z : changes (fates_of r) ≡ false = rw (p, q) at e in rw (p, q) (f z)

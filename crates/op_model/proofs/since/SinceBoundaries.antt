@@ -111,12 +111,6 @@ module _ {A : Type 0} (f : A → ℕ) (a b : A → Bool) (whole : List A) where
       next_run : (r : List A) (x : A) (t : List A) (rs : List (List Fate)) → Unkept f a b r → a x ≡ true → b x ≡ true → Bounded rs t → Bounded (fates_of f a b r ∷ rs) (r ++ x ∷ t)
       next_run r x t rs u ax bx ih bh old new lo ln p q = go r refl (cases_Bool (changes (fates_of f a b r)))
         where
-          og : ℕ
-          og = old + number_gone (fates_of f a b r)
-
-          ng : ℕ
-          ng = new + number_new (fates_of f a b r)
-
           m : (old + number_gone (fates_of f a b r) ≤ length old_text) × (drop (old + number_gone (fates_of f a b r)) old_text ≡ was f a b (x ∷ t))
           m = past f a old_text old (number_gone (fates_of f a b r)) r (x ∷ t) lo p (gone_is f a b r u)
 

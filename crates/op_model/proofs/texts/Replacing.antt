@@ -4,7 +4,6 @@ use Rattle.std.proofs.lemmas.List.Elements.{filter-append}
 use Rattle.std.specs.Prelude.{slice_range}
 use Rattle.std.specs.List.{AllByRecursion, filter}
 use Rattle.std.proofs.lemmas.Bool.{cases_Bool, eqb-true, or_left}
-use Rattle.std.proofs.lemmas.Bool.Decides.{nat_tests}
 use Rattle.std.proofs.lemmas.List.{take-append-drop, length-append, map-append as map_append, length-take-le, length-drop}
 use Rattle.lamport_clock.specs.declared.stamp.Lamport.{Lamport}
 use Rattle.lamport_clock.specs.Stamps.{later}
@@ -33,36 +32,24 @@ use Rattle.op_model.proofs.shown.Deletions.{deleters_restrict}
 use Rattle.op_model.proofs.shown.EditTold.{edit_told}
 use Rattle.op_model.proofs.answers.Counted.{Counted, uncounted_new}
 use Rattle.op_model.proofs.order.CellsOnce.{From as CellFrom, all_from}
-use Rattle.op_model.proofs.shown.Walking.{out_of, or_no, inside_piece, past_piece, from_ordered, ordered_le}
+use Rattle.op_model.proofs.shown.Walking.{out_of, inside_piece, past_piece, from_ordered, ordered_le}
 use Rattle.op_model.proofs.texts.FullOffsets.{number, offset_count, offset_next, offset_length}
 use Rattle.op_model.proofs.texts.Utf8Runs.{bytes, drop_more}
 use Rattle.op_model.proofs.texts.WholeTexts.{byte_of, text_told, bytes_told, same_bytes, new_text, byte_is, in_last}
 use Rattle.op_model.proofs.histories.VersionLaws.{sees_own, clock_above, clock_under}
 use Rattle.op_model.proofs.answers.MadeGood.{at, full_end, end_after, end_before, text_number, Sound}
+use Rattle.op_model.proofs.Elements.{each_take, each_drop, or_no, less_than}
 
 -- ---- lists
 
-abbrev pub slice : {A : Type 0} → List A → ℕ → ℕ → List A
-slice s a b = take (b - a) (drop a s)
-
-each_take : {A : Type 0} (P : A → Type 0) (n : ℕ) (s : List A) → AllByRecursion P s → AllByRecursion P (take n s)
-each_take P zero s e = tt
-each_take P (suc n) [] e = tt
-each_take P (suc n) (x ∷ s) e = (e.0, each_take P n s e.1)
-
-each_drop : {A : Type 0} (P : A → Type 0) (n : ℕ) (s : List A) → AllByRecursion P s → AllByRecursion P (drop n s)
-each_drop P zero s e = e
-each_drop P (suc n) [] e = tt
-each_drop P (suc n) (x ∷ s) e = each_drop P n s e.1
-
-slice_split : {A : Type 0} (s : List A) (a b : ℕ) → a ≤ b → drop a s ≡ slice s a b ++ drop b s
-slice_split s a b h = sym (ap (λ x. take (b - a) (drop a s) ++ x) (sym (drop_more s a (b - a) b (omega arith))) ∙ take-append-drop (b - a) (drop a s))
+drop_split : {A : Type 0} (s : List A) (a b : ℕ) → a ≤ b → drop a s ≡ slice_range s a b ++ drop b s
+drop_split s a b h = sym (ap (λ x. take (b - a) (drop a s) ++ x) (sym (drop_more s a (b - a) b (omega arith))) ∙ take-append-drop (b - a) (drop a s))
 
 take_nothing : {A : Type 0} (n : ℕ) → (let e : List A = [] in e) ≡ take n []
 take_nothing zero = refl
 take_nothing (suc n) = refl
 
-take_split : {A : Type 0} (s : List A) (a b : ℕ) → a ≤ b → take b s ≡ take a s ++ slice s a b
+take_split : {A : Type 0} (s : List A) (a b : ℕ) → a ≤ b → take b s ≡ take a s ++ slice_range s a b
 take_split s zero b h = let e : b ≡ b - 0 = omega arith in ap (λ n. take n s) e
 take_split [] (suc a) zero h = absurd (omega arith)
 take_split [] (suc a) (suc b) h = take_nothing (suc b - suc a)
@@ -108,10 +95,10 @@ module _ (b : Cell → ℕ) where
       pick true e = e
       pick false e = e
 
-  shows_slice : (s : List Fact) (x y : ℕ) → x ≤ y → shows (slice s x y) ≡ slice_range (shows s) (count (take x s)) (count (take y s))
+  shows_slice : (s : List Fact) (x y : ℕ) → x ≤ y → shows (slice_range s x y) ≡ slice_range (shows s) (count (take x s)) (count (take y s))
   shows_slice s x y h =
-      let c : count (take y s) ≡ count (take x s) + count (slice s x y) = ap count (take_split s x y h) ∙ count_append (take x s) (slice s x y) in
-      let n : count (slice s x y) ≡ count (take y s) - count (take x s) = omega arith in
+      let c : count (take y s) ≡ count (take x s) + count (slice_range s x y) = ap count (take_split s x y h) ∙ count_append (take x s) (slice_range s x y) in
+      let n : count (slice_range s x y) ≡ count (take y s) - count (take x s) = omega arith in
       shows_take (y - x) (drop x s) ∙ ap (λ (k : ℕ). take k (shows (drop x s))) n ∙ ap (take (count (take y s) - count (take x s))) (shows_drop x s)
 
   shows_new : (t : Lamport) (k n : ℕ) → shows (alike t k n true []) ≡ bytes b (alike t k n true [])
@@ -158,12 +145,12 @@ module _ (keep : Lamport → Bool) (t : Lamport) (m : Marking) (hit : ℕ → Bo
   module _ (s0 : List Fact) (pass : AllByRecursion (λ (q : Fact). keep q.cell.stamp ≡ true) s0) (low : AllByRecursion (λ (q : Fact). later q.cell.stamp t ≡ false) s0) (self : later t t ≡ false) where
     abbrev pub plain : ℕ → ℕ → List Piece → List Fact
     plain from k [] = drop from s0
-    plain from k (p ∷ ps) = slice s0 from p.start ++ (alike t k (length p.text) true [] ++ (map (mark m) (slice s0 p.start p.end) ++ plain p.end (k + length p.text) ps))
+    plain from k (p ∷ ps) = slice_range s0 from p.start ++ (alike t k (length p.text) true [] ++ (map (mark m) (slice_range s0 p.start p.end) ++ plain p.end (k + length p.text) ps))
 
-    slice_length : (x y : ℕ) → x ≤ y → y ≤ length s0 → x + length (slice s0 x y) ≡ y
+    slice_length : (x y : ℕ) → x ≤ y → y ≤ length s0 → x + length (slice_range s0 x y) ≡ y
     slice_length x y h l = let e = length-drop x s0 in let g = length-take-le (y - x) (drop x s0) (omega arith) in omega arith
 
-    slice_pass : (x y : ℕ) → AllByRecursion (λ (q : Fact). keep q.cell.stamp ≡ true) (slice s0 x y)
+    slice_pass : (x y : ℕ) → AllByRecursion (λ (q : Fact). keep q.cell.stamp ≡ true) (slice_range s0 x y)
     slice_pass x y = each_take (λ (q : Fact). keep q.cell.stamp ≡ true) (y - x) (drop x s0) (each_drop (λ (q : Fact). keep q.cell.stamp ≡ true) x s0 pass)
 
     pub lays_plain : (from k : ℕ) (ps : List Piece) → Ordered from (length s0) ps → ((i : ℕ) → from ≤ i → hit i ≡ in_pieces ps i)
@@ -175,16 +162,16 @@ module _ (keep : Lamport → Bool) (t : Lamport) (m : Marking) (hit : ℕ → Bo
         let e = ordered_le p.end (length s0) ps o.2 in
         let f : From p.end ps = from_ordered p.end (length s0) ps o.2 in
         let g : From p.start (p ∷ ps) = (omega arith, from_down p.start p.end ps o1 f) in
-        let s1 = over false (slice s0 from p.start) (drop p.start s0) from k p.start (p ∷ ps) (slice_length from p.start o0 (omega arith)) (slice_pass from p.start) g
+        let s1 = over false (slice_range s0 from p.start) (drop p.start s0) from k p.start (p ∷ ps) (slice_length from p.start o0 (omega arith)) (slice_pass from p.start) g
         (λ i x y. h i x ∙ out_of i p.start (p ∷ ps) y g) in
         let s2 = step_piece keep t p.start k p ps (marks m keep hit p.start (drop p.start s0)) refl self (stops p.start (drop p.start s0) (each_drop (λ (q : Fact). later q.cell.stamp t ≡ false) p.start s0 low)) in
-        let s3 = over true (slice s0 p.start p.end) (drop p.end s0) p.start (k + length p.text) p.end ps (slice_length p.start p.end o1 e) (slice_pass p.start p.end) f
+        let s3 = over true (slice_range s0 p.start p.end) (drop p.end s0) p.start (k + length p.text) p.end ps (slice_length p.start p.end o1 e) (slice_pass p.start p.end) f
         (λ i x y. h i (omega arith) ∙ or_left (leb p.start i && ltb i p.end) (in_pieces ps i) (inside_piece i p.start p.end x y)) in
         let s4 = lays_plain p.end (k + length p.text) ps o.2 (λ i x. h i (omega arith) ∙ or_no (leb p.start i && ltb i p.end) (in_pieces ps i) (past_piece i p.start p.end x)) in
-        ap (λ (z : List Fact). lay_facts keep t from k (p ∷ ps) (marks m keep hit from z)) (slice_split s0 from p.start o0)
-        ∙ s1 ∙ ap (λ (z : List Fact). z ++ lay_facts keep t p.start k (p ∷ ps) (marks m keep hit p.start (drop p.start s0))) (touch_none (slice s0 from p.start))
-        ∙ ap (λ (z : List Fact). slice s0 from p.start ++ z) (s2 ∙ ap (λ (z : List Fact). alike t k (length p.text) true [] ++ z)
-        (ap (λ (z : List Fact). lay_facts keep t p.start (k + length p.text) ps (marks m keep hit p.start z)) (slice_split s0 p.start p.end o1) ∙ s3 ∙ ap (λ (z : List Fact). map (mark m) (slice s0 p.start p.end) ++ z) s4))
+        ap (λ (z : List Fact). lay_facts keep t from k (p ∷ ps) (marks m keep hit from z)) (drop_split s0 from p.start o0)
+        ∙ s1 ∙ ap (λ (z : List Fact). z ++ lay_facts keep t p.start k (p ∷ ps) (marks m keep hit p.start (drop p.start s0))) (touch_none (slice_range s0 from p.start))
+        ∙ ap (λ (z : List Fact). slice_range s0 from p.start ++ z) (s2 ∙ ap (λ (z : List Fact). alike t k (length p.text) true [] ++ z)
+        (ap (λ (z : List Fact). lay_facts keep t p.start (k + length p.text) ps (marks m keep hit p.start z)) (drop_split s0 p.start p.end o1) ∙ s3 ∙ ap (λ (z : List Fact). map (mark m) (slice_range s0 p.start p.end) ++ z) s4))
 
 -- ---- the text after a local edit
 
@@ -210,12 +197,9 @@ module _ (h : History) where
   end_count : (b : Cell → ℕ) (s e : ℕ) → s ≤ e → e ≤ length (text h) → count b (take (full_end h s e) (cell_facts h)) ≡ e
   end_count b s e l g = elim (cases_Bool (eqb s e)) [
     | inl q ↦ rw q (start_count b s (omega arith) ∙ eqb-true s e q)
-    | inr q ↦ (let a : s < e = apart q in let n = text_number h in
+    | inr q ↦ (let a : s < e = less_than s e l q in let n = text_number h in
         let k : suc (e - 1) ≡ e = omega arith in rw q (count_cells h (suc (at h (e - 1))) (cells (seq h)) ∙ offset_next (shown h) (cells (seq h)) (e - 1) (omega arith) ∙ k))
   ]
-    where
-      apart : eqb s e ≡ false → s < e
-      apart q = grind (arith, nat_tests)
 
   -- the new texts are those of the pieces
   pub NewTexts : (Cell → ℕ) → Lamport → ℕ → List Piece → Type 0
@@ -232,7 +216,7 @@ module _ (h : History) where
         new_texts b t whole g (pre ++ p.text) ps (k + length p.text) (e ∙ sym (append_assoc pre p.text (texts ps))) (omega arith),
       )
 
-  texts_full : (ps : List Piece) → texts (map (full_piece h) ps) ≡ texts ps
+  pub texts_full : (ps : List Piece) → texts (map (full_piece h) ps) ≡ texts ps
   texts_full [] = refl
   texts_full (p ∷ ps) = ap (λ (z : List ℕ). p.text ++ z) (texts_full ps)
 
@@ -253,13 +237,13 @@ module _ (h : History) where
         let cx : count b (take x s0) ≡ p.start = start_count b p.start (omega arith) in
         let cy : count b (take y s0) ≡ p.end = end_count b p.start p.end o1 le in
         let rest : List Fact = plain keep t m hit s0 pass low self y (k + length p.text) (map (full_piece h) ps) in
-        let gone : List Fact = map (mark m) (slice s0 x y) in
+        let gone : List Fact = map (mark m) (slice_range s0 x y) in
         let ih : shows b rest ≡ replaced_from p.end ps (shows b s0) = plain_shows y p.end (k + length p.text) ps cy o.2 n.1 (λ q l. end_before h p.start p.end q o1 le l) in
-        let a1 : shows b (slice s0 from x) ≡ slice_range (shows b s0) so p.start = shows_slice b s0 from x (f p.start o0) ∙ two (shows b s0) (count b (take from s0)) so (count b (take x s0)) p.start c cx in
+        let a1 : shows b (slice_range s0 from x) ≡ slice_range (shows b s0) so p.start = shows_slice b s0 from x (f p.start o0) ∙ two (shows b s0) (count b (take from s0)) so (count b (take x s0)) p.start c cx in
         let a2 : shows b (alike t k (length p.text) true []) ≡ p.text = shows_new b t k (length p.text) ∙ n.0 in
-        let a3 : shows b gone ≡ [] = shows_marked b m (slice s0 x y)
+        let a3 : shows b gone ≡ [] = shows_marked b m (slice_range s0 x y)
         (each_take (λ (q : Fact). m.visible q.cell.stamp q.visible q.deletions ≡ false) (y - x) (drop x s0) (each_drop (λ (q : Fact). m.visible q.cell.stamp q.visible q.deletions ≡ false) x s0 hides)) in
-        shows_append b (slice s0 from x) (alike t k (length p.text) true [] ++ (gone ++ rest))
+        shows_append b (slice_range s0 from x) (alike t k (length p.text) true [] ++ (gone ++ rest))
         ∙ ap (λ (z : List ℕ). z ++ shows b (alike t k (length p.text) true [] ++ (gone ++ rest))) a1
         ∙ ap (λ (z : List ℕ). slice_range (shows b s0) so p.start ++ z) (shows_append b (alike t k (length p.text) true []) (gone ++ rest)
         ∙ ap (λ (z : List ℕ). z ++ shows b (gone ++ rest)) a2

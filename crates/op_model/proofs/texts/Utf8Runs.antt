@@ -5,7 +5,7 @@ use Rattle.std.proofs.lemmas.List.Elements.{filter-append}
 use Rattle.std.specs.Prelude.{IsUtf8, IsCharBoundary}
 use Rattle.std.specs.List.{AllByRecursion, filter}
 use Rattle.std.proofs.lemmas.Bool.{cases_Bool, leb-true, leb-false}
-use Rattle.std.proofs.lemmas.List.{length-append, map-append, length-drop}
+use Rattle.std.proofs.lemmas.List.{length-append, map-append, length-drop, get_or_append_left}
 use Rattle.std.proofs.lemmas.Str.{IsUtf8-append, IsUtf8-nil, IsUtf8-take, IsUtf8-drop}
 use Rattle.lamport_clock.specs.declared.stamp.Lamport.{Lamport}
 use Rattle.lamport_clock.specs.Stamps.{later}
@@ -31,11 +31,6 @@ pub drop_past : {A : Type 0} (xs ys : List A) (n : ℕ) → length xs ≤ n → 
 drop_past [] ys n h = let e : n ≡ n - 0 = omega arith in ap (λ (k : ℕ). drop k ys) e
 drop_past (x ∷ xs) ys zero h = absurd (omega arith)
 drop_past (x ∷ xs) ys (suc n) h = let e : n - length xs ≡ suc n - suc (length xs) = omega arith in drop_past xs ys n (omega arith) ∙ ap (λ (k : ℕ). drop k ys) e
-
-pub get_left : (xs ys : List ℕ) (n : ℕ) → n < length xs → get_or (xs ++ ys) n 0 ≡ get_or xs n 0
-get_left [] ys n h = absurd (omega arith)
-get_left (x ∷ xs) ys zero h = refl
-get_left (x ∷ xs) ys (suc n) h = get_left xs ys n (omega arith)
 
 pub get_right : (xs ys : List ℕ) (n m : ℕ) → n ≡ length xs + m → get_or (xs ++ ys) n 0 ≡ get_or ys m 0
 get_right [] ys n m e = let i : n ≡ m = omega arith in ap (λ (k : ℕ). get_or ys k 0) i
@@ -63,10 +58,10 @@ drop_more (x ∷ xs) (suc a) b (suc n) e = drop_more xs a b n (omega arith)
 -- ---- boundaries
 
 pub boundary_left : (xs ys : List ℕ) (n : ℕ) → IsCharBoundary (xs ++ ys) n → n < length xs → IsCharBoundary xs n
-boundary_left xs ys n b h = (omega arith, λ l g. let e = get_left xs ys n h in rw (← e) (b.1 (let k = length-append xs ys in omega arith) (rw e g)))
+boundary_left xs ys n b h = (omega arith, λ l g. let e = get_or_append_left xs ys 0 n h in rw (← e) (b.1 (let k = length-append xs ys in omega arith) (rw e g)))
 
 pub boundary_in : (xs ys : List ℕ) (n : ℕ) → IsCharBoundary xs n → n < length xs → IsCharBoundary (xs ++ ys) n
-boundary_in xs ys n b h = let k = length-append xs ys in (omega arith, λ l g. let e = get_left xs ys n h in rw e (b.1 h (rw (← e) g)))
+boundary_in xs ys n b h = let k = length-append xs ys in (omega arith, λ l g. let e = get_or_append_left xs ys 0 n h in rw e (b.1 h (rw (← e) g)))
 
 pub boundary_right : (xs ys : List ℕ) (n m : ℕ) → n ≡ length xs + m → IsCharBoundary (xs ++ ys) n → IsCharBoundary ys m
 boundary_right xs ys n m i b = let k = length-append xs ys in let a = b.0 in let e = get_right xs ys n m i in
@@ -123,7 +118,7 @@ module _ (byte_of : Cell → ℕ) where
   bytes_length t k zero v d = refl
   bytes_length t k (suc n) v d = ap suc (bytes_length t (suc k) n v d)
 
-  -- bytes do not hang on what is told
+  -- bytes do not depend on what is told
   pub bytes_alike : (t : Lamport) (k n : ℕ) (v w : Bool) (d e : List Lamport) → bytes (alike t k n v d) ≡ bytes (alike t k n w e)
   bytes_alike t k zero v w d e = refl
   bytes_alike t k (suc n) v w d e = ap (λ z. byte_of (record { stamp = t; k = k }) ∷ z) (bytes_alike t (suc k) n v w d e)

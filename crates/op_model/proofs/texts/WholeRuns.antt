@@ -1,6 +1,6 @@
 -- Runs that begin and end where characters of their texts do, and the hidden bytes.
 use Rattle.std.proofs.lemmas.List.{map-append as map_append, length-drop}
-use Rattle.op_model.proofs.Elements.{each_left, each_right}
+use Rattle.op_model.proofs.Elements.{each_left, each_right, same_first, same_rest}
 use Rattle.std.proofs.Common.{◌≡◌, ℕ, zero, suc, ◌+◌, ◌-◌, ◌<◌, ◌≤◌, Bool, List, [], ◌∷◌, ◌++◌, length, map, take, drop, drop-cons, get_or, refl, sym, ◌∙◌, ap, subst, inl, inr, true, false, cond, not, arith}
 use Rattle.std.specs.Prelude.{IsUtf8, IsCharBoundary}
 use Rattle.std.specs.List.{AllByRecursion, filter}
@@ -35,7 +35,7 @@ utf8_new : (g : History) → Texts g → (t : Lamport) → IsUtf8 (new_bytes g t
 utf8_new [] u t = IsUtf8-nil
 utf8_new (o ∷ g) u t = elim (same_stamp (stamp_of o) t) as (λ b. IsUtf8 (cond b (texts (pieces_of o)) (new_bytes g t))) [ true ↦ utf8_texts (pieces_of o) u.0 | false ↦ utf8_new g u.1 t ]
 
--- a test that hangs on what is told of a run passes all its cells or none
+-- a test that depends on what is told of a run passes all its cells or none
 module _ (f : Cell → ℕ) (test : Lamport → Bool → List Lamport → Bool) where
   abbrev pub passes : Fact → Bool
   passes q = test q.cell.stamp q.visible q.deletions
@@ -164,28 +164,13 @@ module _ (h : History) (d : Distinct h) where
           → (rest ≡ q ∷ ys → Rest) → ((xs : List Fact) → rest ≡ xs ++ p ∷ q ∷ ys → Finishes p × Rest)
           → (xs : List Fact) → alike t k n v e ++ rest ≡ xs ++ p ∷ q ∷ ys → Finishes p × Rest
       in_run t k zero v e rest b f g xs i = g xs i
-      in_run t k (suc n) v e rest b f g (x ∷ xs) i = in_run t (suc k) n v e rest (let z : k + suc n ≡ suc k + n = omega arith in subst (IsCharBoundary (new_bytes h t)) z b) f g xs (tail i)
-        where
-          tail : {a b : Fact} {s r : List Fact} → a ∷ s ≡ b ∷ r → s ≡ r
-          tail j = cc
+      in_run t k (suc n) v e rest b f g (x ∷ xs) i = in_run t (suc k) n v e rest (let z : k + suc n ≡ suc k + n = omega arith in subst (IsCharBoundary (new_bytes h t)) z b) f g xs (same_rest i)
       in_run t k (suc zero) v e rest b f g [] i =
-          let j : record { cell = record { stamp = t; k = k }; visible = v; deletions = e } ≡ p = head i in
+          let j : record { cell = record { stamp = t; k = k }; visible = v; deletions = e } ≡ p = same_first i in
           let z : k + 1 ≡ suc k = omega arith in
-          (subst Finishes j (subst (IsCharBoundary (new_bytes h t)) z b), f (tail i))
+          (subst Finishes j (subst (IsCharBoundary (new_bytes h t)) z b), f (same_rest i))
+      in_run t k (suc (suc n)) v e rest b f g [] i = absurd (apart (next (same_first i) (same_first (same_rest i))))
         where
-          head : {a b : Fact} {s r : List Fact} → a ∷ s ≡ b ∷ r → a ≡ b
-          head j = cc
-
-          tail : {a b : Fact} {s r : List Fact} → a ∷ s ≡ b ∷ r → s ≡ r
-          tail j = cc
-      in_run t k (suc (suc n)) v e rest b f g [] i = absurd (apart (next (head i) (second i)))
-        where
-          head : {a b : Fact} {s r : List Fact} → a ∷ s ≡ b ∷ r → a ≡ b
-          head j = cc
-
-          second : {a b c x : Fact} {s r : List Fact} → a ∷ b ∷ s ≡ c ∷ x ∷ r → b ≡ x
-          second j = cc
-
           next : record { cell = record { stamp = t; k = k }; visible = v; deletions = e } ≡ p → record { cell = record { stamp = t; k = suc k }; visible = v; deletions = e } ≡ q → Continues p q
           next a c = sym c ∙ ap (λ (x : Fact). record { cell = record { stamp = x.cell.stamp; k = suc x.cell.k }; visible = x.visible; deletions = x.deletions }) a
 
@@ -198,17 +183,11 @@ module _ (h : History) (d : Distinct h) where
       in_last : (t : Lamport) (k n : ℕ) (v : Bool) (e : List Lamport) (rest : List Fact) → IsCharBoundary (new_bytes h t) (k + n)
           → ((xs : List Fact) → rest ≡ xs ++ p ∷ [] → Finishes p) → (xs : List Fact) → alike t k n v e ++ rest ≡ xs ++ p ∷ [] → Finishes p
       in_last t k zero v e rest b g xs i = g xs i
-      in_last t k (suc n) v e rest b g (x ∷ xs) i = in_last t (suc k) n v e rest (let z : k + suc n ≡ suc k + n = omega arith in subst (IsCharBoundary (new_bytes h t)) z b) g xs (tail i)
-        where
-          tail : {a b : Fact} {s r : List Fact} → a ∷ s ≡ b ∷ r → s ≡ r
-          tail j = cc
+      in_last t k (suc n) v e rest b g (x ∷ xs) i = in_last t (suc k) n v e rest (let z : k + suc n ≡ suc k + n = omega arith in subst (IsCharBoundary (new_bytes h t)) z b) g xs (same_rest i)
       in_last t k (suc zero) v e rest b g [] i =
-          let j : record { cell = record { stamp = t; k = k }; visible = v; deletions = e } ≡ p = head i in
+          let j : record { cell = record { stamp = t; k = k }; visible = v; deletions = e } ≡ p = same_first i in
           let z : k + 1 ≡ suc k = omega arith in
           subst Finishes j (subst (IsCharBoundary (new_bytes h t)) z b)
-        where
-          head : {a b : Fact} {s r : List Fact} → a ∷ s ≡ b ∷ r → a ≡ b
-          head j = cc
       in_last t k (suc (suc n)) v e rest b g [] i = cc
 
       finishes : (rs : List Run) → Cuts rs → (xs : List Fact) → facts_of rs ≡ xs ++ p ∷ [] → Finishes p

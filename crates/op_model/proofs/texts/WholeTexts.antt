@@ -15,7 +15,7 @@ use Rattle.op_model.specs.Edits.{is_boundary, is_inside}
 use Rattle.op_model.specs.Cells.{Cell, PathCell, everything, seq_where, seq, cells, text_places}
 use Rattle.op_model.specs.Laid.{only, lay}
 use Rattle.op_model.specs.Shown.{deleters_where, texts, byte, shown, shown_where, text, text_where, full, full_where}
-use Rattle.op_model.specs.Facts.{Fact, fact, cell_facts, alike, Marking, edit_marking, seen_by}
+use Rattle.op_model.specs.Facts.{Fact, fact, cell_facts, alike, Marking, edit_marking, visible_by}
 use Rattle.op_model.specs.Walked.{Run, run_facts, facts_of, walk}
 use Rattle.op_model.specs.Answers.{answer}
 use Rattle.op_model.specs.Answers.Answer.{Good}
@@ -33,7 +33,7 @@ use Rattle.op_model.proofs.answers.Counted.{lawful_counted, Counted, counted_mor
 use Rattle.op_model.proofs.shown.UndoTold.{fact_anew, undo_told}
 use Rattle.op_model.proofs.shown.OnePass.{walk_told}
 use Rattle.op_model.proofs.texts.Utf8Runs.{bytes_alike, bytes, kept_bytes, Utf8, NewUtf8, walk_utf8, facts_all, facts_shown, facts_kept, utf8_all, utf8_shown}
-use Rattle.op_model.proofs.Elements.{each_left, each_right, each_map}
+use Rattle.op_model.proofs.Elements.{each_left, each_right, each_map, member_left, member_right}
 
 -- the bytes of a history's cells
 abbrev pub byte_of : History → Cell → ℕ
@@ -76,15 +76,10 @@ desc_distinct (o ∷ h) d = (unlike o h d.0, desc_distinct h d.1)
 pub byte_is : (h : History) → Distinct h → (o : Operation) → In h o → (k : ℕ) → byte_of h (record { stamp = stamp_of o; k = k }) ≡ get_or (texts (pieces_of o)) k 0
 byte_is h d o i k = ap (λ (x : List ℕ). get_or x k 0) (bytes_of_one (newest_first h) o (desc_distinct (newest_first h) (newest_desc h d)) ((newest_same h o).1 i))
 
--- the cells of h have the same bytes in a longer history
-pub in_more : (h : History) (op o : Operation) → In h o → In (h ++ op ∷ []) o
-in_more [] op o i = absurd i
-in_more (p ∷ h) op o i = elim i [ inl e ↦ inl e | inr n ↦ inr (in_more h op o n) ]
-
 pub in_last : (h : History) (op : Operation) → In (h ++ op ∷ []) op
-in_last [] op = inl refl
-in_last (p ∷ h) op = inr (in_last h op)
+in_last h op = member_right op h (op ∷ []) (inl refl)
 
+-- the cells of h have the same bytes in a longer history
 cells_agree : (h : History) (op : Operation) → Distinct h → Distinct (h ++ op ∷ []) → (s : List PathCell) → AllByRecursion (From (newest_first h)) s
     → AllByRecursion (λ (q : Fact). byte_of h q.cell ≡ byte_of (h ++ op ∷ []) q.cell) (map (fact h) (cells s))
 cells_agree h op d e [] f = tt
@@ -93,7 +88,7 @@ cells_agree h op d e (p ∷ s) f = (one p.cell f.0, cells_agree h op d e s f.1)
     one : (c : Cell) → (o : Operation) × In (newest_first h) o × (c.stamp ≡ stamp_of o) × (c.k < length (texts (pieces_of o))) → byte_of h c ≡ byte_of (h ++ op ∷ []) c
     one c w = let i = (newest_same h w.0).0 w.1 in
         subst (λ (t : Lamport). byte_of h (record { stamp = t; k = c.k }) ≡ byte_of (h ++ op ∷ []) (record { stamp = t; k = c.k })) (sym w.2)
-        (byte_is h d w.0 i c.k ∙ sym (byte_is (h ++ op ∷ []) e w.0 (in_more h op w.0 i) c.k))
+        (byte_is h d w.0 i c.k ∙ sym (byte_is (h ++ op ∷ []) e w.0 (member_left w.0 h (op ∷ []) i) c.k))
 
 pub bytes_told : (h : History) (op : Operation) → Distinct h → Distinct (h ++ op ∷ []) → AllByRecursion (λ (q : Fact). byte_of h q.cell ≡ byte_of (h ++ op ∷ []) q.cell) (cell_facts h)
 unfolding seq
@@ -263,23 +258,23 @@ whole_edit h op r c w g e u =
     }
 
 set_anew : History → Run → Run
-set_anew e r = record { stamp = r.stamp; offset = r.offset; len = r.len; visible = seen_by e r.stamp r.deletions; deletions = r.deletions }
+set_anew e r = record { stamp = r.stamp; offset = r.offset; len = r.len; visible = visible_by e r.stamp r.deletions; deletions = r.deletions }
 
 run_anew : (e : History) (u : Lamport) (o n : ℕ) (v : Bool) (d : List Lamport) (s : List Fact)
-    → map (fact_anew e) (alike u o n v d ++ s) ≡ alike u o n (seen_by e u d) d ++ map (fact_anew e) s
+    → map (fact_anew e) (alike u o n v d ++ s) ≡ alike u o n (visible_by e u d) d ++ map (fact_anew e) s
 run_anew e u o zero v d s = refl
-run_anew e u o (suc n) v d s = ap (λ (z : List Fact). record { cell = record { stamp = u; k = o }; visible = seen_by e u d; deletions = d } ∷ z) (run_anew e u (suc o) n v d s)
+run_anew e u o (suc n) v d s = ap (λ (z : List Fact). record { cell = record { stamp = u; k = o }; visible = visible_by e u d; deletions = d } ∷ z) (run_anew e u (suc o) n v d s)
 
 facts_anew : (e : History) (rs : List Run) → facts_of (map (set_anew e) rs) ≡ map (fact_anew e) (facts_of rs)
 unfolding set_anew
 facts_anew e [] = refl
-facts_anew e (r ∷ rs) = ap (λ (z : List Fact). alike r.stamp r.offset r.len (seen_by e r.stamp r.deletions) r.deletions ++ z) (facts_anew e rs)
+facts_anew e (r ∷ rs) = ap (λ (z : List Fact). alike r.stamp r.offset r.len (visible_by e r.stamp r.deletions) r.deletions ++ z) (facts_anew e rs)
     ∙ sym (run_anew e r.stamp r.offset r.len r.visible r.deletions (facts_of rs))
 
 utf8_anew : (f : Cell → ℕ) (e : History) (rs : List Run) → Utf8 f rs → Utf8 f (map (set_anew e) rs)
 unfolding set_anew
 utf8_anew f e [] u = tt
-utf8_anew f e (r ∷ rs) u = (subst IsUtf8 (bytes_alike f r.stamp r.offset r.len r.visible (seen_by e r.stamp r.deletions) r.deletions r.deletions) u.0, utf8_anew f e rs u.1)
+utf8_anew f e (r ∷ rs) u = (subst IsUtf8 (bytes_alike f r.stamp r.offset r.len r.visible (visible_by e r.stamp r.deletions) r.deletions r.deletions) u.0, utf8_anew f e rs u.1)
 
 whole_undo : (h : History) (op : Operation) → Ready h → Whole h → answer h [] op ≡ Good → is_edit op ≡ false → Whole (h ++ op ∷ [])
 whole_undo h op r w g e =

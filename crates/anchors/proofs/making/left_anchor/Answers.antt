@@ -2,7 +2,7 @@ use Rattle.std.proofs.Common.{subst, sym, ap, ◌∙◌}
 use Rattle.std.specs.Prelude.{Option, IfSome}
 use Rattle.std.specs.Option.{option_map}
 use Rattle.anchors.specs.declared.making.Byte.{Byte}
-use Rattle.anchors.specs.Making.{cell_of, HasRoom}
+use Rattle.anchors.specs.Making.{cell_of, NextFits}
 use Rattle.anchors.proofs.Made.{left_start, left_within, left_some}
 use Rattle.anchors.proofs.making.left_anchor.Goals as goal
 
@@ -14,4 +14,4 @@ returns-in-None c = λ w u h s l m. absurd (left_within h c.args.o l c.if-o-eq0.
 
 pub returns-in-Some : goal.returns-in-Some
 returns-in-Some c = λ w u h s l m. left_some h c.args.o c.in-Some.byte c.saturating_add.result c.if-o-eq0.false (sym (ap (option_map cell_of) c.in-Some.is) ∙ c.shown_byte.ensures.byte w u h s l)
-    (subst (λ (r : Option Byte). IfSome r HasRoom) c.in-Some.is (c.shown_byte.ensures.room w u h s)) c.saturating_add.ensures
+    (subst (λ (r : Option Byte). IfSome r NextFits) c.in-Some.is (c.shown_byte.ensures.room w u h s)) c.saturating_add.ensures

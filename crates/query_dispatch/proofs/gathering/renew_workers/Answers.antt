@@ -1,12 +1,12 @@
 use Rattle.std.proofs.Common.{◌≡◌, List, [], ◌∷◌, ◌++◌, Vec, Global, reverse, sym, ap, ◌∙◌, subst, arith, append_assoc, append-nil}
 use Rattle.std.specs.List.{AllZip}
 use Rattle.std.proofs.lemmas.List.{nil_from_length}
+use Rattle.std.proofs.lemmas.Slice.Zip.{all_zipped_more}
 use Rattle.std.specs.Vec.Iter.{into_iter_items}
 use Rattle.snapshot_pub.specs.States.{ToldState}
 use Rattle.query_workers.specs.Asks.{asks_of}
 use Rattle.query_workers.specs.States.{InboxState}
 use Rattle.query_workers.specs.declared.query.Answer.{Answer}
-use Rattle.query_workers.proofs.Working.{paired_more}
 use Rattle.query_dispatch.specs.Final.{AreFinal}
 use Rattle.query_dispatch.proofs.Readiness.{can_first}
 use Rattle.query_dispatch.proofs.gathering.renew_workers.Goals as goal
@@ -27,7 +27,7 @@ loop-inbox-preserved g c =
       final = (
         was.final.0 ++ inbox ∷ [],
         was.final.1 ∙ (ap (λ (l : List (InboxState g.row.Q.Denot)). was.final.0 ++ l) c.in-Some.ensures.items ∙ sym (append_assoc was.final.0 (inbox ∷ []) left)),
-        subst (λ (l : List list). AllZip final l (was.final.0 ++ inbox ∷ [])) (sym c.in_ok-push.ensures.items) (paired_more final c.loop-inbox.lists.items was.final.0 one inbox was.final.2 c.in_ok-renew_worker.ensures),
+        subst (λ (l : List list). AllZip final l (was.final.0 ++ inbox ∷ [])) (sym c.in_ok-push.ensures.items) (all_zipped_more final c.loop-inbox.lists.items was.final.0 one inbox was.final.2 c.in_ok-renew_worker.ensures),
       );
     }
 

@@ -8,5 +8,5 @@ invariant-loop-i g l = record {
   pairs : l.publisher.pairs ≡ l.initial.publisher.pairs;
   count : length l.publisher.published ≡ length l.initial.publisher.published;
   grows : All (λ x. IsFront x l.snapshot) l.publisher.published;
-  shown : (j : ℕ) → j < l.i → get_or l.publisher.published j [] ≡ l.snapshot;
+  published : (j : ℕ) → j < l.i → get_or l.publisher.published j [] ≡ l.snapshot;
 }

@@ -3,7 +3,7 @@ use Rattle.std.specs.Option.{option_copied}
 use Rattle.sum_tree.specs.Laws.{fold}
 use Rattle.fragments.specs.declared.fragment.Fragment.{Fragment}
 use Rattle.fragments.specs.Summaries.{no_fragments, summaries, summary_of, SummaryFits}
-use Rattle.remote_edit.specs.SeesLaws.{may_concern}
+use Rattle.remote_edit.specs.SeesLaws.{may_concern_any}
 use Rattle.remote_edit.specs.Anew.{anew}
 use Rattle.remote_edit.proofs.Anew.{unmet_kept, same_len}
 use Rattle.remote_edit.proofs.Halves.{half, half_fits, turn, all_done}
@@ -21,7 +21,7 @@ loop-fragments-init c =
     }
 
 pub put_anew-requires-clause-stands : goal.put_anew-requires-clause-stands
-put_anew-requires-clause-stands c = (turn (anew c.args.undos.now c.args.by c.args.edits.now) (may_concern c.loop-fragments.found.keep.edits.now) summary_of c.args.tree.now.items c.loop-fragments.found.items c.loop-fragments.fragments.items c.in-Some.fragment.now c.loop-fragments.found.next c.index.result c.next.new.self.next
+put_anew-requires-clause-stands c = (turn (anew c.args.undos.now c.args.by c.args.edits.now) (may_concern_any c.loop-fragments.found.keep.edits.now) summary_of c.args.tree.now.items c.loop-fragments.found.items c.loop-fragments.fragments.items c.in-Some.fragment.now c.loop-fragments.found.next c.index.result c.next.new.self.next
     (unmet_kept c.args.undos.now c.args.by c.args.edits.now c.loop-fragments.found.keep.edits.now c.loop-fragments.invariant.keep) c.loop-fragments.invariant.items c.loop-fragments.invariant.done (sym c.in_ok-fragment.ensures.item ∙ ap option_copied c.in-Some.is)
     (c.index.ensures ∙ ap (λ p. p.given) c.in_ok-fragment.ensures.moved)
     (ap (λ p. p.next) c.in_ok-fragment.ensures.moved ∙ ap (λ (k : ℕ). min (k + 1) (length c.loop-fragments.found.items)) (sym (c.index.ensures ∙ ap (λ p. p.given) c.in_ok-fragment.ensures.moved)))).stands
@@ -29,7 +29,7 @@ put_anew-requires-clause-stands c = (turn (anew c.args.undos.now c.args.by c.arg
 pub put_anew-requires-clause-fits : goal.put_anew-requires-clause-fits
 put_anew-requires-clause-fits c =
     let m : Fragment → Fragment = anew c.args.undos.now c.args.by c.args.edits.now in
-    let t = turn (anew c.args.undos.now c.args.by c.args.edits.now) (may_concern c.loop-fragments.found.keep.edits.now) summary_of c.args.tree.now.items c.loop-fragments.found.items c.loop-fragments.fragments.items c.in-Some.fragment.now c.loop-fragments.found.next c.index.result c.next.new.self.next
+    let t = turn (anew c.args.undos.now c.args.by c.args.edits.now) (may_concern_any c.loop-fragments.found.keep.edits.now) summary_of c.args.tree.now.items c.loop-fragments.found.items c.loop-fragments.fragments.items c.in-Some.fragment.now c.loop-fragments.found.next c.index.result c.next.new.self.next
     (unmet_kept c.args.undos.now c.args.by c.args.edits.now c.loop-fragments.found.keep.edits.now c.loop-fragments.invariant.keep) c.loop-fragments.invariant.items c.loop-fragments.invariant.done (sym c.in_ok-fragment.ensures.item ∙ ap option_copied c.in-Some.is)
     (c.index.ensures ∙ ap (λ p. p.given) c.in_ok-fragment.ensures.moved)
     (ap (λ p. p.next) c.in_ok-fragment.ensures.moved ∙ ap (λ (k : ℕ). min (k + 1) (length c.loop-fragments.found.items)) (sym (c.index.ensures ∙ ap (λ p. p.given) c.in_ok-fragment.ensures.moved))) in
@@ -37,7 +37,7 @@ put_anew-requires-clause-fits c =
 
 pub loop-fragments-smaller : goal.loop-fragments-smaller
 loop-fragments-smaller c =
-    let t = turn (anew c.args.undos.now c.args.by c.args.edits.now) (may_concern c.loop-fragments.found.keep.edits.now) summary_of c.args.tree.now.items c.loop-fragments.found.items c.loop-fragments.fragments.items c.in-Some.fragment.now c.loop-fragments.found.next c.index.result c.next.new.self.next
+    let t = turn (anew c.args.undos.now c.args.by c.args.edits.now) (may_concern_any c.loop-fragments.found.keep.edits.now) summary_of c.args.tree.now.items c.loop-fragments.found.items c.loop-fragments.fragments.items c.in-Some.fragment.now c.loop-fragments.found.next c.index.result c.next.new.self.next
     (unmet_kept c.args.undos.now c.args.by c.args.edits.now c.loop-fragments.found.keep.edits.now c.loop-fragments.invariant.keep) c.loop-fragments.invariant.items c.loop-fragments.invariant.done (sym c.in_ok-fragment.ensures.item ∙ ap option_copied c.in-Some.is)
     (c.index.ensures ∙ ap (λ p. p.given) c.in_ok-fragment.ensures.moved)
     (ap (λ p. p.next) c.in_ok-fragment.ensures.moved ∙ ap (λ (k : ℕ). min (k + 1) (length c.loop-fragments.found.items)) (sym (c.index.ensures ∙ ap (λ p. p.given) c.in_ok-fragment.ensures.moved))) in
@@ -46,7 +46,7 @@ loop-fragments-smaller c =
 
 pub loop-fragments-preserved : goal.loop-fragments-preserved
 loop-fragments-preserved c =
-    let t = turn (anew c.args.undos.now c.args.by c.args.edits.now) (may_concern c.loop-fragments.found.keep.edits.now) summary_of c.args.tree.now.items c.loop-fragments.found.items c.loop-fragments.fragments.items c.in-Some.fragment.now c.loop-fragments.found.next c.index.result c.next.new.self.next
+    let t = turn (anew c.args.undos.now c.args.by c.args.edits.now) (may_concern_any c.loop-fragments.found.keep.edits.now) summary_of c.args.tree.now.items c.loop-fragments.found.items c.loop-fragments.fragments.items c.in-Some.fragment.now c.loop-fragments.found.next c.index.result c.next.new.self.next
     (unmet_kept c.args.undos.now c.args.by c.args.edits.now c.loop-fragments.found.keep.edits.now c.loop-fragments.invariant.keep) c.loop-fragments.invariant.items c.loop-fragments.invariant.done (sym c.in_ok-fragment.ensures.item ∙ ap option_copied c.in-Some.is)
     (c.index.ensures ∙ ap (λ p. p.given) c.in_ok-fragment.ensures.moved)
     (ap (λ p. p.next) c.in_ok-fragment.ensures.moved ∙ ap (λ (k : ℕ). min (k + 1) (length c.loop-fragments.found.items)) (sym (c.index.ensures ∙ ap (λ p. p.given) c.in_ok-fragment.ensures.moved))) in
@@ -59,7 +59,7 @@ loop-fragments-preserved c =
     }
 
 pub returns : goal.returns
-returns c = all_done (anew c.args.undos.now c.args.by c.args.edits.now) (may_concern c.loop-fragments.found.keep.edits.now) summary_of c.args.tree.now.items c.loop-fragments.found.items c.loop-fragments.fragments.items c.loop-fragments.found.next
+returns c = all_done (anew c.args.undos.now c.args.by c.args.edits.now) (may_concern_any c.loop-fragments.found.keep.edits.now) summary_of c.args.tree.now.items c.loop-fragments.found.items c.loop-fragments.fragments.items c.loop-fragments.found.next
     (unmet_kept c.args.undos.now c.args.by c.args.edits.now c.loop-fragments.found.keep.edits.now c.loop-fragments.invariant.keep) c.loop-fragments.invariant.items c.loop-fragments.invariant.done (sym c.in_ok-fragment.ensures.item ∙ ap option_copied c.in_default.is)
 
 pub same-fragments : goal.same-fragments

@@ -1,6 +1,6 @@
 use Rattle.std.proofs.Common.{◌-◌, ◌<◌, ◌∙◌, length, take, drop, ap, subst, sym}
 use Rattle.sum_tree.specs.Seen.{Seen}
-use Rattle.sum_tree.proofs.Fronts.{slice_rest}
+use Rattle.std.proofs.lemmas.List.{take_rest}
 use Rattle.rope_chunks.proofs.Tails.{tail_whole, tail_child, tail_rest}
 use Rattle.rope_chunks.proofs.lent.leaf_from.Goals as goal
 
@@ -19,4 +19,4 @@ pub returns-in-Leaf-clause-rest : goal.returns-in-Leaf-clause-rest
 returns-in-Leaf-clause-rest c =
     let es = c.in-Leaf.entries.now in
     let r = c.loop-entries.rest in
-    tail_rest c.args.tree.now.items c.loop-entries.node.now.items (take (length es - r) (drop r es)) r c.args.index c.loop-entries.invariant (slice_rest es r ∙ ap (λ xs. drop r xs) (sym c.in-Leaf.ensures.0))
+    tail_rest c.args.tree.now.items c.loop-entries.node.now.items (take (length es - r) (drop r es)) r c.args.index c.loop-entries.invariant (take_rest es r ∙ ap (λ xs. drop r xs) (sym c.in-Leaf.ensures.0))

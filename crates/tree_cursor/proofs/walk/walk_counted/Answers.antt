@@ -1,6 +1,6 @@
 use Rattle.std.proofs.Common.{◌≡◌, inl, ℕ, List, ◌+◌, ◌-◌, ◌≤◌, ◌++◌, length, drop, refl, sym, ap, subst, ◌∙◌, arith, length-append}
 use Rattle.std.proofs.lemmas.List.{length-drop}
-use Rattle.tree_cursor.specs.Places.{passed_over}
+use Rattle.tree_cursor.specs.Places.{walk_count}
 use Rattle.tree_cursor.specs.Levels.{TakesInner, TakesPart}
 use Rattle.tree_cursor.specs.Walking.{IsDescending, IsWalking}
 use Rattle.tree_cursor.proofs.Descents.{fewer, goes_into, goes_on, goes_over, halts_within}
@@ -33,7 +33,7 @@ pub loop-part-preserved-in-Some-over : goal.loop-part-preserved-in-Some-over
 loop-part-preserved-in-Some-over g c =
     let most = g.C.Tally.count c.args.steps.now + c.args.path.now.looks in
     let tally = g.C.Tally.count in
-    let end = passed_over g.D.Moves.moved g.T.Item.sum_of (g.R.Rule.halts c.args.rule.now) (g.D.Plain.plain c.args.start) 0 c.args.path.now.items in
+    let end = walk_count g.D.Moves.moved g.T.Item.sum_of (g.R.Rule.halts c.args.rule.now) (g.D.Plain.plain c.args.start) 0 c.args.path.now.items in
     let before : c.loop-part.passed ≤ end = omega (arith, c.loop-part.invariant.0.sought) in
     let r = c.args.rule.now in
     let took = subst (λ part. TakesPart c.loop-part.path part c.pop.new.self) c.in-Node.is c.in-Some.ensures.part in
@@ -58,7 +58,7 @@ pub loop-part-preserved : goal.loop-part-preserved
 loop-part-preserved g c =
     let most = g.C.Tally.count c.args.steps.now + c.args.path.now.looks in
     let tally = g.C.Tally.count in
-    let end = passed_over g.D.Moves.moved g.T.Item.sum_of (g.R.Rule.halts c.args.rule.now) (g.D.Plain.plain c.args.start) 0 c.args.path.now.items in
+    let end = walk_count g.D.Moves.moved g.T.Item.sum_of (g.R.Rule.halts c.args.rule.now) (g.D.Plain.plain c.args.start) 0 c.args.path.now.items in
     let before : c.loop-part.passed ≤ end = omega (arith, c.loop-part.invariant.0.sought) in
     let r = c.args.rule.now in
     let took = subst (λ part. TakesPart c.loop-part.path part c.pop.new.self) c.in-One.is c.in-Some.ensures.part in
@@ -75,7 +75,7 @@ pub loop-part-preserved-in-None : goal.loop-part-preserved-in-None
 loop-part-preserved-in-None g c =
     let most = g.C.Tally.count c.args.steps.now + c.args.path.now.looks in
     let tally = g.C.Tally.count in
-    let end = passed_over g.D.Moves.moved g.T.Item.sum_of (g.R.Rule.halts c.args.rule.now) (g.D.Plain.plain c.args.start) 0 c.args.path.now.items in
+    let end = walk_count g.D.Moves.moved g.T.Item.sum_of (g.R.Rule.halts c.args.rule.now) (g.D.Plain.plain c.args.start) 0 c.args.path.now.items in
     let before : c.loop-part.passed ≤ end = omega (arith, c.loop-part.invariant.0.sought) in
     let r = c.args.rule.now in
     let S = g.T.Summary.Summary in
@@ -93,7 +93,7 @@ pub returns-then-halts-clause-cost : goal.returns-then-halts-clause-cost
 returns-then-halts-clause-cost g c adds ends all =
     let most = g.C.Tally.count c.args.steps.now + c.args.path.now.looks in
     let tally = g.C.Tally.count in
-    let end = passed_over g.D.Moves.moved g.T.Item.sum_of (g.R.Rule.halts c.args.rule.now) (g.D.Plain.plain c.args.start) 0 c.args.path.now.items in
+    let end = walk_count g.D.Moves.moved g.T.Item.sum_of (g.R.Rule.halts c.args.rule.now) (g.D.Plain.plain c.args.start) 0 c.args.path.now.items in
     let before : c.loop-part.passed ≤ end = omega (arith, c.loop-part.invariant.0.sought) in
     let took = subst (λ part. TakesPart c.loop-part.path part c.pop.new.self) c.in-One.is c.in-Some.ensures.part in
     let inner = subst (λ part. TakesInner c.loop-part.path part c.pop.new.self) c.in-One.is c.in-Some.ensures.inner in

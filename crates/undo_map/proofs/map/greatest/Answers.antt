@@ -50,7 +50,7 @@ loop-entry-preserved c =
       items = ap (λ p. p.items) c.next.ensures.moved ∙ v.items;
       within = omega (arith, low, next);
       late = λ k d l m. v.late k d (omega (arith, l, next)) m;
-      so_far = c.max-greatest.ensures ∙ counts_more w c.args.edit (option_copied c.args.at) i c.loop-entry.greatest c.counted.result c.in-Some.entry.now low h.at v.so_far (sym c.is_same.ensures ∙ c.if-not-is_same.false) c.counted.ensures
+      so_far = c.max-greatest.ensures ∙ counts_more w c.args.edit (option_copied c.args.at) i c.loop-entry.greatest c.entry_count.result c.in-Some.entry.now low h.at v.so_far (sym c.is_same.ensures ∙ c.if-not-is_same.false) c.entry_count.ensures
           ∙ ap (λ (k : ℕ). greatest (counts_for c.args.edit (option_copied c.args.at)) (take k w)) (sym next);
     }
 

@@ -1,11 +1,8 @@
-use Rattle.std.proofs.Common.{◌≡◌, ap, sym, ◌∙◌, not, Bool, true, false, refl, Option, Some, None}
+use Rattle.std.proofs.Common.{◌≡◌, ap, sym, ◌∙◌, not, refl, Option, Some, None}
+use Rattle.std.proofs.Math.Bool.{not-not}
 use Rattle.std.specs.Option.{is_none, is_some}
 use Rattle.lamport_clock.proofs.Joined.{none_unseen}
 use Rattle.lamport_clock.proofs.version.Version.sees_all.Goals as goal
-
-not-not : (b : Bool) → not (not b) ≡ b
-not-not true = refl
-not-not false = refl
 
 not-is_some : {A : Type 0} (o : Option A) → not (is_some o) ≡ is_none o
 not-is_some None = refl

@@ -30,7 +30,7 @@ in_order-requires-clause-enough g c =
     )
 
 pub returns : goal.returns
-returns g c = λ asks numbers count shown ready.
+returns g c = λ asks numbers count published ready.
     let list = Vec (Answer g.row.Q.Denot g.row.A.Denot) Global in
     let plain = g.Q.Query.plain in
     let lasts = c.args.lasts.now in

@@ -1,7 +1,8 @@
 use Rattle.std.proofs.Common.{◌≡◌, ◌+◌, ◌++◌, ◌≤◌, length}
 use Rattle.std.specs.Option.{option_copied}
+use Rattle.fragments.specs.Laws.{cells_len}
 use Rattle.remote_edit.specs.Indexes.{IsIndexed}
-use Rattle.remote_edit.specs.Walk.{bytes, seen_bytes, Fit, advance}
+use Rattle.remote_edit.specs.Walk.{seen_bytes, Fit, advance}
 use Rattle.remote_edit.specs.Steps.{before, after}
 use Rattle.remote_edit.specs.Starts.{AllSeen, IsFew}
 use Rattle.remote_edit.proofs.gather.Gather.pass.Given as goal
@@ -15,8 +16,8 @@ invariant-loop-left l = record {
       ≡ advance (option_copied l.marks) l.edit.stamp l.edit.version l.initial.left (before l.tree.items l.initial.self.from l.initial.self.made.items) (after l.tree.items l.initial.self.at l.initial.self.back);
   few : AllSeen l.edit.version (after l.tree.items l.initial.self.at l.initial.self.back) → IsFew l.edit.version l.tree.items l.initial.self l.initial.left l.self l.left;
   fit : Fit (before l.tree.items l.self.from l.self.made.items ++ after l.tree.items l.self.at l.self.back);
-  same : bytes (before l.tree.items l.self.from l.self.made.items ++ after l.tree.items l.self.at l.self.back)
-      ≡ bytes (before l.tree.items l.initial.self.from l.initial.self.made.items ++ after l.tree.items l.initial.self.at l.initial.self.back);
+  same : cells_len (before l.tree.items l.self.from l.self.made.items ++ after l.tree.items l.self.at l.self.back)
+      ≡ cells_len (before l.tree.items l.initial.self.from l.initial.self.made.items ++ after l.tree.items l.initial.self.at l.initial.self.back);
   number : l.self.number ≡ l.initial.self.number;
   indexed : IsIndexed l.edit.stamp l.self.number (before l.tree.items l.self.from l.self.made.items ++ after l.tree.items l.self.at l.self.back) l.self.index;
 }

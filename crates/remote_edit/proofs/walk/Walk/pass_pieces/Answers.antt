@@ -2,7 +2,8 @@ use Rattle.std.proofs.Common.{◌≡◌, ℕ, ◌+◌, List, ◌∷◌, ◌++◌
 use Rattle.op_model.specs.declared.operation.Piece.{Piece}
 use Rattle.op_model.specs.Operations.{text_total}
 use Rattle.fragments.specs.declared.fragment.Fragment.{Fragment}
-use Rattle.remote_edit.specs.Walk.{bytes, Fit, one_piece, walk}
+use Rattle.fragments.specs.Laws.{cells_len}
+use Rattle.remote_edit.specs.Walk.{Fit, one_piece, walk}
 use Rattle.remote_edit.proofs.Pieces.{next_piece, walk_none, walk_one}
 use Rattle.remote_edit.proofs.Changing.{no_text}
 use Rattle.remote_edit.proofs.Budget.{IsOnBudget, budget_none, budget_near, budget_one, budget_end, budget_all, budget_touched, steps_by}
@@ -66,7 +67,7 @@ loop-piece-preserved g c =
                 (steps_by v rest p at w.saturating_sub-count.result new n k (budget_near v fs ps at rest p qs old new b) b.seen f.cost));
             within = f.within;
             fit = subst Fit whole f.passed.fit;
-            room = omega (arith, ap bytes whole, f.passed.same, i.room, total);
+            room = omega (arith, ap cells_len whole, f.passed.same, i.room, total);
             number = omega (arith, f.number, i.number, total);
             indexed = f.indexed;
           }))

@@ -2,7 +2,8 @@ use Rattle.std.proofs.Common.{◌≡◌, ◌+◌, ◌≤◌, ◌^◌, [], length
 use Rattle.op_model.specs.Operations.{text_total}
 use Rattle.remote_edit.specs.Indexes.{IsIndexed}
 use Rattle.op_model.specs.Walked.{Ordered}
-use Rattle.remote_edit.specs.Walk.{bytes, seen_bytes, Fit, walk}
+use Rattle.fragments.specs.Laws.{cells_len}
+use Rattle.remote_edit.specs.Walk.{seen_bytes, Fit, walk}
 use Rattle.remote_edit.specs.Starts.{AllSeen}
 use Rattle.remote_edit.proofs.Budget.{IsOnBudget}
 use Rattle.remote_edit.proofs.walk.Walk.pass_pieces.Given as goal
@@ -16,7 +17,7 @@ invariant-loop-piece g l = record {
       → IsOnBudget l.edit.version l.initial.self.tree.items l.edit.pieces l.place (drop l.self.at l.self.tree.items) (drop l.piece-index l.piece-items) l.initial.steps l.steps;
   within : l.self.at ≤ length l.self.tree.items;
   fit : Fit l.self.tree.items;
-  room : bytes l.self.tree.items + text_total (drop l.piece-index l.piece-items) ≡ bytes l.initial.self.tree.items + text_total l.edit.pieces;
+  room : cells_len l.self.tree.items + text_total (drop l.piece-index l.piece-items) ≡ cells_len l.initial.self.tree.items + text_total l.edit.pieces;
   number : l.self.number + text_total (drop l.piece-index l.piece-items) ≡ text_total l.edit.pieces;
   indexed : IsIndexed l.edit.stamp l.self.number l.self.tree.items l.self.index;
 }

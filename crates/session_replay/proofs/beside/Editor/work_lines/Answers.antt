@@ -5,7 +5,7 @@ use Rattle.session_lines.specs.Report.{report_text}
 use Rattle.session_replay.specs.Work.{all_events, after_all, step}
 use Rattle.session_replay.specs.Working.{state_of}
 use Rattle.session_replay.specs.Beside.{asks_among}
-use Rattle.session_replay.proofs.Growth.{AllGrow, all_themselves, all_trans, step_keeps}
+use Rattle.session_replay.proofs.Growth.{AllGrow, all_themselves, all_trans, step_grows}
 use Rattle.session_replay.proofs.Steps.{more_report, more_state, lines_done}
 use Rattle.session_replay.proofs.Asking.{Leads, ends_same, ends_trans, leads_first, leads_last, leads_more, room_for}
 use Rattle.session_replay.proofs.beside.Editor.work_lines.Goals as goal
@@ -51,7 +51,7 @@ loop-line-preserved g c =
       workers = worked.same ∙ inv.workers;
       report = more_report left l rest s t begins is _ _ _ inv.report worked.report;
       state = more_state left l rest s t begins is _ inv.state;
-      grows = all_trans _ s.buffers t.buffers inv.grows (subst (λ u. AllGrow s.buffers u.buffers) (sym is) (step_keeps l s));
+      grows = all_trans _ s.buffers t.buffers inv.grows (subst (λ u. AllGrow s.buffers u.buffers) (sym is) (step_grows l s));
       ends = ends_trans _ c.loop-line.self.dispatcher d _ c.loop-line.publishers p inv.ends worked.ends;
       asking = λ asks a. leads_more c.args.lines.items (state_of c.args.self.now.progress) asks left l rest s c.loop-line.self.dispatcher c.loop-line.publishers begins (inv.asking asks a) t d p inv.grows is worked.ends.limit worked.asking;
     }

@@ -5,14 +5,14 @@ use Rattle.session_replay.specs.Names.{anchor_answer, new_anchor, with_name}
 use Rattle.session_replay.specs.Work.{history_at}
 use Rattle.session_replay.specs.Working.{state_of}
 use Rattle.session_replay.proofs.Named.{made_is}
-use Rattle.session_replay.proofs.Steps.{line_reported, of_history, of_no_history, same_names}
+use Rattle.session_replay.proofs.Steps.{line_reported, none_reported, one_reported, same_names}
 use Rattle.session_replay.proofs.replay.Progress.work_anchor.Goals as goal
 
 pub returns-in_default-clause-report : goal.returns-in_default-clause-report
 returns-in_default-clause-report c =
     let s = state_of c.args.self.now in
     let e : None ≡ history_at c.args.id s = cc (c.in_default.is, c.in_ok-snapshot.ensures) in
-    of_no_history (λ h. report.Anchor c.args.name (anchor_answer (place_fault h c.args.offset)) ∷ []) (history_at c.args.id s) c.args.self.now.report.items e
+    none_reported (λ h. report.Anchor c.args.name (anchor_answer (place_fault h c.args.offset)) ∷ []) (history_at c.args.id s) c.args.self.now.report.items e
 
 pub returns-in_default-clause-state : goal.returns-in_default-clause-state
 returns-in_default-clause-state c =
@@ -26,7 +26,7 @@ returns-clause-report c =
     let h = c.in-Some.snapshot in
     let e : Some h ≡ history_at c.args.id s = cc (c.in-Some.is, c.in_ok-snapshot.ensures) in
     let answer : c.in_ok-answer.answer ≡ anchor_answer (place_fault h c.args.offset) = c.in_ok-answer.ensures.answer ∙ ap anchor_answer c.anchor-made.ensures.fault in
-    of_history (λ h. report.Anchor c.args.name (anchor_answer (place_fault h c.args.offset)) ∷ []) (history_at c.args.id s) h _ _ e
+    one_reported (λ h. report.Anchor c.args.name (anchor_answer (place_fault h c.args.offset)) ∷ []) (history_at c.args.id s) h _ _ e
     (line_reported _ _ _ _ (ap (report.Anchor c.args.name) answer) c.in_ok-write_line.ensures.ok)
 
 pub returns-clause-state : goal.returns-clause-state

@@ -5,14 +5,14 @@ use Rattle.session_lines.specs.declared.report.Report.TheVariants as report
 use Rattle.session_replay.specs.Names.{with_name}
 use Rattle.session_replay.specs.Work.{history_at}
 use Rattle.session_replay.specs.Working.{state_of}
-use Rattle.session_replay.proofs.Steps.{line_reported, of_history, of_no_history, same_names}
+use Rattle.session_replay.proofs.Steps.{line_reported, none_reported, one_reported, same_names}
 use Rattle.session_replay.proofs.replay.Progress.work_mark.Goals as goal
 
 pub returns-in_default-clause-report : goal.returns-in_default-clause-report
 returns-in_default-clause-report c =
     let s = state_of c.args.self.now in
     let e : None ≡ history_at c.args.id s = cc (c.in_default.is, c.in_ok-snapshot.ensures) in
-    of_no_history (λ h. report.Mark c.args.name ∷ []) (history_at c.args.id s) c.args.self.now.report.items e
+    none_reported (λ h. report.Mark c.args.name ∷ []) (history_at c.args.id s) c.args.self.now.report.items e
 
 pub returns-in_default-clause-state : goal.returns-in_default-clause-state
 returns-in_default-clause-state c =
@@ -24,7 +24,7 @@ pub returns-clause-report : goal.returns-clause-report
 returns-clause-report c =
     let s = state_of c.args.self.now in
     let e : Some c.in-Some.snapshot ≡ history_at c.args.id s = cc (c.in-Some.is, c.in_ok-snapshot.ensures) in
-    of_history (λ h. report.Mark c.args.name ∷ []) (history_at c.args.id s) c.in-Some.snapshot _ _ e
+    one_reported (λ h. report.Mark c.args.name ∷ []) (history_at c.args.id s) c.in-Some.snapshot _ _ e
     (line_reported _ _ _ _ refl c.in_ok-write_line.ensures.ok)
 
 pub returns-clause-state : goal.returns-clause-state

@@ -1,12 +1,11 @@
 use Rattle.std.proofs.Common.{◌≡◌, ◌+◌, List, [], ◌++◌, length, drop, ap, sym, ◌∙◌, arith}
-use Rattle.std.proofs.lemmas.List.{append-nil, drop_all, length-drop}
+use Rattle.std.proofs.lemmas.List.{append-nil, drop_all, length-drop, take_rest}
 use Rattle.std.proofs.lemmas.List.Elements.{All-drop}
 use Rattle.sum_tree.specs.Seen.{Seen}
 use Rattle.sum_tree.specs.Shape.{join_items, IsChild}
 use Rattle.sum_tree.proofs.Folds.{fits_drop}
 use Rattle.sum_tree.proofs.Children.{fits_joined_drop, joined-drop_le}
 use Rattle.sum_tree.proofs.Opened.{opened}
-use Rattle.sum_tree.proofs.Fronts.{slice_rest}
 use Rattle.sum_tree.proofs.Heights.{of_ok, on_ok}
 use Rattle.sum_tree.proofs.Nodes.{leaf_of, node_height, seen_short, seen_fits}
 use Rattle.sum_tree.proofs.Cuts.{cut_of, cut_rest, cut_behind}
@@ -16,34 +15,34 @@ pub copied_leaf-requires-clause-fits : goal.copied_leaf-requires-clause-fits
 copied_leaf-requires-clause-fits g t' c =
     let leaf = leaf_of c.self.view_is c.deref.ensures c.in-Leaf.is c.self.invariant.0 in
     let known = seen_fits g.met.T.Summary.Summary.laws g.T.Item.sum_of g.met.T.Item.admitted c.self.inside.node.value c.self.view_is c.self.invariant.3 in
-    rw (slice_rest c.deref-in-Leaf.result.now c.args.n, c.deref-in-Leaf.ensures.value, ← leaf.items) (fits_drop g.met.T.Summary.Summary.laws g.T.Item.sum_of g.met.T.Item.admitted c.args.self.now.items c.args.n known)
+    rw (take_rest c.deref-in-Leaf.result.now c.args.n, c.deref-in-Leaf.ensures.value, ← leaf.items) (fits_drop g.met.T.Summary.Summary.laws g.T.Item.sum_of g.met.T.Item.admitted c.args.self.now.items c.args.n known)
 
 pub copied_leaf-requires-clause-narrow : goal.copied_leaf-requires-clause-narrow
 copied_leaf-requires-clause-narrow g t' c =
     let leaf = leaf_of c.self.view_is c.deref.ensures c.in-Leaf.is c.self.invariant.0 in
-    rw (slice_rest c.deref-in-Leaf.result.now c.args.n, c.deref-in-Leaf.ensures.value) (omega (arith, length-drop c.args.n c.in-Leaf.entries.items, leaf.few))
+    rw (take_rest c.deref-in-Leaf.result.now c.args.n, c.deref-in-Leaf.ensures.value) (omega (arith, length-drop c.args.n c.in-Leaf.entries.items, leaf.few))
 
 pub run-requires-clause-children : goal.run-requires-clause-children
 run-requires-clause-children g t' c =
     let inner = opened _ _ _ _ c.self.view_is c.deref.ensures c.in-Inner.is c.self.invariant.0 in
-    rw (slice_rest c.deref-in-Inner-3.result.now (c.child_at-k.result.0 + 1), node_height c.deref-in-Inner-2.ensures c.self.view_is, c.deref-in-Inner-3.ensures.value) (All-drop (IsChild c.args.self.now.height) (c.child_at-k.result.0 + 1) c.in-Inner.children.items inner.children)
+    rw (take_rest c.deref-in-Inner-3.result.now (c.child_at-k.result.0 + 1), node_height c.deref-in-Inner-2.ensures c.self.view_is, c.deref-in-Inner-3.ensures.value) (All-drop (IsChild c.args.self.now.height) (c.child_at-k.result.0 + 1) c.in-Inner.children.items inner.children)
 
 pub run-requires-clause-most : goal.run-requires-clause-most
 run-requires-clause-most g t' c =
     let inner = opened _ _ _ _ c.self.view_is c.deref.ensures c.in-Inner.is c.self.invariant.0 in
-    rw (slice_rest c.deref-in-Inner-3.result.now (c.child_at-k.result.0 + 1), c.deref-in-Inner-3.ensures.value) (omega (arith, length-drop (c.child_at-k.result.0 + 1) c.in-Inner.children.items, inner.most))
+    rw (take_rest c.deref-in-Inner-3.result.now (c.child_at-k.result.0 + 1), c.deref-in-Inner-3.ensures.value) (omega (arith, length-drop (c.child_at-k.result.0 + 1) c.in-Inner.children.items, inner.most))
 
 pub run-requires-clause-short : goal.run-requires-clause-short
 run-requires-clause-short g t' c =
     let inner = opened _ _ _ _ c.self.view_is c.deref.ensures c.in-Inner.is c.self.invariant.0 in
     let short = seen_short c.self.inside.node.value c.self.view_is c.self.invariant.4 in
-    rw (slice_rest c.deref-in-Inner-3.result.now (c.child_at-k.result.0 + 1), c.deref-in-Inner-3.ensures.value) (omega (arith, joined-drop_le c.in-Inner.children.items (c.child_at-k.result.0 + 1), ap length inner.items, short))
+    rw (take_rest c.deref-in-Inner-3.result.now (c.child_at-k.result.0 + 1), c.deref-in-Inner-3.ensures.value) (omega (arith, joined-drop_le c.in-Inner.children.items (c.child_at-k.result.0 + 1), ap length inner.items, short))
 
 pub run-requires-clause-fits : goal.run-requires-clause-fits
 run-requires-clause-fits g t' c =
     let inner = opened _ _ _ _ c.self.view_is c.deref.ensures c.in-Inner.is c.self.invariant.0 in
     let known = seen_fits g.met.T.Summary.Summary.laws g.T.Item.sum_of g.met.T.Item.admitted c.self.inside.node.value c.self.view_is c.self.invariant.3 in
-    rw (slice_rest c.deref-in-Inner-3.result.now (c.child_at-k.result.0 + 1), c.deref-in-Inner-3.ensures.value) (fits_joined_drop g.met.T.Summary.Summary.laws g.T.Item.sum_of g.met.T.Item.admitted c.in-Inner.children.items (c.child_at-k.result.0 + 1) (rw inner.items at known))
+    rw (take_rest c.deref-in-Inner-3.result.now (c.child_at-k.result.0 + 1), c.deref-in-Inner-3.ensures.value) (fits_joined_drop g.met.T.Summary.Summary.laws g.T.Item.sum_of g.met.T.Item.admitted c.in-Inner.children.items (c.child_at-k.result.0 + 1) (rw inner.items at known))
 
 pub both-requires-clause-short : goal.both-requires-clause-short
 both-requires-clause-short g t' c =
@@ -74,7 +73,7 @@ returns-then-next-len-clause-items g t' c =
 
 pub run-requires-clause-some : goal.run-requires-clause-some
 run-requires-clause-some g t' c =
-    rw (slice_rest c.deref-in-Inner-3.result.now (c.child_at-k.result.0 + 1), c.deref-in-Inner-3.ensures.value) (omega (arith, length-drop (c.child_at-k.result.0 + 1) c.in-Inner.children.items, c.child_at-k.ensures.child, ap length c.deref-in-Inner.ensures.value, c.if-next-len.false, c.len-in-Inner.ensures, c.in-Inner.children.ok))
+    rw (take_rest c.deref-in-Inner-3.result.now (c.child_at-k.result.0 + 1), c.deref-in-Inner-3.ensures.value) (omega (arith, length-drop (c.child_at-k.result.0 + 1) c.in-Inner.children.items, c.child_at-k.ensures.child, ap length c.deref-in-Inner.ensures.value, c.if-next-len.false, c.len-in-Inner.ensures, c.in-Inner.children.ok))
 
 pub returns-in_err-rest-in-Inner-clause-cost : goal.returns-in_err-rest-in-Inner-clause-cost
 returns-in_err-rest-in-Inner-clause-cost g t' c =

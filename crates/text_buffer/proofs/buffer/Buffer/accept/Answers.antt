@@ -1,7 +1,7 @@
 use Rattle.std.proofs.Common.{inr, sym, ◌∙◌, ap, subst, length}
 use Rattle.op_model.proofs.settling.Settling.{good_alone}
 use Rattle.text_buffer.specs.Buffer.{BufferState, AllMiss, IsPartly, after_settle}
-use Rattle.text_buffer.specs.Settling.{IsHalted, IsTakenPartly}
+use Rattle.text_buffer.specs.Settling.{IsStoppedSettling, IsTakenPartly}
 use Rattle.text_buffer.proofs.Applied.{shape_of}
 use Rattle.text_buffer.proofs.Taken.{answer_good, one_applied, not_less, says, on_err}
 use Rattle.text_buffer.proofs.buffer.Buffer.accept.Goals as goal
@@ -29,4 +29,4 @@ returns-clause-applied c = says c.args.self.now c.args.op c.len-before.result c.
 
 pub returns-in_err-settle-clause-stopped : goal.returns-in_err-settle-clause-stopped
 returns-in_err-settle-clause-stopped c = on_err c.from_residual-in_err-settle.result (IsTakenPartly c.args.op c.args.self.now c.settle.new.self)
-    (inr (answer_good c.args.self.now c.args.op c.requires.good (sym c.in_default.ensures.fault), subst (λ (b : BufferState). IsHalted b c.settle.new.self) c.in_ok-apply.ensures.ok c.in_err-settle.ensures.stopped))
+    (inr (answer_good c.args.self.now c.args.op c.requires.good (sym c.in_default.ensures.fault), subst (λ (b : BufferState). IsStoppedSettling b c.settle.new.self) c.in_ok-apply.ensures.ok c.in_err-settle.ensures.stopped))

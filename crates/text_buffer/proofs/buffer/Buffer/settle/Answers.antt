@@ -1,6 +1,6 @@
 use Rattle.std.proofs.Common.{sym, subst, ap, length, ◌∙◌}
 use Rattle.text_buffer.specs.Buffer.{BufferState, AllMiss, IsPartly}
-use Rattle.text_buffer.specs.Settling.{IsStopped}
+use Rattle.text_buffer.specs.Settling.{IsStoppedPass}
 use Rattle.text_buffer.proofs.Taken.{on_err}
 use Rattle.text_buffer.proofs.Partly.{up, lawful, after_one, after_two, no_shorter, all_miss, stopped_partly, stopped_later}
 use Rattle.text_buffer.proofs.buffer.Buffer.settle.Goals as goal
@@ -17,7 +17,7 @@ returns-then-len-before-clause-waiting c = subst AllMiss (sym (returns-then-len-
 
 pub returns-in_err-pass-2-clause-want : goal.returns-in_err-pass-2-clause-want
 returns-in_err-pass-2-clause-want c = on_err c.from_residual-in_err-pass-2.result (IsPartly c.args.self.now c.pass-2.new.self) (stopped_later c.args.self.now c.pass-2.new.self (lawful c.self.inside c.args.self.now c.self.invariant c.self.view_is) (up c.self.inside c.args.self.now c.self.invariant c.self.view_is)
-    (subst (λ (b : BufferState). IsStopped b c.pass-2.new.self) c.in_ok-pass.ensures.ok c.in_err-pass-2.ensures.want))
+    (subst (λ (b : BufferState). IsStoppedPass b c.pass-2.new.self) c.in_ok-pass.ensures.ok c.in_err-pass-2.ensures.want))
 
 pub overflow_sub-result : goal.overflow_sub-result
 overflow_sub-result c = no_shorter c.self.inside c.self-3.inside c.args.self.now c.pass.new.self c.pass-2.new.self c.len-before.result c.len-2.result c.self.invariant c.self.view_is c.self-3.view_is

@@ -1,8 +1,8 @@
 use Rattle.std.proofs.Common.{◌≡◌, ◌∙◌, ℕ, List, [], length, ap, refl, subst, arith}
 use Rattle.op_model.specs.Shown.{text, hidden_text}
+use Rattle.op_model.proofs.texts.Lengths.{both_bytes}
 use Rattle.remote_edit.specs.Moves.{Texts, after_moves}
 use Rattle.text_buffer.specs.Document.{IsContent}
-use Rattle.text_buffer.proofs.Lengths.{both_bytes}
 use Rattle.text_buffer.proofs.Standing.{may_tell}
 use Rattle.text_buffer.proofs.snapshot.Snapshot.text_back.Goals as goal
 

@@ -1,7 +1,7 @@
 use Rattle.std.proofs.Common.{sym, ◌∙◌, Some, None}
 use Rattle.op_model.specs.declared.faults.UndoFault.TheVariants.{NoSuchEdit, Twice, CountEnd}
 use Rattle.op_answers.proofs.LocalUndo.{at_end, unknown, twice, ended, faultless, local_of, room_of}
-use Rattle.op_answers.proofs.local_undo.undo_fault.Goals as goal
+use Rattle.op_answers.proofs.local_undo.listed_fault.Goals as goal
 
 pub returns-in-Some-clause-fault : goal.returns-in-Some-clause-fault
 returns-in-Some-clause-fault c = unknown c.args.applied.now c.args.edits.now c.in-Some.edit (sym c.in-Some.ensures)

@@ -1,6 +1,6 @@
 use Rattle.std.proofs.Common.{◌≡◌, ◌++◌, drop}
 use Rattle.lamport_clock.specs.Versions.{join_versions, IsVersion}
-use Rattle.lamport_clock.proofs.version.merged.Given as goal
+use Rattle.lamport_clock.proofs.version.merge.Given as goal
 
 abbrev pub invariant-loop-replica : goal.invariant-loop-replica
 invariant-loop-replica l = record {

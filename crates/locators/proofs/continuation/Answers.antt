@@ -4,7 +4,7 @@ use Rattle.locators.specs.Reading.{AreFull}
 use Rattle.locators.specs.declared.runs.Run.{Run}
 use Rattle.locators.proofs.RunLists.{full, full-one}
 use Rattle.locators.proofs.Reading.{parts_one}
-use Rattle.locators.proofs.continued.Goals as goal
+use Rattle.locators.proofs.continuation.Goals as goal
 
 pub new-requires : goal.new-requires
 new-requires c =

@@ -1,7 +1,7 @@
 use Rattle.std.proofs.Common.{◌≡◌, ◌∙◌, ◌++◌, sym, ap, subst, max, [], ◌∷◌, get_or, drop, ◌+◌, ℕ}
 use Rattle.lamport_clock.specs.Versions.{Entries, IsVersion, behind, join_versions}
 use Rattle.lamport_clock.proofs.Joining.{joined_turn, version_drop, version_behind}
-use Rattle.lamport_clock.proofs.version.merged.Goals as goal
+use Rattle.lamport_clock.proofs.version.merge.Goals as goal
 
 pub loop-replica-preserved : goal.loop-replica-preserved
 loop-replica-preserved c =

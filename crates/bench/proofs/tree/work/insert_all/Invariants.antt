@@ -1,6 +1,6 @@
 use Rattle.std.proofs.Common.{◌≤◌}
 use Rattle.sum_tree.specs.Keyed.{Ascending}
-use Rattle.bench.proofs.tree.work.inserted.Given as goal
+use Rattle.bench.proofs.tree.work.insert_all.Given as goal
 
 abbrev pub invariant-loop : goal.invariant-loop
 invariant-loop g l = record {
