@@ -8,7 +8,7 @@ use Rattle.lamport_clock.specs.declared.stamp.Lamport.{Lamport}
 use Rattle.op_model.specs.Edits.{is_boundary}
 use Rattle.op_model.specs.Histories.{History, has_edit}
 use Rattle.op_model.specs.Cells.{Cell, seq, cells, cell_at}
-use Rattle.op_model.specs.Shown.{new_bytes, shown, text, hidden_text}
+use Rattle.op_model.specs.Shown.{new_bytes, shows, text, hidden_text}
 use Rattle.op_model.specs.Lawful.{Lawful}
 use Rattle.op_model.specs.declared.anchor.Anchor.{Anchor}
 use Rattle.op_model.specs.declared.anchor.Anchor.TheVariants.{Least, Greatest, At}
@@ -59,13 +59,13 @@ module _ (fs : List Fragment) (w : List IndexEntry) (v n : List ℕ) (h : Histor
       let k = some_spot h c p e in
       let x = split_cell h s.lawful c k.0 in
       let b = before_is h s.lawful x.0 c x.1 x.2 in
-      let a : p.is_shown ≡ shown h c = ap (λ (z : Spot). z.is_shown) k.1 in
+      let a : p.is_shown ≡ shows h c = ap (λ (z : Spot). z.is_shown) k.1 in
       let m : p.shown ≡ shown_count h x.0 = ap (λ (z : Spot). z.shown) k.1 ∙ ap (shown_count h) b in
       let d : p.cells ≡ length x.0 = ap (λ (z : Spot). z.cells) k.1 ∙ ap length b in
       let q : p.cells - p.shown ≡ length x.0 - shown_count h x.0 = omega (arith, m, d) in
-      go (cases_Bool (shown h c)) x.0 x.1 x.2 a m q k.0
+      go (cases_Bool (shows h c)) x.0 x.1 x.2 a m q k.0
     where
-      go : (shown h c ≡ true) ⊎ (shown h c ≡ false) → (cs ds : List Cell) → cells (seq h) ≡ cs ++ c ∷ ds → p.is_shown ≡ shown h c → p.shown ≡ shown_count h cs → p.cells - p.shown ≡ length cs - shown_count h cs
+      go : (shows h c ≡ true) ⊎ (shows h c ≡ false) → (cs ds : List Cell) → cells (seq h) ≡ cs ++ c ∷ ds → p.is_shown ≡ shows h c → p.shown ≡ shown_count h cs → p.cells - p.shown ≡ length cs - shown_count h cs
           → c.k < length (new_bytes h c.stamp) → begins v n p ≡ is_boundary (new_bytes h c.stamp) c.k
       go (inl t) cs ds x a m q i =
           let y = in_text h s.lawful cs c ds x t in
@@ -199,7 +199,7 @@ module _ (h : History) (t : Lamport) (k : ℕ) where
       let b = before_is h l x.0 c x.1 x.2 in
       let m : p.shown ≡ shown_count h x.0 = ap (λ (z : Spot). z.shown) e ∙ ap (shown_count h) b in
       let d : p.cells ≡ length x.0 = ap (λ (z : Spot). z.cells) e ∙ ap length b in
-      let a : ◌≡◌ {A = ℕ} (cond p.is_shown 1 0) (cond (shown h c) 1 0) = ap (λ (z : Spot). cond z.is_shown 1 0) e in
+      let a : ◌≡◌ {A = ℕ} (cond p.is_shown 1 0) (cond (shows h c) 1 0) = ap (λ (z : Spot). cond z.is_shown 1 0) e in
       let u = number_upto h l x.0 c x.1 x.2 in
       let y = length_upto h l x.0 c x.1 x.2 in
       standing_eq (omega (arith, m, a, u)) (omega (arith, d, y))

@@ -8,7 +8,7 @@ use Rattle.std.proofs.lemmas.List.{length-map}
 use Rattle.std.proofs.lemmas.Option.{slice_get_past, slice_get_within, none-some}
 use Rattle.op_model.specs.Histories.{History}
 use Rattle.op_model.specs.Cells.{Cell, cell_at}
-use Rattle.op_model.specs.Shown.{shown, text, byte}
+use Rattle.op_model.specs.Shown.{shows, text, byte}
 use Rattle.op_model.specs.Lawful.{Lawful}
 use Rattle.op_model.specs.declared.anchor.Anchor.TheVariants.{Least, Greatest, At}
 use Rattle.op_model.specs.declared.anchor.Bias.TheVariants.{Left, Right}
@@ -63,7 +63,7 @@ byte_is fs w u h o b n f s l a e =
     let t : Tell (a.pre ++ f ∷ a.post) h = subst (λ (z : List Fragment). Tell z h) a.parts s.cells in
     let c : Cell = cell_at f.stamp (f.offset + (o - b)) in
     let cs : List Cell = before h a.pre a.post f (o - b) t m in
-    let v : shown h c ≡ true = sym (is_shown h a.pre a.post f (o - b) t m) ∙ a.visible in
+    let v : shows h c ≡ true = sym (is_shown h a.pre a.post f (o - b) t m) ∙ a.visible in
     let k : shown_count h cs ≡ shown_len a.pre + cond f.visible (o - b) 0 = shown_before h a.pre a.post f (o - b) t m in
     let x : cond f.visible (o - b) 0 ≡ o - b = ap (λ (z : Bool). cond z (o - b) 0) a.visible in
     let q : shown_count h cs ≡ o = omega (arith, k, x, ct, lo) in

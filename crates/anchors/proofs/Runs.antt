@@ -6,7 +6,7 @@ use Rattle.std.proofs.lemmas.List.{length-append, length-map, map-append}
 use Rattle.lamport_clock.specs.declared.stamp.Lamport.{Lamport}
 use Rattle.op_model.specs.Histories.{History}
 use Rattle.op_model.specs.Cells.{Cell, seq, cells, cell_at}
-use Rattle.op_model.specs.Shown.{shown}
+use Rattle.op_model.specs.Shown.{shows}
 use Rattle.op_model.specs.Anchors.{shown_count}
 use Rattle.op_model.specs.Facts.{Fact, fact, cell_facts, alike}
 use Rattle.op_model.specs.Walked.{facts_of}
@@ -30,7 +30,7 @@ facts_append : (xs ys : List Fragment) → facts_of (runs (xs ++ ys)) ≡ facts_
 facts_append [] ys = refl
 facts_append (f ∷ xs) ys = ap (λ z. alike f.stamp f.offset f.len f.visible f.deletions ++ z) (facts_append xs ys) ∙ sym (append_assoc (alike f.stamp f.offset f.len f.visible f.deletions) (facts_of (runs xs)) (facts_of (runs ys)))
 
-told_shown : (h : History) (s : List Cell) → AllByRecursion (λ (q : Fact). q.visible ≡ shown h q.cell) (map (fact h) s)
+told_shown : (h : History) (s : List Cell) → AllByRecursion (λ (q : Fact). q.visible ≡ shows h q.cell) (map (fact h) s)
 told_shown h [] = tt
 told_shown h (c ∷ s) = (refl, told_shown h s)
 
@@ -40,12 +40,12 @@ visible_in : List Fact → ℕ
 visible_in [] = 0
 visible_in (q ∷ s) = cond q.visible (suc (visible_in s)) (visible_in s)
 
-visible_shown : (h : History) (s : List Fact) → AllByRecursion (λ (q : Fact). q.visible ≡ shown h q.cell) s → shown_count h (cells_in s) ≡ visible_in s
+visible_shown : (h : History) (s : List Fact) → AllByRecursion (λ (q : Fact). q.visible ≡ shows h q.cell) s → shown_count h (cells_in s) ≡ visible_in s
 unfolding visible_in
 visible_shown h [] e = refl
-visible_shown h (q ∷ s) e = go q.visible (shown h q.cell) e.0 (visible_shown h s e.1)
+visible_shown h (q ∷ s) e = go q.visible (shows h q.cell) e.0 (visible_shown h s e.1)
   where
-    go : (a b : Bool) → a ≡ b → shown_count h (cells_in s) ≡ visible_in s → length (cond b (q.cell ∷ filter (shown h) (cells_in s)) (filter (shown h) (cells_in s))) ≡ cond a (suc (visible_in s)) (visible_in s)
+    go : (a b : Bool) → a ≡ b → shown_count h (cells_in s) ≡ visible_in s → length (cond b (q.cell ∷ filter (shows h) (cells_in s)) (filter (shows h) (cells_in s))) ≡ cond a (suc (visible_in s)) (visible_in s)
     go true true i k = ap suc k
     go true false i k = cc
     go false true i k = cc
@@ -107,15 +107,15 @@ module _ (h : History) (pre post : List Fragment) (f : Fragment) (j : ℕ) (tell
   unfolding before behind
   cells_split = sym (told_cells h (cells (seq h))) ∙ ap cells_in told_is ∙ map-append (λ (q : Fact). q.cell) front (fact_at f.stamp (f.offset + j) f.visible f.deletions ∷ rest)
 
-  all_shown : AllByRecursion (λ (q : Fact). q.visible ≡ shown h q.cell) (front ++ fact_at f.stamp (f.offset + j) f.visible f.deletions ∷ rest)
-  all_shown = subst (AllByRecursion (λ (q : Fact). q.visible ≡ shown h q.cell)) told_is (told_shown h (cells (seq h)))
+  all_shown : AllByRecursion (λ (q : Fact). q.visible ≡ shows h q.cell) (front ++ fact_at f.stamp (f.offset + j) f.visible f.deletions ∷ rest)
+  all_shown = subst (AllByRecursion (λ (q : Fact). q.visible ≡ shows h q.cell)) told_is (told_shown h (cells (seq h)))
 
-  pub is_shown : f.visible ≡ shown h (cell_at f.stamp (f.offset + j))
-  is_shown = (each_right (λ (q : Fact). q.visible ≡ shown h q.cell) front (fact_at f.stamp (f.offset + j) f.visible f.deletions ∷ rest) all_shown).0
+  pub is_shown : f.visible ≡ shows h (cell_at f.stamp (f.offset + j))
+  is_shown = (each_right (λ (q : Fact). q.visible ≡ shows h q.cell) front (fact_at f.stamp (f.offset + j) f.visible f.deletions ∷ rest) all_shown).0
 
   pub shown_before : shown_count h before ≡ shown_len pre + cond f.visible j 0
   unfolding before front
-  shown_before = visible_shown h front (each_left (λ (q : Fact). q.visible ≡ shown h q.cell) front (fact_at f.stamp (f.offset + j) f.visible f.deletions ∷ rest) all_shown)
+  shown_before = visible_shown h front (each_left (λ (q : Fact). q.visible ≡ shows h q.cell) front (fact_at f.stamp (f.offset + j) f.visible f.deletions ∷ rest) all_shown)
       ∙ visible_append (facts_of (runs pre)) (alike f.stamp f.offset j f.visible f.deletions)
       ∙ ap (λ n. n + visible_in (alike f.stamp f.offset j f.visible f.deletions)) (visible_runs pre)
       ∙ ap (λ n. shown_len pre + n) (visible_alike f.stamp f.offset j f.visible f.deletions)
@@ -126,5 +126,5 @@ module _ (h : History) (pre post : List Fragment) (f : Fragment) (j : ℕ) (tell
       ∙ (let a = length_facts pre in let b = length_alike f.stamp f.offset j f.visible f.deletions in omega (arith, a, b))
 
 -- all shown cells
-pub all_visible : (h : History) (fs : List Fragment) → Tell fs h → length (filter (shown h) (cells (seq h))) ≡ shown_len fs
+pub all_visible : (h : History) (fs : List Fragment) → Tell fs h → length (filter (shows h) (cells (seq h))) ≡ shown_len fs
 all_visible h fs e = ap (shown_count h) (sym (told_cells h (cells (seq h)))) ∙ visible_shown h (cell_facts h) (told_shown h (cells (seq h))) ∙ ap visible_in (sym e) ∙ visible_runs fs

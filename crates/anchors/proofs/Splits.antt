@@ -10,7 +10,7 @@ use Rattle.op_model.proofs.Elements.{each_right}
 use Rattle.op_model.specs.Sorted.{EachPair}
 use Rattle.op_model.specs.Histories.{History}
 use Rattle.op_model.specs.Cells.{Cell, same_cell, seq, cells}
-use Rattle.op_model.specs.Shown.{shown, byte, text, hidden_text}
+use Rattle.op_model.specs.Shown.{shows, byte, text, hidden_text}
 use Rattle.op_model.specs.Lawful.{Lawful}
 use Rattle.op_model.specs.Anchors.{cells_before, cells_upto, shown_count, shown_cells}
 use Rattle.op_model.proofs.order.PathOrder.{same_cell_eq, same_cell_refl}
@@ -58,41 +58,41 @@ module _ (h : History) (l : Lawful h) (cs : List Cell) (c : Cell) (ds : List Cel
   pub upto_is : cells_upto (cells (seq h)) c ≡ cs ++ c ∷ []
   upto_is = ap (λ (s : List Cell). cells_upto s c) e ∙ upto_at cs c ds all_apart
 
-  pub number_upto : shown_count h (cells_upto (cells (seq h)) c) ≡ shown_count h cs + cond (shown h c) 1 0
-  number_upto = ap (shown_count h) upto_is ∙ ap length (filter-append (shown h) cs (c ∷ [])) ∙ length-append (filter (shown h) cs) (filter (shown h) (c ∷ []))
-      ∙ ap (λ n. shown_count h cs + n) (one_more (shown h c) c)
+  pub number_upto : shown_count h (cells_upto (cells (seq h)) c) ≡ shown_count h cs + cond (shows h c) 1 0
+  number_upto = ap (shown_count h) upto_is ∙ ap length (filter-append (shows h) cs (c ∷ [])) ∙ length-append (filter (shows h) cs) (filter (shows h) (c ∷ []))
+      ∙ ap (λ n. shown_count h cs + n) (one_more (shows h c) c)
 
   pub length_upto : length (cells_upto (cells (seq h)) c) ≡ length cs + 1
   length_upto = ap length upto_is ∙ length-append cs (c ∷ [])
 
   -- the cell among the shown ones, and its byte in the text
-  pub got_shown : shown h c ≡ true → slice_get (shown_cells h) (shown_count h cs) ≡ Some c
-  got_shown v = ap (λ (s : List Cell). slice_get (filter (shown h) s) (shown_count h cs)) e ∙ got_at (shown h) cs c ds v
+  pub got_shown : shows h c ≡ true → slice_get (shown_cells h) (shown_count h cs) ≡ Some c
+  got_shown v = ap (λ (s : List Cell). slice_get (filter (shows h) s) (shown_count h cs)) e ∙ got_at (shows h) cs c ds v
 
-  pub in_text : shown h c ≡ true → (shown_count h cs < length (text h)) × (get_or (text h) (shown_count h cs) 0 ≡ byte h c)
+  pub in_text : shows h c ≡ true → (shown_count h cs < length (text h)) × (get_or (text h) (shown_count h cs) 0 ≡ byte h c)
   in_text v = let k = got_map (byte h) (shown_cells h) (shown_count h cs) c (got_shown v) in
       subst (λ (t : List ℕ). (shown_count h cs < length t) × (get_or t (shown_count h cs) 0 ≡ byte h c)) (sym (texts_are_shown_cells h l).0) k
 
   number_hidden : ℕ
-  number_hidden = length (filter (λ (d : Cell). not (shown h d)) cs)
+  number_hidden = length (filter (λ (d : Cell). not (shows h d)) cs)
 
   hidden_count : number_hidden ≡ length cs - shown_count h cs
   unfolding number_hidden
-  hidden_count = let k = length-filter_both (shown h) (λ (c : Cell). not (shown h c)) (λ (c : Cell). refl) cs in omega (arith, k)
+  hidden_count = let k = length-filter_both (shows h) (λ (c : Cell). not (shows h c)) (λ (c : Cell). refl) cs in omega (arith, k)
 
-  pub in_hidden : shown h c ≡ false → (length cs - shown_count h cs < length (hidden_text h)) × (get_or (hidden_text h) (length cs - shown_count h cs) 0 ≡ byte h c)
+  pub in_hidden : shows h c ≡ false → (length cs - shown_count h cs < length (hidden_text h)) × (get_or (hidden_text h) (length cs - shown_count h cs) 0 ≡ byte h c)
   unfolding number_hidden
   in_hidden v =
-      let g : slice_get (filter (λ (d : Cell). not (shown h d)) (cells (seq h))) number_hidden ≡ Some c =
-      ap (λ (s : List Cell). slice_get (filter (λ (d : Cell). not (shown h d)) s) number_hidden) e ∙ got_at (λ (d : Cell). not (shown h d)) cs c ds (ap not v) in
-      let k = got_map (byte h) (filter (λ (d : Cell). not (shown h d)) (cells (seq h))) number_hidden c g in
+      let g : slice_get (filter (λ (d : Cell). not (shows h d)) (cells (seq h))) number_hidden ≡ Some c =
+      ap (λ (s : List Cell). slice_get (filter (λ (d : Cell). not (shows h d)) s) number_hidden) e ∙ got_at (λ (d : Cell). not (shows h d)) cs c ds (ap not v) in
+      let k = got_map (byte h) (filter (λ (d : Cell). not (shows h d)) (cells (seq h))) number_hidden c g in
       subst (λ (n : ℕ). (n < length (hidden_text h)) × (get_or (hidden_text h) n 0 ≡ byte h c)) hidden_count k
 
 -- the lengths of both texts
 pub both_lengths : (h : History) → Lawful h → length (text h) + length (hidden_text h) ≡ length (seq h)
 both_lengths h l =
-    let a = ap length (texts_are_shown_cells h l).0 ∙ length-map (filter (shown h) (cells (seq h))) (byte h) in
-    let b = length-map (filter (λ (c : Cell). not (shown h c)) (cells (seq h))) (byte h) in
-    let k = length-filter_both (shown h) (λ (c : Cell). not (shown h c)) (λ (c : Cell). refl) (cells (seq h)) in
+    let a = ap length (texts_are_shown_cells h l).0 ∙ length-map (filter (shows h) (cells (seq h))) (byte h) in
+    let b = length-map (filter (λ (c : Cell). not (shows h c)) (cells (seq h))) (byte h) in
+    let k = length-filter_both (shows h) (λ (c : Cell). not (shows h c)) (λ (c : Cell). refl) (cells (seq h)) in
     let n = length-map (seq h) (λ p. p.cell) in
     omega (arith, a, b, k, n)

@@ -5,7 +5,7 @@ use Rattle.lamport_clock.specs.Stamps.{same_stamp}
 use Rattle.op_model.specs.Histories.{History}
 use Rattle.op_model.specs.Edits.{is_boundary}
 use Rattle.op_model.specs.Cells.{Cell, seq, cells, cell_at}
-use Rattle.op_model.specs.Shown.{shown, new_bytes}
+use Rattle.op_model.specs.Shown.{shows, new_bytes}
 use Rattle.op_model.specs.Anchors.{cells_before, shown_count}
 use Rattle.op_model.specs.Lawful.{Lawful}
 use Rattle.fragments.specs.declared.fragment.Fragment.{Fragment}
@@ -20,7 +20,7 @@ use Rattle.anchors.specs.declared.spot.Run.{Run}
 -- whether c is shown, and how many shown cells and how many of all stand before it
 abbrev pub spot : History → Cell → Spot
 spot h c = record {
-  is_shown = shown h c;
+  is_shown = shows h c;
   shown = shown_count h (cells_before (cells (seq h)) c);
   cells = length (cells_before (cells (seq h)) c);
 }

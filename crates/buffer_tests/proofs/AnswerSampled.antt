@@ -6,7 +6,7 @@ use Rattle.op_model.specs.Histories.{History, base, version, operation_at}
 use Rattle.op_model.specs.Lawful.{Lawful}
 use Rattle.lamport_clock.specs.Stamps.{later, same_stamp}
 use Rattle.op_model.specs.Cells.{same_cell, sibling_first, seq_where, seq}
-use Rattle.op_model.specs.Shown.{deleters_where, shown_where, shown, text_where, text, hidden_text, full_where, full}
+use Rattle.op_model.specs.Shown.{deleters_where, shows_where, shows, text_where, text, hidden_text, full_where, full}
 use Rattle.op_model.specs.Facts.{cell_facts}
 use Rattle.sum_tree.specs.Laws.{fold}
 use Rattle.fragments.specs.declared.fragment.Fragment.{Fragment}
@@ -25,15 +25,15 @@ sample_version = refl
 
 -- neither of the two operations after the base changes a cell's place, its bytes or its deletions; the base is shown
 pub sample_told : run_facts base_run ≡ cell_facts sample
-unfolding later same_stamp same_cell sibling_first seq_where seq deleters_where shown_where shown
+unfolding later same_stamp same_cell sibling_first seq_where seq deleters_where shows_where shows
 sample_told = refl
 
 pub sample_text : base_text ≡ text sample
-unfolding later same_stamp same_cell sibling_first seq_where seq deleters_where shown_where shown text_where text
+unfolding later same_stamp same_cell sibling_first seq_where seq deleters_where shows_where shows text_where text
 sample_text = refl
 
 pub sample_hidden : [] ≡ hidden_text sample
-unfolding later same_stamp same_cell sibling_first seq_where seq deleters_where shown_where shown
+unfolding later same_stamp same_cell sibling_first seq_where seq deleters_where shows_where shows
 sample_hidden = refl
 
 -- one fragment of the base

@@ -13,8 +13,8 @@ use Rattle.op_model.specs.Sorted.{Member}
 use Rattle.op_model.specs.Operations.{stamp_of, counts_of}
 use Rattle.op_model.specs.Histories.{History, In, seen_history}
 use Rattle.op_model.specs.Cells.{Cell, seq, cells}
-use Rattle.op_model.specs.Shown.{greatest_given, count, undone, all_undone, deleters, shown}
-use Rattle.op_model.specs.Facts.{Fact, fact, cell_facts, alike as alike_facts, visible_by, was_visible}
+use Rattle.op_model.specs.Shown.{greatest_given, count, is_undone, are_undone, deleters, shows, visible_by}
+use Rattle.op_model.specs.Facts.{Fact, fact, cell_facts, alike as alike_facts, was_visible}
 use Rattle.op_model.specs.Walked.{facts_of}
 use Rattle.op_model.specs.Lawful.{Lawful, IsClosed}
 use Rattle.op_model.specs.Since.{Fate, fate, fates, is_shown_at as was_shown_in, runs as fate_runs, edits_of, since}
@@ -48,9 +48,9 @@ was_is h v l k c = ap (λ (b : Bool). sees v c.stamp && b) (shown_closed h l v k
 told_fates : (h : History) (v : Entries) → Lawful h → IsClosed h v → fates h v ≡ map (told_fate (undo_entries h) v) (cell_facts h)
 told_fates h v l k = go (cells (seq h))
   where
-    go : (s : List Cell) → map (λ (c : Cell). fate (was_shown_in h v c) (shown h c)) s ≡ map (told_fate (undo_entries h) v) (map (fact h) s)
+    go : (s : List Cell) → map (λ (c : Cell). fate (was_shown_in h v c) (shows h c)) s ≡ map (told_fate (undo_entries h) v) (map (fact h) s)
     go [] = refl
-    go (c ∷ s) = ap (λ (b : Bool). fate b (shown h c) ∷ map (λ (d : Cell). fate (was_shown_in h v d) (shown h d)) s) (was_is h v l k c)
+    go (c ∷ s) = ap (λ (b : Bool). fate b (shows h c) ∷ map (λ (d : Cell). fate (was_shown_in h v d) (shows h d)) s) (was_is h v l k c)
         ∙ ap (λ (z : List Fate). told_fate (undo_entries h) v (fact h c) ∷ z) (go s)
 
 alike_fates : (u : List UndoEntry) (v : Entries) (t : Lamport) (k n : ℕ) (b : Bool) (d : List Lamport) (s : List Fact)
@@ -74,7 +74,7 @@ fates_are fs u v h m =
 
 -- a cell of edit t that is shown or not, and deleted by these
 abbrev IsTold : History → Lamport → Bool → List Lamport → Type 0
-IsTold h t v d = (c : Cell) × (c.stamp ≡ t) × (v ≡ shown h c) × (d ≡ deleters h c)
+IsTold h t v d = (c : Cell) × (c.stamp ≡ t) × (v ≡ shows h c) × (d ≡ deleters h c)
 
 abbrev HasCell : History → Fragment → Type 0
 HasCell h f = IsTold h f.stamp f.visible f.deletions
@@ -103,10 +103,10 @@ count_seen (op ∷ h) v t f = go (cases_Bool (sees v (stamp_of op))) (count_seen
         let z : greatest_given (counts_of op) t ≡ 0 = given_none (counts_of op) t (λ c m q. let s = f op (inl refl) c m q in cc) in
         rw e (let g : count h t ≡ max (greatest_given (counts_of op) t) (count h t) = omega (arith, z) in ih ∙ g)
 
-undone_seen : (h : History) (v : Entries) (t : Lamport) → count (seen_history h v) t ≡ count h t → undone (seen_history h v) t ≡ undone h t
+undone_seen : (h : History) (v : Entries) (t : Lamport) → count (seen_history h v) t ≡ count h t → is_undone (seen_history h v) t ≡ is_undone h t
 undone_seen h v t e = ap (λ (n : ℕ). eqb (n % 2) 1) e
 
-all_seen : (h : History) (v : Entries) (d : List Lamport) → ((t : Lamport) → Member t d → (sees v t ≡ true) × (count (seen_history h v) t ≡ count h t)) → all_undone (seen_history h v) (filter (sees v) d) ≡ all_undone h d
+all_seen : (h : History) (v : Entries) (d : List Lamport) → ((t : Lamport) → Member t d → (sees v t ≡ true) × (count (seen_history h v) t ≡ count h t)) → are_undone (seen_history h v) (filter (sees v) d) ≡ are_undone h d
 all_seen h v [] f = refl
 all_seen h v (t ∷ d) f = rw ((f t (inl refl)).0, undone_seen h v t (f t (inl refl)).1, all_seen h v d (λ s m. f s (inr m))) refl
 

@@ -4,7 +4,7 @@ use Rattle.std.proofs.Common.{ℕ, suc, List, [], ◌∷◌, ◌∙◌, true, �
 use Rattle.op_model.specs.declared.operation.Operation.{Operation}
 use Rattle.op_model.specs.Histories.{History, newest_first}
 use Rattle.op_model.specs.Cells.{Cell, PathCell, everything, seq, cells}
-use Rattle.op_model.specs.Shown.{new_bytes, byte, shown_where, shown, text, full_where, full}
+use Rattle.op_model.specs.Shown.{new_bytes, byte, shows_where, shows, text, full_where, full}
 use Rattle.op_model.specs.Laws.{SameSetsAgree, PartsAreFiltered, GoodIsLaidIn, ReplayedByStamps, LeftNeighbours, EachCellOnce, DeletersDelete, EditChanges, NewCellsShown, UndoChanges, OneWalk, TextsAreUtf8, BoundariesAreStd, EqualOperationsAreSame, EditsAreGood, UndosAreGood, SettlingEnds, SettlingKeepsLawful, RunsStayLawful, TextsAreShownCells, SameSetsAnswerAlike, AnchorsStandWhereMade, AnchorsStandInOrder, RightAnchorsAreKnown, TwoPassesAreEnough, SetIsNeverRefused, SetIsAppliedWhole, HonestSetsAreApplied, SettlingAppends, RunsAppend, FrontsAreLawful, FrontsAreSeen, ClosedParts, SameSetsRefuseAlike, AnchorsKeepTheirOrder, UndoIsTold, WalksLeaveCells, EditsSinceTellTheChange, HiddenTextsAreUtf8, FactsChangeAtBoundaries, WalksKeepRunsWhole, AnchorsResolve, HonestSetsAreAppliedWhole, EditsSinceAreAtBoundaries, LawfulIsHistory, TextsAtClosedVersions}
 use Rattle.op_model.proofs.order.SameSets.{newest_of_set, seq_seen}
 use Rattle.op_model.proofs.shown.Parts.{shown_seen}
@@ -49,13 +49,13 @@ use Rattle.op_model.proofs.shown.Walking.{walk_some}
 use Rattle.op_model.proofs.histories.SameVersions.{version_same, since_fault_same, place_fault_same, resolved_same, compared_same}
 
 pub same_sets_agree : SameSetsAgree
-unfolding shown full
+unfolding shows full
 same_sets_agree h g l m s =
     let a = (lawful_ready h l).0 in
     let b = (lawful_ready g m).0 in
     let r = lawful_same h g l m s in
     let n : newest_first h ≡ newest_first g = newest_of_set h g a.distinct b.distinct s in
-    (r.0, (λ c. ap (λ (x : History). shown_where everything x c) n), r.1, ap (full_where everything) n)
+    (r.0, (λ c. ap (λ (x : History). shows_where everything x c) n), r.1, ap (full_where everything) n)
 
 pub parts_are_filtered : PartsAreFiltered
 parts_are_filtered h v = (seq_seen h v, (λ c. shown_seen h v c), text_seen h v, full_seen h v)
@@ -115,7 +115,7 @@ pub texts_are_shown_cells : TextsAreShownCells
 texts_are_shown_cells h l =
     let d = (lawful_ready h l).0.distinct in
     let r = lawful_replay h l in
-    (text_is h d, full_is h d, text_is h d ∙ ap (λ (s : List PathCell). map (byte h) (filter (shown h) (cells s))) r, full_is h d ∙ ap (λ (s : List PathCell). map (byte h) (cells s)) r)
+    (text_is h d, full_is h d, text_is h d ∙ ap (λ (s : List PathCell). map (byte h) (filter (shows h) (cells s))) r, full_is h d ∙ ap (λ (s : List PathCell). map (byte h) (cells s)) r)
 
 pub same_sets_answer_alike : SameSetsAnswerAlike
 same_sets_answer_alike h g l m s = (

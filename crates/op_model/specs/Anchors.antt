@@ -7,7 +7,7 @@ use Rattle.op_model.specs.Histories.{History, has_edit}
 use Rattle.op_model.specs.Choice.{first_of, when}
 use Rattle.op_model.specs.Edits.{is_boundary}
 use Rattle.op_model.specs.Cells.{Cell, same_cell, seq, cells}
-use Rattle.op_model.specs.Shown.{shown, text, new_bytes}
+use Rattle.op_model.specs.Shown.{shows, text, new_bytes}
 use Rattle.op_model.specs.declared.anchor.Anchor.{Anchor}
 use Rattle.op_model.specs.declared.anchor.Anchor.TheVariants.{Least, Greatest, At}
 use Rattle.op_model.specs.declared.anchor.Bias.TheVariants.{Left, Right}
@@ -18,7 +18,7 @@ use Rattle.op_model.specs.declared.faults.PlaceFault.TheVariants.{PastEnd, Insid
 
 -- the shown cells in order
 abbrev pub shown_cells : History → List Cell
-shown_cells h = filter (shown h) (cells (seq h))
+shown_cells h = filter (shows h) (cells (seq h))
 
 -- the anchor made at offset o of the text, where a character begins or the text ends: Least for Left at 0, Greatest for Right at
 -- the end; else Left names shown cell o - 1, Right shown cell o. None past the end
@@ -41,7 +41,7 @@ cells_upto [] c = []
 cells_upto (d ∷ s) c = if same_cell d c then d ∷ [] else d ∷ cells_upto s c
 
 abbrev pub shown_count : History → List Cell → ℕ
-shown_count h s = length (filter (shown h) s)
+shown_count h s = length (filter (shows h) s)
 
 -- where a known anchor stands in the text: Left counts the shown cells up to and including its own, Right those before its own
 unfoldable pub place : History → Anchor → ℕ

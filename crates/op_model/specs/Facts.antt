@@ -8,7 +8,7 @@ use Rattle.op_model.specs.declared.operation.Piece.{Piece}
 use Rattle.op_model.specs.Sorted.{insert_by}
 use Rattle.op_model.specs.Histories.{History}
 use Rattle.op_model.specs.Cells.{Cell, seq, cells}
-use Rattle.op_model.specs.Shown.{undone, all_undone, deleters, shown}
+use Rattle.op_model.specs.Shown.{visible_by, deleters, shows}
 
 -- a cell, whether it is shown, and the edits that delete it, the greatest stamp first
 pub record Fact : Type 0 where
@@ -17,7 +17,7 @@ pub record Fact : Type 0 where
   pub deletions : List Lamport
 
 abbrev pub fact : History → Cell → Fact
-fact h c = record { cell = c; visible = shown h c; deletions = deleters h c }
+fact h c = record { cell = c; visible = shows h c; deletions = deleters h c }
 
 -- all cells of h in order, with what is told of them
 abbrev pub cell_facts : History → List Fact
@@ -51,7 +51,7 @@ with_deletion t d = insert_by stamp_first t d
 
 -- a cell of edit u with deletions d was shown in what v sees, w being that part of the history
 abbrev pub was_visible : History → Entries → Lamport → List Lamport → Bool
-was_visible w v u d = not (undone w u) && all_undone w (filter (sees v) d)
+was_visible w v u d = visible_by w u (filter (sees v) d)
 
 -- what an edit t with version v makes of a cell in its ranges: it deletes it where it was shown
 abbrev pub new_visible : History → Entries → Lamport → Bool → List Lamport → Bool
@@ -59,10 +59,6 @@ new_visible w v u b d = if was_visible w v u d then false else b
 
 abbrev pub new_deletions : Lamport → History → Entries → Lamport → List Lamport → List Lamport
 new_deletions t w v u d = if was_visible w v u d then with_deletion t d else d
-
--- what is told of a cell by the counts of e
-abbrev pub visible_by : History → Lamport → List Lamport → Bool
-visible_by e u d = not (undone e u) && all_undone e d
 
 -- ns put past those at the front whose stamps are later than t
 abbrev pub past_later : Lamport → List Fact → List Fact → List Fact

@@ -9,10 +9,10 @@ use Rattle.op_model.specs.Operations.{stamp_of, version_of, pieces_of, is_edit}
 use Rattle.op_model.specs.Histories.{base, History, In, SameSet, seen_history, newest_first, version, bytes_held, entries_held}
 use Rattle.op_model.specs.Cells.{Cell, PathCell, before, op_places, seq_where, seq, cells}
 use Rattle.op_model.specs.Laid.{only, lay, replay_by_stamps}
-use Rattle.op_model.specs.Shown.{byte, IsCell, shown_where, shown, deleters, deletes, text_where, text, full_where, full, hidden_text, new_bytes}
+use Rattle.op_model.specs.Shown.{byte, IsCell, shows_where, shows, deleters, deletes, text_where, text, full_where, full, hidden_text, new_bytes, visible_by}
 use Rattle.op_model.specs.Answers.Answer.{Good, Repeat, Waits}
 use Rattle.op_model.specs.Lawful.{Lawful, Honest, IsClosed}
-use Rattle.op_model.specs.Facts.{Fact, Marking, Continues, was_visible, cell_facts, edit_marking, with_deletion, visible_by}
+use Rattle.op_model.specs.Facts.{Fact, Marking, Continues, was_visible, cell_facts, edit_marking, with_deletion}
 use Rattle.op_model.specs.Walked.{Run, IsWhole, facts_of, walk}
 use Rattle.op_model.specs.Domains.{IsProper, IsReplica, IsHistory}
 use Rattle.op_model.specs.Edits.{is_boundary, replace_ranges}
@@ -32,12 +32,12 @@ use Rattle.op_model.specs.Brought.{operations_of_calls, NoFull}
 -- two lawful histories of the same operations, in whatever order, have the same sequence and show the same
 abbrev pub SameSetsAgree : Type 0
 SameSetsAgree = (h g : History) → Lawful h → Lawful g → SameSet h g
-    → (seq h ≡ seq g) × ((c : Cell) → shown h c ≡ shown g c) × (text h ≡ text g) × (full h ≡ full g)
+    → (seq h ≡ seq g) × ((c : Cell) → shows h c ≡ shows g c) × (text h ≡ text g) × (full h ≡ full g)
 
 -- the definitions by a test of stamps are those of the filtered history
 abbrev pub PartsAreFiltered : Type 0
 PartsAreFiltered = (h : History) → (v : Entries) → (seq (seen_history h v) ≡ seq_where (sees v) (newest_first h))
-    × ((c : Cell) → shown (seen_history h v) c ≡ shown_where (sees v) (newest_first h) c)
+    × ((c : Cell) → shows (seen_history h v) c ≡ shows_where (sees v) (newest_first h) c)
     × (text (seen_history h v) ≡ text_where (sees v) (newest_first h))
     × (full (seen_history h v) ≡ full_where (sees v) (newest_first h))
 
@@ -73,19 +73,19 @@ abbrev pub EditChanges : Type 0
 EditChanges = (h : History) → (op : Operation) → Lawful h → answer h [] op ≡ Good → is_edit op ≡ true → (c : Cell)
     → (deleters (h ++ op ∷ []) c
     ≡ (if deletes h op c then with_deletion (stamp_of op) (deleters h c) else deleters h c))
-    × (shown (h ++ op ∷ []) c ≡ (if deletes h op c then false else shown h c))
+    × (shows (h ++ op ∷ []) c ≡ (if deletes h op c then false else shows h c))
 
 -- no edit deletes a cell of a new edit, and it is shown
 abbrev pub NewCellsShown : Type 0
 NewCellsShown = (h : History) → (op : Operation) → Lawful h → answer h [] op ≡ Good → is_edit op ≡ true → (n : ℕ)
     → (deleters (h ++ op ∷ []) (record { stamp = stamp_of op; k = n }) ≡ [])
-    × (shown (h ++ op ∷ []) (record { stamp = stamp_of op; k = n }) ≡ true)
+    × (shows (h ++ op ∷ []) (record { stamp = stamp_of op; k = n }) ≡ true)
 
 -- an undo deletes nothing; it shows and hides cells by the new counts of their edit and of those that delete them
 abbrev pub UndoChanges : Type 0
 UndoChanges = (h : History) → (op : Operation) → Lawful h → answer h [] op ≡ Good → is_edit op ≡ false → (c : Cell)
     → (deleters (h ++ op ∷ []) c ≡ deleters h c)
-    × (shown (h ++ op ∷ []) c ≡ visible_by (h ++ op ∷ []) c.stamp (deleters h c))
+    × (shows (h ++ op ∷ []) c ≡ visible_by (h ++ op ∷ []) c.stamp (deleters h c))
 
 -- one walk over runs of cells, from the first piece of a good edit to the last, makes runs that tell of the history with it
 -- from runs that tell of the history: a run is passed whole where it is later, and split at most at the ends of ranges
@@ -145,8 +145,8 @@ RunsStayLawful = (l : LimitsType) → (r : ℕ) → (t : List ℕ) → (cs : Lis
 -- the text is the bytes of the shown cells in order, the full text those of all; and both by the operations gone through by stamps
 abbrev pub TextsAreShownCells : Type 0
 TextsAreShownCells = (h : History) → Lawful h
-    → (text h ≡ map (byte h) (filter (shown h) (cells (seq h)))) × (full h ≡ map (byte h) (cells (seq h)))
-    × (text h ≡ map (byte h) (filter (shown h) (cells (replay_by_stamps h))))
+    → (text h ≡ map (byte h) (filter (shows h) (cells (seq h)))) × (full h ≡ map (byte h) (cells (seq h)))
+    × (text h ≡ map (byte h) (filter (shows h) (cells (replay_by_stamps h))))
     × (full h ≡ map (byte h) (cells (replay_by_stamps h)))
 
 -- two lawful histories of the same operations make and resolve anchors alike, order them alike, and tell the same edits since
@@ -241,7 +241,7 @@ ClosedParts = (h : History) → (v : Entries) → Lawful h → IsClosed h v
 -- the version is the bytes of the cells that were shown, in the order of the whole
 abbrev pub TextsAtClosedVersions : Type 0
 TextsAtClosedVersions = (h : History) → (v : Entries) → Lawful h → IsClosed h v
-    → ((c : Cell) → shown (seen_history h v) c ≡ was_visible (seen_history h v) v c.stamp (deleters h c))
+    → ((c : Cell) → shows (seen_history h v) c ≡ was_visible (seen_history h v) v c.stamp (deleters h c))
     × (text_at h v ≡ map (byte h) (filter (is_shown_at h v) (cells (seq h))))
 
 -- two lawful histories of the same operations have one version, refuse the same places and versions, and resolve and order the

@@ -17,7 +17,7 @@ use Rattle.op_model.specs.Histories.{History, version, clock, has_edit}
 use Rattle.op_model.specs.Limited.{excess}
 use Rattle.op_model.specs.Edits.{edit_fault}
 use Rattle.op_model.specs.Cells.{Cell, seq, cells}
-use Rattle.op_model.specs.Shown.{count, shown, text}
+use Rattle.op_model.specs.Shown.{count, shows, text}
 
 -- the number of all cells of s before shown cell o, or of all where there is none
 abbrev pub full_offset : (Cell → Bool) → List Cell → ℕ → ℕ
@@ -28,7 +28,7 @@ full_offset is_shown (c ∷ s) (suc o) = suc (full_offset is_shown s (if is_show
 -- a piece, without fault against text(h), taken to full offsets: an empty range stays empty, another ends one past its last shown cell
 abbrev pub full_piece : History → Piece → Piece
 full_piece h p =
-    let at : (o : ℕ) → ℕ = λ o. full_offset (shown h) (cells (seq h)) o in
+    let at : (o : ℕ) → ℕ = λ o. full_offset (shows h) (cells (seq h)) o in
     record { start = at p.start; end = if p.start == p.end then at p.start else suc (at (p.end - 1)); text = p.text }
 
 -- the edit that replica r, 1 to 1023, makes at h, where it meets no fault

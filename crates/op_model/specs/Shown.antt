@@ -20,12 +20,12 @@ abbrev pub count : History → Lamport → ℕ
 count [] t = 0
 count (op ∷ h) t = max (greatest_given (counts_of op) t) (count h t)
 
-abbrev pub undone : History → Lamport → Bool
-undone h t = count h t % 2 == 1
+abbrev pub is_undone : History → Lamport → Bool
+is_undone h t = count h t % 2 == 1
 
-abbrev pub all_undone : History → List Lamport → Bool
-all_undone h [] = true
-all_undone h (t ∷ ts) = undone h t && all_undone h ts
+abbrev pub are_undone : History → List Lamport → Bool
+are_undone h [] = true
+are_undone h (t ∷ ts) = is_undone h t && are_undone h ts
 
 -- i lies in a piece's range
 abbrev pub in_pieces : List Piece → ℕ → Bool
@@ -37,9 +37,9 @@ abbrev pub in_ranges : List PathCell → ℕ → List Piece → Cell → Bool
 in_ranges [] i ps c = false
 in_ranges (p ∷ s) i ps c = (same_cell p.cell c && in_pieces ps i) || in_ranges s (suc i) ps c
 
--- c's edit is not undone, and each of the edits that delete c is
-abbrev pub shown_by : History → List Lamport → Cell → Bool
-shown_by h deleters c = not (undone h c.stamp) && all_undone h deleters
+-- a cell of edit u with deletions d is visible by the counts of h: u is not undone, and each of d is
+abbrev pub visible_by : History → Lamport → List Lamport → Bool
+visible_by h u d = not (is_undone h u) && are_undone h d
 
 -- the edits that delete c, of the part of h whose stamps pass, where the stamps of h descend: those at whose ranges it
 -- stands in the sequence of the part that the edit's version sees, and that it is shown in
@@ -47,26 +47,26 @@ unfoldable pub deleters_where : (Lamport → Bool) → History → Cell → List
 deleters_where keep [] c = []
 deleters_where keep (op ∷ h) c =
     if keep (stamp_of op) && in_ranges (seq_where (both keep (version_of op)) h) 0 (pieces_of op) c
-    && shown_by (kept_history (both keep (version_of op)) h) (deleters_where (both keep (version_of op)) h c) c
+    && visible_by (kept_history (both keep (version_of op)) h) c.stamp (deleters_where (both keep (version_of op)) h c)
     then stamp_of op ∷ deleters_where keep h c
     else deleters_where keep h c
 
 -- c is shown in the part of h whose stamps pass, where the stamps of h descend
-unfoldable pub shown_where : (Lamport → Bool) → History → Cell → Bool
-shown_where keep h c = shown_by (kept_history keep h) (deleters_where keep h c) c
+unfoldable pub shows_where : (Lamport → Bool) → History → Cell → Bool
+shows_where keep h c = visible_by (kept_history keep h) c.stamp (deleters_where keep h c)
 
 -- the edits of h that delete c, the greatest stamp first
 abbrev pub deleters : History → Cell → List Lamport
 deleters h c = deleters_where everything (newest_first h) c
 
 -- c, a cell of h, is shown: its edit is not undone, and each edit that deletes it is
-unfoldable pub shown : History → Cell → Bool
-shown h c = shown_where everything (newest_first h) c
+unfoldable pub shows : History → Cell → Bool
+shows h c = shows_where everything (newest_first h) c
 
 -- op, of h, deletes c: c stands at a range of op in the sequence of what op's version sees, and is shown there
 abbrev pub deletes : History → Operation → Cell → Bool
-deletes h op c = in_ranges (seq (seen_history h (version_of op))) 0 (pieces_of op) c && shown
-    (seen_history h (version_of op)) c
+deletes h op c = in_ranges (seq (seen_history h (version_of op))) 0 (pieces_of op) c
+    && shows (seen_history h (version_of op)) c
 
 abbrev pub texts : List Piece → List ℕ
 texts [] = []
@@ -86,7 +86,7 @@ byte h c = slice_index (new_bytes h c.stamp) c.k
 
 -- the shown and all bytes of the part of h whose stamps pass, where the stamps of h descend
 unfoldable pub text_where : (Lamport → Bool) → History → List ℕ
-text_where keep h = map (byte h) (filter (shown_where keep h) (cells (seq_where keep h)))
+text_where keep h = map (byte h) (filter (shows_where keep h) (cells (seq_where keep h)))
 
 unfoldable pub full_where : (Lamport → Bool) → History → List ℕ
 full_where keep h = map (byte h) (cells (seq_where keep h))
@@ -101,4 +101,4 @@ full h = full_where everything (newest_first h)
 
 -- the bytes of the hidden cells of h in order
 abbrev pub hidden_text : History → List ℕ
-hidden_text h = map (byte h) (filter (λ (c : Cell). not (shown h c)) (cells (seq h)))
+hidden_text h = map (byte h) (filter (λ (c : Cell). not (shows h c)) (cells (seq h)))

@@ -3,7 +3,7 @@ use Rattle.std.specs.Prelude.{ℕ, suc, ◌+◌, Bool, true, false, ◌&&◌, if
 use Rattle.lamport_clock.specs.Versions.{Entries, sees}
 use Rattle.op_model.specs.Histories.{History, seen_history}
 use Rattle.op_model.specs.Cells.{Cell, seq, cells}
-use Rattle.op_model.specs.Shown.{shown, text}
+use Rattle.op_model.specs.Shown.{shows, text}
 use Rattle.op_model.specs.Choice.{first_of}
 use Rattle.op_model.specs.Answers.{open_replica}
 use Rattle.op_model.specs.Lawful.{unseen_replica}
@@ -21,10 +21,10 @@ fate then_shown now_shown = if then_shown then (if now_shown then Kept else Gone
 
 -- c is a cell of what v sees, and shown there
 abbrev pub is_shown_at : History → Entries → Cell → Bool
-is_shown_at h v c = sees v c.stamp && shown (seen_history h v) c
+is_shown_at h v c = sees v c.stamp && shows (seen_history h v) c
 
 abbrev pub fates : History → Entries → List Fate
-fates h v = map (λ (c : Cell). fate (is_shown_at h v c) (shown h c)) (cells (seq h))
+fates h v = map (λ (c : Cell). fate (is_shown_at h v c) (shows h c)) (cells (seq h))
 
 -- the fates with x before the first run
 abbrev pub lengthen : Fate → List (List Fate) → List (List Fate)

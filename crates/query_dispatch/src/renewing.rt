@@ -112,7 +112,7 @@ fn answer_anew<R: Threads + Sync, Q: Query<A> + Drop, A: Drop>(
     })
 }
 
-// What was asked: the number, the replica and the query. The answer is dropped.
+// What was asked: its number, the index and the query. The answer is dropped.
 fn ask_parts<Q: Drop, A: Drop>(answer: Answer<Q, A>) -> (u64, u32, Q)
     ensures number { result.0 ≡ answer.number }
     ensures index { result.1 ≡ answer.index }

@@ -39,7 +39,7 @@ pub(crate) fn work<R: Threads + Wait + Sync, G: Gate, Q: Query<A> + Drop, A: Dro
         match take(rt, &queue, &mut pass) {
             None => thread::yield_now(),
             Some(Entry::End) => {
-                let answers = unless_failed(failed, answers);
+                let answers = answers_or_failure(failed, answers);
                 return Done {
                     pass,
                     readers,
@@ -57,7 +57,7 @@ pub(crate) fn work<R: Threads + Wait + Sync, G: Gate, Q: Query<A> + Drop, A: Dro
     unreachable!()
 }
 
-fn unless_failed<Q: Drop, A: Drop>(
+fn answers_or_failure<Q: Drop, A: Drop>(
     failed: bool,
     answers: Vec<Answer<Q, A>>,
 ) -> Result<Vec<Answer<Q, A>>, OutOfMemory>

@@ -15,7 +15,7 @@ use Rattle.fragments.specs.Stand.{runs}
 use Rattle.fragments.specs.Laws.{shown_len}
 use Rattle.remote_edit.specs.declared.moves.Move.{Move}
 use Rattle.remote_edit.specs.declared.moves.Move.TheVariants.{Visible, Hidden, Insert}
-use Rattle.remote_edit.specs.Moves.{texts_of, followed_by, with_move, TakeTexts, HaveMoved}
+use Rattle.remote_edit.specs.Moves.{texts_of, with_fronts, with_move, TakeTexts, HaveMoved}
 use Rattle.remote_edit.specs.Carried.{CarryOn, move_for, shown_bytes, hidden_bytes, both_bytes, hidden_len, cell_bytes, IsText, Carried}
 use Rattle.remote_edit.proofs.Stepping.{step, keep}
 use Rattle.remote_edit.proofs.Characters.{take_more, take_kept}
@@ -65,7 +65,7 @@ module _ (byte : Cell → ℕ) where
   hidden_append (x ∷ xs) ys = hidden_first x (xs ++ ys) ∙ ap (λ z. cond (not x.visible) (bytes_of x ++ z) z) (hidden_append xs ys)
       ∙ parts (not x.visible) (bytes_of x) (hidden_bytes byte xs) (hidden_bytes byte ys) ∙ ap (λ z. z ++ hidden_bytes byte ys) (sym (hidden_first x xs))
 
-  pub both_append : (xs ys : List Fragment) → both_bytes byte (xs ++ ys) ≡ followed_by (shown_bytes byte xs) (hidden_bytes byte xs) (both_bytes byte ys)
+  pub both_append : (xs ys : List Fragment) → both_bytes byte (xs ++ ys) ≡ with_fronts (shown_bytes byte xs) (hidden_bytes byte xs) (both_bytes byte ys)
   both_append xs ys = rw (shown_append xs ys, hidden_append xs ys) refl
 
   -- a move behind others, where it takes what stands between pre and rest

@@ -9,11 +9,11 @@ use Rattle.op_model.specs.declared.operation.Operation.{Operation}
 use Rattle.op_model.specs.Operations.{stamp_of, version_of, pieces_of, text_total}
 use Rattle.op_model.specs.Histories.{History, newest_first}
 use Rattle.op_model.specs.Cells.{Cell, cells, seq}
-use Rattle.op_model.specs.Shown.{texts, deleters, deletes}
+use Rattle.op_model.specs.Shown.{texts, deleters, deletes, visible_by}
 use Rattle.op_model.specs.Answers.{answer}
 use Rattle.op_model.specs.Answers.Answer.{Good}
 use Rattle.op_model.specs.Lawful.{Lawful}
-use Rattle.op_model.specs.Facts.{Fact, fact, visible_by}
+use Rattle.op_model.specs.Facts.{Fact, fact}
 use Rattle.op_model.specs.Walked.{Run, run_facts, facts_of}
 use Rattle.op_model.specs.Walked as W
 use Rattle.op_model.proofs.order.Groups.{passed_unseen}

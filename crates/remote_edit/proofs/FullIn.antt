@@ -10,7 +10,7 @@ use Rattle.lamport_clock.specs.declared.stamp.Lamport.{Lamport}
 use Rattle.op_model.specs.declared.operation.Piece.{Piece}
 use Rattle.op_model.specs.Histories.{History}
 use Rattle.op_model.specs.Cells.{Cell, seq, cells}
-use Rattle.op_model.specs.Shown.{shown}
+use Rattle.op_model.specs.Shown.{shows}
 use Rattle.op_model.specs.Facts.{Fact, fact, alike}
 use Rattle.op_model.specs.Walked.{facts_of}
 use Rattle.op_model.specs.Made.{full_offset, full_piece}
@@ -31,11 +31,11 @@ offset_of [] o = 0
 offset_of (q ∷ s) zero = cond q.visible 0 (suc (offset_of s zero))
 offset_of (q ∷ s) (suc o) = suc (offset_of s (cond q.visible o (suc o)))
 
-told_offset : (h : History) (s : List Cell) (o : ℕ) → offset_of (map (fact h) s) o ≡ full_offset (shown h) s o
+told_offset : (h : History) (s : List Cell) (o : ℕ) → offset_of (map (fact h) s) o ≡ full_offset (shows h) s o
 unfolding offset_of
 told_offset h [] o = refl
-told_offset h (c ∷ s) zero = ap (λ n. cond (shown h c) 0 (suc n)) (told_offset h s zero)
-told_offset h (c ∷ s) (suc o) = ap suc (told_offset h s (cond (shown h c) o (suc o)))
+told_offset h (c ∷ s) zero = ap (λ n. cond (shows h c) 0 (suc n)) (told_offset h s zero)
+told_offset h (c ∷ s) (suc o) = ap suc (told_offset h s (cond (shows h c) o (suc o)))
 
 shown_in : (t : Lamport) (k n : ℕ) (d : List Lamport) (s : List Fact) (o : ℕ) → o < n → offset_of (alike t k n true d ++ s) o ≡ o
 unfolding offset_of
@@ -68,7 +68,7 @@ full_is (f ∷ fs) o = go f.visible (λ n. full_is fs n)
     ]
     go false ih = ap (λ n. f.len + n) (ih o) ∙ sym (hidden_past f.stamp f.offset f.len f.deletions (facts_of (runs fs)) o)
 
-pub full_in_history : (h : History) (fs : List Fragment) → Tell fs h → (o : ℕ) → full_in fs o ≡ full_offset (shown h) (cells (seq h)) o
+pub full_in_history : (h : History) (fs : List Fragment) → Tell fs h → (o : ℕ) → full_in fs o ≡ full_offset (shows h) (cells (seq h)) o
 full_in_history h fs e o = full_is fs o ∙ ap (λ s. offset_of s o) e ∙ told_offset h (cells (seq h)) o
 
 piece_is : (h : History) (fs : List Fragment) → Tell fs h → (p : Piece) → piece_in fs p ≡ full_piece h p

@@ -5,7 +5,7 @@ use Rattle.std.proofs.lemmas.List.{append-nil, drop-drop}
 use Rattle.std.proofs.lemmas.Bool.{cases_Bool, eqb-true, false_from_ne_true}
 use Rattle.remote_edit.specs.declared.moves.Move.{Move}
 use Rattle.remote_edit.specs.declared.moves.Move.TheVariants.{Visible, Hidden, Hide, Show, Insert}
-use Rattle.remote_edit.specs.Moves.{Texts, texts_of, followed_by, after_moves, DoTheSame, length_of, as_one, join_moves, with_last, with_move, from_shown, from_hidden, from_new, MovesCompose, JoinedMovesDoTheSame, KeptBytesCommute}
+use Rattle.remote_edit.specs.Moves.{Texts, texts_of, with_fronts, after_moves, DoTheSame, length_of, as_one, join_moves, with_last, with_move, from_shown, from_hidden, from_new, MovesCompose, JoinedMovesDoTheSame, KeptBytesCommute}
 
 -- ---- which list it is
 
@@ -38,7 +38,7 @@ first_one (m ∷ ms) next b e = absurd (omega (arith, e))
 
 -- ---- what moves do one after the other
 
-pub twice : (a b c d : List ℕ) (r : Texts) → followed_by a b (followed_by c d r) ≡ followed_by (a ++ c) (b ++ d) r
+pub twice : (a b c d : List ℕ) (r : Texts) → with_fronts a b (with_fronts c d r) ≡ with_fronts (a ++ c) (b ++ d) r
 twice a b c d r = ap (λ x. texts_of x (b ++ (d ++ r.hidden))) (sym (append_assoc a c r.shown)) ∙ ap (λ x. texts_of ((a ++ c) ++ r.shown) x) (sym (append_assoc b d r.hidden))
 
 pub compose : MovesCompose
@@ -63,21 +63,21 @@ compose (Insert k ∷ ms) ns s h n =
 
 pub same_behind : (ms : List Move) (ks ns : List Move) → DoTheSame ks ns → DoTheSame (ms ++ ks) (ms ++ ns)
 same_behind [] ks ns e s h n = e s h n
-same_behind (Visible k ∷ ms) ks ns e s h n = ap (followed_by (take k s) []) (same_behind ms ks ns e (drop k s) h n)
-same_behind (Hidden k ∷ ms) ks ns e s h n = ap (followed_by [] (take k h)) (same_behind ms ks ns e s (drop k h) n)
-same_behind (Hide k ∷ ms) ks ns e s h n = ap (followed_by [] (take k s)) (same_behind ms ks ns e (drop k s) h n)
-same_behind (Show k ∷ ms) ks ns e s h n = ap (followed_by (take k h) []) (same_behind ms ks ns e s (drop k h) n)
-same_behind (Insert k ∷ ms) ks ns e s h n = ap (followed_by (take k n) []) (same_behind ms ks ns e s h (drop k n))
+same_behind (Visible k ∷ ms) ks ns e s h n = ap (with_fronts (take k s) []) (same_behind ms ks ns e (drop k s) h n)
+same_behind (Hidden k ∷ ms) ks ns e s h n = ap (with_fronts [] (take k h)) (same_behind ms ks ns e s (drop k h) n)
+same_behind (Hide k ∷ ms) ks ns e s h n = ap (with_fronts [] (take k s)) (same_behind ms ks ns e (drop k s) h n)
+same_behind (Show k ∷ ms) ks ns e s h n = ap (with_fronts (take k h) []) (same_behind ms ks ns e s (drop k h) n)
+same_behind (Insert k ∷ ms) ks ns e s h n = ap (with_fronts (take k n) []) (same_behind ms ks ns e s h (drop k n))
 
 pub kept_commute : KeptBytesCommute
 kept_commute ms ns a b = same_behind ms (Visible a ∷ Hidden b ∷ ns) (Hidden b ∷ Visible a ∷ ns) (λ s h n. refl)
 
 -- ---- two moves of a kind
 
-to_shown : (a b : ℕ) (s : List ℕ) (f : List ℕ → Texts) → followed_by (take (a + b) s) [] (f (drop (a + b) s)) ≡ followed_by (take a s) [] (followed_by (take b (drop a s)) [] (f (drop b (drop a s))))
+to_shown : (a b : ℕ) (s : List ℕ) (f : List ℕ → Texts) → with_fronts (take (a + b) s) [] (f (drop (a + b) s)) ≡ with_fronts (take a s) [] (with_fronts (take b (drop a s)) [] (f (drop b (drop a s))))
 to_shown a b s f = rw (take-add a b s, ← drop-drop b a s) (sym (twice (take a s) [] (take b (drop a s)) [] (f (drop b (drop a s)))))
 
-to_hidden : (a b : ℕ) (s : List ℕ) (f : List ℕ → Texts) → followed_by [] (take (a + b) s) (f (drop (a + b) s)) ≡ followed_by [] (take a s) (followed_by [] (take b (drop a s)) (f (drop b (drop a s))))
+to_hidden : (a b : ℕ) (s : List ℕ) (f : List ℕ → Texts) → with_fronts [] (take (a + b) s) (f (drop (a + b) s)) ≡ with_fronts [] (take a s) (with_fronts [] (take b (drop a s)) (f (drop b (drop a s))))
 to_hidden a b s f = rw (take-add a b s, ← drop-drop b a s) (sym (twice [] (take a s) [] (take b (drop a s)) (f (drop b (drop a s)))))
 
 pub fitted : {A : Type 0} (b : Bool) (x y : A) → cond b (Some x) None ≡ Some y → x ≡ y

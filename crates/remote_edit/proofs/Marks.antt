@@ -8,8 +8,8 @@ use Rattle.op_model.specs.declared.operation.UndoCount.{UndoCount}
 use Rattle.op_model.specs.declared.operation.Operation.{Operation}
 use Rattle.op_model.specs.Operations.{stamp_of, is_edit}
 use Rattle.op_model.specs.Histories.{History, seen_history}
-use Rattle.op_model.specs.Shown.{all_undone}
-use Rattle.op_model.specs.Facts.{was_visible, visible_by, edit_marking, with_deletion}
+use Rattle.op_model.specs.Shown.{are_undone, visible_by}
+use Rattle.op_model.specs.Facts.{was_visible, edit_marking, with_deletion}
 use Rattle.op_model.proofs.shown.OnePass.{no_counts}
 use Rattle.undo_map.specs.Counts.{count_of, count_seen, is_odd}
 use Rattle.undo_map.specs.Undos.{with_counts, undo_entries}
@@ -20,7 +20,7 @@ use Rattle.remote_edit.specs.Marks.{was_shown, is_shown, marking}
 pub was_told : (h : History) (v : Entries) (u : Lamport) (d : List Lamport) → was_visible (seen_history h v) v u d ≡ was_shown (undo_entries h) v u d
 was_told h v u d = rw (undone_seen h v u, all d) refl
   where
-    all : (d : List Lamport) → all_undone (seen_history h v) (filter (sees v) d) ≡ list_all (λ t. not (sees v t) || is_odd (count_seen (undo_entries h) t v)) d
+    all : (d : List Lamport) → are_undone (seen_history h v) (filter (sees v) d) ≡ list_all (λ t. not (sees v t) || is_odd (count_seen (undo_entries h) t v)) d
     all [] = refl
     all (x ∷ d) = elim (cases_Bool (sees v x)) [
       | inl e ↦ rw (e, undone_seen h v x, all d) refl
@@ -31,7 +31,7 @@ was_told h v u d = rw (undone_seen h v u, all d) refl
 pub is_told : (h : History) (u : Lamport) (d : List Lamport) → visible_by h u d ≡ is_shown (undo_entries h) u d
 is_told h u d = rw (undone_kept h u, all d) refl
   where
-    all : (d : List Lamport) → all_undone h d ≡ list_all (λ t. is_odd (count_of (undo_entries h) t)) d
+    all : (d : List Lamport) → are_undone h d ≡ list_all (λ t. is_odd (count_of (undo_entries h) t)) d
     all [] = refl
     all (x ∷ d) = rw (undone_kept h x, all d) refl
 

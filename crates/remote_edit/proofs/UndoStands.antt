@@ -15,11 +15,11 @@ use Rattle.op_model.specs.Sorted.{Member}
 use Rattle.op_model.specs.Operations.{stamp_of, counts_of, is_edit}
 use Rattle.op_model.specs.Histories.{History, newest_first}
 use Rattle.op_model.specs.Cells.{Cell, PathCell, cells, seq}
-use Rattle.op_model.specs.Shown.{greatest_given, count, undone, all_undone, deleters, shown, shown_where}
+use Rattle.op_model.specs.Shown.{greatest_given, count, is_undone, are_undone, deleters, shows, shows_where, visible_by}
 use Rattle.op_model.specs.Answers.{answer}
 use Rattle.op_model.specs.Answers.Answer.{Good}
 use Rattle.op_model.specs.Lawful.{Lawful}
-use Rattle.op_model.specs.Facts.{Fact, fact, alike, visible_by}
+use Rattle.op_model.specs.Facts.{Fact, fact, alike}
 use Rattle.op_model.specs.Walked.{Run, run_facts, facts_of}
 use Rattle.op_model.proofs.histories.Lawful.{in_append}
 use Rattle.op_model.proofs.shown.Deleters.{kept_all}
@@ -41,8 +41,8 @@ use Rattle.remote_edit.proofs.OfFacts.{of_facts}
 
 -- ---- what is told of a cell is told by the counts
 
-pub shown_seen : (h : History) (c : Cell) → shown h c ≡ visible_by h c.stamp (deleters h c)
-unfolding shown shown_where
+pub shown_seen : (h : History) (c : Cell) → shows h c ≡ visible_by h c.stamp (deleters h c)
+unfolding shows shows_where
 shown_seen h c = rw (kept_all (newest_first h), undone_newest h c.stamp, all_newest h (deleters h c)) refl
 
 -- a cell, and a fragment, is shown as the history has it
@@ -69,13 +69,13 @@ given_none : (cs : List UndoCount) (t : Lamport) → ((c : UndoCount) → Member
 given_none [] t f = refl
 given_none (c ∷ cs) t f = rw (f c (inl refl)) (given_none cs t (λ d m. f d (inr m)))
 
-undone_same : (h : History) (op : Operation) (t : Lamport) → ((c : UndoCount) → Member c (counts_of op) → same_stamp c.edit t ≡ false) → undone (h ++ op ∷ []) t ≡ undone h t
+undone_same : (h : History) (op : Operation) (t : Lamport) → ((c : UndoCount) → Member c (counts_of op) → same_stamp c.edit t ≡ false) → is_undone (h ++ op ∷ []) t ≡ is_undone h t
 undone_same h op t f =
     let z = given_none (counts_of op) t f in
     let e : count (h ++ op ∷ []) t ≡ count h t = count_more h op t ∙ ap (max (count h t)) z ∙ omega arith in
     ap (λ (n : ℕ). eqb (n % 2) 1) e
 
-all_same : (h : History) (op : Operation) (d : List Lamport) → ((c : UndoCount) (t : Lamport) → Member c (counts_of op) → Member t d → same_stamp c.edit t ≡ false) → all_undone (h ++ op ∷ []) d ≡ all_undone h d
+all_same : (h : History) (op : Operation) (d : List Lamport) → ((c : UndoCount) (t : Lamport) → Member c (counts_of op) → Member t d → same_stamp c.edit t ≡ false) → are_undone (h ++ op ∷ []) d ≡ are_undone h d
 all_same h op [] f = refl
 all_same h op (t ∷ d) f = rw (undone_same h op t (λ c m. f c t m (inl refl)), all_same h op d (λ c s m n. f c s m (inr n))) refl
 

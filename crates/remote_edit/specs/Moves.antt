@@ -13,18 +13,18 @@ abbrev pub texts_of : List ℕ → List ℕ → Texts
 texts_of s h = record { shown = s; hidden = h }
 
 -- s and h, and behind them two other texts
-abbrev pub followed_by : List ℕ → List ℕ → Texts → Texts
-followed_by s h r = texts_of (s ++ r.shown) (h ++ r.hidden)
+abbrev pub with_fronts : List ℕ → List ℕ → Texts → Texts
+with_fronts s h r = texts_of (s ++ r.shown) (h ++ r.hidden)
 
 -- what moves make of a shown text s, a hidden text h and a new text n: each takes the next bytes of one of the three to the shown
 -- or to the hidden text; bytes of which no move tells are in neither
 abbrev pub after_moves : List Move → List ℕ → List ℕ → List ℕ → Texts
 after_moves [] s h n = texts_of [] []
-after_moves (Visible k ∷ ms) s h n = followed_by (take k s) [] (after_moves ms (drop k s) h n)
-after_moves (Hidden k ∷ ms) s h n = followed_by [] (take k h) (after_moves ms s (drop k h) n)
-after_moves (Hide k ∷ ms) s h n = followed_by [] (take k s) (after_moves ms (drop k s) h n)
-after_moves (Show k ∷ ms) s h n = followed_by (take k h) [] (after_moves ms s (drop k h) n)
-after_moves (Insert k ∷ ms) s h n = followed_by (take k n) [] (after_moves ms s h (drop k n))
+after_moves (Visible k ∷ ms) s h n = with_fronts (take k s) [] (after_moves ms (drop k s) h n)
+after_moves (Hidden k ∷ ms) s h n = with_fronts [] (take k h) (after_moves ms s (drop k h) n)
+after_moves (Hide k ∷ ms) s h n = with_fronts [] (take k s) (after_moves ms (drop k s) h n)
+after_moves (Show k ∷ ms) s h n = with_fronts (take k h) [] (after_moves ms s (drop k h) n)
+after_moves (Insert k ∷ ms) s h n = with_fronts (take k n) [] (after_moves ms s h (drop k n))
 
 -- each move takes whole characters: its bytes are UTF-8
 abbrev pub TakeTexts : List Move → List ℕ → List ℕ → List ℕ → Type 0
@@ -100,7 +100,7 @@ from_new (Insert k ∷ ms) = k + from_new ms
 -- moves behind others find the texts that those leave, and put behind what those put
 abbrev pub MovesCompose : Type 0
 MovesCompose = (ms ns : List Move) → (s h n : List ℕ)
-    → after_moves (ms ++ ns) s h n ≡ followed_by (after_moves ms s h n).shown
+    → after_moves (ms ++ ns) s h n ≡ with_fronts (after_moves ms s h n).shown
     (after_moves ms s h n).hidden
     (after_moves ns (drop (from_shown ms) s) (drop (from_hidden ms) h) (drop (from_new ms) n))
 

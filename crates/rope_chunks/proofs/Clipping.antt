@@ -7,7 +7,7 @@ use Rattle.std.proofs.lemmas.Bool.Decides.{nat_tests}
 use Rattle.tree_cursor.specs.declared.traits.Bias.TheVariants.{Left, Right}
 use Rattle.text_dims.specs.declared.places.Place.{Place}
 use Rattle.text_dims.specs.Counts.{begins_char, byte_units, is_newline}
-use Rattle.text_dims.specs.Places.{end_place, places, place_after, walk, last_place, offset_clipped_back, offset_clipped_on}
+use Rattle.text_dims.specs.Places.{end_place, places, place_after, walk, last_place, offset_clip_back, offset_clip_on}
 use Rattle.text_dims.proofs.Walks.{places-walk}
 use Rattle.rope_chunks.specs.declared.look.Stop.{Stop}
 use Rattle.rope_chunks.specs.Stops.{stop, stop_place}
@@ -29,7 +29,7 @@ last-walk d e a (b ∷ bs) = elim (begins_char b) as (λ t. last_place d (cond t
   | false ↦ last-walk d e (place_after a b) bs
 ]
 
-pub clipped_on : (bs : List ℕ) (o : ℕ) (s : Stop) → s ≡ stop (λ k. passes_offset o k Left) (end_place []) (places bs) → unwrap_or s.here s.before ≡ offset_clipped_on bs o
+pub clipped_on : (bs : List ℕ) (o : ℕ) (s : Stop) → s ≡ stop (λ k. passes_offset o k Left) (end_place []) (places bs) → unwrap_or s.here s.before ≡ offset_clip_on bs o
 clipped_on bs o s e =
     let p : Place → Bool = λ k. passes_offset o k Left in
     rw (e, places-walk bs, last-walk (end_place bs) (end_place []) (end_place []) bs) (sym (find-stop p (end_place []) (walk (end_place []) bs)))
@@ -113,7 +113,7 @@ at_zero : (o : ℕ) → nat_le (end_place []).offset o ≡ true
 unfolding end_place
 at_zero o = grind (arith, nat_tests)
 
-pub clipped_back : (bs : List ℕ) (o : ℕ) → IsUtf8 bs → stop_place (λ k. passes_offset o k Right) (stop (λ k. passes_offset o k Left) (end_place []) (places bs)) ≡ offset_clipped_back bs o
+pub clipped_back : (bs : List ℕ) (o : ℕ) → IsUtf8 bs → stop_place (λ k. passes_offset o k Right) (stop (λ k. passes_offset o k Left) (end_place []) (places bs)) ≡ offset_clip_back bs o
 clipped_back bs o u =
     let q : Place → Bool = λ k. nat_le k.offset o in
     rw (places-walk bs)

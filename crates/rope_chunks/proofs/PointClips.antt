@@ -11,7 +11,7 @@ use Rattle.tree_cursor.specs.declared.traits.Bias.TheVariants.{Left, Right}
 use Rattle.text_dims.specs.declared.places.Place.{Place}
 use Rattle.text_dims.specs.declared.points.Point.{Point}
 use Rattle.text_dims.specs.Counts.{begins_char, is_newline, newline_count, rows, last_row}
-use Rattle.text_dims.specs.Places.{end_place, places, place_after, walk, last_place, point_clipped_back, point_clipped_on}
+use Rattle.text_dims.specs.Places.{end_place, places, place_after, walk, last_place, point_clip_back, point_clip_on}
 use Rattle.text_dims.proofs.Walks.{places-walk, end_place-append}
 use Rattle.rope_chunks.specs.declared.look.Stop.{Stop}
 use Rattle.rope_chunks.specs.Stops.{stop, stop_place}
@@ -154,7 +154,7 @@ on_agrees p = record {
   row = λ e d a bs r c h. on-walk p d a bs (omega (arith, r)) ∙ on_either p d e a bs h r;
 }
 
-pub point_on : (bs : List ℕ) (p : Point) (s : Stop) → IsUtf8 bs → s ≡ stop (λ k. passes_point p k Left) (end_place []) (places bs) → in_row p.row s.here s.before ≡ point_clipped_on bs p
+pub point_on : (bs : List ℕ) (p : Point) (s : Stop) → IsUtf8 bs → s ≡ stop (λ k. passes_point p k Left) (end_place []) (places bs) → in_row p.row s.here s.before ≡ point_clip_on bs p
 point_on bs p s u e = rw e (agree p (λ x. in_row p.row x.here x.before) (on_clip p) (on_agrees p) bs u)
 
 -- what is clipped back
@@ -203,5 +203,5 @@ back_agrees p = record {
       ∙ ap (last_place e) (sym (both (λ k. nat_le k.column p.column) (λ k. k.row == p.row) (walk a bs)));
 }
 
-pub point_back : (bs : List ℕ) (p : Point) → IsUtf8 bs → stop_place (λ k. passes_point p k Right) (stop (λ k. passes_point p k Left) (end_place []) (places bs)) ≡ point_clipped_back bs p
+pub point_back : (bs : List ℕ) (p : Point) → IsUtf8 bs → stop_place (λ k. passes_point p k Right) (stop (λ k. passes_point p k Left) (end_place []) (places bs)) ≡ point_clip_back bs p
 point_back bs p u = agree p (λ s. stop_place (λ k. passes_point p k Right) s) (back_clip p) (back_agrees p) bs u

@@ -18,7 +18,7 @@ use Rattle.text_dims.proofs.Characters.{utf16_count-le_twice}
 use Rattle.sum_tree.specs.Laws.{fold}
 use Rattle.text_dims.specs.Places.{end_place, places, place_sum, place_after, summary_end, walk}
 use Rattle.text_dims.proofs.Walks.{by_byte, end_place-append, summary_end-is, places-walk}
-use Rattle.rope_chunks.specs.At.{IsLater, IsWithin, RowAndColumn, PlaceAndTextFit, moved_by, place_sum_assoc, past_later, past_nothing}
+use Rattle.rope_chunks.specs.At.{IsLater, IsWithin, RowAndColumn, PlaceAndTextFit, move_place, place_sum_assoc, past_later, past_nothing}
 use Rattle.text_dims.specs.Monoid.{summary-nil}
 use Rattle.rope_chunks.specs.Chunks.{IsChunk, AreChunks}
 use Rattle.rope_chunks.specs.Stops.{stop, pick_place, HasRoom}
@@ -131,26 +131,26 @@ chunk_text (Some c) = c
 chunk_end : (a : Place) (c : List ℕ) → place_sum a (summary_end (summary_of c)) ≡ walk_end a c
 chunk_end a c = ap (place_sum a) (summary_end-is c) ∙ sym (walk_end-is a c)
 
-behind-cons : (a : Place) (c : List ℕ) (cs : List (List ℕ)) (n : ℕ) → place_behind moved_by summary_of a (take (suc n) (c ∷ cs)) ≡ place_behind moved_by summary_of (place_sum a (summary_end (summary_of c))) (take n cs)
+behind-cons : (a : Place) (c : List ℕ) (cs : List (List ℕ)) (n : ℕ) → place_behind move_place summary_of a (take (suc n) (c ∷ cs)) ≡ place_behind move_place summary_of (place_sum a (summary_end (summary_of c))) (take n cs)
 behind-cons a c cs n = refl
 
 get-cons : (c : List ℕ) (cs : List (List ℕ)) (n : ℕ) → slice_get (c ∷ cs) (suc n) ≡ slice_get cs n
 get-cons c cs n = refl
 
 found_by : (p : Place → Bool) → Stays p → (a : Place) (c : List ℕ) (cs : List (List ℕ)) → Begins (concat cs) → (e : Place) → place_sum a (summary_end (summary_of c)) ≡ e → e ≡ walk_end a c → (t : Bool) → p e ≡ t →
-    stop p e (walk e (concat cs)) ≡ stop p (place_behind moved_by summary_of e (take (seek_count moved_by summary_of p e cs) cs)) (walk (place_behind moved_by summary_of e (take (seek_count moved_by summary_of p e cs) cs)) (chunk_text (slice_get cs (seek_count moved_by summary_of p e cs)))) →
-    (let n = cond t 0 (1 + seek_count moved_by summary_of p e cs) in
-    stop p a (walk a (c ++ concat cs)) ≡ stop p (place_behind moved_by summary_of a (take n (c ∷ cs))) (walk (place_behind moved_by summary_of a (take n (c ∷ cs))) (chunk_text (slice_get (c ∷ cs) n))))
+    stop p e (walk e (concat cs)) ≡ stop p (place_behind move_place summary_of e (take (seek_count move_place summary_of p e cs) cs)) (walk (place_behind move_place summary_of e (take (seek_count move_place summary_of p e cs) cs)) (chunk_text (slice_get cs (seek_count move_place summary_of p e cs)))) →
+    (let n = cond t 0 (1 + seek_count move_place summary_of p e cs) in
+    stop p a (walk a (c ++ concat cs)) ≡ stop p (place_behind move_place summary_of a (take n (c ∷ cs))) (walk (place_behind move_place summary_of a (take n (c ∷ cs))) (chunk_text (slice_get (c ∷ cs) n))))
 found_by p s a c cs h e q d true f ih = stop-front p a a c (concat cs) h (rw (← d) f)
 found_by p s a c cs h e q d false f ih =
-    let n = seek_count moved_by summary_of p e cs in
+    let n = seek_count move_place summary_of p e cs in
     let more : 1 + n ≡ suc n = omega arith in
     rw (more, behind-cons a c cs n, get-cons c cs n, q)
     (stop-past p s a a c (concat cs) h (rw (← d) f) ∙ ap (λ k. stop p k (walk k (concat cs))) (sym d) ∙ ih)
 
 pub stop-chunks : (p : Place → Bool) → Stays p → (a : Place) (cs : List (List ℕ)) → All IsChunk cs →
-    (let n = seek_count moved_by summary_of p a cs in
-    let k = place_behind moved_by summary_of a (take n cs) in
+    (let n = seek_count move_place summary_of p a cs in
+    let k = place_behind move_place summary_of a (take n cs) in
     stop p a (walk a (concat cs)) ≡ stop p k (walk k (chunk_text (slice_get cs n))))
 stop-chunks p s a [] h = refl
 stop-chunks p s a (c ∷ cs) h =
@@ -158,16 +158,16 @@ stop-chunks p s a (c ∷ cs) h =
     let tail = All-tail IsChunk c cs h in
     found_by p s a c cs (Begins-utf8 (concat cs) (concat-utf8 cs tail)) e refl (chunk_end a c) (p e) refl (stop-chunks p s e cs tail)
 
-behind-is : (bs : List ℕ) (cs : List (List ℕ)) → place_behind moved_by summary_of (end_place bs) cs ≡ end_place (bs ++ concat cs)
+behind-is : (bs : List ℕ) (cs : List (List ℕ)) → place_behind move_place summary_of (end_place bs) cs ≡ end_place (bs ++ concat cs)
 behind-is bs [] = ap end_place (sym (append-nil bs))
 behind-is bs (c ∷ cs) =
-    ap (λ k. place_behind moved_by summary_of k cs) (ap (place_sum (end_place bs)) (summary_end-is c) ∙ sym (end_place-append bs c))
+    ap (λ k. place_behind move_place summary_of k cs) (ap (place_sum (end_place bs)) (summary_end-is c) ∙ sym (end_place-append bs c))
     ∙ behind-is (bs ++ c) cs
     ∙ ap end_place (append_assoc bs c (concat cs))
 
 pub stop-found : (p : Place → Bool) → Stays p → (cs : List (List ℕ)) → All IsChunk cs → (begin : Place) → begin ≡ end_place [] → (text : List ℕ) → concat cs ≡ text →
-    (k : Place) → k ≡ place_behind moved_by summary_of begin (take (seek_count moved_by summary_of p begin cs) cs) →
-    (o : Option (List ℕ)) → o ≡ slice_get cs (seek_count moved_by summary_of p begin cs) →
+    (k : Place) → k ≡ place_behind move_place summary_of begin (take (seek_count move_place summary_of p begin cs) cs) →
+    (o : Option (List ℕ)) → o ≡ slice_get cs (seek_count move_place summary_of p begin cs) →
     stop p k (walk k (chunk_text o)) ≡ stop p (end_place []) (places text)
 stop-found p s cs each begin z text w k e o d =
     rw (e, d, ← w, places-walk (concat cs), ← z) (sym (stop-chunks p s begin cs each))
@@ -188,7 +188,7 @@ has_room bs n few small = record {
 }
 
 -- there is room for a chunk at the place that a look-up finds
-pub found-room : (cs : List (List ℕ)) → AreChunks cs → (begin : Place) → begin ≡ end_place [] → (n : ℕ) (k : Place) → k ≡ place_behind moved_by summary_of begin (take n cs) → (m : ℕ) → m ≤ 128 → HasRoom k m
+pub found-room : (cs : List (List ℕ)) → AreChunks cs → (begin : Place) → begin ≡ end_place [] → (n : ℕ) (k : Place) → k ≡ place_behind move_place summary_of begin (take n cs) → (m : ℕ) → m ≤ 128 → HasRoom k m
 found-room cs are begin z n k e m small =
     let is : k ≡ end_place (concat (take n cs)) = e ∙ rw z (behind-is [] (take n cs)) in
     rw is (has_room (concat (take n cs)) m (omega (arith, front-short n cs, are.few)) small)

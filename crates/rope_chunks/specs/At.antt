@@ -15,8 +15,8 @@ use Rattle.text_dims.specs.Concat.{length_adds, units_add}
 use Rattle.text_dims.specs.Bounds.{last_row-le}
 use Rattle.text_dims.specs.Places.{place_sum, summary_end}
 
-abbrev pub moved_by : Place → TextSummary → Option Place
-moved_by a s = Some (place_sum a (summary_end s))
+abbrev pub move_place : Place → TextSummary → Option Place
+move_place a s = Some (place_sum a (summary_end s))
 
 -- a is in a row before b, or in the same row at or before b
 abbrev pub RowAndColumn : ℕ → ℕ → ℕ → ℕ → Type 0
@@ -96,7 +96,7 @@ text_within bs = record { column = last_row-le (λ cs. length cs) length_adds bs
 within : (a : TextSummary) → IsOfText a → IsWithin (summary_end a)
 within a t = subst (λ s. IsWithin (summary_end s)) (sym t.1) (text_within t.0)
 
-parts : (p q : Place) (a b : TextSummary) → moved_by p (text_sum a b) ≡ Some q → (r : Place) × (moved_by p a ≡ Some r) × (moved_by r b ≡ Some q)
+parts : (p q : Place) (a b : TextSummary) → move_place p (text_sum a b) ≡ Some q → (r : Place) × (move_place p a ≡ Some r) × (move_place r b ≡ Some q)
 parts p q a b e =
     (place_sum p (summary_end a), refl, ap (λ k. Some k) (place_sum_assoc p (summary_end a) (summary_end b) ∙ ap (place_sum p) (sym (summary_end-sum a b))) ∙ e)
 
@@ -119,7 +119,7 @@ back p r a b t u f e =
       row = omega (arith, f.row, row_sum a.lines b.lines);
     })
 
-pub place_laws : DimensionLaws no_text text_sum IsOfText IsOfText IsLater moved_by PlaceAndTextFit
+pub place_laws : DimensionLaws no_text text_sum IsOfText IsOfText IsLater move_place PlaceAndTextFit
 place_laws = record {
   nothing = λ p q e. sym (same_Some (place_sum p (summary_end no_text)) q e) ∙ past_nothing p;
   parts = λ p q a b t u e. parts p q a b e;

@@ -4,13 +4,13 @@ use Rattle.tree_cursor.specs.declared.traits.Bias.{Bias}
 use Rattle.tree_cursor.specs.declared.traits.Bias.TheVariants.{Left, Right}
 use Rattle.text_dims.specs.declared.places.Place.{Place}
 use Rattle.text_dims.specs.declared.points.Point.{Point}
-use Rattle.text_dims.specs.Places.{offset_clipped_back, offset_clipped_on, point_clipped_back, point_clipped_on}
+use Rattle.text_dims.specs.Places.{offset_clip_back, offset_clip_on, point_clip_back, point_clip_on}
 
-abbrev pub offset_clipped : List ℕ → ℕ → Bias → Place
-offset_clipped bs o Left = offset_clipped_back bs o
-offset_clipped bs o Right = offset_clipped_on bs o
+abbrev pub offset_clip : List ℕ → ℕ → Bias → Place
+offset_clip bs o Left = offset_clip_back bs o
+offset_clip bs o Right = offset_clip_on bs o
 
 -- and the place that a point is clipped to
-abbrev pub point_clipped : List ℕ → Point → Bias → Place
-point_clipped bs p Left = point_clipped_back bs p
-point_clipped bs p Right = point_clipped_on bs p
+abbrev pub point_clip : List ℕ → Point → Bias → Place
+point_clip bs p Left = point_clip_back bs p
+point_clip bs p Right = point_clip_on bs p

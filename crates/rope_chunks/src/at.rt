@@ -1,7 +1,7 @@
 //! The dimension of a rope's look-ups: a place in its text.
 ghost use Rattle.std.specs.Prelude.{◌≡◌, []};
 ghost use Rattle.text_dims.specs.Places.{end_place};
-ghost use Rattle.rope_chunks.specs.At.{IsLater, PlaceAndTextFit, moved_by, place_laws};
+ghost use Rattle.rope_chunks.specs.At.{IsLater, PlaceAndTextFit, move_place, place_laws};
 
 use text_dims::{Place, TextSummary};
 use tree_cursor::{Dimension, Moves, Plain};
@@ -34,7 +34,7 @@ impl Plain for At {
 }
 
 impl Moves<TextSummary> for At {
-    ghost moved = { moved_by };
+    ghost moved = { move_place };
 
     ghost fits = { PlaceAndTextFit };
 

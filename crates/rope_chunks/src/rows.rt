@@ -1,7 +1,7 @@
 //! A rope's rows: their lengths, and where points are clipped to in them.
 ghost use Rattle.std.specs.Prelude.{◌≡◌};
-ghost use Rattle.text_dims.specs.Places.{point_of, row_len_of, point_clipped_back, point_clipped_on};
-ghost use Rattle.rope_chunks.specs.Clips.{point_clipped};
+ghost use Rattle.text_dims.specs.Places.{point_of, row_len_of, point_clip_back, point_clip_on};
+ghost use Rattle.rope_chunks.specs.Clips.{point_clip};
 
 use crate::rope::Rope;
 use crate::targets::{ByPoint, ByRow};
@@ -24,7 +24,7 @@ impl Rope {
     /// The point itself where it is a position; in a row past the last, the text's end; past a row's end, the row's end;
     /// inside a character its start (Left) or its end (Right). Takes no memory.
     pub fn clip_point(&self, point: Point, bias: Bias) -> Point
-        ensures { result ≡ point_of (point_clipped self.now point bias) }
+        ensures { result ≡ point_of (point_clip self.now point bias) }
     {
         match bias {
             Bias::Left => self.point_back(point).point(),
@@ -34,7 +34,7 @@ impl Rope {
 
     // The last place of its row at or before a point, or the text's end where there is no such row.
     fn point_back(&self, point: Point) -> Place
-        ensures { result ≡ point_clipped_back self.now point }
+        ensures { result ≡ point_clip_back self.now point }
     {
         self.known();
         self.back(&ByPoint(point))
@@ -42,7 +42,7 @@ impl Rope {
 
     // The first place of its row at or past a point, or the row's last place, or the text's end where there is no such row.
     fn point_on(&self, point: Point) -> Place
-        ensures { result ≡ point_clipped_on self.now point }
+        ensures { result ≡ point_clip_on self.now point }
     {
         self.known();
         let stop = self.stop(&ByPoint(point));

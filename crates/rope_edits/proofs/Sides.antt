@@ -10,7 +10,7 @@ use Rattle.op_model.specs.Operations.{text_total}
 use Rattle.op_model.specs.Shown.{texts}
 use Rattle.remote_edit.specs.declared.moves.Move.{Move}
 use Rattle.remote_edit.specs.declared.moves.Move.TheVariants.{Visible, Hidden, Hide, Show, Insert}
-use Rattle.remote_edit.specs.Moves.{Texts, followed_by, after_moves}
+use Rattle.remote_edit.specs.Moves.{Texts, with_fronts, after_moves}
 use Rattle.rope_edits.specs.Sides.{SideState, SidesState, sides_len, after_move, outcome, MayTake}
 use Rattle.remote_edit.proofs.Joining.{twice}
 
@@ -75,11 +75,11 @@ parts_without rope next made n end u h s e =
 
 -- ---- moves
 
-to_shown : (a b c : List ℕ) (r : Texts) → followed_by a b (followed_by c [] r) ≡ followed_by (a ++ c) b r
-to_shown a b c r = twice a b c [] r ∙ ap (λ z. followed_by (a ++ c) z r) (append-nil b)
+to_shown : (a b c : List ℕ) (r : Texts) → with_fronts a b (with_fronts c [] r) ≡ with_fronts (a ++ c) b r
+to_shown a b c r = twice a b c [] r ∙ ap (λ z. with_fronts (a ++ c) z r) (append-nil b)
 
-to_hidden : (a b d : List ℕ) (r : Texts) → followed_by a b (followed_by [] d r) ≡ followed_by a (b ++ d) r
-to_hidden a b d r = twice a b [] d r ∙ ap (λ z. followed_by z (b ++ d) r) (append-nil a)
+to_hidden : (a b d : List ℕ) (r : Texts) → with_fronts a b (with_fronts [] d r) ≡ with_fronts a (b ++ d) r
+to_hidden a b d r = twice a b [] d r ∙ ap (λ z. with_fronts z (b ++ d) r) (append-nil a)
 
 pub outcome_step : (m : Move) (ms : List Move) (s : SidesState) → outcome s (m ∷ ms) ≡ outcome (after_move m s) ms
 outcome_step (Visible k) ms s = to_shown s.shown.made s.hidden.made (take k s.shown.left) (after_moves ms (drop k s.shown.left) s.hidden.left s.fresh)

@@ -2,7 +2,7 @@
 use Rattle.std.specs.Prelude.{ℕ, ◌+◌, List, [], ◌++◌, length, take, drop}
 use Rattle.remote_edit.specs.declared.moves.Move.{Move}
 use Rattle.remote_edit.specs.declared.moves.Move.TheVariants.{Visible, Hidden, Hide, Show, Insert}
-use Rattle.remote_edit.specs.Moves.{Texts, followed_by, after_moves, TakeTexts}
+use Rattle.remote_edit.specs.Moves.{Texts, with_fronts, after_moves, TakeTexts}
 
 -- what was made of a text, and what of the old text no move has taken
 pub record SideState : Type 0 where
@@ -50,7 +50,7 @@ after_move (Insert k) s =
 
 -- what moves make of the two from there on
 abbrev pub outcome : SidesState → List Move → Texts
-outcome s ms = followed_by s.shown.made s.hidden.made (after_moves ms s.shown.left s.hidden.left s.fresh)
+outcome s ms = with_fronts s.shown.made s.hidden.made (after_moves ms s.shown.left s.hidden.left s.fresh)
 
 -- the moves take whole characters from there on
 abbrev pub MayTake : SidesState → List Move → Type 0

@@ -20,7 +20,7 @@ use Rattle.command_words.specs.declared.command.Task.TheVariants.{Check, Replay}
 use Rattle.session_replay.specs.declared.top.Status.TheVariants as status
 use Rattle.lamport_clock.specs.Stamps.{later, same_stamp}
 use Rattle.op_model.specs.Cells.{same_cell, sibling_first, seq_where, seq}
-use Rattle.op_model.specs.Shown.{deleters_where, full, full_where, shown_where, shown, text_where, text}
+use Rattle.op_model.specs.Shown.{deleters_where, full, full_where, shows_where, shows, text_where, text}
 use Rattle.op_model.specs.Made.{local_edit as made_at, local_undo}
 use Rattle.op_model.specs.Anchors.{left_anchor, right_anchor, is_known, place}
 use Rattle.op_model.specs.Answers.{answer}
@@ -29,7 +29,7 @@ use Rattle.op_model.specs.Settled.{pass, passes, settle}
 
 -- what histories compute
 unfoldable open_histories : ℕ
-unfolding later same_stamp same_cell sibling_first seq_where seq deleters_where shown_where shown text_where text full_where full made_at local_undo answer pass passes settle
+unfolding later same_stamp same_cell sibling_first seq_where seq deleters_where shows_where shows text_where text full_where full made_at local_undo answer pass passes settle
 open_histories = 0
 
 -- ---- sessions and their reports

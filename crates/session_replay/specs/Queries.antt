@@ -4,7 +4,7 @@ use Rattle.std.specs.List.{All, AllPairs, flat_map}
 use Rattle.std.specs.Option.{option_map, option_map_or, unwrap_or}
 use Rattle.text_dims.specs.declared.points.Point.{Point}
 use Rattle.text_dims.specs.declared.places.Place.{Place}
-use Rattle.text_dims.specs.Places.{place_at_offset, place_at_point, offset_clipped_back, offset_clipped_on, point_clipped_back, point_clipped_on, point_of, offset_utf16_of, point_utf16_of}
+use Rattle.text_dims.specs.Places.{place_at_offset, place_at_point, offset_clip_back, offset_clip_on, point_clip_back, point_clip_on, point_of, offset_utf16_of, point_utf16_of}
 use Rattle.snapshot_search.specs.Starts.{starts}
 use Rattle.op_model.specs.declared.operation.Operation.{Operation}
 use Rattle.op_model.specs.Shown.{text}
@@ -42,13 +42,13 @@ place_answer k = point.Point (point_of k) (offset_utf16_of k) (point_utf16_of k)
 abbrev pub point_answer : ℕ → List ℕ → PointAnswer
 point_answer o t =
     unwrap_or (option_map place_answer (place_at_offset t o))
-    (point.Clips (offset_clipped_back t o).offset (offset_clipped_on t o).offset)
+    (point.Clips (offset_clip_back t o).offset (offset_clip_on t o).offset)
 
 -- the place at a point, or where that is clipped to
 abbrev pub offset_answer : Point → List ℕ → OffsetAnswer
 offset_answer p t =
     unwrap_or (option_map (λ (k : Place). offset.Offset k.offset) (place_at_point t p))
-    (offset.Clips (point_of (point_clipped_back t p)) (point_of (point_clipped_on t p)))
+    (offset.Clips (point_of (point_clip_back t p)) (point_of (point_clip_on t p)))
 
 -- the plain answer to what a query asks of a text
 abbrev pub answer_on : Question → List ℕ → QueryAnswer

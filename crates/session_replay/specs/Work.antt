@@ -104,16 +104,16 @@ after_outcome (Err r) b = b
 
 -- ---- what stands under a number is given to a buffer: an operation, or nothing
 
-abbrev pub given_by : Answer → ℕ → GiveAnswer
-given_by Good c = given.Applied c
-given_by Repeat c = given.Repeat
-given_by (Waits r v) c = given.Waits r v
-given_by (Refused f) c = given.Refused f
+abbrev pub give_answer_for : Answer → ℕ → GiveAnswer
+give_answer_for Good c = given.Applied c
+give_answer_for Repeat c = given.Repeat
+give_answer_for (Waits r v) c = given.Waits r v
+give_answer_for (Refused f) c = given.Refused f
 
 -- what the buffer answers; where it applied the operation, with how many it applied in all
 abbrev pub give_answer : Option Operation → BufferState → GiveAnswer
 give_answer None b = given.Nothing
-give_answer (Some op) b = given_by (answer_to b op) (number_applied b (after_take b op))
+give_answer (Some op) b = give_answer_for (answer_to b op) (number_applied b (after_take b op))
 
 -- the buffer after it
 abbrev pub after_give : Option Operation → BufferState → BufferState

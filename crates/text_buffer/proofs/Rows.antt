@@ -7,13 +7,13 @@ use Rattle.op_model.specs.declared.faults.Unit.TheVariants.{Bytes, Entries}
 use Rattle.op_model.specs.Histories.{version, clock, bytes_held, entries_held}
 use Rattle.lamport_clock.specs.Stamps.{later, same_stamp}
 use Rattle.op_model.specs.Cells.{same_cell, sibling_first, seq_where, seq}
-use Rattle.op_model.specs.Shown.{deleters_where, shown_where, shown, text_where, text}
+use Rattle.op_model.specs.Shown.{deleters_where, shows_where, shows, text_where, text}
 use Rattle.op_model.specs.Made.{local_edit as made_at}
 use Rattle.text_buffer.specs.Buffer.{BufferState, over_base, edit_fault, after_edit, edit_of}
 
 -- what the rows compute
 unfoldable open_all : ℕ
-unfolding later same_stamp same_cell sibling_first seq_where seq deleters_where shown_where shown text_where text made_at
+unfolding later same_stamp same_cell sibling_first seq_where seq deleters_where shows_where shows text_where text made_at
 open_all = 0
 
 -- texts by their bytes: a 97, b 98, c 99, X 88, Y 89, x 120

@@ -3,7 +3,7 @@ use Rattle.std.specs.Prelude.{ℕ, ◌≡◌, List, [], ◌∷◌, Some, None, r
 use Rattle.text_dims.specs.declared.places.Place.{Place}
 use Rattle.text_dims.specs.Counts.{utf16_count, newline_count, char_count, rows, last_row}
 use Rattle.text_dims.specs.Summaries.{summary_of, row_chars}
-use Rattle.text_dims.specs.Places.{end_place, places, place_at_offset, place_at_utf16, place_at_point, place_at_point_utf16, row_len_of, offset_clipped_back, offset_clipped_on, point_clipped_back, point_clipped_on}
+use Rattle.text_dims.specs.Places.{end_place, places, place_at_offset, place_at_utf16, place_at_point, place_at_point_utf16, row_len_of, offset_clip_back, offset_clip_on, point_clip_back, point_clip_on}
 
 -- `é😀` and an LF
 abbrev sample : List ℕ
@@ -44,23 +44,23 @@ lens : (row_len_of other 0 ≡ Some 1) × (row_len_of other 1 ≡ Some 2) × (ro
 unfolding rows
 lens = (refl, refl, refl)
 
-clips_past_the_row : point_clipped_back other (record { row = 0; column = 9 }) ≡ place 1 1 0 1 1
+clips_past_the_row : point_clip_back other (record { row = 0; column = 9 }) ≡ place 1 1 0 1 1
 unfolding places end_place utf16_count newline_count last_row rows
 clips_past_the_row = refl
 
-clips_on_past_the_row : point_clipped_on other (record { row = 0; column = 9 }) ≡ place 1 1 0 1 1
+clips_on_past_the_row : point_clip_on other (record { row = 0; column = 9 }) ≡ place 1 1 0 1 1
 unfolding places end_place utf16_count newline_count last_row rows
 clips_on_past_the_row = refl
 
-clips_past_the_text : point_clipped_on other (record { row = 5; column = 0 }) ≡ place 4 4 1 2 2
+clips_past_the_text : point_clip_on other (record { row = 5; column = 0 }) ≡ place 4 4 1 2 2
 unfolding places end_place utf16_count newline_count last_row rows
 clips_past_the_text = refl
 
-clips_in_a_character : (offset_clipped_back sample 3 ≡ place 2 1 0 2 1) × (offset_clipped_on sample 3 ≡ place 6 3 0 6 3)
+clips_in_a_character : (offset_clip_back sample 3 ≡ place 2 1 0 2 1) × (offset_clip_on sample 3 ≡ place 6 3 0 6 3)
 unfolding places end_place utf16_count newline_count last_row rows
 clips_in_a_character = (refl, refl)
 
-clips_in_a_row : (point_clipped_back sample (record { row = 0; column = 5 }) ≡ place 2 1 0 2 1) × (point_clipped_on sample (record { row = 0; column = 5 }) ≡ place 6 3 0 6 3)
+clips_in_a_row : (point_clip_back sample (record { row = 0; column = 5 }) ≡ place 2 1 0 2 1) × (point_clip_on sample (record { row = 0; column = 5 }) ≡ place 6 3 0 6 3)
 unfolding places end_place utf16_count newline_count last_row rows
 clips_in_a_row = (refl, refl)
 

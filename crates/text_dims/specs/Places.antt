@@ -69,11 +69,11 @@ abbrev pub clip_on : (Place → Bool) → Place → List Place → Place
 clip_on past end ks = unwrap_or (find past ks) (last_place end ks)
 
 -- the place at or before an offset, and the one at or past it; past the end it is the end
-abbrev pub offset_clipped_back : List ℕ → ℕ → Place
-offset_clipped_back bs o = clip_back (λ k. nat_le k.offset o) (end_place bs) (places bs)
+abbrev pub offset_clip_back : List ℕ → ℕ → Place
+offset_clip_back bs o = clip_back (λ k. nat_le k.offset o) (end_place bs) (places bs)
 
-abbrev pub offset_clipped_on : List ℕ → ℕ → Place
-offset_clipped_on bs o = clip_on (λ k. nat_le o k.offset) (end_place bs) (places bs)
+abbrev pub offset_clip_on : List ℕ → ℕ → Place
+offset_clip_on bs o = clip_on (λ k. nat_le o k.offset) (end_place bs) (places bs)
 
 -- the places of a row
 abbrev pub row_places : List ℕ → ℕ → List Place
@@ -81,11 +81,11 @@ row_places bs r = filter (λ k. k.row == r) (places bs)
 
 -- The place of its row at or before a point, and the one at or past it. Past the row's end it is the row's end, in a row
 -- past the last it is the text's end.
-abbrev pub point_clipped_back : List ℕ → Point → Place
-point_clipped_back bs p = clip_back (λ k. nat_le k.column p.column) (end_place bs) (row_places bs p.row)
+abbrev pub point_clip_back : List ℕ → Point → Place
+point_clip_back bs p = clip_back (λ k. nat_le k.column p.column) (end_place bs) (row_places bs p.row)
 
-abbrev pub point_clipped_on : List ℕ → Point → Place
-point_clipped_on bs p = clip_on (λ k. nat_le p.column k.column) (end_place bs) (row_places bs p.row)
+abbrev pub point_clip_on : List ℕ → Point → Place
+point_clip_on bs p = clip_on (λ k. nat_le p.column k.column) (end_place bs) (row_places bs p.row)
 
 -- the place at the end of a text that ends at a and is followed by one that ends at b
 abbrev pub place_sum : Place → Place → Place

@@ -11,7 +11,7 @@ use Rattle.op_model.specs.declared.operation.Operation.TheVariants.{Undo}
 use Rattle.op_model.specs.declared.operation.UndoOp.{UndoOp}
 use Rattle.op_model.specs.Operations.{stamp_of, counts_of}
 use Rattle.op_model.specs.Histories.{History, kept_history, seen_history, base, entries_held}
-use Rattle.op_model.specs.Shown.{greatest_given, count, undone}
+use Rattle.op_model.specs.Shown.{greatest_given, count, is_undone}
 use Rattle.op_model.specs.Lawful.{Lawful}
 use Rattle.op_model.proofs.answers.Good.{stamp_parts}
 use Rattle.op_model.proofs.histories.VersionLaws.{shaped_good, each_lawful}
@@ -80,10 +80,10 @@ count_kept h t = let a = undos_kept t None h [] in let b = ap (λ (x : History).
 pub count_seen_kept : (h : History) (t : Lamport) (v : Entries) → count_seen (undo_entries h) t v ≡ count (seen_history h v) t
 count_seen_kept h t v = let a = undos_kept t (Some v) h [] in omega (arith, a)
 
-pub undone_kept : (h : History) (t : Lamport) → is_odd (count_of (undo_entries h) t) ≡ undone h t
+pub undone_kept : (h : History) (t : Lamport) → is_odd (count_of (undo_entries h) t) ≡ is_undone h t
 undone_kept h t = ap (λ (n : ℕ). eqb (n % 2) 1) (count_kept h t)
 
-pub undone_seen : (h : History) (v : Entries) (t : Lamport) → is_odd (count_seen (undo_entries h) t v) ≡ undone (seen_history h v) t
+pub undone_seen : (h : History) (v : Entries) (t : Lamport) → is_odd (count_seen (undo_entries h) t v) ≡ is_undone (seen_history h v) t
 undone_seen h v t = ap (λ (n : ℕ). eqb (n % 2) 1) (count_seen_kept h t v)
 
 -- with one operation more

@@ -3,7 +3,7 @@ use Rattle.std.specs.Prelude.{◌≡◌, ◌≤◌, length}
 use Rattle.lamport_clock.specs.declared.stamp.Lamport.{Lamport}
 use Rattle.lamport_clock.specs.Versions.{Entries}
 use Rattle.op_model.specs.Histories.{History, seen_history, entries_held}
-use Rattle.op_model.specs.Shown.{count, undone}
+use Rattle.op_model.specs.Shown.{count, is_undone}
 use Rattle.op_model.specs.Lawful.{Lawful}
 use Rattle.undo_map.specs.Counts.{count_of, count_seen, is_odd}
 use Rattle.undo_map.specs.Undos.{undo_entries, number_of_counts}
@@ -12,9 +12,9 @@ use Rattle.undo_map.specs.Undos.{undo_entries, number_of_counts}
 abbrev pub CountsAreOfHistory : Type 0
 CountsAreOfHistory = (h : History) (t : Lamport)
     → (count_of (undo_entries h) t ≡ count h t)
-    × (is_odd (count_of (undo_entries h) t) ≡ undone h t)
+    × (is_odd (count_of (undo_entries h) t) ≡ is_undone h t)
     × ((v : Entries) → count_seen (undo_entries h) t v ≡ count (seen_history h v) t)
-    × ((v : Entries) → is_odd (count_seen (undo_entries h) t v) ≡ undone (seen_history h v) t)
+    × ((v : Entries) → is_odd (count_seen (undo_entries h) t v) ≡ is_undone (seen_history h v) t)
 
 -- the entries of a history are no more than the undos of it have counts
 abbrev pub EntriesAreCounts : Type 0

@@ -7,7 +7,7 @@ use Rattle.std.specs.declared.cmp.Ordering.{Ordering}
 use Rattle.std.specs.declared.cmp.Ordering.TheVariants.{Less, Equal}
 use Rattle.op_model.specs.Histories.{History}
 use Rattle.op_model.specs.Cells.{Cell, PathCell, same_cell, seq, cells}
-use Rattle.op_model.specs.Shown.{shown}
+use Rattle.op_model.specs.Shown.{shows}
 use Rattle.op_model.specs.declared.anchor.Anchor.{Anchor}
 use Rattle.op_model.specs.Anchors.{cells_upto, cells_before, place, gap, compare_anchors}
 use Rattle.op_model.specs.declared.anchor.Anchor.TheVariants.{Least, Greatest, At}
@@ -34,12 +34,12 @@ take_number f (suc m) (suc n) (d ∷ s) h = let k = take_number f m n s (omega a
     [ true ↦ omega (arith, k) | false ↦ k ]
 
 -- an anchor's place is the number of the cells shown before its gap
-gap_place : (h : History) (a : Anchor) → place h a ≡ number (shown h) (take (gap h a).0 (cells (seq h)))
+gap_place : (h : History) (a : Anchor) → place h a ≡ number (shows h) (take (gap h a).0 (cells (seq h)))
 unfolding place gap
 gap_place h Least = refl
-gap_place h Greatest = text_number h ∙ ap (number (shown h)) (sym (take_all (length (seq h)) (cells (seq h)) (let n = length-map (seq h) (λ (p : PathCell). p.cell) in omega arith)))
-gap_place h (At t k Left) = ap (number (shown h)) (upto_take (cells (seq h)) (record { stamp = t; k = k - 1 }))
-gap_place h (At t k Right) = ap (number (shown h)) (before_take (cells (seq h)) (record { stamp = t; k = k }))
+gap_place h Greatest = text_number h ∙ ap (number (shows h)) (sym (take_all (length (seq h)) (cells (seq h)) (let n = length-map (seq h) (λ (p : PathCell). p.cell) in omega arith)))
+gap_place h (At t k Left) = ap (number (shows h)) (upto_take (cells (seq h)) (record { stamp = t; k = k - 1 }))
+gap_place h (At t k Right) = ap (number (shows h)) (before_take (cells (seq h)) (record { stamp = t; k = k }))
 
 ordered : (x y : ℕ) (q : Ordering) → (ordering_then (nat_cmp x y) q ≡ Less → x ≤ y) × (ordering_then (nat_cmp x y) q ≡ Equal → x ≡ y)
 ordered x y q = go (cases_Bool (ltb x y)) (cases_Bool (eqb x y))
@@ -53,6 +53,6 @@ ordered x y q = go (cases_Bool (ltb x y)) (cases_Bool (eqb x y))
 pub in_order : (h : History) (a b : Anchor) → (compare_anchors h a b ≡ Less → place h a ≤ place h b) × (compare_anchors h a b ≡ Equal → place h a ≡ place h b)
 unfolding compare_anchors
 in_order h a b = let o = ordered (gap h a).0 (gap h b).0 (nat_cmp (gap h a).1 (gap h b).1) in (
-  (λ i. let l = take_number (shown h) (gap h a).0 (gap h b).0 (cells (seq h)) (o.0 i) in let x = gap_place h a in let y = gap_place h b in omega arith),
-  (λ i. gap_place h a ∙ ap (λ (n : ℕ). number (shown h) (take n (cells (seq h)))) (o.1 i) ∙ sym (gap_place h b)),
+  (λ i. let l = take_number (shows h) (gap h a).0 (gap h b).0 (cells (seq h)) (o.0 i) in let x = gap_place h a in let y = gap_place h b in omega arith),
+  (λ i. gap_place h a ∙ ap (λ (n : ℕ). number (shows h) (take n (cells (seq h)))) (o.1 i) ∙ sym (gap_place h b)),
 )

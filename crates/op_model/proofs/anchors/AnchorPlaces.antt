@@ -6,7 +6,7 @@ use Rattle.std.proofs.lemmas.Bool.{cases_Bool, eqb-true}
 use Rattle.op_model.specs.Sorted.{EachPair, Member}
 use Rattle.op_model.specs.Histories.{History, Distinct}
 use Rattle.op_model.specs.Cells.{Cell, same_cell, seq, cells}
-use Rattle.op_model.specs.Shown.{shown, text}
+use Rattle.op_model.specs.Shown.{shows, text}
 use Rattle.op_model.specs.declared.anchor.Anchor.{Anchor}
 use Rattle.op_model.specs.Anchors.{shown_cells, left_anchor, right_anchor, cells_upto, cells_before, shown_count, place}
 use Rattle.op_model.specs.declared.anchor.Anchor.TheVariants.{Least, Greatest, At}
@@ -65,7 +65,7 @@ left_place h d (suc o) a e = go (slice_get (shown_cells h) o) refl e
     go None q e = cc
     go (Some c) q e = let i : At c.stamp (suc c.k) Left ≡ a = cc in
         let r : record { stamp = c.stamp; k = suc c.k - 1 } ≡ c = same_record c (suc c.k - 1) (omega arith) in
-        subst (λ (x : Anchor). place h x ≡ suc o) i (ap (λ (x : Cell). shown_count h (cells_upto (cells (seq h)) x)) r ∙ upto_count (shown h) (cells (seq h)) o c (once h d) q)
+        subst (λ (x : Anchor). place h x ≡ suc o) i (ap (λ (x : Cell). shown_count h (cells_upto (cells (seq h)) x)) r ∙ upto_count (shows h) (cells (seq h)) o c (once h d) q)
 
 pub right_place : (h : History) → Distinct h → (o : ℕ) (a : Anchor) → right_anchor h o ≡ Some a → place h a ≡ o
 unfolding right_anchor place
@@ -73,7 +73,7 @@ right_place h d o a e = at_end (cases_Bool (eqb o (length (text h))))
   where
     go : (g : Option Cell) → slice_get (shown_cells h) o ≡ g → option_map (λ (c : Cell). At c.stamp c.k Right) g ≡ Some a → place h a ≡ o
     go None q e = cc
-    go (Some c) q e = let i : At c.stamp c.k Right ≡ a = cc in subst (λ (x : Anchor). place h x ≡ o) i (before_count (shown h) (cells (seq h)) o c (once h d) q)
+    go (Some c) q e = let i : At c.stamp c.k Right ≡ a = cc in subst (λ (x : Anchor). place h x ≡ o) i (before_count (shows h) (cells (seq h)) o c (once h d) q)
 
     at_end : (eqb o (length (text h)) ≡ true) ⊎ (eqb o (length (text h)) ≡ false) → place h a ≡ o
     at_end (inl t) = let s : Some Greatest ≡ Some a = rw t at e in let i : Greatest ≡ a = cc in

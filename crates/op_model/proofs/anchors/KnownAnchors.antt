@@ -8,7 +8,7 @@ use Rattle.op_model.specs.declared.operation.Operation.TheVariants.{Edit, Undo}
 use Rattle.op_model.specs.Edits.{is_boundary}
 use Rattle.op_model.specs.Histories.{History, Distinct, has_edit}
 use Rattle.op_model.specs.Cells.{Cell, seq, cells}
-use Rattle.op_model.specs.Shown.{texts, new_bytes, IsCell, byte, shown, text}
+use Rattle.op_model.specs.Shown.{texts, new_bytes, IsCell, byte, shows, text}
 use Rattle.op_model.specs.declared.anchor.Anchor.{Anchor}
 use Rattle.op_model.specs.Anchors.{shown_cells, right_anchor, is_known}
 use Rattle.op_model.specs.declared.anchor.Anchor.TheVariants.{Greatest, At}
@@ -45,7 +45,7 @@ right_known h d o a b e = at_end (cases_Bool (eqb o (length (text h))))
     go None q e = cc
     go (Some c) q e =
         let i : At c.stamp c.k Right ≡ a = cc in
-        let n : IsCell h c = (all_cells h d c).0 (got_member (shown h) (cells (seq h)) o c q) in
+        let n : IsCell h c = (all_cells h d c).0 (got_member (shows h) (cells (seq h)) o c q) in
         let m = got_map (byte h) (shown_cells h) o c q in
         let t : text h ≡ map (byte h) (shown_cells h) = text_is h d in
         let l : o < length (text h) = subst (λ (z : List ℕ). o < length z) (sym t) m.0 in

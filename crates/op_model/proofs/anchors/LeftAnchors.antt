@@ -14,7 +14,7 @@ use Rattle.op_model.specs.Edits.{is_boundary}
 use Rattle.op_model.specs.Histories.{History, Distinct}
 use Rattle.op_model.specs.Domains.{IsProper}
 use Rattle.op_model.specs.Cells.{Cell, same_cell, seq, cells}
-use Rattle.op_model.specs.Shown.{new_bytes, IsCell, byte, shown, text}
+use Rattle.op_model.specs.Shown.{new_bytes, IsCell, byte, shows, text}
 use Rattle.op_model.specs.Facts.{Fact, Continues, fact, cell_facts}
 use Rattle.op_model.specs.Lawful.{Lawful}
 use Rattle.op_model.specs.Anchors.{shown_cells, left_anchor, right_anchor, is_known, place_fault, known_place}
@@ -77,7 +77,7 @@ module _ (h : History) (l : Lawful h) (proper : AllByRecursion IsProper h) where
 
   -- where the text has a boundary behind a shown cell, a character of the cell's text ends behind it
   left_end : (o : ℕ) (c : Cell) → slice_get (shown_cells h) o ≡ Some c → is_boundary (text h) (suc o) ≡ true → IsCharBoundary (new_bytes h c.stamp) (suc c.k)
-  left_end o c q b = go (around (shown h) (cells (seq h)) o c q)
+  left_end o c q b = go (around (shows h) (cells (seq h)) o c q)
     where
       u : Texts h
       u = texts_of h proper
@@ -88,12 +88,12 @@ module _ (h : History) (l : Lawful h) (proper : AllByRecursion IsProper h) where
       apart : (y : Cell) (ys : List Cell) (xs : List Cell) → cells (seq h) ≡ xs ++ c ∷ y ∷ ys → (Continues (fact h c) (fact h y) → ⊥) → IsCharBoundary (new_bytes h c.stamp) (suc c.k)
       apart y ys xs e n = (told_apart h d u (lawful_whole h l u) (map (fact h) xs) (map (fact h) ys) (fact h c) (fact h y) (told_is xs (y ∷ ys) e) n).0
 
-      go : Around (shown h) (cells (seq h)) o c → IsCharBoundary (new_bytes h c.stamp) (suc c.k)
+      go : Around (shows h) (cells (seq h)) o c → IsCharBoundary (new_bytes h c.stamp) (suc c.k)
       go w = behind w.1 w.2
         where
           behind : (ys : List Cell) → cells (seq h) ≡ w.0 ++ c ∷ ys → IsCharBoundary (new_bytes h c.stamp) (suc c.k)
           behind [] e = told_last h d u (lawful_whole h l u) (map (fact h) w.0) (fact h c) (told_is w.0 [] e)
-          behind (y ∷ ys) e = next (cases_Bool (same_cell y (record { stamp = c.stamp; k = suc c.k }))) (cases_Bool (shown h y))
+          behind (y ∷ ys) e = next (cases_Bool (same_cell y (record { stamp = c.stamp; k = suc c.k }))) (cases_Bool (shows h y))
             where
               other : same_cell y (record { stamp = c.stamp; k = suc c.k }) ≡ false → Continues (fact h c) (fact h y) → ⊥
               other n i =
@@ -101,17 +101,17 @@ module _ (h : History) (l : Lawful h) (proper : AllByRecursion IsProper h) where
                   let z : same_cell (record { stamp = c.stamp; k = suc c.k }) (record { stamp = c.stamp; k = suc c.k }) ≡ false = subst (λ (x : Cell). same_cell x (record { stamp = c.stamp; k = suc c.k }) ≡ false) j n in
                   let t = same_cell_refl (record { stamp = c.stamp; k = suc c.k }) in cc
 
-              unlike : shown h y ≡ false → Continues (fact h c) (fact h y) → ⊥
-              unlike n i = let j : shown h y ≡ shown h c = ap (λ (z : Fact). z.visible) i in let k = w.3 in cc
+              unlike : shows h y ≡ false → Continues (fact h c) (fact h y) → ⊥
+              unlike n i = let j : shows h y ≡ shows h c = ap (λ (z : Fact). z.visible) i in let k = w.3 in cc
 
-              next : (same_cell y (record { stamp = c.stamp; k = suc c.k }) ≡ true) ⊎ (same_cell y (record { stamp = c.stamp; k = suc c.k }) ≡ false) → (shown h y ≡ true) ⊎ (shown h y ≡ false)
+              next : (same_cell y (record { stamp = c.stamp; k = suc c.k }) ≡ true) ⊎ (same_cell y (record { stamp = c.stamp; k = suc c.k }) ≡ false) → (shows h y ≡ true) ⊎ (shows h y ≡ false)
                   → IsCharBoundary (new_bytes h c.stamp) (suc c.k)
               next (inr n) v = apart y ys w.0 e (other n)
               next (inl i) (inr n) = apart y ys w.0 e (unlike n)
               next (inl i) (inl v) =
                   let j : y ≡ record { stamp = c.stamp; k = suc c.k } = same_cell_eq y (record { stamp = c.stamp; k = suc c.k }) i in
-                  let g : slice_get (shown_cells h) (suc o) ≡ Some y = ap (λ (z : List Cell). slice_get (filter (shown h) z) (suc o)) e ∙ next_shown (shown h) w.0 c y ys o w.3 v w.4 in
-                  let n : IsCell h y = (all_cells h d y).0 (got_member (shown h) (cells (seq h)) (suc o) y g) in
+                  let g : slice_get (shown_cells h) (suc o) ≡ Some y = ap (λ (z : List Cell). slice_get (filter (shows h) z) (suc o)) e ∙ next_shown (shows h) w.0 c y ys o w.3 v w.4 in
+                  let n : IsCell h y = (all_cells h d y).0 (got_member (shows h) (cells (seq h)) (suc o) y g) in
                   let m = got_map (byte h) (shown_cells h) (suc o) y g in
                   let t : text h ≡ map (byte h) (shown_cells h) = text_is h d in
                   let s : suc o < length (text h) = subst (λ (z : List ℕ). suc o < length z) (sym t) m.0 in
@@ -129,7 +129,7 @@ module _ (h : History) (l : Lawful h) (proper : AllByRecursion IsProper h) where
       go None q i = cc
       go (Some c) q i =
           let j : At c.stamp (suc c.k) Left ≡ a = cc in
-          let n : IsCell h c = (all_cells h d c).0 (got_member (shown h) (cells (seq h)) o c q) in
+          let n : IsCell h c = (all_cells h d c).0 (got_member (shows h) (cells (seq h)) o c q) in
           let w : is_boundary (new_bytes h c.stamp) (suc c.k) ≡ true = of_boundary (new_bytes h c.stamp) (suc c.k) (left_end o c q b) in
           subst (λ (x : Anchor). is_known h x ≡ true) j
           (rw (edit_there h c.stamp c.k n, w, le-leb 1 (suc c.k) (omega arith), le-leb (suc c.k) (length (new_bytes h c.stamp)) (omega (arith, n))) refl)

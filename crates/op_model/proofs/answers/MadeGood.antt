@@ -22,7 +22,7 @@ use Rattle.op_model.specs.Limited.{excess}
 use Rattle.op_model.specs.Domains.{IsReplica}
 use Rattle.op_model.specs.Edits.{is_reversed, is_past, is_inside, overlap_from}
 use Rattle.op_model.specs.Cells.{Cell, everything, seq_where, seq, cells}
-use Rattle.op_model.specs.Shown.{shown, shown_where, byte, text, text_where, full, count}
+use Rattle.op_model.specs.Shown.{shows, shows_where, byte, text, text_where, full, count}
 use Rattle.op_model.specs.Facts.{Fact, fact, alike}
 use Rattle.op_model.specs.Walked.{Run, run_facts, facts_of, Ordered}
 use Rattle.op_model.specs.Made.{full_offset, full_piece, local_edit, local_undo, next_count, first_twice, local_edit_fault, local_undo_fault}
@@ -163,11 +163,11 @@ module _ (f : Cell → Bool) where
 
 -- ---- pieces taken to full offsets
 
-pub text_number : (h : History) → length (text h) ≡ number (shown h) (cells (seq h))
-unfolding text text_where shown seq
-text_number h = length-map (filter (shown_where everything (newest_first h)) (cells (seq_where everything (newest_first h)))) (byte (newest_first h))
+pub text_number : (h : History) → length (text h) ≡ number (shows h) (cells (seq h))
+unfolding text text_where shows seq
+text_number h = length-map (filter (shows_where everything (newest_first h)) (cells (seq_where everything (newest_first h)))) (byte (newest_first h))
 
-told_agree : (h : History) (s : List Cell) → Agree (shown h) (map (fact h) s)
+told_agree : (h : History) (s : List Cell) → Agree (shows h) (map (fact h) s)
 told_agree h [] = tt
 told_agree h (c ∷ s) = (refl, told_agree h s)
 
@@ -175,8 +175,8 @@ module _ (h : History) (w : Whole h) where
   cells_whole : cells_in (facts_of w.runs) ≡ cells (seq h)
   cells_whole = ap cells_in w.tell ∙ told_cells h (cells (seq h))
 
-  agree_whole : Agree (shown h) (facts_of w.runs)
-  agree_whole = subst (Agree (shown h)) (sym w.tell) (told_agree h (cells (seq h)))
+  agree_whole : Agree (shows h) (facts_of w.runs)
+  agree_whole = subst (Agree (shows h)) (sym w.tell) (told_agree h (cells (seq h)))
 
   full_whole : full h ≡ all_bytes (byte_of h) w.runs
   full_whole = full_told h ∙ ap (bytes (byte_of h)) (sym w.tell) ∙ facts_all (byte_of h) w.runs
@@ -184,19 +184,19 @@ module _ (h : History) (w : Whole h) where
   text_whole : text h ≡ shown_bytes (byte_of h) w.runs
   text_whole = text_told h ∙ ap (λ (s : List Fact). bytes (byte_of h) (filter (λ (q : Fact). q.visible) s)) (sym w.tell) ∙ facts_shown (byte_of h) w.runs
 
-  pub start_whole : (o : ℕ) → IsCharBoundary (text h) o → IsCharBoundary (full h) (full_offset (shown h) (cells (seq h)) o)
-  start_whole o c = subst (λ (s : List Cell). IsCharBoundary (full h) (full_offset (shown h) s o)) cells_whole
-      (subst (λ (x : List ℕ). IsCharBoundary x (full_offset (shown h) (cells_in (facts_of w.runs)) o)) (sym full_whole)
-      (start_boundary (shown h) (byte_of h) w.runs o agree_whole w.utf8 (subst (λ (x : List ℕ). IsCharBoundary x o) text_whole c)))
+  pub start_whole : (o : ℕ) → IsCharBoundary (text h) o → IsCharBoundary (full h) (full_offset (shows h) (cells (seq h)) o)
+  start_whole o c = subst (λ (s : List Cell). IsCharBoundary (full h) (full_offset (shows h) s o)) cells_whole
+      (subst (λ (x : List ℕ). IsCharBoundary x (full_offset (shows h) (cells_in (facts_of w.runs)) o)) (sym full_whole)
+      (start_boundary (shows h) (byte_of h) w.runs o agree_whole w.utf8 (subst (λ (x : List ℕ). IsCharBoundary x o) text_whole c)))
 
-  pub end_whole : (o : ℕ) → IsCharBoundary (text h) (suc o) → IsCharBoundary (full h) (suc (full_offset (shown h) (cells (seq h)) o))
-  end_whole o c = subst (λ (s : List Cell). IsCharBoundary (full h) (suc (full_offset (shown h) s o))) cells_whole
-      (subst (λ (x : List ℕ). IsCharBoundary x (suc (full_offset (shown h) (cells_in (facts_of w.runs)) o))) (sym full_whole)
-      (end_boundary (shown h) (byte_of h) w.runs o agree_whole w.utf8 (subst (λ (x : List ℕ). IsCharBoundary x (suc o)) text_whole c)))
+  pub end_whole : (o : ℕ) → IsCharBoundary (text h) (suc o) → IsCharBoundary (full h) (suc (full_offset (shows h) (cells (seq h)) o))
+  end_whole o c = subst (λ (s : List Cell). IsCharBoundary (full h) (suc (full_offset (shows h) s o))) cells_whole
+      (subst (λ (x : List ℕ). IsCharBoundary x (suc (full_offset (shows h) (cells_in (facts_of w.runs)) o))) (sym full_whole)
+      (end_boundary (shows h) (byte_of h) w.runs o agree_whole w.utf8 (subst (λ (x : List ℕ). IsCharBoundary x (suc o)) text_whole c)))
 
 module _ (h : History) where
   abbrev pub at : ℕ → ℕ
-  at o = full_offset (shown h) (cells (seq h)) o
+  at o = full_offset (shows h) (cells (seq h)) o
 
   -- where a piece's range ends in full offsets
   abbrev pub full_end : ℕ → ℕ → ℕ
@@ -205,13 +205,13 @@ module _ (h : History) where
   pub end_after : (s e : ℕ) → s ≤ e → at s ≤ full_end s e
   end_after s e a = elim (cases_Bool (eqb s e)) [
     | inl q ↦ rw q (omega arith)
-    | inr q ↦ (let l = less_than s e a q in let m = offset_mono (shown h) (cells (seq h)) s (e - 1) (omega arith) in rw q (omega arith))
+    | inr q ↦ (let l = less_than s e a q in let m = offset_mono (shows h) (cells (seq h)) s (e - 1) (omega arith) in rw q (omega arith))
   ]
 
   pub end_before : (s e q : ℕ) → s ≤ e → e ≤ length (text h) → e ≤ q → full_end s e ≤ at q
   end_before s e q a b c = elim (cases_Bool (eqb s e)) [
-    | inl x ↦ (let m = offset_mono (shown h) (cells (seq h)) s q (omega arith) in rw x m)
-    | inr x ↦ (let l = less_than s e a x in let n = text_number h in let m = offset_step (shown h) (cells (seq h)) (e - 1) q (omega arith) (omega arith) in rw x m)
+    | inl x ↦ (let m = offset_mono (shows h) (cells (seq h)) s q (omega arith) in rw x m)
+    | inr x ↦ (let l = less_than s e a x in let n = text_number h in let m = offset_step (shows h) (cells (seq h)) (e - 1) q (omega arith) (omega arith) in rw x m)
   ]
 
   pub forward_full : (so : ℕ) (ps : List Piece) → Ordered so (length (text h)) ps → AllByRecursion (λ (p : Piece). is_reversed p ≡ false) (map (full_piece h) ps)

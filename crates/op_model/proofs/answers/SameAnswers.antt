@@ -9,7 +9,7 @@ use Rattle.op_model.specs.declared.operation.Operation.{Operation}
 use Rattle.op_model.specs.Operations.{stamp_of, pieces_of, is_edit}
 use Rattle.op_model.specs.Histories.{History, In, SameSet, Distinct, has_edit, newest_first}
 use Rattle.op_model.specs.Cells.{Cell, PathCell, everything, seq_where, seq, cells}
-use Rattle.op_model.specs.Shown.{texts, new_bytes, byte, shown_where, shown, text, text_where, full, full_where}
+use Rattle.op_model.specs.Shown.{texts, new_bytes, byte, shows_where, shows, text, text_where, full, full_where}
 use Rattle.op_model.specs.Lawful.{Lawful}
 use Rattle.op_model.specs.declared.anchor.Anchor.{Anchor}
 use Rattle.op_model.specs.Anchors.{left_anchor, right_anchor, place, gap, compare_anchors, is_known}
@@ -36,10 +36,10 @@ bytes_agree h d (p ∷ s) e = (one p.cell e.0, bytes_agree h d s e.1)
         subst (λ (t : Lamport). byte (newest_first h) (record { stamp = t; k = c.k }) ≡ byte h (record { stamp = t; k = c.k })) (sym w.2)
         (byte_is h d w.0 i c.k ∙ sym (ap (λ (x : List ℕ). get_or x c.k 0) (bytes_of_one h w.0 d i)))
 
-pub text_is : (h : History) → Distinct h → text h ≡ map (byte h) (filter (shown h) (cells (seq h)))
-unfolding text text_where shown seq
-text_is h d = map_each (byte (newest_first h)) (byte h) (filter (shown_where everything (newest_first h)) (cells (seq_where everything (newest_first h))))
-    (each_filter (λ (c : Cell). byte (newest_first h) c ≡ byte h c) (shown_where everything (newest_first h)) (cells (seq_where everything (newest_first h))) (bytes_agree h d (seq_where everything (newest_first h)) (all_from (newest_first h))))
+pub text_is : (h : History) → Distinct h → text h ≡ map (byte h) (filter (shows h) (cells (seq h)))
+unfolding text text_where shows seq
+text_is h d = map_each (byte (newest_first h)) (byte h) (filter (shows_where everything (newest_first h)) (cells (seq_where everything (newest_first h))))
+    (each_filter (λ (c : Cell). byte (newest_first h) c ≡ byte h c) (shows_where everything (newest_first h)) (cells (seq_where everything (newest_first h))) (bytes_agree h d (seq_where everything (newest_first h)) (all_from (newest_first h))))
 
 pub full_is : (h : History) → Distinct h → full h ≡ map (byte h) (cells (seq h))
 unfolding full full_where seq
@@ -101,9 +101,9 @@ module _ (h g : History) (l : Lawful h) (m : Lawful g) (s : SameSet h g) where
   texts_same : text h ≡ text g
   texts_same = (lawful_same h g l m s).1
 
-  shows : shown h ≡ shown g
-  unfolding shown
-  shows = λ i c. shown_where everything (newest i) c
+  shows_same : shows h ≡ shows g
+  unfolding shows
+  shows_same = λ i c. shows_where everything (newest i) c
 
   edits : (t : Lamport) → has_edit h t ≡ has_edit g t
   edits t = any_same (λ o. is_edit o && same_stamp (stamp_of o) t) h g s
@@ -114,18 +114,18 @@ module _ (h g : History) (l : Lawful h) (m : Lawful g) (s : SameSet h g) where
   pub left_same : (o : ℕ) → left_anchor h o ≡ left_anchor g o
   unfolding left_anchor
   left_same zero = refl
-  left_same (suc o) = rw (shows, seqs) refl
+  left_same (suc o) = rw (shows_same, seqs) refl
 
   pub right_same : (o : ℕ) → right_anchor h o ≡ right_anchor g o
   unfolding right_anchor
-  right_same o = rw (shows, seqs, texts_same) refl
+  right_same o = rw (shows_same, seqs, texts_same) refl
 
   pub place_same : (a : Anchor) → place h a ≡ place g a
   unfolding place
   place_same Least = refl
   place_same Greatest = ap length texts_same
-  place_same (At t k Left) = rw (shows, seqs) refl
-  place_same (At t k Right) = rw (shows, seqs) refl
+  place_same (At t k Left) = rw (shows_same, seqs) refl
+  place_same (At t k Right) = rw (shows_same, seqs) refl
 
   pub gap_same : (a : Anchor) → gap h a ≡ gap g a
   unfolding gap
@@ -146,14 +146,14 @@ module _ (h g : History) (l : Lawful h) (m : Lawful g) (s : SameSet h g) where
   known_same (At t k Right) = rw (edits t, bytes t) refl
 
   was : (v : Entries) (c : Cell) → is_shown_at h v c ≡ is_shown_at g v c
-  was v c = ap (λ (b : Bool). sees v c.stamp && b) (shown_seen h v c ∙ ap (λ (x : History). shown_where (sees v) x c) newest ∙ sym (shown_seen g v c))
+  was v c = ap (λ (b : Bool). sees v c.stamp && b) (shown_seen h v c ∙ ap (λ (x : History). shows_where (sees v) x c) newest ∙ sym (shown_seen g v c))
 
   pub since_same : (v : Entries) → since h v ≡ since g v
   unfolding since
   since_same v = ap (λ (f : List Fate). Rattle.op_model.specs.Since.edits_of 0 0 (Rattle.op_model.specs.Since.runs f)) all
     where
       all : fates h v ≡ fates g v
-      all = ap (λ (f : Cell → Fate). map f (cells (seq h))) (λ i c. fate (was v c i) (shows i c)) ∙ ap (λ (x : List PathCell). map (λ (c : Cell). fate (is_shown_at g v c) (shown g c)) (cells x)) seqs
+      all = ap (λ (f : Cell → Fate). map f (cells (seq h))) (λ i c. fate (was v c i) (shows_same i c)) ∙ ap (λ (x : List PathCell). map (λ (c : Cell). fate (is_shown_at g v c) (shows g c)) (cells x)) seqs
 
   pub text_at_same : (v : Entries) → text_at h v ≡ text_at g v
   text_at_same v = text_seen h v ∙ ap (λ (x : History). text_where (sees v) x) newest ∙ sym (text_seen g v)

@@ -14,7 +14,7 @@ use Rattle.op_model.specs.Operations.{stamp_of, version_of}
 use Rattle.op_model.specs.Histories.{History, In, base, version, kept_history, seen_history, newest_first}
 use Rattle.op_model.specs.Cells.{Cell, PathCell, everything, seq, cells}
 use Rattle.op_model.specs.Laid.{only}
-use Rattle.op_model.specs.Shown.{undone, all_undone, shown_by, deleters_where, deleters, shown_where, shown}
+use Rattle.op_model.specs.Shown.{is_undone, are_undone, visible_by, deleters_where, deleters, shows_where, shows}
 use Rattle.op_model.specs.Facts.{was_visible}
 use Rattle.op_model.specs.Answers.{answer, is_entry_closed}
 use Rattle.op_model.specs.Answers.Answer.{Good}
@@ -135,13 +135,13 @@ module _ (h : History) (l : Lawful h) (v : Entries) (c : IsClosed h v) where
       ∙ sym (deleters_restrict (sees v) (newest_first h) d closed_part)
 
   -- whether a cell was shown, by its deletions in the whole and the counts of what v sees
-  pub shown_closed : (d : Cell) → shown (seen_history h v) d ≡ was_visible (seen_history h v) v d.stamp (deleters h d)
-  unfolding shown shown_where
+  pub shown_closed : (d : Cell) → shows (seen_history h v) d ≡ was_visible (seen_history h v) v d.stamp (deleters h d)
+  unfolding shows shows_where
   shown_closed d =
-      ap (λ (x : History). shown_by x (deleters (seen_history h v) d) d) (kept_all (newest_first (seen_history h v)))
-      ∙ ap (λ (b : Bool). not b && all_undone (newest_first (seen_history h v)) (deleters (seen_history h v) d)) (undone_newest (seen_history h v) d.stamp)
-      ∙ ap (λ (b : Bool). not (undone (seen_history h v) d.stamp) && b) (all_newest (seen_history h v) (deleters (seen_history h v) d))
-      ∙ ap (λ (e : List Lamport). not (undone (seen_history h v) d.stamp) && all_undone (seen_history h v) e) (deleters_closed d)
+      ap (λ (x : History). visible_by x d.stamp (deleters (seen_history h v) d)) (kept_all (newest_first (seen_history h v)))
+      ∙ ap (λ (b : Bool). not b && are_undone (newest_first (seen_history h v)) (deleters (seen_history h v) d)) (undone_newest (seen_history h v) d.stamp)
+      ∙ ap (λ (b : Bool). not (is_undone (seen_history h v) d.stamp) && b) (all_newest (seen_history h v) (deleters (seen_history h v) d))
+      ∙ ap (λ (e : List Lamport). not (is_undone (seen_history h v) d.stamp) && are_undone (seen_history h v) e) (deleters_closed d)
 
   -- a good operation that v sees is good against what v sees before it
   good_in_part : (p : History) (op : Operation) → Lawful p → answer p [] op ≡ Good → Lawful (seen_history p v) → within (version_of op) v ≡ true → answer (seen_history p v) [] op ≡ Good

@@ -11,7 +11,7 @@ use Rattle.op_model.specs.Sorted.{Member}
 use Rattle.op_model.specs.Operations.{stamp_of, version_of, pieces_of}
 use Rattle.op_model.specs.Histories.{History, In, kept_history, seen_history, newest_first}
 use Rattle.op_model.specs.Cells.{Cell, PathCell, before, put_all, op_places, both, everything, seq_where, seq}
-use Rattle.op_model.specs.Shown.{in_ranges, shown_by, deleters_where, shown_where, shown, deleters, deletes}
+use Rattle.op_model.specs.Shown.{in_ranges, visible_by, deleters_where, shows_where, shows, deleters, deletes}
 use Rattle.op_model.specs.Lawful.{Lawful}
 use Rattle.op_model.proofs.order.Insertion.{member_new, member_old}
 use Rattle.op_model.proofs.order.PathOrder.{later_irrefl}
@@ -38,10 +38,10 @@ pub deleters_past : (v : Entries) (pre rest : History) (c : Cell) → SeesNone v
 deleters_past v [] rest c e = refl
 deleters_past v (o ∷ pre) rest c e = deleters_unkept (sees v) o (pre ++ rest) c e.0 ∙ deleters_past v pre rest c e.1
 
-pub shown_past : (v : Entries) (pre rest : History) (c : Cell) → SeesNone v pre → shown_where (sees v) (pre ++ rest) c ≡ shown_where (sees v) rest c
-unfolding shown_where
-shown_past v pre rest c e = ap (λ (x : History). shown_by x (deleters_where (sees v) (pre ++ rest) c) c) (kept_past v pre rest e)
-    ∙ ap (λ (x : List Lamport). shown_by (kept_history (sees v) rest) x c) (deleters_past v pre rest c e)
+pub shown_past : (v : Entries) (pre rest : History) (c : Cell) → SeesNone v pre → shows_where (sees v) (pre ++ rest) c ≡ shows_where (sees v) rest c
+unfolding shows_where
+shown_past v pre rest c e = ap (λ (x : History). visible_by x c.stamp (deleters_where (sees v) (pre ++ rest) c)) (kept_past v pre rest e)
+    ∙ ap (λ (x : List Lamport). visible_by (kept_history (sees v) rest) c.stamp x) (deleters_past v pre rest c e)
 
 -- no operation of the list sees itself or one before it in the list, which are later
 abbrev pub Unseeing : History → Type 0
@@ -67,14 +67,14 @@ module _ (h : History) where
   seq_literal pre o rest i e = seq_seen h (version_of o) ∙ ap (seq_where (sees (version_of o))) i ∙ seq_past (version_of o) (pre ++ o ∷ []) rest e
 
   shown_literal : (pre : History) (o : Operation) (rest : History) (c : Cell) → newest_first h ≡ (pre ++ o ∷ []) ++ rest → SeesNone (version_of o) (pre ++ o ∷ [])
-      → shown (seen_history h (version_of o)) c ≡ shown_where (sees (version_of o)) rest c
-  shown_literal pre o rest c i e = shown_seen h (version_of o) c ∙ ap (λ (x : History). shown_where (sees (version_of o)) x c) i ∙ shown_past (version_of o) (pre ++ o ∷ []) rest c e
+      → shows (seen_history h (version_of o)) c ≡ shows_where (sees (version_of o)) rest c
+  shown_literal pre o rest c i e = shown_seen h (version_of o) c ∙ ap (λ (x : History). shows_where (sees (version_of o)) x c) i ∙ shown_past (version_of o) (pre ++ o ∷ []) rest c e
 
   hits_literal : (pre : History) (o : Operation) (rest : History) (c : Cell) → newest_first h ≡ (pre ++ o ∷ []) ++ rest → SeesNone (version_of o) (pre ++ o ∷ [])
       → deletes h o c ≡ hits everything o rest c
-  unfolding shown_where
+  unfolding shows_where
   hits_literal pre o rest c i e =
-      ap (λ (x : List PathCell). in_ranges x 0 (pieces_of o) c && shown (seen_history h (version_of o)) c) (seq_literal pre o rest i e)
+      ap (λ (x : List PathCell). in_ranges x 0 (pieces_of o) c && shows (seen_history h (version_of o)) c) (seq_literal pre o rest i e)
       ∙ ap (λ (b : Bool). in_ranges (seq_where (sees (version_of o)) rest) 0 (pieces_of o) c && b) (shown_literal pre o rest c i e)
 
   step : (pre : History) (o : Operation) (rest : History) → newest_first h ≡ pre ++ o ∷ rest → newest_first h ≡ (pre ++ o ∷ []) ++ rest

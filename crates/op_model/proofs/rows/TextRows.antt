@@ -5,7 +5,7 @@ use Rattle.std.specs.List.{filter}
 use Rattle.op_model.specs.Operations.{version_of}
 use Rattle.op_model.specs.Histories.{History, base, seen_history}
 use Rattle.op_model.specs.Cells.{seq, cells}
-use Rattle.op_model.specs.Shown.{text, count, undone, deleters, deletes}
+use Rattle.op_model.specs.Shown.{text, count, is_undone, deleters, deletes}
 use Rattle.op_model.specs.Made.{local_edit, local_undo}
 use Rattle.op_model.specs.Since.{since, text_at}
 use Rattle.op_model.proofs.rows.Worked.{stamp, piece, edit, undo, counts, v0, open_all}
@@ -69,15 +69,15 @@ two_undos_redone : text redone ≡ 97 ∷ 88 ∷ 98 ∷ []
 unfolding open_all
 two_undos_redone = refl
 
-greatest_count : (count undone_twice (stamp 2 1) ≡ 1) × (undone undone_twice (stamp 2 1) ≡ true)
+greatest_count : (count undone_twice (stamp 2 1) ≡ 1) × (is_undone undone_twice (stamp 2 1) ≡ true)
 unfolding open_all
 greatest_count = (refl, refl)
 
-greatest_count_redone : (count redone (stamp 2 1) ≡ 2) × (undone redone (stamp 2 1) ≡ false)
+greatest_count_redone : (count redone (stamp 2 1) ≡ 2) × (is_undone redone (stamp 2 1) ≡ false)
 unfolding open_all
 greatest_count_redone = (refl, refl)
 
-undone_at_a_version : undone (seen_history redone ((1, 3) ∷ (2, 3) ∷ [])) (stamp 2 1) ≡ true
+undone_at_a_version : is_undone (seen_history redone ((1, 3) ∷ (2, 3) ∷ [])) (stamp 2 1) ≡ true
 unfolding open_all
 undone_at_a_version = refl
 

@@ -10,7 +10,7 @@ use Rattle.op_model.specs.declared.operation.Operation.TheVariants.{Edit, Undo}
 use Rattle.op_model.specs.declared.limits.Limits.{Limits as LimitsType}
 use Rattle.op_model.specs.Cells.{same_cell, sibling_first, seq_where, seq}
 use Rattle.op_model.specs.Laid.{replay}
-use Rattle.op_model.specs.Shown.{deleters_where, shown_where, shown, text_where, text, full_where, full}
+use Rattle.op_model.specs.Shown.{deleters_where, shows_where, shows, text_where, text, full_where, full}
 use Rattle.op_model.specs.Made.{local_edit, local_undo}
 use Rattle.op_model.specs.Answers.{answer}
 use Rattle.op_model.specs.Anchors.{left_anchor, right_anchor, place, gap, compare_anchors, is_known}
@@ -40,5 +40,5 @@ abbrev pub ample : LimitsType
 ample = record { bytes = 1099511627776; entries = 1099511627775 }
 
 unfoldable pub open_all : ℕ
-unfolding later same_stamp same_cell sibling_first seq_where seq replay deleters_where shown_where shown text_where text full_where full local_edit local_undo answer left_anchor right_anchor place gap compare_anchors is_known since pass passes settle
+unfolding later same_stamp same_cell sibling_first seq_where seq replay deleters_where shows_where shows text_where text full_where full local_edit local_undo answer left_anchor right_anchor place gap compare_anchors is_known since pass passes settle
 open_all = 0

@@ -9,7 +9,7 @@ use Rattle.lamport_clock.specs.Versions.{Entries, sees}
 use Rattle.lamport_clock.specs.Stamps.{same_stamp}
 use Rattle.op_model.specs.Operations.{stamp_of, version_of, pieces_of}
 use Rattle.op_model.specs.Cells.{Cell, PathCell, before, op_places, both, everything, seq_where, cells}
-use Rattle.op_model.specs.Shown.{shown_where, new_bytes, byte, text_where, full_where, text, full}
+use Rattle.op_model.specs.Shown.{shows_where, new_bytes, byte, text_where, full_where, text, full}
 use Rattle.op_model.proofs.order.PathOrder.{same_stamp_eq}
 use Rattle.op_model.proofs.order.Insertion.{each_insert_all}
 use Rattle.op_model.proofs.order.LateOperation.{seq_nil, seq_kept, seq_unkept}
@@ -49,10 +49,10 @@ byte_each keep h (q ∷ s) e = (ap (λ (x : List ℕ). get_or x q.cell.k 0) (byt
 text_part : (keep : Lamport → Bool) (h : History) → text_where everything (kept_history keep h) ≡ text_where keep h
 unfolding text_where
 text_part keep h =
-    ap (λ (s : List PathCell). map (byte (kept_history keep h)) (filter (shown_where everything (kept_history keep h)) (cells s))) (seq_part everything keep h)
-    ∙ ap (map (byte (kept_history keep h))) (filter_agree (shown_where everything (kept_history keep h)) (shown_where keep h) (λ c. shown_part everything keep h c) (cells (seq_where keep h)))
-    ∙ map_each (byte (kept_history keep h)) (byte h) (filter (shown_where keep h) (cells (seq_where keep h)))
-    (each_filter (λ (c : Cell). byte (kept_history keep h) c ≡ byte h c) (shown_where keep h) (cells (seq_where keep h)) (byte_each keep h (seq_where keep h) (passing keep h)))
+    ap (λ (s : List PathCell). map (byte (kept_history keep h)) (filter (shows_where everything (kept_history keep h)) (cells s))) (seq_part everything keep h)
+    ∙ ap (map (byte (kept_history keep h))) (filter_agree (shows_where everything (kept_history keep h)) (shows_where keep h) (λ c. shown_part everything keep h c) (cells (seq_where keep h)))
+    ∙ map_each (byte (kept_history keep h)) (byte h) (filter (shows_where keep h) (cells (seq_where keep h)))
+    (each_filter (λ (c : Cell). byte (kept_history keep h) c ≡ byte h c) (shows_where keep h) (cells (seq_where keep h)) (byte_each keep h (seq_where keep h) (passing keep h)))
 
 full_part : (keep : Lamport → Bool) (h : History) → full_where everything (kept_history keep h) ≡ full_where keep h
 unfolding full_where

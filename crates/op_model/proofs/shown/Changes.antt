@@ -6,8 +6,8 @@ use Rattle.op_model.specs.declared.operation.Operation.{Operation}
 use Rattle.op_model.specs.Operations.{stamp_of, version_of, pieces_of, is_edit}
 use Rattle.op_model.specs.Histories.{History, newest_first, by_stamp, seen_history}
 use Rattle.op_model.specs.Cells.{Cell, PathCell, everything, seq}
-use Rattle.op_model.specs.Shown.{count, undone, all_undone, in_ranges, shown_where, shown, deleters_where, deleters, deletes}
-use Rattle.op_model.specs.Facts.{Fact, cell_facts, with_deletion, visible_by}
+use Rattle.op_model.specs.Shown.{count, is_undone, are_undone, in_ranges, shows_where, shows, deleters_where, deleters, deletes, visible_by}
+use Rattle.op_model.specs.Facts.{Fact, cell_facts, with_deletion}
 use Rattle.op_model.specs.Answers.{answer}
 use Rattle.op_model.specs.Answers.Answer.{Good}
 use Rattle.op_model.proofs.order.SameSets.{newest_desc, seq_seen}
@@ -23,9 +23,9 @@ use Rattle.op_model.proofs.shown.OnePass.{no_counts, count_newest}
 
 -- the test by sorted history is the one by what the version sees
 pub hits_seen : (h : History) (op : Operation) (c : Cell) → hits everything op (newest_first h) c ≡ deletes h op c
-unfolding shown_where
+unfolding shows_where
 hits_seen h op c =
-    ap (λ (x : List PathCell). in_ranges x 0 (pieces_of op) c && shown_where (sees (version_of op)) (newest_first h) c) (sym (seq_seen h (version_of op)))
+    ap (λ (x : List PathCell). in_ranges x 0 (pieces_of op) c && shows_where (sees (version_of op)) (newest_first h) c) (sym (seq_seen h (version_of op)))
     ∙ ap (λ (b : Bool). in_ranges (seq (seen_history h (version_of op))) 0 (pieces_of op) c && b) (sym (shown_seen h (version_of op) c))
 
 module _ (h : History) (op : Operation) (r : Ready h) (k : Counted h) (g : answer h [] op ≡ Good) where
@@ -41,12 +41,12 @@ module _ (h : History) (op : Operation) (r : Ready h) (k : Counted h) (g : answe
       ∙ ap (λ (b : Bool). cond b (with_deletion (stamp_of op) (deleters h c)) (deleters h c))
       (sym (hit_is h op fits (newest_desc h r.0.distinct) (no_counts op e) uncounted c) ∙ hits_seen h op c)
 
-  pub edit_shown : is_edit op ≡ true → (c : Cell) → shown (h ++ op ∷ []) c ≡ cond (deletes h op c) false (shown h c)
+  pub edit_shown : is_edit op ≡ true → (c : Cell) → shows (h ++ op ∷ []) c ≡ cond (deletes h op c) false (shows h c)
   edit_shown e c = shown_now h op fits (newest_desc h r.0.distinct) (no_counts op e) uncounted c
-      ∙ ap (λ (b : Bool). cond b false (shown h c)) (sym (hit_is h op fits (newest_desc h r.0.distinct) (no_counts op e) uncounted c) ∙ hits_seen h op c)
+      ∙ ap (λ (b : Bool). cond b false (shows h c)) (sym (hit_is h op fits (newest_desc h r.0.distinct) (no_counts op e) uncounted c) ∙ hits_seen h op c)
 
   pub new_cells : is_edit op ≡ true → (n : ℕ)
-      → (deleters (h ++ op ∷ []) (record { stamp = stamp_of op; k = n }) ≡ []) × (shown (h ++ op ∷ []) (record { stamp = stamp_of op; k = n }) ≡ true)
+      → (deleters (h ++ op ∷ []) (record { stamp = stamp_of op; k = n }) ≡ []) × (shows (h ++ op ∷ []) (record { stamp = stamp_of op; k = n }) ≡ true)
   new_cells e n = (new_none h op fits (newest_desc h r.0.distinct) (no_counts op e) uncounted n, new_shown h op fits (newest_desc h r.0.distinct) (no_counts op e) uncounted n)
 
   pub undo_deleters : is_edit op ≡ false → (c : Cell) → deleters (h ++ op ∷ []) c ≡ deleters h c
@@ -57,14 +57,14 @@ module _ (h : History) (op : Operation) (r : Ready h) (k : Counted h) (g : answe
   count_now : (t : Lamport) → count (by_stamp op (newest_first h)) t ≡ count (h ++ op ∷ []) t
   count_now t = ap (λ (x : History). count x t) (sym (newest_append h op)) ∙ count_newest (h ++ op ∷ []) t
 
-  undone_now : (t : Lamport) → undone (by_stamp op (newest_first h)) t ≡ undone (h ++ op ∷ []) t
+  undone_now : (t : Lamport) → is_undone (by_stamp op (newest_first h)) t ≡ is_undone (h ++ op ∷ []) t
   undone_now t = ap (λ (n : ℕ). eqb (n % 2) 1) (count_now t)
 
-  all_now : (d : List Lamport) → all_undone (by_stamp op (newest_first h)) d ≡ all_undone (h ++ op ∷ []) d
+  all_now : (d : List Lamport) → are_undone (by_stamp op (newest_first h)) d ≡ are_undone (h ++ op ∷ []) d
   all_now [] = refl
   all_now (t ∷ d) = rw (undone_now t, all_now d) refl
 
-  pub undo_shown : is_edit op ≡ false → (c : Cell) → shown (h ++ op ∷ []) c ≡ visible_by (h ++ op ∷ []) c.stamp (deleters h c)
+  pub undo_shown : is_edit op ≡ false → (c : Cell) → shows (h ++ op ∷ []) c ≡ visible_by (h ++ op ∷ []) c.stamp (deleters h c)
   undo_shown e c = shown_more h op c fits
       ∙ rw (hits_none op (newest_first h) c (no_pieces op e), undone_now c.stamp, all_now (deleters_where everything (newest_first h) c)) refl
 

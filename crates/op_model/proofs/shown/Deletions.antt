@@ -11,7 +11,7 @@ use Rattle.op_model.specs.declared.operation.Piece.{Piece}
 use Rattle.lamport_clock.specs.Stamps.{later, same_stamp}
 use Rattle.op_model.specs.Operations.{stamp_of, version_of, pieces_of}
 use Rattle.op_model.specs.Cells.{Cell, PathCell, path, same_cell, both, everything, seq_where}
-use Rattle.op_model.specs.Shown.{in_ranges, shown_by, deleters_where}
+use Rattle.op_model.specs.Shown.{in_ranges, visible_by, deleters_where}
 use Rattle.op_model.specs.Facts.{stamp_first, with_deletion}
 use Rattle.op_model.proofs.order.Insertion.{insert_past, insert_here}
 use Rattle.op_model.proofs.order.PathOrder.{same_stamp_eq}
@@ -139,5 +139,5 @@ not_deleted keep (o ∷ h) c e = elim (cases_Bool (keep (stamp_of o))) [
 
 pub not_hit : (keep : Lamport → Bool) (op : Operation) (h : History) (c : Cell) → AllByRecursion (λ (o : Operation). stamp_of o ≡ c.stamp → ⊥) h → hits keep op h c ≡ false
 not_hit keep op h c e = and_left (in_ranges (seq_where (both keep (version_of op)) h) 0 (pieces_of op) c)
-    (shown_by (kept_history (both keep (version_of op)) h) (deleters_where (both keep (version_of op)) h c) c)
+    (visible_by (kept_history (both keep (version_of op)) h) c.stamp (deleters_where (both keep (version_of op)) h c))
     (none_there (seq_where (both keep (version_of op)) h) 0 (pieces_of op) c (others c.stamp c (seq_where (both keep (version_of op)) h) refl (no_stamp c.stamp (both keep (version_of op)) h e)))

@@ -8,7 +8,7 @@ use Rattle.lamport_clock.specs.Versions.{Entries, sees}
 use Rattle.op_model.specs.Operations.{stamp_of, version_of, pieces_of, counts_of}
 use Rattle.op_model.specs.Cells.{Cell, PathCell, seq, seq_where, everything}
 use Rattle.op_model.specs.Laid.{only, lay}
-use Rattle.op_model.specs.Shown.{count, undone, all_undone, in_ranges, in_pieces, shown_by, deleters_where, shown_where, shown, deleters}
+use Rattle.op_model.specs.Shown.{count, is_undone, are_undone, in_ranges, in_pieces, visible_by, deleters_where, shows_where, shows, deleters}
 use Rattle.op_model.specs.Facts.{fact, cell_facts, was_visible, with_deletion, lay_facts, mark, marks, Marking, edit_marking}
 use Rattle.op_model.proofs.order.Restricted.{restrict}
 use Rattle.op_model.proofs.order.SameSets.{Desc}
@@ -38,14 +38,14 @@ module _ (h : History) (op : Operation) (f : Fits h op) (desc : Desc (newest_fir
       max_zero : (n : ℕ) → max 0 n ≡ n
       max_zero n = omega arith
 
-  same_undone : (x : Lamport) → undone (by_stamp op d) x ≡ undone d x
+  same_undone : (x : Lamport) → is_undone (by_stamp op d) x ≡ is_undone d x
   same_undone x = ap (λ (n : ℕ). eqb (n % 2) 1) (same_count x)
 
-  same_all : (l : List Lamport) → all_undone (by_stamp op d) l ≡ all_undone d l
+  same_all : (l : List Lamport) → are_undone (by_stamp op d) l ≡ are_undone d l
   same_all [] = refl
   same_all (x ∷ l) = rw (same_undone x, same_all l) refl
 
-  not_undone : undone d t ≡ false
+  not_undone : is_undone d t ≡ false
   not_undone = ap (λ (n : ℕ). eqb (n % 2) 1) uncounted
 
   abbrev ranged : Cell → Bool
@@ -57,13 +57,13 @@ module _ (h : History) (op : Operation) (f : Fits h op) (desc : Desc (newest_fir
   pub hit_is : (c : Cell) → hits everything op d c ≡ (ranged c && was c)
   hit_is c = rw (restrict (sees v) d f.closed, deleters_restrict (sees v) d c f.closed) refl
 
-  shown_is : (c : Cell) → shown h c ≡ (not (undone d c.stamp) && all_undone d (deleters_where everything d c))
-  unfolding shown shown_where
-  shown_is c = ap (λ (x : History). shown_by x (deleters_where everything d c) c) (kept_all d)
+  shown_is : (c : Cell) → shows h c ≡ (not (is_undone d c.stamp) && are_undone d (deleters_where everything d c))
+  unfolding shows shows_where
+  shown_is c = ap (λ (x : History). visible_by x c.stamp (deleters_where everything d c)) (kept_all d)
 
-  pub shown_now : (c : Cell) → shown (h ++ op ∷ []) c ≡ cond (ranged c && was c) false (shown h c)
+  pub shown_now : (c : Cell) → shows (h ++ op ∷ []) c ≡ cond (ranged c && was c) false (shows h c)
   shown_now c = shown_more h op c f ∙ rw (same_undone c.stamp, same_undone t, same_all (deleters_where everything d c), not_undone, hit_is c, shown_is c)
-      (pick (ranged c && was c) (undone d c.stamp) (all_undone d (deleters_where everything d c)))
+      (pick (ranged c && was c) (is_undone d c.stamp) (are_undone d (deleters_where everything d c)))
     where
       pick : (b x y : Bool) → (not x && (cond b false true && y)) ≡ cond b false (not x && y)
       pick true true y = refl
@@ -80,7 +80,7 @@ module _ (h : History) (op : Operation) (f : Fits h op) (desc : Desc (newest_fir
   pub new_none : (k : ℕ) → deleters (h ++ op ∷ []) (record { stamp = t; k = k }) ≡ []
   new_none k = deleters_now (record { stamp = t; k = k }) ∙ rw (new_unhit k) (not_deleted everything d (record { stamp = t; k = k }) f.fresh)
 
-  pub new_shown : (k : ℕ) → shown (h ++ op ∷ []) (record { stamp = t; k = k }) ≡ true
+  pub new_shown : (k : ℕ) → shows (h ++ op ∷ []) (record { stamp = t; k = k }) ≡ true
   new_shown k = shown_now (record { stamp = t; k = k }) ∙ rw (new_unhit k, shown_is (record { stamp = t; k = k }), not_undone, not_deleted everything d (record { stamp = t; k = k }) f.fresh) refl
 
   abbrev pub marking : Marking
@@ -89,8 +89,8 @@ module _ (h : History) (op : Operation) (f : Fits h op) (desc : Desc (newest_fir
   anew : (c : Cell) → fact (h ++ op ∷ []) c ≡ cond (ranged c) (mark marking (fact h c)) (fact h c)
   anew c = rw (shown_now c, deleters_now c) (pick (ranged c) (was c))
     where
-      pick : (a b : Bool) → tell (λ x. cond (a && b) false (shown h c)) (λ x. cond (a && b) (with_deletion t (deleters h c)) (deleters h c)) c
-          ≡ cond a (record { cell = c; visible = cond b false (shown h c); deletions = cond b (with_deletion t (deleters h c)) (deleters h c) }) (fact h c)
+      pick : (a b : Bool) → tell (λ x. cond (a && b) false (shows h c)) (λ x. cond (a && b) (with_deletion t (deleters h c)) (deleters h c)) c
+          ≡ cond a (record { cell = c; visible = cond b false (shows h c); deletions = cond b (with_deletion t (deleters h c)) (deleters h c) }) (fact h c)
       pick true b = refl
       pick false b = refl
 
@@ -102,7 +102,7 @@ module _ (h : History) (op : Operation) (f : Fits h op) (desc : Desc (newest_fir
       → cell_facts (h ++ op ∷ []) ≡ lay_facts (sees v) t 0 0 (pieces_of op) (marks marking (sees v) (in_pieces (pieces_of op)) 0 (cell_facts h))
   unfolding seq
   edit_told l =
-      ap (telling (shown (h ++ op ∷ [])) (deleters (h ++ op ∷ []))) l
-      ∙ tell_lay (shown (h ++ op ∷ [])) (deleters (h ++ op ∷ [])) t new_shown new_none (sees v) 0 (pieces_of op) (seq h)
-      ∙ ap (lay_facts (sees v) t 0 0 (pieces_of op)) (tell_marks marking (sees v) (pieces_of op) (shown h) (shown (h ++ op ∷ [])) (deleters h) (deleters (h ++ op ∷ []))
+      ap (telling (shows (h ++ op ∷ [])) (deleters (h ++ op ∷ []))) l
+      ∙ tell_lay (shows (h ++ op ∷ [])) (deleters (h ++ op ∷ [])) t new_shown new_none (sees v) 0 (pieces_of op) (seq h)
+      ∙ ap (lay_facts (sees v) t 0 0 (pieces_of op)) (tell_marks marking (sees v) (pieces_of op) (shows h) (shows (h ++ op ∷ [])) (deleters h) (deleters (h ++ op ∷ []))
       (seq h) 0 (seq_unique everything d desc) (each_anew (seq h) (seq h) refl))

@@ -9,7 +9,7 @@ use Rattle.lamport_clock.specs.Versions.{Entries, sees}
 use Rattle.op_model.specs.Operations.{stamp_of, version_of, pieces_of, counts_of, is_edit}
 use Rattle.op_model.specs.Cells.{PathCell, seq, seq_where, cells}
 use Rattle.op_model.specs.Laid.{only}
-use Rattle.op_model.specs.Shown.{in_pieces, count, undone, all_undone}
+use Rattle.op_model.specs.Shown.{in_pieces, count, is_undone, are_undone}
 use Rattle.op_model.specs.Answers.{answer}
 use Rattle.op_model.specs.Facts.{Fact, fact, cell_facts, alike, Marking, edit_marking, lay_facts, marks, with_deletion, was_visible}
 use Rattle.op_model.specs.declared.operation.Operation.TheVariants.{Edit, Undo}
@@ -86,17 +86,17 @@ count_newest h t = let a = count_onto [] h t in omega arith
 pub count_seen : (h : History) (v : Entries) (t : Lamport) → count (kept_history (sees v) (newest_first h)) t ≡ count (seen_history h v) t
 count_seen h v t = ap (λ (x : History). count x t) (sym (newest_seen h v)) ∙ count_newest (seen_history h v) t
 
-same_undone : (a b : History) → ((t : Lamport) → count a t ≡ count b t) → (t : Lamport) → undone a t ≡ undone b t
+same_undone : (a b : History) → ((t : Lamport) → count a t ≡ count b t) → (t : Lamport) → is_undone a t ≡ is_undone b t
 same_undone a b f t = ap (λ (n : ℕ). eqb (n % 2) 1) (f t)
 
-all_same : (a b : History) → ((t : Lamport) → count a t ≡ count b t) → (d : List Lamport) → all_undone a d ≡ all_undone b d
+all_same : (a b : History) → ((t : Lamport) → count a t ≡ count b t) → (d : List Lamport) → are_undone a d ≡ are_undone b d
 all_same a b f [] = refl
 all_same a b f (t ∷ d) = rw (same_undone a b f t, all_same a b f d) refl
 
-pub undone_newest : (h : History) (t : Lamport) → undone (newest_first h) t ≡ undone h t
+pub undone_newest : (h : History) (t : Lamport) → is_undone (newest_first h) t ≡ is_undone h t
 undone_newest h t = same_undone (newest_first h) h (count_newest h) t
 
-pub all_newest : (h : History) (d : List Lamport) → all_undone (newest_first h) d ≡ all_undone h d
+pub all_newest : (h : History) (d : List Lamport) → are_undone (newest_first h) d ≡ are_undone h d
 all_newest h d = all_same (newest_first h) h (count_newest h) d
 
 visible_same : (a b : History) (v : Entries) → ((t : Lamport) → count a t ≡ count b t) → (u : Lamport) (d : List Lamport) → was_visible a v u d ≡ was_visible b v u d

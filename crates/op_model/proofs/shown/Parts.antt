@@ -7,7 +7,7 @@ use Rattle.op_model.specs.Histories.{History, newest_first, kept_history, seen_h
 use Rattle.lamport_clock.specs.Versions.{Entries, sees}
 use Rattle.op_model.specs.Operations.{stamp_of, version_of, pieces_of}
 use Rattle.op_model.specs.Cells.{Cell, PathCell, both, everything, seq_where}
-use Rattle.op_model.specs.Shown.{in_ranges, shown_by, deleters_where, shown_where, shown}
+use Rattle.op_model.specs.Shown.{in_ranges, visible_by, deleters_where, shows_where, shows}
 use Rattle.op_model.proofs.order.Restricted.{Agree, seq_agree, agree_both}
 use Rattle.op_model.proofs.order.SameSets.{seq_part, agree_swap, newest_seen}
 use Rattle.op_model.proofs.shown.Deleters.{hits, deleters_kept, deleters_unkept}
@@ -29,11 +29,11 @@ kept_kept f g (o ∷ h) = go (f (stamp_of o)) (g (stamp_of o)) (kept_kept f g h)
 
 hits_at : (f : Lamport → Bool) (o : Operation) (h : History) (c : Cell) (s : List PathCell) (k : History) (d : List Lamport)
     → s ≡ seq_where f h → k ≡ kept_history f h → d ≡ deleters_where f h c
-    → (in_ranges s 0 (pieces_of o) c && shown_by k d c) ≡ (in_ranges (seq_where f h) 0 (pieces_of o) c && shown_by (kept_history f h) (deleters_where f h c) c)
+    → (in_ranges s 0 (pieces_of o) c && visible_by k c.stamp d) ≡ (in_ranges (seq_where f h) 0 (pieces_of o) c && visible_by (kept_history f h) c.stamp (deleters_where f h c))
 hits_at f o h c s k d a b e =
-    ap (λ (x : List PathCell). in_ranges x 0 (pieces_of o) c && shown_by k d c) a
-    ∙ ap (λ (x : History). in_ranges (seq_where f h) 0 (pieces_of o) c && shown_by x d c) b
-    ∙ ap (λ (x : List Lamport). in_ranges (seq_where f h) 0 (pieces_of o) c && shown_by (kept_history f h) x c) e
+    ap (λ (x : List PathCell). in_ranges x 0 (pieces_of o) c && visible_by k c.stamp d) a
+    ∙ ap (λ (x : History). in_ranges (seq_where f h) 0 (pieces_of o) c && visible_by x c.stamp d) b
+    ∙ ap (λ (x : List Lamport). in_ranges (seq_where f h) 0 (pieces_of o) c && visible_by (kept_history f h) c.stamp x) e
 
 nil : (f g : Lamport → Bool) (c : Cell) → deleters_where f [] c ≡ deleters_where g [] c
 unfolding deleters_where
@@ -77,16 +77,16 @@ deleters_part f g (o ∷ h) c = go (cases_Bool (g (stamp_of o))) (cases_Bool (f 
     go (inr k) l a b = let kl : (f (stamp_of o) && g (stamp_of o)) ≡ false = and_right (f (stamp_of o)) (g (stamp_of o)) k in
         rw k (rw (deleters_unkept (λ t. f t && g t) o h c kl, a))
 
-pub shown_part : (f g : Lamport → Bool) (h : History) (c : Cell) → shown_where f (kept_history g h) c ≡ shown_where (λ t. f t && g t) h c
-unfolding shown_where
+pub shown_part : (f g : Lamport → Bool) (h : History) (c : Cell) → shows_where f (kept_history g h) c ≡ shows_where (λ t. f t && g t) h c
+unfolding shows_where
 shown_part f g h c =
-    ap (λ (x : History). shown_by x (deleters_where f (kept_history g h) c) c) (kept_kept f g h)
-    ∙ ap (λ (x : List Lamport). shown_by (kept_history (λ t. f t && g t) h) x c) (deleters_part f g h c)
+    ap (λ (x : History). visible_by x c.stamp (deleters_where f (kept_history g h) c)) (kept_kept f g h)
+    ∙ ap (λ (x : List Lamport). visible_by (kept_history (λ t. f t && g t) h) c.stamp x) (deleters_part f g h c)
 
 -- shown in h|v
-pub shown_seen : (h : History) (v : Entries) (c : Cell) → shown (seen_history h v) c ≡ shown_where (sees v) (newest_first h) c
-unfolding shown shown_where
+pub shown_seen : (h : History) (v : Entries) (c : Cell) → shows (seen_history h v) c ≡ shows_where (sees v) (newest_first h) c
+unfolding shows shows_where
 shown_seen h v c =
-    ap (λ (x : History). shown_by (kept_history everything x) (deleters_where everything x c) c) (newest_seen h v)
-    ∙ ap (λ (x : History). shown_by x (deleters_where everything (kept_history (sees v) (newest_first h)) c) c) (kept_kept everything (sees v) (newest_first h))
-    ∙ ap (λ (x : List Lamport). shown_by (kept_history (sees v) (newest_first h)) x c) (deleters_part everything (sees v) (newest_first h) c)
+    ap (λ (x : History). visible_by (kept_history everything x) c.stamp (deleters_where everything x c)) (newest_seen h v)
+    ∙ ap (λ (x : History). visible_by x c.stamp (deleters_where everything (kept_history (sees v) (newest_first h)) c)) (kept_kept everything (sees v) (newest_first h))
+    ∙ ap (λ (x : List Lamport). visible_by (kept_history (sees v) (newest_first h)) c.stamp x) (deleters_part everything (sees v) (newest_first h) c)

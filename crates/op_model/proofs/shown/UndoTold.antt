@@ -7,11 +7,11 @@ use Rattle.op_model.specs.Operations.{stamp_of, version_of, pieces_of, is_edit}
 use Rattle.lamport_clock.specs.Versions.{sees}
 use Rattle.op_model.specs.Cells.{Cell, same_cell, PathCell, seq, seq_where, both, everything, cells}
 use Rattle.op_model.specs.Laid.{lay}
-use Rattle.op_model.specs.Shown.{in_ranges}
+use Rattle.op_model.specs.Shown.{in_ranges, visible_by}
 use Rattle.op_model.specs.declared.operation.Operation.TheVariants.{Edit, Undo}
 use Rattle.op_model.specs.Answers.{answer}
 use Rattle.op_model.specs.Answers.Answer.{Good}
-use Rattle.op_model.specs.Facts.{Fact, fact, cell_facts, visible_by}
+use Rattle.op_model.specs.Facts.{Fact, fact, cell_facts}
 use Rattle.op_model.proofs.order.SameSets.{Desc, newest_desc}
 use Rattle.op_model.proofs.histories.OneMore.{Fits, newest_append}
 use Rattle.op_model.proofs.shown.Deleters.{hits, shown_more}

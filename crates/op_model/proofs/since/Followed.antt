@@ -8,7 +8,7 @@ use Rattle.std.proofs.lemmas.List.Folds.{drop_split}
 use Rattle.lamport_clock.specs.Versions.{Entries, sees}
 use Rattle.op_model.specs.Histories.{History, newest_first, seen_history}
 use Rattle.op_model.specs.Cells.{Cell, PathCell, everything, seq_where, seq, cells}
-use Rattle.op_model.specs.Shown.{byte, shown, text_where, text}
+use Rattle.op_model.specs.Shown.{byte, shows, text_where, text}
 use Rattle.op_model.specs.Lawful.{Lawful, IsClosed}
 use Rattle.op_model.specs.Since.{Fate, fate, is_shown_at, lengthen, runs, number_gone, number_new, changes, edits_of, since, text_at, apply_edits}
 use Rattle.op_model.specs.Since.Fate.{Gone, New, Never}
@@ -233,17 +233,17 @@ text_then h l v c =
     let n : History = newest_first h in
     text_seen h v
     ∙ ap (λ (t : Cell → Bool). map (byte n) (filter t (cells (seq_where (sees v) n)))) (λ i d. sym (shown_seen h v d) i)
-    ∙ ap (λ (s : List PathCell). map (byte n) (filter (shown (seen_history h v)) (cells s))) (sym (restrict (sees v) n (closed_part h l v c)))
-    ∙ ap (λ (s : List Cell). map (byte n) (filter (shown (seen_history h v)) s)) (cells_only (sees v) (seq_where everything n))
-    ∙ ap (map (byte n)) (filter_both (shown (seen_history h v)) (λ (d : Cell). sees v d.stamp) (cells (seq_where everything n)))
+    ∙ ap (λ (s : List PathCell). map (byte n) (filter (shows (seen_history h v)) (cells s))) (sym (restrict (sees v) n (closed_part h l v c)))
+    ∙ ap (λ (s : List Cell). map (byte n) (filter (shows (seen_history h v)) s)) (cells_only (sees v) (seq_where everything n))
+    ∙ ap (map (byte n)) (filter_both (shows (seen_history h v)) (λ (d : Cell). sees v d.stamp) (cells (seq_where everything n)))
 
-pub text_now : (h : History) → text h ≡ map (byte (newest_first h)) (filter (shown h) (cells (seq h)))
-unfolding text text_where shown seq
+pub text_now : (h : History) → text h ≡ map (byte (newest_first h)) (filter (shows h) (cells (seq h)))
+unfolding text text_where shows seq
 text_now h = refl
 
 pub since_told : (h : History) (v : Entries) → Lawful h → IsClosed h v → apply_edits 0 (since h v) (text_at h v) (text h) ≡ text h
 unfolding since
 since_told h v l c =
     let s : List Cell = cells (seq h) in
-    follows (byte (newest_first h)) (is_shown_at h v) (shown h) (text_at h v) (text h) (runs (Rattle.op_model.specs.Since.fates h v)) s refl 0 0 0 (omega arith) (text_then h l v c) (text_now h)
+    follows (byte (newest_first h)) (is_shown_at h v) (shows h) (text_at h v) (text h) (runs (Rattle.op_model.specs.Since.fates h v)) s refl 0 0 0 (omega arith) (text_then h l v c) (text_now h)
     ∙ sym (text_now h)

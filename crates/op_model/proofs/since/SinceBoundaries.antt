@@ -12,7 +12,7 @@ use Rattle.op_model.specs.declared.anchor.TextEdit.{TextEdit}
 use Rattle.op_model.specs.Histories.{History, Distinct, seen_history}
 use Rattle.op_model.specs.Domains.{IsProper}
 use Rattle.op_model.specs.Cells.{Cell, seq, cells}
-use Rattle.op_model.specs.Shown.{shown, text}
+use Rattle.op_model.specs.Shown.{shows, text}
 use Rattle.op_model.specs.Facts.{Fact, fact, cell_facts, was_visible}
 use Rattle.op_model.specs.Walked.{Run, facts_of}
 use Rattle.op_model.specs.Lawful.{Lawful, IsClosed}
@@ -165,7 +165,7 @@ module _ (h : History) (l : Lawful h) (proper : AllByRecursion IsProper h) (v : 
   was_is : (x : Cell) → is_shown_at h v x ≡ passes (byte_of h) was_told (fact h x)
   was_is x = ap (λ (e : Bool). sees v x.stamp && e) (shown_closed h l v c x)
 
-  fine_told : (rs : List Run) (s : List Cell) → Utf8 (byte_of h) rs → facts_of rs ≡ map (fact h) s → Fine (byte_of h) (is_shown_at h v) (shown h) (cells (seq h)) s
+  fine_told : (rs : List Run) (s : List Cell) → Utf8 (byte_of h) rs → facts_of rs ≡ map (fact h) s → Fine (byte_of h) (is_shown_at h v) (shows h) (cells (seq h)) s
   fine_told rs s u e = (
     subst IsUtf8 (sym (ap (λ (g : Cell → Bool). map (byte_of h) (filter g s)) (λ i x. was_is x i) ∙ told_where h d (passes (byte_of h) was_told) s ∙ ap (λ (z : List Fact). bytes (byte_of h) (filter (passes (byte_of h) was_told) z)) (sym e)))
         (utf8_where (byte_of h) was_told rs u),
@@ -176,8 +176,8 @@ module _ (h : History) (l : Lawful h) (proper : AllByRecursion IsProper h) (v : 
   w : Whole h
   w = lawful_whole h l (texts_of h proper)
 
-  parted : (xs : List Cell) (x y : Cell) (ys : List Cell) → cells (seq h) ≡ xs ++ x ∷ y ∷ ys → (is_shown_at h v x ≡ is_shown_at h v y → shown h x ≡ shown h y → ⊥)
-      → Fine (byte_of h) (is_shown_at h v) (shown h) (cells (seq h)) (y ∷ ys)
+  parted : (xs : List Cell) (x y : Cell) (ys : List Cell) → cells (seq h) ≡ xs ++ x ∷ y ∷ ys → (is_shown_at h v x ≡ is_shown_at h v y → shows h x ≡ shows h y → ⊥)
+      → Fine (byte_of h) (is_shown_at h v) (shows h) (cells (seq h)) (y ∷ ys)
   parted xs x y ys e n =
       let t : cell_facts h ≡ map (fact h) xs ++ fact h x ∷ fact h y ∷ map (fact h) ys = ap (map (fact h)) e ∙ map-append (fact h) xs (x ∷ y ∷ ys) in
       let k = told_parted h d (texts_of h proper) w (map (fact h) xs) (map (fact h) ys) (fact h x) (fact h y) t (λ i.
@@ -186,5 +186,5 @@ module _ (h : History) (l : Lawful h) (proper : AllByRecursion IsProper h) (v : 
 
   pub since_bounded : AllByRecursion (λ (e : TextEdit). (IsCharBoundary (text_at h v) e.old.0 × IsCharBoundary (text_at h v) e.old.1) × (IsCharBoundary (text h) e.new.0 × IsCharBoundary (text h) e.new.1)) (since h v)
   unfolding since
-  since_bounded = bounded (byte_of h) (is_shown_at h v) (shown h) (cells (seq h)) (fine_told w.runs (cells (seq h)) w.utf8 w.tell) parted (text_at h v) (text h)
+  since_bounded = bounded (byte_of h) (is_shown_at h v) (shows h) (cells (seq h)) (fine_told w.runs (cells (seq h)) w.utf8 w.tell) parted (text_at h v) (text h)
       (runs (fates h v)) (cells (seq h)) refl (inl refl) 0 0 (omega arith) (omega arith) (text_then h l v c) (text_now h)

@@ -11,7 +11,7 @@ use Rattle.op_model.specs.Operations.{stamp_of, version_of, pieces_of, text_tota
 use Rattle.op_model.specs.Histories.{History, base, bytes_held, by_stamp, newer, newest_first, sort_onto}
 use Rattle.op_model.specs.Cells.{Cell, PathCell, before, both, cells, everything, new_places, op_places, left_path, seq, seq_where, text_places}
 use Rattle.op_model.specs.Facts.{Fact, alike}
-use Rattle.op_model.specs.Shown.{byte, full, hidden_text, shown, shown_where, text, text_where}
+use Rattle.op_model.specs.Shown.{byte, full, hidden_text, shows, shows_where, text, text_where}
 use Rattle.op_model.proofs.answers.Good.{full_length}
 use Rattle.op_model.proofs.texts.Utf8Runs.{bytes}
 use Rattle.op_model.proofs.texts.WholeTexts.{base_told, byte_is, byte_of, text_told}
@@ -66,13 +66,13 @@ full_bytes h = let a = full_length everything (newest_first h) in let b = seq_le
 -- ---- shown and hidden ones
 
 pub both_bytes : (h : History) → length (text h) + length (hidden_text h) ≡ bytes_held h
-unfolding text text_where shown seq
+unfolding text text_where shows seq
 both_bytes h =
     let d : History = newest_first h in
     let s : List Cell = cells (seq_where everything d) in
-    let a = length-map (filter (shown_where everything d) s) (byte d) in
-    let b = length-map (filter (λ (c : Cell). not (shown_where everything d c)) s) (byte h) in
-    let p = length-filter_both (shown_where everything d) (λ (c : Cell). not (shown_where everything d c)) (λ (c : Cell). refl) s in
+    let a = length-map (filter (shows_where everything d) s) (byte d) in
+    let b = length-map (filter (λ (c : Cell). not (shows_where everything d c)) s) (byte h) in
+    let p = length-filter_both (shows_where everything d) (λ (c : Cell). not (shows_where everything d c)) (λ (c : Cell). refl) s in
     let c = length-map (seq_where everything d) (λ (x : PathCell). x.cell) in
     let n = seq_len d in
     let m = sorted_bytes [] h in

@@ -14,7 +14,7 @@ use Rattle.op_model.specs.Operations.{stamp_of, version_of, pieces_of}
 use Rattle.op_model.specs.Histories.{History, In, Distinct, version, clock, kept_history, newest_first}
 use Rattle.op_model.specs.Edits.{replaced_from, replace_ranges}
 use Rattle.op_model.specs.Cells.{Cell, PathCell, everything, seq_where, seq, cells}
-use Rattle.op_model.specs.Shown.{texts, in_pieces, undone, all_undone, shown_by, shown_where, shown, deleters_where, deleters, text}
+use Rattle.op_model.specs.Shown.{texts, in_pieces, is_undone, are_undone, visible_by, shows_where, shows, deleters_where, deleters, text}
 use Rattle.op_model.specs.Facts.{Fact, fact, cell_facts, alike, Marking, edit_marking, was_visible, lay_facts, mark, marks}
 use Rattle.op_model.specs.Walked.{Ordered}
 use Rattle.op_model.specs.Made.{full_piece, local_edit}
@@ -63,54 +63,54 @@ module _ (b : Cell → ℕ) where
   abbrev visible : Fact → Bool
   visible q = q.visible
 
-  abbrev pub shows : List Fact → List ℕ
-  shows s = bytes b (filter visible s)
+  abbrev pub visible_text : List Fact → List ℕ
+  visible_text s = bytes b (filter visible s)
 
   abbrev pub count : List Fact → ℕ
   count s = length (filter visible s)
 
-  shows_append : (xs ys : List Fact) → shows (xs ++ ys) ≡ shows xs ++ shows ys
-  shows_append xs ys = ap (bytes b) (filter-append visible xs ys) ∙ map_append (λ (q : Fact). b q.cell) (filter visible xs) (filter visible ys)
+  visible_text-append : (xs ys : List Fact) → visible_text (xs ++ ys) ≡ visible_text xs ++ visible_text ys
+  visible_text-append xs ys = ap (bytes b) (filter-append visible xs ys) ∙ map_append (λ (q : Fact). b q.cell) (filter visible xs) (filter visible ys)
 
   count_append : (xs ys : List Fact) → count (xs ++ ys) ≡ count xs + count ys
   count_append xs ys = ap length (filter-append visible xs ys) ∙ length-append (filter visible xs) (filter visible ys)
 
-  shows_take : (n : ℕ) (s : List Fact) → shows (take n s) ≡ take (count (take n s)) (shows s)
-  shows_take zero s = refl
-  shows_take (suc n) [] = refl
-  shows_take (suc n) (x ∷ s) = pick x.visible (shows_take n s)
+  visible_text-take : (n : ℕ) (s : List Fact) → visible_text (take n s) ≡ take (count (take n s)) (visible_text s)
+  visible_text-take zero s = refl
+  visible_text-take (suc n) [] = refl
+  visible_text-take (suc n) (x ∷ s) = pick x.visible (visible_text-take n s)
     where
-      pick : (v : Bool) → shows (take n s) ≡ take (count (take n s)) (shows s)
+      pick : (v : Bool) → visible_text (take n s) ≡ take (count (take n s)) (visible_text s)
           → bytes b (cond v (x ∷ filter visible (take n s)) (filter visible (take n s))) ≡ take (length (cond v (x ∷ filter visible (take n s)) (filter visible (take n s)))) (bytes b (cond v (x ∷ filter visible s) (filter visible s)))
       pick true e = ap (λ z. b x.cell ∷ z) e
       pick false e = e
 
-  shows_drop : (n : ℕ) (s : List Fact) → shows (drop n s) ≡ drop (count (take n s)) (shows s)
-  shows_drop zero s = refl
-  shows_drop (suc n) [] = refl
-  shows_drop (suc n) (x ∷ s) = pick x.visible (shows_drop n s)
+  visible_text-drop : (n : ℕ) (s : List Fact) → visible_text (drop n s) ≡ drop (count (take n s)) (visible_text s)
+  visible_text-drop zero s = refl
+  visible_text-drop (suc n) [] = refl
+  visible_text-drop (suc n) (x ∷ s) = pick x.visible (visible_text-drop n s)
     where
-      pick : (v : Bool) → shows (drop n s) ≡ drop (count (take n s)) (shows s)
-          → shows (drop n s) ≡ drop (length (cond v (x ∷ filter visible (take n s)) (filter visible (take n s)))) (bytes b (cond v (x ∷ filter visible s) (filter visible s)))
+      pick : (v : Bool) → visible_text (drop n s) ≡ drop (count (take n s)) (visible_text s)
+          → visible_text (drop n s) ≡ drop (length (cond v (x ∷ filter visible (take n s)) (filter visible (take n s)))) (bytes b (cond v (x ∷ filter visible s) (filter visible s)))
       pick true e = e
       pick false e = e
 
-  shows_slice : (s : List Fact) (x y : ℕ) → x ≤ y → shows (slice_range s x y) ≡ slice_range (shows s) (count (take x s)) (count (take y s))
-  shows_slice s x y h =
+  visible_text-slice : (s : List Fact) (x y : ℕ) → x ≤ y → visible_text (slice_range s x y) ≡ slice_range (visible_text s) (count (take x s)) (count (take y s))
+  visible_text-slice s x y h =
       let c : count (take y s) ≡ count (take x s) + count (slice_range s x y) = ap count (take_split s x y h) ∙ count_append (take x s) (slice_range s x y) in
       let n : count (slice_range s x y) ≡ count (take y s) - count (take x s) = omega arith in
-      shows_take (y - x) (drop x s) ∙ ap (λ (k : ℕ). take k (shows (drop x s))) n ∙ ap (take (count (take y s) - count (take x s))) (shows_drop x s)
+      visible_text-take (y - x) (drop x s) ∙ ap (λ (k : ℕ). take k (visible_text (drop x s))) n ∙ ap (take (count (take y s) - count (take x s))) (visible_text-drop x s)
 
-  shows_new : (t : Lamport) (k n : ℕ) → shows (alike t k n true []) ≡ bytes b (alike t k n true [])
-  shows_new t k zero = refl
-  shows_new t k (suc n) = ap (λ z. b (record { stamp = t; k = k }) ∷ z) (shows_new t (suc k) n)
+  visible_text-new : (t : Lamport) (k n : ℕ) → visible_text (alike t k n true []) ≡ bytes b (alike t k n true [])
+  visible_text-new t k zero = refl
+  visible_text-new t k (suc n) = ap (λ z. b (record { stamp = t; k = k }) ∷ z) (visible_text-new t (suc k) n)
 
   abbrev Hides : Marking → Fact → Type 0
   Hides m q = m.visible q.cell.stamp q.visible q.deletions ≡ false
 
-  shows_marked : (m : Marking) (s : List Fact) → AllByRecursion (Hides m) s → shows (map (mark m) s) ≡ []
-  shows_marked m [] e = refl
-  shows_marked m (q ∷ s) e = rw e.0 (shows_marked m s e.1)
+  visible_text-marked : (m : Marking) (s : List Fact) → AllByRecursion (Hides m) s → visible_text (map (mark m) s) ≡ []
+  visible_text-marked m [] e = refl
+  visible_text-marked m (q ∷ s) e = rw e.0 (visible_text-marked m s e.1)
 
 -- ---- laying in where all cells pass and none is later
 
@@ -175,14 +175,14 @@ module _ (keep : Lamport → Bool) (t : Lamport) (m : Marking) (hit : ℕ → Bo
 
 -- ---- the text after a local edit
 
-count_cells : (h : History) (n : ℕ) (s : List Cell) → length (filter (λ (q : Fact). q.visible) (take n (map (fact h) s))) ≡ number (shown h) (take n s)
+count_cells : (h : History) (n : ℕ) (s : List Cell) → length (filter (λ (q : Fact). q.visible) (take n (map (fact h) s))) ≡ number (shows h) (take n s)
 count_cells h zero s = refl
 count_cells h (suc n) [] = refl
-count_cells h (suc n) (c ∷ s) = pick (shown h c) (count_cells h n s)
+count_cells h (suc n) (c ∷ s) = pick (shows h c) (count_cells h n s)
   where
-    pick : (v : Bool) → length (filter (λ (q : Fact). q.visible) (take n (map (fact h) s))) ≡ number (shown h) (take n s)
+    pick : (v : Bool) → length (filter (λ (q : Fact). q.visible) (take n (map (fact h) s))) ≡ number (shows h) (take n s)
         → length (cond v (fact h c ∷ filter (λ (q : Fact). q.visible) (take n (map (fact h) s))) (filter (λ (q : Fact). q.visible) (take n (map (fact h) s))))
-        ≡ length (cond v (c ∷ filter (shown h) (take n s)) (filter (shown h) (take n s)))
+        ≡ length (cond v (c ∷ filter (shows h) (take n s)) (filter (shows h) (take n s)))
     pick true e = ap suc e
     pick false e = e
 
@@ -192,13 +192,13 @@ told_length h (c ∷ s) = ap suc (told_length h s)
 
 module _ (h : History) where
   start_count : (b : Cell → ℕ) (o : ℕ) → o ≤ length (text h) → count b (take (at h o) (cell_facts h)) ≡ o
-  start_count b o l = let n = text_number h in count_cells h (at h o) (cells (seq h)) ∙ offset_count (shown h) (cells (seq h)) o (omega arith)
+  start_count b o l = let n = text_number h in count_cells h (at h o) (cells (seq h)) ∙ offset_count (shows h) (cells (seq h)) o (omega arith)
 
   end_count : (b : Cell → ℕ) (s e : ℕ) → s ≤ e → e ≤ length (text h) → count b (take (full_end h s e) (cell_facts h)) ≡ e
   end_count b s e l g = elim (cases_Bool (eqb s e)) [
     | inl q ↦ rw q (start_count b s (omega arith) ∙ eqb-true s e q)
     | inr q ↦ (let a : s < e = less_than s e l q in let n = text_number h in
-        let k : suc (e - 1) ≡ e = omega arith in rw q (count_cells h (suc (at h (e - 1))) (cells (seq h)) ∙ offset_next (shown h) (cells (seq h)) (e - 1) (omega arith) ∙ k))
+        let k : suc (e - 1) ≡ e = omega arith in rw q (count_cells h (suc (at h (e - 1))) (cells (seq h)) ∙ offset_next (shows h) (cells (seq h)) (e - 1) (omega arith) ∙ k))
   ]
 
   -- the new texts are those of the pieces
@@ -223,11 +223,11 @@ module _ (h : History) where
   module _ (b : Cell → ℕ) (keep : Lamport → Bool) (t : Lamport) (m : Marking) (hit : ℕ → Bool)
       (pass : AllByRecursion (λ (q : Fact). keep q.cell.stamp ≡ true) (cell_facts h)) (low : AllByRecursion (λ (q : Fact). later q.cell.stamp t ≡ false) (cell_facts h)) (self : later t t ≡ false)
       (hides : AllByRecursion (λ (q : Fact). m.visible q.cell.stamp q.visible q.deletions ≡ false) (cell_facts h)) where
-    pub plain_shows : (from so k : ℕ) (ps : List Piece) → count b (take from (cell_facts h)) ≡ so → Ordered so (length (text h)) ps → NewTexts b t k ps → ((q : ℕ) → so ≤ q → from ≤ at h q)
-        → shows b (plain keep t m hit (cell_facts h) pass low self from k (map (full_piece h) ps)) ≡ replaced_from so ps (shows b (cell_facts h))
+    pub plain_text : (from so k : ℕ) (ps : List Piece) → count b (take from (cell_facts h)) ≡ so → Ordered so (length (text h)) ps → NewTexts b t k ps → ((q : ℕ) → so ≤ q → from ≤ at h q)
+        → visible_text b (plain keep t m hit (cell_facts h) pass low self from k (map (full_piece h) ps)) ≡ replaced_from so ps (visible_text b (cell_facts h))
     unfolding NewTexts
-    plain_shows from so k [] c o n f = shows_drop b from (cell_facts h) ∙ ap (λ (x : ℕ). drop x (shows b (cell_facts h))) c
-    plain_shows from so k (p ∷ ps) c o n f =
+    plain_text from so k [] c o n f = visible_text-drop b from (cell_facts h) ∙ ap (λ (x : ℕ). drop x (visible_text b (cell_facts h))) c
+    plain_text from so k (p ∷ ps) c o n f =
         let s0 : List Fact = cell_facts h in
         let o0 = o.0 in
         let o1 = o.1 in
@@ -238,16 +238,16 @@ module _ (h : History) where
         let cy : count b (take y s0) ≡ p.end = end_count b p.start p.end o1 le in
         let rest : List Fact = plain keep t m hit s0 pass low self y (k + length p.text) (map (full_piece h) ps) in
         let gone : List Fact = map (mark m) (slice_range s0 x y) in
-        let ih : shows b rest ≡ replaced_from p.end ps (shows b s0) = plain_shows y p.end (k + length p.text) ps cy o.2 n.1 (λ q l. end_before h p.start p.end q o1 le l) in
-        let a1 : shows b (slice_range s0 from x) ≡ slice_range (shows b s0) so p.start = shows_slice b s0 from x (f p.start o0) ∙ two (shows b s0) (count b (take from s0)) so (count b (take x s0)) p.start c cx in
-        let a2 : shows b (alike t k (length p.text) true []) ≡ p.text = shows_new b t k (length p.text) ∙ n.0 in
-        let a3 : shows b gone ≡ [] = shows_marked b m (slice_range s0 x y)
+        let ih : visible_text b rest ≡ replaced_from p.end ps (visible_text b s0) = plain_text y p.end (k + length p.text) ps cy o.2 n.1 (λ q l. end_before h p.start p.end q o1 le l) in
+        let a1 : visible_text b (slice_range s0 from x) ≡ slice_range (visible_text b s0) so p.start = visible_text-slice b s0 from x (f p.start o0) ∙ two (visible_text b s0) (count b (take from s0)) so (count b (take x s0)) p.start c cx in
+        let a2 : visible_text b (alike t k (length p.text) true []) ≡ p.text = visible_text-new b t k (length p.text) ∙ n.0 in
+        let a3 : visible_text b gone ≡ [] = visible_text-marked b m (slice_range s0 x y)
         (each_take (λ (q : Fact). m.visible q.cell.stamp q.visible q.deletions ≡ false) (y - x) (drop x s0) (each_drop (λ (q : Fact). m.visible q.cell.stamp q.visible q.deletions ≡ false) x s0 hides)) in
-        shows_append b (slice_range s0 from x) (alike t k (length p.text) true [] ++ (gone ++ rest))
-        ∙ ap (λ (z : List ℕ). z ++ shows b (alike t k (length p.text) true [] ++ (gone ++ rest))) a1
-        ∙ ap (λ (z : List ℕ). slice_range (shows b s0) so p.start ++ z) (shows_append b (alike t k (length p.text) true []) (gone ++ rest)
-        ∙ ap (λ (z : List ℕ). z ++ shows b (gone ++ rest)) a2
-        ∙ ap (λ (z : List ℕ). p.text ++ z) (shows_append b gone rest ∙ ap (λ (z : List ℕ). z ++ shows b rest) a3 ∙ ih))
+        visible_text-append b (slice_range s0 from x) (alike t k (length p.text) true [] ++ (gone ++ rest))
+        ∙ ap (λ (z : List ℕ). z ++ visible_text b (alike t k (length p.text) true [] ++ (gone ++ rest))) a1
+        ∙ ap (λ (z : List ℕ). slice_range (visible_text b s0) so p.start ++ z) (visible_text-append b (alike t k (length p.text) true []) (gone ++ rest)
+        ∙ ap (λ (z : List ℕ). z ++ visible_text b (gone ++ rest)) a2
+        ∙ ap (λ (z : List ℕ). p.text ++ z) (visible_text-append b gone rest ∙ ap (λ (z : List ℕ). z ++ visible_text b rest) a3 ∙ ih))
       where
         two : (s : List ℕ) (i j k l : ℕ) → i ≡ j → k ≡ l → slice_range s i k ≡ slice_range s j l
         two s i j k l e g = rw (e, g) refl
@@ -262,15 +262,15 @@ each_facts h P f = go (seq_where everything (newest_first h)) (all_from (newest_
 
 -- what a version that sees all of h has seen of a cell is whether it is shown
 was_shown : (h : History) (op : Operation) → Fits h op → ((o : Operation) → In h o → sees (version_of op) (stamp_of o) ≡ true) → (c : Cell)
-    → was_visible (kept_history (sees (version_of op)) (newest_first h)) (version_of op) c.stamp (deleters h c) ≡ shown h c
-unfolding shown shown_where
+    → was_visible (kept_history (sees (version_of op)) (newest_first h)) (version_of op) c.stamp (deleters h c) ≡ shows h c
+unfolding shows shows_where
 was_shown h op f s c =
     let d : History = newest_first h in
     let v : Lamport → Bool = sees (version_of op) in
     let g : Agree v everything d = each_of_in (λ (o : Operation). v (stamp_of o) ≡ true) d (λ o i. s o ((newest_same h o).0 i)) in
     let k : kept_history v d ≡ kept_history everything d = kept_agree v everything d g in
     let e : filter v (deleters_where everything d c) ≡ deleters_where everything d c = deleters_restrict v d c f.closed ∙ deleters_agree v everything d c g in
-    ap (λ (x : List Lamport). not (undone (kept_history v d) c.stamp) && all_undone (kept_history v d) x) e ∙ ap (λ (x : History). shown_by x (deleters_where everything d c) c) k
+    ap (λ (x : List Lamport). not (is_undone (kept_history v d) c.stamp) && are_undone (kept_history v d) x) e ∙ ap (λ (x : History). visible_by x c.stamp (deleters_where everything d c)) k
 
 each_shown : (P : Fact → Type 0) (s : List Fact) → AllByRecursion P s → AllByRecursion P (filter (λ (q : Fact). q.visible) s)
 each_shown P [] e = tt
@@ -296,21 +296,21 @@ replaced_text h r ps rd ct so g =
     let low : AllByRecursion (λ (q : Fact). later q.cell.stamp t ≡ false) (cell_facts h) = each_facts h (λ (q : Fact). later q.cell.stamp t ≡ false)
     (λ c w. subst (λ (x : Lamport). later x t ≡ false) (sym w.2) (one_way t (stamp_of w.0) (later_of t (stamp_of w.0) (each_in (λ (o : Operation). (stamp_of o).value < clock h) h w.0 past ((newest_same h w.0).0 w.1))))) in
     let hides : AllByRecursion (λ (q : Fact). m.visible q.cell.stamp q.visible q.deletions ≡ false) (cell_facts h) = each_facts h (λ (q : Fact). m.visible q.cell.stamp q.visible q.deletions ≡ false)
-    (λ c w. ap (λ (x : Bool). cond x false (shown h c)) (was_shown h op f all c) ∙ pick (shown h c)) in
+    (λ c w. ap (λ (x : Bool). cond x false (shows h c)) (was_shown h op f all c) ∙ pick (shows h c)) in
     let self = later_irrefl t in
     let len : length (cell_facts h) ≡ length (cells (seq h)) = told_length h (cells (seq h)) in
     let o2 : Ordered 0 (length (cell_facts h)) ps2 = full_ordered 0 0 ps so.ordered (λ q l. omega arith) len in
     let told2 : cell_facts h2 ≡ lay_facts v t 0 0 ps2 (marks m v (in_pieces ps2) 0 (cell_facts h)) = edit_told h op f (newest_desc h rd.0.distinct) refl (uncounted_new h t ct k.0.new) more.1 in
     let laid = lays_plain v t m (in_pieces ps2) (cell_facts h) pass low self 0 0 ps2 o2 (λ i x. refl) in
     let tx : NewTexts h b t 0 ps = new_texts h b t (texts ps2) (λ n. byte_is h2 d2 op (in_last h op) n) [] ps 0 (texts_full h ps) refl in
-    let shown_old : shows b (cell_facts h) ≡ text h =
+    let shown_old : visible_text b (cell_facts h) ≡ text h =
     sym (text_told h ∙ same_bytes (byte_of h) b (filter (λ (q : Fact). q.visible) (cell_facts h)) (each_shown (λ (q : Fact). byte_of h q.cell ≡ b q.cell) (cell_facts h) (bytes_told h op rd.0.distinct d2))) in
-    text_told h2 ∙ ap (shows b) (told2 ∙ laid) ∙ plain_shows h b v t m (in_pieces ps2) pass low self hides 0 0 0 ps refl so.ordered tx (λ q l. omega arith) ∙ ap (replaced_from 0 ps) shown_old
+    text_told h2 ∙ ap (visible_text b) (told2 ∙ laid) ∙ plain_text h b v t m (in_pieces ps2) pass low self hides 0 0 0 ps refl so.ordered tx (λ q l. omega arith) ∙ ap (replaced_from 0 ps) shown_old
   where
     pick : (x : Bool) → cond x false x ≡ false
     pick true = refl
     pick false = refl
 
     full_ordered : (from so : ℕ) (qs : List Piece) → Ordered so (length (text h)) qs → ((q : ℕ) → so ≤ q → from ≤ at h q) → length (cell_facts h) ≡ length (cells (seq h)) → Ordered from (length (cell_facts h)) (map (full_piece h) qs)
-    full_ordered from so [] o f l = (let a = f (length (text h)) o in let c = offset_length (shown h) (cells (seq h)) (length (text h)) in omega arith)
+    full_ordered from so [] o f l = (let a = f (length (text h)) o in let c = offset_length (shows h) (cells (seq h)) (length (text h)) in omega arith)
     full_ordered from so (p ∷ qs) o f l = (f p.start o.0, end_after h p.start p.end o.1, full_ordered (full_end h p.start p.end) p.end qs o.2 (λ q k. end_before h p.start p.end q o.1 (ordered_le p.end (length (text h)) qs o.2) k) l)

@@ -14,7 +14,7 @@ use Rattle.op_model.specs.Sorted.{Member}
 use Rattle.op_model.specs.Operations.{stamp_of, pieces_of}
 use Rattle.op_model.specs.Histories.{History, Distinct, newest_first}
 use Rattle.op_model.specs.Cells.{Cell, PathCell, seq, cells}
-use Rattle.op_model.specs.Shown.{texts, new_bytes, IsCell, shown, hidden_text}
+use Rattle.op_model.specs.Shown.{texts, new_bytes, IsCell, shows, hidden_text}
 use Rattle.op_model.specs.Facts.{Fact, Continues, fact, cell_facts, alike}
 use Rattle.op_model.specs.Walked.{Run, run_facts, facts_of}
 use Rattle.op_model.proofs.order.SameSets.{newest_desc, newest_same}
@@ -71,7 +71,7 @@ module _ (h : History) (d : Distinct h) where
   hidden_utf8 w =
       let f : Cell → ℕ = byte_of h in
       let e : hidden_text h ≡ bytes f (filter (λ (q : Fact). not q.visible) (facts_of w.runs)) =
-      ap (λ (g : Cell → ℕ). map g (filter (λ (c : Cell). not (shown h c)) (cells (seq h)))) (λ i c. sym (byte_new c.stamp c.k) i)
+      ap (λ (g : Cell → ℕ). map g (filter (λ (c : Cell). not (shows h c)) (cells (seq h)))) (λ i c. sym (byte_new c.stamp c.k) i)
       ∙ told_where (λ (q : Fact). not q.visible) (cells (seq h)) ∙ ap (λ (s : List Fact). bytes f (filter (λ (q : Fact). not q.visible) s)) (sym w.tell) in
       subst IsUtf8 (sym e) (utf8_where f (λ t v e. not v) w.runs w.utf8)
 

@@ -14,8 +14,8 @@ use Rattle.op_model.specs.Histories.{by_stamp, History, In, Distinct, base, newe
 use Rattle.op_model.specs.Edits.{is_boundary, is_inside}
 use Rattle.op_model.specs.Cells.{Cell, PathCell, everything, seq_where, seq, cells, text_places}
 use Rattle.op_model.specs.Laid.{only, lay}
-use Rattle.op_model.specs.Shown.{deleters_where, texts, byte, shown, shown_where, text, text_where, full, full_where}
-use Rattle.op_model.specs.Facts.{Fact, fact, cell_facts, alike, Marking, edit_marking, visible_by}
+use Rattle.op_model.specs.Shown.{deleters_where, texts, byte, shows, shows_where, text, text_where, full, full_where, visible_by}
+use Rattle.op_model.specs.Facts.{Fact, fact, cell_facts, alike, Marking, edit_marking}
 use Rattle.op_model.specs.Walked.{Run, run_facts, facts_of, walk}
 use Rattle.op_model.specs.Answers.{answer}
 use Rattle.op_model.specs.Answers.Answer.{Good}
@@ -48,15 +48,15 @@ full_told h = go (cells (seq_where everything (newest_first h)))
     go (c ∷ s) = ap (λ z. byte (newest_first h) c ∷ z) (go s)
 
 pub text_told : (h : History) → text h ≡ bytes (byte_of h) (filter (λ (q : Fact). q.visible) (cell_facts h))
-unfolding text text_where shown seq
+unfolding text text_where shows seq
 text_told h = go (cells (seq_where everything (newest_first h)))
   where
-    go : (s : List Cell) → map (byte (newest_first h)) (filter (shown_where everything (newest_first h)) s) ≡ bytes (byte_of h) (filter (λ (q : Fact). q.visible) (map (fact h) s))
+    go : (s : List Cell) → map (byte (newest_first h)) (filter (shows_where everything (newest_first h)) s) ≡ bytes (byte_of h) (filter (λ (q : Fact). q.visible) (map (fact h) s))
     go [] = refl
-    go (c ∷ s) = pick (shown_where everything (newest_first h) c) (go s)
+    go (c ∷ s) = pick (shows_where everything (newest_first h) c) (go s)
       where
-        pick : (b : Bool) → map (byte (newest_first h)) (filter (shown_where everything (newest_first h)) s) ≡ bytes (byte_of h) (filter (λ (q : Fact). q.visible) (map (fact h) s))
-            → map (byte (newest_first h)) (cond b (c ∷ filter (shown_where everything (newest_first h)) s) (filter (shown_where everything (newest_first h)) s))
+        pick : (b : Bool) → map (byte (newest_first h)) (filter (shows_where everything (newest_first h)) s) ≡ bytes (byte_of h) (filter (λ (q : Fact). q.visible) (map (fact h) s))
+            → map (byte (newest_first h)) (cond b (c ∷ filter (shows_where everything (newest_first h)) s) (filter (shows_where everything (newest_first h)) s))
             ≡ bytes (byte_of h) (cond b (fact h c ∷ filter (λ (q : Fact). q.visible) (map (fact h) s)) (filter (λ (q : Fact). q.visible) (map (fact h) s)))
         pick true e = ap (λ z. byte (newest_first h) c ∷ z) e
         pick false e = e
@@ -294,7 +294,7 @@ whole_more h op r c w g u = elim (cases_Bool (is_edit op)) [ inl e ↦ whole_edi
 
 -- the base alone
 base_fact : (t : List ℕ) (c : Cell) → fact (base t ∷ []) c ≡ record { cell = c; visible = true; deletions = [] }
-unfolding seq_where deleters_where shown_where shown
+unfolding seq_where deleters_where shows_where shows
 base_fact t c = refl
 
 base_laid : (t : List ℕ) → lay (sees []) (record { value = 1; replica = 0 }) 0 (record { start = 0; end = 0; text = t } ∷ []) (seq []) ≡ text_places [] (record { value = 1; replica = 0 }) 0 t

@@ -17,11 +17,11 @@ returns-in-Some-End g c =
       queue = search rules;
       pairs = c.loop.invariant.same ∙ ap (λ (d : DeskState). pairs_of d.readers) c.desk.view_is;
       ended = e.1;
-      answered = if_some (λ v. v.items) c.unless_failed-answers.result (HasAnswered plain (asks_of (view c.take.new.pass).taken) c.loop.readers.items) (IfOk-weaker c.unless_failed-answers.result (λ v. (c.loop.failed ≡ false) × (v.items ≡ c.loop.answers.items)) (λ v. HasAnswered plain (asks_of (view c.take.new.pass).taken) c.loop.readers.items v.items)
+      answered = if_some (λ v. v.items) c.answers_or_failure-answers.result (HasAnswered plain (asks_of (view c.take.new.pass).taken) c.loop.readers.items) (IfOk-weaker c.answers_or_failure-answers.result (λ v. (c.loop.failed ≡ false) × (v.items ≡ c.loop.answers.items)) (λ v. HasAnswered plain (asks_of (view c.take.new.pass).taken) c.loop.readers.items v.items)
           (λ v h.
           subst (λ (ks : List (Ask g.row.Q.Denot)). HasAnswered plain ks c.loop.readers.items v.items) (sym e.2)
           (subst (λ (as_ : List (Answer g.row.Q.Denot g.row.A.Denot)). HasAnswered plain (asks_of (view c.loop.pass).taken) c.loop.readers.items as_) (sym h.1) (c.loop.invariant.answered h.0)))
-          c.unless_failed-answers.ensures);
+          c.answers_or_failure-answers.ensures);
     }
 
 pub loop-preserved : goal.loop-preserved
