@@ -4,7 +4,8 @@ use Rattle.std.proofs.lemmas.Bool.{ltb-false}
 use Rattle.std.proofs.lemmas.List.Sums.{prefix_len-le-length, sum_by-cons}
 use Rattle.std.proofs.lemmas.List.{take_all, drop_all}
 use Rattle.std.specs.List.{onto_first, position, position_or_len, prefix_len}
-use Rattle.session_lines.specs.Cut.{lines_of, feeds}
+use Rattle.text_dims.specs.Counts.{newline_count}
+use Rattle.session_lines.specs.Cut.{lines_of}
 
 pub first_cut : (text : List ℕ) → 0 < length text → let n = position_or_len (λ b. b == 10) text in lines_of text ≡ take n text ∷ lines_of (drop (suc n) text)
 first_cut [] h = absurd (omega arith)
@@ -46,12 +47,13 @@ counted_more x k ls true e = omega arith
 counted_more x k ls false e = length-onto_first x k ls e ∙ omega arith
 
 -- a text has one line more than line feeds before its last byte
-pub lines_count : (x : ℕ) (xs : List ℕ) → length (lines_of (x ∷ xs)) ≡ 1 + feeds (take (length xs) (x ∷ xs))
+pub lines_count : (x : ℕ) (xs : List ℕ) → length (lines_of (x ∷ xs)) ≡ 1 + newline_count (take (length xs) (x ∷ xs))
+unfolding newline_count
 lines_count x [] = one_line x (x == 10)
 lines_count x (y ∷ ys) =
-    counted_more x (feeds (take (length ys) (y ∷ ys))) (lines_of (y ∷ ys)) (x == 10) (lines_count y ys)
+    counted_more x (newline_count (take (length ys) (y ∷ ys))) (lines_of (y ∷ ys)) (x == 10) (lines_count y ys)
     ∙ ap (λ n. 1 + n) (sym (sum_by-cons (λ b. cond (b == 10) 1 0) x (take (length ys) (y ∷ ys))))
 
-pub lines_counted : (text : List ℕ) → 0 < length text → length (lines_of text) ≡ 1 + feeds (take (length text - 1) text)
+pub lines_counted : (text : List ℕ) → 0 < length text → length (lines_of text) ≡ 1 + newline_count (take (length text - 1) text)
 lines_counted [] h = absurd (omega arith)
 lines_counted (x ∷ xs) h = let e : suc (length xs) - 1 ≡ length xs = omega arith in rw e (lines_count x xs)

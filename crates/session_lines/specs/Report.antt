@@ -1,10 +1,9 @@
 -- The lines of a report.
-use Rattle.std.specs.Prelude.{ℕ, ◌+◌, Bool, true, false, List, [], ◌∷◌, ◌++◌, length, map, reverse, codes, decimal, Option}
+use Rattle.std.specs.Prelude.{ℕ, ◌+◌, Bool, true, false, List, [], ◌∷◌, ◌++◌, length, map, codes, decimal, Option}
 use Rattle.std.specs.Iterator.{Drains}
-use Rattle.std.specs.List.{concat, flat_map, join_by, position_or_len}
+use Rattle.std.specs.List.{concat, flat_map, join_by}
 use denote.Bor.{Bor}
 use Rattle.json.specs.Print.{quoted}
-use Rattle.text_dims.specs.Counts.{is_newline}
 use Rattle.lamport_clock.specs.Stamps.{stamp_text}
 use Rattle.lamport_clock.specs.declared.stamp.Lamport.{Lamport}
 use Rattle.op_model.specs.declared.faults.Unit.{Unit as LimitUnit}
@@ -42,12 +41,6 @@ use Rattle.session_lines.specs.declared.report.TextHead.{TextHead}
 use Rattle.session_lines.specs.declared.report.TextHead.TheVariants as head
 use Rattle.session_lines.specs.declared.report.Report.{Report}
 use Rattle.session_lines.specs.declared.report.Report.TheVariants.{Made, EditRefused, UndoRefused, Unnamed, Settled, Give, Text, Anchor, Where, Mark, Since, Query, Replica, Refused, Checked}
-
--- ---- positions
-
--- the bytes behind the last line feed
-abbrev pub last_column : List ℕ → ℕ
-last_column text = position_or_len is_newline (reverse text)
 
 -- ---- lines
 

@@ -1,8 +1,8 @@
 //! The lines of a text.
 ghost use Rattle.std.specs.Prelude.{◌≡◌, ◌<◌, ◌∷◌, ◌+◌, length};
 ghost use Rattle.std.specs.List.{position, position_or_len};
-ghost use Rattle.text_dims.specs.Counts.{is_newline};
-ghost use Rattle.session_lines.specs.Cut.{feeds, lines_of};
+ghost use Rattle.text_dims.specs.Counts.{is_newline, newline_count};
+ghost use Rattle.session_lines.specs.Cut.{lines_of};
 
 fn line_end(text: &[u8]) -> Option<usize>
     ensures { result ≡ position is_newline text.now }
@@ -33,9 +33,10 @@ pub fn first_line(text: &[u8]) -> (&[u8], &[u8])
     }
 }
 
-/// How many line feeds a text has.
-pub fn feeds(text: &[u8]) -> usize
-    ensures { result ≡ feeds text.now }
+// How many line feeds a text has.
+#[tactic(auto, unfolding(text_dims::specs::Counts::newline_count))]
+fn newline_count(text: &[u8]) -> usize
+    ensures { result ≡ newline_count text.now }
 {
     text.iter().filter(|b| **b == 10).count()
 }
@@ -49,5 +50,5 @@ pub fn line_count(text: &[u8]) -> usize
         return 0;
     }
     // a line feed at the end begins no line
-    1 + feeds(&text[..text.len() - 1])
+    1 + newline_count(&text[..text.len() - 1])
 }

@@ -18,8 +18,8 @@ use Rattle.op_model.specs.Answers.Answer.{Good, Repeat, Waits, Refused}
 use Rattle.op_model.specs.Choice.{first_of}
 use Rattle.op_model.specs.Shown.{text}
 use Rattle.text_buffer.specs.Buffer.{BufferState, answer_to, after_apply, edit_fault, edit_of, undo_of, number_applied, over_base, after_settle, after_take, undo_fault}
-use Rattle.session_lines.specs.Cut.{feeds}
-use Rattle.session_lines.specs.Report.{last_column}
+use Rattle.text_dims.specs.Counts.{rows}
+use Rattle.text_dims.specs.Summaries.{end_point}
 use Rattle.session_lines.specs.Session.{unless}
 use Rattle.session_lines.specs.declared.session.SessionLine.{SessionLine}
 use Rattle.session_lines.specs.declared.session.SessionLine.TheVariants as line
@@ -125,7 +125,8 @@ after_give (Some op) b = after_take b op
 abbrev pub text_report : BufferState → Report
 text_report b =
     let t = text b.history in
-    report.Text (head.CurrentText b.replica (length t) (feeds t) (last_column t) (feeds t + 1)) t
+    let p = end_point t in
+    report.Text (head.CurrentText b.replica (length t) p.row p.column (length (rows t))) t
 
 -- ---- a line
 
@@ -209,7 +210,7 @@ applied_count h = length h - 1
 -- what a replica counts at the end; the base is no applied operation
 abbrev pub counts_report : BufferState → Report
 counts_report b =
-    report.Replica b.replica (length (text b.history)) (feeds (text b.history) + 1)
+    report.Replica b.replica (length (text b.history)) (length (rows (text b.history)))
     (applied_count b.history) (length b.waiting) (length b.refused)
 
 -- what a replica reports at the end

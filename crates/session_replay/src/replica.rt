@@ -4,7 +4,7 @@ ghost use Rattle.std.specs.Option.{option_copied};
 ghost use Rattle.std.specs.Result.{result_ok};
 ghost use Rattle.op_model.specs.Operations.{stamp_of};
 ghost use Rattle.op_model.specs.Shown.{text};
-ghost use Rattle.session_lines.specs.Cut.{feeds};
+ghost use Rattle.text_dims.specs.Counts.{rows};
 ghost use Rattle.session_lines.specs.Report.{line_text, report_text};
 ghost use Rattle.session_lines.specs.declared.report.Report.{Report};
 ghost use Rattle.text_buffer.specs.Buffer.{after_settle};
@@ -234,7 +234,7 @@ impl Replica {
 
     // How many rows its text has.
     fn row_count(&self) -> u64
-        ensures { result ≡ feeds (text self.now.history) + 1 }
+        ensures { result ≡ length (rows (text self.now.history)) }
     {
         self.buffer.known();
         self.buffer.summary().lines.row + 1
