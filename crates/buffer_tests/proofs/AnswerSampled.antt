@@ -14,7 +14,7 @@ use Rattle.fragments.specs.Stand.{Tell, run_of, runs}
 use Rattle.fragments.specs.Summaries.{no_fragments, summaries, summary_of, SummaryFits}
 use Rattle.op_model.specs.Walked.{Run, run_facts, facts_of}
 use Rattle.op_model.specs.Answers.{answer}
-use Rattle.buffer_tests.specs.AnswerSample.{base_run, base_text, edit_applied, undo_applied, sample}
+use Rattle.buffer_tests.specs.AnswerSample.{base_run, base_text, sample_edit, sample_undo, sample}
 
 pub sample_lawful : Lawful sample
 unfolding later same_stamp same_cell sibling_first seq_where seq full_where full answer
@@ -47,14 +47,14 @@ pub whole_tells : (xs ys : List Fragment) (f : Fragment) → xs ≡ [] → ys �
 whole_tells xs ys f n y e = ap (λ (zs : List Fragment). facts_of (runs zs)) (y ∙ ap (λ (zs : List Fragment). zs ++ f ∷ []) n) ∙ ap (λ (r : Run). run_facts r ++ []) e ∙ sample_told
 
 -- each operation is new to those before it
-pub second_new : (a h : History) (o e : Operation) → a ≡ [] → h ≡ a ++ o ∷ [] → o ≡ base base_text → e ≡ edit_applied → operation_at h (stamp_of e) ≡ None
+pub second_new : (a h : History) (o e : Operation) → a ≡ [] → h ≡ a ++ o ∷ [] → o ≡ base base_text → e ≡ sample_edit → operation_at h (stamp_of e) ≡ None
 unfolding same_stamp
 second_new a h o e i p q r =
     ap (λ (x : History). operation_at x (stamp_of e)) (p ∙ ap (λ (z : History). z ++ o ∷ []) i ∙ ap (λ (z : Operation). z ∷ []) q)
     ∙ ap (λ (x : Operation). operation_at (base base_text ∷ []) (stamp_of x)) r
 
-pub third_new : (a g h : History) (o e u : Operation) → a ≡ [] → g ≡ a ++ o ∷ [] → h ≡ g ++ e ∷ [] → o ≡ base base_text → e ≡ edit_applied → u ≡ undo_applied → operation_at h (stamp_of u) ≡ None
+pub third_new : (a g h : History) (o e u : Operation) → a ≡ [] → g ≡ a ++ o ∷ [] → h ≡ g ++ e ∷ [] → o ≡ base base_text → e ≡ sample_edit → u ≡ sample_undo → operation_at h (stamp_of u) ≡ None
 unfolding same_stamp
 third_new a g h o e u i p k q r s =
     ap (λ (x : History). operation_at x (stamp_of u)) (k ∙ ap (λ (z : History). z ++ e ∷ []) (p ∙ ap (λ (z : History). z ++ o ∷ []) i ∙ ap (λ (z : Operation). z ∷ []) q) ∙ ap (λ (z : Operation). base base_text ∷ z ∷ []) r)
-    ∙ ap (λ (x : Operation). operation_at (base base_text ∷ edit_applied ∷ []) (stamp_of x)) s
+    ∙ ap (λ (x : Operation). operation_at (base base_text ∷ sample_edit ∷ []) (stamp_of x)) s

@@ -21,17 +21,17 @@ base_run = record { stamp = base_stamp; offset = 0; len = 3; visible = true; del
 abbrev pub edit_stamp : Lamport
 edit_stamp = record { value = 2; replica = 1 }
 
-abbrev pub base_seen : Entries
-base_seen = (0, 1) ∷ []
+abbrev pub version_with_base : Entries
+version_with_base = (0, 1) ∷ []
 
-abbrev pub edit_seen : Entries
-edit_seen = (0, 1) ∷ (1, 2) ∷ []
+abbrev pub version_with_edit : Entries
+version_with_edit = (0, 1) ∷ (1, 2) ∷ []
 
-abbrev pub edit_applied : Operation
-edit_applied = Edit (record { stamp = edit_stamp; version = base_seen; pieces = [] })
+abbrev pub sample_edit : Operation
+sample_edit = Edit (record { stamp = edit_stamp; version = version_with_base; pieces = [] })
 
-abbrev pub undo_applied : Operation
-undo_applied = Undo (record { stamp = record { value = 3; replica = 1 }; version = edit_seen; counts = record { edit = edit_stamp; count = 1 } ∷ [] })
+abbrev pub sample_undo : Operation
+sample_undo = Undo (record { stamp = record { value = 3; replica = 1 }; version = version_with_edit; counts = record { edit = edit_stamp; count = 1 } ∷ [] })
 
 abbrev pub sample : History
-sample = base base_text ∷ edit_applied ∷ undo_applied ∷ []
+sample = base base_text ∷ sample_edit ∷ sample_undo ∷ []

@@ -3,7 +3,7 @@
 ghost use Rattle.std.specs.Prelude.{◌≡◌, [], ◌∷◌, IfOk};
 ghost use Rattle.op_model.specs.Histories.{Distinct, base};
 ghost use Rattle.fragments.specs.Stand.{Tell, run_of};
-ghost use Rattle.buffer_tests.specs.AnswerSample.{base_run, base_seen, edit_seen, edit_applied, undo_applied, sample};
+ghost use Rattle.buffer_tests.specs.AnswerSample.{base_run, version_with_base, version_with_edit, sample_edit, sample_undo, sample};
 
 use crate::operations::{Entries, Parts, Stamp, operation, stamp};
 use applied_ops::AppliedList;
@@ -175,26 +175,26 @@ const ROWS: &[(Stamp, Entries, Parts, Verdict)] = &[
 
 // ---- what is applied and what waits
 
-fn base_seen(alloc: Global) -> Result<Version, OutOfMemory>
-    ensures { IfOk result (λ v. v ≡ base_seen) }
+fn version_with_base(alloc: Global) -> Result<Version, OutOfMemory>
+    ensures { IfOk result (λ v. v ≡ version_with_base) }
 {
     let mut version = Version::new(alloc);
     version.observe(FIRST)?;
     Ok(version)
 }
 
-fn edit_seen(alloc: Global) -> Result<Version, OutOfMemory>
-    ensures { IfOk result (λ v. v ≡ edit_seen) }
+fn version_with_edit(alloc: Global) -> Result<Version, OutOfMemory>
+    ensures { IfOk result (λ v. v ≡ version_with_edit) }
 {
-    let mut version = base_seen(alloc)?;
+    let mut version = version_with_base(alloc)?;
     version.observe(EDIT)?;
     Ok(version)
 }
 
-fn undo_seen(alloc: Global) -> Result<Version, OutOfMemory>
+fn version_with_undo(alloc: Global) -> Result<Version, OutOfMemory>
     ensures { IfOk result (λ v. v ≡ (0, 1) ∷ (1, 3) ∷ []) }
 {
-    let mut version = edit_seen(alloc)?;
+    let mut version = version_with_edit(alloc)?;
     version.observe(UNDO)?;
     Ok(version)
 }
@@ -216,17 +216,17 @@ fn base(alloc: Global, text: &str) -> Result<Operation, OutOfMemory>
 }
 
 fn edit(alloc: Global) -> Result<Operation, OutOfMemory>
-    ensures { IfOk result (λ op. op ≡ edit_applied) }
+    ensures { IfOk result (λ op. op ≡ sample_edit) }
 {
     Ok(Operation::Edit(EditOp {
         stamp: EDIT,
-        version: base_seen(alloc)?,
+        version: version_with_base(alloc)?,
         pieces: Pieces::new(Vec::new(alloc)),
     }))
 }
 
 fn undo(alloc: Global) -> Result<Operation, OutOfMemory>
-    ensures { IfOk result (λ op. op ≡ undo_applied) }
+    ensures { IfOk result (λ op. op ≡ sample_undo) }
 {
     let mut counts = Vec::new(alloc);
     counts.push(UndoCount {
@@ -235,12 +235,12 @@ fn undo(alloc: Global) -> Result<Operation, OutOfMemory>
     })?;
     Ok(Operation::Undo(UndoOp {
         stamp: UNDO,
-        version: edit_seen(alloc)?,
+        version: version_with_edit(alloc)?,
         counts: Counts::new(counts),
     }))
 }
 
-fn applied(alloc: Global) -> Result<AppliedList, OutOfMemory>
+fn sample_list(alloc: Global) -> Result<AppliedList, OutOfMemory>
     ensures { IfOk result (λ a. a ≡ sample) }
 {
     let mut applied = AppliedList::new(alloc)?;
@@ -250,7 +250,7 @@ fn applied(alloc: Global) -> Result<AppliedList, OutOfMemory>
     Ok(applied)
 }
 
-fn waiting(alloc: Global) -> Result<Deferred, OutOfMemory>
+fn waiting_list(alloc: Global) -> Result<Deferred, OutOfMemory>
     ensures { IfOk result (λ w. Distinct w) }
 {
     let mut waiting = Deferred::new(alloc)?;
@@ -282,7 +282,7 @@ fn base_fragments(alloc: Global) -> Result<SumTree<Fragment>, OutOfMemory>
     Ok(tree)
 }
 
-fn judged(
+fn verdict_on(
     alloc: Global,
     applied: &AppliedList,
     waiting: &Deferred,
@@ -291,7 +291,7 @@ fn judged(
     requires applied { applied.now ≡ sample }
     requires waiting { Distinct waiting.now }
 {
-    let have = undo_seen(alloc)?;
+    let have = version_with_undo(alloc)?;
     let tree = base_fragments(alloc)?;
     let shown = Rope::from_str(alloc, "aé")?;
     let hidden = Rope::new(alloc)?;
@@ -305,9 +305,9 @@ fn answer_to(
     parts: Parts,
 ) -> Result<Verdict, OutOfMemory> {
     let op = operation(alloc, stamp(at), entries, parts)?;
-    let applied = applied(alloc)?;
-    let waiting = waiting(alloc)?;
-    judged(alloc, &applied, &waiting, &op)
+    let applied = sample_list(alloc)?;
+    let waiting = waiting_list(alloc)?;
+    verdict_on(alloc, &applied, &waiting, &op)
 }
 
 #[test]

@@ -19,7 +19,7 @@ fn stamp_at(applied: &AppliedList, stamp: Lamport) -> Option<Lamport> {
 }
 
 // What is found of a stamp before and after its operation is applied, and how many are applied then.
-fn found(alloc: Global) -> Result<(Option<Lamport>, Option<Lamport>, u64), OutOfMemory> {
+fn find_twice(alloc: Global) -> Result<(Option<Lamport>, Option<Lamport>, u64), OutOfMemory> {
     let edit = edit(alloc)?;
     let mut applied = AppliedList::new(alloc)?;
     let before = stamp_at(&applied, stamp((2, 1)));
@@ -31,6 +31,6 @@ fn found(alloc: Global) -> Result<(Option<Lamport>, Option<Lamport>, u64), OutOf
 
 #[test]
 fn an_operation_is_found(rt: HostRuntime) -> Result<(), Fail> {
-    assert!(rt; found(rt.alloc())? == (None, Some(stamp((2, 1))), 1));
+    assert!(rt; find_twice(rt.alloc())? == (None, Some(stamp((2, 1))), 1));
     Ok(())
 }

@@ -40,11 +40,11 @@ fn locators(alloc: Global) -> Result<Vec<Locator>, OutOfMemory> {
     Ok(all)
 }
 
-fn told(alloc: Global, locator: &Locator) -> Result<String, OutOfMemory> {
+fn tell(alloc: Global, locator: &Locator) -> Result<String, OutOfMemory> {
     format!(in alloc; "{locator:?}")
 }
 
-fn told_of(alloc: Global, runs: &[(u64, u64)]) -> Result<String, OutOfMemory> {
+fn tell_runs(alloc: Global, runs: &[(u64, u64)]) -> Result<String, OutOfMemory> {
     let mut all = Vec::new(alloc);
     for &(digit, count) in runs {
         all.push(Run { digit, count })?;
@@ -54,7 +54,7 @@ fn told_of(alloc: Global, runs: &[(u64, u64)]) -> Result<String, OutOfMemory> {
 
 // Whether a locator has these digits, and so has its copy.
 fn is_of(alloc: Global, locator: &Locator, runs: &[(u64, u64)]) -> Result<bool, OutOfMemory> {
-    let is_told = told(alloc, locator)? == told_of(alloc, runs)?;
+    let is_told = tell(alloc, locator)? == tell_runs(alloc, runs)?;
     Ok(is_told && locator.copy(alloc)? == *locator)
 }
 
@@ -174,7 +174,7 @@ const GROWTH: &[Growth] = &[
 ];
 
 // The last of the names, if each lies between its neighbours.
-fn grown(
+fn grow(
     alloc: Global,
     habit: Habit,
     (low, high): (usize, usize),
@@ -194,7 +194,7 @@ fn grown(
 }
 
 fn grows_to(alloc: Global, &(habit, between, count, want): &Growth) -> Result<bool, OutOfMemory> {
-    match grown(alloc, habit, between, count)? {
+    match grow(alloc, habit, between, count)? {
         Some(last) => is_of(alloc, &last, want),
         None => Ok(false),
     }
@@ -210,7 +210,7 @@ fn grows_as_documented(rt: HostRuntime) -> Result<(), Fail> {
 
 // Whether each of so many names whose digits do not lie in the value is between its neighbours, and the last is as its copy.
 fn long_ones_are_ordered(alloc: Global, count: u64) -> Result<bool, OutOfMemory> {
-    match grown(alloc, Habit::Twice, (0, 1), count)? {
+    match grow(alloc, Habit::Twice, (0, 1), count)? {
         Some(last) => Ok(last.copy(alloc)? == last),
         None => Ok(false),
     }

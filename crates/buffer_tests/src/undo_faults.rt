@@ -73,7 +73,7 @@ fn undo(alloc: Global, stamp: Lamport, edit: Lamport, count: u32) -> Result<Undo
     })
 }
 
-fn applied(alloc: Global) -> Result<AppliedList, OutOfMemory>
+fn sample_list(alloc: Global) -> Result<AppliedList, OutOfMemory>
     ensures { IfOk result (λ a. a ≡ sample) }
 {
     let mut applied = AppliedList::new(alloc)?;
@@ -95,7 +95,7 @@ fn undos(alloc: Global) -> Result<UndoMap, OutOfMemory>
 // The fault of an undo of edits.
 fn fault(alloc: Global, edits: &[Lamport]) -> Result<Option<UndoFault>, OutOfMemory> {
     let undos = undos(alloc)?;
-    let applied = applied(alloc)?;
+    let applied = sample_list(alloc)?;
     Ok(listed_fault(alloc, &applied, &undos, edits))
 }
 
@@ -112,7 +112,7 @@ fn each_fault(rt: HostRuntime) -> Result<(), Fail> {
 
 // The counts that an undo of edits gives where no count stands at its end.
 fn counts(alloc: Global, edits: &[Lamport]) -> Result<Option<Counts>, OutOfMemory> {
-    let applied = applied(alloc)?;
+    let applied = sample_list(alloc)?;
     let undos = undos(alloc)?;
     match listed_fault(alloc, &applied, &undos, edits) {
         Some(_) => Ok(None),

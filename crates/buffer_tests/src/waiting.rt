@@ -27,7 +27,7 @@ fn wait(deferred: &mut Deferred, op: Operation) -> Result<(), OutOfMemory> {
     Ok(())
 }
 
-fn waiting(alloc: Global) -> Result<Deferred, OutOfMemory> {
+fn waiting_list(alloc: Global) -> Result<Deferred, OutOfMemory> {
     let mut deferred = Deferred::new(alloc)?;
     for &(parts, at, causes) in WAITING {
         wait(&mut deferred, operation(alloc, stamp(at), causes, parts)?)?;
@@ -57,7 +57,7 @@ fn is_without(alloc: Global) -> Result<bool, OutOfMemory> {
 
 // Whether what waits is found by its stamp, until it is taken out.
 fn is_by_stamps(alloc: Global) -> Result<bool, OutOfMemory> {
-    let mut deferred = waiting(alloc)?;
+    let mut deferred = waiting_list(alloc)?;
     let there = is(deferred.get(stamp((3, 1))), Some((3, 1)));
     let before = deferred.len() == 4 && there && is(deferred.get(stamp((1, 3))), None);
     let taken = is(deferred.remove(stamp((3, 1))).as_ref(), Some((3, 1)));
@@ -100,19 +100,19 @@ fn ready(
     have: Entries,
 ) -> Result<Option<Lamport>, OutOfMemory> {
     let have = version(alloc, have)?;
-    let deferred = waiting(alloc)?;
+    let deferred = waiting_list(alloc)?;
     Ok(stamp_of(deferred.ready(after.map(stamp), &have)))
 }
 
 // The same where what waits was watched before, for whoever has seen other entries.
-fn ready_once_watched(
+fn ready_after_watch(
     alloc: Global,
     watched: Entries,
     after: Option<Stamp>,
     have: Entries,
 ) -> Result<Option<Lamport>, OutOfMemory> {
     let have = version(alloc, have)?;
-    let mut deferred = waiting(alloc)?;
+    let mut deferred = waiting_list(alloc)?;
     deferred.watch(&version(alloc, watched)?);
     Ok(stamp_of(deferred.ready(after.map(stamp), &have)))
 }
@@ -130,7 +130,7 @@ fn the_least_that_misses_nothing(rt: HostRuntime) -> Result<(), Fail> {
 fn the_least_is_the_same_once_watched(rt: HostRuntime) -> Result<(), Fail> {
     for &watched in WATCHED {
         for &(after, have, want) in READY {
-            let found = ready_once_watched(rt.alloc(), watched, after, have)?;
+            let found = ready_after_watch(rt.alloc(), watched, after, have)?;
             assert!(rt;
                 found == want.map(stamp),
                 "after {after:?}, watched {watched:?}"

@@ -54,7 +54,7 @@ const STAMPS: &[(u32, u16)] = &[(2, 1), (1, 1), (7, 9), (5, 0), (4, 5), (1, 1023
 const ENTRIES: &[(u16, u32)] = &[(0, 5), (1, 2), (5, 4), (9, 8), (1023, 1)];
 
 // The version that has seen these stamps.
-fn seeing(alloc: Global, stamps: &[(u32, u16)]) -> Result<Version, OutOfMemory> {
+fn version_of(alloc: Global, stamps: &[(u32, u16)]) -> Result<Version, OutOfMemory> {
     let mut version = Version::new(alloc);
     for &(value, replica) in stamps {
         version.observe(Lamport { value, replica })?;
@@ -84,7 +84,7 @@ fn is_of_five(version: &Version) -> bool {
 }
 
 fn are_of_five(alloc: Global) -> Result<bool, OutOfMemory> {
-    let version = seeing(alloc, STAMPS)?;
+    let version = version_of(alloc, STAMPS)?;
     Ok(is_of_five(&version.copy(alloc)?) && is_of_five(&version))
 }
 
@@ -111,9 +111,9 @@ fn sight(version: &Version, other: &Version) -> Sight {
 }
 
 // What a version sees before and after it joins another one, and whether both have the same entries then.
-fn joining(alloc: Global) -> Result<(Sight, Sight, bool), OutOfMemory> {
-    let mut version = seeing(alloc, &[(2, 1)])?;
-    let other = seeing(alloc, &[(3, 1), (1, 2)])?;
+fn sights_of_join(alloc: Global) -> Result<(Sight, Sight, bool), OutOfMemory> {
+    let mut version = version_of(alloc, &[(2, 1)])?;
+    let other = version_of(alloc, &[(3, 1), (1, 2)])?;
     let before = sight(&version, &other);
     version.join(&other)?;
     let is_same = version.as_slice() == other.as_slice();
@@ -122,7 +122,7 @@ fn joining(alloc: Global) -> Result<(Sight, Sight, bool), OutOfMemory> {
 
 #[test]
 fn what_a_version_sees_and_misses(rt: HostRuntime) -> Result<(), Fail> {
-    let (before, after, is_same) = joining(rt.alloc())?;
+    let (before, after, is_same) = sights_of_join(rt.alloc())?;
     assert!(rt; before == (true, false, false, Some((1, 3))));
     assert!(rt; is_same && after == (true, true, true, None));
     Ok(())
@@ -153,8 +153,8 @@ const JOINS: &[Join] = &[
 
 // Whether this is the first that a version misses of another one, and their join has all entries.
 fn joins(alloc: Global, join: &Join) -> Result<bool, OutOfMemory> {
-    let mut version = seeing(alloc, join.0)?;
-    let other = seeing(alloc, join.1)?;
+    let mut version = version_of(alloc, join.0)?;
+    let other = version_of(alloc, join.1)?;
     let missing = version.first_missing(&other);
     version.join(&other)?;
     Ok(missing == join.2 && version.as_slice() == JOINED)

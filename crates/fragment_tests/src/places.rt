@@ -163,7 +163,7 @@ struct Content<'c> {
     hidden: &'c Rope,
 }
 
-fn named((edit, offset, bias): Name) -> Anchor {
+fn anchor_of((edit, offset, bias): Name) -> Anchor {
     Anchor::At {
         stamp: stamp(edit),
         offset,
@@ -201,18 +201,18 @@ fn anchor(content: Content, offset: u64, bias: Bias) -> Result<Anchor, PlaceFaul
     anchor_at(tree, index, visible, hidden, offset, bias)
 }
 
-fn wanted(want: Made) -> Result<Anchor, PlaceFault> {
+fn answer_of(want: Made) -> Result<Anchor, PlaceFault> {
     match want {
         Made::Least => Ok(Anchor::Least),
         Made::Greatest => Ok(Anchor::Greatest),
-        Made::Named(name) => Ok(named(name)),
+        Made::Named(name) => Ok(anchor_of(name)),
         Made::Fault(fault) => Err(fault),
     }
 }
 
 // Whether an anchor that is wanted has this place.
 fn is_at(content: Content, want: Made, offset: u64) -> bool {
-    match wanted(want) {
+    match answer_of(want) {
         Ok(anchor) => place(content, anchor) == Some(offset),
         Err(_) => true,
     }
@@ -221,7 +221,7 @@ fn is_at(content: Content, want: Made, offset: u64) -> bool {
 fn has_places(content: Content, rows: &[(Name, Option<u64>)]) -> bool {
     let mut right = true;
     for &(name, want) in rows {
-        right = right && place(content, named(name)) == want;
+        right = right && place(content, anchor_of(name)) == want;
     }
     right
 }
@@ -229,7 +229,7 @@ fn has_places(content: Content, rows: &[(Name, Option<u64>)]) -> bool {
 fn makes(content: Content, rows: &[(u64, Bias, Made)]) -> bool {
     let mut right = true;
     for &(offset, bias, want) in rows {
-        right = right && anchor(content, offset, bias) == wanted(want);
+        right = right && anchor(content, offset, bias) == answer_of(want);
         right = right && is_at(content, want, offset);
     }
     right
@@ -238,7 +238,7 @@ fn makes(content: Content, rows: &[(u64, Bias, Made)]) -> bool {
 fn has_orders(content: Content, rows: &[(Name, Name, Option<Ordering>)]) -> bool {
     let mut right = true;
     for &(a, b, want) in rows {
-        right = right && order(content, named(a), named(b)) == want;
+        right = right && order(content, anchor_of(a), anchor_of(b)) == want;
     }
     right
 }

@@ -44,7 +44,7 @@ pub(crate) fn map_of(alloc: Global, counts: &[Count]) -> Result<UndoMap, OutOfMe
 }
 
 // The count of the first edit and whether it is undone, now, and at a version that has seen 3.1 and 3.2.
-fn counted(alloc: Global, rows: &[Count]) -> Result<(u32, bool, u32, bool), OutOfMemory> {
+fn counts_of_first(alloc: Global, rows: &[Count]) -> Result<(u32, bool, u32, bool), OutOfMemory> {
     let map = map_of(alloc, rows)?.share()?;
     let early = version(alloc, &[(3, 1), (3, 2)])?;
     Ok((
@@ -75,7 +75,7 @@ const COUNTED: &[(&[Count], (u32, bool, u32, bool))] = &[
 #[test]
 fn greatest_and_no_sum(rt: HostRuntime) -> Result<(), Fail> {
     for &(rows, want) in COUNTED {
-        assert!(rt; counted(rt.alloc(), rows)? == want, "{want:?}");
+        assert!(rt; counts_of_first(rt.alloc(), rows)? == want, "{want:?}");
     }
     Ok(())
 }
@@ -106,7 +106,7 @@ fn with_undo(alloc: Global, map: &UndoMap, undo: &UndoOp) -> Result<UndoMap, Out
 }
 
 // The counts of the first and the second edit after an undo, and that of the first before it.
-fn counted_after(alloc: Global) -> Result<(u32, u32, u32), OutOfMemory> {
+fn counts_after_undo(alloc: Global) -> Result<(u32, u32, u32), OutOfMemory> {
     let before = map_of(alloc, &[((2, 1), (3, 1), 2)])?;
     let undo = undo(alloc, &[(FIRST, 1), (SECOND, 4), (FIRST, 3)])?;
     let after = with_undo(alloc, &before, &undo)?;
@@ -115,6 +115,6 @@ fn counted_after(alloc: Global) -> Result<(u32, u32, u32), OutOfMemory> {
 
 #[test]
 fn a_whole_undo(rt: HostRuntime) -> Result<(), Fail> {
-    assert!(rt; counted_after(rt.alloc())? == (3, 4, 2));
+    assert!(rt; counts_after_undo(rt.alloc())? == (3, 4, 2));
     Ok(())
 }

@@ -197,7 +197,11 @@ fn has_seen(tree: &SumTree<Fragment>, i: u64, by: Lamport) -> bool {
 }
 
 // The text that is shown.
-fn shown(alloc: Global, tree: &SumTree<Fragment>, runs: &[Run]) -> Result<String, OutOfMemory> {
+fn shown_text(
+    alloc: Global,
+    tree: &SumTree<Fragment>,
+    runs: &[Run],
+) -> Result<String, OutOfMemory> {
     let mut text = String::new(alloc);
     for (i, run) in runs.iter().enumerate() {
         if is_shown(tree, i as u64) {
@@ -208,7 +212,7 @@ fn shown(alloc: Global, tree: &SumTree<Fragment>, runs: &[Run]) -> Result<String
 }
 
 // How many fragments have seen an undo.
-fn seen(tree: &SumTree<Fragment>, by: Lamport) -> u64 {
+fn count_sights(tree: &SumTree<Fragment>, by: Lamport) -> u64 {
     let mut seen = 0u64;
     for i in 0..tree.len() {
         if has_seen(tree, i, by) {
@@ -219,8 +223,11 @@ fn seen(tree: &SumTree<Fragment>, by: Lamport) -> u64 {
 }
 
 fn is_as_wanted(alloc: Global, placed: &Placed, row: &Row) -> Result<bool, OutOfMemory> {
-    let text = shown(alloc, &placed.fragments, row.runs)?;
-    let told = (text.as_str(), seen(&placed.fragments, stamp(row.by)));
+    let text = shown_text(alloc, &placed.fragments, row.runs)?;
+    let told = (
+        text.as_str(),
+        count_sights(&placed.fragments, stamp(row.by)),
+    );
     Ok(told == (row.text, row.seen) && placed.moves.as_slice() == row.moves)
 }
 

@@ -33,8 +33,8 @@ fn change(x: u64, len: u64) -> Change {
 
 // The stamp of a drawn edit that is applied, if it is one.
 fn edit_of(replica: &Replica, x: u64) -> Option<Lamport> {
-    let count = replica.applied().len().max(1);
-    match replica.applied().get((x >> 20) % count) {
+    let count = replica.operations().len().max(1);
+    match replica.operations().get((x >> 20) % count) {
         Some(applied) => match applied.op() {
             Operation::Edit(edit) => Some(edit.stamp),
             Operation::Undo(_) => None,

@@ -52,8 +52,8 @@ impl Replica {
     /// The replica with all operations of another that it has not. One that is not applied at once is an error.
     pub fn take_all(self, rt: &HostRuntime, other: &Replica) -> io::Result<Replica> {
         let mut replica = self;
-        for i in 0..other.applied().len() {
-            if let Some(applied) = other.applied().get(i) {
+        for i in 0..other.operations().len() {
+            if let Some(applied) = other.operations().get(i) {
                 replica = replica.take_new(rt, applied.op())?;
             }
         }
@@ -74,7 +74,7 @@ impl Replica {
     }
 
     /// The operations in their order.
-    pub fn applied(&self) -> &SumTree<Applied> {
+    pub fn operations(&self) -> &SumTree<Applied> {
         self.placed.buffer().applied()
     }
 

@@ -39,7 +39,7 @@ fn publish_all<R: Wait>(
 }
 
 // How many operations `latest` shows; none for want of memory.
-fn shown(reader: &mut SnapReader) -> u64 {
+fn count_latest(reader: &mut SnapReader) -> u64 {
     match reader.latest() {
         Ok(snapshot) => snapshot.applied().len(),
         Err(_) => 0,
@@ -52,7 +52,7 @@ fn watch(reader: &mut SnapReader) -> (u64, u64) {
     let mut back: u64 = 0;
     let mut unentered: u64 = 0;
     for _i in 0..1_000_000_000u64 {
-        let length = shown(reader);
+        let length = count_latest(reader);
         back = back.saturating_add((length < last) as u64);
         unentered = unentered.saturating_add(!reader.entered() as u64);
         last = length;
@@ -78,7 +78,7 @@ fn run_both<R: Threads + Wait + Sync>(
         { publish_all(rt, publisher, buffer) },
         || watch(reader),
     );
-    published == Ok(()) && watched == (0, 0) && shown(reader) == COUNT + 1
+    published == Ok(()) && watched == (0, 0) && count_latest(reader) == COUNT + 1
 }
 
 fn opens<R: Threads + Wait + Sync>(
@@ -100,7 +100,7 @@ fn opens<R: Threads + Wait + Sync>(
     right
 }
 
-fn opened<R: Threads + Wait + Sync>(
+fn opens_buffer<R: Threads + Wait + Sync>(
     rt: &R,
     alloc: Global,
     buffer: Result<Buffer, NewFault>,
@@ -115,7 +115,7 @@ fn opened<R: Threads + Wait + Sync>(
 }
 
 fn over_base<R: Threads + Wait + Sync>(rt: &R, alloc: Global) -> bool {
-    opened(rt, alloc, Buffer::new(alloc, 1, "ab", AMPLE))
+    opens_buffer(rt, alloc, Buffer::new(alloc, 1, "ab", AMPLE))
 }
 
 #[test]

@@ -136,7 +136,7 @@ fn opens<R: Wait>(rt: &R, alloc: Global, buffer: &mut Buffer, first: Snapshot) -
     both_show(rt, alloc, buffer, publisher, &mut told, &mut untold)
 }
 
-fn opened<R: Wait>(rt: &R, alloc: Global, buffer: Result<Buffer, NewFault>) -> bool {
+fn opens_buffer<R: Wait>(rt: &R, alloc: Global, buffer: Result<Buffer, NewFault>) -> bool {
     let Ok(mut buffer) = buffer else {
         return false;
     };
@@ -147,7 +147,7 @@ fn opened<R: Wait>(rt: &R, alloc: Global, buffer: Result<Buffer, NewFault>) -> b
 }
 
 fn over_base<R: Wait>(rt: &R, alloc: Global) -> bool {
-    opened(rt, alloc, Buffer::new(alloc, 1, "ab", AMPLE))
+    opens_buffer(rt, alloc, Buffer::new(alloc, 1, "ab", AMPLE))
 }
 
 #[test]

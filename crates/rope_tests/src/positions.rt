@@ -115,7 +115,7 @@ fn named_units(rope: &Rope, places: &[Place], units: u64) -> Result<(), Wrong> {
     same(offset == offset_of(named), "utf16_to_offset", units, 0)
 }
 
-fn clipped_left(rope: &Rope, places: &[Place], offset: u64) -> Result<(), Wrong> {
+fn clip_left(rope: &Rope, places: &[Place], offset: u64) -> Result<(), Wrong> {
     let before = places.iter().rev().find(|place| place.offset <= offset);
     let clipped = rope.clip_offset(offset, Bias::Left);
     same(
@@ -126,7 +126,7 @@ fn clipped_left(rope: &Rope, places: &[Place], offset: u64) -> Result<(), Wrong>
     )
 }
 
-fn clipped_right(rope: &Rope, places: &[Place], offset: u64) -> Result<(), Wrong> {
+fn clip_right(rope: &Rope, places: &[Place], offset: u64) -> Result<(), Wrong> {
     let past = places.iter().find(|place| offset <= place.offset);
     let clipped = rope.clip_offset(offset, Bias::Right);
     let expected = offset_of(past.or(places.last()));
@@ -138,8 +138,8 @@ fn offsets(rope: &Rope, places: &[Place]) -> Result<(), Wrong> {
     for offset in 0..rope.len().saturating_add(3) {
         named_offset(rope, places, offset)?;
         named_units(rope, places, offset)?;
-        clipped_left(rope, places, offset)?;
-        clipped_right(rope, places, offset)?;
+        clip_left(rope, places, offset)?;
+        clip_right(rope, places, offset)?;
     }
     Ok(())
 }
@@ -172,7 +172,7 @@ fn named_point_utf16(rope: &Rope, places: &[Place], row: u64, column: u64) -> Re
 }
 
 // Where a point is clipped to, counted over the places of its row.
-fn clipped(places: &[Place], point: Point, bias: Bias) -> Option<Point> {
+fn clip(places: &[Place], point: Point, bias: Bias) -> Option<Point> {
     let mut before = None;
     for place in places {
         if place.row == point.row {
@@ -192,7 +192,7 @@ fn clipped(places: &[Place], point: Point, bias: Bias) -> Option<Point> {
 fn clipped_point(rope: &Rope, places: &[Place], row: u64, column: u64) -> Result<(), Wrong> {
     let point = Point { row, column };
     for bias in [Bias::Left, Bias::Right] {
-        let expected = clipped(places, point, bias);
+        let expected = clip(places, point, bias);
         same(
             Some(rope.clip_point(point, bias)) == expected,
             "clip_point",

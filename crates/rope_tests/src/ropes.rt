@@ -68,7 +68,7 @@ fn names_positions_in_each_kind(rt: HostRuntime) -> Result<(), OutOfMemory> {
 }
 
 // The rope of two texts.
-fn joined(alloc: Global, front: &str, back: &str) -> Result<Rope, OutOfMemory> {
+fn join(alloc: Global, front: &str, back: &str) -> Result<Rope, OutOfMemory> {
     let mut rope = rope_of(alloc, front)?;
     let back = rope_of(alloc, back)?;
     if rope.len() < 1000 && back.len() < 1000 {
@@ -78,11 +78,11 @@ fn joined(alloc: Global, front: &str, back: &str) -> Result<Rope, OutOfMemory> {
 }
 
 fn joined_text(alloc: Global, front: &str, back: &str) -> Result<String, OutOfMemory> {
-    joined(alloc, front, back)?.to_string(alloc)
+    join(alloc, front, back)?.to_string(alloc)
 }
 
 fn shared_len(alloc: Global, front: &str, back: &str) -> Result<(u64, u64), OutOfMemory> {
-    let rope = joined(alloc, front, back)?;
+    let rope = join(alloc, front, back)?;
     Ok((rope.len(), rope.share()?.len()))
 }
 

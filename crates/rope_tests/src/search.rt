@@ -83,12 +83,7 @@ fn turns(alloc: Global, letters: &[u8], len: usize) -> Result<String, OutOfMemor
 }
 
 // Small letters, as if drawn by chance, in which the needle stands at the given places where there is room.
-fn planted(
-    alloc: Global,
-    needle: &str,
-    places: &[usize],
-    len: usize,
-) -> Result<String, OutOfMemory> {
+fn plant(alloc: Global, needle: &str, places: &[usize], len: usize) -> Result<String, OutOfMemory> {
     let mut text = String::new(alloc);
     let mut x = 7u64;
     for place in places {
@@ -153,7 +148,7 @@ fn finds_at_each_seam(rt: HostRuntime) -> Result<(), Fail> {
 }
 
 // Whether a needle of so many bytes is found where it stands at these places of a text.
-fn where_planted<R: Threads + Sync>(
+fn finds_planted<R: Threads + Sync>(
     rt: &R,
     alloc: Global,
     letters: &str,
@@ -162,7 +157,7 @@ fn where_planted<R: Threads + Sync>(
     whole: usize,
 ) -> Result<bool, FindFault> {
     let needle = turns(alloc, letters.as_bytes(), len)?;
-    let text = planted(alloc, needle.as_str(), places, whole)?;
+    let text = plant(alloc, needle.as_str(), places, whole)?;
     alike(rt, alloc, text.as_str(), needle.as_str())
 }
 
@@ -172,7 +167,7 @@ fn finds_needles_of_each_length(rt: HostRuntime) -> Result<(), Fail> {
         for letters in ["abcdefg", "ab", "a", "aaaaaaaaaaab"] {
             let places = [128, 640, 1000, 1500_usize.saturating_sub(len / 2), 2900];
             assert!(rt;
-                where_planted(&rt, rt.alloc(), letters, len, &places, 3000)?,
+                finds_planted(&rt, rt.alloc(), letters, len, &places, 3000)?,
                 "{len} of {letters}"
             );
         }
@@ -190,7 +185,7 @@ fn finds_across_windows(rt: HostRuntime) -> Result<(), Fail> {
             131_072,
         ];
         assert!(rt;
-            where_planted(&rt, rt.alloc(), "aaaaaaaaaaab", len, &places, 140_000)?,
+            finds_planted(&rt, rt.alloc(), "aaaaaaaaaaab", len, &places, 140_000)?,
             "{len}"
         );
     }
@@ -198,7 +193,7 @@ fn finds_across_windows(rt: HostRuntime) -> Result<(), Fail> {
 }
 
 // Whether the matches of a needle are found that overlap each other, in a text of the same letters.
-fn overlapping<R: Threads + Sync>(
+fn finds_overlaps<R: Threads + Sync>(
     rt: &R,
     alloc: Global,
     letters: &str,
@@ -214,7 +209,7 @@ fn finds_overlapping_matches(rt: HostRuntime) -> Result<(), Fail> {
     for letters in ["a", "ab", "aab", "abaab"] {
         for len in [1, 2, 3, 5, 16, 40, 300, 2999, 3000, 3001] {
             assert!(rt;
-                overlapping(&rt, rt.alloc(), letters, len)?,
+                finds_overlaps(&rt, rt.alloc(), letters, len)?,
                 "{len} of {letters}"
             );
         }

@@ -110,7 +110,7 @@ fn has_no_counts_of_no_text(rt: HostRuntime) {
     assert!(rt; <TextSummary as Summary>::zero(rt.alloc()) == TextSummary::of(""));
 }
 
-fn told_by(byte: u8) -> (bool, u64) {
+fn tell_byte(byte: u8) -> (bool, u64) {
     (is_char_start(byte), units_at(byte))
 }
 
@@ -127,7 +127,7 @@ fn tells_characters_by_bytes(rt: HostRuntime) {
         (0xf4, (true, 2)),
     ];
     for (byte, expected) in rows {
-        assert!(rt; told_by(byte) == expected, "at {byte}");
+        assert!(rt; tell_byte(byte) == expected, "at {byte}");
     }
 }
 

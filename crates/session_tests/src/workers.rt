@@ -662,7 +662,7 @@ fn many_queries_on_the_spot(rt: HostRuntime) -> Result<(), Fail> {
 }
 
 // How many of the lines that may answer a query stand behind the one that did, if one did.
-fn left_behind(answers: &str, line: &str) -> Option<u64> {
+fn count_behind(answers: &str, line: &str) -> Option<u64> {
     let mut left: Option<u64> = None;
     for answer in answers.split('|') {
         match left {
@@ -683,14 +683,14 @@ fn query_lines(report: &str) -> Option<&str> {
 }
 
 // How many operations fewer than all each line counts, as far as the lines may answer the queries.
-fn all_left(alloc: Global, lines: &str) -> Result<Vec<u64>, OutOfMemory> {
+fn count_all_behind(alloc: Global, lines: &str) -> Result<Vec<u64>, OutOfMemory> {
     let mut all = Vec::new(alloc);
     let mut rows = ANSWERS.lines();
     for line in lines.lines() {
         let Some(answers) = rows.next() else {
             return Ok(all);
         };
-        match left_behind(answers, line) {
+        match count_behind(answers, line) {
             Some(left) => all.push(left)?,
             None => return Ok(all),
         }
@@ -717,7 +717,7 @@ fn may_be(alloc: Global, report: &str, workers: usize) -> Result<bool, OutOfMemo
     let Some(lines) = query_lines(report) else {
         return Ok(false);
     };
-    let all = all_left(alloc, lines)?;
+    let all = count_all_behind(alloc, lines)?;
     let is_whole = all.len() == ASKED.len() && lines.lines().count() == ASKED.len();
     Ok(is_whole && never_fall(all.as_slice(), workers))
 }

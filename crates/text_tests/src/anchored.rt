@@ -204,7 +204,7 @@ fn undoes(buffer: &mut Buffer, edits: &[Lamport]) -> bool {
 }
 
 // What is wanted of a call that knows its anchors, or the first that it does not know.
-fn or_unknown<T: Copy>(want: Option<T>, anchor: Anchor) -> Result<T, UnknownAnchor> {
+fn answer_or_fault<T: Copy>(want: Option<T>, anchor: Anchor) -> Result<T, UnknownAnchor> {
     match want {
         Some(known) => Ok(known),
         None => Err(UnknownAnchor { anchor }),
@@ -212,7 +212,7 @@ fn or_unknown<T: Copy>(want: Option<T>, anchor: Anchor) -> Result<T, UnknownAnch
 }
 
 // The one of two anchors that is not known first.
-fn unknown(snapshot: &Snapshot, a: Anchor, b: Anchor) -> Anchor {
+fn unknown_anchor(snapshot: &Snapshot, a: Anchor, b: Anchor) -> Anchor {
     match snapshot.resolve(&a) {
         Ok(_) => b,
         Err(_) => a,
@@ -224,9 +224,9 @@ fn answers(snapshot: &Snapshot, step: Step) -> bool {
     snapshots_answer_alike(snapshot, snapshot);
     match step {
         Make(o, bias, want) => snapshot.anchor(o, bias) == want,
-        Resolve(a, want) => snapshot.resolve(&a) == or_unknown(want, a),
+        Resolve(a, want) => snapshot.resolve(&a) == answer_or_fault(want, a),
         Compare(a, b, want) => {
-            snapshot.compare(&a, &b) == or_unknown(want, unknown(snapshot, a, b))
+            snapshot.compare(&a, &b) == answer_or_fault(want, unknown_anchor(snapshot, a, b))
         }
         Edit(_) | Undo(_) => false,
     }

@@ -693,7 +693,7 @@ const AMONG_HIDDEN: &[Counting] = &[
 ];
 
 // The range of an edit's first piece, and the value that its version has of replica 9.
-fn counted(operation: &Operation) -> (u64, u64, u32) {
+fn range_of(operation: &Operation) -> (u64, u64, u32) {
     let seen = operation.version().get(9);
     match operation {
         Operation::Edit(edit) => match edit.pieces.as_slice() {
@@ -704,13 +704,13 @@ fn counted(operation: &Operation) -> (u64, u64, u32) {
     }
 }
 
-fn made(alloc: Global, buffer: &mut Buffer, change: Change) -> Result<Operation, EditFault> {
+fn make(alloc: Global, buffer: &mut Buffer, change: Change) -> Result<Operation, EditFault> {
     buffer.edit_uncounted(pieces(alloc, [change].as_slice())?.as_slice())
 }
 
 // Whether the range of an edit is counted so, and the text is then that of the row.
 fn is_counted(alloc: Global, buffer: &mut Buffer, row: &Counting) -> Result<bool, EditFault> {
-    let range = counted(&made(alloc, buffer, row.0)?);
+    let range = range_of(&make(alloc, buffer, row.0)?);
     Ok(buffer.text()?.as_str() == row.2 && range == row.1)
 }
 

@@ -7,7 +7,10 @@ use std::sync::ledger::{Blank, Ledger};
 use text_buffer::{Buffer, EditFault, Steps};
 
 /// Makes an edit whose steps are counted, on a counter that nobody looks at.
-pub(crate) fn edit_counted(buffer: &mut Buffer, changes: &[Piece]) -> Result<Operation, EditFault> {
+pub(crate) fn edit_and_count(
+    buffer: &mut Buffer,
+    changes: &[Piece],
+) -> Result<Operation, EditFault> {
     edit_with::<Brand>(buffer, changes, Blank::new(1))
 }
 

@@ -1,5 +1,5 @@
 //! Snapshots of a buffer, each taken before an edit, with ample memory.
-use crate::counted::edit_counted;
+use crate::counted::edit_and_count;
 use lamport_clock::Lamport;
 use op_model::{Limits, Piece, Text};
 use std::alloc::Global;
@@ -46,7 +46,7 @@ fn edit(alloc: Global, buffer: &mut Buffer, row: &Row) -> Result<(), EditFault> 
         end: row.1,
         text: Text::new(String::from_str(alloc, row.2)?),
     })?;
-    let _made = edit_counted(buffer, changes.as_slice())?;
+    let _made = edit_and_count(buffer, changes.as_slice())?;
     Ok(())
 }
 
@@ -56,7 +56,7 @@ fn undo(buffer: &mut Buffer, edits: &[Lamport]) -> Result<(), UndoFault> {
 }
 
 // A snapshot of the buffer as it was opened, and one after each edit.
-fn taken(alloc: Global, buffer: &mut Buffer) -> Result<Vec<Snapshot>, EditFault> {
+fn take_all(alloc: Global, buffer: &mut Buffer) -> Result<Vec<Snapshot>, EditFault> {
     let mut snapshots = Vec::new(alloc);
     snapshots.push(buffer.snapshot()?)?;
     for row in ROWS {
@@ -109,7 +109,7 @@ fn stay(alloc: Global, opened: Result<Buffer, NewFault>) -> Result<bool, UndoFau
     let Ok(mut buffer) = opened else {
         return Ok(false);
     };
-    let Ok(snapshots) = taken(alloc, &mut buffer) else {
+    let Ok(snapshots) = take_all(alloc, &mut buffer) else {
         return Ok(false);
     };
     all_stay(alloc, &mut buffer, snapshots.as_slice())
@@ -121,7 +121,7 @@ fn last_of(buffer: &mut Buffer) -> Result<Snapshot, UndoFault> {
 }
 
 // A snapshot outlives its buffer.
-fn outlived(opened: Result<Buffer, NewFault>) -> Result<Snapshot, UndoFault> {
+fn outlive(opened: Result<Buffer, NewFault>) -> Result<Snapshot, UndoFault> {
     match opened {
         Ok(mut buffer) => last_of(&mut buffer),
         Err(_) => Err(UndoFault::OutOfMemory),
@@ -129,7 +129,7 @@ fn outlived(opened: Result<Buffer, NewFault>) -> Result<Snapshot, UndoFault> {
 }
 
 fn outlives(alloc: Global) -> Result<bool, UndoFault> {
-    let snapshot = outlived(buffer(alloc))?;
+    let snapshot = outlive(buffer(alloc))?;
     Ok(shares(alloc, &snapshot, &("abc", 2, 2))?)
 }
 

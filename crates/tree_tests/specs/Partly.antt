@@ -75,13 +75,13 @@ module _ {C S : Type 0} (items : S → ℕ) (inside : C → S → ℕ) where
     }
 
 -- of so many items, those in the set: the odd ones, or the others
-abbrev pub chosen : Bool → ℕ → ℕ → ℕ
-chosen odd items odds = cond odd odds (items - odds)
+abbrev pub chosen_count : Bool → ℕ → ℕ → ℕ
+chosen_count odd items odds = cond odd odds (items - odds)
 
-pub chosen_sum : (odd : Bool) (i o j u : ℕ) → o ≤ i → u ≤ j → chosen odd (i + j) (o + u) ≡ chosen odd i o + chosen odd j u
+pub chosen_sum : (odd : Bool) (i o j u : ℕ) → o ≤ i → u ≤ j → chosen_count odd (i + j) (o + u) ≡ chosen_count odd i o + chosen_count odd j u
 chosen_sum true i o j u f g = refl
 chosen_sum false i o j u f g = omega arith
 
-pub chosen_few : (odd : Bool) (i o : ℕ) → o ≤ i → chosen odd i o ≤ i
+pub chosen_few : (odd : Bool) (i o : ℕ) → o ≤ i → chosen_count odd i o ≤ i
 chosen_few true i o f = f
 chosen_few false i o f = omega arith

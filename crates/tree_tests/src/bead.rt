@@ -87,7 +87,7 @@ impl KeyedItem for Bead {
 }
 
 impl Numbered for Bead {
-    fn numbered(_alloc: Global, number: u64) -> Result<Bead, OutOfMemory> {
+    fn of_number(_alloc: Global, number: u64) -> Result<Bead, OutOfMemory> {
         Ok(Bead { number })
     }
 

@@ -19,7 +19,7 @@ pub(crate) fn push_to<T: Numbered>(
 ) -> Result<(), OutOfMemory>
     requires { (xs : List T) → T.Summary.fits (fold T.Summary.empty T.Summary.op T.sum_of xs) }
 {
-    let item = T::numbered(alloc, number)?;
+    let item = T::of_number(alloc, number)?;
     if tree.len() >= MOST {
         return Ok(());
     }
@@ -27,7 +27,7 @@ pub(crate) fn push_to<T: Numbered>(
 }
 
 /// The tree of the numbers from 0 up to n, pushed one by one.
-pub(crate) fn pushed<T: Numbered>(alloc: Global, n: u64) -> Result<SumTree<T>, OutOfMemory>
+pub(crate) fn push_all<T: Numbered>(alloc: Global, n: u64) -> Result<SumTree<T>, OutOfMemory>
     requires { (xs : List T) → T.Summary.fits (fold T.Summary.empty T.Summary.op T.sum_of xs) }
 {
     let mut tree = SumTree::new(alloc)?;
@@ -38,19 +38,19 @@ pub(crate) fn pushed<T: Numbered>(alloc: Global, n: u64) -> Result<SumTree<T>, O
 }
 
 /// The items of the numbers from 0 up to n.
-pub(crate) fn listed<T: Numbered>(alloc: Global, n: u64) -> Result<Vec<T>, OutOfMemory> {
+pub(crate) fn list_items<T: Numbered>(alloc: Global, n: u64) -> Result<Vec<T>, OutOfMemory> {
     let mut items = Vec::new(alloc);
     for number in 0..n {
-        items.push(T::numbered(alloc, number)?)?;
+        items.push(T::of_number(alloc, number)?)?;
     }
     Ok(items)
 }
 
 /// The tree of the same items, made of a list.
-pub(crate) fn made<T: Numbered>(alloc: Global, n: u64) -> Result<SumTree<T>, OutOfMemory>
+pub(crate) fn make_tree<T: Numbered>(alloc: Global, n: u64) -> Result<SumTree<T>, OutOfMemory>
     requires { (xs : List T) → T.Summary.fits (fold T.Summary.empty T.Summary.op T.sum_of xs) }
 {
-    let items = listed(alloc, n)?;
+    let items = list_items(alloc, n)?;
     if items.len() as u64 > MOST {
         return SumTree::new(alloc);
     }
@@ -83,7 +83,7 @@ pub(crate) fn splice_in<T: Numbered>(
 {
     let from = range.0 as u64;
     let to = range.1 as u64;
-    let items = listed(alloc, n)?;
+    let items = list_items(alloc, n)?;
     if from > to || to > tree.len() || tree.len() >= MOST || items.len() as u64 >= MOST {
         return Ok(());
     }
@@ -100,7 +100,7 @@ pub(crate) fn insert_to<T: Numbered>(
     requires ascending { Ascending T.Key.cmp T.key_of tree.old.items }
     ensures ascending { Ascending T.Key.cmp T.key_of tree.new.items }
 {
-    let item = T::numbered(alloc, number)?;
+    let item = T::of_number(alloc, number)?;
     if tree.len() >= MOST {
         return Ok(None);
     }

@@ -33,7 +33,7 @@ fn spot<L: Ledger>(tree: &SumTree<Wide>, at: u64, bias: Bias, blank: Blank) -> (
 }
 
 // The same in the tree of these widths.
-pub(crate) fn located_in(
+pub(crate) fn locate_in(
     alloc: Global,
     widths: &[u64],
     times: u64,
@@ -45,7 +45,7 @@ pub(crate) fn located_in(
 }
 
 // A small tree with a number more.
-fn pushed<L: Ledger>(
+fn push_one<L: Ledger>(
     alloc: Global,
     mut tree: SumTree<Number>,
     key: u64,
@@ -59,7 +59,7 @@ fn pushed<L: Ledger>(
 }
 
 // A small tree with the tree of a number behind it.
-fn joined<L: Ledger>(
+fn append_one<L: Ledger>(
     alloc: Global,
     mut tree: SumTree<Number>,
     key: u64,
@@ -108,9 +108,9 @@ fn cuts<L: Ledger>(
 // The tree of the keys 3 and 5 with that of 8 behind it.
 fn three<L: Ledger>(alloc: Global, steps: &mut Steps<L>) -> Result<SumTree<Number>, OutOfMemory> {
     let tree = SumTree::new(alloc)?;
-    let tree = pushed(alloc, tree, 3, steps)?;
-    let tree = pushed(alloc, tree, 5, steps)?;
-    joined(alloc, tree, 8, steps)
+    let tree = push_one(alloc, tree, 3, steps)?;
+    let tree = push_one(alloc, tree, 5, steps)?;
+    append_one(alloc, tree, 8, steps)
 }
 
 // The height of the tree of so many numbers, pushed one by one.
@@ -121,7 +121,7 @@ fn height_of<L: Ledger>(
 ) -> Result<u32, OutOfMemory> {
     let mut tree = SumTree::new(alloc)?;
     for key in 0..count {
-        tree = pushed(alloc, tree, key, steps)?;
+        tree = push_one(alloc, tree, key, steps)?;
     }
     Ok(tree.height())
 }

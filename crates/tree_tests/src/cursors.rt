@@ -1,14 +1,18 @@
 //! Worked examples, and cursors over many items against plain sums.
 ghost use Rattle.std.specs.Prelude.{◌≡◌, ◌+◌, ◌^◌, ◌<◌};
 
-use crate::counted::located_in;
-use crate::wide::{ByName, Chosen, HasWidth, Name, Parity, Wide, Width, id_of, told};
+use crate::counted::locate_in;
+use crate::wide::{ByName, Chosen, HasWidth, Name, Parity, Wide, Width, id_of, tell_name};
 use std::alloc::Global;
 use sum_tree::SumTree;
 use tree_cursor::{Bias, Cursor, FilterCursor, OutOfMemory, look_up};
 
 // The tree with an item more, where it is small.
-fn grown(alloc: Global, mut tree: SumTree<Wide>, width: u64) -> Result<SumTree<Wide>, OutOfMemory> {
+fn push_one(
+    alloc: Global,
+    mut tree: SumTree<Wide>,
+    width: u64,
+) -> Result<SumTree<Wide>, OutOfMemory> {
     let id = tree.len();
     let sum = tree.summary();
     if id >= 1_000_000 {
@@ -39,7 +43,7 @@ pub(crate) fn tree_of(
     let mut tree = SumTree::new(alloc)?;
     for _time in 0..times {
         for width in widths {
-            tree = grown(alloc, tree, *width)?;
+            tree = push_one(alloc, tree, *width)?;
         }
     }
     Ok(tree)
@@ -59,14 +63,14 @@ fn spot_name(tree: &SumTree<Wide>, id: u64) -> Option<u64> {
 }
 
 // The name of the item with which so many lie in a set, and how many lie in it before.
-fn spot_chosen(tree: &SumTree<Wide>, set: &Parity, at: u64) -> (Option<u64>, u64) {
+fn spot_in_set(tree: &SumTree<Wide>, set: &Parity, at: u64) -> (Option<u64>, u64) {
     tree.known();
     let (item, before) = look_up(tree, Chosen { set, items: 0 }, &at, Bias::Left);
     (id_of(item), before.items)
 }
 
 // The same by a cursor, and of the item before.
-fn cursor_chosen(
+fn cursor_in_set(
     tree: &SumTree<Wide>,
     set: &Parity,
     at: u64,
@@ -82,11 +86,11 @@ fn cursor_chosen(
 fn cursor_name(tree: &SumTree<Wide>, id: u64) -> Result<Option<u64>, OutOfMemory> {
     let mut cursor = Cursor::new(tree, ByName { name: None })?;
     cursor.seek(&Name { id }, Bias::Right)?;
-    Ok(told(cursor.end().name))
+    Ok(tell_name(cursor.end().name))
 }
 
 // The second item with a width, and how many items of a set lie before it.
-fn second_chosen(tree: &SumTree<Wide>, set: &Parity) -> Result<(Option<u64>, u64), OutOfMemory> {
+fn second_in_set(tree: &SumTree<Wide>, set: &Parity) -> Result<(Option<u64>, u64), OutOfMemory> {
     tree.known();
     let mut kept = FilterCursor::new(tree, Chosen { set, items: 0 }, HasWidth)?;
     kept.next()?;
@@ -99,11 +103,11 @@ fn second_name(tree: &SumTree<Wide>) -> Result<(Option<u64>, Option<u64>), OutOf
     let mut kept = FilterCursor::new(tree, ByName { name: None }, HasWidth)?;
     kept.next()?;
     let item = kept.next()?;
-    Ok((id_of(item), told(kept.start().name)))
+    Ok((id_of(item), tell_name(kept.start().name)))
 }
 
 // The names of the second item with a width and of the one behind it, and where the second starts.
-fn second_kept(tree: &SumTree<Wide>) -> Result<(Option<u64>, u64, Option<u64>), OutOfMemory> {
+fn second_place(tree: &SumTree<Wide>) -> Result<(Option<u64>, u64, Option<u64>), OutOfMemory> {
     tree.known();
     let mut kept = FilterCursor::new(tree, Width { at: 0 }, HasWidth)?;
     kept.next()?;
@@ -174,7 +178,7 @@ fn seeks_widths(rt: HostRuntime) -> Result<(), OutOfMemory> {
             "{at}"
         );
         assert!(rt;
-            located_in(rt.alloc(), widths, times, at, bias)? == expected,
+            locate_in(rt.alloc(), widths, times, at, bias)? == expected,
             "{at}, counted"
         );
     }
@@ -183,7 +187,7 @@ fn seeks_widths(rt: HostRuntime) -> Result<(), OutOfMemory> {
 
 // What a filter gives, and how many items lie on both sides of a cut.
 fn works_on_few(alloc: Global) -> Result<[bool; 4], OutOfMemory> {
-    let filtered = second_kept(&tree_of(alloc, &[1, 0, 0, 2], 1)?)?;
+    let filtered = second_place(&tree_of(alloc, &[1, 0, 0, 2], 1)?)?;
     let tree = tree_of(alloc, &[1], 3)?;
     let left = parts(alloc, &tree, 2, Bias::Left)?;
     let right = parts(alloc, &tree, 2, Bias::Right)?;
@@ -205,9 +209,9 @@ fn works_on_names(tree: &SumTree<Wide>) -> Result<bool, OutOfMemory> {
 
 fn works_on_sets(tree: &SumTree<Wide>) -> Result<bool, OutOfMemory> {
     let set = Parity { odd: true };
-    let seen = cursor_chosen(tree, &set, 1000)? == (Some(1998), 999);
-    let kept = second_chosen(tree, &set)? == (Some(2), 1);
-    Ok(spot_chosen(tree, &set, 1000) == (Some(1999), 999) && seen && kept)
+    let seen = cursor_in_set(tree, &set, 1000)? == (Some(1998), 999);
+    let kept = second_in_set(tree, &set)? == (Some(2), 1);
+    Ok(spot_in_set(tree, &set, 1000) == (Some(1999), 999) && seen && kept)
 }
 
 // What three thousand items answer.

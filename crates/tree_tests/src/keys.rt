@@ -31,7 +31,7 @@ fn take_out(alloc: Global, tree: &mut SumTree<Number>, key: u64) -> Result<Optio
 }
 
 // A small tree with a number behind the others.
-fn joined(
+fn append_one(
     alloc: Global,
     mut tree: SumTree<Number>,
     key: u64,
@@ -86,7 +86,7 @@ fn at_index(tree: &SumTree<Number>, items: u64, bias: Bias) -> (Option<u64>, u64
 }
 
 // A small tree with a number more.
-fn grown(
+fn push_one(
     alloc: Global,
     mut tree: SumTree<Ranked>,
     key: u64,
@@ -139,7 +139,7 @@ fn are_right(answers: [Option<u64>; 6]) -> bool {
 // What the three numbers 3, 5 and 8 answer, by their count.
 fn works_on_three(alloc: Global) -> Result<[bool; 7], OutOfMemory> {
     let (answers, tree) = changes_keys(alloc)?;
-    let tree = joined(alloc, tree, 8)?;
+    let tree = append_one(alloc, tree, 8)?;
     let left = cuts(alloc, &tree, Bias::Left, &[3], &[5, 8])?;
     let right = cuts(alloc, &tree, Bias::Right, &[3, 5], &[8])?;
     let walked = on_and_back(&tree)?;
@@ -161,17 +161,17 @@ fn works_on_keys(rt: HostRuntime) -> Result<(), OutOfMemory> {
 }
 
 // The tree of the keys 3, 5 and 8.
-fn ranked(alloc: Global) -> Result<SumTree<Ranked>, OutOfMemory> {
+fn tree_of_three(alloc: Global) -> Result<SumTree<Ranked>, OutOfMemory> {
     let mut tree = SumTree::new(alloc)?;
     for key in [3, 5, 8] {
-        tree = grown(alloc, tree, key)?;
+        tree = push_one(alloc, tree, key)?;
     }
     Ok(tree)
 }
 
 // What they answer by the greatest key.
 fn seeks_in_three(alloc: Global) -> Result<[bool; 4], OutOfMemory> {
-    let tree = ranked(alloc)?;
+    let tree = tree_of_three(alloc)?;
     let left = cursor_key(&tree, 4, Bias::Left)?;
     let right = cursor_key(&tree, 8, Bias::Right)?;
     Ok([

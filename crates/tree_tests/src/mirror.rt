@@ -85,7 +85,7 @@ pub(crate) fn mirrors<T: Numbered>(
 }
 
 // The numbers from 0 up to n.
-pub(crate) fn counting(alloc: Global, n: u64) -> Result<Vec<u64>, OutOfMemory> {
+pub(crate) fn numbers_below(alloc: Global, n: u64) -> Result<Vec<u64>, OutOfMemory> {
     let mut numbers = Vec::new(alloc);
     for number in 0..n {
         numbers.push(number)?;
@@ -94,7 +94,7 @@ pub(crate) fn counting(alloc: Global, n: u64) -> Result<Vec<u64>, OutOfMemory> {
 }
 
 // The numbers with others in the place of a range.
-pub(crate) fn replaced(
+pub(crate) fn replace(
     alloc: Global,
     numbers: &[u64],
     range: (usize, usize),

@@ -85,7 +85,7 @@ impl KeyedItem for Ranked {
 }
 
 impl Numbered for Ranked {
-    fn numbered(_alloc: Global, number: u64) -> Result<Ranked, OutOfMemory> {
+    fn of_number(_alloc: Global, number: u64) -> Result<Ranked, OutOfMemory> {
         Ok(Ranked { key: number })
     }
 

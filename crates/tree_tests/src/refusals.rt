@@ -5,8 +5,8 @@ ghost use Rattle.sum_tree.specs.Keyed.{Ascending};
 
 use crate::bead::Bead;
 use crate::chance::step;
-use crate::changes::{append_to, insert_to, made, push_to, remove_from, splice_in};
-use crate::mirror::{counting, mirrors, replaced};
+use crate::changes::{append_to, insert_to, make_tree, push_to, remove_from, splice_in};
+use crate::mirror::{mirrors, numbers_below, replace};
 use crate::numbered::Numbered;
 use crate::ranked::Ranked;
 use crate::word::Word;
@@ -73,7 +73,7 @@ fn push<T: Numbered>(
     requires { (xs : List T) → T.Summary.fits (fold T.Summary.empty T.Summary.op T.sum_of xs) }
 {
     let len = account.numbers.len();
-    let after = replaced(alloc, &account.numbers, (len, len), &[number])?;
+    let after = replace(alloc, &account.numbers, (len, len), &[number])?;
     let made = push_to(alloc, tree, number).is_ok();
     account.look(alloc, tree, after, made)
 }
@@ -88,8 +88,13 @@ fn append<T: Numbered>(
     requires { (xs : List T) → T.Summary.fits (fold T.Summary.empty T.Summary.op T.sum_of xs) }
 {
     let len = account.numbers.len();
-    let after = replaced(alloc, &account.numbers, (len, len), &counting(alloc, n)?)?;
-    let made = match made(alloc, n) {
+    let after = replace(
+        alloc,
+        &account.numbers,
+        (len, len),
+        &numbers_below(alloc, n)?,
+    )?;
+    let made = match make_tree(alloc, n) {
         Ok(other) => append_to(alloc, tree, other).is_ok(),
         Err(_) => false,
     };
@@ -106,7 +111,7 @@ fn splice<T: Numbered>(
 ) -> Result<(), OutOfMemory>
     requires { (xs : List T) → T.Summary.fits (fold T.Summary.empty T.Summary.op T.sum_of xs) }
 {
-    let after = replaced(alloc, &account.numbers, range, &counting(alloc, n)?)?;
+    let after = replace(alloc, &account.numbers, range, &numbers_below(alloc, n)?)?;
     let made = splice_in(alloc, tree, range, n).is_ok();
     account.look(alloc, tree, after, made)
 }
@@ -180,7 +185,7 @@ fn change_shared<T: Numbered>(
 }
 
 // Many changes, from no items on.
-fn changed<T: Numbered>(alloc: Global, rounds: u64) -> Result<Account, OutOfMemory>
+fn change_often<T: Numbered>(alloc: Global, rounds: u64) -> Result<Account, OutOfMemory>
     requires { (xs : List T) → T.Summary.fits (fold T.Summary.empty T.Summary.op T.sum_of xs) }
 {
     let mut tree: SumTree<T> = SumTree::new(alloc)?;
@@ -212,12 +217,12 @@ fn toggle<T: Numbered>(
 {
     match account.numbers.binary_search(&number) {
         Ok(at) => {
-            let after = replaced(alloc, &account.numbers, (at, at.saturating_add(1)), &[])?;
+            let after = replace(alloc, &account.numbers, (at, at.saturating_add(1)), &[])?;
             let made = remove_from(alloc, tree, number).is_ok();
             account.look(alloc, tree, after, made)
         }
         Err(at) => {
-            let after = replaced(alloc, &account.numbers, (at, at), &[number])?;
+            let after = replace(alloc, &account.numbers, (at, at), &[number])?;
             let made = insert_to(alloc, tree, number).is_ok();
             account.look(alloc, tree, after, made)
         }
@@ -225,7 +230,7 @@ fn toggle<T: Numbered>(
 }
 
 // Takes items out and inserts them, many times.
-fn toggled<T: Numbered>(
+fn toggle_often<T: Numbered>(
     alloc: Global,
     tree: &mut SumTree<T>,
     account: &mut Account,
@@ -245,28 +250,28 @@ fn toggled<T: Numbered>(
     Ok(())
 }
 
-fn keyed<T: Numbered>(alloc: Global, rounds: u64) -> Result<Account, OutOfMemory>
+fn toggle_keys<T: Numbered>(alloc: Global, rounds: u64) -> Result<Account, OutOfMemory>
     requires { (xs : List T) → T.Summary.fits (fold T.Summary.empty T.Summary.op T.sum_of xs) }
 {
     let mut tree: SumTree<T> = SumTree::new(alloc)?;
     let mut account = Account::new(alloc);
-    toggled(alloc, &mut tree, &mut account, rounds)?;
+    toggle_often(alloc, &mut tree, &mut account, rounds)?;
     Ok(account)
 }
 
 // Where a test is run with one allocation that fails, it fails in one of these rounds.
 #[test]
 fn changes_with_memory(rt: HostRuntime) -> Result<(), OutOfMemory> {
-    assert!(rt; changed::<Ranked>(rt.alloc(), 300)?.is_right(0, 1));
-    assert!(rt; changed::<Word>(rt.alloc(), 300)?.is_right(0, 1));
-    assert!(rt; keyed::<Ranked>(rt.alloc(), 400)?.is_right(0, 1));
-    assert!(rt; keyed::<Word>(rt.alloc(), 400)?.is_right(0, 1));
+    assert!(rt; change_often::<Ranked>(rt.alloc(), 300)?.is_right(0, 1));
+    assert!(rt; change_often::<Word>(rt.alloc(), 300)?.is_right(0, 1));
+    assert!(rt; toggle_keys::<Ranked>(rt.alloc(), 400)?.is_right(0, 1));
+    assert!(rt; toggle_keys::<Word>(rt.alloc(), 400)?.is_right(0, 1));
     Ok(())
 }
 
 #[test]
 fn changes_that_are_refused(rt: HostRuntime) -> Result<(), OutOfMemory> {
-    assert!(rt; changed::<Bead>(rt.alloc(), 600)?.is_right(30, 300));
-    assert!(rt; keyed::<Bead>(rt.alloc(), 600)?.is_right(30, 300));
+    assert!(rt; change_often::<Bead>(rt.alloc(), 600)?.is_right(30, 300));
+    assert!(rt; toggle_keys::<Bead>(rt.alloc(), 600)?.is_right(30, 300));
     Ok(())
 }

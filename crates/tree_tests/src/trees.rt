@@ -4,9 +4,9 @@ ghost use Rattle.sum_tree.specs.Laws.{fold};
 ghost use Rattle.sum_tree.specs.Keyed.{Ascending};
 
 use crate::chance::step;
-use crate::changes::{append_to, insert_to, made, pushed, remove_from, splice_in};
+use crate::changes::{append_to, insert_to, make_tree, push_all, remove_from, splice_in};
 use crate::cursors::tree_of;
-use crate::mirror::{counting, is_even, mirrors, number_of, replaced};
+use crate::mirror::{is_even, mirrors, number_of, numbers_below, replace};
 use crate::numbered::Numbered;
 use crate::ranked::Ranked;
 use crate::word::Word;
@@ -59,7 +59,7 @@ fn splices<T: Numbered>(
 {
     let old = tree.share()?;
     splice_in(alloc, tree, range, n)?;
-    let all = replaced(alloc, numbers, range, &counting(alloc, n)?)?;
+    let all = replace(alloc, numbers, range, &numbers_below(alloc, n)?)?;
     let same = mirrors(alloc, tree, &all)? && old.len() == numbers.len() as u64;
     Ok((same, all))
 }
@@ -90,7 +90,7 @@ fn splices_often<T: Numbered>(
 fn changes<T: Numbered>(alloc: Global, tree: &mut SumTree<T>, n: u64) -> Result<bool, OutOfMemory>
     requires { (xs : List T) → T.Summary.fits (fold T.Summary.empty T.Summary.op T.sum_of xs) }
 {
-    let numbers = counting(alloc, n)?;
+    let numbers = numbers_below(alloc, n)?;
     let same = mirrors(alloc, tree, &numbers)?;
     let cuts = rejoins_everywhere(alloc, tree, &numbers)?;
     Ok(splices_often(alloc, tree, numbers)? && same && cuts)
@@ -99,14 +99,14 @@ fn changes<T: Numbered>(alloc: Global, tree: &mut SumTree<T>, n: u64) -> Result<
 fn pushed_changes<T: Numbered>(alloc: Global, n: u64) -> Result<bool, OutOfMemory>
     requires { (xs : List T) → T.Summary.fits (fold T.Summary.empty T.Summary.op T.sum_of xs) }
 {
-    let mut tree: SumTree<T> = pushed(alloc, n)?;
+    let mut tree: SumTree<T> = push_all(alloc, n)?;
     changes(alloc, &mut tree, n)
 }
 
 fn listed_changes<T: Numbered>(alloc: Global, n: u64) -> Result<bool, OutOfMemory>
     requires { (xs : List T) → T.Summary.fits (fold T.Summary.empty T.Summary.op T.sum_of xs) }
 {
-    let mut tree: SumTree<T> = made(alloc, n)?;
+    let mut tree: SumTree<T> = make_tree(alloc, n)?;
     changes(alloc, &mut tree, n)
 }
 
@@ -132,8 +132,8 @@ fn trees_are_lists(rt: HostRuntime) -> Result<(), OutOfMemory> {
 
 // Whether the sum of so many words lists their numbers.
 fn lists_numbers(alloc: Global, n: u64) -> Result<bool, OutOfMemory> {
-    let tree: SumTree<Word> = pushed(alloc, n)?;
-    Ok(tree.summary().as_slice() == counting(alloc, n)?.as_slice())
+    let tree: SumTree<Word> = push_all(alloc, n)?;
+    Ok(tree.summary().as_slice() == numbers_below(alloc, n)?.as_slice())
 }
 
 #[test]
@@ -147,7 +147,7 @@ fn sums_hold_lists(rt: HostRuntime) -> Result<(), OutOfMemory> {
 fn alone<T: Numbered>(alloc: Global, number: u64) -> Result<SumTree<T>, OutOfMemory>
     requires { (xs : List T) → T.Summary.fits (fold T.Summary.empty T.Summary.op T.sum_of xs) }
 {
-    let item = T::numbered(alloc, number)?;
+    let item = T::of_number(alloc, number)?;
     SumTree::from_item(alloc, item)
 }
 
@@ -229,20 +229,20 @@ fn many_keys<T: Numbered>(alloc: Global, tree: &mut SumTree<T>) -> Result<bool, 
     requires ascending { Ascending T.Key.cmp T.key_of tree.old.items }
 {
     let filled = fills(alloc, tree)?;
-    let all = mirrors(alloc, tree, &counting(alloc, 1000)?)? && finds(tree, 1);
+    let all = mirrors(alloc, tree, &numbers_below(alloc, 1000)?)? && finds(tree, 1);
     let halved = halves(alloc, tree)?;
     let half = finds(tree, 2) && tree.len() == 500;
     Ok(is_even(alloc, tree)? && half && halved && all && filled)
 }
 
-fn few_keyed<T: Numbered>(alloc: Global) -> Result<bool, OutOfMemory>
+fn works_on_few<T: Numbered>(alloc: Global) -> Result<bool, OutOfMemory>
     requires { (xs : List T) → T.Summary.fits (fold T.Summary.empty T.Summary.op T.sum_of xs) }
 {
     let mut tree: SumTree<T> = SumTree::new(alloc)?;
     keyed_rows(alloc, &mut tree)
 }
 
-fn many_keyed<T: Numbered>(alloc: Global) -> Result<bool, OutOfMemory>
+fn works_on_many<T: Numbered>(alloc: Global) -> Result<bool, OutOfMemory>
     requires { (xs : List T) → T.Summary.fits (fold T.Summary.empty T.Summary.op T.sum_of xs) }
 {
     let mut tree: SumTree<T> = SumTree::new(alloc)?;
@@ -251,10 +251,10 @@ fn many_keyed<T: Numbered>(alloc: Global) -> Result<bool, OutOfMemory>
 
 #[test]
 fn keys_ascend(rt: HostRuntime) -> Result<(), OutOfMemory> {
-    assert!(rt; few_keyed::<Ranked>(rt.alloc())?);
-    assert!(rt; many_keyed::<Ranked>(rt.alloc())?);
-    assert!(rt; few_keyed::<Word>(rt.alloc())?);
-    assert!(rt; many_keyed::<Word>(rt.alloc())?);
+    assert!(rt; works_on_few::<Ranked>(rt.alloc())?);
+    assert!(rt; works_on_many::<Ranked>(rt.alloc())?);
+    assert!(rt; works_on_few::<Word>(rt.alloc())?);
+    assert!(rt; works_on_many::<Word>(rt.alloc())?);
     Ok(())
 }
 

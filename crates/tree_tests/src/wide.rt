@@ -36,7 +36,7 @@ pub(crate) fn id_of(item: Option<&Wide>) -> Option<u64> {
     }
 }
 
-pub(crate) fn told(name: Option<&Name>) -> Option<u64> {
+pub(crate) fn tell_name(name: Option<&Name>) -> Option<u64> {
     match name {
         None => None,
         Some(name) => Some(name.id),
@@ -277,13 +277,13 @@ impl<'v> Plain for Chosen<'v> {
 }
 
 impl<'v> Moves<Extent> for Chosen<'v> {
-    ghost use Rattle.tree_tests.specs.Partly.{partly, partly_laws, chosen, chosen_sum, chosen_few};
+    ghost use Rattle.tree_tests.specs.Partly.{partly, partly_laws, chosen_count, chosen_sum, chosen_few};
 
-    ghost moved = { λ p s. partly (λ x. x.items) (λ c x. chosen c.odd x.items x.odd) p s };
+    ghost moved = { λ p s. partly (λ x. x.items) (λ c x. chosen_count c.odd x.items x.odd) p s };
 
     ghost fits = { λ p s. p.1 + s.items < 2 ^ 64 };
 
-    ghost laws = { partly_laws (λ x. x.items) (λ c x. chosen c.odd x.items x.odd) _ _ _ _ refl
+    ghost laws = { partly_laws (λ x. x.items) (λ c x. chosen_count c.odd x.items x.odd) _ _ _ _ refl
         (λ a b. refl) (λ c a b f g. chosen_sum c.odd a.items a.odd b.items b.odd f g)
         (λ c a f. chosen_few c.odd a.items a.odd f) (λ a s. s) };
 }

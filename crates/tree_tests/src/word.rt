@@ -115,7 +115,7 @@ impl KeyedItem for Word {
 }
 
 impl Numbered for Word {
-    fn numbered(alloc: Global, number: u64) -> Result<Word, OutOfMemory> {
+    fn of_number(alloc: Global, number: u64) -> Result<Word, OutOfMemory> {
         let text = format!(in alloc; "{number}")?;
         Ok(Word { number, text })
     }

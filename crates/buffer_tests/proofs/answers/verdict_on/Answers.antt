@@ -4,7 +4,7 @@ use Rattle.op_model.specs.Lawful.{Lawful}
 use Rattle.op_model.specs.Facts.{cell_facts}
 use Rattle.op_model.specs.Shown.{text, hidden_text}
 use Rattle.buffer_tests.proofs.AnswerSampled.{sample_lawful, sample_version, sample_text, sample_hidden}
-use Rattle.buffer_tests.proofs.answers.judged.Goals as goal
+use Rattle.buffer_tests.proofs.answers.verdict_on.Goals as goal
 
 pub judge-requires-clause-lawful : goal.judge-requires-clause-lawful
 judge-requires-clause-lawful c = subst Lawful (sym c.requires.applied) sample_lawful

@@ -3,7 +3,7 @@ use Rattle.op_model.specs.declared.operation.Operation.TheVariants.{Undo}
 use Rattle.op_model.specs.declared.operation.UndoOp.{UndoOp}
 use Rattle.buffer_tests.specs.UndoSample.{edit_at, undo_at, stamp_at}
 use Rattle.buffer_tests.proofs.UndoSampled.{appended, one, two, second_new, third_new, fourth_new}
-use Rattle.buffer_tests.proofs.undo_faults.applied.Goals as goal
+use Rattle.buffer_tests.proofs.undo_faults.sample_list.Goals as goal
 
 pub push-requires-2 : goal.push-requires-2
 push-requires-2 c =

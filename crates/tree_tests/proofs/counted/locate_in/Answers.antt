@@ -1,5 +1,5 @@
 use Rattle.std.proofs.Common.{refl, arith}
-use Rattle.tree_tests.proofs.counted.located_in.Goals as goal
+use Rattle.tree_tests.proofs.counted.locate_in.Goals as goal
 
 pub spot-requires-clause-name : goal.spot-requires-clause-name
 spot-requires-clause-name c = refl
