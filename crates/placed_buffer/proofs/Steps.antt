@@ -58,8 +58,8 @@ module _ (fs : List Fragment) (w : List IndexEntry) (u : List UndoEntry) (b n : 
     may_make = record {
       history = b.history;
       stands = s.stand;
-      lawful = e.known.lawful;
-      proper = e.known.proper;
+      lawful = e.known.history.lawful;
+      proper = e.known.history.proper;
       replica = is_replica;
       value = at_clock;
       sees = v_is;
@@ -72,17 +72,17 @@ module _ (fs : List Fragment) (w : List IndexEntry) (u : List UndoEntry) (b n : 
     edit_stands gs v x a =
         let k = e.known in
         let same : made_at b.history t.replica ps ≡ edit_of b ps = ap (λ (r : ℕ). made_at b.history r ps) by_replica in
-        let good : answer b.history [] (edit_of b ps) ≡ Good = (edits_are_good b.limits b.history b.replica ps k.lawful k.proper (k.least_replica, k.greatest_replica) e.faultless).0 in
+        let good : answer b.history [] (edit_of b ps) ≡ Good = (edits_are_good b.limits b.history b.replica ps k.history.lawful k.history.proper (k.least_replica, k.greatest_replica) e.faultless).0 in
         let g : answer b.history [] (made_at b.history t.replica ps) ≡ Good = subst (λ (o : Operation). answer b.history [] o ≡ Good) (sym same) good in
         let h : b.history ++ made_at b.history t.replica ps ∷ [] ≡ n.history = ap (λ (o : Operation). b.history ++ o ∷ []) same ∙ sym (ap (λ (y : BufferState). y.history) e.new) in
-        record { stand = subst (Stand gs v x) h (a b.history s.stand k.lawful at_clock v_is g); none = ap (λ (y : BufferState). y.waiting) e.new ∙ s.none }
+        record { stand = subst (Stand gs v x) h (a b.history s.stand k.history.lawful at_clock v_is g); none = ap (λ (y : BufferState). y.waiting) e.new ∙ s.none }
 
   module _ (op : Operation) (e : TakesOne b op n) where
     pub may_take : MayPlace fs w u op
-    may_take = record { history = b.history; stands = s.stand; lawful = e.known.lawful; good = e.good; room = room_taken b op e.known e.room }
+    may_take = record { history = b.history; stands = s.stand; lawful = e.known.history.lawful; good = e.good; room = room_taken b op e.known e.room }
 
     pub take_stands : (gs : List Fragment) (v : List IndexEntry) (x : List UndoEntry) → AreStanding fs w u op gs v x → Stands gs v x n
-    take_stands gs v x a = record { stand = subst (Stand gs v x) (sym e.history) (a b.history s.stand e.known.lawful e.good); none = e.waiting }
+    take_stands gs v x a = record { stand = subst (Stand gs v x) (sym e.history) (a b.history s.stand e.known.history.lawful e.good); none = e.waiting }
 
   -- an undo has no pieces
   no_text : (ts : List Lamport) → text_total (pieces_of (made_undo_at b.history b.replica ts)) ≡ 0
@@ -91,13 +91,13 @@ module _ (fs : List Fragment) (w : List IndexEntry) (u : List UndoEntry) (b n : 
 
   module _ (ts : List Lamport) (op : Operation) (e : UndoesOne b ts op n) where
     undo_good : answer b.history [] op ≡ Good
-    undo_good = let k = e.known in subst (λ (o : Operation). answer b.history [] o ≡ Good) (sym e.made) (undos_are_good b.limits b.history b.replica ts k.lawful k.proper (k.least_replica, k.greatest_replica) e.faultless)
+    undo_good = let k = e.known in subst (λ (o : Operation). answer b.history [] o ≡ Good) (sym e.made) (undos_are_good b.limits b.history b.replica ts k.history.lawful k.history.proper (k.least_replica, k.greatest_replica) e.faultless)
 
     pub may_undo : MayPlace fs w u op
     may_undo = record {
       history = b.history;
       stands = s.stand;
-      lawful = e.known.lawful;
+      lawful = e.known.history.lawful;
       good = undo_good;
       room = (let f = full_bytes b.history in let x = e.known.bytes in let y = e.known.most_bytes in let z = ap (λ (o : Operation). text_total (pieces_of o)) e.made ∙ no_text ts in omega (arith, f, x, y, z));
     }
@@ -105,4 +105,4 @@ module _ (fs : List Fragment) (w : List IndexEntry) (u : List UndoEntry) (b n : 
     pub undo_stands : (gs : List Fragment) (v : List IndexEntry) (x : List UndoEntry) → AreStanding fs w u op gs v x → Stands gs v x n
     undo_stands gs v x a =
         let h : b.history ++ op ∷ [] ≡ n.history = ap (λ (o : Operation). b.history ++ o ∷ []) e.made ∙ sym (ap (λ (y : BufferState). y.history) e.new) in
-        record { stand = subst (Stand gs v x) h (a b.history s.stand e.known.lawful undo_good); none = ap (λ (y : BufferState). y.waiting) e.new ∙ s.none }
+        record { stand = subst (Stand gs v x) h (a b.history s.stand e.known.history.lawful undo_good); none = ap (λ (y : BufferState). y.waiting) e.new ∙ s.none }

@@ -31,7 +31,7 @@ last_row_within bs = newline_count-le bs
 -- ---- of a buffer's text
 
 pub rows_few : (b : BufferState) (s : TextSummary) → IsBuffer b → s ≡ summary_of (text b.history) → s.lines.row ≤ 2 ^ 40
-rows_few b s k e = omega (arith, ap (λ (z : TextSummary). z.lines.row) e, last_row_within (text b.history), k.text_bytes, k.bytes, k.most_bytes)
+rows_few b s k e = omega (arith, ap (λ (z : TextSummary). z.lines.row) e, last_row_within (text b.history), k.history.text_bytes, k.bytes, k.most_bytes)
 
 pub shown_is : (b : BufferState) (r count : ℕ) (s : TextSummary) (t : List ℕ) → b.replica ≡ r → s ≡ summary_of (text b.history) → count ≡ length (rows (text b.history)) → t ≡ text b.history
     → report.Text (head.CurrentText r s.len s.lines.row s.lines.column count) t ≡ text_report b

@@ -115,8 +115,7 @@ pub IsBuffer-put : (b : BufferState) (op : Operation) (h : History) → IsBuffer
 IsBuffer-put b op h k n g f e =
     let room = room_of b op f in
     record {
-      lawful = n.lawful;
-      proper = n.proper;
+      history = n;
       waiting_ascending = k.waiting_ascending;
       least_replica = k.least_replica;
       greatest_replica = k.greatest_replica;
@@ -124,15 +123,12 @@ IsBuffer-put b op h k n g f e =
       most_entries = k.most_entries;
       bytes = omega (arith, ap bytes_held e, bytes_held-append b.history op, room.0);
       entries = omega (arith, ap entries_held e, entries_more b.history op g, room.1);
-      utf8 = n.utf8;
-      text_bytes = n.text_bytes;
     }
 
 -- one more waits
 pub IsBuffer-deferred : (b : BufferState) (op : Operation) (w : List Operation) → IsBuffer b → any_stamp (b.history ++ b.waiting) op ≡ false → w ≡ insert_by older op b.waiting → IsBuffer (record b { waiting = w })
 IsBuffer-deferred b op w k f e = record {
-  lawful = k.lawful;
-  proper = k.proper;
+  history = k.history;
   waiting_ascending = subst (Ascending older) (sym e) (ascends op b.waiting (unlike_waiting b.history b.waiting op f) k.waiting_ascending);
   least_replica = k.least_replica;
   greatest_replica = k.greatest_replica;
@@ -140,6 +136,4 @@ IsBuffer-deferred b op w k f e = record {
   most_entries = k.most_entries;
   bytes = k.bytes;
   entries = k.entries;
-  utf8 = k.utf8;
-  text_bytes = k.text_bytes;
 }

@@ -29,7 +29,7 @@ made_entries h r ps = let n : length (map (full_piece h) ps) ≡ length ps = len
 -- ---- an edit without fault
 
 pub good_of : (b : BufferState) (ps : List Piece) → IsBuffer b → edit_fault b ps ≡ None → (answer b.history [] (edit_of b ps) ≡ Good) × (text (b.history ++ edit_of b ps ∷ []) ≡ replace_ranges ps (text b.history))
-good_of b ps h e = edit_good b.limits b.history b.replica ps h.lawful h.proper (h.least_replica, h.greatest_replica) e
+good_of b ps h e = edit_good b.limits b.history b.replica ps h.history.lawful h.history.proper (h.least_replica, h.greatest_replica) e
 
 -- its operation passes no limit
 pub room_made : (b : BufferState) (ps : List Piece) → edit_fault b ps ≡ None → full_fault b.limits b.history (edit_of b ps) ≡ None

@@ -65,8 +65,7 @@ up_filter p (o ∷ w) u = elim (cases_Bool (p o)) [
 -- an operation leaves
 IsBuffer-without : (b : BufferState) (t : Lamport) → IsBuffer b → IsBuffer (record b { waiting = without t b.waiting })
 IsBuffer-without b t k = record {
-  lawful = k.lawful;
-  proper = k.proper;
+  history = k.history;
   waiting_ascending = up_filter _ b.waiting k.waiting_ascending;
   least_replica = k.least_replica;
   greatest_replica = k.greatest_replica;
@@ -74,8 +73,6 @@ IsBuffer-without b t k = record {
   most_entries = k.most_entries;
   bytes = k.bytes;
   entries = k.entries;
-  utf8 = k.utf8;
-  text_bytes = k.text_bytes;
 }
 
 -- the fields of a buffer from which an operation leaves

@@ -57,8 +57,7 @@ IsBuffer-opened r l h w f t u low high most_bytes most_entries room he we fe =
     let b : BufferState = record { history = one; waiting = []; refused = []; replica = r; limits = l } in
     let same : b ≡ record { history = h; waiting = w; refused = f; replica = r; limits = l } = λ i. record { history = sym he i; waiting = sym we i; refused = sym fe i; replica = r; limits = l } in
     let state : IsBuffer b = record {
-      lawful = k.lawful;
-      proper = k.proper;
+      history = k;
       waiting_ascending = tt;
       least_replica = low;
       greatest_replica = high;
@@ -66,8 +65,6 @@ IsBuffer-opened r l h w f t u low high most_bytes most_entries room he we fe =
       most_entries = most_entries;
       bytes = omega arith;
       entries = omega arith;
-      utf8 = k.utf8;
-      text_bytes = k.text_bytes;
     } in
     subst IsBuffer same state
 

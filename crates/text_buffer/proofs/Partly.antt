@@ -69,7 +69,7 @@ pub up : (i : Inside) (b : BufferState) → IsBufferInside i → state_of i ≡ 
 up i b k v = subst (λ (x : BufferState). Ascending older x.waiting) v k.waiting_ascending
 
 pub lawful : (i : Inside) (b : BufferState) → IsBufferInside i → state_of i ≡ b → Lawful b.history
-lawful i b k v = subst (λ (x : BufferState). Lawful x.history) v k.lawful
+lawful i b k v = subst (λ (x : BufferState). Lawful x.history) v k.history.lawful
 
 length_is : (i : Inside) (b : BufferState) (s : ℕ) → s ≡ length i.document → state_of i ≡ b → s ≡ length b.history
 length_is i b s e v = e ∙ ap (λ (x : BufferState). length x.history) v

@@ -82,6 +82,6 @@ pub record Fits (b : BufferState) (op : Operation) : Type 0 where
 pub made_fits : (b : BufferState) (ts : List Lamport) (op : Operation) → IsBuffer b → undo_fault b ts ≡ None → op ≡ undo_of b ts → Fits b op
 made_fits b ts op k e m = subst (Fits b) (sym m) (record {
   proper = undo_proper b.limits b.history b.replica ts e;
-  good = undo_good b.limits b.history b.replica ts k.lawful k.proper (k.least_replica, k.greatest_replica) e;
+  good = undo_good b.limits b.history b.replica ts k.history.lawful k.history.proper (k.least_replica, k.greatest_replica) e;
   room = within_limits b (undo_of b ts) 0 (1 + length ts) (made_bytes b.history b.replica ts) (made_entries b.history b.replica ts) (meets_none b ts e).excess;
 })

@@ -1,7 +1,6 @@
 -- What contracts see of a buffer, the faults that edits and undos meet, what they make, and the answer to a taken operation.
 use Rattle.std.specs.Prelude.{◌≡◌, ℕ, ◌≤◌, ◌-◌, ◌^◌, Bool, true, false, List, [], ◌∷◌, ◌++◌, length, drop, nat_lt, Option, None, Some}
 use Rattle.std.specs.List.{AllByRecursion}
-use Rattle.std.specs.Str.{IsUtf8}
 use Rattle.op_model.specs.declared.operation.Piece.{Piece}
 use Rattle.op_model.specs.declared.operation.Operation.{Operation}
 use Rattle.op_model.specs.declared.limits.Limits.{Limits as LimitsType}
@@ -13,7 +12,6 @@ use Rattle.lamport_clock.specs.declared.stamp.Lamport.{Lamport}
 use Rattle.lamport_clock.specs.Versions.{within}
 use Rattle.op_model.specs.Sorted.{Ascending}
 use Rattle.op_model.specs.Choice.{when}
-use Rattle.op_model.specs.Domains.{IsProper}
 use Rattle.op_model.specs.Operations.{stamp_of, version_of, last_replica}
 use Rattle.op_model.specs.Histories.{base, version, bytes_held, entries_held, operation_at}
 use Rattle.op_model.specs.Answers.{Answer}
@@ -22,11 +20,11 @@ use Rattle.op_model.specs.Lawful.{Lawful}
 use Rattle.op_model.specs.Settled.{State}
 use Rattle.op_model.specs.Steps.{older, take_answer, take_step, settle_step, growth, Step, step, run}
 use Rattle.op_model.specs.Made.{local_edit as made_at, local_undo as made_undo_at, local_edit_fault, local_undo_fault}
-use Rattle.op_model.specs.Shown.{text}
 use Rattle.text_buffer.specs.declared.faults.NewFault.{NewFault}
 use Rattle.text_buffer.specs.declared.faults.NewFault.TheVariants.{Full}
 use Rattle.text_buffer.specs.declared.outcomes.Took.{Took}
 use Rattle.text_buffer.specs.declared.outcomes.Took.TheVariants as took
+use Rattle.text_buffer.specs.Document.{IsBufferHistory}
 
 -- the applied operations in the order of application, the base first; those that wait, the least stamp first; the stamps of those
 -- that were refused while settling, each with its fault; the author of its edits and undos; its limits
@@ -146,8 +144,7 @@ pub record IsPartly (b n : BufferState) : Type 0 where
 
 -- what is true of every buffer
 pub record IsBuffer (b : BufferState) : Type 0 where
-  pub lawful : Lawful b.history
-  pub proper : AllByRecursion IsProper b.history
+  pub history : IsBufferHistory b.history
   pub waiting_ascending : Ascending older b.waiting
   pub least_replica : 1 ≤ b.replica
   pub greatest_replica : b.replica ≤ last_replica
@@ -155,5 +152,3 @@ pub record IsBuffer (b : BufferState) : Type 0 where
   pub most_entries : b.limits.entries ≤ 2 ^ 40 - 1
   pub bytes : bytes_held b.history ≤ b.limits.bytes
   pub entries : entries_held b.history ≤ b.limits.entries
-  pub utf8 : IsUtf8 (text b.history)
-  pub text_bytes : length (text b.history) ≤ bytes_held b.history

@@ -6,5 +6,5 @@ use Rattle.text_buffer.proofs.buffer.agree.Goals as goal
 
 pub returns : goal.returns
 returns c = λ s. (same_sets_agree c.args.a.now.history c.args.b.now.history
-    (subst (λ (x : BufferState). Lawful x.history) c.a.view_is c.a.invariant.lawful)
-    (subst (λ (x : BufferState). Lawful x.history) c.b.view_is c.b.invariant.lawful) s).2
+    (subst (λ (x : BufferState). Lawful x.history) c.a.view_is c.a.invariant.history.lawful)
+    (subst (λ (x : BufferState). Lawful x.history) c.b.view_is c.b.invariant.history.lawful) s).2

@@ -14,4 +14,4 @@ pub returns-clause-bound : goal.returns-clause-bound
 returns-clause-bound c =
     let b : BufferState = c.self.inside.buffer in
     let k : IsBuffer b = c.known.ensures in
-    omega (arith, ap (λ (z : TextSummary). z.len) c.summary.ensures, bytes_are (text b.history), k.text_bytes, k.bytes, k.most_bytes)
+    omega (arith, ap (λ (z : TextSummary). z.len) c.summary.ensures, bytes_are (text b.history), k.history.text_bytes, k.bytes, k.most_bytes)

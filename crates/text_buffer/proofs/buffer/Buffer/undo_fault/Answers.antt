@@ -4,4 +4,4 @@ use Rattle.op_model.proofs.answers.Good.{lawful_ready}
 use Rattle.text_buffer.proofs.buffer.Buffer.undo_fault.Goals as goal
 
 pub listed_fault-requires-clause-distinct : goal.listed_fault-requires-clause-distinct
-listed_fault-requires-clause-distinct c = subst Distinct (sym c.operations.ensures) (lawful_ready c.self.inside.document c.self.invariant.lawful).0.distinct
+listed_fault-requires-clause-distinct c = subst Distinct (sym c.operations.ensures) (lawful_ready c.self.inside.document c.self.invariant.history.lawful).0.distinct
