@@ -12,7 +12,7 @@ use Rattle.session_lines.specs.declared.report.Report.{Report}
 use Rattle.session_lines.specs.declared.session.SessionLine.{SessionLine}
 use Rattle.session_lines.specs.declared.session.Session.{Session}
 use Rattle.session_replay.specs.Names.{Names}
-use Rattle.session_replay.specs.Work.{State, reports_at, events, step, all_events, after_all, at_end, first_buffer, opening}
+use Rattle.session_replay.specs.Work.{State, reports_at, events, step, all_events, after_all, at_end, opening}
 use Rattle.session_replay.specs.Queries.{plain_line, queries_from, queries_of, report_of}
 
 -- ---- texts of reports
@@ -113,25 +113,18 @@ three_parts es qs rs mid out new m o n =
     n ∙ ap (λ x. x ++ report_text rs) (o ∙ ap (λ x. x ++ report_text qs) m) ∙ append_assoc (report_text es) (report_text qs) (report_text rs)
     ∙ ap (λ x. report_text es ++ x) (sym (text-append qs rs)) ∙ sym (text-append es (qs ++ rs))
 
-module _ (s : Session) (bs : List BufferState) (ls : List SessionLine) (ops : List (Option Operation)) (ns : Names Anchor) (ms : Names Entries)
-    (b : bs ≡ map (first_buffer s.base) s.replicas) (l : ls ≡ s.lines) (z : ops ≡ []) (y : ns ≡ []) (x : ms ≡ []) where
-  abbrev first : State
-  first = record { buffers = bs; operations = ops; anchors = ns; marks = ms }
-
-  same_first : first ≡ opening s
-  same_first = same_state bs (map (first_buffer s.base) s.replicas) ops [] b z ∙ same_names (opening s) ns [] ms [] y x
-
+module _ (s : Session) (ls : List SessionLine) (first : State) (l : ls ≡ s.lines) (begins : first ≡ opening s) where
   all_answers : (old new : List Report) → old ≡ [] → new ≡ old ++ map plain_line (queries_from (length old + 1) ls first) → new ≡ map plain_line (queries_of s)
   all_answers old new o n =
       n ∙ ap (λ (rs : List Report). rs ++ map plain_line (queries_from (length rs + 1) ls first)) o
-      ∙ ap (λ l. map plain_line (queries_from 1 l first)) l ∙ ap (λ u. map plain_line (queries_from 1 s.lines u)) same_first
+      ∙ ap (λ l. map plain_line (queries_from 1 l first)) l ∙ ap (λ u. map plain_line (queries_from 1 s.lines u)) begins
 
-  pub whole_report : (none mid out new : List ℕ) (t : State) (old answers : List Report) → none ≡ [] → old ≡ []
+  pub whole_report : (none mid new : List ℕ) (t : State) (old answers : List Report) → none ≡ [] → old ≡ []
       → mid ≡ none ++ report_text (all_events ls first) → t ≡ after_all ls first → answers ≡ old ++ map plain_line (queries_from (length old + 1) ls first)
-      → out ≡ mid ++ report_text answers → new ≡ out ++ report_text (flat_map at_end t.buffers) → new ≡ report_text (report_of s)
+      → new ≡ (mid ++ report_text answers) ++ report_text (flat_map at_end t.buffers) → new ≡ report_text (report_of s)
   unfolding report_of
-  whole_report none mid out new t old answers z0 o e f a w n =
-      let events : mid ≡ report_text (all_events s.lines (opening s)) = e ∙ ap (λ x. x ++ report_text (all_events ls first)) z0 ∙ ap (λ l. report_text (all_events l first)) l ∙ ap (λ u. report_text (all_events s.lines u)) same_first in
-      let after : t ≡ after_all s.lines (opening s) = f ∙ ap (λ l. after_all l first) l ∙ ap (after_all s.lines) same_first in
-      three_parts (all_events s.lines (opening s)) (map plain_line (queries_of s)) (flat_map at_end (after_all s.lines (opening s)).buffers) mid out new events
-      (w ∙ ap (λ (rs : List Report). mid ++ report_text rs) (all_answers old answers o a)) (n ∙ ap (λ (u : State). out ++ report_text (flat_map at_end u.buffers)) after)
+  whole_report none mid new t old answers z0 o e f a n =
+      let events : mid ≡ report_text (all_events s.lines (opening s)) = e ∙ ap (λ x. x ++ report_text (all_events ls first)) z0 ∙ ap (λ l. report_text (all_events l first)) l ∙ ap (λ u. report_text (all_events s.lines u)) begins in
+      let after : t ≡ after_all s.lines (opening s) = f ∙ ap (λ l. after_all l first) l ∙ ap (after_all s.lines) begins in
+      three_parts (all_events s.lines (opening s)) (map plain_line (queries_of s)) (flat_map at_end (after_all s.lines (opening s)).buffers) mid (mid ++ report_text answers) new events
+      (ap (λ (rs : List Report). mid ++ report_text rs) (all_answers old answers o a)) (n ∙ ap (λ (u : State). (mid ++ report_text answers) ++ report_text (flat_map at_end u.buffers)) after)

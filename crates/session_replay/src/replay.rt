@@ -374,7 +374,11 @@ impl Progress {
     pub fn snapshots(&self, alloc: Global) -> Result<Vec<Snapshot>, OutOfMemory>
         ensures { IfOk result (λ v. v.items ≡ histories self.now.replicas) }
     {
-        snapshots_of(alloc, self.replicas.as_slice())
+        let mut snapshots = Vec::new(alloc);
+        for replica in self.replicas.as_slice() {
+            snapshots.push(replica.snapshot()?)?;
+        }
+        Ok(snapshots)
     }
 
     /// The text of the report, with these lines for the queries.
@@ -441,17 +445,6 @@ fn work_lines(
     Ok(())
 }
 
-/// What each replica is now.
-fn snapshots_of(alloc: Global, replicas: &[Replica]) -> Result<Vec<Snapshot>, OutOfMemory>
-    ensures { IfOk result (λ v. v.items ≡ histories replicas.now) }
-{
-    let mut snapshots = Vec::new(alloc);
-    for replica in replicas {
-        snapshots.push(replica.snapshot()?)?;
-    }
-    Ok(snapshots)
-}
-
 /// Writes the lines of all queries.
 fn write_answers(alloc: Global, answers: &[Report], out: &mut Vec<u8>) -> Result<(), OutOfMemory>
     ensures { OnOk result (out.new.items ≡ out.old.items ++ report_text answers.now) }
@@ -478,16 +471,8 @@ pub fn report(alloc: Global, session: Session) -> Result<Vec<u8>, OutOfMemory>
     requires { IsSession session_limit session }
     ensures { IfOk result (λ v. v.items ≡ report_text (report_of session)) }
 {
-    let mut progress = Progress {
-        replicas: Replicas::over(alloc, session.replicas.as_slice(), session.base.as_str())?,
-        operations: Vec::new(alloc),
-        anchors: BTreeMap::new(alloc),
-        marks: BTreeMap::new(alloc),
-        report: Vec::new(alloc),
-    };
+    let mut progress = Progress::new(alloc, session.replicas.as_slice(), session.base.as_str())?;
     let mut answers = Vec::new(alloc);
     work_lines(&mut progress, alloc, session.lines.into_vec(), &mut answers)?;
-    write_answers(alloc, answers.as_slice(), &mut progress.report)?;
-    write_ends(alloc, progress.replicas.as_slice(), &mut progress.report)?;
-    Ok(progress.report)
+    progress.finish(alloc, answers.as_slice())
 }
