@@ -19,8 +19,9 @@ use Rattle.op_model.specs.Walked.{facts_of}
 use Rattle.op_model.specs.Lawful.{Lawful, IsClosed}
 use Rattle.op_model.specs.Since.{Fate, fate, fates, is_shown_at as was_shown_in, runs as fate_runs, edits_of, since}
 use Rattle.op_model.proofs.histories.ClosedVersions.{shown_closed}
-use Rattle.op_model.proofs.order.PathOrder.{same_stamp_eq, same_stamp_refl}
+use Rattle.op_model.proofs.order.PathOrder.{same_stamp_refl}
 use Rattle.op_model.proofs.Elements.{any_member}
+use Rattle.op_model.proofs.shown.Counts.{given_none}
 use Rattle.undo_map.specs.declared.entry.UndoEntry.{UndoEntry}
 use Rattle.undo_map.specs.Undos.{undo_entries}
 use Rattle.fragments.specs.declared.fragment.Fragment.{Fragment}
@@ -84,13 +85,6 @@ all_told h [] = tt
 all_told h (c ∷ s) = ((c, refl, refl, refl), all_told h s)
 
 -- ---- what was counted at a version
-
-given_none : (cs : List UndoCount) (t : Lamport) → ((c : UndoCount) → Member c cs → c.edit ≡ t → ⊥) → greatest_given cs t ≡ 0
-given_none [] t f = refl
-given_none (c ∷ cs) t f = elim (cases_Bool (same_stamp c.edit t)) [
-  | inl e ↦ absurd (f c (inl refl) (same_stamp_eq c.edit t e))
-  | inr e ↦ rw e (given_none cs t (λ d m. f d (inr m)))
-]
 
 -- a version that sees all undos that count an edit counts it as all do
 count_seen : (h : History) (v : Entries) (t : Lamport) → ((op : Operation) → In h op → (c : UndoCount) → Member c (counts_of op) → c.edit ≡ t → sees v (stamp_of op) ≡ true) → count (seen_history h v) t ≡ count h t

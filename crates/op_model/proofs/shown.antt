@@ -1,3 +1,4 @@
+pub mod Counts
 pub mod Deleters
 pub mod Parts
 pub mod Bytes

@@ -15,7 +15,7 @@ use Rattle.op_model.specs.Sorted.{Member}
 use Rattle.op_model.specs.Operations.{stamp_of, counts_of, is_edit}
 use Rattle.op_model.specs.Histories.{History, newest_first}
 use Rattle.op_model.specs.Cells.{Cell, PathCell, cells, seq}
-use Rattle.op_model.specs.Shown.{greatest_given, count, is_undone, are_undone, deleters, shows, shows_where, visible_by}
+use Rattle.op_model.specs.Shown.{count, is_undone, are_undone, deleters, shows, shows_where, visible_by}
 use Rattle.op_model.specs.Answers.{answer}
 use Rattle.op_model.specs.Answers.Answer.{Good}
 use Rattle.op_model.specs.Lawful.{Lawful}
@@ -25,9 +25,10 @@ use Rattle.op_model.proofs.histories.Lawful.{in_append}
 use Rattle.op_model.proofs.shown.Deleters.{kept_all}
 use Rattle.op_model.proofs.shown.OnePass.{undone_newest, all_newest}
 use Rattle.op_model.proofs.MainLaws.{undo_is_told}
-use Rattle.op_model.proofs.order.PathOrder.{same_stamp_eq, same_stamp_refl}
+use Rattle.op_model.proofs.order.PathOrder.{same_stamp_refl}
 use Rattle.op_model.proofs.order.CellsOnce.{each_member}
 use Rattle.op_model.proofs.Elements.{any_member}
+use Rattle.op_model.proofs.shown.Counts.{count_more, given_none}
 use Rattle.undo_map.specs.declared.entry.UndoEntry.{UndoEntry}
 use Rattle.undo_map.specs.Undos.{undo_entries}
 use Rattle.fragments.specs.declared.fragment.Fragment.{Fragment}
@@ -61,21 +62,13 @@ by_history h fs l e = of_facts (λ t v d. v ≡ visible_by h t d) fs l e
 
 -- ---- counts with an undo more
 
-count_more : (h : History) (op : Operation) (t : Lamport) → count (h ++ op ∷ []) t ≡ max (count h t) (greatest_given (counts_of op) t)
-count_more [] op t = omega arith
-count_more (o ∷ h) op t = let ih = count_more h op t in omega arith
-
-given_none : (cs : List UndoCount) (t : Lamport) → ((c : UndoCount) → Member c cs → same_stamp c.edit t ≡ false) → greatest_given cs t ≡ 0
-given_none [] t f = refl
-given_none (c ∷ cs) t f = rw (f c (inl refl)) (given_none cs t (λ d m. f d (inr m)))
-
-undone_same : (h : History) (op : Operation) (t : Lamport) → ((c : UndoCount) → Member c (counts_of op) → same_stamp c.edit t ≡ false) → is_undone (h ++ op ∷ []) t ≡ is_undone h t
+undone_same : (h : History) (op : Operation) (t : Lamport) → ((c : UndoCount) → Member c (counts_of op) → c.edit ≡ t → ⊥) → is_undone (h ++ op ∷ []) t ≡ is_undone h t
 undone_same h op t f =
     let z = given_none (counts_of op) t f in
     let e : count (h ++ op ∷ []) t ≡ count h t = count_more h op t ∙ ap (max (count h t)) z ∙ omega arith in
     ap (λ (n : ℕ). eqb (n % 2) 1) e
 
-all_same : (h : History) (op : Operation) (d : List Lamport) → ((c : UndoCount) (t : Lamport) → Member c (counts_of op) → Member t d → same_stamp c.edit t ≡ false) → are_undone (h ++ op ∷ []) d ≡ are_undone h d
+all_same : (h : History) (op : Operation) (d : List Lamport) → ((c : UndoCount) (t : Lamport) → Member c (counts_of op) → Member t d → c.edit ≡ t → ⊥) → are_undone (h ++ op ∷ []) d ≡ are_undone h d
 all_same h op [] f = refl
 all_same h op (t ∷ d) f = rw (undone_same h op t (λ c m. f c t m (inl refl)), all_same h op d (λ c s m n. f c s m (inr n))) refl
 
@@ -93,12 +86,11 @@ module _ (h : History) (op : Operation) (w : List UndoEntry) (ts : List Lamport)
   as_late f d t (inr i) = let l = each_member (λ (x : Lamport). f.stamp.value < x.value) f.deletions t d i in le-leb f.stamp.value t.value (omega arith)
 
   -- a fragment that no edit of the list concerns is not counted
-  uncounted : (f : Fragment) → HasLaterDeletions f → list_any (concerns f) ts ≡ false → (c : UndoCount) (t : Lamport) → Member c (counts_of op) → Member t (f.stamp ∷ f.deletions) → same_stamp c.edit t ≡ false
-  uncounted f d n c t i j = elim (cases_Bool (same_stamp c.edit t)) [
-    | inl e ↦ (let k : concerns f c.edit ≡ true = and_from _ _ (subst (λ (x : Lamport). leb f.stamp.value x.value ≡ true) (sym (same_stamp_eq c.edit t e)) (as_late f d t j)) (any_member (same_stamp c.edit) (f.stamp ∷ f.deletions) t j e) in
-        let g : list_any (concerns f) ts ≡ true = any_member (concerns f) ts c.edit (all c i) k in cc)
-    | inr e ↦ e
-  ]
+  uncounted : (f : Fragment) → HasLaterDeletions f → list_any (concerns f) ts ≡ false → (c : UndoCount) (t : Lamport) → Member c (counts_of op) → Member t (f.stamp ∷ f.deletions) → c.edit ≡ t → ⊥
+  uncounted f d n c t i j e =
+      let same : same_stamp c.edit t ≡ true = subst (λ (x : Lamport). same_stamp c.edit x ≡ true) e (same_stamp_refl c.edit) in
+      let k : concerns f c.edit ≡ true = and_from _ _ (subst (λ (x : Lamport). leb f.stamp.value x.value ≡ true) (sym e) (as_late f d t j)) (any_member (same_stamp c.edit) (f.stamp ∷ f.deletions) t j same) in
+      let g : list_any (concerns f) ts ≡ true = any_member (concerns f) ts c.edit (all c i) k in cc
 
   run_anew : (f : Fragment) → HasLaterDeletions f → IsByHistory h f → run_of (m f) ≡ record { stamp = f.stamp; offset = f.offset; len = f.len; visible = visible_by next f.stamp f.deletions; deletions = f.deletions }
   run_anew f z e = elim (cases_Bool (list_any (concerns f) ts)) [

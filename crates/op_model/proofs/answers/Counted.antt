@@ -1,6 +1,6 @@
 -- What Good says of an operation's pieces and counts: the pieces are in order, and undos count edits that are there.
 use Rattle.op_model.proofs.Elements.{each_map}
-use Rattle.std.proofs.Common.{◌≡◌, ℕ, suc, ◌≤◌, ◌⊎◌, Bool, List, [], ◌∷◌, ◌++◌, length, append_assoc, refl, sym, subst, inl, inr, true, false, cond, not, ◌||◌, ◌&&◌, ltb, arith, Some, None}
+use Rattle.std.proofs.Common.{◌≡◌, ℕ, suc, ◌≤◌, ◌⊎◌, Bool, List, [], ◌∷◌, ◌++◌, length, append_assoc, refl, sym, ap, ◌∙◌, subst, inl, inr, true, false, cond, not, ◌||◌, ◌&&◌, ltb, arith, Some, None}
 use Rattle.std.proofs.lemmas.List.{append-nil}
 use Rattle.std.proofs.lemmas.Bool.{cases_Bool, ltb-false, not-false, or_right}
 use Rattle.lamport_clock.specs.declared.stamp.Lamport.{Lamport}
@@ -26,6 +26,8 @@ use Rattle.op_model.proofs.answers.Passed.{passed, shaped, ranged, find_none, ma
 use Rattle.op_model.proofs.answers.Good.{seen_length}
 use Rattle.op_model.proofs.order.PathOrder.{same_stamp_eq}
 use Rattle.op_model.proofs.order.SameSets.{newest_same}
+use Rattle.op_model.proofs.order.CellsOnce.{each_member}
+use Rattle.op_model.proofs.shown.Counts.{given_none}
 
 overlaps_none : (at i : ℕ) (p : Piece) (ps : List Piece) → overlap_from at i (p ∷ ps) ≡ None → (ltb p.start at ≡ false) × (overlap_from p.end (suc i) ps ≡ None)
 overlaps_none at i p ps e = go (ltb p.start at) refl e
@@ -100,21 +102,14 @@ not_there (o ∷ h) t n e = go (cases_Bool (same_stamp (stamp_of o) t)) (not_the
     go (inl s) f = n.0 (same_stamp_eq (stamp_of o) t s)
     go (inr s) f = f (less (is_edit o) (same_stamp (stamp_of o) t) (has_edit h t) e s)
 
-given_none : (h : History) (t : Lamport) (cs : List UndoCount) → AllByRecursion (λ (o : Operation). stamp_of o ≡ t → ⊥) h → AllByRecursion (λ (c : UndoCount). has_edit h c.edit ≡ true) cs → greatest_given cs t ≡ 0
-given_none h t [] n e = refl
-given_none h t (c ∷ cs) n e = go (cases_Bool (same_stamp c.edit t)) (given_none h t cs n e.1)
-  where
-    go : (same_stamp c.edit t ≡ true) ⊎ (same_stamp c.edit t ≡ false) → greatest_given cs t ≡ 0 → greatest_given (c ∷ cs) t ≡ 0
-    go (inl s) ih = absurd (not_there h t n (subst (λ (x : Lamport). has_edit h x ≡ true) (same_stamp_eq c.edit t s) e.0))
-    go (inr s) ih = rw s ih
-
 count_none : (l : History) (t : Lamport) → ((o : Operation) → In l o → greatest_given (counts_of o) t ≡ 0) → count l t ≡ 0
 count_none [] t f = refl
 count_none (o ∷ l) t f = let a = f o (inl refl) in let b = count_none l t (λ p i. f p (inr i)) in rw (a, b) refl
 
 -- a stamp that is new is counted by no undo
 pub uncounted_new : (h : History) (t : Lamport) → Counted h → AllByRecursion (λ (o : Operation). stamp_of o ≡ t → ⊥) h → count (newest_first h) t ≡ 0
-uncounted_new h t c n = count_none (newest_first h) t (λ o i. given_none h t (counts_of o) n (c o ((newest_same h o).0 i)))
+uncounted_new h t c n = count_none (newest_first h) t (λ o i. given_none (counts_of o) t
+    (λ d m e. not_there h t n (ap (has_edit h) (sym e) ∙ each_member (λ (x : UndoCount). has_edit h x.edit ≡ true) (counts_of o) d (c o ((newest_same h o).0 i)) m)))
 
 counted_from : (h : History) (ops : List Operation) → Counted h → LawfulFrom h ops → Counted (h ++ ops)
 counted_from h [] c l = subst Counted (sym (append-nil h)) c
