@@ -6,6 +6,7 @@ use Rattle.std.proofs.lemmas.List.{map-append}
 use Rattle.std.proofs.lemmas.Option.{none-some}
 use Rattle.lamport_clock.specs.declared.stamp.Lamport.{Lamport}
 use Rattle.lamport_clock.specs.Stamps.{same_stamp}
+use Rattle.lamport_clock.proofs.Later.{same_stamp_eq, same_stamp_refl}
 use Rattle.op_model.specs.Sorted.{Member}
 use Rattle.op_model.specs.Histories.{History}
 use Rattle.op_model.specs.Cells.{Cell, seq, cells, cell_at}
@@ -14,7 +15,6 @@ use Rattle.op_model.specs.Anchors.{shown_count}
 use Rattle.op_model.specs.Facts.{Fact, alike}
 use Rattle.op_model.specs.Walked.{facts_of}
 use Rattle.op_model.specs.Lawful.{Lawful}
-use Rattle.op_model.proofs.order.PathOrder.{same_stamp_eq, same_stamp_refl}
 use Rattle.op_model.proofs.MainLaws.{each_cell_once}
 use Rattle.undo_map.specs.declared.entry.UndoEntry.{UndoEntry}
 use Rattle.op_model.proofs.shown.FactCells.{cells_in, told_cells}

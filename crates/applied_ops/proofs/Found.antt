@@ -3,11 +3,11 @@ use Rattle.std.proofs.Common.{◌≡◌, Bool, true, false, cond, ◌&&◌, ◌|
 use Rattle.std.proofs.lemmas.Bool.{cases_Bool, and_parts}
 use Rattle.lamport_clock.specs.declared.stamp.Lamport.{Lamport}
 use Rattle.lamport_clock.specs.Stamps.{same_stamp}
+use Rattle.lamport_clock.proofs.Later.{same_stamp_eq}
 use Rattle.std.proofs.Math.Bool.{and-true}
 use Rattle.op_model.specs.Operations.{stamp_of, is_edit}
 use Rattle.op_model.specs.Histories.{History, Distinct, operation_at, has_edit}
 use Rattle.op_model.proofs.answers.Passed.{any_some}
-use Rattle.op_model.proofs.order.PathOrder.{same_stamp_eq}
 use Rattle.applied_ops.specs.Placed.{is_edit_found}
 use Rattle.op_model.proofs.Elements.{no_more, neither}
 

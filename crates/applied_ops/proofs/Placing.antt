@@ -17,10 +17,10 @@ use Rattle.lamport_clock.specs.declared.stamp.Lamport.{Lamport}
 use Rattle.sum_tree.proofs.Keys.{inserted_short, option_or_none}
 use Rattle.lamport_clock.specs.Stamps.{same_stamp, stamp_cmp, stamp_order}
 use Rattle.lamport_clock.proofs.Order.{is_eq-same, stamp_cmp-refl}
+use Rattle.lamport_clock.proofs.Later.{same_stamp_eq, same_stamp_refl}
 use Rattle.op_model.specs.declared.operation.Operation.{Operation}
 use Rattle.op_model.specs.Operations.{stamp_of}
 use Rattle.op_model.specs.Histories.{History, operation_at}
-use Rattle.op_model.proofs.order.PathOrder.{same_stamp_eq, same_stamp_refl}
 use Rattle.applied_ops.specs.declared.stamp_entry.StampEntry.{StampEntry}
 use Rattle.applied_ops.specs.Placed.{stamp_at, entry_at, AreEntriesOf}
 

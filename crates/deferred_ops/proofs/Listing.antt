@@ -15,12 +15,12 @@ use Rattle.lamport_clock.specs.Stamps.{later, same_stamp, stamp_cmp}
 use Rattle.lamport_clock.specs.Versions.{Entries, IsVersion, entry, first_unseen, within}
 use Rattle.lamport_clock.proofs.Order.{is_eq-same, same_sym}
 use Rattle.lamport_clock.proofs.Raises.{by_order}
+use Rattle.lamport_clock.proofs.Later.{later_differs, same_stamp_eq, same_stamp_refl}
 use Rattle.op_model.specs.declared.operation.Operation.{Operation}
 use Rattle.op_model.specs.Sorted.{Ascending, Member, insert_by}
 use Rattle.op_model.specs.Operations.{stamp_of, version_of}
 use Rattle.op_model.specs.Histories.{operation_at}
 use Rattle.op_model.specs.Steps.{older}
-use Rattle.op_model.proofs.order.PathOrder.{later_differs, same_stamp_eq, same_stamp_refl}
 use Rattle.deferred_ops.specs.Deferred.{AreListed, Cause, Causes, IsListed, NoneSeen, cause_order, has_cause, is_past, least_ready, misses_nothing, without}
 
 -- ---- numbers that come first in an order
@@ -140,6 +140,7 @@ removed_listed s t (o ∷ w) listed = go (not (same_stamp (stamp_of o) t)) (remo
     go false rest = rest
 
 -- ---- a cause that is listed stays one where another is
+
 pub stays_true : (b h : Bool) → h ≡ true → cond b true h ≡ true
 stays_true true h e = refl
 stays_true false h e = e

@@ -6,6 +6,7 @@ use Rattle.lamport_clock.specs.declared.stamp.Lamport.{Lamport}
 use Rattle.lamport_clock.specs.Stamps.{same_stamp}
 use Rattle.lamport_clock.specs.Versions.{Entries, join_versions, sees}
 use Rattle.lamport_clock.proofs.Sees.{sees_joined, sees_within}
+use Rattle.lamport_clock.proofs.Later.{same_stamp_refl}
 use Rattle.op_model.specs.declared.anchor.TextEdit.{TextEdit}
 use Rattle.op_model.specs.declared.operation.Operation.{Operation}
 use Rattle.op_model.specs.declared.operation.UndoCount.{UndoCount}
@@ -19,7 +20,6 @@ use Rattle.op_model.specs.Walked.{facts_of}
 use Rattle.op_model.specs.Lawful.{Lawful, IsClosed}
 use Rattle.op_model.specs.Since.{Fate, fate, fates, is_shown_at as was_shown_in, runs as fate_runs, edits_of, since}
 use Rattle.op_model.proofs.histories.ClosedVersions.{shown_closed}
-use Rattle.op_model.proofs.order.PathOrder.{same_stamp_refl}
 use Rattle.op_model.proofs.Elements.{any_member}
 use Rattle.op_model.proofs.shown.Counts.{given_none}
 use Rattle.undo_map.specs.declared.entry.UndoEntry.{UndoEntry}

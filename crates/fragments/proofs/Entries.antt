@@ -9,8 +9,8 @@ use Rattle.sum_tree.proofs.Keys.{ascending_inserted, inserted_short}
 use Rattle.lamport_clock.specs.declared.stamp.Lamport.{Lamport}
 use Rattle.lamport_clock.proofs.Order.{is_eq-same}
 use Rattle.lamport_clock.specs.Stamps.{stamp_cmp}
+use Rattle.lamport_clock.proofs.Later.{same_stamp_eq}
 use Rattle.op_model.specs.Sorted.{Member}
-use Rattle.op_model.proofs.order.PathOrder.{same_stamp_eq}
 use Rattle.op_model.proofs.Elements.{member_left, member_right, member_either, filter_has, filter_of}
 use Rattle.fragments.specs.declared.index_entry.IndexKey.{IndexKey}
 use Rattle.fragments.specs.declared.index_entry.IndexEntry.{IndexEntry}

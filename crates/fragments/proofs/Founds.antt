@@ -5,6 +5,7 @@ use Rattle.std.proofs.lemmas.Bool.{cases_Bool, cases_lt, and_parts, and_from, le
 use Rattle.std.proofs.lemmas.List.{append-nil, map-append}
 use Rattle.lamport_clock.specs.declared.stamp.Lamport.{Lamport}
 use Rattle.lamport_clock.specs.Stamps.{same_stamp}
+use Rattle.lamport_clock.proofs.Later.{same_stamp_eq, same_stamp_refl}
 use Rattle.op_model.specs.declared.operation.Operation.{Operation}
 use Rattle.op_model.specs.declared.operation.UndoCount.{UndoCount}
 use Rattle.op_model.specs.Operations.{counts_of}
@@ -15,7 +16,6 @@ use Rattle.op_model.specs.Facts.{Fact, alike}
 use Rattle.op_model.specs.Walked.{facts_of}
 use Rattle.op_model.specs.Lawful.{Lawful}
 use Rattle.op_model.proofs.order.CellsOnce.{each_member, member_map}
-use Rattle.op_model.proofs.order.PathOrder.{same_stamp_eq, same_stamp_refl}
 use Rattle.op_model.proofs.MainLaws.{each_cell_once}
 use Rattle.op_model.proofs.shown.FactCells.{cells_in, told_cells}
 use Rattle.op_model.proofs.texts.WholeTexts.{base_told}

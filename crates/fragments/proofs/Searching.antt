@@ -12,11 +12,10 @@ use Rattle.tree_cursor.specs.declared.ready.Greatest.{Greatest}
 use Rattle.tree_cursor.specs.declared.traits.Bias.TheVariants.{Left}
 use Rattle.lamport_clock.specs.declared.stamp.Lamport.{Lamport}
 use Rattle.lamport_clock.specs.Stamps.{same_stamp, stamp_cmp, stamp_order}
-use Rattle.lamport_clock.proofs.Order.{is_eq-same}
+use Rattle.lamport_clock.proofs.Order.{is_eq-same, same_Equal, same_both_Equal, less_apart}
 use Rattle.fragments.specs.declared.index_entry.IndexKey.{IndexKey}
 use Rattle.fragments.specs.declared.index_entry.IndexEntry.{IndexEntry}
 use Rattle.fragments.specs.Index.{key_of, key_cmp, key_order, IsAscending, first_from, covers, nearest, entry_for, id_for}
-use Rattle.undo_map.proofs.Early.{is_equal}
 use Rattle.undo_map.proofs.Seeking.{key_less_next}
 use Rattle.locators.proofs.Between.{nat_cmp-below, nat_cmp-Less}
 
@@ -49,15 +48,12 @@ sought k p (e ∷ w) h = elim (cases_Bool (less (key_of e) k)) [
 
 -- ---- the entry of an edit
 
-same_is : (s t : Lamport) → same_stamp s t ≡ true → stamp_cmp s t ≡ Equal
-same_is s t h = is_equal _ (is_eq-same s t ∙ h)
-
 abbrev at : Lamport → ℕ → IndexKey
 at t o = record { stamp = t; offset = record { 0 = o } }
 
 -- of one edit, keys are compared by their offsets, the greatest first
 same_edit : (a b : IndexKey) → same_stamp a.stamp b.stamp ≡ true → key_cmp a b ≡ nat_cmp b.offset.0 a.offset.0
-same_edit a b s = ap (λ (c : Ordering). ordering_then c (nat_cmp b.offset.0 a.offset.0)) (same_is a.stamp b.stamp s)
+same_edit a b s = ap (λ (c : Ordering). ordering_then c (nat_cmp b.offset.0 a.offset.0)) (same_Equal a.stamp b.stamp s)
 
 -- an entry whose key is less than the cell's does not cover the cell
 past_covers : (t : Lamport) (o : ℕ) (e : IndexEntry) → less (key_of e) (at t o) ≡ true → covers t o e ≡ false
@@ -101,16 +97,13 @@ nearer x y (Some z) l h = elim (cases_Bool (nat_lt y.offset z.offset)) [ inl e �
 not_below : (a b : ℕ) → b < a → nat_lt a b ≡ false
 not_below a b l = le-ltb a b (omega arith)
 
-same_with : (s t u : Lamport) → same_stamp s t ≡ true → same_stamp u t ≡ true → stamp_cmp s u ≡ Equal
-same_with s t u h k = stamp_order.congr s t u (same_is s t h) ∙ stamp_order.antisymm t u ∙ ap ordering_reverse (same_is u t k)
-
 -- of the entries of an edit behind one of its entries, none has a greater offset
 none_nearer : (t : Lamport) (o : ℕ) (x : IndexEntry) (w : List IndexEntry) → same_stamp x.stamp t ≡ true → Behind x w → NoneNearer x (entry_for t o w)
 none_nearer t o x [] s b = tt
 none_nearer t o x (y ∷ w) s b = elim (cases_Bool (covers t o y)) [
   | inr c ↦ rw c (none_nearer t o x w s (behind_rest x y w b))
   | inl c ↦ (let k = and_parts (same_stamp y.stamp t) (leb y.offset o) c in
-      let e : key_cmp (key_of x) (key_of y) ≡ nat_cmp y.offset x.offset = ap (λ (z : Ordering). ordering_then z (nat_cmp y.offset x.offset)) (same_with x.stamp t y.stamp s k.0) in
+      let e : key_cmp (key_of x) (key_of y) ≡ nat_cmp y.offset x.offset = ap (λ (z : Ordering). ordering_then z (nat_cmp y.offset x.offset)) (same_both_Equal x.stamp t y.stamp s k.0) in
       let l = not_below x.offset y.offset (nat_cmp-Less y.offset x.offset (sym e ∙ b 0 y (omega arith))) in
       rw c (nearer x y (entry_for t o w) l (none_nearer t o x w s (behind_rest x y w b))))
 ]
@@ -126,9 +119,6 @@ later_of Less b h e = cc
 later_of Equal b h e = cc
 later_of Greater b h e = refl
 
-apart : (t u : Lamport) → stamp_cmp t u ≡ Less → same_stamp u t ≡ false
-apart t u h = sym (is_eq-same u t) ∙ ap is_eq (stamp_order.antisymm u t ∙ ap ordering_reverse h)
-
 none_behind : (t : Lamport) (o : ℕ) (x : IndexEntry) (w : List IndexEntry) → stamp_cmp t x.stamp ≡ Less → Behind x w → entry_for t o w ≡ None
 none_behind t o x [] s b = refl
 none_behind t o x (y ∷ w) s b =
@@ -136,7 +126,7 @@ none_behind t o x (y ∷ w) s b =
       | inl l ↦ stamp_order.trans t x.stamp y.stamp s l
       | inr e ↦ sym (alike_right stamp_order x.stamp y.stamp t e) ∙ s
     ] in
-    rw (and_left (same_stamp y.stamp t) (leb y.offset o) (apart t y.stamp after)) (none_behind t o x w s (behind_rest x y w b))
+    rw (and_left (same_stamp y.stamp t) (leb y.offset o) (less_apart t y.stamp after)) (none_behind t o x w s (behind_rest x y w b))
 
 -- an entry, where it is of the edit
 abbrev pub of_edit : Lamport → Option IndexEntry → Option IndexEntry

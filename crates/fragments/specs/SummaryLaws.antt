@@ -15,7 +15,7 @@ use Rattle.fragments.specs.declared.fragment.Fragment.{Fragment}
 use Rattle.fragments.specs.declared.fragment.FragmentSummary.{FragmentSummary}
 use Rattle.lamport_clock.proofs.Associative.{joined_assoc, joined_left, joined_kept, raise_kept}
 use Rattle.lamport_clock.proofs.Sees.{raise_sees, sees_raise}
-use Rattle.op_model.proofs.order.PathOrder.{same_stamp_eq}
+use Rattle.lamport_clock.proofs.Later.{same_stamp_eq}
 use Rattle.fragments.specs.SpanLaws.{spans_assoc, spans_left, spans_kept, spans_none}
 use Rattle.fragments.specs.Summaries.{no_fragments, summaries, IsSummary, SummaryFits, IsOne, id_less, with_stamps, summary_of}
 

@@ -1,5 +1,6 @@
 -- The join of versions is associative and has the empty version as its unit, and it keeps entries in order.
-use Rattle.std.proofs.Common.{◌≡◌, ℕ, suc, ◌<◌, ◌≤◌, ◌≢◌, [], ◌∷◌, refl, sym, ap, ◌∙◌, arith, subst, eq-eqb, ne_eqb}
+use Rattle.std.proofs.Common.{◌≡◌, ℕ, suc, ◌<◌, ◌≤◌, ◌≢◌, [], ◌∷◌, refl, sym, ap, ◌∙◌, arith, subst, eq-eqb, ne_eqb, ◌+◌, ◌++◌, take, drop}
+use Rattle.std.proofs.lemmas.List.{take-append-drop}
 use Rattle.lamport_clock.specs.declared.stamp.Lamport.{Lamport}
 use Rattle.lamport_clock.specs.Versions.{Entries, IsVersionFrom, AreEntriesFrom, entry, put_entry, raise, join_versions}
 use Rattle.lamport_clock.proofs.Raises.{by_order, by_bound, put_past, put_at, put_before, raise_seen, raise_new, raise-raise, entry-put_at}
@@ -67,14 +68,14 @@ pub joined_kept : (u v : Entries) → AreEntriesFrom 0 u → AreEntriesFrom 0 (j
 joined_kept u [] h = h
 joined_kept u (e ∷ v) h = let s : Lamport = record { value = e.1; replica = e.0 } in joined_kept (raise u s) v (raise_kept u s h)
 
-raise_past : (d : ℕ × ℕ) (u : Entries) (t : Lamport) → d.0 < t.replica → raise (d ∷ u) t ≡ d ∷ raise u t
+pub raise_past : (d : ℕ × ℕ) (u : Entries) (t : Lamport) → d.0 < t.replica → raise (d ∷ u) t ≡ d ∷ raise u t
 raise_past d u t l =
     let q = entry_off d u t.replica (λ z. absurd (omega arith)) in
     by_bound _ t.value (entry u t.replica)
     (λ h. raise_seen (d ∷ u) t (omega arith) ∙ ap (λ z. d ∷ z) (sym (raise_seen u t h)))
     (λ h. raise_new (d ∷ u) t (omega arith) ∙ put_past d u t.replica t.value l ∙ ap (λ z. d ∷ z) (sym (raise_new u t h)))
 
-joined_past : (n : ℕ) (d : ℕ × ℕ) (u v : Entries) → AreEntriesFrom n v → d.0 < n → join_versions (d ∷ u) v ≡ d ∷ join_versions u v
+pub joined_past : (n : ℕ) (d : ℕ × ℕ) (u v : Entries) → AreEntriesFrom n v → d.0 < n → join_versions (d ∷ u) v ≡ d ∷ join_versions u v
 joined_past n d u [] h l = refl
 joined_past n d u (e ∷ v) h l = let s : Lamport = record { value = e.1; replica = e.0 } in let g = h.0 in ap (λ z. join_versions z v) (raise_past d u s (omega arith)) ∙ joined_past (suc e.0) d (raise u s) v h.2 (omega arith)
 
@@ -95,3 +96,13 @@ in_order v h = joined_left 0 v (are_entries 0 v h)
 pub none_below : (n : ℕ) (v : Entries) (r : ℕ) → AreEntriesFrom n v → r < n → entry v r ≡ 0
 none_below n [] r i l = refl
 none_below n (e ∷ v) r i l = let a = i.0 in let t = ne_eqb e.0 r (λ q. omega arith) in rw t (none_below (suc e.0) v r i.2 (omega arith))
+
+-- ---- entries taken in two halves
+
+pub joined-append : (u xs ys : Entries) → join_versions u (xs ++ ys) ≡ join_versions (join_versions u xs) ys
+joined-append u [] ys = refl
+joined-append u (x ∷ xs) ys = joined-append (raise u (record { value = x.1; replica = x.0 })) xs ys
+
+pub taken_twice : (k : ℕ) (es : Entries) → join_versions (join_versions [] (take k es)) (join_versions [] (drop k es)) ≡ join_versions [] es
+taken_twice k es =
+    sym (joined_assoc (join_versions [] (take k es)) [] (drop k es)) ∙ sym (joined-append [] (take k es) (drop k es)) ∙ ap (join_versions []) (take-append-drop k es)

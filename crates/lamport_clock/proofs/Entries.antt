@@ -1,11 +1,12 @@
 -- A version's entries where one is put among them.
-use Rattle.std.proofs.Common.{◌≡◌, ℕ, suc, ◌<◌, ◌≤◌, ◌≢◌, [], ◌∷◌, ◌++◌, length, get_or, take, List, refl, sym, ap, ◌∙◌, subst, arith, true, false, cond, eqb, nat_lt, set, append-nil, eq-eqb, ne_eqb}
+use Rattle.std.proofs.Common.{◌≡◌, ℕ, suc, ◌<◌, ◌≤◌, ◌≢◌, [], ◌∷◌, ◌++◌, length, get_or, take, List, refl, sym, ap, ◌∙◌, subst, arith, true, false, cond, eqb, nat_lt, set, append-nil, eq-eqb, ne_eqb, ◌⊎◌, inl, inr}
 use Rattle.std.proofs.Math.ListN.{length-set}
 use Rattle.std.proofs.lemmas.List.{take_all, drop_all}
-use Rattle.std.proofs.lemmas.Bool.{ltb-true, ltb-false}
+use Rattle.std.proofs.lemmas.Bool.{ltb-true, ltb-false, cases_Bool, leb-false}
 use Rattle.std.proofs.lemmas.Bool.Decides.{nat_tests}
 use Rattle.std.specs.List.{refill, insert}
-use Rattle.lamport_clock.specs.Versions.{Entries, put_entry, place_of, IsAt, IsVersion, IsVersionFrom}
+use Rattle.lamport_clock.specs.Versions.{Entries, put_entry, place_of, IsAt, IsVersion, IsVersionFrom, entry, sees, raise}
+use Rattle.lamport_clock.specs.declared.stamp.Lamport.{Lamport}
 
 -- the entry at the replica's place is the replica's: it gets the value
 pub put-set : (v : Entries) (r x : ℕ) (d : ℕ × ℕ) → place_of v r < length v → (get_or v (place_of v r) d).0 ≡ r → set v (place_of v r) (r, x) ≡ put_entry r x v
@@ -52,3 +53,11 @@ IsVersionFrom-put n (y ∷ v) r x a b c d h =
 
 pub IsVersion-put : (v : Entries) (r x : ℕ) → r < 65536 → 0 < x → x < 4294967296 → IsVersion v → IsVersion (put_entry r x v)
 IsVersion-put v r x b c d h = IsVersionFrom-put 0 v r x (omega arith) b c d h
+
+-- a version that takes a stamp is one
+pub raise_version : (v : Entries) (t : Lamport) → t.value < 4294967296 → t.replica < 65536 → IsVersion v → IsVersion (raise v t)
+raise_version v t a b i = go (cases_Bool (sees v t))
+  where
+    go : (sees v t ≡ true) ⊎ (sees v t ≡ false) → IsVersion (raise v t)
+    go (inl s) = rw s i
+    go (inr s) = let g : entry v t.replica < t.value = leb-false t.value (entry v t.replica) s in rw s (IsVersion-put v t.replica t.value b (omega arith) a i)

@@ -1,6 +1,6 @@
 -- What a join of two versions is.
-use Rattle.std.proofs.Common.{◌≡◌, ℕ, suc, ◌≤◌, ◌≢◌, max, [], ◌∷◌, refl, sym, ap, ◌∙◌, arith, true, false, cond, eqb, ltb, leb, ne_eqb, eq-eqb, inl, inr, is_none, subst}
-use Rattle.std.proofs.lemmas.Bool.{le-leb, lt-leb, le-ltb, lt-ltb, leb-true, and_parts, and_from, cases_eq}
+use Rattle.std.proofs.Common.{◌≡◌, ℕ, suc, ◌≤◌, ◌≢◌, max, [], ◌∷◌, refl, sym, ap, ◌∙◌, arith, true, false, cond, eqb, ltb, leb, ne_eqb, eq-eqb, inl, inr, is_none, subst, ◌⊎◌}
+use Rattle.std.proofs.lemmas.Bool.{le-leb, lt-leb, le-ltb, lt-ltb, leb-true, and_parts, and_from, cases_eq, cases_Bool, eqb-true, eqb-false}
 use Rattle.lamport_clock.specs.declared.stamp.Lamport.{Lamport}
 use Rattle.lamport_clock.specs.Versions.{Entries, IsVersionFrom, IsVersion, entry, within, put_entry, raise, first_unseen, join_versions}
 use Rattle.lamport_clock.proofs.Raises.{by_bound, raise_seen, raise_new, entry-put_at, entry-put_off}
@@ -119,3 +119,19 @@ joined_version m a b u v e p q x y = subst IsVersion (sym (e ∙ ap (λ z. join_
 
 pub joined_greater : (m a b u v s t : Entries) → m ≡ join_versions a b → a ≡ u → b ≡ v → u ≡ s → v ≡ t → IsVersion v → (r : ℕ) → entry m r ≡ max (entry s r) (entry t r)
 joined_greater m a b u v s t e p q f g y r = ap (λ z. entry z r) (e ∙ ap (λ z. join_versions z b) p ∙ ap (join_versions u) q) ∙ entry-joined 0 u v r y ∙ ap (λ z. max (entry z r) (entry v r)) f ∙ ap (λ z. max (entry s r) (entry z r)) g
+
+pub within_trans : (u v w : Entries) → within u v ≡ true → within v w ≡ true → within u w ≡ true
+within_trans [] v w a b = refl
+within_trans (e ∷ u) v w a b =
+    let k = and_parts (leb e.1 (entry v e.0)) (within u v) a in
+    let x = leb-true e.1 (entry v e.0) k.0 in
+    let y = entry_within v w e.0 b in
+    let z : leb e.1 (entry w e.0) ≡ true = le-leb e.1 (entry w e.0) (omega arith) in
+    rw z (within_trans u v w k.1 b)
+
+pub entry_raise : (v : Entries) (t : Lamport) (r : ℕ) → entry (raise v t) r ≡ cond (eqb t.replica r) (max (entry v r) t.value) (entry v r)
+entry_raise v t r = go (cases_Bool (eqb t.replica r))
+  where
+    go : (eqb t.replica r ≡ true) ⊎ (eqb t.replica r ≡ false) → entry (raise v t) r ≡ cond (eqb t.replica r) (max (entry v r) t.value) (entry v r)
+    go (inl e) = rw e (subst (λ (q : ℕ). entry (raise v t) q ≡ max (entry v q) t.value) (eqb-true t.replica r e) (entry-raise_at v t))
+    go (inr e) = rw e (entry-raise_off v t r (λ q. eqb-false t.replica r e (sym q)))

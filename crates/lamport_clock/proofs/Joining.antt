@@ -4,7 +4,7 @@ use Rattle.std.proofs.lemmas.List.{drop_more, take_more_set, drop-set-lt}
 use Rattle.std.proofs.lemmas.Bool.{lt-ltb, le-ltb, lt-leb, le-leb, ltb-true}
 use Rattle.lamport_clock.specs.Versions.{Entries, IsVersionFrom, entry, put_entry, raise, place_of, front, behind, first_unseen, join_versions}
 use Rattle.lamport_clock.proofs.Raises.{by_order, by_bound}
-use Rattle.lamport_clock.proofs.Associative.{none_below, are_entries}
+use Rattle.lamport_clock.proofs.Associative.{none_below, are_entries, raise_past, joined_past}
 
 pub entry_below : (n : ℕ) (v : Entries) (r : ℕ) → IsVersionFrom n v → r < n → entry v r ≡ 0
 entry_below n v r h l = none_below n v r (are_entries n v h) l
@@ -44,17 +44,6 @@ unseen_later u (e ∷ v) r n l h =
 
 -- ---- what both have
 
-raise_past : (d : ℕ × ℕ) (u : Entries) (e : ℕ × ℕ) → d.0 < e.0 → raise (d ∷ u) (record { value = e.1; replica = e.0 }) ≡ d ∷ raise u (record { value = e.1; replica = e.0 })
-raise_past d u e l =
-    let ne : eqb d.0 e.0 ≡ false = ne_eqb d.0 e.0 (λ q. absurd (omega arith)) in
-    rw (ne, lt-ltb d.0 e.0 l) (elim (leb e.1 (entry u e.0)) as (λ b. cond b (d ∷ u) (d ∷ put_entry e.0 e.1 u) ≡ d ∷ cond b u (put_entry e.0 e.1 u)) [ true ↦ refl | false ↦ refl ])
-
-pub joined_past : (d : ℕ × ℕ) (u v : Entries) (n : ℕ) → IsVersionFrom n v → d.0 < n → join_versions (d ∷ u) v ≡ d ∷ join_versions u v
-joined_past d u [] n h l = refl
-joined_past d u (e ∷ v) n h l =
-    let a = h.0 in
-    ap (λ w. join_versions w v) (raise_past d u e (omega arith)) ∙ joined_past d (raise u (record { value = e.1; replica = e.0 })) v (suc e.0) h.4 (omega arith)
-
 raise_here : (d : ℕ × ℕ) (u : Entries) (e : ℕ × ℕ) → d.0 ≡ e.0 → raise (d ∷ u) (record { value = e.1; replica = e.0 }) ≡ (e.0, max d.1 e.1) ∷ u
 raise_here d u e q =
     let t : eqb d.0 e.0 ≡ true = eq-eqb d.0 e.0 q in
@@ -74,15 +63,15 @@ raise_before n (d ∷ u) e h l p =
 -- what both have, up to the second's first entry and behind it
 pub joined_along : (n m : ℕ) (u v : Entries) (e : ℕ × ℕ) → IsVersionFrom n u → IsVersionFrom m (e ∷ v)
     → join_versions u (e ∷ v) ≡ take (place_of u e.0) u ++ (e.0, max (front (drop (place_of u e.0) u) e.0) e.1) ∷ join_versions (behind (drop (place_of u e.0) u) e.0) v
-joined_along n m [] v e hu hv = ap (λ w. join_versions w v) (raise_before (suc e.0) [] e tt (omega arith) hv.2) ∙ joined_past e [] v (suc e.0) hv.4 (omega arith) ∙ ap (λ x. (e.0, x) ∷ join_versions [] v) (omega arith)
+joined_along n m [] v e hu hv = ap (λ w. join_versions w v) (raise_before (suc e.0) [] e tt (omega arith) hv.2) ∙ joined_past (suc e.0) e [] v (are_entries (suc e.0) v hv.4) (omega arith) ∙ ap (λ x. (e.0, x) ∷ join_versions [] v) (omega arith)
 joined_along n m (d ∷ u) v e hu hv =
     let R : ℕ → Entries = λ k. take k (d ∷ u) ++ (e.0, max (front (drop k (d ∷ u)) e.0) e.1) ∷ join_versions (behind (drop k (d ∷ u)) e.0) v in
     let at : (b : Bool) → ltb d.0 e.0 ≡ b → R (cond b (suc (place_of u e.0)) 0) ≡ R (place_of (d ∷ u) e.0) = λ b t. ap (λ c. R (cond c (suc (place_of u e.0)) 0)) (sym t) in
     let here : (b : Bool) → eqb d.0 e.0 ≡ b → (e.0, max (cond b d.1 0) e.1) ∷ join_versions (cond b u (d ∷ u)) v ≡ R 0 = λ b t. ap (λ c. (e.0, max (cond c d.1 0) e.1) ∷ join_versions (cond c u (d ∷ u)) v) (sym t) in
     by_order _ d.0 e.0
-    (λ l. ap (λ w. join_versions w v) (raise_past d u e l) ∙ joined_past d (raise u (record { value = e.1; replica = e.0 })) v (suc e.0) hv.4 (omega arith) ∙ ap (λ w. d ∷ w) (joined_along (suc d.0) m u v e hu.4 hv) ∙ at true (lt-ltb d.0 e.0 l))
-    (λ q. ap (λ w. join_versions w v) (raise_here d u e q) ∙ joined_past (e.0, max d.1 e.1) u v (suc e.0) hv.4 (omega arith) ∙ here true (eq-eqb d.0 e.0 q) ∙ at false (le-ltb d.0 e.0 (omega arith)))
-    (λ g. ap (λ w. join_versions w v) (raise_before d.0 (d ∷ u) e (omega arith, hu.1, hu.2, hu.3, hu.4) g hv.2) ∙ joined_past e (d ∷ u) v (suc e.0) hv.4 (omega arith) ∙ ap (λ x. (e.0, x) ∷ join_versions (d ∷ u) v) (omega arith) ∙ here false (ne_eqb d.0 e.0 (λ q. absurd (omega arith))) ∙ at false (le-ltb d.0 e.0 (omega arith)))
+    (λ l. ap (λ w. join_versions w v) (raise_past d u (record { value = e.1; replica = e.0 }) l) ∙ joined_past (suc e.0) d (raise u (record { value = e.1; replica = e.0 })) v (are_entries (suc e.0) v hv.4) (omega arith) ∙ ap (λ w. d ∷ w) (joined_along (suc d.0) m u v e hu.4 hv) ∙ at true (lt-ltb d.0 e.0 l))
+    (λ q. ap (λ w. join_versions w v) (raise_here d u e q) ∙ joined_past (suc e.0) (e.0, max d.1 e.1) u v (are_entries (suc e.0) v hv.4) (omega arith) ∙ here true (eq-eqb d.0 e.0 q) ∙ at false (le-ltb d.0 e.0 (omega arith)))
+    (λ g. ap (λ w. join_versions w v) (raise_before d.0 (d ∷ u) e (omega arith, hu.1, hu.2, hu.3, hu.4) g hv.2) ∙ joined_past (suc e.0) e (d ∷ u) v (are_entries (suc e.0) v hv.4) (omega arith) ∙ ap (λ x. (e.0, x) ∷ join_versions (d ∷ u) v) (omega arith) ∙ here false (ne_eqb d.0 e.0 (λ q. absurd (omega arith))) ∙ at false (le-ltb d.0 e.0 (omega arith)))
 
 -- ---- one turn of a walk along the second's entries
 
@@ -140,7 +129,7 @@ joined_turn u v all before from i p x hu hv l hp hb hf hx =
 -- ---- two versions of the same replicas
 
 joined_here : (d : ℕ × ℕ) (u : Entries) (e : ℕ × ℕ) (v : Entries) (m : ℕ) → d.0 ≡ e.0 → IsVersionFrom m (e ∷ v) → join_versions (d ∷ u) (e ∷ v) ≡ (e.0, max d.1 e.1) ∷ join_versions u v
-joined_here d u e v m q h = ap (λ w. join_versions w v) (raise_here d u e q) ∙ joined_past (e.0, max d.1 e.1) u v (suc e.0) h.4 (omega arith)
+joined_here d u e v m q h = ap (λ w. join_versions w v) (raise_here d u e q) ∙ joined_past (suc e.0) (e.0, max d.1 e.1) u v (are_entries (suc e.0) v h.4) (omega arith)
 
 -- one entry raised where it lies, behind those that are
 pub joined_each : (u v : Entries) (i x : ℕ) → IsVersionFrom 0 v → i < length v → length u ≡ length v → (At u i).0 ≡ (At v i).0 → x ≡ max (At u i).1 (At v i).1

@@ -1,12 +1,14 @@
 -- What versions see that take stamps in, are joined, or lie within one another.
-use Rattle.std.proofs.Common.{◌≡◌, ℕ, suc, ◌<◌, ◌≤◌, true, leb, [], ◌∷◌, refl, ap, ◌∙◌, arith, subst, inl, inr, eq-eqb, ne_eqb}
-use Rattle.std.proofs.lemmas.Bool.{and_from, cases_eq, le-leb, leb-true}
+use Rattle.std.proofs.Common.{◌≡◌, ℕ, suc, ◌<◌, ◌≤◌, true, leb, [], ◌∷◌, refl, ap, ◌∙◌, arith, subst, inl, inr, eq-eqb, ne_eqb, false}
+use Rattle.std.proofs.lemmas.Bool.{and_from, cases_eq, le-leb, leb-true, cases_Bool}
 use Rattle.std.proofs.lemmas.Bool.Decides.{nat_tests}
 use Rattle.lamport_clock.specs.declared.stamp.Lamport.{Lamport}
 use Rattle.lamport_clock.specs.Versions.{Entries, AreEntriesFrom, entry, put_entry, raise, join_versions, sees, within}
 use Rattle.lamport_clock.proofs.Raises.{by_bound, by_order, raise_seen, raise_new, entry-put_at, entry-put_off}
 use Rattle.lamport_clock.proofs.Associative.{entry_raised, none_below}
 use Rattle.lamport_clock.proofs.Joined.{entry_within}
+use Rattle.lamport_clock.specs.Stamps.{later}
+use Rattle.lamport_clock.proofs.Later.{one_way}
 
 -- an entry never falls
 raise_up : (v : Entries) (t : Lamport) (r : ℕ) → entry v r ≤ entry (raise v t) r
@@ -83,3 +85,8 @@ within_by_seen n (e ∷ u) v h f = and_from (leb e.1 (entry v e.0)) (within u v)
       | inr n ↦ (let off : entry (e ∷ u) t.replica ≡ entry u t.replica = rw (ne_eqb e.0 t.replica n) refl in
           f t (ap (leb t.value) off ∙ s))
     ]
+
+-- what is passed is not seen, so a test 'unseen and later' passes the same
+pub passed_unseen : (v : Entries) (t u : Lamport) → ((w : Lamport) → sees v w ≡ true → later t w ≡ true) → later u t ≡ true → sees v u ≡ false
+passed_unseen v t u above l = elim (cases_Bool (sees v u))
+    [ inl s ↦ (let g = above u s in let h = one_way t u g in cc) | inr s ↦ s ]

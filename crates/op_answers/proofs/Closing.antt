@@ -7,17 +7,17 @@ use Rattle.std.proofs.lemmas.Bool.{cases_Bool, cases_lt, le-ltb, or_cases, eqb-t
 use Rattle.lamport_clock.specs.declared.stamp.Lamport.{Lamport}
 use Rattle.lamport_clock.specs.Stamps.{same_stamp}
 use Rattle.lamport_clock.specs.Versions.{Entries, IsVersion, entry, sees, within}
-use Rattle.lamport_clock.proofs.Joined.{entry_within}
+use Rattle.lamport_clock.proofs.Joined.{entry_within, within_trans}
+use Rattle.lamport_clock.proofs.Later.{same_stamp_eq, same_stamp_refl}
 use Rattle.op_model.specs.declared.operation.Operation.{Operation}
 use Rattle.op_model.specs.Operations.{stamp_of, version_of}
 use Rattle.op_model.specs.Histories.{History, In, operation_at, version}
 use Rattle.op_model.specs.Answers.{is_entry_closed, open_replica}
 use Rattle.op_model.specs.Lawful.{Lawful}
-use Rattle.op_model.proofs.order.PathOrder.{same_stamp_eq, same_stamp_refl}
 use Rattle.op_model.proofs.histories.Lawful.{each_of_in}
 use Rattle.op_model.proofs.answers.Passed.{none_find}
 use Rattle.op_model.proofs.histories.VersionLaws.{own_entries, sees_own}
-use Rattle.op_model.proofs.histories.Causes.{Opens, opens_of, of_opens, named_at, names_closed, within_trans, lawful_opens}
+use Rattle.op_model.proofs.histories.Causes.{Opens, opens_of, of_opens, named_at, names_closed, lawful_opens}
 use Rattle.op_model.proofs.histories.ClosedVersions.{fronts_seen}
 use Rattle.op_answers.specs.Verdicts.{tells, IsCause}
 

@@ -7,12 +7,12 @@ use Rattle.std.proofs.lemmas.List.Folds.{list_any-append}
 use Rattle.lamport_clock.specs.declared.stamp.Lamport.{Lamport}
 use Rattle.lamport_clock.specs.Stamps.{same_stamp}
 use Rattle.lamport_clock.specs.Versions.{Entries, within, sees}
+use Rattle.lamport_clock.proofs.Later.{same_stamp_eq}
 use Rattle.op_model.specs.declared.operation.Operation.{Operation}
 use Rattle.op_model.specs.Operations.{stamp_of, version_of, is_edit}
 use Rattle.op_model.specs.Histories.{History, Distinct, operation_at, has_edit, seen_history}
 use Rattle.op_model.specs.Answers.{any_equal, any_stamp, same_op}
 use Rattle.op_model.proofs.answers.Passed.{any_some}
-use Rattle.op_model.proofs.order.PathOrder.{same_stamp_eq}
 use Rattle.op_answers.specs.Verdicts.{equals, causes}
 use Rattle.op_model.proofs.answers.OwnVersion.{equal_stamps}
 use Rattle.op_model.proofs.Elements.{or_no, no_more}

@@ -1,7 +1,7 @@
 -- General facts that std lacks: what holds of each element of a list and of its parts, numbers one after another, what stands in
 -- a list, tests of lists, and facts of Booleans and of tests of numbers.
-use Rattle.std.proofs.Common.{refl, ◌≡◌, ◌∙◌, sym, ap, ◌⊎◌, inl, inr, ◌&&◌, ◌||◌, ℕ, zero, suc, ◌+◌, ◌<◌, ◌≤◌, eqb, arith, take, drop, Bool, true, false, List, [], ◌∷◌, ◌++◌, Some, cond}
-use Rattle.std.specs.Prelude.{not, slice_get}
+use Rattle.std.proofs.Common.{refl, ◌≡◌, ◌∙◌, sym, ap, ◌⊎◌, inl, inr, ◌&&◌, ◌||◌, ℕ, zero, suc, ◌+◌, ◌<◌, ◌≤◌, eqb, arith, take, drop, Bool, true, false, List, [], ◌∷◌, ◌++◌, Some, cond, ◌-◌}
+use Rattle.std.specs.Prelude.{not, slice_get, slice_range}
 use Rattle.std.specs.List.{All, AllByRecursion, AllPairs, AllZip, filter, list_any, range_with_len}
 use Rattle.std.proofs.Math.Bool.{or-true}
 use Rattle.std.proofs.lemmas.Bool.{cases_Bool}
@@ -69,7 +69,6 @@ range_more a zero = ap (λ (m : ℕ). m ∷ []) (omega arith)
 range_more a (suc n) = ap (λ (l : List ℕ). a ∷ l) (range_more (a + 1) n ∙ ap (λ (m : ℕ). range_with_len (a + 1) n ++ m ∷ []) (omega arith))
 
 -- ---- what stands in a list
-
 -- a member of one of two lists is one of both together, and the other way
 pub member_left : {A : Type 0} (x : A) (xs ys : List A) → Member x xs → Member x (xs ++ ys)
 member_left x [] ys m = absurd m
@@ -111,7 +110,6 @@ split_at x (y ∷ xs) (inl e) = ([], xs, ap (λ z. z ∷ xs) (sym e))
 split_at x (y ∷ xs) (inr m) = let k = split_at x xs m in (y ∷ k.0, k.1, ap (λ z. y ∷ z) k.2)
 
 -- ---- lists that are one
-
 -- lists that are one have one first element, and one rest
 pub same_first : {A : Type 0} {x y : A} {xs ys : List A} → x ∷ xs ≡ y ∷ ys → x ≡ y
 same_first e = cc
@@ -120,7 +118,6 @@ pub same_rest : {A : Type 0} {x y : A} {xs ys : List A} → x ∷ xs ≡ y ∷ y
 same_rest e = cc
 
 -- ---- Booleans
-
 pub or_no : (c b : Bool) → c ≡ false → (c || b) ≡ b
 or_no c b e = rw e refl
 
@@ -152,7 +149,6 @@ neither true c = refl
 neither false c = refl
 
 -- ---- tests of numbers
-
 pub eqb_less : (x y : ℕ) → x < y → eqb y x ≡ false
 eqb_less x y e = grind (arith, nat_tests)
 
@@ -160,7 +156,6 @@ pub less_than : (x y : ℕ) → x ≤ y → eqb x y ≡ false → x < y
 less_than x y a b = grind (arith, nat_tests)
 
 -- ---- tests of lists
-
 -- a test that is true of an element is true of some element
 pub any_member : {A : Type 0} (p : A → Bool) (xs : List A) (x : A) → Member x xs → p x ≡ true → list_any p xs ≡ true
 any_member p [] x m h = absurd m
@@ -181,3 +176,16 @@ none_up p q f xs h = elim (cases_Bool (list_any p xs)) [
   | inl e ↦ (let k = any_up p q f xs e in cc)
   | inr e ↦ e
 ]
+
+take_nothing : {A : Type 0} (n : ℕ) → (let e : List A = [] in e) ≡ take n []
+take_nothing zero = refl
+take_nothing (suc n) = refl
+
+-- the first b are the first a and those from a to b
+pub take_split : {A : Type 0} (s : List A) (a b : ℕ) → a ≤ b → take b s ≡ take a s ++ slice_range s a b
+take_split s zero b h = let e : b ≡ b - 0 = omega arith in ap (λ n. take n s) e
+take_split [] (suc a) zero h = absurd (omega arith)
+take_split [] (suc a) (suc b) h = take_nothing (suc b - suc a)
+take_split (x ∷ s) (suc a) zero h = absurd (omega arith)
+take_split (x ∷ s) (suc a) (suc b) h = let e : b - a ≡ suc b - suc a = omega arith in
+    ap (λ z. x ∷ z) (take_split s a b (omega arith)) ∙ ap (λ n. x ∷ (take a s ++ take n (drop a s))) e

@@ -5,13 +5,13 @@ use Rattle.std.specs.List.{AllByRecursion, list_any, list_all}
 use Rattle.lamport_clock.specs.declared.stamp.Lamport.{Lamport}
 use Rattle.lamport_clock.specs.Stamps.{same_stamp, later}
 use Rattle.lamport_clock.specs.Versions.{Entries, sees}
+use Rattle.lamport_clock.proofs.Later.{same_stamp_refl}
 use Rattle.op_model.specs.declared.operation.Piece.{Piece}
 use Rattle.op_model.specs.Operations.{text_total}
 use Rattle.op_model.specs.Shown.{texts}
 use Rattle.op_model.specs.Facts.{Fact, Marking, stamp_first, with_deletion}
 use Rattle.op_model.specs.Walked.{Run, run_facts, facts_of, Walked}
 use Rattle.op_model.specs.Walked as W
-use Rattle.op_model.proofs.order.PathOrder.{same_stamp_refl}
 use Rattle.op_model.proofs.shown.Walking.{run_add, facts_append}
 use Rattle.undo_map.specs.declared.entry.UndoEntry.{UndoEntry}
 use Rattle.undo_map.specs.Counts.{count_of, is_odd}

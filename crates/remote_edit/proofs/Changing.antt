@@ -5,6 +5,8 @@ use Rattle.std.specs.List.{AllByRecursion, filter}
 use Rattle.lamport_clock.specs.declared.stamp.Lamport.{Lamport}
 use Rattle.lamport_clock.specs.Stamps.{later}
 use Rattle.lamport_clock.specs.Versions.{sees}
+use Rattle.lamport_clock.proofs.Later.{later_irrefl}
+use Rattle.lamport_clock.proofs.Sees.{passed_unseen}
 use Rattle.op_model.specs.declared.operation.Piece.{Piece}
 use Rattle.op_model.specs.declared.operation.Operation.{Operation}
 use Rattle.op_model.specs.Operations.{stamp_of, version_of, pieces_of}
@@ -18,8 +20,6 @@ use Rattle.op_model.specs.Facts.{Fact, cell_facts, alike, Marking, lay_facts, ma
 use Rattle.op_model.specs.Walked.{Run, facts_of, kept_len, Ordered, walk}
 use Rattle.op_model.proofs.shown.Walking.{walk_lays}
 use Rattle.op_model.proofs.answers.Counted.{good_ordered}
-use Rattle.op_model.proofs.order.PathOrder.{later_irrefl}
-use Rattle.op_model.proofs.order.Groups.{passed_unseen}
 use Rattle.op_model.proofs.order.Restricted.{restrict}
 use Rattle.op_model.proofs.shown.OnePass.{passing_facts, count_runs, count_places, not_self}
 use Rattle.op_model.proofs.histories.OneMore.{Fits}

@@ -5,6 +5,8 @@ use Rattle.std.specs.List.{AllByRecursion, filter, list_any}
 use Rattle.lamport_clock.specs.declared.stamp.Lamport.{Lamport}
 use Rattle.lamport_clock.specs.Stamps.{same_stamp}
 use Rattle.lamport_clock.specs.Versions.{Entries, sees}
+use Rattle.lamport_clock.proofs.Later.{same_stamp_eq}
+use Rattle.lamport_clock.proofs.Sees.{passed_unseen}
 use Rattle.op_model.specs.declared.operation.Operation.{Operation}
 use Rattle.op_model.specs.Operations.{stamp_of, version_of, pieces_of, text_total}
 use Rattle.op_model.specs.Histories.{History, newest_first}
@@ -14,13 +16,11 @@ use Rattle.op_model.specs.Answers.{answer}
 use Rattle.op_model.specs.Answers.Answer.{Good}
 use Rattle.op_model.specs.Lawful.{Lawful}
 use Rattle.op_model.specs.Facts.{Fact, fact}
-use Rattle.op_model.specs.Walked.{Run, run_facts, facts_of}
+use Rattle.op_model.specs.Walked.{Run, facts_of}
 use Rattle.op_model.specs.Walked as W
-use Rattle.op_model.proofs.order.Groups.{passed_unseen}
 use Rattle.op_model.proofs.histories.OneMore.{Fits}
 use Rattle.op_model.proofs.answers.Good.{lawful_ready, checked_of, fits_of}
 use Rattle.op_model.proofs.order.Literal.{lawful_deleters}
-use Rattle.op_model.proofs.order.PathOrder.{same_stamp_eq}
 use Rattle.undo_map.specs.declared.entry.UndoEntry.{UndoEntry}
 use Rattle.undo_map.specs.Undos.{undo_entries}
 use Rattle.fragments.specs.declared.fragment.Fragment.{Fragment}

@@ -5,6 +5,7 @@ use Rattle.std.proofs.lemmas.Bool.{cases_Bool, and_parts, leb-true}
 use Rattle.lamport_clock.specs.declared.stamp.Lamport.{Lamport}
 use Rattle.lamport_clock.specs.Stamps.{same_stamp}
 use Rattle.lamport_clock.specs.Versions.{sees, entry}
+use Rattle.lamport_clock.proofs.Later.{same_stamp_eq}
 use Rattle.op_model.specs.declared.operation.Operation.{Operation}
 use Rattle.op_model.specs.declared.operation.Piece.{Piece}
 use Rattle.op_model.specs.Operations.{stamp_of, version_of, pieces_of}
@@ -13,7 +14,6 @@ use Rattle.op_model.specs.Cells.{Cell, same_cell, PathCell, both, everything, se
 use Rattle.op_model.specs.Shown.{in_pieces, in_ranges, deleters_where}
 use Rattle.op_model.specs.Lawful.{Lawful}
 use Rattle.op_model.specs.Facts.{Fact, fact}
-use Rattle.op_model.proofs.order.PathOrder.{same_stamp_eq}
 use Rattle.op_model.proofs.shown.Bytes.{passing}
 use Rattle.op_model.proofs.order.SameSets.{newest_same}
 use Rattle.op_model.proofs.shown.Deleters.{hits, deleters_kept, deleters_unkept}

@@ -6,6 +6,7 @@ use Rattle.std.proofs.lemmas.List.{append-nil, map-append, drop_all}
 use Rattle.lamport_clock.specs.declared.stamp.Lamport.{Lamport}
 use Rattle.lamport_clock.specs.Stamps.{later}
 use Rattle.lamport_clock.specs.Versions.{Entries, sees}
+use Rattle.lamport_clock.proofs.Sees.{passed_unseen}
 use Rattle.locators.specs.Locator.{between_digits}
 use Rattle.undo_map.specs.declared.entry.UndoEntry.{UndoEntry}
 use Rattle.undo_map.specs.Undos.{undo_entries}
@@ -20,7 +21,6 @@ use Rattle.op_model.specs.Facts.{Marking}
 use Rattle.op_model.specs.Walked.{Run, facts_of, Walked}
 use Rattle.op_model.specs.Walked as W
 use Rattle.op_model.proofs.MainLaws.{one_walk}
-use Rattle.op_model.proofs.order.Groups.{passed_unseen}
 use Rattle.op_model.proofs.histories.OneMore.{Fits}
 use Rattle.op_model.proofs.answers.Good.{lawful_ready, checked_of, fits_of}
 use Rattle.fragments.specs.declared.fragment.Fragment.{Fragment}

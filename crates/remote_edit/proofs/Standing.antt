@@ -6,6 +6,7 @@ use Rattle.std.proofs.lemmas.List.{length-map}
 use Rattle.lamport_clock.specs.declared.stamp.Lamport.{Lamport}
 use Rattle.lamport_clock.specs.Stamps.{same_stamp}
 use Rattle.lamport_clock.specs.Versions.{Entries, sees}
+use Rattle.lamport_clock.proofs.Later.{same_stamp_eq}
 use Rattle.locators.specs.Locator.{least_digits}
 use Rattle.op_model.specs.declared.operation.Operation.{Operation}
 use Rattle.op_model.specs.Operations.{stamp_of, version_of, pieces_of, text_total}
@@ -19,7 +20,6 @@ use Rattle.op_model.specs.Sorted.{Member}
 use Rattle.op_model.specs.Facts.{Fact, fact, alike}
 use Rattle.op_model.specs.Walked.{facts_of}
 use Rattle.op_model.proofs.order.CellsOnce.{all_cells}
-use Rattle.op_model.proofs.order.PathOrder.{same_stamp_eq}
 use Rattle.op_model.proofs.shown.FactCells.{cells_in, told_cells}
 use Rattle.op_model.proofs.shown.OnePass.{not_self}
 use Rattle.op_model.proofs.histories.Lawful.{each_of_in}

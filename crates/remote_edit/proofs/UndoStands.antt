@@ -6,6 +6,7 @@ use Rattle.lamport_clock.specs.declared.stamp.Lamport.{Lamport}
 use Rattle.lamport_clock.specs.Stamps.{same_stamp}
 use Rattle.lamport_clock.specs.Versions.{raise, sees}
 use Rattle.lamport_clock.proofs.Sees.{raise_sees, sees_raise}
+use Rattle.lamport_clock.proofs.Later.{same_stamp_refl}
 use Rattle.locators.specs.Locator.{least_digits}
 use Rattle.op_model.specs.declared.operation.Operation.{Operation}
 use Rattle.op_model.specs.declared.operation.UndoCount.{UndoCount}
@@ -25,7 +26,6 @@ use Rattle.op_model.proofs.histories.Lawful.{in_append}
 use Rattle.op_model.proofs.shown.Deleters.{kept_all}
 use Rattle.op_model.proofs.shown.OnePass.{undone_newest, all_newest}
 use Rattle.op_model.proofs.MainLaws.{undo_is_told}
-use Rattle.op_model.proofs.order.PathOrder.{same_stamp_refl}
 use Rattle.op_model.proofs.order.CellsOnce.{each_member}
 use Rattle.op_model.proofs.Elements.{any_member}
 use Rattle.op_model.proofs.shown.Counts.{count_more, given_none}

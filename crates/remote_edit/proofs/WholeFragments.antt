@@ -10,11 +10,12 @@ use Rattle.std.proofs.lemmas.List.{nil_from_length}
 use Rattle.lamport_clock.specs.declared.stamp.Lamport.{Lamport}
 use Rattle.lamport_clock.specs.Stamps.{later}
 use Rattle.lamport_clock.specs.Versions.{sees}
+use Rattle.lamport_clock.proofs.Later.{same_stamp_refl}
+use Rattle.lamport_clock.proofs.Sees.{passed_unseen}
 use Rattle.op_model.specs.declared.operation.Operation.{Operation}
 use Rattle.op_model.specs.declared.operation.Piece.{Piece}
 use Rattle.op_model.specs.Operations.{stamp_of, version_of, pieces_of}
 use Rattle.op_model.specs.Edits.{is_boundary}
-use Rattle.op_model.proofs.order.PathOrder.{same_stamp_refl}
 use Rattle.op_model.specs.Histories.{base, History, Distinct, newest_first, seen_history}
 use Rattle.op_model.specs.Cells.{Cell, PathCell, seq, seq_where, cells}
 use Rattle.op_model.specs.Shown.{texts, new_bytes, IsCell, full, full_where}
@@ -24,7 +25,6 @@ use Rattle.op_model.specs.Lawful.{Lawful}
 use Rattle.op_model.specs.Facts.{Fact, alike, Marking}
 use Rattle.op_model.specs.Walked.{Run, IsWhole}
 use Rattle.op_model.proofs.order.Restricted.{restrict}
-use Rattle.op_model.proofs.order.Groups.{passed_unseen}
 use Rattle.op_model.proofs.histories.OneMore.{Fits}
 use Rattle.op_model.proofs.shown.Bytes.{full_seen}
 use Rattle.op_model.proofs.answers.Passed.{passed, ranged}

@@ -1,23 +1,17 @@
 -- Ranges of a text that are replaced from the last to the first.
 use Rattle.std.proofs.Common.{◌≡◌, ℕ, zero, suc, ◌+◌, ◌-◌, ◌<◌, ◌≤◌, ◌^◌, List, [], ◌∷◌, ◌++◌, length, take, drop, get_or, sym, ◌∙◌, ap, subst, arith, None, append_assoc, ◌↔◌}
 use Rattle.std.proofs.lemmas.Bool.{false≢true}
-use Rattle.std.proofs.lemmas.List.{length-take-le, take-take, take-append-le, take-append-drop, drop_at, drop-take, drop_more}
+use Rattle.std.proofs.lemmas.List.{length-take-le, take-take, take-append-le, take-append-drop, drop_at, drop_more}
 use Rattle.std.proofs.lemmas.Str.{IsCharBoundary-start, IsCharBoundary-at_seam, IsUtf8-append, IsUtf8-between, IsUtf8-drop}
 use Rattle.std.specs.List.{slice_range}
 use Rattle.std.specs.Str.{IsCharBoundary, IsUtf8}
+use Rattle.op_model.proofs.Elements.{take_split}
 use Rattle.op_model.specs.declared.operation.Piece.{Piece}
 use Rattle.op_model.specs.Operations.{text_total}
 use Rattle.op_model.specs.Edits.{piece_fault, replace_ranges, replaced_from}
 use Rattle.op_model.specs.Domains.{AreUtf8}
 use Rattle.rope_edits.specs.Fit.{AreFit}
 use Rattle.rope_edits.proofs.Fit.{fits_of_none, length_replaced}
-
-pub take_split : (a b : ℕ) (xs : List ℕ) → a ≤ b → take b xs ≡ take a xs ++ slice_range xs a b
-take_split a b xs h =
-    let n : a + (b - a) ≡ b = omega arith in
-    sym (take-append-drop a (take b xs))
-    ∙ ap (λ z. z ++ drop a (take b xs)) (take-take a b xs h)
-    ∙ ap (λ z. take a xs ++ z) (ap (λ (k : ℕ). drop a (take k xs)) (sym n) ∙ drop-take a (b - a) xs)
 
 pub fit_at : (at : ℕ) (ps : List Piece) (text : List ℕ) → AreFit at ps text → IsCharBoundary text at
 fit_at at [] text h = h
@@ -51,7 +45,7 @@ front_stays at (p ∷ ps) text h =
     let more : List ℕ = p.text ++ replaced_from p.end ps text in
     let from : p.start - 0 ≡ p.start = omega arith in
     let all : take (p.start - 0) text ≡ take p.start text = ap (λ (k : ℕ). take k text) from in
-    ap (λ z. z ++ more) (all ∙ take_split at p.start text h.1) ∙ append_assoc (take at text) (slice_range text at p.start) more
+    ap (λ z. z ++ more) (all ∙ take_split text at p.start h.1) ∙ append_assoc (take at text) (slice_range text at p.start) more
 
 -- one range more, before the others
 pub one_more : (p : Piece) (ps : List Piece) (text : List ℕ) → AreFit 0 (p ∷ ps) text → replace_ranges (p ∷ ps) text ≡ (take p.start (replace_ranges ps text) ++ p.text) ++ drop p.end (replace_ranges ps text)
@@ -85,7 +79,7 @@ turn text p ps u utf8 h w room e =
     let order : p.start ≤ p.end = h.3 in
     let last : IsCharBoundary text p.end = fit_at p.end ps text h.4 in
     let seam : u ≡ take p.end text ++ rest = e ∙ front_stays p.end ps text h.4 in
-    let earlier : u ≡ take p.start text ++ (part ++ rest) = seam ∙ ap (λ z. z ++ rest) (take_split p.start p.end text order) ∙ append_assoc (take p.start text) part rest in
+    let earlier : u ≡ take p.start text ++ (part ++ rest) = seam ∙ ap (λ z. z ++ rest) (take_split text p.start p.end order) ∙ append_assoc (take p.start text) part rest in
     let v : IsUtf8 rest = utf8_rest p.end ps text utf8 h.4 w in
     let len : length (replace_ranges ps text) + 0 ≤ length text + text_total ps = length_replaced 0 ps text (fit_front p.end ps text utf8 h.4) in
     let same : length u ≡ length (replace_ranges ps text) = ap length e in

@@ -1,53 +1,20 @@
 -- Versions made of entries in any order: there are as many of them in the version exactly where no id is there twice.
 use Rattle.std.proofs.Math.Bool.{and-true}
 use Rattle.op_model.proofs.Elements.{and_swap}
-use Rattle.std.proofs.Common.{◌≡◌, ℕ, suc, ◌+◌, ◌<◌, ◌≤◌, ◌≢◌, List, [], ◌∷◌, ◌++◌, length, map, refl, sym, ap, ◌∙◌, subst, arith, Bool, true, false, cond, eqb, leb, ◌&&◌, ◌==◌, not, Option, None, Some, option_map, option_and_then, inl, inr, take, drop, zero}
+use Rattle.std.proofs.Common.{◌≡◌, ℕ, suc, ◌+◌, ◌<◌, ◌≤◌, ◌≢◌, List, [], ◌∷◌, ◌++◌, length, map, refl, sym, ap, ◌∙◌, subst, arith, Bool, true, false, cond, leb, ◌&&◌, ◌==◌, not, Option, None, Some, option_map, option_and_then, inl, inr, take, drop, zero}
 use Rattle.std.specs.Prelude.{⊤}
 use Rattle.std.specs.List.{list_all}
-use Rattle.std.proofs.lemmas.List.{take-append-drop}
-use Rattle.std.proofs.lemmas.Bool.{and_right, lt-ltb, le-ltb, leb-true, cases_eq, ne_eqb, eq-eqb}
+use Rattle.std.proofs.lemmas.Bool.{and_right, leb-true, cases_eq, ne_eqb, eq-eqb}
 use Rattle.lamport_clock.specs.Clocks.{last_value}
 use Rattle.lamport_clock.specs.declared.stamp.Lamport.{Lamport}
-use Rattle.lamport_clock.specs.Versions.{Entries, IsVersionFrom, IsVersion, entry, put_entry, raise, join_versions}
-use Rattle.lamport_clock.proofs.Raises.{by_order, by_bound, raise_seen, raise_new, entry-put_at, entry-put_off}
+use Rattle.lamport_clock.specs.Versions.{Entries, IsVersion, entry, put_entry, raise, join_versions}
+use Rattle.lamport_clock.proofs.Raises.{by_bound, raise_seen, raise_new, entry-put_at, entry-put_off}
 use Rattle.lamport_clock.proofs.Entries.{IsVersion-put}
-use Rattle.lamport_clock.proofs.Joining.{entry_below}
 use Rattle.serde_json.specs.Data.{Data}
 use Rattle.session_lines.specs.Json.{whole_number, members_of}
 use Rattle.session_lines.specs.Parts.{all_of, id_of_value, clock_value, is_among, are_distinct, entry_with, entry_from, entry_of_value, IsEntry, AreReadEntries}
-use Rattle.lamport_clock.proofs.Associative.{joined_assoc}
-
--- ---- how many entries a version has with one more
-
-length-put_new : (n : ℕ) (v : Entries) (r x : ℕ) → IsVersionFrom n v → entry v r ≡ 0 → length (put_entry r x v) ≡ suc (length v)
-length-put_new n [] r x h z = refl
-length-put_new n (e ∷ v) r x h z =
-    let positive = h.2 in
-    by_order _ e.0 r
-    (λ l. let ne : eqb e.0 r ≡ false = ne_eqb e.0 r (λ q. absurd (omega arith)) in
-    let rest : entry v r ≡ 0 = sym (ap (λ b. cond b e.1 (entry v r)) ne) ∙ z in
-    rw (lt-ltb e.0 r l) (ap suc (length-put_new (suc e.0) v r x h.4 rest)))
-    (λ q. let same : e.1 ≡ 0 = sym (ap (λ b. cond b e.1 (entry v r)) (eq-eqb e.0 r q)) ∙ z in absurd (omega arith))
-    (λ g. let ne : eqb e.0 r ≡ false = ne_eqb e.0 r (λ q. absurd (omega arith)) in
-    rw (le-ltb e.0 r (omega arith), ne) refl)
-
-length-put_old : (n : ℕ) (v : Entries) (r x : ℕ) → IsVersionFrom n v → 0 < entry v r → length (put_entry r x v) ≡ length v
-length-put_old n [] r x h z = absurd (omega arith)
-length-put_old n (e ∷ v) r x h z =
-    by_order _ e.0 r
-    (λ l. let ne : eqb e.0 r ≡ false = ne_eqb e.0 r (λ q. absurd (omega arith)) in
-    let rest : 0 < entry v r = subst (λ k. 0 < k) (ap (λ b. cond b e.1 (entry v r)) ne) z in
-    rw (lt-ltb e.0 r l) (ap suc (length-put_old (suc e.0) v r x h.4 rest)))
-    (λ q. rw (le-ltb e.0 r (omega arith), eq-eqb e.0 r q) refl)
-    (λ g. let none : entry (e ∷ v) r ≡ 0 = entry_below e.0 (e ∷ v) r (omega arith, h.1, h.2, h.3, h.4) g in absurd (omega arith))
-
-length-raise_new : (u : Entries) (e : ℕ × ℕ) → IsVersion u → 0 < e.1 → entry u e.0 ≡ 0 → length (raise u (record { value = e.1; replica = e.0 })) ≡ suc (length u)
-length-raise_new u e h p z = ap length (raise_new u (record { value = e.1; replica = e.0 }) (omega arith)) ∙ length-put_new 0 u e.0 e.1 h z
-
-length-raise_old : (u : Entries) (e : ℕ × ℕ) → IsVersion u → 0 < entry u e.0 → length (raise u (record { value = e.1; replica = e.0 })) ≡ length u
-length-raise_old u e h p = by_bound _ e.1 (entry u e.0)
-    (λ l. ap length (raise_seen u (record { value = e.1; replica = e.0 }) l))
-    (λ l. ap length (raise_new u (record { value = e.1; replica = e.0 }) l) ∙ length-put_old 0 u e.0 e.1 h p)
+use Rattle.lamport_clock.proofs.Associative.{taken_twice}
+use Rattle.lamport_clock.proofs.EntryLists.{length-raise_new, length-raise_old}
 
 IsVersion-raise : (u : Entries) (e : ℕ × ℕ) → IsVersion u → IsEntry e → IsVersion (raise u (record { value = e.1; replica = e.0 }))
 IsVersion-raise u e h v = by_bound _ e.1 (entry u e.0)
@@ -135,12 +102,6 @@ length_of_join es v =
     let none : length es ≡ 0 + length es = omega arith in
     ap (λ n. length (join_versions [] es) == n) none ∙ as_many [] es tt v ∙ all_new-distinct [] es v ∙ ap (λ b. are_distinct (map (λ e. e.0) es) && b) (all_absent (map (λ e. e.0) es)) ∙ and-true (are_distinct (map (λ e. e.0) es))
 
--- ---- entries taken in two halves
-
-joined-append : (u xs ys : Entries) → join_versions u (xs ++ ys) ≡ join_versions (join_versions u xs) ys
-joined-append u [] ys = refl
-joined-append u (x ∷ xs) ys = joined-append (raise u (record { value = x.1; replica = x.0 })) xs ys
-
 entries_take : (k : ℕ) (es : Entries) → AreReadEntries es → AreReadEntries (take k es) × AreReadEntries (drop k es)
 entries_take zero es i = (tt, i)
 entries_take (suc k) [] i = (tt, tt)
@@ -151,10 +112,6 @@ entries_front k es front i e = subst AreReadEntries (sym e) (entries_take k es i
 
 pub entries_back : (k : ℕ) (es back : Entries) → AreReadEntries es → back ≡ drop k es → AreReadEntries back
 entries_back k es back i e = subst AreReadEntries (sym e) (entries_take k es i).1
-
-taken_twice : (k : ℕ) (es : Entries) → join_versions (join_versions [] (take k es)) (join_versions [] (drop k es)) ≡ join_versions [] es
-taken_twice k es =
-    sym (joined_assoc (join_versions [] (take k es)) [] (drop k es)) ∙ sym (joined-append [] (take k es) (drop k es)) ∙ ap (join_versions []) (take-append-drop k es)
 
 pub halves : (k : ℕ) (es front back : Entries) → AreReadEntries es → front ≡ take k es → back ≡ drop k es → join_versions (join_versions [] front) (join_versions [] back) ≡ join_versions [] es
 halves k es front back i f b = ap (λ x. join_versions (join_versions [] x) (join_versions [] back)) f ∙ ap (λ y. join_versions (join_versions [] (take k es)) (join_versions [] y)) b ∙ taken_twice k es

@@ -5,6 +5,7 @@ use Rattle.std.specs.List.{AllByRecursion}
 use Rattle.std.proofs.lemmas.List.{append-nil, take-append-drop}
 use Rattle.lamport_clock.specs.declared.stamp.Lamport.{Lamport}
 use Rattle.lamport_clock.specs.Stamps.{same_stamp}
+use Rattle.lamport_clock.proofs.Later.{later_differs}
 use Rattle.op_model.specs.declared.operation.Operation.{Operation}
 use Rattle.op_model.specs.declared.limits.Limits.{Limits as LimitsType}
 use Rattle.op_model.specs.Sorted.{Ascending}
@@ -18,7 +19,6 @@ use Rattle.op_model.proofs.answers.Passed.{none_find, if_some}
 use Rattle.op_model.proofs.order.SameSets.{each_in}
 use Rattle.op_model.proofs.histories.MoreLawful.{lawful_more}
 use Rattle.op_model.proofs.settling.Settling.{after, pass_is, pass_keeps}
-use Rattle.op_model.proofs.order.PathOrder.{later_differs}
 use Rattle.text_buffer.specs.Settling.{pass_until, pass_step}
 use Rattle.text_buffer.proofs.Turns.{pass_nil}
 

@@ -7,6 +7,7 @@ use Rattle.std.specs.List.{AllByRecursion, find}
 use Rattle.lamport_clock.specs.declared.stamp.Lamport.{Lamport}
 use Rattle.lamport_clock.specs.Stamps.{same_stamp}
 use Rattle.lamport_clock.specs.Versions.{within}
+use Rattle.lamport_clock.proofs.Later.{later_differs, same_stamp_refl, one_way}
 use Rattle.op_model.specs.declared.operation.Operation.{Operation}
 use Rattle.op_model.specs.declared.limits.Limits.{Limits as LimitsType}
 use Rattle.op_model.specs.declared.faults.OpFault.{OpFault}
@@ -17,8 +18,6 @@ use Rattle.op_model.specs.Settled.{State, Turn, turn, with_waiting, pass}
 use Rattle.op_model.specs.Settled.Turn.{Append, Drop, Stay, Refuse}
 use Rattle.op_model.specs.Steps.{older}
 use Rattle.op_model.proofs.answers.Passed.{find_none}
-use Rattle.op_model.proofs.order.PathOrder.{later_differs, same_stamp_refl}
-use Rattle.op_model.proofs.order.SameSets.{one_way}
 use Rattle.op_model.proofs.settling.AllApplied.{AllMiss}
 use Rattle.op_model.proofs.settling.Settling.{after, pass_is, stay_misses}
 use Rattle.deferred_ops.specs.Deferred.{is_past, least_ready, without}

@@ -14,9 +14,9 @@ use Rattle.op_model.specs.Answers.{answer, shape_fault, any_equal, any_stamp}
 use Rattle.op_model.specs.Answers.Answer.{Waits}
 use Rattle.op_model.specs.Steps.{older}
 use Rattle.op_model.proofs.order.Insertion.{each_insert, insert_past, insert_here}
-use Rattle.op_model.proofs.order.PathOrder.{later_trans, later_total, later_irrefl}
 use Rattle.op_model.proofs.answers.Passed.{any_none, none_find}
 use Rattle.lamport_clock.proofs.Order.{same_sym}
+use Rattle.lamport_clock.proofs.Later.{later_trans, later_total, later_irrefl}
 use Rattle.op_answers.proofs.Answering.{shaped_badly, repeated, conflicts}
 
 unlike : (o p : Operation) → older o p ≡ true → stamp_of p ≡ stamp_of o → ⊥

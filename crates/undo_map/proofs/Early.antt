@@ -1,15 +1,14 @@
 -- Where the counts of one edit stand.
 use Rattle.std.proofs.Common.{◌≡◌, ℕ, suc, ◌+◌, ◌<◌, ◌≤◌, max, Bool, true, false, cond, ◌&&◌, List, [], ◌∷◌, ◌++◌, length, take, drop, get_or, refl, sym, ap, ◌∙◌, subst, inl, inr, ◌⊎◌, Option, None, Some, arith, get_or-drop, length-drop, take-append-drop}
 use Rattle.std.proofs.lemmas.Bool.{cases_Bool, cases_lt, and_left, both_ways}
-use Rattle.std.proofs.lemmas.Cmp.{alike_right}
 use Rattle.std.proofs.lemmas.List.{length-take-le, get_or-take, take_more}
 use Rattle.std.specs.Ordering.{ordering_then, is_lt, is_eq, is_gt}
 use Rattle.std.specs.declared.cmp.Ordering.{Ordering}
 use Rattle.std.specs.declared.cmp.Ordering.TheVariants.{Less, Equal, Greater}
 use Rattle.lamport_clock.specs.declared.stamp.Lamport.{Lamport}
-use Rattle.lamport_clock.specs.Stamps.{same_stamp, stamp_cmp, stamp_order}
+use Rattle.lamport_clock.specs.Stamps.{same_stamp, stamp_cmp}
 use Rattle.lamport_clock.specs.Versions.{Entries, sees}
-use Rattle.lamport_clock.proofs.Order.{is_eq-same}
+use Rattle.lamport_clock.proofs.Order.{is_eq-same, earlier_still, later_still}
 use Rattle.undo_map.specs.declared.entry.UndoEntry.{UndoEntry}
 use Rattle.undo_map.specs.Counts.{greatest, IsAscending, is_earlier, counts_for, is_seen}
 use Rattle.undo_map.proofs.Greatest.{greatest-append, greatest-cons, adds}
@@ -18,19 +17,6 @@ then_less : (a b : Ordering) → ordering_then a b ≡ Less → is_gt a ≡ fals
 then_less Less b h = refl
 then_less Equal b h = refl
 then_less Greater b h = cc
-
--- what is at most something earlier than t is earlier than t
-earlier_still : (s u t : Lamport) → is_gt (stamp_cmp s u) ≡ false → is_lt (stamp_cmp u t) ≡ true → is_lt (stamp_cmp s t) ≡ true
-earlier_still s u t g l = go (stamp_cmp s u) (stamp_cmp u t) refl refl g l
-  where
-    go : (a b : Ordering) → stamp_cmp s u ≡ a → stamp_cmp u t ≡ b → is_gt a ≡ false → is_lt b ≡ true → is_lt (stamp_cmp s t) ≡ true
-    go Less Less p q g l = ap is_lt (stamp_order.trans s u t p q)
-    go Equal Less p q g l = ap is_lt (stamp_order.congr s u t p ∙ q)
-    go Greater b p q g l = cc
-    go Less Equal p q g l = cc
-    go Less Greater p q g l = cc
-    go Equal Equal p q g l = cc
-    go Equal Greater p q g l = cc
 
 pub early_before : (w : List UndoEntry) (t : Lamport) (i j : ℕ) (d : UndoEntry) → IsAscending w → i < j → j < length w → is_earlier t (get_or w j d) ≡ true → is_earlier t (get_or w i d) ≡ true
 early_before w t i j d a l m h = earlier_still (get_or w i d).edit (get_or w j d).edit t (then_less _ _ (a i j d l m)) h
@@ -61,24 +47,6 @@ early_apart t at e h = not_counted t at e (sym (is_eq-same e.edit t) ∙ apart (
     apart Less q = refl
     apart Equal q = cc
     apart Greater q = cc
-
-pub is_equal : (o : Ordering) → is_eq o ≡ true → o ≡ Equal
-is_equal Less h = cc
-is_equal Equal h = refl
-is_equal Greater h = cc
-
-one_of_three : (o : Ordering) → is_lt o ≡ false → is_eq o ≡ false → is_gt o ≡ false → ⊥
-one_of_three Less a b c = cc
-one_of_three Equal a b c = cc
-one_of_three Greater a b c = cc
-
--- what is at least something later than t is not t
-later_still : (s u t : Lamport) → is_lt (stamp_cmp s t) ≡ false → is_eq (stamp_cmp s t) ≡ false → is_gt (stamp_cmp s u) ≡ false → is_eq (stamp_cmp u t) ≡ false
-later_still s u t l e g = go (cases_Bool (is_eq (stamp_cmp u t)))
-  where
-    go : (is_eq (stamp_cmp u t) ≡ true) ⊎ (is_eq (stamp_cmp u t) ≡ false) → is_eq (stamp_cmp u t) ≡ false
-    go (inr f) = f
-    go (inl q) = absurd (one_of_three (stamp_cmp s t) l e (ap is_gt (sym (alike_right stamp_order u t s (is_equal _ q))) ∙ g))
 
 -- an entry that is neither earlier nor of the edit is later, and so are all behind it
 later_apart : (w : List UndoEntry) (t : Lamport) (at : Option Entries) (i k : ℕ) (d : UndoEntry) → IsAscending w → i ≤ k → k < length w → is_earlier t (get_or w i d) ≡ false → same_stamp (get_or w i d).edit t ≡ false → counts_for t at (get_or w k d) ≡ false

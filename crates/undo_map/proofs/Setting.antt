@@ -2,9 +2,9 @@
 use Rattle.std.proofs.Common.{◌≡◌, ℕ, suc, ◌<◌, ◌≤◌, ◌^◌, max, Bool, true, false, cond, ◌&&◌, List, [], ◌∷◌, length, get_or, refl, sym, ap, ◌∙◌, inl, inr, ◌⊎◌, Option, None, Some, arith, ◌+◌, subst}
 use Rattle.std.proofs.lemmas.Bool.{cases_Bool}
 use Rattle.std.proofs.lemmas.Cmp.{alike_right}
-use Rattle.std.proofs.lemmas.Map.Lookups.{CmpEqualImpliesEq, exact_pairs, exact_unsigned}
+use Rattle.std.proofs.lemmas.Map.Lookups.{CmpEqualImpliesEq, exact_pairs}
 use Rattle.std.specs.List.{find}
-use Rattle.std.specs.Ordering.{is_eq, nat_cmp}
+use Rattle.std.specs.Ordering.{is_eq}
 use Rattle.std.specs.declared.cmp.Ordering.TheVariants.{Less, Equal}
 use Rattle.sum_tree.specs.Keyed.{item_of_key, insert_item}
 use Rattle.sum_tree.proofs.Keys.{inserted_short, ascending_rest}
@@ -14,9 +14,10 @@ use Rattle.undo_map.specs.Counts.{key_of, key_cmp, greatest, IsAscending, count_
 use Rattle.lamport_clock.specs.declared.stamp.Lamport.{Lamport}
 use Rattle.lamport_clock.specs.Stamps.{same_stamp, stamp_cmp}
 use Rattle.lamport_clock.specs.Versions.{Entries, sees}
+use Rattle.lamport_clock.proofs.Order.{exact_stamps, is_equal}
 use Rattle.undo_map.proofs.Greatest.{OfKeys, adds, greatest-with_count}
 use Rattle.undo_map.specs.Keys.{key_order}
-use Rattle.undo_map.proofs.Early.{is_equal, none_counts}
+use Rattle.undo_map.proofs.Early.{none_counts}
 
 -- the count of an entry, 0 where there is none
 abbrev pub count_in : Option UndoEntry → ℕ
@@ -42,10 +43,6 @@ count_held (e ∷ w) k a =
 -- the entry that is put in
 pub set_in : (e : UndoEntry) (w u : List UndoEntry) (h x : ℕ) → w ≡ u → h ≡ count_at_key (key_of e) w → x ≡ max e.count h → insert_item key_cmp key_of (record e { count = x }) w ≡ with_count e u
 set_in e w u h x v q r = ap (λ (y : ℕ). insert_item key_cmp key_of (record e { count = y }) w) (r ∙ ap (max e.count) q) ∙ ap (with_count e) v
-
--- stamps and keys that compare alike are one
-exact_stamps : CmpEqualImpliesEq stamp_cmp
-exact_stamps s t h = ap (λ (p : ℕ × ℕ). record { value = p.0; replica = p.1 }) (exact_pairs nat_cmp nat_cmp exact_unsigned exact_unsigned (s.value, s.replica) (t.value, t.replica) h)
 
 exact_keys : CmpEqualImpliesEq key_cmp
 exact_keys k l h = ap (λ (p : Lamport × Lamport). record { edit = p.0; by = p.1 }) (exact_pairs stamp_cmp stamp_cmp exact_stamps exact_stamps (k.edit, k.by) (l.edit, l.by) h)

@@ -9,6 +9,7 @@ use Rattle.std.proofs.lemmas.List.{length-map}
 use Rattle.lamport_clock.specs.declared.stamp.Lamport.{Lamport}
 use Rattle.lamport_clock.specs.Stamps.{same_stamp}
 use Rattle.lamport_clock.specs.Versions.{sees}
+use Rattle.lamport_clock.proofs.Later.{same_stamp_eq}
 use Rattle.op_model.specs.declared.anchor.Anchor.{Anchor}
 use Rattle.op_model.specs.declared.anchor.Anchor.TheVariants.{Least, Greatest, At}
 use Rattle.op_model.specs.declared.anchor.Bias.{Bias}
@@ -21,7 +22,7 @@ use Rattle.op_model.specs.Cells.{Cell, PathCell, same_cell, seq, cells}
 use Rattle.op_model.specs.Shown.{new_bytes}
 use Rattle.op_model.specs.Lawful.{Lawful}
 use Rattle.op_model.specs.Anchors.{cells_upto, cells_before, gap, compare_anchors, is_known}
-use Rattle.op_model.proofs.order.PathOrder.{same_cell_eq, same_cell_refl, same_stamp_eq}
+use Rattle.op_model.proofs.order.PathOrder.{same_cell_eq, same_cell_refl}
 use Rattle.op_model.proofs.answers.Good.{lawful_ready}
 use Rattle.op_model.proofs.answers.Counted.{more_there}
 use Rattle.op_model.proofs.order.CellsOnce.{all_cells, bytes_of_one}

@@ -10,6 +10,7 @@ use Rattle.lamport_clock.specs.Versions.{Entries, sees}
 use Rattle.op_model.specs.declared.operation.Piece.{Piece}
 use Rattle.op_model.specs.declared.operation.UndoCount.{UndoCount}
 use Rattle.lamport_clock.specs.Stamps.{same_stamp}
+use Rattle.lamport_clock.proofs.Later.{same_stamp_eq}
 use Rattle.op_model.specs.Operations.{stamp_of, version_of, pieces_of, counts_of, is_edit}
 use Rattle.op_model.specs.Cells.{seq_where}
 use Rattle.op_model.specs.Shown.{greatest_given, count}
@@ -24,7 +25,6 @@ use Rattle.op_model.specs.Answers.Answer.{Good}
 use Rattle.op_model.proofs.histories.Lawful.{in_append}
 use Rattle.op_model.proofs.answers.Passed.{passed, shaped, ranged, find_none, map_none}
 use Rattle.op_model.proofs.answers.Good.{seen_length}
-use Rattle.op_model.proofs.order.PathOrder.{same_stamp_eq}
 use Rattle.op_model.proofs.order.SameSets.{newest_same}
 use Rattle.op_model.proofs.order.CellsOnce.{each_member}
 use Rattle.op_model.proofs.shown.Counts.{given_none}

@@ -2,7 +2,7 @@
 use Rattle.op_model.proofs.Elements.{each_map}
 use Rattle.std.proofs.Common.{◌≡◌, ℕ, ◌<◌, ◌≤◌, ◌⊎◌, Bool, List, [], ◌∷◌, ◌++◌, length, refl, sym, ◌∙◌, ap, subst, inl, inr, true, false, not, ◌&&◌, eqb, ltb, leb, arith, append_assoc, None}
 use Rattle.std.proofs.lemmas.List.{append-nil, length-map}
-use Rattle.std.proofs.lemmas.Bool.{cases_Bool, and_parts, or_cases, leb-true, leb-false, ltb-false, eqb-true, le-leb, lt-ltb, cases_lt, not-false}
+use Rattle.std.proofs.lemmas.Bool.{cases_Bool, and_parts, or_cases, leb-true, leb-false, ltb-false, le-leb, lt-ltb, cases_lt, not-false}
 use Rattle.std.proofs.lemmas.Bool.Decides.{nat_tests}
 use Rattle.lamport_clock.specs.declared.stamp.Lamport.{Lamport}
 use Rattle.op_model.specs.declared.operation.Operation.{Operation}
@@ -11,6 +11,8 @@ use Rattle.lamport_clock.specs.Versions.{Entries, sees, entry, within}
 use Rattle.op_model.specs.declared.operation.Piece.{Piece}
 use Rattle.lamport_clock.specs.Stamps.{later, same_stamp}
 use Rattle.lamport_clock.proofs.Joined.{entry_within}
+use Rattle.lamport_clock.proofs.Later.{same_stamp_eq, same_stamp_refl, later_of, not_newer}
+use Rattle.lamport_clock.proofs.EntryLists.{each_entry}
 use Rattle.op_model.specs.Operations.{stamp_of, version_of, pieces_of}
 use Rattle.op_model.specs.Cells.{PathCell, seq_where, seq, cells}
 use Rattle.op_model.specs.Laid.{lay}
@@ -23,19 +25,11 @@ use Rattle.op_model.specs.Answers.{answer, bad_stamp, any_stamp, is_entry_closed
 use Rattle.op_model.specs.Answers.Answer.{Good}
 use Rattle.op_model.proofs.answers.Passed.{any_none, find_none, map_none, when_none, stamp_tests, passed, shaped, ranged}
 use Rattle.op_model.proofs.shown.Bytes.{full_seen}
-use Rattle.op_model.proofs.order.PathOrder.{same_stamp_eq, same_stamp_refl}
 use Rattle.op_model.proofs.order.LateOperation.{Apart}
 use Rattle.op_model.proofs.order.Restricted.{Closed}
 use Rattle.op_model.proofs.order.SameSets.{seq_of_set, text_of_set, each_in, newest_same}
 use Rattle.op_model.proofs.histories.Lawful.{entry_version, Checked, LawInv, closed_op, law_step, law_base, each_of_in}
 use Rattle.op_model.proofs.histories.OneMore.{Fits, Core, one_more, none_yet}
-
-pub later_of : (t u : Lamport) → u.value < t.value → later t u ≡ true
-unfolding later
-later_of t u h = grind (arith, nat_tests)
-
-not_newer : (t u : Lamport) → not (later t u) ≡ true → later t u ≡ true → ⊥
-not_newer t u h g = cc
 
 pub in_tail : (keep : Lamport → Bool) (h : History) → ((o p : Operation) → In h o → In h p → keep (stamp_of o) ≡ true → sees (version_of o) (stamp_of p) ≡ true → keep (stamp_of p) ≡ true)
     → Closed keep h
@@ -92,15 +86,6 @@ stamp_none h op e = each_map (λ (o : Operation). same_stamp (stamp_of o) (stamp
     differ : (s t : Lamport) → s ≡ t → same_stamp s t ≡ false → ⊥
     differ s t q n = let r : same_stamp t t ≡ false = subst (λ (x : Lamport). same_stamp x t ≡ false) q n in
         let i = same_stamp_refl t in cc
-
--- what holds of each entry holds of what the version says of r
-pub each_entry : (P : ℕ × ℕ → Type 0) (v : Entries) (r : ℕ) → AllByRecursion P v → 0 < entry v r → P (r, entry v r)
-each_entry P [] r e h = absurd (omega arith)
-each_entry P (x ∷ v) r e h = go (cases_Bool (eqb x.0 r)) (each_entry P v r e.1)
-  where
-    go : (eqb x.0 r ≡ true) ⊎ (eqb x.0 r ≡ false) → (0 < entry v r → P (r, entry v r)) → P (r, entry (x ∷ v) r)
-    go (inl q) f = let z : x.0 ≡ r = eqb-true x.0 r q in rw q (subst (λ (y : ℕ). P (y, x.1)) z e.0)
-    go (inr q) f = rw q (f (rw q at h))
 
 -- the operation that the entry names, with its version within v
 abbrev pub Named : History → Entries → ℕ × ℕ → Type 0

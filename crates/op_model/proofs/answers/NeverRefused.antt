@@ -7,6 +7,8 @@ use Rattle.std.proofs.lemmas.Bool.{cases_Bool, and_parts, leb-true, ltb-false, l
 use Rattle.lamport_clock.specs.declared.stamp.Lamport.{Lamport}
 use Rattle.lamport_clock.specs.Stamps.{same_stamp}
 use Rattle.lamport_clock.specs.Versions.{Entries, entry, sees, within}
+use Rattle.lamport_clock.proofs.Later.{same_stamp_eq, stamp_path as stamp_is}
+use Rattle.lamport_clock.proofs.EntryLists.{each_entry}
 use Rattle.op_model.specs.declared.operation.Operation.{Operation}
 use Rattle.op_model.specs.declared.operation.UndoCount.{UndoCount}
 use Rattle.op_model.specs.declared.faults.OpFault.TheVariants.{Conflict, Forked, OpenVersion, NoSuchEdit}
@@ -18,11 +20,10 @@ use Rattle.op_model.specs.Shown.{full, full_where}
 use Rattle.op_model.specs.Answers.{answer, shape_fault, any_equal, any_stamp, same_op, fork_fault, first_missing, open_replica, is_entry_closed, range_fault, count_fault}
 use Rattle.op_model.specs.Answers.Answer.{Good, Repeat, Waits, Refused}
 use Rattle.op_model.specs.Lawful.{Lawful, LawfulFrom}
-use Rattle.op_model.proofs.order.PathOrder.{same_stamp_eq, stamp_path as stamp_is}
 use Rattle.op_model.proofs.order.SameSets.{newest_of_set}
 use Rattle.op_model.proofs.histories.Lawful.{LawInv, Checked, greatest, entry_version, distinct_same, in_append}
 use Rattle.op_model.proofs.answers.Passed.{Passed, passed, good, first_past, none_map, map_none, none_when, none_find, find_none}
-use Rattle.op_model.proofs.answers.Good.{checked_of, each_entry, lawful_ready}
+use Rattle.op_model.proofs.answers.Good.{checked_of, lawful_ready}
 use Rattle.op_model.proofs.histories.MoreLawful.{lawful_more}
 use Rattle.op_model.proofs.histories.Causes.{named_at, lawful_opens}
 use Rattle.op_model.proofs.histories.VersionLaws.{has_greatest}

@@ -1,13 +1,15 @@
 -- An operation with the clock's stamp and the version of a lawful history passes every case but those of its pieces and counts.
 use Rattle.op_model.proofs.Elements.{each_map, and_not, eqb_less, any_member}
-use Rattle.std.proofs.Common.{◌≡◌, ℕ, ◌<◌, ◌≤◌, ◌⊎◌, Bool, [], ◌∷◌, ◌++◌, refl, sym, ◌∙◌, ap, subst, inl, inr, true, false, cond, not, ◌||◌, ◌&&◌, eqb, ltb, leb, arith, None}
+use Rattle.std.proofs.Common.{◌≡◌, ℕ, ◌<◌, ◌≤◌, ◌⊎◌, Bool, [], ◌∷◌, ◌++◌, refl, sym, ◌∙◌, ap, subst, inl, inr, true, false, not, ◌||◌, ◌&&◌, eqb, ltb, leb, arith, None}
 use Rattle.std.proofs.lemmas.List.{append-nil}
 use Rattle.std.proofs.lemmas.Bool.{cases_Bool, lt-leb, le-ltb, cases_lt, and_parts}
 use Rattle.std.specs.List.{AllByRecursion, find, list_any}
 use Rattle.lamport_clock.specs.Clocks.{last_value}
 use Rattle.lamport_clock.specs.declared.stamp.Lamport.{Lamport}
 use Rattle.lamport_clock.specs.Stamps.{same_stamp}
-use Rattle.lamport_clock.specs.Versions.{Entries, entry, sees, within, put_entry, raise}
+use Rattle.lamport_clock.proofs.EntryLists.{each_raise}
+use Rattle.lamport_clock.specs.Versions.{Entries, entry, within}
+use Rattle.lamport_clock.proofs.Later.{same_stamp_eq, same_stamp_refl}
 use Rattle.op_model.specs.declared.operation.Operation.{Operation}
 use Rattle.op_model.specs.declared.operation.Operation.TheVariants.{Edit, Undo}
 use Rattle.op_model.specs.declared.faults.OpFault.TheVariants.{Forked}
@@ -16,26 +18,15 @@ use Rattle.op_model.specs.Histories.{History, version, clock}
 use Rattle.op_model.specs.Domains.{IsReplica}
 use Rattle.op_model.specs.Answers.{bad_stamp, no_base, any_equal, any_stamp, same_op, same_version, same_list, same_piece, same_count, fork_fault, first_missing, open_replica, is_entry_closed}
 use Rattle.op_model.specs.Lawful.{Lawful}
-use Rattle.op_model.proofs.order.PathOrder.{same_stamp_eq, same_stamp_refl}
 use Rattle.op_model.proofs.histories.Lawful.{greatest, entry_version}
 use Rattle.op_model.proofs.answers.Passed.{none_find, none_map, none_when, none_any}
 use Rattle.op_model.proofs.histories.VersionLaws.{clock_above, clock_under, Stamped, InRange, stamped_from, version_is, own_entries, has_greatest, lawful_caused, caused_within}
 
 -- ---- the version's entries
 
-put_each : (P : ℕ → Type 0) (r x : ℕ) (v : Entries) → P r → AllByRecursion (λ (e : ℕ × ℕ). P e.0) v → AllByRecursion (λ (e : ℕ × ℕ). P e.0) (put_entry r x v)
-put_each P r x [] p e = (p, tt)
-put_each P r x (d ∷ v) p e = elim (ltb d.0 r) as (λ b. AllByRecursion (λ (e : ℕ × ℕ). P e.0) (cond b (d ∷ put_entry r x v) (cond (eqb d.0 r) ((r, x) ∷ v) ((r, x) ∷ d ∷ v)))) [
-  | true ↦ (e.0, put_each P r x v p e.1)
-  | false ↦ elim (eqb d.0 r) as (λ b. AllByRecursion (λ (e : ℕ × ℕ). P e.0) (cond b ((r, x) ∷ v) ((r, x) ∷ d ∷ v))) [ true ↦ (p, e.1) | false ↦ (p, e) ]
-]
-
-raise_each : (P : ℕ → Type 0) (v : Entries) (t : Lamport) → P t.replica → AllByRecursion (λ (e : ℕ × ℕ). P e.0) v → AllByRecursion (λ (e : ℕ × ℕ). P e.0) (raise v t)
-raise_each P v t p e = elim (sees v t) as (λ b. AllByRecursion (λ (e : ℕ × ℕ). P e.0) (cond b v (put_entry t.replica t.value v))) [ true ↦ e | false ↦ put_each P t.replica t.value v p e ]
-
 version_each : (P : ℕ → Type 0) (h : History) → AllByRecursion (λ (o : Operation). P (stamp_of o).replica) h → AllByRecursion (λ (e : ℕ × ℕ). P e.0) (version h)
 version_each P [] e = tt
-version_each P (o ∷ h) e = raise_each P (version h) (stamp_of o) e.0 (version_each P h e.1)
+version_each P (o ∷ h) e = each_raise (λ (e : ℕ × ℕ). P e.0) (version h) (stamp_of o) e.0 (version_each P h e.1)
 
 greatest_below : (h : History) (n r : ℕ) → 0 < n → AllByRecursion (λ (o : Operation). (stamp_of o).value < n) h → greatest h r < n
 greatest_below [] n r p e = p

@@ -5,6 +5,7 @@ use Rattle.std.proofs.lemmas.Bool.{cases_Bool, or_cases}
 use Rattle.lamport_clock.specs.declared.stamp.Lamport.{Lamport}
 use Rattle.lamport_clock.specs.Stamps.{same_stamp}
 use Rattle.lamport_clock.specs.Versions.{Entries, sees}
+use Rattle.lamport_clock.proofs.Later.{same_stamp_eq, same_stamp_refl}
 use Rattle.op_model.specs.declared.operation.Operation.{Operation}
 use Rattle.op_model.specs.Operations.{stamp_of, pieces_of, is_edit}
 use Rattle.op_model.specs.Histories.{History, In, SameSet, Distinct, has_edit, newest_first}
@@ -16,7 +17,6 @@ use Rattle.op_model.specs.Anchors.{left_anchor, right_anchor, place, gap, compar
 use Rattle.op_model.specs.declared.anchor.Anchor.TheVariants.{Least, Greatest, At}
 use Rattle.op_model.specs.declared.anchor.Bias.TheVariants.{Left, Right}
 use Rattle.op_model.specs.Since.{Fate, fate, is_shown_at, fates, since, text_at}
-use Rattle.op_model.proofs.order.PathOrder.{same_stamp_eq, same_stamp_refl}
 use Rattle.op_model.proofs.order.SameSets.{newest_of_set, newest_same}
 use Rattle.op_model.proofs.shown.Parts.{shown_seen}
 use Rattle.op_model.proofs.shown.Bytes.{text_seen, map_each}

@@ -1,21 +1,22 @@
 -- What a version names of a history, and that it sees with each operation of a lawful history what that one has seen.
 use Rattle.op_model.proofs.Elements.{each_map, and_not, member_left, any_member}
-use Rattle.std.proofs.Common.{◌≡◌, ℕ, zero, suc, ◌<◌, ◌≤◌, Bool, [], ◌∷◌, ◌++◌, refl, sym, ap, subst, inl, inr, true, false, not, ◌&&◌, ltb, leb, arith, None}
+use Rattle.std.proofs.Common.{◌≡◌, ℕ, zero, suc, ◌<◌, ◌≤◌, Bool, [], ◌∷◌, ◌++◌, refl, sym, ap, subst, inl, inr, true, false, not, ◌&&◌, ltb, arith, None}
 use Rattle.std.specs.List.{AllByRecursion, find}
 use Rattle.std.proofs.lemmas.Bool.{cases_Bool, and_parts, leb-true, le-leb, cases_lt}
 use Rattle.lamport_clock.specs.declared.stamp.Lamport.{Lamport}
 use Rattle.lamport_clock.specs.Stamps.{same_stamp}
 use Rattle.lamport_clock.specs.Versions.{Entries, entry, sees, within}
-use Rattle.lamport_clock.proofs.Joined.{entry_within}
+use Rattle.lamport_clock.proofs.Joined.{within_trans}
+use Rattle.lamport_clock.proofs.Later.{same_stamp_eq, stamp_path as stamp_is}
+use Rattle.lamport_clock.proofs.EntryLists.{each_entry}
 use Rattle.op_model.specs.declared.operation.Operation.{Operation}
 use Rattle.op_model.specs.Operations.{stamp_of, version_of}
 use Rattle.op_model.specs.Histories.{History, In}
 use Rattle.op_model.specs.Answers.{is_entry_closed, open_replica}
 use Rattle.op_model.specs.Lawful.{Lawful}
-use Rattle.op_model.proofs.order.PathOrder.{same_stamp_eq, stamp_path as stamp_is}
 use Rattle.op_model.proofs.histories.Lawful.{LawInv, distinct_same}
 use Rattle.op_model.proofs.answers.Passed.{passed, map_none, none_map, find_none, none_find}
-use Rattle.op_model.proofs.answers.Good.{each_entry, named, lawful_ready}
+use Rattle.op_model.proofs.answers.Good.{named, lawful_ready}
 use Rattle.op_model.proofs.histories.MoreLawful.{each_of_lawful}
 use Rattle.op_model.proofs.answers.SameAnswers.{any_from}
 
@@ -66,15 +67,6 @@ opens_more h op v o = each_map (λ (e : ℕ × ℕ). (ltb 0 e.1 && not (is_entry
 pub lawful_opens : (h : History) → Lawful h → (o : Operation) → In h o → Opens h (version_of o)
 lawful_opens h l o i = each_of_lawful (λ g o. Opens g (version_of o)) (λ t. tt)
     (λ g op a. opens_more g op (version_of op) (opens_of g (version_of op) (passed g [] op a).closed)) (λ g op o n. opens_more g op (version_of o) n) h l o i
-
-pub within_trans : (u v w : Entries) → within u v ≡ true → within v w ≡ true → within u w ≡ true
-within_trans [] v w a b = refl
-within_trans (e ∷ u) v w a b =
-    let k = and_parts (leb e.1 (entry v e.0)) (within u v) a in
-    let x = leb-true e.1 (entry v e.0) k.0 in
-    let y = entry_within v w e.0 b in
-    let z : leb e.1 (entry w e.0) ≡ true = le-leb e.1 (entry w e.0) (omega arith) in
-    rw z (within_trans u v w k.1 b)
 
 -- what a closed version sees it sees with its causes
 pub causes_within : (n : ℕ) (h : History) → Lawful h → (v : Entries) → Opens h v → (o : Operation) → In h o → entry v (stamp_of o).replica < n → sees v (stamp_of o) ≡ true

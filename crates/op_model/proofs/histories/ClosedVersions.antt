@@ -7,8 +7,10 @@ use Rattle.std.proofs.lemmas.Bool.Decides.{nat_tests}
 use Rattle.std.proofs.lemmas.List.Elements.{filter-append}
 use Rattle.lamport_clock.specs.declared.stamp.Lamport.{Lamport}
 use Rattle.lamport_clock.specs.Stamps.{same_stamp}
-use Rattle.lamport_clock.specs.Versions.{Entries, IsVersion, entry, sees, within, put_entry, raise}
+use Rattle.lamport_clock.specs.Versions.{Entries, IsVersion, entry, sees, within}
 use Rattle.lamport_clock.proofs.Joined.{entry_within}
+use Rattle.lamport_clock.proofs.Later.{same_stamp_refl}
+use Rattle.lamport_clock.proofs.EntryLists.{each_raise}
 use Rattle.op_model.specs.declared.operation.Operation.{Operation}
 use Rattle.op_model.specs.Operations.{stamp_of, version_of}
 use Rattle.op_model.specs.Histories.{History, In, base, version, kept_history, seen_history, newest_first}
@@ -19,7 +21,6 @@ use Rattle.op_model.specs.Facts.{was_visible}
 use Rattle.op_model.specs.Answers.{answer, is_entry_closed}
 use Rattle.op_model.specs.Answers.Answer.{Good}
 use Rattle.op_model.specs.Lawful.{Lawful, LawfulFrom, IsClosed}
-use Rattle.op_model.proofs.order.PathOrder.{same_stamp_refl}
 use Rattle.op_model.proofs.order.Restricted.{Closed, restrict}
 use Rattle.op_model.proofs.order.SameSets.{each_in, newest_seen, newest_same, seq_seen}
 use Rattle.op_model.proofs.histories.Lawful.{greatest, entry_version, greatest_in, greatest_more}
@@ -43,16 +44,6 @@ use Rattle.op_model.proofs.Elements.{each_map, member_left}
 -- each entry of a version put together is an operation's stamp
 abbrev Named : History → ℕ × ℕ → Type 0
 Named h e = (m : Operation) × In h m × (stamp_of m ≡ record { value = e.1; replica = e.0 })
-
-each_put : (P : ℕ × ℕ → Type 0) (r x : ℕ) (v : Entries) → P (r, x) → AllByRecursion P v → AllByRecursion P (put_entry r x v)
-each_put P r x [] p e = (p, tt)
-each_put P r x (d ∷ v) p e = elim (ltb d.0 r) as (λ b. AllByRecursion P (cond b (d ∷ put_entry r x v) (cond (eqb d.0 r) ((r, x) ∷ v) ((r, x) ∷ d ∷ v)))) [
-  | true ↦ (e.0, each_put P r x v p e.1)
-  | false ↦ elim (eqb d.0 r) as (λ b. AllByRecursion P (cond b ((r, x) ∷ v) ((r, x) ∷ d ∷ v))) [ true ↦ (p, e.1) | false ↦ (p, e) ]
-]
-
-each_raise : (P : ℕ × ℕ → Type 0) (v : Entries) (t : Lamport) → P (t.replica, t.value) → AllByRecursion P v → AllByRecursion P (raise v t)
-each_raise P v t p e = elim (sees v t) as (λ b. AllByRecursion P (cond b v (put_entry t.replica t.value v))) [ true ↦ e | false ↦ each_put P t.replica t.value v p e ]
 
 named_version : (h : History) → AllByRecursion (Named h) (version h)
 named_version [] = tt

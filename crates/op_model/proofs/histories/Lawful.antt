@@ -1,27 +1,20 @@
 -- A lawful history has what the sequence needs.
 use Rattle.std.proofs.Common.{◌≡◌, ℕ, ◌<◌, ◌≤◌, ◌⊎◌, max, Bool, [], ◌∷◌, ◌++◌, refl, sym, ◌∙◌, ap, subst, inl, inr, true, false, cond, eqb, arith}
 use Rattle.std.specs.List.{AllByRecursion}
-use Rattle.std.proofs.lemmas.Bool.{cases_Bool, leb-true, eqb-true, eqb-false, le-leb, cases_lt, eq-eqb}
+use Rattle.std.proofs.lemmas.Bool.{cases_Bool, leb-true, le-leb, cases_lt, eq-eqb}
 use Rattle.lamport_clock.specs.declared.stamp.Lamport.{Lamport}
 use Rattle.op_model.specs.declared.operation.Operation.{Operation}
 use Rattle.op_model.specs.Histories.{History, version, In, Distinct}
-use Rattle.lamport_clock.specs.Versions.{Entries, sees, entry, raise}
+use Rattle.lamport_clock.specs.Versions.{Entries, sees, entry}
 use Rattle.op_model.specs.Operations.{stamp_of, version_of}
 use Rattle.op_model.proofs.order.SameSets.{each_in}
-use Rattle.op_model.proofs.order.PathOrder.{stamp_path}
-use Rattle.lamport_clock.proofs.Joined.{entry-raise_at, entry-raise_off}
+use Rattle.lamport_clock.proofs.Joined.{entry_raise}
+use Rattle.lamport_clock.proofs.Later.{stamp_path}
 
 -- the greatest value of r in h
 abbrev pub greatest : History → ℕ → ℕ
 greatest [] r = 0
 greatest (o ∷ h) r = cond (eqb (stamp_of o).replica r) (max (greatest h r) (stamp_of o).value) (greatest h r)
-
-entry_raise : (v : Entries) (t : Lamport) (r : ℕ) → entry (raise v t) r ≡ cond (eqb t.replica r) (max (entry v r) t.value) (entry v r)
-entry_raise v t r = go (cases_Bool (eqb t.replica r))
-  where
-    go : (eqb t.replica r ≡ true) ⊎ (eqb t.replica r ≡ false) → entry (raise v t) r ≡ cond (eqb t.replica r) (max (entry v r) t.value) (entry v r)
-    go (inl e) = rw e (subst (λ (q : ℕ). entry (raise v t) q ≡ max (entry v q) t.value) (eqb-true t.replica r e) (entry-raise_at v t))
-    go (inr e) = rw e (entry-raise_off v t r (λ q. eqb-false t.replica r e (sym q)))
 
 pub entry_version : (h : History) (r : ℕ) → entry (version h) r ≡ greatest h r
 entry_version [] r = refl

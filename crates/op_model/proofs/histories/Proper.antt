@@ -7,6 +7,7 @@ use Rattle.std.proofs.lemmas.Bool.{and_parts, eqb-true, and_from, eq-eqb}
 use Rattle.lamport_clock.specs.declared.stamp.Lamport.{Lamport}
 use Rattle.lamport_clock.specs.Stamps.{same_stamp}
 use Rattle.lamport_clock.specs.Versions.{Entries}
+use Rattle.lamport_clock.proofs.Later.{same_stamp_eq, same_stamp_refl}
 use Rattle.op_model.specs.declared.operation.Piece.{Piece}
 use Rattle.op_model.specs.declared.operation.UndoCount.{UndoCount}
 use Rattle.op_model.specs.declared.operation.Operation.{Operation}
@@ -21,7 +22,6 @@ use Rattle.op_model.specs.Made.{full_piece, local_edit, local_undo, local_edit_f
 use Rattle.op_model.specs.Answers.{answer, same_list, same_version, same_piece, same_count, same_op}
 use Rattle.op_model.specs.Answers.Answer.{Good}
 use Rattle.op_model.specs.Lawful.{Lawful}
-use Rattle.op_model.proofs.order.PathOrder.{same_stamp_eq, same_stamp_refl}
 use Rattle.op_model.proofs.answers.Good.{lawful_ready}
 use Rattle.op_model.proofs.answers.Counted.{lawful_counted}
 use Rattle.op_model.proofs.histories.VersionLaws.{InRange, clock_under}

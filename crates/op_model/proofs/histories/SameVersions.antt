@@ -1,11 +1,12 @@
 -- Two lawful histories of one set of operations have one version, and meet the same faults.
-use Rattle.std.proofs.Common.{◌≡◌, ℕ, suc, ◌<◌, ◌≤◌, ◌⊎◌, List, [], ◌∷◌, length, refl, sym, ◌∙◌, ap, subst, inl, inr, true, false, ◌&&◌, eqb, ltb, arith}
+use Rattle.std.proofs.Common.{◌≡◌, ℕ, ◌<◌, ◌≤◌, ◌⊎◌, List, [], ◌∷◌, length, refl, ◌∙◌, ap, inl, inr, true, false, ◌&&◌, ltb, arith}
 use Rattle.std.specs.Prelude.{option_map, not}
 use Rattle.std.specs.List.{find}
-use Rattle.std.proofs.lemmas.Bool.{cases_Bool, leb-false, cases_lt, eq-eqb, ne_eqb}
-use Rattle.lamport_clock.proofs.Associative.{put_kept, none_below}
+use Rattle.std.proofs.lemmas.Bool.{cases_Bool, leb-false}
+use Rattle.lamport_clock.proofs.Associative.{put_kept}
 use Rattle.lamport_clock.specs.Stamps.{same_stamp}
 use Rattle.lamport_clock.specs.Versions.{Entries, AreEntriesFrom, entry, sees, within}
+use Rattle.lamport_clock.proofs.EntryLists.{entries_same}
 use Rattle.op_model.specs.declared.anchor.Anchor.{Anchor}
 use Rattle.op_model.specs.declared.faults.SinceFault.TheVariants.{Unseen, OpenVersion}
 use Rattle.op_model.specs.declared.faults.PlaceFault.TheVariants.{PastEnd, InsideChar}
@@ -30,33 +31,6 @@ version_entries (o ∷ h) = go (cases_Bool (sees (version h) (stamp_of o))) (ver
     go (inl s) i = rw s i
     go (inr s) i = let g = leb-false (stamp_of o).value (entry (version h) (stamp_of o).replica) s in
         rw s (put_kept 0 (stamp_of o).replica (stamp_of o).value (version h) (omega arith) (omega arith) i)
-
-entries_same : (n : ℕ) (u v : Entries) → AreEntriesFrom n u → AreEntriesFrom n v → ((r : ℕ) → entry u r ≡ entry v r) → u ≡ v
-entries_same n [] [] i j f = refl
-entries_same n [] (e ∷ v) i j f = let t : eqb e.0 e.0 ≡ true = eq-eqb e.0 e.0 refl in let z : ◌≡◌ {A = ℕ} 0 e.1 = rw t at (f e.0) in let p = j.1 in absurd (omega arith)
-entries_same n (d ∷ u) [] i j f = let t : eqb d.0 d.0 ≡ true = eq-eqb d.0 d.0 refl in let z : d.1 ≡ 0 = rw t at (f d.0) in let p = i.1 in absurd (omega arith)
-entries_same n (d ∷ u) (e ∷ v) i j f = go (cases_lt d.0 e.0) (cases_lt e.0 d.0) (λ m a b c. entries_same m u v a b c)
-  where
-    at_d : entry (d ∷ u) d.0 ≡ d.1
-    at_d = let t : eqb d.0 d.0 ≡ true = eq-eqb d.0 d.0 refl in rw t refl
-
-    at_e : entry (e ∷ v) e.0 ≡ e.1
-    at_e = let t : eqb e.0 e.0 ≡ true = eq-eqb e.0 e.0 refl in rw t refl
-
-    tails : d.0 ≡ e.0 → (r : ℕ) → entry u r ≡ entry v r
-    tails q r = elim (cases_lt d.0 r) [
-      | inl l ↦ (let x = ne_eqb d.0 r (λ s. omega arith) in let y = ne_eqb e.0 r (λ s. omega arith) in let z : entry u r ≡ entry v r = rw (x, y) at (f r) in z)
-      | inr l ↦ none_below (suc d.0) u r i.2 (omega arith) ∙ sym (none_below (suc e.0) v r j.2 (omega arith))
-    ]
-
-    go : (d.0 < e.0) ⊎ (e.0 ≤ d.0) → (e.0 < d.0) ⊎ (d.0 ≤ e.0) → ((m : ℕ) → AreEntriesFrom m u → AreEntriesFrom m v → ((r : ℕ) → entry u r ≡ entry v r) → u ≡ v) → d ∷ u ≡ e ∷ v
-    go (inl l) m ih = let z = none_below (suc d.0) (e ∷ v) d.0 (omega arith, j.1, j.2) (omega arith) in let y = f d.0 in let x = at_d in let p = i.1 in absurd (omega arith)
-    go (inr l) (inl m) ih = let z = none_below (suc e.0) (d ∷ u) e.0 (omega arith, i.1, i.2) (omega arith) in let y = f e.0 in let x = at_e in let p = j.1 in absurd (omega arith)
-    go (inr l) (inr m) ih =
-        let q : d.0 ≡ e.0 = omega arith in
-        let w : d.1 ≡ e.1 = sym at_d ∙ f d.0 ∙ ap (entry (e ∷ v)) q ∙ at_e in
-        let s : u ≡ v = ih (suc d.0) i.2 (subst (λ (m : ℕ). AreEntriesFrom (suc m) v) (sym q) j.2) (tails q) in
-        λ k. (q k, w k) ∷ s k
 
 module _ (h g : History) (l : Lawful h) (m : Lawful g) (s : SameSet h g) where
   pub version_same : version h ≡ version g

@@ -1,13 +1,13 @@
 -- What the version and the clock of a lawful history say of its operations.
 use Rattle.op_model.proofs.Elements.{each_map, each_both}
 use Rattle.std.proofs.Common.{◌≡◌, ℕ, suc, ◌+◌, ◌<◌, ◌≤◌, ◌⊎◌, max, min, Bool, List, [], ◌∷◌, ◌++◌, refl, sym, ap, subst, inl, inr, true, false, eqb, ltb, leb, arith}
-use Rattle.std.proofs.lemmas.Bool.{cases_Bool, eqb-true, leb-false, ltb-false, le-leb, cases_lt, eq-eqb}
+use Rattle.std.proofs.lemmas.Bool.{cases_Bool, eqb-true, ltb-false, le-leb, cases_lt, eq-eqb}
 use Rattle.std.proofs.lemmas.Bool.Decides.{nat_tests}
 use Rattle.std.specs.List.{AllByRecursion}
 use Rattle.lamport_clock.specs.declared.stamp.Lamport.{Lamport}
 use Rattle.lamport_clock.specs.Clocks.{clock_after, last_value}
-use Rattle.lamport_clock.specs.Versions.{Entries, IsVersion, IsVersionFrom, entry, sees, within, raise}
-use Rattle.lamport_clock.proofs.Entries.{IsVersion-put}
+use Rattle.lamport_clock.specs.Versions.{Entries, IsVersion, IsVersionFrom, entry, sees, within}
+use Rattle.lamport_clock.proofs.Entries.{raise_version}
 use Rattle.op_model.specs.declared.operation.Operation.{Operation}
 use Rattle.op_model.specs.Operations.{stamp_of, version_of, last_replica}
 use Rattle.op_model.specs.Histories.{History, In, version, clock_from, clock, kept_history, seen_history}
@@ -84,13 +84,6 @@ stamped_from h ops r l = each_both (λ (o : Operation). (stamp_of o).value < 429
     (each_lawful (λ (o : Operation). bad_stamp o ≡ false) h ops shaped_good l)
 
 -- ---- the version
-
-raise_version : (v : Entries) (t : Lamport) → t.value < 4294967296 → t.replica < 65536 → IsVersion v → IsVersion (raise v t)
-raise_version v t a b i = go (cases_Bool (sees v t))
-  where
-    go : (sees v t ≡ true) ⊎ (sees v t ≡ false) → IsVersion (raise v t)
-    go (inl s) = rw s i
-    go (inr s) = let g : entry v t.replica < t.value = leb-false t.value (entry v t.replica) s in rw s (IsVersion-put v t.replica t.value b (omega arith) a i)
 
 pub version_is : (h : History) → AllByRecursion (λ (o : Operation). ((stamp_of o).value < 4294967296) × ((stamp_of o).replica < 65536)) h → IsVersion (version h)
 version_is [] e = tt

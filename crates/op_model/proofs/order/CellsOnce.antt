@@ -6,6 +6,7 @@ use Rattle.std.proofs.lemmas.Bool.{cases_Bool, cases_lt}
 use Rattle.std.proofs.lemmas.List.{length-append}
 use Rattle.lamport_clock.specs.declared.stamp.Lamport.{Lamport}
 use Rattle.lamport_clock.specs.Stamps.{same_stamp}
+use Rattle.lamport_clock.proofs.Later.{same_stamp_eq, same_stamp_refl}
 use Rattle.op_model.specs.declared.operation.Operation.{Operation}
 use Rattle.op_model.specs.declared.operation.Piece.{Piece}
 use Rattle.op_model.specs.Sorted.{EachPair, Member, Ascending}
@@ -14,7 +15,7 @@ use Rattle.op_model.specs.Histories.{History, In, Distinct, newest_first}
 use Rattle.op_model.specs.Cells.{Cell, same_cell, PathCell, before, put_all, left_path, text_places, new_places, op_places, both, everything, seq_where, seq, cells}
 use Rattle.op_model.specs.Shown.{texts, new_bytes, IsCell}
 use Rattle.op_model.proofs.order.Insertion.{each_insert_all, member_new, member_old}
-use Rattle.op_model.proofs.order.PathOrder.{same_stamp_eq, same_stamp_refl, same_cell_refl as same_self}
+use Rattle.op_model.proofs.order.PathOrder.{same_cell_refl as same_self}
 use Rattle.op_model.proofs.order.LateOperation.{seq_nil, seq_kept}
 use Rattle.op_model.proofs.order.Restricted.{seq_up}
 use Rattle.op_model.proofs.order.SameSets.{newest_desc, newest_same, each_in}

@@ -3,12 +3,10 @@ use Rattle.std.proofs.Common.{◌≡◌, List, [], ◌∷◌, ◌++◌, refl, �
 use Rattle.std.specs.List.{AllByRecursion}
 use Rattle.std.proofs.lemmas.Bool.{cases_Bool}
 use Rattle.lamport_clock.specs.declared.stamp.Lamport.{Lamport}
-use Rattle.lamport_clock.specs.Versions.{Entries, sees}
 use Rattle.lamport_clock.specs.Stamps.{later}
 use Rattle.op_model.specs.Cells.{PathCell}
 use Rattle.op_model.specs.Laid.{after_run}
 use Rattle.op_model.proofs.order.Restricted.{Of}
-use Rattle.op_model.proofs.order.SameSets.{one_way}
 
 pub record Group : Type 0 where
   pub stamp : Lamport
@@ -40,8 +38,3 @@ skip_whole t ns (g ∷ gs) e = elim (cases_Bool (later g.stamp t)) [
   | inl l ↦ rw l (past_group t g.stamp ns (places_of g) (flat gs) e.0 l ∙ ap (λ x. places_of g ++ x) (skip_whole t ns gs e.1))
   | inr l ↦ (let h : later g.first.cell.stamp t ≡ false = ap (λ (x : Lamport). later x t) e.0.0 ∙ l in rw (l, h))
 ]
-
--- what is passed is not seen, so a test 'unseen and later' passes the same
-pub passed_unseen : (v : Entries) (t u : Lamport) → ((w : Lamport) → sees v w ≡ true → later t w ≡ true) → later u t ≡ true → sees v u ≡ false
-passed_unseen v t u above l = elim (cases_Bool (sees v u))
-    [ inl s ↦ (let g = above u s in let h = one_way t u g in cc) | inr s ↦ s ]

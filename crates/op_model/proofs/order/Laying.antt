@@ -3,18 +3,16 @@ use Rattle.op_model.proofs.Elements.{each_map, each_append, each_last}
 use Rattle.std.proofs.Common.{◌≡◌, ℕ, zero, suc, ◌+◌, ◌<◌, ◌≤◌, ◌⊎◌, Bool, List, [], ◌∷◌, ◌++◌, length, refl, sym, ◌∙◌, ap, subst, inl, inr, true, false, cond, arith, append_assoc}
 use Rattle.std.specs.List.{AllByRecursion}
 use Rattle.std.proofs.lemmas.Bool.{cases_Bool}
-use Rattle.std.proofs.lemmas.Bool.Decides.{nat_tests}
 use Rattle.lamport_clock.specs.declared.stamp.Lamport.{Lamport}
 use Rattle.lamport_clock.specs.Stamps.{later}
+use Rattle.lamport_clock.proofs.Later.{later_irrefl, one_way, later_down}
 use Rattle.op_model.specs.declared.operation.Piece.{Piece}
 use Rattle.op_model.specs.Cells.{Cell, cell_at, PathCell, path, path_at, left_path, text_places, new_places, before, put_all}
 use Rattle.op_model.specs.Laid.{after_run, after_run_from, only, index_after, lay}
-use Rattle.op_model.proofs.order.PathOrder.{later_irrefl}
 use Rattle.op_model.proofs.order.Insertion.{each_insert, each_insert_all, insert_past, insert_here, filter_all_none}
 use Rattle.op_model.proofs.order.LateOperation.{before_trans, before_total, before_antisym}
 use Rattle.op_model.proofs.order.Restricted.{new_of, each_of}
 use Rattle.op_model.proofs.order.Skipping.{put, Strict, Sound, Fresh, Rises, AllOn, Has, at, text_placed}
-use Rattle.op_model.proofs.order.SameSets.{one_way}
 
 -- a cell of edit t is number k or a later one
 abbrev pub From : Lamport → ℕ → Cell → Type 0
@@ -63,14 +61,10 @@ pub kept_left : (keep : Lamport → Bool) (s : List PathCell) (n : ℕ) → n �
 kept_left keep s zero h = (refl, omega arith)
 kept_left keep s (suc n) h = let e = nth keep s n (omega arith) in (rw e.1 e.2, rw e.1 (omega (arith, e.3)))
 
-down : (t u a : Lamport) → later t u ≡ true → later a u ≡ false → later t a ≡ true
-unfolding later
-down t u a h e = grind (arith, nat_tests)
-
 -- what passes is below t, so its whole path is
 low_path : (t u : Lamport) (p : List Cell) → later t u ≡ true → AllByRecursion (λ (a : Cell). later a.stamp u ≡ false) p → AllByRecursion (λ (a : Cell). later t a.stamp ≡ true) p
 low_path t u [] h e = tt
-low_path t u (a ∷ p) h e = (down t u a.stamp h e.0, low_path t u p h e.1)
+low_path t u (a ∷ p) h e = (later_down t u a.stamp h e.0, low_path t u p h e.1)
 
 low_at : (keep : Lamport → Bool) (t : Lamport) (k : ℕ) (s : List PathCell) (n : ℕ) → ((u : Lamport) → keep u ≡ true → later t u ≡ true)
     → AllByRecursion Rises s → n < length (only keep s) → AllByRecursion (λ (a : Cell). later t a.stamp ≡ true) (path_at (only keep s) n)

@@ -6,6 +6,7 @@ use Rattle.std.specs.List.{AllByRecursion, filter}
 use Rattle.lamport_clock.specs.declared.stamp.Lamport.{Lamport}
 use Rattle.lamport_clock.specs.Stamps.{later}
 use Rattle.lamport_clock.specs.Versions.{Entries, entry, sees}
+use Rattle.lamport_clock.proofs.Later.{later_irrefl, one_way, later_of}
 use Rattle.op_model.specs.declared.operation.Operation.{Operation}
 use Rattle.op_model.specs.Sorted.{Member}
 use Rattle.op_model.specs.Operations.{stamp_of, version_of, pieces_of}
@@ -14,13 +15,12 @@ use Rattle.op_model.specs.Cells.{Cell, PathCell, before, put_all, op_places, bot
 use Rattle.op_model.specs.Shown.{in_ranges, visible_by, deleters_where, shows_where, shows, deleters, deletes}
 use Rattle.op_model.specs.Lawful.{Lawful}
 use Rattle.op_model.proofs.order.Insertion.{member_new, member_old}
-use Rattle.op_model.proofs.order.PathOrder.{later_irrefl}
 use Rattle.op_model.proofs.order.LateOperation.{seq_kept, seq_unkept}
-use Rattle.op_model.proofs.order.SameSets.{Desc, newest_desc, newest_same, each_in, one_way, seq_seen}
+use Rattle.op_model.proofs.order.SameSets.{Desc, newest_desc, newest_same, each_in, seq_seen}
 use Rattle.op_model.proofs.shown.Deleters.{hits, deleters_kept, deleters_unkept}
 use Rattle.op_model.proofs.shown.Parts.{shown_seen}
 use Rattle.op_model.proofs.histories.Lawful.{LawInv, each_of_in}
-use Rattle.op_model.proofs.answers.Good.{later_of, lawful_ready}
+use Rattle.op_model.proofs.answers.Good.{lawful_ready}
 
 -- v sees none of them
 abbrev pub SeesNone : Entries → History → Type 0

@@ -1,38 +1,11 @@
--- The orders of stamps, of siblings and of paths are total, and what their tests call the same is one.
+-- The orders of siblings and of paths are total, and cells that their test calls the same are one.
 use Rattle.std.proofs.Common.{◌≡◌, ◌<◌, ◌⊎◌, Bool, List, [], ◌∷◌, refl, sym, ◌∙◌, subst, inl, inr, true, false, cond, ltb, arith}
 use Rattle.std.proofs.lemmas.Bool.{eqb-true, and_parts, or_cases, ltb-true, lt-ltb, cases_Bool}
 use Rattle.std.proofs.lemmas.Bool.Decides.{nat_tests}
 use Rattle.lamport_clock.specs.declared.stamp.Lamport.{Lamport}
 use Rattle.lamport_clock.specs.Stamps.{later, same_stamp}
+use Rattle.lamport_clock.proofs.Later.{later_trans, same_stamp_eq}
 use Rattle.op_model.specs.Cells.{Cell, same_cell, sibling_first, path_before}
-
-pub later_trans : (s t u : Lamport) → later s t ≡ true → later t u ≡ true → later s u ≡ true
-unfolding later same_stamp
-later_trans s t u p q = grind (arith, nat_tests)
-
-pub later_irrefl : (s : Lamport) → later s s ≡ false
-unfolding later same_stamp
-later_irrefl s = grind (arith, nat_tests)
-
-pub later_total : (s t : Lamport) → later s t ≡ false → same_stamp s t ≡ false → later t s ≡ true
-unfolding later same_stamp
-later_total s t p q = grind (arith, nat_tests)
-
-pub later_differs : (s t : Lamport) → later t s ≡ true → (same_stamp s t ≡ false) × (same_stamp t s ≡ false)
-unfolding later same_stamp
-later_differs s t e = (grind (arith, nat_tests), grind (arith, nat_tests))
-
-pub stamp_path : (s t : Lamport) → s.value ≡ t.value → s.replica ≡ t.replica → s ≡ t
-stamp_path s t e f = λ i. record { value = e i; replica = f i }
-
-pub same_stamp_eq : (s t : Lamport) → same_stamp s t ≡ true → s ≡ t
-unfolding later same_stamp
-same_stamp_eq s t e = let ab = and_parts _ _ e in
-    stamp_path s t (eqb-true _ _ ab.0) (eqb-true _ _ ab.1)
-
-pub same_stamp_refl : (s : Lamport) → same_stamp s s ≡ true
-unfolding same_stamp
-same_stamp_refl s = grind (arith, nat_tests)
 
 cell_path : (a b : Cell) → a.stamp ≡ b.stamp → a.k ≡ b.k → a ≡ b
 cell_path s t e f = λ i. record { stamp = e i; k = f i }

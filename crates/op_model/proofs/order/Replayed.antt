@@ -12,19 +12,19 @@ use Rattle.op_model.specs.Histories.{History, by_stamp, newest_first, base, In}
 use Rattle.lamport_clock.specs.Versions.{entry, sees}
 use Rattle.op_model.specs.declared.operation.Piece.{Piece}
 use Rattle.lamport_clock.specs.Stamps.{later}
+use Rattle.lamport_clock.proofs.Later.{later_irrefl, one_way, later_of, later_apart}
 use Rattle.op_model.specs.Operations.{stamp_of, version_of, pieces_of}
 use Rattle.op_model.specs.Cells.{PathCell, before, put_all, op_places, new_places, text_places, left_path, both, everything, seq_where, seq}
 use Rattle.op_model.specs.Laid.{after_run, after_run_from, put_direct, lay, lay_direct, replay, index_after, only}
 use Rattle.op_model.specs.Lawful.{Lawful, LawfulFrom}
 use Rattle.op_model.proofs.order.Insertion.{each_insert_all}
-use Rattle.op_model.proofs.order.PathOrder.{later_irrefl}
 use Rattle.op_model.proofs.order.LateOperation.{seq_nil, seq_kept, seq_unkept, unkept_anywhere}
 use Rattle.op_model.proofs.order.Restricted.{Closed, restrict, Of, text_of, new_of}
-use Rattle.op_model.proofs.order.SameSets.{Desc, each_in, newest_same, newest_desc, one_way}
+use Rattle.op_model.proofs.order.SameSets.{Desc, each_in, newest_same, newest_desc}
 use Rattle.op_model.proofs.histories.Lawful.{Checked, LawInv, each_of_in}
 use Rattle.op_model.proofs.order.Laying.{laid, end_of}
 use Rattle.op_model.proofs.histories.OneMore.{Core, core_of, inv_of, no_stamp, newest_append}
-use Rattle.op_model.proofs.answers.Good.{later_of, in_tail, checked_of, Ready, ready_base, good_more, new_unseen}
+use Rattle.op_model.proofs.answers.Good.{in_tail, checked_of, Ready, ready_base, good_more, new_unseen}
 
 abbrev pub NoLater : Lamport → List PathCell → Type 0
 NoLater t s = AllByRecursion (λ (q : PathCell). later q.cell.stamp t ≡ false) s
@@ -87,9 +87,6 @@ Stacked (o ∷ h) = (((u : Lamport) → sees (version_of o) u ≡ true → later
     × AllByRecursion (λ (p : Piece). p.start ≤ length (seq_where (sees (version_of o)) h)) (pieces_of o))
     × Stacked h
 
-not_same : (s t : Lamport) → later s t ≡ true → t ≡ s → ⊥
-not_same s t h e = let g : later s s ≡ true = subst (λ (x : Lamport). later s x ≡ true) e h in let i = later_irrefl s in cc
-
 pub stacked_replay : (h : History) → Stacked h → Core (seq_where everything h) × (seq_where everything h ≡ replay h)
 unfolding replay
 stacked_replay [] s = (rw (seq_nil everything) (tt, tt), seq_nil everything)
@@ -102,7 +99,7 @@ stacked_replay (o ∷ h) s =
     let e : seq_where everything (o ∷ h) ≡ put_all (new_places (only v b) t 0 (pieces_of o)) b = seq_kept everything o h refl
     ∙ ap (λ (x : List PathCell). put_all (new_places x t 0 (pieces_of o)) b) (sym r) in
     let l = laid v t s.0.0 (pieces_of o) 0 b
-    (inv_of b t (end_of 0 (pieces_of o)) ih.0 (no_stamp t everything h (each_map (λ (p : Operation). later t (stamp_of p) ≡ true) (λ (p : Operation). stamp_of p ≡ t → ⊥) (λ p g. not_same t (stamp_of p) g) h s.0.1)))
+    (inv_of b t (end_of 0 (pieces_of o)) ih.0 (no_stamp t everything h (each_map (λ (p : Operation). later t (stamp_of p) ≡ true) (λ (p : Operation). stamp_of p ≡ t → ⊥) (λ p g. later_apart t (stamp_of p) g) h s.0.1)))
     (subst (λ (x : List PathCell). AllByRecursion (λ (p : Piece). p.start ≤ length x) (pieces_of o)) (sym r) s.0.3) in
     let n : NoLater t b = stamps_of (λ (u : Lamport). later u t ≡ false) everything h
     (each_map (λ (p : Operation). later t (stamp_of p) ≡ true) (λ (p : Operation). later (stamp_of p) t ≡ false) (λ p g. one_way t (stamp_of p) g) h s.0.1) in (

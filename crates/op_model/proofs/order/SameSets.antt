@@ -1,35 +1,22 @@
 -- What is defined from a history depends on its set of operations alone; the part that a version sees.
 use Rattle.std.proofs.Math.Bool.{and-true}
 use Rattle.op_model.proofs.Elements.{each_map}
-use Rattle.std.proofs.Common.{◌≡◌, ◌⊎◌, Bool, [], ◌∷◌, refl, sym, ◌∙◌, ap, subst, inl, inr, true, false, not, ◌&&◌, arith}
+use Rattle.std.proofs.Common.{◌≡◌, ◌⊎◌, Bool, [], ◌∷◌, refl, sym, ◌∙◌, ap, subst, inl, inr, true, false, ◌&&◌, arith}
 use Rattle.std.specs.List.{AllByRecursion}
 use Rattle.std.proofs.lemmas.Bool.{cases_Bool, and_left, and_right, not-false}
-use Rattle.std.proofs.lemmas.Bool.Decides.{nat_tests}
-use Rattle.lamport_clock.specs.Stamps.{same_stamp, later}
+use Rattle.lamport_clock.specs.Stamps.{later}
 use Rattle.lamport_clock.specs.declared.stamp.Lamport.{Lamport}
 use Rattle.op_model.specs.declared.operation.Operation.{Operation}
 use Rattle.op_model.specs.Histories.{In, SameSet, Distinct, History, newer, by_stamp, newest_first, sort_onto, kept_history, seen_history}
 use Rattle.lamport_clock.specs.Versions.{Entries, sees}
+use Rattle.lamport_clock.proofs.Later.{later_trans, not_later_trans, not_later_total, no_both, later_strictly}
 use Rattle.op_model.specs.Operations.{stamp_of, version_of}
 use Rattle.op_model.specs.Cells.{both, everything, seq_where, seq}
 use Rattle.op_model.specs.Shown.{text_where, text}
-use Rattle.op_model.proofs.order.PathOrder.{later_trans, same_stamp_eq}
 use Rattle.op_model.specs.Sorted.{Ascending}
 use Rattle.op_model.proofs.order.Insertion.{insert_past, insert_here, each_insert, insert_up, filter_insert, filter_insert_none}
 use Rattle.op_model.proofs.order.LateOperation.{seq_nil, seq_kept, seq_unkept}
 use Rattle.op_model.proofs.order.Restricted.{Agree, seq_agree}
-
-not_later_trans : (s t u : Lamport) → not (later t s) ≡ true → not (later u t) ≡ true → not (later u s) ≡ true
-unfolding later
-not_later_trans s t u h g = grind (arith, nat_tests)
-
-not_later_total : (s t : Lamport) → not (later t s) ≡ false → not (later s t) ≡ true
-unfolding later
-not_later_total s t h = grind (arith, nat_tests)
-
-pub one_way : (t a : Lamport) → later t a ≡ true → later a t ≡ false
-unfolding later
-one_way t a h = grind (arith, nat_tests)
 
 pub newer_trans : (a b c : Operation) → newer a b ≡ true → newer b c ≡ true → newer a c ≡ true
 newer_trans a b c h g = not_later_trans (stamp_of a) (stamp_of b) (stamp_of c) h g
@@ -45,9 +32,6 @@ Desc (o ∷ h) = AllByRecursion (λ (p : Operation). later (stamp_of o) (stamp_o
 pub each_in : (P : Operation → Type 0) (h : History) (o : Operation) → AllByRecursion P h → In h o → P o
 each_in P [] o e i = absurd i
 each_in P (p ∷ h) o e i = elim i [ inl q ↦ subst P (sym q) e.0 | inr q ↦ each_in P h o e.1 q ]
-
-no_both : (s t : Lamport) → later s t ≡ true → later t s ≡ true → ⊥
-no_both s t h g = let n = one_way s t h in cc
 
 pub desc_same : (h g : History) → Desc h → Desc g → SameSet h g → h ≡ g
 desc_same [] [] dh dg s = refl
@@ -92,19 +76,11 @@ insert_in x (p ∷ h) o i = go (cases_Bool (newer p x)) (insert_in x h o) i
         (elim j [ inl e ↦ inr (f (inl e)) | inr k ↦ elim k [ inl e ↦ inl e | inr l ↦ inr (f (inr l)) ] ])
     go (inr n) f j = subst (λ (z : History). In z o) (sym (insert_here newer x p h n)) j
 
-grind_same : (s t : Lamport) → not (later t s) ≡ true → later s t ≡ false → same_stamp t s ≡ true
-unfolding later same_stamp
-grind_same s t h l = grind (arith, nat_tests)
-
-strictly : (s t : Lamport) → not (later t s) ≡ true → (t ≡ s → ⊥) → later s t ≡ true
-strictly s t h n = elim (cases_Bool (later s t))
-    [ inl l ↦ l | inr l ↦ absurd (n (same_stamp_eq t s (grind_same s t h l))) ]
-
 desc_insert : (x : Operation) (h : History) → AllByRecursion (λ (p : Operation). stamp_of p ≡ stamp_of x → ⊥) h → Desc h → Desc (by_stamp x h)
 desc_insert x [] n d = (tt, tt)
 desc_insert x (p ∷ h) n d = elim (cases_Bool (newer p x)) [
   | inl b ↦ rw (insert_past newer x p h b)
-      (each_insert (λ (q : Operation). later (stamp_of p) (stamp_of q) ≡ true) newer x h (strictly (stamp_of p) (stamp_of x) b (λ e. n.0 (sym e))) d.0, desc_insert x h n.1 d.1)
+      (each_insert (λ (q : Operation). later (stamp_of p) (stamp_of q) ≡ true) newer x h (later_strictly (stamp_of p) (stamp_of x) b (λ e. n.0 (sym e))) d.0, desc_insert x h n.1 d.1)
   | inr b ↦ (let l : later (stamp_of x) (stamp_of p) ≡ true = not-false (later (stamp_of x) (stamp_of p)) b in
       rw (insert_here newer x p h b) (
         (

@@ -6,10 +6,11 @@ use Rattle.std.proofs.lemmas.Bool.{cases_Bool}
 use Rattle.std.proofs.lemmas.Bool.Decides.{nat_tests}
 use Rattle.lamport_clock.specs.declared.stamp.Lamport.{Lamport}
 use Rattle.lamport_clock.specs.Stamps.{later, same_stamp}
+use Rattle.lamport_clock.proofs.Later.{later_trans, same_stamp_eq, later_up}
 use Rattle.std.proofs.Math.Bool.{or-false}
 use Rattle.op_model.specs.Cells.{path_at, left_path, text_places, put_all, Cell, PathCell, same_cell, sibling_first, path, path_before, before, cell_at}
 use Rattle.op_model.specs.Laid.{after_run, after_run_from}
-use Rattle.op_model.proofs.order.PathOrder.{path_refl, same_cell_refl, later_trans, same_stamp_eq, first_by_stamp, path_trans, path_antisym}
+use Rattle.op_model.proofs.order.PathOrder.{path_refl, same_cell_refl, first_by_stamp, path_trans, path_antisym}
 use Rattle.op_model.specs.Sorted.{insert_by, Ascending}
 use Rattle.op_model.proofs.order.Insertion.{insert_past, insert_here}
 use Rattle.op_model.proofs.order.LateOperation.{before_total}
@@ -109,10 +110,6 @@ root_rises c (a ∷ p) (d ∷ q) t h e = elim (cases_Bool (same_cell d a)) [
   | inl s ↦ rw s (root_rises c p q t (rw s at h) e.1)
   | inr s ↦ rw s e.0
 ]
-
-later_up : (e r t : Lamport) → later e t ≡ true → later e r ≡ false → later r t ≡ true
-unfolding later
-later_up e r t h g = grind (arith, nat_tests)
 
 -- a place that stands after the left neighbour, whose path is p
 abbrev pub Fine : List PathCell → Cell → List Cell → PathCell → Type 0

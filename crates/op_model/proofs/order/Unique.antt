@@ -9,10 +9,10 @@ use Rattle.op_model.specs.declared.operation.Operation.{Operation}
 use Rattle.op_model.specs.Histories.{History}
 use Rattle.op_model.specs.declared.operation.Piece.{Piece}
 use Rattle.lamport_clock.specs.Stamps.{later, same_stamp}
+use Rattle.lamport_clock.proofs.Later.{same_stamp_eq, later_irrefl}
 use Rattle.op_model.specs.Operations.{stamp_of, version_of, pieces_of}
 use Rattle.op_model.specs.Cells.{Cell, cell_at, same_cell, PathCell, path, before, put_all, text_places, new_places, left_path, both, seq_where}
 use Rattle.op_model.proofs.order.Insertion.{each_insert, insert_past, insert_here}
-use Rattle.op_model.proofs.order.PathOrder.{same_stamp_eq, later_irrefl}
 use Rattle.op_model.proofs.order.LateOperation.{seq_nil, seq_kept, seq_unkept}
 use Rattle.op_model.proofs.order.Skipping.{put}
 use Rattle.op_model.proofs.order.Laying.{Past, past_down, put_all_append, end_of}

@@ -2,10 +2,9 @@
 use Rattle.std.proofs.Common.{◌≡◌, ℕ, suc, ◌<◌, ◌≤◌, ◌⊎◌, List, [], ◌∷◌, ◌++◌, length, refl, sym, ◌∙◌, ap, subst, inl, inr, true, false, cond, not, ◌&&◌, eqb, ltb, leb, arith}
 use Rattle.std.specs.List.{AllByRecursion, find}
 use Rattle.std.proofs.lemmas.Bool.{leb-false, le-leb, cases_lt, eq-eqb}
-use Rattle.std.proofs.lemmas.Bool.Decides.{nat_tests}
 use Rattle.lamport_clock.specs.declared.stamp.Lamport.{Lamport}
-use Rattle.lamport_clock.specs.Stamps.{later}
 use Rattle.lamport_clock.specs.Versions.{Entries, entry, within}
+use Rattle.lamport_clock.proofs.Later.{not_below}
 use Rattle.op_model.specs.declared.operation.Operation.{Operation}
 use Rattle.op_model.specs.declared.limits.Limits.{Limits as LimitsType}
 use Rattle.op_model.specs.Sorted.{Ascending}
@@ -40,10 +39,6 @@ pass_adds l h (op ∷ w) m i = go (turn l h op) (subst (λ (s : State). In s.his
     go Drop j f g = tail (g j)
     go Stay j f g = tail (g j)
     go (Refuse x) j f g = tail (g j)
-
-not_below : (s t : Lamport) → later s t ≡ true → t.value ≤ s.value
-unfolding later
-not_below s t e = grind (arith, nat_tests)
 
 -- an operation that missed a cause in h misses it in g, if g has nothing more of values below its own, or is not good there
 stuck : (l : LimitsType) (h g : History) (op : Operation) → turn l h op ≡ Stay → ((m : Operation) → In g m → (stamp_of m).value < (stamp_of op).value → In h m) → turn l g op ≡ Append → ⊥

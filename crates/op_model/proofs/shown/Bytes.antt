@@ -7,10 +7,10 @@ use Rattle.lamport_clock.specs.declared.stamp.Lamport.{Lamport}
 use Rattle.op_model.specs.Histories.{History, newest_first, kept_history, seen_history}
 use Rattle.lamport_clock.specs.Versions.{Entries, sees}
 use Rattle.lamport_clock.specs.Stamps.{same_stamp}
+use Rattle.lamport_clock.proofs.Later.{same_stamp_eq}
 use Rattle.op_model.specs.Operations.{stamp_of, version_of, pieces_of}
 use Rattle.op_model.specs.Cells.{Cell, PathCell, before, op_places, both, everything, seq_where, cells}
 use Rattle.op_model.specs.Shown.{shows_where, new_bytes, byte, text_where, full_where, text, full}
-use Rattle.op_model.proofs.order.PathOrder.{same_stamp_eq}
 use Rattle.op_model.proofs.order.Insertion.{each_insert_all}
 use Rattle.op_model.proofs.order.LateOperation.{seq_nil, seq_kept, seq_unkept}
 use Rattle.op_model.proofs.order.Restricted.{new_of, each_of}

@@ -1,18 +1,13 @@
 -- Which counts edits are given, with one operation more and by undos of others.
-use Rattle.std.proofs.Common.{◌≡◌, ℕ, max, false, List, [], ◌∷◌, ◌++◌, refl, arith, inl, inr}
-use Rattle.std.proofs.lemmas.Bool.{cases_Bool}
+use Rattle.std.proofs.Common.{◌≡◌, ℕ, max, List, [], ◌∷◌, ◌++◌, refl, arith, inl, inr}
 use Rattle.lamport_clock.specs.declared.stamp.Lamport.{Lamport}
-use Rattle.lamport_clock.specs.Stamps.{same_stamp}
+use Rattle.lamport_clock.proofs.Later.{other_stamp}
 use Rattle.op_model.specs.declared.operation.Operation.{Operation}
 use Rattle.op_model.specs.declared.operation.UndoCount.{UndoCount}
 use Rattle.op_model.specs.Sorted.{Member}
 use Rattle.op_model.specs.Operations.{counts_of}
 use Rattle.op_model.specs.Histories.{History}
 use Rattle.op_model.specs.Shown.{greatest_given, count}
-use Rattle.op_model.proofs.order.PathOrder.{same_stamp_eq}
-
-pub other_stamp : (s t : Lamport) → (s ≡ t → ⊥) → same_stamp s t ≡ false
-other_stamp s t n = elim (cases_Bool (same_stamp s t)) [ inl e ↦ absurd (n (same_stamp_eq s t e)) | inr e ↦ e ]
 
 -- counts of other edits give t none
 pub given_none : (cs : List UndoCount) (t : Lamport) → ((c : UndoCount) → Member c cs → c.edit ≡ t → ⊥) → greatest_given cs t ≡ 0

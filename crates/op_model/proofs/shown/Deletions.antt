@@ -9,15 +9,15 @@ use Rattle.op_model.specs.Histories.{History, newer, by_stamp, kept_history}
 use Rattle.lamport_clock.specs.Versions.{sees}
 use Rattle.op_model.specs.declared.operation.Piece.{Piece}
 use Rattle.lamport_clock.specs.Stamps.{later, same_stamp}
+use Rattle.lamport_clock.proofs.Later.{same_stamp_eq, one_way}
 use Rattle.op_model.specs.Operations.{stamp_of, version_of, pieces_of}
 use Rattle.op_model.specs.Cells.{Cell, PathCell, path, same_cell, both, everything, seq_where}
 use Rattle.op_model.specs.Shown.{in_ranges, visible_by, deleters_where}
 use Rattle.op_model.specs.Facts.{stamp_first, with_deletion}
 use Rattle.op_model.proofs.order.Insertion.{insert_past, insert_here}
-use Rattle.op_model.proofs.order.PathOrder.{same_stamp_eq}
 use Rattle.op_model.proofs.order.LateOperation.{Apart}
 use Rattle.op_model.proofs.order.Restricted.{Agree, seq_agree, Closed, closed_agree}
-use Rattle.op_model.proofs.order.SameSets.{one_way, newer_trans, Desc}
+use Rattle.op_model.proofs.order.SameSets.{newer_trans, Desc}
 use Rattle.op_model.proofs.histories.OneMore.{No, no_stamp}
 use Rattle.op_model.proofs.shown.Parts.{deleters_agree, kept_agree}
 use Rattle.op_model.proofs.shown.Deleters.{hits, hits_same, hits_tail, deleters_kept, deleters_unkept, deleters_anywhere}

@@ -6,6 +6,8 @@ use Rattle.lamport_clock.specs.declared.stamp.Lamport.{Lamport}
 use Rattle.op_model.specs.declared.operation.Operation.{Operation}
 use Rattle.op_model.specs.Histories.{by_stamp, seen_history, sort_onto, History, newest_first, kept_history}
 use Rattle.lamport_clock.specs.Versions.{Entries, sees}
+use Rattle.lamport_clock.proofs.Later.{later_irrefl}
+use Rattle.lamport_clock.proofs.Sees.{passed_unseen}
 use Rattle.op_model.specs.Operations.{stamp_of, version_of, pieces_of, counts_of, is_edit}
 use Rattle.op_model.specs.Cells.{PathCell, seq, seq_where, cells}
 use Rattle.op_model.specs.Laid.{only}
@@ -19,8 +21,6 @@ use Rattle.op_model.specs.Walked.{Run, facts_of, kept_len, Ordered, walk}
 use Rattle.op_model.proofs.shown.Walking.{walk_lays}
 use Rattle.op_model.proofs.shown.EditTold.{edit_told}
 use Rattle.op_model.proofs.answers.Counted.{Counted, uncounted_new, good_ordered}
-use Rattle.op_model.proofs.order.PathOrder.{later_irrefl}
-use Rattle.op_model.proofs.order.Groups.{passed_unseen}
 use Rattle.op_model.proofs.order.Restricted.{restrict}
 use Rattle.op_model.proofs.order.SameSets.{newest_seen, newest_desc}
 use Rattle.op_model.proofs.shown.Deleters.{count_by_stamp}

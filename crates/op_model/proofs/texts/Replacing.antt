@@ -2,12 +2,14 @@
 use Rattle.std.proofs.Common.{◌≡◌, ℕ, zero, suc, ◌+◌, ◌-◌, ◌<◌, ◌≤◌, Bool, List, [], ◌∷◌, ◌++◌, length, map, take, drop, get_or, refl, sym, ◌∙◌, ap, subst, inl, inr, true, false, cond, not, ◌&&◌, eqb, ltb, leb, arith, append_assoc}
 use Rattle.std.proofs.lemmas.List.Elements.{filter-append}
 use Rattle.std.specs.Prelude.{slice_range}
+use Rattle.std.proofs.lemmas.List.Folds.{drop_split}
 use Rattle.std.specs.List.{AllByRecursion, filter}
 use Rattle.std.proofs.lemmas.Bool.{cases_Bool, eqb-true, or_left}
-use Rattle.std.proofs.lemmas.List.{take-append-drop, length-append, map-append as map_append, length-take-le, length-drop}
+use Rattle.std.proofs.lemmas.List.{length-append, map-append as map_append, length-take-le, length-drop}
 use Rattle.lamport_clock.specs.declared.stamp.Lamport.{Lamport}
 use Rattle.lamport_clock.specs.Stamps.{later}
 use Rattle.lamport_clock.specs.Versions.{sees}
+use Rattle.lamport_clock.proofs.Later.{later_irrefl, one_way, later_of}
 use Rattle.op_model.specs.declared.operation.Piece.{Piece}
 use Rattle.op_model.specs.declared.operation.Operation.{Operation}
 use Rattle.op_model.specs.Operations.{stamp_of, version_of, pieces_of}
@@ -20,13 +22,12 @@ use Rattle.op_model.specs.Walked.{Ordered}
 use Rattle.op_model.specs.Made.{full_piece, local_edit}
 use Rattle.op_model.specs.Answers.{answer}
 use Rattle.op_model.specs.Answers.Answer.{Good}
-use Rattle.op_model.proofs.order.PathOrder.{later_irrefl}
 use Rattle.op_model.proofs.order.Restricted.{Agree}
-use Rattle.op_model.proofs.order.SameSets.{newest_desc, newest_same, each_in, one_way}
+use Rattle.op_model.proofs.order.SameSets.{newest_desc, newest_same, each_in}
 use Rattle.op_model.proofs.histories.Lawful.{each_of_in}
 use Rattle.op_model.proofs.histories.OneMore.{Fits}
 use Rattle.op_model.proofs.shown.Parts.{deleters_agree, kept_agree}
-use Rattle.op_model.proofs.answers.Good.{Ready, good_more, checked_of, fits_of, later_of}
+use Rattle.op_model.proofs.answers.Good.{Ready, good_more, checked_of, fits_of}
 use Rattle.op_model.proofs.shown.Facts.{From, from_after, from_down, Stops, step_kept, step_piece, marks_none}
 use Rattle.op_model.proofs.shown.Deletions.{deleters_restrict}
 use Rattle.op_model.proofs.shown.EditTold.{edit_told}
@@ -34,28 +35,11 @@ use Rattle.op_model.proofs.answers.Counted.{Counted, uncounted_new}
 use Rattle.op_model.proofs.order.CellsOnce.{From as CellFrom, all_from}
 use Rattle.op_model.proofs.shown.Walking.{out_of, inside_piece, past_piece, from_ordered, ordered_le}
 use Rattle.op_model.proofs.texts.FullOffsets.{number, offset_count, offset_next, offset_length}
-use Rattle.op_model.proofs.texts.Utf8Runs.{bytes, drop_more}
+use Rattle.op_model.proofs.texts.Utf8Runs.{bytes}
 use Rattle.op_model.proofs.texts.WholeTexts.{byte_of, text_told, bytes_told, same_bytes, new_text, byte_is, in_last}
 use Rattle.op_model.proofs.histories.VersionLaws.{sees_own, clock_above, clock_under}
 use Rattle.op_model.proofs.answers.MadeGood.{at, full_end, end_after, end_before, text_number, Sound}
-use Rattle.op_model.proofs.Elements.{each_take, each_drop, or_no, less_than}
-
--- ---- lists
-
-drop_split : {A : Type 0} (s : List A) (a b : ℕ) → a ≤ b → drop a s ≡ slice_range s a b ++ drop b s
-drop_split s a b h = sym (ap (λ x. take (b - a) (drop a s) ++ x) (sym (drop_more s a (b - a) b (omega arith))) ∙ take-append-drop (b - a) (drop a s))
-
-take_nothing : {A : Type 0} (n : ℕ) → (let e : List A = [] in e) ≡ take n []
-take_nothing zero = refl
-take_nothing (suc n) = refl
-
-take_split : {A : Type 0} (s : List A) (a b : ℕ) → a ≤ b → take b s ≡ take a s ++ slice_range s a b
-take_split s zero b h = let e : b ≡ b - 0 = omega arith in ap (λ n. take n s) e
-take_split [] (suc a) zero h = absurd (omega arith)
-take_split [] (suc a) (suc b) h = take_nothing (suc b - suc a)
-take_split (x ∷ s) (suc a) zero h = absurd (omega arith)
-take_split (x ∷ s) (suc a) (suc b) h = let e : b - a ≡ suc b - suc a = omega arith in
-    ap (λ z. x ∷ z) (take_split s a b (omega arith)) ∙ ap (λ n. x ∷ (take a s ++ take n (drop a s))) e
+use Rattle.op_model.proofs.Elements.{each_take, each_drop, or_no, less_than, take_split}
 
 -- ---- what is shown of facts
 
@@ -113,7 +97,6 @@ module _ (b : Cell → ℕ) where
   visible_text-marked m (q ∷ s) e = rw e.0 (visible_text-marked m s e.1)
 
 -- ---- laying in where all cells pass and none is later
-
 module _ (keep : Lamport → Bool) (t : Lamport) (m : Marking) (hit : ℕ → Bool) where
   abbrev touch : Bool → Fact → Fact
   touch b q = cond b (mark m q) q
@@ -174,7 +157,6 @@ module _ (keep : Lamport → Bool) (t : Lamport) (m : Marking) (hit : ℕ → Bo
         (ap (λ (z : List Fact). lay_facts keep t p.start (k + length p.text) ps (marks m keep hit p.start z)) (drop_split s0 p.start p.end o1) ∙ s3 ∙ ap (λ (z : List Fact). map (mark m) (slice_range s0 p.start p.end) ++ z) s4))
 
 -- ---- the text after a local edit
-
 count_cells : (h : History) (n : ℕ) (s : List Cell) → length (filter (λ (q : Fact). q.visible) (take n (map (fact h) s))) ≡ number (shows h) (take n s)
 count_cells h zero s = refl
 count_cells h (suc n) [] = refl

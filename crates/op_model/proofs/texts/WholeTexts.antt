@@ -7,6 +7,7 @@ use Rattle.std.proofs.lemmas.List.{length-append, append-nil}
 use Rattle.lamport_clock.specs.declared.stamp.Lamport.{Lamport}
 use Rattle.lamport_clock.specs.Stamps.{later}
 use Rattle.lamport_clock.specs.Versions.{sees}
+use Rattle.lamport_clock.proofs.Sees.{passed_unseen}
 use Rattle.op_model.specs.declared.operation.Piece.{Piece}
 use Rattle.op_model.specs.declared.operation.Operation.{Operation}
 use Rattle.op_model.specs.Operations.{stamp_of, version_of, pieces_of, is_edit}
@@ -21,7 +22,6 @@ use Rattle.op_model.specs.Answers.{answer}
 use Rattle.op_model.specs.Answers.Answer.{Good}
 use Rattle.op_model.specs.Lawful.{Lawful, LawfulFrom}
 use Rattle.op_model.proofs.order.Restricted.{restrict}
-use Rattle.op_model.proofs.order.Groups.{passed_unseen}
 use Rattle.op_model.proofs.order.SameSets.{Desc, newest_desc, newest_same}
 use Rattle.op_model.proofs.histories.OneMore.{Fits, one_more, none_yet}
 use Rattle.op_model.proofs.shown.Bytes.{full_seen}
