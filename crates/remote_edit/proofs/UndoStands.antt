@@ -153,7 +153,7 @@ module _ (h : History) (op : Operation) (w : List UndoEntry) (ts : List Lamport)
   sees_same : (f : Fragment) → HasLaterDeletions f → list_any (concerns f) ts ≡ false → SeesUndos h f → SeesUndos next f
   sees_same f z n s o i c j k = elim (in_append h op o i) [
     | inl l ↦ s o l c j k
-    | inr e ↦ (let d = uncounted f z n c c.edit (subst (λ (p : Operation). Member c (counts_of p)) e j) k in let r = same_stamp_refl c.edit in cc)
+    | inr e ↦ absurd (uncounted f z n c c.edit (subst (λ (p : Operation). Member c (counts_of p)) e j) k refl)
   ]
 
   one_sees : (f : Fragment) → HasLaterDeletions f → SeesUndos h f → SeesUndos next (m f)

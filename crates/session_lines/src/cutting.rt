@@ -42,7 +42,7 @@ fn newline_count(text: &[u8]) -> usize
 }
 
 /// How many lines there are.
-#[tactic(auto, using(crate::proofs::Cut::lines_counted))]
+#[tactic(auto, using(crate::proofs::Cut::lines_counted), unfolding(text_dims::specs::Counts::newline_count))]
 pub fn line_count(text: &[u8]) -> usize
     ensures { result ≡ length (lines_of text.now) }
 {

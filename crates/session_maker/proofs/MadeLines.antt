@@ -70,7 +70,7 @@ module _ (n : ℕ) (some : 1 ≤ n) (most : n ≤ 16) where
       let zeroth : i % 8 ≡ 0 = eqb-true (i % 8) 0 h in
       let eighth : 8 ≤ i = omega arith in
       gives_read (ids_to n) i (last_eight i) (ids_to n) (omega arith)
-      (low, omega arith, (omega arith, omega arith, (omega arith, omega arith, (omega arith, omega arith, (omega arith, omega arith, (omega arith, omega arith, (omega arith, omega arith, (omega arith, omega arith, tt))))))))
+      ((low, omega arith), ((omega arith, omega arith), ((omega arith, omega arith), ((omega arith, omega arith), ((omega arith, omega arith), ((omega arith, omega arith), ((omega arith, omega arith), ((omega arith, omega arith), tt))))))))
       (known_from n 1 n (omega arith) (omega arith) (omega arith)))
       (λ h. refl)
 

@@ -12,6 +12,7 @@ use Rattle.session_lines.specs.Session.{session_of_text, header_of, line_of}
 use Rattle.session_lines.specs.Words.{bad_line}
 use Rattle.session_lines.specs.Report.{report_text, line_text, made_line, refused_edit_line, refused_undo_line, unnamed_line, settled_line, give_line, text_line, replica_line, refused_op_line, query_line, anchor_line, where_line, mark_line, since_line, checked_line}
 use Rattle.text_dims.specs.Counts.{utf16_count, newline_count, rows, last_row}
+use Rattle.text_dims.specs.Summaries.{end_point}
 use Rattle.text_dims.specs.Places.{end_place, places}
 use Rattle.snapshot_search.specs.Starts.{starts}
 use Rattle.session_replay.specs.Queries.{report_of}
