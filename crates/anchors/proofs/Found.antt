@@ -1,7 +1,6 @@
 -- Where a cell stands, by the fragment that the index names.
-use Rattle.std.proofs.Common.{◌≡◌, ℕ, zero, suc, ◌+◌, ◌-◌, ◌<◌, ◌≤◌, Bool, true, false, cond, ◌&&◌, ltb, leb, List, [], ◌∷◌, ◌++◌, length, Option, Some, None, refl, sym, ap, ◌∙◌, arith, subst, inl, inr}
-use Rattle.std.specs.Option.{option_map}
-use Rattle.std.proofs.lemmas.Bool.{cases_Bool, cases_lt, and_parts, lt-ltb, le-leb, ltb-true, leb-true, false_from_ne_true}
+use Rattle.std.proofs.Common.{◌≡◌, ℕ, ◌+◌, ◌-◌, ◌<◌, ◌≤◌, Bool, true, false, cond, ◌&&◌, ltb, leb, List, [], ◌∷◌, ◌++◌, length, Option, Some, None, refl, sym, ap, ◌∙◌, arith, subst, inl, inr}
+use Rattle.std.proofs.lemmas.Bool.{cases_lt, and_parts, lt-ltb, le-leb, ltb-true, leb-true, false_from_ne_true}
 use Rattle.std.proofs.lemmas.List.{map-append}
 use Rattle.std.proofs.lemmas.Option.{none-some}
 use Rattle.lamport_clock.specs.declared.stamp.Lamport.{Lamport}
@@ -19,39 +18,20 @@ use Rattle.op_model.proofs.MainLaws.{each_cell_once}
 use Rattle.undo_map.specs.declared.entry.UndoEntry.{UndoEntry}
 use Rattle.op_model.proofs.shown.FactCells.{cells_in, told_cells}
 use Rattle.op_model.proofs.Elements.{member_right, member_either, split_at}
+use Rattle.op_model.proofs.order.CellsOnce.{alike_bounds}
 use Rattle.fragments.specs.declared.fragment.Fragment.{Fragment}
 use Rattle.fragments.specs.declared.index_entry.IndexEntry.{IndexEntry}
-use Rattle.fragments.specs.Index.{covers, nearest, entry_for, id_for}
+use Rattle.fragments.specs.Index.{entry_for, id_for}
 use Rattle.fragments.specs.Stand.{Stand, Tell, runs, Rise}
 use Rattle.fragments.specs.Laws.{shown_len, cells_len}
 use Rattle.fragments.proofs.Founds.{index_finds_fragments, fragment_of}
+use Rattle.fragments.proofs.Indexes.{entry_member, id_entry}
 use Rattle.locators.specs.Locator.{least_digits}
 use Rattle.anchors.specs.declared.spot.Spot.{Spot}
 use Rattle.anchors.specs.declared.spot.Run.{Run}
 use Rattle.anchors.specs.Spots.{spot, spot_of, spot_in, spot_if, run_behind, IsRunOf}
 use Rattle.anchors.proofs.Splits.{before_is}
 use Rattle.anchors.proofs.Runs.{before, behind, cells_split, is_shown, shown_before, length_before}
-
--- ---- entries
-
-member_more : (y e : IndexEntry) (w : List IndexEntry) (r : Option IndexEntry) → ((x : IndexEntry) → r ≡ Some x → Member x w) → Some (nearest y r) ≡ Some e → Member e (y ∷ w)
-member_more y e w None f q = let i : y ≡ e = cc in inl (sym i)
-member_more y e w (Some z) f q = go (ltb y.offset z.offset) q
-  where
-    go : (b : Bool) → Some (cond b z y) ≡ Some e → Member e (y ∷ w)
-    go true i = inr (f e i)
-    go false i = let j : y ≡ e = cc in inl (sym j)
-
-entry_member : (t : Lamport) (o : ℕ) (w : List IndexEntry) (e : IndexEntry) → entry_for t o w ≡ Some e → Member e w
-entry_member t o [] e q = absurd (cc)
-entry_member t o (y ∷ w) e q = elim (cases_Bool (covers t o y)) [
-  | inl c ↦ member_more y e w (entry_for t o w) (λ x i. entry_member t o w x i) (rw c at q)
-  | inr c ↦ inr (entry_member t o w e (rw c at q))
-]
-
-id_entry : (i : List ℕ) (r : Option IndexEntry) → option_map (λ (e : IndexEntry). e.id) r ≡ Some i → (e : IndexEntry) × (r ≡ Some e) × (e.id ≡ i)
-id_entry i None q = absurd (cc)
-id_entry i (Some e) q = (e, refl, cc)
 
 -- ---- fragments that have a cell
 
@@ -60,16 +40,11 @@ pub record Has (f : Fragment) (t : Lamport) (k : ℕ) : Type 0 where
   low : f.offset ≤ k
   high : k < f.offset + f.len
 
-alike_has : (c : Cell) (t : Lamport) (o n : ℕ) (v : Bool) (d : List Lamport) → Member c (cells_in (alike t o n v d)) → (t ≡ c.stamp) × (o ≤ c.k) × (c.k < o + n)
-alike_has c t o zero v d m = absurd m
-alike_has c t o (suc n) v d (inl e) = let k : c.k ≡ o = ap (λ (x : Cell). x.k) e in (ap (λ (x : Cell). x.stamp) (sym e), omega (arith, k), omega (arith, k))
-alike_has c t o (suc n) v d (inr m) = let k = alike_has c t (suc o) n v d m in let a = k.1 in let b = k.2 in (k.0, omega (arith, a), omega (arith, b))
-
 has_fragment : (fs : List Fragment) (c : Cell) → Member c (cells_in (facts_of (runs fs))) → (f : Fragment) × Member f fs × Has f c.stamp c.k
 has_fragment [] c m = absurd m
 has_fragment (f ∷ fs) c m = elim (member_either c (cells_in (alike f.stamp f.offset f.len f.visible f.deletions)) (cells_in (facts_of (runs fs)))
     (subst (Member c) (map-append (λ (q : Fact). q.cell) (alike f.stamp f.offset f.len f.visible f.deletions) (facts_of (runs fs))) m)) [
-      | inl i ↦ (let k = alike_has c f.stamp f.offset f.len f.visible f.deletions i in (f, inl refl, record { stamp = k.0; low = k.1; high = k.2 }))
+      | inl i ↦ (let k = alike_bounds c f.stamp f.offset f.len f.visible f.deletions i in (f, inl refl, record { stamp = k.0; low = k.1; high = k.2 }))
       | inr i ↦ (let k = has_fragment fs c i in (k.0, inr k.1, k.2))
     ]
 

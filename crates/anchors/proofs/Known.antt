@@ -1,5 +1,5 @@
 -- Which anchors are known, and where they stand.
-use Rattle.std.proofs.Common.{◌≡◌, ℕ, ◌+◌, ◌-◌, ◌<◌, ◌≤◌, ◌⊎◌, Bool, true, false, cond, ◌&&◌, ◌||◌, ltb, leb, List, [], ◌∷◌, ◌++◌, length, Some, None, refl, sym, ap, ◌∙◌, arith, inl, inr}
+use Rattle.std.proofs.Common.{◌≡◌, ℕ, ◌+◌, ◌-◌, ◌<◌, ◌≤◌, ◌⊎◌, Bool, true, false, cond, ◌&&◌, ltb, leb, List, ◌∷◌, ◌++◌, length, Some, None, refl, sym, ap, ◌∙◌, arith, inl, inr}
 use Rattle.std.specs.Ordering.{nat_cmp, ordering_then}
 use Rattle.std.specs.declared.cmp.Ordering.{Ordering}
 use Rattle.std.proofs.lemmas.Bool.{cases_Bool, cases_lt, and_parts, lt-ltb, le-leb, ltb-true, ltb-false, leb-true, false_from_ne_true, lt-leb, and_right}
@@ -15,17 +15,17 @@ use Rattle.op_model.specs.declared.anchor.Anchor.TheVariants.{Least, Greatest, A
 use Rattle.op_model.specs.declared.anchor.Bias.{Bias}
 use Rattle.op_model.specs.declared.anchor.Bias.TheVariants.{Left, Right}
 use Rattle.op_model.specs.Anchors.{shown_count, place, gap, is_known, compare_anchors, known_order}
-use Rattle.op_model.proofs.MainLaws.{each_cell_once}
 use Rattle.fragments.specs.declared.fragment.Fragment.{Fragment}
 use Rattle.fragments.specs.declared.index_entry.IndexEntry.{IndexEntry}
 use Rattle.anchors.specs.declared.spot.Spot.{Spot}
 use Rattle.anchors.specs.declared.standing.Standing.{Standing}
 use Rattle.anchors.specs.Spots.{spot, spot_of, begins}
 use Rattle.anchors.specs.Standing.{StandFor, bias_of, side, standing_of}
-use Rattle.anchors.proofs.Splits.{before_is, number_upto, length_upto, in_text, in_hidden, both_lengths}
+use Rattle.anchors.proofs.Splits.{before_is, number_upto, length_upto, in_text, in_hidden}
 use Rattle.op_model.proofs.anchors.KnownAnchors.{edit_there}
 use Rattle.op_model.proofs.texts.WholeTexts.{same_byte}
-use Rattle.op_model.proofs.Elements.{split_at}
+use Rattle.op_model.proofs.texts.Hidden.{both_lengths}
+use Rattle.op_model.proofs.anchors.Standing.{end_boundary, split_cell}
 
 -- ---- spots
 
@@ -42,15 +42,6 @@ none_spot h c e = go (cases_Bool (ltb c.k (length (new_bytes h c.stamp))))
     go : (ltb c.k (length (new_bytes h c.stamp)) ≡ true) ⊎ (ltb c.k (length (new_bytes h c.stamp)) ≡ false) → length (new_bytes h c.stamp) ≤ c.k
     go (inl t) = let q : Some (spot h c) ≡ None = ap (λ (b : Bool). cond b (Some (spot h c)) None) (sym t) ∙ e in absurd (none-some (spot h c) (sym q))
     go (inr t) = ltb-false c.k (length (new_bytes h c.stamp)) t
-
--- ---- boundaries
-
-at_end : (xs : List ℕ) (i : ℕ) → i ≡ length xs → is_boundary xs i ≡ true
-at_end xs i e = rw (le-leb i (length xs) (omega (arith, e)), le-leb (length xs) i (omega (arith, e))) refl
-
--- the cells of a history split at one of them
-pub split_cell : (h : History) → Lawful h → (c : Cell) → c.k < length (new_bytes h c.stamp) → (cs ds : List Cell) × (cells (seq h) ≡ cs ++ c ∷ ds)
-split_cell h l c i = split_at c (cells (seq h)) (((each_cell_once h l).2 c).1 i)
 
 module _ (fs : List Fragment) (w : List IndexEntry) (v n : List ℕ) (h : History) (s : StandFor fs w v n h) where
   -- a character begins at a spot where one of its edit's new bytes does
@@ -79,7 +70,7 @@ module _ (fs : List Fragment) (w : List IndexEntry) (v n : List ℕ) (h : Histor
           ∙ same_byte (hidden_text h) (new_bytes h c.stamp) (length cs - shown_count h cs) c.k y.0 i y.1
 
 pub ends_none : (h : History) (c : Cell) → spot_of h c ≡ None → c.k ≤ length (new_bytes h c.stamp) → true ≡ is_boundary (new_bytes h c.stamp) c.k
-ends_none h c e m = let k = none_spot h c e in sym (at_end (new_bytes h c.stamp) c.k (omega (arith, k, m)))
+ends_none h c e m = let k = none_spot h c e in sym (end_boundary (new_bytes h c.stamp) c.k (omega (arith, k, m)))
 
 -- ---- what is known
 
@@ -122,20 +113,6 @@ module _ (h : History) (t : Lamport) (k : ℕ) where
       go (inl p) = second_of (has_edit h t) (is_boundary (new_bytes h t) k) (leb 1 k) (leb k (length (new_bytes h t))) (edit_there h t (k - 1) l)
           (le-leb 1 k (omega (arith, p))) (le-leb k (length (new_bytes h t)) (omega (arith, p, l)))
       go (inr p) = absurd (z (omega (arith, p)))
-
--- the cell that a known anchor names
-pub right_cell : (h : History) (t : Lamport) (k : ℕ) → is_known h (At t k Right) ≡ true → k < length (new_bytes h t)
-unfolding is_known
-right_cell h t k e = ltb-true k (length (new_bytes h t)) (and_parts (has_edit h t && is_boundary (new_bytes h t) k) (ltb k (length (new_bytes h t))) e).1
-
-pub left_cell : (h : History) (t : Lamport) (k : ℕ) → is_known h (At t k Left) ≡ true → (1 ≤ k) × (k - 1 < length (new_bytes h t))
-unfolding is_known
-left_cell h t k e =
-    let x = and_parts (has_edit h t && is_boundary (new_bytes h t) k && leb 1 k) (leb k (length (new_bytes h t))) e in
-    let y = and_parts (has_edit h t && is_boundary (new_bytes h t) k) (leb 1 k) x.0 in
-    let a = leb-true 1 k y.1 in
-    let b = leb-true k (length (new_bytes h t)) x.1 in
-    (a, omega (arith, a, b))
 
 -- ---- where they stand
 

@@ -1,36 +1,31 @@
 -- Anchors made at shown cells.
-use Rattle.std.proofs.Common.{[], min, ◌^◌, ◌≡◌, ℕ, zero, suc, ◌+◌, ◌-◌, ◌<◌, ◌≤◌, ◌⊎◌, Bool, true, false, cond, eqb, ltb, List, ◌∷◌, ◌++◌, length, Some, None, refl, sym, ap, ◌∙◌, arith, subst, inl, inr}
+use Rattle.std.proofs.Common.{[], min, ◌^◌, ◌≡◌, ℕ, zero, suc, ◌+◌, ◌-◌, ◌<◌, Bool, true, cond, eqb, List, ◌∷◌, ◌++◌, length, Some, None, refl, sym, ap, ◌∙◌, arith, subst}
 use Rattle.std.specs.List.{AllByRecursion}
 use Rattle.std.specs.Prelude.{slice_get}
 use Rattle.std.specs.Option.{option_map}
-use Rattle.std.proofs.lemmas.Bool.{cases_Bool, cases_lt, ltb-false, eqb-true, eq-eqb, false_from_ne_true}
-use Rattle.std.proofs.lemmas.List.{length-map}
-use Rattle.std.proofs.lemmas.Option.{slice_get_past, slice_get_within, none-some}
-use Rattle.op_model.specs.Histories.{History}
+use Rattle.std.proofs.lemmas.Bool.{eqb-true, false_from_ne_true}
+use Rattle.std.proofs.lemmas.Option.{slice_get_past, slice_get_within}
+use Rattle.op_model.specs.Histories.{History, SameSet}
 use Rattle.op_model.specs.Cells.{Cell, cell_at}
-use Rattle.op_model.specs.Shown.{shows, text, byte}
+use Rattle.op_model.specs.Shown.{shows, text}
 use Rattle.op_model.specs.Lawful.{Lawful}
-use Rattle.op_model.specs.declared.anchor.Anchor.TheVariants.{Least, Greatest, At}
+use Rattle.op_model.specs.declared.anchor.Anchor.TheVariants.{Greatest, At}
 use Rattle.op_model.specs.declared.anchor.Bias.TheVariants.{Left, Right}
-use Rattle.op_model.specs.declared.faults.PlaceFault.TheVariants.{PastEnd}
-use Rattle.op_model.specs.Anchors.{shown_cells, left_anchor, right_anchor, place_fault, shown_count}
-use Rattle.op_model.proofs.MainLaws.{texts_are_shown_cells}
+use Rattle.op_model.specs.Anchors.{shown_cells, left_anchor, right_anchor, shown_count}
+use Rattle.op_model.proofs.anchors.Standing.{text_length}
+use Rattle.op_model.specs.declared.anchor.Bias.{Bias}
+use Rattle.op_model.proofs.MainLaws.{same_sets_answer_alike}
 use Rattle.undo_map.specs.declared.entry.UndoEntry.{UndoEntry}
-use Rattle.undo_map.proofs.Seeking.{none_past}
 use Rattle.fragments.specs.declared.fragment.Fragment.{Fragment}
 use Rattle.fragments.specs.declared.index_entry.IndexEntry.{IndexEntry}
 use Rattle.fragments.specs.Stand.{Stand, Tell, IsFilled}
 use Rattle.fragments.specs.Laws.{shown_len}
+use Rattle.fragments.proofs.Cells.{shown_number}
 use Rattle.anchors.specs.declared.making.Byte.{Byte}
-use Rattle.anchors.specs.Making.{cell_of}
+use Rattle.anchors.specs.Making.{cell_of, made_anchor}
 use Rattle.anchors.proofs.Splits.{got_shown}
-use Rattle.anchors.proofs.Runs.{before, behind, cells_split, is_shown, shown_before, all_visible}
+use Rattle.anchors.proofs.Runs.{before, behind, cells_split, is_shown, shown_before}
 use Rattle.anchors.proofs.Seeking.{ByteAt, seek_none, shown_sought}
-
--- ---- shown cells among fragments
-
-shown_number : (fs : List Fragment) (h : History) → Tell fs h → length (shown_cells h) ≡ shown_len fs
-shown_number fs h e = all_visible h fs e
 
 -- behind the last there is none
 pub no_byte : (fs : List Fragment) (w : List IndexEntry) (u : List UndoEntry) (h : History) (o : ℕ) → Stand fs w u h → None ≡ slice_get fs (shown_sought o 0 fs) → None ≡ slice_get (shown_cells h) o
@@ -73,20 +68,6 @@ byte_is fs w u h o b n f s l a e =
 pub byte_room : (fs : List Fragment) (w : List IndexEntry) (u : List UndoEntry) (h : History) (o b n : ℕ) (f : Fragment) → Stand fs w u h → ByteAt fs o f b → n ≡ min (f.offset + (o - b)) (2 ^ 64 - 1) → n + 1 < 2 ^ 64
 byte_room fs w u h o b n f s a e = (number_is fs w u h o b n f s a e).1
 
--- ---- anchors
-
-text_length : (h : History) → Lawful h → length (text h) ≡ length (shown_cells h)
-text_length h l = ap length (texts_are_shown_cells h l).0 ∙ length-map (shown_cells h) (byte h)
-
-pub left_start : (h : History) (o : ℕ) → o ≡ 0 → left_anchor h o ≡ Some Least
-unfolding left_anchor
-left_start h zero e = refl
-left_start h (suc o) e = absurd (omega (arith, e))
-
-pub left_within : (h : History) (o : ℕ) → Lawful h → (o ≡ 0 → ⊥) → o ≤ length (text h) → None ≡ slice_get (shown_cells h) (o - 1) → ⊥
-left_within h o l z m e = let n = none_past (shown_cells h) (o - 1) (sym e) in let t = text_length h l in
-    elim (cases_lt 0 o) [ inl p ↦ absurd (omega (arith, n, t, m, p)) | inr p ↦ z (omega (arith, p)) ]
-
 pub left_some : (h : History) (o : ℕ) (b : Byte) (n : ℕ) → (o ≡ 0 → ⊥) → Some (cell_of b) ≡ slice_get (shown_cells h) (o - 1) → b.k + 1 < 2 ^ 64 → n ≡ min (b.k + 1) (2 ^ 64 - 1)
     → left_anchor h o ≡ Some (At b.stamp n Left)
 unfolding left_anchor
@@ -96,13 +77,6 @@ left_some h (suc o) b n z e m i =
     let k : n ≡ suc b.k = omega (arith, m, i) in
     ap (option_map (λ (c : Cell). At c.stamp (suc c.k) Left)) (sym (e ∙ ap (slice_get (shown_cells h)) q)) ∙ ap (λ (x : ℕ). Some (At b.stamp x Left)) (sym k)
 
-pub right_end : (h : History) (o : ℕ) → Lawful h → o ≤ length (text h) → None ≡ slice_get (shown_cells h) o → right_anchor h o ≡ Some Greatest
-unfolding right_anchor
-right_end h o l m e =
-    let n = none_past (shown_cells h) o (sym e) in let t = text_length h l in
-    let q : o ≡ length (text h) = omega (arith, n, t, m) in
-    ap (λ (b : Bool). cond b (Some Greatest) (option_map (λ (c : Cell). At c.stamp c.k Right) (slice_get (shown_cells h) o))) (eq-eqb o (length (text h)) q)
-
 pub right_some : (h : History) (o : ℕ) (b : Byte) → Lawful h → Some (cell_of b) ≡ slice_get (shown_cells h) o → right_anchor h o ≡ Some (At b.stamp b.k Right)
 unfolding right_anchor
 right_some h o b l e =
@@ -111,11 +85,6 @@ right_some h o b l e =
     (false_from_ne_true (eqb o (length (text h))) (λ q. let i = eqb-true o (length (text h)) q in absurd (omega (arith, i, n, t))))
     ∙ ap (option_map (λ (c : Cell). At c.stamp c.k Right)) (sym e)
 
--- ---- faults
-
-pub faultless_within : (h : History) (o : ℕ) → place_fault h o ≡ None → o ≤ length (text h)
-faultless_within h o e = go (cases_Bool (ltb (length (text h)) o)) e
-  where
-    go : (ltb (length (text h)) o ≡ true) ⊎ (ltb (length (text h)) o ≡ false) → place_fault h o ≡ None → o ≤ length (text h)
-    go (inl t) e = let q : Some (PastEnd (length (text h))) ≡ None = rw t at e in absurd (none-some (PastEnd (length (text h))) (sym q))
-    go (inr t) e = ltb-false (length (text h)) o t
+pub made_same : (h g : History) → Lawful h → Lawful g → SameSet h g → (o : ℕ) → (b : Bias) → made_anchor h o b ≡ made_anchor g o b
+made_same h g l m s o Left = ((same_sets_answer_alike h g l m s).0 o).0
+made_same h g l m s o Right = ((same_sets_answer_alike h g l m s).0 o).1

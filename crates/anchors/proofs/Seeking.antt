@@ -1,17 +1,12 @@
 -- Seeks among fragments: by an id, and by shown cells.
-use Rattle.std.proofs.Common.{◌≡◌, ℕ, zero, suc, ◌+◌, ◌<◌, ◌≤◌, ◌^◌, ◌⊎◌, Bool, true, false, cond, not, nat_lt, List, [], ◌∷◌, ◌++◌, length, take, drop, zero-add, Option, Some, None, refl, sym, ap, ◌∙◌, arith, subst, inl, inr}
+use Rattle.std.proofs.Common.{◌≡◌, ℕ, zero, suc, ◌+◌, ◌<◌, ◌≤◌, ◌^◌, Bool, true, false, cond, not, nat_lt, List, [], ◌∷◌, ◌++◌, length, take, drop, zero-add, Option, Some, None, refl, sym, ap, ◌∙◌, arith, subst, inl, inr}
 use Rattle.std.specs.Prelude.{slice_get}
-use Rattle.std.specs.Cmp.Lexicographic.{slice_cmp}
-use Rattle.std.specs.Ordering.{nat_cmp, is_lt, ordering_reverse}
-use Rattle.std.specs.declared.cmp.Ordering.{Ordering}
-use Rattle.std.specs.declared.cmp.Ordering.TheVariants.{Less, Equal, Greater}
-use Rattle.std.proofs.lemmas.Cmp.{nat_list_cmp_total}
 use Rattle.std.proofs.lemmas.Bool.{cases_Bool, ltb-true, ltb-false}
 use Rattle.sum_tree.specs.Laws.{fold}
 use Rattle.tree_cursor.specs.Places.{behind, place_behind, seek_count, filter_count}
 use Rattle.tree_cursor.specs.Counting.{number_passes}
 use Rattle.tree_cursor.specs.declared.traits.Bias.TheVariants.{Right}
-use Rattle.locators.specs.Locator.{IsLess, least_digits}
+use Rattle.locators.specs.Locator.{least_digits}
 use Rattle.fragments.specs.declared.fragment.Fragment.{Fragment}
 use Rattle.fragments.specs.declared.fragment.FragmentSummary.{FragmentSummary}
 use Rattle.fragments.specs.Summaries.{no_fragments, summaries, summary_of, id_less, SummaryFits}
@@ -20,22 +15,11 @@ use Rattle.fragments.specs.SeenPlaces.{move_visible}
 use Rattle.fragments.specs.Stand.{Rise}
 use Rattle.fragments.specs.Laws.{shown_len, cells_len}
 use Rattle.fragments.proofs.Counts.{own_cells, visible_more, places_count_cells, fold_cells, cells_len-append}
+use Rattle.fragments.proofs.Cells.{shown_less}
+use Rattle.fragments.proofs.Rises.{not_self, less_is}
 use Rattle.anchors.specs.Before.{CellsBefore, at, move_before, reaches}
 use Rattle.std.proofs.lemmas.Option.{same_Some, none-some}
 use Rattle.anchors.specs.Spots.{run_behind, RunFits}
-
--- ---- ids
-
-not_self_at : (o : Ordering) → o ≡ ordering_reverse o → is_lt o ≡ false
-not_self_at Less e = cc
-not_self_at Equal e = refl
-not_self_at Greater e = refl
-
-not_self : (a : List ℕ) → id_less a a ≡ false
-not_self a = not_self_at (slice_cmp nat_cmp a a) (nat_list_cmp_total.antisymm a a)
-
-less_is : (a b : List ℕ) → IsLess a b → id_less a b ≡ true
-less_is a b e = ap is_lt e
 
 below : (low : List ℕ) (pre post : List Fragment) (f : Fragment) → Rise low (pre ++ f ∷ post) → id_less low f.id ≡ true
 below low [] post f r = less_is low f.id r.0
@@ -70,14 +54,6 @@ whole fs = fold no_fragments summaries summary_of fs
 
 pub whole_cells : (fs : List Fragment) → SummaryFits (whole fs) → cells_len fs < 2 ^ 64
 whole_cells fs h = let a = fold_cells no_fragments fs in omega (arith, a, h)
-
-pub shown_less : (fs : List Fragment) → shown_len fs ≤ cells_len fs
-shown_less [] = omega arith
-shown_less (f ∷ fs) = go f.visible (shown_less fs)
-  where
-    go : (b : Bool) → shown_len fs ≤ cells_len fs → cond b (f.len + shown_len fs) (shown_len fs) ≤ f.len + cells_len fs
-    go true h = omega (arith, h)
-    go false h = omega (arith, h)
 
 -- ---- what stands at an index
 

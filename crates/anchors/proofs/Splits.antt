@@ -1,12 +1,12 @@
 -- The cells of a history, split at one of them.
-use Rattle.std.proofs.Common.{◌≡◌, ℕ, ◌+◌, ◌-◌, ◌<◌, Bool, true, false, cond, not, List, [], ◌∷◌, ◌++◌, length, get_or, refl, sym, ap, ◌∙◌, arith, subst, inl, inr, Some}
+use Rattle.std.proofs.Common.{◌≡◌, ℕ, ◌+◌, ◌-◌, ◌<◌, Bool, true, false, cond, not, List, [], ◌∷◌, ◌++◌, length, get_or, refl, sym, ap, ◌∙◌, arith, subst, Some}
 use Rattle.std.specs.Prelude.{slice_get}
 use Rattle.std.specs.List.{AllByRecursion, filter}
-use Rattle.std.proofs.lemmas.Bool.{cases_Bool, false_from_ne_true}
-use Rattle.std.proofs.lemmas.List.{length-append, length-map}
+use Rattle.std.proofs.lemmas.Bool.{false_from_ne_true}
+use Rattle.std.proofs.lemmas.List.{length-append}
 use Rattle.std.proofs.lemmas.List.Elements.{filter-append}
 use Rattle.std.proofs.lemmas.List.Filters.{length-filter_both}
-use Rattle.op_model.proofs.Elements.{each_right}
+use Rattle.op_model.proofs.Elements.{each_right, got_at}
 use Rattle.op_model.specs.Sorted.{EachPair}
 use Rattle.op_model.specs.Histories.{History}
 use Rattle.op_model.specs.Cells.{Cell, same_cell, seq, cells}
@@ -16,13 +16,6 @@ use Rattle.op_model.specs.Anchors.{cells_before, cells_upto, shown_count, shown_
 use Rattle.op_model.proofs.order.PathOrder.{same_cell_eq, same_cell_refl}
 use Rattle.op_model.proofs.MainLaws.{each_cell_once, texts_are_shown_cells}
 use Rattle.op_model.proofs.anchors.KnownAnchors.{got_map}
-
--- ---- lists
-
--- the n-th that passes, n being the number of those before it that do
-pub got_at : {A : Type 0} (p : A → Bool) (xs : List A) (x : A) (ys : List A) → p x ≡ true → slice_get (filter p (xs ++ x ∷ ys)) (length (filter p xs)) ≡ Some x
-got_at p [] x ys e = rw e refl
-got_at p (y ∷ xs) x ys e = elim (cases_Bool (p y)) [ inl k ↦ rw k (got_at p xs x ys e) | inr k ↦ rw k (got_at p xs x ys e) ]
 
 -- ---- cells before one
 
@@ -87,12 +80,3 @@ module _ (h : History) (l : Lawful h) (cs : List Cell) (c : Cell) (ds : List Cel
       ap (λ (s : List Cell). slice_get (filter (λ (d : Cell). not (shows h d)) s) number_hidden) e ∙ got_at (λ (d : Cell). not (shows h d)) cs c ds (ap not v) in
       let k = got_map (byte h) (filter (λ (d : Cell). not (shows h d)) (cells (seq h))) number_hidden c g in
       subst (λ (n : ℕ). (n < length (hidden_text h)) × (get_or (hidden_text h) n 0 ≡ byte h c)) hidden_count k
-
--- the lengths of both texts
-pub both_lengths : (h : History) → Lawful h → length (text h) + length (hidden_text h) ≡ length (seq h)
-both_lengths h l =
-    let a = ap length (texts_are_shown_cells h l).0 ∙ length-map (filter (shows h) (cells (seq h))) (byte h) in
-    let b = length-map (filter (λ (c : Cell). not (shows h c)) (cells (seq h))) (byte h) in
-    let k = length-filter_both (shows h) (λ (c : Cell). not (shows h c)) (λ (c : Cell). refl) (cells (seq h)) in
-    let n = length-map (seq h) (λ p. p.cell) in
-    omega (arith, a, b, k, n)

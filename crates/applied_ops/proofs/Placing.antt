@@ -9,10 +9,7 @@ use Rattle.std.proofs.lemmas.Bool.{cases_Bool, cases_lt}
 use Rattle.std.proofs.lemmas.Option.{slice_get_within, get_or_from_slice_get, slice_get-get_or}
 use Rattle.std.proofs.lemmas.List.{get_or_append_left, get_or-append-add}
 use Rattle.std.proofs.lemmas.List.Folds.{find-append}
-use Rattle.sum_tree.specs.Laws.{fold}
-use Rattle.sum_tree.specs.Count.{count_sum}
 use Rattle.sum_tree.specs.Keyed.{Ascending, below, above, insert_item}
-use Rattle.tree_cursor.proofs.Counts.{fold_counts}
 use Rattle.lamport_clock.specs.declared.stamp.Lamport.{Lamport}
 use Rattle.sum_tree.proofs.Keys.{inserted_short, option_or_none}
 use Rattle.lamport_clock.specs.Stamps.{same_stamp, stamp_cmp, stamp_order}
@@ -189,10 +186,6 @@ module _ (ps new : List StampEntry) (h : History) (p : StampEntry) (k : AreEntri
               subst (Leads new i) (sym here) (subst (λ (k : ℕ). Leads new k x) r last)
 
 -- ---- how many there are
-
--- so many are counted
-pub counts_fit : {X : Type 0} (xs : List X) → length xs ≤ 2 ^ 40 → (fold (record { items = 0 }) count_sum (λ (x : X). record { items = 1 }) xs).items < 2 ^ 64
-counts_fit {X} xs l = let e = fold_counts (λ (x : X). record { items = 1 }) (λ x. refl) (record { items = 0 }) xs in omega arith
 
 pub inserted_long : (p : StampEntry) (ps : List StampEntry) → length ps < 2 ^ 40 → length (insert_item stamp_cmp stamp_at p ps) ≤ 2 ^ 40
 inserted_long p ps l = omega (arith, inserted_short stamp_cmp stamp_at stamp_order p ps, l)

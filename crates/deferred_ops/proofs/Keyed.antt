@@ -1,5 +1,5 @@
 -- A map from stamps to operations, as the list of its operations.
-use Rattle.std.proofs.Common.{◌≡◌, Bool, true, false, cond, not, ◌&&◌, List, [], ◌∷◌, refl, sym, ap, ◌∙◌, Option, Some, None, arith, subst}
+use Rattle.std.proofs.Common.{◌≡◌, Bool, true, false, cond, not, ◌&&◌, List, [], ◌∷◌, refl, sym, ap, ◌∙◌, Option, Some, None, subst}
 use Rattle.std.specs.Ordering.{match_ordering, is_gt, is_lt, is_eq}
 use Rattle.std.specs.List.{find, filter, AllByRecursion}
 use Rattle.std.specs.List.Sorted.{IsStrictlySortedBy}
@@ -17,6 +17,7 @@ use Rattle.op_model.specs.Sorted.{insert_by, Ascending}
 use Rattle.op_model.specs.Operations.{stamp_of}
 use Rattle.op_model.specs.Histories.{operation_at}
 use Rattle.op_model.specs.Steps.{older}
+use Rattle.op_model.proofs.Elements.{find_filter}
 use Rattle.deferred_ops.specs.Deferred.{AreKeyed, is_past, misses_nothing, least_ready, without, start_past}
 
 abbrev pub Keyed : Type 0
@@ -89,13 +90,6 @@ passed (Some t) (e ∷ es) k = one (is_lt (stamp_cmp t e.0)) (entries_between st
     one : (b : Bool) (fs : Keyed) (g : List Operation) → values_of fs ≡ g → values_of (cond (b && true) (e ∷ fs) fs) ≡ cond b (e.1 ∷ g) g
     one true fs g q = ap (λ z. e.1 ∷ z) q
     one false fs g q = q
-
-find_filter : (p q : Operation → Bool) (w : List Operation) → find (λ o. p o && q o) w ≡ find q (filter p w)
-find_filter p q [] = refl
-find_filter p q (o ∷ w) = elim (p o) as (λ b. cond (b && q o) (Some o) (find (λ o. p o && q o) w) ≡ find q (cond b (o ∷ filter p w) (filter p w))) [
-  | true ↦ ap (cond (q o) (Some o)) (find_filter p q w)
-  | false ↦ find_filter p q w
-]
 
 -- what is ready is the first that misses nothing past the stamp
 pub first_ready : (after : Option Lamport) (have : Entries) (es : Keyed) → AreKeyed es → least_ready after have (values_of es) ≡ find (misses_nothing have) (values_of (entries_between stamp_cmp (start_past after) Unbounded es))

@@ -1,3 +1,4 @@
 pub mod Keyed
 pub mod Listing
 mod Rows
+pub mod Ready

@@ -1,8 +1,8 @@
 -- Causes that are listed of what waits.
-use Rattle.std.proofs.Common.{◌≡◌, ◌⊎◌, inl, inr, ◌<◌, ◌≤◌, ◌==◌, ℕ, Bool, true, false, cond, not, ◌&&◌, List, [], ◌∷◌, refl, sym, ap, ◌∙◌, Option, Some, None, arith, subst, true≢false, eqb-true, eq-eqb, ne_eqb, lt-ltb, le-ltb, slice_get}
+use Rattle.std.proofs.Common.{◌≡◌, ◌⊎◌, inl, inr, ◌<◌, ◌≤◌, ◌==◌, ℕ, Bool, true, false, cond, not, List, [], ◌∷◌, refl, sym, ap, ◌∙◌, Option, Some, None, arith, subst, true≢false, eqb-true, eq-eqb, ne_eqb, lt-ltb, le-ltb, slice_get}
 use Rattle.std.specs.List.{AllByRecursion}
-use Rattle.std.specs.Prelude.{nat_le, nat_lt, IfSome, unwrap_or}
-use Rattle.std.proofs.lemmas.Bool.{cases_Bool, cases_lt, false_from_ne_true, le-leb, leb-true, ltb-true, and_right}
+use Rattle.std.specs.Prelude.{nat_le, IfSome, unwrap_or}
+use Rattle.std.proofs.lemmas.Bool.{cases_Bool, cases_lt, le-leb, leb-true, and_right}
 use Rattle.std.specs.Ordering.{is_eq, is_gt, nat_cmp, ordering_then}
 use Rattle.std.specs.declared.cmp.Ordering.{Ordering}
 use Rattle.std.specs.declared.cmp.Ordering.TheVariants.{Less, Equal, Greater}
@@ -12,7 +12,7 @@ use Rattle.std.specs.BTreeSet.{IsKeyInRange, IsKeyRangeOf}
 use Rattle.std.specs.BTreeMap.Range.{IsLeBy}
 use Rattle.lamport_clock.specs.declared.stamp.Lamport.{Lamport}
 use Rattle.lamport_clock.specs.Stamps.{later, same_stamp, stamp_cmp}
-use Rattle.lamport_clock.specs.Versions.{Entries, IsVersion, entry, first_unseen, within}
+use Rattle.lamport_clock.specs.Versions.{Entries, entry}
 use Rattle.lamport_clock.proofs.Order.{is_eq-same, same_sym}
 use Rattle.lamport_clock.proofs.Raises.{by_order}
 use Rattle.lamport_clock.proofs.Later.{later_differs, same_stamp_eq, same_stamp_refl}
@@ -21,6 +21,7 @@ use Rattle.op_model.specs.Sorted.{Ascending, Member, insert_by}
 use Rattle.op_model.specs.Operations.{stamp_of, version_of}
 use Rattle.op_model.specs.Histories.{operation_at}
 use Rattle.op_model.specs.Steps.{older}
+use Rattle.op_model.proofs.settling.Causes.{misses}
 use Rattle.deferred_ops.specs.Deferred.{AreListed, Cause, Causes, IsListed, NoneSeen, cause_order, has_cause, is_past, least_ready, misses_nothing, without}
 
 -- ---- numbers that come first in an order
@@ -107,13 +108,6 @@ unseen s (e ∷ have) r x t none has some = go (e.0 == r) refl (unseen s have r 
       ]
     ]
 
-misses : (have v : Entries) (e : ℕ × ℕ) → Member e v → entry have e.0 < e.1 → within v have ≡ false
-misses have [] e among past = absurd among
-misses have (x ∷ v) e (inl q) past =
-    let here : nat_le x.1 (entry have x.0) ≡ false = subst (λ (y : ℕ × ℕ). nat_le y.1 (entry have y.0) ≡ false) q (false_from_ne_true _ (λ le. let bad = leb-true e.1 (entry have e.0) le in omega arith)) in
-    ap (λ b. b && within v have) here
-misses have (x ∷ v) e (inr among) past = and_right (nat_le x.1 (entry have x.0)) (within v have) (misses have v e among past)
-
 pub none_ready : (s : Causes) (have : Entries) (w : List Operation) → AllNone s have → AreListed s w → (after : Option Lamport) → least_ready after have w ≡ None
 none_ready s have [] none listed after = refl
 none_ready s have (op ∷ w) none listed after =
@@ -146,7 +140,6 @@ stays_true true h e = refl
 stays_true false h e = e
 
 -- a cause is listed in place of another
-
 then_eq : (o p : Ordering) → is_eq (ordering_then o p) ≡ true → is_eq p ≡ true
 then_eq Less p e = absurd (true≢false (sym e))
 then_eq Equal p e = e
@@ -215,21 +208,3 @@ relisted s anew seen missed changes op w up found is some among listed =
 pub more_listed : (s anew : Causes) → ((q : Cause) → has_cause s q ≡ true → has_cause anew q ≡ true) → (w : List Operation) → AreListed s w → AreListed anew w
 more_listed s anew keeps [] listed = tt
 more_listed s anew keeps (o ∷ w) listed = ((listed.0.0, listed.0.1, keeps (listed.0.0, listed.0.1, stamp_of o) listed.0.2, listed.0.3, listed.0.4), more_listed s anew keeps w listed.1)
-
--- ---- what is listed is a cause
-
-pub missing_listed : (have v : Entries) (e : ℕ × ℕ) → first_unseen have v ≡ Some e → (0 < e.1) × Member e v
-missing_listed have [] e found = absurd (cc found)
-missing_listed have (x ∷ v) e found = go (nat_lt (entry have x.0) x.1) refl found (missing_listed have v e)
-  where
-    go : (b : Bool) → nat_lt (entry have x.0) x.1 ≡ b → cond b (Some x) (first_unseen have v) ≡ Some e → (first_unseen have v ≡ Some e → (0 < e.1) × Member e v) → (0 < e.1) × Member e (x ∷ v)
-    go true q is later =
-        let same : x ≡ e = ap (λ o. unwrap_or o x) is in
-        (subst (λ (y : ℕ × ℕ). 0 < y.1) same (omega (arith, ltb-true (entry have x.0) x.1 q)), inl (sym same))
-    go false q is later = let rest = later is in (rest.0, inr rest.1)
-
-pub first_listed : (v : Entries) (e : ℕ × ℕ) → IsVersion v → slice_get v 0 ≡ Some e → (0 < e.1) × Member e v
-first_listed [] e kept first = absurd (cc first)
-first_listed (x ∷ v) e kept first =
-    let same : x ≡ e = ap (λ o. unwrap_or o x) first in
-    (subst (λ (y : ℕ × ℕ). 0 < y.1) same kept.2, inl (sym same))

@@ -1,6 +1,6 @@
 -- Moves that carry the bytes of fragments back to what a version saw make the text that it saw.
 use Rattle.op_model.proofs.texts.WholeWalks.{texts_of as proper_texts}
-use Rattle.std.proofs.Common.{◌≡◌, ℕ, zero, suc, Bool, true, false, ◌&&◌, cond, List, [], ◌∷◌, ◌++◌, map, get_or, refl, sym, ap, ◌∙◌, arith, ◌⊎◌}
+use Rattle.std.proofs.Common.{◌≡◌, ℕ, zero, suc, Bool, true, false, ◌&&◌, cond, List, [], ◌∷◌, ◌++◌, map, get_or, refl, sym, ap, ◌∙◌, arith}
 use Rattle.std.specs.List.{AllByRecursion, filter}
 use Rattle.lamport_clock.specs.declared.stamp.Lamport.{Lamport}
 use Rattle.lamport_clock.specs.Versions.{Entries, sees}
@@ -19,7 +19,7 @@ use Rattle.op_model.proofs.answers.Good.{lawful_ready}
 use Rattle.op_model.proofs.order.SameSets.{newest_same}
 use Rattle.op_model.proofs.MainLaws.{texts_at_closed_versions}
 use Rattle.op_model.proofs.texts.WholeTexts.{byte_of}
-use Rattle.op_model.proofs.texts.WholeRuns.{byte_new}
+use Rattle.op_model.proofs.texts.WholeRuns.{byte_new, whole_runs}
 use Rattle.op_model.proofs.texts.Utf8Runs.{bytes}
 use Rattle.undo_map.specs.declared.entry.UndoEntry.{UndoEntry}
 use Rattle.undo_map.specs.Undos.{undo_entries}
@@ -30,7 +30,7 @@ use Rattle.remote_edit.specs.Marks.{was_shown}
 use Rattle.remote_edit.specs.Moves.{Texts, after_moves, TakeTexts}
 use Rattle.remote_edit.specs.Carried.{Carried, IsText, shown_bytes}
 use Rattle.remote_edit.proofs.Texts.{text_bytes, hidden_text_bytes}
-use Rattle.remote_edit.proofs.WholeFragments.{texts_are, whole_runs}
+use Rattle.remote_edit.proofs.WholeFragments.{texts_are}
 use Rattle.edits_since.specs.Fates.{was_in_text}
 use Rattle.edits_since.specs.Back.{AreMovesBack, TakeCharacters}
 use Rattle.edits_since.proofs.Walking.{IsSettled}

@@ -1,10 +1,9 @@
 -- The edits of fates, along one walk with the run that is open.
 use Rattle.std.proofs.Common.{◌≡◌, ℕ, zero, suc, ◌+◌, Bool, true, false, cond, ◌||◌, nat_lt, List, [], ◌∷◌, ◌++◌, refl, sym, ap, ◌∙◌, arith, append_assoc, append-nil, ne_eqb, eqb}
-use Rattle.std.proofs.lemmas.Bool.{lt-ltb}
-use Rattle.std.proofs.Math.Bool.{or-true}
 use Rattle.op_model.specs.declared.anchor.TextEdit.{TextEdit}
-use Rattle.op_model.specs.Since.{Fate, fate, lengthen, runs, number_gone, number_new, changes, edits_of}
+use Rattle.op_model.specs.Since.{Fate, fate, lengthen, runs, number_gone, number_new, edits_of}
 use Rattle.op_model.specs.Since.Fate.{Kept, Gone, New, Never}
+use Rattle.op_model.proofs.since.Followed.{changes_is}
 use Rattle.edits_since.specs.declared.open_run.OpenRun.{OpenRun}
 use Rattle.edits_since.specs.Fates.{alike}
 use Rattle.edits_since.specs.Opened.{at_start, all_edits, old_end, new_end, with_kept, with_bytes}
@@ -32,13 +31,6 @@ same_first old new rs g h n m e f = ap (λ (x : ℕ). run_first old new x n rs) 
 abbrev open_runs : ℕ → ℕ → ℕ → ℕ → List (List Fate) → List TextEdit
 open_runs old new g n [] = run_first old new g n []
 open_runs old new g n (r ∷ rs) = run_first old new (g + number_gone r) (n + number_new r) rs
-
-changes_is : (r : List Fate) → changes r ≡ (nat_lt 0 (number_gone r) || nat_lt 0 (number_new r))
-changes_is [] = refl
-changes_is (Gone ∷ r) = rw (lt-ltb 0 (suc (number_gone r)) (omega arith)) refl
-changes_is (New ∷ r) = rw (lt-ltb 0 (suc (number_new r)) (omega arith)) (sym (or-true (nat_lt 0 (number_gone r))))
-changes_is (Kept ∷ r) = changes_is r
-changes_is (Never ∷ r) = changes_is r
 
 front : (b : Bool) (e : TextEdit) (es : List TextEdit) → cond b (e ∷ []) [] ++ es ≡ cond b (e ∷ es) es
 front true e es = refl

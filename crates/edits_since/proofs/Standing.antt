@@ -1,27 +1,25 @@
 -- What fragments that stand for a history say of its fates.
-use Rattle.std.proofs.Common.{◌≡◌, ℕ, zero, suc, ◌%◌, ◌<◌, ◌⊎◌, max, eqb, Bool, true, false, ◌&&◌, List, [], ◌∷◌, ◌++◌, map, refl, sym, ap, ◌∙◌, subst, arith, inl, inr}
-use Rattle.std.specs.List.{AllByRecursion, filter}
-use Rattle.std.proofs.lemmas.Bool.{cases_Bool}
+use Rattle.std.proofs.Common.{◌≡◌, ℕ, zero, suc, Bool, true, false, ◌&&◌, List, [], ◌∷◌, ◌++◌, map, refl, sym, ap, ◌∙◌, subst, inl, inr}
+use Rattle.std.specs.List.{AllByRecursion}
 use Rattle.lamport_clock.specs.declared.stamp.Lamport.{Lamport}
 use Rattle.lamport_clock.specs.Stamps.{same_stamp}
 use Rattle.lamport_clock.specs.Versions.{Entries, join_versions, sees}
 use Rattle.lamport_clock.proofs.Sees.{sees_joined, sees_within}
 use Rattle.lamport_clock.proofs.Later.{same_stamp_refl}
 use Rattle.op_model.specs.declared.anchor.TextEdit.{TextEdit}
-use Rattle.op_model.specs.declared.operation.Operation.{Operation}
-use Rattle.op_model.specs.declared.operation.UndoCount.{UndoCount}
 use Rattle.op_model.specs.Sorted.{Member}
-use Rattle.op_model.specs.Operations.{stamp_of, counts_of}
-use Rattle.op_model.specs.Histories.{History, In, seen_history}
+use Rattle.op_model.specs.Operations.{stamp_of}
+use Rattle.op_model.specs.Histories.{History, seen_history}
 use Rattle.op_model.specs.Cells.{Cell, seq, cells}
-use Rattle.op_model.specs.Shown.{greatest_given, count, is_undone, are_undone, deleters, shows, visible_by}
+use Rattle.op_model.specs.Shown.{count, deleters, shows, visible_by}
 use Rattle.op_model.specs.Facts.{Fact, fact, cell_facts, alike as alike_facts, was_visible}
 use Rattle.op_model.specs.Walked.{facts_of}
 use Rattle.op_model.specs.Lawful.{Lawful, IsClosed}
 use Rattle.op_model.specs.Since.{Fate, fate, fates, is_shown_at as was_shown_in, runs as fate_runs, edits_of, since}
 use Rattle.op_model.proofs.histories.ClosedVersions.{shown_closed}
 use Rattle.op_model.proofs.Elements.{any_member}
-use Rattle.op_model.proofs.shown.Counts.{given_none}
+use Rattle.op_model.proofs.shown.Counts.{count_seen, undone_seen, are_undone_seen}
+use Rattle.op_model.proofs.shown.Visible.{shown_seen}
 use Rattle.undo_map.specs.declared.entry.UndoEntry.{UndoEntry}
 use Rattle.undo_map.specs.Undos.{undo_entries}
 use Rattle.fragments.specs.declared.fragment.Fragment.{Fragment}
@@ -35,7 +33,6 @@ use Rattle.edits_since.specs.Fates.{was_in_text, alike, fates_of}
 use Rattle.edits_since.specs.Differs.{may_differ, all_within}
 use Rattle.edits_since.specs.Telling.{MayTell}
 use Rattle.edits_since.proofs.Walking.{IsSettled}
-use Rattle.remote_edit.proofs.UndoStands.{shown_seen}
 
 -- ---- the fates of a history are those of its fragments
 
@@ -84,26 +81,6 @@ all_told : (h : History) (s : List Cell) → AllByRecursion (OfFact (IsTold h)) 
 all_told h [] = tt
 all_told h (c ∷ s) = ((c, refl, refl, refl), all_told h s)
 
--- ---- what was counted at a version
-
--- a version that sees all undos that count an edit counts it as all do
-count_seen : (h : History) (v : Entries) (t : Lamport) → ((op : Operation) → In h op → (c : UndoCount) → Member c (counts_of op) → c.edit ≡ t → sees v (stamp_of op) ≡ true) → count (seen_history h v) t ≡ count h t
-count_seen [] v t f = refl
-count_seen (op ∷ h) v t f = go (cases_Bool (sees v (stamp_of op))) (count_seen h v t (λ o i c m e. f o (inr i) c m e))
-  where
-    go : (sees v (stamp_of op) ≡ true) ⊎ (sees v (stamp_of op) ≡ false) → count (seen_history h v) t ≡ count h t → count (seen_history (op ∷ h) v) t ≡ count (op ∷ h) t
-    go (inl e) ih = rw e (ap (max (greatest_given (counts_of op) t)) ih)
-    go (inr e) ih =
-        let z : greatest_given (counts_of op) t ≡ 0 = given_none (counts_of op) t (λ c m q. let s = f op (inl refl) c m q in cc) in
-        rw e (let g : count h t ≡ max (greatest_given (counts_of op) t) (count h t) = omega (arith, z) in ih ∙ g)
-
-undone_seen : (h : History) (v : Entries) (t : Lamport) → count (seen_history h v) t ≡ count h t → is_undone (seen_history h v) t ≡ is_undone h t
-undone_seen h v t e = ap (λ (n : ℕ). eqb (n % 2) 1) e
-
-all_seen : (h : History) (v : Entries) (d : List Lamport) → ((t : Lamport) → Member t d → (sees v t ≡ true) × (count (seen_history h v) t ≡ count h t)) → are_undone (seen_history h v) (filter (sees v) d) ≡ are_undone h d
-all_seen h v [] f = refl
-all_seen h v (t ∷ d) f = rw ((f t (inl refl)).0, undone_seen h v t (f t (inl refl)).1, all_seen h v d (λ s m. f s (inr m))) refl
-
 -- ---- a fragment of which a version has seen all was in its text where it is shown now
 
 module _ (h : History) (v : Entries) (f : Fragment) (u : List UndoEntry) (counts : u ≡ undo_entries h) (undos : SeesUndos h f) (unchanged : may_differ v (summary_of f) ≡ false) where
@@ -120,7 +97,7 @@ module _ (h : History) (v : Entries) (f : Fragment) (u : List UndoEntry) (counts
   counts_same t m = count_seen h v t (λ op i c k e. sees_undo (stamp_of op) (undos op i c k (subst (λ (s : Lamport). Member s (f.stamp ∷ f.deletions)) (sym e) m)))
 
   was_now : was_visible (seen_history h v) v f.stamp f.deletions ≡ visible_by h f.stamp f.deletions
-  was_now = rw (undone_seen h v f.stamp (counts_same f.stamp (inl refl)), all_seen h v f.deletions (λ t m. (sees_edit t (inr m), counts_same t (inr m)))) refl
+  was_now = rw (undone_seen h v f.stamp (counts_same f.stamp (inl refl)), are_undone_seen h v f.deletions (λ t m. (sees_edit t (inr m), counts_same t (inr m)))) refl
 
   by_counts : HasCell h f → f.visible ≡ visible_by h f.stamp f.deletions
   by_counts k = k.2 ∙ shown_seen h k.0 ∙ ap (λ (t : Lamport). visible_by h t (deleters h k.0)) k.1 ∙ ap (visible_by h f.stamp) (sym k.3)

@@ -12,9 +12,10 @@ use Rattle.fragments.specs.declared.fragment.Fragment.{Fragment}
 use Rattle.fragments.specs.declared.fragment.FragmentSummary.{FragmentSummary}
 use Rattle.fragments.specs.Summaries.{no_fragments, summaries, summary_of, SummaryFits}
 use Rattle.fragments.specs.Laws.{shown_len}
+use Rattle.fragments.proofs.Cells.{one_shown, shown_append_len}
 use Rattle.remote_edit.specs.declared.passed.Passed.{Passed}
 use Rattle.remote_edit.specs.Carried.{hidden_len}
-use Rattle.remote_edit.proofs.PassedPlaces.{shown_append_len, hidden_append_len, whole_sum}
+use Rattle.remote_edit.proofs.PassedPlaces.{hidden_append_len, whole_sum}
 use Rattle.remote_edit.proofs.Finding.{Cursor, IsNext, IsPast, Stands, Unkept, find, find_end, nothing_passed, over, place_at, stands_first}
 use Rattle.edits_since.specs.declared.open_run.OpenRun.{OpenRun}
 use Rattle.edits_since.specs.Fates.{was_in_text, alike, fates_of}
@@ -38,13 +39,6 @@ one_len x ys = go x.visible
     go : (b : Bool) → cond b (x.len + shown_len ys) (shown_len ys) + cond b (hidden_len ys) (x.len + hidden_len ys) ≡ x.len + total ys
     go true = omega arith
     go false = omega arith
-
-one_shown : (x : Fragment) → shown_len (x ∷ []) ≡ cond x.visible x.len 0
-one_shown x = go x.visible
-  where
-    go : (b : Bool) → cond b (x.len + 0) 0 ≡ cond b x.len 0
-    go true = omega arith
-    go false = refl
 
 pub total_fits : (fs : List Fragment) → SummaryFits (fold no_fragments summaries summary_of fs) → total fs < 2 ^ 64
 total_fits fs f = let k = whole_sum fs in let a = k.0 in let b = k.1 in omega (arith, a, b, f)

@@ -1,5 +1,5 @@
 -- Which runs of fragments may have changed since a version.
-use Rattle.std.proofs.Common.{◌≡◌, ℕ, ◌<◌, Bool, true, false, not, [], ◌∷◌, refl, ◌∙◌, arith}
+use Rattle.std.proofs.Common.{◌≡◌, Bool, true, false, not, refl}
 use Rattle.std.proofs.lemmas.Bool.{not-false}
 use Rattle.lamport_clock.specs.Versions.{Entries, within}
 use Rattle.fragments.specs.declared.fragment.FragmentSummary.{FragmentSummary}

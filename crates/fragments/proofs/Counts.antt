@@ -1,19 +1,26 @@
 -- The places behind fragments count their cells.
-use Rattle.std.proofs.Common.{◌≡◌, ℕ, ◌+◌, Bool, true, false, cond, List, [], ◌∷◌, ◌++◌, length, Option, refl, ap, ◌∙◌, arith, inl, inr}
+use Rattle.std.proofs.Common.{◌≡◌, ℕ, ◌+◌, Bool, true, false, cond, List, [], ◌∷◌, ◌++◌, length, Option, refl, ap, ◌∙◌, arith, inl, inr, subst}
 use Rattle.std.proofs.lemmas.Bool.{cases_Bool, and_from, leb-false, lt-ltb}
 use Rattle.std.proofs.lemmas.List.{length-append}
+use Rattle.std.specs.List.{AllByRecursion}
 use Rattle.lamport_clock.specs.Versions.{Entries, sees, entry}
 use Rattle.sum_tree.specs.Laws.{fold}
 use Rattle.tree_cursor.specs.Places.{behind, place_behind}
 use Rattle.op_model.specs.Facts.{alike}
 use Rattle.op_model.specs.Walked.{kept_len, facts_of}
 use Rattle.op_model.proofs.texts.Utf8Runs.{length_alike}
+use Rattle.op_model.specs.declared.operation.Operation.{Operation}
+use Rattle.op_model.specs.Operations.{counts_of, is_edit}
+use Rattle.op_model.specs.Histories.{History}
+use Rattle.op_model.specs.Sorted.{Member}
+use Rattle.op_model.proofs.histories.Lawful.{in_append}
+use Rattle.op_model.proofs.shown.OnePass.{no_counts}
 use Rattle.fragments.specs.declared.fragment.Fragment.{Fragment}
 use Rattle.fragments.specs.declared.fragment.FragmentSummary.{FragmentSummary}
 use Rattle.fragments.specs.Summaries.{summaries, summary_of}
 use Rattle.fragments.specs.SummaryLaws.{one_admitted}
 use Rattle.fragments.specs.SeenPlaces.{At, cells_of, move_full, move_visible, move_at, all_in, none_in}
-use Rattle.fragments.specs.Stand.{runs}
+use Rattle.fragments.specs.Stand.{runs, SeesUndos}
 use Rattle.fragments.specs.Laws.{PlacesCountCells, shown_len, cells_len}
 
 all_or_none : (b : Bool) (n : ℕ) → cond b n 0 + cond b 0 n ≡ n
@@ -82,3 +89,14 @@ seen_behind v (f ∷ fs) n = elim (cases_Bool (sees v f.stamp)) [
 
 pub places_count_cells : PlacesCountCells
 places_count_cells fs n = (full_behind fs n, visible_behind fs n, λ v. seen_behind v fs n)
+
+-- the history with an edit has no undo more
+pub sees_more : (h : History) (op : Operation) → is_edit op ≡ true → (fs : List Fragment) → AllByRecursion (SeesUndos h) fs → AllByRecursion (SeesUndos (h ++ op ∷ [])) fs
+sees_more h op e [] s = tt
+sees_more h op e (f ∷ fs) s = (one, sees_more h op e fs s.1)
+  where
+    one : SeesUndos (h ++ op ∷ []) f
+    one o i c m n = elim (in_append h op o i) [
+      | inl k ↦ s.0 o k c m n
+      | inr q ↦ absurd (subst (Member c) (ap counts_of q ∙ no_counts op e) m)
+    ]

@@ -1,7 +1,7 @@
 -- What stands for a history: its index finds the fragment of each cell, and one fragment stands for the base.
-use Rattle.std.proofs.Common.{◌≡◌, ℕ, zero, suc, ◌+◌, ◌<◌, ◌≤◌, ◌^◌, Bool, true, false, cond, leb, nat_lt, Option, List, [], ◌∷◌, ◌++◌, length, map, refl, sym, ap, ◌∙◌, arith, subst, inl, inr, Some, None, option_map}
+use Rattle.std.proofs.Common.{◌≡◌, ℕ, ◌+◌, ◌<◌, ◌≤◌, ◌^◌, Bool, true, false, cond, leb, nat_lt, Option, List, [], ◌∷◌, ◌++◌, length, map, refl, sym, ap, ◌∙◌, arith, subst, inl, inr, Some, None, option_map}
 use Rattle.std.specs.List.{AllByRecursion}
-use Rattle.std.proofs.lemmas.Bool.{cases_Bool, cases_lt, and_parts, and_from, leb-true, le-leb, ltb-true, ltb-false}
+use Rattle.std.proofs.lemmas.Bool.{cases_Bool, and_parts, and_from, leb-true, le-leb, ltb-true, ltb-false}
 use Rattle.std.proofs.lemmas.List.{append-nil, map-append}
 use Rattle.lamport_clock.specs.declared.stamp.Lamport.{Lamport}
 use Rattle.lamport_clock.specs.Stamps.{same_stamp}
@@ -15,27 +15,17 @@ use Rattle.op_model.specs.Cells.{Cell, seq, cells, cell_at}
 use Rattle.op_model.specs.Facts.{Fact, alike}
 use Rattle.op_model.specs.Walked.{facts_of}
 use Rattle.op_model.specs.Lawful.{Lawful}
-use Rattle.op_model.proofs.order.CellsOnce.{each_member, member_map}
+use Rattle.op_model.proofs.order.CellsOnce.{member_map}
 use Rattle.op_model.proofs.MainLaws.{each_cell_once}
 use Rattle.op_model.proofs.shown.FactCells.{cells_in, told_cells}
 use Rattle.op_model.proofs.texts.WholeTexts.{base_told}
-use Rattle.op_model.proofs.Elements.{member_left, member_right}
+use Rattle.op_model.proofs.Elements.{member_left, member_right, pairs_right, pairs_across, each_member}
+use Rattle.op_model.proofs.shown.Alike.{alike_has}
 use Rattle.fragments.specs.declared.fragment.Fragment.{Fragment}
 use Rattle.fragments.specs.declared.index_entry.IndexEntry.{IndexEntry}
 use Rattle.fragments.specs.Index.{covers, nearest, entry_for, id_for}
 use Rattle.fragments.specs.Stand.{runs, Tell, IsFilled, entry_of, IsIndexOf}
 use Rattle.fragments.specs.Laws.{IndexFindsFragments, BaseStands}
-
--- ---- pairs
-
-pairs_right : {A : Type 0} (R : A → A → Type 0) (xs ys : List A) → EachPair R (xs ++ ys) → EachPair R ys
-pairs_right R [] ys h = h
-pairs_right R (x ∷ xs) ys h = pairs_right R xs ys h.1
-
-pairs_across : {A : Type 0} (R : A → A → Type 0) (a b : A) (xs ys : List A) → EachPair R (xs ++ ys) → Member a xs → Member b ys → R a b
-pairs_across R a b [] ys h m n = absurd m
-pairs_across R a b (x ∷ xs) ys h (inl e) n = subst (λ z. R z b) (sym e) (each_member (R x) (xs ++ ys) b h.0 (member_right b xs ys n))
-pairs_across R a b (x ∷ xs) ys h (inr m) n = pairs_across R a b xs ys h.1 m n
 
 pub fragment_of : (e : IndexEntry) (fs : List Fragment) → Member e (map entry_of fs) → (f : Fragment) × Member f fs × (e ≡ entry_of f)
 fragment_of e [] m = absurd m
@@ -110,13 +100,6 @@ Differ a b = a ≡ b → ⊥
 
 abbrev Has : Fragment → Lamport → ℕ → Type 0
 Has f t k = (f.stamp ≡ t) × (f.offset ≤ k) × (k < f.offset + f.len)
-
-alike_has : (t : Lamport) (k n : ℕ) (v : Bool) (d : List Lamport) (j : ℕ) → k ≤ j → j < k + n → Member (cell_at t j) (cells_in (alike t k n v d))
-alike_has t k zero v d j a b = absurd (omega arith)
-alike_has t k (suc n) v d j a b = elim (cases_lt k j) [
-  | inl l ↦ inr (alike_has t (suc k) n v d j (omega arith) (omega arith))
-  | inr l ↦ inl (ap (cell_at t) (let q : j ≡ k = omega arith in q))
-]
 
 has_cell : (f : Fragment) (t : Lamport) (k : ℕ) → Has f t k → Member (cell_at t k) (cells_in (facts f))
 has_cell f t k h = subst (λ (s : Lamport). Member (cell_at s k) (cells_in (facts f))) h.0 (alike_has f.stamp f.offset f.len f.visible f.deletions k h.1 h.2)

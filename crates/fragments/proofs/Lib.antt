@@ -5,3 +5,7 @@ mod Replacing
 pub mod Entries
 pub mod Counts
 pub mod Founds
+pub mod Bases
+pub mod Cells
+pub mod Indexes
+pub mod Rises

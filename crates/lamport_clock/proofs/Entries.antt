@@ -4,7 +4,7 @@ use Rattle.std.proofs.Math.ListN.{length-set}
 use Rattle.std.proofs.lemmas.List.{take_all, drop_all}
 use Rattle.std.proofs.lemmas.Bool.{ltb-true, ltb-false, cases_Bool, leb-false}
 use Rattle.std.proofs.lemmas.Bool.Decides.{nat_tests}
-use Rattle.std.specs.List.{refill, insert}
+use Rattle.std.specs.List.{refill, insert, AllByRecursion}
 use Rattle.lamport_clock.specs.Versions.{Entries, put_entry, place_of, IsAt, IsVersion, IsVersionFrom, entry, sees, raise}
 use Rattle.lamport_clock.specs.declared.stamp.Lamport.{Lamport}
 
@@ -61,3 +61,24 @@ raise_version v t a b i = go (cases_Bool (sees v t))
     go : (sees v t ≡ true) ⊎ (sees v t ≡ false) → IsVersion (raise v t)
     go (inl s) = rw s i
     go (inr s) = let g : entry v t.replica < t.value = leb-false t.value (entry v t.replica) s in rw s (IsVersion-put v t.replica t.value b (omega arith) a i)
+
+-- ---- what a version's entries say
+
+apart : (x y : ℕ) → suc x ≤ y → eqb x y ≡ false
+apart x y h = grind (arith, nat_tests)
+
+-- an entry of a lower replica changes none of them
+entries_after : (n : ℕ) (e : ℕ × ℕ) (v w : Entries) → suc e.0 ≤ n → IsVersionFrom n w → AllByRecursion (λ (d : ℕ × ℕ). entry v d.0 ≡ d.1) w → AllByRecursion (λ (d : ℕ × ℕ). entry (e ∷ v) d.0 ≡ d.1) w
+entries_after n e v [] l i a = tt
+entries_after n e v (d ∷ w) l i a = (
+  (let h = i.0 in let s = apart e.0 d.0 (omega arith) in rw s a.0),
+  (let h = i.0 in entries_after (suc d.0) e v w (omega arith) i.4 a.1),
+)
+
+-- each entry is what the version says
+pub own_entries : (n : ℕ) (v : Entries) → IsVersionFrom n v → AllByRecursion (λ (e : ℕ × ℕ). entry v e.0 ≡ e.1) v
+own_entries n [] i = tt
+own_entries n (e ∷ v) i = (
+  (let s = eq-eqb e.0 e.0 refl in rw s refl),
+  entries_after (suc e.0) e v v (omega arith) i.4 (own_entries (suc e.0) v i.4),
+)

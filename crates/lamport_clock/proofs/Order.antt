@@ -102,3 +102,6 @@ same_both_Equal s t u h k = stamp_order.congr s t u (same_Equal s t h) ∙ stamp
 
 pub less_apart : (t u : Lamport) → stamp_cmp t u ≡ Less → same_stamp u t ≡ false
 less_apart t u h = sym (is_eq-same u t) ∙ ap is_eq (stamp_order.antisymm u t ∙ ap ordering_reverse h)
+
+pub never_less : (s : Lamport) → is_lt (stamp_cmp s (record { value = 0; replica = 0 })) ≡ false
+never_less s = grind arith

@@ -1,15 +1,14 @@
 -- The answer, part by part.
-use Rattle.std.proofs.Common.{◌≡◌, ℕ, Bool, true, false, ◌||◌, List, [], ◌∷◌, ◌++◌, ltb, refl, sym, ◌∙◌, ap, Option, Some, None}
-use Rattle.std.specs.Prelude.{is_none, is_some, map, option_map, unwrap_or}
+use Rattle.std.proofs.Common.{◌≡◌, ℕ, Bool, true, false, ◌||◌, List, [], ◌∷◌, ◌++◌, refl, sym, ◌∙◌, ap, Option, Some, None, inl, inr}
+use Rattle.std.specs.Prelude.{is_some, map, option_map, unwrap_or}
+use Rattle.std.proofs.lemmas.Bool.{cases_Bool}
 use Rattle.lamport_clock.specs.declared.stamp.Lamport.{Lamport}
-use Rattle.lamport_clock.specs.Versions.{Entries, entry, within}
-use Rattle.lamport_clock.proofs.Joined.{none_unseen}
 use Rattle.op_model.specs.declared.operation.Operation.{Operation}
 use Rattle.op_model.specs.declared.operation.Operation.TheVariants.{Edit, Undo}
 use Rattle.op_model.specs.declared.operation.EditOp.{EditOp}
 use Rattle.op_model.specs.declared.operation.UndoOp.{UndoOp}
 use Rattle.op_model.specs.declared.faults.OpFault.{OpFault}
-use Rattle.op_model.specs.declared.faults.OpFault.TheVariants.{Conflict, Forked, OpenVersion}
+use Rattle.op_model.specs.declared.faults.OpFault.TheVariants.{Conflict, OpenVersion}
 use Rattle.op_model.specs.Choice.{first_of, when}
 use Rattle.op_model.specs.Operations.{stamp_of, version_of, pieces_of, counts_of}
 use Rattle.op_model.specs.Histories.{Distinct, History, operation_at, version, seen_history}
@@ -19,12 +18,10 @@ use Rattle.op_model.specs.Answers.{Answer, shape_fault, any_equal, any_stamp, fo
 use Rattle.op_model.specs.Answers.Answer.{Good, Repeat, Waits, Refused}
 use Rattle.op_model.proofs.answers.Good.{lawful_ready}
 use Rattle.op_model.proofs.answers.Passed.{first_past, none_when, first_here, first_behind, first_append, first_map, some_when, first_alone}
+use Rattle.op_model.proofs.answers.Founds.{found_either}
+use Rattle.op_model.proofs.answers.Answering.{first_before, causes_known, none_later}
 use Rattle.op_answers.specs.Verdicts.{cause_objection, equals, part_fault, stamp_objection}
-use Rattle.op_answers.proofs.Founds.{held_both, there_both}
-
-first_before : (a : Option OpFault) → a ≡ first_of (a ∷ None ∷ [])
-first_before None = refl
-first_before (Some x) = refl
+use Rattle.op_answers.proofs.Founds.{held_both}
 
 -- an edit has no counts
 pub range_fault-part : (h : History) (e : EditOp) → range_fault (full (seen_history h e.version)) e.pieces ≡ part_fault h (Edit e)
@@ -72,29 +69,26 @@ pub stamp_by : (h w : History) (op : Operation) (t : Lamport) (a b : Option Oper
 stamp_by h w op t a b x y l d s p q i j =
     let u = p ∙ ap (operation_at h) s in
     let v = q ∙ ap (operation_at w) s in
-    rw (i ∙ held_both h w op a b (lawful_ready h l).0.distinct d u v, j ∙ there_both h w op a b u v, s) refl
-
--- whether the author's operation that is kept is one that op has not seen
-pub fork_by : (h : History) (op : Operation) (k n : ℕ) (b : Bool) → k ≡ entry (version h) (stamp_of op).replica → n ≡ entry (version_of op) (stamp_of op).replica → b ≡ ltb n k → when b (Forked k) ≡ fork_fault h op
-fork_by h op k n b i j e = rw (e, i, j) refl
+    rw (i ∙ held_both h w op a b (lawful_ready h l).0.distinct d u v, j ∙ found_either h w op a b u v, s) refl
 
 -- what stands against what an operation has seen, by what is found of it
 pub cause_by : (h : History) (op : Operation) (f : Option OpFault) (m : Option (ℕ × ℕ)) (r : Option ℕ) → f ≡ fork_fault h op → m ≡ first_missing h (version_of op) → r ≡ open_replica h (version_of op)
     → first_of (option_map Refused f ∷ option_map (λ e. Waits e.0 e.1) m ∷ option_map (λ k. Refused (OpenVersion k)) r ∷ []) ≡ cause_objection h op
 cause_by h op f m r i j k = rw (i, j, k) refl
 
--- no cause misses where nothing is found
-pub causes_known : (h : History) (v : Entries) → None ≡ first_missing h v → within v (version h) ≡ true
-causes_known h v e = sym (none_unseen (version h) v) ∙ ap is_none (sym e)
-
-none_later : {A B C D : Type 0} (f : A → D) (g : B → D) (k : C → D) (a : Option A) (b : Option B) (c : Option C) → None ≡ first_of (option_map f a ∷ option_map g b ∷ option_map k c ∷ []) → (b ≡ None) × (c ≡ None)
-none_later f g k None None None e = (refl, refl)
-none_later f g k None None (Some z) e = (refl, cc)
-none_later f g k None (Some y) c e = (cc, cc)
-none_later f g k (Some x) b c e = (cc, cc)
-
 -- a version against which nothing stands is closed
 pub none_open : (h : History) (op : Operation) → None ≡ cause_objection h op → IsClosed h (version_of op)
 none_open h op e =
     let n = none_later Refused (λ (x : ℕ × ℕ). Waits x.0 x.1) (λ (r : ℕ). Refused (OpenVersion r)) (fork_fault h op) (first_missing h (version_of op)) (open_replica h (version_of op)) e in
     (causes_known h (version_of op) (sym n.0), n.1)
+
+-- what is to wait has a stamp that is not there
+pub waits_new : (h w : List Operation) (op : Operation) (r v : ℕ) → answer h w op ≡ Waits r v → any_stamp (h ++ w) op ≡ false
+waits_new h w op r v e = by_shape (shape_fault op) refl
+  where
+    by_shape : (o : Option OpFault) → shape_fault op ≡ o → any_stamp (h ++ w) op ≡ false
+    by_shape (Some f) q = let a = shaped_badly h w op f q in cc
+    by_shape None q = elim (cases_Bool (any_equal (h ++ w) op)) [
+      | inl t ↦ (let a = repeated h w op q t in cc)
+      | inr n ↦ (elim (cases_Bool (any_stamp (h ++ w) op)) [ inl t ↦ (let a = conflicts h w op q n t in cc) | inr f ↦ f ])
+    ]

@@ -1,5 +1,5 @@
 -- The fault of a local undo, case by case.
-use Rattle.std.proofs.Common.{◌≡◌, ℕ, ◌+◌, Bool, cond, eqb, List, [], ◌∷◌, length, refl, sym, ◌∙◌, ap, Some, None, Option}
+use Rattle.std.proofs.Common.{◌≡◌, ◌+◌, eqb, List, [], ◌∷◌, length, sym, ◌∙◌, ap, Some, None, Option}
 use Rattle.std.specs.Prelude.{option_map, not}
 use Rattle.std.specs.List.{find}
 use Rattle.lamport_clock.specs.Clocks.{last_value}
@@ -16,17 +16,8 @@ use Rattle.op_model.proofs.answers.Passed.{first_none, map_none, first_append}
 use Rattle.undo_map.specs.declared.entry.UndoEntry.{UndoEntry}
 use Rattle.undo_map.specs.Counts.{count_of}
 use Rattle.undo_map.specs.Undos.{undo_entries}
-use Rattle.undo_map.proofs.Entries.{count_kept}
+use Rattle.undo_map.proofs.Seeking.{counts_at_end}
 use Rattle.op_answers.specs.LocalUndo.{listed_fault}
-
-find_same : (p q : Lamport → Bool) (ts : List Lamport) → ((t : Lamport) → p t ≡ q t) → find p ts ≡ find q ts
-find_same p q [] e = refl
-find_same p q (t ∷ ts) e = ap (λ (b : Bool). cond b (Some t) (find p ts)) (e t) ∙ ap (cond (q t) (Some t)) (find_same p q ts e)
-
--- the entries of a history tell which count stands at its end
-pub at_end : (h : History) (w : List UndoEntry) (ts : List Lamport) → w ≡ undo_entries h → find (λ t. eqb (count_of w t) last_value) ts ≡ find (λ t. eqb (count h t) last_value) ts
-at_end h w ts q = find_same (λ t. eqb (count_of w t) last_value) (λ t. eqb (count h t) last_value) ts
-    (λ t. ap (λ (z : List UndoEntry). eqb (count_of z t) last_value) q ∙ ap (λ (n : ℕ). eqb n last_value) (count_kept h t))
 
 module _ (h : History) (ts : List Lamport) where
   pub unknown : (t : Lamport) → find (λ t. not (has_edit h t)) ts ≡ Some t → Some (NoSuchEdit t) ≡ listed_fault h ts
@@ -56,7 +47,7 @@ room h w ts q e =
     let a : Option UndoFault = option_map NoSuchEdit (find (λ t. not (has_edit h t)) ts) in
     let b : Option UndoFault = option_map Twice (first_twice [] ts) in
     let c : Option UndoFault = option_map CountEnd (find (λ t. eqb (count h t) last_value) ts) in
-    at_end h w ts q ∙ map_none CountEnd (find (λ t. eqb (count h t) last_value) ts)
+    counts_at_end h w ts q ∙ map_none CountEnd (find (λ t. eqb (count h t) last_value) ts)
     (first_none c [] (first_none b (c ∷ []) (first_none a (b ∷ c ∷ []) e).1).1).0
 
 -- what stands behind the fault

@@ -1,12 +1,15 @@
 -- General facts that std lacks: what holds of each element of a list and of its parts, numbers one after another, what stands in
 -- a list, tests of lists, and facts of Booleans and of tests of numbers.
-use Rattle.std.proofs.Common.{refl, ◌≡◌, ◌∙◌, sym, ap, ◌⊎◌, inl, inr, ◌&&◌, ◌||◌, ℕ, zero, suc, ◌+◌, ◌<◌, ◌≤◌, eqb, arith, take, drop, Bool, true, false, List, [], ◌∷◌, ◌++◌, Some, cond, ◌-◌}
+use Rattle.std.proofs.Common.{refl, ◌≡◌, ◌∙◌, sym, ap, ◌⊎◌, inl, inr, ◌&&◌, ◌||◌, ℕ, zero, suc, ◌+◌, ◌<◌, ◌≤◌, eqb, arith, take, drop, Bool, true, false, List, [], ◌∷◌, ◌++◌, Some, cond, ◌-◌, subst, length, None, replicate, ◌==◌, get_or, ⊎_elim, map, set}
 use Rattle.std.specs.Prelude.{not, slice_get, slice_range}
-use Rattle.std.specs.List.{All, AllByRecursion, AllPairs, AllZip, filter, list_any, range_with_len}
+use Rattle.std.specs.List.{All, AllByRecursion, AllPairs, AllZip, filter, list_any, range_with_len, slice_index_or, find}
 use Rattle.std.proofs.Math.Bool.{or-true}
-use Rattle.std.proofs.lemmas.Bool.{cases_Bool}
+use Rattle.std.proofs.lemmas.Bool.{cases_Bool, ne_eqb, cases_lt}
 use Rattle.std.proofs.lemmas.Bool.Decides.{nat_tests}
-use Rattle.op_model.specs.Sorted.{Member}
+use Rattle.std.proofs.lemmas.List.Elements.{All-head, All-tail}
+use Rattle.std.proofs.lemmas.List.{drop_all, drop_more, get_or-map, get_or_default}
+use Rattle.op_model.specs.Sorted.{Member, EachPair}
+use Rattle.op_model.specs.declared.operation.Operation.{Operation}
 
 pub each_left : {A : Type 0} (P : A → Type 0) (xs ys : List A) → AllByRecursion P (xs ++ ys) → AllByRecursion P xs
 each_left P [] ys e = tt
@@ -15,6 +18,11 @@ each_left P (x ∷ xs) ys e = (e.0, each_left P xs ys e.1)
 pub each_right : {A : Type 0} (P : A → Type 0) (xs ys : List A) → AllByRecursion P (xs ++ ys) → AllByRecursion P ys
 each_right P [] ys e = e
 each_right P (x ∷ xs) ys e = each_right P xs ys e.1
+
+-- what holds of each holds of a member
+pub each_member : {A : Type 0} (P : A → Type 0) (s : List A) (x : A) → AllByRecursion P s → Member x s → P x
+each_member P [] x e m = absurd m
+each_member P (y ∷ s) x e m = elim m [ inl i ↦ subst P (sym i) e.0 | inr n ↦ each_member P s x e.1 n ]
 
 pub each_append : {A : Type 0} (P : A → Type 0) (xs ys : List A) → AllByRecursion P xs → AllByRecursion P ys → AllByRecursion P (xs ++ ys)
 each_append P [] ys e f = f
@@ -69,6 +77,7 @@ range_more a zero = ap (λ (m : ℕ). m ∷ []) (omega arith)
 range_more a (suc n) = ap (λ (l : List ℕ). a ∷ l) (range_more (a + 1) n ∙ ap (λ (m : ℕ). range_with_len (a + 1) n ++ m ∷ []) (omega arith))
 
 -- ---- what stands in a list
+
 -- a member of one of two lists is one of both together, and the other way
 pub member_left : {A : Type 0} (x : A) (xs ys : List A) → Member x xs → Member x (xs ++ ys)
 member_left x [] ys m = absurd m
@@ -110,6 +119,7 @@ split_at x (y ∷ xs) (inl e) = ([], xs, ap (λ z. z ∷ xs) (sym e))
 split_at x (y ∷ xs) (inr m) = let k = split_at x xs m in (y ∷ k.0, k.1, ap (λ z. y ∷ z) k.2)
 
 -- ---- lists that are one
+
 -- lists that are one have one first element, and one rest
 pub same_first : {A : Type 0} {x y : A} {xs ys : List A} → x ∷ xs ≡ y ∷ ys → x ≡ y
 same_first e = cc
@@ -118,6 +128,7 @@ pub same_rest : {A : Type 0} {x y : A} {xs ys : List A} → x ∷ xs ≡ y ∷ y
 same_rest e = cc
 
 -- ---- Booleans
+
 pub or_no : (c b : Bool) → c ≡ false → (c || b) ≡ b
 or_no c b e = rw e refl
 
@@ -149,6 +160,7 @@ neither true c = refl
 neither false c = refl
 
 -- ---- tests of numbers
+
 pub eqb_less : (x y : ℕ) → x < y → eqb y x ≡ false
 eqb_less x y e = grind (arith, nat_tests)
 
@@ -156,6 +168,7 @@ pub less_than : (x y : ℕ) → x ≤ y → eqb x y ≡ false → x < y
 less_than x y a b = grind (arith, nat_tests)
 
 -- ---- tests of lists
+
 -- a test that is true of an element is true of some element
 pub any_member : {A : Type 0} (p : A → Bool) (xs : List A) (x : A) → Member x xs → p x ≡ true → list_any p xs ≡ true
 any_member p [] x m h = absurd m
@@ -189,3 +202,116 @@ take_split [] (suc a) (suc b) h = take_nothing (suc b - suc a)
 take_split (x ∷ s) (suc a) zero h = absurd (omega arith)
 take_split (x ∷ s) (suc a) (suc b) h = let e : b - a ≡ suc b - suc a = omega arith in
     ap (λ z. x ∷ z) (take_split s a b (omega arith)) ∙ ap (λ n. x ∷ (take a s ++ take n (drop a s))) e
+
+-- ---- pairs
+
+pub pairs_right : {A : Type 0} (R : A → A → Type 0) (xs ys : List A) → EachPair R (xs ++ ys) → EachPair R ys
+pairs_right R [] ys h = h
+pairs_right R (x ∷ xs) ys h = pairs_right R xs ys h.1
+
+pub pairs_across : {A : Type 0} (R : A → A → Type 0) (a b : A) (xs ys : List A) → EachPair R (xs ++ ys) → Member a xs → Member b ys → R a b
+pairs_across R a b [] ys h m n = absurd m
+pairs_across R a b (x ∷ xs) ys h (inl e) n = subst (λ z. R z b) (sym e) (each_member (R x) (xs ++ ys) b h.0 (member_right b xs ys n))
+pairs_across R a b (x ∷ xs) ys h (inr m) n = pairs_across R a b xs ys h.1 m n
+
+-- one is put in
+pub pairs_in : {A : Type 0} (R : A → A → Type 0) (xs ys : List A) (a : A) → EachPair R (xs ++ ys) → AllByRecursion (λ x. R x a) xs → AllByRecursion (R a) ys → EachPair R (xs ++ a ∷ ys)
+pairs_in R [] ys a h k l = (l, h)
+pairs_in R (x ∷ xs) ys a h k l = (each_append (R x) xs (a ∷ ys) (each_left (R x) xs ys h.0) (k.0, each_right (R x) xs ys h.0), pairs_in R xs ys a h.1 k.1 l)
+
+-- one is left out
+pub pairs_out : {A : Type 0} (R : A → A → Type 0) (xs ys : List A) (a : A) → EachPair R (xs ++ a ∷ ys) → EachPair R (xs ++ ys) × AllByRecursion (λ x. R x a) xs × AllByRecursion (R a) ys
+pairs_out R [] ys a h = (h.1, tt, h.0)
+pairs_out R (x ∷ xs) ys a h =
+    let ih = pairs_out R xs ys a h.1 in
+    let r = each_right (R x) xs (a ∷ ys) h.0 in
+    ((each_append (R x) xs ys (each_left (R x) xs (a ∷ ys) h.0) r.1, ih.0), (r.0, ih.1), ih.2)
+
+pub length_mid : {A : Type 0} (a b : List A) (x : A) → length (a ++ x ∷ b) ≡ suc (length (a ++ b))
+length_mid [] b x = refl
+length_mid (y ∷ a) b x = ap suc (length_mid a b x)
+
+pub place_of : {A : Type 0} (x d : A) (xs : List A) → Member x xs → (j : ℕ) × (j < length xs) × (slice_index_or xs j d ≡ x)
+place_of x d [] m = absurd m
+place_of x d (y ∷ xs) (inl e) = (0, omega arith, sym e)
+place_of x d (y ∷ xs) (inr m) = let k = place_of x d xs m in let l = k.1 in (suc k.0, omega arith, k.2)
+
+pub find_filter : (p q : Operation → Bool) (w : List Operation) → find (λ o. p o && q o) w ≡ find q (filter p w)
+find_filter p q [] = refl
+find_filter p q (o ∷ w) = elim (p o) as (λ b. cond (b && q o) (Some o) (find (λ o. p o && q o) w) ≡ find q (cond b (o ∷ filter p w) (filter p w))) [
+  | true ↦ ap (cond (q o) (Some o)) (find_filter p q w)
+  | false ↦ find_filter p q w
+]
+
+pub find_same : {A : Type 0} (p q : A → Bool) (ts : List A) → ((t : A) → p t ≡ q t) → find p ts ≡ find q ts
+find_same p q [] e = refl
+find_same p q (t ∷ ts) e = ap (λ (b : Bool). cond b (Some t) (find p ts)) (e t) ∙ ap (cond (q t) (Some t)) (find_same p q ts e)
+
+pub found_past : (t : Operation → Bool) (v w : List Operation) → AllByRecursion (λ (o : Operation). t o ≡ false) v → find t (v ++ w) ≡ find t w
+found_past t [] w e = refl
+found_past t (o ∷ v) w e = rw e.0 (found_past t v w e.1)
+
+-- ---- lists
+
+-- the n-th that passes, n being the number of those before it that do
+pub got_at : {A : Type 0} (p : A → Bool) (xs : List A) (x : A) (ys : List A) → p x ≡ true → slice_get (filter p (xs ++ x ∷ ys)) (length (filter p xs)) ≡ Some x
+got_at p [] x ys e = rw e refl
+got_at p (y ∷ xs) x ys e = elim (cases_Bool (p y)) [ inl k ↦ rw k (got_at p xs x ys e) | inr k ↦ rw k (got_at p xs x ys e) ]
+
+-- where nothing is read the list has ended
+pub none_past : {A : Type 0} (xs : List A) (i : ℕ) → slice_get xs i ≡ None → length xs ≤ i
+none_past [] i h = omega arith
+none_past (y ∷ xs) zero h = cc
+none_past (y ∷ xs) (suc i) h = let l = none_past xs i h in omega arith
+
+pub same_all : {X : Type 0} (xs : List X) (x : X) → All (λ y. y ≡ x) xs → xs ≡ replicate (length xs) x
+same_all [] x a = refl
+same_all (y ∷ xs) x a = let head = All-head (λ z. z ≡ x) y xs a in let tail = same_all xs x (All-tail (λ z. z ≡ x) y xs a) in cc (head, tail)
+
+pub none_paired : {X Y : Type 0} (R : X → Y → Type 0) (xs : List X) (ys : List Y) → AllZip R xs ys → ys ≡ [] → xs ≡ []
+none_paired R [] ys p e = refl
+none_paired R (x ∷ xs) [] p e = absurd p
+none_paired R (x ∷ xs) (y ∷ ys) p e = absurd (cc e)
+
+-- none goes where no worker is
+pub none_go : {X : Type 0} (turn : X → ℕ) (xs : List X) (w : ℕ) → ((x : X) → turn x < w) → filter (λ x. turn x == w) xs ≡ []
+none_go turn [] w h = refl
+none_go turn (x ∷ xs) w h = let no : (turn x == w) ≡ false = ne_eqb (turn x) w (λ e. absurd (omega (arith, e, h x))) in
+    ap (λ (b : Bool). cond b (x ∷ filter (λ y. turn y == w) xs) (filter (λ y. turn y == w) xs)) no ∙ none_go turn xs w h
+
+-- what is left of a list from some place on begins with what stands there
+pub drop_at : {X : Type 0} (xs : List X) (k : ℕ) (x : X) (rest : List X) (d : X) → drop k xs ≡ x ∷ rest → (k < length xs) × (get_or xs k d ≡ x) × (drop (k + 1) xs ≡ rest)
+drop_at xs k x rest d e = ⊎_elim
+    (λ (within : k < length xs). let more = drop_more xs k d within in (within, cc (more, e), cc (more, e)))
+    (λ (far : length xs ≤ k). let none = drop_all k xs far in absurd (cc (none, e)))
+    (cases_lt k (length xs))
+
+-- what is the same at each place is the same list
+pub range_map : {X B : Type 0} (f : ℕ → B) (g : X → B) (xs : List X) (a : ℕ) → ((i : ℕ) (d : X) → i < length xs → g (get_or xs i d) ≡ f (a + i)) → map g xs ≡ map f (range_with_len a (length xs))
+range_map f g [] a h = refl
+range_map f g (x ∷ xs) a h =
+    let head : g x ≡ f a = h 0 x (omega arith) ∙ ap f (omega arith) in
+    let tail : map g xs ≡ map f (range_with_len (a + 1) (length xs)) = range_map f g xs (a + 1) (λ i d lt. h (suc i) d (omega (arith, lt)) ∙ ap f (omega arith)) in
+    cc (head, tail)
+
+-- where two lists are alike under a map, what stands at one place is
+pub same_at : {X Y B : Type 0} (f : X → B) (g : Y → B) (xs : List X) (ys : List Y) (w : ℕ) (x : X) (y : Y) → map f xs ≡ map g ys → w < length xs → length ys ≡ length xs → f (get_or xs w x) ≡ g (get_or ys w y)
+same_at f g xs ys w x y same within count =
+    sym (get_or-map f xs w x (f x) within) ∙ (ap (λ l. get_or l w (f x)) same ∙ get_or-map g ys w y (f x) (omega (arith, within, count)))
+
+-- what is paired is so at each place
+pub paired_at : {X Y : Type 0} (R : X → Y → Type 0) (xs : List X) (ys : List Y) (w : ℕ) (x : X) (y : Y) → AllZip R xs ys → w < length xs → R (get_or xs w x) (get_or ys w y)
+paired_at R [] ys w x y p within = absurd (omega arith)
+paired_at R (a ∷ xs) [] w x y p within = absurd p
+paired_at R (a ∷ xs) (b ∷ ys) zero x y p within = p.0
+paired_at R (a ∷ xs) (b ∷ ys) (suc w) x y p within = paired_at R xs ys w x y p.1 (omega arith)
+
+pub all_from_places : {A : Type 0} (xs : List (List A)) (y : List A) → ((j : ℕ) → j < length xs → get_or xs j [] ≡ y) → All (λ x. x ≡ y) xs
+all_from_places xs y h k d below = get_or_default xs k d [] below ∙ h k below
+
+pub set_below : {A : Type 0} (xs : List (List A)) (i : ℕ) (y : List A) → i < length xs → ((j : ℕ) → j < i → get_or xs j [] ≡ y) → (j : ℕ) → j < i + 1 → get_or (set xs i y) j [] ≡ y
+set_below [] i y within h j below = absurd (omega arith)
+set_below (x ∷ xs) zero y within h zero below = refl
+set_below (x ∷ xs) zero y within h (suc j) below = absurd (omega arith)
+set_below (x ∷ xs) (suc i) y within h zero below = h zero (omega arith)
+set_below (x ∷ xs) (suc i) y within h (suc j) below = set_below xs i y (omega arith) (λ k lt. h (suc k) (omega arith)) j (omega arith)

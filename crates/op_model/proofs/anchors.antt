@@ -3,3 +3,4 @@ pub mod AnchorPlaces
 pub mod KnownAnchors
 pub mod KeptOrder
 pub mod LeftAnchors
+pub mod Standing

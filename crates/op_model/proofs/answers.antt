@@ -5,3 +5,9 @@ pub mod OwnVersion
 pub mod MadeGood
 pub mod SameAnswers
 pub mod NeverRefused
+pub mod Answering
+pub mod Closing
+pub mod Founds
+pub mod Local
+pub mod Repeats
+pub mod Uncounted

@@ -7,3 +7,5 @@ pub mod MoreLawful
 pub mod Causes
 pub mod ClosedVersions
 pub mod SameVersions
+pub mod Growing
+pub mod Ids

@@ -4,3 +4,7 @@ pub mod AllApplied
 pub mod HonestRuns
 pub mod HonestSets
 pub mod Appending
+pub mod Causes
+pub mod Leaves
+pub mod Passes
+pub mod Waiting

@@ -11,3 +11,5 @@ pub mod UndoTold
 pub mod Walking
 pub mod OnePass
 pub mod Changes
+pub mod Alike
+pub mod Visible

@@ -5,3 +5,5 @@ pub mod Replacing
 pub mod WholeRuns
 pub mod WholeWalks
 pub mod Lengths
+pub mod Pieces
+pub mod Hidden

@@ -1,5 +1,5 @@
 -- There is room for what is placed.
-use Rattle.std.proofs.Common.{◌≡◌, ℕ, ◌+◌, ◌≤◌, ◌^◌, List, [], ◌∷◌, length, map, sym, ap, ◌∙◌, subst, arith, None}
+use Rattle.std.proofs.Common.{◌≡◌, ℕ, ◌+◌, ◌≤◌, ◌^◌, List, length, map, sym, ap, ◌∙◌, subst, arith, None}
 use Rattle.op_model.specs.declared.operation.Operation.{Operation}
 use Rattle.op_model.specs.declared.operation.UndoCount.{UndoCount}
 use Rattle.op_model.specs.declared.operation.Piece.{Piece}
@@ -10,11 +10,12 @@ use Rattle.op_model.specs.Histories.{History, clock}
 use Rattle.op_model.specs.Shown.{full}
 use Rattle.op_model.specs.Settled.{full_fault}
 use Rattle.op_model.specs.Made.{local_edit}
+use Rattle.op_model.proofs.histories.Growing.{room_in}
 use Rattle.op_model.proofs.order.CellsOnce.{member_map}
 use Rattle.op_model.proofs.texts.Lengths.{full_bytes}
 use Rattle.text_buffer.specs.Buffer.{BufferState, IsBuffer, edit_fault}
 use Rattle.text_buffer.proofs.Applied.{room_of}
-use Rattle.text_buffer.proofs.Fit as fit
+use Rattle.text_buffer.proofs.Fit.{no_excess}
 
 pub room_taken : (b : BufferState) (op : Operation) → IsBuffer b → full_fault b.limits b.history op ≡ None → length (full b.history) + text_total (pieces_of op) ≤ 2 ^ 40
 room_taken b op k f = let e = full_bytes b.history in let r = (room_of b op f).0 in let m = k.most_bytes in omega (arith, e, r, m)
@@ -22,7 +23,7 @@ room_taken b op k f = let e = full_bytes b.history in let r = (room_of b op f).0
 pub room_edited : (b : BufferState) (ps : List Piece) → IsBuffer b → edit_fault b ps ≡ None → length (full b.history) + text_total ps ≤ 2 ^ 40
 room_edited b ps k f =
     let e = full_bytes b.history in
-    let r = (fit.room_in b.limits b.history (text_total ps) (1 + length ps) (fit.no_excess b ps f)).0 in
+    let r = (room_in b.limits b.history (text_total ps) (1 + length ps) (no_excess b ps f)).0 in
     let m = k.most_bytes in omega (arith, e, r, m)
 
 -- the stamp of what is made

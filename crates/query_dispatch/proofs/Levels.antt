@@ -2,17 +2,14 @@
 use Rattle.std.proofs.Common.{◌≡◌, ℕ, ◌+◌, ◌<◌, ◌≤◌, List, [], ◌∷◌, ◌++◌, length, map, set, get_or, take, replicate, refl, sym, ap, ◌∙◌, subst, arith}
 use Rattle.std.specs.List.{All}
 use Rattle.std.proofs.lemmas.List.{map-set, map-append, get_or-map, get_or_default, length-map, length-replicate, take_more}
-use Rattle.std.proofs.lemmas.List.Elements.{All-head, All-replicate, All-set, All-tail}
+use Rattle.std.proofs.lemmas.List.Elements.{All-replicate, All-set}
 use Rattle.op_model.specs.declared.operation.Operation.{Operation}
+use Rattle.op_model.proofs.Elements.{same_all}
 use Rattle.logbook.specs.Pages.{Book}
 use Rattle.snapshot_pub.specs.States.{PublisherState, ToldState}
 use Rattle.query_dispatch.specs.States.{PublishersState}
 use Rattle.query_dispatch.specs.Dealt.{told_lists, told_pairs}
 use Rattle.query_dispatch.specs.Published.{AreLevel, PublishesToAll, column, no_pair, published_lists, published_of, rows_of}
-
-same_all : {X : Type 0} (xs : List X) (x : X) → All (λ y. y ≡ x) xs → xs ≡ replicate (length xs) x
-same_all [] x a = refl
-same_all (y ∷ xs) x a = let head = All-head (λ z. z ≡ x) y xs a in let tail = same_all xs x (All-tail (λ z. z ≡ x) y xs a) in cc (head, tail)
 
 -- every pair of a level publisher has what its first one has
 pub level_publishes : (s : PublishersState) (r : ℕ) (p : PublisherState) → AreLevel s → r < length s.list → p ≡ get_or s.list r p

@@ -1,5 +1,5 @@
 -- The answers of all workers, one after another from their lists in turn.
-use Rattle.std.proofs.Common.{◌≡◌, ◌≢◌, ℕ, ◌+◌, ◌-◌, ◌%◌, ◌<◌, ◌≤◌, ◌==◌, Bool, true, false, cond, List, [], ◌∷◌, ◌++◌, length, set, get_or, take, drop, refl, sym, ap, ◌∙◌, subst, arith, append_assoc, ⊎_elim}
+use Rattle.std.proofs.Common.{◌≡◌, ◌≢◌, ℕ, ◌+◌, ◌-◌, ◌%◌, ◌<◌, ◌≤◌, ◌==◌, Bool, true, cond, List, [], ◌∷◌, ◌++◌, length, set, get_or, take, drop, refl, sym, ap, ◌∙◌, subst, arith, append_assoc, ⊎_elim}
 use Rattle.std.specs.List.{AllPairs, AllZip, filter}
 use Rattle.std.proofs.lemmas.List.{append-nil, get_or-map, drop_more, drop_all, take_more, take_all}
 use Rattle.std.proofs.lemmas.List.FromFn.{get_or-range_with_len}
@@ -7,6 +7,7 @@ use Rattle.std.proofs.lemmas.Nat.{mod_below}
 use Rattle.std.proofs.lemmas.Bool.{cases_lt, eq-eqb, ne_eqb}
 use Rattle.std.proofs.lemmas.Slice.Zip.{all_zipped_more}
 use Rattle.op_model.specs.declared.operation.Operation.{Operation}
+use Rattle.op_model.proofs.Elements.{none_paired, none_go}
 use Rattle.query_workers.specs.Asks.{Ask, asks_to, worker_of}
 use Rattle.query_workers.specs.Answers.{NeverFewer}
 use Rattle.query_workers.specs.declared.query.Answer.{Answer}
@@ -15,20 +16,9 @@ use Rattle.query_dispatch.specs.Final.{AreGathered, IsFinal}
 use Rattle.query_dispatch.proofs.Places.{each_set}
 use Rattle.query_dispatch.proofs.Turns.{filter_in, filter_out, pairs_dealt}
 
-none_paired : {X Y : Type 0} (R : X → Y → Type 0) (xs : List X) (ys : List Y) → AllZip R xs ys → ys ≡ [] → xs ≡ []
-none_paired R [] ys p e = refl
-none_paired R (x ∷ xs) [] p e = absurd p
-none_paired R (x ∷ xs) (y ∷ ys) p e = absurd (cc e)
-
 pub head_of : {X : Type 0} (xs : List X) → 0 < length xs → X
 head_of [] h = absurd (omega (arith, h))
 head_of (x ∷ xs) h = x
-
--- none goes where no worker is
-none_go : {X : Type 0} (turn : X → ℕ) (xs : List X) (w : ℕ) → ((x : X) → turn x < w) → filter (λ x. turn x == w) xs ≡ []
-none_go turn [] w h = refl
-none_go turn (x ∷ xs) w h = let no : (turn x == w) ≡ false = ne_eqb (turn x) w (λ e. absurd (omega (arith, e, h x))) in
-    ap (λ (b : Bool). cond b (x ∷ filter (λ y. turn y == w) xs) (filter (λ y. turn y == w) xs)) no ∙ none_go turn xs w h
 
 module _ {Q A : Type 0} (plain : Q → List Operation → A) (lasts : List (List Operation)) (workers : ℕ) (asks : List (Ask Q)) where
   abbrev its : ℕ → Answer Q A → Bool

@@ -1,9 +1,13 @@
 -- Facts about what stands at each place of a list.
-use Rattle.std.proofs.Common.{◌≡◌, ◌≢◌, ℕ, suc, ◌+◌, ◌<◌, ◌≤◌, ◌==◌, Bool, true, false, List, [], ◌∷◌, ◌++◌, length, map, set, get_or, drop, refl, sym, ap, ◌∙◌, subst, arith, get_or-set_same, length-append, ⊎_elim}
-use Rattle.std.specs.List.{range_with_len}
-use Rattle.std.proofs.lemmas.List.{get_or-set_other, get_or_append_left, get_or-append-add, length-set, drop_all, drop_more}
+use Rattle.std.proofs.Common.{◌≡◌, ◌≢◌, ℕ, ◌+◌, ◌<◌, ◌≤◌, ◌==◌, Bool, true, false, List, [], ◌∷◌, ◌++◌, length, map, set, get_or, refl, sym, ap, ◌∙◌, subst, arith, get_or-set_same, length-append, ⊎_elim, ap₂}
+use Rattle.std.proofs.lemmas.List.{get_or-set_other, get_or_append_left, get_or-append-add, length-set}
 use Rattle.std.proofs.lemmas.Bool.{cases_lt, eq-eqb, eqb-true}
+use Rattle.std.proofs.lemmas.List.FromFn.{map-range_with_len_more}
 use Rattle.query_dispatch.specs.Dealt.{AllAt}
+use Rattle.query_dispatch.specs.Published.{column, columns, published_of}
+use Rattle.logbook.specs.Pages.{Book}
+use Rattle.op_model.specs.declared.operation.Operation.{Operation}
+use Rattle.snapshot_pub.specs.States.{PublisherState}
 
 -- what is set at one place, as a fact about each place
 pub each_set : {X : Type 0} (P P' : ℕ → X → Type 0) (xs : List X) (k : ℕ) (y : X) → k < length xs → AllAt P xs → P' k y → ((i : ℕ) (x : X) → i ≢ k → P i x → P' i x) → AllAt P' (set xs k y)
@@ -26,17 +30,14 @@ all_at_more P xs x a new i d below = ⊎_elim
     subst (λ (j : ℕ). P j (get_or (xs ++ x ∷ []) j d)) (sym at) (subst (P (length xs + 0)) (sym (get_or-append-add xs (x ∷ []) 0 d)) (subst (λ (j : ℕ). P j x) (omega arith) new)))
     (cases_lt i (length xs))
 
--- what is left of a list from some place on begins with what stands there
-pub drop_at : {X : Type 0} (xs : List X) (k : ℕ) (x : X) (rest : List X) (d : X) → drop k xs ≡ x ∷ rest → (k < length xs) × (get_or xs k d ≡ x) × (drop (k + 1) xs ≡ rest)
-drop_at xs k x rest d e = ⊎_elim
-    (λ (within : k < length xs). let more = drop_more xs k d within in (within, cc (more, e), cc (more, e)))
-    (λ (far : length xs ≤ k). let none = drop_all k xs far in absurd (cc (none, e)))
-    (cases_lt k (length xs))
+-- ---- what each worker is told
 
--- what is the same at each place is the same list
-pub range_map : {X B : Type 0} (f : ℕ → B) (g : X → B) (xs : List X) (a : ℕ) → ((i : ℕ) (d : X) → i < length xs → g (get_or xs i d) ≡ f (a + i)) → map g xs ≡ map f (range_with_len a (length xs))
-range_map f g [] a h = refl
-range_map f g (x ∷ xs) a h =
-    let head : g x ≡ f a = h 0 x (omega arith) ∙ ap f (omega arith) in
-    let tail : map g xs ≡ map f (range_with_len (a + 1) (length xs)) = range_map f g xs (a + 1) (λ i d lt. h (suc i) d (omega (arith, lt)) ∙ ap f (omega arith)) in
-    cc (head, tail)
+-- one worker more
+pub pairs_more : (ts : List (List Book)) (w : ℕ) (rows : List (List Book)) (t : List Book) → ts ≡ columns w rows → t ≡ column w rows → ts ++ t ∷ [] ≡ columns (w + 1) rows
+pairs_more ts w rows t e f =
+    ap₂ (λ (us : List (List Book)) (u : List Book). us ++ u ∷ []) e f
+    ∙ sym (map-range_with_len_more (λ (v : ℕ). column v rows) 0 w w (omega arith))
+
+pub sizes_of : (ps : List PublisherState) → map (λ (p : PublisherState). length (published_of p)) ps ≡ map (λ (h : List Operation). length h) (map published_of ps)
+sizes_of [] = refl
+sizes_of (p ∷ ps) = ap (λ (ns : List ℕ). length (published_of p) ∷ ns) (sizes_of ps)

@@ -4,7 +4,8 @@ use Rattle.std.proofs.lemmas.List.{map-append}
 use Rattle.logbook.specs.Pages.{Book}
 use Rattle.query_dispatch.specs.Dealt.{AllAt}
 use Rattle.query_dispatch.specs.Published.{column, columns, no_pair}
-use Rattle.query_dispatch.proofs.Places.{each_set, range_map}
+use Rattle.query_dispatch.proofs.Places.{each_set}
+use Rattle.op_model.proofs.Elements.{range_map}
 
 module _ {X : Type 0} (f : X → List Book) where
   -- the readers of a worker have its pairs in these rows

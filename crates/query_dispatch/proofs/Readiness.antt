@@ -1,12 +1,13 @@
 -- What the editor leaves and what the workers give back are of each other, worker by worker.
-use Rattle.std.proofs.Common.{◌≡◌, ℕ, zero, suc, ◌<◌, ◌==◌, List, [], ◌∷◌, length, map, get_or, reverse, refl, sym, ap, ◌∙◌, subst, arith}
+use Rattle.std.proofs.Common.{◌≡◌, ℕ, suc, ◌<◌, ◌==◌, List, [], ◌∷◌, length, map, get_or, reverse, refl, sym, ap, ◌∙◌, subst, arith}
 use Rattle.std.proofs.lemmas.Slice.Zip.{AllZip-long}
 use Rattle.std.specs.List.{All, AllZip}
-use Rattle.std.proofs.lemmas.List.{get_or-map, length-map, length-reverse}
+use Rattle.std.proofs.lemmas.List.{length-map, length-reverse}
 use Rattle.std.proofs.lemmas.List.Elements.{All-filter}
 use Rattle.atomic_table.specs.Seated.{TableId}
 use Rattle.logbook.specs.Pages.{Book}
 use Rattle.op_model.specs.declared.operation.Operation.{Operation}
+use Rattle.op_model.proofs.Elements.{same_at, paired_at}
 use Rattle.text_buffer.specs.Document.{IsFront}
 use Rattle.snapshot_pub.specs.States.{ToldState}
 use Rattle.query_workers.specs.Queue.{pairs_of}
@@ -16,18 +17,6 @@ use Rattle.query_workers.specs.Answers.{HasWorked}
 use Rattle.query_workers.specs.declared.query.Answer.{Answer}
 use Rattle.query_dispatch.specs.Dealt.{AllAt, AreEnds, IsClosed, told_lists, told_pairs}
 use Rattle.query_dispatch.specs.Final.{AreFinal, CanRenew, CanRenewAll, HaveWorked, IsFinal, IsPast, IsReady}
-
--- where two lists are alike under a map, what stands at one place is
-pub same_at : {X Y B : Type 0} (f : X → B) (g : Y → B) (xs : List X) (ys : List Y) (w : ℕ) (x : X) (y : Y) → map f xs ≡ map g ys → w < length xs → length ys ≡ length xs → f (get_or xs w x) ≡ g (get_or ys w y)
-same_at f g xs ys w x y same within count =
-    sym (get_or-map f xs w x (f x) within) ∙ (ap (λ l. get_or l w (f x)) same ∙ get_or-map g ys w y (f x) (omega (arith, within, count)))
-
--- what is paired is so at each place
-pub paired_at : {X Y : Type 0} (R : X → Y → Type 0) (xs : List X) (ys : List Y) (w : ℕ) (x : X) (y : Y) → AllZip R xs ys → w < length xs → R (get_or xs w x) (get_or ys w y)
-paired_at R [] ys w x y p within = absurd (omega arith)
-paired_at R (a ∷ xs) [] w x y p within = absurd p
-paired_at R (a ∷ xs) (b ∷ ys) zero x y p within = p.0
-paired_at R (a ∷ xs) (b ∷ ys) (suc w) x y p within = paired_at R xs ys w x y p.1 (omega arith)
 
 module _ {Q A : Type 0} (plain : Q → List Operation → A) (sizes : List ℕ) (lasts : List (List Operation)) where
   -- the renewing of all workers, from that of each

@@ -1,5 +1,5 @@
 -- An answer on more than was last published is made anew, and later answers stay on no fewer operations.
-use Rattle.std.proofs.Common.{◌≡◌, ℕ, zero, suc, ◌<◌, ◌≤◌, Bool, true, false, cond, nat_lt, List, [], ◌∷◌, ◌++◌, length, map, get_or, drop, sym, ap, ◌∙◌, subst, arith, ⊎_elim}
+use Rattle.std.proofs.Common.{◌≡◌, ℕ, ◌<◌, ◌≤◌, Bool, true, false, cond, nat_lt, List, [], ◌∷◌, ◌++◌, length, map, get_or, drop, sym, ap, ◌∙◌, subst, arith, ⊎_elim}
 use Rattle.std.proofs.lemmas.Slice.Zip.{AllZip-long}
 use Rattle.std.specs.List.{All, AllPairs, AllZip}
 use Rattle.std.proofs.lemmas.Bool.{cases_lt}
@@ -8,8 +8,9 @@ use Rattle.std.proofs.lemmas.List.Elements.{All-cons, All-head, All-nil, All-tai
 use Rattle.std.proofs.lemmas.List.Kept.{AllPairs-cons}
 use Rattle.sum_tree.proofs.Keys.{AllPairs-cross, AllPairs-right}
 use Rattle.op_model.specs.declared.operation.Operation.{Operation}
+use Rattle.op_model.proofs.Elements.{drop_at}
 use Rattle.text_buffer.specs.Document.{IsFront}
-use Rattle.text_buffer.proofs.Fronts.{front_itself, front_length, front_shorter, front_trans}
+use Rattle.text_buffer.proofs.Fronts.{front_itself, front_length, front_trans, fronts_at}
 use Rattle.std.proofs.lemmas.List.{get_or-map, length-map}
 use Rattle.snapshot_pub.specs.States.{ReaderState, ToldState}
 use Rattle.logbook.specs.Pages.{Book}
@@ -17,13 +18,10 @@ use Rattle.query_workers.specs.Queue.{pairs_of}
 use Rattle.query_workers.specs.Asks.{Ask}
 use Rattle.query_workers.specs.Answers.{HasAnswered, IsAnswerTo, IsKnown, NeverFewer, lists_of}
 use Rattle.query_workers.specs.declared.query.Answer.{Answer}
-use Rattle.query_dispatch.proofs.Places.{all_at_more, drop_at}
+use Rattle.query_workers.proofs.Answering.{all_there}
+use Rattle.query_dispatch.proofs.Places.{all_at_more}
 use Rattle.query_dispatch.specs.Dealt.{AllAt, told_lists, told_pairs}
 use Rattle.query_dispatch.specs.Final.{AreFinal, ComesTo, IsBound, IsFinal, IsPast, final_list, last_of}
-
--- of what a reader knew, as much as was last published begins that
-pub bound_holds : (old new told h : List Operation) (n : ℕ) → IsFront old new → IsFront told new → n ≤ length told → IsFront h old → length h ≤ n → IsFront h told
-bound_holds old new told h n grows learned most known few = front_shorter h told new (front_trans h old new known grows) learned (omega arith)
 
 pub list_stays : (bound : ℕ) (h last : List Operation) → length h ≤ bound → h ≡ final_list bound h last
 list_stays bound h last few = let test : nat_lt bound (length h) ≡ false = grind (arith, nat_tests) in ap (λ (b : Bool). cond b last h) (sym test)
@@ -42,14 +40,6 @@ final_grows bound g h last most le =
     let one = ap (λ (l : List Operation). length l) (list_stays bound g last (omega arith)) in
     let two = ap (λ (l : List Operation). length l) (list_stays bound h last few) in omega (arith, one, two, le))
     (cases_lt bound (length h))
-
--- each list begins the one at its place
-pub fronts_at : (xs ys : List (List Operation)) (r : ℕ) → AllZip IsFront xs ys → IsFront (get_or xs r []) (get_or ys r [])
-fronts_at [] [] r p = front_itself []
-fronts_at [] (y ∷ ys) r p = absurd p
-fronts_at (x ∷ xs) [] r p = absurd p
-fronts_at (x ∷ xs) (y ∷ ys) zero p = p.0
-fronts_at (x ∷ xs) (y ∷ ys) (suc r) p = fronts_at xs ys r p.1
 
 module _ {Q A : Type 0} (plain : Q → List Operation → A) (bounds : List ℕ) (lasts published : List (List Operation)) (readers : List ReaderState)
     (fronts : AllZip IsFront published lasts) (are_bounds : (r : ℕ) → r < length lasts → IsBound published readers r (get_or bounds r 0)) where
@@ -141,10 +131,6 @@ pub each_bound : (bounds : List ℕ) (lasts published : List (List Operation)) (
     → (r : ℕ) → r < length lasts → IsBound published readers r (get_or bounds r 0)
 each_bound bounds lasts published readers fronts many h r within = h r 0 (omega (arith, within, many, AllZip-long IsFront published lasts fronts))
 
-pub all_there : {Q A : Type 0} (bounds : List ℕ) (lasts published : List (List Operation)) → AllZip IsFront published lasts → length bounds ≡ length published → (as_ : List (Answer Q A)) → All (λ (a : Answer Q A). a.index < length lasts) as_
-    → All (λ (a : Answer Q A). (a.index < length bounds) × (a.index < length lasts)) as_
-all_there bounds lasts published fronts many as_ h i d below = let within = h i d below in (omega (arith, within, many, AllZip-long IsFront published lasts fronts), within)
-
 -- what renewing the answers of one worker needs, and what comes of it
 pub renews : {Q A : Type 0} (plain : Q → List Operation → A) (bounds looked : List ℕ) (lasts published : List (List Operation)) (rs readers : List ReaderState) (as_ : List (Answer Q A)) (ks : List (Ask Q)) → AllZip IsFront published lasts → bounds ≡ looked → length looked ≡ length published
     → rs ≡ readers → AllAt (IsBound published rs) looked → HasAnswered plain ks readers as_ → All (IsPast lasts) ks
@@ -156,11 +142,6 @@ renews plain bounds looked lasts published rs readers as_ ks fronts same many mi
       all_there bounds lasts published fronts count as_ (all_within plain bounds lasts published readers fronts are_bounds as_ ks answered.each past),
       λ bs c. worker_final plain bounds lasts published readers fronts are_bounds bs as_ ks c answered past,
     )
-
-pub plain_answers : {Q A : Type 0} (plain : Q → List Operation → A) (as_ : List (Answer Q A)) (ks : List (Ask Q)) → AllZip (IsAnswerTo plain) as_ ks → All (λ (a : Answer Q A). a.answer ≡ plain a.query a.snapshot) as_
-plain_answers plain [] ks h = All-nil (λ a. a.answer ≡ plain a.query a.snapshot)
-plain_answers plain (a ∷ as_) [] h = absurd h
-plain_answers plain (a ∷ as_) (k ∷ ks) h = All-cons (λ x. x.answer ≡ plain x.query x.snapshot) a as_ h.0.answer (plain_answers plain as_ ks h.1)
 
 -- what stands at one place among readers and what they are told
 module _ (tolds : List ToldState) (k : ℕ) (told : ToldState) (ts : List ToldState) (is_t : drop k tolds ≡ told ∷ ts) where

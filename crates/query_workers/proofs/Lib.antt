@@ -1,5 +1,5 @@
 pub mod Queues
 pub mod Jobs
 pub mod Working
-pub mod Places
 pub mod Crossing
+pub mod Answering

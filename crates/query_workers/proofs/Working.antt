@@ -1,5 +1,5 @@
 -- A worker that has answered one job more.
-use Rattle.std.proofs.Common.{Bool, true, false, ◌≡◌, ◌<◌, ℕ, zero, suc, List, [], ◌∷◌, ◌++◌, set, get_or, length, sym, ap, ◌∙◌, subst, arith, get_or-set_same, Option, Result, Ok, Err, IfOk, IfSome}
+use Rattle.std.proofs.Common.{Bool, true, false, ◌≡◌, ◌<◌, ℕ, List, [], ◌∷◌, ◌++◌, set, get_or, length, sym, ap, ◌∙◌, subst, arith, get_or-set_same, Option, Result, Ok, Err, IfOk, IfSome}
 use Rattle.std.specs.Option.{option_map}
 use Rattle.std.specs.Result.{result_ok}
 use Rattle.std.specs.List.{All, AllPairs}
@@ -11,7 +11,7 @@ use Rattle.sum_tree.proofs.Keys.{AllPairs-append}
 use Rattle.op_model.specs.declared.operation.Operation.{Operation}
 use Rattle.op_model.proofs.Elements.{All-single, AllPairs-nil}
 use Rattle.text_buffer.specs.Document.{IsFront}
-use Rattle.text_buffer.proofs.Fronts.{front_itself, front_length, front_trans}
+use Rattle.text_buffer.proofs.Fronts.{front_itself, front_length, front_trans, lists_grow}
 use Rattle.snapshot_pub.specs.States.{ReaderState}
 use Rattle.query_workers.specs.declared.job.Job.{Job}
 use Rattle.query_workers.specs.declared.job.Entry.TheVariants as entry
@@ -21,14 +21,6 @@ use Rattle.query_workers.proofs.Jobs.{asks_more, asks_ended, open_more, ended_mo
 use Rattle.query_workers.specs.declared.query.Answer.{Answer}
 use Rattle.query_workers.specs.Asks.{Ask, ask_of, asks_of}
 use Rattle.query_workers.specs.Answers.{lists_of, IsAnswerTo, NeverFewer, IsKnown, HasAnswered}
-
--- where one list grows, each does or stays
-lists_grow : (ls : List (List Operation)) (i : ℕ) (new : List Operation) → IsFront (get_or ls i []) new → (k : ℕ) → IsFront (get_or ls k []) (get_or (set ls i new) k [])
-lists_grow [] i new f k = front_itself []
-lists_grow (l ∷ ls) zero new f zero = f
-lists_grow (l ∷ ls) zero new f (suc k) = front_itself (get_or ls k [])
-lists_grow (l ∷ ls) (suc i) new f zero = front_itself l
-lists_grow (l ∷ ls) (suc i) new f (suc k) = lists_grow ls i new f k
 
 one_pair : {X : Type 0} (R : X → X → Type 0) (x : X) → AllPairs R (x ∷ [])
 one_pair R x = AllPairs-cons R x [] (All-nil (R x)) (AllPairs-nil R)

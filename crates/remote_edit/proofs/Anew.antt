@@ -1,5 +1,5 @@
 -- Fragments where an undo counts edits.
-use Rattle.std.proofs.Common.{◌≡◌, Bool, true, false, cond, leb, ◌||◌, List, [], ◌∷◌, ap, inl, inr, sym, ◌∙◌}
+use Rattle.std.proofs.Common.{◌≡◌, Bool, true, false, cond, leb, List, [], ◌∷◌, ap, inl, inr, sym, ◌∙◌}
 use Rattle.std.proofs.lemmas.Bool.{cases_Bool, and_parts, and_from, or_left}
 use Rattle.std.specs.List.{list_any}
 use Rattle.lamport_clock.specs.declared.stamp.Lamport.{Lamport}

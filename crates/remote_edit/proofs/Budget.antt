@@ -1,11 +1,12 @@
 -- What the pieces of an edit may cost, piece by piece.
-use Rattle.std.proofs.Common.{◌≡◌, ℕ, suc, ◌+◌, ◌-◌, ◌*◌, ◌≤◌, ◌^◌, max, List, [], ◌∷◌, length, sym, ap, ◌∙◌, arith, subst}
+use Rattle.std.proofs.Common.{◌≡◌, ℕ, suc, ◌+◌, ◌-◌, ◌*◌, ◌≤◌, ◌^◌, max, List, ◌∷◌, length, sym, ap, ◌∙◌, arith, subst}
 use Rattle.std.specs.List.{AllByRecursion}
 use Rattle.lamport_clock.specs.declared.stamp.Lamport.{Lamport}
 use Rattle.lamport_clock.specs.Versions.{Entries}
 use Rattle.op_model.specs.declared.operation.Piece.{Piece}
 use Rattle.op_model.specs.Walked.{Ordered}
 use Rattle.op_model.proofs.shown.Walking.{ordered_le}
+use Rattle.op_model.proofs.texts.Pieces.{ordered_down}
 use Rattle.undo_map.specs.declared.entry.UndoEntry.{UndoEntry}
 use Rattle.fragments.specs.declared.fragment.Fragment.{Fragment}
 use Rattle.fragments.specs.Stand.{IsFilled}
@@ -21,14 +22,6 @@ pub record IsOnBudget (v : Entries) (fs : List Fragment) (ps : List Piece) (plac
   pub seen : AllSeen v rest
   pub few : (a b : ℕ) → starts (suc a) b rest ≤ starts (place + suc a) (place + b) fs
   pub cost : new + 256 * piece_starts fs qs ≤ old + 256 * piece_starts fs ps
-
-pub ordered_down : (at from end : ℕ) (ps : List Piece) → at ≤ from → Ordered from end ps → Ordered at end ps
-ordered_down at from end [] h o = omega (arith, h, o)
-ordered_down at from end (p ∷ ps) h o = let k = o.0 in (omega (arith, k, h), o.1, o.2)
-
-pub ordered_up : (at end more : ℕ) (ps : List Piece) → end ≤ more → Ordered at end ps → Ordered at more ps
-ordered_up at end more [] h o = omega (arith, h, o)
-ordered_up at end more (p ∷ ps) h o = (o.0, o.1, ordered_up p.end end more ps h o.2)
 
 module _ (v : Entries) (fs : List Fragment) (ps : List Piece) (place : ℕ) (rest : List Fragment) (p : Piece) (qs : List Piece) (old new : ℕ) (b : IsOnBudget v fs ps place rest (p ∷ qs) old new) where
   -- a piece is passed over

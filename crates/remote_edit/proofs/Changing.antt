@@ -1,46 +1,33 @@
 -- A piece without range and text changes nothing that is told of the cells.
-use Rattle.std.proofs.Common.{◌≡◌, ℕ, zero, suc, ◌+◌, ◌-◌, ◌<◌, ◌≤◌, Bool, List, [], ◌∷◌, ◌++◌, length, refl, sym, ap, ◌∙◌, arith, subst, ◌&&◌, ◌||◌, true, false, inl, inr, leb, ltb}
+use Rattle.std.proofs.Common.{◌≡◌, ℕ, ◌+◌, ◌-◌, ◌<◌, ◌≤◌, Bool, List, [], ◌∷◌, length, refl, sym, ap, ◌∙◌, arith, subst, ◌&&◌, ◌||◌, true, false, inl, inr, leb, ltb}
 use Rattle.std.proofs.lemmas.Bool.{cases_Bool, leb-true, le-ltb, ltb-false}
 use Rattle.std.specs.List.{AllByRecursion, filter}
 use Rattle.lamport_clock.specs.declared.stamp.Lamport.{Lamport}
-use Rattle.lamport_clock.specs.Stamps.{later}
 use Rattle.lamport_clock.specs.Versions.{sees}
 use Rattle.lamport_clock.proofs.Later.{later_irrefl}
 use Rattle.lamport_clock.proofs.Sees.{passed_unseen}
 use Rattle.op_model.specs.declared.operation.Piece.{Piece}
 use Rattle.op_model.specs.declared.operation.Operation.{Operation}
 use Rattle.op_model.specs.Operations.{stamp_of, version_of, pieces_of}
-use Rattle.op_model.specs.Histories.{History, newest_first}
-use Rattle.op_model.specs.Cells.{seq, seq_where}
+use Rattle.op_model.specs.Histories.{History}
 use Rattle.op_model.specs.Shown.{in_pieces}
 use Rattle.op_model.specs.Answers.{answer}
 use Rattle.op_model.specs.Answers.Answer.{Good}
 use Rattle.op_model.specs.Lawful.{Lawful}
-use Rattle.op_model.specs.Facts.{Fact, cell_facts, alike, Marking, lay_facts, marks, past_later, put_at, fact_index_after}
+use Rattle.op_model.specs.Facts.{Fact, cell_facts, alike, Marking, lay_facts, marks, put_at, fact_index_after}
 use Rattle.op_model.specs.Walked.{Run, facts_of, kept_len, Ordered, walk}
 use Rattle.op_model.proofs.shown.Walking.{walk_lays}
 use Rattle.op_model.proofs.answers.Counted.{good_ordered}
-use Rattle.op_model.proofs.order.Restricted.{restrict}
-use Rattle.op_model.proofs.shown.OnePass.{passing_facts, count_runs, count_places, not_self}
+use Rattle.op_model.proofs.shown.OnePass.{not_self}
 use Rattle.op_model.proofs.histories.OneMore.{Fits}
 use Rattle.op_model.proofs.answers.Good.{lawful_ready, checked_of, fits_of}
+use Rattle.op_model.proofs.shown.Alike.{put_none, kept_len_seen}
+use Rattle.op_model.proofs.texts.Pieces.{ordered_down}
 use Rattle.remote_edit.specs.Walk.{changes}
-use Rattle.remote_edit.proofs.Budget.{ordered_down}
 
 -- the pieces that change something
 abbrev pub changing : List Piece → List Piece
 changing ps = filter changes ps
-
--- ---- no text is laid in
-
-past_none : (t : Lamport) (s : List Fact) → past_later t [] s ≡ s
-past_none t [] = refl
-past_none t (q ∷ s) = elim (cases_Bool (later q.cell.stamp t)) [ inl e ↦ rw e (ap (λ (z : List Fact). q ∷ z) (past_none t s)) | inr e ↦ rw e refl ]
-
-put_none : (i : ℕ) (t : Lamport) (s : List Fact) → put_at i t [] s ≡ s
-put_none zero t s = past_none t s
-put_none (suc i) t [] = refl
-put_none (suc i) t (q ∷ s) = ap (λ (z : List Fact). q ∷ z) (put_none i t s)
 
 pub no_text : (p : Piece) → changes p ≡ false → length p.text ≡ 0
 no_text p e = go (ltb p.start p.end) (ltb 0 (length p.text)) e refl
@@ -90,18 +77,6 @@ ordered_changing at end (p ∷ ps) o = elim (cases_Bool (changes p)) [
   | inr e ↦ rw e (ordered_changing at end ps (let k = o.0 in let l = o.1 in ordered_down at p.end end ps (omega arith) o.2))
 ]
 
--- ---- how many cells a version sees
-
--- the cells of a history that the version of an operation sees
-pub count_seen : (h : History) (op : Operation) (rs : List Run) → Lawful h → answer h [] op ≡ Good → facts_of rs ≡ cell_facts h
-    → kept_len (sees (version_of op)) rs ≡ length (seq_where (sees (version_of op)) (newest_first h))
-unfolding seq
-count_seen h op rs l g s =
-    let v : Lamport → Bool = sees (version_of op) in
-    let k = checked_of h op g in
-    let f : Fits h op = fits_of h op (lawful_ready h l).0 k.0 k.1 in
-    sym (count_runs v rs) ∙ ap (passing_facts v) s ∙ count_places h v (seq h) ∙ ap length (restrict v (newest_first h) f.closed)
-
 -- the walk with and without them
 pub walk_changing : (h : History) (op : Operation) (m : Marking) (rs : List Run) → Lawful h → answer h [] op ≡ Good → AllByRecursion (λ (r : Run). 0 < r.len) rs → facts_of rs ≡ cell_facts h
     → facts_of (walk m (sees (version_of op)) (stamp_of op) 0 0 (changing (pieces_of op)) rs) ≡ facts_of (walk m (sees (version_of op)) (stamp_of op) 0 0 (pieces_of op) rs)
@@ -111,7 +86,7 @@ walk_changing h op m rs l g some s =
     let t : Lamport = stamp_of op in
     let k = checked_of h op g in
     let f : Fits h op = fits_of h op (lawful_ready h l).0 k.0 k.1 in
-    let n = count_seen h op rs l g s in
+    let n = kept_len_seen h op rs l g s in
     let o : Ordered 0 (0 + kept_len v rs) ps = subst (λ z. Ordered 0 z ps) (omega arith) (good_ordered h op g) in
     let lays : (qs : List Piece) → Ordered 0 (0 + kept_len v rs) qs → ((j : ℕ) → in_pieces ps j ≡ in_pieces qs j)
     → lay_facts v t 0 0 qs (marks m v (in_pieces ps) 0 (facts_of rs)) ≡ facts_of (walk m v t 0 0 qs rs)

@@ -12,13 +12,15 @@ use Rattle.fragments.specs.Index.{with_entry}
 use Rattle.fragments.specs.Stand.{IsFilled, entry_of}
 use Rattle.fragments.specs.Laws.{cells_len}
 use Rattle.fragments.proofs.Counts.{cells_len-append}
+use Rattle.fragments.proofs.Cells.{few}
+use Rattle.fragments.proofs.Indexes.{few_entries}
 use Rattle.remote_edit.specs.Marks.{was_shown, touch}
 use Rattle.remote_edit.specs.Walk.{Fit, front, back, new_fragment}
 use Rattle.remote_edit.specs.Steps.{head, tail}
 use Rattle.remote_edit.specs.Indexes.{IsIndexed}
-use Rattle.remote_edit.proofs.Places.{few, touch_len}
+use Rattle.remote_edit.proofs.Places.{touch_len}
 use Rattle.remote_edit.proofs.Gathers.{headed, fit_swap}
-use Rattle.remote_edit.proofs.Indexing.{few_entries, indexed_same, indexed_front, indexed_split, indexed_new}
+use Rattle.remote_edit.proofs.Indexing.{indexed_same, indexed_front, indexed_split, indexed_new}
 
 few_in : (t : Lamport) (k : ℕ) (fs : List Fragment) (w : List IndexEntry) → IsIndexed t k fs w → Fit fs → length w ≤ 2 ^ 40
 few_in t k fs w x h = let a = few_entries fs w x.ascending x.entries in let b = few fs h.0 in let c = h.1 in omega arith

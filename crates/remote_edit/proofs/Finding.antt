@@ -9,10 +9,11 @@ use Rattle.fragments.specs.declared.fragment.Fragment.{Fragment}
 use Rattle.fragments.specs.declared.fragment.FragmentSummary.{FragmentSummary}
 use Rattle.fragments.specs.Summaries.{summary_of}
 use Rattle.fragments.specs.Laws.{shown_len}
+use Rattle.fragments.proofs.Cells.{shown_append_len}
 use Rattle.remote_edit.specs.declared.passed.Passed.{Passed}
 use Rattle.remote_edit.specs.Passed.{move_passed}
 use Rattle.remote_edit.specs.Carried.{hidden_len}
-use Rattle.remote_edit.proofs.PassedPlaces.{shown_append_len, hidden_append_len, passed_behind}
+use Rattle.remote_edit.proofs.PassedPlaces.{hidden_append_len, passed_behind}
 
 -- ---- what a filter goes over
 

@@ -1,6 +1,5 @@
 -- Where shown cells are among all cells.
-use Rattle.std.proofs.Common.{◌≡◌, ℕ, zero, suc, ◌+◌, ◌-◌, ◌<◌, ◌≤◌, ltb, Bool, true, false, cond, List, [], ◌∷◌, ◌++◌, length, map, take, drop, get_or, refl, sym, ap, ◌∙◌, arith, inl, inr, subst}
-use Rattle.std.specs.List.{AllByRecursion}
+use Rattle.std.proofs.Common.{◌≡◌, ℕ, zero, suc, ◌+◌, ◌-◌, ◌<◌, ◌≤◌, ltb, Bool, true, false, cond, List, [], ◌∷◌, ◌++◌, map, take, drop, refl, sym, ap, ◌∙◌, arith, inl, inr, subst}
 use Rattle.std.proofs.lemmas.Bool.{cases_Bool, le-ltb, lt-ltb, ltb-true, ltb-false}
 use Rattle.tree_cursor.specs.Places.{place_behind, seek_count}
 use Rattle.tree_cursor.specs.Counting.{number_passes}
@@ -142,10 +141,3 @@ found xs o cur new start got ei ej ef ev eh em eg l =
     let z : o - 0 ≡ o = omega arith in
     let h : full_in xs o ≡ o + hidden_len (take s xs) = subst (λ n. full_in xs n ≡ n + hidden_len (take s xs)) z (seek_hidden xs o 0 0 (omega arith) (omega (arith, l))) in
     omega (arith, h, g)
-
--- ---- each of a list
-
-pub each_at : (P : Piece → Type 0) (ps : List Piece) (i : ℕ) (p : Piece) → AllByRecursion P ps → i < length ps → p ≡ get_or ps i p → P p
-each_at P [] i p e l q = absurd (omega (arith, l))
-each_at P (x ∷ ps) zero p e l q = subst P (sym q) e.0
-each_at P (x ∷ ps) (suc i) p e l q = each_at P ps i p e.1 (omega (arith, l)) q

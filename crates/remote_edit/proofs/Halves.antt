@@ -3,14 +3,13 @@ use Rattle.std.proofs.Common.{◌≡◌, ℕ, zero, suc, ◌+◌, ◌<◌, ◌�
 use Rattle.std.specs.List.{slice_get}
 use Rattle.sum_tree.specs.Laws.{fold}
 use Rattle.sum_tree.specs.Spliced.{splice_list}
-use Rattle.sum_tree.proofs.Lists.{spliced_length}
 use Rattle.tree_cursor.specs.Places.{filter_count}
-use Rattle.undo_map.proofs.Seeking.{none_past}
 use Rattle.fragments.specs.declared.fragment.Fragment.{Fragment}
 use Rattle.fragments.specs.declared.fragment.FragmentSummary.{FragmentSummary}
 use Rattle.fragments.specs.Summaries.{no_fragments, summaries, summary_of, SummaryFits}
 use Rattle.fragments.specs.SeenPlaces.{cells_of}
 use Rattle.std.proofs.lemmas.Option.{same_Some, slice_get_within}
+use Rattle.op_model.proofs.Elements.{none_past}
 
 -- the first i changed, the others as they were
 abbrev pub half : {A : Type 0} → (A → A) → ℕ → List A → List A
@@ -70,18 +69,6 @@ half_get : {A : Type 0} (m : A → A) (i : ℕ) (xs : List A) → slice_get (hal
 half_get m zero xs = refl
 half_get m (suc i) [] = refl
 half_get m (suc i) (x ∷ xs) = half_get m i xs
-
-pub spliced_long : {A : Type 0} (i : ℕ) (xs : List A) (y : A) → i + 1 ≤ length xs → length (splice_list i (i + 1) (y ∷ []) xs) ≡ length xs
-spliced_long i xs y l = spliced_length i 1 (y ∷ []) xs l ∙ omega (arith, l)
-
-self_next : {A : Type 0} (i : ℕ) (xs : List A) (x : A) → slice_get xs i ≡ Some x → splice_list i (suc i) (x ∷ []) xs ≡ xs
-self_next i [] x h = cc
-self_next zero (y ∷ xs) x h = ap (λ z. z ∷ xs) (sym (same_Some y x h))
-self_next (suc i) (y ∷ xs) x h = ap (λ ys. y ∷ ys) (self_next i xs x h)
-
--- an item in its own place changes nothing
-pub spliced_self : {A : Type 0} (i : ℕ) (xs : List A) (x y : A) → slice_get xs i ≡ Some x → y ≡ x → xs ≡ splice_list i (i + 1) (y ∷ []) xs
-spliced_self i xs x y h e = let q : suc i ≡ i + 1 = omega arith in sym (subst (λ j. splice_list i j (y ∷ []) xs ≡ xs) q (ap (λ z. splice_list i (suc i) (z ∷ []) xs) e ∙ self_next i xs x h))
 
 -- ---- room
 

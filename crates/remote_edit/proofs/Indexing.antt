@@ -1,89 +1,22 @@
 -- An index keeps the entries of fragments that are split and put in.
 use Rattle.std.proofs.lemmas.Option.{same_Some}
-use Rattle.op_model.proofs.Elements.{each_left, each_right, each_map, each_append, member_left, member_right, member_either, split_at}
-use Rattle.std.proofs.Common.{◌≡◌, ◌⊎◌, ◌↔◌, ℕ, suc, ◌+◌, ◌-◌, ◌<◌, ◌≤◌, ◌^◌, List, [], ◌∷◌, ◌++◌, length, map, refl, sym, ap, ◌∙◌, arith, subst, inl, inr, Some, append_assoc}
-use Rattle.std.specs.List.{AllByRecursion, slice_index_or}
-use Rattle.std.specs.Cmp.Lexicographic.{nat_list_cmp_total}
-use Rattle.std.specs.declared.cmp.Ordering.TheVariants.{Less}
+use Rattle.op_model.proofs.Elements.{each_left, each_right, each_map, each_append, pairs_in, pairs_out}
+use Rattle.std.proofs.Common.{◌≡◌, ◌↔◌, ℕ, ◌+◌, ◌-◌, ◌<◌, ◌^◌, List, [], ◌∷◌, ◌++◌, map, refl, sym, ap, ◌∙◌, arith, subst, inl, inr, Some, append_assoc}
+use Rattle.std.specs.List.{AllByRecursion}
 use Rattle.std.proofs.lemmas.Bool.{cases_lt}
-use Rattle.std.proofs.lemmas.Cmp.{tied_itself}
-use Rattle.std.proofs.lemmas.List.{length-map}
 use Rattle.lamport_clock.specs.declared.stamp.Lamport.{Lamport}
 use Rattle.locators.specs.Locator.{IsLess}
 use Rattle.op_model.specs.Sorted.{EachPair, Member}
-use Rattle.op_model.proofs.order.CellsOnce.{each_member}
 use Rattle.fragments.specs.declared.fragment.Fragment.{Fragment}
 use Rattle.fragments.specs.declared.index_entry.IndexEntry.{IndexEntry}
 use Rattle.fragments.specs.declared.index_entry.IndexKey.{IndexKey}
-use Rattle.fragments.specs.Index.{key_of, key_cmp, key_order, IsAscending, with_entry, id_for}
+use Rattle.fragments.specs.Index.{key_of, IsAscending, with_entry, id_for}
 use Rattle.fragments.specs.Stand.{IsFilled, Rise, entry_of, IsIndexOf}
 use Rattle.fragments.proofs.Entries.{entry_takes_its_place}
+use Rattle.fragments.proofs.Indexes.{mid_entry, with_one_more, same_entries}
+use Rattle.fragments.proofs.Rises.{less_self, rise_above}
 use Rattle.remote_edit.specs.Walk.{front, back, new_fragment}
 use Rattle.remote_edit.specs.Indexes.{IsApart, EndsBefore, IsIndexed}
-use Rattle.sum_tree.proofs.Keys.{ascending_rest}
-
--- ---- lists
-
--- one is put in
-pairs_in : {A : Type 0} (R : A → A → Type 0) (xs ys : List A) (a : A) → EachPair R (xs ++ ys) → AllByRecursion (λ x. R x a) xs → AllByRecursion (R a) ys → EachPair R (xs ++ a ∷ ys)
-pairs_in R [] ys a h k l = (l, h)
-pairs_in R (x ∷ xs) ys a h k l = (each_append (R x) xs (a ∷ ys) (each_left (R x) xs ys h.0) (k.0, each_right (R x) xs ys h.0), pairs_in R xs ys a h.1 k.1 l)
-
--- one is left out
-pairs_out : {A : Type 0} (R : A → A → Type 0) (xs ys : List A) (a : A) → EachPair R (xs ++ a ∷ ys) → EachPair R (xs ++ ys) × AllByRecursion (λ x. R x a) xs × AllByRecursion (R a) ys
-pairs_out R [] ys a h = (h.1, tt, h.0)
-pairs_out R (x ∷ xs) ys a h =
-    let ih = pairs_out R xs ys a h.1 in
-    let r = each_right (R x) xs (a ∷ ys) h.0 in
-    ((each_append (R x) xs ys (each_left (R x) xs (a ∷ ys) h.0) r.1, ih.0), (r.0, ih.1), ih.2)
-
--- ---- no more entries than fragments
-
-abbrev Differ : {A : Type 0} → A → A → Type 0
-Differ a b = a ≡ b → ⊥
-
-left_member : {A : Type 0} (x z : A) (a b : List A) → Member z (a ++ x ∷ b) → Differ x z → Member z (a ++ b)
-left_member x z a b m d = elim (member_either z a (x ∷ b) m) [
-  | inl k ↦ member_left z a b k
-  | inr (inl e) ↦ absurd (d (sym e))
-  | inr (inr k) ↦ member_right z a b k
-]
-
-length_mid : {A : Type 0} (a b : List A) (x : A) → length (a ++ x ∷ b) ≡ suc (length (a ++ b))
-length_mid [] b x = refl
-length_mid (y ∷ a) b x = ap suc (length_mid a b x)
-
-within : {A : Type 0} (xs ys : List A) → EachPair Differ xs → ((z : A) → Member z xs → Member z ys) → length xs ≤ length ys
-within [] ys d m = omega arith
-within (x ∷ xs) ys d m =
-    let k = split_at x ys (m x (inl refl)) in
-    let ih = within xs (k.0 ++ k.1) d.1 (λ z n. left_member x z k.0 k.1 (subst (Member z) k.2 (m z (inr n))) (each_member (Differ x) xs z d.0 n)) in
-    let e : length ys ≡ suc (length (k.0 ++ k.1)) = ap length k.2 ∙ length_mid k.0 k.1 x in
-    omega arith
-
-place_of : {A : Type 0} (x d : A) (xs : List A) → Member x xs → (j : ℕ) × (j < length xs) × (slice_index_or xs j d ≡ x)
-place_of x d [] m = absurd m
-place_of x d (y ∷ xs) (inl e) = (0, omega arith, sym e)
-place_of x d (y ∷ xs) (inr m) = let k = place_of x d xs m in let l = k.1 in (suc k.0, omega arith, k.2)
-
-ascending_first : (e z : IndexEntry) (w : List IndexEntry) → IsAscending (e ∷ w) → Member z w → Differ e z
-ascending_first e z w h m q =
-    let k = place_of z e w m in
-    let l = k.1 in
-    let less : key_cmp (key_of e) (key_of (slice_index_or w k.0 e)) ≡ Less = h 0 (suc k.0) e (omega arith) (omega arith) in
-    let same : key_cmp (key_of e) (key_of e) ≡ Less = ap (λ (y : IndexEntry). key_cmp (key_of e) (key_of y)) (q ∙ sym k.2) ∙ less in
-    let tied = tied_itself key_order (key_of e) in cc
-
-ascending_differ : (w : List IndexEntry) → IsAscending w → EachPair Differ w
-ascending_differ [] h = tt
-ascending_differ (e ∷ w) h = (all w (λ z m. ascending_first e z w h m), ascending_differ w (ascending_rest key_cmp key_of e w h))
-  where
-    all : (s : List IndexEntry) → ((z : IndexEntry) → Member z s → Differ e z) → AllByRecursion (Differ e) s
-    all [] f = tt
-    all (x ∷ s) f = (f x (inl refl), all s (λ z m. f z (inr m)))
-
-pub few_entries : (fs : List Fragment) (w : List IndexEntry) → IsAscending w → IsIndexOf fs w → length w ≤ length fs
-few_entries fs w a i = let k = within w (map entry_of fs) (ascending_differ w a) (λ z m. (i z).0 m) in let l = length-map fs entry_of in omega arith
 
 -- ---- keys
 
@@ -105,27 +38,6 @@ apart_key f g h k d e =
 
 apart_back : (f g : Fragment) → IsApart f g → IsApart g f
 apart_back f g d = λ e. elim (d (sym e)) [ inl l ↦ inr l | inr l ↦ inl l ]
-
-mid_entry : (e : IndexEntry) (pre r : List Fragment) (a : Fragment) → Member e (map entry_of (pre ++ a ∷ r)) ↔ ((e ≡ entry_of a) ⊎ Member e (map entry_of (pre ++ r)))
-mid_entry e [] r a = (λ m. m, λ m. m)
-mid_entry e (x ∷ pre) r a = go (mid_entry e pre r a)
-  where
-    go : Member e (map entry_of (pre ++ a ∷ r)) ↔ ((e ≡ entry_of a) ⊎ Member e (map entry_of (pre ++ r))) → Member e (map entry_of (x ∷ pre ++ a ∷ r)) ↔ ((e ≡ entry_of a) ⊎ Member e (map entry_of (x ∷ pre ++ r)))
-    go ih = (to, from)
-      where
-        to : (e ≡ entry_of x) ⊎ Member e (map entry_of (pre ++ a ∷ r)) → (e ≡ entry_of a) ⊎ ((e ≡ entry_of x) ⊎ Member e (map entry_of (pre ++ r)))
-        to (inl q) = inr (inl q)
-        to (inr m) = elim (ih.0 m) [ inl q ↦ inl q | inr n ↦ inr (inr n) ]
-
-        from : (e ≡ entry_of a) ⊎ ((e ≡ entry_of x) ⊎ Member e (map entry_of (pre ++ r))) → (e ≡ entry_of x) ⊎ Member e (map entry_of (pre ++ a ∷ r))
-        from (inl q) = inr (ih.1 (inl q))
-        from (inr (inl q)) = inl q
-        from (inr (inr n)) = inr (ih.1 (inr n))
-
--- what is in an index with one entry more
-with_one_more : (e : IndexEntry) (a : Fragment) (w : List IndexEntry) → IsAscending w
-    → Member e (with_entry (entry_of a) w) ↔ ((e ≡ entry_of a) ⊎ (Member e w × (key_of e ≡ key_of (entry_of a) → ⊥)))
-with_one_more e a w s = (entry_takes_its_place (entry_of a) w s).1 e
 
 -- an entry more, of a key that no other fragment has
 entry_in : (pre r : List Fragment) (a : Fragment) (w : List IndexEntry) → IsAscending w → IsIndexOf (pre ++ r) w → AllByRecursion (OtherKey (entry_of a)) (pre ++ r) → IsIndexOf (pre ++ a ∷ r) (with_entry (entry_of a) w)
@@ -150,11 +62,6 @@ entry_for_entry pre r f a w s same i o e = (to, from)
 
     from : Member e (map entry_of (pre ++ a ∷ r)) → Member e (with_entry (entry_of a) w)
     from m = (with_one_more e a w s).1 (elim ((mid_entry e pre r a).0 m) [ inl q ↦ inl q | inr n ↦ inr ((i e).1 ((mid_entry e pre r f).1 (inr n)), other_keys (entry_of a) e (pre ++ r) o n) ])
-
--- a fragment with the same entry in the place of one
-same_entries : (pre r : List Fragment) (f g : Fragment) → entry_of g ≡ entry_of f → map entry_of (pre ++ g ∷ r) ≡ map entry_of (pre ++ f ∷ r)
-same_entries [] r f g e = ap (λ z. z ∷ map entry_of r) e
-same_entries (x ∷ pre) r f g e = ap (λ z. entry_of x ∷ z) (same_entries pre r f g e)
 
 -- ---- steps
 
@@ -247,16 +154,6 @@ indexed_new t k n pre r id w fl h l x =
     let a : Fragment = new_fragment t k n id in
     let x1 : IsIndexed t (k + n) (pre ++ r) w = record { ascending = x.ascending; entries = x.entries; apart = x.apart; before = each_map (EndsBefore t k) (EndsBefore t (k + n)) (λ y b q. let m = b q in omega arith) (pre ++ r) x.before } in
     indexed_in t (k + n) pre r a w (h, l) fl (each_map (EndsBefore t k) (λ y. IsApart y a) (λ y b q. inl (b q)) (pre ++ r) x.before) (λ q. omega arith) x1
-
--- ---- the start
-
-less_self : (a : List ℕ) → IsLess a a → ⊥
-less_self a h = let e = tied_itself nat_list_cmp_total a in cc
-
-rise_above : (low : List ℕ) (fs : List Fragment) (g : Fragment) → Rise low fs → Member g fs → IsLess low g.id
-rise_above low [] g h m = absurd m
-rise_above low (f ∷ fs) g h (inl e) = subst (λ (z : Fragment). IsLess low z.id) (sym e) h.0
-rise_above low (f ∷ fs) g h (inr m) = nat_list_cmp_total.trans low f.id g.id h.0 (rise_above f.id fs g h.2 m)
 
 -- fragments with different ids of which an index finds each cell
 pub apart_start : (low : List ℕ) (fs : List Fragment) (w : List IndexEntry) → Rise low fs → AllByRecursion IsFilled fs → ((f : Fragment) → Member f fs → (j : ℕ) → j < f.len → id_for f.stamp (f.offset + j) w ≡ Some f.id) → EachPair IsApart fs

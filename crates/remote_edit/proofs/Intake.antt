@@ -10,13 +10,13 @@ use Rattle.locators.specs.Locator.{between_digits}
 use Rattle.op_model.specs.declared.operation.Piece.{Piece}
 use Rattle.undo_map.specs.declared.entry.UndoEntry.{UndoEntry}
 use Rattle.fragments.specs.declared.fragment.Fragment.{Fragment}
+use Rattle.fragments.proofs.Cells.{one_over, later_none}
 use Rattle.remote_edit.specs.Marks.{touch}
 use Rattle.remote_edit.specs.Walk.{Zip, zip, last_id, next_id, new_fragment, front, back, advance, skip_later, put_new, one_piece}
 use Rattle.remote_edit.specs.Steps.{head, tail, after, later_first}
 use Rattle.remote_edit.specs.declared.gather.Gather.{Gather}
 use Rattle.remote_edit.specs.Gathers.{ahead}
 use Rattle.remote_edit.specs.Starts.{AllSeen, intake, starts, IsFew, IsLeft, MakeFew}
-use Rattle.remote_edit.proofs.Starts.{later_none}
 use Rattle.remote_edit.proofs.Gathers.{headed, none_rest}
 
 -- ---- a walk makes at most three fragments more
@@ -78,10 +78,6 @@ piece_made xs made low i j c b z q h e l k = made_few xs made i j c b z h (subst
 pub next_seen : (v : Entries) (f : Fragment) (xs : List Fragment) → AllSeen v xs → Some f ≡ head xs → (sees v f.stamp ≡ true) × AllSeen v (tail xs)
 next_seen v f [] h e = cc
 next_seen v f (x ∷ xs) h e = let q : x ≡ f = cc in (subst (λ (z : Fragment). sees v z.stamp ≡ true) q h.0, h.1)
-
-one_over : (b : Option Fragment) → length (option_to_list b) ≤ 1
-one_over None = omega arith
-one_over (Some f) = omega arith
 
 -- all of it
 pub intake_whole : (i j n r : ℕ) (b : Option Fragment) (f : Fragment) (rest rest2 : List Fragment) → rest ≡ f ∷ tail rest → rest2 ≡ tail rest → 0 < f.len → 0 < n → f.len ≤ n → j + length (option_to_list b) ≡ i + 1

@@ -1,22 +1,19 @@
 -- A local edit without fault has its ranges in the text, and the operation with full ranges is the one that is made.
-use Rattle.std.proofs.Common.{◌≡◌, ℕ, ◌+◌, ◌≤◌, false, List, [], ◌∷◌, length, map, None, refl, sym, ap, ◌∙◌, arith}
+use Rattle.std.proofs.Common.{◌≡◌, ℕ, ◌+◌, ◌≤◌, false, List, [], ◌∷◌, length, None, sym, ap, ◌∙◌, arith}
 use Rattle.std.proofs.lemmas.Bool.{ltb-false}
 use Rattle.std.specs.Prelude.{nat_lt, ◌==◌, option_map}
 use Rattle.std.specs.List.{AllByRecursion, position}
 use Rattle.lamport_clock.specs.Clocks.{last_value}
-use Rattle.lamport_clock.specs.declared.stamp.Lamport.{Lamport}
-use Rattle.lamport_clock.specs.Versions.{Entries}
 use Rattle.op_model.specs.declared.operation.Piece.{Piece}
-use Rattle.op_model.specs.declared.operation.Operation.TheVariants.{Edit}
 use Rattle.op_model.specs.declared.limits.Limits.{Limits as LimitsType}
 use Rattle.op_model.specs.declared.faults.EditFault.TheVariants.{Reversed, Overlap, PastEnd, InsideChar, TextLimit, ClockEnd, Full}
 use Rattle.op_model.specs.Choice.{when}
 use Rattle.op_model.specs.Operations.{text_total, text_limit}
-use Rattle.op_model.specs.Histories.{History, version, clock}
+use Rattle.op_model.specs.Histories.{History, clock}
 use Rattle.op_model.specs.Shown.{text}
 use Rattle.op_model.specs.Edits.{is_reversed, is_past, is_inside, overlap_from, piece_fault}
 use Rattle.op_model.specs.Limited.{excess}
-use Rattle.op_model.specs.Made.{local_edit, full_piece, local_edit_fault}
+use Rattle.op_model.specs.Made.{local_edit_fault}
 use Rattle.op_model.proofs.answers.Passed.{all_none, first_none, map_none, position_none}
 use Rattle.op_model.proofs.texts.WholeTexts.{byte_of}
 use Rattle.fragments.specs.declared.fragment.Fragment.{Fragment}
@@ -43,8 +40,3 @@ in_text l h fs ps e g =
     ∷ option_map (λ x. Full x.unit x.held x.adds) (excess l h (text_total ps) (1 + length ps)) ∷ []) g in
     let b = all_none (option_map Reversed (position is_reversed ps) ∷ option_map Overlap (overlap_from 0 0 ps) ∷ option_map (λ (i : ℕ). PastEnd i n) (position (is_past n) ps) ∷ option_map InsideChar (position (is_inside (text h)) ps) ∷ []) a.0 in
     ranges_in fs n ps (text_long h fs e) (position_none is_reversed ps (map_none Reversed (position is_reversed ps) b.0)) (position_none (is_past n) ps (map_none (λ i. PastEnd i n) (position (is_past n) ps) b.1.1.0))
-
-pub made_is : (h : History) (stamp : Lamport) (ps qs : List Piece) (v : Entries) → stamp.value ≡ clock h → v ≡ version h → qs ≡ map (full_piece h) ps
-    → Edit (record { stamp = stamp; version = v; pieces = qs }) ≡ local_edit h stamp.replica ps
-unfolding local_edit
-made_is h stamp ps qs v e f g = rw (f, g, ← e) refl

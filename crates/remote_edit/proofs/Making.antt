@@ -18,6 +18,9 @@ use Rattle.op_model.specs.Made.{local_edit, full_piece}
 use Rattle.op_model.proofs.answers.Counted.{good_ordered}
 use Rattle.op_model.proofs.MainLaws.{edits_are_good}
 use Rattle.op_model.proofs.answers.MadeGood.{total_full}
+use Rattle.op_model.proofs.answers.Local.{local_edit_is}
+use Rattle.op_model.proofs.shown.Alike.{kept_len_seen}
+use Rattle.op_model.proofs.texts.Pieces.{ordered_up}
 use Rattle.undo_map.specs.declared.entry.UndoEntry.{UndoEntry}
 use Rattle.fragments.specs.declared.fragment.Fragment.{Fragment}
 use Rattle.fragments.specs.declared.index_entry.IndexEntry.{IndexEntry}
@@ -27,24 +30,21 @@ use Rattle.remote_edit.specs.Offsets.{piece_in}
 use Rattle.remote_edit.specs.Costs.{touch_count, touch_count_behind}
 use Rattle.remote_edit.specs.Starts.{AllSeen}
 use Rattle.remote_edit.specs.Placing.{MayPlace, MayMake}
-use Rattle.remote_edit.proofs.Local.{made_is}
 use Rattle.remote_edit.proofs.Standing.{fit_start, all_seen}
-use Rattle.remote_edit.proofs.Budget.{ordered_up}
-use Rattle.remote_edit.proofs.Changing.{count_seen}
 use Rattle.remote_edit.proofs.FullIn.{pieces_are}
 use Rattle.remote_edit.proofs.Passing.{seen_within}
 
 -- the pieces of a good edit are in order
 in_order : (h : History) (op : Operation) (fs : List Fragment) → Lawful h → answer h [] op ≡ Good → Tell fs h → cells_len fs ≤ 2 ^ 40 → Ordered 0 (2 ^ 40) (pieces_of op)
 in_order h op fs l g t b =
-    let n = count_seen h op (runs fs) l g t in
+    let n = kept_len_seen h op (runs fs) l g t in
     let w = seen_within (version_of op) fs in
     ordered_up 0 (length (seq_where (sees (version_of op)) (newest_first h))) (2 ^ 40) (pieces_of op) (omega (arith, n, w, b)) (good_ordered h op g)
 
 module _ (fs : List Fragment) (w : List IndexEntry) (u : List UndoEntry) (t : Lamport) (v : Entries) (ps : List Piece) (m : MayMake fs w u t v ps) where
   pub may_place : (qs : List Piece) → qs ≡ map (full_piece m.history) ps → MayPlace fs w u (Edit (record { stamp = t; version = v; pieces = qs }))
   may_place qs e =
-      let o : Edit (record { stamp = t; version = v; pieces = qs }) ≡ local_edit m.history t.replica ps = made_is m.history t ps qs v m.value m.sees e in
+      let o : Edit (record { stamp = t; version = v; pieces = qs }) ≡ local_edit m.history t.replica ps = local_edit_is m.history t ps qs v m.value m.sees e in
       let g = (edits_are_good m.limits m.history t.replica ps m.lawful m.proper m.replica m.faultless).0 in
       let k : text_total qs ≡ text_total ps = ap text_total e ∙ total_full m.history ps in
       let r = m.room in

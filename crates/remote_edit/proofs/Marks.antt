@@ -1,19 +1,15 @@
 -- Marks by the entries that are kept of a history's undo counts are those by the history.
-use Rattle.std.proofs.Common.{◌≡◌, true, false, cond, not, ◌||◌, List, [], ◌∷◌, ◌++◌, refl, ◌∙◌, ap, inl, inr}
+use Rattle.std.proofs.Common.{◌≡◌, false, cond, not, ◌||◌, List, [], ◌∷◌, refl, inl, inr}
 use Rattle.std.specs.List.{filter, list_all}
 use Rattle.std.proofs.lemmas.Bool.{cases_Bool}
 use Rattle.lamport_clock.specs.declared.stamp.Lamport.{Lamport}
 use Rattle.lamport_clock.specs.Versions.{Entries, sees}
-use Rattle.op_model.specs.declared.operation.UndoCount.{UndoCount}
-use Rattle.op_model.specs.declared.operation.Operation.{Operation}
-use Rattle.op_model.specs.Operations.{stamp_of, is_edit}
 use Rattle.op_model.specs.Histories.{History, seen_history}
 use Rattle.op_model.specs.Shown.{are_undone, visible_by}
 use Rattle.op_model.specs.Facts.{was_visible, edit_marking, with_deletion}
-use Rattle.op_model.proofs.shown.OnePass.{no_counts}
 use Rattle.undo_map.specs.Counts.{count_of, count_seen, is_odd}
-use Rattle.undo_map.specs.Undos.{with_counts, undo_entries}
-use Rattle.undo_map.proofs.Entries.{undone_kept, undone_seen, entries_more}
+use Rattle.undo_map.specs.Undos.{undo_entries}
+use Rattle.undo_map.proofs.Entries.{undone_kept, undone_seen}
 use Rattle.remote_edit.specs.Marks.{was_shown, is_shown, marking}
 
 -- a cell was shown in what a version sees
@@ -34,10 +30,6 @@ is_told h u d = rw (undone_kept h u, all d) refl
     all : (d : List Lamport) → are_undone h d ≡ list_all (λ t. is_odd (count_of (undo_entries h) t)) d
     all [] = refl
     all (x ∷ d) = rw (undone_kept h x, all d) refl
-
--- an edit gives no counts
-pub entries_edit : (h : History) (op : Operation) → is_edit op ≡ true → undo_entries (h ++ op ∷ []) ≡ undo_entries h
-entries_edit h op e = entries_more h op ∙ ap (λ (cs : List UndoCount). with_counts (stamp_of op) cs (undo_entries h)) (no_counts op e)
 
 -- what an edit makes of a cell in a range of its own
 pub marking_told : (t : Lamport) (h : History) (v : Entries) → edit_marking t (seen_history h v) v ≡ marking (undo_entries h) t v

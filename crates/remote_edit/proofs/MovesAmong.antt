@@ -7,6 +7,7 @@ use Rattle.fragments.specs.declared.fragment.Fragment.{Fragment}
 use Rattle.fragments.specs.declared.fragment.FragmentSummary.{FragmentSummary}
 use Rattle.fragments.specs.Summaries.{summary_of}
 use Rattle.fragments.specs.Laws.{shown_len}
+use Rattle.fragments.proofs.Cells.{shown_append_len}
 use Rattle.remote_edit.specs.declared.moves.Move.{Move}
 use Rattle.remote_edit.specs.declared.moves.Move.TheVariants.{Visible, Hidden}
 use Rattle.remote_edit.specs.declared.passed.Passed.{Passed}
@@ -14,7 +15,7 @@ use Rattle.remote_edit.specs.Moves.{with_move}
 use Rattle.remote_edit.specs.Carried.{move_for, hidden_len, CarryOn}
 use Rattle.remote_edit.specs.Among.{moves_on, moves_among}
 use Rattle.remote_edit.proofs.Carrying.{SameCells, go_on, on_one, on_stretch, stay}
-use Rattle.remote_edit.proofs.PassedPlaces.{shown_append_len, hidden_append_len}
+use Rattle.remote_edit.proofs.PassedPlaces.{hidden_append_len}
 use Rattle.remote_edit.proofs.Finding.{Cursor, IsNext, IsPast, Stands, Unkept, find, find_end, nothing_passed, over, place_at, stands_first}
 
 abbrev pub kept_moves : List Move → ℕ → ℕ → List Move

@@ -1,5 +1,5 @@
 -- A gather that passes one fragment: as it is, its first cells, or all of it.
-use Rattle.std.proofs.Common.{◌≡◌, ℕ, ◌+◌, ◌-◌, ◌<◌, ◌≤◌, ◌^◌, List, [], ◌∷◌, ◌++◌, length, take, refl, sym, ap, ◌∙◌, Option, Some, None, true, false}
+use Rattle.std.proofs.Common.{◌≡◌, ℕ, ◌+◌, ◌-◌, ◌<◌, ◌≤◌, ◌^◌, List, [], ◌∷◌, ◌++◌, length, take, refl, ap, ◌∙◌, Option, Some, None, true, false}
 use Rattle.lamport_clock.specs.Versions.{sees}
 use Rattle.locators.specs.Locator.{between_digits}
 use Rattle.op_model.specs.declared.operation.EditOp.{EditOp}

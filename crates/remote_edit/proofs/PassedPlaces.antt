@@ -1,40 +1,28 @@
 -- The places behind fragments count their shown and their hidden cells, and so do their sums.
-use Rattle.std.proofs.Common.{◌≡◌, ℕ, ◌+◌, ◌≤◌, ◌^◌, Bool, true, false, cond, List, [], ◌∷◌, ◌++◌, Option, Some, refl, ap, ◌∙◌, arith, inl, inr}
+use Rattle.std.proofs.Common.{◌≡◌, ℕ, ◌+◌, ◌≤◌, ◌^◌, Bool, true, false, cond, List, [], ◌∷◌, ◌++◌, Option, Some, refl, ap, ◌∙◌, arith}
 use Rattle.std.specs.Option.{option_map}
-use Rattle.std.proofs.lemmas.Bool.{cases_Bool, and_from, leb-false, lt-ltb}
 use Rattle.sum_tree.specs.Laws.{fold}
 use Rattle.tree_cursor.specs.Places.{place_behind, seek_count}
-use Rattle.lamport_clock.specs.Versions.{Entries, sees, entry}
+use Rattle.lamport_clock.specs.Versions.{Entries, sees}
 use Rattle.op_model.specs.Walked.{kept_len}
 use Rattle.fragments.specs.declared.fragment.Fragment.{Fragment}
 use Rattle.fragments.specs.declared.fragment.FragmentSummary.{FragmentSummary}
 use Rattle.fragments.specs.Summaries.{no_fragments, summaries, summary_of}
-use Rattle.fragments.specs.SummaryLaws.{one_admitted}
-use Rattle.fragments.specs.SeenPlaces.{At, cells_of, move_visible, move_at, all_in, none_in}
+use Rattle.fragments.specs.SeenPlaces.{At, move_visible, move_at}
 use Rattle.fragments.specs.Stand.{runs}
 use Rattle.fragments.specs.Laws.{shown_len, cells_len}
 use Rattle.fragments.proofs.Counts.{visible_more, visible_sum, places_count_cells}
+use Rattle.fragments.proofs.Cells.{at_whole, number_whole}
 use Rattle.remote_edit.specs.Beside.{beside, move_beside}
 use Rattle.remote_edit.specs.Passed.{move_passed, PassedFits, move_seen, SeenFits}
 use Rattle.remote_edit.specs.Carried.{hidden_len}
 use Rattle.remote_edit.proofs.Beside.{count_beside, place_beside}
-
--- ---- one fragment is added whole
-
-at_whole : (p : At) (f : Fragment) → (q : At) × (move_at p (summary_of f) ≡ Some q)
-at_whole p f = elim (cases_Bool (sees p.0 f.stamp)) [
-  | inl s ↦ ((p.0, p.1 + cells_of (summary_of f)), all_in p (summary_of f) (and_from _ _ s refl))
-  | inr s ↦ ((p.0, p.1), none_in p (summary_of f) (one_admitted f) (and_from _ _ (lt-ltb (entry p.0 f.stamp.replica) f.stamp.value (leb-false _ _ s)) refl))
-]
 
 abbrev move_at_visible : At × ℕ → FragmentSummary → Option (At × ℕ)
 move_at_visible = move_beside move_at (λ s. s.visible)
 
 visible_whole : (p : At × ℕ) (f : Fragment) → (q : At × ℕ) × (move_at_visible p (summary_of f) ≡ Some q)
 visible_whole p f = let k = at_whole p.0 f in (beside (p.1 + (summary_of f).visible) k.0, ap (option_map (beside (p.1 + (summary_of f).visible))) k.1)
-
-number_whole : (n : ℕ) (f : Fragment) → (m : ℕ) × (move_visible n (summary_of f) ≡ Some m)
-number_whole n f = (n + (summary_of f).visible, refl)
 
 -- ---- the numbers
 
@@ -52,14 +40,6 @@ all_cells (f ∷ fs) = go f.visible (all_cells fs)
     go : (b : Bool) → shown_len fs + hidden_len fs ≡ cells_len fs → cond b (f.len + shown_len fs) (shown_len fs) + cond b (hidden_len fs) (f.len + hidden_len fs) ≡ f.len + cells_len fs
     go true e = omega (arith, e)
     go false e = omega (arith, e)
-
-pub shown_append_len : (xs ys : List Fragment) → shown_len (xs ++ ys) ≡ shown_len xs + shown_len ys
-shown_append_len [] ys = omega arith
-shown_append_len (x ∷ xs) ys = go x.visible (shown_append_len xs ys)
-  where
-    go : (b : Bool) → shown_len (xs ++ ys) ≡ shown_len xs + shown_len ys → cond b (x.len + shown_len (xs ++ ys)) (shown_len (xs ++ ys)) ≡ cond b (x.len + shown_len xs) (shown_len xs) + shown_len ys
-    go true e = omega (arith, e)
-    go false e = e
 
 pub hidden_append_len : (xs ys : List Fragment) → hidden_len (xs ++ ys) ≡ hidden_len xs + hidden_len ys
 hidden_append_len [] ys = omega arith

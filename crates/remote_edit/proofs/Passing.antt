@@ -1,5 +1,5 @@
 -- How many cells a version sees, and one step over a fragment.
-use Rattle.std.proofs.Common.{◌≡◌, ℕ, zero, suc, ◌+◌, ◌-◌, ◌<◌, ◌≤◌, ◌^◌, Option, List, [], ◌∷◌, ◌++◌, take, drop, refl, sym, ap, ◌∙◌, arith, cond, true, false, inl, inr, take-append-drop}
+use Rattle.std.proofs.Common.{◌≡◌, ℕ, zero, suc, ◌+◌, ◌-◌, ◌<◌, ◌≤◌, ◌^◌, Option, List, [], ◌∷◌, ◌++◌, take, refl, ap, ◌∙◌, arith, cond, true, false, inl, inr}
 use Rattle.std.proofs.lemmas.Bool.{le-leb, lt-leb, cases_Bool}
 use Rattle.lamport_clock.specs.declared.stamp.Lamport.{Lamport}
 use Rattle.lamport_clock.specs.Versions.{Entries, sees}
@@ -7,12 +7,9 @@ use Rattle.locators.specs.Locator.{between_digits}
 use Rattle.undo_map.specs.declared.entry.UndoEntry.{UndoEntry}
 use Rattle.fragments.specs.declared.fragment.Fragment.{Fragment}
 use Rattle.fragments.specs.Laws.{cells_len}
-use Rattle.fragments.proofs.Counts.{cells_len-append}
+use Rattle.fragments.proofs.Cells.{cells_len-cut}
 use Rattle.remote_edit.specs.Marks.{touch}
 use Rattle.remote_edit.specs.Walk.{seen_bytes, Fit, last_id, front, back, zip, advance}
-
-pub cells_len-cut : (ys : List Fragment) (i : ℕ) → cells_len ys ≡ cells_len (take i ys) + cells_len (drop i ys)
-cells_len-cut ys i = sym (ap cells_len (take-append-drop i ys)) ∙ cells_len-append (take i ys) (drop i ys)
 
 -- ---- the cells that a version sees
 

@@ -1,5 +1,5 @@
 -- One turn of the walk over the pieces of an edit.
-use Rattle.std.proofs.Common.{◌≡◌, ℕ, suc, ◌+◌, ◌-◌, ◌<◌, true, false, List, ◌∷◌, length, drop, drop-cons, get_or, refl, sym, ap, ◌∙◌, arith}
+use Rattle.std.proofs.Common.{◌≡◌, ℕ, ◌+◌, ◌-◌, true, false, List, ◌∷◌, length, refl, sym, ap}
 use Rattle.lamport_clock.specs.declared.stamp.Lamport.{Lamport}
 use Rattle.lamport_clock.specs.Versions.{Entries}
 use Rattle.op_model.specs.declared.operation.Piece.{Piece}
@@ -15,9 +15,3 @@ module _ (w : List UndoEntry) (t : Lamport) (v : Entries) (at k : ℕ) (p : Piec
   -- another is walked over
   pub walk_one : (pre2 rest2 : List Fragment) → changes p ≡ true → zip pre2 rest2 ≡ one_piece w t v (p.start - at) k p pre rest → walk w t v at k (p ∷ ps) pre rest ≡ walk w t v p.end (k + length p.text) ps pre2 rest2
   walk_one pre2 rest2 e z = rw e (ap (λ (q : Zip). walk w t v p.end (k + length p.text) ps q.pre q.rest) (sym z))
-
--- the piece that comes next
-pub next_piece : (items : List Piece) (i : ℕ) (p : Piece) → i < length items → p ≡ get_or items i p → drop i items ≡ p ∷ drop (i + 1) items
-next_piece items i p l e =
-    let n : suc i ≡ i + 1 = omega arith in
-    drop-cons items i p l ∙ ap (λ (q : Piece). q ∷ drop (suc i) items) (sym e) ∙ ap (λ (j : ℕ). p ∷ drop j items) n

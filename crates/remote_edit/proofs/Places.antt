@@ -1,26 +1,14 @@
 -- Fragments where some are put in the place of others.
-use Rattle.std.proofs.Common.{◌≡◌, ℕ, zero, suc, ◌+◌, ◌≤◌, ◌^◌, List, [], ◌∷◌, ◌++◌, length, take, refl, ap, ◌∙◌, arith, Option, Bool, cond, true, false, Some, None}
-use Rattle.std.specs.List.{AllByRecursion, slice_get}
+use Rattle.std.proofs.Common.{◌≡◌, ℕ, zero, suc, ◌≤◌, List, [], ◌∷◌, take, refl, ap, ◌∙◌, arith, Option, Bool, cond, true, false, Some, None}
+use Rattle.std.specs.List.{slice_get}
 use Rattle.locators.specs.Locator.{least_digits}
 use Rattle.lamport_clock.specs.declared.stamp.Lamport.{Lamport}
 use Rattle.lamport_clock.specs.Versions.{Entries}
 use Rattle.op_model.specs.Facts.{with_deletion}
 use Rattle.undo_map.specs.declared.entry.UndoEntry.{UndoEntry}
-use Rattle.sum_tree.specs.Laws.{fold}
 use Rattle.fragments.specs.declared.fragment.Fragment.{Fragment}
-use Rattle.fragments.specs.Summaries.{no_fragments, summaries, summary_of, SummaryFits}
-use Rattle.fragments.specs.Stand.{IsFilled}
-use Rattle.fragments.proofs.Counts.{fold_cells}
-use Rattle.fragments.specs.Laws.{cells_len}
 use Rattle.remote_edit.specs.Marks.{was_shown, touch}
 use Rattle.remote_edit.specs.Walk.{last_id}
-
-pub fits : (fs : List Fragment) → cells_len fs ≤ 2 ^ 40 → SummaryFits (fold no_fragments summaries summary_of fs)
-fits fs h = let e = fold_cells no_fragments fs in omega arith
-
-pub few : (fs : List Fragment) → AllByRecursion IsFilled fs → length fs ≤ cells_len fs
-few [] h = omega arith
-few (f ∷ fs) h = let ih = few fs h.1 in let g = h.0.0 in omega arith
 
 -- ---- the fragment before a place
 

@@ -1,5 +1,5 @@
 -- The walk keeps the ids in order.
-use Rattle.std.proofs.Common.{◌≡◌, ℕ, zero, suc, ◌+◌, ◌-◌, Option, List, [], ◌∷◌, ◌++◌, length, refl, sym, ap, ◌∙◌, arith, subst, Some, None, inl, inr, leb, append_assoc, not, ◌&&◌}
+use Rattle.std.proofs.Common.{◌≡◌, ℕ, zero, suc, ◌+◌, ◌-◌, Option, List, [], ◌∷◌, ◌++◌, length, refl, sym, ap, ◌∙◌, arith, subst, Some, None, inl, inr, leb, not, ◌&&◌}
 use Rattle.std.proofs.lemmas.Bool.{cases_Bool}
 use Rattle.lamport_clock.specs.declared.stamp.Lamport.{Lamport}
 use Rattle.lamport_clock.specs.Stamps.{later}
@@ -10,13 +10,10 @@ use Rattle.undo_map.specs.declared.entry.UndoEntry.{UndoEntry}
 use Rattle.op_model.specs.declared.operation.Piece.{Piece}
 use Rattle.fragments.specs.declared.fragment.Fragment.{Fragment}
 use Rattle.fragments.specs.Stand.{Rise}
+use Rattle.fragments.proofs.Rises.{from_low, rises_same, moved_on}
 use Rattle.remote_edit.specs.Marks.{touch}
 use Rattle.remote_edit.specs.Walk.{last_id, next_id, front, back, new_fragment, Zip, advance, skip_later, put_new, changes, walk}
 use Rattle.remote_edit.proofs.Places.{touch_id}
-
-from_low : List ℕ → List Fragment → List ℕ
-from_low low [] = low
-from_low low (f ∷ fs) = from_low f.id fs
 
 last_from : (pre : List Fragment) → last_id pre ≡ from_low least_digits pre
 unfolding from_low
@@ -34,16 +31,8 @@ rises_new low [] [] g h e = let k = above low greatest_digits in subst (λ (i : 
 rises_new low [] (f ∷ r) g h e = let k = above low f.id in subst (λ (i : List ℕ). IsLess low i × EndsAboveZero i × (IsLess i f.id × EndsAboveZero f.id × Rise f.id r)) (sym e) (k.0, k.1, (below low f.id h.0 h.1, h.1, h.2))
 rises_new low (x ∷ pre) r g h e = (h.0, h.1, rises_new x.id pre r g h.2 e)
 
--- another in the place of one with its id
-rises_same : (low : List ℕ) (pre r : List Fragment) (f g : Fragment) → Rise low (pre ++ f ∷ r) → g.id ≡ f.id → Rise low (pre ++ g ∷ r)
-rises_same low [] r f g h e = subst (λ (i : List ℕ). IsLess low i × EndsAboveZero i × Rise i r) (sym e) h
-rises_same low (x ∷ pre) r f g h e = (h.0, h.1, rises_same x.id pre r f g h.2 e)
-
 abbrev Rises : Zip → Type 0
 Rises z = Rise least_digits (z.pre ++ z.rest)
-
-moved_on : (pre r : List Fragment) (g : Fragment) → Rise least_digits (pre ++ g ∷ r) → Rise least_digits ((pre ++ g ∷ []) ++ r)
-moved_on pre r g h = subst (Rise least_digits) (sym (append_assoc pre (g ∷ []) r)) h
 
 adv_rises : (m : Option (List UndoEntry)) (t : Lamport) (v : Entries) (n : ℕ) (pre rest : List Fragment) → Rise least_digits (pre ++ rest) → Rises (advance m t v n pre rest)
 adv_rises m t v zero pre [] h = h

@@ -1,5 +1,5 @@
 -- The walk over fragments is the walk over runs of cells.
-use Rattle.std.proofs.Common.{◌≡◌, ℕ, zero, suc, ◌+◌, ◌-◌, ◌<◌, ◌≤◌, Bool, Option, List, [], ◌∷◌, ◌++◌, length, refl, sym, ap, ◌∙◌, true, false, Some, None, inl, inr, leb, append_assoc, take, drop, take-append-drop}
+use Rattle.std.proofs.Common.{◌≡◌, ℕ, zero, suc, ◌+◌, ◌-◌, ◌≤◌, Bool, Option, List, [], ◌∷◌, ◌++◌, length, refl, sym, ap, ◌∙◌, true, false, Some, None, inl, inr, leb, append_assoc, take, drop, take-append-drop}
 use Rattle.std.specs.List.{AllByRecursion}
 use Rattle.std.proofs.lemmas.Bool.{cases_Bool}
 use Rattle.std.proofs.lemmas.List.{append-nil, map-append, drop_all}
@@ -25,6 +25,7 @@ use Rattle.op_model.proofs.histories.OneMore.{Fits}
 use Rattle.op_model.proofs.answers.Good.{lawful_ready, checked_of, fits_of}
 use Rattle.fragments.specs.declared.fragment.Fragment.{Fragment}
 use Rattle.fragments.specs.Stand.{run_of, runs, IsFilled, Tell}
+use Rattle.fragments.proofs.Cells.{filled_runs}
 use Rattle.remote_edit.specs.Marks.{was_shown, marking, touch}
 use Rattle.remote_edit.specs.Walk.{last_id, front, new_fragment, next_id, Zip, advance, skip_later, put_new, one_piece, changes, walk}
 use Rattle.remote_edit.proofs.Marks.{marking_told}
@@ -110,10 +111,6 @@ module _ (w : List UndoEntry) (t : Lamport) (v : Entries) (new : (u : Lamport) �
         rw s (walk_as p.end (k + length p.text) ps z.pre z.rest
         ∙ ap (λ (x : List Run). x ++ f (runs z.rest)) e.before ∙ ap (λ (x : List Run). (runs pre ++ o.out) ++ f x) e.behind ∙ append_assoc (runs pre) o.out (f o.rest)))
   ]
-
-pub filled_runs : (fs : List Fragment) → AllByRecursion IsFilled fs → AllByRecursion (λ (r : Run). 0 < r.len) (runs fs)
-filled_runs [] h = tt
-filled_runs (f ∷ fs) h = (h.0.0, filled_runs fs h.1)
 
 -- fragments that tell of a history tell, with an edit walked in, of the history with it
 pub walk_tells : (h : History) (op : Operation) (fs : List Fragment) → Lawful h → answer h [] op ≡ Good → is_edit op ≡ true → AllByRecursion IsFilled fs → Tell fs h

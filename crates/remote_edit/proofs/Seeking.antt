@@ -17,8 +17,8 @@ use Rattle.tree_cursor.specs.Place.{CursorState}
 use Rattle.remote_edit.specs.Walk.{seen_bytes, advance}
 use Rattle.remote_edit.specs.Steps.{IsSought}
 use Rattle.fragments.proofs.Counts.{own_cells, places_count_cells}
+use Rattle.fragments.proofs.Cells.{IsWithin}
 use Rattle.remote_edit.proofs.Passing.{own, own_len, seen_cons, seen_append, adv_unseen, adv_whole}
-use Rattle.remote_edit.proofs.Starts.{IsWithin}
 
 -- one fragment is added whole
 pub move_one : (v : Entries) (n : ℕ) (f : Fragment) → behind (v, n) (move_at (v, n) (summary_of f)) ≡ (v, n + own v f)

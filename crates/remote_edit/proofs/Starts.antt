@@ -1,11 +1,10 @@
 -- How many fragments begin among some cells, before and behind a place of a walk that sees them all.
-use Rattle.std.proofs.Common.{◌≡◌, ℕ, zero, suc, ◌+◌, ◌-◌, ◌≤◌, max, min, Bool, true, false, if◌then◌else◌, nat_le, List, [], ◌∷◌, ◌++◌, length, take, drop, refl, sym, ap, ◌∙◌, arith, subst, inl, inr, leb, Option, Some, None, not, ◌&&◌}
+use Rattle.std.proofs.Common.{◌≡◌, ℕ, zero, suc, ◌+◌, ◌-◌, ◌≤◌, max, min, true, if◌then◌else◌, nat_le, List, [], ◌∷◌, ◌++◌, length, take, drop, refl, sym, ap, ◌∙◌, arith, subst, inl, inr, leb, Option, Some, None}
 use Rattle.std.specs.List.{AllByRecursion}
 use Rattle.std.proofs.lemmas.Bool.{cases_Bool, leb-true, leb-false}
 use Rattle.std.proofs.lemmas.List.{drop-drop}
 use Rattle.std.proofs.Math.Seq.{take-add}
 use Rattle.lamport_clock.specs.declared.stamp.Lamport.{Lamport}
-use Rattle.lamport_clock.specs.Stamps.{later}
 use Rattle.lamport_clock.specs.Versions.{Entries, sees}
 use Rattle.op_model.specs.declared.operation.Piece.{Piece}
 use Rattle.op_model.proofs.Elements.{each_drop}
@@ -13,6 +12,7 @@ use Rattle.undo_map.specs.declared.entry.UndoEntry.{UndoEntry}
 use Rattle.fragments.specs.declared.fragment.Fragment.{Fragment}
 use Rattle.fragments.specs.Stand.{IsFilled}
 use Rattle.fragments.specs.Laws.{cells_len}
+use Rattle.fragments.proofs.Cells.{later_none, IsWithin}
 use Rattle.remote_edit.specs.Marks.{touch}
 use Rattle.remote_edit.specs.Walk.{seen_bytes, back, Zip, advance, skip_later, put_new, one_piece}
 use Rattle.remote_edit.specs.Starts.{AllSeen, starts, IsLeft}
@@ -33,14 +33,6 @@ advance-rest m t v (suc n) pre (f ∷ fs) h = elim (cases_Bool (leb f.len (suc n
   | inl l ↦ rw (h.0, l) (advance-rest m t v (suc n - f.len) (pre ++ touch m t v f ∷ []) fs h.1)
   | inr l ↦ rw (h.0, l) refl
 ]
-
--- none is passed for a later edit
-pub later_none : (t : Lamport) (v : Entries) (f : Fragment) → sees v f.stamp ≡ true → (later f.stamp t && not (sees v f.stamp)) ≡ false
-later_none t v f h = rw h (go (later f.stamp t))
-  where
-    go : (b : Bool) → (b && false) ≡ false
-    go true = refl
-    go false = refl
 
 skip-rest : (t : Lamport) (v : Entries) (pre rest : List Fragment) → AllSeen v rest → (skip_later t v pre rest).rest ≡ rest
 skip-rest t v pre [] h = refl
@@ -92,17 +84,6 @@ starts_behind (suc x) a b (f ∷ fs) = elim (cases_Bool (leb f.len (suc x))) [
 pub starts_fewer : (a c b : ℕ) (fs : List Fragment) → a ≤ c → starts c b fs ≤ starts a b fs
 starts_fewer a c b [] h = omega arith
 starts_fewer a c b (f ∷ fs) h = let ih = starts_fewer (a - f.len) (c - f.len) (b - f.len) fs (omega (arith, h)) in omega (arith, ih, h)
-
--- ---- a seek over whole fragments, to one in which the last cells to pass lie
-
--- no more than the k cells to pass are in the first
-abbrev pub IsWithin : ℕ → List Fragment → Type 0
-IsWithin k [] = Unit {0}
-IsWithin k (f ∷ fs) = k ≤ f.len
-
-pub within_none : (k : ℕ) (fs : List Fragment) → k ≡ 0 → IsWithin k fs
-within_none k [] e = tt
-within_none k (f ∷ fs) e = omega (arith, e)
 
 near : (n k r : ℕ) (fs : List Fragment) → n ≡ k → AllByRecursion IsFilled fs → IsWithin k fs → starts 0 (k + r) fs ≤ 1 + starts (max 1 n) (n + r) fs
 near n k r [] e s h = omega arith

@@ -1,11 +1,11 @@
 -- One move more.
-use Rattle.std.proofs.Common.{◌≡◌, ℕ, ◌+◌, List, [], ◌∷◌, ◌++◌, length, drop, refl, ap, ◌∙◌, arith}
+use Rattle.std.proofs.Common.{◌≡◌, ℕ, ◌+◌, List, [], ◌∷◌, ◌++◌, length, drop, refl, ap, ◌∙◌, arith, ◌-◌}
 use Rattle.std.proofs.lemmas.List.{append-nil, drop-drop}
 use Rattle.op_model.proofs.texts.Utf8Runs.{take_front, drop_front}
 use Rattle.remote_edit.specs.declared.moves.Move.{Move}
 use Rattle.remote_edit.specs.declared.moves.Move.TheVariants.{Visible, Hidden}
 use Rattle.remote_edit.specs.Moves.{Texts, texts_of, with_fronts, after_moves, with_move, from_shown, from_hidden, from_new, HaveMoved}
-use Rattle.remote_edit.proofs.Joining.{AddsUp, more_total, shown_adds, hidden_adds, new_adds, compose, joined_same}
+use Rattle.remote_edit.proofs.Joining.{AddsUp, more_total, shown_adds, hidden_adds, new_adds, compose, joined_same, twice}
 
 drop_more : (total : List Move → ℕ) → AddsUp total → (ms : List Move) (m : Move) (s x y : List ℕ) → drop (total ms) s ≡ x → drop (total (m ∷ [])) x ≡ y → drop (total (with_move ms m)) s ≡ y
 drop_more total a ms m s x y e f = rw (more_total total a ms m, ← drop-drop (total (m ∷ [])) (total ms) s, e) f
@@ -44,3 +44,11 @@ keep s h n ms out a b c d x v u e f m = rw (← end) second
 
     end : with_fronts (out.shown ++ a) (out.hidden ++ []) (texts_of [] c) ≡ with_fronts out.shown out.hidden (texts_of a c)
     end = ap (λ z. texts_of z ((out.hidden ++ []) ++ c)) (append-nil (out.shown ++ a)) ∙ ap (λ z. texts_of (out.shown ++ a) (z ++ c)) (append-nil out.hidden)
+
+-- ---- moves
+
+pub to_shown : (a b c : List ℕ) (r : Texts) → with_fronts a b (with_fronts c [] r) ≡ with_fronts (a ++ c) b r
+to_shown a b c r = twice a b c [] r ∙ ap (λ z. with_fronts (a ++ c) z r) (append-nil b)
+
+pub to_hidden : (a b d : List ℕ) (r : Texts) → with_fronts a b (with_fronts [] d r) ≡ with_fronts a (b ++ d) r
+to_hidden a b d r = twice a b [] d r ∙ ap (λ z. with_fronts z (b ++ d) r) (append-nil a)

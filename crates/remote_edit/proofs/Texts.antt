@@ -1,19 +1,17 @@
 -- The bytes of fragments that tell of a history are its texts.
-use Rattle.std.proofs.Common.{◌≡◌, ℕ, Bool, true, false, cond, not, List, [], ◌∷◌, ◌++◌, length, map, refl, sym, ap, ◌∙◌, arith}
+use Rattle.std.proofs.Common.{◌≡◌, ℕ, Bool, not, List, [], ◌∷◌, ◌++◌, length, refl, sym, ap, ◌∙◌, arith}
 use Rattle.std.specs.List.{AllByRecursion, filter}
 use Rattle.op_model.specs.declared.operation.Operation.{Operation}
 use Rattle.op_model.specs.Operations.{stamp_of, pieces_of}
 use Rattle.op_model.specs.Histories.{History, Distinct}
-use Rattle.op_model.specs.Cells.{Cell, seq, cells}
-use Rattle.op_model.specs.Shown.{shows, byte, text, hidden_text, texts}
-use Rattle.op_model.specs.Facts.{Fact, fact, cell_facts}
+use Rattle.op_model.specs.Shown.{text, hidden_text, texts}
+use Rattle.op_model.specs.Facts.{Fact, cell_facts}
 use Rattle.op_model.specs.Answers.{answer}
 use Rattle.op_model.specs.Answers.Answer.{Good}
 use Rattle.op_model.specs.Lawful.{Lawful}
 use Rattle.op_model.specs.Walked.{facts_of}
 use Rattle.op_model.proofs.answers.Good.{lawful_ready, good_more}
 use Rattle.op_model.proofs.texts.WholeTexts.{byte_of, text_told, byte_is, in_last, bytes_told, same_bytes}
-use Rattle.op_model.proofs.texts.WholeRuns.{byte_new}
 use Rattle.op_model.proofs.texts.Utf8Runs.{bytes}
 use Rattle.fragments.specs.declared.fragment.Fragment.{Fragment}
 use Rattle.fragments.specs.Stand.{runs, Tell}
@@ -22,19 +20,7 @@ use Rattle.remote_edit.specs.Moves.{texts_of, TakeTexts}
 use Rattle.remote_edit.specs.Carried.{AreMovesOf, shown_bytes, hidden_bytes, IsText, Carried, Carry}
 use Rattle.remote_edit.specs.CarriedLaws.{CarriedTextsAreThose}
 use Rattle.op_model.proofs.Elements.{each_filter}
-
-hidden_told : (h : History) → Distinct h → hidden_text h ≡ bytes (byte_of h) (filter (λ (q : Fact). not q.visible) (cell_facts h))
-hidden_told h d = go (cells (seq h))
-  where
-    go : (s : List Cell) → map (byte h) (filter (λ (c : Cell). not (shows h c)) s) ≡ bytes (byte_of h) (filter (λ (q : Fact). not q.visible) (map (fact h) s))
-    go [] = refl
-    go (c ∷ s) = pick (shows h c) (go s)
-      where
-        pick : (b : Bool) → map (byte h) (filter (λ (x : Cell). not (shows h x)) s) ≡ bytes (byte_of h) (filter (λ (q : Fact). not q.visible) (map (fact h) s))
-            → map (byte h) (cond (not b) (c ∷ filter (λ (x : Cell). not (shows h x)) s) (filter (λ (x : Cell). not (shows h x)) s))
-            ≡ bytes (byte_of h) (cond (not b) (fact h c ∷ filter (λ (q : Fact). not q.visible) (map (fact h) s)) (filter (λ (q : Fact). not q.visible) (map (fact h) s)))
-        pick true e = e
-        pick false e = ap (λ x. x ∷ map (byte h) (filter (λ (x : Cell). not (shows h x)) s)) (sym (byte_new h d c.stamp c.k)) ∙ ap (λ z. byte_of h c ∷ z) e
+use Rattle.op_model.proofs.texts.Hidden.{hidden_told}
 
 pub text_bytes : (h : History) (fs : List Fragment) → Tell fs h → shown_bytes (byte_of h) fs ≡ text h
 text_bytes h fs e = ap (λ s. bytes (byte_of h) (filter (λ (q : Fact). q.visible) s)) e ∙ sym (text_told h)

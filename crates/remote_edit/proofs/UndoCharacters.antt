@@ -21,6 +21,7 @@ use Rattle.undo_map.specs.declared.entry.UndoEntry.{UndoEntry}
 use Rattle.fragments.specs.declared.fragment.Fragment.{Fragment}
 use Rattle.fragments.specs.declared.index_entry.IndexEntry.{IndexEntry}
 use Rattle.fragments.specs.Stand.{runs, Stand}
+use Rattle.fragments.proofs.Cells.{whole_fragments, utf8_more}
 use Rattle.remote_edit.specs.declared.moves.Move.{Move}
 use Rattle.remote_edit.specs.Carried.{CarryOn, IsText, KeepCharacters}
 use Rattle.remote_edit.specs.Anew.{anew, all_anew}
@@ -28,7 +29,7 @@ use Rattle.remote_edit.specs.Undoing.{MayMark}
 use Rattle.remote_edit.proofs.Carrying.{SameCells}
 use Rattle.remote_edit.proofs.Texts.{carried_characters}
 use Rattle.remote_edit.proofs.UndoMoves.{same_cells}
-use Rattle.remote_edit.proofs.WholeFragments.{texts_are, texts_of_runs, whole_fragments, utf8_more}
+use Rattle.remote_edit.proofs.WholeFragments.{texts_are, texts_of_runs}
 
 same_text : (byte : Cell → ℕ) (f g : Fragment) → SameCells f g → IsText byte f → IsText byte g
 same_text byte f g e u = rw (e.0, e.1, e.2) u

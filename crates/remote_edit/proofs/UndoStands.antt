@@ -1,5 +1,5 @@
 -- Fragments where an undo counts edits stand for the history with the undo.
-use Rattle.std.proofs.Common.{◌≡◌, ℕ, zero, suc, ◌%◌, ◌<◌, ◌⊎◌, ◌↔◌, max, eqb, leb, Bool, true, false, List, [], ◌∷◌, ◌++◌, map, refl, sym, ap, ◌∙◌, arith, subst, inl, inr}
+use Rattle.std.proofs.Common.{◌≡◌, ℕ, zero, suc, ◌<◌, ◌↔◌, leb, Bool, true, false, List, [], ◌∷◌, ◌++◌, map, refl, sym, ap, ◌∙◌, arith, subst, inl, inr}
 use Rattle.std.proofs.lemmas.Bool.{cases_Bool, and_from, le-leb}
 use Rattle.std.specs.List.{AllByRecursion, list_any}
 use Rattle.lamport_clock.specs.declared.stamp.Lamport.{Lamport}
@@ -14,21 +14,19 @@ use Rattle.op_model.specs.declared.operation.UndoOp.{UndoOp}
 use Rattle.op_model.specs.declared.operation.Operation.TheVariants.{Undo}
 use Rattle.op_model.specs.Sorted.{Member}
 use Rattle.op_model.specs.Operations.{stamp_of, counts_of, is_edit}
-use Rattle.op_model.specs.Histories.{History, newest_first}
-use Rattle.op_model.specs.Cells.{Cell, PathCell, cells, seq}
-use Rattle.op_model.specs.Shown.{count, is_undone, are_undone, deleters, shows, shows_where, visible_by}
+use Rattle.op_model.specs.Histories.{History}
+use Rattle.op_model.specs.Cells.{PathCell, cells, seq}
+use Rattle.op_model.specs.Shown.{visible_by}
 use Rattle.op_model.specs.Answers.{answer}
 use Rattle.op_model.specs.Answers.Answer.{Good}
 use Rattle.op_model.specs.Lawful.{Lawful}
 use Rattle.op_model.specs.Facts.{Fact, fact, alike}
 use Rattle.op_model.specs.Walked.{Run, run_facts, facts_of}
 use Rattle.op_model.proofs.histories.Lawful.{in_append}
-use Rattle.op_model.proofs.shown.Deleters.{kept_all}
-use Rattle.op_model.proofs.shown.OnePass.{undone_newest, all_newest}
 use Rattle.op_model.proofs.MainLaws.{undo_is_told}
-use Rattle.op_model.proofs.order.CellsOnce.{each_member}
-use Rattle.op_model.proofs.Elements.{any_member}
-use Rattle.op_model.proofs.shown.Counts.{count_more, given_none}
+use Rattle.op_model.proofs.Elements.{any_member, each_member}
+use Rattle.op_model.proofs.shown.Counts.{undone_same, all_same}
+use Rattle.op_model.proofs.shown.Visible.{shown_seen}
 use Rattle.undo_map.specs.declared.entry.UndoEntry.{UndoEntry}
 use Rattle.undo_map.specs.Undos.{undo_entries}
 use Rattle.fragments.specs.declared.fragment.Fragment.{Fragment}
@@ -39,12 +37,6 @@ use Rattle.remote_edit.specs.Anew.{concerns, recount, anew, all_anew, Counts}
 use Rattle.remote_edit.proofs.Marks.{is_told}
 use Rattle.remote_edit.proofs.LaterDeletions.{HasLaterDeletions, late_deletions}
 use Rattle.remote_edit.proofs.OfFacts.{of_facts}
-
--- ---- what is told of a cell is told by the counts
-
-pub shown_seen : (h : History) (c : Cell) → shows h c ≡ visible_by h c.stamp (deleters h c)
-unfolding shows shows_where
-shown_seen h c = rw (kept_all (newest_first h), undone_newest h c.stamp, all_newest h (deleters h c)) refl
 
 -- a cell, and a fragment, is shown as the history has it
 abbrev ByHistory : History → Fact → Type 0
@@ -59,18 +51,6 @@ IsByHistory h f = f.visible ≡ visible_by h f.stamp f.deletions
 
 by_history : (h : History) (fs : List Fragment) → AllByRecursion IsFilled fs → AllByRecursion (ByHistory h) (facts_of (runs fs)) → AllByRecursion (IsByHistory h) fs
 by_history h fs l e = of_facts (λ t v d. v ≡ visible_by h t d) fs l e
-
--- ---- counts with an undo more
-
-undone_same : (h : History) (op : Operation) (t : Lamport) → ((c : UndoCount) → Member c (counts_of op) → c.edit ≡ t → ⊥) → is_undone (h ++ op ∷ []) t ≡ is_undone h t
-undone_same h op t f =
-    let z = given_none (counts_of op) t f in
-    let e : count (h ++ op ∷ []) t ≡ count h t = count_more h op t ∙ ap (max (count h t)) z ∙ omega arith in
-    ap (λ (n : ℕ). eqb (n % 2) 1) e
-
-all_same : (h : History) (op : Operation) (d : List Lamport) → ((c : UndoCount) (t : Lamport) → Member c (counts_of op) → Member t d → c.edit ≡ t → ⊥) → are_undone (h ++ op ∷ []) d ≡ are_undone h d
-all_same h op [] f = refl
-all_same h op (t ∷ d) f = rw (undone_same h op t (λ c m. f c t m (inl refl)), all_same h op d (λ c s m n. f c s m (inr n))) refl
 
 module _ (h : History) (op : Operation) (w : List UndoEntry) (ts : List Lamport) (lawful : Lawful h) (good : answer h [] op ≡ Good) (undo : is_edit op ≡ false)
     (now : w ≡ undo_entries (h ++ op ∷ [])) (all : Counts op ts) where

@@ -1,5 +1,5 @@
 -- An edit leaves what is seen of undos as it is.
-use Rattle.std.proofs.Common.{◌≡◌, ◌⊎◌, ℕ, zero, suc, ◌+◌, ◌-◌, Bool, Option, List, [], ◌∷◌, ◌++◌, length, sym, ap, ◌∙◌, subst, cond, true, false, Some, None, inl, inr, leb, not, ◌&&◌, ◌||◌}
+use Rattle.std.proofs.Common.{◌≡◌, ℕ, zero, suc, ◌+◌, ◌-◌, Bool, Option, List, [], ◌∷◌, ◌++◌, length, cond, true, false, Some, None, inl, inr, leb, not, ◌&&◌}
 use Rattle.std.specs.List.{AllByRecursion}
 use Rattle.std.proofs.lemmas.Bool.{cases_Bool}
 use Rattle.lamport_clock.specs.declared.stamp.Lamport.{Lamport}
@@ -8,23 +8,18 @@ use Rattle.lamport_clock.specs.Versions.{Entries, sees}
 use Rattle.locators.specs.Locator.{between_digits}
 use Rattle.op_model.specs.declared.operation.Piece.{Piece}
 use Rattle.op_model.specs.declared.operation.Operation.{Operation}
-use Rattle.op_model.specs.declared.operation.UndoCount.{UndoCount}
-use Rattle.op_model.specs.Operations.{stamp_of, version_of, pieces_of, counts_of, is_edit}
-use Rattle.op_model.specs.Histories.{History, In, has_edit}
+use Rattle.op_model.specs.Operations.{stamp_of, version_of, pieces_of, is_edit}
+use Rattle.op_model.specs.Histories.{History}
 use Rattle.op_model.specs.Answers.{answer}
 use Rattle.op_model.specs.Answers.Answer.{Good}
 use Rattle.op_model.specs.Lawful.{Lawful}
-use Rattle.op_model.specs.Sorted.{Member, insert_by}
-use Rattle.op_model.specs.Facts.{with_deletion, stamp_first}
+use Rattle.op_model.specs.Facts.{with_deletion}
 use Rattle.op_model.proofs.Elements.{each_append}
-use Rattle.op_model.proofs.histories.Lawful.{in_append}
-use Rattle.op_model.proofs.order.CellsOnce.{each_member}
-use Rattle.op_model.proofs.answers.Counted.{lawful_counted, not_there}
-use Rattle.op_model.proofs.answers.Good.{checked_of}
-use Rattle.op_model.proofs.shown.OnePass.{no_counts}
+use Rattle.op_model.proofs.answers.Uncounted.{deletion_of, uncounted}
 use Rattle.undo_map.specs.declared.entry.UndoEntry.{UndoEntry}
 use Rattle.fragments.specs.declared.fragment.Fragment.{Fragment}
 use Rattle.fragments.specs.Stand.{SeesUndos}
+use Rattle.fragments.proofs.Counts.{sees_more}
 use Rattle.remote_edit.specs.Marks.{was_shown, touch}
 use Rattle.remote_edit.specs.Walk.{last_id, next_id, front, back, new_fragment, Zip, advance, skip_later, put_new, changes, walk}
 
@@ -79,24 +74,6 @@ module _ (P : Fragment → Type 0) (t : Lamport) (v : Entries)
         rw e (each_walk w p.end (k + length p.text) ps d.pre d.rest hd.0 hd.1))
   ]
 
--- a deletion is one of those before, or the new one
-deletion_of : (t x : Lamport) (d : List Lamport) → Member x (insert_by stamp_first t d) → (x ≡ t) ⊎ Member x d
-deletion_of t x [] (inl e) = inl e
-deletion_of t x [] (inr m) = absurd m
-deletion_of t x (y ∷ d) m = go (stamp_first y t) m (deletion_of t x d)
-  where
-    go : (b : Bool) → Member x (cond b (y ∷ insert_by stamp_first t d) (t ∷ y ∷ d)) → (Member x (insert_by stamp_first t d) → (x ≡ t) ⊎ Member x d) → (x ≡ t) ⊎ Member x (y ∷ d)
-    go true (inl e) f = inr (inl e)
-    go true (inr n) f = elim (f n) [ inl e ↦ inl e | inr k ↦ inr (inr k) ]
-    go false (inl e) f = inl e
-    go false (inr n) f = inr n
-
--- an edit that is new in h is counted by no undo of h
-uncounted : (h : History) (op : Operation) → Lawful h → answer h [] op ≡ Good → (o : Operation) → In h o → (c : UndoCount) → Member c (counts_of o) → c.edit ≡ stamp_of op → ⊥
-uncounted h op l g o i c m e =
-    let k = each_member (λ (c : UndoCount). has_edit h c.edit ≡ true) (counts_of o) c (lawful_counted h l o i) m in
-    not_there h (stamp_of op) (checked_of h op g).0.new (ap (has_edit h) (sym e) ∙ k)
-
 sees_touch : (h : History) (op : Operation) → Lawful h → answer h [] op ≡ Good → (m : Option (List UndoEntry)) (v : Entries) (f : Fragment) → SeesUndos h f → SeesUndos h (touch m (stamp_of op) v f)
 sees_touch h op l g None v f s = s
 sees_touch h op l g (Some w) v f s = go (was_shown w v f.stamp f.deletions)
@@ -111,17 +88,6 @@ sees_touch h op l g (Some w) v f s = go (was_shown w v f.stamp f.deletions)
     go : (b : Bool) → SeesUndos h (cond b (record { id = f.id; stamp = f.stamp; offset = f.offset; len = f.len; visible = false; deletions = with_deletion (stamp_of op) f.deletions; max_undos = f.max_undos }) f)
     go true = more
     go false = s
-
--- the history with an edit has no undo more
-sees_more : (h : History) (op : Operation) → is_edit op ≡ true → (fs : List Fragment) → AllByRecursion (SeesUndos h) fs → AllByRecursion (SeesUndos (h ++ op ∷ [])) fs
-sees_more h op e [] s = tt
-sees_more h op e (f ∷ fs) s = (one, sees_more h op e fs s.1)
-  where
-    one : SeesUndos (h ++ op ∷ []) f
-    one o i c m n = elim (in_append h op o i) [
-      | inl k ↦ s.0 o k c m n
-      | inr q ↦ absurd (subst (Member c) (ap counts_of q ∙ no_counts op e) m)
-    ]
 
 pub walk_undos : (h : History) (op : Operation) (w : List UndoEntry) (fs : List Fragment) → Lawful h → answer h [] op ≡ Good → is_edit op ≡ true → AllByRecursion (SeesUndos h) fs
     → AllByRecursion (SeesUndos (h ++ op ∷ [])) (walk w (stamp_of op) (version_of op) 0 0 (pieces_of op) [] fs)

@@ -1,5 +1,5 @@
 -- Fragments that begin and end between characters, through an operation.
-use Rattle.op_model.proofs.Elements.{each_map, each_filter as each_kept}
+use Rattle.op_model.proofs.Elements.{each_filter as each_kept}
 use Rattle.std.proofs.Common.{◌≡◌, ℕ, zero, suc, ◌+◌, Bool, true, false, cond, append-nil, List, [], ◌∷◌, ◌++◌, length, map, get_or, refl, sym, ap, ◌∙◌, arith, subst, inl, inr, append_assoc, length-append}
 use Rattle.std.proofs.lemmas.Bool.{cases_Bool}
 use Rattle.std.proofs.lemmas.Str.{IsCharBoundary-start}
@@ -18,12 +18,11 @@ use Rattle.op_model.specs.Operations.{stamp_of, version_of, pieces_of}
 use Rattle.op_model.specs.Edits.{is_boundary}
 use Rattle.op_model.specs.Histories.{base, History, Distinct, newest_first, seen_history}
 use Rattle.op_model.specs.Cells.{Cell, PathCell, seq, seq_where, cells}
-use Rattle.op_model.specs.Shown.{texts, new_bytes, IsCell, full, full_where}
+use Rattle.op_model.specs.Shown.{texts, new_bytes, full, full_where}
 use Rattle.op_model.specs.Answers.{answer}
 use Rattle.op_model.specs.Answers.Answer.{Good}
 use Rattle.op_model.specs.Lawful.{Lawful}
 use Rattle.op_model.specs.Facts.{Fact, alike, Marking}
-use Rattle.op_model.specs.Walked.{Run, IsWhole}
 use Rattle.op_model.proofs.order.Restricted.{restrict}
 use Rattle.op_model.proofs.histories.OneMore.{Fits}
 use Rattle.op_model.proofs.shown.Bytes.{full_seen}
@@ -31,18 +30,16 @@ use Rattle.op_model.proofs.answers.Passed.{passed, ranged}
 use Rattle.op_model.proofs.answers.Counted.{good_ordered}
 use Rattle.op_model.proofs.answers.Good.{lawful_ready, good_more}
 use Rattle.op_model.proofs.texts.Utf8Runs.{bytes, kept_bytes, Utf8, NewUtf8, walk_utf8, facts_kept}
-use Rattle.op_model.proofs.texts.WholeTexts.{byte_of, byte_is, in_last, bytes_told, kept_told, new_text, boundary_of, of_boundary, bounds_of, utf8_agree}
-use Rattle.op_model.proofs.texts.WholeRuns.{Texts, Cut, told_cells, cut_runs, utf8_runs}
+use Rattle.op_model.proofs.texts.WholeTexts.{byte_of, byte_is, in_last, kept_told, new_text, of_boundary, bounds_of}
 use Rattle.undo_map.specs.declared.entry.UndoEntry.{UndoEntry}
 use Rattle.fragments.specs.declared.fragment.Fragment.{Fragment}
 use Rattle.fragments.specs.declared.index_entry.IndexEntry.{IndexEntry}
-use Rattle.fragments.specs.Stand.{runs, Tell, IsFilled, Stand}
+use Rattle.fragments.specs.Stand.{runs, Stand}
 use Rattle.remote_edit.specs.Marks.{marking}
 use Rattle.remote_edit.specs.Walk.{changes}
 use Rattle.remote_edit.specs.Carried.{cell_bytes, IsText}
 use Rattle.remote_edit.specs.CarriedLaws.{BaseIsWhole}
 use Rattle.remote_edit.proofs.Changing.{changing, no_text, ordered_changing}
-use Rattle.remote_edit.proofs.Runs.{filled_runs}
 use Rattle.remote_edit.proofs.Texts.{old_bytes}
 use Rattle.remote_edit.proofs.EditTexts.{placed_fragments, placed_runs, fits}
 
@@ -61,20 +58,6 @@ pub texts_of_runs : (f : Cell → ℕ) (fs : List Fragment) → AllByRecursion (
 texts_of_runs f [] u = tt
 texts_of_runs f (x ∷ fs) u = (subst IsUtf8 (sym (alike_bytes f x.stamp x.offset x.len x.visible x.deletions)) u.0, texts_of_runs f fs u.1)
 
--- ---- whole fragments have bytes of UTF-8, and those alone
-
-pub whole_runs : (h : History) → Lawful h → Texts h → (rs : List Run) → AllByRecursion (IsWhole h) rs → Utf8 (byte_of h) rs
-whole_runs h l u rs w =
-    let d : Distinct h = (lawful_ready h l).0.distinct in
-    utf8_runs h d u rs (each_map (IsWhole h) (λ (x : Run). Cut h d x.stamp x.offset x.len)
-    (λ x k. (boundary_of (new_bytes h x.stamp) x.offset k.0, boundary_of (new_bytes h x.stamp) (x.offset + x.len) k.1)) rs w)
-
-pub whole_fragments : (h : History) → Lawful h → Texts h → (fs : List Fragment) → AllByRecursion IsFilled fs → Tell fs h → Utf8 (byte_of h) (runs fs) → AllByRecursion (IsWhole h) (runs fs)
-whole_fragments h l u fs f s w =
-    let d : Distinct h = (lawful_ready h l).0.distinct in
-    let k = cut_runs h d u (runs fs) (filled_runs fs f) (subst (λ (x : List Fact). AllByRecursion (λ (y : Fact). IsCell h y.cell) x) (sym s) (told_cells h d)) w in
-    each_map (λ (x : Run). Cut h d x.stamp x.offset x.len) (IsWhole h) (λ x b. (of_boundary (new_bytes h x.stamp) x.offset b.0, of_boundary (new_bytes h x.stamp) (x.offset + x.len) b.1)) (runs fs) k
-
 pub base_whole : BaseIsWhole
 base_whole id t u =
     let s : Lamport = record { value = 1; replica = 0 } in
@@ -82,15 +65,6 @@ base_whole id t u =
     let e : 0 + length t ≡ length t = omega arith in
     let last : IsCharBoundary t (0 + length t) = (omega (arith, e), λ l g. absurd (omega (arith, e, l))) in
     ((ap (λ (x : List ℕ). is_boundary x 0) n ∙ of_boundary t 0 (IsCharBoundary-start t u), ap (λ (x : List ℕ). is_boundary x (0 + length t)) n ∙ of_boundary t (0 + length t) last), tt)
-
--- ---- the bytes in the history with one operation more
-
--- whole fragments have bytes of UTF-8 there too
-pub utf8_more : (h : History) (op : Operation) (fs : List Fragment) → Lawful h → Texts h → answer h [] op ≡ Good → Tell fs h → AllByRecursion (IsWhole h) (runs fs) → Utf8 (byte_of (h ++ op ∷ [])) (runs fs)
-utf8_more h op fs l u g s w =
-    let r = lawful_ready h l in
-    let e = subst (λ (x : List Fact). AllByRecursion (λ (q : Fact). byte_of h q.cell ≡ byte_of (h ++ op ∷ []) q.cell) x) (sym s) (bytes_told h op r.0.distinct (good_more h op r g).0.0.distinct) in
-    utf8_agree (byte_of h) (byte_of (h ++ op ∷ [])) (runs fs) e (whole_runs h l u (runs fs) w)
 
 -- ---- an edit
 

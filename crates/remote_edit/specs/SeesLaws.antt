@@ -1,5 +1,5 @@
 -- What sums of fragments see, and how early they begin.
-use Rattle.std.proofs.Common.{◌≡◌, ℕ, ◌<◌, ◌≤◌, Bool, true, false, ◌||◌, ◌&&◌, min, leb, List, [], ◌∷◌, refl, sym, ap, ◌∙◌, arith, inl, inr}
+use Rattle.std.proofs.Common.{◌≡◌, ◌<◌, Bool, true, false, ◌&&◌, min, leb, List, [], ◌∷◌, refl, sym, ap, ◌∙◌, arith, inl, inr}
 use Rattle.std.proofs.lemmas.Bool.{cases_Bool, leb-false, lt-leb, or_parts, or_from}
 use Rattle.std.specs.List.{list_any}
 use Rattle.lamport_clock.specs.declared.stamp.Lamport.{Lamport}

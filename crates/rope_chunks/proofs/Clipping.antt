@@ -6,9 +6,10 @@ use Rattle.std.specs.Str.{IsUtf8}
 use Rattle.std.proofs.lemmas.Bool.Decides.{nat_tests}
 use Rattle.tree_cursor.specs.declared.traits.Bias.TheVariants.{Left, Right}
 use Rattle.text_dims.specs.declared.places.Place.{Place}
-use Rattle.text_dims.specs.Counts.{begins_char, byte_units, is_newline}
+use Rattle.text_dims.specs.Counts.{begins_char}
 use Rattle.text_dims.specs.Places.{end_place, places, place_after, walk, last_place, offset_clip_back, offset_clip_on}
 use Rattle.text_dims.proofs.Walks.{places-walk}
+use Rattle.text_dims.proofs.Clipping.{last-walk, none_step, after_offset, at_zero}
 use Rattle.rope_chunks.specs.declared.look.Stop.{Stop}
 use Rattle.rope_chunks.specs.Stops.{stop, stop_place}
 use Rattle.rope_chunks.specs.Targets.{passes_offset, offset_stays}
@@ -22,13 +23,6 @@ find-stop p d (k ∷ ks) = elim (p k) as (λ t. unwrap_or (cond t (Some k) (find
   | false ↦ find-stop p k ks
 ]
 
-last-walk : (d e a : Place) (bs : List ℕ) → last_place d (walk a bs) ≡ last_place e (walk a bs)
-last-walk d e a [] = refl
-last-walk d e a (b ∷ bs) = elim (begins_char b) as (λ t. last_place d (cond t (a ∷ walk (place_after a b) bs) (walk (place_after a b) bs)) ≡ last_place e (cond t (a ∷ walk (place_after a b) bs) (walk (place_after a b) bs))) [
-  | true ↦ refl
-  | false ↦ last-walk d e (place_after a b) bs
-]
-
 pub clipped_on : (bs : List ℕ) (o : ℕ) (s : Stop) → s ≡ stop (λ k. passes_offset o k Left) (end_place []) (places bs) → unwrap_or s.here s.before ≡ offset_clip_on bs o
 clipped_on bs o s e =
     let p : Place → Bool = λ k. passes_offset o k Left in
@@ -40,10 +34,6 @@ pub record Upto (pl pr q : Place → Bool) (low : ℕ) : Type 0 where
   pub past : (k : Place) → pr k ≡ true → pl k ≡ true
   pub is : (k : Place) → low ≤ k.row → q k ≡ not (pr k)
   pub alone : (k : Place) (b : ℕ) → pl k ≡ true → pr k ≡ false → pr (place_after k b) ≡ true
-
-none_step : (q : Place → Bool) (d a : Place) (us : List Place) (t : Bool) → q a ≡ false → last_place d (filter q us) ≡ d → last_place d (filter q (cond t (a ∷ us) us)) ≡ d
-none_step q d a us true e h = rw e h
-none_step q d a us false e h = h
 
 none_upto : (pl pr q : Place → Bool) (low : ℕ) → Upto pl pr q low → (d a : Place) (bs : List ℕ) → low ≤ a.row → pr a ≡ true → last_place d (filter q (walk a bs)) ≡ d
 none_upto pl pr q low u d a [] l h = let f : q a ≡ false = u.is a l ∙ rw h refl in rw f refl
@@ -89,9 +79,6 @@ pub either : (q : Place → Bool) (d e a : Place) (bs : List ℕ) → Begins bs 
 either q d e a [] h t = rw t refl
 either q d e a (b ∷ bs) h t = rw (h, t) refl
 
-after_offset : (a : Place) (b : ℕ) → (place_after a b).offset ≡ a.offset + 1
-after_offset a b = elim (is_newline b) as (λ t. (cond {A = Place} t (record { offset = a.offset + 1; utf16 = a.utf16 + 1; row = a.row + 1; column = 0; column_utf16 = 0 }) (record { offset = a.offset + 1; utf16 = a.utf16 + byte_units b; row = a.row; column = a.column + 1; column_utf16 = a.column_utf16 + byte_units b })).offset ≡ a.offset + 1) [ true ↦ refl | false ↦ refl ]
-
 past_at : (o n : ℕ) → nat_lt o n ≡ true → nat_le o n ≡ true
 past_at o n h = grind (arith, nat_tests)
 
@@ -108,10 +95,6 @@ offset_upto o = record {
   is = λ k l. upto_is o k.offset;
   alone = λ k b h f. past_next o k.offset (place_after k b).offset h (after_offset k b);
 }
-
-at_zero : (o : ℕ) → nat_le (end_place []).offset o ≡ true
-unfolding end_place
-at_zero o = grind (arith, nat_tests)
 
 pub clipped_back : (bs : List ℕ) (o : ℕ) → IsUtf8 bs → stop_place (λ k. passes_offset o k Right) (stop (λ k. passes_offset o k Left) (end_place []) (places bs)) ≡ offset_clip_back bs o
 clipped_back bs o u =

@@ -1,21 +1,18 @@
 -- The place behind some first bytes of a text, and a look-up that goes on there.
 use Rattle.std.specs.Prelude.{nat_le}
 use Rattle.std.proofs.Common.{◌≡◌, ℕ, ◌+◌, ◌-◌, ◌<◌, ◌≤◌, eqb, Bool, true, false, List, [], ◌∷◌, length, take, drop, get_or, refl, ap, sym, subst, inl, inr, ◌∙◌, arith}
-use Rattle.std.proofs.lemmas.Bool.{and_from, and_parts, cases_lt, le-leb, leb-true}
-use Rattle.std.proofs.lemmas.List.{take-append-drop, take_more, drop_more, drop_all, get_or_past, length-take-le}
+use Rattle.std.proofs.lemmas.Bool.{and_parts, cases_lt}
+use Rattle.std.proofs.lemmas.List.{take-append-drop, take_more, drop_more, drop_all, length-take-le}
 use Rattle.text_dims.specs.declared.places.Place.{Place}
-use Rattle.text_dims.specs.Bytes.{run_summary}
-use Rattle.text_dims.specs.Counts.{begins_char, char_count, utf16_count, newline_count}
-use Rattle.text_dims.specs.Summaries.{summary_of}
+use Rattle.text_dims.specs.Counts.{begins_char, utf16_count}
 use Rattle.text_dims.specs.Concat.{length_adds, units_add}
 use Rattle.text_dims.specs.Bounds.{last_row-le, newline_count-le}
-use Rattle.text_dims.specs.Places.{PlaceFits, end_place, is_cut, place_after, place_sum, summary_end, walk}
+use Rattle.text_dims.specs.Places.{PlaceFits, end_place, is_cut, place_after, place_sum, walk}
 use Rattle.text_dims.proofs.Characters.{utf16_count-le_twice}
-use Rattle.text_dims.proofs.Singles.{run_is}
-use Rattle.text_dims.proofs.Walks.{by_byte, end_place-append, summary_end-is}
+use Rattle.text_dims.proofs.Walks.{by_byte, end_place-append, walk_end}
 use Rattle.rope_chunks.specs.At.{place_sum_assoc, past_within}
 use Rattle.rope_chunks.specs.Stops.{stop, HasRoom}
-use Rattle.rope_chunks.proofs.Stops.{Begins, Stays, walk_end, walk_end-is, stop-past}
+use Rattle.rope_chunks.proofs.Stops.{Begins, Stays, walk_end-is, stop-past}
 
 -- there is room for what follows
 pub room_past : (a : Place) (bs : List ℕ) (n : ℕ) → HasRoom a (length bs) → n ≤ length bs → HasRoom (place_sum a (end_place (take n bs))) (length bs - n)
@@ -53,28 +50,6 @@ next_is a bs n h =
 pub next_fits : (a k : Place) (bs : List ℕ) (n : ℕ) → HasRoom a (length bs) → n < length bs → k ≡ place_sum a (end_place (take n bs)) → PlaceFits (place_after k (get_or bs n 0))
 next_fits a k bs n h l e =
     subst PlaceFits (sym (ap (λ (z : Place). place_after z (get_or bs n 0)) e ∙ next_is a bs n l)) (front_fits a bs (n + 1) h (omega (arith, l)))
-
--- some bytes among which is no LF
-pub run_end : (a : Place) (bs : List ℕ) (n chars units : ℕ) → n ≤ length bs → newline_count (take n bs) ≡ 0 → chars ≡ char_count (take n bs) → units ≡ utf16_count (take n bs) →
-    place_sum a (summary_end (run_summary n chars units)) ≡ place_sum a (end_place (take n bs))
-run_end a bs n chars units within row c u =
-    let xs = take n bs in
-    let long : length xs ≡ n = length-take-le n bs within in
-    let run : run_summary n chars units ≡ summary_of xs =
-    ap (λ k. run_summary n chars k) u
-    ∙ ap (λ k. run_summary n k (utf16_count xs)) c
-    ∙ ap (λ k. run_summary k (char_count xs) (utf16_count xs)) (sym long)
-    ∙ sym (run_is xs row) in
-    ap (λ s. place_sum a (summary_end s)) run ∙ ap (place_sum a) (summary_end-is xs)
-
-pub cut_within : (bs : List ℕ) (n : ℕ) → is_cut bs n ≡ true → n ≤ length bs
-cut_within bs n t = leb-true n (length bs) (and_parts (nat_le n (length bs)) (begins_char (get_or bs n 0)) t).0
-
-pub cut_before : (bs : List ℕ) (n : ℕ) → n < length bs → begins_char (get_or bs n 0) ≡ true → is_cut bs n ≡ true
-cut_before bs n l t = and_from (nat_le n (length bs)) (begins_char (get_or bs n 0)) (le-leb n (length bs) (omega (arith, l))) t
-
-pub cut_end : (bs : List ℕ) (n : ℕ) → n ≤ length bs → length bs ≤ n → is_cut bs n ≡ true
-cut_end bs n h l = and_from (nat_le n (length bs)) (begins_char (get_or bs n 0)) (le-leb n (length bs) h) (ap begins_char (get_or_past bs n 0 l))
 
 -- what stands behind a cut begins with a character
 pub cut_begins : (bs : List ℕ) (n : ℕ) → is_cut bs n ≡ true → Begins (drop n bs)

@@ -1,6 +1,6 @@
 -- A text put behind a rope's chunks.
 use Rattle.std.specs.Prelude.{slice_get}
-use Rattle.std.proofs.Common.{◌≡◌, ℕ, zero, suc, ◌+◌, ◌-◌, ◌^◌, ◌<◌, ◌≤◌, Option, Some, None, List, [], ◌∷◌, ◌++◌, length, take, drop, refl, ap, sym, subst, ◌∙◌, arith, append_assoc, length-append, ⊎_elim}
+use Rattle.std.proofs.Common.{◌≡◌, ℕ, zero, suc, ◌+◌, ◌-◌, ◌^◌, ◌<◌, ◌≤◌, Option, Some, None, List, [], ◌∷◌, ◌++◌, length, take, drop, refl, ap, sym, subst, ◌∙◌, arith, append_assoc, length-append}
 use Rattle.std.specs.List.{All, concat}
 use Rattle.std.proofs.lemmas.List.{append-nil, drop_all, take_all, take_more}
 use Rattle.std.proofs.lemmas.List.Elements.{All-append, All-drop, All-head, All-nil, All-push, All-tail, All-take}
@@ -10,9 +10,10 @@ use Rattle.sum_tree.specs.Laws.{fold}
 use Rattle.sum_tree.specs.Spliced.{splice_list}
 use Rattle.text_dims.specs.Summaries.{summary_of, text_sum, no_text, TextFits}
 use Rattle.text_dims.proofs.Characters.{text_fits}
+use Rattle.text_dims.proofs.Sums.{fold_is}
 use Rattle.rope_chunks.specs.Chunks.{IsChunk, AreChunks}
 use Rattle.std.proofs.lemmas.List.Folds.{concat-append}
-use Rattle.rope_chunks.proofs.Texts.{concat-push, fold_is}
+use Rattle.rope_chunks.proofs.Texts.{concat-push}
 
 few_chunks : (cs : List (List ℕ)) → All IsChunk cs → length cs ≤ length (concat cs)
 few_chunks [] a = omega arith

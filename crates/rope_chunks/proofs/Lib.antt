@@ -9,4 +9,3 @@ pub mod PointClips
 pub mod Spots
 pub mod Changes
 pub mod Tails
-pub mod Bits

@@ -1,7 +1,6 @@
 -- Where clips of points go.
-use Rattle.std.specs.Prelude.{if◌then◌else◌, find, filter, not, nat_le, nat_lt, ◌==◌, ◌&&◌, ◌||◌, ◌+◌, ◌<◌, ◌≤◌}
-use Rattle.std.proofs.Common.{◌≡◌, ℕ, Bool, true, false, cond, Option, Some, None, List, [], ◌∷◌, ◌++◌, length, get_or, refl, ap, sym, subst, ◌∙◌, arith, append_assoc, length-append, ◌⊎◌, inl, inr, ⊎_elim}
-use Rattle.std.specs.Option.{unwrap_or}
+use Rattle.std.specs.Prelude.{filter, not, nat_le, nat_lt, ◌==◌, ◌&&◌, ◌||◌, ◌+◌, ◌<◌, ◌≤◌}
+use Rattle.std.proofs.Common.{◌≡◌, ℕ, Bool, true, false, cond, None, List, [], ◌∷◌, ◌++◌, length, get_or, refl, ap, sym, subst, ◌∙◌, arith, append_assoc, length-append, ◌⊎◌, ⊎_elim}
 use Rattle.std.specs.Str.{IsUtf8}
 use Rattle.std.proofs.lemmas.Bool.{cases_lt, eq-eqb, ne_eqb, eqb-true}
 use Rattle.std.proofs.lemmas.Bool.Decides.{nat_tests}
@@ -10,13 +9,14 @@ use Rattle.std.proofs.lemmas.Str.{lead_after_ascii}
 use Rattle.tree_cursor.specs.declared.traits.Bias.TheVariants.{Left, Right}
 use Rattle.text_dims.specs.declared.places.Place.{Place}
 use Rattle.text_dims.specs.declared.points.Point.{Point}
-use Rattle.text_dims.specs.Counts.{begins_char, is_newline, newline_count, rows, last_row}
+use Rattle.text_dims.specs.Counts.{begins_char, is_newline}
 use Rattle.text_dims.specs.Places.{end_place, places, place_after, walk, last_place, point_clip_back, point_clip_on}
-use Rattle.text_dims.proofs.Walks.{places-walk, end_place-append}
+use Rattle.text_dims.proofs.Walks.{places-walk, end_place-append, lead, walk_end}
+use Rattle.text_dims.proofs.PointClips.{begin, in_row, on_clip, row_step, back_clip, both, after_point, at_begin}
 use Rattle.rope_chunks.specs.declared.look.Stop.{Stop}
 use Rattle.rope_chunks.specs.Stops.{stop, stop_place}
 use Rattle.rope_chunks.specs.Targets.{passes_point, point_stays}
-use Rattle.rope_chunks.proofs.Stops.{after-later, Begins, Begins-utf8, lead, walk_end, walk_end-is}
+use Rattle.rope_chunks.proofs.Stops.{after-later, Begins, Begins-utf8, walk_end-is}
 use Rattle.rope_chunks.proofs.Clipping.{Upto, clip-walk, either}
 
 -- after each LF a character begins, or the text ends
@@ -72,10 +72,6 @@ reach p answer clip g d a (b ∷ bs) h l =
     skip p answer clip (walk_end (place_after a b) bs) d a (walk (place_after a b) bs) (begins_char b) l
     (λ x. turn p answer clip g x a b bs h l (is_newline b) refl (λ m. reach p answer clip g x (place_after a b) bs h.1 m))
 
-pub begin : ((end_place []).row ≡ 0) × ((end_place []).column ≡ 0)
-unfolding end_place newline_count last_row rows
-begin = (refl, refl)
-
 -- so they agree at any text
 pub agree : (p : Point) (answer : Stop → Place) (clip : Place → List Place → Place) → Agrees p answer clip → (bs : List ℕ) → IsUtf8 bs →
     answer (stop (λ k. passes_point p k Left) (end_place []) (places bs)) ≡ clip (end_place bs) (filter (λ k. k.row == p.row) (places bs))
@@ -87,18 +83,6 @@ agree p answer clip g bs u =
     rw (← end) (reach p answer clip g (end_place []) (end_place []) bs (rows_begin [] bs u) (omega (arith, begin.0, later))))
     (λ (first : p.row ≤ 0). g.row (end_place bs) (end_place []) (end_place []) bs (omega (arith, begin.0, first)) begin.1 (Begins-utf8 bs u))
     (cases_lt 0 p.row))
-
--- what is clipped on: the place where a look-up stops, if that is in the row
-abbrev pub in_row : ℕ → Option Place → Place → Place
-in_row r None before = before
-in_row r (Some k) before = if k.row == r then k else before
-
-abbrev on_clip : Point → Place → List Place → Place
-on_clip p e ks = unwrap_or (find (λ k. nat_le p.column k.column) ks) (last_place e ks)
-
-row_step : (r : ℕ) (a : Place) (us : List Place) (t : Bool) → r < a.row → filter (λ k. k.row == r) us ≡ [] → filter (λ k. k.row == r) (cond t (a ∷ us) us) ≡ []
-row_step r a us true l h = rw (ne_eqb a.row r (λ z. omega (arith, l, z))) h
-row_step r a us false l h = h
 
 no_more : (r : ℕ) (a : Place) (bs : List ℕ) → r < a.row → filter (λ k. k.row == r) (walk a bs) ≡ []
 no_more r a [] l = rw (ne_eqb a.row r (λ z. omega (arith, l, z))) refl
@@ -157,18 +141,6 @@ on_agrees p = record {
 pub point_on : (bs : List ℕ) (p : Point) (s : Stop) → IsUtf8 bs → s ≡ stop (λ k. passes_point p k Left) (end_place []) (places bs) → in_row p.row s.here s.before ≡ point_clip_on bs p
 point_on bs p s u e = rw e (agree p (λ x. in_row p.row x.here x.before) (on_clip p) (on_agrees p) bs u)
 
--- what is clipped back
-abbrev back_clip : Point → Place → List Place → Place
-back_clip p e ks = last_place e (filter (λ k. nat_le k.column p.column) ks)
-
-both_step : (f g : Place → Bool) (k : Place) (ks : List Place) (t : Bool) → g k ≡ t → filter f (filter g ks) ≡ filter (λ x. g x && f x) ks → filter f (filter g (k ∷ ks)) ≡ filter (λ x. g x && f x) (k ∷ ks)
-both_step f g k ks true e h = rw (e, h) refl
-both_step f g k ks false e h = rw e h
-
-both : (f g : Place → Bool) (ks : List Place) → filter f (filter g ks) ≡ filter (λ x. g x && f x) ks
-both f g [] = refl
-both f g (k ∷ ks) = both_step f g k ks (g k) refl (both f g ks)
-
 right_left : (p : Point) (k : Place) → passes_point p k Right ≡ true → passes_point p k Left ≡ true
 right_left p k h = grind (arith, nat_tests)
 
@@ -178,10 +150,6 @@ upto_is p k l = grind (arith, nat_tests)
 alone_by : (r c s d t e : ℕ) → (nat_lt r s || (r == s && nat_le c d)) ≡ true → (nat_lt r s || (r == s && nat_lt c d)) ≡ false → (t ≡ s + 1) ⊎ ((t ≡ s) × (e ≡ d + 1)) → (nat_lt r t || (r == t && nat_lt c e)) ≡ true
 alone_by r c s d t e h f o = grind (arith, nat_tests)
 
-after_point : (a : Place) (b : ℕ) (t : Bool) → is_newline b ≡ t → ((place_after a b).row ≡ a.row + 1) ⊎ (((place_after a b).row ≡ a.row) × ((place_after a b).column ≡ a.column + 1))
-after_point a b true e = inl (rw e refl)
-after_point a b false e = inr (rw e refl, rw e refl)
-
 point_upto : (p : Point) → Upto (λ k. passes_point p k Left) (λ k. passes_point p k Right) (λ k. k.row == p.row && nat_le k.column p.column) p.row
 point_upto p = record {
   stays = record { stays = λ a b e l. point_stays p a b Right e l };
@@ -189,9 +157,6 @@ point_upto p = record {
   is = λ k l. upto_is p k l;
   alone = λ k b h f. alone_by p.row p.column k.row k.column (place_after k b).row (place_after k b).column h f (after_point k b (is_newline b) refl);
 }
-
-at_begin : (p : Point) (a : Place) → a.row ≡ p.row → a.column ≡ 0 → (a.row == p.row && nat_le a.column p.column) ≡ true
-at_begin p a r c = grind (arith, nat_tests)
 
 back_agrees : (p : Point) → Agrees p (λ s. stop_place (λ k. passes_point p k Right) s) (back_clip p)
 back_agrees p = record {

@@ -9,11 +9,11 @@ use Rattle.text_dims.specs.Counts.{begins_char, is_newline, rows}
 use Rattle.text_dims.specs.Rows.{Begun, split_begun}
 use Rattle.text_dims.specs.Places.{end_place, places, place_after, walk, row_len_of}
 use Rattle.text_dims.proofs.Walks.{places-walk}
+use Rattle.text_dims.proofs.PointClips.{begin}
 use Rattle.rope_chunks.specs.declared.look.Stop.{Stop}
 use Rattle.rope_chunks.specs.Stops.{stop}
 use Rattle.rope_chunks.specs.Targets.{passes_row}
 use Rattle.rope_chunks.proofs.Stops.{after-later}
-use Rattle.rope_chunks.proofs.PointClips.{begin}
 
 -- the column of a place in this row
 abbrev pub told : ℕ → Place → Option ℕ

@@ -6,27 +6,16 @@ use Rattle.std.specs.Str.{IsCharBoundary}
 use Rattle.std.proofs.lemmas.List.{append-nil, take_more, take_all, take-append-le, drop-append-le, get_or-append-add, get_or_append_left}
 use Rattle.std.proofs.lemmas.Option.{slice_get_read, slice_get-get_or, get_or_from_slice_get}
 use Rattle.std.proofs.Math.Seq.{take-append-add, drop-append-add}
-use Rattle.sum_tree.specs.Laws.{fold}
 use Rattle.sum_tree.specs.Seen.{Seen}
 use Rattle.sum_tree.specs.Shape.{join_items}
-use Rattle.sum_tree.proofs.Children.{joined-take_more, joined-split}
-use Rattle.text_dims.specs.declared.summary.TextSummary.{TextSummary}
-use Rattle.text_dims.specs.Summaries.{summary_of, text_sum, no_text}
+use Rattle.sum_tree.proofs.Children.{joined-take_more, joined_around}
 use Rattle.std.proofs.lemmas.List.Elements.{All-drop}
 use Rattle.std.proofs.lemmas.Str.{IsCharBoundary-from_drop, IsUtf8-append, IsUtf8-drop}
 use Rattle.rope_chunks.specs.Chunks.{IsChunk}
 use Rattle.rope_chunks.specs.Spots.{IsSpot}
 use Rattle.std.proofs.lemmas.List.Folds.{concat-append}
-use Rattle.rope_chunks.proofs.Texts.{concat-push, concat-utf8, fold_is}
+use Rattle.rope_chunks.proofs.Texts.{concat-push, concat-utf8}
 use Rattle.rope_chunks.proofs.Grows.{get_drop, chunk_at}
-
--- what a summary says of the length
-pub sum_len : (c : List ℕ) (s : TextSummary) → s ≡ summary_of c → s.len ≡ length c
-unfolding summary_of
-sum_len c s e = ap (λ (t : TextSummary). t.len) e
-
-pub fold_len : (cs : List (List ℕ)) (s : TextSummary) → s ≡ fold no_text text_sum summary_of cs → s.len ≡ length (concat cs)
-fold_len cs s e = sum_len (concat cs) s (e ∙ fold_is cs)
 
 module _ {X : Type 0} where
   -- an element is read alike with every default
@@ -80,12 +69,6 @@ part_whole cs o some within = record {
 regroup : (a j t k b : List (List ℕ)) → a ++ ((j ++ (t ++ k)) ++ b) ≡ (a ++ j) ++ (t ++ (k ++ b))
 regroup a j t k b = rw (append_assoc j (t ++ k) b, append_assoc t k b, append_assoc a j (t ++ (k ++ b))) refl
 
-pub around_child : (ts : List (Seen (List ℕ))) (k : ℕ) (t : Seen (List ℕ)) → k < length ts → t ≡ get_or ts k t → join_items ts ≡ join_items (take k ts) ++ (t.items ++ join_items (drop (k + 1) ts))
-around_child ts k t within read =
-    sym (joined-split ts (k + 1))
-    ∙ ap (λ xs. xs ++ join_items (drop (k + 1) ts)) (joined-take_more ts k t within read)
-    ∙ append_assoc (join_items (take k ts)) t.items (join_items (drop (k + 1) ts))
-
 pub part_child : (cs ds : List (List ℕ)) (ts : List (Seen (List ℕ))) (b r o k m q : ℕ) (t : Seen (List ℕ)) → IsPart cs ds b r o → ds ≡ join_items ts → k < length ts → t ≡ get_or ts k t → m ≡ length (join_items (take k ts)) → length (concat (join_items (take k ts))) + q ≡ r → q ≤ length (concat t.items) → 1 ≤ length t.items → IsPart cs t.items (b + m) q o
 part_child cs ds ts b r o k m q t p e within read count before fits some =
     let j : List (List ℕ) = join_items (take k ts) in
@@ -93,7 +76,7 @@ part_child cs ds ts b r o k m q t p e within read count before fits some =
     record {
       front = p.front ++ j;
       back = rest ++ p.back;
-      all = p.all ∙ ap (λ xs. p.front ++ (xs ++ p.back)) (e ∙ around_child ts k t within read) ∙ regroup p.front j t.items rest p.back;
+      all = p.all ∙ ap (λ xs. p.front ++ (xs ++ p.back)) (e ∙ joined_around ts k t within read) ∙ regroup p.front j t.items rest p.back;
       count = omega (arith, length-append p.front j, p.count, count);
       offset = omega (arith, ap length (concat-append p.front j), length-append (concat p.front) (concat j), p.offset, before);
       within = fits;

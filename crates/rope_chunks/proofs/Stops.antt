@@ -4,7 +4,6 @@ use Rattle.std.proofs.Common.{◌≡◌, ℕ, suc, Bool, true, false, cond, Opti
 use Rattle.std.specs.List.{All, concat}
 use Rattle.std.specs.Str.{IsUtf8}
 use Rattle.std.proofs.lemmas.Bool.{and_right}
-use Rattle.std.proofs.lemmas.Bool.Decides.{nat_tests}
 use Rattle.std.proofs.lemmas.List.{append-nil}
 use Rattle.std.proofs.lemmas.List.Elements.{All-tail}
 use Rattle.std.proofs.lemmas.Str.{IsCharBoundary-start}
@@ -17,29 +16,22 @@ use Rattle.text_dims.specs.Bounds.{last_row-le, newline_count-le}
 use Rattle.text_dims.proofs.Characters.{utf16_count-le_twice}
 use Rattle.sum_tree.specs.Laws.{fold}
 use Rattle.text_dims.specs.Places.{end_place, places, place_sum, place_after, summary_end, walk}
-use Rattle.text_dims.proofs.Walks.{by_byte, end_place-append, summary_end-is, places-walk}
+use Rattle.text_dims.proofs.Walks.{by_byte, end_place-append, summary_end-is, places-walk, lead, walk_end, none_step}
 use Rattle.rope_chunks.specs.At.{IsLater, IsWithin, RowAndColumn, PlaceAndTextFit, move_place, place_sum_assoc, past_later, past_nothing}
 use Rattle.text_dims.specs.Monoid.{summary-nil}
+use Rattle.text_dims.proofs.Sums.{fold_is}
 use Rattle.rope_chunks.specs.Chunks.{IsChunk, AreChunks}
 use Rattle.rope_chunks.specs.Stops.{stop, pick_place, HasRoom}
-use Rattle.rope_chunks.proofs.Texts.{concat-utf8, fold_is}
+use Rattle.rope_chunks.proofs.Texts.{concat-utf8}
 
 -- the text is empty, or begins with a character
 abbrev pub Begins : List ℕ → Type 0
 Begins [] = Unit {0}
 Begins (b ∷ bs) = begins_char b ≡ true
 
-pub lead : (b : ℕ) → (128 ≤ b → 192 ≤ b) → begins_char b ≡ true
-lead b h = grind (arith, nat_tests)
-
 pub Begins-utf8 : (bs : List ℕ) → IsUtf8 bs → Begins bs
 Begins-utf8 [] u = tt
 Begins-utf8 (b ∷ bs) u = lead b ((IsCharBoundary-start (b ∷ bs) u).1 (omega arith))
-
--- where a walk along a text ends
-unfoldable pub walk_end : Place → List ℕ → Place
-walk_end a [] = a
-walk_end a (b ∷ bs) = walk_end (place_after a b) bs
 
 pub after-later : (a : Place) (b : ℕ) → IsLater a (place_after a b)
 after-later a b = subst (λ k. IsLater a k) (by_byte a b (is_newline b) refl) (past_later a (end_place (b ∷ [])))
@@ -218,10 +210,6 @@ pub record Sought (pl pr eq : Place → Bool) : Type 0 where
 
 off : (pl pr eq : Place → Bool) → Sought pl pr eq → (k : Place) → pr k ≡ true → eq k ≡ false
 off pl pr eq s k t = s.is k ∙ rw t (and_right (pl k) false refl)
-
-none_step : (eq : Place → Bool) (a : Place) (us : List Place) (t : Bool) → eq a ≡ false → find eq us ≡ None → find eq (cond t (a ∷ us) us) ≡ None
-none_step eq a us true f h = rw f h
-none_step eq a us false f h = h
 
 none_past : (pl pr eq : Place → Bool) → Sought pl pr eq → (a : Place) (bs : List ℕ) → pr a ≡ true → find eq (walk a bs) ≡ None
 none_past pl pr eq s a [] t = rw (off pl pr eq s a t) refl

@@ -4,7 +4,7 @@ use Rattle.std.proofs.lemmas.List.{append-nil, drop-drop, drop-append-le}
 use Rattle.std.proofs.Math.Seq.{drop-append-add, drop-append_seam}
 use Rattle.sum_tree.specs.Seen.{Seen}
 use Rattle.sum_tree.specs.Shape.{join_items}
-use Rattle.rope_chunks.proofs.Spots.{around_child}
+use Rattle.sum_tree.proofs.Children.{joined_around}
 
 -- what is left of the chunks ds from r on comes first of what is left of cs from i on
 pub record IsTail (cs ds : List (List ℕ)) (r i : ℕ) : Type 0 where
@@ -20,7 +20,7 @@ tail_child cs ds ts r i k q t p e within read before fits =
     let a : List (List ℕ) = join_items (take k ts) in
     let b : List (List ℕ) = join_items (drop (k + 1) ts) in
     let cut : drop r (join_items ts) ≡ drop q t.items ++ b =
-    ap (λ xs. drop r xs) (around_child ts k t within read)
+    ap (λ xs. drop r xs) (joined_around ts k t within read)
     ∙ ap (λ n. drop n (a ++ (t.items ++ b))) (sym before)
     ∙ drop-append-add a (t.items ++ b) q
     ∙ drop-append-le q t.items b (omega (arith, fits)) in

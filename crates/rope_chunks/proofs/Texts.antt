@@ -1,5 +1,5 @@
 -- A rope's chunks and its text.
-use Rattle.std.proofs.Common.{◌≡◌, ℕ, ◌<◌, ◌≤◌, List, [], ◌∷◌, ◌++◌, length, ap, sym, subst, ◌∙◌, arith, append_assoc, ⊎_elim}
+use Rattle.std.proofs.Common.{◌≡◌, ℕ, ◌<◌, ◌≤◌, List, [], ◌∷◌, ◌++◌, length, ap, sym, subst, ◌∙◌, arith, ⊎_elim}
 use Rattle.std.specs.List.{All, concat}
 use Rattle.std.specs.Str.{IsUtf8, IsCharBoundary}
 use Rattle.std.specs.Char.{len_utf8}
@@ -9,24 +9,11 @@ use Rattle.std.proofs.lemmas.Str.{IsUtf8-nil, IsUtf8-append, IsCharBoundary-past
 use Rattle.std.proofs.lemmas.List.{append-nil}
 use Rattle.std.proofs.lemmas.List.Elements.{All-head, All-tail}
 use Rattle.std.proofs.lemmas.List.Folds.{concat-append}
-use Rattle.sum_tree.specs.Laws.{fold}
-use Rattle.text_dims.specs.Summaries.{summary_of, text_sum, no_text}
-use Rattle.text_dims.specs.Concat.{summary-append}
-use Rattle.text_dims.specs.Monoid.{summary-nil}
 use Rattle.rope_chunks.specs.Chunks.{IsChunk}
 
 pub concat-utf8 : (cs : List (List ℕ)) → All IsChunk cs → IsUtf8 (concat cs)
 concat-utf8 [] a = IsUtf8-nil
 concat-utf8 (c ∷ cs) a = IsUtf8-append c (concat cs) (All-head IsChunk c cs a).text (concat-utf8 cs (All-tail IsChunk c cs a))
-
-pub fold_from : (bs : List ℕ) (cs : List (List ℕ)) → fold (summary_of bs) text_sum summary_of cs ≡ summary_of (bs ++ concat cs)
-fold_from bs [] = ap summary_of (sym (append-nil bs))
-fold_from bs (c ∷ cs) =
-    ap (λ s. fold s text_sum summary_of cs) (sym (summary-append bs c)) ∙ fold_from (bs ++ c) cs ∙ ap summary_of (append_assoc bs c (concat cs))
-
--- the sum of the chunks' summaries is that of the text
-pub fold_is : (cs : List (List ℕ)) → fold no_text text_sum summary_of cs ≡ summary_of (concat cs)
-fold_is cs = ap (λ s. fold s text_sum summary_of cs) (sym summary-nil) ∙ fold_from [] cs
 
 -- a text that is not empty may be cut within its first four bytes
 cut_near : (cs bs : List ℕ) → encodes cs ≡ bs → IsUtf8 bs → 0 < length bs → (n : ℕ) × (0 < n) × (n ≤ 4) × IsCharBoundary bs n

@@ -1,5 +1,5 @@
 -- Pieces without a fault stand in order on boundaries, and how long the text is that they make.
-use Rattle.std.proofs.Common.{◌≡◌, ℕ, suc, ◌+◌, ◌-◌, ◌<◌, ◌≤◌, List, [], ◌∷◌, ◌++◌, length, drop, ◌∙◌, arith, false, ◌&&◌, ◌||◌, None, option_map, nat_lt, length-append, length-drop}
+use Rattle.std.proofs.Common.{◌≡◌, ℕ, suc, ◌+◌, ◌-◌, ◌≤◌, List, [], ◌∷◌, ◌++◌, length, drop, arith, false, ◌&&◌, None, option_map, nat_lt, length-append, length-drop}
 use Rattle.std.proofs.lemmas.Bool.{and_parts, ltb-false, not-false}
 use Rattle.std.proofs.lemmas.List.{length-take-le}
 use Rattle.std.specs.List.{AllByRecursion, position, slice_range}

@@ -1,6 +1,5 @@
 -- Ranges of a text that are replaced from the last to the first.
-use Rattle.std.proofs.Common.{◌≡◌, ℕ, zero, suc, ◌+◌, ◌-◌, ◌<◌, ◌≤◌, ◌^◌, List, [], ◌∷◌, ◌++◌, length, take, drop, get_or, sym, ◌∙◌, ap, subst, arith, None, append_assoc, ◌↔◌}
-use Rattle.std.proofs.lemmas.Bool.{false≢true}
+use Rattle.std.proofs.Common.{◌≡◌, ℕ, zero, suc, ◌+◌, ◌-◌, ◌<◌, ◌≤◌, ◌^◌, List, [], ◌∷◌, ◌++◌, length, take, drop, get_or, sym, ◌∙◌, ap, subst, arith, None, append_assoc}
 use Rattle.std.proofs.lemmas.List.{length-take-le, take-take, take-append-le, take-append-drop, drop_at, drop_more}
 use Rattle.std.proofs.lemmas.Str.{IsCharBoundary-start, IsCharBoundary-at_seam, IsUtf8-append, IsUtf8-between, IsUtf8-drop}
 use Rattle.std.specs.List.{slice_range}
@@ -10,6 +9,7 @@ use Rattle.op_model.specs.declared.operation.Piece.{Piece}
 use Rattle.op_model.specs.Operations.{text_total}
 use Rattle.op_model.specs.Edits.{piece_fault, replace_ranges, replaced_from}
 use Rattle.op_model.specs.Domains.{AreUtf8}
+use Rattle.op_model.proofs.texts.Pieces.{total_drop}
 use Rattle.rope_edits.specs.Fit.{AreFit}
 use Rattle.rope_edits.proofs.Fit.{fits_of_none, length_replaced}
 
@@ -25,11 +25,6 @@ pub fit_drop : (i at : ℕ) (ps : List Piece) (text : List ℕ) → IsUtf8 text 
 fit_drop zero at ps text u h = fit_front at ps text u h
 fit_drop (suc i) at [] text u h = IsCharBoundary-start text u
 fit_drop (suc i) at (p ∷ ps) text u h = fit_drop i p.end ps text u h.4
-
-pub total_drop : (i : ℕ) (ps : List Piece) → text_total (drop i ps) ≤ text_total ps
-total_drop zero ps = omega arith
-total_drop (suc i) [] = omega arith
-total_drop (suc i) (p ∷ ps) = omega (arith, total_drop i ps)
 
 -- what comes from a place on is UTF-8
 pub utf8_rest : (at : ℕ) (ps : List Piece) (text : List ℕ) → IsUtf8 text → AreFit at ps text → AreUtf8 ps → IsUtf8 (replaced_from at ps text)

@@ -5,14 +5,11 @@ use Rattle.std.proofs.lemmas.List.{append-nil, take-append-drop, take_all, take_
 use Rattle.std.proofs.lemmas.Str.{IsUtf8-drop, IsCharBoundary-from_take, IsCharBoundary-at_seam}
 use Rattle.std.specs.List.{slice_range}
 use Rattle.std.specs.Str.{IsCharBoundary, IsUtf8}
-use Rattle.op_model.specs.declared.operation.Piece.{Piece}
-use Rattle.op_model.specs.Operations.{text_total}
-use Rattle.op_model.specs.Shown.{texts}
 use Rattle.remote_edit.specs.declared.moves.Move.{Move}
 use Rattle.remote_edit.specs.declared.moves.Move.TheVariants.{Visible, Hidden, Hide, Show, Insert}
-use Rattle.remote_edit.specs.Moves.{Texts, with_fronts, after_moves}
+use Rattle.remote_edit.specs.Moves.{Texts, after_moves}
 use Rattle.rope_edits.specs.Sides.{SideState, SidesState, sides_len, after_move, outcome, MayTake}
-use Rattle.remote_edit.proofs.Joining.{twice}
+use Rattle.remote_edit.proofs.Stepping.{to_shown, to_hidden}
 
 -- ---- one rope
 
@@ -73,14 +70,6 @@ parts_without rope next made n end u h s e =
     parts_at next (take made rope) (drop n (drop made rope)) made (e ∙ ap (λ z. z ++ drop end rope) (append-nil (take made rope)) ∙ ap (λ z. take made rope ++ z) s.back)
     (sym (length-take-le made rope h.0)) (subst IsUtf8 s.back (IsUtf8-drop rope end u s.boundary))
 
--- ---- moves
-
-to_shown : (a b c : List ℕ) (r : Texts) → with_fronts a b (with_fronts c [] r) ≡ with_fronts (a ++ c) b r
-to_shown a b c r = twice a b c [] r ∙ ap (λ z. with_fronts (a ++ c) z r) (append-nil b)
-
-to_hidden : (a b d : List ℕ) (r : Texts) → with_fronts a b (with_fronts [] d r) ≡ with_fronts a (b ++ d) r
-to_hidden a b d r = twice a b [] d r ∙ ap (λ z. with_fronts z (b ++ d) r) (append-nil a)
-
 pub outcome_step : (m : Move) (ms : List Move) (s : SidesState) → outcome s (m ∷ ms) ≡ outcome (after_move m s) ms
 outcome_step (Visible k) ms s = to_shown s.shown.made s.hidden.made (take k s.shown.left) (after_moves ms (drop k s.shown.left) s.hidden.left s.fresh)
 outcome_step (Hidden k) ms s = to_hidden s.shown.made s.hidden.made (take k s.hidden.left) (after_moves ms s.shown.left (drop k s.hidden.left) s.fresh)
@@ -131,9 +120,3 @@ turn_on ms i d s t all l e o h r =
       takes = subst (λ (z : SidesState). MayTake z rest) (sym e) (takes_rest m rest s (subst (MayTake s) split h));
       room = omega (arith, ap sides_len e, same_len m s, r);
     }
-
--- ---- the new texts of pieces
-
-pub total_is : (ps : List Piece) → text_total ps ≡ length (texts ps)
-total_is [] = refl
-total_is (p ∷ ps) = omega (arith, total_is ps, length-append p.text (texts ps))

@@ -19,15 +19,16 @@ use Rattle.fragments.specs.declared.fragment.Fragment.{Fragment}
 use Rattle.fragments.specs.Summaries.{no_fragments, summaries, summary_of, SummaryFits}
 use Rattle.fragments.specs.Stand.{Tell}
 use Rattle.fragments.specs.Laws.{shown_len}
+use Rattle.fragments.proofs.Cells.{shown_append_len, seen_full}
 use Rattle.remote_edit.specs.Walk.{seen_bytes}
 use Rattle.remote_edit.specs.Passed.{SeenPlace, move_seen}
 use Rattle.remote_edit.specs.Carried.{shown_bytes, hidden_bytes, hidden_len}
 use Rattle.remote_edit.proofs.Passing.{seen_cons, seen_append, seen_own, seen_within}
-use Rattle.remote_edit.proofs.PassedPlaces.{seek_seen, seen_behind, shown_append_len, hidden_append_len, whole_sum, all_cells}
+use Rattle.remote_edit.proofs.PassedPlaces.{seek_seen, seen_behind, hidden_append_len, whole_sum, all_cells}
 use Rattle.remote_edit.proofs.Texts.{text_bytes, hidden_text_bytes}
 use Rattle.remote_edit.proofs.Carrying.{shown_long, hidden_long}
 use Rattle.seen_text.proofs.Found.{sought, Found, found, Ended, ended}
-use Rattle.seen_text.proofs.Bytes.{seen_full, seen_in, seen_long, seen_at, shown_at, hidden_at}
+use Rattle.seen_text.proofs.Bytes.{seen_in, seen_long, seen_at, shown_at, hidden_at}
 
 abbrev pub start : Entries → SeenPlace
 start v = (((v, 0), 0), 0)

@@ -1,38 +1,17 @@
 -- The bytes of the cells that a version sees, and where each lies in the shown or the hidden text.
-use Rattle.std.proofs.Common.{◌≡◌, ℕ, zero, suc, ◌+◌, ◌<◌, ◌↔◌, List, [], ◌∷◌, ◌++◌, length, map, get_or, refl, sym, ap, ◌∙◌, arith, cond, true, false, not, ◌||◌, Bool, append_assoc}
-use Rattle.std.specs.List.{filter}
-use Rattle.std.proofs.lemmas.Bool.{false≢true}
+use Rattle.std.proofs.Common.{◌≡◌, ℕ, zero, suc, ◌+◌, ◌<◌, List, [], ◌∷◌, ◌++◌, length, get_or, refl, sym, ap, ◌∙◌, arith, cond, true, false, not, Bool, append_assoc}
 use Rattle.std.proofs.lemmas.List.{length-append}
 use Rattle.lamport_clock.specs.declared.stamp.Lamport.{Lamport}
 use Rattle.lamport_clock.specs.Versions.{Entries, sees}
-use Rattle.op_model.specs.Histories.{History, newest_first, seen_history}
-use Rattle.op_model.specs.Cells.{Cell, PathCell, cells, seq, seq_where, everything}
-use Rattle.op_model.specs.Shown.{full, full_where}
-use Rattle.op_model.specs.Facts.{Fact, cell_facts}
-use Rattle.op_model.specs.Lawful.{Lawful, IsClosed}
-use Rattle.op_model.proofs.order.Restricted.{restrict}
-use Rattle.op_model.proofs.shown.Bytes.{full_seen}
-use Rattle.op_model.proofs.histories.ClosedVersions.{closed_part}
-use Rattle.op_model.proofs.texts.Utf8Runs.{bytes, kept_bytes, facts_kept, get_right}
-use Rattle.op_model.proofs.texts.WholeTexts.{byte_of, kept_told}
+use Rattle.op_model.specs.Cells.{Cell}
+use Rattle.op_model.proofs.texts.Utf8Runs.{kept_bytes, get_right}
 use Rattle.fragments.specs.declared.fragment.Fragment.{Fragment}
-use Rattle.fragments.specs.Stand.{runs, Tell}
+use Rattle.fragments.specs.Stand.{runs}
 use Rattle.fragments.specs.Laws.{shown_len}
 use Rattle.remote_edit.specs.Walk.{seen_bytes}
 use Rattle.remote_edit.specs.Carried.{cell_bytes, shown_bytes, hidden_bytes, hidden_len}
 use Rattle.remote_edit.proofs.WholeFragments.{alike_bytes}
 use Rattle.remote_edit.proofs.Carrying.{bytes_of, long, shown_first, hidden_first, shown_append, hidden_append, shown_long, hidden_long}
-
--- ---- what a closed version sees of a history
-
-pub seen_told : (h : History) (v : Entries) → Lawful h → IsClosed h v → full (seen_history h v) ≡ bytes (byte_of h) (filter (λ (q : Fact). sees v q.cell.stamp) (cell_facts h))
-unfolding seq full_where
-seen_told h v l c = full_seen h v
-    ∙ ap (λ (s : List PathCell). map (byte_of h) (cells s)) (sym (restrict (sees v) (newest_first h) (closed_part h l v c)))
-    ∙ sym (kept_told h (sees v) (seq_where everything (newest_first h)))
-
-pub seen_full : (h : History) (v : Entries) (fs : List Fragment) → Tell fs h → Lawful h → IsClosed h v → kept_bytes (byte_of h) (sees v) (runs fs) ≡ full (seen_history h v)
-seen_full h v fs t l c = sym (facts_kept (byte_of h) (sees v) (runs fs)) ∙ ap (λ (s : List Fact). bytes (byte_of h) (filter (λ (q : Fact). sees v q.cell.stamp) s)) t ∙ sym (seen_told h v l c)
 
 -- ---- the bytes of fragments
 

@@ -1,19 +1,15 @@
 -- A character begins with a cell where one begins with it among the bytes of its edit.
-use Rattle.std.proofs.Common.{◌≡◌, ℕ, ◌<◌, List, [], ◌∷◌, length, map, get_or, refl, ap, ◌∙◌, arith}
+use Rattle.std.proofs.Common.{◌≡◌, ℕ, List, length, map, get_or, ap, ◌∙◌, arith}
 use Rattle.op_model.proofs.Elements.{member_at}
-use Rattle.op_model.specs.Histories.{History}
 use Rattle.op_model.specs.Cells.{seq, cells}
-use Rattle.op_model.specs.Shown.{full, full_where, new_bytes}
+use Rattle.op_model.specs.Shown.{full, new_bytes}
 use Rattle.op_model.proofs.answers.Good.{lawful_ready}
 use Rattle.op_model.proofs.order.CellsOnce.{all_cells}
 use Rattle.op_model.proofs.texts.WholeTexts.{byte_of, same_byte}
 use Rattle.op_model.proofs.texts.WholeRuns.{byte_new}
 use Rattle.seen_text.specs.Laws.{CellsBeginAsInTheirEdits}
 use Rattle.op_model.proofs.anchors.KnownAnchors.{got_map}
-
-full_cells : (h : History) → full h ≡ map (byte_of h) (cells (seq h))
-unfolding full full_where seq
-full_cells h = refl
+use Rattle.op_model.proofs.texts.Hidden.{full_cells}
 
 pub cells_begin : CellsBeginAsInTheirEdits
 cells_begin h i c l e =

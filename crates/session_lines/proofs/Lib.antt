@@ -7,3 +7,5 @@ pub mod LineNames
 pub mod Versions
 pub mod Rows
 pub mod Quoted
+pub mod Queries
+pub mod Reports

@@ -1,6 +1,6 @@
 -- Lines of the kinds that are made: what is written for one reads as it, behind the operation lines that it names.
 use Rattle.std.proofs.Common.{◌≡◌, ℕ, zero, suc, ◌+◌, ◌-◌, ◌<◌, ◌≤◌, ◌^◌, ◌==◌, Bool, true, false, cond, List, [], ◌∷◌, ◌++◌, map, length, get_or, replicate, Some, None, Ok, refl, sym, ap, ap₂, ◌∙◌, subst, arith, append_assoc, append-nil}
-use Rattle.std.specs.Prelude.{codes, nat_le, not}
+use Rattle.std.specs.Prelude.{codes, not}
 use Rattle.std.specs.List.{AllByRecursion, flat_map, range_with_len}
 use Rattle.std.proofs.lemmas.Bool.{and_from, eq-eqb, le-leb}
 use Rattle.std.proofs.lemmas.List.Folds.{list_any_at}
@@ -16,6 +16,7 @@ use Rattle.session_lines.specs.Session.{form_or_word, is_known, is_named, is_num
 use Rattle.session_lines.specs.declared.fault.Word.TheVariants as word
 use Rattle.session_lines.specs.declared.session.SessionLine.{SessionLine}
 use Rattle.session_lines.specs.declared.session.SessionLine.TheVariants.{Undo, Give}
+use Rattle.session_lines.proofs.Queries.{numbered_one}
 use Rattle.session_maker.specs.Made.{gives_to, ids_to}
 use Rattle.session_maker.specs.Turns.{edit_line}
 use Rattle.session_maker.specs.Written.{line_value}
@@ -76,9 +77,6 @@ form_of_undo r m h = ap (λ (b : Bool). undo_with (cond b (Some r) None) (Some (
 form_of_give : (r m : ℕ) → r ≤ 65535 → line_of_value (line_value (Give r m)) ≡ Some (Give r m)
 unfolding line_of_value
 form_of_give r m h = ap (λ (b : Bool). give_with (cond b (Some r) None) (Some m)) (le-leb r 65535 h)
-
-numbered_one : (count m : ℕ) → 1 ≤ m → m ≤ count → is_number_of count m ≡ true
-numbered_one count m low high = and_from (nat_le 1 m) (nat_le m count) (le-leb 1 m low) (le-leb m count high)
 
 module _ (ids : List ℕ) (count r : ℕ) (small : r ≤ 65535) (known : is_among ids r ≡ true) where
   pub edit_read : (s e : ℕ) (t : List ℕ) → s < 2 ^ 64 → e < 2 ^ 64 → is_plain (quoted t) ≡ true → IsRead ids count (edit_line r s e t)

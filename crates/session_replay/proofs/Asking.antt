@@ -1,10 +1,9 @@
 -- What an editor asks of the workers beside it, line by line.
-use Rattle.std.proofs.Common.{◌≡◌, ℕ, zero, suc, ◌+◌, ◌<◌, ◌≤◌, ◌==◌, Bool, true, false, cond, not, List, [], ◌∷◌, ◌++◌, length, get_or, slice_index_or, slice_set, nat_lt, Option, None, Some, Result, Ok, Err, OnOk, refl, sym, ap, ap₂, ◌∙◌, subst, arith, append_assoc, append-nil}
+use Rattle.std.proofs.Common.{◌≡◌, ℕ, zero, suc, ◌+◌, ◌<◌, ◌≤◌, ◌==◌, Bool, true, cond, not, List, [], ◌∷◌, ◌++◌, length, get_or, slice_index_or, slice_set, nat_lt, Option, None, Some, Result, Ok, Err, OnOk, refl, sym, ap, ap₂, ◌∙◌, subst, arith, append_assoc, append-nil}
 use Rattle.std.specs.List.{AllZip, position}
 use Rattle.std.proofs.lemmas.Bool.{ltb-true}
 use Rattle.std.proofs.lemmas.Option.{cond_some}
 use Rattle.std.proofs.lemmas.List.{length-append, length-map, map-append}
-use Rattle.std.proofs.lemmas.List.Sums.{sum_by-cons}
 use Rattle.std.proofs.lemmas.Slice.Zip.{AllZip-long}
 use Rattle.op_model.specs.declared.operation.Operation.{Operation}
 use Rattle.text_buffer.specs.Buffer.{BufferState}
@@ -13,6 +12,7 @@ use Rattle.text_buffer.proofs.Fronts.{front_itself, front_trans}
 use Rattle.session_lines.specs.Session.{is_query, query_count}
 use Rattle.session_lines.specs.declared.session.SessionLine.{SessionLine}
 use Rattle.session_lines.specs.declared.session.SessionLine.TheVariants as line
+use Rattle.session_lines.proofs.Queries.{none_asked, count_cons}
 use Rattle.query_workers.specs.Asks.{Ask}
 use Rattle.query_dispatch.specs.Dealt.{HasAsked, pairs_in}
 use Rattle.query_dispatch.specs.Published.{AreLevel, columns, published_lists, published_of, rows_of}
@@ -100,9 +100,6 @@ one_of : (q r : ℕ) (ask : Question) (o : Option BufferState) → length (query
 one_of q r ask None = let le : 0 ≤ 1 = omega arith in le
 one_of q r ask (Some b) = let le : 1 ≤ 1 = omega arith in le
 
-none_asked : 0 ≤ 0
-none_asked = omega arith
-
 pub few_at : (q : ℕ) (l : SessionLine) (s : State) → length (query_at q l s) ≤ cond (is_query l) 1 0
 few_at q (line.Edit r ps) s = none_asked
 few_at q (line.Undo r ms) s = none_asked
@@ -133,18 +130,6 @@ is_asked (line.Since r n) a e = absurd (cc e)
 is_asked (line.Find r t) a e = refl
 is_asked (line.Point r o) a e = refl
 is_asked (line.Offset r k c) a e = refl
-
-count_cons : (l : SessionLine) (ls : List SessionLine) → query_count (l ∷ ls) ≡ cond (is_query l) 1 0 + query_count ls
-count_cons l ls = sum_by-cons (λ (k : SessionLine). cond (is_query k) 1 0) l ls
-
-one_at_most : (b : Bool) → cond b 1 0 ≤ 1
-one_at_most true = let le : 1 ≤ 1 = omega arith in le
-one_at_most false = let le : 0 ≤ 1 = omega arith in le
-
--- no more queries than lines
-pub counts_within : (ls : List SessionLine) → query_count ls ≤ length ls
-counts_within [] = none_asked
-counts_within (l ∷ ls) = omega (arith, count_cons l ls, one_at_most (is_query l), counts_within ls)
 
 pub asks_count : (l : SessionLine) (a : ℕ × Question) → Some a ≡ question_of l → query_count (l ∷ []) ≡ 1
 asks_count l a e = count_cons l [] ∙ ap (λ (b : Bool). cond b 1 0 + query_count []) (is_asked l a e)

@@ -1,32 +1,15 @@
 -- Where a text ends, by its summary.
-use Rattle.std.proofs.Common.{◌≡◌, ℕ, ◌+◌, ◌^◌, ◌≤◌, List, length, refl, sym, ◌∙◌, ap, arith}
+use Rattle.std.proofs.Common.{◌≡◌, ℕ, ◌^◌, ◌≤◌, List, length, ◌∙◌, ap, arith}
 use Rattle.op_model.specs.Shown.{text}
 use Rattle.text_dims.specs.declared.summary.TextSummary.{TextSummary}
 use Rattle.text_dims.specs.declared.points.Point.{Point}
 use Rattle.text_dims.specs.Counts.{rows}
-use Rattle.text_dims.specs.Rows.{length-rows}
-use Rattle.text_dims.specs.Bounds.{newline_count-le}
 use Rattle.text_dims.specs.Summaries.{summary_of, end_point}
+use Rattle.text_dims.proofs.Ends.{end_is, bytes_are, last_row_within}
 use Rattle.session_lines.specs.declared.report.TextHead.TheVariants as head
 use Rattle.session_lines.specs.declared.report.Report.TheVariants as report
 use Rattle.text_buffer.specs.Buffer.{BufferState, IsBuffer}
 use Rattle.session_replay.specs.Work.{applied_count, counts_report, text_report}
-
-end_is : (bs : List ℕ) → (summary_of bs).lines ≡ end_point bs
-unfolding summary_of
-end_is bs = refl
-
-pub bytes_are : (bs : List ℕ) → (summary_of bs).len ≡ length bs
-unfolding summary_of
-bytes_are bs = refl
-
-pub rows_are : (bs : List ℕ) → (summary_of bs).lines.row + 1 ≡ length (rows bs)
-unfolding summary_of end_point
-rows_are bs = sym (length-rows bs)
-
-last_row_within : (bs : List ℕ) → (summary_of bs).lines.row ≤ length bs
-unfolding summary_of end_point
-last_row_within bs = newline_count-le bs
 
 -- ---- of a buffer's text
 

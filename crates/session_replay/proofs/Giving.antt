@@ -7,8 +7,8 @@ use Rattle.session_lines.specs.Report.{line_text, report_text}
 use Rattle.session_lines.specs.declared.report.GiveAnswer.{GiveAnswer}
 use Rattle.session_lines.specs.declared.report.Report.{Report}
 use Rattle.session_lines.specs.declared.report.Report.TheVariants as report
+use Rattle.session_lines.proofs.Reports.{line_reported, nothing_written}
 use Rattle.session_replay.specs.Work.{give_answer, reports_at}
-use Rattle.session_replay.proofs.Steps.{line_reported, nothing_written}
 
 -- where nothing is answered the replica is not there, and nothing is written
 pub unanswered : (g : BufferState → List Report) (f : BufferState → GiveAnswer) (o : Option BufferState) (out : List ℕ) → None ≡ option_map f o → out ≡ out ++ report_text (reports_at g o)

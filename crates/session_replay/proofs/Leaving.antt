@@ -1,17 +1,15 @@
 -- What an editor leaves once it has put the end marks.
-use Rattle.std.proofs.Common.{◌≡◌, ℕ, ◌+◌, List, [], ◌∷◌, ◌++◌, length, map, IfOk, Result, Ok, Err, refl, sym, ap, ap₂, ◌∙◌, subst, arith}
+use Rattle.std.proofs.Common.{◌≡◌, ℕ, List, length, map, IfOk, Result, Ok, Err, sym, ap, ◌∙◌, subst, arith}
 use Rattle.std.specs.List.{All, AllZip}
 use Rattle.std.proofs.lemmas.List.{length-map}
-use Rattle.std.proofs.lemmas.List.FromFn.{map-range_with_len_more}
-use Rattle.logbook.specs.Pages.{Book}
 use Rattle.op_model.specs.declared.operation.Operation.{Operation}
-use Rattle.snapshot_pub.specs.States.{PublisherState}
 use Rattle.query_workers.specs.Asks.{Ask}
 use Rattle.query_workers.specs.States.{DeskState, DoneState, InboxState}
 use Rattle.query_dispatch.specs.Dealt.{AllAt, AreEnds, IsClosed, pairs_in, queues_of, told_lists, told_pairs}
 use Rattle.query_dispatch.specs.Final.{HaveWorked, IsPast, IsReady, Lasts}
-use Rattle.query_dispatch.specs.Published.{column, columns, published_lists, published_of, rows_of}
+use Rattle.query_dispatch.specs.Published.{columns, published_lists, rows_of}
 use Rattle.query_dispatch.specs.States.{DispatcherState, PublishersState}
+use Rattle.query_dispatch.proofs.Places.{sizes_of}
 use Rattle.text_buffer.specs.Buffer.{BufferState}
 use Rattle.text_buffer.specs.Document.{IsFront}
 use Rattle.session_lines.specs.declared.report.QueryAnswer.{QueryAnswer}
@@ -25,23 +23,11 @@ pub both : {X Y : Type 0} (r : Result X Y) (P Q R : X → Type 0) → ((x : X) �
 both (Ok x) P Q R f p q = f x p q
 both (Err y) P Q R f p q = tt
 
--- ---- what each worker is told
-
--- one worker more
-pub pairs_more : (ts : List (List Book)) (w : ℕ) (rows : List (List Book)) (t : List Book) → ts ≡ columns w rows → t ≡ column w rows → ts ++ t ∷ [] ≡ columns (w + 1) rows
-pairs_more ts w rows t e f =
-    ap₂ (λ (us : List (List Book)) (u : List Book). us ++ u ∷ []) e f
-    ∙ sym (map-range_with_len_more (λ (v : ℕ). column v rows) 0 w w (omega arith))
-
 -- ---- the same queues
 
 pub same_length : (xs ys : List (InboxState Question)) → queues_of xs ≡ queues_of ys → length xs ≡ length ys
 same_length xs ys e =
     sym (length-map xs (λ (i : InboxState Question). i.queue)) ∙ (ap (λ l. length l) e ∙ length-map ys (λ (i : InboxState Question). i.queue))
-
-sizes_of : (ps : List PublisherState) → map (λ (p : PublisherState). length (published_of p)) ps ≡ map (λ (h : List Operation). length h) (map published_of ps)
-sizes_of [] = refl
-sizes_of (p ∷ ps) = ap (λ (ns : List ℕ). length (published_of p) ∷ ns) (sizes_of ps)
 
 module _ (bs : List BufferState) (asks : List (Ask Question)) (d : DispatcherState Question) (p : PublishersState) (a : IsAsking bs asks d p) (e : Edited)
     (queues : queues_of e.gathering.inboxes.items ≡ queues_of d.inboxes) (pairs : pairs_in e.gathering.inboxes.items ≡ pairs_in d.inboxes)

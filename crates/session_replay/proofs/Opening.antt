@@ -1,5 +1,5 @@
 -- A session at its opening, and what an editor over it has once all is gathered.
-use Rattle.std.proofs.Common.{◌≡◌, ℕ, ◌≤◌, nat_le, ◌&&◌, List, [], ◌∷◌, ◌++◌, length, map, sym, ap, ◌∙◌, subst, arith}
+use Rattle.std.proofs.Common.{◌≡◌, ℕ, ◌≤◌, nat_le, List, [], ◌++◌, length, map, sym, ap, ◌∙◌, subst, arith}
 use Rattle.std.specs.List.{All, AllZip, flat_map}
 use Rattle.std.proofs.lemmas.List.{length-map}
 use Rattle.std.proofs.lemmas.Bool.{and_parts}
@@ -14,6 +14,7 @@ use Rattle.session_lines.specs.Session.{IsSession, query_count}
 use Rattle.session_lines.specs.declared.report.QueryAnswer.{QueryAnswer}
 use Rattle.session_lines.specs.declared.session.Session.{Session}
 use Rattle.session_lines.specs.declared.session.SessionLine.{SessionLine}
+use Rattle.session_lines.proofs.Reports.{three_parts}
 use Rattle.query_workers.specs.declared.query.Answer.{Answer}
 use Rattle.query_dispatch.specs.Dealt.{HasAsked}
 use Rattle.query_dispatch.specs.Final.{AreGathered, IsPast}
@@ -32,7 +33,7 @@ use Rattle.session_replay.specs.declared.queries.Question.{Question}
 use Rattle.session_replay.specs.declared.replay.Progress.{Progress}
 use Rattle.session_replay.proofs.Growth.{AllGrow, lines_grow}
 use Rattle.session_replay.proofs.Replies.{placed}
-use Rattle.session_replay.proofs.Steps.{same_names, same_state, three_parts}
+use Rattle.session_replay.proofs.Steps.{same_names, same_state}
 use Rattle.session_replay.proofs.Gathered.{gathered, gathered_lines, past, replies_to}
 
 -- ---- at the opening

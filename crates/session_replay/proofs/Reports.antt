@@ -1,7 +1,6 @@
 -- What one replica reports of settling, and at the end.
-use Rattle.std.proofs.Common.{◌≡◌, ℕ, ◌+◌, ◌==◌, cond, if◌then◌else◌, ◌<◌, ◌≤◌, List, [], ◌∷◌, ◌++◌, length, drop, get_or, map, refl, sym, ap, ◌∙◌, append_assoc, append-nil}
+use Rattle.std.proofs.Common.{◌≡◌, ℕ, ◌+◌, ◌<◌, ◌≤◌, List, [], ◌∷◌, ◌++◌, length, drop, get_or, map, refl, sym, ap, ◌∙◌}
 use Rattle.std.proofs.lemmas.List.{drop_all, drop_more}
-use Rattle.std.proofs.lemmas.Bool.{ne_eqb}
 use Rattle.lamport_clock.specs.declared.stamp.Lamport.{Lamport}
 use Rattle.op_model.specs.Shown.{text}
 use Rattle.op_model.specs.declared.faults.OpFault.{OpFault}
@@ -12,25 +11,8 @@ use Rattle.session_lines.specs.Report.{line_text, report_text}
 use Rattle.session_lines.specs.declared.report.TextHead.TheVariants as head
 use Rattle.session_lines.specs.declared.report.Report.{Report}
 use Rattle.session_lines.specs.declared.report.Report.TheVariants as report
+use Rattle.session_lines.proofs.Reports.{all_written, line_reported, written, more_reported, parts_reported, some_of, none_of}
 use Rattle.session_replay.specs.Work.{at_end, counts_report, refused_report, settled_reports}
-use Rattle.session_replay.proofs.Steps.{all_written, line_reported, text-append, text-none, written}
-
--- a line, and what follows it
-pub more_reported : (r : Report) (rs : List Report) (out mid new : List ℕ) → mid ≡ out ++ line_text r → new ≡ mid ++ report_text rs → new ≡ out ++ report_text (r ∷ rs)
-unfolding report_text
-more_reported r rs out mid new m n = n ∙ ap (λ t. t ++ report_text rs) m ∙ append_assoc out (line_text r) (report_text rs)
-
--- ---- settling
-
-abbrev settled_of : ℕ → ℕ → List Report
-settled_of r c = if c == 0 then [] else report.Settled r c ∷ []
-
-some_of : (r c : ℕ) (out new : List ℕ) → (c ≡ 0 → ⊥) → new ≡ out ++ line_text (report.Settled r c) → new ≡ out ++ report_text (settled_of r c)
-some_of r c out new h e =
-    line_reported (report.Settled r c) (report.Settled r c) out new refl e ∙ ap (λ t. out ++ report_text (cond t [] (report.Settled r c ∷ []))) (sym (ne_eqb c 0 h))
-
-none_of : (r c : ℕ) (out : List ℕ) → c ≡ 0 → out ≡ out ++ report_text (settled_of r c)
-none_of r c out e = sym (append-nil out) ∙ ap (λ t. out ++ t) (sym text-none) ∙ ap (λ c. out ++ report_text (settled_of r c)) (sym e)
 
 module _ (b after : BufferState) (c : ℕ) (is : after ≡ after_settle b) (count : c ≡ number_applied b after) where
   same_count : c ≡ number_applied b (after_settle b)
@@ -57,9 +39,6 @@ more_refused r es i d out new all lt e n =
 
 pub refused_done : (r : ℕ) (es : List Entry) (i : ℕ) (out all : List ℕ) → length es ≤ i → out ++ report_text (refusals r (drop i es)) ≡ all → out ≡ all
 refused_done r es i out all le e = all_written out all (ap (λ l. out ++ report_text (refusals r l)) (sym (drop_all i es le)) ∙ e)
-
-parts_reported : (rs qs : List Report) (out mid new : List ℕ) → mid ≡ out ++ report_text rs → new ≡ mid ++ report_text qs → new ≡ out ++ report_text (rs ++ qs)
-parts_reported rs qs out mid new m n = n ∙ ap (λ t. t ++ report_text qs) m ∙ append_assoc out (report_text rs) (report_text qs) ∙ ap (λ t. out ++ t) (sym (text-append rs qs))
 
 pub end_reported : (b : BufferState) (r : ℕ) (fs : List (Lamport × OpFault)) (t out one two new : List ℕ) → b.replica ≡ r → fs ≡ b.refused → t ≡ text b.history
     → one ≡ out ++ line_text (counts_report b) → two ≡ one ++ report_text (map (refused_report r) fs) → new ≡ two ++ line_text (report.Text (head.FinalText r) t) → new ≡ out ++ report_text (at_end b)

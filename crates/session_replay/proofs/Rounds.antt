@@ -1,17 +1,12 @@
 -- A session that is worked as it is made.
-use Rattle.std.proofs.Common.{◌≡◌, ℕ, zero, suc, ◌+◌, ◌-◌, ◌<◌, ◌≤◌, ◌==◌, ◌%◌, List, [], ◌∷◌, ◌++◌, length, drop, get_or, refl, sym, ap, ap₂, ◌∙◌, subst, arith, append_assoc, append-nil}
-use Rattle.std.specs.Prelude.{◌&&◌}
-use Rattle.std.specs.List.{All, flat_map, range_with_len}
+use Rattle.std.proofs.Common.{◌≡◌, ℕ, zero, suc, ◌+◌, ◌-◌, ◌<◌, ◌≤◌, List, [], ◌∷◌, ◌++◌, length, drop, get_or, refl, sym, ap, ap₂, ◌∙◌, subst, arith, append_assoc, append-nil}
+use Rattle.std.specs.List.{flat_map, range_with_len}
 use Rattle.std.proofs.lemmas.List.{drop_all, drop_more}
-use Rattle.std.proofs.lemmas.List.FromFn.{length-range_with_len}
-use Rattle.std.proofs.lemmas.List.Elements.{All-cons, All-nil}
 use Rattle.session_lines.specs.declared.session.SessionLine.{SessionLine}
 use Rattle.session_lines.specs.declared.session.SessionLine.TheVariants.{Give}
 use Rattle.session_maker.specs.Draws.{next}
 use Rattle.session_maker.specs.Made.{gives_behind, gives_of, gives_to, ids_to, made_lines, round_of, rounds_from, turn_at}
 use Rattle.session_maker.specs.Turns.{author_of, turn_of}
-use Rattle.op_model.specs.Operations.{last_replica}
-use Rattle.op_model.specs.Domains.{IsReplica}
 use Rattle.op_model.proofs.Elements.{range_more}
 use Rattle.text_buffer.specs.Buffer.{BufferState}
 use Rattle.session_lines.specs.Report.{line_text}
@@ -139,8 +134,6 @@ module _ (a : Making) (n edits : ℕ) where
       let none : edits - done ≡ zero = omega arith in
       subst (λ (z : List SessionLine). Leaves a b all_rounds z) (ap (λ z. rounds_from after_all length_at n z (1 + done) b.draws (work_state b)) none) f
 
--- ---- what is given behind a turn
-
 -- ---- the summary
 
 pub more_counts : (bs : List BufferState) (i : ℕ) (d : BufferState) (out new all : List ℕ) → i < length bs → out ++ count_lines (drop i bs) ≡ all → new ≡ out ++ line_text (counts_report (get_or bs i d))
@@ -180,16 +173,3 @@ number_more n xs ys e f =
     let swap : n + 1 ≡ 1 + n = omega arith in
     let one : suc n ≡ n + 1 = omega arith in
     f ∙ ap₂ (λ z x. z ++ x ∷ []) e swap ∙ sym (range_more 1 n) ∙ ap (range_with_len 1) one
-
-pub ids_counted : (ids : List ℕ) (n : ℕ) → ids ≡ ids_to n → length ids ≡ n
-ids_counted ids n e = ap length e ∙ length-range_with_len 1 n
-
-pub ids_again : (ids : List ℕ) (n : ℕ) → ids ≡ ids_to n → ids ≡ ids_to (length ids)
-ids_again ids n e = e ∙ ap ids_to (sym (ids_counted ids n e))
-
-ids_from : (k n : ℕ) → 1 ≤ k → k + n ≤ 1024 → All IsReplica (range_with_len k n)
-ids_from k zero h le = All-nil IsReplica
-ids_from k (suc n) h le = All-cons IsReplica k (range_with_len (k + 1) n) (h, omega arith) (ids_from (k + 1) n (omega arith) (omega arith))
-
-pub ids_are_editors : (ids : List ℕ) (n : ℕ) → ids ≡ ids_to n → n ≤ last_replica → All IsReplica ids
-ids_are_editors ids n e le = subst (All IsReplica) (sym e) (ids_from 1 n (omega arith) (omega arith))

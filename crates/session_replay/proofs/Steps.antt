@@ -1,46 +1,19 @@
 -- Lines worked one after another.
-use Rattle.std.proofs.Common.{◌≡◌, ℕ, ◌+◌, ◌<◌, ◌≤◌, List, [], ◌∷◌, ◌++◌, length, drop, get_or, map, Option, None, Some, refl, sym, ap, ◌∙◌, append_assoc, append-nil}
+use Rattle.std.proofs.Common.{◌≡◌, ℕ, ◌+◌, ◌<◌, ◌≤◌, List, [], ◌∷◌, ◌++◌, length, drop, get_or, map, Option, None, Some, sym, ap, ◌∙◌}
 use Rattle.std.specs.List.{flat_map}
 use Rattle.std.proofs.lemmas.List.{drop_all, drop_more}
-use Rattle.std.proofs.lemmas.Grind.{flat_map-append}
 use Rattle.lamport_clock.specs.Versions.{Entries}
 use Rattle.op_model.specs.declared.anchor.Anchor.{Anchor}
 use Rattle.op_model.specs.declared.operation.Operation.{Operation}
 use Rattle.text_buffer.specs.Buffer.{BufferState}
-use Rattle.session_lines.specs.Report.{line_text, report_text}
+use Rattle.session_lines.specs.Report.{report_text}
 use Rattle.session_lines.specs.declared.report.Report.{Report}
 use Rattle.session_lines.specs.declared.session.SessionLine.{SessionLine}
 use Rattle.session_lines.specs.declared.session.Session.{Session}
+use Rattle.session_lines.proofs.Reports.{written, all_written, three_parts, nothing_written}
 use Rattle.session_replay.specs.Names.{Names}
 use Rattle.session_replay.specs.Work.{State, reports_at, events, step, all_events, after_all, at_end, opening}
 use Rattle.session_replay.specs.Queries.{plain_line, queries_from, queries_of, report_of}
-
--- ---- texts of reports
-
-pub text-append : (rs qs : List Report) → report_text (rs ++ qs) ≡ report_text rs ++ report_text qs
-unfolding report_text
-text-append rs qs = flat_map-append line_text rs qs
-
-pub text-one : (r : Report) → report_text (r ∷ []) ≡ line_text r
-unfolding report_text
-text-one r = append-nil (line_text r)
-
-pub text-none : report_text [] ≡ []
-unfolding report_text
-text-none = refl
-
--- no line is written
-pub nothing_written : (out : List ℕ) → out ≡ out ++ report_text []
-nothing_written out = sym (append-nil out) ∙ ap (λ t. out ++ t) (sym text-none)
-
--- what is still to be written, with one more part of it written
-pub written : (rs qs : List Report) (out new all : List ℕ) → out ++ report_text (rs ++ qs) ≡ all → new ≡ out ++ report_text rs → new ++ report_text qs ≡ all
-written rs qs out new all e n =
-    ap (λ t. t ++ report_text qs) n ∙ append_assoc out (report_text rs) (report_text qs) ∙ ap (λ t. out ++ t) (sym (text-append rs qs)) ∙ e
-
--- nothing is left to be written
-pub all_written : (out all : List ℕ) → out ++ report_text [] ≡ all → out ≡ all
-all_written out all e = sym (append-nil out) ∙ ap (λ t. out ++ t) (sym text-none) ∙ e
 
 -- ---- one line
 
@@ -57,10 +30,6 @@ same_names s ns ls ms ks d e =
     let by_anchors : Names Anchor → State = λ ns. record s { anchors = ns; marks = ms } in
     let by_marks : Names Entries → State = λ ms. record s { anchors = ls; marks = ms } in
     ap by_anchors d ∙ ap by_marks e
-
--- a line of a report is written
-pub line_reported : (r q : Report) (out new : List ℕ) → r ≡ q → new ≡ out ++ line_text r → new ≡ out ++ report_text (q ∷ [])
-line_reported r q out new e n = n ∙ ap (λ r. out ++ line_text r) e ∙ ap (λ t. out ++ t) (sym (text-one q))
 
 -- it is there, a buffer or what a replica has applied, and what is reported of it is written
 pub one_reported : {A : Type 0} (g : A → List Report) (o : Option A) (x : A) (out new : List ℕ) → Some x ≡ o → new ≡ out ++ report_text (g x) → new ≡ out ++ report_text (reports_at g o)
@@ -94,24 +63,6 @@ more_ends bs i d out new all lt e n = written (at_end (get_or bs i d)) (flat_map
 
 pub ends_done : (bs : List BufferState) (i : ℕ) (out all : List ℕ) → length bs ≤ i → out ++ report_text (flat_map at_end (drop i bs)) ≡ all → out ≡ all
 ends_done bs i out all le e = all_written out all (ap (λ l. out ++ report_text (flat_map at_end l)) (sym (drop_all i bs le)) ∙ e)
-
--- ---- lines that are written one after another
-
-pub more_lines : (rs : List Report) (i : ℕ) (d : Report) (out new all : List ℕ) → i < length rs → out ++ report_text (drop i rs) ≡ all → new ≡ out ++ line_text (get_or rs i d) → new ++ report_text (drop (i + 1) rs) ≡ all
-more_lines rs i d out new all lt e n =
-    let l : Report = get_or rs i d in
-    written (l ∷ []) (drop (i + 1) rs) out new all (ap (λ l. out ++ report_text l) (sym (drop_more rs i d lt)) ∙ e) (line_reported l l out new refl n)
-
-pub all_lines : (rs : List Report) (i : ℕ) (out all : List ℕ) → length rs ≤ i → out ++ report_text (drop i rs) ≡ all → out ≡ all
-all_lines rs i out all le e = all_written out all (ap (λ l. out ++ report_text l) (sym (drop_all i rs le)) ∙ e)
-
--- ---- the whole report
-
--- what is written of events, of queries and at the end
-pub three_parts : (es qs rs : List Report) (mid out new : List ℕ) → mid ≡ report_text es → out ≡ mid ++ report_text qs → new ≡ out ++ report_text rs → new ≡ report_text (es ++ (qs ++ rs))
-three_parts es qs rs mid out new m o n =
-    n ∙ ap (λ x. x ++ report_text rs) (o ∙ ap (λ x. x ++ report_text qs) m) ∙ append_assoc (report_text es) (report_text qs) (report_text rs)
-    ∙ ap (λ x. report_text es ++ x) (sym (text-append qs rs)) ∙ sym (text-append es (qs ++ rs))
 
 module _ (s : Session) (ls : List SessionLine) (first : State) (l : ls ≡ s.lines) (begins : first ≡ opening s) where
   all_answers : (old new : List Report) → old ≡ [] → new ≡ old ++ map plain_line (queries_from (length old + 1) ls first) → new ≡ map plain_line (queries_of s)

@@ -284,7 +284,7 @@ impl Progress {
     }
 
     /// Works a line that its caller keeps: an operation or a name in it is copied.
-    #[tactic(auto, using(crate::proofs::Steps::nothing_written))]
+    #[tactic(auto, using(session_lines::proofs::Reports::nothing_written))]
     pub fn work_copy(&mut self, alloc: Global, line: &SessionLine) -> Result<(), OutOfMemory>
         ensures report { OnOk result (self.new.report.items
             ≡ self.old.report.items ++ report_text (events line.now (state_of self.old))) }

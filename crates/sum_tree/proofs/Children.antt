@@ -1,5 +1,5 @@
 -- What children have together.
-use Rattle.std.proofs.Common.{◌≡◌, ℕ, suc, ◌+◌, ◌*◌, ◌^◌, ◌<◌, ◌≤◌, List, [], ◌∷◌, ◌++◌, length, get_or, take, drop, sym, ap, subst, refl, ◌∙◌, take-append-drop, arith, length-append, add-one}
+use Rattle.std.proofs.Common.{◌≡◌, ℕ, suc, ◌+◌, ◌*◌, ◌^◌, ◌<◌, ◌≤◌, List, [], ◌∷◌, ◌++◌, length, get_or, take, drop, sym, ap, subst, refl, ◌∙◌, take-append-drop, arith, length-append, add-one, append_assoc}
 use Rattle.std.proofs.Math.Nat.{pow-succ', pow-le-pow_right, mul-le-mul_right, suc-mul, one-le-pow}
 use Rattle.std.proofs.lemmas.List.{take_more, append-nil}
 use Rattle.std.proofs.lemmas.List.Concat.{flat_map-append}
@@ -32,6 +32,13 @@ module _ {T : Type 0} where
 
   pub joined-split : (ts : List (Seen T)) (i : ℕ) → join_items (take i ts) ++ join_items (drop i ts) ≡ join_items ts
   joined-split ts i = sym (joined-append (take i ts) (drop i ts)) ∙ ap join_items (take-append-drop i ts)
+
+  -- the items of one child stand behind those of the children before it
+  pub joined_around : (ts : List (Seen T)) (k : ℕ) (t : Seen T) → k < length ts → t ≡ get_or ts k t → join_items ts ≡ join_items (take k ts) ++ (t.items ++ join_items (drop (k + 1) ts))
+  joined_around ts k t within read =
+      sym (joined-split ts (k + 1))
+      ∙ ap (λ xs. xs ++ join_items (drop (k + 1) ts)) (joined-take_more ts k t within read)
+      ∙ append_assoc (join_items (take k ts)) t.items (join_items (drop (k + 1) ts))
 
   -- each child of a node of height h has 6 ^ h items at least
   pub many_joined : (h : ℕ) (ts : List (Seen T)) → All (IsChild h) ts → length ts * 6 ^ h ≤ length (join_items ts)

@@ -1,5 +1,5 @@
 -- What a push in place keeps of a node.
-use Rattle.std.proofs.Common.{◌≡◌, ℕ, ◌+◌, ◌-◌, ◌^◌, ◌<◌, ◌≤◌, List, [], ◌∷◌, ◌++◌, length, get_or, set, take, Vec, Global, Option, Some, None, sym, ap, subst, ◌∙◌, append_assoc, arith, length-append}
+use Rattle.std.proofs.Common.{◌≡◌, ℕ, ◌+◌, ◌-◌, ◌^◌, ◌≤◌, List, [], ◌∷◌, ◌++◌, length, get_or, set, take, Vec, Global, Option, Some, None, sym, ap, subst, ◌∙◌, append_assoc, arith, length-append}
 use Rattle.std.proofs.lemmas.List.{take_all, take_more_set, length-set, set-get_or}
 use Rattle.std.specs.List.{All}
 use Rattle.sum_tree.specs.Laws.{SummaryLaws, fold}

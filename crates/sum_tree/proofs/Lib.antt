@@ -23,3 +23,4 @@ mod Cuts
 mod Ends
 mod Ranges
 mod Besides
+pub mod Counts

@@ -1,8 +1,9 @@
 -- A run of a list in the place of another.
-use Rattle.std.proofs.Common.{◌≡◌, ℕ, suc, ◌+◌, ◌-◌, ◌≤◌, List, [], ◌∷◌, ◌++◌, length, take, drop, refl, sym, ap, ◌∙◌, append_assoc, arith, length-append}
-use Rattle.std.specs.List.{remove}
+use Rattle.std.proofs.Common.{◌≡◌, ℕ, suc, ◌+◌, ◌-◌, ◌≤◌, List, [], ◌∷◌, ◌++◌, length, take, drop, refl, sym, ap, ◌∙◌, append_assoc, arith, length-append, zero, subst, Some}
+use Rattle.std.specs.List.{remove, slice_get}
 use Rattle.std.proofs.lemmas.List.{append-nil, length-take-le, length-drop, take-take}
 use Rattle.std.proofs.Math.Seq.{take-append-add, take-append_seam, drop-append_seam}
+use Rattle.std.proofs.lemmas.Option.{same_Some}
 use Rattle.sum_tree.specs.Spliced.{splice_list}
 
 module _ {X : Type 0} where
@@ -34,3 +35,16 @@ module _ {X : Type 0} where
 
   pub spliced_short : (i j : ℕ) (ys xs : List X) → i ≤ j → j ≤ length xs → length (splice_list i j ys xs) ≤ length xs + length ys
   spliced_short i j ys xs l m = omega (arith, length-append (take i xs ++ ys) (drop j xs), length-append (take i xs) ys, length-take-le i xs (omega (arith, l, m)), length-drop j xs, l, m)
+
+  -- one item in the place of one keeps the length
+  pub spliced_long : (i : ℕ) (xs : List X) (y : X) → i + 1 ≤ length xs → length (splice_list i (i + 1) (y ∷ []) xs) ≡ length xs
+  spliced_long i xs y l = spliced_length i 1 (y ∷ []) xs l ∙ omega (arith, l)
+
+  self_next : (i : ℕ) (xs : List X) (x : X) → slice_get xs i ≡ Some x → splice_list i (suc i) (x ∷ []) xs ≡ xs
+  self_next i [] x h = cc
+  self_next zero (y ∷ xs) x h = ap (λ z. z ∷ xs) (sym (same_Some y x h))
+  self_next (suc i) (y ∷ xs) x h = ap (λ ys. y ∷ ys) (self_next i xs x h)
+
+  -- an item in its own place changes nothing
+  pub spliced_self : (i : ℕ) (xs : List X) (x y : X) → slice_get xs i ≡ Some x → y ≡ x → xs ≡ splice_list i (i + 1) (y ∷ []) xs
+  spliced_self i xs x y h e = let q : suc i ≡ i + 1 = omega arith in sym (subst (λ j. splice_list i j (y ∷ []) xs ≡ xs) q (ap (λ z. splice_list i (suc i) (z ∷ []) xs) e ∙ self_next i xs x h))

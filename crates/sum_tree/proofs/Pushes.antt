@@ -1,13 +1,12 @@
 -- What a push in place leaves of a node.
-use Rattle.std.proofs.Common.{refl, ◌≡◌, ℕ, ◌+◌, ◌^◌, ◌<◌, List, [], ◌∷◌, ◌++◌, length, Option, None, Some, Vec, Global, ap, sym, subst, ◌∙◌, arith, length-append}
+use Rattle.std.proofs.Common.{refl, ◌≡◌, ℕ, ◌+◌, ◌^◌, ◌<◌, List, [], ◌∷◌, ◌++◌, length, Option, None, Some, ap, sym, subst, ◌∙◌, arith, length-append}
 use Rattle.std.specs.Prelude.{Result, Ok, Err}
 use Rattle.sum_tree.specs.Laws.{SummaryLaws, fold}
 use Rattle.sum_tree.specs.Seen.{Seen}
 use Rattle.sum_tree.specs.Shape.{join_items, content_items, IsContent, IsNode}
 use Rattle.sum_tree.specs.Here.{IsPushedOr, IsPushed, IsPushedBeside}
-use Rattle.sum_tree.specs.Placed.{AreChildren, content_seen, inner_seen, leaf_seen}
+use Rattle.sum_tree.specs.Placed.{AreChildren, content_seen, inner_seen}
 use Rattle.sum_tree.specs.declared.tree.Content.{Content}
-use Rattle.sum_tree.specs.declared.tree.Content.TheVariants.{Leaf}
 use Rattle.sum_tree.proofs.Folds.{fold_admitted}
 use Rattle.sum_tree.proofs.Heres.{next_sum}
 

@@ -1,21 +1,15 @@
 -- Snapshots of the same operations answer alike, anchors stay, and the edits since a version make the text.
-use Rattle.std.proofs.Common.{◌≡◌, ℕ, refl, sym, subst}
-use Rattle.op_model.specs.declared.anchor.Bias.{Bias}
-use Rattle.op_model.specs.declared.anchor.Bias.TheVariants.{Left, Right}
+use Rattle.std.proofs.Common.{refl, sym, subst}
 use Rattle.std.specs.declared.cmp.Ordering.TheVariants.{Less}
 use Rattle.op_model.specs.Histories.{History, SameSet}
 use Rattle.op_model.specs.Lawful.{Lawful}
 use Rattle.op_model.proofs.MainLaws.{same_sets_answer_alike, same_sets_refuse_alike, anchors_keep_their_order, edits_since_tell_the_change}
-use Rattle.anchors.specs.Making.{made_anchor}
+use Rattle.op_model.proofs.answers.Local.{is_closed}
 use Rattle.anchors.proofs.Orders.{anchors_stay_in_order}
+use Rattle.anchors.proofs.Made.{made_same}
 use Rattle.edits_since.proofs.Apart.{since_apart}
 use Rattle.text_buffer.specs.Document.{IsFront}
 use Rattle.text_buffer.specs.SnapshotLaws.{AnswerAlike, AnchorsStay, EditsMakeTheText}
-use Rattle.text_buffer.proofs.Standing.{is_closed}
-
-made_same : (h g : History) → Lawful h → Lawful g → SameSet h g → (o : ℕ) → (b : Bias) → made_anchor h o b ≡ made_anchor g o b
-made_same h g l m s o Left = ((same_sets_answer_alike h g l m s).0 o).0
-made_same h g l m s o Right = ((same_sets_answer_alike h g l m s).0 o).1
 
 pub alike : (h g : History) → Lawful h → Lawful g → SameSet h g → AnswerAlike h g
 alike h g l m s =

@@ -1,12 +1,10 @@
 -- A document and a buffer after an operation is applied.
 use Rattle.op_model.proofs.Elements.{each_append}
 use Rattle.std.proofs.Common.{◌≡◌, ℕ, ◌+◌, ◌^◌, ◌≤◌, List, [], ◌∷◌, ◌++◌, length, sym, ap, subst, ◌∙◌, arith, false, None}
-use Rattle.std.proofs.lemmas.List.{append-nil}
 use Rattle.std.specs.Arc.{arc_value}
-use Rattle.std.specs.List.{AllByRecursion, list_any}
+use Rattle.std.specs.List.{AllByRecursion}
 use Rattle.lamport_clock.specs.declared.stamp.Lamport.{Lamport}
 use Rattle.lamport_clock.specs.Clocks.{clock_after}
-use Rattle.lamport_clock.specs.Stamps.{same_stamp}
 use Rattle.lamport_clock.specs.Versions.{raise}
 use Rattle.op_model.specs.declared.operation.Operation.{Operation}
 use Rattle.op_model.specs.declared.operation.Operation.TheVariants.{Undo}
@@ -15,19 +13,20 @@ use Rattle.op_model.specs.declared.faults.OpFault.TheVariants.{Full}
 use Rattle.op_model.specs.Sorted.{Ascending, insert_by}
 use Rattle.op_model.specs.Domains.{IsProper}
 use Rattle.op_model.specs.Operations.{stamp_of, bytes_of, entries_of}
-use Rattle.op_model.specs.Histories.{History, version, clock, bytes_held, entries_held, operation_at}
+use Rattle.op_model.specs.Histories.{History, version, clock, bytes_held, entries_held}
 use Rattle.op_model.specs.Limited.{Excess, excess}
-use Rattle.op_model.specs.Answers.{answer, shape_fault, any_stamp}
+use Rattle.op_model.specs.Answers.{answer, any_stamp}
 use Rattle.op_model.specs.Answers.Answer.{Good}
 use Rattle.op_model.specs.Lawful.{Lawful}
 use Rattle.op_model.specs.Settled.{full_fault}
 use Rattle.op_model.specs.Steps.{older}
-use Rattle.op_model.proofs.histories.Append.{version-append, clock-append, bytes_held-append, entries_held-append}
-use Rattle.op_model.proofs.answers.Passed.{passed, shaped, map_none, none_map, none_find, any_none}
-use Rattle.op_model.proofs.answers.Good.{stamp_parts}
+use Rattle.op_model.proofs.histories.Append.{version-append, clock-append, bytes_held-append}
+use Rattle.op_model.proofs.answers.Passed.{map_none, none_map}
 use Rattle.op_model.proofs.histories.MoreLawful.{lawful_more}
 use Rattle.op_model.proofs.histories.Proper.{utf8}
 use Rattle.op_model.proofs.texts.Lengths.{text_length}
+use Rattle.op_model.proofs.histories.Growing.{room_in, entries_more}
+use Rattle.op_model.proofs.settling.Waiting.{insert_ascends, unlike_waiting}
 use Rattle.undo_map.specs.declared.entry.UndoEntry.{UndoEntry}
 use Rattle.undo_map.specs.Undos.{undo_entries}
 use Rattle.undo_map.proofs.Entries.{entries_within}
@@ -35,11 +34,6 @@ use Rattle.text_buffer.specs.Buffer.{BufferState, IsBuffer}
 use Rattle.text_buffer.specs.Document.{IsContent, IsBufferHistory, HasRoom}
 use Rattle.text_buffer.specs.DocumentInside.{IsDocumentInside}
 use Rattle.text_buffer.specs.declared.document.Document.TheInside.{Inside}
-use Rattle.text_buffer.proofs.Fit.{room_in}
-use Rattle.text_buffer.proofs.Waiting.{ascends, unlike_waiting}
-
-pub shape_of : (h w : History) (op : Operation) → answer h w op ≡ Good → shape_fault op ≡ None
-shape_of h w op g = (passed h w op g).shape
 
 -- an operation that passes no limit leaves what is held within them
 pub room_of : (b : BufferState) (op : Operation) → full_fault b.limits b.history op ≡ None → (bytes_held b.history + bytes_of op ≤ b.limits.bytes) × (entries_held b.history + entries_of op ≤ b.limits.entries)
@@ -50,24 +44,12 @@ pub within_limits : (b : BufferState) (op : Operation) (n m : ℕ) → bytes_of 
 within_limits b op n m x y e = none_map (λ (e : Excess). Full e.unit e.held e.adds) (excess b.limits b.history (bytes_of op) (entries_of op))
     (ap (λ z. excess b.limits b.history z (entries_of op)) x ∙ ap (λ z. excess b.limits b.history n z) y ∙ e)
 
-entries_more : (h : History) (op : Operation) → answer h [] op ≡ Good → entries_held (h ++ op ∷ []) ≡ entries_held h + entries_of op
-entries_more h op g =
-    let e = entries_held-append h op in
-    let n = (stamp_parts op (shaped op (shape_of h [] op g)).stamp).2 in
-    rw n at e
-
 -- there is room for the counts of an undo
 pub counts_fit : (h : History) (u : UndoOp) (w : List UndoEntry) → IsBufferHistory h → w ≡ undo_entries h → HasRoom h (Undo u) → length w + length u.counts ≤ 2 ^ 40
 counts_fit h u w k e r =
     let held = entries_within h k.lawful in
     let same : length w ≡ length (undo_entries h) = ap length e in
     omega (arith, held, same, r.entries)
-
--- its stamp is new
-pub fresh_of : (h : History) (op : Operation) → answer h [] op ≡ Good → operation_at h (stamp_of op) ≡ None
-fresh_of h op g =
-    let same : Operation → Rattle.std.specs.Prelude.Bool = λ o. same_stamp (stamp_of o) (stamp_of op) in
-    none_find same h (any_none same h (ap (λ (z : History). list_any same z) (sym (append-nil h)) ∙ (passed h [] op g).fresh))
 
 -- an operation that passes no limit finds room
 pub room_for : (b : BufferState) (op : Operation) → IsBuffer b → full_fault b.limits b.history op ≡ None → HasRoom b.history op
@@ -129,7 +111,7 @@ IsBuffer-put b op h k n g f e =
 pub IsBuffer-deferred : (b : BufferState) (op : Operation) (w : List Operation) → IsBuffer b → any_stamp (b.history ++ b.waiting) op ≡ false → w ≡ insert_by older op b.waiting → IsBuffer (record b { waiting = w })
 IsBuffer-deferred b op w k f e = record {
   history = k.history;
-  waiting_ascending = subst (Ascending older) (sym e) (ascends op b.waiting (unlike_waiting b.history b.waiting op f) k.waiting_ascending);
+  waiting_ascending = subst (Ascending older) (sym e) (insert_ascends op b.waiting (unlike_waiting b.history b.waiting op f) k.waiting_ascending);
   least_replica = k.least_replica;
   greatest_replica = k.greatest_replica;
   most_bytes = k.most_bytes;

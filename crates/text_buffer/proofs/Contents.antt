@@ -5,7 +5,6 @@ use Rattle.std.specs.Str.{IsUtf8}
 use Rattle.std.proofs.lemmas.List.{nil_from_length}
 use Rattle.lamport_clock.specs.declared.stamp.Lamport.{Lamport}
 use Rattle.lamport_clock.specs.Versions.{Entries}
-use Rattle.locators.specs.Locator.{IsLess, EndsAboveZero, least_digits, greatest_digits}
 use Rattle.op_model.specs.declared.operation.Operation.{Operation}
 use Rattle.op_model.specs.declared.operation.Operation.TheVariants.{Undo}
 use Rattle.op_model.specs.declared.operation.UndoCount.{UndoCount}
@@ -25,10 +24,9 @@ use Rattle.op_model.proofs.texts.Lengths.{both_bytes, full_bytes, text_base}
 use Rattle.undo_map.specs.declared.entry.UndoEntry.{UndoEntry}
 use Rattle.undo_map.specs.Undos.{undo_entries}
 use Rattle.fragments.specs.declared.fragment.Fragment.{Fragment}
-use Rattle.fragments.specs.declared.index_entry.IndexEntry.{IndexEntry}
 use Rattle.fragments.specs.Laws.{whole_base}
-use Rattle.fragments.specs.Stand.{Stand, entry_of, runs}
-use Rattle.fragments.proofs.Founds.{base_stands}
+use Rattle.fragments.specs.Stand.{Stand, runs}
+use Rattle.fragments.proofs.Bases.{stand_is}
 use Rattle.remote_edit.specs.declared.placed.Placed.{Placed}
 use Rattle.remote_edit.specs.Carried.{AreMovesOf}
 use Rattle.remote_edit.specs.Fragments.{fragments_of}
@@ -41,13 +39,9 @@ use Rattle.text_buffer.specs.declared.document.Document.TheInside.{Inside}
 use Rattle.text_buffer.specs.Buffer.{BufferState}
 use Rattle.text_buffer.specs.DocumentInside.{IsDocumentInside}
 use Rattle.text_buffer.specs.Document.{IsContent, IsBufferHistory, IsMoved, HasRoom, MayEdit, MayGrow}
-use Rattle.text_buffer.proofs.Edited.{made_entries, made_total}
-use Rattle.text_buffer.proofs.Fit.{room_in, no_excess}
-use Rattle.op_model.proofs.texts.Replacing.{texts_full}
-
-stand_is : (fs gs : List Fragment) (w v : List IndexEntry) (u s : List UndoEntry) (h : History) → fs ≡ gs → w ≡ v → u ≡ s → Stand gs v s h → Stand fs w u h
-stand_is fs gs w v u s h a b c k =
-    subst (λ (x : List Fragment). Stand x w u h) (sym a) (subst (λ (x : List IndexEntry). Stand gs x u h) (sym b) (subst (λ (x : List UndoEntry). Stand gs v x h) (sym c) k))
+use Rattle.text_buffer.proofs.Fit.{no_excess}
+use Rattle.op_model.proofs.answers.Local.{made_edit_entries, made_edit_total}
+use Rattle.op_model.proofs.histories.Growing.{room_in}
 
 -- a content with the parts of another one is that of the same histories
 pub content_shared : (c d : Content) (h : History) → d.fragments.items ≡ c.fragments.items → d.index ≡ c.index → d.undos ≡ c.undos → d.text ≡ c.text → d.hidden ≡ c.hidden → IsContent c h → IsContent d h
@@ -58,17 +52,6 @@ content_shared c d h a b u e f k = record {
   shown = e ∙ k.shown;
   hidden = f ∙ k.hidden;
 }
-
--- ---- a base
-
-pub empty_base : (fs : List Fragment) (w : List IndexEntry) (t : List ℕ) → length t ≡ 0 → fs ≡ [] → w ≡ [] → Stand fs w [] (base t ∷ [])
-empty_base fs w t e f g = subst (λ (x : List ℕ). Stand fs w [] (base x ∷ [])) (sym (nil_from_length t e)) (stand_is fs [] w [] [] [] (base [] ∷ []) f g refl base_stands.1)
-
-pub one_base : (fs : List Fragment) (w : List IndexEntry) (f : Fragment) (t : List ℕ) → (length t ≡ 0 → ⊥) → length t ≤ 2 ^ 40 → f ≡ whole_base f.id t → IsLess least_digits f.id → IsLess f.id greatest_digits → EndsAboveZero f.id
-    → fs ≡ f ∷ [] → w ≡ entry_of (whole_base f.id t) ∷ [] → Stand fs w [] (base t ∷ [])
-one_base fs w f t some few e low high ends a b =
-    stand_is fs (whole_base f.id t ∷ []) w (entry_of (whole_base f.id t) ∷ []) [] [] (base t ∷ []) (a ∙ ap (λ (g : Fragment). g ∷ []) e) b refl
-    (base_stands.0 f.id t (omega (arith, some)) (omega (arith, few)) low high ends)
 
 pub whole_one : (fs : List Fragment) (f : Fragment) (t : List ℕ) → IsUtf8 t → f ≡ whole_base f.id t → fs ≡ f ∷ [] → AllByRecursion (IsWhole (base t ∷ [])) (runs fs)
 whole_one fs f t u e a = subst (λ (x : List Fragment). AllByRecursion (IsWhole (base t ∷ [])) (runs x)) (sym (a ∙ ap (λ (g : Fragment). g ∷ []) e)) (base_whole f.id t u)
@@ -158,17 +141,12 @@ content_after c p h op u w n k t e fr s d m =
       hidden = ap (λ (x : Texts). x.hidden) f;
     }
 
--- the new texts of a local edit are those of its changes
-pub made_texts : (h : History) (r : ℕ) (ps : List Piece) → texts (pieces_of (made_at h r ps)) ≡ texts ps
-unfolding made_at
-made_texts h r ps = texts_full h ps
-
 -- there is room for it
 pub made_room : (h : History) (r : ℕ) (ps : List Piece) → MayEdit h r ps → HasRoom h (made_at h r ps)
 made_room h r ps m =
     let n = room_in m.limits h (text_total ps) (1 + length ps) (no_excess (bare h r ps m) ps m.faultless) in
-    let b = made_total h r ps in
-    let e = made_entries h r ps in
+    let b = made_edit_total h r ps in
+    let e = made_edit_entries h r ps in
     let x = m.most_bytes in
     let y = m.most_entries in
     record { bytes = omega (arith, n.0, b, x); entries = omega (arith, n.1, e, y) }

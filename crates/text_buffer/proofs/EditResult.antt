@@ -1,12 +1,12 @@
 -- What the result of an edit says of the history and of the steps of a buffer.
-use Rattle.std.proofs.Common.{◌≡◌, ◌⊎◌, inl, inr, ◌∷◌, [], ◌++◌, List, refl, sym, ap, ◌∙◌, cond, None, Some, Option, is_some, Result, Ok, Err, IfErr, IfOk, OnOk}
+use Rattle.std.proofs.Common.{◌≡◌, ◌⊎◌, inl, inr, ◌∷◌, [], ◌++◌, List, sym, ap, ◌∙◌, cond, None, Some, Option, is_some, Result, Ok, Err, IfErr, IfOk, OnOk}
 use Rattle.op_model.specs.declared.operation.Piece.{Piece}
 use Rattle.op_model.specs.declared.operation.Operation.{Operation}
 use Rattle.op_model.specs.declared.faults.EditFault.{EditFault}
 use Rattle.op_model.specs.declared.faults.EditFault.TheVariants.{OutOfMemory}
 use Rattle.op_model.specs.Steps.Step.{Edits}
 use Rattle.op_model.specs.Steps.{with_applied}
-use Rattle.text_buffer.specs.Buffer.{BufferState, after_call, after_edit, edit_fault, edit_of, state, with_state}
+use Rattle.text_buffer.specs.Buffer.{BufferState, after_call, edit_fault, edit_of, state, with_state}
 use Rattle.text_buffer.specs.EditResult.{IsEditResult}
 
 -- the call of an edit, by whether it meets a fault

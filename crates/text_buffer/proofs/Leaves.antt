@@ -1,6 +1,6 @@
 -- What a pass that is stopped leaves: what it applied stands behind what was applied, and waits no longer.
-use Rattle.op_model.proofs.Elements.{each_map, each_append, each_unit}
-use Rattle.std.proofs.Common.{◌≡◌, ℕ, ◌≤◌, true, false, List, [], ◌∷◌, ◌++◌, length, take, drop, refl, sym, ◌∙◌, ap, subst, append_assoc, arith, None, length-append, inl, inr}
+use Rattle.op_model.proofs.Elements.{each_map, each_append}
+use Rattle.std.proofs.Common.{◌≡◌, ℕ, ◌≤◌, true, List, [], ◌∷◌, ◌++◌, length, take, drop, refl, sym, ◌∙◌, ap, subst, append_assoc, arith, None, length-append, inl, inr}
 use Rattle.std.specs.List.{AllByRecursion}
 use Rattle.std.proofs.lemmas.List.{append-nil, take-append-drop}
 use Rattle.lamport_clock.specs.declared.stamp.Lamport.{Lamport}
@@ -11,16 +11,15 @@ use Rattle.op_model.specs.declared.limits.Limits.{Limits as LimitsType}
 use Rattle.op_model.specs.Sorted.{Ascending}
 use Rattle.op_model.specs.Operations.{stamp_of}
 use Rattle.op_model.specs.Histories.{History, In, operation_at}
-use Rattle.op_model.specs.Lawful.{Lawful}
 use Rattle.op_model.specs.Settled.{State, Turn, turn, pass}
 use Rattle.op_model.specs.Settled.Turn.{Append, Drop, Stay, Refuse}
 use Rattle.op_model.specs.Steps.{older}
-use Rattle.op_model.proofs.answers.Passed.{none_find, if_some}
+use Rattle.op_model.proofs.answers.Passed.{if_some}
 use Rattle.op_model.proofs.order.SameSets.{each_in}
-use Rattle.op_model.proofs.histories.MoreLawful.{lawful_more}
-use Rattle.op_model.proofs.settling.Settling.{after, pass_is, pass_keeps}
+use Rattle.op_model.proofs.settling.Settling.{after, pass_is}
+use Rattle.op_model.proofs.settling.Leaves.{not_found}
+use Rattle.op_model.proofs.settling.Passes.{pass_nil}
 use Rattle.text_buffer.specs.Settling.{pass_until, pass_step}
-use Rattle.text_buffer.proofs.Turns.{pass_nil}
 
 -- from what is applied and waits to what is applied and waits later
 pub record Leaves (h : History) (w : List Operation) (g : History) (v : List Operation) : Type 0 where
@@ -33,10 +32,6 @@ pub record Leaves (h : History) (w : List Operation) (g : History) (v : List Ope
 record Takes (h : History) (w : List Operation) (g : History) (v : List Operation) : Type 0 where
   leaves : Leaves h w g v
   from : AllByRecursion (λ (op : Operation). In w op) leaves.new
-
-absent : (op : Operation) (w : List Operation) → AllByRecursion (λ (o : Operation). older op o ≡ true) w → operation_at w (stamp_of op) ≡ None
-absent op w u = none_find (λ o. same_stamp (stamp_of o) (stamp_of op)) w
-    (each_map (λ (o : Operation). older op o ≡ true) (λ (o : Operation). same_stamp (stamp_of o) (stamp_of op) ≡ false) (λ o e. (later_differs (stamp_of op) (stamp_of o) e).1) w u)
 
 module _ (l : LimitsType) (rest : List Operation) where
   abbrev Taken : History → List Operation → State → Type 0
@@ -54,7 +49,7 @@ module _ (l : LimitsType) (rest : List Operation) where
         leaves = record {
           new = op ∷ k.new;
           history = k.history ∙ append_assoc h (op ∷ []) k.new;
-          apart = (k.waiting (stamp_of op) (absent op (front ++ rest) u.0), k.apart);
+          apart = (k.waiting (stamp_of op) (not_found op (front ++ rest) u.0), k.apart);
           waiting = λ t e. k.waiting t (if_some (same_stamp (stamp_of op) t) op (operation_at (front ++ rest) t) e).1;
         };
         from = (inl refl, each_map (λ (o : Operation). In (front ++ rest) o) (λ (o : Operation). In (op ∷ (front ++ rest)) o) (λ o i. inr i) k.new a.from);
@@ -123,21 +118,3 @@ leaves_both a b c x y = record {
 
 pub leaves_longer : (h : History) (w : List Operation) (g : History) (v : List Operation) → Leaves h w g v → length h ≤ length g
 leaves_longer h w g v k = let e = ap length k.history in let a = length-append h k.new in omega arith
-
--- ---- what passes keep
-
-each_kept : (Q : Operation → Type 0) (l : LimitsType) (h : History) (w : List Operation) → AllByRecursion Q w → AllByRecursion Q (pass l h w).waiting
-each_kept Q l h w e = (pass_keeps l (λ h. Unit {0}) Q (λ h op a b c. tt) h w tt e).1
-
-pub pass_up : (l : LimitsType) (h : History) (w : List Operation) → Ascending older w → Ascending older (pass l h w).waiting
-pass_up l h [] u = subst (λ (s : State). Ascending older s.waiting) (sym (pass_nil l h)) tt
-pass_up l h (op ∷ w) u = subst (λ (s : State). Ascending older s.waiting) (sym (pass_is l h op w)) (go (turn l h op) (pass_up l (h ++ op ∷ []) w u.1) (pass_up l h w u.1))
-  where
-    go : (t : Turn) → Ascending older (pass l (h ++ op ∷ []) w).waiting → Ascending older (pass l h w).waiting → Ascending older (after t l h op w).waiting
-    go Append a b = a
-    go Drop a b = b
-    go Stay a b = (each_kept (λ (o : Operation). older op o ≡ true) l h w u.0, b)
-    go (Refuse f) a b = b
-
-pub pass_lawful : (l : LimitsType) (h : History) (w : List Operation) → Lawful h → Lawful (pass l h w).history
-pass_lawful l h w p = (pass_keeps l Lawful (λ op. Unit {0}) (λ g op a b c. lawful_more g op a c) h w p (each_unit w)).0

@@ -3,7 +3,6 @@ pub mod Crossing
 pub mod Edited
 pub mod EditResult
 pub mod Contents
-pub mod Waiting
 pub mod Applied
 pub mod Undone
 pub mod Taken

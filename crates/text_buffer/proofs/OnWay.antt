@@ -1,9 +1,6 @@
 -- A buffer in the middle of a pass.
-use Rattle.op_model.proofs.Elements.{each_filter}
-use Rattle.std.proofs.Common.{◌≡◌, ◌<◌, Bool, true, cond, List, [], ◌∷◌, length, refl, sym, ◌∙◌, ap, subst, Option, None, Some, inl, inr}
+use Rattle.std.proofs.Common.{◌≡◌, ◌<◌, Bool, cond, List, [], length, refl, sym, ◌∙◌, ap, subst, Option, None, Some}
 use Rattle.std.specs.Prelude.{option_map}
-use Rattle.std.specs.List.{filter}
-use Rattle.std.proofs.lemmas.Bool.{cases_Bool}
 use Rattle.lamport_clock.specs.declared.stamp.Lamport.{Lamport}
 use Rattle.op_model.specs.declared.operation.Operation.{Operation}
 use Rattle.op_model.specs.declared.limits.Limits.{Limits as LimitsType}
@@ -15,12 +12,15 @@ use Rattle.op_model.specs.Answers.Answer.{Good, Repeat, Waits, Refused}
 use Rattle.op_model.specs.Settled.{State, Turn, turn, turn_of, full_fault}
 use Rattle.op_model.specs.Settled.Turn.{Append, Drop, Stay, Refuse}
 use Rattle.op_model.specs.Steps.{older, ask_limits}
+use Rattle.op_model.proofs.settling.Passes.{not_stay}
+use Rattle.op_model.proofs.settling.Waiting.{filter_ascends}
 use Rattle.deferred_ops.specs.Deferred.{without}
+use Rattle.deferred_ops.proofs.Ready.{ready_within}
 use Rattle.text_buffer.specs.Buffer.{BufferState, IsBuffer, state, with_state}
 use Rattle.text_buffer.specs.BufferInside.{state_of, IsBufferInside}
 use Rattle.text_buffer.specs.declared.buffer.Buffer.TheInside.{Inside}
 use Rattle.text_buffer.specs.Settling.{after_turn, turn_step, pass_until, pass_step, next_ready, after_next_turn, turn_answer, after_answer, without_waiting, after_pass, IsStoppedPass}
-use Rattle.text_buffer.proofs.Turns.{IsAt, at_start, at_end, at_turn, at_until, fewer, not_stay, ready_within}
+use Rattle.text_buffer.proofs.Turns.{IsAt, at_start, at_end, at_turn, at_until, fewer}
 
 -- ---- a turn
 
@@ -55,18 +55,11 @@ turn_done after b m n op t e s x y = y ∙ ap (λ (u : Lamport). without_waiting
     go (Waits r v) q = absurd (not_stay b.limits b.history op (ready_within after b.history b.waiting op e) (turn_is after b op (Waits r v) e (sym q)))
     go (Refused f) q = turn_makes after b op (Refuse f) e (turn_is after b op (Refused f) e (sym q))
 
-up_filter : (p : Operation → Bool) (w : List Operation) → Ascending older w → Ascending older (filter p w)
-up_filter p [] u = tt
-up_filter p (o ∷ w) u = elim (cases_Bool (p o)) [
-  | inl y ↦ rw y (each_filter (λ (x : Operation). older o x ≡ true) p w u.0, up_filter p w u.1)
-  | inr n ↦ rw n (up_filter p w u.1)
-]
-
 -- an operation leaves
 IsBuffer-without : (b : BufferState) (t : Lamport) → IsBuffer b → IsBuffer (record b { waiting = without t b.waiting })
 IsBuffer-without b t k = record {
   history = k.history;
-  waiting_ascending = up_filter _ b.waiting k.waiting_ascending;
+  waiting_ascending = filter_ascends _ b.waiting k.waiting_ascending;
   least_replica = k.least_replica;
   greatest_replica = k.greatest_replica;
   most_bytes = k.most_bytes;

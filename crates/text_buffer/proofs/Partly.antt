@@ -14,8 +14,9 @@ use Rattle.text_buffer.specs.BufferInside.{state_of, IsBufferInside}
 use Rattle.text_buffer.specs.declared.buffer.Buffer.TheInside.{Inside}
 use Rattle.text_buffer.specs.Settling.{pass_until, after_pass, IsStoppedPass}
 use Rattle.op_model.proofs.settling.Settling.{settled_misses}
+use Rattle.op_model.proofs.settling.Leaves.{pass_up, pass_lawful}
 use Rattle.text_buffer.proofs.Settles.{settled_once, settled_twice}
-use Rattle.text_buffer.proofs.Leaves.{LeavesState, until_leaves, step_leaves, leaves_both, leaves_longer, pass_up, pass_lawful}
+use Rattle.text_buffer.proofs.Leaves.{LeavesState, until_leaves, step_leaves, leaves_both, leaves_longer}
 
 -- ---- it settled
 

@@ -4,28 +4,21 @@ use Rattle.std.specs.List.{AllByRecursion}
 use Rattle.std.specs.Result.{OnErr}
 use Rattle.std.proofs.lemmas.List.{append_assoc, length-append}
 use Rattle.std.proofs.Math.Seq.{drop-append_seam}
-use Rattle.op_model.proofs.Elements.{each_unit}
 use Rattle.op_model.specs.declared.operation.Operation.{Operation}
-use Rattle.op_model.specs.declared.limits.Limits.{Limits as LimitsType}
 use Rattle.op_model.specs.Operations.{stamp_of}
-use Rattle.op_model.specs.Histories.{History, operation_at}
-use Rattle.op_model.specs.Settled.{settle as settled_at, full_fault}
+use Rattle.op_model.specs.Histories.{operation_at}
+use Rattle.op_model.specs.Settled.{full_fault}
 use Rattle.op_model.specs.Steps.{ask_limits, or_full}
 use Rattle.op_model.specs.Answers.{Answer, answer}
 use Rattle.op_model.specs.Answers.Answer.{Good}
-use Rattle.op_model.proofs.settling.Settling.{settled_keeps}
 use Rattle.op_model.proofs.answers.Passed.{passed}
+use Rattle.op_model.proofs.settling.Passes.{settling_grows}
+use Rattle.op_model.proofs.settling.Waiting.{not_waiting}
 use Rattle.text_buffer.specs.Buffer.{BufferState, IsPartly, answer_to, after_apply, after_settle, new_operations}
 use Rattle.text_buffer.specs.declared.outcomes.Took.TheVariants as took
-use Rattle.text_buffer.proofs.Waiting.{not_waiting}
-
--- ---- how much settling applies
-
-grows : (l : LimitsType) (h : History) (w : List Operation) → length h ≤ length (settled_at l h w).history
-grows l h w = (settled_keeps l (λ (g : History). length h ≤ length g) (λ (op : Operation). Unit {0}) (λ g op p q e. let n = length-append g (op ∷ []) in omega arith) h w (omega arith) (each_unit w)).0
 
 pub more_applied : (b : BufferState) (op : Operation) → suc (length b.history) ≤ length (after_settle (after_apply b op)).history
-more_applied b op = let n = grows b.limits (b.history ++ op ∷ []) b.waiting in let m = length-append b.history (op ∷ []) in omega arith
+more_applied b op = let n = settling_grows b.limits (b.history ++ op ∷ []) b.waiting in let m = length-append b.history (op ∷ []) in omega arith
 
 -- ---- where memory is wanted
 

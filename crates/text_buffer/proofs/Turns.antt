@@ -1,13 +1,12 @@
 -- A pass, told by the least operation that misses nothing.
-use Rattle.std.proofs.Common.{◌≡◌, ℕ, ◌<◌, Bool, true, false, cond, ◌&&◌, List, [], ◌∷◌, ◌++◌, length, take, drop, refl, sym, ◌∙◌, ap, subst, append_assoc, arith, Option, Some, None, length-append, inl, inr}
+use Rattle.std.proofs.Common.{◌≡◌, ℕ, ◌<◌, true, false, List, [], ◌∷◌, ◌++◌, length, take, drop, refl, sym, ◌∙◌, ap, subst, append_assoc, arith, Option, Some, None, length-append}
 use Rattle.std.proofs.lemmas.List.{append-nil}
-use Rattle.std.proofs.lemmas.Bool.{cases_Bool, and_parts}
+use Rattle.std.proofs.lemmas.Bool.{and_parts}
 use Rattle.std.proofs.Math.Seq.{take-append_seam, drop-append_seam}
 use Rattle.std.specs.List.{AllByRecursion, find}
 use Rattle.lamport_clock.specs.declared.stamp.Lamport.{Lamport}
-use Rattle.lamport_clock.specs.Stamps.{same_stamp}
 use Rattle.lamport_clock.specs.Versions.{within}
-use Rattle.lamport_clock.proofs.Later.{later_differs, same_stamp_refl, one_way}
+use Rattle.lamport_clock.proofs.Later.{one_way}
 use Rattle.op_model.specs.declared.operation.Operation.{Operation}
 use Rattle.op_model.specs.declared.limits.Limits.{Limits as LimitsType}
 use Rattle.op_model.specs.declared.faults.OpFault.{OpFault}
@@ -19,20 +18,18 @@ use Rattle.op_model.specs.Settled.Turn.{Append, Drop, Stay, Refuse}
 use Rattle.op_model.specs.Steps.{older}
 use Rattle.op_model.proofs.answers.Passed.{find_none}
 use Rattle.op_model.proofs.settling.AllApplied.{AllMiss}
-use Rattle.op_model.proofs.settling.Settling.{after, pass_is, stay_misses}
+use Rattle.op_model.proofs.settling.Settling.{after, pass_is}
 use Rattle.deferred_ops.specs.Deferred.{is_past, least_ready, without}
+use Rattle.deferred_ops.proofs.Ready.{without_mid, all_past, ready_within, Parted, part_of, is_ready, past_missing}
 use Rattle.text_buffer.specs.Settling.{after_turn, turn_step, pass_front, pass_until, pass_step}
-use Rattle.op_model.proofs.Elements.{each_left, each_right, each_map}
+use Rattle.op_model.proofs.Elements.{each_left, each_right, each_map, found_past}
+use Rattle.op_model.proofs.settling.Passes.{pass_nil, pass_missing, older_around, not_stay}
 
 -- ---- a pass over a list in two parts
 
 -- what two parts of a pass make
 abbrev state_join : State → State → State
 state_join p q = record { history = q.history; waiting = p.waiting ++ q.waiting; refused = p.refused ++ q.refused }
-
-pub pass_nil : (l : LimitsType) (h : History) → pass l h [] ≡ record { history = h; waiting = []; refused = [] }
-unfolding pass
-pass_nil l h = refl
 
 pass_append : (l : LimitsType) (h : History) (v w : List Operation) → pass l h (v ++ w) ≡ state_join (pass l h v) (pass l (pass l h v).history w)
 pass_append l h [] w = ap (λ (p : State). state_join p (pass l p.history w)) (sym (pass_nil l h))
@@ -45,70 +42,6 @@ pass_append l h (op ∷ v) w = pass_is l h op (v ++ w) ∙ go (turn l h op) (pas
     go Drop a b = b
     go Stay a b = ap (with_waiting op) b
     go (Refuse f) a b = ap (λ (s : State). record { history = s.history; waiting = s.waiting; refused = (stamp_of op, f) ∷ s.refused }) b
-
--- ---- a pass over what misses a cause
-
-turn_missing : (l : LimitsType) (h : History) (op : Operation) → within (version_of op) (version h) ≡ false → turn l h op ≡ Stay
-turn_missing l h op e = rw e refl
-
-pass_missing : (l : LimitsType) (h : History) (w : List Operation) → AllMiss h w → pass l h w ≡ record { history = h; waiting = w; refused = [] }
-pass_missing l h [] m = pass_nil l h
-pass_missing l h (op ∷ w) m = pass_is l h op w ∙ ap (λ (t : Turn). after t l h op w) (turn_missing l h op m.0) ∙ ap (with_waiting op) (pass_missing l h w m.1)
-
--- ---- what is found
-
-record Parted (t : Operation → Bool) (w : List Operation) (op : Operation) : Type 0 where
-  missed : List Operation
-  behind : List Operation
-  is : w ≡ missed ++ op ∷ behind
-  misses : AllByRecursion (λ (o : Operation). t o ≡ false) missed
-  hit : t op ≡ true
-
-part_of : (t : Operation → Bool) (w : List Operation) (op : Operation) → find t w ≡ Some op → Parted t w op
-part_of t [] op e = cc
-part_of t (o ∷ w) op e = elim (cases_Bool (t o)) [
-  | inl y ↦ (let q : Some o ≡ Some op = subst (λ (b : Bool). cond b (Some o) (find t w) ≡ Some op) y e in let s : o ≡ op = cc in
-      record { missed = []; behind = w; is = ap (λ (x : Operation). x ∷ w) s; misses = tt; hit = ap t (sym s) ∙ y })
-  | inr n ↦ (let p = part_of t w op (subst (λ (b : Bool). cond b (Some o) (find t w) ≡ Some op) n e) in
-      record { missed = o ∷ p.missed; behind = p.behind; is = ap (λ (x : List Operation). o ∷ x) p.is; misses = (n, p.misses); hit = p.hit })
-]
-
-found_past : (t : Operation → Bool) (v w : List Operation) → AllByRecursion (λ (o : Operation). t o ≡ false) v → find t (v ++ w) ≡ find t w
-found_past t [] w e = refl
-found_past t (o ∷ v) w e = rw e.0 (found_past t v w e.1)
-
--- ---- stamps ascend
-
-around : (v : List Operation) (op : Operation) (w : List Operation) → Ascending older (v ++ op ∷ w) → AllByRecursion (λ (o : Operation). older o op ≡ true) v × AllByRecursion (λ (o : Operation). older op o ≡ true) w
-around [] op w u = (tt, u.0)
-around (o ∷ v) op w u = let r = around v op w u.1 in (((each_right (λ (x : Operation). older o x ≡ true) v (op ∷ w) u.0).0, r.0), r.1)
-
-others : (t : Lamport) (w : List Operation) → AllByRecursion (λ (o : Operation). same_stamp (stamp_of o) t ≡ false) w → without t w ≡ w
-others t [] e = refl
-others t (o ∷ w) e = rw e.0 (ap (λ (z : List Operation). o ∷ z) (others t w e.1))
-
-out_of : (t : Lamport) (v : List Operation) (op : Operation) (w : List Operation) → same_stamp (stamp_of op) t ≡ true → AllByRecursion (λ (o : Operation). same_stamp (stamp_of o) t ≡ false) v
-    → AllByRecursion (λ (o : Operation). same_stamp (stamp_of o) t ≡ false) w → without t (v ++ op ∷ w) ≡ v ++ w
-out_of t [] op w s e f = rw s (others t w f)
-out_of t (o ∷ v) op w s e f = rw e.0 (ap (λ (z : List Operation). o ∷ z) (out_of t v op w s e.1 f))
-
-without_mid : (v : List Operation) (op : Operation) (w : List Operation) → Ascending older (v ++ op ∷ w) → without (stamp_of op) (v ++ op ∷ w) ≡ v ++ w
-without_mid v op w u =
-    let a = around v op w u in
-    let t = stamp_of op in
-    out_of t v op w (same_stamp_refl t) (each_map (λ (o : Operation). older o op ≡ true) (λ (o : Operation). same_stamp (stamp_of o) t ≡ false) (λ o e. (later_differs (stamp_of o) t e).0) v a.0)
-    (each_map (λ (o : Operation). older op o ≡ true) (λ (o : Operation). same_stamp (stamp_of o) t ≡ false) (λ o e. (later_differs t (stamp_of o) e).1) w a.1)
-
--- ---- what is ready
-
-abbrev is_ready : Option Lamport → History → Operation → Bool
-is_ready after h o = is_past after o && within (version_of o) (version h)
-
-pub ready_within : (after : Option Lamport) (h : History) (w : List Operation) (op : Operation) → least_ready after (version h) w ≡ Some op → within (version_of op) (version h) ≡ true
-ready_within after h w op e = let p = part_of (is_ready after h) w op e in (and_parts (is_past after op) (within (version_of op) (version h)) p.hit).1
-
-pub not_stay : (l : LimitsType) (h : History) (op : Operation) → within (version_of op) (version h) ≡ true → turn l h op ≡ Stay → ⊥
-not_stay l h op w e = let n = stay_misses l h op e in cc
 
 -- it leaves
 pub fewer : (l : LimitsType) (s : State) (after : Option Lamport) (op : Operation) → Ascending older s.waiting → least_ready after (version s.history) s.waiting ≡ Some op → length (turn_step l op s).waiting < length s.waiting
@@ -135,10 +68,6 @@ pub record IsAt (l : LimitsType) (b : State) (after : Option Lamport) (s : State
   pub behind : AllByRecursion (λ (o : Operation). is_past after o ≡ false) (pass l b.history front).waiting
   pub ahead : AllByRecursion (λ (o : Operation). is_past after o ≡ true) rest
 
-all_past : (w : List Operation) → AllByRecursion (λ (o : Operation). is_past None o ≡ true) w
-all_past [] = tt
-all_past (o ∷ w) = (refl, all_past w)
-
 pub at_start : (l : LimitsType) (b : State) → IsAt l b None b
 at_start l b = record {
   front = [];
@@ -148,11 +77,6 @@ at_start l b = record {
   behind = subst (λ (p : State). AllByRecursion (λ (o : Operation). is_past None o ≡ false) p.waiting) (sym (pass_nil l b.history)) tt;
   ahead = all_past b.waiting;
 }
-
--- it has ended where nothing more is ready
-past_missing : (after : Option Lamport) (h : History) (w : List Operation) → AllByRecursion (λ (o : Operation). is_past after o ≡ true) w → AllByRecursion (λ (o : Operation). is_ready after h o ≡ false) w → AllMiss h w
-past_missing after h [] a r = tt
-past_missing after h (o ∷ w) a r = (rw a.0 at r.0, past_missing after h w a.1 r.1)
 
 pub at_end : (l : LimitsType) (b : State) (after : Option Lamport) (s : State) → IsAt l b after s → least_ready after (version s.history) s.waiting ≡ None → s ≡ pass_step l b
 at_end l b after s i e =
@@ -212,7 +136,7 @@ module _ (l : LimitsType) (b : State) (front rest : List Operation) (op : Operat
       → pass l b.history (front ++ (q.missed ++ op ∷ [])) ≡ record { history = g; waiting = p.waiting ++ (q.missed ++ []); refused = p.refused ++ x }
       → IsAt l b (Some (stamp_of op)) (record { history = g; waiting = without (stamp_of op) (p.waiting ++ rest); refused = b.refused ++ (p.refused ++ x) })
   further q g x s u e =
-      let a = around (waiting_front q) op q.behind (subst (Ascending older) (whole q) u) in
+      let a = older_around (waiting_front q) op q.behind (subst (Ascending older) (whole q) u) in
       let w : without (stamp_of op) (p.waiting ++ rest) ≡ (p.waiting ++ (q.missed ++ [])) ++ q.behind =
       ap (without (stamp_of op)) (whole q) ∙ without_mid (waiting_front q) op q.behind (subst (Ascending older) (whole q) u) ∙ ap (λ z. (p.waiting ++ z) ++ q.behind) (sym (append-nil q.missed)) in
       let k : AllByRecursion (λ (o : Operation). is_past (Some (stamp_of op)) o ≡ false) (p.waiting ++ (q.missed ++ [])) = subst (λ z. AllByRecursion (λ (o : Operation). is_past (Some (stamp_of op)) o ≡ false) (p.waiting ++ z)) (sym (append-nil q.missed))

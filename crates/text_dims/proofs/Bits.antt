@@ -6,11 +6,12 @@ use Rattle.std.proofs.lemmas.Bool.{agree_below, agree_below_at}
 use Rattle.std.proofs.lemmas.Bool.Decides.{nat_tests}
 use Rattle.std.proofs.lemmas.List.{take-append-drop, take-take, length-take-le, length-map}
 use Rattle.std.proofs.lemmas.List.Sums.{sum_by-cons, prefix_len-le-length}
-use Rattle.std.proofs.lemmas.Nat.{mod_low, pow-add}
+use Rattle.std.proofs.lemmas.Nat.{mod_low, pow-add, or_comm, or_shifted, shl_whole}
 use Rattle.std.proofs.lemmas.Simd.{mask_l-lt, mask_l-mod, ones-mask_l, first_set_mask_l}
 use lib.Lanes.{mask_l, top, Each1}
 use Rattle.text_dims.specs.Counts.{begins_char, begins_wide, byte_units, is_newline, char_count, utf16_count, newline_count}
 use Rattle.text_dims.specs.Masks.{mask_of, first_set}
+use lib.Bits.{bit_or}
 
 pub mask_of-is : (p : ℕ → Bool) (bs : List ℕ) → mask_of p bs ≡ mask_l (map p bs)
 mask_of-is p [] = refl
@@ -94,3 +95,14 @@ pub masked : (f : ℕ → ℕ) (p : ℕ → Bool) (v z : List ℕ) → length v 
     → mask_l (map (top 7) z) % 2 ^ 64 ≡ mask_of p v
 masked f p v z long fits e all =
     ap (λ l. mask_l l % 2 ^ 64) (ap (map (top 7)) e ∙ each_byte f p all v fits) ∙ mask_l-mod (map p v) 64 (omega (arith, long, length-map v p)) ∙ sym (mask_of-is p v)
+
+comm : (a b : ℕ) → a + b ≡ b + a
+comm a b = omega arith
+
+pub bits_more : (p : ℕ → Bool) (xs ys : List ℕ) (mask bits at : ℕ) → length xs ≡ at → length xs + length ys ≤ 128 → mask ≡ mask_of p xs → bits ≡ mask_of p ys →
+    bit_or mask (bits * 2 ^ at % 2 ^ 128) ≡ mask_of p (xs ++ ys)
+bits_more p xs ys mask bits at long few m b =
+    let low : mask < 2 ^ at = rw m (subst (λ n. mask_of p xs < 2 ^ n) long (mask_of-lt p xs)) in
+    let high : bits < 2 ^ length ys = rw b (mask_of-lt p ys) in
+    rw (shl_whole bits (length ys) at 128 high (omega (arith, long, few)))
+    (or_comm mask (bits * 2 ^ at) ∙ or_shifted bits at mask low ∙ rw (m, b, ← long) (comm (mask_of p ys * 2 ^ length xs) (mask_of p xs) ∙ sym (mask_of-append p xs ys)))

@@ -4,3 +4,8 @@ pub mod Walks
 pub mod Bits
 pub mod Fronts
 mod Worked
+pub mod Ends
+pub mod Sums
+pub mod Clipping
+pub mod PointClips
+pub mod PlacePoints

@@ -1,9 +1,10 @@
 -- The places of a text are those that a walk along it meets.
-use Rattle.std.specs.Prelude.{map, filter}
-use Rattle.std.proofs.Common.{◌≡◌, ℕ, suc, ◌+◌, ◌≤◌, Bool, true, false, cond, eqb, List, [], ◌∷◌, ◌++◌, length, take, get_or, refl, ap, sym, ◌∙◌, arith, append_assoc, length-append}
+use Rattle.std.specs.Prelude.{map, filter, find}
+use Rattle.std.proofs.Common.{◌≡◌, ℕ, suc, ◌+◌, ◌≤◌, Bool, true, false, cond, eqb, List, [], ◌∷◌, ◌++◌, length, take, get_or, refl, ap, sym, ◌∙◌, arith, append_assoc, length-append, None}
 use Rattle.std.specs.List.{range_with_len}
 use Rattle.std.proofs.lemmas.Bool.{eqb-true, le-leb}
 use Rattle.std.proofs.lemmas.List.{take_at, get_or-append-add}
+use Rattle.std.proofs.lemmas.Bool.Decides.{nat_tests}
 use Rattle.text_dims.specs.declared.places.Place.{Place}
 use Rattle.text_dims.specs.Bytes.{newline_summary, run_summary}
 use Rattle.text_dims.specs.Counts.{begins_char, byte_units, utf16_count}
@@ -76,3 +77,15 @@ among-walk xs (b ∷ bs) =
 pub places-walk : (bs : List ℕ) → places bs ≡ walk (end_place []) bs
 unfolding places among
 places-walk bs = among-walk [] bs
+
+pub lead : (b : ℕ) → (128 ≤ b → 192 ≤ b) → begins_char b ≡ true
+lead b h = grind (arith, nat_tests)
+
+-- where a walk along a text ends
+unfoldable pub walk_end : Place → List ℕ → Place
+walk_end a [] = a
+walk_end a (b ∷ bs) = walk_end (place_after a b) bs
+
+pub none_step : (eq : Place → Bool) (a : Place) (us : List Place) (t : Bool) → eq a ≡ false → find eq us ≡ None → find eq (cond t (a ∷ us) us) ≡ None
+none_step eq a us true f h = rw f h
+none_step eq a us false f h = h

@@ -1,12 +1,9 @@
 -- What the rules of walks come to, and the item at an index.
-use Rattle.std.proofs.Common.{◌≡◌, ℕ, zero, suc, ◌+◌, Bool, cond, Option, Some, None, List, [], ◌∷◌, drop, ap, sym, refl, ◌∙◌, Bor, ◌-◌, min, nat_lt, arith, length, ◌++◌}
+use Rattle.std.proofs.Common.{◌≡◌, ℕ, zero, suc, ◌+◌, Bool, cond, Option, Some, None, List, [], ◌∷◌, drop, ap, sym, refl, ◌∙◌, Bor, ◌-◌, min, nat_lt, arith, length}
 use Rattle.std.specs.List.{slice_get}
 use Rattle.std.proofs.lemmas.Bool.Decides.{nat_tests}
 use Rattle.std.specs.Option.{option_copied}
 use Rattle.tree_cursor.specs.Places.{behind, walk_count, seek_count, filter_count}
-use Rattle.sum_tree.specs.Laws.{fold}
-use Rattle.sum_tree.specs.Count.{count_sum}
-use Rattle.sum_tree.specs.declared.count.Count.{Count}
 use Rattle.tree_cursor.specs.Halts.{ahead}
 use Rattle.tree_cursor.specs.Place.{CursorState, Filtering}
 
@@ -56,13 +53,3 @@ placed xs h from n = record { items = xs; height = h; index = n; from = from }
 -- a filter's value at two indexes
 abbrev pub filtering : {T D K : Type 0} → List T → D → K → ℕ → ℕ → Filtering T D K
 filtering xs from keep g n = record { items = xs; from = from; keep = keep; given = g; next = n }
-
--- the sum with one item more
-pub fold_more : {S X : Type 0} (start : S) (op : S → S → S) (sum_of : X → S) (xs : List X) (x : X) → fold start op sum_of (xs ++ (x ∷ [])) ≡ op (fold start op sum_of xs) (sum_of x)
-fold_more start op sum_of [] x = refl
-fold_more start op sum_of (y ∷ ys) x = fold_more (op start (sum_of y)) op sum_of ys x
-
--- the sum of counts of one each is the length
-pub fold_counts : {X : Type 0} (sum_of : X → Count) → ((x : X) → (sum_of x).items ≡ 1) → (start : Count) (xs : List X) → (fold start count_sum sum_of xs).items ≡ start.items + length xs
-fold_counts sum_of one start [] = omega arith
-fold_counts sum_of one start (x ∷ xs) = omega (arith, one x, fold_counts sum_of one (count_sum start (sum_of x)) xs)

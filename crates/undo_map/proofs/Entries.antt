@@ -9,12 +9,13 @@ use Rattle.op_model.specs.declared.operation.UndoCount.{UndoCount}
 use Rattle.op_model.specs.declared.operation.Operation.{Operation}
 use Rattle.op_model.specs.declared.operation.Operation.TheVariants.{Undo}
 use Rattle.op_model.specs.declared.operation.UndoOp.{UndoOp}
-use Rattle.op_model.specs.Operations.{stamp_of, counts_of}
+use Rattle.op_model.specs.Operations.{stamp_of, counts_of, is_edit}
 use Rattle.op_model.specs.Histories.{History, kept_history, seen_history, base, entries_held}
 use Rattle.op_model.specs.Shown.{greatest_given, count, is_undone}
 use Rattle.op_model.specs.Lawful.{Lawful}
 use Rattle.op_model.proofs.answers.Good.{stamp_parts}
 use Rattle.op_model.proofs.histories.VersionLaws.{shaped_good, each_lawful}
+use Rattle.op_model.proofs.shown.OnePass.{no_counts}
 use Rattle.undo_map.specs.declared.entry.UndoEntry.{UndoEntry}
 use Rattle.undo_map.specs.Counts.{with_count, greatest, counts_for, is_seen, count_of, count_seen, is_odd}
 use Rattle.undo_map.specs.Laws.{CountsAreOfHistory}
@@ -155,3 +156,7 @@ entries_within (op ∷ ops) l =
 
 pub of_history : CountsAreOfHistory
 of_history h t = (count_kept h t, undone_kept h t, λ v. count_seen_kept h t v, λ v. undone_seen h v t)
+
+-- an edit gives no counts
+pub entries_edit : (h : History) (op : Operation) → is_edit op ≡ true → undo_entries (h ++ op ∷ []) ≡ undo_entries h
+entries_edit h op e = entries_more h op ∙ ap (λ (cs : List UndoCount). with_counts (stamp_of op) cs (undo_entries h)) (no_counts op e)

@@ -1,21 +1,29 @@
 -- Where a seek for an edit stops: at the first entry that is of no earlier edit.
-use Rattle.std.proofs.Common.{◌≡◌, ℕ, zero, suc, ◌+◌, ◌<◌, ◌≤◌, Bool, true, false, cond, not, ◌⊎◌, List, [], ◌∷◌, length, get_or, take, drop, refl, sym, ap, ◌∙◌, subst, inl, inr, Option, None, Some, arith, slice_get}
+use Rattle.std.proofs.Common.{◌≡◌, ℕ, zero, suc, ◌+◌, ◌<◌, ◌≤◌, Bool, true, false, cond, not, ◌⊎◌, List, [], ◌∷◌, length, get_or, take, drop, refl, sym, ap, ◌∙◌, subst, inl, inr, Option, None, Some, arith, slice_get, eqb}
 use Rattle.std.proofs.lemmas.List.{take_all}
 use Rattle.std.proofs.lemmas.Option.{get_or_from_slice_get, slice_get_within}
 use Rattle.std.proofs.lemmas.Bool.{cases_Bool, both_ways}
 use Rattle.std.specs.Ordering.{ordering_then, is_lt}
 use Rattle.std.specs.declared.cmp.Ordering.TheVariants.{Less, Equal, Greater}
+use Rattle.std.specs.List.{find}
 use Rattle.tree_cursor.specs.Places.{seek_count, place_behind}
 use Rattle.tree_cursor.specs.Keys.{greater, key_less, key_passes, cmp_less, order_less, IsLess}
 use Rattle.tree_cursor.specs.declared.ready.Greatest.{Greatest}
 use Rattle.tree_cursor.specs.declared.traits.Bias.TheVariants.{Left}
 use Rattle.lamport_clock.specs.declared.stamp.Lamport.{Lamport}
 use Rattle.lamport_clock.specs.Stamps.{stamp_cmp}
+use Rattle.lamport_clock.proofs.Order.{never_less}
+use Rattle.lamport_clock.specs.Clocks.{last_value}
 use Rattle.undo_map.specs.declared.entry.UndoKey.{UndoKey}
 use Rattle.undo_map.specs.declared.entry.UndoEntry.{UndoEntry}
-use Rattle.undo_map.specs.Counts.{key_of, key_cmp, is_earlier, IsAscending}
+use Rattle.undo_map.specs.Counts.{key_of, key_cmp, is_earlier, IsAscending, count_of}
 use Rattle.undo_map.specs.Keys.{key_order}
 use Rattle.undo_map.proofs.Early.{late_after}
+use Rattle.undo_map.specs.Undos.{undo_entries}
+use Rattle.undo_map.proofs.Entries.{count_kept}
+use Rattle.op_model.proofs.Elements.{none_past, find_same}
+use Rattle.op_model.specs.Histories.{History}
+use Rattle.op_model.specs.Shown.{count}
 
 abbrev less : UndoKey → UndoKey → Bool
 less a b = cmp_less key_cmp a b
@@ -85,9 +93,6 @@ seek_stops k p (e ∷ w) h =
 abbrev pub first_key : Lamport → UndoKey
 first_key t = record { edit = t; by = record { value = 0; replica = 0 } }
 
-never_less : (s : Lamport) → is_lt (stamp_cmp s (record { value = 0; replica = 0 })) ≡ false
-never_less s = grind arith
-
 less_first : (e : UndoEntry) (t : Lamport) → less (key_of e) (first_key t) ≡ is_earlier t e
 less_first e t = elim (stamp_cmp e.edit t) as (λ o. is_lt (ordering_then o (stamp_cmp e.by (record { value = 0; replica = 0 }))) ≡ is_lt o) [
   | Less ↦ refl
@@ -133,12 +138,11 @@ here w items i x e h =
     let r : Some x ≡ slice_get w i = h ∙ ap (λ (v : List UndoEntry). slice_get v i) e in
     record { within = slice_get_within w i x (sym r); at = λ d. get_or_from_slice_get w i x d (sym r) }
 
--- where nothing is read the list has ended
-pub none_past : {A : Type 0} (xs : List A) (i : ℕ) → slice_get xs i ≡ None → length xs ≤ i
-none_past [] i h = omega arith
-none_past (y ∷ xs) zero h = cc
-none_past (y ∷ xs) (suc i) h = let l = none_past xs i h in omega arith
-
 -- past the last entry, those before are all
 pub all_before : (w items : List UndoEntry) (i : ℕ) → items ≡ w → None ≡ slice_get items i → take i w ≡ w
 all_before w items i e h = take_all i w (none_past w i (sym (h ∙ ap (λ (v : List UndoEntry). slice_get v i) e)))
+
+-- the entries of a history tell which count stands at its end
+pub counts_at_end : (h : History) (w : List UndoEntry) (ts : List Lamport) → w ≡ undo_entries h → find (λ t. eqb (count_of w t) last_value) ts ≡ find (λ t. eqb (count h t) last_value) ts
+counts_at_end h w ts q = find_same (λ t. eqb (count_of w t) last_value) (λ t. eqb (count h t) last_value) ts
+    (λ t. ap (λ (z : List UndoEntry). eqb (count_of z t) last_value) q ∙ ap (λ (n : ℕ). eqb n last_value) (count_kept h t))

@@ -2,7 +2,6 @@
 use Rattle.std.specs.Prelude.{ℕ, ◌+◌, List, [], ◌∷◌, length}
 use Rattle.lamport_clock.specs.declared.stamp.Lamport.{Lamport}
 use Rattle.op_model.specs.declared.operation.UndoCount.{UndoCount}
-use Rattle.op_model.specs.declared.operation.Operation.{Operation}
 use Rattle.op_model.specs.Operations.{stamp_of, counts_of}
 use Rattle.op_model.specs.Histories.{History}
 use Rattle.undo_map.specs.declared.entry.UndoEntry.{UndoEntry}

@@ -12,8 +12,8 @@ use Rattle.op_model.specs.Anchors.{shown_cells, left_anchor, right_anchor, cells
 use Rattle.op_model.specs.declared.anchor.Anchor.TheVariants.{Least, Greatest, At}
 use Rattle.op_model.specs.declared.anchor.Bias.TheVariants.{Left, Right}
 use Rattle.op_model.proofs.order.PathOrder.{same_cell_eq, same_cell_refl}
-use Rattle.op_model.proofs.order.CellsOnce.{once, each_member}
-use Rattle.op_model.proofs.Elements.{member_at, filter_of}
+use Rattle.op_model.proofs.order.CellsOnce.{once}
+use Rattle.op_model.proofs.Elements.{member_at, filter_of, each_member}
 
 module _ (f : Cell → Bool) where
   abbrev pub number : List Cell → ℕ

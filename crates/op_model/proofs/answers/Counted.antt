@@ -1,5 +1,5 @@
 -- What Good says of an operation's pieces and counts: the pieces are in order, and undos count edits that are there.
-use Rattle.op_model.proofs.Elements.{each_map}
+use Rattle.op_model.proofs.Elements.{each_map, each_member}
 use Rattle.std.proofs.Common.{◌≡◌, ℕ, suc, ◌≤◌, ◌⊎◌, Bool, List, [], ◌∷◌, ◌++◌, length, append_assoc, refl, sym, ap, ◌∙◌, subst, inl, inr, true, false, cond, not, ◌||◌, ◌&&◌, ltb, arith, Some, None}
 use Rattle.std.proofs.lemmas.List.{append-nil}
 use Rattle.std.proofs.lemmas.Bool.{cases_Bool, ltb-false, not-false, or_right}
@@ -26,7 +26,6 @@ use Rattle.op_model.proofs.histories.Lawful.{in_append}
 use Rattle.op_model.proofs.answers.Passed.{passed, shaped, ranged, find_none, map_none}
 use Rattle.op_model.proofs.answers.Good.{seen_length}
 use Rattle.op_model.proofs.order.SameSets.{newest_same}
-use Rattle.op_model.proofs.order.CellsOnce.{each_member}
 use Rattle.op_model.proofs.shown.Counts.{given_none}
 
 overlaps_none : (at i : ℕ) (p : Piece) (ps : List Piece) → overlap_from at i (p ∷ ps) ≡ None → (ltb p.start at ≡ false) × (overlap_from p.end (suc i) ps ≡ None)

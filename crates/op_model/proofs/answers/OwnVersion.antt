@@ -10,6 +10,7 @@ use Rattle.lamport_clock.specs.Stamps.{same_stamp}
 use Rattle.lamport_clock.proofs.EntryLists.{each_raise}
 use Rattle.lamport_clock.specs.Versions.{Entries, entry, within}
 use Rattle.lamport_clock.proofs.Later.{same_stamp_eq, same_stamp_refl}
+use Rattle.lamport_clock.proofs.Entries.{own_entries}
 use Rattle.op_model.specs.declared.operation.Operation.{Operation}
 use Rattle.op_model.specs.declared.operation.Operation.TheVariants.{Edit, Undo}
 use Rattle.op_model.specs.declared.faults.OpFault.TheVariants.{Forked}
@@ -20,7 +21,7 @@ use Rattle.op_model.specs.Answers.{bad_stamp, no_base, any_equal, any_stamp, sam
 use Rattle.op_model.specs.Lawful.{Lawful}
 use Rattle.op_model.proofs.histories.Lawful.{greatest, entry_version}
 use Rattle.op_model.proofs.answers.Passed.{none_find, none_map, none_when, none_any}
-use Rattle.op_model.proofs.histories.VersionLaws.{clock_above, clock_under, Stamped, InRange, stamped_from, version_is, own_entries, has_greatest, lawful_caused, caused_within}
+use Rattle.op_model.proofs.histories.VersionLaws.{clock_above, clock_under, Stamped, InRange, stamped_from, version_is, has_greatest, lawful_caused, caused_within}
 
 -- ---- the version's entries
 

@@ -11,6 +11,7 @@ use Rattle.lamport_clock.specs.Versions.{Entries, IsVersion, entry, sees, within
 use Rattle.lamport_clock.proofs.Joined.{entry_within}
 use Rattle.lamport_clock.proofs.Later.{same_stamp_refl}
 use Rattle.lamport_clock.proofs.EntryLists.{each_raise}
+use Rattle.lamport_clock.proofs.Entries.{own_entries}
 use Rattle.op_model.specs.declared.operation.Operation.{Operation}
 use Rattle.op_model.specs.Operations.{stamp_of, version_of}
 use Rattle.op_model.specs.Histories.{History, In, base, version, kept_history, seen_history, newest_first}
@@ -30,7 +31,7 @@ use Rattle.op_model.proofs.shown.Parts.{deleters_part}
 use Rattle.op_model.proofs.answers.Passed.{passed, shaped}
 use Rattle.op_model.proofs.answers.Good.{in_tail, checked_of, stamp_parts}
 use Rattle.op_model.proofs.shown.Deletions.{deleters_restrict}
-use Rattle.op_model.proofs.histories.VersionLaws.{lawful_caused, caused_within, seen_all, own_entries, shaped_good, each_lawful}
+use Rattle.op_model.proofs.histories.VersionLaws.{lawful_caused, caused_within, seen_all, shaped_good, each_lawful}
 use Rattle.op_model.proofs.histories.MoreLawful.{lawful_more, lawful_parts}
 use Rattle.op_model.proofs.texts.WholeTexts.{in_last}
 use Rattle.op_model.proofs.histories.Causes.{Opens, opens_of, of_opens, names, names_closed, causes_within}

@@ -1,5 +1,5 @@
 -- Two lawful histories of one set of operations have one version, and meet the same faults.
-use Rattle.std.proofs.Common.{◌≡◌, ℕ, ◌<◌, ◌≤◌, ◌⊎◌, List, [], ◌∷◌, length, refl, ◌∙◌, ap, inl, inr, true, false, ◌&&◌, ltb, arith}
+use Rattle.std.proofs.Common.{◌≡◌, ℕ, ◌⊎◌, List, [], ◌∷◌, length, refl, ap, inl, inr, true, false, ◌&&◌, ltb, arith}
 use Rattle.std.specs.Prelude.{option_map, not}
 use Rattle.std.specs.List.{find}
 use Rattle.std.proofs.lemmas.Bool.{cases_Bool, leb-false}

@@ -1,12 +1,12 @@
 -- What the version and the clock of a lawful history say of its operations.
 use Rattle.op_model.proofs.Elements.{each_map, each_both}
-use Rattle.std.proofs.Common.{◌≡◌, ℕ, suc, ◌+◌, ◌<◌, ◌≤◌, ◌⊎◌, max, min, Bool, List, [], ◌∷◌, ◌++◌, refl, sym, ap, subst, inl, inr, true, false, eqb, ltb, leb, arith}
-use Rattle.std.proofs.lemmas.Bool.{cases_Bool, eqb-true, ltb-false, le-leb, cases_lt, eq-eqb}
+use Rattle.std.proofs.Common.{◌≡◌, ℕ, ◌+◌, ◌<◌, ◌≤◌, ◌⊎◌, max, min, Bool, List, [], ◌∷◌, ◌++◌, refl, sym, ap, subst, inl, inr, true, false, eqb, ltb, leb, arith}
+use Rattle.std.proofs.lemmas.Bool.{cases_Bool, eqb-true, ltb-false, le-leb, cases_lt}
 use Rattle.std.proofs.lemmas.Bool.Decides.{nat_tests}
 use Rattle.std.specs.List.{AllByRecursion}
 use Rattle.lamport_clock.specs.declared.stamp.Lamport.{Lamport}
 use Rattle.lamport_clock.specs.Clocks.{clock_after, last_value}
-use Rattle.lamport_clock.specs.Versions.{Entries, IsVersion, IsVersionFrom, entry, sees, within}
+use Rattle.lamport_clock.specs.Versions.{Entries, IsVersion, entry, sees, within}
 use Rattle.lamport_clock.proofs.Entries.{raise_version}
 use Rattle.op_model.specs.declared.operation.Operation.{Operation}
 use Rattle.op_model.specs.Operations.{stamp_of, version_of, last_replica}
@@ -88,22 +88,6 @@ stamped_from h ops r l = each_both (λ (o : Operation). (stamp_of o).value < 429
 pub version_is : (h : History) → AllByRecursion (λ (o : Operation). ((stamp_of o).value < 4294967296) × ((stamp_of o).replica < 65536)) h → IsVersion (version h)
 version_is [] e = tt
 version_is (o ∷ h) e = raise_version (version h) (stamp_of o) e.0.0 e.0.1 (version_is h e.1)
-
-ids_from : (n : ℕ) (v : Entries) → IsVersionFrom n v → AllByRecursion (λ (e : ℕ × ℕ). n ≤ e.0) v
-ids_from n [] i = tt
-ids_from n (e ∷ v) i = (i.0, each_map (λ (d : ℕ × ℕ). suc e.0 ≤ d.0) (λ (d : ℕ × ℕ). n ≤ d.0) (λ d l. (let a = i.0 in omega arith)) v (ids_from (suc e.0) v i.4))
-
-apart : (x y : ℕ) → suc x ≤ y → eqb x y ≡ false
-apart x y h = grind (arith, nat_tests)
-
--- each entry is what the version says
-pub own_entries : (n : ℕ) (v : Entries) → IsVersionFrom n v → AllByRecursion (λ (e : ℕ × ℕ). entry v e.0 ≡ e.1) v
-own_entries n [] i = tt
-own_entries n (e ∷ v) i = (
-  (let s = eq-eqb e.0 e.0 refl in rw s refl),
-  each_both (λ (d : ℕ × ℕ). entry v d.0 ≡ d.1) (λ (d : ℕ × ℕ). suc e.0 ≤ d.0) (λ (d : ℕ × ℕ). entry (e ∷ v) d.0 ≡ d.1)
-      (λ d a b. (let s = apart e.0 d.0 b in rw s a)) v (own_entries (suc e.0) v i.4) (ids_from (suc e.0) v i.4),
-)
 
 -- an operation that has the greatest value
 pub has_greatest : (h : History) (r : ℕ) → 0 < greatest h r → (m : Operation) × In h m × (stamp_of m ≡ record { value = greatest h r; replica = r })

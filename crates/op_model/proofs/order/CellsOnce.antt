@@ -1,18 +1,19 @@
 -- A sequence has each cell of its history once, in path order.
-use Rattle.op_model.proofs.Elements.{each_map, each_append, member_left, member_right}
-use Rattle.std.proofs.Common.{◌≡◌, ℕ, zero, suc, ◌+◌, ◌-◌, ◌<◌, ◌≤◌, ◌⊎◌, ◌↔◌, List, [], ◌∷◌, ◌++◌, length, map, refl, sym, ◌∙◌, ap, subst, inl, inr, true, false, arith}
+use Rattle.op_model.proofs.Elements.{each_map, each_append, member_left, member_right, each_member}
+use Rattle.std.proofs.Common.{◌≡◌, ℕ, zero, suc, ◌+◌, ◌-◌, ◌<◌, ◌≤◌, ◌⊎◌, ◌↔◌, List, [], ◌∷◌, ◌++◌, length, map, refl, sym, ◌∙◌, ap, subst, inl, inr, true, false, arith, Bool}
 use Rattle.std.specs.List.{AllByRecursion}
 use Rattle.std.proofs.lemmas.Bool.{cases_Bool, cases_lt}
-use Rattle.std.proofs.lemmas.List.{length-append}
+use Rattle.std.proofs.lemmas.List.{length-append, length-map}
 use Rattle.lamport_clock.specs.declared.stamp.Lamport.{Lamport}
 use Rattle.lamport_clock.specs.Stamps.{same_stamp}
 use Rattle.lamport_clock.proofs.Later.{same_stamp_eq, same_stamp_refl}
+use Rattle.lamport_clock.specs.Versions.{Entries, sees}
 use Rattle.op_model.specs.declared.operation.Operation.{Operation}
 use Rattle.op_model.specs.declared.operation.Piece.{Piece}
 use Rattle.op_model.specs.Sorted.{EachPair, Member, Ascending}
 use Rattle.op_model.specs.Operations.{stamp_of, version_of, pieces_of}
 use Rattle.op_model.specs.Histories.{History, In, Distinct, newest_first}
-use Rattle.op_model.specs.Cells.{Cell, same_cell, PathCell, before, put_all, left_path, text_places, new_places, op_places, both, everything, seq_where, seq, cells}
+use Rattle.op_model.specs.Cells.{Cell, same_cell, PathCell, before, put_all, left_path, text_places, new_places, op_places, both, everything, seq_where, seq, cells, cell_at}
 use Rattle.op_model.specs.Shown.{texts, new_bytes, IsCell}
 use Rattle.op_model.proofs.order.Insertion.{each_insert_all, member_new, member_old}
 use Rattle.op_model.proofs.order.PathOrder.{same_cell_refl as same_self}
@@ -20,6 +21,8 @@ use Rattle.op_model.proofs.order.LateOperation.{seq_nil, seq_kept}
 use Rattle.op_model.proofs.order.Restricted.{seq_up}
 use Rattle.op_model.proofs.order.SameSets.{newest_desc, newest_same, each_in}
 use Rattle.op_model.proofs.order.Unique.{Unique, seq_unique}
+use Rattle.op_model.specs.Facts.{Fact, alike}
+use Rattle.op_model.proofs.shown.FactCells.{cells_in}
 
 -- cells of edit t from k on, n of them
 abbrev Within : Lamport → ℕ → ℕ → PathCell → Type 0
@@ -82,10 +85,6 @@ new_at s t k (p ∷ ps) j h =
 
 at_old : (t : Lamport) (k : ℕ) (xs s : List PathCell) → At s t k → At (put_all xs s) t k
 at_old t k xs s a = (a.0, member_old before a.0 xs s a.1, a.2)
-
-pub each_member : {A : Type 0} (P : A → Type 0) (s : List A) (x : A) → AllByRecursion P s → Member x s → P x
-each_member P [] x e m = absurd m
-each_member P (y ∷ s) x e m = elim m [ inl i ↦ subst P (sym i) e.0 | inr n ↦ each_member P s x e.1 n ]
 
 at_new : (t : Lamport) (k : ℕ) (xs s : List PathCell) → At xs t k → At (put_all xs s) t k
 at_new t k xs s a = (a.0, each_member (λ (p : PathCell). Member p (put_all xs s)) xs a.0 (member_new before xs s) a.1, a.2)
@@ -183,3 +182,32 @@ all_cells h d c = (to, from)
         let a = all_at (newest_first h) b.0 c.k ((newest_same h b.0).1 b.1) b.3 in
         let e : a.0.cell ≡ c = a.2 ∙ ap (λ (t : Lamport). record { stamp = t; k = c.k }) b.2 in
         subst (λ (x : Cell). Member x (cells (seq_where everything (newest_first h)))) e (member_cells a.0 (seq_where everything (newest_first h)) a.1)
+
+-- ---- how many cells
+
+pub length_cells : (s : List PathCell) → length (cells s) ≡ length s
+length_cells s = length-map s (λ (p : PathCell). p.cell)
+
+-- ---- an edit's stamp is new
+
+pub cell_in : (n : ℕ) (t : Lamport) (k : ℕ) (v : Bool) (d : List Lamport) (s : List Fact) → 0 < n → Member (cell_at t k) (cells_in (alike t k n v d ++ s))
+cell_in zero t k v d s h = absurd (omega arith)
+cell_in (suc n) t k v d s h = inl refl
+
+pub in_more : (c : Cell) (a s : List Fact) → Member c (cells_in s) → Member c (cells_in (a ++ s))
+in_more c [] s m = m
+in_more c (x ∷ a) s m = inr (in_more c a s m)
+
+-- ---- the version of a history sees all of it
+
+pub seen_cell : (v : Entries) (h : History) (t : Lamport) → AllByRecursion (λ (o : Operation). sees v (stamp_of o) ≡ true) h → 0 < length (new_bytes h t) → sees v t ≡ true
+seen_cell v [] t e l = absurd (omega (arith, l))
+seen_cell v (o ∷ h) t e l = elim (cases_Bool (same_stamp (stamp_of o) t)) [
+  | inl q ↦ subst (λ (u : Lamport). sees v u ≡ true) (same_stamp_eq (stamp_of o) t q) e.0
+  | inr q ↦ seen_cell v h t e.1 (rw q at l)
+]
+
+pub alike_bounds : (c : Cell) (t : Lamport) (o n : ℕ) (v : Bool) (d : List Lamport) → Member c (cells_in (alike t o n v d)) → (t ≡ c.stamp) × (o ≤ c.k) × (c.k < o + n)
+alike_bounds c t o zero v d m = absurd m
+alike_bounds c t o (suc n) v d (inl e) = let k : c.k ≡ o = ap (λ (x : Cell). x.k) e in (ap (λ (x : Cell). x.stamp) (sym e), omega (arith, k), omega (arith, k))
+alike_bounds c t o (suc n) v d (inr m) = let k = alike_bounds c t (suc o) n v d m in let a = k.1 in let b = k.2 in (k.0, omega (arith, a), omega (arith, b))

@@ -1,7 +1,7 @@
 -- What is defined from a history depends on its set of operations alone; the part that a version sees.
 use Rattle.std.proofs.Math.Bool.{and-true}
 use Rattle.op_model.proofs.Elements.{each_map}
-use Rattle.std.proofs.Common.{◌≡◌, ◌⊎◌, Bool, [], ◌∷◌, refl, sym, ◌∙◌, ap, subst, inl, inr, true, false, ◌&&◌, arith}
+use Rattle.std.proofs.Common.{◌≡◌, ◌⊎◌, Bool, [], ◌∷◌, refl, sym, ◌∙◌, ap, subst, inl, inr, true, false, ◌&&◌}
 use Rattle.std.specs.List.{AllByRecursion}
 use Rattle.std.proofs.lemmas.Bool.{cases_Bool, and_left, and_right, not-false}
 use Rattle.lamport_clock.specs.Stamps.{later}

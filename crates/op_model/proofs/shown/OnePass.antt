@@ -25,7 +25,8 @@ use Rattle.op_model.proofs.order.Restricted.{restrict}
 use Rattle.op_model.proofs.order.SameSets.{newest_seen, newest_desc}
 use Rattle.op_model.proofs.shown.Deleters.{count_by_stamp}
 use Rattle.op_model.proofs.histories.OneMore.{Fits}
-use Rattle.op_model.proofs.answers.Good.{Ready, good_more, checked_of, fits_of}
+use Rattle.op_model.proofs.answers.Good.{Ready, good_more, checked_of, fits_of, lawful_ready}
+use Rattle.op_model.specs.Lawful.{Lawful}
 
 -- how many facts are of cells whose stamps pass
 pub passing_facts : (Lamport → Bool) → List Fact → ℕ
@@ -116,3 +117,6 @@ walk_seen h op rs r c e i l s =
     ap (λ (m : Marking). facts_of (walk m (sees (version_of op)) (stamp_of op) 0 0 (pieces_of op) rs))
     (sym (marking_same (stamp_of op) (kept_history (sees (version_of op)) (newest_first h)) (seen_history h (version_of op)) (version_of op) (count_seen h (version_of op))))
     ∙ walk_told h op rs r c e i l s
+
+pub unseen_self : (h : History) (op : Operation) → Lawful h → answer h [] op ≡ Good → sees (version_of op) (stamp_of op) ≡ false
+unseen_self h op l g = let k = checked_of h op g in not_self h op (fits_of h op (lawful_ready h l).0 k.0 k.1)

@@ -2,7 +2,7 @@
 use Rattle.op_model.proofs.order.PathOrder.{same_cell_refl as same_self}
 use Rattle.std.proofs.Math.Bool.{or-false}
 use Rattle.op_model.proofs.Elements.{each_map, each_both}
-use Rattle.std.proofs.Common.{◌≡◌, ℕ, zero, suc, ◌+◌, ◌-◌, ◌⊎◌, Bool, List, [], ◌∷◌, ◌++◌, length, map, refl, sym, ◌∙◌, ap, inl, inr, true, false, cond, ◌||◌, arith}
+use Rattle.std.proofs.Common.{◌≡◌, ℕ, zero, suc, ◌+◌, ◌-◌, ◌⊎◌, Bool, List, [], ◌∷◌, ◌++◌, length, map, refl, sym, ◌∙◌, ap, inl, inr, true, false, cond, arith}
 use Rattle.std.specs.List.{AllByRecursion}
 use Rattle.std.proofs.lemmas.Bool.{cases_Bool}
 use Rattle.lamport_clock.specs.declared.stamp.Lamport.{Lamport}

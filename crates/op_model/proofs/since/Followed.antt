@@ -1,17 +1,18 @@
 -- The edits since a version take the text then to the text now.
-use Rattle.std.proofs.Common.{◌≡◌, ℕ, zero, suc, ◌+◌, ◌-◌, ◌≤◌, ◌⊎◌, Bool, List, [], ◌∷◌, ◌++◌, length, map, take, drop, refl, sym, ◌∙◌, ap, subst, inl, inr, true, false, cond, ◌&&◌, arith, append_assoc}
+use Rattle.std.proofs.Common.{◌≡◌, ℕ, zero, suc, ◌+◌, ◌-◌, ◌≤◌, ◌⊎◌, Bool, List, [], ◌∷◌, ◌++◌, length, map, take, drop, refl, sym, ◌∙◌, ap, subst, inl, inr, true, false, cond, ◌&&◌, arith, append_assoc, ◌||◌, nat_lt}
 use Rattle.std.specs.Prelude.{slice_range}
 use Rattle.std.specs.List.{AllByRecursion, filter}
-use Rattle.std.proofs.lemmas.Bool.{cases_Bool}
+use Rattle.std.proofs.lemmas.Bool.{cases_Bool, lt-ltb}
 use Rattle.std.proofs.lemmas.List.{length-map, drop_all, append-nil}
 use Rattle.std.proofs.lemmas.List.Folds.{drop_split}
+use Rattle.std.proofs.Math.Bool.{or-true}
 use Rattle.lamport_clock.specs.Versions.{Entries, sees}
 use Rattle.op_model.specs.Histories.{History, newest_first, seen_history}
 use Rattle.op_model.specs.Cells.{Cell, PathCell, everything, seq_where, seq, cells}
 use Rattle.op_model.specs.Shown.{byte, shows, text_where, text}
 use Rattle.op_model.specs.Lawful.{Lawful, IsClosed}
 use Rattle.op_model.specs.Since.{Fate, fate, is_shown_at, lengthen, runs, number_gone, number_new, changes, edits_of, since, text_at, apply_edits}
-use Rattle.op_model.specs.Since.Fate.{Gone, New, Never}
+use Rattle.op_model.specs.Since.Fate.{Gone, New, Never, Kept}
 use Rattle.op_model.proofs.Elements.{same_first, same_rest, both_false}
 use Rattle.op_model.proofs.order.Restricted.{restrict}
 use Rattle.op_model.proofs.shown.Parts.{shown_seen}
@@ -247,3 +248,10 @@ since_told h v l c =
     let s : List Cell = cells (seq h) in
     follows (byte (newest_first h)) (is_shown_at h v) (shows h) (text_at h v) (text h) (runs (Rattle.op_model.specs.Since.fates h v)) s refl 0 0 0 (omega arith) (text_then h l v c) (text_now h)
     ∙ sym (text_now h)
+
+pub changes_is : (r : List Fate) → changes r ≡ (nat_lt 0 (number_gone r) || nat_lt 0 (number_new r))
+changes_is [] = refl
+changes_is (Gone ∷ r) = rw (lt-ltb 0 (suc (number_gone r)) (omega arith)) refl
+changes_is (New ∷ r) = rw (lt-ltb 0 (suc (number_new r)) (omega arith)) (sym (or-true (nat_lt 0 (number_gone r))))
+changes_is (Kept ∷ r) = changes_is r
+changes_is (Never ∷ r) = changes_is r

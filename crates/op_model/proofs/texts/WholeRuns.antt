@@ -1,6 +1,6 @@
 -- Runs that begin and end where characters of their texts do, and the hidden bytes.
 use Rattle.std.proofs.lemmas.List.{map-append as map_append, length-drop}
-use Rattle.op_model.proofs.Elements.{each_left, each_right, same_first, same_rest}
+use Rattle.op_model.proofs.Elements.{each_left, each_right, same_first, same_rest, each_map}
 use Rattle.std.proofs.Common.{◌≡◌, ℕ, zero, suc, ◌+◌, ◌-◌, ◌<◌, ◌≤◌, Bool, List, [], ◌∷◌, ◌++◌, length, map, take, drop, drop-cons, get_or, refl, sym, ◌∙◌, ap, subst, inl, inr, true, false, cond, not, arith}
 use Rattle.std.specs.Prelude.{IsUtf8, IsCharBoundary}
 use Rattle.std.specs.List.{AllByRecursion, filter}
@@ -16,12 +16,14 @@ use Rattle.op_model.specs.Histories.{History, Distinct, newest_first}
 use Rattle.op_model.specs.Cells.{Cell, PathCell, seq, cells}
 use Rattle.op_model.specs.Shown.{texts, new_bytes, IsCell, shows, hidden_text}
 use Rattle.op_model.specs.Facts.{Fact, Continues, fact, cell_facts, alike}
-use Rattle.op_model.specs.Walked.{Run, run_facts, facts_of}
+use Rattle.op_model.specs.Walked.{Run, run_facts, facts_of, IsWhole}
 use Rattle.op_model.proofs.order.SameSets.{newest_desc, newest_same}
 use Rattle.op_model.proofs.order.CellsOnce.{all_cells}
 use Rattle.op_model.proofs.texts.Utf8Runs.{bytes, run_bytes, Utf8}
-use Rattle.op_model.proofs.texts.WholeTexts.{byte_of, desc_distinct, Whole, some_runs, some_facts, some_some, some_utf8}
+use Rattle.op_model.proofs.texts.WholeTexts.{byte_of, desc_distinct, Whole, some_runs, some_facts, some_some, some_utf8, boundary_of}
 use Rattle.op_model.proofs.answers.SameAnswers.{bytes_same}
+use Rattle.op_model.specs.Lawful.{Lawful}
+use Rattle.op_model.proofs.answers.Good.{lawful_ready}
 
 -- the texts of all pieces are UTF-8
 abbrev pub Texts : History → Type 0
@@ -217,3 +219,11 @@ module _ (h : History) (d : Distinct h) where
 
       pub told_last : (xs : List Fact) (p : Fact) → cell_facts h ≡ xs ++ p ∷ [] → Finishes p
       told_last xs p e = finishes p rs cuts xs (tells ∙ e)
+
+-- ---- whole fragments have bytes of UTF-8, and those alone
+
+pub whole_runs : (h : History) → Lawful h → Texts h → (rs : List Run) → AllByRecursion (IsWhole h) rs → Utf8 (byte_of h) rs
+whole_runs h l u rs w =
+    let d : Distinct h = (lawful_ready h l).0.distinct in
+    utf8_runs h d u rs (each_map (IsWhole h) (λ (x : Run). Cut h d x.stamp x.offset x.len)
+    (λ x k. (boundary_of (new_bytes h x.stamp) x.offset k.0, boundary_of (new_bytes h x.stamp) (x.offset + x.len) k.1)) rs w)

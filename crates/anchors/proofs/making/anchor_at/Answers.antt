@@ -1,8 +1,8 @@
 use Rattle.std.proofs.Common.{sym, ap, ◌∙◌}
 use Rattle.anchors.specs.Making.{made_anchor}
-use Rattle.anchors.proofs.Made.{faultless_within}
 use Rattle.anchors.proofs.Orders.{anchors_come_back}
 use Rattle.op_model.specs.declared.anchor.Bias.TheVariants.{Left, Right}
+use Rattle.op_model.proofs.anchors.Standing.{faultless_within}
 use Rattle.anchors.proofs.making.anchor_at.Goals as goal
 
 pub returns-in-Left-clause-anchor : goal.returns-in-Left-clause-anchor

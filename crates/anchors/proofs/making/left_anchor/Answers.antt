@@ -3,8 +3,9 @@ use Rattle.std.specs.Prelude.{Option, IfSome}
 use Rattle.std.specs.Option.{option_map}
 use Rattle.anchors.specs.declared.making.Byte.{Byte}
 use Rattle.anchors.specs.Making.{cell_of, NextFits}
-use Rattle.anchors.proofs.Made.{left_start, left_within, left_some}
+use Rattle.anchors.proofs.Made.{left_some}
 use Rattle.anchors.proofs.making.left_anchor.Goals as goal
+use Rattle.op_model.proofs.anchors.Standing.{left_start, left_within}
 
 pub returns-then-o-eq0 : goal.returns-then-o-eq0
 returns-then-o-eq0 c = λ w u h s l m. left_start h c.args.o c.if-o-eq0.true

@@ -1,7 +1,7 @@
 use Rattle.std.proofs.Common.{ap, arith}
-use Rattle.tree_cursor.proofs.Counts.{fold_more}
 use Rattle.fragments.proofs.Counts.{own_cells}
 use Rattle.bench.proofs.undo.add.Goals as goal
+use Rattle.sum_tree.proofs.Counts.{fold_more}
 
 pub push-requires-clause-fits : goal.push-requires-clause-fits
 push-requires-clause-fits c =

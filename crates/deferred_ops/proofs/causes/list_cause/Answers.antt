@@ -2,8 +2,9 @@ use Rattle.std.proofs.Common.{sym, subst, ◌∙◌}
 use Rattle.std.specs.BTreeMap.{is_at}
 use Rattle.lamport_clock.specs.Versions.{IsVersion}
 use Rattle.op_model.specs.Sorted.{Member}
+use Rattle.op_model.proofs.settling.Causes.{first_listed}
 use Rattle.deferred_ops.specs.Deferred.{Cause, cause_order, has_cause}
-use Rattle.deferred_ops.proofs.Listing.{first_listed, inserted_listed, stays_true}
+use Rattle.deferred_ops.proofs.Listing.{inserted_listed, stays_true}
 use Rattle.deferred_ops.proofs.causes.list_cause.Goals as goal
 
 pub returns-clause-listed : goal.returns-clause-listed

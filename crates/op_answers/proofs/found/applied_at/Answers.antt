@@ -1,7 +1,7 @@
 use Rattle.std.proofs.Common.{sym, ap, ◌∙◌}
 use Rattle.lamport_clock.specs.Versions.{Entries, sees}
-use Rattle.op_answers.proofs.Closing.{unseen_none}
 use Rattle.op_answers.proofs.found.applied_at.Goals as goal
+use Rattle.op_model.proofs.answers.Closing.{unseen_none}
 
 pub returns-then-not-sees : goal.returns-then-not-sees
 returns-then-not-sees c =

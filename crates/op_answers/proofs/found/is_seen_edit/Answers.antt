@@ -1,7 +1,7 @@
 use Rattle.std.proofs.Common.{Bool, ◌&&◌, sym, ap, ◌∙◌}
 use Rattle.lamport_clock.specs.Versions.{sees}
-use Rattle.op_answers.proofs.Founds.{seen_edit}
 use Rattle.op_answers.proofs.found.is_seen_edit.Goals as goal
+use Rattle.op_model.proofs.answers.Founds.{seen_edit}
 
 pub returns : goal.returns
 returns c =

@@ -1,7 +1,7 @@
 use Rattle.std.proofs.Common.{sym, ap, ◌∙◌}
 use Rattle.lamport_clock.specs.Versions.{Entries, within}
 use Rattle.op_model.specs.Operations.{version_of}
-use Rattle.op_answers.proofs.Closing.{found_in}
+use Rattle.op_model.proofs.answers.Closing.{found_in}
 use Rattle.op_answers.proofs.found.latest_of.Goals as goal
 
 pub returns-in-Some : goal.returns-in-Some

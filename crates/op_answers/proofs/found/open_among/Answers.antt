@@ -5,7 +5,8 @@ use Rattle.op_model.specs.Operations.{version_of}
 use Rattle.op_model.specs.Histories.{version}
 use Rattle.op_model.specs.Answers.{is_entry_closed}
 use Rattle.op_model.proofs.answers.Good.{lawful_ready}
-use Rattle.op_answers.proofs.Closing.{same_closed, told_closed}
+use Rattle.op_model.proofs.answers.Closing.{same_closed}
+use Rattle.op_answers.proofs.Closing.{told_closed}
 use Rattle.op_answers.proofs.found.open_among.Goals as goal
 
 pub returns-then-sees_all : goal.returns-then-sees_all

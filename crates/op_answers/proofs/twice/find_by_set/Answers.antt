@@ -3,8 +3,9 @@ use Rattle.std.specs.BTreeSet.{contains}
 use Rattle.std.proofs.lemmas.Bool.{not-true}
 use Rattle.lamport_clock.specs.declared.stamp.Lamport.{Lamport}
 use Rattle.lamport_clock.specs.Stamps.{stamp_cmp}
-use Rattle.op_answers.proofs.Repeats.{goes_on, kept_on}
+use Rattle.op_answers.proofs.Repeats.{kept_on}
 use Rattle.op_answers.proofs.twice.find_by_set.Goals as goal
+use Rattle.op_model.proofs.answers.Repeats.{goes_on}
 
 pub loop-stamp-preserved : goal.loop-stamp-preserved
 loop-stamp-preserved c =

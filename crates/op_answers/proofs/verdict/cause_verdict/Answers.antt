@@ -2,7 +2,8 @@ use Rattle.std.proofs.Common.{Some, None, refl, ◌∙◌, ap, ◌≡◌}
 use Rattle.lamport_clock.specs.Versions.{within}
 use Rattle.op_model.specs.Operations.{version_of}
 use Rattle.op_model.specs.Answers.{first_missing}
-use Rattle.op_answers.proofs.Answering.{cause_by, causes_known}
+use Rattle.op_model.proofs.answers.Answering.{causes_known}
+use Rattle.op_answers.proofs.Answering.{cause_by}
 use Rattle.op_answers.proofs.verdict.cause_verdict.Goals as goal
 
 pub returns-in-Some : goal.returns-in-Some

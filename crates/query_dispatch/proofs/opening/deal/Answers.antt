@@ -5,8 +5,8 @@ use Rattle.snapshot_pub.specs.States.{ReaderState}
 use Rattle.query_workers.specs.Queue.{pairs_of}
 use Rattle.query_dispatch.specs.Published.{no_pair}
 use Rattle.query_dispatch.proofs.Readers.{served_more}
-use Rattle.query_dispatch.proofs.Places.{drop_at}
 use Rattle.query_dispatch.proofs.opening.deal.Goals as goal
+use Rattle.op_model.proofs.Elements.{drop_at}
 
 pub loop-worker-preserved : goal.loop-worker-preserved
 loop-worker-preserved c =

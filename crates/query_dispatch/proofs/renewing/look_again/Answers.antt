@@ -1,6 +1,6 @@
 use Rattle.std.proofs.Common.{arith}
-use Rattle.query_dispatch.proofs.Remakes.{bound_holds}
 use Rattle.query_dispatch.proofs.renewing.look_again.Goals as goal
+use Rattle.text_buffer.proofs.Fronts.{bound_holds}
 
 pub returns-then-entered-clause-bound : goal.returns-then-entered-clause-bound
 returns-then-entered-clause-bound c = λ h known few.

@@ -3,10 +3,10 @@ use Rattle.std.specs.Vec.Iter.{into_iter_items, into_iter_steps}
 use Rattle.std.proofs.lemmas.List.{length-map}
 use Rattle.logbook.specs.Pages.{Book}
 use Rattle.op_model.specs.declared.operation.Operation.{Operation}
+use Rattle.op_model.proofs.Elements.{drop_at}
 use Rattle.snapshot_pub.specs.States.{ReaderState, ToldState}
 use Rattle.query_dispatch.specs.Dealt.{AllAt, told_lists}
 use Rattle.query_dispatch.specs.Final.{IsBound}
-use Rattle.query_dispatch.proofs.Places.{drop_at}
 use Rattle.query_dispatch.proofs.Remakes.{bound_more, pair_at, size_at}
 use Rattle.query_dispatch.proofs.renewing.look_all.Goals as goal
 use Rattle.query_dispatch.proofs.renewing.look_all.Goals.{in_default-via-in-Some+in_default, in_default-via-in_default}

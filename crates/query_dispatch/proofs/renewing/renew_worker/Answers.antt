@@ -3,8 +3,9 @@ use Rattle.std.proofs.lemmas.List.{length-map}
 use Rattle.std.proofs.lemmas.Result.{IfOk-weaker}
 use Rattle.snapshot_pub.specs.States.{ToldState}
 use Rattle.query_workers.specs.Asks.{asks_of}
+use Rattle.query_workers.proofs.Answering.{plain_answers}
 use Rattle.query_dispatch.specs.Dealt.{told_lists}
-use Rattle.query_dispatch.proofs.Remakes.{plain_answers, renews}
+use Rattle.query_dispatch.proofs.Remakes.{renews}
 use Rattle.query_dispatch.proofs.renewing.renew_worker.Goals as goal
 
 pub renew_all-requires-clause-indices : goal.renew_all-requires-clause-indices

@@ -1,6 +1,7 @@
 use Rattle.std.proofs.Common.{arith, ◌∙◌}
-use Rattle.query_workers.proofs.Places.{all_from_places, published_more}
 use Rattle.query_workers.proofs.publishing.publish_all.Goals as goal
+use Rattle.text_buffer.proofs.Fronts.{published_more}
+use Rattle.op_model.proofs.Elements.{all_from_places}
 
 pub loop-i-preserved : goal.loop-i-preserved
 loop-i-preserved g c =

@@ -1,8 +1,8 @@
 use Rattle.std.proofs.Common.{◌≡◌, ℕ, ◌-◌, List, sym, subst, ◌∙◌, IfOk, arith}
-use Rattle.undo_map.proofs.Seeking.{none_past}
 use Rattle.remote_edit.proofs.Places.{last_taken, none_before}
 use Rattle.remote_edit.proofs.gather.id_before.Goals as goal
 use Rattle.remote_edit.proofs.gather.id_before.Goals.{then-at-gt0+in_default, else-at-gt0}
+use Rattle.op_model.proofs.Elements.{none_past}
 
 pub returns-in-Some : goal.returns-in-Some
 returns-in-Some c = c.in_ok-copy.ensures.digits ∙ sym (last_taken c.args.tree.now.items (c.args.at - 1) c.args.at c.in-Some.fragment.now (omega (arith, c.if-at-gt0.true)) c.in-Some.ensures)

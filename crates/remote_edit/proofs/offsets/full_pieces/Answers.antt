@@ -1,8 +1,9 @@
 use Rattle.std.proofs.Common.{◌∙◌, ◌≤◌, length, map, ap, arith}
 use Rattle.std.proofs.lemmas.List.{take_all}
 use Rattle.remote_edit.specs.Offsets.{IsInText, piece_in}
-use Rattle.remote_edit.proofs.FullIn.{each_at, pieces_are}
+use Rattle.remote_edit.proofs.FullIn.{pieces_are}
 use Rattle.remote_edit.proofs.offsets.full_pieces.Goals as goal
+use Rattle.op_model.proofs.texts.Pieces.{each_at}
 
 pub full_piece-requires-clause-range : goal.full_piece-requires-clause-range
 full_piece-requires-clause-range c = each_at (IsInText c.args.tree.now.items) c.args.changes.now c.loop-change.change-index c.change-item.result c.requires.ranges c.loop-change-test.true c.change-item.is

@@ -11,20 +11,22 @@ use Rattle.op_model.specs.Walked.{IsWhole}
 use Rattle.op_model.proofs.histories.MoreLawful.{lawful_more}
 use Rattle.op_model.proofs.texts.Utf8Runs.{Utf8}
 use Rattle.op_model.proofs.texts.WholeTexts.{byte_of}
+use Rattle.op_model.proofs.shown.OnePass.{unseen_self}
 use Rattle.undo_map.specs.declared.entry.UndoEntry.{UndoEntry}
+use Rattle.undo_map.proofs.Entries.{entries_edit}
 use Rattle.fragments.specs.declared.fragment.Fragment.{Fragment}
 use Rattle.fragments.specs.Stand.{runs, IsFilled, Tell, Rise, SeesUndos}
+use Rattle.fragments.proofs.Cells.{whole_fragments, utf8_more}
 use Rattle.remote_edit.specs.Walk.{walk}
 use Rattle.remote_edit.specs.Carried.{CarryOn}
 use Rattle.remote_edit.specs.BeforeEdit.{before_edit, Brings}
-use Rattle.remote_edit.proofs.Marks.{entries_edit}
 use Rattle.remote_edit.proofs.Rises.{walk_rises}
 use Rattle.remote_edit.proofs.Runs.{walk_tells}
 use Rattle.remote_edit.proofs.Undos.{walk_undos}
-use Rattle.remote_edit.proofs.Standing.{indexed_start, unseen_self, fit_start}
+use Rattle.remote_edit.proofs.Standing.{indexed_start, fit_start}
 use Rattle.remote_edit.proofs.EditTexts.{told_before, brings, shown_by_counts}
 use Rattle.remote_edit.proofs.Texts.{carried_texts, carried_characters}
-use Rattle.remote_edit.proofs.WholeFragments.{texts_are, whole_fragments, utf8_more, placed_utf8}
+use Rattle.remote_edit.proofs.WholeFragments.{texts_are, placed_utf8}
 use Rattle.remote_edit.proofs.place.place_edit.Goals as goal
 
 pub walk_in-requires-clause-fit : goal.walk_in-requires-clause-fit

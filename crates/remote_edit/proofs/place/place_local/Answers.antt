@@ -1,6 +1,7 @@
-use Rattle.remote_edit.proofs.Local.{in_text, made_is}
+use Rattle.remote_edit.proofs.Local.{in_text}
 use Rattle.remote_edit.proofs.Making.{may_place, room_in, seen_in, ordered_in, steps_in}
 use Rattle.remote_edit.proofs.place.place_local.Goals as goal
+use Rattle.op_model.proofs.answers.Local.{local_edit_is}
 
 pub full_pieces-requires-clause-room : goal.full_pieces-requires-clause-room
 full_pieces-requires-clause-room g c = room_in c.args.tree.now.items c.args.index.now c.args.undos.now c.args.stamp c.args.version c.args.changes.now c.requires
@@ -12,7 +13,7 @@ pub place_edit-requires : goal.place_edit-requires
 place_edit-requires g c = may_place c.args.tree.now.items c.args.index.now c.args.undos.now c.args.stamp c.args.version c.args.changes.now c.requires c.in_ok-pieces.pieces (c.in_ok-pieces.ensures c.requires.history c.requires.stands.cells)
 
 pub returns-clause-made : goal.returns-clause-made
-returns-clause-made g c = λ h s e f. made_is h c.args.stamp c.args.changes.now c.in_ok-pieces.pieces c.args.version e f (c.in_ok-pieces.ensures h s.cells)
+returns-clause-made g c = λ h s e f. local_edit_is h c.args.stamp c.args.changes.now c.in_ok-pieces.pieces c.args.version e f (c.in_ok-pieces.ensures h s.cells)
 
 pub returns-clause-fragments : goal.returns-clause-fragments
 returns-clause-fragments g c = c.in_ok-placed.ensures.fragments

@@ -3,10 +3,10 @@ use Rattle.std.specs.Prelude.{OnOk}
 use Rattle.std.proofs.lemmas.Option.{slice_get_within}
 use Rattle.sum_tree.specs.Laws.{fold}
 use Rattle.sum_tree.specs.Spliced.{splice_list}
+use Rattle.sum_tree.proofs.Lists.{spliced_self}
 use Rattle.fragments.specs.declared.fragment.Fragment.{Fragment}
 use Rattle.fragments.specs.Summaries.{no_fragments, summaries, summary_of, SummaryFits}
 use Rattle.remote_edit.proofs.Anew.{concerned, unconcerned}
-use Rattle.remote_edit.proofs.Halves.{spliced_self}
 use Rattle.remote_edit.proofs.undo.put_anew.Goals as goal
 
 pub returns-then-not-is_concerned : goal.returns-then-not-is_concerned

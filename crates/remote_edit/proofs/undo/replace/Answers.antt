@@ -1,9 +1,9 @@
 use Rattle.std.proofs.Common.{◌+◌, ◌≤◌, ◌^◌, List, length, subst, sym, arith}
 use Rattle.sum_tree.specs.Laws.{fold}
 use Rattle.sum_tree.specs.Spliced.{splice_list}
+use Rattle.sum_tree.proofs.Lists.{spliced_long}
 use Rattle.fragments.specs.declared.fragment.Fragment.{Fragment}
 use Rattle.fragments.specs.Summaries.{no_fragments, summaries, summary_of, SummaryFits}
-use Rattle.remote_edit.proofs.Halves.{spliced_long}
 use Rattle.remote_edit.proofs.undo.replace.Goals as goal
 
 pub splice-requires-clause-short : goal.splice-requires-clause-short

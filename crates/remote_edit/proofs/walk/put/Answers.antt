@@ -1,7 +1,7 @@
 use Rattle.std.proofs.Common.{arith, length}
-use Rattle.remote_edit.proofs.Places.{few, fits}
 use Rattle.remote_edit.proofs.Intake.{put_few}
 use Rattle.remote_edit.proofs.walk.put.Goals as goal
+use Rattle.fragments.proofs.Cells.{few, fits}
 
 pub splice_counted-requires-clause-short : goal.splice_counted-requires-clause-short
 splice_counted-requires-clause-short g c = let k = few _ c.requires.fit.0 in omega (arith, k, c.requires.fit.1)

@@ -2,8 +2,9 @@ use Rattle.std.proofs.Common.{◌≡◌, ◌+◌, ◌-◌, ◌<◌, length, take
 use Rattle.std.specs.List.{concat}
 use Rattle.sum_tree.specs.Shape.{join_items}
 use Rattle.sum_tree.proofs.Children.{step_len, joined-take_le}
-use Rattle.rope_chunks.proofs.Spots.{fold_len, read_any, child_step, last_child}
+use Rattle.rope_chunks.proofs.Spots.{read_any, child_step, last_child}
 use Rattle.rope_chunks.proofs.spot.child_at.Goals as goal
+use Rattle.text_dims.proofs.Sums.{fold_len}
 
 pub returns-then-rest-bytes-clause-within : goal.returns-then-rest-bytes-clause-within
 returns-then-rest-bytes-clause-within c = λ d.

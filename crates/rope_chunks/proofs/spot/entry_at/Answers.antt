@@ -1,7 +1,8 @@
 use Rattle.std.proofs.Common.{◌≡◌, ◌-◌, ◌<◌, length, take, ap, arith, length-append}
 use Rattle.std.specs.List.{concat}
-use Rattle.rope_chunks.proofs.Spots.{sum_len, read_any, entry_step, last_entry}
+use Rattle.rope_chunks.proofs.Spots.{read_any, entry_step, last_entry}
 use Rattle.rope_chunks.proofs.spot.entry_at.Goals as goal
+use Rattle.text_dims.proofs.Sums.{sum_len}
 
 pub returns-then-rest-bytes-clause-within : goal.returns-then-rest-bytes-clause-within
 returns-then-rest-bytes-clause-within c = λ d.

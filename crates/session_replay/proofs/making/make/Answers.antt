@@ -1,11 +1,12 @@
 use Rattle.std.proofs.Common.{ℕ, ◌++◌, ◌∙◌, ap, arith}
 use Rattle.std.proofs.lemmas.Result.{IfOk-weaker}
 use Rattle.session_maker.specs.Made.{rounds_from}
+use Rattle.session_maker.proofs.Ids.{ids_again, ids_are_editors, ids_counted}
 use Rattle.session_replay.specs.Making.{length_at, made_opening, made_session, summary_of}
 use Rattle.session_replay.specs.MakingOn.{work_state}
 use Rattle.session_replay.specs.Work.{after_all}
 use Rattle.session_replay.specs.declared.making.Making.{Making}
-use Rattle.session_replay.proofs.Rounds.{ids_again, ids_are_editors, ids_counted, summed}
+use Rattle.session_replay.proofs.Rounds.{summed}
 use Rattle.session_replay.proofs.making.make.Goals as goal
 
 pub new-requires-clause-counted : goal.new-requires-clause-counted

@@ -1,6 +1,6 @@
 use Rattle.std.proofs.Common.{◌++◌, ap, ◌∙◌, arith}
 use Rattle.session_lines.specs.Report.{line_text}
-use Rattle.session_replay.proofs.Steps.{more_lines, all_lines}
+use Rattle.session_lines.proofs.Reports.{more_lines, all_lines}
 use Rattle.session_replay.proofs.replay.write_answers.Goals as goal
 
 pub loop-answer-preserved : goal.loop-answer-preserved

@@ -3,8 +3,9 @@ use Rattle.std.proofs.lemmas.Bool.{eqb-true, false≢true}
 use Rattle.fragments.specs.declared.fragment.Fragment.{Fragment}
 use Rattle.fragments.specs.Laws.{whole_base}
 use Rattle.fragments.specs.Stand.{entry_of}
+use Rattle.fragments.proofs.Bases.{empty_base, one_base}
 use Rattle.remote_edit.proofs.Fragments.{fragment_of_base, fragments_of_base}
-use Rattle.text_buffer.proofs.Contents.{empty_base, one_base, whole_one}
+use Rattle.text_buffer.proofs.Contents.{whole_one}
 use Rattle.text_buffer.proofs.content.base_fragments.Goals as goal
 
 pub returns-then-is_empty-clause-stand : goal.returns-then-is_empty-clause-stand

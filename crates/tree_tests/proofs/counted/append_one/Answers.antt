@@ -1,6 +1,6 @@
 use Rattle.std.proofs.Common.{length, ap, refl, arith, length-append}
-use Rattle.tree_cursor.proofs.Counts.{fold_counts}
 use Rattle.tree_tests.proofs.counted.append_one.Goals as goal
+use Rattle.sum_tree.proofs.Counts.{fold_counts}
 
 pub from_item-requires : goal.from_item-requires
 from_item-requires g c = omega arith

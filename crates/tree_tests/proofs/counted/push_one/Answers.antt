@@ -1,6 +1,6 @@
 use Rattle.std.proofs.Common.{[], ◌∷◌, refl, arith, length-append}
-use Rattle.tree_cursor.proofs.Counts.{fold_counts}
 use Rattle.tree_tests.proofs.counted.push_one.Goals as goal
+use Rattle.sum_tree.proofs.Counts.{fold_counts}
 
 pub push_counted-requires-clause-fits : goal.push_counted-requires-clause-fits
 push_counted-requires-clause-fits g c =

@@ -1,7 +1,7 @@
 use Rattle.std.proofs.Common.{length, take, drop, ◌++◌, ap, refl, arith, length-append}
 use Rattle.std.proofs.lemmas.List.{length-take, length-drop}
-use Rattle.tree_cursor.proofs.Counts.{fold_counts}
 use Rattle.tree_tests.proofs.counted.without_first.Goals as goal
+use Rattle.sum_tree.proofs.Counts.{fold_counts}
 
 pub splice_counted-requires-clause-short : goal.splice_counted-requires-clause-short
 splice_counted-requires-clause-short g c =

@@ -1,6 +1,6 @@
 use Rattle.std.proofs.Common.{ap, refl, arith}
-use Rattle.tree_cursor.proofs.Counts.{fold_more}
 use Rattle.tree_tests.proofs.cursors.push_one.Goals as goal
+use Rattle.sum_tree.proofs.Counts.{fold_more}
 
 pub push-requires-clause-fits : goal.push-requires-clause-fits
 push-requires-clause-fits c =

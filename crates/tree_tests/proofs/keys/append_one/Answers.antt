@@ -1,6 +1,6 @@
 use Rattle.std.proofs.Common.{length, ap, refl, arith, length-append}
-use Rattle.tree_cursor.proofs.Counts.{fold_counts}
 use Rattle.tree_tests.proofs.keys.append_one.Goals as goal
+use Rattle.sum_tree.proofs.Counts.{fold_counts}
 
 pub same-tree : goal.same-tree
 same-tree c = refl

@@ -2,7 +2,7 @@ use Rattle.std.proofs.Common.{refl, arith}
 use Rattle.std.specs.Ordering.{nat_cmp}
 use Rattle.std.proofs.lemmas.Cmp.{nat_cmp_total}
 use Rattle.sum_tree.proofs.Keys.{inserted_short}
-use Rattle.tree_cursor.proofs.Counts.{fold_counts}
+use Rattle.sum_tree.proofs.Counts.{fold_counts}
 use Rattle.tree_tests.specs.declared.ranked.Number.{Number}
 use Rattle.tree_tests.proofs.keys.put.Goals as goal
 

@@ -1,5 +1,5 @@
-use Rattle.std.proofs.Common.{◌≡◌, ap}
-use Rattle.undo_map.proofs.Seeking.{IsFirst, cursor_first}
+use Rattle.std.proofs.Common.{ap}
+use Rattle.undo_map.proofs.Seeking.{cursor_first}
 use Rattle.undo_map.proofs.map.entries_from.Goals as goal
 
 pub returns-clause-within : goal.returns-clause-within

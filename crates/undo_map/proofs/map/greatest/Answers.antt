@@ -1,4 +1,4 @@
-use Rattle.std.proofs.Common.{◌≡◌, ◌∙◌, ◌+◌, ◌-◌, ◌<◌, min, sym, ap, arith, length, get_or, take, false, ℕ, List}
+use Rattle.std.proofs.Common.{◌≡◌, ◌∙◌, ◌+◌, ◌-◌, ◌<◌, sym, ap, arith, length, get_or, take, false, ℕ, List}
 use Rattle.std.specs.Option.{option_copied}
 use Rattle.lamport_clock.specs.Stamps.{same_stamp}
 use Rattle.undo_map.specs.declared.entry.UndoEntry.{UndoEntry}

@@ -3,8 +3,9 @@ use Rattle.op_model.specs.Operations.{stamp_of}
 use Rattle.op_model.specs.Histories.{History, operation_at}
 use Rattle.applied_ops.specs.declared.stamp_entry.StampEntry.{StampEntry}
 use Rattle.applied_ops.specs.Placed.{AreEntriesOf}
-use Rattle.applied_ops.proofs.Placing.{kept, placed, inserted_long, counts_fit, pushed_long}
+use Rattle.applied_ops.proofs.Placing.{kept, placed, inserted_long, pushed_long}
 use Rattle.applied_ops.proofs.list.AppliedList.push.Goals as goal
+use Rattle.sum_tree.proofs.Counts.{counts_fit}
 
 pub insert-requires-clause-short : goal.insert-requires-clause-short
 insert-requires-clause-short c = inserted_long (record { stamp = c.stamp-stamp.result; index = c.len-index.result }) c.self.inside.entries.items (omega (arith, c.len.ensures))

@@ -3,9 +3,10 @@ use Rattle.std.proofs.lemmas.Bool.{and_parts}
 use Rattle.std.specs.Map.{values_of}
 use Rattle.op_model.specs.Sorted.{Ascending, Member}
 use Rattle.op_model.specs.Steps.{older}
+use Rattle.op_model.proofs.settling.Causes.{missing_listed}
 use Rattle.deferred_ops.specs.Deferred.{Cause}
 use Rattle.deferred_ops.proofs.Keyed.{looked_up}
-use Rattle.deferred_ops.proofs.Listing.{dropped_listed, missing_listed, relisted}
+use Rattle.deferred_ops.proofs.Listing.{dropped_listed, relisted}
 use Rattle.deferred_ops.proofs.deferred.Deferred.relist.Goals as goal
 
 pub invariant_of-self-in_default-get : goal.invariant_of-self-in_default-get

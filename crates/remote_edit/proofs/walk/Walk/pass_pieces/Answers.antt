@@ -1,10 +1,11 @@
 use Rattle.std.proofs.Common.{◌≡◌, ℕ, ◌+◌, List, ◌∷◌, ◌++◌, length, take, drop, sym, ap, subst, ◌∙◌, arith, take-append-drop}
 use Rattle.op_model.specs.declared.operation.Piece.{Piece}
 use Rattle.op_model.specs.Operations.{text_total}
+use Rattle.op_model.proofs.texts.Pieces.{next_piece}
 use Rattle.fragments.specs.declared.fragment.Fragment.{Fragment}
 use Rattle.fragments.specs.Laws.{cells_len}
 use Rattle.remote_edit.specs.Walk.{Fit, one_piece, walk}
-use Rattle.remote_edit.proofs.Pieces.{next_piece, walk_none, walk_one}
+use Rattle.remote_edit.proofs.Pieces.{walk_none, walk_one}
 use Rattle.remote_edit.proofs.Changing.{no_text}
 use Rattle.remote_edit.proofs.Budget.{IsOnBudget, budget_none, budget_near, budget_one, budget_end, budget_all, budget_touched, steps_by}
 use Rattle.remote_edit.proofs.walk.Walk.pass_pieces.Goals as goal

@@ -1,10 +1,10 @@
 use Rattle.std.proofs.Common.{◌≡◌, ℕ, ◌+◌, ◌-◌, drop, refl, arith}
-use Rattle.remote_edit.proofs.Places.{fits}
 use Rattle.remote_edit.proofs.Passing.{place_room}
 use Rattle.remote_edit.proofs.Seeking.{found, in_first}
-use Rattle.remote_edit.proofs.Starts.{left_of, within_none}
+use Rattle.remote_edit.proofs.Starts.{left_of}
 use Rattle.remote_edit.proofs.walk.Walk.seek.Goals as goal
 use Rattle.remote_edit.proofs.walk.Walk.seek.Goals.{then-count-eq0-via-then-count-eq0, then-count-eq0-via-else-count-eq0+then-count-gt-MOST_CELLS}
+use Rattle.fragments.proofs.Cells.{fits, within_none}
 
 pub overflow_add-target : goal.overflow_add-target
 overflow_add-target c = let p = place_room c.args.edit.now.version c.args.self.now.tree.items c.args.self.now.at c.args.self.now.place c.requires.fit c.requires.place in omega (arith, p, c.if-count-gt-MOST_CELLS.false)

@@ -1,9 +1,10 @@
 use Rattle.std.proofs.Common.{◌-◌, Bool, length, sym, subst, ◌∙◌}
 use Rattle.tree_cursor.specs.declared.traits.Bias.TheVariants.{Left}
 use Rattle.text_dims.specs.declared.places.Place.{Place}
+use Rattle.text_dims.proofs.Fronts.{cut_within}
 use Rattle.rope_chunks.specs.Stops.{HasRoom}
 use Rattle.rope_chunks.proofs.Stops.{Stays}
-use Rattle.rope_chunks.proofs.Fronts.{cut_within, room_past, stop_behind}
+use Rattle.rope_chunks.proofs.Fronts.{room_past, stop_behind}
 use Rattle.rope_chunks.proofs.look.Front.before.Goals as goal
 
 pub returns-clause-within : goal.returns-clause-within

@@ -1,7 +1,8 @@
 use Rattle.std.proofs.Common.{◌≡◌, ◌∙◌, ap, sym, refl, Some}
 use Rattle.std.proofs.lemmas.Bool.{eq-eqb, ne_eqb}
-use Rattle.rope_chunks.proofs.PointClips.{in_row, point_on}
+use Rattle.rope_chunks.proofs.PointClips.{point_on}
 use Rattle.rope_chunks.proofs.rope.Rope.point_on.Goals as goal
+use Rattle.text_dims.proofs.PointClips.{in_row}
 
 pub returns-then-place-point : goal.returns-then-place-point
 returns-then-place-point c =

@@ -1,6 +1,6 @@
 use Rattle.std.proofs.Common.{ap, ◌∙◌}
 use Rattle.text_dims.specs.Summaries.{summary_of}
-use Rattle.rope_chunks.proofs.Texts.{fold_is}
+use Rattle.text_dims.proofs.Sums.{fold_is}
 use Rattle.rope_chunks.proofs.rope.Rope.summary.Goals as goal
 
 pub returns : goal.returns

@@ -3,13 +3,13 @@ use Rattle.std.proofs.lemmas.Result.{on_ok_weaker}
 use Rattle.query_workers.specs.Asks.{Ask}
 use Rattle.session_lines.specs.Report.{report_text}
 use Rattle.session_lines.specs.declared.session.SessionLine.{SessionLine}
+use Rattle.session_lines.proofs.Reports.{nothing_written}
 use Rattle.session_replay.specs.Work.{events, step}
 use Rattle.session_replay.specs.Working.{state_of}
 use Rattle.session_replay.specs.Beside.{IsAsking, asks_among}
 use Rattle.session_replay.specs.Queries.{query_at, query_with}
 use Rattle.session_replay.specs.declared.queries.Question.{Question}
 use Rattle.session_replay.specs.declared.replay.Progress.{Progress}
-use Rattle.session_replay.proofs.Steps.{nothing_written}
 use Rattle.session_replay.proofs.Asking.{asking_steps, asks_count, asks_only, no_question, nothing_asked, on_any}
 use Rattle.session_replay.proofs.beside.Editor.work_line.Goals as goal
 

@@ -1,11 +1,12 @@
 use Rattle.std.proofs.Common.{◌≡◌, [], ◌∷◌, None, Some, option_and_then, refl, ap, ◌∙◌}
 use Rattle.op_model.specs.Anchors.{place_fault}
 use Rattle.session_lines.specs.declared.report.Report.TheVariants as report
+use Rattle.session_lines.proofs.Reports.{line_reported}
 use Rattle.session_replay.specs.Names.{anchor_answer, new_anchor, with_name}
 use Rattle.session_replay.specs.Work.{history_at}
 use Rattle.session_replay.specs.Working.{state_of}
 use Rattle.session_replay.proofs.Named.{made_is}
-use Rattle.session_replay.proofs.Steps.{line_reported, none_reported, one_reported, same_names}
+use Rattle.session_replay.proofs.Steps.{none_reported, one_reported, same_names}
 use Rattle.session_replay.proofs.replay.Progress.work_anchor.Goals as goal
 
 pub returns-in_default-clause-report : goal.returns-in_default-clause-report

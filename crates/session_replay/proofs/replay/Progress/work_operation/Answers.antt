@@ -1,8 +1,8 @@
 use Rattle.std.proofs.Common.{◌∙◌, ap}
 use Rattle.session_lines.specs.declared.report.Report.TheVariants as report
+use Rattle.session_lines.proofs.Reports.{line_reported}
 use Rattle.session_replay.specs.Work.{next_number}
 use Rattle.session_replay.specs.Working.{state_of}
-use Rattle.session_replay.proofs.Steps.{line_reported}
 use Rattle.session_replay.proofs.replay.Progress.work_operation.Goals as goal
 
 pub returns-clause-report : goal.returns-clause-report

@@ -2,7 +2,7 @@ use Rattle.std.proofs.Common.{◌++◌, List, refl, sym, ap, ◌∙◌}
 use Rattle.std.specs.Option.{option_to_list}
 use Rattle.session_lines.specs.Report.{report_text}
 use Rattle.session_lines.specs.declared.report.Report.{Report}
-use Rattle.session_replay.proofs.Steps.{line_reported, nothing_written}
+use Rattle.session_lines.proofs.Reports.{line_reported, nothing_written}
 use Rattle.session_replay.proofs.replay.Progress.work_since.Goals as goal
 
 pub returns-in_default-clause-report : goal.returns-in_default-clause-report

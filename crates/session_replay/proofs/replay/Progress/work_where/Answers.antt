@@ -1,9 +1,10 @@
 use Rattle.std.proofs.Common.{◌≡◌, [], ◌∷◌, None, Some, ap, ◌∙◌}
 use Rattle.session_lines.specs.declared.report.Report.TheVariants as report
+use Rattle.session_lines.proofs.Reports.{line_reported}
 use Rattle.session_replay.specs.Names.{under, where_answer}
 use Rattle.session_replay.specs.Work.{history_at}
 use Rattle.session_replay.specs.Working.{state_of}
-use Rattle.session_replay.proofs.Steps.{line_reported, none_reported, one_reported}
+use Rattle.session_replay.proofs.Steps.{none_reported, one_reported}
 use Rattle.session_replay.proofs.replay.Progress.work_where.Goals as goal
 
 pub returns-in_default-clause-report : goal.returns-in_default-clause-report

@@ -1,7 +1,7 @@
 use Rattle.std.proofs.Common.{◌++◌, ap, ◌∙◌}
 use Rattle.session_lines.specs.Report.{line_text}
 use Rattle.session_lines.specs.declared.report.Report.TheVariants as report
-use Rattle.session_replay.proofs.Reports.{more_reported}
+use Rattle.session_lines.proofs.Reports.{more_reported}
 use Rattle.session_replay.proofs.replica.Replica.report_and_settle.Goals as goal
 
 pub returns-clause-report : goal.returns-clause-report

@@ -3,7 +3,8 @@ use Rattle.op_model.specs.Shown.{text}
 use Rattle.text_dims.specs.Summaries.{summary_of}
 use Rattle.text_buffer.specs.Buffer.{BufferState}
 use Rattle.text_dims.specs.declared.summary.TextSummary.{TextSummary}
-use Rattle.session_replay.proofs.Ends.{rows_few, rows_are}
+use Rattle.text_dims.proofs.Ends.{rows_are}
+use Rattle.session_replay.proofs.Ends.{rows_few}
 use Rattle.session_replay.proofs.replica.Replica.row_count.Goals as goal
 
 pub overflow_add-result : goal.overflow_add-result

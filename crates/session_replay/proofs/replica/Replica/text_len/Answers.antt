@@ -1,8 +1,8 @@
 use Rattle.std.proofs.Common.{◌≡◌, ◌∙◌, length, ap, arith}
 use Rattle.op_model.specs.Shown.{text}
 use Rattle.text_dims.specs.declared.summary.TextSummary.{TextSummary}
+use Rattle.text_dims.proofs.Ends.{bytes_are}
 use Rattle.text_buffer.specs.Buffer.{BufferState, IsBuffer}
-use Rattle.session_replay.proofs.Ends.{bytes_are}
 use Rattle.session_replay.proofs.replica.Replica.text_len.Goals as goal
 
 pub returns-clause-len : goal.returns-clause-len

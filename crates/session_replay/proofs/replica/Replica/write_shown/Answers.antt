@@ -3,8 +3,8 @@ use Rattle.op_model.specs.Shown.{text}
 use Rattle.text_dims.specs.Summaries.{summary_of}
 use Rattle.text_buffer.specs.Buffer.{BufferState}
 use Rattle.session_replay.proofs.Ends.{shown_is}
-use Rattle.session_replay.proofs.Steps.{line_reported}
 use Rattle.session_replay.proofs.replica.Replica.write_shown.Goals as goal
+use Rattle.session_lines.proofs.Reports.{line_reported}
 
 pub returns : goal.returns
 returns c =

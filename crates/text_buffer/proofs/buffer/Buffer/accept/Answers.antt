@@ -1,8 +1,8 @@
 use Rattle.std.proofs.Common.{inr, sym, ◌∙◌, ap, subst, length}
 use Rattle.op_model.proofs.settling.Settling.{good_alone}
+use Rattle.op_model.proofs.histories.Growing.{shape_of}
 use Rattle.text_buffer.specs.Buffer.{BufferState, AllMiss, IsPartly, after_settle}
 use Rattle.text_buffer.specs.Settling.{IsStoppedSettling, IsTakenPartly}
-use Rattle.text_buffer.proofs.Applied.{shape_of}
 use Rattle.text_buffer.proofs.Taken.{answer_good, one_applied, not_less, says, on_err}
 use Rattle.text_buffer.proofs.buffer.Buffer.accept.Goals as goal
 

@@ -3,10 +3,11 @@ use Rattle.op_model.specs.Histories.{History, version}
 use Rattle.op_model.specs.Operations.{stamp_of}
 use Rattle.op_model.specs.Answers.{answer}
 use Rattle.op_model.specs.Answers.Answer.{Good}
+use Rattle.op_model.proofs.histories.Growing.{fresh_of}
 use Rattle.lamport_clock.specs.Versions.{raise}
 use Rattle.text_buffer.specs.Document.{HasRoom, IsContent}
 use Rattle.text_buffer.specs.DocumentInside.{IsDocumentInside}
-use Rattle.text_buffer.proofs.Applied.{IsDocumentInside-applied, fresh_of, stay_few}
+use Rattle.text_buffer.proofs.Applied.{IsDocumentInside-applied, stay_few}
 use Rattle.text_buffer.proofs.document.Document.push.Goals as goal
 
 pub append-requires : goal.append-requires

@@ -5,9 +5,10 @@ use Rattle.op_model.specs.Operations.{pieces_of}
 use Rattle.op_model.specs.Histories.{clock, version}
 use Rattle.op_model.specs.Made.{local_edit}
 use Rattle.op_model.specs.Shown.{hidden_text, text, texts}
+use Rattle.op_model.proofs.answers.Local.{made_edit_texts}
 use Rattle.remote_edit.specs.Moves.{TakeTexts}
 use Rattle.remote_edit.proofs.Fragments.{fragments_with_edit}
-use Rattle.text_buffer.proofs.Contents.{content_after, content_seen, history_seen, edit_room, made_grows, made_texts, may_make}
+use Rattle.text_buffer.proofs.Contents.{content_after, content_seen, history_seen, edit_room, made_grows, may_make}
 use Rattle.text_buffer.proofs.document.Document.with_changes.Goals as goal
 
 pub place_local-requires : goal.place_local-requires
@@ -29,7 +30,7 @@ content_of-requires-clause-texts g c =
     let op = Edit c.in_ok-edit.edit in
     let i : op ≡ local_edit h c.args.replica c.args.changes.now = c.in_ok-edit.ensures.made h k.stand v z in
     let g = made_grows h c.args.replica c.args.changes.now op s c.requires i c.size-adds.ensures.proper in
-    subst (λ (n : List ℕ). TakeTexts c.in_ok-edit.placed.moves (text h) (hidden_text h) n) (ap (λ (o : Operation). texts (pieces_of o)) i ∙ made_texts h c.args.replica c.args.changes.now)
+    subst (λ (n : List ℕ). TakeTexts c.in_ok-edit.placed.moves (text h) (hidden_text h) n) (ap (λ (o : Operation). texts (pieces_of o)) i ∙ made_edit_texts h c.args.replica c.args.changes.now)
     (c.in_ok-edit.ensures.characters h k.stand s.lawful s.proper g.proper g.good k.whole).1
 
 pub content_of-requires-clause-room : goal.content_of-requires-clause-room
@@ -72,6 +73,6 @@ returns-clause-content g c =
     let i : op ≡ local_edit h c.args.replica c.args.changes.now = c.in_ok-edit.ensures.made h k.stand v z in
     let g = made_grows h c.args.replica c.args.changes.now op s c.requires i c.size-adds.ensures.proper in
     content_after c.in_ok-content.content c.in_ok-edit.placed h op c.self.inside.content.undos c.in_ok-undos.undos (texts c.args.changes.now) c.in_ok-content.ensures
-    (sym (ap (λ (o : Operation). texts (pieces_of o)) i ∙ made_texts h c.args.replica c.args.changes.now)) c.in_ok-undos.ensures
+    (sym (ap (λ (o : Operation). texts (pieces_of o)) i ∙ made_edit_texts h c.args.replica c.args.changes.now)) c.in_ok-undos.ensures
     (fragments_with_edit h c.in_ok-edit.edit c.self.inside.content.undos c.self.inside.content.fragments.items c.in_ok-edit.placed.fragments.items k.stand.counts k.fragments c.in_ok-edit.ensures.fragments)
     (c.in_ok-edit.ensures.stands h k.stand s.lawful g.good) (c.in_ok-edit.ensures.characters h k.stand s.lawful s.proper g.proper g.good k.whole).0 (c.in_ok-edit.ensures.moves h k.stand s.lawful g.good)

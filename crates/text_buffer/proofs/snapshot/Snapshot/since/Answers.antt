@@ -1,7 +1,8 @@
 use Rattle.std.proofs.Common.{◌∙◌, sym, subst}
 use Rattle.text_buffer.specs.Document.{IsContent}
-use Rattle.text_buffer.proofs.Standing.{is_closed, may_tell}
+use Rattle.text_buffer.proofs.Standing.{may_tell}
 use Rattle.text_buffer.proofs.snapshot.Snapshot.since.Goals as goal
+use Rattle.op_model.proofs.answers.Local.{is_closed}
 
 pub returns-clause-edits : goal.returns-clause-edits
 returns-clause-edits c =
