@@ -1,4 +1,5 @@
 pub mod Before
+pub mod BeforeLaws
 pub mod Making
 pub mod Spots
 pub mod Standing

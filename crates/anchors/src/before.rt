@@ -1,5 +1,6 @@
 //! How much lies before a fragment, and which fragments an id is looked for in.
-ghost use Rattle.anchors.specs.Before.{move_before, IsLaterBefore, BeforeFits, before_laws, reaches, reaches_parts};
+ghost use Rattle.anchors.specs.Before.{move_before, IsLaterBefore, BeforeFits, reaches};
+ghost use Rattle.anchors.specs.BeforeLaws.{before_laws, reaches_parts};
 
 use fragments::FragmentSummary;
 use locators::Locator;

@@ -30,9 +30,10 @@ use Rattle.remote_edit.specs.Marks.{was_shown}
 use Rattle.remote_edit.proofs.Marks.{was_told}
 use Rattle.remote_edit.proofs.OfFacts.{OfFact, of_facts}
 use Rattle.edits_since.specs.Fates.{was_in_text, alike, fates_of}
-use Rattle.edits_since.specs.Differs.{may_differ, all_within}
+use Rattle.edits_since.specs.Differs.{may_differ}
 use Rattle.edits_since.specs.Telling.{MayTell}
 use Rattle.edits_since.proofs.Walking.{IsSettled}
+use Rattle.edits_since.specs.DifferLaws.{all_within}
 
 -- ---- the fates of a history are those of its fragments
 

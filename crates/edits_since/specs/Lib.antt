@@ -1,5 +1,6 @@
 pub mod Fates
 pub mod Differs
+pub mod DifferLaws
 pub mod Opened
 pub mod Telling
 pub mod Laws

@@ -16,7 +16,8 @@ pub(crate) struct MayDiffer<'v> {
 }
 
 impl<'v> Keep<FragmentSummary> for MayDiffer<'v> {
-    ghost use Rattle.edits_since.specs.Differs.{may_differ, differ_parts};
+    ghost use Rattle.edits_since.specs.Differs.{may_differ};
+    ghost use Rattle.edits_since.specs.DifferLaws.{differ_parts};
 
     ghost keeps = { λ k s. may_differ k.version.now s };
 

@@ -29,7 +29,8 @@ use Rattle.fragments.specs.Laws.{shown_len, cells_len}
 use Rattle.fragments.proofs.Counts.{length_facts, fold_cells, cells_len-append}
 use Rattle.fragments.specs.Summaries.{no_fragments, summaries, summary_of, SummaryFits}
 use Rattle.fragments.specs.SummaryLaws.{one_admitted}
-use Rattle.fragments.specs.SeenPlaces.{At, cells_of, move_at, all_in, none_in, move_visible}
+use Rattle.fragments.specs.SeenPlaces.{At, cells_of, move_at, move_visible}
+use Rattle.fragments.specs.SeenPlaceLaws.{all_in, none_in}
 use Rattle.sum_tree.specs.Laws.{fold}
 use Rattle.lamport_clock.specs.Versions.{sees, entry, Entries}
 use Rattle.lamport_clock.specs.declared.stamp.Lamport.{Lamport}

@@ -19,9 +19,10 @@ use Rattle.fragments.specs.declared.fragment.Fragment.{Fragment}
 use Rattle.fragments.specs.declared.fragment.FragmentSummary.{FragmentSummary}
 use Rattle.fragments.specs.Summaries.{summaries, summary_of}
 use Rattle.fragments.specs.SummaryLaws.{one_admitted}
-use Rattle.fragments.specs.SeenPlaces.{At, cells_of, move_full, move_visible, move_at, all_in, none_in}
+use Rattle.fragments.specs.SeenPlaces.{At, cells_of, move_full, move_visible, move_at}
 use Rattle.fragments.specs.Stand.{runs, SeesUndos}
 use Rattle.fragments.specs.Laws.{PlacesCountCells, shown_len, cells_len}
+use Rattle.fragments.specs.SeenPlaceLaws.{all_in, none_in}
 
 all_or_none : (b : Bool) (n : ℕ) → cond b n 0 + cond b 0 n ≡ n
 all_or_none true n = omega arith

@@ -1,6 +1,6 @@
 -- An id that the next one takes the place of.
 use Rattle.std.proofs.Common.{◌≡◌, ℕ, List, Option, sym, ap, ◌∙◌}
-use Rattle.tree_cursor.specs.Keys.{greater_assoc}
+use Rattle.tree_cursor.specs.KeyLaws.{greater_assoc}
 use Rattle.fragments.specs.Summaries.{greater_id, id_less}
 use Rattle.fragments.specs.SummaryLaws.{id_order}
 

@@ -7,7 +7,8 @@ use Rattle.std.specs.declared.cmp.Ordering.{Ordering}
 use Rattle.std.specs.declared.cmp.Ordering.TheVariants.{Less, Equal, Greater}
 use Rattle.sum_tree.proofs.Keys.{less_of, ascending_rest}
 use Rattle.tree_cursor.specs.Places.{seek_count}
-use Rattle.tree_cursor.specs.Keys.{greater, key_less, key_passes, cmp_less, order_less, IsLess}
+use Rattle.tree_cursor.specs.Keys.{greater, key_less, key_passes, cmp_less, IsLess}
+use Rattle.tree_cursor.specs.KeyLaws.{order_less}
 use Rattle.tree_cursor.specs.declared.ready.Greatest.{Greatest}
 use Rattle.tree_cursor.specs.declared.traits.Bias.TheVariants.{Left}
 use Rattle.lamport_clock.specs.declared.stamp.Lamport.{Lamport}

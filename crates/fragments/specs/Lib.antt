@@ -4,6 +4,7 @@ pub mod SpanLaws
 pub mod Summaries
 pub mod SummaryLaws
 pub mod SeenPlaces
+pub mod SeenPlaceLaws
 pub mod Index
 pub mod Stand
 pub mod Laws

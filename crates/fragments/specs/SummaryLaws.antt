@@ -6,7 +6,8 @@ use Rattle.std.proofs.lemmas.Cmp.{nat_list_cmp_total}
 use Rattle.std.specs.Cmp.Lexicographic.{slice_cmp}
 use Rattle.std.specs.Ordering.{nat_cmp}
 use Rattle.sum_tree.specs.Laws.{SummaryLaws}
-use Rattle.tree_cursor.specs.Keys.{greater_none, greater_assoc, order_less, IsLess}
+use Rattle.tree_cursor.specs.Keys.{IsLess}
+use Rattle.tree_cursor.specs.KeyLaws.{greater_none, greater_assoc, order_less}
 use Rattle.lamport_clock.specs.declared.stamp.Lamport.{Lamport}
 use Rattle.lamport_clock.specs.Stamps.{same_stamp}
 use Rattle.lamport_clock.specs.Versions.{Entries, AreEntriesFrom, raise, join_versions, sees}

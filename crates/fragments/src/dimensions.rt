@@ -2,7 +2,8 @@
 ghost use Rattle.std.specs.Prelude.{◌≡◌, ℕ, ◌+◌, ◌^◌, ◌<◌, ◌≤◌, Option, Some, refl};
 ghost use Rattle.std.specs.Option.{option_copied};
 ghost use Rattle.fragments.specs.Summaries.{no_fragments, summaries, IsSummary, IsOne, greater_id};
-ghost use Rattle.fragments.specs.SeenPlaces.{move_full, move_visible, At, move_at, IsLaterAt, AtFits, at_laws};
+ghost use Rattle.fragments.specs.SeenPlaces.{move_full, move_visible, At, move_at, IsLaterAt, AtFits};
+ghost use Rattle.fragments.specs.SeenPlaceLaws.{at_laws};
 
 use crate::fragment::greater_id;
 use crate::{FragmentSummary, Sight};
@@ -26,7 +27,7 @@ impl Plain for Full {
 
 impl Moves<FragmentSummary> for Full {
     ghost use Rattle.std.proofs.Common.{arith};
-    ghost use Rattle.tree_cursor.specs.Counting.{adding_laws};
+    ghost use Rattle.tree_cursor.specs.CountingLaws.{adding_laws};
 
     ghost moved = { move_full };
 
@@ -83,7 +84,8 @@ impl<'a, 'v> Dimension<'a, FragmentSummary> for FullAt<'v> {
 
 /// A number of cells is a target.
 impl Target<Full> for Full {
-    ghost use Rattle.tree_cursor.specs.Counting.{number_passes, number_stays};
+    ghost use Rattle.tree_cursor.specs.Counting.{number_passes};
+    ghost use Rattle.tree_cursor.specs.CountingLaws.{number_stays};
 
     ghost passes = { λ g p b. number_passes g.bytes p b };
 
@@ -99,7 +101,8 @@ impl Target<Full> for Full {
 
 /// A number of cells that a version sees is a target.
 impl<'v> Target<FullAt<'v>> for Full {
-    ghost use Rattle.tree_cursor.specs.Counting.{number_passes, number_stays};
+    ghost use Rattle.tree_cursor.specs.Counting.{number_passes};
+    ghost use Rattle.tree_cursor.specs.CountingLaws.{number_stays};
 
     ghost passes = { λ g p b. number_passes g.bytes p.1 b };
 
@@ -128,7 +131,7 @@ impl Plain for Visible {
 }
 
 impl Moves<FragmentSummary> for Visible {
-    ghost use Rattle.tree_cursor.specs.Counting.{adding_laws};
+    ghost use Rattle.tree_cursor.specs.CountingLaws.{adding_laws};
 
     ghost moved = { move_visible };
 
@@ -148,7 +151,8 @@ impl<'a> Dimension<'a, FragmentSummary> for Visible {
 
 /// A number of shown cells is a target.
 impl Target<Visible> for Visible {
-    ghost use Rattle.tree_cursor.specs.Counting.{number_passes, number_stays};
+    ghost use Rattle.tree_cursor.specs.Counting.{number_passes};
+    ghost use Rattle.tree_cursor.specs.CountingLaws.{number_stays};
 
     ghost passes = { λ g p b. number_passes g.bytes p b };
 
@@ -180,7 +184,7 @@ impl<'a> Plain for ById<'a> {
 }
 
 impl<'a> Moves<FragmentSummary> for ById<'a> {
-    ghost use Rattle.tree_cursor.specs.Keys.{key_laws};
+    ghost use Rattle.tree_cursor.specs.KeyLaws.{key_laws};
     ghost use Rattle.fragments.specs.Summaries.{id_less};
     ghost use Rattle.fragments.specs.SummaryLaws.{id_order};
 
@@ -202,7 +206,8 @@ impl<'a> Dimension<'a, FragmentSummary> for ById<'a> {
 
 /// An id is a target: a seek stops at the first fragment whose id is at least it (Left) or greater (Right), where ids ascend.
 impl<'a> Target<ById<'a>> for Locator {
-    ghost use Rattle.tree_cursor.specs.Keys.{key_passes, key_stays};
+    ghost use Rattle.tree_cursor.specs.Keys.{key_passes};
+    ghost use Rattle.tree_cursor.specs.KeyLaws.{key_stays};
     ghost use Rattle.fragments.specs.Summaries.{id_less};
     ghost use Rattle.fragments.specs.SummaryLaws.{id_order};
 

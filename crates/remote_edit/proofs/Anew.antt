@@ -10,8 +10,8 @@ use Rattle.undo_map.specs.declared.entry.UndoEntry.{UndoEntry}
 use Rattle.fragments.specs.declared.fragment.Fragment.{Fragment}
 use Rattle.fragments.specs.Summaries.{summary_of}
 use Rattle.fragments.specs.SummaryLaws.{stamps_seen}
-use Rattle.remote_edit.specs.SeesLaws.{begins_by, may_concern, may_concern_any}
 use Rattle.remote_edit.specs.Anew.{concerns, recount, anew}
+use Rattle.remote_edit.specs.Concern.{begins_by, may_concern, may_concern_any}
 
 -- an edit that concerns a fragment may concern its sum
 concerns_may : (f : Fragment) (t : Lamport) → concerns f t ≡ true → may_concern (summary_of f) t ≡ true

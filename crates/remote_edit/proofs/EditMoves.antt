@@ -18,12 +18,12 @@ use Rattle.remote_edit.specs.Moves.{with_move}
 use Rattle.remote_edit.specs.Marks.{is_shown}
 use Rattle.remote_edit.specs.Carried.{move_for, hidden_len, CarryOn}
 use Rattle.remote_edit.specs.Among.{moves_on, moves_among}
-use Rattle.remote_edit.specs.SeesLaws.{sees_edit}
 use Rattle.remote_edit.specs.BeforeEdit.{without, without_deletion, before_edit, edit_move, IsByCounts, runs_by, InOrder, Brings}
 use Rattle.remote_edit.proofs.MovesAmong.{kept_moves, one_more}
 use Rattle.remote_edit.proofs.BeforeEdit.{none_without}
 use Rattle.remote_edit.proofs.Carrying.{go_on, stay, on_one, on_stretch, on_insert}
 use Rattle.remote_edit.proofs.Finding.{Unkept}
+use Rattle.remote_edit.specs.Concern.{sees_edit}
 
 module _ (w : List UndoEntry) (t : Lamport) where
   -- the sum of a fragment does not see the edit

@@ -11,13 +11,14 @@ use Rattle.tree_cursor.specs.declared.traits.Bias.TheVariants.{Left}
 use Rattle.fragments.specs.declared.fragment.Fragment.{Fragment}
 use Rattle.fragments.specs.Summaries.{summary_of}
 use Rattle.fragments.specs.SummaryLaws.{one_admitted}
-use Rattle.fragments.specs.SeenPlaces.{At, move_at, all_in, none_in}
+use Rattle.fragments.specs.SeenPlaces.{At, move_at}
 use Rattle.fragments.specs.declared.dimensions.FullAt.{FullAt}
 use Rattle.tree_cursor.specs.Place.{CursorState}
 use Rattle.remote_edit.specs.Walk.{seen_bytes, advance}
 use Rattle.remote_edit.specs.Steps.{IsSought}
 use Rattle.fragments.proofs.Counts.{own_cells, places_count_cells}
 use Rattle.fragments.proofs.Cells.{IsWithin}
+use Rattle.fragments.specs.SeenPlaceLaws.{all_in, none_in}
 use Rattle.remote_edit.proofs.Passing.{own, own_len, seen_cons, seen_append, adv_unseen, adv_whole}
 
 -- one fragment is added whole

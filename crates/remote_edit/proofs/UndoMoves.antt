@@ -16,7 +16,6 @@ use Rattle.fragments.specs.declared.index_entry.IndexEntry.{IndexEntry}
 use Rattle.fragments.specs.Stand.{Stand}
 use Rattle.remote_edit.specs.declared.moves.Move.{Move}
 use Rattle.remote_edit.specs.Carried.{move_for, CarryOn, AreMovesOf}
-use Rattle.remote_edit.specs.SeesLaws.{may_concern_any}
 use Rattle.remote_edit.specs.Among.{moves_among}
 use Rattle.remote_edit.specs.Anew.{anew, concerns, recount, all_anew, undo_move, Counts}
 use Rattle.remote_edit.proofs.MovesAmong.{Becomes, carried}
@@ -24,6 +23,7 @@ use Rattle.remote_edit.proofs.Carrying.{SameCells}
 use Rattle.remote_edit.proofs.Texts.{carried_texts}
 use Rattle.remote_edit.proofs.UndoStands.{undo_stands}
 use Rattle.remote_edit.proofs.Anew.{concerned, unconcerned, unmet_same}
+use Rattle.remote_edit.specs.Concern.{may_concern_any}
 
 -- the cells of a fragment stay
 pub same_cells : (w : List UndoEntry) (by : Lamport) (ts : List Lamport) (f : Fragment) → SameCells f (anew w by ts f)

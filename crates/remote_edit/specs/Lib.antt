@@ -2,12 +2,15 @@ pub mod Moves
 pub mod Marks
 pub mod Walk
 pub mod Beside
+pub mod BesideLaws
 pub mod Passed
+pub mod PassedLaws
 pub mod Carried
 pub mod Among
 pub mod CarriedLaws
 pub mod Offsets
 pub mod SeesLaws
+pub mod Concern
 pub mod Anew
 pub mod BeforeEdit
 pub mod Undoing

@@ -1,7 +1,6 @@
 -- What sums of fragments see, and how early they begin.
-use Rattle.std.proofs.Common.{◌≡◌, ◌<◌, Bool, true, false, ◌&&◌, min, leb, List, [], ◌∷◌, refl, sym, ap, ◌∙◌, arith, inl, inr}
+use Rattle.std.proofs.Common.{◌≡◌, ◌<◌, Bool, true, false, ◌&&◌, min, List, [], ◌∷◌, refl, sym, ap, ◌∙◌, arith, inl, inr}
 use Rattle.std.proofs.lemmas.Bool.{cases_Bool, leb-false, lt-leb, or_parts, or_from}
-use Rattle.std.specs.List.{list_any}
 use Rattle.lamport_clock.specs.declared.stamp.Lamport.{Lamport}
 use Rattle.lamport_clock.specs.Versions.{join_versions, sees}
 use Rattle.lamport_clock.proofs.Raises.{by_order}
@@ -12,27 +11,12 @@ use Rattle.fragments.specs.declared.spans.Span.{Span}
 use Rattle.fragments.specs.Spans.{with_span, join_spans}
 use Rattle.fragments.specs.SpanLaws.{past, at, before}
 use Rattle.op_model.proofs.Elements.{false_from}
-
--- a sum has seen edit t
-abbrev pub sees_edit : Lamport → FragmentSummary → Bool
-sees_edit t s = sees s.greatest t
+use Rattle.remote_edit.specs.Concern.{sees_edit, begins_by, may_concern, may_concern_any}
 
 pub sees_parts : (t : Lamport) (a b : FragmentSummary) → sees_edit t (summaries a b) ≡ false → (sees_edit t a ≡ false) × (sees_edit t b ≡ false)
 sees_parts t a b h =
     let j = sees_joined a.greatest b.greatest t in
     (false_from (sees a.greatest t) (sees (join_versions a.greatest b.greatest) t) j.0 h, false_from (sees b.greatest t) (sees (join_versions a.greatest b.greatest) t) j.1 h)
-
--- one of the spans begins no later than t
-abbrev pub begins_by : Lamport → List Span → Bool
-begins_by t u = list_any (λ x. leb x.least t.value) u
-
--- a run of fragments may have cells that edit t brought or deletes: some stand as early as t, and t was seen
-abbrev pub may_concern : FragmentSummary → Lamport → Bool
-may_concern s t = begins_by t s.span && sees s.greatest t
-
--- the same of one of the edits
-abbrev pub may_concern_any : List Lamport → FragmentSummary → Bool
-may_concern_any ts s = list_any (may_concern s) ts
 
 -- where none begins by t with a span taken in, neither the span nor one of the others does
 wide_later : (t : Lamport) (x : Span) (u : List Span) → begins_by t (with_span x u) ≡ false → (t.value < x.least) × (begins_by t u ≡ false)

@@ -25,7 +25,8 @@ struct SeesEdit {
 }
 
 impl Keep<FragmentSummary> for SeesEdit {
-    ghost use Rattle.remote_edit.specs.SeesLaws.{sees_edit, sees_parts};
+    ghost use Rattle.remote_edit.specs.SeesLaws.{sees_parts};
+    ghost use Rattle.remote_edit.specs.Concern.{sees_edit};
 
     ghost keeps = { λ k s. sees_edit k.edit s };
 

@@ -1,5 +1,6 @@
 //! How many cells are passed in a walk over fragments.
-ghost use Rattle.remote_edit.specs.Passed.{move_passed, IsLaterPassed, PassedFits, passed_laws, move_seen, IsLaterSeen, SeenFits, seen_laws};
+ghost use Rattle.remote_edit.specs.Passed.{move_passed, IsLaterPassed, PassedFits, move_seen, IsLaterSeen, SeenFits};
+ghost use Rattle.remote_edit.specs.PassedLaws.{passed_laws, seen_laws};
 
 use fragments::{FragmentSummary, Full, Sight, Visible};
 use lamport_clock::Version;
@@ -83,7 +84,8 @@ impl<'a, 'v> Dimension<'a, FragmentSummary> for SeenPassed<'v> {
 
 /// A number of cells that a version sees is a target.
 impl<'v> Target<SeenPassed<'v>> for Full {
-    ghost use Rattle.tree_cursor.specs.Counting.{number_passes, number_stays};
+    ghost use Rattle.tree_cursor.specs.Counting.{number_passes};
+    ghost use Rattle.tree_cursor.specs.CountingLaws.{number_stays};
 
     ghost passes = { λ g p b. number_passes g.bytes p.0.0.1 b };
 
@@ -99,7 +101,8 @@ impl<'v> Target<SeenPassed<'v>> for Full {
 
 /// A number of shown cells is a target.
 impl Target<Passed> for Visible {
-    ghost use Rattle.tree_cursor.specs.Counting.{number_passes, number_stays};
+    ghost use Rattle.tree_cursor.specs.Counting.{number_passes};
+    ghost use Rattle.tree_cursor.specs.CountingLaws.{number_stays};
 
     ghost passes = { λ g p b. number_passes g.bytes p.0 b };
 

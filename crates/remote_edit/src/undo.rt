@@ -7,7 +7,7 @@ ghost use Rattle.lamport_clock.specs.Stamps.{same_stamp};
 ghost use Rattle.undo_map.specs.Counts.{count_of, is_odd};
 ghost use Rattle.fragments.specs.Summaries.{no_fragments, summaries, summary_of, SummaryFits};
 ghost use Rattle.remote_edit.specs.Marks.{is_shown};
-ghost use Rattle.remote_edit.specs.SeesLaws.{begins_by, may_concern};
+ghost use Rattle.remote_edit.specs.Concern.{begins_by, may_concern};
 ghost use Rattle.remote_edit.specs.Anew.{concerns, recount, anew, all_anew};
 ghost use Rattle.remote_edit.specs.Undoing.{StandWithUndo, MoveWithUndo, KeepCharactersWithUndo};
 
@@ -28,7 +28,8 @@ pub(crate) struct MayConcern<'e> {
 }
 
 impl<'e> Keep<FragmentSummary> for MayConcern<'e> {
-    ghost use Rattle.remote_edit.specs.SeesLaws.{may_concern_any, concern_any_parts};
+    ghost use Rattle.remote_edit.specs.SeesLaws.{concern_any_parts};
+    ghost use Rattle.remote_edit.specs.Concern.{may_concern_any};
 
     ghost keeps = { λ k s. may_concern_any k.edits.now s };
 

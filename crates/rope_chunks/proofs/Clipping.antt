@@ -12,8 +12,9 @@ use Rattle.text_dims.proofs.Walks.{places-walk}
 use Rattle.text_dims.proofs.Clipping.{last-walk, none_step, after_offset, at_zero}
 use Rattle.rope_chunks.specs.declared.look.Stop.{Stop}
 use Rattle.rope_chunks.specs.Stops.{stop, stop_place}
-use Rattle.rope_chunks.specs.Targets.{passes_offset, offset_stays}
+use Rattle.rope_chunks.specs.Targets.{passes_offset}
 use Rattle.rope_chunks.proofs.Stops.{after-later, Begins, Begins-utf8, Stays}
+use Rattle.rope_chunks.specs.TargetLaws.{offset_stays}
 
 -- what is found by a search is where a look-up stops
 find-stop : (p : Place → Bool) (d : Place) (ks : List Place) → unwrap_or (find p ks) (last_place d ks) ≡ unwrap_or (stop p d ks).here (stop p d ks).before

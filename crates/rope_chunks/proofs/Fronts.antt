@@ -1,18 +1,19 @@
 -- The place behind some first bytes of a text, and a look-up that goes on there.
 use Rattle.std.specs.Prelude.{nat_le}
-use Rattle.std.proofs.Common.{◌≡◌, ℕ, ◌+◌, ◌-◌, ◌<◌, ◌≤◌, eqb, Bool, true, false, List, [], ◌∷◌, length, take, drop, get_or, refl, ap, sym, subst, inl, inr, ◌∙◌, arith}
+use Rattle.std.proofs.Common.{◌≡◌, ℕ, ◌+◌, ◌-◌, ◌<◌, ◌≤◌, Bool, true, false, List, length, take, drop, get_or, ap, sym, subst, inl, inr, ◌∙◌, arith}
 use Rattle.std.proofs.lemmas.Bool.{and_parts, cases_lt}
-use Rattle.std.proofs.lemmas.List.{take-append-drop, take_more, drop_more, drop_all, length-take-le}
+use Rattle.std.proofs.lemmas.List.{take-append-drop, drop_more, drop_all, length-take-le}
 use Rattle.text_dims.specs.declared.places.Place.{Place}
 use Rattle.text_dims.specs.Counts.{begins_char, utf16_count}
 use Rattle.text_dims.specs.Concat.{length_adds, units_add}
 use Rattle.text_dims.specs.Bounds.{last_row-le, newline_count-le}
 use Rattle.text_dims.specs.Places.{PlaceFits, end_place, is_cut, place_after, place_sum, walk}
 use Rattle.text_dims.proofs.Characters.{utf16_count-le_twice}
-use Rattle.text_dims.proofs.Walks.{by_byte, end_place-append, walk_end}
-use Rattle.rope_chunks.specs.At.{place_sum_assoc, past_within}
+use Rattle.text_dims.proofs.Walks.{walk_end}
+use Rattle.text_dims.proofs.PlaceSums.{walk_end-is, next_is}
 use Rattle.rope_chunks.specs.Stops.{stop, HasRoom}
-use Rattle.rope_chunks.proofs.Stops.{Begins, Stays, walk_end-is, stop-past}
+use Rattle.rope_chunks.proofs.Stops.{Begins, Stays, stop-past}
+use Rattle.rope_chunks.specs.PlaceLaws.{past_within}
 
 -- there is room for what follows
 pub room_past : (a : Place) (bs : List ℕ) (n : ℕ) → HasRoom a (length bs) → n ≤ length bs → HasRoom (place_sum a (end_place (take n bs))) (length bs - n)
@@ -38,14 +39,6 @@ room_fits a n h = record {
 
 pub front_fits : (a : Place) (bs : List ℕ) (n : ℕ) → HasRoom a (length bs) → n ≤ length bs → PlaceFits (place_sum a (end_place (take n bs)))
 front_fits a bs n h within = room_fits (place_sum a (end_place (take n bs))) (length bs - n) (room_past a bs n h within)
-
--- one byte more
-pub next_is : (a : Place) (bs : List ℕ) (n : ℕ) → n < length bs → place_after (place_sum a (end_place (take n bs))) (get_or bs n 0) ≡ place_sum a (end_place (take (n + 1) bs))
-next_is a bs n h =
-    let b = get_or bs n 0 in
-    sym (by_byte (place_sum a (end_place (take n bs))) b (eqb b 10) refl)
-    ∙ place_sum_assoc a (end_place (take n bs)) (end_place (b ∷ []))
-    ∙ ap (place_sum a) (sym (end_place-append (take n bs) (b ∷ [])) ∙ ap end_place (sym (take_more bs n 0 h)))
 
 pub next_fits : (a k : Place) (bs : List ℕ) (n : ℕ) → HasRoom a (length bs) → n < length bs → k ≡ place_sum a (end_place (take n bs)) → PlaceFits (place_after k (get_or bs n 0))
 next_fits a k bs n h l e =

@@ -10,8 +10,9 @@ use Rattle.text_dims.specs.declared.points.OffsetUtf16.{OffsetUtf16}
 use Rattle.text_dims.specs.Places.{end_place, places, place_at_offset, place_at_utf16, place_at_point, place_at_point_utf16}
 use Rattle.text_dims.proofs.Walks.{places-walk}
 use Rattle.rope_chunks.specs.Stops.{stop, pick_place}
-use Rattle.rope_chunks.specs.Targets.{passes_offset, passes_utf16, passes_point, passes_point_utf16, offset_stays, utf16_stays, point_stays, point_utf16_stays}
+use Rattle.rope_chunks.specs.Targets.{passes_offset, passes_utf16, passes_point, passes_point_utf16}
 use Rattle.rope_chunks.proofs.Stops.{Sought, found}
+use Rattle.rope_chunks.specs.TargetLaws.{offset_stays, utf16_stays, point_stays, point_utf16_stays}
 
 -- the place of a text that passes the target and is not strictly past it
 found_in : (pl pr eq : Place → Bool) → Sought pl pr eq → (bs : List ℕ) → pick_place pr (stop pl (end_place []) (places bs)).here ≡ find eq (places bs)

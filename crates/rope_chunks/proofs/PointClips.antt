@@ -13,11 +13,13 @@ use Rattle.text_dims.specs.Counts.{begins_char, is_newline}
 use Rattle.text_dims.specs.Places.{end_place, places, place_after, walk, last_place, point_clip_back, point_clip_on}
 use Rattle.text_dims.proofs.Walks.{places-walk, end_place-append, lead, walk_end}
 use Rattle.text_dims.proofs.PointClips.{begin, in_row, on_clip, row_step, back_clip, both, after_point, at_begin}
+use Rattle.text_dims.proofs.PlaceSums.{walk_end-is}
 use Rattle.rope_chunks.specs.declared.look.Stop.{Stop}
 use Rattle.rope_chunks.specs.Stops.{stop, stop_place}
-use Rattle.rope_chunks.specs.Targets.{passes_point, point_stays}
-use Rattle.rope_chunks.proofs.Stops.{after-later, Begins, Begins-utf8, walk_end-is}
+use Rattle.rope_chunks.specs.Targets.{passes_point}
+use Rattle.rope_chunks.proofs.Stops.{after-later, Begins, Begins-utf8}
 use Rattle.rope_chunks.proofs.Clipping.{Upto, clip-walk, either}
+use Rattle.rope_chunks.specs.TargetLaws.{point_stays}
 
 -- after each LF a character begins, or the text ends
 abbrev pub RowsBegin : List ℕ → Type 0

@@ -17,12 +17,13 @@ use Rattle.text_dims.proofs.Characters.{utf16_count-le_twice}
 use Rattle.sum_tree.specs.Laws.{fold}
 use Rattle.text_dims.specs.Places.{end_place, places, place_sum, place_after, summary_end, walk}
 use Rattle.text_dims.proofs.Walks.{by_byte, end_place-append, summary_end-is, places-walk, lead, walk_end, none_step}
-use Rattle.rope_chunks.specs.At.{IsLater, IsWithin, RowAndColumn, PlaceAndTextFit, move_place, place_sum_assoc, past_later, past_nothing}
-use Rattle.text_dims.specs.Monoid.{summary-nil}
+use Rattle.rope_chunks.specs.At.{IsLater, IsWithin, RowAndColumn, PlaceAndTextFit, move_place}
 use Rattle.text_dims.proofs.Sums.{fold_is}
+use Rattle.text_dims.proofs.PlaceSums.{chunk_end}
 use Rattle.rope_chunks.specs.Chunks.{IsChunk, AreChunks}
 use Rattle.rope_chunks.specs.Stops.{stop, pick_place, HasRoom}
 use Rattle.rope_chunks.proofs.Texts.{concat-utf8}
+use Rattle.rope_chunks.specs.PlaceLaws.{past_later}
 
 -- the text is empty, or begins with a character
 abbrev pub Begins : List ℕ → Type 0
@@ -54,18 +55,6 @@ walk_end-later : (a : Place) (bs : List ℕ) → IsLater a (walk_end a bs)
 unfolding walk_end
 walk_end-later a [] = later-refl a
 walk_end-later a (b ∷ bs) = later-trans a (place_after a b) (walk_end (place_after a b) bs) (after-later a b) (walk_end-later (place_after a b) bs)
-
-nothing_past : (a : Place) → place_sum a (end_place []) ≡ a
-nothing_past a = ap (place_sum a) (sym (summary_end-is []) ∙ ap summary_end summary-nil) ∙ past_nothing a
-
-pub walk_end-is : (a : Place) (bs : List ℕ) → walk_end a bs ≡ place_sum a (end_place bs)
-unfolding walk_end
-walk_end-is a [] = sym (nothing_past a)
-walk_end-is a (b ∷ bs) =
-    walk_end-is (place_after a b) bs
-    ∙ ap (λ k. place_sum k (end_place bs)) (sym (by_byte a b (is_newline b) refl))
-    ∙ place_sum_assoc a (end_place (b ∷ [])) (end_place bs)
-    ∙ ap (place_sum a) (sym (end_place-append (b ∷ []) bs))
 
 -- a target: a later place passes it where an earlier one does
 pub record Stays (passes : Place → Bool) : Type 0 where
@@ -118,10 +107,6 @@ stop-front p before a (b ∷ cs) rest h f =
 abbrev pub chunk_text : Option (List ℕ) → List ℕ
 chunk_text None = []
 chunk_text (Some c) = c
-
--- the place behind some chunks
-chunk_end : (a : Place) (c : List ℕ) → place_sum a (summary_end (summary_of c)) ≡ walk_end a c
-chunk_end a c = ap (place_sum a) (summary_end-is c) ∙ sym (walk_end-is a c)
 
 behind-cons : (a : Place) (c : List ℕ) (cs : List (List ℕ)) (n : ℕ) → place_behind move_place summary_of a (take (suc n) (c ∷ cs)) ≡ place_behind move_place summary_of (place_sum a (summary_end (summary_of c))) (take n cs)
 behind-cons a c cs n = refl

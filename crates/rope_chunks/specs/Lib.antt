@@ -1,7 +1,9 @@
 pub mod Chunks
 pub mod Masks
 pub mod At
+pub mod PlaceLaws
 pub mod Targets
+pub mod TargetLaws
 pub mod Stops
 pub mod Offsets
 pub mod Clips

@@ -1,7 +1,8 @@
 //! The dimension of a rope's look-ups: a place in its text.
 ghost use Rattle.std.specs.Prelude.{◌≡◌, []};
 ghost use Rattle.text_dims.specs.Places.{end_place};
-ghost use Rattle.rope_chunks.specs.At.{IsLater, PlaceAndTextFit, move_place, place_laws};
+ghost use Rattle.rope_chunks.specs.At.{IsLater, PlaceAndTextFit, move_place};
+ghost use Rattle.rope_chunks.specs.PlaceLaws.{place_laws};
 
 use text_dims::{Place, TextSummary};
 use tree_cursor::{Dimension, Moves, Plain};

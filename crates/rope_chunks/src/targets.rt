@@ -1,6 +1,7 @@
 //! What a rope's look-ups look for.
 ghost use Rattle.std.specs.Prelude.{◌≡◌};
-ghost use Rattle.rope_chunks.specs.Targets.{passes_pair, passes_offset, passes_utf16, passes_point, passes_point_utf16, passes_row, offset_stays, utf16_stays, point_stays, point_utf16_stays, row_stays};
+ghost use Rattle.rope_chunks.specs.Targets.{passes_pair, passes_offset, passes_utf16, passes_point, passes_point_utf16, passes_row};
+ghost use Rattle.rope_chunks.specs.TargetLaws.{offset_stays, utf16_stays, point_stays, point_utf16_stays, row_stays};
 
 use crate::at::At;
 use text_dims::{OffsetUtf16, Point, PointUtf16};

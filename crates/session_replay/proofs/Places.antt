@@ -1,4 +1,4 @@
--- The place at an offset is the place at its point.
+-- The place at an offset, in all kinds of position.
 use Rattle.std.proofs.Common.{◌≡◌, ℕ, List, Option, None, Some, refl, ap, ◌∙◌}
 use Rattle.std.specs.Option.{option_map}
 use Rattle.text_dims.specs.declared.places.Place.{Place}
@@ -9,8 +9,6 @@ use Rattle.text_dims.specs.Places.{offset_utf16_of, place_at_offset, place_at_po
 use Rattle.text_dims.proofs.PlacePoints.{place_at_its_point}
 use Rattle.session_lines.specs.declared.report.PointAnswer.TheVariants as point
 use Rattle.session_replay.specs.Queries.{place_answer}
-
--- ---- the place at an offset, in all kinds of position
 
 module _ (bs : List ℕ) (o : ℕ) where
   by_place : (k : Option Place) → place_at_offset bs o ≡ k → (p : Point) (u : OffsetUtf16) (q : PointUtf16) → Some p ≡ option_map point_of k → Some u ≡ option_map offset_utf16_of k

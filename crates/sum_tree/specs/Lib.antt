@@ -4,6 +4,7 @@ pub mod Shape
 pub mod Falls
 pub mod Grown
 pub mod Count
+pub mod CountLaws
 pub mod Parts
 pub mod Here
 pub mod Groups

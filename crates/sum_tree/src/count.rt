@@ -1,6 +1,7 @@
 //! The summary that counts items.
 ghost use Rattle.std.specs.Prelude.{◌≡◌, ◌^◌, ◌<◌};
-ghost use Rattle.sum_tree.specs.Count.{no_items, count_sum, CountFits, AnyCount, count_laws};
+ghost use Rattle.sum_tree.specs.Count.{no_items, count_sum, CountFits, AnyCount};
+ghost use Rattle.sum_tree.specs.CountLaws.{count_laws};
 
 use crate::OutOfMemory;
 use crate::traits::Summary;

@@ -9,3 +9,4 @@ pub mod Sums
 pub mod Clipping
 pub mod PointClips
 pub mod PlacePoints
+pub mod PlaceSums

@@ -4,7 +4,7 @@ use Rattle.std.specs.declared.cmp.Ordering.{Ordering}
 use Rattle.sum_tree.specs.Laws.{fold}
 use Rattle.sum_tree.specs.Keyed.{Ascending, IsLastKey}
 use Rattle.sum_tree.proofs.Lasts.{last_of_sum}
-use Rattle.tree_cursor.specs.Keys.{greater_past}
+use Rattle.tree_cursor.specs.KeyLaws.{greater_past}
 use Rattle.tree_cursor.specs.Sums.{nothing_greatest, greatest_sum}
 use Rattle.tree_cursor.specs.declared.ready.Greatest.{Greatest}
 

@@ -5,7 +5,11 @@ pub mod Halts
 pub mod Place
 pub mod Walking
 pub mod Keys
+pub mod KeyLaws
 pub mod Counting
+pub mod CountingLaws
 pub mod Rules
+pub mod RuleLaws
 pub mod Sums
+pub mod SumLaws
 pub mod Tallies

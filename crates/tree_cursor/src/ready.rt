@@ -18,7 +18,7 @@ impl Plain for Count {
 
 impl Moves<Count> for Count {
     ghost use Rattle.sum_tree.specs.Count.{no_items, count_sum, AnyCount};
-    ghost use Rattle.tree_cursor.specs.Counting.{adding_laws};
+    ghost use Rattle.tree_cursor.specs.CountingLaws.{adding_laws};
 
     ghost moved = { λ p s. Some (p + s.items) };
 
@@ -39,7 +39,8 @@ impl<'a> Dimension<'a, Count> for Count {
 
 /// A count is a target: the index that it is.
 impl Target<Count> for Count {
-    ghost use Rattle.tree_cursor.specs.Counting.{number_passes, number_stays};
+    ghost use Rattle.tree_cursor.specs.Counting.{number_passes};
+    ghost use Rattle.tree_cursor.specs.CountingLaws.{number_stays};
 
     ghost passes = { λ g p b. number_passes g.items p b };
 
@@ -78,7 +79,8 @@ pub struct Greatest<K> {
 }
 
 impl<K: Ord + Copy> Summary for Greatest<K> {
-    ghost use Rattle.tree_cursor.specs.Sums.{nothing_greatest, greatest_sum, greatest_laws, AnyGreatest};
+    ghost use Rattle.tree_cursor.specs.Sums.{nothing_greatest, greatest_sum, AnyGreatest};
+    ghost use Rattle.tree_cursor.specs.SumLaws.{greatest_laws};
 
     ghost empty = { nothing_greatest };
 
@@ -127,7 +129,8 @@ impl<K: Ord + Copy> Plain for Greatest<K> {
 }
 
 impl<K: Ord + Copy, S: KeySummary<Key = K>> Moves<S> for Greatest<K> {
-    ghost use Rattle.tree_cursor.specs.Keys.{greater, cmp_less, key_laws, order_less};
+    ghost use Rattle.tree_cursor.specs.Keys.{greater, cmp_less};
+    ghost use Rattle.tree_cursor.specs.KeyLaws.{key_laws, order_less};
 
     ghost moved = { λ p s. Some (greater (cmp_less K.cmp) p (S.key_of s)) };
 
@@ -148,7 +151,8 @@ impl<'a, K: Ord + Copy, S: KeySummary<Key = K>> Dimension<'a, S> for Greatest<K>
 /// A key is a target: a seek stops at the first item whose key is at least the target's (Left) or greater (Right),
 /// where the keys ascend.
 impl<K: Ord + Copy> Target<Greatest<K>> for Greatest<K> {
-    ghost use Rattle.tree_cursor.specs.Keys.{key_passes, key_stays, cmp_less, order_less};
+    ghost use Rattle.tree_cursor.specs.Keys.{key_passes, cmp_less};
+    ghost use Rattle.tree_cursor.specs.KeyLaws.{key_stays, order_less};
 
     ghost passes = { λ g p b. key_passes (cmp_less K.cmp) g.key p b };
 

@@ -19,7 +19,7 @@ pub(crate) struct Seeking<'t, G> {
 }
 
 impl<'t, S: Summary, D: Plain, G: Target<D>> Rule<S, D> for Seeking<'t, G> {
-    ghost use Rattle.tree_cursor.specs.Rules.{seek_parts};
+    ghost use Rattle.tree_cursor.specs.RuleLaws.{seek_parts};
 
     ghost halts = { λ r s q j. G.passes r.target.now q r.bias };
 

@@ -31,7 +31,7 @@ pub(crate) struct Across {
 }
 
 impl<S: Summary, D: Plain + Copy> Rule<S, D> for Across {
-    ghost use Rattle.tree_cursor.specs.Rules.{count_parts};
+    ghost use Rattle.tree_cursor.specs.RuleLaws.{count_parts};
 
     ghost halts = { λ r s q j. nat_lt r.items j };
 

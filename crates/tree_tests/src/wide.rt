@@ -44,7 +44,8 @@ pub(crate) fn tell_name(name: Option<&Name>) -> Option<u64> {
 }
 
 impl Summary for Extent {
-    ghost use Rattle.tree_cursor.specs.Keys.{greater, greater_none, greater_assoc, number_less};
+    ghost use Rattle.tree_cursor.specs.Keys.{greater};
+    ghost use Rattle.tree_cursor.specs.KeyLaws.{greater_none, greater_assoc, number_less};
     ghost use Rattle.tree_tests.specs.Joined.{four};
     ghost use Rattle.std.proofs.Common.{arith};
 
@@ -158,7 +159,7 @@ impl Plain for Width {
 }
 
 impl Moves<Extent> for Width {
-    ghost use Rattle.tree_cursor.specs.Counting.{adding_laws};
+    ghost use Rattle.tree_cursor.specs.CountingLaws.{adding_laws};
 
     ghost moved = { λ p s. Some (p + s.width) };
 
@@ -176,7 +177,8 @@ impl<'a> Dimension<'a, Extent> for Width {
 }
 
 impl Target<Width> for Width {
-    ghost use Rattle.tree_cursor.specs.Counting.{number_passes, number_stays};
+    ghost use Rattle.tree_cursor.specs.Counting.{number_passes};
+    ghost use Rattle.tree_cursor.specs.CountingLaws.{number_stays};
 
     ghost passes = { λ g p b. number_passes g.at p b };
 
@@ -207,7 +209,8 @@ impl<'a> Plain for ByName<'a> {
 }
 
 impl<'a> Moves<Extent> for ByName<'a> {
-    ghost use Rattle.tree_cursor.specs.Keys.{greater, key_laws, number_less};
+    ghost use Rattle.tree_cursor.specs.Keys.{greater};
+    ghost use Rattle.tree_cursor.specs.KeyLaws.{key_laws, number_less};
 
     ghost moved = { λ p s. Some (greater (λ x y. nat_lt x.id y.id) p s.name) };
 
@@ -238,7 +241,8 @@ fn later_name<'n>(a: Option<&'n Name>, b: &'n Option<Name>) -> Option<&'n Name>
 }
 
 impl<'a> Target<ByName<'a>> for Name {
-    ghost use Rattle.tree_cursor.specs.Keys.{key_passes, key_stays, number_less};
+    ghost use Rattle.tree_cursor.specs.Keys.{key_passes};
+    ghost use Rattle.tree_cursor.specs.KeyLaws.{key_stays, number_less};
 
     ghost passes = { λ g p b. key_passes (λ x y. nat_lt x.id y.id) (Some g) p b };
 
@@ -309,7 +313,8 @@ impl<'a, 'v> Dimension<'a, Extent> for Chosen<'v> {
 }
 
 impl<'v> Target<Chosen<'v>> for u64 {
-    ghost use Rattle.tree_cursor.specs.Counting.{number_passes, number_stays};
+    ghost use Rattle.tree_cursor.specs.Counting.{number_passes};
+    ghost use Rattle.tree_cursor.specs.CountingLaws.{number_stays};
 
     ghost passes = { λ g p b. number_passes g p.1 b };
 
@@ -328,7 +333,7 @@ impl<'v> Target<Chosen<'v>> for u64 {
 pub(crate) struct HasWidth;
 
 impl Keep<Extent> for HasWidth {
-    ghost use Rattle.tree_cursor.specs.Counting.{above_none};
+    ghost use Rattle.tree_cursor.specs.CountingLaws.{above_none};
 
     ghost keeps = { λ k s. nat_lt 0 s.width };
 

@@ -3,11 +3,11 @@ use Rattle.std.specs.Option.{option_copied}
 use Rattle.sum_tree.specs.Laws.{fold}
 use Rattle.fragments.specs.declared.fragment.Fragment.{Fragment}
 use Rattle.fragments.specs.Summaries.{no_fragments, summaries, summary_of, SummaryFits}
-use Rattle.remote_edit.specs.SeesLaws.{may_concern_any}
 use Rattle.remote_edit.specs.Anew.{anew}
 use Rattle.remote_edit.proofs.Anew.{unmet_kept, same_len}
 use Rattle.remote_edit.proofs.Halves.{half, half_fits, turn, all_done}
 use Rattle.remote_edit.proofs.undo.with_undo.Goals as goal
+use Rattle.remote_edit.specs.Concern.{may_concern_any}
 
 pub loop-fragments-init : goal.loop-fragments-init
 loop-fragments-init c =

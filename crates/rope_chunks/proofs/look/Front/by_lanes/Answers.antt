@@ -2,7 +2,8 @@ use Rattle.std.proofs.Common.{sym, subst, ap, get_or, ◌∙◌, arith}
 use Rattle.text_dims.specs.declared.places.Place.{Place}
 use Rattle.text_dims.specs.Places.{PlaceFits, place_after}
 use Rattle.text_dims.proofs.Fronts.{run_end}
-use Rattle.rope_chunks.proofs.Fronts.{front_fits, next_fits, next_is}
+use Rattle.text_dims.proofs.PlaceSums.{next_is}
+use Rattle.rope_chunks.proofs.Fronts.{front_fits, next_fits}
 use Rattle.rope_chunks.proofs.look.Front.by_lanes.Goals as goal
 
 pub past_run-requires : goal.past_run-requires

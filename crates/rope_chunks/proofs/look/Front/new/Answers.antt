@@ -2,7 +2,8 @@ use Rattle.std.proofs.Common.{ap, sym, get_or, ◌∙◌, arith}
 use Rattle.text_dims.specs.declared.places.Place.{Place}
 use Rattle.text_dims.specs.Places.{place_after}
 use Rattle.text_dims.proofs.Fronts.{cut_before, cut_end}
-use Rattle.rope_chunks.proofs.Fronts.{next_fits, next_is}
+use Rattle.text_dims.proofs.PlaceSums.{next_is}
+use Rattle.rope_chunks.proofs.Fronts.{next_fits}
 use Rattle.rope_chunks.proofs.look.Front.new.Goals as goal
 
 pub with_next-front-requires-clause-fits : goal.with_next-front-requires-clause-fits
