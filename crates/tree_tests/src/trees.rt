@@ -144,7 +144,7 @@ fn sums_hold_lists(rt: HostRuntime) -> Result<(), OutOfMemory> {
     Ok(())
 }
 
-fn alone<T: Numbered>(alloc: Global, number: u64) -> Result<SumTree<T>, OutOfMemory>
+fn tree_of_one<T: Numbered>(alloc: Global, number: u64) -> Result<SumTree<T>, OutOfMemory>
     requires { (xs : List T) → T.Summary.fits (fold T.Summary.empty T.Summary.op T.sum_of xs) }
 {
     let item = T::of_number(alloc, number)?;
@@ -182,7 +182,7 @@ fn keyed_rows<T: Numbered>(alloc: Global, tree: &mut SumTree<T>) -> Result<bool,
 {
     let answers = keyed_answers(alloc, tree)?;
     let right = finds_three(tree) && answers == [None, None, None, Some(5), Some(2), None];
-    append_to(alloc, tree, alone(alloc, 8)?)?;
+    append_to(alloc, tree, tree_of_one(alloc, 8)?)?;
     Ok(mirrors(alloc, tree, &[3, 5, 8])? && right)
 }
 

@@ -281,7 +281,8 @@ impl<'v> Plain for Chosen<'v> {
 }
 
 impl<'v> Moves<Extent> for Chosen<'v> {
-    ghost use Rattle.tree_tests.specs.Partly.{partly, partly_laws, chosen_count, chosen_sum, chosen_few};
+    ghost use Rattle.tree_tests.specs.Partly.{partly, chosen_count};
+    ghost use Rattle.tree_tests.specs.PartlyLaws.{partly_laws, chosen_sum, chosen_few};
 
     ghost moved = { λ p s. partly (λ x. x.items) (λ c x. chosen_count c.odd x.items x.odd) p s };
 

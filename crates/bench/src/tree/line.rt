@@ -30,7 +30,8 @@ impl Model for Line {
 impl Item for Line {
     type Summary = Span;
 
-    ghost use Rattle.bench.specs.Spans.{line_sum, line_admitted};
+    ghost use Rattle.bench.specs.Spans.{line_sum};
+    ghost use Rattle.bench.specs.SpanLaws.{line_admitted};
 
     ghost sum_of = { line_sum };
 

@@ -1,5 +1,6 @@
 //! An item with a key and a width.
-ghost use Rattle.bench.specs.Spans.{number_sum, number_admitted, number_key};
+ghost use Rattle.bench.specs.Spans.{number_sum, number_key};
+ghost use Rattle.bench.specs.SpanLaws.{number_admitted};
 
 use super::numbered::Numbered;
 use super::span::Span;

@@ -1,5 +1,6 @@
 //! A summary that counts items and adds their widths, modulo 2^64.
-ghost use Rattle.bench.specs.Spans.{no_span, span_sum, IsSpan, AnySpan, span_laws};
+ghost use Rattle.bench.specs.Spans.{no_span, span_sum, IsSpan, AnySpan};
+ghost use Rattle.bench.specs.SpanLaws.{span_laws};
 
 use std::alloc::Global;
 use sum_tree::{OutOfMemory, Summary};
