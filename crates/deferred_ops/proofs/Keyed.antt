@@ -16,9 +16,9 @@ use Rattle.op_model.specs.declared.operation.Operation.{Operation}
 use Rattle.op_model.specs.Sorted.{insert_by, Ascending}
 use Rattle.op_model.specs.Operations.{stamp_of}
 use Rattle.op_model.specs.Histories.{operation_at}
-use Rattle.op_model.specs.Steps.{older}
+use Rattle.op_model.specs.Steps.{older, without}
 use Rattle.op_model.proofs.Elements.{find_filter}
-use Rattle.deferred_ops.specs.Deferred.{AreKeyed, is_past, misses_nothing, least_ready, without, start_past}
+use Rattle.deferred_ops.specs.Deferred.{AreKeyed, is_past, misses_nothing, least_ready, start_past}
 
 abbrev pub Keyed : Type 0
 Keyed = List (Lamport × Operation)

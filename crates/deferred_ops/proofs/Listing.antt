@@ -20,9 +20,9 @@ use Rattle.op_model.specs.declared.operation.Operation.{Operation}
 use Rattle.op_model.specs.Sorted.{Ascending, Member, insert_by}
 use Rattle.op_model.specs.Operations.{stamp_of, version_of}
 use Rattle.op_model.specs.Histories.{operation_at}
-use Rattle.op_model.specs.Steps.{older}
+use Rattle.op_model.specs.Steps.{older, without}
 use Rattle.op_model.proofs.settling.Causes.{misses}
-use Rattle.deferred_ops.specs.Deferred.{AreListed, Cause, Causes, IsListed, NoneSeen, cause_order, has_cause, is_past, least_ready, misses_nothing, without}
+use Rattle.deferred_ops.specs.Deferred.{AreListed, Cause, Causes, IsListed, NoneSeen, cause_order, has_cause, is_past, least_ready, misses_nothing}
 
 -- ---- numbers that come first in an order
 
@@ -171,7 +171,7 @@ module _ (s anew : Causes) (seen : Cause) (stays : (q : Cause) → is_at (cause_
       go true q e later = absurd (cc e)
       go false q e later = (listed_on o q listed.0, later e)
 
-  -- the operations behind one of that stamp have others
+  -- the operations after one of that stamp have others
   behind_listed : (o : Operation) (w : List Operation) → same_stamp (stamp_of o) seen.2 ≡ true → AllByRecursion (λ y. older o y ≡ true) w → AreListed s w → AreListed anew w
   behind_listed o [] here before listed = tt
   behind_listed o (y ∷ w) here before listed =

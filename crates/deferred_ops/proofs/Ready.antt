@@ -9,13 +9,13 @@ use Rattle.lamport_clock.specs.Versions.{within}
 use Rattle.op_model.specs.declared.operation.Operation.{Operation}
 use Rattle.op_model.specs.Operations.{stamp_of, version_of}
 use Rattle.op_model.specs.Sorted.{Ascending}
-use Rattle.op_model.specs.Steps.{older}
+use Rattle.op_model.specs.Steps.{older, without}
 use Rattle.op_model.proofs.Elements.{each_map}
 use Rattle.op_model.proofs.settling.Passes.{older_around}
 use Rattle.op_model.specs.Histories.{History, version}
 use Rattle.op_model.proofs.settling.AllApplied.{AllMiss}
 use Rattle.op_model.proofs.settling.Settling.{after}
-use Rattle.deferred_ops.specs.Deferred.{without, is_past, least_ready}
+use Rattle.deferred_ops.specs.Deferred.{is_past, least_ready}
 
 pub without_others : (t : Lamport) (w : List Operation) → AllByRecursion (λ (o : Operation). same_stamp (stamp_of o) t ≡ false) w → without t w ≡ w
 without_others t [] e = refl

@@ -6,8 +6,8 @@ use Rattle.op_model.specs.declared.operation.Operation.{Operation}
 use Rattle.op_model.specs.declared.operation.Operation.TheVariants.{Edit, Undo}
 use Rattle.op_model.specs.Sorted.{insert_by}
 use Rattle.op_model.specs.Histories.{operation_at}
-use Rattle.op_model.specs.Steps.{older}
-use Rattle.deferred_ops.specs.Deferred.{least_ready, without}
+use Rattle.op_model.specs.Steps.{older, without}
+use Rattle.deferred_ops.specs.Deferred.{least_ready}
 
 abbrev at : ℕ → ℕ → Lamport
 at v r = record { value = v; replica = r }

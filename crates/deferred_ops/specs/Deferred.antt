@@ -1,6 +1,6 @@
 -- What waits: a list of operations whose stamps ascend.
-use Rattle.std.specs.Prelude.{◌≡◌, ◌<◌, ◌≤◌, ℕ, Bool, true, false, not, ◌&&◌, if◌then◌else◌, List, Option, Some, None}
-use Rattle.std.specs.List.{find, filter, AllByRecursion}
+use Rattle.std.specs.Prelude.{◌≡◌, ◌<◌, ◌≤◌, ℕ, Bool, true, false, ◌&&◌, if◌then◌else◌, List, Option, Some, None}
+use Rattle.std.specs.List.{find, AllByRecursion}
 use Rattle.std.specs.Ordering.{nat_cmp, ordering_then}
 use Rattle.std.specs.declared.cmp.Ordering.{Ordering}
 use Rattle.std.specs.BTreeMap.{is_at}
@@ -8,7 +8,7 @@ use Rattle.std.specs.BTreeSet.{BTreeSet, contains}
 use Rattle.std.specs.declared.ops.Bound.{Bound}
 use Rattle.std.specs.declared.ops.Bound.TheVariants.{Excluded, Unbounded}
 use Rattle.lamport_clock.specs.declared.stamp.Lamport.{Lamport}
-use Rattle.lamport_clock.specs.Stamps.{later, same_stamp, stamp_cmp}
+use Rattle.lamport_clock.specs.Stamps.{later, stamp_cmp}
 use Rattle.lamport_clock.specs.Versions.{Entries, within}
 use Rattle.op_model.specs.Sorted.{Member}
 use Rattle.op_model.specs.declared.operation.Operation.{Operation}
@@ -26,10 +26,6 @@ misses_nothing have op = within (version_of op) have
 -- the least operation past a stamp that misses nothing
 abbrev pub least_ready : Option Lamport → Entries → List Operation → Option Operation
 least_ready after have w = find (λ o. is_past after o && misses_nothing have o) w
-
--- w without the operation of the stamp
-abbrev pub without : Lamport → List Operation → List Operation
-without t w = filter (λ o. not (same_stamp (stamp_of o) t)) w
 
 -- ---- for private clauses
 

@@ -54,7 +54,7 @@ pub fn list_cause(causes: &mut BTreeSet<Cause>, op: &Operation) -> Result<bool, 
     Ok(true)
 }
 
-/// Lists a cause in place of another. False where memory ran out: then neither is listed. Logarithmic.
+/// Lists a cause in place of another. False if an allocation failed: then neither is listed. Logarithmic.
 pub fn replace(causes: &mut BTreeSet<Cause>, seen: Cause, missed: Cause) -> bool
     ensures { result ≡ true → ListsFor causes.old causes.new seen missed }
 {

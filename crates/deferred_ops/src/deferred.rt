@@ -4,8 +4,8 @@ ghost use Rattle.std.specs.Option.{option_copied};
 ghost use Rattle.op_model.specs.Sorted.{insert_by, Ascending};
 ghost use Rattle.op_model.specs.Operations.{stamp_of};
 ghost use Rattle.op_model.specs.Histories.{operation_at};
-ghost use Rattle.op_model.specs.Steps.{older};
-ghost use Rattle.deferred_ops.specs.Deferred.{NoneReady, least_ready, without, start_past};
+ghost use Rattle.op_model.specs.Steps.{older, without};
+ghost use Rattle.deferred_ops.specs.Deferred.{NoneReady, least_ready, start_past};
 
 use crate::OutOfMemory;
 use crate::causes::{Cause, are_missed, first_seen, list_cause, replace};
@@ -22,7 +22,7 @@ pub struct Deferred {
     waiting: BTreeMap<Lamport, Operation>,
     /// A cause of each operation that waits, so that none is gone over while all of these are missed.
     causes: BTreeSet<Cause>,
-    /// Whether each has one there; false once memory ran out for one, or the version of one saw nothing.
+    /// Whether each has one there; false once an allocation failed for one, or the version of one saw nothing.
     are_listed: bool,
 }
 
@@ -42,7 +42,7 @@ impl Model for Deferred {
 }
 
 impl Deferred {
-    /// Nothing waits. This takes no memory yet, so it is always Ok.
+    /// Nothing waits. This does not allocate yet, so it is always Ok.
     pub fn new(alloc: Global) -> Result<Deferred, OutOfMemory>
         ensures empty { IfOk result (λ d. d ≡ []) }
         ensures succeeds { IsOk result }
@@ -62,8 +62,8 @@ impl Deferred {
         self.waiting.len() as u64
     }
 
-    /// Lets an operation wait; none with its stamp waits yet. Logarithmic in what waits. On want of memory the
-    /// operation is dropped.
+    /// Lets an operation wait; none with its stamp waits yet. Logarithmic in what waits. If an allocation
+    /// fails, the operation is dropped.
     pub fn add(&mut self, op: Operation) -> Result<(), OutOfMemory>
         requires { operation_at self.old (stamp_of op) ≡ None }
         ensures ok { OnOk result (self.new ≡ insert_by older op self.old) }
@@ -113,8 +113,8 @@ impl Deferred {
     }
 
     /// Lists, for each operation whose listed cause `have` sees, one that it misses, so that `ready` need not go over what waits,
-    /// which stays as it is. Logarithmic in what waits, for each replica of `have` and each cause that is listed anew. Where memory
-    /// runs out `ready` goes over what waits from then on.
+    /// which stays as it is. Logarithmic in what waits, for each replica of `have` and each cause that is listed in place of
+    /// another. If an allocation fails, `ready` goes over what waits from then on.
     pub fn watch(&mut self, have: &Version)
         ensures { self.new ≡ self.old }
     {

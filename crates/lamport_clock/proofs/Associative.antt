@@ -1,5 +1,5 @@
 -- The join of versions is associative and has the empty version as its unit, and it keeps entries in order.
-use Rattle.std.proofs.Common.{◌≡◌, ℕ, suc, ◌<◌, ◌≤◌, ◌≢◌, [], ◌∷◌, refl, sym, ap, ◌∙◌, arith, subst, eq-eqb, ne_eqb, ◌+◌, ◌++◌, take, drop}
+use Rattle.std.proofs.Common.{◌≡◌, ℕ, suc, ◌<◌, ◌≤◌, ◌≢◌, [], ◌∷◌, refl, sym, ap, ◌∙◌, arith, subst, eq-eqb, ne_eqb, ◌++◌, take, drop}
 use Rattle.std.proofs.lemmas.List.{take-append-drop}
 use Rattle.lamport_clock.specs.declared.stamp.Lamport.{Lamport}
 use Rattle.lamport_clock.specs.Versions.{Entries, IsVersionFrom, AreEntriesFrom, entry, put_entry, raise, join_versions}

@@ -97,7 +97,7 @@ none_unseen u (e ∷ v) =
     (λ l. rw (le-ltb (entry u e.0) e.1 l, le-leb e.1 (entry u e.0) l) ih)
     (λ l. rw (lt-ltb (entry u e.0) e.1 l, lt-leb e.1 (entry u e.0) l) refl)
 
--- nothing comes of what is seen already
+-- what is seen already changes nothing
 pub joined_seen : (u v : Entries) → within v u ≡ true → join_versions u v ≡ u
 joined_seen u [] w = refl
 joined_seen u (e ∷ v) w =

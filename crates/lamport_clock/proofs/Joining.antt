@@ -1,4 +1,4 @@
--- Two versions gone through side by side.
+-- A walk along two versions side by side.
 use Rattle.std.proofs.Common.{◌≡◌, ℕ, suc, ◌+◌, ◌<◌, ◌≤◌, max, [], ◌∷◌, ◌++◌, length, take, drop, refl, sym, ap, ◌∙◌, subst, arith, true, false, cond, eqb, ltb, leb, Some, ne_eqb, eq-eqb, Bool, zero, get_or, set, append_assoc}
 use Rattle.std.proofs.lemmas.List.{drop_more, take_more_set, drop-set-lt}
 use Rattle.std.proofs.lemmas.Bool.{lt-ltb, le-ltb, lt-leb, le-leb, ltb-true}
@@ -60,7 +60,7 @@ raise_before n (d ∷ u) e h l p =
     let none : entry (d ∷ u) e.0 ≡ 0 = entry_below n (d ∷ u) e.0 h l in
     ap (λ x. cond (leb e.1 x) (d ∷ u) (put_entry e.0 e.1 (d ∷ u))) none ∙ rw (lt-leb e.1 0 p, le-ltb d.0 e.0 (omega arith), ne) refl
 
--- what both have, up to the second's first entry and behind it
+-- what both have, up to the second's first entry and after it
 pub joined_along : (n m : ℕ) (u v : Entries) (e : ℕ × ℕ) → IsVersionFrom n u → IsVersionFrom m (e ∷ v)
     → join_versions u (e ∷ v) ≡ take (place_of u e.0) u ++ (e.0, max (front (drop (place_of u e.0) u) e.0) e.1) ∷ join_versions (behind (drop (place_of u e.0) u) e.0) v
 joined_along n m [] v e hu hv = ap (λ w. join_versions w v) (raise_before (suc e.0) [] e tt (omega arith) hv.2) ∙ joined_past (suc e.0) e [] v (are_entries (suc e.0) v hv.4) (omega arith) ∙ ap (λ x. (e.0, x) ∷ join_versions [] v) (omega arith)
@@ -131,7 +131,7 @@ joined_turn u v all before from i p x hu hv l hp hb hf hx =
 joined_here : (d : ℕ × ℕ) (u : Entries) (e : ℕ × ℕ) (v : Entries) (m : ℕ) → d.0 ≡ e.0 → IsVersionFrom m (e ∷ v) → join_versions (d ∷ u) (e ∷ v) ≡ (e.0, max d.1 e.1) ∷ join_versions u v
 joined_here d u e v m q h = ap (λ w. join_versions w v) (raise_here d u e q) ∙ joined_past (suc e.0) (e.0, max d.1 e.1) u v (are_entries (suc e.0) v h.4) (omega arith)
 
--- one entry raised where it lies, behind those that are
+-- one entry raised in place, after those that are raised already
 pub joined_each : (u v : Entries) (i x : ℕ) → IsVersionFrom 0 v → i < length v → length u ≡ length v → (At u i).0 ≡ (At v i).0 → x ≡ max (At u i).1 (At v i).1
     → take i u ++ join_versions (drop i u) (drop i v) ≡ take (i + 1) (set u i ((At v i).0, x)) ++ join_versions (drop (i + 1) (set u i ((At v i).0, x))) (drop (i + 1) v)
 joined_each u v i x h l long same greater =
@@ -159,7 +159,7 @@ heads d e u v q = cc
 tails : (d e : ℕ × ℕ) (u v : Entries) → d ∷ u ≡ e ∷ v → u ≡ v
 tails d e u v q = cc
 
--- what is not raised yet is as it was, its first entry and what is behind it
+-- what is not raised yet is as it was, its first entry and what is after it
 pub same_head : (u w : Entries) (i : ℕ) → i < length u → i < length w → drop i u ≡ drop i w → At u i ≡ At w i
 same_head u w i l m e = heads (At u i) (At w i) (drop (i + 1) u) (drop (i + 1) w) (sym (drop_more u i (0, 0) l) ∙ e ∙ drop_more w i (0, 0) m)
 

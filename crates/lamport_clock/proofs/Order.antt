@@ -1,4 +1,4 @@
--- The order of stamps, as std's comparisons tell it.
+-- The order of stamps, as std's comparisons say it.
 use Rattle.std.proofs.Common.{ℕ, ◌≡◌, refl, sym, arith, Ordering, Some, eq-eqb, ne_eqb, ap, true, false, ◌∙◌, inl, inr, ◌⊎◌}
 use Rattle.std.proofs.lemmas.Bool.{lt-ltb, le-ltb, cases_Bool}
 use Rattle.std.proofs.lemmas.Bool.Decides.{nat_tests}

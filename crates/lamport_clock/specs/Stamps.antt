@@ -6,7 +6,7 @@ use Rattle.std.specs.declared.cmp.Ordering.{Ordering}
 use Rattle.std.proofs.lemmas.Cmp.{nat_cmp_total, on_total, then_total}
 use Rattle.lamport_clock.specs.declared.stamp.Lamport.{Lamport}
 
--- by value, then by replica, as std's comparisons tell it
+-- by value, then by replica, as std's comparisons say it
 abbrev pub stamp_cmp : Lamport → Lamport → Ordering
 stamp_cmp s t = ordering_then (nat_cmp s.value t.value) (nat_cmp s.replica t.replica)
 

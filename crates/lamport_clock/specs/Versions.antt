@@ -62,7 +62,7 @@ abbrev pub place_of : Entries → ℕ → ℕ
 place_of [] r = 0
 place_of (e ∷ v) r = if nat_lt e.0 r then suc (place_of v r) else 0
 
--- the first entry's value, where that is replica r's, and what stands behind it
+-- the first entry's value, where that is replica r's, and what stands after it
 abbrev pub front : Entries → ℕ → ℕ
 front [] r = 0
 front (e ∷ v) r = if e.0 == r then e.1 else 0

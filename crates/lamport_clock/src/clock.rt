@@ -6,12 +6,12 @@ use crate::Lamport;
 use std::marker::Model;
 use thiserror::Error;
 
-/// The clock stands at its last value, 4,294,967,295, so it gives no further stamp.
+/// The clock is at its last value, 4,294,967,295, and gives no further stamp.
 #[derive(Clone, Copy, Debug, PartialEq, Eq, Error)]
 #[error("the clock stands at its end")]
 pub struct ClockEnd;
 
-/// A replica's clock, which contracts see as the stamp that it gives next.
+/// A replica's clock. Contracts see it as the stamp that it gives next.
 #[derive(Drop)]
 pub struct Clock {
     next: Lamport,
@@ -26,7 +26,7 @@ impl Model for Clock {
 }
 
 impl Clock {
-    /// The clock of a replica that has seen nothing: it stands at 1.
+    /// The clock of a replica that has seen nothing: its value is 1.
     pub fn new(replica: u16) -> Clock
         ensures { result ≡ record { value = 1; replica = replica } }
     {
@@ -42,18 +42,18 @@ impl Clock {
         self.next.value
     }
 
-    /// Moves past a stamp, to one more than the greater of its value and the clock's, but never past the last value.
+    /// Moves the clock past a stamp: to one more than the greater of the two values, but never past the last value.
     pub fn observe(&mut self, t: Lamport)
         ensures { self.new ≡ record self.old { value = clock_after self.old.value t.value } }
     {
         self.next.value = self.next.value.max(t.value).saturating_add(1);
     }
 
-    /// The stamp at which the clock stands; then it moves on by one.
+    /// Returns the stamp at the clock's value, and moves the clock on by one.
     ///
     /// # Errors
     ///
-    /// `ClockEnd` exactly where the clock stands at 4,294,967,295; it stays there.
+    /// `ClockEnd` exactly if the clock is at 4,294,967,295; it stays there.
     pub fn tick(&mut self) -> Result<Lamport, ClockEnd>
         ensures end { IsErr result ↔ (self.old.value ≡ last_value) }
         ensures stamp { IfOk result (λ t. t ≡ self.old) }

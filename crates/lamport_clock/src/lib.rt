@@ -19,7 +19,7 @@ fn sends<T: Send>(_value: &T) {}
 
 fn shares<T: Sync>(_value: &T) {}
 
-/// Clocks and versions may be sent to threads and be shared by them.
+/// Clocks and versions can be sent to threads and shared by them.
 pub fn crosses_threads(clock: &Clock, version: &Version) {
     sends(clock);
     shares(clock);

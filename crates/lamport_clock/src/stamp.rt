@@ -4,7 +4,7 @@ ghost use Rattle.lamport_clock.specs.Stamps.{later, same_stamp, stamp_text};
 
 use std::fmt;
 
-/// A stamp: ordered by value, then by replica. It is written `value.replica`. The default one, 0.0, is no operation's.
+/// A stamp: ordered by value, then by replica. It is written `value.replica`. No operation has the default one, 0.0.
 #[derive(Clone, Copy, Debug, Default, PartialEq, Eq, PartialOrd, Ord, Hash)]
 pub struct Lamport {
     pub value: u32,
@@ -19,7 +19,7 @@ impl fmt::Display for Lamport {
     }
 }
 
-/// Whether `s` is the later of two stamps, which is what `>` says: it has the greater value, or the same value and the
+/// Whether `s` is the later of two stamps, as `>` says: it has the greater value, or the same value and the
 /// greater replica id.
 pub fn is_later(s: Lamport, t: Lamport) -> bool
     ensures { result ≡ later s t }
@@ -27,7 +27,7 @@ pub fn is_later(s: Lamport, t: Lamport) -> bool
     s > t
 }
 
-/// Whether two stamps are the same, which is what `==` says.
+/// Whether two stamps are the same, as `==` says.
 pub fn is_same(s: Lamport, t: Lamport) -> bool
     ensures { result ≡ same_stamp s t }
 {

@@ -1,4 +1,4 @@
-//! The greatest stamp value seen of each replica.
+//! Versions: the greatest stamp value seen of each replica.
 ghost use Rattle.std.specs.Prelude.{◌≡◌, ℕ, ◌<◌, ◌≤◌, [], max, IsOk, IfOk, OnErr, OnOk, length, slice_get, IsTrue, ◌↔◌};
 ghost use Rattle.lamport_clock.specs.Versions.{entry, sees, within, first_unseen, raise, join_versions, put_entry, place_of, front, behind, IsAt, IsVersion, OfSameReplicas};
 
@@ -7,10 +7,10 @@ use smallvec::SmallVec;
 use std::alloc::Global;
 use std::marker::Model;
 
-/// For each replica the greatest value seen, 0 where none was. Contracts see it as the list of its entries
-/// (replica, value) with values above 0, replicas ascending.
+/// The greatest value seen of each replica, 0 if none was seen. Contracts see a version as the list of its entries
+/// (replica, value), in ascending order of the replicas, with values above 0.
 ///
-/// Up to four entries take no memory of their own.
+/// Up to four entries are stored in place, without an allocation.
 #[derive(Drop)]
 pub struct Version {
     entries: SmallVec<(u16, u32), 4>,
@@ -37,12 +37,12 @@ impl Version {
         }
     }
 
-    /// The version that has seen the stamp of each of these entries (replica, value), in any order: for each replica the
-    /// greatest value given. Entries of value 0 make none. The number of entries times the number of replicas.
+    /// The version that has seen the stamp of each of these entries (replica, value), which stand in any order: of each
+    /// replica it has the greatest value given. Entries of value 0 are skipped. O(entries · replicas).
     ///
     /// # Errors
     ///
-    /// `OutOfMemory`.
+    /// `OutOfMemory` if an allocation fails.
     pub fn from_entries(alloc: Global, entries: &[(u16, u32)]) -> Result<Version, OutOfMemory>
         ensures { IfOk result (λ v. v ≡ join_versions [] entries.now) }
     {
@@ -53,14 +53,29 @@ impl Version {
         Ok(version)
     }
 
-    /// What holds of every version, for callers. It does nothing when it runs.
+    /// The version with exactly these entries (replica, value), whose replicas ascend and whose values are above 0.
+    /// Linear in their number, where `from_entries` is quadratic.
+    ///
+    /// # Errors
+    ///
+    /// `OutOfMemory` if an allocation fails.
+    pub fn from_ascending(alloc: Global, entries: &[(u16, u32)]) -> Result<Version, OutOfMemory>
+        requires { IsVersion entries.now }
+        ensures { IfOk result (λ v. v ≡ entries.now) }
+    {
+        Ok(Version {
+            entries: SmallVec::from_slice(alloc, entries)?,
+        })
+    }
+
+    /// States for callers what holds of every version. The call does nothing.
     pub fn known(&self)
         ensures { IsVersion self.now }
     {
         let _entries = &self.entries;
     }
 
-    /// The entries, replicas ascending.
+    /// The entries, in ascending order of the replicas.
     pub fn as_slice(&self) -> &[(u16, u32)]
         ensures entries { result.now ≡ self.now }
         ensures kept { IsVersion self.now }
@@ -68,7 +83,7 @@ impl Version {
         self.entries.as_slice()
     }
 
-    /// The greatest value seen of replica `r`, 0 where none was. Linear in the number of replicas seen.
+    /// The greatest value seen of replica `r`, 0 if none was seen. Linear in the number of replicas seen.
     pub fn get(&self, r: u16) -> u32
         ensures { result ≡ entry self.now r }
     {
@@ -82,42 +97,43 @@ impl Version {
         self.entries.as_slice().len() as u64
     }
 
-    /// The entry of index `i`, counted from 0: a replica and the greatest value seen of it. Replicas ascend, values are
-    /// above 0. None exactly where `i` is no index.
+    /// The entry at index `i`, counted from 0: a replica and the greatest value seen of it. Replicas ascend, and values
+    /// are above 0. `None` exactly if `i` is out of range.
     pub fn entry(&self, i: u64) -> Option<(u16, u32)>
         ensures { result ≡ slice_get self.now i }
     {
         self.entries.as_slice().get(i as usize).copied()
     }
 
-    /// Whether the stamp is seen: its value is at most the one seen of its replica. Linear in the number of replicas.
+    /// Whether the stamp is seen: its value is at most the greatest one seen of its replica. Linear in the number of
+    /// replicas.
     pub fn sees(&self, t: Lamport) -> bool
         ensures { result ≡ sees self.now t }
     {
         t.value <= self.get(t.replica)
     }
 
-    /// Whether all is seen that the other version sees. Linear in the replicas of both.
+    /// Whether this version sees all that the other sees. Linear in the replicas of both.
     pub fn sees_all(&self, o: &Version) -> bool
         ensures { result ≡ within o.now self.now }
     {
         self.first_missing(o).is_none()
     }
 
-    /// The least replica of which the other version has seen more, with the greatest value that it has seen. Linear in
-    /// the replicas of both.
+    /// The least replica of which the other version has seen more, and the greatest value that it has seen of it.
+    /// Linear in the replicas of both.
     pub fn first_missing(&self, o: &Version) -> Option<(u16, u32)>
         ensures { result ≡ first_unseen self.now o.now }
     {
         unseen_in(self.entries.as_slice(), o.entries.as_slice())
     }
 
-    /// Takes the stamp's value as that of its replica where it is greater than the one seen. Linear in the number of replicas,
-    /// and without memory where the stamp is seen already.
+    /// Sees a stamp: raises the value of its replica to the stamp's, if that is greater. Linear in the number of
+    /// replicas. Does not allocate if the stamp is seen already.
     ///
     /// # Errors
     ///
-    /// `OutOfMemory` alone. The version is then as before.
+    /// `OutOfMemory` if an allocation fails; the version is then unchanged.
     pub fn observe(&mut self, t: Lamport) -> Result<(), OutOfMemory>
         ensures ok { OnOk result (self.new ≡ raise self.old t) }
         ensures err { OnErr result (self.new ≡ self.old) }
@@ -129,13 +145,13 @@ impl Version {
         Ok(())
     }
 
-    /// Sees all that the other version has seen too: for each replica the greater value. Linear in the replicas of both,
-    /// and without memory where the other has seen nothing more. Where both have seen the same replicas, the values are
-    /// raised in place.
+    /// Sees all that the other version has seen: of each replica the greater value. Linear in the replicas of both.
+    /// Does not allocate if the other has seen nothing more; if both have seen the same replicas, the values are raised
+    /// in place.
     ///
     /// # Errors
     ///
-    /// `OutOfMemory` alone. The version is then as before.
+    /// `OutOfMemory` if an allocation fails; the version is then unchanged.
     pub fn join(&mut self, o: &Version) -> Result<(), OutOfMemory>
         ensures ok { OnOk result (self.new ≡ join_versions self.old o.now) }
         ensures greater { OnOk result ((r : ℕ)
@@ -150,11 +166,11 @@ impl Version {
         Ok(())
     }
 
-    /// An equal version. Linear in the number of replicas.
+    /// Returns an equal version. Linear in the number of replicas.
     ///
     /// # Errors
     ///
-    /// `OutOfMemory` alone.
+    /// `OutOfMemory` if an allocation fails.
     pub fn copy(&self, alloc: Global) -> Result<Version, OutOfMemory>
         ensures { IfOk result (λ v. v ≡ self.now) }
     {
@@ -164,7 +180,7 @@ impl Version {
     }
 }
 
-// The value at a replica, 0 where there is none.
+// The value of a replica, 0 if it has no entry.
 fn value_in(entries: &[(u16, u32)], r: u16) -> u32
     ensures { result ≡ entry entries.now r }
 {
@@ -176,7 +192,7 @@ fn value_in(entries: &[(u16, u32)], r: u16) -> u32
     0
 }
 
-// The number of entries before the replica's place.
+// The number of entries before the place of a replica.
 fn place_in(entries: &[(u16, u32)], r: u16) -> usize
     ensures place { result ≡ place_of entries.now r }
     ensures within { result ≤ length entries.now }
@@ -188,7 +204,7 @@ fn place_in(entries: &[(u16, u32)], r: u16) -> usize
     at
 }
 
-// The value of the first entry, where that is the replica's, 0 where it is not.
+// The value of the first entry if it is the replica's, else 0.
 fn value_in_front(entries: &[(u16, u32)], r: u16) -> u32
     ensures { result ≡ front entries.now r }
 {
@@ -198,7 +214,7 @@ fn value_in_front(entries: &[(u16, u32)], r: u16) -> u32
     }
 }
 
-// What stands behind the first entry, where that is the replica's, all entries where it is not.
+// The entries after the first one if that is the replica's, else all entries.
 fn behind(entries: &[(u16, u32)], r: u16) -> &[(u16, u32)]
     ensures { result.now ≡ behind entries.now r }
 {
@@ -208,7 +224,7 @@ fn behind(entries: &[(u16, u32)], r: u16) -> &[(u16, u32)]
     }
 }
 
-// The first entry of theirs that passes that of ours.
+// The first entry of theirs whose value is greater than ours of its replica.
 fn unseen_in(ours: &[(u16, u32)], theirs: &[(u16, u32)]) -> Option<(u16, u32)>
     requires ours { IsVersion ours.now }
     requires theirs { IsVersion theirs.now }
@@ -224,7 +240,7 @@ fn unseen_in(ours: &[(u16, u32)], theirs: &[(u16, u32)]) -> Option<(u16, u32)>
     None
 }
 
-// Takes all entries of theirs: in place where both have the same replicas.
+// Joins their entries into ours, in place if both have the same replicas.
 fn join_entries(
     entries: &mut SmallVec<(u16, u32), 4>,
     theirs: &[(u16, u32)],
@@ -243,7 +259,7 @@ fn join_entries(
     Ok(())
 }
 
-// Whether both have entries of the same replicas. Where it says so, they have.
+// Whether both have entries of the same replicas.
 fn same_replicas(ours: &[(u16, u32)], theirs: &[(u16, u32)]) -> bool
     ensures { IsTrue result → OfSameReplicas ours.now theirs.now }
 {
@@ -258,7 +274,7 @@ fn same_replicas(ours: &[(u16, u32)], theirs: &[(u16, u32)]) -> bool
     true
 }
 
-// Raises each value of ours to that of theirs, where both have the same replicas.
+// Raises each of our values to theirs; both have the same replicas.
 fn raise_each(ours: &mut [(u16, u32)], theirs: &[(u16, u32)])
     requires theirs { IsVersion theirs.now }
     requires same { OfSameReplicas ours.old theirs.now }
@@ -271,7 +287,7 @@ fn raise_each(ours: &mut [(u16, u32)], theirs: &[(u16, u32)])
     }
 }
 
-// All entries of both, the greater value where a replica is in both.
+// The entries of both, with the greater value of a replica that is in both.
 fn merge(
     alloc: Global,
     ours: &[(u16, u32)],
@@ -299,7 +315,7 @@ fn is_at(entries: &[(u16, u32)], at: usize, r: u16) -> bool
     at < entries.len() && entries[at].0 == r
 }
 
-// Puts the stamp's value at its replica.
+// Sets the value of the stamp's replica to the stamp's.
 fn put(entries: &mut SmallVec<(u16, u32), 4>, t: Lamport) -> Result<(), OutOfMemory>
     ensures ok { OnOk result (entries.new.items ≡ put_entry t.replica t.value entries.old.items) }
     ensures err { OnErr result (entries.new.items ≡ entries.old.items) }

@@ -1,5 +1,5 @@
--- General facts that std lacks: what holds of each element of a list and of its parts, numbers one after another, what stands in
--- a list, tests of lists, and facts of Booleans and of tests of numbers.
+-- General facts that std lacks: what holds of each element of a list and of its parts, numbers one after another, what
+-- stands in a list, tests of lists, and facts of Booleans and of tests of numbers.
 use Rattle.std.proofs.Common.{refl, ◌≡◌, ◌∙◌, sym, ap, ◌⊎◌, inl, inr, ◌&&◌, ◌||◌, ℕ, zero, suc, ◌+◌, ◌<◌, ◌≤◌, eqb, arith, take, drop, Bool, true, false, List, [], ◌∷◌, ◌++◌, Some, cond, ◌-◌, subst, length, None, replicate, ◌==◌, get_or, ⊎_elim, map, set}
 use Rattle.std.specs.Prelude.{not, slice_get, slice_range}
 use Rattle.std.specs.List.{All, AllByRecursion, AllPairs, AllZip, filter, list_any, range_with_len, slice_index_or, find}
@@ -112,7 +112,7 @@ member_at [] i x e = cc
 member_at (y ∷ xs) zero x e = let f : x ≡ y = cc in inl f
 member_at (y ∷ xs) (suc i) x e = inr (member_at xs i x e)
 
--- what stands before a member, and what behind it
+-- what stands before a member, and what after it
 pub split_at : {A : Type 0} (x : A) (xs : List A) → Member x xs → (ys zs : List A) × (xs ≡ ys ++ x ∷ zs)
 split_at x [] m = absurd m
 split_at x (y ∷ xs) (inl e) = ([], xs, ap (λ z. z ∷ xs) (sym e))

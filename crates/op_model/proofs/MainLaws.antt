@@ -1,11 +1,13 @@
 -- The laws of histories, from the lemmas.
 use Rattle.op_model.proofs.Elements.{each_map}
-use Rattle.std.proofs.Common.{ℕ, suc, List, [], ◌∷◌, ◌∙◌, true, ◌≡◌, ap, subst}
+use Rattle.std.proofs.Common.{ℕ, suc, List, [], ◌∷◌, ◌∙◌, ◌⊎◌, true, ◌≡◌, refl, sym, ap, subst, inl, inr}
 use Rattle.op_model.specs.declared.operation.Operation.{Operation}
-use Rattle.op_model.specs.Histories.{History, newest_first}
+use Rattle.op_model.specs.declared.endings.Endings.TheVariants.{AsIs, Lf}
+use Rattle.op_model.specs.Sorted.{Member}
+use Rattle.op_model.specs.Histories.{History, In, base, newest_first}
 use Rattle.op_model.specs.Cells.{Cell, PathCell, everything, seq, cells}
-use Rattle.op_model.specs.Shown.{new_bytes, byte, shows_where, shows, text, full_where, full}
-use Rattle.op_model.specs.Laws.{SameSetsAgree, PartsAreFiltered, GoodIsLaidIn, ReplayedByStamps, LeftNeighbours, EachCellOnce, DeletersDelete, EditChanges, NewCellsShown, UndoChanges, OneWalk, TextsAreUtf8, BoundariesAreStd, EqualOperationsAreSame, EditsAreGood, UndosAreGood, SettlingEnds, SettlingKeepsLawful, RunsStayLawful, TextsAreShownCells, SameSetsAnswerAlike, AnchorsStandWhereMade, AnchorsStandInOrder, RightAnchorsAreKnown, TwoPassesAreEnough, SetIsNeverRefused, SetIsAppliedWhole, HonestSetsAreApplied, SettlingAppends, RunsAppend, FrontsAreLawful, FrontsAreSeen, ClosedParts, SameSetsRefuseAlike, AnchorsKeepTheirOrder, UndoIsTold, WalksLeaveCells, EditsSinceTellTheChange, HiddenTextsAreUtf8, FactsChangeAtBoundaries, WalksKeepRunsWhole, AnchorsResolve, HonestSetsAreAppliedWhole, EditsSinceAreAtBoundaries, LawfulIsHistory, TextsAtClosedVersions}
+use Rattle.op_model.specs.Shown.{IsCell, new_bytes, byte, shows_where, shows, text, full_where, full}
+use Rattle.op_model.specs.Laws.{SameSetsAgree, PartsAreFiltered, GoodIsLaidIn, ReplayedByStamps, LeftNeighbours, EachCellOnce, DeletersDelete, EditChanges, NewCellsShown, UndoChanges, OneWalk, TextsAreUtf8, BoundariesAreStd, EqualOperationsAreSame, EditsAreGood, UndosAreGood, SettlingEnds, SettlingKeepsLawful, RunsStayLawful, TextsAreShownCells, SameSetsAnswerAlike, AnchorsStandWhereMade, AnchorsStandInOrder, RightAnchorsAreKnown, TwoPassesAreEnough, SetIsNeverRefused, SetIsAppliedWhole, HonestSetsAreApplied, SettlingAppends, RunsAppend, FrontsAreLawful, FrontsAreSeen, ClosedParts, SameSetsRefuseAlike, AnchorsKeepTheirOrder, UndoIsTold, WalksLeaveCells, EditsSinceTellTheChange, HiddenTextsAreUtf8, FactsChangeAtBoundaries, WalksKeepRunsWhole, AnchorsResolve, HonestSetsAreAppliedWhole, EditsSinceAreAtBoundaries, LawfulIsHistory, TextsAtClosedVersions, StopsLeaveFronts, GoodKeepsTheRule, EnteredTextsHaveNoReturn, TextsWithoutReturnStay, NoReturnIsHeld, OpensWhatIsApplied, RunsOpenAgain, OpenedSetsAreApplied, OpenedSetsAreAppliedWhole, PlacesAreBoundaries, PlacesByFates, MadeAnchorsStandInOrder, ShownAnchorsAreMadeAgain, PartsBeginHistories, SameVersionsSameSets, LocalEditsReplaceCells, SettlingGoesOn}
 use Rattle.op_model.proofs.order.SameSets.{newest_of_set, seq_seen}
 use Rattle.op_model.proofs.shown.Parts.{shown_seen}
 use Rattle.op_model.proofs.shown.Bytes.{text_seen, full_seen}
@@ -23,11 +25,23 @@ use Rattle.op_model.specs.declared.anchor.TextEdit.{TextEdit}
 use Rattle.op_model.specs.Edits.{is_boundary}
 use Rattle.op_model.specs.Since.{is_shown_at, since, text_at}
 use Rattle.op_model.specs.Answers.{same_op}
-use Rattle.op_model.specs.Steps.{new_state}
+use Rattle.op_model.specs.Steps.{new_state, run}
+use Rattle.op_model.specs.Brought.{operations_of_calls}
+use Rattle.op_model.specs.Opened.{state_of}
+use Rattle.op_model.proofs.answers.Under.{under_good, under_clean}
+use Rattle.op_model.proofs.texts.Entering.{lf_clean, lf_same, lf_utf8}
+use Rattle.op_model.proofs.anchors.PlaceBoundaries.{place_bounded}
+use Rattle.op_model.proofs.anchors.FatePlaces.{fate_places, ends_in_order, made_again}
+use Rattle.op_model.proofs.histories.BegunHistories.{part_begins, versions_tell}
+use Rattle.op_model.proofs.texts.ReplacedCells.{cells_replaced}
+use Rattle.op_model.proofs.settling.GoingOn.{goes_on}
+use Rattle.op_model.proofs.settling.Stops.{fronts_left}
+use Rattle.op_model.proofs.settling.Opening.{opens_applied, bare_full}
+use Rattle.op_model.proofs.settling.OpenedRuns.{run_may}
 use Rattle.op_model.proofs.settling.Settling.{settled_fixed, settled_misses, settled_lawful, run_holds, opened_holds}
 use Rattle.op_model.proofs.answers.SameAnswers.{text_is, full_is, left_same, right_same, place_same, compare_same, known_same, since_same, text_at_same}
 use Rattle.std.specs.Prelude.{map, IsCharBoundary}
-use Rattle.std.specs.List.{filter}
+use Rattle.std.specs.List.{AllByRecursion, filter}
 use Rattle.op_model.proofs.anchors.AnchorPlaces.{left_place, right_place}
 use Rattle.op_model.proofs.anchors.AnchorOrder.{in_order}
 use Rattle.op_model.proofs.anchors.KnownAnchors.{right_known}
@@ -143,8 +157,21 @@ set_is_never_refused g h w op lg lh part pw i = never_refused g h w op lg lh par
 pub set_is_applied_whole : SetIsAppliedWhole
 set_is_applied_whole g h w l f m o i = all_applied g h w l f m o i
 
+pub opened_sets_are_applied_whole : OpenedSetsAreAppliedWhole
+opened_sets_are_applied_whole l r g cs ops ir lg pg p nf0 ho ko nf part inside all = honest_applied l r g cs ops ir lg pg p nf0 ho ko part inside all nf
+
+pub opened_sets_are_applied : OpenedSetsAreApplied
+opened_sets_are_applied l r g cs ops ir lg pg p nf0 ho ko bytes entries part inside all = honest_whole l r g cs ops ir lg pg p nf0 ho ko part inside all bytes entries
+
+-- the list of a new buffer is its base
+base_in : (t : List ℕ) (ops : List Operation) → In ops (base t) → (o : Operation) → In (base t ∷ []) o → In ops o
+base_in t ops b o i = elim i [ inl e ↦ subst (In ops) (sym e) b | inr n ↦ absurd n ]
+
+base_all : (t : List ℕ) (ops made : List Operation) → ((o : Operation) → In ops o → (o ≡ base t) ⊎ Member o made) → (o : Operation) → In ops o → In (base t ∷ []) o ⊎ Member o made
+base_all t ops made all o i = elim (all o i) [ inl e ↦ inl (inl e) | inr m ↦ inr m ]
+
 pub honest_sets_are_applied : HonestSetsAreApplied
-honest_sets_are_applied l r t cs ops ir u p ho b bytes entries inside all = honest_whole l r t cs ops ir u p ho b inside all bytes entries
+honest_sets_are_applied l r t cs ops ir u p nf0 ho ko b bytes entries inside all = opened_sets_are_applied l r (base t ∷ []) cs ops ir ((t, refl), tt) (opened_holds t u).1 p nf0 ho ko bytes entries (base_in t ops b) inside (base_all t ops (operations_of_calls l r cs (new_state t)) all)
 
 pub settling_appends : SettlingAppends
 settling_appends l h w = settled_longer l h w
@@ -201,7 +228,7 @@ pub anchors_resolve : AnchorsResolve
 anchors_resolve h l e o n = both_resolve h l e o n
 
 pub honest_sets_are_applied_whole : HonestSetsAreAppliedWhole
-honest_sets_are_applied_whole l r t cs ops ir u p ho b nf inside all = honest_applied l r t cs ops ir u p ho b inside all nf
+honest_sets_are_applied_whole l r t cs ops ir u p nf0 ho ko b nf inside all = opened_sets_are_applied_whole l r (base t ∷ []) cs ops ir ((t, refl), tt) (opened_holds t u).1 p nf0 ho ko nf (base_in t ops b) inside (base_all t ops (operations_of_calls l r cs (new_state t)) all)
 
 pub edits_since_are_at_boundaries : EditsSinceAreAtBoundaries
 edits_since_are_at_boundaries h v l e c = each_map
@@ -218,3 +245,58 @@ texts_at_closed_versions h v l c = (
   (λ d. shown_closed h l v c d),
   text_then h l v c ∙ ap (λ (f : Cell → ℕ). map f (filter (is_shown_at h v) (cells (seq h)))) (λ i d. byte_new h (lawful_ready h l).0.distinct d.stamp d.k i),
 )
+
+pub settling_goes_on : SettlingGoesOn
+settling_goes_on l ks s u = goes_on l ks s u
+
+pub stops_leave_fronts : StopsLeaveFronts
+stops_leave_fronts l ks s u = fronts_left l ks s u
+
+pub good_keeps_the_rule : GoodKeepsTheRule
+good_keeps_the_rule e h w op = (
+  (λ g. let u = under_good e h w op g in (u.1, u.0)),
+  (λ p. under_clean e h w op p.0 ∙ p.1),
+)
+
+pub entered_texts_have_no_return : EnteredTextsHaveNoReturn
+entered_texts_have_no_return t = (lf_clean t, lf_utf8 t)
+
+pub texts_without_return_stay : TextsWithoutReturnStay
+texts_without_return_stay AsIs t n = refl
+texts_without_return_stay Lf t n = lf_same t n
+
+pub no_return_is_held : NoReturnIsHeld
+no_return_is_held h p k = bare_full h k (each (cells (seq h)) (λ c i. ((each_cell_once h p).2 c).0 i)) (texts_are_shown_cells h p).1
+  where
+    each : (s : List Cell) → ((c : Cell) → Member c s → IsCell h c) → AllByRecursion (IsCell h) s
+    each [] f = tt
+    each (c ∷ s) f = (f c (inl refl), each s (λ d i. f d (inr i)))
+
+pub opens_what_is_applied : OpensWhatIsApplied
+opens_what_is_applied l ops = opens_applied l ops
+
+pub runs_open_again : RunsOpenAgain
+runs_open_again l r g cs i q p e =
+    let m = (opens_applied l g).0 e in
+    (opens_applied l (run l r cs (state_of g)).history).1 (run_may l r cs (state_of g) i p (m.lawful, q, tt) m)
+
+pub places_are_boundaries : PlacesAreBoundaries
+places_are_boundaries h l e a p k = place_bounded h l e a p k
+
+pub places_by_fates : PlacesByFates
+places_by_fates h g l m = fate_places h g l m
+
+pub parts_begin_histories : PartsBeginHistories
+parts_begin_histories h g l m f = part_begins h g l m f
+
+pub same_versions_same_sets : SameVersionsSameSets
+same_versions_same_sets h g l m f e = versions_tell h g l m f e
+
+pub local_edits_replace_cells : LocalEditsReplaceCells
+local_edits_replace_cells l h r ps w e i f = cells_replaced l h r ps w e i f
+
+pub made_anchors_stand_in_order : MadeAnchorsStandInOrder
+made_anchors_stand_in_order h l s e a b = ends_in_order h l s e a b
+
+pub shown_anchors_are_made_again : ShownAnchorsAreMadeAgain
+shown_anchors_are_made_again h l o c e = made_again h l o c e

@@ -4,3 +4,5 @@ pub mod KnownAnchors
 pub mod KeptOrder
 pub mod LeftAnchors
 pub mod Standing
+pub mod FatePlaces
+pub mod PlaceBoundaries

@@ -11,3 +11,4 @@ pub mod Founds
 pub mod Local
 pub mod Repeats
 pub mod Uncounted
+pub mod Under

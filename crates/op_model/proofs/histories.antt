@@ -9,3 +9,4 @@ pub mod ClosedVersions
 pub mod SameVersions
 pub mod Growing
 pub mod Ids
+pub mod BegunHistories

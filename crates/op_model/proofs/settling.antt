@@ -5,6 +5,10 @@ pub mod HonestRuns
 pub mod HonestSets
 pub mod Appending
 pub mod Causes
+pub mod GoingOn
+pub mod Opening
 pub mod Leaves
 pub mod Passes
 pub mod Waiting
+pub mod Stops
+pub mod OpenedRuns

@@ -7,3 +7,5 @@ pub mod WholeWalks
 pub mod Lengths
 pub mod Pieces
 pub mod Hidden
+pub mod Entering
+pub mod ReplacedCells

@@ -14,14 +14,14 @@ use Rattle.op_model.specs.declared.anchor.Bias.TheVariants.{Left, Right}
 use Rattle.op_model.specs.declared.faults.PlaceFault.{PlaceFault}
 use Rattle.op_model.specs.declared.faults.PlaceFault.TheVariants.{PastEnd, InsideChar}
 
--- At t k Left stands behind byte k - 1 of edit t, At t k Right before byte k; Least and Greatest name no byte
+-- At t k Left stands after byte k - 1 of edit t, At t k Right before byte k; Least and Greatest name no byte
 
 -- the shown cells in order
 abbrev pub shown_cells : History → List Cell
 shown_cells h = filter (shows h) (cells (seq h))
 
--- the anchor made at offset o of the text, where a character begins or the text ends: Least for Left at 0, Greatest for Right at
--- the end; else Left names shown cell o - 1, Right shown cell o. None past the end
+-- the anchor made at offset o of the text, where a character begins or the text ends: Least for Left at 0, Greatest for
+-- Right at the end; else Left names shown cell o - 1, Right shown cell o. None past the end
 unfoldable pub left_anchor : History → ℕ → Option Anchor
 left_anchor h zero = Some Least
 left_anchor h (suc o) = option_map (λ (c : Cell). At c.stamp (suc c.k) Left) (slice_get (shown_cells h) o)
@@ -43,7 +43,8 @@ cells_upto (d ∷ s) c = if same_cell d c then d ∷ [] else d ∷ cells_upto s 
 abbrev pub shown_count : History → List Cell → ℕ
 shown_count h s = length (filter (shows h) s)
 
--- where a known anchor stands in the text: Left counts the shown cells up to and including its own, Right those before its own
+-- where a known anchor stands in the text: Left counts the shown cells up to and including its own, Right those before
+-- its own
 unfoldable pub place : History → Anchor → ℕ
 place h Least = 0
 place h Greatest = length (text h)
@@ -61,8 +62,8 @@ gap h (At t k Right) = (length (cells_before (cells (seq h)) (record { stamp = t
 unfoldable pub compare_anchors : History → Anchor → Anchor → Ordering
 compare_anchors h a b = ordering_then (nat_cmp (gap h a).0 (gap h b).0) (nat_cmp (gap h a).1 (gap h b).1)
 
--- t is an edit of h, a character of its new bytes begins or they end at k, and the byte that the anchor names is one of them;
--- Least and Greatest are always known
+-- t is an edit of h, a character of its new bytes begins or they end at k, and the byte that the anchor names is one of
+-- them; Least and Greatest are always known
 unfoldable pub is_known : History → Anchor → Bool
 is_known h Least = true
 is_known h Greatest = true

@@ -51,7 +51,8 @@ path_at [] i = []
 path_at (p ∷ s) zero = path p
 path_at (p ∷ s) (suc i) = path_at s i
 
--- the path down to the left neighbour of a piece's first cell: the root where start is 0, else the cell at start - 1 of s
+-- the path down to the left neighbour of a piece's first cell: the root where start is 0, else the cell at start - 1 of
+-- s
 abbrev pub left_path : List PathCell → ℕ → List Cell
 left_path s zero = []
 left_path s (suc i) = path_at s i

@@ -1,4 +1,4 @@
--- What is told of each cell, and how one operation changes it: one pass over the cells in order.
+-- What is known of each cell, and how one operation changes it: one pass over the cells in order.
 use Rattle.std.specs.Prelude.{◌≡◌, ℕ, zero, suc, ◌+◌, ◌-◌, Bool, true, false, not, if◌then◌else◌, List, [], ◌∷◌, ◌++◌, length, map}
 use Rattle.std.specs.List.{filter}
 use Rattle.lamport_clock.specs.declared.stamp.Lamport.{Lamport}
@@ -19,11 +19,11 @@ pub record Fact : Type 0 where
 abbrev pub fact : History → Cell → Fact
 fact h c = record { cell = c; visible = shows h c; deletions = deleters h c }
 
--- all cells of h in order, with what is told of them
+-- all cells of h in order, with what is known of them
 abbrev pub cell_facts : History → List Fact
 cell_facts h = map (fact h) (cells (seq h))
 
--- the cell of q stands directly behind that of p in the texts of one edit, and the same is told of both
+-- the cell of q stands directly after that of p in the texts of one edit, and the same is known of both
 abbrev pub Continues : Fact → Fact → Type 0
 Continues p q = q ≡ record {
   cell = record {
@@ -34,7 +34,7 @@ Continues p q = q ≡ record {
   deletions = p.deletions;
 }
 
--- n cells of edit t from k on, of which one thing is told
+-- n cells of edit t from k on, of which the same is known
 abbrev pub alike : Lamport → ℕ → ℕ → Bool → List Lamport → List Fact
 alike t k zero v d = []
 alike t k

@@ -1,4 +1,4 @@
--- Items: a list with one owner, or one that is shared.
+-- The items of a list that has one owner or is shared.
 use Rattle.std.specs.Prelude.{List}
 use Rattle.std.specs.Arc.{arc_value}
 use Rattle.op_model.specs.declared.items.Items.{Items}

@@ -53,11 +53,11 @@ lay_direct keep t k (p ∷ ps) s =
     let i : ℕ = index_after keep r p.start in
     put_direct i (text_places (left_path r i) t k p.text) r
 
--- the operations gone through by stamps, each text put directly after its left neighbour, where the stamps of h descend
+-- the operations replayed by stamps, each text put directly after its left neighbour, where the stamps of h descend
 unfoldable pub replay : History → List PathCell
 replay [] = []
 replay (o ∷ h) = lay_direct (sees (version_of o)) (stamp_of o) 0 (pieces_of o) (replay h)
 
--- the operations of h gone through by stamps
+-- the operations of h replayed by stamps
 abbrev pub replay_by_stamps : History → List PathCell
 replay_by_stamps h = replay (newest_first h)

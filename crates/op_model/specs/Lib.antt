@@ -13,11 +13,15 @@ pub mod Facts
 pub mod Walked
 pub mod Made
 pub mod Answers
+pub mod Rules
 pub mod Lawful
 pub mod Anchors
 pub mod Since
 pub mod Settled
+pub mod Stopped
 pub mod Steps
+pub mod Opened
 pub mod Brought
+pub mod Places
 pub mod Laws
 pub mod Shapes

@@ -12,7 +12,7 @@ pub record Excess : Type 0 where
   pub held : ℕ
   pub adds : ℕ
 
--- the limit that h with so many bytes and entries more passes, Bytes before Entries
+-- the limit that h passes with this many more bytes and entries, Bytes before Entries
 abbrev pub excess : LimitsType → History → ℕ → ℕ → Option Excess
 excess l h bytes entries = first_of (
     when (nat_lt l.bytes (bytes_held h + bytes)) (record { unit = Bytes; held = bytes_held h; adds = bytes })

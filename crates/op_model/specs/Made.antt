@@ -25,7 +25,8 @@ full_offset is_shown [] o = 0
 full_offset is_shown (c ∷ s) zero = if is_shown c then 0 else suc (full_offset is_shown s zero)
 full_offset is_shown (c ∷ s) (suc o) = suc (full_offset is_shown s (if is_shown c then o else suc o))
 
--- a piece, without fault against text(h), taken to full offsets: an empty range stays empty, another ends one past its last shown cell
+-- a piece, without fault against text(h), taken to full offsets: an empty range stays empty, another ends one past its
+-- last shown cell
 abbrev pub full_piece : History → Piece → Piece
 full_piece h p =
     let at : (o : ℕ) → ℕ = λ o. full_offset (shows h) (cells (seq h)) o in

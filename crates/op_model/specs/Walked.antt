@@ -8,7 +8,7 @@ use Rattle.op_model.specs.Edits.{is_boundary}
 use Rattle.op_model.specs.Shown.{new_bytes}
 use Rattle.op_model.specs.Facts.{Fact, alike, Marking}
 
--- len cells of one edit from offset on, of which one thing is told
+-- len cells of one edit from offset on, of which the same is known
 pub record Run : Type 0 where
   pub stamp : Lamport
   pub offset : ℕ
@@ -19,7 +19,7 @@ pub record Run : Type 0 where
 abbrev pub run_facts : Run → List Fact
 run_facts r = alike r.stamp r.offset r.len r.visible r.deletions
 
--- what the runs tell of their cells, in order
+-- what the runs say of their cells, in order
 abbrev pub facts_of : List Run → List Fact
 facts_of [] = []
 facts_of (r ∷ rs) = run_facts r ++ facts_of rs
@@ -34,12 +34,13 @@ abbrev pub kept_len : (Lamport → Bool) → List Run → ℕ
 kept_len keep [] = 0
 kept_len keep (r ∷ rs) = if keep r.stamp then r.len + kept_len keep rs else kept_len keep rs
 
--- the pieces in order: none reversed, none beginning before the end of the one before it or before at, none ending past end
+-- the pieces in order: none reversed, none beginning before the end of the one before it or before at, none ending past
+-- end
 abbrev pub Ordered : ℕ → ℕ → List Piece → Type 0
 Ordered at end [] = at ≤ end
 Ordered at end (p ∷ ps) = (at ≤ p.start) × (p.start ≤ p.end) × Ordered p.end end ps
 
--- the first n cells of a run, and those behind them
+-- the first n cells of a run, and those after them
 abbrev pub front : Run → ℕ → Run
 front r n = record { stamp = r.stamp; offset = r.offset; len = n; visible = r.visible; deletions = r.deletions }
 

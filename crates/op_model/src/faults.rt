@@ -11,10 +11,11 @@ use std::alloc::AllocFailed;
 use std::fmt;
 use thiserror::Error;
 
-/// What a buffer's limits count: bytes of new texts, or entries (1 for an operation, and 1 for each piece or count).
+/// What a buffer's limits count: bytes of new texts, or entries (one for an operation, and one for each piece or
+/// count).
 #[derive(Clone, Copy, Debug, PartialEq, Eq)]
 pub enum Unit {
-    /// The bytes of new texts, hidden ones too, and those of the base.
+    /// The bytes of new texts, including hidden ones, and those of the base.
     Bytes,
     /// One for each operation but the base, and one for each of its pieces or counts.
     Entries,
@@ -29,7 +30,7 @@ impl fmt::Display for Unit {
     }
 }
 
-/// Why a local edit is refused. A piece's index counts from 0.
+/// Why a local edit is refused. Pieces are counted from 0.
 #[derive(Clone, Copy, Debug, PartialEq, Eq, Error)]
 pub enum EditFault {
     #[error("piece {0} starts past its end")]
@@ -69,7 +70,7 @@ pub enum UndoFault {
     OutOfMemory,
 }
 
-/// Why a taken operation is refused. A piece's index counts from 0.
+/// Why a taken operation is refused. Pieces are counted from 0.
 #[derive(Clone, Copy, Debug, PartialEq, Eq, Error)]
 pub enum OpFault {
     #[error("the stamp, its author or its version is none that a replica makes")]
@@ -83,9 +84,12 @@ pub enum OpFault {
     Reversed(u64),
     #[error("piece {0} starts before the end of the one before it")]
     Overlap(u64),
+    /// The first piece whose text has a CR.
+    #[error("the text of piece {0} holds a carriage return")]
+    CarriageReturn(u64),
     #[error("another operation has the stamp {0}")]
     Conflict(Lamport),
-    /// The value that is kept for the author.
+    /// The greatest value that is applied of the author.
     #[error("the author's operation of value {0} is applied, and this one has not seen it")]
     Forked(u32),
     #[error("what the version has of replica {0} is no operation whose causes it has seen")]
@@ -103,7 +107,25 @@ pub enum OpFault {
     OutOfMemory,
 }
 
-/// Why no anchor is made at an offset.
+/// Why a list of operations does not open a buffer. Operations are counted from 0, the base.
+#[derive(Clone, Copy, Debug, PartialEq, Eq, Error)]
+pub enum OpenFault {
+    #[error("the first operation is no base")]
+    NotBase,
+    /// The operation, and the fault that it meets after those before it.
+    #[error("operation {0}: {1}")]
+    Op(u64, OpFault),
+    #[error("operation {0} stands in the list before")]
+    Repeat(u64),
+    /// The least replica of which the operation has seen more than the list has before it, and the value that it has
+    /// seen.
+    #[error("operation {i} has seen {value}.{replica}, which is not in the list before it")]
+    Early { i: u64, replica: u16, value: u32 },
+    #[error("out of memory")]
+    OutOfMemory,
+}
+
+/// Why no anchor can be made at an offset.
 #[derive(Clone, Copy, Debug, PartialEq, Eq, Error)]
 pub enum PlaceFault {
     /// The text's length in bytes.
@@ -113,10 +135,10 @@ pub enum PlaceFault {
     InsideChar,
 }
 
-/// Why a version has no text and no edits since it.
+/// Why there is no text at a version and there are no edits since it.
 #[derive(Clone, Copy, Debug, PartialEq, Eq, Error)]
 pub enum SinceFault {
-    /// The least replica of which the version has more than is applied.
+    /// The least replica of which the version has seen more than is applied.
     #[error("of replica {0} the version has more than is applied")]
     Unseen(u16),
     /// The least replica at which the version is not closed.

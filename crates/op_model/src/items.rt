@@ -1,4 +1,4 @@
-//! A list with one owner, or one that is shared.
+//! A list that has one owner or is shared.
 ghost use Rattle.std.specs.Prelude.{◌≡◌, IfOk};
 ghost use Rattle.op_model.specs.Items.{items_of};
 
@@ -6,7 +6,7 @@ use crate::OutOfMemory;
 use std::alloc::Global;
 use std::sync::Arc;
 
-// A list with one owner, or with as many as there are copies.
+// A list that has one owner, or one that its copies share.
 #[derive(Drop)]
 pub(crate) enum Items<T: Drop> {
     Own(Vec<T>),

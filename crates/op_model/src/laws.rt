@@ -1,5 +1,5 @@
 //! The laws of histories, shown by functions that do nothing.
-ghost use Rattle.op_model.specs.Laws.{SameSetsAgree, PartsAreFiltered, GoodIsLaidIn, ReplayedByStamps, LeftNeighbours, EachCellOnce, DeletersDelete, EditChanges, NewCellsShown, UndoChanges, OneWalk, TextsAreUtf8, BoundariesAreStd, EqualOperationsAreSame, EditsAreGood, UndosAreGood, SettlingEnds, SettlingKeepsLawful, RunsStayLawful, TextsAreShownCells, SameSetsAnswerAlike, AnchorsStandWhereMade, AnchorsStandInOrder, RightAnchorsAreKnown, TwoPassesAreEnough, SetIsNeverRefused, SetIsAppliedWhole, HonestSetsAreApplied, SettlingAppends, RunsAppend, FrontsAreLawful, FrontsAreSeen, ClosedParts, SameSetsRefuseAlike, AnchorsKeepTheirOrder, UndoIsTold, WalksLeaveCells, EditsSinceTellTheChange, HiddenTextsAreUtf8, FactsChangeAtBoundaries, WalksKeepRunsWhole, AnchorsResolve, HonestSetsAreAppliedWhole, EditsSinceAreAtBoundaries, LawfulIsHistory, TextsAtClosedVersions};
+ghost use Rattle.op_model.specs.Laws.{SameSetsAgree, PartsAreFiltered, GoodIsLaidIn, ReplayedByStamps, LeftNeighbours, EachCellOnce, DeletersDelete, EditChanges, NewCellsShown, UndoChanges, OneWalk, TextsAreUtf8, BoundariesAreStd, EqualOperationsAreSame, EditsAreGood, UndosAreGood, SettlingEnds, SettlingKeepsLawful, RunsStayLawful, TextsAreShownCells, SameSetsAnswerAlike, AnchorsStandWhereMade, AnchorsStandInOrder, RightAnchorsAreKnown, TwoPassesAreEnough, SetIsNeverRefused, SetIsAppliedWhole, HonestSetsAreApplied, SettlingAppends, RunsAppend, FrontsAreLawful, FrontsAreSeen, ClosedParts, SameSetsRefuseAlike, AnchorsKeepTheirOrder, UndoIsTold, WalksLeaveCells, EditsSinceTellTheChange, HiddenTextsAreUtf8, FactsChangeAtBoundaries, WalksKeepRunsWhole, AnchorsResolve, HonestSetsAreAppliedWhole, EditsSinceAreAtBoundaries, LawfulIsHistory, TextsAtClosedVersions, SettlingGoesOn, StopsLeaveFronts, GoodKeepsTheRule, EnteredTextsHaveNoReturn, TextsWithoutReturnStay, NoReturnIsHeld, OpensWhatIsApplied, RunsOpenAgain, OpenedSetsAreApplied, OpenedSetsAreAppliedWhole, LocalEditsReplaceCells, PlacesAreBoundaries, PlacesByFates, PartsBeginHistories, SameVersionsSameSets, MadeAnchorsStandInOrder, ShownAnchorsAreMadeAgain};
 
 /// Two lawful histories of the same operations show the same.
 pub fn same_sets_agree()
@@ -16,7 +16,7 @@ pub fn good_is_laid_in()
     ensures { GoodIsLaidIn }
 {}
 
-/// A sequence is its operations gone through by stamps.
+/// A sequence is its operations replayed by stamps.
 pub fn replayed_by_stamps()
     ensures { ReplayedByStamps }
 {}
@@ -176,7 +176,7 @@ pub fn anchors_keep_their_order()
     ensures { AnchorsKeepTheirOrder }
 {}
 
-/// An undo tells the same cells anew.
+/// After an undo the same cells stand in the same order, with the same deletions.
 pub fn undo_is_told()
     ensures { UndoIsTold }
 {}
@@ -211,7 +211,7 @@ pub fn anchors_resolve()
     ensures { AnchorsResolve }
 {}
 
-/// An honest set is applied whole where no Full came.
+/// An honest set is applied whole if no Full came.
 pub fn honest_sets_are_applied_whole()
     ensures { HonestSetsAreAppliedWhole }
 {}
@@ -229,4 +229,89 @@ pub fn lawful_is_history()
 /// What was shown at a closed version, read from the whole history.
 pub fn texts_at_closed_versions()
     ensures { TextsAtClosedVersions }
+{}
+
+/// Settling that was stopped and begun again ends as it would have ended without the stop.
+pub fn settling_goes_on()
+    ensures { SettlingGoesOn }
+{}
+
+/// What settling has applied when it is stopped is a front of what it would apply.
+pub fn stops_leave_fronts()
+    ensures { StopsLeaveFronts }
+{}
+
+/// A rule adds one fault to the plain answer and changes nothing else.
+pub fn good_keeps_the_rule()
+    ensures { GoodKeepsTheRule }
+{}
+
+/// A text that enters under Lf has no CR, and it stays UTF-8.
+pub fn entered_texts_have_no_return()
+    ensures { EnteredTextsHaveNoReturn }
+{}
+
+/// A text without CR enters as it is.
+pub fn texts_without_return_stay()
+    ensures { TextsWithoutReturnStay }
+{}
+
+/// If each operation keeps the rule Lf, no byte is a CR, shown or hidden.
+pub fn no_return_is_held()
+    ensures { NoReturnIsHeld }
+{}
+
+/// A list opens a buffer exactly if a buffer under the same rules may have applied it.
+pub fn opens_what_is_applied()
+    ensures { OpensWhatIsApplied }
+{}
+
+/// What a buffer has applied opens one again under the same rules.
+pub fn runs_open_again()
+    ensures { RunsOpenAgain }
+{}
+
+/// From an opened list on, an honest set is applied whole if no Full came.
+pub fn opened_sets_are_applied_whole()
+    ensures { OpenedSetsAreAppliedWhole }
+{}
+
+/// From an opened list on, an honest set that the limits hold is applied whole.
+pub fn opened_sets_are_applied()
+    ensures { OpenedSetsAreApplied }
+{}
+
+/// The place of a known anchor is a boundary of the text.
+pub fn places_are_boundaries()
+    ensures { PlacesAreBoundaries }
+{}
+
+/// The places of an anchor then and now are the numbers of cells shown before its gap.
+pub fn places_by_fates()
+    ensures { PlacesByFates }
+{}
+
+/// A part of a set begins a history of the whole set.
+pub fn parts_begin_histories()
+    ensures { PartsBeginHistories }
+{}
+
+/// A part of a set with the same version is the whole set.
+pub fn same_versions_same_sets()
+    ensures { SameVersionsSameSets }
+{}
+
+/// A local edit replaces the shown cells at its ranges by its own.
+pub fn local_edits_replace_cells()
+    ensures { LocalEditsReplaceCells }
+{}
+
+/// Of the two anchors that are made at the ends of a range, the first is less.
+pub fn made_anchors_stand_in_order()
+    ensures { MadeAnchorsStandInOrder }
+{}
+
+/// If an anchor's byte is shown, the anchor is made again at its place.
+pub fn shown_anchors_are_made_again()
+    ensures { ShownAnchorsAreMadeAgain }
 {}

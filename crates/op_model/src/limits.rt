@@ -3,14 +3,14 @@
 /// The most that a buffer holds: at most 2^40 bytes of new texts, and at most 2^40 - 1 entries.
 #[derive(Clone, Copy, Debug, PartialEq, Eq)]
 pub struct Limits {
-    /// Bytes of all new texts, the base's too.
+    /// The bytes of all new texts, including the base's.
     pub bytes: u64,
-    /// An operation counts 1, and 1 for each of its pieces or counts; the base counts nothing.
+    /// One for each operation but the base, and one for each of its pieces or counts.
     pub entries: u64,
 }
 
 impl Limits {
-    /// The greatest limits of a buffer.
+    /// The greatest limits that a buffer can have.
     pub const MOST: Limits = Limits {
         bytes: 1 << 40,
         entries: (1 << 40) - 1,

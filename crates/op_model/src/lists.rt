@@ -22,25 +22,25 @@ impl Model for Text {
 }
 
 impl Text {
-    /// Makes a text of a string, without memory.
+    /// Makes a text of a string. Does not allocate.
     pub fn new(inner: String) -> Text
         ensures { result ≡ string_bytes inner }
     {
         Text { inner }
     }
 
-    /// The text, lent. Constant time, without memory.
+    /// Borrows the text. O(1); does not allocate.
     pub fn as_str(&self) -> &str
         ensures { result.now ≡ self.now }
     {
         self.inner.as_str()
     }
 
-    /// An equal text. Linear in its bytes.
+    /// Returns an equal text. Linear in its bytes.
     ///
     /// # Errors
     ///
-    /// `OutOfMemory`.
+    /// `OutOfMemory` if an allocation fails.
     pub fn copy(&self, alloc: Global) -> Result<Text, OutOfMemory>
         ensures { IfOk result (λ text. text ≡ self.now) }
     {
@@ -48,7 +48,7 @@ impl Text {
     }
 }
 
-/// The pieces of an edit, seen as their list. They are owned alone, or shared with their copies (`into_shared`).
+/// The pieces of an edit, seen as their list. They have one owner, or their copies share them (`into_shared`).
 #[derive(Drop)]
 pub struct Pieces {
     items: Items<Piece>,
@@ -65,7 +65,7 @@ impl Model for Pieces {
 }
 
 impl Pieces {
-    /// Equal pieces. Linear in their number and their texts.
+    /// Returns equal pieces. Linear in their number and in the bytes of their texts.
     pub fn copy_of(alloc: Global, pieces: &[Piece]) -> Result<Pieces, OutOfMemory>
         ensures { IfOk result (λ ps. ps ≡ pieces.now) }
     {
@@ -80,11 +80,11 @@ impl Pieces {
         Ok(Pieces::new(copies))
     }
 
-    /// One piece. Constant time. On want of memory the piece is dropped.
+    /// A list of one piece. O(1).
     ///
     /// # Errors
     ///
-    /// `OutOfMemory`.
+    /// `OutOfMemory` if an allocation fails; the piece is then dropped.
     pub fn of(alloc: Global, piece: Piece) -> Result<Pieces, OutOfMemory>
         ensures { IfOk result (λ ps. ps ≡ piece ∷ []) }
     {
@@ -93,7 +93,7 @@ impl Pieces {
         Ok(Pieces::new(pieces))
     }
 
-    /// Makes a list of pieces of a vector, without memory.
+    /// Makes a list of pieces of a vector. Does not allocate.
     pub fn new(inner: Vec<Piece>) -> Pieces
         ensures { result ≡ inner.items }
     {
@@ -102,15 +102,14 @@ impl Pieces {
         }
     }
 
-    /// The pieces in their order, lent. Constant time, without memory.
+    /// Borrows the pieces, in their order. O(1); does not allocate.
     pub fn as_slice(&self) -> &[Piece]
         ensures { result.now ≡ self.now }
     {
         self.items.as_slice()
     }
 
-    /// Equal pieces, of which copies are further owners. Constant time; no text is copied. On want of memory they are
-    /// dropped.
+    /// Returns equal pieces that copies share. O(1); copies no text. If an allocation fails, the pieces are dropped.
     pub fn into_shared(self, alloc: Global) -> Result<Pieces, OutOfMemory>
         ensures { IfOk result (λ ps. ps ≡ self) }
     {
@@ -119,8 +118,8 @@ impl Pieces {
         })
     }
 
-    /// Equal pieces. Where they are shared a further owner, which takes no memory, in constant time; else linear in
-    /// their number and their texts.
+    /// Returns equal pieces. If they are shared, the copy shares them: O(1), without allocating. Otherwise linear in
+    /// their number and in the bytes of their texts.
     pub fn copy(&self, alloc: Global) -> Result<Pieces, OutOfMemory>
         ensures { IfOk result (λ ps. ps ≡ self.now) }
     {
@@ -133,7 +132,7 @@ impl Pieces {
     }
 }
 
-/// The counts of an undo, seen as their list. They are owned alone, or shared with their copies (`into_shared`).
+/// The counts of an undo, seen as their list. They have one owner, or their copies share them (`into_shared`).
 #[derive(Drop)]
 pub struct Counts {
     items: Items<UndoCount>,
@@ -150,14 +149,14 @@ impl Model for Counts {
 }
 
 impl Counts {
-    /// Equal counts. Linear in their number.
+    /// Returns equal counts. Linear in their number.
     pub fn copy_of(alloc: Global, counts: &[UndoCount]) -> Result<Counts, OutOfMemory>
         ensures { IfOk result (λ cs. cs ≡ counts.now) }
     {
         Ok(Counts::new(Vec::from_slice(alloc, counts)?))
     }
 
-    /// Makes a list of counts of a vector, without memory.
+    /// Makes a list of counts of a vector. Does not allocate.
     pub fn new(inner: Vec<UndoCount>) -> Counts
         ensures { result ≡ inner.items }
     {
@@ -166,14 +165,14 @@ impl Counts {
         }
     }
 
-    /// The counts in their order, lent. Constant time, without memory.
+    /// Borrows the counts, in their order. O(1); does not allocate.
     pub fn as_slice(&self) -> &[UndoCount]
         ensures { result.now ≡ self.now }
     {
         self.items.as_slice()
     }
 
-    /// Equal counts, of which copies are further owners. Constant time. On want of memory they are dropped.
+    /// Returns equal counts that copies share. O(1). If an allocation fails, the counts are dropped.
     pub fn into_shared(self, alloc: Global) -> Result<Counts, OutOfMemory>
         ensures { IfOk result (λ cs. cs ≡ self) }
     {
@@ -182,7 +181,7 @@ impl Counts {
         })
     }
 
-    /// Equal counts. Where they are shared a further owner, which takes no memory, in constant time; else linear in
+    /// Returns equal counts. If they are shared, the copy shares them: O(1), without allocating. Otherwise linear in
     /// their number.
     pub fn copy(&self, alloc: Global) -> Result<Counts, OutOfMemory>
         ensures { IfOk result (λ cs. cs ≡ self.now) }

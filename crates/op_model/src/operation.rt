@@ -8,11 +8,11 @@ use lamport_clock::{Lamport, Version};
 /// A text in place of a range of bytes.
 #[derive(Drop)]
 pub struct Piece {
-    /// Where the range begins, in bytes.
+    /// The start of the range, in bytes.
     pub start: u64,
-    /// Where the range ends, in bytes; the range is empty where this is its start.
+    /// The end of the range, in bytes. The range is empty if this equals its start.
     pub end: u64,
-    /// What stands there then; it is empty where the range is only deleted.
+    /// The new text. It is empty if the range is only deleted.
     pub text: Text,
 }
 
@@ -25,44 +25,44 @@ impl Piece {
     }
 }
 
-/// An edit: its stamp, its author's version before it, and its pieces, whose ranges are in full offsets: they count the
-/// bytes of all insertions that the version sees, hidden ones too.
+/// An edit: its stamp, its author's version before it, and its pieces. The ranges of the pieces are in full offsets,
+/// which count the bytes of all insertions that the version sees, including hidden ones.
 #[derive(Drop)]
 pub struct EditOp {
-    /// The name of the edit: the author, and the value of its clock.
+    /// The name of the edit: its author, and the value of the author's clock.
     pub stamp: Lamport,
-    /// What the author had applied before it: of each replica the greatest stamp value.
+    /// What the author had applied before it: the greatest stamp value of each replica.
     pub version: Version,
     /// The pieces, in the order of their ranges, in full offsets.
     pub pieces: Pieces,
 }
 
-/// The undo count that an undo operation gives an edit. An edit is undone where its greatest count is odd.
+/// The undo count that an undo operation gives an edit. An edit is undone if its greatest count is odd.
 #[derive(Clone, Copy, Debug, PartialEq, Eq)]
 pub struct UndoCount {
     /// The stamp of the edit.
     pub edit: Lamport,
-    /// The count that the edit is given; of all its counts the greatest holds.
+    /// The count that the edit is given. The greatest of all its counts decides.
     pub count: u32,
 }
 
 /// An undo or redo: its stamp, its author's version before it, and the counts that it gives.
 #[derive(Drop)]
 pub struct UndoOp {
-    /// The name of the undo: the author, and the value of its clock.
+    /// The name of the undo: its author, and the value of the author's clock.
     pub stamp: Lamport,
-    /// What the author had applied before it: of each replica the greatest stamp value.
+    /// What the author had applied before it: the greatest stamp value of each replica.
     pub version: Version,
-    /// One count for each edit that it concerns.
+    /// One count for each edit that it undoes or redoes.
     pub counts: Counts,
 }
 
-/// What one replica did and the others take.
+/// What one replica did and the others apply.
 #[derive(Drop)]
 pub enum Operation {
     /// New texts in place of ranges.
     Edit(EditOp),
-    /// Edits that are undone or redone.
+    /// Edits undone or redone.
     Undo(UndoOp),
 }
 
@@ -92,7 +92,7 @@ fn sends<T: Send>(_value: &T) {}
 
 fn shares<T: Sync>(_value: &T) {}
 
-/// Operations may be sent to threads and be shared by them.
+/// Operations can be sent to threads and shared by them.
 pub fn crosses_threads(operation: &Operation) {
     sends(operation);
     shares(operation);

@@ -8,8 +8,8 @@ use lamport_clock::{Version, is_same};
 use std::alloc::Global;
 
 impl Operation {
-    /// Whether the two are equal: of one kind, with the same stamp, equal versions, and the same pieces or counts in the
-    /// same order. Linear in the operation.
+    /// Whether the two are equal: of the same kind, with the same stamp, equal versions, and the same pieces or counts
+    /// in the same order. Linear in the operation; does not allocate.
     pub fn same(&self, other: &Operation) -> bool
         ensures { result ≡ same_op self.now other.now }
     {
@@ -25,8 +25,8 @@ impl Operation {
         }
     }
 
-    /// An equal operation. Pieces and counts that are shared (`into_shared`) are not copied: it is linear in the version
-    /// then, and else in the operation and its texts.
+    /// Returns an equal operation. Shared pieces and counts (`into_shared`) are not copied; then this is linear in the
+    /// version, otherwise in the operation and its texts.
     pub fn copy(&self, alloc: Global) -> Result<Operation, OutOfMemory>
         ensures { IfOk result (λ op. op ≡ self.now) }
     {
@@ -36,8 +36,8 @@ impl Operation {
         }
     }
 
-    /// An equal operation, whose copies share its pieces or counts. Constant time; no text is copied. On want of memory it
-    /// is dropped.
+    /// Returns an equal operation whose copies share its pieces or counts. O(1); copies no text. If an allocation
+    /// fails, the operation is dropped.
     pub fn into_shared(self, alloc: Global) -> Result<Operation, OutOfMemory>
         ensures { IfOk result (λ op. op ≡ self) }
     {
@@ -49,8 +49,8 @@ impl Operation {
 }
 
 impl EditOp {
-    /// An equal edit. Pieces that are shared (`into_shared`) are not copied: it is linear in the version then, and else in
-    /// the edit and its texts.
+    /// Returns an equal edit. Shared pieces (`into_shared`) are not copied; then this is linear in the version,
+    /// otherwise in the edit and its texts.
     pub fn copy(&self, alloc: Global) -> Result<EditOp, OutOfMemory>
         ensures { IfOk result (λ edit. edit ≡ self.now) }
     {
@@ -61,7 +61,8 @@ impl EditOp {
         })
     }
 
-    /// An equal edit, whose copies share its pieces. Constant time; no text is copied. On want of memory it is dropped.
+    /// Returns an equal edit whose copies share its pieces. O(1); copies no text. If an allocation fails, the edit is
+    /// dropped.
     pub fn into_shared(self, alloc: Global) -> Result<EditOp, OutOfMemory>
         ensures { IfOk result (λ edit. edit ≡ self) }
     {
@@ -74,8 +75,8 @@ impl EditOp {
 }
 
 impl UndoOp {
-    /// An equal undo. Counts that are shared (`into_shared`) are not copied: it is linear in the version then, and else in
-    /// the undo.
+    /// Returns an equal undo. Shared counts (`into_shared`) are not copied; then this is linear in the version,
+    /// otherwise in the undo.
     pub fn copy(&self, alloc: Global) -> Result<UndoOp, OutOfMemory>
         ensures { IfOk result (λ undo. undo ≡ self.now) }
     {
@@ -86,7 +87,7 @@ impl UndoOp {
         })
     }
 
-    /// An equal undo, whose copies share its counts. Constant time. On want of memory it is dropped.
+    /// Returns an equal undo whose copies share its counts. O(1). If an allocation fails, the undo is dropped.
     pub fn into_shared(self, alloc: Global) -> Result<UndoOp, OutOfMemory>
         ensures { IfOk result (λ undo. undo ≡ self) }
     {

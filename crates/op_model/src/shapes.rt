@@ -1,4 +1,4 @@
-//! Whether an operation alone is one that a replica makes.
+//! Whether an operation, taken by itself, is one that a replica can make.
 ghost use Rattle.std.specs.Prelude.{◌≡◌, nat_lt, nat_le, Some, None, IfErr, OnOk};
 ghost use Rattle.std.specs.List.{list_any};
 ghost use Rattle.op_model.specs.Operations.{version_of, pieces_of};
@@ -12,14 +12,14 @@ use thiserror::Error;
 /// The greatest id of an editor's replica. The least one is 1.
 pub const LAST_REPLICA: u16 = 1023;
 
-/// Why an operation alone is none that a replica makes. A piece's index counts from 0.
+/// Why no replica can have made an operation. Pieces are counted from 0.
 #[derive(Clone, Copy, Debug, PartialEq, Eq, Error)]
 pub enum ShapeFault {
     #[error("the stamp, its author or its version is none that a replica makes")]
     BadStamp,
     #[error("the version has not seen the base")]
     NoBase,
-    /// The bytes of all new texts together.
+    /// The number of bytes of all new texts.
     #[error("the new texts have {0} bytes, more than 65536")]
     TextLimit(u128),
     #[error("piece {0} starts past its end")]
@@ -54,7 +54,7 @@ fn has_value_from(version: &Version, value: u32) -> bool
     version.as_slice().iter().any(|e| value <= e.1)
 }
 
-// Whether its stamp, its author or its version is none that a replica makes.
+// Whether the stamp, its author or the version is one that no replica makes.
 fn is_stamped_badly(op: &Operation) -> bool
     ensures { result ≡ bad_stamp op.now }
 {
@@ -82,8 +82,8 @@ fn pieces_of(op: &Operation) -> &[Piece]
     }
 }
 
-/// Looks at an operation alone. Of an undo only the stamp and the version are looked at. Linear in the version and the
-/// pieces.
+/// Checks an operation by itself; of an undo only the stamp and the version. Linear in the version and the pieces; does
+/// not allocate.
 ///
 /// # Errors
 ///
@@ -91,7 +91,7 @@ fn pieces_of(op: &Operation) -> &[Piece]
 ///
 /// - `BadStamp`: the stamp's value is 0 or 4,294,967,295, or not above every entry of the version; its author's id is
 ///   not 1 to 1023; or the version has an id past 1023.
-/// - `NoBase`: the version has not exactly 1 for replica 0.
+/// - `NoBase`: the version's entry for replica 0 is not 1.
 /// - `TextLimit`: the new texts have more than 65,536 bytes.
 /// - `Reversed`, for the least piece that starts past its end.
 /// - `Overlap`, for the least piece that starts before the end of the one before it.

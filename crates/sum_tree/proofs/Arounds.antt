@@ -1,4 +1,4 @@
--- One node more on a path.
+-- One more node on a path.
 use Rattle.std.proofs.Common.{◌≡◌, List, [], ◌∷◌, ◌++◌, sym, ap, subst, refl}
 use Rattle.sum_tree.specs.declared.around.Around.{Around}
 use Rattle.sum_tree.specs.Around.{outer_sum, outer_sums, Fitting}

@@ -8,14 +8,14 @@ use Rattle.sum_tree.proofs.Children.{joined-append}
 use Rattle.sum_tree.proofs.Opened.{IsInner}
 use Rattle.sum_tree.proofs.Nodes.{IsLeaf}
 
--- xs are the entries of a leaf seen as s, and then those of one seen as t
+-- xs are the entries of a leaf seen as s, followed by those of one seen as t
 pub record JoinsLeaves {T : Type 0} (s t : Seen T) (xs : List T) : Type 0 where
   pub items : xs ≡ s.items ++ t.items
   pub low : s.height ≡ 0
   pub wide : s.width + t.width ≤ length xs
   pub few : length xs ≤ 24
 
--- us are the children of an inner node seen as s, and then those of one seen as t
+-- us are the children of an inner node seen as s, followed by those of one seen as t
 pub record JoinsInners {T : Type 0} (s t : Seen T) (us : List (Seen T)) : Type 0 where
   pub items : join_items us ≡ s.items ++ t.items
   pub children : All (IsChild s.height) us

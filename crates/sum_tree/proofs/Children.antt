@@ -1,4 +1,4 @@
--- What children have together.
+-- What holds of the children of a node together.
 use Rattle.std.proofs.Common.{◌≡◌, ℕ, suc, ◌+◌, ◌*◌, ◌^◌, ◌<◌, ◌≤◌, List, [], ◌∷◌, ◌++◌, length, get_or, take, drop, sym, ap, subst, refl, ◌∙◌, take-append-drop, arith, length-append, add-one, append_assoc}
 use Rattle.std.proofs.Math.Nat.{pow-succ', pow-le-pow_right, mul-le-mul_right, suc-mul, one-le-pow}
 use Rattle.std.proofs.lemmas.List.{take_more, append-nil}
@@ -33,7 +33,7 @@ module _ {T : Type 0} where
   pub joined-split : (ts : List (Seen T)) (i : ℕ) → join_items (take i ts) ++ join_items (drop i ts) ≡ join_items ts
   joined-split ts i = sym (joined-append (take i ts) (drop i ts)) ∙ ap join_items (take-append-drop i ts)
 
-  -- the items of one child stand behind those of the children before it
+  -- the items of one child come after those of the children before it
   pub joined_around : (ts : List (Seen T)) (k : ℕ) (t : Seen T) → k < length ts → t ≡ get_or ts k t → join_items ts ≡ join_items (take k ts) ++ (t.items ++ join_items (drop (k + 1) ts))
   joined_around ts k t within read =
       sym (joined-split ts (k + 1))

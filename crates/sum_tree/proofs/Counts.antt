@@ -4,7 +4,7 @@ use Rattle.sum_tree.specs.Laws.{fold}
 use Rattle.sum_tree.specs.Count.{count_sum}
 use Rattle.sum_tree.specs.declared.count.Count.{Count}
 
--- the sum with one item more
+-- the sum with one more item
 pub fold_more : {S X : Type 0} (start : S) (op : S → S → S) (sum_of : X → S) (xs : List X) (x : X) → fold start op sum_of (xs ++ (x ∷ [])) ≡ op (fold start op sum_of xs) (sum_of x)
 fold_more start op sum_of [] x = refl
 fold_more start op sum_of (y ∷ ys) x = fold_more (op start (sum_of y)) op sum_of ys x

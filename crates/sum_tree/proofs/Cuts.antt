@@ -44,7 +44,7 @@ module _ {T : Type 0} where
   cut_before {s} {ts} {us} {k} {j} {i} {t} {front} {last} cut same f l =
       ap (λ (xs : List T). xs ++ last) (f ∙ ap (λ (vs : List (Seen T)). join_items (take k vs)) same) ∙ ap (λ (xs : List T). join_items (take k ts) ++ xs) l ∙ sym (cut_front cut)
 
-  -- that child's items from the cut on, and the children behind it
+  -- that child's items from the cut on, and the children after it
   pub cut_behind : {s : Seen T} {ts us : List (Seen T)} {k j i : ℕ} {t : Seen T} {rest back : List T} → IsCut s ts k j i t → us ≡ ts → rest ≡ drop j t.items → back ≡ join_items (take (length us - (k + 1)) (drop (k + 1) us)) → rest ++ back ≡ drop i s.items
   cut_behind {s} {ts} {us} {k} {j} {i} {t} {rest} {back} cut same r b =
       rest_of_node s ts ts us k j i t rest back cut.inner refl same cut.lt (subst (λ (u : Seen T). j < length u.items) cut.read cut.within) cut.before cut.read r b

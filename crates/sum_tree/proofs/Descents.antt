@@ -31,7 +31,7 @@ pub record IsStep {T : Type 0} (s : Seen T) (ts : List (Seen T)) (k r n i : ℕ)
   pub child : IsChild s.height t
   pub whole : join_items (take k ts) ++ (splice_list r (r + n) ys t.items ++ join_items (drop (k + 1) ts)) ≡ splice_list i (i + n) ys s.items
 
--- a and b are to stand in the place of child k, which is as it was, and then these are the items
+-- a and b are to replace child k, which is as it was; the items are then these
 pub record IsPairStep {T : Type 0} (h : ℕ) (ts : List (Seen T)) (k : ℕ) (u a b : Seen T) (xs : List T) : Type 0 where
   pub same : set ts k u ≡ ts
   pub front : IsChild h a
@@ -58,7 +58,7 @@ module _ {T : Type 0} where
   pub step : (h k r n i : ℕ) {ts us : List (Seen T)} {t : Seen T} (ys : List T) → AreChildren h ts → us ≡ ts → IsWithin us i n k r → t ≡ get_or ts k t → IsStep (inner_seen h ts) ts k r n i t ys
   step h k r n i {ts} ys all same w read = step_of k r n i ys (inner_of h ts all) same w read
 
-  -- what the child becomes stands in its place
+  -- what the child becomes replaces it
   pub step_items : {s : Seen T} {ts : List (Seen T)} {k r n i : ℕ} {t : Seen T} {ys : List T} (a : Seen T) (b : Option (Seen T)) → IsStep s ts k r n i t ys → IsSpliced t.height t.width (splice_list r (r + n) ys t.items) a b → join_items (with_pair ts k a b) ≡ splice_list i (i + n) ys s.items
   step_items {s} {ts} {k} {r} {n} {i} {t} {ys} a b st done =
       spliced_child s ts k r n i t ys a b st.inner st.lt st.within st.before st.read (spliced-joined t.height t.width (splice_list r (r + n) ys t.items) a b done)
@@ -90,7 +90,7 @@ module _ {T : Type 0} where
       let count : length (set ts k u) ≡ length ts = length-set ts k u in
       ((All-set (IsChild h) ts k u (placed_child h t u m st.child p) st.inner.children, omega (arith, count, st.inner.least), omega (arith, count, st.inner.most)), placed_node h (length ts) (inner_seen h ts) (inner_seen h (set ts k u)) ts k t u m (splice_list i (i + n) ys (join_items ts)) st.lt st.inner.children st.child st.inner.most (omega arith) p st.whole refl refl)
 
-  -- what is to stand in the child's place stands in that of the children
+  -- what is to replace the child is among the new children
   pub step_pair : {s : Seen T} {ts : List (Seen T)} {k r n i : ℕ} {t : Seen T} {ys : List T} {u : Seen T} (a b : Seen T) → IsStep s ts k r n i t ys → u ≡ t → IsSplit t.height 0 (splice_list r (r + n) ys t.items) a (Some b) → IsPairStep s.height ts k u a b (splice_list i (i + n) ys s.items)
   step_pair {s} {ts} {k} {r} {n} {i} {t} {ys} {u} a b st same split =
       let kept : set ts k u ≡ ts = step_same st same in

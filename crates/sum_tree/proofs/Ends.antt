@@ -45,7 +45,7 @@ module _ {T : Type 0} where
   pub last_children : {s : Seen T} {ts : List (Seen T)} {n : ℕ} {t u : Seen T} → IsLast s ts n t → u ≡ t → AreChildren s.height (set ts (n - 1) u)
   last_children {s} last same = subst (λ (vs : List (Seen T)). AreChildren s.height vs) (sym (last_same last same)) (last.inner.children, last.inner.least, last.inner.most)
 
-  -- and with an item behind have the same items as before with it
+  -- and followed by an item have the same items as before with it
   pub last_behind : {s : Seen T} {ts : List (Seen T)} {n : ℕ} {t u : Seen T} {x y : T} → IsLast s ts n t → u ≡ t → y ≡ x → join_items (set ts (n - 1) u) ++ y ∷ [] ≡ join_items ts ++ x ∷ []
   last_behind {s} {ts} {n} {t} {u} {x} {y} last same one = ap (λ (vs : List (Seen T)). join_items vs ++ y ∷ []) (last_same last same) ∙ ap (λ (z : T). join_items ts ++ z ∷ []) one
 
@@ -58,7 +58,7 @@ module _ {T : Type 0} where
       )
 
 module _ {S T : Type 0} {empty : S} {op : S → S → S} {admits fits : S → Type 0} (laws : SummaryLaws empty op admits fits) (sum_of : T → S) (admitted : (x : T) → admits (sum_of x)) where
-  -- where all fits with more behind, so does the last child
+  -- if everything followed by more fits, so does the last child
   pub last_fits : {s : Seen T} {ts : List (Seen T)} {n : ℕ} {t : Seen T} (ys : List T) → IsLast s ts n t → fits (fold empty op sum_of (s.items ++ ys)) → fits (fold empty op sum_of (t.items ++ ys))
   last_fits {s} {ts} {n} {t} ys last ok =
       fits_right laws sum_of admitted (join_items (take (n - 1) ts)) (t.items ++ ys) (subst (λ (zs : List T). fits (fold empty op sum_of zs)) (ends_with_last s ts ys n t last.inner last.len last.read) ok)

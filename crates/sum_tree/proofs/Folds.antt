@@ -1,4 +1,4 @@
--- What the laws give of a fold.
+-- What follows from the laws for a fold.
 use Rattle.std.proofs.Common.{◌≡◌, ℕ, ◌+◌, ◌<◌, List, [], ◌∷◌, ◌++◌, length, get_or, take, drop, sym, ap, subst, refl, ◌∙◌, take-append-drop}
 use Rattle.std.proofs.lemmas.List.{take_more, append-nil}
 use Rattle.sum_tree.specs.Laws.{SummaryLaws, fold}
@@ -14,7 +14,7 @@ module _ {S T : Type 0} {empty : S} {op : S → S → S} {admits fits : S → Ty
   pub fold_admitted : (xs : List T) → admits (fold empty op sum_of xs)
   fold_admitted xs = start_admitted empty xs laws.empty_admitted
 
-  -- to start from a is to add the sum behind a
+  -- to start from a is to add the sum to a
   pub fold-start : (a : S) (xs : List T) → admits a → fold a op sum_of xs ≡ op a (fold empty op sum_of xs)
   fold-start a [] p = sym (laws.right_identity a p)
   fold-start a (x ∷ xs) p =

@@ -1,4 +1,4 @@
--- The front and the rest of an inner node's items.
+-- The first of an inner node's items, and the rest.
 use Rattle.std.proofs.Common.{◌≡◌, ℕ, ◌+◌, ◌-◌, ◌<◌, ◌≤◌, List, ◌++◌, length, get_or, take, drop, sym, ap, subst, ◌∙◌, arith, length-append}
 use Rattle.std.proofs.lemmas.List.{take-append-le, drop-append-le, take_rest}
 use Rattle.std.proofs.Math.Seq.{take-append-add, drop-append-add}
@@ -23,7 +23,7 @@ drop_of_child {T} s ts k j i t o lt ltj before read =
     let fits : i ≤ length (a ++ t.items) = omega (arith, before, ltj, length-append a t.items) in
     ap (drop i) whole ∙ drop-append-le i (a ++ t.items) r fits ∙ ap (λ (n : ℕ). drop n (a ++ t.items) ++ r) (sym before) ∙ ap (λ (xs : List T). xs ++ r) (drop-append-add a t.items j)
 
--- the rest of a node, from within its child k, is the rest of that child and what lies behind it
+-- the rest of a node, from within its child k, is the rest of that child followed by the later children
 pub rest_of_node : {T : Type 0} (s : Seen T) (ts us vs : List (Seen T)) (k j i : ℕ) (t : Seen T) (rest back : List T) → IsInner s ts → us ≡ ts → vs ≡ ts → k < length us → j < length (get_or us k t).items → length (join_items (take k us)) + j ≡ i → t ≡ get_or ts k t → rest ≡ drop j t.items → back ≡ join_items (take (length vs - (k + 1)) (drop (k + 1) vs)) → rest ++ back ≡ drop i s.items
 rest_of_node {T} s ts us vs k j i t rest back o same again lt ltj before read r b =
     let lt' : k < length ts = omega (arith, lt, ap length same) in

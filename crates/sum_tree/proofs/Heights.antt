@@ -1,4 +1,4 @@
--- How high trees are, and what a result says of that.
+-- Heights of trees, and what a result says of them.
 use Rattle.std.proofs.Common.{◌≡◌, ℕ, ◌≤◌, List, [], ◌∷◌, length, IfOk, ap, arith, length-append}
 use Rattle.std.specs.Prelude.{Result, Ok, Err}
 use Rattle.std.specs.List.{All}

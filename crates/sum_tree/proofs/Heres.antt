@@ -1,4 +1,4 @@
--- What a push in place keeps of a node.
+-- What a push in place preserves of a node.
 use Rattle.std.proofs.Common.{◌≡◌, ℕ, ◌+◌, ◌-◌, ◌^◌, ◌≤◌, List, [], ◌∷◌, ◌++◌, length, get_or, set, take, Vec, Global, Option, Some, None, sym, ap, subst, ◌∙◌, append_assoc, arith, length-append}
 use Rattle.std.proofs.lemmas.List.{take_all, take_more_set, length-set, set-get_or}
 use Rattle.std.specs.List.{All}

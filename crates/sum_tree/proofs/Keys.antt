@@ -1,4 +1,4 @@
--- Places in lists whose keys ascend.
+-- Places in lists in ascending order of keys.
 use Rattle.std.proofs.Common.{◌≡◌, ℕ, ◌+◌, ◌-◌, ◌<◌, ◌≤◌, List, [], ◌∷◌, ◌++◌, length, get_or, take, drop, Option, Some, None, Ok, Err, Bool, true, false, true≢false, sym, ap, subst, refl, ◌∙◌, append_assoc, arith, length-append, take-append-drop}
 use Rattle.std.specs.List.{All, AllPairs, filter, find}
 use Rattle.std.specs.Cmp.{IsTotalOrder}
@@ -17,7 +17,7 @@ use Rattle.sum_tree.proofs.Children.{joined-split, joined-take_more}
 use Rattle.sum_tree.specs.Keyed.{Ascending, below, above, item_of_key, insert_item, remove_key, IsPlace}
 
 module _ {X : Type 0} where
-  -- what is put behind the last element follows the whole list
+  -- what is put after the last element follows the whole list
   pub put_behind : (i : ℕ) (xs ys : List X) → length xs ≤ i → (take i xs ++ ys) ++ drop i xs ≡ xs ++ ys
   put_behind i xs ys l =
       ap (λ (us : List X). (us ++ ys) ++ drop i xs) (take_all i xs l) ∙ ap (λ (us : List X). (xs ++ ys) ++ us) (drop_all i xs l) ∙ append-nil (xs ++ ys)
@@ -57,12 +57,12 @@ module _ {X : Type 0} where
       let first : All (R x) xs = AllPairs-cross R (x ∷ []) xs 0 x a (omega arith) in
       AllPairs-cons R x (xs ++ ys) (All-append (R x) xs ys first (All-head (λ y. All (R y) ys) x xs c)) (AllPairs-append R xs ys (AllPairs-right R (x ∷ []) xs a) b (All-tail (λ y. All (R y) ys) x xs c))
 
--- the answer of the first of two where the second has none
+-- the result of the first of two if the second has none
 pub option_or_none : {X : Type 0} (q : Option X) → option_or q None ≡ q
 option_or_none None = refl
 option_or_none (Some x) = refl
 
--- what the tests of an order tell
+-- what the tests of an order say
 pub less_of : (r : Ordering) → is_lt r ≡ true → r ≡ Less
 less_of Less e = refl
 less_of Equal e = absurd (true≢false (sym e))
@@ -73,7 +73,7 @@ greater_of Less e = absurd (true≢false (sym e))
 greater_of Equal e = absurd (true≢false (sym e))
 greater_of Greater e = refl
 
--- around the items ys of xs stand n items of lesser keys than k, and items of greater keys
+-- the items ys of xs come after n items of lesser keys than k, and before items of greater keys
 pub record IsAround {T K : Type 0} (cmp : K → K → Ordering) (key : T → K) (k : K) (xs : List T) (n : ℕ) (ys : List T) : Type 0 where
   pub front : List T
   pub back : List T
@@ -82,12 +82,12 @@ pub record IsAround {T K : Type 0} (cmp : K → K → Ordering) (key : T → K) 
   pub before : All (λ x. cmp (key x) k ≡ Less) front
   pub behind : All (λ x. cmp (key x) k ≡ Greater) back
 
--- behind the first of items whose keys ascend they ascend too
+-- if the keys of items ascend, so do those after the first
 pub ascending_rest : {T K : Type 0} (cmp : K → K → Ordering) (key : T → K) (x : T) (xs : List T) → Ascending cmp key (x ∷ xs) → Ascending cmp key xs
 ascending_rest cmp key x xs a = AllPairs-right (λ y z. cmp (key y) (key z) ≡ Less) (x ∷ []) xs a
 
 module _ {T K : Type 0} (cmp : K → K → Ordering) (key : T → K) (o : IsTotalOrder cmp) where
-  -- what is not less than k stands before greater ones alone
+  -- what is not less than k comes only before greater ones
   pub passed : (k : K) (x y : T) (r : Ordering) → cmp (key x) k ≡ r → is_lt r ≡ false → cmp (key x) (key y) ≡ Less → cmp (key y) k ≡ Greater
   passed k x y Less e n l = absurd (true≢false n)
   passed k x y Equal e n l = o.antisymm (key y) k ∙ ap ordering_reverse (sym (o.congr (key x) k (key y) e) ∙ l)
@@ -95,7 +95,7 @@ module _ {T K : Type 0} (cmp : K → K → Ordering) (key : T → K) (o : IsTota
       let back : cmp k (key x) ≡ Less = o.antisymm k (key x) ∙ ap ordering_reverse e in
       o.antisymm (key y) k ∙ ap ordering_reverse (o.trans k (key x) (key y) back l)
 
-  -- what stands behind an item whose key is not less than k
+  -- what comes after an item whose key is not less than k
   pub greater_behind : (k : K) (front back : List T) (i : ℕ) (x : T) → Ascending cmp key (front ++ back) → i < length front → x ≡ get_or front i x → is_lt (cmp (key x) k) ≡ false → All (λ y. cmp (key y) k ≡ Greater) back
   greater_behind k front back i x a lt read n j d within =
       let after : cmp (key (get_or front i x)) (key (get_or back j d)) ≡ Less = AllPairs-cross (λ y z. cmp (key y) (key z) ≡ Less) front back i x a lt j d within in
@@ -213,7 +213,7 @@ module _ {T K : Type 0} (cmp : K → K → Ordering) (key : T → K) (o : IsTota
       let zero : i + 0 ≡ i = omega arith in
       subst (λ (m : ℕ). IsPlace cmp key k xs (Err m)) zero (place_err k xs i 0 [] w none)
 
-  -- no item has key k, whose place is behind the last
+  -- no item has key k, whose place is after the last
   pub place_end : (k : K) (xs : List T) → All (λ y. cmp (key y) k ≡ Less) xs → IsPlace cmp key k xs (Err (length xs))
   place_end k xs less =
       place_gap k xs (length xs) (omega arith) (subst (λ (ys : List T). All (λ y. cmp (key y) k ≡ Less) ys) (sym (take_all (length xs) xs (omega arith))) less) (subst (λ (ys : List T). All (λ y. cmp (key y) k ≡ Greater) ys) (sym (drop_all (length xs) xs (omega arith))) (All-nil (λ y. cmp (key y) k ≡ Greater)))

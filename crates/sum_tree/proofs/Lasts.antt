@@ -1,4 +1,4 @@
--- Sums that tell the last key of a list whose keys ascend.
+-- Sums that give the last key of a list in ascending order of keys.
 use Rattle.std.proofs.Common.{◌≡◌, ℕ, suc, ◌-◌, List, [], ◌∷◌, length, get_or, Option, Some, None, sym, ap, subst, ◌∙◌, arith}
 use Rattle.std.proofs.lemmas.Option.{same_Some}
 use Rattle.std.specs.declared.cmp.Ordering.{Ordering}
@@ -17,8 +17,8 @@ is_last : {T K : Type 0} (key : T → K) (xs : List T) (o : Option K) → ((d : 
 is_last key xs None e = tt
 is_last key xs (Some k) e = λ d. same_Some k (key (get_or xs (length xs - 1) d)) (e d)
 
--- Where the sum of no items tells no key, that of one its key, and each further item, whose key is greater, puts its own key in
--- the place of the one before.
+-- for sums that give no key for no items and the key of a single item, where each later item, whose key is greater,
+-- replaces that key with its own
 module _ {S T K : Type 0} (empty : S) (op : S → S → S) (sum_of : T → S) (cmp : K → K → Ordering) (key : T → K) (last : S → Option K) (none : last empty ≡ None) (first : (x : T) → last (op empty (sum_of x)) ≡ Some (key x)) (next : (s : S) (w x : T) → last s ≡ Some (key w) → cmp (key w) (key x) ≡ Less → last (op s (sum_of x)) ≡ Some (key x)) where
   fold_last : (s : S) (w : T) (xs : List T) (d : T) → last s ≡ Some (key w) → Ascending cmp key (w ∷ xs) → last (fold s op sum_of xs) ≡ Some (key (get_or (w ∷ xs) (length (w ∷ xs) - 1) d))
   fold_last s w [] d e a =
@@ -29,7 +29,7 @@ module _ {S T K : Type 0} (empty : S) (op : S → S → S) (sum_of : T → S) (c
       let rest : Ascending cmp key (x ∷ xs) = ascending_rest cmp key w (x ∷ xs) a in
       fold_last (op s (sum_of x)) x xs d (next s w x e up) rest ∙ ap (λ (y : T). Some (key y)) (sym (get_or-last w x xs d))
 
-  -- the sum of a list tells its last key
+  -- the sum of a list gives its last key
   pub last_of_sum : (xs : List T) (s : S) → Ascending cmp key xs → s ≡ fold empty op sum_of xs → IsLastKey key xs (last s)
   last_of_sum [] s a e = subst (λ (o : Option K). IsLastKey key [] o) (sym (ap last e ∙ none)) tt
   last_of_sum (w ∷ xs) s a e = is_last key (w ∷ xs) (last s) (λ d. ap last e ∙ fold_last (op empty (sum_of w)) w xs d (first w) a)

@@ -1,4 +1,4 @@
--- A run of a list in the place of another.
+-- A run of a list replaced by another.
 use Rattle.std.proofs.Common.{◌≡◌, ℕ, suc, ◌+◌, ◌-◌, ◌≤◌, List, [], ◌∷◌, ◌++◌, length, take, drop, refl, sym, ap, ◌∙◌, append_assoc, arith, length-append, zero, subst, Some}
 use Rattle.std.specs.List.{remove, slice_get}
 use Rattle.std.proofs.lemmas.List.{append-nil, length-take-le, length-drop, take-take}

@@ -1,4 +1,4 @@
--- What is made of children.
+-- Nodes made from children.
 use Rattle.std.proofs.Common.{◌≡◌, ℕ, ◌+◌, ◌^◌, ◌≤◌, List, length, None, arith}
 use Rattle.sum_tree.specs.Seen.{Seen}
 use Rattle.sum_tree.specs.Shape.{join_items, IsChild}

@@ -1,4 +1,4 @@
--- What a node that is lent, and what holds of it, say of the tree that it is seen as.
+-- What a borrowed node, and what holds of it, say about the tree that it is seen as.
 use Rattle.std.proofs.Common.{◌≡◌, ℕ, ◌^◌, ◌≤◌, List, length, Vec, Global, refl, sym, ap, subst, ◌∙◌}
 use Rattle.sum_tree.specs.Laws.{SummaryLaws, fold}
 use Rattle.sum_tree.specs.Seen.{Seen}

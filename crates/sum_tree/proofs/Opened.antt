@@ -1,4 +1,4 @@
--- What is known where an inner node is opened, and of its last child.
+-- What is known when an inner node is opened, and of its last child.
 use Rattle.std.proofs.Common.{◌≡◌, ℕ, ◌+◌, ◌-◌, ◌*◌, ◌^◌, ◌<◌, ◌≤◌, List, [], ◌++◌, length, get_or, take, drop, Option, Some, None, Vec, Global, sym, ap, subst, ◌∙◌, append_assoc, arith, length-append}
 use Rattle.std.proofs.lemmas.List.{append-nil, take_all, drop_all, get_or-append-add}
 use Rattle.std.proofs.lemmas.List.Concat.{get_or-flat_map}
@@ -51,7 +51,7 @@ module _ {T : Type 0} where
       let none : drop (n - 1 + 1) ts ≡ [] = drop_all (n - 1 + 1) ts (omega arith) in
       ap (λ (us : List (Seen T)). join_items ((take (n - 1) ts ++ pair_list a b) ++ us)) none ∙ ap join_items (append-nil (take (n - 1) ts ++ pair_list a b)) ∙ joined-append (take (n - 1) ts) (pair_list a b)
 
-  -- the items of the whole, with ys behind, end with those of the last child and ys
+  -- the items of the whole followed by ys end with those of the last child and ys
   pub ends_with_last : (s : Seen T) (ts : List (Seen T)) (ys : List T) (n : ℕ) (t : Seen T) → IsInner s ts → n ≡ length ts → t ≡ get_or ts (n - 1) t → s.items ++ ys ≡ join_items (take (n - 1) ts) ++ (t.items ++ ys)
   ends_with_last s ts ys n t o e read =
       let l : 1 ≤ n = omega (arith, o.least) in
@@ -111,7 +111,7 @@ pub node_is_low : {S T : Type 0} (h : ℕ) (c : Content T S) → IsContent h c �
 node_is_low h (Leaf v) k short = omega (arith, k.0)
 node_is_low h (Inner v) k short = inner_is_low h v.items k.0 k.1 short
 
--- an inner node has items for its height
+-- an inner node has at least as many items as its height requires
 pub node_is_tall : {S T : Type 0} (h : ℕ) (c : Content T S) → IsContent h c → 0 < h → 2 * 6 ^ h ≤ length (content_items c)
 node_is_tall h (Leaf v) k l = absurd (omega (arith, k.0, l))
 node_is_tall h (Inner v) k l = inner_is_tall h v.items k.0 k.1

@@ -1,4 +1,4 @@
--- What stands in the place of one child, or of two, where a node is changed in place.
+-- What replaces one child, or two, when a node is changed in place.
 use Rattle.std.proofs.Common.{refl, ◌≡◌, ℕ, ◌+◌, ◌-◌, ◌<◌, ◌≤◌, List, [], ◌∷◌, ◌++◌, length, get_or, set, take, drop, Option, Some, None, sym, ap, subst, ◌∙◌, append_assoc, take-append-drop, arith, length-append}
 use Rattle.std.proofs.lemmas.List.{drop-set, drop_all, drop-append-le, take-set-le, take-take, take-append-le, length-take-le, length-drop}
 use Rattle.std.proofs.lemmas.List.Elements.{All-append, All-cons, All-nil, All-take, All-drop}
@@ -59,7 +59,7 @@ module _ {T : Type 0} where
   last_whole ts n t x ys e least read one =
       ap (λ (zs : List T). zs ++ x ∷ []) (joined-last ts n t e (omega (arith, e, least)) read) ∙ append_assoc (join_items (take (n - 1) ts)) t.items (x ∷ []) ∙ ap (λ (zs : List T). join_items (take (n - 1) ts) ++ (t.items ++ zs)) (sym one)
 
-  -- one item more behind those of the last child, which was copied
+  -- one more item after those of the last child, which was copied
   pub pushed_beside : (h : ℕ) (ts us : List (Seen T)) (n : ℕ) (t a : Seen T) (b : Option (Seen T)) (x : T) (ys : List T) → All (IsChild h) ts → n ≡ length ts → 2 ≤ length ts → length ts < 12 → t ≡ get_or ts (n - 1) t → ys ≡ x ∷ [] → IsSplit t.height t.width (t.items ++ ys) a b → us ≡ with_pair ts (n - 1) a b → IsPushedBesideOr h ts us x None
   pushed_beside h ts us n t a b x ys all e least few read one split made =
       let l : 1 ≤ n = omega (arith, e, least) in

@@ -1,4 +1,4 @@
--- What a change of one child in place leaves of a node.
+-- A node after a change of one child in place.
 use Rattle.std.proofs.Common.{refl, ◌≡◌, ℕ, ◌+◌, ◌-◌, ◌<◌, ◌≤◌, List, [], ◌∷◌, ◌++◌, length, set, take, drop, Vec, Global, sym, ap, subst, ◌∙◌, append_assoc, arith}
 use Rattle.std.proofs.lemmas.List.{length-set, drop-set, take-set-le, same_from_push}
 use Rattle.std.proofs.lemmas.List.Elements.{All-set}
@@ -66,7 +66,7 @@ module _ {S T : Type 0} where
       subst (λ (q : List S). IsPlacingOr q (length ts) xs ys (inner_seen h ts) new r) e (subst (λ (q : List (Seen T)). IsPlacingOr ss (length q) xs ys (inner_seen h q) new r) f (subst (λ (q : List T). IsPlacingOr ss (length us) q ys (inner_seen h us) new r) g p))
 
 module _ {S T : Type 0} {empty : S} {op : S → S → S} {admits fits : S → Type 0} (laws : SummaryLaws empty op admits fits) (sum_of : T → S) (admitted : (x : T) → admits (sum_of x)) where
-  -- the sum of all is that of the child with what stands around it
+  -- the sum of all is that of the child and of what lies around it
   pub around_sum : (f m z all : List T) (a : Around S) → a.before ≡ fold empty op sum_of f → a.behind ≡ fold empty op sum_of z → f ++ (m ++ z) ≡ all → fold empty op sum_of all ≡ op (op a.before (fold empty op sum_of m)) a.behind
   around_sum f m z all a b c e =
       rw (b, c) (ap (fold empty op sum_of) (sym e ∙ sym (append_assoc f m z)) ∙ fold-append laws sum_of admitted (f ++ m) z ∙ ap (λ (s : S). op s (fold empty op sum_of z)) (fold-append laws sum_of admitted f m))

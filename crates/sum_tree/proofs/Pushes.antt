@@ -1,4 +1,4 @@
--- What a push in place leaves of a node.
+-- A node after a push in place.
 use Rattle.std.proofs.Common.{refl, ◌≡◌, ℕ, ◌+◌, ◌^◌, ◌<◌, List, [], ◌∷◌, ◌++◌, length, Option, None, Some, ap, sym, subst, ◌∙◌, arith, length-append}
 use Rattle.std.specs.Prelude.{Result, Ok, Err}
 use Rattle.sum_tree.specs.Laws.{SummaryLaws, fold}
@@ -10,7 +10,7 @@ use Rattle.sum_tree.specs.declared.tree.Content.{Content}
 use Rattle.sum_tree.proofs.Folds.{fold_admitted}
 use Rattle.sum_tree.proofs.Heres.{next_sum}
 
--- what a push beside the children leaves
+-- the children after a push beside them
 pub beside_children : {T E : Type 0} (h : ℕ) (old new : List (Seen T)) (x : T) (r : Result (Option T) E) → IsPushedBeside h old new x r → AreChildren h old → AreChildren h new
 beside_children h old new x (Ok None) p a = (p.1, omega (arith, p.2, a.1), p.3)
 beside_children {T} h old new x (Ok (Some y)) p a = subst (λ (ts : List (Seen T)). AreChildren h ts) (sym p.0) a

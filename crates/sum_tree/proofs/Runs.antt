@@ -1,4 +1,4 @@
--- Lists cut into runs, and the nodes made of the runs.
+-- Lists cut into runs, and the nodes made from the runs.
 use Rattle.std.proofs.Common.{◌≡◌, ℕ, ◌+◌, ◌*◌, ◌^◌, ◌≤◌, List, [], ◌∷◌, ◌++◌, length, take, drop, reverse, Vec, sym, ap, subst, ◌∙◌, take-append-drop, append_assoc, arith, length-append}
 use Rattle.std.specs.Global.{Global}
 use Rattle.std.specs.List.{All}

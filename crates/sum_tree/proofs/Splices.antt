@@ -1,4 +1,4 @@
--- What a change within one child leaves of a node.
+-- A node after a change within one child.
 use Rattle.std.proofs.Common.{◌≡◌, ℕ, ◌+◌, ◌-◌, ◌<◌, ◌≤◌, List, [], ◌∷◌, ◌++◌, length, get_or, take, drop, Option, Some, None, sym, ap, subst, ◌∙◌, append_assoc, arith, length-append, take-append-drop}
 use Rattle.std.proofs.lemmas.List.{append-nil, take-append-le, drop-append-le, length-take-le, length-drop, drop-drop, take_rest}
 use Rattle.std.proofs.Math.Seq.{take-append-add, drop-append-add}
@@ -19,7 +19,7 @@ module _ {T : Type 0} where
   pub pair_none : (a : Seen T) (b : Option (Seen T)) → b ≡ None → join_items (pair_list a b) ≡ a.items
   pair_none a b e = ap (λ (o : Option (Seen T)). join_items (pair_list a o)) e ∙ append-nil a.items
 
-  -- a in the place of child k stands behind the child before it
+  -- a, which replaces child k, comes after the child before it
   pub beside_left : (ts : List (Seen T)) (k : ℕ) (t a : Seen T) (b : Option (Seen T)) → 0 < k → k < length ts → t ≡ get_or ts (k - 1) t → b ≡ None → join_items (with_pair ts k a b) ≡ join_items (take (k - 1) ts) ++ ((t.items ++ a.items) ++ join_items (drop (k + 1) ts))
   beside_left ts k t a b pos lt read e =
       let one : k - 1 + 1 ≡ k = omega arith in
@@ -27,7 +27,7 @@ module _ {T : Type 0} where
       let r = join_items (drop (k + 1) ts) in
       run-joined ts k (k + 1) a b ∙ ap (λ (xs : List T). join_items (take k ts) ++ (xs ++ r)) (pair_none a b e) ∙ ap (λ (xs : List T). xs ++ (a.items ++ r)) front ∙ append_assoc (join_items (take (k - 1) ts)) t.items (a.items ++ r) ∙ ap (λ (xs : List T). join_items (take (k - 1) ts) ++ xs) (sym (append_assoc t.items a.items r))
 
-  -- a in the place of the first child stands before the second
+  -- a, which replaces the first child, comes before the second
   pub beside_right : (ts : List (Seen T)) (k : ℕ) (t a : Seen T) (b : Option (Seen T)) → k ≡ 0 → 2 ≤ length ts → t ≡ get_or ts 1 t → b ≡ None → join_items (with_pair ts k a b) ≡ (a.items ++ t.items) ++ join_items (drop 2 ts)
   beside_right [] k t a b z l read e = absurd (omega (arith, l))
   beside_right (u ∷ []) k t a b z l read e = absurd (omega (arith, l))
@@ -35,7 +35,7 @@ module _ {T : Type 0} where
       let here : join_items (with_pair (u ∷ v ∷ ts) 0 a b) ≡ a.items ++ join_items (v ∷ ts) = run-joined (u ∷ v ∷ ts) 0 1 a b ∙ ap (λ (xs : List T). xs ++ join_items (v ∷ ts)) (pair_none a b e) in
       ap (λ (n : ℕ). join_items (with_pair (u ∷ v ∷ ts) n a b)) z ∙ here ∙ ap (λ (w : Seen T). a.items ++ (w.items ++ join_items ts)) (sym read) ∙ sym (append_assoc a.items t.items (join_items ts))
 
-  -- what the two made together stands in their place
+  -- what the two were made into replaces them
   pub joined_left : (ts : List (Seen T)) (k : ℕ) (h w : ℕ) (t a a' : Seen T) (b b' : Option (Seen T)) → 0 < k → k < length ts → t ≡ get_or ts (k - 1) t → b ≡ None → IsSplit h w (t.items ++ a.items) a' b' → join_items (with_run ts (k - 1) (k + 1) a' b') ≡ join_items (with_pair ts k a b)
   joined_left ts k h w t a a' b b' pos lt read e s =
       run-joined ts (k - 1) (k + 1) a' b' ∙ ap (λ (xs : List T). join_items (take (k - 1) ts) ++ (xs ++ join_items (drop (k + 1) ts))) (pair-joined h w (t.items ++ a.items) a' b' s) ∙ sym (beside_left ts k t a b pos lt read e)

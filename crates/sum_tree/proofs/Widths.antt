@@ -1,4 +1,4 @@
--- How many children there are where some are replaced, and what is made of them.
+-- The number of children when some are replaced, and the nodes made from them.
 use Rattle.std.proofs.Common.{◌≡◌, ℕ, ◌+◌, ◌-◌, ◌^◌, ◌≤◌, List, [], ◌∷◌, ◌++◌, length, take, drop, All, Option, Some, None, ap, sym, refl, subst, append-nil, ◌∙◌, take-append-drop, arith, length-append}
 use Rattle.std.proofs.lemmas.List.{length-take-le, length-drop}
 use Rattle.std.proofs.lemmas.List.Elements.{All-cons, All-nil}
@@ -12,7 +12,7 @@ pub run_length : {X : Type 0} (xs : List X) (i j : ℕ) (a : X) (b : Option X) �
 run_length xs i j a b ij le =
     omega (arith, ij, le, length-append (take i xs ++ pair_list a b) (drop j xs), length-append (take i xs) (pair_list a b), length-take-le i xs (omega (arith, ij, le)), length-drop j xs)
 
--- two lists copied one behind the other
+-- two lists copied, one after the other
 pub appended : {X : Type 0} (none one two f b xs ys : List X) → none ≡ [] → one ≡ none ++ f → two ≡ one ++ b → f ≡ xs → b ≡ ys → two ≡ xs ++ ys
 appended none one two f b xs ys n p q u v = q ∙ ap (λ (zs : List _). zs ++ b) (p ∙ ap (λ (zs : List _). zs ++ f) n ∙ u) ∙ ap (λ (zs : List _). xs ++ zs) v
 

@@ -1,4 +1,4 @@
--- What sums of counts keep.
+-- The laws of the addition of counts.
 use Rattle.std.specs.Prelude.{ℕ}
 use Rattle.std.proofs.Common.{ap, arith}
 use Rattle.sum_tree.specs.Laws.{SummaryLaws}

@@ -11,7 +11,7 @@ use Rattle.sum_tree.specs.declared.tree.SumTree.TheDeep.{deep-Content}
 use Rattle.sum_tree.specs.Seen.{Seen}
 use Rattle.sum_tree.specs.Shape.{IsContent, IsChild}
 
--- no child is as high as its parent
+-- a child is lower than its parent
 pub most_le : {T : Type 0} (h : ℕ) (ts : List (Seen T)) → All (IsChild h) ts → most (λ t. t.height + 1) ts ≤ h
 most_le h [] a = omega arith
 most_le h (t ∷ ts) a = let e : t.height + 1 ≡ h = (a 0 t (omega arith)).lower in omega (arith, most_le h ts (λ k d p. a (suc k) d (omega arith)))

@@ -4,7 +4,7 @@ use Rattle.std.specs.List.{All}
 use Rattle.sum_tree.specs.Seen.{Seen}
 use Rattle.sum_tree.specs.Shape.{IsChild, join_items}
 
--- the item is behind the others, in a tree of the same height; or it came back, and the tree is as it was
+-- the item is appended and the height is the same; or the item is handed back and the tree is as it was
 abbrev pub IsPushedOr : {T : Type 0} → Seen T → Seen T → T → Option T → Type 0
 IsPushedOr old new x None = (new.items ≡ old.items ++ x ∷ []) × (new.height ≡ old.height)
     × (old.width ≤ new.width) × (new.width ≤ 12)
@@ -14,7 +14,8 @@ abbrev pub IsPushed : {T E : Type 0} → Seen T → Seen T → T → Result (Opt
 IsPushed old new x (Ok o) = IsPushedOr old new x o
 IsPushed old new x (Err e) = new ≡ old
 
--- the item is behind those of the old children of a node of height h; or it came back, and the children are as they were
+-- the item is appended to those of the old children of a node of height h; or it is handed back and the children are as
+-- they were
 abbrev pub IsPushedBesideOr : {T : Type 0} → ℕ → List (Seen T) → List (Seen T) → T → Option T → Type 0
 IsPushedBesideOr h old new x None = (join_items new ≡ join_items old ++ x ∷ [])
     × All (IsChild h) new × (length old ≤ length new) × (length new ≤ 12)

@@ -1,4 +1,4 @@
--- Lists whose keys ascend.
+-- Lists in ascending order of keys.
 use Rattle.std.specs.Prelude.{◌≡◌, ℕ, ◌+◌, ◌-◌, ◌<◌, ◌≤◌, List, ◌∷◌, ◌++◌, length, take, drop, get_or, Option, Some, None, Result, Ok, Err}
 use Rattle.std.specs.List.{AllPairs, filter, find}
 use Rattle.std.specs.Ordering.{is_lt, is_eq, is_gt}
@@ -20,7 +20,7 @@ above cmp key k xs = filter (λ x. is_gt (cmp (key x) k)) xs
 abbrev pub item_of_key : {T K : Type 0} → (K → K → Ordering) → (T → K) → K → List T → Option T
 item_of_key cmp key k xs = find (λ x. is_eq (cmp (key x) k)) xs
 
--- the list with x at the place of its key, and without the item of an equal key
+-- the list with x inserted by its key, in place of an item with an equal key
 abbrev pub insert_item : {T K : Type 0} → (K → K → Ordering) → (T → K) → T → List T → List T
 insert_item cmp key x xs = below cmp key (key x) xs ++ x ∷ above cmp key (key x) xs
 
@@ -28,7 +28,7 @@ insert_item cmp key x xs = below cmp key (key x) xs ++ x ∷ above cmp key (key 
 abbrev pub remove_key : {T K : Type 0} → (K → K → Ordering) → (T → K) → K → List T → List T
 remove_key cmp key k xs = below cmp key k xs ++ above cmp key k xs
 
--- the item of key k stands at i; or none does, and i is its place
+-- item i has key k; or no item has, and i is the index where one would be inserted
 abbrev pub IsPlace : {T K : Type 0} → (K → K → Ordering) → (T → K) → K → List T → Result ℕ ℕ → Type 0
 IsPlace {T} cmp key k xs (Ok i) = (i < length xs) × (take i xs ≡ below cmp key k xs)
     × (drop (i + 1) xs ≡ above cmp key k xs)
@@ -36,7 +36,7 @@ IsPlace {T} cmp key k xs (Ok i) = (i < length xs) × (take i xs ≡ below cmp ke
 IsPlace cmp key k xs (Err i) = (i ≤ length xs) × (take i xs ≡ below cmp key k xs)
     × (drop i xs ≡ above cmp key k xs) × (item_of_key cmp key k xs ≡ None)
 
--- where there is a key, it is that of the last item
+-- if a key is given, it is that of the last item
 abbrev pub IsLastKey : {T K : Type 0} → (T → K) → List T → Option K → Type 0
 IsLastKey key xs None = Unit {0}
 IsLastKey {T} key xs (Some k) = (d : T) → k ≡ key (get_or xs (length xs - 1) d)

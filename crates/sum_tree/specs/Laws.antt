@@ -1,7 +1,7 @@
--- What a summary's addition keeps, and the sum of a list.
+-- The laws of a summary's addition, and the sum of a list.
 use Rattle.std.specs.Prelude.{◌≡◌, List, [], ◌∷◌}
 
--- Of the values that the type admits: empty is neutral, the addition is associative, and where a sum fits, so does the
+-- For the values that the type admits: empty is neutral, the addition is associative, and if a sum fits, so does the
 -- sum of a part of what was added.
 pub record SummaryLaws {S : Type 0} (empty : S) (op : S → S → S) (admits : S → Type 0)
     (fits : S → Type 0) : Type 0 where
@@ -13,7 +13,7 @@ pub record SummaryLaws {S : Type 0} (empty : S) (op : S → S → S) (admits : S
   pub empty_fits : fits empty
   pub fits_parts : (a b c : S) → admits a → admits b → admits c → fits (op a (op b c)) → fits (op a c)
 
--- the summaries of the items added, one by one from the first, to start
+-- start with the summaries of the items added to it, one by one from the first
 abbrev pub fold : {S X : Type 0} → S → (S → S → S) → (X → S) → List X → S
 fold start op sum_of [] = start
 fold start op sum_of (x ∷ xs) = fold (op start (sum_of x)) op sum_of xs

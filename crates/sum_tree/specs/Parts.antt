@@ -1,4 +1,4 @@
--- What is known of a tree whose root is looked into.
+-- What is known of a tree whose root is read.
 use Rattle.std.specs.Prelude.{◌≡◌, ◌≤◌, length}
 use Rattle.std.specs.List.{All}
 use Rattle.sum_tree.specs.Seen.{Seen}

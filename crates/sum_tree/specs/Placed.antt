@@ -1,4 +1,4 @@
--- What a change within one leaf leaves, where it is made in place.
+-- The state after a change within one leaf that is made in place.
 use Rattle.std.specs.Prelude.{◌≡◌, ℕ, ◌+◌, ◌^◌, ◌≤◌, List, [], ◌∷◌, ◌++◌, length, Some, Result, Ok, Err, Vec}
 use Rattle.std.specs.Global.{Global}
 use Rattle.sum_tree.specs.Seen.{Seen}
@@ -19,7 +19,7 @@ leaf_seen xs = record { items = xs; height = 0; width = length xs }
 abbrev pub inner_seen : {T : Type 0} → ℕ → List (Seen T) → Seen T
 inner_seen h ts = record { items = join_items ts; height = h; width = length ts }
 
--- what a node of height h asks of its children together
+-- what a node of height h requires of its children together
 abbrev pub AreChildren : {T : Type 0} → ℕ → List (Seen T) → Type 0
 AreChildren h ts = All (IsChild h) ts × (2 ≤ length ts) × (length ts ≤ 12)
 
@@ -31,8 +31,8 @@ pub record IsPlaced {T : Type 0} (w : ℕ) (xs : List T) (old new : Seen T) : Ty
   pub narrow : new.width ≤ 12
   pub many : 6 ≤ new.width → 6 ^ (new.height + 1) ≤ length new.items
 
--- either that is done; or the tree is as it was, and a and b are to stand in its place; each time these sums are answered.
--- Or the tree is as it was, and the new entries ys came back.
+-- either that is done, or the tree is as it was and a and b are to replace it (the result holds these sums in both
+-- cases); or the tree is as it was and the new entries ys are handed back
 abbrev pub IsPlacing : {S T : Type 0} → List S → ℕ → List T → List T → Seen T → Seen T
     → Placing (Vec S Global) (Vec T Global) (Seen T) → Type 0
 IsPlacing ss w xs ys old new (Done sums) = IsPlaced w xs old new × (sums.items ≡ ss)
@@ -44,7 +44,8 @@ abbrev pub IsPlacingOr : {S T E : Type 0} → List S → ℕ → List T → List
 IsPlacingOr ss w xs ys old new (Ok p) = IsPlacing ss w xs ys old new p
 IsPlacingOr ss w xs ys old new (Err e) = new ≡ old
 
--- the last of the sums is taken off; where the change is made, it and the new length n are written, else all is as it was
+-- the last of the sums is removed; if the change is made, it and the new length n are written, otherwise all is as it
+-- was
 abbrev pub IsNoted : {S E N : Type 0} → ℕ → ℕ → ℕ → S → S → Placing (Vec S Global) E N
     → Placing (Vec S Global) E N → Type 0
 IsNoted {S} n len len' s s' (Done sums) q = (xs : List S) (x : S) → sums.items ≡ xs ++ x ∷ []

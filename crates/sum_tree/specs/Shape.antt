@@ -1,4 +1,4 @@
--- What a node is seen as, and what holds of it.
+-- How contracts see a node, and what holds of it.
 use Rattle.std.specs.Prelude.{◌≡◌, ℕ, ◌+◌, ◌^◌, ◌≤◌, List, length}
 use Rattle.std.specs.List.{All, flat_map}
 use Rattle.sum_tree.specs.Laws.{fold}
@@ -22,7 +22,7 @@ content_width (Inner v) = length v.items
 abbrev pub node_view : {T S : Type 0} → Node T S → Seen T
 node_view n = record { items = content_items n.content; height = n.height; width = content_width n.content }
 
--- what a node of height h asks of each child
+-- what a node of height h requires of each child
 pub record IsChild {T : Type 0} (h : ℕ) (t : Seen T) : Type 0 where
   pub lower : t.height + 1 ≡ h
   pub wide : 6 ≤ t.width

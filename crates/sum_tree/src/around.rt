@@ -1,4 +1,4 @@
-//! The sums of the nodes on a path, made before anything on it changes.
+//! The sums of the nodes on a path, computed before anything on the path changes.
 ghost use Rattle.std.specs.Prelude.{◌≡◌, ◌<◌, ◌++◌, length, take, drop, ◌+◌, IfOk};
 ghost use Rattle.sum_tree.specs.Laws.{fold};
 ghost use Rattle.sum_tree.specs.Shape.{join_items};
@@ -10,7 +10,7 @@ use crate::traits::{Item, Summary};
 use crate::tree::SumTree;
 use std::alloc::Global;
 
-// The sums of what stands before and behind the child on the path.
+// The sums of what lies before and after the child on the path.
 #[derive(Drop)]
 pub(crate) struct Around<S: Drop> {
     pub(crate) before: S,
@@ -61,7 +61,7 @@ pub(crate) fn trees_sum<T: Item>(
     Ok(sum)
 }
 
-// What stands around child k.
+// The sums of what lies before and after child k.
 pub(crate) fn around_child<T: Item>(
     alloc: Global,
     nodes: &[SumTree<T>],
@@ -80,7 +80,7 @@ pub(crate) fn around_child<T: Item>(
     Ok(Around { before, behind })
 }
 
-// The sum of these entries, then those, then more.
+// The sum of three runs of entries, one after the other.
 pub(crate) fn three_sum<T: Item>(
     alloc: Global,
     front: &[Entry<T>],
@@ -100,7 +100,8 @@ pub(crate) fn three_sum<T: Item>(
     Ok(sum)
 }
 
-// The sums of the nodes above one with this sum, the root's first, and then that sum.
+// Given the sum of a node and what lies around it on each level above: the sums of the nodes above it, from the root
+// down, followed by its own.
 pub(crate) fn settle<S: Summary>(
     alloc: Global,
     mut around: Vec<Around<S>>,

@@ -7,7 +7,7 @@ use crate::OutOfMemory;
 use crate::traits::Summary;
 use std::alloc::Global;
 
-/// How many items there are.
+/// The number of items in a tree or subtree.
 #[derive(Clone, Copy, Debug, PartialEq, Eq)]
 pub struct Count {
     pub items: u64,

@@ -1,4 +1,4 @@
-//! The front and the rest of a tree.
+//! The first items of a tree, and the rest.
 ghost use Rattle.std.specs.Prelude.{◌≡◌, ℕ, ◌+◌, ◌*◌, ◌^◌, ◌<◌, ◌≤◌, [], ◌∷◌, ◌++◌, length, take, drop, IfOk, All};
 ghost use Rattle.sum_tree.specs.Laws.{fold};
 ghost use Rattle.sum_tree.specs.Shape.{IsChild, join_items};
@@ -14,7 +14,7 @@ use std::alloc::Global;
 use std::marker::Brand;
 use std::sync::ledger::{Blank, Ledger};
 
-// One tree of some of a node's children.
+// A tree of some of a node's children, which are shared.
 fn run<T: Item, L: Ledger>(
     alloc: Global,
     height: u32,
@@ -40,7 +40,7 @@ fn run<T: Item, L: Ledger>(
     inner(alloc, height, children, steps)
 }
 
-// A leaf of these entries, which are shared.
+// A leaf of copies of these entries; the items themselves are shared.
 fn copied_leaf<T: Item, L: Ledger>(
     alloc: Global,
     entries: &[Entry<T>],
@@ -58,16 +58,21 @@ fn copied_leaf<T: Item, L: Ledger>(
 }
 
 impl<T: Item> SumTree<T> {
-    /// The first n items, or all if there are not more, in a tree that shares each subtree which lies within them. It
-    /// makes nodes along one path, and what it takes to join the runs of shared children there: at most 8 h + 3, with h the
-    /// height of this tree. This tree stays as it is; `OutOfMemory` is the one error.
+    /// A tree of the first `n` items, or of all items if there are no more than `n`.
+    ///
+    /// It shares every subtree that lies within them, so it makes nodes only along one path: at most 8h + 3, where h is
+    /// the height of this tree.
+    ///
+    /// # Errors
+    ///
+    /// Fails only if an allocation fails.
     pub fn take_front(&self, alloc: Global, n: u64) -> Result<SumTree<T>, OutOfMemory>
         ensures { IfOk result (λ t. t.items ≡ take n self.now.items) }
     {
         self.take_front_with::<Brand>(alloc, n, Blank::new(1))
     }
 
-    // The same with a counter that is made of the blank.
+    // The same, with a counter made from the blank.
     fn take_front_with<L: Ledger>(
         &self,
         alloc: Global,
@@ -83,8 +88,8 @@ impl<T: Item> SumTree<T> {
         self.take_front_counted(alloc, n, &mut steps)
     }
 
-    /// What `take_front` gives, with a step for each node made: at most 8 h + 3, with h the height of this tree, whatever comes
-    /// of the call; and at most 2 t + 6 h + 1 where a tree of height t comes of it, so a lower one took fewer.
+    /// Returns what `take_front` returns, and counts a step for each node made: at most 8h + 3 even if the call fails,
+    /// where h is the height of this tree, and at most 2t + 6h + 1 if the result has height t.
     pub fn take_front_counted<L: Ledger>(
         &self,
         alloc: Global,
@@ -117,16 +122,21 @@ impl<T: Item> SumTree<T> {
         }
     }
 
-    /// The items behind the first n, if there are any, in a tree that shares each subtree which lies within them. It
-    /// makes nodes along one path, and what it takes to join the runs of shared children there: at most 8 h + 3, with h the
-    /// height of this tree. This tree stays as it is; `OutOfMemory` is the one error.
+    /// A tree of the items after the first `n`; it is empty if there are no more than `n`.
+    ///
+    /// It shares every subtree that lies within them, so it makes nodes only along one path: at most 8h + 3, where h is
+    /// the height of this tree.
+    ///
+    /// # Errors
+    ///
+    /// Fails only if an allocation fails.
     pub fn drop_front(&self, alloc: Global, n: u64) -> Result<SumTree<T>, OutOfMemory>
         ensures { IfOk result (λ t. t.items ≡ drop n self.now.items) }
     {
         self.drop_front_with::<Brand>(alloc, n, Blank::new(1))
     }
 
-    // The same with a counter that is made of the blank.
+    // The same, with a counter made from the blank.
     fn drop_front_with<L: Ledger>(
         &self,
         alloc: Global,
@@ -142,8 +152,8 @@ impl<T: Item> SumTree<T> {
         self.drop_front_counted(alloc, n, &mut steps)
     }
 
-    /// What `drop_front` gives, with a step for each node made: at most 8 h + 3, with h the height of this tree, whatever comes
-    /// of the call; and at most 2 t + 6 h + 1 where a tree of height t comes of it, so a lower one took fewer.
+    /// Returns what `drop_front` returns, and counts a step for each node made: at most 8h + 3 even if the call fails,
+    /// where h is the height of this tree, and at most 2t + 6h + 1 if the result has height t.
     pub fn drop_front_counted<L: Ledger>(
         &self,
         alloc: Global,

@@ -7,8 +7,8 @@ use std::alloc::Global;
 use std::marker::Model;
 use std::sync::Arc;
 
-/// An item with its summary, which is made once. Both lie behind one `Arc`, so the copies of a node share them. Contracts
-/// see an entry as its item.
+/// An item with its summary, which is computed once. Both are kept in one `Arc`, so copies of a node share them.
+/// Contracts see an entry as its item.
 #[derive(Drop)]
 pub struct Entry<T: Item> {
     summed: Arc<Summed<T>>,
@@ -33,7 +33,7 @@ impl<T: Item> Model for Entry<T> {
 }
 
 impl<T: Item> Entry<T> {
-    /// The item with its summary, which is asked for here.
+    /// An entry of this item, whose summary is computed here. Fails if an allocation fails; the item is then dropped.
     pub fn new(alloc: Global, item: T) -> Result<Entry<T>, OutOfMemory>
         requires { T.Summary.fits (T.sum_of item) }
         ensures { IfOk result (λ e. e ≡ item) }
@@ -57,7 +57,7 @@ impl<T: Item> Entry<T> {
         &self.summed.sum
     }
 
-    /// The same entry for a further owner. Does not allocate.
+    /// Another owner of the same entry. Does not allocate; fails only if `Arc` cannot count another owner.
     pub fn share(&self) -> Result<Entry<T>, OutOfMemory>
         ensures { IfOk result (λ e. e ≡ self.now) }
     {

@@ -1,4 +1,4 @@
-//! Trees put end to end, by new nodes along one side. What is not on that side is shared.
+//! Trees joined end to end. Only the nodes along one side are made; the others are shared.
 ghost use Rattle.std.specs.Prelude.{◌≡◌, ℕ, ◌+◌, ◌*◌, ◌^◌, ◌<◌, ◌≤◌, [], ◌∷◌, ◌++◌, length, min, max, Some, IfOk, OnOk, OnErr, All};
 ghost use Rattle.sum_tree.specs.Laws.{fold};
 ghost use Rattle.sum_tree.specs.Shape.{IsChild, join_items};
@@ -37,7 +37,7 @@ pub(crate) fn share_onto<T: Item>(
     Ok(())
 }
 
-// Two leaves of these entries.
+// Two leaves that hold these entries between them.
 pub(crate) fn two_leaves<T: Item, L: Ledger>(
     alloc: Global,
     mut entries: Vec<Entry<T>>,
@@ -56,7 +56,7 @@ pub(crate) fn two_leaves<T: Item, L: Ledger>(
     Ok((front, back))
 }
 
-// One leaf or two of these entries.
+// One leaf, or two if one has no room for all these entries.
 pub(crate) fn leaves<T: Item, L: Ledger>(
     alloc: Global,
     entries: Vec<Entry<T>>,
@@ -74,7 +74,7 @@ pub(crate) fn leaves<T: Item, L: Ledger>(
     Ok((front, Some(back)))
 }
 
-// Two nodes of these children.
+// Two nodes that hold these children between them.
 pub(crate) fn two_inners<T: Item, L: Ledger>(
     alloc: Global,
     height: u32,
@@ -97,7 +97,7 @@ pub(crate) fn two_inners<T: Item, L: Ledger>(
     Ok((front, back))
 }
 
-// One node or two of these children.
+// One node, or two if one has no room for all these children.
 pub(crate) fn inners<T: Item, L: Ledger>(
     alloc: Global,
     height: u32,
@@ -138,7 +138,7 @@ fn pair_onto<T: Item>(
     }
 }
 
-// These children, where those from `from` up to `to` are replaced.
+// These children with those in `from..to` replaced.
 pub(crate) fn gather<T: Item>(
     alloc: Global,
     nodes: &[SumTree<T>],
@@ -158,7 +158,7 @@ pub(crate) fn gather<T: Item>(
     Ok(children)
 }
 
-// One node or two of these children, where the child at k is replaced by these.
+// One node, or two, of these children with child k replaced.
 fn with_child<T: Item, L: Ledger>(
     alloc: Global,
     height: u32,
@@ -185,7 +185,7 @@ fn with_child<T: Item, L: Ledger>(
 }
 
 impl<T: Item> SumTree<T> {
-    // Two trees of one height, end to end.
+    // Two trees of the same height, end to end.
     pub(crate) fn beside<L: Ledger>(
         &self,
         alloc: Global,
@@ -217,7 +217,7 @@ impl<T: Item> SumTree<T> {
         }
     }
 
-    // This tree and then a lower one, at this height.
+    // This tree followed by a lower one, at the height of this tree.
     pub(crate) fn with_behind<L: Ledger>(
         &self,
         alloc: Global,
@@ -245,7 +245,7 @@ impl<T: Item> SumTree<T> {
         }
     }
 
-    // A lower tree and then this one, at this height.
+    // A lower tree followed by this one, at the height of this tree.
     fn with_before<L: Ledger>(
         &self,
         alloc: Global,
@@ -272,9 +272,14 @@ impl<T: Item> SumTree<T> {
         }
     }
 
-    /// Puts the items of `other` behind those of this tree. Together they are at most 2^40, and their sum fits. With h
-    /// the greater height of the two, it makes at most 2 (h + 1) + 1 nodes, those where the two trees meet; the others
-    /// are shared. On want of memory this tree is as before, and `other` is let go.
+    /// Appends the items of `other`.
+    ///
+    /// The result must have at most 2^40 items, and its sum must fit. Makes at most 2(h + 1) + 1 nodes, where h is the
+    /// greater height of the two: those where the trees meet. The other nodes are shared.
+    ///
+    /// # Errors
+    ///
+    /// Fails only if an allocation fails. This tree is then as before, and `other` is dropped.
     pub fn append(&mut self, alloc: Global, other: SumTree<T>) -> Result<(), OutOfMemory>
         requires short { length (self.old.items ++ other.items) ≤ 2 ^ 40 }
         requires fits { T.Summary.fits (fold T.Summary.empty T.Summary.op T.sum_of
@@ -285,7 +290,7 @@ impl<T: Item> SumTree<T> {
         self.append_with::<Brand>(alloc, other, Blank::new(1))
     }
 
-    // The same with a counter that is made of the blank.
+    // The same, with a counter made from the blank.
     fn append_with<L: Ledger>(
         &mut self,
         alloc: Global,
@@ -305,8 +310,8 @@ impl<T: Item> SumTree<T> {
         self.append_counted(alloc, other, &mut steps)
     }
 
-    /// What `append` does, under its conditions, with a step for each node made: at most 2 (h + 2), with h the greater height
-    /// of the two, whatever comes of the call.
+    /// Does what `append` does, under the same conditions, and counts a step for each node made: at most 2(h + 2) even
+    /// if the call fails, where h is the greater height of the two.
     pub fn append_counted<L: Ledger>(
         &mut self,
         alloc: Global,
@@ -324,11 +329,16 @@ impl<T: Item> SumTree<T> {
         Ok(())
     }
 
-    /// Puts one item behind the others, which are fewer than 2^40; the sum of all with it fits. Nodes of the last path
-    /// that no other tree shares, nor those above them, are changed in place: where the leaf is one and has room, no
-    /// node is made; else only below the lowest of them that has room for one child more, at most two for each level
-    /// and one more. Else at most 2 (h + 2), with h the height. On want of memory the tree is as before, and the item
-    /// is let go.
+    /// Appends one item.
+    ///
+    /// The tree must have fewer than 2^40 items, and the sum of all with the new one must fit. Nodes on the last path
+    /// are changed in place as far down as no other tree shares them. If that reaches a leaf with room, no node is
+    /// made; otherwise nodes are made only below the lowest of these nodes that has room for one more child, at most
+    /// two for each level and one more. In any case at most 2(h + 2) nodes are made, where h is the height.
+    ///
+    /// # Errors
+    ///
+    /// Fails only if an allocation fails. The tree is then as before, and the item is dropped.
     pub fn push(&mut self, alloc: Global, item: T) -> Result<(), OutOfMemory>
         requires short { length self.old.items < 2 ^ 40 }
         requires fits { T.Summary.fits (fold T.Summary.empty T.Summary.op T.sum_of
@@ -339,7 +349,7 @@ impl<T: Item> SumTree<T> {
         self.push_with::<Brand>(alloc, item, Blank::new(1))
     }
 
-    // The same with a counter that is made of the blank.
+    // The same, with a counter made from the blank.
     fn push_with<L: Ledger>(
         &mut self,
         alloc: Global,
@@ -359,8 +369,8 @@ impl<T: Item> SumTree<T> {
         self.push_counted(alloc, item, &mut steps)
     }
 
-    /// What `push` does, under its conditions, with a step for each node made: at most 2 (h + 2), with h the height before,
-    /// whatever comes of the call.
+    /// Does what `push` does, under the same conditions, and counts a step for each node made: at most 2(h + 2) even if
+    /// the call fails, where h is the height before the call.
     pub fn push_counted<L: Ledger>(
         &mut self,
         alloc: Global,
@@ -386,7 +396,7 @@ impl<T: Item> SumTree<T> {
     }
 }
 
-// Both trees in one.
+// The items of both trees in one tree.
 pub(crate) fn both<T: Item, L: Ledger>(
     alloc: Global,
     front: &SumTree<T>,
@@ -419,7 +429,7 @@ pub(crate) fn both<T: Item, L: Ledger>(
     }
 }
 
-// One tree of one or two of the same height.
+// One tree made from one, or from two of the same height.
 pub(crate) fn root<T: Item, L: Ledger>(
     alloc: Global,
     front: SumTree<T>,

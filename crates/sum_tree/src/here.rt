@@ -1,4 +1,4 @@
-//! Changes in place, where no other tree shares the nodes on the way.
+//! Changes in place, while no other tree shares the nodes on the path.
 ghost use Rattle.std.specs.Prelude.{◌≡◌, ℕ, List, ◌+◌, ◌*◌, ◌^◌, ◌<◌, ◌≤◌, [], ◌∷◌, ◌++◌, length, All, Some, IfOk, IfSome, OnOk, OnErr};
 ghost use Rattle.sum_tree.specs.Laws.{fold};
 ghost use Rattle.sum_tree.specs.Shape.{IsChild, IsContent, join_items, content_items, content_width};
@@ -21,9 +21,9 @@ use std::marker::Brand;
 use std::sync::Arc;
 use std::sync::ledger::{Blank, Ledger};
 
-// What came of a change in place: it is made, and here are the sums of the nodes above; or nothing was changed, and
-// these two are to stand in the place of the node, with the sums of the nodes above; or nothing was changed, and the
-// new entries come back.
+// The outcome of a change in place. `Done`: the change is made; these are the new sums of the nodes above. `Split`:
+// nothing was changed; these two nodes are to replace the node, and these are the sums of the nodes above. `Back`:
+// nothing was changed, and the new entries are handed back.
 #[derive(Drop)]
 pub(crate) enum Placing<S: Drop, E: Drop, N: Drop> {
     Done(S),
@@ -31,7 +31,7 @@ pub(crate) enum Placing<S: Drop, E: Drop, N: Drop> {
     Back(E),
 }
 
-// Puts these in the place of a range, in the list's own block once there is room, by two turns of the list.
+// Replaces a range of the list with `run`, within the list's own block once it has room, by rotating the list twice.
 fn turn_run<X: Drop>(
     list: &mut Vec<X>,
     from: usize,
@@ -56,7 +56,7 @@ fn turn_run<X: Drop>(
     Ok(())
 }
 
-// The same. Where one goes at most, and one comes or a second beside it, only what follows them moves.
+// The same. If at most one element is replaced, by one or two, only the elements after it move.
 fn put_run<X: Drop>(
     list: &mut Vec<X>,
     from: usize,
@@ -85,7 +85,7 @@ fn put_run<X: Drop>(
     }
 }
 
-// Two leaves of a leaf's entries where others are put in the place of a range.
+// Two leaves with the entries of a leaf after a range of them is replaced.
 fn split_leaf<T: Item, L: Ledger>(
     alloc: Global,
     old: &[Entry<T>],
@@ -118,8 +118,8 @@ fn split_leaf<T: Item, L: Ledger>(
     Ok(Placing::Split(front, back, sums))
 }
 
-// Puts entries in the place of a range of a leaf's. They come back where they are more than 12, or where the leaf would
-// have fewer than `least`.
+// Replaces a range of a leaf's entries. Hands the new entries back if there are more than 12 of them, or if the leaf
+// would have fewer than `least`.
 fn place_in_leaf<T: Item, L: Ledger>(
     alloc: Global,
     least: usize,
@@ -160,7 +160,7 @@ fn place_in_leaf<T: Item, L: Ledger>(
     Ok(Placing::Done(sums))
 }
 
-// Puts these in the place of the k-th.
+// Replaces element k with one element, or with two.
 fn put_pair<X: Drop>(
     list: &mut Vec<X>,
     k: usize,
@@ -184,8 +184,8 @@ fn put_pair<X: Drop>(
     }
 }
 
-// Puts a pair in the place of child k; or, where there is no room for one more, leaves the children as they are and
-// makes the pair that is to stand in the place of their node. With the sums of the nodes on the path.
+// Replaces child k with a pair. If there is no room for one more child, leaves the children as they are and makes the
+// two nodes that are to replace their node. `sums` are the sums of the nodes on the path.
 fn pair_in_place<T: Item, L: Ledger>(
     alloc: Global,
     height: u32,
@@ -219,7 +219,7 @@ fn pair_in_place<T: Item, L: Ledger>(
     Ok(Placing::Split(front, back, sums))
 }
 
-// Takes the last sum off. Where the change is made, it is the node's new sum, and `count` its new length.
+// Removes the last sum. If the change is made, that is the node's new sum, and `count` is its new length.
 fn note<S: Drop, E: Drop, N: Drop>(
     count: u64,
     len: &mut u64,
@@ -245,8 +245,8 @@ fn note<S: Drop, E: Drop, N: Drop>(
     }
 }
 
-// Puts the entry behind the items of these children, in a copy of the last child and of its last path; or hands it back,
-// where there is no room for one child more.
+// Appends the entry to the items of these children, in a copy of the last child and of its last path. Hands the entry
+// back if there is no room for one more child.
 fn push_beside<T: Item, L: Ledger>(
     alloc: Global,
     height: u32,
@@ -273,7 +273,7 @@ fn push_beside<T: Item, L: Ledger>(
     Ok(None)
 }
 
-// Puts the entry behind those of a leaf, or hands it back where the leaf is full.
+// Appends the entry to a leaf's entries, or hands it back if the leaf is full.
 fn push_in_leaf<T: Item>(
     entries: &mut Vec<Entry<T>>,
     entry: Entry<T>,
@@ -290,7 +290,7 @@ fn push_in_leaf<T: Item>(
     Ok(None)
 }
 
-// This sum with that of one entry more.
+// This sum with one more entry added.
 fn sum_with<T: Item>(
     alloc: Global,
     sum: &T::Summary,
@@ -309,7 +309,8 @@ fn sum_with<T: Item>(
 }
 
 impl<T: Item> SumTree<T> {
-    // Puts the entry behind the items of these children, in place where the last child takes it so, or hands it back.
+    // Appends the entry to the items of these children, in place if the last child can take it in place, or hands it
+    // back.
     #[cycle(pushing)]
     fn push_in_children<L: Ledger>(
         alloc: Global,
@@ -335,7 +336,7 @@ impl<T: Item> SumTree<T> {
         }
     }
 
-    // Puts the entry behind what a node of this height holds, in place, or hands it back.
+    // Appends the entry in place to what a node of this height holds, or hands it back.
     #[cycle(pushing)]
     fn push_in<L: Ledger>(
         alloc: Global,
@@ -362,7 +363,7 @@ impl<T: Item> SumTree<T> {
         }
     }
 
-    // Puts the entry behind the others in place, or hands it back where a node is shared or the leaf is full.
+    // Appends the entry in place, or hands it back if a node on the path is shared or the leaf is full.
     #[cycle(pushing)]
     pub(crate) fn push_here<L: Ledger>(
         &mut self,
@@ -393,7 +394,7 @@ impl<T: Item> SumTree<T> {
     }
 }
 
-// What `push_here` does, with a counter that is made of the blank.
+// Does what `push_here` does, with a counter made from the blank.
 fn push_here_with<T: Item, L: Ledger>(
     alloc: Global,
     tree: &mut SumTree<T>,
@@ -412,7 +413,7 @@ fn push_here_with<T: Item, L: Ledger>(
     tree.push_here(alloc, entry, &mut steps)
 }
 
-// The same with a counter of its own.
+// The same, with a counter of its own.
 pub(crate) fn push_alone<T: Item>(
     alloc: Global,
     tree: &mut SumTree<T>,
@@ -427,7 +428,7 @@ pub(crate) fn push_alone<T: Item>(
 }
 
 impl<T: Item> SumTree<T> {
-    // Puts entries in the place of a range of the items below a node's children, where the range lies in one leaf.
+    // Replaces a range of the items below a node's children, if the range lies in one leaf.
     #[cycle(placing)]
     fn place_in_children<L: Ledger>(
         alloc: Global,
@@ -474,7 +475,7 @@ impl<T: Item> SumTree<T> {
         }
     }
 
-    // The same in what a node of this height holds.
+    // The same for what a node of this height holds.
     #[cycle(placing)]
     fn place_in<L: Ledger>(
         alloc: Global,
@@ -520,8 +521,9 @@ impl<T: Item> SumTree<T> {
         }
     }
 
-    // Puts entries in the place of a range of one leaf, or hands them back where a node is shared, where the range does
-    // not lie in one leaf, or where the leaf would have more than 12 entries or fewer than `least`.
+    // Replaces a range of one leaf with these entries. Hands them back if a node on the path is shared, if the range
+    // does not lie in one leaf, if there are more than 12 of them, or if the leaf would have fewer than `least`
+    // entries.
     #[cycle(placing)]
     pub(crate) fn place_here<L: Ledger>(
         &mut self,

@@ -1,4 +1,4 @@
-//! Trees whose items' keys ascend.
+//! Trees whose items are in ascending order of their keys.
 ghost use Rattle.std.specs.Prelude.{◌≡◌, true, ℕ, ◌+◌, ◌-◌, ◌^◌, ◌<◌, ◌≤◌, ◌++◌, length, take, drop, slice_index_or, IfOk, OnOk, OnErr, All, [], ◌∷◌};
 ghost use Rattle.std.specs.Ordering.{is_lt};
 ghost use Rattle.std.specs.declared.cmp.Ordering.TheVariants.{Less, Greater};
@@ -16,7 +16,7 @@ use crate::tree::{Content, SumTree};
 use std::alloc::Global;
 use std::cmp::Ordering;
 
-// Where a key stands among entries.
+// The index of the entry with this key, or the index where one would be inserted.
 fn place<T: KeyedItem>(entries: &[Entry<T>], key: &T::Key) -> Result<usize, usize>
     requires ascending { Ascending T.Key.cmp T.key_of entries.now }
     ensures { IsPlace T.Key.cmp T.key_of key.now entries.now result }
@@ -31,7 +31,7 @@ fn place<T: KeyedItem>(entries: &[Entry<T>], key: &T::Key) -> Result<usize, usiz
     Err(entries.len())
 }
 
-// Whether the last item's key is less than this one.
+// Whether the key of the last item is less than this key.
 fn ends_before<T: KeyedItem>(tree: &SumTree<T>, key: &T::Key) -> bool
     requires filled { 1 ≤ length tree.now.items }
     requires ascending { Ascending T.Key.cmp T.key_of tree.now.items }
@@ -46,7 +46,7 @@ fn ends_before<T: KeyedItem>(tree: &SumTree<T>, key: &T::Key) -> bool
     last.cmp(key).is_lt()
 }
 
-// Whether there are items, and the keys of all are less than this one.
+// Whether there are items and all their keys are less than this key.
 fn all_before<T: KeyedItem>(tree: &SumTree<T>, key: &T::Key) -> bool
     requires ascending { Ascending T.Key.cmp T.key_of tree.now.items }
     ensures { result ≡ true → All (λ x. T.Key.cmp (T.key_of x) key.now ≡ Less) tree.now.items }
@@ -57,7 +57,7 @@ fn all_before<T: KeyedItem>(tree: &SumTree<T>, key: &T::Key) -> bool
     ends_before(tree, key)
 }
 
-// The child in which a key stands or would stand, and how many items lie before that child.
+// The index of the child that holds a key or would hold it, and the number of items before that child.
 fn child_for<T: KeyedItem>(children: &[SumTree<T>], key: &T::Key) -> (usize, u64)
     requires least { 1 ≤ length children.now }
     requires filled { All (λ t. 1 ≤ length t.items) children.now }
@@ -82,7 +82,7 @@ fn child_for<T: KeyedItem>(children: &[SumTree<T>], key: &T::Key) -> (usize, u64
 }
 
 impl<T: KeyedItem> SumTree<T> {
-    // Where a key stands among the items.
+    // The index of the item with this key, or the index where one would be inserted.
     fn position(&self, key: &T::Key) -> Result<u64, u64>
         requires ascending { Ascending T.Key.cmp T.key_of self.now.items }
         ensures { IsPlace T.Key.cmp T.key_of key.now self.now.items result }
@@ -110,9 +110,11 @@ impl<T: KeyedItem> SumTree<T> {
         }
     }
 
-    /// The item with this key, if there is one. The keys of the items ascend strictly. Takes no memory: it compares with the
-    /// last key of all, and of at most 12 children or items a level. A child's sum tells its last key; where it does not, that
-    /// is as many nodes away as the child is high.
+    /// The item with this key, if there is one. The keys of the items must ascend strictly.
+    ///
+    /// Does not allocate. Compares the key with the last key of the tree and with those of at most 12 children or items
+    /// on each level. The last key of a child is read from its sum (`KeyedItem::last_key`); if the sum does not give
+    /// it, it is found by walking down the child's last path.
     pub fn find(&self, key: &T::Key) -> Option<&T>
         requires ascending { Ascending T.Key.cmp T.key_of self.now.items }
         ensures { option_copied result ≡ item_of_key T.Key.cmp T.key_of key.now self.now.items }
@@ -123,7 +125,7 @@ impl<T: KeyedItem> SumTree<T> {
         }
     }
 
-    // Puts one item in the place of a range.
+    // Replaces a range with one item.
     fn put_item(&mut self, alloc: Global, from: u64, to: u64, item: T) -> Result<(), OutOfMemory>
         requires order { from ≤ to }
         requires within { to ≤ length self.old.items }
@@ -139,7 +141,7 @@ impl<T: KeyedItem> SumTree<T> {
         self.put(alloc, from, to, entries)
     }
 
-    // Puts one item before the i-th, or behind the others. There it is put in place, where that can be.
+    // Inserts one item before item i, or appends it, in place if possible.
     fn put_new(&mut self, alloc: Global, i: u64, item: T) -> Result<(), OutOfMemory>
         requires within { i ≤ length self.old.items }
         requires short { length ((take i self.old.items ++ item ∷ []) ++ drop i self.old.items)
@@ -162,10 +164,15 @@ impl<T: KeyedItem> SumTree<T> {
         }
     }
 
-    /// Puts an item at the place of its key, and answers the item of an equal key that stood there. The keys of the
-    /// items ascend strictly; at most 2^40 items come of it, and their sum fits. Where no other tree shares the nodes
-    /// on the way and the leaf has room, no node is made; else at most two nodes for each level, and one more for the
-    /// root. On want of memory the tree is as before, and the item is let go.
+    /// Inserts an item by its key. An item with an equal key is replaced and returned.
+    ///
+    /// The keys of the items must ascend strictly; the result must have at most 2^40 items, and its sum must fit. Makes
+    /// no node if no other tree shares the nodes on the path and the leaf has room; otherwise at most two nodes for
+    /// each level, and one more for the root.
+    ///
+    /// # Errors
+    ///
+    /// Fails only if an allocation fails. The tree is then as before, and the item is dropped.
     pub fn insert(&mut self, alloc: Global, item: T) -> Result<Option<T>, OutOfMemory>
         requires ascending { Ascending T.Key.cmp T.key_of self.old.items }
         requires short { length (insert_item T.Key.cmp T.key_of item self.old.items) ≤ 2 ^ 40 }
@@ -191,10 +198,15 @@ impl<T: KeyedItem> SumTree<T> {
         }
     }
 
-    /// Takes the item with this key out, if there is one, and answers it. The keys of the items ascend strictly. Where
-    /// no other tree shares the nodes on the way and the leaf has more than 6 entries or is the root, no node is made;
-    /// else at most two nodes for each level, and one more for each child that became narrow. On want of memory the
-    /// tree is as before.
+    /// Removes the item with this key, if there is one, and returns it.
+    ///
+    /// The keys of the items must ascend strictly. Makes no node if no other tree shares the nodes on the path and the
+    /// leaf has more than 6 entries or is the root; otherwise at most two nodes for each level, and one more for each
+    /// child that would have fewer than 6 entries.
+    ///
+    /// # Errors
+    ///
+    /// Fails only if an allocation fails. The tree is then as before.
     pub fn remove(&mut self, alloc: Global, key: &T::Key) -> Result<Option<T>, OutOfMemory>
         requires ascending { Ascending T.Key.cmp T.key_of self.old.items }
         ensures removed { IfOk result (λ o. o

@@ -1,4 +1,4 @@
-//! A tree made of a list, level by level.
+//! A tree built from a list, level by level.
 ghost use Rattle.std.specs.Prelude.{◌≡◌, ℕ, ◌+◌, ◌*◌, ◌^◌, ◌<◌, ◌≤◌, [], ◌∷◌, ◌++◌, length, IfOk, All};
 ghost use Rattle.sum_tree.specs.Laws.{fold};
 ghost use Rattle.sum_tree.specs.Shape.{IsChild, join_items};
@@ -13,7 +13,7 @@ use std::alloc::Global;
 use std::marker::Brand;
 use std::sync::ledger::{Blank, Ledger};
 
-// How many of the last elements of n are the last run, so that all runs but two at most are full.
+// The length of the last run when `n` elements are cut into runs of 6 to 12, all but at most two of them full.
 fn last_run(n: usize) -> usize
     requires least { 6 ≤ n }
     ensures least { 6 ≤ result }
@@ -33,7 +33,7 @@ fn last_run(n: usize) -> usize
     }
 }
 
-// The elements in runs of 12, at most two of which are shorter, but of at least 6.
+// The elements in runs of 12, of which at most two are shorter, with at least 6 each.
 fn groups<X: Drop>(alloc: Global, mut items: Vec<X>) -> Result<Vec<Vec<X>>, OutOfMemory>
     requires least { 6 ≤ length items.items }
     ensures chained { IfOk result (λ gs. elements gs.items ≡ items.items) }
@@ -50,7 +50,7 @@ fn groups<X: Drop>(alloc: Global, mut items: Vec<X>) -> Result<Vec<Vec<X>>, OutO
     Ok(groups)
 }
 
-/// The list of one element. On want of memory, which is the one error, the element is let go.
+/// A `Vec` of one element. If the allocation fails, the element is dropped.
 pub fn list_of_one<X: Drop>(alloc: Global, element: X) -> Result<Vec<X>, OutOfMemory>
     ensures { IfOk result (λ xs. xs.items ≡ element ∷ []) }
 {
@@ -74,7 +74,7 @@ pub(crate) fn entries_of<T: Item>(
     Ok(entries)
 }
 
-// A leaf for each run.
+// One leaf for each run of entries.
 fn leaf_level<T: Item, L: Ledger>(
     alloc: Global,
     groups: Vec<Vec<Entry<T>>>,
@@ -95,7 +95,7 @@ fn leaf_level<T: Item, L: Ledger>(
     Ok(nodes)
 }
 
-// A node for each run of nodes.
+// One node for each run of nodes.
 fn inner_level<T: Item, L: Ledger>(
     alloc: Global,
     height: u32,
@@ -119,7 +119,7 @@ fn inner_level<T: Item, L: Ledger>(
     Ok(nodes)
 }
 
-// The tree of these entries.
+// A tree of these entries.
 pub(crate) fn from_entries<T: Item, L: Ledger>(
     alloc: Global,
     entries: Vec<Entry<T>>,
@@ -143,7 +143,7 @@ pub(crate) fn from_entries<T: Item, L: Ledger>(
     inner(alloc, height, nodes, steps)
 }
 
-// The same with a counter that is made of the blank.
+// The same, with a counter made from the blank.
 pub(crate) fn from_entries_with<T: Item, L: Ledger>(
     alloc: Global,
     entries: Vec<Entry<T>>,
@@ -162,9 +162,13 @@ pub(crate) fn from_entries_with<T: Item, L: Ledger>(
 }
 
 impl<T: Item> SumTree<T> {
-    /// The tree of these items, in time that grows with their number alone. They are at most 2^40, and their sum fits. Nodes
-    /// are made level by level and are full, but for two at most in each level. On want of memory, which is the one error,
-    /// the items are let go.
+    /// A tree of these items, in O(n) time. There must be at most 2^40 of them, and their sum must fit.
+    ///
+    /// Nodes are made level by level; on each level all but at most two are full.
+    ///
+    /// # Errors
+    ///
+    /// Fails only if an allocation fails. The items are then dropped.
     pub fn from_list(alloc: Global, items: Vec<T>) -> Result<SumTree<T>, OutOfMemory>
         requires short { length items.items ≤ 2 ^ 40 }
         requires fits { T.Summary.fits (fold T.Summary.empty T.Summary.op T.sum_of items.items) }

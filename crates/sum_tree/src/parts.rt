@@ -1,4 +1,4 @@
-//! What a tree's root holds.
+//! What the root of a tree holds, for walks from outside this crate.
 ghost use Rattle.sum_tree.specs.Parts.{IsParts};
 
 use crate::entry::Entry;

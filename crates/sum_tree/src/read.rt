@@ -1,4 +1,4 @@
-//! The items of a tree by their index.
+//! Items by their index.
 ghost use Rattle.std.specs.Prelude.{◌≡◌, ℕ, ◌+◌, ◌-◌, ◌^◌, ◌<◌, ◌≤◌, [], ◌∷◌, ◌++◌, length, take, slice_get, slice_index_or, MatchOption};
 ghost use Rattle.std.specs.Option.{option_copied};
 ghost use Rattle.sum_tree.specs.Seen.{Seen};
@@ -7,9 +7,11 @@ ghost use Rattle.sum_tree.specs.Shape.{join_items};
 use crate::traits::Item;
 use crate::tree::{Content, SumTree};
 
-/// The child that holds item `i` of all children's together, and the item's index there: both are counted from 0, and `i` is
-/// less than the number of the children's items. It takes no memory, and asks at most each child for its length, so in a node
-/// that `SumTree::parts` lends, 12 of them.
+/// The index of the child that holds item `i` of these children's items, and the item's index within that child.
+/// Indices count from 0, and `i` must be less than the number of the children's items.
+///
+/// Does not allocate. Reads the length of each child up to that one: of at most 12 in a node that `SumTree::parts`
+/// lends.
 pub fn child_at<T: Item>(children: &[SumTree<T>], i: u64) -> (usize, u64)
     requires { i < length (join_items children.now) }
     ensures child { result.0 < length children.now }
@@ -54,7 +56,7 @@ impl<T: Item> SumTree<T> {
         }
     }
 
-    /// Item i, counted from 0, if there are more than i. Takes no memory, and looks at one node of each level.
+    /// Item `i`, counted from 0, if there is one. O(log n): visits one node on each level. Does not allocate.
     pub fn get(&self, i: u64) -> Option<&T>
         ensures { option_copied result ≡ slice_get self.now.items i }
     {
@@ -65,14 +67,14 @@ impl<T: Item> SumTree<T> {
         }
     }
 
-    /// The first item, if there is one. Takes no memory.
+    /// The first item, if there is one. O(log n), does not allocate.
     pub fn first(&self) -> Option<&T>
         ensures { option_copied result ≡ slice_get self.now.items 0 }
     {
         self.get(0)
     }
 
-    /// The last item, if there is one. Takes no memory.
+    /// The last item, if there is one. O(log n), does not allocate.
     pub fn last(&self) -> Option<&T>
         ensures { option_copied result ≡ slice_get self.now.items (length self.now.items - 1) }
     {

@@ -1,4 +1,4 @@
-//! Other items in the place of a range.
+//! Replaces a range of items with others.
 ghost use Rattle.std.specs.Prelude.{◌≡◌, ℕ, ◌+◌, ◌-◌, ◌*◌, ◌^◌, ◌<◌, ◌≤◌, ◌++◌, length, None, IfOk, OnOk, OnErr, IfSome, All};
 ghost use Rattle.sum_tree.specs.Laws.{fold};
 ghost use Rattle.sum_tree.specs.Shape.{IsChild, join_items};
@@ -17,15 +17,15 @@ use std::alloc::Global;
 use std::marker::Brand;
 use std::sync::ledger::{Blank, Ledger};
 
-// What came of a change within one leaf: what stands in the node's place, or the new entries, where the range does not
-// lie in one leaf or they are too many for two.
+// The outcome of a change within one leaf. `Done`: the one or two nodes that replace the node. `Back`: the new entries,
+// handed back because the range does not lie in one leaf, or because two leaves have no room for the result.
 #[derive(Drop)]
 pub(crate) enum Splicing<N: Drop, E: Drop> {
     Done(N, Option<N>),
     Back(E),
 }
 
-// The first child that holds all of a range, and where the range begins there.
+// The index of the first child that holds a whole range, and the index within the child at which the range starts.
 pub(crate) fn child_with<T: Item>(
     children: &[SumTree<T>],
     from: u64,
@@ -49,7 +49,7 @@ pub(crate) fn child_with<T: Item>(
     None
 }
 
-// Some entries, then others, then more.
+// Three runs of entries, one after the other.
 pub(crate) fn three_parts<T: Item>(
     alloc: Global,
     front: &[Entry<T>],
@@ -68,7 +68,7 @@ pub(crate) fn three_parts<T: Item>(
     Ok(entries)
 }
 
-// What stands in the place of a node whose children from `from` up to `to` are replaced.
+// The one or two nodes that replace a node when its children in `from..to` are replaced.
 fn with_children<T: Item, L: Ledger>(
     alloc: Global,
     height: u32,
@@ -100,7 +100,8 @@ fn with_children<T: Item, L: Ledger>(
     inners(alloc, height, children, steps)
 }
 
-// What stands in the place of a node whose child at k became this narrow one, which is joined with the one before it.
+// The one or two nodes that replace a node when its child k becomes `child`, which has fewer than 6 entries and is
+// joined with the child before it.
 fn mend_left<T: Item, L: Ledger>(
     alloc: Global,
     height: u32,
@@ -126,7 +127,7 @@ fn mend_left<T: Item, L: Ledger>(
     with_children(alloc, height, nodes, k - 1, k + 1, front, back, steps)
 }
 
-// The same where it is the first, and is joined with the second.
+// The same for the first child, which is joined with the second.
 fn mend_right<T: Item, L: Ledger>(
     alloc: Global,
     height: u32,
@@ -149,8 +150,8 @@ fn mend_right<T: Item, L: Ledger>(
     with_children(alloc, height, nodes, 0, 2, front, back, steps)
 }
 
-// What stands in the place of a node whose child at k became `front` and `back`. A narrow child is joined with one
-// beside it.
+// The one or two nodes that replace a node when its child k becomes `front` and `back`. A child with fewer than 6
+// entries is joined with one beside it.
 fn mend<T: Item, L: Ledger>(
     alloc: Global,
     height: u32,
@@ -182,7 +183,7 @@ fn mend<T: Item, L: Ledger>(
 }
 
 impl<T: Item> SumTree<T> {
-    // How many entries the root has.
+    // The number of the root's entries.
     pub(crate) fn width(&self) -> usize
         ensures { result ≡ self.now.width }
     {
@@ -192,7 +193,7 @@ impl<T: Item> SumTree<T> {
         }
     }
 
-    // The change within one leaf, where it is one: the nodes above it are made anew, this tree stays as it is.
+    // The change within one leaf, if it is one: makes new nodes on the path to it, and leaves this tree as it is.
     fn spliced_leaf<L: Ledger>(
         &self,
         alloc: Global,
@@ -246,7 +247,7 @@ impl<T: Item> SumTree<T> {
         }
     }
 
-    // The tree with these entries in the place of a range.
+    // A tree with a range replaced by these entries.
     fn with_splice<L: Ledger>(
         &self,
         alloc: Global,
@@ -279,7 +280,7 @@ impl<T: Item> SumTree<T> {
         }
     }
 
-    // Puts entries in the place of a range.
+    // Replaces a range with these entries.
     fn put_counted<L: Ledger>(
         &mut self,
         alloc: Global,
@@ -315,7 +316,7 @@ impl<T: Item> SumTree<T> {
         }
     }
 
-    // The same with a counter that is made of the blank.
+    // The same, with a counter made from the blank.
     fn put_with<L: Ledger>(
         &mut self,
         alloc: Global,
@@ -340,7 +341,7 @@ impl<T: Item> SumTree<T> {
         self.put_counted(alloc, from, to, entries, &mut steps)
     }
 
-    // The same with a counter of its own.
+    // The same, with a counter of its own.
     pub(crate) fn put(
         &mut self,
         alloc: Global,
@@ -360,15 +361,19 @@ impl<T: Item> SumTree<T> {
         self.put_with::<Brand>(alloc, from, to, entries, Blank::new(1))
     }
 
-    /// Puts items in the place of those from `from` up to `to`, without the latter: indices that count from 0, with
-    /// `from ≤ to` and `to` at most the number of items. At most 2^40 items come of it, and their sum fits. Where the
-    /// range lies in one leaf, at most 12 items come, that leaf keeps 6 entries or more (a root any number) and no
-    /// other tree shares the nodes above it or itself, they are changed in place: the leaf's own list takes the items,
-    /// and each node on the path a new sum. Where the leaf would have more than 12 entries, two new ones stand in its
-    /// place, and two in that of each node above it that has no room for one child more, up to the first that has; no
-    /// other node is made. Else, where the range lies in one leaf and at most 12 items come, it is one descent that
-    /// makes at most two nodes for each level, and one more node for a child that became narrow; else a front, the new
-    /// items and a rest are put together. On want of memory the tree is as before, and the items are let go.
+    /// Replaces the items in `from..to` with `items`. Indices count from 0; `from ≤ to`, and `to` is at most the number
+    /// of items. The result must have at most 2^40 items, and its sum must fit.
+    ///
+    /// If the range lies in one leaf and there are at most 12 new items, this is one descent. It changes the nodes on
+    /// the path in place if no other tree shares them and the leaf keeps at least 6 entries (a leaf root any number);
+    /// if the leaf would then have more than 12 entries, two new leaves replace it, and two new nodes replace each node
+    /// above it that has no room for one more child, up to the first that has. Otherwise it makes at most two nodes for
+    /// each level, and one more for each child that would have fewer than 6 entries. In all other cases the items
+    /// before the range, the new ones and those after the range are joined, as `append` does.
+    ///
+    /// # Errors
+    ///
+    /// Fails only if an allocation fails. The tree is then as before, and the new items are dropped.
     pub fn splice(
         &mut self,
         alloc: Global,
@@ -388,9 +393,9 @@ impl<T: Item> SumTree<T> {
         self.put(alloc, from, to, entries)
     }
 
-    /// What `splice` does, under its conditions, with a step for each node made: with h the height before and m the number of
-    /// the new items, at most 26 (h + 1) + 2 m, and at most 6 (h + 1) where at most one item goes and at most 12 come, whatever
-    /// comes of the call.
+    /// Does what `splice` does, under the same conditions, and counts a step for each node made: at most 26(h + 1) + 2m
+    /// even if the call fails, where h is the height before the call and m the number of new items, and at most
+    /// 6(h + 1) if at most one item is replaced by at most 12.
     pub fn splice_counted<L: Ledger>(
         &mut self,
         alloc: Global,

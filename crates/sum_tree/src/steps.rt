@@ -1,11 +1,11 @@
-//! A counter of steps, which takes no bytes.
+//! A counter of steps that exists only in contracts: it takes up no bytes.
 ghost use Rattle.std.specs.Prelude.{◌≡◌, ◌+◌, ◌<◌};
 
 use std::marker::Model;
 use std::sync::ledger::{Blank, Book, Ledger, Share};
 
-/// How many steps were taken, as contracts see it. It takes no bytes and does nothing when it runs; only `tick` changes
-/// it. A step of a tree is one node made.
+/// The number of steps taken so far, as contracts see it. It takes up no bytes and does nothing when it runs; only
+/// `tick` changes it. For trees, a step is one node made.
 #[derive(Drop)]
 pub struct Steps<L: Ledger> {
     book: Book<L>,
@@ -23,7 +23,7 @@ impl<L: Ledger> Model for Steps<L> {
 }
 
 impl<L: Ledger> Steps<L> {
-    /// No steps yet, in a ledger of this name.
+    /// A counter at 0, in the ledger of this name.
     pub fn new(blank: Blank) -> Steps<L>
         requires name { blank.name ≡ L.name }
         requires parts { blank.parts ≡ L.parts }
@@ -34,7 +34,7 @@ impl<L: Ledger> Steps<L> {
         Steps { book, share }
     }
 
-    /// One step more.
+    /// Counts one more step.
     pub fn tick(&mut self)
         ensures { self.new ≡ self.old + 1 }
     {

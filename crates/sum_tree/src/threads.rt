@@ -1,4 +1,4 @@
-//! That a tree may go to another thread and be shared with one.
+//! Trees may be sent to other threads and shared with them.
 use crate::traits::Item;
 use crate::tree::SumTree;
 
@@ -6,7 +6,7 @@ fn sends<X: Send>(_x: &X) {}
 
 fn shares<X: Sync>(_x: &X) {}
 
-/// Checked, and never run: a tree is `Send` and `Sync` where its items and their summaries are.
+/// Checked by the compiler and never called: a tree is `Send` and `Sync` if its items and their summaries are.
 pub fn crosses_threads<T: Item + Send + Sync>(tree: &SumTree<T>)
 where
     T::Summary: Send + Sync,

@@ -1,17 +1,17 @@
-//! What the tree asks of its items and of their summaries.
-ghost use Rattle.std.specs.Prelude.{◌≡◌, List, IfOk};
+//! What a tree requires of its items and of their summaries.
+ghost use Rattle.std.specs.Prelude.{◌≡◌, List, IfOk, OnErr};
 ghost use Rattle.sum_tree.specs.Laws.{SummaryLaws, fold};
 ghost use Rattle.sum_tree.specs.Keyed.{Ascending, IsLastKey};
 
 use crate::OutOfMemory;
 use std::alloc::Global;
 
-/// What is kept of a run of items: a sum, whose addition is associative and has a zero.
+/// The summary of a run of items: a sum whose addition is associative and has a zero.
 ///
-/// A sum may hold memory, so `zero` and `add` are passed the allocator, and `add` may answer want of memory. Contracts
-/// see the zero as `empty` and the addition as `op`. `fits` says of which sums the type has room for; it is what `add`
-/// asks. `admits` says which values the type has at all, as the lengths of some text; the laws speak of those alone.
-/// `single` says which sums a single item may have.
+/// A sum may own memory, so `zero` and `add` take the allocator, and `add` may fail. Contracts see the zero as `empty`
+/// and the addition as `op`. `fits` says which sums the type has room for; `add` requires it of its result. `admits`
+/// says which values of the type occur at all, such as the lengths of some text; the laws speak only of these. `single`
+/// says which sums a single item may have.
 pub trait Summary: Sized + Drop {
     ghost empty: { Self };
 
@@ -27,17 +27,28 @@ pub trait Summary: Sized + Drop {
     fn zero(alloc: Global) -> Self
         ensures { result ≡ empty };
 
-    /// Adds a sum behind this one.
+    /// Adds the sum of the items that follow.
+    ///
+    /// # Errors
+    ///
+    /// Fails only if an allocation fails. This sum is then as before.
     fn add(&mut self, alloc: Global, other: &Self) -> Result<(), OutOfMemory>
         requires { fits (op self.old other.now) }
-        ensures { IfOk result (λ _. self.new ≡ op self.old other.now) };
+        ensures ok { IfOk result (λ _. self.new ≡ op self.old other.now) }
+        ensures err { OnErr result (self.new ≡ self.old) };
 
-    /// Adds a sum behind this one, where `next` is added right after it: what `next` puts something else in the place of
-    /// need not be kept. By default it is `add`.
+    /// Adds the sum of the items that follow, given that `next` is added right after it: parts of the result that
+    /// adding `next` replaces may be left out. The default is `add`.
+    ///
+    /// # Errors
+    ///
+    /// Fails only if an allocation fails. This sum is then as before.
     fn add_before(&mut self, alloc: Global, other: &Self, _next: &Self) -> Result<(), OutOfMemory>
         requires sum { fits (op self.old other.now) }
         requires both { fits (op (op self.old other.now) _next.now) }
-        ensures { IfOk result (λ _. op self.new _next.now ≡ op (op self.old other.now) _next.now) }
+        ensures ok { IfOk result (λ _. op self.new _next.now
+            ≡ op (op self.old other.now) _next.now) }
+        ensures err { OnErr result (self.new ≡ self.old) }
     {
         self.add(alloc, other)
     }
@@ -45,18 +56,18 @@ pub trait Summary: Sized + Drop {
     ghost laws: { SummaryLaws empty op admits fits };
 }
 
-/// What stands in a tree: something with a summary, of which copies can be made.
+/// An item of a tree: a value that has a summary and can be copied.
 pub trait Item: Sized + Drop {
-    /// What is kept of a run of such items.
+    /// The summary of a run of such items.
     type Summary: Summary;
 
     ghost sum_of: { Self → Self.Summary };
 
-    /// The summary of this item alone.
+    /// The summary of this item alone. Fails only if an allocation fails.
     fn summary(&self, alloc: Global) -> Result<Self::Summary, OutOfMemory>
         ensures { IfOk result (λ s. s ≡ sum_of self.now) };
 
-    /// An item equal to this one.
+    /// A copy of this item. Fails only if an allocation fails.
     fn copy(&self, alloc: Global) -> Result<Self, OutOfMemory>
         ensures { IfOk result (λ x. x ≡ self.now) };
 
@@ -67,17 +78,17 @@ pub trait Item: Sized + Drop {
 
 /// An item with a key, by which a tree can be ordered.
 pub trait KeyedItem: Item {
-    /// What the items are ordered by.
+    /// The type of the keys.
     type Key: Ord + Copy;
 
     ghost key_of: { Self → Self.Key };
 
-    /// The key of this item.
+    /// The key of this item. Does not allocate.
     fn key(&self) -> Self::Key
         ensures { result ≡ key_of self.now };
 
-    /// The key of the last of some items whose keys ascend, where their sum tells it. By default no sum does, and then a
-    /// tree walks down to the item. Takes no memory.
+    /// The key of the last of some items in ascending order of their keys, if it can be read from their sum. The
+    /// default is `None`; a tree then walks down to the item. Does not allocate.
     fn last_key(_sum: &Self::Summary) -> Option<Self::Key>
         ensures { (xs : List Self) → Ascending Self.Key.cmp key_of xs
             → _sum.now ≡ fold Self.Summary.empty Self.Summary.op Self.sum_of xs

@@ -1,4 +1,4 @@
-//! A copy-on-write tree, seen as the list of its items.
+//! A copy-on-write tree, which contracts see as the list of its items.
 ghost use Rattle.std.specs.Prelude.{◌≡◌, ℕ, ◌+◌, ◌*◌, ◌^◌, ◌<◌, ◌≤◌, OnOk, All, [], ◌∷◌, ◌++◌, length, IfOk, IsTrue, ◌↔◌};
 ghost use Rattle.sum_tree.specs.Laws.{fold};
 ghost use Rattle.sum_tree.specs.Shape.{IsNode, IsChild, join_items, node_view};
@@ -15,22 +15,26 @@ use std::marker::{Brand, Model};
 use std::sync::Arc;
 use std::sync::ledger::{Blank, Ledger};
 
-/// The least entries of a node that is not a root.
+/// The least number of entries of a node that is not a root.
 pub(crate) const LEAST: usize = 6;
 
-/// The most entries that a node has.
+/// The greatest number of entries of a node.
 pub(crate) const MOST: usize = 12;
 
-/// A shared B-tree of items, each node of which holds the sum of what lies below it.
+/// A copy-on-write B-tree of items. Each node holds the sum of what lies below it.
 ///
 /// Contracts see a tree as a record of its `items` in order, its `height` and its `width`, the number of its root's
 /// entries. Leaves have height 0 and lie at one depth. Every node but the root has 6 to 12 entries, an inner root at
-/// least 2, a leaf root 0 to 12; a tree has at most 2^40 items, so a height is at most 15. Nodes stand behind `Arc`:
-/// trees share them, and a change makes new nodes for those on its path, unless no other tree shares them, as then they are
-/// changed in place.
+/// least 2, a leaf root 0 to 12; a tree has at most 2^40 items, so its height is at most 15. Nodes are kept in `Arc`s
+/// and shared among trees. A change copies the nodes on its path, except those that no other tree shares: these it
+/// changes in place.
 ///
-/// A call that puts items in asks of its caller that no more than 2^40 come of it and that their sum fits (`fits`). Running out
-/// of memory is the one error; a tree that is changed is then as before.
+/// A call that adds items requires that the result has at most 2^40 of them and that their sum fits (`fits`).
+///
+/// # Errors
+///
+/// Calls fail only if an allocation fails or an `Arc` cannot count another owner. A tree that was to be changed is then
+/// as before.
 ///
 /// # Examples
 ///
@@ -44,11 +48,11 @@ pub(crate) const MOST: usize = 12;
 /// let rest = old.drop_front(alloc, 1)?;
 /// ```
 ///
-/// Now `tree` and `rest` hold 5 and 8, `old` still holds 3, 5 and 8, and `gone` is the number 3. Each call is used in the files of
-/// `crates/tree_tests/src`:
+/// Now `tree` and `rest` hold 5 and 8, `old` still holds 3, 5 and 8, and `gone` is the number 3. The files of
+/// `crates/tree_tests/src` use every call:
 ///
 /// - `new`, `push`, `from_list`: `changes.rt`, in `pushed`, `push_to` and `made`; `from_item`: `trees.rt`, in `alone`
-/// - `len`, `is_empty`, `get`, `first`, `last`, `height`, `parts`: `mirror.rt`, in `has_numbers`, `has_ends` and `is_even`
+/// - `len`, `is_empty`, `get`, `first`, `last`, `height`, `parts`: `mirror.rt`, in `has_numbers`, `has_ends`, `is_even`
 /// - `summary`: `trees.rt`, in `is_wide`; `share` and `splice`: `trees.rt`, in `splices`
 /// - `take_front`, `drop_front` and `append`: `trees.rt`, in `rejoins`
 /// - `find`: `trees.rt`, in `finds`; `insert` and `remove`: `keys.rt`, in `put` and `take_out`
@@ -101,7 +105,7 @@ impl<T: Item> Model for SumTree<T> {
 }
 
 impl<T: Item> SumTree<T> {
-    /// The tree without items: one node. Running out of memory is the one error.
+    /// A tree without items. Makes one node; fails only if an allocation fails.
     pub fn new(alloc: Global) -> Result<SumTree<T>, OutOfMemory>
         ensures items { IfOk result (λ t. t.items ≡ []) }
         ensures height { IfOk result (λ t. t.height ≡ 0) }
@@ -109,35 +113,35 @@ impl<T: Item> SumTree<T> {
         from_entries_with::<T, Brand>(alloc, Vec::new(alloc), Blank::new(1))
     }
 
-    /// How many levels lie below the root: 0 where the root is a leaf. Takes no memory.
+    /// The number of levels below the root: 0 if the root is a leaf. O(1), does not allocate.
     pub fn height(&self) -> u32
         ensures { result ≡ self.now.height }
     {
         self.node.height
     }
 
-    /// How many items there are. Takes no memory, and looks at the root alone.
+    /// The number of items. O(1), does not allocate.
     pub fn len(&self) -> u64
         ensures { result ≡ length self.now.items }
     {
         self.node.len
     }
 
-    /// Whether there are no items. Takes no memory.
+    /// Whether there are no items. O(1), does not allocate.
     pub fn is_empty(&self) -> bool
         ensures { IsTrue result ↔ (self.now.items ≡ []) }
     {
         self.node.len == 0
     }
 
-    /// The sum of the summaries of all items, from the first to the last. Takes no memory.
+    /// The summary of the whole tree: the sum of the items' summaries in order. O(1), does not allocate.
     pub fn summary(&self) -> &T::Summary
         ensures { result.now ≡ fold T.Summary.empty T.Summary.op T.sum_of self.now.items }
     {
         &self.node.sum
     }
 
-    /// What holds of every tree, for callers that see its value alone. It does nothing when it runs.
+    /// Facts that hold of every tree, for callers that see only its value. Does nothing when it runs.
     pub fn known(&self)
         ensures short { length self.now.items ≤ 2 ^ 40 }
         ensures low { self.now.height ≤ 15 }
@@ -148,8 +152,8 @@ impl<T: Item> SumTree<T> {
         let _node = &self.node;
     }
 
-    /// A second owner of the same nodes. No node is made; `OutOfMemory`, the one error, is that the count of owners is
-    /// refused.
+    /// Another tree with the same nodes, in constant time; nothing is copied. Fails only if `Arc` cannot count another
+    /// owner.
     pub fn share(&self) -> Result<SumTree<T>, OutOfMemory>
         ensures { IfOk result (λ t. t ≡ self.now) }
     {
@@ -157,8 +161,8 @@ impl<T: Item> SumTree<T> {
         Ok(SumTree { node })
     }
 
-    /// The tree of one item, whose summary has to fit: one node. On want of memory, which is the one error, the item is let
-    /// go.
+    /// A tree of one item, whose summary must fit. Makes one node. Fails only if an allocation fails; the item is then
+    /// dropped.
     pub fn from_item(alloc: Global, item: T) -> Result<SumTree<T>, OutOfMemory>
         requires { T.Summary.fits (fold T.Summary.empty T.Summary.op T.sum_of (item ∷ [])) }
         ensures items { IfOk result (λ t. t.items ≡ item ∷ []) }
@@ -169,7 +173,7 @@ impl<T: Item> SumTree<T> {
     }
 }
 
-// The tree of this node. Here alone nodes are made, each of them a step.
+// The tree whose root is this node. Nodes are made only here, each with a step.
 fn tree_of<T: Item, L: Ledger>(
     alloc: Global,
     node: Node<T>,
@@ -185,7 +189,7 @@ fn tree_of<T: Item, L: Ledger>(
     Ok(SumTree { node })
 }
 
-// The leaf without entries.
+// A leaf without entries.
 pub(crate) fn empty<T: Item, L: Ledger>(
     alloc: Global,
     steps: &mut Steps<L>,
@@ -203,7 +207,7 @@ pub(crate) fn empty<T: Item, L: Ledger>(
     tree_of(alloc, node, steps)
 }
 
-// The leaf of one entry.
+// A leaf of one entry.
 pub(crate) fn single<T: Item, L: Ledger>(
     alloc: Global,
     entry: Entry<T>,
@@ -217,7 +221,7 @@ pub(crate) fn single<T: Item, L: Ledger>(
     leaf(alloc, list_of_one(alloc, entry)?, steps)
 }
 
-// The leaf of these entries.
+// A leaf of these entries.
 pub(crate) fn leaf<T: Item, L: Ledger>(
     alloc: Global,
     entries: Vec<Entry<T>>,
@@ -242,7 +246,7 @@ pub(crate) fn leaf<T: Item, L: Ledger>(
     tree_of(alloc, node, steps)
 }
 
-// The node of these children.
+// A node of these children.
 pub(crate) fn inner<T: Item, L: Ledger>(
     alloc: Global,
     height: u32,

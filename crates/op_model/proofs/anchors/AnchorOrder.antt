@@ -1,5 +1,5 @@
 -- Anchors stand in their order.
-use Rattle.std.proofs.Common.{◌≡◌, ℕ, zero, suc, ◌≤◌, ◌-◌, ◌⊎◌, Bool, List, [], ◌∷◌, length, filter, take, refl, sym, ◌∙◌, ap, inl, inr, true, false, cond, eqb, ltb, arith, take_all, ◌+◌, ◌++◌, Some, ◌<◌, ◌&&◌, None}
+use Rattle.std.proofs.Common.{◌≡◌, ℕ, zero, suc, ◌≤◌, ◌-◌, ◌⊎◌, Bool, List, [], ◌∷◌, length, filter, take, refl, sym, ◌∙◌, ap, inl, inr, true, false, cond, eqb, ltb, arith, take_all, ◌++◌, Some, ◌<◌, ◌&&◌, None}
 use Rattle.std.proofs.lemmas.Bool.{cases_Bool, eqb-true, ltb-true, and_parts}
 use Rattle.std.proofs.lemmas.List.{length-map}
 use Rattle.std.specs.Ordering.{nat_cmp, ordering_then}
@@ -20,17 +20,17 @@ use Rattle.op_model.specs.declared.anchor.Bias.TheVariants.{Left, Right}
 use Rattle.op_model.proofs.anchors.AnchorPlaces.{number}
 use Rattle.op_model.proofs.answers.MadeGood.{text_number}
 
-upto_take : (s : List Cell) (c : Cell) → cells_upto s c ≡ take (length (cells_upto s c)) s
+pub upto_take : (s : List Cell) (c : Cell) → cells_upto s c ≡ take (length (cells_upto s c)) s
 upto_take [] c = refl
 upto_take (d ∷ s) c = elim (same_cell d c) as (λ b. cond b (d ∷ []) (d ∷ cells_upto s c) ≡ take (length (cond b (d ∷ []) (d ∷ cells_upto s c))) (d ∷ s))
     [ true ↦ refl | false ↦ ap (λ r. d ∷ r) (upto_take s c) ]
 
-before_take : (s : List Cell) (c : Cell) → cells_before s c ≡ take (length (cells_before s c)) s
+pub before_take : (s : List Cell) (c : Cell) → cells_before s c ≡ take (length (cells_before s c)) s
 before_take [] c = refl
 before_take (d ∷ s) c = elim (same_cell d c) as (λ b. cond b [] (d ∷ cells_before s c) ≡ take (length (cond b [] (d ∷ cells_before s c))) (d ∷ s))
     [ true ↦ refl | false ↦ ap (λ r. d ∷ r) (before_take s c) ]
 
-take_number : (f : Cell → Bool) (m n : ℕ) (s : List Cell) → m ≤ n → number f (take m s) ≤ number f (take n s)
+pub take_number : (f : Cell → Bool) (m n : ℕ) (s : List Cell) → m ≤ n → number f (take m s) ≤ number f (take n s)
 take_number f zero n s h = omega arith
 take_number f (suc m) zero s h = absurd (omega arith)
 take_number f (suc m) (suc n) [] h = omega arith
@@ -39,7 +39,7 @@ take_number f (suc m) (suc n) (d ∷ s) h = let k = take_number f m n s (omega a
     [ true ↦ omega (arith, k) | false ↦ k ]
 
 -- an anchor's place is the number of the cells shown before its gap
-gap_place : (h : History) (a : Anchor) → place h a ≡ number (shows h) (take (gap h a).0 (cells (seq h)))
+pub gap_place : (h : History) (a : Anchor) → place h a ≡ number (shows h) (take (gap h a).0 (cells (seq h)))
 unfolding place gap
 gap_place h Least = refl
 gap_place h Greatest = text_number h ∙ ap (number (shows h)) (sym (take_all (length (seq h)) (cells (seq h)) (let n = length-map (seq h) (λ (p : PathCell). p.cell) in omega arith)))
@@ -85,7 +85,7 @@ got_seam (d ∷ cs) c ds = got_seam cs c ds
 abbrev pub StandsAt : History → Cell → ℕ → Type 0
 StandsAt h c n = (slice_get (cells (seq h)) n ≡ Some c) × (n < length (seq h))
 
--- what an order tells
+-- what an order says
 pub have_order : (h : History) (a b : Anchor) (o : Ordering) → known_order h a b ≡ Some o → (is_known h a ≡ true) × (is_known h b ≡ true) × (compare_anchors h a b ≡ o)
 have_order h a b o e = go (cases_Bool (is_known h a && is_known h b))
   where

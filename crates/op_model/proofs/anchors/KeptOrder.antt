@@ -39,7 +39,7 @@ pos s c = length (cells_before s c)
 same_itself : (c d : Cell) → c ≡ d → same_cell d c ≡ false → ⊥
 same_itself c d q n = let r : same_cell d d ≡ false = subst (λ (x : Cell). same_cell d x ≡ false) q n in let t = same_cell_refl d in cc
 
-upto_pos : (s : List Cell) (c : Cell) → Member c s → length (cells_upto s c) ≡ suc (pos s c)
+pub upto_pos : (s : List Cell) (c : Cell) → Member c s → length (cells_upto s c) ≡ suc (pos s c)
 upto_pos [] c m = absurd m
 upto_pos (d ∷ s) c m = go (cases_Bool (same_cell d c)) (λ n. upto_pos s c n)
   where
@@ -47,7 +47,7 @@ upto_pos (d ∷ s) c m = go (cases_Bool (same_cell d c)) (λ n. upto_pos s c n)
     go (inl e) f = rw e refl
     go (inr e) f = rw e (ap suc (f (elim m [ inl q ↦ absurd (same_itself c d q e) | inr n ↦ n ])))
 
--- a place in a text: before all cells, at one, or behind all
+-- a place in a text: before all cells, at one, or after all
 data Spot : Type 0 where
   Low High : Spot
   On : Cell → Spot
@@ -132,7 +132,7 @@ module _ (f : Cell → Bool) where
 
 -- ---- the order of gaps
 
--- a gap behind a place, or before it
+-- a gap after a place, or before it
 abbrev gap_of : Bias → ℕ → ℕ × ℕ
 gap_of Left p = (p, 0)
 gap_of Right p = (p - 1, 1)
@@ -149,7 +149,7 @@ is_more x y o l = let t : ltb x y ≡ false = le-ltb x y (omega arith) in let e 
 is_equal : (x y : ℕ) (o : Ordering) → x ≡ y → ordering_then (nat_cmp x y) o ≡ o
 is_equal x y o e = let t : ltb x y ≡ false = le-ltb x y (omega arith) in let q : eqb x y ≡ true = eq-eqb x y e in rw (t, q) refl
 
--- places at or behind the first cell are those of Right anchors
+-- places at or after the first cell are those of Right anchors
 abbrev Fits : Bias → ℕ → Type 0
 Fits Left p = Unit {0}
 Fits Right p = 0 < p

@@ -1,5 +1,5 @@
 -- Anchors that are made at a boundary resolve to it.
-use Rattle.std.proofs.Common.{◌≡◌, ℕ, zero, suc, ◌<◌, ◌≤◌, ◌⊎◌, Bool, List, [], ◌∷◌, ◌++◌, length, map, get_or, refl, sym, ◌∙◌, ap, subst, inl, inr, true, false, cond, eqb, ltb, arith, Some, None, Option, ◌-◌}
+use Rattle.std.proofs.Common.{◌≡◌, ℕ, zero, suc, ◌<◌, ◌≤◌, ◌⊎◌, Bool, List, [], ◌∷◌, ◌++◌, length, map, get_or, refl, sym, ◌∙◌, ap, subst, inl, inr, true, false, cond, eqb, ltb, arith, Some, None, Option}
 use Rattle.std.specs.Prelude.{option_map, slice_get, is_some, not, IsCharBoundary}
 use Rattle.std.specs.List.{AllByRecursion, filter}
 use Rattle.std.proofs.lemmas.Bool.{cases_Bool, ltb-false, le-leb, not-false}
@@ -29,7 +29,7 @@ use Rattle.op_model.proofs.anchors.KnownAnchors.{edit_there, got_map, right_know
 use Rattle.op_model.proofs.texts.WholeRuns.{Texts, told_apart, told_last}
 use Rattle.op_model.proofs.texts.WholeWalks.{texts_of}
 
--- ---- what stands before and behind a shown cell
+-- ---- what stands before and after a shown cell
 
 -- s is xs, then c, then ys, and o of xs pass
 abbrev Around : (Cell → Bool) → List Cell → ℕ → Cell → Type 0
@@ -75,7 +75,7 @@ module _ (h : History) (l : Lawful h) (proper : AllByRecursion IsProper h) where
   d : Distinct h
   d = (lawful_ready h l).0.distinct
 
-  -- where the text has a boundary behind a shown cell, a character of the cell's text ends behind it
+  -- where the text has a boundary after a shown cell, a character of the cell's text ends after it
   left_end : (o : ℕ) (c : Cell) → slice_get (shown_cells h) o ≡ Some c → is_boundary (text h) (suc o) ≡ true → IsCharBoundary (new_bytes h c.stamp) (suc c.k)
   left_end o c q b = go (around (shows h) (cells (seq h)) o c q)
     where

@@ -1,5 +1,5 @@
 -- Where the cells of known anchors stand.
-use Rattle.std.proofs.Common.{ℕ, ◌≡◌, List, length, refl, true, arith, ◌-◌, ◌<◌, ◌∷◌, ◌+◌, ◌++◌, ◌&&◌, ltb, ◌≤◌, leb, ◌∙◌, ap, zero, suc, Some, ◌⊎◌, sym, inl, inr, false, None, Bool, cond}
+use Rattle.std.proofs.Common.{ℕ, ◌≡◌, List, length, refl, true, arith, ◌-◌, ◌<◌, ◌∷◌, ◌++◌, ◌&&◌, ltb, ◌≤◌, leb, ◌∙◌, ap, zero, suc, Some, ◌⊎◌, sym, inl, inr, false, None, Bool, cond}
 use Rattle.std.proofs.lemmas.Bool.{le-leb, and_parts, ltb-true, leb-true, cases_Bool, ltb-false, cases_lt, eq-eqb}
 use Rattle.std.proofs.lemmas.List.{length-map}
 use Rattle.std.proofs.lemmas.Option.{none-some}
@@ -10,7 +10,9 @@ use Rattle.op_model.specs.Histories.{History, has_edit}
 use Rattle.op_model.specs.Cells.{Cell, seq, cells}
 use Rattle.op_model.specs.Shown.{new_bytes, byte, text}
 use Rattle.op_model.specs.Lawful.{Lawful}
-use Rattle.op_model.proofs.MainLaws.{each_cell_once, texts_are_shown_cells}
+use Rattle.op_model.proofs.order.CellsOnce.{all_cells}
+use Rattle.op_model.proofs.answers.Good.{lawful_ready}
+use Rattle.op_model.proofs.answers.SameAnswers.{text_is}
 use Rattle.op_model.proofs.Elements.{split_at, none_past}
 use Rattle.op_model.specs.Anchors.{is_known, shown_cells, left_anchor, place_fault, right_anchor}
 use Rattle.op_model.specs.declared.anchor.Anchor.TheVariants.{At, Least, Greatest}
@@ -25,7 +27,7 @@ end_boundary xs i e = rw (le-leb i (length xs) (omega (arith, e)), le-leb (lengt
 
 -- the cells of a history split at one of them
 pub split_cell : (h : History) → Lawful h → (c : Cell) → c.k < length (new_bytes h c.stamp) → (cs ds : List Cell) × (cells (seq h) ≡ cs ++ c ∷ ds)
-split_cell h l c i = split_at c (cells (seq h)) (((each_cell_once h l).2 c).1 i)
+split_cell h l c i = split_at c (cells (seq h)) ((all_cells h (lawful_ready h l).0.distinct c).1 i)
 
 -- the cell that a known anchor names
 pub right_cell : (h : History) (t : Lamport) (k : ℕ) → is_known h (At t k Right) ≡ true → k < length (new_bytes h t)
@@ -44,7 +46,7 @@ left_cell h t k e =
 -- ---- anchors
 
 pub text_length : (h : History) → Lawful h → length (text h) ≡ length (shown_cells h)
-text_length h l = ap length (texts_are_shown_cells h l).0 ∙ length-map (shown_cells h) (byte h)
+text_length h l = ap length (text_is h (lawful_ready h l).0.distinct) ∙ length-map (shown_cells h) (byte h)
 
 pub left_start : (h : History) (o : ℕ) → o ≡ 0 → left_anchor h o ≡ Some Least
 unfolding left_anchor

@@ -1,4 +1,5 @@
--- An operation with the clock's stamp and the version of a lawful history passes every case but those of its pieces and counts.
+-- An operation with the clock's stamp and the version of a lawful history passes every case but those of its pieces and
+-- counts.
 use Rattle.op_model.proofs.Elements.{each_map, and_not, eqb_less, any_member}
 use Rattle.std.proofs.Common.{◌≡◌, ℕ, ◌<◌, ◌≤◌, ◌⊎◌, Bool, [], ◌∷◌, ◌++◌, refl, sym, ◌∙◌, ap, subst, inl, inr, true, false, not, ◌||◌, ◌&&◌, eqb, ltb, leb, arith, None}
 use Rattle.std.proofs.lemmas.List.{append-nil}

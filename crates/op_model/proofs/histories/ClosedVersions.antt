@@ -1,4 +1,5 @@
--- Closed versions: that of a front sees that front, and what one sees is lawful, with the cells and the deletions that it sees.
+-- Closed versions: that of a front sees that front, and what one sees is lawful, with the cells and the deletions that
+-- it sees.
 use Rattle.std.proofs.Common.{◌≡◌, ℕ, suc, ◌<◌, ◌≤◌, ◌⊎◌, Bool, List, [], ◌∷◌, ◌++◌, map, refl, sym, ◌∙◌, ap, subst, inl, inr, true, false, cond, not, ◌&&◌, eqb, ltb, leb, arith, append_assoc}
 use Rattle.std.proofs.lemmas.List.{append-nil}
 use Rattle.std.specs.List.{AllByRecursion, filter}

@@ -80,8 +80,8 @@ inv_of s t k c n = (c.0, go s c.1 n)
     go [] e f = tt
     go (x ∷ r) e f = ((e.0.0, e.0.1, from_no t k (path x) f.0), go r e.1 f.1)
 
--- what a new operation brings: its stamp is new and above all that its version sees, its version is closed, no operation of h
--- that is newer sees it or is seen by it, and its pieces begin within what its version sees
+-- what a new operation brings: its stamp is new and above all that its version sees, its version is closed, no
+-- operation of h that is newer sees it or is seen by it, and its pieces begin within what its version sees
 pub record Fits (h : History) (op : Operation) : Type 0 where
   pub fresh : AllByRecursion (λ (o : Operation). stamp_of o ≡ stamp_of op → ⊥) (newest_first h)
   pub above : (u : Lamport) → sees (version_of op) u ≡ true → later (stamp_of op) u ≡ true

@@ -1,4 +1,5 @@
--- An operation that comes late: where its stamp is not the greatest, its cells go into the sequence of the others all the same.
+-- An operation that comes late: where its stamp is not the greatest, its cells go into the sequence of the others all
+-- the same.
 use Rattle.std.proofs.Common.{◌≡◌, ◌⊎◌, Bool, List, [], ◌∷◌, refl, inl, inr, true, false}
 use Rattle.std.proofs.lemmas.List.{same_from_push}
 use Rattle.std.proofs.lemmas.Bool.{cases_Bool, and_left, and_right}

@@ -1,4 +1,5 @@
--- The definitions in their own words: left neighbours, cells and deletions by the sequence of the part that a version sees.
+-- The definitions in their own words: left neighbours, cells and deletions by the sequence of the part that a version
+-- sees.
 use Rattle.op_model.proofs.Elements.{each_map, each_append, false_from}
 use Rattle.std.proofs.Common.{◌≡◌, Bool, List, [], ◌∷◌, ◌++◌, map, refl, sym, ◌∙◌, ap, subst, inl, inr, true, false, cond, ◌&&◌, arith, append_assoc}
 use Rattle.std.proofs.lemmas.Bool.{leb-true}

@@ -180,7 +180,7 @@ starts_from h (op ∷ ops) r l s =
 starts_base : (t : List ℕ) → Starts (newest_first (base t ∷ [])) (base t ∷ [])
 starts_base t = ((omega arith, tt), tt)
 
--- a lawful history's sequence is its edits gone through by stamps, each text put directly after its left neighbour
+-- a lawful history's sequence is its edits replayed by stamps, each text put directly after its left neighbour
 pub lawful_replay : (h : History) → Lawful h → seq h ≡ replay (newest_first h)
 unfolding seq Aboves
 lawful_replay [] l = absurd l

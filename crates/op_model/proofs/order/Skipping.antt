@@ -83,7 +83,7 @@ abbrev pub Has : List PathCell → List Cell → Type 0
 Has [] q = ⊥
 Has (p ∷ s) q = (path p ≡ q) ⊎ Has s q
 
--- each front of q, put behind front, is the path of a place of s
+-- each front of q, put after front, is the path of a place of s
 abbrev pub AllOn : List PathCell → List Cell → List Cell → Type 0
 AllOn s front [] = Unit {0}
 AllOn s front (d ∷ q) = Has s (front ++ d ∷ []) × AllOn s (front ++ d ∷ []) q
@@ -136,7 +136,7 @@ has_before r (y ∷ s) q e h = elim h [
   | inr g ↦ has_before r s q e.1 g
 ]
 
--- the own stamp of the next place tells what its branch's stamp tells
+-- the stamp of the next place says the same as the stamp of its branch
 own_stamp : (s : List PathCell) (c : Cell) (p : List Cell) (w : List PathCell) (r : PathCell) (rest : List PathCell)
     → Cover s p w (r ∷ rest) → Fine s c p r → AllByRecursion (λ (y : PathCell). before r y ≡ true) rest → Later c.stamp w
     → later (root c p (path r)).stamp c.stamp ≡ later r.cell.stamp c.stamp

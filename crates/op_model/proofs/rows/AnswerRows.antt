@@ -6,6 +6,7 @@ use Rattle.op_model.specs.declared.faults.EditFault.TheVariants as edit_faults
 use Rattle.op_model.specs.declared.faults.UndoFault.TheVariants as undo_faults
 use Rattle.op_model.specs.declared.faults.OpFault.TheVariants.{BadStamp, NoBase, Reversed, Overlap, Conflict, Forked, OpenVersion, PastEnd, InsideChar, NoSuchEdit, Full}
 use Rattle.op_model.specs.declared.limits.Limits.{Limits as LimitsType}
+use Rattle.op_model.specs.declared.endings.Endings.TheVariants.{AsIs}
 use Rattle.op_model.specs.Histories.{History, base}
 use Rattle.op_model.specs.Shown.{text}
 use Rattle.op_model.specs.Made.{local_edit, local_edit_fault, local_undo_fault}
@@ -178,6 +179,6 @@ limits_of_a_base : (excess small [] 6 0 ≡ Some (record { unit = Bytes; held = 
 unfolding open_all
 limits_of_a_base = (refl, refl)
 
-limits_of_a_taken_edit : take_answer small (new_state (97 ∷ 98 ∷ 99 ∷ [])) (edit 2 1 v0 (piece 0 0 (120 ∷ 121 ∷ 122 ∷ []) ∷ [])) ≡ Refused (Full Bytes 3 3)
+limits_of_a_taken_edit : take_answer (record { limits = small; endings = AsIs }) (new_state (97 ∷ 98 ∷ 99 ∷ [])) (edit 2 1 v0 (piece 0 0 (120 ∷ 121 ∷ 122 ∷ []) ∷ [])) ≡ Refused (Full Bytes 3 3)
 unfolding open_all
 limits_of_a_taken_edit = refl

@@ -22,7 +22,7 @@ equal_values_other_order : text (base (97 ∷ 98 ∷ []) ∷ edit 2 2 v0 (piece 
 unfolding open_all
 equal_values_other_order = refl
 
--- b is deleted, Q goes in behind it
+-- b is deleted, Q goes in after it
 abbrev b_gone : History
 b_gone = base (97 ∷ 98 ∷ 99 ∷ []) ∷ edit 2 1 v0 (piece 1 2 [] ∷ []) ∷ []
 

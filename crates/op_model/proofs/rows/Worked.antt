@@ -8,6 +8,8 @@ use Rattle.op_model.specs.declared.operation.UndoCount.{UndoCount}
 use Rattle.op_model.specs.declared.operation.Operation.{Operation}
 use Rattle.op_model.specs.declared.operation.Operation.TheVariants.{Edit, Undo}
 use Rattle.op_model.specs.declared.limits.Limits.{Limits as LimitsType}
+use Rattle.op_model.specs.declared.endings.Endings.TheVariants.{AsIs}
+use Rattle.op_model.specs.Rules.{Rules}
 use Rattle.op_model.specs.Cells.{same_cell, sibling_first, seq_where, seq}
 use Rattle.op_model.specs.Laid.{replay}
 use Rattle.op_model.specs.Shown.{deleters_where, shows_where, shows, text_where, text, full_where, full}
@@ -38,6 +40,10 @@ v0 = (0, 1) ∷ []
 
 abbrev pub ample : LimitsType
 ample = record { bytes = 1099511627776; entries = 1099511627775 }
+
+-- the same limits, and texts as they come
+abbrev pub rules : Rules
+rules = record { limits = ample; endings = AsIs }
 
 unfoldable pub open_all : ℕ
 unfolding later same_stamp same_cell sibling_first seq_where seq replay deleters_where shows_where shows text_where text full_where full local_edit local_undo answer left_anchor right_anchor place gap compare_anchors is_known since pass passes settle

@@ -26,7 +26,7 @@ greatest_part p h r f = elim (cases_lt 0 (greatest p r)) [
 ]
 
 -- what a good operation has seen is in each history that has all before it
-good_within : (p h : History) (op : Operation) → answer p [] op ≡ Good → ((o : Operation) → In p o → In h o) → within (version_of op) (version h) ≡ true
+pub good_within : (p h : History) (op : Operation) → answer p [] op ≡ Good → ((o : Operation) → In p o → In h o) → within (version_of op) (version h) ≡ true
 good_within p h op g f = go (version_of op) (find_none (λ e. ltb (entry (version p) e.0) e.1) (version_of op) (passed p [] op g).caused)
   where
     go : (v : Entries) → AllByRecursion (λ (e : ℕ × ℕ). ltb (entry (version p) e.0) e.1 ≡ false) v → within v (version h) ≡ true

@@ -1,18 +1,18 @@
 -- An honest set that the limits hold is applied whole.
 use Rattle.std.proofs.Common.{◌≡◌, ℕ, ◌+◌, ◌≤◌, ◌⊎◌, Bool, List, [], ◌∷◌, ◌++◌, reverse, refl, sym, ◌∙◌, ap, subst, inl, inr, true, false, cond, eqb, arith, None}
 use Rattle.std.specs.List.{AllByRecursion}
-use Rattle.std.specs.Prelude.{IsUtf8}
 use Rattle.std.proofs.lemmas.Bool.{le-ltb}
 use Rattle.std.proofs.lemmas.Grind.{reverse_onto}
 use Rattle.op_model.specs.declared.operation.Operation.{Operation}
-use Rattle.op_model.specs.declared.limits.Limits.{Limits as LimitsType}
+use Rattle.op_model.specs.Rules.{Rules, rule_fault, KeepsRule}
 use Rattle.op_model.specs.Sorted.{Member}
 use Rattle.op_model.specs.Operations.{stamp_of, bytes_of, entries_of}
 use Rattle.op_model.specs.Histories.{History, In, SameSet, Distinct, base, bytes_held, entries_held, newest_first, oldest_first}
-use Rattle.op_model.specs.Domains.{IsReplica}
+use Rattle.op_model.specs.Domains.{IsProper, IsReplica}
 use Rattle.op_model.specs.Lawful.{Lawful, Honest}
 use Rattle.op_model.specs.Settled.{full_fault}
-use Rattle.op_model.specs.Steps.{Step, new_state, run, settle_step, IsProperStep}
+use Rattle.op_model.specs.Steps.{Step, run, settle_step, IsProperStep, NoneForgotten}
+use Rattle.op_model.specs.Opened.{state_of}
 use Rattle.op_model.specs.Brought.{operations_of_calls, NoFull}
 use Rattle.op_model.proofs.order.SameSets.{each_in, newest_same}
 use Rattle.op_model.proofs.histories.Lawful.{in_append}
@@ -21,7 +21,7 @@ use Rattle.op_model.proofs.histories.MoreLawful.{lawful_more}
 use Rattle.op_model.proofs.histories.VersionLaws.{shaped_good}
 use Rattle.op_model.proofs.histories.Append.{bytes_held-append, entries_held-append}
 use Rattle.op_model.proofs.texts.WholeTexts.{in_last}
-use Rattle.op_model.proofs.settling.HonestRuns.{Roomy, room_enough, applied_whole}
+use Rattle.op_model.proofs.settling.HonestRuns.{Roomy, Fits, room_enough, applied_whole}
 use Rattle.op_model.proofs.Elements.{member_left}
 
 -- ---- the list by stamps has the same operations
@@ -79,11 +79,11 @@ entries_total (op ∷ h) = go (eqb (stamp_of op).replica 0) (entries_total h)
 
 -- ---- the limits hold a set where they hold it whole
 
-holds_more : (l : LimitsType) (h : History) (op : Operation) → bytes_held h + bytes_of op ≤ l.bytes → entries_held h + entries_of op ≤ l.entries → full_fault l h op ≡ None
-holds_more l h op b e = rw (le-ltb l.bytes (bytes_held h + bytes_of op) b, le-ltb l.entries (entries_held h + entries_of op) e) refl
+pub holds_more : (l : Rules) (h : History) (op : Operation) → bytes_held h + bytes_of op ≤ l.limits.bytes → entries_held h + entries_of op ≤ l.limits.entries → full_fault l h op ≡ None
+holds_more l h op b e = rw (le-ltb l.limits.bytes (bytes_held h + bytes_of op) b, le-ltb l.limits.entries (entries_held h + entries_of op) e) refl
 
-pub roomy : (l : LimitsType) (ops g : History) (lg : Lawful g) → ((o : Operation) → In g o → In ops o) → bytes_held ops ≤ l.bytes → entries_held ops ≤ l.entries → Roomy l g lg
-roomy l ops g lg f b e h op p i a = holds_more l h op
+pub roomy : (l : Rules) (ops g : History) (lg : Lawful g) (kg : (o : Operation) → In g o → rule_fault l.endings o ≡ None) → ((o : Operation) → In g o → In ops o) → bytes_held ops ≤ l.limits.bytes → entries_held ops ≤ l.limits.entries → Roomy l g lg kg
+roomy l ops g lg kg f b e h op p i a = holds_more l h op
     (let s = part_total bytes_of n ops d inside in let m = bytes_held-append h op in let x = bytes_total n in let y = bytes_total ops in omega arith)
     (let s = part_total added_entries n ops d inside in let m = entries_held-append h op in let x = entries_total n in let y = entries_total ops in let z = own in omega arith)
   where
@@ -99,22 +99,35 @@ roomy l ops g lg f b e h op p i a = holds_more l h op
     own : added_entries op ≡ entries_of op
     own = rw ((stamp_parts op (shaped_good h op a)).2) refl
 
-module _ (l : LimitsType) (r : ℕ) (t : List ℕ) (cs : List Step) (ops : List Operation) (ir : IsReplica r) (u : IsUtf8 t) (p : AllByRecursion IsProperStep cs) (ho : Honest ops) (b : In ops (base t))
-    (inside : (o : Operation) → Member o (operations_of_calls l r cs (new_state t)) → In ops o) (all : (o : Operation) → In ops o → (o ≡ base t) ⊎ Member o (operations_of_calls l r cs (new_state t))) where
+-- a buffer that was opened with the list g
+module _ (l : Rules) (r : ℕ) (g : List Operation) (cs : List Step) (ops : List Operation) (ir : IsReplica r) (lg : Lawful g) (pg : AllByRecursion IsProper g) (p : AllByRecursion IsProperStep cs) (nf0 : NoneForgotten cs) (ho : Honest ops) (ko : KeepsRule l.endings ops)
+    (part : (o : Operation) → In g o → In ops o) (inside : (o : Operation) → Member o (operations_of_calls l r cs (state_of g)) → In ops o)
+    (all : (o : Operation) → In ops o → In g o ⊎ Member o (operations_of_calls l r cs (state_of g))) where
   abbrev sorted : History
   sorted = oldest_first ops
 
-  first : In sorted (base t)
-  first = (oldest_same ops (base t)).1 b
+  clean : (o : Operation) → In sorted o → rule_fault l.endings o ≡ None
+  clean o i = each_in (λ (x : Operation). rule_fault l.endings x ≡ None) ops o ko ((oldest_same ops o).0 i)
 
-  of_sorted : (o : Operation) → Member o (operations_of_calls l r cs (new_state t)) → In sorted o
+  of_sorted : (o : Operation) → Member o (operations_of_calls l r cs (state_of g)) → In sorted o
   of_sorted o m = (oldest_same ops o).1 (inside o m)
 
-  pub honest_applied : NoFull l r cs (new_state t) → SameSet (settle_step l (run l r cs (new_state t))).history ops
+  first_in : (h : History) → Lawful h → (t : List ℕ) × In h (base t)
+  first_in [] i = absurd i
+  first_in (op ∷ h) i = (i.0.0, inl (sym i.0.1))
+
+  starts : Fits l sorted ho clean (state_of g)
+  starts = ((lg, λ o i. (oldest_same ops o).1 (part o i)), tt)
+
+  pub honest_applied : NoFull l r cs (state_of g) → SameSet (settle_step l (run l r cs (state_of g))).history ops
   honest_applied nf =
       let same = oldest_same ops in
-      let whole = applied_whole l r t cs sorted ir u p ho first of_sorted nf (λ o i. all o ((same o).0 i)) in
+      let b = first_in g lg in
+      let whole = applied_whole l r b.0 cs (state_of g) sorted ir p nf0 ho clean (lg, pg, tt) starts b.1 of_sorted nf
+      (λ o i. elim (all o ((same o).0 i)) [ inl e ↦ inl (inl e) | inr m ↦ inr m ]) in
       λ o. ((λ i. (same o).0 ((whole o).0 i)), (λ i. (whole o).1 ((same o).1 i)))
 
-  pub honest_whole : bytes_held ops ≤ l.bytes → entries_held ops ≤ l.entries → SameSet (settle_step l (run l r cs (new_state t))).history ops
-  honest_whole bytes entries = honest_applied (room_enough l r t cs sorted ir u p ho first of_sorted (roomy l ops sorted ho (λ o i. (oldest_same ops o).0 i) bytes entries))
+  pub honest_whole : bytes_held ops ≤ l.limits.bytes → entries_held ops ≤ l.limits.entries → SameSet (settle_step l (run l r cs (state_of g))).history ops
+  honest_whole bytes entries =
+      let b = first_in g lg in
+      honest_applied (room_enough l r b.0 cs (state_of g) sorted ir p nf0 ho clean (lg, pg, tt) starts b.1 of_sorted (roomy l ops sorted ho clean (λ o i. (oldest_same ops o).0 i) bytes entries) refl)

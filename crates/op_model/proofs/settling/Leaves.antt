@@ -5,9 +5,9 @@ use Rattle.op_model.specs.Operations.{stamp_of}
 use Rattle.op_model.specs.Histories.{operation_at, History}
 use Rattle.op_model.specs.Steps.{older}
 use Rattle.op_model.proofs.answers.Passed.{none_find}
-use Rattle.op_model.specs.declared.limits.Limits.{Limits as LimitsType}
+use Rattle.op_model.specs.Rules.{Rules}
 use Rattle.op_model.specs.Settled.{pass, State, Turn, turn}
-use Rattle.op_model.proofs.settling.Settling.{pass_keeps, after, pass_is}
+use Rattle.op_model.proofs.settling.Settling.{append_good, pass_keeps, after, pass_is}
 use Rattle.op_model.specs.Sorted.{Ascending}
 use Rattle.op_model.specs.Settled.Turn.{Append, Drop, Stay, Refuse}
 use Rattle.op_model.specs.Lawful.{Lawful}
@@ -24,10 +24,10 @@ not_found op w u = none_find (λ o. same_stamp (stamp_of o) (stamp_of op)) w
 
 -- ---- what passes keep
 
-pub each_kept : (Q : Operation → Type 0) (l : LimitsType) (h : History) (w : List Operation) → AllByRecursion Q w → AllByRecursion Q (pass l h w).waiting
+pub each_kept : (Q : Operation → Type 0) (l : Rules) (h : History) (w : List Operation) → AllByRecursion Q w → AllByRecursion Q (pass l h w).waiting
 each_kept Q l h w e = (pass_keeps l (λ h. Unit {0}) Q (λ h op a b c. tt) h w tt e).1
 
-pub pass_up : (l : LimitsType) (h : History) (w : List Operation) → Ascending older w → Ascending older (pass l h w).waiting
+pub pass_up : (l : Rules) (h : History) (w : List Operation) → Ascending older w → Ascending older (pass l h w).waiting
 pass_up l h [] u = subst (λ (s : State). Ascending older s.waiting) (sym (pass_nil l h)) tt
 pass_up l h (op ∷ w) u = subst (λ (s : State). Ascending older s.waiting) (sym (pass_is l h op w)) (go (turn l h op) (pass_up l (h ++ op ∷ []) w u.1) (pass_up l h w u.1))
   where
@@ -37,5 +37,5 @@ pass_up l h (op ∷ w) u = subst (λ (s : State). Ascending older s.waiting) (sy
     go Stay a b = (each_kept (λ (o : Operation). older op o ≡ true) l h w u.0, b)
     go (Refuse f) a b = b
 
-pub pass_lawful : (l : LimitsType) (h : History) (w : List Operation) → Lawful h → Lawful (pass l h w).history
-pass_lawful l h w p = (pass_keeps l Lawful (λ op. Unit {0}) (λ g op a b c. lawful_more g op a c) h w p (each_unit w)).0
+pub pass_lawful : (l : Rules) (h : History) (w : List Operation) → Lawful h → Lawful (pass l h w).history
+pass_lawful l h w p = (pass_keeps l Lawful (λ op. Unit {0}) (λ g op a b e. lawful_more g op a (append_good l g op e)) h w p (each_unit w)).0

@@ -6,7 +6,7 @@ use Rattle.lamport_clock.specs.declared.stamp.Lamport.{Lamport}
 use Rattle.lamport_clock.specs.Versions.{Entries, entry, within}
 use Rattle.lamport_clock.proofs.Later.{not_below}
 use Rattle.op_model.specs.declared.operation.Operation.{Operation}
-use Rattle.op_model.specs.declared.limits.Limits.{Limits as LimitsType}
+use Rattle.op_model.specs.Rules.{Rules}
 use Rattle.op_model.specs.Sorted.{Ascending}
 use Rattle.op_model.specs.Operations.{stamp_of, version_of}
 use Rattle.op_model.specs.Histories.{History, In, version}
@@ -21,7 +21,7 @@ use Rattle.op_model.proofs.answers.Good.{stamp_parts, entry_named, named}
 use Rattle.op_model.proofs.settling.Settling.{after, pass_is, append_good, stay_misses}
 
 -- what a pass adds was waiting
-pass_adds : (l : LimitsType) (h : History) (w : List Operation) (m : Operation) → In (pass l h w).history m → In h m ⊎ In w m
+pub pass_adds : (l : Rules) (h : History) (w : List Operation) (m : Operation) → In (pass l h w).history m → In h m ⊎ In w m
 unfolding pass
 pass_adds l h [] m i = inl i
 pass_adds l h (op ∷ w) m i = go (turn l h op) (subst (λ (s : State). In s.history m) (pass_is l h op w) i) (λ j. pass_adds l (h ++ op ∷ []) w m j) (λ j. pass_adds l h w m j)
@@ -40,8 +40,9 @@ pass_adds l h (op ∷ w) m i = go (turn l h op) (subst (λ (s : State). In s.his
     go Stay j f g = tail (g j)
     go (Refuse x) j f g = tail (g j)
 
--- an operation that missed a cause in h misses it in g, if g has nothing more of values below its own, or is not good there
-stuck : (l : LimitsType) (h g : History) (op : Operation) → turn l h op ≡ Stay → ((m : Operation) → In g m → (stamp_of m).value < (stamp_of op).value → In h m) → turn l g op ≡ Append → ⊥
+-- an operation that missed a cause in h misses it in g, if g has nothing more of values below its own, or is not good
+-- there
+stuck : (l : Rules) (h g : History) (op : Operation) → turn l h op ≡ Stay → ((m : Operation) → In g m → (stamp_of m).value < (stamp_of op).value → In h m) → turn l g op ≡ Append → ⊥
 stuck l h g op s f a =
     let p = passed g [] op (append_good l g op a) in
     let b = (stamp_parts op (shaped op p.shape).stamp).1 in
@@ -67,7 +68,7 @@ stuck l h g op s f a =
     go (e ∷ v) x y = let a = one e x.0 y.0 in rw a (go v x.1 y.1)
 
 -- what a pass leaves waiting is appended by no pass directly after it
-pass_stuck : (l : LimitsType) (h : History) (w : List Operation) → Ascending older w → AllByRecursion (λ (op : Operation). turn l (pass l h w).history op ≡ Append → ⊥) (pass l h w).waiting
+pub pass_stuck : (l : Rules) (h : History) (w : List Operation) → Ascending older w → AllByRecursion (λ (op : Operation). turn l (pass l h w).history op ≡ Append → ⊥) (pass l h w).waiting
 unfolding pass
 pass_stuck l h [] u = tt
 pass_stuck l h (op ∷ w) u = subst (λ (s : State). AllByRecursion (λ (o : Operation). turn l s.history o ≡ Append → ⊥) s.waiting) (sym (pass_is l h op w))
@@ -87,7 +88,7 @@ pass_stuck l h (op ∷ w) u = subst (λ (s : State). AllByRecursion (λ (o : Ope
     go Stay e a b = (stuck l h (pass l h w).history op e behind, b)
     go (Refuse x) e a b = b
 
-unmoved : (l : LimitsType) (h : History) (w : List Operation) → AllByRecursion (λ (op : Operation). turn l h op ≡ Append → ⊥) w → (pass l h w).history ≡ h
+unmoved : (l : Rules) (h : History) (w : List Operation) → AllByRecursion (λ (op : Operation). turn l h op ≡ Append → ⊥) w → (pass l h w).history ≡ h
 unfolding pass
 unmoved l h [] e = refl
 unmoved l h (op ∷ w) e = ap (λ (s : State). s.history) (pass_is l h op w) ∙ go (turn l h op) refl (unmoved l h w e.1)
@@ -98,11 +99,11 @@ unmoved l h (op ∷ w) e = ap (λ (s : State). s.history) (pass_is l h op w) ∙
     go Stay q f = f
     go (Refuse x) q f = f
 
-last_pass : (n : ℕ) (l : LimitsType) (h : History) (w : List Operation) → (pass l h w).history ≡ h → passes (suc n) l h w ≡ pass l h w
+last_pass : (n : ℕ) (l : Rules) (h : History) (w : List Operation) → (pass l h w).history ≡ h → passes (suc n) l h w ≡ pass l h w
 unfolding passes
 last_pass n l h w e = let t : eqb (length (pass l h w).history) (length h) ≡ true = ap (λ (g : History). eqb (length g) (length h)) e ∙ eq-eqb (length h) (length h) refl in rw t refl
 
-two : (n m : ℕ) (l : LimitsType) (h : History) (w : List Operation) → Ascending older w → passes (suc (suc n)) l h w ≡ passes (suc (suc m)) l h w
+two : (n m : ℕ) (l : Rules) (h : History) (w : List Operation) → Ascending older w → passes (suc (suc n)) l h w ≡ passes (suc (suc m)) l h w
 unfolding passes
 two n m l h w u =
     let s : State = pass l h w in
@@ -110,10 +111,10 @@ two n m l h w u =
     let q : passes (suc n) l s.history s.waiting ≡ passes (suc m) l s.history s.waiting = last_pass n l s.history s.waiting e ∙ sym (last_pass m l s.history s.waiting e) in
     ap (λ (r : State). cond (eqb (length s.history) (length h)) s (record { history = r.history; waiting = r.waiting; refused = s.refused ++ r.refused })) q
 
-pub two_passes : (l : LimitsType) (h : History) (w : List Operation) → Ascending older w → settle l h w ≡ passes 2 l h w
+pub two_passes : (l : Rules) (h : History) (w : List Operation) → Ascending older w → settle l h w ≡ passes 2 l h w
 unfolding settle
 two_passes l h [] u = none l h
   where
-    none : (l : LimitsType) (h : History) → passes 1 l h [] ≡ passes 2 l h []
+    none : (l : Rules) (h : History) → passes 1 l h [] ≡ passes 2 l h []
     none l h = last_pass 0 l h [] (unmoved l h [] tt) ∙ sym (last_pass 1 l h [] (unmoved l h [] tt))
 two_passes l h (x ∷ w) u = two (length w) 0 l h (x ∷ w) u

@@ -68,7 +68,7 @@ module _ (h : History) (op : Operation) (r : Ready h) (k : Counted h) (g : answe
   undo_shown e c = shown_more h op c fits
       ∙ rw (hits_none op (newest_first h) c (no_pieces op e), undone_now c.stamp, all_now (deleters_where everything (newest_first h) c)) refl
 
-  -- what is told of each cell by the new counts
+  -- the fact of each cell by the new counts
   pub told_anew : is_edit op ≡ false → cell_facts (h ++ op ∷ []) ≡ map (fact_anew (h ++ op ∷ [])) (cell_facts h)
   told_anew e = undo_told h op r g e ∙ ap (λ (f : Fact → Fact). map f (cell_facts h)) (λ i q. record { cell = q.cell; visible = now q i; deletions = q.deletions })
     where

@@ -115,7 +115,8 @@ pub kept_all : (h : History) → kept_history everything h ≡ h
 kept_all [] = refl
 kept_all (o ∷ h) = ap (λ (x : History). o ∷ x) (kept_all h)
 
--- a cell is shown with op where its edit is not undone, the edits that deleted it are undone, and op, if it deletes the cell, is undone
+-- a cell is shown with op where its edit is not undone, the edits that deleted it are undone, and op, if it deletes the
+-- cell, is undone
 pub shown_more : (h : History) (op : Operation) (c : Cell) → Fits h op
     → let d = newest_first h in let e = by_stamp op d in
     shows (h ++ op ∷ []) c ≡ (not (is_undone e c.stamp) && (cond (hits everything op d c) (is_undone e (stamp_of op)) true && are_undone e (deleters_where everything d c)))

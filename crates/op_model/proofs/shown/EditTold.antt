@@ -1,4 +1,4 @@
--- What is told of a history with one edit more, from what was told before.
+-- The facts of a history with one edit more, from the facts before.
 use Rattle.std.proofs.Common.{◌≡◌, ℕ, ◌%◌, max, Bool, List, [], ◌∷◌, ◌++◌, refl, sym, ◌∙◌, ap, true, false, cond, not, ◌&&◌, eqb, arith}
 use Rattle.std.specs.List.{AllByRecursion}
 use Rattle.lamport_clock.specs.declared.stamp.Lamport.{Lamport}

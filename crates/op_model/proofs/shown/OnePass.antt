@@ -1,4 +1,4 @@
--- The walk over runs that tell of a history tells of it with one edit more.
+-- The walk over runs that stand for a history makes runs that stand for it with one edit more.
 use Rattle.std.proofs.Common.{◌≡◌, ℕ, zero, suc, ◌+◌, ◌%◌, max, eqb, ◌<◌, Bool, List, [], ◌∷◌, ◌++◌, length, map, refl, sym, ◌∙◌, ap, subst, inl, inr, true, false, cond, arith}
 use Rattle.std.proofs.lemmas.Bool.{cases_Bool}
 use Rattle.std.specs.List.{AllByRecursion, filter}

@@ -1,4 +1,4 @@
--- What is told of the cells of a history with one edit more.
+-- What is known of the cells of a history with one edit more.
 use Rattle.op_model.proofs.order.PathOrder.{same_cell_refl as same_self}
 use Rattle.std.proofs.Math.Bool.{or-false}
 use Rattle.op_model.proofs.Elements.{each_map, each_both}
@@ -58,7 +58,7 @@ module _ (gv : Cell → Bool) (gd : Cell → List Lamport) where
         ∙ ap (λ (j : ℕ). put_at j t (alike t k (length p.text) true []) (telling r)) (sym (tell_nth keep r p.start) ∙ ap (fact_index_after keep (telling r)) n)
         ∙ ap (λ (z : List Fact). put_at (fact_index_after keep z (p.start - 0)) t (alike t k (length p.text) true []) z) (tell_lay keep (k + length p.text) ps s)
 
--- told anew, those in ranges are marked
+-- the facts after the edit: those in ranges are marked
 module _ (m : Marking) (keep : Lamport → Bool) (ps : List Piece)
     (gv hv : Cell → Bool) (gd hd : Cell → List Lamport) where
   abbrev Anew : List PathCell → ℕ → PathCell → Type 0

@@ -1,4 +1,4 @@
--- An undo sets visibilities anew.
+-- An undo sets every visibility again.
 use Rattle.std.proofs.Common.{◌≡◌, ℕ, suc, List, [], ◌∷◌, ◌++◌, map, refl, ◌∙◌, ap, false}
 use Rattle.op_model.specs.declared.operation.Operation.{Operation}
 use Rattle.op_model.specs.Histories.{History, newest_first, by_stamp}
@@ -33,7 +33,7 @@ no_pieces (Undo x) e = refl
 pub hits_none : (op : Operation) (h : History) (c : Cell) → pieces_of op ≡ [] → hits everything op h c ≡ false
 hits_none op h c e = rw (e, no_ranges (seq_where (both everything (version_of op)) h) 0 c) refl
 
--- what is told after an undo
+-- the facts after an undo
 pub undo_told : (h : History) (op : Operation) → Ready h → answer h [] op ≡ Good → is_edit op ≡ false
     → cell_facts (h ++ op ∷ []) ≡ map (fact_anew (by_stamp op (newest_first h))) (cell_facts h)
 undo_told h op r g i =

@@ -6,7 +6,7 @@ use Rattle.op_model.specs.Cells.{Cell}
 use Rattle.op_model.proofs.shown.Deleters.{kept_all}
 use Rattle.op_model.proofs.shown.OnePass.{undone_newest, all_newest}
 
--- ---- what is told of a cell is told by the counts
+-- ---- what is known of a cell, by the counts
 
 pub shown_seen : (h : History) (c : Cell) → shows h c ≡ visible_by h c.stamp (deleters h c)
 unfolding shows shows_where

@@ -50,7 +50,7 @@ module _ {A : Type 0} (f : A → ℕ) (a b : A → Bool) (whole : List A) where
   abbrev Fine : List A → Type 0
   Fine s = IsUtf8 (was f a b s) × IsUtf8 (now f a b s)
 
-  -- s is all, or stands behind one that is kept
+  -- s is all, or stands after one that is kept
   abbrev Behind : List A → Type 0
   Behind s = (whole ≡ s) ⊎ ((pre : List A) × (x : A) × (whole ≡ pre ++ x ∷ s) × (a x ≡ true) × (b x ≡ true))
 
@@ -81,7 +81,7 @@ module _ {A : Type 0} (f : A → ℕ) (a b : A → Bool) (whole : List A) where
       abbrev Bounded : List (List Fate) → List A → Type 0
       Bounded rs s = Behind s → (old new : ℕ) → old ≤ length old_text → new ≤ length new_text → drop old old_text ≡ was f a b s → drop new new_text ≡ now f a b s → AllByRecursion At (edits_of old new rs)
 
-      -- a place with UTF-8 behind it
+      -- a place with UTF-8 after it
       bound : (xs : List ℕ) (i : ℕ) (s : List ℕ) → i ≤ length xs → drop i xs ≡ s → IsUtf8 s → IsCharBoundary xs i
       bound xs i s l e u = IsCharBoundary-from_drop xs i l (subst IsUtf8 (sym e) u)
 
@@ -158,7 +158,7 @@ module _ (h : History) (l : Lawful h) (proper : AllByRecursion IsProper h) (v : 
   d : Distinct h
   d = (lawful_ready h l).0.distinct
 
-  -- whether a cell was shown, by what is told of it
+  -- whether a cell was shown, by its fact
   abbrev was_told : Lamport → Bool → List Lamport → Bool
   was_told t x e = sees v t && was_visible (seen_history h v) v t e
 

@@ -1,5 +1,5 @@
 -- The shown, the hidden and the whole text, cell by cell.
-use Rattle.std.proofs.Common.{[], ◌≡◌, ◌+◌, length, refl, ◌∙◌, ap, arith, ◌-◌, not, List, map, sym, Bool, ◌∷◌, true, false, cond}
+use Rattle.std.proofs.Common.{[], ◌≡◌, ◌+◌, length, refl, ◌∙◌, ap, arith, not, List, map, sym, Bool, ◌∷◌, true, false, cond}
 use Rattle.std.specs.List.{filter}
 use Rattle.std.proofs.lemmas.List.{length-map}
 use Rattle.std.proofs.lemmas.List.Filters.{length-filter_both}

@@ -1,5 +1,5 @@
 -- Pieces in order, and how much they bring.
-use Rattle.std.proofs.Common.{ℕ, [], ◌≡◌, zero, suc, ◌<◌, List, ◌∷◌, length, get_or, sym, arith, subst, ◌-◌, refl, length-append, ◌≤◌, drop, ◌+◌, drop-cons, ap, ◌∙◌}
+use Rattle.std.proofs.Common.{ℕ, [], ◌≡◌, zero, suc, ◌<◌, List, ◌∷◌, length, get_or, sym, arith, subst, refl, length-append, ◌≤◌, drop, ◌+◌, drop-cons, ap, ◌∙◌}
 use Rattle.std.specs.List.{AllByRecursion}
 use Rattle.op_model.specs.declared.operation.Piece.{Piece}
 use Rattle.op_model.specs.Operations.{text_total}

@@ -168,15 +168,15 @@ count_cells h (suc n) (c ∷ s) = pick (shows h c) (count_cells h n s)
     pick true e = ap suc e
     pick false e = e
 
-told_length : (h : History) (s : List Cell) → length (map (fact h) s) ≡ length s
+pub told_length : (h : History) (s : List Cell) → length (map (fact h) s) ≡ length s
 told_length h [] = refl
 told_length h (c ∷ s) = ap suc (told_length h s)
 
 module _ (h : History) where
-  start_count : (b : Cell → ℕ) (o : ℕ) → o ≤ length (text h) → count b (take (at h o) (cell_facts h)) ≡ o
+  pub start_count : (b : Cell → ℕ) (o : ℕ) → o ≤ length (text h) → count b (take (at h o) (cell_facts h)) ≡ o
   start_count b o l = let n = text_number h in count_cells h (at h o) (cells (seq h)) ∙ offset_count (shows h) (cells (seq h)) o (omega arith)
 
-  end_count : (b : Cell → ℕ) (s e : ℕ) → s ≤ e → e ≤ length (text h) → count b (take (full_end h s e) (cell_facts h)) ≡ e
+  pub end_count : (b : Cell → ℕ) (s e : ℕ) → s ≤ e → e ≤ length (text h) → count b (take (full_end h s e) (cell_facts h)) ≡ e
   end_count b s e l g = elim (cases_Bool (eqb s e)) [
     | inl q ↦ rw q (start_count b s (omega arith) ∙ eqb-true s e q)
     | inr q ↦ (let a : s < e = less_than s e l q in let n = text_number h in
@@ -234,7 +234,7 @@ module _ (h : History) where
         two : (s : List ℕ) (i j k l : ℕ) → i ≡ j → k ≡ l → slice_range s i k ≡ slice_range s j l
         two s i j k l e g = rw (e, g) refl
 
-each_facts : (h : History) (P : Fact → Type 0) → ((c : Cell) → (o : Operation) × In (newest_first h) o × (c.stamp ≡ stamp_of o) × (c.k < length (texts (pieces_of o))) → P (fact h c)) → AllByRecursion P (cell_facts h)
+pub each_facts : (h : History) (P : Fact → Type 0) → ((c : Cell) → (o : Operation) × In (newest_first h) o × (c.stamp ≡ stamp_of o) × (c.k < length (texts (pieces_of o))) → P (fact h c)) → AllByRecursion P (cell_facts h)
 unfolding seq
 each_facts h P f = go (seq_where everything (newest_first h)) (all_from (newest_first h))
   where
@@ -243,7 +243,7 @@ each_facts h P f = go (seq_where everything (newest_first h)) (all_from (newest_
     go (p ∷ s) e = (f p.cell e.0, go s e.1)
 
 -- what a version that sees all of h has seen of a cell is whether it is shown
-was_shown : (h : History) (op : Operation) → Fits h op → ((o : Operation) → In h o → sees (version_of op) (stamp_of o) ≡ true) → (c : Cell)
+pub was_shown : (h : History) (op : Operation) → Fits h op → ((o : Operation) → In h o → sees (version_of op) (stamp_of o) ≡ true) → (c : Cell)
     → was_visible (kept_history (sees (version_of op)) (newest_first h)) (version_of op) c.stamp (deleters h c) ≡ shows h c
 unfolding shows shows_where
 was_shown h op f s c =

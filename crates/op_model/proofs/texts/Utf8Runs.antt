@@ -118,7 +118,7 @@ module _ (byte_of : Cell → ℕ) where
   bytes_length t k zero v d = refl
   bytes_length t k (suc n) v d = ap suc (bytes_length t (suc k) n v d)
 
-  -- bytes do not depend on what is told
+  -- bytes do not depend on the status
   pub bytes_alike : (t : Lamport) (k n : ℕ) (v w : Bool) (d e : List Lamport) → bytes (alike t k n v d) ≡ bytes (alike t k n w e)
   bytes_alike t k zero v w d e = refl
   bytes_alike t k (suc n) v w d e = ap (λ z. byte_of (record { stamp = t; k = k }) ∷ z) (bytes_alike t (suc k) n v w d e)

@@ -37,7 +37,7 @@ utf8_new : (g : History) → Texts g → (t : Lamport) → IsUtf8 (new_bytes g t
 utf8_new [] u t = IsUtf8-nil
 utf8_new (o ∷ g) u t = elim (same_stamp (stamp_of o) t) as (λ b. IsUtf8 (cond b (texts (pieces_of o)) (new_bytes g t))) [ true ↦ utf8_texts (pieces_of o) u.0 | false ↦ utf8_new g u.1 t ]
 
--- a test that depends on what is told of a run passes all its cells or none
+-- a test that depends on the status of a run passes all its cells or none
 module _ (f : Cell → ℕ) (test : Lamport → Bool → List Lamport → Bool) where
   abbrev pub passes : Fact → Bool
   passes q = test q.cell.stamp q.visible q.deletions
@@ -62,7 +62,7 @@ module _ (h : History) (d : Distinct h) where
   pub byte_new : (t : Lamport) (k : ℕ) → byte_of h (record { stamp = t; k = k }) ≡ get_or (new_bytes h t) k 0
   byte_new t k = ap (λ (x : List ℕ). get_or x k 0) (bytes_same (newest_first h) h (desc_distinct (newest_first h) (newest_desc h d)) d (newest_same h) t)
 
-  -- the bytes of the cells of which a thing is told
+  -- the bytes of the cells with a status
   pub told_where : (test : Fact → Bool) (s : List Cell) → map (byte_of h) (filter (λ (c : Cell). test (fact h c)) s) ≡ bytes (byte_of h) (filter test (map (fact h) s))
   told_where test [] = refl
   told_where test (c ∷ s) = elim (test (fact h c)) as (λ b. map (byte_of h) (cond b (c ∷ filter (λ (x : Cell). test (fact h x)) s) (filter (λ (x : Cell). test (fact h x)) s))
@@ -141,7 +141,7 @@ module _ (h : History) (d : Distinct h) where
           utf8_runs rs c.1,
         )
 
-    -- ---- where what is told changes, characters end and begin
+    -- ---- where the status changes, characters end and begin
 
     abbrev pub Begins : Fact → Type 0
     Begins q = IsCharBoundary (new_bytes h q.cell.stamp) q.cell.k
@@ -210,7 +210,7 @@ module _ (h : History) (d : Distinct h) where
       pub told_apart : (xs ys : List Fact) (p q : Fact) → cell_facts h ≡ xs ++ p ∷ q ∷ ys → (Continues p q → ⊥) → Finishes p × Begins q
       told_apart xs ys p q e n = let k = ends p q ys n rs (some_some w.runs) cuts xs (tells ∙ e) in (k.0, begins k.1.0 k.1.1 k.1.2 q ys k.1.3)
 
-      -- the facts from there on are told by runs of UTF-8
+      -- the facts from there on are those of runs of UTF-8
       pub told_parted : (xs ys : List Fact) (p q : Fact) → cell_facts h ≡ xs ++ p ∷ q ∷ ys → (Continues p q → ⊥) → (r : List Run) × Utf8 (byte_of h) r × (facts_of r ≡ q ∷ ys)
       told_parted xs ys p q e n = let k = (ends p q ys n rs (some_some w.runs) cuts xs (tells ∙ e)).1 in (k.0, utf8_runs k.0 k.2, k.3)
 

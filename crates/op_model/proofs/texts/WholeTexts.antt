@@ -1,5 +1,5 @@
 -- The cells of a lawful history with UTF-8 texts are runs of UTF-8.
-use Rattle.std.proofs.Common.{◌≡◌, ℕ, zero, suc, ◌+◌, ◌<◌, ◌≤◌, ◌⊎◌, Bool, List, [], ◌∷◌, ◌++◌, length, map, get_or, refl, sym, ◌∙◌, ap, subst, inl, inr, true, false, cond, ◌&&◌, ◌||◌, leb, ltb, arith, append_assoc, IsTrue, ◌↔◌, ◌-◌}
+use Rattle.std.proofs.Common.{◌≡◌, ℕ, zero, suc, ◌+◌, ◌<◌, ◌≤◌, ◌⊎◌, Bool, List, [], ◌∷◌, ◌++◌, length, map, get_or, refl, sym, ◌∙◌, ap, subst, inl, inr, true, false, cond, ◌&&◌, ◌||◌, leb, ltb, arith, append_assoc, IsTrue, ◌↔◌}
 use Rattle.std.specs.Prelude.{IsUtf8, IsCharBoundary}
 use Rattle.std.specs.List.{AllByRecursion, filter}
 use Rattle.std.proofs.lemmas.Bool.{cases_Bool, leb-true, le-leb, ltb-true, or_cases, and_parts, lt-ltb, cases_lt, not-false, lt-leb, false_from_ne_true, false≢true, or_right}
@@ -105,7 +105,7 @@ utf8_agree f g (r ∷ rs) e u = (
   utf8_agree f g rs (each_right (λ (q : Fact). f q.cell ≡ g q.cell) (run_facts r) (facts_of rs) e) u.1,
 )
 
--- runs of UTF-8 tell of the history
+-- runs of UTF-8 stand for the history
 pub record Whole (h : History) : Type 0 where
   pub runs : List Run
   pub tell : facts_of runs ≡ cell_facts h
@@ -310,7 +310,7 @@ base_facts f e u s k [] = refl
 base_facts f e u s k (b ∷ bs) = ap (λ x. x ∷ map f (cells (text_places (u ++ record { stamp = s; k = k } ∷ []) s (suc k) bs))) (e (record { stamp = s; k = k }))
     ∙ ap (λ (z : List Fact). record { cell = record { stamp = s; k = k }; visible = true; deletions = [] } ∷ z) (base_facts f e (u ++ record { stamp = s; k = k } ∷ []) s (suc k) bs)
 
--- the base alone tells of its bytes in order
+-- the facts of the base alone are of its bytes in order
 pub base_told : (t : List ℕ) → cell_facts (base t ∷ []) ≡ alike (record { value = 1; replica = 0 }) 0 (length t) true []
 base_told t =
     let h : History = base t ∷ [] in

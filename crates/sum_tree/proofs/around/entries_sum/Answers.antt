@@ -12,4 +12,4 @@ add_before-requires-clause-both g c =
 
 pub loop-entry-preserved : goal.loop-entry-preserved
 loop-entry-preserved g c =
-    ap (g.T.Summary.Summary.op c.add_before.new.self) (sym c.sum-in-loop-entry.ensures) ∙ c.in_ok-add_before.ensures ∙ next_sum g.met.T.Summary.Summary.laws g.T.Item.sum_of g.met.T.Item.admitted c.in-Some.first.now c.in-Some.rest.now c.loop-entry.entry-index c.entry-item.result c.loop-entry.last.now c.loop-entry.sum c.sum.result.now c.sum-in-loop-entry.result.now c.loop-entry-test.true c.entry-item.is c.loop-entry.invariant c.sum.ensures c.sum-in-loop-entry.ensures
+    ap (g.T.Summary.Summary.op c.add_before.new.self) (sym c.sum-in-loop-entry.ensures) ∙ c.in_ok-add_before.ensures.ok ∙ next_sum g.met.T.Summary.Summary.laws g.T.Item.sum_of g.met.T.Item.admitted c.in-Some.first.now c.in-Some.rest.now c.loop-entry.entry-index c.entry-item.result c.loop-entry.last.now c.loop-entry.sum c.sum.result.now c.sum-in-loop-entry.result.now c.loop-entry-test.true c.entry-item.is c.loop-entry.invariant c.sum.ensures c.sum-in-loop-entry.ensures

@@ -21,10 +21,10 @@ entries_sum-requires-3 g c =
 
 pub add-requires-2 : goal.add-requires-2
 add-requires-2 g c =
-    let two = c.in_ok-add.ensures ∙ added_sum g.met.T.Summary.Summary.laws g.T.Item.sum_of g.met.T.Item.admitted c.args.front.now c.args.middle.now c.in_ok-sum.sum c.in_ok-new.new c.in_ok-sum.ensures c.in_ok-new.ensures in
+    let two = c.in_ok-add.ensures.ok ∙ added_sum g.met.T.Summary.Summary.laws g.T.Item.sum_of g.met.T.Item.admitted c.args.front.now c.args.middle.now c.in_ok-sum.sum c.in_ok-new.new c.in_ok-sum.ensures c.in_ok-new.ensures in
     added_fits g.met.T.Summary.Summary.laws g.T.Item.sum_of g.met.T.Item.admitted (c.args.front.now ++ c.args.middle.now) c.args.back.now c.add.new.self c.in_ok-rest.rest two c.in_ok-rest.ensures c.requires
 
 pub returns : goal.returns
 returns g c =
-    let two = c.in_ok-add.ensures ∙ added_sum g.met.T.Summary.Summary.laws g.T.Item.sum_of g.met.T.Item.admitted c.args.front.now c.args.middle.now c.in_ok-sum.sum c.in_ok-new.new c.in_ok-sum.ensures c.in_ok-new.ensures in
-    c.in_ok-add-2.ensures ∙ added_sum g.met.T.Summary.Summary.laws g.T.Item.sum_of g.met.T.Item.admitted (c.args.front.now ++ c.args.middle.now) c.args.back.now c.add.new.self c.in_ok-rest.rest two c.in_ok-rest.ensures
+    let two = c.in_ok-add.ensures.ok ∙ added_sum g.met.T.Summary.Summary.laws g.T.Item.sum_of g.met.T.Item.admitted c.args.front.now c.args.middle.now c.in_ok-sum.sum c.in_ok-new.new c.in_ok-sum.ensures c.in_ok-new.ensures in
+    c.in_ok-add-2.ensures.ok ∙ added_sum g.met.T.Summary.Summary.laws g.T.Item.sum_of g.met.T.Item.admitted (c.args.front.now ++ c.args.middle.now) c.args.back.now c.add.new.self c.in_ok-rest.rest two c.in_ok-rest.ensures

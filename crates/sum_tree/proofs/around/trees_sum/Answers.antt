@@ -21,7 +21,7 @@ add_before-requires-clause-both g c =
 pub loop-tree-preserved : goal.loop-tree-preserved
 loop-tree-preserved g c =
     let total = fold g.T.Summary.Summary.empty g.T.Summary.Summary.op g.T.Item.sum_of in
-    ap (g.T.Summary.Summary.op c.add_before.new.self) (sym c.summary-in-loop-tree.ensures) ∙ c.in_ok-add_before.ensures ∙ next_sum g.met.T.Summary.Summary.laws (λ t. total t.items) (λ t. fold_admitted g.met.T.Summary.Summary.laws g.T.Item.sum_of g.met.T.Item.admitted t.items) c.in-Some.first.now c.in-Some.rest.now c.loop-tree.tree-index c.tree-item.result c.loop-tree.last.now c.loop-tree.sum c.summary.result.now c.summary-in-loop-tree.result.now c.loop-tree-test.true c.tree-item.is c.loop-tree.invariant c.summary.ensures c.summary-in-loop-tree.ensures
+    ap (g.T.Summary.Summary.op c.add_before.new.self) (sym c.summary-in-loop-tree.ensures) ∙ c.in_ok-add_before.ensures.ok ∙ next_sum g.met.T.Summary.Summary.laws (λ t. total t.items) (λ t. fold_admitted g.met.T.Summary.Summary.laws g.T.Item.sum_of g.met.T.Item.admitted t.items) c.in-Some.first.now c.in-Some.rest.now c.loop-tree.tree-index c.tree-item.result c.loop-tree.last.now c.loop-tree.sum c.summary.result.now c.summary-in-loop-tree.result.now c.loop-tree-test.true c.tree-item.is c.loop-tree.invariant c.summary.ensures c.summary-in-loop-tree.ensures
 
 pub add-requires : goal.add-requires
 add-requires g c =
@@ -32,7 +32,7 @@ add-requires g c =
 pub returns : goal.returns
 returns g c =
     let sum_of = λ (t : Seen _). fold g.T.Summary.Summary.empty g.T.Summary.Summary.op g.T.Item.sum_of t.items in
-    let part = c.in_ok-add.ensures ∙ ap (g.T.Summary.Summary.op c.loop-tree.sum) c.summary-2.ensures ∙ c.loop-tree.invariant in
+    let part = c.in_ok-add.ensures.ok ∙ ap (g.T.Summary.Summary.op c.loop-tree.sum) c.summary-2.ensures ∙ c.loop-tree.invariant in
     let end = take_all c.loop-tree.tree-index c.in-Some.rest.now (omega (arith, c.loop-tree-test.false)) in
     let all = ap (λ ts. c.in-Some.first.now ∷ ts) end ∙ sym c.in-Some.ensures.cases.0 in
     part ∙ ap (fold g.T.Summary.Summary.empty g.T.Summary.Summary.op sum_of) all ∙ all_joined g.met.T.Summary.Summary.laws g.T.Item.sum_of g.met.T.Item.admitted c.args.trees.now

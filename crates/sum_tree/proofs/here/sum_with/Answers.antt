@@ -9,6 +9,6 @@ add-requires g c =
 pub add-requires-2 : goal.add-requires-2
 add-requires-2 g c =
     let S = g.T.Summary.Summary in
-    let begun : c.add.new.self ≡ S.op S.empty c.args.sum.now = c.in_ok-add.ensures ∙ ap (λ (z : _). S.op z c.args.sum.now) c.zero-new.ensures in
+    let begun : c.add.new.self ≡ S.op S.empty c.args.sum.now = c.in_ok-add.ensures.ok ∙ ap (λ (z : _). S.op z c.args.sum.now) c.zero-new.ensures in
     let all : S.op c.add.new.self c.sum.result.now ≡ S.op (S.op S.empty c.args.sum.now) (g.T.Item.sum_of c.args.entry.now) = ap (λ (z : _). S.op z c.sum.result.now) begun ∙ ap (S.op (S.op S.empty c.args.sum.now)) c.sum.ensures in
     subst S.fits (sym all) c.requires.fits

@@ -10,7 +10,7 @@ use Rattle.sum_tree.proofs.Splices.{run-joined, pair_none, split_spliced}
 use Rattle.sum_tree.proofs.Widths.{run_length}
 use Rattle.sum_tree.proofs.splice.with_children.Goals as goal
 
--- one child in the place of both that a node has
+-- one child replaces both that a node has
 one_for_all : {T : Type 0} (h : ℕ) (ts : List (Seen T)) (i j : ℕ) (a : Seen T) (b : Option (Seen T)) → b ≡ None → j - i ≡ length ts → i < j → j ≤ i + 2 → j ≤ length ts → All (IsChild h) (pair_list a b) → IsSpliced h (length ts) (join_items (with_run ts i j a b)) a None
 one_for_all h ts i j a b none all order few within pair =
     let front : take i ts ≡ [] = nil_from_length (take i ts) (omega (arith, all, order, within, length-take-le i ts (omega (arith, order, within)))) in

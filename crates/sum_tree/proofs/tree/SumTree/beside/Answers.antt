@@ -8,7 +8,7 @@ use Rattle.sum_tree.proofs.tree.SumTree.beside.Given.{Over}
 use Rattle.sum_tree.proofs.tree.SumTree.beside.Goals.{In_ok-share_onto-in-Inner-Inner-2}
 use Rattle.sum_tree.proofs.tree.SumTree.beside.Goals as goal
 
--- the children that were copied are those of both
+-- the copied children are those of both
 inner_pair : (g : Over) (c : In_ok-share_onto-in-Inner-Inner-2 g) → JoinsInners c.args.self.now c.args.other.now c.share_onto-in-Inner-Inner.new.out.items
 inner_pair g c =
     joins_inners (opened _ _ _ _ c.self.view_is c.deref.ensures c.in-Inner-Inner.is-0 c.self.invariant.0) (opened _ _ _ _ c.other.view_is c.deref-2.ensures c.in-Inner-Inner.is-1 c.other.invariant.0) c.requires.level (appended _ _ _ _ _ _ _ c.in_ok-children-in-Inner-Inner.ensures.items c.in_ok-share_onto-in-Inner-Inner.ensures c.in_ok-share_onto-in-Inner-Inner-2.ensures c.deref-in-Inner-Inner.ensures.value c.deref-in-Inner-Inner-2.ensures.value)

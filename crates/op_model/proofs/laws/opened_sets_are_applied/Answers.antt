@@ -1,0 +1,5 @@
+use Rattle.op_model.proofs.MainLaws.{opened_sets_are_applied}
+use Rattle.op_model.proofs.laws.opened_sets_are_applied.Goals as goal
+
+pub returns : goal.returns
+returns c = opened_sets_are_applied
