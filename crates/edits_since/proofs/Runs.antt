@@ -12,7 +12,7 @@ use Rattle.edits_since.specs.Opened.{at_start, all_edits, old_end, new_end, with
 abbrev pub run_edit : ℕ → ℕ → ℕ → ℕ → List TextEdit
 run_edit old new g n = cond (nat_lt 0 g || nat_lt 0 n) (record { old = (old, old + g); new = (new, new + n) } ∷ []) []
 
--- the edits of a run with g gone and n new cells so far, and of the fates behind
+-- the edits of a run with g gone and n new cells so far, and of the fates after them
 abbrev pub edits_on : ℕ → ℕ → ℕ → ℕ → List Fate → List TextEdit
 edits_on old new g n [] = run_edit old new g n
 edits_on old new g n (Kept ∷ s) = run_edit old new g n ++ edits_on (suc (old + g)) (suc (new + n)) 0 0 s

@@ -40,7 +40,7 @@ use Rattle.edits_since.specs.DifferLaws.{all_within}
 abbrev told_fate : List UndoEntry → Entries → Fact → Fate
 told_fate u v q = fate (sees v q.cell.stamp && was_shown u v q.cell.stamp q.deletions) q.visible
 
--- a cell was in the text that v saw, as the undo counts tell
+-- a cell was in the text that v saw, as the undo counts say
 pub was_is : (h : History) (v : Entries) → Lawful h → IsClosed h v → (c : Cell) → was_shown_in h v c ≡ (sees v c.stamp && was_shown (undo_entries h) v c.stamp (deleters h c))
 was_is h v l k c = ap (λ (b : Bool). sees v c.stamp && b) (shown_closed h l v k c ∙ was_told h v c.stamp (deleters h c))
 

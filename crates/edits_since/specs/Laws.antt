@@ -9,7 +9,7 @@ use Rattle.undo_map.specs.declared.entry.UndoEntry.{UndoEntry}
 use Rattle.fragments.specs.declared.fragment.Fragment.{Fragment}
 use Rattle.edits_since.specs.Telling.{MayTell, AreSince}
 
--- from places of the old and of the new text on, no range is reversed, and each begins behind a byte that follows the one before it
+-- from places of the old and of the new text on, no range is reversed, and each begins after a byte that follows the one before it
 abbrev pub AreApartFrom : ℕ → ℕ → List TextEdit → Type 0
 AreApartFrom old new [] = Unit {0}
 AreApartFrom old new (e ∷ es) = (old ≤ e.old.0) × (e.old.0 ≤ e.old.1) × (new ≤ e.new.0)

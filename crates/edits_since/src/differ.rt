@@ -29,7 +29,7 @@ impl<'v> Keep<FragmentSummary> for MayDiffer<'v> {
 }
 
 // Whether a fragment was in the text that the version saw: the version sees its edit, and it was shown there. It is a look-up of the
-// undo counts for each of the edits that brought and delete it, without memory.
+// undo counts for each of the edits that brought and delete it; does not allocate.
 pub(crate) fn was_in_text(fragment: &Fragment, undos: &UndoMap, version: &Version) -> bool
     ensures { result ≡ was_in_text undos.now version.now fragment.now }
 {

@@ -22,7 +22,7 @@ impl Model for Edits {
 }
 
 impl Edits {
-    // No edits, without memory.
+    // No edits. Does not allocate.
     pub(crate) fn new(alloc: Global) -> Edits
         ensures { result ≡ [] }
     {
@@ -31,7 +31,7 @@ impl Edits {
         }
     }
 
-    /// The edits of a list. It takes no memory.
+    /// The edits of a list. Does not allocate.
     pub fn of(list: Vec<TextEdit>) -> Edits
         ensures { result ≡ list.items }
     {
@@ -45,14 +45,14 @@ impl Edits {
         &self.list
     }
 
-    /// The list of the edits. It takes no memory.
+    /// The list of the edits. Does not allocate.
     pub fn into_vec(self) -> Vec<TextEdit>
         ensures { result.items ≡ self }
     {
         self.list
     }
 
-    // Puts an edit behind the others.
+    // Puts an edit after the others.
     pub(crate) fn push(&mut self, edit: TextEdit) -> Result<(), OutOfMemory>
         ensures ok { OnOk result (self.new ≡ self.old ++ edit ∷ []) }
         ensures err { OnErr result (self.new ≡ self.old) }

@@ -10,6 +10,7 @@ mod way_back;
 
 pub use edits::Edits;
 pub use laws::edits_take_then_to_now;
+pub use op_model::TextEdit;
 pub use sum_tree::OutOfMemory;
 pub use telling::since;
 pub use way_back::moves_back;

@@ -30,7 +30,7 @@ impl OpenRun {
         }
     }
 
-    // Ends the run, and the next one begins behind it. It has an edit where it has a gone or a new byte.
+    // Ends the run, and the next one begins after it. It has an edit where it has a gone or a new byte.
     fn close(&mut self) -> Result<(), OutOfMemory>
         requires old { old_end self.old < 2 ^ 64 }
         requires new { new_end self.old < 2 ^ 64 }

@@ -45,7 +45,7 @@ fn go_over(
 ///
 /// Runs of fragments of which the version has seen all (their edits, their deletions and the undos of these) are passed over
 /// whole. So the cost grows with the number of fragments that came, were deleted or were counted by an undo since, times the
-/// height, and for each of them with its deletions. Memory is taken for the edits alone; it fails for want of memory alone.
+/// height, and for each of them with its deletions. It allocates for the edits alone, and fails only if an allocation fails.
 pub fn since(
     alloc: Global,
     tree: &SumTree<Fragment>,

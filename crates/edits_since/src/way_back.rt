@@ -35,7 +35,7 @@ impl<'u> Change for WayBack<'u> {
 ///
 /// Runs of fragments of which the version has seen all are passed over whole, as by [`since`](crate::since), and their bytes
 /// stay. So there are at most three moves for each fragment that came, was deleted or was counted by an undo since, and the
-/// cost is that of `since`. It fails for want of memory alone.
+/// cost is that of `since`. It fails only if an allocation fails.
 pub fn moves_back(
     alloc: Global,
     tree: &SumTree<Fragment>,

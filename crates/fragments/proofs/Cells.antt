@@ -1,5 +1,5 @@
--- The cells of fragments: how many there are, which are shown, and what they tell.
-use Rattle.std.proofs.Common.{ℕ, [], ◌≡◌, ◌+◌, List, ◌∷◌, ◌++◌, refl, sym, ap, ◌∙◌, append_assoc, Bool, true, false, cond, arith, length, ◌<◌, subst, ◌≤◌, ◌^◌, ◌-◌, take, drop, take-append-drop, Option, Some, None, inl, inr, not, ◌&&◌}
+-- The cells of fragments: their number, which are shown, and their facts.
+use Rattle.std.proofs.Common.{ℕ, [], ◌≡◌, ◌+◌, List, ◌∷◌, ◌++◌, refl, sym, ap, ◌∙◌, append_assoc, Bool, true, false, cond, arith, length, ◌<◌, subst, ◌≤◌, ◌^◌, take, drop, take-append-drop, Option, Some, None, inl, inr, not, ◌&&◌}
 use Rattle.std.specs.List.{filter, AllByRecursion}
 use Rattle.std.proofs.lemmas.List.{length-map}
 use Rattle.std.specs.Prelude.{option_to_list}
@@ -75,7 +75,7 @@ whole_fragments h l u fs f s w =
     let k = cut_runs h d u (runs fs) (filled_runs fs f) (subst (λ (x : List Fact). AllByRecursion (λ (y : Fact). IsCell h y.cell) x) (sym s) (told_facts h d)) w in
     each_map (λ (x : Run). Cut h d x.stamp x.offset x.len) (IsWhole h) (λ x b. (of_boundary (new_bytes h x.stamp) x.offset b.0, of_boundary (new_bytes h x.stamp) (x.offset + x.len) b.1)) (runs fs) k
 
--- ---- the bytes in the history with one operation more
+-- ---- the bytes in the history with one more operation
 
 -- whole fragments have bytes of UTF-8 there too
 pub utf8_more : (h : History) (op : Operation) (fs : List Fragment) → Lawful h → Texts h → answer h [] op ≡ Good → Tell fs h → AllByRecursion (IsWhole h) (runs fs) → Utf8 (byte_of (h ++ op ∷ [])) (runs fs)

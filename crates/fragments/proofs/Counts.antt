@@ -1,4 +1,4 @@
--- The places behind fragments count their cells.
+-- The places after fragments count their cells.
 use Rattle.std.proofs.Common.{◌≡◌, ℕ, ◌+◌, Bool, true, false, cond, List, [], ◌∷◌, ◌++◌, length, Option, refl, ap, ◌∙◌, arith, inl, inr, subst}
 use Rattle.std.proofs.lemmas.Bool.{cases_Bool, and_from, leb-false, lt-ltb}
 use Rattle.std.proofs.lemmas.List.{length-append}
@@ -91,7 +91,7 @@ seen_behind v (f ∷ fs) n = elim (cases_Bool (sees v f.stamp)) [
 pub places_count_cells : PlacesCountCells
 places_count_cells fs n = (full_behind fs n, visible_behind fs n, λ v. seen_behind v fs n)
 
--- the history with an edit has no undo more
+-- the history with an edit has the same undos
 pub sees_more : (h : History) (op : Operation) → is_edit op ≡ true → (fs : List Fragment) → AllByRecursion (SeesUndos h) fs → AllByRecursion (SeesUndos (h ++ op ∷ [])) fs
 sees_more h op e [] s = tt
 sees_more h op e (f ∷ fs) s = (one, sees_more h op e fs s.1)

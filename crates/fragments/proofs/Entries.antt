@@ -1,4 +1,4 @@
--- An index with an entry more.
+-- An index with one more entry.
 use Rattle.std.proofs.Common.{◌≡◌, ℕ, ◌+◌, ◌≤◌, ◌⊎◌, true, List, ◌∷◌, length, refl, sym, ap, ◌∙◌, subst, inl, inr}
 use Rattle.std.proofs.lemmas.Cmp.{tied_itself}
 use Rattle.std.specs.Ordering.{nat_cmp, ordering_then, is_lt, is_eq, is_gt}
@@ -57,7 +57,7 @@ more_has x e w (inr h) = go (to x e) refl
 pub entry_takes_its_place : EntryTakesItsPlace
 entry_takes_its_place x w a = (ascending_inserted key_cmp key_of key_order x w a, λ e. (more_of x e w, more_has x e w))
 
--- ---- how many entries
+-- ---- the number of entries
 
 pub with_entry_long : (e : IndexEntry) (w : List IndexEntry) → length (with_entry e w) ≤ length w + 1
 with_entry_long e w = inserted_short key_cmp key_of key_order e w

@@ -1,4 +1,5 @@
--- What stands for a history: its index finds the fragment of each cell, and one fragment stands for the base.
+-- If fragments and an index stand for a history, the index finds the fragment of each cell; one fragment stands for the
+-- base.
 use Rattle.std.proofs.Common.{◌≡◌, ℕ, ◌+◌, ◌<◌, ◌≤◌, ◌^◌, Bool, true, false, cond, leb, nat_lt, Option, List, [], ◌∷◌, ◌++◌, length, map, refl, sym, ap, ◌∙◌, arith, subst, inl, inr, Some, None, option_map}
 use Rattle.std.specs.List.{AllByRecursion}
 use Rattle.std.proofs.lemmas.Bool.{cases_Bool, and_parts, and_from, leb-true, le-leb, ltb-true, ltb-false}

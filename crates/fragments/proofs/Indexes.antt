@@ -1,5 +1,5 @@
 -- The index of fragments, entry by entry.
-use Rattle.std.proofs.Common.{ℕ, [], ◌≡◌, Bool, true, false, cond, ltb, List, ◌∷◌, Option, Some, None, sym, inl, inr, refl, map, ◌⊎◌, ◌↔◌, ◌+◌, ◌++◌, ap, suc, ◌≤◌, length, ◌∙◌, arith, subst, ◌-◌}
+use Rattle.std.proofs.Common.{ℕ, [], ◌≡◌, Bool, true, false, cond, ltb, List, ◌∷◌, Option, Some, None, sym, inl, inr, refl, map, ◌⊎◌, ◌↔◌, ◌++◌, ap, suc, ◌≤◌, length, ◌∙◌, arith, subst}
 use Rattle.std.proofs.lemmas.Bool.{cases_Bool}
 use Rattle.std.specs.Option.{option_map}
 use Rattle.std.specs.List.{slice_index_or, AllByRecursion}
@@ -53,12 +53,12 @@ mid_entry e (x ∷ pre) r a = go (mid_entry e pre r a)
         from (inr (inl q)) = inl q
         from (inr (inr n)) = inr (ih.1 (inr n))
 
--- what is in an index with one entry more
+-- the entries of an index with one more
 pub with_one_more : (e : IndexEntry) (a : Fragment) (w : List IndexEntry) → IsAscending w
     → Member e (with_entry (entry_of a) w) ↔ ((e ≡ entry_of a) ⊎ (Member e w × (key_of e ≡ key_of (entry_of a) → ⊥)))
 with_one_more e a w s = (entry_takes_its_place (entry_of a) w s).1 e
 
--- a fragment with the same entry in the place of one
+-- a fragment replaced by one with the same entry
 pub same_entries : (pre r : List Fragment) (f g : Fragment) → entry_of g ≡ entry_of f → map entry_of (pre ++ g ∷ r) ≡ map entry_of (pre ++ f ∷ r)
 same_entries [] r f g e = ap (λ z. z ∷ map entry_of r) e
 same_entries (x ∷ pre) r f g e = ap (λ z. entry_of x ∷ z) (same_entries pre r f g e)

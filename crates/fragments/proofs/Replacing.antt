@@ -1,4 +1,4 @@
--- An id that the next one takes the place of.
+-- An id that the next one replaces.
 use Rattle.std.proofs.Common.{◌≡◌, ℕ, List, Option, sym, ap, ◌∙◌}
 use Rattle.tree_cursor.specs.KeyLaws.{greater_assoc}
 use Rattle.fragments.specs.Summaries.{greater_id, id_less}

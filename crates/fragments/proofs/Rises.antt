@@ -1,5 +1,5 @@
 -- Ids that rise.
-use Rattle.std.proofs.Common.{ℕ, [], List, ◌∷◌, ◌≡◌, ◌+◌, ◌++◌, sym, subst, append_assoc, false, refl, true, ap, inl, inr}
+use Rattle.std.proofs.Common.{ℕ, [], List, ◌∷◌, ◌≡◌, ◌++◌, sym, subst, append_assoc, false, refl, true, ap, inl, inr}
 use Rattle.std.specs.Ordering.{is_lt, ordering_reverse, nat_cmp}
 use Rattle.std.specs.declared.cmp.Ordering.{Ordering}
 use Rattle.std.specs.declared.cmp.Ordering.TheVariants.{Less, Equal, Greater}
@@ -15,7 +15,7 @@ unfoldable pub from_low : List ℕ → List Fragment → List ℕ
 from_low low [] = low
 from_low low (f ∷ fs) = from_low f.id fs
 
--- another in the place of one with its id
+-- a fragment replaced by one with its id
 pub rises_same : (low : List ℕ) (pre r : List Fragment) (f g : Fragment) → Rise low (pre ++ f ∷ r) → g.id ≡ f.id → Rise low (pre ++ g ∷ r)
 rises_same low [] r f g h e = subst (λ (i : List ℕ). IsLess low i × EndsAboveZero i × Rise i r) (sym e) h
 rises_same low (x ∷ pre) r f g h e = (h.0, h.1, rises_same x.id pre r f g h.2 e)

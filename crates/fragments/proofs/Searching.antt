@@ -72,7 +72,7 @@ up_to_covers t o e l s = elim (cases_lt o e.offset) [
   | inr m ↦ and_from _ _ s (le-leb e.offset o m)
 ]
 
--- what stands behind an entry
+-- what comes after an entry
 abbrev Behind : IndexEntry → List IndexEntry → Type 0
 Behind x w = (j : ℕ) (d : IndexEntry) → j < length w → key_cmp (key_of x) (key_of (get_or w j d)) ≡ Less
 
@@ -98,7 +98,7 @@ nearer x y (Some z) l h = elim (cases_Bool (nat_lt y.offset z.offset)) [ inl e �
 not_below : (a b : ℕ) → b < a → nat_lt a b ≡ false
 not_below a b l = le-ltb a b (omega arith)
 
--- of the entries of an edit behind one of its entries, none has a greater offset
+-- of the entries of an edit after one of its entries, none has a greater offset
 none_nearer : (t : Lamport) (o : ℕ) (x : IndexEntry) (w : List IndexEntry) → same_stamp x.stamp t ≡ true → Behind x w → NoneNearer x (entry_for t o w)
 none_nearer t o x [] s b = tt
 none_nearer t o x (y ∷ w) s b = elim (cases_Bool (covers t o y)) [
@@ -109,7 +109,7 @@ none_nearer t o x (y ∷ w) s b = elim (cases_Bool (covers t o y)) [
       rw c (nearer x y (entry_for t o w) l (none_nearer t o x w s (behind_rest x y w b))))
 ]
 
--- a later edit's entry is behind all entries of the edit
+-- a later edit's entry comes after all entries of the edit
 then_less : (a b : Ordering) → ordering_then a b ≡ Less → (a ≡ Less) ⊎ (a ≡ Equal)
 then_less Less b h = inl refl
 then_less Equal b h = inr refl
@@ -129,7 +129,7 @@ none_behind t o x (y ∷ w) s b =
     ] in
     rw (and_left (same_stamp y.stamp t) (leb y.offset o) (less_apart t y.stamp after)) (none_behind t o x w s (behind_rest x y w b))
 
--- an entry, where it is of the edit
+-- an entry, if it is of the edit
 abbrev pub of_edit : Lamport → Option IndexEntry → Option IndexEntry
 of_edit t None = None
 of_edit t (Some e) = cond (same_stamp e.stamp t) (Some e) None

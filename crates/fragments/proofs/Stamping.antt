@@ -1,4 +1,4 @@
--- Stamps where one is put among them.
+-- Stamps with one inserted.
 use Rattle.std.proofs.Common.{◌≡◌, ℕ, List, [], ◌∷◌, refl, ◌∙◌, ap, inl, inr}
 use Rattle.std.specs.List.{insert}
 use Rattle.std.proofs.lemmas.Bool.{cases_Bool}
@@ -7,7 +7,7 @@ use Rattle.lamport_clock.specs.Stamps.{later}
 use Rattle.op_model.specs.Facts.{with_deletion}
 use Rattle.fragments.specs.Stamps.{place_of}
 
--- stamps with one put in at its place
+-- stamps with one inserted at its place
 pub put_in : (t : Lamport) (s : List Lamport) → insert s (place_of t s) t ≡ with_deletion t s
 put_in t [] = refl
 put_in t (u ∷ s) = elim (cases_Bool (later t u)) [

@@ -22,7 +22,7 @@ key_cmp a b = ordering_then (stamp_cmp a.stamp b.stamp) (nat_cmp b.offset.0 a.of
 abbrev pub IsAscending : List IndexEntry → Type 0
 IsAscending w = Ascending key_cmp key_of w
 
--- w with an entry, in the place of one with its key
+-- w with an entry, which replaces the one with its key
 abbrev pub with_entry : IndexEntry → List IndexEntry → List IndexEntry
 with_entry e w = insert_item key_cmp key_of e w
 

@@ -1,4 +1,4 @@
--- Laws of what stands for a history.
+-- Laws of fragments that stand for a history.
 use Rattle.std.specs.Prelude.{◌≡◌, ◌⊎◌, ◌↔◌, ℕ, ◌+◌, ◌<◌, ◌^◌, true, List, [], ◌∷◌, length, Some, None, if◌then◌else◌}
 use Rattle.std.specs.List.{AllByRecursion}
 use Rattle.lamport_clock.specs.declared.stamp.Lamport.{Lamport}
@@ -17,8 +17,8 @@ use Rattle.fragments.specs.Stand.{Stand, entry_of, runs}
 use Rattle.fragments.specs.Summaries.{summary_of}
 use Rattle.fragments.specs.SeenPlaces.{move_full, move_visible, move_at}
 
--- where fragments and an index stand for a lawful history, the index finds the fragment of each cell, and nothing for the cells
--- of an edit of which no fragment is
+-- if fragments and an index stand for a lawful history, the index finds the fragment of each cell, and nothing for an
+-- edit without fragments
 abbrev pub IndexFindsFragments : Type 0
 IndexFindsFragments = (fs : List Fragment) → (w : List IndexEntry) → (u : List UndoEntry)
     → (h : History) → Lawful h → Stand fs w u h
@@ -37,31 +37,31 @@ whole_base id t = record {
   max_undos = [];
 }
 
--- one fragment stands for a base with a text, and none stands for one without
+-- one fragment stands for a base with a text, and no fragment for one without
 abbrev pub BaseStands : Type 0
 BaseStands = ((id : List ℕ) → (t : List ℕ) → 0 < length t → length t < 2 ^ 64
     → IsLess least_digits id → IsLess id greatest_digits → EndsAboveZero id
     → Stand (whole_base id t ∷ []) (entry_of (whole_base id t) ∷ []) [] (base t ∷ []))
     × Stand [] [] [] (base [] ∷ [])
 
--- an entry takes the place of the one with its key, and of no other
+-- an entry replaces the one with its key, and no other
 abbrev pub EntryTakesItsPlace : Type 0
 EntryTakesItsPlace = (x : IndexEntry) → (w : List IndexEntry) → IsAscending w
     → IsAscending (with_entry x w)
     × ((e : IndexEntry) → Member e (with_entry x w)
     ↔ ((e ≡ x) ⊎ (Member e w × (key_of e ≡ key_of x → ⊥))))
 
--- how many cells fragments have
+-- the number of cells of fragments
 abbrev pub cells_len : List Fragment → ℕ
 cells_len [] = 0
 cells_len (f ∷ fs) = f.len + cells_len fs
 
--- the cells that are shown
+-- the number of shown cells
 abbrev pub shown_len : List Fragment → ℕ
 shown_len [] = 0
 shown_len (f ∷ fs) = if f.visible then f.len + shown_len fs else shown_len fs
 
--- the places behind fragments count their cells: all, those that are shown, and those of stamps that a version sees
+-- the places after fragments count their cells: all, those that are shown, and those of stamps that a version sees
 abbrev pub PlacesCountCells : Type 0
 PlacesCountCells = (fs : List Fragment) → (n : ℕ)
     → (place_behind move_full summary_of n fs ≡ n + cells_len fs)

@@ -1,4 +1,4 @@
--- What places that count the cells a version sees keep.
+-- The laws of places that count the cells a version sees.
 use Rattle.std.specs.Prelude.{ℕ, [], ◌≡◌, ◌+◌, true, Bool, false, cond, Some, None, Option, nat_le, ◌≤◌}
 use Rattle.std.proofs.Common.{◌⊎◌, ap, sym, inl, inr, refl, arith, ◌∙◌, ◌∷◌}
 use Rattle.std.proofs.lemmas.Option.{same_Some}

@@ -1,4 +1,4 @@
--- The cells that a version sees, as places: a sum of fragments of which it sees some and others not is too coarse.
+-- The cells that a version sees, as places. A sum of fragments of which it sees some and not others cannot be added.
 use Rattle.std.specs.Prelude.{◌≡◌, ℕ, ◌+◌, ◌^◌, ◌<◌, ◌≤◌, cond, Option, Some, None}
 use Rattle.lamport_clock.specs.Versions.{Entries}
 use Rattle.fragments.specs.declared.fragment.FragmentSummary.{FragmentSummary}
@@ -7,14 +7,14 @@ use Rattle.fragments.specs.Spans.{sees_all, sees_none}
 abbrev pub cells_of : FragmentSummary → ℕ
 cells_of s = s.visible + s.hidden
 
--- how many cells lie before, and how many that are shown
+-- the number of cells before a place, and of the shown ones
 abbrev pub move_full : ℕ → FragmentSummary → Option ℕ
 move_full n s = Some (n + cells_of s)
 
 abbrev pub move_visible : ℕ → FragmentSummary → Option ℕ
 move_visible n s = Some (n + s.visible)
 
--- a version, and how many cells that it sees lie before
+-- a version, and the number of cells before a place that it sees
 abbrev pub At : Type 0
 At = Entries × ℕ
 

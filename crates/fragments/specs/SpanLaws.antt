@@ -1,4 +1,4 @@
--- The join of spans is associative and has no spans as its unit; what a version sees of it, it sees of both parts.
+-- The join of spans is associative, and no spans are its unit; what a version sees of it, it sees of both parts.
 use Rattle.std.proofs.Common.{◌≡◌, ℕ, suc, ◌<◌, ◌≤◌, List, [], ◌∷◌, refl, sym, ap, ◌∙◌, arith, true, max, min, subst}
 use Rattle.std.proofs.lemmas.Bool.{and_parts, and_from, ltb-true, leb-true, le-leb, lt-ltb}
 use Rattle.std.proofs.lemmas.Bool.Decides.{nat_tests}
@@ -126,7 +126,7 @@ pub none_parts : (v : Entries) (u w : List Span) → sees_none v (join_spans u w
 none_parts v u [] e = (e, refl)
 none_parts v u (x ∷ w) e = let ih = none_parts v (with_span x u) w e in let k = none_wide v x u ih.0 in (k.1, and_from _ _ (lt-ltb (entry v x.replica) x.least k.0) ih.1)
 
--- all and none are seen only of no spans
+-- a version that sees all and none of some spans sees no spans
 pub both_seen : (n : ℕ) (v : Entries) (u : List Span) → AreSpansFrom n u → sees_all v u ≡ true → sees_none v u ≡ true → u ≡ []
 both_seen n v [] h a b = refl
 both_seen n v (x ∷ u) h a b = let k : x.greatest ≤ entry v x.replica = leb-true _ _ (and_parts _ _ a).0 in let l : entry v x.replica < x.least = ltb-true _ _ (and_parts _ _ b).0 in let g = h.1 in absurd (omega arith)

@@ -1,4 +1,4 @@
--- What fragments, an index of them and undo counts are of a history.
+-- When fragments, an index of them and undo counts stand for a history.
 use Rattle.std.specs.Prelude.{◌≡◌, ◌↔◌, ℕ, ◌+◌, ◌<◌, ◌^◌, true, List, [], ◌∷◌, map}
 use Rattle.std.specs.List.{AllByRecursion}
 use Rattle.lamport_clock.specs.Versions.{sees}
@@ -23,11 +23,11 @@ run_of f = record { stamp = f.stamp; offset = f.offset; len = f.len; visible = f
 abbrev pub runs : List Fragment → List Run
 runs fs = map run_of fs
 
--- the fragments tell of the cells of h in order, hidden ones too: which is shown, and which edits delete it
+-- the fragments have the cells of h in order, hidden ones too, each with whether it is shown and which edits delete it
 abbrev pub Tell : List Fragment → History → Type 0
 Tell fs h = facts_of (runs fs) ≡ cell_facts h
 
--- there is a cell, and the numbers of the cells are u64
+-- there is a cell, and the numbers of the cells fit in a u64
 abbrev pub IsFilled : Fragment → Type 0
 IsFilled f = (0 < f.len) × (f.offset + f.len < 2 ^ 64)
 
@@ -36,7 +36,7 @@ abbrev pub Rise : List ℕ → List Fragment → Type 0
 Rise low [] = IsLess low greatest_digits
 Rise low (f ∷ fs) = IsLess low f.id × EndsAboveZero f.id × Rise f.id fs
 
--- what an index has of a fragment
+-- the entry of a fragment
 abbrev pub entry_of : Fragment → IndexEntry
 entry_of f = record { stamp = f.stamp; offset = f.offset; id = f.id }
 
@@ -44,7 +44,7 @@ entry_of f = record { stamp = f.stamp; offset = f.offset; id = f.id }
 abbrev pub IsIndexOf : List Fragment → List IndexEntry → Type 0
 IsIndexOf fs w = (e : IndexEntry) → Member e w ↔ Member e (map entry_of fs)
 
--- max_undos sees every undo of h that counts the fragment's edit or one of its deletions
+-- max_undos sees every undo in h that has a count for the fragment's edit or for one of its deletions
 abbrev pub SeesUndos : History → Fragment → Type 0
 SeesUndos h f = (op : Operation) → In h op → (c : UndoCount) → Member c (counts_of op)
     → Member c.edit (f.stamp ∷ f.deletions) → sees f.max_undos (stamp_of op) ≡ true

@@ -1,4 +1,4 @@
--- What is kept of a run of fragments.
+-- Summaries of fragments.
 use Rattle.std.specs.Prelude.{◌≡◌, ℕ, ◌+◌, ◌<◌, ◌^◌, Bool, List, [], ◌∷◌, Option, Some, None, if◌then◌else◌}
 use Rattle.std.specs.Cmp.Lexicographic.{slice_cmp}
 use Rattle.std.specs.Ordering.{nat_cmp}
@@ -27,7 +27,7 @@ summaries a b = record {
   greatest = join_versions a.greatest b.greatest;
 }
 
--- a sum that fragments may have: where there are no stamps, there are no cells
+-- a sum that fragments may have: without stamps there are no cells
 pub record IsSummary (s : FragmentSummary) : Type 0 where
   pub spans : AreSpans s.span
   pub none : s.span ≡ [] → s.visible + s.hidden ≡ 0
@@ -36,16 +36,16 @@ pub record IsSummary (s : FragmentSummary) : Type 0 where
 abbrev pub SummaryFits : FragmentSummary → Type 0
 SummaryFits s = s.visible + s.hidden < 2 ^ 64
 
--- one stamp
+-- the sum of a single fragment has one stamp
 abbrev pub IsOne : FragmentSummary → Type 0
 IsOne s = (t : Lamport) × (s.span ≡ record { replica = t.replica; least = t.value; greatest = t.value } ∷ [])
 
--- v that sees stamps too
+-- v after it has seen these stamps
 abbrev pub with_stamps : List Lamport → Entries → Entries
 with_stamps [] v = v
 with_stamps (t ∷ d) v = with_stamps d (raise v t)
 
--- what is kept of one fragment
+-- the summary of one fragment
 abbrev pub summary_of : Fragment → FragmentSummary
 summary_of f = record {
   visible = if f.visible then f.len else 0;
@@ -53,4 +53,16 @@ summary_of f = record {
   last_id = Some f.id;
   span = record { replica = f.stamp.replica; least = f.stamp.value; greatest = f.stamp.value } ∷ [];
   greatest = with_stamps (f.stamp ∷ f.deletions) (join_versions [] f.max_undos);
+}
+
+-- ---- for private clauses
+
+-- the sum of both, but with the id of the first
+abbrev pub all_but_id : FragmentSummary → FragmentSummary → FragmentSummary
+all_but_id a b = record {
+  visible = a.visible + b.visible;
+  hidden = a.hidden + b.hidden;
+  last_id = a.last_id;
+  span = join_spans a.span b.span;
+  greatest = join_versions a.greatest b.greatest;
 }

@@ -1,4 +1,4 @@
--- What sums of fragments keep.
+-- The laws of sums of fragments.
 use Rattle.std.proofs.Common.{◌≡◌, ◌||◌, ℕ, Bool, true, List, [], ◌∷◌, Option, refl, sym, ap, subst, ◌∙◌, arith, inl, inr}
 use Rattle.std.proofs.lemmas.Bool.{cases_Bool}
 use Rattle.std.specs.List.{list_any}
@@ -51,12 +51,12 @@ stamps_kept : (d : List Lamport) (v : Entries) → AreEntriesFrom 0 v → AreEnt
 stamps_kept [] v h = h
 stamps_kept (t ∷ d) v h = stamps_kept d (raise v t) (raise_kept v t h)
 
--- what is seen stays seen where stamps are taken in
+-- what is seen stays seen after more stamps are seen
 pub sees_stamps : (d : List Lamport) (v : Entries) (t : Lamport) → sees v t ≡ true → sees (with_stamps d v) t ≡ true
 sees_stamps [] v t h = h
 sees_stamps (s ∷ d) v t h = sees_stamps d (raise v s) t (sees_raise v s t h)
 
--- each of the stamps that are taken in is seen
+-- each of these stamps is then seen
 pub stamps_seen : (d : List Lamport) (v : Entries) (t : Lamport) → list_any (same_stamp t) d ≡ true → sees (with_stamps d v) t ≡ true
 stamps_seen [] v t h = cc
 stamps_seen (s ∷ d) v t h = elim (cases_Bool (same_stamp t s)) [

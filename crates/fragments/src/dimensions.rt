@@ -11,7 +11,7 @@ use lamport_clock::Version;
 use locators::Locator;
 use tree_cursor::{Bias, Dimension, Moves, Plain, Target};
 
-/// How many cells lie before, hidden ones too.
+/// The number of cells before a place, including hidden ones.
 #[derive(Clone, Copy, Debug, PartialEq, Eq)]
 pub struct Full {
     pub bytes: u64,
@@ -45,8 +45,8 @@ impl<'a> Dimension<'a, FragmentSummary> for Full {
     }
 }
 
-/// How many cells that a version sees lie before. A run of fragments is added whole where the version sees all of it or
-/// none of it, and is else to be looked into; a single fragment is always added.
+/// The number of cells before a place that a version sees. The sum of a run of fragments can be added if the version
+/// sees all of them or none; otherwise a seek descends into the run. A single fragment can always be added.
 #[derive(Clone, Copy)]
 pub struct FullAt<'v> {
     pub version: &'v Version,
@@ -82,7 +82,7 @@ impl<'a, 'v> Dimension<'a, FragmentSummary> for FullAt<'v> {
     }
 }
 
-/// A number of cells is a target.
+/// Seeks to a number of cells.
 impl Target<Full> for Full {
     ghost use Rattle.tree_cursor.specs.Counting.{number_passes};
     ghost use Rattle.tree_cursor.specs.CountingLaws.{number_stays};
@@ -99,7 +99,7 @@ impl Target<Full> for Full {
     }
 }
 
-/// A number of cells that a version sees is a target.
+/// Seeks to a number of cells that a version sees.
 impl<'v> Target<FullAt<'v>> for Full {
     ghost use Rattle.tree_cursor.specs.Counting.{number_passes};
     ghost use Rattle.tree_cursor.specs.CountingLaws.{number_stays};
@@ -116,7 +116,7 @@ impl<'v> Target<FullAt<'v>> for Full {
     }
 }
 
-/// How many shown cells lie before.
+/// The number of shown cells before a place.
 #[derive(Clone, Copy, Debug, PartialEq, Eq)]
 pub struct Visible {
     pub bytes: u64,
@@ -149,7 +149,7 @@ impl<'a> Dimension<'a, FragmentSummary> for Visible {
     }
 }
 
-/// A number of shown cells is a target.
+/// Seeks to a number of shown cells.
 impl Target<Visible> for Visible {
     ghost use Rattle.tree_cursor.specs.Counting.{number_passes};
     ghost use Rattle.tree_cursor.specs.CountingLaws.{number_stays};
@@ -166,7 +166,7 @@ impl Target<Visible> for Visible {
     }
 }
 
-/// The greatest id so far, lent by the summary that holds it.
+/// The greatest id before a place, borrowed from the summary that holds it.
 #[derive(Clone, Copy)]
 pub struct ById<'a> {
     pub id: Option<&'a Locator>,
@@ -204,7 +204,7 @@ impl<'a> Dimension<'a, FragmentSummary> for ById<'a> {
     }
 }
 
-/// An id is a target: a seek stops at the first fragment whose id is at least it (Left) or greater (Right), where ids ascend.
+/// Seeks to an id: if ids ascend, to the first fragment whose id is at least this one (`Left`) or greater (`Right`).
 impl<'a> Target<ById<'a>> for Locator {
     ghost use Rattle.tree_cursor.specs.Keys.{key_passes};
     ghost use Rattle.tree_cursor.specs.KeyLaws.{key_stays};

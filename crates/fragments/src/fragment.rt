@@ -1,7 +1,7 @@
-//! Fragments, and what is kept of a run of them.
-ghost use Rattle.std.specs.Prelude.{◌≡◌, IfOk, true, if◌then◌else◌};
+//! Fragments and their summaries.
+ghost use Rattle.std.specs.Prelude.{◌≡◌, IfOk, OnErr, OnOk, true, if◌then◌else◌};
 ghost use Rattle.std.specs.Option.{option_copied};
-ghost use Rattle.fragments.specs.Summaries.{no_fragments, summaries, IsSummary, SummaryFits, IsOne, summary_of, with_stamps, greater_id};
+ghost use Rattle.fragments.specs.Summaries.{no_fragments, summaries, IsSummary, SummaryFits, IsOne, summary_of, with_stamps, greater_id, all_but_id};
 ghost use Rattle.fragments.specs.SummaryLaws.{summary_laws, one_admitted, one_single};
 
 use crate::{OutOfMemory, Span, Spans, Stamps};
@@ -10,37 +10,37 @@ use locators::Locator;
 use std::alloc::Global;
 use sum_tree::{Item, Summary};
 
-/// A run of cells of one edit of which one thing is told.
+/// A run of cells of one edit that have the same status: shown or hidden, and by which edits they are deleted.
 ///
-/// A cell is a byte that an edit brought, hidden or not, and has the number that it has among all bytes of that edit.
+/// A cell is a byte that an edit inserted, hidden or not. Its number is its index among all bytes of that edit.
 #[derive(Drop)]
 pub struct Fragment {
-    /// Its place among all fragments: their ids ascend.
+    /// Its place among all fragments, whose ids ascend.
     pub id: Locator,
-    /// The edit that brought the cells.
+    /// The edit that inserted the cells.
     pub stamp: Lamport,
     /// The number of the first cell.
     pub offset: u64,
-    /// How many cells, at least one.
+    /// The number of cells, at least one.
     pub len: u64,
     /// Whether the cells are shown.
     pub visible: bool,
-    /// The edits that delete the cells, the greatest stamp first.
+    /// The edits that delete the cells, the one with the greatest stamp first.
     pub deletions: Stamps,
-    /// A version that sees every undo that counts the edit or one of the deletions.
+    /// A version that sees every undo or redo of the edit or of one of the deletions.
     pub max_undos: Version,
 }
 
-/// What is kept of a run of fragments.
+/// The summary of a run of fragments.
 #[derive(Drop)]
 pub struct FragmentSummary {
-    /// How many cells are shown.
+    /// The number of shown cells.
     pub visible: u64,
-    /// How many cells are hidden.
+    /// The number of hidden cells.
     pub hidden: u64,
-    /// The greatest id, None where there is no fragment.
+    /// The greatest id, `None` if there is no fragment.
     pub last_id: Option<Locator>,
-    /// The least and the greatest value of the fragments' stamps, for each replica.
+    /// The least and the greatest value of the fragments' stamps, by replica.
     pub span: Spans,
     /// A version that sees the stamps, the deletions and the undos.
     pub greatest: Version,
@@ -74,15 +74,12 @@ impl Summary for FragmentSummary {
             alloc,
             greater_id(self.last_id.as_ref(), other.last_id.as_ref()),
         )?;
-        self.span.join(&other.span)?;
-        self.greatest.join(&other.greatest)?;
-        self.visible += other.visible;
-        self.hidden += other.hidden;
+        self.add_all_but_id(alloc, other)?;
         self.last_id = last_id;
         Ok(())
     }
 
-    // Ids ascend, so the next one takes the place of the other's, which need not be copied.
+    // Ids ascend, so the next sum's id replaces the other's, which need not be copied.
     fn add_before(
         &mut self,
         alloc: Global,
@@ -92,15 +89,30 @@ impl Summary for FragmentSummary {
         if !gives_way(other.last_id.as_ref(), next.last_id.as_ref()) {
             return self.add(alloc, other);
         }
-        self.span.join(&other.span)?;
+        self.add_all_but_id(alloc, other)
+    }
+}
+
+impl FragmentSummary {
+    // Adds a sum, but keeps this one's id. The spans are put in place only after the last step that can fail.
+    fn add_all_but_id(&mut self, alloc: Global, other: &FragmentSummary) -> Result<(), OutOfMemory>
+        requires { SummaryFits (summaries self.old other.now) }
+        ensures ok { OnOk result (self.new ≡ all_but_id self.old other.now) }
+        ensures err { OnErr result (self.new ≡ self.old) }
+    {
+        let wider = self.span.wider(alloc, &other.span)?;
         self.greatest.join(&other.greatest)?;
+        match wider {
+            Some(span) => self.span = span,
+            None => self.span.join(&other.span),
+        }
         self.visible += other.visible;
         self.hidden += other.hidden;
         Ok(())
     }
 }
 
-// The greater of two ids, the first where they are equal.
+// The greater of two ids, the first if they are equal.
 pub(crate) fn greater_id<'a>(a: Option<&'a Locator>, b: Option<&'a Locator>) -> Option<&'a Locator>
     ensures { option_copied result ≡ greater_id (option_copied a.entry) (option_copied b.entry) }
 {
@@ -112,7 +124,7 @@ pub(crate) fn greater_id<'a>(a: Option<&'a Locator>, b: Option<&'a Locator>) -> 
     }
 }
 
-// Whether the greater of two ids is the second, and not the first.
+// Whether the greater of two ids is the second and not the first.
 fn gives_way(id: Option<&Locator>, next: Option<&Locator>) -> bool
     ensures { result ≡ true → greater_id (option_copied id.entry) (option_copied next.entry)
         ≡ option_copied next.entry }
@@ -170,7 +182,7 @@ impl Item for Fragment {
     }
 }
 
-// A version that sees a fragment's stamp, its deletions and its undos.
+// A version that sees a fragment's stamp, its deletions and its undos. Fails only if an allocation fails.
 fn greatest_of(alloc: Global, fragment: &Fragment) -> Result<Version, OutOfMemory>
     ensures { IfOk result (λ v. v ≡ (summary_of fragment.now).greatest) }
 {

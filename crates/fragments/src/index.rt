@@ -1,4 +1,4 @@
-//! Where the fragment of a cell is.
+//! An index that finds the fragment of a cell.
 ghost use Rattle.std.specs.Prelude.{◌≡◌, ◌+◌, ◌^◌, ◌≤◌, [], length, IfOk, OnErr, OnOk};
 ghost use Rattle.std.specs.Option.{option_copied};
 ghost use Rattle.fragments.specs.declared.index_entry.IndexEntry.{IndexEntry};
@@ -14,7 +14,7 @@ use std::marker::Model;
 use sum_tree::SumTree;
 use tree_cursor::{Bias, Greatest, look_up};
 
-/// The ids of fragments by the cells that they begin with. Contracts see it as the list of its entries, ascending by
+/// The ids of fragments, by the cell that each begins with. Contracts see it as the list of its entries, ascending by
 /// stamp, then descending by offset.
 #[derive(Drop)]
 pub struct InsertionIndex {
@@ -34,7 +34,7 @@ impl Model for InsertionIndex {
 }
 
 impl InsertionIndex {
-    /// No entries.
+    /// An empty index. Fails only if an allocation fails.
     pub fn new(alloc: Global) -> Result<InsertionIndex, OutOfMemory>
         ensures { IfOk result (λ m. m ≡ []) }
     {
@@ -43,7 +43,8 @@ impl InsertionIndex {
         })
     }
 
-    /// A second owner of the same entries.
+    /// Another index with the same entries, in constant time; nothing is copied. Fails only if `Arc` cannot count
+    /// another owner.
     pub fn share(&self) -> Result<InsertionIndex, OutOfMemory>
         ensures { IfOk result (λ m. m ≡ self.now) }
     {
@@ -52,15 +53,19 @@ impl InsertionIndex {
         })
     }
 
-    /// How many entries there are.
+    /// The number of entries. O(1), does not allocate.
     pub fn len(&self) -> u64
         ensures { result ≡ length self.now }
     {
         self.entries.len()
     }
 
-    /// Keeps the id of the fragment that begins with cell `offset` of an edit, in the place of the one that was kept
-    /// there. Afterwards there are at most 2^40 entries. Logarithmic in their number.
+    /// Sets the id of the fragment that begins with cell `offset` of an edit, and replaces the one set for that cell
+    /// before. There must then be at most 2^40 entries. O(log n).
+    ///
+    /// # Errors
+    ///
+    /// Fails only if an allocation fails. The index is then as before.
     pub fn add(
         &mut self,
         alloc: Global,
@@ -79,9 +84,8 @@ impl InsertionIndex {
         Ok(())
     }
 
-    /// The id of the fragment that has cell `offset` of an edit, where one has it: that of the edit's entry with the
-    /// greatest offset at most this. One descent, which takes no memory: it looks at no more than the entries of the
-    /// nodes on the way.
+    /// The id of the fragment that has cell `offset` of an edit, if there is one: that of the edit's entry with the
+    /// greatest offset that is at most this one. One descent, O(log n). Does not allocate.
     pub fn find(&self, stamp: Lamport, offset: u64) -> Option<&Locator>
         ensures { option_copied result ≡ id_for stamp offset self.now }
     {
@@ -99,7 +103,7 @@ impl InsertionIndex {
     }
 }
 
-// The first entry that does not stand before a key.
+// The first entry that does not come before a key.
 fn first_from(entries: &SumTree<IndexEntry>, key: IndexKey) -> Option<&IndexEntry>
     ensures { option_copied result ≡ first_from key entries.now.items }
 {

@@ -1,4 +1,4 @@
-//! An entry of an index, and its key.
+//! Entries of an index, and their keys.
 ghost use Rattle.std.specs.Prelude.{◌≡◌, Some, IfOk};
 ghost use Rattle.fragments.specs.Index.{key_of};
 
@@ -10,15 +10,15 @@ use std::cmp::Reverse;
 use sum_tree::{Item, KeyedItem};
 use tree_cursor::Greatest;
 
-/// What entries are ordered by: the edit, then the number of the first cell, the greatest first. So the entry with the
-/// greatest number at most another is the first one that does not stand before that other.
+/// The key of an entry: the edit, then the number of the first cell, the greatest first. So of one edit's entries, the
+/// one with the greatest number that is at most n is the first that does not come before n.
 #[derive(Clone, Copy, PartialEq, Eq, PartialOrd, Ord)]
 pub struct IndexKey {
     pub stamp: Lamport,
     pub offset: Reverse<u64>,
 }
 
-/// The id of the fragment that begins with a cell of an edit.
+/// The id of the fragment that begins with this cell of an edit.
 #[derive(Drop)]
 pub struct IndexEntry {
     pub stamp: Lamport,

@@ -1,22 +1,22 @@
-//! The laws of what stands for a history, shown by functions that do nothing.
+//! Laws of fragments that stand for a history. Each function does nothing when it runs: its contract is the law.
 ghost use Rattle.fragments.specs.Laws.{IndexFindsFragments, BaseStands, EntryTakesItsPlace, PlacesCountCells};
 
-/// An index finds the fragment of each cell.
+/// The index of fragments that stand for a lawful history finds the fragment of each cell.
 pub fn index_finds_fragments()
     ensures { IndexFindsFragments }
 {}
 
-/// One fragment stands for the base.
+/// One fragment stands for a base with a text, and no fragment for an empty base.
 pub fn base_stands()
     ensures { BaseStands }
 {}
 
-/// An entry takes the place of the one with its key.
+/// An entry that is set replaces the one with its key, and no other.
 pub fn entry_takes_its_place()
     ensures { EntryTakesItsPlace }
 {}
 
-/// Places count cells.
+/// The places after fragments count the cells of these fragments.
 pub fn places_count_cells()
     ensures { PlacesCountCells }
 {}

@@ -1,8 +1,8 @@
-//! Fragments: runs of cells of which one thing is told, as the items of a tree, with the places among them and an index
-//! that finds the fragment of a cell.
+//! Fragments: runs of cells of one edit that have the same status, as the items of a tree, with the places among them
+//! and an index that finds the fragment of a cell.
 //!
-//! A fragment with an id of up to three runs of equal digits, two deletions, and undos and a summary of up to four replicas
-//! lies in the value itself.
+//! A fragment is stored inline, without allocations of its own, if its id has at most three runs of equal digits, it
+//! has at most two deletions, and its undos and its summary concern at most four replicas.
 #![tactic(auto)]
 
 mod dimensions;
@@ -27,7 +27,7 @@ fn sends<T: Send>(_value: &T) {}
 
 fn shares<T: Sync>(_value: &T) {}
 
-/// Fragments and an index of them may be sent to threads and be shared by them.
+/// Fragments and an index of them may be sent to other threads and shared with them. Does nothing when it runs.
 pub fn crosses_threads(fragments: &SumTree<Fragment>, index: &InsertionIndex) {
     sends(fragments);
     shares(fragments);

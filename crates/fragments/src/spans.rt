@@ -1,7 +1,7 @@
-//! Of each replica the least and the greatest value of some stamps.
-ghost use Rattle.std.specs.Prelude.{◌≡◌, ◌≤◌, ◌<◌, ◌∷◌, [], length, min, max, IsOk, IfOk, OnErr, OnOk, true, false};
+//! The least and the greatest value of some stamps, by replica.
+ghost use Rattle.std.specs.Prelude.{◌≡◌, ◌≤◌, ◌<◌, ◌∷◌, [], length, min, max, None, IsOk, IfOk, IfSome, OnErr, OnOk, true, false};
 ghost use Rattle.fragments.specs.declared.spans.Span.{Span};
-ghost use Rattle.fragments.specs.Spans.{hull, with_span, join_spans, spans_before, IsSpanAt, sees_all, sees_none};
+ghost use Rattle.fragments.specs.Spans.{hull, with_span, join_spans, spans_before, has_replica, has_replicas, IsSpanAt, sees_all, sees_none};
 ghost use Rattle.fragments.specs.declared.spans.Sight.{Sight};
 
 use crate::OutOfMemory;
@@ -10,10 +10,10 @@ use smallvec::SmallVec;
 use std::alloc::Global;
 use std::marker::Model;
 
-/// How many spans take no memory of their own.
+/// The number of spans that are stored inline.
 pub const INLINE_SPANS: usize = 4;
 
-/// The least and the greatest value of a replica's stamps.
+/// The least and the greatest value of one replica's stamps.
 #[derive(Clone, Copy, Debug, Default, PartialEq, Eq)]
 pub struct Span {
     pub replica: u16,
@@ -22,7 +22,7 @@ pub struct Span {
 }
 
 impl Span {
-    // One span of all that either has, at the replica of the first.
+    // The least span that has both, at the replica of the first.
     fn hull(self, other: Span) -> Span
         ensures { result ≡ hull self other }
     {
@@ -34,20 +34,23 @@ impl Span {
     }
 }
 
-/// How much a version sees of some stamps.
+/// Which of some stamps a version sees.
 #[derive(Clone, Copy, Debug, PartialEq, Eq)]
 pub enum Sight {
-    /// It sees all of them, also where there are none.
+    /// All of them; also if there are none.
     All,
-    /// It sees none of them.
+    /// None of them.
     Nothing,
-    /// It may see some of them and not others.
+    /// Possibly some of them and not others.
     Part,
 }
 
-/// The spans of some stamps, one for each replica, replicas ascending. Contracts see them as their list.
+/// A list of spans. Contracts see it as that list.
 ///
-/// Up to [`INLINE_SPANS`] take no memory of their own.
+/// The spans of a summary are one for each replica, replicas ascending. The type itself keeps no such order: it is part
+/// of the law of summaries (`IsSummary`), and every sum of fragments has it.
+///
+/// Up to [`INLINE_SPANS`] spans are stored inline.
 #[derive(Drop)]
 pub struct Spans {
     inner: SmallVec<Span, INLINE_SPANS>,
@@ -63,7 +66,7 @@ impl Model for Spans {
 }
 
 impl Spans {
-    /// No spans.
+    /// An empty list. Does not allocate.
     pub fn new(alloc: Global) -> Spans
         ensures { result ≡ [] }
     {
@@ -72,7 +75,7 @@ impl Spans {
         }
     }
 
-    /// One span. It takes no memory.
+    /// A list of one span. Does not allocate and never fails.
     pub fn of(alloc: Global, span: Span) -> Result<Spans, OutOfMemory>
         ensures span { IfOk result (λ s. s ≡ span ∷ []) }
         ensures succeeds { IsOk result }
@@ -82,32 +85,61 @@ impl Spans {
         })
     }
 
-    /// The spans, replicas ascending.
+    /// The spans of a `Vec`, in its order. Does not allocate: a `Vec` with room for more than [`INLINE_SPANS`] keeps
+    /// its buffer.
+    pub fn from_vec(spans: Vec<Span>) -> Spans
+        ensures { result ≡ spans.items }
+    {
+        Spans {
+            inner: SmallVec::from_vec(spans),
+        }
+    }
+
+    /// The spans, in order. Does not allocate.
     pub fn as_slice(&self) -> &[Span]
         ensures { result.now ≡ self.now }
     {
         self.inner.as_slice()
     }
 
-    // Takes in a span.
-    fn widen(&mut self, span: Span) -> Result<(), OutOfMemory>
-        ensures { IfOk result (λ _. self.new ≡ with_span span self.old) }
+    // The spans of both joined. Or `None` if each replica of the others has a span here: then `join` does it in place,
+    // and cannot fail. O(n m).
+    pub(crate) fn wider(&self, alloc: Global, others: &Spans) -> Result<Option<Spans>, OutOfMemory>
+        ensures some { IfOk result (λ o. IfSome o (λ s. s ≡ join_spans self.now others.now)) }
+        ensures none { IfOk result (λ o. o ≡ None → has_replicas self.now others.now ≡ true) }
     {
-        widen(&mut self.inner, span)
+        if has_replicas(self.as_slice(), others.as_slice()) {
+            return Ok(None);
+        }
+        let mut inner = SmallVec::from_slice(alloc, self.as_slice())?;
+        for span in others.as_slice() {
+            widen(&mut inner, *span)?;
+        }
+        Ok(Some(Spans { inner }))
     }
 
-    // Takes in all spans of others. Linear in the product of both numbers.
-    pub(crate) fn join(&mut self, others: &Spans) -> Result<(), OutOfMemory>
-        ensures { IfOk result (λ _. self.new ≡ join_spans self.old others.now) }
+    // Widens the span of a replica, in place.
+    fn widen_here(&mut self, span: Span)
+        requires { has_replica self.old span.replica ≡ true }
+        ensures { self.new ≡ with_span span self.old }
+    {
+        let at = place_in(self.as_slice(), span.replica);
+        let old = self.as_slice()[at];
+        self.inner.as_mut_slice()[at] = old.hull(span);
+    }
+
+    // Widens the spans by those of the others, in place. O(n m), does not allocate.
+    pub(crate) fn join(&mut self, others: &Spans)
+        requires { has_replicas self.old others.now ≡ true }
+        ensures { self.new ≡ join_spans self.old others.now }
     {
         for span in others.as_slice() {
-            self.widen(*span)?;
+            self.widen_here(*span);
         }
-        Ok(())
     }
 
-    /// How much the version sees of the stamps of the spans. Each span is looked at once, and none after it is known to be
-    /// a part.
+    /// Which of the stamps of these spans the version sees. Reads each span once, and stops once the answer is `Part`.
+    /// Does not allocate.
     pub fn sight(&self, version: &Version) -> Sight
         ensures all { result ≡ Sight.All → sees_all version.now self.now ≡ true }
         ensures nothing { result ≡ Sight.Nothing
@@ -129,7 +161,7 @@ impl Spans {
     }
 }
 
-// The number of spans before the replica's place.
+// The number of spans before the place of a replica.
 fn place_in(spans: &[Span], r: u16) -> usize
     ensures place { result ≡ spans_before spans.now r }
     ensures within { result ≤ length spans.now }
@@ -141,7 +173,31 @@ fn place_in(spans: &[Span], r: u16) -> usize
     at
 }
 
-// The span at an index, where it is the replica's.
+// Whether the replica has a span.
+fn has_replica(spans: &[Span], r: u16) -> bool
+    ensures { result ≡ has_replica spans.now r }
+{
+    for span in spans {
+        if r <= span.replica {
+            return span.replica == r;
+        }
+    }
+    false
+}
+
+// Whether each replica of the others has a span.
+fn has_replicas(spans: &[Span], others: &[Span]) -> bool
+    ensures { result ≡ has_replicas spans.now others.now }
+{
+    for span in others {
+        if !has_replica(spans, span.replica) {
+            return false;
+        }
+    }
+    true
+}
+
+// The span at an index, if it is the replica's.
 fn span_at(spans: &[Span], at: usize, r: u16) -> Option<Span>
     ensures { IsSpanAt spans.now at r result }
 {
@@ -151,7 +207,7 @@ fn span_at(spans: &[Span], at: usize, r: u16) -> Option<Span>
     }
 }
 
-// Takes in a span.
+// Widens the replica's span, or inserts one.
 fn widen(spans: &mut SmallVec<Span, INLINE_SPANS>, span: Span) -> Result<(), OutOfMemory>
     ensures ok { OnOk result (spans.new.items ≡ with_span span spans.old.items) }
     ensures err { OnErr result (spans.new.items ≡ spans.old.items) }

@@ -9,12 +9,15 @@ use smallvec::SmallVec;
 use std::alloc::Global;
 use std::marker::Model;
 
-/// How many stamps take no memory of their own.
+/// The number of stamps that are stored inline.
 pub const INLINE_STAMPS: usize = 2;
 
-/// Stamps, the greatest first. Contracts see them as their list.
+/// A list of stamps. Contracts see it as that list.
 ///
-/// Up to [`INLINE_STAMPS`] take no memory of their own.
+/// The deletions of a fragment descend. The type itself keeps no such order: `insert` preserves it, and it follows if
+/// fragments stand for a history (`Stand`).
+///
+/// Up to [`INLINE_STAMPS`] stamps are stored inline.
 #[derive(Drop)]
 pub struct Stamps {
     inner: SmallVec<Lamport, INLINE_STAMPS>,
@@ -30,7 +33,7 @@ impl Model for Stamps {
 }
 
 impl Stamps {
-    /// No stamps.
+    /// An empty list. Does not allocate.
     pub fn new(alloc: Global) -> Stamps
         ensures { result ≡ [] }
     {
@@ -39,14 +42,24 @@ impl Stamps {
         }
     }
 
-    /// The stamps.
+    /// The stamps of a `Vec`, in its order. Does not allocate: a `Vec` with room for more than [`INLINE_STAMPS`] keeps
+    /// its buffer.
+    pub fn from_vec(stamps: Vec<Lamport>) -> Stamps
+        ensures { result ≡ stamps.items }
+    {
+        Stamps {
+            inner: SmallVec::from_vec(stamps),
+        }
+    }
+
+    /// The stamps, in order. Does not allocate.
     pub fn as_slice(&self) -> &[Lamport]
         ensures { result.now ≡ self.now }
     {
         self.inner.as_slice()
     }
 
-    /// Equal stamps. It takes memory only for more than [`INLINE_STAMPS`].
+    /// A copy. Allocates only for more than [`INLINE_STAMPS`] stamps, and fails only if that allocation fails.
     pub fn copy(&self, alloc: Global) -> Result<Stamps, OutOfMemory>
         ensures stamps { IfOk result (λ s. s ≡ self.now) }
         ensures short { length self.now ≤ INLINE_STAMPS → IsOk result }
@@ -56,7 +69,11 @@ impl Stamps {
         })
     }
 
-    /// Puts a stamp among stamps that descend. Linear in their number.
+    /// Inserts a stamp before the first one that it is later than, so stamps that descend still do. O(n).
+    ///
+    /// # Errors
+    ///
+    /// Fails only if an allocation fails. The stamps are then as before.
     pub fn insert(&mut self, t: Lamport) -> Result<(), OutOfMemory>
         ensures ok { OnOk result (self.new ≡ with_deletion t self.old) }
         ensures err { OnErr result (self.new ≡ self.old) }
@@ -69,7 +86,7 @@ impl Stamps {
     }
 }
 
-// The number of stamps at the front that `t` is not later than.
+// The number of leading stamps that `t` is not later than.
 fn place_in(stamps: &[Lamport], t: Lamport) -> usize
     ensures place { result ≡ place_of t stamps.now }
     ensures within { result ≤ length stamps.now }

@@ -1,4 +1,4 @@
--- Fragments where an undo counts edits.
+-- Fragments after an undo of edits.
 use Rattle.std.proofs.Common.{◌≡◌, Bool, true, false, cond, leb, List, [], ◌∷◌, ap, inl, inr, sym, ◌∙◌}
 use Rattle.std.proofs.lemmas.Bool.{cases_Bool, and_parts, and_from, or_left}
 use Rattle.std.specs.List.{list_any}
@@ -38,6 +38,6 @@ same_len w by ts f = elim (cases_Bool (list_any (concerns f) ts)) [
   | inr h ↦ ap (λ (g : Fragment). g.len) (unconcerned w by ts f h)
 ]
 
--- the same, for a list of edits that is ts
+-- the same for a list of edits equal to ts
 pub unmet_kept : (w : List UndoEntry) (by : Lamport) (ts us : List Lamport) → us ≡ ts → (f : Fragment) → may_concern_any us (summary_of f) ≡ false → anew w by ts f ≡ f
 unmet_kept w by ts us e f h = unmet_same w by ts f (ap (λ (z : List Lamport). may_concern_any z (summary_of f)) (sym e) ∙ h)

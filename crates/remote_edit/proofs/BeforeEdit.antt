@@ -1,4 +1,4 @@
--- Without an edit, fragments that it was walked into tell what they told before it.
+-- Fragments after the walk of an edit have, without it, the cells that they had before.
 use Rattle.std.proofs.Common.{◌≡◌, ℕ, zero, suc, ◌+◌, ◌-◌, ◌≤◌, Bool, true, false, cond, not, ◌||◌, ◌&&◌, List, [], ◌∷◌, ◌++◌, length, refl, sym, ap, ◌∙◌, arith, subst, inl, inr, leb, append_assoc, append-nil, length-append}
 use Rattle.std.proofs.lemmas.Bool.{cases_Bool, leb-false, or_parts}
 use Rattle.std.specs.List.{AllByRecursion, list_any, list_all}
@@ -81,7 +81,7 @@ module _ (w : List UndoEntry) (t : Lamport) where
   old_append [] ys = refl
   old_append (x ∷ xs) ys = elim (cases_Bool (same_stamp t x.stamp)) [ inl e ↦ rw e (old_append xs ys) | inr e ↦ rw e (ap (λ (z : List Run). old_run x ∷ z) (old_append xs ys)) ]
 
-  -- a run that edit t did not bring and does not delete, shown by the counts
+  -- a run that edit t did not insert and does not delete, shown by the counts
   pub record IsOld (r : Run) : Type 0 where
     pub other : same_stamp t r.stamp ≡ false
     pub free : list_any (same_stamp t) r.deletions ≡ false
@@ -104,7 +104,7 @@ module _ (w : List UndoEntry) (t : Lamport) where
       go true false = none_without t r.deletions o.free
       go false c = none_without t r.deletions o.free
 
-  -- of the runs rs, what is put out and what is left tell the same without edit t, which brings none of them
+  -- of the runs rs, what is put out and what is left have the same cells without edit t, which inserts none of them
   record Kept (rs : List Run) (z : Walked) : Type 0 where
     facts : facts_of (old_runs z.out) ++ facts_of z.rest ≡ facts_of rs
     rest : AllByRecursion IsOld z.rest

@@ -1,4 +1,4 @@
--- A number beside a place changes nothing of the place.
+-- A number paired with a place does not change the place.
 use Rattle.std.proofs.Common.{◌≡◌, ℕ, ◌+◌, Bool, cond, Option, Some, List, [], ◌∷◌, refl, sym, ap, ◌∙◌, arith}
 use Rattle.std.specs.Option.{option_map}
 use Rattle.tree_cursor.specs.Places.{behind, place_behind, seek_count}

@@ -16,7 +16,8 @@ use Rattle.remote_edit.specs.Starts.{AllSeen, starts}
 use Rattle.remote_edit.proofs.Starts.{behind, one_piece-rest, seen_behind, starts_behind, starts_fewer}
 use Rattle.remote_edit.proofs.PieceStarts.{piece_starts, piece_starts_touched}
 
--- of the pieces ps over the fragments fs, the pieces qs are to come, from cell `place` on, with the fragments rest behind it
+-- of the pieces ps over the fragments fs, the pieces qs are to come, from cell `place` on, with the fragments rest
+-- after it
 pub record IsOnBudget (v : Entries) (fs : List Fragment) (ps : List Piece) (place : ℕ) (rest : List Fragment) (qs : List Piece) (old new : ℕ) : Type 0 where
   pub order : Ordered place (2 ^ 40) qs
   pub seen : AllSeen v rest
@@ -37,7 +38,7 @@ module _ (v : Entries) (fs : List Fragment) (ps : List Piece) (place : ℕ) (res
         cost = omega (arith, c);
       }
 
-  -- it begins not far behind
+  -- it begins not far after this place
   pub budget_near : p.start - place ≤ 2 ^ 40
   budget_near = let o1 = b.order.1 in let k = ordered_le p.end (2 ^ 40) qs b.order.2 in omega (arith, o1, k)
 
@@ -55,7 +56,7 @@ module _ (v : Entries) (fs : List Fragment) (ps : List Piece) (place : ℕ) (res
       let z = starts_fewer p.start (place + suc a) p.end fs (omega arith) in
       omega (arith, h, f, x, y, z)
 
-  -- want of memory ends the walk there
+  -- a failed allocation ends the walk there
   pub budget_end : (n : ℕ) → n ≤ new + 256 * (1 + starts (max 1 (p.start - place)) (p.start - place + (p.end - p.start)) rest) → n ≤ old + 256 * piece_starts fs ps
   budget_end n h = let s = spent n h in let c = b.cost in omega (arith, s, c)
 

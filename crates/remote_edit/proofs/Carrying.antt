@@ -32,7 +32,7 @@ module _ (byte : Cell → ℕ) where
   long t k zero = refl
   long t k (suc n) = ap suc (long t (suc k) n)
 
-  -- the bytes of which p holds, by whether they are visible
+  -- the bytes for which p holds, by whether they are visible
   abbrev picked : (Bool → Bool) → List Fact → List ℕ
   picked p s = map (λ (q : Fact). byte q.cell) (filter (λ (q : Fact). p q.visible) s)
 
@@ -68,7 +68,7 @@ module _ (byte : Cell → ℕ) where
   pub both_append : (xs ys : List Fragment) → both_bytes byte (xs ++ ys) ≡ with_fronts (shown_bytes byte xs) (hidden_bytes byte xs) (both_bytes byte ys)
   both_append xs ys = rw (shown_append xs ys, hidden_append xs ys) refl
 
-  -- a move behind others, where it takes what stands between pre and rest
+  -- a move after others, if it takes what lies between pre and rest
   pub one_move : {t : Lamport} {s h n : List ℕ} {ms : List Move} {pre rest : List Fragment} {k : ℕ} (m : Move) (g : Fragment) (rest2 : List Fragment) (j : ℕ)
       → Carried byte t s h n ms pre rest k
       → HaveMoved (shown_bytes byte rest) (hidden_bytes byte rest) (drop k n) (m ∷ []) (both_bytes byte (g ∷ [])) (both_bytes byte rest2) (drop j n)
@@ -128,7 +128,7 @@ module _ (byte : Cell → ℕ) where
       go false true = (first (hidden_bytes byte rest), tt)
       go false false = (first (hidden_bytes byte rest), tt)
 
-  -- one fragment is put out, shown or hidden as it was or anew
+  -- one fragment is put out, shown or hidden as before or not
   pub carried_one : {t : Lamport} {s h n : List ℕ} {ms : List Move} {pre : List Fragment} (f g : Fragment) (rest : List Fragment) {k : ℕ}
       → Carried byte t s h n ms pre (f ∷ rest) k → SameCells f g → Carried byte t s h n (with_move ms (move_for f.visible g.visible f.len)) (pre ++ g ∷ []) rest k
   carried_one {t} {s} {h} {n} {ms} {pre} f g rest {k} c e = one_move (move_for f.visible g.visible f.len) g rest k c (becomes f g rest (drop k n) e) (takes f g rest (drop k n) e)

@@ -1,4 +1,4 @@
--- A piece without range and text changes nothing that is told of the cells.
+-- A piece without range and text changes no facts of the cells.
 use Rattle.std.proofs.Common.{◌≡◌, ℕ, ◌+◌, ◌-◌, ◌<◌, ◌≤◌, Bool, List, [], ◌∷◌, length, refl, sym, ap, ◌∙◌, arith, subst, ◌&&◌, ◌||◌, true, false, inl, inr, leb, ltb}
 use Rattle.std.proofs.lemmas.Bool.{cases_Bool, leb-true, le-ltb, ltb-false}
 use Rattle.std.specs.List.{AllByRecursion, filter}
@@ -68,7 +68,7 @@ in_changing (p ∷ ps) i = elim (cases_Bool (changes p)) [
   | inr e ↦ rw e (ap (λ (b : Bool). b || in_pieces ps i) (outside i p.start p.end (no_range p e)) ∙ in_changing ps i)
 ]
 
--- ---- the others stand in order
+-- ---- the others are in order
 
 pub ordered_changing : (at end : ℕ) (ps : List Piece) → Ordered at end ps → Ordered at end (changing ps)
 ordered_changing at end [] o = o

@@ -11,7 +11,7 @@ use Rattle.remote_edit.specs.declared.moves.Move.TheVariants.{Visible, Hidden, H
 use Rattle.remote_edit.specs.Moves.{TakeTexts, length_of, as_one, join_moves, with_last, with_move, from_shown, from_hidden, from_new}
 use Rattle.remote_edit.proofs.Joining.{AddsUp, more_total, shown_adds, hidden_adds, new_adds, fitted}
 
--- the first move and those behind it
+-- the first move and those after it
 none_more : (k : ℕ) → k + 0 ≡ k
 none_more k = omega arith
 
@@ -57,7 +57,7 @@ last_takes (m ∷ k ∷ ms) next s h n t u =
     let w = rw (past from_shown shown_adds m (k ∷ ms) s, past from_hidden hidden_adds m (k ∷ ms) h, past from_new new_adds m (k ∷ ms) n) at u in
     front m (with_last (k ∷ ms) next) s h n b.0 (last_takes (k ∷ ms) next (drop (from_shown (m ∷ [])) s) (drop (from_hidden (m ∷ [])) h) (drop (from_new (m ∷ [])) n) b.1 w)
 
--- one move more
+-- one more move
 pub take_more : (ms : List Move) (next : Move) (s h n : List ℕ) → TakeTexts ms s h n → TakeTexts (next ∷ []) (drop (from_shown ms) s) (drop (from_hidden ms) h) (drop (from_new ms) n) → TakeTexts (with_move ms next) s h n
 take_more ms next s h n t u = elim (cases_Bool (length_of next == 0)) [ inl e ↦ rw e t | inr e ↦ rw e (last_takes ms next s h n t u) ]
 

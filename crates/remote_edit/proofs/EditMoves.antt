@@ -1,4 +1,4 @@
--- What an edit does to the two texts, on the way over the fragments that tell of it.
+-- The moves of an edit in the two texts, on the way over the fragments that have it.
 use Rattle.std.proofs.Common.{◌≡◌, ℕ, ◌+◌, Bool, true, false, cond, List, [], ◌∷◌, ◌++◌, inl, inr, refl, sym, ap, ◌∙◌, arith, subst, append_assoc, append-nil}
 use Rattle.std.specs.List.{AllByRecursion, list_any}
 use Rattle.std.proofs.lemmas.Bool.{cases_Bool, or_parts}
@@ -80,7 +80,7 @@ module _ (w : List UndoEntry) (t : Lamport) where
       }
       go false e i c = record { k = k; brings = i; carry = go_on (omega arith) c (on_one (without_deletion w t x) x old (refl, refl, refl)) }
 
-  -- the moves of the walk carry the bytes along, and bring the cells from k up to m
+  -- the moves of the walk carry the bytes along, and insert the cells k..m
   carried_on : (m : ℕ) (fs done xs rest : List Fragment) (ms : List Move) (k : ℕ) → AllByRecursion (IsByCounts w) rest → Brings t k m rest
       → CarryOn t [] [] (before_edit w t fs) 0 ms done (xs ++ before_edit w t rest) k
       → CarryOn t [] [] (before_edit w t fs) 0 (moves_on (sees_edit t) (edit_move w t) ms (shown_len xs) (hidden_len xs) rest) (done ++ (xs ++ rest)) [] m

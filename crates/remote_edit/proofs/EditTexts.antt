@@ -1,4 +1,4 @@
--- Fragments that an edit was walked into: what they were before it, and how they are shown.
+-- Fragments after the walk of an edit: what they were before it, and which are shown.
 use Rattle.std.proofs.Common.{◌≡◌, ℕ, ◌+◌, Bool, false, List, [], ◌∷◌, length, map, refl, sym, ap, ◌∙◌, arith, subst, inl, inr}
 use Rattle.std.proofs.lemmas.Bool.{cases_Bool}
 use Rattle.std.specs.List.{AllByRecursion, filter, list_any}
@@ -38,7 +38,7 @@ use Rattle.remote_edit.proofs.OfFacts.{of_facts}
 use Rattle.remote_edit.proofs.UndoStands.{told_by_history}
 use Rattle.remote_edit.proofs.BeforeEdit.{IsOld, old_runs, runs_before, walk_kept, text_totals}
 
--- fragments that tell of a history are shown by its counts
+-- fragments with the cells of a history are shown by its counts
 pub shown_by_counts : (h : History) (u : List UndoEntry) (fs : List Fragment) → u ≡ undo_entries h → AllByRecursion IsFilled fs → Tell fs h → AllByRecursion (IsByCounts u) fs
 shown_by_counts h u fs e l s = of_facts (λ t v d. v ≡ is_shown u t d) fs l
     (subst (AllByRecursion (λ (q : Fact). q.visible ≡ is_shown u q.cell.stamp q.deletions)) (sym s) (go (cells (seq h)) (told_by_history h (seq h))))

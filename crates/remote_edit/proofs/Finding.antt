@@ -1,4 +1,4 @@
--- The fragments that a walk finds by a filter, and the places at which it stands.
+-- The fragments that a walk finds by a filter, and its places.
 use Rattle.std.proofs.Common.{◌≡◌, ℕ, zero, suc, ◌+◌, ◌-◌, ◌<◌, ◌≤◌, min, Bool, true, false, cond, List, [], ◌∷◌, ◌++◌, length, take, drop, refl, sym, ap, ◌∙◌, arith, Option, Some, None, append_assoc, append-nil, length-append}
 use Rattle.std.proofs.Math.Seq.{take-append_seam, drop-append_seam}
 use Rattle.std.proofs.lemmas.Option.{same_Some}
@@ -70,12 +70,12 @@ module _ {A S : Type 0} (keeps : S → Bool) (sum_of : A → S) where
 abbrev pub nothing_passed : Passed
 nothing_passed = record { visible = 0; hidden = 0 }
 
--- a place behind the first fragments
+-- a place after the first fragments
 pub record IsBehind (at : Passed) (fs : List Fragment) : Type 0 where
   pub shown_is : at.visible ≡ shown_len fs
   pub hidden_is : at.hidden ≡ hidden_len fs
 
--- how far a place lies behind another, with xs between them
+-- how far a place lies after another, with xs between them
 pub record IsPast (from to : Passed) (xs : List Fragment) : Type 0 where
   pub low : from.visible ≤ to.visible
   pub low_hidden : from.hidden ≤ to.hidden
@@ -92,7 +92,7 @@ past from to pre xs a b =
 abbrev pub Cursor : Type 0 → Type 0
 Cursor K = Filtering Fragment Passed K
 
--- the place behind the first n of its fragments
+-- the place after the first n of its fragments
 abbrev pub place_at : {K : Type 0} → Cursor K → ℕ → ℕ × ℕ
 place_at a n = place_behind move_passed summary_of (a.from.visible, a.from.hidden) (take n a.items)
 
@@ -110,7 +110,7 @@ place_behind_front a at n pre rest w f l e =
 -- ---- a walk
 
 module _ {K : Type 0} (keeps : K → FragmentSummary → Bool) where
-  -- how many fragments the cursor goes over
+  -- the number of fragments that the cursor goes over
   abbrev pub over : Cursor K → ℕ
   over a = filter_count (keeps a.keep) summary_of (drop a.next a.items)
 
@@ -119,7 +119,7 @@ module _ {K : Type 0} (keeps : K → FragmentSummary → Bool) where
   IsNext a b = b ≡ record a { given = a.next + over a; next = min (a.next + over a + 1) (length a.items) }
 
   module _ (want : FragmentSummary → Bool) (fs : List Fragment) where
-    -- the cursor a goes over fs by a filter that wants these, and stands behind pre, at the place `at`, with rest before it
+    -- the cursor a goes over fs by a filter for these, and is after pre, at the place `at`, with rest ahead of it
     pub record Stands (pre rest : List Fragment) (a : Cursor K) (at : Passed) : Type 0 where
       pub items : a.items ≡ fs
       pub keep : keeps a.keep ≡ want
@@ -162,7 +162,7 @@ module _ {K : Type 0} (keeps : K → FragmentSummary → Bool) where
       from_is : b.from ≡ nothing_passed
       from_is = ap (λ (z : Cursor K). z.from) m ∙ p.from
 
-      -- fragment x comes next, behind xs, which are passed; it starts at s
+      -- fragment x comes next, after xs, which are passed; it starts at s
       pub record Found (x : Fragment) (s : Passed) : Type 0 where
         pub xs : List Fragment
         pub ahead : List Fragment

@@ -1,4 +1,4 @@
--- The fragments of a history with one operation more, and those of a base.
+-- The fragments of a history with one more operation, and those of a base.
 use Rattle.std.proofs.Common.{◌≡◌, ℕ, suc, Bool, cond, List, [], ◌∷◌, ◌++◌, length, map, refl, sym, ap, ◌∙◌, arith, append_assoc}
 use Rattle.std.proofs.lemmas.Bool.{lt-ltb}
 use Rattle.std.proofs.lemmas.List.{append-nil}

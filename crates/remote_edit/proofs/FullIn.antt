@@ -1,4 +1,4 @@
--- Where shown cells are among all cells.
+-- The places of shown cells among all cells.
 use Rattle.std.proofs.Common.{◌≡◌, ℕ, zero, suc, ◌+◌, ◌-◌, ◌<◌, ◌≤◌, ltb, Bool, true, false, cond, List, [], ◌∷◌, ◌++◌, map, take, drop, refl, sym, ap, ◌∙◌, arith, inl, inr, subst}
 use Rattle.std.proofs.lemmas.Bool.{cases_Bool, le-ltb, lt-ltb, ltb-true, ltb-false}
 use Rattle.tree_cursor.specs.Places.{place_behind, seek_count}
@@ -23,7 +23,7 @@ use Rattle.remote_edit.specs.Carried.{hidden_len}
 use Rattle.remote_edit.specs.Offsets.{full_in, piece_in}
 use Rattle.remote_edit.proofs.PassedPlaces.{passed_behind}
 
--- ---- among what is told
+-- ---- among the facts of cells
 
 offset_of : List Fact → ℕ → ℕ
 offset_of [] o = 0
@@ -117,7 +117,7 @@ seek_hidden (f ∷ fs) o a b l h = go f.visible refl h (λ c d. seek_hidden fs o
         let n = hidden_next f fs false (sought o (a + 0) (b + f.len) fs) e in
         rw t (omega (arith, i, n))
 
--- what a cursor's seek tells
+-- what a cursor's seek gives
 pub found : (xs : List Fragment) (o : ℕ) (cur new : CursorState Fragment Passed) (start got : Passed)
     → cur.items ≡ xs → cur.index ≡ 0 → cur.from ≡ start → start.visible ≡ 0 → start.hidden ≡ 0
     → new ≡ record cur { index = cur.index + seek_count move_passed summary_of (λ p. number_passes o p.0 Right) (place_behind move_passed summary_of (cur.from.visible, cur.from.hidden) (take cur.index cur.items)) (drop cur.index cur.items) }

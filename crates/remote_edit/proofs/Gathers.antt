@@ -1,4 +1,4 @@
--- Steps of a walk that gathers what comes in the place of a range.
+-- Steps of a walk that gathers what replaces a range.
 use Rattle.std.proofs.Common.{◌≡◌, ℕ, zero, suc, ◌+◌, ◌-◌, ◌<◌, ◌≤◌, ◌^◌, Option, List, [], ◌∷◌, ◌++◌, length, take, drop, refl, sym, ap, ◌∙◌, arith, subst, not, ◌&&◌, true, false, Some, None, append_assoc}
 use Rattle.std.specs.List.{AllByRecursion, slice_get}
 use Rattle.std.proofs.lemmas.Bool.{and_parts, not-true}
@@ -45,7 +45,7 @@ fit_one pre r f h =
     let b = cells_len-append pre (f ∷ r) in
     let h1 = h.1 in (k.0.0, k.0.1, omega arith)
 
--- others in the place of one, with as many cells
+-- one replaced by others with as many cells
 pub fit_swap : (pre r ys : List Fragment) (f : Fragment) → Fit (pre ++ f ∷ r) → AllByRecursion IsFilled ys → cells_len ys ≡ f.len → Fit (pre ++ (ys ++ r)) × (cells_len (pre ++ (ys ++ r)) ≡ cells_len (pre ++ f ∷ r))
 fit_swap pre r ys f h k e =
     let b1 = cells_len-append pre (f ∷ r) in

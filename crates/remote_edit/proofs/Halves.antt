@@ -1,4 +1,4 @@
--- Fragments of which the first i are changed one by one, to others with as many cells.
+-- Fragments of which the first i are changed one by one to others with as many cells.
 use Rattle.std.proofs.Common.{◌≡◌, ℕ, zero, suc, ◌+◌, ◌<◌, ◌≤◌, min, Bool, true, false, cond, List, [], ◌∷◌, length, map, drop, refl, sym, ap, ◌∙◌, arith, subst, Some, None}
 use Rattle.std.specs.List.{slice_get}
 use Rattle.sum_tree.specs.Laws.{fold}
@@ -94,7 +94,7 @@ half_fits m k i fs h = let e = half_cells m k i fs no_fragments no_fragments ref
 
 -- ---- one turn
 
--- item i is the next that is kept: what stands there, what putting it anew makes, and where the cursor goes on
+-- item i is the next that is kept: what it is, what replacing it makes, and where the cursor goes on
 pub record Turn {A : Type 0} (m : A → A) (fs gs : List A) (x : A) (next i after : ℕ) : Type 0 where
   pub here : slice_get fs i ≡ Some x
   pub stands : slice_get gs i ≡ Some x

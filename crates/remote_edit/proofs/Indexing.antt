@@ -1,4 +1,4 @@
--- An index keeps the entries of fragments that are split and put in.
+-- An index has the entries of fragments that are split and inserted.
 use Rattle.std.proofs.lemmas.Option.{same_Some}
 use Rattle.op_model.proofs.Elements.{each_left, each_right, each_map, each_append, pairs_in, pairs_out}
 use Rattle.std.proofs.Common.{◌≡◌, ◌↔◌, ℕ, ◌+◌, ◌-◌, ◌<◌, ◌^◌, List, [], ◌∷◌, ◌++◌, map, refl, sym, ap, ◌∙◌, arith, subst, inl, inr, Some, append_assoc}
@@ -39,7 +39,7 @@ apart_key f g h k d e =
 apart_back : (f g : Fragment) → IsApart f g → IsApart g f
 apart_back f g d = λ e. elim (d (sym e)) [ inl l ↦ inr l | inr l ↦ inl l ]
 
--- an entry more, of a key that no other fragment has
+-- one more entry, of a key that no other fragment has
 entry_in : (pre r : List Fragment) (a : Fragment) (w : List IndexEntry) → IsAscending w → IsIndexOf (pre ++ r) w → AllByRecursion (OtherKey (entry_of a)) (pre ++ r) → IsIndexOf (pre ++ a ∷ r) (with_entry (entry_of a) w)
 entry_in pre r a w s i o e = (to, from)
   where
@@ -49,7 +49,7 @@ entry_in pre r a w s i o e = (to, from)
     from : Member e (map entry_of (pre ++ a ∷ r)) → Member e (with_entry (entry_of a) w)
     from m = (with_one_more e a w s).1 (elim ((mid_entry e pre r a).0 m) [ inl q ↦ inl q | inr n ↦ inr ((i e).1 n, other_keys (entry_of a) e (pre ++ r) o n) ])
 
--- an entry in the place of that of a fragment with its key
+-- an entry replaces that of a fragment with its key
 entry_for_entry : (pre r : List Fragment) (f a : Fragment) (w : List IndexEntry) → IsAscending w → key_of (entry_of a) ≡ key_of (entry_of f) → IsIndexOf (pre ++ f ∷ r) w → AllByRecursion (OtherKey (entry_of a)) (pre ++ r)
     → IsIndexOf (pre ++ a ∷ r) (with_entry (entry_of a) w)
 entry_for_entry pre r f a w s same i o e = (to, from)
@@ -113,7 +113,7 @@ indexed_front t k pre r f n id w fl h l x =
       before = z.1;
     }
 
--- a fragment with other cells is put in
+-- a fragment with other cells is inserted
 pub indexed_in : (t : Lamport) (k : ℕ) (pre r : List Fragment) (a : Fragment) (w : List IndexEntry) → IsFilled a → AllByRecursion IsFilled (pre ++ r)
     → AllByRecursion (λ x. IsApart x a) (pre ++ r) → EndsBefore t k a → IsIndexed t k (pre ++ r) w → IsIndexed t k (pre ++ a ∷ r) (with_entry (entry_of a) w)
 indexed_in t k pre r a w fa fl d b x = record {
@@ -147,7 +147,7 @@ indexed_split t k pre r f n id w fl h l x =
     (subst (λ (fs : List Fragment). IsIndexed t k fs w1) (sym q) x1) in
     subst (λ (fs : List Fragment). IsIndexed t k fs (with_entry (entry_of b) w1)) (append_assoc pre (a ∷ []) (b ∷ r)) z
 
--- new cells are put in
+-- new cells are inserted
 pub indexed_new : (t : Lamport) (k n : ℕ) (pre r : List Fragment) (id : List ℕ) (w : List IndexEntry) → AllByRecursion IsFilled (pre ++ r) → 0 < n → k + n < 2 ^ 64
     → IsIndexed t k (pre ++ r) w → IsIndexed t (k + n) (pre ++ new_fragment t k n id ∷ r) (with_entry (entry_of (new_fragment t k n id)) w)
 indexed_new t k n pre r id w fl h l x =

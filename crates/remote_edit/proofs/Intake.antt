@@ -1,4 +1,4 @@
--- How many of a tree's fragments a gather takes, and how many it makes.
+-- The number of a tree's fragments that a gather takes, and the number that it makes.
 use Rattle.std.proofs.Common.{◌≡◌, ℕ, zero, suc, ◌+◌, ◌-◌, ◌*◌, ◌<◌, ◌≤◌, max, min, true, false, List, [], ◌∷◌, ◌++◌, length, take, drop, refl, sym, ap, ◌∙◌, arith, subst, inl, inr, leb, Option, Some, None, not, ◌&&◌, length-append, length-drop}
 use Rattle.std.specs.Prelude.{option_to_list}
 use Rattle.std.proofs.lemmas.Bool.{cases_Bool}
@@ -19,7 +19,7 @@ use Rattle.remote_edit.specs.Gathers.{ahead}
 use Rattle.remote_edit.specs.Starts.{AllSeen, intake, starts, IsFew, IsLeft, MakeFew}
 use Rattle.remote_edit.proofs.Gathers.{headed, none_rest}
 
--- ---- a walk makes at most three fragments more
+-- ---- a walk makes at most three more fragments
 
 abbrev all : Zip → ℕ
 all z = length z.pre + length z.rest
@@ -57,7 +57,7 @@ one_piece-length w t v n k p pre rest =
     let ed = advance-length (Some w) t v (p.end - p.start) c.pre c.rest in
     omega (arith, ea, eb, ec, ed)
 
--- so where few are taken, few are made
+-- so if few are taken, few are made
 made_few : (xs made : List Fragment) (i j c : ℕ) (b : Option Fragment) (z : Zip) → i ≤ length xs → zip (take i xs ++ made) (option_to_list b ++ drop j xs) ≡ z → all z ≤ length (take i xs) + length (drop i xs) + 3 → j ≤ i + 1 + c
     → length made + length (option_to_list b) ≤ c + 4
 made_few xs made i j c b z h e l q =

@@ -1,4 +1,4 @@
--- A move behind others, and what it does with them.
+-- A move after others, and what it does with them.
 use Rattle.std.proofs.Common.{◌≡◌, ℕ, zero, suc, ◌+◌, ◌^◌, ◌<◌, ◌==◌, Bool, true, false, cond, nat_lt, List, [], ◌∷◌, ◌++◌, length, take, drop, set, get_or, Option, Some, None, refl, sym, ap, ◌∙◌, arith, append_assoc, inl, inr, ◌-◌}
 use Rattle.std.proofs.Math.Seq.{take-add}
 use Rattle.std.proofs.lemmas.List.{append-nil, drop-drop}
@@ -59,7 +59,7 @@ compose (Insert k ∷ ms) ns s h n =
     let r : Texts = after_moves ms s h (drop k n) in
     rw (← drop-drop (from_new ms) k n, compose ms ns s h (drop k n)) (twice (take k n) [] r.shown r.hidden (after_moves ns (drop (from_shown ms) s) (drop (from_hidden ms) h) (drop (from_new ms) (drop k n))))
 
--- ---- equal lists in front and behind
+-- ---- equal lists before and after
 
 pub same_behind : (ms : List Move) (ks ns : List Move) → DoTheSame ks ns → DoTheSame (ms ++ ks) (ms ++ ns)
 same_behind [] ks ns e s h n = e s h n
@@ -114,9 +114,9 @@ joined_same ms next s h n = elim (cases_Bool (length_of next == 0)) [
   | inr e ↦ rw e (last_same ms next s h n)
 ]
 
--- ---- with other moves behind
+-- ---- with other moves after it
 
--- ---- how many bytes moves take
+-- ---- the numbers of bytes that moves take
 
 -- a number of moves that adds up
 pub record AddsUp (total : List Move → ℕ) : Type 0 where

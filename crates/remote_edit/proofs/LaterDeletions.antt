@@ -26,7 +26,7 @@ use Rattle.remote_edit.proofs.OfFacts.{of_facts}
 abbrev pub AreLater : Lamport → List Lamport → Type 0
 AreLater u d = AllByRecursion (λ (t : Lamport). u.value < t.value) d
 
--- a cell that stands at a range of a sequence is a cell of it
+-- a cell of a range of a sequence is a cell of the sequence
 cell_there : (keep : Lamport → Bool) (s : List PathCell) (i : ℕ) (ps : List Piece) (c : Cell) → AllByRecursion (λ (p : PathCell). keep p.cell.stamp ≡ true) s → in_ranges s i ps c ≡ true → keep c.stamp ≡ true
 unfolding same_cell
 cell_there keep [] i ps c e h = cc
@@ -71,6 +71,6 @@ told_late h l (p ∷ s) = (deleters_later everything (newest_first h) p.cell (λ
 abbrev pub HasLaterDeletions : Fragment → Type 0
 HasLaterDeletions f = AreLater f.stamp f.deletions
 
--- the deletions of fragments that tell of a lawful history are later than what they delete
+-- the deletions of fragments with the cells of a lawful history are later than what they delete
 pub late_deletions : (h : History) → Lawful h → (fs : List Fragment) → AllByRecursion IsFilled fs → Tell fs h → AllByRecursion HasLaterDeletions fs
 late_deletions h l fs f t = of_facts (λ u v d. AreLater u d) fs f (rw t (told_late h l (seq h)))

@@ -1,4 +1,4 @@
--- Marks by the entries that are kept of a history's undo counts are those by the history.
+-- Marks by the entries of a history's undo counts are those by the history.
 use Rattle.std.proofs.Common.{◌≡◌, false, cond, not, ◌||◌, List, [], ◌∷◌, refl, inl, inr}
 use Rattle.std.specs.List.{filter, list_all}
 use Rattle.std.proofs.lemmas.Bool.{cases_Bool}

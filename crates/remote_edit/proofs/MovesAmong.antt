@@ -42,7 +42,7 @@ module _ (keeps : FragmentSummary → Bool) (does : Fragment → Move) where
   pub passed_first : (ms : List Move) (xs ys : List Fragment) → AllByRecursion (Unkept keeps summary_of) xs → moves_on keeps does ms 0 0 (xs ++ ys) ≡ moves_on keeps does ms (shown_len xs) (hidden_len xs) ys
   passed_first ms xs ys u = passed_on ms 0 0 xs ys u ∙ same_on ms (0 + shown_len xs) (0 + hidden_len xs) (shown_len xs) (hidden_len xs) ys (omega arith) (omega arith)
 
-  -- one more that is passed behind others
+  -- one more that is passed after others
   pub one_more : (ms : List Move) (xs : List Fragment) (x : Fragment) (rest : List Fragment) → moves_on keeps does ms (shown_len (xs ++ x ∷ [])) (hidden_len (xs ++ x ∷ [])) rest
       ≡ moves_on keeps does ms (cond x.visible (shown_len xs + x.len) (shown_len xs)) (cond x.visible (hidden_len xs) (hidden_len xs + x.len)) rest
   one_more ms xs x rest =

@@ -1,4 +1,4 @@
--- What is told of the cells of fragments is told of the fragments.
+-- What holds of the cells of fragments holds of the fragments.
 use Rattle.op_model.proofs.Elements.{each_right}
 use Rattle.std.proofs.Common.{ℕ, zero, suc, ◌<◌, Bool, List, [], ◌∷◌, ◌++◌, arith}
 use Rattle.std.specs.List.{AllByRecursion}

@@ -16,7 +16,7 @@ use Rattle.remote_edit.specs.Indexes.{IsIndexed}
 use Rattle.remote_edit.proofs.Gathers.{on_unseen, on_whole, on_split, grown, headed}
 use Rattle.remote_edit.proofs.Entering.{enter_none, front_room, back_room, enter_split}
 
--- from s to n, where the fragment f comes next
+-- from s to n, if the fragment f comes next
 module _ (e : EditOp) (xs : List Fragment) (s : Gather) (f : Fragment) (next : Some f ≡ head (ahead xs s)) (n : Gather) where
   abbrev Indexed : Gather → Type 0
   Indexed g = IsIndexed e.stamp g.number (so_far xs g ++ ahead xs g) g.index
@@ -46,7 +46,7 @@ module _ (e : EditOp) (xs : List Fragment) (s : Gather) (f : Fragment) (next : S
       whole_indexed number index x =
           enter_none m e.stamp e.version s.number n.number (so_far xs s) (ahead xs s) (so_far xs n) (ahead xs n) f g s.index n.index next is (grown xs s.made.items n.made.items s.from n.from g from made) rest number index x
 
-    -- its first cells, a; those behind them are b
+    -- its first cells, a; those after them are b
     module _ (a b : Fragment) (lower : a ≡ front f left (between_digits (last_id (so_far xs s)) f.id)) (upper : b ≡ back f left) (less : left < f.len) where
       pub lower_room : Indexed s → length (with_entry (entry_of a) s.index) ≤ 2 ^ 40
       lower_room x = front_room e.stamp s.number (so_far xs s) (ahead xs s) f a b left (between_digits (last_id (so_far xs s)) f.id) s.index next lower upper some less fit x

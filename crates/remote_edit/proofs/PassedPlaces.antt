@@ -1,4 +1,4 @@
--- The places behind fragments count their shown and their hidden cells, and so do their sums.
+-- The places after fragments count their shown and their hidden cells, and so do their sums.
 use Rattle.std.proofs.Common.{◌≡◌, ℕ, ◌+◌, ◌≤◌, ◌^◌, Bool, true, false, cond, List, [], ◌∷◌, ◌++◌, Option, Some, refl, ap, ◌∙◌, arith}
 use Rattle.std.specs.Option.{option_map}
 use Rattle.sum_tree.specs.Laws.{fold}
@@ -51,7 +51,7 @@ hidden_append_len (x ∷ xs) ys = go x.visible (hidden_append_len xs ys)
 
 -- ---- places
 
--- the numbers beside a place change nothing of where a seek stops
+-- the numbers paired with a place do not change where a seek stops
 pub seek_seen : (stops : At → Bool) (p : At) (a b : ℕ) (fs : List Fragment) → seek_count move_seen summary_of (λ q. stops q.0.0) ((p, a), b) fs ≡ seek_count move_at summary_of stops p fs
 seek_seen stops p a b fs =
     count_beside move_at_visible (λ s. s.hidden) summary_of visible_whole (λ q. stops q.0) (beside a p) b fs
@@ -75,7 +75,7 @@ hidden_sum s (f ∷ fs) = let e = hidden_more f fs in let ih = hidden_sum (summa
 pub whole_sum : (fs : List Fragment) → ((fold no_fragments summaries summary_of fs).visible ≡ shown_len fs) × ((fold no_fragments summaries summary_of fs).hidden ≡ hidden_len fs)
 whole_sum fs = let a = visible_sum no_fragments fs in let b = hidden_sum no_fragments fs in (omega (arith, a), omega (arith, b))
 
--- where there are at most 2^40 cells, each place fits
+-- if there are at most 2^40 cells, each place fits
 pub seen_fits : (v : Entries) (fs : List Fragment) → cells_len fs ≤ 2 ^ 40 → SeenFits (((v, 0), 0), 0) (fold no_fragments summaries summary_of fs)
 seen_fits v fs h = let a = (whole_sum fs).0 in let b = (whole_sum fs).1 in let c = all_cells fs in ((omega (arith, a, b, c, h), omega (arith, a, c, h)), omega (arith, b, c, h))
 

@@ -1,4 +1,4 @@
--- How many cells a version sees, and one step over a fragment.
+-- The number of cells that a version sees, and one step over a fragment.
 use Rattle.std.proofs.Common.{◌≡◌, ℕ, zero, suc, ◌+◌, ◌-◌, ◌<◌, ◌≤◌, ◌^◌, Option, List, [], ◌∷◌, ◌++◌, take, refl, ap, ◌∙◌, arith, cond, true, false, inl, inr}
 use Rattle.std.proofs.lemmas.Bool.{le-leb, lt-leb, cases_Bool}
 use Rattle.lamport_clock.specs.declared.stamp.Lamport.{Lamport}

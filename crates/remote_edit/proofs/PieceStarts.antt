@@ -9,17 +9,17 @@ use Rattle.fragments.specs.Stand.{IsFilled}
 use Rattle.remote_edit.specs.Costs.{is_met, touch_count_behind}
 use Rattle.remote_edit.specs.Starts.{starts}
 
--- how many fragments begin in the range of each piece, and one for each
+-- the number of fragments that begin in the range of each piece, and one for each
 abbrev pub piece_starts : List Fragment → List Piece → ℕ
 piece_starts fs [] = 0
 piece_starts fs (p ∷ ps) = 1 + starts p.start p.end fs + piece_starts fs ps
 
--- how many ranges cell k lies in
+-- the number of ranges that cell k lies in
 abbrev ranges : ℕ → List Piece → ℕ
 ranges k [] = 0
 ranges k (p ∷ ps) = (min 1 (p.end - k) - (p.start - k)) + ranges k ps
 
--- how many fragments begin in them, where k cells lie before the first
+-- the number of fragments that begin in them, where k cells come before the first
 abbrev begins : ℕ → List Piece → List Fragment → ℕ
 begins k [] fs = 0
 begins k (p ∷ ps) fs = starts (p.start - k) (p.end - k) fs + begins k ps fs

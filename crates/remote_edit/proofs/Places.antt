@@ -1,4 +1,4 @@
--- Fragments where some are put in the place of others.
+-- Fragments of which some are replaced by others.
 use Rattle.std.proofs.Common.{◌≡◌, ℕ, zero, suc, ◌≤◌, List, [], ◌∷◌, take, refl, ap, ◌∙◌, arith, Option, Bool, cond, true, false, Some, None}
 use Rattle.std.specs.List.{slice_get}
 use Rattle.locators.specs.Locator.{least_digits}

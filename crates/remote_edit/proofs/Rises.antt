@@ -24,7 +24,7 @@ last_from (f ∷ fs) = go f fs
     go f [] = refl
     go f (g ∷ fs) = go g fs
 
--- one more between two
+-- one more id between two
 rises_new : (low : List ℕ) (pre r : List Fragment) (g : Fragment) → Rise low (pre ++ r) → g.id ≡ between_digits (from_low low pre) (next_id r) → Rise low (pre ++ g ∷ r)
 unfolding from_low
 rises_new low [] [] g h e = let k = above low greatest_digits in subst (λ (i : List ℕ). IsLess low i × EndsAboveZero i × IsLess i greatest_digits) (sym e) (k.0, k.1, below low greatest_digits h (omega arith))

@@ -112,7 +112,7 @@ module _ (w : List UndoEntry) (t : Lamport) (v : Entries) (new : (u : Lamport) �
         ∙ ap (λ (x : List Run). x ++ f (runs z.rest)) e.before ∙ ap (λ (x : List Run). (runs pre ++ o.out) ++ f x) e.behind ∙ append_assoc (runs pre) o.out (f o.rest)))
   ]
 
--- fragments that tell of a history tell, with an edit walked in, of the history with it
+-- fragments with the cells of a history have, after the walk of an edit, those of the history with it
 pub walk_tells : (h : History) (op : Operation) (fs : List Fragment) → Lawful h → answer h [] op ≡ Good → is_edit op ≡ true → AllByRecursion IsFilled fs → Tell fs h
     → Tell (walk (undo_entries h) (stamp_of op) (version_of op) 0 0 (pieces_of op) [] fs) (h ++ op ∷ [])
 walk_tells h op fs l g e f s =

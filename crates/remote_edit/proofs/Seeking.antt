@@ -132,7 +132,7 @@ module _ (v : Entries) (goal : ℕ) where
         (omega arith, (omega (arith, is), subst (IsIn (seen_bytes v (take k xs))) (sym dk) (subst (λ (m : ℕ). IsIn m (drop j d)) (sym kk) (stop place d)))),
       )
 
--- what a cursor's seek tells
+-- what a cursor's seek gives
 pub found : (t : Lamport) (v : Entries) (xs : List Fragment) (n i place index : ℕ) (cur new : CursorState Fragment FullAt) (start got : FullAt)
     → cur.items ≡ xs → cur.index ≡ 0 → cur.from ≡ start → start.version.now ≡ v → start.bytes ≡ 0
     → new ≡ record cur { index = cur.index + seek_count move_at summary_of (λ p. number_passes (place + n) p.1 Left) (place_behind move_at summary_of (cur.from.version.now, cur.from.bytes) (take cur.index cur.items)) (drop cur.index cur.items) }

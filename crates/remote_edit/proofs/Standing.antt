@@ -1,4 +1,4 @@
--- What stands for a history in which an edit is good: there is room for the walk, and an index to begin with.
+-- Fragments that stand for a history in which an edit is good: there is room for the walk, and an index to begin with.
 use Rattle.std.proofs.Common.{◌≡◌, ◌+◌, ◌≤◌, ◌^◌, true, List, [], ◌∷◌, length, ap, ◌∙◌, arith, subst}
 use Rattle.std.specs.List.{AllByRecursion}
 use Rattle.lamport_clock.specs.declared.stamp.Lamport.{Lamport}

@@ -1,4 +1,4 @@
--- How many fragments begin among some cells, before and behind a place of a walk that sees them all.
+-- The number of fragments that begin among some cells, before and after a place of a walk that sees them all.
 use Rattle.std.proofs.Common.{◌≡◌, ℕ, zero, suc, ◌+◌, ◌-◌, ◌≤◌, max, min, true, if◌then◌else◌, nat_le, List, [], ◌∷◌, ◌++◌, length, take, drop, refl, sym, ap, ◌∙◌, arith, subst, inl, inr, leb, Option, Some, None}
 use Rattle.std.specs.List.{AllByRecursion}
 use Rattle.std.proofs.lemmas.Bool.{cases_Bool, leb-true, leb-false}
@@ -62,7 +62,7 @@ one_piece-rest w t v n k p pre rest h =
     let ec : c.rest ≡ a.rest = put-rest t k (length p.text) b.pre b.rest ∙ skip-rest t v a.pre a.rest ha in
     advance-rest (Some w) t v (p.end - p.start) c.pre c.rest (subst (AllSeen v) (sym ec) ha) ∙ ap (behind (p.end - p.start)) (ec ∙ ea)
 
--- ---- how many begin behind a place
+-- ---- the number that begin after a place
 
 pub starts_behind : (x a b : ℕ) (fs : List Fragment) → starts (suc a) b (behind x fs) ≡ starts (x + suc a) (x + b) fs
 starts_behind x a b [] = refl

@@ -1,4 +1,4 @@
--- The bytes of fragments that tell of a history are its texts.
+-- The bytes of fragments with the cells of a history are its texts.
 use Rattle.std.proofs.Common.{◌≡◌, ℕ, Bool, not, List, [], ◌∷◌, ◌++◌, length, refl, sym, ap, ◌∙◌, arith}
 use Rattle.std.specs.List.{AllByRecursion, filter}
 use Rattle.op_model.specs.declared.operation.Operation.{Operation}
@@ -64,7 +64,7 @@ carried_texts h op fs gs ms l g t u c =
     let e = (good_more h op r g).0.0.distinct in
     ended h op d e gs ms (length (texts (pieces_of op))) u (c (byte_of (h ++ op ∷ [])) (text h) (hidden_text h) (texts (pieces_of op)) (omega arith) (begun h op d e fs t))
 
--- moves that carry the bytes of fragments along to others take whole characters where the bytes of each of these are UTF-8
+-- moves that carry the bytes of fragments to others take whole characters if the bytes of each of these are UTF-8
 pub carried_characters : (h : History) (op : Operation) (fs gs : List Fragment) (ms : List Move) → Lawful h → answer h [] op ≡ Good → Tell fs h → Carry ms op fs gs
     → AllByRecursion (IsText (byte_of (h ++ op ∷ []))) gs → TakeTexts ms (text h) (hidden_text h) (texts (pieces_of op))
 carried_characters h op fs gs ms l g t c u =

@@ -1,4 +1,4 @@
--- Fragments where an undo counts edits stand for the history with the undo.
+-- Fragments after an undo of edits stand for the history with the undo.
 use Rattle.std.proofs.Common.{◌≡◌, ℕ, zero, suc, ◌<◌, ◌↔◌, leb, Bool, true, false, List, [], ◌∷◌, ◌++◌, map, refl, sym, ap, ◌∙◌, arith, subst, inl, inr}
 use Rattle.std.proofs.lemmas.Bool.{cases_Bool, and_from, le-leb}
 use Rattle.std.specs.List.{AllByRecursion, list_any}
@@ -38,7 +38,7 @@ use Rattle.remote_edit.proofs.Marks.{is_told}
 use Rattle.remote_edit.proofs.LaterDeletions.{HasLaterDeletions, late_deletions}
 use Rattle.remote_edit.proofs.OfFacts.{of_facts}
 
--- a cell, and a fragment, is shown as the history has it
+-- a cell, and a fragment, is shown exactly if the history shows it
 abbrev ByHistory : History → Fact → Type 0
 ByHistory h q = q.visible ≡ visible_by h q.cell.stamp q.deletions
 

@@ -23,7 +23,7 @@ use Rattle.fragments.proofs.Counts.{sees_more}
 use Rattle.remote_edit.specs.Marks.{was_shown, touch}
 use Rattle.remote_edit.specs.Walk.{last_id, next_id, front, back, new_fragment, Zip, advance, skip_later, put_new, changes, walk}
 
--- what holds of fragments, split, touched and new ones too, holds of those that a walk leaves
+-- what holds of fragments, also of split, touched and new ones, holds of those after a walk
 module _ (P : Fragment → Type 0) (t : Lamport) (v : Entries)
     (of_front : (f : Fragment) (n : ℕ) (id : List ℕ) → P f → P (front f n id)) (of_back : (f : Fragment) (n : ℕ) → P f → P (back f n))
     (of_touch : (m : Option (List UndoEntry)) (f : Fragment) → P f → P (touch m t v f)) (of_new : (k n : ℕ) (id : List ℕ) → P (new_fragment t k n id)) where

@@ -1,4 +1,4 @@
--- The moves of a walk over fragments that passes some of them.
+-- The moves of a walk over fragments that passes some of them whole.
 use Rattle.std.specs.Prelude.{ℕ, ◌+◌, Bool, if◌then◌else◌, List, [], ◌∷◌}
 use Rattle.fragments.specs.declared.fragment.Fragment.{Fragment}
 use Rattle.fragments.specs.declared.fragment.FragmentSummary.{FragmentSummary}
@@ -7,8 +7,8 @@ use Rattle.remote_edit.specs.declared.moves.Move.{Move}
 use Rattle.remote_edit.specs.declared.moves.Move.TheVariants.{Visible, Hidden}
 use Rattle.remote_edit.specs.Moves.{with_move}
 
--- the moves ms, behind which s shown and h hidden bytes stay and then the fragments come: the bytes of one that is kept, by its
--- sum, are moved as `does` says, and those of the others stay
+-- the moves ms, then s shown and h hidden bytes that stay, then those of the fragments: the bytes of a fragment whose
+-- sum is kept are moved as `does` says, and those of the others stay
 abbrev pub moves_on : (FragmentSummary → Bool) → (Fragment → Move) → List Move → ℕ → ℕ → List Fragment → List Move
 moves_on keeps does ms s h [] = with_move (with_move ms (Visible s)) (Hidden h)
 moves_on keeps does ms s h (f ∷ fs) =

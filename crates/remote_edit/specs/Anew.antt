@@ -1,4 +1,4 @@
--- What an undo makes of fragments.
+-- Fragments after an undo.
 use Rattle.std.specs.Prelude.{Bool, ◌&&◌, nat_le, if◌then◌else◌, List, ◌∷◌, map}
 use Rattle.std.specs.List.{list_any}
 use Rattle.lamport_clock.specs.declared.stamp.Lamport.{Lamport}
@@ -14,11 +14,11 @@ use Rattle.remote_edit.specs.declared.moves.Move.{Move}
 use Rattle.remote_edit.specs.Marks.{is_shown}
 use Rattle.remote_edit.specs.Carried.{move_for}
 
--- edit t, not earlier than the cells of the fragment, brought them or deletes them
+-- edit t, no earlier than the cells of the fragment, inserted them or deletes them
 abbrev pub concerns : Fragment → Lamport → Bool
 concerns f t = nat_le f.stamp.value t.value && list_any (same_stamp t) (f.stamp ∷ f.deletions)
 
--- a fragment that is shown by undo counts w, of which the undo `by` gave some
+-- a fragment shown or hidden by undo counts w, of which the undo `by` set some
 abbrev pub recount : List UndoEntry → Lamport → Fragment → Fragment
 recount w by f = record {
   id = f.id;
@@ -30,19 +30,19 @@ recount w by f = record {
   max_undos = raise f.max_undos by;
 }
 
--- a fragment where an undo counts the edits ts
+-- a fragment after an undo of the edits ts
 abbrev pub anew : List UndoEntry → Lamport → List Lamport → Fragment → Fragment
 anew w by ts f = if list_any (concerns f) ts then recount w by f else f
 
--- what an undo that counts the edits ts does to the bytes of a fragment
+-- the move of a fragment's bytes in an undo of the edits ts
 abbrev pub undo_move : List UndoEntry → List Lamport → Fragment → Move
 undo_move w ts f = move_for f.visible
     (if list_any (concerns f) ts then is_shown w f.stamp f.deletions else f.visible) f.len
 
--- all fragments where an undo counts the edits ts
+-- all fragments after an undo of the edits ts
 abbrev pub all_anew : List UndoEntry → Lamport → List Lamport → List Fragment → List Fragment
 all_anew w by ts fs = map (anew w by ts) fs
 
--- the edits that an undo counts are among ts
+-- the edits of an undo are among ts
 abbrev pub Counts : Operation → List Lamport → Type 0
 Counts op ts = (c : UndoCount) → Member c (counts_of op) → Member c.edit ts

@@ -1,4 +1,4 @@
--- What fragments were before an edit: its cells are not there, and it deletes none.
+-- Fragments as they were before an edit: without its cells, and without its deletions.
 use Rattle.std.specs.Prelude.{◌≡◌, ℕ, ◌+◌, true, not, if◌then◌else◌, List, [], ◌∷◌}
 use Rattle.std.specs.List.{filter}
 use Rattle.lamport_clock.specs.declared.stamp.Lamport.{Lamport}
@@ -16,7 +16,7 @@ use Rattle.remote_edit.specs.Carried.{move_for}
 abbrev pub without : Lamport → List Lamport → List Lamport
 without t d = filter (λ s. not (same_stamp t s)) d
 
--- a fragment that edit t does not delete, shown by undo counts w
+-- a fragment without edit t's deletion, shown or hidden by undo counts w
 abbrev pub without_deletion : List UndoEntry → Lamport → Fragment → Fragment
 without_deletion w t f = record {
   id = f.id;
@@ -34,12 +34,12 @@ before_edit w t [] = []
 before_edit w t (f ∷ fs) = if same_stamp t f.stamp then before_edit w t fs
     else without_deletion w t f ∷ before_edit w t fs
 
--- what edit t does to the bytes of a fragment
+-- the move of a fragment's bytes in edit t
 abbrev pub edit_move : List UndoEntry → Lamport → Fragment → Move
 edit_move w t f = if same_stamp t f.stamp then Insert f.len
     else move_for (is_shown w f.stamp (without t f.deletions)) f.visible f.len
 
--- a fragment is shown as undo counts w have it
+-- a fragment is shown exactly if undo counts w show it
 abbrev pub IsByCounts : List UndoEntry → Fragment → Type 0
 IsByCounts w f = f.visible ≡ is_shown w f.stamp f.deletions
 
@@ -47,11 +47,11 @@ IsByCounts w f = f.visible ≡ is_shown w f.stamp f.deletions
 abbrev pub runs_by : Lamport → List Run → List Run
 runs_by t rs = filter (λ r. same_stamp t r.stamp) rs
 
--- runs that are shown, and that have the cells from k up to m in order
+-- shown runs that have the cells k..m in order
 abbrev pub InOrder : ℕ → ℕ → List Run → Type 0
 InOrder k m [] = k ≡ m
 InOrder k m (r ∷ rs) = (r.visible ≡ true) × (r.offset ≡ k) × InOrder (k + r.len) m rs
 
--- the cells of edit t in fragments are shown, and are those from k up to m in order
+-- the cells of edit t in fragments are shown, and are k..m in order
 abbrev pub Brings : Lamport → ℕ → ℕ → List Fragment → Type 0
 Brings t k m fs = InOrder k m (runs_by t (runs fs))

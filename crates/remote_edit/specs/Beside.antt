@@ -1,8 +1,8 @@
--- A place with a number beside it, to which each sum adds.
+-- A place paired with a number to which each sum adds.
 use Rattle.std.specs.Prelude.{ℕ, ◌+◌, Option}
 use Rattle.std.specs.Option.{option_map}
 
--- a place, and a number beside it
+-- a place and a number
 abbrev pub beside : {P : Type 0} → ℕ → P → P × ℕ
 beside n p = (p, n)
 

@@ -1,11 +1,11 @@
--- What a place with a number beside it keeps.
+-- The laws of a place paired with a number.
 use Rattle.std.specs.Prelude.{ℕ, ◌≡◌, ◌+◌, Option, Some, None, ◌^◌, ◌<◌, ◌≤◌}
 use Rattle.std.specs.Option.{option_map}
 use Rattle.std.proofs.Common.{ap, refl, sym, ◌∙◌, arith}
 use Rattle.tree_cursor.specs.Places.{DimensionLaws}
 use Rattle.remote_edit.specs.Beside.{beside, move_beside}
 
--- where the place goes, the number goes
+-- if the pair moves by a sum, so does the place, and the sum is added to the number
 went : {P S : Type 0} (moved : P → S → Option P) (adds : S → ℕ) (p q : P × ℕ) (s : S) → move_beside moved adds p s ≡ Some q → (moved p.0 s ≡ Some q.0) × (q.1 ≡ p.1 + adds s)
 went {P} moved adds p q s e = go (moved p.0 s) refl e
   where

@@ -1,4 +1,4 @@
--- Moves on the way: what they have done where a walk over fragments has put some out and has the others before it.
+-- Moves on the way: what they have done when a walk has put out some fragments and has the others ahead of it.
 use Rattle.std.specs.Prelude.{◌≡◌, ℕ, zero, suc, ◌+◌, ◌≤◌, Bool, not, if◌then◌else◌, List, [], ◌∷◌, ◌++◌, map, drop, length, slice_index}
 use Rattle.std.specs.List.{AllByRecursion, filter}
 use Rattle.std.specs.Str.{IsUtf8}
@@ -21,16 +21,17 @@ abbrev pub AreMovesOf : List Move → History → Operation → Type 0
 AreMovesOf ms h op = after_moves ms (text h) (hidden_text h) (texts (pieces_of op))
     ≡ texts_of (text (h ++ op ∷ [])) (hidden_text (h ++ op ∷ []))
 
--- where the fragments fs begin and end between characters, so do gs of h with op, and the moves take whole characters
+-- if the fragments fs begin and end between characters, so do the fragments gs of h with op, and the moves take whole
+-- characters
 abbrev pub KeepCharacters : List Fragment → List Fragment → List Move → History → Operation → Type 0
 KeepCharacters fs gs ms h op = AllByRecursion (IsWhole h) (runs fs)
     → AllByRecursion (IsWhole (h ++ op ∷ [])) (runs gs) × TakeTexts ms (text h) (hidden_text h) (texts (pieces_of op))
 
--- what becomes of n bytes by whether they were shown before, and are now
+-- the move of n bytes, by whether they were shown before and are shown now
 abbrev pub move_for : Bool → Bool → ℕ → Move
 move_for was now n = if was then (if now then Visible n else Hide n) else (if now then Show n else Hidden n)
 
--- the bytes of the cells that are shown, and of those that are hidden, byte giving that of each
+-- the bytes of the shown cells, and of the hidden ones, where `byte` gives the byte of each cell
 abbrev pub shown_bytes : (Cell → ℕ) → List Fragment → List ℕ
 shown_bytes byte fs = map (λ (q : Fact). byte q.cell) (filter (λ (q : Fact). q.visible) (facts_of (runs fs)))
 
@@ -40,7 +41,7 @@ hidden_bytes byte fs = map (λ (q : Fact). byte q.cell) (filter (λ (q : Fact). 
 abbrev pub both_bytes : (Cell → ℕ) → List Fragment → Texts
 both_bytes byte fs = texts_of (shown_bytes byte fs) (hidden_bytes byte fs)
 
--- how many cells are hidden
+-- the number of hidden cells
 abbrev pub hidden_len : List Fragment → ℕ
 hidden_len [] = 0
 hidden_len (f ∷ fs) = if f.visible then hidden_len fs else f.len + hidden_len fs
@@ -54,20 +55,21 @@ cell_bytes byte t k (suc n) = byte (record { stamp = t; k = k }) ∷ cell_bytes 
 abbrev pub IsText : (Cell → ℕ) → Fragment → Type 0
 IsText byte f = IsUtf8 (cell_bytes byte f.stamp f.offset f.len)
 
--- of the texts s and h and of n, the new text of edit t, the moves ms have put out the bytes of the fragments pre, whole characters
--- where each of these is UTF-8; those to come find the bytes of rest, and of the new text those from k on
+-- from the texts s and h and the new text n of edit t, the moves ms have put out the bytes of the fragments pre, as
+-- whole characters if the bytes of each are UTF-8; later moves find the bytes of rest, and those of the new text from k
+-- on
 pub record Carried (byte : Cell → ℕ) (t : Lamport) (s h n : List ℕ) (ms : List Move)
     (pre rest : List Fragment) (k : ℕ) : Type 0 where
   pub moves : HaveMoved s h n ms (both_bytes byte pre) (both_bytes byte rest) (drop k n)
   pub text : (j : ℕ) → byte (record { stamp = t; k = j }) ≡ slice_index n j
   pub characters : AllByRecursion (IsText byte) pre → TakeTexts ms s h n
 
--- moves that go on as a walk over fragments goes on, putting in new cells of edit t
+-- moves that advance as a walk over fragments does, inserting new cells of edit t
 abbrev pub CarryOn : Lamport → List Move → List Fragment → List Fragment → ℕ → List Move
     → List Fragment → List Fragment → ℕ → Type 0
 CarryOn t ms pre rest k ms2 pre2 rest2 k2 = (byte : Cell → ℕ) → (s h n : List ℕ) → k2 ≤ length n
     → Carried byte t s h n ms pre rest k → Carried byte t s h n ms2 pre2 rest2 k2
 
--- moves that carry the bytes of all fragments fs along to gs, where op puts in all its new cells
+-- moves that carry the bytes of all fragments fs to gs, where op inserts all its new cells
 abbrev pub Carry : List Move → Operation → List Fragment → List Fragment → Type 0
 Carry ms op fs gs = CarryOn (stamp_of op) [] [] fs 0 ms gs [] (length (texts (pieces_of op)))

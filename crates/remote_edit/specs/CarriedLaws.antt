@@ -14,13 +14,13 @@ use Rattle.fragments.specs.Stand.{runs, Tell}
 use Rattle.remote_edit.specs.declared.moves.Move.{Move}
 use Rattle.remote_edit.specs.Carried.{AreMovesOf, Carry}
 
--- moves that carry the bytes of fragments that tell of h along to those of fragments that tell of h with op take the texts of h to
--- those of h with op
+-- moves that carry the bytes of fragments with the cells of h to those of fragments with the cells of h with op take
+-- the texts of h to those of h with op
 abbrev pub CarriedTextsAreThose : Type 0
 CarriedTextsAreThose = (h : History) → (op : Operation) → (fs gs : List Fragment) → (ms : List Move)
     → Lawful h → answer h [] op ≡ Good
     → Tell fs h → Tell gs (h ++ op ∷ []) → Carry ms op fs gs → AreMovesOf ms h op
 
--- the fragment of a base, whose text is UTF-8, begins and ends between characters
+-- the fragment of a base whose text is UTF-8 begins and ends between characters
 abbrev pub BaseIsWhole : Type 0
 BaseIsWhole = (id t : List ℕ) → IsUtf8 t → AllByRecursion (IsWhole (base t ∷ [])) (runs (whole_base id t ∷ []))

@@ -1,4 +1,4 @@
--- Which sums of fragments have seen an edit, and which may have cells that edits concern.
+-- Sums of fragments that have seen an edit, and those that may have cells that edits concern.
 use Rattle.std.proofs.Common.{Bool, leb, List, ◌&&◌}
 use Rattle.std.specs.List.{list_any}
 use Rattle.lamport_clock.specs.declared.stamp.Lamport.{Lamport}
@@ -14,7 +14,7 @@ sees_edit t s = sees s.greatest t
 abbrev pub begins_by : Lamport → List Span → Bool
 begins_by t u = list_any (λ x. leb x.least t.value) u
 
--- a run of fragments may have cells that edit t brought or deletes: some stand as early as t, and t was seen
+-- a run of fragments may have cells that edit t inserted or deletes: some are no later than t, and t was seen
 abbrev pub may_concern : FragmentSummary → Lamport → Bool
 may_concern s t = begins_by t s.span && sees s.greatest t
 

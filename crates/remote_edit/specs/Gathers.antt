@@ -1,4 +1,4 @@
--- What a gather has made of a tree's fragments so far, and what is ahead of it.
+-- The fragments that a gather has made so far, and those ahead of it.
 use Rattle.std.specs.Prelude.{List}
 use Rattle.fragments.specs.declared.fragment.Fragment.{Fragment}
 use Rattle.remote_edit.specs.declared.gather.Gather.{Gather}

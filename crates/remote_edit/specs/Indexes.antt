@@ -16,7 +16,7 @@ IsApart f g = f.stamp ≡ g.stamp → (f.offset + f.len ≤ g.offset) ⊎ (g.off
 abbrev pub EndsBefore : Lamport → ℕ → Fragment → Type 0
 EndsBefore t k f = f.stamp ≡ t → f.offset + f.len ≤ k
 
--- w has the entries of fragments with different cells, of which those of edit t are before its cell k
+-- w has the entries of fragments that share no cell, of which those of edit t have cells before its cell k
 pub record IsIndexed (t : Lamport) (k : ℕ) (fs : List Fragment) (w : List IndexEntry) : Type 0 where
   pub ascending : IsAscending w
   pub entries : IsIndexOf fs w

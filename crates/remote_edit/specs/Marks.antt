@@ -1,4 +1,4 @@
--- What undo counts say of cells, and what an edit makes of a fragment in a range of its own.
+-- What undo counts say of cells, and a fragment after an edit in whose range it lies.
 use Rattle.std.specs.Prelude.{Bool, false, not, ◌&&◌, ◌||◌, if◌then◌else◌, List, Option, Some, None}
 use Rattle.std.specs.List.{list_all}
 use Rattle.lamport_clock.specs.declared.stamp.Lamport.{Lamport}
@@ -8,22 +8,22 @@ use Rattle.undo_map.specs.declared.entry.UndoEntry.{UndoEntry}
 use Rattle.undo_map.specs.Counts.{count_of, count_seen, is_odd}
 use Rattle.fragments.specs.declared.fragment.Fragment.{Fragment}
 
--- by undo counts w: a cell of edit u that d delete was shown at v, as u was not undone there, and each of d that v sees was
+-- by undo counts w, a cell of edit u deleted by d was shown at v: u was not undone there, and each of d that v sees was
 abbrev pub was_shown : List UndoEntry → Entries → Lamport → List Lamport → Bool
 was_shown w v u d = not (is_odd (count_seen w u v)) && list_all (λ t. not (sees v t) || is_odd (count_seen w t v)) d
 
--- by undo counts w: a cell of edit u that d delete is shown, as u is not undone, and each of d is
+-- by undo counts w, a cell of edit u deleted by d is shown: u is not undone, and each of d is
 abbrev pub is_shown : List UndoEntry → Lamport → List Lamport → Bool
 is_shown w u d = not (is_odd (count_of w u)) && list_all (λ t. is_odd (count_of w t)) d
 
--- what an edit t with version v makes of a cell in a range of its own
+-- a cell after an edit t with version v, in whose range it lies
 abbrev pub marking : List UndoEntry → Lamport → Entries → Marking
 marking w t v = record {
   visible = λ u b d. if was_shown w v u d then false else b;
   deletions = λ u d. if was_shown w v u d then with_deletion t d else d;
 }
 
--- a fragment in a range of an edit t with version v: t deletes it where it was shown at v
+-- a fragment in a range of an edit t with version v, which deletes it if it was shown at v
 abbrev pub mark : List UndoEntry → Lamport → Entries → Fragment → Fragment
 mark w t v f = if was_shown w v f.stamp f.deletions
     then record {
@@ -37,7 +37,7 @@ mark w t v f = if was_shown w v f.stamp f.deletions
     }
     else f
 
--- a fragment that is gone over: marked where undo counts are given
+-- a fragment that is passed: marked if undo counts are given
 abbrev pub touch : Option (List UndoEntry) → Lamport → Entries → Fragment → Fragment
 touch None t v f = f
 touch (Some w) t v f = mark w t v f

@@ -1,4 +1,4 @@
--- Moves: what becomes of the bytes of a shown and of a hidden text, in order.
+-- Moves: what becomes of the bytes of a shown and a hidden text, in order.
 use Rattle.std.specs.Prelude.{◌≡◌, ℕ, ◌+◌, ◌^◌, ◌==◌, nat_lt, if◌then◌else◌, List, [], ◌∷◌, ◌++◌, take, drop, Option, Some, None, ⊤}
 use Rattle.std.specs.Str.{IsUtf8}
 use Rattle.remote_edit.specs.declared.moves.Move.{Move}
@@ -12,12 +12,12 @@ pub record Texts : Type 0 where
 abbrev pub texts_of : List ℕ → List ℕ → Texts
 texts_of s h = record { shown = s; hidden = h }
 
--- s and h, and behind them two other texts
+-- the texts s and h, each followed by another
 abbrev pub with_fronts : List ℕ → List ℕ → Texts → Texts
 with_fronts s h r = texts_of (s ++ r.shown) (h ++ r.hidden)
 
--- what moves make of a shown text s, a hidden text h and a new text n: each takes the next bytes of one of the three to the shown
--- or to the hidden text; bytes of which no move tells are in neither
+-- the texts after moves, from a shown text s, a hidden text h and a new text n: each move takes the next bytes of one
+-- of the three to the shown or to the hidden text; bytes that no move takes are in neither
 abbrev pub after_moves : List Move → List ℕ → List ℕ → List ℕ → Texts
 after_moves [] s h n = texts_of [] []
 after_moves (Visible k ∷ ms) s h n = with_fronts (take k s) [] (after_moves ms (drop k s) h n)
@@ -39,7 +39,7 @@ TakeTexts (Insert k ∷ ms) s h n = IsUtf8 (take k n) × TakeTexts ms s h (drop 
 abbrev pub DoTheSame : List Move → List Move → Type 0
 DoTheSame ms ns = (s h n : List ℕ) → after_moves ms s h n ≡ after_moves ns s h n
 
--- how many bytes a move takes
+-- the number of bytes that a move takes
 abbrev pub length_of : Move → ℕ
 length_of (Visible k) = k
 length_of (Hidden k) = k
@@ -47,7 +47,7 @@ length_of (Hide k) = k
 length_of (Show k) = k
 length_of (Insert k) = k
 
--- two moves of a kind as one, where the length of that is a u64
+-- two moves of the same kind as one, if its length fits in a u64
 abbrev pub as_one : Move → Move → Option Move
 as_one (Visible a) (Visible b) = if nat_lt (a + b) (2 ^ 64) then Some (Visible (a + b)) else None
 as_one (Hidden a) (Hidden b) = if nat_lt (a + b) (2 ^ 64) then Some (Hidden (a + b)) else None
@@ -56,12 +56,12 @@ as_one (Show a) (Show b) = if nat_lt (a + b) (2 ^ 64) then Some (Show (a + b)) e
 as_one (Insert a) (Insert b) = if nat_lt (a + b) (2 ^ 64) then Some (Insert (a + b)) else None
 as_one a b = None
 
--- a move and another behind it, as one where they are of a kind
+-- a move followed by another, as one if they are of the same kind
 abbrev pub join_moves : Option Move → Move → Move → List Move
 join_moves (Some one) last next = one ∷ []
 join_moves None last next = last ∷ next ∷ []
 
--- moves and another behind them: one of no bytes changes nothing, one of the last one's kind lengthens it
+-- moves followed by another: one of no bytes changes nothing, one of the same kind as the last lengthens that
 abbrev pub with_last : List Move → Move → List Move
 with_last [] next = next ∷ []
 with_last (m ∷ []) next = join_moves (as_one m next) m next
@@ -70,7 +70,7 @@ with_last (m ∷ k ∷ ms) next = m ∷ with_last (k ∷ ms) next
 abbrev pub with_move : List Move → Move → List Move
 with_move ms next = if length_of next == 0 then ms else with_last ms next
 
--- how many bytes moves take of the shown, of the hidden and of the new text
+-- the numbers of bytes that moves take of the shown, the hidden and the new text
 abbrev pub from_shown : List Move → ℕ
 from_shown [] = 0
 from_shown (Visible k ∷ ms) = k + from_shown ms
@@ -97,25 +97,25 @@ from_new (Insert k ∷ ms) = k + from_new ms
 
 -- ---- laws, which src/laws.rt shows
 
--- moves behind others find the texts that those leave, and put behind what those put
+-- moves after others take the texts that those leave, and put their bytes after those of the others
 abbrev pub MovesCompose : Type 0
 MovesCompose = (ms ns : List Move) → (s h n : List ℕ)
     → after_moves (ms ++ ns) s h n ≡ with_fronts (after_moves ms s h n).shown
     (after_moves ms s h n).hidden
     (after_moves ns (drop (from_shown ms) s) (drop (from_hidden ms) h) (drop (from_new ms) n))
 
--- a move that is put behind others does the same where it is made one with the last
+-- a move after others does the same if it is merged with the last one
 abbrev pub JoinedMovesDoTheSame : Type 0
 JoinedMovesDoTheSame = (ms : List Move) → (next : Move) → DoTheSame (with_move ms next) (ms ++ next ∷ [])
 
--- whether shown bytes or hidden ones are kept first does not matter
+-- it does not matter whether shown or hidden bytes are kept first
 abbrev pub KeptBytesCommute : Type 0
 KeptBytesCommute = (ms ns : List Move) → (a b : ℕ)
     → DoTheSame (ms ++ Visible a ∷ Hidden b ∷ ns) (ms ++ Hidden b ∷ Visible a ∷ ns)
 
 -- ---- moves on the way
 
--- what moves have made of the texts s, h and n so far, and what those to come find of them
+-- what moves have made of the texts s, h and n so far, and what is left of these for later moves
 pub record HaveMoved (s h n : List ℕ) (ms : List Move) (out left : Texts) (left_new : List ℕ) : Type 0 where
   pub put : after_moves ms s h n ≡ out
   pub left_shown : drop (from_shown ms) s ≡ left.shown

@@ -1,4 +1,4 @@
--- How many shown and how many hidden cells lie before.
+-- The numbers of shown and hidden cells before a place.
 use Rattle.std.specs.Prelude.{ℕ, ◌+◌, ◌^◌, ◌<◌, ◌≤◌, Option}
 use Rattle.fragments.specs.declared.fragment.FragmentSummary.{FragmentSummary}
 use Rattle.fragments.specs.SeenPlaces.{move_visible, At, move_at, IsLaterAt, AtFits}
@@ -13,7 +13,7 @@ IsLaterPassed p q = (p.0 ≤ q.0) × (p.1 ≤ q.1)
 abbrev pub PassedFits : ℕ × ℕ → FragmentSummary → Type 0
 PassedFits p s = (p.0 + s.visible < 2 ^ 64) × (p.1 + s.hidden < 2 ^ 64)
 
--- how many cells that a version sees lie before, and beside it how many shown and how many hidden ones
+-- the number of cells before a place that a version sees, and the numbers of shown and hidden ones
 abbrev pub SeenPlace : Type 0
 SeenPlace = (At × ℕ) × ℕ
 

@@ -1,4 +1,4 @@
--- What places that count shown and hidden cells keep.
+-- The laws of places that count shown and hidden cells.
 use Rattle.std.specs.Prelude.{ℕ, ◌+◌, ◌^◌, ◌<◌, ◌≤◌}
 use Rattle.std.proofs.Common.{refl}
 use Rattle.tree_cursor.specs.Places.{DimensionLaws}

@@ -1,4 +1,4 @@
--- When an edit may be placed, and what placing gives.
+-- When an edit may be placed, and the outcome.
 use Rattle.std.specs.Prelude.{◌≡◌, ◌+◌, ◌≤◌, ◌^◌, List, [], ◌∷◌, ◌++◌, length, None}
 use Rattle.std.specs.List.{AllByRecursion}
 use Rattle.lamport_clock.specs.declared.stamp.Lamport.{Lamport}
@@ -21,8 +21,8 @@ use Rattle.fragments.specs.Stand.{Stand}
 use Rattle.remote_edit.specs.declared.moves.Move.{Move}
 use Rattle.remote_edit.specs.Carried.{AreMovesOf, KeepCharacters}
 
--- the fragments, the index and the undo counts stand for a lawful history in which the edit is good, and whose bytes and the new
--- ones are at most 2^40
+-- the fragments, the index and the undo counts stand for a lawful history in which the edit is good, and which has with
+-- the edit at most 2^40 bytes
 pub record MayPlace (fs : List Fragment) (w : List IndexEntry) (u : List UndoEntry) (op : Operation) : Type 0 where
   pub history : History
   pub stands : Stand fs w u history
@@ -30,7 +30,8 @@ pub record MayPlace (fs : List Fragment) (w : List IndexEntry) (u : List UndoEnt
   pub good : answer history [] op ≡ Good
   pub room : length (full history) + text_total (pieces_of op) ≤ 2 ^ 40
 
--- for each lawful history in which the operation is good and for which the old ones stand, the new ones stand for it with the operation
+-- for each lawful history in which the operation is good and for which the old ones stand, the new ones stand for it
+-- with the operation
 abbrev pub ArePlaced : List Fragment → List IndexEntry → List UndoEntry → Operation → List Fragment
     → List IndexEntry → Type 0
 ArePlaced fs w u op gs v = (h : History) → Stand fs w u h → Lawful h → answer h [] op ≡ Good
@@ -40,14 +41,14 @@ ArePlaced fs w u op gs v = (h : History) → Stand fs w u h → Lawful h → ans
 abbrev pub MoveWithEdit : List Fragment → List IndexEntry → List UndoEntry → Operation → List Move → Type 0
 MoveWithEdit fs w u op ms = (h : History) → Stand fs w u h → Lawful h → answer h [] op ≡ Good → AreMovesOf ms h op
 
--- for each such history, where the texts are UTF-8, whole fragments stay whole and the moves take whole characters
+-- for each such history, if the texts are UTF-8, whole fragments stay whole and the moves take whole characters
 abbrev pub KeepCharactersWithEdit : List Fragment → List IndexEntry → List UndoEntry → Operation
     → List Fragment → List Move → Type 0
 KeepCharactersWithEdit fs w u op gs ms = (h : History) → Stand fs w u h → Lawful h
     → AllByRecursion IsProper h → IsProper op → answer h [] op ≡ Good → KeepCharacters fs gs ms h op
 
--- the fragments, the index and the undo counts stand for a lawful history, the stamp t and the version v are those of what a
--- replica makes there, the changes meet no fault, and the bytes of the history and the new ones are at most 2^40
+-- the fragments, the index and the undo counts stand for a lawful history, the stamp t and the version v are those of
+-- an operation that a replica makes there, the changes have no fault, and the history with them has at most 2^40 bytes
 pub record MayMake (fs : List Fragment) (w : List IndexEntry) (u : List UndoEntry) (t : Lamport)
     (v : Entries) (changes : List Piece) : Type 0 where
   pub history : History
@@ -61,8 +62,8 @@ pub record MayMake (fs : List Fragment) (w : List IndexEntry) (u : List UndoEntr
   pub faultless : local_edit_fault limits history changes ≡ None
   pub room : length (full history) + text_total changes ≤ 2 ^ 40
 
--- for each history for which the fragments stand, and of which the stamp t and the version v are what a replica makes there, the
--- operation is the one that is made
+-- for each history that the fragments stand for, and in which the stamp t and the version v are those of an operation
+-- that a replica makes, the operation is that one
 abbrev pub IsMade : List Fragment → List IndexEntry → List UndoEntry → Lamport → Entries
     → List Piece → Operation → Type 0
 IsMade fs w u t v changes op = (h : History) → Stand fs w u h → t.value ≡ clock h → v ≡ version h

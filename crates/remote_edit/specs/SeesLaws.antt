@@ -1,4 +1,4 @@
--- What sums of fragments see, and how early they begin.
+-- Laws of what sums of fragments see, and of how early they begin.
 use Rattle.std.proofs.Common.{◌≡◌, ◌<◌, Bool, true, false, ◌&&◌, min, List, [], ◌∷◌, refl, sym, ap, ◌∙◌, arith, inl, inr}
 use Rattle.std.proofs.lemmas.Bool.{cases_Bool, leb-false, lt-leb, or_parts, or_from}
 use Rattle.lamport_clock.specs.declared.stamp.Lamport.{Lamport}
@@ -18,7 +18,7 @@ sees_parts t a b h =
     let j = sees_joined a.greatest b.greatest t in
     (false_from (sees a.greatest t) (sees (join_versions a.greatest b.greatest) t) j.0 h, false_from (sees b.greatest t) (sees (join_versions a.greatest b.greatest) t) j.1 h)
 
--- where none begins by t with a span taken in, neither the span nor one of the others does
+-- if no span begins by t after one is widened, neither did that span nor one of the others
 wide_later : (t : Lamport) (x : Span) (u : List Span) → begins_by t (with_span x u) ≡ false → (t.value < x.least) × (begins_by t u ≡ false)
 wide_later t x [] e = (leb-false x.least t.value (or_parts _ _ e).0, refl)
 wide_later t x (y ∷ u) e = by_order _ y.replica x.replica

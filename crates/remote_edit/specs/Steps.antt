@@ -16,11 +16,11 @@ abbrev pub tail : List Fragment → List Fragment
 tail [] = []
 tail (f ∷ fs) = fs
 
--- of a tree's fragments xs, the first i and those that were made lie before the place
+-- what lies before the place: the first i of a tree's fragments xs, and those that were made
 abbrev pub before : List Fragment → ℕ → List Fragment → List Fragment
 before xs i made = take i xs ++ made
 
--- what is left of one, and those from j on, lie behind it
+-- what lies after it: what is left of one, and those from j on
 abbrev pub after : List Fragment → ℕ → Option Fragment → List Fragment
 after xs j back = option_to_list back ++ drop j xs
 

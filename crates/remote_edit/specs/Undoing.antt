@@ -1,4 +1,4 @@
--- What an undo has to be among fragments, and what is made of them by it.
+-- What is required of an undo among fragments, and the outcome.
 use Rattle.std.specs.Prelude.{◌≡◌, List, [], ◌∷◌, ◌++◌}
 use Rattle.std.specs.List.{AllByRecursion}
 use Rattle.lamport_clock.specs.declared.stamp.Lamport.{Lamport}
@@ -18,8 +18,8 @@ use Rattle.remote_edit.specs.declared.moves.Move.{Move}
 use Rattle.remote_edit.specs.Carried.{AreMovesOf, KeepCharacters}
 use Rattle.remote_edit.specs.Anew.{Counts}
 
--- the fragments fs and the index w stand for the lawful history h, in which the undo u with stamp `by` is good; it counts edits of
--- ts alone, and us are the counts with it
+-- the fragments fs and the index w stand for the lawful history h, in which the undo u with stamp `by` is good; it
+-- counts only edits of ts, and us are the counts with it
 pub record MayMark (fs : List Fragment) (w : List IndexEntry) (us : List UndoEntry) (by : Lamport)
     (ts : List Lamport) (h : History) (u : UndoOp) : Type 0 where
   pub stamp : u.stamp ≡ by
@@ -39,7 +39,7 @@ StandWithUndo fs w us by ts gs x = (h : History) → (u : UndoOp) → MayMark fs
 abbrev pub MoveWithUndo : List Fragment → List IndexEntry → List UndoEntry → Lamport → List Lamport → List Move → Type 0
 MoveWithUndo fs w us by ts ms = (h : History) → (u : UndoOp) → MayMark fs w us by ts h u → AreMovesOf ms h (Undo u)
 
--- where the texts of each such history are UTF-8, whole fragments stay whole and the moves take whole characters
+-- if the texts of such a history are UTF-8, whole fragments stay whole and the moves take whole characters
 abbrev pub KeepCharactersWithUndo : List Fragment → List IndexEntry → List UndoEntry → Lamport
     → List Lamport → List Fragment → List Move → Type 0
 KeepCharactersWithUndo fs w us by ts gs ms = (h : History) → (u : UndoOp)

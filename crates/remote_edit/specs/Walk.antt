@@ -1,4 +1,5 @@
--- One walk over fragments, from the first piece of an edit to the last: what lies before a place, and what lies behind it.
+-- One walk over fragments, from the first piece of an edit to the last: what lies before a place, and what lies after
+-- it.
 use Rattle.std.specs.Prelude.{ℕ, zero, suc, ◌+◌, ◌-◌, ◌≤◌, ◌^◌, nat_le, nat_lt, Bool, true, not, ◌&&◌, ◌||◌, if◌then◌else◌, List, [], ◌∷◌, ◌++◌, length, Option, Some, None}
 use Rattle.std.specs.List.{AllByRecursion}
 use Rattle.lamport_clock.specs.declared.stamp.Lamport.{Lamport}
@@ -13,7 +14,7 @@ use Rattle.fragments.specs.Stand.{IsFilled, runs}
 use Rattle.fragments.specs.Laws.{cells_len}
 use Rattle.remote_edit.specs.Marks.{touch}
 
--- how many cells of fragments v sees
+-- the number of cells of fragments that v sees
 abbrev pub seen_bytes : Entries → List Fragment → ℕ
 seen_bytes v fs = kept_len (sees v) (runs fs)
 
@@ -21,13 +22,13 @@ seen_bytes v fs = kept_len (sees v) (runs fs)
 abbrev pub Fit : List Fragment → Type 0
 Fit fs = AllByRecursion IsFilled fs × (cells_len fs ≤ 2 ^ 40)
 
--- the id of the last, or the least
+-- the id of the last fragment, or the least id
 abbrev pub last_id : List Fragment → List ℕ
 last_id [] = least_digits
 last_id (f ∷ []) = f.id
 last_id (f ∷ g ∷ fs) = last_id (g ∷ fs)
 
--- the id of the first, or the greatest
+-- the id of the first fragment, or the greatest id
 abbrev pub next_id : List Fragment → List ℕ
 next_id [] = greatest_digits
 next_id (f ∷ fs) = f.id
@@ -44,7 +45,7 @@ front f n id = record {
   max_undos = f.max_undos;
 }
 
--- the cells behind its first n
+-- the cells after its first n
 abbrev pub back : Fragment → ℕ → Fragment
 back f n = record {
   id = f.id;
@@ -68,7 +69,7 @@ new_fragment t k n id = record {
   max_undos = [];
 }
 
--- what lies before a place, and what lies behind it
+-- what lies before a place, and what lies after it
 pub record Zip : Type 0 where
   pub pre : List Fragment
   pub rest : List Fragment
@@ -76,7 +77,7 @@ pub record Zip : Type 0 where
 abbrev pub zip : List Fragment → List Fragment → Zip
 zip pre rest = record { pre = pre; rest = rest }
 
--- over n cells that v sees, and what stands between them; those that it sees are touched
+-- over n cells that v sees, and what lies between them; those that it sees are touched
 abbrev pub advance : Option (List UndoEntry) → Lamport → Entries → ℕ → List Fragment → List Fragment → Zip
 advance m t v n pre [] = zip pre []
 advance m t v zero pre (f ∷ fs) = zip pre (f ∷ fs)
@@ -92,7 +93,7 @@ skip_later t v pre [] = zip pre []
 skip_later t v pre (f ∷ fs) = if later f.stamp t && not (sees v f.stamp)
     then skip_later t v (pre ++ f ∷ []) fs else zip pre (f ∷ fs)
 
--- over the n new cells of edit t from k on, which are put here where there are some
+-- over the n new cells of edit t from k on, which are inserted here if there are any
 abbrev pub put_new : Lamport → ℕ → ℕ → List Fragment → List Fragment → Zip
 put_new t k zero pre rest = zip pre rest
 put_new t k (suc n) pre rest = zip

@@ -1,4 +1,4 @@
-//! The moves of a walk over fragments, which passes those whole that stay as they are.
+//! The moves of a walk over fragments, which passes whole runs of fragments that do not change.
 ghost use Rattle.std.specs.Prelude.{◌≡◌, ◌-◌, ◌≤◌, IfOk, OnOk};
 ghost use Rattle.fragments.specs.declared.fragment.Fragment.{Fragment};
 ghost use Rattle.remote_edit.specs.declared.moves.Move.{Move};
@@ -13,16 +13,16 @@ use std::alloc::Global;
 use sum_tree::SumTree;
 use tree_cursor::{FilterCursor, Keep};
 
-/// What becomes of the bytes of fragments.
+/// A change of fragments: what becomes of the bytes of each.
 pub trait Change {
     ghost does: { Self → Fragment → Move };
 
-    /// What becomes of the bytes of a fragment. Takes no memory.
+    /// What becomes of the bytes of a fragment. Does not allocate.
     fn move_of(&self, fragment: &Fragment) -> Move
         ensures { result ≡ does self.now fragment.now };
 }
 
-// A filter that is lent to the walk.
+// A filter that is borrowed by the walk.
 #[derive(Drop)]
 struct Lent<'k, K> {
     keep: &'k K,
@@ -38,7 +38,7 @@ impl<'k, K: Keep<FragmentSummary>> Keep<FragmentSummary> for Lent<'k, K> {
     }
 }
 
-// The bytes between two places stay as they are.
+// Keeps the bytes between two places as they are.
 fn keep(moves: &mut Moves, from: Passed, to: Passed) -> Result<(), OutOfMemory>
     requires visible { from.visible ≤ to.visible }
     requires hidden { from.hidden ≤ to.hidden }
@@ -49,11 +49,15 @@ fn keep(moves: &mut Moves, from: Passed, to: Passed) -> Result<(), OutOfMemory>
     moves.keep(to.visible - from.visible, to.hidden - from.hidden)
 }
 
-/// What a change does to the shown and to the hidden text: it moves the bytes of the fragments that may change, and those of
-/// the others stay. Runs of fragments that stay are passed whole.
+/// The moves that a change makes in the shown and the hidden text: the bytes of the fragments that the filter keeps are
+/// moved as the change says, and those of the others stay.
 ///
-/// There are at most three moves for each fragment that may change, and the cost is that many fragments times the height. It fails
-/// for want of memory alone.
+/// Passes whole runs of fragments that the filter does not keep, so this is O(k h), where k is the number of fragments
+/// that it keeps and h the height of the tree; there are at most three moves for each of the k.
+///
+/// # Errors
+///
+/// Fails only if an allocation fails.
 pub fn moves_among<K: Keep<FragmentSummary>, C: Change>(
     alloc: Global,
     tree: &SumTree<Fragment>,

@@ -1,4 +1,4 @@
-//! What an edit does to the shown and to the hidden text.
+//! The moves that an edit makes in the shown and the hidden text.
 ghost use Rattle.std.specs.Prelude.{◌≡◌, ◌||◌, [], length, IfOk};
 ghost use Rattle.std.specs.List.{AllByRecursion, list_all};
 ghost use Rattle.lamport_clock.specs.Stamps.{same_stamp};
@@ -18,7 +18,7 @@ use sum_tree::SumTree;
 use tree_cursor::Keep;
 use undo_map::UndoMap;
 
-// Which runs of fragments may have cells that an edit brought or deletes: those that have seen it.
+// Keeps the runs of fragments that may have cells that an edit inserted or deletes: those that have seen it.
 #[derive(Clone, Copy)]
 struct SeesEdit {
     edit: Lamport,
@@ -37,7 +37,7 @@ impl Keep<FragmentSummary> for SeesEdit {
     }
 }
 
-// Whether each edit of a list but one is undone.
+// Whether all edits of a list except one are undone.
 fn all_others_are_undone(undos: &UndoMap, edits: &[Lamport], edit: Lamport) -> bool
     ensures { result ≡ list_all (λ t. same_stamp edit t || is_odd (count_of undos.now t))
         edits.now }
@@ -47,7 +47,7 @@ fn all_others_are_undone(undos: &UndoMap, edits: &[Lamport], edit: Lamport) -> b
         .all(|t| is_same(edit, *t) || undos.is_undone(*t))
 }
 
-// Whether a fragment was shown before an edit that is told of in it.
+// Whether a fragment was shown before an edit that the fragments already have.
 fn was_shown_before(fragment: &Fragment, undos: &UndoMap, edit: Lamport) -> bool
     ensures { result ≡ is_shown undos.now fragment.now.stamp (without edit fragment.now.deletions) }
 {
@@ -55,7 +55,7 @@ fn was_shown_before(fragment: &Fragment, undos: &UndoMap, edit: Lamport) -> bool
     !undos.is_undone(fragment.stamp) && others
 }
 
-// An edit that is told of in the fragments.
+// An edit that the fragments already have.
 #[derive(Drop)]
 struct Editing<'u> {
     undos: &'u UndoMap,
@@ -79,8 +79,8 @@ impl<'u> Change for Editing<'u> {
     }
 }
 
-// What an edit, which is told of in the fragments of the tree, did to the two texts. Runs of fragments that have not seen the
-// edit are passed whole.
+// The moves that an edit made in the two texts, read from fragments that already have it. Passes whole runs of
+// fragments that have not seen the edit.
 pub(crate) fn edit_moves(
     alloc: Global,
     tree: &SumTree<Fragment>,

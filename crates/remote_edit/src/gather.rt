@@ -1,4 +1,4 @@
-//! What a piece of an edit makes of a range of a tree.
+//! The fragments that a piece of an edit makes from a range of a tree.
 ghost use Rattle.std.specs.Prelude.{◌≡◌, ℕ, ◌+◌, ◌-◌, ◌<◌, ◌≤◌, ◌^◌, ◌++◌, ◌∷◌, ◌&&◌, not, false, [], length, take, Some, None, IfOk, option_to_list};
 ghost use Rattle.std.specs.Option.{option_copied};
 ghost use Rattle.lamport_clock.specs.Versions.{sees};
@@ -25,9 +25,9 @@ use std::alloc::Global;
 use sum_tree::{Item, SumTree};
 use undo_map::UndoMap;
 
-/// The fragments made so far stand in the place of those from `from` up to `at`; `back` is what is left of the last of these.
-/// `place` tells how many cells lie before that the edit's version sees, `number` how many of the edit's new cells; `index` is
-/// that of all fragments, those that were made among them.
+/// The state of a piece on its way over its range. The fragments `made` so far replace those in `from..at`, and `back`
+/// is what is left of the last of these. `place` is the number of cells so far that the edit's version sees, `number`
+/// that of the edit's new cells, and `index` the index of all fragments, including those that were made.
 #[derive(Drop)]
 pub struct Gather {
     pub from: u64,
@@ -40,7 +40,7 @@ pub struct Gather {
 }
 
 impl Gather {
-    // The fragment that comes next.
+    // The next fragment.
     fn first<'a>(&'a self, tree: &'a SumTree<Fragment>) -> Option<&'a Fragment>
         ensures { option_copied result ≡ head (ahead tree.now.items self.now) }
     {
@@ -50,7 +50,7 @@ impl Gather {
         }
     }
 
-    // The id of the fragment before the place, or the least.
+    // The id of the fragment before this place, or the least id.
     fn low(&self, alloc: Global, tree: &SumTree<Fragment>) -> Result<Locator, OutOfMemory>
         requires { self.now.from ≤ length tree.now.items }
         ensures { IfOk result (λ id. id ≡ last_id (so_far tree.now.items self.now)) }
@@ -61,7 +61,7 @@ impl Gather {
         }
     }
 
-    // The id of the fragment that comes next, or the greatest.
+    // The id of the next fragment, or the greatest id.
     fn high(&self, alloc: Global, tree: &SumTree<Fragment>) -> Result<Locator, OutOfMemory>
         ensures { IfOk result (λ id. id ≡ next_id (ahead tree.now.items self.now)) }
     {
@@ -71,7 +71,7 @@ impl Gather {
         }
     }
 
-    // Puts a fragment in the place of the one that comes next.
+    // Replaces the next fragment with another, and passes it.
     fn go_on(&mut self, tree: &SumTree<Fragment>, fragment: Fragment) -> Result<(), OutOfMemory>
         requires some { (ahead tree.now.items self.old ≡ []) → ⊥ }
         ensures made { IfOk result (λ _. self.new.made.items
@@ -96,8 +96,8 @@ impl Gather {
         Ok(())
     }
 
-    // Over the fragment that comes next, of which at most `left` cells that the version sees are passed. Answers how many are
-    // left to pass.
+    // Passes the next fragment, or as much of it as has `left` cells that the version sees. Returns the number of cells
+    // that are still to be passed.
     fn pass_one(
         &mut self,
         alloc: Global,
@@ -144,7 +144,7 @@ impl Gather {
         Ok(left - len)
     }
 
-    // The first n cells of the fragment that comes next, with an id of their own, and those behind them.
+    // The first `n` cells of the next fragment, with an id of their own, and the cells after them.
     fn halves(
         &self,
         alloc: Global,
@@ -165,7 +165,8 @@ impl Gather {
         Ok((front, back(alloc, fragment, n)?))
     }
 
-    // Puts both parts of the fragment that comes next in its place: the lower one, with its marks, is passed. Both are entered.
+    // Replaces the next fragment with its two parts and enters both in the index. The lower one, with its marks, is
+    // passed.
     fn put_halves(
         &mut self,
         alloc: Global,
@@ -201,8 +202,8 @@ impl Gather {
         Ok(())
     }
 
-    /// Over `count` cells that the edit's version sees, and what stands between them; those that it sees are marked where
-    /// undo counts are given.
+    /// Passes `count` cells that the edit's version sees, and what lies between them. If undo counts are given, marks
+    /// the fragments that it sees as in a range of the edit.
     pub fn pass(
         &mut self,
         alloc: Global,
@@ -237,7 +238,7 @@ impl Gather {
         Ok(())
     }
 
-    // Whether the fragment that comes next is later than the edit, which has not seen it.
+    // Whether the next fragment is later than the edit, and the edit has not seen it.
     fn is_later(&self, tree: &SumTree<Fragment>, edit: &EditOp) -> bool
         ensures { result ≡ later_first edit.now.stamp edit.now.version
             (ahead tree.now.items self.now) }
@@ -248,7 +249,7 @@ impl Gather {
         }
     }
 
-    // Over the fragment that comes next, as it is.
+    // Passes the next fragment as it is.
     fn keep(&mut self, alloc: Global, tree: &SumTree<Fragment>) -> Result<(), OutOfMemory>
         ensures from { self.new.from ≡ self.old.from }
         ensures order { self.old.at ≤ self.new.at }
@@ -267,7 +268,7 @@ impl Gather {
         Ok(())
     }
 
-    /// Over the fragments that are later than the edit, which has not seen them.
+    /// Passes the next fragments as long as they are later than the edit and the edit has not seen them.
     pub fn skip_later(
         &mut self,
         alloc: Global,
@@ -299,7 +300,7 @@ impl Gather {
         Ok(())
     }
 
-    /// Over n new cells of the edit, which are put here where there are some.
+    /// Inserts `n` new cells of the edit here, and passes them. Does nothing if `n` is 0.
     pub fn put_new(
         &mut self,
         alloc: Global,
@@ -342,7 +343,7 @@ impl Gather {
     }
 }
 
-// Whether a fragment is later than an edit that has not seen it.
+// Whether a fragment is later than the edit, and the edit has not seen it.
 fn is_past(fragment: &Fragment, edit: &EditOp) -> bool
     ensures { result ≡ (later fragment.now.stamp edit.now.stamp && not
         (sees edit.now.version fragment.now.stamp)) }
@@ -350,7 +351,7 @@ fn is_past(fragment: &Fragment, edit: &EditOp) -> bool
     is_later(fragment.stamp, edit.stamp) && !edit.version.sees(fragment.stamp)
 }
 
-// Enters a fragment in an index, in the place of the one that began with the same cell.
+// Enters a fragment in an index, and replaces the entry of the one that began with the same cell.
 fn enter(index: &mut InsertionIndex, alloc: Global, fragment: &Fragment) -> Result<(), OutOfMemory>
     requires { length (with_entry (entry_of fragment.now) index.old) ≤ 2 ^ 40 }
     ensures { IfOk result (λ _. index.new ≡ with_entry (entry_of fragment.now) index.old) }
@@ -359,7 +360,7 @@ fn enter(index: &mut InsertionIndex, alloc: Global, fragment: &Fragment) -> Resu
     index.add(alloc, fragment.stamp, fragment.offset, id)
 }
 
-// Enters both parts of a fragment in an index that has it.
+// Enters both parts of a fragment in an index that has the whole one.
 fn enter_both(
     index: &mut InsertionIndex,
     alloc: Global,
@@ -376,7 +377,7 @@ fn enter_both(
     enter(index, alloc, upper)
 }
 
-// The id of the fragment before place `at` of the tree, or the least.
+// The id of the fragment before index `at` of the tree, or the least id.
 fn id_before(alloc: Global, tree: &SumTree<Fragment>, at: u64) -> Result<Locator, OutOfMemory>
     requires { at ≤ length tree.now.items }
     ensures { IfOk result (λ id. id ≡ last_id (take at tree.now.items)) }

@@ -1,4 +1,4 @@
-//! What an operation does among fragments, and to the shown and the hidden text.
+//! What an operation does to fragments, and to the shown and the hidden text.
 #![tactic(auto)]
 
 mod among;

@@ -1,4 +1,4 @@
-//! Fragments in the ranges of an edit.
+//! Fragments that lie in the ranges of an edit.
 ghost use Rattle.std.specs.Prelude.{◌≡◌, ◌||◌, not, IfOk};
 ghost use Rattle.std.specs.Option.{option_copied};
 ghost use Rattle.std.specs.List.{list_all};
@@ -14,7 +14,8 @@ use std::alloc::Global;
 use sum_tree::Item;
 use undo_map::UndoMap;
 
-/// The fragment, where undo counts are given as it is in a range of the edit.
+/// A copy of the fragment. If undo counts are given, as it is in a range of the edit. Fails only if an allocation
+/// fails.
 pub fn touch(
     alloc: Global,
     edit: &EditOp,
@@ -30,7 +31,7 @@ pub fn touch(
     }
 }
 
-// The fragment in a range of the edit: deleted by it where it was shown to its author.
+// The fragment in a range of the edit, which deletes it if it was shown to the edit's author.
 fn mark(
     alloc: Global,
     edit: &EditOp,
@@ -47,8 +48,9 @@ fn mark(
     Ok(marked)
 }
 
-/// Whether a fragment whose edit the version sees was shown at it: its edit was not undone there, and each edit that deletes it
-/// and that the version sees was. It is a look-up of the undo counts for each of these edits, without memory.
+/// Whether a fragment, whose edit the version sees, was shown at that version: its edit was not undone there, and each
+/// edit that deletes it and that the version sees was. One look-up of undo counts for each of these edits. Does not
+/// allocate.
 pub fn was_shown(fragment: &Fragment, undos: &UndoMap, version: &Version) -> bool
     ensures { result ≡ was_shown undos.now version.now fragment.now.stamp fragment.now.deletions }
 {
@@ -56,7 +58,7 @@ pub fn was_shown(fragment: &Fragment, undos: &UndoMap, version: &Version) -> boo
         && all_were_undone(undos, fragment.deletions.as_slice(), version)
 }
 
-// Whether each edit that the version sees was undone at it.
+// Whether each of these edits that the version sees was undone at that version.
 fn all_were_undone(undos: &UndoMap, edits: &[Lamport], version: &Version) -> bool
     ensures { result ≡ list_all (λ t. not (sees version.now t) || is_odd
         (count_seen undos.now t version.now)) edits.now }

@@ -1,4 +1,4 @@
-//! What an operation does to the shown and to the hidden text.
+//! Moves of bytes between the shown and the hidden text.
 ghost use Rattle.std.specs.Prelude.{◌≡◌, [], length, OnErr, OnOk};
 ghost use Rattle.remote_edit.specs.Moves.{length_of, as_one, with_move};
 ghost use Rattle.remote_edit.specs.declared.moves.Move.TheVariants.{Visible, Hidden};
@@ -8,8 +8,8 @@ use crate::OutOfMemory;
 use std::alloc::Global;
 use std::marker::Model;
 
-/// What becomes of the next bytes of the shown text, of the hidden text or of an operation's new text. Each has a number
-/// of bytes.
+/// What becomes of the next bytes of the shown text, of the hidden text or of an operation's new text. Each variant has
+/// the number of these bytes.
 #[derive(Clone, Copy, Debug, PartialEq, Eq)]
 pub enum Move {
     /// Shown bytes stay shown.
@@ -25,7 +25,7 @@ pub enum Move {
 }
 
 impl Move {
-    /// What becomes of bytes by whether they were shown before, and whether they are now.
+    /// The move of `len` bytes, by whether they were shown before and whether they are shown now.
     pub fn of(was_shown: bool, is_shown: bool, len: u64) -> Move
         ensures { result ≡ move_for was_shown is_shown len }
     {
@@ -37,7 +37,7 @@ impl Move {
         }
     }
 
-    /// How many bytes it takes.
+    /// The number of bytes.
     pub fn len(self) -> u64
         ensures { result ≡ length_of self }
     {
@@ -47,7 +47,7 @@ impl Move {
         }
     }
 
-    // This one and the next as one, where they are of a kind.
+    // This move and the next as one, if they are of the same kind and their length fits in a `u64`.
     fn as_one(self, next: Move) -> Option<Move>
         ensures { result ≡ as_one self next }
     {
@@ -62,8 +62,8 @@ impl Move {
     }
 }
 
-/// What an operation does to the shown and to the hidden text, from their beginnings to their ends. Contracts see it as
-/// the list of its moves.
+/// What an operation does to the shown and the hidden text, from start to end. Contracts see it as the list of its
+/// moves.
 #[derive(Drop)]
 pub struct Moves {
     inner: Vec<Move>,
@@ -79,7 +79,7 @@ impl Model for Moves {
 }
 
 impl Moves {
-    /// No moves, without memory.
+    /// No moves. Does not allocate.
     pub fn new(alloc: Global) -> Moves
         ensures { result ≡ [] }
     {
@@ -88,21 +88,33 @@ impl Moves {
         }
     }
 
-    /// The moves, in order.
+    /// The moves of a `Vec`, in its order: none is left out or merged with another. Does not allocate.
+    pub fn from_vec(moves: Vec<Move>) -> Moves
+        ensures { result ≡ moves.items }
+    {
+        Moves { inner: moves }
+    }
+
+    /// The moves, in order. Does not allocate.
     pub fn as_slice(&self) -> &[Move]
         ensures { result.now ≡ self.now }
     {
         &self.inner
     }
 
-    /// How many moves there are.
+    /// The number of moves. Does not allocate.
     pub fn len(&self) -> usize
         ensures { result ≡ length self.now }
     {
         self.inner.len()
     }
 
-    /// Puts a move behind the others. One of no bytes changes nothing, and one of the last one's kind lengthens that.
+    /// Appends a move. A move of 0 bytes changes nothing. A move of the same kind as the last one lengthens that,
+    /// unless the length would not fit in a `u64`.
+    ///
+    /// # Errors
+    ///
+    /// Fails only if an allocation fails. The moves are then as before.
     pub fn push(&mut self, next: Move) -> Result<(), OutOfMemory>
         ensures ok { OnOk result (self.new ≡ with_move self.old next) }
         ensures err { OnErr result (self.new ≡ self.old) }
@@ -121,7 +133,7 @@ impl Moves {
         Ok(())
     }
 
-    // Puts behind the others that a stretch of fragments stays as it is.
+    // Appends the moves of a stretch of fragments that stays as it is.
     pub(crate) fn keep(&mut self, visible: u64, hidden: u64) -> Result<(), OutOfMemory>
         ensures { OnOk result (self.new
             ≡ with_move (with_move self.old (Visible visible)) (Hidden hidden)) }

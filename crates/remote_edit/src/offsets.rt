@@ -1,4 +1,4 @@
-//! Places among the shown cells, taken to places among all cells.
+//! From offsets among the shown cells to offsets among all cells.
 ghost use Rattle.std.specs.Prelude.{◌≡◌, ◌++◌, ◌≤◌, ◌^◌, map, IfOk};
 ghost use Rattle.std.specs.List.{AllByRecursion};
 ghost use Rattle.op_model.specs.Histories.{History};
@@ -14,7 +14,7 @@ use std::alloc::Global;
 use sum_tree::SumTree;
 use tree_cursor::{Bias, Cursor};
 
-// The number of all cells before shown cell `offset`, or of all where the text ends there: one descent.
+// The number of all cells before shown cell `offset`, or of all cells if the text ends there. One descent.
 fn full_offset(tree: &SumTree<Fragment>, offset: u64) -> Result<u64, OutOfMemory>
     requires room { cells_len tree.now.items ≤ 2 ^ 40 }
     requires within { offset ≤ shown_len tree.now.items }
@@ -30,7 +30,7 @@ fn full_offset(tree: &SumTree<Fragment>, offset: u64) -> Result<u64, OutOfMemory
     Ok(offset + hidden)
 }
 
-// A change, whose range counts shown cells, with a range that counts all cells.
+// A change whose range counts shown cells, with the same range counting all cells.
 fn full_piece(alloc: Global, tree: &SumTree<Fragment>, change: &Piece) -> Result<Piece, OutOfMemory>
     requires room { cells_len tree.now.items ≤ 2 ^ 40 }
     requires range { IsInText tree.now.items change.now }
@@ -46,8 +46,12 @@ fn full_piece(alloc: Global, tree: &SumTree<Fragment>, change: &Piece) -> Result
     Ok(Piece { start, end, text })
 }
 
-/// The changes of a text, whose ranges count its bytes, as pieces, whose ranges count all bytes of the history: two descents a
-/// change.
+/// The changes of a text, whose ranges count bytes of the text, as pieces, whose ranges count all bytes of the history.
+/// Two descents for each change; the texts are copied.
+///
+/// # Errors
+///
+/// Fails only if an allocation fails.
 pub fn full_pieces(
     alloc: Global,
     tree: &SumTree<Fragment>,

@@ -1,4 +1,4 @@
-//! Parts of a fragment, and new ones, with ids of their own.
+//! Parts of a fragment, and new fragments, with ids of their own.
 ghost use Rattle.std.specs.Prelude.{◌≡◌, ◌+◌, ◌<◌, ◌≤◌, ◌^◌, IfOk};
 ghost use Rattle.locators.specs.Locator.{between_digits};
 ghost use Rattle.remote_edit.specs.Walk.{front, back, new_fragment};
@@ -10,7 +10,7 @@ use locators::Locator;
 use std::alloc::Global;
 use sum_tree::Item;
 
-/// The first cells of a fragment, with an id between the one before it and its own.
+/// The first `n` cells of a fragment, with an id between that of the fragment before it and its own.
 pub fn front(
     alloc: Global,
     fragment: &Fragment,
@@ -30,7 +30,7 @@ pub fn front(
     })
 }
 
-/// The cells of a fragment behind the first n, which keep its id.
+/// The cells of a fragment after the first `n`, which keep its id.
 pub fn back(alloc: Global, fragment: &Fragment, n: u64) -> Result<Fragment, OutOfMemory>
     requires room { fragment.now.offset + n < 2 ^ 64 }
     requires within { n ≤ fragment.now.len }
@@ -42,7 +42,7 @@ pub fn back(alloc: Global, fragment: &Fragment, n: u64) -> Result<Fragment, OutO
     Ok(back)
 }
 
-/// The n new cells of an edit from cell k on, with an id between two.
+/// The `n` new cells of an edit from its cell `k` on, with an id between two others.
 pub fn new_fragment(
     alloc: Global,
     stamp: Lamport,

@@ -1,4 +1,4 @@
-//! How many cells are passed in a walk over fragments.
+//! Numbers of cells before a place in a walk over fragments.
 ghost use Rattle.remote_edit.specs.Passed.{move_passed, IsLaterPassed, PassedFits, move_seen, IsLaterSeen, SeenFits};
 ghost use Rattle.remote_edit.specs.PassedLaws.{passed_laws, seen_laws};
 
@@ -6,7 +6,7 @@ use fragments::{FragmentSummary, Full, Sight, Visible};
 use lamport_clock::Version;
 use tree_cursor::{Bias, Dimension, Moves, Plain, Target};
 
-/// How many shown and how many hidden cells lie before.
+/// The numbers of shown and of hidden cells before a place.
 #[derive(Clone, Copy, Debug, PartialEq, Eq)]
 pub struct Passed {
     pub visible: u64,
@@ -38,8 +38,8 @@ impl<'a> Dimension<'a, FragmentSummary> for Passed {
     }
 }
 
-/// How many cells that a version sees lie before, and how many shown and hidden ones. As with [`fragments::FullAt`], a run
-/// of fragments is added whole where the version sees all of it or none of it.
+/// The number of cells before a place that a version sees, and the numbers of shown and of hidden ones. As with
+/// [`fragments::FullAt`], the sum of a run of fragments can be added if the version sees all of them or none.
 #[derive(Clone, Copy)]
 pub struct SeenPassed<'v> {
     pub version: &'v Version,
@@ -82,7 +82,7 @@ impl<'a, 'v> Dimension<'a, FragmentSummary> for SeenPassed<'v> {
     }
 }
 
-/// A number of cells that a version sees is a target.
+/// Seeks to a number of cells that a version sees.
 impl<'v> Target<SeenPassed<'v>> for Full {
     ghost use Rattle.tree_cursor.specs.Counting.{number_passes};
     ghost use Rattle.tree_cursor.specs.CountingLaws.{number_stays};
@@ -99,7 +99,7 @@ impl<'v> Target<SeenPassed<'v>> for Full {
     }
 }
 
-/// A number of shown cells is a target.
+/// Seeks to a number of shown cells.
 impl Target<Passed> for Visible {
     ghost use Rattle.tree_cursor.specs.Counting.{number_passes};
     ghost use Rattle.tree_cursor.specs.CountingLaws.{number_stays};

@@ -20,14 +20,20 @@ use std::sync::ledger::{Blank, Ledger};
 use sum_tree::{Steps, SumTree};
 use undo_map::UndoMap;
 
-/// The fragments and the index with an edit, where these and the undo counts stand for a lawful history in which it is good, and
-/// what it does to the shown and to the hidden text.
+/// Places an edit: the fragments and the index after it, and what it does to the shown and the hidden text. The
+/// fragments, the index and the undo counts must stand for a lawful history in which the edit is good.
 ///
-/// Each new text stands at its range's start, past the fragments there of later edits that its author had not seen, and what
-/// was shown to the author in the ranges is deleted; a piece without range and text changes and splits nothing. One walk over
-/// fragments and pieces: each piece costs a descent, the fragments in its range, and one change of the tree. The tree and the
-/// index that are given stay as they are, and share all that does not change with the new ones. Then the moves are read from the
-/// new fragments: runs of these that have not seen the edit are passed whole.
+/// Each new text is inserted at the start of its range, after the fragments there of later edits that its author had
+/// not seen, and what was shown to the author in the ranges is deleted. A piece without range and text changes and
+/// splits nothing.
+///
+/// One walk over fragments and pieces: each piece costs a descent, the fragments in its range, and one change of the
+/// tree. The moves are then read from the new fragments, which passes whole runs that have not seen the edit. The given
+/// tree and index stay as they are, and share with the new ones all that does not change.
+///
+/// # Errors
+///
+/// Fails only if an allocation fails.
 pub fn place_remote(
     alloc: Global,
     tree: &SumTree<Fragment>,
@@ -48,7 +54,7 @@ pub fn place_remote(
     place_with::<Brand>(alloc, tree, index, undos, op, Blank::new(1))
 }
 
-// The same with a counter that is made of the blank.
+// The same, with a counter made from the blank.
 fn place_with<L: Ledger>(
     alloc: Global,
     tree: &SumTree<Fragment>,
@@ -74,8 +80,8 @@ fn place_with<L: Ledger>(
     place_edit(alloc, tree, index, undos, op, &mut steps)
 }
 
-// What `place_remote` does, with a step for each node of the tree that is made. Where the edit has seen all fragments, these are at
-// most 256 for each piece and for each fragment that the ranges touch.
+// Does what `place_remote` does, and counts a step for each node of the tree that is made. If the edit has seen all
+// fragments, there are at most 256 for each piece and each fragment that the ranges touch.
 fn place_edit<L: Ledger>(
     alloc: Global,
     tree: &SumTree<Fragment>,
@@ -106,11 +112,15 @@ fn place_edit<L: Ledger>(
     })
 }
 
-/// The edit that a replica makes of changes of its text, and the fragments and the index with it. The ranges of the changes count
-/// the bytes of the text; the stamp and the version are those of what the replica makes, and the changes meet no fault.
+/// Makes the edit of a replica from changes of its text, and places it. The ranges of the changes count bytes of the
+/// text. The stamp and the version must be those of the replica's next operation, and the changes without fault.
 ///
-/// Two descents a change find the ranges among all bytes; then it is placed as a remote one. The texts are copied. A step is one node
-/// of the tree that is made, on want of memory too.
+/// Two descents for each change find the ranges among all bytes; then the edit is placed as by `place_remote`. The
+/// texts are copied. Counts a step for each node of the tree that is made, even if the call fails.
+///
+/// # Errors
+///
+/// Fails only if an allocation fails.
 pub fn place_local<L: Ledger>(
     alloc: Global,
     tree: &SumTree<Fragment>,

@@ -1,4 +1,4 @@
-//! What an undo shows and hides.
+//! The fragments that an undo shows and hides.
 ghost use Rattle.std.specs.Prelude.{◌≡◌, ◌+◌, ◌≤◌, ◌∷◌, [], Some, length, slice_get, IfOk, OnOk};
 ghost use Rattle.std.specs.List.{list_any, list_all};
 ghost use Rattle.sum_tree.specs.Laws.{fold};
@@ -20,8 +20,8 @@ use sum_tree::{Item, SumTree};
 use tree_cursor::{FilterCursor, Keep};
 use undo_map::UndoMap;
 
-// Which runs of fragments may have cells that one of the edits brought or deletes: those that have seen it and have
-// stamps as early. What an edit deletes is earlier than it, so runs of later cells have nothing of it.
+// Keeps the runs of fragments that may have cells that one of the edits inserted or deletes: those that have seen it
+// and have a stamp no later. What an edit deletes is earlier than the edit, so a run of later cells has nothing of it.
 #[derive(Drop)]
 pub(crate) struct MayConcern<'e> {
     pub(crate) edits: &'e [Lamport],
@@ -40,21 +40,21 @@ impl<'e> Keep<FragmentSummary> for MayConcern<'e> {
     }
 }
 
-// Whether a run of fragments may have cells that the edit brought or deletes.
+// Whether a run of fragments may have cells that the edit inserted or deletes.
 fn may_concern(s: &FragmentSummary, edit: Lamport) -> bool
     ensures { result ≡ may_concern s.now edit }
 {
     begins_by(s.span.as_slice(), edit) && s.greatest.sees(edit)
 }
 
-// Whether some of the stamps are no later than the edit's.
+// Whether one of the stamps is no later than the edit's.
 fn begins_by(spans: &[Span], edit: Lamport) -> bool
     ensures { result ≡ begins_by edit spans.now }
 {
     spans.iter().any(|span| span.least <= edit.value)
 }
 
-// Whether an edit, not earlier than the cells of a fragment, brought them or deletes them.
+// Whether an edit, no earlier than the cells of a fragment, inserted them or deletes them.
 fn concerns(fragment: &Fragment, edit: Lamport) -> bool
     ensures { result ≡ concerns fragment.now edit }
 {
@@ -68,7 +68,7 @@ fn stands_in(stamps: &[Lamport], stamp: Lamport) -> bool
     stamps.iter().any(|other| is_same(stamp, *other))
 }
 
-// Whether one of the edits brought the cells of a fragment, or deletes them.
+// Whether one of the edits inserted the cells of a fragment or deletes them.
 pub(crate) fn is_concerned(fragment: &Fragment, edits: &[Lamport]) -> bool
     ensures { result ≡ list_any (concerns fragment.now) edits.now }
 {
@@ -88,7 +88,7 @@ pub(crate) fn is_shown(undos: &UndoMap, fragment: &Fragment) -> bool
     !undos.is_undone(fragment.stamp) && all_are_undone(undos, fragment.deletions.as_slice())
 }
 
-// A fragment as the counts show it, of which the undo `by` gave some.
+// The fragment shown or hidden by the counts, of which the undo `by` set some.
 fn recount(
     alloc: Global,
     fragment: &Fragment,
@@ -111,7 +111,7 @@ fn list_of(alloc: Global, fragment: Fragment) -> Result<Vec<Fragment>, OutOfMemo
     Ok(list)
 }
 
-// Puts a fragment in the place of another.
+// Replaces one fragment with another.
 fn replace(
     alloc: Global,
     fragments: &mut SumTree<Fragment>,
@@ -129,7 +129,7 @@ fn replace(
     fragments.splice(alloc, i, i + 1, one)
 }
 
-// Puts what an undo of edits makes of fragment i in its place.
+// Replaces fragment i with what an undo of the edits makes of it.
 fn put_anew(
     alloc: Global,
     fragments: &mut SumTree<Fragment>,
@@ -154,7 +154,7 @@ fn put_anew(
     replace(alloc, fragments, i, one)
 }
 
-// The fragments of a history with an undo that counts edits.
+// The fragments of a history with an undo of these edits.
 fn with_undo(
     alloc: Global,
     tree: &SumTree<Fragment>,
@@ -181,14 +181,18 @@ fn with_undo(
     Ok(fragments)
 }
 
-/// Shows and hides fragments anew where the undo `by` counts edits: those that one of the edits brought or deletes. The
-/// map is the one that has the undo's counts already. The edits are those that it counts, in any order; one may be there
-/// twice, and others with them change nothing that is shown.
+/// Shows and hides the fragments that the undo `by` concerns: those that one of the edits inserted or deletes. The undo
+/// counts must already have those of this undo. `edits` are the edits that it undoes or redoes, in any order; an edit
+/// may be listed twice, and further edits change nothing that is shown.
 ///
-/// An edit is later than what it deletes. So runs of fragments that have not seen it, or are all later than it, are
-/// passed over whole and stay shared; the index is not asked. The cost grows with the number of fragments that one of
-/// the edits brought or deletes, and of those as early as one whose neighbours were changed since by its author, times
-/// the height. It fails for want of memory alone.
+/// An edit is later than what it deletes, so runs of fragments that have not seen it, or are all later than it, are
+/// passed whole and stay shared; the index is not used. The cost is O(k h), where h is the height of the tree and k counts
+/// the fragments that one of the edits inserted or deletes, and those no later than one of the edits whose neighbours the
+/// author of that edit has changed since.
+///
+/// # Errors
+///
+/// Fails only if an allocation fails.
 pub fn mark_undo(
     alloc: Global,
     tree: &SumTree<Fragment>,

@@ -1,4 +1,4 @@
-//! What an undo does to the shown and to the hidden text.
+//! The moves that an undo makes in the shown and the hidden text.
 ghost use Rattle.std.specs.Prelude.{[], IfOk};
 ghost use Rattle.lamport_clock.specs.declared.stamp.Lamport.{Lamport};
 ghost use Rattle.remote_edit.specs.Carried.{CarryOn};
@@ -13,7 +13,7 @@ use std::alloc::Global;
 use sum_tree::SumTree;
 use undo_map::UndoMap;
 
-// An undo of edits, whose counts the map has already.
+// An undo of edits, whose counts the map already has.
 #[derive(Drop)]
 struct Undoing<'u> {
     undos: &'u UndoMap,
@@ -35,8 +35,8 @@ impl<'u> Change for Undoing<'u> {
     }
 }
 
-// What an undo of edits does to the two texts. Runs of fragments that none of the edits can
-// concern are passed whole.
+// The moves that an undo of edits makes in the two texts. Passes whole runs of fragments that none of the edits can
+// concern.
 pub(crate) fn undo_moves(
     alloc: Global,
     tree: &SumTree<Fragment>,

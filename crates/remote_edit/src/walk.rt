@@ -22,11 +22,12 @@ use sum_tree::{Steps, SumTree};
 use tree_cursor::{Bias, Cursor};
 use undo_map::UndoMap;
 
-// A tree has no more cells.
+// The greatest number of cells of a tree.
 const MOST_CELLS: u64 = 1 << 40;
 
-/// How many fragments are passed, how many cells of these the edit's version sees and how many are its own, all fragments, and
-/// their index.
+/// The state of an edit on its way over all fragments: the tree and its index so far, and the numbers of the fragments
+/// passed (`at`), of the cells of these that the edit's version sees (`place`), and of those that are the edit's own
+/// (`number`).
 #[derive(Drop)]
 pub struct Walk {
     pub tree: SumTree<Fragment>,
@@ -37,8 +38,8 @@ pub struct Walk {
 }
 
 impl Walk {
-    // To the fragment in which `count` more cells are passed that the edit's version sees, over whole nodes of the tree.
-    // Answers how many are left to pass.
+    // Goes to the fragment that has the last of the next `count` cells that the edit's version sees, over whole nodes
+    // of the tree. Returns the number of cells that are still to be passed.
     fn seek(&mut self, edit: &EditOp, count: u64) -> Result<u64, OutOfMemory>
         requires within { self.old.at ≤ length self.old.tree.items }
         requires fit { Fit self.old.tree.items }
@@ -73,7 +74,8 @@ impl Walk {
         Ok(target.bytes - place)
     }
 
-    // What a piece makes of the range that begins here, where `left` more cells are passed before its text.
+    // The fragments that a piece makes from the range that begins here, after `left` more cells are passed before its
+    // text.
     fn gather(
         &self,
         alloc: Global,
@@ -125,7 +127,7 @@ impl Walk {
         Ok(gather)
     }
 
-    // Puts what was gathered in the place of its range.
+    // Replaces a range with what was gathered.
     fn change<L: Ledger>(
         &mut self,
         alloc: Global,
@@ -162,7 +164,7 @@ impl Walk {
         Ok(())
     }
 
-    // Over one piece, whose range begins `count` cells that the edit's version sees behind this place.
+    // Passes one piece, whose range begins after `count` more cells that the edit's version sees.
     fn piece<L: Ledger>(
         &mut self,
         alloc: Global,
@@ -202,7 +204,7 @@ impl Walk {
         self.change(alloc, gather, steps)
     }
 
-    // Over all pieces of the edit, from the beginning.
+    // Passes all pieces of the edit, from the start.
     fn pass_pieces<L: Ledger>(
         &mut self,
         alloc: Global,
@@ -240,8 +242,8 @@ impl Walk {
     }
 }
 
-// Puts fragments, and what is left of one, in the place of those from `from` up to `at`. Answers how many are before what is
-// left.
+// Replaces the fragments in `from..at` with those that were made and what is left of one. Returns the number of
+// fragments before what is left.
 fn put_back<L: Ledger>(
     tree: &mut SumTree<Fragment>,
     alloc: Global,
@@ -272,7 +274,7 @@ fn put_back<L: Ledger>(
     Ok(from + count)
 }
 
-// Puts fragments in the place of a range, with a step for each node made. An edit makes no node of the tree elsewhere.
+// Replaces a range of fragments, and counts a step for each node made. An edit makes nodes of the tree only here.
 fn put<L: Ledger>(
     tree: &mut SumTree<Fragment>,
     alloc: Global,
@@ -300,8 +302,8 @@ fn changes(piece: &Piece) -> bool
     piece.start < piece.end || !piece.text.as_str().is_empty()
 }
 
-/// The walk over all pieces of an edit, with a step for each node made. Where the edit has seen all fragments, these are at most 256
-/// for each piece and for each fragment that the ranges touch.
+/// Walks over all pieces of an edit, and counts a step for each node made. If the edit has seen all fragments, there
+/// are at most 256 for each piece and each fragment that the ranges touch. Fails only if an allocation fails.
 pub fn walk_in<L: Ledger>(
     alloc: Global,
     tree: &SumTree<Fragment>,

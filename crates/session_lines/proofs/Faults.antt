@@ -53,7 +53,7 @@ session_bad (l ∷ ls) = then_bad 1 (header_of l) (λ h. with_header h (rest_of 
 not_bad : (ls : List (List ℕ)) (e : DecodeFault) → session_of ls ≡ Err e → IsBad {A = Session} (Err e)
 not_bad ls e h = subst (IsBad {A = Session}) h (session_bad ls)
 
--- too many lines are told only where there are too many
+-- too many lines are reported only where there are too many
 lines_by : (input : List ℕ) (n : ℕ) (b : Bool) → nat_lt lines_limit (length (lines_of input)) ≡ b
     → cond b (Err (Lines (length (lines_of input)))) (session_of (lines_of input)) ≡ Err (Lines n) → lines_limit < length (lines_of input)
 lines_by input n true l e = ltb-true lines_limit (length (lines_of input)) l
@@ -67,7 +67,7 @@ never_by : (input : List ℕ) (b : Bool) → cond b (Err (Lines (length (lines_o
 never_by input true e = cc
 never_by input false e = not_bad (lines_of input) OutOfMemory e
 
--- want of memory is no part of what a text is
+-- a failed allocation is no part of what a text is
 pub never_memory : (input : List ℕ) → session_of_text input ≡ Err OutOfMemory → ⊥
 unfolding session_of_text
 never_memory input e = never_by input (nat_lt lines_limit (length (lines_of input))) e

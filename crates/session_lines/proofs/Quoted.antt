@@ -20,20 +20,20 @@ print-string : (s : List ℕ) → print (string s ∷ []) ≡ quoted s
 unfolding print_from
 print-string s = append-nil (quoted s)
 
--- the text stands quoted behind what was there
+-- the text is quoted after what was there
 pub quoted-ok : {E : Type 0} (r : Result (Unit {0}) E) (old new : Written) (before s items : List ℕ) → Writes r old new (string s) → old.before ≡ before → old.tokens ≡ [] → items ≡ new.before ++ print new.tokens → OnOk r (items ≡ before ++ quoted s)
 quoted-ok (Ok u) old new before s items w at none e =
     e ∙ ap₂ (λ (b : List ℕ) (t : List Token). b ++ print t) (w.room.0 ∙ at) (w.ok ∙ ap (λ (t : List Token). t ++ string s ∷ []) none) ∙ ap (λ (t : List ℕ). before ++ t) (print-string s)
 quoted-ok (Err u) old new before s items w at none e = tt
 
--- without memory nothing is added to what was there
+-- if an allocation fails nothing is added to what was there
 pub quoted-err : {E : Type 0} (r : Result (Unit {0}) E) (old new : Written) (before s items : List ℕ) → Writes r old new (string s) → old.before ≡ before → old.tokens ≡ [] → items ≡ new.before ++ print new.tokens → OnErr r (items ≡ before)
 unfolding print_from
 quoted-err (Ok u) old new before s items w at none e = tt
 quoted-err (Err u) old new before s items w at none e =
     e ∙ ap₂ (λ (b : List ℕ) (t : List Token). b ++ print t) (w.room.0 ∙ at) (w.err ∙ none) ∙ append-nil before
 
--- a text behind its opening quote, and one part more of it
+-- a text after its opening quote, and one part more of it
 pub escape_more : {A : Type 0} (v : A → List ℕ) (front : List ℕ) (parts : List A) (part : A) → (front ++ 34 ∷ escape (concat (map v parts))) ++ escape (v part) ≡ front ++ 34 ∷ escape (concat (map v (parts ++ part ∷ [])))
 escape_more v front parts part =
     let joined : concat (map v (parts ++ part ∷ [])) ≡ concat (map v parts) ++ v part =

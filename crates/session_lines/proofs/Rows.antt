@@ -148,7 +148,7 @@ points_found = refl
 
 -- ---- names
 
--- an anchor line may be refused when it is worked, and keeps its name for the lines behind it
+-- an anchor line may be refused when it is worked, and keeps its name for the lines after it
 pub names : session_of_text (codes "[\"zedbuf\",1,\"ab\",[1,2]]\n[\"anchor\",1,\"a\",9,\"left\"]\n[\"anchor\",2,\"\",0,\"right\"]\n[\"where\",2,\"a\"]\n[\"mark\",2,\"a\"]\n[\"since\",1,\"a\"]\n")
     ≡ Ok (record {
       version = 1;
@@ -159,7 +159,7 @@ pub names : session_of_text (codes "[\"zedbuf\",1,\"ab\",[1,2]]\n[\"anchor\",1,\
 unfolding session_of_text value_of line_of_value header_of_value header_of line_of is_utf8 chars serde_json_on_literals
 names = refl
 
--- the name of a mark is none of an anchor
+-- the name of a mark is not one of an anchor
 pub a_name_of_a_mark : session_of_text (codes "[\"zedbuf\",1,\"ab\",[1]]\n[\"mark\",1,\"a\"]\n[\"where\",1,\"a\"]\n") ≡ Err (Bad 3 Name)
 unfolding session_of_text value_of line_of_value header_of_value header_of line_of is_utf8 chars serde_json_on_literals
 a_name_of_a_mark = refl

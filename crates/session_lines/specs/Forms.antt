@@ -12,7 +12,7 @@ use Rattle.session_lines.specs.Parts.{id_of_value, stamp_of_value, version_of_va
 use Rattle.session_lines.specs.declared.session.SessionLine.{SessionLine}
 use Rattle.session_lines.specs.declared.session.SessionLine.TheVariants.{Edit, Undo, Op, Uop, Give, Text, Anchor, Where, Mark, Since, Find, Point, Offset}
 
--- ---- the members behind the word
+-- ---- the members after the word
 
 abbrev pub edit_with : Option ℕ → Option (List Piece) → Option SessionLine
 edit_with r ps = option_and_then (λ id. option_map (Edit id) ps) r

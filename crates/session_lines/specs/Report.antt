@@ -72,13 +72,14 @@ edit_fault_words ClockEnd = codes "clockend"
 edit_fault_words (Full unit held adds) = unit_words unit ++ (decimal held ++ (codes " " ++ decimal adds))
 edit_fault_words OutOfMemory = []
 
--- the faults of taken operations; one that an edit has too is told by the same words
+-- the faults of taken operations; one that an edit has too has the same words
 abbrev pub op_fault_words : OpFault → List ℕ
 op_fault_words taken.BadStamp = codes "badstamp"
 op_fault_words taken.NoBase = codes "nobase"
 op_fault_words (taken.TextLimit n) = edit_fault_words (TextLimit n)
 op_fault_words (taken.Reversed i) = edit_fault_words (Reversed i)
 op_fault_words (taken.Overlap i) = edit_fault_words (Overlap i)
+op_fault_words (taken.CarriageReturn i) = codes "carriage " ++ decimal i
 op_fault_words (taken.Conflict t) = codes "conflict " ++ stamp_text t
 op_fault_words (taken.Forked kept) = codes "forked " ++ decimal kept
 op_fault_words (taken.OpenVersion r) = codes "openversion " ++ decimal r
@@ -88,7 +89,7 @@ op_fault_words (taken.NoSuchEdit t) = codes "nosuchedit " ++ stamp_text t
 op_fault_words (taken.Full unit held adds) = edit_fault_words (Full unit held adds)
 op_fault_words taken.OutOfMemory = []
 
--- the faults of undos; one that an edit or a taken operation has too is told by the same words
+-- the faults of undos; one that an edit or a taken operation has too has the same words
 abbrev pub undo_fault_words : UndoFault → List ℕ
 undo_fault_words (undo.NoSuchEdit t) = op_fault_words (taken.NoSuchEdit t)
 undo_fault_words (undo.Twice t) = codes "twice " ++ stamp_text t

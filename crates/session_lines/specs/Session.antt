@@ -71,7 +71,7 @@ is_query (Offset r k c) = true
 abbrev pub query_count : List SessionLine → ℕ
 query_count ls = count_by is_query ls
 
--- ---- a line behind others
+-- ---- a line after others
 
 -- the replica that acts in the line, if one does, is in the header
 abbrev pub is_known : List ℕ → SessionLine → Bool
@@ -170,7 +170,7 @@ is_named before (Find r t) = true
 is_named before (Point r o) = true
 is_named before (Offset r k c) = true
 
--- what is wrong with a line that has the form of one, behind the lines before
+-- what is wrong with a line that has the form of one, after the lines before
 abbrev pub word_of : List ℕ → List SessionLine → SessionLine → Option Word
 word_of ids before line = first_of (
     when (not (is_known ids line)) word.Replica
@@ -191,18 +191,18 @@ abbrev pub line_or_word : List ℕ → List SessionLine → Option Data → Resu
 line_or_word ids before None = Err word.Json
 line_or_word ids before (Some d) = form_or_word ids before (line_of_value d)
 
--- the line of a session with these replicas that a later line is, behind the lines before
+-- the line of a session with these replicas that a later line is, after the lines before
 unfoldable pub line_of : List ℕ → List SessionLine → List ℕ → Result SessionLine Word
 line_of ids before line = line_or_word ids before (value_of line)
 
 -- ---- all lines
 
--- what comes of the line with number n: it is bad, or the lines go on behind what it is
+-- what follows from the line with number n: it is bad, or the lines go on after it
 abbrev pub then_from : {A B : Type 0} → ℕ → Result A Word → (A → Result B DecodeFault) → Result B DecodeFault
 then_from n (Err w) next = Err (Bad n w)
 then_from n (Ok x) next = next x
 
--- the lines behind the header, those `before` being read
+-- the lines after the header, those `before` being read
 abbrev pub rest_of : List ℕ → List SessionLine → List (List ℕ) → Result (List SessionLine) DecodeFault
 rest_of ids before [] = Ok before
 rest_of ids before (l ∷ ls) =
@@ -220,14 +220,14 @@ session_of (l ∷ ls) = then_from 1 (header_of l) (λ h. with_header h (rest_of 
 abbrev pub lines_limit : ℕ
 lines_limit = 1048576
 
--- the session that a text is, or why it is none: lines are counted before any is read
+-- the session of a text, or why it has none: lines are counted before any is read
 unfoldable pub session_of_text : List ℕ → Result Session DecodeFault
 session_of_text input =
     if nat_lt lines_limit (length (lines_of input))
     then Err (Lines (length (lines_of input)))
     else session_of (lines_of input)
 
--- ---- what every session is like that was read from so many bytes
+-- ---- what every session is like that was read from that many bytes
 
 pub record IsSession (bytes : ℕ) (s : Session) : Type 0 where
   pub version : s.version ≡ 1

@@ -8,7 +8,7 @@ use std::alloc::AllocFailed;
 use std::fmt;
 use thiserror::Error;
 
-/// What is wrong with a bad line. Of several the first of these is told.
+/// What is wrong with a bad line. Of several it is the first of these.
 #[derive(Clone, Copy, Debug, PartialEq, Eq)]
 pub enum Word {
     /// The line is no JSON text.
@@ -43,7 +43,7 @@ impl fmt::Display for Word {
 /// Why an input is no session.
 #[derive(Clone, Copy, Debug, PartialEq, Eq, Error)]
 pub enum DecodeFault {
-    /// It has so many lines, more than 1,048,576.
+    /// It has this many lines, more than 1,048,576.
     #[error("{0} lines are more than 1048576")]
     Lines(u64),
     /// The number of its first bad line, counted from 1, and what is wrong with it.

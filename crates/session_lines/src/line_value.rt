@@ -10,7 +10,7 @@ use crate::fault::Word;
 use serde_json::Value;
 use std::alloc::Global;
 
-/// Why a line is none of a session.
+/// Why a line is not a line of a session.
 #[derive(Clone, Copy, Debug, PartialEq, Eq)]
 pub enum LineFault {
     Bad(Word),
@@ -44,7 +44,7 @@ pub fn value_of(alloc: Global, line: &[u8]) -> Result<Value, LineFault>
     }
 }
 
-/// The members of an array, lent; None where the value is none. Constant time, without memory.
+/// The members of an array, or None if the value is not one. O(1); does not allocate.
 pub fn members_of(value: &Value) -> Option<&[Value]>
     ensures { option_map (λ vs. map view vs.now) result ≡ members_of (view value.now) }
 {
@@ -54,7 +54,7 @@ pub fn members_of(value: &Value) -> Option<&[Value]>
     }
 }
 
-/// Whether the value is this text. Linear in it, without memory.
+/// Whether the value is this text. Linear in the text; does not allocate.
 pub fn is_text(value: &Value, text: &str) -> bool
     ensures { result ≡ is_text text.now (view value.now) }
 {
@@ -64,7 +64,7 @@ pub fn is_text(value: &Value, text: &str) -> bool
     }
 }
 
-/// Whether the value is this whole number. Constant time, without memory.
+/// Whether the value is this whole number. O(1); does not allocate.
 pub fn is_number(value: &Value, n: u64) -> bool
     ensures { result ≡ is_number n (view value.now) }
 {

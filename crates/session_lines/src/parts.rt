@@ -57,7 +57,7 @@ fn stamp_from(members: &[Value]) -> Option<Lamport>
     }
 }
 
-/// The stamp that the value is: `[VALUE,REPLICA]`; None where it is none. Constant time, without memory.
+/// The stamp `[VALUE,REPLICA]`, or None if the value is not one. O(1); does not allocate.
 pub fn stamp_of_value(value: &Value) -> Option<Lamport>
     ensures { result ≡ stamp_of_value (view value.now) }
 {
@@ -132,7 +132,7 @@ fn pieces_from(alloc: Global, members: &[Value]) -> Result<Option<Pieces>, OutOf
     Ok(Some(Pieces::new(pieces)))
 }
 
-/// The pieces that the value is: a list of `[START,END,TEXT]`; None where it is none. Linear in them and their texts, which are copied.
+/// The pieces of a list of `[START,END,TEXT]`, or None if the value is not one. Linear in them and in their texts, which are copied.
 ///
 /// # Errors
 ///
@@ -271,7 +271,7 @@ fn counts_from(alloc: Global, members: &[Value]) -> Result<Option<Counts>, OutOf
     Ok(Some(Counts::new(counts)))
 }
 
-/// The undo counts that the value is: a list of `[VALUE,REPLICA,COUNT]`; None where it is none. Linear in them.
+/// The undo counts of a list of `[VALUE,REPLICA,COUNT]`, or None if the value is not one. Linear in them.
 ///
 /// # Errors
 ///
@@ -298,7 +298,7 @@ fn numbers_from(alloc: Global, members: &[Value]) -> Result<Option<Numbers>, Out
     Ok(Some(Numbers::new(numbers)))
 }
 
-/// The whole numbers that the value is a list of; None where it is none. Linear in them.
+/// The numbers of a list of whole numbers, or None if the value is not one. Linear in them.
 ///
 /// # Errors
 ///

@@ -66,7 +66,7 @@ impl TextEdits {
         TextEdits { inner }
     }
 
-    /// The edits in their order, lent. Constant time, without memory.
+    /// The edits in their order. O(1); does not allocate.
     pub fn as_slice(&self) -> &[TextEdit]
         ensures { result.now ≡ self.now }
     {
@@ -89,7 +89,7 @@ pub enum SinceAnswer {
 pub enum FindAnswer {
     /// `S S ..`: at these byte offsets; `none`, where there are none.
     Starts(Numbers),
-    /// `empty needle`: no places are told of an empty needle.
+    /// `empty needle`: an empty needle has no places.
     EmptyNeedle,
 }
 

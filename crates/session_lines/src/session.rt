@@ -136,21 +136,21 @@ impl Model for SessionLines {
 }
 
 impl SessionLines {
-    /// Makes a list of lines of a vector, without memory.
+    /// The list of the lines of a vector. Does not allocate.
     pub fn new(inner: Vec<SessionLine>) -> SessionLines
         ensures { result ≡ inner.items }
     {
         SessionLines { inner }
     }
 
-    /// The lines in their order, lent. Constant time, without memory.
+    /// The lines in their order. O(1); does not allocate.
     pub fn as_slice(&self) -> &[SessionLine]
         ensures { result.now ≡ self.now }
     {
         &self.inner
     }
 
-    /// The vector of the lines, without memory.
+    /// The vector of the lines. Does not allocate.
     pub fn into_vec(self) -> Vec<SessionLine>
         ensures { result.items ≡ self }
     {
@@ -174,14 +174,14 @@ impl Model for Ids {
 }
 
 impl Ids {
-    /// Makes a list of ids of a vector, without memory.
+    /// The list of the ids of a vector. Does not allocate.
     pub fn new(inner: Vec<u16>) -> Ids
         ensures { result ≡ inner.items }
     {
         Ids { inner }
     }
 
-    /// The ids in their order, lent. Constant time, without memory.
+    /// The ids in their order. O(1); does not allocate.
     pub fn as_slice(&self) -> &[u16]
         ensures { result.now ≡ self.now }
     {
@@ -204,14 +204,14 @@ impl Model for Numbers {
 }
 
 impl Numbers {
-    /// Makes a list of numbers of a vector, without memory.
+    /// The list of the numbers of a vector. Does not allocate.
     pub fn new(inner: Vec<u64>) -> Numbers
         ensures { result ≡ inner.items }
     {
         Numbers { inner }
     }
 
-    /// The numbers in their order, lent. Constant time, without memory.
+    /// The numbers in their order. O(1); does not allocate.
     pub fn as_slice(&self) -> &[u64]
         ensures { result.now ≡ self.now }
     {

@@ -16,7 +16,7 @@ use std::alloc::Global;
 use std::fmt::Write;
 use std::mem;
 
-// Writes a text as a JSON string at the end of `out`. On want of memory nothing is written.
+// Appends a text as a JSON string to `out`. If an allocation fails, nothing is written.
 fn push_quoted(alloc: Global, out: &mut Vec<u8>, text: &str) -> Result<(), OutOfMemory>
     ensures ok { OnOk result (out.new.items ≡ out.old.items ++ quoted text.now) }
     ensures err { OnErr result (out.new.items ≡ out.old.items) }
@@ -27,7 +27,7 @@ fn push_quoted(alloc: Global, out: &mut Vec<u8>, text: &str) -> Result<(), OutOf
     written
 }
 
-// Writes a text as a JSON string, with what stands before and behind it. On want of memory a part may be written.
+// Writes a text as a JSON string, with what comes before and after it. If an allocation fails, a part may be written.
 fn push_parts(
     alloc: Global,
     out: &mut Vec<u8>,
@@ -44,7 +44,7 @@ fn push_parts(
     out.extend_from_slice(back.as_bytes())
 }
 
-// Writes a text as a JSON string, with what stands before and behind it. On want of memory nothing is written.
+// Writes a text as a JSON string, with what comes before and after it. If an allocation fails, nothing is written.
 fn push_around(
     alloc: Global,
     out: &mut Vec<u8>,
@@ -80,7 +80,7 @@ fn push_escaped(
     out.extend_from_slice(&string[1..string.len() - 1])
 }
 
-// Writes the text that the parts are as a JSON string. On want of memory some of it may be written.
+// Writes the text of the parts as a JSON string. If an allocation fails, some of it may be written.
 #[tactic(auto, using(crate::proofs::Quoted::escape_more))]
 fn push_text<'a, I: Iterator<Item = &'a str> + Drop>(
     alloc: Global,
@@ -128,13 +128,14 @@ fn edit_fault_words(alloc: Global, fault: EditFault) -> Result<String, OutOfMemo
     }
 }
 
-// A fault that an edit has too is told by the same words.
+// A fault that an edit has too has the same words.
 fn op_fault_words(alloc: Global, fault: OpFault) -> Result<String, OutOfMemory>
     ensures { IfOk result (λ s. string_bytes s ≡ op_fault_words fault) }
 {
     let shared = match fault {
         OpFault::BadStamp => return String::from_str(alloc, "badstamp"),
         OpFault::NoBase => return String::from_str(alloc, "nobase"),
+        OpFault::CarriageReturn(i) => return format!(in alloc; "carriage {i}"),
         OpFault::Conflict(stamp) => return format!(in alloc; "conflict {stamp}"),
         OpFault::Forked(kept) => return format!(in alloc; "forked {kept}"),
         OpFault::OpenVersion(r) => return format!(in alloc; "openversion {r}"),
@@ -150,7 +151,7 @@ fn op_fault_words(alloc: Global, fault: OpFault) -> Result<String, OutOfMemory>
     edit_fault_words(alloc, shared)
 }
 
-// A fault that an edit or a taken operation has too is told by the same words.
+// A fault that an edit or a taken operation has too has the same words.
 fn undo_fault_words(alloc: Global, fault: UndoFault) -> Result<String, OutOfMemory>
     ensures { IfOk result (λ s. string_bytes s ≡ undo_fault_words fault) }
 {
@@ -618,7 +619,7 @@ fn push_plain(alloc: Global, out: &mut String, line: &Report) -> Result<(), OutO
     }
 }
 
-// Writes a line with no JSON string in it. On want of memory nothing is written.
+// Writes a line with no JSON string in it. If an allocation fails, nothing is written.
 fn write_plain(alloc: Global, out: &mut Vec<u8>, line: &Report) -> Result<(), OutOfMemory>
     requires { has_string line.now ≡ false }
     ensures ok { OnOk result (out.new.items ≡ out.old.items ++ line_text line.now) }
@@ -660,7 +661,7 @@ pub fn write_line(alloc: Global, out: &mut Vec<u8>, line: &Report) -> Result<(),
     }
 }
 
-// A line that ends with the text that the parts are. On want of memory some of it may be written.
+// A line that ends with the text of the parts. If an allocation fails, some of it may be written.
 fn push_with_text<'a, I: Iterator<Item = &'a str> + Drop>(
     alloc: Global,
     out: &mut Vec<u8>,
