@@ -30,17 +30,17 @@ use Rattle.op_model.proofs.settling.Waiting.{insert_ascends, unlike_waiting}
 use Rattle.undo_map.specs.declared.entry.UndoEntry.{UndoEntry}
 use Rattle.undo_map.specs.Undos.{undo_entries}
 use Rattle.undo_map.proofs.Entries.{entries_within}
-use Rattle.text_buffer.specs.Buffer.{BufferState, IsBuffer}
+use Rattle.text_buffer.specs.Buffer.{BufferState, IsBuffer, rules}
 use Rattle.text_buffer.specs.Document.{IsContent, IsBufferHistory, HasRoom}
 use Rattle.text_buffer.specs.DocumentInside.{IsDocumentInside}
 use Rattle.text_buffer.specs.declared.document.Document.TheInside.{Inside}
 
 -- an operation that passes no limit leaves what is held within them
-pub room_of : (b : BufferState) (op : Operation) → full_fault b.limits b.history op ≡ None → (bytes_held b.history + bytes_of op ≤ b.limits.bytes) × (entries_held b.history + entries_of op ≤ b.limits.entries)
+pub room_of : (b : BufferState) (op : Operation) → full_fault (rules b) b.history op ≡ None → (bytes_held b.history + bytes_of op ≤ b.limits.bytes) × (entries_held b.history + entries_of op ≤ b.limits.entries)
 room_of b op f = room_in b.limits b.history (bytes_of op) (entries_of op) (map_none (λ (e : Excess). Full e.unit e.held e.adds) (excess b.limits b.history (bytes_of op) (entries_of op)) f)
 
 -- and an operation passes no limit where what it adds passes none
-pub within_limits : (b : BufferState) (op : Operation) (n m : ℕ) → bytes_of op ≡ n → entries_of op ≡ m → excess b.limits b.history n m ≡ None → full_fault b.limits b.history op ≡ None
+pub within_limits : (b : BufferState) (op : Operation) (n m : ℕ) → bytes_of op ≡ n → entries_of op ≡ m → excess b.limits b.history n m ≡ None → full_fault (rules b) b.history op ≡ None
 within_limits b op n m x y e = none_map (λ (e : Excess). Full e.unit e.held e.adds) (excess b.limits b.history (bytes_of op) (entries_of op))
     (ap (λ z. excess b.limits b.history z (entries_of op)) x ∙ ap (λ z. excess b.limits b.history n z) y ∙ e)
 
@@ -52,7 +52,7 @@ counts_fit h u w k e r =
     omega (arith, held, same, r.entries)
 
 -- an operation that passes no limit finds room
-pub room_for : (b : BufferState) (op : Operation) → IsBuffer b → full_fault b.limits b.history op ≡ None → HasRoom b.history op
+pub room_for : (b : BufferState) (op : Operation) → IsBuffer b → full_fault (rules b) b.history op ≡ None → HasRoom b.history op
 room_for b op k f =
     let r = room_of b op f in
     record { bytes = omega (arith, r.0, k.most_bytes); entries = omega (arith, r.1, k.most_entries) }
@@ -92,7 +92,7 @@ IsDocumentInside-applied i j op s k p g r t items clocks versions content bytes 
     }
 
 -- a buffer whose document has one operation more
-pub IsBuffer-put : (b : BufferState) (op : Operation) (h : History) → IsBuffer b → IsBufferHistory h → answer b.history [] op ≡ Good → full_fault b.limits b.history op ≡ None → h ≡ b.history ++ op ∷ []
+pub IsBuffer-put : (b : BufferState) (op : Operation) (h : History) → IsBuffer b → IsBufferHistory h → answer b.history [] op ≡ Good → full_fault (rules b) b.history op ≡ None → h ≡ b.history ++ op ∷ []
     → IsBuffer (record b { history = h })
 IsBuffer-put b op h k n g f e =
     let room = room_of b op f in

@@ -9,7 +9,7 @@ use Rattle.op_model.specs.Answers.Answer.{Good}
 use Rattle.op_model.specs.Settled.{full_fault}
 use Rattle.op_model.proofs.histories.Proper.{edit_good}
 use Rattle.op_model.proofs.answers.Local.{made_edit_total, made_edit_entries}
-use Rattle.text_buffer.specs.Buffer.{BufferState, IsBuffer, edit_fault, edit_of}
+use Rattle.text_buffer.specs.Buffer.{BufferState, IsBuffer, edit_fault, edit_of, rules}
 use Rattle.text_buffer.proofs.Fit.{no_excess}
 use Rattle.text_buffer.proofs.Applied.{within_limits}
 
@@ -19,5 +19,5 @@ pub good_of : (b : BufferState) (ps : List Piece) → IsBuffer b → edit_fault 
 good_of b ps h e = edit_good b.limits b.history b.replica ps h.history.lawful h.history.proper (h.least_replica, h.greatest_replica) e
 
 -- its operation passes no limit
-pub room_made : (b : BufferState) (ps : List Piece) → edit_fault b ps ≡ None → full_fault b.limits b.history (edit_of b ps) ≡ None
+pub room_made : (b : BufferState) (ps : List Piece) → edit_fault b ps ≡ None → full_fault (rules b) b.history (edit_of b ps) ≡ None
 room_made b ps e = within_limits b (edit_of b ps) (text_total ps) (1 + length ps) (made_edit_total b.history b.replica ps) (made_edit_entries b.history b.replica ps) (no_excess b ps e)

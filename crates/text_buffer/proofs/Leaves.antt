@@ -1,4 +1,4 @@
--- What a pass that is stopped leaves: what it applied stands behind what was applied, and waits no longer.
+-- What a pass that is stopped leaves: what it applied comes after what was applied, and waits no longer.
 use Rattle.op_model.proofs.Elements.{each_map, each_append}
 use Rattle.std.proofs.Common.{◌≡◌, ℕ, ◌≤◌, true, List, [], ◌∷◌, ◌++◌, length, take, drop, refl, sym, ◌∙◌, ap, subst, append_assoc, arith, None, length-append, inl, inr}
 use Rattle.std.specs.List.{AllByRecursion}
@@ -7,19 +7,20 @@ use Rattle.lamport_clock.specs.declared.stamp.Lamport.{Lamport}
 use Rattle.lamport_clock.specs.Stamps.{same_stamp}
 use Rattle.lamport_clock.proofs.Later.{later_differs}
 use Rattle.op_model.specs.declared.operation.Operation.{Operation}
-use Rattle.op_model.specs.declared.limits.Limits.{Limits as LimitsType}
+use Rattle.op_model.specs.Rules.{Rules}
 use Rattle.op_model.specs.Sorted.{Ascending}
 use Rattle.op_model.specs.Operations.{stamp_of}
 use Rattle.op_model.specs.Histories.{History, In, operation_at}
 use Rattle.op_model.specs.Settled.{State, Turn, turn, pass}
 use Rattle.op_model.specs.Settled.Turn.{Append, Drop, Stay, Refuse}
+use Rattle.op_model.specs.Stopped.{stopped_pass}
 use Rattle.op_model.specs.Steps.{older}
 use Rattle.op_model.proofs.answers.Passed.{if_some}
 use Rattle.op_model.proofs.order.SameSets.{each_in}
 use Rattle.op_model.proofs.settling.Settling.{after, pass_is}
 use Rattle.op_model.proofs.settling.Leaves.{not_found}
 use Rattle.op_model.proofs.settling.Passes.{pass_nil}
-use Rattle.text_buffer.specs.Settling.{pass_until, pass_step}
+use Rattle.text_buffer.specs.Settling.{pass_step}
 
 -- from what is applied and waits to what is applied and waits later
 pub record Leaves (h : History) (w : List Operation) (g : History) (v : List Operation) : Type 0 where
@@ -33,7 +34,7 @@ record Takes (h : History) (w : List Operation) (g : History) (v : List Operatio
   leaves : Leaves h w g v
   from : AllByRecursion (λ (op : Operation). In w op) leaves.new
 
-module _ (l : LimitsType) (rest : List Operation) where
+module _ (l : Rules) (rest : List Operation) where
   abbrev Taken : History → List Operation → State → Type 0
   Taken h w s = Takes h w s.history (s.waiting ++ rest)
 
@@ -93,13 +94,13 @@ module _ (l : LimitsType) (rest : List Operation) where
 abbrev pub LeavesState : State → State → Type 0
 LeavesState s n = Leaves s.history s.waiting n.history n.waiting
 
-pub until_leaves : (k : ℕ) (l : LimitsType) (s : State) → Ascending older s.waiting → LeavesState s (pass_until k l s)
+pub until_leaves : (k : ℕ) (l : Rules) (s : State) → Ascending older s.waiting → LeavesState s (stopped_pass k l s)
 until_leaves k l s u =
     let e : take k s.waiting ++ drop k s.waiting ≡ s.waiting = take-append-drop k s.waiting in
     let t = takes l (drop k s.waiting) s.history (take k s.waiting) (subst (Ascending older) (sym e) u) in
-    subst (λ (w : List Operation). Leaves s.history w (pass_until k l s).history (pass_until k l s).waiting) e t.leaves
+    subst (λ (w : List Operation). Leaves s.history w (stopped_pass k l s).history (stopped_pass k l s).waiting) e t.leaves
 
-pub step_leaves : (l : LimitsType) (s : State) → Ascending older s.waiting → LeavesState s (pass_step l s)
+pub step_leaves : (l : Rules) (s : State) → Ascending older s.waiting → LeavesState s (pass_step l s)
 step_leaves l s u =
     let e : s.waiting ++ [] ≡ s.waiting = append-nil s.waiting in
     let t = takes l [] s.history s.waiting (subst (Ascending older) (sym e) u) in

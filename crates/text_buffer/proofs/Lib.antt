@@ -17,3 +17,4 @@ pub mod Standing
 pub mod Alike
 pub mod Costs
 pub mod Fronts
+pub mod Reached

@@ -4,6 +4,8 @@ use Rattle.std.specs.Prelude.{option_map}
 use Rattle.lamport_clock.specs.declared.stamp.Lamport.{Lamport}
 use Rattle.op_model.specs.declared.operation.Operation.{Operation}
 use Rattle.op_model.specs.declared.limits.Limits.{Limits as LimitsType}
+use Rattle.op_model.specs.declared.endings.Endings.TheVariants.{AsIs}
+use Rattle.op_model.specs.Rules.{answer_under}
 use Rattle.op_model.specs.declared.faults.OpFault.{OpFault}
 use Rattle.op_model.specs.Sorted.{Ascending}
 use Rattle.op_model.specs.Operations.{stamp_of}
@@ -11,15 +13,16 @@ use Rattle.op_model.specs.Answers.{Answer, answer}
 use Rattle.op_model.specs.Answers.Answer.{Good, Repeat, Waits, Refused}
 use Rattle.op_model.specs.Settled.{State, Turn, turn, turn_of, full_fault}
 use Rattle.op_model.specs.Settled.Turn.{Append, Drop, Stay, Refuse}
-use Rattle.op_model.specs.Steps.{older, ask_limits}
+use Rattle.op_model.specs.Stopped.{stopped_pass}
+use Rattle.op_model.specs.Steps.{older, ask_limits, without}
+use Rattle.op_model.proofs.answers.Under.{under_clean}
 use Rattle.op_model.proofs.settling.Passes.{not_stay}
 use Rattle.op_model.proofs.settling.Waiting.{filter_ascends}
-use Rattle.deferred_ops.specs.Deferred.{without}
 use Rattle.deferred_ops.proofs.Ready.{ready_within}
-use Rattle.text_buffer.specs.Buffer.{BufferState, IsBuffer, state, with_state}
+use Rattle.text_buffer.specs.Buffer.{BufferState, IsBuffer, rules, state, with_state}
 use Rattle.text_buffer.specs.BufferInside.{state_of, IsBufferInside}
 use Rattle.text_buffer.specs.declared.buffer.Buffer.TheInside.{Inside}
-use Rattle.text_buffer.specs.Settling.{after_turn, turn_step, pass_until, pass_step, next_ready, after_next_turn, turn_answer, after_answer, without_waiting, after_pass, IsStoppedPass}
+use Rattle.text_buffer.specs.Settling.{after_turn, turn_step, pass_step, next_ready, after_next_turn, turn_answer, after_answer, without_waiting, after_pass, IsStoppedPass}
 use Rattle.text_buffer.proofs.Turns.{IsAt, at_start, at_end, at_turn, at_until, fewer}
 
 -- ---- a turn
@@ -37,13 +40,14 @@ by_answer Repeat f = refl
 by_answer (Waits r v) f = refl
 by_answer (Refused x) f = refl
 
--- the turn of what is ready is told by the answer, the limits asked last
-pub turn_is : (after : Option Lamport) (b : BufferState) (op : Operation) (a : Answer) → next_ready after b ≡ Some op → a ≡ turn_answer b op → turn b.limits b.history op ≡ turn_for a
+-- the turn of what is ready follows from the answer, the limits asked last
+pub turn_is : (after : Option Lamport) (b : BufferState) (op : Operation) (a : Answer) → next_ready after b ≡ Some op → a ≡ turn_answer b op → turn (rules b) b.history op ≡ turn_for a
 turn_is after b op a e q =
     let w = ready_within after b.history b.waiting op e in
-    ap (λ (x : Bool). cond x (turn_of (answer b.history [] op) (full_fault b.limits b.history op)) Stay) w ∙ by_answer (answer b.history [] op) (full_fault b.limits b.history op) ∙ ap turn_for (sym q)
+    ap (λ (x : Bool). cond x (turn_of (answer_under AsIs b.history [] op) (full_fault (rules b) b.history op)) Stay) w
+    ∙ ap (λ (x : Answer). turn_of x (full_fault (rules b) b.history op)) (under_clean AsIs b.history [] op refl) ∙ by_answer (answer b.history [] op) (full_fault (rules b) b.history op) ∙ ap turn_for (sym q)
 
-turn_makes : (after : Option Lamport) (b : BufferState) (op : Operation) (t : Turn) → next_ready after b ≡ Some op → turn b.limits b.history op ≡ t → with_state (after_turn t op (state b)) b ≡ after_next_turn (next_ready after b) b
+turn_makes : (after : Option Lamport) (b : BufferState) (op : Operation) (t : Turn) → next_ready after b ≡ Some op → turn (rules b) b.history op ≡ t → with_state (after_turn t op (state b)) b ≡ after_next_turn (next_ready after b) b
 turn_makes after b op t e q = ap (λ (u : Turn). with_state (after_turn u op (state b)) b) (sym q) ∙ ap (λ (o : Option Operation). after_next_turn o b) (sym e)
 
 pub turn_done : (after : Option Lamport) (b m n : BufferState) (op : Operation) (t : Lamport) → next_ready after b ≡ Some op → t ≡ stamp_of op → m ≡ after_answer (turn_answer b op) op b → n ≡ without_waiting t m → n ≡ after_next_turn (next_ready after b) b
@@ -52,7 +56,7 @@ turn_done after b m n op t e s x y = y ∙ ap (λ (u : Lamport). without_waiting
     go : (a : Answer) → turn_answer b op ≡ a → without_waiting (stamp_of op) (after_answer a op b) ≡ after_next_turn (next_ready after b) b
     go Good q = turn_makes after b op Append e (turn_is after b op Good e (sym q))
     go Repeat q = turn_makes after b op Drop e (turn_is after b op Repeat e (sym q))
-    go (Waits r v) q = absurd (not_stay b.limits b.history op (ready_within after b.history b.waiting op e) (turn_is after b op (Waits r v) e (sym q)))
+    go (Waits r v) q = absurd (not_stay (rules b) b.history op (ready_within after b.history b.waiting op e) (turn_is after b op (Waits r v) e (sym q)))
     go (Refused f) q = turn_makes after b op (Refuse f) e (turn_is after b op (Refused f) e (sym q))
 
 -- an operation leaves
@@ -75,18 +79,18 @@ IsBufferInside-without i t w k e = subst (λ (x : List Operation). IsBuffer (rec
 -- ---- a pass
 
 pub record OnWay (b : BufferState) (after : Option Lamport) (n : BufferState) : Type 0 where
-  pub at : IsAt b.limits (state b) after (state n)
+  pub at : IsAt (rules b) (state b) after (state n)
   pub replica : n.replica ≡ b.replica
   pub limits : n.limits ≡ b.limits
 
 pub on_start : (b : BufferState) → OnWay b None b
-on_start b = record { at = at_start b.limits (state b); replica = refl; limits = refl }
+on_start b = record { at = at_start (rules b) (state b); replica = refl; limits = refl }
 
 same_buffer : (b n : BufferState) (s : State) → n.replica ≡ b.replica → n.limits ≡ b.limits → state n ≡ s → n ≡ with_state s b
 same_buffer b n s r l e = λ i. record { history = (e i).history; waiting = (e i).waiting; refused = (e i).refused; replica = r i; limits = l i }
 
 pub on_stopped : (b : BufferState) (after : Option Lamport) (n m : BufferState) → OnWay b after n → m ≡ n → IsStoppedPass b m
-on_stopped b after n m w e = let u = at_until b.limits (state b) after (state n) w.at in (u.0, e ∙ same_buffer b n (pass_until u.0 b.limits (state b)) w.replica w.limits u.1)
+on_stopped b after n m w e = let u = at_until (rules b) (state b) after (state n) w.at in (u.0, e ∙ same_buffer b n (stopped_pass u.0 (rules b) (state b)) w.replica w.limits u.1)
 
 abbrev Next : BufferState → BufferState → BufferState → Lamport → Type 0
 Next b n m t = OnWay b (Some t) m × (length m.waiting < length n.waiting)
@@ -95,23 +99,23 @@ pub on_turn : (b : BufferState) (after : Option Lamport) (n m : BufferState) (t 
     → Next b n m t
 on_turn b after n m t w u s e = go (next_ready after n) refl s e
   where
-    made : (op : Operation) → next_ready after n ≡ Some op → Next b n (with_state (turn_step n.limits op (state n)) n) (stamp_of op)
+    made : (op : Operation) → next_ready after n ≡ Some op → Next b n (with_state (turn_step (rules n) op (state n)) n) (stamp_of op)
     made op q = (
       record {
-        at = subst (λ (l : LimitsType). IsAt b.limits (state b) (Some (stamp_of op)) (turn_step l op (state n))) (sym w.limits) (at_turn b.limits (state b) after (state n) op w.at u q);
+        at = subst (λ (l : LimitsType). IsAt (rules b) (state b) (Some (stamp_of op)) (turn_step (record { limits = l; endings = AsIs }) op (state n))) (sym w.limits) (at_turn (rules b) (state b) after (state n) op w.at u q);
         replica = w.replica;
         limits = w.limits;
       },
-      fewer n.limits (state n) after op u q,
+      fewer (rules n) (state n) after op u q,
     )
 
     go : (o : Option Operation) → next_ready after n ≡ o → Some t ≡ option_map stamp_of o → m ≡ after_next_turn o n → Next b n m t
     go None q s e = cc
-    go (Some op) q s e = let r : t ≡ stamp_of op = cc in subst (λ (x : BufferState). Next b n x t) (sym e) (subst (λ (x : Lamport). Next b n (with_state (turn_step n.limits op (state n)) n) x) (sym r) (made op q))
+    go (Some op) q s e = let r : t ≡ stamp_of op = cc in subst (λ (x : BufferState). Next b n x t) (sym e) (subst (λ (x : Lamport). Next b n (with_state (turn_step (rules n) op (state n)) n) x) (sym r) (made op q))
 
 pub on_end : (b : BufferState) (after : Option Lamport) (n m : BufferState) → OnWay b after n → None ≡ option_map stamp_of (next_ready after n) → m ≡ after_next_turn (next_ready after n) n → m ≡ after_pass b
 on_end b after n m w s e = go (next_ready after n) refl s e
   where
     go : (o : Option Operation) → next_ready after n ≡ o → None ≡ option_map stamp_of o → m ≡ after_next_turn o n → m ≡ after_pass b
-    go None q s e = e ∙ same_buffer b n (pass_step b.limits (state b)) w.replica w.limits (at_end b.limits (state b) after (state n) w.at q)
+    go None q s e = e ∙ same_buffer b n (pass_step (rules b) (state b)) w.replica w.limits (at_end (rules b) (state b) after (state n) w.at q)
     go (Some op) q s e = cc

@@ -8,11 +8,12 @@ use Rattle.op_model.specs.Operations.{stamp_of}
 use Rattle.op_model.specs.Histories.{operation_at}
 use Rattle.op_model.specs.Lawful.{Lawful}
 use Rattle.op_model.specs.Settled.{State}
+use Rattle.op_model.specs.Stopped.{stopped_pass}
 use Rattle.op_model.specs.Steps.{older}
-use Rattle.text_buffer.specs.Buffer.{BufferState, IsPartly, AllMiss, new_operations, after_settle, state, with_state}
+use Rattle.text_buffer.specs.Buffer.{BufferState, IsPartly, AllMiss, new_operations, after_settle, rules, state, with_state}
 use Rattle.text_buffer.specs.BufferInside.{state_of, IsBufferInside}
 use Rattle.text_buffer.specs.declared.buffer.Buffer.TheInside.{Inside}
-use Rattle.text_buffer.specs.Settling.{pass_until, after_pass, IsStoppedPass}
+use Rattle.text_buffer.specs.Settling.{after_pass, IsStoppedPass}
 use Rattle.op_model.proofs.settling.Settling.{settled_misses}
 use Rattle.op_model.proofs.settling.Leaves.{pass_up, pass_lawful}
 use Rattle.text_buffer.proofs.Settles.{settled_once, settled_twice}
@@ -21,25 +22,25 @@ use Rattle.text_buffer.proofs.Leaves.{LeavesState, until_leaves, step_leaves, le
 -- ---- it settled
 
 pub longer : (b : BufferState) → Ascending older b.waiting → length b.history ≤ length (after_pass b).history
-longer b u = leaves_longer b.history b.waiting (after_pass b).history (after_pass b).waiting (step_leaves b.limits (state b) u)
+longer b u = leaves_longer b.history b.waiting (after_pass b).history (after_pass b).waiting (step_leaves (rules b) (state b) u)
 
 pub after_pass_up : (b : BufferState) → Ascending older b.waiting → Ascending older (after_pass b).waiting
-after_pass_up b u = pass_up b.limits b.history b.waiting u
+after_pass_up b u = pass_up (rules b) b.history b.waiting u
 
 pub longer_twice : (b : BufferState) → Ascending older b.waiting → length b.history ≤ length (after_pass (after_pass b)).history
 longer_twice b u = let x = longer b u in let y = longer (after_pass b) (after_pass_up b u) in omega arith
 
 pub once : (b : BufferState) → Ascending older b.waiting → length (after_pass b).history ≡ length b.history → after_settle b ≡ after_pass b
-once b u e = ap (λ (s : State). with_state s b) (settled_once b.limits (state b) u e)
+once b u e = ap (λ (s : State). with_state s b) (settled_once (rules b) (state b) u e)
 
 pub twice : (b : BufferState) → Ascending older b.waiting → (length (after_pass b).history ≡ length b.history → ⊥) → after_settle b ≡ after_pass (after_pass b)
-twice b u n = let x = longer b u in ap (λ (s : State). with_state s b) (settled_twice b.limits (state b) u (grows x n))
+twice b u n = let x = longer b u in ap (λ (s : State). with_state s b) (settled_twice (rules b) (state b) u (grows x n))
   where
     grows : (x : length b.history ≤ length (after_pass b).history) (n : length (after_pass b).history ≡ length b.history → ⊥) → length b.history < length (after_pass b).history
     grows x n = omega arith
 
 pub all_miss : (b : BufferState) → AllMiss (after_settle b)
-all_miss b = settled_misses b.limits b.history b.waiting
+all_miss b = settled_misses (rules b) b.history b.waiting
 
 -- ---- its settling was stopped
 
@@ -57,12 +58,12 @@ partly b n p k r l =
 
 pub stopped_partly : (b n : BufferState) → Lawful b.history → Ascending older b.waiting → IsStoppedPass b n → IsPartly b n
 stopped_partly b n p u s = subst (IsPartly b) (sym s.1)
-    (partly b (with_state (pass_until s.0 b.limits (state b)) b) (pass_lawful b.limits b.history _ p) (until_leaves s.0 b.limits (state b) u) refl refl)
+    (partly b (with_state (stopped_pass s.0 (rules b) (state b)) b) (pass_lawful (rules b) b.history _ p) (until_leaves s.0 (rules b) (state b) u) refl refl)
 
 pub stopped_later : (b n : BufferState) → Lawful b.history → Ascending older b.waiting → IsStoppedPass (after_pass b) n → IsPartly b n
 stopped_later b n p u s = subst (IsPartly b) (sym s.1)
-    (partly b (with_state (pass_until s.0 b.limits (state (after_pass b))) (after_pass b)) (pass_lawful b.limits (after_pass b).history _ (pass_lawful b.limits b.history b.waiting p))
-    (leaves_both (state b) (state (after_pass b)) (pass_until s.0 b.limits (state (after_pass b))) (step_leaves b.limits (state b) u) (until_leaves s.0 b.limits (state (after_pass b)) (after_pass_up b u))) refl refl)
+    (partly b (with_state (stopped_pass s.0 (rules b) (state (after_pass b))) (after_pass b)) (pass_lawful (rules b) (after_pass b).history _ (pass_lawful (rules b) b.history b.waiting p))
+    (leaves_both (state b) (state (after_pass b)) (stopped_pass s.0 (rules b) (state (after_pass b))) (step_leaves (rules b) (state b) u) (until_leaves s.0 (rules b) (state (after_pass b)) (after_pass_up b u))) refl refl)
 
 -- ---- from the fields
 

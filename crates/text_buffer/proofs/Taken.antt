@@ -1,10 +1,12 @@
--- What is known once a taken operation is applied and the buffer has settled, or memory is wanted.
+-- What is known once a taken operation is applied and the buffer has settled, or an allocation failed.
 use Rattle.std.proofs.Common.{◌≡◌, ℕ, suc, ◌-◌, ◌≤◌, List, [], ◌∷◌, ◌++◌, length, drop, sym, ap, subst, ◌∙◌, arith, None, Result, Ok, Err}
 use Rattle.std.specs.List.{AllByRecursion}
 use Rattle.std.specs.Result.{OnErr}
 use Rattle.std.proofs.lemmas.List.{append_assoc, length-append}
 use Rattle.std.proofs.Math.Seq.{drop-append_seam}
 use Rattle.op_model.specs.declared.operation.Operation.{Operation}
+use Rattle.op_model.specs.declared.endings.Endings.TheVariants.{AsIs}
+use Rattle.op_model.specs.Rules.{answer_under}
 use Rattle.op_model.specs.Operations.{stamp_of}
 use Rattle.op_model.specs.Histories.{operation_at}
 use Rattle.op_model.specs.Settled.{full_fault}
@@ -12,15 +14,16 @@ use Rattle.op_model.specs.Steps.{ask_limits, or_full}
 use Rattle.op_model.specs.Answers.{Answer, answer}
 use Rattle.op_model.specs.Answers.Answer.{Good}
 use Rattle.op_model.proofs.answers.Passed.{passed}
+use Rattle.op_model.proofs.answers.Under.{under_good}
 use Rattle.op_model.proofs.settling.Passes.{settling_grows}
 use Rattle.op_model.proofs.settling.Waiting.{not_waiting}
-use Rattle.text_buffer.specs.Buffer.{BufferState, IsPartly, answer_to, after_apply, after_settle, new_operations}
+use Rattle.text_buffer.specs.Buffer.{BufferState, IsPartly, answer_to, after_apply, after_settle, new_operations, rules}
 use Rattle.text_buffer.specs.declared.outcomes.Took.TheVariants as took
 
 pub more_applied : (b : BufferState) (op : Operation) → suc (length b.history) ≤ length (after_settle (after_apply b op)).history
-more_applied b op = let n = settling_grows b.limits (b.history ++ op ∷ []) b.waiting in let m = length-append b.history (op ∷ []) in omega arith
+more_applied b op = let n = settling_grows (rules b) (b.history ++ op ∷ []) b.waiting in let m = length-append b.history (op ∷ []) in omega arith
 
--- ---- where memory is wanted
+-- ---- where an allocation failed
 
 pub one_applied : (b n : BufferState) (op : Operation) → answer b.history b.waiting op ≡ Good → IsPartly (after_apply b op) n → IsPartly b n
 one_applied b n op g p =
@@ -37,11 +40,15 @@ one_applied b n op g p =
       limits = p.limits;
     }
 
--- an operation that is good and passes no limit has that answer
-pub answer_good : (b : BufferState) (op : Operation) → answer b.history b.waiting op ≡ Good → full_fault b.limits b.history op ≡ None → answer_to b op ≡ Good
-answer_good b op g f = ap (λ (a : Answer). ask_limits a (full_fault b.limits b.history op)) g ∙ ap or_full f
+-- an operation that is good under the rules is good
+pub plain_good : (b : BufferState) (op : Operation) → answer_under AsIs b.history b.waiting op ≡ Good → answer b.history b.waiting op ≡ Good
+plain_good b op g = (under_good AsIs b.history b.waiting op g).0
 
--- ---- what is told
+-- an operation that is good and passes no limit has that answer
+pub answer_good : (b : BufferState) (op : Operation) → answer_under AsIs b.history b.waiting op ≡ Good → full_fault (rules b) b.history op ≡ None → answer_to b op ≡ Good
+answer_good b op g f = ap (λ (a : Answer). ask_limits a (full_fault (rules b) b.history op)) g ∙ ap or_full f
+
+-- ---- what `take` returns
 
 module _ (b : BufferState) (op : Operation) (h g : ℕ) (e : h ≡ length b.history) (f : g ≡ length (after_settle (after_apply b op)).history) where
   pub counts_up : suc h ≤ g

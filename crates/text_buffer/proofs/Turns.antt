@@ -1,4 +1,4 @@
--- A pass, told by the least operation that misses nothing.
+-- A pass, by the least operation that misses nothing.
 use Rattle.std.proofs.Common.{◌≡◌, ℕ, ◌<◌, true, false, List, [], ◌∷◌, ◌++◌, length, take, drop, refl, sym, ◌∙◌, ap, subst, append_assoc, arith, Option, Some, None, length-append}
 use Rattle.std.proofs.lemmas.List.{append-nil}
 use Rattle.std.proofs.lemmas.Bool.{and_parts}
@@ -8,43 +8,27 @@ use Rattle.lamport_clock.specs.declared.stamp.Lamport.{Lamport}
 use Rattle.lamport_clock.specs.Versions.{within}
 use Rattle.lamport_clock.proofs.Later.{one_way}
 use Rattle.op_model.specs.declared.operation.Operation.{Operation}
-use Rattle.op_model.specs.declared.limits.Limits.{Limits as LimitsType}
+use Rattle.op_model.specs.Rules.{Rules}
 use Rattle.op_model.specs.declared.faults.OpFault.{OpFault}
 use Rattle.op_model.specs.Sorted.{Ascending}
 use Rattle.op_model.specs.Operations.{stamp_of, version_of}
 use Rattle.op_model.specs.Histories.{History, version}
 use Rattle.op_model.specs.Settled.{State, Turn, turn, with_waiting, pass}
 use Rattle.op_model.specs.Settled.Turn.{Append, Drop, Stay, Refuse}
-use Rattle.op_model.specs.Steps.{older}
+use Rattle.op_model.specs.Stopped.{stopped_pass}
+use Rattle.op_model.specs.Steps.{older, without}
 use Rattle.op_model.proofs.answers.Passed.{find_none}
 use Rattle.op_model.proofs.settling.AllApplied.{AllMiss}
+use Rattle.op_model.proofs.settling.GoingOn.{pass_append, state_join}
 use Rattle.op_model.proofs.settling.Settling.{after, pass_is}
-use Rattle.deferred_ops.specs.Deferred.{is_past, least_ready, without}
+use Rattle.deferred_ops.specs.Deferred.{is_past, least_ready}
 use Rattle.deferred_ops.proofs.Ready.{without_mid, all_past, ready_within, Parted, part_of, is_ready, past_missing}
-use Rattle.text_buffer.specs.Settling.{after_turn, turn_step, pass_front, pass_until, pass_step}
+use Rattle.text_buffer.specs.Settling.{after_turn, turn_step, pass_step}
 use Rattle.op_model.proofs.Elements.{each_left, each_right, each_map, found_past}
 use Rattle.op_model.proofs.settling.Passes.{pass_nil, pass_missing, older_around, not_stay}
 
--- ---- a pass over a list in two parts
-
--- what two parts of a pass make
-abbrev state_join : State → State → State
-state_join p q = record { history = q.history; waiting = p.waiting ++ q.waiting; refused = p.refused ++ q.refused }
-
-pass_append : (l : LimitsType) (h : History) (v w : List Operation) → pass l h (v ++ w) ≡ state_join (pass l h v) (pass l (pass l h v).history w)
-pass_append l h [] w = ap (λ (p : State). state_join p (pass l p.history w)) (sym (pass_nil l h))
-pass_append l h (op ∷ v) w = pass_is l h op (v ++ w) ∙ go (turn l h op) (pass_append l (h ++ op ∷ []) v w) (pass_append l h v w) ∙ ap (λ (p : State). state_join p (pass l p.history w)) (sym (pass_is l h op v))
-  where
-    go : (t : Turn) → pass l (h ++ op ∷ []) (v ++ w) ≡ state_join (pass l (h ++ op ∷ []) v) (pass l (pass l (h ++ op ∷ []) v).history w)
-        → pass l h (v ++ w) ≡ state_join (pass l h v) (pass l (pass l h v).history w)
-        → after t l h op (v ++ w) ≡ state_join (after t l h op v) (pass l (after t l h op v).history w)
-    go Append a b = a
-    go Drop a b = b
-    go Stay a b = ap (with_waiting op) b
-    go (Refuse f) a b = ap (λ (s : State). record { history = s.history; waiting = s.waiting; refused = (stamp_of op, f) ∷ s.refused }) b
-
 -- it leaves
-pub fewer : (l : LimitsType) (s : State) (after : Option Lamport) (op : Operation) → Ascending older s.waiting → least_ready after (version s.history) s.waiting ≡ Some op → length (turn_step l op s).waiting < length s.waiting
+pub fewer : (l : Rules) (s : State) (after : Option Lamport) (op : Operation) → Ascending older s.waiting → least_ready after (version s.history) s.waiting ≡ Some op → length (turn_step l op s).waiting < length s.waiting
 fewer l s after op u e =
     let p = part_of (is_ready after s.history) s.waiting op e in
     let d : without (stamp_of op) s.waiting ≡ p.missed ++ p.behind = ap (without (stamp_of op)) p.is ∙ without_mid p.missed op p.behind (subst (Ascending older) p.is u) in
@@ -60,7 +44,13 @@ fewer l s after op u e =
 
 -- ---- how far a pass over what b has is
 
-pub record IsAt (l : LimitsType) (b : State) (after : Option Lamport) (s : State) : Type 0 where
+-- the operations of `front` had their turns in a pass, those of `rest` wait for theirs
+abbrev pass_front : Rules → State → List Operation → List Operation → State
+pass_front l s front rest =
+    let p : State = pass l s.history front in
+    record { history = p.history; waiting = p.waiting ++ rest; refused = s.refused ++ p.refused }
+
+pub record IsAt (l : Rules) (b : State) (after : Option Lamport) (s : State) : Type 0 where
   pub front : List Operation
   pub rest : List Operation
   pub split : b.waiting ≡ front ++ rest
@@ -68,7 +58,7 @@ pub record IsAt (l : LimitsType) (b : State) (after : Option Lamport) (s : State
   pub behind : AllByRecursion (λ (o : Operation). is_past after o ≡ false) (pass l b.history front).waiting
   pub ahead : AllByRecursion (λ (o : Operation). is_past after o ≡ true) rest
 
-pub at_start : (l : LimitsType) (b : State) → IsAt l b None b
+pub at_start : (l : Rules) (b : State) → IsAt l b None b
 at_start l b = record {
   front = [];
   rest = b.waiting;
@@ -78,7 +68,7 @@ at_start l b = record {
   ahead = all_past b.waiting;
 }
 
-pub at_end : (l : LimitsType) (b : State) (after : Option Lamport) (s : State) → IsAt l b after s → least_ready after (version s.history) s.waiting ≡ None → s ≡ pass_step l b
+pub at_end : (l : Rules) (b : State) (after : Option Lamport) (s : State) → IsAt l b after s → least_ready after (version s.history) s.waiting ≡ None → s ≡ pass_step l b
 at_end l b after s i e =
     let p : State = pass l b.history i.front in
     let n : least_ready after (version p.history) (p.waiting ++ i.rest) ≡ None = subst (λ (z : State). least_ready after (version z.history) z.waiting ≡ None) i.is e in
@@ -87,7 +77,7 @@ at_end l b after s i e =
     ap (pass l b.history) i.split ∙ pass_append l b.history i.front i.rest ∙ ap (state_join p) (pass_missing l p.history i.rest m) ∙ ap (λ z. record { history = p.history; waiting = p.waiting ++ i.rest; refused = z }) (append-nil p.refused) in
     i.is ∙ sym (ap (λ (z : State). record { history = z.history; waiting = z.waiting; refused = b.refused ++ z.refused }) q)
 
-pub at_until : (l : LimitsType) (b : State) (after : Option Lamport) (s : State) → IsAt l b after s → (k : ℕ) × (s ≡ pass_until k l b)
+pub at_until : (l : Rules) (b : State) (after : Option Lamport) (s : State) → IsAt l b after s → (k : ℕ) × (s ≡ stopped_pass k l b)
 at_until l b after s i =
     let x : take (length i.front) b.waiting ≡ i.front = ap (take (length i.front)) i.split ∙ take-append_seam i.front i.rest in
     let y : drop (length i.front) b.waiting ≡ i.rest = ap (drop (length i.front)) i.split ∙ drop-append_seam i.front i.rest in
@@ -102,7 +92,7 @@ left Drop h op = record { history = h; waiting = []; refused = [] }
 left Stay h op = record { history = h; waiting = op ∷ []; refused = [] }
 left (Refuse f) h op = record { history = h; waiting = []; refused = (stamp_of op, f) ∷ [] }
 
-pass_last : (l : LimitsType) (h : History) (op : Operation) (t : Turn) → turn l h op ≡ t → pass l h (op ∷ []) ≡ left t h op
+pass_last : (l : Rules) (h : History) (op : Operation) (t : Turn) → turn l h op ≡ t → pass l h (op ∷ []) ≡ left t h op
 pass_last l h op t e = pass_is l h op [] ∙ ap (λ (u : Turn). after u l h op []) e ∙ go t
   where
     go : (t : Turn) → after t l h op [] ≡ left t h op
@@ -111,14 +101,14 @@ pass_last l h op t e = pass_is l h op [] ∙ ap (λ (u : Turn). after u l h op [
     go Stay = ap (with_waiting op) (pass_nil l h)
     go (Refuse f) = ap (λ (s : State). record { history = s.history; waiting = s.waiting; refused = (stamp_of op, f) ∷ s.refused }) (pass_nil l h)
 
-pass_more : (l : LimitsType) (h : History) (front missed : List Operation) (op : Operation) (t : Turn) → AllMiss (pass l h front).history missed → turn l (pass l h front).history op ≡ t
+pass_more : (l : Rules) (h : History) (front missed : List Operation) (op : Operation) (t : Turn) → AllMiss (pass l h front).history missed → turn l (pass l h front).history op ≡ t
     → pass l h (front ++ (missed ++ op ∷ [])) ≡ state_join (pass l h front) (state_join (record { history = (pass l h front).history; waiting = missed; refused = [] }) (left t (pass l h front).history op))
 pass_more l h front missed op t m e =
     let p : State = pass l h front in
     pass_append l h front (missed ++ op ∷ [])
     ∙ ap (state_join p) (pass_append l p.history missed (op ∷ []) ∙ ap (λ (z : State). state_join z (pass l z.history (op ∷ []))) (pass_missing l p.history missed m) ∙ ap (state_join (record { history = p.history; waiting = missed; refused = [] })) (pass_last l p.history op t e))
 
-module _ (l : LimitsType) (b : State) (front rest : List Operation) (op : Operation) (after : Option Lamport) where
+module _ (l : Rules) (b : State) (front rest : List Operation) (op : Operation) (after : Option Lamport) where
   abbrev p : State
   p = pass l b.history front
 
@@ -172,7 +162,7 @@ module _ (l : LimitsType) (b : State) (front rest : List Operation) (op : Operat
       go q m y (Refuse x) t = subst (λ z. IsAt l b (Some (stamp_of op)) (record { history = p.history; waiting = without (stamp_of op) (p.waiting ++ rest); refused = z })) (sym (append_assoc b.refused p.refused ((stamp_of op, x) ∷ [])))
           (further q p.history ((stamp_of op, x) ∷ []) s u (pass_more l b.history front q.missed op (Refuse x) m t))
 
-pub at_turn : (l : LimitsType) (b : State) (after : Option Lamport) (s : State) (op : Operation) → IsAt l b after s → Ascending older s.waiting → least_ready after (version s.history) s.waiting ≡ Some op
+pub at_turn : (l : Rules) (b : State) (after : Option Lamport) (s : State) (op : Operation) → IsAt l b after s → Ascending older s.waiting → least_ready after (version s.history) s.waiting ≡ Some op
     → IsAt l b (Some (stamp_of op)) (turn_step l op s)
 at_turn l b after s op i = subst (λ (z : State). Ascending older z.waiting → least_ready after (version z.history) z.waiting ≡ Some op → IsAt l b (Some (stamp_of op)) (turn_step l op z)) (sym i.is)
     (step_at l b i.front i.rest op after i.split i.behind i.ahead)

@@ -23,10 +23,10 @@ use Rattle.undo_map.specs.Counts.{count_of}
 use Rattle.undo_map.specs.Undos.{undo_entries}
 use Rattle.op_answers.specs.LocalUndo.{listed_fault}
 use Rattle.op_answers.proofs.LocalUndo.{local_of, room}
-use Rattle.text_buffer.specs.Buffer.{BufferState, IsBuffer, undo_fault, undo_of}
+use Rattle.text_buffer.specs.Buffer.{BufferState, IsBuffer, undo_fault, undo_of, rules}
 use Rattle.text_buffer.proofs.Applied.{within_limits}
 
--- the faults that come behind those of the list
+-- the faults that come after those of the list
 abbrev late : LimitsType → History → List Lamport → List (Option UndoFault)
 late l h ts = when (eqb (clock h) last_value) ClockEnd ∷ option_map (λ e. Full e.unit e.held e.adds) (excess l h 0 (1 + length ts)) ∷ []
 
@@ -56,7 +56,7 @@ counts_open b ts w q e = room b.history w ts q (meets_none b ts e).listed
 pub record Fits (b : BufferState) (op : Operation) : Type 0 where
   pub proper : IsProper op
   pub good : answer b.history [] op ≡ Good
-  pub room : full_fault b.limits b.history op ≡ None
+  pub room : full_fault (rules b) b.history op ≡ None
 
 pub made_fits : (b : BufferState) (ts : List Lamport) (op : Operation) → IsBuffer b → undo_fault b ts ≡ None → op ≡ undo_of b ts → Fits b op
 made_fits b ts op k e m = subst (Fits b) (sym m) (record {

@@ -1,9 +1,11 @@
 -- What contracts see of a buffer, the faults that edits and undos meet, what they make, and the answer to a taken operation.
-use Rattle.std.specs.Prelude.{◌≡◌, ℕ, ◌≤◌, ◌-◌, ◌^◌, Bool, true, false, List, [], ◌∷◌, ◌++◌, length, drop, nat_lt, Option, None, Some}
+use Rattle.std.specs.Prelude.{◌≡◌, ◌⊎◌, ℕ, ◌≤◌, ◌-◌, ◌^◌, Bool, true, false, List, [], ◌∷◌, ◌++◌, length, drop, nat_lt, Option, None, Some}
 use Rattle.std.specs.List.{AllByRecursion}
 use Rattle.op_model.specs.declared.operation.Piece.{Piece}
 use Rattle.op_model.specs.declared.operation.Operation.{Operation}
 use Rattle.op_model.specs.declared.limits.Limits.{Limits as LimitsType}
+use Rattle.op_model.specs.Rules.{Rules}
+use Rattle.op_model.specs.declared.endings.Endings.TheVariants.{AsIs}
 use Rattle.op_model.specs.declared.faults.EditFault.{EditFault}
 use Rattle.op_model.specs.declared.faults.UndoFault.{UndoFault}
 use Rattle.op_model.specs.declared.faults.OpFault.{OpFault}
@@ -35,6 +37,10 @@ pub record BufferState : Type 0 where
   pub replica : ℕ
   pub limits : LimitsType
 
+-- the rules that a buffer goes by: its limits, and line endings as they come
+abbrev pub rules : BufferState → Rules
+rules b = record { limits = b.limits; endings = AsIs }
+
 -- the buffer over a base
 abbrev pub over_base : ℕ → List ℕ → LimitsType → BufferState
 over_base r t l = record { history = base t ∷ []; waiting = []; refused = []; replica = r; limits = l }
@@ -47,7 +53,7 @@ length_fault most n = when (nat_lt most n) (Full Bytes 0 n)
 abbrev pub new_fault : LimitsType → List ℕ → Option NewFault
 new_fault l t = length_fault l.bytes (length t)
 
--- the fault that a text meets that no limits let in
+-- the fault of a text that is longer than the greatest limit
 abbrev pub base_fault : List ℕ → Option NewFault
 base_fault t = length_fault (2 ^ 40) (length t)
 
@@ -88,29 +94,29 @@ with_state s b = record b { history = s.history; waiting = s.waiting; refused = 
 
 -- the buffer after the call of a step
 abbrev pub after_call : Step → BufferState → BufferState
-after_call c b = with_state (step b.limits b.replica c (state b)) b
+after_call c b = with_state (step (rules b) b.replica c (state b)) b
 
 -- the buffer after a list of calls
 abbrev pub after_calls : List Step → BufferState → BufferState
-after_calls cs b = with_state (run b.limits b.replica cs (state b)) b
+after_calls cs b = with_state (run (rules b) b.replica cs (state b)) b
 
 -- the answer to a taken operation
 abbrev pub answer_to : BufferState → Operation → Answer
-answer_to b op = take_answer b.limits (state b) op
+answer_to b op = take_answer (rules b) (state b) op
 
 -- the buffer after an operation is taken
 abbrev pub after_take : BufferState → Operation → BufferState
-after_take b op = with_state (take_step b.limits op (state b)) b
+after_take b op = with_state (take_step (rules b) op (state b)) b
 
 -- the buffer after it settles
 abbrev pub after_settle : BufferState → BufferState
-after_settle b = with_state (settle_step b.limits (state b)) b
+after_settle b = with_state (settle_step (rules b) (state b)) b
 
 -- how many operations were applied from one buffer to the next
 abbrev pub number_applied : BufferState → BufferState → ℕ
 number_applied b n = growth (state b) (state n)
 
--- what is told of an answer that is no refusal, n operations being applied
+-- what `take` returns for an answer that is no refusal, where n operations were applied
 abbrev pub took_of : ℕ → Answer → Option Took
 took_of n Good = Some (took.Applied n)
 took_of n Repeat = Some took.Repeat
@@ -132,8 +138,8 @@ AllMiss b = AllByRecursion (λ (op : Operation). within (version_of op) (version
 abbrev pub new_operations : BufferState → BufferState → List Operation
 new_operations b n = drop (length b.history) n.history
 
--- what is true of a buffer whose settling wanted memory: some operations are applied, each good at its turn; none of these waits,
--- and nothing waits that did not wait before
+-- an allocation failed while a buffer settled: some operations were applied, each good at its turn; none of these waits, and
+-- nothing waits that did not wait before
 pub record IsPartly (b n : BufferState) : Type 0 where
   pub lawful : Lawful n.history
   pub prefix : n.history ≡ b.history ++ new_operations b n
@@ -141,6 +147,19 @@ pub record IsPartly (b n : BufferState) : Type 0 where
   pub waiting : (t : Lamport) → operation_at b.waiting t ≡ None → operation_at n.waiting t ≡ None
   pub replica : n.replica ≡ b.replica
   pub limits : n.limits ≡ b.limits
+
+-- calls brought b to n: each did what its step says; or it was one call, in whose settling an allocation failed
+abbrev pub AreCalled : BufferState → BufferState → Type 0
+AreCalled b n = ((cs : List Step) × (n ≡ after_calls cs b)) ⊎ IsPartly b n
+
+-- calls brought b to n by way of the states between
+abbrev pub Leads : BufferState → List BufferState → BufferState → Type 0
+Leads b [] n = AreCalled b n
+Leads b (m ∷ between) n = AreCalled b m × Leads m between n
+
+-- calls brought b to n, whatever calls, and in whichever of them allocations failed
+abbrev pub Reaches : BufferState → BufferState → Type 0
+Reaches b n = (between : List BufferState) × Leads b between n
 
 -- what is true of every buffer
 pub record IsBuffer (b : BufferState) : Type 0 where

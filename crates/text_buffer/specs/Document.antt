@@ -11,6 +11,7 @@ use Rattle.op_model.specs.Domains.{IsProper, IsReplica}
 use Rattle.op_model.specs.Operations.{bytes_of, entries_of}
 use Rattle.op_model.specs.Histories.{bytes_held, entries_held}
 use Rattle.op_model.specs.Lawful.{Lawful}
+use Rattle.op_model.specs.Limited.{Excess}
 use Rattle.op_model.specs.Made.{local_edit_fault}
 use Rattle.op_model.specs.Shown.{text, hidden_text}
 use Rattle.op_model.specs.Walked.{IsWhole}
@@ -20,6 +21,11 @@ use Rattle.remote_edit.specs.declared.placed.Placed.{Placed}
 use Rattle.remote_edit.specs.Fragments.{fragments_of}
 use Rattle.remote_edit.specs.Moves.{after_moves, texts_of}
 use Rattle.text_buffer.specs.declared.content.Content.{Content}
+use Rattle.text_buffer.specs.declared.faults.Excess.{Excess as FoundExcess}
+
+-- an excess, as definitions see it
+abbrev pub excess_of : FoundExcess → Excess
+excess_of e = record { unit = e.unit; held = e.held; adds = e.adds }
 
 -- what is true of the history of every buffer and of every snapshot
 pub record IsBufferHistory (h : List Operation) : Type 0 where
@@ -35,7 +41,7 @@ pub record HasRoom (h : List Operation) (op : Operation) : Type 0 where
   pub bytes : bytes_held h + bytes_of op ≤ 2 ^ 40
   pub entries : entries_held h + entries_of op ≤ 2 ^ 40 - 1
 
--- the history g is h with operations behind it
+-- the history g is h with operations after it
 abbrev pub IsFront : List Operation → List Operation → Type 0
 IsFront h g = (more : List Operation) × (g ≡ h ++ more)
 
@@ -56,7 +62,7 @@ pub record IsMoved (c : Content) (p : Placed) (u : List UndoEntry) (h : List Ope
   pub undos : c.undos ≡ u
   pub texts : texts_of c.text c.hidden ≡ after_moves p.moves (text h) (hidden_text h) n
 
--- op is good behind h, and there is room for it
+-- op is good after h, and there is room for it
 pub record MayGrow (h : List Operation) (op : Operation) : Type 0 where
   pub proper : IsProper op
   pub good : answer h [] op ≡ Good

@@ -1,8 +1,8 @@
 -- Settling by turns and passes.
-use Rattle.std.specs.Prelude.{◌≡◌, ◌⊎◌, ℕ, List, [], ◌∷◌, ◌++◌, take, drop, Option, None, Some}
+use Rattle.std.specs.Prelude.{◌≡◌, ◌⊎◌, ℕ, List, [], ◌∷◌, ◌++◌, Option, None, Some}
 use Rattle.lamport_clock.specs.declared.stamp.Lamport.{Lamport}
 use Rattle.op_model.specs.declared.operation.Operation.{Operation}
-use Rattle.op_model.specs.declared.limits.Limits.{Limits as LimitsType}
+use Rattle.op_model.specs.Rules.{Rules}
 use Rattle.op_model.specs.Operations.{stamp_of}
 use Rattle.op_model.specs.Histories.{version}
 use Rattle.op_model.specs.declared.faults.OpFault.{OpFault}
@@ -10,9 +10,10 @@ use Rattle.op_model.specs.Answers.{Answer, answer}
 use Rattle.op_model.specs.Answers.Answer.{Good, Repeat, Waits, Refused}
 use Rattle.op_model.specs.Settled.{State, Turn, turn, pass, full_fault}
 use Rattle.op_model.specs.Settled.Turn.{Append, Drop, Stay, Refuse}
-use Rattle.op_model.specs.Steps.{ask_limits}
-use Rattle.deferred_ops.specs.Deferred.{least_ready, without}
-use Rattle.text_buffer.specs.Buffer.{BufferState, answer_to, after_apply, state, with_state}
+use Rattle.op_model.specs.Stopped.{stopped_pass}
+use Rattle.op_model.specs.Steps.{ask_limits, without}
+use Rattle.deferred_ops.specs.Deferred.{least_ready}
+use Rattle.text_buffer.specs.Buffer.{BufferState, answer_to, after_apply, rules, state, with_state}
 
 -- what a turn of op makes
 abbrev pub after_turn : Turn → Operation → State → State
@@ -30,21 +31,11 @@ after_turn (Refuse f) op s = record {
 }
 
 -- op has its turn
-abbrev pub turn_step : LimitsType → Operation → State → State
+abbrev pub turn_step : Rules → Operation → State → State
 turn_step l op s = after_turn (turn l s.history op) op s
 
--- the operations of `front` had their turns in a pass, those of `rest` wait for theirs
-abbrev pub pass_front : LimitsType → State → List Operation → List Operation → State
-pass_front l s front rest =
-    let p : State = pass l s.history front in
-    record { history = p.history; waiting = p.waiting ++ rest; refused = s.refused ++ p.refused }
-
--- a pass that was stopped after the first k of what waits
-abbrev pub pass_until : ℕ → LimitsType → State → State
-pass_until k l s = pass_front l s (take k s.waiting) (drop k s.waiting)
-
 -- one pass
-abbrev pub pass_step : LimitsType → State → State
+abbrev pub pass_step : Rules → State → State
 pass_step l s =
     let p : State = pass l s.history s.waiting in
     record { history = p.history; waiting = p.waiting; refused = s.refused ++ p.refused }
@@ -56,11 +47,11 @@ next_ready after b = least_ready after (version b.history) b.waiting
 -- the buffer after the turn of an operation, if there is one
 abbrev pub after_next_turn : Option Operation → BufferState → BufferState
 after_next_turn None b = b
-after_next_turn (Some op) b = with_state (turn_step b.limits op (state b)) b
+after_next_turn (Some op) b = with_state (turn_step (rules b) op (state b)) b
 
 -- the answer to an operation at its turn, the limits asked last
 abbrev pub turn_answer : BufferState → Operation → Answer
-turn_answer b op = ask_limits (answer b.history [] op) (full_fault b.limits b.history op)
+turn_answer b op = ask_limits (answer b.history [] op) (full_fault (rules b) b.history op)
 
 abbrev pub with_refusal : Lamport × OpFault → BufferState → BufferState
 with_refusal r b = record b { refused = b.refused ++ r ∷ [] }
@@ -77,16 +68,16 @@ after_answer (Refused f) op b = with_refusal (stamp_of op, f) b
 
 -- the buffer after one pass
 abbrev pub after_pass : BufferState → BufferState
-after_pass b = with_state (pass_step b.limits (state b)) b
+after_pass b = with_state (pass_step (rules b) (state b)) b
 
 -- a pass was stopped: some operations, the least stamps first, had their turns, and the others wait on
 abbrev pub IsStoppedPass : BufferState → BufferState → Type 0
-IsStoppedPass b n = (k : ℕ) × (n ≡ with_state (pass_until k b.limits (state b)) b)
+IsStoppedPass b n = (k : ℕ) × (n ≡ with_state (stopped_pass k (rules b) (state b)) b)
 
 -- settling was stopped, in its first pass or in its second
 abbrev pub IsStoppedSettling : BufferState → BufferState → Type 0
 IsStoppedSettling b n = IsStoppedPass b n ⊎ IsStoppedPass (after_pass b) n
 
--- memory ran out while an operation was taken: the buffer is as before, or the operation is applied and settling was stopped
+-- an allocation failed while an operation was taken: the buffer is as before, or the operation is applied and settling was stopped
 abbrev pub IsTakenPartly : Operation → BufferState → BufferState → Type 0
 IsTakenPartly op b n = (n ≡ b) ⊎ ((answer_to b op ≡ Good) × IsStoppedSettling (after_apply b op) n)

@@ -11,8 +11,7 @@ use crate::{Limits, NewFault, OutOfMemory};
 use std::alloc::Global;
 use std::marker::Model;
 
-/// A base text with all that a buffer over it begins with, made once and shared by the buffers over it. Contracts see it as the
-/// bytes of the text.
+/// A base text with all that a buffer over it begins with, made once and shared by the buffers over it. Contracts see its bytes.
 #[derive(Drop)]
 pub struct Base {
     document: Document,
@@ -36,8 +35,8 @@ impl Base {
     ///
     /// # Errors
     ///
-    /// `Full` exactly where the text has more than 2^40 bytes, the most that limits let in, with 0 held. `OutOfMemory` only
-    /// where it has not.
+    /// `Full`, with 0 held, exactly where the text has more than 2^40 bytes, the greatest limit. `OutOfMemory` if an allocation
+    /// fails, and only where the text is not too long.
     pub fn new(alloc: Global, text: &str) -> Result<Base, NewFault>
         ensures ok { OnOk result (base_fault text.now ≡ None) }
         ensures new { IfOk result (λ b. b ≡ text.now) }
@@ -61,28 +60,28 @@ impl Base {
         })
     }
 
-    /// How many bytes the text has. Constant time, without memory.
+    /// The length of the text in bytes. Constant time; does not allocate.
     pub fn len(&self) -> u64
         ensures { result ≡ length self.now }
     {
         self.len
     }
 
-    /// Whether the text has no bytes. Constant time, without memory.
+    /// Whether the text has no bytes. Constant time; does not allocate.
     pub fn is_empty(&self) -> bool
         ensures { result ≡ (length self.now == 0) }
     {
         self.len == 0
     }
 
-    /// What holds of every base, for callers. It does nothing when it runs.
+    /// Says what is true of every base, for callers' proofs. Does nothing when it runs.
     pub fn known(&self)
         ensures { IsUtf8 self.now }
     {
         self.document.known();
     }
 
-    // What a buffer over it begins with. Nothing is copied.
+    // The document that a buffer over it begins with. Copies nothing.
     pub(crate) fn document(&self) -> Result<Document, OutOfMemory>
         ensures { IfOk result (λ d. d ≡ base self.now ∷ []) }
     {

@@ -10,29 +10,32 @@ ghost use Rattle.op_model.specs.Edits.{replace_ranges};
 ghost use Rattle.op_model.specs.Steps.{new_state};
 ghost use Rattle.op_model.specs.Steps.Step.{Edits};
 ghost use Rattle.op_model.specs.Shown.{text};
+ghost use Rattle.remote_edit.specs.Fragments.{fragments_of};
 ghost use Rattle.text_dims.specs.Summaries.{summary_of};
-ghost use Rattle.text_buffer.specs.Buffer.{BufferState, IsBuffer, after_call, after_apply, edit_fault, after_edit, edit_of, new_fault, over_base, state};
+ghost use Rattle.text_buffer.specs.Buffer.{BufferState, IsBuffer, after_call, after_apply, edit_fault, after_edit, edit_of, new_fault, over_base, rules, state};
 ghost use Rattle.text_buffer.specs.Costs.{IsEditCost};
+ghost use Rattle.text_buffer.specs.Document.{excess_of};
 ghost use Rattle.text_buffer.specs.EditResult.{IsEditResult};
 
 use crate::base::Base;
 use crate::document::Document;
-use crate::faults::length_fault;
+use crate::faults::{Excess, length_fault};
 use crate::pieces::size;
 use crate::{NewFault, OutOfMemory, Refused};
 use deferred_ops::Deferred;
+use fragments::Fragment;
 use lamport_clock::{Lamport, Version};
 use op_model::{EditFault, Limits, OpFault, Operation, Piece, TEXT_LIMIT, text_total};
 use rope_edits::piece_fault;
 use std::alloc::Global;
 use std::marker::{Brand, Model};
 use std::sync::ledger::{Blank, Ledger};
-use sum_tree::Steps;
+use sum_tree::{Steps, SumTree};
 use text_dims::TextSummary;
 
 /// A replica's text, and the operations that made it. Contracts see the operations in the order in which they were
-/// applied, the base first, those that wait, those that were refused while settling, the replica's id and the limits; all
-/// else is a function of these. Each applied operation is good against those before it.
+/// applied, the base first, those that wait, those that were refused while settling, the replica's id and the limits;
+/// everything else is a function of these. Each applied operation is good against those before it.
 ///
 /// # Examples
 ///
@@ -44,9 +47,8 @@ use text_dims::TextSummary;
 /// - `take`: `edit_both` of `crates/embed/src/main.rt`; `settle` and `undo`: the functions of these names of
 ///   `crates/text_tests/src/buffers.rt`
 /// - `text` and `snapshot`: `show` of `crates/embed/src/main.rt`
-/// - `summary`: `len` of `crates/placing_tests/src/replica.rt`
-/// - `version` and `applied`: `are_counted`, and `waiting` and `refused`: `keeps`, of `crates/text_tests/src/buffers.rt`
-/// - `known`, which is for proofs: `edit_one` of `crates/placed_buffer/src/one_more.rt`
+/// - `summary`, and `known`, which is for proofs: `text_len` of `crates/session_replay/src/replica.rt`
+/// - `version` and `applied`: `are_counted`, and `deferred` and `refused`: `keeps`, of `crates/text_tests/src/buffers.rt`
 #[derive(Drop)]
 pub struct Buffer {
     pub(crate) alloc: Global,
@@ -75,7 +77,8 @@ impl Buffer {
     ///
     /// # Errors
     ///
-    /// `Full` exactly where the base has more bytes than the limit, with 0 held. `OutOfMemory` only where it has not.
+    /// `Full`, with 0 held, exactly where the base has more bytes than the limit. `OutOfMemory` if an allocation fails, and only
+    /// where the base is within the limit.
     pub fn new(alloc: Global, replica: u16, base: &str, limits: Limits) -> Result<Buffer, NewFault>
         requires least { 1 ≤ replica }
         requires greatest { replica ≤ 1023 }
@@ -93,7 +96,7 @@ impl Buffer {
         }
     }
 
-    // The buffer over a text that the limits let in.
+    // The buffer over a text that is within the limits.
     fn over_text(
         alloc: Global,
         replica: u16,
@@ -116,7 +119,8 @@ impl Buffer {
     ///
     /// # Errors
     ///
-    /// `Full` exactly where the base has more bytes than the limit, with 0 held. `OutOfMemory` only where it has not.
+    /// `Full`, with 0 held, exactly where the base has more bytes than the limit. `OutOfMemory` if an allocation fails, and only
+    /// where the base is within the limit.
     pub fn over(
         alloc: Global,
         replica: u16,
@@ -139,7 +143,7 @@ impl Buffer {
         }
     }
 
-    // The buffer over a base that the limits let in.
+    // The buffer over a base that is within the limits.
     fn begin(
         alloc: Global,
         replica: u16,
@@ -165,50 +169,59 @@ impl Buffer {
         })
     }
 
-    /// What holds of every buffer, for callers that see its value alone. It does nothing when it runs.
+    /// Says what is true of every buffer, for callers' proofs. Does nothing when it runs.
     pub fn known(&self)
         ensures { IsBuffer self.now }
     {
         let _alloc = &self.alloc;
     }
 
-    /// The text, copied. Linear in its length.
+    /// A copy of the text. Linear in its length.
     ///
     /// # Errors
     ///
-    /// `OutOfMemory` alone.
+    /// `OutOfMemory` if an allocation fails.
     pub fn text(&self) -> Result<String, OutOfMemory>
         ensures { IfOk result (λ s. string_bytes s ≡ text self.now.history) }
     {
         self.document.text().to_string(self.alloc)
     }
 
-    /// What is counted of the text: its bytes, its rows, where it ends. Constant time, without memory.
+    /// The counts of the text: its bytes, its rows, where it ends. Constant time; does not allocate.
     pub fn summary(&self) -> &TextSummary
         ensures { result.now ≡ summary_of (text self.now.history) }
     {
         self.document.text().summary()
     }
 
-    /// The greatest stamp value applied of each replica, the base's among them. Constant time, without memory.
+    /// The greatest stamp value applied of each replica, the base's among them. Constant time; does not allocate.
     pub fn version(&self) -> &Version
         ensures { result.now ≡ version self.now.history }
     {
         self.document.version()
     }
 
+    /// The runs of bytes that the buffer keeps, shown and hidden ones, in the order of the document. This is for tests and tools that
+    /// look at how a text is kept. Constant time; does not allocate.
+    pub fn fragments(&self) -> &SumTree<Fragment>
+        ensures { result.now.items ≡ fragments_of self.now.history }
+    {
+        &self.document.content().fragments
+    }
+
     /// Replaces ranges of the text, given in bytes and in order: each starts at or past the end of the one before it.
-    /// Gives the operation, whose pieces count hidden bytes too, and keeps an equal one. Each range costs a few descents,
+    /// Returns the operation, whose pieces count hidden bytes too, and keeps an equal one. Each range costs a few descents,
     /// what lies in it and its new text; the length of the whole text does not matter. A step is counted for each node
     /// that is made in the tree of fragments, the runs of bytes that the buffer keeps: for p changes whose ranges touch f of its
-    /// fragments there are at most 256 (p + f + 1) (h + 1), where h is the height of that tree before, also where there is a fault.
+    /// fragments there are at most 256 (p + f + 1) (h + 1) steps, with or without a fault, for an h that may be the height of a
+    /// tree with all these fragments: it is 0, or there are at least 2 * 6^h of them.
     ///
     /// # Errors
     ///
     /// Of the faults that the pieces meet the first in the order of `EditFault`, each for the first piece that meets it:
     /// `Reversed`, `Overlap` (with the piece before it), `PastEnd`, `InsideChar`; then `TextLimit` where the new texts
-    /// have more than 65,536 bytes, `ClockEnd`, and `Full` where bytes, then entries, pass their limit. `OutOfMemory` only
-    /// where there is none of these. The buffer is then as before.
+    /// have more than 65,536 bytes, `ClockEnd`, and `Full` where bytes, then entries, pass their limit. `OutOfMemory` if an
+    /// allocation fails, and only where there is none of these. After an error the buffer is as before.
     pub fn edit<L: Ledger>(
         &mut self,
         changes: &[Piece],
@@ -235,11 +248,11 @@ impl Buffer {
         }
     }
 
-    /// What [`Buffer::edit`] does, at the same cost, where nobody asks for its steps.
+    /// Does what [`Buffer::edit`] does, at the same cost, for callers that do not ask for its steps.
     ///
     /// # Errors
     ///
-    /// Those of [`Buffer::edit`]. The buffer is then as before.
+    /// Those of [`Buffer::edit`]. After an error the buffer is as before.
     pub fn edit_uncounted(&mut self, changes: &[Piece]) -> Result<Operation, EditFault>
         ensures ok { OnOk result (edit_fault self.old changes.now ≡ None) }
         ensures made { IfOk result (λ op. op ≡ edit_of self.old changes.now) }
@@ -257,7 +270,7 @@ impl Buffer {
         self.edit_with::<Brand>(changes, Blank::new(1))
     }
 
-    // The same with a counter that is made of the blank.
+    // The same with a counter that is made from the blank.
     fn edit_with<L: Ledger>(
         &mut self,
         changes: &[Piece],
@@ -291,7 +304,7 @@ impl Buffer {
         Ok(made)
     }
 
-    // The fault that the pieces meet, if there is memory.
+    // The fault that the pieces meet, if any.
     fn fault(&self, changes: &[Piece]) -> Option<EditFault>
         ensures { result ≡ edit_fault self.now changes.now }
     {
@@ -305,27 +318,26 @@ impl Buffer {
         if self.document.clock() == u32::MAX {
             return Some(EditFault::ClockEnd);
         }
-        self.excess(total as u64, 1 + changes.len() as u64)
+        let Excess { unit, held, adds } = self.excess(total as u64, 1 + changes.len() as u64)?;
+        Some(EditFault::Full { unit, held, adds })
     }
 
-    // The limit that an operation passes. That its texts are UTF-8 is a clause for callers.
+    // The limit that an operation would exceed, if any. That its texts are UTF-8 is a clause for callers.
     pub(crate) fn full(&self, op: &Operation) -> Option<OpFault>
         requires { shape_fault op.now ≡ None }
-        ensures fault { result ≡ full_fault self.now.limits self.now.history op.now }
+        ensures fault { result ≡ full_fault (rules self.now) self.now.history op.now }
         ensures proper { IsProper op.now }
     {
         let (bytes, entries) = size(op);
-        match self.excess(bytes as u64, entries) {
-            Some(EditFault::Full { unit, held, adds }) => Some(OpFault::Full { unit, held, adds }),
-            _ => None,
-        }
+        let Excess { unit, held, adds } = self.excess(bytes as u64, entries)?;
+        Some(OpFault::Full { unit, held, adds })
     }
 
-    // Applies an operation that is good and passes no limit. On want of memory the operation is dropped.
+    // Applies an operation that is good and passes no limit. If an allocation fails, the operation is dropped.
     pub(crate) fn apply(&mut self, op: Operation) -> Result<(), OutOfMemory>
         requires proper { IsProper op }
         requires good { answer self.old.history [] op ≡ Good }
-        requires room { full_fault self.old.limits self.old.history op ≡ None }
+        requires room { full_fault (rules self.old) self.old.history op ≡ None }
         ensures ok { OnOk result (self.new ≡ after_apply self.old op) }
         ensures err { OnErr result (self.new ≡ self.old) }
     {
@@ -334,10 +346,10 @@ impl Buffer {
         Ok(())
     }
 
-    // The limit that so many bytes and entries more pass.
-    pub(crate) fn excess(&self, bytes: u64, entries: u64) -> Option<EditFault>
-        ensures { result ≡ option_map (λ e. EditFault.Full e.unit e.held e.adds)
-            (excess self.now.limits self.now.history bytes entries) }
+    // The limit that these additional bytes and entries would exceed, if any.
+    pub(crate) fn excess(&self, bytes: u64, entries: u64) -> Option<Excess>
+        ensures { option_map excess_of result
+            ≡ excess self.now.limits self.now.history bytes entries }
     {
         self.document.excess(&self.limits, bytes, entries)
     }

@@ -1,4 +1,4 @@
-//! What a history comes to, cell by cell.
+//! The fragments and texts that a history makes.
 ghost use Rattle.std.specs.Prelude.{◌≡◌, ◌^◌, ◌≤◌, ℕ, List, ◌∷◌, [], length, IfOk};
 ghost use Rattle.std.specs.List.{AllByRecursion};
 ghost use Rattle.locators.specs.Locator.{IsLess, EndsAboveZero, between_digits, least_digits, greatest_digits};
@@ -36,7 +36,7 @@ pub struct Content {
 }
 
 impl Content {
-    /// That of a base alone. Linear in its text.
+    /// The content of a base alone. Linear in its text.
     pub fn over(alloc: Global, text: &str) -> Result<Content, OutOfMemory>
         requires { length text.now ≤ 2 ^ 40 }
         ensures { IfOk result (λ c. IsContent c (base text.now ∷ [])) }
@@ -53,7 +53,7 @@ impl Content {
         })
     }
 
-    /// A second owner of all of it. Nothing is copied.
+    /// An equal content that shares everything with it. Copies nothing.
     pub fn share(&self) -> Result<Content, OutOfMemory>
         ensures { IfOk result (λ c. (h : History) → IsContent self.now h → IsContent c h) }
     {

@@ -1,4 +1,4 @@
-//! A history, and what it comes to.
+//! A history, and what it makes.
 ghost use Rattle.std.specs.Prelude.{◌≡◌, ◌+◌, ◌-◌, ◌^◌, ◌≤◌, ℕ, List, ◌++◌, ◌∷◌, [], None, length, map, IfOk, OnErr, OnOk, option_map};
 ghost use Rattle.std.specs.Arc.{arc_value};
 ghost use Rattle.lamport_clock.specs.Clocks.{clock_after};
@@ -17,18 +17,17 @@ ghost use Rattle.undo_map.specs.Undos.{undo_entries};
 ghost use Rattle.op_answers.specs.Verdicts.{answer_of};
 ghost use Rattle.remote_edit.specs.Moves.{TakeTexts};
 ghost use Rattle.text_buffer.specs.Costs.{IsEditCost};
-ghost use Rattle.text_buffer.specs.Document.{IsContent, IsBufferHistory, IsMoved, MayEdit, MayGrow};
+ghost use Rattle.text_buffer.specs.Document.{IsContent, IsBufferHistory, IsMoved, MayEdit, MayGrow, excess_of};
 
 use crate::OutOfMemory;
 use crate::content::{BASE, Content};
+use crate::faults::Excess;
 use crate::pieces::size;
 use applied_ops::AppliedList;
 use deferred_ops::Deferred;
 use lamport_clock::{Lamport, Version};
 use op_answers::{Verdict, judge};
-use op_model::{
-    EditFault, EditOp, Limits, Operation, Piece, Pieces, Text, UndoCount, UndoOp, Unit,
-};
+use op_model::{EditOp, Limits, Operation, Piece, Pieces, Text, UndoCount, UndoOp, Unit};
 use remote_edit::{Placed, mark_undo, place_local, place_remote};
 use rope_chunks::Rope;
 use rope_edits::apply_moves;
@@ -39,7 +38,7 @@ use std::sync::ledger::Ledger;
 use sum_tree::Steps;
 use undo_map::UndoMap;
 
-/// The applied operations, and all that they come to: the clock and the version, the fragments with their index and the undo
+/// The applied operations, and all that they make: the clock and the version, the fragments with their index and the undo
 /// counts, the shown and the hidden text, and how many bytes and entries are held. Contracts see it as the list of operations, the
 /// history; it is lawful. Documents share what they have in common.
 #[derive(Drop)]
@@ -86,7 +85,7 @@ impl Document {
         })
     }
 
-    /// A second owner of all of it. Nothing is copied.
+    /// An equal document that shares everything with it. Copies nothing.
     pub fn share(&self) -> Result<Document, OutOfMemory>
         ensures { IfOk result (λ d. d ≡ self.now) }
     {
@@ -104,14 +103,14 @@ impl Document {
         })
     }
 
-    /// What holds of every document, for callers. It does nothing when it runs.
+    /// Says what is true of every document, for callers' proofs. Does nothing when it runs.
     pub fn known(&self)
         ensures { IsBufferHistory self.now }
     {
         let _alloc = &self.alloc;
     }
 
-    /// An edit that makes no node costs no more than it may, for callers. It does nothing when it runs.
+    /// Says that an edit that makes no node costs no more than it may, for callers' proofs. Does nothing when it runs.
     pub fn known_cost(&self)
         ensures { (changes : List Piece) → IsEditCost self.now changes 0 }
     {
@@ -146,7 +145,7 @@ impl Document {
         &self.content.undos
     }
 
-    /// What the operations come to.
+    /// The content that the operations make.
     pub fn content(&self) -> &Content
         ensures { IsContent result.now self.now }
     {
@@ -160,20 +159,19 @@ impl Document {
         &self.content.text
     }
 
-    /// The limit that so many bytes and entries more pass.
-    pub fn excess(&self, limits: &Limits, bytes: u64, entries: u64) -> Option<EditFault>
-        ensures { result ≡ option_map (λ e. EditFault.Full e.unit e.held e.adds)
-            (excess limits.now self.now bytes entries) }
+    /// The limit that these additional bytes and entries would exceed, if any.
+    pub fn excess(&self, limits: &Limits, bytes: u64, entries: u64) -> Option<Excess>
+        ensures { option_map excess_of result ≡ excess limits.now self.now bytes entries }
     {
         if (limits.bytes as u128) < self.bytes as u128 + bytes as u128 {
-            return Some(EditFault::Full {
+            return Some(Excess {
                 unit: Unit::Bytes,
                 held: self.bytes,
                 adds: bytes,
             });
         }
         if (limits.entries as u128) < self.entries as u128 + entries as u128 {
-            return Some(EditFault::Full {
+            return Some(Excess {
                 unit: Unit::Entries,
                 held: self.entries,
                 adds: entries,
@@ -198,8 +196,9 @@ impl Document {
         )
     }
 
-    /// Puts an operation last that is good. A few descents for each of its pieces, the fragments in their ranges and those that its
-    /// counts concern; what does not change is shared. On want of memory the operation is dropped, and all is as before.
+    /// Appends an operation that is good. This costs a few descents for each of its pieces, the fragments in their ranges and those
+    /// that its counts concern; what does not change is shared. If an allocation fails, the operation is dropped and nothing
+    /// changes.
     pub fn apply(&mut self, op: Operation) -> Result<(), OutOfMemory>
         requires grows { MayGrow self.old op }
         ensures ok { OnOk result (self.new ≡ self.old ++ op ∷ []) }
@@ -210,9 +209,9 @@ impl Document {
         self.push(op, adds, content)
     }
 
-    /// Makes an edit of changes that meet no fault, and puts it last. Gives the edit; a copy is kept, which shares its texts. It costs
-    /// what `apply` does, and two descents for each change. A step is counted for each node that is made
-    /// in the tree of fragments.
+    /// Makes an edit of changes that meet no fault, and appends it. Returns the edit; the document keeps a copy, which shares its
+    /// texts. This costs what `apply` does, and two descents for each change. A step is counted for each node that is made in the
+    /// tree of fragments.
     pub fn make_edit<L: Ledger>(
         &mut self,
         replica: u16,
@@ -232,7 +231,7 @@ impl Document {
         Ok(made)
     }
 
-    // The edit of changes that meet no fault, what it adds to the bytes and entries, and what the history comes to with it.
+    // The edit of changes that meet no fault, what it adds to the bytes and entries, and the content of the history with it.
     fn with_changes<L: Ledger>(
         &self,
         replica: u16,
@@ -269,7 +268,7 @@ impl Document {
         Ok((made, adds, content))
     }
 
-    // What the history comes to with an operation that is good.
+    // The content of the history with an operation that is good.
     fn content_with(&self, op: &Operation) -> Result<Content, OutOfMemory>
         requires { MayGrow self.now op.now }
         ensures { IfOk result (λ c. IsContent c (self.now ++ op.now ∷ [])) }
@@ -280,7 +279,7 @@ impl Document {
         }
     }
 
-    // What the history comes to with an edit that is good.
+    // The content of the history with an edit that is good.
     fn with_edit(&self, edit: &EditOp) -> Result<Content, OutOfMemory>
         requires { MayGrow self.now (Edit edit.now) }
         ensures { IfOk result (λ c. IsContent c (self.now ++ Edit edit.now ∷ [])) }
@@ -295,7 +294,7 @@ impl Document {
         self.content_of(placed, self.content.undos.share()?, edit.pieces.as_slice())
     }
 
-    // What the history comes to with an undo that is good.
+    // The content of the history with an undo that is good.
     fn with_undo(&self, undo: &UndoOp) -> Result<Content, OutOfMemory>
         requires { MayGrow self.now (Undo undo.now) }
         ensures { IfOk result (λ c. IsContent c (self.now ++ Undo undo.now ∷ [])) }
@@ -341,7 +340,7 @@ impl Document {
         })
     }
 
-    // Puts an operation last that is good, which adds so many bytes and entries, with what the history comes to then.
+    // Appends an operation that is good and adds these bytes and entries, with the content of the history that has it.
     fn push(
         &mut self,
         op: Operation,
@@ -367,7 +366,8 @@ impl Document {
     }
 }
 
-/// An equal operation with a copy of it, which shares its pieces or counts. Linear in the version. On want of memory it is dropped.
+/// An equal operation with a copy of it, which shares its pieces or counts. Linear in the version. If an allocation fails, the
+/// operation is dropped.
 pub(crate) fn with_copy(alloc: Global, op: Operation) -> Result<(Operation, Operation), OutOfMemory>
     ensures made { IfOk result (λ r. r.0 ≡ op) }
     ensures copy { IfOk result (λ r. r.1 ≡ op) }
@@ -377,7 +377,7 @@ pub(crate) fn with_copy(alloc: Global, op: Operation) -> Result<(Operation, Oper
     Ok((made, copy))
 }
 
-// Puts an operation last that is new, and gives the version with its stamp. On want of memory it is dropped.
+// Appends an operation that is new, and returns the version with its stamp. If an allocation fails, the operation is dropped.
 fn append(
     alloc: Global,
     operations: &mut AppliedList,

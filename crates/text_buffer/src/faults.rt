@@ -34,7 +34,15 @@ impl<T: Drop> From<AllocFailed<T>> for NewFault {
     }
 }
 
-/// The fault of a base of so many bytes where no more than `most` may be held.
+/// A limit that would be passed: what is held of its unit, and what would be added.
+#[derive(Clone, Copy)]
+pub(crate) struct Excess {
+    pub unit: Unit,
+    pub held: u64,
+    pub adds: u64,
+}
+
+/// The fault of a base of `len` bytes where no more than `most` may be held.
 pub(crate) fn length_fault(most: u64, len: u64) -> Option<NewFault>
     ensures fault { result ≡ length_fault most len }
     ensures room { result ≡ None → len ≤ most }

@@ -1,8 +1,8 @@
 //! Laws of what snapshots answer, shown by functions that do nothing.
-ghost use Rattle.std.specs.Prelude.{◌≡◌, List};
+ghost use Rattle.std.specs.Prelude.{◌≡◌};
 ghost use Rattle.op_model.specs.Histories.{SameSet};
-ghost use Rattle.op_model.specs.Steps.{Step};
-ghost use Rattle.text_buffer.specs.Buffer.{BufferState, IsPartly, after_calls};
+ghost use Rattle.text_buffer.specs.Buffer.{BufferState, Reaches};
+ghost use Rattle.text_buffer.specs.Document.{IsFront};
 ghost use Rattle.text_buffer.specs.SnapshotLaws.{AnchorsStay, AnswerAlike, EditsMakeTheText};
 
 use crate::{Snapshot, snapshots_append};
@@ -16,12 +16,12 @@ pub fn snapshots_answer_alike(a: &Snapshot, b: &Snapshot)
     b.known();
 }
 
-/// Anchors that are known in a snapshot of a buffer are known in a later one, whatever calls came between them, and where a call
-/// between them wanted memory. Two of them keep their order, and the lesser never has the greater place.
+/// Anchors that are known in a snapshot are known in every later one of the same buffer, whatever calls came between the two, even if
+/// allocations failed in some of these calls. Two of them keep their order, and the lesser never has the greater place. So it is
+/// wherever the operations of one snapshot stand first among those of another.
 pub fn anchors_stay(earlier: &Snapshot, later: &Snapshot)
-    ensures calls { (b : BufferState) → (cs : List Step) → earlier.now ≡ b.history
-        → later.now ≡ (after_calls cs b).history → AnchorsStay earlier.now later.now }
-    ensures want { (b n : BufferState) → IsPartly b n → earlier.now ≡ b.history
+    ensures front { IsFront earlier.now later.now → AnchorsStay earlier.now later.now }
+    ensures calls { (b n : BufferState) → Reaches b n → earlier.now ≡ b.history
         → later.now ≡ n.history → AnchorsStay earlier.now later.now }
 {
     snapshots_append(earlier, later);

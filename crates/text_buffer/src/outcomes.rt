@@ -9,10 +9,10 @@ use op_model::OpFault;
 pub enum Took {
     /// An equal one is applied or waits. Nothing has changed.
     Repeat,
-    /// It waits: of all replicas of which it has seen more than is applied this is the least, and the value is that which it
-    /// has seen.
+    /// It waits: of the replicas of which it has seen more than is applied this is the least, and this is the value that it has
+    /// seen.
     Waits { replica: u16, value: u32 },
-    /// It is applied, and whatever waited for it: so many operations, at least 1.
+    /// It is applied, and so are operations that waited: this is how many were applied, at least 1.
     Applied(u64),
 }
 

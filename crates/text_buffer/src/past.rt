@@ -1,4 +1,4 @@
-//! What a snapshot tells of its past: the text at a version, and the edits since it.
+//! The past of a snapshot: the text at a version, and the edits since it.
 ghost use Rattle.std.specs.Prelude.{◌≡◌, ◌⊎◌, None, Some, IfErr, IfOk, OnOk, string_bytes};
 ghost use Rattle.op_model.specs.Answers.{open_replica};
 ghost use Rattle.op_model.specs.Lawful.{IsClosed, unseen_replica};
@@ -25,14 +25,14 @@ impl Snapshot {
 
     /// The edits that take the text that a version saw to the text of the snapshot: one for each maximal run without a byte that is
     /// in both, where it has a byte of either. Old ranges are in bytes of the text then, new ones in bytes of the text of the snapshot;
-    /// they ascend and do not touch. The cost grows with the fragments that changed since, times the height; memory is taken for
-    /// the edits alone.
+    /// they ascend and do not touch. The cost grows with the fragments that changed since, times the height. It allocates for the
+    /// edits alone.
     ///
     /// # Errors
     ///
     /// `Unseen` exactly where the version has more of a replica than the snapshot, with the least such replica. Else `OpenVersion`
     /// exactly where what the version has of a replica is no applied operation whose causes it has seen, with the least such
-    /// replica. `OutOfMemory` only where it is neither.
+    /// replica. `OutOfMemory` if an allocation fails, and only where there is neither.
     pub fn since(&self, version: &Version) -> Result<Edits, SinceFault>
         ensures ok { OnOk result (since_fault self.now version.now ≡ None) }
         ensures edits { IfOk result (λ es. es ≡ since self.now version.now) }
@@ -53,7 +53,7 @@ impl Snapshot {
         Ok(edits)
     }
 
-    /// The text that a version saw, copied. Bytes that lie between fragments that changed since are taken together. The cost grows
+    /// A copy of the text that a version saw. Bytes that lie between fragments that changed since are taken together. The cost grows
     /// with the fragments that changed since, times the height, and with the length of that text, which is copied.
     ///
     /// # Errors
@@ -71,7 +71,7 @@ impl Snapshot {
         Ok(self.text_back(version)?)
     }
 
-    // The text that a version saw which is closed.
+    // The text that a closed version saw.
     fn text_back(&self, version: &Version) -> Result<String, OutOfMemory>
         requires { IsClosed self.now version.now }
         ensures { IfOk result (λ s. string_bytes s ≡ text_at self.now version.now) }

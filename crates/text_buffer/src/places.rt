@@ -9,9 +9,9 @@ use anchors::anchor_at;
 use std::cmp::Ordering;
 
 impl Snapshot {
-    /// The anchor at a byte offset of the text. Left keeps to the byte before it, Right to the byte behind it; at the start of the
-    /// text Left is [`Anchor::Least`], at its end Right is [`Anchor::Greatest`]. It resolves to the offset here. It is a descent in
-    /// the text and one in the fragments, without memory.
+    /// The anchor at a byte offset of the text. Left keeps to the byte before it, Right to the byte after it; at the start of the
+    /// text Left is [`Anchor::Least`], at its end Right is [`Anchor::Greatest`]. Here the anchor resolves to the offset. This is a
+    /// descent in the text and one in the fragments; it does not allocate.
     ///
     /// # Errors
     ///
@@ -33,7 +33,7 @@ impl Snapshot {
         )
     }
 
-    /// The place of an anchor, a byte offset of the text. It is a few descents, without memory.
+    /// The place of an anchor, a byte offset of the text. This is a few descents; it does not allocate.
     ///
     /// # Errors
     ///
@@ -53,8 +53,8 @@ impl Snapshot {
         )
     }
 
-    /// The order of two anchors, by their gaps among all bytes, hidden ones too, Left before Right in one gap. It is a few descents,
-    /// without memory.
+    /// The order of two anchors, by their gaps among all bytes, hidden ones too, Left before Right in one gap. This is a few
+    /// descents; it does not allocate.
     ///
     /// # Errors
     ///

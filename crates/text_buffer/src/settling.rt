@@ -17,11 +17,11 @@ use op_model::Operation;
 impl Buffer {
     /// Goes through what waits, the least stamp first, in passes, until one applies nothing. At its turn an operation that
     /// misses no cause is applied where it is good, dropped where an equal one is applied, and else put on the refused list
-    /// with its fault. Gives how many are applied. Then each operation that waits misses a cause.
+    /// with its fault. Returns how many were applied. Afterwards each operation that waits misses a cause.
     ///
     /// # Errors
     ///
-    /// `OutOfMemory` alone. What is then applied stays applied, and a later call goes on.
+    /// `OutOfMemory` if an allocation fails. What was applied by then stays applied, and a later call goes on.
     pub fn settle(&mut self) -> Result<u64, OutOfMemory>
         ensures new { OnOk result (self.new ≡ after_settle self.old) }
         ensures applied { IfOk result (λ n. n ≡ number_applied self.old self.new) }
@@ -52,7 +52,7 @@ impl Buffer {
         Ok(())
     }
 
-    // The turn of the least operation past a stamp that misses no cause. Gives its stamp, or None where there is none.
+    // The turn of the least operation past a stamp that misses no cause. Returns its stamp, or None if there is no such operation.
     fn next_turn(&mut self, after: Option<Lamport>) -> Result<Option<Lamport>, OutOfMemory>
         ensures ready { IfOk result (λ t. t ≡ option_map stamp_of (next_ready after self.old)) }
         ensures turn { OnOk result (self.new

@@ -1,9 +1,8 @@
 //! Snapshots: what a buffer was at one time.
-ghost use Rattle.std.specs.Prelude.{◌≡◌, List, IfOk};
-ghost use Rattle.op_model.specs.Steps.{Step};
+ghost use Rattle.std.specs.Prelude.{◌≡◌, IfOk};
 ghost use Rattle.op_model.specs.Histories.{SameSet, version};
 ghost use Rattle.op_model.specs.Shown.{text};
-ghost use Rattle.text_buffer.specs.Buffer.{BufferState, IsPartly, after_calls};
+ghost use Rattle.text_buffer.specs.Buffer.{BufferState, Reaches};
 ghost use Rattle.text_buffer.specs.Document.{IsFront, IsBufferHistory};
 
 use crate::document::Document;
@@ -14,7 +13,7 @@ use rope_chunks::Rope;
 use std::marker::Model;
 use sum_tree::SumTree;
 
-/// What a buffer was at one time: its applied operations, and what they come to. Contracts see it as the list of its applied
+/// What a buffer was at one time: its applied operations, and what they make. Contracts see it as the list of its applied
 /// operations, the base first, each of which is good against those before it; all its answers are functions of this list. It
 /// shares everything with the buffer and with other snapshots, and never changes.
 ///
@@ -46,7 +45,7 @@ impl Buffer {
     ///
     /// # Errors
     ///
-    /// `OutOfMemory` alone.
+    /// `OutOfMemory` if an allocation fails.
     pub fn snapshot(&self) -> Result<Snapshot, OutOfMemory>
         ensures { IfOk result (λ s. s ≡ self.now.history) }
     {
@@ -56,11 +55,11 @@ impl Buffer {
 }
 
 impl Snapshot {
-    /// A second owner of all of it. Nothing is copied: constant time.
+    /// An equal snapshot that shares everything with it. Nothing is copied: constant time.
     ///
     /// # Errors
     ///
-    /// `OutOfMemory` alone.
+    /// `OutOfMemory` if an allocation fails.
     pub fn share(&self) -> Result<Snapshot, OutOfMemory>
         ensures { IfOk result (λ s. s ≡ self.now) }
     {
@@ -69,28 +68,28 @@ impl Snapshot {
         })
     }
 
-    /// The text. Constant time, without memory.
+    /// The text. Constant time; does not allocate.
     pub fn text(&self) -> &Rope
         ensures { result.now ≡ text self.now }
     {
         self.document.text()
     }
 
-    /// The applied operations, in their order, the base first. Constant time, without memory.
+    /// The applied operations, in their order, the base first. Constant time; does not allocate.
     pub fn applied(&self) -> &SumTree<Applied>
         ensures { result.now.items ≡ self.now }
     {
         self.document.operations().tree()
     }
 
-    /// The greatest stamp value applied of each replica, the base's among them. Constant time, without memory.
+    /// The greatest stamp value applied of each replica, the base's among them. Constant time; does not allocate.
     pub fn version(&self) -> &Version
         ensures { result.now ≡ version self.now }
     {
         self.document.version()
     }
 
-    /// What holds of every snapshot: its list is lawful, and more. It does nothing when it runs.
+    /// Says what is true of every snapshot, for callers' proofs: its list is lawful, and more. Does nothing when it runs.
     pub fn known(&self)
         ensures { IsBufferHistory self.now }
     {
@@ -106,12 +105,10 @@ pub fn snapshots_agree(a: &Snapshot, b: &Snapshot)
     b.known();
 }
 
-/// A snapshot that was taken earlier from a buffer has a front of the list of a later one, whatever calls came between them, and
-/// where a call between them wanted memory.
+/// The operations of a snapshot stand first among those of a later one of the same buffer, in the same order, whatever calls came
+/// between the two, even if allocations failed in some of these calls.
 pub fn snapshots_append(earlier: &Snapshot, later: &Snapshot)
-    ensures calls { (b : BufferState) → (cs : List Step) → earlier.now ≡ b.history
-        → later.now ≡ (after_calls cs b).history → IsFront earlier.now later.now }
-    ensures want { (b n : BufferState) → IsPartly b n → earlier.now ≡ b.history
+    ensures { (b n : BufferState) → Reaches b n → earlier.now ≡ b.history
         → later.now ≡ n.history → IsFront earlier.now later.now }
 {
     earlier.known();

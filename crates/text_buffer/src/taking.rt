@@ -3,13 +3,14 @@ ghost use Rattle.std.specs.Prelude.{ℕ, ◌≡◌, ◌≤◌, ◌⊎◌, true, 
 ghost use Rattle.op_model.specs.Sorted.{insert_by};
 ghost use Rattle.op_model.specs.Histories.{operation_at};
 ghost use Rattle.op_model.specs.Operations.{stamp_of};
-ghost use Rattle.op_model.specs.Answers.{answer};
 ghost use Rattle.op_model.specs.Answers.Answer.{Good, Refused as refused};
+ghost use Rattle.op_model.specs.Rules.{answer_under};
 ghost use Rattle.op_model.specs.Steps.{older};
 ghost use Rattle.op_model.specs.Steps.Step.{Takes};
+ghost use Rattle.op_answers.specs.Verdicts.{answer_of};
 ghost use Rattle.text_buffer.specs.Outcomes.{pair_of};
 ghost use Rattle.text_buffer.specs.Settling.{IsTakenPartly};
-ghost use Rattle.text_buffer.specs.Buffer.{AllMiss, IsPartly, after_call, answer_to, is_taken_in, number_applied, after_take, took_of};
+ghost use Rattle.text_buffer.specs.Buffer.{AllMiss, IsPartly, after_call, answer_to, is_taken_in, number_applied, after_take, rules, took_of};
 
 use crate::{Buffer, OutOfMemory, Refused, Took};
 use applied_ops::Applied;
@@ -20,7 +21,7 @@ use std::alloc::Global;
 use sum_tree::SumTree;
 
 // Lets an operation wait; none with its stamp waits yet. It is shared, so its turn copies no text.
-// On want of memory it is dropped.
+// If an allocation fails, it is dropped.
 fn defer(waiting: &mut Deferred, alloc: Global, op: Operation) -> Result<(), OutOfMemory>
     requires { operation_at waiting.old (stamp_of op) ≡ None }
     ensures ok { OnOk result (waiting.new ≡ insert_by older op waiting.old) }
@@ -39,9 +40,9 @@ impl Buffer {
     /// The first of these that the operation meets: `BadStamp`, `NoBase`, `TextLimit`, `Reversed`, `Overlap`; where none is equal to
     /// it `Conflict` (with what is applied or waits), `Forked`; where it misses no cause `OpenVersion`, `PastEnd`, `InsideChar`,
     /// `NoSuchEdit` (a count of no edit that the operation has seen), then `Full` where bytes, then entries, pass their limit. The
-    /// buffer is then as before, and the operation is dropped. `OutOfMemory` only where there is none of these and no equal
-    /// operation. The buffer is then as before, unless the operation was applied and settling wanted memory: then what is applied
-    /// stays applied, and a later `settle` goes on.
+    /// buffer is then as before, and the operation is dropped. `OutOfMemory` if an allocation fails, and only where there is none of
+    /// these and no equal operation. The buffer is then as before, unless the operation was applied and an allocation failed while
+    /// settling: then what was applied stays applied, and a later `settle` goes on.
     pub fn take(&mut self, op: Operation) -> Result<Took, OpFault>
         ensures ok { IfOk result (λ t. took_of (number_applied self.old self.new)
             (answer_to self.old op) ≡ Some t) }
@@ -57,7 +58,7 @@ impl Buffer {
         ensures refused { IfErr result (λ e. (self.new ≡ after_call (Takes op) self.old)
             ⊎ (e ≡ OpFault.OutOfMemory)) }
     {
-        match self.document.judge(&self.waiting, &op) {
+        match self.judge(&op) {
             Verdict::Good => self.accept(op),
             Verdict::Repeat => Ok(Took::Repeat),
             Verdict::Waits { replica, value } => {
@@ -68,9 +69,18 @@ impl Buffer {
         }
     }
 
-    // Applies an operation that is good, unless a limit holds it off, and settles.
+    // The answer to an operation, before the limits are asked.
+    fn judge(&self, op: &Operation) -> Verdict
+        ensures { answer_of result ≡ answer_under (rules self.now).endings self.now.history
+            self.now.waiting op.now }
+    {
+        self.document.judge(&self.waiting, op)
+    }
+
+    // Applies an operation that is good, unless it would exceed a limit, and settles.
     fn accept(&mut self, op: Operation) -> Result<Took, OpFault>
-        requires good { answer self.old.history self.old.waiting op ≡ Good }
+        requires { answer_under (rules self.old).endings self.old.history self.old.waiting op
+            ≡ Good }
         ensures ok { IfOk result (λ t. took_of (number_applied self.old self.new)
             (answer_to self.old op) ≡ Some t) }
         ensures new { OnOk result (self.new ≡ after_take self.old op) }
@@ -94,21 +104,21 @@ impl Buffer {
         Ok(Took::Applied(self.document.operations().len() - before))
     }
 
-    /// The operations that are applied, in their order, the base first. Constant time, without memory.
+    /// The operations that are applied, in their order, the base first. Constant time; does not allocate.
     pub fn applied(&self) -> &SumTree<Applied>
         ensures { result.now.items ≡ self.now.history }
     {
         self.document.operations().tree()
     }
 
-    /// The operations that wait. Constant time, without memory.
-    pub fn waiting(&self) -> &Deferred
+    /// The operations that wait, the least stamp first. Constant time; does not allocate.
+    pub fn deferred(&self) -> &Deferred
         ensures { result.now ≡ self.now.waiting }
     {
         &self.waiting
     }
 
-    /// The operations that were refused while settling, in the order of their turns. Constant time, without memory.
+    /// The operations that were refused while settling, in the order of their turns. Constant time; does not allocate.
     pub fn refused(&self) -> &[Refused]
         ensures { map pair_of result.now ≡ self.now.refused }
     {

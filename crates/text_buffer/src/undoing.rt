@@ -4,24 +4,25 @@ ghost use Rattle.op_model.specs.Steps.Step.{Undoes};
 ghost use Rattle.text_buffer.specs.Buffer.{after_call, undo_of, undo_fault, after_undo};
 
 use crate::document::with_copy;
+use crate::faults::Excess;
 use crate::{Buffer, OutOfMemory};
 use lamport_clock::Lamport;
 use op_answers::listed_fault;
-use op_model::{EditFault, Operation, UndoFault, UndoOp};
+use op_model::{Operation, UndoFault, UndoOp};
 use undo_map::next_counts;
 
 impl Buffer {
     /// Undoes edits, or redoes those that are undone: gives each of them one more than its present undo count. The base, 1.0, may
-    /// be among them, and edits of other replicas. An empty list makes an operation without counts. Gives the operation, and keeps
-    /// an equal one. The cost grows with the fragments that the edits brought or delete, and others that the sums of their runs do
-    /// not tell from these, not with the whole text.
+    /// be among them, and edits of other replicas. An empty list makes an operation without counts. Returns the operation, and keeps
+    /// an equal one. The cost grows with the fragments that the edits brought or delete, and with others that the sums of their runs
+    /// do not distinguish from these, but not with the whole text.
     ///
     /// # Errors
     ///
     /// Of the faults in the order of `UndoFault` the first, each for the first stamp in the list that meets it: `NoSuchEdit` (it is
     /// no applied edit), `Twice` (it stands in the list before), `CountEnd` (its count is 4,294,967,295), each asked of the whole
-    /// list before the next; then `ClockEnd`, and `Full` where entries pass their limit. `OutOfMemory` only where there is none of
-    /// these. The buffer is then as before.
+    /// list before the next; then `ClockEnd`, and `Full` where entries pass their limit. `OutOfMemory` if an
+    /// allocation fails, and only where there is none of these. After an error the buffer is as before.
     pub fn undo(&mut self, edits: &[Lamport]) -> Result<Operation, UndoFault>
         ensures ok { OnOk result (undo_fault self.old edits.now ≡ None) }
         ensures made { IfOk result (λ op. op ≡ undo_of self.old edits.now) }
@@ -53,7 +54,7 @@ impl Buffer {
         Ok(made)
     }
 
-    // The fault that an undo of the edits meets, if there is memory.
+    // The fault that an undo of the edits meets, if any.
     fn undo_fault(&self, edits: &[Lamport]) -> Option<UndoFault>
         ensures { result ≡ undo_fault self.now edits.now }
     {
@@ -68,14 +69,8 @@ impl Buffer {
         if self.document.clock() == u32::MAX {
             return Some(UndoFault::ClockEnd);
         }
-        match self.excess(0, 1 + edits.len() as u64) {
-            Some(EditFault::Full { unit, held, adds }) => Some(UndoFault::Full {
-                unit,
-                held,
-                adds,
-            }),
-            _ => None,
-        }
+        let Excess { unit, held, adds } = self.excess(0, 1 + edits.len() as u64)?;
+        Some(UndoFault::Full { unit, held, adds })
     }
 
     // The operation of an undo that meets no fault.

@@ -1,14 +1,10 @@
-use Rattle.std.proofs.Common.{◌++◌, List, sym, ap, ◌∙◌}
+use Rattle.std.proofs.Common.{sym, subst}
 use Rattle.op_model.specs.declared.operation.Operation.{Operation}
-use Rattle.op_model.proofs.MainLaws.{runs_append}
-use Rattle.text_buffer.specs.Buffer.{state, new_operations}
+use Rattle.std.specs.Prelude.{List}
+use Rattle.text_buffer.specs.Document.{IsFront}
+use Rattle.text_buffer.proofs.Reached.{reached_front}
 use Rattle.text_buffer.proofs.snapshot.snapshots_append.Goals as goal
 
-pub returns-clause-calls : goal.returns-clause-calls
-returns-clause-calls c = λ b cs e f.
-    let k = runs_append b.limits b.replica cs (state b) in
-    (k.0, f ∙ k.1 ∙ ap (λ (h : List Operation). h ++ k.0) (sym e))
-
-pub returns-clause-want : goal.returns-clause-want
-returns-clause-want c = λ b n p e f.
-    (new_operations b n, f ∙ p.prefix ∙ ap (λ (h : List Operation). h ++ new_operations b n) (sym e))
+pub returns : goal.returns
+returns c = λ b n r e f.
+    subst (λ (h : List Operation). IsFront h c.args.later.now) (sym e) (subst (IsFront b.history) (sym f) (reached_front b n r.0 r.1))

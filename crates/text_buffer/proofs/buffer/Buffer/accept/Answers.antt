@@ -3,18 +3,18 @@ use Rattle.op_model.proofs.settling.Settling.{good_alone}
 use Rattle.op_model.proofs.histories.Growing.{shape_of}
 use Rattle.text_buffer.specs.Buffer.{BufferState, AllMiss, IsPartly, after_settle}
 use Rattle.text_buffer.specs.Settling.{IsStoppedSettling, IsTakenPartly}
-use Rattle.text_buffer.proofs.Taken.{answer_good, one_applied, not_less, says, on_err}
+use Rattle.text_buffer.proofs.Taken.{answer_good, one_applied, plain_good, not_less, says, on_err}
 use Rattle.text_buffer.proofs.buffer.Buffer.accept.Goals as goal
 
 pub full-requires : goal.full-requires
-full-requires c = shape_of c.args.self.now.history c.args.self.now.waiting c.args.op c.requires.good
+full-requires c = shape_of c.args.self.now.history c.args.self.now.waiting c.args.op (plain_good c.args.self.now c.args.op c.requires)
 
 pub apply-requires-clause-good : goal.apply-requires-clause-good
-apply-requires-clause-good c = good_alone c.args.self.now.history c.args.self.now.waiting c.args.op c.requires.good
+apply-requires-clause-good c = good_alone c.args.self.now.history c.args.self.now.waiting c.args.op (plain_good c.args.self.now c.args.op c.requires)
 
 pub returns-in_err-settle-clause-want : goal.returns-in_err-settle-clause-want
 returns-in_err-settle-clause-want c = on_err c.from_residual-in_err-settle.result (IsPartly c.args.self.now c.settle.new.self)
-    (one_applied c.args.self.now c.settle.new.self c.args.op c.requires.good (subst (λ (b : BufferState). IsPartly b c.settle.new.self) c.in_ok-apply.ensures.ok c.in_err-settle.ensures.want))
+    (one_applied c.args.self.now c.settle.new.self c.args.op (plain_good c.args.self.now c.args.op c.requires) (subst (λ (b : BufferState). IsPartly b c.settle.new.self) c.in_ok-apply.ensures.ok c.in_err-settle.ensures.want))
 
 pub overflow_sub-result : goal.overflow_sub-result
 overflow_sub-result c = not_less c.args.self.now c.args.op c.len-before.result c.len.result
@@ -29,4 +29,4 @@ returns-clause-applied c = says c.args.self.now c.args.op c.len-before.result c.
 
 pub returns-in_err-settle-clause-stopped : goal.returns-in_err-settle-clause-stopped
 returns-in_err-settle-clause-stopped c = on_err c.from_residual-in_err-settle.result (IsTakenPartly c.args.op c.args.self.now c.settle.new.self)
-    (inr (answer_good c.args.self.now c.args.op c.requires.good (sym c.in_default.ensures.fault), subst (λ (b : BufferState). IsStoppedSettling b c.settle.new.self) c.in_ok-apply.ensures.ok c.in_err-settle.ensures.stopped))
+    (inr (answer_good c.args.self.now c.args.op c.requires (sym c.in_default.ensures.fault), subst (λ (b : BufferState). IsStoppedSettling b c.settle.new.self) c.in_ok-apply.ensures.ok c.in_err-settle.ensures.stopped))

@@ -1,7 +1,7 @@
 use Rattle.std.proofs.Common.{◌∙◌, [], ap}
 use Rattle.op_model.specs.Answers.{answer}
 use Rattle.op_model.specs.Settled.{full_fault}
-use Rattle.text_buffer.specs.Buffer.{BufferState}
+use Rattle.text_buffer.specs.Buffer.{BufferState, rules}
 use Rattle.text_buffer.specs.BufferInside.{state_of}
 use Rattle.text_buffer.proofs.Applied.{IsBuffer-put, room_for}
 use Rattle.text_buffer.proofs.buffer.Buffer.apply.Goals as goal
@@ -11,7 +11,7 @@ apply-requires c = record {
   grows = record {
     proper = c.requires.proper;
     good = ap (λ (b : BufferState). answer b.history [] c.args.op) c.self.view_is ∙ c.requires.good;
-    room = room_for (state_of c.self.inside) c.args.op c.self.invariant (ap (λ (b : BufferState). full_fault b.limits b.history c.args.op) c.self.view_is ∙ c.requires.room);
+    room = room_for (state_of c.self.inside) c.args.op c.self.invariant (ap (λ (b : BufferState). full_fault (rules b) b.history c.args.op) c.self.view_is ∙ c.requires.room);
   };
 }
 
@@ -19,4 +19,4 @@ pub invariant_of-self-2 : goal.invariant_of-self-2
 invariant_of-self-2 c =
     IsBuffer-put (state_of c.self.inside) c.args.op c.apply.new.self c.self.invariant c.known.ensures
     (ap (λ (b : BufferState). answer b.history [] c.args.op) c.self.view_is ∙ c.requires.good)
-    (ap (λ (b : BufferState). full_fault b.limits b.history c.args.op) c.self.view_is ∙ c.requires.room) c.in_ok-apply.ensures.ok
+    (ap (λ (b : BufferState). full_fault (rules b) b.history c.args.op) c.self.view_is ∙ c.requires.room) c.in_ok-apply.ensures.ok
