@@ -6,3 +6,4 @@ pub mod Readers
 pub mod Remakes
 pub mod Merges
 pub mod Readiness
+pub mod Renewals

@@ -104,7 +104,7 @@ module _ {Q A : Type 0} (plain : Q → List Operation → A) (lasts : List (List
         nothing_left : (w : ℕ) → w < workers → f (get_or lists w d) ≡ []
         nothing_left w within = none_paired (IsFinal plain lasts) (f (get_or lists w d)) (asks_to workers w (drop q asks)) (h.rest w d (omega (arith, within, many))) (ap (asks_to workers w) (drop_all q asks finished))
 
-        whole_list : (w : ℕ) → w < workers → filter (its w) answers ≡ f (get_or all w d)
+        pub whole_list : (w : ℕ) → w < workers → filter (its w) answers ≡ f (get_or all w d)
         whole_list w within =
             sym (append-nil (filter (its w) answers)) ∙ (ap (λ (l : List (Answer Q A)). filter (its w) answers ++ l) (sym (nothing_left w within)) ∙ h.whole w d (omega (arith, within, many)) d)
 

@@ -31,10 +31,10 @@ module _ {Q A : Type 0} (plain : Q → List Operation → A) (sizes : List ℕ) 
 
   module _ (inboxes : List (InboxState Q)) (tolds : List (List ToldState)) (published : List (List Operation)) (asks : List (Ask Q)) (desks : List DeskState) (dones : List (DoneState Q A))
       (r : IsReady inboxes tolds sizes published asks) (fronts : AllZip IsFront published lasts) (past : All (IsPast lasts) asks) (e : AreEnds inboxes desks) (h : HaveWorked plain desks dones) where
-    desks_length : length desks ≡ length inboxes
+    pub desks_length : length desks ≡ length inboxes
     desks_length = sym (length-map desks (λ (d : DeskState). d.queue)) ∙ (ap (λ (l : List TableId). length l) (sym e.queues) ∙ length-map inboxes (λ (i : InboxState Q). i.queue))
 
-    tolds_length : length tolds ≡ length inboxes
+    pub tolds_length : length tolds ≡ length inboxes
     tolds_length = sym (length-map tolds told_pairs) ∙ (ap (λ (l : List (List Book)). length l) r.pairs ∙ length-map inboxes (λ (i : InboxState Q). pairs_of i.readers))
 
     one : (w : ℕ) (i : InboxState Q) (d : DoneState Q A) (t : List ToldState) → w < length inboxes → CanRenew plain sizes lasts (get_or inboxes w i) (get_or dones w d) (get_or tolds w t)

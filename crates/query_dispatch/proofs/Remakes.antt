@@ -1,5 +1,5 @@
 -- An answer on more than was last published is made anew, and later answers stay on no fewer operations.
-use Rattle.std.proofs.Common.{◌≡◌, ℕ, ◌<◌, ◌≤◌, Bool, true, false, cond, nat_lt, List, [], ◌∷◌, ◌++◌, length, map, get_or, drop, sym, ap, ◌∙◌, subst, arith, ⊎_elim}
+use Rattle.std.proofs.Common.{◌≡◌, ℕ, ◌<◌, ◌≤◌, ◌+◌, Bool, true, false, cond, nat_lt, List, [], ◌∷◌, ◌++◌, length, map, get_or, drop, length-append, sym, ap, ◌∙◌, subst, arith, ⊎_elim}
 use Rattle.std.proofs.lemmas.Slice.Zip.{AllZip-long}
 use Rattle.std.specs.List.{All, AllPairs, AllZip}
 use Rattle.std.proofs.lemmas.Bool.{cases_lt}
@@ -11,7 +11,7 @@ use Rattle.op_model.specs.declared.operation.Operation.{Operation}
 use Rattle.op_model.proofs.Elements.{drop_at}
 use Rattle.text_buffer.specs.Document.{IsFront}
 use Rattle.text_buffer.proofs.Fronts.{front_itself, front_length, front_trans, fronts_at}
-use Rattle.std.proofs.lemmas.List.{get_or-map, length-map}
+use Rattle.std.proofs.lemmas.List.{get_or-append-add, get_or-map, get_or_append_left, length-map}
 use Rattle.snapshot_pub.specs.States.{ReaderState, ToldState}
 use Rattle.logbook.specs.Pages.{Book}
 use Rattle.query_workers.specs.Queue.{pairs_of}
@@ -21,7 +21,7 @@ use Rattle.query_workers.specs.declared.query.Answer.{Answer}
 use Rattle.query_workers.proofs.Answering.{all_there}
 use Rattle.query_dispatch.proofs.Places.{all_at_more}
 use Rattle.query_dispatch.specs.Dealt.{AllAt, told_lists, told_pairs}
-use Rattle.query_dispatch.specs.Final.{AreFinal, ComesTo, IsBound, IsFinal, IsPast, final_list, last_of}
+use Rattle.query_dispatch.specs.Final.{AreBounds, AreFinal, ComesTo, HasLooked, IsBound, IsFinal, IsPast, bound_of, final_list, last_of}
 
 pub list_stays : (bound : ℕ) (h last : List Operation) → length h ≤ bound → h ≡ final_list bound h last
 list_stays bound h last few = let test : nat_lt bound (length h) ≡ false = grind (arith, nat_tests) in ap (λ (b : Bool). cond b last h) (sym test)
@@ -157,6 +157,40 @@ module _ (tolds : List ToldState) (k : ℕ) (told : ToldState) (ts : List ToldSt
       let t = drop_at tolds k told ts told is_t in
       ap (λ (l : List ℕ). get_or l k 0) same ∙ (get_or-map (λ (h : List Operation). length h) (told_lists tolds) k told.list 0 (omega (arith, t.0, length-map tolds (λ (x : ToldState). x.list)))
       ∙ ap (λ (h : List Operation). length h) (get_or-map (λ (x : ToldState). x.list) tolds k told told.list t.0 ∙ ap (λ (x : ToldState). x.list) t.1))
+
+pub bound_most : (size : ℕ) (r : ReaderState) → bound_of size r ≤ size
+bound_most size r = by_test r.entered
+  where
+    by_test : (b : Bool) → cond b size 0 ≤ size
+    by_test true = omega arith
+    by_test false = omega arith
+
+-- one reader more has looked once more
+pub looked_more : (readers : List ReaderState) (published : List (List Operation)) (looked : List ReaderState) (k : ℕ) (reader new : ReaderState) (rs : List ReaderState) → drop k readers ≡ reader ∷ rs → length looked ≡ k
+    → HasLooked (last_of published k) reader new → AllAt (λ r x. (d : ReaderState) → HasLooked (last_of published r) (get_or readers r d) x) looked → AllAt (λ r x. (d : ReaderState) → HasLooked (last_of published r) (get_or readers r d) x) (looked ++ new ∷ [])
+looked_more readers published looked k reader new rs is_r many now was =
+    all_at_more (λ r x. (d : ReaderState) → HasLooked (last_of published r) (get_or readers r d) x) looked new was
+    (subst (λ (i : ℕ). (d : ReaderState) → HasLooked (last_of published i) (get_or readers i d) new) (sym many)
+    (λ d. subst (λ (x : ReaderState). HasLooked (last_of published k) x new) (sym (drop_at readers k reader rs d is_r).1) now))
+
+-- one reader more, and its bound
+pub are_more : (published : List (List Operation)) (looked : List ReaderState) (bounds : List ℕ) (new : ReaderState) (n : ℕ) → n ≡ bound_of (length (last_of published (length looked))) new
+    → AreBounds published looked bounds → AreBounds published (looked ++ new ∷ []) (bounds ++ n ∷ [])
+are_more published looked bounds new n is was =
+    let P : ℕ → ℕ → Type 0 = λ r m. (d : ReaderState) → m ≡ bound_of (length (last_of published r)) (get_or (looked ++ new ∷ []) r d) in
+    let plus : length looked ≡ length looked + 0 = omega arith in
+    let at : (d : ReaderState) → get_or (looked ++ new ∷ []) (length looked) d ≡ new = λ d. ap (λ (i : ℕ). get_or (looked ++ new ∷ []) i d) plus ∙ get_or-append-add looked (new ∷ []) 0 d in record {
+      many = omega (arith, was.many, length-append bounds (n ∷ []), length-append looked (new ∷ []));
+      each = all_at_more P bounds n
+          (λ r m below d. was.each r m below d ∙ ap (λ (x : ReaderState). bound_of (length (last_of published r)) x) (sym (get_or_append_left looked (new ∷ []) d r (omega (arith, was.many, below)))))
+          (subst (λ (i : ℕ). P i n) (sym was.many) (λ d. is ∙ ap (λ (x : ReaderState). bound_of (length (last_of published (length looked))) x) (sym (at d))));
+    }
+
+-- what was published to the pair at one place
+pub told_at : (tolds : List ToldState) (k : ℕ) (told : ToldState) (ts : List ToldState) → drop k tolds ≡ told ∷ ts → last_of (told_lists tolds) k ≡ told.list
+told_at tolds k told ts is_t =
+    let t = drop_at tolds k told ts told is_t in
+    get_or-map (λ (x : ToldState). x.list) tolds k told [] t.0 ∙ ap (λ (x : ToldState). x.list) t.1
 
 -- what one reader was told and knows gives the bound at its place
 pub bound_more : (readers : List ReaderState) (tolds : List ToldState) (bounds : List ℕ) (k : ℕ) (reader : ReaderState) (told : ToldState) (rs : List ReaderState) (ts : List ToldState) (n : ℕ) → drop k readers ≡ reader ∷ rs → drop k tolds ≡ told ∷ ts → length bounds ≡ k

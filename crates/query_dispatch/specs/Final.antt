@@ -1,6 +1,6 @@
 -- The answers once the editor and all workers have ended.
-use Rattle.std.specs.Prelude.{◌≡◌, ℕ, ◌<◌, ◌≤◌, nat_lt, List, [], ◌∷◌, length, map, slice_index_or, All, IfSome, if◌then◌else◌}
-use Rattle.std.specs.List.{AllPairs, AllZip}
+use Rattle.std.specs.Prelude.{◌≡◌, ℕ, ◌<◌, ◌≤◌, ◌==◌, nat_lt, true, false, List, [], ◌∷◌, length, map, slice_index_or, All, IfSome, Some, if◌then◌else◌}
+use Rattle.std.specs.List.{AllPairs, AllZip, filter}
 use Rattle.op_model.specs.declared.operation.Operation.{Operation}
 use Rattle.text_buffer.specs.Document.{IsFront}
 use Rattle.snapshot_pub.specs.States.{ReaderState, ToldState}
@@ -29,6 +29,29 @@ IsBound published readers r n =
     × ((h : List Operation) → IsFront h (slice_index_or (lists_of readers) r [])
     → length h ≤ n → IsFront h (last_of published r))
 
+-- a reader's last look: it learned what was last published to its pair, and took `latest` once more
+pub record HasLooked (published : List Operation) (old new : ReaderState) : Type 0 where
+  pub pair : new.pair ≡ old.pair
+  pub learned : IsFront published new.longest
+  pub begins : IsFront old.longest new.longest
+  pub entered : new.entered ≡ true → new.seen ≡ new.longest ∷ old.seen
+  pub unentered : new.entered ≡ false → new.seen ≡ old.seen
+
+-- the last looks of a worker's readers, replica by replica
+pub record HaveLooked (published : Lasts) (old new : List ReaderState) : Type 0 where
+  pub many : length new ≡ length old
+  pub each : AllAt (λ r x. (d : ReaderState) → HasLooked (last_of published r) (slice_index_or old r d) x) new
+
+-- how many operations an answer of a reader may have that stays: as many as were last published; none, where it did not enter at its
+-- last look
+abbrev pub bound_of : ℕ → ReaderState → ℕ
+bound_of size r = if r.entered then size else 0
+
+-- so many for each of a worker's readers
+pub record AreBounds (published : Lasts) (looked : List ReaderState) (bounds : List ℕ) : Type 0 where
+  pub many : length bounds ≡ length looked
+  pub each : AllAt (λ r n. (d : ReaderState) → n ≡ bound_of (length (last_of published r)) (slice_index_or looked r d)) bounds
+
 -- a list of no more than so many operations stays; a longer one gives way to what the replica is at the end
 abbrev pub final_list : ℕ → List Operation → List Operation → List Operation
 final_list bound h last = if nat_lt bound (length h) then last else h
@@ -41,6 +64,17 @@ pub record ComesTo {Q A : Type 0} (plain : Q → List Operation → A) (bounds :
   pub query : b.query ≡ a.query
   pub snapshot : b.snapshot ≡ final_list (slice_index_or bounds a.index 0) a.snapshot (last_of lasts a.index)
   pub answer : b.answer ≡ plain b.query b.snapshot
+
+-- what a worker answered, once its readers have looked once more: an answer stays that is on no more than was last published, and whose
+-- reader entered; each other one is made anew
+pub record HasRenewed {Q A : Type 0} (plain : Q → List Operation → A) (published lasts : Lasts)
+    (done : DoneState Q A) (looked : List ReaderState) (answers : List (Answer Q A)) : Type 0 where
+  pub readers : HaveLooked published done.readers looked
+  pub own : List (Answer Q A)
+  pub gave : done.answers ≡ Some own
+  pub bounds : List ℕ
+  pub are : AreBounds published looked bounds
+  pub each : AllZip (ComesTo plain bounds lasts) answers own
 
 -- the plain answer to an ask, on a snapshot that begins what the replica is at the end
 pub record IsFinal {Q A : Type 0} (plain : Q → List Operation → A) (lasts : Lasts)
@@ -63,6 +97,20 @@ pub record AreGathered {Q A : Type 0} (plain : Q → List Operation → A) (work
     (asks : List (Ask Q)) (answers : List (Answer Q A)) : Type 0 where
   pub each : AllZip (IsFinal plain lasts) answers asks
   pub never_falls : AllPairs (NeverFalls workers) answers
+
+-- what each worker answered was renewed, and stands among all answers as it did
+pub record AreRenewed {Q A : Type 0} (plain : Q → List Operation → A) (published lasts : Lasts)
+    (dones : List (DoneState Q A)) (looked : List (List ReaderState)) (answers : List (Answer Q A)) : Type 0 where
+  pub many : length looked ≡ length dones
+  pub each : AllAt (λ w x. (d : DoneState Q A) → HasRenewed plain published lasts (slice_index_or dones w d) x
+      (filter (λ (a : Answer Q A). worker_of (length dones) a.number == w) answers)) looked
+
+-- the same of the list of each worker, given what each was told; for private clauses
+pub record HaveRenewed {Q A : Type 0} (plain : Q → List Operation → A) (tolds : List (List ToldState)) (lasts : Lasts)
+    (dones : List (DoneState Q A)) (looked : List (List ReaderState)) (lists : List (List (Answer Q A))) : Type 0 where
+  pub many : length looked ≡ length dones
+  pub each : AllAt (λ w x. (t : List ToldState) (d : DoneState Q A) (l : List (Answer Q A))
+      → HasRenewed plain (told_lists (slice_index_or tolds w t)) lasts (slice_index_or dones w d) x (slice_index_or lists w l)) looked
 
 -- all inboxes are closed, and each worker's tokens tell it what was last published, of its own pairs
 pub record IsReady {Q : Type 0} (inboxes : List (InboxState Q)) (tolds : List (List ToldState)) (sizes : List ℕ)

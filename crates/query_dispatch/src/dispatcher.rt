@@ -47,7 +47,8 @@ impl<Q: Drop> Dispatcher<Q> {
     }
 
     /// Asks a query of the replica at that place, whose snapshot this is, as the next one: publishes the snapshot where it has more
-    /// than was last published, and puts the query with what was published into the inbox whose turn it is. Waits for no worker.
+    /// than was last published, and puts the query with what was published into the inbox whose turn it is. May wait: for the reader of
+    /// each pair of the replica to leave what was shown before, and for its slot in the queue. It waits for no answer.
     ///
     /// # Errors
     ///
@@ -121,7 +122,7 @@ impl<Q: Drop> Dispatcher<Q> {
         Ok(())
     }
 
-    /// Puts the end marks into all inboxes, and gives the inboxes. Waits for nobody.
+    /// Puts the end marks into all inboxes, and gives the inboxes. May wait for their slots in the queues, and for no answer.
     pub fn end<R: Wait>(self, rt: &R) -> Vec<Inbox<Q>>
         requires { (asks : List (Ask Q)) × HasAsked self asks }
         ensures queues { queues_of result.items ≡ queues_of self.inboxes }

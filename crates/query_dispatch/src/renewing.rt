@@ -8,7 +8,7 @@ ghost use Rattle.query_workers.specs.Asks.{asks_of};
 ghost use Rattle.query_workers.specs.Queue.{IsEnded, pairs_of};
 ghost use Rattle.query_workers.specs.declared.query.Answer.{Answer};
 ghost use Rattle.query_dispatch.specs.Dealt.{AllAt, told_lists, told_pairs};
-ghost use Rattle.query_dispatch.specs.Final.{AreFinal, ComesTo, IsBound, IsPast};
+ghost use Rattle.query_dispatch.specs.Final.{AreBounds, AreFinal, ComesTo, HasLooked, HasRenewed, HaveLooked, IsBound, IsPast, bound_of};
 
 use crate::OutOfMemory;
 use query_workers::{Answer, Done, Inbox, Query, collect};
@@ -18,43 +18,58 @@ use std::thread::Threads;
 use text_buffer::Snapshot;
 
 // A last look of a reader: it learns what was last published to its pair, which has so many operations, and takes `latest` once
-// more. How many operations an answer of this reader may have that stays: none, where it did not enter.
-fn look_last(mut reader: SnapReader, told: Told, size: u64) -> Result<u64, OutOfMemory>
+// more. Gives the reader back, and how many operations an answer of it may have that stays: none, where it did not enter.
+fn look_last(
+    mut reader: SnapReader,
+    told: Told,
+    size: u64,
+) -> Result<(SnapReader, u64), OutOfMemory>
     requires pair { told.pair ≡ reader.pair }
     requires size { size ≡ length told.list }
-    ensures most { IfOk result (λ n. n ≤ length told.list) }
-    ensures bound { IfOk result (λ n. (h : List Operation) → IsFront h reader.longest
-        → length h ≤ n → IsFront h told.list) }
+    ensures looked { IfOk result (λ r. HasLooked told.list reader r.0) }
+    ensures bound_is { IfOk result (λ r. r.1 ≡ bound_of (length told.list) r.0) }
+    ensures bound { IfOk result (λ r. (h : List Operation) → IsFront h reader.longest
+        → length h ≤ r.1 → IsFront h told.list) }
 {
-    look_again(&mut reader, told, size)
+    look_again(&mut reader, told)?;
+    let bound = bound_for(&reader, size);
+    Ok((reader, bound))
 }
 
-// The same, of a reader that is lent.
-fn look_again(reader: &mut SnapReader, told: Told, size: u64) -> Result<u64, OutOfMemory>
-    requires pair { told.pair ≡ reader.old.pair }
-    requires size { size ≡ length told.list }
-    ensures most { IfOk result (λ n. n ≤ length told.list) }
-    ensures bound { IfOk result (λ n. (h : List Operation) → IsFront h reader.old.longest
-        → length h ≤ n → IsFront h told.list) }
+// So many, where the reader entered; else none.
+fn bound_for(reader: &SnapReader, size: u64) -> u64
+    ensures { result ≡ bound_of size reader.now }
+{
+    if reader.entered() { size } else { 0 }
+}
+
+// The look itself, of a reader that is lent.
+fn look_again(reader: &mut SnapReader, told: Told) -> Result<(), OutOfMemory>
+    requires { told.pair ≡ reader.old.pair }
+    ensures { OnOk result (HasLooked told.list reader.old reader.new) }
 {
     reader.learn(told);
     drop(reader.latest()?);
-    if reader.entered() { Ok(size) } else { Ok(0) }
+    Ok(())
 }
 
-// The last looks of a worker's readers, in the order of the replicas.
+// The last looks of a worker's readers, in the order of the replicas: the readers, and their bounds.
 fn look_all(
     alloc: Global,
     readers: Vec<SnapReader>,
     tolds: Vec<Told>,
     sizes: &[u64],
-) -> Result<Vec<u64>, OutOfMemory>
+) -> Result<(Vec<SnapReader>, Vec<u64>), OutOfMemory>
     requires pairs { told_pairs tolds.items ≡ pairs_of readers.items }
     requires sizes { sizes.now ≡ map (λ (h : List Operation). length h) (told_lists tolds.items) }
-    ensures count { IfOk result (λ v. length v.items ≡ length tolds.items) }
-    ensures bounds { IfOk result (λ v. AllAt
-        (IsBound (told_lists tolds.items) readers.items) v.items) }
+    ensures looked { IfOk result (λ r. HaveLooked (told_lists tolds.items) readers.items
+        r.0.items) }
+    ensures bounds_are { IfOk result (λ r. AreBounds (told_lists tolds.items) r.0.items r.1.items) }
+    ensures count { IfOk result (λ r. length r.1.items ≡ length tolds.items) }
+    ensures bounds { IfOk result (λ r. AllAt
+        (IsBound (told_lists tolds.items) readers.items) r.1.items) }
 {
+    let mut looked = Vec::new(alloc);
     let mut bounds = Vec::new(alloc);
     let mut readers = readers.into_iter();
     let mut tolds = tolds.into_iter();
@@ -62,9 +77,11 @@ fn look_all(
         let (Some(reader), Some(told)) = (readers.next(), tolds.next()) else {
             unreachable!()
         };
-        bounds.push(look_last(reader, told, *size)?)?;
+        let (reader, bound) = look_last(reader, told, *size)?;
+        looked.push(reader)?;
+        bounds.push(bound)?;
     }
-    Ok(bounds)
+    Ok((looked, bounds))
 }
 
 // The answer as it is, where it is on no more operations than its replica's bound; else it is made anew on what the replica is at
@@ -170,8 +187,8 @@ fn renew_each<R: Threads + Sync, Q: Query<A> + Drop, A: Drop>(
     Ok(())
 }
 
-/// The answers of a worker, renewed, the last of them first: those that its readers gave on more than was last published are made
-/// anew.
+/// The answers of a worker, renewed, the last of them first: those that its readers gave on more than was last published, and all of
+/// a reader that did not enter at its last look, are made anew. Gives the readers back too.
 ///
 /// # Errors
 ///
@@ -184,7 +201,7 @@ pub(crate) fn renew_worker<R: Threads + Sync, Q: Query<A> + Drop, A: Drop>(
     tolds: Vec<Told>,
     sizes: &[u64],
     lasts: &[Snapshot],
-) -> Result<Vec<Answer<Q, A>>, OutOfMemory>
+) -> Result<(Vec<Answer<Q, A>>, Vec<SnapReader>), OutOfMemory>
     requires own { done.queue ≡ inbox.queue }
     requires ended { IsEnded inbox.sent × IsEnded done.taken }
     requires answered { IfSome done.answers (λ v. HasAnswered Q.plain
@@ -193,10 +210,13 @@ pub(crate) fn renew_worker<R: Threads + Sync, Q: Query<A> + Drop, A: Drop>(
     requires sizes { sizes.now ≡ map (λ (h : List Operation). length h) (told_lists tolds.items) }
     requires fronts { AllZip IsFront (told_lists tolds.items) lasts.now }
     requires asked { All (IsPast lasts.now) (asks_of inbox.sent) }
-    ensures { IfOk result (λ v. AreFinal Q.plain lasts.now (asks_of inbox.sent)
-        (reverse v.items)) }
+    ensures ended { IfOk result (λ r. AreFinal Q.plain lasts.now (asks_of inbox.sent)
+        (reverse r.0.items)) }
+    ensures renewed { IfOk result (λ r. HasRenewed Q.plain (told_lists tolds.items) lasts.now done
+        r.1.items (reverse r.0.items)) }
 {
     let (readers, answers) = collect(inbox, done)?;
-    let bounds = look_all(alloc, readers, tolds, sizes)?;
-    renew_all(rt, alloc, answers, bounds.as_slice(), lasts)
+    let (looked, bounds) = look_all(alloc, readers, tolds, sizes)?;
+    let renewed = renew_all(rt, alloc, answers, bounds.as_slice(), lasts)?;
+    Ok((renewed, looked))
 }

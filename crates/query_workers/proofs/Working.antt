@@ -1,5 +1,5 @@
 -- A worker that has answered one job more.
-use Rattle.std.proofs.Common.{Bool, true, false, ◌≡◌, ◌<◌, ℕ, List, [], ◌∷◌, ◌++◌, set, get_or, length, sym, ap, ◌∙◌, subst, arith, get_or-set_same, Option, Result, Ok, Err, IfOk, IfSome}
+use Rattle.std.proofs.Common.{Bool, true, false, ◌≡◌, ◌<◌, ℕ, List, [], ◌∷◌, ◌++◌, set, get_or, length, sym, ap, ◌∙◌, subst, arith, get_or-set_same, Option, Result, Ok, Err, IfOk, IfSome, Some}
 use Rattle.std.specs.Option.{option_map}
 use Rattle.std.specs.Result.{result_ok}
 use Rattle.std.specs.List.{All, AllPairs}
@@ -81,6 +81,9 @@ module _ {Q A : Type 0} (plain : Q → List Operation → A) where
 
 pub if_ok : {V X E : Type 0} (f : V → X) (P : X → Type 0) (o : Option X) (r : Result V E) (v : V) → o ≡ option_map f (result_ok r) → r ≡ Ok v → IfSome o P → P (f v)
 if_ok f P o r v same ok h = subst (λ o. IfSome o P) (same ∙ ap (λ r. option_map f (result_ok r)) ok) h
+
+pub gave : {V X E : Type 0} (f : V → X) (o : Option X) (r : Result V E) (v : V) → o ≡ option_map f (result_ok r) → r ≡ Ok v → o ≡ Some (f v)
+gave f o r v same ok = same ∙ ap (λ r. option_map f (result_ok r)) ok
 
 pub if_some : {V X E : Type 0} (f : V → X) (r : Result V E) (P : X → Type 0) → IfOk r (λ v. P (f v)) → IfSome (option_map f (result_ok r)) P
 if_some f (Ok v) P h = h

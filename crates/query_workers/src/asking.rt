@@ -23,7 +23,7 @@ impl<Q: Drop> Inbox<Q> {
     }
 
     /// Puts query `number` of the replica at place `index`, with what was last published to the pair that the inbox's worker,
-    /// `worker`, has there. Waits for nobody.
+    /// `worker`, has there. May wait for its slot in the queue, and for no answer.
     ///
     /// # Errors
     ///
@@ -60,7 +60,7 @@ impl<Q: Drop> Inbox<Q> {
         Ok(())
     }
 
-    /// Puts the end mark. Waits for nobody.
+    /// Puts the end mark. May wait for its slot in the queue, and for no answer.
     pub fn end<R: Wait>(&mut self, rt: &R)
         requires { length self.old.sent < self.old.room }
         ensures { self.new ≡ put_into self.old Entry.End }

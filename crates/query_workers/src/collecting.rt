@@ -1,5 +1,5 @@
 //! What a worker has answered, once it and the editor have ended.
-ghost use Rattle.std.specs.Prelude.{◌≡◌, IfOk, IfSome};
+ghost use Rattle.std.specs.Prelude.{◌≡◌, IfOk, IfSome, Some};
 ghost use Rattle.query_workers.specs.Queue.{IsEnded};
 ghost use Rattle.query_workers.specs.Asks.{asks_of};
 ghost use Rattle.query_workers.specs.Answers.{HasAnswered};
@@ -10,7 +10,7 @@ use crate::query::{Answer, Query};
 use crate::steps::join;
 use snapshot_pub::SnapReader;
 
-/// The readers of a worker, and its answers: one to each job that was put into its inbox, in their order.
+/// The readers of a worker, and the answers that it gave: one to each job that was put into its inbox, in their order.
 ///
 /// # Errors
 ///
@@ -24,6 +24,7 @@ pub fn collect<Q: Query<A> + Drop, A: Drop>(
     requires answered { IfSome done.answers (λ v. HasAnswered Q.plain
         (asks_of done.taken) done.readers v) }
     ensures readers { IfOk result (λ r. r.0.items ≡ done.readers) }
+    ensures gave { IfOk result (λ r. done.answers ≡ Some r.1.items) }
     ensures answered { IfOk result (λ r. HasAnswered Q.plain
         (asks_of inbox.sent) done.readers r.1.items) }
 {

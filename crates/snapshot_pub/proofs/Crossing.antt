@@ -42,7 +42,7 @@ pub reader_sent : IsSend reader.the_row
 reader_sent = search (reader_inside_sent, sendable) depth 60 fits 20000
 
 side_sent : IsSend side.the_row
-side_sent = declared_send side.the_type (search ends depth 60 fits 20000, (growth.the_send, (search plain depth 60 fits 20000, tt)))
+side_sent = declared_send side.the_type (search ends depth 60 fits 20000, (growth.the_send, tt))
 
 publisher_inside_sent : IsSend publisher_inside.the_row
 publisher_inside_sent = declared_send publisher_inside.the_type (search (side_sent, crosses, sendable) depth 60 fits 20000, tt)

@@ -1,18 +1,22 @@
 -- Each step of a pair keeps its rule.
-use Rattle.std.proofs.Common.{◌≡◌, ◌≢◌, ℕ, List, [], ◌∷◌, ◌++◌, map, set, fold, sym, refl, ap, ◌∙◌, subst, ⊎_elim, arith, get_or}
+use Rattle.std.proofs.Common.{◌≡◌, ◌≢◌, ℕ, Bool, true, false, List, [], ◌∷◌, ◌++◌, length, set, sym, refl, ap, ◌∙◌, subst, inl, inr, ⊎_elim, arith, get_or}
 use mathlib.Core.Option.{some, some-ne-none}
 use lib.ListN.{get_elem?}
+use lib.Dec.{leb}
 use Rattle.std.specs.List.{All}
-use Rattle.std.proofs.lemmas.List.Elements.{All-nil}
+use Rattle.std.proofs.lemmas.Bool.Decides.{nat_tests}
+use Rattle.std.proofs.lemmas.List.Elements.{All-cons, All-map, All-nil}
 use Rattle.std.proofs.lemmas.List.Sums.{fold-append}
 use Rattle.crossbeam_utils.specs.Register.{Admits, TurnsAt, Forks, Merges}
 use Rattle.atomic_table.proofs.Lists.{at_set, at_snoc}
+use Rattle.op_model.specs.declared.operation.Operation.{Operation}
 use Rattle.op_model.proofs.Elements.{All-single}
 use Rattle.snapshot_pub.specs.declared.kept.Kept.{Kept}
 use Rattle.logbook.specs.Pages.{Book}
 use Rattle.text_buffer.specs.Document.{IsFront}
-use Rattle.snapshot_pub.specs.Rule.{Follows, KeepsAll, Sees}
-use Rattle.snapshot_pub.specs.Fields.{seen_list}
+use Rattle.snapshot_pub.specs.Rule.{AreOf, Follows, IsSeen, KeepsAll, MaySee, Sees, last_of}
+use Rattle.snapshot_pub.specs.Fields.{seen_lists}
+use Rattle.snapshot_pub.specs.States.{SeesMore}
 use Rattle.text_buffer.proofs.Fronts.{front_itself, front_trans}
 
 pub follows_itself : (x : Kept) → Follows x x
@@ -37,13 +41,28 @@ begins x = keeps_more x [] [] (λ j u e. absurd (some-ne-none u (sym e))) (All-n
 pub admits : Admits KeepsAll []
 admits x views h = keeps_more x views [] h (All-nil (Follows x))
 
--- what is shown goes from x to y, which follows it
-pub turns : (seat : ℕ) (v : List Kept) (x y : Kept) → Follows y x → TurnsAt KeepsAll seat v x y (λ v _ y w. Sees v y w)
-turns seat v x y up views h at = (
+-- what is shown goes from x to y, which follows it, and the party sees w
+sees : (seat : ℕ) (x y : Kept) → Follows y x → (views : List (List Kept)) (w : List Kept) → KeepsAll x views → All (Follows y) w → KeepsAll y (set views seat w)
+sees seat x y up views w h mine = keeps_set y views seat w (λ j u e. all_follow x y up u (h j u e)) mine
+
+-- the writer keeps y alone
+pub shows : (seat : ℕ) (v : List Kept) (x y : Kept) → Follows y x → TurnsAt KeepsAll seat v x y (λ _ _ y w. w ≡ y ∷ [])
+shows seat v x y up views h at = (
   y ∷ [],
-  keeps_set y views seat (y ∷ []) (λ j u e. all_follow x y up u (h j u e)) (All-single (Follows y) y (follows_itself y)),
-  (all_follow x y up v (h seat v at), refl),
+  sees seat x y up views (y ∷ []) h (All-single (Follows y) y (follows_itself y)),
+  refl,
 )
+
+-- a reader keeps all that it saw
+pub turns : (n seat : ℕ) (v : List Kept) (x : Kept) → TurnsAt KeepsAll seat v x x (λ v _ y w. Sees n v y w)
+turns n seat v x views h at = by_length (leb n (length x.snapshot)) refl
+  where
+    mine : All (Follows x) v
+    mine = h seat v at
+
+    by_length : (b : Bool) → leb n (length x.snapshot) ≡ b → (w : List Kept) × KeepsAll x (set views seat w) × Sees n v x w
+    by_length true is = (x ∷ v, sees seat x x (follows_itself x) views (x ∷ v) h (All-cons (Follows x) x v (follows_itself x) mine), (mine, (λ le. refl), (λ lt. absurd (grind (arith, nat_tests)))))
+    by_length false is = (v, sees seat x x (follows_itself x) views v h mine, (mine, (λ le. absurd (grind (arith, nat_tests))), (λ lt. refl)))
 
 pub forks : (seat : ℕ) (v : List Kept) → Forks KeepsAll seat v v v
 forks seat v x views h at = let mine = h seat v at in keeps_more x (set views seat v) v (keeps_set x views seat v h mine) mine
@@ -54,25 +73,43 @@ merges seat v other w x views h at apart there =
     (at_set views seat other w w there) in
     keeps_set x (set views seat w) other [] (keeps_set x views seat w h theirs) (All-nil (Follows x))
 
--- the last of what is absorbed is what is shown
-pub last_shown : (shown kept next : Kept) (pending all : List Kept) → all ≡ pending ++ kept ∷ [] → next ≡ fold (λ _ s. s) shown all → next ≡ kept
-last_shown shown kept next pending all is e = e ∙ (ap (λ (l : List Kept). fold (λ _ s. s) shown l) is ∙ fold-append (λ _ s. s) shown pending (kept ∷ []))
+-- the last of what is pending
+pub last_of-more : (shown kept : Kept) (pending all : List Kept) → all ≡ pending ++ kept ∷ [] → last_of shown all ≡ kept
+last_of-more shown kept pending all is = ap (λ (l : List Kept). last_of shown l) is ∙ fold-append (λ (x y : Kept). y) shown pending (kept ∷ [])
 
-pub next_follows : (shown kept next : Kept) (pending all : List Kept) → all ≡ pending ++ kept ∷ [] → next ≡ fold (λ _ s. s) shown all → Follows kept shown → Follows next shown
-next_follows shown kept next pending all is e up = subst (λ (l : Kept). Follows l shown) (sym (last_shown shown kept next pending all is e)) up
+pub sees_also : (n : ℕ) (v u w z : List Kept) (x y : Kept) → Sees n v x w → u ≡ v → y ≡ x → z ≡ w → Sees n u y z
+sees_also n v u w z x y h d e f = subst (λ (p : List Kept × Kept × List Kept). Sees n p.0 p.1 p.2) (λ i. (sym d i, sym e i, sym f i)) h
 
-pub sees_also : (v u w z : List Kept) (x y : Kept) → Sees v x w → u ≡ v → y ≡ x → z ≡ w → Sees u y z
-sees_also v u w z x y h d e f = subst (λ (p : List Kept × Kept × List Kept). Sees p.0 p.1 p.2) (λ i. (sym d i, sym e i, sym f i)) h
+-- what has no fewer operations is seen, and what has fewer is not
+pub may_see : (n : ℕ) (v w : List Kept) (y : Kept) → Sees n v y w → MaySee v w
+may_see n v w y h = by_length (leb n (length y.snapshot)) refl
+  where
+    by_length : (b : Bool) → leb n (length y.snapshot) ≡ b → MaySee v w
+    by_length true is = record { either = inr (y, record { follows = h.0; is = h.1 (grind (arith, nat_tests)) }) }
+    by_length false is = record { either = inl (h.2 (grind (arith, nat_tests))) }
 
--- what was seen before begins what is seen
-pub seen_grows : (v w : List Kept) (y : Kept) → Sees v y w → IsFront (seen_list v) (seen_list w)
-seen_grows [] w y h = (seen_list w, refl)
-seen_grows (k ∷ ks) w y h = subst (λ (l : List Kept). IsFront k.snapshot (seen_list l)) (sym h.1) (h.0 0 k (omega arith)).1
+-- where the view is seen as lists
+pub lists_seen : (v w : List Kept) (k : Kept) → IsSeen v k w → SeesMore (seen_lists v) (seen_lists w)
+lists_seen v w k h = inr (k.snapshot, All-map (λ (x : List Operation). IsFront x k.snapshot) (λ (x : Kept). x.snapshot) v (λ j d below. (h.follows j d below).1), ap seen_lists h.is)
 
--- what is seen is of the pair that was seen before
-pub seen_pair : (v w : List Kept) (y : Kept) (b : Book) → map (λ (k : Kept). k.reached.book) v ≡ b ∷ [] → Sees v y w → y.reached.book ≡ b
-seen_pair [] w y b own h = absurd (cc own)
-seen_pair (k ∷ ks) w y b own h = sym (h.0 0 k (omega arith)).0 ∙ cc own
+pub lists_may : (v w : List Kept) → MaySee v w → SeesMore (seen_lists v) (seen_lists w)
+lists_may v w h = ⊎_elim (λ (e : w ≡ v). inl (ap seen_lists e)) (λ (t : (k : Kept) × IsSeen v k w). lists_seen v w t.0 t.1) h.either
 
-pub seen_own : (v w : List Kept) (y : Kept) (b : Book) → map (λ (k : Kept). k.reached.book) v ≡ b ∷ [] → Sees v y w → map (λ (k : Kept). k.reached.book) w ≡ b ∷ []
-seen_own v w y b own h = ap (map (λ (k : Kept). k.reached.book)) h.1 ∙ ap (λ (c : Book). c ∷ []) (seen_pair v w y b own h)
+-- what is seen is of the log of what was seen before
+pub seen_pair : (v w : List Kept) (k : Kept) (b : Book) → AreOf b v → IsSeen v k w → k.reached.book ≡ b
+seen_pair v w k b own h = sym (h.follows 0 k own.0).0 ∙ own.1 0 k own.0
+
+pub seen_own : (v w : List Kept) (k : Kept) (b : Book) → AreOf b v → IsSeen v k w → AreOf b w
+seen_own v w k b own h =
+    subst (λ (l : List Kept). AreOf b l) (sym h.is) (omega arith, All-cons (λ (x : Kept). x.reached.book ≡ b) k v (seen_pair v w k b own h) own.1)
+
+pub may_own : (v w : List Kept) (b : Book) → AreOf b v → MaySee v w → AreOf b w
+may_own v w b own h = ⊎_elim (λ (e : w ≡ v). subst (λ (l : List Kept). AreOf b l) (sym e) own) (λ (t : (k : Kept) × IsSeen v k w). seen_own v w t.0 b own t.1) h.either
+
+-- what follows all that was seen is of the same log
+pub own_book : (b : Book) (v : List Kept) (y : Kept) → AreOf b v → All (Follows y) v → b ≡ y.reached.book
+own_book b v y own h = sym (own.1 0 y own.0) ∙ (h 0 y own.0).0
+
+-- what is pending stands for the same, where nothing has changed
+pub pending_follows : (x y next : Kept) (ps qs : List Kept) → y ≡ x → qs ≡ ps → next ≡ last_of y qs → Follows (last_of x ps) x → Follows next y
+pending_follows x y next ps qs d e is h = subst (λ (p : Kept × Kept). Follows p.0 p.1) (λ i. ((sym (is ∙ (λ j. last_of (d j) (e j)))) i, sym d i)) h

@@ -1,7 +1,7 @@
 -- Fronts of what a log comes to.
 use Rattle.std.proofs.lemmas.Bool.Decides.{nat_tests}
 use lib.Dec.{leb}
-use Rattle.std.proofs.Common.{◌≡◌, Bool, true, false, MatchBool, List, ◌++◌, length, refl, ap, sym, subst, ◌∙◌, arith}
+use Rattle.std.proofs.Common.{◌≡◌, ℕ, ◌<◌, ◌≤◌, Bool, true, false, MatchBool, List, ◌++◌, length, refl, ap, sym, subst, ◌∙◌, arith}
 use Rattle.std.proofs.lemmas.List.Concat.{flat_map-append}
 use mathlib.Core.List.{IsPrefix}
 use Rattle.op_model.specs.declared.operation.Operation.{Operation}
@@ -30,3 +30,10 @@ longer_begins a b log xs ys p q d e = by_length (leb (length ys) (length xs)) re
     by_length : (t : Bool) → leb (length ys) (length xs) ≡ t → MatchBool t (IsFront ys xs) (IsFront xs ys)
     by_length true is = front_shorter ys xs (log_list log) other one (grind (arith, nat_tests))
     by_length false is = front_shorter xs ys (log_list log) one other (grind (arith, nat_tests))
+
+pub leb_cases : (m n : ℕ) → MatchBool (leb m n) (m ≤ n) (n < m)
+leb_cases m n = by_length (leb m n) refl
+  where
+    by_length : (t : Bool) → leb m n ≡ t → MatchBool t (m ≤ n) (n < m)
+    by_length true is = grind (arith, nat_tests)
+    by_length false is = grind (arith, nat_tests)

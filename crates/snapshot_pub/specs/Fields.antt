@@ -1,9 +1,10 @@
 -- What the fields of a publisher, a reader and a token stand for.
-use Rattle.std.specs.Prelude.{◌≡◌, ℕ, List, [], ◌∷◌, map, replicate, All}
+use Rattle.std.specs.Prelude.{◌≡◌, ℕ, List, map, replicate, All}
 use Rattle.left_right.specs.Sides.{view}
 use Rattle.logbook.specs.Pages.{Book}
 use Rattle.op_model.specs.declared.operation.Operation.{Operation}
 use Rattle.snapshot_pub.specs.Logs.{log_list}
+use Rattle.snapshot_pub.specs.Rule.{AreOf}
 use Rattle.snapshot_pub.specs.States.{PublisherState, ReaderState, ToldState, HasLearned}
 use Rattle.snapshot_pub.specs.declared.kept.Kept.{Kept}
 use Rattle.snapshot_pub.specs.declared.publisher.Side.{Side}
@@ -22,22 +23,21 @@ side_list s = s.end.desk.shown.value.snapshot
 abbrev pub publisher_state : PublisherInside → PublisherState
 publisher_state p = record { pairs = map side_pair p.sides.items; published = map side_list p.sides.items }
 
--- the list of what was seen last
-abbrev pub seen_list : List Kept → List Operation
-seen_list [] = []
-seen_list (k ∷ ks) = k.snapshot
+-- the lists of what was seen
+abbrev pub seen_lists : List Kept → List (List Operation)
+seen_lists v = map (λ (k : Kept). k.snapshot) v
 
 abbrev pub reader_state : ReaderInside → ReaderState
 reader_state r = record {
   pair = r.longest.reached.book;
   longest = r.longest.snapshot;
-  seen = seen_list (view r.end.place);
+  seen = seen_lists (view r.end.place);
   entered = r.entered;
 }
 
--- one snapshot was seen last, and it is of the reader's own pair
+-- something was seen, and all of it is of the reader's own pair
 abbrev pub IsOwn : ReaderInside → Type 0
-IsOwn r = map (λ (k : Kept). k.reached.book) (view r.end.place) ≡ r.longest.reached.book ∷ []
+IsOwn r = AreOf r.longest.reached.book (view r.end.place)
 
 abbrev pub told_state : ToldInside → ToldState
 told_state t = record { pair = t.kept.reached.book; list = t.kept.snapshot }

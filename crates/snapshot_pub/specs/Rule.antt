@@ -1,7 +1,8 @@
 -- The rule of a pair: what is shown begins with all that each party has seen.
-use Rattle.std.specs.Prelude.{◌≡◌, ℕ, List, [], ◌∷◌, All}
+use Rattle.std.specs.Prelude.{◌≡◌, ◌⊎◌, ℕ, ◌<◌, ◌≤◌, List, ◌∷◌, length, fold, All}
 use mathlib.Core.Option.{some}
 use lib.ListN.{get_elem?}
+use Rattle.logbook.specs.Pages.{Book}
 use Rattle.text_buffer.specs.Document.{IsFront}
 use Rattle.snapshot_pub.specs.declared.kept.Kept.{Kept}
 
@@ -13,6 +14,26 @@ Follows y k = (k.reached.book ≡ y.reached.book) × IsFront k.snapshot y.snapsh
 abbrev pub KeepsAll : Kept → List (List Kept) → Type 0
 KeepsAll shown views = (seat : ℕ) (v : List Kept) → get_elem? views seat ≡ some v → All (Follows shown) v
 
--- y follows what was seen before, and is seen in its place
-abbrev pub Sees : List Kept → Kept → List Kept → Type 0
-Sees v y w = All (Follows y) v × (w ≡ y ∷ [])
+-- y follows what was seen before, and is seen, unless it has fewer than n operations
+abbrev pub Sees : ℕ → List Kept → Kept → List Kept → Type 0
+Sees n v y w =
+    All (Follows y) v
+    × (n ≤ length y.snapshot → w ≡ y ∷ v)
+    × (length y.snapshot < n → w ≡ v)
+
+-- k follows what was seen before, and is seen
+pub record IsSeen (v : List Kept) (k : Kept) (w : List Kept) : Type 0 where
+  pub follows : All (Follows k) v
+  pub is : w ≡ k ∷ v
+
+-- one snapshot more was seen, or none
+pub record MaySee (v w : List Kept) : Type 0 where
+  pub either : (w ≡ v) ⊎ ((k : Kept) × IsSeen v k w)
+
+-- something was seen, and all of it is of one log
+abbrev pub AreOf : Book → List Kept → Type 0
+AreOf b v = (0 < length v) × All (λ (k : Kept). k.reached.book ≡ b) v
+
+-- what comes last of those that are pending, or what is shown where none is
+abbrev pub last_of : Kept → List Kept → Kept
+last_of shown pending = fold (λ (x y : Kept). y) shown pending

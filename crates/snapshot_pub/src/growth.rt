@@ -1,13 +1,13 @@
 //! How far the list of a pair has grown: a log of all that was ever to be shown there. It is there for proofs; what is kept of it
 //! is the number of its operations.
-ghost use Rattle.std.specs.Prelude.{◌≡◌, [], length, MatchResult};
+ghost use Rattle.std.specs.Prelude.{◌≡◌, [], length, IfSome};
 ghost use Rattle.text_buffer.specs.Document.{IsFront};
 ghost use Rattle.snapshot_pub.specs.Logs.{log_list, word_of};
 
-use crate::OutOfMemory;
 use crate::kept::Kept;
 use logbook::{Gain, Offer, Plain, Play, Rule, Seen, Start, Word};
 use op_model::Operation;
+use std::sync::Wait;
 use text_buffer::Snapshot;
 
 /// What one snapshot adds to a log. No value of it is made: clauses read an array as a list, of any length.
@@ -86,28 +86,45 @@ impl Growth {
         }
     }
 
-    /// Adds what the snapshot has beyond the log. On want of memory the log is as before.
-    pub fn grow(&mut self, snapshot: Snapshot) -> Result<Kept, OutOfMemory>
+    /// Adds what the snapshot has beyond the log.
+    pub fn grow<R: Wait>(&mut self, rt: &R, snapshot: Snapshot) -> Kept
         requires { IsFront (log_list self.old.reached.log) snapshot }
         ensures book { self.new.reached.book ≡ self.old.reached.book }
-        ensures grown { MatchResult result (λ k. (k.snapshot ≡ snapshot)
-            × (k.reached ≡ self.new.reached)) (λ _. self.new.reached ≡ self.old.reached) }
+        ensures snapshot { result.snapshot ≡ snapshot }
+        ensures reached { result.reached ≡ self.new.reached }
     {
         let more = (self.operations, snapshot);
-        let reached = self.extend(&more)?;
-        Ok(Kept {
+        let reached = self.extend(rt, &more);
+        self.operations = more.1.applied().len();
+        self.reached = reached.again();
+        Kept {
             snapshot: more.1,
             reached,
-        })
+        }
     }
 
-    // Adds what the snapshot has beyond so many operations, as many as the log has. Gives the log as it is then.
-    fn extend(&mut self, more: &(u64, Snapshot)) -> Result<Reached, OutOfMemory>
-        requires count { more.now.0 ≡ self.old.operations }
-        requires front { IsFront (log_list self.old.reached.log) more.now.1 }
-        ensures book { self.new.reached.book ≡ self.old.reached.book }
-        ensures grown { MatchResult result (λ r. (r ≡ self.new.reached)
-            × (log_list r.log ≡ more.now.1)) (λ _. self.new.reached ≡ self.old.reached) }
+    // The log with what the snapshot has beyond so many operations, as many as the log has.
+    fn extend<R: Wait>(&self, rt: &R, more: &(u64, Snapshot)) -> Reached
+        requires count { more.now.0 ≡ self.now.operations }
+        requires front { IsFront (log_list self.now.reached.log) more.now.1 }
+        ensures book { result.book ≡ self.now.reached.book }
+        ensures grown { log_list result.log ≡ more.now.1 }
+    {
+        for _ in rt.forever() {
+            // The first try adds it: nobody else has the word, which its type cannot say.
+            if let Some(reached) = self.try_to_extend(more) {
+                return reached;
+            }
+        }
+        unreachable!()
+    }
+
+    // The same, by one exchange. `None` where the word is not as expected.
+    fn try_to_extend(&self, more: &(u64, Snapshot)) -> Option<Reached>
+        requires count { more.now.0 ≡ self.now.operations }
+        requires front { IsFront (log_list self.now.reached.log) more.now.1 }
+        ensures book { IfSome result (λ r. r.book ≡ self.now.reached.book) }
+        ensures grown { IfSome result (λ r. log_list r.log ≡ more.now.1) }
     {
         let operations = more.1.applied().len();
         let mut reached = self.reached.again();
@@ -127,12 +144,10 @@ impl Growth {
                 &mut offer,
                 &mut pen,
             );
-        // It never is: nobody else has the word, which its type cannot say.
-        if found != expected {
-            return Err(OutOfMemory);
+        if found == expected {
+            Some(reached)
+        } else {
+            None
         }
-        self.operations = operations;
-        self.reached = reached.again();
-        Ok(reached)
     }
 }

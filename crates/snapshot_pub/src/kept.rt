@@ -1,5 +1,5 @@
 //! A snapshot that remembers how far its pair had grown.
-ghost use Rattle.std.specs.Prelude.{◌≡◌, IfOk, MatchBool};
+ghost use Rattle.std.specs.Prelude.{◌≡◌, ◌<◌, ◌≤◌, length, IfOk, MatchBool};
 ghost use Rattle.text_buffer.specs.Document.{IsFront};
 ghost use Rattle.snapshot_pub.specs.Logs.{log_list};
 
@@ -27,11 +27,14 @@ impl Kept {
         })
     }
 
-    /// Whether it begins with the other one of the same pair, as the longer of two does: both begin what the log was since.
+    /// Whether it begins with the other one of the same pair, as the longer of two does: both begin the log as it is now.
     pub fn begins_with(&self, other: &Kept) -> bool
         requires { other.now.reached.book ≡ self.now.reached.book }
-        ensures { MatchBool result (IsFront other.now.snapshot self.now.snapshot)
+        ensures front { MatchBool result (IsFront other.now.snapshot self.now.snapshot)
             (IsFront self.now.snapshot other.now.snapshot) }
+        ensures length { MatchBool result
+            (length other.now.snapshot ≤ length self.now.snapshot)
+            (length self.now.snapshot < length other.now.snapshot) }
     {
         let mut both = self.reached.again();
         both.learn(&other.reached);

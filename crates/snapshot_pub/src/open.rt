@@ -11,7 +11,7 @@ use crate::kept::Kept;
 use crate::publisher::{Publisher, Side, close_all};
 use crate::reader::SnapReader;
 use crate::rule::Hand;
-use crate::steps::{ReadEnd, WriteEnd, show_in};
+use crate::steps::{ReadEnd, WriteEnd, show_first_in};
 use std::alloc::Global;
 use std::sync::Wait;
 use text_buffer::Snapshot;
@@ -92,14 +92,10 @@ fn open_pair<R: Wait>(
     ensures learned { IfOk result (λ r. HasLearned first.now r.1) }
     ensures own { IfOk result (λ r. r.1.pair ≡ r.0.growth.reached.book) }
 {
-    let (growth, longest) = begin_log(first)?;
+    let (growth, longest) = begin_log(rt, first)?;
     let (end, reader) = open_ends(rt, alloc, &longest)?;
     Ok((
-        Side {
-            end,
-            growth,
-            is_ahead: false,
-        },
+        Side { end, growth },
         SnapReader {
             end: reader,
             longest,
@@ -109,13 +105,13 @@ fn open_pair<R: Wait>(
 }
 
 // A log that comes to the list of the snapshot, and the snapshot with it.
-fn begin_log(first: &Snapshot) -> Result<(Growth, Kept), OutOfMemory>
+fn begin_log<R: Wait>(rt: &R, first: &Snapshot) -> Result<(Growth, Kept), OutOfMemory>
     ensures snapshot { IfOk result (λ r. r.1.snapshot ≡ first.now) }
     ensures reached { IfOk result (λ r. r.1.reached ≡ r.0.reached) }
 {
     let snapshot = first.share()?;
     let mut growth = Growth::new();
-    let longest = growth.grow(snapshot)?;
+    let longest = growth.grow(rt, snapshot);
     Ok((growth, longest))
 }
 
@@ -153,7 +149,7 @@ fn start<R: Wait>(rt: &R, end: &mut WriteEnd, kept: &Kept) -> Result<ReadEnd, Ou
     ensures told { OnOk result (view end.new.desk.place ≡ kept.now ∷ []) }
     ensures learned { IfOk result (λ r. view r.place ≡ kept.now ∷ []) }
 {
-    show_in(end, rt, kept.share()?)?;
+    show_first_in(end, rt, kept.share()?)?;
     make_reader(end)
 }
 

@@ -1,5 +1,5 @@
 //! The publisher: the writer's ends of all pairs.
-ghost use Rattle.std.specs.Prelude.{◌≡◌, false, ◌<◌, [], ◌∷◌, length, IfOk, MatchResult, slice_set, slice_index_or};
+ghost use Rattle.std.specs.Prelude.{◌≡◌, ◌<◌, [], ◌∷◌, length, IfOk, MatchResult, slice_set, slice_index_or};
 ghost use Rattle.left_right.specs.Sides.{view};
 ghost use Rattle.text_buffer.specs.Document.{IsFront};
 ghost use Rattle.snapshot_pub.specs.Logs.{log_list};
@@ -32,15 +32,13 @@ impl Model for Told {
 pub struct Side {
     pub(crate) end: WriteEnd,
     pub(crate) growth: Growth,
-    /// Whether the log has more than what is shown: memory ran out between the two. Nothing is published from then on.
-    pub(crate) is_ahead: bool,
     ghost seen: { view end.desk.place ≡ end.desk.shown.value ∷ [] },
     ghost own: { end.desk.shown.value.reached.book ≡ growth.reached.book },
-    ghost level: { is_ahead ≡ false → log_list growth.reached.log ≡ end.desk.shown.value.snapshot },
+    ghost level: { log_list growth.reached.log ≡ end.desk.shown.value.snapshot },
 }
 
 impl Side {
-    /// Shows the snapshot. On want of memory readers see what they saw.
+    /// Shows the snapshot. If an allocation fails, readers see what they saw.
     pub(crate) fn publish<R: Wait>(
         &mut self,
         rt: &R,
@@ -52,13 +50,11 @@ impl Side {
             ≡ snapshot.now) (λ _. self.new.end.desk.shown.value.snapshot
             ≡ self.old.end.desk.shown.value.snapshot) }
     {
-        if self.is_ahead {
-            return Err(OutOfMemory);
-        }
-        let kept = self.growth.grow(snapshot.share()?)?;
-        let shown = show_in(&mut self.end, rt, kept);
-        self.is_ahead = shown.is_err();
-        shown
+        // All that can fail comes first: once the log has grown, the snapshot is shown.
+        let snapshot = snapshot.share()?;
+        let kept = self.growth.grow(rt, snapshot);
+        show_in(&mut self.end, rt, kept);
+        Ok(())
     }
 
     /// What is shown.
@@ -76,7 +72,6 @@ impl Side {
         let Side {
             end,
             growth: _growth,
-            is_ahead: _,
         } = self;
         end.take(rt);
     }
@@ -108,8 +103,8 @@ impl Publisher {
     ///
     /// # Errors
     ///
-    /// `OutOfMemory` alone. What is published is then as before; where the memory ran out late, nothing is published to this pair
-    /// any more.
+    /// `OutOfMemory` alone: the count of the snapshot's owners is full. What is published is then as before, and a later call may
+    /// succeed.
     pub fn publish<R: Wait>(
         &mut self,
         rt: &R,

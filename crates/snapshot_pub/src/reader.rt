@@ -1,16 +1,17 @@
 //! The reader of a pair.
-ghost use Rattle.std.specs.Prelude.{◌≡◌, ◌⊎◌, true, false, IfOk, OnErr, OnOk};
+ghost use Rattle.std.specs.Prelude.{◌≡◌, ◌⊎◌, ◌∷◌, true, false, IfOk, OnErr, OnOk};
 ghost use Rattle.text_buffer.specs.Document.{IsFront};
+ghost use Rattle.snapshot_pub.specs.States.{SeesMore};
 
 use crate::OutOfMemory;
 use crate::kept::Kept;
 use crate::publisher::Told;
 use crate::steps::{ReadEnd, look_in};
-use std::marker::Model;
+use std::marker::{Brand, Model};
 use text_buffer::Snapshot;
 
 /// A reader of snapshots, which never gives one that lacks what it gave or learned before. Contracts see which pair it is of, the
-/// longest list that it gave or learned, the list that its last step enter saw, and whether the last Ok of `latest` entered.
+/// longest list that it gave or learned, the lists that its steps enter saw, and whether the last Ok of `latest` entered.
 ///
 /// # Examples
 ///
@@ -47,19 +48,20 @@ impl SnapReader {
     ///
     /// # Errors
     ///
-    /// `OutOfMemory` alone. What was given and learned is then as before.
+    /// `OutOfMemory` alone. What was given and learned is then as before; what is shown may have been seen.
     pub fn latest(&mut self) -> Result<Snapshot, OutOfMemory>
         ensures pair { self.new.pair ≡ self.old.pair }
         ensures gives { IfOk result (λ s. s ≡ self.new.longest) }
         ensures begins { IsFront self.old.longest self.new.longest }
-        ensures entered { OnOk result (self.new.entered ≡ true → self.new.seen ≡ self.new.longest) }
+        ensures entered { OnOk result (self.new.entered ≡ true
+            → self.new.seen ≡ self.new.longest ∷ self.old.seen) }
         ensures unentered { OnOk result (self.new.entered ≡ false
             → (self.new.longest ≡ self.old.longest) × (self.new.seen ≡ self.old.seen)) }
-        ensures seen { IsFront self.old.seen self.new.seen }
+        ensures seen { SeesMore self.old.seen self.new.seen }
         ensures err { OnErr result ((self.new.longest ≡ self.old.longest)
             × (self.new.entered ≡ self.old.entered)) }
     {
-        match look_in(&mut self.end)? {
+        match look_in::<Brand>(&mut self.end, &self.longest)? {
             Some(kept) => self.take(kept),
             None => {
                 let snapshot = self.longest.snapshot.share()?;
@@ -71,20 +73,16 @@ impl SnapReader {
 
     // Gives what the step enter has just seen.
     fn take(&mut self, kept: Kept) -> Result<Snapshot, OutOfMemory>
-        requires { kept.reached.book ≡ self.old.pair }
+        requires own { kept.reached.book ≡ self.old.pair }
+        requires begins { IsFront self.old.longest kept.snapshot }
         ensures pair { self.new.pair ≡ self.old.pair }
         ensures seen { self.new.seen ≡ self.old.seen }
         ensures gives { IfOk result (λ s. (s ≡ kept.snapshot)
             × (self.new.longest ≡ kept.snapshot)) }
-        ensures begins { IsFront self.old.longest self.new.longest }
         ensures entered { OnOk result (self.new.entered ≡ true) }
         ensures err { OnErr result ((self.new.longest ≡ self.old.longest)
             × (self.new.entered ≡ self.old.entered)) }
     {
-        // It always does: all that was told had been shown before. The rule of the pair, which knows no token, cannot say so.
-        if !kept.begins_with(&self.longest) {
-            return Err(OutOfMemory);
-        }
         let snapshot = kept.snapshot.share()?;
         self.longest = kept;
         self.entered = true;

@@ -1,16 +1,17 @@
 //! The steps of a pair. The kit's ends go through a step by value, so each step has a form in place too.
-ghost use Rattle.std.specs.Prelude.{◌≡◌, ◌++◌, ◌∷◌, [], drop, MatchOption, MatchResult, OnOk};
+ghost use Rattle.std.specs.Prelude.{◌≡◌, ◌++◌, ◌∷◌, [], drop, length, MatchOption, MatchResult, OnOk};
 ghost use Rattle.left_right.specs.Sides.{view};
-ghost use Rattle.snapshot_pub.specs.Rule.{Follows, Sees};
-ghost use Rattle.snapshot_pub.specs.declared.kept.Kept.{Kept};
+ghost use Rattle.text_buffer.specs.Document.{IsFront};
+ghost use Rattle.snapshot_pub.specs.Rule.{AreOf, Follows, IsSeen, MaySee, last_of};
 
 use crate::OutOfMemory;
 use crate::kept::Kept;
-use crate::rule::{See, Shown, View};
+use crate::rule::{Least, See, Show, Shown, View};
 use core::mem::replace_with;
 use left_right::reader::Reader;
 use left_right::writer::Writer;
 use std::sync::Wait;
+use std::thread;
 
 /// The reader's end of a pair.
 pub type ReadEnd = Reader<Kept, View, Shown>;
@@ -18,19 +19,31 @@ pub type ReadEnd = Reader<Kept, View, Shown>;
 /// The writer's end of a pair.
 pub type WriteEnd = Writer<Kept, Kept, View, Shown>;
 
-// A share of what is shown; none where the reader is handed back unentered.
-fn look(end: ReadEnd, _: ()) -> (ReadEnd, Result<Option<Kept>, OutOfMemory>)
-    ensures { MatchResult result.1
-        (λ o. MatchOption o (view result.0.place ≡ view end.place)
-        (λ k. Sees (view end.place) k (view result.0.place)))
-        (λ _. (k : Kept) × Sees (view end.place) k (view result.0.place)) }
+// A share of what is shown; `None` where the reader is handed back unentered.
+fn look<B: Least>(end: ReadEnd, longest: &Kept) -> (ReadEnd, Result<Option<Kept>, OutOfMemory>)
+    requires least { B.least ≡ length longest.now.snapshot }
+    requires own { AreOf longest.now.reached.book (view end.place) }
+    ensures seen { MatchResult result.1 (λ o. MatchOption o (view result.0.place ≡ view end.place)
+        (λ k. IsSeen (view end.place) k (view result.0.place)))
+        (λ _. MaySee (view end.place) (view result.0.place)) }
+    ensures begins { MatchResult result.1
+        (λ o. MatchOption o (Unit {0}) (λ k. IsFront longest.now.snapshot k.snapshot))
+        (λ _. Unit {0}) }
 {
-    match end.enter_as::<See>() {
+    match end.enter_as::<See<B>>() {
         Ok(reading) => {
             let shared = reading.get().share();
             let end = reading.leave();
             match shared {
-                Ok(kept) => (end, Ok(Some(kept))),
+                Ok(kept) => {
+                    // It always begins with the longest: all that the reader was told had been shown before. The rule of the pair,
+                    // which knows no token, cannot say so; so what does not begin with it does not count as seen.
+                    if kept.begins_with(longest) {
+                        (end, Ok(Some(kept)))
+                    } else {
+                        (end, Ok(None))
+                    }
+                }
                 Err(refused) => (end, Err(refused)),
             }
         }
@@ -38,39 +51,55 @@ fn look(end: ReadEnd, _: ()) -> (ReadEnd, Result<Option<Kept>, OutOfMemory>)
     }
 }
 
-/// A share of what is shown, by the step enter; none where the reader is handed back unentered.
-pub(crate) fn look_in(end: &mut ReadEnd) -> Result<Option<Kept>, OutOfMemory>
-    ensures { MatchResult result (λ o. MatchOption o (view end.new.place ≡ view end.old.place)
-        (λ k. Sees (view end.old.place) k (view end.new.place)))
-        (λ _. (k : Kept) × Sees (view end.old.place) k (view end.new.place)) }
+/// A share of what is shown, by the step enter, which begins with the longest; `None` where the reader is handed back unentered.
+pub(crate) fn look_in<B: Least>(
+    end: &mut ReadEnd,
+    longest: &Kept,
+) -> Result<Option<Kept>, OutOfMemory>
+    requires least { B.least ≡ length longest.now.snapshot }
+    requires own { AreOf longest.now.reached.book (view end.old.place) }
+    ensures seen { MatchResult result (λ o. MatchOption o (view end.new.place ≡ view end.old.place)
+        (λ k. IsSeen (view end.old.place) k (view end.new.place)))
+        (λ _. MaySee (view end.old.place) (view end.new.place)) }
+    ensures begins { MatchResult result
+        (λ o. MatchOption o (Unit {0}) (λ k. IsFront longest.now.snapshot k.snapshot))
+        (λ _. Unit {0}) }
 {
-    replace_with(end, (), look)
+    replace_with(end, longest, |end, longest| look::<B>(end, longest))
 }
 
-// Shows what follows what is shown.
-fn show<R: Wait>(end: WriteEnd, rt: &R, kept: Kept) -> (WriteEnd, Result<(), OutOfMemory>)
-    requires { Follows kept end.desk.shown.value }
-    ensures shown { MatchResult result.1 (λ _. result.0.desk.shown.value ≡ kept)
-        (λ _. result.0.desk.shown.value ≡ end.desk.shown.value) }
-    ensures seen { MatchResult result.1
-        (λ _. Sees (view end.desk.place) kept (view result.0.desk.place))
-        (λ _. view result.0.desk.place ≡ view end.desk.place) }
+// Shows the last of what is pending. It may have to try again, as long as the count of a snapshot's owners is full.
+fn turn<R: Wait>(end: WriteEnd, rt: &R) -> WriteEnd
+    requires { Follows (last_of end.desk.shown.value (drop end.behind end.log.items))
+        end.desk.shown.value }
+    ensures shown { result.desk.shown.value
+        ≡ last_of end.desk.shown.value (drop end.behind end.log.items) }
+    ensures seen { view result.desk.place ≡ result.desk.shown.value ∷ [] }
 {
     let mut end = end;
-    match put_last(&mut end, kept) {
-        Ok(()) => {
-            let (end, published) = end.publish_as::<See, R>(rt);
-            match published {
-                Ok(()) => (end, Ok(())),
-                Err(refused) => (end, Err(refused)),
-            }
+    for _ in rt.forever() {
+        let (next, shown) = end.publish_as::<Show, R>(rt);
+        end = next;
+        match shown {
+            Ok(()) => return end,
+            Err(_refused) => thread::yield_now(),
         }
-        Err(refused) => (end, Err(refused)),
     }
+    unreachable!()
 }
 
-// Puts the snapshot behind what is pending. On want of memory it is dropped.
-fn put_last(end: &mut WriteEnd, kept: Kept) -> Result<(), OutOfMemory>
+fn turn_in<R: Wait>(end: &mut WriteEnd, rt: &R)
+    requires { Follows (last_of end.old.desk.shown.value (drop end.old.behind end.old.log.items))
+        end.old.desk.shown.value }
+    ensures shown { end.new.desk.shown.value
+        ≡ last_of end.old.desk.shown.value (drop end.old.behind end.old.log.items) }
+    ensures seen { view end.new.desk.place ≡ end.new.desk.shown.value ∷ [] }
+{
+    replace_with(end, rt, |end, rt| (turn(end, rt), ()))
+}
+
+// Puts the snapshot behind what is pending, and makes room for it. If an allocation fails, it is dropped.
+fn put_first(end: &mut WriteEnd, kept: Kept) -> Result<(), OutOfMemory>
     ensures desk { end.new.desk ≡ end.old.desk }
     ensures pending { OnOk result (drop end.new.behind end.new.log.items
         ≡ drop end.old.behind end.old.log.items ++ kept ∷ []) }
@@ -81,13 +110,44 @@ fn put_last(end: &mut WriteEnd, kept: Kept) -> Result<(), OutOfMemory>
     }
 }
 
-/// Shows what follows what is shown, by one exchange. On want of memory readers see what they saw.
-pub(crate) fn show_in<R: Wait>(end: &mut WriteEnd, rt: &R, kept: Kept) -> Result<(), OutOfMemory>
-    requires { Follows kept end.old.desk.shown.value }
-    ensures shown { MatchResult result (λ _. end.new.desk.shown.value ≡ kept)
-        (λ _. end.new.desk.shown.value ≡ end.old.desk.shown.value) }
-    ensures seen { MatchResult result (λ _. Sees (view end.old.desk.place) kept
-        (view end.new.desk.place)) (λ _. view end.new.desk.place ≡ view end.old.desk.place) }
+// Puts the snapshot behind what is pending, where there is room.
+fn put_last<R: Wait>(end: &mut WriteEnd, rt: &R, kept: Kept)
+    ensures desk { end.new.desk ≡ end.old.desk }
+    ensures pending { drop end.new.behind end.new.log.items
+        ≡ drop end.old.behind end.old.log.items ++ kept ∷ [] }
 {
-    replace_with(end, (rt, kept), |end, (rt, kept)| show(end, rt, kept))
+    let mut kept = kept;
+    for _ in rt.forever() {
+        match end.append(kept) {
+            Ok(()) => return,
+            Err(back) => kept = back,
+        }
+        thread::yield_now();
+    }
+    unreachable!()
+}
+
+/// Shows the first snapshot, and makes the room in which each later one is put.
+pub(crate) fn show_first_in<R: Wait>(
+    end: &mut WriteEnd,
+    rt: &R,
+    kept: Kept,
+) -> Result<(), OutOfMemory>
+    requires { Follows kept end.old.desk.shown.value }
+    ensures shown { OnOk result (end.new.desk.shown.value ≡ kept) }
+    ensures seen { OnOk result (view end.new.desk.place ≡ kept ∷ []) }
+{
+    put_first(end, kept)?;
+    turn_in(end, rt);
+    Ok(())
+}
+
+/// Shows what follows what is shown, by one exchange. Does not allocate: there is room since the first was shown.
+pub(crate) fn show_in<R: Wait>(end: &mut WriteEnd, rt: &R, kept: Kept)
+    requires { Follows kept end.old.desk.shown.value }
+    ensures shown { end.new.desk.shown.value ≡ kept }
+    ensures seen { view end.new.desk.place ≡ kept ∷ [] }
+{
+    put_last(end, rt, kept);
+    turn_in(end, rt);
 }

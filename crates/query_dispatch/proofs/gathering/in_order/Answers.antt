@@ -1,8 +1,8 @@
-use Rattle.std.proofs.Common.{◌≡◌, ◌%◌, ◌+◌, ◌<◌, ℕ, List, [], ◌∷◌, ◌++◌, length, reverse, set, Vec, Global, sym, ap, ◌∙◌, subst, arith, refl, length-append}
+use Rattle.std.proofs.Common.{◌≡◌, ◌%◌, ◌+◌, ◌<◌, ◌≤◌, ℕ, List, [], ◌∷◌, ◌++◌, length, reverse, set, Vec, Global, sym, ap, ◌∙◌, subst, arith, refl, length-append}
 use Rattle.std.proofs.lemmas.List.{reverse-append, length-set}
 use Rattle.std.proofs.lemmas.Nat.{mod_below}
 use Rattle.query_workers.specs.declared.query.Answer.{Answer}
-use Rattle.query_dispatch.proofs.Merges.{left_more, some_left, turn_at_place, turns_end, IsTurn}
+use Rattle.query_dispatch.proofs.Merges.{left_more, some_left, turn_at_place, turns_end, whole_list, IsTurn}
 use Rattle.query_dispatch.proofs.gathering.in_order.Goals as goal
 
 pub unreachable-requires : goal.unreachable-requires
@@ -44,5 +44,11 @@ pub returns : goal.returns
 returns g c = λ lasts asks numbers count final.
     let list = Vec (Answer g.row.Q.Denot g.row.A.Denot) Global in
     let n = length c.args.lists.items in
-    turns_end g.Q.Query.plain lasts n asks (λ (r : list). reverse r.items) c.args.lists.items numbers c.loop-turn.turn c.loop-turn.answers.items c.loop-turn.lists.items c.loop-turn.answers (omega (arith, c.loop-turn-test.false, count)) c.loop-turn.invariant.count
-    (c.loop-turn.invariant.turns lasts asks numbers count final) c.requires.some (λ w r within. (final w r within).never_fewer) refl
+    let plain = g.Q.Query.plain in
+    let f : list → List (Answer g.row.Q.Denot g.row.A.Denot) = λ r. reverse r.items in
+    let done : length asks ≤ c.loop-turn.turn = omega (arith, c.loop-turn-test.false, count) in
+    let turns = c.loop-turn.invariant.turns lasts asks numbers count final in (
+      turns_end plain lasts n asks f c.args.lists.items numbers c.loop-turn.turn c.loop-turn.answers.items c.loop-turn.lists.items c.loop-turn.answers done c.loop-turn.invariant.count
+          turns c.requires.some (λ w r within. (final w r within).never_fewer) refl,
+      λ w r within. whole_list plain lasts n asks f c.args.lists.items numbers c.loop-turn.turn c.loop-turn.answers.items c.loop-turn.lists.items r done c.loop-turn.invariant.count turns w within,
+    )

@@ -3,7 +3,7 @@ use Rattle.query_workers.specs.Asks.{Ask, asks_of}
 use Rattle.query_workers.specs.Answers.{HasAnswered}
 use Rattle.query_workers.specs.States.{DoneState, InboxState}
 use Rattle.query_workers.proofs.Jobs.{all_taken}
-use Rattle.query_workers.proofs.Working.{if_ok}
+use Rattle.query_workers.proofs.Working.{gave, if_ok}
 use Rattle.query_workers.proofs.collecting.collect.Goals as goal
 
 pub returns-clause-answered : goal.returns-clause-answered
@@ -15,3 +15,6 @@ returns-clause-answered g c =
     let same = all_taken inbox.sent done.taken left.0 c.requires.ended.0 c.requires.ended.1 left.1 in
     let at = if_ok (λ v. v.items) (HasAnswered g.Q.Query.plain (asks_of done.taken) done.readers) done.answers c.done.inside.answers c.in_ok-answers.field-0 (sym (ap (λ (d : DoneState g.row.Q.Denot g.row.A.Denot). d.answers) c.done.view_is)) c.in_ok-answers.was c.requires.answered in
     subst (λ (ks : List (Ask g.row.Q.Denot)). HasAnswered g.Q.Query.plain ks done.readers c.in_ok-answers.field-0.items) (sym same) at
+
+pub returns-clause-gave : goal.returns-clause-gave
+returns-clause-gave g c = gave (λ v. v.items) c.args.done.answers c.done.inside.answers c.in_ok-answers.field-0 (sym (ap (λ (d : DoneState g.row.Q.Denot g.row.A.Denot). d.answers) c.done.view_is)) c.in_ok-answers.was

@@ -3,7 +3,7 @@ use Rattle.text_buffer.specs.Document.{IsFront}
 use Rattle.snapshot_pub.specs.Logs.{log_list}
 use Rattle.text_buffer.proofs.Fronts.{front-rest}
 use Rattle.snapshot_pub.proofs.Growing.{adds_moves}
-use Rattle.snapshot_pub.proofs.growth.Growth.extend.Goals as goal
+use Rattle.snapshot_pub.proofs.growth.Growth.try_to_extend.Goals as goal
 
 pub compare_exchange-found-requires : goal.compare_exchange-found-requires
 compare_exchange-found-requires c =
