@@ -5,7 +5,7 @@ use Rattle.op_model.specs.declared.operation.Operation.{Operation}
 use Rattle.op_model.specs.Steps.{Step, Settles, Takes}
 use Rattle.op_model.proofs.Elements.{zip_itself}
 use Rattle.op_model.proofs.MainLaws.{runs_append}
-use Rattle.text_buffer.specs.Buffer.{BufferState, after_calls, after_apply, after_settle, state}
+use Rattle.text_buffer.specs.Buffer.{BufferState, after_calls, after_apply, after_settle, rules, state}
 use Rattle.text_buffer.specs.Document.{IsFront}
 use Rattle.session_lines.specs.declared.report.Report.{Report}
 use Rattle.session_lines.specs.declared.session.SessionLine.{SessionLine}
@@ -26,7 +26,7 @@ grows_trans : (a b c : BufferState) → Grows a b → Grows b c → Grows a c
 grows_trans a b c f g = (g.0 ∙ f.0, front_trans a.history b.history c.history f.1 g.1)
 
 calls_grow : (cs : List Step) (b : BufferState) → Grows b (after_calls cs b)
-calls_grow cs b = (refl, runs_append b.limits b.replica cs (state b))
+calls_grow cs b = (refl, runs_append (rules b) b.replica cs (state b))
 
 outcome_grows : (o : Result Operation Report) (b : BufferState) → Grows b (after_outcome o b)
 outcome_grows (Ok op) b = grows_trans b (after_apply b op) (after_settle (after_apply b op)) (refl, (op ∷ [], refl)) (calls_grow (Settles ∷ []) (after_apply b op))

@@ -12,7 +12,9 @@ use Rattle.session_lines.proofs.Faults.{too_many, never_memory}
 use Rattle.session_replay.specs.Causes.{RoseBy}
 use Rattle.session_replay.specs.Traffic.{Had, session_limit}
 use Rattle.session_replay.specs.Queries.{IsReport}
-use Rattle.session_replay.specs.Replay.{large_line, response_of, response_with, written_for, IsResponse, RespondsToSource, Writes}
+use Rattle.session_replay.specs.Replay.{large_line, response_of, response_with, written_for, IsPrepared, IsReady, IsResponse, IsWritten, RespondsToSource, Writes}
+use Rattle.session_replay.specs.declared.top.Prepared.{Prepared}
+use Rattle.session_replay.specs.declared.top.Prepared.TheVariants as prepared
 use Rattle.session_replay.proofs.Replies.{plain_report}
 use Rattle.command_words.specs.declared.command.Task.{Task}
 use Rattle.command_words.specs.declared.command.Task.TheVariants as task
@@ -110,3 +112,14 @@ module _ (c : Task) (left left_after : Option (List ℕ)) (given given_after end
     taken = record { had = h.1; whole = λ le. absurd (omega (arith, h.2)); large = λ _. r };
     response = inr (large_answer c h.0 h.2 ∙ ap (λ t. (status.TooLarge, t)) (sym e));
   }
+
+-- ---- what was prepared
+
+pub is_ready : (c : Task) (input : List ℕ) (p : Prepared) → IsPrepared c input p → IsReady p
+is_ready c input (prepared.Response st text) h = tt
+is_ready c input (prepared.Beside workers s) h = (h.1, h.4)
+
+pub written_response : (c : Task) (input : List ℕ) (p : Prepared) (st : Status) (text : List ℕ) → IsPrepared c input p → IsWritten p st text → IsResponse c input st text
+written_response c input (prepared.Response st0 text0) st text h w = subst (λ (s : Status). IsResponse c input s text) (sym w.0) (subst (λ (t : List ℕ). IsResponse c input st0 t) (sym w.1) h)
+written_response c input (prepared.Beside workers s) st text h w =
+    inl (w.0, h.2, (s, h.3, subst (λ (d : Task). Writes d s text) (sym h.0) w.1))

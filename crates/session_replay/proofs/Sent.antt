@@ -51,18 +51,18 @@ module _ (c : Task) (left left_after : Option (List ℕ)) (given given_after end
   does task.Check s d w = (s, d, w)
 
   pub sent_done : r ≡ status.Done → (input : List ℕ) × WasRead left left_after given given_after ends ends_after input
-      × ((output : List ℕ) × Appends written written_after output × Does c input output)
+      × (length input ≤ session_limit) × ((output : List ℕ) × Appends written written_after output × Does c input output)
   sent_done k =
       let s = same status.Done k (λ x. cc) in
       let f = kept.done s.0 in
-      (a.input, a.taken.whole f.0, (text, wrote s.1 text (λ i. text), does c f.1.0 f.1.1 f.1.2))
+      (a.input, a.taken.whole f.0, f.0, (text, wrote s.1 text (λ i. text), does c f.1.0 f.1.1 f.1.2))
 
   pub sent_session : r ≡ status.Session → (input : List ℕ) × WasRead left left_after given given_after ends ends_after input
-      × ((n : ℕ) × (w : Word) × (session_of_text input ≡ Err (Bad n w)) × Appends written written_after (bad_line n w))
+      × (length input ≤ session_limit) × ((n : ℕ) × (w : Word) × (session_of_text input ≡ Err (Bad n w)) × Appends written written_after (bad_line n w))
   sent_session k =
       let s = same status.Session k (λ x. cc) in
       let f = kept.session s.0 in
-      (a.input, a.taken.whole f.0, (f.1.0, f.1.1, f.1.2, wrote s.1 (bad_line f.1.0 f.1.1) f.1.3))
+      (a.input, a.taken.whole f.0, f.0, (f.1.0, f.1.1, f.1.2, wrote s.1 (bad_line f.1.0 f.1.1) f.1.3))
 
   pub sent_ended : (r ≡ status.Done) ⊎ (r ≡ status.Session) → Rose ends ends_after
   sent_ended (inl k) = (a.taken.whole (kept.done (same status.Done k (λ x. cc)).0).0).ended
@@ -72,11 +72,11 @@ module _ (c : Task) (left left_after : Option (List ℕ)) (given given_after end
   abbrev TooLarge : Type 0
   TooLarge =
       (IfSome left (λ input. session_limit < length input) × RoseBy (session_limit + 1) given given_after × Appends written written_after large_line)
-      ⊎ ((input : List ℕ) × WasRead left left_after given given_after ends ends_after input × (lines_limit < length (lines_of input)) × Appends written written_after many_line)
+      ⊎ ((input : List ℕ) × WasRead left left_after given given_after ends ends_after input × (length input ≤ session_limit) × (lines_limit < length (lines_of input)) × Appends written written_after many_line)
 
   large_by : r ≡ st → ((session_limit < length a.input) × (large_line ≡ text)) ⊎ ((length a.input ≤ session_limit) × (lines_limit < length (lines_of a.input)) × (many_line ≡ text)) → TooLarge
   large_by e (inl f) = inl (if_had left a.input (λ input. session_limit < length input) a.taken.had f.0, a.taken.large f.0, wrote e large_line f.1)
-  large_by e (inr f) = inr (a.input, a.taken.whole f.0, f.1, wrote e many_line f.2)
+  large_by e (inr f) = inr (a.input, a.taken.whole f.0, f.0, f.1, wrote e many_line f.2)
 
   pub sent_large : r ≡ status.TooLarge → TooLarge
   sent_large k = let s = same status.TooLarge k (λ x. cc) in large_by s.1 (kept.large s.0)

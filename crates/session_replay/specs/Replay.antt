@@ -1,7 +1,7 @@
 -- What an input comes to.
-use Rattle.std.specs.Prelude.{◌≡◌, ℕ, ◌<◌, ◌≤◌, ◌⊎◌, List, length, map, nat_lt, codes, Option, Result, Ok, Err, if◌then◌else◌}
+use Rattle.std.specs.Prelude.{⊤, ◌≡◌, ℕ, ◌<◌, ◌≤◌, ◌⊎◌, List, length, map, nat_lt, codes, Option, Result, Ok, Err, if◌then◌else◌}
 use Rattle.session_lines.specs.Report.{session_counts, line_text, report_text}
-use Rattle.session_lines.specs.Session.{session_of_text}
+use Rattle.session_lines.specs.Session.{IsSession, session_of_text}
 use Rattle.session_lines.specs.Words.{bad_line, many_line}
 use Rattle.session_lines.specs.declared.session.Session.{Session}
 use Rattle.session_lines.specs.declared.fault.DecodeFault.{DecodeFault}
@@ -15,6 +15,8 @@ use Rattle.command_words.specs.declared.command.Task.{Task}
 use Rattle.command_words.specs.declared.command.Task.TheVariants as task
 use Rattle.session_replay.specs.declared.top.Status.{Status}
 use Rattle.session_replay.specs.declared.top.Status.TheVariants as status
+use Rattle.session_replay.specs.declared.top.Prepared.{Prepared}
+use Rattle.session_replay.specs.declared.top.Prepared.TheVariants as prepared
 
 -- the input is a session, and the output is its report with some replies to its queries that so many workers may give
 abbrev pub Replays : List ℕ → List ℕ → ℕ → Type 0
@@ -82,7 +84,7 @@ abbrev pub Ends : Command → (left left_after : Option (List ℕ)) → (given g
     → List ℕ → Type 0
 Ends (command.Read t) left left_after given given_after ends ends_after output =
     (input : List ℕ) × WasRead left left_after given given_after ends ends_after input
-    × Does t input output
+    × (length input ≤ session_limit) × Does t input output
 Ends (command.Make seed n edits) left left_after given given_after ends ends_after output = Makes seed n edits output
 
 -- ---- for private clauses
@@ -109,3 +111,27 @@ pub record RespondsToSource (c : Task) (left left_after : Option (List ℕ))
   pub input : List ℕ
   pub taken : WasTaken left left_after given given_after ends ends_after input
   pub response : IsResponse c input status text
+
+-- what an input comes to where nobody waits: a response to it, or its session for at least one worker
+abbrev pub IsPrepared : Task → List ℕ → Prepared → Type 0
+IsPrepared c input (prepared.Response st text) = IsResponse c input st text.items
+IsPrepared c input (prepared.Beside workers s) =
+    (c ≡ task.Replay workers) × (1 ≤ workers) × (length input ≤ session_limit)
+    × (session_of_text input ≡ Ok s) × IsSession session_limit s
+
+-- workers may answer what is left to them
+abbrev pub IsReady : Prepared → Type 0
+IsReady (prepared.Response st text) = ⊤
+IsReady (prepared.Beside workers s) = (1 ≤ workers) × IsSession session_limit s
+
+-- the status and the text of what was prepared
+abbrev pub IsWritten : Prepared → Status → List ℕ → Type 0
+IsWritten (prepared.Response st text) ended written = (ended ≡ st) × (written ≡ text.items)
+IsWritten (prepared.Beside workers s) ended written = (ended ≡ status.Done) × IsReport s workers written
+
+-- what is prepared for what a source had left
+pub record PreparesSource (c : Task) (left left_after : Option (List ℕ))
+    (given given_after ends ends_after : ℕ) (p : Prepared) : Type 0 where
+  pub input : List ℕ
+  pub taken : WasTaken left left_after given given_after ends ends_after input
+  pub prepared : IsPrepared c input p

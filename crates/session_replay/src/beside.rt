@@ -191,7 +191,7 @@ impl Editor {
         let _inboxes = dispatcher.end(rt);
     }
 
-    /// Works the lines, and puts the end marks, also where memory was wanted.
+    /// Works the lines, and puts the end marks, even if an allocation failed.
     fn edit<R: Threads + Wait + Sync, G: Gate>(
         mut self,
         rt: &R,
@@ -278,7 +278,7 @@ fn gathered_report<R: Threads + Sync>(
         gathering,
     } = edited;
     let lasts = progress.snapshots(alloc)?;
-    let answers = gathering.gather(rt, alloc, dones, lasts.as_slice())?;
+    let (answers, _readers) = gathering.gather(rt, alloc, dones, lasts.as_slice())?;
     let lines = answer_lines(alloc, answers)?;
     progress.finish(alloc, lines.as_slice())
 }
@@ -339,7 +339,7 @@ fn replay_beside<R: Threads + Wait + Sync, G: Gate>(
     gathered_report(rt, alloc, edited, dones)
 }
 
-/// The text of a session's report, its queries answered by so many workers, each in a thread, beside the editor.
+/// The text of a session's report, its queries answered by this many workers, each in a thread, beside the editor.
 pub fn report_beside<R: Threads + Wait + Sync, G: Gate>(
     rt: &R,
     alloc: Global,

@@ -2,7 +2,7 @@
 ghost use Rattle.std.specs.Prelude.{◌≡◌};
 ghost use Rattle.session_replay.specs.Causes.{saturating_sum, end_met};
 
-/// The counts of a source: bytes given, reads that met the end, and reads that failed. Each stands still at 2^64 - 1.
+/// The counts of a source: bytes given, reads that met the end, and reads that failed. None of them passes 2^64 - 1.
 #[derive(Clone, Copy, Debug, PartialEq, Eq)]
 pub struct ReadCounts {
     pub given: u64,
@@ -22,7 +22,7 @@ impl ReadCounts {
         }
     }
 
-    /// Counts a read that gave so many bytes into so much room.
+    /// Counts a read that gave this many bytes into a slice of this length.
     pub fn count_read(&mut self, room: usize, count: usize)
         ensures given { self.new.given ≡ saturating_sum self.old.given count }
         ensures ends { self.new.ends ≡ saturating_sum self.old.ends (end_met room count) }

@@ -18,7 +18,7 @@ use std::alloc::Global;
 /// The text that each replica begins with.
 const BASE_TEXT: &str = "ab\ncd\n";
 
-/// Behind so many turns all replicas are given what was done in them.
+/// After this many turns all replicas are given what was done in them.
 const TURNS: u64 = 8;
 
 /// A session as far as it was made.
@@ -28,7 +28,7 @@ pub struct Making {
     progress: Progress,
     /// What the next turn is drawn by.
     draws: Draws,
-    /// Its lines behind the header.
+    /// Its lines after the header.
     lines: Vec<SessionLine>,
 }
 
@@ -97,7 +97,7 @@ impl Making {
         Ok(())
     }
 
-    /// Gives all replicas what was done in the last turns, where so many were taken.
+    /// Gives all replicas what was done in the last turns, after each eighth turn.
     fn give_last(&mut self, alloc: Global, ids: &[u16], number: u64) -> Result<(), OutOfMemory>
         requires first { 0 < number }
         requires counted { ids.now ≡ ids_to (length ids.now) }
@@ -113,7 +113,7 @@ impl Making {
         Ok(())
     }
 
-    /// Makes and works the turn with that number, and what is given behind it.
+    /// Makes and works the turn with that number, and what is given after it.
     fn work_round(&mut self, alloc: Global, ids: &[u16], number: u64) -> Result<(), OutOfMemory>
         requires some { 0 < length ids.now }
         requires few { length ids.now < 2 ^ 16 }
@@ -126,7 +126,7 @@ impl Making {
         Ok(())
     }
 
-    /// Makes and works so many rounds.
+    /// Makes and works this many rounds.
     fn work_rounds(&mut self, alloc: Global, ids: &[u16], edits: u64) -> Result<(), OutOfMemory>
         requires some { 0 < length ids.now }
         requires few { length ids.now < 2 ^ 16 }
@@ -213,7 +213,7 @@ fn have_equal_texts(replicas: &[Replica]) -> Result<bool, OutOfMemory>
     have_text(rest, text.as_str())
 }
 
-/// The numbers from 1 on, so many of them.
+/// The first numbers from 1 on.
 fn ids_to(alloc: Global, count: u16) -> Result<Vec<u16>, OutOfMemory>
     requires { count ≤ last_replica }
     ensures { IfOk result (λ v. v.items ≡ ids_to count) }
@@ -225,7 +225,7 @@ fn ids_to(alloc: Global, count: u16) -> Result<Vec<u16>, OutOfMemory>
     Ok(ids)
 }
 
-/// The numbers of so many turns.
+/// The numbers of this many turns.
 fn numbers_to(alloc: Global, count: u64) -> Result<Vec<u64>, OutOfMemory>
     requires { count < 2 ^ 32 }
     ensures { IfOk result (λ v. v.items ≡ range_with_len 1 count) }
@@ -237,14 +237,14 @@ fn numbers_to(alloc: Global, count: u64) -> Result<Vec<u64>, OutOfMemory>
     Ok(numbers)
 }
 
-/// Makes the session of so many replicas and edits that the seed makes, works it without workers, and gives its summary.
+/// Makes the session of a seed with this many replicas and edits, works it without workers, and returns its summary.
 ///
 /// The session is held whole. A turn costs what an edit or an undo does, a gift as much as taking one operation; there are
 /// at most twice as many gifts as edits times replicas.
 ///
 /// # Errors
 ///
-/// `OutOfMemory` alone.
+/// `OutOfMemory` if an allocation fails.
 pub fn make(alloc: Global, seed: u32, replicas: u16, edits: u32) -> Result<Vec<u8>, OutOfMemory>
     requires some { 1 ≤ replicas }
     requires few { replicas ≤ last_replica }

@@ -4,7 +4,7 @@ ghost use Rattle.std.specs.Prelude.{◌≡◌, ◌<◌, ◌≤◌, ◌+◌, ◌+
 use crate::{Failed, OutOfMemory, ReadCounts, Sink, Source};
 use std::alloc::Global;
 
-/// A text that is read from its front.
+/// A text in memory as a source.
 #[derive(Drop)]
 pub struct MemSource {
     bytes: Vec<u8>,
@@ -78,7 +78,7 @@ fn copy_from(bytes: &[u8], at: usize, into: &mut [u8], most: usize) -> usize
     copy_front(&bytes[at..], into, most)
 }
 
-// Copies the front of `rest`, at most so many bytes.
+// Copies the first bytes of `rest`, at most that many.
 fn copy_front(rest: &[u8], into: &mut [u8], most: usize) -> usize
     requires { 0 < most }
     ensures within { result ≤ length rest.now }
@@ -91,7 +91,7 @@ fn copy_front(rest: &[u8], into: &mut [u8], most: usize) -> usize
     count
 }
 
-/// Room for a text that is written from its front.
+/// A sink in memory.
 #[derive(Drop)]
 pub struct MemSink {
     bytes: Vec<u8>,
@@ -108,7 +108,7 @@ pub struct MemSink {
 impl MemSink {
     ghost use Rattle.session_replay.specs.Memory.{sink_bytes, sink_faults, sink_room, sink_most};
 
-    /// A sink with room for so many bytes that takes at most `most` of them a call, and fails at the calls listed,
+    /// A sink with room for this many bytes that takes at most `most` of them a call, and fails at the calls listed,
     /// counted from 1. A nonempty piece into full room is a failure too.
     pub fn new(
         alloc: Global,
@@ -160,7 +160,7 @@ impl Sink for MemSink {
         }
         match self.bytes.extend_from_slice(&piece[..count]) {
             Ok(()) => Ok(count),
-            Err(_) => unreachable!(),
+            Err(OutOfMemory) => unreachable!(),
         }
     }
 }

@@ -1,4 +1,4 @@
-//! What is kept under names, and what is told of it.
+//! What is kept under names, and what is reported of it.
 ghost use Rattle.std.specs.Prelude.{◌≡◌, Some, IfOk, OnOk};
 ghost use Rattle.std.specs.Option.{option_copied};
 ghost use Rattle.std.specs.Result.{result_err, result_ok};
@@ -10,7 +10,7 @@ use op_model::{Anchor, PlaceFault, SinceFault, Text};
 use session_lines::{AnchorAnswer, SinceAnswer, TextEdits, WhereAnswer};
 use std::alloc::Global;
 use std::collections::BTreeMap;
-use text_buffer::Snapshot;
+use text_buffer::{Snapshot, UnknownAnchor};
 
 /// Keeps the value under the name, in the place of what is there. Logarithmic in the names.
 pub fn keep<V: Drop>(
@@ -33,7 +33,7 @@ pub fn find<'a, V>(names: &'a BTreeMap<String, V>, name: &Text) -> Option<&'a V>
     names.get(name.as_str())
 }
 
-/// Keeps the anchor that was made, if one was, and tells what came of it.
+/// Keeps the anchor that was made, if one was, and returns the outcome.
 pub fn keep_anchor(
     alloc: Global,
     anchors: &mut BTreeMap<String, Anchor>,
@@ -62,7 +62,7 @@ pub fn where_answer(snapshot: &Snapshot, anchor: Option<&Anchor>) -> WhereAnswer
     };
     match snapshot.resolve(anchor) {
         Ok(offset) => WhereAnswer::Offset(offset),
-        Err(_) => WhereAnswer::Unknown,
+        Err(UnknownAnchor { .. }) => WhereAnswer::Unknown,
     }
 }
 

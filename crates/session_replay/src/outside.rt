@@ -11,9 +11,9 @@ use thiserror::Error;
 #[error("a read or a write failed")]
 pub struct Failed;
 
-/// Where bytes are read from. Its three counts never fall, and each stands still at 2^64 - 1.
+/// Where bytes are read from. Its three counts never fall, and none passes 2^64 - 1.
 pub trait Source {
-    /// The bytes that are left, where the source tells them.
+    /// The bytes that are left, if the source says.
     ghost left: { Self → Option (List ℕ) };
 
     /// How many bytes it has given.
@@ -25,7 +25,7 @@ pub trait Source {
     /// How many reads failed.
     ghost faults: { Self → ℕ };
 
-    /// Gives the front of what is left, at most as many bytes as `into` has room for; 0 into a nonempty slice is the end.
+    /// Reads the first of the bytes that are left into `into`, and returns how many; 0 for a nonempty slice is the end.
     fn read(&mut self, into: &mut [u8]) -> Result<usize, Failed>
         ensures bound { ReadsAtMost result into.new }
         ensures bytes { ReadConsumes (left self.old) (left self.new) result into.new }
@@ -36,13 +36,13 @@ pub trait Source {
 
 /// Where bytes are written to.
 pub trait Sink {
-    /// The bytes written, where the sink tells them.
+    /// The bytes written, if the sink says.
     ghost written: { Self → Option (List ℕ) };
 
-    /// How many writes failed. It never falls, and stands still at 2^64 - 1.
+    /// How many writes failed. It never falls, and never passes 2^64 - 1.
     ghost faults: { Self → ℕ };
 
-    /// Takes bytes of the front of `piece`, at least one where there is one, and answers how many.
+    /// Writes the first bytes of `piece`, at least one unless it is empty, and returns how many.
     fn write(&mut self, piece: &[u8]) -> Result<usize, Failed>
         ensures bound { WritesAtMost result piece.now }
         ensures takes { IfOk result (λ n. 0 < length piece.now → 0 < n) }

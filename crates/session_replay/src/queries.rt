@@ -71,7 +71,7 @@ impl Query<QueryAnswer> for Question {
 ///
 /// # Errors
 ///
-/// The line itself, where it is none.
+/// The line itself, if it is not one.
 pub fn question_of(line: SessionLine) -> Result<(u16, Question), SessionLine>
     ensures ok { IfOk result (λ asked. question_of line ≡ Some asked) }
     ensures err { IfErr result (λ other. (other ≡ line) × (question_of line ≡ None)) }
@@ -179,7 +179,7 @@ pub fn query_line(number: u64, answer: QueryAnswer, snapshot: &Snapshot) -> Repo
     }
 }
 
-// Where the needle stands in the snapshot's text.
+// Where the needle occurs in the snapshot's text.
 fn find_line(
     alloc: Global,
     number: u64,

@@ -42,7 +42,7 @@ pub struct Progress {
     report: Vec<u8>,
 }
 
-/// A copy of the operation, where there is one. It shares the texts of one that stands under a number.
+/// A copy of the operation, if there is one. It shares the texts.
 fn copy_of(alloc: Global, operation: Option<&Operation>) -> Result<Option<Operation>, OutOfMemory>
     ensures { IfOk result (λ o. o ≡ option_copied operation.entry) }
 {
@@ -108,7 +108,7 @@ impl Progress {
         Ok(())
     }
 
-    /// Works a line with an operation as it stands.
+    /// Works a line that has an operation in it.
     fn work_operation(&mut self, alloc: Global, operation: Operation) -> Result<(), OutOfMemory>
         ensures report { OnOk result (self.new.report.items
             ≡ self.old.report.items

@@ -18,7 +18,7 @@ use op_model::{EditFault, Limits, OpFault, Operation, Piece, Pieces, Text, UndoF
 use session_lines::{GiveAnswer, Report, TextHead, write_line, write_text};
 use std::alloc::Global;
 use std::marker::Model;
-use text_buffer::{Base, Buffer, Refused, Snapshot, Took};
+use text_buffer::{Base, Buffer, NewFault, Refused, Snapshot, Took};
 
 /// A replica, seen as its buffer.
 #[derive(Drop)]
@@ -49,7 +49,9 @@ impl Replica {
     {
         match Buffer::over(alloc, id, base, Limits::MOST) {
             Ok(buffer) => Ok(Replica { id, buffer }),
-            Err(_) => Err(OutOfMemory),
+            // the base is within every limit
+            Err(NewFault::Full { .. }) => unreachable!(),
+            Err(NewFault::OutOfMemory) => Err(OutOfMemory),
         }
     }
 
@@ -83,7 +85,7 @@ impl Replica {
         }
     }
 
-    /// Undoes or redoes what stands under the numbers among the operations, as the operation line with that number. Gives the
+    /// Undoes or redoes the operations with these numbers, as the operation line with that number. Returns the
     /// undo, where one is made.
     pub fn undo(
         &mut self,
@@ -151,7 +153,7 @@ impl Replica {
         Ok(())
     }
 
-    /// Takes what stands under a number: an operation, or nothing.
+    /// Takes the operation with a number, or nothing.
     pub fn give(&mut self, operation: Option<Operation>) -> Result<GiveAnswer, OutOfMemory>
         ensures answer { IfOk result (λ g. g ≡ give_answer operation self.old) }
         ensures after { OnOk result (self.new ≡ after_give operation self.old) }
@@ -248,9 +250,9 @@ impl Replica {
             replica: self.id,
             bytes: self.buffer.summary().len,
             rows: self.row_count(),
-            // the base is none
+            // the base is not counted
             applied: self.buffer.applied().len().saturating_sub(1),
-            waiting: self.buffer.waiting().len(),
+            waiting: self.buffer.deferred().len(),
             refused: self.buffer.refused().len() as u64,
         }
     }
@@ -305,7 +307,7 @@ fn write_refused(
     Ok(())
 }
 
-/// The operation that stands under that number, which counts from 1, if one does.
+/// The operation with that number, counted from 1, if there is one.
 pub fn operation_of(operations: &[Option<Operation>], number: u64) -> Option<&Operation>
     ensures { option_copied result ≡ operation_of number operations.now }
 {
@@ -315,14 +317,14 @@ pub fn operation_of(operations: &[Option<Operation>], number: u64) -> Option<&Op
     }
 }
 
-// Whether no operation stands under that number.
+// Whether no operation has that number.
 fn is_unnamed(operations: &[Option<Operation>], number: u64) -> bool
     ensures { result ≡ is_none (operation_of number operations.now) }
 {
     operation_of(operations, number).is_none()
 }
 
-// The first of the numbers under which no operation stands.
+// The first of the numbers that no operation has.
 fn first_unnamed(operations: &[Option<Operation>], numbers: &[u64]) -> Option<u64>
     ensures { result ≡ first_unnamed operations.now numbers.now }
 {

@@ -14,7 +14,7 @@ use op_model::{LAST_REPLICA, Operation, Pieces};
 use session_lines::GiveAnswer;
 use std::alloc::Global;
 use std::marker::Model;
-use text_buffer::Base;
+use text_buffer::{Base, NewFault};
 
 /// How many ids the table has, from 0: an id in a header is one of them.
 const IDS: u16 = LAST_REPLICA + 1;
@@ -105,7 +105,7 @@ impl Replicas {
         self.list[index].edit(alloc, number, pieces, out)
     }
 
-    /// Undoes or redoes what stands under the numbers among the operations, at the replica with that id, where it is there, as the
+    /// Undoes or redoes the operations with these numbers at the replica with that id, if there is one, as the
     /// operation line with that number. Gives the undo, where one is made.
     pub fn undo(
         &mut self,
@@ -133,7 +133,7 @@ impl Replicas {
         self.list[index].undo(alloc, number, operations, numbers, out)
     }
 
-    /// Gives what stands under a number, an operation or nothing, to the replica with that id, where it is there. Gives its answer.
+    /// Gives the operation with that number, if there is one, to the replica with that id, if there is one. Returns its answer.
     pub fn give(
         &mut self,
         id: u16,
@@ -184,7 +184,9 @@ fn replicas_over(alloc: Global, ids: &[u16], base: &str) -> Result<Vec<Replica>,
 {
     match Base::new(alloc, base) {
         Ok(base) => open_replicas(alloc, ids, &base),
-        Err(_) => Err(OutOfMemory),
+        // the base is within every limit
+        Err(NewFault::Full { .. }) => unreachable!(),
+        Err(NewFault::OutOfMemory) => Err(OutOfMemory),
     }
 }
 

@@ -12,7 +12,7 @@ ghost use Rattle.session_lines.specs.Words.{bad_line, many_line};
 ghost use Rattle.session_lines.specs.Report.{session_counts, line_text};
 ghost use Rattle.session_replay.specs.Making.{Makes};
 ghost use Rattle.session_replay.specs.Queries.{IsReport};
-ghost use Rattle.session_replay.specs.Replay.{Does, Ends, IsOutput, IsResponse, RespondsToSource, Writes, large_line, usage_line};
+ghost use Rattle.session_replay.specs.Replay.{Does, Ends, IsOutput, IsPrepared, IsReady, IsWritten, PreparesSource, RespondsToSource, Writes, large_line, usage_line};
 ghost use Rattle.session_lines.specs.declared.session.Session.{Session};
 ghost use Rattle.session_lines.specs.declared.fault.Word.{Word};
 ghost use Rattle.session_lines.specs.declared.fault.DecodeFault.{DecodeFault};
@@ -20,7 +20,7 @@ ghost use Rattle.session_lines.specs.declared.fault.DecodeFault.{DecodeFault};
 use crate::OutOfMemory;
 use crate::beside::report_beside;
 use crate::making::make;
-use crate::outside::{Sink, Source};
+use crate::outside::{Failed, Sink, Source};
 use crate::replay::report;
 use crate::traffic::{InputFault, read_all, write_all};
 use command_words::{Command, Task, command_of};
@@ -35,13 +35,13 @@ use std::thread::Threads;
 pub enum Status {
     /// What the command makes was written whole.
     Done = 0,
-    /// Memory was wanted; nothing was written.
+    /// An allocation failed; nothing was written.
     Memory = 1,
     /// The words are no command words; the usage line was written, and nothing read.
     Usage = 2,
     /// A read failed; nothing was written.
     ReadFault = 3,
-    /// A write failed; a front of what was to be written was written.
+    /// A write failed; a prefix of the output was written.
     WriteFault = 4,
     /// The input is no session; the line that says so was written.
     Session = 5,
@@ -75,63 +75,97 @@ fn check(alloc: Global, session: &Session) -> Result<Vec<u8>, OutOfMemory>
     Ok(line)
 }
 
-/// The text of a session's report. Without workers each query is answered on the spot, and the gate is not called.
-fn replay_report<R: Threads + Wait + Sync, G: Gate>(
-    rt: &R,
-    alloc: Global,
-    gate: &G,
-    workers: u32,
-    session: Session,
-) -> Result<Vec<u8>, OutOfMemory>
+/// What an input comes to where nobody waits: what is to be written for it, or a session whose queries workers answer.
+#[derive(Drop)]
+pub enum Prepared {
+    /// The status, and the text to be written.
+    Response { status: Status, text: Vec<u8> },
+    /// A session to be worked beside at least one worker.
+    Beside { workers: u32, session: Session },
+}
+
+/// The report of a session, each query answered on the spot, as any number of workers may answer it. The gate is not called.
+fn plain_report(alloc: Global, workers: u32, session: Session) -> Result<Vec<u8>, OutOfMemory>
     requires { IsSession session_limit session }
     ensures { IfOk result (λ v. IsReport session workers v.items) }
 {
-    if workers == 0 {
-        report(alloc, session)
-    } else {
-        report_beside(rt, alloc, gate, workers, session)
-    }
+    let _workers = workers;
+    report(alloc, session)
 }
 
-/// What the task writes for a session.
-fn task_output<R: Threads + Wait + Sync, G: Gate>(
-    rt: &R,
-    alloc: Global,
-    gate: &G,
-    task: Task,
-    session: Session,
-) -> Result<Vec<u8>, OutOfMemory>
+/// What the task writes for a session where nobody waits.
+fn plain_output(alloc: Global, task: Task, session: Session) -> Result<Vec<u8>, OutOfMemory>
     requires { IsSession session_limit session }
     ensures { IfOk result (λ v. Writes task session v.items) }
 {
     match task {
-        Task::Replay { workers } => replay_report(rt, alloc, gate, workers, session),
+        Task::Replay { workers } => plain_report(alloc, workers, session),
         Task::Check => check(alloc, &session),
     }
 }
 
-/// What the task writes for an input, with the status.
+/// A response to a session.
+fn respond_plainly(alloc: Global, task: Task, session: Session) -> Result<Prepared, OutOfMemory>
+    requires { IsSession session_limit session }
+    ensures ready { IfOk result IsReady }
+    ensures prepared { IfOk result (λ p. (input : List ℕ) → length input ≤ session_limit
+        → session_of_text input ≡ Ok session → IsPrepared task input p) }
+{
+    let text = plain_output(alloc, task, session)?;
+    Ok(Prepared::Response {
+        status: Status::Done,
+        text,
+    })
+}
+
+/// What a session comes to where nobody waits.
+fn prepare_session(alloc: Global, task: Task, session: Session) -> Result<Prepared, OutOfMemory>
+    requires { IsSession session_limit session }
+    ensures ready { IfOk result IsReady }
+    ensures prepared { IfOk result (λ p. (input : List ℕ) → length input ≤ session_limit
+        → session_of_text input ≡ Ok session → IsPrepared task input p) }
+{
+    match task {
+        Task::Replay { workers } if workers > 0 => Ok(Prepared::Beside { workers, session }),
+        task => respond_plainly(alloc, task, session),
+    }
+}
+
+/// What an input comes to where nobody waits.
 #[tactic(auto, unfolding(crate::specs::Replay::response_of))]
+fn prepare(alloc: Global, task: Task, input: &[u8]) -> Result<Prepared, OutOfMemory>
+    requires { length input.now ≤ session_limit }
+    ensures ready { IfOk result IsReady }
+    ensures prepared { IfOk result (λ p. IsPrepared task input.now p) }
+{
+    let (status, text) = match decode(alloc, input) {
+        Ok(session) => return prepare_session(alloc, task, session),
+        Err(DecodeFault::Lines(_)) => (Status::TooLarge, bytes_of(alloc, "too large: lines\n")?),
+        Err(DecodeFault::Bad { line, word }) => {
+            let text = bad_line(alloc, line, word)?;
+            (Status::Session, bytes_of(alloc, text.as_str())?)
+        }
+        Err(DecodeFault::OutOfMemory) => return Err(OutOfMemory),
+    };
+    Ok(Prepared::Response { status, text })
+}
+
+/// What is to be written, with the status. Only here do workers wait.
 fn respond<R: Threads + Wait + Sync, G: Gate>(
     rt: &R,
     alloc: Global,
     gate: &G,
-    task: Task,
-    input: &[u8],
+    prepared: Prepared,
 ) -> Result<(Status, Vec<u8>), OutOfMemory>
-    requires { length input.now ≤ session_limit }
-    ensures { IfOk result (λ p. IsResponse task input.now p.0 p.1.items) }
+    requires { IsReady prepared }
+    ensures { IfOk result (λ p. IsWritten prepared p.0 p.1.items) }
 {
-    match decode(alloc, input) {
-        Ok(session) => Ok((Status::Done, task_output(rt, alloc, gate, task, session)?)),
-        Err(DecodeFault::Lines(_)) => {
-            Ok((Status::TooLarge, bytes_of(alloc, "too large: lines\n")?))
+    match prepared {
+        Prepared::Response { status, text } => Ok((status, text)),
+        Prepared::Beside { workers, session } => {
+            let text = report_beside(rt, alloc, gate, workers, session)?;
+            Ok((Status::Done, text))
         }
-        Err(DecodeFault::Bad { line, word }) => {
-            let text = bad_line(alloc, line, word)?;
-            Ok((Status::Session, bytes_of(alloc, text.as_str())?))
-        }
-        Err(DecodeFault::OutOfMemory) => Err(OutOfMemory),
     }
 }
 
@@ -146,7 +180,26 @@ fn send<O: Sink>(out: &mut O, text: &[u8], status: Status) -> Status
 {
     match write_all(out, text) {
         Ok(()) => status,
-        Err(_) => Status::WriteFault,
+        Err(Failed) => Status::WriteFault,
+    }
+}
+
+/// Reads all that there is, at most one byte past the limit, and prepares what it comes to. It waits for nobody.
+fn prepare_source<I: Source>(alloc: Global, task: Task, src: &mut I) -> Result<Prepared, InputFault>
+    ensures ready { IfOk result IsReady }
+    ensures prepared { IfOk result (λ p. PreparesSource task (I.left src.old) (I.left src.new)
+        (I.given src.old) (I.given src.new) (I.ends src.old) (I.ends src.new) p) }
+    ensures failed { IsErrOf result InputFault.Failed → Rose (I.faults src.old) (I.faults src.new) }
+    ensures answered { IsErrOf result InputFault.TooLarge → ⊥ }
+    ensures bounded { I.given src.new ≤ I.given src.old + (session_limit + 1) }
+{
+    match read_all(alloc, src) {
+        Ok(input) => Ok(prepare(alloc, task, input.as_slice())?),
+        Err(InputFault::TooLarge) => Ok(Prepared::Response {
+            status: Status::TooLarge,
+            text: bytes_of(alloc, "too large: bytes\n")?,
+        }),
+        Err(fault) => Err(fault),
     }
 }
 
@@ -164,11 +217,8 @@ fn respond_to_source<R: Threads + Wait + Sync, I: Source, G: Gate>(
     ensures answered { IsErrOf result InputFault.TooLarge → ⊥ }
     ensures bounded { I.given src.new ≤ I.given src.old + (session_limit + 1) }
 {
-    match read_all(alloc, src) {
-        Ok(input) => Ok(respond(rt, alloc, gate, task, input.as_slice())?),
-        Err(InputFault::TooLarge) => Ok((Status::TooLarge, bytes_of(alloc, "too large: bytes\n")?)),
-        Err(fault) => Err(fault),
-    }
+    let prepared = prepare_source(alloc, task, src)?;
+    Ok(respond(rt, alloc, gate, prepared)?)
 }
 
 /// Reads a session, and writes what the task makes of it.
@@ -184,11 +234,13 @@ fn work<R: Threads + Wait + Sync, I: Source, O: Sink, G: Gate>(
     ensures done { result ≡ Status.Done → (input : List ℕ)
         × WasRead (I.left src.old) (I.left src.new) (I.given src.old) (I.given src.new)
         (I.ends src.old) (I.ends src.new) input
+        × (length input ≤ session_limit)
         × ((output : List ℕ) × Appends (O.written out.old) (O.written out.new) output
         × Does task input output) }
     ensures session { result ≡ Status.Session → (input : List ℕ)
         × WasRead (I.left src.old) (I.left src.new) (I.given src.old) (I.given src.new)
         (I.ends src.old) (I.ends src.new) input
+        × (length input ≤ session_limit)
         × ((n : ℕ) × (w : Word) × (session_of_text input ≡ Err (DecodeFault.Bad n w))
         × Appends (O.written out.old) (O.written out.new) (bad_line n w)) }
     ensures ended { (result ≡ Status.Done) ⊎ (result ≡ Status.Session)
@@ -200,7 +252,7 @@ fn work<R: Threads + Wait + Sync, I: Source, O: Sink, G: Gate>(
         ⊎ ((input : List ℕ)
         × WasRead (I.left src.old) (I.left src.new) (I.given src.old) (I.given src.new)
         (I.ends src.old) (I.ends src.new) input
-        × (lines_limit < length (lines_of input))
+        × (length input ≤ session_limit) × (lines_limit < length (lines_of input))
         × Appends (O.written out.old) (O.written out.new) many_line) }
     ensures bounded { I.given src.new ≤ I.given src.old + (session_limit + 1) }
     ensures read_fault { result ≡ Status.ReadFault
@@ -226,7 +278,7 @@ fn work<R: Threads + Wait + Sync, I: Source, O: Sink, G: Gate>(
     match respond_to_source(rt, alloc, gate, task, src) {
         Ok((status, text)) => send(out, text.as_slice(), status),
         Err(InputFault::Failed) => Status::ReadFault,
-        Err(_) => Status::Memory,
+        Err(InputFault::TooLarge | InputFault::OutOfMemory) => Status::Memory,
     }
 }
 
@@ -249,18 +301,18 @@ fn make_session<O: Sink>(alloc: Global, seed: u32, replicas: u16, edits: u32, ou
 {
     match make(alloc, seed, replicas, edits) {
         Ok(summary) => send(out, summary.as_slice(), Status::Done),
-        Err(_) => Status::Memory,
+        Err(OutOfMemory) => Status::Memory,
     }
 }
 
-/// Does all that the program does: reads the words, then the source to its end or to one byte past the limit of
-/// 67,108,864 bytes, decodes the session, and writes its report, for which it works the session, or for `check` what is
-/// counted of it. For `make` it reads no source: it makes a session, works it and writes its summary.
+/// Runs the program: reads the words, then the source to its end or to one byte past the limit of 67,108,864 bytes, decodes the
+/// session, and writes its report, or for `check` the line with its counts. `make` reads no source: it makes a session, works it and
+/// writes its summary. Only a replay with workers may wait, for the gate and for its threads.
 ///
-/// The input and the report are held whole. An edit or undo, made or taken, costs a few descents for each of its pieces and for
-/// each run of bytes that it shows or hides, and a line that shows a text as much as the text. A `give` makes the buffer a further
-/// owner of the one operation that it names. A query is answered on a snapshot, for which nothing is copied: a `find` goes over the
-/// text once, and keeps 8 bytes for each place; a `point` or an `offset` goes down the rope.
+/// The report is held whole, and without workers the input too. An edit or undo, made or taken, costs a few descents for each of its
+/// pieces and for each run of bytes that it shows or hides, and a line that shows a text as much as the text. A `give` shares the
+/// operation that it names with the buffer. A query is answered on a snapshot, for which nothing is copied: a `find` goes over the text
+/// once, and keeps 8 bytes for each place; a `point` or an `offset` goes down the rope.
 pub fn run<R: Threads + Wait + Sync, I: Source, O: Sink, G: Gate>(
     rt: &R,
     alloc: Global,
@@ -296,6 +348,7 @@ pub fn run<R: Threads + Wait + Sync, I: Source, O: Sink, G: Gate>(
     ensures session { result ≡ Status.Session → (input : List ℕ)
         × WasRead (I.left src.old) (I.left src.new) (I.given src.old) (I.given src.new)
         (I.ends src.old) (I.ends src.new) input
+        × (length input ≤ session_limit)
         × ((n : ℕ) × (w : Word) × (session_of_text input ≡ Err (DecodeFault.Bad n w))
         × Appends (O.written out.old) (O.written out.new) (bad_line n w)) }
     ensures ended { (result ≡ Status.Done) ⊎ (result ≡ Status.Session)
@@ -310,7 +363,7 @@ pub fn run<R: Threads + Wait + Sync, I: Source, O: Sink, G: Gate>(
         ⊎ ((input : List ℕ)
         × WasRead (I.left src.old) (I.left src.new) (I.given src.old) (I.given src.new)
         (I.ends src.old) (I.ends src.new) input
-        × (lines_limit < length (lines_of input))
+        × (length input ≤ session_limit) × (lines_limit < length (lines_of input))
         × Appends (O.written out.old) (O.written out.new) many_line) }
     ensures bounded { I.given src.new ≤ I.given src.old + (session_limit + 1) }
 
@@ -353,7 +406,7 @@ pub fn run<R: Threads + Wait + Sync, I: Source, O: Sink, G: Gate>(
     let command = match command_of(alloc, words) {
         Ok(Some(command)) => command,
         Ok(None) => return send(out, USAGE.as_bytes(), Status::Usage),
-        Err(_) => return Status::Memory,
+        Err(OutOfMemory) => return Status::Memory,
     };
     match command {
         Command::Read(task) => work(rt, alloc, gate, task, src, out),

@@ -14,7 +14,7 @@ gather-requires-clause-ready g c κs within =
 
 pub returns : goal.returns
 returns g c = λ asks d left.
-    let gathered = c.in_ok-answers.ensures asks left.ready.numbers left.count left.published left.ready in
+    let gathered = c.in_ok-answers.ensures.gathered asks left.ready.numbers left.count left.published left.ready in
     let made = c.in_ok-answers.answers.items in
     IfOk-weaker c.finish.result _ _ (λ v is. (
       made,

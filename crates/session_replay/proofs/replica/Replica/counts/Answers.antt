@@ -13,5 +13,5 @@ returns c =
     counts_are c.args.self.now c.self.inside.id c.row_count.result c.saturating_sub.result c.len-2.result (length c.refused.result.now) c.summary.result.now
     (ap (λ (b : BufferState). b.replica) (sym same) ∙ c.self.invariant) (c.summary.ensures ∙ ap (λ (b : BufferState). summary_of (text b.history)) same) c.row_count.ensures
     (c.saturating_sub.ensures ∙ ap (λ n. n - 1) (c.len.ensures ∙ ap length (c.applied.ensures ∙ ap (λ (b : BufferState). b.history) same)))
-    (c.len-2.ensures.len ∙ ap length (c.waiting.ensures ∙ ap (λ (b : BufferState). b.waiting) same))
+    (c.len-2.ensures.len ∙ ap length (c.deferred.ensures ∙ ap (λ (b : BufferState). b.waiting) same))
     (sym (length-map c.refused.result.now pair_of) ∙ ap length (c.refused.ensures ∙ ap (λ (b : BufferState). b.refused) same))

@@ -2,8 +2,8 @@ use Rattle.std.proofs.Common.{sym, subst}
 use Rattle.std.proofs.lemmas.Result.{IfOk-weaker}
 use Rattle.session_replay.specs.Queries.{IsReport}
 use Rattle.session_replay.proofs.Replies.{plain_report}
-use Rattle.session_replay.proofs.top.replay_report.Goals as goal
+use Rattle.session_replay.proofs.top.plain_report.Goals as goal
 
-pub returns-then-workers-eq0 : goal.returns-then-workers-eq0
-returns-then-workers-eq0 g c =
+pub returns : goal.returns
+returns c =
     IfOk-weaker c.report.result _ _ (λ v is. subst (IsReport c.args.session c.args.workers) (sym is) (plain_report c.args.session c.args.workers)) c.report.ensures
