@@ -1,21 +1,30 @@
-"""Compares the sessions and reports of this folder with the rows of crates/session_tests/src/examples.rt, which the gate runs,
-and with what the README shows of merge.session. Run it after a change of any of them; it prints what differs.
+"""Compares the sessions and reports of this folder with the cases crates/session_tests/data/example_NAME.case, which the gate
+runs, and with what the README shows of merge.session. Run it after a change of any of them; it prints what differs.
 """
 import pathlib
-import re
 import sys
 
 here = pathlib.Path(__file__).resolve().parent
 top = here.parent
-source = (top / "crates/session_tests/src/examples.rt").read_text(encoding="utf-8")
-row = re.compile(r'\(\s*"(\w+)",\s*r#"(.*?)"#,\s*Status::\w+,\s*r#"(.*?)"#,\s*\)', re.S)
-rows = {name: (session, report) for name, session, report in row.findall(source)}
+
+
+def parts_of(case):
+    """The session and the output of a case."""
+    _, _, rest = case.read_text(encoding="utf-8").partition("--- session\n")
+    session, _, output = rest.partition("--- output\n")
+    return session, output
+
+
+cases = {
+    case.stem.removeprefix("example_"): parts_of(case)
+    for case in (top / "crates/session_tests/data").glob("example_*.case")
+}
 files = {
     file.stem: tuple((here / f"{file.stem}.{end}").read_text(encoding="utf-8") for end in ("session", "report"))
     for file in here.glob("*.session")
 }
-wrong = [name for name in sorted(rows.keys() | files.keys()) if rows.get(name) != files.get(name)]
+wrong = [name for name in sorted(cases.keys() | files.keys()) if cases.get(name) != files.get(name)]
 readme = (top / "README.md").read_text(encoding="utf-8")
 wrong += [f"README.md: {line}" for text in files["merge"] for line in text.splitlines() if line not in readme]
-print("\n".join(f"differs: {name}" for name in wrong) or f"{len(files)} sessions and their reports are the rows of the test")
+print("\n".join(f"differs: {name}" for name in wrong) or f"{len(files)} sessions and their reports are those of the cases")
 sys.exit(1 if wrong else 0)

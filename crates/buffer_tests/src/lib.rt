@@ -1,19 +1,51 @@
-//! The tests of locators, of operations, of what is applied and what waits, of answers and of texts kept as ropes, by what these
-//! crates show to all; and operations by tables, which the tests of buffers take too.
+//! The tests of clocks, locators, operations, fragments and buffers: tables of cases, by what these crates show to all.
 #![tactic(auto)]
 
 #[cfg(test)]
+mod anchored;
+#[cfg(test)]
 mod answers;
 #[cfg(test)]
-mod applying;
+mod calls;
+#[cfg(test)]
+mod cases;
+#[cfg(test)]
+mod cells;
+#[cfg(test)]
+mod clocks;
+#[cfg(test)]
+mod counted;
+#[cfg(test)]
+mod edits;
+#[cfg(test)]
+mod groups;
+#[cfg(test)]
+mod limits;
 #[cfg(test)]
 mod names;
-pub mod operations;
+#[cfg(test)]
+mod operations;
+#[cfg(test)]
+mod pasts;
+#[cfg(test)]
+mod places;
+#[cfg(test)]
+mod replica;
 #[cfg(test)]
 mod ropes;
 #[cfg(test)]
+mod runs;
+#[cfg(test)]
+mod seen_texts;
+#[cfg(test)]
 mod shapes;
 #[cfg(test)]
-mod undo_faults;
+mod steps;
+#[cfg(test)]
+mod trees;
+#[cfg(test)]
+mod undo_counts;
+#[cfg(test)]
+mod undos;
 #[cfg(test)]
 mod waiting;

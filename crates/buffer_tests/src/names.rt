@@ -1,13 +1,12 @@
-//! Locators: the digits that calls give, as they are told, the order of locators, and how long they grow.
+//! Locators: their digits, as Debug writes them, their order, and how long they grow.
 use locators::{Locator, OutOfMemory};
 use std::alloc::Global;
 use std::cmp::Ordering;
-use std::test::Fail;
 
 // Where a further locator lies, after the least and the greatest one: between those of two indexes.
 const BETWEEN: &[(usize, usize)] = &[(0, 1), (0, 2), (2, 1), (2, 4), (2, 5), (4, 5)];
 
-// Equal digits in a row, told as a locator's are.
+// Equal digits in a row, written as those of a locator.
 #[derive(Debug, Clone, Copy)]
 struct Run {
     digit: u64,
@@ -26,25 +25,39 @@ const DIGITS: &[&[(u64, u64)]] = &[
     &[(131070, 1), (0, 1), (65535, 1)],
 ];
 
+fn add_between(
+    alloc: Global,
+    all: &mut Vec<Locator>,
+    (low, high): (usize, usize),
+) -> Result<(), OutOfMemory> {
+    if let (Some(low), Some(high)) = (all.get(low), all.get(high)) {
+        let between = Locator::between(alloc, low, high)?;
+        all.push(between)?;
+    }
+    Ok(())
+}
+
+fn add_all(alloc: Global, all: &mut Vec<Locator>) -> Result<(), OutOfMemory> {
+    all.push(Locator::least(alloc)?)?;
+    all.push(Locator::greatest(alloc)?)?;
+    for &between in BETWEEN {
+        add_between(alloc, all, between)?;
+    }
+    Ok(())
+}
+
 // The least locator, the greatest one, and those of the table.
 fn locators(alloc: Global) -> Result<Vec<Locator>, OutOfMemory> {
     let mut all = Vec::new(alloc);
-    all.push(Locator::least(alloc)?)?;
-    all.push(Locator::greatest(alloc)?)?;
-    for &(low, high) in BETWEEN {
-        if let (Some(low), Some(high)) = (all.get(low), all.get(high)) {
-            let between = Locator::between(alloc, low, high)?;
-            all.push(between)?;
-        }
-    }
+    add_all(alloc, &mut all)?;
     Ok(all)
 }
 
-fn tell(alloc: Global, locator: &Locator) -> Result<String, OutOfMemory> {
+fn digits_of(alloc: Global, locator: &Locator) -> Result<String, OutOfMemory> {
     format!(in alloc; "{locator:?}")
 }
 
-fn tell_runs(alloc: Global, runs: &[(u64, u64)]) -> Result<String, OutOfMemory> {
+fn written(alloc: Global, runs: &[(u64, u64)]) -> Result<String, OutOfMemory> {
     let mut all = Vec::new(alloc);
     for &(digit, count) in runs {
         all.push(Run { digit, count })?;
@@ -54,8 +67,8 @@ fn tell_runs(alloc: Global, runs: &[(u64, u64)]) -> Result<String, OutOfMemory> 
 
 // Whether a locator has these digits, and so has its copy.
 fn is_of(alloc: Global, locator: &Locator, runs: &[(u64, u64)]) -> Result<bool, OutOfMemory> {
-    let is_told = tell(alloc, locator)? == tell_runs(alloc, runs)?;
-    Ok(is_told && locator.copy(alloc)? == *locator)
+    let is_right = digits_of(alloc, locator)? == written(alloc, runs)?;
+    Ok(is_right && locator.copy(alloc)? == *locator)
 }
 
 fn are_of(alloc: Global, all: &[Locator]) -> Result<bool, OutOfMemory> {
@@ -87,24 +100,31 @@ fn is_ordered(low: &Locator, high: &Locator, want: Ordering) -> bool {
         && are_equal(low, high) == want.is_eq()
 }
 
+fn is_ordered_at(all: &[Locator], low: usize, high: usize, want: Ordering) -> bool {
+    match (all.get(low), all.get(high)) {
+        (Some(low), Some(high)) => is_ordered(low, high, want),
+        _ => false,
+    }
+}
+
 fn are_ordered(all: &[Locator]) -> bool {
     let mut right = true;
     for (i, &low) in ASCENDING.iter().enumerate() {
         for (j, &high) in ASCENDING.iter().enumerate() {
-            right = right
-                && match (all.get(low), all.get(high)) {
-                    (Some(low), Some(high)) => is_ordered(low, high, i.cmp(&j)),
-                    _ => false,
-                };
+            right = is_ordered_at(all, low, high, i.cmp(&j)) && right;
         }
     }
     right
 }
 
+fn are_between(alloc: Global) -> Result<bool, OutOfMemory> {
+    let all = locators(alloc)?;
+    Ok(are_of(alloc, all.as_slice())? && are_ordered(all.as_slice()))
+}
+
 #[test]
-fn gives_the_digits_between_in_their_order(rt: HostRuntime) -> Result<(), Fail> {
-    let all = locators(rt.alloc())?;
-    assert!(rt; are_of(rt.alloc(), all.as_slice())? && are_ordered(all.as_slice()));
+fn gives_the_digits_between_in_their_order(rt: HostRuntime) -> Result<(), OutOfMemory> {
+    assert!(rt; are_between(rt.alloc())?);
     Ok(())
 }
 
@@ -129,95 +149,121 @@ impl Habit {
     }
 }
 
-// The last of `count` names, the first of which lies between `low` and `high`, if each lies between its neighbours.
-fn last_of(
-    alloc: Global,
-    habit: Habit,
-    mut low: Locator,
-    mut high: Locator,
-    count: u64,
-) -> Result<Option<Locator>, OutOfMemory> {
-    for turn in 1..count {
-        let between = Locator::between(alloc, &low, &high)?;
-        if between <= low || high <= between {
-            return Ok(None);
-        }
-        if habit.is_before(turn) {
-            high = between;
-        } else {
-            low = between;
-        }
-    }
-    Ok(Some(Locator::between(alloc, &low, &high)?))
-}
-
 // What a million texts one after another come to.
 const MILLION: u64 = 65_535_000_000;
 
-// The indexes of the locators between which the first name lies, how many names there are, and the digits of the last.
-type Growth = (Habit, (usize, usize), u64, &'static [(u64, u64)]);
+// The indexes of the locators between which the first name lies, how many names there are, and the digits of the last, where these
+// lie in the value.
+type Growth = (Habit, (usize, usize), u64, Option<&'static [(u64, u64)]>);
 
 const GROWTH: &[Growth] = &[
-    (Habit::After, (0, 1), 1, &[(65535, 1)]),
-    (Habit::After, (0, 1), 1_000_000, &[(MILLION, 1)]),
-    (Habit::Before, (0, 1), 1, &[(65535, 1)]),
-    (Habit::Before, (0, 1), 10, &[(0, 9), (65535, 1)]),
-    (Habit::Before, (0, 1), 1_000, &[(0, 999), (65535, 1)]),
-    (Habit::Before, (0, 1), 70_001, &[(0, 70_000), (65535, 1)]),
-    (Habit::InTurn, (0, 1), 1, &[(65535, 1)]),
-    (Habit::InTurn, (0, 1), 2, &[(0, 1), (65535, 1)]),
-    (Habit::InTurn, (0, 1), 3, &[(0, 1), (131070, 1)]),
-    (Habit::InTurn, (0, 1), 100, &[(0, 1), (65535, 50)]),
-    (Habit::InTurn, (0, 1), 1_000, &[(0, 1), (65535, 500)]),
-    (Habit::InTurn, (0, 1), 140_000, &[(0, 1), (65535, 70_000)]),
-    (Habit::After, (2, 4), 1_000_000, &[(65535, 1), (MILLION, 1)]),
+    (Habit::After, (0, 1), 1, Some(&[(65535, 1)])),
+    (Habit::After, (0, 1), 1_000_000, Some(&[(MILLION, 1)])),
+    (Habit::Before, (0, 1), 1, Some(&[(65535, 1)])),
+    (Habit::Before, (0, 1), 10, Some(&[(0, 9), (65535, 1)])),
+    (Habit::Before, (0, 1), 1_000, Some(&[(0, 999), (65535, 1)])),
+    (
+        Habit::Before,
+        (0, 1),
+        70_001,
+        Some(&[(0, 70_000), (65535, 1)]),
+    ),
+    (Habit::InTurn, (0, 1), 1, Some(&[(65535, 1)])),
+    (Habit::InTurn, (0, 1), 2, Some(&[(0, 1), (65535, 1)])),
+    (Habit::InTurn, (0, 1), 3, Some(&[(0, 1), (131070, 1)])),
+    (Habit::InTurn, (0, 1), 100, Some(&[(0, 1), (65535, 50)])),
+    (Habit::InTurn, (0, 1), 1_000, Some(&[(0, 1), (65535, 500)])),
+    (
+        Habit::InTurn,
+        (0, 1),
+        140_000,
+        Some(&[(0, 1), (65535, 70_000)]),
+    ),
+    (
+        Habit::After,
+        (2, 4),
+        1_000_000,
+        Some(&[(65535, 1), (MILLION, 1)]),
+    ),
+    (Habit::Twice, (0, 1), 300, None),
 ];
 
-// The last of the names, if each lies between its neighbours.
-fn grow(
+fn between_of(
     alloc: Global,
-    habit: Habit,
+    all: &[Locator],
     (low, high): (usize, usize),
-    count: u64,
 ) -> Result<Option<Locator>, OutOfMemory> {
-    let all = locators(alloc)?;
     match (all.get(low), all.get(high)) {
-        (Some(low), Some(high)) => last_of(
-            alloc,
-            habit,
-            low.copy(alloc)?,
-            high.copy(alloc)?,
-            count,
-        ),
+        (Some(low), Some(high)) => Ok(Some(Locator::between(alloc, low, high)?)),
         _ => Ok(None),
     }
 }
 
-fn grows_to(alloc: Global, &(habit, between, count, want): &Growth) -> Result<bool, OutOfMemory> {
-    match grow(alloc, habit, between, count)? {
-        Some(last) => is_of(alloc, &last, want),
+fn is_between(all: &[Locator], (low, high): (usize, usize), name: &Locator) -> bool {
+    match (all.get(low), all.get(high)) {
+        (Some(low), Some(high)) => low < name && name < high,
+        _ => false,
+    }
+}
+
+// Puts a name in the place of its upper or lower neighbour. Returns whether it lies between the two.
+fn put_between(
+    all: &mut [Locator],
+    (low, high): (usize, usize),
+    is_upper: bool,
+    name: Locator,
+) -> bool {
+    let right = is_between(all, (low, high), &name);
+    if let Some(place) = all.get_mut(if is_upper { high } else { low }) {
+        *place = name;
+    }
+    right
+}
+
+fn put_next(
+    alloc: Global,
+    all: &mut [Locator],
+    ends: (usize, usize),
+    is_upper: bool,
+) -> Result<bool, OutOfMemory> {
+    match between_of(alloc, all, ends)? {
+        Some(name) => Ok(put_between(all, ends, is_upper, name)),
         None => Ok(false),
     }
 }
 
+// Whether a locator has these digits, if they are given, and so has its copy.
+fn is_last(
+    alloc: Global,
+    last: Option<&Locator>,
+    want: Option<&[(u64, u64)]>,
+) -> Result<bool, OutOfMemory> {
+    match (last, want) {
+        (Some(last), Some(runs)) => is_of(alloc, last, runs),
+        (Some(last), None) => Ok(last.copy(alloc)? == *last),
+        (None, _) => Ok(false),
+    }
+}
+
+fn grows(alloc: Global, all: &mut [Locator], row: &Growth) -> Result<bool, OutOfMemory> {
+    let &(habit, ends, count, want) = row;
+    let mut right = true;
+    for turn in 1..count {
+        right = put_next(alloc, all, ends, habit.is_before(turn))? && right;
+    }
+    right = put_next(alloc, all, ends, false)? && right;
+    Ok(is_last(alloc, all.get(ends.0), want)? && right)
+}
+
+fn grows_to(alloc: Global, row: &Growth) -> Result<bool, OutOfMemory> {
+    let mut all = locators(alloc)?;
+    grows(alloc, all.as_mut_slice(), row)
+}
+
 #[test]
-fn grows_as_documented(rt: HostRuntime) -> Result<(), Fail> {
+fn grows_as_documented(rt: HostRuntime) -> Result<(), OutOfMemory> {
     for row in GROWTH {
         assert!(rt; grows_to(rt.alloc(), row)?, "{} names", row.2);
     }
-    Ok(())
-}
-
-// Whether each of so many names whose digits do not lie in the value is between its neighbours, and the last is as its copy.
-fn long_ones_are_ordered(alloc: Global, count: u64) -> Result<bool, OutOfMemory> {
-    match grow(alloc, Habit::Twice, (0, 1), count)? {
-        Some(last) => Ok(last.copy(alloc)? == last),
-        None => Ok(false),
-    }
-}
-
-#[test]
-fn orders_those_of_many_runs(rt: HostRuntime) -> Result<(), Fail> {
-    assert!(rt; long_ones_are_ordered(rt.alloc(), 300)?);
     Ok(())
 }

@@ -1,88 +1,99 @@
-//! Operations by tables.
+//! Stamps, versions and operations made of tables.
 use lamport_clock::{Lamport, Version};
 use op_model::{Counts, EditOp, Operation, Piece, Pieces, Text, UndoCount, UndoOp};
 use std::alloc::Global;
 use sum_tree::OutOfMemory;
 
 /// A stamp's value and replica.
-pub type Stamp = (u32, u16);
-
-/// Replicas and the greatest value seen of each.
-pub type Entries = &'static [(u16, u32)];
+pub(crate) type Stamp = (u32, u16);
 
 /// A range and the text in its place.
-pub type Change = (u64, u64, &'static str);
+pub(crate) type Change = (u64, u64, &'static str);
 
-/// An edit's pieces, an edit's one text of so many letters, or an undo's counts.
+/// An edit's pieces, an edit of that many insertions at the front of that many letters each, or an undo's counts.
 #[derive(Clone, Copy)]
-pub enum Parts {
+pub(crate) enum Parts {
     Pieces(&'static [Change]),
-    Letters(usize),
-    Counts(&'static [(Lamport, u32)]),
+    Letters(usize, usize),
+    Counts(&'static [(Stamp, u32)]),
 }
 
-/// The stamp of this value and replica.
-pub fn stamp((value, replica): Stamp) -> Lamport {
+pub(crate) fn stamp((value, replica): Stamp) -> Lamport {
     Lamport { value, replica }
 }
 
-/// The version that has seen these entries.
-pub fn version(alloc: Global, entries: &[(u16, u32)]) -> Result<Version, OutOfMemory> {
+/// The version that has seen these stamps.
+pub(crate) fn version(alloc: Global, stamps: &[Stamp]) -> Result<Version, OutOfMemory> {
     let mut version = Version::new(alloc);
-    for &(replica, value) in entries {
-        version.observe(Lamport { value, replica })?;
+    for &at in stamps {
+        version.observe(stamp(at))?;
     }
     Ok(version)
 }
 
-/// The pieces of these changes.
-pub fn pieces(alloc: Global, changes: &[Change]) -> Result<Vec<Piece>, OutOfMemory> {
+/// These stamps.
+pub(crate) fn stamps(alloc: Global, rows: &[Stamp]) -> Result<Vec<Lamport>, OutOfMemory> {
+    let mut stamps = Vec::with_capacity(alloc, rows.len())?;
+    for &row in rows {
+        stamps.push(stamp(row))?;
+    }
+    Ok(stamps)
+}
+
+fn piece(alloc: Global, (start, end, text): Change) -> Result<Piece, OutOfMemory> {
+    let text = Text::new(String::from_str(alloc, text)?);
+    Ok(Piece { start, end, text })
+}
+
+pub(crate) fn pieces(alloc: Global, changes: &[Change]) -> Result<Vec<Piece>, OutOfMemory> {
     let mut pieces = Vec::new(alloc);
-    for &(start, end, text) in changes {
-        pieces.push(Piece {
-            start,
-            end,
-            text: Text::new(String::from_str(alloc, text)?),
-        })?;
+    for &change in changes {
+        pieces.push(piece(alloc, change)?)?;
     }
     Ok(pieces)
 }
 
-// One insertion at the front of so many letters.
-fn letters(alloc: Global, count: usize) -> Result<Vec<Piece>, OutOfMemory> {
+// An insertion of that many letters at the front.
+fn letters(alloc: Global, count: usize) -> Result<Piece, OutOfMemory> {
     let mut text = String::new(alloc);
     for _ in 0..count {
         text.push('x')?;
     }
-    let mut pieces = Vec::new(alloc);
-    pieces.push(Piece {
+    let text = Text::new(text);
+    Ok(Piece {
         start: 0,
         end: 0,
-        text: Text::new(text),
-    })?;
+        text,
+    })
+}
+
+fn insertions(alloc: Global, count: usize, length: usize) -> Result<Vec<Piece>, OutOfMemory> {
+    let mut pieces = Vec::new(alloc);
+    for _ in 0..count {
+        pieces.push(letters(alloc, length)?)?;
+    }
     Ok(pieces)
 }
 
-/// What an undo counts.
-pub fn counts(alloc: Global, rows: &[(Lamport, u32)]) -> Result<Counts, OutOfMemory> {
+fn counts(alloc: Global, rows: &[(Stamp, u32)]) -> Result<Counts, OutOfMemory> {
     let mut counts = Vec::new(alloc);
     for &(edit, count) in rows {
+        let edit = stamp(edit);
         counts.push(UndoCount { edit, count })?;
     }
     Ok(Counts::new(counts))
 }
 
-/// An edit of these pieces.
-pub fn edit_of(stamp: Lamport, version: Version, pieces: Vec<Piece>) -> Operation {
+fn edit_of(stamp: Lamport, version: Version, pieces: Vec<Piece>) -> Operation {
+    let pieces = Pieces::new(pieces);
     Operation::Edit(EditOp {
         stamp,
         version,
-        pieces: Pieces::new(pieces),
+        pieces,
     })
 }
 
-/// An undo of these counts.
-pub fn undo_of(stamp: Lamport, version: Version, counts: Counts) -> Operation {
+fn undo_of(stamp: Lamport, version: Version, counts: Counts) -> Operation {
     Operation::Undo(UndoOp {
         stamp,
         version,
@@ -90,17 +101,20 @@ pub fn undo_of(stamp: Lamport, version: Version, counts: Counts) -> Operation {
     })
 }
 
-/// The operation of this stamp that has seen these entries and has these parts.
-pub fn operation(
+/// The operation of this stamp that has seen these and has these parts.
+pub(crate) fn operation(
     alloc: Global,
-    stamp: Lamport,
-    entries: &[(u16, u32)],
+    at: Stamp,
+    seen: &[Stamp],
     parts: Parts,
 ) -> Result<Operation, OutOfMemory> {
-    let version = version(alloc, entries)?;
+    let version = version(alloc, seen)?;
+    let at = stamp(at);
     match parts {
-        Parts::Pieces(changes) => Ok(edit_of(stamp, version, pieces(alloc, changes)?)),
-        Parts::Letters(count) => Ok(edit_of(stamp, version, letters(alloc, count)?)),
-        Parts::Counts(rows) => Ok(undo_of(stamp, version, counts(alloc, rows)?)),
+        Parts::Pieces(changes) => Ok(edit_of(at, version, pieces(alloc, changes)?)),
+        Parts::Letters(count, length) => {
+            Ok(edit_of(at, version, insertions(alloc, count, length)?))
+        }
+        Parts::Counts(rows) => Ok(undo_of(at, version, counts(alloc, rows)?)),
     }
 }

@@ -1,10 +1,9 @@
-//! Texts kept as ropes, with ample memory.
+//! Changes of ropes.
 use crate::operations::{Change, pieces};
 use op_model::{EditFault, Piece, text_total};
 use rope_chunks::Rope;
 use rope_edits::{piece_fault, replace_ranges};
 use std::alloc::Global;
-use std::test::Fail;
 use sum_tree::OutOfMemory;
 
 // Changes of a text, and their fault, or the text with them.
@@ -74,7 +73,7 @@ fn is_changed(alloc: Global, case: &Changed) -> Result<bool, OutOfMemory> {
 }
 
 #[test]
-fn replaces_ranges(rt: HostRuntime) -> Result<(), Fail> {
+fn ranges_are_replaced_or_refused(rt: HostRuntime) -> Result<(), OutOfMemory> {
     for case in CHANGED {
         assert!(rt;
             is_changed(rt.alloc(), case)?,

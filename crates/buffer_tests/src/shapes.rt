@@ -1,20 +1,13 @@
-//! Shapes of operations, equal operations and copies, with ample memory.
-use crate::operations::{Entries, Parts, Stamp, edit_of, operation, pieces, stamp, version};
-use lamport_clock::Lamport;
+//! Shapes of operations, equal operations and copies.
+use crate::operations::{Parts, Stamp, operation};
 use op_model::{Operation, ShapeFault, shape};
 use std::alloc::Global;
-use std::test::Fail;
 use sum_tree::OutOfMemory;
 
-// A stamp, a version's entries, the parts, and what `shape` answers.
-type Row = (Stamp, Entries, Parts, Result<(), ShapeFault>);
+// A stamp, what it has seen, the parts, and what `shape` answers.
+type Row = (Stamp, &'static [Stamp], Parts, Result<(), ShapeFault>);
 
-const SEVENTH: Lamport = Lamport {
-    value: 7,
-    replica: 1,
-};
-
-const BASE: Entries = &[(0, 1)];
+const BASE: &[Stamp] = &[(1, 0)];
 
 const NONE: Parts = Parts::Pieces(&[]);
 
@@ -26,11 +19,11 @@ const ROWS: &[Row] = &[
     ((4_294_967_295, 1), BASE, NONE, BAD),
     ((2, 0), BASE, NONE, BAD),
     ((2, 1024), BASE, NONE, BAD),
-    ((9, 1), &[(0, 1), (1024, 3)], NONE, BAD),
-    ((3, 1), &[(0, 1), (2, 3)], Parts::Counts(&[]), BAD),
+    ((9, 1), &[(1, 0), (3, 1024)], NONE, BAD),
+    ((3, 1), &[(1, 0), (3, 2)], Parts::Counts(&[]), BAD),
     (
         (4_294_967_294, 1023),
-        &[(0, 1), (1023, 4_294_967_293)],
+        &[(1, 0), (4_294_967_293, 1023)],
         NONE,
         Ok(()),
     ),
@@ -42,8 +35,8 @@ const ROWS: &[Row] = &[
     ),
     (
         (3, 4),
-        &[(0, 2)],
-        Parts::Counts(&[(SEVENTH, 1)]),
+        &[(2, 0)],
+        Parts::Counts(&[((7, 1), 1)]),
         Err(ShapeFault::NoBase),
     ),
     (
@@ -78,31 +71,29 @@ const ROWS: &[Row] = &[
     ),
     (
         (9, 4),
-        &[(0, 1), (4, 3)],
+        &[(1, 0), (3, 4)],
         Parts::Pieces(&[(0, 2, ""), (2, 2, "x")]),
         Ok(()),
     ),
     ((9, 4), BASE, NONE, Ok(())),
     ((9, 4), BASE, Parts::Counts(&[]), Ok(())),
-    ((9, 4), BASE, Parts::Counts(&[(SEVENTH, 1)]), Ok(())),
-    ((9, 4), BASE, Parts::Counts(&[(SEVENTH, 2)]), Ok(())),
+    ((9, 4), BASE, Parts::Counts(&[((7, 1), 1)]), Ok(())),
+    ((9, 4), BASE, Parts::Counts(&[((7, 1), 2)]), Ok(())),
+    ((2, 1), BASE, Parts::Letters(4096, 16), Ok(())),
+    (
+        (2, 1),
+        BASE,
+        Parts::Letters(4097, 16),
+        Err(ShapeFault::TextLimit(65_552)),
+    ),
 ];
 
 fn operation_of(alloc: Global, row: &Row) -> Result<Operation, OutOfMemory> {
-    let &(at, entries, parts, _) = row;
-    operation(alloc, stamp(at), entries, parts)
+    operation(alloc, row.0, row.1, row.2)
 }
 
 fn is_shaped(alloc: Global, row: &Row) -> Result<bool, OutOfMemory> {
     Ok(shape(&operation_of(alloc, row)?) == row.3)
-}
-
-#[test]
-fn shapes(rt: HostRuntime) -> Result<(), Fail> {
-    for row in ROWS {
-        assert!(rt; is_shaped(rt.alloc(), row)?, "{:?}", row.0);
-    }
-    Ok(())
 }
 
 fn operations(alloc: Global) -> Result<Vec<Operation>, OutOfMemory> {
@@ -127,37 +118,25 @@ fn shared_copy(alloc: Global, op: &Operation) -> Result<Operation, OutOfMemory> 
     op.copy(alloc)?.into_shared(alloc)?.copy(alloc)
 }
 
-fn copies_are_same(alloc: Global) -> Result<bool, OutOfMemory> {
-    let all = operations(alloc)?;
-    let mut right = true;
+// How many operations are the same as their copies, and as no others.
+fn count_copies(alloc: Global, all: &[Operation]) -> Result<usize, OutOfMemory> {
     for (i, op) in all.iter().enumerate() {
-        right = is_same_alone(all.as_slice(), &op.copy(alloc)?, i) && right;
-        right = is_same_alone(all.as_slice(), &shared_copy(alloc, op)?, i) && right;
+        if !is_same_alone(all, &op.copy(alloc)?, i)
+            || !is_same_alone(all, &shared_copy(alloc, op)?, i)
+        {
+            return Ok(i);
+        }
     }
-    Ok(right)
+    Ok(all.len())
 }
 
 #[test]
-fn copies_are_the_same_and_no_others(rt: HostRuntime) -> Result<(), Fail> {
-    assert!(rt; copies_are_same(rt.alloc())?);
-    Ok(())
-}
-
-// The shape of an edit of that many pieces of sixteen letters.
-fn shape_of_letters(alloc: Global, count: usize) -> Result<Result<(), ShapeFault>, OutOfMemory> {
-    let rows = Vec::from_elem(alloc, (0, 0, "sixteen letters."), count)?;
-    let pieces = pieces(alloc, &rows)?;
-    let op = edit_of(stamp((2, 1)), version(alloc, BASE)?, pieces);
-    Ok(shape(&op))
-}
-
-#[test]
-fn texts_at_their_limit(rt: HostRuntime) -> Result<(), Fail> {
-    for (count, want) in [(4096, Ok(())), (4097, Err(ShapeFault::TextLimit(65_552)))] {
-        assert!(rt;
-            shape_of_letters(rt.alloc(), count)? == want,
-            "{count} pieces"
-        );
+fn operations_have_shapes_and_copies(rt: HostRuntime) -> Result<(), OutOfMemory> {
+    for row in ROWS {
+        assert!(rt; is_shaped(rt.alloc(), row)?, "{:?} for {:?}", row.3, row.0);
     }
+    let all = operations(rt.alloc())?;
+    let right = count_copies(rt.alloc(), all.as_slice())?;
+    assert!(rt; right == all.len(), "row {right}");
     Ok(())
 }

@@ -1,10 +1,10 @@
-//! What waits and what is ready, with ample memory.
-use crate::operations::{Entries, Parts, Stamp, operation, stamp, version};
+//! Operations that wait, what of them is ready, and operations that are applied.
+use crate::operations::{Parts, Stamp, operation, stamp, version};
+use applied_ops::AppliedList;
 use deferred_ops::Deferred;
 use lamport_clock::Lamport;
 use op_model::Operation;
 use std::alloc::Global;
-use std::test::Fail;
 use sum_tree::OutOfMemory;
 
 const EDIT: Parts = Parts::Pieces(&[]);
@@ -12,15 +12,15 @@ const EDIT: Parts = Parts::Pieces(&[]);
 const UNDO: Parts = Parts::Counts(&[]);
 
 // What waits, in the order in which it is added, with what it has seen.
-const WAITING: &[(Parts, Stamp, Entries)] = &[
-    (EDIT, (4, 3), &[(0, 1), (1, 3)]),
-    (UNDO, (2, 2), &[(0, 1)]),
-    (EDIT, (3, 1), &[(0, 1), (1, 2)]),
-    (UNDO, (4, 1), &[(0, 1), (1, 3)]),
+const WAITING: &[(Parts, Stamp, &[Stamp])] = &[
+    (EDIT, (4, 3), &[(1, 0), (3, 1)]),
+    (UNDO, (2, 2), &[(1, 0)]),
+    (EDIT, (3, 1), &[(1, 0), (2, 1)]),
+    (UNDO, (4, 1), &[(1, 0), (3, 1)]),
 ];
 
 // Adds an operation where none of its stamp waits.
-fn wait(deferred: &mut Deferred, op: Operation) -> Result<(), OutOfMemory> {
+fn add(deferred: &mut Deferred, op: Operation) -> Result<(), OutOfMemory> {
     if deferred.get(op.stamp()).is_none() {
         deferred.add(op)?;
     }
@@ -29,13 +29,12 @@ fn wait(deferred: &mut Deferred, op: Operation) -> Result<(), OutOfMemory> {
 
 fn waiting_list(alloc: Global) -> Result<Deferred, OutOfMemory> {
     let mut deferred = Deferred::new(alloc)?;
-    for &(parts, at, causes) in WAITING {
-        wait(&mut deferred, operation(alloc, stamp(at), causes, parts)?)?;
+    for &(parts, at, seen) in WAITING {
+        add(&mut deferred, operation(alloc, at, seen, parts)?)?;
     }
     Ok(deferred)
 }
 
-// The stamp of an operation.
 fn stamp_of(op: Option<&Operation>) -> Option<Lamport> {
     match op {
         None => None,
@@ -43,99 +42,115 @@ fn stamp_of(op: Option<&Operation>) -> Option<Lamport> {
     }
 }
 
-fn is(op: Option<&Operation>, want: Option<Stamp>) -> bool {
-    stamp_of(op) == want.map(stamp)
+fn has(deferred: &Deferred, at: Stamp) -> bool {
+    stamp_of(deferred.get(stamp(at))) == Some(stamp(at))
 }
 
 // Whether nothing waits, nor is ready.
-fn is_without(alloc: Global) -> Result<bool, OutOfMemory> {
-    let none = version(alloc, &[])?;
+fn is_empty(alloc: Global) -> Result<bool, OutOfMemory> {
     let mut deferred = Deferred::new(alloc)?;
-    let empty = deferred.len() == 0 && is(deferred.get(stamp((1, 0))), None);
-    Ok(is(deferred.ready(None, &none), None) && empty && deferred.remove(stamp((1, 0))).is_none())
+    let none = deferred.len() == 0 && deferred.remove(stamp((1, 0))).is_none();
+    Ok(none && !has(&deferred, (1, 0)) && deferred.ready(None, &version(alloc, &[])?).is_none())
 }
 
-// Whether what waits is found by its stamp, until it is taken out.
-fn is_by_stamps(alloc: Global) -> Result<bool, OutOfMemory> {
-    let mut deferred = waiting_list(alloc)?;
-    let there = is(deferred.get(stamp((3, 1))), Some((3, 1)));
-    let before = deferred.len() == 4 && there && is(deferred.get(stamp((1, 3))), None);
-    let taken = is(deferred.remove(stamp((3, 1))).as_ref(), Some((3, 1)));
-    let after = deferred.len() == 3 && is(deferred.get(stamp((3, 1))), None);
-    Ok(before && taken && after)
-}
-
-#[test]
-fn by_stamps(rt: HostRuntime) -> Result<(), Fail> {
-    assert!(rt; is_without(rt.alloc())?);
-    assert!(rt; is_by_stamps(rt.alloc())?);
-    Ok(())
+// Whether what waits is found by its stamp, until it is removed.
+fn is_found(deferred: &mut Deferred) -> bool {
+    let before = deferred.len() == 4 && has(deferred, (3, 1)) && !has(deferred, (1, 3));
+    let removed = stamp_of(deferred.remove(stamp((3, 1))).as_ref()) == Some(stamp((3, 1)));
+    before && removed && deferred.len() == 3 && !has(deferred, (3, 1))
 }
 
 // A stamp to begin after, what was seen, and what is ready then.
-const READY: &[(Option<Stamp>, Entries, Option<Stamp>)] = &[
+const READY: &[(Option<Stamp>, &[Stamp], Option<Stamp>)] = &[
     (None, &[], None),
-    (None, &[(0, 1)], Some((2, 2))),
-    (Some((2, 1)), &[(0, 1)], Some((2, 2))),
-    (Some((2, 2)), &[(0, 1)], None),
-    (Some((2, 2)), &[(0, 1), (1, 3)], Some((3, 1))),
-    (Some((3, 1)), &[(0, 1), (1, 3)], Some((4, 1))),
-    (Some((4, 1)), &[(0, 1), (1, 3)], Some((4, 3))),
-    (Some((4, 3)), &[(0, 1), (1, 3)], None),
+    (None, &[(1, 0)], Some((2, 2))),
+    (Some((2, 1)), &[(1, 0)], Some((2, 2))),
+    (Some((2, 2)), &[(1, 0)], None),
+    (Some((2, 2)), &[(1, 0), (3, 1)], Some((3, 1))),
+    (Some((3, 1)), &[(1, 0), (3, 1)], Some((4, 1))),
+    (Some((4, 1)), &[(1, 0), (3, 1)], Some((4, 3))),
+    (Some((4, 3)), &[(1, 0), (3, 1)], None),
 ];
 
-// What was seen when what waits was watched.
-const WATCHED: &[Entries] = &[
-    &[],
-    &[(0, 1)],
-    &[(0, 1), (1, 2)],
-    &[(0, 1), (1, 3)],
-    &[(7, 9)],
+// What was seen when what waits was watched, where it was.
+const WATCHED: &[Option<&[Stamp]>] = &[
+    None,
+    Some(&[]),
+    Some(&[(1, 0)]),
+    Some(&[(1, 0), (2, 1)]),
+    Some(&[(1, 0), (3, 1)]),
+    Some(&[(9, 7)]),
 ];
 
-// What is ready for whoever has seen these entries.
-fn ready(
+fn watch(
     alloc: Global,
-    after: Option<Stamp>,
-    have: Entries,
-) -> Result<Option<Lamport>, OutOfMemory> {
-    let have = version(alloc, have)?;
-    let deferred = waiting_list(alloc)?;
-    Ok(stamp_of(deferred.ready(after.map(stamp), &have)))
-}
-
-// The same where what waits was watched before, for whoever has seen other entries.
-fn ready_after_watch(
-    alloc: Global,
-    watched: Entries,
-    after: Option<Stamp>,
-    have: Entries,
-) -> Result<Option<Lamport>, OutOfMemory> {
-    let have = version(alloc, have)?;
-    let mut deferred = waiting_list(alloc)?;
-    deferred.watch(&version(alloc, watched)?);
-    Ok(stamp_of(deferred.ready(after.map(stamp), &have)))
-}
-
-#[test]
-fn the_least_that_misses_nothing(rt: HostRuntime) -> Result<(), Fail> {
-    for &(after, have, want) in READY {
-        let found = ready(rt.alloc(), after, have)?;
-        assert!(rt; found == want.map(stamp), "after {after:?}");
+    deferred: &mut Deferred,
+    watched: Option<&[Stamp]>,
+) -> Result<(), OutOfMemory> {
+    if let Some(seen) = watched {
+        deferred.watch(&version(alloc, seen)?);
     }
     Ok(())
 }
 
-#[test]
-fn the_least_is_the_same_once_watched(rt: HostRuntime) -> Result<(), Fail> {
-    for &watched in WATCHED {
-        for &(after, have, want) in READY {
-            let found = ready_after_watch(rt.alloc(), watched, after, have)?;
-            assert!(rt;
-                found == want.map(stamp),
-                "after {after:?}, watched {watched:?}"
-            );
+fn ready(
+    alloc: Global,
+    deferred: &Deferred,
+    after: Option<Stamp>,
+    have: &[Stamp],
+) -> Result<Option<Lamport>, OutOfMemory> {
+    let have = version(alloc, have)?;
+    Ok(stamp_of(deferred.ready(after.map(stamp), &have)))
+}
+
+// The first row that is wrong of what is ready.
+fn wrong_row(alloc: Global, deferred: &Deferred) -> Result<Option<usize>, OutOfMemory> {
+    for (i, &(after, have, want)) in READY.iter().enumerate() {
+        if ready(alloc, deferred, after, have)? != want.map(stamp) {
+            return Ok(Some(i));
         }
     }
+    Ok(None)
+}
+
+fn wrong_row_after(alloc: Global, watched: Option<&[Stamp]>) -> Result<Option<usize>, OutOfMemory> {
+    let mut deferred = waiting_list(alloc)?;
+    watch(alloc, &mut deferred, watched)?;
+    wrong_row(alloc, &deferred)
+}
+
+#[test]
+fn the_least_that_misses_nothing_is_ready(rt: HostRuntime) -> Result<(), OutOfMemory> {
+    assert!(rt; is_empty(rt.alloc())? && is_found(&mut waiting_list(rt.alloc())?));
+    for &watched in WATCHED {
+        let wrong = wrong_row_after(rt.alloc(), watched)?;
+        assert!(rt; wrong.is_none(), "row {wrong:?}, watched {watched:?}");
+    }
+    Ok(())
+}
+
+fn is_applied(applied: &AppliedList, at: Stamp) -> bool {
+    stamp_of(applied.find(stamp(at))) == Some(stamp(at))
+}
+
+// Puts an operation last where none of its stamp is applied.
+fn apply(alloc: Global, applied: &mut AppliedList, op: Operation) -> Result<(), OutOfMemory> {
+    if applied.find(op.stamp()).is_none() {
+        applied.push(alloc, op)?;
+    }
+    Ok(())
+}
+
+// Whether an operation is found once it is applied.
+fn is_found_once_applied(alloc: Global) -> Result<bool, OutOfMemory> {
+    let mut applied = AppliedList::new(alloc)?;
+    let before = is_applied(&applied, (2, 1));
+    apply(alloc, &mut applied, operation(alloc, (2, 1), &[], EDIT)?)?;
+    Ok(!before && is_applied(&applied, (2, 1)) && applied.len() == 1)
+}
+
+#[test]
+fn an_operation_is_found_once_applied(rt: HostRuntime) -> Result<(), OutOfMemory> {
+    assert!(rt; is_found_once_applied(rt.alloc())?);
     Ok(())
 }

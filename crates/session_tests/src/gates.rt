@@ -1,122 +1,239 @@
-//! Workers beside the editor: which of them goes first is said by gates, or left to chance.
-use crate::replaying::call_at;
+//! Workers beside the editor: gates say which of them goes first, and keep who called them.
+use crate::calls::{AMPLE, Run, Wanted, comes_to};
+use crate::tally::{Host, Tally};
 use op_model::OutOfMemory;
-use session_replay::{Gate, MemSink, MemSource, Status};
+use session_replay::Gate;
 use std::alloc::Global;
-use std::sync::Wait;
-use std::sync::atomic::{AtomicBool, Ordering};
-use std::test::Fail;
+use std::sync::{Mutex, Wait};
 use std::thread::{self, Threads};
+
+// A call of a gate, with the number of the thread and that of the job or line.
+#[derive(Clone, Copy, PartialEq)]
+enum Call {
+    // Before a job, or before a line.
+    Hold(u32, u64),
+    // After a job.
+    Done(u32, u64),
+    // No call of a gate: a thread that was held went on, since the call for which it waited did not come.
+    GaveUp,
+}
+
+use Call::{Done, GaveUp, Hold};
+
+// A call that is held, and the call for which it waits.
+type Rule = (Call, Call);
+
+// A gate that keeps its calls in their order, and holds those of its rules.
+#[derive(Drop)]
+struct Log {
+    rules: &'static [Rule],
+    calls: Mutex<Vec<Call>>,
+}
 
 // How often a thread that is held yields at most.
 const TURNS: u64 = 10_000_000;
 
-// Holds one thread until a job is done.
-#[derive(Drop)]
-struct Until {
-    // Who is held: a worker, or the editor, which goes by the number of workers.
-    worker: u32,
-    // The job before which it is held, or the line of the session.
-    job: u64,
-    // The job that is to be done first.
-    first: u64,
-    is_done: AtomicBool,
-    ran_out: AtomicBool,
-}
+impl Log {
+    fn push<R: Wait>(&self, rt: &R, call: Call) {
+        let _ = self.calls.lock(rt).push(call);
+    }
 
-impl Until {
-    fn new(worker: u32, job: u64, first: u64) -> Until {
-        Until {
-            worker,
-            job,
-            first,
-            is_done: AtomicBool::new(false),
-            ran_out: AtomicBool::new(false),
+    fn has<R: Wait>(&self, rt: &R, call: Call) -> bool {
+        self.calls.lock(rt).contains(&call)
+    }
+
+    // Keeps the call, and holds it until the call for which it waits was made.
+    fn enter<R: Wait>(&self, rt: &R, call: Call) {
+        self.push(rt, call);
+        for (held, awaited) in self.rules {
+            if *held == call {
+                self.wait_for(rt, *awaited);
+            }
         }
     }
-}
 
-impl Gate for Until {
-    fn hold<R: Threads + Wait + Sync>(&self, _rt: &R, worker: u32, job: u64) {
-        if worker != self.worker || job != self.job {
-            return;
-        }
+    fn wait_for<R: Wait>(&self, rt: &R, awaited: Call) {
         for _ in 0..TURNS {
-            if self.is_done.load(Ordering::SeqCst) {
+            if self.has(rt, awaited) {
                 return;
             }
             thread::yield_now();
         }
-        self.ran_out.store(true, Ordering::SeqCst);
-    }
-
-    fn done<R: Threads + Wait + Sync>(&self, _rt: &R, _worker: u32, job: u64) {
-        if job == self.first {
-            self.is_done.store(true, Ordering::SeqCst);
-        }
+        self.push(rt, GaveUp);
     }
 }
 
-// Whether a session with so many workers, held at this gate, has this report, and nobody's turns ran out.
-fn come_to_at<R: Threads + Wait + Sync>(
-    rt: &R,
-    alloc: Global,
-    workers: &str,
-    gate: &Until,
-    session: &str,
-    report: &str,
-) -> Result<bool, OutOfMemory> {
-    let mut source = MemSource::new(session.as_bytes().to_vec(alloc)?, 4096, Vec::new(alloc));
-    let mut sink = MemSink::new(alloc, 4096, 4096, Vec::new(alloc))?;
-    let words = ["replay", "--workers", workers];
-    let status = call_at(rt, alloc, words.as_slice(), &mut source, &mut sink, gate)?;
-    let is_report = status == Status::Done && sink.bytes() == report.as_bytes();
-    Ok(is_report && !gate.ran_out.load(Ordering::SeqCst))
+impl Gate for Log {
+    fn hold<R: Threads + Wait + Sync>(&self, rt: &R, worker: u32, job: u64) {
+        self.enter(rt, Hold(worker, job));
+    }
+
+    fn done<R: Threads + Wait + Sync>(&self, rt: &R, worker: u32, job: u64) {
+        self.enter(rt, Done(worker, job));
+    }
 }
 
-const FOUND_BEHIND: &str = r#"["zedbuf",1,"ab",[1]]
+// A session at a gate.
+struct Case {
+    name: &'static str,
+    words: &'static str,
+    rules: &'static [Rule],
+    session: &'static str,
+    report: &'static str,
+    // The calls of each thread, in their order: those of the workers, and then those of the editor.
+    calls: &'static [&'static [Call]],
+}
+
+const FIND_FIRST: &str = r#"["zedbuf",1,"ab",[1]]
+["find",1,"a"]
+["edit",1,[[2,2,"a"]]]
+["find",1,"b"]
+["text",1]
+"#;
+
+const EDIT_FIRST: &str = r#"["zedbuf",1,"ab",[1]]
 ["edit",1,[[2,2,"a"]]]
 ["find",1,"a"]
 ["find",1,"b"]
+["text",1]
 "#;
 
-const FOUND_BEFORE: &str = r#"["zedbuf",1,"ab",[1]]
-["find",1,"a"]
-["edit",1,[[2,2,"a"]]]
-["find",1,"b"]
-"#;
-
-// The report of both, where the first find is answered on all operations.
-const ALL: &str = r#"1: 2.1
+// The report of both, where the first find is answered with the edit.
+const WITH_EDIT: &str = r#"1: 2.1
+text 1: 3 bytes, end 0:3, 1 rows, "aba"
 find 1 at 1: 0 2
 find 2 at 1: 1
 replica 1: 3 bytes, 1 rows, 1 applied, 0 waiting, 0 refused
 final 1: "aba"
 "#;
 
-// The report of the second, where its first find is answered on the base.
-const BASE: &str = r#"1: 2.1
+// The report of the first, where its first find is answered on the base.
+const ON_BASE: &str = r#"1: 2.1
+text 1: 3 bytes, end 0:3, 1 rows, "aba"
 find 1 at 0: 0
 find 2 at 1: 1
 replica 1: 3 bytes, 1 rows, 1 applied, 0 waiting, 0 refused
 final 1: "aba"
 "#;
 
-#[test]
-fn a_worker_is_held_until_another_is_done(rt: HostRuntime) -> Result<(), Fail> {
-    // one worker alone would answer the second find only behind the first
-    for session in [FOUND_BEHIND, FOUND_BEFORE] {
-        let gate = Until::new(0, 1, 2);
-        let is_right = come_to_at(&rt, rt.alloc(), "2", &gate, session, ALL)?;
-        assert!(rt; is_right, "{session}");
+const BY_ONE: &[&[Call]] = &[
+    &[Hold(0, 1), Done(0, 1), Hold(0, 2), Done(0, 2)],
+    &[Hold(1, 2), Hold(1, 3), Hold(1, 4), Hold(1, 5)],
+];
+
+const BY_TWO: &[&[Call]] = &[
+    &[Hold(0, 1), Done(0, 1)],
+    &[Hold(1, 2), Done(1, 2)],
+    &[Hold(2, 2), Hold(2, 3), Hold(2, 4), Hold(2, 5)],
+];
+
+const CASES: &[Case] = &[
+    // One worker alone would answer the second find only after the first.
+    Case {
+        name: "a worker is held until another is done",
+        words: "replay --workers 2",
+        rules: &[(Hold(0, 1), Done(1, 2))],
+        session: EDIT_FIRST,
+        report: WITH_EDIT,
+        calls: BY_TWO,
+    },
+    Case {
+        name: "a worker is held until another is done with a later version",
+        words: "replay --workers 2",
+        rules: &[(Hold(0, 1), Done(1, 2))],
+        session: FIND_FIRST,
+        report: WITH_EDIT,
+        calls: BY_TWO,
+    },
+    // The first find is answered on the base, which an editor that ends before its workers start misses.
+    Case {
+        name: "the editor is held until a worker is done",
+        words: "replay --workers 2",
+        rules: &[(Hold(2, 3), Done(0, 1))],
+        session: FIND_FIRST,
+        report: ON_BASE,
+        calls: BY_TWO,
+    },
+    // The editor does not edit before the worker is held, and the worker is held until the edit is published.
+    Case {
+        name: "a worker is held before it answers",
+        words: "replay --workers 1",
+        rules: &[(Hold(1, 3), Hold(0, 1)), (Hold(0, 1), Hold(1, 5))],
+        session: FIND_FIRST,
+        report: WITH_EDIT,
+        calls: BY_ONE,
+    },
+    // The editor does not edit before the worker is done, and the worker is held there until the edit is published.
+    Case {
+        name: "a worker is done once it has answered",
+        words: "replay --workers 1",
+        rules: &[(Hold(1, 3), Done(0, 1)), (Done(0, 1), Hold(1, 5))],
+        session: FIND_FIRST,
+        report: ON_BASE,
+        calls: BY_ONE,
+    },
+    Case {
+        name: "with 0 workers nobody calls the gate",
+        words: "replay --workers 0",
+        rules: &[],
+        session: FIND_FIRST,
+        report: ON_BASE,
+        calls: &[],
+    },
+];
+
+/// Tests each session at its gate.
+pub fn test<R: Host>(rt: &R, tally: &mut Tally) {
+    for case in CASES {
+        let is_right = is_right(rt, rt.alloc(), case) == Ok(true);
+        tally.note(rt, "gates", case.name, is_right);
     }
-    Ok(())
 }
 
-#[test]
-fn the_editor_is_held_until_a_worker_is_done(rt: HostRuntime) -> Result<(), Fail> {
-    // the edit is held, so the first find is answered on the base, which an editor that ends before its workers start misses
-    let gate = Until::new(2, 3, 1);
-    assert!(rt; come_to_at(&rt, rt.alloc(), "2", &gate, FOUND_BEFORE, BASE)?);
-    Ok(())
+fn is_right<R: Threads + Wait + Sync>(
+    rt: &R,
+    alloc: Global,
+    case: &Case,
+) -> Result<bool, OutOfMemory> {
+    let gate = Log {
+        rules: case.rules,
+        calls: Mutex::new(Vec::new(alloc)),
+    };
+    let run = Run {
+        words: case.words,
+        input: case.session.as_bytes(),
+        ends: AMPLE,
+    };
+    let wanted = Wanted::Bytes(case.report.as_bytes());
+    let is_reported = comes_to(rt, alloc, &gate, run, wanted)?;
+    let calls = gate.calls.lock(rt);
+    Ok(is_reported && are_calls(&calls, case.calls))
+}
+
+// Whether each thread made its calls, and no other.
+fn are_calls(log: &[Call], threads: &[&[Call]]) -> bool {
+    let mut count: usize = 0;
+    let mut number: u32 = 0;
+    for calls in threads {
+        if !are_calls_of(log, number, calls) {
+            return false;
+        }
+        number = number.saturating_add(1);
+        count = count.saturating_add(calls.len());
+    }
+    log.len() == count
+}
+
+fn are_calls_of(log: &[Call], thread: u32, calls: &[Call]) -> bool {
+    let mut rest = calls.iter();
+    for call in log {
+        let is_own = match call {
+            Hold(worker, _) | Done(worker, _) => *worker == thread,
+            GaveUp => false,
+        };
+        if is_own && rest.next() != Some(call) {
+            return false;
+        }
+    }
+    rest.next().is_none()
 }

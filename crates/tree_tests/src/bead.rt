@@ -1,4 +1,4 @@
-//! An item whose sums are refused where they have some width, as if there were no memory.
+//! An item whose sums are refused where they have some width, as if an allocation had failed.
 use crate::numbered::Numbered;
 use std::alloc::Global;
 use sum_tree::{Item, KeyedItem, OutOfMemory, Summary};
@@ -87,6 +87,8 @@ impl KeyedItem for Bead {
 }
 
 impl Numbered for Bead {
+    ghost sums_fit = { λ xs h. tt };
+
     fn of_number(_alloc: Global, number: u64) -> Result<Bead, OutOfMemory> {
         Ok(Bead { number })
     }

@@ -1,92 +1,51 @@
-//! The counted calls answer what those do that count nothing: worked examples.
+//! The counted calls answer what those do that count nothing.
 ghost use Rattle.std.specs.Prelude.{◌≡◌, ◌<◌};
 
-use crate::cursors::tree_of;
-use crate::keys::has_keys;
+use crate::mirror::has_numbers;
 use crate::ranked::Number;
-use crate::wide::{Wide, Width, id_of};
 use std::alloc::Global;
 use std::marker::Brand;
 use std::sync::ledger::{Blank, Ledger};
 use sum_tree::{Count, Steps, SumTree};
-use tree_cursor::{Bias, Cursor, OutOfMemory, locate};
+use tree_cursor::{Bias, Cursor, OutOfMemory};
 
-/// How many of the keys 3, 5 and 8 are asked for, the first so many, and the others.
-const ENDS: &[(u64, &[u64], &[u64])] = &[
-    (0, &[], &[3, 5, 8]),
-    (1, &[3], &[5, 8]),
-    (2, &[3, 5], &[8]),
-    (3, &[3, 5, 8], &[]),
-    (4, &[3, 5, 8], &[]),
-];
-
-// The name of the item that a seek from the start finds, and where it starts.
-fn spot<L: Ledger>(tree: &SumTree<Wide>, at: u64, bias: Bias, blank: Blank) -> (Option<u64>, u64)
-    requires name { blank.name ≡ L.name }
-    requires parts { blank.parts ≡ L.parts }
-    requires some { 0 < blank.parts }
-{
-    tree.known();
-    let mut steps = Steps::<L>::new(blank);
-    let (item, start) = locate(tree, Width { at: 0 }, &Width { at }, bias, &mut steps);
-    (id_of(item), start.at)
-}
-
-// The same in the tree of these widths.
-pub(crate) fn locate_in(
+// Pushes a number where there is room.
+fn push_to<L: Ledger>(
     alloc: Global,
-    widths: &[u64],
-    times: u64,
-    at: u64,
-    bias: Bias,
-) -> Result<(Option<u64>, u64), OutOfMemory> {
-    let tree = tree_of(alloc, widths, times)?;
-    Ok(spot::<Brand>(&tree, at, bias, Blank::new(1)))
-}
-
-// A small tree with a number more.
-fn push_one<L: Ledger>(
-    alloc: Global,
-    mut tree: SumTree<Number>,
+    tree: &mut SumTree<Number>,
     key: u64,
     steps: &mut Steps<L>,
-) -> Result<SumTree<Number>, OutOfMemory> {
+) -> Result<(), OutOfMemory> {
     if tree.len() >= 1_000_000 {
-        return Ok(tree);
+        return Ok(());
     }
-    tree.push_counted(alloc, Number { key }, steps)?;
-    Ok(tree)
+    tree.push_counted(alloc, Number { key }, steps)
 }
 
-// A small tree with the tree of a number behind it.
-fn append_one<L: Ledger>(
+// Puts the tree of a number behind the others where there is room.
+fn append_to<L: Ledger>(
     alloc: Global,
-    mut tree: SumTree<Number>,
+    tree: &mut SumTree<Number>,
     key: u64,
     steps: &mut Steps<L>,
-) -> Result<SumTree<Number>, OutOfMemory> {
+) -> Result<(), OutOfMemory> {
     if tree.len() >= 1_000_000 {
-        return Ok(tree);
+        return Ok(());
     }
     let last = SumTree::from_item(alloc, Number { key })?;
-    tree.append_counted(alloc, last, steps)?;
-    Ok(tree)
+    tree.append_counted(alloc, last, steps)
 }
 
-// A small tree without its first number.
-fn without_first<L: Ledger>(
+// Takes the first number out of a small tree.
+fn drop_first<L: Ledger>(
     alloc: Global,
-    mut tree: SumTree<Number>,
+    tree: &mut SumTree<Number>,
     steps: &mut Steps<L>,
-) -> Result<SumTree<Number>, OutOfMemory> {
-    if tree.len() >= 1_000_000 {
-        return Ok(tree);
+) -> Result<(), OutOfMemory> {
+    if tree.len() == 0 || tree.len() >= 1_000_000 {
+        return Ok(());
     }
-    if tree.len() == 0 {
-        return Ok(tree);
-    }
-    tree.splice_counted(alloc, 0, 1, Vec::new(alloc), steps)?;
-    Ok(tree)
+    tree.splice_counted(alloc, 0, 1, Vec::new(alloc), steps)
 }
 
 // Whether a slice up to the index 2 has these numbers, and the rest those.
@@ -94,103 +53,127 @@ fn cuts<L: Ledger>(
     alloc: Global,
     tree: &SumTree<Number>,
     bias: Bias,
-    front: &[u64],
-    rest: &[u64],
+    (front, rest): Halves,
     steps: &mut Steps<L>,
 ) -> Result<bool, OutOfMemory> {
     tree.known();
     let mut cursor = Cursor::new(tree, Count { items: 0 })?;
     let slice = cursor.slice_counted(alloc, &Count { items: 2 }, bias, steps)?;
     let suffix = cursor.suffix_counted(alloc, steps)?;
-    Ok(has_keys(&slice, front) && has_keys(&suffix, rest))
+    Ok(has_numbers(&slice, front) & has_numbers(&suffix, rest))
 }
 
-// The tree of the keys 3 and 5 with that of 8 behind it.
-fn three<L: Ledger>(alloc: Global, steps: &mut Steps<L>) -> Result<SumTree<Number>, OutOfMemory> {
-    let tree = SumTree::new(alloc)?;
-    let tree = push_one(alloc, tree, 3, steps)?;
-    let tree = push_one(alloc, tree, 5, steps)?;
-    append_one(alloc, tree, 8, steps)
-}
-
-// The height of the tree of so many numbers, pushed one by one.
-fn height_of<L: Ledger>(
+// Whether the first so many numbers are these, and the others those.
+fn ends<L: Ledger>(
     alloc: Global,
+    tree: &SumTree<Number>,
+    count: u64,
+    (first, others): Halves,
+    steps: &mut Steps<L>,
+) -> Result<bool, OutOfMemory> {
+    let in_front = has_numbers(&tree.take_front_counted(alloc, count, steps)?, first);
+    let rest = tree.drop_front_counted(alloc, count, steps)?;
+    Ok(has_numbers(&rest, others) & in_front)
+}
+
+// Adds the keys 3 and 5, and the tree of 8.
+fn add_three<L: Ledger>(
+    alloc: Global,
+    tree: &mut SumTree<Number>,
+    steps: &mut Steps<L>,
+) -> Result<(), OutOfMemory> {
+    push_to(alloc, tree, 3, steps)?;
+    push_to(alloc, tree, 5, steps)?;
+    append_to(alloc, tree, 8, steps)
+}
+
+// Pushes so many numbers one by one.
+fn push_many<L: Ledger>(
+    alloc: Global,
+    tree: &mut SumTree<Number>,
     count: u64,
     steps: &mut Steps<L>,
-) -> Result<u32, OutOfMemory> {
-    let mut tree = SumTree::new(alloc)?;
+) -> Result<(), OutOfMemory> {
     for key in 0..count {
-        tree = push_one(alloc, tree, key, steps)?;
+        push_to(alloc, tree, key, steps)?;
     }
-    Ok(tree.height())
-}
-
-// What the counted calls answer of the three keys.
-fn works_on_three<L: Ledger>(alloc: Global, blank: Blank) -> Result<[bool; 6], OutOfMemory>
-    requires name { blank.name ≡ L.name }
-    requires parts { blank.parts ≡ L.parts }
-    requires some { 0 < blank.parts }
-{
-    let mut steps = Steps::<L>::new(blank);
-    let tree = three(alloc, &mut steps)?;
-    let whole = has_keys(&tree, &[3, 5, 8]);
-    let left = cuts(alloc, &tree, Bias::Left, &[3], &[5, 8], &mut steps)?;
-    let right = cuts(alloc, &tree, Bias::Right, &[3, 5], &[8], &mut steps)?;
-    let rest = without_first(alloc, tree, &mut steps)?;
-    let low = height_of(alloc, 12, &mut steps)?;
-    let high = height_of(alloc, 13, &mut steps)?;
-    Ok([
-        whole,
-        left,
-        right,
-        has_keys(&rest, &[5, 8]),
-        low == 0,
-        high == 1,
-    ])
-}
-
-#[test]
-fn works_counted(rt: HostRuntime) -> Result<(), OutOfMemory> {
-    assert!(rt; works_on_three::<Brand>(rt.alloc(), Blank::new(1))? == [true; 6]);
     Ok(())
 }
 
-// So many of the keys 3, 5 and 8 from the first on, and the others.
-fn ends_with<L: Ledger>(
+// What is asked of the keys 3, 5 and 8, or of the height of so many numbers.
+enum Ask {
+    Keys,
+    Cut(Bias),
+    Front(u64),
+    Rest,
+    High(u64, u32),
+}
+
+// The numbers on the two sides of a cut.
+type Halves = (&'static [u64], &'static [u64]);
+
+fn is_right<L: Ledger>(
     alloc: Global,
-    count: u64,
+    tree: &mut SumTree<Number>,
+    ask: &Ask,
+    halves: Halves,
+    steps: &mut Steps<L>,
+) -> Result<bool, OutOfMemory> {
+    match *ask {
+        Ask::Keys => Ok(has_numbers(tree, halves.0)),
+        Ask::Cut(bias) => cuts(alloc, tree, bias, halves, steps),
+        Ask::Front(count) => ends(alloc, tree, count, halves, steps),
+        Ask::Rest => {
+            drop_first(alloc, tree, steps)?;
+            Ok(has_numbers(tree, halves.1))
+        }
+        Ask::High(count, height) => {
+            *tree = SumTree::new(alloc)?;
+            push_many(alloc, tree, count, steps)?;
+            Ok(tree.height() == height)
+        }
+    }
+}
+
+// The same of a tree that is made with a counter of its own.
+fn answers_with<L: Ledger>(
+    alloc: Global,
+    ask: &Ask,
+    halves: Halves,
     blank: Blank,
-) -> Result<(SumTree<Number>, SumTree<Number>), OutOfMemory>
+) -> Result<bool, OutOfMemory>
     requires name { blank.name ≡ L.name }
     requires parts { blank.parts ≡ L.parts }
     requires some { 0 < blank.parts }
 {
     let mut steps = Steps::<L>::new(blank);
-    let tree = three(alloc, &mut steps)?;
-    let front = tree.take_front_counted(alloc, count, &mut steps)?;
-    let rest = tree.drop_front_counted(alloc, count, &mut steps)?;
-    Ok((front, rest))
+    let mut tree = SumTree::new(alloc)?;
+    add_three(alloc, &mut tree, &mut steps)?;
+    is_right(alloc, &mut tree, ask, halves, &mut steps)
 }
 
-// The same with a counter of its own.
-fn ends(alloc: Global, count: u64) -> Result<(SumTree<Number>, SumTree<Number>), OutOfMemory> {
-    ends_with::<Brand>(alloc, count, Blank::new(1))
+fn answers(alloc: Global, ask: &Ask, halves: Halves) -> Result<bool, OutOfMemory> {
+    answers_with::<Brand>(alloc, ask, halves, Blank::new(1))
 }
 
-// Whether the first so many of the keys 3, 5 and 8, and the others, are these.
-fn cuts_at(alloc: Global, count: u64, first: &[u64], others: &[u64]) -> Result<bool, OutOfMemory> {
-    let (front, rest) = ends(alloc, count)?;
-    Ok(has_keys(&front, first) && has_keys(&rest, others))
-}
+const ROWS: &[(&str, Ask, Halves)] = &[
+    ("pushed and appended", Ask::Keys, (&[3, 5, 8], &[])),
+    ("cut before an item", Ask::Cut(Bias::Left), (&[3], &[5, 8])),
+    ("cut past an item", Ask::Cut(Bias::Right), (&[3, 5], &[8])),
+    ("without the first", Ask::Rest, (&[3], &[5, 8])),
+    ("twelve numbers", Ask::High(12, 0), (&[], &[])),
+    ("thirteen numbers", Ask::High(13, 1), (&[], &[])),
+    ("none in front", Ask::Front(0), (&[], &[3, 5, 8])),
+    ("one in front", Ask::Front(1), (&[3], &[5, 8])),
+    ("two in front", Ask::Front(2), (&[3, 5], &[8])),
+    ("all in front", Ask::Front(3), (&[3, 5, 8], &[])),
+    ("more than all in front", Ask::Front(4), (&[3, 5, 8], &[])),
+];
 
 #[test]
-fn cuts_counted(rt: HostRuntime) -> Result<(), OutOfMemory> {
-    for &(count, first, others) in ENDS {
-        assert!(rt;
-            cuts_at(rt.alloc(), count, first, others)?,
-            "the first {count}"
-        );
+fn counted_calls_answer_the_same(rt: HostRuntime) -> Result<(), OutOfMemory> {
+    for (name, ask, halves) in ROWS {
+        assert!(rt; answers(rt.alloc(), ask, *halves)?, "{name}");
     }
     Ok(())
 }

@@ -1,37 +1,39 @@
-//! Worked examples, and cursors over many items against plain sums.
-ghost use Rattle.std.specs.Prelude.{◌≡◌, ◌+◌, ◌^◌, ◌<◌};
+//! What cursors and look-ups answer in trees of items with a width and a name.
+ghost use Rattle.std.specs.Prelude.{◌≡◌, ◌<◌};
 
-use crate::counted::locate_in;
-use crate::wide::{ByName, Chosen, HasWidth, Name, Parity, Wide, Width, id_of, tell_name};
+use crate::wide::{ByName, Chosen, HasWidth, Name, Parity, Wide, Width, id_of, name_id};
 use std::alloc::Global;
-use sum_tree::SumTree;
-use tree_cursor::{Bias, Cursor, FilterCursor, OutOfMemory, look_up};
+use std::marker::Brand;
+use std::sync::ledger::{Blank, Ledger};
+use sum_tree::{Steps, SumTree};
+use tree_cursor::{Bias, Cursor, FilterCursor, OutOfMemory, locate, look_up};
 
 // The tree with an item more, where it is small.
-fn push_one(
-    alloc: Global,
-    mut tree: SumTree<Wide>,
-    width: u64,
-) -> Result<SumTree<Wide>, OutOfMemory> {
+fn push_to(alloc: Global, tree: &mut SumTree<Wide>, width: u64) -> Result<(), OutOfMemory> {
     let id = tree.len();
     let sum = tree.summary();
-    if id >= 1_000_000 {
-        return Ok(tree);
+    if id >= 1_000_000 || sum.items >= 1_000_000 || sum.odd >= 1_000_000 {
+        return Ok(());
     }
-    if sum.items >= 1_000_000 {
-        return Ok(tree);
+    if sum.width >= 1_000_000 || width >= 1_000_000 {
+        return Ok(());
     }
-    if sum.odd >= 1_000_000 {
-        return Ok(tree);
+    tree.push(alloc, Wide { width, id })
+}
+
+// Pushes items of these widths, again and again.
+fn push_rows(
+    alloc: Global,
+    tree: &mut SumTree<Wide>,
+    widths: &[u64],
+    times: u64,
+) -> Result<(), OutOfMemory> {
+    for _time in 0..times {
+        for width in widths {
+            push_to(alloc, tree, *width)?;
+        }
     }
-    if sum.width >= 1_000_000 {
-        return Ok(tree);
-    }
-    if width >= 1_000_000 {
-        return Ok(tree);
-    }
-    tree.push(alloc, Wide { width, id })?;
-    Ok(tree)
+    Ok(())
 }
 
 // Items of these widths, again and again, with the names 0, 1, 2 and on.
@@ -41,98 +43,107 @@ pub(crate) fn tree_of(
     times: u64,
 ) -> Result<SumTree<Wide>, OutOfMemory> {
     let mut tree = SumTree::new(alloc)?;
-    for _time in 0..times {
-        for width in widths {
-            tree = push_one(alloc, tree, *width)?;
-        }
-    }
+    push_rows(alloc, &mut tree, widths, times)?;
     Ok(tree)
 }
 
+// Up to three numbers that are answered: an item's name, where it starts, and the like.
+type Found = [Option<u64>; 3];
+
 // The name of the item that a seek from the start finds, and where it starts.
-fn spot(tree: &SumTree<Wide>, at: u64, bias: Bias) -> (Option<u64>, u64) {
+fn spot(tree: &SumTree<Wide>, at: u64, bias: Bias) -> Found {
     tree.known();
     let (item, start) = look_up(tree, Width { at: 0 }, &Width { at }, bias);
-    (id_of(item), start.at)
+    [id_of(item), Some(start.at), None]
 }
 
-// The name of the first item whose name is at least this, as the greatest so far tells.
-fn spot_name(tree: &SumTree<Wide>, id: u64) -> Option<u64> {
-    let (item, _before) = look_up(tree, ByName { name: None }, &Name { id }, Bias::Left);
-    id_of(item)
-}
-
-// The name of the item with which so many lie in a set, and how many lie in it before.
-fn spot_in_set(tree: &SumTree<Wide>, set: &Parity, at: u64) -> (Option<u64>, u64) {
+// The same with a counter that is made of the blank.
+fn spot_with<L: Ledger>(tree: &SumTree<Wide>, at: u64, bias: Bias, blank: Blank) -> Found
+    requires name { blank.name ≡ L.name }
+    requires parts { blank.parts ≡ L.parts }
+    requires some { 0 < blank.parts }
+{
     tree.known();
+    let mut steps = Steps::<L>::new(blank);
+    let (item, start) = locate(tree, Width { at: 0 }, &Width { at }, bias, &mut steps);
+    [id_of(item), Some(start.at), None]
+}
+
+fn counted_spot(tree: &SumTree<Wide>, at: u64, bias: Bias) -> Found {
+    spot_with::<Brand>(tree, at, bias, Blank::new(1))
+}
+
+// The name of the first item whose name is at least this, as the greatest so far says.
+fn spot_name(tree: &SumTree<Wide>, id: u64) -> Found {
+    let (item, _before) = look_up(tree, ByName { name: None }, &Name { id }, Bias::Left);
+    [id_of(item), None, None]
+}
+
+// The name of the item with which so many lie in the set of the odd ones, and how many lie in it before.
+fn spot_odd(tree: &SumTree<Wide>, at: u64) -> Found {
+    tree.known();
+    let set = &Parity { odd: true };
     let (item, before) = look_up(tree, Chosen { set, items: 0 }, &at, Bias::Left);
-    (id_of(item), before.items)
+    [id_of(item), Some(before.items), None]
 }
 
 // The same by a cursor, and of the item before.
-fn cursor_in_set(
-    tree: &SumTree<Wide>,
-    set: &Parity,
-    at: u64,
-) -> Result<(Option<u64>, u64), OutOfMemory> {
+fn before_odd(tree: &SumTree<Wide>, at: u64) -> Result<Found, OutOfMemory> {
     tree.known();
+    let set = &Parity { odd: true };
     let mut cursor = Cursor::new(tree, Chosen { set, items: 0 })?;
     cursor.seek(&at, Bias::Left)?;
     cursor.prev()?;
-    Ok((id_of(cursor.item()), cursor.start().items))
+    Ok([id_of(cursor.item()), Some(cursor.start().items), None])
 }
 
 // The first name that a cursor by names finds strictly past this, by the end of its item.
-fn cursor_name(tree: &SumTree<Wide>, id: u64) -> Result<Option<u64>, OutOfMemory> {
+fn name_past(tree: &SumTree<Wide>, id: u64) -> Result<Found, OutOfMemory> {
     let mut cursor = Cursor::new(tree, ByName { name: None })?;
     cursor.seek(&Name { id }, Bias::Right)?;
-    Ok(tell_name(cursor.end().name))
+    Ok([name_id(cursor.end().name), None, None])
 }
 
-// The second item with a width, and how many items of a set lie before it.
-fn second_in_set(tree: &SumTree<Wide>, set: &Parity) -> Result<(Option<u64>, u64), OutOfMemory> {
+// The second item with a width, and how many odd ones lie before it.
+fn second_odd(tree: &SumTree<Wide>) -> Result<Found, OutOfMemory> {
     tree.known();
+    let set = &Parity { odd: true };
     let mut kept = FilterCursor::new(tree, Chosen { set, items: 0 }, HasWidth)?;
     kept.next()?;
     let item = kept.next()?;
-    Ok((id_of(item), kept.start().items))
+    Ok([id_of(item), Some(kept.start().items), None])
 }
 
 // The second item with a width, and the greatest name before it.
-fn second_name(tree: &SumTree<Wide>) -> Result<(Option<u64>, Option<u64>), OutOfMemory> {
+fn second_name(tree: &SumTree<Wide>) -> Result<Found, OutOfMemory> {
     let mut kept = FilterCursor::new(tree, ByName { name: None }, HasWidth)?;
     kept.next()?;
     let item = kept.next()?;
-    Ok((id_of(item), tell_name(kept.start().name)))
+    Ok([id_of(item), name_id(kept.start().name), None])
 }
 
-// The names of the second item with a width and of the one behind it, and where the second starts.
-fn second_place(tree: &SumTree<Wide>) -> Result<(Option<u64>, u64, Option<u64>), OutOfMemory> {
+// The names of the second item with a width and of the one after it, and where the second starts.
+fn second_place(tree: &SumTree<Wide>) -> Result<Found, OutOfMemory> {
     tree.known();
     let mut kept = FilterCursor::new(tree, Width { at: 0 }, HasWidth)?;
     kept.next()?;
     let second = kept.next()?;
     let start = kept.start().at;
     let third = kept.next()?;
-    Ok((id_of(second), start, id_of(third)))
+    Ok([id_of(second), Some(start), id_of(third)])
 }
 
 // How many items a slice to a place has and how many the rest.
-fn parts(
-    alloc: Global,
-    tree: &SumTree<Wide>,
-    at: u64,
-    bias: Bias,
-) -> Result<(u64, u64), OutOfMemory> {
+fn parts(alloc: Global, tree: &SumTree<Wide>, at: u64, bias: Bias) -> Result<Found, OutOfMemory> {
     tree.known();
     let mut cursor = Cursor::new(tree, Width { at: 0 })?;
     let front = cursor.slice(alloc, &Width { at }, bias)?;
     let rest = cursor.suffix(alloc)?;
-    Ok((front.len(), rest.len()))
+    Ok([Some(front.len()), Some(rest.len()), None])
 }
 
 // The sum of the places at which the items start, by a cursor that goes on to the end, and then back.
-fn starts(tree: &SumTree<Wide>) -> Result<(u64, u64), OutOfMemory> {
+fn starts(tree: &SumTree<Wide>) -> Result<Found, OutOfMemory> {
     tree.known();
     let mut cursor = Cursor::new(tree, Width { at: 0 })?;
     let mut on: u64 = 0;
@@ -145,87 +156,206 @@ fn starts(tree: &SumTree<Wide>) -> Result<(u64, u64), OutOfMemory> {
         cursor.prev()?;
         back = back.wrapping_add(cursor.start().at);
     }
-    Ok((on, back))
+    Ok([Some(on), Some(back), None])
 }
 
-// The same in the tree of these widths.
-fn spot_in(
-    alloc: Global,
-    widths: &[u64],
-    times: u64,
-    at: u64,
-    bias: Bias,
-) -> Result<(Option<u64>, u64), OutOfMemory> {
-    let tree = tree_of(alloc, widths, times)?;
-    Ok(spot(&tree, at, bias))
+// What is asked of a tree.
+enum Ask {
+    Spot(u64, Bias),
+    CountedSpot(u64, Bias),
+    SpotName(u64),
+    SpotOdd(u64),
+    BeforeOdd(u64),
+    NamePast(u64),
+    SecondOdd,
+    SecondName,
+    SecondPlace,
+    Parts(u64, Bias),
+    Starts,
+    Height,
 }
 
-#[test]
-fn seeks_widths(rt: HostRuntime) -> Result<(), OutOfMemory> {
-    let ones: &[u64] = &[1];
-    let none_first: &[u64] = &[0, 0, 1];
-    let rows = [
-        (ones, 13, 3, Bias::Left, (Some(2), 2)),
-        (ones, 13, 3, Bias::Right, (Some(3), 3)),
-        (ones, 13, 13, Bias::Left, (Some(12), 12)),
-        (ones, 13, 13, Bias::Right, (None, 13)),
-        (none_first, 1, 0, Bias::Left, (Some(0), 0)),
-        (none_first, 1, 0, Bias::Right, (Some(2), 0)),
-    ];
-    for (widths, times, at, bias, expected) in rows {
-        assert!(rt;
-            spot_in(rt.alloc(), widths, times, at, bias)? == expected,
-            "{at}"
-        );
-        assert!(rt;
-            locate_in(rt.alloc(), widths, times, at, bias)? == expected,
-            "{at}, counted"
-        );
+fn answer(alloc: Global, tree: &SumTree<Wide>, ask: &Ask) -> Result<Found, OutOfMemory> {
+    match *ask {
+        Ask::Spot(at, bias) => Ok(spot(tree, at, bias)),
+        Ask::CountedSpot(at, bias) => Ok(counted_spot(tree, at, bias)),
+        Ask::SpotName(id) => Ok(spot_name(tree, id)),
+        Ask::SpotOdd(at) => Ok(spot_odd(tree, at)),
+        Ask::BeforeOdd(at) => before_odd(tree, at),
+        Ask::NamePast(id) => name_past(tree, id),
+        Ask::SecondOdd => second_odd(tree),
+        Ask::SecondName => second_name(tree),
+        Ask::SecondPlace => second_place(tree),
+        Ask::Parts(at, bias) => parts(alloc, tree, at, bias),
+        Ask::Starts => starts(tree),
+        Ask::Height => Ok([Some(tree.height() as u64), None, None]),
     }
-    Ok(())
 }
 
-// What a filter gives, and how many items lie on both sides of a cut.
-fn works_on_few(alloc: Global) -> Result<[bool; 4], OutOfMemory> {
-    let filtered = second_place(&tree_of(alloc, &[1, 0, 0, 2], 1)?)?;
-    let tree = tree_of(alloc, &[1], 3)?;
-    let left = parts(alloc, &tree, 2, Bias::Left)?;
-    let right = parts(alloc, &tree, 2, Bias::Right)?;
-    let height = tree_of(alloc, &[1], 13)?.height();
-    Ok([
-        filtered == (Some(3), 1, None),
-        left == (1, 2),
-        right == (2, 1),
-        height == 1,
-    ])
+// What is answered in the tree of these widths.
+fn answer_in(alloc: Global, (widths, times): Items, ask: &Ask) -> Result<Found, OutOfMemory> {
+    let tree = tree_of(alloc, widths, times)?;
+    answer(alloc, &tree, ask)
 }
 
-// What is found by names, and by how many items lie in a set.
-fn works_on_names(tree: &SumTree<Wide>) -> Result<bool, OutOfMemory> {
-    let seen = cursor_name(tree, 7)? == Some(8);
-    let kept = second_name(tree)? == (Some(2), Some(1));
-    Ok(spot_name(tree, 2500) == Some(2500) && seen && kept)
-}
+// Widths, and how often they come.
+type Items = (&'static [u64], u64);
 
-fn works_on_sets(tree: &SumTree<Wide>) -> Result<bool, OutOfMemory> {
-    let set = Parity { odd: true };
-    let seen = cursor_in_set(tree, &set, 1000)? == (Some(1998), 999);
-    let kept = second_in_set(tree, &set)? == (Some(2), 1);
-    Ok(spot_in_set(tree, &set, 1000) == (Some(1999), 999) && seen && kept)
-}
+const THREE: Items = (&[1], 3);
 
-// What three thousand items answer.
-fn works_on_thousands(alloc: Global) -> Result<[bool; 3], OutOfMemory> {
-    let tree = tree_of(alloc, &[1, 0, 2], 1000)?;
-    let names = works_on_names(&tree)?;
-    let sets = works_on_sets(&tree)?;
-    let walked = starts(&tree)?;
-    Ok([names, sets, walked == (4_497_500, 4_497_500)])
-}
+const THIRTEEN: Items = (&[1], 13);
+
+const NONE_FIRST: Items = (&[0, 0, 1], 1);
+
+const NONE_BETWEEN: Items = (&[1, 0, 0, 2], 1);
+
+const THOUSANDS: Items = (&[1, 0, 2], 1000);
+
+const ROWS: &[(&str, Items, Ask, Found)] = &[
+    (
+        "a seek to an end",
+        THIRTEEN,
+        Ask::Spot(3, Bias::Left),
+        [Some(2), Some(2), None],
+    ),
+    (
+        "a seek past an end",
+        THIRTEEN,
+        Ask::Spot(3, Bias::Right),
+        [Some(3), Some(3), None],
+    ),
+    (
+        "a seek to the last end",
+        THIRTEEN,
+        Ask::Spot(13, Bias::Left),
+        [Some(12), Some(12), None],
+    ),
+    (
+        "a seek past all",
+        THIRTEEN,
+        Ask::Spot(13, Bias::Right),
+        [None, Some(13), None],
+    ),
+    (
+        "a seek to no width",
+        NONE_FIRST,
+        Ask::Spot(0, Bias::Left),
+        [Some(0), Some(0), None],
+    ),
+    (
+        "a seek past no width",
+        NONE_FIRST,
+        Ask::Spot(0, Bias::Right),
+        [Some(2), Some(0), None],
+    ),
+    (
+        "counted, to an end",
+        THIRTEEN,
+        Ask::CountedSpot(3, Bias::Left),
+        [Some(2), Some(2), None],
+    ),
+    (
+        "counted, past an end",
+        THIRTEEN,
+        Ask::CountedSpot(3, Bias::Right),
+        [Some(3), Some(3), None],
+    ),
+    (
+        "counted, to the last end",
+        THIRTEEN,
+        Ask::CountedSpot(13, Bias::Left),
+        [Some(12), Some(12), None],
+    ),
+    (
+        "counted, past all",
+        THIRTEEN,
+        Ask::CountedSpot(13, Bias::Right),
+        [None, Some(13), None],
+    ),
+    (
+        "counted, to no width",
+        NONE_FIRST,
+        Ask::CountedSpot(0, Bias::Left),
+        [Some(0), Some(0), None],
+    ),
+    (
+        "counted, past no width",
+        NONE_FIRST,
+        Ask::CountedSpot(0, Bias::Right),
+        [Some(2), Some(0), None],
+    ),
+    (
+        "a filter by widths",
+        NONE_BETWEEN,
+        Ask::SecondPlace,
+        [Some(3), Some(1), None],
+    ),
+    (
+        "a cut before an item",
+        THREE,
+        Ask::Parts(2, Bias::Left),
+        [Some(1), Some(2), None],
+    ),
+    (
+        "a cut past an item",
+        THREE,
+        Ask::Parts(2, Bias::Right),
+        [Some(2), Some(1), None],
+    ),
+    (
+        "the height of thirteen",
+        THIRTEEN,
+        Ask::Height,
+        [Some(1), None, None],
+    ),
+    (
+        "a name",
+        THOUSANDS,
+        Ask::SpotName(2500),
+        [Some(2500), None, None],
+    ),
+    (
+        "the name past a name",
+        THOUSANDS,
+        Ask::NamePast(7),
+        [Some(8), None, None],
+    ),
+    (
+        "a filter by names",
+        THOUSANDS,
+        Ask::SecondName,
+        [Some(2), Some(1), None],
+    ),
+    (
+        "the thousandth odd one",
+        THOUSANDS,
+        Ask::SpotOdd(1000),
+        [Some(1999), Some(999), None],
+    ),
+    (
+        "the one before",
+        THOUSANDS,
+        Ask::BeforeOdd(1000),
+        [Some(1998), Some(999), None],
+    ),
+    (
+        "a filter by odd ones",
+        THOUSANDS,
+        Ask::SecondOdd,
+        [Some(2), Some(1), None],
+    ),
+    (
+        "on and back",
+        THOUSANDS,
+        Ask::Starts,
+        [Some(4_497_500), Some(4_497_500), None],
+    ),
+];
 
 #[test]
-fn works_on_examples(rt: HostRuntime) -> Result<(), OutOfMemory> {
-    assert!(rt; works_on_few(rt.alloc())? == [true; 4]);
-    assert!(rt; works_on_thousands(rt.alloc())? == [true; 3]);
+fn cursors_find_places(rt: HostRuntime) -> Result<(), OutOfMemory> {
+    for (name, items, ask, expected) in ROWS {
+        assert!(rt; answer_in(rt.alloc(), *items, ask)? == *expected, "{name}");
+    }
     Ok(())
 }

@@ -1,9 +1,12 @@
-//! The tests of trees and cursors, by what these crates show to all; and numbers as if drawn by chance, which other tests take too.
+//! The tests of trees and their cursors, of texts, ropes and searches, by what these crates show to all.
 #![tactic(auto)]
 
 #[cfg(test)]
+mod accounts;
+#[cfg(test)]
 mod bead;
-pub mod chance;
+#[cfg(test)]
+mod chance;
 #[cfg(test)]
 mod changes;
 #[cfg(test)]
@@ -13,13 +16,23 @@ mod cursors;
 #[cfg(test)]
 mod keys;
 #[cfg(test)]
+mod masks;
+#[cfg(test)]
 mod mirror;
 #[cfg(test)]
 mod numbered;
 #[cfg(test)]
+mod parts;
+#[cfg(test)]
+mod positions;
+#[cfg(test)]
 mod ranked;
 #[cfg(test)]
-mod refusals;
+mod ropes;
+#[cfg(test)]
+mod search;
+#[cfg(test)]
+mod texts;
 #[cfg(test)]
 mod trees;
 #[cfg(test)]

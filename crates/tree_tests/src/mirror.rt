@@ -11,84 +11,66 @@ pub(crate) fn number_of<T: Numbered>(item: Option<&T>) -> Option<u64> {
     }
 }
 
-// How many entries the root has.
-fn width<T: Numbered>(tree: &SumTree<T>) -> usize {
+// How many entries the root has, and its children, if it is no leaf.
+fn root_of<T: Numbered>(tree: &SumTree<T>) -> (usize, &[SumTree<T>]) {
     match tree.parts() {
-        Parts::Leaf(entries) => entries.len(),
-        Parts::Inner(children) => children.len(),
+        Parts::Leaf(entries) => (entries.len(), &[]),
+        Parts::Inner(children) => (children.len(), children),
     }
 }
 
-// Puts a node's children behind others, and tells whether they are of this height and have 6 to 12 entries each.
-fn children_onto<'a, T: Numbered>(
-    node: &'a SumTree<T>,
-    height: u32,
-    next: &mut Vec<&'a SumTree<T>>,
-) -> Result<bool, OutOfMemory> {
-    match node.parts() {
-        Parts::Leaf(_) => Ok(false),
-        Parts::Inner(children) => {
-            let mut even = true;
-            for child in children {
-                let entries = width(child);
-                even = even && child.height() == height && entries >= 6 && entries <= 12;
-                next.push(child)?;
-            }
-            Ok(even)
-        }
+// Whether all leaves lie at this depth below a root of these parts, and each node below it has 6 to 12 entries.
+fn is_even<T: Numbered>(root: Parts<T>, height: u32) -> bool {
+    let children = match root {
+        Parts::Leaf(_) => return height == 0,
+        Parts::Inner(children) => children,
+    };
+    if height == 0 {
+        return false;
     }
-}
-
-// Whether all leaves lie at one depth, and each node below the root has 6 to 12 entries.
-pub(crate) fn is_even<T: Numbered>(alloc: Global, tree: &SumTree<T>) -> Result<bool, OutOfMemory> {
-    let mut level = Vec::new(alloc);
-    level.push(tree)?;
     let mut even = true;
-    for height in (0..tree.height()).rev() {
-        let mut next = Vec::new(alloc);
-        for node in &level {
-            even = children_onto(*node, height, &mut next)? && even;
-        }
-        level = next;
+    for child in children {
+        let (entries, _) = root_of(child);
+        let below = is_even(child.parts(), height - 1);
+        even = even & below & (child.height() == height - 1) & (entries >= 6) & (entries <= 12);
     }
-    for leaf in &level {
-        even = even && leaf.height() == 0;
-    }
-    Ok(even)
+    even
 }
 
 // Whether these are the numbers of a tree.
-fn has_numbers<T: Numbered>(tree: &SumTree<T>, numbers: &[u64]) -> bool {
+pub(crate) fn has_numbers<T: Numbered>(tree: &SumTree<T>, numbers: &[u64]) -> bool {
     let n = numbers.len() as u64;
-    let mut same = tree.len() == n && tree.is_empty() == (n == 0) && tree.get(n).is_none();
+    let mut same = (tree.len() == n) & (tree.is_empty() == (n == 0)) & tree.get(n).is_none();
     for (i, number) in numbers.iter().enumerate() {
-        same = same && number_of(tree.get(i as u64)) == Some(*number);
+        same = same & (number_of(tree.get(i as u64)) == Some(*number));
     }
     same
 }
 
-// Whether they are the first and the last ones of a tree, and its root has no more entries than it may, nor fewer.
+// Whether they are the first and the last ones of a tree.
 fn has_ends<T: Numbered>(tree: &SumTree<T>, numbers: &[u64]) -> bool {
-    let ends = number_of(tree.first()) == numbers.first().copied()
-        && number_of(tree.last()) == numbers.last().copied();
-    let entries = width(tree);
-    ends && entries <= 12 && (tree.height() == 0 || entries >= 2)
+    let first = number_of(tree.first()) == numbers.first().copied();
+    let last = number_of(tree.last()) == numbers.last().copied();
+    first & last
+}
+
+// Whether the root has no more entries than it may, nor fewer.
+fn has_root<T: Numbered>(tree: &SumTree<T>) -> bool {
+    let (entries, _) = root_of(tree);
+    (entries <= 12) & ((tree.height() == 0) | (entries >= 2))
 }
 
 // Whether a tree has these numbers, and nodes of the sizes that it should have.
-pub(crate) fn mirrors<T: Numbered>(
-    alloc: Global,
-    tree: &SumTree<T>,
-    numbers: &[u64],
-) -> Result<bool, OutOfMemory> {
-    Ok(is_even(alloc, tree)? && has_numbers(tree, numbers) && has_ends(tree, numbers))
+pub(crate) fn mirrors<T: Numbered>(tree: &SumTree<T>, numbers: &[u64]) -> bool {
+    let nodes = is_even(tree.parts(), tree.height()) & has_root(tree);
+    nodes & has_numbers(tree, numbers) & has_ends(tree, numbers)
 }
 
-// The numbers from 0 up to n.
-pub(crate) fn numbers_below(alloc: Global, n: u64) -> Result<Vec<u64>, OutOfMemory> {
+// The numbers from the first one on.
+pub(crate) fn numbers_from(alloc: Global, first: u64, n: u64) -> Result<Vec<u64>, OutOfMemory> {
     let mut numbers = Vec::new(alloc);
-    for number in 0..n {
-        numbers.push(number)?;
+    for i in 0..n {
+        numbers.push(first.wrapping_add(i))?;
     }
     Ok(numbers)
 }

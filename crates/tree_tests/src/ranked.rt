@@ -12,14 +12,6 @@ pub(crate) struct Number {
     pub(crate) key: u64,
 }
 
-// What a number is.
-pub(crate) fn key_of(item: Option<&Number>) -> Option<u64> {
-    match item {
-        None => None,
-        Some(item) => Some(item.key),
-    }
-}
-
 impl Item for Number {
     type Summary = Count;
 
@@ -44,6 +36,24 @@ impl KeyedItem for Number {
     ghost key_of = { λ x. x.key };
 
     fn key(&self) -> u64 {
+        self.key
+    }
+}
+
+impl Numbered for Number {
+    ghost use Rattle.sum_tree.proofs.Counts.{counts_fit};
+
+    ghost sums_fit = { λ xs h. counts_fit xs h };
+
+    fn of_number(_alloc: Global, number: u64) -> Result<Number, OutOfMemory> {
+        Ok(Number { key: number })
+    }
+
+    fn key_at(number: u64) -> u64 {
+        number
+    }
+
+    fn number(&self) -> u64 {
         self.key
     }
 }
@@ -85,6 +95,8 @@ impl KeyedItem for Ranked {
 }
 
 impl Numbered for Ranked {
+    ghost sums_fit = { λ xs h. tt };
+
     fn of_number(_alloc: Global, number: u64) -> Result<Ranked, OutOfMemory> {
         Ok(Ranked { key: number })
     }

@@ -28,7 +28,7 @@ pub(crate) struct Extent {
     pub(crate) name: Option<Name>,
 }
 
-// What an item is named, and what a name says.
+// What an item is named, and what a name is.
 pub(crate) fn id_of(item: Option<&Wide>) -> Option<u64> {
     match item {
         None => None,
@@ -36,7 +36,7 @@ pub(crate) fn id_of(item: Option<&Wide>) -> Option<u64> {
     }
 }
 
-pub(crate) fn tell_name(name: Option<&Name>) -> Option<u64> {
+pub(crate) fn name_id(name: Option<&Name>) -> Option<u64> {
     match name {
         None => None,
         Some(name) => Some(name.id),
@@ -91,23 +91,11 @@ impl Summary for Extent {
         self.items += other.items;
         self.width += other.width;
         self.odd += other.odd;
-        self.name = match greater_name(&self.name, &other.name) {
+        self.name = match later_name(self.name.as_ref(), &other.name) {
             None => None,
             Some(name) => Some(Name { id: name.id }),
         };
         Ok(())
-    }
-}
-
-// The greater of two names.
-fn greater_name<'n>(a: &'n Option<Name>, b: &'n Option<Name>) -> Option<&'n Name>
-    ensures { option_copied result ≡ greater (λ x y. nat_lt x.id y.id) a.now b.now }
-{
-    match (a, b) {
-        (None, None) => None,
-        (None, Some(y)) => Some(y),
-        (Some(x), None) => Some(x),
-        (Some(x), Some(y)) => { if x.id < y.id { Some(y) } else { Some(x) } }
     }
 }
 
@@ -228,6 +216,7 @@ impl<'a> Dimension<'a, Extent> for ByName<'a> {
     }
 }
 
+// The greater of two names.
 fn later_name<'n>(a: Option<&'n Name>, b: &'n Option<Name>) -> Option<&'n Name>
     ensures { option_copied result
         ≡ greater (λ x y. nat_lt x.id y.id) (option_copied a.entry) b.now }

@@ -1,4 +1,4 @@
-//! An item that holds a text, and a sum that holds a list, so that copies and sums want memory.
+//! An item that holds a text, and a sum that holds a list, so that copies and sums allocate.
 ghost use Rattle.std.specs.Prelude.{◌≡◌};
 
 use crate::numbered::Numbered;
@@ -7,7 +7,7 @@ use std::alloc::Global;
 use std::marker::Model;
 use sum_tree::{Item, KeyedItem, OutOfMemory, Summary};
 
-// The numbers of a run of items, of which four take no memory. Contracts see it as their list.
+// The numbers of a run of items, of which four are not allocated. Contracts see it as their list.
 #[derive(Drop)]
 pub(crate) struct Numbers {
     list: SmallVec<u64, 4>,
@@ -64,7 +64,7 @@ impl Summary for Numbers {
     }
 }
 
-// A number, and a text that tells it. Contracts see the number and the text's bytes.
+// A number, and a text that says it. Contracts see the number and the text's bytes.
 #[derive(Drop)]
 pub(crate) struct Word {
     number: u64,
@@ -115,6 +115,8 @@ impl KeyedItem for Word {
 }
 
 impl Numbered for Word {
+    ghost sums_fit = { λ xs h. tt };
+
     fn of_number(alloc: Global, number: u64) -> Result<Word, OutOfMemory> {
         let text = format!(in alloc; "{number}")?;
         Ok(Word { number, text })
@@ -124,7 +126,7 @@ impl Numbered for Word {
         number
     }
 
-    // The number, where the text tells the same.
+    // The number, where the text says the same.
     fn number(&self) -> u64 {
         match self.text.as_str().parse::<u64>() {
             Ok(told) if told == self.number => told,

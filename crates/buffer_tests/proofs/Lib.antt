@@ -1,2 +1,0 @@
-pub mod AnswerSampled
-pub mod UndoSampled

@@ -1,2 +1,0 @@
-pub mod AnswerSample
-pub mod UndoSample

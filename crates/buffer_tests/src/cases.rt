@@ -1,0 +1,67 @@
+//! Cases of buffers: a base, and steps over it.
+ghost use Rattle.std.specs.Prelude.{◌≤◌, ◌^◌, ◌-◌};
+
+use crate::steps::{Row, count_right};
+use std::alloc::Global;
+use sum_tree::OutOfMemory;
+use text_buffer::{Base, Buffer, Limits, NewFault};
+
+/// Rows of steps in a buffer of replica 9.
+pub(crate) struct Case {
+    pub(crate) name: &'static str,
+    pub(crate) base: &'static str,
+    pub(crate) limits: Limits,
+    pub(crate) rows: &'static [Row],
+}
+
+/// The greatest limits that a buffer may have, which nothing here passes.
+pub(crate) const AMPLE: Limits = Limits {
+    bytes: 1 << 40,
+    entries: (1 << 40) - 1,
+};
+
+// Limits, where a buffer may have them.
+fn limits_of(limits: Limits) -> Limits
+    ensures bytes { result.bytes ≤ 2 ^ 40 }
+    ensures entries { result.entries ≤ 2 ^ 40 - 1 }
+{
+    if limits.bytes <= AMPLE.bytes && limits.entries <= AMPLE.entries {
+        limits
+    } else {
+        AMPLE
+    }
+}
+
+fn open(alloc: Global, base: &str, limits: Limits) -> Result<Buffer, NewFault> {
+    Buffer::new(alloc, 9, base, limits_of(limits))
+}
+
+fn open_over(alloc: Global, base: &Base, limits: Limits) -> Result<Buffer, NewFault> {
+    Buffer::over(alloc, 9, base, limits_of(limits))
+}
+
+// How many rows of a case come out as they should in a buffer of its own.
+fn count_own(alloc: Global, case: &Case) -> Result<usize, OutOfMemory> {
+    count_right(alloc, open(alloc, case.base, case.limits), case.rows)
+}
+
+fn count_over(alloc: Global, base: &Base, case: &Case) -> Result<usize, OutOfMemory> {
+    count_right(alloc, open_over(alloc, base, case.limits), case.rows)
+}
+
+// The same in each of two buffers over one base, one after the other.
+fn count_both(alloc: Global, base: &Base, case: &Case) -> Result<usize, OutOfMemory> {
+    Ok(count_over(alloc, base, case)?.min(count_over(alloc, base, case)?))
+}
+
+fn count_twice(alloc: Global, case: &Case) -> Result<usize, OutOfMemory> {
+    match Base::new(alloc, case.base) {
+        Ok(base) => count_both(alloc, &base, case),
+        Err(_) => Ok(0),
+    }
+}
+
+/// How many rows of a case come out as they should, in each of three buffers.
+pub(crate) fn count_case(alloc: Global, case: &Case) -> Result<usize, OutOfMemory> {
+    Ok(count_own(alloc, case)?.min(count_twice(alloc, case)?))
+}

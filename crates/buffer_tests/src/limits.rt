@@ -1,0 +1,116 @@
+//! Buffers at their limits, and long texts.
+use crate::cases::AMPLE;
+use crate::operations::{Parts, operation};
+use crate::steps::Step::{Edit, Undo};
+use crate::steps::{Step, comes};
+use lamport_clock::Lamport;
+use std::alloc::Global;
+use sum_tree::OutOfMemory;
+use text_buffer::{Base, Buffer, Limits, NewFault, Took};
+
+const EDIT: Lamport = Lamport {
+    value: 2,
+    replica: 9,
+};
+
+// A step over 2,000 digits, and the range of those that are hidden after it.
+type Hiding = (Step, u32, u32);
+
+// More bytes are hidden and shown again than lie in one chunk.
+const LONG_PARTS: &[Hiding] = &[
+    (Edit(&[(100, 1_500, "")], Ok(2)), 100, 1_500),
+    (Undo(&[EDIT], Ok(3)), 0, 0),
+    (Undo(&[EDIT], Ok(4)), 100, 1_500),
+];
+
+// 2,000 digits but for those of a range.
+fn digits(alloc: Global, from: u32, to: u32) -> Result<String, OutOfMemory> {
+    let mut text = String::new(alloc);
+    for n in 0..2_000u32 {
+        if n < from || to <= n {
+            text.push(char::from(b'0' + (n % 10) as u8))?;
+        }
+    }
+    Ok(text)
+}
+
+fn hides(alloc: Global, buffer: &mut Buffer, row: &Hiding) -> Result<bool, OutOfMemory> {
+    let right = comes(alloc, buffer, row.0)?;
+    let wanted = digits(alloc, row.1, row.2)?;
+    Ok(buffer.text()?.as_str() == wanted.as_str() && right)
+}
+
+fn each_hides(alloc: Global, buffer: &mut Buffer) -> Result<bool, OutOfMemory> {
+    let mut right = true;
+    for row in LONG_PARTS {
+        right = hides(alloc, buffer, row)? && right;
+    }
+    Ok(right)
+}
+
+fn all_hide(alloc: Global, opened: Result<Buffer, NewFault>) -> Result<bool, OutOfMemory> {
+    match opened {
+        Ok(mut buffer) => each_hides(alloc, &mut buffer),
+        Err(_) => Ok(false),
+    }
+}
+
+fn hide_long(alloc: Global) -> Result<bool, OutOfMemory> {
+    let base = digits(alloc, 0, 0)?;
+    all_hide(alloc, Buffer::new(alloc, 9, base.as_str(), AMPLE))
+}
+
+#[test]
+fn long_parts_change_sides(rt: HostRuntime) -> Result<(), OutOfMemory> {
+    assert!(rt; hide_long(rt.alloc())?);
+    Ok(())
+}
+
+const FEW: Limits = Limits {
+    bytes: 5,
+    entries: 2,
+};
+
+// Whether no buffer of few bytes is opened over a base, and its fault has these words.
+fn is_refused(alloc: Global, base: &str, words: &str) -> Result<bool, OutOfMemory> {
+    match Buffer::new(alloc, 9, base, FEW).err() {
+        None => Ok(false),
+        Some(fault) => Ok(format!(in alloc; "{fault}")?.as_str() == words),
+    }
+}
+
+// The fault of a buffer of few bytes over a base that was made ready.
+fn fault_over(alloc: Global, base: &str) -> Option<NewFault> {
+    match Base::new(alloc, base) {
+        Ok(base) => Buffer::over(alloc, 9, &base, FEW).err(),
+        Err(fault) => Some(fault),
+    }
+}
+
+// Whether a buffer takes an edit that brings as many letters as one edit may, before 2 bytes.
+fn takes_most_letters(alloc: Global, buffer: &mut Buffer) -> Result<bool, OutOfMemory> {
+    let op = operation(alloc, (2, 1), &[(1, 0)], Parts::Letters(1, 65_536))?;
+    Ok(buffer.take(op) == Ok(Took::Applied(1)) && buffer.summary().len == 65_538)
+}
+
+fn are_most_letters_taken(
+    alloc: Global,
+    opened: Result<Buffer, NewFault>,
+) -> Result<bool, OutOfMemory> {
+    match opened {
+        Ok(mut buffer) => takes_most_letters(alloc, &mut buffer),
+        Err(_) => Ok(false),
+    }
+}
+
+#[test]
+fn texts_are_refused_past_their_limits(rt: HostRuntime) -> Result<(), OutOfMemory> {
+    let words = "full: 0 bytes are held, and 6 more pass the limit";
+    assert!(rt; is_refused(rt.alloc(), "abcdef", words)?);
+    assert!(rt;
+        fault_over(rt.alloc(), "abcdef") == Buffer::new(rt.alloc(), 9, "abcdef", FEW).err()
+    );
+    let opened = Buffer::new(rt.alloc(), 9, "ab", AMPLE);
+    assert!(rt; are_most_letters_taken(rt.alloc(), opened)?);
+    Ok(())
+}

@@ -1,0 +1,96 @@
+//! Fragments made of rows.
+use crate::operations::{Stamp, stamp, version};
+use fragments::{Fragment, OutOfMemory, Stamps};
+use locators::Locator;
+use std::alloc::Global;
+use sum_tree::SumTree;
+
+/// A fragment but for its id: its edit, the number of its first cell, its text, whether it is shown, the edits that delete it,
+/// and the undos of these and of its own edit.
+pub(crate) type Run = (
+    Stamp,
+    u64,
+    &'static str,
+    bool,
+    &'static [Stamp],
+    &'static [Stamp],
+);
+
+fn stamps(alloc: Global, rows: &[Stamp]) -> Result<Stamps, OutOfMemory> {
+    let mut stamps = Stamps::new(alloc);
+    for &row in rows {
+        stamps.insert(stamp(row))?;
+    }
+    Ok(stamps)
+}
+
+pub(crate) fn fragment(alloc: Global, id: Locator, run: &Run) -> Result<Fragment, OutOfMemory> {
+    let deletions = stamps(alloc, run.4)?;
+    Ok(Fragment {
+        id,
+        stamp: stamp(run.0),
+        offset: run.1,
+        len: run.2.len() as u64,
+        visible: run.3,
+        deletions,
+        max_undos: version(alloc, run.5)?,
+    })
+}
+
+// Adds a fragment where the tree is small.
+fn add(alloc: Global, tree: &mut SumTree<Fragment>, fragment: Fragment) -> Result<(), OutOfMemory> {
+    let count = tree.len();
+    let sum = tree.summary();
+    if count >= 1_000 {
+        return Ok(());
+    }
+    if sum.visible >= 1_000_000 {
+        return Ok(());
+    }
+    if sum.hidden >= 1_000_000 {
+        return Ok(());
+    }
+    if fragment.len >= 1_000 {
+        return Ok(());
+    }
+    tree.push(alloc, fragment)
+}
+
+// Adds a fragment with an id between the last one and the greatest, which is then the last.
+fn add_run(
+    alloc: Global,
+    tree: &mut SumTree<Fragment>,
+    last: &mut Locator,
+    run: &Run,
+) -> Result<(), OutOfMemory> {
+    let id = Locator::between(alloc, last, &Locator::greatest(alloc)?)?;
+    *last = id.copy(alloc)?;
+    add(alloc, tree, fragment(alloc, id, run)?)
+}
+
+fn add_runs(
+    alloc: Global,
+    tree: &mut SumTree<Fragment>,
+    last: &mut Locator,
+    runs: &[Run],
+    times: u64,
+) -> Result<(), OutOfMemory> {
+    for _time in 0..times {
+        for run in runs {
+            add_run(alloc, tree, last, run)?;
+        }
+    }
+    Ok(())
+}
+
+/// The tree of these fragments, that many times over.
+pub(crate) fn tree_of(
+    alloc: Global,
+    runs: &[Run],
+    times: u64,
+) -> Result<SumTree<Fragment>, OutOfMemory> {
+    let mut last = Locator::least(alloc)?;
+    let mut tree = SumTree::new(alloc)?;
+    add_runs(alloc, &mut tree, &mut last, runs, times)?;
+    Ok(tree)
+}

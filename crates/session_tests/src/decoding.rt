@@ -1,0 +1,238 @@
+//! Sessions as `decode` reads them, and inputs that no file can hold.
+use crate::tally::{Host, Tally};
+use op_model::OutOfMemory;
+use session_lines::{DecodeFault, SessionLine, Word, decode};
+use std::alloc::Global;
+
+/// Decodes the inputs of each table.
+pub fn test<R: Host>(rt: &R, tally: &mut Tally) {
+    for (input, ids, words) in SESSIONS {
+        let is_right = reads(rt.alloc(), input, ids, words);
+        tally.note(rt, "decoding", input, is_right);
+    }
+    for (version, entries) in VERSIONS {
+        let is_right = reads_version(rt.alloc(), version, entries) == Ok(true);
+        tally.note(rt, "decoding a version", version, is_right);
+    }
+    for (name, count) in [("16", 16u16), ("17", 17), ("40", 40)] {
+        let is_right = reads_many(rt.alloc(), count) == Ok(true);
+        tally.note(rt, "decoding a version of many authors", name, is_right);
+    }
+    let fault = fault_of(rt.alloc(), NO_TEXT);
+    tally.note(
+        rt,
+        "decoding",
+        "a line that is no text",
+        fault == bad(3, Word::Json),
+    );
+    for (name, count, last, want) in MANY_LINES {
+        let is_right = is_refused_for(rt.alloc(), *count, last, *want) == Ok(true);
+        tally.note(rt, "decoding many lines", name, is_right);
+    }
+}
+
+// The word of a line.
+fn name_of(line: &SessionLine) -> &'static str {
+    match line {
+        SessionLine::Edit { .. } => "edit",
+        SessionLine::Undo { .. } => "undo",
+        SessionLine::Op(_) => "op",
+        SessionLine::Uop(_) => "uop",
+        SessionLine::Give { .. } => "give",
+        SessionLine::Text { .. } => "text",
+        SessionLine::Anchor { .. } => "anchor",
+        SessionLine::Where { .. } => "where",
+        SessionLine::Mark { .. } => "mark",
+        SessionLine::Since { .. } => "since",
+        SessionLine::Find { .. } => "find",
+        SessionLine::Point { .. } => "point",
+        SessionLine::Offset { .. } => "offset",
+    }
+}
+
+// Inputs that are sessions, with the ids of their replicas and the words of their lines.
+const SESSIONS: &[(&str, &[u16], &[&str])] = &[
+    (r#"["zedbuf",1,"ab",[1]]"#, &[1], &[]),
+    (
+        " [ \"zedbuf\" , 1 , \"\" , [ 1023 , 1 ] ] \n[\"text\",1]\n[\"text\",1023]\n",
+        &[1023, 1],
+        &["text", "text"],
+    ),
+    (
+        "[\"zedbuf\",1,\"\\u00e9\",[2,3,1]]\r\n[\"edit\",3,[]]\n[\"edit\",2,[[0,18446744073709551615,\"\"]]]\n[\"text\",1]",
+        &[2, 3, 1],
+        &["edit", "edit", "text"],
+    ),
+    (
+        r#"["zedbuf",1,"ab",[1,2]]
+["op",[0,65535],[],[]]
+["edit",1,[]]
+["give",2,1]
+["give",1,2]
+["op",[4294967295,0],[[65535,4294967295],[0,1]],[[2,1,"x"]]]
+["give",1,3]
+"#,
+        &[1, 2],
+        &["op", "edit", "give", "give", "op", "give"],
+    ),
+    (
+        r#"["zedbuf",1,"ab",[1,2]]
+["undo",1,[]]
+["uop",[4294967295,65535],[],[[4294967295,65535,4294967295],[0,0,0]]]
+["undo",2,[2,1,2]]
+["give",1,3]
+"#,
+        &[1, 2],
+        &["undo", "uop", "undo", "give"],
+    ),
+    (
+        r#"["zedbuf",1,"ab",[1,2]]
+["find",2,""]
+["point",1,18446744073709551615]
+["offset",2,18446744073709551615,0]
+["edit",1,[]]
+["find",1,"\ud83d\ude00"]
+["give",2,1]
+"#,
+        &[1, 2],
+        &["find", "point", "offset", "edit", "find", "give"],
+    ),
+    (
+        r#"["zedbuf",1,"ab",[1,2]]
+["anchor",1,"",18446744073709551615,"left"]
+["where",2,""]
+["mark",2,"\u0061"]
+["anchor",1,"é",0,"right"]
+["since",1,"a"]
+["where",1,"\u00e9"]
+["mark",1,"a"]
+["since",2,"a"]
+"#,
+        &[1, 2],
+        &[
+            "anchor", "where", "mark", "anchor", "since", "where", "mark", "since",
+        ],
+    ),
+];
+
+fn have_words(lines: &[SessionLine], words: &[&str]) -> bool {
+    for (line, word) in lines.iter().zip(words) {
+        if name_of(line) != *word {
+            return false;
+        }
+    }
+    lines.len() == words.len()
+}
+
+// Whether the input is a session with these replicas and lines of these words.
+fn reads(alloc: Global, input: &str, ids: &[u16], words: &[&str]) -> bool {
+    match decode(alloc, input.as_bytes()) {
+        Ok(session) => {
+            session.version == 1
+                && session.replicas.as_slice() == ids
+                && have_words(session.lines.as_slice(), words)
+        }
+        Err(_) => false,
+    }
+}
+
+// Versions as they stand in a line, and their entries.
+const VERSIONS: &[(&str, &[(u16, u32)])] = &[
+    ("[]", &[]),
+    ("[[7,3]]", &[(7, 3)]),
+    ("[[7,3],[0,1]]", &[(0, 1), (7, 3)]),
+    (
+        "[[2,5],[65535,4294967295],[0,1],[1,5],[9,2]]",
+        &[(0, 1), (1, 5), (2, 5), (9, 2), (65_535, 4_294_967_295)],
+    ),
+];
+
+// Whether the version of an operation line is read as these entries.
+fn reads_version(alloc: Global, version: &str, want: &[(u16, u32)]) -> Result<bool, OutOfMemory> {
+    let input = format!(in alloc; "[\"zedbuf\",1,\"\",[1]]\n[\"op\",[9,1],{version},[]]")?;
+    Ok(match decode(alloc, input.as_bytes()) {
+        Ok(session) => match session.lines.as_slice() {
+            [SessionLine::Op(edit)] => edit.version.as_slice() == want,
+            _ => false,
+        },
+        Err(_) => false,
+    })
+}
+
+// The entries of a version as they stand in a line: first the greatest id with the value 7, then those below with 9.
+fn entries_text(alloc: Global, count: u16) -> Result<String, OutOfMemory> {
+    let mut text = format!(in alloc; "[{count},7]")?;
+    for id in 1..count {
+        text = format!(in alloc; "{text},[{id},9]")?;
+    }
+    Ok(text)
+}
+
+// These entries in the order of their ids.
+fn entries(alloc: Global, count: u16) -> Result<Vec<(u16, u32)>, OutOfMemory> {
+    let mut entries = Vec::new(alloc);
+    for id in 1..count {
+        entries.push((id, 9))?;
+    }
+    entries.push((count, 7))?;
+    Ok(entries)
+}
+
+// Whether a version of that many ids is read, and one with another entry of the first id is refused.
+fn reads_many(alloc: Global, count: u16) -> Result<bool, OutOfMemory> {
+    let text = entries_text(alloc, count)?;
+    let version = format!(in alloc; "[{text}]")?;
+    let twice = format!(in alloc;
+        "[\"zedbuf\",1,\"ab\",[1,2]]\n[\"op\",[9,1],[{text},[1,9]],[]]\n[\"text\",4]\n"
+    )?;
+    let is_refused = fault_of(alloc, twice.as_bytes()) == bad(2, Word::Shape);
+    let want = entries(alloc, count)?;
+    Ok(reads_version(alloc, version.as_str(), want.as_slice())? && is_refused)
+}
+
+fn bad(line: u64, word: Word) -> Option<DecodeFault> {
+    Some(DecodeFault::Bad { line, word })
+}
+
+// What an input is refused for.
+fn fault_of(alloc: Global, input: &[u8]) -> Option<DecodeFault> {
+    decode(alloc, input).err()
+}
+
+const NO_TEXT: &[u8] = b"[\"zedbuf\",1,\"ab\",[1]]\n[\"text\",1]\n\"\xff\"\n";
+
+// A number of line feeds, a last line without one, and what they are refused for.
+const MANY_LINES: &[(&str, usize, &str, DecodeFault)] = &[
+    ("1,048,576", 1_048_576, "", BAD_JSON),
+    (
+        "1,048,576, the last without a line feed",
+        1_048_575,
+        " ",
+        BAD_JSON,
+    ),
+    ("1,048,577", 1_048_577, "", TOO_MANY),
+    (
+        "1,048,577, the last without a line feed",
+        1_048_576,
+        " ",
+        TOO_MANY,
+    ),
+];
+
+const BAD_JSON: DecodeFault = DecodeFault::Bad {
+    line: 1,
+    word: Word::Json,
+};
+
+const TOO_MANY: DecodeFault = DecodeFault::Lines(1_048_577);
+
+fn is_refused_for(
+    alloc: Global,
+    count: usize,
+    last: &str,
+    want: DecodeFault,
+) -> Result<bool, OutOfMemory> {
+    let mut input = vec![in alloc; b'\n'; count]?;
+    input.extend_from_slice(last.as_bytes())?;
+    Ok(fault_of(alloc, input.as_slice()) == Some(want))
+}

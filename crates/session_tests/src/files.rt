@@ -1,0 +1,120 @@
+//! The cases of the files.
+use crate::calls::{Passing, Run, Wanted, comes_to};
+use crate::case::Case;
+use crate::choices::Choices;
+use crate::tally::{Host, Tally};
+use op_model::OutOfMemory;
+use std::alloc::Global;
+use std::rt::Files;
+use std::sync::Wait;
+use std::thread::Threads;
+use std::{fs, io};
+
+/// Runs the cases of all files of the folder, in the order of their names.
+pub fn test<R: Host + Files + Clone + Drop>(rt: &R, tally: &mut Tally) {
+    match names(rt) {
+        Ok(names) => {
+            for name in names {
+                test_file(rt, tally, name.as_str());
+            }
+        }
+        Err(_) => tally.note(rt, "data", "the folder is not read", false),
+    }
+}
+
+fn names<R: Files + AllocGlobal + Clone + Drop>(rt: &R) -> io::Result<Vec<String>> {
+    let mut names = Vec::new(rt.alloc());
+    for entry in fs::read_dir(rt, ".")? {
+        let entry = entry?;
+        if entry.file_name().ends_with(".case") {
+            names.push(String::from_str(rt.alloc(), entry.file_name())?)?;
+        }
+    }
+    names.sort_unstable();
+    Ok(names)
+}
+
+fn test_file<R: Host + Files>(rt: &R, tally: &mut Tally, name: &str) {
+    match fs::read_to_string(rt, name) {
+        Ok(text) => match Case::read(text.as_str()) {
+            Some(case) => test_case(rt, tally, name, &case),
+            None => tally.note(rt, name, "the file is no case", false),
+        },
+        Err(_) => tally.note(rt, name, "the file is not read", false),
+    }
+}
+
+fn test_case<R: Host>(rt: &R, tally: &mut Tally, name: &str, case: &Case<'_>) {
+    for line in case.head.lines() {
+        if let Some(words) = line.strip_prefix("words:") {
+            test_words(rt, tally, name, case, words.trim());
+        }
+    }
+}
+
+fn test_words<R: Host>(rt: &R, tally: &mut Tally, name: &str, case: &Case<'_>, words: &str) {
+    match case.lines {
+        Some(lines) => {
+            for line in lines.lines() {
+                let is_right = is_right_with(rt, rt.alloc(), case, words, line);
+                tally.note(rt, name, line, is_right == Ok(true));
+            }
+        }
+        None => {
+            let is_right = is_right(rt, rt.alloc(), case, words, case.session);
+            tally.note(rt, name, words, is_right == Ok(true));
+        }
+    }
+}
+
+// Whether the case is right with this line in the place of its line %. Strokes are ends of lines.
+fn is_right_with<R: Threads + Wait + Sync>(
+    rt: &R,
+    alloc: Global,
+    case: &Case<'_>,
+    words: &str,
+    line: &str,
+) -> Result<bool, OutOfMemory> {
+    let Some((before, after)) = case.session.split_once("%\n") else {
+        return Ok(false);
+    };
+    let mut session = String::from_str(alloc, before)?;
+    for part in line.split(" / ") {
+        session.push_str(part)?;
+        session.push('\n')?;
+    }
+    session.push_str(after)?;
+    is_right(rt, alloc, case, words, session.as_str())
+}
+
+fn is_right<R: Threads + Wait + Sync>(
+    rt: &R,
+    alloc: Global,
+    case: &Case<'_>,
+    words: &str,
+    session: &str,
+) -> Result<bool, OutOfMemory> {
+    let run = Run {
+        words,
+        input: session.as_bytes(),
+        ends: case.ends(),
+    };
+    let wanted = if case.has_choices() {
+        Wanted::Choices(Choices {
+            workers: workers(words),
+            session,
+            rows: case.output,
+        })
+    } else {
+        Wanted::Bytes(case.output.as_bytes())
+    };
+    comes_to(rt, alloc, &Passing, run, wanted)
+}
+
+// How many workers the words of a replay ask for.
+fn workers(words: &str) -> usize {
+    match words.split_once("--workers ") {
+        Some((_, number)) => number.parse().unwrap_or(2),
+        None => 2,
+    }
+}
