@@ -589,9 +589,9 @@ fn make(author: &mut Replica, count: u64, edit: impl Fn(&mut Replica, u64, u64) 
         .collect()
 }
 
-// Writes how many fragments there are after a work, and how long it took among them.
+// Writes how many bytes the text has after a work, and how long it took among the fragments.
 fn tell(name: &str, replica: &Replica, before: Duration) {
-    println!("{name} {} {}", replica.placed.fragments.root.sum.items, (replica.time - before).as_micros());
+    println!("{name} {} {}", replica.len(), (replica.time - before).as_micros());
 }
 
 fn make_told(name: &str, author: &mut Replica, edit: impl Fn(&mut Replica, u64, u64) -> Operation) -> Vec<Operation> {

@@ -44,31 +44,6 @@ impl Item for Number {
     }
 }
 
-const TEXT: &str = "A line of a text, as one types it, of about as many bytes as a line has in a program.\n";
-
-// A line of a text, of at most 128 bytes, which lies in the item itself.
-#[derive(Clone, Copy)]
-struct Line {
-    number: u64,
-    len: u32,
-    text: [u8; 128],
-}
-
-impl Item for Line {
-    fn of(number: u64) -> Line {
-        let mut text = [0; 128];
-        text[..TEXT.len()].copy_from_slice(TEXT.as_bytes());
-        Line { number, len: TEXT.len() as u32, text }
-    }
-    fn key(&self) -> u64 {
-        self.number
-    }
-    fn span(&self) -> Span {
-        let text = &self.text[..self.len as usize];
-        Span { items: 1, width: text.len() as u64 }
-    }
-}
-
 #[derive(Clone)]
 enum Content<T> {
     Leaf(Vec<Arc<(T, Span)>>),
@@ -387,7 +362,7 @@ fn list_work(n: u64) {
 }
 
 // One change of a text, as typing makes it: mostly one item for one, now and then two for one or one for two.
-fn splice_at(tree: &mut Tree<Line>, x: u64) {
+fn splice_at(tree: &mut Tree<Number>, x: u64) {
     let len = tree.len();
     let at = (x >> 20) % len;
     let (replaced, count) = match x >> 61 {
@@ -395,11 +370,11 @@ fn splice_at(tree: &mut Tree<Line>, x: u64) {
         1 if at + 1 < len => (2, 1),
         _ => (1, 1),
     };
-    tree.splice(at, replaced, (0..count).map(Line::of).collect());
+    tree.splice(at, replaced, (0..count).map(Number::of).collect());
 }
 
 fn text_work(n: u64) {
-    let mut tree = Tree::from_list((0..n).map(Line::of).collect());
+    let mut tree = Tree::from_list((0..n).map(Number::of).collect());
     timed("Type", || {
         let mut x = 1;
         for _ in 0..n {

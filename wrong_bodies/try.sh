@@ -1,22 +1,13 @@
 #!/bin/sh
-# Tries the wrong bodies that the gate does not try: in a clone of this repository, those of the crates that are named, or of all,
-# are put beside the gate's own (crates/NAME/must-fail), and the prover has to refuse each. The clone proves the libraries below
-# first, which takes as long as a first `rt ci` of them.
+# Tries wrong bodies: those that the gate tries (crates/NAME/must-fail) and those here beside it, of the crates that are named
+# or of all. The prover has to refuse each. README.md beside this file has a row for each, which this rewrites.
 #
-#     wrong_bodies/try.sh [NAME..]
+#     wrong_bodies/try.sh [NAME..]      tries them
+#     wrong_bodies/try.sh --rows        only rewrites the rows, after edits or crates have changed
+#
+# What is tried is the last commit, in a clone; so commit first. `rt ci NAME` there takes over what the gate has proved on this
+# machine, and keeps what each edit came to, so a run that was cut off goes on where it was. RT_JOBS says how many crates are
+# tried at a time, or else there are as many as processors.
 set -eu
 here=$(cd "$(dirname "$0")" && pwd)
-clone=$(mktemp -d)
-trap 'rm -rf "$clone"' EXIT
-git clone -q "$here/.." "$clone/zedbuf"
-cd "$clone/zedbuf"
-if [ $# -eq 0 ]; then
-    for folder in wrong_bodies/*/; do
-        set -- "$@" "$(basename "$folder")"
-    done
-fi
-for name in "$@"; do
-    mkdir -p "crates/$name/must-fail"
-    cp "wrong_bodies/$name/"*.edit "crates/$name/must-fail/"
-done
-rt must-fail "$@"
+exec python3 -B "$here/try.py" "$@"
