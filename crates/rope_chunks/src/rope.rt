@@ -32,13 +32,12 @@ use tree_cursor::{Bias, Plain, Target, look_up};
 /// ```
 ///
 /// Now `rope` is `three`, an LF and `two`, and `old` as it was; `word` is `two`, `place` is row 1 with column 1, and `len` is 3. Each
-/// call is used in the files of `crates/rope_tests/src`:
+/// call is used in the files of `crates/tree_tests/src`:
 ///
-/// - `new`, `from_str`: `parts.rt`, in `rope_of`; `push_str`, `append`: `parts.rt`, in `grow`; `share`: `ropes.rt`, in `shared_len`
-/// - `to_string`, `len`: `parts.rt`, in `has`; `summary`: `ropes.rt`, in `counts`; `chunks`: `parts.rt`, in `count`
-/// - `is_char_boundary`, `slice`, `text_of`: `parts.rt`, in `cuts_alike`; `replace`: `parts.rt`, in `replace`
-/// - conversions: `ropes.rt`, in `names_offsets`, `names_units` and `names_points`, and those of long texts in `positions.rt`
-/// - `clip_offset`: `ropes.rt`, in `clips_offsets`; `clip_point`: `positions.rt`, in `clips`; `row_len`: `positions.rt`, in `rows`
+/// - `new`, `from_str`, `push_str` and `append`: `parts.rt`, in `rope_of`, `push_to` and `join_to`; `share`: `ropes.rt`, in `shared_len`
+/// - `to_string` and `len`: `parts.rt`, in `has`; `chunks`: there, in `count`; `summary`: `ropes.rt`, in `answer`
+/// - `is_char_boundary`, `slice`, `text_of` and `replace`: `parts.rt`, in `bounds_alike`, `part_of`, `copy_of` and `replace`
+/// - conversions: `ropes.rt`, in `convert`; `clip_offset`, `clip_point` and `row_len`: there, in `answer`
 #[derive(Drop)]
 pub struct Rope {
     pub(crate) chunks: SumTree<Chunk>,

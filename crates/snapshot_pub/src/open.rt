@@ -25,7 +25,7 @@ use text_buffer::Snapshot;
 ///
 /// # Examples
 ///
-/// `opens` of `crates/pub_tests/src/pairs.rt`.
+/// `opens` of `crates/session_tests/src/pairs.rt`.
 pub fn open_pairs<R: Wait>(
     rt: &R,
     alloc: Global,

@@ -82,7 +82,7 @@ impl Side {
 ///
 /// # Examples
 ///
-/// `publish`: `publish_both`, `tell`: `publish_and_tell`, `close`: `both_show`, of `crates/pub_tests/src/pairs.rt`.
+/// `publish`: `publish_both`, `tell`: `publish_and_tell`, `close`: `both_show`, of `crates/session_tests/src/pairs.rt`.
 pub struct Publisher {
     pub(crate) sides: Vec<Side>,
 }

@@ -15,7 +15,7 @@ use text_buffer::Snapshot;
 ///
 /// # Examples
 ///
-/// `latest`: `gives`, `learn`: `publish_and_tell`, `entered`: `shows`, of `crates/pub_tests/src/pairs.rt`.
+/// `latest`: `gives`, `learn`: `publish_and_tell`, `entered`: `shows`, of `crates/session_tests/src/pairs.rt`.
 #[derive(Drop)]
 pub struct SnapReader {
     pub(crate) end: ReadEnd,

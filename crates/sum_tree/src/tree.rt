@@ -51,12 +51,12 @@ pub(crate) const MOST: usize = 12;
 /// Now `tree` and `rest` hold 5 and 8, `old` still holds 3, 5 and 8, and `gone` is the number 3. The files of
 /// `crates/tree_tests/src` use every call:
 ///
-/// - `new`, `push`, `from_list`: `changes.rt`, in `pushed`, `push_to` and `made`; `from_item`: `trees.rt`, in `alone`
-/// - `len`, `is_empty`, `get`, `first`, `last`, `height`, `parts`: `mirror.rt`, in `has_numbers`, `has_ends`, `is_even`
-/// - `summary`: `trees.rt`, in `is_wide`; `share` and `splice`: `trees.rt`, in `splices`
-/// - `take_front`, `drop_front` and `append`: `trees.rt`, in `rejoins`
-/// - `find`: `trees.rt`, in `finds`; `insert` and `remove`: `keys.rt`, in `put` and `take_out`
-/// - `known`, `Steps` and the calls in `_counted`: `counted.rt`, in `spot`, `works_on_three` and `ends_with`
+/// - `new`, `push`, `from_list`, `append`, `splice`, `insert` and `remove`: `changes.rt`, in `push_to`, `listed_tree`, `append_to`,
+///   `splice_in`, `insert_to` and `remove_from`
+/// - `len`, `is_empty`, `get`, `first`, `last`, `height` and `parts`: `mirror.rt`, in `has_numbers`, `has_ends` and `is_even`
+/// - `take_front` and `drop_front`: `accounts.rt`, in `rejoins`; `share`: there, in `change_shared`
+/// - `summary`: `trees.rt`, in `is_wide`; `find`: there, in `finds`
+/// - `from_item`, `known`, `Steps` and the calls in `_counted`: `counted.rt`, in `append_to`, `cuts` and `ends`
 #[cycle(tree)]
 #[derive(Drop)]
 pub struct SumTree<T: Item> {

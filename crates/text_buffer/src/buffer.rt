@@ -41,14 +41,16 @@ use text_dims::TextSummary;
 ///
 /// Each call stands in a function of this repository, of a program or of a test:
 ///
-/// - `new`: `main` of `crates/embed/src/main.rt`; `over`, with [`Base::new`]: `plays_over_one` and `plays_twice` of
-///   `crates/text_tests/src/buffers.rt`
-/// - `edit_uncounted`: `replace` of `crates/embed/src/main.rt`; `edit`, with a counter: `edit_with` of `crates/text_tests/src/counted.rt`
+/// - `new`: `main` of `crates/embed/src/main.rt`; `over`, with [`Base::new`]: `count_over` and `count_twice` of
+///   `crates/buffer_tests/src/cases.rt`
+/// - `edit_uncounted`: `replace` of `crates/embed/src/main.rt`; `edit`, with a counter: `edit_with` of
+///   `crates/buffer_tests/src/counted.rt`
 /// - `take`: `edit_both` of `crates/embed/src/main.rt`; `settle` and `undo`: the functions of these names of
-///   `crates/text_tests/src/buffers.rt`
+///   `crates/buffer_tests/src/steps.rt`
 /// - `text` and `snapshot`: `show` of `crates/embed/src/main.rt`
 /// - `summary`, and `known`, which is for proofs: `text_len` of `crates/session_replay/src/replica.rt`
-/// - `version` and `applied`: `are_counted`, and `deferred` and `refused`: `keeps`, of `crates/text_tests/src/buffers.rt`
+/// - `version` and `applied`: `new_operation` of `crates/buffer_tests/src/groups.rt`; `deferred` and `refused`: `keeps` of
+///   `crates/buffer_tests/src/steps.rt`
 #[derive(Drop)]
 pub struct Buffer {
     pub(crate) alloc: Global,

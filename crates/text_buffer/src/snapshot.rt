@@ -22,9 +22,8 @@ use sum_tree::SumTree;
 /// [`Buffer::snapshot`] makes one. Each call stands in a function of this repository, of a program or of a test:
 ///
 /// - `text` and `resolve`: `search` of `crates/embed/src/main.rt`; `anchor`: `anchor_at` there
-/// - `compare`: `answers` of `crates/text_tests/src/anchored.rt`
-/// - `text_at`: `text_is`, and `since`: `edits_are`, of `crates/text_tests/src/pasts.rt`
-/// - `share`: `shares`, and `applied` and `version`: `is_as_wanted`, of `crates/text_tests/src/snapshots.rt`
+/// - `compare`: `answers`, `text_at`: `text_is`, `since`: `edits_are`, `share`: `count_stays`, and `applied` and `version`:
+///   `has_applied`, of `crates/buffer_tests/src/steps.rt`
 /// - `known`, which is for proofs: [`snapshots_agree`]
 #[derive(Drop)]
 pub struct Snapshot {
