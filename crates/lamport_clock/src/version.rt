@@ -1,5 +1,5 @@
 //! Versions: the greatest stamp value seen of each replica.
-ghost use Rattle.std.specs.Prelude.{◌≡◌, ℕ, ◌<◌, ◌≤◌, [], max, IsOk, IfOk, OnErr, OnOk, length, slice_get, IsTrue, ◌↔◌};
+ghost use Rattle.std.specs.Prelude.{◌≡◌, ℕ, ◌<◌, ◌≤◌, [], max, IsOk, IfOk, IfSome, IfNone, OnErr, OnOk, length, slice_get, IsTrue, ◌↔◌};
 ghost use Rattle.lamport_clock.specs.Versions.{entry, sees, within, first_unseen, raise, join_versions, put_entry, place_of, front, behind, IsAt, IsVersion, OfSameReplicas};
 
 use crate::{Lamport, OutOfMemory};
@@ -53,19 +53,25 @@ impl Version {
         Ok(version)
     }
 
-    /// The version with exactly these entries (replica, value), whose replicas ascend and whose values are above 0.
-    /// Linear in their number, where `from_entries` is quadratic.
+    /// The version with exactly these entries (replica, value), or `None` unless their replicas ascend and their values
+    /// are above 0. Linear in their number, where `from_entries` is quadratic.
     ///
     /// # Errors
     ///
-    /// `OutOfMemory` if an allocation fails.
-    pub fn from_ascending(alloc: Global, entries: &[(u16, u32)]) -> Result<Version, OutOfMemory>
-        requires { IsVersion entries.now }
-        ensures { IfOk result (λ v. v ≡ entries.now) }
+    /// `OutOfMemory` if an allocation fails; if the result is `None`, nothing is allocated.
+    pub fn from_ascending(
+        alloc: Global,
+        entries: &[(u16, u32)],
+    ) -> Result<Option<Version>, OutOfMemory>
+        ensures same { IfOk result (λ made. IfSome made (λ v. v ≡ entries.now)) }
+        ensures none { IfOk result (λ made. IfNone made (IsVersion entries.now → ⊥)) }
     {
-        Ok(Version {
+        if !ascend(entries) {
+            return Ok(None);
+        }
+        Ok(Some(Version {
             entries: SmallVec::from_slice(alloc, entries)?,
-        })
+        }))
     }
 
     /// States for callers what holds of every version. The call does nothing.
@@ -178,6 +184,20 @@ impl Version {
             entries: SmallVec::from_slice(alloc, self.entries.as_slice())?,
         })
     }
+}
+
+// Whether the replicas ascend and the values are above 0.
+fn ascend(entries: &[(u16, u32)]) -> bool
+    ensures { IsTrue result ↔ IsVersion entries.now }
+{
+    let mut least = 0u32;
+    for &(replica, value) in entries {
+        if (replica as u32) < least || value == 0 {
+            return false;
+        }
+        least = replica as u32 + 1;
+    }
+    true
 }
 
 // The value of a replica, 0 if it has no entry.

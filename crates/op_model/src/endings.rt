@@ -1,9 +1,9 @@
 //! Line endings: what a buffer does with them, and texts as they enter it.
 ghost use Rattle.std.specs.Prelude.{◌≡◌, ◌≤◌, ◌<◌, ◌∷◌, ◌++◌, true, length, string_bytes, IfOk, IfNone, IfSome};
 ghost use Rattle.std.specs.List.{position};
-ghost use Rattle.op_model.specs.Rules.{lf, lf_after, has_return};
+ghost use Rattle.op_model.specs.Rules.{lf, lf_after, has_return, rule_fault};
 
-use crate::{OutOfMemory, Piece};
+use crate::{OpFault, Operation, OutOfMemory, Piece};
 use std::alloc::Global;
 
 /// What a buffer does with the line endings of the texts that enter it.
@@ -83,4 +83,18 @@ fn has_return(piece: &Piece) -> bool
     ensures { result ≡ has_return piece.now }
 {
     piece.text.as_str().as_bytes().iter().any(|b| *b == b'\r')
+}
+
+/// The fault that a rule on line endings finds in an operation: under `Lf` the first piece whose text has a CR. Linear in
+/// the texts; does not allocate.
+pub fn rule_fault(endings: Endings, op: &Operation) -> Option<OpFault>
+    ensures { result ≡ rule_fault endings op.now }
+{
+    match (endings, op) {
+        (Endings::Lf, Operation::Edit(edit)) => {
+            let index = first_return(edit.pieces.as_slice())?;
+            Some(OpFault::CarriageReturn(index as u64))
+        }
+        _ => None,
+    }
 }

@@ -16,7 +16,7 @@ mod same;
 mod shapes;
 
 pub use anchor::{Anchor, Bias, TextEdit};
-pub use endings::{Endings, first_return, lf, lf_len};
+pub use endings::{Endings, first_return, lf, lf_len, rule_fault};
 pub use faults::{EditFault, OpFault, OpenFault, PlaceFault, SinceFault, UndoFault, Unit};
 pub use lamport_clock::OutOfMemory;
 pub use laws::{

@@ -33,6 +33,14 @@ under_clean e h w op n = under_is e h w op ∙ ap (of (shape_fault op) (answer h
     go None q = refl
     go (Some f) q = sym (shape_first h w op f q)
 
+-- a fault that an operation shows by itself comes first
+pub under_shape : (e : Endings) (h : History) (w : List Operation) (op : Operation) (f : OpFault) → shape_fault op ≡ Some f → answer_under e h w op ≡ Refused f
+under_shape e h w op f q = under_is e h w op ∙ ap (λ o. of o (answer h w op) (rule_fault e op)) q
+
+-- then the rule's
+pub under_rule : (e : Endings) (h : History) (w : List Operation) (op : Operation) (f : OpFault) → shape_fault op ≡ None → rule_fault e op ≡ Some f → answer_under e h w op ≡ Refused f
+under_rule e h w op f q r = under_is e h w op ∙ ap (λ o. of o (answer h w op) (rule_fault e op)) q ∙ ap (or_refused (answer h w op)) r
+
 -- any answer but a refusal is the plain one, of an operation that keeps the rule
 unrefused : (e : Endings) (h : History) (w : List Operation) (op : Operation) (a : Answer) → ((f : OpFault) → Refused f ≡ a → ⊥) → answer_under e h w op ≡ a → (answer h w op ≡ a) × (rule_fault e op ≡ None)
 unrefused e h w op a n i = go (shape_fault op) (rule_fault e op) (sym (under_is e h w op) ∙ i)
