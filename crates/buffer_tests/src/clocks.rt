@@ -182,6 +182,34 @@ fn are_of_five(alloc: Global) -> Result<bool, OutOfMemory> {
     Ok(is_of_five(&version) && is_of_five(&version.copy(alloc)?))
 }
 
+// Entries in the order in which they come, and those of the version of them; `None` where they do not ascend.
+type Listed = (&'static [(u16, u32)], &'static [(u16, u32)], bool);
+
+const LISTED: &[Listed] = &[
+    (&[], &[], true),
+    (ENTRIES, ENTRIES, true),
+    (
+        &[(0, 1), (65_535, 4_294_967_295)],
+        &[(0, 1), (65_535, 4_294_967_295)],
+        true,
+    ),
+    (&[(3, 1), (3, 1)], &[(3, 1)], false),
+    (&[(3, 1), (3, 2)], &[(3, 2)], false),
+    (&[(9, 8), (1, 2)], &[(1, 2), (9, 8)], false),
+    (&[(1, 2), (4, 0), (9, 8)], &[(1, 2), (9, 8)], false),
+    (&[(0, 0)], &[], false),
+];
+
+// Whether the version of entries in any order has these, and the version of ascending ones too, where there is one.
+fn is_listed(alloc: Global, (entries, want, ascend): Listed) -> Result<bool, OutOfMemory> {
+    let sorted = Version::from_entries(alloc, entries)?;
+    let right = match Version::from_ascending(alloc, entries)? {
+        Some(made) => ascend && made.as_slice() == want,
+        None => !ascend,
+    };
+    Ok(right && sorted.as_slice() == want)
+}
+
 fn are_in_words(alloc: Global) -> Result<bool, OutOfMemory> {
     let words = format!(in alloc; "{SECOND}: {ClockEnd}")?;
     Ok(words.as_str() == "2.7: the clock stands at its end")
@@ -196,6 +224,9 @@ fn versions_see_and_join(rt: HostRuntime) -> Result<(), OutOfMemory> {
             join.seen,
             join.other
         );
+    }
+    for &row in LISTED {
+        assert!(rt; is_listed(rt.alloc(), row)?, "{:?}", row.0);
     }
     assert!(rt; are_of_five(rt.alloc())? && are_in_words(rt.alloc())?);
     Ok(())

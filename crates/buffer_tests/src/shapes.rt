@@ -1,6 +1,6 @@
 //! Shapes of operations, equal operations and copies.
 use crate::operations::{Parts, Stamp, operation};
-use op_model::{Operation, ShapeFault, shape};
+use op_model::{Endings, OpFault, Operation, ShapeFault, lf, lf_len, rule_fault, shape};
 use std::alloc::Global;
 use sum_tree::OutOfMemory;
 
@@ -138,5 +138,54 @@ fn operations_have_shapes_and_copies(rt: HostRuntime) -> Result<(), OutOfMemory>
     let all = operations(rt.alloc())?;
     let right = count_copies(rt.alloc(), all.as_slice())?;
     assert!(rt; right == all.len(), "row {right}");
+    Ok(())
+}
+
+// A text, and the text with each CR LF, and each other CR, as one LF.
+const TEXTS: &[(&str, &str)] = &[
+    ("", ""),
+    ("é\n\n😀", "é\n\n😀"),
+    ("\r", "\n"),
+    ("\r\n", "\n"),
+    ("\n\r", "\n\n"),
+    ("\r\r\n", "\n\n"),
+    ("\r\n\r\n", "\n\n"),
+    ("\ré\r\n€\n😀\r", "\né\n€\n😀\n"),
+];
+
+// Parts, and the fault that the rule `Lf` finds in them.
+const RULES: &[(Parts, Option<OpFault>)] = &[
+    (NONE, None),
+    (Parts::Counts(&[((7, 1), 1)]), None),
+    (Parts::Pieces(&[(0, 0, "a\n"), (2, 2, "")]), None),
+    (
+        Parts::Pieces(&[(0, 0, "a\r")]),
+        Some(OpFault::CarriageReturn(0)),
+    ),
+    (
+        Parts::Pieces(&[(0, 0, "a"), (2, 3, "\r\n"), (4, 4, "\r")]),
+        Some(OpFault::CarriageReturn(1)),
+    ),
+];
+
+fn is_lf(alloc: Global, text: &str, want: &str) -> Result<bool, OutOfMemory> {
+    let made = lf(alloc, text)?;
+    Ok(made.as_str() == want && lf_len(text) == want.len())
+}
+
+// Whether the rule `Lf` finds this fault, and the rule `AsIs` none.
+fn is_ruled(alloc: Global, parts: Parts, want: Option<OpFault>) -> Result<bool, OutOfMemory> {
+    let op = operation(alloc, (9, 4), BASE, parts)?;
+    Ok(rule_fault(Endings::Lf, &op) == want && rule_fault(Endings::AsIs, &op).is_none())
+}
+
+#[test]
+fn texts_end_rows_with_lf(rt: HostRuntime) -> Result<(), OutOfMemory> {
+    for &(text, want) in TEXTS {
+        assert!(rt; is_lf(rt.alloc(), text, want)?, "{text:?}");
+    }
+    for &(parts, want) in RULES {
+        assert!(rt; is_ruled(rt.alloc(), parts, want)?, "{want:?}");
+    }
     Ok(())
 }
