@@ -46,7 +46,7 @@ fn first_at_end(undos: &UndoMap, edits: &[Lamport]) -> Option<Lamport>
 
 /// The fault that an undo of edits meets, but for those of the clock and the limits, which come behind: of the faults in
 /// the order of `UndoFault` the first, each for the first stamp in the list that meets it. `undos` has the undo counts of
-/// the applied operations. It never fails for want of memory: memory only speeds up the search for a stamp that is named
+/// the applied operations. It never fails if an allocation does: memory only speeds up the search for a stamp that is named
 /// twice. Linear in the list times the logarithm of what is applied.
 pub fn listed_fault(
     alloc: Global,

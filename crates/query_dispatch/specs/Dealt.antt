@@ -19,7 +19,7 @@ module _ {Q : Type 0} where
   abbrev pub AreNumbered : List (Ask Q) → Type 0
   AreNumbered asks = map (λ (a : Ask Q). a.number) asks ≡ range_with_len 1 (length asks)
 
-  -- the inbox of worker w has those that go to it, and room for its part of so many, and for the end mark
+  -- the inbox of worker w has those that go to it, and room for its part of the limit, and for the end mark
   pub record IsDealt (workers limit : ℕ) (asks : List (Ask Q)) (w : ℕ) (i : InboxState Q) : Type 0 where
     pub open_ : IsOpen i.sent
     pub has : asks_of i.sent ≡ asks_to workers w asks

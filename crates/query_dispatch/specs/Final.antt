@@ -47,16 +47,16 @@ pub record HaveLooked (published : Lasts) (old new : List ReaderState) : Type 0 
 abbrev pub bound_of : ℕ → ReaderState → ℕ
 bound_of size r = if r.entered then size else 0
 
--- so many for each of a worker's readers
+-- one for each of a worker's readers
 pub record AreBounds (published : Lasts) (looked : List ReaderState) (bounds : List ℕ) : Type 0 where
   pub many : length bounds ≡ length looked
   pub each : AllAt (λ r n. (d : ReaderState) → n ≡ bound_of (length (last_of published r)) (slice_index_or looked r d)) bounds
 
--- a list of no more than so many operations stays; a longer one gives way to what the replica is at the end
+-- a list of no more operations than the bound stays; a longer one gives way to what the replica is at the end
 abbrev pub final_list : ℕ → List Operation → List Operation → List Operation
 final_list bound h last = if nat_lt bound (length h) then last else h
 
--- the second answer comes to the first: where it is on more operations than its replica's bound, it is made anew
+-- the second answer comes to the first: where it is on more operations than its replica's bound, it is made again
 pub record ComesTo {Q A : Type 0} (plain : Q → List Operation → A) (bounds : List ℕ)
     (lasts : Lasts) (b a : Answer Q A) : Type 0 where
   pub number : b.number ≡ a.number
@@ -66,7 +66,7 @@ pub record ComesTo {Q A : Type 0} (plain : Q → List Operation → A) (bounds :
   pub answer : b.answer ≡ plain b.query b.snapshot
 
 -- what a worker answered, once its readers have looked once more: an answer stays that is on no more than was last published, and whose
--- reader entered; each other one is made anew
+-- reader entered; each other one is made again
 pub record HasRenewed {Q A : Type 0} (plain : Q → List Operation → A) (published lasts : Lasts)
     (done : DoneState Q A) (looked : List ReaderState) (answers : List (Answer Q A)) : Type 0 where
   pub readers : HaveLooked published done.readers looked

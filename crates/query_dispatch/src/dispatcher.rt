@@ -12,7 +12,7 @@ use std::marker::Model;
 use std::sync::Wait;
 use text_buffer::Snapshot;
 
-/// The inboxes of all workers, into which queries are put in turn: query q, from 1, goes to worker (q - 1) mod so many. Contracts see
+/// The inboxes of all workers, into which queries are put in turn: query q, from 1, goes to worker (q - 1) modulo their number. Contracts see
 /// the inboxes, how many queries were put, and how many there may be.
 ///
 /// # Examples

@@ -33,7 +33,7 @@ pub struct Gathering<Q> {
 
 impl<Q: Drop> Gathering<Q> {
     /// The answers of all workers, in the order of the queries, given what each replica is at the end, and the readers of each worker
-    /// after a last look. An answer on more than was last published of its replica is made anew, and so is each of a reader that did not
+    /// after a last look. An answer on more than was last published of its replica is made again, and so is each of a reader that did not
     /// enter at its last look; so each is on what its replica has applied at some time until the end. The others are as the workers gave
     /// them.
     ///

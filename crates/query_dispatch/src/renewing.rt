@@ -17,7 +17,7 @@ use std::alloc::Global;
 use std::thread::Threads;
 use text_buffer::Snapshot;
 
-// A last look of a reader: it learns what was last published to its pair, which has so many operations, and takes `latest` once
+// A last look of a reader: it learns what was last published to its pair, a list of this length, and takes `latest` once
 // more. Gives the reader back, and how many operations an answer of it may have that stays: none, where it did not enter.
 fn look_last(
     mut reader: SnapReader,
@@ -84,7 +84,7 @@ fn look_all(
     Ok((looked, bounds))
 }
 
-// The answer as it is, where it is on no more operations than its replica's bound; else it is made anew on what the replica is at
+// The answer as it is, where it is on no more operations than its replica's bound; else it is made again on what the replica is at
 // the end.
 fn renew<R: Threads + Sync, Q: Query<A> + Drop, A: Drop>(
     rt: &R,
@@ -188,7 +188,7 @@ fn renew_each<R: Threads + Sync, Q: Query<A> + Drop, A: Drop>(
 }
 
 /// The answers of a worker, renewed, the last of them first: those that its readers gave on more than was last published, and all of
-/// a reader that did not enter at its last look, are made anew. Gives the readers back too.
+/// a reader that did not enter at its last look, are made again. Gives the readers back too.
 ///
 /// # Errors
 ///

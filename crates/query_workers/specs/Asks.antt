@@ -15,7 +15,7 @@ pub record Ask (Q : Type 0) : Type 0 where
   pub query : Q
   pub history : List Operation
 
--- the worker that a query goes to, of so many
+-- the worker that a query goes to, by the number of workers
 abbrev pub worker_of : ℕ → ℕ → ℕ
 worker_of workers number = (number - 1) % workers
 
@@ -28,7 +28,7 @@ module _ {Q : Type 0} where
   abbrev pub asks_of : List (Entry Q) → List (Ask Q)
   asks_of es = map ask_of (jobs_of es)
 
-  -- those that go to a worker, of so many
+  -- those that go to a worker, by the number of workers
   abbrev pub asks_to : ℕ → ℕ → List (Ask Q) → List (Ask Q)
   asks_to workers w asks = filter (λ (a : Ask Q). worker_of workers a.number == w) asks
 

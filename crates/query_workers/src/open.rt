@@ -10,7 +10,7 @@ use std::alloc::Global;
 use std::marker::Brand;
 use std::sync::Arc;
 
-/// The queue of worker `number`, with room for so many entries, and both its ends. The worker has these readers.
+/// The queue of worker `number`, with room for `room` entries, and both its ends. The worker has these readers.
 ///
 /// # Errors
 ///

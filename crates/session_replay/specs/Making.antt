@@ -26,7 +26,7 @@ length_at r s = text_len (buffer_of r s.buffers)
 abbrev pub made_opening : ℕ → State
 made_opening n = opening (session_with n [])
 
--- the session of n replicas and so many edits that the seed makes
+-- the session of n replicas and a number of edits that the seed makes
 abbrev pub made_session : ℕ → ℕ → ℕ → Session
 made_session seed n edits = session_with n (made_lines after_all length_at seed n edits (made_opening n))
 

@@ -157,14 +157,14 @@ NeverFalls workers p q =
     p.query.replica ≡ q.query.replica → worker_of workers p.query.number ≡ worker_of workers q.query.number
     → p.count ≤ q.count
 
--- the replies to the queries of a session, in their order, with so many workers; with none each query is answered on the spot
+-- the replies to the queries of a session, in their order, with this number of workers; with none each is answered on the spot
 pub record AreReplies (s : Session) (workers : ℕ) (ps : List Reply) : Type 0 where
   pub queries : map (λ (p : Reply). p.query) ps ≡ queries_of s
   pub within : All (IsWithin (end_of s)) ps
   pub on_the_spot : workers ≡ 0 → All (λ (p : Reply). p.count ≡ applied_count p.query.history) ps
   pub never_falls : AllPairs (NeverFalls workers) ps
 
--- the text is the session's report with some replies to its queries that so many workers may give
+-- the text is the session's report with some replies to its queries that this number of workers may give
 abbrev pub IsReport : Session → ℕ → List ℕ → Type 0
 IsReport s workers output =
     (ps : List Reply) × AreReplies s workers ps

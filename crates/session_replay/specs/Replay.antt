@@ -18,7 +18,7 @@ use Rattle.session_replay.specs.declared.top.Status.TheVariants as status
 use Rattle.session_replay.specs.declared.top.Prepared.{Prepared}
 use Rattle.session_replay.specs.declared.top.Prepared.TheVariants as prepared
 
--- the input is a session, and the output is its report with some replies to its queries that so many workers may give
+-- the input is a session, and the output is its report with some replies to its queries that this number of workers may give
 abbrev pub Replays : List ℕ → List ℕ → ℕ → Type 0
 Replays input output workers = (s : Session) × (session_of_text input ≡ Ok s)
     × ((ps : List Reply) × AreReplies s workers ps
@@ -43,7 +43,7 @@ large_line = codes "too large: bytes\n"
 
 -- ---- the plain response to an input: the status and the output, each query of a session being answered on the spot
 
--- want of memory is no part of what an input is
+-- a failed allocation is no part of what an input is
 abbrev pub refusal : DecodeFault → Status × List ℕ
 refusal (Lines n) = (status.TooLarge, many_line)
 refusal (Bad n w) = (status.Session, bad_line n w)

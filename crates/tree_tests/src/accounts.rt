@@ -57,7 +57,7 @@ impl Account {
         }
     }
 
-    // Whether all was right, and so many changes failed.
+    // Whether all was right, and this number of changes failed.
     pub(crate) fn is_right(&self, least: u64, most: u64) -> bool {
         self.right & (self.failed >= least) & (self.failed <= most)
     }

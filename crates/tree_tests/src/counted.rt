@@ -63,7 +63,7 @@ fn cuts<L: Ledger>(
     Ok(has_numbers(&slice, front) & has_numbers(&suffix, rest))
 }
 
-// Whether the first so many numbers are these, and the others those.
+// Whether the tree is cut into these numbers and those.
 fn ends<L: Ledger>(
     alloc: Global,
     tree: &SumTree<Number>,
@@ -87,7 +87,7 @@ fn add_three<L: Ledger>(
     append_to(alloc, tree, 8, steps)
 }
 
-// Pushes so many numbers one by one.
+// Pushes numbers one by one.
 fn push_many<L: Ledger>(
     alloc: Global,
     tree: &mut SumTree<Number>,
@@ -100,7 +100,7 @@ fn push_many<L: Ledger>(
     Ok(())
 }
 
-// What is asked of the keys 3, 5 and 8, or of the height of so many numbers.
+// What is asked of the keys 3, 5 and 8, or of the height of a tree of this many numbers.
 enum Ask {
     Keys,
     Cut(Bias),

@@ -79,7 +79,7 @@ fn spot_name(tree: &SumTree<Wide>, id: u64) -> Found {
     [id_of(item), None, None]
 }
 
-// The name of the item with which so many lie in the set of the odd ones, and how many lie in it before.
+// The name of the item with which the set of the odd ones reaches this size, and its size before.
 fn spot_odd(tree: &SumTree<Wide>, at: u64) -> Found {
     tree.known();
     let set = &Parity { odd: true };

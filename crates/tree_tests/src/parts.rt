@@ -164,7 +164,7 @@ fn replace_both(
     text_with(alloc, [&text[..start], piece, &text[end..]])
 }
 
-// The range, of less than so many bytes, and the piece that x draws.
+// The range, of less than `most` bytes, and the piece that x draws.
 fn draw(x: u64, len: usize, most: usize) -> ((usize, usize), &'static str) {
     let start = (x >> 20) as usize % len.saturating_add(1);
     let size = (x >> 8) as usize % most.max(1);

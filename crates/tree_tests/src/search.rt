@@ -56,7 +56,7 @@ fn alike<R: Threads + Sync>(
     gives(rt, alloc, &rope, needle, &places)
 }
 
-// A text or a needle: so many bytes, of a few letters in turn, and a text after them.
+// A text or a needle: its length, the few letters that it repeats in turn, and a text after them.
 #[derive(Clone, Copy, Debug)]
 struct Turns {
     letters: &'static str,

@@ -16,7 +16,7 @@ use crate::word::Word;
 use std::alloc::Global;
 use sum_tree::{OutOfMemory, SumTree};
 
-// A tree that is made of the numbers up to n in some way, and then changed in some rounds, of which so many may fail.
+// A tree that is made of the numbers up to n in some way, and then changed in some rounds, of which a given number may fail.
 #[derive(Clone, Copy)]
 struct Life {
     made: Way,
@@ -43,7 +43,7 @@ fn change_at(way: Way, at: usize, first: u64, count: u64) -> Change {
     }
 }
 
-// The splice that x draws: at most so many items go, and so many come.
+// The splice that x draws: at most `most` items go, and `come` come.
 fn drawn_splice(x: u64, len: usize, most: usize, come: u64) -> Change {
     let from = (x >> 20) as usize % len.saturating_add(1);
     let gone = (x >> 40) as usize % most.max(1);
@@ -55,7 +55,7 @@ fn drawn_splice(x: u64, len: usize, most: usize, come: u64) -> Change {
     }
 }
 
-// The change that x draws of a list of so many items.
+// The change that x draws of a list of `len` items.
 fn drawn_change(x: u64, len: usize) -> Change {
     let from = (x >> 20) as usize % len.saturating_add(1);
     match x >> 61 {
@@ -360,7 +360,7 @@ fn keys_ascend(rt: HostRuntime) -> Result<(), OutOfMemory> {
     Ok(())
 }
 
-// Whether the sum of so many words lists their numbers.
+// Whether the sum of n words lists their numbers.
 fn lists_numbers(alloc: Global, n: u64) -> Result<bool, OutOfMemory> {
     let numbers = numbers_from(alloc, 0, n)?;
     let tree: SumTree<Word> = pushed_tree(alloc, &numbers)?;
