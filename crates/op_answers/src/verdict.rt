@@ -3,7 +3,8 @@ ghost use Rattle.std.specs.Prelude.{◌≡◌, option_map};
 ghost use Rattle.op_model.specs.Operations.{version_of};
 ghost use Rattle.op_model.specs.Histories.{Distinct, History, version};
 ghost use Rattle.op_model.specs.Lawful.{Lawful, IsClosed};
-ghost use Rattle.op_model.specs.Answers.{answer, fork_fault};
+ghost use Rattle.op_model.specs.Answers.{fork_fault};
+ghost use Rattle.op_model.specs.Rules.{answer_under};
 ghost use Rattle.seen_text.specs.Texts.{TellTexts};
 ghost use Rattle.op_answers.specs.Verdicts.{answer_of, cause_objection, part_fault, stamp_objection};
 
@@ -13,7 +14,7 @@ use applied_ops::AppliedList;
 use deferred_ops::Deferred;
 use fragments::Fragment;
 use lamport_clock::Version;
-use op_model::{OpFault, Operation, shape};
+use op_model::{Endings, OpFault, Operation, rule_fault, shape};
 use rope_chunks::Rope;
 use sum_tree::SumTree;
 
@@ -111,13 +112,14 @@ fn part_fault(
     }
 }
 
-/// The answer to an operation, where `applied` is a lawful history, `have` its version, and `fragments`, `shown` and `hidden`
-/// its cells, its text and its hidden text. It takes no memory.
+/// The answer to an operation in a buffer with a rule on line endings, where `applied` is a lawful history, `have` its version,
+/// and `fragments`, `shown` and `hidden` its cells, its text and its hidden text. Does not allocate.
 ///
 /// Logarithmic in what is applied and waits for each replica that the operation has seen and each count of an undo. For an edit
 /// one descent among the fragments and two for each end of a range, which go round each run of fragments of which the
-/// operation has seen all or none; no text is walked.
+/// operation has seen all or none; the rule `Lf` reads the operation's texts, and no other text is walked.
 pub fn judge(
+    endings: Endings,
     applied: &AppliedList,
     waiting: &Deferred,
     have: &Version,
@@ -130,10 +132,13 @@ pub fn judge(
     requires waiting { Distinct waiting.now }
     requires version { have.now ≡ version applied.now }
     requires texts { TellTexts fragments.now.items shown.now hidden.now applied.now }
-    ensures { answer_of result ≡ answer applied.now waiting.now op.now }
+    ensures { answer_of result ≡ answer_under endings applied.now waiting.now op.now }
 {
     if let Err(fault) = shape(op) {
         return Verdict::Refused(fault.into());
+    }
+    if let Some(fault) = rule_fault(endings, op) {
+        return Verdict::Refused(fault);
     }
     if let Some(verdict) = stamp_verdict(applied, waiting, have, op) {
         return verdict;

@@ -27,7 +27,7 @@ use applied_ops::AppliedList;
 use deferred_ops::Deferred;
 use lamport_clock::{Lamport, Version};
 use op_answers::{Verdict, judge};
-use op_model::{EditOp, Limits, Operation, Piece, Pieces, Text, UndoCount, UndoOp, Unit};
+use op_model::{EditOp, Endings, Limits, Operation, Piece, Pieces, Text, UndoCount, UndoOp, Unit};
 use remote_edit::{Placed, mark_undo, place_local, place_remote};
 use rope_chunks::Rope;
 use rope_edits::apply_moves;
@@ -186,6 +186,7 @@ impl Document {
         ensures { answer_of result ≡ answer self.now waiting.now op.now }
     {
         judge(
+            Endings::AsIs,
             &self.operations,
             waiting,
             &self.version,
