@@ -6,7 +6,7 @@ use Rattle.std.proofs.lemmas.List.FromFn.{get_or-map-range_with_len, length-map-
 use Rattle.std.proofs.lemmas.Nat.{mod_below}
 use Rattle.std.proofs.lemmas.Bool.{eq-eqb, eqb-true, ne_eqb}
 use Rattle.atomic_table.specs.Seated.{TableId}
-use Rattle.logbook.specs.Pages.{Book}
+use Rattle.logbook.specs.Pages.{Named}
 use Rattle.op_model.specs.declared.operation.Operation.{Operation}
 use Rattle.op_model.proofs.Elements.{range_more}
 use Rattle.snapshot_pub.specs.States.{PublisherState, ReaderState}
@@ -101,12 +101,12 @@ module _ {Q : Type 0} where
 
   -- as many inboxes as workers
   pub tied_length : (is : List (InboxState Q)) (s : PublishersState) → AreTied is s → length is ≡ s.workers
-  tied_length is s t = sym (length-map is (λ (i : InboxState Q). pairs_of i.readers)) ∙ (ap (λ (l : List (List Book)). length l) t ∙ length-map-range_with_len (λ w. column w (rows_of s)) 0 s.workers)
+  tied_length is s t = sym (length-map is (λ (i : InboxState Q). pairs_of i.readers)) ∙ (ap (λ (l : List (List Named)). length l) t ∙ length-map-range_with_len (λ w. column w (rows_of s)) 0 s.workers)
 
   tied_at : (is : List (InboxState Q)) (s : PublishersState) (w : ℕ) (i : InboxState Q) → AreTied is s → w < length is → i ≡ get_or is w i → pairs_of i.readers ≡ column w (rows_of s)
   tied_at is s w i t within at =
       ap (λ (x : InboxState Q). pairs_of x.readers) at ∙ (sym (get_or-map (λ (x : InboxState Q). pairs_of x.readers) is w i [] within)
-      ∙ (ap (λ (l : List (List Book)). get_or l w []) t ∙ get_or-map-range_with_len (λ k. column k (rows_of s)) 0 s.workers w w [] (omega (arith, within, tied_length is s t)) (omega arith)))
+      ∙ (ap (λ (l : List (List Named)). get_or l w []) t ∙ get_or-map-range_with_len (λ k. column k (rows_of s)) 0 s.workers w w [] (omega (arith, within, tied_length is s t)) (omega arith)))
 
   pub of_pair : (is : List (InboxState Q)) (s : PublishersState) (w r : ℕ) (i : InboxState Q) (p : PublisherState) → AreTied is s → AreLevel s → w < length is → r < length s.list → i ≡ get_or is w i → p ≡ get_or s.list r p → IsOfPair i r w p
   of_pair is s w r i p t a within there at is_p =
@@ -115,9 +115,9 @@ module _ {Q : Type 0} where
       let here : r < length (rows_of s) = omega (arith, there, rows) in
       let many : length p.pairs ≡ s.workers = ap (λ (q : PublisherState). length q.pairs) is_p ∙ (a.each r p there).1 in
       let row : get_or (rows_of s) r p.pairs ≡ p.pairs = get_or-map (λ (q : PublisherState). q.pairs) s.list r p p.pairs there ∙ ap (λ (q : PublisherState). q.pairs) (sym is_p) in (
-        omega (arith, here, sym (length-map i.readers (λ (x : ReaderState). x.pair)), ap (λ (l : List Book). length l) pairs, length-map (rows_of s) (λ (x : List Book). get_or x w no_pair)),
+        omega (arith, here, sym (length-map i.readers (λ (x : ReaderState). x.pair)), ap (λ (l : List Named). length l) pairs, length-map (rows_of s) (λ (x : List Named). get_or x w no_pair)),
         λ e. get_or_default p.pairs w e no_pair (omega (arith, within, tied_length is s t, many))
-            ∙ (ap (λ (l : List Book). get_or l w no_pair) (sym row) ∙ (sym (get_or-map (λ (x : List Book). get_or x w no_pair) (rows_of s) r p.pairs e here) ∙ ap (λ (l : List Book). get_or l r e) (sym pairs))),
+            ∙ (ap (λ (l : List Named). get_or l w no_pair) (sym row) ∙ (sym (get_or-map (λ (x : List Named). get_or x w no_pair) (rows_of s) r p.pairs e here) ∙ ap (λ (l : List Named). get_or l r e) (sym pairs))),
       )
 
   -- ---- what an inbox is asked
@@ -195,6 +195,6 @@ module _ {Q : Type 0} where
   pub ends_more : (is : List (InboxState Q)) (ds : List DeskState) (i : InboxState Q) (d : DeskState) → AreEnds is ds → i.queue ≡ d.queue → pairs_of i.readers ≡ pairs_of d.readers → AreEnds (is ++ i ∷ []) (ds ++ d ∷ [])
   ends_more is ds i d h queue pairs = record {
     queues = map-append (λ (x : InboxState Q). x.queue) is (i ∷ []) ∙ (ap (λ (l : List TableId). l ++ i.queue ∷ []) h.queues ∙ (ap (λ (q : TableId). map (λ (x : DeskState). x.queue) ds ++ q ∷ []) queue ∙ sym (map-append (λ (x : DeskState). x.queue) ds (d ∷ []))));
-    pairs = map-append (λ (x : InboxState Q). pairs_of x.readers) is (i ∷ []) ∙ (ap (λ (l : List (List Book)). l ++ pairs_of i.readers ∷ []) h.pairs
-        ∙ (ap (λ (b : List Book). map (λ (x : DeskState). pairs_of x.readers) ds ++ b ∷ []) pairs ∙ sym (map-append (λ (x : DeskState). pairs_of x.readers) ds (d ∷ []))));
+    pairs = map-append (λ (x : InboxState Q). pairs_of x.readers) is (i ∷ []) ∙ (ap (λ (l : List (List Named)). l ++ pairs_of i.readers ∷ []) h.pairs
+        ∙ (ap (λ (b : List Named). map (λ (x : DeskState). pairs_of x.readers) ds ++ b ∷ []) pairs ∙ sym (map-append (λ (x : DeskState). pairs_of x.readers) ds (d ∷ []))));
   }

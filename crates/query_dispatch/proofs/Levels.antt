@@ -5,7 +5,7 @@ use Rattle.std.proofs.lemmas.List.{map-set, map-append, get_or-map, get_or_defau
 use Rattle.std.proofs.lemmas.List.Elements.{All-replicate, All-set}
 use Rattle.op_model.specs.declared.operation.Operation.{Operation}
 use Rattle.op_model.proofs.Elements.{same_all}
-use Rattle.logbook.specs.Pages.{Book}
+use Rattle.logbook.specs.Pages.{Named}
 use Rattle.snapshot_pub.specs.States.{PublisherState, ToldState}
 use Rattle.query_dispatch.specs.States.{PublishersState}
 use Rattle.query_dispatch.specs.Dealt.{told_lists, told_pairs}
@@ -66,11 +66,11 @@ told_more s w k ts p t a below within at pair list was =
     let publishes : PublishesToAll s.workers p = subst (PublishesToAll s.workers) (sym at) (a.each k p within) in
     let row : get_or (rows_of s) k p.pairs ≡ p.pairs = get_or-map (λ (q : PublisherState). q.pairs) s.list k p p.pairs within ∙ ap (λ (q : PublisherState). q.pairs) (sym at) in
     let pairs_more : column w (take (k + 1) (rows_of s)) ≡ column w (take k (rows_of s)) ++ t.pair ∷ [] =
-    ap (column w) (take_more (rows_of s) k p.pairs (omega (arith, within, length-map s.list (λ (q : PublisherState). q.pairs)))) ∙ (map-append (λ (r : List Book). get_or r w no_pair) (take k (rows_of s)) (get_or (rows_of s) k p.pairs ∷ [])
-    ∙ ap (λ (b : Book). column w (take k (rows_of s)) ++ b ∷ []) (ap (λ (r : List Book). get_or r w no_pair) row ∙ (get_or_default p.pairs w no_pair t.pair (omega (arith, below, publishes.1)) ∙ sym pair))) in
+    ap (column w) (take_more (rows_of s) k p.pairs (omega (arith, within, length-map s.list (λ (q : PublisherState). q.pairs)))) ∙ (map-append (λ (r : List Named). get_or r w no_pair) (take k (rows_of s)) (get_or (rows_of s) k p.pairs ∷ [])
+    ∙ ap (λ (b : Named). column w (take k (rows_of s)) ++ b ∷ []) (ap (λ (r : List Named). get_or r w no_pair) row ∙ (get_or_default p.pairs w no_pair t.pair (omega (arith, below, publishes.1)) ∙ sym pair))) in
     let published : get_or p.published w [] ≡ published_of p = (level_publishes s k p a within at).1 w [] (omega (arith, below, (level_publishes s k p a within at).0)) in
     let lists_more : take (k + 1) (published_lists s) ≡ take k (published_lists s) ++ t.list ∷ [] =
     take_more (published_lists s) k [] (omega (arith, within, length-map s.list published_of)) ∙ ap (λ (h : List Operation). take k (published_lists s) ++ h ∷ []) (level_published s k p within at ∙ (sym published ∙ sym list)) in record {
-      pairs = map-append (λ (x : ToldState). x.pair) ts (t ∷ []) ∙ (ap (λ (l : List Book). l ++ t.pair ∷ []) was.pairs ∙ sym pairs_more);
+      pairs = map-append (λ (x : ToldState). x.pair) ts (t ∷ []) ∙ (ap (λ (l : List Named). l ++ t.pair ∷ []) was.pairs ∙ sym pairs_more);
       lists = map-append (λ (x : ToldState). x.list) ts (t ∷ []) ∙ (ap (λ (l : List (List Operation)). l ++ t.list ∷ []) was.lists ∙ sym lists_more);
     }

@@ -5,7 +5,7 @@ use Rattle.std.proofs.lemmas.Bool.{cases_lt, eq-eqb, eqb-true}
 use Rattle.std.proofs.lemmas.List.FromFn.{map-range_with_len_more}
 use Rattle.query_dispatch.specs.Dealt.{AllAt}
 use Rattle.query_dispatch.specs.Published.{column, columns, published_of}
-use Rattle.logbook.specs.Pages.{Book}
+use Rattle.logbook.specs.Pages.{Named}
 use Rattle.op_model.specs.declared.operation.Operation.{Operation}
 use Rattle.snapshot_pub.specs.States.{PublisherState}
 
@@ -33,9 +33,9 @@ all_at_more P xs x a new i d below = ⊎_elim
 -- ---- what each worker is told
 
 -- one worker more
-pub pairs_more : (ts : List (List Book)) (w : ℕ) (rows : List (List Book)) (t : List Book) → ts ≡ columns w rows → t ≡ column w rows → ts ++ t ∷ [] ≡ columns (w + 1) rows
+pub pairs_more : (ts : List (List Named)) (w : ℕ) (rows : List (List Named)) (t : List Named) → ts ≡ columns w rows → t ≡ column w rows → ts ++ t ∷ [] ≡ columns (w + 1) rows
 pairs_more ts w rows t e f =
-    ap₂ (λ (us : List (List Book)) (u : List Book). us ++ u ∷ []) e f
+    ap₂ (λ (us : List (List Named)) (u : List Named). us ++ u ∷ []) e f
     ∙ sym (map-range_with_len_more (λ (v : ℕ). column v rows) 0 w w (omega arith))
 
 pub sizes_of : (ps : List PublisherState) → map (λ (p : PublisherState). length (published_of p)) ps ≡ map (λ (h : List Operation). length h) (map published_of ps)

@@ -5,7 +5,7 @@ use Rattle.std.specs.List.{All, AllZip}
 use Rattle.std.proofs.lemmas.List.{length-map, length-reverse}
 use Rattle.std.proofs.lemmas.List.Elements.{All-filter}
 use Rattle.atomic_table.specs.Seated.{TableId}
-use Rattle.logbook.specs.Pages.{Book}
+use Rattle.logbook.specs.Pages.{Named}
 use Rattle.op_model.specs.declared.operation.Operation.{Operation}
 use Rattle.op_model.proofs.Elements.{same_at, paired_at}
 use Rattle.text_buffer.specs.Document.{IsFront}
@@ -35,7 +35,7 @@ module _ {Q A : Type 0} (plain : Q → List Operation → A) (sizes : List ℕ) 
     desks_length = sym (length-map desks (λ (d : DeskState). d.queue)) ∙ (ap (λ (l : List TableId). length l) (sym e.queues) ∙ length-map inboxes (λ (i : InboxState Q). i.queue))
 
     pub tolds_length : length tolds ≡ length inboxes
-    tolds_length = sym (length-map tolds told_pairs) ∙ (ap (λ (l : List (List Book)). length l) r.pairs ∙ length-map inboxes (λ (i : InboxState Q). pairs_of i.readers))
+    tolds_length = sym (length-map tolds told_pairs) ∙ (ap (λ (l : List (List Named)). length l) r.pairs ∙ length-map inboxes (λ (i : InboxState Q). pairs_of i.readers))
 
     one : (w : ℕ) (i : InboxState Q) (d : DoneState Q A) (t : List ToldState) → w < length inboxes → CanRenew plain sizes lasts (get_or inboxes w i) (get_or dones w d) (get_or tolds w t)
     one w i d t within =

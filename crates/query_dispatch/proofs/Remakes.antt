@@ -13,7 +13,7 @@ use Rattle.text_buffer.specs.Document.{IsFront}
 use Rattle.text_buffer.proofs.Fronts.{front_itself, front_length, front_trans, fronts_at}
 use Rattle.std.proofs.lemmas.List.{get_or-append-add, get_or-map, get_or_append_left, length-map}
 use Rattle.snapshot_pub.specs.States.{ReaderState, ToldState}
-use Rattle.logbook.specs.Pages.{Book}
+use Rattle.logbook.specs.Pages.{Named}
 use Rattle.query_workers.specs.Queue.{pairs_of}
 use Rattle.query_workers.specs.Asks.{Ask}
 use Rattle.query_workers.specs.Answers.{HasAnswered, IsAnswerTo, IsKnown, NeverFewer, lists_of}
@@ -149,7 +149,7 @@ module _ (tolds : List ToldState) (k : ℕ) (told : ToldState) (ts : List ToldSt
   pair_at readers reader rs is_r same =
       let r = drop_at readers k reader rs reader is_r in
       let t = drop_at tolds k told ts told is_t in
-      ap (λ (x : ToldState). x.pair) (sym t.1) ∙ (sym (get_or-map (λ (x : ToldState). x.pair) tolds k told told.pair t.0) ∙ (ap (λ (l : List Book). get_or l k told.pair) same
+      ap (λ (x : ToldState). x.pair) (sym t.1) ∙ (sym (get_or-map (λ (x : ToldState). x.pair) tolds k told told.pair t.0) ∙ (ap (λ (l : List Named). get_or l k told.pair) same
       ∙ (get_or-map (λ (x : ReaderState). x.pair) readers k reader told.pair r.0 ∙ ap (λ (x : ReaderState). x.pair) r.1)))
 
   pub size_at : (sizes : List ℕ) → sizes ≡ map (λ (h : List Operation). length h) (told_lists tolds) → get_or sizes k 0 ≡ length told.list

@@ -3,7 +3,7 @@ use Rattle.std.specs.Prelude.{◌≡◌, ℕ, ◌+◌, ◌/◌, ◌<◌, ◌≤�
 use Rattle.std.specs.List.{range_with_len}
 use Rattle.atomic_table.specs.Seated.{TableId}
 use Rattle.op_model.specs.declared.operation.Operation.{Operation}
-use Rattle.logbook.specs.Pages.{Book}
+use Rattle.logbook.specs.Pages.{Named}
 use Rattle.snapshot_pub.specs.States.{ToldState}
 use Rattle.query_workers.specs.Queue.{pairs_of, IsOpen, IsEnded}
 use Rattle.query_workers.specs.States.{InboxState, DeskState}
@@ -43,7 +43,7 @@ module _ {Q : Type 0} where
   queues_of is = map (λ (i : InboxState Q). i.queue) is
 
   -- the pairs of their readers
-  abbrev pub pairs_in : List (InboxState Q) → List (List Book)
+  abbrev pub pairs_in : List (InboxState Q) → List (List Named)
   pairs_in is = map (λ (i : InboxState Q). pairs_of i.readers) is
 
   -- the desks are the other ends of the inboxes, in their order
@@ -56,5 +56,5 @@ abbrev pub told_lists : List ToldState → List (List Operation)
 told_lists ts = map (λ (t : ToldState). t.list) ts
 
 -- the pairs of which they were told
-abbrev pub told_pairs : List ToldState → List Book
+abbrev pub told_pairs : List ToldState → List Named
 told_pairs ts = map (λ (t : ToldState). t.pair) ts

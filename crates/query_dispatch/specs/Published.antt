@@ -1,7 +1,7 @@
 -- What is published of each replica, and in which pairs.
-use Rattle.std.specs.Prelude.{◌≡◌, ℕ, ◌≤◌, List, [], length, map, replicate, slice_index_or, All}
+use Rattle.std.specs.Prelude.{◌≡◌, ℕ, ◌≤◌, false, List, [], length, map, replicate, slice_index_or, All}
 use Rattle.std.specs.List.{range_with_len}
-use Rattle.logbook.specs.Pages.{Book}
+use Rattle.logbook.specs.Pages.{Named}
 use Rattle.op_model.specs.declared.operation.Operation.{Operation}
 use Rattle.snapshot_pub.specs.States.{PublisherState}
 use Rattle.query_workers.specs.Queue.{pairs_of}
@@ -27,19 +27,19 @@ pub record AreLevel (s : PublishersState) : Type 0 where
   pub sizes : s.sizes ≡ map (λ (p : PublisherState). length (published_of p)) s.list
 
 -- the pairs of all replicas
-abbrev pub rows_of : PublishersState → List (List Book)
+abbrev pub rows_of : PublishersState → List (List Named)
 rows_of s = map (λ (p : PublisherState). p.pairs) s.list
 
 -- any pair, for places that are not there
-abbrev pub no_pair : Book
-no_pair = record { number = 0; log_name = 0; cells_name = 0 }
+abbrev pub no_pair : Named
+no_pair = record { tracked = false; key = 0; book = record { number = 0; log_name = 0; cells_name = 0 } }
 
 -- the pairs of one worker, of all replicas
-abbrev pub column : ℕ → List (List Book) → List Book
-column w rows = map (λ (row : List Book). slice_index_or row w no_pair) rows
+abbrev pub column : ℕ → List (List Named) → List Named
+column w rows = map (λ (row : List Named). slice_index_or row w no_pair) rows
 
 -- the pairs of each worker, of all replicas
-abbrev pub columns : ℕ → List (List Book) → List (List Book)
+abbrev pub columns : ℕ → List (List Named) → List (List Named)
 columns workers rows = map (λ w. column w rows) (range_with_len 0 workers)
 
 -- each inbox is of the worker at its place

@@ -1,7 +1,7 @@
 //! How the pairs of all replicas and the queues of all workers are made.
 ghost use Rattle.std.specs.Prelude.{◌≡◌, ◌≤◌, ◌<◌, ◌+◌, ◌/◌, ◌^◌, [], ◌∷◌, ◌++◌, List, length, map, All, IfOk, OnOk};
 ghost use Rattle.std.specs.List.{range_with_len};
-ghost use Rattle.logbook.specs.Pages.{Book};
+ghost use Rattle.logbook.specs.Pages.{Named};
 ghost use Rattle.query_workers.specs.Queue.{pairs_of};
 ghost use Rattle.query_dispatch.specs.Dealt.{AllAt, AreEnds, HasAsked, pairs_in};
 ghost use Rattle.query_dispatch.specs.Published.{AreLevel, AreTied, column, columns, published_lists, rows_of};
@@ -91,7 +91,7 @@ fn deal(
 ) -> Result<(), OutOfMemory>
     requires { length readers.items ≡ length readers_by_worker.old.items }
     ensures count { length readers_by_worker.new.items ≡ length readers_by_worker.old.items }
-    ensures pairs { OnOk result ((rows : List (List Book))
+    ensures pairs { OnOk result ((rows : List (List Named))
         → AllAt (λ w c. pairs_of c.items ≡ column w rows) readers_by_worker.old.items
         → AllAt (λ w c. pairs_of c.items ≡ column w (rows ++ pairs_of readers.items ∷ []))
         readers_by_worker.new.items) }

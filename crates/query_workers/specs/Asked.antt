@@ -1,6 +1,6 @@
 -- Which pair an editor tells a worker of.
 use Rattle.std.specs.Prelude.{◌≡◌, ℕ, ◌<◌, length, slice_index_or}
-use Rattle.logbook.specs.Pages.{Book}
+use Rattle.logbook.specs.Pages.{Named}
 use Rattle.snapshot_pub.specs.States.{PublisherState}
 use Rattle.query_workers.specs.Queue.{pairs_of}
 use Rattle.query_workers.specs.States.{InboxState}
@@ -9,4 +9,4 @@ use Rattle.query_workers.specs.States.{InboxState}
 abbrev pub IsOfPair : {Q : Type 0} → InboxState Q → ℕ → ℕ → PublisherState → Type 0
 IsOfPair inbox index worker publisher =
     (index < length inbox.readers)
-    × ((d : Book) → slice_index_or publisher.pairs worker d ≡ slice_index_or (pairs_of inbox.readers) index d)
+    × ((d : Named) → slice_index_or publisher.pairs worker d ≡ slice_index_or (pairs_of inbox.readers) index d)

@@ -3,7 +3,7 @@
 use Rattle.std.specs.Prelude.{◌≡◌, ℕ, ◌<◌, Bool, true, List, [], ◌∷◌, ◌++◌, length, map, slice_index_or, All}
 use mathlib.Core.Option.{some}
 use lib.ListN.{get_elem?}
-use Rattle.logbook.specs.Pages.{Book}
+use Rattle.logbook.specs.Pages.{Named}
 use Rattle.snapshot_pub.specs.States.{ReaderState}
 use Rattle.query_workers.specs.declared.job.Job.{Job}
 use Rattle.query_workers.specs.declared.job.Entry.{Entry}
@@ -11,7 +11,7 @@ use Rattle.query_workers.specs.declared.job.Entry.TheVariants as entry
 use Rattle.query_workers.specs.declared.queue.Log.{Log}
 
 -- which pairs they are of
-abbrev pub pairs_of : List ReaderState → List Book
+abbrev pub pairs_of : List ReaderState → List Named
 pairs_of rs = map (λ (r : ReaderState). r.pair) rs
 
 module _ {Q : Type 0} where

@@ -1,6 +1,6 @@
 //! What readers show of what is published, on one thread, with ample memory.
 ghost use Rattle.std.specs.Prelude.{◌≡◌, ◌∷◌, [], length, map, replicate, IfSome, List, OnOk};
-ghost use Rattle.logbook.specs.Pages.{Book};
+ghost use Rattle.logbook.specs.Pages.{Named};
 ghost use Rattle.op_model.specs.declared.operation.Operation.{Operation};
 ghost use Rattle.snapshot_pub.specs.States.{ReaderState};
 ghost use Rattle.text_buffer.specs.Document.{IsFront};
@@ -81,7 +81,7 @@ fn publish_and_tell<R: Wait>(
 ) -> Result<(), OutOfMemory>
     requires published { (first : List Operation) × (publisher.old.published ≡ first ∷ first ∷ [])
         × IsFront first snapshot.now }
-    requires pair { (other : Book) × (publisher.old.pairs ≡ told.old.pair ∷ other ∷ []) }
+    requires pair { (other : Named) × (publisher.old.pairs ≡ told.old.pair ∷ other ∷ []) }
 {
     publish_both(rt, publisher, snapshot)?;
     told.learn(publisher.tell(0)?);
@@ -97,7 +97,7 @@ fn publish_next<R: Wait>(
     told: &mut SnapReader,
 ) -> Result<(), EditFault>
     requires published { publisher.old.published ≡ buffer.old.history ∷ buffer.old.history ∷ [] }
-    requires pair { (other : Book) × (publisher.old.pairs ≡ told.old.pair ∷ other ∷ []) }
+    requires pair { (other : Named) × (publisher.old.pairs ≡ told.old.pair ∷ other ∷ []) }
 {
     insert(alloc, buffer)?;
     let snapshot = buffer.snapshot()?;

@@ -1,5 +1,4 @@
--- A publisher, a reader and what is told may go to another thread. A snapshot has trees in it: so the fields are gone through one by
--- one.
+-- A publisher, a reader and a token may go to another thread. A snapshot has trees in it, so the fields are taken one by one.
 use denote.Param.Send.{IsSend, IsSync, sendable}
 use denote.Param.SendFields.{declared_send, declared_sync}
 use Rattle.std.proofs.Crossing.{crosses}

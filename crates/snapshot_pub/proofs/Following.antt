@@ -6,15 +6,14 @@ use lib.Dec.{leb}
 use Rattle.std.specs.List.{All}
 use Rattle.std.proofs.lemmas.Bool.Decides.{nat_tests}
 use Rattle.std.proofs.lemmas.List.Elements.{All-cons, All-map, All-nil}
-use Rattle.std.proofs.lemmas.List.Sums.{fold-append}
 use Rattle.crossbeam_utils.specs.Register.{Admits, TurnsAt, Forks, Merges}
 use Rattle.atomic_table.proofs.Lists.{at_set, at_snoc}
 use Rattle.op_model.specs.declared.operation.Operation.{Operation}
 use Rattle.op_model.proofs.Elements.{All-single}
 use Rattle.snapshot_pub.specs.declared.kept.Kept.{Kept}
-use Rattle.logbook.specs.Pages.{Book}
+use Rattle.logbook.specs.Pages.{Named}
 use Rattle.text_buffer.specs.Document.{IsFront}
-use Rattle.snapshot_pub.specs.Rule.{AreOf, Follows, IsSeen, KeepsAll, MaySee, Sees, last_of}
+use Rattle.snapshot_pub.specs.Rule.{AreOf, Follows, IsSeen, KeepsAll, MaySee, Sees, kept_pair}
 use Rattle.snapshot_pub.specs.Fields.{seen_lists}
 use Rattle.snapshot_pub.specs.States.{SeesMore}
 use Rattle.text_buffer.proofs.Fronts.{front_itself, front_trans}
@@ -73,10 +72,6 @@ merges seat v other w x views h at apart there =
     (at_set views seat other w w there) in
     keeps_set x (set views seat w) other [] (keeps_set x views seat w h theirs) (All-nil (Follows x))
 
--- the last of what is pending
-pub last_of-more : (shown kept : Kept) (pending all : List Kept) → all ≡ pending ++ kept ∷ [] → last_of shown all ≡ kept
-last_of-more shown kept pending all is = ap (λ (l : List Kept). last_of shown l) is ∙ fold-append (λ (x y : Kept). y) shown pending (kept ∷ [])
-
 pub sees_also : (n : ℕ) (v u w z : List Kept) (x y : Kept) → Sees n v x w → u ≡ v → y ≡ x → z ≡ w → Sees n u y z
 sees_also n v u w z x y h d e f = subst (λ (p : List Kept × Kept × List Kept). Sees n p.0 p.1 p.2) (λ i. (sym d i, sym e i, sym f i)) h
 
@@ -95,21 +90,21 @@ lists_seen v w k h = inr (k.snapshot, All-map (λ (x : List Operation). IsFront 
 pub lists_may : (v w : List Kept) → MaySee v w → SeesMore (seen_lists v) (seen_lists w)
 lists_may v w h = ⊎_elim (λ (e : w ≡ v). inl (ap seen_lists e)) (λ (t : (k : Kept) × IsSeen v k w). lists_seen v w t.0 t.1) h.either
 
--- what is seen is of the log of what was seen before
-pub seen_pair : (v w : List Kept) (k : Kept) (b : Book) → AreOf b v → IsSeen v k w → k.reached.book ≡ b
+-- what was seen alone is of its own pair
+pub own_one : (k : Kept) → AreOf (kept_pair k) (k ∷ [])
+own_one k = (omega arith, All-single (λ (x : Kept). kept_pair x ≡ kept_pair k) k refl)
+
+-- what is seen is of the pair of what was seen before
+pub seen_pair : (v w : List Kept) (k : Kept) (b : Named) → AreOf b v → IsSeen v k w → kept_pair k ≡ b
 seen_pair v w k b own h = sym (h.follows 0 k own.0).0 ∙ own.1 0 k own.0
 
-pub seen_own : (v w : List Kept) (k : Kept) (b : Book) → AreOf b v → IsSeen v k w → AreOf b w
+pub seen_own : (v w : List Kept) (k : Kept) (b : Named) → AreOf b v → IsSeen v k w → AreOf b w
 seen_own v w k b own h =
-    subst (λ (l : List Kept). AreOf b l) (sym h.is) (omega arith, All-cons (λ (x : Kept). x.reached.book ≡ b) k v (seen_pair v w k b own h) own.1)
+    subst (λ (l : List Kept). AreOf b l) (sym h.is) (omega arith, All-cons (λ (x : Kept). kept_pair x ≡ b) k v (seen_pair v w k b own h) own.1)
 
-pub may_own : (v w : List Kept) (b : Book) → AreOf b v → MaySee v w → AreOf b w
+pub may_own : (v w : List Kept) (b : Named) → AreOf b v → MaySee v w → AreOf b w
 may_own v w b own h = ⊎_elim (λ (e : w ≡ v). subst (λ (l : List Kept). AreOf b l) (sym e) own) (λ (t : (k : Kept) × IsSeen v k w). seen_own v w t.0 b own t.1) h.either
 
--- what follows all that was seen is of the same log
-pub own_book : (b : Book) (v : List Kept) (y : Kept) → AreOf b v → All (Follows y) v → b ≡ y.reached.book
+-- what follows all that was seen is of the same pair
+pub own_book : (b : Named) (v : List Kept) (y : Kept) → AreOf b v → All (Follows y) v → b ≡ kept_pair y
 own_book b v y own h = sym (own.1 0 y own.0) ∙ (h 0 y own.0).0
-
--- what is pending stands for the same, where nothing has changed
-pub pending_follows : (x y next : Kept) (ps qs : List Kept) → y ≡ x → qs ≡ ps → next ≡ last_of y qs → Follows (last_of x ps) x → Follows next y
-pending_follows x y next ps qs d e is h = subst (λ (p : Kept × Kept). Follows p.0 p.1) (λ i. ((sym (is ∙ (λ j. last_of (d j) (e j)))) i, sym d i)) h

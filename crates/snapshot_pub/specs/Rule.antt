@@ -1,14 +1,19 @@
 -- The rule of a pair: what is shown begins with all that each party has seen.
-use Rattle.std.specs.Prelude.{◌≡◌, ◌⊎◌, ℕ, ◌<◌, ◌≤◌, List, ◌∷◌, length, fold, All}
+use Rattle.std.specs.Prelude.{◌≡◌, ◌⊎◌, ℕ, ◌<◌, ◌≤◌, List, ◌∷◌, length, All}
 use mathlib.Core.Option.{some}
 use lib.ListN.{get_elem?}
-use Rattle.logbook.specs.Pages.{Book}
+use Rattle.logbook.specs.Pages.{Named}
 use Rattle.text_buffer.specs.Document.{IsFront}
+use Rattle.snapshot_pub.specs.Logs.{pair_of}
 use Rattle.snapshot_pub.specs.declared.kept.Kept.{Kept}
 
--- y is of the same log as k, and begins with the list of k
+-- which pair it is of
+abbrev pub kept_pair : Kept → Named
+kept_pair k = pair_of k.reached.book k.reached.log
+
+-- y is of the same pair as k, and begins with the list of k
 abbrev pub Follows : Kept → Kept → Type 0
-Follows y k = (k.reached.book ≡ y.reached.book) × IsFront k.snapshot y.snapshot
+Follows y k = (kept_pair k ≡ kept_pair y) × IsFront k.snapshot y.snapshot
 
 -- what is shown follows all that each party has seen
 abbrev pub KeepsAll : Kept → List (List Kept) → Type 0
@@ -30,10 +35,6 @@ pub record IsSeen (v : List Kept) (k : Kept) (w : List Kept) : Type 0 where
 pub record MaySee (v w : List Kept) : Type 0 where
   pub either : (w ≡ v) ⊎ ((k : Kept) × IsSeen v k w)
 
--- something was seen, and all of it is of one log
-abbrev pub AreOf : Book → List Kept → Type 0
-AreOf b v = (0 < length v) × All (λ (k : Kept). k.reached.book ≡ b) v
-
--- what comes last of those that are pending, or what is shown where none is
-abbrev pub last_of : Kept → List Kept → Kept
-last_of shown pending = fold (λ (x y : Kept). y) shown pending
+-- something was seen, and all of it is of one pair
+abbrev pub AreOf : Named → List Kept → Type 0
+AreOf pair v = (0 < length v) × All (λ (k : Kept). kept_pair k ≡ pair) v

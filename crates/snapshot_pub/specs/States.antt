@@ -1,18 +1,18 @@
--- What contracts see of a publisher, of a reader and of what is told.
+-- What contracts see of a publisher, of a reader and of a token. A pair is known by a word of its log.
 use Rattle.std.specs.Prelude.{◌≡◌, ◌⊎◌, Bool, false, List, [], ◌∷◌, All}
-use Rattle.logbook.specs.Pages.{Book}
+use Rattle.logbook.specs.Pages.{Named}
 use Rattle.op_model.specs.declared.operation.Operation.{Operation}
 use Rattle.text_buffer.specs.Document.{IsFront}
 
 -- which pairs there are, and the list that was last published to each
 pub record PublisherState : Type 0 where
-  pub pairs : List Book
+  pub pairs : List Named
   pub published : List (List Operation)
 
--- its pair; the longest list that it gave or learned; the lists that its steps enter saw, the last first, and then the opening one;
--- whether the last Ok of `latest` entered
+-- its pair; the longest list that it gave or learned; the lists that its steps enter saw, the last first, and then the
+-- opening one; whether the last Ok of `latest` entered
 pub record ReaderState : Type 0 where
-  pub pair : Book
+  pub pair : Named
   pub longest : List Operation
   pub seen : List (List Operation)
   pub entered : Bool
@@ -25,7 +25,7 @@ SeesMore old new =
 
 -- the pair, and the list that was published to it
 pub record ToldState : Type 0 where
-  pub pair : Book
+  pub pair : Named
   pub list : List Operation
 
 -- what a reader is at first

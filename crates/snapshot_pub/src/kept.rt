@@ -1,14 +1,14 @@
 //! A snapshot that remembers how far its pair had grown.
 ghost use Rattle.std.specs.Prelude.{◌≡◌, ◌<◌, ◌≤◌, length, IfOk, MatchBool};
 ghost use Rattle.text_buffer.specs.Document.{IsFront};
-ghost use Rattle.snapshot_pub.specs.Logs.{log_list};
+ghost use Rattle.snapshot_pub.specs.Logs.{log_list, pair_of};
 
 use crate::OutOfMemory;
 use crate::growth::Reached;
 use left_right::Absorb;
 use text_buffer::Snapshot;
 
-/// A snapshot that is or was shown, and the log of its pair as it was then: it comes to the snapshot's own list.
+/// A snapshot that is or was shown, and the log of its pair as it was then, whose list is that of the snapshot.
 #[derive(Drop)]
 pub struct Kept {
     pub(crate) snapshot: Snapshot,
@@ -17,7 +17,7 @@ pub struct Kept {
 }
 
 impl Kept {
-    /// A second owner of the same snapshot.
+    /// An equal one, which shares the snapshot.
     pub fn share(&self) -> Result<Kept, OutOfMemory>
         ensures { IfOk result (λ k. k ≡ self.now) }
     {
@@ -27,9 +27,11 @@ impl Kept {
         })
     }
 
-    /// Whether it begins with the other one of the same pair, as the longer of two does: both begin the log as it is now.
+    /// Whether it begins with the other one, which is of the same pair. The longer of two always does, since both begin
+    /// the list of the pair.
     pub fn begins_with(&self, other: &Kept) -> bool
-        requires { other.now.reached.book ≡ self.now.reached.book }
+        requires { pair_of other.now.reached.book other.now.reached.log
+            ≡ pair_of self.now.reached.book self.now.reached.log }
         ensures front { MatchBool result (IsFront other.now.snapshot self.now.snapshot)
             (IsFront self.now.snapshot other.now.snapshot) }
         ensures length { MatchBool result
@@ -42,21 +44,17 @@ impl Kept {
     }
 }
 
-/// What is absorbed is the snapshot that comes in place of the one there.
-impl Absorb<Kept> for Kept {
-    type State = Kept;
+/// A snapshot is shown whole, in place of an earlier one. So nothing is ever appended, and an operation changes nothing.
+impl Absorb<()> for Kept {
+    type State = ();
 
-    ghost state = { λ s. s };
+    ghost state = { λ _. tt };
 
-    ghost applied = { λ _ s. s };
+    ghost applied = { λ s _. s };
 
-    fn absorb_first(&mut self, operation: &Kept, _other: &Kept) -> Result<(), OutOfMemory> {
-        *self = operation.share()?;
-        Ok(())
-    }
+    ghost never_fails = { Unit {0} };
 
-    fn absorb_second(&mut self, operation: Kept, _other: &Kept) -> Result<(), Kept> {
-        *self = operation;
+    fn absorb_first(&mut self, _operation: &(), _other: &Kept) -> Result<(), OutOfMemory> {
         Ok(())
     }
 }

@@ -1,6 +1,8 @@
-//! Live snapshots: one publisher shows snapshots of a buffer to readers in other threads. Each reader has a pair of its own.
+//! Live snapshots: one publisher shows snapshots of a buffer to readers in other threads. Each reader has a pair of its
+//! own.
 #![tactic(auto)]
 
+mod entry;
 mod growth;
 mod kept;
 mod open;
@@ -16,7 +18,7 @@ pub use text_buffer::OutOfMemory;
 
 fn sends<T: Send>(_value: &T) {}
 
-/// Publishers, readers and what is told may be sent to threads.
+/// Publishers, readers and tokens may be sent to threads.
 pub fn crosses_threads(publisher: &Publisher, reader: &SnapReader, told: &Told) {
     sends(publisher);
     sends(reader);

@@ -3,7 +3,7 @@ ghost use Rattle.std.specs.Prelude.{◌≡◌, ◌≤◌, ◌∷◌, [], false, 
 ghost use Rattle.left_right.specs.Sides.{view};
 ghost use Rattle.snapshot_pub.specs.Logs.{log_list};
 ghost use Rattle.snapshot_pub.specs.States.{ReaderState, HasLearned};
-ghost use Rattle.snapshot_pub.specs.Fields.{AreOpen, Shows};
+ghost use Rattle.snapshot_pub.specs.Fields.{AreOpen, Shows, side_pair};
 
 use crate::OutOfMemory;
 use crate::growth::Growth;
@@ -11,13 +11,13 @@ use crate::kept::Kept;
 use crate::publisher::{Publisher, Side, close_all};
 use crate::reader::SnapReader;
 use crate::rule::Hand;
-use crate::steps::{ReadEnd, WriteEnd, show_first_in};
+use crate::steps::{ReadEnd, WriteEnd, show_in};
 use std::alloc::Global;
 use std::sync::Wait;
 use text_buffer::Snapshot;
 
-/// A publisher and its readers, each with a pair of its own, the reader at place i with pair i. `first` is published to each pair, and
-/// its reader has learned it. Linear in the number of readers.
+/// A publisher and its readers, each with a pair of its own, the reader at place i with pair i. `first` is published to
+/// each pair, and its reader has learned it. Linear in the number of readers.
 ///
 /// # Errors
 ///
@@ -40,7 +40,7 @@ pub fn open_pairs<R: Wait>(
     open_over(rt, alloc, &first, readers)
 }
 
-// The same, of a snapshot that is lent.
+// The same, for a snapshot that is lent.
 fn open_over<R: Wait>(
     rt: &R,
     alloc: Global,
@@ -90,9 +90,9 @@ fn open_pair<R: Wait>(
 ) -> Result<(Side, SnapReader), OutOfMemory>
     ensures shown { IfOk result (λ r. Shows first.now r.0) }
     ensures learned { IfOk result (λ r. HasLearned first.now r.1) }
-    ensures own { IfOk result (λ r. r.1.pair ≡ r.0.growth.reached.book) }
+    ensures own { IfOk result (λ r. r.1.pair ≡ side_pair r.0) }
 {
-    let (growth, longest) = begin_log(rt, first)?;
+    let (growth, longest) = begin_log(first)?;
     let (end, reader) = open_ends(rt, alloc, &longest)?;
     Ok((
         Side { end, growth },
@@ -104,15 +104,15 @@ fn open_pair<R: Wait>(
     ))
 }
 
-// A log that comes to the list of the snapshot, and the snapshot with it.
-fn begin_log<R: Wait>(rt: &R, first: &Snapshot) -> Result<(Growth, Kept), OutOfMemory>
+// A log whose list is that of the snapshot, and the snapshot with it.
+fn begin_log(first: &Snapshot) -> Result<(Growth, Kept), OutOfMemory>
     ensures snapshot { IfOk result (λ r. r.1.snapshot ≡ first.now) }
     ensures reached { IfOk result (λ r. r.1.reached ≡ r.0.reached) }
 {
     let snapshot = first.share()?;
-    let mut growth = Growth::new();
-    let longest = growth.grow(rt, snapshot);
-    Ok((growth, longest))
+    let growth = Growth::open(&snapshot);
+    let reached = growth.reached.again();
+    Ok((growth, Kept { snapshot, reached }))
 }
 
 // The two ends of a pair in which the snapshot is shown. Both have seen it.
@@ -149,7 +149,7 @@ fn start<R: Wait>(rt: &R, end: &mut WriteEnd, kept: &Kept) -> Result<ReadEnd, Ou
     ensures told { OnOk result (view end.new.desk.place ≡ kept.now ∷ []) }
     ensures learned { IfOk result (λ r. view r.place ≡ kept.now ∷ []) }
 {
-    show_first_in(end, rt, kept.share()?)?;
+    show_in(end, rt, kept.share()?);
     make_reader(end)
 }
 

@@ -2,7 +2,7 @@
 ghost use Rattle.std.specs.Prelude.{◌≡◌, ◌<◌, [], ◌∷◌, length, IfOk, MatchResult, slice_set, slice_index_or};
 ghost use Rattle.left_right.specs.Sides.{view};
 ghost use Rattle.text_buffer.specs.Document.{IsFront};
-ghost use Rattle.snapshot_pub.specs.Logs.{log_list};
+ghost use Rattle.snapshot_pub.specs.Logs.{log_list, pair_of};
 
 use crate::OutOfMemory;
 use crate::growth::Growth;
@@ -12,7 +12,8 @@ use std::marker::Model;
 use std::sync::Wait;
 use text_buffer::Snapshot;
 
-/// What was published to one pair, for its reader to learn. Contracts see the pair and the list. Any thread may have it.
+/// A token: what was published to one pair, for its reader to learn. Contracts see the pair and the list. It may be sent
+/// to any thread.
 #[derive(Drop)]
 pub struct Told {
     pub(crate) kept: Kept,
@@ -33,7 +34,8 @@ pub struct Side {
     pub(crate) end: WriteEnd,
     pub(crate) growth: Growth,
     ghost seen: { view end.desk.place ≡ end.desk.shown.value ∷ [] },
-    ghost own: { end.desk.shown.value.reached.book ≡ growth.reached.book },
+    ghost own: { pair_of end.desk.shown.value.reached.book end.desk.shown.value.reached.log
+        ≡ pair_of growth.reached.book growth.reached.log },
     ghost level: { log_list growth.reached.log ≡ end.desk.shown.value.snapshot },
 }
 
@@ -45,21 +47,23 @@ impl Side {
         snapshot: &Snapshot,
     ) -> Result<(), OutOfMemory>
         requires { IsFront self.old.end.desk.shown.value.snapshot snapshot.now }
-        ensures own { self.new.growth.reached.book ≡ self.old.growth.reached.book }
+        ensures own { pair_of self.new.growth.reached.book self.new.growth.reached.log
+            ≡ pair_of self.old.growth.reached.book self.old.growth.reached.log }
         ensures shown { MatchResult result (λ _. self.new.end.desk.shown.value.snapshot
             ≡ snapshot.now) (λ _. self.new.end.desk.shown.value.snapshot
             ≡ self.old.end.desk.shown.value.snapshot) }
     {
-        // All that can fail comes first: once the log has grown, the snapshot is shown.
+        // Only this can fail. Nothing has changed yet.
         let snapshot = snapshot.share()?;
-        let kept = self.growth.grow(rt, snapshot);
+        let kept = self.growth.grow(snapshot);
         show_in(&mut self.end, rt, kept);
         Ok(())
     }
 
     /// What is shown.
     pub(crate) fn tell(&self) -> Result<Told, OutOfMemory>
-        ensures pair { IfOk result (λ t. t.pair ≡ self.now.growth.reached.book) }
+        ensures pair { IfOk result (λ t. t.pair
+            ≡ pair_of self.now.growth.reached.book self.now.growth.reached.log) }
         ensures list { IfOk result (λ t. t.list ≡ self.now.end.desk.shown.value.snapshot) }
     {
         Ok(Told {
@@ -77,8 +81,8 @@ impl Side {
     }
 }
 
-/// Shows snapshots to readers, each in a pair of its own. Contracts see which pairs there are, and the list that was last published
-/// to each. It is not `Drop`: end it by `close`.
+/// Shows snapshots to readers, each in a pair of its own. Contracts see which pairs there are, and the list that was last
+/// published to each. It is not `Drop`: end it by `close`.
 ///
 /// # Examples
 ///
@@ -98,13 +102,13 @@ impl Model for Publisher {
 }
 
 impl Publisher {
-    /// Shows the snapshot in pair `i` alone, counted from 0: by one exchange, after which it waits until that pair's reader has left
-    /// what was shown before. Nothing is copied.
+    /// Shows the snapshot in pair `i` alone, counted from 0, by one exchange. Before that it waits until the pair's reader
+    /// has left what was shown before the last publish. Nothing is copied or allocated.
     ///
     /// # Errors
     ///
-    /// `OutOfMemory` alone: the count of the snapshot's owners is full. What is published is then as before, and a later call may
-    /// succeed.
+    /// `OutOfMemory` alone, if the snapshot cannot be shared since the count of its owners is full. This comes first: nothing
+    /// has changed then, and a later call may succeed. Nothing after it can fail.
     pub fn publish<R: Wait>(
         &mut self,
         rt: &R,

@@ -1,6 +1,7 @@
 //! The reader of a pair.
 ghost use Rattle.std.specs.Prelude.{◌≡◌, ◌⊎◌, ◌∷◌, true, false, IfOk, OnErr, OnOk};
 ghost use Rattle.text_buffer.specs.Document.{IsFront};
+ghost use Rattle.snapshot_pub.specs.Logs.{pair_of};
 ghost use Rattle.snapshot_pub.specs.States.{SeesMore};
 
 use crate::OutOfMemory;
@@ -10,8 +11,9 @@ use crate::steps::{ReadEnd, look_in};
 use std::marker::{Brand, Model};
 use text_buffer::Snapshot;
 
-/// A reader of snapshots, which never gives one that lacks what it gave or learned before. Contracts see which pair it is of, the
-/// longest list that it gave or learned, the lists that its steps enter saw, and whether the last Ok of `latest` entered.
+/// A reader of snapshots, which never gives one that lacks what it gave or learned before. Contracts see which pair it is
+/// of, the longest list that it gave or learned, the lists that its steps enter saw, and whether the last Ok of `latest`
+/// entered.
 ///
 /// # Examples
 ///
@@ -43,8 +45,8 @@ impl SnapReader {
         self.entered
     }
 
-    /// The snapshot that is shown; where the reader cannot enter its pair, the longest that it gave or learned. It begins with each of
-    /// these, and is shared, not copied. Waits for nobody.
+    /// The snapshot that is shown; where the reader cannot enter its pair, the longest that it gave or learned. It begins
+    /// with each of these, and is shared, not copied. Waits for nobody.
     ///
     /// # Errors
     ///
@@ -73,7 +75,7 @@ impl SnapReader {
 
     // Gives what the step enter has just seen.
     fn take(&mut self, kept: Kept) -> Result<Snapshot, OutOfMemory>
-        requires own { kept.reached.book ≡ self.old.pair }
+        requires own { pair_of kept.reached.book kept.reached.log ≡ self.old.pair }
         requires begins { IsFront self.old.longest kept.snapshot }
         ensures pair { self.new.pair ≡ self.old.pair }
         ensures seen { self.new.seen ≡ self.old.seen }
@@ -89,7 +91,7 @@ impl SnapReader {
         Ok(snapshot)
     }
 
-    /// Takes in what was told of its own pair. Waits for nobody and does not allocate.
+    /// Takes in a token of its own pair. Waits for nobody and does not allocate.
     pub fn learn(&mut self, told: Told)
         requires { told.pair ≡ self.old.pair }
         ensures pair { self.new.pair ≡ self.old.pair }

@@ -1,4 +1,4 @@
-//! The rule of a pair, and what each step tells.
+//! The rule of a pair, and what each step ensures.
 use crate::kept::Kept;
 use atomic_table::{Join, Split};
 use crossbeam_utils::rule::{Outcome, Protocol};

@@ -3,7 +3,7 @@ use Rattle.std.specs.List.{All}
 use Rattle.std.specs.Vec.Iter.{into_iter_items}
 use Rattle.std.proofs.lemmas.List.{map-append}
 use Rattle.std.proofs.lemmas.List.Elements.{All-append, All-cons, All-nil}
-use Rattle.logbook.specs.Pages.{Book}
+use Rattle.logbook.specs.Pages.{Named}
 use Rattle.snapshot_pub.specs.States.{ReaderState}
 use Rattle.query_workers.specs.Queue.{pairs_of}
 use Rattle.query_workers.specs.States.{DeskState, InboxState}
@@ -23,13 +23,13 @@ loop-worker-preserved g c =
     let opened = c.in_ok-inbox.ensures.inbox in
     let more : c.push.new.self.items ≡ inboxes ++ inbox ∷ [] = c.in_ok-push.ensures.items in
     let many_desks : c.push-in-loop-worker.new.self.items ≡ desks ++ desk ∷ [] = c.in_ok-push-2.ensures.items in
-    let rest : List (List Book) = map (λ (v : Vec ReaderState Global). pairs_of v.items) (into_iter_items c.next.new.self) in
+    let rest : List (List Named) = map (λ (v : Vec ReaderState Global). pairs_of v.items) (into_iter_items c.next.new.self) in
     let own : pairs_of inbox.readers ≡ pairs_of readers = ap (λ (i : InboxState g.row.Q.Denot). pairs_of i.readers) opened in
     let same : pairs_of inbox.readers ≡ pairs_of desk.readers = own ∙ ap (λ (l : List ReaderState). pairs_of l) (sym c.in_ok-inbox.ensures.desk) in
     let pairs : pairs_in c.push.new.self.items ≡ pairs_in inboxes ++ pairs_of readers ∷ [] =
-    ap (λ (l : List (InboxState g.row.Q.Denot)). pairs_in l) more ∙ (map-append (λ (i : InboxState g.row.Q.Denot). pairs_of i.readers) inboxes (inbox ∷ []) ∙ ap (λ (b : List Book). pairs_in inboxes ++ b ∷ []) own) in record {
+    ap (λ (l : List (InboxState g.row.Q.Denot)). pairs_in l) more ∙ (map-append (λ (i : InboxState g.row.Q.Denot). pairs_of i.readers) inboxes (inbox ∷ []) ∙ ap (λ (b : List Named). pairs_in inboxes ++ b ∷ []) own) in record {
       left = omega (arith, was.left, c.in-Some.ensures.len);
-      pairs = ap (λ (l : List (List Book)). l ++ rest) pairs ∙ (append_assoc (pairs_in inboxes) (pairs_of readers ∷ []) rest
+      pairs = ap (λ (l : List (List Named)). l ++ rest) pairs ∙ (append_assoc (pairs_in inboxes) (pairs_of readers ∷ []) rest
           ∙ (ap (λ (l : List (Vec ReaderState Global)). pairs_in inboxes ++ map (λ (v : Vec ReaderState Global). pairs_of v.items) l) (sym c.in-Some.ensures.items) ∙ was.pairs));
       many = omega (arith, was.many, ap (λ (l : List (InboxState g.row.Q.Denot)). length l) more, length-append inboxes (inbox ∷ []));
       ends = subst (λ (l : List (InboxState g.row.Q.Denot)). AreEnds l c.push-in-loop-worker.new.self.items) (sym more)

@@ -1,7 +1,7 @@
 use Rattle.std.proofs.Common.{◌≡◌, ℕ, List, [], ◌∷◌, ◌++◌, ◌≤◌, drop, get_or, length, sym, ap, ◌∙◌, subst, arith, length-append}
 use Rattle.std.specs.Vec.Iter.{into_iter_items, into_iter_steps}
 use Rattle.std.proofs.lemmas.List.{length-map}
-use Rattle.logbook.specs.Pages.{Book}
+use Rattle.logbook.specs.Pages.{Named}
 use Rattle.op_model.specs.declared.operation.Operation.{Operation}
 use Rattle.op_model.proofs.Elements.{drop_at}
 use Rattle.snapshot_pub.specs.States.{ReaderState, ToldState}
@@ -64,7 +64,7 @@ unreachable-requires c =
     let sizes : length c.args.sizes.now ≡ length tolds =
     ap (λ (l : List ℕ). length l) c.requires.sizes ∙ (length-map (told_lists tolds) (λ (h : List Operation). length h) ∙ length-map tolds (λ (t : ToldState). t.list)) in
     let pairs : length tolds ≡ length readers =
-    sym (length-map tolds (λ (t : ToldState). t.pair)) ∙ (ap (λ (l : List Book). length l) c.requires.pairs ∙ length-map readers (λ (r : ReaderState). r.pair)) in
+    sym (length-map tolds (λ (t : ToldState). t.pair)) ∙ (ap (λ (l : List Named). length l) c.requires.pairs ∙ length-map readers (λ (r : ReaderState). r.pair)) in
     elim c.in_default.branch [
       | in_default-via-in-Some+in_default w ↦
           let left = subst (λ r. into_iter_steps c.loop-size.tolds r c.next-in-loop-size.new.self) w.in_default.is-1 c.next-in-loop-size.ensures.cases in omega (arith, was.tolds_left, left.0, sizes, c.loop-size-test.true)
@@ -80,7 +80,7 @@ returns-clause-looked c =
     let sizes : length c.args.sizes.now ≡ length tolds =
     ap (λ (l : List ℕ). length l) c.requires.sizes ∙ (length-map (told_lists tolds) (λ (h : List Operation). length h) ∙ length-map tolds (λ (t : ToldState). t.list)) in
     let pairs : length tolds ≡ length readers =
-    sym (length-map tolds (λ (t : ToldState). t.pair)) ∙ (ap (λ (l : List Book). length l) c.requires.pairs ∙ length-map readers (λ (r : ReaderState). r.pair)) in record {
+    sym (length-map tolds (λ (t : ToldState). t.pair)) ∙ (ap (λ (l : List Named). length l) c.requires.pairs ∙ length-map readers (λ (r : ReaderState). r.pair)) in record {
       many = omega (arith, was.seen, was.readers_left, sizes, pairs, c.loop-size-test.false);
       each = was.looks;
     }
