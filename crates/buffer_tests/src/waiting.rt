@@ -60,6 +60,26 @@ fn is_found(deferred: &mut Deferred) -> bool {
     before && removed && deferred.len() == 3 && !has(deferred, (3, 1))
 }
 
+// A stamp, and the first that waits past it.
+const IN_ORDER: &[(Option<Stamp>, Option<Stamp>)] = &[
+    (None, Some((2, 2))),
+    (Some((2, 1)), Some((2, 2))),
+    (Some((2, 2)), Some((3, 1))),
+    (Some((3, 1)), Some((4, 1))),
+    (Some((4, 2)), Some((4, 3))),
+    (Some((4, 3)), None),
+];
+
+// The first row that is wrong of what comes next.
+fn wrong_next(deferred: &Deferred) -> Option<usize> {
+    for (i, &(t, want)) in IN_ORDER.iter().enumerate() {
+        if stamp_of(deferred.after(t.map(stamp))) != want.map(stamp) {
+            return Some(i);
+        }
+    }
+    None
+}
+
 // A stamp to begin after, what was seen, and what is ready then.
 const READY: &[(Option<Stamp>, &[Stamp], Option<Stamp>)] = &[
     (None, &[], None),
@@ -117,6 +137,13 @@ fn wrong_row_after(alloc: Global, watched: Option<&[Stamp]>) -> Result<Option<us
     let mut deferred = waiting_list(alloc)?;
     watch(alloc, &mut deferred, watched)?;
     wrong_row(alloc, &deferred)
+}
+
+#[test]
+fn what_waits_is_gone_through_in_order(rt: HostRuntime) -> Result<(), OutOfMemory> {
+    let wrong = wrong_next(&waiting_list(rt.alloc())?);
+    assert!(rt; wrong.is_none(), "row {wrong:?}");
+    Ok(())
 }
 
 #[test]

@@ -1,7 +1,7 @@
 -- A map from stamps to operations, as the list of its operations.
 use Rattle.std.proofs.Common.{◌≡◌, Bool, true, false, cond, not, ◌&&◌, List, [], ◌∷◌, refl, sym, ap, ◌∙◌, Option, Some, None, subst}
 use Rattle.std.specs.Ordering.{match_ordering, is_gt, is_lt, is_eq}
-use Rattle.std.specs.List.{find, filter, AllByRecursion}
+use Rattle.std.specs.List.{find, filter, slice_get, AllByRecursion}
 use Rattle.std.specs.List.Sorted.{IsStrictlySortedBy}
 use Rattle.std.specs.declared.cmp.Ordering.TheVariants.{Less, Equal, Greater}
 use Rattle.std.specs.declared.ops.Bound.TheVariants.{Excluded, Unbounded}
@@ -18,7 +18,7 @@ use Rattle.op_model.specs.Operations.{stamp_of}
 use Rattle.op_model.specs.Histories.{operation_at}
 use Rattle.op_model.specs.Steps.{older, without}
 use Rattle.op_model.proofs.Elements.{find_filter}
-use Rattle.deferred_ops.specs.Deferred.{AreKeyed, is_past, misses_nothing, least_ready, start_past}
+use Rattle.deferred_ops.specs.Deferred.{AreKeyed, is_past, misses_nothing, least_past, least_ready, start_past}
 
 abbrev pub Keyed : Type 0
 Keyed = List (Lamport × Operation)
@@ -94,6 +94,18 @@ passed (Some t) (e ∷ es) k = one (is_lt (stamp_cmp t e.0)) (entries_between st
 -- what is ready is the first that misses nothing past the stamp
 pub first_ready : (after : Option Lamport) (have : Entries) (es : Keyed) → AreKeyed es → least_ready after have (values_of es) ≡ find (misses_nothing have) (values_of (entries_between stamp_cmp (start_past after) Unbounded es))
 first_ready after have es k = find_filter (is_past after) (misses_nothing have) (values_of es) ∙ ap (find (misses_nothing have)) (sym (passed after es k))
+
+-- the least operation past a stamp is the first of those
+pub first_past : (after : Option Lamport) (es : Keyed) → AreKeyed es → least_past after (values_of es) ≡ slice_get (values_of (entries_between stamp_cmp (start_past after) Unbounded es)) 0
+first_past after es k = first (is_past after) (values_of es) ∙ ap (λ w. slice_get w 0) (sym (passed after es k))
+  where
+    first : (p : Operation → Bool) (w : List Operation) → find p w ≡ slice_get (filter p w) 0
+    first p [] = refl
+    first p (o ∷ w) = one (p o) (first p w)
+      where
+        one : (b : Bool) → find p w ≡ slice_get (filter p w) 0 → cond b (Some o) (find p w) ≡ slice_get (cond b (o ∷ filter p w) (filter p w)) 0
+        one true rest = refl
+        one false rest = rest
 
 -- ---- stamps ascend
 

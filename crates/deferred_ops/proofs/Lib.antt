@@ -1,4 +1,5 @@
 pub mod Keyed
 pub mod Listing
+pub mod OfWaiting
 mod Rows
 pub mod Ready

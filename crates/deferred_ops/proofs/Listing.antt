@@ -22,7 +22,7 @@ use Rattle.op_model.specs.Operations.{stamp_of, version_of}
 use Rattle.op_model.specs.Histories.{operation_at}
 use Rattle.op_model.specs.Steps.{older, without}
 use Rattle.op_model.proofs.settling.Causes.{misses}
-use Rattle.deferred_ops.specs.Deferred.{AreListed, Cause, Causes, IsListed, NoneSeen, cause_order, has_cause, is_past, least_ready, misses_nothing}
+use Rattle.deferred_ops.specs.Deferred.{AreListed, Cause, Causes, IsListed, KeepsOthers, NoneSeen, cause_order, has_cause, is_past, least_ready, misses_nothing}
 
 -- ---- numbers that come first in an order
 
@@ -125,14 +125,6 @@ added_listed s op (o ∷ w) here listed = go (older o op) (added_listed s op w h
     go true rest = (listed.0, rest)
     go false rest = (here, listed)
 
-pub removed_listed : (s : Causes) (t : Lamport) (w : List Operation) → AreListed s w → AreListed s (without t w)
-removed_listed s t [] listed = tt
-removed_listed s t (o ∷ w) listed = go (not (same_stamp (stamp_of o) t)) (removed_listed s t w listed.1)
-  where
-    go : (b : Bool) → AreListed s (without t w) → AreListed s (cond b (o ∷ without t w) (without t w))
-    go true rest = (listed.0, rest)
-    go false rest = rest
-
 -- ---- a cause that is listed stays one where another is
 
 pub stays_true : (b h : Bool) → h ≡ true → cond b true h ≡ true
@@ -145,46 +137,53 @@ then_eq Less p e = absurd (true≢false (sym e))
 then_eq Equal p e = e
 then_eq Greater p e = absurd (true≢false (sym e))
 
-other_stamp : (a b : Cause) → same_stamp a.2 b.2 ≡ false → is_at (cause_order a) b ≡ false
+pub other_stamp : (a b : Cause) → same_stamp a.2 b.2 ≡ false → is_at (cause_order a) b ≡ false
 other_stamp a b apart = elim (cases_Bool (is_at (cause_order a) b)) [
   | inl e ↦ absurd (true≢false (sym (then_eq (ordering_then (nat_cmp a.0 b.0) (nat_cmp a.1 b.1)) (stamp_cmp a.2 b.2) e) ∙ is_eq-same a.2 b.2 ∙ apart))
   | inr e ↦ e
 ]
 
-same_here : (a : Cause) → is_at (cause_order a) a ≡ true
+pub same_here : (a : Cause) → is_at (cause_order a) a ≡ true
 same_here a =
     rw (le-ltb a.0 a.0 (omega arith), eq-eqb a.0 a.0 refl, le-ltb a.1 a.1 (omega arith), eq-eqb a.1 a.1 refl) (is_eq-same a.2 a.2 ∙ same_stamp_refl a.2)
 
 -- the causes of all operations of other stamps stay
-module _ (s anew : Causes) (seen : Cause) (stays : (q : Cause) → is_at (cause_order seen) q ≡ false → has_cause s q ≡ true → has_cause anew q ≡ true) where
-  listed_on : (op : Operation) → same_stamp (stamp_of op) seen.2 ≡ false → IsListed s op → IsListed anew op
-  listed_on op apart listed =
-      let cause : Cause = (listed.0, listed.1, stamp_of op) in
-      (listed.0, listed.1, stays cause (other_stamp seen cause (same_sym seen.2 (stamp_of op) ∙ apart)) listed.2, listed.3, listed.4)
+module _ (s anew : Causes) (t : Lamport) (stays : KeepsOthers t s anew) where
+  listed_on : (op : Operation) → same_stamp (stamp_of op) t ≡ false → IsListed s op → IsListed anew op
+  listed_on op apart listed = (listed.0, listed.1, stays (listed.0, listed.1, stamp_of op) apart listed.2, listed.3, listed.4)
 
   -- no operation of that stamp waits
-  pub dropped_listed : (w : List Operation) → operation_at w seen.2 ≡ None → AreListed s w → AreListed anew w
+  pub dropped_listed : (w : List Operation) → operation_at w t ≡ None → AreListed s w → AreListed anew w
   dropped_listed [] none listed = tt
-  dropped_listed (o ∷ w) none listed = go (same_stamp (stamp_of o) seen.2) refl none (λ rest. dropped_listed w rest listed.1)
+  dropped_listed (o ∷ w) none listed = go (same_stamp (stamp_of o) t) refl none (λ rest. dropped_listed w rest listed.1)
     where
-      go : (b : Bool) → same_stamp (stamp_of o) seen.2 ≡ b → cond b (Some o) (operation_at w seen.2) ≡ None → (operation_at w seen.2 ≡ None → AreListed anew w) → AreListed anew (o ∷ w)
+      go : (b : Bool) → same_stamp (stamp_of o) t ≡ b → cond b (Some o) (operation_at w t) ≡ None → (operation_at w t ≡ None → AreListed anew w) → AreListed anew (o ∷ w)
       go true q e later = absurd (cc e)
       go false q e later = (listed_on o q listed.0, later e)
 
+  -- the operation of that stamp waits no longer
+  pub removed_listed : (w : List Operation) → AreListed s w → AreListed anew (without t w)
+  removed_listed [] listed = tt
+  removed_listed (o ∷ w) listed = go (same_stamp (stamp_of o) t) refl (removed_listed w listed.1)
+    where
+      go : (b : Bool) → same_stamp (stamp_of o) t ≡ b → AreListed anew (without t w) → AreListed anew (cond (not b) (o ∷ without t w) (without t w))
+      go true q rest = rest
+      go false q rest = (listed_on o q listed.0, rest)
+
   -- the operations after one of that stamp have others
-  behind_listed : (o : Operation) (w : List Operation) → same_stamp (stamp_of o) seen.2 ≡ true → AllByRecursion (λ y. older o y ≡ true) w → AreListed s w → AreListed anew w
+  behind_listed : (o : Operation) (w : List Operation) → same_stamp (stamp_of o) t ≡ true → AllByRecursion (λ y. older o y ≡ true) w → AreListed s w → AreListed anew w
   behind_listed o [] here before listed = tt
   behind_listed o (y ∷ w) here before listed =
-      let apart : same_stamp (stamp_of y) seen.2 ≡ false =
-      same_sym (stamp_of y) seen.2 ∙ ap (λ t. same_stamp t (stamp_of y)) (sym (same_stamp_eq (stamp_of o) seen.2 here)) ∙ (later_differs (stamp_of o) (stamp_of y) before.0).0 in
+      let apart : same_stamp (stamp_of y) t ≡ false =
+      same_sym (stamp_of y) t ∙ ap (λ t. same_stamp t (stamp_of y)) (sym (same_stamp_eq (stamp_of o) t here)) ∙ (later_differs (stamp_of o) (stamp_of y) before.0).0 in
       (listed_on y apart listed.0, behind_listed o w here before.1 listed.1)
 
   -- the operation of that stamp has another cause
-  relisted_by : (op : Operation) (w : List Operation) → Ascending older w → operation_at w seen.2 ≡ Some op → IsListed anew op → AreListed s w → AreListed anew w
+  relisted_by : (op : Operation) (w : List Operation) → Ascending older w → operation_at w t ≡ Some op → IsListed anew op → AreListed s w → AreListed anew w
   relisted_by op [] up found is listed = tt
-  relisted_by op (o ∷ w) up found is listed = go (same_stamp (stamp_of o) seen.2) refl found (λ e. relisted_by op w up.1 e is listed.1)
+  relisted_by op (o ∷ w) up found is listed = go (same_stamp (stamp_of o) t) refl found (λ e. relisted_by op w up.1 e is listed.1)
     where
-      go : (b : Bool) → same_stamp (stamp_of o) seen.2 ≡ b → cond b (Some o) (operation_at w seen.2) ≡ Some op → (operation_at w seen.2 ≡ Some op → AreListed anew w) → AreListed anew (o ∷ w)
+      go : (b : Bool) → same_stamp (stamp_of o) t ≡ b → cond b (Some o) (operation_at w t) ≡ Some op → (operation_at w t ≡ Some op → AreListed anew w) → AreListed anew (o ∷ w)
       go true q e later = (subst (IsListed anew) (sym (ap (λ x. unwrap_or x o) e)) is, behind_listed o w q up.0 listed.1)
       go false q e later = (listed_on o q listed.0, later e)
 
@@ -202,7 +201,7 @@ pub relisted : (s anew : Causes) (seen missed : Cause)
     → ((q : Cause) → has_cause anew q ≡ cond (is_at (cause_order missed) q) true (cond (is_at (cause_order seen) q) false (has_cause s q)))
     → (op : Operation) (w : List Operation) → Ascending older w → operation_at w seen.2 ≡ Some op → missed.2 ≡ stamp_of op → 0 < missed.1 → Member (missed.0, missed.1) (version_of op) → AreListed s w → AreListed anew w
 relisted s anew seen missed changes op w up found is some among listed =
-    relisted_by s anew seen (λ q apart has. changes q ∙ ap (λ b. cond (is_at (cause_order missed) q) true (cond b false (has_cause s q))) apart ∙ stays_true (is_at (cause_order missed) q) (has_cause s q) has) op w up found
+    relisted_by s anew seen.2 (λ q away has. let apart = other_stamp seen q (same_sym seen.2 q.2 ∙ away) in changes q ∙ ap (λ b. cond (is_at (cause_order missed) q) true (cond b false (has_cause s q))) apart ∙ stays_true (is_at (cause_order missed) q) (has_cause s q) has) op w up found
     (inserted_listed s anew missed op (λ q. cond (is_at (cause_order seen) q) false (has_cause s q)) changes is (some, among)) listed
 
 pub more_listed : (s anew : Causes) → ((q : Cause) → has_cause s q ≡ true → has_cause anew q ≡ true) → (w : List Operation) → AreListed s w → AreListed anew w

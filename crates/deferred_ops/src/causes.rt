@@ -1,7 +1,8 @@
 //! Causes of what waits, one for each operation, in the order of replicas and values.
-ghost use Rattle.std.specs.Prelude.{◌≡◌, true, IfOk, IfSome, IsNone};
+ghost use Rattle.std.specs.Prelude.{◌≡◌, true, false, IfOk, IfSome, IsNone, OnErr};
 ghost use Rattle.std.specs.List.{AllByRecursion};
-ghost use Rattle.deferred_ops.specs.Deferred.{IsListed, KeepsCauses, NoneSeen, ListsFor, has_cause};
+ghost use Rattle.op_model.specs.Operations.{stamp_of};
+ghost use Rattle.deferred_ops.specs.Deferred.{IsListed, KeepsCauses, KeepsOthers, AddsCauses, NoneListed, NoneSeen, ListsFor, has_cause};
 
 use crate::OutOfMemory;
 use lamport_clock::Lamport;
@@ -46,6 +47,8 @@ pub fn are_missed(causes: &BTreeSet<Cause>, have: &[(u16, u32)]) -> bool
 pub fn list_cause(causes: &mut BTreeSet<Cause>, op: &Operation) -> Result<bool, OutOfMemory>
     ensures listed { IfOk result (λ b. b ≡ true → IsListed causes.new op.now) }
     ensures kept { KeepsCauses causes.old causes.new }
+    ensures added { AddsCauses op.now causes.old causes.new }
+    ensures err { OnErr result (KeepsCauses causes.new causes.old) }
 {
     let Some(&(replica, value)) = op.version().as_slice().first() else {
         return Ok(false);
@@ -56,8 +59,34 @@ pub fn list_cause(causes: &mut BTreeSet<Cause>, op: &Operation) -> Result<bool, 
 
 /// Lists a cause in place of another. False if an allocation failed: then neither is listed. Logarithmic.
 pub fn replace(causes: &mut BTreeSet<Cause>, seen: Cause, missed: Cause) -> bool
-    ensures { result ≡ true → ListsFor causes.old causes.new seen missed }
+    ensures listed { result ≡ true → ListsFor causes.old causes.new seen missed }
+    ensures fewer { result ≡ false → KeepsCauses causes.new causes.old }
 {
     causes.remove(&seen);
-    causes.insert(missed).is_ok()
+    match causes.insert(missed) {
+        Ok(_) => true,
+        Err(_) => false,
+    }
+}
+
+/// Takes out every cause that is listed of the operation. Logarithmic for each entry of its version; does not allocate.
+pub fn unlist(causes: &mut BTreeSet<Cause>, op: &Operation)
+    ensures gone { NoneListed causes.new op.now }
+    ensures fewer { KeepsCauses causes.new causes.old }
+    ensures others { KeepsOthers (stamp_of op.now) causes.old causes.new }
+{
+    let stamp = op.stamp();
+    let seen = op.version().as_slice();
+    for &(replica, value) in seen {
+        causes.remove(&(replica, value, stamp));
+    }
+}
+
+/// The same for an operation that is dropped.
+pub fn drop_unlisted(causes: &mut BTreeSet<Cause>, op: Operation)
+    ensures gone { NoneListed causes.new op }
+    ensures fewer { KeepsCauses causes.new causes.old }
+    ensures others { KeepsOthers (stamp_of op) causes.old causes.new }
+{
+    unlist(causes, &op);
 }

@@ -5,10 +5,10 @@ ghost use Rattle.op_model.specs.Sorted.{insert_by, Ascending};
 ghost use Rattle.op_model.specs.Operations.{stamp_of};
 ghost use Rattle.op_model.specs.Histories.{operation_at};
 ghost use Rattle.op_model.specs.Steps.{older, without};
-ghost use Rattle.deferred_ops.specs.Deferred.{NoneReady, least_ready, start_past};
+ghost use Rattle.deferred_ops.specs.Deferred.{NoneReady, least_past, least_ready, start_past};
 
 use crate::OutOfMemory;
-use crate::causes::{Cause, are_missed, first_seen, list_cause, replace};
+use crate::causes::{Cause, are_missed, drop_unlisted, first_seen, list_cause, replace, unlist};
 use lamport_clock::{Lamport, Version};
 use op_model::Operation;
 use std::alloc::Global;
@@ -20,7 +20,8 @@ use std::ops::Bound;
 #[derive(Drop)]
 pub struct Deferred {
     waiting: BTreeMap<Lamport, Operation>,
-    /// A cause of each operation that waits, so that none is gone over while all of these are missed.
+    /// A cause of each operation that waits, so that none is gone over while all of these are missed. There is none of an operation
+    /// that does not wait.
     causes: BTreeSet<Cause>,
     /// Whether each has one there; false once an allocation failed for one, or the version of one saw nothing.
     are_listed: bool,
@@ -31,14 +32,15 @@ impl Model for Deferred {
     ghost use Rattle.std.specs.Map.{values_of};
     ghost use Rattle.op_model.specs.declared.operation.Operation.{Operation};
     ghost use Rattle.std.specs.Prelude.{◌≡◌, true};
-    ghost use Rattle.deferred_ops.specs.Deferred.{AreKeyed, AreListed};
+    ghost use Rattle.deferred_ops.specs.Deferred.{AreKeyed, AreListed, AreOfWaiting};
 
     ghost Value = { List Operation };
 
     ghost view = { λ d. values_of d.waiting.entries };
 
     ghost invariant = { λ d. AreKeyed d.waiting.entries
-        × (d.are_listed ≡ true → AreListed d.causes (values_of d.waiting.entries)) };
+        × (d.are_listed ≡ true → AreListed d.causes (values_of d.waiting.entries))
+        × AreOfWaiting d.causes (values_of d.waiting.entries) };
 }
 
 impl Deferred {
@@ -62,6 +64,13 @@ impl Deferred {
         self.waiting.len() as u64
     }
 
+    // Says in which order what waits stands, for proofs. Does nothing when it runs.
+    fn known(&self)
+        ensures { Ascending older self.now }
+    {
+        let _count = self.waiting.len();
+    }
+
     /// Lets an operation wait; none with its stamp waits yet. Logarithmic in what waits. If an allocation
     /// fails, the operation is dropped.
     pub fn add(&mut self, op: Operation) -> Result<(), OutOfMemory>
@@ -76,7 +85,10 @@ impl Deferred {
                 self.are_listed = both(self.are_listed, is_listed);
                 Ok(())
             }
-            Err(_) => Err(OutOfMemory),
+            Err(refused) => {
+                drop_unlisted(&mut self.causes, refused.value.1);
+                Err(OutOfMemory)
+            }
         }
     }
 
@@ -85,6 +97,18 @@ impl Deferred {
         ensures { option_copied result ≡ operation_at self.now t }
     {
         self.waiting.get(&t)
+    }
+
+    /// The operation with the least stamp past `t`, or of all where that is None. Passing the stamp of each answer as the next `t`
+    /// goes through what waits in order, and operations may be removed on the way. Logarithmic in what waits; does not allocate.
+    pub fn after(&self, t: Option<Lamport>) -> Option<&Operation>
+        ensures { option_copied result ≡ least_past t self.now }
+    {
+        let (_, op) = self
+            .waiting
+            .range((start_past(t), Bound::Unbounded))
+            .next()?;
+        Some(op)
     }
 
     /// The operation with the least stamp past `after`, or of all where that is None, that misses nothing: all that its
@@ -139,16 +163,12 @@ impl Deferred {
     fn relist(&mut self, replica: u16, value: u32, have: &Version) -> bool
         ensures { self.new ≡ self.old }
     {
-        if self.len() == 0 {
-            self.causes.clear();
-            return false;
-        }
+        self.known();
         let Some(seen) = first_seen(&self.causes, replica, value) else {
             return false;
         };
         let Some(op) = self.waiting.get(&seen.2) else {
-            self.causes.remove(&seen);
-            return true;
+            return false;
         };
         let Some((replica, value)) = have.first_missing(op.version()) else {
             return false;
@@ -159,12 +179,15 @@ impl Deferred {
         is_listed
     }
 
-    /// Takes out the operation of a stamp, if it waits. Logarithmic in what waits.
+    /// Takes out the operation of a stamp, if it waits, with everything that was kept of its causes, so that nothing is left of it.
+    /// Logarithmic in what waits, for each replica that its version has; does not allocate.
     pub fn remove(&mut self, t: Lamport) -> Option<Operation>
         ensures removed { result ≡ operation_at self.old t }
         ensures rest { self.new ≡ without t self.old }
     {
-        self.waiting.remove(&t)
+        let op = self.waiting.remove(&t)?;
+        unlist(&mut self.causes, &op);
+        Some(op)
     }
 }
 
