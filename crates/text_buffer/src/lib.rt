@@ -25,6 +25,7 @@ mod buffer;
 mod content;
 mod document;
 mod faults;
+mod forgetting;
 mod laws;
 mod outcomes;
 mod past;

@@ -35,6 +35,11 @@ impl Buffer {
     /// or waits already, and nothing changes. After `Applied` each operation that waits misses a cause. An operation that is
     /// judged or applied costs a few descents for each of its ranges or counts, and what it touches, not the whole text.
     ///
+    /// What waits is kept until its causes come, however long that takes and however many operations wait. A caller that takes
+    /// operations from peers that it does not trust bounds this by [`Buffer::forget`]: `take` of
+    /// `crates/buffer_tests/src/forgotten.rt` lets a few operations of each author wait, forgets the newest and takes them again
+    /// later.
+    ///
     /// # Errors
     ///
     /// The first of these that the operation meets: `BadStamp`, `NoBase`, `TextLimit`, `Reversed`, `Overlap`; where none is equal to
