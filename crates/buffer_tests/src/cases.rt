@@ -32,7 +32,8 @@ fn limits_of(limits: Limits) -> Limits
     }
 }
 
-fn open(alloc: Global, base: &str, limits: Limits) -> Result<Buffer, NewFault> {
+/// A buffer of replica 9.
+pub(crate) fn open(alloc: Global, base: &str, limits: Limits) -> Result<Buffer, NewFault> {
     Buffer::new(alloc, 9, base, limits_of(limits))
 }
 

@@ -2,6 +2,8 @@
 #![tactic(auto)]
 
 #[cfg(test)]
+mod alike;
+#[cfg(test)]
 mod anchored;
 #[cfg(test)]
 mod answers;
@@ -17,6 +19,10 @@ mod clocks;
 mod counted;
 #[cfg(test)]
 mod edits;
+#[cfg(test)]
+mod faults;
+#[cfg(test)]
+mod forgotten;
 #[cfg(test)]
 mod groups;
 #[cfg(test)]

@@ -1,6 +1,6 @@
 //! Steps of a buffer: calls and questions, each with its answer.
 use crate::counted::edit_and_count;
-use crate::operations::{Change, Parts, Stamp, operation, pieces, version};
+use crate::operations::{Change, Parts, Stamp, operation, pieces, stamp, version};
 use crate::replica::Replica;
 use lamport_clock::{Lamport, Version};
 use op_model::Operation;
@@ -27,6 +27,8 @@ pub(crate) enum Step {
     Take(Stamp, &'static [Stamp], Parts, Result<Took, OpFault>),
     /// How many operations settling applies.
     Settle(u64),
+    /// Forgetting the operation of a stamp, and whether one waits.
+    Forget(Stamp, bool),
     /// The operation that was applied last.
     Last(Stamp, &'static [Stamp], Parts),
     /// How many operations wait, and which were refused while settling.
@@ -119,7 +121,16 @@ fn settle(buffer: &mut Buffer) -> Result<u64, OutOfMemory> {
     buffer.settle()
 }
 
-fn keeps(buffer: &Buffer, waits: u64, refused: &[Refused]) -> bool {
+// Whether an operation is forgotten, where one of that stamp waits.
+fn forget(buffer: &mut Buffer, at: Stamp) -> bool {
+    match buffer.forget(stamp(at)) {
+        Some(op) => op.stamp() == stamp(at),
+        None => false,
+    }
+}
+
+/// Whether that many operations wait, and these were refused while settling.
+pub(crate) fn keeps(buffer: &Buffer, waits: u64, refused: &[Refused]) -> bool {
     buffer.known();
     agree(buffer, buffer);
     buffer.deferred().len() == waits && buffer.refused() == refused
@@ -191,6 +202,7 @@ pub(crate) fn comes(alloc: Global, buffer: &mut Buffer, step: Step) -> Result<bo
         Step::Undo(edits, want) => Ok(undo(buffer, edits) == want),
         Step::Take(at, seen, parts, want) => Ok(take(alloc, buffer, at, seen, parts)? == want),
         Step::Settle(want) => Ok(settle(buffer)? == want),
+        Step::Forget(at, want) => Ok(forget(buffer, at) == want),
         Step::Last(at, seen, parts) => { Ok(is_last(buffer, &operation(alloc, at, seen, parts)?)) }
         Step::Keep(waits, refused) => Ok(keeps(buffer, waits, refused)),
         Step::Ask(question) => answers(alloc, &buffer.snapshot()?, question),
