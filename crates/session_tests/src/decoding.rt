@@ -18,13 +18,10 @@ pub fn test<R: Host>(rt: &R, tally: &mut Tally) {
         let is_right = reads_many(rt.alloc(), count) == Ok(true);
         tally.note(rt, "decoding a version of many authors", name, is_right);
     }
-    let fault = fault_of(rt.alloc(), NO_TEXT);
-    tally.note(
-        rt,
-        "decoding",
-        "a line that is no text",
-        fault == bad(3, Word::Json),
-    );
+    for &(input, line) in NO_TEXT {
+        let is_right = fault_of(rt.alloc(), input) == bad(line, Word::Json);
+        tally.note(rt, "decoding", "a line that is no text", is_right);
+    }
     for (name, count, last, want) in MANY_LINES {
         let is_right = is_refused_for(rt.alloc(), *count, last, *want) == Ok(true);
         tally.note(rt, "decoding many lines", name, is_right);
@@ -199,7 +196,14 @@ fn fault_of(alloc: Global, input: &[u8]) -> Option<DecodeFault> {
     decode(alloc, input).err()
 }
 
-const NO_TEXT: &[u8] = b"[\"zedbuf\",1,\"ab\",[1]]\n[\"text\",1]\n\"\xff\"\n";
+// Inputs with a line that is no text, and its number.
+const NO_TEXT: &[(&[u8], u64)] = &[
+    (
+        b"[\"zedbuf\",1,\"ab\",[1]]\n[\"text\",\xff\n[\"text\",1]\n",
+        2,
+    ),
+    (b"[\"zedbuf\",1,\"ab\",[1]]\n[\"text\",1]\n\"\xff\"\n", 3),
+];
 
 // A number of line feeds, a last line without one, and what they are refused for.
 const MANY_LINES: &[(&str, usize, &str, DecodeFault)] = &[

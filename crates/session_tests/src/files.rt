@@ -1,5 +1,5 @@
-//! The cases of the files.
-use crate::calls::{Passing, Run, Wanted, comes_to};
+//! The cases of the files, and an input that no file of cases can hold.
+use crate::calls::{AMPLE, Ends, Passing, Run, Wanted, comes_to};
 use crate::case::Case;
 use crate::choices::Choices;
 use crate::tally::{Host, Tally};
@@ -10,7 +10,7 @@ use std::sync::Wait;
 use std::thread::Threads;
 use std::{fs, io};
 
-/// Runs the cases of all files of the folder, in the order of their names.
+/// Runs the cases of all files of the folder, in the order of their names, and a session with a line that is no text.
 pub fn test<R: Host + Files + Clone + Drop>(rt: &R, tally: &mut Tally) {
     match names(rt) {
         Ok(names) => {
@@ -20,6 +20,27 @@ pub fn test<R: Host + Files + Clone + Drop>(rt: &R, tally: &mut Tally) {
         }
         Err(_) => tally.note(rt, "data", "the folder is not read", false),
     }
+    let is_right = is_refused(rt, rt.alloc()) == Ok(true);
+    tally.note(rt, "replay", "a line that is no text", is_right);
+}
+
+const NO_TEXT: &[u8] = b"[\"zedbuf\",1,\"ab\",[1,2]]\n[\"text\",\xff\n";
+
+// Whether the line that is no text is named.
+fn is_refused<R: Threads + Wait + Sync>(rt: &R, alloc: Global) -> Result<bool, OutOfMemory> {
+    let ends = Ends { status: 5, ..AMPLE };
+    let run = Run {
+        words: "replay",
+        input: NO_TEXT,
+        ends,
+    };
+    comes_to(
+        rt,
+        alloc,
+        &Passing,
+        run,
+        Wanted::Bytes(b"session line 2: json\n"),
+    )
 }
 
 fn names<R: Files + AllocGlobal + Clone + Drop>(rt: &R) -> io::Result<Vec<String>> {
