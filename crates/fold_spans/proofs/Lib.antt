@@ -1,0 +1,14 @@
+pub mod Local
+pub mod Kept
+pub mod Fitting
+pub mod WindowsFit
+pub mod BackAgain
+pub mod BySpan
+pub mod Thrice
+pub mod Sums
+pub mod Stops
+pub mod Touches
+pub mod Sweeping
+pub mod Homes
+pub mod Converts
+pub mod Rows
