@@ -293,8 +293,8 @@ const STEPS: u32 = 80;
 
 const SEEDS: u64 = 4;
 
-// The next of a row of numbers that look as if drawn by chance.
-fn next(x: u64) -> u64 {
+/// The next of a row of numbers that look as if drawn by chance.
+pub(crate) fn next(x: u64) -> u64 {
     x.wrapping_mul(6364136223846793005)
         .wrapping_add(1442695040888963407)
 }
@@ -376,6 +376,37 @@ fn plays_drawn(alloc: Global, group: &mut [Replica], seed: u64) -> Result<bool, 
         right = draws(alloc, group, x)? && right;
     }
     Ok(come_together(alloc, group)? && right)
+}
+
+/// Copies of the operations that a buffer has applied, without the base.
+pub(crate) fn copies(alloc: Global, buffer: &Buffer) -> Result<Vec<Operation>, OutOfMemory> {
+    let mut ops = Vec::new(alloc);
+    for i in 1..buffer.applied().len() {
+        if let Some(applied) = buffer.applied().get(i) {
+            ops.push(applied.op().copy(alloc)?)?;
+        }
+    }
+    Ok(ops)
+}
+
+fn operations_of(
+    alloc: Global,
+    group: &mut [Replica],
+    seed: u64,
+) -> Result<Vec<Operation>, OutOfMemory> {
+    let _right = plays_drawn(alloc, group, seed)?;
+    match group.first() {
+        Some(replica) => copies(alloc, &replica.buffer),
+        None => Ok(Vec::new(alloc)),
+    }
+}
+
+/// The operations that three replicas make of drawn acts, in an order in which they may be taken.
+pub(crate) fn drawn_operations(alloc: Global, seed: u64) -> Result<Vec<Operation>, OutOfMemory> {
+    match group(alloc) {
+        Ok(mut group) => operations_of(alloc, group.as_mut_slice(), seed),
+        Err(_) => Ok(Vec::new(alloc)),
+    }
 }
 
 fn holds_drawn(alloc: Global, seed: u64) -> Result<bool, OutOfMemory> {

@@ -50,6 +50,8 @@ mod steps;
 #[cfg(test)]
 mod trees;
 #[cfg(test)]
+mod turned;
+#[cfg(test)]
 mod undo_counts;
 #[cfg(test)]
 mod undos;
