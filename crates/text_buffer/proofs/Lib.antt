@@ -12,7 +12,7 @@ pub mod Turns
 pub mod Settles
 pub mod Leaves
 pub mod OnWay
-pub mod Partly
+pub mod Stopped
 pub mod Standing
 pub mod Alike
 pub mod Costs

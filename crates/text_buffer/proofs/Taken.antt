@@ -1,44 +1,21 @@
--- What is known once a taken operation is applied and the buffer has settled, or an allocation failed.
-use Rattle.std.proofs.Common.{◌≡◌, ℕ, suc, ◌-◌, ◌≤◌, List, [], ◌∷◌, ◌++◌, length, drop, sym, ap, subst, ◌∙◌, arith, None, Result, Ok, Err}
-use Rattle.std.specs.List.{AllByRecursion}
+-- What is known once a taken operation is applied and the buffer has settled.
+use Rattle.std.proofs.Common.{◌≡◌, ℕ, suc, ◌-◌, ◌≤◌, [], ◌∷◌, ◌++◌, length, ap, ◌∙◌, arith, None, Result, Ok, Err}
 use Rattle.std.specs.Result.{OnErr}
-use Rattle.std.proofs.lemmas.List.{append_assoc, length-append}
-use Rattle.std.proofs.Math.Seq.{drop-append_seam}
+use Rattle.std.proofs.lemmas.List.{length-append}
 use Rattle.op_model.specs.declared.operation.Operation.{Operation}
 use Rattle.op_model.specs.declared.endings.Endings.TheVariants.{AsIs}
 use Rattle.op_model.specs.Rules.{answer_under}
-use Rattle.op_model.specs.Operations.{stamp_of}
-use Rattle.op_model.specs.Histories.{operation_at}
 use Rattle.op_model.specs.Settled.{full_fault}
 use Rattle.op_model.specs.Steps.{ask_limits, or_full}
 use Rattle.op_model.specs.Answers.{Answer, answer}
 use Rattle.op_model.specs.Answers.Answer.{Good}
-use Rattle.op_model.proofs.answers.Passed.{passed}
 use Rattle.op_model.proofs.answers.Under.{under_good}
 use Rattle.op_model.proofs.settling.Passes.{settling_grows}
-use Rattle.op_model.proofs.settling.Waiting.{not_waiting}
-use Rattle.text_buffer.specs.Buffer.{BufferState, IsPartly, answer_to, after_apply, after_settle, new_operations, rules}
+use Rattle.text_buffer.specs.Buffer.{BufferState, answer_to, after_apply, after_settle, rules}
 use Rattle.text_buffer.specs.declared.outcomes.Took.TheVariants as took
 
 pub more_applied : (b : BufferState) (op : Operation) → suc (length b.history) ≤ length (after_settle (after_apply b op)).history
 more_applied b op = let n = settling_grows (rules b) (b.history ++ op ∷ []) b.waiting in let m = length-append b.history (op ∷ []) in omega arith
-
--- ---- where an allocation failed
-
-pub one_applied : (b n : BufferState) (op : Operation) → answer b.history b.waiting op ≡ Good → IsPartly (after_apply b op) n → IsPartly b n
-one_applied b n op g p =
-    let more : List Operation = new_operations (after_apply b op) n in
-    let whole : n.history ≡ b.history ++ op ∷ more = p.prefix ∙ append_assoc b.history (op ∷ []) more in
-    let new : new_operations b n ≡ op ∷ more = ap (drop (length b.history)) whole ∙ drop-append_seam b.history (op ∷ more) in
-    record {
-      lawful = p.lawful;
-      prefix = whole ∙ ap (λ (m : List Operation). b.history ++ m) (sym new);
-      applied = subst (AllByRecursion (λ (o : Operation). operation_at n.waiting (stamp_of o) ≡ None)) (sym new)
-          (p.waiting (stamp_of op) (not_waiting b.history b.waiting op (passed b.history b.waiting op g).fresh), p.applied);
-      waiting = p.waiting;
-      replica = p.replica;
-      limits = p.limits;
-    }
 
 -- an operation that is good under the rules is good
 pub plain_good : (b : BufferState) (op : Operation) → answer_under AsIs b.history b.waiting op ≡ Good → answer b.history b.waiting op ≡ Good

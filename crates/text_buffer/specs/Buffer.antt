@@ -1,5 +1,5 @@
 -- What contracts see of a buffer, the faults that edits and undos meet, what they make, and the answer to a taken operation.
-use Rattle.std.specs.Prelude.{◌≡◌, ◌⊎◌, ℕ, ◌≤◌, ◌-◌, ◌^◌, Bool, true, false, List, [], ◌∷◌, ◌++◌, length, drop, nat_lt, Option, None, Some}
+use Rattle.std.specs.Prelude.{◌≡◌, ℕ, ◌≤◌, ◌-◌, ◌^◌, Bool, true, false, List, [], ◌∷◌, ◌++◌, length, nat_lt, Option, None, Some}
 use Rattle.std.specs.List.{AllByRecursion}
 use Rattle.op_model.specs.declared.operation.Piece.{Piece}
 use Rattle.op_model.specs.declared.operation.Operation.{Operation}
@@ -14,11 +14,10 @@ use Rattle.lamport_clock.specs.declared.stamp.Lamport.{Lamport}
 use Rattle.lamport_clock.specs.Versions.{within}
 use Rattle.op_model.specs.Sorted.{Ascending}
 use Rattle.op_model.specs.Choice.{when}
-use Rattle.op_model.specs.Operations.{stamp_of, version_of, last_replica}
-use Rattle.op_model.specs.Histories.{base, version, bytes_held, entries_held, operation_at}
+use Rattle.op_model.specs.Operations.{version_of, last_replica}
+use Rattle.op_model.specs.Histories.{base, version, bytes_held, entries_held}
 use Rattle.op_model.specs.Answers.{Answer}
 use Rattle.op_model.specs.Answers.Answer.{Good, Repeat, Waits, Refused}
-use Rattle.op_model.specs.Lawful.{Lawful}
 use Rattle.op_model.specs.Settled.{State}
 use Rattle.op_model.specs.Steps.{older, take_answer, take_step, settle_step, growth, Step, step, run}
 use Rattle.op_model.specs.Made.{local_edit as made_at, local_undo as made_undo_at, local_edit_fault, local_undo_fault}
@@ -133,33 +132,6 @@ is_taken_in (Refused f) = false
 -- each operation that waits misses a cause
 abbrev pub AllMiss : BufferState → Type 0
 AllMiss b = AllByRecursion (λ (op : Operation). within (version_of op) (version b.history) ≡ false) b.waiting
-
--- the operations that were applied from one buffer to the next
-abbrev pub new_operations : BufferState → BufferState → List Operation
-new_operations b n = drop (length b.history) n.history
-
--- an allocation failed while a buffer settled: some operations were applied, each good at its turn; none of these waits, and
--- nothing waits that did not wait before
-pub record IsPartly (b n : BufferState) : Type 0 where
-  pub lawful : Lawful n.history
-  pub prefix : n.history ≡ b.history ++ new_operations b n
-  pub applied : AllByRecursion (λ (op : Operation). operation_at n.waiting (stamp_of op) ≡ None) (new_operations b n)
-  pub waiting : (t : Lamport) → operation_at b.waiting t ≡ None → operation_at n.waiting t ≡ None
-  pub replica : n.replica ≡ b.replica
-  pub limits : n.limits ≡ b.limits
-
--- calls brought b to n: each did what its step says; or it was one call, in whose settling an allocation failed
-abbrev pub AreCalled : BufferState → BufferState → Type 0
-AreCalled b n = ((cs : List Step) × (n ≡ after_calls cs b)) ⊎ IsPartly b n
-
--- calls brought b to n by way of the states between
-abbrev pub Leads : BufferState → List BufferState → BufferState → Type 0
-Leads b [] n = AreCalled b n
-Leads b (m ∷ between) n = AreCalled b m × Leads m between n
-
--- calls brought b to n, whatever calls, and in whichever of them allocations failed
-abbrev pub Reaches : BufferState → BufferState → Type 0
-Reaches b n = (between : List BufferState) × Leads b between n
 
 -- what is true of every buffer
 pub record IsBuffer (b : BufferState) : Type 0 where

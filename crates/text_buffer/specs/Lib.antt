@@ -5,6 +5,7 @@ pub mod Costs
 pub mod DocumentInside
 pub mod BufferInside
 pub mod Settling
+pub mod Calls
 pub mod SnapshotLaws
 pub mod BaseInside
 pub mod EditResult

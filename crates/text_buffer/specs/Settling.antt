@@ -13,7 +13,7 @@ use Rattle.op_model.specs.Settled.Turn.{Append, Drop, Stay, Refuse}
 use Rattle.op_model.specs.Stopped.{stopped_pass}
 use Rattle.op_model.specs.Steps.{ask_limits, without}
 use Rattle.deferred_ops.specs.Deferred.{least_ready}
-use Rattle.text_buffer.specs.Buffer.{BufferState, answer_to, after_apply, rules, state, with_state}
+use Rattle.text_buffer.specs.Buffer.{BufferState, after_apply, rules, state, with_state}
 
 -- what a turn of op makes
 abbrev pub after_turn : Turn → Operation → State → State
@@ -77,7 +77,3 @@ IsStoppedPass b n = (k : ℕ) × (n ≡ with_state (stopped_pass k (rules b) (st
 -- settling was stopped, in its first pass or in its second
 abbrev pub IsStoppedSettling : BufferState → BufferState → Type 0
 IsStoppedSettling b n = IsStoppedPass b n ⊎ IsStoppedPass (after_pass b) n
-
--- an allocation failed while an operation was taken: the buffer is as before, or the operation is applied and settling was stopped
-abbrev pub IsTakenPartly : Operation → BufferState → BufferState → Type 0
-IsTakenPartly op b n = (n ≡ b) ⊎ ((answer_to b op ≡ Good) × IsStoppedSettling (after_apply b op) n)

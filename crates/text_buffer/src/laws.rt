@@ -1,7 +1,10 @@
-//! Laws of what snapshots answer, shown by functions that do nothing.
+//! Laws of what snapshots answer, and of calls that were stopped, shown by functions that do nothing.
 ghost use Rattle.std.specs.Prelude.{◌≡◌};
 ghost use Rattle.op_model.specs.Histories.{SameSet};
-ghost use Rattle.text_buffer.specs.Buffer.{BufferState, Reaches};
+ghost use Rattle.op_model.specs.Steps.{Step};
+ghost use Rattle.op_model.specs.Stopped.{AreAlike};
+ghost use Rattle.text_buffer.specs.Buffer.{BufferState, IsBuffer, after_call, after_settle, state};
+ghost use Rattle.text_buffer.specs.Calls.{AreStopped, IsPartly, IsStopped, Reaches};
 ghost use Rattle.text_buffer.specs.Document.{IsFront};
 ghost use Rattle.text_buffer.specs.SnapshotLaws.{AnchorsStay, AnswerAlike, EditsMakeTheText};
 
@@ -36,3 +39,16 @@ pub fn edits_make_the_text(snapshot: &Snapshot)
 {
     snapshot.known();
 }
+
+/// Whatever call was stopped by a failed allocation while it settled, and however many calls of `settle` after it, settling ends as that
+/// call would have ended if no allocation had failed: the same operations are applied, in the same order, the same ones wait, and each stamp
+/// is refused as often.
+pub fn stopped_calls_go_on()
+    ensures { (c : Step) → (b n : BufferState) → IsBuffer b → AreStopped c b n
+        → AreAlike (state (after_call c b)) (state (after_settle n)) }
+{}
+
+/// What a stopped call applied stays applied, after what was applied before, and waits no longer; nothing waits that did not wait before.
+pub fn stopped_calls_apply_partly()
+    ensures { (c : Step) → (b n : BufferState) → IsBuffer b → IsStopped c b n → IsPartly b n }
+{}

@@ -41,7 +41,10 @@ pub use base::Base;
 pub use buffer::{Buffer, agree};
 pub use edits_since::Edits;
 pub use faults::NewFault;
-pub use laws::{anchors_stay, edits_make_the_text, snapshots_answer_alike};
+pub use laws::{
+    anchors_stay, edits_make_the_text, snapshots_answer_alike, stopped_calls_apply_partly,
+    stopped_calls_go_on,
+};
 pub use op_model::{
     Anchor, Bias, EditFault, Limits, OpFault, OutOfMemory, PlaceFault, SinceFault, TextEdit,
     UndoFault, Unit,

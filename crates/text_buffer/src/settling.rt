@@ -2,11 +2,14 @@
 ghost use Rattle.std.specs.Prelude.{◌≡◌, IfOk, OnErr, OnOk, option_map};
 ghost use Rattle.op_model.specs.Domains.{IsProper};
 ghost use Rattle.op_model.specs.Operations.{stamp_of};
+ghost use Rattle.op_model.specs.Steps.{Step};
 ghost use Rattle.op_model.specs.Steps.Step.{Settles};
+ghost use Rattle.op_model.specs.Stopped.{AreAlike};
 ghost use Rattle.op_answers.specs.Verdicts.{answer_of};
 ghost use Rattle.text_buffer.specs.Outcomes.{pair_of};
-ghost use Rattle.text_buffer.specs.Buffer.{AllMiss, IsBuffer, IsPartly, after_call, number_applied, after_settle};
-ghost use Rattle.text_buffer.specs.Settling.{IsStoppedPass, IsStoppedSettling, after_answer, after_pass, next_ready, turn_answer, after_next_turn, with_refusal, without_waiting};
+ghost use Rattle.text_buffer.specs.Buffer.{AllMiss, BufferState, IsBuffer, after_call, number_applied, after_settle, state};
+ghost use Rattle.text_buffer.specs.Calls.{AreStopped, IsStopped};
+ghost use Rattle.text_buffer.specs.Settling.{IsStoppedPass, after_answer, after_pass, next_ready, turn_answer, after_next_turn, with_refusal, without_waiting};
 
 use crate::{Buffer, OutOfMemory, Refused};
 use deferred_ops::Deferred;
@@ -21,13 +24,16 @@ impl Buffer {
     ///
     /// # Errors
     ///
-    /// `OutOfMemory` if an allocation fails. What was applied by then stays applied, and a later call goes on.
+    /// `OutOfMemory` if an allocation fails. What was applied by then stays applied, and a later call goes on: once one returns
+    /// `Ok`, the same operations are applied, in the same order, and the same ones wait as if no allocation had failed. The same ones
+    /// are refused, but the refused list may have another order and other faults.
     pub fn settle(&mut self) -> Result<u64, OutOfMemory>
         ensures new { OnOk result (self.new ≡ after_settle self.old) }
         ensures applied { IfOk result (λ n. n ≡ number_applied self.old self.new) }
         ensures waiting { OnOk result (AllMiss self.new) }
-        ensures want { OnErr result (IsPartly self.old self.new) }
-        ensures stopped { OnErr result (IsStoppedSettling self.old self.new) }
+        ensures stopped { OnErr result (IsStopped Settles self.old self.new) }
+        ensures goes_on { OnOk result ((c : Step) → (b : BufferState) → IsBuffer b
+            → AreStopped c b self.old → AreAlike (state (after_call c b)) (state self.new)) }
         ensures step { OnOk result (self.new ≡ after_call Settles self.old) }
     {
         let before = self.document.operations().len();
@@ -43,7 +49,7 @@ impl Buffer {
     // One pass over what waits.
     fn pass(&mut self) -> Result<(), OutOfMemory>
         ensures ok { OnOk result (self.new ≡ after_pass self.old) }
-        ensures want { OnErr result (IsStoppedPass self.old self.new) }
+        ensures stopped { OnErr result (IsStoppedPass self.old self.new) }
     {
         let mut after = None;
         while let Some(stamp) = self.next_turn(after)? {

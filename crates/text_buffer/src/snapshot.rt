@@ -2,7 +2,8 @@
 ghost use Rattle.std.specs.Prelude.{◌≡◌, IfOk};
 ghost use Rattle.op_model.specs.Histories.{SameSet, version};
 ghost use Rattle.op_model.specs.Shown.{text};
-ghost use Rattle.text_buffer.specs.Buffer.{BufferState, Reaches};
+ghost use Rattle.text_buffer.specs.Buffer.{BufferState};
+ghost use Rattle.text_buffer.specs.Calls.{Reaches};
 ghost use Rattle.text_buffer.specs.Document.{IsFront, IsBufferHistory};
 
 use crate::document::Document;

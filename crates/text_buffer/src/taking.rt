@@ -9,8 +9,8 @@ ghost use Rattle.op_model.specs.Steps.{older};
 ghost use Rattle.op_model.specs.Steps.Step.{Takes};
 ghost use Rattle.op_answers.specs.Verdicts.{answer_of};
 ghost use Rattle.text_buffer.specs.Outcomes.{pair_of};
-ghost use Rattle.text_buffer.specs.Settling.{IsTakenPartly};
-ghost use Rattle.text_buffer.specs.Buffer.{AllMiss, IsPartly, after_call, answer_to, is_taken_in, number_applied, after_take, rules, took_of};
+ghost use Rattle.text_buffer.specs.Buffer.{AllMiss, after_call, answer_to, is_taken_in, number_applied, after_take, rules, took_of};
+ghost use Rattle.text_buffer.specs.Calls.{IsStopped};
 
 use crate::{Buffer, OutOfMemory, Refused, Took};
 use applied_ops::Applied;
@@ -47,7 +47,7 @@ impl Buffer {
     /// `NoSuchEdit` (a count of no edit that the operation has seen), then `Full` where bytes, then entries, pass their limit. The
     /// buffer is then as before, and the operation is dropped. `OutOfMemory` if an allocation fails, and only where there is none of
     /// these and no equal operation. The buffer is then as before, unless the operation was applied and an allocation failed while
-    /// settling: then what was applied stays applied, and a later `settle` goes on.
+    /// settling: then what was applied stays applied, and a later `settle` goes on, as is said there.
     pub fn take(&mut self, op: Operation) -> Result<Took, OpFault>
         ensures ok { IfOk result (λ t. took_of (number_applied self.old self.new)
             (answer_to self.old op) ≡ Some t) }
@@ -57,8 +57,8 @@ impl Buffer {
         ensures fault { IfErr result (λ e. (answer_to self.old op ≡ refused e)
             ⊎ ((is_taken_in (answer_to self.old op) ≡ true) × (e ≡ OpFault.OutOfMemory))) }
         ensures err { OnErr result ((self.new ≡ self.old) ⊎ (answer_to self.old op ≡ Good)) }
-        ensures want { OnErr result (IsPartly self.old self.new) }
-        ensures stopped { OnErr result (IsTakenPartly op self.old self.new) }
+        ensures stopped { OnErr result ((self.new ≡ self.old)
+            ⊎ IsStopped (Takes op) self.old self.new) }
         ensures step { OnOk result (self.new ≡ after_call (Takes op) self.old) }
         ensures refused { IfErr result (λ e. (self.new ≡ after_call (Takes op) self.old)
             ⊎ (e ≡ OpFault.OutOfMemory)) }
@@ -94,8 +94,8 @@ impl Buffer {
         ensures fault { IfErr result (λ e. (answer_to self.old op ≡ refused e)
             ⊎ ((is_taken_in (answer_to self.old op) ≡ true) × (e ≡ OpFault.OutOfMemory))) }
         ensures err { OnErr result ((self.new ≡ self.old) ⊎ (answer_to self.old op ≡ Good)) }
-        ensures want { OnErr result (IsPartly self.old self.new) }
-        ensures stopped { OnErr result (IsTakenPartly op self.old self.new) }
+        ensures stopped { OnErr result ((self.new ≡ self.old)
+            ⊎ IsStopped (Takes op) self.old self.new) }
         ensures step { OnOk result (self.new ≡ after_call (Takes op) self.old) }
         ensures refused { IfErr result (λ e. (self.new ≡ after_call (Takes op) self.old)
             ⊎ (e ≡ OpFault.OutOfMemory)) }

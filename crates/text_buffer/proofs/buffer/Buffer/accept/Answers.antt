@@ -1,9 +1,11 @@
-use Rattle.std.proofs.Common.{inr, sym, ◌∙◌, ap, subst, length}
+use Rattle.std.proofs.Common.{◌≡◌, ◌⊎◌, inr, sym, ◌∙◌, ap, subst, length}
 use Rattle.op_model.proofs.settling.Settling.{good_alone}
 use Rattle.op_model.proofs.histories.Growing.{shape_of}
-use Rattle.text_buffer.specs.Buffer.{BufferState, AllMiss, IsPartly, after_settle}
-use Rattle.text_buffer.specs.Settling.{IsStoppedSettling, IsTakenPartly}
-use Rattle.text_buffer.proofs.Taken.{answer_good, one_applied, plain_good, not_less, says, on_err}
+use Rattle.op_model.specs.Steps.Step.{Takes}
+use Rattle.text_buffer.specs.Buffer.{BufferState, AllMiss, after_settle}
+use Rattle.text_buffer.specs.Calls.{IsStopped}
+use Rattle.text_buffer.specs.Settling.{IsStoppedSettling}
+use Rattle.text_buffer.proofs.Taken.{answer_good, plain_good, not_less, says, on_err}
 use Rattle.text_buffer.proofs.buffer.Buffer.accept.Goals as goal
 
 pub full-requires : goal.full-requires
@@ -11,10 +13,6 @@ full-requires c = shape_of c.args.self.now.history c.args.self.now.waiting c.arg
 
 pub apply-requires-clause-good : goal.apply-requires-clause-good
 apply-requires-clause-good c = good_alone c.args.self.now.history c.args.self.now.waiting c.args.op (plain_good c.args.self.now c.args.op c.requires)
-
-pub returns-in_err-settle-clause-want : goal.returns-in_err-settle-clause-want
-returns-in_err-settle-clause-want c = on_err c.from_residual-in_err-settle.result (IsPartly c.args.self.now c.settle.new.self)
-    (one_applied c.args.self.now c.settle.new.self c.args.op (plain_good c.args.self.now c.args.op c.requires) (subst (λ (b : BufferState). IsPartly b c.settle.new.self) c.in_ok-apply.ensures.ok c.in_err-settle.ensures.want))
 
 pub overflow_sub-result : goal.overflow_sub-result
 overflow_sub-result c = not_less c.args.self.now c.args.op c.len-before.result c.len.result
@@ -28,5 +26,5 @@ returns-clause-applied c = says c.args.self.now c.args.op c.len-before.result c.
     (AllMiss c.settle.new.self) c.in_ok-settle.ensures.waiting
 
 pub returns-in_err-settle-clause-stopped : goal.returns-in_err-settle-clause-stopped
-returns-in_err-settle-clause-stopped c = on_err c.from_residual-in_err-settle.result (IsTakenPartly c.args.op c.args.self.now c.settle.new.self)
+returns-in_err-settle-clause-stopped c = on_err c.from_residual-in_err-settle.result ((c.settle.new.self ≡ c.args.self.now) ⊎ IsStopped (Takes c.args.op) c.args.self.now c.settle.new.self)
     (inr (answer_good c.args.self.now c.args.op c.requires (sym c.in_default.ensures.fault), subst (λ (b : BufferState). IsStoppedSettling b c.settle.new.self) c.in_ok-apply.ensures.ok c.in_err-settle.ensures.stopped))

@@ -1,12 +1,8 @@
 use Rattle.std.proofs.Common.{sym, subst, ap, length, ◌∙◌}
-use Rattle.text_buffer.specs.Buffer.{BufferState, AllMiss, IsPartly}
-use Rattle.text_buffer.specs.Settling.{IsStoppedPass}
-use Rattle.text_buffer.proofs.Taken.{on_err}
-use Rattle.text_buffer.proofs.Partly.{up, lawful, after_one, after_two, no_shorter, all_miss, stopped_partly, stopped_later}
+use Rattle.text_buffer.specs.Buffer.{AllMiss}
+use Rattle.text_buffer.proofs.Settles.{after_one, after_two, no_shorter, all_miss}
+use Rattle.text_buffer.proofs.Stopped.{settled_goes_on}
 use Rattle.text_buffer.proofs.buffer.Buffer.settle.Goals as goal
-
-pub returns-in_err-pass-clause-want : goal.returns-in_err-pass-clause-want
-returns-in_err-pass-clause-want c = on_err c.from_residual.result (IsPartly c.args.self.now c.pass.new.self) (stopped_partly c.args.self.now c.pass.new.self (lawful c.self.inside c.args.self.now c.self.invariant c.self.view_is) (up c.self.inside c.args.self.now c.self.invariant c.self.view_is) c.in_err-pass.ensures.want)
 
 pub returns-then-len-before-clause-new : goal.returns-then-len-before-clause-new
 returns-then-len-before-clause-new c = after_one c.self.inside c.self-2.inside c.args.self.now c.pass.new.self c.len-before.result c.len.result c.self.invariant c.self.view_is c.self-2.view_is
@@ -14,10 +10,6 @@ returns-then-len-before-clause-new c = after_one c.self.inside c.self-2.inside c
 
 pub returns-then-len-before-clause-waiting : goal.returns-then-len-before-clause-waiting
 returns-then-len-before-clause-waiting c = subst AllMiss (sym (returns-then-len-before-clause-new c)) (all_miss c.args.self.now)
-
-pub returns-in_err-pass-2-clause-want : goal.returns-in_err-pass-2-clause-want
-returns-in_err-pass-2-clause-want c = on_err c.from_residual-in_err-pass-2.result (IsPartly c.args.self.now c.pass-2.new.self) (stopped_later c.args.self.now c.pass-2.new.self (lawful c.self.inside c.args.self.now c.self.invariant c.self.view_is) (up c.self.inside c.args.self.now c.self.invariant c.self.view_is)
-    (subst (λ (b : BufferState). IsStoppedPass b c.pass-2.new.self) c.in_ok-pass.ensures.ok c.in_err-pass-2.ensures.want))
 
 pub overflow_sub-result : goal.overflow_sub-result
 overflow_sub-result c = no_shorter c.self.inside c.self-3.inside c.args.self.now c.pass.new.self c.pass-2.new.self c.len-before.result c.len-2.result c.self.invariant c.self.view_is c.self-3.view_is
@@ -35,3 +27,9 @@ returns-then-len-before-clause-step c = returns-then-len-before-clause-new c
 
 pub returns-clause-step : goal.returns-clause-step
 returns-clause-step c = returns-clause-new c
+
+pub returns-then-len-before-clause-goes_on : goal.returns-then-len-before-clause-goes_on
+returns-then-len-before-clause-goes_on c = settled_goes_on c.args.self.now c.pass.new.self (returns-then-len-before-clause-new c)
+
+pub returns-clause-goes_on : goal.returns-clause-goes_on
+returns-clause-goes_on c = settled_goes_on c.args.self.now c.pass-2.new.self (returns-clause-new c)
