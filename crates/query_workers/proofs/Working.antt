@@ -90,7 +90,7 @@ if_some f (Ok v) P h = h
 if_some f (Err e) P h = tt
 
 module _ {Q A : Type 0} (plain : Q → List Operation → A) where
-  -- a job was taken, and answered unless memory was missed
+  -- a job was taken, and answered unless an allocation failed
   pub work_more : (v w : Log Q) (readers news : List ReaderState) (answers more : List (Answer Q A)) (j : Job Q) (failed fails : Bool)
       → w ≡ log v.sends true v.sent (v.taken ++ entry.Job j ∷ []) v.readers → IsOpen v.taken → pairs_of readers ≡ pairs_of v.readers → pairs_of news ≡ pairs_of readers
       → (fails ≡ false → failed ≡ false) → (fails ≡ false → (asks : List (Ask Q)) → HasAnswered plain asks readers answers → HasAnswered plain (asks ++ ask_of j ∷ []) news more)

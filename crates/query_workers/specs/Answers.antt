@@ -36,7 +36,7 @@ pub record HasAnswered {Q A : Type 0} (plain : Q → List Operation → A) (asks
   pub never_fewer : AllPairs NeverFewer answers
   pub known : All (IsKnown readers) answers
 
--- a worker took jobs up to the end mark, and answered each of them, unless it missed memory
+-- a worker took jobs up to the end mark, and answered each of them, unless an allocation failed
 pub record HasWorked {Q A : Type 0} (plain : Q → List Operation → A)
     (desk : DeskState) (done : DoneState Q A) : Type 0 where
   pub queue : done.queue ≡ desk.queue

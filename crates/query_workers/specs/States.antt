@@ -17,7 +17,7 @@ pub record DeskState : Type 0 where
   pub queue : TableId
   pub readers : List ReaderState
 
--- its queue; what was taken; its readers; its answers, unless it missed memory for one
+-- its queue; what was taken; its readers; its answers, unless an allocation failed
 pub record DoneState (Q A : Type 0) : Type 0 where
   pub queue : TableId
   pub taken : List (Entry Q)

@@ -14,7 +14,7 @@ use snapshot_pub::SnapReader;
 ///
 /// # Errors
 ///
-/// `OutOfMemory` alone: the worker missed memory for an answer.
+/// `OutOfMemory` alone: an allocation of the worker failed.
 pub fn collect<Q: Query<A> + Drop, A: Drop>(
     inbox: Inbox<Q>,
     done: Done<Q, A>,

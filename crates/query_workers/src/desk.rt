@@ -49,7 +49,7 @@ impl<Q> Model for Inbox<Q> {
     ghost invariant = { IsSending };
 }
 
-/// What a worker gives back: its answers, in the order of its jobs; where it missed memory for one, none of them. Contracts see
+/// What a worker gives back: its answers, in the order of its jobs; none of them if an allocation failed. Contracts see
 /// which queue it worked on, what it took, its readers and the answers.
 #[derive(Drop)]
 pub struct Done<Q, A> {

@@ -1,5 +1,5 @@
 //! A worker.
-ghost use Rattle.std.specs.Prelude.{◌≡◌, false, [], ◌∷◌, ◌++◌, List, IfOk, OnOk};
+ghost use Rattle.std.specs.Prelude.{◌≡◌, false, true, [], ◌∷◌, ◌++◌, List, IfOk, OnOk};
 ghost use Rattle.text_buffer.specs.Document.{IsFront};
 ghost use Rattle.query_workers.specs.Queue.{IsFor, pairs_of};
 ghost use Rattle.query_workers.specs.Asks.{Ask, ask_of};
@@ -18,7 +18,8 @@ use std::sync::Wait;
 use std::thread;
 use std::thread::Threads;
 
-/// Takes jobs in their order, and answers each, until the end mark.
+/// Takes jobs in their order until the end mark, and answers each. After a failed allocation it takes the others and answers none of
+/// them; the gate is called for each job all the same.
 pub(crate) fn work<R: Threads + Wait + Sync, G: Gate, Q: Query<A> + Drop, A: Drop>(
     rt: &R,
     alloc: Global,
@@ -70,7 +71,8 @@ fn answers_or_failure<Q: Drop, A: Drop>(
     }
 }
 
-// Answers one job more. Whether memory was missed, now or before.
+// Answers one job more, unless an allocation failed for an earlier one: then the job is dropped, since no answer is handed on.
+// Returns whether an allocation failed, now or before.
 fn answer_also<R: Threads + Wait + Sync, Q: Query<A> + Drop, A: Drop>(
     rt: &R,
     alloc: Global,
@@ -82,12 +84,17 @@ fn answer_also<R: Threads + Wait + Sync, Q: Query<A> + Drop, A: Drop>(
     requires own { IsFor readers.old.items (Entry.Job job) }
     ensures pairs { pairs_of readers.new.items ≡ pairs_of readers.old.items }
     ensures failed { result ≡ false → failed ≡ false }
+    ensures dropped { failed ≡ true → (result ≡ true)
+        × (readers.new.items ≡ readers.old.items) × (answers.new.items ≡ answers.old.items) }
     ensures answered { result ≡ false → (asks : List (Ask Q))
         → HasAnswered Q.plain asks readers.old.items answers.old.items
         → HasAnswered Q.plain (asks ++ ask_of job ∷ []) readers.new.items answers.new.items }
 {
+    if failed {
+        return true;
+    }
     match answer_in(rt, alloc, readers, job, answers) {
-        Ok(()) => failed,
+        Ok(()) => false,
         Err(_) => true,
     }
 }
