@@ -56,7 +56,6 @@ impl Buffer {
             → (1 ≤ n) × AllMiss self.new) }
         ensures fault { IfErr result (λ e. (answer_to self.old op ≡ refused e)
             ⊎ ((is_taken_in (answer_to self.old op) ≡ true) × (e ≡ OpFault.OutOfMemory))) }
-        ensures err { OnErr result ((self.new ≡ self.old) ⊎ (answer_to self.old op ≡ Good)) }
         ensures stopped { OnErr result ((self.new ≡ self.old)
             ⊎ IsStopped (Takes op) self.old self.new) }
         ensures step { OnOk result (self.new ≡ after_call (Takes op) self.old) }
@@ -93,7 +92,6 @@ impl Buffer {
             → (1 ≤ n) × AllMiss self.new) }
         ensures fault { IfErr result (λ e. (answer_to self.old op ≡ refused e)
             ⊎ ((is_taken_in (answer_to self.old op) ≡ true) × (e ≡ OpFault.OutOfMemory))) }
-        ensures err { OnErr result ((self.new ≡ self.old) ⊎ (answer_to self.old op ≡ Good)) }
         ensures stopped { OnErr result ((self.new ≡ self.old)
             ⊎ IsStopped (Takes op) self.old self.new) }
         ensures step { OnOk result (self.new ≡ after_call (Takes op) self.old) }
