@@ -15,6 +15,7 @@ mod queries;
 mod replay;
 mod replica;
 mod replicas;
+mod sure;
 mod top;
 mod traffic;
 
@@ -24,4 +25,5 @@ pub use memory::{MemSink, MemSource, SureSink, SureSource};
 pub use op_model::OutOfMemory;
 pub use outside::{Failed, Sink, Source};
 pub use query_workers::Gate;
+pub use sure::run_on_bytes;
 pub use top::{Status, run};

@@ -1,0 +1,45 @@
+//! The program on bytes in memory, where no read and no write fails.
+ghost use Rattle.std.specs.Prelude.{◌≡◌, ◌≤◌, ◌<◌, ◌⊎◌, ℕ, length, Ok, Err, Some, None};
+ghost use Rattle.command_words.specs.Words.{command_of};
+ghost use Rattle.command_words.specs.declared.command.Command.{Command};
+ghost use Rattle.command_words.specs.declared.command.Task.{Task};
+ghost use Rattle.session_lines.specs.Session.{session_of_text};
+ghost use Rattle.session_lines.specs.declared.session.Session.{Session};
+ghost use Rattle.session_lines.specs.declared.fault.DecodeFault.{DecodeFault};
+ghost use Rattle.session_replay.specs.Traffic.{session_limit};
+
+use crate::memory::{SureSink, SureSource};
+use crate::top::{Status, run};
+use query_workers::Gate;
+use std::alloc::Global;
+use std::sync::Wait;
+use std::thread::Threads;
+
+/// Runs the program on bytes, and drops what it writes. No read and no write fails, so the words and the bytes alone decide how it ends,
+/// unless an allocation fails.
+pub fn run_on_bytes<R: Threads + Wait + Sync, G: Gate>(
+    rt: &R,
+    alloc: Global,
+    words: &[String],
+    bytes: Vec<u8>,
+    gate: &G,
+) -> Status
+    // Words that are no command.
+    ensures usage { command_of words.now ≡ None
+        → (result ≡ Status.Usage) ⊎ (result ≡ Status.Memory) }
+    // A command and a session within the limits, or a command that reads none.
+    ensures completes { (task : Task) → command_of words.now ≡ Some (Command.Read task)
+        → length bytes.items ≤ session_limit
+        → (s : Session) → session_of_text bytes.items ≡ Ok s
+        → (result ≡ Status.Done) ⊎ (result ≡ Status.Memory) }
+    ensures made { (seed n edits : ℕ) → command_of words.now ≡ Some (Command.Make seed n edits)
+        → (result ≡ Status.Done) ⊎ (result ≡ Status.Memory) }
+    // A command, and bytes that are no session or too many.
+    ensures refuses { (task : Task) → command_of words.now ≡ Some (Command.Read task)
+        → (session_limit < length bytes.items)
+        ⊎ ((e : DecodeFault) × (session_of_text bytes.items ≡ Err e))
+        → (result ≡ Status.Session) ⊎ ((result ≡ Status.TooLarge) ⊎ (result ≡ Status.Memory)) }
+{
+    let mut src = SureSource::new(bytes);
+    run(rt, alloc, words, &mut src, &mut SureSink, gate)
+}
