@@ -9,11 +9,11 @@ use Rattle.op_model.specs.Sorted.{Ascending}
 use Rattle.op_model.specs.Operations.{stamp_of}
 use Rattle.op_model.specs.Histories.{operation_at}
 use Rattle.op_model.specs.Lawful.{Lawful}
-use Rattle.op_model.specs.Answers.{Answer, answer}
-use Rattle.op_model.specs.Answers.Answer.{Good, Repeat, Waits, Refused}
+use Rattle.op_model.specs.Answers.{answer}
+use Rattle.op_model.specs.Answers.Answer.{Good}
 use Rattle.op_model.specs.Settled.{State, pass, full_fault}
 use Rattle.op_model.specs.Stopped.{AreAlike, stopped_pass, stopped_settling}
-use Rattle.op_model.specs.Steps.{older, settle_step, with_applied, with_deferred, Step}
+use Rattle.op_model.specs.Steps.{older, Step}
 use Rattle.op_model.specs.Steps.Step.{Edits, Undoes, Takes, Settles, Forgets}
 use Rattle.op_model.proofs.histories.MoreLawful.{lawful_more}
 use Rattle.op_model.proofs.settling.Appending.{pass_longer}
@@ -29,7 +29,7 @@ use Rattle.text_buffer.specs.Settling.{after_pass, pass_step, IsStoppedPass, IsS
 use Rattle.text_buffer.proofs.Fronts.{front_trans}
 use Rattle.text_buffer.proofs.Leaves.{LeavesState, until_leaves, step_leaves, leaves_both}
 use Rattle.text_buffer.proofs.Settles.{after_pass_up}
-use Rattle.text_buffer.proofs.Taken.{plain_good}
+use Rattle.text_buffer.proofs.Taken.{plain_good, taken_good}
 
 -- ---- stops, one after the other
 
@@ -74,9 +74,6 @@ begun_up (Undoes ts) b k = k.waiting_ascending
 begun_up (Takes op) b k = k.waiting_ascending
 begun_up Settles b k = k.waiting_ascending
 begun_up (Forgets t) b k = k.waiting_ascending
-
-taken_good : (b : BufferState) (op : Operation) → answer_to b op ≡ Good → after_call (Takes op) b ≡ after_settle (after_apply b op)
-taken_good b op g = ap (λ (a : Answer). with_state (elim a [ Good ↦ settle_step (rules b) (with_applied op (state b)) | Repeat ↦ state b | Waits r v ↦ with_deferred op (state b) | Refused f ↦ state b ]) b) g
 
 -- the call would settle from there, and was stopped there
 begins : (c : Step) (b n : BufferState) → IsStopped c b n → (after_call c b ≡ after_settle (begun c b)) × IsStoppedSettling (begun c b) n

@@ -1,18 +1,21 @@
--- What is known once a taken operation is applied and the buffer has settled.
-use Rattle.std.proofs.Common.{◌≡◌, ℕ, suc, ◌-◌, ◌≤◌, [], ◌∷◌, ◌++◌, length, ap, ◌∙◌, arith, None, Result, Ok, Err}
+-- What a taken operation leaves.
+use Rattle.std.proofs.Common.{◌≡◌, ◌⊎◌, inl, inr, ℕ, suc, ◌≤◌, [], ◌∷◌, ◌++◌, length, ap, sym, subst, ◌∙◌, arith, None, Result, Ok, Err}
 use Rattle.std.specs.Result.{OnErr}
 use Rattle.std.proofs.lemmas.List.{length-append}
 use Rattle.op_model.specs.declared.operation.Operation.{Operation}
 use Rattle.op_model.specs.declared.endings.Endings.TheVariants.{AsIs}
 use Rattle.op_model.specs.Rules.{answer_under}
 use Rattle.op_model.specs.Settled.{full_fault}
-use Rattle.op_model.specs.Steps.{ask_limits, or_full}
+use Rattle.op_model.specs.Steps.Step.{Takes}
+use Rattle.op_model.specs.Steps.{ask_limits, or_full, settle_step, with_applied, with_deferred}
 use Rattle.op_model.specs.Answers.{Answer, answer}
-use Rattle.op_model.specs.Answers.Answer.{Good}
+use Rattle.op_model.specs.Answers.Answer.{Good, Repeat, Waits, Refused}
+use Rattle.op_model.specs.declared.faults.OpFault.{OpFault}
 use Rattle.op_model.proofs.answers.Under.{under_good}
 use Rattle.op_model.proofs.settling.Passes.{settling_grows}
-use Rattle.text_buffer.specs.Buffer.{BufferState, answer_to, after_apply, after_settle, rules}
-use Rattle.text_buffer.specs.declared.outcomes.Took.TheVariants as took
+use Rattle.text_buffer.specs.Buffer.{BufferState, AllMiss, answer_to, after_apply, after_settle, after_take, number_applied, rules, state, with_state}
+use Rattle.text_buffer.specs.Calls.{IsStopped}
+use Rattle.text_buffer.proofs.Settles.{all_miss}
 
 pub more_applied : (b : BufferState) (op : Operation) → suc (length b.history) ≤ length (after_settle (after_apply b op)).history
 more_applied b op = let n = settling_grows (rules b) (b.history ++ op ∷ []) b.waiting in let m = length-append b.history (op ∷ []) in omega arith
@@ -25,17 +28,29 @@ plain_good b op g = (under_good AsIs b.history b.waiting op g).0
 pub answer_good : (b : BufferState) (op : Operation) → answer_under AsIs b.history b.waiting op ≡ Good → full_fault (rules b) b.history op ≡ None → answer_to b op ≡ Good
 answer_good b op g f = ap (λ (a : Answer). ask_limits a (full_fault (rules b) b.history op)) g ∙ ap or_full f
 
--- ---- what `take` returns
+-- ---- what a taken operation leaves
 
-module _ (b : BufferState) (op : Operation) (h g : ℕ) (e : h ≡ length b.history) (f : g ≡ length (after_settle (after_apply b op)).history) where
-  pub counts_up : suc h ≤ g
-  counts_up = let m = more_applied b op in omega arith
+-- a good one is applied, and the buffer settles
+pub taken_good : (b : BufferState) (op : Operation) → answer_to b op ≡ Good → after_take b op ≡ after_settle (after_apply b op)
+taken_good b op g = ap (λ (a : Answer). with_state (elim a [ Good ↦ settle_step (rules b) (with_applied op (state b)) | Repeat ↦ state b | Waits r v ↦ with_deferred op (state b) | Refused f ↦ state b ]) b) g
 
-  pub not_less : h ≤ g
-  not_less = let m = counts_up in omega arith
+-- one that meets a fault is dropped
+pub refused_stays : (b n : BufferState) (op : Operation) (e : OpFault) → answer_to b op ≡ Refused e → (n ≡ b) ⊎ IsStopped (Takes op) b n → (n ≡ b) × (after_take b op ≡ b)
+refused_stays b n op e g (inl s) = (s, ap (λ (a : Answer). with_state (elim a [ Good ↦ settle_step (rules b) (with_applied op (state b)) | Repeat ↦ state b | Waits r v ↦ with_deferred op (state b) | Refused f ↦ state b ]) b) g)
+refused_stays b n op e g (inr s) = absurd (cc (sym s.0 ∙ g))
 
-  pub says : (P : Type 0) → P → (n : ℕ) → took.Applied (g - h) ≡ took.Applied n → (1 ≤ n) × P
-  says P p n q = let m = counts_up in let s : g - h ≡ n = cc in (omega arith, p)
+pub good_misses : (b : BufferState) (op : Operation) → answer_to b op ≡ Good → AllMiss (after_take b op)
+good_misses b op g = subst AllMiss (sym (taken_good b op g)) (all_miss (after_apply b op))
+
+pub good_counts : (b : BufferState) (op : Operation) → answer_to b op ≡ Good → 1 ≤ number_applied b (after_take b op)
+good_counts b op g =
+    let m = more_applied b op in
+    let e : length (after_take b op).history ≡ length (after_settle (after_apply b op)).history = ap (λ (n : BufferState). length n.history) (taken_good b op g) in
+    omega arith
+
+-- the buffer has no fewer operations once a good one is applied and it has settled
+pub not_less : (b : BufferState) (op : Operation) (h g : ℕ) → h ≡ length b.history → g ≡ length (after_settle (after_apply b op)).history → h ≤ g
+not_less b op h g e f = let m = more_applied b op in omega arith
 
 pub on_err : {T E : Type 0} (r : Result T E) (P : Type 0) → P → OnErr r P
 on_err (Ok x) P p = tt

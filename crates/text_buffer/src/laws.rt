@@ -1,9 +1,13 @@
-//! Laws of what snapshots answer, and of calls that were stopped, shown by functions that do nothing.
-ghost use Rattle.std.specs.Prelude.{◌≡◌};
+//! Laws of what snapshots answer, of calls that were stopped, and of what calls leave, shown by functions that do nothing.
+ghost use Rattle.std.specs.Prelude.{◌≡◌, ◌≤◌, ◌⊎◌};
+ghost use Rattle.op_model.specs.Answers.Answer.{Good, Refused as refused};
 ghost use Rattle.op_model.specs.Histories.{SameSet};
+ghost use Rattle.op_model.specs.declared.faults.OpFault.{OpFault};
+ghost use Rattle.op_model.specs.declared.operation.Operation.{Operation};
 ghost use Rattle.op_model.specs.Steps.{Step};
+ghost use Rattle.op_model.specs.Steps.Step.{Takes};
 ghost use Rattle.op_model.specs.Stopped.{AreAlike};
-ghost use Rattle.text_buffer.specs.Buffer.{BufferState, IsBuffer, after_call, after_settle, state};
+ghost use Rattle.text_buffer.specs.Buffer.{AllMiss, BufferState, IsBuffer, after_call, after_settle, after_take, answer_to, number_applied, state};
 ghost use Rattle.text_buffer.specs.Calls.{AreStopped, IsPartly, IsStopped, Reaches};
 ghost use Rattle.text_buffer.specs.Document.{IsFront};
 ghost use Rattle.text_buffer.specs.SnapshotLaws.{AnchorsStay, AnswerAlike, EditsMakeTheText};
@@ -51,4 +55,23 @@ pub fn stopped_calls_go_on()
 /// What a stopped call applied stays applied, after what was applied before, and waits no longer; nothing waits that did not wait before.
 pub fn stopped_calls_apply_partly()
     ensures { (c : Step) → (b n : BufferState) → IsBuffer b → IsStopped c b n → IsPartly b n }
+{}
+
+/// What waits misses a cause once a buffer has settled, and once a `take` has applied its operation.
+pub fn waiting_operations_miss_causes()
+    ensures settle { (b : BufferState) → AllMiss (after_settle b) }
+    ensures take { (b : BufferState) → (op : Operation) → answer_to b op ≡ Good
+        → AllMiss (after_take b op) }
+{}
+
+/// A `take` of a good operation applies one operation at least.
+pub fn good_operations_are_applied()
+    ensures { (b : BufferState) → (op : Operation) → answer_to b op ≡ Good
+        → 1 ≤ number_applied b (after_take b op) }
+{}
+
+/// A `take` of an operation that meets a fault leaves the buffer as it was, which is also what the definition makes.
+pub fn refused_operations_change_nothing()
+    ensures { (b n : BufferState) → (op : Operation) → (e : OpFault) → answer_to b op ≡ refused e
+        → (n ≡ b) ⊎ IsStopped (Takes op) b n → (n ≡ b) × (after_take b op ≡ b) }
 {}

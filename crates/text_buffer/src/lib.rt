@@ -42,8 +42,9 @@ pub use buffer::{Buffer, agree};
 pub use edits_since::Edits;
 pub use faults::NewFault;
 pub use laws::{
-    anchors_stay, edits_make_the_text, snapshots_answer_alike, stopped_calls_apply_partly,
-    stopped_calls_go_on,
+    anchors_stay, edits_make_the_text, good_operations_are_applied,
+    refused_operations_change_nothing, snapshots_answer_alike, stopped_calls_apply_partly,
+    stopped_calls_go_on, waiting_operations_miss_causes,
 };
 pub use op_model::{
     Anchor, Bias, EditFault, Limits, OpFault, OutOfMemory, PlaceFault, SinceFault, TextEdit,

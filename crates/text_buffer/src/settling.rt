@@ -7,7 +7,7 @@ ghost use Rattle.op_model.specs.Steps.Step.{Settles};
 ghost use Rattle.op_model.specs.Stopped.{AreAlike};
 ghost use Rattle.op_answers.specs.Verdicts.{answer_of};
 ghost use Rattle.text_buffer.specs.Outcomes.{pair_of};
-ghost use Rattle.text_buffer.specs.Buffer.{AllMiss, BufferState, IsBuffer, after_call, number_applied, after_settle, state};
+ghost use Rattle.text_buffer.specs.Buffer.{BufferState, IsBuffer, after_call, number_applied, after_settle, state};
 ghost use Rattle.text_buffer.specs.Calls.{AreStopped, IsStopped};
 ghost use Rattle.text_buffer.specs.Settling.{IsStoppedPass, after_answer, after_pass, next_ready, turn_answer, after_next_turn, with_refusal, without_waiting};
 
@@ -30,11 +30,9 @@ impl Buffer {
     pub fn settle(&mut self) -> Result<u64, OutOfMemory>
         ensures new { OnOk result (self.new ≡ after_settle self.old) }
         ensures applied { IfOk result (λ n. n ≡ number_applied self.old self.new) }
-        ensures waiting { OnOk result (AllMiss self.new) }
         ensures stopped { OnErr result (IsStopped Settles self.old self.new) }
         ensures goes_on { OnOk result ((c : Step) → (b : BufferState) → IsBuffer b
             → AreStopped c b self.old → AreAlike (state (after_call c b)) (state self.new)) }
-        ensures step { OnOk result (self.new ≡ after_call Settles self.old) }
     {
         let before = self.document.operations().len();
         self.pass()?;

@@ -1,5 +1,5 @@
 //! Taking the operations of other replicas.
-ghost use Rattle.std.specs.Prelude.{ℕ, ◌≡◌, ◌≤◌, ◌⊎◌, true, map, Some, None, IfErr, IfOk, OnErr, OnOk};
+ghost use Rattle.std.specs.Prelude.{◌≡◌, ◌⊎◌, true, map, Some, None, IfErr, IfOk, OnErr, OnOk};
 ghost use Rattle.op_model.specs.Sorted.{insert_by};
 ghost use Rattle.op_model.specs.Histories.{operation_at};
 ghost use Rattle.op_model.specs.Operations.{stamp_of};
@@ -9,7 +9,7 @@ ghost use Rattle.op_model.specs.Steps.{older};
 ghost use Rattle.op_model.specs.Steps.Step.{Takes};
 ghost use Rattle.op_answers.specs.Verdicts.{answer_of};
 ghost use Rattle.text_buffer.specs.Outcomes.{pair_of};
-ghost use Rattle.text_buffer.specs.Buffer.{AllMiss, after_call, answer_to, is_taken_in, number_applied, after_take, rules, took_of};
+ghost use Rattle.text_buffer.specs.Buffer.{answer_to, is_taken_in, number_applied, after_take, rules, took_of};
 ghost use Rattle.text_buffer.specs.Calls.{IsStopped};
 
 use crate::{Buffer, OutOfMemory, Refused, Took};
@@ -52,15 +52,10 @@ impl Buffer {
         ensures ok { IfOk result (λ t. took_of (number_applied self.old self.new)
             (answer_to self.old op) ≡ Some t) }
         ensures new { OnOk result (self.new ≡ after_take self.old op) }
-        ensures applied { IfOk result (λ t. (n : ℕ) → t ≡ Took.Applied n
-            → (1 ≤ n) × AllMiss self.new) }
         ensures fault { IfErr result (λ e. (answer_to self.old op ≡ refused e)
             ⊎ ((is_taken_in (answer_to self.old op) ≡ true) × (e ≡ OpFault.OutOfMemory))) }
         ensures stopped { OnErr result ((self.new ≡ self.old)
             ⊎ IsStopped (Takes op) self.old self.new) }
-        ensures step { OnOk result (self.new ≡ after_call (Takes op) self.old) }
-        ensures refused { IfErr result (λ e. (self.new ≡ after_call (Takes op) self.old)
-            ⊎ (e ≡ OpFault.OutOfMemory)) }
     {
         match self.judge(&op) {
             Verdict::Good => self.accept(op),
@@ -88,15 +83,10 @@ impl Buffer {
         ensures ok { IfOk result (λ t. took_of (number_applied self.old self.new)
             (answer_to self.old op) ≡ Some t) }
         ensures new { OnOk result (self.new ≡ after_take self.old op) }
-        ensures applied { IfOk result (λ t. (n : ℕ) → t ≡ Took.Applied n
-            → (1 ≤ n) × AllMiss self.new) }
         ensures fault { IfErr result (λ e. (answer_to self.old op ≡ refused e)
             ⊎ ((is_taken_in (answer_to self.old op) ≡ true) × (e ≡ OpFault.OutOfMemory))) }
         ensures stopped { OnErr result ((self.new ≡ self.old)
             ⊎ IsStopped (Takes op) self.old self.new) }
-        ensures step { OnOk result (self.new ≡ after_call (Takes op) self.old) }
-        ensures refused { IfErr result (λ e. (self.new ≡ after_call (Takes op) self.old)
-            ⊎ (e ≡ OpFault.OutOfMemory)) }
     {
         if let Some(fault) = self.full(&op) {
             return Err(fault);

@@ -2,10 +2,10 @@ use Rattle.std.proofs.Common.{◌≡◌, ◌⊎◌, inr, sym, ◌∙◌, ap, sub
 use Rattle.op_model.proofs.settling.Settling.{good_alone}
 use Rattle.op_model.proofs.histories.Growing.{shape_of}
 use Rattle.op_model.specs.Steps.Step.{Takes}
-use Rattle.text_buffer.specs.Buffer.{BufferState, AllMiss, after_settle}
+use Rattle.text_buffer.specs.Buffer.{BufferState, after_settle}
 use Rattle.text_buffer.specs.Calls.{IsStopped}
 use Rattle.text_buffer.specs.Settling.{IsStoppedSettling}
-use Rattle.text_buffer.proofs.Taken.{answer_good, plain_good, not_less, says, on_err}
+use Rattle.text_buffer.proofs.Taken.{answer_good, plain_good, not_less, on_err}
 use Rattle.text_buffer.proofs.buffer.Buffer.accept.Goals as goal
 
 pub full-requires : goal.full-requires
@@ -18,12 +18,6 @@ pub overflow_sub-result : goal.overflow_sub-result
 overflow_sub-result c = not_less c.args.self.now c.args.op c.len-before.result c.len.result
     (c.len-before.ensures ∙ ap length c.operations.ensures ∙ ap (λ (b : BufferState). length b.history) c.self.view_is)
     (c.len.ensures ∙ ap length c.operations-2.ensures ∙ ap (λ (b : BufferState). length b.history) (c.self-2.view_is ∙ c.in_ok-settle.ensures.new ∙ ap after_settle c.in_ok-apply.ensures.ok))
-
-pub returns-clause-applied : goal.returns-clause-applied
-returns-clause-applied c = says c.args.self.now c.args.op c.len-before.result c.len.result
-    (c.len-before.ensures ∙ ap length c.operations.ensures ∙ ap (λ (b : BufferState). length b.history) c.self.view_is)
-    (c.len.ensures ∙ ap length c.operations-2.ensures ∙ ap (λ (b : BufferState). length b.history) (c.self-2.view_is ∙ c.in_ok-settle.ensures.new ∙ ap after_settle c.in_ok-apply.ensures.ok))
-    (AllMiss c.settle.new.self) c.in_ok-settle.ensures.waiting
 
 pub returns-in_err-settle-clause-stopped : goal.returns-in_err-settle-clause-stopped
 returns-in_err-settle-clause-stopped c = on_err c.from_residual-in_err-settle.result ((c.settle.new.self ≡ c.args.self.now) ⊎ IsStopped (Takes c.args.op) c.args.self.now c.settle.new.self)
