@@ -18,5 +18,6 @@ pub mod Named
 pub mod Reports
 pub mod Outcome
 pub mod Sent
+pub mod Sure
 pub mod Rounds
 pub mod Rows

@@ -3,8 +3,10 @@ ghost use Rattle.std.specs.Prelude.{◌≡◌, ◌≤◌, ◌<◌, ◌⊎◌, �
 ghost use Rattle.command_words.specs.Words.{command_of};
 ghost use Rattle.command_words.specs.declared.command.Command.{Command};
 ghost use Rattle.command_words.specs.declared.command.Task.{Task};
-ghost use Rattle.session_lines.specs.Session.{session_of_text};
+ghost use Rattle.session_lines.specs.Cut.{lines_of};
+ghost use Rattle.session_lines.specs.Session.{session_of_text, lines_limit};
 ghost use Rattle.session_lines.specs.declared.session.Session.{Session};
+ghost use Rattle.session_lines.specs.declared.fault.Word.{Word};
 ghost use Rattle.session_lines.specs.declared.fault.DecodeFault.{DecodeFault};
 ghost use Rattle.session_replay.specs.Traffic.{session_limit};
 
@@ -39,6 +41,10 @@ pub fn run_on_bytes<R: Threads + Wait + Sync, G: Gate>(
         → (session_limit < length bytes.items)
         ⊎ ((e : DecodeFault) × (session_of_text bytes.items ≡ Err e))
         → (result ≡ Status.Session) ⊎ ((result ≡ Status.TooLarge) ⊎ (result ≡ Status.Memory)) }
+    ensures session { result ≡ Status.Session → (length bytes.items ≤ session_limit)
+        × ((n : ℕ) × (w : Word) × (session_of_text bytes.items ≡ Err (DecodeFault.Bad n w))) }
+    ensures large { result ≡ Status.TooLarge → (session_limit < length bytes.items)
+        ⊎ (lines_limit < length (lines_of bytes.items)) }
 {
     let mut src = SureSource::new(bytes);
     run(rt, alloc, words, &mut src, &mut SureSink, gate)
