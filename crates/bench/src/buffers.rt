@@ -1,10 +1,10 @@
-//! Buffers, and works on them: snapshots, edits, undos and anchors.
+//! Buffers, and works on them: snapshots, edits, undos, anchors, and operations that wait and are forgotten.
 ghost use Rattle.std.specs.Prelude.{◌≤◌};
 
 use crate::report::{Done, Report, step};
 use crate::rope::{long_text, short_text};
-use lamport_clock::Lamport;
-use op_model::{Operation, Piece, Text};
+use lamport_clock::{Lamport, Version};
+use op_model::{EditOp, Operation, Piece, Pieces, Text};
 use std::alloc::Global;
 use std::cmp::Ordering;
 use sum_tree::OutOfMemory;
@@ -15,18 +15,21 @@ const EDITS: u32 = 200;
 
 const ANCHORS: u64 = 10_000;
 
-/// A work on a buffer of many fragments: edits, anchors, or undos of an edit that deletes that many single bytes, with their name.
+/// A work on a buffer.
 #[derive(Clone, Copy)]
 pub enum Work {
+    Snapshots,
     Edits,
     Anchors,
-    Undos(&'static str, u64),
+    Undos,
+    Forgets(u32),
 }
 
-// A letter put at random, up to 4 bytes at random replaced by 1 to 8, or a letter put after the one before.
+// A letter put at random, also while there is a snapshot, up to 4 bytes replaced by 1 to 8, or a letter put after the last one.
 #[derive(Clone, Copy)]
 enum Change {
     Letter,
+    Shared,
     Random,
     Typed,
 }
@@ -36,32 +39,34 @@ pub fn open(alloc: Global, replica: u16, bytes: u32) -> Result<Buffer, OutOfMemo
     requires least { 1 ≤ replica }
     requires greatest { replica ≤ 1023 }
 {
-    let base = long_text(alloc, bytes)?;
+    let base = long_text(alloc, bytes, false)?;
     Buffer::new(alloc, replica, base.as_str(), Limits::MOST).or(Err(OutOfMemory))
 }
 
-/// Works on a buffer of about `fragments` fragments: letters are put at random into a base of 8 bytes a fragment.
-pub fn works(report: &mut Report<'_>, work: Work, fragments: u32) -> Done {
-    let mut buffer = open(report.rt.alloc(), 1, fragments.saturating_mul(8))?;
+/// Works on a buffer over `bytes` bytes, into which letters are put at random until it has about `fragments` fragments.
+pub fn works(report: &mut Report<'_>, work: Work, bytes: u32, fragments: u32) -> Done {
+    let mut buffer = open(report.rt.alloc(), 1, bytes)?;
     time(report, &mut buffer, work, fragments)
 }
 
 fn time(report: &mut Report<'_>, buffer: &mut Buffer, work: Work, fragments: u32) -> Done {
     make(report.rt.alloc(), buffer, Change::Letter, fragments / 2)?;
     match work {
+        Work::Snapshots => snapshots(report, buffer),
         Work::Edits => edits(report, buffer, fragments),
         Work::Anchors => anchors(report, buffer),
-        Work::Undos(name, count) => undos(report, buffer, name, count),
+        Work::Undos => undos(report, buffer),
+        Work::Forgets(count) => forgets(report, buffer, count),
     }
 }
 
-// Makes n edits.
 fn make(alloc: Global, buffer: &mut Buffer, change: Change, n: u32) -> Done {
     let mut x = 1u64;
     for number in 0..n {
         x = step(x);
         match change {
             Change::Letter => put(alloc, buffer, x >> 20, 0, "a")?,
+            Change::Shared => put_beside(alloc, buffer, x >> 20)?,
             Change::Random => put(alloc, buffer, x >> 20, (x >> 50) % 5, short_text(x >> 56))?,
             Change::Typed => put(alloc, buffer, u64::from(number) + 1_000, 0, "a")?,
         }
@@ -84,16 +89,18 @@ fn edit(buffer: &mut Buffer, pieces: &[Piece]) -> Result<Operation, OutOfMemory>
     buffer.edit_uncounted(pieces).or(Err(OutOfMemory))
 }
 
-/// Takes snapshots of a buffer over `bytes` bytes, and edits the buffer while there is a snapshot and while there is none.
-pub fn snapshots(report: &mut Report<'_>, bytes: u32) -> Done {
-    let mut buffer = open(report.rt.alloc(), 1, bytes)?;
-    time_snapshots(report, &mut buffer)
+// Puts a letter while there is a snapshot.
+fn put_beside(alloc: Global, buffer: &mut Buffer, at: u64) -> Done {
+    let _snapshot = buffer.snapshot()?;
+    put(alloc, buffer, at, 0, "a")
 }
 
-fn time_snapshots(report: &mut Report<'_>, buffer: &mut Buffer) -> Done {
+// Takes snapshots of a buffer, and edits it while there is a snapshot and while there is none: the lengths of the text.
+fn snapshots(report: &mut Report<'_>, buffer: &mut Buffer) -> Done {
     report.begin();
     report.add("Snapshots", snapshot_all(buffer)?);
-    report.add("SnapshotEdits", edit_beside(report.rt.alloc(), buffer)?);
+    make(report.rt.alloc(), buffer, Change::Shared, 4)?;
+    report.add("SnapshotEdits", buffer.summary().len);
     make(report.rt.alloc(), buffer, Change::Letter, 4)?;
     report.add("Edits", buffer.summary().len);
     Ok(())
@@ -108,17 +115,6 @@ fn snapshot_all(buffer: &Buffer) -> Result<u64, OutOfMemory> {
     Ok(sum)
 }
 
-// Puts four letters, each while a snapshot is kept: the sum of the lengths of those snapshots.
-fn edit_beside(alloc: Global, buffer: &mut Buffer) -> Result<u64, OutOfMemory> {
-    let mut sum = 0u64;
-    for _ in 0..4 {
-        let old = buffer.snapshot()?;
-        make(alloc, buffer, Change::Letter, 1)?;
-        sum = sum.wrapping_add(old.text().len());
-    }
-    Ok(sum)
-}
-
 // Edits at random places and then typed ones, which another replica then takes: the lengths of the text.
 fn edits(report: &mut Report<'_>, author: &mut Buffer, fragments: u32) -> Done {
     report.begin();
@@ -126,15 +122,11 @@ fn edits(report: &mut Report<'_>, author: &mut Buffer, fragments: u32) -> Done {
     report.add("RandomLocal", author.summary().len);
     make(report.rt.alloc(), author, Change::Typed, EDITS)?;
     report.add("TypedLocal", author.summary().len);
-    takes(report, author, fragments)
-}
-
-fn takes(report: &mut Report<'_>, author: &Buffer, fragments: u32) -> Done {
     let mut buffer = open(report.rt.alloc(), 2, fragments.saturating_mul(8))?;
-    time_takes(report, &mut buffer, author)
+    takes(report, &mut buffer, author)
 }
 
-fn time_takes(report: &mut Report<'_>, buffer: &mut Buffer, author: &Buffer) -> Done {
+fn takes(report: &mut Report<'_>, buffer: &mut Buffer, author: &Buffer) -> Done {
     take_all(report.rt.alloc(), buffer, author, 2 * EDITS as u64)?;
     report.begin();
     take_all(report.rt.alloc(), buffer, author, EDITS as u64)?;
@@ -158,19 +150,17 @@ fn take(buffer: &mut Buffer, op: Operation) -> Result<Took, OutOfMemory> {
     buffer.take(op).or(Err(OutOfMemory))
 }
 
-// Deletes `count` single bytes, and undoes that ten times: the length of the text.
-fn undos(report: &mut Report<'_>, buffer: &mut Buffer, name: &str, count: u64) -> Done {
-    let edit = delete(report.rt.alloc(), buffer, count)?;
-    report.begin();
-    for _ in 0..10 {
-        undo(buffer, edit)?;
+// Deletes one byte, 100 and 10,000 single bytes, and undoes each of these edits ten times: the lengths of the text.
+fn undos(report: &mut Report<'_>, buffer: &mut Buffer) -> Done {
+    for (name, count) in [("Undo1", 1), ("Undo100", 100), ("Undo10000", 10_000)] {
+        let edit = delete(report.rt.alloc(), buffer, count)?;
+        report.begin();
+        for _ in 0..10 {
+            buffer.undo(&[edit]).or(Err(OutOfMemory))?;
+        }
+        report.add(name, buffer.summary().len);
     }
-    report.add(name, buffer.summary().len);
     Ok(())
-}
-
-fn undo(buffer: &mut Buffer, edit: Lamport) -> Result<Operation, OutOfMemory> {
-    buffer.undo(&[edit]).or(Err(OutOfMemory))
 }
 
 // Deletes `count` single bytes, spread evenly.
@@ -186,6 +176,36 @@ fn delete(alloc: Global, buffer: &mut Buffer, count: u64) -> Result<Lamport, Out
     Ok(edit(buffer, &pieces)?.stamp())
 }
 
+// Takes and forgets `count` operations, one after the other, while 1,000 others wait: how many were forgotten.
+fn forgets(report: &mut Report<'_>, buffer: &mut Buffer, count: u32) -> Done {
+    defer(report.rt.alloc(), buffer, 4, 1_000)?;
+    report.begin();
+    report.add("Forgets", defer(report.rt.alloc(), buffer, 2, count)?);
+    Ok(())
+}
+
+// Takes operations that wait. Those of replica 2 are forgotten at once: how many were.
+fn defer(alloc: Global, buffer: &mut Buffer, replica: u16, count: u32) -> Result<u64, OutOfMemory> {
+    let mut forgotten = 0u64;
+    for value in 1_000_000..count.saturating_add(1_000_000) {
+        let stamp = Lamport { value, replica };
+        take(buffer, early(alloc, stamp)?)?;
+        let is_gone = replica == 2 && buffer.forget(stamp).is_some();
+        forgotten = forgotten.wrapping_add(u64::from(is_gone));
+    }
+    Ok(forgotten)
+}
+
+// An edit that waits for one of replica 3, which never comes.
+fn early(alloc: Global, stamp: Lamport) -> Result<Operation, OutOfMemory> {
+    let version = Version::from_entries(alloc, &[(0, 1), (3, 9)])?;
+    Ok(Operation::Edit(EditOp {
+        stamp,
+        version,
+        pieces: Pieces::new(Vec::new(alloc)),
+    }))
+}
+
 // Works on many anchors, on a hundred of them again and again, as a program does that shows the same carets, and on a row.
 fn anchors(report: &mut Report<'_>, buffer: &Buffer) -> Done {
     let snapshot = buffer.snapshot()?;
@@ -195,11 +215,11 @@ fn anchors(report: &mut Report<'_>, buffer: &Buffer) -> Done {
 
 fn ask_drawn(report: &mut Report<'_>, snapshot: &Snapshot) -> Done {
     report.begin();
-    let anchors = draw(report.rt.alloc(), snapshot, ANCHORS)?;
+    let anchors = draw(report.rt.alloc(), snapshot, ANCHORS, false)?;
     report.add("Anchors", anchors.len() as u64);
     report.add("Resolve", places(snapshot, &anchors, 10));
     report.add("Compare", count_ascents(snapshot, &anchors, 10));
-    let few = draw(report.rt.alloc(), snapshot, 100)?;
+    let few = draw(report.rt.alloc(), snapshot, 100, false)?;
     report.begin();
     report.add("ResolveFew", places(snapshot, &few, 1_000));
     report.add("CompareFew", count_ascents(snapshot, &few, 1_000));
@@ -207,25 +227,22 @@ fn ask_drawn(report: &mut Report<'_>, snapshot: &Snapshot) -> Done {
 }
 
 fn ask_row(report: &mut Report<'_>, snapshot: &Snapshot) -> Done {
-    let len = snapshot.text().len();
-    let mut row = Vec::new(report.rt.alloc());
-    for number in 0..ANCHORS {
-        let at = number.wrapping_mul(len) / ANCHORS;
-        add(&mut row, snapshot, at, number)?;
-    }
+    let row = draw(report.rt.alloc(), snapshot, ANCHORS, true)?;
     report.begin();
     report.add("ResolveRow", places(snapshot, &row, 10));
     Ok(())
 }
 
-// Anchors at n places drawn by chance.
-fn draw(alloc: Global, snapshot: &Snapshot, n: u64) -> Result<Vec<Anchor>, OutOfMemory> {
+// Anchors at n places drawn by chance, or in a row.
+fn draw(alloc: Global, snapshot: &Snapshot, n: u64, row: bool) -> Result<Vec<Anchor>, OutOfMemory> {
     let len = snapshot.text().len().max(1);
     let mut anchors = Vec::new(alloc);
     let mut x = 1u64;
-    for _ in 0..n {
+    for number in 0..n {
         x = step(x);
-        add(&mut anchors, snapshot, (x >> 20) % len, x >> 10)?;
+        let next = number.wrapping_mul(len) / ANCHORS;
+        let at = if row { next } else { (x >> 20) % len };
+        add(&mut anchors, snapshot, at, x >> 10)?;
     }
     Ok(anchors)
 }

@@ -1,7 +1,7 @@
 //! Works that are timed: `bench WORK NUMBER..`, with `timed` as the last word for the microseconds of each. Its answer is
 //! written in any case, so that scripts can compare it. The works are `tree ITEMS`, `rope BYTES TIMES`, `search BYTES`,
-//! `snapshot BYTES`, `publish BYTES TIMES`, `edits`, `undo` and `anchors FRAGMENTS`, and `locators`, at places that
-//! the standard input names. A command line may name several.
+//! `snapshot BYTES`, `publish BYTES TIMES`, `edits`, `undo` and `anchors FRAGMENTS`, `forget COUNT`, and
+//! `locators`, at places that the standard input names. A command line may name several.
 #![tactic(auto)]
 
 mod buffers;
@@ -30,20 +30,18 @@ fn work<R: Threads + Wait + Sync>(
 ) -> io::Result<()> {
     let size = word(words, at.saturating_add(1)).parse().unwrap_or(0);
     let times = word(words, at.saturating_add(2)).parse().unwrap_or(0);
+    let bytes = u32::saturating_mul(size, 8);
     match word(words, at) {
         "locators" => naming::works(report),
-        "tree" => tree::works(report, size),
+        "tree" => Ok(tree::works(report, size)?),
         "rope" => Ok(rope::works(report, size, times)?),
-        "search" => rope::searches(rt, report, size),
+        "search" => Ok(rope::searches(rt, report, size)?),
         "publish" => Ok(publish::works(rt, report, size, times)?),
-        "snapshot" => Ok(buffers::snapshots(report, size)?),
-        "edits" => Ok(buffers::works(report, Work::Edits, size)?),
-        "anchors" => Ok(buffers::works(report, Work::Anchors, size)?),
-        "undo" => {
-            buffers::works(report, Work::Undos("Undo1", 1), size)?;
-            buffers::works(report, Work::Undos("Undo100", 100), size)?;
-            Ok(buffers::works(report, Work::Undos("Undo10000", 10_000), size)?)
-        }
+        "snapshot" => Ok(buffers::works(report, Work::Snapshots, size, 0)?),
+        "edits" => Ok(buffers::works(report, Work::Edits, bytes, size)?),
+        "anchors" => Ok(buffers::works(report, Work::Anchors, bytes, size)?),
+        "forget" => Ok(buffers::works(report, Work::Forgets(size), 8, 0)?),
+        "undo" => Ok(buffers::works(report, Work::Undos, bytes, size)?),
         _ => Ok(()),
     }
 }

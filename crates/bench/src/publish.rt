@@ -6,7 +6,7 @@ use crate::report::{Done, Report};
 use snapshot_pub::{Publisher, SnapReader, open_pairs};
 use std::sync::Wait;
 use std::thread::{Threads, join};
-use text_buffer::Buffer;
+use text_buffer::{Buffer, Snapshot};
 
 /// Publishes snapshots of a buffer over `bytes` bytes n times, takes the latest n times, and does both at once in two threads.
 pub fn works<R: Threads + Wait + Sync>(
@@ -54,9 +54,16 @@ fn publish<R: Wait>(rt: &R, publisher: &mut Publisher, buffer: &Buffer) -> bool
     ensures { publisher.new.published ≡ buffer.now.history ∷ [] }
 {
     match buffer.snapshot() {
-        Ok(snapshot) => publisher.publish(rt, 0, &snapshot).is_ok(),
+        Ok(snapshot) => show(rt, publisher, &snapshot),
         Err(_) => false,
     }
+}
+
+fn show<R: Wait>(rt: &R, publisher: &mut Publisher, snapshot: &Snapshot) -> bool
+    requires { publisher.old.published ≡ snapshot.now ∷ [] }
+    ensures { publisher.new.published ≡ snapshot.now ∷ [] }
+{
+    publisher.publish(rt, 0, snapshot).is_ok()
 }
 
 // Takes the latest snapshot n times: the sum of their lengths.

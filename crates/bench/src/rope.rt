@@ -6,7 +6,6 @@ use crate::report::{Done, MOST, Report, step};
 use rope_chunks::Rope;
 use snapshot_search::{find_all, find_all_par};
 use std::alloc::Global;
-use std::io;
 use std::thread::Threads;
 use sum_tree::OutOfMemory;
 use text_dims::Point;
@@ -18,27 +17,33 @@ pub fn short_text(x: u64) -> &'static str {
     ][(x % 8) as usize]
 }
 
-/// A text of `bytes` bytes: small letters, and an LF at one place in sixty.
-pub fn long_text(alloc: Global, bytes: u32) -> Result<String, OutOfMemory> {
+/// A text of about `bytes` bytes: small letters and an LF at one place in sixty, or words, some of which have `summary` or `th`.
+pub fn long_text(alloc: Global, bytes: u32, has_words: bool) -> Result<String, OutOfMemory> {
     let mut text = String::new(alloc);
     let mut x = 1u64;
     for _ in 0..bytes {
         x = step(x);
-        let is_end = (x >> 20) % 60 == 0;
-        push(&mut text, x >> 40, is_end)?;
+        if text.len() < bytes as usize {
+            push(&mut text, x, has_words)?;
+        }
     }
     Ok(text)
 }
 
-// Pushes a small letter, or an LF.
-fn push(text: &mut String, x: u64, is_end: bool) -> Done {
-    let letter = (b'a' + (x % 26) as u8) as char;
-    text.push(if is_end { '\n' } else { letter })
+fn push(text: &mut String, x: u64, has_words: bool) -> Done {
+    let drawn = if has_words { (x >> 40) % 128 } else { x >> 40 };
+    match drawn {
+        0 if has_words => text.push_str("summary"),
+        1..=7 if has_words => text.push_str("th"),
+        8..=27 if has_words => text.push(' '),
+        _ if !has_words && (x >> 20) % 60 == 0 => text.push('\n'),
+        _ => text.push((b'a' + (drawn % 26) as u8) as char),
+    }
 }
 
 /// Works on a rope of `bytes` bytes, n times each.
 pub fn works(report: &mut Report<'_>, bytes: u32, n: u32) -> Done {
-    let text = long_text(report.rt.alloc(), bytes)?;
+    let text = long_text(report.rt.alloc(), bytes, false)?;
     report.begin();
     let mut rope = ascii_rope(report.rt.alloc(), text.as_str())?;
     report.add("Build", rope.len());
@@ -204,8 +209,8 @@ fn replace(alloc: Global, rope: &mut Rope, x: u64, way: Way) -> Done
 }
 
 /// Searches texts of `bytes` bytes, first words and then one letter, by one thread and in four parts.
-pub fn searches<R: Threads + Sync>(rt: &R, report: &mut Report<'_>, bytes: u32) -> io::Result<()> {
-    let text = words(report.rt.alloc(), bytes)?;
+pub fn searches<R: Threads + Sync>(rt: &R, report: &mut Report<'_>, bytes: u32) -> Done {
+    let text = long_text(report.rt.alloc(), bytes, true)?;
     search(rt, report, text.as_str(), "Absent", "hapaxlegomenon")?;
     search(rt, report, text.as_str(), "Rare", "summary")?;
     search(rt, report, text.as_str(), "Frequent", "th")?;
@@ -223,7 +228,7 @@ fn search<R: Threads + Sync>(
     text: &str,
     name: &str,
     needle: &str,
-) -> io::Result<()> {
+) -> Done {
     let alloc = report.rt.alloc();
     let in_parts = format!(in alloc; "{name}In4")?;
     let rope = ascii_rope(alloc, text)?;
@@ -233,26 +238,4 @@ fn search<R: Threads + Sync>(
     let found = find_all_par(rt, alloc, &rope, needle, 4).map_or(0, |all| all.len() as u64);
     report.add(in_parts.as_str(), found);
     Ok(())
-}
-
-// A text of about `bytes` bytes: words of small letters, and in some of them `summary` or `th`.
-fn words(alloc: Global, bytes: u32) -> Result<String, OutOfMemory> {
-    let mut text = String::new(alloc);
-    let mut x = 1u64;
-    for _ in 0..bytes {
-        x = step(x);
-        if text.len() < bytes as usize {
-            push_part(&mut text, (x >> 40) % 128)?;
-        }
-    }
-    Ok(text)
-}
-
-fn push_part(text: &mut String, part: u64) -> Done {
-    match part {
-        0 => text.push_str("summary"),
-        1..=7 => text.push_str("th"),
-        8..=27 => text.push(' '),
-        _ => push(text, part, false),
-    }
 }

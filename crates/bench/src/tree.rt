@@ -5,7 +5,6 @@ ghost use Rattle.bench.specs.Items.{number_key, number_sum};
 
 use crate::report::{Done, MOST, Report, step};
 use std::alloc::Global;
-use std::io;
 use sum_tree::{Item, KeyedItem, OutOfMemory, SumTree};
 use tree_cursor::Greatest;
 
@@ -47,28 +46,26 @@ impl KeyedItem for Number {
 type Numbers = SumTree<Number>;
 
 /// Works on trees of `count` items, and on one of a tenth of them.
-pub fn works(report: &mut Report<'_>, count: u32) -> io::Result<()> {
-    let n = count as u64;
-    pushes(report, n)?;
-    lists(report, n)?;
-    texts(report, n / 10)?;
+pub fn works(report: &mut Report<'_>, count: u32) -> Done {
+    let (alloc, n) = (report.rt.alloc(), count as u64);
+    pushes(report, &mut SumTree::new(alloc)?, n)?;
+    lists(report, list(alloc, n)?)?;
+    texts(report, &mut SumTree::new(alloc)?, n / 10)?;
     keys(report, n)
 }
 
-fn pushes(report: &mut Report<'_>, n: u64) -> io::Result<()> {
+fn pushes(report: &mut Report<'_>, tree: &mut Numbers, n: u64) -> Done {
     let alloc = report.rt.alloc();
-    let mut tree = SumTree::new(alloc)?;
     report.begin();
-    push_all(alloc, &mut tree, n, false)?;
+    push_all(alloc, tree, n, false)?;
     report.add("Push", tree.len());
-    report.add("Get", get_all(&tree, n));
-    report.add("SharePush", push_all(alloc, &mut tree, n / 10, true)?);
+    report.add("Get", get_all(tree, n));
+    report.add("SharePush", push_all(alloc, tree, n / 10, true)?);
     Ok(())
 }
 
-fn lists(report: &mut Report<'_>, n: u64) -> io::Result<()> {
+fn lists(report: &mut Report<'_>, items: Vec<Number>) -> Done {
     let alloc = report.rt.alloc();
-    let items = list(alloc, n)?;
     report.begin();
     if items.len() as u64 <= MOST {
         report.add("FromList", SumTree::from_list(alloc, items)?.len());
@@ -77,19 +74,17 @@ fn lists(report: &mut Report<'_>, n: u64) -> io::Result<()> {
 }
 
 // Replaces items as typing replaces lines of a text, then also while another tree shares the nodes.
-fn texts(report: &mut Report<'_>, n: u64) -> io::Result<()> {
-    let alloc = report.rt.alloc();
-    let mut tree = SumTree::new(alloc)?;
-    put(alloc, &mut tree, 0, 0, n)?;
+fn texts(report: &mut Report<'_>, tree: &mut Numbers, n: u64) -> Done {
+    put(report.rt.alloc(), tree, 0, 0, n)?;
     report.begin();
-    type_all(alloc, &mut tree, n, false)?;
+    type_all(report.rt.alloc(), tree, n, false)?;
     report.add("Type", tree.len());
-    type_all(alloc, &mut tree, n, true)?;
+    type_all(report.rt.alloc(), tree, n, true)?;
     report.add("ShareType", tree.len());
     Ok(())
 }
 
-fn keys(report: &mut Report<'_>, n: u64) -> io::Result<()> {
+fn keys(report: &mut Report<'_>, n: u64) -> Done {
     let alloc = report.rt.alloc();
     let mut tree = SumTree::new(alloc)?;
     report.begin();
