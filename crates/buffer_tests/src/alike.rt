@@ -1,13 +1,28 @@
-//! Whether two buffers answer alike, whatever they are asked.
+//! Two buffers, and whether they answer alike, whatever they are asked.
+use crate::cases::open;
 use crate::operations::{pieces, version};
 use applied_ops::Applied;
 use deferred_ops::Deferred;
-use lamport_clock::Version;
 use std::alloc::Global;
 use sum_tree::{OutOfMemory, SumTree};
-use text_buffer::{Anchor, Bias, Buffer, PlaceFault, Snapshot};
+use text_buffer::{Anchor, Bias, Buffer, Limits, PlaceFault, Snapshot};
 
-fn apply_alike(a: &SumTree<Applied>, b: &SumTree<Applied>) -> bool {
+/// A buffer and its twin.
+#[derive(Drop)]
+pub(crate) struct Pair {
+    pub(crate) buffer: Buffer,
+    pub(crate) twin: Buffer,
+}
+
+/// Two buffers of replica 9 over one text.
+pub(crate) fn pair(alloc: Global, base: &str, limits: Limits) -> Result<Pair, OutOfMemory> {
+    let buffer = open(alloc, base, limits)?;
+    let twin = open(alloc, base, limits)?;
+    Ok(Pair { buffer, twin })
+}
+
+/// Whether the same operations are applied in the same order.
+pub(crate) fn apply_alike(a: &SumTree<Applied>, b: &SumTree<Applied>) -> bool {
     for i in 0..a.len() {
         match (a.get(i), b.get(i)) {
             (Some(x), Some(y)) if x.op().same(y.op()) => {}
@@ -17,7 +32,8 @@ fn apply_alike(a: &SumTree<Applied>, b: &SumTree<Applied>) -> bool {
     a.len() == b.len()
 }
 
-fn wait_alike(a: &Deferred, b: &Deferred) -> bool {
+/// Whether the same operations wait.
+pub(crate) fn wait_alike(a: &Deferred, b: &Deferred) -> bool {
     let mut t = None;
     for _ in 0..a.len() {
         match (a.after(t), b.after(t)) {
@@ -29,45 +45,50 @@ fn wait_alike(a: &Deferred, b: &Deferred) -> bool {
 }
 
 fn hold_alike(a: &Buffer, b: &Buffer) -> bool {
-    a.version().as_slice() == b.version().as_slice()
-        && apply_alike(a.applied(), b.applied())
-        && wait_alike(a.deferred(), b.deferred())
-        && a.refused() == b.refused()
+    let versions = a.version().as_slice() == b.version().as_slice();
+    let refused = a.refused() == b.refused();
+    versions
+        & refused
+        & apply_alike(a.applied(), b.applied())
+        & wait_alike(a.deferred(), b.deferred())
 }
 
-fn place(snapshot: &Snapshot, anchor: Result<Anchor, PlaceFault>) -> Option<u64> {
-    match anchor {
+// The anchor at an offset, and its place.
+fn anchor_and_place(
+    snapshot: &Snapshot,
+    offset: u64,
+    bias: Bias,
+) -> (Result<Anchor, PlaceFault>, Option<u64>) {
+    let anchor = snapshot.anchor(offset, bias);
+    let place = match anchor {
         Ok(anchor) => snapshot.resolve(&anchor).ok(),
         Err(_) => None,
-    }
-}
-
-fn anchor_alike(a: &Snapshot, b: &Snapshot, offset: u64, bias: Bias) -> bool {
-    let anchor = a.anchor(offset, bias);
-    anchor == b.anchor(offset, bias) && place(a, anchor) == place(b, anchor)
+    };
+    (anchor, place)
 }
 
 /// Whether the anchors at each offset of a text, and one past its end, have the same places.
 pub(crate) fn place_alike(a: &Snapshot, b: &Snapshot, len: u64) -> bool {
     for offset in 0..len.saturating_add(2) {
-        if !anchor_alike(a, b, offset, Bias::Left) || !anchor_alike(a, b, offset, Bias::Right) {
-            return false;
+        for bias in [Bias::Left, Bias::Right] {
+            if anchor_and_place(a, offset, bias) != anchor_and_place(b, offset, bias) {
+                return false;
+            }
         }
     }
     true
 }
 
-fn change_alike(a: &Snapshot, b: &Snapshot, mark: &Version) -> bool {
-    match (a.since(mark), b.since(mark)) {
-        (Ok(x), Ok(y)) => x.as_slice() == y.as_slice(),
-        _ => false,
+fn change_alike(alloc: Global, a: &Snapshot, b: &Snapshot) -> Result<bool, OutOfMemory> {
+    let base = version(alloc, &[(1, 0)])?;
+    match (a.since(&base), b.since(&base)) {
+        (Ok(x), Ok(y)) => Ok(x.as_slice() == y.as_slice()),
+        _ => Ok(false),
     }
 }
 
-fn look_alike(alloc: Global, a: &Buffer, b: &Buffer) -> Result<bool, OutOfMemory> {
-    let base = version(alloc, &[(1, 0)])?;
-    let (x, y) = (a.snapshot()?, b.snapshot()?);
-    Ok(place_alike(&x, &y, a.summary().len) && change_alike(&x, &y, &base))
+fn look_alike(alloc: Global, a: &Snapshot, b: &Snapshot, len: u64) -> Result<bool, OutOfMemory> {
+    Ok(change_alike(alloc, a, b)? & place_alike(a, b, len))
 }
 
 /// Whether two buffers show one text.
@@ -76,11 +97,11 @@ pub(crate) fn show_alike(a: &Buffer, b: &Buffer) -> Result<bool, OutOfMemory> {
 }
 
 // Whether the next edit is the same operation, or meets the same fault.
-fn edit_alike(alloc: Global, a: &mut Buffer, b: &mut Buffer) -> Result<bool, OutOfMemory> {
+fn edit_alike(alloc: Global, pair: &mut Pair) -> Result<bool, OutOfMemory> {
     let changes = pieces(alloc, &[(0, 0, "n")])?;
     match (
-        a.edit_uncounted(changes.as_slice()),
-        b.edit_uncounted(changes.as_slice()),
+        pair.buffer.edit_uncounted(changes.as_slice()),
+        pair.twin.edit_uncounted(changes.as_slice()),
     ) {
         (Ok(x), Ok(y)) => Ok(x.same(&y)),
         (Err(x), Err(y)) => Ok(x == y),
@@ -88,13 +109,14 @@ fn edit_alike(alloc: Global, a: &mut Buffer, b: &mut Buffer) -> Result<bool, Out
     }
 }
 
-/// Whether two buffers have the same text, version, operations (applied, waiting and refused), places of anchors and edits since
-/// the base, and then make the same operation of an edit.
-pub(crate) fn answer_alike(
-    alloc: Global,
-    a: &mut Buffer,
-    b: &mut Buffer,
-) -> Result<bool, OutOfMemory> {
-    let alike = hold_alike(a, b) && show_alike(a, b)? && look_alike(alloc, a, b)?;
-    Ok(edit_alike(alloc, a, b)? && alike)
+fn are_alike(alloc: Global, a: &Buffer, b: &Buffer) -> Result<bool, OutOfMemory> {
+    let alike = hold_alike(a, b) & show_alike(a, b)?;
+    Ok(look_alike(alloc, &a.snapshot()?, &b.snapshot()?, a.summary().len)? & alike)
+}
+
+/// Whether a buffer and its twin have the same text, version, operations (applied, waiting and refused), places of anchors and edits
+/// since the base, and then make the same operation of an edit.
+pub(crate) fn answer_alike(alloc: Global, pair: &mut Pair) -> Result<bool, OutOfMemory> {
+    let alike = are_alike(alloc, &pair.buffer, &pair.twin)?;
+    Ok(edit_alike(alloc, pair)? & alike)
 }

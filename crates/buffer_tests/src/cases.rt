@@ -4,7 +4,7 @@ ghost use Rattle.std.specs.Prelude.{◌≤◌, ◌^◌, ◌-◌};
 use crate::steps::{Row, count_right};
 use std::alloc::Global;
 use sum_tree::OutOfMemory;
-use text_buffer::{Base, Buffer, Limits, NewFault};
+use text_buffer::{Base, Buffer, Limits};
 
 /// Rows of steps in a buffer of replica 9.
 pub(crate) struct Case {
@@ -32,22 +32,24 @@ fn limits_of(limits: Limits) -> Limits
     }
 }
 
-/// A buffer of replica 9.
-pub(crate) fn open(alloc: Global, base: &str, limits: Limits) -> Result<Buffer, NewFault> {
-    Buffer::new(alloc, 9, base, limits_of(limits))
+/// A buffer of replica 9. A base that is refused ends a test as a failed allocation does.
+pub(crate) fn open(alloc: Global, base: &str, limits: Limits) -> Result<Buffer, OutOfMemory> {
+    match Buffer::new(alloc, 9, base, limits_of(limits)) {
+        Ok(buffer) => Ok(buffer),
+        Err(_) => Err(OutOfMemory),
+    }
 }
 
-fn open_over(alloc: Global, base: &Base, limits: Limits) -> Result<Buffer, NewFault> {
-    Buffer::over(alloc, 9, base, limits_of(limits))
+fn open_over(alloc: Global, base: &Base, limits: Limits) -> Result<Buffer, OutOfMemory> {
+    match Buffer::over(alloc, 9, base, limits_of(limits)) {
+        Ok(buffer) => Ok(buffer),
+        Err(_) => Err(OutOfMemory),
+    }
 }
 
-// How many rows of a case come out as they should in a buffer of its own.
-fn count_own(alloc: Global, case: &Case) -> Result<usize, OutOfMemory> {
-    count_right(alloc, open(alloc, case.base, case.limits), case.rows)
-}
-
+// How many rows of a case come out as they should in a buffer over a base that was made ready.
 fn count_over(alloc: Global, base: &Base, case: &Case) -> Result<usize, OutOfMemory> {
-    count_right(alloc, open_over(alloc, base, case.limits), case.rows)
+    count_right(alloc, open_over(alloc, base, case.limits)?, case.rows)
 }
 
 // The same in each of two buffers over one base, one after the other.
@@ -64,5 +66,6 @@ fn count_twice(alloc: Global, case: &Case) -> Result<usize, OutOfMemory> {
 
 /// How many rows of a case come out as they should, in each of three buffers.
 pub(crate) fn count_case(alloc: Global, case: &Case) -> Result<usize, OutOfMemory> {
-    Ok(count_own(alloc, case)?.min(count_twice(alloc, case)?))
+    let own = count_right(alloc, open(alloc, case.base, case.limits)?, case.rows)?;
+    Ok(own.min(count_twice(alloc, case)?))
 }

@@ -1,6 +1,7 @@
 //! Operations that wait and are forgotten; and a caller that bounds how many wait.
 use crate::cases::{AMPLE, Case, count_case, open};
-use crate::operations::{Change, Parts, Stamp, operation};
+use crate::operations::{Parts, Stamp, operation};
+use crate::steps;
 use crate::steps::Step::{Forget, Keep, Settle, Take};
 use Parts::Pieces;
 use Took::{Applied, Repeat, Waits};
@@ -8,8 +9,9 @@ use deferred_ops::Deferred;
 use lamport_clock::Lamport;
 use op_model::Operation;
 use std::alloc::Global;
+use std::mem;
 use sum_tree::OutOfMemory;
-use text_buffer::{Buffer, NewFault, OpFault, Took};
+use text_buffer::{Buffer, OpFault, Took};
 
 const BASE: &[Stamp] = &[(1, 0)];
 
@@ -143,24 +145,23 @@ fn forget_newest(buffer: &mut Buffer, author: u16) -> Option<Operation> {
 // Takes an operation. What would be too much to wait is set aside, for a later time.
 fn take(buffer: &mut Buffer, aside: &mut Vec<Operation>, op: Operation) -> Result<(), OpFault> {
     let author = op.stamp().replica;
-    let _answer = buffer.take(op)?;
+    let _answer = steps::take(buffer, op)?;
     if let Some(op) = forget_newest(buffer, author) {
         aside.push(op)?;
     }
     Ok(())
 }
 
-// Takes again what was set aside. Returns what is still too much.
+// Takes again what was set aside. What is still too much is set aside again.
 fn take_again(
     alloc: Global,
     buffer: &mut Buffer,
-    aside: Vec<Operation>,
-) -> Result<Vec<Operation>, OpFault> {
-    let mut still = Vec::new(alloc);
-    for op in aside {
-        take(buffer, &mut still, op)?;
+    aside: &mut Vec<Operation>,
+) -> Result<(), OpFault> {
+    for op in mem::replace(aside, Vec::new(alloc)) {
+        take(buffer, aside, op)?;
     }
-    Ok(still)
+    Ok(())
 }
 
 // ---- Its test.
@@ -168,77 +169,56 @@ fn take_again(
 // An operation: its stamp, what it has seen, and its parts.
 type Given = (Stamp, &'static [Stamp], Parts);
 
-// Edits of one author, the newest first. Each has seen the one before it.
-const CHAIN: &[Given] = &[
-    ((8, 1), &[(1, 0), (7, 1)], Pieces(&[(0, 0, "g")])),
-    ((7, 1), &[(1, 0), (6, 1)], Pieces(&[(0, 0, "f")])),
-    ((6, 1), &[(1, 0), (5, 1)], Pieces(&[(0, 0, "e")])),
-    ((5, 1), &[(1, 0), (4, 1)], Pieces(&[(0, 0, "d")])),
-    ((4, 1), &[(1, 0), (3, 1)], Pieces(&[(0, 0, "c")])),
-    ((3, 1), BY_ONE, Pieces(&[(0, 0, "b")])),
+// Edits of one author, the newest first, and how many are set aside after each. Each has seen the one before it.
+const CHAIN: &[(Given, usize)] = &[
+    (((8, 1), &[(1, 0), (7, 1)], Pieces(&[(0, 0, "g")])), 0),
+    (((7, 1), &[(1, 0), (6, 1)], Pieces(&[(0, 0, "f")])), 0),
+    (((6, 1), &[(1, 0), (5, 1)], Pieces(&[(0, 0, "e")])), 1),
+    (((5, 1), &[(1, 0), (4, 1)], Pieces(&[(0, 0, "d")])), 2),
+    (((4, 1), &[(1, 0), (3, 1)], Pieces(&[(0, 0, "c")])), 3),
+    (((3, 1), BY_ONE, Pieces(&[(0, 0, "b")])), 4),
+    (((2, 1), BASE, Pieces(&[(0, 0, "a")])), 4),
 ];
-
-const FIRST: Given = ((2, 1), BASE, Pieces(&[(0, 0, "a")]));
-
-fn takes(
-    alloc: Global,
-    buffer: &mut Buffer,
-    aside: &mut Vec<Operation>,
-    given: &Given,
-) -> Result<bool, OutOfMemory> {
-    let op = operation(alloc, given.0, given.1, given.2)?;
-    let taken = take(buffer, aside, op).is_ok();
-    Ok(taken && newest_of(buffer.deferred(), 1).0 <= MOST)
-}
-
-// Takes the chain. What is set aside, where never too much waits.
-fn take_chain(alloc: Global, buffer: &mut Buffer) -> Result<Option<Vec<Operation>>, OutOfMemory> {
-    let mut aside = Vec::new(alloc);
-    for given in CHAIN {
-        if !takes(alloc, buffer, &mut aside, given)? {
-            return Ok(None);
-        }
-    }
-    Ok(Some(aside))
-}
 
 // How many are set aside after each time that these are taken again.
 const AGAIN: &[usize] = &[1, 0];
 
-fn ends_whole(
+// Whether the chain is taken, and never too much waits.
+fn takes_chain(
     alloc: Global,
     buffer: &mut Buffer,
-    aside: Vec<Operation>,
+    aside: &mut Vec<Operation>,
 ) -> Result<bool, OutOfMemory> {
-    let mut aside = aside;
-    if !takes(alloc, buffer, &mut aside, &FIRST)? {
-        return Ok(false);
+    let mut right = true;
+    for &((at, seen, parts), count) in CHAIN {
+        let op = operation(alloc, at, seen, parts)?;
+        right = take(buffer, aside, op).is_ok() && right;
+        let waits = newest_of(buffer.deferred(), 1).0;
+        right = right & (aside.len() == count) & (waits <= MOST);
     }
+    Ok(right)
+}
+
+fn is_bounded(
+    alloc: Global,
+    buffer: &mut Buffer,
+    aside: &mut Vec<Operation>,
+) -> Result<bool, OutOfMemory> {
+    let mut right = takes_chain(alloc, buffer, aside)?;
     for &left in AGAIN {
-        match take_again(alloc, buffer, aside) {
-            Ok(still) if still.len() == left => aside = still,
-            _ => return Ok(false),
-        }
+        right = take_again(alloc, buffer, aside).is_ok() && right;
+        right = right & (aside.len() == left);
     }
-    Ok(aside.is_empty() && buffer.text()?.as_str() == "gfedcba")
+    Ok(buffer.text()?.as_str() == "gfedcba" && right)
 }
 
-fn is_bounded(alloc: Global, buffer: &mut Buffer) -> Result<bool, OutOfMemory> {
-    match take_chain(alloc, buffer)? {
-        Some(aside) => Ok(aside.len() == 4 && ends_whole(alloc, buffer, aside)?),
-        None => Ok(false),
-    }
-}
-
-fn bounds(alloc: Global, opened: Result<Buffer, NewFault>) -> Result<bool, OutOfMemory> {
-    match opened {
-        Ok(mut buffer) => is_bounded(alloc, &mut buffer),
-        Err(_) => Ok(false),
-    }
+fn bounds(alloc: Global) -> Result<bool, OutOfMemory> {
+    let mut buffer = open(alloc, "", AMPLE)?;
+    is_bounded(alloc, &mut buffer, &mut Vec::new(alloc))
 }
 
 #[test]
 fn a_caller_bounds_what_waits(rt: HostRuntime) -> Result<(), OutOfMemory> {
-    assert!(rt; bounds(rt.alloc(), open(rt.alloc(), "", AMPLE))?);
+    assert!(rt; bounds(rt.alloc())?);
     Ok(())
 }

@@ -3,12 +3,12 @@ ghost use Rattle.std.specs.Prelude.{◌≤◌};
 
 use crate::operations::{Change, Stamp, stamps};
 use crate::replica::Replica;
-use crate::steps::{edit, undo};
+use crate::steps::{edit, take, undo};
 use lamport_clock::Lamport;
 use op_model::Operation;
 use std::alloc::Global;
 use sum_tree::OutOfMemory;
-use text_buffer::{Buffer, Limits, NewFault, OpFault, Took};
+use text_buffer::{Buffer, Limits, NewFault, Took};
 
 // What a replica does, by its place: an edit, an undo of edits, or taking all that another one has.
 #[derive(Clone, Copy)]
@@ -168,10 +168,6 @@ fn undoes(alloc: Global, replica: &mut Replica, edits: &[Lamport]) -> Result<boo
 fn undoes_all(alloc: Global, replica: &mut Replica, edits: &[Stamp]) -> Result<bool, OutOfMemory> {
     let edits = stamps(alloc, edits)?;
     undoes(alloc, replica, edits.as_slice())
-}
-
-fn take(buffer: &mut Buffer, op: Operation) -> Result<Took, OpFault> {
-    buffer.take(op)
 }
 
 // Takes an operation that is applied at once.

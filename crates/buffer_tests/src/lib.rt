@@ -20,11 +20,15 @@ mod counted;
 #[cfg(test)]
 mod edits;
 #[cfg(test)]
+mod fault_rows;
+#[cfg(test)]
 mod faults;
 #[cfg(test)]
 mod forgotten;
 #[cfg(test)]
 mod groups;
+#[cfg(test)]
+mod late_rows;
 #[cfg(test)]
 mod limits;
 #[cfg(test)]
@@ -47,6 +51,8 @@ mod seen_texts;
 mod shapes;
 #[cfg(test)]
 mod steps;
+#[cfg(test)]
+mod stops;
 #[cfg(test)]
 mod trees;
 #[cfg(test)]

@@ -1,8 +1,9 @@
 //! Buffers at their limits, and long texts.
-use crate::cases::AMPLE;
-use crate::operations::{Parts, operation};
-use crate::steps::Step::{Edit, Undo};
+use crate::cases::{AMPLE, open};
+use crate::operations::Parts::Letters;
+use crate::steps::Step::{Edit, Take, Undo};
 use crate::steps::{Step, comes};
+use Took::Applied;
 use lamport_clock::Lamport;
 use std::alloc::Global;
 use sum_tree::OutOfMemory;
@@ -48,16 +49,9 @@ fn each_hides(alloc: Global, buffer: &mut Buffer) -> Result<bool, OutOfMemory> {
     Ok(right)
 }
 
-fn all_hide(alloc: Global, opened: Result<Buffer, NewFault>) -> Result<bool, OutOfMemory> {
-    match opened {
-        Ok(mut buffer) => each_hides(alloc, &mut buffer),
-        Err(_) => Ok(false),
-    }
-}
-
 fn hide_long(alloc: Global) -> Result<bool, OutOfMemory> {
     let base = digits(alloc, 0, 0)?;
-    all_hide(alloc, Buffer::new(alloc, 9, base.as_str(), AMPLE))
+    each_hides(alloc, &mut open(alloc, base.as_str(), AMPLE)?)
 }
 
 #[test]
@@ -87,20 +81,16 @@ fn fault_over(alloc: Global, base: &str) -> Option<NewFault> {
     }
 }
 
-// Whether a buffer takes an edit that brings as many letters as one edit may, before 2 bytes.
+// An edit that brings as many letters as one edit may.
+const MOST_LETTERS: Step = Take((2, 1), &[(1, 0)], Letters(1, 65_536), Ok(Applied(1)));
+
 fn takes_most_letters(alloc: Global, buffer: &mut Buffer) -> Result<bool, OutOfMemory> {
-    let op = operation(alloc, (2, 1), &[(1, 0)], Parts::Letters(1, 65_536))?;
-    Ok(buffer.take(op) == Ok(Took::Applied(1)) && buffer.summary().len == 65_538)
+    Ok(comes(alloc, buffer, MOST_LETTERS)? && buffer.summary().len == 65_538)
 }
 
-fn are_most_letters_taken(
-    alloc: Global,
-    opened: Result<Buffer, NewFault>,
-) -> Result<bool, OutOfMemory> {
-    match opened {
-        Ok(mut buffer) => takes_most_letters(alloc, &mut buffer),
-        Err(_) => Ok(false),
-    }
+// Whether a buffer over 2 bytes takes it.
+fn are_most_letters_taken(alloc: Global) -> Result<bool, OutOfMemory> {
+    takes_most_letters(alloc, &mut open(alloc, "ab", AMPLE)?)
 }
 
 #[test]
@@ -110,7 +100,6 @@ fn texts_are_refused_past_their_limits(rt: HostRuntime) -> Result<(), OutOfMemor
     assert!(rt;
         fault_over(rt.alloc(), "abcdef") == Buffer::new(rt.alloc(), 9, "abcdef", FEW).err()
     );
-    let opened = Buffer::new(rt.alloc(), 9, "ab", AMPLE);
-    assert!(rt; are_most_letters_taken(rt.alloc(), opened)?);
+    assert!(rt; are_most_letters_taken(rt.alloc())?);
     Ok(())
 }

@@ -40,15 +40,16 @@ pub(crate) fn stamps(alloc: Global, rows: &[Stamp]) -> Result<Vec<Lamport>, OutO
     Ok(stamps)
 }
 
-fn piece(alloc: Global, (start, end, text): Change) -> Result<Piece, OutOfMemory> {
+/// A range, and a text in its place.
+pub(crate) fn piece(alloc: Global, start: u64, end: u64, text: &str) -> Result<Piece, OutOfMemory> {
     let text = Text::new(String::from_str(alloc, text)?);
     Ok(Piece { start, end, text })
 }
 
 pub(crate) fn pieces(alloc: Global, changes: &[Change]) -> Result<Vec<Piece>, OutOfMemory> {
     let mut pieces = Vec::new(alloc);
-    for &change in changes {
-        pieces.push(piece(alloc, change)?)?;
+    for &(start, end, text) in changes {
+        pieces.push(piece(alloc, start, end, text)?)?;
     }
     Ok(pieces)
 }
@@ -75,30 +76,41 @@ fn insertions(alloc: Global, count: usize, length: usize) -> Result<Vec<Piece>, 
     Ok(pieces)
 }
 
-fn counts(alloc: Global, rows: &[(Stamp, u32)]) -> Result<Counts, OutOfMemory> {
+fn counts(alloc: Global, rows: &[(Stamp, u32)]) -> Result<Vec<UndoCount>, OutOfMemory> {
     let mut counts = Vec::new(alloc);
     for &(edit, count) in rows {
         let edit = stamp(edit);
         counts.push(UndoCount { edit, count })?;
     }
-    Ok(Counts::new(counts))
+    Ok(counts)
 }
 
-fn edit_of(stamp: Lamport, version: Version, pieces: Vec<Piece>) -> Operation {
-    let pieces = Pieces::new(pieces);
-    Operation::Edit(EditOp {
+/// The edit of this stamp that has seen a version, if its pieces could be made.
+pub(crate) fn edit_of(
+    stamp: Lamport,
+    version: Version,
+    pieces: Result<Vec<Piece>, OutOfMemory>,
+) -> Result<Operation, OutOfMemory> {
+    let pieces = Pieces::new(pieces?);
+    Ok(Operation::Edit(EditOp {
         stamp,
         version,
         pieces,
-    })
+    }))
 }
 
-fn undo_of(stamp: Lamport, version: Version, counts: Counts) -> Operation {
-    Operation::Undo(UndoOp {
+/// The undo of this stamp that has seen a version, if its counts could be made.
+pub(crate) fn undo_of(
+    stamp: Lamport,
+    version: Version,
+    counts: Result<Vec<UndoCount>, OutOfMemory>,
+) -> Result<Operation, OutOfMemory> {
+    let counts = Counts::new(counts?);
+    Ok(Operation::Undo(UndoOp {
         stamp,
         version,
         counts,
-    })
+    }))
 }
 
 /// The operation of this stamp that has seen these and has these parts.
@@ -108,13 +120,11 @@ pub(crate) fn operation(
     seen: &[Stamp],
     parts: Parts,
 ) -> Result<Operation, OutOfMemory> {
-    let version = version(alloc, seen)?;
+    let seen = version(alloc, seen)?;
     let at = stamp(at);
     match parts {
-        Parts::Pieces(changes) => Ok(edit_of(at, version, pieces(alloc, changes)?)),
-        Parts::Letters(count, length) => {
-            Ok(edit_of(at, version, insertions(alloc, count, length)?))
-        }
-        Parts::Counts(rows) => Ok(undo_of(at, version, counts(alloc, rows)?)),
+        Parts::Pieces(changes) => edit_of(at, seen, pieces(alloc, changes)),
+        Parts::Letters(count, length) => edit_of(at, seen, insertions(alloc, count, length)),
+        Parts::Counts(rows) => undo_of(at, seen, counts(alloc, rows)),
     }
 }

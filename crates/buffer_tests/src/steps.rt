@@ -9,9 +9,9 @@ use std::alloc::Global;
 use std::cmp::Ordering;
 use sum_tree::OutOfMemory;
 use text_buffer::{
-    Anchor, Bias, Buffer, EditFault, NewFault, OpFault, PlaceFault, Refused, SinceFault, Snapshot,
-    TextEdit, Took, UndoFault, UnknownAnchor, agree, anchors_stay, edits_make_the_text,
-    snapshots_agree, snapshots_answer_alike, snapshots_append,
+    Anchor, Bias, Buffer, EditFault, OpFault, PlaceFault, Refused, SinceFault, Snapshot, TextEdit,
+    Took, UndoFault, UnknownAnchor, agree, anchors_stay, edits_make_the_text, snapshots_agree,
+    snapshots_answer_alike, snapshots_append,
 };
 
 /// A call of a buffer or a question to it, with its answer.
@@ -106,18 +106,13 @@ pub(crate) fn undo(buffer: &mut Buffer, edits: &[Lamport]) -> Result<u32, UndoFa
     }
 }
 
-fn take(
-    alloc: Global,
-    buffer: &mut Buffer,
-    at: Stamp,
-    seen: &[Stamp],
-    parts: Parts,
-) -> Result<Result<Took, OpFault>, OutOfMemory> {
-    let op = operation(alloc, at, seen, parts)?;
-    Ok(buffer.take(op))
+/// Takes an operation.
+pub(crate) fn take(buffer: &mut Buffer, op: Operation) -> Result<Took, OpFault> {
+    buffer.take(op)
 }
 
-fn settle(buffer: &mut Buffer) -> Result<u64, OutOfMemory> {
+/// Settles. Returns how many operations were applied.
+pub(crate) fn settle(buffer: &mut Buffer) -> Result<u64, OutOfMemory> {
     buffer.settle()
 }
 
@@ -200,7 +195,9 @@ pub(crate) fn comes(alloc: Global, buffer: &mut Buffer, step: Step) -> Result<bo
         Step::Edit(changes, want) => Ok(edit(alloc, buffer, changes)? == want),
         Step::Count(changes, want) => Ok(count_edit(alloc, buffer, changes)? == want),
         Step::Undo(edits, want) => Ok(undo(buffer, edits) == want),
-        Step::Take(at, seen, parts, want) => Ok(take(alloc, buffer, at, seen, parts)? == want),
+        Step::Take(at, seen, parts, want) => {
+            Ok(take(buffer, operation(alloc, at, seen, parts)?) == want)
+        }
         Step::Settle(want) => Ok(settle(buffer)? == want),
         Step::Forget(at, want) => Ok(forget(buffer, at) == want),
         Step::Last(at, seen, parts) => { Ok(is_last(buffer, &operation(alloc, at, seen, parts)?)) }
@@ -288,11 +285,8 @@ fn count_stays(alloc: Global, snapshots: &[Snapshot], rows: &[Row]) -> Result<us
 /// the buffer is gone.
 pub(crate) fn count_right(
     alloc: Global,
-    opened: Result<Buffer, NewFault>,
+    buffer: Buffer,
     rows: &[Row],
 ) -> Result<usize, OutOfMemory> {
-    match opened {
-        Ok(buffer) => count_stays(alloc, play(alloc, buffer, rows)?.as_slice(), rows),
-        Err(_) => Ok(0),
-    }
+    count_stays(alloc, play(alloc, buffer, rows)?.as_slice(), rows)
 }

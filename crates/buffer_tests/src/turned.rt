@@ -1,12 +1,15 @@
 //! Operations of three replicas, each with a part turned by chance, at two buffers that take them in opposite orders.
-use crate::alike::{place_alike, show_alike};
+use crate::alike::{Pair, pair, place_alike, show_alike};
+use crate::cases::{AMPLE, open};
 use crate::groups::{copies, drawn_operations, next};
+use crate::operations::{edit_of, piece, undo_of};
+use crate::steps::take;
 use applied_ops::Applied;
 use lamport_clock::{Lamport, Version};
-use op_model::{Counts, EditOp, Operation, Piece, Pieces, Text, UndoCount, UndoOp};
+use op_model::{Operation, Piece, UndoCount};
 use std::alloc::Global;
 use sum_tree::{OutOfMemory, SumTree};
-use text_buffer::{Buffer, Limits, NewFault, OpFault, Took};
+use text_buffer::{Buffer, OpFault, Took};
 
 // Some 50 operations are drawn of each.
 const SEEDS: u64 = 10;
@@ -40,8 +43,15 @@ fn turned_stamp(t: Lamport, x: u64) -> Lamport {
     }
 }
 
-// The version with one entry turned.
-fn turned_version(alloc: Global, version: &Version, x: u64) -> Result<Version, OutOfMemory> {
+// The version, or the one with one entry turned.
+fn turned_version(
+    alloc: Global,
+    version: &Version,
+    x: Option<u64>,
+) -> Result<Version, OutOfMemory> {
+    let Some(x) = x else {
+        return version.copy(alloc);
+    };
     let at = x % version.len().max(1);
     let mut entries = Vec::new(alloc);
     for (i, &(replica, value)) in version.as_slice().iter().enumerate() {
@@ -58,148 +68,116 @@ fn turned_version(alloc: Global, version: &Version, x: u64) -> Result<Version, O
     Version::from_entries(alloc, entries.as_slice())
 }
 
-// A text turned, or the same.
-fn turned_text(piece: &Piece, x: u64) -> &str {
-    if x % 4 == 0 { "é" } else { piece.text.as_str() }
+// The piece, or the one with its text or its range turned.
+fn turned_piece(alloc: Global, whole: &Piece, x: Option<u64>) -> Result<Piece, OutOfMemory> {
+    let text = whole.text.as_str();
+    let (start, end, text) = match x {
+        None => (whole.start, whole.end, text),
+        Some(x) => match x % 4 {
+            0 => (whole.start, whole.end, "é"),
+            1 => (whole.start.wrapping_add(1), whole.end, text),
+            2 => (whole.start, whole.end.wrapping_add(1), text),
+            _ => (whole.start, whole.end.wrapping_sub(1), text),
+        },
+    };
+    piece(alloc, start, end, text)
 }
 
-// A range turned, or the same.
-fn turned_range(piece: &Piece, x: u64) -> (u64, u64) {
-    match x % 4 {
-        1 => (piece.start.wrapping_add(1), piece.end),
-        2 => (piece.start, piece.end.wrapping_add(x >> 60)),
-        3 => (piece.start, piece.end.wrapping_sub(1)),
-        _ => (piece.start, piece.end),
-    }
-}
-
-fn turned_piece(alloc: Global, piece: &Piece, x: u64) -> Result<Piece, OutOfMemory> {
-    let (start, end) = turned_range(piece, x);
-    let text = Text::new(String::from_str(alloc, turned_text(piece, x))?);
-    Ok(Piece { start, end, text })
-}
-
-fn turned_pieces(alloc: Global, pieces: &[Piece], x: u64) -> Result<Pieces, OutOfMemory> {
+fn turned_pieces(
+    alloc: Global,
+    pieces: &[Piece],
+    x: Option<u64>,
+) -> Result<Vec<Piece>, OutOfMemory> {
     let mut turned = Vec::new(alloc);
     for piece in pieces {
         turned.push(turned_piece(alloc, piece, x)?)?;
     }
-    Ok(Pieces::new(turned))
+    Ok(turned)
 }
 
-fn turned_counts(alloc: Global, counts: &[UndoCount], x: u64) -> Result<Counts, OutOfMemory> {
+fn turned_counts(
+    alloc: Global,
+    counts: &[UndoCount],
+    x: Option<u64>,
+) -> Result<Vec<UndoCount>, OutOfMemory> {
     let mut turned = Vec::new(alloc);
-    for count in counts {
-        turned.push(UndoCount {
-            edit: count.edit,
-            count: beside(count.count, x),
-        })?;
+    for &UndoCount { edit, count } in counts {
+        let count = match x {
+            Some(x) => beside(count, x),
+            None => count,
+        };
+        turned.push(UndoCount { edit, count })?;
     }
-    Ok(Counts::new(turned))
+    Ok(turned)
 }
 
-// The operation with another stamp and version.
-fn renamed(
+// The operation of this stamp and version, with its parts or these turned.
+fn with_parts(
     alloc: Global,
     op: &Operation,
     stamp: Lamport,
     version: Version,
+    x: Option<u64>,
 ) -> Result<Operation, OutOfMemory> {
     match op {
         Operation::Edit(edit) => {
-            let pieces = edit.pieces.copy(alloc)?;
-            Ok(Operation::Edit(EditOp {
+            edit_of(
                 stamp,
                 version,
-                pieces,
-            }))
+                turned_pieces(alloc, edit.pieces.as_slice(), x),
+            )
         }
         Operation::Undo(undo) => {
-            let counts = undo.counts.copy(alloc)?;
-            Ok(Operation::Undo(UndoOp {
+            undo_of(
                 stamp,
                 version,
-                counts,
-            }))
-        }
-    }
-}
-
-// The operation with other parts.
-fn changed(alloc: Global, op: &Operation, x: u64) -> Result<Operation, OutOfMemory> {
-    let stamp = op.stamp();
-    let version = op.version().copy(alloc)?;
-    match op {
-        Operation::Edit(edit) => {
-            let pieces = turned_pieces(alloc, edit.pieces.as_slice(), x)?;
-            Ok(Operation::Edit(EditOp {
-                stamp,
-                version,
-                pieces,
-            }))
-        }
-        Operation::Undo(undo) => {
-            let counts = turned_counts(alloc, undo.counts.as_slice(), x)?;
-            Ok(Operation::Undo(UndoOp {
-                stamp,
-                version,
-                counts,
-            }))
+                turned_counts(alloc, undo.counts.as_slice(), x),
+            )
         }
     }
 }
 
 // The operation with a part turned: its stamp, an entry of its version, or its pieces or counts.
 fn turned(alloc: Global, op: &Operation, x: u64) -> Result<Operation, OutOfMemory> {
-    match (x >> 40) % 8 {
-        0 => renamed(
-            alloc,
-            op,
-            turned_stamp(op.stamp(), x >> 20),
-            op.version().copy(alloc)?,
-        ),
-        1 => renamed(
-            alloc,
-            op,
-            op.stamp(),
-            turned_version(alloc, op.version(), x >> 20)?,
-        ),
-        _ => changed(alloc, op, x >> 20),
-    }
+    let (seen, parts) = match (x >> 40) % 8 {
+        0 => (None, None),
+        1 => (Some(x >> 20), None),
+        _ => (None, Some(x >> 20)),
+    };
+    let stamp = if (x >> 40) % 8 == 0 {
+        turned_stamp(op.stamp(), x >> 20)
+    } else {
+        op.stamp()
+    };
+    let version = turned_version(alloc, op.version(), seen)?;
+    with_parts(alloc, op, stamp, version, parts)
 }
 
-// Adds an operation and the turned one of its stamp, of which either may come first.
-fn push_both(
+// Adds of each operation the turned one and the one as it was made, of which either may come first.
+fn push_turned(
     alloc: Global,
     all: &mut Vec<Operation>,
-    op: &Operation,
-    x: u64,
+    ops: &[Operation],
+    seed: u64,
 ) -> Result<(), OutOfMemory> {
-    let turned = turned(alloc, op, x)?;
-    if x >> 63 == 0 {
-        all.push(turned)?;
+    let mut x = seed;
+    for op in ops {
+        x = next(x);
+        let is_last = x >> 63 == 1;
+        if !is_last {
+            all.push(turned(alloc, op, x)?)?;
+        }
         all.push(op.copy(alloc)?)?;
-    } else {
-        all.push(op.copy(alloc)?)?;
-        all.push(turned)?;
+        if is_last {
+            all.push(turned(alloc, op, x)?)?;
+        }
     }
     Ok(())
 }
 
-// Of each operation the turned one and the one as it was made.
-fn all_turned(alloc: Global, ops: &[Operation], seed: u64) -> Result<Vec<Operation>, OutOfMemory> {
-    let mut all = Vec::new(alloc);
-    let mut x = seed;
-    for op in ops {
-        x = next(x);
-        push_both(alloc, &mut all, op, x)?;
-    }
-    Ok(all)
-}
-
 // Whether an operation is applied, or begins to wait.
 fn changes(buffer: &mut Buffer, op: Operation) -> bool {
-    matches!(buffer.take(op), Ok(Took::Applied(_) | Took::Waits { .. }))
+    matches!(take(buffer, op), Ok(Took::Applied(_) | Took::Waits { .. }))
 }
 
 // Whether any of these changes the buffer, which takes them from the first to the last, or from the last to the first.
@@ -263,86 +241,54 @@ fn see_alike(a: &Buffer, b: &Buffer, version: &Version) -> bool {
 // Whether another operation of the stamp or the author came first.
 fn is_late(buffer: &mut Buffer, op: Operation) -> bool {
     matches!(
-        buffer.take(op),
+        take(buffer, op),
         Err(OpFault::Conflict(_) | OpFault::Forked(_))
     )
 }
 
 // Whether both buffers have applied an operation or neither has, unless another one with its stamp or before it came first.
-fn ends_alike(
-    alloc: Global,
-    a: &mut Buffer,
-    b: &mut Buffer,
-    op: &Operation,
-) -> Result<bool, OutOfMemory> {
+fn ends_alike(alloc: Global, pair: &mut Pair, op: &Operation) -> Result<bool, OutOfMemory> {
+    let (a, b) = (&mut pair.buffer, &mut pair.twin);
     if has(a.applied(), op) == has(b.applied(), op) || !see_alike(a, b, op.version()) {
         return Ok(true);
     }
     Ok(is_late(a, op.copy(alloc)?) || is_late(b, op.copy(alloc)?))
 }
 
-fn end_alike(
-    alloc: Global,
-    a: &mut Buffer,
-    b: &mut Buffer,
-    ops: &[Operation],
-) -> Result<bool, OutOfMemory> {
-    for op in ops {
-        if !ends_alike(alloc, a, b, op)? {
-            return Ok(false);
-        }
-    }
-    Ok(true)
-}
-
 // Whether two buffers have applied the same operations, in whatever order, show one text and place anchors alike.
 fn agree(a: &Buffer, b: &Buffer) -> Result<bool, OutOfMemory> {
-    let alike = see_alike(a, b, a.version()) && a.applied().len() == b.applied().len();
+    let alike = see_alike(a, b, a.version()) & (a.applied().len() == b.applied().len());
     let shown = show_alike(a, b)?;
-    Ok(alike && shown && place_alike(&a.snapshot()?, &b.snapshot()?, a.summary().len))
+    Ok(place_alike(&a.snapshot()?, &b.snapshot()?, a.summary().len) & alike & shown)
 }
 
-// Whether a new buffer that takes what a buffer has applied, the last first, ends as that one.
-fn is_repeated(alloc: Global, buffer: &Buffer, other: &mut Buffer) -> Result<bool, OutOfMemory> {
-    let ops = copies(alloc, buffer)?;
-    Ok(comes_to_rest(alloc, other, ops.as_slice(), true)? && agree(buffer, other)?)
+// Whether a new buffer that takes these, the last first, ends as another one.
+fn is_repeated(alloc: Global, buffer: &Buffer, ops: &[Operation]) -> Result<bool, OutOfMemory> {
+    let mut other = open(alloc, "", AMPLE)?;
+    let rests = comes_to_rest(alloc, &mut other, ops, true)?;
+    Ok(agree(buffer, &other)? && rests)
 }
 
+// Whether a new buffer that takes what a buffer has applied ends as that one.
 fn repeats(alloc: Global, buffer: &Buffer) -> Result<bool, OutOfMemory> {
-    match open(alloc) {
-        Ok(mut other) => is_repeated(alloc, buffer, &mut other),
-        Err(_) => Ok(false),
-    }
+    is_repeated(alloc, buffer, copies(alloc, buffer)?.as_slice())
 }
 
 // Whether two buffers that take these in opposite orders come to rest, each with what a buffer shows that takes what it applied.
-fn ends(
-    alloc: Global,
-    a: &mut Buffer,
-    b: &mut Buffer,
-    all: &[Operation],
-) -> Result<bool, OutOfMemory> {
-    let rest = comes_to_rest(alloc, a, all, false)? && comes_to_rest(alloc, b, all, true)?;
-    let alike = end_alike(alloc, a, b, all)?;
-    Ok(rest && alike && repeats(alloc, a)? && repeats(alloc, b)?)
-}
-
-fn open(alloc: Global) -> Result<Buffer, NewFault> {
-    Buffer::new(alloc, 9, "", Limits::MOST)
-}
-
-fn ends_beside(alloc: Global, a: &mut Buffer, all: &[Operation]) -> Result<bool, OutOfMemory> {
-    match open(alloc) {
-        Ok(mut b) => ends(alloc, a, &mut b, all),
-        Err(_) => Ok(false),
+fn ends(alloc: Global, pair: &mut Pair, all: &[Operation]) -> Result<bool, OutOfMemory> {
+    let mut right = comes_to_rest(alloc, &mut pair.buffer, all, false)?;
+    right = comes_to_rest(alloc, &mut pair.twin, all, true)? && right;
+    for op in all {
+        right = ends_alike(alloc, pair, op)? && right;
     }
+    right = repeats(alloc, &pair.buffer)? && right;
+    Ok(repeats(alloc, &pair.twin)? && right)
 }
 
-fn ends_anew(alloc: Global, all: &[Operation]) -> Result<bool, OutOfMemory> {
-    match open(alloc) {
-        Ok(mut a) => ends_beside(alloc, &mut a, all),
-        Err(_) => Ok(false),
-    }
+fn ends_turned(alloc: Global, ops: &[Operation], x: u64) -> Result<bool, OutOfMemory> {
+    let mut all = Vec::new(alloc);
+    push_turned(alloc, &mut all, ops, x)?;
+    ends(alloc, &mut pair(alloc, "", AMPLE)?, all.as_slice())
 }
 
 // How often the operations of a seed are turned until these do not end as they should.
@@ -350,8 +296,7 @@ fn count_right(alloc: Global, seed: u64) -> Result<u64, OutOfMemory> {
     let ops = drawn_operations(alloc, seed)?;
     for turn in 0..TURNS {
         let x = seed.wrapping_mul(TURNS).wrapping_add(turn);
-        let all = all_turned(alloc, ops.as_slice(), x)?;
-        if !ends_anew(alloc, all.as_slice())? {
+        if !ends_turned(alloc, ops.as_slice(), x)? {
             return Ok(turn);
         }
     }
