@@ -15,7 +15,7 @@ pub(crate) struct Pair {
 }
 
 /// Two buffers of replica 9 over one text.
-pub(crate) fn pair(alloc: Global, base: &str, limits: Limits) -> Result<Pair, OutOfMemory> {
+pub(crate) fn open_two(alloc: Global, base: &str, limits: Limits) -> Result<Pair, OutOfMemory> {
     let buffer = open(alloc, base, limits)?;
     let twin = open(alloc, base, limits)?;
     Ok(Pair { buffer, twin })

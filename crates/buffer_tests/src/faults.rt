@@ -1,6 +1,6 @@
 //! Each fault that an operation can meet, by each of its causes, when it is taken and while settling. After each the buffer answers
 //! as before.
-use crate::alike::{Pair, answer_alike, pair};
+use crate::alike::{Pair, answer_alike, open_two};
 use crate::cases::open;
 use crate::fault_rows::{Asked, FIRST, ROWS, Row, SECOND, TEXT};
 use crate::late_rows::{Late, WAITING};
@@ -53,7 +53,7 @@ fn holds(
     before: &[Step],
     asked: &[Asked],
 ) -> Result<bool, OutOfMemory> {
-    answer(alloc, &mut pair(alloc, TEXT, limits)?, before, asked)
+    answer(alloc, &mut open_two(alloc, TEXT, limits)?, before, asked)
 }
 
 // Whether an operation has its answers at the first and at the second buffer.

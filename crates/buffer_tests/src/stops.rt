@@ -1,7 +1,7 @@
 //! Calls that stop where an allocation fails, and are called again: what comes of them is what comes of calls that never stop.
 //!
 //! Where no allocation fails, each call is called once. `bench/refused_calls.sh` refuses each allocation in turn.
-use crate::alike::{Pair, apply_alike, pair, show_alike, wait_alike};
+use crate::alike::{Pair, apply_alike, open_two, show_alike, wait_alike};
 use crate::cases::AMPLE;
 use crate::operations::{Parts, Stamp, stamp};
 use crate::steps::{Step, comes, keeps, settle};
@@ -138,8 +138,8 @@ const MIXES: &[Mix] = &[
                 MISSES_ONE,
             ),
             Take((5, 3), BY_ONE, Pieces(&[(0, 1, "")]), MISSES_ONE),
-            Take((4, 6), BY_TWO, Pieces(&[(2, 2, "t")]), MISSES_TWO),
-            Take((4, 6), BY_TWO, Pieces(&[(2, 2, "t")]), Ok(Repeat)),
+            Take((4, 6), BY_TWO, Pieces(&[(3, 3, "t")]), MISSES_TWO),
+            Take((4, 6), BY_TWO, Pieces(&[(3, 3, "t")]), Ok(Repeat)),
             Take((5, 6), BY_TWO, NONE, MISSES_TWO),
             Take((2, 1), BASE, Pieces(&[(0, 0, "xy")]), Ok(Applied(3))),
             Take((3, 2), BASE, Pieces(&[(1, 2, "")]), Ok(Applied(2))),
@@ -238,7 +238,7 @@ fn is_right(a: &Buffer, b: &Buffer, mix: &Mix) -> Result<bool, OutOfMemory> {
 }
 
 fn holds(alloc: Global, mix: &Mix) -> Result<bool, OutOfMemory> {
-    let mut pair = pair(alloc, mix.base, AMPLE)?;
+    let mut pair = open_two(alloc, mix.base, AMPLE)?;
     let right = play(alloc, &mut pair, mix.steps);
     Ok(is_right(&pair.buffer, &pair.twin, mix)? && right)
 }

@@ -1,5 +1,5 @@
 //! Operations of three replicas, each with a part turned by chance, at two buffers that take them in opposite orders.
-use crate::alike::{Pair, pair, place_alike, show_alike};
+use crate::alike::{Pair, open_two, place_alike, show_alike};
 use crate::cases::{AMPLE, open};
 use crate::groups::{copies, drawn_operations, next};
 use crate::operations::{edit_of, piece, undo_of};
@@ -288,7 +288,7 @@ fn ends(alloc: Global, pair: &mut Pair, all: &[Operation]) -> Result<bool, OutOf
 fn ends_turned(alloc: Global, ops: &[Operation], x: u64) -> Result<bool, OutOfMemory> {
     let mut all = Vec::new(alloc);
     push_turned(alloc, &mut all, ops, x)?;
-    ends(alloc, &mut pair(alloc, "", AMPLE)?, all.as_slice())
+    ends(alloc, &mut open_two(alloc, "", AMPLE)?, all.as_slice())
 }
 
 // How often the operations of a seed are turned until these do not end as they should.
