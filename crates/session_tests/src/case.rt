@@ -25,15 +25,46 @@ const KEYS: &[&str] = &[
 ];
 
 fn is_known(line: &str) -> bool {
-    KEYS.iter().any(|key| line.starts_with(*key))
+    for key in KEYS {
+        if line.starts_with(*key) {
+            return true;
+        }
+    }
+    false
 }
 
-// The text, without its last line feed where the head says so.
-fn cut<'a>(text: &'a str, head: &str, name: &str) -> &'a str {
-    let is_cut = head.lines().any(|line| line.strip_prefix("no last line feed: ") == Some(name));
+// What the first line of the head that begins with the key has after it.
+fn value<'a>(head: &'a str, key: &str) -> Option<&'a str> {
+    for line in head.lines() {
+        if let Some(rest) = line.strip_prefix(key) {
+            return Some(rest);
+        }
+    }
+    None
+}
+
+fn is_head(head: &str) -> bool {
+    for line in head.lines() {
+        if !is_known(line) {
+            return false;
+        }
+    }
+    value(head, "words:").is_some() && value(head, "status: ").is_some()
+}
+
+// The text, without its last line feed where there is a line of the head that says so.
+fn cut<'a>(text: &'a str, line: Option<&str>) -> &'a str {
     match text.strip_suffix('\n') {
-        Some(front) if is_cut => front,
+        Some(front) if line.is_some() => front,
         _ => text,
+    }
+}
+
+// The session, and the lines that are tried in turn where there are any.
+fn session_and_lines(input: &str) -> (&str, Option<&str>) {
+    match input.split_once("--- lines\n") {
+        Some((session, lines)) => (session, Some(lines)),
+        None => (input, None),
     }
 }
 
@@ -42,29 +73,26 @@ impl<'a> Case<'a> {
     pub fn read(text: &'a str) -> Option<Case<'a>> {
         let (head, rest) = text.split_once("--- session\n")?;
         let (input, output) = rest.split_once("--- output\n")?;
-        let (session, lines) = match input.split_once("--- lines\n") {
-            Some((session, lines)) => (session, Some(lines)),
-            None => (input, None),
-        };
-        if !head.lines().all(is_known) || !head.contains("words:") || !head.contains("status: ") {
-            return None;
+        if is_head(head) {
+            Some(Case::new(head, input, output))
+        } else {
+            None
         }
-        Some(Case {
+    }
+
+    fn new(head: &'a str, input: &'a str, output: &'a str) -> Case<'a> {
+        let (session, lines) = session_and_lines(input);
+        Case {
             head,
-            session: cut(session, head, "session"),
+            session: cut(session, value(head, "no last line feed: session")),
             lines,
-            output: cut(output, head, "output"),
-        })
+            output: cut(output, value(head, "no last line feed: output")),
+        }
     }
 
     // The number after the key.
     fn number(&self, key: &str) -> Option<u64> {
-        for line in self.head.lines() {
-            if let Some(number) = line.strip_prefix(key) {
-                return number.parse().ok();
-            }
-        }
-        None
+        value(self.head, key)?.parse().ok()
     }
 
     /// How `run` is called.
@@ -82,6 +110,6 @@ impl<'a> Case<'a> {
 
     /// Whether rows of the output are choices.
     pub fn has_choices(&self) -> bool {
-        self.head.lines().any(|line| line == "choice: |")
+        value(self.head, "choice: |").is_some()
     }
 }

@@ -35,11 +35,13 @@ fn asked_replicas<'a>(alloc: Global, session: &'a str) -> Result<Vec<&'a str>, O
 }
 
 fn asked_replica(line: &str) -> Option<&str> {
-    let mut parts = line.split(',');
-    match parts.next()? {
-        "[\"find\"" | "[\"point\"" | "[\"offset\"" => parts.next(),
-        _ => None,
-    }
+    let (word, rest) = line.split_once(',')?;
+    let (replica, _) = rest.split_once(',')?;
+    if is_query(word) { Some(replica) } else { None }
+}
+
+fn is_query(word: &str) -> bool {
+    word == "[\"find\"" || word == "[\"point\"" || word == "[\"offset\""
 }
 
 fn answers_a_query(row: &str) -> bool {
