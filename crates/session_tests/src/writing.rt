@@ -14,33 +14,11 @@ use text_dims::{OffsetUtf16, Point, PointUtf16};
 /// Writes the lines of each table.
 pub fn test<R: Host>(rt: &R, tally: &mut Tally) {
     for (plain, want) in LINES {
-        let is_right = writes(rt.alloc(), &line_of(*plain), want) == Ok(true);
+        let is_right = writes_plain(rt.alloc(), *plain, want) == Ok(true);
         tally.note(rt, "writing", want, is_right);
     }
-    for (starts, want) in STARTS {
-        let is_right = writes_starts(rt.alloc(), starts, want) == Ok(true);
-        tally.note(rt, "writing", want, is_right);
-    }
-    for (answer, want) in ANCHORS {
-        let is_right = writes_anchor(rt.alloc(), *answer, want) == Ok(true);
-        tally.note(rt, "writing", want, is_right);
-    }
-    for (answer, want) in PLACES {
-        let is_right = writes_place(rt.alloc(), *answer, want) == Ok(true);
-        tally.note(rt, "writing", want, is_right);
-    }
-    for (edits, want) in EDITS {
-        let is_right = writes_edits(rt.alloc(), edits, want) == Ok(true);
-        tally.note(rt, "writing", want, is_right);
-    }
-    for (fault, want) in SINCE_FAULTS {
-        let is_right = writes_since(rt.alloc(), SinceAnswer::Fault(*fault), want) == Ok(true);
-        tally.note(rt, "writing", want, is_right);
-    }
-    let is_right = writes_mark(rt.alloc()) == Ok(true);
-    tally.note(rt, "writing", "a mark", is_right);
-    for (head, text, want) in TEXTS {
-        let is_right = writes_text(rt.alloc(), *head, text, want) == Ok(true);
+    for (owned, want) in OWNED {
+        let is_right = writes_owned(rt.alloc(), *owned, want) == Ok(true);
         tally.note(rt, "writing", want, is_right);
     }
     for (head, want) in PARTS {
@@ -49,17 +27,28 @@ pub fn test<R: Host>(rt: &R, tally: &mut Tally) {
     }
 }
 
+fn writes_plain(alloc: Global, plain: Plain, want: &str) -> Result<bool, OutOfMemory> {
+    writes(alloc, &plain_line(plain), want)
+}
+
+fn writes_owned(alloc: Global, owned: Owned, want: &str) -> Result<bool, OutOfMemory> {
+    let line = owned_line(alloc, owned)?;
+    writes(alloc, &line, want)
+}
+
 // Whether the line is written after another text.
 fn writes(alloc: Global, line: &Report, want: &str) -> Result<bool, OutOfMemory> {
     let mut out = b"before\n".to_vec(alloc)?;
     write_line(alloc, &mut out, line)?;
-    is_after(alloc, out, want)
+    Ok(is_after(out.as_slice(), want))
 }
 
-// Whether a line was written after another text.
-fn is_after(alloc: Global, out: Vec<u8>, want: &str) -> Result<bool, OutOfMemory> {
-    let whole = format!(in alloc; "before\n{want}\n")?;
-    Ok(out.as_slice() == whole.as_bytes())
+// Whether one line was written after another text.
+fn is_after(out: &[u8], want: &str) -> bool {
+    match out.strip_prefix(b"before\n") {
+        Some(line) => line.strip_suffix(b"\n") == Some(want.as_bytes()),
+        None => false,
+    }
 }
 
 const STAMP: Lamport = Lamport {
@@ -77,7 +66,7 @@ const LAST: Lamport = Lamport {
     replica: 7,
 };
 
-// A line without a name, a text or a list.
+// A line that owns nothing.
 #[derive(Clone, Copy)]
 enum Plain {
     Made(Lamport),
@@ -93,7 +82,7 @@ enum Plain {
     Replica,
 }
 
-fn line_of(plain: Plain) -> Report {
+fn plain_line(plain: Plain) -> Report {
     match plain {
         Plain::Made(stamp) => Report::Made { number: 12, stamp },
         Plain::Edit(fault) => Report::EditRefused { number: 3, fault },
@@ -275,113 +264,76 @@ const LINES: &[(Plain, &str)] = &[
     ),
 ];
 
-// Places where a needle stands.
-const STARTS: &[(&[u64], &str)] = &[
-    (&[], "find 12 at 34: none"),
-    (&[7], "find 12 at 34: 7"),
-    (&[127, 128, 129], "find 12 at 34: 127 128 129"),
-    (
-        &[0, 18_446_744_073_709_551_615],
-        "find 12 at 34: 0 18446744073709551615",
-    ),
-];
+// A line that owns a name, a text or a list.
+#[derive(Clone, Copy)]
+enum Owned {
+    // The places where a needle stands.
+    Starts(&'static [u64]),
+    Anchor(AnchorAnswer),
+    Where(WhereAnswer),
+    Mark,
+    Edits(&'static [TextEdit]),
+    Since(SinceFault),
+    Text(TextHead, &'static str),
+}
 
-fn writes_starts(alloc: Global, starts: &[u64], want: &str) -> Result<bool, OutOfMemory> {
-    let found = FindAnswer::Starts(Numbers::new(starts.to_vec(alloc)?));
-    writes(alloc, &query_line(QueryAnswer::Find(found)), want)
+fn owned_line(alloc: Global, owned: Owned) -> Result<Report, OutOfMemory> {
+    match owned {
+        Owned::Starts(starts) => starts_line(alloc, starts),
+        Owned::Anchor(answer) => anchor_line(alloc, answer),
+        Owned::Where(answer) => where_line(alloc, answer),
+        Owned::Mark => mark_line(alloc),
+        Owned::Edits(edits) => edits_line(alloc, edits),
+        Owned::Since(fault) => since_line(alloc, SinceAnswer::Fault(fault)),
+        Owned::Text(head, shown) => text_line(alloc, head, shown),
+    }
 }
 
 fn text(alloc: Global, text: &str) -> Result<Text, OutOfMemory> {
     Ok(Text::new(String::from_str(alloc, text)?))
 }
 
-const ANCHORS: &[(AnchorAnswer, &str)] = &[
-    (AnchorAnswer::Set, "anchor \"a\\\"\\n\": set"),
-    (
-        AnchorAnswer::Fault(PlaceFault::PastEnd(20)),
-        "anchor \"a\\\"\\n\": pastend 20",
-    ),
-    (
-        AnchorAnswer::Fault(PlaceFault::InsideChar),
-        "anchor \"a\\\"\\n\": insidechar",
-    ),
-];
-
-fn writes_anchor(alloc: Global, answer: AnchorAnswer, want: &str) -> Result<bool, OutOfMemory> {
-    let name = text(alloc, "a\"\n")?;
-    writes(alloc, &Report::Anchor { name, answer }, want)
+fn starts_line(alloc: Global, starts: &[u64]) -> Result<Report, OutOfMemory> {
+    let starts = Numbers::new(starts.to_vec(alloc)?);
+    Ok(query_line(QueryAnswer::Find(FindAnswer::Starts(starts))))
 }
 
-const PLACES: &[(WhereAnswer, &str)] = &[
-    (WhereAnswer::Offset(0), "where \"\" at 1023: 0"),
-    (
-        WhereAnswer::Offset(18_446_744_073_709_551_615),
-        "where \"\" at 1023: 18446744073709551615",
-    ),
-    (WhereAnswer::Unknown, "where \"\" at 1023: unknown"),
-    (WhereAnswer::Nothing, "where \"\" at 1023: nothing"),
-];
+fn anchor_line(alloc: Global, answer: AnchorAnswer) -> Result<Report, OutOfMemory> {
+    let name = text(alloc, "a\"\n")?;
+    Ok(Report::Anchor { name, answer })
+}
 
-fn writes_place(alloc: Global, answer: WhereAnswer, want: &str) -> Result<bool, OutOfMemory> {
+fn where_line(alloc: Global, answer: WhereAnswer) -> Result<Report, OutOfMemory> {
     let name = text(alloc, "")?;
-    let line = Report::Where {
+    Ok(Report::Where {
         name,
         replica: 1023,
         answer,
-    };
-    writes(alloc, &line, want)
+    })
 }
 
-fn writes_mark(alloc: Global) -> Result<bool, OutOfMemory> {
+fn mark_line(alloc: Global) -> Result<Report, OutOfMemory> {
     let name = text(alloc, "\u{e9}")?;
-    writes(alloc, &Report::Mark { name }, "mark \"\u{e9}\": set")
+    Ok(Report::Mark { name })
 }
 
-const EDITS: &[(&[TextEdit], &str)] = &[
-    (&[], "since \"m\" at 2: none"),
-    (
-        &[TextEdit {
-            old: (1, 2),
-            new: (3, 4),
-        }],
-        "since \"m\" at 2: 1..2 -> 3..4",
-    ),
-    (
-        &[
-            TextEdit {
-                old: (0, 0),
-                new: (0, 10),
-            },
-            TextEdit {
-                old: (5, 70),
-                new: (15, 15),
-            },
-        ],
-        "since \"m\" at 2: 0..0 -> 0..10, 5..70 -> 15..15",
-    ),
-];
-
-const SINCE_FAULTS: &[(SinceFault, &str)] = &[
-    (SinceFault::Unseen(0), "since \"m\" at 2: unseen 0"),
-    (
-        SinceFault::OpenVersion(65_535),
-        "since \"m\" at 2: openversion 65535",
-    ),
-];
-
-fn writes_edits(alloc: Global, edits: &[TextEdit], want: &str) -> Result<bool, OutOfMemory> {
+fn edits_line(alloc: Global, edits: &[TextEdit]) -> Result<Report, OutOfMemory> {
     let edits = TextEdits::new(edits.to_vec(alloc)?);
-    writes_since(alloc, SinceAnswer::Edits(edits), want)
+    since_line(alloc, SinceAnswer::Edits(edits))
 }
 
-fn writes_since(alloc: Global, answer: SinceAnswer, want: &str) -> Result<bool, OutOfMemory> {
+fn since_line(alloc: Global, answer: SinceAnswer) -> Result<Report, OutOfMemory> {
     let name = text(alloc, "m")?;
-    let line = Report::Since {
+    Ok(Report::Since {
         name,
         replica: 2,
         answer,
-    };
-    writes(alloc, &line, want)
+    })
+}
+
+fn text_line(alloc: Global, head: TextHead, shown: &str) -> Result<Report, OutOfMemory> {
+    let text = text(alloc, shown)?;
+    Ok(Report::Text { head, text })
 }
 
 const CURRENT: TextHead = TextHead::CurrentText {
@@ -392,27 +344,84 @@ const CURRENT: TextHead = TextHead::CurrentText {
     rows: 2,
 };
 
-const TEXTS: &[(TextHead, &str, &str)] = &[
-    (
-        CURRENT,
-        "\u{e9}\n\"\\\u{1}\u{7f}/\u{8}\u{c}\r\t\u{1f}",
-        CURRENT_LINE,
-    ),
-    (TextHead::FinalText { replica: 2 }, "", "final 2: \"\""),
-];
-
 const CURRENT_LINE: &str =
     "text 1: 13 bytes, end 1:10, 2 rows, \"\u{e9}\\n\\\"\\\\\\u0001\u{7f}/\\b\\f\\r\\t\\u001f\"";
 
-fn writes_text(
-    alloc: Global,
-    head: TextHead,
-    shown: &str,
-    want: &str,
-) -> Result<bool, OutOfMemory> {
-    let text = text(alloc, shown)?;
-    writes(alloc, &Report::Text { head, text }, want)
-}
+const OWNED: &[(Owned, &str)] = &[
+    (Owned::Starts(&[]), "find 12 at 34: none"),
+    (Owned::Starts(&[7]), "find 12 at 34: 7"),
+    (
+        Owned::Starts(&[127, 128, 129]),
+        "find 12 at 34: 127 128 129",
+    ),
+    (
+        Owned::Starts(&[0, 18_446_744_073_709_551_615]),
+        "find 12 at 34: 0 18446744073709551615",
+    ),
+    (Owned::Anchor(AnchorAnswer::Set), "anchor \"a\\\"\\n\": set"),
+    (
+        Owned::Anchor(AnchorAnswer::Fault(PlaceFault::PastEnd(20))),
+        "anchor \"a\\\"\\n\": pastend 20",
+    ),
+    (
+        Owned::Anchor(AnchorAnswer::Fault(PlaceFault::InsideChar)),
+        "anchor \"a\\\"\\n\": insidechar",
+    ),
+    (
+        Owned::Where(WhereAnswer::Offset(0)),
+        "where \"\" at 1023: 0",
+    ),
+    (
+        Owned::Where(WhereAnswer::Offset(18_446_744_073_709_551_615)),
+        "where \"\" at 1023: 18446744073709551615",
+    ),
+    (
+        Owned::Where(WhereAnswer::Unknown),
+        "where \"\" at 1023: unknown",
+    ),
+    (
+        Owned::Where(WhereAnswer::Nothing),
+        "where \"\" at 1023: nothing",
+    ),
+    (Owned::Mark, "mark \"\u{e9}\": set"),
+    (Owned::Edits(&[]), "since \"m\" at 2: none"),
+    (
+        Owned::Edits(&[TextEdit {
+            old: (1, 2),
+            new: (3, 4),
+        }]),
+        "since \"m\" at 2: 1..2 -> 3..4",
+    ),
+    (
+        Owned::Edits(&[
+            TextEdit {
+                old: (0, 0),
+                new: (0, 10),
+            },
+            TextEdit {
+                old: (5, 70),
+                new: (15, 15),
+            },
+        ]),
+        "since \"m\" at 2: 0..0 -> 0..10, 5..70 -> 15..15",
+    ),
+    (
+        Owned::Since(SinceFault::Unseen(0)),
+        "since \"m\" at 2: unseen 0",
+    ),
+    (
+        Owned::Since(SinceFault::OpenVersion(65_535)),
+        "since \"m\" at 2: openversion 65535",
+    ),
+    (
+        Owned::Text(CURRENT, "\u{e9}\n\"\\\u{1}\u{7f}/\u{8}\u{c}\r\t\u{1f}"),
+        CURRENT_LINE,
+    ),
+    (
+        Owned::Text(TextHead::FinalText { replica: 2 }, ""),
+        "final 2: \"\"",
+    ),
+];
 
 // The first text, in parts.
 const TEXT_PARTS: &[&str] = &[
@@ -435,5 +444,5 @@ const PARTS: &[(TextHead, &str)] = &[
 fn writes_parts(alloc: Global, head: TextHead, want: &str) -> Result<bool, OutOfMemory> {
     let mut out = b"before\n".to_vec(alloc)?;
     write_text(alloc, &mut out, head, TEXT_PARTS.iter().copied())?;
-    is_after(alloc, out, want)
+    Ok(is_after(out.as_slice(), want))
 }
