@@ -1,4 +1,5 @@
 //! Sessions as `decode` reads them, and inputs that no file can hold.
+use crate::limits::{Part, joined};
 use crate::tally::{Host, Tally};
 use op_model::OutOfMemory;
 use session_lines::{DecodeFault, SessionLine, Word, decode};
@@ -14,17 +15,13 @@ pub fn test<R: Host>(rt: &R, tally: &mut Tally) {
         let is_right = reads_version(rt.alloc(), version, entries) == Ok(true);
         tally.note(rt, "decoding a version", version, is_right);
     }
-    for (name, count) in [("16", 16u16), ("17", 17), ("40", 40)] {
-        let is_right = reads_many(rt.alloc(), count) == Ok(true);
+    for (name, count) in AUTHORS {
+        let is_right = reads_many(rt.alloc(), *count) == Ok(true);
         tally.note(rt, "decoding a version of many authors", name, is_right);
     }
-    for &(input, line) in NO_TEXT {
-        let is_right = fault_of(rt.alloc(), input) == bad(line, Word::Json);
-        tally.note(rt, "decoding", "a line that is no text", is_right);
-    }
-    for (name, count, last, want) in MANY_LINES {
-        let is_right = is_refused_for(rt.alloc(), *count, last, *want) == Ok(true);
-        tally.note(rt, "decoding many lines", name, is_right);
+    for (name, input, want) in REFUSED {
+        let is_right = is_refused_for(rt.alloc(), input, *want) == Ok(true);
+        tally.note(rt, "decoding what is refused", name, is_right);
     }
 }
 
@@ -175,50 +172,70 @@ fn entries(alloc: Global, count: u16) -> Result<Vec<(u16, u32)>, OutOfMemory> {
     Ok(entries)
 }
 
+// Numbers of authors.
+const AUTHORS: &[(&str, u16)] = &[("16", 16), ("17", 17), ("40", 40)];
+
 // Whether a version of that many ids is read, and one with another entry of the first id is refused.
 fn reads_many(alloc: Global, count: u16) -> Result<bool, OutOfMemory> {
     let text = entries_text(alloc, count)?;
+    Ok(reads_entries(alloc, text.as_str(), count)? && refuses_another(alloc, text.as_str())?)
+}
+
+fn reads_entries(alloc: Global, text: &str, count: u16) -> Result<bool, OutOfMemory> {
     let version = format!(in alloc; "[{text}]")?;
-    let twice = format!(in alloc;
+    let want = entries(alloc, count)?;
+    reads_version(alloc, version.as_str(), want.as_slice())
+}
+
+fn refuses_another(alloc: Global, text: &str) -> Result<bool, OutOfMemory> {
+    let input = format!(in alloc;
         "[\"zedbuf\",1,\"ab\",[1,2]]\n[\"op\",[9,1],[{text},[1,9]],[]]\n[\"text\",4]\n"
     )?;
-    let is_refused = fault_of(alloc, twice.as_bytes()) == bad(2, Word::Shape);
-    let want = entries(alloc, count)?;
-    Ok(reads_version(alloc, version.as_str(), want.as_slice())? && is_refused)
+    let want = DecodeFault::Bad {
+        line: 2,
+        word: Word::Shape,
+    };
+    Ok(is_refused(alloc, input.as_bytes(), want))
 }
 
-fn bad(line: u64, word: Word) -> Option<DecodeFault> {
-    Some(DecodeFault::Bad { line, word })
+fn is_refused(alloc: Global, input: &[u8], want: DecodeFault) -> bool {
+    decode(alloc, input).err() == Some(want)
 }
 
-// What an input is refused for.
-fn fault_of(alloc: Global, input: &[u8]) -> Option<DecodeFault> {
-    decode(alloc, input).err()
-}
-
-// Inputs with a line that is no text, and its number.
-const NO_TEXT: &[(&[u8], u64)] = &[
+// Inputs with a byte that is no text, and inputs of many lines.
+const REFUSED: &[(&str, &[Part], DecodeFault)] = &[
     (
-        b"[\"zedbuf\",1,\"ab\",[1]]\n[\"text\",\xff\n[\"text\",1]\n",
-        2,
+        "a line that is no text",
+        &[
+            ("[\"zedbuf\",1,\"ab\",[1]]\n[\"text\",", b'\xff', 1),
+            ("\n[\"text\",1]\n", 0, 0),
+        ],
+        DecodeFault::Bad {
+            line: 2,
+            word: Word::Json,
+        },
     ),
-    (b"[\"zedbuf\",1,\"ab\",[1]]\n[\"text\",1]\n\"\xff\"\n", 3),
-];
-
-// A number of line feeds, a last line without one, and what they are refused for.
-const MANY_LINES: &[(&str, usize, &str, DecodeFault)] = &[
-    ("1,048,576", 1_048_576, "", BAD_JSON),
     (
-        "1,048,576, the last without a line feed",
-        1_048_575,
-        " ",
+        "a string that is no text",
+        &[
+            ("[\"zedbuf\",1,\"ab\",[1]]\n[\"text\",1]\n\"", b'\xff', 1),
+            ("\"\n", 0, 0),
+        ],
+        DecodeFault::Bad {
+            line: 3,
+            word: Word::Json,
+        },
+    ),
+    ("1,048,576 lines", &[("", b'\n', 1_048_576)], BAD_JSON),
+    (
+        "1,048,576 lines, the last without a line feed",
+        &[("", b'\n', 1_048_575), (" ", 0, 0)],
         BAD_JSON,
     ),
-    ("1,048,577", 1_048_577, "", TOO_MANY),
+    ("1,048,577 lines", &[("", b'\n', 1_048_577)], TOO_MANY),
     (
-        "1,048,577, the last without a line feed",
-        1_048_576,
-        " ",
+        "1,048,577 lines, the last without a line feed",
+        &[("", b'\n', 1_048_576), (" ", 0, 0)],
         TOO_MANY,
     ),
 ];
@@ -230,13 +247,7 @@ const BAD_JSON: DecodeFault = DecodeFault::Bad {
 
 const TOO_MANY: DecodeFault = DecodeFault::Lines(1_048_577);
 
-fn is_refused_for(
-    alloc: Global,
-    count: usize,
-    last: &str,
-    want: DecodeFault,
-) -> Result<bool, OutOfMemory> {
-    let mut input = vec![in alloc; b'\n'; count]?;
-    input.extend_from_slice(last.as_bytes())?;
-    Ok(fault_of(alloc, input.as_slice()) == Some(want))
+fn is_refused_for(alloc: Global, input: &[Part], want: DecodeFault) -> Result<bool, OutOfMemory> {
+    let input = joined(alloc, input)?;
+    Ok(is_refused(alloc, &input, want))
 }

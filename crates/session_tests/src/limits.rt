@@ -6,172 +6,187 @@ use std::alloc::Global;
 use std::sync::Wait;
 use std::thread::Threads;
 
-/// Tests each of the tables.
+/// Runs each row.
 pub fn test<R: Host>(rt: &R, tally: &mut Tally) {
-    for copies in COPIES {
-        let is_right = end_as_said(rt, rt.alloc(), copies) == Ok(true);
-        tally.note(rt, "limits", copies.name, is_right);
+    for row in ROWS {
+        let is_right = ends_as_said(rt, rt.alloc(), row) == Ok(true);
+        tally.note(rt, row.name, row.words, is_right);
     }
-    let is_right = is_at_the_limit(rt, rt.alloc()) == Ok(true);
-    tally.note(
-        rt,
-        "limits",
-        "new texts of 65,536 and 65,537 bytes",
-        is_right,
-    );
-    for words in ["replay --workers 0", "replay --workers 2"] {
-        let is_right = is_found(rt, rt.alloc(), words) == Ok(true);
-        tally.note(rt, "a needle in 1,048,577 bytes", words, is_right);
+}
+
+/// A text, and a byte that many times after it.
+pub(crate) type Part = (&'static str, u8, usize);
+
+/// The parts, one after another.
+pub(crate) fn joined(alloc: Global, parts: &[Part]) -> Result<Vec<u8>, OutOfMemory> {
+    let mut bytes = Vec::new(alloc);
+    for (text, byte, count) in parts {
+        bytes.extend_from_slice(text.as_bytes())?;
+        push_copies(alloc, &mut bytes, *byte, *count)?;
     }
+    Ok(bytes)
+}
+
+fn push_copies(
+    alloc: Global,
+    bytes: &mut Vec<u8>,
+    byte: u8,
+    count: usize,
+) -> Result<(), OutOfMemory> {
+    let copies = vec![in alloc; byte; count]?;
+    bytes.extend_from_slice(&copies)?;
+    Ok(())
+}
+
+// A run, and the first bytes that it writes, or all of them.
+struct Row {
+    name: &'static str,
+    words: &'static str,
+    input: &'static [Part],
+    ends: Ends,
+    output: &'static [Part],
+    is_whole: bool,
 }
 
 const LIMIT: usize = 67_108_864;
 
 const LINES: usize = 1_048_576;
 
-// An input that repeats one byte.
-struct Copies {
-    name: &'static str,
-    byte: u8,
-    count: usize,
-    status: u64,
-    failing_read: u64,
-    failing_write: u64,
-    output: &'static str,
-}
+// Reads give all that is asked for; writes are small.
+const SHORT: Ends = Ends {
+    status: 0,
+    read: usize::MAX,
+    write: 8,
+    failing_read: 0,
+    failing_write: 0,
+    room: 200,
+};
 
-const NO_JSON: &str = "session line 1: json\n";
+const NO_JSON: &[Part] = &[("session line 1: json\n", 0, 0)];
 
-const COPIES: &[Copies] = &[
-    Copies {
+const ROWS: &[Row] = &[
+    Row {
         name: "65,536 bytes are read at a time",
-        byte: b' ',
-        count: 131_073,
-        status: 3,
-        failing_read: 4,
-        failing_write: 0,
-        output: "",
+        words: "replay",
+        input: &[("", b' ', 131_073)],
+        ends: Ends {
+            status: 3,
+            failing_read: 4,
+            ..SHORT
+        },
+        output: &[],
+        is_whole: true,
     },
-    Copies {
+    Row {
         name: "the read after the last byte is the last one",
-        byte: b' ',
-        count: 131_073,
-        status: 5,
-        failing_read: 5,
-        failing_write: 0,
+        words: "replay",
+        input: &[("", b' ', 131_073)],
+        ends: Ends {
+            status: 5,
+            failing_read: 5,
+            ..SHORT
+        },
         output: NO_JSON,
+        is_whole: true,
     },
-    Copies {
+    Row {
         name: "as many bytes as there may be",
-        byte: b' ',
-        count: LIMIT,
-        status: 5,
-        failing_read: 1026,
-        failing_write: 0,
+        words: "replay",
+        input: &[("", b' ', LIMIT)],
+        ends: Ends {
+            status: 5,
+            failing_read: 1026,
+            ..SHORT
+        },
         output: NO_JSON,
+        is_whole: true,
     },
-    Copies {
+    Row {
         name: "one byte past the limit is read",
-        byte: b' ',
-        count: LIMIT + 70_000,
-        status: 3,
-        failing_read: 1025,
-        failing_write: 0,
-        output: "",
+        words: "replay",
+        input: &[("", b' ', LIMIT + 70_000)],
+        ends: Ends {
+            status: 3,
+            failing_read: 1025,
+            ..SHORT
+        },
+        output: &[],
+        is_whole: true,
     },
-    Copies {
+    Row {
         name: "nothing more is read past the limit",
-        byte: b' ',
-        count: LIMIT + 70_000,
-        status: 6,
-        failing_read: 1026,
-        failing_write: 0,
-        output: "too large: bytes\n",
+        words: "replay",
+        input: &[("", b' ', LIMIT + 70_000)],
+        ends: Ends {
+            status: 6,
+            failing_read: 1026,
+            ..SHORT
+        },
+        output: &[("too large: bytes\n", 0, 0)],
+        is_whole: true,
     },
-    Copies {
+    Row {
         name: "a write fails past the limit",
-        byte: b' ',
-        count: LIMIT + 1,
-        status: 4,
-        failing_read: 1026,
-        failing_write: 2,
-        output: "too larg",
+        words: "replay",
+        input: &[("", b' ', LIMIT + 1)],
+        ends: Ends {
+            status: 4,
+            failing_read: 1026,
+            failing_write: 2,
+            ..SHORT
+        },
+        output: &[("too larg", 0, 0)],
+        is_whole: true,
     },
-    Copies {
+    Row {
         name: "as many lines as there may be",
-        byte: b'\n',
-        count: LINES,
-        status: 5,
-        failing_read: 0,
-        failing_write: 0,
+        words: "replay",
+        input: &[("", b'\n', LINES)],
+        ends: Ends { status: 5, ..SHORT },
         output: NO_JSON,
+        is_whole: true,
     },
-    Copies {
+    Row {
         name: "one line more than there may be",
-        byte: b'\n',
-        count: LINES + 1,
-        status: 6,
-        failing_read: 0,
-        failing_write: 0,
-        output: "too large: lines\n",
+        words: "replay",
+        input: &[("", b'\n', LINES + 1)],
+        ends: Ends { status: 6, ..SHORT },
+        output: &[("too large: lines\n", 0, 0)],
+        is_whole: true,
+    },
+    Row {
+        name: "new texts of 65,537 and 65,536 bytes",
+        words: "replay",
+        input: &[
+            (
+                "[\"zedbuf\",1,\"ab\",[1,2]]\n[\"edit\",1,[[0,0,\"a",
+                b'a',
+                65_536,
+            ),
+            ("\"]]]\n[\"edit\",1,[[0,0,\"", b'a', 65_536),
+            ("\"]]]\n", 0, 0),
+        ],
+        ends: AMPLE,
+        output: &[(LONG_FRONT, b'a', 65_536), (LONG_BACK, 0, 0)],
+        is_whole: true,
+    },
+    Row {
+        name: NEEDLE,
+        words: "replay --workers 0",
+        input: LARGE,
+        ends: AMPLE,
+        output: FOUND,
+        is_whole: false,
+    },
+    Row {
+        name: NEEDLE,
+        words: "replay --workers 2",
+        input: LARGE,
+        ends: AMPLE,
+        output: FOUND,
+        is_whole: false,
     },
 ];
-
-fn end_as_said<R: Threads + Wait + Sync>(
-    rt: &R,
-    alloc: Global,
-    copies: &Copies,
-) -> Result<bool, OutOfMemory> {
-    let ends = Ends {
-        status: copies.status,
-        read: usize::MAX,
-        write: 8,
-        failing_read: copies.failing_read,
-        failing_write: copies.failing_write,
-        room: 200,
-    };
-    let input = vec![in alloc; copies.byte; copies.count]?;
-    let run = Run {
-        words: "replay",
-        input: input.as_slice(),
-        ends,
-    };
-    comes_to(
-        rt,
-        alloc,
-        &Passing,
-        run,
-        Wanted::Bytes(copies.output.as_bytes()),
-    )
-}
-
-// Whether an edit by 65,536 letters and one more is refused, and one by 65,536 is made.
-fn is_at_the_limit<R: Threads + Wait + Sync>(rt: &R, alloc: Global) -> Result<bool, OutOfMemory> {
-    let session = long_edits(alloc)?;
-    let report = long_report(alloc)?;
-    let run = Run {
-        words: "replay",
-        input: session.as_slice(),
-        ends: AMPLE,
-    };
-    comes_to(rt, alloc, &Passing, run, Wanted::Bytes(report.as_slice()))
-}
-
-fn long_edits(alloc: Global) -> Result<Vec<u8>, OutOfMemory> {
-    let mut session = b"[\"zedbuf\",1,\"ab\",[1,2]]\n[\"edit\",1,[[0,0,\"a".to_vec(alloc)?;
-    push_letters(&mut session, b'a', 65_536)?;
-    session.extend_from_slice(b"\"]]]\n[\"edit\",1,[[0,0,\"")?;
-    push_letters(&mut session, b'a', 65_536)?;
-    session.extend_from_slice(b"\"]]]\n")?;
-    Ok(session)
-}
-
-fn long_report(alloc: Global) -> Result<Vec<u8>, OutOfMemory> {
-    let mut report = LONG_FRONT.as_bytes().to_vec(alloc)?;
-    push_letters(&mut report, b'a', 65_536)?;
-    report.extend_from_slice(LONG_BACK.as_bytes())?;
-    Ok(report)
-}
 
 const LONG_FRONT: &str = "1: textlimit 65537
 2: 2.1
@@ -183,35 +198,35 @@ replica 2: 2 bytes, 1 rows, 0 applied, 0 waiting, 0 refused
 final 2: \"ab\"
 ";
 
-fn push_letters(text: &mut Vec<u8>, letter: u8, count: usize) -> Result<(), OutOfMemory> {
-    for _ in 0..count {
-        text.push(letter)?;
-    }
-    Ok(())
-}
+// The needle is across the end of each of the first three quarters of the text, and at its end.
+const NEEDLE: &str = "a needle in 1,048,577 bytes";
 
-// Whether a needle is found in a text of 1,048,577 bytes, across the end of each of its first three quarters.
-fn is_found<R: Threads + Wait + Sync>(
+const LARGE: &[Part] = &[
+    ("[\"zedbuf\",1,\"b", b'x', 262_142),
+    ("ab", b'x', 262_142),
+    ("ab", b'x', 262_142),
+    ("ab", b'x', 262_142),
+    ("ab\",[1]]\n[\"find\",1,\"ab\"]\n", 0, 0),
+];
+
+const FOUND: &[Part] = &[("find 1 at 0: 262143 524287 786431 1048575\n", 0, 0)];
+
+fn ends_as_said<R: Threads + Wait + Sync>(
     rt: &R,
     alloc: Global,
-    words: &str,
+    row: &Row,
 ) -> Result<bool, OutOfMemory> {
-    let session = large_session(alloc)?;
-    let run = Run {
-        words,
-        input: session.as_slice(),
-        ends: AMPLE,
+    let input = joined(alloc, row.input)?;
+    let output = joined(alloc, row.output)?;
+    let wanted = if row.is_whole {
+        Wanted::Bytes(&output)
+    } else {
+        Wanted::Front(&output)
     };
-    let line = b"find 1 at 0: 262143 524287 786431 1048575\n";
-    comes_to(rt, alloc, &Passing, run, Wanted::Front(line))
-}
-
-fn large_session(alloc: Global) -> Result<Vec<u8>, OutOfMemory> {
-    let mut session = b"[\"zedbuf\",1,\"b".to_vec(alloc)?;
-    for _ in 0..4 {
-        push_letters(&mut session, b'x', 262_142)?;
-        session.extend_from_slice(b"ab")?;
-    }
-    session.extend_from_slice(b"\",[1]]\n[\"find\",1,\"ab\"]\n")?;
-    Ok(session)
+    let run = Run {
+        words: row.words,
+        input: &input,
+        ends: row.ends,
+    };
+    comes_to(rt, alloc, &Passing, run, wanted)
 }
