@@ -125,6 +125,25 @@ fn sink_of(alloc: Global, ends: Ends) -> Result<MemSink, OutOfMemory> {
     MemSink::new(alloc, ends.room, ends.write.max(1), failing)
 }
 
+/// The sink of the run, if it ends with its status and no call fails but those that are to fail.
+pub fn sink_after<R: Threads + Wait + Sync, G: Gate>(
+    rt: &R,
+    alloc: Global,
+    gate: &G,
+    run: Run<'_>,
+) -> Result<Option<MemSink>, OutOfMemory> {
+    let words = words_of(alloc, run.words)?;
+    let mut source = source_of(alloc, run)?;
+    let mut sink = sink_of(alloc, run.ends)?;
+    let status = call(rt, alloc, words.as_slice(), &mut source, &mut sink, gate) as u64;
+    let faults = (source.counts().faults, sink.faults());
+    Ok(if status == run.ends.status && faults == faults_of(status) {
+        Some(sink)
+    } else {
+        None
+    })
+}
+
 /// Whether the run ends with its status, no call fails but those that are to fail, and what is wanted is written.
 pub fn comes_to<R: Threads + Wait + Sync, G: Gate>(
     rt: &R,
@@ -133,14 +152,8 @@ pub fn comes_to<R: Threads + Wait + Sync, G: Gate>(
     run: Run<'_>,
     wanted: Wanted<'_>,
 ) -> Result<bool, OutOfMemory> {
-    let words = words_of(alloc, run.words)?;
-    let mut source = source_of(alloc, run)?;
-    let mut sink = sink_of(alloc, run.ends)?;
-    let status = call(rt, alloc, words.as_slice(), &mut source, &mut sink, gate) as u64;
-    let faults = (source.counts().faults, sink.faults());
-    Ok(
-        status == run.ends.status
-            && faults == faults_of(status)
-            && is_wanted(alloc, wanted, sink.bytes()),
-    )
+    Ok(match sink_after(rt, alloc, gate, run)? {
+        Some(sink) => is_wanted(alloc, wanted, sink.bytes()),
+        None => false,
+    })
 }

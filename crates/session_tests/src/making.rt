@@ -1,8 +1,7 @@
 //! Sessions that are made twice.
-use crate::calls::{Passing, call, words_of};
+use crate::calls::{Ends, Passing, Run, Wanted, comes_to, sink_after};
 use crate::tally::{Host, Tally};
 use op_model::OutOfMemory;
-use session_replay::{MemSink, MemSource, Status};
 use std::alloc::Global;
 use std::sync::Wait;
 use std::thread::Threads;
@@ -11,6 +10,15 @@ const MADE: &[&str] = &[
     "make --seed 5 --replicas 3 --edits 400",
     "make --seed=5 --replicas=3 --edits=4000",
 ];
+
+const ENDS: Ends = Ends {
+    status: 0,
+    read: 8,
+    write: 8,
+    failing_read: 0,
+    failing_write: 0,
+    room: 1000,
+};
 
 /// Makes each session twice.
 pub fn test<R: Host>(rt: &R, tally: &mut Tally) {
@@ -26,29 +34,17 @@ fn is_made_again<R: Threads + Wait + Sync>(
     alloc: Global,
     words: &str,
 ) -> Result<bool, OutOfMemory> {
-    let first = summary(rt, alloc, words)?;
-    let second = summary(rt, alloc, words)?;
-    Ok(first.bytes() == second.bytes() && first.bytes().ends_with(b"\ntexts equal\n".as_slice()))
-}
-
-// What is written of the session.
-fn summary<R: Threads + Wait + Sync>(
-    rt: &R,
-    alloc: Global,
-    words: &str,
-) -> Result<MemSink, OutOfMemory> {
-    let mut source = MemSource::new(Vec::new(alloc), 8, Vec::new(alloc));
-    let mut sink = MemSink::new(alloc, 1000, 8, Vec::new(alloc))?;
-    let words = words_of(alloc, words)?;
-    match call(
-        rt,
-        alloc,
-        words.as_slice(),
-        &mut source,
-        &mut sink,
-        &Passing,
-    ) {
-        Status::Done => Ok(sink),
-        _ => Err(OutOfMemory),
-    }
+    let run = Run {
+        words,
+        input: b"",
+        ends: ENDS,
+    };
+    let Some(sink) = sink_after(rt, alloc, &Passing, run)? else {
+        return Ok(false);
+    };
+    let first = sink.bytes();
+    Ok(
+        first.ends_with(b"\ntexts equal\n".as_slice())
+            && comes_to(rt, alloc, &Passing, run, Wanted::Bytes(first))?,
+    )
 }
