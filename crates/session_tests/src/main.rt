@@ -7,6 +7,7 @@ mod case;
 mod choices;
 mod decoding;
 mod ends;
+mod failing;
 mod files;
 mod gates;
 mod limits;
@@ -28,6 +29,7 @@ fn main(rt: HostRuntime) -> ExitCode {
     pairs::test(&rt, &mut tally);
     beside::test(&rt, &mut tally);
     limits::test(&rt, &mut tally);
+    failing::test(&rt, &mut tally);
     making::test(&rt, &mut tally);
     tally.sum_up(&rt)
 }
