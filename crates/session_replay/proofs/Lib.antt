@@ -1,5 +1,6 @@
 pub mod Moved
 pub mod Buffers
+pub mod BytesEnd
 pub mod Ends
 pub mod Steps
 pub mod Since
@@ -18,6 +19,5 @@ pub mod Named
 pub mod Reports
 pub mod Outcome
 pub mod Sent
-pub mod Sure
 pub mod Rounds
 pub mod Rows

@@ -4,7 +4,7 @@ use Rattle.session_lines.specs.declared.session.Session.{Session}
 use Rattle.session_lines.specs.declared.fault.DecodeFault.{DecodeFault}
 use Rattle.session_replay.specs.Traffic.{session_limit}
 use Rattle.session_replay.specs.declared.top.Status.TheVariants as status
-use Rattle.session_replay.proofs.Sure.{never_rose, not_middle, not_last, is_bad, is_large}
+use Rattle.session_replay.proofs.BytesEnd.{never_rose, not_middle, not_last, is_bad, is_large}
 use Rattle.session_replay.proofs.sure.run_on_bytes.Goals as goal
 
 pub returns-clause-usage : goal.returns-clause-usage
