@@ -1,18 +1,29 @@
-// Refuses one allocation of a program, the one with the number that REFUSED names, and writes how many there were to the file descriptor 3.
-// usage: cc -O2 -shared -fPIC -o /tmp/refused.so tools/refused.c; REFUSED=7 LD_PRELOAD=/tmp/refused.so COMMAND 3>COUNT
+// Refuses allocations of a program: the one with the number that REFUSED names, and with EVERY=k also each k-th after it. Writes how many
+// there were, refused ones too, to the file descriptor 3.
+// usage: cc -O2 -shared -fPIC -o /tmp/refused.so tools/refused.c; env REFUSED=7 EVERY=2 LD_PRELOAD=/tmp/refused.so COMMAND 3>COUNT
 #include <errno.h>
 #include <stdatomic.h>
 #include <stdio.h>
 #include <stdlib.h>
+#include <sys/syscall.h>
+#include <unistd.h>
 
 static atomic_long made;
 static long refused = -1;
+static long every;
+
+// the number that a variable of the environment names, or 0
+static long number(const char *name)
+{
+    const char *word = getenv(name);
+    return word ? atol(word) : 0;
+}
 
 __attribute__((constructor)) static void begin(void)
 {
-    const char *number = getenv("REFUSED");
+    every = number("EVERY");
     atomic_store(&made, 0);
-    refused = number ? atol(number) : 0;
+    refused = number("REFUSED");
 }
 
 __attribute__((destructor)) static void end(void)
@@ -20,10 +31,21 @@ __attribute__((destructor)) static void end(void)
     dprintf(3, "%ld\n", atomic_load(&made));
 }
 
-// whether this allocation is the one; those before the program begins are not counted
+// for a program that ends by this, without its destructors
+void _exit(int status)
+{
+    end();
+    for (;;)
+        syscall(SYS_exit_group, status);
+}
+
+// whether this allocation is refused; those before the program begins are not counted
 static int is_refused(void)
 {
-    if (refused < 0 || atomic_fetch_add(&made, 1) + 1 != refused)
+    if (refused < 0)
+        return 0;
+    long past = atomic_fetch_add(&made, 1) + 1 - refused;
+    if (refused == 0 || past < 0 || (past > 0 && (every == 0 || past % every != 0)))
         return 0;
     errno = ENOMEM;
     return 1;
