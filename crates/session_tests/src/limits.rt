@@ -14,7 +14,7 @@ pub fn test<R: Host>(rt: &R, tally: &mut Tally) {
     }
 }
 
-/// A text, and a byte that many times after it.
+/// A text, and after it that many copies of a byte.
 pub(crate) type Part = (&'static str, u8, usize);
 
 /// The parts, one after another.
