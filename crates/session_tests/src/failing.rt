@@ -82,15 +82,6 @@ texts equal
             (8, 131_073, 131_074, 3),
         ],
     },
-    // Bytes past the limit, of which one is read.
-    Row {
-        name: "too many bytes",
-        words: "replay",
-        input: &[("", b' ', 67_108_874)],
-        status: 6,
-        output: "too large: bytes\n",
-        calls: &[(7, 9_586_981, 9_586_981, 3), (8, 8_388_609, 8_388_609, 3)],
-    },
 ];
 
 /// Runs each row with calls of each size: with each of its calls failing in turn, and with the one after the last failing,
