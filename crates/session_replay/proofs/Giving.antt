@@ -1,14 +1,8 @@
 -- What a line reports that gives an operation to a replica.
-use Rattle.std.proofs.Common.{◌≡◌, ◌⊎◌, inl, inr, ℕ, true, List, [], ◌∷◌, ◌++◌, Option, None, Some, ap, sym, ◌∙◌}
+use Rattle.std.proofs.Common.{◌≡◌, ℕ, List, [], ◌∷◌, ◌++◌, Option, None, Some, ap}
 use Rattle.std.specs.Option.{option_map}
 use Rattle.op_model.specs.declared.operation.Operation.{Operation}
-use Rattle.op_model.specs.declared.faults.OpFault.{OpFault}
-use Rattle.op_model.specs.declared.faults.OpFault.TheVariants as fault
-use Rattle.op_model.specs.Answers.Answer.{Refused}
-use Rattle.op_model.specs.Steps.Step.{Takes}
-use Rattle.text_buffer.specs.Buffer.{BufferState, after_take, answer_to, is_taken_in}
-use Rattle.text_buffer.specs.Calls.{IsStopped}
-use Rattle.text_buffer.proofs.Taken.{refused_stays}
+use Rattle.text_buffer.specs.Buffer.{BufferState}
 use Rattle.session_lines.specs.Report.{line_text, report_text}
 use Rattle.session_lines.specs.declared.report.GiveAnswer.{GiveAnswer}
 use Rattle.session_lines.specs.declared.report.Report.{Report}
@@ -28,9 +22,3 @@ answer_reported n r op None a out new e w = absurd (cc e)
 answer_reported n r op (Some b) a out new e w =
     let is : a ≡ give_answer op b = cc e in
     line_reported (report.Give n r a) (report.Give n r (give_answer op b)) out new (ap (report.Give n r) is) w
-
--- an operation that meets a fault leaves the buffer as it was, which is also what the definition makes
-pub refused_given : (b n : BufferState) (op : Operation) (e : OpFault) → (answer_to b op ≡ Refused e) ⊎ ((is_taken_in (answer_to b op) ≡ true) × (e ≡ fault.OutOfMemory)) → (n ≡ b) ⊎ IsStopped (Takes op) b n
-    → (e ≡ fault.OutOfMemory → ⊥) → n ≡ after_take b op
-refused_given b n op e (inl r) s m = let k = refused_stays b n op e r s in k.0 ∙ sym k.1
-refused_given b n op e (inr f) s m = absurd (m f.1)
