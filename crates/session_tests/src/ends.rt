@@ -2,19 +2,43 @@
 use crate::calls::{Passing, call, words_of};
 use crate::tally::{Host, Tally};
 use op_model::OutOfMemory;
-use session_replay::{Failed, MemSource, Source, Status, SureSink, SureSource};
+use session_replay::{Failed, MemSource, Source, Status, SureSink, SureSource, run_on_bytes};
 use std::alloc::Global;
 use std::sync::Wait;
 use std::thread::Threads;
 
 const SESSION: &str = "[\"zedbuf\",1,\"ab\",[1]]\n[\"edit\",1,[[1,1,\"X\"]]]\n[\"text\",1]\n";
 
-/// Tests a source and a sink that never fail, and a source that fails.
+// Words, bytes in memory, and how the program ends on them.
+const ON_BYTES: [(&str, &str, Status); 4] = [
+    ("check", SESSION, Status::Done),
+    ("replay --workers 2", SESSION, Status::Done),
+    ("replay", "[\"zedbuf\"]\n", Status::Session),
+    ("jump", SESSION, Status::Usage),
+];
+
+/// Tests a source and a sink that never fail, a source that fails, and runs on bytes.
 pub fn test<R: Host>(rt: &R, tally: &mut Tally) {
     let is_right = is_read_to_its_end(rt, rt.alloc()) == Ok(true);
     tally.note(rt, "ends", "a source and a sink that never fail", is_right);
     let is_right = reads_as_said(rt.alloc()) == Ok(true);
     tally.note(rt, "ends", "a source whose third read fails", is_right);
+    for (words, bytes, status) in ON_BYTES {
+        let is_right = status_on(rt, rt.alloc(), words, bytes) == Ok(status);
+        tally.note(rt, "bytes", words, is_right);
+    }
+}
+
+// How the program ends on bytes in memory.
+fn status_on<R: Threads + Wait + Sync>(
+    rt: &R,
+    alloc: Global,
+    words: &str,
+    bytes: &str,
+) -> Result<Status, OutOfMemory> {
+    let words = words_of(alloc, words)?;
+    let bytes = bytes.as_bytes().to_vec(alloc)?;
+    Ok(run_on_bytes(rt, alloc, words.as_slice(), bytes, &Passing))
 }
 
 // Whether a session is replayed where neither reads nor writes fail, and its source is at its end then.
