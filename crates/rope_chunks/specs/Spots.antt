@@ -1,5 +1,5 @@
 -- Where an offset lies among chunks, and what a change of a range of them is.
-use Rattle.std.specs.Prelude.{◌≡◌, ℕ, ◌+◌, ◌≤◌, List, ◌++◌, length, take, drop, slice_get, Some}
+use Rattle.std.specs.Prelude.{◌≡◌, ℕ, ◌+◌, ◌-◌, ◌≤◌, ◌==◌, nat_le, if◌then◌else◌, List, [], ◌∷◌, ◌++◌, length, take, drop, slice_get, Some}
 use Rattle.std.specs.List.{All, concat}
 use Rattle.rope_chunks.specs.Chunks.{IsChunk}
 
@@ -19,3 +19,20 @@ pub record IsChange (cs : List (List ℕ)) (bs : List ℕ) (i j : ℕ) (ys : Lis
   pub within : j ≤ length cs
   pub text : text_with i j (concat ys) cs ≡ bs
   pub each : All IsChunk ys
+
+-- es are the chunks from one on up to chunk n, and from byte r of the first of them on stands what stands from offset o on
+abbrev pub IsLeafFrom : List (List ℕ) → ℕ → List (List ℕ) → ℕ → ℕ → Type 0
+IsLeafFrom cs o [] n r = ⊥
+IsLeafFrom cs o (c ∷ es) n r = (i : ℕ) × IsSpot cs o i c r × (drop (i + 1) cs ≡ es ++ drop n cs)
+
+-- ---- texts that are cut
+
+-- the texts ts after a first one, which is left out if it is empty
+abbrev pub with_first : List ℕ → List (List ℕ) → List (List ℕ)
+with_first [] ts = ts
+with_first (b ∷ bs) ts = (b ∷ bs) ∷ ts
+
+-- the texts that have the first n bytes, the last one cut
+abbrev pub texts_up_to : ℕ → List (List ℕ) → List (List ℕ)
+texts_up_to n [] = []
+texts_up_to n (t ∷ ts) = if n == 0 then [] else if nat_le (length t) n then t ∷ texts_up_to (n - length t) ts else take n t ∷ []

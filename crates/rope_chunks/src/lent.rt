@@ -1,11 +1,15 @@
 //! A rope's chunks, lent one by one.
-ghost use Rattle.std.specs.Prelude.{◌≡◌, ◌+◌, ◌<◌, ◌++◌, length, drop};
+ghost use Rattle.std.specs.Prelude.{◌≡◌, ◌+◌, ◌<◌, ◌≤◌, ◌++◌, ◌∷◌, length, drop, slice_range, option_to_list};
 ghost use Rattle.std.specs.Iterator.{YieldsFirstRef, item_count};
 ghost use Rattle.std.specs.List.{concat};
+ghost use Rattle.std.specs.Str.{IsCharBoundary};
+ghost use Rattle.rope_chunks.specs.Spots.{with_first};
 
 use crate::chunk::Chunk;
 use crate::rope::Rope;
+use crate::spot::leaf_at;
 use std::marker::Model;
+use std::mem;
 use sum_tree::{Entry, Parts, SumTree, child_at};
 
 /// The texts of a rope's chunks, from the first to the last: one after the other they are the rope's text.
@@ -55,6 +59,60 @@ impl<'a> Iterator for Chunks<'a> {
     }
 }
 
+/// The texts of the chunks between two positions, of which the first and the last are cut there: one after the other they are
+/// that part of the rope's text.
+///
+/// They are lent leaf by leaf, with one plain descent for each leaf; nothing is copied, and nothing allocated. Contracts see
+/// the texts that are left.
+#[derive(Drop)]
+pub struct ChunksIn<'a> {
+    // What is left of the chunk in which the part begins, and the chunks after it.
+    first: &'a str,
+    rest: Chunks<'a>,
+    // The number of bytes that are left.
+    left: u64,
+}
+
+impl<'a> Model for ChunksIn<'a> {
+    ghost use Rattle.std.specs.Prelude.{List, ℕ};
+    ghost use Rattle.std.specs.List.{concat};
+    ghost use Rattle.std.specs.Str.{IsCharBoundary};
+    ghost use Rattle.rope_chunks.specs.Spots.{with_first, texts_up_to};
+
+    ghost Value = { List (List ℕ) };
+
+    ghost view = { λ it. texts_up_to it.left (with_first it.first.now it.rest) };
+
+    ghost invariant = { λ it. IsCharBoundary (concat (with_first it.first.now it.rest)) it.left };
+}
+
+impl<'a> Iterator for ChunksIn<'a> {
+    type Item = &'a str;
+
+    ghost next_gives = { YieldsFirstRef (λ left. left) };
+
+    ghost remaining = { item_count (λ left. left) };
+
+    fn next(&mut self) -> Option<&'a str> {
+        if self.left == 0 {
+            return None;
+        }
+        let text = if self.first.is_empty() {
+            self.rest.next()?
+        } else {
+            mem::replace(&mut self.first, "")
+        };
+        let len = text.len() as u64;
+        if len <= self.left {
+            self.left -= len;
+            return Some(text);
+        }
+        let (front, _) = text.split_at(self.left as usize);
+        self.left = 0;
+        Some(front)
+    }
+}
+
 // What is left of a leaf from chunk `index` on.
 fn leaf_from(tree: &SumTree<Chunk>, index: u64) -> &[Entry<Chunk>]
     requires { index < length tree.now.items }
@@ -86,5 +144,32 @@ impl Rope {
             entries: &[],
             next: 0,
         }
+    }
+
+    /// The texts of the chunks from offset `start` up to `end`, the first and the last cut there. Both are positions, and `start`
+    /// is at most `end`. One descent, and one more for each further leaf; does not allocate.
+    pub fn chunks_in(&self, start: u64, end: u64) -> ChunksIn<'_>
+        requires start { IsCharBoundary self.now start }
+        requires end { IsCharBoundary self.now end }
+        requires order { start ≤ end }
+        ensures { concat result ≡ slice_range self.now start end }
+    {
+        let left = end - start;
+        if self.chunks.is_empty() {
+            let rest = self.chunks();
+            return ChunksIn {
+                first: "",
+                rest,
+                left,
+            };
+        }
+        let (entries, next, place) = leaf_at(&self.chunks, start);
+        let (_, first) = entries[0].item().as_str().split_at(place as usize);
+        let rest = Chunks {
+            chunks: &self.chunks,
+            entries: &entries[1..],
+            next,
+        };
+        ChunksIn { first, rest, left }
     }
 }

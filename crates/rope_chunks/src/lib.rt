@@ -20,7 +20,7 @@ mod targets;
 mod threads;
 
 pub use chunk::Chunk;
-pub use lent::Chunks;
+pub use lent::{Chunks, ChunksIn};
 pub use masks::Masks;
 pub use rope::Rope;
 pub use sum_tree::OutOfMemory;

@@ -3,7 +3,7 @@ ghost use Rattle.std.specs.Prelude.{◌≡◌, ℕ, ◌+◌, ◌^◌, ◌<◌, �
 ghost use Rattle.std.specs.List.{concat};
 ghost use Rattle.sum_tree.specs.Seen.{Seen};
 ghost use Rattle.sum_tree.specs.Shape.{join_items};
-ghost use Rattle.rope_chunks.specs.Spots.{IsSpot};
+ghost use Rattle.rope_chunks.specs.Spots.{IsSpot, IsLeafFrom};
 
 use crate::chunk::Chunk;
 use sum_tree::{Entry, Parts, SumTree};
@@ -80,6 +80,33 @@ pub(crate) fn spot_of(tree: &SumTree<Chunk>, offset: u64) -> Spot<'_>
                     chunk: entries[k].item(),
                     place,
                 };
+            }
+            Parts::Inner(children) => {
+                let (k, count, place) = child_at(children, rest);
+                before += count;
+                rest = place;
+                node = &children[k];
+            }
+        }
+    }
+}
+
+/// The chunks of a leaf from the one on in which an offset lies, the index of the chunk that follows them, and the byte of the first
+/// one at which the offset is. It is one plain descent.
+pub(crate) fn leaf_at(tree: &SumTree<Chunk>, offset: u64) -> (&[Entry<Chunk>], u64, u64)
+    requires some { 1 ≤ length tree.now.items }
+    requires within { offset ≤ length (concat tree.now.items) }
+    ensures { IsLeafFrom tree.now.items offset result.0.now result.1 result.2 }
+{
+    tree.known();
+    let mut node = tree;
+    let mut before = 0;
+    let mut rest = offset;
+    loop {
+        match node.parts() {
+            Parts::Leaf(entries) => {
+                let (k, place) = entry_at(entries, rest);
+                return (&entries[k..], before + entries.len() as u64, place);
             }
             Parts::Inner(children) => {
                 let (k, count, place) = child_at(children, rest);
