@@ -9,4 +9,4 @@ pub mod PointClips
 pub mod Spots
 pub mod Changes
 pub mod Tails
-pub mod Lent
+pub mod CutTexts
