@@ -25,7 +25,7 @@ are_changed i j ys cs old new few = record {
   few = rw (concat-spliced i j ys cs) few;
 }
 
--- the chunk before the first i, and the one behind them
+-- the chunk before the first i, and the one after them
 pub before_is : (cs : List (List ℕ)) (i : ℕ) (c : List ℕ) → 0 < i → slice_get cs (i - 1) ≡ Some c → concat (take (i - 1) cs) ++ c ≡ concat (take i cs)
 before_is cs i c some h =
     let one : i - 1 + 1 ≡ i = omega (arith, some) in

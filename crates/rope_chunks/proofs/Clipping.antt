@@ -29,7 +29,7 @@ clipped_on bs o s e =
     let p : Place → Bool = λ k. passes_offset o k Left in
     rw (e, places-walk bs, last-walk (end_place bs) (end_place []) (end_place []) bs) (sym (find-stop p (end_place []) (walk (end_place []) bs)))
 
--- From a row on, q tells which places are not strictly past a target. One that is at it is followed by places strictly past.
+-- From a row on, q says which places are not strictly past a target. One that is at it is followed by places strictly past.
 pub record Upto (pl pr q : Place → Bool) (low : ℕ) : Type 0 where
   pub stays : Stays pr
   pub past : (k : Place) → pr k ≡ true → pl k ≡ true

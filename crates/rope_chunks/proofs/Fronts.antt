@@ -1,4 +1,4 @@
--- The place behind some first bytes of a text, and a look-up that goes on there.
+-- The place after some first bytes of a text, and a look-up that goes on there.
 use Rattle.std.specs.Prelude.{nat_le}
 use Rattle.std.proofs.Common.{◌≡◌, ℕ, ◌+◌, ◌-◌, ◌<◌, ◌≤◌, Bool, true, false, List, length, take, drop, get_or, ap, sym, subst, inl, inr, ◌∙◌, arith}
 use Rattle.std.proofs.lemmas.Bool.{and_parts, cases_lt}
@@ -44,7 +44,7 @@ pub next_fits : (a k : Place) (bs : List ℕ) (n : ℕ) → HasRoom a (length bs
 next_fits a k bs n h l e =
     subst PlaceFits (sym (ap (λ (z : Place). place_after z (get_or bs n 0)) e ∙ next_is a bs n l)) (front_fits a bs (n + 1) h (omega (arith, l)))
 
--- what stands behind a cut begins with a character
+-- what stands after a cut begins with a character
 pub cut_begins : (bs : List ℕ) (n : ℕ) → is_cut bs n ≡ true → Begins (drop n bs)
 cut_begins bs n t = elim (cases_lt n (length bs)) [
   | inl l ↦ subst Begins (sym (drop_more bs n 0 l)) (and_parts (nat_le n (length bs)) (begins_char (get_or bs n 0)) t).1

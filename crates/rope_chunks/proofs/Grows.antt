@@ -1,4 +1,4 @@
--- A text put behind a rope's chunks.
+-- A text put after a rope's chunks.
 use Rattle.std.specs.Prelude.{slice_get}
 use Rattle.std.proofs.Common.{◌≡◌, ℕ, zero, suc, ◌+◌, ◌-◌, ◌^◌, ◌<◌, ◌≤◌, Option, Some, None, List, [], ◌∷◌, ◌++◌, length, take, drop, refl, ap, sym, subst, ◌∙◌, arith, append_assoc, length-append}
 use Rattle.std.specs.List.{All, concat}
@@ -71,7 +71,7 @@ grown_is from n ys xs old text v a e h t f = record {
   few = omega (arith, length-append old text);
 }
 
--- a rope behind another
+-- a rope after another
 pub are_beside : (cs ds : List (List ℕ)) → All IsChunk cs → All IsChunk ds → length (concat cs) + length (concat ds) ≤ 2 ^ 40 → AreChunks (cs ++ ds)
 are_beside cs ds a b f = record {
   each = All-append IsChunk cs ds a b;
@@ -114,7 +114,7 @@ seam_grown n ys cs last next new end front at_last more small few is only =
 pub first_few : (cs ds : List (List ℕ)) (first : List ℕ) → slice_get ds 0 ≡ Some first → length (concat cs) + length (concat ds) ≤ 2 ^ 40 → length (concat cs) + length first ≤ 2 ^ 40
 first_few cs ds first e f = omega (arith, ap length (first_is ds first e), length-append first (concat (drop 1 ds)), f)
 
--- the other chunks behind a text that has the first
+-- the other chunks after a text that has the first
 pub rest_text : (cs ds es : List (List ℕ)) (first : List ℕ) → slice_get ds 0 ≡ Some first → concat es ≡ concat cs ++ first → concat (es ++ drop 1 ds) ≡ concat cs ++ concat ds
 rest_text cs ds es first e t =
     concat-append es (drop 1 ds) ∙ ap (λ x. x ++ concat (drop 1 ds)) t ∙ append_assoc (concat cs) first (concat (drop 1 ds)) ∙ ap (λ x. concat cs ++ x) (sym (first_is ds first e))
@@ -137,7 +137,7 @@ get_drop [] i c h = absurd (let g : None ≡ Some c = h in cc)
 get_drop (d ∷ cs) zero c h = let e : d ≡ c = cc in ap (λ x. x ∷ cs) e
 get_drop (d ∷ cs) (suc i) c h = let more : suc i + 1 ≡ suc (i + 1) = omega arith in rw more (get_drop cs i c h)
 
--- a block of chunks, put behind others, and the rest of the text
+-- a block of chunks, put after others, and the rest of the text
 pub block_beside : (cs ds : List (List ℕ)) (text rest : List ℕ) → concat ds ++ rest ≡ text → length (concat cs) + length text ≤ 2 ^ 40 → All IsChunk cs → All IsChunk ds → AreChunks (cs ++ ds)
 block_beside cs ds text rest e few front back =
     are_beside cs ds front back (omega (arith, few, ap length e, length-append (concat ds) rest))

@@ -41,7 +41,7 @@ rows_begin xs (b ∷ bs) u =
     let rest : IsUtf8 ((xs ++ b ∷ []) ++ bs) = rw (append_assoc xs (b ∷ []) bs) u in
     (λ e. begins_past xs bs (subst (λ c. IsUtf8 (xs ++ c ∷ bs)) (eqb-true b 10 e) u), rows_begin (xs ++ b ∷ []) bs rest)
 
--- An answer to a look-up for a point, and what is told of the places of its row: they agree where there is no such row, and
+-- An answer to a look-up for a point, and what is said of the places of its row: they agree where there is no such row, and
 -- where a walk begins with the row.
 pub record Agrees (p : Point) (answer : Stop → Place) (clip : Place → List Place → Place) : Type 0 where
   pub none : (e : Place) → answer (record { before = e; here = None }) ≡ clip e []

@@ -1,11 +1,11 @@
--- The chunks before and behind an offset.
+-- The chunks before and after an offset.
 use Rattle.std.specs.Prelude.{slice_get}
 use Rattle.std.proofs.Common.{◌≡◌, ℕ, ◌+◌, ◌-◌, ◌<◌, ◌≤◌, Some, List, [], ◌∷◌, ◌++◌, length, get_or, take, drop, refl, ap, sym, subst, ◌∙◌, arith, append_assoc, length-append, length-drop, take-append-drop}
 use Rattle.std.specs.List.{All, concat, slice_range}
 use Rattle.std.specs.Str.{IsCharBoundary}
 use Rattle.std.proofs.lemmas.List.{append-nil, take_more, take_all, take-append-le, drop-append-le, get_or-append-add, get_or_append_left}
 use Rattle.std.proofs.lemmas.Option.{slice_get_read, slice_get-get_or, get_or_from_slice_get}
-use Rattle.std.proofs.Math.Seq.{take-append-add, drop-append-add}
+use Rattle.std.proofs.Math.Seq.{take-append-add, drop-append-add, drop-append_seam}
 use Rattle.sum_tree.specs.Seen.{Seen}
 use Rattle.sum_tree.specs.Shape.{join_items}
 use Rattle.sum_tree.proofs.Children.{joined-take_more, joined_around}
@@ -45,7 +45,7 @@ last_child ts k r o d end before within =
     let here : k < length ts = omega (arith, end) in
     omega (arith, before, within, ap length (child_step ts k (get_or ts k d) here (read_again ts k d here)), ap (λ us. length (concat (join_items us))) (take_all (k + 1) ts (omega (arith, end))), length-append (concat (join_items (take k ts))) (concat (get_or ts k d).items))
 
--- the chunks ds stand behind b chunks of cs, and byte r of them is byte o of all
+-- the chunks ds stand after b chunks of cs, and byte r of them is byte o of all
 pub record IsPart (cs ds : List (List ℕ)) (b r o : ℕ) : Type 0 where
   pub front : List (List ℕ)
   pub back : List (List ℕ)
@@ -96,6 +96,18 @@ part_entry cs ds es b r o k q c part e within read before fits =
       offset = omega (arith, ap (λ xs. length (concat xs)) front, ap length (concat-append p.front (take k ds)), length-append (concat p.front) (concat (take k ds)), p.offset, before);
       within = fits;
     }
+
+-- the chunks of the run after one of them, and those after the run
+pub part_rest : (cs ds es : List (List ℕ)) (b r o k : ℕ) → IsPart cs es b r o → es ≡ ds → k < length ds → drop (k + 1) ds ++ drop (b + length ds) cs ≡ drop (b + k + 1) cs
+part_rest cs ds es b r o k part e within =
+    let p : IsPart cs ds b r o = subst (λ xs. IsPart cs xs b r o) e part in
+    let here : b + k + 1 ≡ length p.front + (k + 1) = omega (arith, p.count) in
+    let end : b + length ds ≡ length p.front + length ds = omega (arith, p.count) in
+    let rest : drop (b + k + 1) cs ≡ drop (k + 1) ds ++ p.back =
+    rw (p.all, here) (drop-append-add p.front (ds ++ p.back) (k + 1) ∙ drop-append-le (k + 1) ds p.back (omega (arith, within))) in
+    let back : drop (b + length ds) cs ≡ p.back =
+    rw (p.all, end) (drop-append-add p.front (ds ++ p.back) (length ds) ∙ drop-append_seam ds p.back) in
+    ap (λ xs. drop (k + 1) ds ++ xs) back ∙ sym rest
 
 -- a run of the chunks is not longer than all
 pub part_short : (cs ds : List (List ℕ)) (b r o : ℕ) → IsPart cs ds b r o → b + length ds ≤ length cs

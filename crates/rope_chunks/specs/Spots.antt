@@ -20,11 +20,6 @@ pub record IsChange (cs : List (List ℕ)) (bs : List ℕ) (i j : ℕ) (ys : Lis
   pub text : text_with i j (concat ys) cs ≡ bs
   pub each : All IsChunk ys
 
--- es are the chunks from one on up to chunk n, and from byte r of the first of them on stands what stands from offset o on
-abbrev pub IsLeafFrom : List (List ℕ) → ℕ → List (List ℕ) → ℕ → ℕ → Type 0
-IsLeafFrom cs o [] n r = ⊥
-IsLeafFrom cs o (c ∷ es) n r = (i : ℕ) × IsSpot cs o i c r × (drop (i + 1) cs ≡ es ++ drop n cs)
-
 -- ---- texts that are cut
 
 -- the texts ts after a first one, which is left out if it is empty

@@ -28,9 +28,9 @@ impl Rope {
         Ok(Rope { chunks })
     }
 
-    /// Puts a text behind. The rope's bytes and the text's are at most 2^40 together. The last chunk is filled before a new one
-    /// is begun. It is one walk down the end of the tree for a short text, and the time grows with the length of a long one. On
-    /// want of memory, which is the one error, the rope is as before.
+    /// Puts a text at the end. The rope's bytes and the text's are at most 2^40 together. The last chunk is filled before a new one
+    /// is begun. It is one walk down the end of the tree for a short text, and the time grows with the length of a long one. It
+    /// fails only if an allocation fails; the rope is then as before.
     pub fn push_str(&mut self, alloc: Global, text: &str) -> Result<(), OutOfMemory>
         requires { length self.old + length text.now ≤ 2 ^ 40 }
         ensures ok { OnOk result (self.new ≡ self.old ++ text.now) }
@@ -44,9 +44,9 @@ impl Rope {
 }
 
 impl Rope {
-    /// Puts another rope's text behind, and shares its chunks. Both have at most 2^40 bytes together. The last chunk and the
+    /// Puts another rope's text at the end, and shares its chunks. Both have at most 2^40 bytes together. The last chunk and the
     /// other's first are made one where they fit. Nodes are made where the two trees meet, a few for each level, however long
-    /// the texts are. On want of memory, which is the one error, the rope is as before, and `other` is let go.
+    /// the texts are. It fails only if an allocation fails; the rope is then as before, and `other` is dropped.
     pub fn append(&mut self, alloc: Global, other: Rope) -> Result<(), OutOfMemory>
         requires { length self.old + length other ≤ 2 ^ 40 }
         ensures ok { OnOk result (self.new ≡ self.old ++ other) }
@@ -69,7 +69,7 @@ impl Rope {
     }
 }
 
-// Puts the first block of a text behind some chunks, and answers the rest of the text.
+// Puts the first block of a text after some chunks, and returns the rest of the text.
 fn push_block<'a>(
     chunks: &mut SumTree<Chunk>,
     alloc: Global,
@@ -137,7 +137,7 @@ fn fuse(
     Ok(whole)
 }
 
-// The chunks of a text with one more behind them, which is made one with the last.
+// The chunks of a text with one more after them, which is made one with the last.
 fn with_seam(
     alloc: Global,
     front: &SumTree<Chunk>,
@@ -160,7 +160,7 @@ fn with_seam(
     Ok(whole)
 }
 
-// Puts a tree behind another.
+// Puts a tree after another.
 fn join(front: &mut SumTree<Chunk>, alloc: Global, back: SumTree<Chunk>) -> Result<(), OutOfMemory>
     requires { AreChunks (front.old.items ++ back.items) }
     ensures ok { OnOk result (front.new.items ≡ front.old.items ++ back.items) }
@@ -194,7 +194,7 @@ pub(crate) fn put(
     tree.splice(alloc, from, to, chunks)
 }
 
-// How many chunks stay where a text is put behind, and those that follow them then.
+// How many chunks stay where a text is put at the end, and those that follow them then.
 fn growth(
     alloc: Global,
     tree: &SumTree<Chunk>,

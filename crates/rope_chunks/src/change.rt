@@ -22,7 +22,7 @@ pub(crate) struct Change {
     pub(crate) chunks: Vec<Chunk>,
 }
 
-// The chunk before the first i, where it and so many bytes fit one, and how many chunks then stand before it.
+// The chunk before the first i, where it and that many bytes fit one, and how many chunks then stand before it.
 fn chunk_before(tree: &SumTree<Chunk>, i: u64, len: usize) -> (u64, &str)
     requires within { i ≤ length tree.now.items }
     requires few { len ≤ 128 }
@@ -42,7 +42,7 @@ fn chunk_before(tree: &SumTree<Chunk>, i: u64, len: usize) -> (u64, &str)
     (i, "")
 }
 
-// The chunk behind the first i, where it and so many bytes fit one, and how many chunks are passed then.
+// The chunk after the first i, where it and that many bytes fit one, and how many chunks are passed then.
 fn chunk_behind(tree: &SumTree<Chunk>, i: u64, len: usize) -> (u64, &str)
     requires within { i ≤ length tree.now.items }
     requires few { len ≤ 128 }
@@ -128,7 +128,7 @@ fn cut_evenly(alloc: Global, text: &str) -> Result<Vec<Chunk>, OutOfMemory>
 }
 
 /// What puts a text in the place of the chunks from `from` up to `to`. A small text is made one with the chunk before
-/// it and the chunk behind it, where they fit one.
+/// it and the chunk after it, where they fit one.
 pub(crate) fn change_to(
     alloc: Global,
     tree: &SumTree<Chunk>,
@@ -151,7 +151,7 @@ pub(crate) fn change_to(
     Ok(Change { from, to, chunks })
 }
 
-/// Makes a change. On want of memory the chunks are as before.
+/// Makes a change. If an allocation fails, the chunks are as before.
 pub(crate) fn make(
     tree: &mut SumTree<Chunk>,
     alloc: Global,

@@ -12,7 +12,7 @@ use text_dims::TextSummary;
 /// How many bytes a chunk has room for.
 pub const CHUNK_BYTES: usize = 128;
 
-/// How many bytes a chunk has at least that has no room for the character behind it.
+/// How many bytes a chunk has at least that has no room for the character after it.
 pub const LEAST_BYTES: usize = 125;
 
 /// A piece of a text, of at most 128 bytes, cut on character boundaries. Contracts see it as its bytes.

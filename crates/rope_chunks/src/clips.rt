@@ -10,7 +10,7 @@ use tree_cursor::Bias;
 
 impl Rope {
     /// The byte offset itself where it is a position; past the text's end, the end; inside a character its start (Left) or
-    /// its end (Right). It is one descent and one look inside a chunk, and takes no memory.
+    /// its end (Right). It is one descent and one look inside a chunk, and does not allocate.
     pub fn clip_offset(&self, offset: u64, bias: Bias) -> u64
         ensures { result ≡ (offset_clip self.now offset bias).offset }
     {

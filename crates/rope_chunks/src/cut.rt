@@ -71,7 +71,7 @@ fn text_in_chunk(tree: &SumTree<Chunk>, start: u64, end: u64) -> Option<&str>
 
 impl Rope {
     /// Whether the text may be cut at a byte offset: that is at most its length, and not inside a character. It is one
-    /// plain descent, and takes no memory.
+    /// plain descent, and does not allocate.
     pub fn is_char_boundary(&self, offset: u64) -> bool
         ensures { IsTrue result ↔ IsCharBoundary self.now offset }
     {
@@ -103,8 +103,8 @@ impl Rope {
 
     /// The part of the text from offset `start` up to `end`, copied. Both are positions, and `start` is at most `end`.
     ///
-    /// Where the part lies in one chunk, this is one plain descent, and the copy alone takes memory. Else the part is first
-    /// made as a rope, at the cost of `slice`. It fails for want of memory alone, and the rope stays as it is.
+    /// Where the part lies in one chunk, this is one plain descent, and only the copy allocates. Else the part is first
+    /// made as a rope, at the cost of `slice`. It fails only if an allocation fails, and the rope stays as it is.
     pub fn text_of(&self, alloc: Global, start: u64, end: u64) -> Result<String, OutOfMemory>
         requires start { IsCharBoundary self.now start }
         requires end { IsCharBoundary self.now end }

@@ -1,27 +1,27 @@
 //! A rope's chunks, lent one by one.
-ghost use Rattle.std.specs.Prelude.{◌≡◌, ◌+◌, ◌<◌, ◌≤◌, ◌++◌, ◌∷◌, length, drop, slice_range, option_to_list};
+ghost use Rattle.std.specs.Prelude.{◌≡◌, ◌+◌, ◌<◌, ◌≤◌, ◌++◌, length, drop, slice_range};
 ghost use Rattle.std.specs.Iterator.{YieldsFirstRef, item_count};
-ghost use Rattle.std.specs.List.{concat};
+ghost use Rattle.std.specs.List.{All, concat};
 ghost use Rattle.std.specs.Str.{IsCharBoundary};
-ghost use Rattle.rope_chunks.specs.Spots.{with_first};
+ghost use Rattle.rope_chunks.specs.Chunks.{IsChunk};
 
 use crate::chunk::Chunk;
 use crate::rope::Rope;
-use crate::spot::leaf_at;
+use crate::spot::spot_and_rest;
 use std::marker::Model;
 use std::mem;
 use sum_tree::{Entry, Parts, SumTree, child_at};
 
 /// The texts of a rope's chunks, from the first to the last: one after the other they are the rope's text.
 ///
-/// They are lent leaf by leaf, with one plain descent for each leaf; nothing is copied, and no memory is taken. Contracts see
+/// They are lent leaf by leaf, with one plain descent for each leaf; nothing is copied, and nothing allocated. Contracts see
 /// the texts that are left.
 #[derive(Drop)]
 pub struct Chunks<'a> {
-    chunks: &'a SumTree<Chunk>,
+    pub(crate) chunks: &'a SumTree<Chunk>,
     // What is left of a leaf, and the index of the chunk that follows it.
-    entries: &'a [Entry<Chunk>],
-    next: u64,
+    pub(crate) entries: &'a [Entry<Chunk>],
+    pub(crate) next: u64,
 }
 
 impl<'a> Model for Chunks<'a> {
@@ -59,6 +59,38 @@ impl<'a> Iterator for Chunks<'a> {
     }
 }
 
+// The texts of the chunks from a position on, of which the first is cut there. Contracts see the texts that are left.
+#[derive(Drop)]
+struct ChunksFrom<'a> {
+    // What is left of the chunk in which the position lies, and the chunks after it.
+    first: &'a str,
+    rest: Chunks<'a>,
+}
+
+impl<'a> Model for ChunksFrom<'a> {
+    ghost use Rattle.std.specs.Prelude.{List, ℕ};
+    ghost use Rattle.rope_chunks.specs.Spots.{with_first};
+
+    ghost Value = { List (List ℕ) };
+
+    ghost view = { λ left. with_first left.first.now left.rest };
+}
+
+impl<'a> Iterator for ChunksFrom<'a> {
+    type Item = &'a str;
+
+    ghost next_gives = { YieldsFirstRef (λ left. left) };
+
+    ghost remaining = { item_count (λ left. left) };
+
+    fn next(&mut self) -> Option<&'a str> {
+        if self.first.is_empty() {
+            return self.rest.next();
+        }
+        Some(mem::replace(&mut self.first, ""))
+    }
+}
+
 /// The texts of the chunks between two positions, of which the first and the last are cut there: one after the other they are
 /// that part of the rope's text.
 ///
@@ -66,24 +98,22 @@ impl<'a> Iterator for Chunks<'a> {
 /// the texts that are left.
 #[derive(Drop)]
 pub struct ChunksIn<'a> {
-    // What is left of the chunk in which the part begins, and the chunks after it.
-    first: &'a str,
-    rest: Chunks<'a>,
+    chunks: ChunksFrom<'a>,
     // The number of bytes that are left.
     left: u64,
 }
 
 impl<'a> Model for ChunksIn<'a> {
-    ghost use Rattle.std.specs.Prelude.{List, ℕ};
+    ghost use Rattle.std.specs.Prelude.{List, ℕ, ◌<◌};
     ghost use Rattle.std.specs.List.{concat};
     ghost use Rattle.std.specs.Str.{IsCharBoundary};
-    ghost use Rattle.rope_chunks.specs.Spots.{with_first, texts_up_to};
+    ghost use Rattle.rope_chunks.specs.Spots.{texts_up_to};
 
     ghost Value = { List (List ℕ) };
 
-    ghost view = { λ it. texts_up_to it.left (with_first it.first.now it.rest) };
+    ghost view = { λ it. texts_up_to it.left it.chunks };
 
-    ghost invariant = { λ it. IsCharBoundary (concat (with_first it.first.now it.rest)) it.left };
+    ghost invariant = { λ it. 0 < it.left → IsCharBoundary (concat it.chunks) it.left };
 }
 
 impl<'a> Iterator for ChunksIn<'a> {
@@ -97,11 +127,7 @@ impl<'a> Iterator for ChunksIn<'a> {
         if self.left == 0 {
             return None;
         }
-        let text = if self.first.is_empty() {
-            self.rest.next()?
-        } else {
-            mem::replace(&mut self.first, "")
-        };
+        let text = self.chunks.next()?;
         let len = text.len() as u64;
         if len <= self.left {
             self.left -= len;
@@ -146,30 +172,49 @@ impl Rope {
         }
     }
 
-    /// The texts of the chunks from offset `start` up to `end`, the first and the last cut there. Both are positions, and `start`
-    /// is at most `end`. One descent, and one more for each further leaf; does not allocate.
+    /// The texts of the chunks from offset `start` up to `end`, in bytes, the first and the last cut there. None is empty, and
+    /// one after the other they are the text of that `slice`. Both are positions, and `start` is at most `end`.
+    ///
+    /// The call is one plain descent, O(log n), and the iterator needs one more for each further leaf. Neither allocates.
+    ///
+    /// # Examples
+    ///
+    /// ```text
+    /// for text in rope.chunks_in(start, end) {
+    ///     line.push_str(text)?;
+    /// }
+    /// ```
     pub fn chunks_in(&self, start: u64, end: u64) -> ChunksIn<'_>
         requires start { IsCharBoundary self.now start }
         requires end { IsCharBoundary self.now end }
         requires order { start ≤ end }
-        ensures { concat result ≡ slice_range self.now start end }
+        ensures text { concat result ≡ slice_range self.now start end }
+        ensures each { All IsChunk result }
     {
-        let left = end - start;
+        ChunksIn {
+            chunks: self.chunks_from(start),
+            left: end - start,
+        }
+    }
+
+    // The texts of the chunks from a position on, the first cut there. It is one plain descent.
+    fn chunks_from(&self, start: u64) -> ChunksFrom<'_>
+        requires { IsCharBoundary self.now start }
+        ensures text { concat result ≡ drop start self.now }
+        ensures each { All IsChunk result }
+    {
         if self.chunks.is_empty() {
-            let rest = self.chunks();
-            return ChunksIn {
+            return ChunksFrom {
                 first: "",
-                rest,
-                left,
+                rest: Chunks {
+                    chunks: &self.chunks,
+                    entries: &[],
+                    next: 0,
+                },
             };
         }
-        let (entries, next, place) = leaf_at(&self.chunks, start);
-        let (_, first) = entries[0].item().as_str().split_at(place as usize);
-        let rest = Chunks {
-            chunks: &self.chunks,
-            entries: &entries[1..],
-            next,
-        };
-        ChunksIn { first, rest, left }
+        let (spot, rest) = spot_and_rest(&self.chunks, start);
+        let (_, first) = spot.chunk.as_str().split_at(spot.place as usize);
+        ChunksFrom { first, rest }
     }
 }

@@ -14,7 +14,7 @@ pub(crate) struct Stop {
     pub(crate) here: Option<Place>,
 }
 
-// Some first bytes of a text, and the place behind them.
+// Some first bytes of a text, and the place after them.
 #[derive(Clone, Copy)]
 struct Front {
     len: usize,
@@ -22,7 +22,7 @@ struct Front {
 }
 
 impl Front {
-    // The first bytes of a text that begins at a place, unless there are fewer than 16, or the place behind them is at
+    // The first bytes of a text that begins at a place, unless there are fewer than 16, or the place after them is at
     // the target or past it.
     fn before<G: Target<At>>(bytes: &[u8], start: Place, target: &G) -> Option<Front>
         requires { HasRoom start (length bytes.now) }

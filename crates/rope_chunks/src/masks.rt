@@ -21,7 +21,7 @@ pub struct Masks {
 }
 
 impl Chunk {
-    /// Which bytes begin a character, which begin one of two UTF-16 units, and which are LFs. Takes no memory.
+    /// Which bytes begin a character, which begin one of two UTF-16 units, and which are LFs. Does not allocate.
     pub fn masks(&self) -> Masks
         ensures starts { result.starts ≡ mask_of begins_char self.now }
         ensures wide { result.wide ≡ mask_of begins_wide self.now }

@@ -11,7 +11,7 @@ use std::alloc::Global;
 /// How many chunks are made a tree at a time: those of a full tree of three levels, whose lists stay in the cache.
 pub(crate) const BLOCK: usize = 12 * 12 * 12;
 
-/// Cuts a text into chunks, each as full as the characters allow, and puts them behind others.
+/// Cuts a text into chunks, each as full as the characters allow, and puts them after others.
 pub(crate) fn cut_up(chunks: &mut Vec<Chunk>, text: &str) -> Result<(), OutOfMemory>
     requires { All IsChunk chunks.old.items }
     ensures text { OnOk result (concat chunks.new.items ≡ concat chunks.old.items ++ text.now) }
@@ -25,7 +25,7 @@ pub(crate) fn cut_up(chunks: &mut Vec<Chunk>, text: &str) -> Result<(), OutOfMem
 }
 
 /// Cuts chunks, each as full as the characters allow, from the start of a text, at least one and no more than a block,
-/// and puts them into an empty list. Answers the rest of the text.
+/// and puts them into an empty list. Returns the rest of the text.
 pub(crate) fn cut_block<'a>(chunks: &mut Vec<Chunk>, text: &'a str) -> Result<&'a str, OutOfMemory>
     requires new { chunks.old.items ≡ [] }
     requires some { 0 < length text.now }
@@ -41,7 +41,7 @@ pub(crate) fn cut_block<'a>(chunks: &mut Vec<Chunk>, text: &'a str) -> Result<&'
     Ok(rest)
 }
 
-// Puts as much of a text as a chunk has room for behind other chunks, and answers the rest.
+// Puts as much of a text as a chunk has room for after other chunks, and returns the rest.
 fn push_piece<'a>(chunks: &mut Vec<Chunk>, text: &'a str) -> Result<&'a str, OutOfMemory>
     requires each { All IsChunk chunks.old.items }
     requires some { 0 < length text.now }

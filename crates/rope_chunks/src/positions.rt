@@ -1,6 +1,6 @@
 //! A rope's positions: each kind as each other.
 //!
-//! Each is one descent, and one look inside a chunk. None takes memory.
+//! Each is one descent, and one look inside a chunk. None allocates.
 ghost use Rattle.std.specs.Prelude.{◌≡◌};
 ghost use Rattle.std.specs.Option.{option_map};
 ghost use Rattle.text_dims.specs.Places.{place_at_offset, place_at_utf16, place_at_point, place_at_point_utf16, point_of, offset_utf16_of, point_utf16_of};
@@ -12,7 +12,7 @@ use text_dims::{OffsetUtf16, Place, Point, PointUtf16};
 
 impl Rope {
     /// The point of a byte offset, or None if that is past the text's end or inside a character. It is one
-    /// descent and one look inside a chunk, and takes no memory.
+    /// descent and one look inside a chunk, and does not allocate.
     pub fn offset_to_point(&self, offset: u64) -> Option<Point>
         ensures { result ≡ option_map point_of (place_at_offset self.now offset) }
     {
@@ -21,7 +21,7 @@ impl Rope {
     }
 
     /// The byte offset of a point, or None if there is no such row, or the column is past the row's end or inside a
-    /// character. It is one descent and one look inside a chunk, and takes no memory.
+    /// character. It is one descent and one look inside a chunk, and does not allocate.
     pub fn point_to_offset(&self, point: Point) -> Option<u64>
         ensures { result ≡ option_map offset_of (place_at_point self.now point) }
     {
@@ -30,7 +30,7 @@ impl Rope {
     }
 
     /// The offset in UTF-16 units of a byte offset, or None if that is past the text's end or inside a character. It is one
-    /// descent and one look inside a chunk, and takes no memory.
+    /// descent and one look inside a chunk, and does not allocate.
     pub fn offset_to_utf16(&self, offset: u64) -> Option<OffsetUtf16>
         ensures { result ≡ option_map offset_utf16_of (place_at_offset self.now offset) }
     {
@@ -39,7 +39,7 @@ impl Rope {
     }
 
     /// The byte offset of an offset in UTF-16 units, or None if that is past the text's end or inside a character. It is one
-    /// descent and one look inside a chunk, and takes no memory.
+    /// descent and one look inside a chunk, and does not allocate.
     pub fn utf16_to_offset(&self, offset: OffsetUtf16) -> Option<u64>
         ensures { result ≡ option_map offset_of (place_at_utf16 self.now offset) }
     {
@@ -48,7 +48,7 @@ impl Rope {
     }
 
     /// A point with its column in UTF-16 units, or None if there is no such row, or the column is past the row's end or
-    /// inside a character. It is one descent and one look inside a chunk, and takes no memory.
+    /// inside a character. It is one descent and one look inside a chunk, and does not allocate.
     pub fn point_to_utf16(&self, point: Point) -> Option<PointUtf16>
         ensures { result ≡ option_map point_utf16_of (place_at_point self.now point) }
     {
@@ -57,7 +57,7 @@ impl Rope {
     }
 
     /// A point in UTF-16 units with its column in bytes, or None if there is no such row, or the column is past the
-    /// row's end or inside a character. It is one descent and one look inside a chunk, and takes no memory.
+    /// row's end or inside a character. It is one descent and one look inside a chunk, and does not allocate.
     pub fn utf16_to_point(&self, point: PointUtf16) -> Option<Point>
         ensures { result ≡ option_map point_of (place_at_point_utf16 self.now point) }
     {

@@ -15,7 +15,7 @@ use crate::spot::{Spot, spot_of};
 use std::alloc::Global;
 use sum_tree::SumTree;
 
-// Where an offset lies that is so many bytes behind another: in the same chunk, or not before it.
+// Where an offset lies that is some bytes after another: in the same chunk, or not before it.
 fn spot_behind<'a>(tree: &'a SumTree<Chunk>, first: &Spot<'a>, start: u64, bytes: u64) -> Spot<'a>
     requires chunks { AreChunks tree.now.items }
     requires first { IsSpot tree.now.items start first.now.index first.now.chunk.now
@@ -87,9 +87,9 @@ fn change_of(
 
 impl Rope {
     /// Puts a text in the place of that from offset `start` up to `end`. Both are positions, `start` is at most `end`,
-    /// and the new length is at most 2^40. On want of memory the rope is as before.
+    /// and the new length is at most 2^40. If an allocation fails, the rope is as before.
     ///
-    /// The chunks that the range touches are made anew, and where they become small they are made one with a neighbour,
+    /// The chunks that the range touches are made again, and where they become small they are made one with a neighbour,
     /// if both fit one chunk. A short change is one descent for each end and one splice of the place: where that lies in
     /// one leaf of a tree that no other rope shares, no node is made. Else nodes are made along the paths to both ends.
     pub fn replace(

@@ -35,7 +35,8 @@ use tree_cursor::{Bias, Plain, Target, look_up};
 /// call is used in the files of `crates/tree_tests/src`:
 ///
 /// - `new`, `from_str`, `push_str` and `append`: `parts.rt`, in `rope_of`, `push_to` and `join_to`; `share`: `ropes.rt`, in `shared_len`
-/// - `to_string` and `len`: `parts.rt`, in `has`; `chunks`: there, in `count`; `summary`: `ropes.rt`, in `answer`
+/// - `to_string` and `len`: `parts.rt`, in `has`; `chunks`: there, in `count`; `chunks_in`: `lent.rt`, in `lends`
+/// - `summary`: `ropes.rt`, in `answer`
 /// - `is_char_boundary`, `slice`, `text_of` and `replace`: `parts.rt`, in `bounds_alike`, `part_of`, `copy_of` and `replace`
 /// - conversions: `ropes.rt`, in `convert`; `clip_offset`, `clip_point` and `row_len`: there, in `answer`
 #[derive(Drop)]
@@ -74,14 +75,14 @@ impl Rope {
         Ok(Rope { chunks })
     }
 
-    /// What is counted of the text. Takes no memory.
+    /// What is counted of the text. Does not allocate.
     pub fn summary(&self) -> &TextSummary
         ensures { result.now ≡ summary_of self.now }
     {
         self.chunks.summary()
     }
 
-    /// How many bytes the text has. Takes no memory.
+    /// How many bytes the text has. Does not allocate.
     pub fn len(&self) -> u64
         ensures { result ≡ length self.now }
     {

@@ -9,7 +9,7 @@ use text_dims::{Place, Point};
 use tree_cursor::Bias;
 
 impl Rope {
-    /// How many bytes a row has without its LF, or None if there is no such row. Takes no memory.
+    /// How many bytes a row has without its LF, or None if there is no such row. Does not allocate.
     pub fn row_len(&self, row: u64) -> Option<u64>
         ensures { result ≡ row_len_of self.now row }
     {
@@ -22,7 +22,7 @@ impl Rope {
     }
 
     /// The point itself where it is a position; in a row past the last, the text's end; past a row's end, the row's end;
-    /// inside a character its start (Left) or its end (Right). Takes no memory.
+    /// inside a character its start (Left) or its end (Right). Does not allocate.
     pub fn clip_point(&self, point: Point, bias: Bias) -> Point
         ensures { result ≡ point_of (point_clip self.now point bias) }
     {

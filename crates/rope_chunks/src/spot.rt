@@ -1,11 +1,12 @@
 //! Where a byte offset lies among a rope's chunks.
-ghost use Rattle.std.specs.Prelude.{◌≡◌, ℕ, ◌+◌, ◌^◌, ◌<◌, ◌≤◌, List, length, take, slice_index_or};
+ghost use Rattle.std.specs.Prelude.{◌≡◌, ℕ, ◌+◌, ◌^◌, ◌<◌, ◌≤◌, List, length, take, drop, slice_index_or};
 ghost use Rattle.std.specs.List.{concat};
 ghost use Rattle.sum_tree.specs.Seen.{Seen};
 ghost use Rattle.sum_tree.specs.Shape.{join_items};
-ghost use Rattle.rope_chunks.specs.Spots.{IsSpot, IsLeafFrom};
+ghost use Rattle.rope_chunks.specs.Spots.{IsSpot};
 
 use crate::chunk::Chunk;
+use crate::lent::Chunks;
 use sum_tree::{Entry, Parts, SumTree};
 
 /// The chunk in which an offset lies, that chunk's index, and the byte of it at which the offset is.
@@ -67,36 +68,16 @@ pub(crate) fn spot_of(tree: &SumTree<Chunk>, offset: u64) -> Spot<'_>
     requires within { offset ≤ length (concat tree.now.items) }
     ensures { IsSpot tree.now.items offset result.index result.chunk.now result.place }
 {
-    tree.known();
-    let mut node = tree;
-    let mut before = 0;
-    let mut rest = offset;
-    loop {
-        match node.parts() {
-            Parts::Leaf(entries) => {
-                let (k, place) = entry_at(entries, rest);
-                return Spot {
-                    index: before + k as u64,
-                    chunk: entries[k].item(),
-                    place,
-                };
-            }
-            Parts::Inner(children) => {
-                let (k, count, place) = child_at(children, rest);
-                before += count;
-                rest = place;
-                node = &children[k];
-            }
-        }
-    }
+    let (spot, _) = spot_and_rest(tree, offset);
+    spot
 }
 
-/// The chunks of a leaf from the one on in which an offset lies, the index of the chunk that follows them, and the byte of the first
-/// one at which the offset is. It is one plain descent.
-pub(crate) fn leaf_at(tree: &SumTree<Chunk>, offset: u64) -> (&[Entry<Chunk>], u64, u64)
+/// Where an offset lies, and the chunks after that one. It is one plain descent.
+pub(crate) fn spot_and_rest(tree: &SumTree<Chunk>, offset: u64) -> (Spot<'_>, Chunks<'_>)
     requires some { 1 ≤ length tree.now.items }
     requires within { offset ≤ length (concat tree.now.items) }
-    ensures { IsLeafFrom tree.now.items offset result.0.now result.1 result.2 }
+    ensures spot { IsSpot tree.now.items offset result.0.index result.0.chunk.now result.0.place }
+    ensures rest { result.1 ≡ drop (result.0.index + 1) tree.now.items }
 {
     tree.known();
     let mut node = tree;
@@ -106,7 +87,17 @@ pub(crate) fn leaf_at(tree: &SumTree<Chunk>, offset: u64) -> (&[Entry<Chunk>], u
         match node.parts() {
             Parts::Leaf(entries) => {
                 let (k, place) = entry_at(entries, rest);
-                return (&entries[k..], before + entries.len() as u64, place);
+                let spot = Spot {
+                    index: before + k as u64,
+                    chunk: entries[k].item(),
+                    place,
+                };
+                let chunks = Chunks {
+                    chunks: tree,
+                    entries: &entries[k + 1..],
+                    next: before + entries.len() as u64,
+                };
+                return (spot, chunks);
             }
             Parts::Inner(children) => {
                 let (k, count, place) = child_at(children, rest);

@@ -16,6 +16,8 @@ mod cursors;
 #[cfg(test)]
 mod keys;
 #[cfg(test)]
+mod lent;
+#[cfg(test)]
 mod masks;
 #[cfg(test)]
 mod mirror;

@@ -1,5 +1,6 @@
 //! Parts of ropes and replacements, against plain texts, and how full chunks are.
 use crate::chance::step;
+use crate::lent::lends;
 use rope_chunks::{OutOfMemory, Rope};
 use std::alloc::Global;
 
@@ -48,7 +49,7 @@ fn copy_of(alloc: Global, rope: &Rope, start: u64, end: u64) -> Result<String, O
 }
 
 // The part of a text, where there is such a part, and else no text.
-fn plain_part(text: &str, start: usize, end: usize) -> &str {
+pub(crate) fn plain_part(text: &str, start: usize, end: usize) -> &str {
     if start <= end && text.is_char_boundary(start) && text.is_char_boundary(end) {
         return &text[start..end];
     }
@@ -66,7 +67,7 @@ fn has_part(
     has(alloc, &part, text)
 }
 
-// Whether it is that of the text, as a copy too, and both agree on where they may be cut.
+// Whether it is that of the text, as a copy and as lent too, and both agree on where they may be cut.
 fn cuts_alike(
     alloc: Global,
     rope: &Rope,
@@ -75,8 +76,9 @@ fn cuts_alike(
 ) -> Result<bool, OutOfMemory> {
     let expected = plain_part(text, start, end);
     let copied = copy_of(alloc, rope, start as u64, end as u64)?.as_str() == expected;
+    let lent = lends(alloc, rope, (start, end), expected)?;
     let bounds = bounds_alike(rope, text, start) & bounds_alike(rope, text, end);
-    Ok(has_part(alloc, rope, (start, end), expected)? & copied & bounds)
+    Ok(has_part(alloc, rope, (start, end), expected)? & copied & lent & bounds)
 }
 
 // Whether all parts that start at a place are alike, of several lengths.
@@ -149,7 +151,7 @@ fn replace(
     Ok(())
 }
 
-// Replaces a range in a rope, where it may be, and answers the text that it should have then.
+// Replaces a range in a rope, where it may be, and returns the text that it should have then.
 fn replace_both(
     alloc: Global,
     rope: &mut Rope,
@@ -172,7 +174,7 @@ fn draw(x: u64, len: usize, most: usize) -> ((usize, usize), &'static str) {
     ((start, start.saturating_add(size).min(len)), piece)
 }
 
-// Replaces n ranges by chance, and answers whether the rope had the right text after each.
+// Replaces n ranges by chance, and returns whether the rope had the right text after each.
 fn replaces_often(
     alloc: Global,
     rope: &mut Rope,
@@ -242,7 +244,7 @@ fn is_filled(rope: &Rope) -> bool {
     count(rope) <= (rope.len() / 62).saturating_add(2)
 }
 
-// Puts a piece behind a rope by a push.
+// Puts a piece after a rope by a push.
 fn push_to(alloc: Global, rope: &mut Rope, piece: &str) -> Result<(), OutOfMemory> {
     if rope.len() < 1 << 30 && piece.len() < 1 << 20 {
         return rope.push_str(alloc, piece);
@@ -267,7 +269,7 @@ enum Growth {
     Once,
 }
 
-// Puts n texts of 1 to 5 bytes, drawn by chance, behind a rope.
+// Puts n texts of 1 to 5 bytes, drawn by chance, after a rope.
 fn grow(alloc: Global, rope: &mut Rope, growth: Growth, n: u64) -> Result<(), OutOfMemory> {
     let mut x = 1u64;
     for _ in 0..n {

@@ -1,5 +1,5 @@
 use Rattle.rope_chunks.proofs.Spots.{IsPart}
-use Rattle.rope_chunks.proofs.spot.spot_of.Given as goal
+use Rattle.rope_chunks.proofs.spot.spot_and_rest.Given as goal
 
 abbrev pub invariant-loop-entries : goal.invariant-loop-entries
 invariant-loop-entries l = IsPart l.fn.tree.items l.node.items l.before l.rest l.fn.offset

@@ -1,19 +1,32 @@
-use Rattle.std.proofs.Common.{◌≤◌, length, ap, arith, subst, sym, get_or}
+use Rattle.std.proofs.Common.{◌≤◌, ◌+◌, ◌-◌, ◌∙◌, ◌++◌, length, ap, arith, subst, sym, get_or, take, drop}
 use Rattle.std.specs.List.{concat}
+use Rattle.std.proofs.lemmas.List.{take_rest}
 use Rattle.sum_tree.specs.Seen.{Seen}
 use Rattle.sum_tree.proofs.Children.{child_filled, joined-take_le}
-use Rattle.rope_chunks.proofs.Spots.{part_whole, part_child, part_entry, part_short}
-use Rattle.rope_chunks.proofs.spot.spot_of.Goals as goal
+use Rattle.rope_chunks.proofs.Spots.{part_whole, part_child, part_entry, part_rest, part_short}
+use Rattle.rope_chunks.proofs.spot.spot_and_rest.Goals as goal
 
 pub loop-entries-init : goal.loop-entries-init
 loop-entries-init c = part_whole c.args.tree.now.items c.args.offset c.requires.some c.requires.within
 
-pub returns-in-Leaf : goal.returns-in-Leaf
-returns-in-Leaf c =
+pub returns-in-Leaf-clause-spot : goal.returns-in-Leaf-clause-spot
+returns-in-Leaf-clause-spot c =
     let x = c.index-entries-k.result in
     let fits : c.entry_at-k.result.1 ≤ length x = omega (arith, c.entry_at-k.ensures.within x, ap length c.index-entries-k.is) in
     rw c.item.ensures
     (part_entry c.args.tree.now.items c.in-Leaf.entries.now c.loop-entries.node.now.items c.loop-entries.before c.loop-entries.rest c.args.offset c.entry_at-k.result.0 c.entry_at-k.result.1 x c.loop-entries.invariant c.in-Leaf.ensures.0 c.entry_at-k.ensures.entry c.index-entries-k.is c.entry_at-k.ensures.before fits)
+
+pub returns-in-Leaf-clause-rest : goal.returns-in-Leaf-clause-rest
+returns-in-Leaf-clause-rest c =
+    let es = c.in-Leaf.entries.now in
+    let k = c.entry_at-k.result.0 in
+    let cs = c.args.tree.now.items in
+    ap (λ xs. xs ++ drop (c.loop-entries.before + length es) cs) (take_rest es (k + 1))
+    ∙ part_rest cs es c.loop-entries.node.now.items c.loop-entries.before c.loop-entries.rest c.args.offset k c.loop-entries.invariant c.in-Leaf.ensures.0 c.entry_at-k.ensures.entry
+
+pub overflow_add-next : goal.overflow_add-next
+overflow_add-next c =
+    omega (arith, part_short c.args.tree.now.items c.loop-entries.node.now.items c.loop-entries.before c.loop-entries.rest c.args.offset c.loop-entries.invariant, ap length c.in-Leaf.ensures.0, c.known.ensures.short)
 
 pub overflow_add-before : goal.overflow_add-before
 overflow_add-before c =
