@@ -104,10 +104,11 @@ each_first (b ∷ bs) ts u l a = All-cons IsChunk (b ∷ bs) ts (record { text =
 
 -- ---- from an offset on
 
-pub from_none : (cs : List (List ℕ)) (start : ℕ) → length cs ≡ 0 → start ≤ length (concat cs) → concat cs ≡ drop start (concat cs)
-from_none [] zero e l = refl
-from_none [] (suc n) e l = refl
-from_none (c ∷ cs) n e l = absurd (omega (arith, e))
+-- no chunks have no bytes, so the one offset in them is 0
+pub from_none : (cs : List (List ℕ)) (start : ℕ) → cs ≡ [] → start ≤ length (concat cs) → concat cs ≡ drop start (concat cs)
+from_none cs start e l =
+    let none : start ≡ 0 = omega (arith, l, ap (λ (xs : List (List ℕ)). length (concat xs)) e) in
+    ap (λ (k : ℕ). drop k (concat cs)) (sym none)
 
 pub from_cut : (bs : List ℕ) (start end : ℕ) → IsCharBoundary bs start → IsCharBoundary bs end → start ≤ end → IsCharBoundary (drop start bs) (end - start)
 from_cut bs start end a b l =

@@ -1,4 +1,4 @@
-use Rattle.std.proofs.Common.{◌≡◌, ◌+◌, ◌∙◌, ℕ, List, ap, drop, length, subst, sym}
+use Rattle.std.proofs.Common.{◌∙◌, ap, arith, drop, length, subst, sym}
 use Rattle.std.specs.List.{concat}
 use Rattle.std.specs.Str.{IsCharBoundary}
 use Rattle.rope_chunks.proofs.Spots.{spot_boundary}
@@ -6,7 +6,9 @@ use Rattle.rope_chunks.proofs.CutTexts.{from_none, from_text, from_each}
 use Rattle.rope_chunks.proofs.rope.Rope.chunks_from.Goals as goal
 
 pub returns-then-is_empty-clause-text : goal.returns-then-is_empty-clause-text
-returns-then-is_empty-clause-text c = ?
+returns-then-is_empty-clause-text c =
+    let cs = c.self.inside.chunks.items in
+    from_none cs c.args.start (c.is_empty.ensures.0 c.if-is_empty.true) (omega (arith, c.requires.0, ap length c.self.view_is)) ∙ ap (drop c.args.start) c.self.view_is
 
 pub split_at-requires : goal.split_at-requires
 split_at-requires c =
