@@ -24,10 +24,6 @@ returns-in-Leaf-clause-rest c =
     ap (λ xs. xs ++ drop (c.loop-entries.before + length es) cs) (take_rest es (k + 1))
     ∙ part_rest cs es c.loop-entries.node.now.items c.loop-entries.before c.loop-entries.rest c.args.offset k c.loop-entries.invariant c.in-Leaf.ensures.0 c.entry_at-k.ensures.entry
 
-pub overflow_add-next : goal.overflow_add-next
-overflow_add-next c =
-    omega (arith, part_short c.args.tree.now.items c.loop-entries.node.now.items c.loop-entries.before c.loop-entries.rest c.args.offset c.loop-entries.invariant, ap length c.in-Leaf.ensures.0, c.known.ensures.short)
-
 pub overflow_add-before : goal.overflow_add-before
 overflow_add-before c =
     let node = c.loop-entries.node.now in

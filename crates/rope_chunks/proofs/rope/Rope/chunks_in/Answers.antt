@@ -1,4 +1,4 @@
-use Rattle.std.proofs.Common.{◌≡◌, ◌-◌, ◌∙◌, ℕ, List, ap, take, subst, sym}
+use Rattle.std.proofs.Common.{◌≡◌, ◌≤◌, ◌-◌, ◌∙◌, ℕ, List, ap, take, drop, subst, sym}
 use Rattle.std.specs.List.{concat, slice_range}
 use Rattle.std.specs.Str.{IsCharBoundary}
 use Rattle.rope_chunks.proofs.CutTexts.{concat_up_to, each_up_to, from_cut}
