@@ -3,40 +3,60 @@ ghost use Rattle.std.specs.Prelude.{◌≡◌, [], ◌∷◌, string_bytes, IfOk
 
 use crate::items::Items;
 use crate::{OutOfMemory, Piece, UndoCount};
+use arrayvec::ArrayString;
 use std::alloc::Global;
 use std::marker::Model;
+use std::mem::size_of;
+use std::slice;
 use std::sync::Arc;
 
-/// A text, seen as its bytes.
+/// A text, seen as its bytes. Up to 16 bytes are stored in place, without an allocation.
 #[derive(Drop)]
 pub struct Text {
-    inner: String,
+    form: TextForm,
+}
+
+// As large as a string with a tag.
+const _: () = prove!(size_of::<Text>() == 32);
+
+#[derive(Drop)]
+enum TextForm {
+    Short(ArrayString<16>),
+    Long(String),
 }
 
 impl Model for Text {
-    ghost use Rattle.std.specs.Prelude.{List, ℕ, string_bytes};
+    ghost use Rattle.std.specs.Prelude.{List, ℕ};
+    ghost use Rattle.op_model.specs.Items.{form_bytes};
 
     ghost Value = { List ℕ };
 
-    ghost view = { λ t. string_bytes t.inner };
+    ghost view = { λ t. form_bytes t.form };
 }
 
 impl Text {
-    /// Makes a text of a string. Does not allocate.
+    /// Makes a text of a string, which is freed if the text is stored in place. Does not allocate.
     pub fn new(inner: String) -> Text
         ensures { result ≡ string_bytes inner }
     {
-        Text { inner }
+        let form = match ArrayString::from(inner.as_str()).ok() {
+            Some(text) => TextForm::Short(text),
+            None => TextForm::Long(inner),
+        };
+        Text { form }
     }
 
     /// Borrows the text. O(1); does not allocate.
     pub fn as_str(&self) -> &str
         ensures { result.now ≡ self.now }
     {
-        self.inner.as_str()
+        match &self.form {
+            TextForm::Short(text) => text.as_str(),
+            TextForm::Long(text) => text.as_str(),
+        }
     }
 
-    /// Returns an equal text. Linear in its bytes.
+    /// Returns an equal text. Linear in its bytes; allocates only if they are more than 16.
     ///
     /// # Errors
     ///
@@ -44,11 +64,16 @@ impl Text {
     pub fn copy(&self, alloc: Global) -> Result<Text, OutOfMemory>
         ensures { IfOk result (λ text. text ≡ self.now) }
     {
-        Ok(Text::new(String::from_str(alloc, self.as_str())?))
+        let form = match &self.form {
+            TextForm::Short(text) => TextForm::Short(*text),
+            TextForm::Long(text) => TextForm::Long(String::from_str(alloc, text.as_str())?),
+        };
+        Ok(Text { form })
     }
 }
 
-/// The pieces of an edit, seen as their list. They have one owner, or their copies share them (`into_shared`).
+/// The pieces of an edit, seen as their list. They have one owner, or their copies share them (`into_shared`). A single
+/// piece is shared without a vector, in one block.
 #[derive(Drop)]
 pub struct Pieces {
     items: Items<Piece>,
@@ -80,7 +105,7 @@ impl Pieces {
         Ok(Pieces::new(copies))
     }
 
-    /// A list of one piece. O(1).
+    /// A list of one piece, which copies share. O(1).
     ///
     /// # Errors
     ///
@@ -88,9 +113,9 @@ impl Pieces {
     pub fn of(alloc: Global, piece: Piece) -> Result<Pieces, OutOfMemory>
         ensures { IfOk result (λ ps. ps ≡ piece ∷ []) }
     {
-        let mut pieces = Vec::new(alloc);
-        pieces.push(piece)?;
-        Ok(Pieces::new(pieces))
+        Ok(Pieces {
+            items: Items::of(alloc, piece)?,
+        })
     }
 
     /// Makes a list of pieces of a vector. Does not allocate.
@@ -106,10 +131,15 @@ impl Pieces {
     pub fn as_slice(&self) -> &[Piece]
         ensures { result.now ≡ self.now }
     {
-        self.items.as_slice()
+        match &self.items {
+            Items::Own(items) => items,
+            Items::One(item) => slice::from_ref(&**item),
+            Items::Several(items) => items,
+        }
     }
 
-    /// Returns equal pieces that copies share. O(1); copies no text. If an allocation fails, the pieces are dropped.
+    /// Returns equal pieces that copies share, without spare capacity. Linear in their number if there is some, otherwise
+    /// O(1); copies no text. If an allocation fails, the pieces are dropped.
     pub fn into_shared(self, alloc: Global) -> Result<Pieces, OutOfMemory>
         ensures { IfOk result (λ ps. ps ≡ self) }
     {
@@ -125,27 +155,38 @@ impl Pieces {
     {
         match &self.items {
             Items::Own(items) => Pieces::copy_of(alloc, items),
-            Items::Shared(items) => Ok(Pieces {
-                items: Items::Shared(Arc::try_clone(items)?),
+            Items::One(item) => Ok(Pieces {
+                items: Items::One(Arc::try_clone(item)?),
+            }),
+            Items::Several(items) => Ok(Pieces {
+                items: Items::Several(Arc::try_clone(items)?),
             }),
         }
     }
 }
 
-/// The counts of an undo, seen as their list. They have one owner, or their copies share them (`into_shared`).
+/// The counts of an undo, seen as their list. They have one owner, or their copies share them (`into_shared`). A single
+/// count is stored in place, without an allocation.
 #[derive(Drop)]
 pub struct Counts {
-    items: Items<UndoCount>,
+    form: CountForm,
+}
+
+#[derive(Drop)]
+enum CountForm {
+    One(UndoCount),
+    Own(Vec<UndoCount>),
+    Shared(Arc<Vec<UndoCount>>),
 }
 
 impl Model for Counts {
     ghost use Rattle.std.specs.Prelude.{List};
     ghost use Rattle.op_model.specs.declared.operation.UndoCount.{UndoCount};
-    ghost use Rattle.op_model.specs.Items.{items_of};
+    ghost use Rattle.op_model.specs.Items.{form_counts};
 
     ghost Value = { List UndoCount };
 
-    ghost view = { λ c. items_of c.items };
+    ghost view = { λ c. form_counts c.form };
 }
 
 impl Counts {
@@ -153,32 +194,48 @@ impl Counts {
     pub fn copy_of(alloc: Global, counts: &[UndoCount]) -> Result<Counts, OutOfMemory>
         ensures { IfOk result (λ cs. cs ≡ counts.now) }
     {
-        Ok(Counts::new(Vec::from_slice(alloc, counts)?))
+        let form = match *counts {
+            [count] => CountForm::One(count),
+            _ => CountForm::Own(Vec::from_slice(alloc, counts)?),
+        };
+        Ok(Counts { form })
     }
 
-    /// Makes a list of counts of a vector. Does not allocate.
+    /// Makes a list of counts of a vector, which is freed if it has a single one. Does not allocate.
     pub fn new(inner: Vec<UndoCount>) -> Counts
         ensures { result ≡ inner.items }
     {
-        Counts {
-            items: Items::Own(inner),
-        }
+        let form = match *inner.as_slice() {
+            [count] => CountForm::One(count),
+            _ => CountForm::Own(inner),
+        };
+        Counts { form }
     }
 
     /// Borrows the counts, in their order. O(1); does not allocate.
     pub fn as_slice(&self) -> &[UndoCount]
         ensures { result.now ≡ self.now }
     {
-        self.items.as_slice()
+        match &self.form {
+            CountForm::One(count) => slice::from_ref(count),
+            CountForm::Own(counts) => counts,
+            CountForm::Shared(counts) => counts,
+        }
     }
 
-    /// Returns equal counts that copies share. O(1). If an allocation fails, the counts are dropped.
+    /// Returns equal counts that copies share, without spare capacity. Linear in their number if there is some, otherwise
+    /// O(1). If an allocation fails, the counts are dropped.
     pub fn into_shared(self, alloc: Global) -> Result<Counts, OutOfMemory>
         ensures { IfOk result (λ cs. cs ≡ self) }
     {
-        Ok(Counts {
-            items: self.items.into_shared(alloc)?,
-        })
+        let form = match self.form {
+            CountForm::Own(mut counts) => {
+                counts.shrink_to_fit();
+                CountForm::Shared(Arc::new(alloc, counts)?)
+            }
+            form => form,
+        };
+        Ok(Counts { form })
     }
 
     /// Returns equal counts. If they are shared, the copy shares them: O(1), without allocating. Otherwise linear in
@@ -186,11 +243,11 @@ impl Counts {
     pub fn copy(&self, alloc: Global) -> Result<Counts, OutOfMemory>
         ensures { IfOk result (λ cs. cs ≡ self.now) }
     {
-        match &self.items {
-            Items::Own(items) => Counts::copy_of(alloc, items),
-            Items::Shared(items) => Ok(Counts {
-                items: Items::Shared(Arc::try_clone(items)?),
-            }),
-        }
+        let form = match &self.form {
+            CountForm::One(count) => CountForm::One(*count),
+            CountForm::Own(counts) => return Counts::copy_of(alloc, counts),
+            CountForm::Shared(counts) => CountForm::Shared(Arc::try_clone(counts)?),
+        };
+        Ok(Counts { form })
     }
 }

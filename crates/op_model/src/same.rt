@@ -36,8 +36,8 @@ impl Operation {
         }
     }
 
-    /// Returns an equal operation whose copies share its pieces or counts. O(1); copies no text. If an allocation
-    /// fails, the operation is dropped.
+    /// Returns an equal operation whose copies share its pieces or counts, without spare capacity. Linear in their number
+    /// if there is some, otherwise O(1); copies no text. If an allocation fails, the operation is dropped.
     pub fn into_shared(self, alloc: Global) -> Result<Operation, OutOfMemory>
         ensures { IfOk result (λ op. op ≡ self) }
     {
@@ -61,8 +61,8 @@ impl EditOp {
         })
     }
 
-    /// Returns an equal edit whose copies share its pieces. O(1); copies no text. If an allocation fails, the edit is
-    /// dropped.
+    /// Returns an equal edit whose copies share its pieces. Costs what `Pieces::into_shared` does; copies no text. If an
+    /// allocation fails, the edit is dropped.
     pub fn into_shared(self, alloc: Global) -> Result<EditOp, OutOfMemory>
         ensures { IfOk result (λ edit. edit ≡ self) }
     {
@@ -87,7 +87,8 @@ impl UndoOp {
         })
     }
 
-    /// Returns an equal undo whose copies share its counts. O(1). If an allocation fails, the undo is dropped.
+    /// Returns an equal undo whose copies share its counts. Costs what `Counts::into_shared` does. If an allocation fails,
+    /// the undo is dropped.
     pub fn into_shared(self, alloc: Global) -> Result<UndoOp, OutOfMemory>
         ensures { IfOk result (λ undo. undo ≡ self) }
     {
