@@ -17,8 +17,8 @@ use sum_tree::SumTree;
 /// The most operations of a list.
 const MOST: u64 = 1 << 40;
 
-/// Operations in the order of their application, no two with one stamp, seen as their list: a tree, and beside it one of
-/// their indices by their stamps. Lists share their nodes and their operations.
+/// Operations in the order of their application, no two with one stamp, seen as their list: a tree, and beside it one
+/// of their indices by their stamps. Lists share their nodes and their operations.
 #[derive(Drop)]
 pub struct AppliedList {
     operations: SumTree<Applied>,
@@ -39,7 +39,11 @@ impl Model for AppliedList {
 }
 
 impl AppliedList {
-    /// Nothing is applied.
+    /// A list without operations.
+    ///
+    /// # Errors
+    ///
+    /// `OutOfMemory` if an allocation fails.
     pub fn new(alloc: Global) -> Result<AppliedList, OutOfMemory>
         ensures { IfOk result (λ a. a ≡ []) }
     {
@@ -49,7 +53,8 @@ impl AppliedList {
         })
     }
 
-    /// A second owner of the same nodes. No node is made.
+    /// Returns an equal list that has the same nodes. O(1); does not allocate, and fails only if a node cannot count
+    /// another owner.
     pub fn share(&self) -> Result<AppliedList, OutOfMemory>
         ensures { IfOk result (λ a. a ≡ self.now) }
     {
@@ -59,21 +64,21 @@ impl AppliedList {
         })
     }
 
-    /// The operations, in their order.
+    /// The operations, in their order. O(1); does not allocate.
     pub fn tree(&self) -> &SumTree<Applied>
         ensures { result.now.items ≡ self.now }
     {
         &self.operations
     }
 
-    /// How many operations there are.
+    /// How many operations there are. O(1); does not allocate.
     pub fn len(&self) -> u64
         ensures { result ≡ length self.now }
     {
         self.operations.len()
     }
 
-    /// The operation that has the stamp, if it is applied. Logarithmic in the number of operations.
+    /// The operation that has the stamp, if it is applied. Logarithmic in the number of operations; does not allocate.
     pub fn find(&self, t: Lamport) -> Option<&Operation>
         ensures { option_copied result ≡ operation_at self.now t }
     {
@@ -83,7 +88,7 @@ impl AppliedList {
         let Some(applied) = self.operations.get(entry.index) else {
             return None;
         };
-        // A push that wanted memory may have left the entry of an operation that is not applied.
+        // A push that failed may have left the entry of an operation that is not applied.
         let op = applied.op();
         if is_same(op.stamp(), t) {
             Some(op)
@@ -92,7 +97,7 @@ impl AppliedList {
         }
     }
 
-    /// Whether the stamp is that of an applied edit. Logarithmic in the number of operations.
+    /// Whether the stamp is that of an applied edit. Logarithmic in the number of operations; does not allocate.
     pub fn has_edit(&self, t: Lamport) -> bool
         requires { Distinct self.now }
         ensures { result ≡ has_edit self.now t }
@@ -100,9 +105,13 @@ impl AppliedList {
         is_edit(self.find(t))
     }
 
-    /// Puts an operation last; none with its stamp is there yet. Logarithmic in the number of operations; what no other list
-    /// shares is changed in place. On want of memory the operation is dropped, and the list is as before; past 2^40
-    /// operations it always wants memory.
+    /// Puts an operation last; none with its stamp is there yet. Logarithmic in the number of operations; what no other
+    /// list shares is changed in place.
+    ///
+    /// # Errors
+    ///
+    /// `OutOfMemory` if an allocation fails, or if the list has 2^40 operations, or as many stamps with those of pushes
+    /// that failed. The operation is then dropped, and the list is as before.
     pub fn push(&mut self, alloc: Global, op: Operation) -> Result<(), OutOfMemory>
         requires { operation_at self.old (stamp_of op) ≡ None }
         ensures ok { OnOk result (self.new ≡ self.old ++ op ∷ []) }

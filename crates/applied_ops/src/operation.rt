@@ -5,34 +5,34 @@ use crate::OutOfMemory;
 use op_model::Operation;
 use std::alloc::Global;
 use std::marker::Model;
-use std::sync::Arc;
 use sum_tree::{Count, Item};
 
-/// An operation behind an `Arc`, so that a copy is a further owner and copies no text. Contracts see it as the operation.
+/// An operation whose pieces or counts are shared, so that a copy copies no text. Contracts see it as the operation.
 #[derive(Drop)]
 pub struct Applied {
-    op: Arc<Operation>,
+    op: Operation,
 }
 
 impl Model for Applied {
     ghost use Rattle.op_model.specs.declared.operation.Operation.{Operation};
-    ghost use Rattle.std.specs.Arc.{arc_value};
 
     ghost Value = { Operation };
 
-    ghost view = { λ a. arc_value a.op };
+    ghost view = { λ a. a.op };
 }
 
 impl Applied {
-    /// The operation with one owner.
+    /// Makes an item of an operation, whose pieces or counts are shared (`Operation::into_shared`). If an allocation
+    /// fails, the operation is dropped.
     pub fn new(alloc: Global, op: Operation) -> Result<Applied, OutOfMemory>
         ensures { IfOk result (λ a. a ≡ op) }
     {
-        let op = Arc::new(alloc, op)?;
-        Ok(Applied { op })
+        Ok(Applied {
+            op: op.into_shared(alloc)?,
+        })
     }
 
-    /// The operation.
+    /// Borrows the operation. O(1); does not allocate.
     pub fn op(&self) -> &Operation
         ensures { result.now ≡ self.now }
     {
@@ -53,8 +53,9 @@ impl Item for Applied {
         Ok(Count { items: 1 })
     }
 
-    fn copy(&self, _alloc: Global) -> Result<Applied, OutOfMemory> {
-        let op = Arc::try_clone(&self.op)?;
-        Ok(Applied { op })
+    fn copy(&self, alloc: Global) -> Result<Applied, OutOfMemory> {
+        Ok(Applied {
+            op: self.op.copy(alloc)?,
+        })
     }
 }
