@@ -26,7 +26,7 @@ then_equal Greater b h = cc
 abbrev key : Lamport → ℕ → IndexKey
 key s o = record { stamp = s; offset = record { 0 = o } }
 
-key_is : (a b : IndexKey) → key_cmp a b ≡ Equal → a ≡ b
+pub key_is : (a b : IndexKey) → key_cmp a b ≡ Equal → a ≡ b
 key_is a b h =
     let k = then_equal (stamp_cmp a.stamp b.stamp) (nat_cmp b.offset.0 a.offset.0) h in
     let s : a.stamp ≡ b.stamp = same_stamp_eq a.stamp b.stamp (sym (is_eq-same a.stamp b.stamp) ∙ ap is_eq k.0) in

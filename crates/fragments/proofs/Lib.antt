@@ -3,6 +3,8 @@ mod Stamping
 pub mod Searching
 mod Replacing
 pub mod Entries
+pub mod Runs
+pub mod Deletions
 pub mod Counts
 pub mod Founds
 pub mod Bases

@@ -20,10 +20,10 @@ use Rattle.fragments.specs.Index.{key_of, key_cmp, key_order, IsAscending, first
 use Rattle.undo_map.proofs.Seeking.{key_less_next}
 use Rattle.locators.proofs.Between.{nat_cmp-below, nat_cmp-Less}
 
-abbrev less : IndexKey → IndexKey → Bool
+abbrev pub less : IndexKey → IndexKey → Bool
 less a b = cmp_less key_cmp a b
 
-order : IsLess less
+pub order : IsLess less
 order = order_less key_cmp key_order
 
 abbrev key_sum : IndexEntry → Greatest IndexKey
@@ -31,7 +31,7 @@ key_sum e = record { key = Some (key_of e) }
 
 -- ---- the seek
 
-abbrev move : Option IndexKey → Greatest IndexKey → Option (Option IndexKey)
+abbrev pub move : Option IndexKey → Greatest IndexKey → Option (Option IndexKey)
 move p s = Some (greater less p s.key)
 
 step : (e : IndexEntry) (w : List IndexEntry) (n : ℕ) → slice_get (e ∷ w) (1 + n) ≡ slice_get w n
@@ -49,11 +49,11 @@ sought k p (e ∷ w) h = elim (cases_Bool (less (key_of e) k)) [
 
 -- ---- the entry of an edit
 
-abbrev at : Lamport → ℕ → IndexKey
+abbrev pub at : Lamport → ℕ → IndexKey
 at t o = record { stamp = t; offset = record { 0 = o } }
 
 -- of one edit, keys are compared by their offsets, the greatest first
-same_edit : (a b : IndexKey) → same_stamp a.stamp b.stamp ≡ true → key_cmp a b ≡ nat_cmp b.offset.0 a.offset.0
+pub same_edit : (a b : IndexKey) → same_stamp a.stamp b.stamp ≡ true → key_cmp a b ≡ nat_cmp b.offset.0 a.offset.0
 same_edit a b s = ap (λ (c : Ordering). ordering_then c (nat_cmp b.offset.0 a.offset.0)) (same_Equal a.stamp b.stamp s)
 
 -- an entry whose key is less than the cell's does not cover the cell
@@ -110,12 +110,12 @@ none_nearer t o x (y ∷ w) s b = elim (cases_Bool (covers t o y)) [
 ]
 
 -- a later edit's entry comes after all entries of the edit
-then_less : (a b : Ordering) → ordering_then a b ≡ Less → (a ≡ Less) ⊎ (a ≡ Equal)
+pub then_less : (a b : Ordering) → ordering_then a b ≡ Less → (a ≡ Less) ⊎ (a ≡ Equal)
 then_less Less b h = inl refl
 then_less Equal b h = inr refl
 then_less Greater b h = cc
 
-later_of : (a b : Ordering) → is_lt (ordering_then a b) ≡ false → is_eq a ≡ false → a ≡ Greater
+pub later_of : (a b : Ordering) → is_lt (ordering_then a b) ≡ false → is_eq a ≡ false → a ≡ Greater
 later_of Less b h e = cc
 later_of Equal b h e = cc
 later_of Greater b h e = refl

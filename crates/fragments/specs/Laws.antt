@@ -13,6 +13,7 @@ use Rattle.undo_map.specs.declared.entry.UndoEntry.{UndoEntry}
 use Rattle.fragments.specs.declared.fragment.Fragment.{Fragment}
 use Rattle.fragments.specs.declared.index_entry.IndexEntry.{IndexEntry}
 use Rattle.fragments.specs.Index.{key_of, IsAscending, with_entry, id_for}
+use Rattle.fragments.specs.DeletedRuns.{IndexState}
 use Rattle.fragments.specs.Stand.{Stand, entry_of, runs}
 use Rattle.fragments.specs.Summaries.{summary_of}
 use Rattle.fragments.specs.SeenPlaces.{move_full, move_visible, move_at}
@@ -20,10 +21,12 @@ use Rattle.fragments.specs.SeenPlaces.{move_full, move_visible, move_at}
 -- if fragments and an index stand for a lawful history, the index finds the fragment of each cell, and nothing for an
 -- edit without fragments
 abbrev pub IndexFindsFragments : Type 0
-IndexFindsFragments = (fs : List Fragment) → (w : List IndexEntry) → (u : List UndoEntry)
+IndexFindsFragments = (fs : List Fragment) → (w : IndexState) → (u : List UndoEntry)
     → (h : History) → Lawful h → Stand fs w u h
-    → ((f : Fragment) → Member f fs → (j : ℕ) → j < f.len → id_for f.stamp (f.offset + j) w ≡ Some f.id)
-    × ((t : Lamport) → AllByRecursion (λ (f : Fragment). f.stamp ≡ t → ⊥) fs → (o : ℕ) → id_for t o w ≡ None)
+    → ((f : Fragment) → Member f fs → (j : ℕ) → j < f.len
+    → id_for f.stamp (f.offset + j) w.entries ≡ Some f.id)
+    × ((t : Lamport) → AllByRecursion (λ (f : Fragment). f.stamp ≡ t → ⊥) fs → (o : ℕ)
+    → id_for t o w.entries ≡ None)
 
 -- one fragment with all cells of the base
 abbrev pub whole_base : List ℕ → List ℕ → Fragment
@@ -37,12 +40,19 @@ whole_base id t = record {
   max_undos = [];
 }
 
+-- the index of one fragment that nothing deletes
+abbrev pub index_of_one : Fragment → IndexState
+index_of_one f = record { entries = entry_of f ∷ []; deletions = [] }
+
+abbrev pub no_index : IndexState
+no_index = record { entries = []; deletions = [] }
+
 -- one fragment stands for a base with a text, and no fragment for one without
 abbrev pub BaseStands : Type 0
 BaseStands = ((id : List ℕ) → (t : List ℕ) → 0 < length t → length t < 2 ^ 64
     → IsLess least_digits id → IsLess id greatest_digits → EndsAboveZero id
-    → Stand (whole_base id t ∷ []) (entry_of (whole_base id t) ∷ []) [] (base t ∷ []))
-    × Stand [] [] [] (base [] ∷ [])
+    → Stand (whole_base id t ∷ []) (index_of_one (whole_base id t)) [] (base t ∷ []))
+    × Stand [] no_index [] (base [] ∷ [])
 
 -- an entry replaces the one with its key, and no other
 abbrev pub EntryTakesItsPlace : Type 0

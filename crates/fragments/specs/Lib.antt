@@ -6,5 +6,6 @@ pub mod SummaryLaws
 pub mod SeenPlaces
 pub mod SeenPlaceLaws
 pub mod Index
+pub mod DeletedRuns
 pub mod Stand
 pub mod Laws

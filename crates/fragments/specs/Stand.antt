@@ -15,6 +15,7 @@ use Rattle.undo_map.specs.Undos.{undo_entries}
 use Rattle.fragments.specs.declared.fragment.Fragment.{Fragment}
 use Rattle.fragments.specs.declared.index_entry.IndexEntry.{IndexEntry}
 use Rattle.fragments.specs.Index.{IsAscending}
+use Rattle.fragments.specs.DeletedRuns.{IndexState, AreNumbered, AreRunsOf}
 
 -- the cells of a fragment
 abbrev pub run_of : Fragment → Run
@@ -50,11 +51,13 @@ SeesUndos h f = (op : Operation) → In h op → (c : UndoCount) → Member c (c
     → Member c.edit (f.stamp ∷ f.deletions) → sees f.max_undos (stamp_of op) ≡ true
 
 -- The fragments fs, the index w and the undo counts u stand for the history h.
-pub record Stand (fs : List Fragment) (w : List IndexEntry) (u : List UndoEntry) (h : History) : Type 0 where
+pub record Stand (fs : List Fragment) (w : IndexState) (u : List UndoEntry) (h : History) : Type 0 where
   pub cells : Tell fs h
   pub filled : AllByRecursion IsFilled fs
   pub ids : Rise least_digits fs
-  pub ascending : IsAscending w
-  pub index : IsIndexOf fs w
+  pub ascending : IsAscending w.entries
+  pub index : IsIndexOf fs w.entries
+  pub numbered : AreNumbered w.deletions
+  pub deletions : AreRunsOf fs w.deletions
   pub counts : u ≡ undo_entries h
   pub undos : AllByRecursion (SeesUndos h) fs

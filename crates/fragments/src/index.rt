@@ -1,10 +1,13 @@
-//! An index that finds the fragment of a cell.
-ghost use Rattle.std.specs.Prelude.{◌≡◌, ◌+◌, ◌^◌, ◌≤◌, [], length, IfOk, OnErr, OnOk};
+//! An index that finds the fragment of a cell, and the cells that an edit deleted.
+ghost use Rattle.std.specs.Prelude.{◌≡◌, ◌+◌, ◌^◌, ◌≤◌, ◌<◌, [], length, IfOk, OnErr, OnOk};
 ghost use Rattle.std.specs.Option.{option_copied};
+ghost use Rattle.std.specs.List.{filter, find};
 ghost use Rattle.fragments.specs.declared.index_entry.IndexEntry.{IndexEntry};
 ghost use Rattle.fragments.specs.Index.{with_entry, id_for, first_from};
+ghost use Rattle.fragments.specs.DeletedRuns.{AreNumbered, with_insertion, with_deletion, is_run_of, is_below};
 
 use crate::OutOfMemory;
+use crate::deleted_run::DeletedRun;
 use crate::index_entry::{IndexEntry, IndexKey};
 use lamport_clock::{Lamport, is_same};
 use locators::Locator;
@@ -14,48 +17,54 @@ use std::marker::Model;
 use sum_tree::SumTree;
 use tree_cursor::{Bias, Greatest, look_up};
 
-/// The ids of fragments, by the cell that each begins with. Contracts see it as the list of its entries, ascending by
-/// stamp, then descending by offset.
+// The greatest number of items of a tree.
+const MOST_RUNS: u64 = 1 << 40;
+
+/// The ids of fragments, by the cell that each begins with, and the runs of cells that edits deleted. Contracts see the
+/// list of its entries, ascending by stamp, then descending by offset, and that of its runs, ascending by the edit that
+/// deleted them, then descending by number.
 #[derive(Drop)]
 pub struct InsertionIndex {
     entries: SumTree<IndexEntry>,
+    deletions: SumTree<DeletedRun>,
 }
 
 impl Model for InsertionIndex {
-    ghost use Rattle.std.specs.Prelude.{List};
-    ghost use Rattle.fragments.specs.declared.index_entry.IndexEntry.{IndexEntry};
     ghost use Rattle.fragments.specs.Index.{IsAscending};
+    ghost use Rattle.fragments.specs.DeletedRuns.{IndexState, AreNumbered};
 
-    ghost Value = { List IndexEntry };
+    ghost Value = { IndexState };
 
-    ghost view = { λ m. m.entries.items };
+    ghost view = { λ m. record { entries = m.entries.items; deletions = m.deletions.items } };
 
-    ghost invariant = { λ m. IsAscending m.entries.items };
+    ghost invariant = { λ m. IsAscending m.entries.items × AreNumbered m.deletions.items };
 }
 
 impl InsertionIndex {
     /// An empty index. Fails only if an allocation fails.
     pub fn new(alloc: Global) -> Result<InsertionIndex, OutOfMemory>
-        ensures { IfOk result (λ m. m ≡ []) }
+        ensures { IfOk result (λ m. m ≡ record { entries = []; deletions = [] }) }
     {
         Ok(InsertionIndex {
             entries: SumTree::new(alloc)?,
+            deletions: SumTree::new(alloc)?,
         })
     }
 
-    /// Another index with the same entries, in constant time; nothing is copied. Fails only if `Arc` cannot count
-    /// another owner.
+    /// Another index with the same entries and runs, in constant time; nothing is copied. Fails only if `Arc` cannot
+    /// count another owner.
     pub fn share(&self) -> Result<InsertionIndex, OutOfMemory>
         ensures { IfOk result (λ m. m ≡ self.now) }
     {
         Ok(InsertionIndex {
             entries: self.entries.share()?,
+            deletions: self.deletions.share()?,
         })
     }
 
     /// The number of entries. O(1), does not allocate.
     pub fn len(&self) -> u64
-        ensures { result ≡ length self.now }
+        ensures { result ≡ length self.now.entries }
     {
         self.entries.len()
     }
@@ -74,9 +83,9 @@ impl InsertionIndex {
         id: Locator,
     ) -> Result<(), OutOfMemory>
         requires { length (with_entry (record { stamp = stamp; offset = offset; id = id })
-            self.old) ≤ 2 ^ 40 }
+            self.old.entries) ≤ 2 ^ 40 }
         ensures ok { OnOk result (self.new
-            ≡ with_entry (record { stamp = stamp; offset = offset; id = id }) self.old) }
+            ≡ with_insertion (record { stamp = stamp; offset = offset; id = id }) self.old) }
         ensures err { OnErr result (self.new ≡ self.old) }
     {
         self.entries
@@ -87,7 +96,7 @@ impl InsertionIndex {
     /// The id of the fragment that has cell `offset` of an edit, if there is one: that of the edit's entry with the
     /// greatest offset that is at most this one. One descent, O(log n). Does not allocate.
     pub fn find(&self, stamp: Lamport, offset: u64) -> Option<&Locator>
-        ensures { option_copied result ≡ id_for stamp offset self.now }
+        ensures { option_copied result ≡ id_for stamp offset self.now.entries }
     {
         let key = IndexKey {
             stamp,
@@ -101,6 +110,78 @@ impl InsertionIndex {
         }
         None
     }
+
+    /// Adds a run of `len` cells of the edit `stamp`, from its cell `offset` on, that the edit `edit` deleted. O(log n)
+    /// in the number of runs.
+    ///
+    /// # Errors
+    ///
+    /// Fails only if an allocation fails, or if there are 2^40 runs, which take more memory than there is. The index
+    /// is then as before.
+    pub fn add_deleted(
+        &mut self,
+        alloc: Global,
+        edit: Lamport,
+        stamp: Lamport,
+        offset: u64,
+        len: u64,
+    ) -> Result<(), OutOfMemory>
+        ensures ok { OnOk result (self.new ≡ with_deletion edit stamp offset len self.old) }
+        ensures err { OnErr result (self.new ≡ self.old) }
+    {
+        let number = self.deletions.len();
+        if number >= MOST_RUNS {
+            return Err(OutOfMemory);
+        }
+        let run = DeletedRun {
+            edit,
+            number,
+            stamp,
+            offset,
+            len,
+        };
+        self.deletions.insert(alloc, run)?;
+        Ok(())
+    }
+
+    /// The runs of cells that an edit deleted, the last one added first. O(k log n) for k runs among n.
+    ///
+    /// # Errors
+    ///
+    /// Fails only if an allocation fails.
+    pub fn deleted_by(&self, alloc: Global, edit: Lamport) -> Result<Vec<DeletedRun>, OutOfMemory>
+        ensures { IfOk result (λ rs. rs.items ≡ filter (is_run_of edit) self.now.deletions) }
+    {
+        let mut runs = Vec::new(alloc);
+        let mut below = self.deletions.len();
+        while below > 0 {
+            let Some(run) = run_below(&self.deletions, edit, below) else {
+                return Ok(runs);
+            };
+            runs.push(*run)?;
+            below = run.number;
+        }
+        Ok(runs)
+    }
+}
+
+// The run of an edit with the greatest number below this one.
+fn run_below(runs: &SumTree<DeletedRun>, edit: Lamport, below: u64) -> Option<&DeletedRun>
+    requires numbered { AreNumbered runs.now.items }
+    requires some { 0 < below }
+    ensures { option_copied result ≡ find (is_below edit below) runs.now.items }
+{
+    let key = IndexKey {
+        stamp: edit,
+        offset: Reverse(below - 1),
+    };
+    let start = Greatest { key: None };
+    let target = Greatest { key: Some(key) };
+    let run = look_up(runs, start, &target, Bias::Left).0?;
+    if is_same(run.edit, edit) {
+        return Some(run);
+    }
+    None
 }
 
 // The first entry that does not come before a key.

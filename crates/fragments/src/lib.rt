@@ -5,6 +5,7 @@
 //! has at most two deletions, and its undos and its summary concern at most four replicas.
 #![tactic(auto)]
 
+mod deleted_run;
 mod dimensions;
 mod fragment;
 mod index;
@@ -13,6 +14,7 @@ mod laws;
 mod spans;
 mod stamps;
 
+pub use deleted_run::DeletedRun;
 pub use dimensions::{ById, Full, FullAt, Visible};
 pub use fragment::{Fragment, FragmentSummary};
 pub use index::InsertionIndex;

@@ -18,10 +18,11 @@ use sum_tree::SumTree;
 use tree_cursor::Keep;
 use undo_map::UndoMap;
 
-// Keeps the runs of fragments that may have cells that an edit inserted or deletes: those that have seen it.
+// Keeps the runs of fragments that may have cells that an edit inserted or deletes, or that an undo shows or hides:
+// those that have seen it.
 #[derive(Clone, Copy)]
-struct SeesEdit {
-    edit: Lamport,
+pub(crate) struct SeesEdit {
+    pub(crate) edit: Lamport,
 }
 
 impl Keep<FragmentSummary> for SeesEdit {

@@ -4,12 +4,12 @@ ghost use Rattle.std.specs.Option.{option_copied};
 ghost use Rattle.lamport_clock.specs.Versions.{sees};
 ghost use Rattle.lamport_clock.specs.Stamps.{later};
 ghost use Rattle.locators.specs.Locator.{between_digits};
-ghost use Rattle.fragments.specs.Index.{with_entry};
+ghost use Rattle.fragments.specs.Index.{with_entry, with_insertion};
 ghost use Rattle.fragments.specs.Stand.{entry_of};
 ghost use Rattle.fragments.specs.Laws.{cells_len};
 ghost use Rattle.remote_edit.specs.Indexes.{IsIndexed};
 ghost use Rattle.remote_edit.specs.Walk.{seen_bytes, Fit, last_id, next_id, new_fragment, front, back, advance, skip_later, put_new};
-ghost use Rattle.remote_edit.specs.Marks.{touch};
+ghost use Rattle.remote_edit.specs.Marks.{touch, touch_index};
 ghost use Rattle.remote_edit.specs.Steps.{later_first, head, tail, IsOnWay, IsAt};
 ghost use Rattle.remote_edit.specs.Gathers.{so_far, ahead};
 ghost use Rattle.remote_edit.specs.Starts.{AllSeen, IsFew};
@@ -134,12 +134,12 @@ impl Gather {
         }
         if left < len {
             let (front, back) = self.halves(alloc, tree, first, left)?;
-            self.put_halves(alloc, tree, edit, &front, back, marks)?;
+            self.put_halves(alloc, tree, edit, front, back, marks)?;
             self.place += left;
             return Ok(0);
         }
-        let whole = touch(alloc, edit, first, marks)?;
-        self.go_on(tree, whole)?;
+        let whole = first.copy(alloc)?;
+        self.touch_next(alloc, tree, edit, whole, marks)?;
         self.place += len;
         Ok(left - len)
     }
@@ -172,17 +172,17 @@ impl Gather {
         alloc: Global,
         tree: &SumTree<Fragment>,
         edit: &EditOp,
-        lower: &Fragment,
+        lower: Fragment,
         upper: Fragment,
         marks: Option<&UndoMap>,
     ) -> Result<(), OutOfMemory>
         requires some { (ahead tree.now.items self.old ≡ []) → ⊥ }
-        requires first { length (with_entry (entry_of lower.now) self.old.index) ≤ 2 ^ 40 }
+        requires first { length (with_entry (entry_of lower) self.old.index.entries) ≤ 2 ^ 40 }
         requires second { length (with_entry (entry_of upper)
-            (with_entry (entry_of lower.now) self.old.index)) ≤ 2 ^ 40 }
+            (with_entry (entry_of lower) self.old.index.entries)) ≤ 2 ^ 40 }
         ensures made { IfOk result (λ _. self.new.made.items
             ≡ self.old.made.items
-            ++ touch (option_copied marks.entry) edit.now.stamp edit.now.version lower.now ∷ []) }
+            ++ touch (option_copied marks.entry) edit.now.stamp edit.now.version lower ∷ []) }
         ensures rest { IfOk result (λ _. ahead tree.now.items self.new
             ≡ upper ∷ tail (ahead tree.now.items self.old)) }
         ensures back { IfOk result (λ _. self.new.back ≡ Some upper) }
@@ -193,13 +193,43 @@ impl Gather {
         ensures place { self.new.place ≡ self.old.place }
         ensures number { self.new.number ≡ self.old.number }
         ensures index { IfOk result (λ _. self.new.index
-            ≡ with_entry (entry_of upper) (with_entry (entry_of lower.now) self.old.index)) }
+            ≡ touch_index (option_copied marks.entry) edit.now.stamp edit.now.version lower
+            (with_insertion (entry_of upper) (with_insertion (entry_of lower) self.old.index))) }
     {
-        enter_both(&mut self.index, alloc, lower, &upper)?;
-        let passed = touch(alloc, edit, lower, marks)?;
-        self.go_on(tree, passed)?;
+        enter_both(&mut self.index, alloc, &lower, &upper)?;
+        self.touch_next(alloc, tree, edit, lower, marks)?;
         self.back = Some(upper);
         Ok(())
+    }
+
+    // Replaces the next fragment with another, which is marked if undo counts are given, and passes it.
+    fn touch_next(
+        &mut self,
+        alloc: Global,
+        tree: &SumTree<Fragment>,
+        edit: &EditOp,
+        fragment: Fragment,
+        marks: Option<&UndoMap>,
+    ) -> Result<(), OutOfMemory>
+        requires some { (ahead tree.now.items self.old ≡ []) → ⊥ }
+        ensures made { IfOk result (λ _. self.new.made.items
+            ≡ self.old.made.items
+            ++ touch (option_copied marks.entry) edit.now.stamp edit.now.version fragment ∷ []) }
+        ensures rest { IfOk result (λ _. ahead tree.now.items self.new
+            ≡ tail (ahead tree.now.items self.old)) }
+        ensures from { self.new.from ≡ self.old.from }
+        ensures order { self.old.at ≤ self.new.at }
+        ensures place { self.new.place ≡ self.old.place }
+        ensures none { IfOk result (λ _. self.new.back ≡ None) }
+        ensures count { IfOk result (λ _. self.new.at + length (option_to_list self.old.back)
+            ≡ self.old.at + 1) }
+        ensures number { self.new.number ≡ self.old.number }
+        ensures index { IfOk result (λ _. self.new.index ≡ touch_index
+            (option_copied marks.entry) edit.now.stamp edit.now.version fragment self.old.index) }
+    {
+        let mut touched = fragment;
+        touch(&mut touched, alloc, edit, marks, &mut self.index)?;
+        self.go_on(tree, touched)
     }
 
     /// Passes `count` cells that the edit's version sees, and what lies between them. If undo counts are given, marks
@@ -353,8 +383,8 @@ fn is_past(fragment: &Fragment, edit: &EditOp) -> bool
 
 // Enters a fragment in an index, and replaces the entry of the one that began with the same cell.
 fn enter(index: &mut InsertionIndex, alloc: Global, fragment: &Fragment) -> Result<(), OutOfMemory>
-    requires { length (with_entry (entry_of fragment.now) index.old) ≤ 2 ^ 40 }
-    ensures { IfOk result (λ _. index.new ≡ with_entry (entry_of fragment.now) index.old) }
+    requires { length (with_entry (entry_of fragment.now) index.old.entries) ≤ 2 ^ 40 }
+    ensures { IfOk result (λ _. index.new ≡ with_insertion (entry_of fragment.now) index.old) }
 {
     let id = fragment.id.copy(alloc)?;
     index.add(alloc, fragment.stamp, fragment.offset, id)
@@ -367,11 +397,11 @@ fn enter_both(
     lower: &Fragment,
     upper: &Fragment,
 ) -> Result<(), OutOfMemory>
-    requires first { length (with_entry (entry_of lower.now) index.old) ≤ 2 ^ 40 }
+    requires first { length (with_entry (entry_of lower.now) index.old.entries) ≤ 2 ^ 40 }
     requires second { length (with_entry (entry_of upper.now)
-        (with_entry (entry_of lower.now) index.old)) ≤ 2 ^ 40 }
+        (with_entry (entry_of lower.now) index.old.entries)) ≤ 2 ^ 40 }
     ensures { IfOk result (λ _. index.new
-        ≡ with_entry (entry_of upper.now) (with_entry (entry_of lower.now) index.old)) }
+        ≡ with_insertion (entry_of upper.now) (with_insertion (entry_of lower.now) index.old)) }
 {
     enter(index, alloc, lower)?;
     enter(index, alloc, upper)

@@ -3,6 +3,7 @@
 
 mod among;
 mod edit_moves;
+mod finding;
 mod gather;
 mod laws;
 mod mark;

@@ -4,48 +4,60 @@ ghost use Rattle.std.specs.Option.{option_copied};
 ghost use Rattle.std.specs.List.{list_all};
 ghost use Rattle.lamport_clock.specs.Versions.{sees};
 ghost use Rattle.undo_map.specs.Counts.{count_seen, is_odd};
-ghost use Rattle.remote_edit.specs.Marks.{was_shown, mark, touch};
+ghost use Rattle.remote_edit.specs.Marks.{was_shown, mark, touch, mark_index, touch_index};
 
 use crate::OutOfMemory;
-use fragments::Fragment;
+use fragments::{Fragment, InsertionIndex};
 use lamport_clock::{Lamport, Version};
 use op_model::EditOp;
 use std::alloc::Global;
-use sum_tree::Item;
 use undo_map::UndoMap;
 
-/// A copy of the fragment. If undo counts are given, as it is in a range of the edit. Fails only if an allocation
-/// fails.
+/// Marks a fragment in a range of the edit, which deletes it if it was shown to the edit's author, and enters what it
+/// deletes in the index. Does nothing if no undo counts are given. Fails only if an allocation fails.
 pub fn touch(
+    fragment: &mut Fragment,
     alloc: Global,
     edit: &EditOp,
-    fragment: &Fragment,
     marks: Option<&UndoMap>,
-) -> Result<Fragment, OutOfMemory>
-    ensures { IfOk result (λ f. f ≡ touch
-        (option_copied marks.entry) edit.now.stamp edit.now.version fragment.now) }
+    index: &mut InsertionIndex,
+) -> Result<(), OutOfMemory>
+    ensures fragment { IfOk result (λ _. fragment.new ≡ touch
+        (option_copied marks.entry) edit.now.stamp edit.now.version fragment.old) }
+    ensures index { IfOk result (λ _. index.new ≡ touch_index
+        (option_copied marks.entry) edit.now.stamp edit.now.version fragment.old index.old) }
 {
     match marks {
-        None => fragment.copy(alloc),
-        Some(undos) => mark(alloc, edit, fragment, undos),
+        None => Ok(()),
+        Some(undos) => mark(fragment, alloc, edit, undos, index),
     }
 }
 
-// The fragment in a range of the edit, which deletes it if it was shown to the edit's author.
+// Marks a fragment in a range of the edit.
 fn mark(
+    fragment: &mut Fragment,
     alloc: Global,
     edit: &EditOp,
-    fragment: &Fragment,
     undos: &UndoMap,
-) -> Result<Fragment, OutOfMemory>
-    ensures { IfOk result (λ f. f ≡ mark undos.now edit.now.stamp edit.now.version fragment.now) }
+    index: &mut InsertionIndex,
+) -> Result<(), OutOfMemory>
+    ensures fragment { IfOk result (λ _. fragment.new
+        ≡ mark undos.now edit.now.stamp edit.now.version fragment.old) }
+    ensures index { IfOk result (λ _. index.new
+        ≡ mark_index undos.now edit.now.stamp edit.now.version fragment.old index.old) }
 {
-    let mut marked = fragment.copy(alloc)?;
     if was_shown(fragment, undos, &edit.version) {
-        marked.visible = false;
-        marked.deletions.insert(edit.stamp)?;
+        index.add_deleted(
+            alloc,
+            edit.stamp,
+            fragment.stamp,
+            fragment.offset,
+            fragment.len,
+        )?;
+        fragment.visible = false;
+        fragment.deletions.insert(edit.stamp)?;
     }
-    Ok(marked)
+    Ok(())
 }
 
 /// Whether a fragment, whose edit the version sees, was shown at that version: its edit was not undone there, and each

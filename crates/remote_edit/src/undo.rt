@@ -11,48 +11,14 @@ ghost use Rattle.remote_edit.specs.Concern.{begins_by, may_concern};
 ghost use Rattle.remote_edit.specs.Anew.{concerns, recount, anew, all_anew};
 ghost use Rattle.remote_edit.specs.Undoing.{StandWithUndo, MoveWithUndo, KeepCharactersWithUndo};
 
+use crate::finding::places_of;
 use crate::undo_moves::undo_moves;
 use crate::{OutOfMemory, Placed};
-use fragments::{Fragment, FragmentSummary, Full, InsertionIndex, Span};
+use fragments::{Fragment, InsertionIndex};
 use lamport_clock::{Lamport, is_same};
 use std::alloc::Global;
 use sum_tree::{Item, SumTree};
-use tree_cursor::{FilterCursor, Keep};
 use undo_map::UndoMap;
-
-// Keeps the runs of fragments that may have cells that one of the edits inserted or deletes: those that have seen it
-// and have a stamp no later. What an edit deletes is earlier than the edit, so a run of later cells has nothing of it.
-#[derive(Drop)]
-pub(crate) struct MayConcern<'e> {
-    pub(crate) edits: &'e [Lamport],
-}
-
-impl<'e> Keep<FragmentSummary> for MayConcern<'e> {
-    ghost use Rattle.remote_edit.specs.SeesLaws.{concern_any_parts};
-    ghost use Rattle.remote_edit.specs.Concern.{may_concern_any};
-
-    ghost keeps = { λ k s. may_concern_any k.edits.now s };
-
-    ghost parts = { λ k a b f g h. concern_any_parts k.edits.now a b h };
-
-    fn keep(&self, s: &FragmentSummary) -> bool {
-        self.edits.iter().any(|t| may_concern(s, *t))
-    }
-}
-
-// Whether a run of fragments may have cells that the edit inserted or deletes.
-fn may_concern(s: &FragmentSummary, edit: Lamport) -> bool
-    ensures { result ≡ may_concern s.now edit }
-{
-    begins_by(s.span.as_slice(), edit) && s.greatest.sees(edit)
-}
-
-// Whether one of the stamps is no later than the edit's.
-fn begins_by(spans: &[Span], edit: Lamport) -> bool
-    ensures { result ≡ begins_by edit spans.now }
-{
-    spans.iter().any(|span| span.least <= edit.value)
-}
 
 // Whether an edit, no earlier than the cells of a fragment, inserted them or deletes them.
 fn concerns(fragment: &Fragment, edit: Lamport) -> bool
@@ -69,7 +35,7 @@ fn stands_in(stamps: &[Lamport], stamp: Lamport) -> bool
 }
 
 // Whether one of the edits inserted the cells of a fragment or deletes them.
-pub(crate) fn is_concerned(fragment: &Fragment, edits: &[Lamport]) -> bool
+fn is_concerned(fragment: &Fragment, edits: &[Lamport]) -> bool
     ensures { result ≡ list_any (concerns fragment.now) edits.now }
 {
     edits.iter().any(|t| concerns(fragment, *t))
@@ -82,7 +48,7 @@ fn all_are_undone(undos: &UndoMap, edits: &[Lamport]) -> bool
 }
 
 // Whether the counts show a fragment.
-pub(crate) fn is_shown(undos: &UndoMap, fragment: &Fragment) -> bool
+fn is_shown(undos: &UndoMap, fragment: &Fragment) -> bool
     ensures { result ≡ is_shown undos.now fragment.now.stamp fragment.now.deletions }
 {
     !undos.is_undone(fragment.stamp) && all_are_undone(undos, fragment.deletions.as_slice())
@@ -154,29 +120,24 @@ fn put_anew(
     replace(alloc, fragments, i, one)
 }
 
-// The fragments of a history with an undo of these edits.
+// The fragments of a history with an undo of these edits, which concerns only fragments at these places.
 fn with_undo(
     alloc: Global,
     tree: &SumTree<Fragment>,
+    places: &[u64],
     undos: &UndoMap,
     by: Lamport,
     edits: &[Lamport],
 ) -> Result<SumTree<Fragment>, OutOfMemory>
-    ensures { IfOk result (λ t. t.items ≡ all_anew undos.now by edits.now tree.now.items) }
+    ensures { IfOk result (λ t. t.items
+        ≡ some_anew (anew undos.now by edits.now) (is_place places.now) tree.now.items) }
 {
     tree.known();
     let mut fragments = tree.share()?;
-    let mut found = FilterCursor::new(tree, Full { bytes: 0 }, MayConcern { edits })?;
-    while let Some(fragment) = found.next()? {
-        put_anew(
-            alloc,
-            &mut fragments,
-            found.index(),
-            fragment,
-            undos,
-            by,
-            edits,
-        )?;
+    for place in places {
+        if let Some(fragment) = tree.get(*place) {
+            put_anew(alloc, &mut fragments, *place, fragment, undos, by, edits)?;
+        }
     }
     Ok(fragments)
 }
@@ -185,10 +146,8 @@ fn with_undo(
 /// counts must already have those of this undo. `edits` are the edits that it undoes or redoes, in any order; an edit
 /// may be listed twice, and further edits change nothing that is shown.
 ///
-/// An edit is later than what it deletes, so runs of fragments that have not seen it, or are all later than it, are
-/// passed whole and stay shared; the index is not used. The cost is O(k h), where h is the height of the tree and k counts
-/// the fragments that one of the edits inserted or deletes, and those no later than one of the edits whose neighbours the
-/// author of that edit has changed since.
+/// The index finds these fragments; nothing else is looked at, and all else stays shared with the given tree. The cost
+/// is O(k h), where h is the height of the tree and k the number of fragments that change.
 ///
 /// # Errors
 ///
@@ -201,7 +160,7 @@ pub fn mark_undo(
     by: Lamport,
     edits: &[Lamport],
 ) -> Result<Placed, OutOfMemory>
-    ensures fragments { IfOk result (λ p. p.fragments.items
+    ensures fragments { IsFound tree.now.items index.now → IfOk result (λ p. p.fragments.items
         ≡ all_anew undos.now by edits.now tree.now.items) }
     ensures index { IfOk result (λ p. p.index ≡ index.now) }
     ensures stands { IfOk result (λ p. StandWithUndo tree.now.items index.now undos.now by
@@ -211,9 +170,10 @@ pub fn mark_undo(
     ensures characters { IfOk result (λ p. KeepCharactersWithUndo tree.now.items index.now
         undos.now by edits.now p.fragments.items p.moves) }
 {
-    let fragments = with_undo(alloc, tree, undos, by, edits)?;
+    let places = places_of(alloc, tree, index, edits)?;
+    let fragments = with_undo(alloc, tree, &places, undos, by, edits)?;
     let index = index.share()?;
-    let moves = undo_moves(alloc, tree, undos, edits)?;
+    let moves = undo_moves(alloc, tree, &fragments, by)?;
     Ok(Placed {
         fragments,
         index,

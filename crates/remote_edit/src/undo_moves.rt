@@ -1,52 +1,58 @@
 //! The moves that an undo makes in the shown and the hidden text.
-ghost use Rattle.std.specs.Prelude.{[], IfOk};
-ghost use Rattle.lamport_clock.specs.declared.stamp.Lamport.{Lamport};
-ghost use Rattle.remote_edit.specs.Carried.{CarryOn};
-ghost use Rattle.remote_edit.specs.Anew.{all_anew};
+ghost use Rattle.std.specs.Prelude.{◌≡◌, IfOk};
+ghost use Rattle.remote_edit.specs.Among.{moves_among};
+ghost use Rattle.remote_edit.specs.Anew.{was_visible, undo_move};
+ghost use Rattle.remote_edit.specs.Concern.{sees_edit};
 
 use crate::among::{Change, moves_among};
-use crate::undo::{MayConcern, is_concerned, is_shown};
+use crate::edit_moves::SeesEdit;
+use crate::finding::fragment_from;
 use crate::{Move, Moves, OutOfMemory};
 use fragments::Fragment;
 use lamport_clock::Lamport;
 use std::alloc::Global;
 use sum_tree::SumTree;
-use undo_map::UndoMap;
 
-// An undo of edits, whose counts the map already has.
+// Whether a fragment was shown before an undo, among the fragments `tree`.
+fn was_visible(tree: &SumTree<Fragment>, fragment: &Fragment) -> bool
+    ensures { result ≡ was_visible tree.now.items fragment.now }
+{
+    match fragment_from(tree, &fragment.id) {
+        None => fragment.visible,
+        Some((_place, before)) => before.visible,
+    }
+}
+
+// An undo that changed these fragments.
 #[derive(Drop)]
 struct Undoing<'u> {
-    undos: &'u UndoMap,
-    edits: &'u [Lamport],
+    tree: &'u SumTree<Fragment>,
 }
 
 impl<'u> Change for Undoing<'u> {
     ghost use Rattle.remote_edit.specs.Anew.{undo_move};
 
-    ghost does = { λ u f. undo_move u.undos.now u.edits.now f };
+    ghost does = { λ u f. undo_move u.tree.now.items f };
 
     fn move_of(&self, fragment: &Fragment) -> Move {
-        let shown = if is_concerned(fragment, self.edits) {
-            is_shown(self.undos, fragment)
-        } else {
-            fragment.visible
-        };
-        Move::of(fragment.visible, shown, fragment.len)
+        Move::of(
+            was_visible(self.tree, fragment),
+            fragment.visible,
+            fragment.len,
+        )
     }
 }
 
-// The moves that an undo of edits makes in the two texts. Passes whole runs of fragments that none of the edits can
-// concern.
+// The moves that the undo `by` made in the two texts, read from the fragments before it and after it. Passes whole runs of
+// fragments that have not seen the undo.
 pub(crate) fn undo_moves(
     alloc: Global,
-    tree: &SumTree<Fragment>,
-    undos: &UndoMap,
-    edits: &[Lamport],
+    before: &SumTree<Fragment>,
+    after: &SumTree<Fragment>,
+    by: Lamport,
 ) -> Result<Moves, OutOfMemory>
-    ensures { IfOk result (λ ms. (by t : Lamport)
-        → CarryOn t [] [] tree.now.items 0 ms (all_anew undos.now by edits.now tree.now.items)
-        [] 0) }
+    ensures { IfOk result (λ ms. ms
+        ≡ moves_among (sees_edit by) (undo_move before.now.items) after.now.items) }
 {
-    let undo = Undoing { undos, edits };
-    moves_among(alloc, tree, &MayConcern { edits }, &undo)
+    moves_among(alloc, after, &SeesEdit { edit: by }, &Undoing { tree: before })
 }

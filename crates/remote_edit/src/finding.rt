@@ -1,0 +1,117 @@
+//! The fragments whose cells an edit inserted or deleted, found by the index.
+ghost use Rattle.std.specs.Prelude.{◌≡◌, ◌<◌, ◌++◌, length, IfOk, OnOk};
+ghost use Rattle.std.specs.Option.{option_copied};
+
+use crate::OutOfMemory;
+use fragments::{Fragment, FragmentSummary, Full, InsertionIndex};
+use lamport_clock::Lamport;
+use locators::Locator;
+use std::alloc::Global;
+use sum_tree::SumTree;
+use tree_cursor::{FilterCursor, Keep};
+
+// Keeps the runs of fragments that may have one with this id or a greater one.
+#[derive(Drop)]
+struct FromId<'i> {
+    id: &'i Locator,
+}
+
+impl<'i> Keep<FragmentSummary> for FromId<'i> {
+    ghost use Rattle.remote_edit.specs.Finds.{is_from};
+    ghost use Rattle.remote_edit.specs.FindLaws.{from_parts};
+
+    ghost keeps = { λ k s. is_from k.id.now s };
+
+    ghost parts = { λ k a b f g h. from_parts k.id.now a b h };
+
+    fn keep(&self, s: &FragmentSummary) -> bool {
+        match &s.last_id {
+            None => false,
+            Some(last) => !last.cmp(self.id).is_lt(),
+        }
+    }
+}
+
+/// The first fragment whose id is not less than this one, and its index: if ids ascend, the fragment with this id. One
+/// descent. Does not allocate.
+pub fn fragment_from<'a>(
+    tree: &'a SumTree<Fragment>,
+    id: &Locator,
+) -> Option<(u64, &'a Fragment)> {
+    tree.known();
+    let Ok(mut found) = FilterCursor::new(tree, Full { bytes: 0 }, FromId { id }) else {
+        unreachable!()
+    };
+    let Ok(Some(fragment)) = found.next() else {
+        return None;
+    };
+    Some((found.index(), fragment))
+}
+
+// The index of the fragment that the index has for a cell, and the number of its first cell.
+fn place_of(
+    tree: &SumTree<Fragment>,
+    index: &InsertionIndex,
+    stamp: Lamport,
+    cell: u64,
+) -> Option<(u64, u64)> {
+    let id = index.find(stamp, cell)?;
+    let (place, fragment) = fragment_from(tree, id)?;
+    Some((place, fragment.offset))
+}
+
+// Adds the places of the fragments that have one of the cells `from..=last` of an edit, the last one first.
+fn find_cells(
+    places: &mut Vec<u64>,
+    tree: &SumTree<Fragment>,
+    index: &InsertionIndex,
+    stamp: Lamport,
+    from: u64,
+    last: u64,
+) -> Result<(), OutOfMemory> {
+    let mut cell = last;
+    while let Some((place, first)) = place_of(tree, index, stamp, cell) {
+        places.push(place)?;
+        if first <= from || cell < first {
+            return Ok(());
+        }
+        cell = first - 1;
+    }
+    Ok(())
+}
+
+// Adds the places of the fragments that have cells which the edit inserted or deleted.
+fn find_edit(
+    places: &mut Vec<u64>,
+    alloc: Global,
+    tree: &SumTree<Fragment>,
+    index: &InsertionIndex,
+    edit: Lamport,
+) -> Result<(), OutOfMemory> {
+    find_cells(places, tree, index, edit, 0, u64::MAX)?;
+    let runs = index.deleted_by(alloc, edit)?;
+    for run in &runs {
+        let last = run.offset.saturating_add(run.len.saturating_sub(1));
+        find_cells(places, tree, index, run.stamp, run.offset, last)?;
+    }
+    Ok(())
+}
+
+/// The places of the fragments that have cells which one of the edits inserted or deleted, in any order. One descent of
+/// the index and one of the tree for each.
+///
+/// # Errors
+///
+/// Fails only if an allocation fails.
+pub fn places_of(
+    alloc: Global,
+    tree: &SumTree<Fragment>,
+    index: &InsertionIndex,
+    edits: &[Lamport],
+) -> Result<Vec<u64>, OutOfMemory> {
+    let mut places = Vec::new(alloc);
+    for edit in edits {
+        find_edit(&mut places, alloc, tree, index, *edit)?;
+    }
+    Ok(places)
+}
