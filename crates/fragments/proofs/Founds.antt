@@ -26,7 +26,9 @@ use Rattle.fragments.specs.declared.fragment.Fragment.{Fragment}
 use Rattle.fragments.specs.declared.index_entry.IndexEntry.{IndexEntry}
 use Rattle.fragments.specs.Index.{covers, nearest, entry_for, id_for}
 use Rattle.fragments.specs.Stand.{runs, Tell, IsFilled, entry_of, IsIndexOf}
-use Rattle.fragments.specs.Laws.{IndexFindsFragments, BaseStands}
+use Rattle.fragments.specs.Laws.{IndexFindsFragments, BaseStands, whole_base}
+use Rattle.fragments.specs.DeletedRuns.{has_cell as has_number}
+use Rattle.fragments.proofs.Runs.{none_numbered}
 
 pub fragment_of : (e : IndexEntry) (fs : List Fragment) → Member e (map entry_of fs) → (f : Fragment) × Member f fs × (e ≡ entry_of f)
 fragment_of e [] m = absurd m
@@ -36,7 +38,7 @@ fragment_of e (g ∷ fs) (inr m) = let k = fragment_of e fs m in (k.0, inr k.1, 
 -- ---- the entry of a cell
 
 -- what is found is an entry, and covers the cell
-abbrev IsSound : Lamport → ℕ → List IndexEntry → Option IndexEntry → Type 0
+abbrev pub IsSound : Lamport → ℕ → List IndexEntry → Option IndexEntry → Type 0
 IsSound t o w None = Unit {0}
 IsSound t o w (Some e) = Member e w × (covers t o e ≡ true)
 
@@ -52,7 +54,7 @@ sound_nearest t o y w (Some z) c h = go (nat_lt y.offset z.offset)
     go true = (inr h.0, h.1)
     go false = (inl refl, c)
 
-sound : (t : Lamport) (o : ℕ) (w : List IndexEntry) → IsSound t o w (entry_for t o w)
+pub sound : (t : Lamport) (o : ℕ) (w : List IndexEntry) → IsSound t o w (entry_for t o w)
 sound t o [] = tt
 sound t o (y ∷ w) = elim (cases_Bool (covers t o y)) [
   | inl c ↦ rw c (sound_nearest t o y w (entry_for t o w) c (sound t o w))
@@ -60,7 +62,7 @@ sound t o (y ∷ w) = elim (cases_Bool (covers t o y)) [
 ]
 
 -- it has an offset no less than x's
-abbrev IsBest : IndexEntry → Option IndexEntry → Type 0
+abbrev pub IsBest : IndexEntry → Option IndexEntry → Type 0
 IsBest x None = ⊥
 IsBest x (Some e) = x.offset ≤ e.offset
 
@@ -80,7 +82,7 @@ best_behind x y (Some z) h = go (nat_lt y.offset z.offset) refl
     go true e = h
     go false e = let l : z.offset ≤ y.offset = ltb-false y.offset z.offset e in omega arith
 
-best : (t : Lamport) (o : ℕ) (x : IndexEntry) (w : List IndexEntry) → Member x w → covers t o x ≡ true → IsBest x (entry_for t o w)
+pub best : (t : Lamport) (o : ℕ) (x : IndexEntry) (w : List IndexEntry) → Member x w → covers t o x ≡ true → IsBest x (entry_for t o w)
 best t o x [] m c = absurd m
 best t o x (y ∷ w) (inl e) c = let d : covers t o y ≡ true = ap (covers t o) (sym e) ∙ c in rw d (subst (λ (z : IndexEntry). IsBest z (Some (nearest y (entry_for t o w)))) (sym e) (best_first y (entry_for t o w)))
 best t o x (y ∷ w) (inr m) c = elim (cases_Bool (covers t o y)) [
@@ -171,7 +173,7 @@ finds_none fs w index t n o = go (entry_for t o w) refl (sound t o w)
         absurd (each_member (λ (f : Fragment). f.stamp ≡ t → ⊥) fs k.0 n k.1 (ap (λ (z : IndexEntry). z.stamp) (sym k.2) ∙ same_stamp_eq e.stamp t c.0))
 
 pub index_finds_fragments : IndexFindsFragments
-index_finds_fragments fs w u h l s = (finds fs w (cells_differ fs h l s.cells) s.filled s.index, finds_none fs w s.index)
+index_finds_fragments fs w u h l s = (finds fs w.entries (cells_differ fs h l s.cells) s.filled s.index, finds_none fs w.entries s.index)
 
 -- ---- the base
 
@@ -183,6 +185,8 @@ base_stands = (
     ids = (low, ends, high);
     ascending = λ i j d l m. absurd (omega arith);
     index = λ e. (λ m. m, λ m. m);
+    numbered = none_numbered;
+    deletions = λ s u k. sym (none_once (has_number u k (whole_base id t)));
     counts = refl;
     undos = ((λ op m c n k. absurd (none op t m c n)), tt);
   },
@@ -192,11 +196,17 @@ base_stands = (
     ids = refl;
     ascending = λ i j d l m. absurd (omega arith);
     index = λ e. (λ m. m, λ m. m);
+    numbered = none_numbered;
+    deletions = λ s u k. refl;
     counts = refl;
     undos = tt;
   },
 )
   where
+    none_once : (b : Bool) → cond b 0 0 + 0 ≡ 0
+    none_once true = omega arith
+    none_once false = omega arith
+
     none : (op : Operation) (t : List ℕ) → Member op (base t ∷ []) → (c : UndoCount) → Member c (counts_of op) → ⊥
     none op t (inl e) c n = subst (λ (o : Operation). Member c (counts_of o)) e n
     none op t (inr m) c n = m

@@ -101,3 +101,6 @@ ascending_differ (e ∷ w) h = (all w (λ z m. ascending_first e z w h m), ascen
 
 pub few_entries : (fs : List Fragment) (w : List IndexEntry) → IsAscending w → IsIndexOf fs w → length w ≤ length fs
 few_entries fs w a i = let k = within w (map entry_of fs) (ascending_differ w a) (λ z m. (i z).0 m) in let l = length-map fs entry_of in omega arith
+
+pub none_ascending : IsAscending []
+none_ascending = λ i j d l m. absurd (omega arith)

@@ -1,7 +1,8 @@
 -- Runs of deleted cells: one more of them, and those of an edit.
-use Rattle.std.proofs.Common.{◌≡◌, ℕ, suc, ◌+◌, ◌-◌, ◌<◌, ◌≤◌, ◌^◌, Bool, true, false, cond, not, ◌&&◌, List, [], ◌∷◌, ◌++◌, length, get_or, slice_get, refl, sym, ap, ◌∙◌, inl, inr, Option, None, Some, arith, subst, nat_lt, leb}
+use Rattle.std.proofs.Common.{◌≡◌, ℕ, suc, ◌+◌, ◌-◌, ◌<◌, ◌≤◌, Bool, true, false, cond, ◌&&◌, List, [], ◌∷◌, ◌++◌, length, get_or, slice_get, refl, sym, ap, ◌∙◌, inl, inr, Option, None, Some, arith, subst, nat_lt, append_assoc}
 use Rattle.std.proofs.lemmas.Bool.{cases_Bool, cases_lt, and_from, and_left, and_parts, both_ways, lt-ltb, le-ltb, ltb-true, ltb-false}
 use Rattle.std.proofs.lemmas.Option.{same_Some}
+use Rattle.std.proofs.lemmas.List.{append-nil}
 use Rattle.std.proofs.lemmas.Cmp.{alike_right}
 use Rattle.std.specs.List.{AllByRecursion, filter, find}
 use Rattle.std.specs.Ordering.{nat_cmp, ordering_then, ordering_reverse, is_lt, is_eq, is_gt}
@@ -10,7 +11,7 @@ use Rattle.std.specs.declared.cmp.Ordering.TheVariants.{Less, Equal, Greater}
 use Rattle.sum_tree.specs.Keyed.{Ascending, below, above, insert_item}
 use Rattle.sum_tree.proofs.Keys.{less_of, ascending_rest, ascending_inserted}
 use Rattle.tree_cursor.specs.Places.{seek_count}
-use Rattle.tree_cursor.specs.Keys.{greater, key_less, key_passes, cmp_less}
+use Rattle.tree_cursor.specs.Keys.{greater, key_less, key_passes}
 use Rattle.tree_cursor.specs.declared.ready.Greatest.{Greatest}
 use Rattle.tree_cursor.specs.declared.traits.Bias.TheVariants.{Left}
 use Rattle.lamport_clock.specs.declared.stamp.Lamport.{Lamport}
@@ -22,7 +23,7 @@ use Rattle.locators.proofs.Between.{nat_cmp-below, nat_cmp-Less}
 use Rattle.fragments.specs.declared.index_entry.IndexKey.{IndexKey}
 use Rattle.fragments.specs.declared.deleted_run.DeletedRun.{DeletedRun}
 use Rattle.fragments.specs.Index.{key_cmp, key_order}
-use Rattle.fragments.specs.DeletedRuns.{run_key, AreNumbered, with_run, is_run_of, is_below, has_deleted, run_count}
+use Rattle.fragments.specs.DeletedRuns.{run_key, AreNumbered, with_run, is_run_of, is_below, has_deleted, run_count, run_from}
 use Rattle.fragments.proofs.Entries.{key_is}
 use Rattle.fragments.proofs.Searching.{less, order, move, at, same_edit, then_less, later_of}
 
@@ -219,14 +220,11 @@ one_further t n (x ∷ rs) r a h = elim (cases_Bool (is_below t n x)) [
 abbrev run_sum : DeletedRun → Greatest IndexKey
 run_sum r = record { key = Some (run_key r) }
 
-abbrev pub reaches : IndexKey → DeletedRun → Bool
-reaches k r = not (less (run_key r) k)
-
 step : (r : DeletedRun) (rs : List DeletedRun) (n : ℕ) → slice_get (r ∷ rs) (1 + n) ≡ slice_get rs n
 step r rs n = ap (slice_get (r ∷ rs)) (let q : 1 + n ≡ suc n = omega arith in q)
 
 pub run_sought : (k : IndexKey) (p : Option IndexKey) (rs : List DeletedRun) → key_less less p (Some k) ≡ true
-    → slice_get rs (seek_count move run_sum (λ q. key_passes less (Some k) q Left) p rs) ≡ find (reaches k) rs
+    → slice_get rs (seek_count move run_sum (λ q. key_passes less (Some k) q Left) p rs) ≡ run_from k rs
 run_sought k p [] h = refl
 run_sought k p (r ∷ rs) h = elim (cases_Bool (less (run_key r) k)) [
   | inl l ↦ (let q = key_less_next less order p (run_key r) k h ∙ l in
@@ -266,7 +264,7 @@ abbrev pub of_edit : Lamport → Option DeletedRun → Option DeletedRun
 of_edit t None = None
 of_edit t (Some r) = cond (same_stamp r.edit t) (Some r) None
 
-front_run : (t : Lamport) (n : ℕ) (rs : List DeletedRun) → AreAscending rs → of_edit t (find (reaches (at t n)) rs) ≡ find (is_below t (suc n)) rs
+front_run : (t : Lamport) (n : ℕ) (rs : List DeletedRun) → AreAscending rs → of_edit t (run_from (at t n) rs) ≡ find (is_below t (suc n)) rs
 front_run t n [] a = refl
 front_run t n (x ∷ rs) a = elim (cases_Bool (less (run_key x) (at t n))) [
   | inl l ↦ (let c = not_yet t n x l in rw (l, c) (front_run t n rs (ascending_rest key_cmp run_key x rs a)))
@@ -280,7 +278,32 @@ front_run t n (x ∷ rs) a = elim (cases_Bool (less (run_key x) (at t n))) [
 ]
 
 -- what is found below a number
-pub found_run : (t : Lamport) (n : ℕ) (rs : List DeletedRun) (r : Option DeletedRun) → 0 < n → AreAscending rs → r ≡ find (reaches (at t (n - 1))) rs → of_edit t r ≡ find (is_below t n) rs
+pub found_run : (t : Lamport) (n : ℕ) (rs : List DeletedRun) (r : Option DeletedRun) → 0 < n → AreAscending rs → r ≡ run_from (at t (n - 1)) rs → of_edit t r ≡ find (is_below t n) rs
 found_run t n rs r l a e =
     let q : suc (n - 1) ≡ n = omega (arith, l) in
     ap (of_edit t) e ∙ front_run t (n - 1) rs a ∙ ap (λ (m : ℕ). find (is_below t m) rs) q
+
+-- it is of the edit, of another one, or there is none
+pub found_same : (t : Lamport) (n : ℕ) (rs : List DeletedRun) (r : DeletedRun) → 0 < n → AreAscending rs → Some r ≡ run_from (at t (n - 1)) rs → same_stamp r.edit t ≡ true → Some r ≡ find (is_below t n) rs
+found_same t n rs r l a e s = sym (ap (λ (b : Bool). cond {A = Option DeletedRun} b (Some r) None) s) ∙ found_run t n rs (Some r) l a e
+
+pub found_other : (t : Lamport) (n : ℕ) (rs : List DeletedRun) (r : DeletedRun) → 0 < n → AreAscending rs → Some r ≡ run_from (at t (n - 1)) rs → same_stamp r.edit t ≡ false → None ≡ find (is_below t n) rs
+found_other t n rs r l a e s = sym (ap (λ (b : Bool). cond {A = Option DeletedRun} b (Some r) None) s) ∙ found_run t n rs (Some r) l a e
+
+pub found_none : (t : Lamport) (n : ℕ) (rs : List DeletedRun) → 0 < n → AreAscending rs → None ≡ run_from (at t (n - 1)) rs → None ≡ find (is_below t n) rs
+found_none t n rs l a e = found_run t n rs None l a e
+
+-- ---- the runs of an edit, one by one
+
+-- what was gathered, with the runs below a number, are those of the edit
+abbrev pub IsGathered : Lamport → List DeletedRun → List DeletedRun → ℕ → Type 0
+IsGathered t rs got n = got ++ filter (is_below t n) rs ≡ filter (is_run_of t) rs
+
+pub gather_one : (t : Lamport) (rs got : List DeletedRun) (n : ℕ) (r : DeletedRun) → AreAscending rs → Some r ≡ find (is_below t n) rs → IsGathered t rs got n → IsGathered t rs (got ++ r ∷ []) r.number × (r.number < n)
+gather_one t rs got n r a e g =
+    let h = one_further t n rs r a (sym e) in
+    let k = and_parts (same_stamp r.edit t) (nat_lt r.number n) (found_is (is_below t n) rs r (sym e)) in
+    (append_assoc got (r ∷ []) (filter (is_below t r.number) rs) ∙ ap (λ (ys : List DeletedRun). got ++ ys) (sym h) ∙ g, ltb-true _ _ k.1)
+
+pub gather_all : (t : Lamport) (rs got : List DeletedRun) (n : ℕ) → filter (is_below t n) rs ≡ [] → IsGathered t rs got n → got ≡ filter (is_run_of t) rs
+gather_all t rs got n e g = sym (append-nil got) ∙ ap (λ (ys : List DeletedRun). got ++ ys) (sym e) ∙ g

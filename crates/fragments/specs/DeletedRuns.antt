@@ -1,7 +1,8 @@
 -- The runs of cells that edits deleted, and what contracts see of an index.
-use Rattle.std.specs.Prelude.{◌≡◌, ℕ, ◌+◌, ◌<◌, nat_le, nat_lt, Bool, ◌&&◌, if◌then◌else◌, List, [], ◌∷◌, length}
+use Rattle.std.specs.Prelude.{◌≡◌, ℕ, ◌+◌, ◌<◌, nat_le, nat_lt, Bool, ◌&&◌, if◌then◌else◌, List, [], ◌∷◌, length, Option, Some, None}
 use Rattle.std.specs.List.{AllByRecursion}
 use Rattle.sum_tree.specs.Keyed.{Ascending, insert_item}
+use Rattle.tree_cursor.specs.Keys.{cmp_less}
 use Rattle.lamport_clock.specs.declared.stamp.Lamport.{Lamport}
 use Rattle.lamport_clock.specs.Stamps.{same_stamp}
 use Rattle.fragments.specs.declared.index_entry.IndexKey.{IndexKey}
@@ -37,8 +38,8 @@ pub record IndexState : Type 0 where
 abbrev pub with_insertion : IndexEntry → IndexState → IndexState
 with_insertion e x = record { entries = with_entry e x.entries; deletions = x.deletions }
 
-abbrev pub with_deletion : Lamport → Lamport → ℕ → ℕ → IndexState → IndexState
-with_deletion t s k n x = record { entries = x.entries; deletions = with_run t s k n x.deletions }
+abbrev pub delete_run : Lamport → Lamport → ℕ → ℕ → IndexState → IndexState
+delete_run t s k n x = record { entries = x.entries; deletions = with_run t s k n x.deletions }
 
 -- ---- what runs say of cells
 
@@ -75,3 +76,8 @@ AreRunsOf fs rs = (t s : Lamport) → (k : ℕ) → run_count t s k rs ≡ delet
 -- edit t deleted the run, whose number is less than n
 abbrev pub is_below : Lamport → ℕ → DeletedRun → Bool
 is_below t n r = same_stamp r.edit t && nat_lt r.number n
+
+-- the first run whose key is not less than k
+abbrev pub run_from : IndexKey → List DeletedRun → Option DeletedRun
+run_from k [] = None
+run_from k (r ∷ rs) = if cmp_less key_cmp (run_key r) k then run_from k rs else Some r

@@ -4,7 +4,7 @@ ghost use Rattle.std.specs.Option.{option_copied};
 ghost use Rattle.std.specs.List.{filter, find};
 ghost use Rattle.fragments.specs.declared.index_entry.IndexEntry.{IndexEntry};
 ghost use Rattle.fragments.specs.Index.{with_entry, id_for, first_from};
-ghost use Rattle.fragments.specs.DeletedRuns.{AreNumbered, with_insertion, with_deletion, is_run_of, is_below};
+ghost use Rattle.fragments.specs.DeletedRuns.{AreNumbered, with_insertion, delete_run, is_run_of, is_below, run_from};
 
 use crate::OutOfMemory;
 use crate::deleted_run::DeletedRun;
@@ -45,10 +45,9 @@ impl InsertionIndex {
     pub fn new(alloc: Global) -> Result<InsertionIndex, OutOfMemory>
         ensures { IfOk result (λ m. m ≡ record { entries = []; deletions = [] }) }
     {
-        Ok(InsertionIndex {
-            entries: SumTree::new(alloc)?,
-            deletions: SumTree::new(alloc)?,
-        })
+        let entries = SumTree::new(alloc)?;
+        let deletions = SumTree::new(alloc)?;
+        Ok(InsertionIndex { entries, deletions })
     }
 
     /// Another index with the same entries and runs, in constant time; nothing is copied. Fails only if `Arc` cannot
@@ -56,10 +55,9 @@ impl InsertionIndex {
     pub fn share(&self) -> Result<InsertionIndex, OutOfMemory>
         ensures { IfOk result (λ m. m ≡ self.now) }
     {
-        Ok(InsertionIndex {
-            entries: self.entries.share()?,
-            deletions: self.deletions.share()?,
-        })
+        let entries = self.entries.share()?;
+        let deletions = self.deletions.share()?;
+        Ok(InsertionIndex { entries, deletions })
     }
 
     /// The number of entries. O(1), does not allocate.
@@ -126,7 +124,7 @@ impl InsertionIndex {
         offset: u64,
         len: u64,
     ) -> Result<(), OutOfMemory>
-        ensures ok { OnOk result (self.new ≡ with_deletion edit stamp offset len self.old) }
+        ensures ok { OnOk result (self.new ≡ delete_run edit stamp offset len self.old) }
         ensures err { OnErr result (self.new ≡ self.old) }
     {
         let number = self.deletions.len();
@@ -175,9 +173,9 @@ fn run_below(runs: &SumTree<DeletedRun>, edit: Lamport, below: u64) -> Option<&D
         stamp: edit,
         offset: Reverse(below - 1),
     };
-    let start = Greatest { key: None };
-    let target = Greatest { key: Some(key) };
-    let run = look_up(runs, start, &target, Bias::Left).0?;
+    let Some(run) = run_from(runs, key) else {
+        return None;
+    };
     if is_same(run.edit, edit) {
         return Some(run);
     }
@@ -191,4 +189,13 @@ fn first_from(entries: &SumTree<IndexEntry>, key: IndexKey) -> Option<&IndexEntr
     let start = Greatest { key: None };
     let target = Greatest { key: Some(key) };
     look_up(entries, start, &target, Bias::Left).0
+}
+
+// The first run that does not come before a key.
+fn run_from(runs: &SumTree<DeletedRun>, key: IndexKey) -> Option<&DeletedRun>
+    ensures { option_copied result ≡ run_from key runs.now.items }
+{
+    let start = Greatest { key: None };
+    let target = Greatest { key: Some(key) };
+    look_up(runs, start, &target, Bias::Left).0
 }
