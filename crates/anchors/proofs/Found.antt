@@ -21,6 +21,7 @@ use Rattle.op_model.proofs.Elements.{member_right, member_either, split_at}
 use Rattle.op_model.proofs.order.CellsOnce.{alike_bounds}
 use Rattle.fragments.specs.declared.fragment.Fragment.{Fragment}
 use Rattle.fragments.specs.declared.index_entry.IndexEntry.{IndexEntry}
+use Rattle.fragments.specs.DeletedRuns.{IndexState}
 use Rattle.fragments.specs.Index.{entry_for, id_for}
 use Rattle.fragments.specs.Stand.{Stand, Tell, runs, Rise}
 use Rattle.fragments.specs.Laws.{shown_len, cells_len}
@@ -57,7 +58,7 @@ some_true : (b : Bool) (p q : Spot) → cond b (Some p) None ≡ Some q → b �
 some_true true p q e = refl
 some_true false p q e = absurd (none-some q e)
 
-module _ (fs : List Fragment) (w : List IndexEntry) (u : List UndoEntry) (h : History) (s : Stand fs w u h) (l : Lawful h) where
+module _ (fs : List Fragment) (w : IndexState) (u : List UndoEntry) (h : History) (s : Stand fs w u h) (l : Lawful h) where
   tells : (pre post : List Fragment) (f : Fragment) → fs ≡ pre ++ f ∷ post → Tell (pre ++ f ∷ post) h
   tells pre post f e = subst (λ (z : List Fragment). Tell z h) e s.cells
 
@@ -116,12 +117,12 @@ module _ (fs : List Fragment) (w : List IndexEntry) (u : List UndoEntry) (h : Hi
   of_cell : (t : Lamport) (k : ℕ) → k < length (new_bytes h t) → (f : Fragment) × Member f fs × Has f t k
   of_cell t k i = has_fragment fs (cell_at t k) (subst (Member (cell_at t k)) (sym (ap cells_in s.cells ∙ told_cells h (cells (seq h)))) (((each_cell_once h l).2 (cell_at t k)).1 i))
 
-  found_id : (t : Lamport) (k : ℕ) (f : Fragment) → Member f fs → Has f t k → id_for t k w ≡ Some f.id
+  found_id : (t : Lamport) (k : ℕ) (f : Fragment) → Member f fs → Has f t k → id_for t k w.entries ≡ Some f.id
   found_id t k f m a =
       let lo = a.low in let hi = a.high in
       let j : k - f.offset < f.len = omega (arith, lo, hi) in
       let q : f.offset + (k - f.offset) ≡ k = omega (arith, lo) in
-      ap (λ (z : Lamport). id_for z k w) (sym a.stamp) ∙ ap (λ (z : ℕ). id_for f.stamp z w) (sym q) ∙ (index_finds_fragments fs w u h l s).0 f m (k - f.offset) j
+      ap (λ (z : Lamport). id_for z k w.entries) (sym a.stamp) ∙ ap (λ (z : ℕ). id_for f.stamp z w.entries) (sym q) ∙ (index_finds_fragments fs w u h l s).0 f m (k - f.offset) j
 
   -- a cell that a fragment has is one of the history
   spot_other : (pre post : List Fragment) (f : Fragment) (t : Lamport) (k : ℕ) → fs ≡ pre ++ f ∷ post → (r : Spot) → spot_in (run_behind f (shown_len pre) (cells_len pre)) t k ≡ Some r → Some r ≡ spot_of h (cell_at t k)
@@ -133,7 +134,7 @@ module _ (fs : List Fragment) (w : List IndexEntry) (u : List UndoEntry) (h : Hi
       sym q ∙ spot_there pre post f t k e (record { stamp = same_stamp_eq f.stamp t y.0; low = lo; high = omega (arith, m, lo) })
 
   -- where the index has no entry, there is no such cell
-  pub not_found : (t : Lamport) (k : ℕ) → id_for t k w ≡ None → IsRunOf h t k None
+  pub not_found : (t : Lamport) (k : ℕ) → id_for t k w.entries ≡ None → IsRunOf h t k None
   not_found t k e = record { here = none; others = λ j r q. absurd (none-some r q) }
     where
       none : None ≡ spot_of h (cell_at t k)
@@ -143,15 +144,15 @@ module _ (fs : List Fragment) (w : List IndexEntry) (u : List UndoEntry) (h : Hi
       ]
 
   -- where it has one, its fragment tells
-  pub found : (t : Lamport) (k : ℕ) (i : List ℕ) (r : Option Run) → id_for t k w ≡ Some i
+  pub found : (t : Lamport) (k : ℕ) (i : List ℕ) (r : Option Run) → id_for t k w.entries ≡ Some i
       → ((pre post : List Fragment) → (f : Fragment) → fs ≡ pre ++ f ∷ post → Rise least_digits fs → f.id ≡ i → r ≡ Some (run_behind f (shown_len pre) (cells_len pre)))
       → IsRunOf h t k r
   found t k i r e tell = record { here = here_at; others = λ j q v. other j q v }
     where
       by_entry : (f : Fragment) × Member f fs × (f.id ≡ i)
       by_entry =
-          let x = id_entry i (entry_for t k w) e in
-          let y = fragment_of x.0 fs ((s.index x.0).0 (entry_member t k w x.0 x.1)) in
+          let x = id_entry i (entry_for t k w.entries) e in
+          let y = fragment_of x.0 fs ((s.index x.0).0 (entry_member t k w.entries x.0 x.1)) in
           (y.0, y.1, ap (λ (z : IndexEntry). z.id) (sym y.2) ∙ x.2)
 
       here_at : spot_if r t k ≡ spot_of h (cell_at t k)

@@ -16,7 +16,7 @@ use Rattle.op_model.specs.declared.anchor.Bias.{Bias}
 use Rattle.op_model.specs.declared.anchor.Bias.TheVariants.{Left, Right}
 use Rattle.op_model.specs.Anchors.{shown_count, place, gap, is_known, compare_anchors, known_order}
 use Rattle.fragments.specs.declared.fragment.Fragment.{Fragment}
-use Rattle.fragments.specs.declared.index_entry.IndexEntry.{IndexEntry}
+use Rattle.fragments.specs.DeletedRuns.{IndexState}
 use Rattle.anchors.specs.declared.spot.Spot.{Spot}
 use Rattle.anchors.specs.declared.standing.Standing.{Standing}
 use Rattle.anchors.specs.Spots.{spot, spot_of, begins}
@@ -43,7 +43,7 @@ none_spot h c e = go (cases_Bool (ltb c.k (length (new_bytes h c.stamp))))
     go (inl t) = let q : Some (spot h c) ≡ None = ap (λ (b : Bool). cond b (Some (spot h c)) None) (sym t) ∙ e in absurd (none-some (spot h c) (sym q))
     go (inr t) = ltb-false c.k (length (new_bytes h c.stamp)) t
 
-module _ (fs : List Fragment) (w : List IndexEntry) (v n : List ℕ) (h : History) (s : StandFor fs w v n h) where
+module _ (fs : List Fragment) (w : IndexState) (v n : List ℕ) (h : History) (s : StandFor fs w v n h) where
   -- a character begins at a spot where one of its edit's new bytes does
   pub begins_is : (c : Cell) (p : Spot) → spot_of h c ≡ Some p → begins v n p ≡ is_boundary (new_bytes h c.stamp) c.k
   begins_is c p e =
@@ -186,7 +186,7 @@ module _ (h : History) (t : Lamport) (k : ℕ) where
   left_some l z p e b = let x = some_spot h (cell_at t (k - 1)) p e in
       stands_there h (At t k Left) (record { place = p.shown + cond p.is_shown 1 0; gap = p.cells + 1; bias = Left }) (left_known h t k z x.0 ∙ b) (left_where l p x.0 x.1)
 
-pub greatest_stands : (fs : List Fragment) (w : List IndexEntry) (v n : List ℕ) (h : History) → StandFor fs w v n h
+pub greatest_stands : (fs : List Fragment) (w : IndexState) (v n : List ℕ) (h : History) → StandFor fs w v n h
     → Some (record { place = length v; gap = length v + length n; bias = Right }) ≡ standing_of h Greatest
 greatest_stands fs w v n h s = let a = ap length s.shows in let b = ap length s.hides in let c = both_lengths h s.lawful in
     greatest_is h (length v) (length v + length n) a (omega (arith, a, b, c))

@@ -17,7 +17,7 @@ use Rattle.op_model.specs.declared.anchor.Bias.{Bias}
 use Rattle.op_model.proofs.MainLaws.{same_sets_answer_alike}
 use Rattle.undo_map.specs.declared.entry.UndoEntry.{UndoEntry}
 use Rattle.fragments.specs.declared.fragment.Fragment.{Fragment}
-use Rattle.fragments.specs.declared.index_entry.IndexEntry.{IndexEntry}
+use Rattle.fragments.specs.DeletedRuns.{IndexState}
 use Rattle.fragments.specs.Stand.{Stand, Tell, IsFilled}
 use Rattle.fragments.specs.Laws.{shown_len}
 use Rattle.fragments.proofs.Cells.{shown_number}
@@ -28,14 +28,14 @@ use Rattle.anchors.proofs.Runs.{before, behind, cells_split, is_shown, shown_bef
 use Rattle.anchors.proofs.Seeking.{ByteAt, seek_none, shown_sought}
 
 -- behind the last there is none
-pub no_byte : (fs : List Fragment) (w : List IndexEntry) (u : List UndoEntry) (h : History) (o : ℕ) → Stand fs w u h → None ≡ slice_get fs (shown_sought o 0 fs) → None ≡ slice_get (shown_cells h) o
+pub no_byte : (fs : List Fragment) (w : IndexState) (u : List UndoEntry) (h : History) (o : ℕ) → Stand fs w u h → None ≡ slice_get fs (shown_sought o 0 fs) → None ≡ slice_get (shown_cells h) o
 no_byte fs w u h o s e =
     let k = seek_none fs o 0 (omega arith) (sym e) in
     let n = shown_number fs h s.cells in
     sym (slice_get_past (shown_cells h) o (omega (arith, k, n)))
 
 -- its fragment is filled
-filled_at : (fs : List Fragment) (w : List IndexEntry) (u : List UndoEntry) (h : History) (o b : ℕ) (f : Fragment) → Stand fs w u h → ByteAt fs o f b → f.offset + f.len < 2 ^ 64
+filled_at : (fs : List Fragment) (w : IndexState) (u : List UndoEntry) (h : History) (o b : ℕ) (f : Fragment) → Stand fs w u h → ByteAt fs o f b → f.offset + f.len < 2 ^ 64
 filled_at fs w u h o b f s a = (go a.pre (subst (AllByRecursion IsFilled) a.parts s.filled)).1
   where
     go : (pre : List Fragment) → AllByRecursion IsFilled (pre ++ f ∷ a.post) → IsFilled f
@@ -43,12 +43,12 @@ filled_at fs w u h o b f s a = (go a.pre (subst (AllByRecursion IsFilled) a.part
     go (x ∷ pre) k = go pre k.1
 
 -- the number that a fragment's cell has there
-number_is : (fs : List Fragment) (w : List IndexEntry) (u : List UndoEntry) (h : History) (o b n : ℕ) (f : Fragment) → Stand fs w u h → ByteAt fs o f b
+number_is : (fs : List Fragment) (w : IndexState) (u : List UndoEntry) (h : History) (o b n : ℕ) (f : Fragment) → Stand fs w u h → ByteAt fs o f b
     → n ≡ min (f.offset + (o - b)) (2 ^ 64 - 1) → (n ≡ f.offset + (o - b)) × (n + 1 < 2 ^ 64)
 number_is fs w u h o b n f s a e = let l = a.low in let m = a.high in let g = filled_at fs w u h o b f s a in (omega (arith, e, l, m, g), omega (arith, e, l, m, g))
 
 -- the cell that a fragment has there
-pub byte_is : (fs : List Fragment) (w : List IndexEntry) (u : List UndoEntry) (h : History) (o b n : ℕ) (f : Fragment) → Stand fs w u h → Lawful h → ByteAt fs o f b
+pub byte_is : (fs : List Fragment) (w : IndexState) (u : List UndoEntry) (h : History) (o b n : ℕ) (f : Fragment) → Stand fs w u h → Lawful h → ByteAt fs o f b
     → n ≡ min (f.offset + (o - b)) (2 ^ 64 - 1) → Some (cell_at f.stamp n) ≡ slice_get (shown_cells h) o
 byte_is fs w u h o b n f s l a e =
     let lo = a.low in
@@ -65,7 +65,7 @@ byte_is fs w u h o b n f s l a e =
     ap (λ (z : ℕ). Some (cell_at f.stamp z)) (number_is fs w u h o b n f s a e).0
     ∙ sym (got_shown h l cs c (behind h a.pre a.post f (o - b) t m) (cells_split h a.pre a.post f (o - b) t m) v) ∙ ap (slice_get (shown_cells h)) q
 
-pub byte_room : (fs : List Fragment) (w : List IndexEntry) (u : List UndoEntry) (h : History) (o b n : ℕ) (f : Fragment) → Stand fs w u h → ByteAt fs o f b → n ≡ min (f.offset + (o - b)) (2 ^ 64 - 1) → n + 1 < 2 ^ 64
+pub byte_room : (fs : List Fragment) (w : IndexState) (u : List UndoEntry) (h : History) (o b n : ℕ) (f : Fragment) → Stand fs w u h → ByteAt fs o f b → n ≡ min (f.offset + (o - b)) (2 ^ 64 - 1) → n + 1 < 2 ^ 64
 byte_room fs w u h o b n f s a e = (number_is fs w u h o b n f s a e).1
 
 pub left_some : (h : History) (o : ℕ) (b : Byte) (n : ℕ) → (o ≡ 0 → ⊥) → Some (cell_of b) ≡ slice_get (shown_cells h) (o - 1) → b.k + 1 < 2 ^ 64 → n ≡ min (b.k + 1) (2 ^ 64 - 1)

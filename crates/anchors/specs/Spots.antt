@@ -9,7 +9,7 @@ use Rattle.op_model.specs.Shown.{shows, new_bytes}
 use Rattle.op_model.specs.Anchors.{cells_before, shown_count}
 use Rattle.op_model.specs.Lawful.{Lawful}
 use Rattle.fragments.specs.declared.fragment.Fragment.{Fragment}
-use Rattle.fragments.specs.declared.index_entry.IndexEntry.{IndexEntry}
+use Rattle.fragments.specs.DeletedRuns.{IndexState}
 use Rattle.fragments.specs.Laws.{shown_len, cells_len}
 use Rattle.fragments.specs.Stand.{Stand, Rise}
 use Rattle.locators.specs.Locator.{least_digits}
@@ -73,7 +73,7 @@ spot_if None t k = None
 spot_if (Some r) t k = spot_in r t k
 
 -- P holds of each lawful history for which fragments and an index stand
-abbrev pub OfEach : List Fragment → List IndexEntry → (History → Type 0) → Type 0
+abbrev pub OfEach : List Fragment → IndexState → (History → Type 0) → Type 0
 OfEach fs w P = (u : List UndoEntry) → (h : History) → Stand fs w u h → Lawful h → P h
 
 -- r tells where cell k of edit t of h stands, and tells nothing wrong of the edit's other cells

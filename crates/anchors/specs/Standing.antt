@@ -12,13 +12,13 @@ use Rattle.op_model.specs.declared.anchor.Bias.{Bias}
 use Rattle.op_model.specs.declared.anchor.Bias.TheVariants.{Left, Right}
 use Rattle.undo_map.specs.declared.entry.UndoEntry.{UndoEntry}
 use Rattle.fragments.specs.declared.fragment.Fragment.{Fragment}
-use Rattle.fragments.specs.declared.index_entry.IndexEntry.{IndexEntry}
+use Rattle.fragments.specs.DeletedRuns.{IndexState}
 use Rattle.fragments.specs.Stand.{Stand}
 use Rattle.anchors.specs.declared.standing.Standing.{Standing}
 
 -- the fragments fs and the index w stand for the lawful history h, with some undo counts, and v and n are its shown and its
 -- hidden text
-pub record StandFor (fs : List Fragment) (w : List IndexEntry) (v n : List ℕ) (h : History) : Type 0 where
+pub record StandFor (fs : List Fragment) (w : IndexState) (v n : List ℕ) (h : History) : Type 0 where
   pub undos : List UndoEntry
   pub stands : Stand fs w undos h
   pub lawful : Lawful h

@@ -9,7 +9,7 @@ ghost use Rattle.op_model.specs.Lawful.{Lawful};
 ghost use Rattle.op_model.specs.Shown.{text};
 ghost use Rattle.op_model.specs.Anchors.{place_fault, shown_cells, left_anchor, right_anchor, known_place};
 ghost use Rattle.undo_map.specs.declared.entry.UndoEntry.{UndoEntry};
-ghost use Rattle.fragments.specs.declared.index_entry.IndexEntry.{IndexEntry};
+ghost use Rattle.fragments.specs.DeletedRuns.{IndexState};
 ghost use Rattle.fragments.specs.Stand.{Stand};
 ghost use Rattle.anchors.specs.Making.{cell_of, NextFits, made_anchor};
 ghost use Rattle.anchors.specs.Standing.{StandFor};
@@ -30,10 +30,10 @@ pub struct Byte {
 
 // A shown byte, where the text is not at its end before it: one descent.
 fn shown_byte(tree: &SumTree<Fragment>, o: u64) -> Option<Byte>
-    ensures byte { (w : List IndexEntry) → (u : List UndoEntry) → (h : History)
+    ensures byte { (w : IndexState) → (u : List UndoEntry) → (h : History)
         → Stand tree.now.items w u h → Lawful h
         → option_map cell_of result ≡ slice_get (shown_cells h) o }
-    ensures room { (w : List IndexEntry) → (u : List UndoEntry) → (h : History)
+    ensures room { (w : IndexState) → (u : List UndoEntry) → (h : History)
         → Stand tree.now.items w u h → IfSome result NextFits }
 {
     tree.known();
@@ -53,7 +53,7 @@ fn shown_byte(tree: &SumTree<Fragment>, o: u64) -> Option<Byte>
 
 // The anchor behind the byte before an offset.
 fn left_anchor(tree: &SumTree<Fragment>, o: u64) -> Anchor
-    ensures { (w : List IndexEntry) → (u : List UndoEntry) → (h : History)
+    ensures { (w : IndexState) → (u : List UndoEntry) → (h : History)
         → Stand tree.now.items w u h → Lawful h → o ≤ length (text h)
         → left_anchor h o ≡ Some result }
 {
@@ -72,7 +72,7 @@ fn left_anchor(tree: &SumTree<Fragment>, o: u64) -> Anchor
 
 // The anchor before the byte at an offset.
 fn right_anchor(tree: &SumTree<Fragment>, o: u64) -> Anchor
-    ensures { (w : List IndexEntry) → (u : List UndoEntry) → (h : History)
+    ensures { (w : IndexState) → (u : List UndoEntry) → (h : History)
         → Stand tree.now.items w u h → Lawful h → o ≤ length (text h)
         → right_anchor h o ≡ Some result }
 {

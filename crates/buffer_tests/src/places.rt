@@ -235,12 +235,35 @@ impl Content<'_> {
     }
 }
 
-fn index_of(alloc: Global, tree: &SumTree<Fragment>) -> Result<InsertionIndex, OutOfMemory> {
+// Enters a fragment, and what is deleted of it.
+fn enter(
+    alloc: Global,
+    index: &mut InsertionIndex,
+    fragment: &Fragment,
+) -> Result<(), OutOfMemory> {
+    let id = fragment.id.copy(alloc)?;
+    keep(alloc, index, fragment.stamp, fragment.offset, id)?;
+    for edit in fragment.deletions.as_slice() {
+        index.add_deleted(
+            alloc,
+            *edit,
+            fragment.stamp,
+            fragment.offset,
+            fragment.len,
+        )?;
+    }
+    Ok(())
+}
+
+/// The index of fragments and of what is deleted of them.
+pub(crate) fn index_of(
+    alloc: Global,
+    tree: &SumTree<Fragment>,
+) -> Result<InsertionIndex, OutOfMemory> {
     let mut index = InsertionIndex::new(alloc)?;
     for i in 0..tree.len() {
         if let Some(fragment) = tree.get(i) {
-            let id = fragment.id.copy(alloc)?;
-            keep(alloc, &mut index, fragment.stamp, fragment.offset, id)?;
+            enter(alloc, &mut index, fragment)?;
         }
     }
     Ok(index)

@@ -1,8 +1,9 @@
 //! Undos among fragments: what they show and hide, what is seen of them, and what becomes of the texts.
 use crate::operations::{Stamp, stamp, stamps};
+use crate::places::index_of;
 use crate::runs::{Run, tree_of};
 use crate::undo_counts::{Count, map_of};
-use fragments::{Fragment, InsertionIndex, OutOfMemory};
+use fragments::{Fragment, OutOfMemory};
 use remote_edit::{Move, Placed, mark_undo};
 use std::alloc::Global;
 use sum_tree::SumTree;
@@ -218,7 +219,7 @@ fn is_as_wanted(alloc: Global, placed: &Placed, row: &Row) -> Result<bool, OutOf
 fn place(alloc: Global, row: &Row, undos: &UndoMap) -> Result<Placed, OutOfMemory> {
     let tree = tree_of(alloc, row.runs, 1)?;
     let edits = stamps(alloc, row.edits)?;
-    let index = InsertionIndex::new(alloc)?;
+    let index = index_of(alloc, &tree)?;
     mark_undo(alloc, &tree, &index, undos, stamp(row.by), &edits)
 }
 

@@ -7,12 +7,12 @@ use Rattle.op_model.specs.Lawful.{Lawful, IsClosed}
 use Rattle.op_model.specs.Since.{since}
 use Rattle.undo_map.specs.declared.entry.UndoEntry.{UndoEntry}
 use Rattle.fragments.specs.declared.fragment.Fragment.{Fragment}
-use Rattle.fragments.specs.declared.index_entry.IndexEntry.{IndexEntry}
+use Rattle.fragments.specs.DeletedRuns.{IndexState}
 use Rattle.fragments.specs.Stand.{Stand}
 
 -- the fragments and the undo counts stand, with an index, for the lawful history h, in which v is closed
 pub record MayTell (fs : List Fragment) (u : List UndoEntry) (v : Entries) (h : History) : Type 0 where
-  pub index : List IndexEntry
+  pub index : IndexState
   pub stands : Stand fs index u h
   pub lawful : Lawful h
   pub closed : IsClosed h v

@@ -1,29 +1,14 @@
 -- Fragments after an undo of edits.
-use Rattle.std.proofs.Common.{◌≡◌, Bool, true, false, cond, leb, List, [], ◌∷◌, ap, inl, inr, sym, ◌∙◌}
-use Rattle.std.proofs.lemmas.Bool.{cases_Bool, and_parts, and_from, or_left}
-use Rattle.std.specs.List.{list_any}
+use Rattle.std.proofs.Common.{◌≡◌, ℕ, Bool, true, false, cond, ◌||◌, ◌==◌, List, [], ◌∷◌, Some, slice_get, ap, inl, inr, sym, ◌∙◌, eqb-refl}
+use Rattle.std.proofs.lemmas.Bool.{cases_Bool}
+use Rattle.std.specs.List.{AllByRecursion, list_any}
 use Rattle.lamport_clock.specs.declared.stamp.Lamport.{Lamport}
-use Rattle.lamport_clock.specs.Stamps.{same_stamp}
-use Rattle.lamport_clock.specs.Versions.{join_versions, sees}
-use Rattle.op_model.proofs.Elements.{none_up}
+use Rattle.op_model.proofs.Elements.{any_member}
 use Rattle.undo_map.specs.declared.entry.UndoEntry.{UndoEntry}
 use Rattle.fragments.specs.declared.fragment.Fragment.{Fragment}
-use Rattle.fragments.specs.Summaries.{summary_of}
-use Rattle.fragments.specs.SummaryLaws.{stamps_seen}
-use Rattle.remote_edit.specs.Anew.{concerns, recount, anew}
-use Rattle.remote_edit.specs.Concern.{begins_by, may_concern, may_concern_any}
-
--- an edit that concerns a fragment may concern its sum
-concerns_may : (f : Fragment) (t : Lamport) → concerns f t ≡ true → may_concern (summary_of f) t ≡ true
-concerns_may f t h =
-    let k = and_parts (leb f.stamp.value t.value) (list_any (same_stamp t) (f.stamp ∷ f.deletions)) h in
-    and_from (begins_by t (summary_of f).span) (sees (summary_of f).greatest t) (or_left (leb f.stamp.value t.value) false k.0) (stamps_seen (f.stamp ∷ f.deletions) (join_versions [] f.max_undos) t k.1)
-
--- a fragment whose sum none of the edits can concern stays
-pub unmet_same : (w : List UndoEntry) (by : Lamport) (ts : List Lamport) (f : Fragment) → may_concern_any ts (summary_of f) ≡ false → anew w by ts f ≡ f
-unmet_same w by ts f h =
-    let none : list_any (concerns f) ts ≡ false = none_up (concerns f) (may_concern (summary_of f)) (concerns_may f) ts h in
-    ap (λ (b : Bool). cond b (recount w by f) f) none
+use Rattle.remote_edit.specs.Anew.{concerns, recount, anew, all_anew, changed_at}
+use Rattle.remote_edit.specs.Finds.{is_place, HaveConcerned}
+use Rattle.remote_edit.proofs.ChangedAt.{changed_all}
 
 -- a fragment that one of the edits concerns is counted, another stays
 pub concerned : (w : List UndoEntry) (by : Lamport) (ts : List Lamport) (f : Fragment) → list_any (concerns f) ts ≡ true → anew w by ts f ≡ recount w by f
@@ -38,6 +23,14 @@ same_len w by ts f = elim (cases_Bool (list_any (concerns f) ts)) [
   | inr h ↦ ap (λ (g : Fragment). g.len) (unconcerned w by ts f h)
 ]
 
--- the same for a list of edits equal to ts
-pub unmet_kept : (w : List UndoEntry) (by : Lamport) (ts us : List Lamport) → us ≡ ts → (f : Fragment) → may_concern_any us (summary_of f) ≡ false → anew w by ts f ≡ f
-unmet_kept w by ts us e f h = unmet_same w by ts f (ap (λ (z : List Lamport). may_concern_any z (summary_of f)) (sym e) ∙ h)
+-- the fragments at the places of those that the edits concern are all that the undo changes
+module _ (w : List UndoEntry) (by : Lamport) (fs : List Fragment) (ps : List ℕ) where
+  placed : (ts : List Lamport) (i : ℕ) (f : Fragment) → AllByRecursion (λ (t : Lamport). HaveConcerned fs t ps) ts → slice_get fs i ≡ Some f → list_any (concerns f) ts ≡ true → is_place ps i ≡ true
+  placed [] i f h e c = cc
+  placed (t ∷ ts) i f h e c = elim (cases_Bool (concerns f t)) [
+    | inl k ↦ any_member (λ (p : ℕ). p == i) ps i (h.0 i f e k) (eqb-refl i)
+    | inr k ↦ placed ts i f h.1 e (ap (λ (b : Bool). b || list_any (concerns f) ts) (sym k) ∙ c)
+  ]
+
+  pub changed_anew : (ts : List Lamport) → AllByRecursion (λ (t : Lamport). HaveConcerned fs t ps) ts → changed_at (anew w by ts) (is_place ps) fs ≡ all_anew w by ts fs
+  changed_anew ts h = changed_all (anew w by ts) (is_place ps) fs (λ i f e. elim (cases_Bool (list_any (concerns f) ts)) [ inl c ↦ inl (placed ts i f h e c) | inr c ↦ inr (unconcerned w by ts f c) ])

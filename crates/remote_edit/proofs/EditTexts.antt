@@ -24,7 +24,7 @@ use Rattle.op_model.proofs.order.Literal.{lawful_deleters}
 use Rattle.undo_map.specs.declared.entry.UndoEntry.{UndoEntry}
 use Rattle.undo_map.specs.Undos.{undo_entries}
 use Rattle.fragments.specs.declared.fragment.Fragment.{Fragment}
-use Rattle.fragments.specs.declared.index_entry.IndexEntry.{IndexEntry}
+use Rattle.fragments.specs.DeletedRuns.{IndexState}
 use Rattle.fragments.specs.Stand.{runs, Tell, IsFilled, Stand}
 use Rattle.remote_edit.specs.Marks.{is_shown, marking}
 use Rattle.remote_edit.specs.Walk.{walk}
@@ -74,7 +74,7 @@ module _ (h : History) (t : Lamport) (l : Lawful h) (fresh : AllByRecursion (λ 
     others u fs f.1 b.1 d.1 s.1,
   )
 
-module _ (h : History) (op : Operation) (u : List UndoEntry) (fs : List Fragment) (i : List IndexEntry) (s : Stand fs i u h) (l : Lawful h) (g : answer h [] op ≡ Good) where
+module _ (h : History) (op : Operation) (u : List UndoEntry) (fs : List Fragment) (i : IndexState) (s : Stand fs i u h) (l : Lawful h) (g : answer h [] op ≡ Good) where
   abbrev t : Lamport
   t = stamp_of op
 

@@ -16,7 +16,7 @@ use Rattle.fragments.proofs.Entries.{entry_takes_its_place}
 use Rattle.fragments.proofs.Indexes.{mid_entry, with_one_more, same_entries}
 use Rattle.fragments.proofs.Rises.{less_self, rise_above}
 use Rattle.remote_edit.specs.Walk.{front, back, new_fragment}
-use Rattle.remote_edit.specs.Indexes.{IsApart, EndsBefore, IsIndexed}
+use Rattle.remote_edit.specs.Indexes.{IsApart, EndsBefore, AreEntered}
 
 -- ---- keys
 
@@ -76,7 +76,7 @@ swap_apart t k pre r f g s l d b =
     )
 
 -- a fragment with the entry and the cells of one
-pub indexed_same : (t : Lamport) (k : ℕ) (pre r : List Fragment) (f g : Fragment) (w : List IndexEntry) → entry_of g ≡ entry_of f → g.len ≡ f.len → IsIndexed t k (pre ++ f ∷ r) w → IsIndexed t k (pre ++ g ∷ r) w
+pub indexed_same : (t : Lamport) (k : ℕ) (pre r : List Fragment) (f g : Fragment) (w : List IndexEntry) → entry_of g ≡ entry_of f → g.len ≡ f.len → AreEntered t k (pre ++ f ∷ r) w → AreEntered t k (pre ++ g ∷ r) w
 indexed_same t k pre r f g w e l h =
     let s : g.stamp ≡ f.stamp = ap (λ (z : IndexEntry). z.stamp) e in
     let o : g.offset ≡ f.offset = ap (λ (z : IndexEntry). z.offset) e in
@@ -98,7 +98,7 @@ both_sides pre r a h k = each_append (λ x. IsApart x a) pre r h (each_map (IsAp
 
 -- the front has the key of the whole
 pub indexed_front : (t : Lamport) (k : ℕ) (pre r : List Fragment) (f : Fragment) (n : ℕ) (id : List ℕ) (w : List IndexEntry) → AllByRecursion IsFilled (pre ++ f ∷ r) → 0 < n → n < f.len
-    → IsIndexed t k (pre ++ f ∷ r) w → IsIndexed t k (pre ++ front f n id ∷ r) (with_entry (entry_of (front f n id)) w)
+    → AreEntered t k (pre ++ f ∷ r) w → AreEntered t k (pre ++ front f n id ∷ r) (with_entry (entry_of (front f n id)) w)
 indexed_front t k pre r f n id w fl h l x =
     let a : Fragment = front f n id in
     let z = swap_apart t k pre r f a (λ y d q. elim (d q) [ inl m ↦ inl m | inr m ↦ inr (omega arith) ]) (λ b q. let m = b q in omega arith) x.apart x.before in
@@ -115,7 +115,7 @@ indexed_front t k pre r f n id w fl h l x =
 
 -- a fragment with other cells is inserted
 pub indexed_in : (t : Lamport) (k : ℕ) (pre r : List Fragment) (a : Fragment) (w : List IndexEntry) → IsFilled a → AllByRecursion IsFilled (pre ++ r)
-    → AllByRecursion (λ x. IsApart x a) (pre ++ r) → EndsBefore t k a → IsIndexed t k (pre ++ r) w → IsIndexed t k (pre ++ a ∷ r) (with_entry (entry_of a) w)
+    → AllByRecursion (λ x. IsApart x a) (pre ++ r) → EndsBefore t k a → AreEntered t k (pre ++ r) w → AreEntered t k (pre ++ a ∷ r) (with_entry (entry_of a) w)
 indexed_in t k pre r a w fa fl d b x = record {
   ascending = (entry_takes_its_place (entry_of a) w x.ascending).0;
   entries = entry_in pre r a w x.ascending x.entries (all_other (pre ++ r) a fa fl d);
@@ -125,7 +125,7 @@ indexed_in t k pre r a w fa fl d b x = record {
 
 -- a fragment is split: the front has its key, and the back its id
 pub indexed_split : (t : Lamport) (k : ℕ) (pre r : List Fragment) (f : Fragment) (n : ℕ) (id : List ℕ) (w : List IndexEntry) → AllByRecursion IsFilled (pre ++ f ∷ r) → 0 < n → n < f.len
-    → IsIndexed t k (pre ++ f ∷ r) w → IsIndexed t k (pre ++ front f n id ∷ back f n ∷ r) (with_entry (entry_of (back f n)) (with_entry (entry_of (front f n id)) w))
+    → AreEntered t k (pre ++ f ∷ r) w → AreEntered t k (pre ++ front f n id ∷ back f n ∷ r) (with_entry (entry_of (back f n)) (with_entry (entry_of (front f n id)) w))
 indexed_split t k pre r f n id w fl h l x =
     let a : Fragment = front f n id in
     let b : Fragment = back f n in
@@ -144,15 +144,15 @@ indexed_split t k pre r f n id w fl h l x =
     let e : EndsBefore t k b = λ i. let m = (each_right (EndsBefore t k) pre (f ∷ r) x.before).0 i in omega arith in
     let filled : AllByRecursion IsFilled (pre ++ a ∷ r) = each_append IsFilled pre (a ∷ r) (each_left IsFilled pre (f ∷ r) fl) (fa, g.1) in
     let z = indexed_in t k (pre ++ a ∷ []) r b w1 fb (subst (AllByRecursion IsFilled) (sym q) filled) (subst (AllByRecursion (λ y. IsApart y b)) (sym q) d) e
-    (subst (λ (fs : List Fragment). IsIndexed t k fs w1) (sym q) x1) in
-    subst (λ (fs : List Fragment). IsIndexed t k fs (with_entry (entry_of b) w1)) (append_assoc pre (a ∷ []) (b ∷ r)) z
+    (subst (λ (fs : List Fragment). AreEntered t k fs w1) (sym q) x1) in
+    subst (λ (fs : List Fragment). AreEntered t k fs (with_entry (entry_of b) w1)) (append_assoc pre (a ∷ []) (b ∷ r)) z
 
 -- new cells are inserted
 pub indexed_new : (t : Lamport) (k n : ℕ) (pre r : List Fragment) (id : List ℕ) (w : List IndexEntry) → AllByRecursion IsFilled (pre ++ r) → 0 < n → k + n < 2 ^ 64
-    → IsIndexed t k (pre ++ r) w → IsIndexed t (k + n) (pre ++ new_fragment t k n id ∷ r) (with_entry (entry_of (new_fragment t k n id)) w)
+    → AreEntered t k (pre ++ r) w → AreEntered t (k + n) (pre ++ new_fragment t k n id ∷ r) (with_entry (entry_of (new_fragment t k n id)) w)
 indexed_new t k n pre r id w fl h l x =
     let a : Fragment = new_fragment t k n id in
-    let x1 : IsIndexed t (k + n) (pre ++ r) w = record { ascending = x.ascending; entries = x.entries; apart = x.apart; before = each_map (EndsBefore t k) (EndsBefore t (k + n)) (λ y b q. let m = b q in omega arith) (pre ++ r) x.before } in
+    let x1 : AreEntered t (k + n) (pre ++ r) w = record { ascending = x.ascending; entries = x.entries; apart = x.apart; before = each_map (EndsBefore t k) (EndsBefore t (k + n)) (λ y b q. let m = b q in omega arith) (pre ++ r) x.before } in
     indexed_in t (k + n) pre r a w (h, l) fl (each_map (EndsBefore t k) (λ y. IsApart y a) (λ y b q. inl (b q)) (pre ++ r) x.before) (λ q. omega arith) x1
 
 -- fragments with different ids of which an index finds each cell

@@ -7,11 +7,12 @@ pub mod Beside
 pub mod PassedPlaces
 pub mod Finding
 pub mod MovesAmong
+pub mod ChangedAt
 pub mod Anew
 pub mod OfFacts
-pub mod Halves
 pub mod LaterDeletions
 pub mod UndoStands
+pub mod Finds
 pub mod UndoMoves
 pub mod FullIn
 pub mod Local
@@ -24,6 +25,7 @@ pub mod Changing
 pub mod Pieces
 pub mod Runs
 pub mod Rises
+pub mod Deleting
 pub mod Indexing
 pub mod Standing
 pub mod Entering

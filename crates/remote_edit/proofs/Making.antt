@@ -23,7 +23,7 @@ use Rattle.op_model.proofs.shown.Alike.{kept_len_seen}
 use Rattle.op_model.proofs.texts.Pieces.{ordered_up}
 use Rattle.undo_map.specs.declared.entry.UndoEntry.{UndoEntry}
 use Rattle.fragments.specs.declared.fragment.Fragment.{Fragment}
-use Rattle.fragments.specs.declared.index_entry.IndexEntry.{IndexEntry}
+use Rattle.fragments.specs.DeletedRuns.{IndexState}
 use Rattle.fragments.specs.Stand.{Tell, runs}
 use Rattle.fragments.specs.Laws.{cells_len}
 use Rattle.remote_edit.specs.Offsets.{piece_in}
@@ -41,7 +41,7 @@ in_order h op fs l g t b =
     let w = seen_within (version_of op) fs in
     ordered_up 0 (length (seq_where (sees (version_of op)) (newest_first h))) (2 ^ 40) (pieces_of op) (omega (arith, n, w, b)) (good_ordered h op g)
 
-module _ (fs : List Fragment) (w : List IndexEntry) (u : List UndoEntry) (t : Lamport) (v : Entries) (ps : List Piece) (m : MayMake fs w u t v ps) where
+module _ (fs : List Fragment) (w : IndexState) (u : List UndoEntry) (t : Lamport) (v : Entries) (ps : List Piece) (m : MayMake fs w u t v ps) where
   pub may_place : (qs : List Piece) → qs ≡ map (full_piece m.history) ps → MayPlace fs w u (Edit (record { stamp = t; version = v; pieces = qs }))
   may_place qs e =
       let o : Edit (record { stamp = t; version = v; pieces = qs }) ≡ local_edit m.history t.replica ps = local_edit_is m.history t ps qs v m.value m.sees e in

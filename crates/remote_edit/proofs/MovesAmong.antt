@@ -135,3 +135,36 @@ module _ (keeps : FragmentSummary → Bool) (does : Fragment → Move) (m : Frag
 
   pub carried : AllByRecursion (Becomes keeps does m) fs → CarryOn t [] [] fs 0 (moves_among keeps does fs) (map m fs) [] 0
   carried b = carried_on [] [] fs [] b stay
+
+-- fragments that became others with the same cells, as the moves of these say; those that are passed stayed
+pub record Became (keeps : FragmentSummary → Bool) (does : Fragment → Move) (m : Fragment → Fragment) (f : Fragment) : Type 0 where
+  pub cells : SameCells f (m f)
+  pub move : does (m f) ≡ move_for f.visible (m f).visible f.len
+  pub stays : keeps (summary_of (m f)) ≡ false → m f ≡ f
+
+module _ (keeps : FragmentSummary → Bool) (does : Fragment → Move) (m : Fragment → Fragment) (t : Lamport) (fs : List Fragment) where
+  read_on : (done xs rest : List Fragment) (ms : List Move) → AllByRecursion (Became keeps does m) rest → CarryOn t [] [] fs 0 ms done (xs ++ rest) 0
+      → CarryOn t [] [] fs 0 (moves_on keeps does ms (shown_len xs) (hidden_len xs) (map m rest)) (done ++ (xs ++ map m rest)) [] 0
+  read_on done xs [] ms b c =
+      subst (λ (z : List Fragment). CarryOn t [] [] fs 0 (kept_moves ms (shown_len xs) (hidden_len xs)) (done ++ z) [] 0) (sym (append-nil xs)) (go_on (omega arith) c (on_stretch xs []))
+  read_on done xs (x ∷ rest) ms b c = elim (cases_Bool (keeps (summary_of (m x)))) [
+    | inl e ↦ (let kept : List Move = kept_moves ms (shown_len xs) (hidden_len xs) in
+        let before : List Fragment = (done ++ xs) ++ m x ∷ [] in
+        let over : CarryOn t [] [] fs 0 kept (done ++ xs) (x ∷ rest) 0 = go_on (omega arith) c (on_stretch xs (x ∷ rest)) in
+        let moved : CarryOn t [] [] fs 0 (with_move kept (does (m x))) before rest 0 =
+        subst (λ (z : Move). CarryOn t [] [] fs 0 (with_move kept z) before rest 0) (sym b.0.move) (go_on (omega arith) over (on_one x (m x) rest b.0.cells)) in
+        let all : before ++ map m rest ≡ done ++ (xs ++ m x ∷ map m rest) = append_assoc (done ++ xs) (m x ∷ []) (map m rest) ∙ append_assoc done xs (m x ∷ map m rest) in
+        rw e (subst (λ (z : List Fragment). CarryOn t [] [] fs 0 (moves_on keeps does (with_move kept (does (m x))) 0 0 (map m rest)) z [] 0) all (read_on before [] rest (with_move kept (does (m x))) b.1 moved)))
+    | inr e ↦ (let more : List Fragment = xs ++ x ∷ [] in
+        let stayed : m x ≡ x = b.0.stays e in
+        let off : keeps (summary_of x) ≡ false = ap (λ (z : Fragment). keeps (summary_of z)) (sym stayed) ∙ e in
+        let on : CarryOn t [] [] fs 0 ms done (more ++ rest) 0 = subst (λ (z : List Fragment). CarryOn t [] [] fs 0 ms done z 0) (sym (append_assoc xs (x ∷ []) rest)) c in
+        let all : more ++ map m rest ≡ xs ++ x ∷ map m rest = append_assoc xs (x ∷ []) (map m rest) in
+        let here : CarryOn t [] [] fs 0 (moves_on keeps does ms (shown_len xs) (hidden_len xs) (x ∷ map m rest)) (done ++ (xs ++ x ∷ map m rest)) [] 0 =
+        rw off (subst (λ (z : List Move). CarryOn t [] [] fs 0 z (done ++ (xs ++ x ∷ map m rest)) [] 0) (one_more keeps does ms xs x (map m rest))
+        (subst (λ (z : List Fragment). CarryOn t [] [] fs 0 (moves_on keeps does ms (shown_len more) (hidden_len more) (map m rest)) (done ++ z) [] 0) all (read_on done more rest ms b.1 on))) in
+        subst (λ (z : Fragment). CarryOn t [] [] fs 0 (moves_on keeps does ms (shown_len xs) (hidden_len xs) (z ∷ map m rest)) (done ++ (xs ++ z ∷ map m rest)) [] 0) (sym stayed) here)
+  ]
+
+  pub read_carried : AllByRecursion (Became keeps does m) fs → CarryOn t [] [] fs 0 (moves_among keeps does (map m fs)) (map m fs) [] 0
+  read_carried b = read_on [] [] fs [] b stay

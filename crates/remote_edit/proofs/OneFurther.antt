@@ -6,9 +6,10 @@ use Rattle.op_model.specs.declared.operation.EditOp.{EditOp}
 use Rattle.undo_map.specs.declared.entry.UndoEntry.{UndoEntry}
 use Rattle.fragments.specs.declared.fragment.Fragment.{Fragment}
 use Rattle.fragments.specs.Index.{with_entry}
+use Rattle.fragments.specs.DeletedRuns.{with_insertion}
 use Rattle.fragments.specs.Stand.{entry_of}
 use Rattle.remote_edit.specs.declared.gather.Gather.{Gather}
-use Rattle.remote_edit.specs.Marks.{touch}
+use Rattle.remote_edit.specs.Marks.{touch, touch_index}
 use Rattle.remote_edit.specs.Walk.{seen_bytes, Fit, last_id, front, back}
 use Rattle.remote_edit.specs.Steps.{head, tail, IsOnWay}
 use Rattle.remote_edit.specs.Gathers.{so_far, ahead}
@@ -42,16 +43,16 @@ module _ (e : EditOp) (xs : List Fragment) (s : Gather) (f : Fragment) (next : S
           on_whole m e.stamp e.version (so_far xs s) (ahead xs s) (so_far xs n) (ahead xs n) f g left s.place (n.place + f.len) next is some all seen fit place
           (grown xs s.made.items n.made.items s.from n.from g from made) rest (ap (λ (q : ℕ). q + f.len) same)
 
-      pub whole_indexed : n.number ≡ s.number → n.index ≡ s.index → Indexed s → Indexed n
+      pub whole_indexed : n.number ≡ s.number → n.index ≡ touch_index m e.stamp e.version f s.index → Indexed s → Indexed n
       whole_indexed number index x =
           enter_none m e.stamp e.version s.number n.number (so_far xs s) (ahead xs s) (so_far xs n) (ahead xs n) f g s.index n.index next is (grown xs s.made.items n.made.items s.from n.from g from made) rest number index x
 
     -- its first cells, a; those after them are b
     module _ (a b : Fragment) (lower : a ≡ front f left (between_digits (last_id (so_far xs s)) f.id)) (upper : b ≡ back f left) (less : left < f.len) where
-      pub lower_room : Indexed s → length (with_entry (entry_of a) s.index) ≤ 2 ^ 40
+      pub lower_room : Indexed s → length (with_entry (entry_of a) s.index.entries) ≤ 2 ^ 40
       lower_room x = front_room e.stamp s.number (so_far xs s) (ahead xs s) f a b left (between_digits (last_id (so_far xs s)) f.id) s.index next lower upper some less fit x
 
-      pub upper_room : Indexed s → length (with_entry (entry_of b) (with_entry (entry_of a) s.index)) ≤ 2 ^ 40
+      pub upper_room : Indexed s → length (with_entry (entry_of b) (with_entry (entry_of a) s.index.entries)) ≤ 2 ^ 40
       upper_room x = back_room e.stamp s.number (so_far xs s) (ahead xs s) f a b left (between_digits (last_id (so_far xs s)) f.id) s.index next lower upper some less fit x
 
       module _ (from : n.from ≡ s.from) (made : n.made.items ≡ s.made.items ++ touch m e.stamp e.version a ∷ []) (rest : ahead xs n ≡ b ∷ tail (ahead xs s)) where
@@ -62,7 +63,7 @@ module _ (e : EditOp) (xs : List Fragment) (s : Gather) (f : Fragment) (next : S
             next (ap (touch m e.stamp e.version) lower) upper some less seen fit place
             (grown xs s.made.items n.made.items s.from n.from (touch m e.stamp e.version a) from made) rest (ap (λ (q : ℕ). q + left) same)
 
-        pub split_indexed : n.number ≡ s.number → n.index ≡ with_entry (entry_of b) (with_entry (entry_of a) s.index) → Indexed s → Indexed n
+        pub split_indexed : n.number ≡ s.number → n.index ≡ touch_index m e.stamp e.version a (with_insertion (entry_of b) (with_insertion (entry_of a) s.index)) → Indexed s → Indexed n
         split_indexed number index x =
             enter_split e.stamp s.number (so_far xs s) (ahead xs s) f a b left (between_digits (last_id (so_far xs s)) f.id) s.index next lower upper some less fit x
             m e.version (touch m e.stamp e.version a) n.number n.index (so_far xs n) (ahead xs n) refl (grown xs s.made.items n.made.items s.from n.from (touch m e.stamp e.version a) from made) rest number index

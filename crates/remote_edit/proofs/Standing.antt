@@ -22,7 +22,7 @@ use Rattle.op_model.proofs.histories.VersionLaws.{sees_own}
 use Rattle.op_model.proofs.answers.Good.{lawful_ready, checked_of}
 use Rattle.undo_map.specs.declared.entry.UndoEntry.{UndoEntry}
 use Rattle.fragments.specs.declared.fragment.Fragment.{Fragment}
-use Rattle.fragments.specs.declared.index_entry.IndexEntry.{IndexEntry}
+use Rattle.fragments.specs.DeletedRuns.{IndexState}
 use Rattle.fragments.specs.Stand.{Stand, Tell, IsFilled, runs}
 use Rattle.fragments.proofs.Founds.{index_finds_fragments}
 use Rattle.fragments.specs.Laws.{cells_len}
@@ -31,6 +31,7 @@ use Rattle.remote_edit.specs.Walk.{Fit}
 use Rattle.remote_edit.specs.Starts.{AllSeen}
 use Rattle.remote_edit.specs.Indexes.{EndsBefore, IsIndexed}
 use Rattle.remote_edit.specs.Placing.{MayPlace}
+use Rattle.remote_edit.specs.Finds.{IsFound}
 use Rattle.remote_edit.proofs.Indexing.{apart_start}
 use Rattle.op_model.proofs.answers.SameAnswers.{no_bytes}
 use Rattle.op_model.proofs.order.SameSets.{each_in}
@@ -59,17 +60,32 @@ all_seen h fs l t fl = seen_each (version h) h (each_of_in (λ (o : Operation). 
 
 -- ---- before the walk
 
-pub indexed_start : (fs : List Fragment) (w : List IndexEntry) (u : List UndoEntry) (h : History) (op : Operation) → Stand fs w u h → Lawful h → answer h [] op ≡ Good → IsIndexed (stamp_of op) 0 fs w
+pub indexed_start : (fs : List Fragment) (w : IndexState) (u : List UndoEntry) (h : History) (op : Operation) → Stand fs w u h → Lawful h → answer h [] op ≡ Good → IsIndexed (stamp_of op) 0 fs w
 indexed_start fs w u h op s l g = record {
-  ascending = s.ascending;
-  entries = s.index;
-  apart = apart_start least_digits fs w s.ids s.filled (index_finds_fragments fs w u h l s).0;
-  before = all_new h op l (checked_of h op g).0.new fs s.filled
-      (λ c m. (all_cells h (lawful_ready h l).0.distinct c).0 (subst (Member c) (ap cells_in s.cells ∙ told_cells h (cells (seq h))) m));
+  entered = record {
+    ascending = s.ascending;
+    entries = s.index;
+    apart = apart_start least_digits fs w.entries s.ids s.filled (index_finds_fragments fs w u h l s).0;
+    before = all_new h op l (checked_of h op g).0.new fs s.filled
+        (λ c m. (all_cells h (lawful_ready h l).0.distinct c).0 (subst (Member c) (ap cells_in s.cells ∙ told_cells h (cells (seq h))) m));
+  };
+  numbered = s.numbered;
+  deletions = s.deletions;
 }
 
-pub fit_start : (fs : List Fragment) (w : List IndexEntry) (u : List UndoEntry) (op : Operation) → MayPlace fs w u op → Fit fs × (cells_len fs + text_total (pieces_of op) ≤ 2 ^ 40)
+pub fit_start : (fs : List Fragment) (w : IndexState) (u : List UndoEntry) (op : Operation) → MayPlace fs w u op → Fit fs × (cells_len fs + text_total (pieces_of op) ≤ 2 ^ 40)
 fit_start fs w u op m =
     let b = cells_len-told fs m.history m.stands.cells in
     let r = m.room in
     ((m.stands.filled, (omega arith)), (omega arith))
+
+-- ---- what an index finds
+
+pub found_of : (fs : List Fragment) (w : IndexState) (u : List UndoEntry) (h : History) → Stand fs w u h → Lawful h → IsFound fs w
+found_of fs w u h s l = record {
+  filled = s.filled;
+  ids = s.ids;
+  entries = s.index;
+  apart = apart_start least_digits fs w.entries s.ids s.filled (index_finds_fragments fs w u h l s).0;
+  deletions = s.deletions;
+}

@@ -19,7 +19,7 @@ use Rattle.op_model.proofs.texts.WholeTexts.{byte_of}
 use Rattle.op_model.proofs.texts.WholeRuns.{Texts}
 use Rattle.undo_map.specs.declared.entry.UndoEntry.{UndoEntry}
 use Rattle.fragments.specs.declared.fragment.Fragment.{Fragment}
-use Rattle.fragments.specs.declared.index_entry.IndexEntry.{IndexEntry}
+use Rattle.fragments.specs.DeletedRuns.{IndexState}
 use Rattle.fragments.specs.Stand.{runs, Stand}
 use Rattle.fragments.proofs.Cells.{whole_fragments, utf8_more}
 use Rattle.remote_edit.specs.declared.moves.Move.{Move}
@@ -38,8 +38,8 @@ anew_texts : (byte : Cell → ℕ) (w : List UndoEntry) (by : Lamport) (ts : Lis
 anew_texts byte w by ts [] u = tt
 anew_texts byte w by ts (f ∷ fs) u = (same_text byte f (anew w by ts f) (same_cells w by ts f) u.0, anew_texts byte w by ts fs u.1)
 
-pub undo_characters : (h : History) (u : UndoOp) (w : List UndoEntry) (ts : List Lamport) (by : Lamport) (fs gs : List Fragment) (i x : List IndexEntry) (ms : List Move)
-    → MayMark fs i w by ts h u → AllByRecursion IsProper h → Stand gs x w (h ++ Undo u ∷ []) → gs ≡ all_anew w by ts fs → ((b t : Lamport) → CarryOn t [] [] fs 0 ms (all_anew w b ts fs) [] 0)
+pub undo_characters : (h : History) (u : UndoOp) (w : List UndoEntry) (ts : List Lamport) (by : Lamport) (fs gs : List Fragment) (i x : IndexState) (ms : List Move)
+    → MayMark fs i w by ts h u → AllByRecursion IsProper h → Stand gs x w (h ++ Undo u ∷ []) → gs ≡ all_anew w by ts fs → ((t : Lamport) → CarryOn t [] [] fs 0 ms (all_anew w by ts fs) [] 0)
     → KeepCharacters fs gs ms h (Undo u)
 undo_characters h u w ts by fs gs i x ms m p s e c k =
     let next : History = h ++ Undo u ∷ [] in
@@ -47,5 +47,5 @@ undo_characters h u w ts by fs gs i x ms m p s e c k =
     let new : AllByRecursion (IsText (byte_of next)) (all_anew w by ts fs) = anew_texts (byte_of next) w by ts fs (texts_are (byte_of next) fs old) in
     let all : Texts next = each_append (λ (o : Operation). AllByRecursion (λ (q : Piece). IsUtf8 q.text) (pieces_of o)) h (Undo u ∷ []) (proper_texts h p) (tt, tt) in (
       whole_fragments next (lawful_more h (Undo u) m.lawful m.good) all gs s.filled s.cells (texts_of_runs (byte_of next) gs (subst (AllByRecursion (IsText (byte_of next))) (sym e) new)),
-      carried_characters h (Undo u) fs (all_anew w by ts fs) ms m.lawful m.good m.stands.cells (c by u.stamp) new,
+      carried_characters h (Undo u) fs (all_anew w by ts fs) ms m.lawful m.good m.stands.cells (c u.stamp) new,
     )

@@ -31,6 +31,8 @@ use Rattle.undo_map.specs.declared.entry.UndoEntry.{UndoEntry}
 use Rattle.undo_map.specs.Undos.{undo_entries}
 use Rattle.fragments.specs.declared.fragment.Fragment.{Fragment}
 use Rattle.fragments.specs.declared.index_entry.IndexEntry.{IndexEntry}
+use Rattle.fragments.specs.DeletedRuns.{IndexState}
+use Rattle.remote_edit.proofs.Deleting.{runs_same}
 use Rattle.fragments.specs.Stand.{run_of, runs, Tell, IsFilled, Rise, entry_of, SeesUndos, Stand}
 use Rattle.remote_edit.specs.Marks.{is_shown}
 use Rattle.remote_edit.specs.Anew.{concerns, recount, anew, all_anew, Counts}
@@ -123,6 +125,10 @@ module _ (h : History) (op : Operation) (w : List UndoEntry) (ts : List Lamport)
   all_entries [] = refl
   all_entries (f ∷ fs) = rw (kept_by (λ (g : Fragment). entry_of g ≡ entry_of f) f refl refl) (ap (λ (z : List IndexEntry). entry_of f ∷ z) (all_entries fs))
 
+  -- a fragment has the same cells and deletions
+  same_deletions : (f : Fragment) → ((m f).stamp ≡ f.stamp) × ((m f).offset ≡ f.offset) × ((m f).len ≡ f.len) × ((m f).deletions ≡ f.deletions)
+  same_deletions f = kept_by (λ (g : Fragment). (g.stamp ≡ f.stamp) × (g.offset ≡ f.offset) × (g.len ≡ f.len) × (g.deletions ≡ f.deletions)) f (refl, refl, refl, refl) (refl, refl, refl, refl)
+
   -- the undos that a fragment's counts come from are seen
   sees_counted : (f : Fragment) → SeesUndos h f → SeesUndos next (recount w (stamp_of op) f)
   sees_counted f s o i c j k = elim (in_append h op o i) [
@@ -143,21 +149,23 @@ module _ (h : History) (op : Operation) (w : List UndoEntry) (ts : List Lamport)
   all_see [] z e = tt
   all_see (f ∷ fs) z e = (one_sees f z.0 e.0, all_see fs z.1 e.1)
 
-  pub undo_stands : (fs : List Fragment) (i : List IndexEntry) (v : List UndoEntry) → Stand fs i v h → Stand (all_anew w (stamp_of op) ts fs) i w next
+  pub undo_stands : (fs : List Fragment) (i : IndexState) (v : List UndoEntry) → Stand fs i v h → Stand (all_anew w (stamp_of op) ts fs) i w next
   undo_stands fs i v s = record {
     cells = cells_told fs s.filled s.cells;
     filled = all_filled fs s.filled;
     ids = all_rise least_digits fs s.ids;
     ascending = s.ascending;
-    index = λ e. subst (λ (z : List IndexEntry). Member e i ↔ Member e z) (sym (all_entries fs)) (s.index e);
+    index = λ e. subst (λ (z : List IndexEntry). Member e i.entries ↔ Member e z) (sym (all_entries fs)) (s.index e);
+    numbered = s.numbered;
+    deletions = λ t u k. s.deletions t u k ∙ sym (runs_same m same_deletions t u k fs);
     counts = now;
     undos = all_see fs (late_deletions h lawful fs s.filled s.cells) s.undos;
   }
 
-pub undo_stood : (h : History) (u : UndoOp) (w : List UndoEntry) (ts : List Lamport) (by : Lamport) (fs gs : List Fragment) (i j : List IndexEntry) → u.stamp ≡ by → Counts (Undo u) ts → Lawful h → answer h [] (Undo u) ≡ Good
+pub undo_stood : (h : History) (u : UndoOp) (w : List UndoEntry) (ts : List Lamport) (by : Lamport) (fs gs : List Fragment) (i j : IndexState) → u.stamp ≡ by → Counts (Undo u) ts → Lawful h → answer h [] (Undo u) ≡ Good
     → w ≡ undo_entries (h ++ Undo u ∷ []) → Stand fs i (undo_entries h) h → gs ≡ all_anew w by ts fs → j ≡ i → Stand gs j w (h ++ Undo u ∷ [])
 undo_stood h u w ts by fs gs i j e k l g n s p q =
     let a : Stand (all_anew w u.stamp ts fs) i w (h ++ Undo u ∷ []) = undo_stands h (Undo u) w ts l g refl n k fs i (undo_entries h) s in
     let b : Stand (all_anew w by ts fs) i w (h ++ Undo u ∷ []) = subst (λ (t : Lamport). Stand (all_anew w t ts fs) i w (h ++ Undo u ∷ [])) e a in
     let c : Stand gs i w (h ++ Undo u ∷ []) = subst (λ (z : List Fragment). Stand z i w (h ++ Undo u ∷ [])) (sym p) b in
-    subst (λ (z : List IndexEntry). Stand gs z w (h ++ Undo u ∷ [])) (sym q) c
+    subst (λ (z : IndexState). Stand gs z w (h ++ Undo u ∷ [])) (sym q) c

@@ -33,7 +33,7 @@ use Rattle.op_model.proofs.texts.Utf8Runs.{bytes, kept_bytes, Utf8, NewUtf8, wal
 use Rattle.op_model.proofs.texts.WholeTexts.{byte_of, byte_is, in_last, kept_told, new_text, of_boundary, bounds_of}
 use Rattle.undo_map.specs.declared.entry.UndoEntry.{UndoEntry}
 use Rattle.fragments.specs.declared.fragment.Fragment.{Fragment}
-use Rattle.fragments.specs.declared.index_entry.IndexEntry.{IndexEntry}
+use Rattle.fragments.specs.DeletedRuns.{IndexState}
 use Rattle.fragments.specs.Stand.{runs, Stand}
 use Rattle.remote_edit.specs.Marks.{marking}
 use Rattle.remote_edit.specs.Walk.{changes}
@@ -81,7 +81,7 @@ new_changing f m keep t nu whole g pre (p ∷ ps) k e l u = elim (cases_Bool (ch
   | inr c ↦ rw c (new_changing f m keep t nu whole g pre ps k (e ∙ ap (λ (x : List ℕ). pre ++ (x ++ texts ps)) (nil_from_length p.text (no_text p c))) l u.1)
 ]
 
-module _ (h : History) (op : Operation) (u : List UndoEntry) (fs : List Fragment) (i : List IndexEntry) (s : Stand fs i u h) (l : Lawful h) (g : answer h [] op ≡ Good) where
+module _ (h : History) (op : Operation) (u : List UndoEntry) (fs : List Fragment) (i : IndexState) (s : Stand fs i u h) (l : Lawful h) (g : answer h [] op ≡ Good) where
   abbrev next : History
   next = h ++ op ∷ []
 

@@ -1,5 +1,5 @@
 -- Fragments after an undo.
-use Rattle.std.specs.Prelude.{Bool, ◌&&◌, nat_le, if◌then◌else◌, List, ◌∷◌, map}
+use Rattle.std.specs.Prelude.{ℕ, suc, Bool, ◌&&◌, nat_le, if◌then◌else◌, List, [], ◌∷◌, map}
 use Rattle.std.specs.List.{list_any}
 use Rattle.lamport_clock.specs.declared.stamp.Lamport.{Lamport}
 use Rattle.lamport_clock.specs.Stamps.{same_stamp}
@@ -10,9 +10,7 @@ use Rattle.op_model.specs.Operations.{counts_of}
 use Rattle.op_model.specs.Sorted.{Member}
 use Rattle.undo_map.specs.declared.entry.UndoEntry.{UndoEntry}
 use Rattle.fragments.specs.declared.fragment.Fragment.{Fragment}
-use Rattle.remote_edit.specs.declared.moves.Move.{Move}
 use Rattle.remote_edit.specs.Marks.{is_shown}
-use Rattle.remote_edit.specs.Carried.{move_for}
 
 -- edit t, no earlier than the cells of the fragment, inserted them or deletes them
 abbrev pub concerns : Fragment → Lamport → Bool
@@ -34,11 +32,6 @@ recount w by f = record {
 abbrev pub anew : List UndoEntry → Lamport → List Lamport → Fragment → Fragment
 anew w by ts f = if list_any (concerns f) ts then recount w by f else f
 
--- the move of a fragment's bytes in an undo of the edits ts
-abbrev pub undo_move : List UndoEntry → List Lamport → Fragment → Move
-undo_move w ts f = move_for f.visible
-    (if list_any (concerns f) ts then is_shown w f.stamp f.deletions else f.visible) f.len
-
 -- all fragments after an undo of the edits ts
 abbrev pub all_anew : List UndoEntry → Lamport → List Lamport → List Fragment → List Fragment
 all_anew w by ts fs = map (anew w by ts) fs
@@ -46,3 +39,8 @@ all_anew w by ts fs = map (anew w by ts) fs
 -- the edits of an undo are among ts
 abbrev pub Counts : Operation → List Lamport → Type 0
 Counts op ts = (c : UndoCount) → Member c (counts_of op) → Member c.edit ts
+
+-- fragments of which those at some places are changed
+abbrev pub changed_at : (Fragment → Fragment) → (ℕ → Bool) → List Fragment → List Fragment
+changed_at m at [] = []
+changed_at m at (f ∷ fs) = (if at 0 then m f else f) ∷ changed_at m (λ i. at (suc i)) fs

@@ -21,3 +21,6 @@ pub mod Placing
 pub mod Costs
 pub mod Starts
 pub mod Fragments
+pub mod Finds
+pub mod FindLaws
+pub mod UndoMoves

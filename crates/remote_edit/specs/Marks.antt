@@ -7,6 +7,7 @@ use Rattle.op_model.specs.Facts.{Marking, with_deletion}
 use Rattle.undo_map.specs.declared.entry.UndoEntry.{UndoEntry}
 use Rattle.undo_map.specs.Counts.{count_of, count_seen, is_odd}
 use Rattle.fragments.specs.declared.fragment.Fragment.{Fragment}
+use Rattle.fragments.specs.DeletedRuns.{IndexState, delete_run}
 
 -- by undo counts w, a cell of edit u deleted by d was shown at v: u was not undone there, and each of d that v sees was
 abbrev pub was_shown : List UndoEntry → Entries → Lamport → List Lamport → Bool
@@ -41,3 +42,12 @@ mark w t v f = if was_shown w v f.stamp f.deletions
 abbrev pub touch : Option (List UndoEntry) → Lamport → Entries → Fragment → Fragment
 touch None t v f = f
 touch (Some w) t v f = mark w t v f
+
+-- an index after a fragment is marked, or passed
+abbrev pub mark_index : List UndoEntry → Lamport → Entries → Fragment → IndexState → IndexState
+mark_index w t v f x = if was_shown w v f.stamp f.deletions
+    then delete_run t f.stamp f.offset f.len x else x
+
+abbrev pub touch_index : Option (List UndoEntry) → Lamport → Entries → Fragment → IndexState → IndexState
+touch_index None t v f x = x
+touch_index (Some w) t v f x = mark_index w t v f x

@@ -12,7 +12,7 @@ use Rattle.op_model.specs.Lawful.{Lawful}
 use Rattle.undo_map.specs.declared.entry.UndoEntry.{UndoEntry}
 use Rattle.undo_map.specs.Undos.{undo_entries}
 use Rattle.fragments.specs.declared.fragment.Fragment.{Fragment}
-use Rattle.fragments.specs.declared.index_entry.IndexEntry.{IndexEntry}
+use Rattle.fragments.specs.DeletedRuns.{IndexState}
 use Rattle.fragments.specs.Stand.{Stand}
 use Rattle.remote_edit.specs.declared.moves.Move.{Move}
 use Rattle.remote_edit.specs.Carried.{AreMovesOf, KeepCharacters}
@@ -20,7 +20,7 @@ use Rattle.remote_edit.specs.Anew.{Counts}
 
 -- the fragments fs and the index w stand for the lawful history h, in which the undo u with stamp `by` is good; it
 -- counts only edits of ts, and us are the counts with it
-pub record MayMark (fs : List Fragment) (w : List IndexEntry) (us : List UndoEntry) (by : Lamport)
+pub record MayMark (fs : List Fragment) (w : IndexState) (us : List UndoEntry) (by : Lamport)
     (ts : List Lamport) (h : History) (u : UndoOp) : Type 0 where
   pub stamp : u.stamp ≡ by
   pub counts : Counts (Undo u) ts
@@ -30,17 +30,17 @@ pub record MayMark (fs : List Fragment) (w : List IndexEntry) (us : List UndoEnt
   pub stands : Stand fs w (undo_entries h) h
 
 -- the fragments gs and the index x stand for each such history with the undo
-abbrev pub StandWithUndo : List Fragment → List IndexEntry → List UndoEntry → Lamport → List Lamport
-    → List Fragment → List IndexEntry → Type 0
+abbrev pub StandWithUndo : List Fragment → IndexState → List UndoEntry → Lamport → List Lamport
+    → List Fragment → IndexState → Type 0
 StandWithUndo fs w us by ts gs x = (h : History) → (u : UndoOp) → MayMark fs w us by ts h u
     → Stand gs x us (h ++ Undo u ∷ [])
 
 -- the moves take the texts of each such history to those of it with the undo
-abbrev pub MoveWithUndo : List Fragment → List IndexEntry → List UndoEntry → Lamport → List Lamport → List Move → Type 0
+abbrev pub MoveWithUndo : List Fragment → IndexState → List UndoEntry → Lamport → List Lamport → List Move → Type 0
 MoveWithUndo fs w us by ts ms = (h : History) → (u : UndoOp) → MayMark fs w us by ts h u → AreMovesOf ms h (Undo u)
 
 -- if the texts of such a history are UTF-8, whole fragments stay whole and the moves take whole characters
-abbrev pub KeepCharactersWithUndo : List Fragment → List IndexEntry → List UndoEntry → Lamport
+abbrev pub KeepCharactersWithUndo : List Fragment → IndexState → List UndoEntry → Lamport
     → List Lamport → List Fragment → List Move → Type 0
 KeepCharactersWithUndo fs w us by ts gs ms = (h : History) → (u : UndoOp)
     → MayMark fs w us by ts h u → AllByRecursion IsProper h → KeepCharacters fs gs ms h (Undo u)

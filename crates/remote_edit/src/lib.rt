@@ -2,8 +2,8 @@
 #![tactic(auto)]
 
 mod among;
+mod by_index;
 mod edit_moves;
-mod finding;
 mod gather;
 mod laws;
 mod mark;

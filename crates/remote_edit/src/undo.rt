@@ -1,5 +1,5 @@
 //! The fragments that an undo shows and hides.
-ghost use Rattle.std.specs.Prelude.{◌≡◌, ◌+◌, ◌≤◌, ◌∷◌, [], Some, length, slice_get, IfOk, OnOk};
+ghost use Rattle.std.specs.Prelude.{◌≡◌, ◌+◌, ◌≤◌, ◌∷◌, [], Some, false, length, slice_get, IfOk, OnOk};
 ghost use Rattle.std.specs.List.{list_any, list_all};
 ghost use Rattle.sum_tree.specs.Laws.{fold};
 ghost use Rattle.sum_tree.specs.Spliced.{splice_list};
@@ -7,11 +7,11 @@ ghost use Rattle.lamport_clock.specs.Stamps.{same_stamp};
 ghost use Rattle.undo_map.specs.Counts.{count_of, is_odd};
 ghost use Rattle.fragments.specs.Summaries.{no_fragments, summaries, summary_of, SummaryFits};
 ghost use Rattle.remote_edit.specs.Marks.{is_shown};
-ghost use Rattle.remote_edit.specs.Concern.{begins_by, may_concern};
-ghost use Rattle.remote_edit.specs.Anew.{concerns, recount, anew, all_anew};
+ghost use Rattle.remote_edit.specs.Anew.{concerns, recount, anew, all_anew, changed_at};
+ghost use Rattle.remote_edit.specs.Finds.{IsFound, is_place};
 ghost use Rattle.remote_edit.specs.Undoing.{StandWithUndo, MoveWithUndo, KeepCharactersWithUndo};
 
-use crate::finding::places_of;
+use crate::by_index::places_of;
 use crate::undo_moves::undo_moves;
 use crate::{OutOfMemory, Placed};
 use fragments::{Fragment, InsertionIndex};
@@ -105,7 +105,9 @@ fn put_anew(
     by: Lamport,
     edits: &[Lamport],
 ) -> Result<(), OutOfMemory>
-    requires stands { slice_get fragments.old.items i ≡ Some fragment.now }
+    requires within { i + 1 ≤ length fragments.old.items }
+    requires stands { list_any (concerns fragment.now) edits.now ≡ false
+        → slice_get fragments.old.items i ≡ Some fragment.now }
     requires fits { SummaryFits (fold no_fragments summaries summary_of
         (splice_list i (i + 1)
         (anew undos.now by edits.now fragment.now ∷ []) fragments.old.items)) }
@@ -130,7 +132,7 @@ fn with_undo(
     edits: &[Lamport],
 ) -> Result<SumTree<Fragment>, OutOfMemory>
     ensures { IfOk result (λ t. t.items
-        ≡ some_anew (anew undos.now by edits.now) (is_place places.now) tree.now.items) }
+        ≡ changed_at (anew undos.now by edits.now) (is_place places.now) tree.now.items) }
 {
     tree.known();
     let mut fragments = tree.share()?;

@@ -1,12 +1,12 @@
 //! The moves that an undo makes in the shown and the hidden text.
 ghost use Rattle.std.specs.Prelude.{◌≡◌, IfOk};
 ghost use Rattle.remote_edit.specs.Among.{moves_among};
-ghost use Rattle.remote_edit.specs.Anew.{was_visible, undo_move};
+ghost use Rattle.remote_edit.specs.UndoMoves.{was_visible, undo_move};
 ghost use Rattle.remote_edit.specs.Concern.{sees_edit};
 
 use crate::among::{Change, moves_among};
+use crate::by_index::fragment_from;
 use crate::edit_moves::SeesEdit;
-use crate::finding::fragment_from;
 use crate::{Move, Moves, OutOfMemory};
 use fragments::Fragment;
 use lamport_clock::Lamport;
@@ -17,9 +17,9 @@ use sum_tree::SumTree;
 fn was_visible(tree: &SumTree<Fragment>, fragment: &Fragment) -> bool
     ensures { result ≡ was_visible tree.now.items fragment.now }
 {
-    match fragment_from(tree, &fragment.id) {
+    match fragment_from(tree, &fragment.id).0 {
         None => fragment.visible,
-        Some((_place, before)) => before.visible,
+        Some(before) => before.visible,
     }
 }
 
@@ -30,7 +30,7 @@ struct Undoing<'u> {
 }
 
 impl<'u> Change for Undoing<'u> {
-    ghost use Rattle.remote_edit.specs.Anew.{undo_move};
+    ghost use Rattle.remote_edit.specs.UndoMoves.{undo_move};
 
     ghost does = { λ u f. undo_move u.tree.now.items f };
 
@@ -54,5 +54,10 @@ pub(crate) fn undo_moves(
     ensures { IfOk result (λ ms. ms
         ≡ moves_among (sees_edit by) (undo_move before.now.items) after.now.items) }
 {
-    moves_among(alloc, after, &SeesEdit { edit: by }, &Undoing { tree: before })
+    moves_among(
+        alloc,
+        after,
+        &SeesEdit { edit: by },
+        &Undoing { tree: before },
+    )
 }

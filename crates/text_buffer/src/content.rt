@@ -4,8 +4,8 @@ ghost use Rattle.std.specs.List.{AllByRecursion};
 ghost use Rattle.locators.specs.Locator.{IsLess, EndsAboveZero, between_digits, least_digits, greatest_digits};
 ghost use Rattle.op_model.specs.Histories.{History, base};
 ghost use Rattle.op_model.specs.Walked.{IsWhole};
-ghost use Rattle.fragments.specs.Laws.{whole_base};
-ghost use Rattle.fragments.specs.Stand.{Stand, entry_of, runs};
+ghost use Rattle.fragments.specs.Laws.{whole_base, index_of_one};
+ghost use Rattle.fragments.specs.Stand.{Stand, runs};
 ghost use Rattle.remote_edit.specs.Fragments.{fragments_of};
 ghost use Rattle.text_buffer.specs.Document.{IsContent};
 
@@ -121,7 +121,7 @@ fn base_fragments(
 
 // The index of one fragment.
 fn index_one(alloc: Global, fragment: &Fragment) -> Result<InsertionIndex, OutOfMemory>
-    ensures { IfOk result (λ w. w ≡ entry_of fragment.now ∷ []) }
+    ensures { IfOk result (λ w. w ≡ index_of_one fragment.now) }
 {
     let id = fragment.id.copy(alloc)?;
     let mut index = InsertionIndex::new(alloc)?;

@@ -6,5 +6,5 @@ use Rattle.buffer_tests.proofs.trees.keep.Goals as goal
 pub add-requires : goal.add-requires
 add-requires c =
     let e : IndexEntry = record { stamp = c.args.at; offset = c.args.offset; id = c.args.id } in
-    let l = with_entry_long e c.args.index.now in
+    let l = with_entry_long e c.args.index.now.entries in
     omega (arith, l)

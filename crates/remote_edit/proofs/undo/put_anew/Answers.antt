@@ -1,6 +1,5 @@
-use Rattle.std.proofs.Common.{◌≡◌, ◌∙◌, ◌+◌, sym, subst, arith, [], ◌∷◌}
+use Rattle.std.proofs.Common.{◌≡◌, ◌∙◌, ◌+◌, sym, subst, [], ◌∷◌}
 use Rattle.std.specs.Prelude.{OnOk}
-use Rattle.std.proofs.lemmas.Option.{slice_get_within}
 use Rattle.sum_tree.specs.Laws.{fold}
 use Rattle.sum_tree.specs.Spliced.{splice_list}
 use Rattle.sum_tree.proofs.Lists.{spliced_self}
@@ -10,10 +9,9 @@ use Rattle.remote_edit.proofs.Anew.{concerned, unconcerned}
 use Rattle.remote_edit.proofs.undo.put_anew.Goals as goal
 
 pub returns-then-not-is_concerned : goal.returns-then-not-is_concerned
-returns-then-not-is_concerned c = spliced_self c.args.i c.args.fragments.now.items c.args.fragment.now _ c.requires.stands (unconcerned c.args.undos.now c.args.by c.args.edits.now c.args.fragment.now (sym c.is_concerned.ensures ∙ c.if-not-is_concerned.true))
-
-pub replace-requires-clause-within : goal.replace-requires-clause-within
-replace-requires-clause-within c = let l = slice_get_within c.args.fragments.now.items c.args.i c.args.fragment.now c.requires.stands in omega (arith, l)
+returns-then-not-is_concerned c =
+    let n = sym c.is_concerned.ensures ∙ c.if-not-is_concerned.true in
+    spliced_self c.args.i c.args.fragments.now.items c.args.fragment.now _ (c.requires.stands n) (unconcerned c.args.undos.now c.args.by c.args.edits.now c.args.fragment.now n)
 
 pub replace-requires-clause-fits : goal.replace-requires-clause-fits
 replace-requires-clause-fits c = subst (λ (f : Fragment). SummaryFits (fold no_fragments summaries summary_of (splice_list c.args.i (c.args.i + 1) (f ∷ []) c.args.fragments.now.items))) (concerned c.args.undos.now c.args.by c.args.edits.now c.args.fragment.now (sym c.is_concerned.ensures ∙ c.if-not-is_concerned.false) ∙ sym c.in_ok-one.ensures) c.requires.fits

@@ -1,5 +1,7 @@
-use Rattle.std.proofs.Common.{◌≡◌, ◌∙◌, sym, arith, true, false}
+use Rattle.std.proofs.Common.{◌≡◌, ◌∙◌, ◌++◌, ◌∷◌, [], refl, ap, sym, arith, true, false}
 use Rattle.std.specs.Option.{option_copied}
+use Rattle.fragments.specs.declared.fragment.Fragment.{Fragment}
+use Rattle.remote_edit.specs.Marks.{touch, touch_index}
 use Rattle.remote_edit.specs.Gathers.{so_far, ahead}
 use Rattle.remote_edit.proofs.Gathers.{room_of, some_len}
 use Rattle.remote_edit.proofs.Intake.{next_seen, few_none, few_whole, few_split}
@@ -64,19 +66,19 @@ overflow_add-self-2 c =
     let s = c.args.self.now in
     let xs = c.args.tree.now.items in
     let k = room_of c.args.edit.now.version (so_far xs s) (ahead xs s) c.in-Some.first.now s.place c.requires.fit c.requires.place c.in-Some.ensures in
-    omega (arith, k.0, k.1, c.in_ok-go_on.ensures.place)
+    omega (arith, k.0, k.1, c.in_ok-touch_next.ensures.place)
 
 pub returns-clause-passed : goal.returns-clause-passed
 returns-clause-passed c =
-    let g = c.in_ok-go_on.ensures in
-    whole_passed c.args.edit.now c.args.tree.now.items c.args.self.now c.in-Some.first.now c.in-Some.ensures c.go_on.new.self
-    (option_copied c.args.marks) c.args.left c.requires.some c.requires.fit c.in_ok-whole.whole c.in_ok-whole.ensures g.from g.made g.rest c.if-left-len.false (sym c.sees.ensures ∙ c.if-not-sees.false) c.requires.place g.place
+    let g = c.in_ok-touch_next.ensures in
+    whole_passed c.args.edit.now c.args.tree.now.items c.args.self.now c.in-Some.first.now c.in-Some.ensures c.touch_next.new.self
+    (option_copied c.args.marks) c.args.left c.requires.some c.requires.fit (touch (option_copied c.args.marks) c.args.edit.now.stamp c.args.edit.now.version c.in-Some.first.now) refl g.from (g.made ∙ ap (λ (z : Fragment). c.args.self.now.made.items ++ touch (option_copied c.args.marks) c.args.edit.now.stamp c.args.edit.now.version z ∷ []) c.in_ok-whole.ensures) g.rest c.if-left-len.false (sym c.sees.ensures ∙ c.if-not-sees.false) c.requires.place g.place
 
 pub returns-clause-indexed : goal.returns-clause-indexed
 returns-clause-indexed c =
-    let g = c.in_ok-go_on.ensures in
-    whole_indexed c.args.edit.now c.args.tree.now.items c.args.self.now c.in-Some.first.now c.in-Some.ensures c.go_on.new.self
-    (option_copied c.args.marks) c.args.left c.requires.some c.requires.fit c.in_ok-whole.whole c.in_ok-whole.ensures g.from g.made g.rest g.number g.index c.requires.indexed
+    let g = c.in_ok-touch_next.ensures in
+    whole_indexed c.args.edit.now c.args.tree.now.items c.args.self.now c.in-Some.first.now c.in-Some.ensures c.touch_next.new.self
+    (option_copied c.args.marks) c.args.left c.requires.some c.requires.fit (touch (option_copied c.args.marks) c.args.edit.now.stamp c.args.edit.now.version c.in-Some.first.now) refl g.from (g.made ∙ ap (λ (z : Fragment). c.args.self.now.made.items ++ touch (option_copied c.args.marks) c.args.edit.now.stamp c.args.edit.now.version z ∷ []) c.in_ok-whole.ensures) g.rest g.number (g.index ∙ ap (λ (z : Fragment). touch_index (option_copied c.args.marks) c.args.edit.now.stamp c.args.edit.now.version z c.args.self.now.index) c.in_ok-whole.ensures) c.requires.indexed
 
 pub returns-in_default-clause-few : goal.returns-in_default-clause-few
 returns-in_default-clause-few c = λ a. few_none c.args.edit.now.version c.args.tree.now.items c.args.self.now c.args.left a c.in_default.ensures
@@ -96,5 +98,5 @@ returns-clause-few c = λ a.
     let s = c.args.self.now in
     let xs = c.args.tree.now.items in
     let f = c.in-Some.first.now in
-    let g = c.in_ok-go_on.ensures in
+    let g = c.in_ok-touch_next.ensures in
     few_whole c.args.edit.now.version xs s _ f c.args.left a c.in-Some.ensures (some_len (so_far xs s) (ahead xs s) f c.requires.fit c.in-Some.ensures) c.requires.some c.if-left-len.false g.rest g.none g.count

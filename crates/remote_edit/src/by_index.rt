@@ -1,9 +1,11 @@
 //! The fragments whose cells an edit inserted or deleted, found by the index.
-ghost use Rattle.std.specs.Prelude.{◌≡◌, ◌<◌, ◌++◌, length, IfOk, OnOk};
+ghost use Rattle.std.specs.Prelude.{◌≡◌, slice_get, IfOk, OnOk};
 ghost use Rattle.std.specs.Option.{option_copied};
+ghost use Rattle.std.specs.List.{AllByRecursion};
+ghost use Rattle.remote_edit.specs.Finds.{IsFound, place_from, place_of, HaveAll, HaveCells, HaveRun, HaveConcerned};
 
 use crate::OutOfMemory;
-use fragments::{Fragment, FragmentSummary, Full, InsertionIndex};
+use fragments::{DeletedRun, Fragment, FragmentSummary, Full, InsertionIndex};
 use lamport_clock::Lamport;
 use locators::Locator;
 use std::alloc::Global;
@@ -32,20 +34,21 @@ impl<'i> Keep<FragmentSummary> for FromId<'i> {
     }
 }
 
-/// The first fragment whose id is not less than this one, and its index: if ids ascend, the fragment with this id. One
-/// descent. Does not allocate.
-pub fn fragment_from<'a>(
-    tree: &'a SumTree<Fragment>,
-    id: &Locator,
-) -> Option<(u64, &'a Fragment)> {
+/// The first fragment whose id is not less than this one, if there is one, and its index, or else the number of
+/// fragments: if ids ascend, the fragment with this id. One descent. Does not allocate.
+pub fn fragment_from<'a>(tree: &'a SumTree<Fragment>, id: &Locator) -> (Option<&'a Fragment>, u64)
+    ensures fragment { option_copied result.0
+        ≡ slice_get tree.now.items (place_from id.now tree.now.items) }
+    ensures place { result.1 ≡ place_from id.now tree.now.items }
+{
     tree.known();
     let Ok(mut found) = FilterCursor::new(tree, Full { bytes: 0 }, FromId { id }) else {
         unreachable!()
     };
-    let Ok(Some(fragment)) = found.next() else {
-        return None;
+    let Ok(fragment) = found.next() else {
+        unreachable!()
     };
-    Some((found.index(), fragment))
+    (fragment, found.index())
 }
 
 // The index of the fragment that the index has for a cell, and the number of its first cell.
@@ -54,9 +57,12 @@ fn place_of(
     index: &InsertionIndex,
     stamp: Lamport,
     cell: u64,
-) -> Option<(u64, u64)> {
+) -> Option<(u64, u64)>
+    ensures { result ≡ place_of stamp cell index.now.entries tree.now.items }
+{
     let id = index.find(stamp, cell)?;
-    let (place, fragment) = fragment_from(tree, id)?;
+    let (found, place) = fragment_from(tree, id);
+    let fragment = found?;
     Some((place, fragment.offset))
 }
 
@@ -68,7 +74,11 @@ fn find_cells(
     stamp: Lamport,
     from: u64,
     last: u64,
-) -> Result<(), OutOfMemory> {
+) -> Result<(), OutOfMemory>
+    ensures kept { OnOk result (HaveAll places.old.items places.new.items) }
+    ensures found { IsFound tree.now.items index.now
+        → OnOk result (HaveCells tree.now.items stamp from last places.new.items) }
+{
     let mut cell = last;
     while let Some((place, first)) = place_of(tree, index, stamp, cell) {
         places.push(place)?;
@@ -87,14 +97,32 @@ fn find_edit(
     tree: &SumTree<Fragment>,
     index: &InsertionIndex,
     edit: Lamport,
-) -> Result<(), OutOfMemory> {
+) -> Result<(), OutOfMemory>
+    ensures kept { OnOk result (HaveAll places.old.items places.new.items) }
+    ensures found { IsFound tree.now.items index.now
+        → OnOk result (HaveConcerned tree.now.items edit places.new.items) }
+{
     find_cells(places, tree, index, edit, 0, u64::MAX)?;
     let runs = index.deleted_by(alloc, edit)?;
     for run in &runs {
-        let last = run.offset.saturating_add(run.len.saturating_sub(1));
-        find_cells(places, tree, index, run.stamp, run.offset, last)?;
+        find_run(places, tree, index, run)?;
     }
     Ok(())
+}
+
+// Adds the places of the fragments that have cells of a run.
+fn find_run(
+    places: &mut Vec<u64>,
+    tree: &SumTree<Fragment>,
+    index: &InsertionIndex,
+    run: &DeletedRun,
+) -> Result<(), OutOfMemory>
+    ensures kept { OnOk result (HaveAll places.old.items places.new.items) }
+    ensures found { IsFound tree.now.items index.now
+        → OnOk result (HaveRun tree.now.items run.now places.new.items) }
+{
+    let last = run.offset.saturating_add(run.len.saturating_sub(1));
+    find_cells(places, tree, index, run.stamp, run.offset, last)
 }
 
 /// The places of the fragments that have cells which one of the edits inserted or deleted, in any order. One descent of
@@ -108,7 +136,10 @@ pub fn places_of(
     tree: &SumTree<Fragment>,
     index: &InsertionIndex,
     edits: &[Lamport],
-) -> Result<Vec<u64>, OutOfMemory> {
+) -> Result<Vec<u64>, OutOfMemory>
+    ensures { IsFound tree.now.items index.now → IfOk result (λ ps. AllByRecursion
+        (λ t. HaveConcerned tree.now.items t ps.items) edits.now) }
+{
     let mut places = Vec::new(alloc);
     for edit in edits {
         find_edit(&mut places, alloc, tree, index, *edit)?;

@@ -1,0 +1,12 @@
+use Rattle.std.proofs.Common.{◌≡◌, ◌-◌, ◌^◌, take}
+use Rattle.std.specs.List.{AllByRecursion}
+use Rattle.fragments.specs.declared.deleted_run.DeletedRun.{DeletedRun}
+use Rattle.remote_edit.specs.Finds.{IsFound, HaveAll, HaveCells, HaveRun}
+use Rattle.remote_edit.proofs.by_index.find_edit.Given as goal
+
+abbrev pub invariant-loop-run : goal.invariant-loop-run
+invariant-loop-run l = record {
+  kept : HaveAll l.initial.places.items l.places.items;
+  cells : IsFound l.tree.items l.index → HaveCells l.tree.items l.edit 0 (2 ^ 64 - 1) l.places.items;
+  runs : IsFound l.tree.items l.index → AllByRecursion (λ (r : DeletedRun). HaveRun l.tree.items r l.places.items) (take l.run-index l.run-items);
+}
