@@ -1,5 +1,5 @@
 //! The fragments that an undo shows and hides.
-ghost use Rattle.std.specs.Prelude.{◌≡◌, ◌+◌, ◌≤◌, ◌∷◌, [], Some, false, length, slice_get, IfOk, OnOk};
+ghost use Rattle.std.specs.Prelude.{ℕ, List, ◌≡◌, ◌+◌, ◌≤◌, ◌∷◌, [], Some, false, length, slice_get, IfOk, OnOk};
 ghost use Rattle.std.specs.List.{list_any, list_all};
 ghost use Rattle.sum_tree.specs.Laws.{fold};
 ghost use Rattle.sum_tree.specs.Spliced.{splice_list};
@@ -162,6 +162,8 @@ pub fn mark_undo(
     by: Lamport,
     edits: &[Lamport],
 ) -> Result<Placed, OutOfMemory>
+    ensures either { IfOk result (λ p. (ps : List ℕ) × (p.fragments.items
+        ≡ changed_at (anew undos.now by edits.now) (is_place ps) tree.now.items)) }
     ensures fragments { IsFound tree.now.items index.now → IfOk result (λ p. p.fragments.items
         ≡ all_anew undos.now by edits.now tree.now.items) }
     ensures index { IfOk result (λ p. p.index ≡ index.now) }
