@@ -3,8 +3,8 @@ use crate::operations::{Stamp, stamp, stamps};
 use crate::places::index_of;
 use crate::runs::{Run, tree_of};
 use crate::undo_counts::{Count, map_of};
-use fragments::{Fragment, OutOfMemory};
-use remote_edit::{Move, Placed, mark_undo};
+use fragments::{Fragment, InsertionIndex, OutOfMemory};
+use remote_edit::{Move, Placed, mark_undo, mark_undo_by_index};
 use std::alloc::Global;
 use sum_tree::SumTree;
 use undo_map::UndoMap;
@@ -219,8 +219,15 @@ fn is_as_wanted(alloc: Global, placed: &Placed, row: &Row) -> Result<bool, OutOf
 fn place(alloc: Global, row: &Row, undos: &UndoMap) -> Result<Placed, OutOfMemory> {
     let tree = tree_of(alloc, row.runs, 1)?;
     let edits = stamps(alloc, row.edits)?;
-    let index = index_of(alloc, &tree)?;
+    let index = InsertionIndex::new(alloc)?;
     mark_undo(alloc, &tree, &index, undos, stamp(row.by), &edits)
+}
+
+fn place_by_index(alloc: Global, row: &Row, undos: &UndoMap) -> Result<Placed, OutOfMemory> {
+    let tree = tree_of(alloc, row.runs, 1)?;
+    let edits = stamps(alloc, row.edits)?;
+    let index = index_of(alloc, &tree)?;
+    mark_undo_by_index(alloc, &tree, &index, undos, stamp(row.by), &edits)
 }
 
 // Whether the undo of a row leaves what is wanted, among its fragments and with its counts.
@@ -230,11 +237,18 @@ fn undoes(alloc: Global, row: &Row) -> Result<bool, OutOfMemory> {
     is_as_wanted(alloc, &placed, row)
 }
 
+// The same of the undo that finds the fragments by an index of them.
+fn undoes_by_index(alloc: Global, row: &Row) -> Result<bool, OutOfMemory> {
+    let undos = map_of(alloc, row.counts)?;
+    let placed = place_by_index(alloc, row, &undos)?;
+    is_as_wanted(alloc, &placed, row)
+}
+
 #[test]
 fn undos_show_and_hide_by_the_counts(rt: HostRuntime) -> Result<(), OutOfMemory> {
     for (i, row) in ROWS.iter().enumerate() {
         assert!(rt;
-            undoes(rt.alloc(), row)?,
+            undoes(rt.alloc(), row)? && undoes_by_index(rt.alloc(), row)?,
             "row {i}, where {} is shown",
             row.text
         );

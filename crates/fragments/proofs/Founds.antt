@@ -186,7 +186,7 @@ base_stands = (
     ascending = λ i j d l m. absurd (omega arith);
     index = λ e. (λ m. m, λ m. m);
     numbered = none_numbered;
-    deletions = λ s u k. sym (none_once (has_number u k (whole_base id t)));
+    deletions = λ l s u k. sym (none_once (has_number u k (whole_base id t)));
     counts = refl;
     undos = ((λ op m c n k. absurd (none op t m c n)), tt);
   },
@@ -197,7 +197,7 @@ base_stands = (
     ascending = λ i j d l m. absurd (omega arith);
     index = λ e. (λ m. m, λ m. m);
     numbered = none_numbered;
-    deletions = λ s u k. refl;
+    deletions = λ l s u k. refl;
     counts = refl;
     undos = tt;
   },

@@ -23,7 +23,7 @@ use Rattle.locators.proofs.Between.{nat_cmp-below, nat_cmp-Less}
 use Rattle.fragments.specs.declared.index_entry.IndexKey.{IndexKey}
 use Rattle.fragments.specs.declared.deleted_run.DeletedRun.{DeletedRun}
 use Rattle.fragments.specs.Index.{key_cmp, key_order}
-use Rattle.fragments.specs.DeletedRuns.{run_key, AreNumbered, with_run, is_run_of, is_below, has_deleted, run_count, run_from}
+use Rattle.fragments.specs.DeletedRuns.{run_key, AreNumbered, few_runs, with_run, keep_run, is_run_of, is_below, has_deleted, run_count, run_from}
 use Rattle.fragments.proofs.Entries.{key_is}
 use Rattle.fragments.proofs.Searching.{less, order, move, at, same_edit, then_less, later_of}
 
@@ -115,6 +115,19 @@ numbered_more u z o n rs a =
           (each_filter (λ (r : DeletedRun). r.number < length (with_run u z o n rs)) (λ y. is_lt (key_cmp (run_key y) (run_key x))) rs low)
           (omega (arith, l), each_filter (λ (r : DeletedRun). r.number < length (with_run u z o n rs)) (λ y. is_gt (key_cmp (run_key y) (run_key x))) rs low);
     }
+
+-- if there is room for more than the runs that are kept, all of them are
+pub all_kept : (u z : Lamport) (o n : ℕ) (rs : List DeletedRun) → few_runs (keep_run u z o n rs) ≡ true → (few_runs rs ≡ true) × (keep_run u z o n rs ≡ with_run u z o n rs)
+all_kept u z o n rs h = elim (cases_Bool (few_runs rs)) [
+  | inl e ↦ (e, ap (λ (b : Bool). cond b (with_run u z o n rs) rs) e)
+  | inr e ↦ absurd (both_ways _ e (sym (ap (λ (b : Bool). few_runs (cond b (with_run u z o n rs) rs)) e) ∙ h))
+]
+
+pub numbered_kept : (u z : Lamport) (o n : ℕ) (rs : List DeletedRun) → AreNumbered rs → AreNumbered (keep_run u z o n rs)
+numbered_kept u z o n rs a = elim (cases_Bool (few_runs rs)) [
+  | inl e ↦ subst AreNumbered (sym (ap (λ (b : Bool). cond b (with_run u z o n rs) rs) e)) (numbered_more u z o n rs a)
+  | inr e ↦ subst AreNumbered (sym (ap (λ (b : Bool). cond b (with_run u z o n rs) rs) e)) a
+]
 
 pub none_numbered : AreNumbered []
 none_numbered = record { ascending = λ i j d l m. absurd (omega arith); below = tt }

@@ -1,5 +1,5 @@
 -- The runs of cells that edits deleted, and what contracts see of an index.
-use Rattle.std.specs.Prelude.{◌≡◌, ℕ, ◌+◌, ◌<◌, nat_le, nat_lt, Bool, ◌&&◌, if◌then◌else◌, List, [], ◌∷◌, length, Option, Some, None}
+use Rattle.std.specs.Prelude.{◌≡◌, ℕ, ◌+◌, ◌^◌, ◌<◌, nat_le, nat_lt, Bool, true, ◌&&◌, if◌then◌else◌, List, [], ◌∷◌, length, Option, Some, None}
 use Rattle.std.specs.List.{AllByRecursion}
 use Rattle.sum_tree.specs.Keyed.{Ascending, insert_item}
 use Rattle.tree_cursor.specs.Keys.{cmp_less}
@@ -24,6 +24,14 @@ abbrev pub with_run : Lamport → Lamport → ℕ → ℕ → List DeletedRun �
 with_run t s k n rs = insert_item key_cmp run_key
     (record { edit = t; number = length rs; stamp = s; offset = k; len = n }) rs
 
+-- fewer than 2^40 runs, the most that an index keeps
+abbrev pub few_runs : List DeletedRun → Bool
+few_runs rs = nat_lt (length rs) (2 ^ 40)
+
+-- runs with one more, if an index keeps one more
+abbrev pub keep_run : Lamport → Lamport → ℕ → ℕ → List DeletedRun → List DeletedRun
+keep_run t s k n rs = if few_runs rs then with_run t s k n rs else rs
+
 -- edit t deleted the run
 abbrev pub is_run_of : Lamport → DeletedRun → Bool
 is_run_of t r = same_stamp r.edit t
@@ -39,7 +47,7 @@ abbrev pub with_insertion : IndexEntry → IndexState → IndexState
 with_insertion e x = record { entries = with_entry e x.entries; deletions = x.deletions }
 
 abbrev pub delete_run : Lamport → Lamport → ℕ → ℕ → IndexState → IndexState
-delete_run t s k n x = record { entries = x.entries; deletions = with_run t s k n x.deletions }
+delete_run t s k n x = record { entries = x.entries; deletions = keep_run t s k n x.deletions }
 
 -- ---- what runs say of cells
 
@@ -67,9 +75,9 @@ deletion_count t s k [] = 0
 deletion_count t s k (f ∷ fs) = (if has_cell s k f then times_in t f.deletions else 0)
     + deletion_count t s k fs
 
--- each cell is in one run of each edit that deletes it, and in no other run
+-- if there are fewer runs than an index keeps, each cell is in one run of each edit that deletes it, and in no other
 abbrev pub AreRunsOf : List Fragment → List DeletedRun → Type 0
-AreRunsOf fs rs = (t s : Lamport) → (k : ℕ) → run_count t s k rs ≡ deletion_count t s k fs
+AreRunsOf fs rs = few_runs rs ≡ true → (t s : Lamport) → (k : ℕ) → run_count t s k rs ≡ deletion_count t s k fs
 
 -- ---- for private clauses
 

@@ -4,7 +4,7 @@ ghost use Rattle.std.specs.Option.{option_copied};
 ghost use Rattle.std.specs.List.{filter, find};
 ghost use Rattle.fragments.specs.declared.index_entry.IndexEntry.{IndexEntry};
 ghost use Rattle.fragments.specs.Index.{with_entry, id_for, first_from};
-ghost use Rattle.fragments.specs.DeletedRuns.{AreNumbered, with_insertion, delete_run, is_run_of, is_below, run_from};
+ghost use Rattle.fragments.specs.DeletedRuns.{AreNumbered, few_runs, with_insertion, delete_run, is_run_of, is_below, run_from};
 
 use crate::OutOfMemory;
 use crate::deleted_run::DeletedRun;
@@ -17,7 +17,7 @@ use std::marker::Model;
 use sum_tree::SumTree;
 use tree_cursor::{Bias, Greatest, look_up};
 
-// The greatest number of items of a tree.
+// The most runs that an index keeps, as many as a tree has items.
 const MOST_RUNS: u64 = 1 << 40;
 
 /// The ids of fragments, by the cell that each begins with, and the runs of cells that edits deleted. Contracts see the
@@ -109,13 +109,12 @@ impl InsertionIndex {
         None
     }
 
-    /// Adds a run of `len` cells of the edit `stamp`, from its cell `offset` on, that the edit `edit` deleted. O(log n)
-    /// in the number of runs.
+    /// Adds a run of `len` cells of the edit `stamp`, from its cell `offset` on, that the edit `edit` deleted. An index
+    /// that has 2^40 runs stays as it is: `has_all_runs` then says that some may lack. O(log n) in the number of runs.
     ///
     /// # Errors
     ///
-    /// Fails only if an allocation fails, or if there are 2^40 runs, which take more memory than there is. The index
-    /// is then as before.
+    /// Fails only if an allocation fails. The index is then as before.
     pub fn add_deleted(
         &mut self,
         alloc: Global,
@@ -129,7 +128,7 @@ impl InsertionIndex {
     {
         let number = self.deletions.len();
         if number >= MOST_RUNS {
-            return Err(OutOfMemory);
+            return Ok(());
         }
         let run = DeletedRun {
             edit,
@@ -140,6 +139,14 @@ impl InsertionIndex {
         };
         self.deletions.insert(alloc, run)?;
         Ok(())
+    }
+
+    /// Whether the index has every run that was added to it: it has fewer than 2^40, the most that it keeps. O(1), does
+    /// not allocate.
+    pub fn has_all_runs(&self) -> bool
+        ensures { result ≡ few_runs self.now.deletions }
+    {
+        self.deletions.len() < MOST_RUNS
     }
 
     /// The runs of cells that an edit deleted, the last one added first. O(k log n) for k runs among n.

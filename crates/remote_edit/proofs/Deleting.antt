@@ -8,8 +8,8 @@ use Rattle.op_model.specs.Facts.{with_deletion, stamp_first}
 use Rattle.undo_map.specs.declared.entry.UndoEntry.{UndoEntry}
 use Rattle.fragments.specs.declared.fragment.Fragment.{Fragment}
 use Rattle.fragments.specs.declared.deleted_run.DeletedRun.{DeletedRun}
-use Rattle.fragments.specs.DeletedRuns.{IndexState, AreNumbered, AreRunsOf, with_run, delete_run, run_count, has_cell, times_in, deletion_count}
-use Rattle.fragments.proofs.Runs.{one_run, run_added, numbered_more}
+use Rattle.fragments.specs.DeletedRuns.{IndexState, AreNumbered, AreRunsOf, with_run, keep_run, delete_run, run_count, has_cell, times_in, deletion_count}
+use Rattle.fragments.proofs.Runs.{one_run, run_added, all_kept, numbered_kept}
 use Rattle.fragments.proofs.Deletions.{one_deletion, deletion_append, deletion_mid}
 use Rattle.remote_edit.specs.Marks.{was_shown, mark, touch, mark_index, touch_index}
 use Rattle.remote_edit.specs.Walk.{front, back, new_fragment}
@@ -74,9 +74,9 @@ split_deletions t s k n id f l = elim (cases_Bool (same_stamp f.stamp s)) [
     go (inr (a, inr d)) (inr (b, inr g)) (inl c) = let x = c.2 in absurd (omega (arith, x, g, l))
 
 pub runs_split : (pre r : List Fragment) (f : Fragment) (n : ℕ) (id : List ℕ) (rs : List DeletedRun) → n < f.len → AreRunsOf (pre ++ f ∷ r) rs → AreRunsOf (pre ++ front f n id ∷ back f n ∷ r) rs
-runs_split pre r f n id rs l h = λ t s k.
+runs_split pre r f n id rs l h = λ m t s k.
     let e = split_deletions t s k n id f l in
-    h t s k ∙ sym (deletion_mid t s k pre (front f n id ∷ back f n ∷ []) (f ∷ []) r (omega (arith, e)))
+    h m t s k ∙ sym (deletion_mid t s k pre (front f n id ∷ back f n ∷ []) (f ∷ []) r (omega (arith, e)))
 
 -- ---- a new fragment
 
@@ -85,9 +85,9 @@ new_deletions true = refl
 new_deletions false = refl
 
 pub runs_new : (pre r : List Fragment) (t : Lamport) (k n : ℕ) (id : List ℕ) (rs : List DeletedRun) → AreRunsOf (pre ++ r) rs → AreRunsOf (pre ++ new_fragment t k n id ∷ r) rs
-runs_new pre r t k n id rs h = λ u s j.
+runs_new pre r t k n id rs h = λ m u s j.
     let e = new_deletions (has_cell s j (new_fragment t k n id)) in
-    h u s j ∙ sym (deletion_mid u s j pre (new_fragment t k n id ∷ []) [] r (omega (arith, e)))
+    h m u s j ∙ sym (deletion_mid u s j pre (new_fragment t k n id ∷ []) [] r (omega (arith, e)))
 
 -- ---- a fragment that is marked
 
@@ -110,14 +110,16 @@ Deleted t f = record { id = f.id; stamp = f.stamp; offset = f.offset; len = f.le
 deleted_more : (t u s : Lamport) (k i : ℕ) (f : Fragment) → one_deletion u s k (Deleted t f) ≡ one_run u s k (record { edit = t; number = i; stamp = f.stamp; offset = f.offset; len = f.len }) + one_deletion u s k f
 deleted_more t u s k i f = ap (λ (n : ℕ). cond (has_cell s k f) n 0) (more_times t u f.deletions) ∙ one_more (has_cell s k f) (same_stamp t u) (times_in u f.deletions)
 
-runs_marked : (pre r : List Fragment) (t : Lamport) (f : Fragment) (rs : List DeletedRun) → AreNumbered rs → AreRunsOf (pre ++ f ∷ r) rs → AreRunsOf (pre ++ Deleted t f ∷ r) (with_run t f.stamp f.offset f.len rs)
-runs_marked pre r t f rs a h = λ u s k.
+runs_marked : (pre r : List Fragment) (t : Lamport) (f : Fragment) (rs : List DeletedRun) → AreNumbered rs → AreRunsOf (pre ++ f ∷ r) rs → AreRunsOf (pre ++ Deleted t f ∷ r) (keep_run t f.stamp f.offset f.len rs)
+runs_marked pre r t f rs a h = λ m u s k.
+    let kept = all_kept t f.stamp f.offset f.len rs m in
     let p = run_added u s t f.stamp k f.offset f.len rs a in
     let q = deleted_more t u s k (length rs) f in
     let x = deletion_append u s k pre (f ∷ r) in
     let y = deletion_append u s k pre (Deleted t f ∷ r) in
-    let z = h u s k in
-    omega (arith, p, q, x, y, z)
+    let z = h kept.0 u s k in
+    let e : run_count u s k (keep_run t f.stamp f.offset f.len rs) ≡ run_count u s k (with_run t f.stamp f.offset f.len rs) = ap (run_count u s k) kept.1 in
+    omega (arith, p, q, x, y, z, e)
 
 pub touch_entries : (m : Option (List UndoEntry)) (t : Lamport) (v : Entries) (f : Fragment) (x : IndexState) → (touch_index m t v f x).entries ≡ x.entries
 touch_entries None t v f x = refl
@@ -126,7 +128,7 @@ touch_entries (Some w) t v f x = elim (cases_Bool (was_shown w v f.stamp f.delet
 pub touch_numbered : (m : Option (List UndoEntry)) (t : Lamport) (v : Entries) (f : Fragment) (x : IndexState) → AreNumbered x.deletions → AreNumbered (touch_index m t v f x).deletions
 touch_numbered None t v f x a = a
 touch_numbered (Some w) t v f x a = elim (cases_Bool (was_shown w v f.stamp f.deletions)) [
-  | inl e ↦ rw e (numbered_more t f.stamp f.offset f.len x.deletions a)
+  | inl e ↦ rw e (numbered_kept t f.stamp f.offset f.len x.deletions a)
   | inr e ↦ rw e a
 ]
 

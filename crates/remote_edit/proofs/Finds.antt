@@ -15,7 +15,7 @@ use Rattle.fragments.specs.declared.fragment.Fragment.{Fragment}
 use Rattle.fragments.specs.declared.deleted_run.DeletedRun.{DeletedRun}
 use Rattle.fragments.specs.declared.index_entry.IndexEntry.{IndexEntry}
 use Rattle.fragments.specs.Index.{covers, entry_for, id_for}
-use Rattle.fragments.specs.DeletedRuns.{IndexState, is_run_of, has_deleted, run_count, has_cell, times_in, deletion_count, AreRunsOf}
+use Rattle.fragments.specs.DeletedRuns.{IndexState, few_runs, is_run_of, has_deleted, run_count, has_cell, times_in, deletion_count, AreRunsOf}
 use Rattle.fragments.specs.Stand.{IsFilled, Rise, entry_of, IsIndexOf}
 use Rattle.fragments.specs.Summaries.{summary_of}
 use Rattle.fragments.proofs.Founds.{fragment_of, IsSound, sound, IsBest, best}
@@ -25,6 +25,11 @@ use Rattle.fragments.proofs.Deletions.{one_deletion}
 use Rattle.remote_edit.specs.Anew.{concerns}
 use Rattle.remote_edit.specs.Indexes.{IsApart}
 use Rattle.remote_edit.specs.Finds.{is_from, place_from, IsFound, place_at, place_of_id, place_of, HaveAll, HaveCells, HaveRun, HaveConcerned}
+
+-- what holds of each member
+pub each_of : {A : Type 0} (P : A → Type 0) (xs : List A) → ((x : A) → Member x xs → P x) → AllByRecursion P xs
+each_of P [] f = tt
+each_of P (x ∷ xs) f = (f x (inl refl), each_of P xs (λ y m. f y (inr m)))
 
 -- ---- the place of an id
 
@@ -223,14 +228,14 @@ module _ (fs : List Fragment) (x : IndexState) (found : IsFound fs x) where
     pub from : run.offset ≤ f.offset
     pub before : f.offset < run.offset + run.len
 
-  pub in_run : (t : Lamport) (i : ℕ) (f : Fragment) → slice_get fs i ≡ Some f → list_any (same_stamp t) f.deletions ≡ true → InRun t f
-  in_run t i f e d =
+  pub in_run : few_runs x.deletions ≡ true → (t : Lamport) (i : ℕ) (f : Fragment) → slice_get fs i ≡ Some f → list_any (same_stamp t) f.deletions ≡ true → InRun t f
+  in_run few t i f e d =
       let l = (filled_at i f e).0 in
       let has : has_cell f.stamp f.offset f ≡ true = and_from _ _ (same_stamp_refl f.stamp) (and_from _ _ (le-leb f.offset f.offset (omega arith)) (lt-ltb f.offset (f.offset + f.len) (omega (arith, l)))) in
       let n = times_some t f.deletions d in
       let c : one_deletion t f.stamp f.offset f ≡ times_in t f.deletions = rw has refl in
       let a = count_some t f.stamp f.offset fs f (member_at fs i f e) (omega (arith, n, c)) in
-      let q = found.deletions t f.stamp f.offset in
+      let q = found.deletions few t f.stamp f.offset in
       let r = run_some t f.stamp f.offset x.deletions (omega (arith, a, q)) in
       let p = and_parts (same_stamp r.0.edit t) (same_stamp r.0.stamp f.stamp && leb r.0.offset f.offset && nat_lt f.offset (r.0.offset + r.0.len)) r.2 in
       let p1 = and_parts (same_stamp r.0.stamp f.stamp) (leb r.0.offset f.offset && nat_lt f.offset (r.0.offset + r.0.len)) p.1 in
@@ -244,8 +249,8 @@ module _ (fs : List Fragment) (x : IndexState) (found : IsFound fs x) where
       }
 
   -- the fragments with cells of the edit, and those with cells of its runs, are all that it concerns
-  pub concerned : (t : Lamport) (ps : List ℕ) → HaveCells fs t 0 (2 ^ 64 - 1) ps → AllByRecursion (λ (r : DeletedRun). HaveRun fs r ps) (filter (is_run_of t) x.deletions) → HaveConcerned fs t ps
-  concerned t ps h k = λ i f e c.
+  pub concerned : few_runs x.deletions ≡ true → (t : Lamport) (ps : List ℕ) → HaveCells fs t 0 (2 ^ 64 - 1) ps → AllByRecursion (λ (r : DeletedRun). HaveRun fs r ps) (filter (is_run_of t) x.deletions) → HaveConcerned fs t ps
+  concerned few t ps h k = λ i f e c.
       let z = and_parts (leb f.stamp.value t.value) (list_any (same_stamp t) (f.stamp ∷ f.deletions)) c in
       let fl = filled_at i f e in
       let l = fl.0 in
@@ -253,7 +258,7 @@ module _ (fs : List Fragment) (x : IndexState) (found : IsFound fs x) where
       elim (cases_Bool (same_stamp t f.stamp)) [
         | inl q ↦ h i f.offset f e (sym (same_stamp_eq t f.stamp q)) (omega arith) (omega (arith, room)) (omega arith) (omega (arith, l))
         | inr q ↦ (let d : list_any (same_stamp t) f.deletions ≡ true = ap (λ (b : Bool). b || list_any (same_stamp t) f.deletions) (sym q) ∙ z.1 in
-            let r = in_run t i f e d in
+            let r = in_run few t i f e d in
             each_member (λ (y : DeletedRun). HaveRun fs y ps) (filter (is_run_of t) x.deletions) r.run k r.one i f.offset f e r.stamp r.from r.before (omega arith) (omega (arith, l)))
       ]
 

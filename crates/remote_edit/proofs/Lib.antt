@@ -42,3 +42,5 @@ pub mod OneFurther
 pub mod PieceStarts
 pub mod Budget
 pub mod Fragments
+pub mod BySums
+pub mod Marked

@@ -28,7 +28,7 @@ use Rattle.remote_edit.specs.Concern.{sees_edit}
 use Rattle.remote_edit.specs.Finds.{IsFound, place_from}
 use Rattle.remote_edit.specs.UndoMoves.{visible_or, was_visible, undo_move}
 use Rattle.remote_edit.proofs.MovesAmong.{Became, read_carried}
-use Rattle.remote_edit.proofs.Finds.{place_found, place_by}
+use Rattle.remote_edit.proofs.Finds.{place_found, place_by, each_of}
 use Rattle.remote_edit.proofs.Carrying.{SameCells}
 use Rattle.remote_edit.proofs.Texts.{carried_texts}
 use Rattle.remote_edit.proofs.UndoStands.{undo_stands}
@@ -40,10 +40,6 @@ same_cells w by ts f = elim (cases_Bool (list_any (concerns f) ts)) [
   | inl h ↦ subst (SameCells f) (sym (concerned w by ts f h)) (refl, refl, refl)
   | inr h ↦ subst (SameCells f) (sym (unconcerned w by ts f h)) (refl, refl, refl)
 ]
-
-each_of : {A : Type 0} (P : A → Type 0) (xs : List A) → ((x : A) → Member x xs → P x) → AllByRecursion P xs
-each_of P [] f = tt
-each_of P (x ∷ xs) f = (f x (inl refl), each_of P xs (λ y m. f y (inr m)))
 
 module _ (w : List UndoEntry) (by : Lamport) (ts : List Lamport) (fs : List Fragment) (x : IndexState) (found : IsFound fs x) where
   same_id : (f : Fragment) → (anew w by ts f).id ≡ f.id

@@ -157,7 +157,7 @@ module _ (h : History) (op : Operation) (w : List UndoEntry) (ts : List Lamport)
     ascending = s.ascending;
     index = λ e. subst (λ (z : List IndexEntry). Member e i.entries ↔ Member e z) (sym (all_entries fs)) (s.index e);
     numbered = s.numbered;
-    deletions = λ t u k. s.deletions t u k ∙ sym (runs_same m same_deletions t u k fs);
+    deletions = λ l t u k. s.deletions l t u k ∙ sym (runs_same m same_deletions t u k fs);
     counts = now;
     undos = all_see fs (late_deletions h lawful fs s.filled s.cells) s.undos;
   }

@@ -1,5 +1,5 @@
 -- What is required of an undo among fragments, and the outcome.
-use Rattle.std.specs.Prelude.{◌≡◌, List, [], ◌∷◌, ◌++◌}
+use Rattle.std.specs.Prelude.{◌≡◌, ℕ, List, [], ◌∷◌, ◌++◌}
 use Rattle.std.specs.List.{AllByRecursion}
 use Rattle.lamport_clock.specs.declared.stamp.Lamport.{Lamport}
 use Rattle.op_model.specs.declared.operation.UndoOp.{UndoOp}
@@ -16,7 +16,12 @@ use Rattle.fragments.specs.DeletedRuns.{IndexState}
 use Rattle.fragments.specs.Stand.{Stand}
 use Rattle.remote_edit.specs.declared.moves.Move.{Move}
 use Rattle.remote_edit.specs.Carried.{AreMovesOf, KeepCharacters}
-use Rattle.remote_edit.specs.Anew.{Counts}
+use Rattle.remote_edit.specs.declared.placed.Placed.{Placed}
+use Rattle.remote_edit.specs.Anew.{Counts, anew, changed_at}
+use Rattle.remote_edit.specs.Among.{moves_among}
+use Rattle.remote_edit.specs.Concern.{sees_edit}
+use Rattle.remote_edit.specs.Finds.{is_place}
+use Rattle.remote_edit.specs.UndoMoves.{undo_move}
 
 -- the fragments fs and the index w stand for the lawful history h, in which the undo u with stamp `by` is good; it
 -- counts only edits of ts, and us are the counts with it
@@ -44,3 +49,12 @@ abbrev pub KeepCharactersWithUndo : List Fragment → IndexState → List UndoEn
     → List Lamport → List Fragment → List Move → Type 0
 KeepCharactersWithUndo fs w us by ts gs ms = (h : History) → (u : UndoOp)
     → MayMark fs w us by ts h u → AllByRecursion IsProper h → KeepCharacters fs gs ms h (Undo u)
+
+-- ---- for private clauses
+
+-- p has the fragments fs after an undo that changes those at the places ps, the index w, and the moves between both
+pub record IsMarked (fs : List Fragment) (w : IndexState) (us : List UndoEntry) (by : Lamport)
+    (ts : List Lamport) (ps : List ℕ) (p : Placed) : Type 0 where
+  pub fragments : p.fragments.items ≡ changed_at (anew us by ts) (is_place ps) fs
+  pub index : p.index ≡ w
+  pub moves : p.moves ≡ moves_among (sees_edit by) (undo_move fs) p.fragments.items

@@ -1,7 +1,8 @@
 //! The fragments whose cells an edit inserted or deleted, found by the index.
-ghost use Rattle.std.specs.Prelude.{◌≡◌, slice_get, IfOk, OnOk};
+ghost use Rattle.std.specs.Prelude.{◌≡◌, true, slice_get, IfOk, OnOk};
 ghost use Rattle.std.specs.Option.{option_copied};
 ghost use Rattle.std.specs.List.{AllByRecursion};
+ghost use Rattle.fragments.specs.DeletedRuns.{few_runs};
 ghost use Rattle.remote_edit.specs.Finds.{IsFound, place_from, place_of, HaveAll, HaveCells, HaveRun, HaveConcerned};
 
 use crate::OutOfMemory;
@@ -98,6 +99,7 @@ fn find_edit(
     index: &InsertionIndex,
     edit: Lamport,
 ) -> Result<(), OutOfMemory>
+    requires { few_runs index.now.deletions ≡ true }
     ensures kept { OnOk result (HaveAll places.old.items places.new.items) }
     ensures found { IsFound tree.now.items index.now
         → OnOk result (HaveConcerned tree.now.items edit places.new.items) }
@@ -125,18 +127,19 @@ fn find_run(
     find_cells(places, tree, index, run.stamp, run.offset, last)
 }
 
-/// The places of the fragments that have cells which one of the edits inserted or deleted, in any order. One descent of
-/// the index and one of the tree for each.
+/// The places of the fragments that have cells which one of the edits inserted or deleted, in any order. The index must
+/// have all runs. One descent of the index and one of the tree for each.
 ///
 /// # Errors
 ///
 /// Fails only if an allocation fails.
-pub fn places_of(
+pub fn places_by_index(
     alloc: Global,
     tree: &SumTree<Fragment>,
     index: &InsertionIndex,
     edits: &[Lamport],
 ) -> Result<Vec<u64>, OutOfMemory>
+    requires { few_runs index.now.deletions ≡ true }
     ensures { IsFound tree.now.items index.now → IfOk result (λ ps. AllByRecursion
         (λ t. HaveConcerned tree.now.items t ps.items) edits.now) }
 {

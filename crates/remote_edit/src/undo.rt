@@ -1,24 +1,60 @@
 //! The fragments that an undo shows and hides.
-ghost use Rattle.std.specs.Prelude.{ℕ, List, ◌≡◌, ◌+◌, ◌≤◌, ◌∷◌, [], Some, false, length, slice_get, IfOk, OnOk};
-ghost use Rattle.std.specs.List.{list_any, list_all};
+ghost use Rattle.std.specs.Prelude.{◌≡◌, ◌+◌, ◌≤◌, ◌∷◌, [], Some, false, length, slice_get, IfOk, OnOk};
+ghost use Rattle.std.specs.List.{AllByRecursion, list_any, list_all};
 ghost use Rattle.sum_tree.specs.Laws.{fold};
 ghost use Rattle.sum_tree.specs.Spliced.{splice_list};
 ghost use Rattle.lamport_clock.specs.Stamps.{same_stamp};
 ghost use Rattle.undo_map.specs.Counts.{count_of, is_odd};
 ghost use Rattle.fragments.specs.Summaries.{no_fragments, summaries, summary_of, SummaryFits};
 ghost use Rattle.remote_edit.specs.Marks.{is_shown};
+ghost use Rattle.remote_edit.specs.Concern.{begins_by, may_concern};
 ghost use Rattle.remote_edit.specs.Anew.{concerns, recount, anew, all_anew, changed_at};
-ghost use Rattle.remote_edit.specs.Finds.{IsFound, is_place};
-ghost use Rattle.remote_edit.specs.Undoing.{StandWithUndo, MoveWithUndo, KeepCharactersWithUndo};
+ghost use Rattle.remote_edit.specs.Finds.{IsFound, is_place, HaveConcerned};
+ghost use Rattle.remote_edit.specs.Undoing.{StandWithUndo, MoveWithUndo, KeepCharactersWithUndo, IsMarked};
 
-use crate::by_index::places_of;
+use crate::by_index::places_by_index;
 use crate::undo_moves::undo_moves;
 use crate::{OutOfMemory, Placed};
-use fragments::{Fragment, InsertionIndex};
+use fragments::{Fragment, FragmentSummary, Full, InsertionIndex, Span};
 use lamport_clock::{Lamport, is_same};
 use std::alloc::Global;
 use sum_tree::{Item, SumTree};
+use tree_cursor::{FilterCursor, Keep};
 use undo_map::UndoMap;
+
+// Keeps the runs of fragments that may have cells that one of the edits inserted or deletes: those that have seen it
+// and have a stamp no later. What an edit deletes is earlier than the edit, so a run of later cells has nothing of it.
+#[derive(Drop)]
+struct MayConcern<'e> {
+    edits: &'e [Lamport],
+}
+
+impl<'e> Keep<FragmentSummary> for MayConcern<'e> {
+    ghost use Rattle.remote_edit.specs.SeesLaws.{concern_any_parts};
+    ghost use Rattle.remote_edit.specs.Concern.{may_concern_any};
+
+    ghost keeps = { λ k s. may_concern_any k.edits.now s };
+
+    ghost parts = { λ k a b f g h. concern_any_parts k.edits.now a b h };
+
+    fn keep(&self, s: &FragmentSummary) -> bool {
+        self.edits.iter().any(|t| may_concern(s, *t))
+    }
+}
+
+// Whether a run of fragments may have cells that the edit inserted or deletes.
+fn may_concern(s: &FragmentSummary, edit: Lamport) -> bool
+    ensures { result ≡ may_concern s.now edit }
+{
+    begins_by(s.span.as_slice(), edit) && s.greatest.sees(edit)
+}
+
+// Whether one of the stamps is no later than the edit's.
+fn begins_by(spans: &[Span], edit: Lamport) -> bool
+    ensures { result ≡ begins_by edit spans.now }
+{
+    spans.iter().any(|span| span.least <= edit.value)
+}
 
 // Whether an edit, no earlier than the cells of a fragment, inserted them or deletes them.
 fn concerns(fragment: &Fragment, edit: Lamport) -> bool
@@ -144,12 +180,55 @@ fn with_undo(
     Ok(fragments)
 }
 
+// The places of the fragments that one of the edits inserted or deletes, and of some others, found by the sums.
+fn places_by_sums(
+    alloc: Global,
+    tree: &SumTree<Fragment>,
+    edits: &[Lamport],
+) -> Result<Vec<u64>, OutOfMemory>
+    ensures { IfOk result (λ ps. AllByRecursion
+        (λ t. HaveConcerned tree.now.items t ps.items) edits.now) }
+{
+    tree.known();
+    let mut places = Vec::new(alloc);
+    let mut found = FilterCursor::new(tree, Full { bytes: 0 }, MayConcern { edits })?;
+    while let Some(_fragment) = found.next()? {
+        places.push(found.index())?;
+    }
+    Ok(places)
+}
+
+// What an undo makes of fragments, of which it concerns only those at these places.
+fn mark_places(
+    alloc: Global,
+    tree: &SumTree<Fragment>,
+    index: &InsertionIndex,
+    places: &[u64],
+    undos: &UndoMap,
+    by: Lamport,
+    edits: &[Lamport],
+) -> Result<Placed, OutOfMemory>
+    ensures { IfOk result (λ p. IsMarked tree.now.items index.now undos.now by edits.now
+        places.now p) }
+{
+    let fragments = with_undo(alloc, tree, places, undos, by, edits)?;
+    let index = index.share()?;
+    let moves = undo_moves(alloc, tree, &fragments, by)?;
+    Ok(Placed {
+        fragments,
+        index,
+        moves,
+    })
+}
+
 /// Shows and hides the fragments that the undo `by` concerns: those that one of the edits inserted or deletes. The undo
 /// counts must already have those of this undo. `edits` are the edits that it undoes or redoes, in any order; an edit
 /// may be listed twice, and further edits change nothing that is shown.
 ///
-/// The index finds these fragments; nothing else is looked at, and all else stays shared with the given tree. The cost
-/// is O(k h), where h is the height of the tree and k the number of fragments that change.
+/// An edit is later than what it deletes, so runs of fragments that have not seen it, or are all later than it, are
+/// passed whole and stay shared; the index is not asked. The cost is O(k h), where h is the height of the tree and k
+/// counts the fragments that one of the edits inserted or deletes, and those no later than one of the edits whose
+/// neighbours the author of that edit has changed since. `mark_undo_by_index` looks at the first of these alone.
 ///
 /// # Errors
 ///
@@ -162,8 +241,36 @@ pub fn mark_undo(
     by: Lamport,
     edits: &[Lamport],
 ) -> Result<Placed, OutOfMemory>
-    ensures either { IfOk result (λ p. (ps : List ℕ) × (p.fragments.items
-        ≡ changed_at (anew undos.now by edits.now) (is_place ps) tree.now.items)) }
+    ensures fragments { IfOk result (λ p. p.fragments.items
+        ≡ all_anew undos.now by edits.now tree.now.items) }
+    ensures index { IfOk result (λ p. p.index ≡ index.now) }
+    ensures stands { IfOk result (λ p. StandWithUndo tree.now.items index.now undos.now by
+        edits.now p.fragments.items p.index) }
+    ensures moves { IfOk result (λ p. MoveWithUndo tree.now.items index.now undos.now by edits.now
+        p.moves) }
+    ensures characters { IfOk result (λ p. KeepCharactersWithUndo tree.now.items index.now
+        undos.now by edits.now p.fragments.items p.moves) }
+{
+    let places = places_by_sums(alloc, tree, edits)?;
+    mark_places(alloc, tree, index, &places, undos, by, edits)
+}
+
+/// Does what `mark_undo` does, if the index has these fragments and what is deleted of them: it finds the fragments that
+/// the undo concerns by the index, looks at nothing else, and shares all else with the given tree. The cost is
+/// O(k h + k log n), where k is the number of fragments that the undo concerns, h the height of the tree and n the
+/// number of runs that edits deleted. If the index may lack runs, this is `mark_undo`.
+///
+/// # Errors
+///
+/// Fails only if an allocation fails.
+pub fn mark_undo_by_index(
+    alloc: Global,
+    tree: &SumTree<Fragment>,
+    index: &InsertionIndex,
+    undos: &UndoMap,
+    by: Lamport,
+    edits: &[Lamport],
+) -> Result<Placed, OutOfMemory>
     ensures fragments { IsFound tree.now.items index.now → IfOk result (λ p. p.fragments.items
         ≡ all_anew undos.now by edits.now tree.now.items) }
     ensures index { IfOk result (λ p. p.index ≡ index.now) }
@@ -174,13 +281,9 @@ pub fn mark_undo(
     ensures characters { IfOk result (λ p. KeepCharactersWithUndo tree.now.items index.now
         undos.now by edits.now p.fragments.items p.moves) }
 {
-    let places = places_of(alloc, tree, index, edits)?;
-    let fragments = with_undo(alloc, tree, &places, undos, by, edits)?;
-    let index = index.share()?;
-    let moves = undo_moves(alloc, tree, &fragments, by)?;
-    Ok(Placed {
-        fragments,
-        index,
-        moves,
-    })
+    if !index.has_all_runs() {
+        return mark_undo(alloc, tree, index, undos, by, edits);
+    }
+    let places = places_by_index(alloc, tree, index, edits)?;
+    mark_places(alloc, tree, index, &places, undos, by, edits)
 }

@@ -28,7 +28,7 @@ use deferred_ops::Deferred;
 use lamport_clock::{Lamport, Version};
 use op_answers::{Verdict, judge};
 use op_model::{EditOp, Endings, Limits, Operation, Piece, Pieces, Text, UndoCount, UndoOp, Unit};
-use remote_edit::{Placed, mark_undo, place_local, place_remote};
+use remote_edit::{Placed, mark_undo_by_index, place_local, place_remote};
 use rope_chunks::Rope;
 use rope_edits::apply_moves;
 use std::alloc::Global;
@@ -302,7 +302,7 @@ impl Document {
     {
         let undos = self.content.undos.with_undo(self.alloc, undo)?;
         let edits = edits_of(self.alloc, undo.counts.as_slice())?;
-        let placed = mark_undo(
+        let placed = mark_undo_by_index(
             self.alloc,
             &self.content.fragments,
             &self.content.index,

@@ -1,35 +1,32 @@
-use Rattle.std.proofs.Common.{refl, ◌∙◌}
-use Rattle.remote_edit.proofs.Anew.{changed_anew}
-use Rattle.remote_edit.proofs.Standing.{found_of}
-use Rattle.remote_edit.proofs.UndoStands.{undo_stood}
-use Rattle.remote_edit.proofs.UndoMoves.{undo_carried, undo_moved}
-use Rattle.remote_edit.proofs.UndoCharacters.{undo_characters}
+use Rattle.std.proofs.Common.{◌≡◌}
+use Rattle.std.proofs.lemmas.Result.{IfOk-weaker}
+use Rattle.remote_edit.specs.declared.placed.Placed.{Placed}
+use Rattle.remote_edit.specs.Anew.{all_anew}
+use Rattle.remote_edit.specs.Undoing.{StandWithUndo, MoveWithUndo, KeepCharactersWithUndo, IsMarked}
+use Rattle.remote_edit.proofs.Marked.{marked_fragments, marked_stands, marked_moves, marked_characters}
 use Rattle.remote_edit.proofs.undo.mark_undo.Goals as goal
 
-pub returns-clause-either : goal.returns-clause-either
-returns-clause-either c = (c.in_ok-places.places.items, c.in_ok-fragments.ensures)
-
 pub returns-clause-fragments : goal.returns-clause-fragments
-returns-clause-fragments c = λ found. c.in_ok-fragments.ensures ∙ changed_anew c.args.undos.now c.args.by c.args.tree.now.items c.in_ok-places.places.items c.args.edits.now (c.in_ok-places.ensures found)
+returns-clause-fragments c =
+    let fs = c.args.tree.now.items in let w = c.args.index.now in let us = c.args.undos.now in let ts = c.args.edits.now in let ps = c.in_ok-places.places.items in
+    IfOk-weaker c.mark_places.result (IsMarked fs w us c.args.by ts ps) (λ (p : Placed). p.fragments.items ≡ all_anew us c.args.by ts fs) (marked_fragments fs w us c.args.by ts ps c.in_ok-places.ensures) c.mark_places.ensures
+
+pub returns-clause-index : goal.returns-clause-index
+returns-clause-index c =
+    let fs = c.args.tree.now.items in let w = c.args.index.now in let us = c.args.undos.now in let ts = c.args.edits.now in let ps = c.in_ok-places.places.items in
+    IfOk-weaker c.mark_places.result (IsMarked fs w us c.args.by ts ps) (λ (p : Placed). p.index ≡ w) (λ p k. k.index) c.mark_places.ensures
 
 pub returns-clause-stands : goal.returns-clause-stands
-returns-clause-stands c = λ h u m. undo_stood h u c.args.undos.now c.args.edits.now c.args.by c.args.tree.now.items _ c.args.index.now _ m.stamp m.counts m.lawful m.good m.entries m.stands
-    (returns-clause-fragments c (found_of c.args.tree.now.items c.args.index.now _ h m.stands m.lawful)) c.in_ok-index.ensures
+returns-clause-stands c =
+    let fs = c.args.tree.now.items in let w = c.args.index.now in let us = c.args.undos.now in let ts = c.args.edits.now in let ps = c.in_ok-places.places.items in
+    IfOk-weaker c.mark_places.result (IsMarked fs w us c.args.by ts ps) (λ (p : Placed). StandWithUndo fs w us c.args.by ts p.fragments.items p.index) (marked_stands fs w us c.args.by ts ps (λ f. c.in_ok-places.ensures)) c.mark_places.ensures
 
 pub returns-clause-moves : goal.returns-clause-moves
-returns-clause-moves c = λ h u m.
-    let found = found_of c.args.tree.now.items c.args.index.now _ h m.stands m.lawful in
-    undo_moved h u c.args.undos.now c.args.edits.now c.args.by c.args.tree.now.items c.args.index.now _ m.stamp m.counts m.lawful m.good m.entries m.stands
-    (λ t. undo_carried c.args.undos.now c.args.by c.args.edits.now c.args.tree.now.items c.args.index.now found _ _ t (returns-clause-fragments c found) c.in_ok-moves.ensures)
+returns-clause-moves c =
+    let fs = c.args.tree.now.items in let w = c.args.index.now in let us = c.args.undos.now in let ts = c.args.edits.now in let ps = c.in_ok-places.places.items in
+    IfOk-weaker c.mark_places.result (IsMarked fs w us c.args.by ts ps) (λ (p : Placed). MoveWithUndo fs w us c.args.by ts p.moves) (marked_moves fs w us c.args.by ts ps (λ f. c.in_ok-places.ensures)) c.mark_places.ensures
 
 pub returns-clause-characters : goal.returns-clause-characters
-returns-clause-characters c = λ h u m p.
-    let found = found_of c.args.tree.now.items c.args.index.now _ h m.stands m.lawful in
-    undo_characters h u c.args.undos.now c.args.edits.now c.args.by c.args.tree.now.items _ c.args.index.now _ _ m p (returns-clause-stands c h u m) (returns-clause-fragments c found)
-    (λ t. undo_carried c.args.undos.now c.args.by c.args.edits.now c.args.tree.now.items c.args.index.now found _ _ t (returns-clause-fragments c found) c.in_ok-moves.ensures)
-
-pub same-fragments : goal.same-fragments
-same-fragments c = refl
-
-pub same-index : goal.same-index
-same-index c = refl
+returns-clause-characters c =
+    let fs = c.args.tree.now.items in let w = c.args.index.now in let us = c.args.undos.now in let ts = c.args.edits.now in let ps = c.in_ok-places.places.items in
+    IfOk-weaker c.mark_places.result (IsMarked fs w us c.args.by ts ps) (λ (p : Placed). KeepCharactersWithUndo fs w us c.args.by ts p.fragments.items p.moves) (marked_characters fs w us c.args.by ts ps (λ f. c.in_ok-places.ensures)) c.mark_places.ensures

@@ -5,6 +5,7 @@ use Rattle.op_model.specs.declared.operation.UndoCount.{UndoCount}
 use Rattle.op_model.specs.Histories.{bytes_held}
 use Rattle.remote_edit.specs.Undoing.{MayMark}
 use Rattle.remote_edit.proofs.Fragments.{fragments_with_undo}
+use Rattle.remote_edit.proofs.Standing.{found_of}
 use Rattle.text_buffer.proofs.Applied.{counts_fit}
 use Rattle.text_buffer.proofs.Contents.{content_after, content_seen, history_seen, may_mark}
 use Rattle.text_buffer.proofs.document.Document.with_undo.Goals as goal
@@ -39,5 +40,5 @@ returns c =
     (c.as_slice-2.ensures.value ∙ c.in_ok-edits.ensures ∙ ap (map (λ (x : UndoCount). x.edit)) c.as_slice.ensures) in
     IfOk-weaker c.content_of.result _ _ (λ x d. content_after x c.in_ok-placed.placed h (Undo c.args.undo.now) c.in_ok-undos.undos c.in_ok-undos.undos [] d refl refl
     (fragments_with_undo h c.args.undo.now c.in_ok-undos.undos c.as_slice-2.result.now c.self.inside.content.fragments.items c.in_ok-placed.placed.fragments.items (c.in_ok-undos.ensures.history h k.stand.counts)
-    (c.as_slice-2.ensures.value ∙ c.in_ok-edits.ensures ∙ ap (map (λ (x : UndoCount). x.edit)) c.as_slice.ensures) k.fragments c.in_ok-placed.ensures.fragments)
+    (c.as_slice-2.ensures.value ∙ c.in_ok-edits.ensures ∙ ap (map (λ (x : UndoCount). x.edit)) c.as_slice.ensures) k.fragments (c.in_ok-placed.ensures.fragments (found_of c.self.inside.content.fragments.items c.self.inside.content.index _ h m.stands m.lawful)))
     (c.in_ok-placed.ensures.stands h c.args.undo.now m) (c.in_ok-placed.ensures.characters h c.args.undo.now m s.proper k.whole).0 (c.in_ok-placed.ensures.moves h c.args.undo.now m)) c.content_of.ensures

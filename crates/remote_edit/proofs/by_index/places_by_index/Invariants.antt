@@ -2,7 +2,7 @@ use Rattle.std.proofs.Common.{take}
 use Rattle.std.specs.List.{AllByRecursion}
 use Rattle.lamport_clock.specs.declared.stamp.Lamport.{Lamport}
 use Rattle.remote_edit.specs.Finds.{IsFound, HaveConcerned}
-use Rattle.remote_edit.proofs.by_index.places_of.Given as goal
+use Rattle.remote_edit.proofs.by_index.places_by_index.Given as goal
 
 abbrev pub invariant-loop-edit : goal.invariant-loop-edit
 invariant-loop-edit l = record {
