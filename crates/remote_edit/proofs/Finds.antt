@@ -85,7 +85,7 @@ module _ (fs : List Fragment) (x : IndexState) (found : IsFound fs x) where
   none_by : (s : Lamport) (k : ℕ) → id_for s k x.entries ≡ None → (i : ℕ) (f : Fragment) → slice_get fs i ≡ Some f → f.stamp ≡ s → f.offset ≤ k → ⊥
   none_by s k h i f e q l = subst (IsBest (entry_of f)) (none_of _ h) (nearest_to s k i f e q l)
 
-  place_by : (g : Fragment) → Member g fs → (j : ℕ) × (slice_get fs j ≡ Some g)
+  pub place_by : (g : Fragment) → Member g fs → (j : ℕ) × (slice_get fs j ≡ Some g)
   place_by g m = go fs m
     where
       go : (gs : List Fragment) → Member g gs → (j : ℕ) × (slice_get gs j ≡ Some g)
