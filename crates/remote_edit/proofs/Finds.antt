@@ -1,15 +1,16 @@
 -- The fragments that an index finds: of a cell, of a range of cells, and those that an edit concerns.
-use Rattle.std.proofs.Common.{◌≡◌, ℕ, zero, suc, ◌+◌, ◌-◌, ◌<◌, ◌≤◌, ◌^◌, ◌⊎◌, Bool, true, false, cond, not, ◌&&◌, ◌||◌, Option, List, [], ◌∷◌, ◌++◌, length, map, take, refl, sym, ap, ◌∙◌, arith, subst, inl, inr, Some, None, leb, nat_lt, option_map, slice_get}
+use Rattle.std.proofs.Common.{◌≡◌, ℕ, zero, suc, ◌+◌, ◌-◌, ◌<◌, ◌≤◌, ◌^◌, ◌⊎◌, min, get_or, Bool, true, false, cond, not, ◌&&◌, ◌||◌, Option, List, [], ◌∷◌, ◌++◌, length, map, take, refl, sym, ap, ◌∙◌, arith, subst, inl, inr, Some, None, leb, nat_lt, option_map, slice_get}
 use Rattle.std.specs.List.{AllByRecursion, list_any, filter}
 use Rattle.std.proofs.lemmas.Bool.{cases_Bool, cases_lt, and_from, and_parts, or_parts, both_ways, le-leb, leb-true, lt-ltb, ltb-true}
 use Rattle.std.proofs.lemmas.Option.{same_Some}
+use Rattle.std.proofs.lemmas.List.{take_more}
 use Rattle.tree_cursor.specs.Places.{filter_count}
 use Rattle.lamport_clock.specs.declared.stamp.Lamport.{Lamport}
 use Rattle.lamport_clock.specs.Stamps.{same_stamp}
 use Rattle.lamport_clock.proofs.Later.{same_stamp_eq, same_stamp_refl}
 use Rattle.locators.specs.Locator.{least_digits}
 use Rattle.op_model.specs.Sorted.{EachPair, Member}
-use Rattle.op_model.proofs.Elements.{each_member, member_at, member_left, member_right, filter_has}
+use Rattle.op_model.proofs.Elements.{each_member, each_append, each_map, member_at, member_left, member_right, filter_has}
 use Rattle.op_model.proofs.order.CellsOnce.{member_map}
 use Rattle.fragments.specs.declared.fragment.Fragment.{Fragment}
 use Rattle.fragments.specs.declared.deleted_run.DeletedRun.{DeletedRun}
@@ -262,7 +263,23 @@ module _ (fs : List Fragment) (x : IndexState) (found : IsFound fs x) where
             each_member (λ (y : DeletedRun). HaveRun fs y ps) (filter (is_run_of t) x.deletions) r.run k r.one i f.offset f e r.stamp r.from r.before (omega arith) (omega (arith, l)))
       ]
 
+  -- the fragments of a run's cells, up to the last number that a cell has
+  pub run_found : (r : DeletedRun) (last : ℕ) (ps : List ℕ) → last ≡ min (r.offset + (r.len - 1)) (2 ^ 64 - 1) → HaveCells fs r.stamp r.offset last ps → HaveRun fs r ps
+  run_found r last ps e h = λ i k f a b m n u v. h i k f a b m (let z = (filled_at i f a).1 in omega (arith, e, m, n, v, z)) u v
+
 -- ---- more places
+
+-- one more item of which something is true
+pub each_more : {A : Type 0} (P Q : A → Type 0) → ((x : A) → P x → Q x) → (xs : List A) (i : ℕ) (x : A) → i < length xs → x ≡ get_or xs i x → AllByRecursion P (take i xs) → Q x → AllByRecursion Q (take (i + 1) xs)
+each_more {A} P Q f xs i x l e h q =
+    let more : take (i + 1) xs ≡ take i xs ++ x ∷ [] = take_more xs i x l ∙ ap (λ (y : A). take i xs ++ y ∷ []) (sym e) in
+    subst (AllByRecursion Q) (sym more) (each_append Q (take i xs) (x ∷ []) (each_map P Q f (take i xs) h) (q, tt))
+
+pub all_have : (ps qs rs : List ℕ) → HaveAll ps qs → HaveAll qs rs → HaveAll ps rs
+all_have ps qs rs a b = λ i m. b i (a i m)
+
+pub have_pushed : (ps qs : List ℕ) (j : ℕ) → qs ≡ ps ++ j ∷ [] → HaveAll ps qs
+have_pushed ps qs j e = λ i m. subst (Member i) (sym e) (member_left i ps (j ∷ []) m)
 
 pub cells_kept : (fs : List Fragment) (s : Lamport) (from last : ℕ) (ps qs : List ℕ) → HaveAll ps qs → HaveCells fs s from last ps → HaveCells fs s from last qs
 cells_kept fs s from last ps qs a h = λ i k f e q m n u v. a i (h i k f e q m n u v)

@@ -1,9 +1,10 @@
-use Rattle.std.proofs.Common.{◌≡◌, ◌∙◌, ◌≤◌, ◌^◌, ℕ, Bool, true, false, cond, List, length, subst, sym, ap, arith}
+use Rattle.std.proofs.Common.{◌≡◌, ◌∙◌, ◌<◌, ◌≤◌, ◌^◌, ℕ, Bool, cond, List, length, subst, sym, ap, arith}
 use Rattle.std.proofs.lemmas.Bool.{lt-ltb, le-ltb}
 use Rattle.sum_tree.specs.Keyed.{insert_item}
+use Rattle.lamport_clock.specs.declared.stamp.Lamport.{Lamport}
 use Rattle.fragments.specs.declared.deleted_run.DeletedRun.{DeletedRun}
 use Rattle.fragments.specs.Index.{key_cmp}
-use Rattle.fragments.specs.DeletedRuns.{IndexState, run_key, AreNumbered, few_runs, with_run, keep_run, delete_run}
+use Rattle.fragments.specs.DeletedRuns.{IndexState, run_key, AreNumbered, with_run, keep_run, delete_run}
 use Rattle.fragments.proofs.Runs.{runs_long, numbered_kept}
 use Rattle.fragments.proofs.index.InsertionIndex.add_deleted.Goals as goal
 
