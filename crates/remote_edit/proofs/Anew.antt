@@ -1,6 +1,6 @@
 -- Fragments after an undo of edits.
-use Rattle.std.proofs.Common.{◌≡◌, ℕ, Bool, true, false, cond, ◌||◌, ◌==◌, List, [], ◌∷◌, Some, slice_get, ap, inl, inr, sym, ◌∙◌, eqb-refl}
-use Rattle.std.proofs.lemmas.Bool.{cases_Bool}
+use Rattle.std.proofs.Common.{◌≡◌, ℕ, Bool, true, false, cond, ◌||◌, ◌==◌, List, [], ◌∷◌, Some, slice_get, ap, inl, inr, sym, ◌∙◌, refl}
+use Rattle.std.proofs.lemmas.Bool.{cases_Bool, eq-eqb}
 use Rattle.std.specs.List.{AllByRecursion, list_any}
 use Rattle.lamport_clock.specs.declared.stamp.Lamport.{Lamport}
 use Rattle.op_model.proofs.Elements.{any_member}
@@ -28,7 +28,7 @@ module _ (w : List UndoEntry) (by : Lamport) (fs : List Fragment) (ps : List ℕ
   placed : (ts : List Lamport) (i : ℕ) (f : Fragment) → AllByRecursion (λ (t : Lamport). HaveConcerned fs t ps) ts → slice_get fs i ≡ Some f → list_any (concerns f) ts ≡ true → is_place ps i ≡ true
   placed [] i f h e c = cc
   placed (t ∷ ts) i f h e c = elim (cases_Bool (concerns f t)) [
-    | inl k ↦ any_member (λ (p : ℕ). p == i) ps i (h.0 i f e k) (eqb-refl i)
+    | inl k ↦ any_member (λ (p : ℕ). p == i) ps i (h.0 i f e k) (eq-eqb i i refl)
     | inr k ↦ placed ts i f h.1 e (ap (λ (b : Bool). b || list_any (concerns f) ts) (sym k) ∙ c)
   ]
 

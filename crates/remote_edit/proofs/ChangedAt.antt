@@ -1,7 +1,7 @@
 -- Fragments of which those at some places are changed to others with as many cells.
 use Rattle.std.proofs.Common.{◌≡◌, ℕ, zero, suc, ◌+◌, ◌<◌, ◌≤◌, ◌⊎◌, Bool, true, false, cond, ◌||◌, ◌==◌, List, [], ◌∷◌, ◌++◌, length, map, take, refl, sym, ap, ◌∙◌, arith, subst, Some, None, inl, inr, slice_get}
 use Rattle.std.specs.List.{list_any}
-use Rattle.std.proofs.lemmas.Bool.{cases_Bool}
+use Rattle.std.proofs.lemmas.Bool.{cases_Bool, eq-eqb, ne_eqb}
 use Rattle.std.proofs.lemmas.Option.{same_Some}
 use Rattle.std.proofs.lemmas.List.{take_more}
 use Rattle.sum_tree.specs.Laws.{fold}
@@ -46,21 +46,21 @@ module _ (m : Fragment → Fragment) where
       go true = ap (λ (z : Fragment). Some z) s
       go false = refl
 
-  put_next : (at by : ℕ → Bool) (i : ℕ) (xs : List Fragment) (x : Fragment) → slice_get xs i ≡ Some x → ((j : ℕ) → by j ≡ (at j || (i == j)))
+  put_next : (at by : ℕ → Bool) (i : ℕ) (xs : List Fragment) (x : Fragment) → slice_get xs i ≡ Some x → by i ≡ true → ((j : ℕ) → (j ≡ i → ⊥) → by j ≡ at j)
       → splice_list i (suc i) (m x ∷ []) (changed_at m at xs) ≡ changed_at m by xs
-  put_next at by i [] x e f = absurd (cc)
-  put_next at by zero (y ∷ xs) x e f =
+  put_next at by i [] x e t f = absurd (cc)
+  put_next at by zero (y ∷ xs) x e t f =
       let q : y ≡ x = same_Some y x e in
-      let b : by 0 ≡ true = f 0 ∙ or_true (at 0) in
-      rw b (ap (λ (z : Fragment). m z ∷ changed_at m (λ i. at (suc i)) xs) (sym q)
-      ∙ ap (λ (ys : List Fragment). m y ∷ ys) (changed_same (λ i. at (suc i)) (λ i. by (suc i)) xs (λ j l. sym (f (suc j) ∙ or_false (at (suc j))))))
-  put_next at by (suc i) (y ∷ xs) x e f =
-      let b : by 0 ≡ at 0 = f 0 ∙ or_false (at 0) in
-      rw b (ap (λ (ys : List Fragment). cond (at 0) (m y) y ∷ ys) (put_next (λ j. at (suc j)) (λ j. by (suc j)) i xs x e (λ j. f (suc j))))
+      ap (λ (z : Fragment). m z ∷ changed_at m (λ i. at (suc i)) xs) (sym q)
+      ∙ ap (λ (b : Bool). cond b (m y) y ∷ changed_at m (λ i. at (suc i)) xs) (sym t)
+      ∙ ap (λ (ys : List Fragment). cond (by 0) (m y) y ∷ ys) (changed_same (λ i. at (suc i)) (λ i. by (suc i)) xs (λ j l. sym (f (suc j) (λ z. absurd (omega (arith, z))))))
+  put_next at by (suc i) (y ∷ xs) x e t f =
+      ap (λ (b : Bool). cond b (m y) y ∷ splice_list i (suc i) (m x ∷ []) (changed_at m (λ j. at (suc j)) xs)) (sym (f 0 (λ z. absurd (omega (arith, z)))))
+      ∙ ap (λ (ys : List Fragment). cond (by 0) (m y) y ∷ ys) (put_next (λ j. at (suc j)) (λ j. by (suc j)) i xs x e t (λ j n. f (suc j) (λ z. n (omega (arith, z)))))
 
-  pub changed_put : (at by : ℕ → Bool) (i : ℕ) (xs : List Fragment) (x : Fragment) → slice_get xs i ≡ Some x → ((j : ℕ) → by j ≡ (at j || (i == j)))
+  pub changed_put : (at by : ℕ → Bool) (i : ℕ) (xs : List Fragment) (x : Fragment) → slice_get xs i ≡ Some x → by i ≡ true → ((j : ℕ) → (j ≡ i → ⊥) → by j ≡ at j)
       → splice_list i (i + 1) (m x ∷ []) (changed_at m at xs) ≡ changed_at m by xs
-  changed_put at by i xs x e f = let q : suc i ≡ i + 1 = omega arith in subst (λ (j : ℕ). splice_list i j (m x ∷ []) (changed_at m at xs) ≡ changed_at m by xs) q (put_next at by i xs x e f)
+  changed_put at by i xs x e t f = let q : suc i ≡ i + 1 = omega arith in subst (λ (j : ℕ). splice_list i j (m x ∷ []) (changed_at m at xs) ≡ changed_at m by xs) q (put_next at by i xs x e t f)
 
   -- if what is not changed stays, all are changed
   pub changed_all : (at : ℕ → Bool) (xs : List Fragment) → ((i : ℕ) (x : Fragment) → slice_get xs i ≡ Some x → (at i ≡ true) ⊎ (m x ≡ x)) → changed_at m at xs ≡ map m xs
@@ -117,4 +117,5 @@ past_last m ps i xs e =
 
 pub put_place : (m : Fragment → Fragment) (ps : List ℕ) (i : ℕ) (xs : List Fragment) (x : Fragment) → slice_get xs i ≡ Some x
     → splice_list i (i + 1) (m x ∷ []) (changed_at m (is_place ps) xs) ≡ changed_at m (is_place (ps ++ i ∷ [])) xs
-put_place m ps i xs x e = changed_put m (is_place ps) (is_place (ps ++ i ∷ [])) i xs x e (λ j. any_last ps i j)
+put_place m ps i xs x e = changed_put m (is_place ps) (is_place (ps ++ i ∷ [])) i xs x e (any_last ps i i ∙ ap (λ (b : Bool). is_place ps i || b) (eq-eqb i i refl) ∙ or_true (is_place ps i))
+    (λ j n. any_last ps i j ∙ ap (λ (b : Bool). is_place ps j || b) (ne_eqb i j (λ z. n (sym z))) ∙ or_false (is_place ps j))

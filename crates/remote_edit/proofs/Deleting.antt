@@ -23,24 +23,24 @@ HasAt s k f = ((has_cell s k f ≡ true) × (f.offset ≤ k) × (k < f.offset + 
 
 has_at : (s : Lamport) (k : ℕ) (f : Fragment) → same_stamp f.stamp s ≡ true → HasAt s k f
 has_at s k f e = elim (cases_lt k f.offset) [
-  | inl l ↦ inr (and_from_left (same_stamp f.stamp s) (leb f.offset k) (nat_lt k (f.offset + f.len)) (lt-leb f.offset k l), inl l)
+  | inl l ↦ inr (middle_false (same_stamp f.stamp s) (leb f.offset k) (nat_lt k (f.offset + f.len)) (lt-leb f.offset k l), inl l)
   | inr l ↦ elim (cases_lt k (f.offset + f.len)) [
-    | inl m ↦ inl (and_from _ _ e (and_from _ _ (le-leb f.offset k l) (lt-ltb k (f.offset + f.len) m)), l, m)
+    | inl m ↦ inl (and_from _ _ (and_from _ _ e (le-leb f.offset k l)) (lt-ltb k (f.offset + f.len) m), l, m)
     | inr m ↦ inr (last_false (same_stamp f.stamp s) (leb f.offset k) (le-ltb k (f.offset + f.len) m), inr m)
   ]
 ]
   where
-    and_from_left : (a b c : Bool) → b ≡ false → (a && (b && c)) ≡ false
-    and_from_left true b c h = and_left b c h
-    and_from_left false b c h = refl
+    middle_false : (a b c : Bool) → b ≡ false → ((a && b) && c) ≡ false
+    middle_false true b c h = and_left b c h
+    middle_false false b c h = refl
 
-    last_false : (a b : Bool) {c : Bool} → c ≡ false → (a && (b && c)) ≡ false
+    last_false : (a b : Bool) {c : Bool} → c ≡ false → ((a && b) && c) ≡ false
     last_false true true h = h
     last_false true false h = refl
     last_false false b h = refl
 
 other_edit : (s : Lamport) (k : ℕ) (f : Fragment) → same_stamp f.stamp s ≡ false → has_cell s k f ≡ false
-other_edit s k f e = and_left (same_stamp f.stamp s) (leb f.offset k && nat_lt k (f.offset + f.len)) e
+other_edit s k f e = and_left (same_stamp f.stamp s && leb f.offset k) (nat_lt k (f.offset + f.len)) (and_left (same_stamp f.stamp s) (leb f.offset k) e)
 
 counted : (t s : Lamport) (k : ℕ) (f : Fragment) → has_cell s k f ≡ true → one_deletion t s k f ≡ times_in t f.deletions
 counted t s k f e = rw e refl
@@ -80,9 +80,9 @@ runs_split pre r f n id rs l h = λ m t s k.
 
 -- ---- a new fragment
 
-new_deletions : (b : Bool) → cond b 0 0 ≡ 0
-new_deletions true = refl
-new_deletions false = refl
+new_deletions : (b : Bool) → cond b 0 0 + 0 ≡ 0
+new_deletions true = omega arith
+new_deletions false = omega arith
 
 pub runs_new : (pre r : List Fragment) (t : Lamport) (k n : ℕ) (id : List ℕ) (rs : List DeletedRun) → AreRunsOf (pre ++ r) rs → AreRunsOf (pre ++ new_fragment t k n id ∷ r) rs
 runs_new pre r t k n id rs h = λ m u s j.
@@ -104,11 +104,16 @@ one_more true false n = omega arith
 one_more false true n = refl
 one_more false false n = refl
 
+and_three : (b x y z : Bool) → (((b && x) && y) && z) ≡ (b && ((x && y) && z))
+and_three true x y z = refl
+and_three false x y z = refl
+
 abbrev Deleted : Lamport → Fragment → Fragment
 Deleted t f = record { id = f.id; stamp = f.stamp; offset = f.offset; len = f.len; visible = false; deletions = with_deletion t f.deletions; max_undos = f.max_undos }
 
 deleted_more : (t u s : Lamport) (k i : ℕ) (f : Fragment) → one_deletion u s k (Deleted t f) ≡ one_run u s k (record { edit = t; number = i; stamp = f.stamp; offset = f.offset; len = f.len }) + one_deletion u s k f
 deleted_more t u s k i f = ap (λ (n : ℕ). cond (has_cell s k f) n 0) (more_times t u f.deletions) ∙ one_more (has_cell s k f) (same_stamp t u) (times_in u f.deletions)
+    ∙ ap (λ (b : Bool). cond b 1 0 + one_deletion u s k f) (sym (and_three (same_stamp t u) (same_stamp f.stamp s) (leb f.offset k) (nat_lt k (f.offset + f.len))))
 
 runs_marked : (pre r : List Fragment) (t : Lamport) (f : Fragment) (rs : List DeletedRun) → AreNumbered rs → AreRunsOf (pre ++ f ∷ r) rs → AreRunsOf (pre ++ Deleted t f ∷ r) (keep_run t f.stamp f.offset f.len rs)
 runs_marked pre r t f rs a h = λ m u s k.

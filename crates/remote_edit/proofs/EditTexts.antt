@@ -88,7 +88,7 @@ module _ (h : History) (op : Operation) (u : List UndoEntry) (fs : List Fragment
   fits = let k = checked_of h op g in fits_of h op (lawful_ready h l).0 k.0 k.1
 
   old : AllByRecursion (IsOld u t) (runs fs)
-  old = others h t l fits.fresh u fs s.filled (indexed_start fs i u h op s l g).before (undeleted_all h t l fits.fresh fs s.filled s.cells) (shown_by_counts h u fs s.counts s.filled s.cells)
+  old = others h t l fits.fresh u fs s.filled (indexed_start fs i u h op s l g).entered.before (undeleted_all h t l fits.fresh fs s.filled s.cells) (shown_by_counts h u fs s.counts s.filled s.cells)
 
   pub placed_runs : runs placed_fragments ≡ W.walk (marking u t v) (sees v) t 0 0 (changing (pieces_of op)) (runs fs)
   placed_runs = walk_as u t v (λ x. passed_unseen v t x fits.above) 0 0 (pieces_of op) [] fs

@@ -3,7 +3,7 @@ use Rattle.std.proofs.Common.{◌≡◌, ℕ, zero, suc, ◌+◌, ◌-◌, ◌<�
 use Rattle.std.specs.List.{AllByRecursion, list_any, filter}
 use Rattle.std.proofs.lemmas.Bool.{cases_Bool, cases_lt, and_from, and_parts, or_parts, both_ways, le-leb, leb-true, lt-ltb, ltb-true}
 use Rattle.std.proofs.lemmas.Option.{same_Some}
-use Rattle.std.proofs.lemmas.List.{take_more}
+use Rattle.std.proofs.lemmas.List.{take_all, take_more}
 use Rattle.tree_cursor.specs.Places.{filter_count}
 use Rattle.lamport_clock.specs.declared.stamp.Lamport.{Lamport}
 use Rattle.lamport_clock.specs.Stamps.{same_stamp}
@@ -232,21 +232,21 @@ module _ (fs : List Fragment) (x : IndexState) (found : IsFound fs x) where
   pub in_run : few_runs x.deletions ≡ true → (t : Lamport) (i : ℕ) (f : Fragment) → slice_get fs i ≡ Some f → list_any (same_stamp t) f.deletions ≡ true → InRun t f
   in_run few t i f e d =
       let l = (filled_at i f e).0 in
-      let has : has_cell f.stamp f.offset f ≡ true = and_from _ _ (same_stamp_refl f.stamp) (and_from _ _ (le-leb f.offset f.offset (omega arith)) (lt-ltb f.offset (f.offset + f.len) (omega (arith, l)))) in
+      let has : has_cell f.stamp f.offset f ≡ true = and_from _ _ (and_from _ _ (same_stamp_refl f.stamp) (le-leb f.offset f.offset (omega arith))) (lt-ltb f.offset (f.offset + f.len) (omega (arith, l))) in
       let n = times_some t f.deletions d in
       let c : one_deletion t f.stamp f.offset f ≡ times_in t f.deletions = rw has refl in
       let a = count_some t f.stamp f.offset fs f (member_at fs i f e) (omega (arith, n, c)) in
       let q = found.deletions few t f.stamp f.offset in
       let r = run_some t f.stamp f.offset x.deletions (omega (arith, a, q)) in
-      let p = and_parts (same_stamp r.0.edit t) (same_stamp r.0.stamp f.stamp && leb r.0.offset f.offset && nat_lt f.offset (r.0.offset + r.0.len)) r.2 in
-      let p1 = and_parts (same_stamp r.0.stamp f.stamp) (leb r.0.offset f.offset && nat_lt f.offset (r.0.offset + r.0.len)) p.1 in
-      let p2 = and_parts (leb r.0.offset f.offset) (nat_lt f.offset (r.0.offset + r.0.len)) p1.1 in
+      let p = and_parts (same_stamp r.0.edit t && same_stamp r.0.stamp f.stamp && leb r.0.offset f.offset) (nat_lt f.offset (r.0.offset + r.0.len)) r.2 in
+      let p1 = and_parts (same_stamp r.0.edit t && same_stamp r.0.stamp f.stamp) (leb r.0.offset f.offset) p.0 in
+      let p2 = and_parts (same_stamp r.0.edit t) (same_stamp r.0.stamp f.stamp) p1.0 in
       record {
         run = r.0;
-        one = filter_has (is_run_of t) r.0 x.deletions r.1 p.0;
-        stamp = sym (same_stamp_eq r.0.stamp f.stamp p1.0);
-        from = leb-true _ _ p2.0;
-        before = ltb-true _ _ p2.1;
+        one = filter_has (is_run_of t) r.0 x.deletions r.1 p2.0;
+        stamp = sym (same_stamp_eq r.0.stamp f.stamp p2.1);
+        from = leb-true _ _ p1.1;
+        before = ltb-true _ _ p.1;
       }
 
   -- the fragments with cells of the edit, and those with cells of its runs, are all that it concerns
@@ -270,10 +270,11 @@ module _ (fs : List Fragment) (x : IndexState) (found : IsFound fs x) where
 -- ---- more places
 
 -- one more item of which something is true
-pub each_more : {A : Type 0} (P Q : A → Type 0) → ((x : A) → P x → Q x) → (xs : List A) (i : ℕ) (x : A) → i < length xs → x ≡ get_or xs i x → AllByRecursion P (take i xs) → Q x → AllByRecursion Q (take (i + 1) xs)
-each_more {A} P Q f xs i x l e h q =
-    let more : take (i + 1) xs ≡ take i xs ++ x ∷ [] = take_more xs i x l ∙ ap (λ (y : A). take i xs ++ y ∷ []) (sym e) in
-    subst (AllByRecursion Q) (sym more) (each_append Q (take i xs) (x ∷ []) (each_map P Q f (take i xs) h) (q, tt))
+pub each_more : {A : Type 0} (P Q : A → Type 0) → ((x : A) → P x → Q x) → (xs : List A) (i : ℕ) (d : A) → i < length xs → AllByRecursion P (take i xs) → Q (get_or xs i d) → AllByRecursion Q (take (i + 1) xs)
+each_more P Q f xs i d l h q = subst (AllByRecursion Q) (sym (take_more xs i d l)) (each_append Q (take i xs) (get_or xs i d ∷ []) (each_map P Q f (take i xs) h) (q, tt))
+
+pub each_taken : {A : Type 0} (P : A → Type 0) (xs : List A) (i : ℕ) → length xs ≤ i → AllByRecursion P (take i xs) → AllByRecursion P xs
+each_taken P xs i l h = subst (AllByRecursion P) (take_all i xs l) h
 
 pub all_have : (ps qs rs : List ℕ) → HaveAll ps qs → HaveAll qs rs → HaveAll ps rs
 all_have ps qs rs a b = λ i m. b i (a i m)

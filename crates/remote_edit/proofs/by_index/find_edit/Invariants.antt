@@ -6,7 +6,7 @@ use Rattle.remote_edit.proofs.by_index.find_edit.Given as goal
 
 abbrev pub invariant-loop-run : goal.invariant-loop-run
 invariant-loop-run l = record {
-  kept : HaveAll l.initial.places.items l.places.items;
-  cells : IsFound l.tree.items l.index → HaveCells l.tree.items l.edit 0 (2 ^ 64 - 1) l.places.items;
+  kept : HaveAll l.fn.places.items l.places.items;
+  cells : IsFound l.tree.items l.index → HaveCells l.tree.items l.fn.edit 0 (2 ^ 64 - 1) l.places.items;
   runs : IsFound l.tree.items l.index → AllByRecursion (λ (r : DeletedRun). HaveRun l.tree.items r l.places.items) (take l.run-index l.run-items);
 }

@@ -18,21 +18,21 @@ loop-places-init c =
 pub loop-places-smaller : goal.loop-places-smaller
 loop-places-smaller c =
     let t = one_further c.args.tree.now.items c.loop-places.found.items c.args.edits.now c.loop-places.found.keep.edits.now c.loop-places.found.next c.index.result c.next.new.self.next c.loop-places.places.items c.in-Some._fragment.now
-    c.loop-places.invariant.items c.loop-places.invariant.keep c.loop-places.invariant.passed (sym c.in_ok-next.ensures.item ∙ ap option_copied c.in-Some.is)
-    (c.index.ensures ∙ ap (λ p. p.given) c.in_ok-next.ensures.moved)
-    (ap (λ p. p.next) c.in_ok-next.ensures.moved ∙ ap (λ (k : ℕ). min (k + 1) (length c.loop-places.found.items)) (sym (c.index.ensures ∙ ap (λ p. p.given) c.in_ok-next.ensures.moved))) in
+    c.loop-places.invariant.items c.loop-places.invariant.keep c.loop-places.invariant.passed (sym c.in_ok-_fragment.ensures.item ∙ ap option_copied c.in-Some.is)
+    (c.index.ensures ∙ ap (λ p. p.given) c.in_ok-_fragment.ensures.moved)
+    (ap (λ p. p.next) c.in_ok-_fragment.ensures.moved ∙ ap (λ (k : ℕ). min (k + 1) (length c.loop-places.found.items)) (sym (c.index.ensures ∙ ap (λ p. p.given) c.in_ok-_fragment.ensures.moved))) in
     let a = t.forward in let b = t.within in
     let less : length c.args.tree.now.items - c.next.new.self.next < length c.args.tree.now.items - c.loop-places.found.next = omega (arith, a, b) in less
 
 pub loop-places-preserved : goal.loop-places-preserved
 loop-places-preserved c =
     let t = one_further c.args.tree.now.items c.loop-places.found.items c.args.edits.now c.loop-places.found.keep.edits.now c.loop-places.found.next c.index.result c.next.new.self.next c.loop-places.places.items c.in-Some._fragment.now
-    c.loop-places.invariant.items c.loop-places.invariant.keep c.loop-places.invariant.passed (sym c.in_ok-next.ensures.item ∙ ap option_copied c.in-Some.is)
-    (c.index.ensures ∙ ap (λ p. p.given) c.in_ok-next.ensures.moved)
-    (ap (λ p. p.next) c.in_ok-next.ensures.moved ∙ ap (λ (k : ℕ). min (k + 1) (length c.loop-places.found.items)) (sym (c.index.ensures ∙ ap (λ p. p.given) c.in_ok-next.ensures.moved))) in
+    c.loop-places.invariant.items c.loop-places.invariant.keep c.loop-places.invariant.passed (sym c.in_ok-_fragment.ensures.item ∙ ap option_copied c.in-Some.is)
+    (c.index.ensures ∙ ap (λ p. p.given) c.in_ok-_fragment.ensures.moved)
+    (ap (λ p. p.next) c.in_ok-_fragment.ensures.moved ∙ ap (λ (k : ℕ). min (k + 1) (length c.loop-places.found.items)) (sym (c.index.ensures ∙ ap (λ p. p.given) c.in_ok-_fragment.ensures.moved))) in
     record {
-      items = ap (λ p. p.items) c.in_ok-next.ensures.moved ∙ c.loop-places.invariant.items;
-      keep = ap (λ p. p.keep.edits.now) c.in_ok-next.ensures.moved ∙ c.loop-places.invariant.keep;
+      items = ap (λ p. p.items) c.in_ok-_fragment.ensures.moved ∙ c.loop-places.invariant.items;
+      keep = ap (λ p. p.keep.edits.now) c.in_ok-_fragment.ensures.moved ∙ c.loop-places.invariant.keep;
       within = t.within;
       passed = subst (HavePassed c.args.tree.now.items c.args.edits.now c.next.new.self.next) (sym c.in_ok-push.ensures.items) t.passed;
     }
@@ -40,7 +40,7 @@ loop-places-preserved c =
 pub returns : goal.returns
 returns c =
     all_passed c.args.tree.now.items c.loop-places.found.items c.args.edits.now c.loop-places.found.keep.edits.now c.loop-places.found.next c.loop-places.places.items
-    c.loop-places.invariant.items c.loop-places.invariant.keep c.loop-places.invariant.passed (sym c.in_ok-next.ensures.item ∙ ap option_copied c.in_default.is)
+    c.loop-places.invariant.items c.loop-places.invariant.keep c.loop-places.invariant.passed (sym c.in_ok-_fragment.ensures.item ∙ ap option_copied c.in_default.is)
 
 pub next-requires : goal.next-requires
 next-requires c κs = (omega arith, (refl, tt))
