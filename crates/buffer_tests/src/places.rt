@@ -244,13 +244,7 @@ fn enter(
     let id = fragment.id.copy(alloc)?;
     keep(alloc, index, fragment.stamp, fragment.offset, id)?;
     for edit in fragment.deletions.as_slice() {
-        index.add_deleted(
-            alloc,
-            *edit,
-            fragment.stamp,
-            fragment.offset,
-            fragment.len,
-        )?;
+        index.add_deleted(alloc, *edit, fragment.stamp, fragment.offset, fragment.len)?;
     }
     Ok(())
 }
