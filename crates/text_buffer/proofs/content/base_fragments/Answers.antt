@@ -1,8 +1,7 @@
 use Rattle.std.proofs.Common.{◌∙◌, ◌==◌, ℕ, List, [], ◌∷◌, length, refl, sym, ap}
 use Rattle.std.proofs.lemmas.Bool.{eqb-true, false≢true}
 use Rattle.fragments.specs.declared.fragment.Fragment.{Fragment}
-use Rattle.fragments.specs.Laws.{whole_base}
-use Rattle.fragments.specs.Stand.{entry_of}
+use Rattle.fragments.specs.Laws.{whole_base, index_of_one}
 use Rattle.fragments.proofs.Bases.{empty_base, one_base}
 use Rattle.remote_edit.proofs.Fragments.{fragment_of_base, fragments_of_base}
 use Rattle.text_buffer.proofs.Contents.{whole_one}
@@ -17,7 +16,7 @@ returns-clause-stand c =
     let is = c.in_ok-whole.ensures.fragment c.args.text.now refl in
     one_base _ _ f c.args.text.now (λ e. false≢true (sym c.if-is_empty.false ∙ c.is_empty.ensures ∙ ap (λ n. n == 0) e)) c.requires
     is c.in_ok-whole.ensures.above c.in_ok-whole.ensures.below c.in_ok-whole.ensures.ends
-    c.in_ok-plant_one.ensures (c.in_ok-index.ensures ∙ ap (λ (g : Fragment). entry_of g ∷ []) is)
+    c.in_ok-plant_one.ensures (c.in_ok-index.ensures ∙ ap index_of_one is)
 
 pub returns-then-is_empty-clause-fragments : goal.returns-then-is_empty-clause-fragments
 returns-then-is_empty-clause-fragments c =
