@@ -1,5 +1,5 @@
 -- How many queries lines have.
-use Rattle.std.proofs.Common.{ℕ, [], ◌≤◌, arith, ◌≡◌, ◌+◌, cond, List, ◌∷◌, Bool, true, false, length, ◌-◌}
+use Rattle.std.proofs.Common.{ℕ, [], ◌≤◌, arith, ◌≡◌, ◌+◌, cond, List, ◌∷◌, Bool, true, false, length}
 use Rattle.std.proofs.lemmas.List.Sums.{sum_by-cons}
 use Rattle.std.specs.Prelude.{nat_le}
 use Rattle.std.proofs.lemmas.Bool.{and_from, le-leb}

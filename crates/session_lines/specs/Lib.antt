@@ -5,5 +5,6 @@ pub mod Parts
 pub mod Forms
 pub mod Heading
 pub mod Session
+pub mod Kept
 pub mod Earlier
 pub mod Report

@@ -10,8 +10,9 @@ use crate::earlier::EarlierLines;
 use crate::fault::{DecodeFault, Word};
 use crate::forms::line_of_value;
 use crate::header::{Header, header_of_value};
+use crate::line_list::SessionLines;
 use crate::line_value::{LineFault, value_of};
-use crate::session::{Session, SessionLine, SessionLines};
+use crate::session::{Session, SessionLine};
 use std::alloc::Global;
 
 /// The most lines of a session, `lines_limit` of contracts.
@@ -114,7 +115,7 @@ fn rest_of(alloc: Global, replicas: &[u16], text: &[u8]) -> Result<SessionLines,
     ensures fault { IfErr result (λ e. (rest_of replicas.now [] (lines_of text.now) ≡ Err e)
         ⊎ (e ≡ DecodeFault.OutOfMemory)) }
 {
-    let mut lines = EarlierLines::new(alloc);
+    let mut lines = EarlierLines::with_capacity(alloc, line_count(text))?;
     let mut rest = text;
     while !rest.is_empty() {
         let (line, after) = first_line(rest);

@@ -5,7 +5,9 @@ ghost use Rattle.std.specs.Option.{option_copied};
 ghost use Rattle.session_lines.specs.Session.{has_anchor, has_mark, is_name, is_named, operation_count};
 
 use crate::OutOfMemory;
-use crate::session::{SessionLine, SessionLines};
+use crate::kept::KeptLine;
+use crate::line_list::SessionLines;
+use crate::session::SessionLine;
 use std::alloc::Global;
 use std::collections::BTreeSet;
 use std::marker::Model;
@@ -13,7 +15,7 @@ use std::marker::Model;
 /// Lines that were read, with what later lines are checked against. Contracts see them as their list.
 #[derive(Drop)]
 pub struct EarlierLines {
-    lines: Vec<SessionLine>,
+    lines: Vec<KeptLine>,
     /// How many of them are operation lines.
     operations: u64,
     /// The names under which they keep anchors.
@@ -51,16 +53,20 @@ fn keep_name(
 }
 
 impl EarlierLines {
-    /// No lines. It does not allocate.
-    pub fn new(alloc: Global) -> EarlierLines
-        ensures { result ≡ [] }
+    /// No lines, and room for this many.
+    ///
+    /// # Errors
+    ///
+    /// `OutOfMemory` if the room cannot be allocated.
+    pub fn with_capacity(alloc: Global, count: usize) -> Result<EarlierLines, OutOfMemory>
+        ensures { IfOk result (λ lines. lines ≡ []) }
     {
-        EarlierLines {
-            lines: Vec::new(alloc),
+        Ok(EarlierLines {
+            lines: Vec::with_capacity(alloc, count)?,
             operations: 0,
             anchors: BTreeSet::new(alloc),
             marks: BTreeSet::new(alloc),
-        }
+        })
     }
 
     /// How many lines there are.
@@ -119,7 +125,7 @@ impl EarlierLines {
         let operations = operations + line.is_operation() as u64;
         keep_name(alloc, &mut anchors, line.anchor_name())?;
         keep_name(alloc, &mut marks, line.mark_name())?;
-        lines.push(line)?;
+        lines.push(KeptLine::new(alloc, line)?)?;
         Ok(EarlierLines {
             lines,
             operations,

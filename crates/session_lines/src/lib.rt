@@ -8,6 +8,8 @@ mod earlier;
 mod fault;
 mod forms;
 mod header;
+mod kept;
+mod line_list;
 mod line_value;
 mod parts;
 mod report;
@@ -17,9 +19,10 @@ mod text;
 pub use decoding::decode;
 pub use fault::{DecodeFault, Word};
 pub use lamport_clock::OutOfMemory;
+pub use line_list::{LineQueue, SessionLines};
 pub use report::{
     AnchorAnswer, FindAnswer, GiveAnswer, OffsetAnswer, PointAnswer, QueryAnswer, Report,
     SinceAnswer, TextEdits, TextHead, WhereAnswer,
 };
-pub use session::{Ids, Numbers, Session, SessionLine, SessionLines};
+pub use session::{Ids, Numbers, Session, SessionLine};
 pub use text::{write_line, write_text};

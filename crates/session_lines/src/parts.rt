@@ -122,7 +122,7 @@ fn piece_of_value(alloc: Global, value: &Value) -> Result<Option<Piece>, OutOfMe
 fn pieces_from(alloc: Global, members: &[Value]) -> Result<Option<Pieces>, OutOfMemory>
     ensures { IfOk result (λ p. p ≡ all_of piece_of_value (map view members.now)) }
 {
-    let mut pieces = Vec::new(alloc);
+    let mut pieces = Vec::with_capacity(alloc, members.len())?;
     for member in members {
         match piece_of_value(alloc, member)? {
             Some(piece) => pieces.push(piece)?,
@@ -261,7 +261,7 @@ fn count_of_value(value: &Value) -> Option<UndoCount>
 fn counts_from(alloc: Global, members: &[Value]) -> Result<Option<Counts>, OutOfMemory>
     ensures { IfOk result (λ c. c ≡ all_of count_of_value (map view members.now)) }
 {
-    let mut counts = Vec::new(alloc);
+    let mut counts = Vec::with_capacity(alloc, members.len())?;
     for member in members {
         match count_of_value(member) {
             Some(count) => counts.push(count)?,
@@ -288,7 +288,7 @@ pub fn counts_of_value(alloc: Global, value: &Value) -> Result<Option<Counts>, O
 fn numbers_from(alloc: Global, members: &[Value]) -> Result<Option<Numbers>, OutOfMemory>
     ensures { IfOk result (λ ns. ns ≡ all_of whole_number (map view members.now)) }
 {
-    let mut numbers = Vec::new(alloc);
+    let mut numbers = Vec::with_capacity(alloc, members.len())?;
     for member in members {
         match member.as_u64() {
             Some(number) => numbers.push(number)?,

@@ -240,7 +240,7 @@ impl Report {
         ensures { result ≡ session_counts session.now }
     {
         Report::Checked {
-            lines: 1 + session.lines.as_slice().len() as u64,
+            lines: 1 + session.lines.len(),
             replicas: session.replicas.as_slice().len() as u64,
             operations: session.operation_count(),
             queries: session.query_count(),

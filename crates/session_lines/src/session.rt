@@ -3,6 +3,7 @@ ghost use Rattle.std.specs.Prelude.{◌≡◌};
 ghost use Rattle.std.specs.Option.{option_copied};
 ghost use Rattle.session_lines.specs.Session.{anchor_name, is_operation, is_query, mark_name, operation_count, query_count};
 
+use crate::line_list::SessionLines;
 use op_model::{Bias, EditOp, Pieces, Text, UndoOp};
 use std::marker::Model;
 
@@ -120,45 +121,6 @@ impl SessionLine {
     }
 }
 
-/// The lines after the header, seen as their list.
-#[derive(Drop)]
-pub struct SessionLines {
-    inner: Vec<SessionLine>,
-}
-
-impl Model for SessionLines {
-    ghost use Rattle.std.specs.Prelude.{List};
-    ghost use Rattle.session_lines.specs.declared.session.SessionLine.{SessionLine};
-
-    ghost Value = { List SessionLine };
-
-    ghost view = { λ l. l.inner.items };
-}
-
-impl SessionLines {
-    /// The list of the lines of a vector. Does not allocate.
-    pub fn new(inner: Vec<SessionLine>) -> SessionLines
-        ensures { result ≡ inner.items }
-    {
-        SessionLines { inner }
-    }
-
-    /// The lines in their order. O(1); does not allocate.
-    pub fn as_slice(&self) -> &[SessionLine]
-        ensures { result.now ≡ self.now }
-    {
-        &self.inner
-    }
-
-    /// The vector of the lines. Does not allocate.
-    pub fn into_vec(self) -> Vec<SessionLine>
-        ensures { result.items ≡ self }
-    {
-        let SessionLines { inner } = self;
-        inner
-    }
-}
-
 /// The ids of replicas, seen as their list.
 #[derive(Drop)]
 pub struct Ids {
@@ -237,23 +199,13 @@ impl Session {
     pub fn operation_count(&self) -> u64
         ensures { result ≡ operation_count self.now.lines }
     {
-        let lines = self.lines.as_slice();
-        let mut count = 0;
-        for line in lines {
-            count += line.is_operation() as u64;
-        }
-        count
+        self.lines.operation_count()
     }
 
     /// How many queries there are. Linear in the lines.
     pub fn query_count(&self) -> u64
         ensures { result ≡ query_count self.now.lines }
     {
-        let lines = self.lines.as_slice();
-        let mut count = 0;
-        for line in lines {
-            count += line.is_query() as u64;
-        }
-        count
+        self.lines.query_count()
     }
 }
