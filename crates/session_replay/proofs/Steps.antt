@@ -1,5 +1,5 @@
 -- Lines worked one after another.
-use Rattle.std.proofs.Common.{◌≡◌, ℕ, ◌+◌, ◌<◌, ◌≤◌, List, [], ◌∷◌, ◌++◌, length, drop, get_or, map, Option, None, Some, sym, ap, ◌∙◌}
+use Rattle.std.proofs.Common.{◌≡◌, ℕ, ◌+◌, ◌<◌, ◌≤◌, List, [], ◌∷◌, ◌++◌, length, drop, get_or, map, Option, None, Some, MatchOption, sym, ap, subst, ◌∙◌}
 use Rattle.std.specs.List.{flat_map}
 use Rattle.std.proofs.lemmas.List.{drop_all, drop_more}
 use Rattle.lamport_clock.specs.Versions.{Entries}
@@ -40,6 +40,14 @@ pub none_reported : {A : Type 0} (g : A → List Report) (o : Option A) (out : L
 none_reported g o out e = nothing_written out ∙ ap (λ o. out ++ report_text (reports_at g o)) e
 
 -- ---- one line more
+
+-- what is left begins with the line that is taken out
+pub taken_first : (left : List SessionLine) (o : Option (SessionLine × List SessionLine)) (p : SessionLine × List SessionLine) → MatchOption o (left ≡ []) (λ q. left ≡ q.0 ∷ q.1) → o ≡ Some p → left ≡ p.0 ∷ p.1
+taken_first left o p m e = subst (λ (o : Option (SessionLine × List SessionLine)). MatchOption o (left ≡ []) (λ q. left ≡ q.0 ∷ q.1)) e m
+
+-- nothing is left, where no line is taken out
+pub none_taken : (left : List SessionLine) (o : Option (SessionLine × List SessionLine)) → MatchOption o (left ≡ []) (λ q. left ≡ q.0 ∷ q.1) → o ≡ None → left ≡ []
+none_taken left o m e = subst (λ (o : Option (SessionLine × List SessionLine)). MatchOption o (left ≡ []) (λ q. left ≡ q.0 ∷ q.1)) e m
 
 -- the next of the lines that are left
 module _ (left : List SessionLine) (l : SessionLine) (rest : List SessionLine) (s t : State) (begins : left ≡ l ∷ rest) (is : t ≡ step l s) where

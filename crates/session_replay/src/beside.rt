@@ -23,7 +23,7 @@ use crate::queries::{Question, query_line, question_of};
 use crate::replay::Progress;
 use query_dispatch::{Dispatcher, Gathering, Publishers, open_desks};
 use query_workers::{Answer, Desk, Done, Gate, work_beside};
-use session_lines::{QueryAnswer, Report, Session, SessionLine};
+use session_lines::{LineQueue, QueryAnswer, Report, Session, SessionLine};
 use snapshot_pub::Told;
 use std::alloc::Global;
 use std::sync::Wait;
@@ -114,31 +114,33 @@ impl Editor {
         alloc: Global,
         gate: &G,
         publishers: &mut Publishers,
-        lines: Vec<SessionLine>,
+        mut lines: LineQueue,
     ) -> Result<(), OutOfMemory>
         requires asking { (asks : List (Ask Question))
             × IsAsking self.old.progress.replicas asks self.old.dispatcher publishers.old }
-        requires room { self.old.dispatcher.count + query_count lines.items
+        requires room { self.old.dispatcher.count + query_count lines
             ≤ self.old.dispatcher.limit }
         ensures same { self.new.workers ≡ self.old.workers }
         ensures report { OnOk result (self.new.progress.report.items
             ≡ self.old.progress.report.items
-            ++ report_text (all_events lines.items (state_of self.old.progress))) }
+            ++ report_text (all_events lines (state_of self.old.progress))) }
         ensures state { OnOk result (state_of self.new.progress
-            ≡ after_all lines.items (state_of self.old.progress)) }
+            ≡ after_all lines (state_of self.old.progress)) }
         ensures ends { KeepsEnds self.old.dispatcher publishers.old self.new.dispatcher
             publishers.new }
         ensures asking { OnOk result (AsksMore self.old.progress.replicas self.old.dispatcher
-            publishers.old (λ n. queries_from n lines.items (state_of self.old.progress))
+            publishers.old (λ n. queries_from n lines (state_of self.old.progress))
             self.new.progress.replicas self.new.dispatcher publishers.new) }
         ensures err { OnErr result ((asks : List (Ask Question))
             × HasAsked self.new.dispatcher asks) }
     {
-        let mut number = 1;
-        for line in lines {
-            number += 1;
+        let count = lines.len();
+        while let Some((line, rest)) = lines.split_first(alloc)? {
+            // the header is line 1
+            let number = 1 + (count - rest.len());
             gate.hold(rt, self.workers, number);
             self.work_line(rt, alloc, publishers, line)?;
+            lines = rest;
         }
         Ok(())
     }
@@ -198,10 +200,10 @@ impl Editor {
         alloc: Global,
         gate: &G,
         publishers: &mut Publishers,
-        lines: Vec<SessionLine>,
+        lines: LineQueue,
     ) -> Result<Edited, OutOfMemory>
-        requires { CanEdit lines.items self publishers.old }
-        ensures { IfOk result (λ e. HasEdited lines.items self e) }
+        requires { CanEdit lines self publishers.old }
+        ensures { IfOk result (λ e. HasEdited lines self e) }
     {
         match self.work_lines(rt, alloc, gate, publishers, lines) {
             Ok(()) => self.leave(rt, alloc, publishers),
@@ -291,10 +293,10 @@ fn edit_beside<R: Threads + Wait + Sync, G: Gate>(
     publishers: &mut Publishers,
     editor: Editor,
     desks: Vec<Desk<Question>>,
-    lines: Vec<SessionLine>,
+    lines: LineQueue,
 ) -> Result<(Edited, Vec<Done<Question, QueryAnswer>>), OutOfMemory>
-    requires { CanEdit lines.items editor publishers.old }
-    ensures edited { IfOk result (λ r. HasEdited lines.items editor r.0) }
+    requires { CanEdit lines editor publishers.old }
+    ensures edited { IfOk result (λ r. HasEdited lines editor r.0) }
     ensures worked { IfOk result (λ r. HaveWorked plain_answer desks.items r.1.items) }
 {
     let (edited, dones) = work_beside(
@@ -303,8 +305,8 @@ fn edit_beside<R: Threads + Wait + Sync, G: Gate>(
         gate,
         desks,
         move || -> Result<Edited, OutOfMemory>
-            requires { CanEdit lines.items editor publishers.now }
-            ensures { IfOk result (λ e. HasEdited lines.items editor e) }
+            requires { CanEdit lines editor publishers.now }
+            ensures { IfOk result (λ e. HasEdited lines editor e) }
         { editor.edit(rt, alloc, gate, publishers, lines) },
     );
     Ok((edited?, dones?))
@@ -328,7 +330,7 @@ fn replay_beside<R: Threads + Wait + Sync, G: Gate>(
     let progress = Progress::new(alloc, session.replicas.as_slice(), session.base.as_str())?;
     let firsts = progress.snapshots(alloc)?;
     let limit = session.query_count();
-    let lines = session.lines.into_vec();
+    let lines = session.lines.into_queue();
     let (dispatcher, desks) = open_desks(rt, alloc, publishers, firsts, limit)?;
     let editor = Editor {
         workers,

@@ -22,7 +22,7 @@ use crate::replicas::Replicas;
 use crate::{OutOfMemory, names};
 use lamport_clock::Version;
 use op_model::{Anchor, Bias, Operation, Pieces, Text};
-use session_lines::{Numbers, Report, Session, SessionLine, write_line};
+use session_lines::{LineQueue, Numbers, Report, Session, SessionLine, write_line};
 use std::alloc::Global;
 use std::collections::BTreeMap;
 use text_buffer::Snapshot;
@@ -426,21 +426,22 @@ fn answer_if_query(
 fn work_lines(
     progress: &mut Progress,
     alloc: Global,
-    lines: Vec<SessionLine>,
+    mut lines: LineQueue,
     answers: &mut Vec<Report>,
 ) -> Result<(), OutOfMemory>
     ensures report { OnOk result (progress.new.report.items
         ≡ progress.old.report.items
-        ++ report_text (all_events lines.items (state_of progress.old))) }
+        ++ report_text (all_events lines (state_of progress.old))) }
     ensures state { OnOk result (state_of progress.new
-        ≡ after_all lines.items (state_of progress.old)) }
+        ≡ after_all lines (state_of progress.old)) }
     ensures answers { OnOk result (answers.new.items
         ≡ answers.old.items ++ map plain_line
-        (queries_from (length answers.old.items + 1) lines.items (state_of progress.old))) }
+        (queries_from (length answers.old.items + 1) lines (state_of progress.old))) }
 {
-    for line in lines {
+    while let Some((line, rest)) = lines.split_first(alloc)? {
         answer_if_query(progress, alloc, &line, answers)?;
         progress.work_line(alloc, line)?;
+        lines = rest;
     }
     Ok(())
 }
@@ -473,6 +474,11 @@ pub fn report(alloc: Global, session: Session) -> Result<Vec<u8>, OutOfMemory>
 {
     let mut progress = Progress::new(alloc, session.replicas.as_slice(), session.base.as_str())?;
     let mut answers = Vec::new(alloc);
-    work_lines(&mut progress, alloc, session.lines.into_vec(), &mut answers)?;
+    work_lines(
+        &mut progress,
+        alloc,
+        session.lines.into_queue(),
+        &mut answers,
+    )?;
     progress.finish(alloc, answers.as_slice())
 }

@@ -2,13 +2,13 @@
 use crate::limits::{Part, joined};
 use crate::tally::{Host, Tally};
 use op_model::OutOfMemory;
-use session_lines::{DecodeFault, SessionLine, Word, decode};
+use session_lines::{DecodeFault, LineQueue, SessionLine, Word, decode};
 use std::alloc::Global;
 
 /// Decodes the inputs of each table.
 pub fn test<R: Host>(rt: &R, tally: &mut Tally) {
     for (input, ids, words) in SESSIONS {
-        let is_right = reads(rt.alloc(), input, ids, words);
+        let is_right = reads(rt.alloc(), input, ids, words) == Ok(true);
         tally.note(rt, "decoding", input, is_right);
     }
     for (version, entries) in VERSIONS {
@@ -109,25 +109,27 @@ const SESSIONS: &[(&str, &[u16], &[&str])] = &[
     ),
 ];
 
-fn have_words(lines: &[SessionLine], words: &[&str]) -> bool {
-    for (line, word) in lines.iter().zip(words) {
-        if name_of(line) != *word {
-            return false;
+// Whether the lines are of these words.
+fn have_words(alloc: Global, mut lines: LineQueue, words: &[&str]) -> Result<bool, OutOfMemory> {
+    for word in words {
+        let Some((line, rest)) = lines.split_first(alloc)? else {
+            return Ok(false);
+        };
+        if name_of(&line) != *word {
+            return Ok(false);
         }
+        lines = rest;
     }
-    lines.len() == words.len()
+    Ok(lines.split_first(alloc)?.is_none())
 }
 
 // Whether the input is a session with these replicas and lines of these words.
-fn reads(alloc: Global, input: &str, ids: &[u16], words: &[&str]) -> bool {
-    match decode(alloc, input.as_bytes()) {
-        Ok(session) => {
-            session.version == 1
-                && session.replicas.as_slice() == ids
-                && have_words(session.lines.as_slice(), words)
-        }
-        Err(_) => false,
-    }
+fn reads(alloc: Global, input: &str, ids: &[u16], words: &[&str]) -> Result<bool, OutOfMemory> {
+    let Ok(session) = decode(alloc, input.as_bytes()) else {
+        return Ok(false);
+    };
+    let is_headed = session.version == 1 && session.replicas.as_slice() == ids;
+    Ok(have_words(alloc, session.lines.into_queue(), words)? && is_headed)
 }
 
 // Versions as they stand in a line, and their entries.
@@ -144,12 +146,14 @@ const VERSIONS: &[(&str, &[(u16, u32)])] = &[
 // Whether the version of an operation line is read as these entries.
 fn reads_version(alloc: Global, version: &str, want: &[(u16, u32)]) -> Result<bool, OutOfMemory> {
     let input = format!(in alloc; "[\"zedbuf\",1,\"\",[1]]\n[\"op\",[9,1],{version},[]]")?;
-    Ok(match decode(alloc, input.as_bytes()) {
-        Ok(session) => match session.lines.as_slice() {
-            [SessionLine::Op(edit)] => edit.version.as_slice() == want,
-            _ => false,
-        },
-        Err(_) => false,
+    let Ok(session) = decode(alloc, input.as_bytes()) else {
+        return Ok(false);
+    };
+    Ok(match session.lines.into_queue().split_first(alloc)? {
+        Some((SessionLine::Op(edit), rest)) => {
+            edit.version.as_slice() == want && rest.split_first(alloc)?.is_none()
+        }
+        _ => false,
     })
 }
 

@@ -10,7 +10,7 @@ edit_beside-requires-after_bounds g c κs within =
     let p = c.in_ok-progress.ensures in
     let start = p.buffers ∙ ap (λ base. map (first_buffer base) c.as_slice.result.now) c.as_str.ensures ∙ ap (map (first_buffer s.base)) c.as_slice.ensures in
     let made = c.in_ok-dispatcher.ensures in
-    can_edit s c.requires.session _ c.open_desks.new.publishers start c.args.workers c.query_count-limit.result c.into_vec-lines.result.items c.into_vec-lines.ensures refl (made.count ∙ c.requires.none.0) c.query_count-limit.ensures
+    can_edit s c.requires.session _ c.open_desks.new.publishers start c.args.workers c.query_count-limit.result c.into_queue-lines.result c.into_queue-lines.ensures refl (made.count ∙ c.requires.none.0) c.query_count-limit.ensures
     made.asked.0 made.asked.1 made.level made.tied (made.published ∙ c.in_ok-firsts.ensures)
 
 pub gathered_report-requires-after_bounds : goal.gathered_report-requires-after_bounds
@@ -20,7 +20,7 @@ gathered_report-requires-after_bounds g c κs within =
     let start = p.buffers ∙ ap (λ base. map (first_buffer base) c.as_slice.result.now) c.as_str.ensures ∙ ap (map (first_buffer s.base)) c.as_slice.ensures in
     let begins = opened_state s c.in_ok-progress.progress start p.operations p.anchors p.marks in
     let done = c.in_ok-edited.ensures in
-    (_, _, _, done.edited.left, are_past s c.into_vec-lines.result.items c.into_vec-lines.ensures _ _ done.edited begins, c.in_ok-dispatcher.ensures.ends, done.worked)
+    (_, _, _, done.edited.left, are_past s c.into_queue-lines.result c.into_queue-lines.ensures _ _ done.edited begins, c.in_ok-dispatcher.ensures.ends, done.worked)
 
 pub returns : goal.returns
 returns g c =
@@ -30,5 +30,5 @@ returns g c =
     let begins = opened_state s c.in_ok-progress.progress start p.operations p.anchors p.marks in
     let done = c.in_ok-edited.ensures.edited in
     IfOk-weaker c.gathered_report.result _ _
-    (λ v t. is_report s c.into_vec-lines.result.items c.into_vec-lines.ensures _ _ done begins c.args.workers c.requires.some (c.in_ok-dispatcher.ensures.count ∙ c.requires.none.0) p.report t.0 t.1 v.items t.2)
+    (λ v t. is_report s c.into_queue-lines.result c.into_queue-lines.ensures _ _ done begins c.args.workers c.requires.some (c.in_ok-dispatcher.ensures.count ∙ c.requires.none.0) p.report t.0 t.1 v.items t.2)
     (c.gathered_report.ensures _ _ done.left)

@@ -1,5 +1,4 @@
-use Rattle.std.proofs.Common.{◌≡◌, ◌+◌, ◌++◌, List, length}
-use Rattle.std.specs.Vec.Iter.{into_iter_items}
+use Rattle.std.proofs.Common.{◌≡◌, ◌≤◌, ◌++◌, List, length}
 use Rattle.query_workers.specs.Asks.{Ask}
 use Rattle.session_lines.specs.Report.{report_text}
 use Rattle.session_replay.specs.Work.{all_events, after_all}
@@ -10,14 +9,17 @@ use Rattle.session_replay.proofs.Growth.{AllGrow}
 use Rattle.session_replay.proofs.Asking.{Leads}
 use Rattle.session_replay.proofs.beside.Editor.work_lines.Given as goal
 
-abbrev pub invariant-loop-line : goal.invariant-loop-line
-invariant-loop-line g l = record {
-  number : l.number + length (into_iter_items l.line-iterator) ≡ length l.fn.lines.items + 1;
+abbrev pub invariant-loop-lines : goal.invariant-loop-lines
+invariant-loop-lines g l = record {
+  count : length l.lines ≤ l.count;
   workers : l.self.workers ≡ l.fn.self.workers;
-  report : l.self.progress.report.items ++ report_text (all_events (into_iter_items l.line-iterator) (state_of l.self.progress)) ≡ l.fn.self.progress.report.items ++ report_text (all_events l.fn.lines.items (state_of l.fn.self.progress));
-  state : after_all (into_iter_items l.line-iterator) (state_of l.self.progress) ≡ after_all l.fn.lines.items (state_of l.fn.self.progress);
+  report : l.self.progress.report.items ++ report_text (all_events l.lines (state_of l.self.progress)) ≡ l.fn.self.progress.report.items ++ report_text (all_events l.fn.lines (state_of l.fn.self.progress));
+  state : after_all l.lines (state_of l.self.progress) ≡ after_all l.fn.lines (state_of l.fn.self.progress);
   grows : AllGrow l.fn.self.progress.replicas l.self.progress.replicas;
   ends : KeepsEnds l.fn.self.dispatcher l.fn.publishers l.self.dispatcher l.publishers;
   asking : (asks : List (Ask Question)) → IsAsking l.fn.self.progress.replicas asks l.fn.self.dispatcher l.fn.publishers
-      → Leads l.fn.lines.items (state_of l.fn.self.progress) asks (into_iter_items l.line-iterator) (state_of l.self.progress) l.self.dispatcher l.publishers;
+      → Leads l.fn.lines (state_of l.fn.self.progress) asks l.lines (state_of l.self.progress) l.self.dispatcher l.publishers;
 }
+
+abbrev pub decreases-loop-lines : goal.decreases-loop-lines
+decreases-loop-lines g l = length l.lines
