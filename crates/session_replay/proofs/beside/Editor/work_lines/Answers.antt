@@ -8,8 +8,8 @@ use Rattle.session_replay.proofs.Steps.{more_report, more_state, lines_done, non
 use Rattle.session_replay.proofs.Asking.{Leads, ends_same, ends_trans, leads_first, leads_last, leads_more, room_for}
 use Rattle.session_replay.proofs.beside.Editor.work_lines.Goals as goal
 
-pub loop-lines-init : goal.loop-lines-init
-loop-lines-init g c =
+pub loop-line-init : goal.loop-line-init
+loop-line-init g c =
     let ls = c.args.lines in
     let s = state_of c.args.self.now.progress in
     let d = c.args.self.now.dispatcher in record {
@@ -24,43 +24,46 @@ loop-lines-init g c =
 
 pub work_line-requires-clause-asking : goal.work_line-requires-clause-asking
 work_line-requires-clause-asking g c =
-    let l = c.loop-lines.invariant.asking c.requires.asking.0 c.requires.asking.1 in (c.requires.asking.0 ++ asks_among c.args.self.now.progress.replicas l.more, l.asking)
+    let l = c.loop-line.invariant.asking c.requires.asking.0 c.requires.asking.1 in (c.requires.asking.0 ++ asks_among c.args.self.now.progress.replicas l.more, l.asking)
 
 pub work_line-requires-clause-room : goal.work_line-requires-clause-room
 work_line-requires-clause-room g c =
-    room_for c.args.lines (state_of c.args.self.now.progress) c.requires.asking.0 c.loop-lines.lines c.in-Some.line c.in-Some.rest (state_of c.loop-lines.self.progress) c.loop-lines.self.dispatcher c.loop-lines.publishers
-    (taken_first c.loop-lines.lines _ (c.in-Some.line, c.in-Some.rest) c.in_ok-line.ensures c.in-Some.is) (c.loop-lines.invariant.asking c.requires.asking.0 c.requires.asking.1)
+    room_for c.args.lines (state_of c.args.self.now.progress) c.requires.asking.0 c.loop-line.lines c.in-Some.line c.in-Some.rest (state_of c.loop-line.self.progress) c.loop-line.self.dispatcher c.loop-line.publishers
+    (taken_first c.loop-line.lines _ (c.in-Some.line, c.in-Some.rest) c.in_ok-line.ensures c.in-Some.is) (c.loop-line.invariant.asking c.requires.asking.0 c.requires.asking.1)
 
-pub loop-lines-preserved : goal.loop-lines-preserved
-loop-lines-preserved g c =
-    let left = c.loop-lines.lines in
+pub loop-line-smaller : goal.loop-line-smaller
+loop-line-smaller g c = omega (arith, ap (λ ls. length ls) (taken_first c.loop-line.lines _ (c.in-Some.line, c.in-Some.rest) c.in_ok-line.ensures c.in-Some.is))
+
+pub loop-line-preserved : goal.loop-line-preserved
+loop-line-preserved g c =
+    let left = c.loop-line.lines in
     let rest = c.in-Some.rest in
     let l = c.in-Some.line in
-    let s = state_of c.loop-lines.self.progress in
+    let s = state_of c.loop-line.self.progress in
     let t = state_of c.work_line.new.self.progress in
     let d = c.work_line.new.self.dispatcher in
     let p = c.work_line.new.publishers in
     let begins = taken_first left _ (l, rest) c.in_ok-line.ensures c.in-Some.is in
     let worked = c.in_ok-work_line.ensures in
     let is : t ≡ step l s = worked.state in
-    let inv = c.loop-lines.invariant in record {
+    let inv = c.loop-line.invariant in record {
       count = omega (arith, inv.count, ap (λ ls. length ls) begins);
       workers = worked.same ∙ inv.workers;
       report = more_report left l rest s t begins is _ _ _ inv.report worked.report;
       state = more_state left l rest s t begins is _ inv.state;
       grows = all_trans _ s.buffers t.buffers inv.grows (subst (λ u. AllGrow s.buffers u.buffers) (sym is) (step_grows l s));
-      ends = ends_trans _ c.loop-lines.self.dispatcher d _ c.loop-lines.publishers p inv.ends worked.ends;
-      asking = λ asks a. leads_more c.args.lines (state_of c.args.self.now.progress) asks left l rest s c.loop-lines.self.dispatcher c.loop-lines.publishers begins (inv.asking asks a) t d p inv.grows is worked.ends.limit worked.asking;
+      ends = ends_trans _ c.loop-line.self.dispatcher d _ c.loop-line.publishers p inv.ends worked.ends;
+      asking = λ asks a. leads_more c.args.lines (state_of c.args.self.now.progress) asks left l rest s c.loop-line.self.dispatcher c.loop-line.publishers begins (inv.asking asks a) t d p inv.grows is worked.ends.limit worked.asking;
     }
 
 pub returns-clause-report : goal.returns-clause-report
-returns-clause-report g c = lines_done c.loop-lines.lines (state_of c.loop-lines.self.progress) _ _ (none_taken c.loop-lines.lines _ c.in_ok-line.ensures c.in_default.is) c.loop-lines.invariant.report
+returns-clause-report g c = lines_done c.loop-line.lines (state_of c.loop-line.self.progress) _ _ (none_taken c.loop-line.lines _ c.in_ok-line.ensures c.in_default.is) c.loop-line.invariant.report
 
 pub returns-clause-asking : goal.returns-clause-asking
 returns-clause-asking g c =
-    λ asks a. leads_last c.args.lines (state_of c.args.self.now.progress) asks c.loop-lines.lines (state_of c.loop-lines.self.progress) c.loop-lines.self.dispatcher c.loop-lines.publishers (none_taken c.loop-lines.lines _ c.in_ok-line.ensures c.in_default.is)
-    (c.loop-lines.invariant.asking asks a)
+    λ asks a. leads_last c.args.lines (state_of c.args.self.now.progress) asks c.loop-line.lines (state_of c.loop-line.self.progress) c.loop-line.self.dispatcher c.loop-line.publishers (none_taken c.loop-line.lines _ c.in_ok-line.ensures c.in_default.is)
+    (c.loop-line.invariant.asking asks a)
 
 pub returns-in_err-line-clause-err : goal.returns-in_err-line-clause-err
 returns-in_err-line-clause-err g c =
-    let l = c.loop-lines.invariant.asking c.requires.asking.0 c.requires.asking.1 in (c.requires.asking.0 ++ asks_among c.args.self.now.progress.replicas l.more, l.asking.asked)
+    let l = c.loop-line.invariant.asking c.requires.asking.0 c.requires.asking.1 in (c.requires.asking.0 ++ asks_among c.args.self.now.progress.replicas l.more, l.asking.asked)

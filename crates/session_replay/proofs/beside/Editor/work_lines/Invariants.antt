@@ -9,8 +9,8 @@ use Rattle.session_replay.proofs.Growth.{AllGrow}
 use Rattle.session_replay.proofs.Asking.{Leads}
 use Rattle.session_replay.proofs.beside.Editor.work_lines.Given as goal
 
-abbrev pub invariant-loop-lines : goal.invariant-loop-lines
-invariant-loop-lines g l = record {
+abbrev pub invariant-loop-line : goal.invariant-loop-line
+invariant-loop-line g l = record {
   count : length l.lines ≤ l.count;
   workers : l.self.workers ≡ l.fn.self.workers;
   report : l.self.progress.report.items ++ report_text (all_events l.lines (state_of l.self.progress)) ≡ l.fn.self.progress.report.items ++ report_text (all_events l.fn.lines (state_of l.fn.self.progress));
@@ -21,5 +21,5 @@ invariant-loop-lines g l = record {
       → Leads l.fn.lines (state_of l.fn.self.progress) asks l.lines (state_of l.self.progress) l.self.dispatcher l.publishers;
 }
 
-abbrev pub decreases-loop-lines : goal.decreases-loop-lines
-decreases-loop-lines g l = length l.lines
+abbrev pub decreases-loop-line : goal.decreases-loop-line
+decreases-loop-line g l = length l.lines
