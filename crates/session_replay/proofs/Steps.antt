@@ -1,5 +1,5 @@
 -- Lines worked one after another.
-use Rattle.std.proofs.Common.{◌≡◌, ℕ, ◌+◌, ◌<◌, ◌≤◌, List, [], ◌∷◌, ◌++◌, length, drop, get_or, map, Option, None, Some, MatchOption, sym, ap, subst, ◌∙◌}
+use Rattle.std.proofs.Common.{◌≡◌, ℕ, ◌+◌, ◌<◌, ◌≤◌, List, [], ◌∷◌, ◌++◌, length, drop, get_or, map, Option, None, Some, MatchOption, Result, Ok, Err, OnErr, sym, ap, subst, ◌∙◌}
 use Rattle.std.specs.List.{flat_map}
 use Rattle.std.proofs.lemmas.List.{drop_all, drop_more}
 use Rattle.lamport_clock.specs.Versions.{Entries}
@@ -48,6 +48,11 @@ taken_first left o p m e = subst (λ (o : Option (SessionLine × List SessionLin
 -- nothing is left, where no line is taken out
 pub none_taken : (left : List SessionLine) (o : Option (SessionLine × List SessionLine)) → MatchOption o (left ≡ []) (λ q. left ≡ q.0 ∷ q.1) → o ≡ None → left ≡ []
 none_taken left o m e = subst (λ (o : Option (SessionLine × List SessionLine)). MatchOption o (left ≡ []) (λ q. left ≡ q.0 ∷ q.1)) e m
+
+-- what holds of itself holds after an error
+pub on_err : {T E : Type 0} (r : Result T E) (P : Type 0) → P → OnErr r P
+on_err (Ok v) P p = tt
+on_err (Err e) P p = p
 
 -- the next of the lines that are left
 module _ (left : List SessionLine) (l : SessionLine) (rest : List SessionLine) (s t : State) (begins : left ≡ l ∷ rest) (is : t ≡ step l s) where

@@ -1,11 +1,10 @@
-use Rattle.std.proofs.Common.{◌≡◌, ◌+◌, length, ap, ◌∙◌, sym, subst, arith, ◌++◌, refl}
-use Rattle.session_lines.specs.Report.{report_text}
-use Rattle.session_replay.specs.Work.{all_events, after_all, step}
+use Rattle.std.proofs.Common.{◌≡◌, length, ap, ◌∙◌, sym, subst, arith, ◌++◌, refl}
+use Rattle.session_replay.specs.Work.{step}
 use Rattle.session_replay.specs.Working.{state_of}
 use Rattle.session_replay.specs.Beside.{asks_among}
 use Rattle.session_replay.proofs.Growth.{AllGrow, all_themselves, all_trans, step_grows}
-use Rattle.session_replay.proofs.Steps.{more_report, more_state, lines_done, none_taken, taken_first}
-use Rattle.session_replay.proofs.Asking.{Leads, ends_same, ends_trans, leads_first, leads_last, leads_more, room_for}
+use Rattle.session_replay.proofs.Steps.{more_report, more_state, lines_done, none_taken, on_err, taken_first}
+use Rattle.session_replay.proofs.Asking.{ends_same, ends_trans, leads_first, leads_last, leads_more, room_for}
 use Rattle.session_replay.proofs.beside.Editor.work_lines.Goals as goal
 
 pub loop-line-init : goal.loop-line-init
@@ -66,4 +65,4 @@ returns-clause-asking g c =
 
 pub returns-in_err-line-clause-err : goal.returns-in_err-line-clause-err
 returns-in_err-line-clause-err g c =
-    let l = c.loop-line.invariant.asking c.requires.asking.0 c.requires.asking.1 in (c.requires.asking.0 ++ asks_among c.args.self.now.progress.replicas l.more, l.asking.asked)
+    let l = c.loop-line.invariant.asking c.requires.asking.0 c.requires.asking.1 in on_err c.from_residual.result _ (c.requires.asking.0 ++ asks_among c.args.self.now.progress.replicas l.more, l.asking.asked)
