@@ -71,8 +71,10 @@ returns-clause-stands o c = λ h s l g.
       cells = subst (λ (z : List Fragment). Tell z (h ++ Edit e ∷ [])) (sym w.walked) (subst (λ (v : List UndoEntry). Tell (walk v e.stamp e.version 0 0 e.pieces [] fs) (h ++ Edit e ∷ [])) (sym s.counts) tells);
       filled = w.fit.0;
       ids = subst (Rise least_digits) (sym w.walked) (walk_rises u e.stamp e.version 0 0 e.pieces [] fs s.ids);
-      ascending = w.indexed.ascending;
-      index = w.indexed.entries;
+      ascending = w.indexed.entered.ascending;
+      index = w.indexed.entered.entries;
+      numbered = w.indexed.numbered;
+      deletions = w.indexed.deletions;
       counts = s.counts ∙ sym (entries_edit h (Edit e) refl);
       undos = subst (AllByRecursion (SeesUndos (h ++ Edit e ∷ []))) (sym w.walked) (walk_undos h (Edit e) u fs l g refl s.undos);
     }
