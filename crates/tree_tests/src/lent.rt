@@ -21,6 +21,7 @@ const TEXTS: &[(&str, &str)] = &[
 // How often the piece stands in a text, so that the chunks need many leaves; how many ranges are lent, and the bytes of which
 // each has less.
 const TIMES: u64 = 1500;
+
 const RANGES: &[(u64, usize)] = &[(100, 9), (100, 300), (50, 20_000)];
 
 // Whether what a rope lends of a range is this text, and each piece of it has 1 to 128 bytes. A range that does not begin and end
