@@ -11,11 +11,12 @@
 #   reverse  behind the last edit, from the last to the first
 #   beside   as reverse, and behind each that it takes it types a letter of its own
 #   none     not at all, though it is there
-# With undone=N the last N edits are undone, the last one first, or the first N where oldest=1. With anchors=N replica 1 makes N anchors
+# With undone=N some N edits are undone: the last ones, from the last back, or with order=first the first ones, or with order=chance some that
+# are drawn by chance, none twice. With anchors=N replica 1 makes N anchors
 # at places drawn by chance, and then asks for each. With queries=N replica 1 is asked N times, spread among the edits: by `find` for four
 # letters that stand in the base, or with asked=point for the point at an offset.
 # `remote` is random with taken=each, and `reverse` is typing with taken=reverse.
-# usage: awk -v bytes=N -v count=N -v kind=NAME [-v lag=N] [-v taken=WHEN] [-v undone=N] [-v anchors=N] [-v queries=N] -f session.awk
+# usage: awk -v bytes=N -v count=N -v kind=NAME [-v lag=N] [-v taken=WHEN] [-v undone=N] [-v order=ORDER] [-v anchors=N] [-v queries=N] -f session.awk
 #        without a lag all edits are one round
 
 # the next number below n, by the generator of Park and Miller
@@ -203,6 +204,17 @@ function authors_round(    from, r, i, here, grown) {
     exchange(from)
 }
 
+# the number of the i-th edit that is undone
+function undone_edit(i,    number) {
+    if (order == "first")
+        return i
+    if (order != "chance")
+        return edits + 1 - i
+    do number = 1 + below(edits); while (number in is_undone)
+    is_undone[number] = 1
+    return number
+}
+
 BEGIN {
     drawn = 1
     if (kind == "remote") { kind = "random"; taken = "each" }
@@ -233,7 +245,7 @@ BEGIN {
             edit(replicas, 0, 0, letters(1))
     }
     for (i = 1; i <= undone; i++)
-        printf "[\"undo\",1,[%d]]\n", oldest ? i : edits + 1 - i
+        printf "[\"undo\",1,[%d]]\n", undone_edit(i)
     for (i = 1; i <= anchors; i++)
         printf "[\"anchor\",1,\"a%d\",%d,\"%s\"]\n", i, below(len + 1), i % 2 ? "left" : "right"
     for (i = 1; i <= anchors; i++)
