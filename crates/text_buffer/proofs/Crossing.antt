@@ -14,7 +14,11 @@ use Rattle.applied_ops.specs.contracts.list.AppliedList as list
 use Rattle.applied_ops.specs.contracts.list.AppliedList.TheInside as held
 use Rattle.fragments.specs.contracts.fragment.Fragment as fragment
 use Rattle.fragments.specs.contracts.fragment.FragmentSummary as summary
+use Rattle.fragments.specs.contracts.index_entry.IndexEntry as entry
+use Rattle.fragments.specs.contracts.index_entry.IndexKey as key
+use Rattle.fragments.specs.contracts.deleted_run.DeletedRun as deleted
 use Rattle.fragments.specs.contracts.index.InsertionIndex as index
+use Rattle.fragments.specs.contracts.index.InsertionIndex.TheInside as sorted
 use Rattle.text_buffer.specs.contracts.content.Content as content
 use Rattle.text_buffer.specs.contracts.document.Document as document
 use Rattle.text_buffer.specs.contracts.document.Document.TheInside as fields
@@ -48,10 +52,10 @@ operation_shared : IsSync operation.the_row
 operation_shared = search plain depth 60 fits 20000
 
 shared_sent : IsSend shared.the_row
-shared_sent = declared_send shared.the_type (search (operation_sent, operation_shared, crosses, sendable) depth 60 fits 20000, tt)
+shared_sent = declared_send shared.the_type (operation_sent, tt)
 
 shared_shared : IsSync shared.the_row
-shared_shared = declared_sync shared.the_type (search (operation_sent, operation_shared, crosses, sendable) depth 60 fits 20000, tt)
+shared_shared = declared_sync shared.the_type (operation_shared, tt)
 
 applied_sent : IsSend applied.the_row
 applied_sent = search (shared_sent, sendable) depth 60 fits 20000
@@ -85,11 +89,37 @@ summary_sent = search plain depth 60 fits 20000
 summary_shared : IsSync summary.the_row
 summary_shared = search plain depth 60 fits 20000
 
+entry_sent : IsSend entry.the_row
+entry_sent = search plain depth 60 fits 20000
+
+entry_shared : IsSync entry.the_row
+entry_shared = search plain depth 60 fits 20000
+
+key_sent : IsSend key.the_row
+key_sent = search plain depth 60 fits 20000
+
+key_shared : IsSync key.the_row
+key_shared = search plain depth 60 fits 20000
+
+deleted_sent : IsSend deleted.the_row
+deleted_sent = search plain depth 60 fits 20000
+
+deleted_shared : IsSync deleted.the_row
+deleted_shared = search plain depth 60 fits 20000
+
+ruleset entries = (entry_sent, entry_shared, deleted_sent, deleted_shared, key_sent, key_shared, knot.crosses, crosses, sendable)
+
+sorted_sent : IsSend sorted.the_row
+sorted_sent = declared_send sorted.the_type (search entries depth 60 fits 20000, (search entries depth 60 fits 20000, tt))
+
+sorted_shared : IsSync sorted.the_row
+sorted_shared = declared_sync sorted.the_type (search entries depth 60 fits 20000, (search entries depth 60 fits 20000, tt))
+
 index_sent : IsSend index.the_row
-index_sent = search trees depth 60 fits 20000
+index_sent = search (sorted_sent, sendable) depth 60 fits 20000
 
 index_shared : IsSync index.the_row
-index_shared = search trees depth 60 fits 20000
+index_shared = search (sorted_shared, sendable) depth 60 fits 20000
 
 ruleset fragments = (fragment_sent, fragment_shared, summary_sent, summary_shared, knot.crosses, crosses, sendable)
 
