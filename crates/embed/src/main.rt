@@ -33,7 +33,7 @@ fn edit_both(alloc: Global, ann: &mut Buffer, ben: &mut Buffer) -> Result<()> {
     Ok(())
 }
 
-// An anchor that keeps to the byte behind an offset of the author's text.
+// An anchor that keeps to the byte after an offset of the author's text.
 fn anchor_at(author: &Buffer, offset: u64) -> Result<Anchor> {
     let snapshot = author.snapshot()?;
     Ok(snapshot.anchor(offset, Bias::Right)?)

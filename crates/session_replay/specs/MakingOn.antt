@@ -28,7 +28,7 @@ TakesTurn old new n i =
     let p = turn_at after_all length_at n i old.draws (work_state old) in
     Works old new p.1 (p.0 ∷ [])
 
--- and what is given behind it
+-- and what is given after it
 unfoldable pub WorksRound : Making → Making → ℕ → ℕ → Type 0
 WorksRound old new n i =
     let p = turn_at after_all length_at n i old.draws (work_state old) in

@@ -46,7 +46,7 @@ abbrev pub anchor_answer : Option PlaceFault → AnchorAnswer
 anchor_answer None = anchor.Set
 anchor_answer (Some e) = anchor.Fault e
 
--- what is told of a place, which may be unknown
+-- what is said of a place, which may be unknown
 abbrev pub where_at : Option ℕ → WhereAnswer
 where_at None = position.Unknown
 where_at (Some o) = position.Offset o

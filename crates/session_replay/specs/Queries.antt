@@ -143,7 +143,7 @@ pub record Reply : Type 0 where
 abbrev pub history_at_end : State → Reply → List Operation
 history_at_end end p = history_or_empty (buffer_of p.query.replica end.buffers)
 
--- the line of a reply: the plain answer on the text of the base and the first `count` operations behind it at the end
+-- the line of a reply: the plain answer on the text of the base and the first `count` operations after it at the end
 abbrev pub reply_line : State → Reply → Report
 reply_line end p = answer_line p.query.number p.count p.query.question (text (take (p.count + 1) (history_at_end end p)))
 

@@ -11,7 +11,7 @@ session_limit = 67108864
 abbrev pub AppendsFront : Option (List ℕ) → Option (List ℕ) → List ℕ → Type 0
 AppendsFront old new text = (n : ℕ) × (n ≤ length text) × Appends old new (take n text)
 
--- where the source tells what it had left, it was this
+-- where the source says what it had left, it was this
 abbrev pub Had : Option (List ℕ) → List ℕ → Type 0
 Had left input = IfSome left (λ xs. input ≡ xs)
 

@@ -120,7 +120,7 @@ abbrev pub after_give : Option Operation → BufferState → BufferState
 after_give None b = b
 after_give (Some op) b = after_take b op
 
--- ---- a text is shown, with its bytes, its line feeds, the bytes behind the last of them, and its rows
+-- ---- a text is shown, with its bytes, its line feeds, the bytes after the last of them, and its rows
 
 abbrev pub text_report : BufferState → Report
 text_report b =
@@ -133,7 +133,7 @@ text_report b =
 abbrev pub reports_at : {A : Type 0} → (A → List Report) → Option A → List Report
 reports_at f o = option_map_or f o []
 
--- what the next operation line reports, f being what comes of it at the buffer of replica r
+-- what the next operation line reports, f being its outcome at the buffer of replica r
 abbrev pub line_events : ℕ → (BufferState → Result Operation Report) → State → List Report
 line_events r f s = reports_at (λ b. outcome_reports (next_number s) (f b) b) (buffer_of r s.buffers)
 
@@ -166,7 +166,7 @@ events (line.Offset r row column) s = []
 abbrev pub with_operation_line : List BufferState → Option Operation → State → State
 with_operation_line bs o s = record s { buffers = bs; operations = s.operations ++ o ∷ [] }
 
--- the session after the next operation line, f being what comes of it at the buffer of replica r
+-- the session after the next operation line, f being its outcome at the buffer of replica r
 abbrev pub after_line : ℕ → (BufferState → Result Operation Report) → State → State
 after_line r f s =
     with_operation_line (with_buffer r (λ b. after_outcome (f b) b) s.buffers)
