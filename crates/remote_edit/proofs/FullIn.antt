@@ -3,7 +3,6 @@ use Rattle.std.proofs.Common.{◌≡◌, ℕ, zero, suc, ◌+◌, ◌-◌, ◌<�
 use Rattle.std.proofs.lemmas.Bool.{cases_Bool, le-ltb, lt-ltb, ltb-true, ltb-false}
 use Rattle.tree_cursor.specs.Places.{place_behind, seek_count}
 use Rattle.tree_cursor.specs.Counting.{number_passes}
-use Rattle.tree_cursor.specs.Place.{CursorState}
 use Rattle.tree_cursor.specs.declared.traits.Bias.TheVariants.{Right}
 use Rattle.lamport_clock.specs.declared.stamp.Lamport.{Lamport}
 use Rattle.op_model.specs.declared.operation.Piece.{Piece}
@@ -117,27 +116,12 @@ seek_hidden (f ∷ fs) o a b l h = go f.visible refl h (λ c d. seek_hidden fs o
         let n = hidden_next f fs false (sought o (a + 0) (b + f.len) fs) e in
         rw t (omega (arith, i, n))
 
--- what a cursor's seek gives
-pub found : (xs : List Fragment) (o : ℕ) (cur new : CursorState Fragment Passed) (start got : Passed)
-    → cur.items ≡ xs → cur.index ≡ 0 → cur.from ≡ start → start.visible ≡ 0 → start.hidden ≡ 0
-    → new ≡ record cur { index = cur.index + seek_count move_passed summary_of (λ p. number_passes o p.0 Right) (place_behind move_passed summary_of (cur.from.visible, cur.from.hidden) (take cur.index cur.items)) (drop cur.index cur.items) }
-    → (got.visible, got.hidden) ≡ place_behind move_passed summary_of (new.from.visible, new.from.hidden) (take new.index new.items)
+-- what a look-up gives
+pub found : (xs : List Fragment) (o : ℕ) (got : Passed) → (got.visible, got.hidden) ≡ place_behind move_passed summary_of (0, 0) (take (sought o 0 0 xs) xs)
     → o ≤ shown_len xs → full_in xs o ≡ o + got.hidden
-found xs o cur new start got ei ej ef ev eh em eg l =
-    let fv : cur.from.visible ≡ 0 = ap (λ (p : Passed). p.visible) ef ∙ ev in
-    let fh : cur.from.hidden ≡ 0 = ap (λ (p : Passed). p.hidden) ef ∙ eh in
-    let count : ℕ → List Fragment → ℕ → ℕ → ℕ = λ j ys a b. j + seek_count move_passed summary_of (λ p. number_passes o p.0 Right) (place_behind move_passed summary_of (a, b) (take j ys)) (drop j ys) in
-    let k : new.index ≡ 0 + sought o 0 0 xs = ap (λ (z : CursorState Fragment Passed). z.index) em ∙ ap (λ (j : ℕ). count j cur.items cur.from.visible cur.from.hidden) ej ∙ ap (λ (ys : List Fragment). count 0 ys cur.from.visible cur.from.hidden) ei
-    ∙ ap (λ (a : ℕ). count 0 xs a cur.from.hidden) fv ∙ ap (λ (b : ℕ). count 0 xs 0 b) fh in
-    let items : new.items ≡ xs = ap (λ (z : CursorState Fragment Passed). z.items) em ∙ ei in
-    let from : new.from ≡ start = ap (λ (z : CursorState Fragment Passed). z.from) em ∙ ef in
-    let nv : new.from.visible ≡ 0 = ap (λ (p : Passed). p.visible) from ∙ ev in
-    let nh : new.from.hidden ≡ 0 = ap (λ (p : Passed). p.hidden) from ∙ eh in
-    let of : ℕ → List Fragment → ℕ → ℕ → ℕ = λ j ys a b. (place_behind move_passed summary_of (a, b) (take j ys)).1 in
-    let s : ℕ = sought o 0 0 xs in
-    let i : new.index ≡ s = omega (arith, k) in
-    let g : got.hidden ≡ 0 + hidden_len (take s xs) = ap (λ (p : ℕ × ℕ). p.1) eg ∙ ap (λ (j : ℕ). of j new.items new.from.visible new.from.hidden) i ∙ ap (λ (ys : List Fragment). of s ys new.from.visible new.from.hidden) items
-    ∙ ap (λ (a : ℕ). of s xs a new.from.hidden) nv ∙ ap (λ (b : ℕ). of s xs 0 b) nh ∙ ap (λ (p : ℕ × ℕ). p.1) (passed_behind 0 0 (take s xs)) in
+found xs o got e l =
+    let k : List Fragment = take (sought o 0 0 xs) xs in
+    let g : got.hidden ≡ 0 + hidden_len k = ap (λ (p : ℕ × ℕ). p.1) (e ∙ passed_behind 0 0 k) in
     let z : o - 0 ≡ o = omega arith in
-    let h : full_in xs o ≡ o + hidden_len (take s xs) = subst (λ n. full_in xs n ≡ n + hidden_len (take s xs)) z (seek_hidden xs o 0 0 (omega arith) (omega (arith, l))) in
+    let h : full_in xs o ≡ o + hidden_len k = subst (λ n. full_in xs n ≡ n + hidden_len k) z (seek_hidden xs o 0 0 (omega arith) (omega (arith, l))) in
     omega (arith, h, g)

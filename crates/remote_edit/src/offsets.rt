@@ -12,22 +12,21 @@ use fragments::{Fragment, Visible};
 use op_model::{Piece, Pieces};
 use std::alloc::Global;
 use sum_tree::SumTree;
-use tree_cursor::{Bias, Cursor};
+use tree_cursor::{Bias, look_up};
 
-// The number of all cells before shown cell `offset`, or of all cells if the text ends there. One descent.
-fn full_offset(tree: &SumTree<Fragment>, offset: u64) -> Result<u64, OutOfMemory>
+// The number of all cells before shown cell `offset`, or of all cells if the text ends there. One plain descent; does
+// not allocate.
+fn full_offset(tree: &SumTree<Fragment>, offset: u64) -> u64
     requires room { cells_len tree.now.items ≤ 2 ^ 40 }
     requires within { offset ≤ shown_len tree.now.items }
-    ensures { IfOk result (λ n. n ≡ full_in tree.now.items offset) }
+    ensures { result ≡ full_in tree.now.items offset }
 {
     let start = Passed {
         visible: 0,
         hidden: 0,
     };
-    let mut cursor = Cursor::new(tree, start)?;
-    cursor.seek(&Visible { bytes: offset }, Bias::Right)?;
-    let hidden = cursor.start().hidden;
-    Ok(offset + hidden)
+    let (_, before) = look_up(tree, start, &Visible { bytes: offset }, Bias::Right);
+    offset + before.hidden
 }
 
 // A change whose range counts shown cells, with the same range counting all cells.
@@ -36,11 +35,11 @@ fn full_piece(alloc: Global, tree: &SumTree<Fragment>, change: &Piece) -> Result
     requires range { IsInText tree.now.items change.now }
     ensures { IfOk result (λ p. p ≡ piece_in tree.now.items change.now) }
 {
-    let start = full_offset(tree, change.start)?;
+    let start = full_offset(tree, change.start);
     let end = if change.start == change.end {
         start
     } else {
-        full_offset(tree, change.end - 1)? + 1
+        full_offset(tree, change.end - 1) + 1
     };
     let text = change.text.copy(alloc)?;
     Ok(Piece { start, end, text })
