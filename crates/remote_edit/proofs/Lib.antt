@@ -37,6 +37,7 @@ pub mod EditTexts
 pub mod WholeFragments
 pub mod UndoCharacters
 pub mod Starts
+pub mod Unasked
 pub mod Intake
 pub mod OneFurther
 pub mod PieceStarts

@@ -1,5 +1,5 @@
 -- A seek by the cells that a version sees goes over whole fragments.
-use Rattle.std.proofs.Common.{◌≡◌, ℕ, suc, ◌+◌, ◌-◌, ◌<◌, ◌≤◌, ◌⊎◌, Bool, List, [], ◌∷◌, ◌++◌, length, take, drop, refl, sym, ap, ◌∙◌, arith, subst, cond, true, false, None, inl, inr, leb, take-append-drop, append_assoc}
+use Rattle.std.proofs.Common.{◌≡◌, ℕ, suc, ◌+◌, ◌-◌, ◌<◌, ◌≤◌, ◌⊎◌, Bool, Option, List, [], ◌∷◌, ◌++◌, length, take, drop, refl, sym, ap, ◌∙◌, arith, subst, cond, true, false, None, inl, inr, leb, take-append-drop, append_assoc}
 use Rattle.std.proofs.lemmas.Bool.{cases_Bool, lt-leb, leb-true, leb-false, lt-ltb, and_from}
 use Rattle.std.proofs.lemmas.List.{append-nil, length-take-le, length-drop, drop-drop}
 use Rattle.std.proofs.Math.Seq.{take-add}
@@ -15,7 +15,7 @@ use Rattle.fragments.specs.SeenPlaces.{At, move_at}
 use Rattle.fragments.specs.declared.dimensions.FullAt.{FullAt}
 use Rattle.tree_cursor.specs.Place.{CursorState}
 use Rattle.remote_edit.specs.Walk.{seen_bytes, advance}
-use Rattle.remote_edit.specs.Steps.{IsSought}
+use Rattle.remote_edit.specs.Steps.{seen_stop, IsSought}
 use Rattle.fragments.proofs.Counts.{own_cells, places_count_cells}
 use Rattle.fragments.proofs.Cells.{IsWithin}
 use Rattle.fragments.specs.SeenPlaceLaws.{all_in, none_in}
@@ -132,28 +132,11 @@ module _ (v : Entries) (goal : ℕ) where
         (omega arith, (omega (arith, is), subst (IsIn (seen_bytes v (take k xs))) (sym dk) (subst (λ (m : ℕ). IsIn m (drop j d)) (sym kk) (stop place d)))),
       )
 
--- what a cursor's seek gives
-pub found : (t : Lamport) (v : Entries) (xs : List Fragment) (n i place index : ℕ) (cur new : CursorState Fragment FullAt) (start got : FullAt)
-    → cur.items ≡ xs → cur.index ≡ 0 → cur.from ≡ start → start.version.now ≡ v → start.bytes ≡ 0
-    → new ≡ record cur { index = cur.index + seek_count move_at summary_of (λ p. number_passes (place + n) p.1 Left) (place_behind move_at summary_of (cur.from.version.now, cur.from.bytes) (take cur.index cur.items)) (drop cur.index cur.items) }
-    → index ≡ new.index → (got.version.now, got.bytes) ≡ place_behind move_at summary_of (new.from.version.now, new.from.bytes) (take new.index new.items)
+-- what a seek gives
+pub found : (t : Lamport) (v : Entries) (xs : List Fragment) (n i place index bytes : ℕ) → index ≡ seen_stop v (place + n) xs → bytes ≡ seen_bytes v (take index xs)
     → place ≡ seen_bytes v (take i xs) → i ≤ length xs → 0 < n
-    → IsSought t v xs n i (place + n - got.bytes) index got.bytes × ((got.bytes ≤ place + n) × ((i ≤ index) × IsIn v (place + n) got.bytes (drop index xs)))
-found t v xs n i place index cur new start got ei ej ef ev eb em ek eg ep l h =
-    let fv : cur.from.version.now ≡ v = ap (λ (f : FullAt). f.version.now) ef ∙ ev in
-    let fb : cur.from.bytes ≡ 0 = ap (λ (f : FullAt). f.bytes) ef ∙ eb in
-    let count : ℕ → List Fragment → Entries → ℕ → ℕ = λ j ys w b. j + seek_count move_at summary_of (λ p. number_passes (place + n) p.1 Left) (place_behind move_at summary_of (w, b) (take j ys)) (drop j ys) in
-    let is : index ≡ count 0 xs v 0 = ek ∙ ap (λ (z : CursorState Fragment FullAt). z.index) em ∙ ap (λ (j : ℕ). count j cur.items cur.from.version.now cur.from.bytes) ej ∙ ap (λ (ys : List Fragment). count 0 ys cur.from.version.now cur.from.bytes) ei
-    ∙ ap (λ (w : Entries). count 0 xs w cur.from.bytes) fv ∙ ap (count 0 xs v) fb in
-    let k : index ≡ sought v (place + n) 0 xs = is ∙ omega arith in
-    let items : new.items ≡ xs = ap (λ (z : CursorState Fragment FullAt). z.items) em ∙ ei in
-    let from : new.from ≡ start = ap (λ (z : CursorState Fragment FullAt). z.from) em ∙ ef in
-    let nv : new.from.version.now ≡ v = ap (λ (f : FullAt). f.version.now) from ∙ ev in
-    let nb : new.from.bytes ≡ 0 = ap (λ (f : FullAt). f.bytes) from ∙ eb in
-    let behind_of : ℕ → List Fragment → Entries → ℕ → ℕ = λ j ys w b. (place_behind move_at summary_of (w, b) (take j ys)).1 in
-    let g : got.bytes ≡ behind_of new.index new.items new.from.version.now new.from.bytes = ap (λ (p : At). p.1) eg in
-    let b : got.bytes ≡ seen_bytes v (take index xs) = g ∙ ap (λ (j : ℕ). behind_of j new.items new.from.version.now new.from.bytes) (sym ek) ∙ ap (λ (ys : List Fragment). behind_of index ys new.from.version.now new.from.bytes) items
-    ∙ ap (λ (w : Entries). behind_of index xs w new.from.bytes) nv ∙ ap (behind_of index xs v) nb ∙ ap (λ (p : At). p.1) ((places_count_cells (take index xs) 0).2 v) ∙ omega arith in
+    → IsSought t v xs n i (place + n - bytes) index bytes × ((bytes ≤ place + n) × ((i ≤ index) × IsIn v (place + n) bytes (drop index xs)))
+found t v xs n i place index bytes k b ep l h =
     let s = seek_gone v (place + n) t xs n i place index refl ep l h k in (
       subst (λ (m : ℕ). IsSought t v xs n i (place + n - m) index m) (sym b) s.0,
       (subst (λ (m : ℕ). m ≤ place + n) (sym b) s.1.0, (s.1.1.0, subst (λ (m : ℕ). IsIn v (place + n) m (drop index xs)) (sym b) s.1.1.1)),
@@ -163,3 +146,24 @@ found t v xs n i place index cur new start got ei ej ef ev eb em ek eg ep l h =
 pub in_first : (v : Entries) (goal q k : ℕ) (fs : List Fragment) → IsIn v goal q fs → q + k ≡ goal → IsWithin k fs
 in_first v goal q k [] h e = tt
 in_first v goal q k (f ∷ fs) h e = let o = own_len v f in omega (arith, h, e, o)
+
+-- where a cursor's seek from the first item stops
+module _ {P S T D : Type 0} (moved : P → S → Option P) (sum_of : T → S) (stops : P → Bool) (plain : D → P) where
+  pub cursor_stop : (xs : List T) (start : D) (cur new : CursorState T D) (index : ℕ) (got : P) → cur.items ≡ xs → cur.index ≡ 0 → cur.from ≡ start
+      → new ≡ record cur { index = cur.index + seek_count moved sum_of stops (place_behind moved sum_of (plain cur.from) (take cur.index cur.items)) (drop cur.index cur.items) }
+      → index ≡ new.index → got ≡ place_behind moved sum_of (plain new.from) (take new.index new.items)
+      → (index ≡ seek_count moved sum_of stops (plain start) xs) × (got ≡ place_behind moved sum_of (plain start) (take index xs))
+  cursor_stop xs start cur new index got ei ej ef em ek eg =
+      let count : ℕ → List T → D → ℕ = λ j ys d. j + seek_count moved sum_of stops (place_behind moved sum_of (plain d) (take j ys)) (drop j ys) in
+      let is : index ≡ count 0 xs start = ek ∙ ap (λ (z : CursorState T D). z.index) em ∙ ap (λ (j : ℕ). count j cur.items cur.from) ej ∙ ap (λ (ys : List T). count 0 ys cur.from) ei ∙ ap (λ (d : D). count 0 xs d) ef in
+      let items : new.items ≡ xs = ap (λ (z : CursorState T D). z.items) em ∙ ei in
+      let from : new.from ≡ start = ap (λ (z : CursorState T D). z.from) em ∙ ef in
+      let behind_of : ℕ → List T → D → P = λ j ys d. place_behind moved sum_of (plain d) (take j ys) in
+      (is ∙ omega arith, eg ∙ ap (λ (j : ℕ). behind_of j new.items new.from) (sym ek) ∙ ap (λ (ys : List T). behind_of index ys new.from) items ∙ ap (λ (d : D). behind_of index xs d) from)
+
+-- the cells that a version sees before the stop
+abbrev pub at_of : FullAt → At
+at_of d = (d.version.now, d.bytes)
+
+pub stop_bytes : (v : Entries) (got : FullAt) (n : ℕ) (xs : List Fragment) → at_of got ≡ place_behind move_at summary_of (v, 0) (take n xs) → got.bytes ≡ seen_bytes v (take n xs)
+stop_bytes v got n xs e = ap (λ (p : At). p.1) (e ∙ (places_count_cells (take n xs) 0).2 v) ∙ omega arith

@@ -6,6 +6,11 @@ use Rattle.lamport_clock.specs.Versions.{Entries, sees}
 use Rattle.undo_map.specs.declared.entry.UndoEntry.{UndoEntry}
 use Rattle.fragments.specs.declared.fragment.Fragment.{Fragment}
 use Rattle.fragments.specs.Laws.{cells_len}
+use Rattle.fragments.specs.Summaries.{summary_of}
+use Rattle.fragments.specs.SeenPlaces.{move_at}
+use Rattle.tree_cursor.specs.Places.{seek_count}
+use Rattle.tree_cursor.specs.Counting.{number_passes}
+use Rattle.tree_cursor.specs.declared.traits.Bias.TheVariants.{Left}
 use Rattle.remote_edit.specs.Walk.{seen_bytes, Fit, Zip, zip, advance}
 
 abbrev pub head : List Fragment → Option Fragment
@@ -28,6 +33,10 @@ after xs j back = option_to_list back ++ drop j xs
 abbrev pub later_first : Lamport → Entries → List Fragment → Bool
 later_first t v [] = false
 later_first t v (f ∷ fs) = later f.stamp t && not (sees v f.stamp)
+
+-- the number of fragments before the one that has the last of the first n cells that v sees
+abbrev pub seen_stop : Entries → ℕ → List Fragment → ℕ
+seen_stop v n fs = seek_count move_at summary_of (λ p. number_passes n p.1 Left) (v, 0) fs
 
 -- from one place with n cells to pass to another with k of them, on one way
 pub record IsOnWay (m : Option (List UndoEntry)) (t : Lamport) (v : Entries) (n : ℕ)

@@ -99,6 +99,28 @@ impl<'v> Target<SeenPassed<'v>> for Full {
     }
 }
 
+/// Seeks to a number of cells, shown and hidden ones together.
+impl Target<Passed> for Full {
+    ghost use Rattle.std.specs.Prelude.{◌+◌};
+    ghost use Rattle.tree_cursor.specs.Counting.{number_passes};
+    ghost use Rattle.tree_cursor.specs.CountingLaws.{number_stays};
+    ghost use Rattle.remote_edit.specs.PassedLaws.{sum_later};
+
+    ghost passes = { λ g p b. number_passes g.bytes (p.0 + p.1) b };
+
+    ghost stays = { λ g p q b h l. number_stays g.bytes (p.0 + p.1) (q.0 + q.1) b h
+        (sum_later p q l) };
+
+    fn passed(&self, at: Passed, bias: Bias) -> bool {
+        let bytes = self.bytes as u128;
+        let cells = at.visible as u128 + at.hidden as u128;
+        match bias {
+            Bias::Left => bytes <= cells,
+            Bias::Right => bytes < cells,
+        }
+    }
+}
+
 /// Seeks to a number of shown cells.
 impl Target<Passed> for Visible {
     ghost use Rattle.tree_cursor.specs.Counting.{number_passes};

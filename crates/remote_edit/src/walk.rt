@@ -1,20 +1,21 @@
 //! One walk over a tree of fragments, from the first piece of an edit to the last.
 ghost use Rattle.std.specs.Prelude.{◌≡◌, ℕ, ◌+◌, ◌-◌, ◌*◌, ◌<◌, ◌≤◌, ◌^◌, ◌++◌, false, [], length, take, drop, max, IfOk, option_to_list};
-ghost use Rattle.lamport_clock.specs.Versions.{sees};
+ghost use Rattle.lamport_clock.specs.Versions.{Entries, sees};
 ghost use Rattle.op_model.specs.Operations.{text_total};
 ghost use Rattle.op_model.specs.Walked.{Ordered};
 ghost use Rattle.fragments.specs.Laws.{cells_len};
 ghost use Rattle.sum_tree.specs.Spliced.{splice_list};
 ghost use Rattle.remote_edit.specs.Indexes.{IsIndexed};
 ghost use Rattle.remote_edit.specs.Walk.{seen_bytes, Fit, one_piece, changes, walk};
-ghost use Rattle.remote_edit.specs.Steps.{before, after, IsSought, IsAt};
+ghost use Rattle.remote_edit.specs.Steps.{before, after, seen_stop, IsSought, IsAt};
 ghost use Rattle.remote_edit.specs.Gathers.{so_far, ahead};
 ghost use Rattle.remote_edit.specs.Costs.{touch_count_behind};
 ghost use Rattle.remote_edit.specs.Starts.{AllSeen, starts, IsLeft, MakeFew};
 
 use crate::OutOfMemory;
 use crate::gather::Gather;
-use fragments::{Fragment, Full, FullAt, InsertionIndex};
+use fragments::{Fragment, Full, FullAt, InsertionIndex, Sight};
+use lamport_clock::Version;
 use op_model::{EditOp, Piece};
 use std::alloc::Global;
 use std::sync::ledger::Ledger;
@@ -61,14 +62,7 @@ impl Walk {
         let target = Full {
             bytes: self.place + count,
         };
-        let start = FullAt {
-            version: &edit.version,
-            bytes: 0,
-        };
-        let mut cursor = Cursor::new(&self.tree, start)?;
-        cursor.seek(&target, Bias::Left)?;
-        let at = cursor.index();
-        let place = cursor.start().bytes;
+        let (at, place) = seen_stop(&self.tree, &edit.version, &target)?;
         self.at = at;
         self.place = place;
         Ok(target.bytes - place)
@@ -239,6 +233,62 @@ impl Walk {
             }
         }
         Ok(())
+    }
+}
+
+// Where a seek by all cells stops: the number of fragments before it, and of their cells. A version that sees all
+// fragments need not be asked.
+fn plain_stop(tree: &SumTree<Fragment>, target: &Full) -> Result<(u64, u64), OutOfMemory>
+    requires room { cells_len tree.now.items ≤ 2 ^ 40 }
+    ensures index { (v : Entries) → AllSeen v tree.now.items
+        → IfOk result (λ r. r.0 ≡ seen_stop v target.now.bytes tree.now.items) }
+    ensures place { (v : Entries) → AllSeen v tree.now.items
+        → IfOk result (λ r. r.1 ≡ seen_bytes v (take r.0 tree.now.items)) }
+{
+    let start = Full { bytes: 0 };
+    let mut cursor = Cursor::new(tree, start)?;
+    cursor.seek(target, Bias::Left)?;
+    let at = cursor.index();
+    let place = cursor.start().bytes;
+    Ok((at, place))
+}
+
+// Where a seek by the cells that a version sees stops: the number of fragments before it, and of their cells that the
+// version sees.
+fn asked_stop(
+    tree: &SumTree<Fragment>,
+    version: &Version,
+    target: &Full,
+) -> Result<(u64, u64), OutOfMemory>
+    requires room { cells_len tree.now.items ≤ 2 ^ 40 }
+    ensures index { IfOk result (λ r. r.0
+        ≡ seen_stop version.now target.now.bytes tree.now.items) }
+    ensures place { IfOk result (λ r. r.1
+        ≡ seen_bytes version.now (take r.0 tree.now.items)) }
+{
+    let start = FullAt { version, bytes: 0 };
+    let mut cursor = Cursor::new(tree, start)?;
+    cursor.seek(target, Bias::Left)?;
+    let at = cursor.index();
+    let place = cursor.start().bytes;
+    Ok((at, place))
+}
+
+// The same. A version that sees all fragments is asked about their sum alone.
+fn seen_stop(
+    tree: &SumTree<Fragment>,
+    version: &Version,
+    target: &Full,
+) -> Result<(u64, u64), OutOfMemory>
+    requires room { cells_len tree.now.items ≤ 2 ^ 40 }
+    ensures index { IfOk result (λ r. r.0
+        ≡ seen_stop version.now target.now.bytes tree.now.items) }
+    ensures place { IfOk result (λ r. r.1
+        ≡ seen_bytes version.now (take r.0 tree.now.items)) }
+{
+    match tree.summary().span.sight(version) {
+        Sight::All => plain_stop(tree, target),
+        Sight::Nothing | Sight::Part => asked_stop(tree, version, target),
     }
 }
 
