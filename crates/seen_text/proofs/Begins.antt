@@ -1,5 +1,5 @@
 -- A character begins with a byte that a version sees where it does in the text in which the byte lies.
-use Rattle.std.proofs.Common.{◌≡◌, ℕ, suc, ◌+◌, ◌-◌, ◌<◌, ◌≤◌, ◌^◌, ◌↔◌, IsTrue, ◌==◌, List, ◌∷◌, ◌++◌, length, take, drop, get_or, refl, sym, ap, ◌∙◌, arith, true, false, ◌||◌, ◌&&◌, Bool, ltb, leb, Some, None}
+use Rattle.std.proofs.Common.{◌≡◌, ℕ, suc, ◌+◌, ◌-◌, ◌<◌, ◌≤◌, ◌^◌, ◌↔◌, IsTrue, ◌==◌, List, ◌∷◌, ◌++◌, length, take, drop, take-append-drop, get_or, refl, sym, ap, ◌∙◌, arith, true, false, ◌||◌, ◌&&◌, Bool, ltb, leb, Option, Some, None}
 use Rattle.std.specs.List.{slice_get}
 use Rattle.std.specs.Str.{IsCharBoundary}
 use Rattle.std.proofs.lemmas.Bool.{le-leb}
@@ -8,7 +8,7 @@ use Rattle.sum_tree.specs.Laws.{fold}
 use Rattle.tree_cursor.specs.Places.{place_behind, seek_count}
 use Rattle.tree_cursor.specs.Counting.{number_passes}
 use Rattle.tree_cursor.specs.declared.traits.Bias.TheVariants.{Right}
-use Rattle.lamport_clock.specs.Versions.{Entries, sees}
+use Rattle.lamport_clock.specs.Versions.{Entries}
 use Rattle.op_model.specs.Histories.{History, seen_history}
 use Rattle.op_model.specs.Shown.{full, text, hidden_text}
 use Rattle.op_model.specs.Edits.{is_boundary}
@@ -18,15 +18,20 @@ use Rattle.op_model.proofs.texts.WholeTexts.{byte_of, boundary_is, same_byte}
 use Rattle.fragments.specs.declared.fragment.Fragment.{Fragment}
 use Rattle.fragments.specs.Summaries.{no_fragments, summaries, summary_of, SummaryFits}
 use Rattle.fragments.specs.Stand.{Tell}
-use Rattle.fragments.specs.Laws.{shown_len}
+use Rattle.fragments.specs.Laws.{shown_len, cells_len}
 use Rattle.fragments.proofs.Cells.{shown_append_len, seen_full}
+use Rattle.fragments.proofs.Counts.{cells_len-append}
 use Rattle.remote_edit.specs.Walk.{seen_bytes}
-use Rattle.remote_edit.specs.Passed.{SeenPlace, move_seen}
+use Rattle.remote_edit.specs.Passed.{SeenPlace, move_passed, move_seen}
+use Rattle.remote_edit.specs.Starts.{AllSeen}
 use Rattle.remote_edit.specs.Carried.{shown_bytes, hidden_bytes, hidden_len}
 use Rattle.remote_edit.proofs.Passing.{seen_cons, seen_append, seen_own, seen_within}
-use Rattle.remote_edit.proofs.PassedPlaces.{seek_seen, seen_behind, hidden_append_len, whole_sum, all_cells}
+use Rattle.remote_edit.proofs.PassedPlaces.{seek_seen, seen_behind, passed_behind, hidden_append_len, whole_sum, all_cells}
+use Rattle.remote_edit.proofs.Starts.{seen_all}
+use Rattle.remote_edit.proofs.Unasked.{stop_unasked, stop_passed}
 use Rattle.remote_edit.proofs.Texts.{text_bytes, hidden_text_bytes}
 use Rattle.remote_edit.proofs.Carrying.{shown_long, hidden_long}
+use Rattle.seen_text.specs.Lies.{Lies, IsFound}
 use Rattle.seen_text.proofs.Found.{sought, Found, found, Ended, ended}
 use Rattle.seen_text.proofs.Bytes.{seen_in, seen_long, seen_at, shown_at, hidden_at}
 
@@ -36,63 +41,82 @@ start v = (((v, 0), 0), 0)
 abbrev pub count : Entries → List Fragment → ℕ → ℕ
 count v fs place = seek_count move_seen summary_of (λ p. number_passes place p.0.0.1 Right) (start v) fs
 
--- the byte at a place lies in f, before which so many cells are seen, shown and hidden
-pub record Lies (v : Entries) (fs : List Fragment) (place : ℕ) (f : Fragment) (bytes visible hidden_text : ℕ) : Type 0 where
-  pub pre : List Fragment
-  pub post : List Fragment
-  pub parts : fs ≡ pre ++ f ∷ post
-  pub seen : sees v f.stamp ≡ true
-  pub low : bytes ≤ place
-  pub high : place < bytes + f.len
-  pub bytes_before : bytes ≡ seen_bytes v pre
-  pub shown_before : visible ≡ shown_len pre
-  pub hidden_before : hidden_text ≡ hidden_len pre
-
 module _ (v : Entries) (fs : List Fragment) (place : ℕ) where
-  same_count : count v fs place ≡ sought v place 0 fs
-  same_count = seek_seen (λ p. number_passes place p.1 Right) (v, 0) 0 0 fs
+  abbrev gone : List Fragment
+  gone = take (sought v place 0 fs) fs
 
-  behind : (w : Entries) (b a d : ℕ) → (((w, b), a), d) ≡ place_behind move_seen summary_of (start v) (take (count v fs place) fs)
-      → (b ≡ seen_bytes v (take (sought v place 0 fs) fs)) × (a ≡ shown_len (take (sought v place 0 fs) fs)) × (d ≡ hidden_len (take (sought v place 0 fs) fs))
-  behind w b a d e =
-      let pre : List Fragment = take (sought v place 0 fs) fs in
-      let g : (((w, b), a), d) ≡ (((v, 0 + seen_bytes v pre), 0 + shown_len pre), 0 + hidden_len pre) = e ∙ ap (λ (k : ℕ). place_behind move_seen summary_of (start v) (take k fs)) same_count ∙ seen_behind v 0 0 0 pre in
-      let x : b ≡ 0 + seen_bytes v pre = ap (λ (q : SeenPlace). q.0.0.1) g in
-      let y : a ≡ 0 + shown_len pre = ap (λ (q : SeenPlace). q.0.1) g in
-      let z : d ≡ 0 + hidden_len pre = ap (λ (q : SeenPlace). q.1) g in
-      (drop_zero b (seen_bytes v pre) x, drop_zero a (shown_len pre) y, drop_zero d (hidden_len pre) z)
-    where
-      drop_zero : (m n : ℕ) → m ≡ 0 + n → m ≡ n
-      drop_zero m n e = omega (arith, e)
-
-  -- what a seek that stops tells
-  pub lies : (f : Fragment) (w : Entries) (b a d : ℕ) → Some f ≡ slice_get fs (count v fs place) → (((w, b), a), d) ≡ place_behind move_seen summary_of (start v) (take (count v fs place) fs) → Lies v fs place f b a d
-  lies f w b a d i e =
-      let o : Found v place 0 fs f (sought v place 0 fs) = found v place 0 fs f (omega arith) (sym (i ∙ ap (slice_get fs) same_count)) in
-      let n = behind w b a d e in
-      let x = n.0 in
+  -- what a seek tells that stops where one by the cells that the version sees does
+  told : (o : Option Fragment) (b a d : ℕ) → o ≡ slice_get fs (sought v place 0 fs) → b ≡ seen_bytes v gone → a ≡ shown_len gone → d ≡ hidden_len gone → IsFound v fs place o b a d
+  told (Some f) b a d i x y z =
+      let o : Found v place 0 fs f (sought v place 0 fs) = found v place 0 fs f (omega arith) (sym i) in
       let l = o.low in
       let h = o.high in
       record {
-        pre = take (sought v place 0 fs) fs;
+        pre = gone;
         post = drop (suc (sought v place 0 fs)) fs;
         parts = o.parts;
         seen = o.seen;
         low = omega (arith, x, l);
         high = omega (arith, x, h);
         bytes_before = x;
-        shown_before = n.1;
-        hidden_before = n.2;
+        shown_before = y;
+        hidden_before = z;
       }
-
-  -- one that does not stop has counted all
-  pub past : (w : Entries) (b a d : ℕ) → None ≡ slice_get fs (count v fs place) → (((w, b), a), d) ≡ place_behind move_seen summary_of (start v) (take (count v fs place) fs) → (b ≡ seen_bytes v fs) × (b ≤ place)
-  past w b a d i e =
-      let o : Ended v place 0 fs (sought v place 0 fs) = ended v place 0 fs (omega arith) (sym (i ∙ ap (slice_get fs) same_count)) in
-      let n = behind w b a d e in
-      let x : b ≡ seen_bytes v fs = n.0 ∙ ap (seen_bytes v) o.all in
+  told None b a d i x y z =
+      let o : Ended v place 0 fs (sought v place 0 fs) = ended v place 0 fs (omega arith) (sym i) in
+      let q : b ≡ seen_bytes v fs = x ∙ ap (seen_bytes v) o.all in
       let l = o.low in
-      (x, omega (arith, x, l))
+      (q, omega (arith, q, l))
+
+  drop_zero : (m n : ℕ) → m ≡ 0 + n → m ≡ n
+  drop_zero m n e = omega (arith, e)
+
+  same_count : count v fs place ≡ sought v place 0 fs
+  same_count = seek_seen (λ p. number_passes place p.1 Right) (v, 0) 0 0 fs
+
+  -- one that asks the version at each sum
+  pub found_asked : (o : Option Fragment) (w : Entries) (b a d : ℕ) → o ≡ slice_get fs (count v fs place)
+      → (((w, b), a), d) ≡ place_behind move_seen summary_of (start v) (take (count v fs place) fs) → IsFound v fs place o b a d
+  found_asked o w b a d i e =
+      let g : (((w, b), a), d) ≡ (((v, 0 + seen_bytes v gone), 0 + shown_len gone), 0 + hidden_len gone) = e ∙ ap (λ (k : ℕ). place_behind move_seen summary_of (start v) (take k fs)) same_count ∙ seen_behind v 0 0 0 gone in
+      told o b a d (i ∙ ap (slice_get fs) same_count)
+      (drop_zero b (seen_bytes v gone) (ap (λ (q : SeenPlace). q.0.0.1) g))
+      (drop_zero a (shown_len gone) (ap (λ (q : SeenPlace). q.0.1) g))
+      (drop_zero d (hidden_len gone) (ap (λ (q : SeenPlace). q.1) g))
+
+  abbrev pub plain_count : ℕ
+  plain_count = seek_count move_passed summary_of (λ p. number_passes place (p.0 + p.1) Right) (0, 0) fs
+
+  passed_cells : (a d k : ℕ) → (a, d) ≡ place_behind move_passed summary_of (0, 0) (take k fs) → (a ≡ shown_len (take k fs)) × (d ≡ hidden_len (take k fs))
+  passed_cells a d k e =
+      let g : (a, d) ≡ (0 + shown_len (take k fs), 0 + hidden_len (take k fs)) = e ∙ passed_behind 0 0 (take k fs) in
+      (drop_zero a (shown_len (take k fs)) (ap (λ (q : ℕ × ℕ). q.0) g), drop_zero d (hidden_len (take k fs)) (ap (λ (q : ℕ × ℕ). q.1) g))
+
+  -- one that counts all cells, where the version sees them all
+  pub found_unasked : AllSeen v fs → (o : Option Fragment) (a d : ℕ) → o ≡ slice_get fs plain_count → (a, d) ≡ place_behind move_passed summary_of (0, 0) (take plain_count fs) → IsFound v fs place o (a + d) a d
+  found_unasked h o a d i e =
+      let stops : ℕ → Bool = λ (n : ℕ). number_passes place n Right in
+      let k : plain_count ≡ sought v place 0 fs = stop_passed stops 0 0 fs ∙ stop_unasked v stops 0 fs h in
+      let g = passed_cells a d (sought v place 0 fs) (e ∙ ap (λ (m : ℕ). place_behind move_passed summary_of (0, 0) (take m fs)) k) in
+      let x = g.0 in
+      let y = g.1 in
+      let c = all_cells gone in
+      let s = seen_all v (sought v place 0 fs) fs h in
+      told o (a + d) a d (i ∙ ap (slice_get fs) k) (omega (arith, x, y, c, s)) x y
+
+  -- which are counted in a u64
+  pub passed_room : SummaryFits (fold no_fragments summaries summary_of fs) → (a d : ℕ) → (a, d) ≡ place_behind move_passed summary_of (0, 0) (take plain_count fs) → a + d < 2 ^ 64
+  passed_room h a d e =
+      let g = passed_cells a d plain_count e in
+      let x = g.0 in
+      let y = g.1 in
+      let c = all_cells (take plain_count fs) in
+      let t : cells_len fs ≡ cells_len (take plain_count fs) + cells_len (drop plain_count fs) = ap cells_len (sym (take-append-drop plain_count fs)) ∙ cells_len-append (take plain_count fs) (drop plain_count fs) in
+      let w = whole_sum fs in
+      let m = w.0 in
+      let n = w.1 in
+      let q = all_cells fs in
+      omega (arith, x, y, c, t, m, n, q, h)
 
 -- ---- sums
 

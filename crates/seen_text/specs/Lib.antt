@@ -1,2 +1,3 @@
 pub mod Laws
+pub mod Lies
 pub mod Texts
