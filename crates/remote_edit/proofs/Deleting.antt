@@ -1,17 +1,17 @@
 -- The runs of an index are those of fragments that are split, inserted, marked and shown.
-use Rattle.std.proofs.Common.{◌≡◌, ℕ, ◌+◌, ◌-◌, ◌<◌, ◌≤◌, ◌⊎◌, Bool, true, false, cond, ◌&&◌, Option, List, [], ◌∷◌, ◌++◌, refl, sym, ap, ◌∙◌, arith, subst, inl, inr, Some, None, length, nat_lt, leb, map}
+use Rattle.std.proofs.Common.{◌≡◌, ℕ, ◌+◌, ◌<◌, ◌≤◌, ◌⊎◌, Bool, true, false, cond, ◌&&◌, Option, List, [], ◌∷◌, ◌++◌, refl, sym, ap, ◌∙◌, arith, inl, inr, Some, None, length, nat_lt, leb, map}
 use Rattle.std.proofs.lemmas.Bool.{cases_Bool, cases_lt, and_from, and_left, le-leb, lt-leb, lt-ltb, le-ltb}
 use Rattle.lamport_clock.specs.declared.stamp.Lamport.{Lamport}
-use Rattle.lamport_clock.specs.Stamps.{same_stamp, later}
+use Rattle.lamport_clock.specs.Stamps.{same_stamp}
 use Rattle.lamport_clock.specs.Versions.{Entries}
 use Rattle.op_model.specs.Facts.{with_deletion, stamp_first}
 use Rattle.undo_map.specs.declared.entry.UndoEntry.{UndoEntry}
 use Rattle.fragments.specs.declared.fragment.Fragment.{Fragment}
 use Rattle.fragments.specs.declared.deleted_run.DeletedRun.{DeletedRun}
-use Rattle.fragments.specs.DeletedRuns.{IndexState, AreNumbered, AreRunsOf, with_run, keep_run, delete_run, run_count, has_cell, times_in, deletion_count}
+use Rattle.fragments.specs.DeletedRuns.{IndexState, AreNumbered, AreRunsOf, with_run, keep_run, run_count, has_cell, times_in, deletion_count}
 use Rattle.fragments.proofs.Runs.{one_run, run_added, all_kept, numbered_kept}
 use Rattle.fragments.proofs.Deletions.{one_deletion, deletion_append, deletion_mid}
-use Rattle.remote_edit.specs.Marks.{was_shown, mark, touch, mark_index, touch_index}
+use Rattle.remote_edit.specs.Marks.{was_shown, touch, touch_index}
 use Rattle.remote_edit.specs.Walk.{front, back, new_fragment}
 
 -- ---- a fragment that is split

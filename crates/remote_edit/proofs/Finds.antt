@@ -1,10 +1,9 @@
 -- The fragments that an index finds: of a cell, of a range of cells, and those that an edit concerns.
-use Rattle.std.proofs.Common.{◌≡◌, ℕ, zero, suc, ◌+◌, ◌-◌, ◌<◌, ◌≤◌, ◌^◌, ◌⊎◌, min, get_or, Bool, true, false, cond, not, ◌&&◌, ◌||◌, Option, List, [], ◌∷◌, ◌++◌, length, map, take, refl, sym, ap, ◌∙◌, arith, subst, inl, inr, Some, None, leb, nat_lt, option_map, slice_get}
+use Rattle.std.proofs.Common.{◌≡◌, ℕ, zero, suc, ◌+◌, ◌-◌, ◌<◌, ◌≤◌, ◌^◌, min, get_or, Bool, true, false, not, ◌&&◌, ◌||◌, Option, List, [], ◌∷◌, ◌++◌, length, take, refl, sym, ap, ◌∙◌, arith, subst, inl, inr, Some, None, leb, nat_lt, option_map, slice_get}
 use Rattle.std.specs.List.{AllByRecursion, list_any, filter}
-use Rattle.std.proofs.lemmas.Bool.{cases_Bool, cases_lt, and_from, and_parts, or_parts, both_ways, le-leb, leb-true, lt-ltb, ltb-true}
+use Rattle.std.proofs.lemmas.Bool.{cases_Bool, cases_lt, and_from, and_parts, both_ways, le-leb, leb-true, lt-ltb, ltb-true}
 use Rattle.std.proofs.lemmas.Option.{same_Some}
 use Rattle.std.proofs.lemmas.List.{take_all, take_more}
-use Rattle.tree_cursor.specs.Places.{filter_count}
 use Rattle.lamport_clock.specs.declared.stamp.Lamport.{Lamport}
 use Rattle.lamport_clock.specs.Stamps.{same_stamp}
 use Rattle.lamport_clock.proofs.Later.{same_stamp_eq, same_stamp_refl}
@@ -16,14 +15,13 @@ use Rattle.fragments.specs.declared.fragment.Fragment.{Fragment}
 use Rattle.fragments.specs.declared.deleted_run.DeletedRun.{DeletedRun}
 use Rattle.fragments.specs.declared.index_entry.IndexEntry.{IndexEntry}
 use Rattle.fragments.specs.Index.{covers, entry_for, id_for}
-use Rattle.fragments.specs.DeletedRuns.{IndexState, few_runs, is_run_of, has_deleted, run_count, has_cell, times_in, deletion_count, AreRunsOf}
-use Rattle.fragments.specs.Stand.{IsFilled, Rise, entry_of, IsIndexOf}
+use Rattle.fragments.specs.DeletedRuns.{IndexState, few_runs, is_run_of, has_deleted, run_count, has_cell, times_in, deletion_count}
+use Rattle.fragments.specs.Stand.{IsFilled, Rise, entry_of}
 use Rattle.fragments.specs.Summaries.{summary_of}
 use Rattle.fragments.proofs.Founds.{fragment_of, IsSound, sound, IsBest, best}
 use Rattle.fragments.proofs.Indexes.{id_entry}
 use Rattle.fragments.proofs.Rises.{not_self, less_is, rise_above}
 use Rattle.fragments.proofs.Deletions.{one_deletion}
-use Rattle.remote_edit.specs.Anew.{concerns}
 use Rattle.remote_edit.specs.Indexes.{IsApart}
 use Rattle.remote_edit.specs.Finds.{is_from, place_from, IsFound, place_at, place_of_id, place_of, HaveAll, HaveCells, HaveRun, HaveConcerned}
 

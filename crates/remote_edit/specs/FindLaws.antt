@@ -1,6 +1,6 @@
 -- The law of a filter by ids.
-use Rattle.std.specs.Prelude.{◌≡◌, ℕ, Bool, true, false, not, cond, List, Option, Some, None, refl}
-use Rattle.std.proofs.Common.{◌∙◌, sym, ap, inl, inr}
+use Rattle.std.specs.Prelude.{◌≡◌, ℕ, Bool, true, false, not, List, Option, Some, None, refl}
+use Rattle.std.proofs.Common.{ap, inl, inr}
 use Rattle.std.proofs.lemmas.Bool.{cases_Bool, both_ways}
 use Rattle.tree_cursor.specs.Keys.{greater, key_less}
 use Rattle.fragments.specs.declared.fragment.FragmentSummary.{FragmentSummary}

@@ -10,8 +10,8 @@ use Rattle.fragments.specs.declared.fragment.Fragment.{Fragment}
 use Rattle.fragments.specs.declared.fragment.FragmentSummary.{FragmentSummary}
 use Rattle.fragments.specs.declared.index_entry.IndexEntry.{IndexEntry}
 use Rattle.fragments.specs.declared.deleted_run.DeletedRun.{DeletedRun}
-use Rattle.fragments.specs.Index.{IsAscending, id_for}
-use Rattle.fragments.specs.DeletedRuns.{IndexState, AreNumbered, AreRunsOf}
+use Rattle.fragments.specs.Index.{id_for}
+use Rattle.fragments.specs.DeletedRuns.{IndexState, AreRunsOf}
 use Rattle.fragments.specs.Stand.{IsFilled, Rise, IsIndexOf}
 use Rattle.fragments.specs.Summaries.{id_less, summary_of}
 use Rattle.remote_edit.specs.Anew.{concerns}

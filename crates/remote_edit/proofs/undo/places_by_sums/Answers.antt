@@ -1,6 +1,5 @@
-use Rattle.std.proofs.Common.{◌∙◌, ◌+◌, ◌-◌, ◌<◌, min, ℕ, List, length, sym, ap, subst, refl, arith}
+use Rattle.std.proofs.Common.{◌∙◌, ◌+◌, ◌-◌, ◌<◌, min, ℕ, length, sym, ap, subst, refl, arith}
 use Rattle.std.specs.Option.{option_copied}
-use Rattle.fragments.specs.declared.fragment.Fragment.{Fragment}
 use Rattle.remote_edit.proofs.BySums.{HavePassed, one_further, none_passed, all_passed}
 use Rattle.remote_edit.proofs.undo.places_by_sums.Goals as goal
 
