@@ -13,6 +13,8 @@ pub mod OfFacts
 pub mod LaterDeletions
 pub mod UndoStands
 pub mod Finds
+pub mod Looks
+pub mod Kept
 pub mod UndoMoves
 pub mod FullIn
 pub mod Local

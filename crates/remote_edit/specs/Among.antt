@@ -1,5 +1,6 @@
 -- The moves of a walk over fragments that passes some of them whole.
 use Rattle.std.specs.Prelude.{ℕ, ◌+◌, Bool, if◌then◌else◌, List, [], ◌∷◌}
+use Rattle.std.specs.List.{count_by}
 use Rattle.fragments.specs.declared.fragment.Fragment.{Fragment}
 use Rattle.fragments.specs.declared.fragment.FragmentSummary.{FragmentSummary}
 use Rattle.fragments.specs.Summaries.{summary_of}
@@ -19,3 +20,7 @@ moves_on keeps does ms s h (f ∷ fs) =
 -- the moves of all fragments
 abbrev pub moves_among : (FragmentSummary → Bool) → (Fragment → Move) → List Fragment → List Move
 moves_among keeps does fs = moves_on keeps does [] 0 0 fs
+
+-- the number of fragments whose sums are kept
+abbrev pub kept_count : (FragmentSummary → Bool) → List Fragment → ℕ
+kept_count keeps fs = count_by (λ f. keeps (summary_of f)) fs

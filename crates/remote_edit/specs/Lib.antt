@@ -22,5 +22,6 @@ pub mod Costs
 pub mod Starts
 pub mod Fragments
 pub mod Finds
+pub mod Looks
 pub mod FindLaws
 pub mod UndoMoves

@@ -1,16 +1,18 @@
 //! The moves of a walk over fragments, which passes whole runs of fragments that do not change.
-ghost use Rattle.std.specs.Prelude.{◌≡◌, ◌-◌, ◌≤◌, IfOk, OnOk};
+ghost use Rattle.std.specs.Prelude.{◌≡◌, ◌+◌, ◌-◌, ◌<◌, ◌≤◌, IfOk, OnOk};
 ghost use Rattle.fragments.specs.declared.fragment.Fragment.{Fragment};
 ghost use Rattle.remote_edit.specs.declared.moves.Move.{Move};
 ghost use Rattle.remote_edit.specs.declared.moves.Move.TheVariants.{Visible, Hidden};
 ghost use Rattle.remote_edit.specs.Moves.{with_move};
-ghost use Rattle.remote_edit.specs.Among.{moves_among};
+ghost use Rattle.remote_edit.specs.Among.{moves_among, kept_count};
 
 use crate::passed::Passed;
 use crate::{Move, Moves, OutOfMemory};
 use fragments::{Fragment, FragmentSummary};
 use std::alloc::Global;
-use sum_tree::SumTree;
+use std::marker::Brand;
+use std::sync::ledger::{Blank, Ledger};
+use sum_tree::{Steps, SumTree};
 use tree_cursor::{FilterCursor, Keep};
 
 /// A change of fragments: what becomes of the bytes of each.
@@ -67,6 +69,39 @@ pub fn moves_among<K: Keep<FragmentSummary>, C: Change>(
     ensures { IfOk result (λ ms. ms
         ≡ moves_among (K.keeps may_change.now) (C.does change.now) tree.now.items) }
 {
+    moves_with::<K, C, Brand>(alloc, tree, may_change, change, Blank::new(1))
+}
+
+// The same, with a counter made from the blank.
+fn moves_with<K: Keep<FragmentSummary>, C: Change, L: Ledger>(
+    alloc: Global,
+    tree: &SumTree<Fragment>,
+    may_change: &K,
+    change: &C,
+    blank: Blank,
+) -> Result<Moves, OutOfMemory>
+    requires name { blank.name ≡ L.name }
+    requires parts { blank.parts ≡ L.parts }
+    requires some { 0 < blank.parts }
+    ensures { IfOk result (λ ms. ms
+        ≡ moves_among (K.keeps may_change.now) (C.does change.now) tree.now.items) }
+{
+    let mut steps = Steps::<L>::new(blank);
+    moves_counted(alloc, tree, may_change, change, &mut steps)
+}
+
+// Does what `moves_among` does, and counts a step for each fragment that the filter keeps.
+pub(crate) fn moves_counted<K: Keep<FragmentSummary>, C: Change, L: Ledger>(
+    alloc: Global,
+    tree: &SumTree<Fragment>,
+    may_change: &K,
+    change: &C,
+    steps: &mut Steps<L>,
+) -> Result<Moves, OutOfMemory>
+    ensures moves { IfOk result (λ ms. ms
+        ≡ moves_among (K.keeps may_change.now) (C.does change.now) tree.now.items) }
+    ensures cost { steps.new ≤ steps.old + kept_count (K.keeps may_change.now) tree.now.items }
+{
     tree.known();
     let mut moves = Moves::new(alloc);
     let mut at = Passed {
@@ -75,6 +110,7 @@ pub fn moves_among<K: Keep<FragmentSummary>, C: Change>(
     };
     let mut found = FilterCursor::new(tree, at, Lent { keep: may_change })?;
     while let Some(fragment) = found.next()? {
+        steps.tick();
         let from = found.start();
         keep(&mut moves, at, from)?;
         moves.push(change.move_of(fragment))?;

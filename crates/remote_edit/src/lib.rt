@@ -29,4 +29,4 @@ pub use passed::{Passed, SeenPassed};
 pub use place::{place_local, place_remote};
 pub use placed::Placed;
 pub use sum_tree::OutOfMemory;
-pub use undo::{mark_undo, mark_undo_by_index};
+pub use undo::{mark_undo, mark_undo_by_index, mark_undo_counted};

@@ -1,15 +1,17 @@
 //! The fragments that an undo shows and hides.
-ghost use Rattle.std.specs.Prelude.{◌≡◌, ◌+◌, ◌≤◌, ◌∷◌, [], Some, false, length, slice_get, IfOk, OnOk};
+ghost use Rattle.std.specs.Prelude.{◌≡◌, ◌+◌, ◌*◌, ◌<◌, ◌≤◌, ◌∷◌, [], Some, false, true, length, slice_get, IfOk, OnOk};
 ghost use Rattle.std.specs.List.{AllByRecursion, list_any, list_all};
 ghost use Rattle.sum_tree.specs.Laws.{fold};
 ghost use Rattle.sum_tree.specs.Spliced.{splice_list};
 ghost use Rattle.lamport_clock.specs.Stamps.{same_stamp};
 ghost use Rattle.undo_map.specs.Counts.{count_of, is_odd};
 ghost use Rattle.fragments.specs.Summaries.{no_fragments, summaries, summary_of, SummaryFits};
+ghost use Rattle.fragments.specs.DeletedRuns.{few_runs};
 ghost use Rattle.remote_edit.specs.Marks.{is_shown};
 ghost use Rattle.remote_edit.specs.Concern.{begins_by, may_concern};
 ghost use Rattle.remote_edit.specs.Anew.{concerns, recount, anew, all_anew, changed_at};
 ghost use Rattle.remote_edit.specs.Finds.{IsFound, is_place, HaveConcerned};
+ghost use Rattle.remote_edit.specs.Looks.{undo_looks, seen_count};
 ghost use Rattle.remote_edit.specs.Undoing.{StandWithUndo, MoveWithUndo, KeepCharactersWithUndo, IsMarked};
 
 use crate::by_index::places_by_index;
@@ -18,7 +20,9 @@ use crate::{OutOfMemory, Placed};
 use fragments::{Fragment, FragmentSummary, Full, InsertionIndex, Span};
 use lamport_clock::{Lamport, is_same};
 use std::alloc::Global;
-use sum_tree::{Item, SumTree};
+use std::marker::Brand;
+use std::sync::ledger::{Blank, Ledger};
+use sum_tree::{Item, Steps, SumTree};
 use tree_cursor::{FilterCursor, Keep};
 use undo_map::UndoMap;
 
@@ -113,26 +117,28 @@ fn list_of(alloc: Global, fragment: Fragment) -> Result<Vec<Fragment>, OutOfMemo
     Ok(list)
 }
 
-// Replaces one fragment with another.
-fn replace(
+// Replaces one fragment with another, and counts a step for each node made. An undo makes nodes of the tree only here.
+fn replace<L: Ledger>(
     alloc: Global,
     fragments: &mut SumTree<Fragment>,
     i: u64,
     fragment: Fragment,
+    steps: &mut Steps<L>,
 ) -> Result<(), OutOfMemory>
     requires within { i + 1 ≤ length fragments.old.items }
     requires fits { SummaryFits (fold no_fragments summaries summary_of
         (splice_list i (i + 1) (fragment ∷ []) fragments.old.items)) }
-    ensures { OnOk result (fragments.new.items
+    ensures items { OnOk result (fragments.new.items
         ≡ splice_list i (i + 1) (fragment ∷ []) fragments.old.items) }
+    ensures cost { steps.new ≤ steps.old + 96 }
 {
     fragments.known();
     let one = list_of(alloc, fragment)?;
-    fragments.splice(alloc, i, i + 1, one)
+    fragments.splice_counted(alloc, i, i + 1, one, steps)
 }
 
 // Replaces fragment i with what an undo of the edits makes of it.
-fn put_anew(
+fn put_anew<L: Ledger>(
     alloc: Global,
     fragments: &mut SumTree<Fragment>,
     i: u64,
@@ -140,6 +146,7 @@ fn put_anew(
     undos: &UndoMap,
     by: Lamport,
     edits: &[Lamport],
+    steps: &mut Steps<L>,
 ) -> Result<(), OutOfMemory>
     requires within { i + 1 ≤ length fragments.old.items }
     requires stands { list_any (concerns fragment.now) edits.now ≡ false
@@ -147,34 +154,50 @@ fn put_anew(
     requires fits { SummaryFits (fold no_fragments summaries summary_of
         (splice_list i (i + 1)
         (anew undos.now by edits.now fragment.now ∷ []) fragments.old.items)) }
-    ensures { OnOk result (fragments.new.items
+    ensures items { OnOk result (fragments.new.items
         ≡ splice_list i (i + 1)
         (anew undos.now by edits.now fragment.now ∷ []) fragments.old.items) }
+    ensures cost { steps.new ≤ steps.old + 96 }
 {
     if !is_concerned(fragment, edits) {
         return Ok(());
     }
     let one = recount(alloc, fragment, undos, by)?;
-    replace(alloc, fragments, i, one)
+    replace(alloc, fragments, i, one, steps)
 }
 
-// The fragments of a history with an undo of these edits, which concerns only fragments at these places.
-fn with_undo(
+// The fragments of a history with an undo of these edits, which concerns only fragments at these places. Looks at each
+// of these places, which counts a step, and at no others.
+fn with_undo<L: Ledger>(
     alloc: Global,
     tree: &SumTree<Fragment>,
     places: &[u64],
     undos: &UndoMap,
     by: Lamport,
     edits: &[Lamport],
+    steps: &mut Steps<L>,
 ) -> Result<SumTree<Fragment>, OutOfMemory>
-    ensures { IfOk result (λ t. t.items
+    ensures items { IfOk result (λ t. t.items
         ≡ changed_at (anew undos.now by edits.now) (is_place places.now) tree.now.items) }
+    ensures seen { IfOk result (λ t. seen_count by t.items
+        ≤ seen_count by tree.now.items + length places.now) }
+    ensures cost { steps.new ≤ steps.old + 97 * length places.now }
 {
     tree.known();
     let mut fragments = tree.share()?;
     for place in places {
+        steps.tick();
         if let Some(fragment) = tree.get(*place) {
-            put_anew(alloc, &mut fragments, *place, fragment, undos, by, edits)?;
+            put_anew(
+                alloc,
+                &mut fragments,
+                *place,
+                fragment,
+                undos,
+                by,
+                edits,
+                steps,
+            )?;
         }
     }
     Ok(fragments)
@@ -198,8 +221,29 @@ fn places_by_sums(
     Ok(places)
 }
 
+// The places of these fragments, found by the index, or by the sums if the index may lack runs.
+fn places_for<L: Ledger>(
+    alloc: Global,
+    tree: &SumTree<Fragment>,
+    index: &InsertionIndex,
+    edits: &[Lamport],
+    steps: &mut Steps<L>,
+) -> Result<Vec<u64>, OutOfMemory>
+    ensures found { IsFound tree.now.items index.now → IfOk result (λ ps. AllByRecursion
+        (λ t. HaveConcerned tree.now.items t ps.items) edits.now) }
+    ensures few { few_runs index.now.deletions ≡ true
+        → IfOk result (λ ps. length ps.items + steps.old ≤ steps.new) }
+    ensures cost { IsFound tree.now.items index.now → few_runs index.now.deletions ≡ true
+        → steps.new ≤ steps.old + undo_looks tree.now.items index.now.deletions edits.now }
+{
+    if !index.has_all_runs() {
+        return places_by_sums(alloc, tree, edits);
+    }
+    places_by_index(alloc, tree, index, edits, steps)
+}
+
 // What an undo makes of fragments, of which it concerns only those at these places.
-fn mark_places(
+fn mark_places<L: Ledger>(
     alloc: Global,
     tree: &SumTree<Fragment>,
     index: &InsertionIndex,
@@ -207,18 +251,42 @@ fn mark_places(
     undos: &UndoMap,
     by: Lamport,
     edits: &[Lamport],
+    steps: &mut Steps<L>,
 ) -> Result<Placed, OutOfMemory>
-    ensures { IfOk result (λ p. IsMarked tree.now.items index.now undos.now by edits.now
+    ensures marked { IfOk result (λ p. IsMarked tree.now.items index.now undos.now by edits.now
         places.now p) }
+    ensures cost { steps.new ≤ steps.old
+        + (98 * length places.now + seen_count by tree.now.items) }
 {
-    let fragments = with_undo(alloc, tree, places, undos, by, edits)?;
+    let fragments = with_undo(alloc, tree, places, undos, by, edits, steps)?;
     let index = index.share()?;
-    let moves = undo_moves(alloc, tree, &fragments, by)?;
+    let moves = undo_moves(alloc, tree, &fragments, by, steps)?;
     Ok(Placed {
         fragments,
         index,
         moves,
     })
+}
+
+// The same, with a counter made from the blank.
+fn mark_with<L: Ledger>(
+    alloc: Global,
+    tree: &SumTree<Fragment>,
+    index: &InsertionIndex,
+    places: &[u64],
+    undos: &UndoMap,
+    by: Lamport,
+    edits: &[Lamport],
+    blank: Blank,
+) -> Result<Placed, OutOfMemory>
+    requires name { blank.name ≡ L.name }
+    requires parts { blank.parts ≡ L.parts }
+    requires some { 0 < blank.parts }
+    ensures { IfOk result (λ p. IsMarked tree.now.items index.now undos.now by edits.now
+        places.now p) }
+{
+    let mut steps = Steps::<L>::new(blank);
+    mark_places(alloc, tree, index, places, undos, by, edits, &mut steps)
 }
 
 /// Shows and hides the fragments that the undo `by` concerns: those that one of the edits inserted or deletes. The undo
@@ -252,7 +320,7 @@ pub fn mark_undo(
         undos.now by edits.now p.fragments.items p.moves) }
 {
     let places = places_by_sums(alloc, tree, edits)?;
-    mark_places(alloc, tree, index, &places, undos, by, edits)
+    mark_with::<Brand>(alloc, tree, index, &places, undos, by, edits, Blank::new(1))
 }
 
 /// Does what `mark_undo` does, if the index has these fragments and what is deleted of them: it finds the fragments that
@@ -281,9 +349,68 @@ pub fn mark_undo_by_index(
     ensures characters { IfOk result (λ p. KeepCharactersWithUndo tree.now.items index.now
         undos.now by edits.now p.fragments.items p.moves) }
 {
-    if !index.has_all_runs() {
-        return mark_undo(alloc, tree, index, undos, by, edits);
-    }
-    let places = places_by_index(alloc, tree, index, edits)?;
-    mark_places(alloc, tree, index, &places, undos, by, edits)
+    by_index_with::<Brand>(alloc, tree, index, undos, by, edits, Blank::new(1))
+}
+
+// The same, with a counter made from the blank.
+fn by_index_with<L: Ledger>(
+    alloc: Global,
+    tree: &SumTree<Fragment>,
+    index: &InsertionIndex,
+    undos: &UndoMap,
+    by: Lamport,
+    edits: &[Lamport],
+    blank: Blank,
+) -> Result<Placed, OutOfMemory>
+    requires name { blank.name ≡ L.name }
+    requires parts { blank.parts ≡ L.parts }
+    requires some { 0 < blank.parts }
+    ensures fragments { IsFound tree.now.items index.now → IfOk result (λ p. p.fragments.items
+        ≡ all_anew undos.now by edits.now tree.now.items) }
+    ensures index { IfOk result (λ p. p.index ≡ index.now) }
+    ensures stands { IfOk result (λ p. StandWithUndo tree.now.items index.now undos.now by
+        edits.now p.fragments.items p.index) }
+    ensures moves { IfOk result (λ p. MoveWithUndo tree.now.items index.now undos.now by edits.now
+        p.moves) }
+    ensures characters { IfOk result (λ p. KeepCharactersWithUndo tree.now.items index.now
+        undos.now by edits.now p.fragments.items p.moves) }
+{
+    let mut steps = Steps::<L>::new(blank);
+    mark_undo_counted(alloc, tree, index, undos, by, edits, &mut steps)
+}
+
+/// Does what `mark_undo_by_index` does, and counts a step for each look at a fragment and for each node of the tree that
+/// is made, even if the call fails. A look is at most one descent of the index and one of each tree.
+///
+/// If the index has these fragments and all runs, there are at most 128 steps for each edit, for each run that it deleted,
+/// and for each fragment that it inserted or deletes, and one for each fragment that has seen the undo already.
+///
+/// # Errors
+///
+/// Fails only if an allocation fails.
+pub fn mark_undo_counted<L: Ledger>(
+    alloc: Global,
+    tree: &SumTree<Fragment>,
+    index: &InsertionIndex,
+    undos: &UndoMap,
+    by: Lamport,
+    edits: &[Lamport],
+    steps: &mut Steps<L>,
+) -> Result<Placed, OutOfMemory>
+    ensures fragments { IsFound tree.now.items index.now → IfOk result (λ p. p.fragments.items
+        ≡ all_anew undos.now by edits.now tree.now.items) }
+    ensures index { IfOk result (λ p. p.index ≡ index.now) }
+    ensures stands { IfOk result (λ p. StandWithUndo tree.now.items index.now undos.now by
+        edits.now p.fragments.items p.index) }
+    ensures moves { IfOk result (λ p. MoveWithUndo tree.now.items index.now undos.now by edits.now
+        p.moves) }
+    ensures characters { IfOk result (λ p. KeepCharactersWithUndo tree.now.items index.now
+        undos.now by edits.now p.fragments.items p.moves) }
+    ensures cost { IsFound tree.now.items index.now → few_runs index.now.deletions ≡ true
+        → steps.new ≤ steps.old
+        + 128 * undo_looks tree.now.items index.now.deletions edits.now
+        + seen_count by tree.now.items }
+{
+    let places = places_for(alloc, tree, index, edits, steps)?;
+    mark_places(alloc, tree, index, &places, undos, by, edits, steps)
 }

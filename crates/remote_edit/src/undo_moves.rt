@@ -1,17 +1,19 @@
 //! The moves that an undo makes in the shown and the hidden text.
-ghost use Rattle.std.specs.Prelude.{◌≡◌, IfOk};
+ghost use Rattle.std.specs.Prelude.{◌≡◌, ◌+◌, ◌≤◌, IfOk};
 ghost use Rattle.remote_edit.specs.Among.{moves_among};
 ghost use Rattle.remote_edit.specs.UndoMoves.{was_visible, undo_move};
 ghost use Rattle.remote_edit.specs.Concern.{sees_edit};
+ghost use Rattle.remote_edit.specs.Looks.{seen_count};
 
-use crate::among::{Change, moves_among};
+use crate::among::{Change, moves_counted};
 use crate::by_index::fragment_from;
 use crate::edit_moves::SeesEdit;
 use crate::{Move, Moves, OutOfMemory};
 use fragments::Fragment;
 use lamport_clock::Lamport;
 use std::alloc::Global;
-use sum_tree::SumTree;
+use std::sync::ledger::Ledger;
+use sum_tree::{Steps, SumTree};
 
 // Whether a fragment was shown before an undo, among the fragments `tree`.
 fn was_visible(tree: &SumTree<Fragment>, fragment: &Fragment) -> bool
@@ -44,20 +46,23 @@ impl<'u> Change for Undoing<'u> {
 }
 
 // The moves that the undo `by` made in the two texts, read from the fragments before it and after it. Passes whole runs of
-// fragments that have not seen the undo.
-pub(crate) fn undo_moves(
+// fragments that have not seen the undo, and counts a step for each one that has.
+pub(crate) fn undo_moves<L: Ledger>(
     alloc: Global,
     before: &SumTree<Fragment>,
     after: &SumTree<Fragment>,
     by: Lamport,
+    steps: &mut Steps<L>,
 ) -> Result<Moves, OutOfMemory>
-    ensures { IfOk result (λ ms. ms
+    ensures moves { IfOk result (λ ms. ms
         ≡ moves_among (sees_edit by) (undo_move before.now.items) after.now.items) }
+    ensures cost { steps.new ≤ steps.old + seen_count by after.now.items }
 {
-    moves_among(
+    moves_counted(
         alloc,
         after,
         &SeesEdit { edit: by },
         &Undoing { tree: before },
+        steps,
     )
 }
