@@ -1,23 +1,27 @@
 -- A character begins with a byte that a version sees where it does in the text in which the byte lies.
-use Rattle.std.proofs.Common.{◌≡◌, ℕ, suc, ◌+◌, ◌-◌, ◌<◌, ◌≤◌, ◌^◌, ◌↔◌, IsTrue, ◌==◌, List, ◌∷◌, ◌++◌, length, take, drop, take-append-drop, get_or, refl, sym, ap, ◌∙◌, arith, true, false, ◌||◌, ◌&&◌, Bool, ltb, leb, Option, Some, None}
-use Rattle.std.specs.List.{slice_get}
+use Rattle.std.proofs.Common.{◌≡◌, ℕ, suc, ◌+◌, ◌-◌, ◌<◌, ◌≤◌, ◌^◌, ◌↔◌, IsTrue, ◌==◌, List, ◌∷◌, ◌++◌, length, take, drop, take-append-drop, get_or, refl, sym, ap, ◌∙◌, subst, arith, true, false, ◌||◌, ◌&&◌, Bool, ltb, leb, Option, Some, None}
+use Rattle.std.specs.List.{AllByRecursion, slice_get}
 use Rattle.std.specs.Str.{IsCharBoundary}
 use Rattle.std.proofs.lemmas.Bool.{le-leb}
 use Rattle.std.proofs.lemmas.Bool.Decides.{nat_tests}
+use Rattle.std.proofs.lemmas.List.{map-append}
 use Rattle.sum_tree.specs.Laws.{fold}
 use Rattle.tree_cursor.specs.Places.{place_behind, seek_count}
 use Rattle.tree_cursor.specs.Counting.{number_passes}
 use Rattle.tree_cursor.specs.declared.traits.Bias.TheVariants.{Right}
 use Rattle.lamport_clock.specs.Versions.{Entries}
 use Rattle.op_model.specs.Histories.{History, seen_history}
-use Rattle.op_model.specs.Shown.{full, text, hidden_text}
+use Rattle.op_model.specs.Shown.{full, text, hidden_text, new_bytes}
+use Rattle.op_model.specs.Walked.{IsWhole}
 use Rattle.op_model.specs.Edits.{is_boundary}
 use Rattle.op_model.specs.Lawful.{Lawful, IsClosed}
 use Rattle.op_model.proofs.answers.Good.{lawful_ready}
-use Rattle.op_model.proofs.texts.WholeTexts.{byte_of, boundary_is, same_byte}
+use Rattle.op_model.proofs.Elements.{each_right}
+use Rattle.op_model.proofs.texts.WholeRuns.{byte_new}
+use Rattle.op_model.proofs.texts.WholeTexts.{byte_of, boundary_is, boundary_of, same_byte}
 use Rattle.fragments.specs.declared.fragment.Fragment.{Fragment}
 use Rattle.fragments.specs.Summaries.{no_fragments, summaries, summary_of, SummaryFits}
-use Rattle.fragments.specs.Stand.{Tell}
+use Rattle.fragments.specs.Stand.{Tell, runs, run_of}
 use Rattle.fragments.specs.Laws.{shown_len, cells_len}
 use Rattle.fragments.proofs.Cells.{shown_append_len, seen_full}
 use Rattle.fragments.proofs.Counts.{cells_len-append}
@@ -33,7 +37,7 @@ use Rattle.remote_edit.proofs.Texts.{text_bytes, hidden_text_bytes}
 use Rattle.remote_edit.proofs.Carrying.{shown_long, hidden_long}
 use Rattle.seen_text.specs.Lies.{Lies, IsFound}
 use Rattle.seen_text.proofs.Found.{sought, Found, found, Ended, ended}
-use Rattle.seen_text.proofs.Bytes.{seen_in, seen_long, seen_at, shown_at, hidden_at}
+use Rattle.seen_text.proofs.Bytes.{cell_at, seen_in, seen_long, seen_at, shown_at, hidden_at}
 
 abbrev pub start : Entries → SeenPlace
 start v = (((v, 0), 0), 0)
@@ -173,6 +177,23 @@ module _ (h : History) (v : Entries) (fs : List Fragment) (t : Tell fs h) (l : L
         same_byte xs (seen_in (byte_of h) v fs) i (seen_bytes v w.pre + (place - b)) r k.0 e
         ∙ ap (λ (z : List ℕ). is_boundary z (seen_bytes v w.pre + (place - b))) (seen_full h v fs t l c)
         ∙ ap (is_boundary (full (seen_history h v))) k.1
+
+    -- a character begins with a fragment that begins and ends between characters
+    pub at_first : AllByRecursion (IsWhole h) (runs fs) → b ≡ place → true ≡ is_boundary (full (seen_history h v)) place
+    unfolding cell_at
+    at_first u e =
+        let k = in_seen in
+        let i : ℕ = place - b in
+        let q : f.offset ≡ f.offset + i = omega (arith, e) in
+        let x : IsWhole h (run_of f) = (each_right (IsWhole h) (runs w.pre) (runs (f ∷ w.post))
+        (subst (AllByRecursion (IsWhole h)) (ap runs w.parts ∙ map-append run_of w.pre (f ∷ w.post)) u)).0 in
+        let n = (boundary_of (new_bytes h f.stamp) (f.offset + f.len) x.1).0 in
+        let z = w.high in
+        let r : get_or (new_bytes h f.stamp) f.offset 0 ≡ get_or (seen_in (byte_of h) v fs) (seen_bytes v w.pre + i) 0 =
+        sym (byte_new h (lawful_ready h l).0.distinct f.stamp f.offset) ∙ ap (λ (m : ℕ). byte_of h (record { stamp = f.stamp; k = m })) q
+        ∙ sym (seen_at (byte_of h) v w.pre w.post f i k.2 w.seen)
+        ∙ sym (ap (λ (z : List Fragment). get_or (seen_in (byte_of h) v z) (seen_bytes v w.pre + i) 0) w.parts) in
+        sym x.0 ∙ from_text (new_bytes h f.stamp) f.offset (omega (arith, n, z, e)) r
 
     pub in_shown : (s : List ℕ) (r : Bool) → s ≡ text h → f.visible ≡ true → (IsTrue r ↔ IsCharBoundary s (a + (place - b))) → r ≡ is_boundary (full (seen_history h v)) place
     in_shown s r e u q =

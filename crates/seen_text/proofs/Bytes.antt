@@ -16,7 +16,7 @@ use Rattle.remote_edit.proofs.Carrying.{bytes_of, long, shown_first, hidden_firs
 -- ---- the bytes of fragments
 
 module _ (byte : Cell → ℕ) where
-  pub cell_at : Fragment → ℕ → ℕ
+  unfoldable pub cell_at : Fragment → ℕ → ℕ
   cell_at f d = byte (record { stamp = f.stamp; k = f.offset + d })
 
   nth : (t : Lamport) (k n d : ℕ) (s : List ℕ) → d < n → get_or (cell_bytes byte t k n ++ s) d 0 ≡ byte (record { stamp = t; k = k + d })

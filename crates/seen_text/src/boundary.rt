@@ -58,8 +58,8 @@ fn seek<'t, 'v>(
 /// fragments, the shown text and the hidden text are those of a lawful history in which the version is closed. False past
 /// their end.
 ///
-/// Two plain descents, without memory: one to the fragment of the byte, which looks into no run of fragments of which the
-/// version sees all or none, and one to the byte in the text in which it lies.
+/// Does not allocate. One plain descent to the fragment of the byte, which looks into no run of fragments of which the version sees
+/// all or none; and, unless the fragment begins with the byte, one to the byte in the text in which it lies.
 pub fn is_seen_boundary(
     fragments: &SumTree<Fragment>,
     shown: &Rope,
@@ -76,6 +76,9 @@ pub fn is_seen_boundary(
     let Some(fragment) = found else {
         return place == before.bytes;
     };
+    if place == before.bytes {
+        return true;
+    }
     let inside = place - before.bytes;
     if fragment.visible {
         shown.is_char_boundary(before.visible + inside)

@@ -1,8 +1,8 @@
-use Rattle.std.proofs.Common.{◌+◌, ◌-◌, Option, None, Some, subst, ap, arith}
+use Rattle.std.proofs.Common.{◌+◌, ◌-◌, Option, None, Some, subst, sym, ap, arith}
 use Rattle.std.specs.Option.{option_copied}
 use Rattle.fragments.specs.declared.fragment.Fragment.{Fragment}
 use Rattle.seen_text.specs.Lies.{Lies, IsFound}
-use Rattle.seen_text.proofs.Begins.{shown_more, hidden_more, shown_fits, hidden_fits, in_shown, in_hidden, at_end}
+use Rattle.seen_text.proofs.Begins.{shown_more, hidden_more, shown_fits, hidden_fits, at_first, in_shown, in_hidden, at_end}
 use Rattle.seen_text.proofs.boundary.is_seen_boundary.Goals as goal
 
 pub returns-in_default : goal.returns-in_default
@@ -11,6 +11,14 @@ returns-in_default c = λ h t l o.
     let p : IsFound c.args.version.now c.args.fragments.now.items c.args.place None b.bytes b.visible b.hidden =
     subst (λ (x : Option Fragment). IsFound c.args.version.now c.args.fragments.now.items c.args.place x b.bytes b.visible b.hidden) (ap (option_copied {T = Fragment}) c.in_default.is) c.seek.ensures in
     at_end h c.args.version.now c.args.fragments.now.items t.cells l o c.args.place b.bytes p.0 p.1
+
+pub returns-then-place-before : goal.returns-then-place-before
+returns-then-place-before c = λ h t l o.
+    let b = c.seek.result.1 in
+    let fs = c.args.fragments.now.items in
+    let w : Lies c.args.version.now fs c.args.place c.in-Some.fragment.now b.bytes b.visible b.hidden =
+    subst (λ (x : Option Fragment). IsFound c.args.version.now fs c.args.place x b.bytes b.visible b.hidden) (ap (option_copied {T = Fragment}) c.in-Some.is) c.seek.ensures in
+    at_first h c.args.version.now fs t.cells l o c.args.place c.in-Some.fragment.now b.bytes b.visible b.hidden w t.whole (sym c.if-place-before.true)
 
 pub overflow_sub-inside : goal.overflow_sub-inside
 overflow_sub-inside c =
