@@ -25,7 +25,7 @@ use Rattle.anchors.proofs.Splits.{before_is, number_upto, length_upto, in_text, 
 use Rattle.op_model.proofs.anchors.KnownAnchors.{edit_there}
 use Rattle.op_model.proofs.texts.WholeTexts.{same_byte}
 use Rattle.op_model.proofs.texts.Hidden.{both_lengths}
-use Rattle.op_model.proofs.anchors.Standing.{end_boundary, split_cell}
+use Rattle.op_model.proofs.anchors.Standing.{split_cell}
 
 -- ---- spots
 
@@ -68,9 +68,6 @@ module _ (fs : List Fragment) (w : IndexState) (v n : List ℕ) (h : History) (s
           ap (λ (b : Bool). cond b (is_boundary v p.shown) (is_boundary n (p.cells - p.shown))) (a ∙ t)
           ∙ ap (λ (z : List ℕ). is_boundary z (p.cells - p.shown)) s.hides ∙ ap (is_boundary (hidden_text h)) q
           ∙ same_byte (hidden_text h) (new_bytes h c.stamp) (length cs - shown_count h cs) c.k y.0 i y.1
-
-pub ends_none : (h : History) (c : Cell) → spot_of h c ≡ None → c.k ≤ length (new_bytes h c.stamp) → true ≡ is_boundary (new_bytes h c.stamp) c.k
-ends_none h c e m = let k = none_spot h c e in sym (end_boundary (new_bytes h c.stamp) c.k (omega (arith, k, m)))
 
 -- ---- what is known
 
@@ -159,10 +156,6 @@ module _ (h : History) (t : Lamport) (k : ℕ) where
         | inl p ↦ not_standing h (At t k Left) (left_unknown h t k (inr (omega (arith, l, p))))
         | inr p ↦ absurd (z (omega (arith, p)))
       ]
-
-  pub left_within : (k ≡ 0 → ⊥) → (p : Spot) → spot_of h (cell_at t (k - 1)) ≡ Some p → k ≤ length (new_bytes h t)
-  left_within z p e = let l = (some_spot h (cell_at t (k - 1)) p e).0 in
-      elim (cases_lt 0 k) [ inl q ↦ omega (arith, l, q) | inr q ↦ absurd (z (omega (arith, q))) ]
 
   pub left_not : (k ≡ 0 → ⊥) → (p : Spot) → spot_of h (cell_at t (k - 1)) ≡ Some p → is_boundary (new_bytes h t) k ≡ false → None ≡ standing_of h (At t k Left)
   left_not z p e b = not_standing h (At t k Left) (left_known h t k z (some_spot h (cell_at t (k - 1)) p e).0 ∙ b)

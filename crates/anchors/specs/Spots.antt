@@ -1,5 +1,5 @@
 -- Where a cell stands among all cells.
-use Rattle.std.specs.Prelude.{◌≡◌, ◌++◌, ◌∷◌, IfSome, ℕ, ◌+◌, ◌-◌, ◌<◌, ◌≤◌, ◌^◌, ◌&&◌, Bool, nat_lt, nat_le, length, List, Option, Some, None, if◌then◌else◌}
+use Rattle.std.specs.Prelude.{◌≡◌, ◌++◌, ◌∷◌, ℕ, ◌+◌, ◌-◌, ◌<◌, ◌≤◌, ◌^◌, ◌&&◌, Bool, true, nat_lt, nat_le, length, List, Option, Some, None, if◌then◌else◌}
 use Rattle.lamport_clock.specs.declared.stamp.Lamport.{Lamport}
 use Rattle.lamport_clock.specs.Stamps.{same_stamp}
 use Rattle.op_model.specs.Histories.{History}
@@ -81,9 +81,18 @@ pub record IsRunOf (h : History) (t : Lamport) (k : ℕ) (r : Option Run) : Type
   pub here : spot_if r t k ≡ spot_of h (cell_at t k)
   pub others : (j : ℕ) → (s : Spot) → spot_if r t j ≡ Some s → Some s ≡ spot_of h (cell_at t j)
 
--- o is the spot of cell k of edit t of h, or None
-abbrev pub MayBeSpot : History → Lamport → ℕ → Option Spot → Type 0
-MayBeSpot h t k o = IfSome o (λ s. Some s ≡ spot_of h (cell_at t k))
+-- a run begins and ends where characters of its edit's texts do
+abbrev pub IsWholeRun : History → Run → Type 0
+IsWholeRun h r = (is_boundary (new_bytes h r.stamp) r.offset ≡ true)
+    × (is_boundary (new_bytes h r.stamp) (r.offset + r.len) ≡ true)
+
+-- a run of edit t of h has cell k or the one before it, and begins and ends between characters
+pub record IsAround (h : History) (t : Lamport) (k : ℕ) (r : Run) : Type 0 where
+  pub stamp : r.stamp ≡ t
+  pub low : r.offset ≤ k
+  pub high : k ≤ r.offset + r.len
+  pub whole : IsWholeRun h r
+  pub spots : (j : ℕ) → (s : Spot) → spot_in r t j ≡ Some s → Some s ≡ spot_of h (cell_at t j)
 
 -- a character begins at the spot, or the text that the cell is of ends
 abbrev pub begins : List ℕ → List ℕ → Spot → Bool

@@ -1,15 +1,15 @@
 //! Where a byte of an edit stands among fragments.
-ghost use Rattle.std.specs.Prelude.{◌≡◌, ◌++◌, ◌∷◌, ◌≤◌, ◌<◌, ◌+◌, ◌-◌, ◌^◌, List, Some, IfSome};
+ghost use Rattle.std.specs.Prelude.{◌≡◌, ◌≤◌, ◌<◌, ◌+◌, ◌^◌, List, IfSome};
+ghost use Rattle.std.specs.List.{AllByRecursion};
 ghost use Rattle.op_model.specs.Histories.{History};
-ghost use Rattle.op_model.specs.Lawful.{Lawful};
-ghost use Rattle.op_model.specs.Cells.{cell_at};
 ghost use Rattle.op_model.specs.Edits.{is_boundary};
-ghost use Rattle.undo_map.specs.declared.entry.UndoEntry.{UndoEntry};
-ghost use Rattle.locators.specs.Locator.{least_digits};
+ghost use Rattle.op_model.specs.Shown.{new_bytes};
+ghost use Rattle.op_model.specs.Walked.{IsWhole};
 ghost use Rattle.fragments.specs.declared.fragment.Fragment.{Fragment};
-ghost use Rattle.fragments.specs.Laws.{shown_len};
-ghost use Rattle.fragments.specs.Stand.{Stand, Rise};
-ghost use Rattle.anchors.specs.Spots.{spot_of, spot_in, run_behind, begins, IsCounted, IsRunAt, IsRunOf, MayBeSpot, OfEach, RunFits};
+ghost use Rattle.fragments.specs.DeletedRuns.{IndexState};
+ghost use Rattle.fragments.specs.Stand.{runs};
+ghost use Rattle.anchors.specs.Spots.{spot_in, run_behind, begins, IsAround, IsCounted, IsRunAt, IsRunOf, IsWholeRun, OfEach, RunFits};
+ghost use Rattle.anchors.specs.Standing.{StandFor};
 
 use crate::before::{Before, Reaching};
 use fragments::{Fragment, InsertionIndex};
@@ -52,8 +52,8 @@ fn run_behind(fragment: &Fragment, before: Before) -> Run
     }
 }
 
-// The spot of a cell in a run, where it has the cell.
-fn spot_in(run: Run, stamp: Lamport, k: u64) -> Option<Spot>
+/// The spot of a cell in a run, where it has the cell.
+pub fn spot_in(run: Run, stamp: Lamport, k: u64) -> Option<Spot>
     requires shown { run.shown + run.len < 2 ^ 64 }
     requires cells { run.cells + run.len < 2 ^ 64 }
     requires fewer { run.shown ≤ run.cells }
@@ -80,6 +80,8 @@ fn spot_in(run: Run, stamp: Lamport, k: u64) -> Option<Spot>
 fn run_at(tree: &SumTree<Fragment>, id: &Locator) -> Option<Run>
     ensures run { IsRunAt tree.now.items id.now result }
     ensures room { IfSome result RunFits }
+    ensures whole { (h : History) → AllByRecursion (IsWhole h) (runs tree.now.items)
+        → IfSome result (IsWholeRun h) }
 {
     tree.known();
     let start = Before { shown: 0, cells: 0 };
@@ -95,53 +97,22 @@ fn run_at(tree: &SumTree<Fragment>, id: &Locator) -> Option<Run>
     Some(run_behind(fragment, found.start()))
 }
 
-// The cells of the fragment that has cell `k` of an edit, where one has it: a descent in the index and one in the tree.
-fn run_of(tree: &SumTree<Fragment>, index: &InsertionIndex, stamp: Lamport, k: u64) -> Option<Run>
+/// The cells of the fragment that has cell `k` of an edit, where one has it: a descent in the index and one in the tree.
+pub fn run_of(
+    tree: &SumTree<Fragment>,
+    index: &InsertionIndex,
+    stamp: Lamport,
+    k: u64,
+) -> Option<Run>
     ensures run { OfEach tree.now.items index.now (λ h. IsRunOf h stamp k result) }
     ensures room { IfSome result RunFits }
+    ensures whole { (h : History) → AllByRecursion (IsWhole h) (runs tree.now.items)
+        → IfSome result (IsWholeRun h) }
 {
     let Some(id) = index.find(stamp, k) else {
         return None;
     };
     run_at(tree, id)
-}
-
-/// The spot of cell `k` of an edit, where there is such a cell, by the descents of [`run_of`].
-pub fn spot_of(
-    tree: &SumTree<Fragment>,
-    index: &InsertionIndex,
-    stamp: Lamport,
-    k: u64,
-) -> Option<Spot>
-    ensures spot { (u : List UndoEntry) → (h : History) → Stand tree.now.items index.now u h
-        → Lawful h → result ≡ spot_of h (record { stamp = stamp; k = k }) }
-    ensures counted { IfSome result IsCounted }
-{
-    let Some(run) = run_of(tree, index, stamp, k) else {
-        return None;
-    };
-    spot_in(run, stamp, k)
-}
-
-/// The spot of cell `k - 1` of an edit, where there is such a cell, and that of cell `k` where it is in the same fragment, by the
-/// descents of [`run_of`].
-pub fn spots_of(
-    tree: &SumTree<Fragment>,
-    index: &InsertionIndex,
-    stamp: Lamport,
-    k: u64,
-) -> (Option<Spot>, Option<Spot>)
-    requires { 1 ≤ k }
-    ensures first { OfEach tree.now.items index.now
-        (λ h. result.0 ≡ spot_of h (cell_at stamp (k - 1))) }
-    ensures next { OfEach tree.now.items index.now (λ h. MayBeSpot h stamp k result.1) }
-    ensures first_counted { IfSome result.0 IsCounted }
-    ensures next_counted { IfSome result.1 IsCounted }
-{
-    let Some(run) = run_of(tree, index, stamp, k - 1) else {
-        return (None, None);
-    };
-    (spot_in(run, stamp, k - 1), spot_in(run, stamp, k))
 }
 
 // Whether a rope may be cut at an offset.
@@ -151,8 +122,8 @@ fn is_boundary(rope: &Rope, i: u64) -> bool
     rope.is_char_boundary(i)
 }
 
-/// Whether a character begins at a spot.
-pub fn begins(visible: &Rope, hidden: &Rope, spot: Spot) -> bool
+// Whether a character begins at a spot.
+fn begins(visible: &Rope, hidden: &Rope, spot: Spot) -> bool
     requires { spot.shown ≤ spot.cells }
     ensures { result ≡ begins visible.now hidden.now spot }
 {
@@ -160,5 +131,22 @@ pub fn begins(visible: &Rope, hidden: &Rope, spot: Spot) -> bool
         is_boundary(visible, spot.shown)
     } else {
         is_boundary(hidden, spot.cells - spot.shown)
+    }
+}
+
+/// Whether a character begins with cell `k` of an edit or ends before it, where a run has that cell or the one before it. A run
+/// begins and ends between characters, so a rope is asked only inside it.
+pub fn is_between(visible: &Rope, hidden: &Rope, run: Run, stamp: Lamport, k: u64) -> bool
+    requires { RunFits run }
+    ensures { (fs : List Fragment) → (w : IndexState) → (h : History)
+        → StandFor fs w visible.now hidden.now h → IsAround h stamp k run
+        → result ≡ is_boundary (new_bytes h stamp) k }
+{
+    if run.offset == k {
+        return true;
+    }
+    match spot_in(run, stamp, k) {
+        None => true,
+        Some(spot) => begins(visible, hidden, spot),
     }
 }

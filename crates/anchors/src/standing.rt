@@ -1,14 +1,12 @@
 //! Where a known anchor stands.
-ghost use Rattle.std.specs.Prelude.{◌≡◌, ◌≤◌, ◌<◌, ◌^◌, ◌+◌, length, IfSome, if◌then◌else◌};
+ghost use Rattle.std.specs.Prelude.{◌≡◌, ◌+◌, length, if◌then◌else◌};
 ghost use Rattle.op_model.specs.Histories.{History};
-ghost use Rattle.op_model.specs.Edits.{is_boundary};
-ghost use Rattle.op_model.specs.Shown.{new_bytes};
 ghost use Rattle.op_model.specs.declared.anchor.Anchor.TheVariants.{At};
 ghost use Rattle.op_model.specs.declared.anchor.Bias.TheVariants.{Left, Right};
-ghost use Rattle.anchors.specs.Spots.{IsCounted, MayBeSpot};
-ghost use Rattle.anchors.specs.Standing.{StandFor, EndsAt, side, standing_of};
+ghost use Rattle.anchors.specs.Spots.{IsCounted};
+ghost use Rattle.anchors.specs.Standing.{StandFor, side, standing_of};
 
-use crate::spot::{Spot, begins, spot_of, spots_of};
+use crate::spot::{Spot, is_between, run_of, spot_in};
 use fragments::{Fragment, InsertionIndex};
 use lamport_clock::Lamport;
 use op_model::{Anchor, Bias};
@@ -64,44 +62,6 @@ fn behind_cell(spot: Spot) -> Standing
     }
 }
 
-// Whether a character ends before cell `k` of an edit, where the edit has at least `k` cells: one begins there, or it has no more.
-fn ends_before(
-    tree: &SumTree<Fragment>,
-    index: &InsertionIndex,
-    visible: &Rope,
-    hidden: &Rope,
-    stamp: Lamport,
-    k: u64,
-) -> bool
-    ensures { (h : History) → StandFor tree.now.items index.now visible.now hidden.now h
-        → k ≤ length (new_bytes h stamp) → result ≡ is_boundary (new_bytes h stamp) k }
-{
-    match spot_of(tree, index, stamp, k) {
-        None => true,
-        Some(spot) => begins(visible, hidden, spot),
-    }
-}
-
-// The same, where the spot of cell `k` may be known already.
-fn ends_behind(
-    tree: &SumTree<Fragment>,
-    index: &InsertionIndex,
-    visible: &Rope,
-    hidden: &Rope,
-    stamp: Lamport,
-    k: u64,
-    next: Option<Spot>,
-) -> bool
-    requires { IfSome next IsCounted }
-    ensures { (h : History) → StandFor tree.now.items index.now visible.now hidden.now h
-        → MayBeSpot h stamp k next → EndsAt h stamp k result }
-{
-    match next {
-        None => ends_before(tree, index, visible, hidden, stamp, k),
-        Some(spot) => begins(visible, hidden, spot),
-    }
-}
-
 // Where a Right anchor stands, where it is known.
 fn right_standing(
     tree: &SumTree<Fragment>,
@@ -114,10 +74,13 @@ fn right_standing(
     ensures { (h : History) → StandFor tree.now.items index.now visible.now hidden.now h
         → result ≡ standing_of h (At stamp k Right) }
 {
-    let Some(spot) = spot_of(tree, index, stamp, k) else {
+    let Some(run) = run_of(tree, index, stamp, k) else {
         return None;
     };
-    if begins(visible, hidden, spot) {
+    let Some(spot) = spot_in(run, stamp, k) else {
+        return None;
+    };
+    if is_between(visible, hidden, run, stamp, k) {
         return Some(before_cell(spot));
     }
     None
@@ -138,11 +101,13 @@ fn left_standing(
     if k == 0 {
         return None;
     }
-    let (spot, next) = spots_of(tree, index, stamp, k);
-    let Some(spot) = spot else {
+    let Some(run) = run_of(tree, index, stamp, k - 1) else {
         return None;
     };
-    if ends_behind(tree, index, visible, hidden, stamp, k, next) {
+    let Some(spot) = spot_in(run, stamp, k - 1) else {
+        return None;
+    };
+    if is_between(visible, hidden, run, stamp, k) {
         return Some(behind_cell(spot));
     }
     None

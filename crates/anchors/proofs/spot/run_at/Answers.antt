@@ -1,7 +1,8 @@
 use Rattle.std.proofs.Common.{Some, None, subst, sym, ap, ◌∙◌}
 use Rattle.std.specs.Option.{option_copied}
 use Rattle.anchors.specs.Before.{at}
-use Rattle.anchors.specs.Spots.{RunFits}
+use Rattle.anchors.specs.Spots.{IsWholeRun, RunFits}
+use Rattle.anchors.proofs.Around.{whole_at}
 use Rattle.anchors.proofs.Seeking.{sought, first_is, start_is, seek_not_none, seek_run, seek_room}
 use Rattle.anchors.proofs.spot.run_at.Goals as goal
 
@@ -34,3 +35,10 @@ returns-clause-room c =
     (at c.start.result.shown c.start.result.cells) c.next.new.self.from.shown c.next.new.self.from.cells c.next.new.self.given c.next.new.self.items c.start.ensures
     (ap (λ p. p.items) n) (ap (λ p. p.given) n) (ap (λ p. p.from.shown) n ∙ ap (λ p. p.from.shown) m) (ap (λ p. p.from.cells) n ∙ ap (λ p. p.from.cells) m))
     c.known.ensures.fits)
+
+pub returns-clause-whole : goal.returns-clause-whole
+returns-clause-whole c = λ h w.
+    let m = c.in-Ok.ensures.made in
+    subst (IsWholeRun h) (sym c.run_behind.ensures) (whole_at h c.args.tree.now.items (sought c.args.id.now c.args.tree.now.items) c.in-Some.fragment.now
+    (first_is c.args.tree.now.items c.in-Ok.found.items c.args.id.now c.in-Ok.found.keep.id.now c.in-Ok.found.next (ap (λ p. p.items) m) (ap (λ p. p.keep.id.now) m) (ap (λ p. p.next) m)
+    (Some c.in-Some.fragment.now) (sym (ap option_copied c.in-Some.is) ∙ c.in-Ok-next.ensures.item)) w)
