@@ -120,7 +120,7 @@ fn have_words(alloc: Global, mut lines: LineQueue, words: &[&str]) -> Result<boo
         }
         lines = rest;
     }
-    Ok(lines.split_first(alloc)?.is_none())
+    Ok(lines.len() == 0)
 }
 
 // Whether the input is a session with these replicas and lines of these words.
@@ -149,12 +149,17 @@ fn reads_version(alloc: Global, version: &str, want: &[(u16, u32)]) -> Result<bo
     let Ok(session) = decode(alloc, input.as_bytes()) else {
         return Ok(false);
     };
-    Ok(match session.lines.into_queue().split_first(alloc)? {
-        Some((SessionLine::Op(edit), rest)) => {
-            edit.version.as_slice() == want && rest.split_first(alloc)?.is_none()
-        }
+    let Some((line, rest)) = session.lines.into_queue().split_first(alloc)? else {
+        return Ok(false);
+    };
+    Ok(has_version(&line, want) && rest.len() == 0)
+}
+
+fn has_version(line: &SessionLine, want: &[(u16, u32)]) -> bool {
+    match line {
+        SessionLine::Op(edit) => edit.version.as_slice() == want,
         _ => false,
-    })
+    }
 }
 
 // The entries of a version as they stand in a line: first the greatest id with the value 7, then those below with 9.
