@@ -1,7 +1,7 @@
 //! Buffers, and works on them: snapshots, edits, undos, anchors, and operations that wait and are forgotten.
 ghost use Rattle.std.specs.Prelude.{◌≤◌};
 
-use crate::report::{Done, Report, step};
+use crate::report::{Answer, Done, Report, step};
 use crate::rope::{long_text, short_text};
 use lamport_clock::{Lamport, Version};
 use op_model::{EditOp, Operation, Piece, Pieces, Text};
@@ -14,16 +14,6 @@ use text_buffer::{Anchor, Bias, Buffer, Limits, Snapshot, Took};
 const EDITS: u32 = 200;
 
 const ANCHORS: u64 = 10_000;
-
-/// A work on a buffer.
-#[derive(Clone, Copy)]
-pub enum Work {
-    Snapshots,
-    Edits,
-    Anchors,
-    Undos,
-    Forgets(u32),
-}
 
 // A letter put at random, also while there is a snapshot, up to 4 bytes replaced by 1 to 8, or a letter put after the last one.
 #[derive(Clone, Copy)]
@@ -43,20 +33,26 @@ pub fn open(alloc: Global, replica: u16, bytes: u32) -> Result<Buffer, OutOfMemo
     Buffer::new(alloc, replica, base.as_str(), Limits::MOST).or(Err(OutOfMemory))
 }
 
-/// Works on a buffer over `bytes` bytes, into which letters are put at random until it has about `fragments` fragments.
-pub fn works(report: &mut Report<'_>, work: Work, bytes: u32, fragments: u32) -> Done {
+/// The work that a word names, if it names one. Some need a buffer of about `size` fragments: letters are put into it at random.
+pub fn works(report: &mut Report<'_>, work: &str, size: u32) -> Done {
+    let (bytes, letters) = match work {
+        "snapshot" => (size, 0),
+        "forget" => (8, 0),
+        "anchors" | "edits" | "undo" => (size.saturating_mul(8), size / 2),
+        _ => return Ok(()),
+    };
     let mut buffer = open(report.rt.alloc(), 1, bytes)?;
-    time(report, &mut buffer, work, fragments)
+    time(report, &mut buffer, work, size, letters)
 }
 
-fn time(report: &mut Report<'_>, buffer: &mut Buffer, work: Work, fragments: u32) -> Done {
-    make(report.rt.alloc(), buffer, Change::Letter, fragments / 2)?;
+fn time(report: &mut Report<'_>, buffer: &mut Buffer, work: &str, size: u32, letters: u32) -> Done {
+    make(report.rt.alloc(), buffer, Change::Letter, letters)?;
     match work {
-        Work::Snapshots => snapshots(report, buffer),
-        Work::Edits => edits(report, buffer, fragments),
-        Work::Anchors => anchors(report, buffer),
-        Work::Undos => undos(report, buffer),
-        Work::Forgets(count) => forgets(report, buffer, count),
+        "snapshot" => snapshots(report, buffer),
+        "forget" => forgets(report, buffer, size),
+        "edits" => edits(report, buffer, size),
+        "anchors" => anchors(report, buffer),
+        _ => undos(report, buffer),
     }
 }
 
@@ -98,21 +94,14 @@ fn put_beside(alloc: Global, buffer: &mut Buffer, at: u64) -> Done {
 // Takes snapshots of a buffer, and edits it while there is a snapshot and while there is none: the lengths of the text.
 fn snapshots(report: &mut Report<'_>, buffer: &mut Buffer) -> Done {
     report.begin();
-    report.add("Snapshots", snapshot_all(buffer)?);
+    report.sum("Snapshots", 100_000, |_| {
+        buffer.snapshot().map_or(0, |it| it.applied().len())
+    });
     make(report.rt.alloc(), buffer, Change::Shared, 4)?;
     report.add("SnapshotEdits", buffer.summary().len);
     make(report.rt.alloc(), buffer, Change::Letter, 4)?;
     report.add("Edits", buffer.summary().len);
     Ok(())
-}
-
-// Takes snapshots one after the other: the sum of the numbers of operations that they have.
-fn snapshot_all(buffer: &Buffer) -> Result<u64, OutOfMemory> {
-    let mut sum = 0u64;
-    for _ in 0..100_000u32 {
-        sum = sum.wrapping_add(buffer.snapshot()?.applied().len());
-    }
-    Ok(sum)
 }
 
 // Edits at random places and then typed ones, which another replica then takes: the lengths of the text.
@@ -185,7 +174,7 @@ fn forgets(report: &mut Report<'_>, buffer: &mut Buffer, count: u32) -> Done {
 }
 
 // Takes operations that wait. Those of replica 2 are forgotten at once: how many were.
-fn defer(alloc: Global, buffer: &mut Buffer, replica: u16, count: u32) -> Result<u64, OutOfMemory> {
+fn defer(alloc: Global, buffer: &mut Buffer, replica: u16, count: u32) -> Answer {
     let mut forgotten = 0u64;
     for value in 1_000_000..count.saturating_add(1_000_000) {
         let stamp = Lamport { value, replica };
@@ -215,30 +204,29 @@ fn anchors(report: &mut Report<'_>, buffer: &Buffer) -> Done {
 
 fn ask_drawn(report: &mut Report<'_>, snapshot: &Snapshot) -> Done {
     report.begin();
-    let anchors = draw(report.rt.alloc(), snapshot, ANCHORS, false)?;
+    let anchors = draw(report.rt.alloc(), snapshot, false)?;
     report.add("Anchors", anchors.len() as u64);
-    report.add("Resolve", places(snapshot, &anchors, 10));
-    report.add("Compare", count_ascents(snapshot, &anchors, 10));
-    let few = draw(report.rt.alloc(), snapshot, 100, false)?;
-    report.begin();
-    report.add("ResolveFew", places(snapshot, &few, 1_000));
-    report.add("CompareFew", count_ascents(snapshot, &few, 1_000));
+    report.sum("Resolve", 10, |_| places(snapshot, &anchors));
+    report.sum("Compare", 10, |_| count_ascents(snapshot, &anchors));
+    let few = &anchors[..anchors.len().min(100)];
+    report.sum("ResolveFew", 1_000, |_| places(snapshot, few));
+    report.sum("CompareFew", 1_000, |_| count_ascents(snapshot, few));
     Ok(())
 }
 
 fn ask_row(report: &mut Report<'_>, snapshot: &Snapshot) -> Done {
-    let row = draw(report.rt.alloc(), snapshot, ANCHORS, true)?;
+    let row = draw(report.rt.alloc(), snapshot, true)?;
     report.begin();
-    report.add("ResolveRow", places(snapshot, &row, 10));
+    report.sum("ResolveRow", 10, |_| places(snapshot, &row));
     Ok(())
 }
 
-// Anchors at n places drawn by chance, or in a row.
-fn draw(alloc: Global, snapshot: &Snapshot, n: u64, row: bool) -> Result<Vec<Anchor>, OutOfMemory> {
+// Anchors at places drawn by chance, or in a row.
+fn draw(alloc: Global, snapshot: &Snapshot, row: bool) -> Result<Vec<Anchor>, OutOfMemory> {
     let len = snapshot.text().len().max(1);
     let mut anchors = Vec::new(alloc);
     let mut x = 1u64;
-    for number in 0..n {
+    for number in 0..ANCHORS {
         x = step(x);
         let next = number.wrapping_mul(len) / ANCHORS;
         let at = if row { next } else { (x >> 20) % len };
@@ -256,25 +244,18 @@ fn add(anchors: &mut Vec<Anchor>, snapshot: &Snapshot, at: u64, number: u64) -> 
     }
 }
 
-// Resolves all anchors again and again: the sum of their places.
-fn places(snapshot: &Snapshot, anchors: &[Anchor], rounds: u32) -> u64 {
-    let mut sum = 0u64;
-    for _ in 0..rounds {
-        for anchor in anchors {
-            sum = sum.wrapping_add(snapshot.resolve(anchor).unwrap_or(0));
-        }
-    }
-    sum
+// Resolves all anchors: the sum of their places.
+fn places(snapshot: &Snapshot, anchors: &[Anchor]) -> u64 {
+    anchors.iter().fold(0, |sum, anchor| {
+        u64::wrapping_add(sum, snapshot.resolve(anchor).unwrap_or(0))
+    })
 }
 
-// Compares each anchor with the next, again and again: how often it is before that.
-fn count_ascents(snapshot: &Snapshot, anchors: &[Anchor], rounds: u32) -> u64 {
-    let mut count = 0u64;
-    for _ in 0..rounds {
-        for (one, next) in anchors.iter().zip(anchors.iter().skip(1)) {
-            let ascends = snapshot.compare(one, next) == Ok(Ordering::Less);
-            count = count.wrapping_add(u64::from(ascends));
-        }
-    }
-    count
+// Compares each anchor with the next: how often it is before that.
+fn count_ascents(snapshot: &Snapshot, anchors: &[Anchor]) -> u64 {
+    let pairs = anchors.iter().zip(anchors.iter().skip(1));
+    pairs.fold(0, |count, (one, next)| {
+        let ascends = snapshot.compare(one, next) == Ok(Ordering::Less);
+        u64::wrapping_add(count, ascends as u64)
+    })
 }

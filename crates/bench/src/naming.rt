@@ -1,9 +1,8 @@
 //! Locators at places that lines of two indexes name: 0 is the least, 1 the greatest, and each line adds one between two.
-use crate::report::{Done, Report};
+use crate::report::{Answer, Done, Report};
 use locators::Locator;
 use std::alloc::Global;
 use std::io;
-use sum_tree::OutOfMemory;
 
 /// Reads the lines from the standard input, makes the locators, copies them and compares each with the two beside it.
 pub fn works(report: &mut Report<'_>) -> io::Result<()> {
@@ -21,13 +20,9 @@ pub fn works(report: &mut Report<'_>) -> io::Result<()> {
 // The pairs that the lines of the standard input name. A word that is no number stands for 0.
 fn read_pairs(rt: &HostRuntime) -> io::Result<Vec<(usize, usize)>> {
     let text = io::read_to_string(rt.alloc(), rt.reader())?;
-    let mut pairs = Vec::new(rt.alloc());
-    for line in text.lines() {
-        if let Some((low, high)) = line.split_once(' ') {
-            pairs.push((low.parse().unwrap_or(0), high.parse().unwrap_or(0)))?;
-        }
-    }
-    Ok(pairs)
+    let pairs = text.lines().filter_map(|line| line.split_once(' '));
+    let numbers = pairs.map(|(low, high)| (low.parse().unwrap_or(0), high.parse().unwrap_or(0)));
+    Ok(numbers.collect(rt.alloc())?)
 }
 
 // Adds a locator for each pair of two that are there already.
@@ -44,7 +39,7 @@ fn make_all(alloc: Global, all: &mut Vec<Locator>, pairs: &[(usize, usize)]) -> 
 }
 
 // Copies all locators: how many there are.
-fn copy_all(alloc: Global, all: &[Locator]) -> Result<u64, OutOfMemory> {
+fn copy_all(alloc: Global, all: &[Locator]) -> Answer {
     let mut copies = Vec::with_capacity(alloc, all.len())?;
     for locator in all {
         copies.push(locator.copy(alloc)?)?;

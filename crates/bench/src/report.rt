@@ -9,6 +9,9 @@ pub const MOST: u64 = 1 << 39;
 /// The result of a work that makes nothing.
 pub type Done = Result<(), OutOfMemory>;
 
+/// The result of a work that answers with a number.
+pub type Answer = Result<u64, OutOfMemory>;
+
 /// Writes a line for each work: its name, its answer and, if times are asked for, its microseconds.
 #[derive(Drop)]
 pub struct Report<'a> {
@@ -42,6 +45,13 @@ impl<'a> Report<'a> {
         self.begin();
     }
 
+    /// Ends a work whose answer is the sum of what is answered to n numbers.
+    pub fn sum<F: FnMut(u64) -> u64>(&mut self, name: &str, n: u64, answer: F)
+        requires { F.IsAlwaysCallable answer }
+    {
+        self.add(name, sum_of(n, answer));
+    }
+
     fn write(&self, name: &str, answer: u64) -> io::Result<()> {
         if !self.timed {
             return println!(self.rt; "{name} {answer}");
@@ -49,6 +59,18 @@ impl<'a> Report<'a> {
         let micros = self.start.elapsed(self.rt)?.as_micros();
         println!(self.rt; "{name} {answer} {micros}")
     }
+}
+
+/// The sum of what is answered to n numbers that look as if drawn by chance.
+pub fn sum_of<F: FnMut(u64) -> u64>(n: u64, mut answer: F) -> u64
+    requires { F.IsAlwaysCallable answer }
+{
+    let (mut sum, mut x) = (0u64, 1u64);
+    for _ in 0..n {
+        x = step(x);
+        sum = sum.wrapping_add(answer(x >> 20));
+    }
+    sum
 }
 
 /// The next of a row of numbers that look as if drawn by chance.

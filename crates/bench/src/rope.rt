@@ -2,7 +2,7 @@
 ghost use Rattle.std.specs.Prelude.{◌≤◌, length, IfOk};
 ghost use Rattle.std.specs.Str.{IsAscii};
 
-use crate::report::{Done, MOST, Report, step};
+use crate::report::{Answer, Done, MOST, Report, step};
 use rope_chunks::Rope;
 use snapshot_search::{find_all, find_all_par};
 use std::alloc::Global;
@@ -55,12 +55,12 @@ pub fn works(report: &mut Report<'_>, bytes: u32, n: u32) -> Done {
 fn reads(report: &mut Report<'_>, rope: &Rope, n: u64) -> Done
     requires { IsAscii rope.now }
 {
-    report.add("Points", turn_all(rope, n / 2, false));
-    report.add("Offsets", turn_all(rope, n / 2, true));
+    report.sum("Points", n / 2, |x| point(rope, x));
+    report.sum("Offsets", n / 2, |x| row_start(rope, x));
     report.add("Slices", slices(report.rt.alloc(), rope, n / 2)?);
-    report.add("Shares", shares(rope, n / 2)?);
+    report.sum("Shares", n / 2, |_| rope.share().map_or(0, |it| it.len()));
     let mut other = rope.share()?;
-    replace_all(report.rt.alloc(), &mut other, n, Way::Parts)?;
+    replace_all(report.rt.alloc(), &mut other, n, false, true)?;
     report.add("Parts", other.len());
     Ok(())
 }
@@ -68,10 +68,10 @@ fn reads(report: &mut Report<'_>, rope: &Rope, n: u64) -> Done
 fn replaces(report: &mut Report<'_>, rope: &mut Rope, n: u64) -> Done
     requires { IsAscii rope.old }
 {
-    replace_all(report.rt.alloc(), rope, n, Way::Alone)?;
+    replace_all(report.rt.alloc(), rope, n, false, false)?;
     report.add("Replaces", rope.len());
     report.add("Chunks", chunks(rope));
-    let sum = replace_all(report.rt.alloc(), rope, n, Way::Shared)?;
+    let sum = replace_all(report.rt.alloc(), rope, n, true, false)?;
     report.add("ShareReplaces", sum);
     Ok(())
 }
@@ -87,38 +87,19 @@ fn ascii_rope(alloc: Global, text: &str) -> Result<Rope, OutOfMemory>
 }
 
 fn chunks(rope: &Rope) -> u64 {
-    let mut count = 0u64;
-    for _ in rope.chunks() {
-        count = count.wrapping_add(1);
-    }
-    count
+    rope.chunks().fold(0, |sum, _| u64::wrapping_add(sum, 1))
 }
 
-// Turns n offsets into points, or the starts of n rows into offsets: the sum of the numbers that this gives.
-fn turn_all(rope: &Rope, n: u64, rows: bool) -> u64 {
-    let rows_below = rope.summary().lines.row;
-    let last = if rows { rows_below } else { rope.len() };
-    let (mut sum, mut x) = (0u64, 1u64);
-    for _ in 0..n {
-        x = step(x);
-        let at = (x >> 20) % last.saturating_add(1);
-        let start = Point { row: at, column: 0 };
-        if rows {
-            sum = sum.wrapping_add(rope.point_to_offset(start).unwrap_or(0));
-        } else if let Some(point) = rope.offset_to_point(at) {
-            sum = sum.wrapping_add(point.row).wrapping_add(point.column);
-        }
-    }
-    sum
+// The sum of the row and the column of the point at an offset, the one that x draws.
+fn point(rope: &Rope, x: u64) -> u64 {
+    let point = rope.offset_to_point(x % rope.len().saturating_add(1));
+    point.map_or(0, |point| point.row.wrapping_add(point.column))
 }
 
-// Shares a rope n times: the sum of the lengths of those that share it.
-fn shares(rope: &Rope, n: u64) -> Result<u64, OutOfMemory> {
-    let mut sum = 0u64;
-    for _ in 0..n {
-        sum = sum.wrapping_add(rope.share()?.len());
-    }
-    Ok(sum)
+// The offset at which a row begins, the one that x draws.
+fn row_start(rope: &Rope, x: u64) -> u64 {
+    let row = x % rope.summary().lines.row.saturating_add(1);
+    rope.point_to_offset(Point { row, column: 0 }).unwrap_or(0)
 }
 
 // A range of a rope, with fewer bytes than `most`, drawn by chance.
@@ -146,7 +127,7 @@ fn append(alloc: Global, front: &mut Rope, part: Rope) -> Done
 }
 
 // Takes n parts, of up to half of the rope, and appends each to one that is begun again once it is as long as this one.
-fn slices(alloc: Global, rope: &Rope, n: u64) -> Result<u64, OutOfMemory>
+fn slices(alloc: Global, rope: &Rope, n: u64) -> Answer
     requires { IsAscii rope.now }
 {
     let most = (rope.len() / 2).max(1);
@@ -164,31 +145,22 @@ fn slices(alloc: Global, rope: &Rope, n: u64) -> Result<u64, OutOfMemory>
     Ok(sum)
 }
 
-// How ranges are replaced: while no other rope shares the chunks, while one does, or by appending parts.
-#[derive(Clone, Copy)]
-enum Way {
-    Alone,
-    Shared,
-    Parts,
-}
-
 // Replaces n ranges of up to 8 bytes by texts of 1 to 8: the sum of the lengths of the ropes that shared the chunks.
-fn replace_all(alloc: Global, rope: &mut Rope, n: u64, way: Way) -> Result<u64, OutOfMemory>
+fn replace_all(alloc: Global, rope: &mut Rope, n: u64, shared: bool, by_parts: bool) -> Answer
     requires { IsAscii rope.old }
     ensures { IfOk result (λ _. IsAscii rope.new) }
 {
-    let shared = matches!(way, Way::Shared);
     let (mut sum, mut x) = (0u64, if shared { 5u64 } else { 1u64 });
     for _ in 0..n {
         x = step(x);
         let old = if shared { Some(rope.share()?) } else { None };
-        replace(alloc, rope, x, way)?;
+        replace(alloc, rope, x, by_parts)?;
         sum = sum.wrapping_add(old.as_ref().map_or(0, |old| old.len()));
     }
     Ok(sum)
 }
 
-fn replace(alloc: Global, rope: &mut Rope, x: u64, way: Way) -> Done
+fn replace(alloc: Global, rope: &mut Rope, x: u64, by_parts: bool) -> Done
     requires { IsAscii rope.old }
     ensures { IfOk result (λ _. IsAscii rope.new) }
 {
@@ -197,7 +169,7 @@ fn replace(alloc: Global, rope: &mut Rope, x: u64, way: Way) -> Done
         return Ok(());
     }
     let (start, end) = range(rope, x, 9);
-    if !matches!(way, Way::Parts) {
+    if !by_parts {
         return rope.replace(alloc, start, end, text);
     }
     let rest = rope.slice(alloc, end, rope.len())?;
@@ -210,32 +182,29 @@ fn replace(alloc: Global, rope: &mut Rope, x: u64, way: Way) -> Done
 
 /// Searches texts of `bytes` bytes, first words and then one letter, by one thread and in four parts.
 pub fn searches<R: Threads + Sync>(rt: &R, report: &mut Report<'_>, bytes: u32) -> Done {
-    let text = long_text(report.rt.alloc(), bytes, true)?;
-    search(rt, report, text.as_str(), "Absent", "hapaxlegomenon")?;
-    search(rt, report, text.as_str(), "Rare", "summary")?;
-    search(rt, report, text.as_str(), "Frequent", "th")?;
-    search(rt, report, text.as_str(), "OneByte", "q")?;
-    let text = "a".repeat(report.rt.alloc(), bytes as usize)?;
-    search(rt, report, text.as_str(), "Near", "aaaaaaaaaaaaaaab")?;
-    search(rt, report, text.as_str(), "Each", "aaaa")?;
-    let periodic = "a".repeat(report.rt.alloc(), 4096)?;
-    search(rt, report, text.as_str(), "Periodic", periodic.as_str())
+    let words = long_text(report.rt.alloc(), bytes, true)?;
+    let text = words.as_str();
+    search(rt, report, text, ["Absent", "AbsentIn4", "hapaxlegomenon"])?;
+    search(rt, report, text, ["Rare", "RareIn4", "summary"])?;
+    search(rt, report, text, ["Frequent", "FrequentIn4", "th"])?;
+    search(rt, report, text, ["OneByte", "OneByteIn4", "q"])?;
+    let same = "a".repeat(report.rt.alloc(), bytes as usize)?;
+    let text = same.as_str();
+    search(rt, report, text, ["Near", "NearIn4", "aaaaaaaaaaaaaaab"])?;
+    search(rt, report, text, ["Each", "EachIn4", "aaaa"])?;
+    let needle = "a".repeat(report.rt.alloc(), 4096)?;
+    let work = ["Periodic", "PeriodicIn4", needle.as_str()];
+    search(rt, report, text, work)
 }
 
-fn search<R: Threads + Sync>(
-    rt: &R,
-    report: &mut Report<'_>,
-    text: &str,
-    name: &str,
-    needle: &str,
-) -> Done {
+// `work` is the name of a search, that of the one in parts, and the needle.
+fn search<R: Threads + Sync>(rt: &R, report: &mut Report<'_>, text: &str, work: [&str; 3]) -> Done {
     let alloc = report.rt.alloc();
-    let in_parts = format!(in alloc; "{name}In4")?;
     let rope = ascii_rope(alloc, text)?;
     report.begin();
-    let found = find_all(alloc, &rope, needle).map_or(0, |all| all.len() as u64);
-    report.add(name, found);
-    let found = find_all_par(rt, alloc, &rope, needle, 4).map_or(0, |all| all.len() as u64);
-    report.add(in_parts.as_str(), found);
+    let found = find_all(alloc, &rope, work[2]).map_or(0, |all| all.len() as u64);
+    report.add(work[0], found);
+    let found = find_all_par(rt, alloc, &rope, work[2], 4).map_or(0, |all| all.len() as u64);
+    report.add(work[1], found);
     Ok(())
 }

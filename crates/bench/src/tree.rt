@@ -3,7 +3,7 @@ ghost use Rattle.std.specs.Ordering.{nat_cmp};
 ghost use Rattle.sum_tree.specs.Keyed.{Ascending};
 ghost use Rattle.bench.specs.Items.{number_key, number_sum};
 
-use crate::report::{Done, MOST, Report, step};
+use crate::report::{Answer, Done, MOST, Report, step};
 use std::alloc::Global;
 use sum_tree::{Item, KeyedItem, OutOfMemory, SumTree};
 use tree_cursor::Greatest;
@@ -59,7 +59,8 @@ fn pushes(report: &mut Report<'_>, tree: &mut Numbers, n: u64) -> Done {
     report.begin();
     push_all(alloc, tree, n, false)?;
     report.add("Push", tree.len());
-    report.add("Get", get_all(tree, n));
+    let len = tree.len().max(1);
+    report.sum("Get", n, |x| tree.get(x % len).map_or(0, |item| item.key));
     report.add("SharePush", push_all(alloc, tree, n / 10, true)?);
     Ok(())
 }
@@ -98,15 +99,11 @@ fn keys(report: &mut Report<'_>, n: u64) -> Done {
 
 // The items with the keys below n.
 fn list(alloc: Global, n: u64) -> Result<Vec<Number>, OutOfMemory> {
-    let mut items = Vec::new(alloc);
-    for key in 0..n {
-        items.push(Number { key })?;
-    }
-    Ok(items)
+    Ok((0..n).map(|key| Number { key }).collect(alloc)?)
 }
 
 // Pushes n items, with `shared` each while another tree shares the nodes: the sum of the lengths of those trees.
-fn push_all(alloc: Global, tree: &mut Numbers, n: u64, shared: bool) -> Result<u64, OutOfMemory> {
+fn push_all(alloc: Global, tree: &mut Numbers, n: u64, shared: bool) -> Answer {
     let mut sum = 0u64;
     for key in 0..n {
         let old = if shared { Some(tree.share()?) } else { None };
@@ -116,19 +113,6 @@ fn push_all(alloc: Global, tree: &mut Numbers, n: u64, shared: bool) -> Result<u
         sum = sum.wrapping_add(old.as_ref().map_or(0, |old| old.len()));
     }
     Ok(sum)
-}
-
-// Looks n items up: the sum of their keys.
-fn get_all(tree: &Numbers, n: u64) -> u64 {
-    let len = tree.len().max(1);
-    let (mut sum, mut x) = (0u64, 1u64);
-    for _ in 0..n {
-        x = step(x);
-        if let Some(item) = tree.get((x >> 20) % len) {
-            sum = sum.wrapping_add(item.key);
-        }
-    }
-    sum
 }
 
 // Replaces a range by n items, where there is room for them.
@@ -141,14 +125,13 @@ fn put(alloc: Global, tree: &mut Numbers, from: u64, to: u64, n: u64) -> Done {
     tree.splice(alloc, from, to, items)
 }
 
-// Replaces items n times at places drawn by chance, with `shared` each time while another tree shares the nodes.
+// Replaces items n times at random, mostly one by one, with `shared` each time while another tree shares the nodes.
 fn type_all(alloc: Global, tree: &mut Numbers, n: u64, shared: bool) -> Done {
     let mut x = 1u64;
     for _ in 0..n {
         x = step(x);
         let _old = if shared { Some(tree.share()?) } else { None };
         let at = (x >> 20) % tree.len().max(1);
-        // mostly one item for one, now and then two for one or one for two
         let (gone, count) = match x >> 61 {
             0 => (1, 2),
             1 if at.saturating_add(1) < tree.len() => (2, 1),
@@ -169,7 +152,7 @@ enum Call {
 }
 
 // Works by n even keys in order, to fill a tree, or else by n / 10 keys drawn by chance: how many of the keys were there.
-fn by_keys(alloc: Global, tree: &mut Numbers, call: Call, n: u64) -> Result<u64, OutOfMemory>
+fn by_keys(alloc: Global, tree: &mut Numbers, call: Call, n: u64) -> Answer
     requires { Ascending nat_cmp number_key tree.old.items }
     ensures { Ascending nat_cmp number_key tree.new.items }
 {
