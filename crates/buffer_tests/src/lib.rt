@@ -44,6 +44,8 @@ mod replica;
 #[cfg(test)]
 mod ropes;
 #[cfg(test)]
+mod rows;
+#[cfg(test)]
 mod runs;
 #[cfg(test)]
 mod seen_texts;

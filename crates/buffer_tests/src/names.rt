@@ -1,4 +1,5 @@
 //! Locators: their digits, as Debug writes them, their order, and how long they grow.
+use crate::rows::assert_rows;
 use locators::{Locator, OutOfMemory};
 use std::alloc::Global;
 use std::cmp::Ordering;
@@ -25,23 +26,24 @@ const DIGITS: &[&[(u64, u64)]] = &[
     &[(131070, 1), (0, 1), (65535, 1)],
 ];
 
-fn add_between(
+fn between_of(
     alloc: Global,
-    all: &mut Vec<Locator>,
+    all: &[Locator],
     (low, high): (usize, usize),
-) -> Result<(), OutOfMemory> {
-    if let (Some(low), Some(high)) = (all.get(low), all.get(high)) {
-        let between = Locator::between(alloc, low, high)?;
-        all.push(between)?;
+) -> Result<Option<Locator>, OutOfMemory> {
+    match (all.get(low), all.get(high)) {
+        (Some(low), Some(high)) => Ok(Some(Locator::between(alloc, low, high)?)),
+        _ => Ok(None),
     }
-    Ok(())
 }
 
 fn add_all(alloc: Global, all: &mut Vec<Locator>) -> Result<(), OutOfMemory> {
     all.push(Locator::least(alloc)?)?;
     all.push(Locator::greatest(alloc)?)?;
-    for &between in BETWEEN {
-        add_between(alloc, all, between)?;
+    for &ends in BETWEEN {
+        if let Some(between) = between_of(alloc, all.as_slice(), ends)? {
+            all.push(between)?;
+        }
     }
     Ok(())
 }
@@ -57,47 +59,70 @@ fn digits_of(alloc: Global, locator: &Locator) -> Result<String, OutOfMemory> {
     format!(in alloc; "{locator:?}")
 }
 
-fn written(alloc: Global, runs: &[(u64, u64)]) -> Result<String, OutOfMemory> {
-    let mut all = Vec::new(alloc);
+fn add_runs(all: &mut Vec<Run>, runs: &[(u64, u64)]) -> Result<(), OutOfMemory> {
     for &(digit, count) in runs {
         all.push(Run { digit, count })?;
     }
+    Ok(())
+}
+
+fn written(alloc: Global, runs: &[(u64, u64)]) -> Result<String, OutOfMemory> {
+    let mut all = Vec::new(alloc);
+    add_runs(&mut all, runs)?;
     format!(in alloc; "Locator {{ runs: Inline({all:?}) }}")
 }
 
-// Whether a locator has these digits, and so has its copy.
-fn is_of(alloc: Global, locator: &Locator, runs: &[(u64, u64)]) -> Result<bool, OutOfMemory> {
-    let is_right = digits_of(alloc, locator)? == written(alloc, runs)?;
-    Ok(is_right && locator.copy(alloc)? == *locator)
+fn are_written(alloc: Global, digits: &str, runs: &[(u64, u64)]) -> Result<bool, OutOfMemory> {
+    Ok(written(alloc, runs)?.as_str() == digits)
+}
+
+fn has_digits(alloc: Global, locator: &Locator, runs: &[(u64, u64)]) -> Result<bool, OutOfMemory> {
+    are_written(alloc, digits_of(alloc, locator)?.as_str(), runs)
+}
+
+fn is_copied(alloc: Global, locator: &Locator) -> Result<bool, OutOfMemory> {
+    Ok(locator.copy(alloc)? == *locator)
+}
+
+// Whether a locator has these digits, if they are given, and so has its copy.
+fn is_of(
+    alloc: Global,
+    locator: &Locator,
+    want: Option<&[(u64, u64)]>,
+) -> Result<bool, OutOfMemory> {
+    match want {
+        Some(runs) => Ok(has_digits(alloc, locator, runs)? && is_copied(alloc, locator)?),
+        None => is_copied(alloc, locator),
+    }
+}
+
+// The same of the locator of an index.
+fn is_at(
+    alloc: Global,
+    all: &[Locator],
+    i: usize,
+    want: Option<&[(u64, u64)]>,
+) -> Result<bool, OutOfMemory> {
+    match all.get(i) {
+        Some(locator) => is_of(alloc, locator, want),
+        None => Ok(false),
+    }
 }
 
 fn are_of(alloc: Global, all: &[Locator]) -> Result<bool, OutOfMemory> {
     let mut right = all.len() == DIGITS.len();
-    for (locator, digits) in all.iter().zip(DIGITS) {
-        right = is_of(alloc, locator, digits)? && right;
+    for (i, &digits) in DIGITS.iter().enumerate() {
+        right = is_at(alloc, all, i, Some(digits))? && right;
     }
     Ok(right)
-}
-
-fn order<T: Ord>(a: &T, b: &T) -> Ordering {
-    a.cmp(b)
-}
-
-fn partial_order<T: PartialOrd>(a: &T, b: &T) -> Option<Ordering> {
-    a.partial_cmp(b)
-}
-
-fn are_equal<T: Eq>(a: &T, b: &T) -> bool {
-    a == b
 }
 
 // Indexes of locators that ascend: [0], [0, 65535], [65535], [65535, 0, 65535], the greatest.
 const ASCENDING: &[usize] = &[0, 3, 2, 6, 1];
 
-fn is_ordered(low: &Locator, high: &Locator, want: Ordering) -> bool {
-    order(low, high) == want
-        && partial_order(low, high) == Some(want)
-        && are_equal(low, high) == want.is_eq()
+// Whether two values are in this order, and equal where it is that of equal ones.
+fn is_ordered<T: Ord>(low: &T, high: &T, want: Ordering) -> bool {
+    low.cmp(high) == want && low.partial_cmp(high) == Some(want) && (low == high) == want.is_eq()
 }
 
 fn is_ordered_at(all: &[Locator], low: usize, high: usize, want: Ordering) -> bool {
@@ -117,9 +142,12 @@ fn are_ordered(all: &[Locator]) -> bool {
     right
 }
 
+fn are_right(alloc: Global, all: &[Locator]) -> Result<bool, OutOfMemory> {
+    Ok(are_of(alloc, all)? && are_ordered(all))
+}
+
 fn are_between(alloc: Global) -> Result<bool, OutOfMemory> {
-    let all = locators(alloc)?;
-    Ok(are_of(alloc, all.as_slice())? && are_ordered(all.as_slice()))
+    are_right(alloc, locators(alloc)?.as_slice())
 }
 
 #[test]
@@ -188,17 +216,6 @@ const GROWTH: &[Growth] = &[
     (Habit::Twice, (0, 1), 300, None),
 ];
 
-fn between_of(
-    alloc: Global,
-    all: &[Locator],
-    (low, high): (usize, usize),
-) -> Result<Option<Locator>, OutOfMemory> {
-    match (all.get(low), all.get(high)) {
-        (Some(low), Some(high)) => Ok(Some(Locator::between(alloc, low, high)?)),
-        _ => Ok(None),
-    }
-}
-
 fn is_between(all: &[Locator], (low, high): (usize, usize), name: &Locator) -> bool {
     match (all.get(low), all.get(high)) {
         (Some(low), Some(high)) => low < name && name < high,
@@ -232,27 +249,14 @@ fn put_next(
     }
 }
 
-// Whether a locator has these digits, if they are given, and so has its copy.
-fn is_last(
-    alloc: Global,
-    last: Option<&Locator>,
-    want: Option<&[(u64, u64)]>,
-) -> Result<bool, OutOfMemory> {
-    match (last, want) {
-        (Some(last), Some(runs)) => is_of(alloc, last, runs),
-        (Some(last), None) => Ok(last.copy(alloc)? == *last),
-        (None, _) => Ok(false),
-    }
-}
-
 fn grows(alloc: Global, all: &mut [Locator], row: &Growth) -> Result<bool, OutOfMemory> {
     let &(habit, ends, count, want) = row;
     let mut right = true;
-    for turn in 1..count {
-        right = put_next(alloc, all, ends, habit.is_before(turn))? && right;
+    for turn in 1..count.saturating_add(1) {
+        let is_upper = turn < count && habit.is_before(turn);
+        right = put_next(alloc, all, ends, is_upper)? && right;
     }
-    right = put_next(alloc, all, ends, false)? && right;
-    Ok(is_last(alloc, all.get(ends.0), want)? && right)
+    Ok(is_at(alloc, all, ends.0, want)? && right)
 }
 
 fn grows_to(alloc: Global, row: &Growth) -> Result<bool, OutOfMemory> {
@@ -262,8 +266,5 @@ fn grows_to(alloc: Global, row: &Growth) -> Result<bool, OutOfMemory> {
 
 #[test]
 fn grows_as_documented(rt: HostRuntime) -> Result<(), OutOfMemory> {
-    for row in GROWTH {
-        assert!(rt; grows_to(rt.alloc(), row)?, "{} names", row.2);
-    }
-    Ok(())
+    assert_rows(&rt, rt.alloc(), GROWTH, grows_to)
 }
