@@ -10,6 +10,7 @@ ghost use Rattle.session_lines.specs.declared.report.Report.{Report};
 ghost use Rattle.text_buffer.specs.Buffer.{after_settle};
 ghost use Rattle.text_buffer.specs.Outcomes.{pair_of};
 ghost use Rattle.session_replay.specs.Traffic.{session_limit};
+ghost use Rattle.session_lines.specs.declared.report.Report.TheVariants.{Unnamed, UndoRefused};
 ghost use Rattle.session_replay.specs.Work.{after_give, after_outcome, at_end, counts_report, edit_outcome, first_unnamed, give_answer, operation_of, first_buffer, outcome_reports, refused_report, settled_reports, stamps_under, text_report, undo_outcome};
 
 use crate::OutOfMemory;
@@ -106,13 +107,13 @@ impl Replica {
             (undo_outcome number operations.now numbers.now self.old)) }
     {
         if let Some(named) = first_unnamed(operations, numbers) {
-            return report_refusal(alloc, &Report::Unnamed { number, named }, out);
+            return report_unnamed(alloc, number, named, out);
         }
         let edits = stamps_under(alloc, operations, numbers)?;
         match self.buffer.undo(edits.as_slice()) {
             Ok(operation) => self.report_and_settle(alloc, number, operation, out),
             Err(UndoFault::OutOfMemory) => Err(OutOfMemory),
-            Err(fault) => report_refusal(alloc, &Report::UndoRefused { number, fault }, out),
+            Err(fault) => report_undo_fault(alloc, number, fault, out),
         }
     }
 
@@ -280,6 +281,34 @@ fn report_refusal(
 {
     write_line(alloc, out, refusal)?;
     Ok(None)
+}
+
+// Reports that no operation has a number which an undo names.
+fn report_unnamed(
+    alloc: Global,
+    number: u64,
+    named: u64,
+    out: &mut Vec<u8>,
+) -> Result<Option<Operation>, OutOfMemory>
+    ensures report { OnOk result (out.new.items
+        ≡ out.old.items ++ report_text (Unnamed number named ∷ [])) }
+    ensures made { IfOk result (λ o. o ≡ None) }
+{
+    report_refusal(alloc, &Report::Unnamed { number, named }, out)
+}
+
+// Reports the fault of an undo.
+fn report_undo_fault(
+    alloc: Global,
+    number: u64,
+    fault: UndoFault,
+    out: &mut Vec<u8>,
+) -> Result<Option<Operation>, OutOfMemory>
+    ensures report { OnOk result (out.new.items
+        ≡ out.old.items ++ report_text (UndoRefused number fault ∷ [])) }
+    ensures made { IfOk result (λ o. o ≡ None) }
+{
+    report_refusal(alloc, &Report::UndoRefused { number, fault }, out)
 }
 
 /// Writes a line for each operation that a replica refused while it settled.
