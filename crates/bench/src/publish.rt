@@ -11,17 +11,20 @@ use text_buffer::Snapshot;
 /// Publishes a snapshot of a buffer over `size` bytes n times, takes the latest n times, and does both at once in two threads.
 pub fn works<R: Threads + Wait + Sync>(rt: &R, report: &mut Report<'_>, size: u32, n: u32) -> Done {
     let snapshot = open(report.rt.alloc(), 1, size)?.snapshot()?;
-    run(rt, report, &snapshot, n as u64)
+    run(rt, report, &snapshot, u64::from(n))
 }
 
 fn run<R: Threads + Wait + Sync>(rt: &R, report: &mut Report<'_>, base: &Snapshot, n: u64) -> Done {
+    let other = base.share()?;
     let (mut publisher, mut readers) = open_pairs(rt, report.rt.alloc(), base.share()?, 1)?;
     if let Some(mut reader) = readers.pop() {
         report.begin();
         report.add("Publish", publish_all(rt, &mut publisher, base, n));
         report.sum("Latest", n, |_| latest_len(&mut reader));
-        let answer = publish_beside(rt, &mut publisher, &mut reader, base);
-        report.add("Both", answer);
+        report.add(
+            "Both",
+            publish_beside(rt, &mut publisher, &mut reader, other),
+        );
     }
     publisher.close(rt);
     Ok(())
@@ -56,15 +59,15 @@ fn publish_beside<R: Threads + Wait + Sync>(
     rt: &R,
     publisher: &mut Publisher,
     reader: &mut SnapReader,
-    snapshot: &Snapshot,
+    snapshot: Snapshot,
 ) -> u64
-    requires { publisher.old.published ≡ snapshot.now ∷ [] }
+    requires { publisher.old.published ≡ snapshot ∷ [] }
 {
     let (count, sum) = join(
         rt,
-        || -> u64
-            requires { publisher.now.published ≡ snapshot.now ∷ [] }
-        { publish_all(rt, publisher, snapshot, 100_000) },
+        move || -> u64
+            requires { publisher.now.published ≡ snapshot ∷ [] }
+        { publish_all(rt, publisher, &snapshot, 100_000) },
         || sum_of(100_000, |_| latest_len(reader)),
     );
     count.wrapping_add(sum)
