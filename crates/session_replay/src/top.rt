@@ -131,14 +131,16 @@ fn prepare_session(alloc: Global, task: Task, session: Session) -> Result<Prepar
     }
 }
 
-/// What an input comes to where nobody waits.
+/// What an input comes to where nobody waits. The input is dropped once it is decoded.
 #[tactic(auto, unfolding(crate::specs::Replay::response_of))]
-fn prepare(alloc: Global, task: Task, input: &[u8]) -> Result<Prepared, OutOfMemory>
-    requires { length input.now ≤ session_limit }
+fn prepare(alloc: Global, task: Task, input: Vec<u8>) -> Result<Prepared, OutOfMemory>
+    requires { length input.items ≤ session_limit }
     ensures ready { IfOk result IsReady }
-    ensures prepared { IfOk result (λ p. IsPrepared task input.now p) }
+    ensures prepared { IfOk result (λ p. IsPrepared task input.items p) }
 {
-    let (status, text) = match decode(alloc, input) {
+    let decoded = decode(alloc, input.as_slice());
+    drop(input);
+    let (status, text) = match decoded {
         Ok(session) => return prepare_session(alloc, task, session),
         Err(DecodeFault::Lines(_)) => (Status::TooLarge, bytes_of(alloc, "too large: lines\n")?),
         Err(DecodeFault::Bad { line, word }) => {
@@ -194,7 +196,7 @@ fn prepare_source<I: Source>(alloc: Global, task: Task, src: &mut I) -> Result<P
     ensures bounded { I.given src.new ≤ I.given src.old + (session_limit + 1) }
 {
     match read_all(alloc, src) {
-        Ok(input) => Ok(prepare(alloc, task, input.as_slice())?),
+        Ok(input) => Ok(prepare(alloc, task, input)?),
         Err(InputFault::TooLarge) => Ok(Prepared::Response {
             status: Status::TooLarge,
             text: bytes_of(alloc, "too large: bytes\n")?,
@@ -309,7 +311,7 @@ fn make_session<O: Sink>(alloc: Global, seed: u32, replicas: u16, edits: u32, ou
 /// session, and writes its report, or for `check` the line with its counts. `make` reads no source: it makes a session, works it and
 /// writes its summary. Only a replay with workers may wait, for the gate and for its threads.
 ///
-/// The report is held whole, and without workers the input too. An edit or undo, made or taken, costs a few descents for each of its
+/// The report is held whole, the input until it is decoded. An edit or undo, made or taken, costs a few descents for each of its
 /// pieces and for each run of bytes that it shows or hides, and a line that shows a text as much as the text. A `give` shares the
 /// operation that it names with the buffer. A query is answered on a snapshot, for which nothing is copied: a `find` goes over the text
 /// once, and keeps 8 bytes for each place; a `point` or an `offset` goes down the rope.
