@@ -22,7 +22,8 @@ use Rattle.session_replay.specs.Queries.{AskedQuery, queries_from, query_at, que
 use Rattle.session_replay.specs.Beside.{IsAsking, KeepsEnds, ask_among, asks_among, histories, index_among}
 use Rattle.session_replay.specs.declared.queries.Question.{Question}
 use Rattle.session_replay.proofs.Buffers.{found, not_found}
-use Rattle.session_replay.proofs.Growth.{AllGrow, Grows, step_grows}
+use Rattle.session_replay.specs.Later.{AllGrow, Grows}
+use Rattle.session_replay.proofs.Growth.{step_grows}
 
 -- what asks query n of the replica at place i
 abbrev pub one_ask : ℕ → ℕ → Question → List Operation → Ask Question

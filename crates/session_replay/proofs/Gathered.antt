@@ -20,7 +20,7 @@ use Rattle.session_replay.specs.Queries as replies
 use Rattle.session_replay.specs.Queries.{AreReplies, AskedQuery, IsWithin, Reply, end_of, history_at_end, history_or_empty, plain_answer, queries_of, reply_line}
 use Rattle.session_replay.specs.Beside.{ask_among, asks_among, histories, line_of, index_among}
 use Rattle.session_replay.specs.declared.queries.Question.{Question}
-use Rattle.session_replay.proofs.Growth.{AllGrow}
+use Rattle.session_replay.specs.Later.{AllGrow}
 use Rattle.session_replay.proofs.Asking.{same_place}
 use Rattle.session_replay.proofs.Replies.{IsPlaced, front_count, front_taken, placed}
 

@@ -1,23 +1,22 @@
 -- What a replica has applied at one line of a session begins what it has applied at each later one.
-use Rattle.std.proofs.Common.{◌≡◌, ℕ, ◌≤◌, Bool, true, false, cond, ◌==◌, List, [], ◌∷◌, length, Option, None, Some, Result, Ok, Err, refl, ap, ◌∙◌, subst, arith}
-use Rattle.std.specs.List.{AllByRecursion, AllZip}
+use Rattle.std.proofs.Common.{◌≡◌, ℕ, zero, suc, ◌≤◌, ◌⊎◌, inl, inr, Bool, true, false, cond, ◌==◌, List, [], ◌∷◌, length, get_or, set, Option, None, Some, Result, Ok, Err, OnErr, OnOk, refl, sym, ap, ◌∙◌, subst, arith}
+use Rattle.std.specs.List.{AllByRecursion}
 use Rattle.op_model.specs.declared.operation.Operation.{Operation}
 use Rattle.op_model.specs.Steps.{Step, Settles, Takes}
 use Rattle.op_model.proofs.Elements.{zip_itself}
 use Rattle.op_model.proofs.MainLaws.{runs_append}
-use Rattle.text_buffer.specs.Buffer.{BufferState, after_calls, after_apply, after_settle, rules, state}
+use Rattle.text_buffer.specs.Buffer.{BufferState, after_calls, after_apply, after_settle, after_take, rules, state}
+use Rattle.text_buffer.specs.Calls.{IsStopped}
 use Rattle.text_buffer.specs.Document.{IsFront}
 use Rattle.session_lines.specs.declared.report.Report.{Report}
 use Rattle.session_lines.specs.declared.session.SessionLine.{SessionLine}
 use Rattle.session_lines.specs.declared.session.SessionLine.TheVariants as line
+use Rattle.session_replay.specs.Later.{AllGrow, Grows}
 use Rattle.session_replay.specs.Work.{State, after_all, after_give, after_outcome, buffer_of, edit_outcome, next_number, operation_of, step, undo_outcome, with_buffer}
 use Rattle.text_buffer.proofs.Fronts.{front_itself, front_length, front_trans}
+use Rattle.text_buffer.proofs.Stopped.{stopped_front}
 
 -- ---- one buffer
-
--- n is a later buffer of the same replica
-abbrev pub Grows : BufferState → BufferState → Type 0
-Grows b n = (n.replica ≡ b.replica) × IsFront b.history n.history
 
 grows_itself : (b : BufferState) → Grows b b
 grows_itself b = (refl, front_itself b.history)
@@ -25,21 +24,34 @@ grows_itself b = (refl, front_itself b.history)
 grows_trans : (a b c : BufferState) → Grows a b → Grows b c → Grows a c
 grows_trans a b c f g = (g.0 ∙ f.0, front_trans a.history b.history c.history f.1 g.1)
 
-calls_grow : (cs : List Step) (b : BufferState) → Grows b (after_calls cs b)
+pub calls_grow : (cs : List Step) (b : BufferState) → Grows b (after_calls cs b)
 calls_grow cs b = (refl, runs_append (rules b) b.replica cs (state b))
 
-outcome_grows : (o : Result Operation Report) (b : BufferState) → Grows b (after_outcome o b)
+pub outcome_grows : (o : Result Operation Report) (b : BufferState) → Grows b (after_outcome o b)
 outcome_grows (Ok op) b = grows_trans b (after_apply b op) (after_settle (after_apply b op)) (refl, (op ∷ [], refl)) (calls_grow (Settles ∷ []) (after_apply b op))
 outcome_grows (Err r) b = grows_itself b
 
-give_grows : (o : Option Operation) (b : BufferState) → Grows b (after_give o b)
+pub give_grows : (o : Option Operation) (b : BufferState) → Grows b (after_give o b)
 give_grows None b = grows_itself b
 give_grows (Some op) b = calls_grow (Takes op ∷ []) b
 
--- ---- the buffers of all replicas
+-- a call of `take`, or of `settle`, that fails may have applied operations
+took_grows : {T E : Type 0} (x : Result T E) (op : Operation) (b n : BufferState) → OnOk x (n ≡ after_take b op) → OnErr x ((n ≡ b) ⊎ IsStopped (Takes op) b n) → IsFront b.history n.history
+took_grows (Ok t) op b n e f = subst (λ (c : BufferState). IsFront b.history c.history) (sym e) (calls_grow (Takes op ∷ []) b).1
+took_grows (Err x) op b n e (inl f) = subst (λ (c : BufferState). IsFront b.history c.history) (sym f) (front_itself b.history)
+took_grows (Err x) op b n e (inr f) = stopped_front (Takes op) b n f
 
-abbrev pub AllGrow : List BufferState → List BufferState → Type 0
-AllGrow bs cs = AllZip Grows bs cs
+pub grown_by_take : {T E : Type 0} (x : Result T E) (op : Operation) (a b n : BufferState) → b ≡ a → OnOk x (n ≡ after_take b op) → OnErr x ((n ≡ b) ⊎ IsStopped (Takes op) b n) → IsFront a.history n.history
+grown_by_take x op a b n same e f = subst (λ (c : BufferState). IsFront c.history n.history) same (took_grows x op b n e f)
+
+settled_grows : {T E : Type 0} (x : Result T E) (b n : BufferState) → OnOk x (n ≡ after_settle b) → OnErr x (IsStopped Settles b n) → IsFront b.history n.history
+settled_grows (Ok t) b n e f = subst (λ (c : BufferState). IsFront b.history c.history) (sym e) (calls_grow (Settles ∷ []) b).1
+settled_grows (Err x) b n e f = stopped_front Settles b n f
+
+pub grown_by_settle : {T E : Type 0} (x : Result T E) (a b n : BufferState) → b ≡ a → OnOk x (n ≡ after_settle b) → OnErr x (IsStopped Settles b n) → IsFront a.history n.history
+grown_by_settle x a b n same e f = subst (λ (c : BufferState). IsFront c.history n.history) same (settled_grows x b n e f)
+
+-- ---- the buffers of all replicas
 
 pub all_themselves : (bs : List BufferState) → AllGrow bs bs
 all_themselves bs = zip_itself Grows grows_itself bs
@@ -51,6 +63,15 @@ all_trans [] (c ∷ cs) ds f g = absurd f
 all_trans (b ∷ bs) [] ds f g = absurd f
 all_trans (b ∷ bs) (c ∷ cs) [] f g = g
 all_trans (b ∷ bs) (c ∷ cs) (d ∷ ds) f g = (grows_trans b c d f.0 g.0, all_trans bs cs ds f.1 g.1)
+
+-- one of them grows
+set_one : (bs : List BufferState) (i : ℕ) (b c : BufferState) → b ≡ get_or bs i b → Grows b c → AllGrow bs (set bs i c)
+set_one [] i b c e g = tt
+set_one (x ∷ bs) zero b c e g = (subst (λ (y : BufferState). Grows y c) e g, all_themselves bs)
+set_one (x ∷ bs) (suc i) b c e g = (grows_itself x, set_one bs i b c e g)
+
+pub set_grows : (bs all : List BufferState) (i : ℕ) (b c : BufferState) → all ≡ bs → b ≡ get_or all i b → c.replica ≡ b.replica → IsFront b.history c.history → AllGrow bs (set all i c)
+set_grows bs all i b c same e id f = subst (λ (l : List BufferState). AllGrow l (set all i c)) same (set_one all i b c e (id, f))
 
 one_grows : (r : ℕ) (f : BufferState → BufferState) (g : (b : BufferState) → Grows b (f b)) (bs : List BufferState) → AllGrow bs (with_buffer r f bs)
 one_grows r f g [] = tt

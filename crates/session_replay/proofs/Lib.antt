@@ -6,6 +6,7 @@ pub mod Steps
 pub mod Since
 pub mod QueryLines
 pub mod Growth
+pub mod Kept
 pub mod Replies
 pub mod Asking
 pub mod Gathered

@@ -31,29 +31,30 @@ use Rattle.session_replay.specs.declared.beside.Editor.{Editor}
 use Rattle.session_replay.specs.declared.beside.Edited.{Edited}
 use Rattle.session_replay.specs.declared.queries.Question.{Question}
 use Rattle.session_replay.specs.declared.replay.Progress.{Progress}
-use Rattle.session_replay.proofs.Growth.{AllGrow, lines_grow}
+use Rattle.session_replay.specs.Later.{AllGrow}
+use Rattle.session_replay.proofs.Growth.{lines_grow}
 use Rattle.session_replay.proofs.Replies.{placed}
 use Rattle.session_replay.proofs.Steps.{same_names, same_state}
 use Rattle.session_replay.proofs.Gathered.{gathered, gathered_lines, past, replies_to}
 
 -- ---- at the opening
 
-pub opened_state : (s : Session) (p : Progress) → p.replicas ≡ map (first_buffer s.base) s.replicas → p.operations.items ≡ [] → by_bytes p.anchors.entries ≡ [] → by_bytes p.marks.entries ≡ [] → state_of p ≡ opening s
-opened_state s p b o n m = same_state p.replicas (map (first_buffer s.base) s.replicas) p.operations.items [] b o ∙ same_names (opening s) (by_bytes p.anchors.entries) [] (by_bytes p.marks.entries) [] n m
+pub opened_state : (s : Session) (p : Progress) → p.exchange.buffers ≡ map (first_buffer s.base) s.replicas → p.exchange.operations ≡ [] → by_bytes p.anchors.entries ≡ [] → by_bytes p.marks.entries ≡ [] → state_of p ≡ opening s
+opened_state s p b o n m = same_state p.exchange.buffers (map (first_buffer s.base) s.replicas) p.exchange.operations [] b o ∙ same_names (opening s) (by_bytes p.anchors.entries) [] (by_bytes p.marks.entries) [] n m
 
 few_replicas : (s : Session) → IsSession session_limit s → length s.replicas ≤ most_replicas
 few_replicas s h = let few = (and_parts (nat_le 1 (length s.replicas)) (nat_le (length s.replicas) most_replicas) (and_parts _ _ h.replicas).0).1 in grind (arith, nat_tests)
 
-module _ (s : Session) (h : IsSession session_limit s) (o : Editor) (p : PublishersState) (start : o.progress.replicas ≡ map (first_buffer s.base) s.replicas) where
+module _ (s : Session) (h : IsSession session_limit s) (o : Editor) (p : PublishersState) (start : o.progress.exchange.buffers ≡ map (first_buffer s.base) s.replicas) where
   pub can_edit : (workers limit : ℕ) (ls : List SessionLine) → ls ≡ s.lines → o.workers ≡ workers → length o.dispatcher.inboxes ≡ workers → limit ≡ query_count s.lines
-      → HasAsked o.dispatcher [] → o.dispatcher.limit ≡ limit → AreLevel p → AreTied o.dispatcher.inboxes p → published_lists p ≡ histories o.progress.replicas → CanEdit ls o p
+      → HasAsked o.dispatcher [] → o.dispatcher.limit ≡ limit → AreLevel p → AreTied o.dispatcher.inboxes p → published_lists p ≡ histories o.progress.exchange.buffers → CanEdit ls o p
   can_edit workers limit ls l w n room asked most level tied published = record {
     asking = record {
       few = omega (arith, few_replicas s h, ap (λ bs. length bs) start, length-map s.replicas (first_buffer s.base));
       asked = asked;
       level = level;
       tied = tied;
-      fronts = subst (λ (hs : List (List Operation)). AllZip IsFront hs (histories o.progress.replicas)) (sym published) (zip_itself IsFront front_itself (histories o.progress.replicas));
+      fronts = subst (λ (hs : List (List Operation)). AllZip IsFront hs (histories o.progress.exchange.buffers)) (sym published) (zip_itself IsFront front_itself (histories o.progress.exchange.buffers));
     };
     workers = w ∙ (sym n ∙ tied_length o.dispatcher.inboxes p tied);
     room = omega (arith, asked.count, most, room, ap query_count l);
@@ -68,26 +69,26 @@ module _ (s : Session) (ls : List SessionLine) (l : ls ≡ s.lines) (o : Editor)
   all_grow : AllGrow (opening s).buffers (end_of s).buffers
   all_grow = lines_grow s.lines (opening s)
 
-  pub are_past : All (IsPast {Q = Question} (histories e.progress.replicas)) (asks_among o.progress.replicas (queries_from 1 ls (state_of o.progress)))
+  pub are_past : All (IsPast {Q = Question} (histories e.progress.exchange.buffers)) (asks_among o.progress.exchange.buffers (queries_from 1 ls (state_of o.progress)))
   are_past =
       let at_end : All (IsPast {Q = Question} (histories (end_of s).buffers)) (asks_among (opening s).buffers (queries_from 1 s.lines (opening s))) =
       past (opening s).buffers (end_of s) all_grow (queries_of s) (placed s) in
       let of_lines : All (IsPast {Q = Question} (histories (end_of s).buffers)) (asks_among (opening s).buffers (queries_from 1 ls (opening s))) =
       subst (λ (k : List SessionLine). All (IsPast {Q = Question} (histories (end_of s).buffers)) (asks_among (opening s).buffers (queries_from 1 k (opening s)))) (sym l) at_end in
-      let of_start : All (IsPast {Q = Question} (histories (end_of s).buffers)) (asks_among o.progress.replicas (queries_from 1 ls (state_of o.progress))) =
+      let of_start : All (IsPast {Q = Question} (histories (end_of s).buffers)) (asks_among o.progress.exchange.buffers (queries_from 1 ls (state_of o.progress))) =
       subst (λ (u : State). All (IsPast {Q = Question} (histories (end_of s).buffers)) (asks_among u.buffers (queries_from 1 ls u))) (sym start) of_lines in
-      subst (λ (u : State). All (IsPast {Q = Question} (histories u.buffers)) (asks_among o.progress.replicas (queries_from 1 ls (state_of o.progress)))) (sym ended) of_start
+      subst (λ (u : State). All (IsPast {Q = Question} (histories u.buffers)) (asks_among o.progress.exchange.buffers (queries_from 1 ls (state_of o.progress)))) (sym ended) of_start
 
   module _ (workers : ℕ) (some : 1 ≤ workers) (n : length o.dispatcher.inboxes ≡ workers) (none : o.progress.report.items ≡ []) (xs : List (Answer Question QueryAnswer))
-      (t : AreGathered plain_answer (length o.dispatcher.inboxes) (histories e.progress.replicas) (asks_among o.progress.replicas (queries_from 1 ls (state_of o.progress))) xs) where
+      (t : AreGathered plain_answer (length o.dispatcher.inboxes) (histories e.progress.exchange.buffers) (asks_among o.progress.exchange.buffers (queries_from 1 ls (state_of o.progress))) xs) where
     all : AreGathered plain_answer workers (histories (end_of s).buffers) (asks_among (opening s).buffers (queries_of s)) xs
     all =
-        let of_workers = subst (λ (m : ℕ). AreGathered plain_answer m (histories e.progress.replicas) (asks_among o.progress.replicas (queries_from 1 ls (state_of o.progress))) xs) n t in
-        let of_end = subst (λ (u : State). AreGathered plain_answer workers (histories u.buffers) (asks_among o.progress.replicas (queries_from 1 ls (state_of o.progress))) xs) ended of_workers in
+        let of_workers = subst (λ (m : ℕ). AreGathered plain_answer m (histories e.progress.exchange.buffers) (asks_among o.progress.exchange.buffers (queries_from 1 ls (state_of o.progress))) xs) n t in
+        let of_end = subst (λ (u : State). AreGathered plain_answer workers (histories u.buffers) (asks_among o.progress.exchange.buffers (queries_from 1 ls (state_of o.progress))) xs) ended of_workers in
         let of_start = subst (λ (u : State). AreGathered plain_answer workers (histories (end_of s).buffers) (asks_among u.buffers (queries_from 1 ls u)) xs) start of_end in
         subst (λ (k : List SessionLine). AreGathered plain_answer workers (histories (end_of s).buffers) (asks_among (opening s).buffers (queries_from 1 k (opening s))) xs) l of_start
 
-    pub is_report : (text : List ℕ) → text ≡ (e.progress.report.items ++ report_text (map line_of xs)) ++ report_text (flat_map at_end e.progress.replicas) → IsReport s workers text
+    pub is_report : (text : List ℕ) → text ≡ (e.progress.report.items ++ report_text (map line_of xs)) ++ report_text (flat_map at_end e.progress.exchange.buffers) → IsReport s workers text
     is_report text w =
         let ps = replies_to (opening s).buffers (end_of s) all_grow xs (queries_of s) in
         let events : e.progress.report.items ≡ report_text (all_events s.lines (opening s)) =

@@ -22,7 +22,8 @@ use Rattle.session_replay.specs.declared.queries.Question.{Question}
 use Rattle.session_replay.specs.Work.{State, after_all, applied_count, buffer_of, first_buffer, opening, step}
 use Rattle.session_replay.specs.Queries.{AreReplies, AskedQuery, IsReport, IsWithin, NeverFalls, Reply, answer_line, end_of, history_or_empty, plain_line, queries_from, queries_of, query_at, query_of, query_with, question_of, reply_line, report_of, report_with}
 use Rattle.session_replay.specs.Laws.{PlainWithWorkers, PlainWithoutQueries, PlainWithoutWorkers}
-use Rattle.session_replay.proofs.Growth.{AllGrow, AreBased, based_grow, based_one, later, lines_grow, step_grows}
+use Rattle.session_replay.specs.Later.{AllGrow}
+use Rattle.session_replay.proofs.Growth.{AreBased, based_grow, based_one, later, lines_grow, step_grows}
 
 -- ---- fronts
 

@@ -1,5 +1,5 @@
 -- Lines worked one after another.
-use Rattle.std.proofs.Common.{◌≡◌, ℕ, ◌+◌, ◌<◌, ◌≤◌, List, [], ◌∷◌, ◌++◌, length, drop, get_or, map, Option, None, Some, MatchOption, Result, Ok, Err, OnErr, sym, ap, subst, ◌∙◌}
+use Rattle.std.proofs.Common.{◌≡◌, ℕ, ◌+◌, ◌<◌, ◌≤◌, List, [], ◌∷◌, ◌++◌, length, drop, get_or, map, Option, None, Some, MatchOption, Result, Ok, Err, OnErr, OnOk, sym, ap, subst, ◌∙◌}
 use Rattle.std.specs.List.{flat_map}
 use Rattle.std.proofs.lemmas.List.{drop_all, drop_more}
 use Rattle.lamport_clock.specs.Versions.{Entries}
@@ -23,6 +23,12 @@ same_state {ns} {ms} bs cs os ps d e =
     let by_buffers : List BufferState → State = λ bs. record { buffers = bs; operations = os; anchors = ns; marks = ms } in
     let by_operations : List (Option Operation) → State = λ os. record { buffers = cs; operations = os; anchors = ns; marks = ms } in
     ap by_buffers d ∙ ap by_operations e
+
+-- so it is after a call that returned `Ok`
+pub ok_state : {T E : Type 0} (ns : Names Anchor) (ms : Names Entries) (x : Result T E) (bs cs : List BufferState) (os ps : List (Option Operation)) → OnOk x (bs ≡ cs) → OnOk x (os ≡ ps)
+    → OnOk x (◌≡◌ {A = State} (record { buffers = bs; operations = os; anchors = ns; marks = ms }) (record { buffers = cs; operations = ps; anchors = ns; marks = ms }))
+ok_state ns ms (Ok v) bs cs os ps d e = same_state bs cs os ps d e
+ok_state ns ms (Err v) bs cs os ps d e = tt
 
 -- what is kept under names goes by other lists
 pub same_names : (s : State) (ns ls : Names Anchor) (ms ks : Names Entries) → ns ≡ ls → ms ≡ ks → ◌≡◌ {A = State} (record s { anchors = ns; marks = ms }) (record s { anchors = ls; marks = ks })

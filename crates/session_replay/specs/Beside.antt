@@ -82,7 +82,7 @@ pub record HasLeft (bs : List BufferState) (asks : List (Ask Question))
 
 -- an editor that has asked nothing yet, and has room for the queries of these lines
 pub record CanEdit (lines : List SessionLine) (o : Editor) (p : PublishersState) : Type 0 where
-  pub asking : IsAsking o.progress.replicas [] o.dispatcher p
+  pub asking : IsAsking o.progress.exchange.buffers [] o.dispatcher p
   pub workers : o.workers ≡ p.workers
   pub room : o.dispatcher.count + query_count lines ≤ o.dispatcher.limit
 
@@ -90,5 +90,5 @@ pub record CanEdit (lines : List SessionLine) (o : Editor) (p : PublishersState)
 pub record HasEdited (lines : List SessionLine) (o : Editor) (e : Edited) : Type 0 where
   pub report : e.progress.report.items ≡ o.progress.report.items ++ report_text (all_events lines (state_of o.progress))
   pub state : state_of e.progress ≡ after_all lines (state_of o.progress)
-  pub left : HasLeft e.progress.replicas (asks_among o.progress.replicas (queries_from 1 lines (state_of o.progress)))
+  pub left : HasLeft e.progress.exchange.buffers (asks_among o.progress.exchange.buffers (queries_from 1 lines (state_of o.progress)))
       o.dispatcher e

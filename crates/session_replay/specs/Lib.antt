@@ -5,6 +5,9 @@ pub mod Names
 pub mod Work
 pub mod Queries
 pub mod ReplicaId
+pub mod Later
+pub mod Exchange
+pub mod ExchangeInside
 pub mod Working
 pub mod Beside
 pub mod Making

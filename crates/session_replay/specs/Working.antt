@@ -5,8 +5,8 @@ use Rattle.session_replay.specs.declared.replay.Progress.{Progress}
 
 abbrev pub state_of : Progress → State
 state_of p = record {
-  buffers = p.replicas;
-  operations = p.operations.items;
+  buffers = p.exchange.buffers;
+  operations = p.exchange.operations;
   anchors = by_bytes p.anchors.entries;
   marks = by_bytes p.marks.entries;
 }

@@ -54,15 +54,15 @@ impl Editor {
         question: Question,
     ) -> Result<(), OutOfMemory>
         requires asking { (asks : List (Ask Question))
-            × IsAsking self.old.progress.replicas asks self.old.dispatcher publishers.old }
+            × IsAsking self.old.progress.exchange.buffers asks self.old.dispatcher publishers.old }
         requires room { self.old.dispatcher.count < self.old.dispatcher.limit }
         ensures same { (self.new.workers ≡ self.old.workers)
             × (self.new.progress ≡ self.old.progress) }
         ensures ends { KeepsEnds self.old.dispatcher publishers.old self.new.dispatcher
             publishers.new }
-        ensures asking { OnOk result (AsksMore self.old.progress.replicas self.old.dispatcher
+        ensures asking { OnOk result (AsksMore self.old.progress.exchange.buffers self.old.dispatcher
             publishers.old (λ n. query_with n (state_of self.old.progress) (Some (id, question)))
-            self.old.progress.replicas self.new.dispatcher publishers.new) }
+            self.old.progress.exchange.buffers self.new.dispatcher publishers.new) }
         ensures err { OnErr result (self.new.dispatcher ≡ self.old.dispatcher) }
     {
         let Some(index) = self.progress.index_of(id) else {
@@ -84,7 +84,7 @@ impl Editor {
         line: SessionLine,
     ) -> Result<(), OutOfMemory>
         requires asking { (asks : List (Ask Question))
-            × IsAsking self.old.progress.replicas asks self.old.dispatcher publishers.old }
+            × IsAsking self.old.progress.exchange.buffers asks self.old.dispatcher publishers.old }
         requires room { self.old.dispatcher.count + query_count (line ∷ [])
             ≤ self.old.dispatcher.limit }
         ensures same { self.new.workers ≡ self.old.workers }
@@ -95,9 +95,9 @@ impl Editor {
             ≡ step line (state_of self.old.progress)) }
         ensures ends { KeepsEnds self.old.dispatcher publishers.old self.new.dispatcher
             publishers.new }
-        ensures asking { OnOk result (AsksMore self.old.progress.replicas self.old.dispatcher
+        ensures asking { OnOk result (AsksMore self.old.progress.exchange.buffers self.old.dispatcher
             publishers.old (λ n. query_at n line (state_of self.old.progress))
-            self.new.progress.replicas self.new.dispatcher publishers.new) }
+            self.new.progress.exchange.buffers self.new.dispatcher publishers.new) }
         ensures err { OnErr result ((asks : List (Ask Question))
             × HasAsked self.new.dispatcher asks) }
     {
@@ -117,7 +117,7 @@ impl Editor {
         mut lines: LineQueue,
     ) -> Result<(), OutOfMemory>
         requires asking { (asks : List (Ask Question))
-            × IsAsking self.old.progress.replicas asks self.old.dispatcher publishers.old }
+            × IsAsking self.old.progress.exchange.buffers asks self.old.dispatcher publishers.old }
         requires room { self.old.dispatcher.count + query_count lines
             ≤ self.old.dispatcher.limit }
         ensures same { self.new.workers ≡ self.old.workers }
@@ -128,9 +128,9 @@ impl Editor {
             ≡ after_all lines (state_of self.old.progress)) }
         ensures ends { KeepsEnds self.old.dispatcher publishers.old self.new.dispatcher
             publishers.new }
-        ensures asking { OnOk result (AsksMore self.old.progress.replicas self.old.dispatcher
+        ensures asking { OnOk result (AsksMore self.old.progress.exchange.buffers self.old.dispatcher
             publishers.old (λ n. queries_from n lines (state_of self.old.progress))
-            self.new.progress.replicas self.new.dispatcher publishers.new) }
+            self.new.progress.exchange.buffers self.new.dispatcher publishers.new) }
         ensures err { OnErr result ((asks : List (Ask Question))
             × HasAsked self.new.dispatcher asks) }
     {
@@ -153,12 +153,12 @@ impl Editor {
         publishers: &Publishers,
     ) -> Result<Edited, OutOfMemory>
         requires asking { (asks : List (Ask Question))
-            × IsAsking self.progress.replicas asks self.dispatcher publishers.now }
+            × IsAsking self.progress.exchange.buffers asks self.dispatcher publishers.now }
         requires workers { self.workers ≡ publishers.now.workers }
         ensures progress { IfOk result (λ e. e.progress ≡ self.progress) }
         ensures left { IfOk result (λ e. (asks : List (Ask Question))
-            → IsAsking self.progress.replicas asks self.dispatcher publishers.now
-            → HasLeft self.progress.replicas asks self.dispatcher e) }
+            → IsAsking self.progress.exchange.buffers asks self.dispatcher publishers.now
+            → HasLeft self.progress.exchange.buffers asks self.dispatcher e) }
     {
         let Editor {
             workers,
@@ -264,16 +264,16 @@ fn gathered_report<R: Threads + Sync>(
     dones: Vec<Done<Question, QueryAnswer>>,
 ) -> Result<Vec<u8>, OutOfMemory>
     requires { (asks : List (Ask Question)) × (d : DispatcherState Question)
-        × (desks : List DeskState) × HasLeft edited.progress.replicas asks d edited
-        × All (IsPast (histories edited.progress.replicas)) asks × AreEnds d.inboxes desks
+        × (desks : List DeskState) × HasLeft edited.progress.exchange.buffers asks d edited
+        × All (IsPast (histories edited.progress.exchange.buffers)) asks × AreEnds d.inboxes desks
         × HaveWorked plain_answer desks dones.items }
     ensures { (asks : List (Ask Question)) → (d : DispatcherState Question)
-        → HasLeft edited.progress.replicas asks d edited
+        → HasLeft edited.progress.exchange.buffers asks d edited
         → IfOk result (λ v. (answers : List (Answer Question QueryAnswer))
-        × AreGathered plain_answer (length d.inboxes) (histories edited.progress.replicas)
+        × AreGathered plain_answer (length d.inboxes) (histories edited.progress.exchange.buffers)
         asks answers
         × (v.items ≡ (edited.progress.report.items ++ report_text (map line_of answers))
-        ++ report_text (flat_map at_end edited.progress.replicas))) }
+        ++ report_text (flat_map at_end edited.progress.exchange.buffers))) }
 {
     let Edited {
         progress,

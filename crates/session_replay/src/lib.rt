@@ -6,6 +6,7 @@
 
 mod beside;
 mod counts;
+mod exchange;
 mod laws;
 mod making;
 mod memory;

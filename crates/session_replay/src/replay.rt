@@ -17,8 +17,8 @@ ghost use Rattle.session_replay.specs.Traffic.{session_limit};
 ghost use Rattle.session_replay.specs.Working.{state_of};
 ghost use Rattle.text_buffer.specs.Buffer.{BufferState};
 
-use crate::replica::{Replica, operation_of};
-use crate::replicas::Replicas;
+use crate::exchange::Exchange;
+use crate::replica::Replica;
 use crate::{OutOfMemory, names};
 use lamport_clock::Version;
 use op_model::{Anchor, Bias, Operation, Pieces, Text};
@@ -30,10 +30,8 @@ use text_buffer::Snapshot;
 /// A session as far as it was worked.
 #[derive(Drop)]
 pub struct Progress {
-    /// The replicas, in the header's order.
-    replicas: Replicas,
-    /// The operation of each operation line, in their order; `None` where the line was refused.
-    operations: Vec<Option<Operation>>,
+    /// The replicas, and the operation of each operation line.
+    exchange: Exchange,
     /// The anchors that are kept under names.
     anchors: BTreeMap<String, Anchor>,
     /// The versions that are kept under names.
@@ -42,30 +40,13 @@ pub struct Progress {
     report: Vec<u8>,
 }
 
-/// A copy of the operation, if there is one. It shares the texts.
-fn copy_of(alloc: Global, operation: Option<&Operation>) -> Result<Option<Operation>, OutOfMemory>
-    ensures { IfOk result (λ o. o ≡ option_copied operation.entry) }
-{
-    match operation {
-        Some(operation) => Ok(Some(operation.copy(alloc)?)),
-        None => Ok(None),
-    }
-}
-
 impl Progress {
-    /// The number of the operation line that comes next.
-    fn next_number(&self) -> u64
-        ensures { result ≡ length self.now.operations.items + 1 }
-    {
-        self.operations.len() as u64 + 1
-    }
-
     /// What the replica with that id is now, where it is there.
     pub fn snapshot_of(&self, id: u16) -> Result<Option<Snapshot>, OutOfMemory>
         ensures { IfOk result (λ s. s ≡ option_map (λ (b : BufferState). b.history)
-            (buffer_of id self.now.replicas)) }
+            (buffer_of id self.now.exchange.buffers)) }
     {
-        let Some(replica) = self.replicas.find(id) else {
+        let Some(replica) = self.exchange.find(id) else {
             return Ok(None);
         };
         Ok(Some(replica.snapshot()?))
@@ -79,12 +60,7 @@ impl Progress {
         ensures state { OnOk result (state_of self.new
             ≡ step (SessionLine.Edit id pieces.now) (state_of self.old)) }
     {
-        let number = self.next_number();
-        let made = self
-            .replicas
-            .edit(alloc, id, number, pieces, &mut self.report)?;
-        self.operations.push(made)?;
-        Ok(())
+        self.exchange.edit(alloc, id, pieces, &mut self.report)
     }
 
     /// Works an undo line.
@@ -95,17 +71,8 @@ impl Progress {
         ensures state { OnOk result (state_of self.new
             ≡ step (SessionLine.Undo id numbers.now) (state_of self.old)) }
     {
-        let number = self.next_number();
-        let made = self.replicas.undo(
-            alloc,
-            id,
-            number,
-            self.operations.as_slice(),
-            numbers.as_slice(),
-            &mut self.report,
-        )?;
-        self.operations.push(made)?;
-        Ok(())
+        self.exchange
+            .undo(alloc, id, numbers.as_slice(), &mut self.report)
     }
 
     /// Works a line that has an operation in it.
@@ -115,11 +82,11 @@ impl Progress {
             ++ report_text (Report.Made (next_number (state_of self.old)) (stamp_of operation)
             ∷ [])) }
         ensures state { OnOk result (state_of self.new
-            ≡ with_operation_line self.old.replicas (Some operation) (state_of self.old)) }
+            ≡ with_operation_line self.old.exchange.buffers (Some operation) (state_of self.old)) }
     {
-        let number = self.next_number();
+        let number = self.exchange.next_number();
         let stamp = operation.stamp();
-        self.operations.push(Some(operation))?;
+        self.exchange.keep(alloc, operation)?;
         write_line(alloc, &mut self.report, &Report::Made { number, stamp })?;
         Ok(())
     }
@@ -132,8 +99,7 @@ impl Progress {
         ensures state { OnOk result (state_of self.new
             ≡ step (SessionLine.Give id number) (state_of self.old)) }
     {
-        let operation = copy_of(alloc, operation_of(self.operations.as_slice(), number))?;
-        let Some(answer) = self.replicas.give(id, operation)? else {
+        let Some(answer) = self.exchange.give(alloc, id, number)? else {
             return Ok(());
         };
         let report = Report::Give {
@@ -153,7 +119,7 @@ impl Progress {
         ensures state { OnOk result (state_of self.new
             ≡ step (SessionLine.Text id) (state_of self.old)) }
     {
-        let Some(replica) = self.replicas.find(id) else {
+        let Some(replica) = self.exchange.find(id) else {
             return Ok(());
         };
         replica.write_shown(alloc, &mut self.report)?;
@@ -330,15 +296,14 @@ impl Progress {
     pub fn new(alloc: Global, ids: &[u16], base: &str) -> Result<Progress, OutOfMemory>
         requires ids { All IsReplica ids.now }
         requires base { length base.now ≤ session_limit }
-        ensures buffers { IfOk result (λ p. p.replicas ≡ map (first_buffer base.now) ids.now) }
-        ensures operations { IfOk result (λ p. p.operations.items ≡ []) }
+        ensures buffers { IfOk result (λ p. p.exchange.buffers ≡ map (first_buffer base.now) ids.now) }
+        ensures operations { IfOk result (λ p. p.exchange.operations ≡ []) }
         ensures anchors { IfOk result (λ p. by_bytes p.anchors.entries ≡ []) }
         ensures marks { IfOk result (λ p. by_bytes p.marks.entries ≡ []) }
         ensures report { IfOk result (λ p. p.report.items ≡ []) }
     {
         Ok(Progress {
-            replicas: Replicas::over(alloc, ids, base)?,
-            operations: Vec::new(alloc),
+            exchange: Exchange::over(alloc, ids, base)?,
             anchors: BTreeMap::new(alloc),
             marks: BTreeMap::new(alloc),
             report: Vec::new(alloc),
@@ -347,10 +312,10 @@ impl Progress {
 
     /// How many bytes the text of the replica with that id has, if it is there.
     pub fn text_len(&self, id: u16) -> u64
-        ensures len { result ≡ text_len (buffer_of id self.now.replicas) }
+        ensures len { result ≡ text_len (buffer_of id self.now.exchange.buffers) }
         ensures bound { result ≤ 2 ^ 40 }
     {
-        match self.replicas.find(id) {
+        match self.exchange.find(id) {
             Some(replica) => replica.text_len(),
             None => 0,
         }
@@ -358,24 +323,24 @@ impl Progress {
 
     /// The replicas, in the header's order.
     pub fn replicas(&self) -> &[Replica]
-        ensures { result.now ≡ self.now.replicas }
+        ensures { result.now ≡ self.now.exchange.buffers }
     {
-        self.replicas.as_slice()
+        self.exchange.as_slice()
     }
 
     /// The index of the replica with that id.
     pub fn index_of(&self, id: u16) -> Option<usize>
-        ensures { result ≡ position (λ b. b.replica == id) self.now.replicas }
+        ensures { result ≡ position (λ b. b.replica == id) self.now.exchange.buffers }
     {
-        self.replicas.index_of(id)
+        self.exchange.index_of(id)
     }
 
     /// What each replica is now.
     pub fn snapshots(&self, alloc: Global) -> Result<Vec<Snapshot>, OutOfMemory>
-        ensures { IfOk result (λ v. v.items ≡ histories self.now.replicas) }
+        ensures { IfOk result (λ v. v.items ≡ histories self.now.exchange.buffers) }
     {
         let mut snapshots = Vec::new(alloc);
-        for replica in self.replicas.as_slice() {
+        for replica in self.exchange.as_slice() {
             snapshots.push(replica.snapshot()?)?;
         }
         Ok(snapshots)
@@ -385,22 +350,18 @@ impl Progress {
     pub fn finish(mut self, alloc: Global, answers: &[Report]) -> Result<Vec<u8>, OutOfMemory>
         ensures { IfOk result (λ v. v.items
             ≡ (self.report.items ++ report_text answers.now)
-            ++ report_text (flat_map at_end self.replicas)) }
+            ++ report_text (flat_map at_end self.exchange.buffers)) }
     {
         write_answers(alloc, answers, &mut self.report)?;
-        write_ends(alloc, self.replicas.as_slice(), &mut self.report)?;
+        write_ends(alloc, self.exchange.as_slice(), &mut self.report)?;
         Ok(self.report)
     }
 
     /// How many operation lines made an operation.
     pub fn made_count(&self) -> u64
-        ensures { result ≡ count_by is_some self.now.operations.items }
+        ensures { result ≡ count_by is_some self.now.exchange.operations }
     {
-        let mut count = 0;
-        for operation in &self.operations {
-            count += operation.is_some() as u64;
-        }
-        count
+        self.exchange.made_count()
     }
 }
 

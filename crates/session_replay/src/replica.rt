@@ -1,5 +1,5 @@
 //! A replica of a session: its buffer, and what it reports.
-ghost use Rattle.std.specs.Prelude.{◌≡◌, ◌≤◌, ◌+◌, ◌^◌, ◌++◌, ◌==◌, [], ◌∷◌, length, map, is_none, Some, None, IfOk, OnOk};
+ghost use Rattle.std.specs.Prelude.{◌≡◌, ◌≤◌, ◌+◌, ◌^◌, ◌++◌, ◌==◌, [], ◌∷◌, length, map, slice_get, Some, None, IfOk, OnOk};
 ghost use Rattle.std.specs.Option.{option_copied};
 ghost use Rattle.std.specs.Result.{result_ok};
 ghost use Rattle.op_model.specs.Operations.{stamp_of};
@@ -8,10 +8,12 @@ ghost use Rattle.text_dims.specs.Counts.{rows};
 ghost use Rattle.session_lines.specs.Report.{line_text, report_text};
 ghost use Rattle.session_lines.specs.declared.report.Report.{Report};
 ghost use Rattle.text_buffer.specs.Buffer.{after_settle};
+ghost use Rattle.text_buffer.specs.Document.{IsFront};
 ghost use Rattle.text_buffer.specs.Outcomes.{pair_of};
 ghost use Rattle.session_replay.specs.Traffic.{session_limit};
 ghost use Rattle.session_lines.specs.declared.report.Report.TheVariants.{Unnamed, UndoRefused};
-ghost use Rattle.session_replay.specs.Work.{after_give, after_outcome, at_end, counts_report, edit_outcome, first_unnamed, give_answer, operation_of, first_buffer, outcome_reports, refused_report, settled_reports, stamps_under, text_report, undo_outcome};
+ghost use Rattle.session_replay.specs.Exchange.{undo_outcome_of};
+ghost use Rattle.session_replay.specs.Work.{after_give, after_outcome, at_end, counts_report, edit_outcome, give_answer, first_buffer, outcome_reports, refused_report, settled_reports, text_report};
 
 use crate::OutOfMemory;
 use lamport_clock::Lamport;
@@ -77,6 +79,7 @@ impl Replica {
         ensures after { OnOk result (self.new
             ≡ after_outcome (edit_outcome number pieces.now self.old) self.old) }
         ensures id { self.new.replica ≡ self.old.replica }
+        ensures grows { IsFront self.old.history self.new.history }
         ensures made { IfOk result (λ o. o ≡ result_ok (edit_outcome number pieces.now self.old)) }
     {
         match self.buffer.edit_uncounted(pieces.as_slice()) {
@@ -86,31 +89,31 @@ impl Replica {
         }
     }
 
-    /// Undoes or redoes the operations with these numbers, as the operation line with that number. Returns the
-    /// undo, where one is made.
+    /// Undoes or redoes the edits with these stamps, as the operation line with that number, unless it names a number without an
+    /// operation. Returns the undo, where one is made.
     pub fn undo(
         &mut self,
         alloc: Global,
         number: u64,
-        operations: &[Option<Operation>],
-        numbers: &[u64],
+        unnamed: Option<u64>,
+        edits: &[Lamport],
         out: &mut Vec<u8>,
     ) -> Result<Option<Operation>, OutOfMemory>
         ensures report { OnOk result (out.new.items
             ≡ out.old.items ++ report_text
             (outcome_reports number
-            (undo_outcome number operations.now numbers.now self.old) self.old)) }
+            (undo_outcome_of number unnamed edits.now self.old) self.old)) }
         ensures after { OnOk result (self.new
-            ≡ after_outcome (undo_outcome number operations.now numbers.now self.old) self.old) }
+            ≡ after_outcome (undo_outcome_of number unnamed edits.now self.old) self.old) }
         ensures id { self.new.replica ≡ self.old.replica }
+        ensures grows { IsFront self.old.history self.new.history }
         ensures made { IfOk result (λ o. o ≡ result_ok
-            (undo_outcome number operations.now numbers.now self.old)) }
+            (undo_outcome_of number unnamed edits.now self.old)) }
     {
-        if let Some(named) = first_unnamed(operations, numbers) {
+        if let Some(named) = unnamed {
             return report_unnamed(alloc, number, named, out);
         }
-        let edits = stamps_under(alloc, operations, numbers)?;
-        match self.buffer.undo(edits.as_slice()) {
+        match self.buffer.undo(edits) {
             Ok(operation) => self.report_and_settle(alloc, number, operation, out),
             Err(UndoFault::OutOfMemory) => Err(OutOfMemory),
             Err(fault) => report_undo_fault(alloc, number, fault, out),
@@ -130,6 +133,7 @@ impl Replica {
             (Report.Made number (stamp_of operation) ∷ settled_reports self.old)) }
         ensures after { OnOk result (self.new ≡ after_settle self.old) }
         ensures id { self.new.replica ≡ self.old.replica }
+        ensures grows { IsFront self.old.history self.new.history }
         ensures made { IfOk result (λ o. o ≡ Some operation) }
     {
         let stamp = operation.stamp();
@@ -144,6 +148,7 @@ impl Replica {
             ≡ out.old.items ++ report_text (settled_reports self.old)) }
         ensures after { OnOk result (self.new ≡ after_settle self.old) }
         ensures id { self.new.replica ≡ self.old.replica }
+        ensures grows { IsFront self.old.history self.new.history }
     {
         let count = self.buffer.settle()?;
         if count == 0 {
@@ -159,6 +164,7 @@ impl Replica {
         ensures answer { IfOk result (λ g. g ≡ give_answer operation self.old) }
         ensures after { OnOk result (self.new ≡ after_give operation self.old) }
         ensures id { self.new.replica ≡ self.old.replica }
+        ensures grows { IsFront self.old.history self.new.history }
     {
         match operation {
             Some(operation) => self.take(operation),
@@ -170,6 +176,7 @@ impl Replica {
         ensures answer { IfOk result (λ g. g ≡ give_answer (Some operation) self.old) }
         ensures after { OnOk result (self.new ≡ after_give (Some operation) self.old) }
         ensures id { self.new.replica ≡ self.old.replica }
+        ensures grows { IsFront self.old.history self.new.history }
     {
         match self.buffer.take(operation) {
             Ok(Took::Applied(count)) => Ok(GiveAnswer::Applied(count)),
@@ -177,6 +184,23 @@ impl Replica {
             Ok(Took::Repeat) => Ok(GiveAnswer::Repeat),
             Err(OpFault::OutOfMemory) => Err(OutOfMemory),
             Err(fault) => Ok(GiveAnswer::Refused(fault)),
+        }
+    }
+
+    /// How many operations it has applied, the base among them.
+    pub fn applied_len(&self) -> u64
+        ensures { result ≡ length self.now.history }
+    {
+        self.buffer.applied().len()
+    }
+
+    /// The applied operation with that index, where there is one. The base has index 0. Logarithmic in their number.
+    pub fn applied(&self, index: u64) -> Option<&Operation>
+        ensures { option_copied result ≡ slice_get self.now.history index }
+    {
+        match self.buffer.applied().get(index) {
+            Some(applied) => Some(applied.op()),
+            None => None,
         }
     }
 
@@ -334,45 +358,4 @@ fn write_refused(
         )?;
     }
     Ok(())
-}
-
-/// The operation with that number, counted from 1, if there is one.
-pub fn operation_of(operations: &[Option<Operation>], number: u64) -> Option<&Operation>
-    ensures { option_copied result ≡ operation_of number operations.now }
-{
-    match operations.get(number.saturating_sub(1) as usize) {
-        Some(Some(operation)) => Some(operation),
-        _ => None,
-    }
-}
-
-// Whether no operation has that number.
-fn is_unnamed(operations: &[Option<Operation>], number: u64) -> bool
-    ensures { result ≡ is_none (operation_of number operations.now) }
-{
-    operation_of(operations, number).is_none()
-}
-
-// The first of the numbers that no operation has.
-fn first_unnamed(operations: &[Option<Operation>], numbers: &[u64]) -> Option<u64>
-    ensures { result ≡ first_unnamed operations.now numbers.now }
-{
-    numbers.iter().copied().find(|n| is_unnamed(operations, *n))
-}
-
-// The stamps of the operations that stand under the numbers.
-fn stamps_under(
-    alloc: Global,
-    operations: &[Option<Operation>],
-    numbers: &[u64],
-) -> Result<Vec<Lamport>, OutOfMemory>
-    ensures { IfOk result (λ v. v.items ≡ stamps_under operations.now numbers.now) }
-{
-    let mut stamps = Vec::new(alloc);
-    for number in numbers {
-        if let Some(operation) = operation_of(operations, *number) {
-            stamps.push(operation.stamp())?;
-        }
-    }
-    Ok(stamps)
 }

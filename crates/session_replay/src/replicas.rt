@@ -6,10 +6,13 @@ ghost use Rattle.std.specs.Result.{result_ok};
 ghost use Rattle.std.specs.List.{position};
 ghost use Rattle.session_lines.specs.Report.{report_text};
 ghost use Rattle.session_replay.specs.Traffic.{session_limit};
-ghost use Rattle.session_replay.specs.Work.{after_give, after_outcome, buffer_of, edit_outcome, give_answer, first_buffer, outcome_reports, reports_at, undo_outcome, with_buffer};
+ghost use Rattle.session_replay.specs.Exchange.{undo_outcome_of};
+ghost use Rattle.session_replay.specs.Later.{AllGrow};
+ghost use Rattle.session_replay.specs.Work.{after_give, after_outcome, buffer_of, edit_outcome, give_answer, first_buffer, outcome_reports, reports_at, with_buffer};
 
 use crate::OutOfMemory;
 use crate::replica::Replica;
+use lamport_clock::Lamport;
 use op_model::{LAST_REPLICA, Operation, Pieces};
 use session_lines::GiveAnswer;
 use std::alloc::Global;
@@ -98,6 +101,7 @@ impl Replicas {
             ≡ with_buffer id (λ b. after_outcome (edit_outcome number pieces.now b) b) self.old) }
         ensures made { IfOk result (λ o. o ≡ option_and_then
             (λ b. result_ok (edit_outcome number pieces.now b)) (buffer_of id self.old)) }
+        ensures grows { AllGrow self.old self.new }
     {
         let Some(index) = self.index_of(id) else {
             return Ok(None);
@@ -105,32 +109,33 @@ impl Replicas {
         self.list[index].edit(alloc, number, pieces, out)
     }
 
-    /// Undoes or redoes the operations with these numbers at the replica with that id, if there is one, as the
-    /// operation line with that number. Gives the undo, where one is made.
+    /// Undoes or redoes the edits with these stamps at the replica with that id, if there is one, as the operation line with that
+    /// number, unless it names a number without an operation. Gives the undo, where one is made.
     pub fn undo(
         &mut self,
         alloc: Global,
         id: u16,
         number: u64,
-        operations: &[Option<Operation>],
-        numbers: &[u64],
+        unnamed: Option<u64>,
+        edits: &[Lamport],
         out: &mut Vec<u8>,
     ) -> Result<Option<Operation>, OutOfMemory>
         ensures report { OnOk result (out.new.items ≡ out.old.items
             ++ report_text (reports_at
-            (λ b. outcome_reports number (undo_outcome number operations.now numbers.now b) b)
+            (λ b. outcome_reports number (undo_outcome_of number unnamed edits.now b) b)
             (buffer_of id self.old))) }
         ensures after { OnOk result (self.new
             ≡ with_buffer id (λ b. after_outcome
-            (undo_outcome number operations.now numbers.now b) b) self.old) }
+            (undo_outcome_of number unnamed edits.now b) b) self.old) }
         ensures made { IfOk result (λ o. o ≡ option_and_then
-            (λ b. result_ok (undo_outcome number operations.now numbers.now b))
+            (λ b. result_ok (undo_outcome_of number unnamed edits.now b))
             (buffer_of id self.old)) }
+        ensures grows { AllGrow self.old self.new }
     {
         let Some(index) = self.index_of(id) else {
             return Ok(None);
         };
-        self.list[index].undo(alloc, number, operations, numbers, out)
+        self.list[index].undo(alloc, number, unnamed, edits, out)
     }
 
     /// Gives the operation with that number, if there is one, to the replica with that id, if there is one. Returns its answer.
@@ -142,6 +147,7 @@ impl Replicas {
         ensures answer { IfOk result (λ g. g ≡ option_map (give_answer operation)
             (buffer_of id self.old)) }
         ensures after { OnOk result (self.new ≡ with_buffer id (after_give operation) self.old) }
+        ensures grows { AllGrow self.old self.new }
     {
         let Some(index) = self.index_of(id) else {
             return Ok(None);

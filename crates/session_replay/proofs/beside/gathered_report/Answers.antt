@@ -20,5 +20,5 @@ returns g c = λ asks d left.
       made,
       subst (λ lasts. AreGathered plain_answer (length d.inboxes) lasts asks made) (c.as_slice.ensures.value ∙ c.in_ok-lasts.ensures)
           (subst (λ n. AreGathered plain_answer n c.as_slice.result.now asks made) (same_length c.args.edited.gathering.inboxes.items d.inboxes left.queues) gathered),
-      is ∙ ap (λ rs. (c.args.edited.progress.report.items ++ report_text rs) ++ report_text (flat_map at_end c.args.edited.progress.replicas)) (c.as_slice-2.ensures.value ∙ c.in_ok-lines.ensures),
+      is ∙ ap (λ rs. (c.args.edited.progress.report.items ++ report_text rs) ++ report_text (flat_map at_end c.args.edited.progress.exchange.buffers)) (c.as_slice-2.ensures.value ∙ c.in_ok-lines.ensures),
     )) c.finish.ensures

@@ -21,5 +21,5 @@ returns c =
     IfOk-weaker c.finish.result _ _
     (λ v is. whole_report s c.into_queue.result (state_of first) c.into_queue.ensures begins _ worked.report.items v.items (state_of worked) _ answers
     p.report c.new-answers.ensures.items done.report done.state done.answers
-    (is ∙ ap (λ rs. (worked.report.items ++ report_text rs) ++ report_text (flat_map at_end worked.replicas)) c.as_slice-2.ensures.value))
+    (is ∙ ap (λ rs. (worked.report.items ++ report_text rs) ++ report_text (flat_map at_end worked.exchange.buffers)) c.as_slice-2.ensures.value))
     c.finish.ensures

@@ -13,5 +13,5 @@ returns-in-Ok g c =
     both c.leave.result _ _ _ (λ e same left. record {
       report = ap (λ p. p.report.items) same ∙ c.in-Ok.ensures.report;
       state = ap (λ p. state_of p) same ∙ c.in-Ok.ensures.state;
-      left = left_before _ _ _ c.args.self.dispatcher c.work_lines.new.self.dispatcher e (ap (λ p. p.replicas) same) ends.queues ends.pairs (left _ (c.in-Ok.ensures.asking [] c.requires.asking));
+      left = left_before _ _ _ c.args.self.dispatcher c.work_lines.new.self.dispatcher e (ap (λ p. p.exchange.buffers) same) ends.queues ends.pairs (left _ (c.in-Ok.ensures.asking [] c.requires.asking));
     }) c.leave.ensures.progress c.leave.ensures.left

@@ -9,7 +9,7 @@ use Rattle.session_replay.proofs.beside.Editor.put.Goals as goal
 
 pub returns-in_default-clause-asking : goal.returns-in_default-clause-asking
 returns-in_default-clause-asking g c =
-    let bs = c.args.self.now.progress.replicas in
+    let bs = c.args.self.now.progress.exchange.buffers in
     let none : None ≡ position (λ (b : BufferState). b.replica == c.args.id) bs = c.in_default.ensures in
     λ asks a. nothing_asked _ asks _ _ _ (ap (query_of (length asks + 1) c.args.id c.args.question) (not_found c.args.id (λ (b : BufferState). b) bs none).0) a
 
@@ -25,7 +25,7 @@ ask-requires-clause-grows g c =
 pub returns-clause-asking : goal.returns-clause-asking
 returns-clause-asking g c =
     let s = state_of c.args.self.now.progress in
-    let bs = c.args.self.now.progress.replicas in
+    let bs = c.args.self.now.progress.exchange.buffers in
     let r = c.args.id in
     let i = c.in-Some.index in
     let x = c.index-replicas-index.result in

@@ -30,14 +30,14 @@ returns-in-Ok-clause-state g c =
 pub returns-in-Ok-clause-asking : goal.returns-in-Ok-clause-asking
 returns-in-Ok-clause-asking g c =
     let s = state_of c.args.self.now.progress in
-    let bs = c.args.self.now.progress.replicas in
+    let bs = c.args.self.now.progress.exchange.buffers in
     let d = c.args.self.now.dispatcher in
     let p = c.args.publishers.now in
     let e = c.put.new.self.dispatcher in
     let q = c.put.new.publishers in
     let asked = subst (λ (o : Option (ℕ × Question)). OnOk c.put.result ((asks : List (Ask Question)) → IsAsking bs asks d p → IsAsking bs (asks ++ asks_among bs (query_with (length asks + 1) s o)) e q))
     (sym c.in-Ok.ensures.ok) c.put.ensures.asking in
-    subst (λ (now : Progress). OnOk c.put.result ((asks : List (Ask Question)) → IsAsking bs asks d p → IsAsking now.replicas (asks ++ asks_among bs (query_at (length asks + 1) c.args.line s)) e q)) (sym c.put.ensures.same.1) asked
+    subst (λ (now : Progress). OnOk c.put.result ((asks : List (Ask Question)) → IsAsking bs asks d p → IsAsking now.exchange.buffers (asks ++ asks_among bs (query_at (length asks + 1) c.args.line s)) e q)) (sym c.put.ensures.same.1) asked
 
 pub returns-in-Err-clause-report : goal.returns-in-Err-clause-report
 returns-in-Err-clause-report g c =

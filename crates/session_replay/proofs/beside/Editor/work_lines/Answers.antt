@@ -2,7 +2,8 @@ use Rattle.std.proofs.Common.{◌≡◌, length, ap, ◌∙◌, sym, subst, arit
 use Rattle.session_replay.specs.Work.{step}
 use Rattle.session_replay.specs.Working.{state_of}
 use Rattle.session_replay.specs.Beside.{asks_among}
-use Rattle.session_replay.proofs.Growth.{AllGrow, all_themselves, all_trans, step_grows}
+use Rattle.session_replay.specs.Later.{AllGrow}
+use Rattle.session_replay.proofs.Growth.{all_themselves, all_trans, step_grows}
 use Rattle.session_replay.proofs.Steps.{more_report, more_state, lines_done, none_taken, on_err, taken_first}
 use Rattle.session_replay.proofs.Asking.{ends_same, ends_trans, leads_first, leads_last, leads_more, room_for}
 use Rattle.session_replay.proofs.beside.Editor.work_lines.Goals as goal
@@ -16,14 +17,14 @@ loop-line-init g c =
       workers = refl;
       report = refl;
       state = refl;
-      grows = all_themselves c.args.self.now.progress.replicas;
+      grows = all_themselves c.args.self.now.progress.exchange.buffers;
       ends = ends_same d c.args.publishers.now;
       asking = λ asks a. leads_first ls s asks d c.args.publishers.now a c.requires.room;
     }
 
 pub work_line-requires-clause-asking : goal.work_line-requires-clause-asking
 work_line-requires-clause-asking g c =
-    let l = c.loop-line.invariant.asking c.requires.asking.0 c.requires.asking.1 in (c.requires.asking.0 ++ asks_among c.args.self.now.progress.replicas l.more, l.asking)
+    let l = c.loop-line.invariant.asking c.requires.asking.0 c.requires.asking.1 in (c.requires.asking.0 ++ asks_among c.args.self.now.progress.exchange.buffers l.more, l.asking)
 
 pub work_line-requires-clause-room : goal.work_line-requires-clause-room
 work_line-requires-clause-room g c =
@@ -65,4 +66,4 @@ returns-clause-asking g c =
 
 pub returns-in_err-line-clause-err : goal.returns-in_err-line-clause-err
 returns-in_err-line-clause-err g c =
-    let l = c.loop-line.invariant.asking c.requires.asking.0 c.requires.asking.1 in on_err c.from_residual.result _ (c.requires.asking.0 ++ asks_among c.args.self.now.progress.replicas l.more, l.asking.asked)
+    let l = c.loop-line.invariant.asking c.requires.asking.0 c.requires.asking.1 in on_err c.from_residual.result _ (c.requires.asking.0 ++ asks_among c.args.self.now.progress.exchange.buffers l.more, l.asking.asked)

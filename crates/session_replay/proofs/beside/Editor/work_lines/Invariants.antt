@@ -5,7 +5,7 @@ use Rattle.session_replay.specs.Work.{all_events, after_all}
 use Rattle.session_replay.specs.Working.{state_of}
 use Rattle.session_replay.specs.Beside.{IsAsking, KeepsEnds}
 use Rattle.session_replay.specs.declared.queries.Question.{Question}
-use Rattle.session_replay.proofs.Growth.{AllGrow}
+use Rattle.session_replay.specs.Later.{AllGrow}
 use Rattle.session_replay.proofs.Asking.{Leads}
 use Rattle.session_replay.proofs.beside.Editor.work_lines.Given as goal
 
@@ -15,9 +15,9 @@ invariant-loop-line g l = record {
   workers : l.self.workers ≡ l.fn.self.workers;
   report : l.self.progress.report.items ++ report_text (all_events l.lines (state_of l.self.progress)) ≡ l.fn.self.progress.report.items ++ report_text (all_events l.fn.lines (state_of l.fn.self.progress));
   state : after_all l.lines (state_of l.self.progress) ≡ after_all l.fn.lines (state_of l.fn.self.progress);
-  grows : AllGrow l.fn.self.progress.replicas l.self.progress.replicas;
+  grows : AllGrow l.fn.self.progress.exchange.buffers l.self.progress.exchange.buffers;
   ends : KeepsEnds l.fn.self.dispatcher l.fn.publishers l.self.dispatcher l.publishers;
-  asking : (asks : List (Ask Question)) → IsAsking l.fn.self.progress.replicas asks l.fn.self.dispatcher l.fn.publishers
+  asking : (asks : List (Ask Question)) → IsAsking l.fn.self.progress.exchange.buffers asks l.fn.self.dispatcher l.fn.publishers
       → Leads l.fn.lines (state_of l.fn.self.progress) asks l.lines (state_of l.self.progress) l.self.dispatcher l.publishers;
 }
 

@@ -7,5 +7,5 @@ use Rattle.session_replay.proofs.replay.Progress.answer_offset.Goals as goal
 
 pub returns-in-Some : goal.returns-in-Some
 returns-in-Some c =
-    let there : Some c.in-Some.snapshot ≡ option_map history (buffer_of c.args.id c.args.self.now.replicas) = cc (c.in-Some.is, c.in_ok-snapshot.ensures) in
+    let there : Some c.in-Some.snapshot ≡ option_map history (buffer_of c.args.id c.args.self.now.exchange.buffers) = cc (c.in-Some.is, c.in_ok-snapshot.ensures) in
     asked c.args.number c.args.id (OffsetOf c.args.point) _ _ _ there c.offset_line.ensures

@@ -3,4 +3,4 @@ use Rattle.session_replay.specs.Beside.{histories}
 use Rattle.session_replay.proofs.replay.Progress.snapshots.Given as goal
 
 abbrev pub invariant-loop-replica : goal.invariant-loop-replica
-invariant-loop-replica l = l.snapshots.items ++ histories (drop l.replica-index l.replica-items) ≡ histories l.self.replicas
+invariant-loop-replica l = l.snapshots.items ++ histories (drop l.replica-index l.replica-items) ≡ histories l.self.exchange.buffers

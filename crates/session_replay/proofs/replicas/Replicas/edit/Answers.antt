@@ -4,6 +4,7 @@ use Rattle.std.specs.Result.{result_ok}
 use Rattle.text_buffer.specs.Buffer.{BufferState}
 use Rattle.session_replay.specs.Work.{after_outcome, edit_outcome, outcome_reports}
 use Rattle.session_replay.proofs.Finding.{changed, nowhere, reported, told, unchanged, unreported}
+use Rattle.session_replay.proofs.Growth.{all_themselves, set_grows}
 use Rattle.session_replay.proofs.replicas.Replicas.edit.Goals as goal
 
 pub returns-in_default-clause-report : goal.returns-in_default-clause-report
@@ -30,3 +31,10 @@ pub returns-clause-made : goal.returns-clause-made
 returns-clause-made c =
     told c.args.id (λ (b : BufferState). b) c.args.self.now c.self.inside.list.items c.self.view_is c.in-Some.index c.index_mut.result.now c.in-Some.ensures c.index_mut.ensures.value
     (λ (b : BufferState). result_ok (edit_outcome c.args.number c.args.pieces.now b)) c.edit.result c.edit.ensures.made
+
+pub returns-in_default-clause-grows : goal.returns-in_default-clause-grows
+returns-in_default-clause-grows c = all_themselves c.args.self.now
+
+pub returns-clause-grows : goal.returns-clause-grows
+returns-clause-grows c =
+    set_grows c.args.self.now c.self.inside.list.items c.in-Some.index c.index_mut.result.now _ c.self.view_is c.index_mut.ensures.value c.edit.ensures.id c.edit.ensures.grows

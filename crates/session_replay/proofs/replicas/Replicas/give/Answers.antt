@@ -3,6 +3,7 @@ use Rattle.std.specs.Option.{option_map}
 use Rattle.text_buffer.specs.Buffer.{BufferState}
 use Rattle.session_replay.specs.Work.{after_give, give_answer}
 use Rattle.session_replay.proofs.Finding.{nowhere, put, there, unchanged}
+use Rattle.session_replay.proofs.Growth.{all_themselves, set_grows}
 use Rattle.session_replay.proofs.replicas.Replicas.give.Goals as goal
 
 pub returns-in_default-clause-answer : goal.returns-in_default-clause-answer
@@ -20,3 +21,14 @@ pub returns-clause-after : goal.returns-clause-after
 returns-clause-after c =
     put c.args.id (after_give c.args.operation) c.args.self.now c.self.inside.list.items c.self.view_is c.in-Some.index c.index_mut.result.now c.in-Some.ensures c.index_mut.ensures.value
     c.give.new.self c.in_ok-give.ensures.after
+
+pub returns-in_default-clause-grows : goal.returns-in_default-clause-grows
+returns-in_default-clause-grows c = all_themselves c.args.self.now
+
+pub returns-clause-grows : goal.returns-clause-grows
+returns-clause-grows c =
+    set_grows c.args.self.now c.self.inside.list.items c.in-Some.index c.index_mut.result.now _ c.self.view_is c.index_mut.ensures.value c.give.ensures.id c.give.ensures.grows
+
+pub returns-in_err-give-clause-grows : goal.returns-in_err-give-clause-grows
+returns-in_err-give-clause-grows c =
+    set_grows c.args.self.now c.self.inside.list.items c.in-Some.index c.index_mut.result.now _ c.self.view_is c.index_mut.ensures.value c.give.ensures.id c.give.ensures.grows
