@@ -1,7 +1,6 @@
 -- A version has at most an entry for each replica.
-use Rattle.std.proofs.Common.{◌≡◌, ℕ, suc, ◌+◌, ◌≤◌, List, [], ◌∷◌, length, arith}
+use Rattle.std.proofs.Common.{ℕ, suc, ◌+◌, ◌≤◌, [], ◌∷◌, length, arith}
 use Rattle.lamport_clock.specs.Versions.{Entries, IsVersionFrom}
-use Rattle.op_wire.specs.Spelling.{limit}
 use Rattle.op_wire.specs.Laws.{VersionsAreShort}
 
 bound : (n : ℕ) (v : Entries) → n ≤ 65536 → IsVersionFrom n v → n + length v ≤ 65536

@@ -5,4 +5,7 @@ pub mod Entries
 pub mod Turns
 pub mod Parts
 pub mod Loop
+pub mod Joins
+pub mod Sizes
+pub mod Streams
 pub mod Rows

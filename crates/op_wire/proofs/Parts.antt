@@ -1,5 +1,5 @@
 -- What the values have that the code read.
-use Rattle.std.proofs.Common.{◌≡◌, ℕ, ◌+◌, ◌≤◌, List, length, Result, Ok, Err, refl}
+use Rattle.std.proofs.Common.{ℕ, ◌+◌, ◌≤◌, List, length, Result, Ok, Err}
 use Rattle.std.specs.Prelude.{IfOk}
 use Rattle.lamport_clock.specs.Versions.{Entries, IsVersion}
 use Rattle.op_model.specs.declared.operation.Piece.{Piece}

@@ -1,9 +1,8 @@
 -- Records have one reading.
-use Rattle.std.proofs.Common.{◌≡◌, ℕ, ◌+◌, ◌<◌, List, [], ◌∷◌, ◌++◌, length, Result, Ok, Err, refl, sym, ap, ◌∙◌, append_assoc, arith, length-append}
-use Rattle.std.specs.List.{flat_map, AllByRecursion}
+use Rattle.std.proofs.Common.{◌≡◌, ℕ, ◌+◌, List, [], ◌∷◌, ◌++◌, length, refl, sym, ap, ◌∙◌, append_assoc, arith, length-append}
+use Rattle.std.specs.List.{flat_map}
 use Rattle.std.proofs.lemmas.List.Concat.{flat_map-cons}
 use Rattle.op_model.specs.declared.operation.Operation.{Operation}
-use Rattle.op_wire.specs.declared.fault.Stop.{Stop}
 use Rattle.op_wire.specs.Spelling.{spelling, HasSpelling}
 use Rattle.op_wire.specs.Reading.{record_at}
 use Rattle.op_wire.specs.Laws.{NonePrefixes, SpelledIsRead, ReadIsSpelled, OneReading, HasNoRecord, OneSplit, StopsHaveNone, FaultsStay}

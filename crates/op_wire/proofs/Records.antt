@@ -1,29 +1,26 @@
 -- The parts of a record, and records.
-use Rattle.std.proofs.Common.{◌≡◌, ℕ, zero, suc, ◌+◌, ◌^◌, ◌<◌, ◌≤◌, ◌⊎◌, inl, inr, Bool, true, false, cond, ltb, eqb, List, [], ◌∷◌, ◌++◌, length, take, drop, Option, Some, None, Result, Ok, Err, refl, sym, ap, subst, ◌∙◌, append_assoc, arith, length-append}
+use Rattle.std.proofs.Common.{◌≡◌, ℕ, zero, suc, ◌+◌, ◌^◌, ◌<◌, ◌≤◌, ◌⊎◌, inl, inr, Bool, true, false, cond, ltb, List, [], ◌∷◌, ◌++◌, length, take, drop, Option, Some, None, Result, Ok, Err, refl, sym, ap, subst, ◌∙◌, append_assoc, arith, length-append}
 use Rattle.std.specs.Prelude.{nat_lt, ◌==◌, IsUtf8}
 use Rattle.std.specs.List.{flat_map, AllByRecursion}
 use Rattle.std.specs.Str.{is_utf8}
 use Rattle.std.specs.Int.{w16, w32, w64, to_be_bytes}
 use Rattle.std.proofs.lemmas.Bool.{ltb-false, le-ltb, eqb-true, false_from_ne_true}
-use Rattle.std.proofs.lemmas.List.{take_at, drop_at, take-append-drop, length-take, nil_from_length, append-nil}
+use Rattle.std.proofs.lemmas.List.{take_at, drop_at, take-append-drop, length-take, nil_from_length}
 use Rattle.std.proofs.lemmas.List.Concat.{flat_map-cons}
 use Rattle.std.proofs.lemmas.Str.{IsUtf8-from_is_utf8, is_utf8-from_IsUtf8}
 use Rattle.lamport_clock.specs.declared.stamp.Lamport.{Lamport}
 use Rattle.lamport_clock.specs.Versions.{Entries, IsVersion, IsVersionFrom}
 use Rattle.op_model.specs.declared.operation.Piece.{Piece}
 use Rattle.op_model.specs.declared.operation.UndoCount.{UndoCount}
-use Rattle.op_model.specs.declared.operation.EditOp.{EditOp}
-use Rattle.op_model.specs.declared.operation.UndoOp.{UndoOp}
 use Rattle.op_model.specs.declared.operation.Operation.{Operation}
 use Rattle.op_model.specs.declared.operation.Operation.TheVariants.{Edit, Undo}
-use Rattle.op_model.specs.Operations.{is_edit}
 use Rattle.op_model.specs.Choice.{first_of, when}
 use Rattle.op_wire.specs.declared.fault.Word.{Word}
 use Rattle.op_wire.specs.declared.fault.Word.TheVariants.{Kind, Order, Zero, Long, Utf8}
 use Rattle.op_wire.specs.declared.fault.Stop.{Stop}
 use Rattle.op_wire.specs.declared.fault.Stop.TheVariants.{Short, Bad}
-use Rattle.op_wire.specs.Spelling.{limit, stamp, entry, version, text, piece, pieces, count, counts, spelling, long_sum, long_number, IsStamp, IsPiece, IsCount, HasSpelling}
-use Rattle.op_wire.specs.Reading.{IsBytes, ◌>>=◌, number_at, checked_at, stamp_at, entry_at, entries_at, amount_at, version_at, string_at, text_at, range_at, piece_at, pieces_at, count_at, counts_at, all_pieces_at, all_counts_at, head_at, edit_at, undo_at, record_at}
+use Rattle.op_wire.specs.Spelling.{limit, stamp, entry, version, text, piece, pieces, count, counts, spelling, long_sum, IsStamp, IsPiece, IsCount, HasSpelling}
+use Rattle.op_wire.specs.Reading.{IsBytes, number_at, checked_at, stamp_at, entry_at, entries_at, amount_at, version_at, string_at, text_at, range_at, piece_at, pieces_at, count_at, counts_at, all_pieces_at, all_counts_at, head_at, edit_at, undo_at, record_at}
 use Rattle.op_wire.proofs.Readers.{IsBytes-drop, Takes, IsReader, Passes, both, Joins, both-reads, alike-reads, last_step, bind_alike, ok_is, number-reads, checked-reads, wide16, wide32, wide64}
 
 -- ---- lists of what is read by turns

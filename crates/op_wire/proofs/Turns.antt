@@ -1,5 +1,5 @@
 -- Feeds one after the other.
-use Rattle.std.proofs.Common.{◌≡◌, ℕ, zero, suc, ◌+◌, ◌-◌, ◌<◌, ◌≤◌, ◌⊎◌, inl, inr, List, [], ◌∷◌, ◌++◌, length, take, Option, Some, None, Result, Ok, Err, refl, sym, ap, subst, ◌∙◌, append_assoc, arith, length-append}
+use Rattle.std.proofs.Common.{◌≡◌, ℕ, ◌+◌, ◌-◌, ◌<◌, inl, inr, List, [], ◌∷◌, ◌++◌, length, Option, Some, None, Result, Err, refl, sym, ap, subst, ◌∙◌, append_assoc, arith, length-append}
 use Rattle.std.specs.List.{flat_map, AllByRecursion, concat}
 use Rattle.std.proofs.lemmas.List.{append-nil, take_at, get_or-append-add}
 use Rattle.std.proofs.lemmas.List.Concat.{flat_map-append}
@@ -10,7 +10,7 @@ use Rattle.op_wire.specs.declared.fault.Stop.{Stop}
 use Rattle.op_wire.specs.declared.fault.Stop.TheVariants.{Short, Bad}
 use Rattle.op_wire.specs.Spelling.{spelling, HasSpelling}
 use Rattle.op_wire.specs.Reading.{IsBytes, record_at}
-use Rattle.op_wire.specs.Stream.{Splits, Appends, IsUnfinished, IsFaulty, fault_at, Fed, fresh, bytes_fed, HasRead, Stays, faulted, Finds, Turn, Turns}
+use Rattle.op_wire.specs.Stream.{Appends, fault_at, Fed, fresh, bytes_fed, HasRead, Stays, faulted, Finds, Turn, Turns}
 use Rattle.op_wire.specs.Laws.{TurnsAgree, TurnsJoin, CutsDoNotMatter}
 use Rattle.op_wire.proofs.Readers.{IsBytes-take}
 use Rattle.op_wire.proofs.Prefixes.{one_split, stops_have_none, faults_stay}
@@ -42,7 +42,7 @@ bad_is v w k n e = (cc, cc)
 none_is_not : {B : Type 0} (o : Option WireFault) (e : WireFault) → o ≡ None → o ≡ Some e → B
 none_is_not o e p q = absurd (cc (p, q))
 
-fed_is : (x y : Fed) → x.start ≡ y.start → x.rest ≡ y.rest → x.fault ≡ y.fault → x ≡ y
+pub fed_is : (x y : Fed) → x.start ≡ y.start → x.rest ≡ y.rest → x.fault ≡ y.fault → x ≡ y
 fed_is x y s r f = let a : x ≡ record { start = y.start; rest = y.rest; fault = y.fault } = rw (← s, ← r, ← f) refl in a
 
 read_agrees : (old new other : Fed) (piece : List ℕ) (before after others : List Operation) → HasRead old piece before after new → HasRead old piece before others other → (after ≡ others) × (new ≡ other)

@@ -1,14 +1,13 @@
 -- Laws of records and of streams, which src/laws.rt shows.
-use Rattle.std.specs.Prelude.{◌≡◌, ◌≤◌, ℕ, ◌+◌, List, [], ◌∷◌, ◌++◌, length, Ok, Err}
+use Rattle.std.specs.Prelude.{◌≡◌, ◌≤◌, ℕ, ◌+◌, List, [], ◌++◌, length, Ok, Err}
 use Rattle.std.specs.List.{flat_map, AllByRecursion, concat}
 use Rattle.lamport_clock.specs.Versions.{Entries, IsVersion}
 use Rattle.op_model.specs.declared.operation.Operation.{Operation}
 use Rattle.op_wire.specs.declared.fault.Word.{Word}
 use Rattle.op_wire.specs.declared.fault.Stop.{Stop}
-use Rattle.op_wire.specs.declared.fault.Stop.TheVariants.{Short, Bad}
 use Rattle.op_wire.specs.Spelling.{limit, spelling, HasSpelling}
 use Rattle.op_wire.specs.Reading.{IsBytes, record_at}
-use Rattle.op_wire.specs.Stream.{IsUnfinished, IsFaulty, Fed, fresh, Turn, Turns}
+use Rattle.op_wire.specs.Stream.{IsFaulty, Fed, fresh, Turn, Turns}
 
 -- ---- records
 

@@ -88,11 +88,11 @@ pub record Finds (e : WireFault) (old : Fed) (piece : List ℕ) (before after : 
   pub is : e ≡ fault_at word (bytes_fed old + length piece - left)
   pub answered : new ≡ faulted (bytes_fed old + length piece) (length rest) e
 
--- why a feed fails: an allocation failed; or a fault was answered before; or the fault was found now
+-- why a feed fails: a fault was answered before; or the fault was found now; or, if neither, an allocation failed
 abbrev pub FeedCause : WireFault → Fed → List ℕ → List Operation → List Operation → Fed → Type 0
 FeedCause e old piece before after new =
-    ((e ≡ faults.OutOfMemory) × Stays old before new after)
-    ⊎ (((old.fault ≡ Some e) × Stays old before new after) ⊎ Finds e old piece before after new)
+    ((old.fault ≡ Some e) × Stays old before new after)
+    ⊎ (Finds e old piece before after new ⊎ ((e ≡ faults.OutOfMemory) × (old.fault ≡ None) × Stays old before new after))
 
 abbrev pub finished_with : ℕ → List ℕ → Option WireFault → Result (Unit {0}) WireFault
 finished_with start rest (Some e) = Err e

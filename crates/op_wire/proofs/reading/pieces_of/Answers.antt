@@ -1,4 +1,3 @@
-use Rattle.std.proofs.Common.{◌≡◌, ◌++◌, ◌∷◌, [], ◌+◌}
 use Rattle.std.proofs.lemmas.Result.{err_from_is_err_and}
 use Rattle.op_wire.specs.Reading.{pieces_at}
 use Rattle.op_wire.proofs.Loop.{pieces_go_on, pieces_end, pieces_done}
