@@ -4,6 +4,7 @@ use crate::operations::{pieces, version};
 use applied_ops::Applied;
 use deferred_ops::Deferred;
 use std::alloc::Global;
+use std::process::Abort;
 use sum_tree::{OutOfMemory, SumTree};
 use text_buffer::{Anchor, Bias, Buffer, Limits, PlaceFault, Snapshot};
 
@@ -79,16 +80,16 @@ pub(crate) fn place_alike(a: &Snapshot, b: &Snapshot, len: u64) -> bool {
     true
 }
 
-fn change_alike(alloc: Global, a: &Snapshot, b: &Snapshot) -> Result<bool, OutOfMemory> {
-    let base = version(alloc, &[(1, 0)])?;
+fn change_alike(rt: &impl Abort, alloc: Global, a: &Snapshot, b: &Snapshot) -> bool {
+    let base = version(alloc, &[(1, 0)]).expect(rt, "memory");
     match (a.since(&base), b.since(&base)) {
-        (Ok(x), Ok(y)) => Ok(x.as_slice() == y.as_slice()),
-        _ => Ok(false),
+        (Ok(x), Ok(y)) => x.as_slice() == y.as_slice(),
+        _ => false,
     }
 }
 
-fn look_alike(alloc: Global, a: &Snapshot, b: &Snapshot, len: u64) -> Result<bool, OutOfMemory> {
-    Ok(change_alike(alloc, a, b)? & place_alike(a, b, len))
+fn look_alike(rt: &impl Abort, alloc: Global, a: &Snapshot, b: &Snapshot, len: u64) -> bool {
+    change_alike(rt, alloc, a, b) & place_alike(a, b, len)
 }
 
 /// Whether two buffers show one text.
@@ -97,26 +98,32 @@ pub(crate) fn show_alike(a: &Buffer, b: &Buffer) -> Result<bool, OutOfMemory> {
 }
 
 // Whether the next edit is the same operation, or meets the same fault.
-fn edit_alike(alloc: Global, pair: &mut Pair) -> Result<bool, OutOfMemory> {
-    let changes = pieces(alloc, &[(0, 0, "n")])?;
+fn edit_alike(rt: &impl Abort, alloc: Global, pair: &mut Pair) -> bool {
+    let changes = pieces(alloc, &[(0, 0, "n")]).expect(rt, "memory");
     match (
         pair.buffer.edit_uncounted(changes.as_slice()),
         pair.twin.edit_uncounted(changes.as_slice()),
     ) {
-        (Ok(x), Ok(y)) => Ok(x.same(&y)),
-        (Err(x), Err(y)) => Ok(x == y),
-        _ => Ok(false),
+        (Ok(x), Ok(y)) => x.same(&y),
+        (Err(x), Err(y)) => x == y,
+        _ => false,
     }
 }
 
-fn are_alike(alloc: Global, a: &Buffer, b: &Buffer) -> Result<bool, OutOfMemory> {
-    let alike = hold_alike(a, b) & show_alike(a, b)?;
-    Ok(look_alike(alloc, &a.snapshot()?, &b.snapshot()?, a.summary().len)? & alike)
+fn are_alike(rt: &impl Abort, alloc: Global, a: &Buffer, b: &Buffer) -> bool {
+    let alike = hold_alike(a, b) & show_alike(a, b).expect(rt, "memory");
+    look_alike(
+        rt,
+        alloc,
+        &a.snapshot().expect(rt, "memory"),
+        &b.snapshot().expect(rt, "memory"),
+        a.summary().len,
+    ) & alike
 }
 
 /// Whether a buffer and its twin have the same text, version, operations (applied, waiting and refused), places of anchors and edits
 /// since the base, and then make the same operation of an edit.
-pub(crate) fn answer_alike(alloc: Global, pair: &mut Pair) -> Result<bool, OutOfMemory> {
-    let alike = are_alike(alloc, &pair.buffer, &pair.twin)?;
-    Ok(edit_alike(alloc, pair)? & alike)
+pub(crate) fn answer_alike(rt: &impl Abort, alloc: Global, pair: &mut Pair) -> bool {
+    let alike = are_alike(rt, alloc, &pair.buffer, &pair.twin);
+    edit_alike(rt, alloc, pair) & alike
 }

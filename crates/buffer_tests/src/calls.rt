@@ -7,7 +7,6 @@ use Parts::{Counts, Letters, Pieces};
 use Took::{Applied, Repeat, Waits};
 use lamport_clock::Lamport;
 use op_model::OpFault;
-use sum_tree::OutOfMemory;
 use text_buffer::EditFault::InsideChar;
 use text_buffer::UndoFault::{ClockEnd, CountEnd, NoSuchEdit, Twice};
 use text_buffer::{EditFault, Limits, Refused, Took, UndoFault, Unit};
@@ -663,12 +662,11 @@ const OPERATIONS: &[Case] = &[
 ];
 
 #[test]
-fn operations_are_taken(rt: HostRuntime) -> Result<(), OutOfMemory> {
+fn operations_are_taken(rt: HostRuntime) {
     for case in OPERATIONS {
-        let right = count_case(rt.alloc(), case)?;
+        let right = count_case(&rt, rt.alloc(), case);
         assert!(rt; right == case.rows.len(), "{}: row {right}", case.name);
     }
-    Ok(())
 }
 
 const UNDOS: &[Case] = &[
@@ -681,12 +679,11 @@ const UNDOS: &[Case] = &[
 ];
 
 #[test]
-fn undos_come_out_as_they_should(rt: HostRuntime) -> Result<(), OutOfMemory> {
+fn undos_come_out_as_they_should(rt: HostRuntime) {
     for case in UNDOS {
-        let right = count_case(rt.alloc(), case)?;
+        let right = count_case(&rt, rt.alloc(), case);
         assert!(rt; right == case.rows.len(), "{}: row {right}", case.name);
     }
-    Ok(())
 }
 
 const AT_LIMITS: &[Case] = &[
@@ -698,10 +695,9 @@ const AT_LIMITS: &[Case] = &[
 ];
 
 #[test]
-fn limits_are_kept(rt: HostRuntime) -> Result<(), OutOfMemory> {
+fn limits_are_kept(rt: HostRuntime) {
     for case in AT_LIMITS {
-        let right = count_case(rt.alloc(), case)?;
+        let right = count_case(&rt, rt.alloc(), case);
         assert!(rt; right == case.rows.len(), "{}: row {right}", case.name);
     }
-    Ok(())
 }

@@ -3,6 +3,7 @@ ghost use Rattle.std.specs.Prelude.{◌≤◌, ◌^◌, ◌-◌};
 
 use crate::steps::{Row, count_right};
 use std::alloc::Global;
+use std::process::Abort;
 use sum_tree::OutOfMemory;
 use text_buffer::{Base, Buffer, Limits};
 
@@ -40,32 +41,37 @@ pub(crate) fn open(alloc: Global, base: &str, limits: Limits) -> Result<Buffer, 
     }
 }
 
-fn open_over(alloc: Global, base: &Base, limits: Limits) -> Result<Buffer, OutOfMemory> {
-    match Buffer::over(alloc, 9, base, limits_of(limits)) {
-        Ok(buffer) => Ok(buffer),
-        Err(_) => Err(OutOfMemory),
-    }
+fn open_over(rt: &impl Abort, alloc: Global, base: &Base, limits: Limits) -> Buffer {
+    Buffer::over(alloc, 9, base, limits_of(limits)).expect(rt, "a buffer over a base")
 }
 
 // How many rows of a case come out as they should in a buffer over a base that was made ready.
-fn count_over(alloc: Global, base: &Base, case: &Case) -> Result<usize, OutOfMemory> {
-    count_right(alloc, open_over(alloc, base, case.limits)?, case.rows)
+fn count_over(rt: &impl Abort, alloc: Global, base: &Base, case: &Case) -> usize {
+    count_right(
+        rt,
+        alloc,
+        open_over(rt, alloc, base, case.limits),
+        case.rows,
+    )
 }
 
 // The same in each of two buffers over one base, one after the other.
-fn count_both(alloc: Global, base: &Base, case: &Case) -> Result<usize, OutOfMemory> {
-    Ok(count_over(alloc, base, case)?.min(count_over(alloc, base, case)?))
+fn count_both(rt: &impl Abort, alloc: Global, base: &Base, case: &Case) -> usize {
+    count_over(rt, alloc, base, case).min(count_over(rt, alloc, base, case))
 }
 
-fn count_twice(alloc: Global, case: &Case) -> Result<usize, OutOfMemory> {
-    match Base::new(alloc, case.base) {
-        Ok(base) => count_both(alloc, &base, case),
-        Err(_) => Ok(0),
-    }
+fn count_twice(rt: &impl Abort, alloc: Global, case: &Case) -> usize {
+    let base = Base::new(alloc, case.base).expect(rt, "a base");
+    count_both(rt, alloc, &base, case)
 }
 
 /// How many rows of a case come out as they should, in each of three buffers.
-pub(crate) fn count_case(alloc: Global, case: &Case) -> Result<usize, OutOfMemory> {
-    let own = count_right(alloc, open(alloc, case.base, case.limits)?, case.rows)?;
-    Ok(own.min(count_twice(alloc, case)?))
+pub(crate) fn count_case(rt: &impl Abort, alloc: Global, case: &Case) -> usize {
+    let own = count_right(
+        rt,
+        alloc,
+        open(alloc, case.base, case.limits).expect(rt, "memory"),
+        case.rows,
+    );
+    own.min(count_twice(rt, alloc, case))
 }

@@ -6,7 +6,7 @@ ghost use Rattle.buffer_tests.specs.declared.cells.Name.{Name as NameType};
 use lamport_clock::{Lamport, Version, is_later, is_same};
 use op_model::{EditOp, Operation, Piece, UndoOp};
 use std::alloc::Global;
-use sum_tree::OutOfMemory;
+use std::process::Abort;
 
 /// A byte's edit, and the byte's number among those that the edit brought, from 0.
 #[derive(Clone, Copy)]
@@ -67,50 +67,50 @@ impl Cells {
     }
 
     /// The bytes that are shown.
-    pub fn text(&self, alloc: Global) -> Result<Vec<u8>, OutOfMemory> {
+    pub fn text(&self, rt: &impl Abort, alloc: Global) -> Vec<u8> {
         let mut text = Vec::new(alloc);
         for cell in self.list.iter() {
             if self.is_shown(cell) {
-                text.push(cell.byte)?;
+                text.push(cell.byte).expect(rt, "memory");
             }
         }
-        Ok(text)
+        text
     }
 
     /// Adds an operation to the history.
-    pub fn apply(&mut self, alloc: Global, op: &Operation) -> Result<(), OutOfMemory> {
+    pub fn apply(&mut self, rt: &impl Abort, alloc: Global, op: &Operation) {
         self.operations = after(self.operations, 1);
         match op {
-            Operation::Edit(edit) => self.lay(alloc, edit),
-            Operation::Undo(undo) => self.count(undo),
+            Operation::Edit(edit) => self.lay(rt, alloc, edit),
+            Operation::Undo(undo) => self.count(rt, undo),
         }
     }
 
-    fn count(&mut self, undo: &UndoOp) -> Result<(), OutOfMemory> {
+    fn count(&mut self, rt: &impl Abort, undo: &UndoOp) {
         for count in undo.counts.as_slice() {
-            self.counts.push(UndoCount {
-                edit: count.edit,
-                by: undo.stamp,
-                count: count.count,
-            })?;
+            self.counts
+                .push(UndoCount {
+                    edit: count.edit,
+                    by: undo.stamp,
+                    count: count.count,
+                })
+                .expect(rt, "memory");
         }
-        Ok(())
     }
 
     // An edit's own cells are none that its version sees, so the pieces count the same places whether these are there or not.
-    fn lay(&mut self, alloc: Global, edit: &EditOp) -> Result<(), OutOfMemory> {
-        self.delete(edit)?;
+    fn lay(&mut self, rt: &impl Abort, alloc: Global, edit: &EditOp) {
+        self.delete(rt, edit);
         let mut number = 0;
         for piece in edit.pieces.as_slice() {
-            let path = self.left_path(alloc, &edit.version, piece.start)?;
-            self.put(alloc, edit.stamp, number, path, piece.text.as_str())?;
+            let path = self.left_path(rt, alloc, &edit.version, piece.start);
+            self.put(rt, alloc, edit.stamp, number, path, piece.text.as_str());
             number = after(number, piece.text.as_str().len() as u64);
         }
-        Ok(())
     }
 
     // Deletes the cells in an edit's ranges that were shown to its author.
-    fn delete(&mut self, edit: &EditOp) -> Result<(), OutOfMemory> {
+    fn delete(&mut self, rt: &impl Abort, edit: &EditOp) {
         let counts = self.counts.as_slice();
         let mut place = 0;
         for cell in self.list.iter_mut() {
@@ -118,60 +118,60 @@ impl Cells {
                 if is_in_range(edit.pieces.as_slice(), place)
                     && is_shown(counts, cell, Some(&edit.version))
                 {
-                    insert(&mut cell.deletions, edit.stamp)?;
+                    insert(rt, &mut cell.deletions, edit.stamp);
                 }
                 place = after(place, 1);
             }
         }
-        Ok(())
     }
 
     // The path of the cell before a place among those that a version sees; without cells at the front.
     fn left_path(
         &self,
+        rt: &impl Abort,
         alloc: Global,
         version: &Version,
         start: u64,
-    ) -> Result<Vec<Name>, OutOfMemory> {
+    ) -> Vec<Name> {
         let cells = self.list.iter();
         let seen = cells.filter(|cell| version.sees(cell.name.stamp));
         match seen.take(start as usize).last() {
-            Some(cell) => Vec::from_slice(alloc, cell.path.as_slice()),
-            None => Ok(Vec::new(alloc)),
+            Some(cell) => Vec::from_slice(alloc, cell.path.as_slice()).expect(rt, "memory"),
+            None => Vec::new(alloc),
         }
     }
 
     // The cells of a text, each the left neighbour of the next.
     fn put(
         &mut self,
+        rt: &impl Abort,
         alloc: Global,
         stamp: Lamport,
         first: u64,
         left: Vec<Name>,
         text: &str,
-    ) -> Result<(), OutOfMemory> {
+    ) {
         let mut path = left;
         let mut number = first;
         for byte in text.as_bytes() {
             let name = Name { stamp, number };
-            path.push(name)?;
-            self.add(Cell {
-                name,
-                byte: *byte,
-                deletions: Vec::new(alloc),
-                path: Vec::from_slice(alloc, path.as_slice())?,
-            })?;
+            path.push(name).expect(rt, "memory");
+            self.add(
+                rt,
+                Cell {
+                    name,
+                    byte: *byte,
+                    deletions: Vec::new(alloc),
+                    path: Vec::from_slice(alloc, path.as_slice()).expect(rt, "memory"),
+                },
+            );
             number = after(number, 1);
         }
-        Ok(())
     }
 
-    fn add(&mut self, cell: Cell) -> Result<(), OutOfMemory> {
+    fn add(&mut self, rt: &impl Abort, cell: Cell) {
         let at = place_of(self.list.as_slice(), cell.path.as_slice());
-        match self.list.insert(at, cell) {
-            Ok(()) => Ok(()),
-            Err(_) => Err(OutOfMemory),
-        }
+        self.list.insert(at, cell).expect(rt, "memory");
     }
 }
 
@@ -252,13 +252,10 @@ fn is_seen(version: Option<&Version>, stamp: Lamport) -> bool {
 }
 
 // Puts a stamp among stamps that descend.
-fn insert(stamps: &mut Vec<Lamport>, stamp: Lamport) -> Result<(), OutOfMemory> {
+fn insert(rt: &impl Abort, stamps: &mut Vec<Lamport>, stamp: Lamport) {
     let at = stamps
         .iter()
         .position(|one| is_later(stamp, *one))
         .unwrap_or(stamps.len());
-    match stamps.insert(at, stamp) {
-        Ok(()) => Ok(()),
-        Err(_) => Err(OutOfMemory),
-    }
+    stamps.insert(at, stamp).expect(rt, "memory");
 }

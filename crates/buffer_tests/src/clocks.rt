@@ -2,7 +2,7 @@
 use crate::operations::{Stamp, stamp, version};
 use lamport_clock::{Clock, ClockEnd, Lamport, Version, is_later};
 use std::alloc::Global;
-use sum_tree::OutOfMemory;
+use std::process::Abort;
 
 // A clock observes a stamp, or ticks with an answer.
 #[derive(Clone, Copy)]
@@ -153,15 +153,20 @@ fn is_joined(version: &Version, other: &Version, join: &Join) -> bool {
         && version.as_slice() == join.joined
 }
 
-fn come_together(version: &mut Version, other: &Version, join: &Join) -> Result<bool, OutOfMemory> {
+fn come_together(rt: &impl Abort, version: &mut Version, other: &Version, join: &Join) -> bool {
     let before = misses(version, other, join.missing) && has_sights(version, join, false);
-    version.join(other)?;
-    Ok(before && is_joined(version, other, join))
+    version.join(other).expect(rt, "memory");
+    before && is_joined(version, other, join)
 }
 
-fn joins(alloc: Global, join: &Join) -> Result<bool, OutOfMemory> {
-    let other = version(alloc, join.other)?;
-    come_together(&mut version(alloc, join.seen)?, &other, join)
+fn joins(rt: &impl Abort, alloc: Global, join: &Join) -> bool {
+    let other = version(alloc, join.other).expect(rt, "memory");
+    come_together(
+        rt,
+        &mut version(alloc, join.seen).expect(rt, "memory"),
+        &other,
+        join,
+    )
 }
 
 fn has_entries(version: &Version) -> bool {
@@ -177,9 +182,9 @@ fn is_of_five(version: &Version) -> bool {
     version.as_slice() == ENTRIES && values == (1, 8, 0) && has_entries(version)
 }
 
-fn are_of_five(alloc: Global) -> Result<bool, OutOfMemory> {
-    let version = version(alloc, FIVE)?;
-    Ok(is_of_five(&version) && is_of_five(&version.copy(alloc)?))
+fn are_of_five(rt: &impl Abort, alloc: Global) -> bool {
+    let version = version(alloc, FIVE).expect(rt, "memory");
+    is_of_five(&version) && is_of_five(&version.copy(alloc).expect(rt, "memory"))
 }
 
 // Entries in the order in which they come, and those of the version of them; `None` where they do not ascend.
@@ -201,33 +206,32 @@ const LISTED: &[Listed] = &[
 ];
 
 // Whether the version of entries in any order has these, and the version of ascending ones too, where there is one.
-fn is_listed(alloc: Global, (entries, want, ascend): Listed) -> Result<bool, OutOfMemory> {
-    let sorted = Version::from_entries(alloc, entries)?;
-    let right = match Version::from_ascending(alloc, entries)? {
+fn is_listed(rt: &impl Abort, alloc: Global, (entries, want, ascend): Listed) -> bool {
+    let sorted = Version::from_entries(alloc, entries).expect(rt, "memory");
+    let right = match Version::from_ascending(alloc, entries).expect(rt, "memory") {
         Some(made) => ascend && made.as_slice() == want,
         None => !ascend,
     };
-    Ok(right && sorted.as_slice() == want)
+    right && sorted.as_slice() == want
 }
 
-fn are_in_words(alloc: Global) -> Result<bool, OutOfMemory> {
-    let words = format!(in alloc; "{SECOND}: {ClockEnd}")?;
-    Ok(words.as_str() == "2.7: the clock stands at its end")
+fn are_in_words(rt: &impl Abort, alloc: Global) -> bool {
+    let words = format!(in alloc; "{SECOND}: {ClockEnd}").expect(rt, "memory");
+    words.as_str() == "2.7: the clock stands at its end"
 }
 
 #[test]
-fn versions_see_and_join(rt: HostRuntime) -> Result<(), OutOfMemory> {
+fn versions_see_and_join(rt: HostRuntime) {
     for join in JOINS {
         assert!(rt;
-            joins(rt.alloc(), join)?,
+            joins(&rt, rt.alloc(), join),
             "{:?} and {:?}",
             join.seen,
             join.other
         );
     }
     for &row in LISTED {
-        assert!(rt; is_listed(rt.alloc(), row)?, "{:?}", row.0);
+        assert!(rt; is_listed(&rt, rt.alloc(), row), "{:?}", row.0);
     }
-    assert!(rt; are_of_five(rt.alloc())? && are_in_words(rt.alloc())?);
-    Ok(())
+    assert!(rt; are_of_five(&rt, rt.alloc()) && are_in_words(&rt, rt.alloc()));
 }

@@ -3,9 +3,9 @@ use crate::operations::{Stamp, version};
 use crate::runs::{Run, tree_of};
 use crate::undo_counts::{Count, map_of};
 use edits_since::since;
-use fragments::OutOfMemory;
 use op_model::TextEdit;
 use std::alloc::Global;
+use std::process::Abort;
 
 // Fragments and what is counted (edit, undo, count); what the version has seen; the edits since.
 struct Row {
@@ -166,17 +166,19 @@ const ROWS: &[Row] = &[
     },
 ];
 
-fn finds(alloc: Global, row: &Row) -> Result<bool, OutOfMemory> {
-    let tree = tree_of(alloc, row.runs, 1)?;
-    let undos = map_of(alloc, row.counts)?;
-    let version = version(alloc, row.version)?;
-    Ok(since(alloc, &tree, &undos, &version)?.as_slice() == row.edits)
+fn finds(rt: &impl Abort, alloc: Global, row: &Row) -> bool {
+    let tree = tree_of(rt, alloc, row.runs, 1);
+    let undos = map_of(rt, alloc, row.counts);
+    let version = version(alloc, row.version).expect(rt, "memory");
+    since(alloc, &tree, &undos, &version)
+        .expect(rt, "memory")
+        .as_slice()
+        == row.edits
 }
 
 #[test]
-fn edits_since_versions_are_found(rt: HostRuntime) -> Result<(), OutOfMemory> {
+fn edits_since_versions_are_found(rt: HostRuntime) {
     for (i, row) in ROWS.iter().enumerate() {
-        assert!(rt; finds(rt.alloc(), row)?, "row {i}");
+        assert!(rt; finds(&rt, rt.alloc(), row), "row {i}");
     }
-    Ok(())
 }

@@ -10,7 +10,7 @@ use lamport_clock::Lamport;
 use op_model::Operation;
 use std::alloc::Global;
 use std::mem;
-use sum_tree::OutOfMemory;
+use std::process::Abort;
 use text_buffer::{Buffer, OpFault, Took};
 
 const BASE: &[Stamp] = &[(1, 0)];
@@ -101,12 +101,11 @@ const THE_SAME_AGAIN: Case = Case {
 const CASES: &[Case] = &[ANOTHER_WAITS, THE_SAME_AGAIN];
 
 #[test]
-fn what_is_forgotten_waits_no_more(rt: HostRuntime) -> Result<(), OutOfMemory> {
+fn what_is_forgotten_waits_no_more(rt: HostRuntime) {
     for case in CASES {
-        let right = count_case(rt.alloc(), case)?;
+        let right = count_case(&rt, rt.alloc(), case);
         assert!(rt; right == case.rows.len(), "{}: row {right}", case.name);
     }
-    Ok(())
 }
 
 // ---- A caller that lets at most so many operations of each author wait.
@@ -185,40 +184,41 @@ const AGAIN: &[usize] = &[1, 0];
 
 // Whether the chain is taken, and never too much waits.
 fn takes_chain(
+    rt: &impl Abort,
     alloc: Global,
     buffer: &mut Buffer,
     aside: &mut Vec<Operation>,
-) -> Result<bool, OutOfMemory> {
+) -> bool {
     let mut right = true;
     for &((at, seen, parts), count) in CHAIN {
-        let op = operation(alloc, at, seen, parts)?;
+        let op = operation(alloc, at, seen, parts).expect(rt, "memory");
         right = take(buffer, aside, op).is_ok() && right;
         let waits = newest_of(buffer.deferred(), 1).0;
         right = right & (aside.len() == count) & (waits <= MOST);
     }
-    Ok(right)
+    right
 }
 
 fn is_bounded(
+    rt: &impl Abort,
     alloc: Global,
     buffer: &mut Buffer,
     aside: &mut Vec<Operation>,
-) -> Result<bool, OutOfMemory> {
-    let mut right = takes_chain(alloc, buffer, aside)?;
+) -> bool {
+    let mut right = takes_chain(rt, alloc, buffer, aside);
     for &left in AGAIN {
         right = take_again(alloc, buffer, aside).is_ok() && right;
         right = right & (aside.len() == left);
     }
-    Ok(buffer.text()?.as_str() == "gfedcba" && right)
+    buffer.text().expect(rt, "memory").as_str() == "gfedcba" && right
 }
 
-fn bounds(alloc: Global) -> Result<bool, OutOfMemory> {
-    let mut buffer = open(alloc, "", AMPLE)?;
-    is_bounded(alloc, &mut buffer, &mut Vec::new(alloc))
+fn bounds(rt: &impl Abort, alloc: Global) -> bool {
+    let mut buffer = open(alloc, "", AMPLE).expect(rt, "memory");
+    is_bounded(rt, alloc, &mut buffer, &mut Vec::new(alloc))
 }
 
 #[test]
-fn a_caller_bounds_what_waits(rt: HostRuntime) -> Result<(), OutOfMemory> {
-    assert!(rt; bounds(rt.alloc())?);
-    Ok(())
+fn a_caller_bounds_what_waits(rt: HostRuntime) {
+    assert!(rt; bounds(&rt, rt.alloc()));
 }

@@ -7,7 +7,7 @@ use crate::steps::{edit, take, undo};
 use lamport_clock::Lamport;
 use op_model::Operation;
 use std::alloc::Global;
-use sum_tree::OutOfMemory;
+use std::process::Abort;
 use text_buffer::{Buffer, Limits, NewFault, Took};
 
 // What a replica does, by its place: an edit, an undo of edits, or taking all that another one has.
@@ -126,81 +126,84 @@ const ROWS: &[Row] = &[
     ),
 ];
 
-fn open(alloc: Global, replica: u16) -> Result<Replica, NewFault>
+fn open(rt: &impl Abort, alloc: Global, replica: u16) -> Replica
     requires least { 1 ≤ replica }
     requires greatest { replica ≤ 1023 }
 {
-    let buffer = Buffer::new(alloc, replica, "", Limits::MOST)?;
-    Ok(Replica::new(alloc, buffer))
+    let buffer = Buffer::new(alloc, replica, "", Limits::MOST).expect(rt, "memory");
+    Replica::new(alloc, buffer)
 }
 
-fn add(alloc: Global, group: &mut Vec<Replica>, replica: u16) -> Result<(), NewFault>
+fn add(rt: &impl Abort, alloc: Global, group: &mut Vec<Replica>, replica: u16)
     requires least { 1 ≤ replica }
     requires greatest { replica ≤ 1023 }
 {
-    group.push(open(alloc, replica)?)?;
-    Ok(())
+    group.push(open(rt, alloc, replica)).expect(rt, "memory");
 }
 
-fn add_three(alloc: Global, group: &mut Vec<Replica>) -> Result<(), NewFault> {
-    add(alloc, group, 1)?;
-    add(alloc, group, 2)?;
-    add(alloc, group, 3)
+fn add_three(rt: &impl Abort, alloc: Global, group: &mut Vec<Replica>) {
+    add(rt, alloc, group, 1);
+    add(rt, alloc, group, 2);
+    add(rt, alloc, group, 3);
 }
 
 // Replicas 1 to 3, without text.
-fn group(alloc: Global) -> Result<Vec<Replica>, NewFault> {
+fn group(rt: &impl Abort, alloc: Global) -> Vec<Replica> {
     let mut group = Vec::new(alloc);
-    add_three(alloc, &mut group)?;
-    Ok(group)
+    add_three(rt, alloc, &mut group);
+    group
 }
 
-fn edits(alloc: Global, replica: &mut Replica, changes: &[Change]) -> Result<bool, OutOfMemory> {
-    let made = edit(alloc, &mut replica.buffer, changes)?.is_ok();
-    Ok(replica.agrees(alloc)? && made)
+fn edits(rt: &impl Abort, alloc: Global, replica: &mut Replica, changes: &[Change]) -> bool {
+    let made = edit(alloc, &mut replica.buffer, changes)
+        .expect(rt, "memory")
+        .is_ok();
+    replica.agrees(rt, alloc) && made
 }
 
-fn undoes(alloc: Global, replica: &mut Replica, edits: &[Lamport]) -> Result<bool, OutOfMemory> {
+fn undoes(rt: &impl Abort, alloc: Global, replica: &mut Replica, edits: &[Lamport]) -> bool {
     let made = undo(&mut replica.buffer, edits).is_ok();
-    Ok(replica.agrees(alloc)? && made)
+    replica.agrees(rt, alloc) && made
 }
 
-fn undoes_all(alloc: Global, replica: &mut Replica, edits: &[Stamp]) -> Result<bool, OutOfMemory> {
-    let edits = stamps(alloc, edits)?;
-    undoes(alloc, replica, edits.as_slice())
+fn undoes_all(rt: &impl Abort, alloc: Global, replica: &mut Replica, edits: &[Stamp]) -> bool {
+    let edits = stamps(alloc, edits).expect(rt, "memory");
+    undoes(rt, alloc, replica, edits.as_slice())
 }
 
 // Takes an operation that is applied at once.
-fn takes(alloc: Global, replica: &mut Replica, op: Operation) -> Result<bool, OutOfMemory> {
+fn takes(rt: &impl Abort, alloc: Global, replica: &mut Replica, op: Operation) -> bool {
     let taken = take(&mut replica.buffer, op) == Ok(Took::Applied(1));
-    Ok(replica.agrees(alloc)? && taken)
+    replica.agrees(rt, alloc) && taken
 }
 
 // The operation of that number that a replica has applied, where another one has not.
 fn new_operation(
+    rt: &impl Abort,
     alloc: Global,
     from: &Buffer,
     i: u64,
     to: &Buffer,
-) -> Result<Option<Operation>, OutOfMemory> {
+) -> Option<Operation> {
     match from.applied().get(i) {
         Some(applied) if !to.version().sees(applied.op().stamp()) => {
-            Ok(Some(applied.op().copy(alloc)?))
+            Some(applied.op().copy(alloc).expect(rt, "memory"))
         }
-        _ => Ok(None),
+        _ => None,
     }
 }
 
 fn next_operation(
+    rt: &impl Abort,
     alloc: Global,
     group: &[Replica],
     i: usize,
     j: usize,
     at: u64,
-) -> Result<Option<Operation>, OutOfMemory> {
+) -> Option<Operation> {
     match (group.get(i), group.get(j)) {
-        (Some(to), Some(from)) => new_operation(alloc, &from.buffer, at, &to.buffer),
-        _ => Ok(None),
+        (Some(to), Some(from)) => new_operation(rt, alloc, &from.buffer, at, &to.buffer),
+        _ => None,
     }
 }
 
@@ -212,77 +215,69 @@ fn count_applied(group: &[Replica], i: usize) -> u64 {
 }
 
 // Whether replica i takes all that replica j has and it has not.
-fn takes_all(
-    alloc: Global,
-    group: &mut [Replica],
-    i: usize,
-    j: usize,
-) -> Result<bool, OutOfMemory> {
+fn takes_all(rt: &impl Abort, alloc: Global, group: &mut [Replica], i: usize, j: usize) -> bool {
     let mut right = true;
     for at in 0..count_applied(group, j) {
-        if let Some(op) = next_operation(alloc, group, i, j, at)? {
-            right = takes_at(alloc, group, i, op)? && right;
+        if let Some(op) = next_operation(rt, alloc, group, i, j, at) {
+            right = takes_at(rt, alloc, group, i, op) && right;
         }
     }
-    Ok(right)
+    right
 }
 
 fn takes_at(
+    rt: &impl Abort,
     alloc: Global,
     group: &mut [Replica],
     i: usize,
     op: Operation,
-) -> Result<bool, OutOfMemory> {
+) -> bool {
     match group.get_mut(i) {
-        Some(replica) => takes(alloc, replica, op),
-        None => Ok(false),
+        Some(replica) => takes(rt, alloc, replica, op),
+        None => false,
     }
 }
 
 // Whether an act meets no fault, and all that it changes agrees with the plain cells.
-fn acts(alloc: Global, group: &mut [Replica], act: Act) -> Result<bool, OutOfMemory> {
+fn acts(rt: &impl Abort, alloc: Global, group: &mut [Replica], act: Act) -> bool {
     match act {
-        Act::Take(i, j) => takes_all(alloc, group, i, j),
+        Act::Take(i, j) => takes_all(rt, alloc, group, i, j),
         Act::Edit(i, changes) => match group.get_mut(i) {
-            Some(replica) => edits(alloc, replica, changes),
-            None => Ok(false),
+            Some(replica) => edits(rt, alloc, replica, changes),
+            None => false,
         },
         Act::Undo(i, undone) => match group.get_mut(i) {
-            Some(replica) => undoes_all(alloc, replica, undone),
-            None => Ok(false),
+            Some(replica) => undoes_all(rt, alloc, replica, undone),
+            None => false,
         },
     }
 }
 
-fn shows(group: &[Replica], i: usize, text: &str) -> Result<bool, OutOfMemory> {
+fn shows(rt: &impl Abort, group: &[Replica], i: usize, text: &str) -> bool {
     match group.get(i) {
-        Some(replica) => Ok(replica.buffer.text()?.as_str() == text),
-        None => Ok(false),
+        Some(replica) => replica.buffer.text().expect(rt, "memory").as_str() == text,
+        None => false,
     }
 }
 
-fn plays(alloc: Global, group: &mut [Replica], row: &Row) -> Result<bool, OutOfMemory> {
-    let first = acts(alloc, group, Act::Edit(0, &[(0, 0, row.0)]))?;
-    let mut right = acts(alloc, group, Act::Take(1, 0))? && first;
+fn plays(rt: &impl Abort, alloc: Global, group: &mut [Replica], row: &Row) -> bool {
+    let first = acts(rt, alloc, group, Act::Edit(0, &[(0, 0, row.0)]));
+    let mut right = acts(rt, alloc, group, Act::Take(1, 0)) && first;
     for &act in row.1 {
-        right = acts(alloc, group, act)? && right;
+        right = acts(rt, alloc, group, act) && right;
     }
-    Ok(shows(group, 0, row.2[0])? && shows(group, 1, row.2[1])? && right)
+    shows(rt, group, 0, row.2[0]) && shows(rt, group, 1, row.2[1]) && right
 }
 
-fn holds(alloc: Global, row: &Row) -> Result<bool, OutOfMemory> {
-    match group(alloc) {
-        Ok(mut group) => plays(alloc, group.as_mut_slice(), row),
-        Err(_) => Ok(false),
-    }
+fn holds(rt: &impl Abort, alloc: Global, row: &Row) -> bool {
+    plays(rt, alloc, group(rt, alloc).as_mut_slice(), row)
 }
 
 #[test]
-fn rows_of_acts_leave_their_texts(rt: HostRuntime) -> Result<(), OutOfMemory> {
+fn rows_of_acts_leave_their_texts(rt: HostRuntime) {
     for (i, row) in ROWS.iter().enumerate() {
-        assert!(rt; holds(rt.alloc(), row)?, "row {i}, over {}", row.0);
+        assert!(rt; holds(&rt, rt.alloc(), row), "row {i}, over {}", row.0);
     }
-    Ok(())
 }
 
 const STEPS: u32 = 80;
@@ -332,15 +327,15 @@ fn draw_for(group: &[Replica], i: usize, x: u64) -> (Change, Option<Stamp>) {
 }
 
 // Whether a drawn act agrees with the plain cells.
-fn draws(alloc: Global, group: &mut [Replica], x: u64) -> Result<bool, OutOfMemory> {
+fn draws(rt: &impl Abort, alloc: Global, group: &mut [Replica], x: u64) -> bool {
     let i = ((x >> 10) % 3) as usize;
     let (change, edit) = draw_for(group, i, x);
     match ((x >> 14) % 8, edit) {
-        (0, _) => takes_all(alloc, group, i, i.wrapping_add(1) % 3),
-        (1, _) => takes_all(alloc, group, i, i.wrapping_add(2) % 3),
-        (2 | 3, Some(edit)) => acts(alloc, group, Act::Undo(i, &[edit])),
-        (2 | 3, None) => Ok(true),
-        _ => acts(alloc, group, Act::Edit(i, &[change])),
+        (0, _) => takes_all(rt, alloc, group, i, i.wrapping_add(1) % 3),
+        (1, _) => takes_all(rt, alloc, group, i, i.wrapping_add(2) % 3),
+        (2 | 3, Some(edit)) => acts(rt, alloc, group, Act::Undo(i, &[edit])),
+        (2 | 3, None) => true,
+        _ => acts(rt, alloc, group, Act::Edit(i, &[change])),
     }
 }
 
@@ -348,74 +343,69 @@ fn draws(alloc: Global, group: &mut [Replica], x: u64) -> Result<bool, OutOfMemo
 const EXCHANGE: &[(usize, usize)] = &[(0, 1), (0, 2), (1, 0), (2, 0)];
 
 // Whether all show one text once each has what the others have.
-fn come_together(alloc: Global, group: &mut [Replica]) -> Result<bool, OutOfMemory> {
+fn come_together(rt: &impl Abort, alloc: Global, group: &mut [Replica]) -> bool {
     let mut right = true;
     for &(i, j) in EXCHANGE {
-        right = takes_all(alloc, group, i, j)? && right;
+        right = takes_all(rt, alloc, group, i, j) && right;
     }
-    Ok(are_alike(group)? && right)
+    are_alike(rt, group) && right
 }
 
-fn are_alike(group: &[Replica]) -> Result<bool, OutOfMemory> {
+fn are_alike(rt: &impl Abort, group: &[Replica]) -> bool {
     let Some(first) = group.first() else {
-        return Ok(false);
+        return false;
     };
-    let text = first.buffer.text()?;
-    Ok(shows(group, 1, text.as_str())? && shows(group, 2, text.as_str())?)
+    let text = first.buffer.text().expect(rt, "memory");
+    shows(rt, group, 1, text.as_str()) && shows(rt, group, 2, text.as_str())
 }
 
-fn plays_drawn(alloc: Global, group: &mut [Replica], seed: u64) -> Result<bool, OutOfMemory> {
+fn plays_drawn(rt: &impl Abort, alloc: Global, group: &mut [Replica], seed: u64) -> bool {
     let mut right = true;
     let mut x = seed;
     for _ in 0..STEPS {
         x = next(x);
-        right = draws(alloc, group, x)? && right;
+        right = draws(rt, alloc, group, x) && right;
     }
-    Ok(come_together(alloc, group)? && right)
+    come_together(rt, alloc, group) && right
 }
 
 /// Copies of the operations that a buffer has applied, without the base.
-pub(crate) fn copies(alloc: Global, buffer: &Buffer) -> Result<Vec<Operation>, OutOfMemory> {
+pub(crate) fn copies(rt: &impl Abort, alloc: Global, buffer: &Buffer) -> Vec<Operation> {
     let mut ops = Vec::new(alloc);
     for i in 1..buffer.applied().len() {
         if let Some(applied) = buffer.applied().get(i) {
-            ops.push(applied.op().copy(alloc)?)?;
+            ops.push(applied.op().copy(alloc).expect(rt, "memory"))
+                .expect(rt, "memory");
         }
     }
-    Ok(ops)
+    ops
 }
 
 fn operations_of(
+    rt: &impl Abort,
     alloc: Global,
     group: &mut [Replica],
     seed: u64,
-) -> Result<Vec<Operation>, OutOfMemory> {
-    let _right = plays_drawn(alloc, group, seed)?;
+) -> Vec<Operation> {
+    let _right = plays_drawn(rt, alloc, group, seed);
     match group.first() {
-        Some(replica) => copies(alloc, &replica.buffer),
-        None => Ok(Vec::new(alloc)),
+        Some(replica) => copies(rt, alloc, &replica.buffer),
+        None => Vec::new(alloc),
     }
 }
 
 /// The operations that three replicas make of drawn acts, in an order in which they may be taken.
-pub(crate) fn drawn_operations(alloc: Global, seed: u64) -> Result<Vec<Operation>, OutOfMemory> {
-    match group(alloc) {
-        Ok(mut group) => operations_of(alloc, group.as_mut_slice(), seed),
-        Err(_) => Ok(Vec::new(alloc)),
-    }
+pub(crate) fn drawn_operations(rt: &impl Abort, alloc: Global, seed: u64) -> Vec<Operation> {
+    operations_of(rt, alloc, group(rt, alloc).as_mut_slice(), seed)
 }
 
-fn holds_drawn(alloc: Global, seed: u64) -> Result<bool, OutOfMemory> {
-    match group(alloc) {
-        Ok(mut group) => plays_drawn(alloc, group.as_mut_slice(), seed),
-        Err(_) => Ok(false),
-    }
+fn holds_drawn(rt: &impl Abort, alloc: Global, seed: u64) -> bool {
+    plays_drawn(rt, alloc, group(rt, alloc).as_mut_slice(), seed)
 }
 
 #[test]
-fn drawn_acts_agree_with_plain_cells(rt: HostRuntime) -> Result<(), OutOfMemory> {
+fn drawn_acts_agree_with_plain_cells(rt: HostRuntime) {
     for seed in 0..SEEDS {
-        assert!(rt; holds_drawn(rt.alloc(), seed)?, "seed {seed}");
+        assert!(rt; holds_drawn(&rt, rt.alloc(), seed), "seed {seed}");
     }
-    Ok(())
 }

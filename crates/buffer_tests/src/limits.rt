@@ -6,7 +6,7 @@ use crate::steps::{Step, comes};
 use Took::Applied;
 use lamport_clock::Lamport;
 use std::alloc::Global;
-use sum_tree::OutOfMemory;
+use std::process::Abort;
 use text_buffer::{Base, Buffer, Limits, NewFault, Took};
 
 const EDIT: Lamport = Lamport {
@@ -25,39 +25,43 @@ const LONG_PARTS: &[Hiding] = &[
 ];
 
 // 2,000 digits but for those of a range.
-fn digits(alloc: Global, from: u32, to: u32) -> Result<String, OutOfMemory> {
+fn digits(rt: &impl Abort, alloc: Global, from: u32, to: u32) -> String {
     let mut text = String::new(alloc);
     for n in 0..2_000u32 {
         if n < from || to <= n {
-            text.push(char::from(b'0' + (n % 10) as u8))?;
+            text.push(char::from(b'0' + (n % 10) as u8))
+                .expect(rt, "memory");
         }
     }
-    Ok(text)
+    text
 }
 
-fn hides(alloc: Global, buffer: &mut Buffer, row: &Hiding) -> Result<bool, OutOfMemory> {
-    let right = comes(alloc, buffer, row.0)?;
-    let wanted = digits(alloc, row.1, row.2)?;
-    Ok(buffer.text()?.as_str() == wanted.as_str() && right)
+fn hides(rt: &impl Abort, alloc: Global, buffer: &mut Buffer, row: &Hiding) -> bool {
+    let right = comes(alloc, buffer, row.0).expect(rt, "memory");
+    let wanted = digits(rt, alloc, row.1, row.2);
+    buffer.text().expect(rt, "memory").as_str() == wanted.as_str() && right
 }
 
-fn each_hides(alloc: Global, buffer: &mut Buffer) -> Result<bool, OutOfMemory> {
+fn each_hides(rt: &impl Abort, alloc: Global, buffer: &mut Buffer) -> bool {
     let mut right = true;
     for row in LONG_PARTS {
-        right = hides(alloc, buffer, row)? && right;
+        right = hides(rt, alloc, buffer, row) && right;
     }
-    Ok(right)
+    right
 }
 
-fn hide_long(alloc: Global) -> Result<bool, OutOfMemory> {
-    let base = digits(alloc, 0, 0)?;
-    each_hides(alloc, &mut open(alloc, base.as_str(), AMPLE)?)
+fn hide_long(rt: &impl Abort, alloc: Global) -> bool {
+    let base = digits(rt, alloc, 0, 0);
+    each_hides(
+        rt,
+        alloc,
+        &mut open(alloc, base.as_str(), AMPLE).expect(rt, "memory"),
+    )
 }
 
 #[test]
-fn long_parts_change_sides(rt: HostRuntime) -> Result<(), OutOfMemory> {
-    assert!(rt; hide_long(rt.alloc())?);
-    Ok(())
+fn long_parts_change_sides(rt: HostRuntime) {
+    assert!(rt; hide_long(&rt, rt.alloc()));
 }
 
 const FEW: Limits = Limits {
@@ -66,10 +70,10 @@ const FEW: Limits = Limits {
 };
 
 // Whether no buffer of few bytes is opened over a base, and its fault has these words.
-fn is_refused(alloc: Global, base: &str, words: &str) -> Result<bool, OutOfMemory> {
+fn is_refused(rt: &impl Abort, alloc: Global, base: &str, words: &str) -> bool {
     match Buffer::new(alloc, 9, base, FEW).err() {
-        None => Ok(false),
-        Some(fault) => Ok(format!(in alloc; "{fault}")?.as_str() == words),
+        None => false,
+        Some(fault) => format!(in alloc; "{fault}").expect(rt, "memory").as_str() == words,
     }
 }
 
@@ -84,22 +88,25 @@ fn fault_over(alloc: Global, base: &str) -> Option<NewFault> {
 // An edit that brings as many letters as one edit may.
 const MOST_LETTERS: Step = Take((2, 1), &[(1, 0)], Letters(1, 65_536), Ok(Applied(1)));
 
-fn takes_most_letters(alloc: Global, buffer: &mut Buffer) -> Result<bool, OutOfMemory> {
-    Ok(comes(alloc, buffer, MOST_LETTERS)? && buffer.summary().len == 65_538)
+fn takes_most_letters(rt: &impl Abort, alloc: Global, buffer: &mut Buffer) -> bool {
+    comes(alloc, buffer, MOST_LETTERS).expect(rt, "memory") && buffer.summary().len == 65_538
 }
 
 // Whether a buffer over 2 bytes takes it.
-fn are_most_letters_taken(alloc: Global) -> Result<bool, OutOfMemory> {
-    takes_most_letters(alloc, &mut open(alloc, "ab", AMPLE)?)
+fn are_most_letters_taken(rt: &impl Abort, alloc: Global) -> bool {
+    takes_most_letters(
+        rt,
+        alloc,
+        &mut open(alloc, "ab", AMPLE).expect(rt, "memory"),
+    )
 }
 
 #[test]
-fn texts_are_refused_past_their_limits(rt: HostRuntime) -> Result<(), OutOfMemory> {
+fn texts_are_refused_past_their_limits(rt: HostRuntime) {
     let words = "full: 0 bytes are held, and 6 more pass the limit";
-    assert!(rt; is_refused(rt.alloc(), "abcdef", words)?);
+    assert!(rt; is_refused(&rt, rt.alloc(), "abcdef", words));
     assert!(rt;
         fault_over(rt.alloc(), "abcdef") == Buffer::new(rt.alloc(), 9, "abcdef", FEW).err()
     );
-    assert!(rt; are_most_letters_taken(rt.alloc())?);
-    Ok(())
+    assert!(rt; are_most_letters_taken(&rt, rt.alloc()));
 }

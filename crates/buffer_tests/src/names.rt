@@ -1,8 +1,9 @@
 //! Locators: their digits, as Debug writes them, their order, and how long they grow.
 use crate::rows::assert_rows;
-use locators::{Locator, OutOfMemory};
+use locators::Locator;
 use std::alloc::Global;
 use std::cmp::Ordering;
+use std::process::Abort;
 
 // Where a further locator lies, after the least and the greatest one: between those of two indexes.
 const BETWEEN: &[(usize, usize)] = &[(0, 1), (0, 2), (2, 1), (2, 4), (2, 5), (4, 5)];
@@ -27,94 +28,92 @@ const DIGITS: &[&[(u64, u64)]] = &[
 ];
 
 fn between_of(
+    rt: &impl Abort,
     alloc: Global,
     all: &[Locator],
     (low, high): (usize, usize),
-) -> Result<Option<Locator>, OutOfMemory> {
+) -> Option<Locator> {
     match (all.get(low), all.get(high)) {
-        (Some(low), Some(high)) => Ok(Some(Locator::between(alloc, low, high)?)),
-        _ => Ok(None),
+        (Some(low), Some(high)) => Some(Locator::between(alloc, low, high).expect(rt, "memory")),
+        _ => None,
     }
 }
 
-fn add_all(alloc: Global, all: &mut Vec<Locator>) -> Result<(), OutOfMemory> {
-    all.push(Locator::least(alloc)?)?;
-    all.push(Locator::greatest(alloc)?)?;
+fn add_all(rt: &impl Abort, alloc: Global, all: &mut Vec<Locator>) {
+    all.push(Locator::least(alloc).expect(rt, "memory"))
+        .expect(rt, "memory");
+    all.push(Locator::greatest(alloc).expect(rt, "memory"))
+        .expect(rt, "memory");
     for &ends in BETWEEN {
-        if let Some(between) = between_of(alloc, all.as_slice(), ends)? {
-            all.push(between)?;
+        if let Some(between) = between_of(rt, alloc, all.as_slice(), ends) {
+            all.push(between).expect(rt, "memory");
         }
     }
-    Ok(())
 }
 
 // The least locator, the greatest one, and those of the table.
-fn locators(alloc: Global) -> Result<Vec<Locator>, OutOfMemory> {
+fn locators(rt: &impl Abort, alloc: Global) -> Vec<Locator> {
     let mut all = Vec::new(alloc);
-    add_all(alloc, &mut all)?;
-    Ok(all)
+    add_all(rt, alloc, &mut all);
+    all
 }
 
-fn digits_of(alloc: Global, locator: &Locator) -> Result<String, OutOfMemory> {
-    format!(in alloc; "{locator:?}")
+fn digits_of(rt: &impl Abort, alloc: Global, locator: &Locator) -> String {
+    format!(in alloc; "{locator:?}").expect(rt, "memory")
 }
 
-fn add_runs(all: &mut Vec<Run>, runs: &[(u64, u64)]) -> Result<(), OutOfMemory> {
+fn add_runs(rt: &impl Abort, all: &mut Vec<Run>, runs: &[(u64, u64)]) {
     for &(digit, count) in runs {
-        all.push(Run { digit, count })?;
+        all.push(Run { digit, count }).expect(rt, "memory");
     }
-    Ok(())
 }
 
-fn written(alloc: Global, runs: &[(u64, u64)]) -> Result<String, OutOfMemory> {
+fn written(rt: &impl Abort, alloc: Global, runs: &[(u64, u64)]) -> String {
     let mut all = Vec::new(alloc);
-    add_runs(&mut all, runs)?;
-    format!(in alloc; "Locator {{ runs: Inline({all:?}) }}")
+    add_runs(rt, &mut all, runs);
+    format!(in alloc; "Locator {{ runs: Inline({all:?}) }}").expect(rt, "memory")
 }
 
-fn are_written(alloc: Global, digits: &str, runs: &[(u64, u64)]) -> Result<bool, OutOfMemory> {
-    Ok(written(alloc, runs)?.as_str() == digits)
+fn are_written(rt: &impl Abort, alloc: Global, digits: &str, runs: &[(u64, u64)]) -> bool {
+    written(rt, alloc, runs).as_str() == digits
 }
 
-fn has_digits(alloc: Global, locator: &Locator, runs: &[(u64, u64)]) -> Result<bool, OutOfMemory> {
-    are_written(alloc, digits_of(alloc, locator)?.as_str(), runs)
+fn has_digits(rt: &impl Abort, alloc: Global, locator: &Locator, runs: &[(u64, u64)]) -> bool {
+    are_written(rt, alloc, digits_of(rt, alloc, locator).as_str(), runs)
 }
 
-fn is_copied(alloc: Global, locator: &Locator) -> Result<bool, OutOfMemory> {
-    Ok(locator.copy(alloc)? == *locator)
+fn is_copied(rt: &impl Abort, alloc: Global, locator: &Locator) -> bool {
+    locator.copy(alloc).expect(rt, "memory") == *locator
 }
 
 // Whether a locator has these digits, if they are given, and so has its copy.
-fn is_of(
-    alloc: Global,
-    locator: &Locator,
-    want: Option<&[(u64, u64)]>,
-) -> Result<bool, OutOfMemory> {
+fn is_of(rt: &impl Abort, alloc: Global, locator: &Locator, want: Option<&[(u64, u64)]>) -> bool {
     match want {
-        Some(runs) => Ok(has_digits(alloc, locator, runs)? && is_copied(alloc, locator)?),
-        None => is_copied(alloc, locator),
+        Some(runs) => has_digits(rt, alloc, locator, runs) && is_copied(rt, alloc, locator),
+        None => is_copied(rt, alloc, locator),
     }
 }
 
 // The same of the locator of an index.
 fn is_at(
+    rt: &impl Abort,
     alloc: Global,
     all: &[Locator],
     i: usize,
     want: Option<&[(u64, u64)]>,
-) -> Result<bool, OutOfMemory> {
+) -> bool {
     match all.get(i) {
-        Some(locator) => is_of(alloc, locator, want),
-        None => Ok(false),
+        Some(locator) => is_of(rt, alloc, locator, want),
+        None => false,
     }
 }
 
-fn are_of(alloc: Global, all: &[Locator]) -> Result<bool, OutOfMemory> {
+fn are_of(rt: &impl Abort, alloc: Global, all: &[Locator]) -> bool {
     let mut right = all.len() == DIGITS.len();
     for (i, &digits) in DIGITS.iter().enumerate() {
-        right = is_at(alloc, all, i, Some(digits))? && right;
+        right = is_at(rt, alloc, all, i, Some(digits)) && right;
     }
-    Ok(right)
+    right
 }
 
 // Indexes of locators that ascend: [0], [0, 65535], [65535], [65535, 0, 65535], the greatest.
@@ -142,18 +141,17 @@ fn are_ordered(all: &[Locator]) -> bool {
     right
 }
 
-fn are_right(alloc: Global, all: &[Locator]) -> Result<bool, OutOfMemory> {
-    Ok(are_of(alloc, all)? && are_ordered(all))
+fn are_right(rt: &impl Abort, alloc: Global, all: &[Locator]) -> bool {
+    are_of(rt, alloc, all) && are_ordered(all)
 }
 
-fn are_between(alloc: Global) -> Result<bool, OutOfMemory> {
-    are_right(alloc, locators(alloc)?.as_slice())
+fn are_between(rt: &impl Abort, alloc: Global) -> bool {
+    are_right(rt, alloc, locators(rt, alloc).as_slice())
 }
 
 #[test]
-fn gives_the_digits_between_in_their_order(rt: HostRuntime) -> Result<(), OutOfMemory> {
-    assert!(rt; are_between(rt.alloc())?);
-    Ok(())
+fn gives_the_digits_between_in_their_order(rt: HostRuntime) {
+    assert!(rt; are_between(&rt, rt.alloc()));
 }
 
 // Where each further text stands: after the last one put, before it, between the last two, or twice below and once above.
@@ -238,33 +236,34 @@ fn put_between(
 }
 
 fn put_next(
+    rt: &impl Abort,
     alloc: Global,
     all: &mut [Locator],
     ends: (usize, usize),
     is_upper: bool,
-) -> Result<bool, OutOfMemory> {
-    match between_of(alloc, all, ends)? {
-        Some(name) => Ok(put_between(all, ends, is_upper, name)),
-        None => Ok(false),
+) -> bool {
+    match between_of(rt, alloc, all, ends) {
+        Some(name) => put_between(all, ends, is_upper, name),
+        None => false,
     }
 }
 
-fn grows(alloc: Global, all: &mut [Locator], row: &Growth) -> Result<bool, OutOfMemory> {
+fn grows(rt: &impl Abort, alloc: Global, all: &mut [Locator], row: &Growth) -> bool {
     let &(habit, ends, count, want) = row;
     let mut right = true;
     for turn in 1..count.saturating_add(1) {
         let is_upper = turn < count && habit.is_before(turn);
-        right = put_next(alloc, all, ends, is_upper)? && right;
+        right = put_next(rt, alloc, all, ends, is_upper) && right;
     }
-    Ok(is_at(alloc, all, ends.0, want)? && right)
+    is_at(rt, alloc, all, ends.0, want) && right
 }
 
-fn grows_to(alloc: Global, row: &Growth) -> Result<bool, OutOfMemory> {
-    let mut all = locators(alloc)?;
-    grows(alloc, all.as_mut_slice(), row)
+fn grows_to(rt: &impl Abort, alloc: Global, row: &Growth) -> bool {
+    let mut all = locators(rt, alloc);
+    grows(rt, alloc, all.as_mut_slice(), row)
 }
 
 #[test]
-fn grows_as_documented(rt: HostRuntime) -> Result<(), OutOfMemory> {
-    assert_rows(&rt, rt.alloc(), GROWTH, grows_to)
+fn grows_as_documented(rt: HostRuntime) {
+    assert_rows(&rt, rt.alloc(), GROWTH, grows_to);
 }

@@ -4,7 +4,6 @@ use crate::operations::Stamp;
 use crate::steps::Question::{Applied, Past};
 use crate::steps::Step::{Ask, Count, Edit, Undo};
 use lamport_clock::Lamport;
-use sum_tree::OutOfMemory;
 use text_buffer::SinceFault::{OpenVersion, Unseen};
 use text_buffer::TextEdit;
 
@@ -195,10 +194,9 @@ const UNDO_OF_NOTHING: Case = Case {
 const CASES: &[Case] = &[MARKS, NEVER_SHOWN, COUNTED, UNDO_OF_NOTHING];
 
 #[test]
-fn pasts_are_answered(rt: HostRuntime) -> Result<(), OutOfMemory> {
+fn pasts_are_answered(rt: HostRuntime) {
     for case in CASES {
-        let right = count_case(rt.alloc(), case)?;
+        let right = count_case(&rt, rt.alloc(), case);
         assert!(rt; right == case.rows.len(), "{}: row {right}", case.name);
     }
-    Ok(())
 }

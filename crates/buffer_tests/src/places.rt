@@ -4,10 +4,11 @@ use crate::runs::{Run, tree_of};
 use crate::seen_texts::rope_of;
 use crate::trees::keep;
 use anchors::{Anchor, Bias, PlaceFault, anchor_at, compare, resolve};
-use fragments::{Fragment, InsertionIndex, OutOfMemory};
+use fragments::{Fragment, InsertionIndex};
 use rope_chunks::Rope;
 use std::alloc::Global;
 use std::cmp::Ordering;
+use std::process::Abort;
 use sum_tree::SumTree;
 
 // An edit, a number of a byte, and a side: the anchor of these.
@@ -236,65 +237,59 @@ impl Content<'_> {
 }
 
 // Enters a fragment, and what is deleted of it.
-fn enter(
-    alloc: Global,
-    index: &mut InsertionIndex,
-    fragment: &Fragment,
-) -> Result<(), OutOfMemory> {
-    let id = fragment.id.copy(alloc)?;
-    keep(alloc, index, fragment.stamp, fragment.offset, id)?;
+fn enter(rt: &impl Abort, alloc: Global, index: &mut InsertionIndex, fragment: &Fragment) {
+    let id = fragment.id.copy(alloc).expect(rt, "memory");
+    keep(alloc, index, fragment.stamp, fragment.offset, id).expect(rt, "memory");
     for edit in fragment.deletions.as_slice() {
-        index.add_deleted(alloc, *edit, fragment.stamp, fragment.offset, fragment.len)?;
+        index
+            .add_deleted(alloc, *edit, fragment.stamp, fragment.offset, fragment.len)
+            .expect(rt, "memory");
     }
-    Ok(())
 }
 
 /// The index of fragments and of what is deleted of them.
-pub(crate) fn index_of(
-    alloc: Global,
-    tree: &SumTree<Fragment>,
-) -> Result<InsertionIndex, OutOfMemory> {
-    let mut index = InsertionIndex::new(alloc)?;
+pub(crate) fn index_of(rt: &impl Abort, alloc: Global, tree: &SumTree<Fragment>) -> InsertionIndex {
+    let mut index = InsertionIndex::new(alloc).expect(rt, "memory");
     for i in 0..tree.len() {
         if let Some(fragment) = tree.get(i) {
-            enter(alloc, &mut index, fragment)?;
+            enter(rt, alloc, &mut index, fragment);
         }
     }
-    Ok(index)
+    index
 }
 
 fn holds_of(
+    rt: &impl Abort,
     alloc: Global,
     tree: &SumTree<Fragment>,
     index: &InsertionIndex,
     row: &Row,
-) -> Result<bool, OutOfMemory> {
-    let visible = rope_of(alloc, row.visible)?;
-    let hidden = rope_of(alloc, row.hidden)?;
+) -> bool {
+    let visible = rope_of(rt, alloc, row.visible);
+    let hidden = rope_of(rt, alloc, row.hidden);
     let content = Content {
         tree,
         index,
         visible: &visible,
         hidden: &hidden,
     };
-    Ok(content.holds(row))
+    content.holds(row)
 }
 
-fn holds(alloc: Global, row: &Row) -> Result<bool, OutOfMemory> {
-    let tree = tree_of(alloc, row.runs, 1)?;
-    let index = index_of(alloc, &tree)?;
-    holds_of(alloc, &tree, &index, row)
+fn holds(rt: &impl Abort, alloc: Global, row: &Row) -> bool {
+    let tree = tree_of(rt, alloc, row.runs, 1);
+    let index = index_of(rt, alloc, &tree);
+    holds_of(rt, alloc, &tree, &index, row)
 }
 
 #[test]
-fn anchors_keep_to_their_bytes(rt: HostRuntime) -> Result<(), OutOfMemory> {
+fn anchors_keep_to_their_bytes(rt: HostRuntime) {
     for row in ROWS {
         assert!(rt;
-            holds(rt.alloc(), row)?,
+            holds(&rt, rt.alloc(), row),
             "in {} beside {}",
             row.visible,
             row.hidden
         );
     }
-    Ok(())
 }

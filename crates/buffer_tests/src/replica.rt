@@ -4,7 +4,8 @@ use applied_ops::Applied;
 use fragments::Fragment;
 use lamport_clock::is_same;
 use std::alloc::Global;
-use sum_tree::{OutOfMemory, SumTree};
+use std::process::Abort;
+use sum_tree::SumTree;
 use text_buffer::Buffer;
 
 /// A buffer and the cells of its history.
@@ -21,12 +22,12 @@ impl Replica {
     }
 
     /// Adds to the cells what was applied since the last call. Returns whether text and fragments are those of the cells then.
-    pub(crate) fn agrees(&mut self, alloc: Global) -> Result<bool, OutOfMemory> {
+    pub(crate) fn agrees(&mut self, rt: &impl Abort, alloc: Global) -> bool {
         if is_long(self.buffer.fragments()) {
-            return Ok(true);
+            return true;
         }
-        apply_new(alloc, &mut self.cells, self.buffer.applied())?;
-        agree(alloc, &self.buffer, &self.cells)
+        apply_new(rt, alloc, &mut self.cells, self.buffer.applied());
+        agree(rt, alloc, &self.buffer, &self.cells)
     }
 }
 
@@ -36,23 +37,18 @@ fn is_long(fragments: &SumTree<Fragment>) -> bool {
     sum.visible.saturating_add(sum.hidden) > 1_000
 }
 
-fn apply_new(
-    alloc: Global,
-    cells: &mut Cells,
-    applied: &SumTree<Applied>,
-) -> Result<(), OutOfMemory> {
+fn apply_new(rt: &impl Abort, alloc: Global, cells: &mut Cells, applied: &SumTree<Applied>) {
     for i in cells.operations()..applied.len() {
         if let Some(applied) = applied.get(i) {
-            cells.apply(alloc, applied.op())?;
+            cells.apply(rt, alloc, applied.op());
         }
     }
-    Ok(())
 }
 
-fn agree(alloc: Global, buffer: &Buffer, cells: &Cells) -> Result<bool, OutOfMemory> {
-    let shown = cells.text(alloc)?;
-    let same = buffer.text()?.as_bytes() == shown.as_slice();
-    Ok(same && are_of(buffer.fragments(), cells))
+fn agree(rt: &impl Abort, alloc: Global, buffer: &Buffer, cells: &Cells) -> bool {
+    let shown = cells.text(rt, alloc);
+    let same = buffer.text().expect(rt, "memory").as_bytes() == shown.as_slice();
+    same && are_of(buffer.fragments(), cells)
 }
 
 // Whether fragments are of these cells, cell by cell.

@@ -4,6 +4,7 @@ use op_model::{EditFault, Piece, text_total};
 use rope_chunks::Rope;
 use rope_edits::{piece_fault, replace_ranges};
 use std::alloc::Global;
+use std::process::Abort;
 use sum_tree::OutOfMemory;
 
 // Changes of a text, and their fault, or the text with them.
@@ -64,22 +65,21 @@ fn text_with(alloc: Global, text: &str, changes: &[Piece]) -> Result<String, Edi
 }
 
 // Whether a case comes to its answer.
-fn is_changed(alloc: Global, case: &Changed) -> Result<bool, OutOfMemory> {
-    let changes = pieces(alloc, case.changes)?;
-    Ok(match text_with(alloc, case.text, changes.as_slice()) {
+fn is_changed(rt: &impl Abort, alloc: Global, case: &Changed) -> bool {
+    let changes = pieces(alloc, case.changes).expect(rt, "memory");
+    match text_with(alloc, case.text, changes.as_slice()) {
         Ok(text) => case.answer == Ok(text.as_str()),
         Err(fault) => case.answer == Err(fault),
-    })
+    }
 }
 
 #[test]
-fn ranges_are_replaced_or_refused(rt: HostRuntime) -> Result<(), OutOfMemory> {
+fn ranges_are_replaced_or_refused(rt: HostRuntime) {
     for case in CHANGED {
         assert!(rt;
-            is_changed(rt.alloc(), case)?,
+            is_changed(&rt, rt.alloc(), case),
             "where {:?} is wanted",
             case.answer
         );
     }
-    Ok(())
 }

@@ -2,7 +2,7 @@
 use crate::operations::{Parts, Stamp, operation};
 use op_model::{Endings, OpFault, Operation, ShapeFault, lf, lf_len, rule_fault, shape};
 use std::alloc::Global;
-use sum_tree::OutOfMemory;
+use std::process::Abort;
 
 // A stamp, what it has seen, the parts, and what `shape` answers.
 type Row = (Stamp, &'static [Stamp], Parts, Result<(), ShapeFault>);
@@ -88,20 +88,20 @@ const ROWS: &[Row] = &[
     ),
 ];
 
-fn operation_of(alloc: Global, row: &Row) -> Result<Operation, OutOfMemory> {
-    operation(alloc, row.0, row.1, row.2)
+fn operation_of(rt: &impl Abort, alloc: Global, row: &Row) -> Operation {
+    operation(alloc, row.0, row.1, row.2).expect(rt, "memory")
 }
 
-fn is_shaped(alloc: Global, row: &Row) -> Result<bool, OutOfMemory> {
-    Ok(shape(&operation_of(alloc, row)?) == row.3)
+fn is_shaped(rt: &impl Abort, alloc: Global, row: &Row) -> bool {
+    shape(&operation_of(rt, alloc, row)) == row.3
 }
 
-fn operations(alloc: Global) -> Result<Vec<Operation>, OutOfMemory> {
+fn operations(rt: &impl Abort, alloc: Global) -> Vec<Operation> {
     let mut all = Vec::new(alloc);
     for row in ROWS {
-        all.push(operation_of(alloc, row)?)?;
+        all.push(operation_of(rt, alloc, row)).expect(rt, "memory");
     }
-    Ok(all)
+    all
 }
 
 // Whether an operation is the same as that of this index alone.
@@ -114,31 +114,40 @@ fn is_same_alone(all: &[Operation], op: &Operation, at: usize) -> bool {
 }
 
 // A copy of a copy that is shared.
-fn shared_copy(alloc: Global, op: &Operation) -> Result<Operation, OutOfMemory> {
-    op.copy(alloc)?.into_shared(alloc)?.copy(alloc)
+fn shared_copy(rt: &impl Abort, alloc: Global, op: &Operation) -> Operation {
+    op.copy(alloc)
+        .expect(rt, "memory")
+        .into_shared(alloc)
+        .expect(rt, "memory")
+        .copy(alloc)
+        .expect(rt, "memory")
 }
 
 // How many operations are the same as their copies, and as no others.
-fn count_copies(alloc: Global, all: &[Operation]) -> Result<usize, OutOfMemory> {
+fn count_copies(rt: &impl Abort, alloc: Global, all: &[Operation]) -> usize {
     for (i, op) in all.iter().enumerate() {
-        if !is_same_alone(all, &op.copy(alloc)?, i)
-            || !is_same_alone(all, &shared_copy(alloc, op)?, i)
+        if !is_same_alone(all, &op.copy(alloc).expect(rt, "memory"), i)
+            || !is_same_alone(all, &shared_copy(rt, alloc, op), i)
         {
-            return Ok(i);
+            return i;
         }
     }
-    Ok(all.len())
+    all.len()
 }
 
 #[test]
-fn operations_have_shapes_and_copies(rt: HostRuntime) -> Result<(), OutOfMemory> {
+fn operations_have_shapes_and_copies(rt: HostRuntime) {
     for row in ROWS {
-        assert!(rt; is_shaped(rt.alloc(), row)?, "{:?} for {:?}", row.3, row.0);
+        assert!(rt;
+            is_shaped(&rt, rt.alloc(), row),
+            "{:?} for {:?}",
+            row.3,
+            row.0
+        );
     }
-    let all = operations(rt.alloc())?;
-    let right = count_copies(rt.alloc(), all.as_slice())?;
+    let all = operations(&rt, rt.alloc());
+    let right = count_copies(&rt, rt.alloc(), all.as_slice());
     assert!(rt; right == all.len(), "row {right}");
-    Ok(())
 }
 
 // A text, and the text with each CR LF, and each other CR, as one LF.
@@ -168,24 +177,23 @@ const RULES: &[(Parts, Option<OpFault>)] = &[
     ),
 ];
 
-fn is_lf(alloc: Global, text: &str, want: &str) -> Result<bool, OutOfMemory> {
-    let made = lf(alloc, text)?;
-    Ok(made.as_str() == want && lf_len(text) == want.len())
+fn is_lf(rt: &impl Abort, alloc: Global, text: &str, want: &str) -> bool {
+    let made = lf(alloc, text).expect(rt, "memory");
+    made.as_str() == want && lf_len(text) == want.len()
 }
 
 // Whether the rule `Lf` finds this fault, and the rule `AsIs` none.
-fn is_ruled(alloc: Global, parts: Parts, want: Option<OpFault>) -> Result<bool, OutOfMemory> {
-    let op = operation(alloc, (9, 4), BASE, parts)?;
-    Ok(rule_fault(Endings::Lf, &op) == want && rule_fault(Endings::AsIs, &op).is_none())
+fn is_ruled(rt: &impl Abort, alloc: Global, parts: Parts, want: Option<OpFault>) -> bool {
+    let op = operation(alloc, (9, 4), BASE, parts).expect(rt, "memory");
+    rule_fault(Endings::Lf, &op) == want && rule_fault(Endings::AsIs, &op).is_none()
 }
 
 #[test]
-fn texts_end_rows_with_lf(rt: HostRuntime) -> Result<(), OutOfMemory> {
+fn texts_end_rows_with_lf(rt: HostRuntime) {
     for &(text, want) in TEXTS {
-        assert!(rt; is_lf(rt.alloc(), text, want)?, "{text:?}");
+        assert!(rt; is_lf(&rt, rt.alloc(), text, want), "{text:?}");
     }
     for &(parts, want) in RULES {
-        assert!(rt; is_ruled(rt.alloc(), parts, want)?, "{want:?}");
+        assert!(rt; is_ruled(&rt, rt.alloc(), parts, want), "{want:?}");
     }
-    Ok(())
 }

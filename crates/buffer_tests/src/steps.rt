@@ -7,6 +7,7 @@ use op_model::Operation;
 use rope_chunks::Rope;
 use std::alloc::Global;
 use std::cmp::Ordering;
+use std::process::Abort;
 use sum_tree::OutOfMemory;
 use text_buffer::{
     Anchor, Bias, Buffer, EditFault, OpFault, PlaceFault, Refused, SinceFault, Snapshot, TextEdit,
@@ -206,50 +207,53 @@ pub(crate) fn comes(alloc: Global, buffer: &mut Buffer, step: Step) -> Result<bo
     }
 }
 
-fn is_text(alloc: Global, rope: &Rope, text: &str) -> Result<bool, OutOfMemory> {
-    Ok(rope.to_string(alloc)?.as_str() == text)
+fn is_text(rt: &impl Abort, alloc: Global, rope: &Rope, text: &str) -> bool {
+    rope.to_string(alloc).expect(rt, "memory").as_str() == text
 }
 
-fn shows(alloc: Global, snapshot: &Snapshot, text: &str) -> Result<bool, OutOfMemory> {
-    is_text(alloc, snapshot.text(), text)
+fn shows(rt: &impl Abort, alloc: Global, snapshot: &Snapshot, text: &str) -> bool {
+    is_text(rt, alloc, snapshot.text(), text)
 }
 
 // Whether a step comes out as it should, and leaves the text of its row, and text and fragments are those of the cells.
-fn holds(alloc: Global, replica: &mut Replica, row: &Row) -> Result<bool, OutOfMemory> {
-    let right = comes(alloc, &mut replica.buffer, row.0)?;
-    let agrees = replica.agrees(alloc)?;
-    Ok(replica.buffer.text()?.as_str() == row.1 && right && agrees)
+fn holds(rt: &impl Abort, alloc: Global, replica: &mut Replica, row: &Row) -> bool {
+    let right = comes(alloc, &mut replica.buffer, row.0).expect(rt, "memory");
+    let agrees = replica.agrees(rt, alloc);
+    replica.buffer.text().expect(rt, "memory").as_str() == row.1 && right && agrees
 }
 
 // A snapshot after each row, up to the first that comes out wrong.
 fn keep_snapshots(
+    rt: &impl Abort,
     alloc: Global,
     replica: &mut Replica,
     rows: &[Row],
     snapshots: &mut Vec<Snapshot>,
-) -> Result<(), OutOfMemory> {
+) {
     for row in rows {
-        if !holds(alloc, replica, row)? {
-            return Ok(());
+        if !holds(rt, alloc, replica, row) {
+            return;
         }
-        snapshots.push(replica.buffer.snapshot()?)?;
+        snapshots
+            .push(replica.buffer.snapshot().expect(rt, "memory"))
+            .expect(rt, "memory");
     }
-    Ok(())
 }
 
 fn kept_snapshots(
+    rt: &impl Abort,
     alloc: Global,
     replica: &mut Replica,
     rows: &[Row],
-) -> Result<Vec<Snapshot>, OutOfMemory> {
+) -> Vec<Snapshot> {
     let mut snapshots = Vec::new(alloc);
-    keep_snapshots(alloc, replica, rows, &mut snapshots)?;
-    Ok(snapshots)
+    keep_snapshots(rt, alloc, replica, rows, &mut snapshots);
+    snapshots
 }
 
-fn play(alloc: Global, buffer: Buffer, rows: &[Row]) -> Result<Vec<Snapshot>, OutOfMemory> {
+fn play(rt: &impl Abort, alloc: Global, buffer: Buffer, rows: &[Row]) -> Vec<Snapshot> {
     let mut replica = Replica::new(alloc, buffer);
-    kept_snapshots(alloc, &mut replica, rows)
+    kept_snapshots(rt, alloc, &mut replica, rows)
 }
 
 // Calls what is for proofs. It does nothing when it runs.
@@ -262,31 +266,29 @@ fn call_laws(snapshot: &Snapshot) {
 }
 
 // Whether a snapshot is what it was after its row.
-fn stays(alloc: Global, snapshot: &Snapshot, row: &Row) -> Result<bool, OutOfMemory> {
+fn stays(rt: &impl Abort, alloc: Global, snapshot: &Snapshot, row: &Row) -> bool {
     call_laws(snapshot);
-    let shown = shows(alloc, snapshot, row.1)?;
+    let shown = shows(rt, alloc, snapshot, row.1);
     match row.0 {
-        Step::Ask(question) => Ok(answers(alloc, snapshot, question)? && shown),
-        _ => Ok(shown),
+        Step::Ask(question) => answers(alloc, snapshot, question).expect(rt, "memory") && shown,
+        _ => shown,
     }
 }
 
 // How many snapshots are what they were after their rows, before the first that is not, and so are shares of them.
-fn count_stays(alloc: Global, snapshots: &[Snapshot], rows: &[Row]) -> Result<usize, OutOfMemory> {
+fn count_stays(rt: &impl Abort, alloc: Global, snapshots: &[Snapshot], rows: &[Row]) -> usize {
     for (i, (snapshot, row)) in snapshots.iter().zip(rows.iter()).enumerate() {
-        if !stays(alloc, snapshot, row)? || !stays(alloc, &snapshot.share()?, row)? {
-            return Ok(i);
+        if !stays(rt, alloc, snapshot, row)
+            || !stays(rt, alloc, &snapshot.share().expect(rt, "memory"), row)
+        {
+            return i;
         }
     }
-    Ok(snapshots.len())
+    snapshots.len()
 }
 
 /// How many rows come out as they should in a buffer before the first that does not, with snapshots that stay as they were once
 /// the buffer is gone.
-pub(crate) fn count_right(
-    alloc: Global,
-    buffer: Buffer,
-    rows: &[Row],
-) -> Result<usize, OutOfMemory> {
-    count_stays(alloc, play(alloc, buffer, rows)?.as_slice(), rows)
+pub(crate) fn count_right(rt: &impl Abort, alloc: Global, buffer: Buffer, rows: &[Row]) -> usize {
+    count_stays(rt, alloc, play(rt, alloc, buffer, rows).as_slice(), rows)
 }

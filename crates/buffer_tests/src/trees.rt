@@ -7,6 +7,7 @@ use fragments::{
 use lamport_clock::{Lamport, Version};
 use locators::Locator;
 use std::alloc::Global;
+use std::process::Abort;
 use sum_tree::{Item, SumTree};
 use tree_cursor::{Bias, Cursor, look_up};
 
@@ -18,20 +19,25 @@ const ROWS: &[Run] = &[
 ];
 
 // Id number `n`, counted from 0: each lies between the one before it and the greatest.
-fn id(alloc: Global, n: u64) -> Result<Locator, OutOfMemory> {
-    let greatest = Locator::greatest(alloc)?;
-    let mut id = Locator::between(alloc, &Locator::least(alloc)?, &greatest)?;
+fn id(rt: &impl Abort, alloc: Global, n: u64) -> Locator {
+    let greatest = Locator::greatest(alloc).expect(rt, "memory");
+    let mut id = Locator::between(
+        alloc,
+        &Locator::least(alloc).expect(rt, "memory"),
+        &greatest,
+    )
+    .expect(rt, "memory");
     for _i in 0..n {
-        id = Locator::between(alloc, &id, &greatest)?;
+        id = Locator::between(alloc, &id, &greatest).expect(rt, "memory");
     }
-    Ok(id)
+    id
 }
 
 // Whether this is the id of that number, or there is neither.
-fn is_id(alloc: Global, found: Option<&Locator>, n: Option<u64>) -> Result<bool, OutOfMemory> {
+fn is_id(rt: &impl Abort, alloc: Global, found: Option<&Locator>, n: Option<u64>) -> bool {
     match (found, n) {
-        (Some(found), Some(n)) => Ok(id(alloc, n)?.cmp(found).is_eq()),
-        (found, n) => Ok(found.is_none() && n.is_none()),
+        (Some(found), Some(n)) => id(rt, alloc, n).cmp(found).is_eq(),
+        (found, n) => found.is_none() && n.is_none(),
     }
 }
 
@@ -51,16 +57,16 @@ const SPANS: &[Span] = &[
 const SEEN: &[(u16, u32)] = &[(1, 6), (2, 3), (3, 7)];
 
 // Whether a sum is that of the rows.
-fn is_of_rows(alloc: Global, sum: &FragmentSummary) -> Result<bool, OutOfMemory> {
+fn is_of_rows(rt: &impl Abort, alloc: Global, sum: &FragmentSummary) -> bool {
     let right = (sum.visible, sum.hidden) == (8, 2)
         && sum.span.as_slice() == SPANS
         && sum.greatest.as_slice() == SEEN;
-    Ok(is_id(alloc, sum.last_id.as_ref(), Some(3))? && right)
+    is_id(rt, alloc, sum.last_id.as_ref(), Some(3)) && right
 }
 
-fn are_summed(alloc: Global) -> Result<bool, OutOfMemory> {
-    let tree = tree_of(alloc, ROWS, 1)?;
-    is_of_rows(alloc, tree.summary())
+fn are_summed(rt: &impl Abort, alloc: Global) -> bool {
+    let tree = tree_of(rt, alloc, ROWS, 1);
+    is_of_rows(rt, alloc, tree.summary())
 }
 
 // What a seek counts: all bytes, those shown, or those that a version sees which has seen 2.1.
@@ -131,9 +137,9 @@ fn wrong_row(tree: &SumTree<Fragment>, version: &Version, rows: &[Sought]) -> Op
 }
 
 // The first row that is not found in the tree of the rows that many times over.
-fn wrong_row_of(alloc: Global, times: u64, rows: &[Sought]) -> Result<Option<usize>, OutOfMemory> {
-    let tree = tree_of(alloc, ROWS, times)?;
-    Ok(wrong_row(&tree, &version(alloc, &[(2, 1)])?, rows))
+fn wrong_row_of(rt: &impl Abort, alloc: Global, times: u64, rows: &[Sought]) -> Option<usize> {
+    let tree = tree_of(rt, alloc, ROWS, times);
+    wrong_row(&tree, &version(alloc, &[(2, 1)]).expect(rt, "memory"), rows)
 }
 
 // A number of an id, a side, and the fragment that a seek by the id finds.
@@ -148,56 +154,57 @@ fn spot_id(tree: &SumTree<Fragment>, id: &Locator, bias: Bias) -> Name {
     name(item)
 }
 
-fn ids_find(alloc: Global, tree: &SumTree<Fragment>) -> Result<bool, OutOfMemory> {
+fn ids_find(rt: &impl Abort, alloc: Global, tree: &SumTree<Fragment>) -> bool {
     let mut right = true;
     for &(n, bias, want) in IDS {
-        right = spot_id(tree, &id(alloc, n)?, bias) == want && right;
+        right = spot_id(tree, &id(rt, alloc, n), bias) == want && right;
     }
-    Ok(right)
+    right
 }
 
-fn ids_are_places(alloc: Global) -> Result<bool, OutOfMemory> {
-    let tree = tree_of(alloc, ROWS, 1)?;
-    ids_find(alloc, &tree)
+fn ids_are_places(rt: &impl Abort, alloc: Global) -> bool {
+    let tree = tree_of(rt, alloc, ROWS, 1);
+    ids_find(rt, alloc, &tree)
 }
 
 // Numbers of cells, each with the index of the fragment that a seek of that many finds.
 const INDEXES: &[(u64, u64)] = &[(0, 0), (3, 1), (5, 2), (10, 4), (999, 399), (1_000, 400)];
 
 // The index of the fragment that a seek finds, by a cursor.
-fn index_of(tree: &SumTree<Fragment>, bytes: u64) -> Result<u64, OutOfMemory> {
+fn index_of(rt: &impl Abort, tree: &SumTree<Fragment>, bytes: u64) -> u64 {
     tree.known();
-    let mut cursor = Cursor::new(tree, Full { bytes: 0 })?;
-    cursor.seek(&Full { bytes }, Bias::Right)?;
-    Ok(cursor.index())
+    let mut cursor = Cursor::new(tree, Full { bytes: 0 }).expect(rt, "memory");
+    cursor
+        .seek(&Full { bytes }, Bias::Right)
+        .expect(rt, "memory");
+    cursor.index()
 }
 
-fn has_indexes(tree: &SumTree<Fragment>) -> Result<bool, OutOfMemory> {
+fn has_indexes(rt: &impl Abort, tree: &SumTree<Fragment>) -> bool {
     let mut right = true;
     for &(bytes, want) in INDEXES {
-        right = index_of(tree, bytes)? == want && right;
+        right = index_of(rt, tree, bytes) == want && right;
     }
-    Ok(right)
+    right
 }
 
-fn cursors_have_indexes(alloc: Global) -> Result<bool, OutOfMemory> {
-    let tree = tree_of(alloc, ROWS, 100)?;
-    has_indexes(&tree)
+fn cursors_have_indexes(rt: &impl Abort, alloc: Global) -> bool {
+    let tree = tree_of(rt, alloc, ROWS, 100);
+    has_indexes(rt, &tree)
 }
 
 // The seeks among the rows, that many times over.
 const SEEKS: &[(u64, &[Sought])] = &[(1, SOUGHT), (100, SOUGHT_IN_MANY)];
 
 #[test]
-fn fragments_are_summed_and_found(rt: HostRuntime) -> Result<(), OutOfMemory> {
-    assert!(rt; are_summed(rt.alloc())?);
-    assert!(rt; ids_are_places(rt.alloc())?);
-    assert!(rt; cursors_have_indexes(rt.alloc())?);
+fn fragments_are_summed_and_found(rt: HostRuntime) {
+    assert!(rt; are_summed(&rt, rt.alloc()));
+    assert!(rt; ids_are_places(&rt, rt.alloc()));
+    assert!(rt; cursors_have_indexes(&rt, rt.alloc()));
     for &(times, rows) in SEEKS {
-        let wrong = wrong_row_of(rt.alloc(), times, rows)?;
+        let wrong = wrong_row_of(&rt, rt.alloc(), times, rows);
         assert!(rt; wrong.is_none(), "row {wrong:?}, {times} times");
     }
-    Ok(())
 }
 
 /// Keeps an id where there are few.
@@ -241,58 +248,54 @@ const FOUND: &[Found] = &[
     ((5, 2), 0, None),
 ];
 
-fn finds(alloc: Global, index: &InsertionIndex, rows: &[Found]) -> Result<bool, OutOfMemory> {
+fn finds(rt: &impl Abort, alloc: Global, index: &InsertionIndex, rows: &[Found]) -> bool {
     let mut right = true;
     for &(at, offset, n) in rows {
-        right = is_id(alloc, index.find(stamp(at), offset), n)? && right;
+        right = is_id(rt, alloc, index.find(stamp(at), offset), n) && right;
     }
-    Ok(right)
+    right
 }
 
 // Whether an index finds another id once one of its entries changes, and a share of it the old one.
-fn finds_what_changes(alloc: Global, index: &mut InsertionIndex) -> Result<bool, OutOfMemory> {
-    let old = index.share()?;
-    keep(alloc, index, stamp((2, 1)), 3, id(alloc, 7)?)?;
+fn finds_what_changes(rt: &impl Abort, alloc: Global, index: &mut InsertionIndex) -> bool {
+    let old = index.share().expect(rt, "memory");
+    keep(alloc, index, stamp((2, 1)), 3, id(rt, alloc, 7)).expect(rt, "memory");
     let lengths = (index.len(), old.len()) == (5, 5);
-    Ok(finds(alloc, &old, &[((2, 1), 8, Some(1))])? && lengths)
+    finds(rt, alloc, &old, &[((2, 1), 8, Some(1))]) && lengths
 }
 
-fn fill(alloc: Global, index: &mut InsertionIndex) -> Result<(), OutOfMemory> {
+fn fill(rt: &impl Abort, alloc: Global, index: &mut InsertionIndex) {
     for &(at, offset, n) in ADDED {
-        keep(alloc, index, stamp(at), offset, id(alloc, n)?)?;
+        keep(alloc, index, stamp(at), offset, id(rt, alloc, n)).expect(rt, "memory");
     }
-    Ok(())
 }
 
-fn finds_the_added(alloc: Global) -> Result<bool, OutOfMemory> {
-    let mut index = InsertionIndex::new(alloc)?;
-    fill(alloc, &mut index)?;
-    let before = finds(alloc, &index, FOUND)?;
-    let kept = finds_what_changes(alloc, &mut index)?;
-    Ok(finds(alloc, &index, &[((2, 1), 8, Some(7))])? && before && kept)
+fn finds_the_added(rt: &impl Abort, alloc: Global) -> bool {
+    let mut index = InsertionIndex::new(alloc).expect(rt, "memory");
+    fill(rt, alloc, &mut index);
+    let before = finds(rt, alloc, &index, FOUND);
+    let kept = finds_what_changes(rt, alloc, &mut index);
+    finds(rt, alloc, &index, &[((2, 1), 8, Some(7))]) && before && kept
 }
 
 // Whether a copy has the same id, deletions and undos.
-fn is_copied(alloc: Global, fragment: &Fragment) -> Result<bool, OutOfMemory> {
-    let copy = fragment.copy(alloc)?;
-    Ok(
-        copy.id.cmp(&fragment.id).is_eq()
-            && copy.deletions.as_slice() == fragment.deletions.as_slice()
-            && copy.max_undos.as_slice() == fragment.max_undos.as_slice(),
-    )
+fn is_copied(rt: &impl Abort, alloc: Global, fragment: &Fragment) -> bool {
+    let copy = fragment.copy(alloc).expect(rt, "memory");
+    copy.id.cmp(&fragment.id).is_eq()
+        && copy.deletions.as_slice() == fragment.deletions.as_slice()
+        && copy.max_undos.as_slice() == fragment.max_undos.as_slice()
 }
 
-fn are_copied(alloc: Global) -> Result<bool, OutOfMemory> {
+fn are_copied(rt: &impl Abort, alloc: Global) -> bool {
     let mut right = true;
     for run in ROWS {
-        right = is_copied(alloc, &fragment(alloc, id(alloc, 0)?, run)?)? && right;
+        right = is_copied(rt, alloc, &fragment(rt, alloc, id(rt, alloc, 0), run)) && right;
     }
-    Ok(right)
+    right
 }
 
 #[test]
-fn an_index_finds_the_fragment_of_a_cell(rt: HostRuntime) -> Result<(), OutOfMemory> {
-    assert!(rt; finds_the_added(rt.alloc())?);
-    assert!(rt; are_copied(rt.alloc())?);
-    Ok(())
+fn an_index_finds_the_fragment_of_a_cell(rt: HostRuntime) {
+    assert!(rt; finds_the_added(&rt, rt.alloc()));
+    assert!(rt; are_copied(&rt, rt.alloc()));
 }

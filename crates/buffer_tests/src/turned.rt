@@ -8,7 +8,8 @@ use applied_ops::Applied;
 use lamport_clock::{Lamport, Version};
 use op_model::{Operation, Piece, UndoCount};
 use std::alloc::Global;
-use sum_tree::{OutOfMemory, SumTree};
+use std::process::Abort;
+use sum_tree::SumTree;
 use text_buffer::{Buffer, OpFault, Took};
 
 // Some 50 operations are drawn of each.
@@ -44,32 +45,30 @@ fn turned_stamp(t: Lamport, x: u64) -> Lamport {
 }
 
 // The version, or the one with one entry turned.
-fn turned_version(
-    alloc: Global,
-    version: &Version,
-    x: Option<u64>,
-) -> Result<Version, OutOfMemory> {
+fn turned_version(rt: &impl Abort, alloc: Global, version: &Version, x: Option<u64>) -> Version {
     let Some(x) = x else {
-        return version.copy(alloc);
+        return version.copy(alloc).expect(rt, "memory");
     };
     let at = x % version.len().max(1);
     let mut entries = Vec::new(alloc);
     for (i, &(replica, value)) in version.as_slice().iter().enumerate() {
         let is_turned = i as u64 == at;
-        entries.push((
-            replica,
-            if is_turned {
-                beside(value, x >> 8)
-            } else {
-                value
-            },
-        ))?;
+        entries
+            .push((
+                replica,
+                if is_turned {
+                    beside(value, x >> 8)
+                } else {
+                    value
+                },
+            ))
+            .expect(rt, "memory");
     }
-    Version::from_entries(alloc, entries.as_slice())
+    Version::from_entries(alloc, entries.as_slice()).expect(rt, "memory")
 }
 
 // The piece, or the one with its text or its range turned.
-fn turned_piece(alloc: Global, whole: &Piece, x: Option<u64>) -> Result<Piece, OutOfMemory> {
+fn turned_piece(rt: &impl Abort, alloc: Global, whole: &Piece, x: Option<u64>) -> Piece {
     let text = whole.text.as_str();
     let (start, end, text) = match x {
         None => (whole.start, whole.end, text),
@@ -80,65 +79,59 @@ fn turned_piece(alloc: Global, whole: &Piece, x: Option<u64>) -> Result<Piece, O
             _ => (whole.start, whole.end.wrapping_sub(1), text),
         },
     };
-    piece(alloc, start, end, text)
+    piece(alloc, start, end, text).expect(rt, "memory")
 }
 
-fn turned_pieces(
-    alloc: Global,
-    pieces: &[Piece],
-    x: Option<u64>,
-) -> Result<Vec<Piece>, OutOfMemory> {
+fn turned_pieces(rt: &impl Abort, alloc: Global, pieces: &[Piece], x: Option<u64>) -> Vec<Piece> {
     let mut turned = Vec::new(alloc);
     for piece in pieces {
-        turned.push(turned_piece(alloc, piece, x)?)?;
+        turned
+            .push(turned_piece(rt, alloc, piece, x))
+            .expect(rt, "memory");
     }
-    Ok(turned)
+    turned
 }
 
 fn turned_counts(
+    rt: &impl Abort,
     alloc: Global,
     counts: &[UndoCount],
     x: Option<u64>,
-) -> Result<Vec<UndoCount>, OutOfMemory> {
+) -> Vec<UndoCount> {
     let mut turned = Vec::new(alloc);
     for &UndoCount { edit, count } in counts {
         let count = match x {
             Some(x) => beside(count, x),
             None => count,
         };
-        turned.push(UndoCount { edit, count })?;
+        turned.push(UndoCount { edit, count }).expect(rt, "memory");
     }
-    Ok(turned)
+    turned
 }
 
 // The operation of this stamp and version, with its parts or these turned.
 fn with_parts(
+    rt: &impl Abort,
     alloc: Global,
     op: &Operation,
     stamp: Lamport,
     version: Version,
     x: Option<u64>,
-) -> Result<Operation, OutOfMemory> {
+) -> Operation {
     match op {
         Operation::Edit(edit) => {
-            edit_of(
-                stamp,
-                version,
-                turned_pieces(alloc, edit.pieces.as_slice(), x),
-            )
+            let pieces = turned_pieces(rt, alloc, edit.pieces.as_slice(), x);
+            edit_of(stamp, version, Ok(pieces)).expect(rt, "memory")
         }
         Operation::Undo(undo) => {
-            undo_of(
-                stamp,
-                version,
-                turned_counts(alloc, undo.counts.as_slice(), x),
-            )
+            let counts = turned_counts(rt, alloc, undo.counts.as_slice(), x);
+            undo_of(stamp, version, Ok(counts)).expect(rt, "memory")
         }
     }
 }
 
 // The operation with a part turned: its stamp, an entry of its version, or its pieces or counts.
-fn turned(alloc: Global, op: &Operation, x: u64) -> Result<Operation, OutOfMemory> {
+fn turned(rt: &impl Abort, alloc: Global, op: &Operation, x: u64) -> Operation {
     let (seen, parts) = match (x >> 40) % 8 {
         0 => (None, None),
         1 => (Some(x >> 20), None),
@@ -149,30 +142,31 @@ fn turned(alloc: Global, op: &Operation, x: u64) -> Result<Operation, OutOfMemor
     } else {
         op.stamp()
     };
-    let version = turned_version(alloc, op.version(), seen)?;
-    with_parts(alloc, op, stamp, version, parts)
+    let version = turned_version(rt, alloc, op.version(), seen);
+    with_parts(rt, alloc, op, stamp, version, parts)
 }
 
 // Adds of each operation the turned one and the one as it was made, of which either may come first.
 fn push_turned(
+    rt: &impl Abort,
     alloc: Global,
     all: &mut Vec<Operation>,
     ops: &[Operation],
     seed: u64,
-) -> Result<(), OutOfMemory> {
+) {
     let mut x = seed;
     for op in ops {
         x = next(x);
         let is_last = x >> 63 == 1;
         if !is_last {
-            all.push(turned(alloc, op, x)?)?;
+            all.push(turned(rt, alloc, op, x)).expect(rt, "memory");
         }
-        all.push(op.copy(alloc)?)?;
+        all.push(op.copy(alloc).expect(rt, "memory"))
+            .expect(rt, "memory");
         if is_last {
-            all.push(turned(alloc, op, x)?)?;
+            all.push(turned(rt, alloc, op, x)).expect(rt, "memory");
         }
     }
-    Ok(())
 }
 
 // Whether an operation is applied, or begins to wait.
@@ -182,34 +176,36 @@ fn changes(buffer: &mut Buffer, op: Operation) -> bool {
 
 // Whether any of these changes the buffer, which takes them from the first to the last, or from the last to the first.
 fn any_changes(
+    rt: &impl Abort,
     alloc: Global,
     buffer: &mut Buffer,
     ops: &[Operation],
     is_back: bool,
-) -> Result<bool, OutOfMemory> {
+) -> bool {
     let mut any = false;
     for i in 0..ops.len() {
         let last = ops.len().saturating_sub(i).saturating_sub(1);
         if let Some(op) = ops.get(if is_back { last } else { i }) {
-            any = changes(buffer, op.copy(alloc)?) || any;
+            any = changes(buffer, op.copy(alloc).expect(rt, "memory")) || any;
         }
     }
-    Ok(any)
+    any
 }
 
 // Whether after some rounds each operation is applied, waits or is refused, for good.
 fn comes_to_rest(
+    rt: &impl Abort,
     alloc: Global,
     buffer: &mut Buffer,
     ops: &[Operation],
     is_back: bool,
-) -> Result<bool, OutOfMemory> {
+) -> bool {
     for _ in 0..ROUNDS {
-        if !any_changes(alloc, buffer, ops, is_back)? {
-            return Ok(true);
+        if !any_changes(rt, alloc, buffer, ops, is_back) {
+            return true;
         }
     }
-    Ok(false)
+    false
 }
 
 fn has(applied: &SumTree<Applied>, op: &Operation) -> bool {
@@ -247,67 +243,77 @@ fn is_late(buffer: &mut Buffer, op: Operation) -> bool {
 }
 
 // Whether both buffers have applied an operation or neither has, unless another one with its stamp or before it came first.
-fn ends_alike(alloc: Global, pair: &mut Pair, op: &Operation) -> Result<bool, OutOfMemory> {
+fn ends_alike(rt: &impl Abort, alloc: Global, pair: &mut Pair, op: &Operation) -> bool {
     let (a, b) = (&mut pair.buffer, &mut pair.twin);
     if has(a.applied(), op) == has(b.applied(), op) || !see_alike(a, b, op.version()) {
-        return Ok(true);
+        return true;
     }
-    Ok(is_late(a, op.copy(alloc)?) || is_late(b, op.copy(alloc)?))
+    is_late(a, op.copy(alloc).expect(rt, "memory"))
+        || is_late(b, op.copy(alloc).expect(rt, "memory"))
 }
 
 // Whether two buffers have applied the same operations, in whatever order, show one text and place anchors alike.
-fn agree(a: &Buffer, b: &Buffer) -> Result<bool, OutOfMemory> {
+fn agree(rt: &impl Abort, a: &Buffer, b: &Buffer) -> bool {
     let alike = see_alike(a, b, a.version()) & (a.applied().len() == b.applied().len());
-    let shown = show_alike(a, b)?;
-    Ok(place_alike(&a.snapshot()?, &b.snapshot()?, a.summary().len) & alike & shown)
+    let shown = show_alike(a, b).expect(rt, "memory");
+    place_alike(
+        &a.snapshot().expect(rt, "memory"),
+        &b.snapshot().expect(rt, "memory"),
+        a.summary().len,
+    ) & alike
+        & shown
 }
 
 // Whether a new buffer that takes these, the last first, ends as another one.
-fn is_repeated(alloc: Global, buffer: &Buffer, ops: &[Operation]) -> Result<bool, OutOfMemory> {
-    let mut other = open(alloc, "", AMPLE)?;
-    let rests = comes_to_rest(alloc, &mut other, ops, true)?;
-    Ok(agree(buffer, &other)? && rests)
+fn is_repeated(rt: &impl Abort, alloc: Global, buffer: &Buffer, ops: &[Operation]) -> bool {
+    let mut other = open(alloc, "", AMPLE).expect(rt, "memory");
+    let rests = comes_to_rest(rt, alloc, &mut other, ops, true);
+    agree(rt, buffer, &other) && rests
 }
 
 // Whether a new buffer that takes what a buffer has applied ends as that one.
-fn repeats(alloc: Global, buffer: &Buffer) -> Result<bool, OutOfMemory> {
-    is_repeated(alloc, buffer, copies(alloc, buffer)?.as_slice())
+fn repeats(rt: &impl Abort, alloc: Global, buffer: &Buffer) -> bool {
+    is_repeated(rt, alloc, buffer, copies(rt, alloc, buffer).as_slice())
 }
 
 // Whether two buffers that take these in opposite orders come to rest, each with what a buffer shows that takes what it applied.
-fn ends(alloc: Global, pair: &mut Pair, all: &[Operation]) -> Result<bool, OutOfMemory> {
-    let mut right = comes_to_rest(alloc, &mut pair.buffer, all, false)?;
-    right = comes_to_rest(alloc, &mut pair.twin, all, true)? && right;
+fn ends(rt: &impl Abort, alloc: Global, pair: &mut Pair, all: &[Operation]) -> bool {
+    let mut right = comes_to_rest(rt, alloc, &mut pair.buffer, all, false);
+    right = comes_to_rest(rt, alloc, &mut pair.twin, all, true) && right;
     for op in all {
-        right = ends_alike(alloc, pair, op)? && right;
+        right = ends_alike(rt, alloc, pair, op) && right;
     }
-    right = repeats(alloc, &pair.buffer)? && right;
-    Ok(repeats(alloc, &pair.twin)? && right)
+    right = repeats(rt, alloc, &pair.buffer) && right;
+    repeats(rt, alloc, &pair.twin) && right
 }
 
-fn ends_turned(alloc: Global, ops: &[Operation], x: u64) -> Result<bool, OutOfMemory> {
+fn ends_turned(rt: &impl Abort, alloc: Global, ops: &[Operation], x: u64) -> bool {
     let mut all = Vec::new(alloc);
-    push_turned(alloc, &mut all, ops, x)?;
-    ends(alloc, &mut open_two(alloc, "", AMPLE)?, all.as_slice())
+    push_turned(rt, alloc, &mut all, ops, x);
+    ends(
+        rt,
+        alloc,
+        &mut open_two(alloc, "", AMPLE).expect(rt, "memory"),
+        all.as_slice(),
+    )
 }
 
 // How often the operations of a seed are turned until these do not end as they should.
-fn count_right(alloc: Global, seed: u64) -> Result<u64, OutOfMemory> {
-    let ops = drawn_operations(alloc, seed)?;
+fn count_right(rt: &impl Abort, alloc: Global, seed: u64) -> u64 {
+    let ops = drawn_operations(rt, alloc, seed);
     for turn in 0..TURNS {
         let x = seed.wrapping_mul(TURNS).wrapping_add(turn);
-        if !ends_turned(alloc, ops.as_slice(), x)? {
-            return Ok(turn);
+        if !ends_turned(rt, alloc, ops.as_slice(), x) {
+            return turn;
         }
     }
-    Ok(TURNS)
+    TURNS
 }
 
 #[test]
-fn turned_operations_come_to_rest(rt: HostRuntime) -> Result<(), OutOfMemory> {
+fn turned_operations_come_to_rest(rt: HostRuntime) {
     for seed in 0..SEEDS {
-        let right = count_right(rt.alloc(), seed)?;
+        let right = count_right(&rt, rt.alloc(), seed);
         assert!(rt; right == TURNS, "seed {seed}, turn {right}");
     }
-    Ok(())
 }

@@ -3,6 +3,7 @@ use crate::operations::{Parts, Stamp, operation, stamp, version};
 use lamport_clock::{Lamport, Version};
 use op_model::Operation;
 use std::alloc::Global;
+use std::process::Abort;
 use sum_tree::OutOfMemory;
 use undo_map::UndoMap;
 
@@ -34,12 +35,12 @@ fn keep(
 }
 
 /// The map of these counts.
-pub(crate) fn map_of(alloc: Global, counts: &[Count]) -> Result<UndoMap, OutOfMemory> {
-    let mut map = UndoMap::new(alloc)?;
+pub(crate) fn map_of(rt: &impl Abort, alloc: Global, counts: &[Count]) -> UndoMap {
+    let mut map = UndoMap::new(alloc).expect(rt, "memory");
     for &(edit, by, count) in counts {
-        keep(alloc, &mut map, stamp(edit), stamp(by), count)?;
+        keep(alloc, &mut map, stamp(edit), stamp(by), count).expect(rt, "memory");
     }
-    Ok(map)
+    map
 }
 
 // The count of the first edit and whether it is undone, now and at a version.
@@ -71,44 +72,46 @@ fn counts_of(map: &UndoMap, version: &Version) -> Counted {
     )
 }
 
-fn counts_in(alloc: Global, rows: &[Count]) -> Result<Counted, OutOfMemory> {
-    let early = version(alloc, &[(3, 1), (3, 2)])?;
-    Ok(counts_of(&map_of(alloc, rows)?.share()?, &early))
+fn counts_in(rt: &impl Abort, alloc: Global, rows: &[Count]) -> Counted {
+    let early = version(alloc, &[(3, 1), (3, 2)]).expect(rt, "memory");
+    counts_of(
+        &map_of(rt, alloc, rows).share().expect(rt, "memory"),
+        &early,
+    )
 }
 
 // The map with the counts of an undo, where there are few.
-fn with_undo(alloc: Global, map: &UndoMap, op: &Operation) -> Result<UndoMap, OutOfMemory> {
+fn with_undo(rt: &impl Abort, alloc: Global, map: &UndoMap, op: &Operation) -> UndoMap {
     match op {
         Operation::Undo(undo) => {
             if map.len() < 1000 && undo.counts.as_slice().len() < 1000 {
-                map.with_undo(alloc, undo)
+                map.with_undo(alloc, undo).expect(rt, "memory")
             } else {
-                map.share()
+                map.share().expect(rt, "memory")
             }
         }
-        Operation::Edit(_) => map.share(),
+        Operation::Edit(_) => map.share().expect(rt, "memory"),
     }
 }
 
 // The counts of the first and of the second edit after an undo.
-fn counts_with(alloc: Global, map: &UndoMap) -> Result<(u32, u32), OutOfMemory> {
+fn counts_with(rt: &impl Abort, alloc: Global, map: &UndoMap) -> (u32, u32) {
     let counts = Parts::Counts(&[((2, 1), 1), ((3, 1), 4), ((2, 1), 3)]);
-    let undo = operation(alloc, (5, 2), &[], counts)?;
-    let after = with_undo(alloc, map, &undo)?;
-    Ok((after.count(FIRST), after.count(SECOND)))
+    let undo = operation(alloc, (5, 2), &[], counts).expect(rt, "memory");
+    let after = with_undo(rt, alloc, map, &undo);
+    (after.count(FIRST), after.count(SECOND))
 }
 
 // Whether an undo's counts are added to a copy of a map.
-fn counts_are_added(alloc: Global) -> Result<bool, OutOfMemory> {
-    let before = map_of(alloc, &[((2, 1), (3, 1), 2)])?;
-    Ok(counts_with(alloc, &before)? == (3, 4) && before.count(FIRST) == 2)
+fn counts_are_added(rt: &impl Abort, alloc: Global) -> bool {
+    let before = map_of(rt, alloc, &[((2, 1), (3, 1), 2)]);
+    counts_with(rt, alloc, &before) == (3, 4) && before.count(FIRST) == 2
 }
 
 #[test]
-fn the_greatest_count_decides(rt: HostRuntime) -> Result<(), OutOfMemory> {
+fn the_greatest_count_decides(rt: HostRuntime) {
     for &(rows, want) in COUNTED {
-        assert!(rt; counts_in(rt.alloc(), rows)? == want, "{want:?}");
+        assert!(rt; counts_in(&rt, rt.alloc(), rows) == want, "{want:?}");
     }
-    assert!(rt; counts_are_added(rt.alloc())?);
-    Ok(())
+    assert!(rt; counts_are_added(&rt, rt.alloc()));
 }

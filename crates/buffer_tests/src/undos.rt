@@ -3,9 +3,10 @@ use crate::operations::{Stamp, stamp, stamps};
 use crate::places::index_of;
 use crate::runs::{Run, tree_of};
 use crate::undo_counts::{Count, map_of};
-use fragments::{Fragment, InsertionIndex, OutOfMemory};
+use fragments::{Fragment, InsertionIndex};
 use remote_edit::{Move, Placed, mark_undo, mark_undo_by_index};
 use std::alloc::Global;
+use std::process::Abort;
 use sum_tree::SumTree;
 use undo_map::UndoMap;
 
@@ -182,18 +183,14 @@ fn is_shown(tree: &SumTree<Fragment>, i: u64) -> bool {
 }
 
 // The text that is shown.
-fn shown_text(
-    alloc: Global,
-    tree: &SumTree<Fragment>,
-    runs: &[Run],
-) -> Result<String, OutOfMemory> {
+fn shown_text(rt: &impl Abort, alloc: Global, tree: &SumTree<Fragment>, runs: &[Run]) -> String {
     let mut text = String::new(alloc);
     for (i, run) in runs.iter().enumerate() {
         if is_shown(tree, i as u64) {
-            text.push_str(run.2)?;
+            text.push_str(run.2).expect(rt, "memory");
         }
     }
-    Ok(text)
+    text
 }
 
 // How many fragments have seen an undo.
@@ -209,49 +206,48 @@ fn count_sights(tree: &SumTree<Fragment>, by: Stamp) -> u64 {
     seen
 }
 
-fn is_as_wanted(alloc: Global, placed: &Placed, row: &Row) -> Result<bool, OutOfMemory> {
+fn is_as_wanted(rt: &impl Abort, alloc: Global, placed: &Placed, row: &Row) -> bool {
     let seen = count_sights(&placed.fragments, row.by) == row.seen;
     let moves = placed.moves.as_slice() == row.moves;
-    let text = shown_text(alloc, &placed.fragments, row.runs)?;
-    Ok(text.as_str() == row.text && seen && moves)
+    let text = shown_text(rt, alloc, &placed.fragments, row.runs);
+    text.as_str() == row.text && seen && moves
 }
 
-fn place(alloc: Global, row: &Row, undos: &UndoMap) -> Result<Placed, OutOfMemory> {
-    let tree = tree_of(alloc, row.runs, 1)?;
-    let edits = stamps(alloc, row.edits)?;
-    let index = InsertionIndex::new(alloc)?;
-    mark_undo(alloc, &tree, &index, undos, stamp(row.by), &edits)
+fn place(rt: &impl Abort, alloc: Global, row: &Row, undos: &UndoMap) -> Placed {
+    let tree = tree_of(rt, alloc, row.runs, 1);
+    let edits = stamps(alloc, row.edits).expect(rt, "memory");
+    let index = InsertionIndex::new(alloc).expect(rt, "memory");
+    mark_undo(alloc, &tree, &index, undos, stamp(row.by), &edits).expect(rt, "memory")
 }
 
-fn place_by_index(alloc: Global, row: &Row, undos: &UndoMap) -> Result<Placed, OutOfMemory> {
-    let tree = tree_of(alloc, row.runs, 1)?;
-    let edits = stamps(alloc, row.edits)?;
-    let index = index_of(alloc, &tree)?;
-    mark_undo_by_index(alloc, &tree, &index, undos, stamp(row.by), &edits)
+fn place_by_index(rt: &impl Abort, alloc: Global, row: &Row, undos: &UndoMap) -> Placed {
+    let tree = tree_of(rt, alloc, row.runs, 1);
+    let edits = stamps(alloc, row.edits).expect(rt, "memory");
+    let index = index_of(rt, alloc, &tree);
+    mark_undo_by_index(alloc, &tree, &index, undos, stamp(row.by), &edits).expect(rt, "memory")
 }
 
 // Whether the undo of a row leaves what is wanted, among its fragments and with its counts.
-fn undoes(alloc: Global, row: &Row) -> Result<bool, OutOfMemory> {
-    let undos = map_of(alloc, row.counts)?;
-    let placed = place(alloc, row, &undos)?;
-    is_as_wanted(alloc, &placed, row)
+fn undoes(rt: &impl Abort, alloc: Global, row: &Row) -> bool {
+    let undos = map_of(rt, alloc, row.counts);
+    let placed = place(rt, alloc, row, &undos);
+    is_as_wanted(rt, alloc, &placed, row)
 }
 
 // The same of the undo that finds the fragments by an index of them.
-fn undoes_by_index(alloc: Global, row: &Row) -> Result<bool, OutOfMemory> {
-    let undos = map_of(alloc, row.counts)?;
-    let placed = place_by_index(alloc, row, &undos)?;
-    is_as_wanted(alloc, &placed, row)
+fn undoes_by_index(rt: &impl Abort, alloc: Global, row: &Row) -> bool {
+    let undos = map_of(rt, alloc, row.counts);
+    let placed = place_by_index(rt, alloc, row, &undos);
+    is_as_wanted(rt, alloc, &placed, row)
 }
 
 #[test]
-fn undos_show_and_hide_by_the_counts(rt: HostRuntime) -> Result<(), OutOfMemory> {
+fn undos_show_and_hide_by_the_counts(rt: HostRuntime) {
     for (i, row) in ROWS.iter().enumerate() {
         assert!(rt;
-            undoes(rt.alloc(), row)? && undoes_by_index(rt.alloc(), row)?,
+            undoes(&rt, rt.alloc(), row) && undoes_by_index(&rt, rt.alloc(), row),
             "row {i}, where {} is shown",
             row.text
         );
     }
-    Ok(())
 }

@@ -5,6 +5,7 @@ use deferred_ops::Deferred;
 use lamport_clock::Lamport;
 use op_model::Operation;
 use std::alloc::Global;
+use std::process::Abort;
 use sum_tree::OutOfMemory;
 
 const EDIT: Parts = Parts::Pieces(&[]);
@@ -27,12 +28,16 @@ fn add(deferred: &mut Deferred, op: Operation) -> Result<(), OutOfMemory> {
     Ok(())
 }
 
-fn waiting_list(alloc: Global) -> Result<Deferred, OutOfMemory> {
-    let mut deferred = Deferred::new(alloc)?;
+fn waiting_list(rt: &impl Abort, alloc: Global) -> Deferred {
+    let mut deferred = Deferred::new(alloc).expect(rt, "memory");
     for &(parts, at, seen) in WAITING {
-        add(&mut deferred, operation(alloc, at, seen, parts)?)?;
+        add(
+            &mut deferred,
+            operation(alloc, at, seen, parts).expect(rt, "memory"),
+        )
+        .expect(rt, "memory");
     }
-    Ok(deferred)
+    deferred
 }
 
 fn stamp_of(op: Option<&Operation>) -> Option<Lamport> {
@@ -47,10 +52,13 @@ fn has(deferred: &Deferred, at: Stamp) -> bool {
 }
 
 // Whether nothing waits, nor is ready.
-fn is_empty(alloc: Global) -> Result<bool, OutOfMemory> {
-    let mut deferred = Deferred::new(alloc)?;
+fn is_empty(rt: &impl Abort, alloc: Global) -> bool {
+    let mut deferred = Deferred::new(alloc).expect(rt, "memory");
     let none = deferred.len() == 0 && deferred.remove(stamp((1, 0))).is_none();
-    Ok(none && !has(&deferred, (1, 0)) && deferred.ready(None, &version(alloc, &[])?).is_none())
+    none && !has(&deferred, (1, 0))
+        && deferred
+            .ready(None, &version(alloc, &[]).expect(rt, "memory"))
+            .is_none()
 }
 
 // Whether what waits is found by its stamp, until it is removed.
@@ -102,58 +110,52 @@ const WATCHED: &[Option<&[Stamp]>] = &[
     Some(&[(9, 7)]),
 ];
 
-fn watch(
-    alloc: Global,
-    deferred: &mut Deferred,
-    watched: Option<&[Stamp]>,
-) -> Result<(), OutOfMemory> {
+fn watch(rt: &impl Abort, alloc: Global, deferred: &mut Deferred, watched: Option<&[Stamp]>) {
     if let Some(seen) = watched {
-        deferred.watch(&version(alloc, seen)?);
+        deferred.watch(&version(alloc, seen).expect(rt, "memory"));
     }
-    Ok(())
 }
 
 fn ready(
+    rt: &impl Abort,
     alloc: Global,
     deferred: &Deferred,
     after: Option<Stamp>,
     have: &[Stamp],
-) -> Result<Option<Lamport>, OutOfMemory> {
-    let have = version(alloc, have)?;
-    Ok(stamp_of(deferred.ready(after.map(stamp), &have)))
+) -> Option<Lamport> {
+    let have = version(alloc, have).expect(rt, "memory");
+    stamp_of(deferred.ready(after.map(stamp), &have))
 }
 
 // The first row that is wrong of what is ready.
-fn wrong_row(alloc: Global, deferred: &Deferred) -> Result<Option<usize>, OutOfMemory> {
+fn wrong_row(rt: &impl Abort, alloc: Global, deferred: &Deferred) -> Option<usize> {
     for (i, &(after, have, want)) in READY.iter().enumerate() {
-        if ready(alloc, deferred, after, have)? != want.map(stamp) {
-            return Ok(Some(i));
+        if ready(rt, alloc, deferred, after, have) != want.map(stamp) {
+            return Some(i);
         }
     }
-    Ok(None)
+    None
 }
 
-fn wrong_row_after(alloc: Global, watched: Option<&[Stamp]>) -> Result<Option<usize>, OutOfMemory> {
-    let mut deferred = waiting_list(alloc)?;
-    watch(alloc, &mut deferred, watched)?;
-    wrong_row(alloc, &deferred)
+fn wrong_row_after(rt: &impl Abort, alloc: Global, watched: Option<&[Stamp]>) -> Option<usize> {
+    let mut deferred = waiting_list(rt, alloc);
+    watch(rt, alloc, &mut deferred, watched);
+    wrong_row(rt, alloc, &deferred)
 }
 
 #[test]
-fn what_waits_is_gone_through_in_order(rt: HostRuntime) -> Result<(), OutOfMemory> {
-    let wrong = wrong_next(&waiting_list(rt.alloc())?);
+fn what_waits_is_gone_through_in_order(rt: HostRuntime) {
+    let wrong = wrong_next(&waiting_list(&rt, rt.alloc()));
     assert!(rt; wrong.is_none(), "row {wrong:?}");
-    Ok(())
 }
 
 #[test]
-fn the_least_that_misses_nothing_is_ready(rt: HostRuntime) -> Result<(), OutOfMemory> {
-    assert!(rt; is_empty(rt.alloc())? && is_found(&mut waiting_list(rt.alloc())?));
+fn the_least_that_misses_nothing_is_ready(rt: HostRuntime) {
+    assert!(rt; is_empty(&rt, rt.alloc()) && is_found(&mut waiting_list(&rt, rt.alloc())));
     for &watched in WATCHED {
-        let wrong = wrong_row_after(rt.alloc(), watched)?;
+        let wrong = wrong_row_after(&rt, rt.alloc(), watched);
         assert!(rt; wrong.is_none(), "row {wrong:?}, watched {watched:?}");
     }
-    Ok(())
 }
 
 fn is_applied(applied: &AppliedList, at: Stamp) -> bool {
@@ -169,15 +171,19 @@ fn apply(alloc: Global, applied: &mut AppliedList, op: Operation) -> Result<(), 
 }
 
 // Whether an operation is found once it is applied.
-fn is_found_once_applied(alloc: Global) -> Result<bool, OutOfMemory> {
-    let mut applied = AppliedList::new(alloc)?;
+fn is_found_once_applied(rt: &impl Abort, alloc: Global) -> bool {
+    let mut applied = AppliedList::new(alloc).expect(rt, "memory");
     let before = is_applied(&applied, (2, 1));
-    apply(alloc, &mut applied, operation(alloc, (2, 1), &[], EDIT)?)?;
-    Ok(!before && is_applied(&applied, (2, 1)) && applied.len() == 1)
+    apply(
+        alloc,
+        &mut applied,
+        operation(alloc, (2, 1), &[], EDIT).expect(rt, "memory"),
+    )
+    .expect(rt, "memory");
+    !before && is_applied(&applied, (2, 1)) && applied.len() == 1
 }
 
 #[test]
-fn an_operation_is_found_once_applied(rt: HostRuntime) -> Result<(), OutOfMemory> {
-    assert!(rt; is_found_once_applied(rt.alloc())?);
-    Ok(())
+fn an_operation_is_found_once_applied(rt: HostRuntime) {
+    assert!(rt; is_found_once_applied(&rt, rt.alloc()));
 }
