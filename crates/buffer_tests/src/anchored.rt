@@ -1,5 +1,5 @@
 //! Anchors, each asked of a snapshot that is taken while the buffer goes on.
-use crate::cases::{AMPLE, Case, count_case};
+use crate::cases::{AMPLE, Case, assert_cases};
 use crate::steps::Question::{Compare, Make, Resolve};
 use crate::steps::Step::{Ask, Edit, Undo};
 use Anchor::{Greatest, Least};
@@ -211,8 +211,5 @@ const CASES: &[Case] = &[BOTH_SIDES, OVER_A_DELETION, EMPTY, WIDE_CHARACTERS];
 
 #[test]
 fn anchors_are_answered(rt: HostRuntime) {
-    for case in CASES {
-        let right = count_case(&rt, rt.alloc(), case);
-        assert!(rt; right == case.rows.len(), "{}: row {right}", case.name);
-    }
+    assert_cases(&rt, rt.alloc(), CASES);
 }

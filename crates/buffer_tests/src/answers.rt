@@ -1,5 +1,5 @@
 //! A row for each answer to an operation, where a base, an edit without pieces and its undo are applied, and an edit waits.
-use crate::cases::{AMPLE, Case, count_case};
+use crate::cases::{AMPLE, Case, assert_cases};
 use crate::operations::{Parts, Stamp};
 use crate::steps::Row;
 use crate::steps::Step::{Keep, Take};
@@ -285,8 +285,5 @@ const CASES: &[Case] = &[
 
 #[test]
 fn operations_are_answered(rt: HostRuntime) {
-    for case in CASES {
-        let right = count_case(&rt, rt.alloc(), case);
-        assert!(rt; right == case.rows.len(), "{}: row {right}", case.name);
-    }
+    assert_cases(&rt, rt.alloc(), CASES);
 }

@@ -1,5 +1,5 @@
 //! Calls of buffers, with what they answer and the text after each.
-use crate::cases::{AMPLE, Case, count_case};
+use crate::cases::{AMPLE, Case, assert_cases};
 use crate::operations::{Parts, Stamp};
 use crate::steps::Question;
 use crate::steps::Step::{Ask, Edit, Keep, Last, Settle, Take, Undo};
@@ -663,10 +663,7 @@ const OPERATIONS: &[Case] = &[
 
 #[test]
 fn operations_are_taken(rt: HostRuntime) {
-    for case in OPERATIONS {
-        let right = count_case(&rt, rt.alloc(), case);
-        assert!(rt; right == case.rows.len(), "{}: row {right}", case.name);
-    }
+    assert_cases(&rt, rt.alloc(), OPERATIONS);
 }
 
 const UNDOS: &[Case] = &[
@@ -680,10 +677,7 @@ const UNDOS: &[Case] = &[
 
 #[test]
 fn undos_come_out_as_they_should(rt: HostRuntime) {
-    for case in UNDOS {
-        let right = count_case(&rt, rt.alloc(), case);
-        assert!(rt; right == case.rows.len(), "{}: row {right}", case.name);
-    }
+    assert_cases(&rt, rt.alloc(), UNDOS);
 }
 
 const AT_LIMITS: &[Case] = &[
@@ -696,8 +690,5 @@ const AT_LIMITS: &[Case] = &[
 
 #[test]
 fn limits_are_kept(rt: HostRuntime) {
-    for case in AT_LIMITS {
-        let right = count_case(&rt, rt.alloc(), case);
-        assert!(rt; right == case.rows.len(), "{}: row {right}", case.name);
-    }
+    assert_cases(&rt, rt.alloc(), AT_LIMITS);
 }

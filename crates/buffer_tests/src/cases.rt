@@ -65,8 +65,8 @@ fn count_twice(rt: &impl Abort, alloc: Global, case: &Case) -> usize {
     count_both(rt, alloc, &base, case)
 }
 
-/// How many rows of a case come out as they should, in each of three buffers.
-pub(crate) fn count_case(rt: &impl Abort, alloc: Global, case: &Case) -> usize {
+// How many rows of a case come out as they should, in each of three buffers.
+fn count_case(rt: &impl Abort, alloc: Global, case: &Case) -> usize {
     let own = count_right(
         rt,
         alloc,
@@ -74,4 +74,12 @@ pub(crate) fn count_case(rt: &impl Abort, alloc: Global, case: &Case) -> usize {
         case.rows,
     );
     own.min(count_twice(rt, alloc, case))
+}
+
+/// Asserts that all rows of each case come out as they should. The assertion names a case and its first row that does not.
+pub(crate) fn assert_cases(rt: &impl Abort, alloc: Global, cases: &[Case]) {
+    for case in cases {
+        let right = count_case(rt, alloc, case);
+        assert!(rt; right == case.rows.len(), "{}: row {right}", case.name);
+    }
 }

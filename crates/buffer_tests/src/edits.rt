@@ -1,5 +1,6 @@
 //! Edits since a version, among fragments.
 use crate::operations::{Stamp, version};
+use crate::rows::assert_rows;
 use crate::runs::{Run, tree_of};
 use crate::undo_counts::{Count, map_of};
 use edits_since::since;
@@ -178,7 +179,5 @@ fn finds(rt: &impl Abort, alloc: Global, row: &Row) -> bool {
 
 #[test]
 fn edits_since_versions_are_found(rt: HostRuntime) {
-    for (i, row) in ROWS.iter().enumerate() {
-        assert!(rt; finds(&rt, rt.alloc(), row), "row {i}");
-    }
+    assert_rows(&rt, rt.alloc(), ROWS, finds);
 }

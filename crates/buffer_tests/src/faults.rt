@@ -4,6 +4,7 @@ use crate::alike::{Pair, answer_alike, open_two};
 use crate::cases::open;
 use crate::fault_rows::{Asked, FIRST, ROWS, Row, SECOND, TEXT};
 use crate::late_rows::{Late, WAITING};
+use crate::rows::assert_rows;
 use crate::steps::{Step, comes};
 use std::alloc::Global;
 use std::process::Abort;
@@ -67,9 +68,7 @@ fn is_answered(rt: &impl Abort, alloc: Global, row: &Row) -> bool {
 
 #[test]
 fn a_fault_leaves_the_buffer_as_it_was(rt: HostRuntime) {
-    for (i, row) in ROWS.iter().enumerate() {
-        assert!(rt; is_answered(&rt, rt.alloc(), row), "row {i}");
-    }
+    assert_rows(&rt, rt.alloc(), ROWS, is_answered);
 }
 
 // Whether those that wait are applied or refused so while the buffer settles.

@@ -1,5 +1,5 @@
 //! Operations that wait and are forgotten; and a caller that bounds how many wait.
-use crate::cases::{AMPLE, Case, count_case, open};
+use crate::cases::{AMPLE, Case, assert_cases, open};
 use crate::operations::{Parts, Stamp, operation};
 use crate::steps;
 use crate::steps::Step::{Forget, Keep, Settle, Take};
@@ -102,10 +102,7 @@ const CASES: &[Case] = &[ANOTHER_WAITS, THE_SAME_AGAIN];
 
 #[test]
 fn what_is_forgotten_waits_no_more(rt: HostRuntime) {
-    for case in CASES {
-        let right = count_case(&rt, rt.alloc(), case);
-        assert!(rt; right == case.rows.len(), "{}: row {right}", case.name);
-    }
+    assert_cases(&rt, rt.alloc(), CASES);
 }
 
 // ---- A caller that lets at most so many operations of each author wait.

@@ -78,11 +78,9 @@ fn is_refused(rt: &impl Abort, alloc: Global, base: &str, words: &str) -> bool {
 }
 
 // The fault of a buffer of few bytes over a base that was made ready.
-fn fault_over(alloc: Global, base: &str) -> Option<NewFault> {
-    match Base::new(alloc, base) {
-        Ok(base) => Buffer::over(alloc, 9, &base, FEW).err(),
-        Err(fault) => Some(fault),
-    }
+fn fault_over(rt: &impl Abort, alloc: Global, base: &str) -> Option<NewFault> {
+    let base = Base::new(alloc, base).expect(rt, "a base");
+    Buffer::over(alloc, 9, &base, FEW).err()
 }
 
 // An edit that brings as many letters as one edit may.
@@ -106,7 +104,7 @@ fn texts_are_refused_past_their_limits(rt: HostRuntime) {
     let words = "full: 0 bytes are held, and 6 more pass the limit";
     assert!(rt; is_refused(&rt, rt.alloc(), "abcdef", words));
     assert!(rt;
-        fault_over(rt.alloc(), "abcdef") == Buffer::new(rt.alloc(), 9, "abcdef", FEW).err()
+        fault_over(&rt, rt.alloc(), "abcdef") == Buffer::new(rt.alloc(), 9, "abcdef", FEW).err()
     );
     assert!(rt; are_most_letters_taken(&rt, rt.alloc()));
 }

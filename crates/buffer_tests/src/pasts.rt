@@ -1,5 +1,5 @@
 //! Snapshots that are taken while the buffer goes on: what is applied in them, texts at versions and the edits since these.
-use crate::cases::{AMPLE, Case, count_case};
+use crate::cases::{AMPLE, Case, assert_cases};
 use crate::operations::Stamp;
 use crate::steps::Question::{Applied, Past};
 use crate::steps::Step::{Ask, Count, Edit, Undo};
@@ -195,8 +195,5 @@ const CASES: &[Case] = &[MARKS, NEVER_SHOWN, COUNTED, UNDO_OF_NOTHING];
 
 #[test]
 fn pasts_are_answered(rt: HostRuntime) {
-    for case in CASES {
-        let right = count_case(&rt, rt.alloc(), case);
-        assert!(rt; right == case.rows.len(), "{}: row {right}", case.name);
-    }
+    assert_cases(&rt, rt.alloc(), CASES);
 }

@@ -53,21 +53,29 @@ const CHANGED: &[Changed] = &[
 ];
 
 // The fault of changes of a text, or the text with them, where both are short.
-fn text_with(alloc: Global, text: &str, changes: &[Piece]) -> Result<String, EditFault> {
+fn text_with(
+    rt: &impl Abort,
+    alloc: Global,
+    text: &str,
+    changes: &[Piece],
+) -> Result<String, EditFault> {
     if text.len() > 1 << 30 || text_total(changes) > 1 << 30 {
         return Err(EditFault::OutOfMemory);
     }
-    let rope = Rope::from_str(alloc, text)?;
-    if let Some(fault) = piece_fault(&rope, changes) {
-        return Err(fault);
+    let rope = Rope::from_str(alloc, text).expect(rt, "memory");
+    match piece_fault(&rope, changes) {
+        Some(fault) => Err(fault),
+        None => {
+            let changed = replace_ranges(alloc, &rope, changes).expect(rt, "memory");
+            Ok(changed.to_string(alloc).expect(rt, "memory"))
+        }
     }
-    Ok(replace_ranges(alloc, &rope, changes)?.to_string(alloc)?)
 }
 
 // Whether a case comes to its answer.
 fn is_changed(rt: &impl Abort, alloc: Global, case: &Changed) -> bool {
     let changes = pieces(alloc, case.changes).expect(rt, "memory");
-    match text_with(alloc, case.text, changes.as_slice()) {
+    match text_with(rt, alloc, case.text, changes.as_slice()) {
         Ok(text) => case.answer == Ok(text.as_str()),
         Err(fault) => case.answer == Err(fault),
     }
