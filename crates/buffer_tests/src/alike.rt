@@ -1,8 +1,9 @@
 //! Two buffers, and whether they answer alike, whatever they are asked.
-use crate::cases::open;
+use crate::cases::{open, opened};
 use crate::operations::{pieces, version};
 use applied_ops::Applied;
 use deferred_ops::Deferred;
+use op_model::{EditFault, Operation, Piece};
 use std::alloc::Global;
 use std::process::Abort;
 use sum_tree::{OutOfMemory, SumTree};
@@ -13,6 +14,14 @@ use text_buffer::{Anchor, Bias, Buffer, Limits, PlaceFault, Snapshot};
 pub(crate) struct Pair {
     pub(crate) buffer: Buffer,
     pub(crate) twin: Buffer,
+}
+
+/// Two buffers of replica 9 over one text. A failed allocation ends a test.
+pub(crate) fn opened_two(rt: &impl Abort, alloc: Global, base: &str, limits: Limits) -> Pair {
+    Pair {
+        buffer: opened(rt, alloc, base, limits),
+        twin: opened(rt, alloc, base, limits),
+    }
 }
 
 /// Two buffers of replica 9 over one text.
@@ -68,8 +77,8 @@ fn anchor_and_place(
     (anchor, place)
 }
 
-/// Whether the anchors at each offset of a text, and one past its end, have the same places.
-pub(crate) fn place_alike(a: &Snapshot, b: &Snapshot, len: u64) -> bool {
+// Whether the anchors at each offset of a text, and one past its end, have the same places.
+fn place_alike(a: &Snapshot, b: &Snapshot, len: u64) -> bool {
     for offset in 0..len.saturating_add(2) {
         for bias in [Bias::Left, Bias::Right] {
             if anchor_and_place(a, offset, bias) != anchor_and_place(b, offset, bias) {
@@ -88,8 +97,22 @@ fn change_alike(rt: &impl Abort, alloc: Global, a: &Snapshot, b: &Snapshot) -> b
     }
 }
 
-fn look_alike(rt: &impl Abort, alloc: Global, a: &Snapshot, b: &Snapshot, len: u64) -> bool {
-    change_alike(rt, alloc, a, b) & place_alike(a, b, len)
+fn looks_as(rt: &impl Abort, alloc: Global, a: &Snapshot, b: &Buffer) -> bool {
+    let b = b.snapshot().expect(rt, "memory");
+    change_alike(rt, alloc, a, &b) & place_alike(a, &b, a.text().len())
+}
+
+fn look_alike(rt: &impl Abort, alloc: Global, a: &Buffer, b: &Buffer) -> bool {
+    looks_as(rt, alloc, &a.snapshot().expect(rt, "memory"), b)
+}
+
+fn places_as(rt: &impl Abort, a: &Snapshot, b: &Buffer) -> bool {
+    place_alike(a, &b.snapshot().expect(rt, "memory"), a.text().len())
+}
+
+/// Whether the anchors at each offset of the texts of two buffers have the same places.
+pub(crate) fn have_places_alike(rt: &impl Abort, a: &Buffer, b: &Buffer) -> bool {
+    places_as(rt, &a.snapshot().expect(rt, "memory"), b)
 }
 
 /// Whether two buffers show one text.
@@ -97,28 +120,34 @@ pub(crate) fn show_alike(a: &Buffer, b: &Buffer) -> Result<bool, OutOfMemory> {
     Ok(a.text()?.as_str() == b.text()?.as_str())
 }
 
+fn makes(buffer: &mut Buffer, changes: &[Piece], op: &Operation) -> bool {
+    match buffer.edit_uncounted(changes) {
+        Ok(made) => made.same(op),
+        Err(_) => false,
+    }
+}
+
+fn meets(buffer: &mut Buffer, changes: &[Piece], fault: EditFault) -> bool {
+    buffer.edit_uncounted(changes).err() == Some(fault)
+}
+
+// Whether an edit is the same operation, or meets the same fault.
+fn edits_alike(pair: &mut Pair, changes: &[Piece]) -> bool {
+    match pair.buffer.edit_uncounted(changes) {
+        Ok(op) => makes(&mut pair.twin, changes, &op),
+        Err(fault) => meets(&mut pair.twin, changes, fault),
+    }
+}
+
 // Whether the next edit is the same operation, or meets the same fault.
 fn edit_alike(rt: &impl Abort, alloc: Global, pair: &mut Pair) -> bool {
     let changes = pieces(alloc, &[(0, 0, "n")]).expect(rt, "memory");
-    match (
-        pair.buffer.edit_uncounted(changes.as_slice()),
-        pair.twin.edit_uncounted(changes.as_slice()),
-    ) {
-        (Ok(x), Ok(y)) => x.same(&y),
-        (Err(x), Err(y)) => x == y,
-        _ => false,
-    }
+    edits_alike(pair, changes.as_slice())
 }
 
 fn are_alike(rt: &impl Abort, alloc: Global, a: &Buffer, b: &Buffer) -> bool {
     let alike = hold_alike(a, b) & show_alike(a, b).expect(rt, "memory");
-    look_alike(
-        rt,
-        alloc,
-        &a.snapshot().expect(rt, "memory"),
-        &b.snapshot().expect(rt, "memory"),
-        a.summary().len,
-    ) & alike
+    look_alike(rt, alloc, a, b) & alike
 }
 
 /// Whether a buffer and its twin have the same text, version, operations (applied, waiting and refused), places of anchors and edits

@@ -33,7 +33,12 @@ fn limits_of(limits: Limits) -> Limits
     }
 }
 
-/// A buffer of replica 9. A base that is refused ends a test as a failed allocation does.
+/// A buffer of replica 9. A base that is refused and a failed allocation end a test.
+pub(crate) fn opened(rt: &impl Abort, alloc: Global, base: &str, limits: Limits) -> Buffer {
+    Buffer::new(alloc, 9, base, limits_of(limits)).expect(rt, "a buffer")
+}
+
+/// A buffer of replica 9. A base that is refused counts as a failed allocation.
 pub(crate) fn open(alloc: Global, base: &str, limits: Limits) -> Result<Buffer, OutOfMemory> {
     match Buffer::new(alloc, 9, base, limits_of(limits)) {
         Ok(buffer) => Ok(buffer),
@@ -70,7 +75,7 @@ fn count_case(rt: &impl Abort, alloc: Global, case: &Case) -> usize {
     let own = count_right(
         rt,
         alloc,
-        open(alloc, case.base, case.limits).expect(rt, "memory"),
+        opened(rt, alloc, case.base, case.limits),
         case.rows,
     );
     own.min(count_twice(rt, alloc, case))

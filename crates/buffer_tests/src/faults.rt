@@ -1,7 +1,7 @@
 //! Each fault that an operation can meet, by each of its causes, when it is taken and while settling. After each the buffer answers
 //! as before.
-use crate::alike::{Pair, answer_alike, open_two};
-use crate::cases::open;
+use crate::alike::{Pair, answer_alike, opened_two};
+use crate::cases::opened;
 use crate::fault_rows::{Asked, FIRST, ROWS, Row, SECOND, TEXT};
 use crate::late_rows::{Late, WAITING};
 use crate::rows::assert_rows;
@@ -53,7 +53,7 @@ fn holds(rt: &impl Abort, alloc: Global, limits: Limits, before: &[Step], asked:
     answer(
         rt,
         alloc,
-        &mut open_two(alloc, TEXT, limits).expect(rt, "memory"),
+        &mut opened_two(rt, alloc, TEXT, limits),
         before,
         asked,
     )
@@ -76,7 +76,7 @@ fn settles(rt: &impl Abort, alloc: Global, row: &Late) -> bool {
     plays(
         rt,
         alloc,
-        &mut open(alloc, TEXT, row.limits).expect(rt, "memory"),
+        &mut opened(rt, alloc, TEXT, row.limits),
         row.settling,
     )
 }

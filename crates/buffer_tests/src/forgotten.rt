@@ -1,5 +1,5 @@
 //! Operations that wait and are forgotten; and a caller that bounds how many wait.
-use crate::cases::{AMPLE, Case, assert_cases, open};
+use crate::cases::{AMPLE, Case, assert_cases, opened};
 use crate::operations::{Parts, Stamp, operation};
 use crate::steps;
 use crate::steps::Step::{Forget, Keep, Settle, Take};
@@ -210,12 +210,15 @@ fn is_bounded(
     buffer.text().expect(rt, "memory").as_str() == "gfedcba" && right
 }
 
-fn bounds(rt: &impl Abort, alloc: Global) -> bool {
-    let mut buffer = open(alloc, "", AMPLE).expect(rt, "memory");
-    is_bounded(rt, alloc, &mut buffer, &mut Vec::new(alloc))
+fn bounds(rt: &impl Abort, alloc: Global, buffer: &mut Buffer) -> bool {
+    is_bounded(rt, alloc, buffer, &mut Vec::new(alloc))
+}
+
+fn bounds_what_waits(rt: &impl Abort, alloc: Global) -> bool {
+    bounds(rt, alloc, &mut opened(rt, alloc, "", AMPLE))
 }
 
 #[test]
 fn a_caller_bounds_what_waits(rt: HostRuntime) {
-    assert!(rt; bounds(&rt, rt.alloc()));
+    assert!(rt; bounds_what_waits(&rt, rt.alloc()));
 }

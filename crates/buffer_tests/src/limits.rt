@@ -1,5 +1,5 @@
 //! Buffers at their limits, and long texts.
-use crate::cases::{AMPLE, open};
+use crate::cases::{AMPLE, opened};
 use crate::operations::Parts::Letters;
 use crate::steps::Step::{Edit, Take, Undo};
 use crate::steps::{Step, comes};
@@ -52,11 +52,7 @@ fn each_hides(rt: &impl Abort, alloc: Global, buffer: &mut Buffer) -> bool {
 
 fn hide_long(rt: &impl Abort, alloc: Global) -> bool {
     let base = digits(rt, alloc, 0, 0);
-    each_hides(
-        rt,
-        alloc,
-        &mut open(alloc, base.as_str(), AMPLE).expect(rt, "memory"),
-    )
+    each_hides(rt, alloc, &mut opened(rt, alloc, base.as_str(), AMPLE))
 }
 
 #[test]
@@ -92,11 +88,7 @@ fn takes_most_letters(rt: &impl Abort, alloc: Global, buffer: &mut Buffer) -> bo
 
 // Whether a buffer over 2 bytes takes it.
 fn are_most_letters_taken(rt: &impl Abort, alloc: Global) -> bool {
-    takes_most_letters(
-        rt,
-        alloc,
-        &mut open(alloc, "ab", AMPLE).expect(rt, "memory"),
-    )
+    takes_most_letters(rt, alloc, &mut opened(rt, alloc, "ab", AMPLE))
 }
 
 #[test]

@@ -1,6 +1,6 @@
 //! Operations of three replicas, each with a part turned by chance, at two buffers that take them in opposite orders.
-use crate::alike::{Pair, open_two, place_alike, show_alike};
-use crate::cases::{AMPLE, open};
+use crate::alike::{Pair, have_places_alike, opened_two, show_alike};
+use crate::cases::{AMPLE, opened};
 use crate::groups::{copies, drawn_operations, next};
 use crate::operations::{edit_of, piece, undo_of};
 use crate::steps::take;
@@ -256,19 +256,24 @@ fn ends_alike(rt: &impl Abort, alloc: Global, pair: &mut Pair, op: &Operation) -
 fn agree(rt: &impl Abort, a: &Buffer, b: &Buffer) -> bool {
     let alike = see_alike(a, b, a.version()) & (a.applied().len() == b.applied().len());
     let shown = show_alike(a, b).expect(rt, "memory");
-    place_alike(
-        &a.snapshot().expect(rt, "memory"),
-        &b.snapshot().expect(rt, "memory"),
-        a.summary().len,
-    ) & alike
-        & shown
+    have_places_alike(rt, a, b) & alike & shown
+}
+
+// Whether a buffer that takes these, the last first, ends as another one.
+fn comes_to(
+    rt: &impl Abort,
+    alloc: Global,
+    buffer: &mut Buffer,
+    ops: &[Operation],
+    other: &Buffer,
+) -> bool {
+    let rests = comes_to_rest(rt, alloc, buffer, ops, true);
+    agree(rt, other, buffer) && rests
 }
 
 // Whether a new buffer that takes these, the last first, ends as another one.
 fn is_repeated(rt: &impl Abort, alloc: Global, buffer: &Buffer, ops: &[Operation]) -> bool {
-    let mut other = open(alloc, "", AMPLE).expect(rt, "memory");
-    let rests = comes_to_rest(rt, alloc, &mut other, ops, true);
-    agree(rt, buffer, &other) && rests
+    comes_to(rt, alloc, &mut opened(rt, alloc, "", AMPLE), ops, buffer)
 }
 
 // Whether a new buffer that takes what a buffer has applied ends as that one.
@@ -287,15 +292,14 @@ fn ends(rt: &impl Abort, alloc: Global, pair: &mut Pair, all: &[Operation]) -> b
     repeats(rt, alloc, &pair.twin) && right
 }
 
+fn pair_ends(rt: &impl Abort, alloc: Global, all: &[Operation]) -> bool {
+    ends(rt, alloc, &mut opened_two(rt, alloc, "", AMPLE), all)
+}
+
 fn ends_turned(rt: &impl Abort, alloc: Global, ops: &[Operation], x: u64) -> bool {
     let mut all = Vec::new(alloc);
     push_turned(rt, alloc, &mut all, ops, x);
-    ends(
-        rt,
-        alloc,
-        &mut open_two(alloc, "", AMPLE).expect(rt, "memory"),
-        all.as_slice(),
-    )
+    pair_ends(rt, alloc, all.as_slice())
 }
 
 // How often the operations of a seed are turned until these do not end as they should.
