@@ -102,17 +102,9 @@ fn looks_as(rt: &impl Abort, alloc: Global, a: &Snapshot, b: &Buffer) -> bool {
     change_alike(rt, alloc, a, &b) & place_alike(a, &b, a.text().len())
 }
 
-fn look_alike(rt: &impl Abort, alloc: Global, a: &Buffer, b: &Buffer) -> bool {
+/// Whether the edits since the base are the same in two buffers, and the anchors at each offset have the same places.
+pub(crate) fn look_alike(rt: &impl Abort, alloc: Global, a: &Buffer, b: &Buffer) -> bool {
     looks_as(rt, alloc, &a.snapshot().expect(rt, "memory"), b)
-}
-
-fn places_as(rt: &impl Abort, a: &Snapshot, b: &Buffer) -> bool {
-    place_alike(a, &b.snapshot().expect(rt, "memory"), a.text().len())
-}
-
-/// Whether the anchors at each offset of the texts of two buffers have the same places.
-pub(crate) fn have_places_alike(rt: &impl Abort, a: &Buffer, b: &Buffer) -> bool {
-    places_as(rt, &a.snapshot().expect(rt, "memory"), b)
 }
 
 /// Whether two buffers show one text.

@@ -81,11 +81,12 @@ fn settles(rt: &impl Abort, alloc: Global, row: &Late) -> bool {
     )
 }
 
+// Whether they are, and are answered so at once by a buffer that has what they waited for.
+fn is_answered_late(rt: &impl Abort, alloc: Global, row: &Late) -> bool {
+    settles(rt, alloc, row) && holds(rt, alloc, row.limits, row.before, row.at_once)
+}
+
 #[test]
 fn a_fault_while_settling_is_the_one_at_once(rt: HostRuntime) {
-    for (i, row) in WAITING.iter().enumerate() {
-        assert!(rt; settles(&rt, rt.alloc(), row), "row {i}, while settling");
-        let right = holds(&rt, rt.alloc(), row.limits, row.before, row.at_once);
-        assert!(rt; right, "row {i}, at once");
-    }
+    assert_rows(&rt, rt.alloc(), WAITING, is_answered_late);
 }

@@ -1,5 +1,5 @@
 //! Operations of three replicas, each with a part turned by chance, at two buffers that take them in opposite orders.
-use crate::alike::{Pair, have_places_alike, opened_two, show_alike};
+use crate::alike::{Pair, look_alike, opened_two, show_alike};
 use crate::cases::{AMPLE, opened};
 use crate::groups::{copies, drawn_operations, next};
 use crate::operations::{edit_of, piece, undo_of};
@@ -252,11 +252,12 @@ fn ends_alike(rt: &impl Abort, alloc: Global, pair: &mut Pair, op: &Operation) -
         || is_late(b, op.copy(alloc).expect(rt, "memory"))
 }
 
-// Whether two buffers have applied the same operations, in whatever order, show one text and place anchors alike.
-fn agree(rt: &impl Abort, a: &Buffer, b: &Buffer) -> bool {
+// Whether two buffers have applied the same operations, in whatever order, show one text, have the same edits since the
+// base and place anchors alike.
+fn agree(rt: &impl Abort, alloc: Global, a: &Buffer, b: &Buffer) -> bool {
     let alike = see_alike(a, b, a.version()) & (a.applied().len() == b.applied().len());
     let shown = show_alike(a, b).expect(rt, "memory");
-    have_places_alike(rt, a, b) & alike & shown
+    look_alike(rt, alloc, a, b) & alike & shown
 }
 
 // Whether a buffer that takes these, the last first, ends as another one.
@@ -268,7 +269,7 @@ fn comes_to(
     other: &Buffer,
 ) -> bool {
     let rests = comes_to_rest(rt, alloc, buffer, ops, true);
-    agree(rt, other, buffer) && rests
+    agree(rt, alloc, other, buffer) && rests
 }
 
 // Whether a new buffer that takes these, the last first, ends as another one.
