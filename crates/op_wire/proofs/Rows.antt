@@ -1,8 +1,8 @@
 -- Worked rows: the record of one insertion, and what bytes that are no record come to.
-use Rattle.std.proofs.Common.{◌≡◌, ℕ, suc, List, [], ◌∷◌, take, Result, Ok, Err, refl}
+use Rattle.std.proofs.Common.{◌≡◌, ℕ, List, [], ◌∷◌, take, Err, refl}
 use Rattle.op_model.specs.declared.operation.Operation.{Operation}
-use Rattle.op_model.specs.declared.operation.Operation.TheVariants.{Edit, Undo}
-use Rattle.op_wire.specs.declared.fault.Word.TheVariants.{Kind, Order, Zero, Long, Utf8}
+use Rattle.op_model.specs.declared.operation.Operation.TheVariants.{Edit}
+use Rattle.op_wire.specs.declared.fault.Word.TheVariants.{Kind}
 use Rattle.op_wire.specs.declared.fault.Stop.TheVariants.{Short, Bad}
 use Rattle.op_wire.specs.Spelling.{spelling}
 use Rattle.op_wire.specs.Reading.{stamp_at, checked_at, entry_at, entries_at, version_at, string_at, text_at, range_at, piece_at, pieces_at, all_pieces_at, head_at, edit_at, record_at}

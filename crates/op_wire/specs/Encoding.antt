@@ -8,10 +8,10 @@ use Rattle.op_wire.specs.declared.fault.EncodeFault.{EncodeFault}
 use Rattle.op_wire.specs.declared.fault.EncodeFault.TheVariants.{Long, OutOfMemory}
 use Rattle.op_wire.specs.Spelling.{limit, spelling, long_number, long_sum, IsPiece, HasSpelling}
 
--- why an operation is refused; a failed allocation is free
+-- why an operation is refused: for a number of its record, or, if none passes the limit, where an allocation failed
 abbrev pub EncodeCause : EncodeFault → Operation → Type 0
 EncodeCause (Long n) op = long_number op ≡ Some n
-EncodeCause OutOfMemory op = Unit {0}
+EncodeCause OutOfMemory op = long_number op ≡ None
 
 -- pieces of an edit in memory whose texts have that many bytes together, which the limit allows
 pub record HaveBytes (ps : List Piece) (n : ℕ) : Type 0 where

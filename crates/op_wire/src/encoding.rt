@@ -57,7 +57,8 @@ fn put_text(out: &mut Vec<u8>, t: &str) -> Result<(), OutOfMemory>
 }
 
 fn put_range(out: &mut Vec<u8>, start: u64, end: u64) -> Result<(), OutOfMemory>
-    ensures { OnOk result (out.new.items ≡ out.old.items ++ (to_be_bytes w64 start ++ to_be_bytes w64 end)) }
+    ensures { OnOk result (out.new.items
+        ≡ out.old.items ++ (to_be_bytes w64 start ++ to_be_bytes w64 end)) }
 {
     out.extend_from_slice(&start.to_be_bytes())?;
     out.extend_from_slice(&end.to_be_bytes())?;
@@ -213,7 +214,8 @@ fn record_bytes(alloc: Global, op: &Operation, size: usize) -> Result<Vec<u8>, O
 /// # Errors
 ///
 /// `Long` exactly if a number of pieces or of counts, or the bytes of an edit's texts so far, pass 65,536, with the
-/// first such number of the record. A version has no more entries than that. `OutOfMemory` if an allocation fails.
+/// first such number of the record. A version has no more entries than that. `OutOfMemory` if none does and an
+/// allocation fails.
 pub fn encode(alloc: Global, op: &Operation) -> Result<Vec<u8>, EncodeFault>
     ensures ok { IfOk result (λ bytes. bytes.items ≡ spelling op.now) }
     ensures short { IfOk result (λ _. long_number op.now ≡ None) }

@@ -59,7 +59,8 @@ pub(crate) fn stamp_of(bytes: &[u8]) -> Result<(Lamport, &[u8]), ReadError>
 
 #[tactic(auto, unfolding(crate::specs::Reading::checked_at))]
 pub(crate) fn replica_of(least: u32, bytes: &[u8]) -> Result<(u16, &[u8]), ReadError>
-    ensures { Gives (λ x. (x.0, x.1.now)) result (checked_at w16 (λ r. nat_lt r least) Order bytes.now) }
+    ensures { Gives (λ x. (x.0, x.1.now)) result
+        (checked_at w16 (λ r. nat_lt r least) Order bytes.now) }
 {
     let (replica, rest) = u16_at(bytes)?;
     if u32::from(replica) < least {
@@ -93,7 +94,8 @@ pub(crate) fn amount_of(bytes: &[u8]) -> Result<(u32, &[u8]), ReadError>
 #[tactic(auto, unfolding(crate::specs::Reading::checked_at))]
 fn length_of(so_far: u32, bytes: &[u8]) -> Result<(u32, &[u8]), ReadError>
     requires { so_far ≤ limit }
-    ensures { Gives (λ x. (x.0, x.1.now)) result (checked_at w32 (λ n. nat_lt limit (so_far + n)) Long bytes.now) }
+    ensures { Gives (λ x. (x.0, x.1.now)) result
+        (checked_at w32 (λ n. nat_lt limit (so_far + n)) Long bytes.now) }
 {
     let (len, rest) = u32_at(bytes)?;
     if LIMIT - so_far < len {

@@ -91,8 +91,10 @@ impl WireReader {
     /// before, and the same piece may be fed again.
     pub fn feed(&mut self, piece: &[u8], into: &mut Vec<Operation>) -> Result<(), WireFault>
         requires { bytes_fed self.old + length piece.now < 2 ^ 64 }
-        ensures ok { OnOk result (HasRead self.old piece.now into.old.items into.new.items self.new) }
-        ensures fault { IfErr result (λ e. FeedCause e self.old piece.now into.old.items into.new.items self.new) }
+        ensures ok { OnOk result
+            (HasRead self.old piece.now into.old.items into.new.items self.new) }
+        ensures fault { IfErr result
+            (λ e. FeedCause e self.old piece.now into.old.items into.new.items self.new) }
         ensures fed { bytes_fed self.new ≤ bytes_fed self.old + length piece.now }
     {
         if let Some(fault) = self.fault {

@@ -16,8 +16,10 @@ pub(crate) fn records_of<'a>(
     bytes: &'a [u8],
     into: &mut Vec<Operation>,
 ) -> Result<&'a [u8], Halt>
-    ensures rest { IfOk result (λ rest. Appends bytes.now into.old.items into.new.items rest.now × IsUnfinished rest.now) }
-    ensures bad { (w : Word) (n m : ℕ) → result ≡ Err (Halt.Bad w n m) → Halts bytes.now into.old.items into.new.items w n m }
+    ensures rest { IfOk result (λ rest. Appends bytes.now into.old.items into.new.items rest.now
+        × IsUnfinished rest.now) }
+    ensures bad { (w : Word) (n m : ℕ) → result ≡ Err (Halt.Bad w n m)
+        → Halts bytes.now into.old.items into.new.items w n m }
     ensures kept { (ops : List Operation) × (into.new.items ≡ into.old.items ++ ops) }
 {
     let mut rest = bytes;
