@@ -7,5 +7,6 @@ pub mod Parts
 pub mod Loop
 pub mod Joins
 pub mod Sizes
+pub mod Stages
 pub mod Streams
 pub mod Rows

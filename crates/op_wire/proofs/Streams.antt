@@ -75,9 +75,9 @@ stops_as bytes old new rest v u w k l n m r e p q same =
     rw (← s.0, ← s.1.0, ← s.1.1, p, q) (stops bytes old new rest v k r e)
 
 -- the reader after it
-pub finds_fault : (old new : Fed) (piece bytes : List ℕ) (before after : List Operation) (w : Word) (n m : ℕ) (e : WireFault) → old.fault ≡ None → bytes ≡ old.rest ++ piece → Halts bytes before after w n m
-    → e ≡ fault_at w (old.start + length bytes - n) → new.start ≡ old.start + length bytes - m → new.rest ≡ [] → new.fault ≡ Some e → Finds e old piece before after new
-finds_fault old new piece bytes before after w n m e sound all h is start none fault =
+pub finds_fault : (old new : Fed) (piece bytes : List ℕ) (before after : List Operation) (w : Word) (n m at : ℕ) (e : WireFault) → old.fault ≡ None → bytes ≡ old.rest ++ piece → Halts bytes before after w n m
+    → e ≡ fault_at w at → at ≡ old.start + length bytes - n → new.start ≡ old.start + length bytes - m → new.rest ≡ [] → new.fault ≡ Some e → Finds e old piece before after new
+finds_fault old new piece bytes before after w n m at e sound all h is place start none fault =
     let l : old.start + length bytes ≡ bytes_fed old + length piece = omega (arith, ap length all, length-append old.rest piece) in
     record {
       sound = sound;
@@ -87,6 +87,6 @@ finds_fault old new piece bytes before after w n m e sound all h is start none f
       left = n;
       faulty = h.faulty;
       within = omega (arith, h.within, h.size);
-      is = is ∙ ap (λ (k : ℕ). fault_at w (k - n)) l;
+      is = is ∙ ap (fault_at w) (place ∙ ap (λ (k : ℕ). k - n) l);
       answered = fed_is new (faulted (bytes_fed old + length piece) (length h.rest) e) (omega (arith, start, l, h.size)) none fault;
     }

@@ -50,7 +50,7 @@ pub enum WireFault {
 }
 
 /// What is wrong with a field.
-#[derive(Clone, Copy, Debug, PartialEq, Eq)]
+#[derive(Clone, Copy)]
 pub(crate) enum Word {
     Kind,
     Order,
@@ -60,7 +60,7 @@ pub(crate) enum Word {
 }
 
 /// Where reading a record stops.
-#[derive(Clone, Copy, Debug, PartialEq, Eq)]
+#[derive(Clone, Copy)]
 pub(crate) enum Stop {
     /// The bytes end inside a field.
     Short,
@@ -69,14 +69,14 @@ pub(crate) enum Stop {
 }
 
 /// Why no record was read.
-#[derive(Clone, Copy, Debug, PartialEq, Eq)]
+#[derive(Clone, Copy)]
 pub(crate) enum ReadError {
     OutOfMemory,
     Stopped(Stop),
 }
 
 /// Why reading records ends before the bytes do.
-#[derive(Clone, Copy, Debug, PartialEq, Eq)]
+#[derive(Clone, Copy)]
 pub(crate) enum Halt {
     OutOfMemory,
     /// A field is faulty: its word, the number of bytes from the field on, and that from its record on.

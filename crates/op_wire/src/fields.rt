@@ -1,5 +1,5 @@
 //! The fields of a record, read from the front of bytes.
-ghost use Rattle.std.specs.Prelude.{◌≡◌, ◌+◌, ◌≤◌, ◌==◌, length, nat_lt, true, false, IfSome, IfNone};
+ghost use Rattle.std.specs.Prelude.{◌≡◌, ◌+◌, ◌==◌, length, nat_lt, true, false, IfSome, IfNone};
 ghost use Rattle.std.specs.Str.{is_utf8};
 ghost use Rattle.std.specs.Int.{w16, w32, w64};
 ghost use Rattle.op_wire.specs.declared.fault.Word.TheVariants.{Order, Zero, Long};
@@ -93,12 +93,11 @@ pub(crate) fn amount_of(bytes: &[u8]) -> Result<(u32, &[u8]), ReadError>
 
 #[tactic(auto, unfolding(crate::specs::Reading::checked_at))]
 fn length_of(so_far: u32, bytes: &[u8]) -> Result<(u32, &[u8]), ReadError>
-    requires { so_far ≤ limit }
     ensures { Gives (λ x. (x.0, x.1.now)) result
         (checked_at w32 (λ n. nat_lt limit (so_far + n)) Long bytes.now) }
 {
     let (len, rest) = u32_at(bytes)?;
-    if LIMIT - so_far < len {
+    if u64::from(LIMIT) < u64::from(so_far) + u64::from(len) {
         return Err(ReadError::Stopped(Stop::Bad(Word::Long, bytes.len())));
     }
     Ok((len, rest))
@@ -130,12 +129,18 @@ fn string_of(len: u32, bytes: &[u8]) -> Result<(&str, &[u8]), ReadError>
     }
 }
 
+/// A text, which is not copied.
 #[tactic(auto, unfolding(crate::specs::Reading::text_at))]
-pub(crate) fn text_of(alloc: Global, so_far: u32, bytes: &[u8]) -> Result<(Text, &[u8]), ReadError>
-    requires { so_far ≤ limit }
-    ensures { Gives (λ x. (x.0, x.1.now)) result (text_at so_far bytes.now) }
+pub(crate) fn str_of(so_far: u32, bytes: &[u8]) -> Result<(&str, &[u8]), ReadError>
+    ensures { Gives (λ x. (x.0.now, x.1.now)) result (text_at so_far bytes.now) }
 {
     let (len, rest) = length_of(so_far, bytes)?;
-    let (text, rest) = string_of(len, rest)?;
+    string_of(len, rest)
+}
+
+pub(crate) fn text_of(alloc: Global, so_far: u32, bytes: &[u8]) -> Result<(Text, &[u8]), ReadError>
+    ensures { Gives (λ x. (x.0, x.1.now)) result (text_at so_far bytes.now) }
+{
+    let (text, rest) = str_of(so_far, bytes)?;
     Ok((Text::new(String::from_str(alloc, text)?), rest))
 }

@@ -11,6 +11,9 @@ mod laws;
 mod ranges;
 mod reader;
 mod reading;
+mod rest;
+mod scan;
+mod skim;
 mod stream;
 
 pub use encoding::encode;

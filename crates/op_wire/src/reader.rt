@@ -1,8 +1,9 @@
 //! Records that come in pieces.
-ghost use Rattle.std.specs.Prelude.{◌≡◌, ◌+◌, ◌<◌, ◌≤◌, ◌^◌, length, drop, IfErr, OnOk};
+ghost use Rattle.std.specs.Prelude.{◌≡◌, ◌+◌, ◌<◌, ◌≤◌, ◌^◌, length, IfErr, OnOk};
 ghost use Rattle.op_wire.specs.Stream.{HasRead, FeedCause, Fed, fresh, bytes_fed, fault_at, finished};
 
 use crate::fault::{Halt, WireFault, Word};
+use crate::rest::Rest;
 use crate::stream::records_of;
 use op_model::Operation;
 use std::alloc::Global;
@@ -24,7 +25,7 @@ use std::marker::Model;
 #[derive(Drop)]
 pub struct WireReader {
     start: u64,
-    rest: Vec<u8>,
+    rest: Rest,
     fault: Option<WireFault>,
 }
 
@@ -33,7 +34,7 @@ impl Model for WireReader {
 
     ghost Value = { Fed };
 
-    ghost view = { λ r. record { start = r.start; rest = r.rest.items; fault = r.fault } };
+    ghost view = { λ r. record { start = r.start; rest = r.rest; fault = r.fault } };
 }
 
 fn fault_of(word: Word, at: u64) -> WireFault
@@ -48,18 +49,6 @@ fn fault_of(word: Word, at: u64) -> WireFault
     }
 }
 
-// Drops the first bytes. Linear in the bytes that are left, and O(1) if none is dropped; does not allocate.
-fn drop_front(bytes: &mut Vec<u8>, count: usize)
-    requires { count ≤ length bytes.old.items }
-    ensures { bytes.new.items ≡ drop count bytes.old.items }
-{
-    if count > 0 {
-        let left = bytes.len() - count;
-        bytes.copy_within(count.., 0);
-        bytes.truncate(left);
-    }
-}
-
 impl WireReader {
     /// A reader that has been fed nothing. Does not allocate.
     pub fn new(alloc: Global) -> WireReader
@@ -67,7 +56,7 @@ impl WireReader {
     {
         WireReader {
             start: 0,
-            rest: Vec::new(alloc),
+            rest: Rest::new(alloc),
             fault: None,
         }
     }
@@ -81,7 +70,8 @@ impl WireReader {
 
     /// Takes the next piece of the stream, which may be empty, and appends the operations whose records are whole now.
     /// The rest and the piece together are their records and the new rest. How the stream is cut into pieces does not
-    /// matter. The condition is that fewer than 2^64 bytes are fed to one reader. Linear in the rest and the piece.
+    /// matter. The condition is that fewer than 2^64 bytes are fed to one reader. Linear in the piece, and in the rest
+    /// where a record begins or ends in the piece.
     ///
     /// # Errors
     ///
@@ -100,15 +90,20 @@ impl WireReader {
         if let Some(fault) = self.fault {
             return Err(fault);
         }
-        let alloc = *self.rest.allocator();
-        let held = self.rest.len();
+        let alloc = self.rest.allocator();
+        let held = self.rest.as_slice().len();
         let before = into.len();
-        self.rest.extend_from_slice(piece)?;
-        let end = self.start + self.rest.len() as u64;
-        match records_of(alloc, self.rest.as_slice(), into) {
+        self.rest.append(piece)?;
+        if self.rest.waits() {
+            return Ok(());
+        }
+        let bytes = self.rest.as_slice();
+        let end = self.start + bytes.len() as u64;
+        match records_of(alloc, bytes, into) {
             Ok(rest) => {
-                let read = self.rest.len() - rest.len();
-                drop_front(&mut self.rest, read);
+                let read = bytes.len() - rest.len();
+                self.rest.drop_front(read);
+                self.rest.look();
                 self.start += read as u64;
                 Ok(())
             }
@@ -120,7 +115,7 @@ impl WireReader {
             Err(Halt::Bad(word, left, size)) => {
                 let fault = fault_of(word, end - left as u64);
                 self.start = end - size as u64;
-                self.rest = Vec::new(alloc);
+                self.rest = Rest::new(alloc);
                 self.fault = Some(fault);
                 Err(fault)
             }
@@ -139,7 +134,7 @@ impl WireReader {
         if let Some(fault) = self.fault {
             return Err(fault);
         }
-        if !self.rest.is_empty() {
+        if !self.rest.as_slice().is_empty() {
             return Err(WireFault::Cut { at: self.start });
         }
         Ok(())

@@ -72,7 +72,7 @@ fn version_of(alloc: Global, bytes: &[u8]) -> Result<(Version, &[u8]), ReadError
 }
 
 #[tactic(auto, unfolding(crate::specs::Reading::range_at))]
-fn range_of(bytes: &[u8]) -> Result<((u64, u64), &[u8]), ReadError>
+pub(crate) fn range_of(bytes: &[u8]) -> Result<((u64, u64), &[u8]), ReadError>
     ensures { Gives (λ x. (x.0, x.1.now)) result (range_at bytes.now) }
 {
     let (start, rest) = u64_at(bytes)?;
@@ -82,7 +82,6 @@ fn range_of(bytes: &[u8]) -> Result<((u64, u64), &[u8]), ReadError>
 
 #[tactic(auto, unfolding(crate::specs::Reading::piece_at))]
 fn any_piece_of(alloc: Global, so_far: u32, bytes: &[u8]) -> Result<(Piece, &[u8]), ReadError>
-    requires { so_far ≤ limit }
     ensures { Gives (λ x. (x.0, x.1.now)) result (piece_at so_far bytes.now) }
 {
     let ((start, end), rest) = range_of(bytes)?;
@@ -92,7 +91,6 @@ fn any_piece_of(alloc: Global, so_far: u32, bytes: &[u8]) -> Result<(Piece, &[u8
 
 // A piece, with whose text the texts so far stay within the limit.
 fn piece_of(alloc: Global, so_far: u32, bytes: &[u8]) -> Result<(Piece, &[u8]), ReadError>
-    requires { so_far ≤ limit }
     ensures read { Gives (λ x. (x.0, x.1.now)) result (piece_at so_far bytes.now) }
     ensures short { IfOk result (λ x. so_far + length x.0.text ≤ limit) }
 {
