@@ -1,9 +1,10 @@
 //! Records and operations of tables, and streams that are fed in pieces.
-ghost use Rattle.std.specs.Prelude.{◌<◌, ◌^◌, length};
+ghost use Rattle.std.specs.Prelude.{◌+◌, ◌*◌, ◌<◌, ◌≤◌, ◌^◌, length};
+ghost use Rattle.op_wire.specs.Stream.{bytes_fed};
 
 use lamport_clock::{Lamport, Version};
 use op_model::{Counts, EditOp, Operation, Piece, Pieces, Text, UndoCount, UndoOp};
-use op_wire::{OutOfMemory, WireFault, WireReader};
+use op_wire::{EncodeFault, OutOfMemory, WireFault, WireReader, encode};
 use std::alloc::Global;
 
 // The edit 2.1 that puts X at 1, by an author who has seen the base text.
@@ -74,8 +75,23 @@ pub(crate) fn counts(alloc: Global, amount: usize) -> Result<Operation, OutOfMem
     }))
 }
 
-// The number of operations in a stream that is fed in pieces of that size, and what its end comes to.
-fn fed(alloc: Global, stream: &[u8], size: usize) -> (usize, Result<(), WireFault>)
+// Feeds a piece, and feeds it again where an allocation fails, if nothing has changed then.
+fn feed(reader: &mut WireReader, piece: &[u8], into: &mut Vec<Operation>) -> Result<(), WireFault>
+    requires { bytes_fed reader.old + 2 * length piece.now < 2 ^ 64 }
+    ensures { bytes_fed reader.new ≤ bytes_fed reader.old + 2 * length piece.now }
+{
+    let held = reader.held().len();
+    let before = into.len();
+    let end = reader.feed(piece, into);
+    let same = reader.held().len() == held && into.len() == before;
+    if same && end == Err(WireFault::OutOfMemory) {
+        return reader.feed(piece, into);
+    }
+    end
+}
+
+// The operations of a stream that is fed in pieces of that size, and what its end comes to.
+fn fed(alloc: Global, stream: &[u8], size: usize) -> (Vec<Operation>, Result<(), WireFault>)
     requires { 0 < size }
 {
     let mut reader = WireReader::new(alloc);
@@ -83,12 +99,20 @@ fn fed(alloc: Global, stream: &[u8], size: usize) -> (usize, Result<(), WireFaul
     let mut rest = stream;
     while !rest.is_empty() {
         let (piece, after) = rest.split_at(size.min(rest.len()));
-        if let Err(fault) = reader.feed(piece, &mut ops) {
-            return (ops.len(), Err(fault));
+        if let Err(fault) = feed(&mut reader, piece, &mut ops) {
+            return (ops, Err(fault));
         }
         rest = after;
     }
-    (ops.len(), reader.finish())
+    let end = reader.finish();
+    (ops, end)
+}
+
+fn ends(alloc: Global, stream: &[u8], size: usize, ops: usize, end: Result<(), WireFault>) -> bool
+    requires { 0 < size }
+{
+    let (read, at_end) = fed(alloc, stream, size);
+    read.len() == ops && at_end == end
 }
 
 /// Whether a stream has that number of operations and that end, however it is cut.
@@ -100,5 +124,36 @@ pub(crate) fn comes_to(
 ) -> bool {
     SIZES
         .iter()
-        .all(|&size| size > 0 && fed(alloc, stream, size) == (ops, end))
+        .all(|&size| size > 0 && ends(alloc, stream, size, ops, end))
+}
+
+// The record of an operation, made again where an allocation fails.
+fn record_of(alloc: Global, op: &Operation) -> Result<Vec<u8>, EncodeFault> {
+    match encode(alloc, op) {
+        Err(EncodeFault::OutOfMemory) => encode(alloc, op),
+        record => record,
+    }
+}
+
+// What follows the record of an operation.
+fn after_record<'a>(alloc: Global, op: &Operation, bytes: &'a [u8]) -> Option<&'a [u8]> {
+    match record_of(alloc, op) {
+        Ok(record) => bytes.strip_prefix(record.as_slice()),
+        Err(_) => None,
+    }
+}
+
+/// Whether a stream that is fed in pieces of that size is the records of the operations that are read of it.
+pub(crate) fn comes_back(alloc: Global, stream: &[u8], size: usize) -> bool
+    requires { 0 < size }
+{
+    let (ops, end) = fed(alloc, stream, size);
+    let mut rest = stream;
+    for op in &ops {
+        match after_record(alloc, op, rest) {
+            Some(after) => rest = after,
+            None => return false,
+        }
+    }
+    end == Ok(()) && rest.is_empty()
 }

@@ -8,4 +8,8 @@ mod faults;
 #[cfg(test)]
 mod limits;
 #[cfg(test)]
+mod long;
+#[cfg(test)]
+mod refused;
+#[cfg(test)]
 mod rows;

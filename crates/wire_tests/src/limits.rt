@@ -1,52 +1,60 @@
 //! Operations at the limit and past it.
-use crate::cases::{counts, deletions, letters};
+use crate::cases::{comes_back, counts, deletions, letters};
+use Number::{Counts, Letters, Pieces};
 use op_model::Operation;
-use op_wire::{EncodeFault, OutOfMemory, WireReader, encode};
+use op_wire::{EncodeFault, OutOfMemory, encode};
 use std::alloc::Global;
 
-// Whether the record of an operation has that many bytes, and is read as it.
-fn comes_back(alloc: Global, op: &Operation, size: usize) -> bool {
-    let mut reader = WireReader::new(alloc);
-    let mut ops = Vec::new(alloc);
-    match encode(alloc, op) {
-        Ok(bytes) => {
-            bytes.len() == size
-                && reader.feed(&bytes, &mut ops) == Ok(())
-                && ops.len() == 1
-                && ops.iter().all(|read| read.same(op))
-        }
+// What an operation has a number of.
+#[derive(Clone, Copy)]
+enum Number {
+    Pieces,
+    Letters,
+    Counts,
+}
+
+// The name of a row, a number, and the size of the record, or the number that is refused.
+type Row = (&'static str, Number, usize, Result<usize, u64>);
+
+const ROWS: &[Row] = &[
+    ("most pieces", Pieces, 65_536, Ok(15 + 20 * 65_536)),
+    ("a piece more", Pieces, 65_537, Err(65_537)),
+    ("most letters", Letters, 65_535, Ok(15 + 2 * 20 + 65_536)),
+    ("a letter more", Letters, 65_536, Err(65_537)),
+    ("a text too long", Letters, 70_000, Err(70_000)),
+    ("most counts", Counts, 65_536, Ok(15 + 10 * 65_536)),
+    ("a count more", Counts, 65_537, Err(65_537)),
+];
+
+fn operation_of(alloc: Global, number: Number, amount: usize) -> Result<Operation, OutOfMemory> {
+    match number {
+        Pieces => deletions(alloc, amount),
+        Letters => letters(alloc, amount),
+        Counts => counts(alloc, amount),
+    }
+}
+
+// Whether an operation has a record of that size, which is read as it, or is refused for that number.
+fn has_record(alloc: Global, op: &Operation, want: Result<usize, u64>) -> bool {
+    match (encode(alloc, op), want) {
+        (Ok(record), Ok(size)) => record.len() == size
+            && size > 0
+            && comes_back(alloc, &record, size),
+        (Err(fault), Err(number)) => fault == EncodeFault::Long(number),
+        _ => false,
+    }
+}
+
+fn is_so(alloc: Global, &(_, number, amount, want): &Row) -> bool {
+    match operation_of(alloc, number, amount) {
+        Ok(op) => has_record(alloc, &op, want),
         Err(_) => false,
     }
 }
 
-fn is_refused(alloc: Global, op: &Operation, number: u64) -> bool {
-    match encode(alloc, op) {
-        Ok(_) => false,
-        Err(fault) => fault == EncodeFault::Long(number),
+#[test]
+fn numbers_have_a_limit(rt: HostRuntime) {
+    for row in ROWS {
+        assert!(rt; is_so(rt.alloc(), row), "{}", row.0);
     }
-}
-
-#[test]
-fn pieces_have_a_limit(rt: HostRuntime) -> Result<(), OutOfMemory> {
-    let alloc = rt.alloc();
-    assert!(rt; comes_back(alloc, &deletions(alloc, 65_536)?, 15 + 20 * 65_536));
-    assert!(rt; is_refused(alloc, &deletions(alloc, 65_537)?, 65_537));
-    Ok(())
-}
-
-#[test]
-fn texts_have_a_limit(rt: HostRuntime) -> Result<(), OutOfMemory> {
-    let alloc = rt.alloc();
-    assert!(rt; comes_back(alloc, &letters(alloc, 65_535)?, 15 + 2 * 20 + 65_536));
-    assert!(rt; is_refused(alloc, &letters(alloc, 65_536)?, 65_537));
-    assert!(rt; is_refused(alloc, &letters(alloc, 70_000)?, 70_000));
-    Ok(())
-}
-
-#[test]
-fn counts_have_a_limit(rt: HostRuntime) -> Result<(), OutOfMemory> {
-    let alloc = rt.alloc();
-    assert!(rt; comes_back(alloc, &counts(alloc, 65_536)?, 15 + 10 * 65_536));
-    assert!(rt; is_refused(alloc, &counts(alloc, 65_537)?, 65_537));
-    Ok(())
 }

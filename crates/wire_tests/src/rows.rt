@@ -1,27 +1,23 @@
-//! Worked rows: streams that are fed in pieces of several sizes, and what comes of them.
-use crate::cases::{INSERTION, comes_to, insertion};
-use op_wire::{OutOfMemory, WireFault, WireReader, encode};
+//! Worked rows: an insertion and its record, and streams that are fed in pieces of several sizes.
+use crate::cases::{INSERTION, comes_back, comes_to, insertion};
+use op_wire::{WireFault, WireReader, encode};
+use std::alloc::Global;
 
-#[test]
-fn an_insertion_is_its_bytes(rt: HostRuntime) -> Result<(), OutOfMemory> {
-    let op = insertion(rt.alloc())?;
-    let same = match encode(rt.alloc(), &op) {
-        Ok(bytes) => bytes.as_slice() == INSERTION.as_slice(),
-        Err(_) => false,
+// Whether the insertion has that record.
+fn is_record(alloc: Global, bytes: &[u8]) -> bool {
+    let Ok(op) = insertion(alloc) else {
+        return false;
     };
-    assert!(rt; same);
-    Ok(())
+    match encode(alloc, &op) {
+        Ok(record) => record.as_slice() == bytes,
+        Err(_) => false,
+    }
 }
 
 #[test]
-fn its_bytes_are_read_as_it(rt: HostRuntime) -> Result<(), OutOfMemory> {
-    let op = insertion(rt.alloc())?;
-    let mut reader = WireReader::new(rt.alloc());
-    let mut ops = Vec::new(rt.alloc());
-    let end = reader.feed(&INSERTION, &mut ops);
-    assert!(rt; end == Ok(()) && reader.held().is_empty());
-    assert!(rt; ops.len() == 1 && ops.iter().all(|read| read.same(&op)));
-    Ok(())
+fn an_insertion_is_its_bytes(rt: HostRuntime) {
+    let alloc = rt.alloc();
+    assert!(rt; is_record(alloc, &INSERTION) && comes_back(alloc, &INSERTION, 42));
 }
 
 #[test]
@@ -31,4 +27,23 @@ fn streams_come_to_what_they_are(rt: HostRuntime) {
     assert!(rt; comes_to(alloc, &INSERTION[..41], 0, Err(WireFault::Cut { at: 0 })));
     assert!(rt; comes_to(alloc, &[3], 0, Err(WireFault::Kind { at: 0 })));
     assert!(rt; comes_to(alloc, &[], 0, Ok(())));
+}
+
+// Whether empty pieces change nothing: before the record, inside it and after it.
+fn passes_empty_pieces(alloc: Global) -> bool {
+    let mut reader = WireReader::new(alloc);
+    let mut ops = Vec::new(alloc);
+    reader.feed(&[], &mut ops) == Ok(())
+        && reader.feed(&INSERTION[..20], &mut ops) == Ok(())
+        && reader.feed(&[], &mut ops) == Ok(())
+        && reader.held().len() == 20
+        && reader.feed(&INSERTION[20..], &mut ops) == Ok(())
+        && reader.feed(&[], &mut ops) == Ok(())
+        && reader.finish() == Ok(())
+        && ops.len() == 1
+}
+
+#[test]
+fn pieces_may_be_empty(rt: HostRuntime) {
+    assert!(rt; passes_empty_pieces(rt.alloc()));
 }

@@ -1,9 +1,9 @@
-use Rattle.std.proofs.Common.{◌<◌, ◌+◌, ◌^◌, length}
+use Rattle.std.proofs.Common.{◌<◌, ◌+◌, ◌*◌, ◌^◌, length}
 use Rattle.op_wire.specs.Stream.{bytes_fed}
 use Rattle.wire_tests.proofs.cases.fed.Given as goal
 
 abbrev pub invariant-loop-rest : goal.invariant-loop-rest
-invariant-loop-rest l = bytes_fed l.reader + length l.rest < 2 ^ 64
+invariant-loop-rest l = bytes_fed l.reader + 2 * length l.rest < 2 ^ 64
 
 abbrev pub decreases-loop-rest : goal.decreases-loop-rest
 decreases-loop-rest l = length l.rest
