@@ -18,8 +18,10 @@ use Rattle.op_model.specs.Limited.{Excess, excess}
 use Rattle.op_model.specs.Answers.{answer, any_stamp}
 use Rattle.op_model.specs.Answers.Answer.{Good}
 use Rattle.op_model.specs.Lawful.{Lawful}
+use Rattle.op_model.specs.Rules.{KeepsRule, answer_under, rule_fault}
 use Rattle.op_model.specs.Settled.{full_fault}
 use Rattle.op_model.specs.Steps.{older}
+use Rattle.op_model.proofs.answers.Under.{under_good}
 use Rattle.op_model.proofs.histories.Append.{version-append, clock-append, bytes_held-append}
 use Rattle.op_model.proofs.answers.Passed.{map_none, none_map}
 use Rattle.op_model.proofs.histories.MoreLawful.{lawful_more}
@@ -92,25 +94,28 @@ IsDocumentInside-applied i j op s k p g r t items clocks versions content bytes 
     }
 
 -- a buffer whose document has one operation more
-pub IsBuffer-put : (b : BufferState) (op : Operation) (h : History) → IsBuffer b → IsBufferHistory h → answer b.history [] op ≡ Good → full_fault (rules b) b.history op ≡ None → h ≡ b.history ++ op ∷ []
+pub IsBuffer-put : (b : BufferState) (op : Operation) (h : History) → IsBuffer b → IsBufferHistory h → answer_under b.endings b.history [] op ≡ Good → full_fault (rules b) b.history op ≡ None → h ≡ b.history ++ op ∷ []
     → IsBuffer (record b { history = h })
 IsBuffer-put b op h k n g f e =
     let room = room_of b op f in
+    let u = under_good b.endings b.history [] op g in
     record {
       history = n;
+      rule = subst (KeepsRule b.endings) (sym e) (each_append (λ (o : Operation). rule_fault b.endings o ≡ None) b.history (op ∷ []) k.rule (u.1, tt));
       waiting_ascending = k.waiting_ascending;
       least_replica = k.least_replica;
       greatest_replica = k.greatest_replica;
       most_bytes = k.most_bytes;
       most_entries = k.most_entries;
       bytes = omega (arith, ap bytes_held e, bytes_held-append b.history op, room.0);
-      entries = omega (arith, ap entries_held e, entries_more b.history op g, room.1);
+      entries = omega (arith, ap entries_held e, entries_more b.history op u.0, room.1);
     }
 
 -- one more waits
 pub IsBuffer-deferred : (b : BufferState) (op : Operation) (w : List Operation) → IsBuffer b → any_stamp (b.history ++ b.waiting) op ≡ false → w ≡ insert_by older op b.waiting → IsBuffer (record b { waiting = w })
 IsBuffer-deferred b op w k f e = record {
   history = k.history;
+  rule = k.rule;
   waiting_ascending = subst (Ascending older) (sym e) (insert_ascends op b.waiting (unlike_waiting b.history b.waiting op f) k.waiting_ascending);
   least_replica = k.least_replica;
   greatest_replica = k.greatest_replica;

@@ -36,7 +36,6 @@ use Rattle.remote_edit.specs.Undoing.{MayMark}
 use Rattle.remote_edit.proofs.WholeFragments.{base_whole}
 use Rattle.text_buffer.specs.declared.content.Content.{Content}
 use Rattle.text_buffer.specs.declared.document.Document.TheInside.{Inside}
-use Rattle.text_buffer.specs.Buffer.{BufferState}
 use Rattle.text_buffer.specs.DocumentInside.{IsDocumentInside}
 use Rattle.text_buffer.specs.Document.{IsContent, IsBufferHistory, IsMoved, HasRoom, MayEdit, MayGrow}
 use Rattle.text_buffer.proofs.Fit.{no_excess}
@@ -81,13 +80,9 @@ may_place c h op k s g = record {
   room = (let f = full_bytes h in let r = g.room.bytes in omega (arith, f, r));
 }
 
--- a buffer of the history, with nothing waiting
-abbrev bare : (h : History) (r : ℕ) (ps : List Piece) → MayEdit h r ps → BufferState
-bare h r ps m = record { history = h; waiting = []; refused = []; replica = r; limits = m.limits }
-
 pub edit_room : (h : History) (r : ℕ) (ps : List Piece) → MayEdit h r ps → bytes_held h + text_total ps ≤ 2 ^ 40
 edit_room h r ps m =
-    let n = (room_in m.limits h (text_total ps) (1 + length ps) (no_excess (bare h r ps m) ps m.faultless)).0 in
+    let n = (room_in m.limits h (text_total ps) (1 + length ps) (no_excess m.limits h ps m.faultless)).0 in
     let l = m.most_bytes in
     omega (arith, n, l)
 
@@ -144,7 +139,7 @@ content_after c p h op u w n k t e fr s d m =
 -- there is room for it
 pub made_room : (h : History) (r : ℕ) (ps : List Piece) → MayEdit h r ps → HasRoom h (made_at h r ps)
 made_room h r ps m =
-    let n = room_in m.limits h (text_total ps) (1 + length ps) (no_excess (bare h r ps m) ps m.faultless) in
+    let n = room_in m.limits h (text_total ps) (1 + length ps) (no_excess m.limits h ps m.faultless) in
     let b = made_edit_total h r ps in
     let e = made_edit_entries h r ps in
     let x = m.most_bytes in

@@ -142,10 +142,10 @@ document_shared : IsSync document.the_row
 document_shared = search (fields_shared, sendable) depth 60 fits 20000
 
 inside_sent : IsSend inside.the_row
-inside_sent = declared_send inside.the_type (search plain depth 60 fits 20000, (search plain depth 60 fits 20000, (document_sent, (search plain depth 60 fits 20000, (search plain depth 60 fits 20000, (search plain depth 60 fits 20000, tt))))))
+inside_sent = declared_send inside.the_type (search plain depth 60 fits 20000, (search plain depth 60 fits 20000, (document_sent, (search plain depth 60 fits 20000, (search plain depth 60 fits 20000, (search plain depth 60 fits 20000, (search plain depth 60 fits 20000, tt)))))))
 
 inside_shared : IsSync inside.the_row
-inside_shared = declared_sync inside.the_type (search plain depth 60 fits 20000, (search plain depth 60 fits 20000, (document_shared, (search plain depth 60 fits 20000, (search plain depth 60 fits 20000, (search plain depth 60 fits 20000, tt))))))
+inside_shared = declared_sync inside.the_type (search plain depth 60 fits 20000, (search plain depth 60 fits 20000, (document_shared, (search plain depth 60 fits 20000, (search plain depth 60 fits 20000, (search plain depth 60 fits 20000, (search plain depth 60 fits 20000, tt)))))))
 
 pub buffer_sent : IsSend buffer.the_row
 buffer_sent = search (inside_sent, sendable) depth 60 fits 20000
@@ -166,10 +166,10 @@ pub snapshot_shared : IsSync snapshot.the_row
 snapshot_shared = search (still_shared, sendable) depth 60 fits 20000
 
 ready_sent : IsSend ready.the_row
-ready_sent = declared_send ready.the_type (document_sent, (search plain depth 60 fits 20000, tt))
+ready_sent = declared_send ready.the_type (document_sent, (search plain depth 60 fits 20000, (search plain depth 60 fits 20000, tt)))
 
 ready_shared : IsSync ready.the_row
-ready_shared = declared_sync ready.the_type (document_shared, (search plain depth 60 fits 20000, tt))
+ready_shared = declared_sync ready.the_type (document_shared, (search plain depth 60 fits 20000, (search plain depth 60 fits 20000, tt)))
 
 pub base_sent : IsSend opening.the_row
 base_sent = search (ready_sent, sendable) depth 60 fits 20000

@@ -1,4 +1,6 @@
 pub mod Fit
+pub mod LineEndings
+pub mod EditFaults
 pub mod Crossing
 pub mod Edited
 pub mod EditResult

@@ -3,19 +3,16 @@ use Rattle.std.proofs.Common.{◌≡◌, ◌<◌, Bool, cond, List, [], length, 
 use Rattle.std.specs.Prelude.{option_map}
 use Rattle.lamport_clock.specs.declared.stamp.Lamport.{Lamport}
 use Rattle.op_model.specs.declared.operation.Operation.{Operation}
-use Rattle.op_model.specs.declared.limits.Limits.{Limits as LimitsType}
-use Rattle.op_model.specs.declared.endings.Endings.TheVariants.{AsIs}
-use Rattle.op_model.specs.Rules.{answer_under}
+use Rattle.op_model.specs.Rules.{Rules, answer_under}
 use Rattle.op_model.specs.declared.faults.OpFault.{OpFault}
 use Rattle.op_model.specs.Sorted.{Ascending}
 use Rattle.op_model.specs.Operations.{stamp_of}
-use Rattle.op_model.specs.Answers.{Answer, answer}
+use Rattle.op_model.specs.Answers.{Answer}
 use Rattle.op_model.specs.Answers.Answer.{Good, Repeat, Waits, Refused}
 use Rattle.op_model.specs.Settled.{State, Turn, turn, turn_of, full_fault}
 use Rattle.op_model.specs.Settled.Turn.{Append, Drop, Stay, Refuse}
 use Rattle.op_model.specs.Stopped.{stopped_pass}
 use Rattle.op_model.specs.Steps.{older, ask_limits, without}
-use Rattle.op_model.proofs.answers.Under.{under_clean}
 use Rattle.op_model.proofs.settling.Passes.{not_stay}
 use Rattle.op_model.proofs.settling.Waiting.{filter_ascends}
 use Rattle.deferred_ops.proofs.Ready.{ready_within}
@@ -44,8 +41,8 @@ by_answer (Refused x) f = refl
 pub turn_is : (after : Option Lamport) (b : BufferState) (op : Operation) (a : Answer) → next_ready after b ≡ Some op → a ≡ turn_answer b op → turn (rules b) b.history op ≡ turn_for a
 turn_is after b op a e q =
     let w = ready_within after b.history b.waiting op e in
-    ap (λ (x : Bool). cond x (turn_of (answer_under AsIs b.history [] op) (full_fault (rules b) b.history op)) Stay) w
-    ∙ ap (λ (x : Answer). turn_of x (full_fault (rules b) b.history op)) (under_clean AsIs b.history [] op refl) ∙ by_answer (answer b.history [] op) (full_fault (rules b) b.history op) ∙ ap turn_for (sym q)
+    ap (λ (x : Bool). cond x (turn_of (answer_under b.endings b.history [] op) (full_fault (rules b) b.history op)) Stay) w
+    ∙ by_answer (answer_under b.endings b.history [] op) (full_fault (rules b) b.history op) ∙ ap turn_for (sym q)
 
 turn_makes : (after : Option Lamport) (b : BufferState) (op : Operation) (t : Turn) → next_ready after b ≡ Some op → turn (rules b) b.history op ≡ t → with_state (after_turn t op (state b)) b ≡ after_next_turn (next_ready after b) b
 turn_makes after b op t e q = ap (λ (u : Turn). with_state (after_turn u op (state b)) b) (sym q) ∙ ap (λ (o : Option Operation). after_next_turn o b) (sym e)
@@ -63,6 +60,7 @@ turn_done after b m n op t e s x y = y ∙ ap (λ (u : Lamport). without_waiting
 IsBuffer-without : (b : BufferState) (t : Lamport) → IsBuffer b → IsBuffer (record b { waiting = without t b.waiting })
 IsBuffer-without b t k = record {
   history = k.history;
+  rule = k.rule;
   waiting_ascending = filter_ascends _ b.waiting k.waiting_ascending;
   least_replica = k.least_replica;
   greatest_replica = k.greatest_replica;
@@ -81,16 +79,23 @@ IsBufferInside-without i t w k e = subst (λ (x : List Operation). IsBuffer (rec
 pub record OnWay (b : BufferState) (after : Option Lamport) (n : BufferState) : Type 0 where
   pub at : IsAt (rules b) (state b) after (state n)
   pub replica : n.replica ≡ b.replica
-  pub limits : n.limits ≡ b.limits
+  pub same_rules : rules n ≡ rules b
 
 pub on_start : (b : BufferState) → OnWay b None b
-on_start b = record { at = at_start (rules b) (state b); replica = refl; limits = refl }
+on_start b = record { at = at_start (rules b) (state b); replica = refl; same_rules = refl }
 
-same_buffer : (b n : BufferState) (s : State) → n.replica ≡ b.replica → n.limits ≡ b.limits → state n ≡ s → n ≡ with_state s b
-same_buffer b n s r l e = λ i. record { history = (e i).history; waiting = (e i).waiting; refused = (e i).refused; replica = r i; limits = l i }
+same_buffer : (b n : BufferState) (s : State) → n.replica ≡ b.replica → rules n ≡ rules b → state n ≡ s → n ≡ with_state s b
+same_buffer b n s r l e = λ i. record {
+  history = (e i).history;
+  waiting = (e i).waiting;
+  refused = (e i).refused;
+  replica = r i;
+  limits = (l i).limits;
+  endings = (l i).endings;
+}
 
 pub on_stopped : (b : BufferState) (after : Option Lamport) (n m : BufferState) → OnWay b after n → m ≡ n → IsStoppedPass b m
-on_stopped b after n m w e = let u = at_until (rules b) (state b) after (state n) w.at in (u.0, e ∙ same_buffer b n (stopped_pass u.0 (rules b) (state b)) w.replica w.limits u.1)
+on_stopped b after n m w e = let u = at_until (rules b) (state b) after (state n) w.at in (u.0, e ∙ same_buffer b n (stopped_pass u.0 (rules b) (state b)) w.replica w.same_rules u.1)
 
 abbrev Next : BufferState → BufferState → BufferState → Lamport → Type 0
 Next b n m t = OnWay b (Some t) m × (length m.waiting < length n.waiting)
@@ -102,9 +107,9 @@ on_turn b after n m t w u s e = go (next_ready after n) refl s e
     made : (op : Operation) → next_ready after n ≡ Some op → Next b n (with_state (turn_step (rules n) op (state n)) n) (stamp_of op)
     made op q = (
       record {
-        at = subst (λ (l : LimitsType). IsAt (rules b) (state b) (Some (stamp_of op)) (turn_step (record { limits = l; endings = AsIs }) op (state n))) (sym w.limits) (at_turn (rules b) (state b) after (state n) op w.at u q);
+        at = subst (λ (l : Rules). IsAt (rules b) (state b) (Some (stamp_of op)) (turn_step l op (state n))) (sym w.same_rules) (at_turn (rules b) (state b) after (state n) op w.at u q);
         replica = w.replica;
-        limits = w.limits;
+        same_rules = w.same_rules;
       },
       fewer (rules n) (state n) after op u q,
     )
@@ -117,5 +122,5 @@ pub on_end : (b : BufferState) (after : Option Lamport) (n m : BufferState) → 
 on_end b after n m w s e = go (next_ready after n) refl s e
   where
     go : (o : Option Operation) → next_ready after n ≡ o → None ≡ option_map stamp_of o → m ≡ after_next_turn o n → m ≡ after_pass b
-    go None q s e = e ∙ same_buffer b n (pass_step (rules b) (state b)) w.replica w.limits (at_end (rules b) (state b) after (state n) w.at q)
+    go None q s e = e ∙ same_buffer b n (pass_step (rules b) (state b)) w.replica w.same_rules (at_end (rules b) (state b) after (state n) w.at q)
     go (Some op) q s e = cc

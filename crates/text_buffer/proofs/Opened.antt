@@ -9,6 +9,8 @@ use Rattle.op_model.specs.declared.operation.Operation.{Operation}
 use Rattle.op_model.specs.declared.limits.Limits.{Limits as LimitsType}
 use Rattle.op_model.specs.declared.faults.OpFault.{OpFault}
 use Rattle.op_model.specs.Domains.{IsProper}
+use Rattle.op_model.specs.Rules.{KeepsRule}
+use Rattle.op_model.specs.declared.endings.Endings.{Endings}
 use Rattle.op_model.specs.Histories.{History, base, version, clock, bytes_held, entries_held}
 use Rattle.op_model.specs.Lawful.{Lawful}
 use Rattle.op_model.proofs.histories.Proper.{utf8}
@@ -48,16 +50,17 @@ IsDocumentInside-opened j t u l h clocks versions content bytes entries =
       history = subst IsBufferHistory (sym h) (history_opened t u l);
     }
 
-pub IsBuffer-opened : (r : ℕ) (l : LimitsType) (h w : List Operation) (f : List (Lamport × OpFault)) (t : List ℕ) → IsUtf8 t → 1 ≤ r → r ≤ last_replica → l.bytes ≤ 2 ^ 40 → l.entries ≤ 2 ^ 40 - 1 → length t ≤ l.bytes
-    → h ≡ base t ∷ [] → w ≡ [] → f ≡ [] → IsBuffer (record { history = h; waiting = w; refused = f; replica = r; limits = l })
-IsBuffer-opened r l h w f t u low high most_bytes most_entries room he we fe =
+pub IsBuffer-opened : (r : ℕ) (l : LimitsType) (e : Endings) (h w : List Operation) (f : List (Lamport × OpFault)) (t : List ℕ) → IsUtf8 t → KeepsRule e (base t ∷ []) → 1 ≤ r → r ≤ last_replica → l.bytes ≤ 2 ^ 40 → l.entries ≤ 2 ^ 40 - 1 → length t ≤ l.bytes
+    → h ≡ base t ∷ [] → w ≡ [] → f ≡ [] → IsBuffer (record { history = h; waiting = w; refused = f; replica = r; limits = l; endings = e })
+IsBuffer-opened r l e h w f t u rule low high most_bytes most_entries room he we fe =
     let one : History = base t ∷ [] in
     let k = history_opened t u (omega arith) in
     let held : bytes_held one ≡ length t = omega arith in
-    let b : BufferState = record { history = one; waiting = []; refused = []; replica = r; limits = l } in
-    let same : b ≡ record { history = h; waiting = w; refused = f; replica = r; limits = l } = λ i. record { history = sym he i; waiting = sym we i; refused = sym fe i; replica = r; limits = l } in
+    let b : BufferState = record { history = one; waiting = []; refused = []; replica = r; limits = l; endings = e } in
+    let same : b ≡ record { history = h; waiting = w; refused = f; replica = r; limits = l; endings = e } = λ i. record { history = sym he i; waiting = sym we i; refused = sym fe i; replica = r; limits = l; endings = e } in
     let state : IsBuffer b = record {
       history = k;
+      rule = rule;
       waiting_ascending = tt;
       least_replica = low;
       greatest_replica = high;

@@ -1,6 +1,7 @@
 -- Worked rows: an edit of two ranges at "ab", and what passes the limits of a buffer over "abc".
 use Rattle.std.proofs.Common.{◌≡◌, ℕ, refl, List, [], ◌∷◌, Some, None}
 use Rattle.op_model.specs.declared.operation.Piece.{Piece}
+use Rattle.op_model.specs.declared.endings.Endings.TheVariants.{AsIs, Lf}
 use Rattle.op_model.specs.declared.operation.Operation.TheVariants.{Edit}
 use Rattle.op_model.specs.declared.faults.EditFault.TheVariants.{Reversed, Overlap, PastEnd, InsideChar, Full}
 use Rattle.op_model.specs.declared.faults.Unit.TheVariants.{Bytes, Entries}
@@ -9,7 +10,7 @@ use Rattle.lamport_clock.specs.Stamps.{later, same_stamp}
 use Rattle.op_model.specs.Cells.{same_cell, sibling_first, seq_where, seq}
 use Rattle.op_model.specs.Shown.{deleters_where, shows_where, shows, text_where, text}
 use Rattle.op_model.specs.Made.{local_edit as made_at}
-use Rattle.text_buffer.specs.Buffer.{BufferState, over_base, edit_fault, after_edit, edit_of}
+use Rattle.text_buffer.specs.Buffer.{BufferState, base_under, over_base, edit_fault, after_edit, edit_of}
 
 -- what the rows compute
 unfoldable open_all : ℕ
@@ -18,7 +19,7 @@ open_all = 0
 
 -- texts by their bytes: a 97, b 98, c 99, X 88, Y 89, x 120
 abbrev ab : BufferState
-ab = over_base 7 (97 ∷ 98 ∷ []) (record { bytes = 1000; entries = 1000 })
+ab = over_base 7 (base_under AsIs (97 ∷ 98 ∷ [])) (record { bytes = 1000; entries = 1000 })
 
 abbrev xy : List Piece
 xy = record { start = 1; end = 1; text = 88 ∷ [] } ∷ record { start = 1; end = 2; text = 89 ∷ [] } ∷ []
@@ -51,12 +52,12 @@ past_end : edit_fault ab (record { start = 0; end = 9; text = [] } ∷ []) ≡ S
 unfolding open_all
 past_end = refl
 
-inside_char : edit_fault (over_base 7 (195 ∷ 169 ∷ []) (record { bytes = 9; entries = 9 })) (record { start = 1; end = 1; text = [] } ∷ []) ≡ Some (InsideChar 0)
+inside_char : edit_fault (over_base 7 (base_under AsIs (195 ∷ 169 ∷ [])) (record { bytes = 9; entries = 9 })) (record { start = 1; end = 1; text = [] } ∷ []) ≡ Some (InsideChar 0)
 unfolding open_all
 inside_char = refl
 
 abbrev few : BufferState
-few = over_base 7 (97 ∷ 98 ∷ 99 ∷ []) (record { bytes = 5; entries = 2 })
+few = over_base 7 (base_under AsIs (97 ∷ 98 ∷ 99 ∷ [])) (record { bytes = 5; entries = 2 })
 
 abbrev x_in_front : List Piece
 x_in_front = record { start = 0; end = 0; text = 120 ∷ [] } ∷ []
@@ -72,3 +73,22 @@ room_for_one = refl
 full_of_entries : edit_fault (after_edit few x_in_front) (record { start = 0; end = 1; text = [] } ∷ []) ≡ Some (Full Entries 2 2)
 unfolding open_all
 full_of_entries = refl
+
+-- ---- line endings
+
+-- "a\r\nb\rc" enters as "a\nb\nc"
+abbrev lines : BufferState
+lines = over_base 1 (base_under Lf (97 ∷ 13 ∷ 10 ∷ 98 ∷ 13 ∷ 99 ∷ [])) (record { bytes = 1000; entries = 1000 })
+
+-- a CR at the end, as a text of its own
+abbrev return_last : List Piece
+return_last = record { start = 5; end = 5; text = 13 ∷ [] } ∷ []
+
+a_return_enters : text (after_edit lines return_last).history ≡ 97 ∷ 10 ∷ 98 ∷ 10 ∷ 99 ∷ 10 ∷ []
+unfolding open_all
+a_return_enters = refl
+
+-- the operation has the text as it entered
+entered_in_the_operation : edit_of lines return_last ≡ Edit (record { stamp = record { value = 2; replica = 1 }; version = (0, 1) ∷ []; pieces = record { start = 5; end = 5; text = 10 ∷ [] } ∷ [] })
+unfolding open_all
+entered_in_the_operation = refl

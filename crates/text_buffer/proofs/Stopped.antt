@@ -103,7 +103,7 @@ settled_goes_on n m e c b k s = subst (λ (x : BufferState). AreAlike (state (af
 
 -- ---- what was applied
 
-leaves_partly : (b n : BufferState) → Lawful n.history → LeavesState (state b) (state n) → n.replica ≡ b.replica → n.limits ≡ b.limits → IsPartly b n
+leaves_partly : (b n : BufferState) → Lawful n.history → LeavesState (state b) (state n) → n.replica ≡ b.replica → rules n ≡ rules b → IsPartly b n
 leaves_partly b n p k r l =
     let d : new_operations b n ≡ k.new = ap (drop (length b.history)) k.history ∙ drop-append_seam b.history k.new in
     record {
@@ -112,7 +112,8 @@ leaves_partly b n p k r l =
       applied = subst (AllByRecursion (λ (op : Operation). operation_at n.waiting (stamp_of op) ≡ None)) (sym d) k.apart;
       waiting = k.waiting;
       replica = r;
-      limits = l;
+      limits = ap (λ (x : Rules). x.limits) l;
+      endings = ap (λ (x : Rules). x.endings) l;
     }
 
 stopped_partly : (b n : BufferState) → Lawful b.history → Ascending older b.waiting → IsStoppedPass b n → IsPartly b n
@@ -141,6 +142,7 @@ one_applied b n op g p =
       waiting = p.waiting;
       replica = p.replica;
       limits = p.limits;
+      endings = p.endings;
     }
 
 taken_partly : (b n : BufferState) (op : Operation) → IsBuffer b → answer_to b op ≡ Good → IsStoppedSettling (after_apply b op) n → IsPartly b n

@@ -3,7 +3,6 @@ use Rattle.std.proofs.Common.{◌≡◌, ◌⊎◌, inl, inr, ℕ, suc, ◌≤�
 use Rattle.std.specs.Result.{OnErr}
 use Rattle.std.proofs.lemmas.List.{length-append}
 use Rattle.op_model.specs.declared.operation.Operation.{Operation}
-use Rattle.op_model.specs.declared.endings.Endings.TheVariants.{AsIs}
 use Rattle.op_model.specs.Rules.{answer_under}
 use Rattle.op_model.specs.Settled.{full_fault}
 use Rattle.op_model.specs.Steps.Step.{Takes}
@@ -11,8 +10,9 @@ use Rattle.op_model.specs.Steps.{ask_limits, or_full, settle_step, with_applied,
 use Rattle.op_model.specs.Answers.{Answer, answer}
 use Rattle.op_model.specs.Answers.Answer.{Good, Repeat, Waits, Refused}
 use Rattle.op_model.specs.declared.faults.OpFault.{OpFault}
-use Rattle.op_model.proofs.answers.Under.{under_good}
+use Rattle.op_model.proofs.answers.Under.{under_clean, under_good}
 use Rattle.op_model.proofs.settling.Passes.{settling_grows}
+use Rattle.op_model.proofs.settling.Settling.{good_alone}
 use Rattle.text_buffer.specs.Buffer.{BufferState, AllMiss, answer_to, after_apply, after_settle, after_take, number_applied, rules, state, with_state}
 use Rattle.text_buffer.specs.Calls.{IsStopped}
 use Rattle.text_buffer.proofs.Settles.{all_miss}
@@ -21,11 +21,17 @@ pub more_applied : (b : BufferState) (op : Operation) → suc (length b.history)
 more_applied b op = let n = settling_grows (rules b) (b.history ++ op ∷ []) b.waiting in let m = length-append b.history (op ∷ []) in omega arith
 
 -- an operation that is good under the rules is good
-pub plain_good : (b : BufferState) (op : Operation) → answer_under AsIs b.history b.waiting op ≡ Good → answer b.history b.waiting op ≡ Good
-plain_good b op g = (under_good AsIs b.history b.waiting op g).0
+pub plain_good : (b : BufferState) (op : Operation) → answer_under b.endings b.history b.waiting op ≡ Good → answer b.history b.waiting op ≡ Good
+plain_good b op g = (under_good b.endings b.history b.waiting op g).0
+
+-- and so it is with nothing waiting
+pub good_with_none : (b : BufferState) (op : Operation) → answer_under b.endings b.history b.waiting op ≡ Good → answer_under b.endings b.history [] op ≡ Good
+good_with_none b op g =
+    let u = under_good b.endings b.history b.waiting op g in
+    under_clean b.endings b.history [] op u.1 ∙ good_alone b.history b.waiting op u.0
 
 -- an operation that is good and passes no limit has that answer
-pub answer_good : (b : BufferState) (op : Operation) → answer_under AsIs b.history b.waiting op ≡ Good → full_fault (rules b) b.history op ≡ None → answer_to b op ≡ Good
+pub answer_good : (b : BufferState) (op : Operation) → answer_under b.endings b.history b.waiting op ≡ Good → full_fault (rules b) b.history op ≡ None → answer_to b op ≡ Good
 answer_good b op g f = ap (λ (a : Answer). ask_limits a (full_fault (rules b) b.history op)) g ∙ ap or_full f
 
 -- ---- what a taken operation leaves

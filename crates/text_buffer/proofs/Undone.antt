@@ -12,10 +12,11 @@ use Rattle.op_model.specs.Choice.{when}
 use Rattle.op_model.specs.Domains.{IsProper}
 use Rattle.op_model.specs.Histories.{History, clock}
 use Rattle.op_model.specs.Limited.{Excess, excess}
-use Rattle.op_model.specs.Answers.{answer}
+use Rattle.op_model.specs.Rules.{answer_under}
 use Rattle.op_model.specs.Answers.Answer.{Good}
 use Rattle.op_model.specs.Settled.{full_fault}
 use Rattle.op_model.proofs.answers.Passed.{first_none, map_none}
+use Rattle.op_model.proofs.answers.Under.{under_clean}
 use Rattle.op_model.proofs.histories.Proper.{undo_good, undo_proper}
 use Rattle.op_model.proofs.answers.Local.{made_undo_bytes, made_undo_entries}
 use Rattle.undo_map.specs.declared.entry.UndoEntry.{UndoEntry}
@@ -24,6 +25,7 @@ use Rattle.undo_map.specs.Undos.{undo_entries}
 use Rattle.op_answers.specs.LocalUndo.{listed_fault}
 use Rattle.op_answers.proofs.LocalUndo.{local_of, room}
 use Rattle.text_buffer.specs.Buffer.{BufferState, IsBuffer, undo_fault, undo_of, rules}
+use Rattle.text_buffer.proofs.LineEndings.{undo_rule}
 use Rattle.text_buffer.proofs.Applied.{within_limits}
 
 -- the faults that come after those of the list
@@ -55,12 +57,13 @@ counts_open b ts w q e = room b.history w ts q (meets_none b ts e).listed
 -- an undo without fault: it is proper and good, and passes no limit
 pub record Fits (b : BufferState) (op : Operation) : Type 0 where
   pub proper : IsProper op
-  pub good : answer b.history [] op ≡ Good
+  pub good : answer_under b.endings b.history [] op ≡ Good
   pub room : full_fault (rules b) b.history op ≡ None
 
 pub made_fits : (b : BufferState) (ts : List Lamport) (op : Operation) → IsBuffer b → undo_fault b ts ≡ None → op ≡ undo_of b ts → Fits b op
 made_fits b ts op k e m = subst (Fits b) (sym m) (record {
   proper = undo_proper b.limits b.history b.replica ts e;
-  good = undo_good b.limits b.history b.replica ts k.history.lawful k.history.proper (k.least_replica, k.greatest_replica) e;
+  good = under_clean b.endings b.history [] (undo_of b ts) (undo_rule b.endings b.history b.replica ts)
+      ∙ undo_good b.limits b.history b.replica ts k.history.lawful k.history.proper (k.least_replica, k.greatest_replica) e;
   room = within_limits b (undo_of b ts) 0 (1 + length ts) (made_undo_bytes b.history b.replica ts) (made_undo_entries b.history b.replica ts) (meets_none b ts e).excess;
 })

@@ -4,6 +4,8 @@ use Rattle.op_model.specs.declared.operation.Piece.{Piece}
 use Rattle.op_model.specs.declared.operation.Operation.{Operation}
 use Rattle.op_model.specs.Operations.{pieces_of}
 use Rattle.op_model.specs.Histories.{base}
+use Rattle.op_model.specs.Rules.{KeepsRule}
+use Rattle.text_buffer.specs.Buffer.{BaseText}
 use Rattle.text_buffer.specs.declared.base.Base.TheInside.{Inside}
 
 -- the text of the first piece
@@ -16,10 +18,11 @@ abbrev pub opening_text : List Operation → List ℕ
 opening_text [] = []
 opening_text (op ∷ h) = first_text (pieces_of op)
 
-abbrev pub text_of : Inside → List ℕ
-text_of b = opening_text b.document
+abbrev pub base_of : Inside → BaseText
+base_of b = record { text = opening_text b.document; endings = b.endings }
 
--- the document has the base alone
+-- the document has the base alone, which has entered
 pub record IsBaseInside (b : Inside) : Type 0 where
-  pub alone : b.document ≡ base (text_of b) ∷ []
-  pub len : b.len ≡ length (text_of b)
+  pub alone : b.document ≡ base (opening_text b.document) ∷ []
+  pub rule : KeepsRule b.endings b.document
+  pub len : b.len ≡ length (opening_text b.document)

@@ -4,8 +4,8 @@ use Rattle.std.specs.List.{AllByRecursion}
 use Rattle.op_model.specs.declared.operation.Piece.{Piece}
 use Rattle.op_model.specs.declared.operation.Operation.{Operation}
 use Rattle.op_model.specs.declared.limits.Limits.{Limits as LimitsType}
-use Rattle.op_model.specs.Rules.{Rules}
-use Rattle.op_model.specs.declared.endings.Endings.TheVariants.{AsIs}
+use Rattle.op_model.specs.Rules.{Rules, KeepsRule, pieces_under, text_under}
+use Rattle.op_model.specs.declared.endings.Endings.{Endings}
 use Rattle.op_model.specs.declared.faults.EditFault.{EditFault}
 use Rattle.op_model.specs.declared.faults.UndoFault.{UndoFault}
 use Rattle.op_model.specs.declared.faults.OpFault.{OpFault}
@@ -28,27 +28,45 @@ use Rattle.text_buffer.specs.declared.outcomes.Took.TheVariants as took
 use Rattle.text_buffer.specs.Document.{IsBufferHistory}
 
 -- the applied operations in the order of application, the base first; those that wait, the least stamp first; the stamps of those
--- that were refused while settling, each with its fault; the author of its edits and undos; its limits
+-- that were refused while settling, each with its fault; the author of its edits and undos; its limits; what it does with line
+-- endings
 pub record BufferState : Type 0 where
   pub history : List Operation
   pub waiting : List Operation
   pub refused : List (Lamport × OpFault)
   pub replica : ℕ
   pub limits : LimitsType
+  pub endings : Endings
 
--- the rules that a buffer goes by: its limits, and line endings as they come
+-- the rules that a buffer goes by
 abbrev pub rules : BufferState → Rules
-rules b = record { limits = b.limits; endings = AsIs }
+rules b = record { limits = b.limits; endings = b.endings }
+
+-- a base text as it entered, with what the buffers over it do with line endings
+pub record BaseText : Type 0 where
+  pub text : List ℕ
+  pub endings : Endings
+
+-- a text as a base
+abbrev pub base_under : Endings → List ℕ → BaseText
+base_under e t = record { text = text_under e t; endings = e }
 
 -- the buffer over a base
-abbrev pub over_base : ℕ → List ℕ → LimitsType → BufferState
-over_base r t l = record { history = base t ∷ []; waiting = []; refused = []; replica = r; limits = l }
+abbrev pub over_base : ℕ → BaseText → LimitsType → BufferState
+over_base r t l = record {
+  history = base t.text ∷ [];
+  waiting = [];
+  refused = [];
+  replica = r;
+  limits = l;
+  endings = t.endings;
+}
 
 -- the fault of a base of n bytes where no more than `most` may be held
 abbrev pub length_fault : ℕ → ℕ → Option NewFault
 length_fault most n = when (nat_lt most n) (Full Bytes 0 n)
 
--- the fault that a base meets
+-- the fault that a base meets, by its text as it enters
 abbrev pub new_fault : LimitsType → List ℕ → Option NewFault
 new_fault l t = length_fault l.bytes (length t)
 
@@ -56,13 +74,13 @@ new_fault l t = length_fault l.bytes (length t)
 abbrev pub base_fault : List ℕ → Option NewFault
 base_fault t = length_fault (2 ^ 40) (length t)
 
--- the fault that an edit meets
+-- the fault that an edit meets, by its texts as they enter
 abbrev pub edit_fault : BufferState → List Piece → Option EditFault
-edit_fault b ps = local_edit_fault b.limits b.history ps
+edit_fault b ps = local_edit_fault b.limits b.history (pieces_under b.endings ps)
 
 -- the operation of an edit
 abbrev pub edit_of : BufferState → List Piece → Operation
-edit_of b ps = made_at b.history b.replica ps
+edit_of b ps = made_at b.history b.replica (pieces_under b.endings ps)
 
 -- the buffer after an edit
 abbrev pub after_edit : BufferState → List Piece → BufferState
@@ -136,6 +154,7 @@ AllMiss b = AllByRecursion (λ (op : Operation). within (version_of op) (version
 -- what is true of every buffer
 pub record IsBuffer (b : BufferState) : Type 0 where
   pub history : IsBufferHistory b.history
+  pub rule : KeepsRule b.endings b.history
   pub waiting_ascending : Ascending older b.waiting
   pub least_replica : 1 ≤ b.replica
   pub greatest_replica : b.replica ≤ last_replica

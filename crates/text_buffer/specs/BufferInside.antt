@@ -11,6 +11,7 @@ state_of b = record {
   refused = map pair_of b.refused.items;
   replica = b.replica;
   limits = b.limits;
+  endings = b.endings;
 }
 
 abbrev pub IsBufferInside : Inside → Type 0

@@ -42,6 +42,7 @@ pub record IsPartly (b n : BufferState) : Type 0 where
   pub waiting : (t : Lamport) → operation_at b.waiting t ≡ None → operation_at n.waiting t ≡ None
   pub replica : n.replica ≡ b.replica
   pub limits : n.limits ≡ b.limits
+  pub endings : n.endings ≡ b.endings
 
 -- calls brought b to n: each did what its step says; or it was one call, which was stopped
 abbrev pub AreCalled : BufferState → BufferState → Type 0

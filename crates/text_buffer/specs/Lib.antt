@@ -8,4 +8,5 @@ pub mod Settling
 pub mod Calls
 pub mod SnapshotLaws
 pub mod BaseInside
+pub mod Entering
 pub mod EditResult

@@ -2,11 +2,11 @@
 use Rattle.std.specs.Prelude.{◌≡◌, ◌⊎◌, ℕ, [], ◌∷◌, ◌++◌, Option, None, Some}
 use Rattle.lamport_clock.specs.declared.stamp.Lamport.{Lamport}
 use Rattle.op_model.specs.declared.operation.Operation.{Operation}
-use Rattle.op_model.specs.Rules.{Rules}
+use Rattle.op_model.specs.Rules.{Rules, answer_under}
 use Rattle.op_model.specs.Operations.{stamp_of}
 use Rattle.op_model.specs.Histories.{version}
 use Rattle.op_model.specs.declared.faults.OpFault.{OpFault}
-use Rattle.op_model.specs.Answers.{Answer, answer}
+use Rattle.op_model.specs.Answers.{Answer}
 use Rattle.op_model.specs.Answers.Answer.{Good, Repeat, Waits, Refused}
 use Rattle.op_model.specs.Settled.{State, Turn, turn, pass, full_fault}
 use Rattle.op_model.specs.Settled.Turn.{Append, Drop, Stay, Refuse}
@@ -51,7 +51,7 @@ after_next_turn (Some op) b = with_state (turn_step (rules b) op (state b)) b
 
 -- the answer to an operation at its turn, the limits asked last
 abbrev pub turn_answer : BufferState → Operation → Answer
-turn_answer b op = ask_limits (answer b.history [] op) (full_fault (rules b) b.history op)
+turn_answer b op = ask_limits (answer_under b.endings b.history [] op) (full_fault (rules b) b.history op)
 
 abbrev pub with_refusal : Lamport × OpFault → BufferState → BufferState
 with_refusal r b = record b { refused = b.refused ++ r ∷ [] }

@@ -1,5 +1,5 @@
 //! A history, and what it makes.
-ghost use Rattle.std.specs.Prelude.{◌≡◌, ◌+◌, ◌-◌, ◌^◌, ◌≤◌, ℕ, List, ◌++◌, ◌∷◌, [], None, length, map, IfOk, OnErr, OnOk, option_map};
+ghost use Rattle.std.specs.Prelude.{◌≡◌, ◌+◌, ◌-◌, ◌^◌, ◌≤◌, ℕ, List, ◌++◌, ◌∷◌, [], None, length, map, IfOk, OnErr, OnOk, option_map, string_bytes};
 ghost use Rattle.std.specs.Arc.{arc_value};
 ghost use Rattle.lamport_clock.specs.Clocks.{clock_after};
 ghost use Rattle.lamport_clock.specs.Versions.{raise};
@@ -11,23 +11,22 @@ ghost use Rattle.op_model.specs.Histories.{Distinct, base, bytes_held, clock, op
 ghost use Rattle.op_model.specs.Limited.{excess};
 ghost use Rattle.op_model.specs.Made.{local_edit};
 ghost use Rattle.op_model.specs.Shown.{hidden_text, text, texts};
-ghost use Rattle.op_model.specs.Answers.{answer};
-ghost use Rattle.op_model.specs.Answers.Answer.{Good};
+ghost use Rattle.op_model.specs.Rules.{answer_under};
 ghost use Rattle.undo_map.specs.Undos.{undo_entries};
 ghost use Rattle.op_answers.specs.Verdicts.{answer_of};
 ghost use Rattle.remote_edit.specs.Moves.{TakeTexts};
 ghost use Rattle.text_buffer.specs.Costs.{IsEditCost};
 ghost use Rattle.text_buffer.specs.Document.{IsContent, IsBufferHistory, IsMoved, MayEdit, MayGrow, excess_of};
 
-use crate::OutOfMemory;
 use crate::content::{BASE, Content};
 use crate::faults::Excess;
 use crate::pieces::size;
+use crate::{Endings, OutOfMemory};
 use applied_ops::AppliedList;
 use deferred_ops::Deferred;
 use lamport_clock::{Lamport, Version};
 use op_answers::{Verdict, judge};
-use op_model::{EditOp, Endings, Limits, Operation, Piece, Pieces, Text, UndoCount, UndoOp, Unit};
+use op_model::{EditOp, Limits, Operation, Piece, Pieces, Text, UndoCount, UndoOp, Unit};
 use remote_edit::{Placed, mark_undo_by_index, place_local, place_remote};
 use rope_chunks::Rope;
 use rope_edits::apply_moves;
@@ -66,21 +65,23 @@ impl Model for Document {
 }
 
 impl Document {
-    /// The base alone. Linear in its text.
-    pub fn over(alloc: Global, text: &str) -> Result<Document, OutOfMemory>
-        requires { length text.now ≤ 2 ^ 40 }
-        ensures { IfOk result (λ d. d ≡ base text.now ∷ []) }
+    /// The base alone, which keeps its text. Linear in the text.
+    pub fn over(alloc: Global, text: String) -> Result<Document, OutOfMemory>
+        requires { length (string_bytes text) ≤ 2 ^ 40 }
+        ensures { IfOk result (λ d. d ≡ base (string_bytes text) ∷ []) }
     {
         let version = base_version(alloc)?;
+        let shown = text.as_str();
+        let bytes = shown.len() as u64;
+        let content = Content::over(alloc, shown)?;
         let operations = base_list(alloc, text)?;
-        let content = Content::over(alloc, text)?;
         Ok(Document {
             alloc,
             operations,
             clock: 2,
             version,
             content,
-            bytes: text.len() as u64,
+            bytes,
             entries: 0,
         })
     }
@@ -180,13 +181,13 @@ impl Document {
         None
     }
 
-    /// The answer to an operation that is taken while others wait.
-    pub fn judge(&self, waiting: &Deferred, op: &Operation) -> Verdict
+    /// The answer to an operation that is taken while others wait, by what the buffer does with line endings.
+    pub fn judge(&self, endings: Endings, waiting: &Deferred, op: &Operation) -> Verdict
         requires { Distinct waiting.now }
-        ensures { answer_of result ≡ answer self.now waiting.now op.now }
+        ensures { answer_of result ≡ answer_under endings self.now waiting.now op.now }
     {
         judge(
-            Endings::AsIs,
+            endings,
             &self.operations,
             waiting,
             &self.version,
@@ -436,8 +437,8 @@ fn base_version(alloc: Global) -> Result<Arc<Version>, OutOfMemory>
 }
 
 // The base in a list of its own.
-fn base_list(alloc: Global, text: &str) -> Result<AppliedList, OutOfMemory>
-    ensures { IfOk result (λ l. l ≡ base text.now ∷ []) }
+fn base_list(alloc: Global, text: String) -> Result<AppliedList, OutOfMemory>
+    ensures { IfOk result (λ l. l ≡ base (string_bytes text) ∷ []) }
 {
     let operation = base_operation(alloc, text)?;
     let mut operations = AppliedList::new(alloc)?;
@@ -446,14 +447,14 @@ fn base_list(alloc: Global, text: &str) -> Result<AppliedList, OutOfMemory>
 }
 
 // The base as an operation.
-fn base_operation(alloc: Global, text: &str) -> Result<Operation, OutOfMemory>
-    ensures { IfOk result (λ op. op ≡ base text.now) }
+fn base_operation(alloc: Global, text: String) -> Result<Operation, OutOfMemory>
+    ensures { IfOk result (λ op. op ≡ base (string_bytes text)) }
 {
     let mut pieces = Vec::new(alloc);
     pieces.push(Piece {
         start: 0,
         end: 0,
-        text: Text::new(String::from_str(alloc, text)?),
+        text: Text::new(text),
     })?;
     Ok(Operation::Edit(EditOp {
         stamp: BASE,

@@ -1,9 +1,11 @@
 //! Why a buffer is not made.
-ghost use Rattle.std.specs.Prelude.{◌≡◌, ◌≤◌, None};
+ghost use Rattle.std.specs.Prelude.{◌≡◌, ◌≤◌, None, length};
+ghost use Rattle.op_model.specs.Rules.{text_under};
 ghost use Rattle.text_buffer.specs.Buffer.{length_fault};
 ghost use Rattle.text_buffer.specs.declared.faults.NewFault.{NewFault};
 
-use crate::OutOfMemory;
+use crate::entering::entered_len;
+use crate::{Endings, OutOfMemory};
 use op_model::Unit;
 use std::alloc::AllocFailed;
 use thiserror::Error;
@@ -55,4 +57,17 @@ pub(crate) fn length_fault(most: u64, len: u64) -> Option<NewFault>
         });
     }
     None
+}
+
+/// The fault of a text as a base where no more than `most` bytes may be held. A text that is longer is read once under
+/// `Lf`; does not allocate.
+pub(crate) fn text_fault(endings: Endings, most: u64, text: &str) -> Option<NewFault>
+    ensures fault { result ≡ length_fault most (length (text_under endings text.now)) }
+    ensures room { result ≡ None → length (text_under endings text.now) ≤ most }
+{
+    if text.len() as u64 <= most {
+        // No text is longer once it has entered.
+        return None;
+    }
+    length_fault(most, entered_len(endings, text) as u64)
 }

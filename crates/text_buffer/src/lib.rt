@@ -24,6 +24,7 @@ mod base;
 mod buffer;
 mod content;
 mod document;
+mod entering;
 mod faults;
 mod forgetting;
 mod laws;
@@ -47,8 +48,8 @@ pub use laws::{
     stopped_calls_go_on, waiting_operations_miss_causes,
 };
 pub use op_model::{
-    Anchor, Bias, EditFault, Limits, OpFault, OutOfMemory, PlaceFault, SinceFault, TextEdit,
-    UndoFault, Unit,
+    Anchor, Bias, EditFault, Endings, Limits, OpFault, OutOfMemory, PlaceFault, SinceFault,
+    TextEdit, UndoFault, Unit,
 };
 pub use outcomes::{Refused, Took};
 pub use snapshot::{Snapshot, snapshots_agree, snapshots_append};

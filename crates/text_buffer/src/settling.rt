@@ -115,7 +115,7 @@ impl Buffer {
         ensures proper { IfOk result (λ v. v ≡ Verdict.Good → IsProper op.now) }
     {
         let nothing = Deferred::new(self.alloc)?;
-        match self.document.judge(&nothing, op) {
+        match self.document.judge(self.endings, &nothing, op) {
             Verdict::Good => match self.full(op) {
                 Some(fault) => Ok(Verdict::Refused(fault)),
                 None => Ok(Verdict::Good),

@@ -42,12 +42,14 @@ impl Buffer {
     ///
     /// # Errors
     ///
-    /// The first of these that the operation meets: `BadStamp`, `NoBase`, `TextLimit`, `Reversed`, `Overlap`; where none is equal to
-    /// it `Conflict` (with what is applied or waits), `Forked`; where it misses no cause `OpenVersion`, `PastEnd`, `InsideChar`,
-    /// `NoSuchEdit` (a count of no edit that the operation has seen), then `Full` where bytes, then entries, pass their limit. The
-    /// buffer is then as before, and the operation is dropped. `OutOfMemory` if an allocation fails, and only where there is none of
-    /// these and no equal operation. The buffer is then as before, unless the operation was applied and an allocation failed while
-    /// settling: then what was applied stays applied, and a later `settle` goes on, as is said there.
+    /// The first of these that the operation meets: `BadStamp`, `NoBase`, `TextLimit`, `Reversed`, `Overlap`; where the
+    /// buffer has LFs alone `CarriageReturn`, with the first piece whose text has a CR; where none is equal to it
+    /// `Conflict` (with what is applied or waits), `Forked`; where it misses no cause `OpenVersion`, `PastEnd`,
+    /// `InsideChar`, `NoSuchEdit` (a count of no edit that the operation has seen), then `Full` where bytes, then
+    /// entries, pass their limit. The buffer is then as before, and the operation is dropped. `OutOfMemory` if an
+    /// allocation fails, and only where there is none of these and no equal operation. The buffer is then as before,
+    /// unless the operation was applied and an allocation failed while settling: then what was applied stays applied,
+    /// and a later `settle` goes on, as is said there.
     pub fn take(&mut self, op: Operation) -> Result<Took, OpFault>
         ensures ok { IfOk result (λ t. took_of (number_applied self.old self.new)
             (answer_to self.old op) ≡ Some t) }
@@ -73,7 +75,7 @@ impl Buffer {
         ensures { answer_of result ≡ answer_under (rules self.now).endings self.now.history
             self.now.waiting op.now }
     {
-        self.document.judge(&self.waiting, op)
+        self.document.judge(self.endings, &self.waiting, op)
     }
 
     // Applies an operation that is good, unless it would exceed a limit, and settles.

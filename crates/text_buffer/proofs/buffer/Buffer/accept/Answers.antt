@@ -1,18 +1,17 @@
 use Rattle.std.proofs.Common.{◌≡◌, ◌⊎◌, inr, sym, ◌∙◌, ap, subst, length}
-use Rattle.op_model.proofs.settling.Settling.{good_alone}
 use Rattle.op_model.proofs.histories.Growing.{shape_of}
 use Rattle.op_model.specs.Steps.Step.{Takes}
 use Rattle.text_buffer.specs.Buffer.{BufferState, after_settle}
 use Rattle.text_buffer.specs.Calls.{IsStopped}
 use Rattle.text_buffer.specs.Settling.{IsStoppedSettling}
-use Rattle.text_buffer.proofs.Taken.{answer_good, plain_good, not_less, on_err}
+use Rattle.text_buffer.proofs.Taken.{answer_good, good_with_none, plain_good, not_less, on_err}
 use Rattle.text_buffer.proofs.buffer.Buffer.accept.Goals as goal
 
 pub full-requires : goal.full-requires
 full-requires c = shape_of c.args.self.now.history c.args.self.now.waiting c.args.op (plain_good c.args.self.now c.args.op c.requires)
 
 pub apply-requires-clause-good : goal.apply-requires-clause-good
-apply-requires-clause-good c = good_alone c.args.self.now.history c.args.self.now.waiting c.args.op (plain_good c.args.self.now c.args.op c.requires)
+apply-requires-clause-good c = good_with_none c.args.self.now c.args.op c.requires
 
 pub overflow_sub-result : goal.overflow_sub-result
 overflow_sub-result c = not_less c.args.self.now c.args.op c.len-before.result c.len.result

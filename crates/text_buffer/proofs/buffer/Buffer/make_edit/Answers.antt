@@ -1,27 +1,39 @@
-use Rattle.std.proofs.Common.{◌≡◌, ◌∙◌, [], ◌∷◌, ◌++◌, None, ap, subst}
+use Rattle.std.proofs.Common.{◌≡◌, ◌∙◌, List, None, IfOk, OnOk, sym, subst}
+use Rattle.op_model.specs.declared.operation.Piece.{Piece}
+use Rattle.op_model.specs.Edits.{replace_ranges}
+use Rattle.op_model.specs.Made.{local_edit, local_edit_fault}
+use Rattle.op_model.specs.Rules.{rule_fault}
 use Rattle.op_model.specs.Shown.{text}
-use Rattle.text_buffer.specs.Buffer.{BufferState, IsBuffer, edit_fault, edit_of}
-use Rattle.text_buffer.specs.BufferInside.{state_of}
-use Rattle.text_buffer.proofs.Edited.{good_of, room_made}
-use Rattle.text_buffer.proofs.Applied.{IsBuffer-put}
+use Rattle.text_buffer.specs.Buffer.{after_apply}
+use Rattle.text_buffer.proofs.LineEndings.{edit_rule, same_pieces}
 use Rattle.text_buffer.proofs.buffer.Buffer.make_edit.Goals as goal
 
-pub make_edit-requires : goal.make_edit-requires
-make_edit-requires g c = record {
-  replica = (c.self.invariant.least_replica, c.self.invariant.greatest_replica);
-  limits = c.self.inside.limits;
-  most_bytes = c.self.invariant.most_bytes;
-  most_entries = c.self.invariant.most_entries;
-  faultless = ap (λ (b : BufferState). edit_fault b c.args.changes.now) c.self.view_is ∙ c.requires;
-}
+pub make_entered-requires-clause-faultless : goal.make_entered-requires-clause-faultless
+make_entered-requires-clause-faultless g c =
+    let b = c.args.self.now in
+    let same = same_pieces b.endings c.args.changes.now (sym c.requires.rewrites ∙ c.if-rewrites.false) in
+    subst (λ (ps : List Piece). local_edit_fault b.limits b.history ps ≡ None) same c.requires.faultless
 
-pub invariant_of-self-2 : goal.invariant_of-self-2
-invariant_of-self-2 g c =
-    let e : edit_fault (state_of c.self.inside) c.args.changes.now ≡ None = ap (λ (b : BufferState). edit_fault b c.args.changes.now) c.self.view_is ∙ c.requires in
-    IsBuffer-put (state_of c.self.inside) (edit_of (state_of c.self.inside) c.args.changes.now) c.make_edit.new.self c.self.invariant c.known.ensures
-    (good_of (state_of c.self.inside) c.args.changes.now c.self.invariant e).0 (room_made (state_of c.self.inside) c.args.changes.now e) c.in_ok-made.ensures.new
+pub make_entered-requires-clause-rule : goal.make_entered-requires-clause-rule
+make_entered-requires-clause-rule g c =
+    let b = c.args.self.now in
+    let same = same_pieces b.endings c.args.changes.now (sym c.requires.rewrites ∙ c.if-rewrites.false) in
+    subst (λ (ps : List Piece). rule_fault b.endings (local_edit b.history b.replica ps) ≡ None) same (edit_rule b.endings b.history b.replica c.args.changes.now)
+
+pub returns-clause-made : goal.returns-clause-made
+returns-clause-made g c =
+    let b = c.args.self.now in
+    let same = same_pieces b.endings c.args.changes.now (sym c.requires.rewrites ∙ c.if-rewrites.false) in
+    subst (λ (ps : List Piece). IfOk c.make_entered.result (λ op. op ≡ local_edit b.history b.replica ps)) (sym same) c.make_entered.ensures.made
+
+pub returns-clause-new : goal.returns-clause-new
+returns-clause-new g c =
+    let b = c.args.self.now in
+    let same = same_pieces b.endings c.args.changes.now (sym c.requires.rewrites ∙ c.if-rewrites.false) in
+    subst (λ (ps : List Piece). OnOk c.make_entered.result (c.make_entered.new.self ≡ after_apply b (local_edit b.history b.replica ps))) (sym same) c.make_entered.ensures.new
 
 pub returns-clause-text : goal.returns-clause-text
 returns-clause-text g c =
-    ap text (c.in_ok-made.ensures.new ∙ ap (λ (b : BufferState). b.history ++ edit_of b c.args.changes.now ∷ []) c.self.view_is)
-    ∙ (good_of c.args.self.now c.args.changes.now (subst IsBuffer c.self.view_is c.self.invariant) c.requires).1
+    let b = c.args.self.now in
+    let same = same_pieces b.endings c.args.changes.now (sym c.requires.rewrites ∙ c.if-rewrites.false) in
+    subst (λ (ps : List Piece). OnOk c.make_entered.result (text c.make_entered.new.self.history ≡ replace_ranges ps (text b.history))) (sym same) c.make_entered.ensures.text

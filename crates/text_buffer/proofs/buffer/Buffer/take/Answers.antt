@@ -1,5 +1,4 @@
 use Rattle.std.proofs.Common.{◌≡◌, ◌++◌, ℕ, false, subst, sym}
-use Rattle.op_model.specs.declared.endings.Endings.TheVariants.{AsIs}
 use Rattle.op_model.specs.declared.operation.Operation.{Operation}
 use Rattle.op_model.specs.Answers.{any_stamp}
 use Rattle.op_model.specs.Answers.Answer.{Waits}
@@ -13,8 +12,8 @@ use Rattle.text_buffer.proofs.Applied.{IsBuffer-deferred}
 use Rattle.text_buffer.proofs.buffer.Buffer.take.Goals as goal
 
 -- no operation that is applied or waits has the stamp of one that is to wait
-stamp_is_new : (b : BufferState) (op : Operation) (r v : ℕ) → answer_under AsIs b.history b.waiting op ≡ Waits r v → any_stamp (b.history ++ b.waiting) op ≡ false
-stamp_is_new b op r v e = waits_new b.history b.waiting op r v (under_waits AsIs b.history b.waiting op r v e).0
+stamp_is_new : (b : BufferState) (op : Operation) (r v : ℕ) → answer_under b.endings b.history b.waiting op ≡ Waits r v → any_stamp (b.history ++ b.waiting) op ≡ false
+stamp_is_new b op r v e = waits_new b.history b.waiting op r v (under_waits b.endings b.history b.waiting op r v e).0
 
 pub defer-requires : goal.defer-requires
 defer-requires c = not_waiting c.self.inside.document c.self.inside.waiting c.args.op
