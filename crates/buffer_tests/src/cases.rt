@@ -46,6 +46,11 @@ pub(crate) fn open(alloc: Global, base: &str, limits: Limits) -> Result<Buffer, 
     }
 }
 
+/// A buffer of replica 9 that has LFs alone.
+pub(crate) fn open_lf(rt: &impl Abort, alloc: Global, base: &str, limits: Limits) -> Buffer {
+    Buffer::new_lf(alloc, 9, base, limits_of(limits)).expect(rt, "a buffer with LFs alone")
+}
+
 fn open_over(rt: &impl Abort, alloc: Global, base: &Base, limits: Limits) -> Buffer {
     Buffer::over(alloc, 9, base, limits_of(limits)).expect(rt, "a buffer over a base")
 }

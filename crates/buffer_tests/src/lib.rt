@@ -20,6 +20,8 @@ mod counted;
 #[cfg(test)]
 mod edits;
 #[cfg(test)]
+mod entering;
+#[cfg(test)]
 mod fault_rows;
 #[cfg(test)]
 mod faults;
