@@ -1,10 +1,11 @@
 //! Works that are timed: `bench WORK NUMBER..`, with `timed` as the last word for the microseconds of each. Its answer is
 //! written in any case, so that scripts can compare it. The works are `tree ITEMS`, `rope BYTES TIMES`, `search BYTES`,
-//! `snapshot BYTES`, `publish BYTES TIMES`, `edits`, `undo` and `anchors FRAGMENTS`, `forget COUNT`, `folds COUNT`, and
-//! `locators`, at places that the standard input names. A command line may name several.
+//! `snapshot BYTES`, `publish BYTES TIMES`, `edits`, `undo` and `anchors FRAGMENTS`, `forget COUNT`, `folds COUNT`,
+//! `endings BYTES EDITS`, and `locators`, at places that the standard input names. A command line may name several.
 #![tactic(auto)]
 
 mod buffers;
+mod endings;
 mod folds;
 mod naming;
 mod publish;
@@ -34,6 +35,7 @@ fn work<R: Threads + Wait + Sync>(
         "rope" => Ok(rope::works(report, size, number(words, 2))?),
         "search" => Ok(rope::searches(rt, report, size)?),
         "folds" => Ok(folds::works(report, size)?),
+        "endings" => Ok(endings::works(report, size, number(words, 2))?),
         "publish" => Ok(publish::works(rt, report, size, number(words, 2))?),
         work => Ok(buffers::works(report, work, size)?),
     }
