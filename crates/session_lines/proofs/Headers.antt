@@ -1,7 +1,7 @@
 -- What a session keeps of its header: a base no longer than the text, and 1 to 64 distinct ids of replicas.
 use Rattle.op_model.specs.Operations.{last_replica}
 use Rattle.op_model.specs.Domains.{IsReplica}
-use Rattle.std.proofs.Common.{◌≡◌, ℕ, suc, ◌≤◌, Bool, true, false, cond, ◌&&◌, ◌==◌, nat_le, List, [], ◌∷◌, length, get_or, Option, Some, None, option_map, option_and_then, Result, Ok, Err, refl, subst, arith}
+use Rattle.std.proofs.Common.{◌≡◌, ◌⊎◌, inl, inr, ℕ, suc, ◌≤◌, Bool, true, false, cond, ◌&&◌, ◌==◌, nat_le, List, [], ◌∷◌, length, get_or, Option, Some, None, option_map, option_and_then, Result, Ok, Err, refl, subst, arith}
 use Rattle.std.specs.Prelude.{⊤, codes, ok_or}
 use Rattle.std.specs.List.{All, AllByRecursion, list_all, onto_first}
 use Rattle.std.specs.Str.{is_utf8}
@@ -13,7 +13,7 @@ use Rattle.serde_json.specs.Read.{read}
 use Rattle.session_lines.specs.Json.{value_of, list_of, members_of, is_text, is_number}
 use Rattle.session_lines.specs.Cut.{lines_of}
 use Rattle.session_lines.specs.Parts.{all_of, id_of_value, are_distinct}
-use Rattle.session_lines.specs.Heading.{is_replica, most_replicas, are_replicas, replicas_from, header_with, header_from, header_of_value}
+use Rattle.session_lines.specs.Heading.{is_replica, most_replicas, are_replicas, replicas_from, format_of_value, header_with, header_from, header_of_value}
 use Rattle.session_lines.specs.Session.{header_or_word, header_of, then_from, rest_of, with_header, session_of, IsSession}
 use Rattle.session_lines.specs.declared.header.Header.{Header}
 use Rattle.session_lines.specs.declared.session.SessionLine.{SessionLine}
@@ -47,7 +47,7 @@ value_short line = elim (is_utf8 line) as (λ b. MembersOf (length line) (cond b
 -- ---- the header
 
 abbrev Fits : ℕ → Header → Type 0
-Fits n h = (length h.base ≤ n) × (are_replicas h.replicas ≡ true)
+Fits n h = ((h.version ≡ 1) ⊎ (h.version ≡ 2)) × (length h.base ≤ n) × (are_replicas h.replicas ≡ true)
 
 abbrev HeaderOf : ℕ → Option Header → Type 0
 HeaderOf n None = ⊤
@@ -69,10 +69,20 @@ ids_listed : (o : Option (List Data)) → IdsOf (option_and_then replicas_from o
 ids_listed None = tt
 ids_listed (Some ds) = ids_checked (all_of id_of_value ds)
 
-with_both : (n : ℕ) (b : Option (List ℕ)) (rs : Option (List ℕ)) → AtMost n b → IdsOf rs → HeaderOf n (header_with b rs)
-with_both n None rs h i = tt
-with_both n (Some base) None h i = tt
-with_both n (Some base) (Some ids) h i = (h, i)
+abbrev VersionOf : Option ℕ → Type 0
+VersionOf None = ⊤
+VersionOf (Some v) = (v ≡ 1) ⊎ (v ≡ 2)
+
+one_or_two : (a b : Bool) → VersionOf (cond a (Some 1) (cond b (Some 2) None))
+one_or_two true b = inl refl
+one_or_two false true = inr refl
+one_or_two false false = tt
+
+with_all : (n : ℕ) (v : Option ℕ) (b : Option (List ℕ)) (rs : Option (List ℕ)) → VersionOf v → AtMost n b → IdsOf rs → HeaderOf n (header_with v b rs)
+with_all n None b rs k h i = tt
+with_all n (Some v) None rs k h i = tt
+with_all n (Some v) (Some base) None k h i = tt
+with_all n (Some v) (Some base) (Some ids) k h i = (k, h, i)
 
 either : (n : ℕ) (b : Bool) (h : Option Header) → HeaderOf n h → HeaderOf n (cond b h None)
 either n true h f = f
@@ -84,7 +94,7 @@ from_members n (a ∷ []) h = tt
 from_members n (a ∷ b ∷ []) h = tt
 from_members n (a ∷ b ∷ c ∷ []) h = tt
 from_members n (w ∷ v ∷ b ∷ rs ∷ []) h =
-    either n (is_text (codes "zedbuf") w && is_number 1 v) _ (with_both n (as_str b) (option_and_then replicas_from (members_of rs)) h.1.1.0 (ids_listed (members_of rs)))
+    either n (is_text (codes "zedbuf") w) _ (with_all n (format_of_value v) (as_str b) (option_and_then replicas_from (members_of rs)) (one_or_two (is_number 1 v) (is_number 2 v)) h.1.1.0 (ids_listed (members_of rs)))
 from_members n (a ∷ b ∷ c ∷ d ∷ e ∷ ds) h = tt
 
 from_list : (n : ℕ) (o : Option (List Data)) → ListOf n o → HeaderOf n (option_and_then header_from o)
@@ -144,7 +154,7 @@ SessionOf n (Ok s) = IsSession n s
 
 with_lines : (n m : ℕ) (h : Header) (r : Result (List SessionLine) DecodeFault) → n ≤ m → Fits n h → SessionOf m (with_header h r)
 with_lines n m h (Err e) le f = tt
-with_lines n m h (Ok ls) le f = record { version = refl; base = omega (arith, f.0); replicas = f.1; ids = ids_are_replicas h.replicas f.1 }
+with_lines n m h (Ok ls) le f = record { version = f.0; base = omega (arith, f.1); replicas = f.2; ids = ids_are_replicas h.replicas f.2 }
 
 header_lines : (n m : ℕ) (r : Result Header Word) (ls : List (List ℕ)) → n ≤ m → HeaderOrWord n r → SessionOf m (then_from 1 r (λ h. with_header h (rest_of h.replicas [] ls)))
 header_lines n m (Err w) ls le f = tt

@@ -38,6 +38,24 @@ pub a_session : session_of_text (codes "[\"zedbuf\",1,\"ab\",[7,2]]\n[\"edit\",2
 unfolding session_of_text value_of line_of_value header_of_value header_of line_of is_utf8 chars serde_json_on_literals
 a_session = refl
 
+-- the second version, by whose buffers a CR in a base becomes an LF: the base of the session is the text as it stands
+pub a_second_version : session_of_text (codes "[\"zedbuf\",2,\"a\\r\\nb\",[1]]\n[\"text\",1]\n")
+    ≡ Ok (record { version = 2; base = codes "a\r\nb"; replicas = 1 ∷ []; lines = Text 1 ∷ [] })
+unfolding session_of_text value_of line_of_value header_of_value header_of line_of is_utf8 chars serde_json_on_literals
+a_second_version = refl
+
+pub a_third_version : session_of_text (codes "[\"zedbuf\",3,\"ab\",[1]]\n") ≡ Err (Bad 1 Header)
+unfolding session_of_text value_of line_of_value header_of_value header_of line_of is_utf8 chars serde_json_on_literals
+a_third_version = refl
+
+pub no_version : session_of_text (codes "[\"zedbuf\",0,\"ab\",[1]]\n") ≡ Err (Bad 1 Header)
+unfolding session_of_text value_of line_of_value header_of_value header_of line_of is_utf8 chars serde_json_on_literals
+no_version = refl
+
+pub a_version_with_a_fraction : session_of_text (codes "[\"zedbuf\",2.0,\"ab\",[1]]\n") ≡ Err (Bad 1 Header)
+unfolding session_of_text value_of line_of_value header_of_value header_of line_of is_utf8 chars serde_json_on_literals
+a_version_with_a_fraction = refl
+
 pub no_line : session_of_text (codes "") ≡ Err (Bad 1 Header)
 unfolding session_of_text
 no_line = refl

@@ -24,14 +24,19 @@ are_replicas ids = (nat_le 1 (length ids) && nat_le (length ids) most_replicas) 
 abbrev pub replicas_from : List Data → Option (List ℕ)
 replicas_from ds = option_and_then (λ ids. if are_replicas ids then Some ids else None) (all_of id_of_value ds)
 
-abbrev pub header_with : Option (List ℕ) → Option (List ℕ) → Option Header
-header_with b rs = option_and_then (λ base. option_map (λ ids. record { base = base; replicas = ids }) rs) b
+-- the version of the format, 1 or 2
+abbrev pub format_of_value : Data → Option ℕ
+format_of_value d = if is_number 1 d then Some 1 else if is_number 2 d then Some 2 else None
 
--- ["zedbuf", 1, BASE, [R, ..]]
+abbrev pub header_with : Option ℕ → Option (List ℕ) → Option (List ℕ) → Option Header
+header_with v b rs = option_and_then (λ version. option_and_then
+    (λ base. option_map (λ ids. record { version = version; base = base; replicas = ids }) rs) b) v
+
+-- ["zedbuf", 1, BASE, [R, ..]], or with 2 in the place of the 1
 abbrev pub header_from : List Data → Option Header
 header_from (w ∷ v ∷ b ∷ rs ∷ []) =
-    if is_text (codes "zedbuf") w && is_number 1 v
-    then header_with (as_str b) (option_and_then replicas_from (members_of rs))
+    if is_text (codes "zedbuf") w
+    then header_with (format_of_value v) (as_str b) (option_and_then replicas_from (members_of rs))
     else None
 header_from _ = None
 

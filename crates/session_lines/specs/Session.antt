@@ -1,8 +1,10 @@
 -- Which session a text is, or its first bad line and the first word that applies to it.
-use Rattle.std.specs.Prelude.{◌≡◌, ℕ, ◌+◌, ◌≤◌, List, [], ◌∷◌, ◌++◌, length, not, ◌&&◌, nat_lt, nat_le, Bool, true, false, Option, Some, None, Result, Ok, Err, ok_or, if◌then◌else◌}
+use Rattle.std.specs.Prelude.{◌≡◌, ◌⊎◌, ◌==◌, ℕ, ◌+◌, ◌≤◌, List, [], ◌∷◌, ◌++◌, length, not, ◌&&◌, nat_lt, nat_le, Bool, true, false, Option, Some, None, Result, Ok, Err, ok_or, if◌then◌else◌}
 use Rattle.std.specs.List.{All, count_by, list_all, list_any}
 use Rattle.std.specs.Str.{bytes_eq}
 use Rattle.op_model.specs.Domains.{IsReplica}
+use Rattle.op_model.specs.declared.endings.Endings.{Endings}
+use Rattle.op_model.specs.declared.endings.Endings.TheVariants.{AsIs, Lf}
 use Rattle.op_model.specs.Choice.{first_of, when}
 use Rattle.serde_json.specs.Data.{Data}
 use Rattle.session_lines.specs.Json.{value_of}
@@ -210,11 +212,15 @@ rest_of ids before (l ∷ ls) =
 
 abbrev pub with_header : Header → Result (List SessionLine) DecodeFault → Result Session DecodeFault
 with_header h (Err e) = Err e
-with_header h (Ok ls) = Ok (record { version = 1; base = h.base; replicas = h.replicas; lines = ls })
+with_header h (Ok ls) = Ok (record { version = h.version; base = h.base; replicas = h.replicas; lines = ls })
 
 abbrev pub session_of : List (List ℕ) → Result Session DecodeFault
 session_of [] = Err (Bad 1 word.Header)
 session_of (l ∷ ls) = then_from 1 (header_of l) (λ h. with_header h (rest_of h.replicas [] ls))
+
+-- what the buffers of a session do with line endings, by its version
+abbrev pub endings_of : ℕ → Endings
+endings_of v = if v == 2 then Lf else AsIs
 
 -- the most lines of a session
 abbrev pub lines_limit : ℕ
@@ -230,7 +236,7 @@ session_of_text input =
 -- ---- what every session is like that was read from that many bytes
 
 pub record IsSession (bytes : ℕ) (s : Session) : Type 0 where
-  pub version : s.version ≡ 1
+  pub version : (s.version ≡ 1) ⊎ (s.version ≡ 2)
   pub base : length s.base ≤ bytes
   pub replicas : are_replicas s.replicas ≡ true
   pub ids : All IsReplica s.replicas

@@ -143,10 +143,16 @@ fn session_of(alloc: Global, input: &[u8]) -> Result<Session, DecodeFault>
 {
     let (line, after) = first_line(input);
     match header_of(alloc, line) {
-        Ok(Header { base, replicas }) => {
+        Ok(
+            Header {
+                version,
+                base,
+                replicas,
+            },
+        ) => {
             let lines = rest_of(alloc, replicas.as_slice(), after)?;
             Ok(Session {
-                version: 1,
+                version,
                 base,
                 replicas,
                 lines,

@@ -4,7 +4,7 @@ ghost use Rattle.std.specs.List.{list_all};
 ghost use Rattle.serde_json.specs.View.{view};
 ghost use Rattle.session_lines.specs.Json.{members_of};
 ghost use Rattle.session_lines.specs.Parts.{all_of, are_distinct, id_of_value};
-ghost use Rattle.session_lines.specs.Heading.{is_replica, are_replicas, replicas_from, header_from, header_of_value};
+ghost use Rattle.session_lines.specs.Heading.{is_replica, are_replicas, replicas_from, format_of_value, header_from, header_of_value};
 
 use crate::OutOfMemory;
 use crate::line_value::{is_number, is_text, members_of};
@@ -17,6 +17,8 @@ use std::alloc::Global;
 /// What the first line says.
 #[derive(Drop)]
 pub struct Header {
+    /// The version of the format, 1 or 2.
+    pub version: u32,
     pub base: Text,
     pub replicas: Ids,
 }
@@ -88,20 +90,37 @@ fn replicas_of(alloc: Global, value: &Value) -> Result<Option<Ids>, OutOfMemory>
     }
 }
 
+// The version of the format that the value is.
+fn format_of_value(value: &Value) -> Option<u32>
+    ensures { result ≡ format_of_value (view value.now) }
+{
+    if is_number(value, 1) {
+        return Some(1);
+    }
+    if is_number(value, 2) {
+        return Some(2);
+    }
+    None
+}
+
 fn header_from(alloc: Global, members: &[Value]) -> Result<Option<Header>, OutOfMemory>
     ensures { IfOk result (λ h. h ≡ header_from (map view members.now)) }
 {
     let [word, version, base, replicas] = members else {
         return Ok(None);
     };
-    if !(is_text(word, "zedbuf") && is_number(version, 1)) {
+    if !is_text(word, "zedbuf") {
         return Ok(None);
     }
+    let Some(version) = format_of_value(version) else {
+        return Ok(None);
+    };
     let Some(base) = base.as_str() else {
         return Ok(None);
     };
     match replicas_of(alloc, replicas)? {
         Some(replicas) => Ok(Some(Header {
+            version,
             base: Text::new(String::from_str(alloc, base)?),
             replicas,
         })),

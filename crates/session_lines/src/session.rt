@@ -1,10 +1,10 @@
 //! A session, as it is read.
 ghost use Rattle.std.specs.Prelude.{◌≡◌};
 ghost use Rattle.std.specs.Option.{option_copied};
-ghost use Rattle.session_lines.specs.Session.{anchor_name, is_operation, is_query, mark_name, operation_count, query_count};
+ghost use Rattle.session_lines.specs.Session.{anchor_name, endings_of, is_operation, is_query, mark_name, operation_count, query_count};
 
 use crate::line_list::SessionLines;
-use op_model::{Bias, EditOp, Pieces, Text, UndoOp};
+use op_model::{Bias, EditOp, Endings, Pieces, Text, UndoOp};
 use std::marker::Model;
 
 /// A line after the header. A replica that acts in it is one of the header's.
@@ -184,7 +184,7 @@ impl Numbers {
 /// What a session's bytes say: a base text, replicas that each have a buffer over it, and what they do, line by line.
 #[derive(Drop)]
 pub struct Session {
-    /// The version of the format, which is 1.
+    /// The version of the format, 1 or 2.
     pub version: u32,
     /// The text that each replica begins with.
     pub base: Text,
@@ -195,6 +195,17 @@ pub struct Session {
 }
 
 impl Session {
+    /// What the replicas' buffers do with line endings: `AsIs` in version 1, `Lf` in version 2. O(1); does not
+    /// allocate.
+    pub fn endings(&self) -> Endings
+        ensures { result ≡ endings_of self.now.version }
+    {
+        if self.version == 2 {
+            return Endings::Lf;
+        }
+        Endings::AsIs
+    }
+
     /// How many operation lines there are. Linear in the lines.
     pub fn operation_count(&self) -> u64
         ensures { result ≡ operation_count self.now.lines }

@@ -62,17 +62,17 @@ module _ (n : ℕ) (some : 1 ≤ n) (most : n ≤ 16) where
   head_short : IsLine (header_value base_text (ids_to n)) 2
   head_short = (plain_head, (omega arith, (plain_base, (ids_short (ids_to n) (ids_to n) known, tt))))
 
-  head_form : header_of_value (header_value base_text (ids_to n)) ≡ Some (record { base = base_text; replicas = ids_to n })
+  head_form : header_of_value (header_value base_text (ids_to n)) ≡ Some (record { version = 1; base = base_text; replicas = ids_to n })
   unfolding header_of_value
   head_form =
       let ds : List Data = map number_value (ids_to n) in
       let same : list_of (items_of ds) ≡ ds = list_of-items ds in
       let good : are_replicas (ids_to n) ≡ true = replicas_below 16 refl n some most in
-      ap (λ l. header_with (Some base_text) (replicas_from l)) same
-      ∙ ap (λ o. header_with (Some base_text) (option_and_then (λ ids. cond (are_replicas ids) (Some ids) None) o)) (ids_from (ids_to n) (ids_to n) known)
-      ∙ ap (λ (b : Bool). header_with (Some base_text) (cond b (Some (ids_to n)) None)) good
+      ap (λ l. header_with (Some 1) (Some base_text) (replicas_from l)) same
+      ∙ ap (λ o. header_with (Some 1) (Some base_text) (option_and_then (λ ids. cond (are_replicas ids) (Some ids) None) o)) (ids_from (ids_to n) (ids_to n) known)
+      ∙ ap (λ (b : Bool). header_with (Some 1) (Some base_text) (cond b (Some (ids_to n)) None)) good
 
-  head_read : header_of (compact_text (header_value base_text (ids_to n))) ≡ Ok (record { base = base_text; replicas = ids_to n })
+  head_read : header_of (compact_text (header_value base_text (ids_to n))) ≡ Ok (record { version = 1; base = base_text; replicas = ids_to n })
   unfolding header_of
   head_read = ap header_or_word (value_back (header_value base_text (ids_to n)) 2 (omega arith) head_short) ∙ ap (λ o. ok_or o word.Header) head_form
 
@@ -101,7 +101,7 @@ module _ (n : ℕ) (some : 1 ≤ n) (most : n ≤ 16) where
   session_read b ls h short =
       let d : Data = header_value base_text (ids_to n) in
       let first : List ℕ = compact_text d in
-      let header : Header = record { base = base_text; replicas = ids_to n } in
+      let header : Header = record { version = 1; base = base_text; replicas = ids_to n } in
       let lines : lines_of (session_text (session_with n ls)) ≡ first ∷ texts_of ls =
       cut_value d (map line_value ls) (plain_line d 2 (head_short n some most)) ∙ ap (λ ts. first ∷ ts) (cut_lines (ids_to n) 0 b ls h) in
       let few : nat_lt lines_limit (length (first ∷ texts_of ls)) ≡ false =
