@@ -3,7 +3,7 @@ use Rattle.std.proofs.Common.{◌≡◌, ℕ, ◌+◌, ◌==◌, not, cond, nat_
 use Rattle.std.specs.Option.{option_and_then}
 use Rattle.std.specs.List.{position, position_or_len}
 use Rattle.std.proofs.lemmas.List.{length-map}
-use Rattle.text_buffer.specs.Buffer.{BufferState}
+use Rattle.text_buffer.specs.Buffer.{BaseText, BufferState}
 use Rattle.session_lines.specs.Report.{report_text}
 use Rattle.session_lines.specs.declared.report.Report.{Report}
 use Rattle.session_replay.specs.Work.{buffer_of, first_buffer, reports_at, with_buffer}
@@ -12,12 +12,12 @@ use Rattle.session_replay.proofs.Steps.{none_reported}
 
 -- ---- buffers that are opened for ids
 
-place-opened : (base : List ℕ) (r : ℕ) (ids : List ℕ) → position_or_len (is_own r) (map (first_buffer base) ids) ≡ position_or_len (λ (i : ℕ). i == r) ids
+place-opened : (base : BaseText) (r : ℕ) (ids : List ℕ) → position_or_len (is_own r) (map (first_buffer base) ids) ≡ position_or_len (λ (i : ℕ). i == r) ids
 place-opened base r [] = refl
 place-opened base r (i ∷ ids) = ap (λ (m : ℕ). cond (not (i == r)) (1 + m) 0) (place-opened base r ids)
 
 -- the place of a replica is that of its id
-pub position-opened : (base : List ℕ) (r : ℕ) (ids : List ℕ) → position (is_own r) (map (first_buffer base) ids) ≡ position (λ (i : ℕ). i == r) ids
+pub position-opened : (base : BaseText) (r : ℕ) (ids : List ℕ) → position (is_own r) (map (first_buffer base) ids) ≡ position (λ (i : ℕ). i == r) ids
 position-opened base r ids = ap₂ (λ (m n : ℕ). cond (nat_lt m n) (Some m) None) (place-opened base r ids) (length-map ids (first_buffer base))
 
 -- ---- f is what becomes of the buffer of replica r

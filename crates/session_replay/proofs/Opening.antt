@@ -21,7 +21,7 @@ use Rattle.query_dispatch.specs.Final.{AreGathered, IsPast}
 use Rattle.query_dispatch.specs.Published.{AreLevel, AreTied, published_lists}
 use Rattle.query_dispatch.specs.States.{PublishersState}
 use Rattle.query_dispatch.proofs.Dealing.{tied_length}
-use Rattle.session_replay.specs.Work.{State, after_all, all_events, at_end, first_buffer, opening}
+use Rattle.session_replay.specs.Work.{State, after_all, all_events, at_end, base_of, first_buffer, opening}
 use Rattle.session_replay.specs.Working.{state_of}
 use Rattle.session_replay.specs.Traffic.{session_limit}
 use Rattle.session_replay.specs.Names.{by_bytes}
@@ -39,18 +39,18 @@ use Rattle.session_replay.proofs.Gathered.{gathered, gathered_lines, past, repli
 
 -- ---- at the opening
 
-pub opened_state : (s : Session) (p : Progress) → p.exchange.buffers ≡ map (first_buffer s.base) s.replicas → p.exchange.operations ≡ [] → by_bytes p.anchors.entries ≡ [] → by_bytes p.marks.entries ≡ [] → state_of p ≡ opening s
-opened_state s p b o n m = same_state p.exchange.buffers (map (first_buffer s.base) s.replicas) p.exchange.operations [] b o ∙ same_names (opening s) (by_bytes p.anchors.entries) [] (by_bytes p.marks.entries) [] n m
+pub opened_state : (s : Session) (p : Progress) → p.exchange.buffers ≡ map (first_buffer (base_of s)) s.replicas → p.exchange.operations ≡ [] → by_bytes p.anchors.entries ≡ [] → by_bytes p.marks.entries ≡ [] → state_of p ≡ opening s
+opened_state s p b o n m = same_state p.exchange.buffers (map (first_buffer (base_of s)) s.replicas) p.exchange.operations [] b o ∙ same_names (opening s) (by_bytes p.anchors.entries) [] (by_bytes p.marks.entries) [] n m
 
 few_replicas : (s : Session) → IsSession session_limit s → length s.replicas ≤ most_replicas
 few_replicas s h = let few = (and_parts (nat_le 1 (length s.replicas)) (nat_le (length s.replicas) most_replicas) (and_parts _ _ h.replicas).0).1 in grind (arith, nat_tests)
 
-module _ (s : Session) (h : IsSession session_limit s) (o : Editor) (p : PublishersState) (start : o.progress.exchange.buffers ≡ map (first_buffer s.base) s.replicas) where
+module _ (s : Session) (h : IsSession session_limit s) (o : Editor) (p : PublishersState) (start : o.progress.exchange.buffers ≡ map (first_buffer (base_of s)) s.replicas) where
   pub can_edit : (workers limit : ℕ) (ls : List SessionLine) → ls ≡ s.lines → o.workers ≡ workers → length o.dispatcher.inboxes ≡ workers → limit ≡ query_count s.lines
       → HasAsked o.dispatcher [] → o.dispatcher.limit ≡ limit → AreLevel p → AreTied o.dispatcher.inboxes p → published_lists p ≡ histories o.progress.exchange.buffers → CanEdit ls o p
   can_edit workers limit ls l w n room asked most level tied published = record {
     asking = record {
-      few = omega (arith, few_replicas s h, ap (λ bs. length bs) start, length-map s.replicas (first_buffer s.base));
+      few = omega (arith, few_replicas s h, ap (λ bs. length bs) start, length-map s.replicas (first_buffer (base_of s)));
       asked = asked;
       level = level;
       tied = tied;

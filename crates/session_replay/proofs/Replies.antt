@@ -9,7 +9,7 @@ use Rattle.sum_tree.proofs.Keys.{AllPairs-append, AllPairs-cross, AllPairs-right
 use Rattle.op_model.specs.declared.operation.Operation.{Operation}
 use Rattle.op_model.specs.Shown.{text}
 use Rattle.op_model.proofs.Elements.{AllPairs-nil}
-use Rattle.text_buffer.specs.Buffer.{BufferState}
+use Rattle.text_buffer.specs.Buffer.{BaseText, BufferState}
 use Rattle.text_buffer.specs.Document.{IsFront}
 use Rattle.text_buffer.proofs.Fronts.{front_length, front_trans}
 use Rattle.session_lines.specs.Report.{report_text}
@@ -19,7 +19,7 @@ use Rattle.session_lines.specs.declared.session.Session.{Session}
 use Rattle.session_lines.specs.declared.session.SessionLine.{SessionLine}
 use Rattle.session_lines.specs.declared.session.SessionLine.TheVariants as line
 use Rattle.session_replay.specs.declared.queries.Question.{Question}
-use Rattle.session_replay.specs.Work.{State, after_all, applied_count, buffer_of, first_buffer, opening, step}
+use Rattle.session_replay.specs.Work.{State, after_all, applied_count, base_of, buffer_of, first_buffer, opening, step}
 use Rattle.session_replay.specs.Queries.{AreReplies, AskedQuery, IsReport, IsWithin, NeverFalls, Reply, answer_line, end_of, history_or_empty, plain_line, queries_from, queries_of, query_at, query_of, query_with, question_of, reply_line, report_of, report_with}
 use Rattle.session_replay.specs.Laws.{PlainWithWorkers, PlainWithoutQueries, PlainWithoutWorkers}
 use Rattle.session_replay.specs.Later.{AllGrow}
@@ -142,12 +142,12 @@ pairs_of workers (c ∷ cs) a =
     (All-map (NeverFalls workers (on_the_spot c)) on_the_spot cs (All-weaker (Follows c) (λ d. NeverFalls workers (on_the_spot c) (on_the_spot d)) (λ d f k w. f k) cs first))
     (pairs_of workers cs (AllPairs-right Follows (c ∷ []) cs a))
 
-opened_based : (t : List ℕ) (rs : List ℕ) → AreBased (map (first_buffer t) rs)
+opened_based : (t : BaseText) (rs : List ℕ) → AreBased (map (first_buffer t) rs)
 opened_based t [] = tt
 opened_based t (r ∷ rs) = (omega arith, opened_based t rs)
 
 pub placed : (s : Session) → All (IsPlaced (end_of s)) (queries_of s)
-placed s = all_placed 1 s.lines (opening s) (opened_based s.base s.replicas)
+placed s = all_placed 1 s.lines (opening s) (opened_based (base_of s) s.replicas)
 
 spot_replies : (s : Session) (workers : ℕ) → AreReplies s workers (map on_the_spot (queries_of s))
 spot_replies s workers = record {

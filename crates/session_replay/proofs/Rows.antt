@@ -116,6 +116,18 @@ pub marks_of_two_replicas : response_of (Replay 0) (codes "[\"zedbuf\",1,\"ab\",
 unfolding response_of open_histories since report_of report_text session_of_text value_of line_of_value header_of_value header_of line_of line_text made_line mark_line since_line text_line replica_line digits escape_byte is_utf8 chars end_point newline_count rows last_row serde_json_on_literals
 marks_of_two_replicas = refl
 
+-- in the second version each CR LF and each other CR enters as one LF, and an operation with a CR is refused
+pub returns_enter_as_line_feeds : response_of (Replay 2) (codes "[\"zedbuf\",2,\"a\\r\\nb\\rc\",[1,2]]\n[\"edit\",1,[[5,5,\"\\r\"]]]\n[\"op\",[3,2],[[0,1]],[[0,0,\"\\r\"]]]\n[\"give\",1,2]\n[\"text\",1]\n")
+    ≡ (status.Done, codes "1: 2.1\n2: 3.2\ngive 2 to 1: carriage 0\ntext 1: 6 bytes, end 3:0, 4 rows, \"a\\nb\\nc\\n\"\nreplica 1: 6 bytes, 4 rows, 1 applied, 0 waiting, 0 refused\nfinal 1: \"a\\nb\\nc\\n\"\nreplica 2: 5 bytes, 3 rows, 0 applied, 0 waiting, 0 refused\nfinal 2: \"a\\nb\\nc\"\n")
+unfolding response_of open_histories report_of report_text session_of_text value_of line_of_value header_of_value header_of line_of line_text made_line refused_edit_line settled_line give_line text_line replica_line refused_op_line digits escape_byte is_utf8 chars end_point newline_count rows last_row serde_json_on_literals
+returns_enter_as_line_feeds = refl
+
+-- and in the first they stay
+pub returns_stay : response_of (Replay 2) (codes "[\"zedbuf\",1,\"a\\r\\nb\\rc\",[1,2]]\n[\"edit\",1,[[5,5,\"\\r\"]]]\n[\"op\",[3,2],[[0,1]],[[0,0,\"\\r\"]]]\n[\"give\",1,2]\n[\"text\",1]\n")
+    ≡ (status.Done, codes "1: 2.1\n2: 3.2\ngive 2 to 1: applied 1\ntext 1: 8 bytes, end 1:4, 2 rows, \"\\ra\\r\\nb\\r\\rc\"\nreplica 1: 8 bytes, 2 rows, 2 applied, 0 waiting, 0 refused\nfinal 1: \"\\ra\\r\\nb\\r\\rc\"\nreplica 2: 6 bytes, 2 rows, 0 applied, 0 waiting, 0 refused\nfinal 2: \"a\\r\\nb\\rc\"\n")
+unfolding response_of open_histories report_of report_text session_of_text value_of line_of_value header_of_value header_of line_of line_text made_line refused_edit_line settled_line give_line text_line replica_line refused_op_line digits escape_byte is_utf8 chars end_point newline_count rows last_row serde_json_on_literals
+returns_stay = refl
+
 -- ---- what is no session
 
 pub no_line : response_of (Replay 2) (codes "") ≡ (status.Session, codes "session line 1: header\n")

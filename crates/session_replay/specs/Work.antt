@@ -17,10 +17,10 @@ use Rattle.op_model.specs.Answers.{Answer}
 use Rattle.op_model.specs.Answers.Answer.{Good, Repeat, Waits, Refused}
 use Rattle.op_model.specs.Choice.{first_of}
 use Rattle.op_model.specs.Shown.{text}
-use Rattle.text_buffer.specs.Buffer.{BufferState, answer_to, after_apply, edit_fault, edit_of, undo_of, number_applied, over_base, after_settle, after_take, undo_fault}
+use Rattle.text_buffer.specs.Buffer.{BaseText, BufferState, base_under, answer_to, after_apply, edit_fault, edit_of, undo_of, number_applied, over_base, after_settle, after_take, undo_fault}
 use Rattle.text_dims.specs.Counts.{rows}
 use Rattle.text_dims.specs.Summaries.{end_point}
-use Rattle.session_lines.specs.Session.{unless}
+use Rattle.session_lines.specs.Session.{endings_of, unless}
 use Rattle.session_lines.specs.declared.session.SessionLine.{SessionLine}
 use Rattle.session_lines.specs.declared.session.SessionLine.TheVariants as line
 use Rattle.session_lines.specs.declared.session.Session.{Session}
@@ -219,9 +219,13 @@ at_end b =
     counts_report b
     ∷ (map (refused_report b.replica) b.refused ++ report.Text (head.FinalText b.replica) (text b.history) ∷ [])
 
+-- the base of a session's buffers: its text as it enters, by the session's version
+abbrev pub base_of : Session → BaseText
+base_of s = base_under (endings_of s.version) s.base
+
 -- a replica's buffer at first, with the limits of a session's buffers
-abbrev pub first_buffer : List ℕ → ℕ → BufferState
+abbrev pub first_buffer : BaseText → ℕ → BufferState
 first_buffer base r = over_base r base (record { bytes = 2 ^ 40; entries = 2 ^ 40 - 1 })
 
 abbrev pub opening : Session → State
-opening s = record { buffers = map (first_buffer s.base) s.replicas; operations = []; anchors = []; marks = [] }
+opening s = record { buffers = map (first_buffer (base_of s)) s.replicas; operations = []; anchors = []; marks = [] }

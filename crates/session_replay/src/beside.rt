@@ -327,7 +327,12 @@ fn replay_beside<R: Threads + Wait + Sync, G: Gate>(
         × (publishers.old.sizes ≡ []) }
     ensures { IfOk result (λ v. IsReport session workers v.items) }
 {
-    let progress = Progress::new(alloc, session.replicas.as_slice(), session.base.as_str())?;
+    let progress = Progress::new(
+        alloc,
+        session.endings(),
+        session.replicas.as_slice(),
+        session.base.as_str(),
+    )?;
     let firsts = progress.snapshots(alloc)?;
     let limit = session.query_count();
     let lines = session.lines.into_queue();

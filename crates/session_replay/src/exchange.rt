@@ -5,6 +5,7 @@ ghost use Rattle.std.specs.Option.{option_and_then, option_copied, option_map};
 ghost use Rattle.std.specs.Result.{result_ok};
 ghost use Rattle.std.specs.List.{count_by, position};
 ghost use Rattle.session_lines.specs.Report.{report_text};
+ghost use Rattle.text_buffer.specs.Buffer.{base_under};
 ghost use Rattle.session_replay.specs.Exchange.{applied_at, applied_len, is_named, named_made};
 ghost use Rattle.session_replay.specs.Traffic.{session_limit};
 ghost use Rattle.session_replay.specs.Work.{after_give, after_outcome, buffer_of, edit_outcome, first_buffer, first_unnamed, give_answer, operation_of, outcome_reports, reports_at, stamps_under, undo_outcome, with_buffer};
@@ -13,7 +14,7 @@ use crate::OutOfMemory;
 use crate::replica::Replica;
 use crate::replicas::Replicas;
 use lamport_clock::Lamport;
-use op_model::{Operation, Pieces};
+use op_model::{Endings, Operation, Pieces};
 use session_lines::GiveAnswer;
 use std::alloc::Global;
 use std::marker::Model;
@@ -52,15 +53,21 @@ impl Model for Exchange {
 }
 
 impl Exchange {
-    /// The replicas over a base, before the first line.
-    pub fn over(alloc: Global, ids: &[u16], base: &str) -> Result<Exchange, OutOfMemory>
+    /// The replicas over a base, before the first line, by what their buffers do with line endings.
+    pub fn over(
+        alloc: Global,
+        endings: Endings,
+        ids: &[u16],
+        base: &str,
+    ) -> Result<Exchange, OutOfMemory>
         requires ids { All IsReplica ids.now }
         requires base { length base.now ≤ session_limit }
-        ensures buffers { IfOk result (λ e. e.buffers ≡ map (first_buffer base.now) ids.now) }
+        ensures buffers { IfOk result
+            (λ e. e.buffers ≡ map (first_buffer (base_under endings base.now)) ids.now) }
         ensures operations { IfOk result (λ e. e.operations ≡ []) }
     {
         Ok(Exchange {
-            replicas: Replicas::over(alloc, ids, base)?,
+            replicas: Replicas::over(alloc, endings, ids, base)?,
             named: Vec::new(alloc),
         })
     }

@@ -11,6 +11,7 @@ ghost use Rattle.session_replay.specs.Work.{after_all};
 use crate::OutOfMemory;
 use crate::replay::Progress;
 use crate::replica::Replica;
+use op_model::Endings;
 use session_lines::{SessionLine, write_line};
 use session_maker::{Draws, author, turn};
 use std::alloc::Global;
@@ -40,7 +41,7 @@ impl Making {
         ensures draws { IfOk result (λ m. m.draws ≡ seed) }
         ensures lines { IfOk result (λ m. m.lines.items ≡ []) }
     {
-        let progress = Progress::new(alloc, ids, BASE_TEXT)?;
+        let progress = Progress::new(alloc, Endings::AsIs, ids, BASE_TEXT)?;
         Ok(Making {
             progress,
             draws: Draws::new(seed),

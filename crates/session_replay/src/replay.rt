@@ -15,13 +15,13 @@ ghost use Rattle.session_replay.specs.Beside.{histories};
 ghost use Rattle.session_replay.specs.Names.{by_bytes};
 ghost use Rattle.session_replay.specs.Traffic.{session_limit};
 ghost use Rattle.session_replay.specs.Working.{state_of};
-ghost use Rattle.text_buffer.specs.Buffer.{BufferState};
+ghost use Rattle.text_buffer.specs.Buffer.{BufferState, base_under};
 
 use crate::exchange::Exchange;
 use crate::replica::Replica;
 use crate::{OutOfMemory, names};
 use lamport_clock::Version;
-use op_model::{Anchor, Bias, Operation, Pieces, Text};
+use op_model::{Anchor, Bias, Endings, Operation, Pieces, Text};
 use session_lines::{LineQueue, Numbers, Report, Session, SessionLine, write_line};
 use std::alloc::Global;
 use std::collections::BTreeMap;
@@ -292,18 +292,24 @@ impl Progress {
 }
 
 impl Progress {
-    /// Replicas over a base, which have done nothing yet.
-    pub fn new(alloc: Global, ids: &[u16], base: &str) -> Result<Progress, OutOfMemory>
+    /// Replicas over a base, which have done nothing yet, by what their buffers do with line endings.
+    pub fn new(
+        alloc: Global,
+        endings: Endings,
+        ids: &[u16],
+        base: &str,
+    ) -> Result<Progress, OutOfMemory>
         requires ids { All IsReplica ids.now }
         requires base { length base.now ≤ session_limit }
-        ensures buffers { IfOk result (λ p. p.exchange.buffers ≡ map (first_buffer base.now) ids.now) }
+        ensures buffers { IfOk result
+            (λ p. p.exchange.buffers ≡ map (first_buffer (base_under endings base.now)) ids.now) }
         ensures operations { IfOk result (λ p. p.exchange.operations ≡ []) }
         ensures anchors { IfOk result (λ p. by_bytes p.anchors.entries ≡ []) }
         ensures marks { IfOk result (λ p. by_bytes p.marks.entries ≡ []) }
         ensures report { IfOk result (λ p. p.report.items ≡ []) }
     {
         Ok(Progress {
-            exchange: Exchange::over(alloc, ids, base)?,
+            exchange: Exchange::over(alloc, endings, ids, base)?,
             anchors: BTreeMap::new(alloc),
             marks: BTreeMap::new(alloc),
             report: Vec::new(alloc),
@@ -433,7 +439,12 @@ pub fn report(alloc: Global, session: Session) -> Result<Vec<u8>, OutOfMemory>
     requires { IsSession session_limit session }
     ensures { IfOk result (λ v. v.items ≡ report_text (report_of session)) }
 {
-    let mut progress = Progress::new(alloc, session.replicas.as_slice(), session.base.as_str())?;
+    let mut progress = Progress::new(
+        alloc,
+        session.endings(),
+        session.replicas.as_slice(),
+        session.base.as_str(),
+    )?;
     let mut answers = Vec::new(alloc);
     work_lines(
         &mut progress,

@@ -47,7 +47,7 @@ impl Replica {
     pub fn new(alloc: Global, id: u16, base: &Base) -> Result<Replica, OutOfMemory>
         requires least { 1 ≤ id }
         requires greatest { id ≤ 1023 }
-        requires base { length base.now ≤ session_limit }
+        requires base { length base.now.text ≤ session_limit }
         ensures { IfOk result (λ r. r ≡ first_buffer base.now id) }
     {
         match Buffer::over(alloc, id, base, Limits::MOST) {

@@ -1,11 +1,14 @@
 //! The replicas of a session, which are found by their ids.
 ghost use Rattle.op_model.specs.Domains.{IsReplica};
-ghost use Rattle.std.specs.Prelude.{◌≡◌, ◌≤◌, ◌<◌, ◌++◌, ◌==◌, ℕ, None, get_or, length, map, All, IfOk, OnOk};
+ghost use Rattle.std.specs.Prelude.{◌≡◌, ◌⊎◌, ◌≤◌, ◌<◌, ◌++◌, ◌==◌, ℕ, None, Some, get_or, length, map, All, IfErr, IfOk, OnOk};
 ghost use Rattle.std.specs.Option.{option_and_then, option_copied, option_map};
 ghost use Rattle.std.specs.Result.{result_ok};
 ghost use Rattle.std.specs.List.{position};
 ghost use Rattle.session_lines.specs.Report.{report_text};
 ghost use Rattle.session_replay.specs.Traffic.{session_limit};
+ghost use Rattle.op_model.specs.Rules.{text_under};
+ghost use Rattle.text_buffer.specs.Buffer.{base_fault, base_under};
+ghost use Rattle.text_buffer.specs.declared.faults.NewFault.{NewFault};
 ghost use Rattle.session_replay.specs.Exchange.{undo_outcome_of};
 ghost use Rattle.session_replay.specs.Later.{AllGrow};
 ghost use Rattle.session_replay.specs.Work.{after_give, after_outcome, buffer_of, edit_outcome, give_answer, first_buffer, outcome_reports, reports_at, with_buffer};
@@ -17,7 +20,7 @@ use op_model::{LAST_REPLICA, Operation, Pieces};
 use session_lines::GiveAnswer;
 use std::alloc::Global;
 use std::marker::Model;
-use text_buffer::{Base, NewFault};
+use text_buffer::{Base, Endings, NewFault};
 
 /// How many ids the table has, from 0: an id in a header is one of them.
 const IDS: u16 = LAST_REPLICA + 1;
@@ -46,12 +49,18 @@ impl Model for Replicas {
 impl Replicas {
     /// The replicas over a base, which is made ready once for all of them. Takes the time of that, and of a walk along the ids for
     /// each id of the table.
-    pub fn over(alloc: Global, ids: &[u16], base: &str) -> Result<Replicas, OutOfMemory>
+    pub fn over(
+        alloc: Global,
+        endings: Endings,
+        ids: &[u16],
+        base: &str,
+    ) -> Result<Replicas, OutOfMemory>
         requires ids { All IsReplica ids.now }
         requires base { length base.now ≤ session_limit }
-        ensures { IfOk result (λ r. r ≡ map (first_buffer base.now) ids.now) }
+        ensures { IfOk result
+            (λ r. r ≡ map (first_buffer (base_under endings base.now)) ids.now) }
     {
-        let list = replicas_over(alloc, ids, base)?;
+        let list = replicas_over(alloc, endings, ids, base)?;
         let indices = indices_of(alloc, ids)?;
         Ok(Replicas { list, indices })
     }
@@ -182,15 +191,33 @@ fn indices_of(alloc: Global, ids: &[u16]) -> Result<Vec<Option<usize>>, OutOfMem
     Ok(indices)
 }
 
-/// The replicas over the base, which is made ready once for all of them.
-fn replicas_over(alloc: Global, ids: &[u16], base: &str) -> Result<Vec<Replica>, OutOfMemory>
+/// The base of a text, by what the buffers over it do with line endings.
+fn base_under(alloc: Global, endings: Endings, text: &str) -> Result<Base, NewFault>
+    ensures new { IfOk result (λ b. b ≡ base_under endings text.now) }
+    ensures fault { IfErr result (λ e. (base_fault (text_under endings text.now) ≡ Some e)
+        ⊎ ((base_fault (text_under endings text.now) ≡ None) × (e ≡ NewFault.OutOfMemory))) }
+{
+    match endings {
+        Endings::AsIs => Base::new(alloc, text),
+        Endings::Lf => Base::new_lf(alloc, text),
+    }
+}
+
+/// The replicas over the base, which is made ready once for all of them, by what their buffers do with line endings.
+fn replicas_over(
+    alloc: Global,
+    endings: Endings,
+    ids: &[u16],
+    base: &str,
+) -> Result<Vec<Replica>, OutOfMemory>
     requires ids { All IsReplica ids.now }
     requires base { length base.now ≤ session_limit }
-    ensures { IfOk result (λ v. v.items ≡ map (first_buffer base.now) ids.now) }
+    ensures { IfOk result
+        (λ v. v.items ≡ map (first_buffer (base_under endings base.now)) ids.now) }
 {
-    match Base::new(alloc, base) {
+    match base_under(alloc, endings, base) {
         Ok(base) => open_replicas(alloc, ids, &base),
-        // the base is within every limit
+        // the base is within every limit, and no longer once it has entered
         Err(NewFault::Full { .. }) => unreachable!(),
         Err(NewFault::OutOfMemory) => Err(OutOfMemory),
     }
@@ -199,7 +226,7 @@ fn replicas_over(alloc: Global, ids: &[u16], base: &str) -> Result<Vec<Replica>,
 /// The replicas over a base that they share.
 fn open_replicas(alloc: Global, ids: &[u16], base: &Base) -> Result<Vec<Replica>, OutOfMemory>
     requires ids { All IsReplica ids.now }
-    requires base { length base.now ≤ session_limit }
+    requires base { length base.now.text ≤ session_limit }
     ensures { IfOk result (λ v. v.items ≡ map (first_buffer base.now) ids.now) }
 {
     let mut replicas = Vec::with_capacity(alloc, ids.len())?;

@@ -2,7 +2,8 @@ use Rattle.std.proofs.Common.{◌++◌, map, ap, ◌∙◌}
 use Rattle.std.specs.List.{flat_map}
 use Rattle.std.proofs.lemmas.Result.{IfOk-weaker}
 use Rattle.session_lines.specs.Report.{report_text}
-use Rattle.session_replay.specs.Work.{at_end, first_buffer}
+use Rattle.text_buffer.specs.Buffer.{base_under}
+use Rattle.session_replay.specs.Work.{at_end, base_of, first_buffer}
 use Rattle.session_replay.specs.Working.{state_of}
 use Rattle.session_replay.proofs.Opening.{opened_state}
 use Rattle.session_replay.proofs.Steps.{whole_report}
@@ -13,7 +14,8 @@ returns c =
     let s = c.args.session in
     let first = c.in_ok-progress.progress in
     let p = c.in_ok-progress.ensures in
-    let start = p.buffers ∙ ap (λ base. map (first_buffer base) c.as_slice.result.now) c.as_str.ensures ∙ ap (map (first_buffer s.base)) c.as_slice.ensures in
+    let start = p.buffers ∙ ap (λ base. map (first_buffer (base_under c.endings.result base)) c.as_slice.result.now) c.as_str.ensures
+    ∙ ap (λ e. map (first_buffer (base_under e s.base)) c.as_slice.result.now) c.endings.ensures ∙ ap (map (first_buffer (base_of s))) c.as_slice.ensures in
     let begins = opened_state s first start p.operations p.anchors p.marks in
     let worked = c.work_lines.new.progress in
     let answers = c.work_lines.new.answers.items in
