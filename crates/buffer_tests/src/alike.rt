@@ -1,5 +1,4 @@
 //! Two buffers, and whether they answer alike, whatever they are asked.
-use crate::cases::{open, opened};
 use crate::operations::{pieces, version};
 use applied_ops::Applied;
 use deferred_ops::Deferred;
@@ -7,29 +6,7 @@ use op_model::{EditFault, Operation, Piece};
 use std::alloc::Global;
 use std::process::Abort;
 use sum_tree::{OutOfMemory, SumTree};
-use text_buffer::{Anchor, Bias, Buffer, Limits, PlaceFault, Snapshot};
-
-/// A buffer and its twin.
-#[derive(Drop)]
-pub(crate) struct Pair {
-    pub(crate) buffer: Buffer,
-    pub(crate) twin: Buffer,
-}
-
-/// Two buffers of replica 9 over one text. A failed allocation ends a test.
-pub(crate) fn opened_two(rt: &impl Abort, alloc: Global, base: &str, limits: Limits) -> Pair {
-    Pair {
-        buffer: opened(rt, alloc, base, limits),
-        twin: opened(rt, alloc, base, limits),
-    }
-}
-
-/// Two buffers of replica 9 over one text.
-pub(crate) fn open_two(alloc: Global, base: &str, limits: Limits) -> Result<Pair, OutOfMemory> {
-    let buffer = open(alloc, base, limits)?;
-    let twin = open(alloc, base, limits)?;
-    Ok(Pair { buffer, twin })
-}
+use text_buffer::{Anchor, Bias, Buffer, PlaceFault, Snapshot};
 
 /// Whether the same operations are applied in the same order.
 pub(crate) fn apply_alike(a: &SumTree<Applied>, b: &SumTree<Applied>) -> bool {
@@ -124,17 +101,17 @@ fn meets(buffer: &mut Buffer, changes: &[Piece], fault: EditFault) -> bool {
 }
 
 // Whether an edit is the same operation, or meets the same fault.
-fn edits_alike(pair: &mut Pair, changes: &[Piece]) -> bool {
-    match pair.buffer.edit_uncounted(changes) {
-        Ok(op) => makes(&mut pair.twin, changes, &op),
-        Err(fault) => meets(&mut pair.twin, changes, fault),
+fn edits_alike(buffer: &mut Buffer, twin: &mut Buffer, changes: &[Piece]) -> bool {
+    match buffer.edit_uncounted(changes) {
+        Ok(op) => makes(twin, changes, &op),
+        Err(fault) => meets(twin, changes, fault),
     }
 }
 
 // Whether the next edit is the same operation, or meets the same fault.
-fn edit_alike(rt: &impl Abort, alloc: Global, pair: &mut Pair) -> bool {
+fn edit_alike(rt: &impl Abort, alloc: Global, buffer: &mut Buffer, twin: &mut Buffer) -> bool {
     let changes = pieces(alloc, &[(0, 0, "n")]).expect(rt, "memory");
-    edits_alike(pair, changes.as_slice())
+    edits_alike(buffer, twin, changes.as_slice())
 }
 
 fn are_alike(rt: &impl Abort, alloc: Global, a: &Buffer, b: &Buffer) -> bool {
@@ -144,7 +121,12 @@ fn are_alike(rt: &impl Abort, alloc: Global, a: &Buffer, b: &Buffer) -> bool {
 
 /// Whether a buffer and its twin have the same text, version, operations (applied, waiting and refused), places of anchors and edits
 /// since the base, and then make the same operation of an edit.
-pub(crate) fn answer_alike(rt: &impl Abort, alloc: Global, pair: &mut Pair) -> bool {
-    let alike = are_alike(rt, alloc, &pair.buffer, &pair.twin);
-    edit_alike(rt, alloc, pair) & alike
+pub(crate) fn answer_alike(
+    rt: &impl Abort,
+    alloc: Global,
+    buffer: &mut Buffer,
+    twin: &mut Buffer,
+) -> bool {
+    let alike = are_alike(rt, alloc, buffer, twin);
+    edit_alike(rt, alloc, buffer, twin) & alike
 }

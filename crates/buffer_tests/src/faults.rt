@@ -1,6 +1,6 @@
 //! Each fault that an operation can meet, by each of its causes, when it is taken and while settling. After each the buffer answers
 //! as before.
-use crate::alike::{Pair, answer_alike, opened_two};
+use crate::alike::answer_alike;
 use crate::cases::opened;
 use crate::fault_rows::{Asked, FIRST, ROWS, Row, SECOND, TEXT};
 use crate::late_rows::{Late, WAITING};
@@ -21,42 +21,56 @@ fn plays(rt: &impl Abort, alloc: Global, buffer: &mut Buffer, steps: &[Step]) ->
 }
 
 // Whether an operation is answered so. The twin takes it as well, or where it is refused answers as the buffer.
-fn answers(rt: &impl Abort, alloc: Global, pair: &mut Pair, asked: Asked) -> bool {
+fn answers(
+    rt: &impl Abort,
+    alloc: Global,
+    buffer: &mut Buffer,
+    twin: &mut Buffer,
+    asked: Asked,
+) -> bool {
     let ((at, seen, parts), want) = asked;
     let step = Step::Take(at, seen, parts, want);
-    if !comes(alloc, &mut pair.buffer, step).expect(rt, "memory") {
+    if !comes(alloc, buffer, step).expect(rt, "memory") {
         return false;
     }
     if want.is_err() {
-        return answer_alike(rt, alloc, pair);
+        return answer_alike(rt, alloc, buffer, twin);
     }
-    comes(alloc, &mut pair.twin, step).expect(rt, "memory")
+    comes(alloc, twin, step).expect(rt, "memory")
 }
 
 // Whether each operation is answered so by a buffer and its twin that have played the same before.
 fn answer(
     rt: &impl Abort,
     alloc: Global,
-    pair: &mut Pair,
+    buffer: &mut Buffer,
+    twin: &mut Buffer,
     before: &[Step],
     asked: &[Asked],
 ) -> bool {
-    let mut right = plays(rt, alloc, &mut pair.buffer, before);
-    right = plays(rt, alloc, &mut pair.twin, before) && right;
+    let mut right = plays(rt, alloc, buffer, before);
+    right = plays(rt, alloc, twin, before) && right;
     for &row in asked {
-        right = answers(rt, alloc, pair, row) && right;
+        right = answers(rt, alloc, buffer, twin, row) && right;
     }
     right
 }
 
+fn holds_in(
+    rt: &impl Abort,
+    alloc: Global,
+    buffer: &mut Buffer,
+    limits: Limits,
+    before: &[Step],
+    asked: &[Asked],
+) -> bool {
+    let mut twin = opened(rt, alloc, TEXT, limits);
+    answer(rt, alloc, buffer, &mut twin, before, asked)
+}
+
 fn holds(rt: &impl Abort, alloc: Global, limits: Limits, before: &[Step], asked: &[Asked]) -> bool {
-    answer(
-        rt,
-        alloc,
-        &mut opened_two(rt, alloc, TEXT, limits),
-        before,
-        asked,
-    )
+    let mut buffer = opened(rt, alloc, TEXT, limits);
+    holds_in(rt, alloc, &mut buffer, limits, before, asked)
 }
 
 // Whether an operation has its answers at the first and at the second buffer.

@@ -1,8 +1,8 @@
 //! Calls that stop where an allocation fails, and are called again: what comes of them is what comes of calls that never stop.
 //!
 //! Where no allocation fails, each call is called once. `bench/refused_calls.sh` refuses each allocation in turn.
-use crate::alike::{Pair, apply_alike, open_two, show_alike, wait_alike};
-use crate::cases::AMPLE;
+use crate::alike::{apply_alike, show_alike, wait_alike};
+use crate::cases::{AMPLE, open};
 use crate::operations::{Parts, Stamp, stamp};
 use crate::steps::{Step, comes, keeps, settle};
 use Parts::{Counts, Pieces};
@@ -191,6 +191,13 @@ fn comes_at_last(alloc: Global, buffer: &mut Buffer, step: Step) -> bool {
     false
 }
 
+// A buffer and its twin.
+#[derive(Drop)]
+struct Pair {
+    buffer: Buffer,
+    twin: Buffer,
+}
+
 // Whether each step comes out as it should at a buffer and its twin.
 fn play(alloc: Global, pair: &mut Pair, steps: &[Step]) -> bool {
     let mut right = true;
@@ -237,8 +244,15 @@ fn is_right(a: &Buffer, b: &Buffer, mix: &Mix) -> Result<bool, OutOfMemory> {
     Ok(a.text()?.as_str() == mix.text && end_alike(a, b)? && kept)
 }
 
+// Two buffers of replica 9 over one text.
+fn open_two(alloc: Global, base: &str) -> Result<Pair, OutOfMemory> {
+    let buffer = open(alloc, base, AMPLE)?;
+    let twin = open(alloc, base, AMPLE)?;
+    Ok(Pair { buffer, twin })
+}
+
 fn holds(alloc: Global, mix: &Mix) -> Result<bool, OutOfMemory> {
-    let mut pair = open_two(alloc, mix.base, AMPLE)?;
+    let mut pair = open_two(alloc, mix.base)?;
     let right = play(alloc, &mut pair, mix.steps);
     Ok(is_right(&pair.buffer, &pair.twin, mix)? && right)
 }

@@ -1,5 +1,5 @@
 //! Operations of three replicas, each with a part turned by chance, at two buffers that take them in opposite orders.
-use crate::alike::{Pair, look_alike, opened_two, show_alike};
+use crate::alike::{look_alike, show_alike};
 use crate::cases::{AMPLE, opened};
 use crate::groups::{copies, drawn_operations, next};
 use crate::operations::{edit_of, piece, undo_of};
@@ -243,8 +243,13 @@ fn is_late(buffer: &mut Buffer, op: Operation) -> bool {
 }
 
 // Whether both buffers have applied an operation or neither has, unless another one with its stamp or before it came first.
-fn ends_alike(rt: &impl Abort, alloc: Global, pair: &mut Pair, op: &Operation) -> bool {
-    let (a, b) = (&mut pair.buffer, &mut pair.twin);
+fn ends_alike(
+    rt: &impl Abort,
+    alloc: Global,
+    a: &mut Buffer,
+    b: &mut Buffer,
+    op: &Operation,
+) -> bool {
     if has(a.applied(), op) == has(b.applied(), op) || !see_alike(a, b, op.version()) {
         return true;
     }
@@ -283,24 +288,28 @@ fn repeats(rt: &impl Abort, alloc: Global, buffer: &Buffer) -> bool {
 }
 
 // Whether two buffers that take these in opposite orders come to rest, each with what a buffer shows that takes what it applied.
-fn ends(rt: &impl Abort, alloc: Global, pair: &mut Pair, all: &[Operation]) -> bool {
-    let mut right = comes_to_rest(rt, alloc, &mut pair.buffer, all, false);
-    right = comes_to_rest(rt, alloc, &mut pair.twin, all, true) && right;
+fn ends(rt: &impl Abort, alloc: Global, a: &mut Buffer, b: &mut Buffer, all: &[Operation]) -> bool {
+    let mut right = comes_to_rest(rt, alloc, a, all, false);
+    right = comes_to_rest(rt, alloc, b, all, true) && right;
     for op in all {
-        right = ends_alike(rt, alloc, pair, op) && right;
+        right = ends_alike(rt, alloc, a, b, op) && right;
     }
-    right = repeats(rt, alloc, &pair.buffer) && right;
-    repeats(rt, alloc, &pair.twin) && right
+    right = repeats(rt, alloc, a) && right;
+    repeats(rt, alloc, b) && right
 }
 
-fn pair_ends(rt: &impl Abort, alloc: Global, all: &[Operation]) -> bool {
-    ends(rt, alloc, &mut opened_two(rt, alloc, "", AMPLE), all)
+fn ends_beside(rt: &impl Abort, alloc: Global, a: &mut Buffer, all: &[Operation]) -> bool {
+    ends(rt, alloc, a, &mut opened(rt, alloc, "", AMPLE), all)
+}
+
+fn both_end(rt: &impl Abort, alloc: Global, all: &[Operation]) -> bool {
+    ends_beside(rt, alloc, &mut opened(rt, alloc, "", AMPLE), all)
 }
 
 fn ends_turned(rt: &impl Abort, alloc: Global, ops: &[Operation], x: u64) -> bool {
     let mut all = Vec::new(alloc);
     push_turned(rt, alloc, &mut all, ops, x);
-    pair_ends(rt, alloc, all.as_slice())
+    both_end(rt, alloc, all.as_slice())
 }
 
 // How often the operations of a seed are turned until these do not end as they should.
