@@ -1,0 +1,253 @@
+"""Works a session line by line, and writes its report."""
+from __future__ import annotations
+
+from dataclasses import dataclass, field
+
+from . import answers, lines as kinds
+from .answers import Anchor, Change
+from .histories import History, history_of
+from .json_values import write_string
+from .operations import Edit, Operation, Piece, Stamp, Undo, Version
+from .replicas import Answer, Replica
+
+
+@dataclass
+class Event:
+    """What one line of the session did, and what is so after it."""
+
+    place: int
+    """The number of the line, the header being line 1."""
+    line: kinds.Line
+    replica: int | None = None
+    """The replica at which it happens; an operation as it is sent happens nowhere."""
+    number: int | None = None
+    """The number of the operation line or of the query."""
+    said: list[str] = field(default_factory=list)
+    """Its lines of the report."""
+    answer: Answer | None = None
+    """What a `give` came to, or the fault of an edit or undo."""
+    operation: Operation | None = None
+    """The operation that is made, sent or taken."""
+    brought: tuple[Stamp, ...] = ()
+    """The operations that waited and are applied after it."""
+    refused: tuple[tuple[Stamp, Answer], ...] = ()
+    """The operations that waited and are refused after it."""
+    history: History | None = None
+    waiting: tuple[Stamp, ...] = ()
+    offset: int | None = None
+    """Where an anchor is."""
+    side: str = "left"
+    ranges: tuple[tuple[int, int], ...] = ()
+    """The ranges of the text that a `find` or `since` line speaks of."""
+
+
+@dataclass(frozen=True)
+class Query:
+    """A query, and how many operations its replica had applied at its place, without the base."""
+
+    event: Event
+    applied: int
+
+
+class Replay:
+    """A session that is worked."""
+
+    def __init__(self, session: kinds.Session) -> None:
+        self.session = session
+        base, lf_alone = session.header.base.encode(), session.header.version == 2
+        self.replicas = {
+            number: Replica(number, base, lf_alone) for number in session.header.replicas
+        }
+        self.operations: list[Operation | None] = []
+        self.anchors: dict[str, Anchor] = {}
+        self.marks: dict[str, Version] = {}
+        self.queries: list[Query] = []
+        self.events = [self._event(place, line) for place, line in enumerate(session.lines, 2)]
+
+    def _event(self, place: int, line: kinds.Line) -> Event:
+        event = Event(place, line, getattr(line, "replica", None))
+        work = {
+            kinds.EditLine: self._edit,
+            kinds.UndoLine: self._undo,
+            kinds.OpLine: self._sent,
+            kinds.UopLine: self._sent,
+            kinds.GiveLine: self._give,
+            kinds.TextLine: self._text,
+            kinds.AnchorLine: self._anchor,
+            kinds.WhereLine: self._where,
+            kinds.MarkLine: self._mark,
+            kinds.SinceLine: self._since,
+        }
+        replica = self.replicas.get(event.replica or 0)
+        before = (len(replica.applied), len(replica.refused)) if replica else (0, 0)
+        work.get(type(line), self._query)(event)
+        if replica:
+            event.brought = tuple(it.stamp for it in replica.applied[before[0] + 1 :])
+            event.refused = tuple(replica.refused[before[1] :])
+            event.history = replica.history
+            event.waiting = tuple(sorted(operation.stamp for operation in replica.waiting))
+        return event
+
+    def _edit(self, event: Event) -> None:
+        assert isinstance(event.line, kinds.EditLine)
+        self._made(event, self.replicas[event.line.replica].edit(event.line.pieces))
+
+    def _undo(self, event: Event) -> None:
+        assert isinstance(event.line, kinds.UndoLine)
+        named = [self.operations[number - 1] for number in event.line.numbers]
+        if None in named:
+            result: Operation | Answer = Answer("nothing", (event.line.numbers[named.index(None)],))
+        else:
+            stamps = [operation.stamp for operation in named if operation]
+            result = self.replicas[event.line.replica].undo(stamps)
+        self._made(event, result)
+
+    def _made(self, event: Event, result: Operation | Answer) -> None:
+        event.number = len(self.operations) + 1
+        if isinstance(result, Answer):
+            event.answer = result
+            self.operations.append(None)
+            event.said.append(f"{event.number}: {result}")
+            return
+        event.operation = result
+        self.operations.append(result)
+        event.said.append(f"{event.number}: {result.stamp}")
+        settled = self.replicas[event.replica or 0].settle()
+        if settled:
+            event.said.append(f"settled {event.replica}: {settled}")
+
+    def _sent(self, event: Event) -> None:
+        assert isinstance(event.line, (kinds.OpLine, kinds.UopLine))
+        event.operation, event.number = operation_of(event.line), len(self.operations) + 1
+        self.operations.append(event.operation)
+        event.said.append(f"{event.number}: {event.operation.stamp}")
+
+    def _give(self, event: Event) -> None:
+        assert isinstance(event.line, kinds.GiveLine)
+        event.operation = self.operations[event.line.number - 1]
+        if event.operation is None:
+            event.answer = Answer("nothing")
+        else:
+            event.answer = self.replicas[event.line.replica].take(event.operation)
+        event.said.append(f"give {event.line.number} to {event.replica}: {event.answer}")
+
+    def _text(self, event: Event) -> None:
+        text = self.replicas[event.replica or 0].history.text
+        row, column = answers.point_at(text, len(text))
+        event.said.append(
+            f"text {event.replica}: {len(text)} bytes, end {row}:{column}, {row + 1} rows, "
+            + write_string(text.decode())
+        )
+
+    def _anchor(self, event: Event) -> None:
+        assert isinstance(event.line, kinds.AnchorLine)
+        history = self.replicas[event.line.replica].history
+        fault = answers.anchor_fault(history, event.line.offset)
+        if fault is None:
+            self.anchors[event.line.name] = answers.anchor_at(
+                history, event.line.offset, event.line.side
+            )
+            event.offset, event.side = event.line.offset, event.line.side
+        event.said.append(f"anchor {write_string(event.line.name)}: {fault or 'set'}")
+
+    def _where(self, event: Event) -> None:
+        assert isinstance(event.line, kinds.WhereLine)
+        history, anchor = self.replicas[event.line.replica].history, self.anchors.get(
+            event.line.name
+        )
+        answer = "nothing"
+        if anchor:
+            answer = "unknown"
+            if answers.is_known(history, anchor):
+                event.offset, event.side = answers.place_of(history, anchor), anchor.side
+                answer = str(event.offset)
+        event.said.append(f"where {write_string(event.line.name)} at {event.replica}: {answer}")
+
+    def _mark(self, event: Event) -> None:
+        assert isinstance(event.line, kinds.MarkLine)
+        self.marks[event.line.name] = self.replicas[event.line.replica].history.version
+        event.said.append(f"mark {write_string(event.line.name)}: set")
+
+    def _since(self, event: Event) -> None:
+        assert isinstance(event.line, kinds.SinceLine)
+        history, version = self.replicas[event.line.replica].history, self.marks[event.line.name]
+        answer = answers.since_fault(history, version)
+        if answer is None:
+            changes: list[Change] = answers.changes_since(history, version)
+            event.ranges = tuple(change.new for change in changes)
+            answer = ", ".join(map(str, changes)) or "none"
+        event.said.append(f"since {write_string(event.line.name)} at {event.replica}: {answer}")
+
+    def _query(self, event: Event) -> None:
+        event.number = len(self.queries) + 1
+        query = Query(event, len(self.replicas[event.replica or 0].applied) - 1)
+        self.queries.append(query)
+        event.said.append(self.query_line(query, query.applied))
+        if isinstance(event.line, kinds.FindLine):
+            needle, text = (
+                event.line.needle.encode(),
+                self.replicas[event.line.replica].history.text,
+            )
+            event.ranges = tuple(
+                (at, at + len(needle)) for at in answers.starts_of(text, needle) if needle
+            )
+
+    def query_line(self, query: Query, applied: int) -> str:
+        """The report's line for a query that is answered after so many operations of its replica."""
+        line, number = query.event.line, query.event.number
+        text = history_of(
+            frozenset(self.replicas[query.event.replica or 0].applied[: applied + 1])
+        ).text
+        if isinstance(line, kinds.FindLine):
+            return f"find {number} at {applied}: {answers.find_answer(text, line.needle)}"
+        if isinstance(line, kinds.PointLine):
+            return f"point {number} at {applied}: {answers.point_answer(text, line.offset)}"
+        assert isinstance(line, kinds.OffsetLine)
+        return f"offset {number} at {applied}: {answers.offset_answer(text, line.row, line.column)}"
+
+    def event_lines(self) -> list[tuple[str, Event]]:
+        """The report's lines of events, each with its event."""
+        return [
+            (said, event)
+            for event in self.events
+            if not isinstance(event.line, kinds.QUERY_LINES)
+            for said in event.said
+        ]
+
+    def last_lines(self) -> list[str]:
+        """The lines of the replicas, with which the report ends."""
+        said = []
+        for number, replica in self.replicas.items():
+            text = replica.history.text
+            applied, waiting = len(replica.applied) - 1, len(replica.waiting)
+            said.append(
+                f"replica {number}: {len(text)} bytes, {text.count(10) + 1} rows, "
+                f"{applied} applied, {waiting} waiting, {len(replica.refused)} refused"
+            )
+            said += [f"refused {number}: {stamp} {fault}" for stamp, fault in replica.refused]
+            said.append(f"final {number}: {write_string(text.decode())}")
+        return said
+
+    def report(self) -> list[str]:
+        """The report of `--workers 0`."""
+        queries = [self.query_line(query, query.applied) for query in self.queries]
+        return [said for said, _ in self.event_lines()] + queries + self.last_lines()
+
+
+def operation_of(line: kinds.OpLine | kinds.UopLine) -> Operation:
+    """The operation that the line has as it is sent."""
+    if isinstance(line, kinds.OpLine):
+        pieces = tuple(Piece(start, end, text.encode()) for start, end, text in line.pieces)
+        return Edit(Stamp(*line.stamp), Version(line.version), pieces)
+    counts = tuple((Stamp(value, author), count) for value, author, count in line.counts)
+    return Undo(Stamp(*line.stamp), Version(line.version), counts)
+
+
+def counts_line(session: kinds.Session) -> str:
+    """What `zedbuf check` writes for a session."""
+    operations = sum(isinstance(line, kinds.OPERATION_LINES) for line in session.lines)
+    queries = sum(isinstance(line, kinds.QUERY_LINES) for line in session.lines)
+    return (
+        f"session ok: {len(session.lines) + 1} lines, {len(session.header.replicas)} replicas, "
+        f"{operations} operations, {queries} queries"
+    )
