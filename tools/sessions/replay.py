@@ -30,13 +30,17 @@ class Event:
     """The operation that is made, sent or taken."""
     brought: tuple[Stamp, ...] = ()
     """The operations that waited and are applied after it."""
-    refused: tuple[tuple[Stamp, Answer], ...] = ()
+    refused: tuple[tuple[Operation, Answer], ...] = ()
     """The operations that waited and are refused after it."""
     history: History | None = None
     waiting: tuple[Stamp, ...] = ()
     offset: int | None = None
     """Where an anchor is."""
     side: str = "left"
+    anchor: Anchor | None = None
+    """The anchor that a `where` line names."""
+    mark: Version | None = None
+    """The version that a `since` line names."""
     ranges: tuple[tuple[int, int], ...] = ()
     """The ranges of the text that a `find` or `since` line speaks of."""
 
@@ -155,7 +159,7 @@ class Replay:
         history, anchor = self.replicas[event.line.replica].history, self.anchors.get(
             event.line.name
         )
-        answer = "nothing"
+        event.anchor, answer = anchor, "nothing"
         if anchor:
             answer = "unknown"
             if answers.is_known(history, anchor):
@@ -171,7 +175,7 @@ class Replay:
     def _since(self, event: Event) -> None:
         assert isinstance(event.line, kinds.SinceLine)
         history, version = self.replicas[event.line.replica].history, self.marks[event.line.name]
-        answer = answers.since_fault(history, version)
+        event.mark, answer = version, answers.since_fault(history, version)
         if answer is None:
             changes: list[Change] = answers.changes_since(history, version)
             event.ranges = tuple(change.new for change in changes)
@@ -224,7 +228,7 @@ class Replay:
                 f"replica {number}: {len(text)} bytes, {text.count(10) + 1} rows, "
                 f"{applied} applied, {waiting} waiting, {len(replica.refused)} refused"
             )
-            said += [f"refused {number}: {stamp} {fault}" for stamp, fault in replica.refused]
+            said += [f"refused {number}: {it.stamp} {fault}" for it, fault in replica.refused]
             said.append(f"final {number}: {write_string(text.decode())}")
         return said
 

@@ -95,7 +95,7 @@ class Replica:
         self.number, self.lf_alone = number, lf_alone
         self.applied: list[Operation] = [base(lf(text) if lf_alone else text)]
         self.waiting: list[Operation] = []
-        self.refused: list[tuple[Stamp, Answer]] = []
+        self.refused: list[tuple[Operation, Answer]] = []
 
     @property
     def history(self) -> History:
@@ -170,7 +170,7 @@ class Replica:
         if answer is None:
             self.applied.append(operation)
         elif answer.is_fault:
-            self.refused.append((operation.stamp, answer))
+            self.refused.append((operation, answer))
 
     def _stamp(self) -> Stamp:
         return Stamp(self.clock, self.number)

@@ -59,7 +59,7 @@ def heads_of(event: Event) -> list[Head]:
             Head(f"applied after it, since it waited: {stamps_words(event.brought)}", GREEN)
         )
     heads += [
-        Head(f"refused after it had waited: {stamp} {fault}", RED) for stamp, fault in event.refused
+        Head(f"refused after it had waited: {it.stamp} {fault}", RED) for it, fault in event.refused
     ]
     if event.waiting:
         heads.append(Head(f"waits here: {stamps_words(event.waiting)}", AMBER))
