@@ -14,6 +14,10 @@ class Difference(NamedTuple):
     wanted: str | None
     event: Event | None
 
+    def __str__(self) -> str:
+        given, wanted = self.given or "nothing", self.wanted or "nothing"
+        return f"line {self.number} of the report: {given}; wanted: {wanted}"
+
 
 def differences(replay: Replay, given: list[str], whole: bool = True) -> list[Difference]:
     """Where the given report differs. A query may be answered on a later text of its replica, as by a worker.
