@@ -3,8 +3,8 @@ from __future__ import annotations
 
 from typing import NamedTuple
 
-from .histories import Cell, History
-from .operations import Version, is_boundary
+from .histories import History, history_of
+from .operations import Cell, Version, is_boundary
 
 
 class Anchor(NamedTuple):
@@ -67,7 +67,7 @@ def since_fault(history: History, version: Version) -> str | None:
 
 def changes_since(history: History, version: Version) -> list[Change]:
     """One change for each run of cells that holds no cell shown both then and now."""
-    then, changes = history.seen(version).shown, []
+    then, changes = history_of(history.seen(version)).shown, []
     old = new = old_start = new_start = 0
     for cell in [*history.sequence, None]:
         if cell is None or cell in then and cell in history.shown:

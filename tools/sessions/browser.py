@@ -10,6 +10,7 @@ import subprocess
 import tempfile
 
 WIDTHS = (1200, 480)
+MOST_SECONDS = 500
 MEASURE = pathlib.Path(__file__).with_name("measure.js")
 
 
@@ -40,7 +41,9 @@ def _run(browser: str, pages: list[pathlib.Path]) -> tuple[str, str]:
             "--dump-dom",
             frames.as_uri(),
         ]
-        run = subprocess.run(words, capture_output=True, text=True, timeout=500, check=False)
+        run = subprocess.run(
+            words, capture_output=True, text=True, timeout=MOST_SECONDS, check=False
+        )
     return run.stdout, run.stderr
 
 
@@ -53,7 +56,10 @@ def faults_of(pages: list[pathlib.Path]) -> list[str]:
     )
     if not browser:
         return ["there is no Chromium here"]
-    document, log = _run(browser, pages)
+    try:
+        document, log = _run(browser, pages)
+    except subprocess.TimeoutExpired:
+        return [f"the browser had not ended after {MOST_SECONDS} seconds"]
     faults = [f"the console says: {line}" for line in re.findall(r".*CONSOLE.*", log)]
     found = re.search(r"<output>(.*?)</output>", document, re.S)
     measured = json.loads(html.unescape(found[1])) if found else []

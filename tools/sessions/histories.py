@@ -7,16 +7,10 @@ deletes it is.
 from __future__ import annotations
 
 from functools import cached_property, lru_cache
-from typing import Iterator, NamedTuple, Optional
+from itertools import islice
+from typing import Iterator, Optional
 
-from .operations import Edit, Operation, Stamp, Undo, Version, version_of
-
-
-class Cell(NamedTuple):
-    """Byte k of the new texts of the edit with the stamp."""
-
-    stamp: Stamp
-    k: int
+from .operations import Cell, Edit, Operation, Stamp, Undo, Version, version_of
 
 
 Parent = Optional[Cell]
@@ -46,35 +40,38 @@ class History:
         """The edits by their stamps, the oldest first."""
         return (operation for operation in self.by_stamp.values() if isinstance(operation, Edit))
 
-    def seen(self, version: Version) -> History:
+    def seen(self, version: Version) -> frozenset[Operation]:
         """The part that the version sees."""
-        return history_of(frozenset(it for it in self.operations if version.sees(it.stamp)))
+        return frozenset(it for it in self.operations if version.sees(it.stamp))
 
     @cached_property
     def children(self) -> dict[Parent, list[Cell]]:
         """The insertion tree: the cells of which each cell is the left neighbour, the newest first."""
+        return self._tree()
+
+    def _tree(self) -> dict[Parent, list[Cell]]:
         children: dict[Parent, list[Cell]] = {}
         for edit in self.edits():
-            before, k = self.seen(edit.version).sequence, 0
-            for piece in edit.pieces:
-                left: Parent = before[piece.start - 1] if piece.start else None
-                for _ in piece.text:
-                    cell = Cell(edit.stamp, k)
+            cells = iter(edit.cells)
+            for left, piece in zip(lefts_of(edit, self.seen(edit.version)), edit.pieces):
+                for cell in islice(cells, len(piece.text)):
                     children.setdefault(left, []).append(cell)
-                    left, k = cell, k + 1
+                    left = cell
         for siblings in children.values():
-            siblings.sort(key=lambda cell: (-cell.stamp.value, -cell.stamp.replica, cell.k))
+            if len(siblings) > 1:
+                siblings.sort(key=lambda cell: (-cell.stamp.value, -cell.stamp.replica, cell.k))
         return children
 
     @cached_property
     def sequence(self) -> list[Cell]:
         """All cells in order: the insertion tree in preorder."""
+        children = self._tree()
         order: list[Cell] = []
-        rest = list(reversed(self.children.get(None, [])))
+        rest = list(reversed(children.get(None, [])))
         while rest:
             cell = rest.pop()
             order.append(cell)
-            rest.extend(reversed(self.children.get(cell, [])))
+            rest.extend(reversed(children.get(cell, [])))
         return order
 
     @cached_property
@@ -99,12 +96,8 @@ class History:
         """The edits that delete each cell: it stands at one of their ranges, and was shown to their authors."""
         deleters: dict[Cell, list[Stamp]] = {}
         for edit in self.edits():
-            if any(piece.end > piece.start for piece in edit.pieces):
-                before = self.seen(edit.version)
-                for piece in edit.pieces:
-                    for cell in before.sequence[piece.start : piece.end]:
-                        if cell in before.shown:
-                            deleters.setdefault(cell, []).append(edit.stamp)
+            for cell in deleted_by(edit, self.seen(edit.version)):
+                deleters.setdefault(cell, []).append(edit.stamp)
         return deleters
 
     @cached_property
@@ -162,7 +155,28 @@ class History:
         return None
 
 
-@lru_cache(maxsize=512)
+@lru_cache(maxsize=64)
 def history_of(operations: frozenset[Operation]) -> History:
-    """The meaning of the set; of equal sets it is worked out once."""
+    """The meaning of the set."""
     return History(operations)
+
+
+@lru_cache(maxsize=None)
+def lefts_of(edit: Edit, seen: frozenset[Operation]) -> tuple[Parent, ...]:
+    """The left neighbour of each piece's first cell, by what the edit's version sees."""
+    if not any(piece.start for piece in edit.pieces):
+        return tuple(None for _ in edit.pieces)
+    sequence = history_of(seen).sequence
+    return tuple(sequence[piece.start - 1] if piece.start else None for piece in edit.pieces)
+
+
+@lru_cache(maxsize=None)
+def deleted_by(edit: Edit, seen: frozenset[Operation]) -> tuple[Cell, ...]:
+    """The cells at the edit's ranges that are shown in what its version sees."""
+    ranges = [(piece.start, piece.end) for piece in edit.pieces if piece.end > piece.start]
+    if not ranges:
+        return ()
+    before = history_of(seen)
+    return tuple(
+        cell for start, end in ranges for cell in before.sequence[start:end] if cell in before.shown
+    )

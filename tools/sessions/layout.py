@@ -5,8 +5,8 @@ import unicodedata
 from dataclasses import dataclass, field
 from typing import NamedTuple
 
-from .histories import Cell, History
-from .operations import Stamp
+from .histories import History
+from .operations import Cell, Stamp
 
 SIGNS = {"\n": "↵", "\t": "→", "\r": "␍"}
 

@@ -22,6 +22,13 @@ class Stamp(NamedTuple):
         return f"{self.value}.{self.replica}"
 
 
+class Cell(NamedTuple):
+    """Byte k of the new texts of the edit with the stamp."""
+
+    stamp: Stamp
+    k: int
+
+
 class Version(dict[int, int]):
     """For each replica the greatest value that is seen; 0, where none is, has no entry."""
 
@@ -65,6 +72,11 @@ class Edit:
     def bytes(self) -> bytes:
         """The new texts, one after the other: byte k of them is cell k of the edit."""
         return b"".join(piece.text for piece in self.pieces)
+
+    @cached_property
+    def cells(self) -> tuple[Cell, ...]:
+        """A cell for each of those bytes."""
+        return tuple(Cell(self.stamp, k) for k in range(len(self.bytes)))
 
 
 @dataclass(frozen=True)

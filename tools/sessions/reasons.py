@@ -4,7 +4,7 @@ from __future__ import annotations
 from typing import Callable, NamedTuple
 
 from . import answers, lines as kinds
-from .histories import History
+from .histories import History, history_of
 from .operations import (
     LAST_REPLICA,
     LAST_VALUE,
@@ -66,7 +66,7 @@ class Fault(NamedTuple):
         """The bytes in which the offsets of the pieces count."""
         if isinstance(self.subject, kinds.EditLine):
             return self.history.text
-        return self.history.seen(self.operation().version).full
+        return history_of(self.history.seen(self.operation().version)).full
 
     def counted(self) -> str:
         """What those bytes are, in words."""

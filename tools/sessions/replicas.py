@@ -197,7 +197,7 @@ class Replica:
         open_replica = history.open_replica(operation.version)
         if open_replica is not None:
             return Answer("openversion", (open_replica,))
-        return _fault_against(operation, history.seen(operation.version))
+        return _fault_against(operation, history_of(history.seen(operation.version)))
 
     def _return_fault(self, operation: Operation) -> Answer | None:
         if not self.lf_alone or not isinstance(operation, Edit):

@@ -3,8 +3,9 @@ from __future__ import annotations
 
 from typing import NamedTuple
 
-from .histories import Cell, History
+from .histories import History
 from .layout import columns, shortened, visible
+from .operations import Cell
 from .svg import CHAR, Attribute, Colours, MUTED, RED, SMALL, element, line, name_of, picture, text
 
 STEP, HIGH, LEFT = 30, 27, 14
