@@ -32,6 +32,10 @@ The public calls of the libraries, from the highest crate to the lowest: what ea
 comment says one. `tools/api.py` writes this page from the doc comments, which say more, and the contracts there say all. A *law* is
 a function that does nothing when it runs: its contract is a theorem, which a caller's proof has by calling it.
 
+An editor begins with [`text_buffer`](#text_buffer). Beside it stand [`snapshot_search`](#snapshot_search) for search,
+[`snapshot_pub`](#snapshot_pub) for readers in other threads, [`op_wire`](#op_wire) for operations as bytes and
+[`fold_spans`](#fold_spans) for folded ranges; [`rope_chunks`](#rope_chunks) has the positions of a text.
+
 """
 
 

@@ -6,6 +6,7 @@ import re
 from typing import Iterator, NamedTuple
 
 from .comparing import differences
+from .explaining import Explanation
 from .reading import BadLine, TooLarge, read_session
 from .replay import Replay, counts_line
 
@@ -84,6 +85,17 @@ def example_faults() -> Iterator[str]:
         )
 
 
+def unexplained(case: Case) -> Iterator[str]:
+    """The answers of a case, or its bad line, that `tools/why.py` says nothing of."""
+    explanation = Explanation(case.session)
+    said = "\n".join(explanation.of_all())
+    if explanation.bad and f"  {explanation.bad.word}: " not in said:
+        yield f"{case.name}: {explanation.bad} is not explained"
+    for event in explanation.replay.events if explanation.replay else ():
+        if event.answer and event.answer.word != "applied" and f"  {event.answer}: " not in said:
+            yield f"{case.name}: {event.said[0]} is not explained"
+
+
 def test() -> int:
     """Prints what fails and how many cases there are; 1 where one fails."""
     cases = all_cases()
@@ -92,6 +104,7 @@ def test() -> int:
         for case in cases
         if output_of(case) != case.output
     ]
+    wrong += [line for case in cases for line in unexplained(case)]
     wrong += example_faults()
     print(
         "\n".join(wrong)
