@@ -5,14 +5,16 @@ use std::alloc::Global;
 use std::process::Abort;
 use text_buffer::Snapshot;
 
-// That many ranges, of which the last is given; the value of their stamp, or their fault.
-const SELECTED: [(usize, Range, Result<u32, SetFault>); 6] = [
-    (1024, (1, 1), Ok(1)),
-    (1025, (1, 1), Err(SetFault::TooMany(1025))),
-    (2000, (0, 2), Err(SetFault::TooMany(2000))),
-    (1025, (1, 0), Err(SetFault::Reversed(1024))),
-    (1025, (2, 9), Err(SetFault::PastEnd(1024, 4))),
-    (1025, (0, 3), Err(SetFault::InsideChar(1024))),
+// That many ranges, of which the last is given; the value of their stamp, or their fault; the stamps that are kept then.
+type Many = (usize, Range, Result<u32, SetFault>, &'static [Stamp]);
+
+const SELECTED: [Many; 6] = [
+    (1024, (1, 1), Ok(1), &[(1, 1)]),
+    (1025, (1, 1), Err(SetFault::TooMany(1025)), &[]),
+    (2000, (0, 2), Err(SetFault::TooMany(2000)), &[]),
+    (1025, (1, 0), Err(SetFault::Reversed(1024)), &[]),
+    (1025, (2, 9), Err(SetFault::PastEnd(1024, 4)), &[]),
+    (1025, (0, 3), Err(SetFault::InsideChar(1024)), &[]),
 ];
 
 // A stamp, and that many ranges; the answer where 2.1 is kept with one range.
@@ -37,15 +39,21 @@ fn snapshot_of(rt: &impl Abort, alloc: Global) -> Snapshot {
     open(rt, alloc, "abé").snapshot().expect(rt, "memory")
 }
 
-fn selects(
+fn select_many(
     rt: &impl Abort,
     alloc: Global,
-    (count, last, want): (usize, Range, Result<u32, SetFault>),
-) -> bool {
+    sets: &mut SelectionSets,
+    count: usize,
+    last: Range,
+) -> Result<u32, SetFault> {
     let ranges = ranges_of(alloc, count, last).expect(rt, "memory");
+    select(sets, &snapshot_of(rt, alloc), &ranges)
+}
+
+fn selects(rt: &impl Abort, alloc: Global, (count, last, want, kept): Many) -> bool {
     let mut sets = sets_of(rt, alloc, 1);
-    select(&mut sets, &snapshot_of(rt, alloc), &ranges) == want
-        && keeps(&sets, if want.is_ok() { &[(1, 1)] } else { &[] })
+    let answer = select_many(rt, alloc, &mut sets, count, last);
+    keeps(&sets, kept) && answer == want
 }
 
 fn take(
