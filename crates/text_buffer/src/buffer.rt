@@ -66,11 +66,11 @@ use text_dims::TextSummary;
 #[derive(Drop)]
 pub struct Buffer {
     pub(crate) alloc: Global,
-    replica: u16,
+    pub(crate) replica: u16,
     pub(crate) document: Document,
     pub(crate) waiting: Deferred,
     pub(crate) refused: Vec<Refused>,
-    limits: Limits,
+    pub(crate) limits: Limits,
     pub(crate) endings: Endings,
 }
 
@@ -255,6 +255,13 @@ impl Buffer {
     {
         self.document.known();
         self.endings
+    }
+
+    /// The most that the buffer holds. Constant time; does not allocate.
+    pub fn limits(&self) -> Limits
+        ensures { result ≡ self.now.limits }
+    {
+        self.limits
     }
 
     /// Says what is true of every buffer, for callers' proofs. Does nothing when it runs.
