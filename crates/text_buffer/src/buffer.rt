@@ -54,7 +54,7 @@ use text_dims::TextSummary;
 ///
 /// - `new`: `main` of `crates/embed/src/main.rt`; `over`, with [`Base::new`]: `count_over` and `count_twice` of
 ///   `crates/buffer_tests/src/cases.rt`; `new_lf`: `open_lf` there; `endings`: `enters` of
-///   `crates/buffer_tests/src/entering.rt`
+///   `crates/buffer_tests/src/entering.rt`; `open`: `reopened` of `crates/buffer_tests/src/openings.rt`
 /// - `edit_uncounted`: `replace` of `crates/embed/src/main.rt`; `edit`, with a counter: `edit_with` of
 ///   `crates/buffer_tests/src/counted.rt`
 /// - `take`: `edit_both` of `crates/embed/src/main.rt`; `settle` and `undo`: the functions of these names of

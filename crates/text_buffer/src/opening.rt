@@ -90,6 +90,7 @@ impl Buffer {
     /// let opened = Buffer::open(alloc, 1, saved, Limits::MOST, Endings::AsIs)?;
     /// ```
     ///
+    /// `saved` and `reopened` of `crates/buffer_tests/src/openings.rt` do this, in the same replica and in another one.
     /// Anchors, versions and the stamps of edits that are to be undone mean the same in each buffer with these
     /// operations.
     ///
