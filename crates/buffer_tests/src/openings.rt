@@ -122,7 +122,7 @@ fn what_is_saved_opens_in_each_replica(rt: HostRuntime) {
 
 // ---- Drawn histories.
 
-const SEEDS: u64 = 100;
+const SEEDS: u64 = 300;
 
 const ACTS: u32 = 24;
 
