@@ -1,6 +1,6 @@
 -- The text of a session that is made decodes to it.
 use Rattle.std.proofs.Common.{◌≡◌, ℕ, zero, suc, ◌+◌, ◌≤◌, Bool, true, false, cond, List, [], ◌∷◌, ◌++◌, map, length, Some, None, Ok, Err, inl, inr, refl, ap, ap₂, ◌∙◌, arith, append_assoc}
-use Rattle.std.specs.Prelude.{◌&&◌, codes, nat_le, nat_lt, ok_or, option_and_then, option_map}
+use Rattle.std.specs.Prelude.{◌&&◌, codes, nat_le, nat_lt, option_and_then, option_map}
 use Rattle.std.specs.List.{onto_first}
 use Rattle.std.proofs.lemmas.Bool.{and_parts, cases_eq, le-leb, le-ltb, leb-true, ne_eqb}
 use Rattle.std.proofs.lemmas.List.{length-map}
@@ -12,9 +12,8 @@ use Rattle.session_lines.specs.Cut.{lines_of}
 use Rattle.session_lines.specs.Heading.{are_replicas, header_of_value, header_with, replicas_from}
 use Rattle.session_lines.specs.Json.{list_of}
 use Rattle.session_lines.specs.Parts.{all_of, id_of_value}
-use Rattle.session_lines.specs.Session.{session_of_text, header_of, header_or_word, is_operation, rest_of, session_of, then_from, with_header, lines_limit}
+use Rattle.session_lines.specs.Session.{session_of_text, header_of, header_or_word, value_or_word, is_operation, rest_of, session_of, then_from, with_header, lines_limit}
 use Rattle.session_lines.specs.declared.fault.DecodeFault.TheVariants.{Lines}
-use Rattle.session_lines.specs.declared.fault.Word.TheVariants as word
 use Rattle.session_lines.specs.declared.header.Header.{Header}
 use Rattle.session_lines.specs.declared.session.SessionLine.{SessionLine}
 use Rattle.session_lines.proofs.Lines.{list_of-items}
@@ -72,9 +71,9 @@ module _ (n : ℕ) (some : 1 ≤ n) (most : n ≤ 16) where
       ∙ ap (λ o. header_with (Some 1) (Some base_text) (option_and_then (λ ids. cond (are_replicas ids) (Some ids) None) o)) (ids_from (ids_to n) (ids_to n) known)
       ∙ ap (λ (b : Bool). header_with (Some 1) (Some base_text) (cond b (Some (ids_to n)) None)) good
 
-  head_read : header_of (compact_text (header_value base_text (ids_to n))) ≡ Ok (record { version = 1; base = base_text; replicas = ids_to n })
+  head_read : header_of false (compact_text (header_value base_text (ids_to n))) ≡ Ok (record { version = 1; base = base_text; replicas = ids_to n })
   unfolding header_of
-  head_read = ap header_or_word (value_back (header_value base_text (ids_to n)) 2 (omega arith) head_short) ∙ ap (λ o. ok_or o word.Header) head_form
+  head_read = ap (header_or_word false) (value_back (header_value base_text (ids_to n)) 2 (omega arith) head_short) ∙ ap (value_or_word false) head_form
 
 -- ---- the lines of the text
 
@@ -96,7 +95,7 @@ cut_lines ids a b (l ∷ ls) h =
 -- ---- the session
 
 module _ (n : ℕ) (some : 1 ≤ n) (most : n ≤ 16) where
-  session_read : (b : ℕ) (ls : List SessionLine) → AreRead (ids_to n) 0 ls b → length ls ≤ 1000000 → session_of_text (session_text (session_with n ls)) ≡ Ok (session_with n ls)
+  session_read : (b : ℕ) (ls : List SessionLine) → AreRead (ids_to n) 0 ls b → length ls ≤ 1000000 → session_of_text false (session_text (session_with n ls)) ≡ Ok (session_with n ls)
   unfolding session_of_text
   session_read b ls h short =
       let d : Data = header_value base_text (ids_to n) in
@@ -106,9 +105,9 @@ module _ (n : ℕ) (some : 1 ≤ n) (most : n ≤ 16) where
       cut_value d (map line_value ls) (plain_line d 2 (head_short n some most)) ∙ ap (λ ts. first ∷ ts) (cut_lines (ids_to n) 0 b ls h) in
       let few : nat_lt lines_limit (length (first ∷ texts_of ls)) ≡ false =
       le-ltb lines_limit (length (first ∷ texts_of ls)) (omega (arith, length-map ls (λ l. compact_text (line_value l)))) in
-      ap (λ ts. cond (nat_lt lines_limit (length ts)) (Err (Lines (length ts))) (session_of ts)) lines
-      ∙ ap (λ (t : Bool). cond t (Err (Lines (length (first ∷ texts_of ls)))) (session_of (first ∷ texts_of ls))) few
-      ∙ ap (λ o. then_from 1 o (λ h. with_header h (rest_of h.replicas [] (texts_of ls)))) (head_read n some most)
+      ap (λ ts. cond (nat_lt lines_limit (length ts)) (Err (Lines (length ts))) (session_of false ts)) lines
+      ∙ ap (λ (t : Bool). cond t (Err (Lines (length (first ∷ texts_of ls)))) (session_of false (first ∷ texts_of ls))) few
+      ∙ ap (λ o. then_from 1 o (λ h. with_header h (rest_of false h [] (texts_of ls)))) (head_read n some most)
       ∙ ap (with_header header) (rest_read (ids_to n) [] 0 b ls refl h)
 
 pub made_sessions_decode : (S : Type 0) → MadeSessionsDecode S

@@ -25,20 +25,20 @@ use Rattle.session_replay.specs.declared.top.Status.TheVariants as status
 
 pub large_answer : (c : Task) (input : List ℕ) → session_limit < length input → response_of c input ≡ (status.TooLarge, large_line)
 unfolding response_of
-large_answer c input h = ap (λ b. cond b (status.TooLarge, large_line) (response_with c (session_of_text input))) (lt-ltb session_limit (length input) h)
+large_answer c input h = ap (λ b. cond b (status.TooLarge, large_line) (response_with c (session_of_text false input))) (lt-ltb session_limit (length input) h)
 
-small_answer : (c : Task) (input : List ℕ) → length input ≤ session_limit → response_of c input ≡ response_with c (session_of_text input)
+small_answer : (c : Task) (input : List ℕ) → length input ≤ session_limit → response_of c input ≡ response_with c (session_of_text false input)
 unfolding response_of
-small_answer c input le = ap (λ b. cond b (status.TooLarge, large_line) (response_with c (session_of_text input))) (le-ltb session_limit (length input) le)
+small_answer c input le = ap (λ b. cond b (status.TooLarge, large_line) (response_with c (session_of_text false input))) (le-ltb session_limit (length input) le)
 
-pub session_answer : (c : Task) (input : List ℕ) (s : Session) → length input ≤ session_limit → session_of_text input ≡ Ok s → response_of c input ≡ (status.Done, written_for c s)
+pub session_answer : (c : Task) (input : List ℕ) (s : Session) → length input ≤ session_limit → session_of_text false input ≡ Ok s → response_of c input ≡ (status.Done, written_for c s)
 session_answer c input s le e = small_answer c input le ∙ ap (response_with c) e
 
 -- ---- what a status tells
 
 pub record Told (c : Task) (input : List ℕ) (st : Status) (text : List ℕ) : Type 0 where
-  pub done : st ≡ status.Done → (length input ≤ session_limit) × ((s : Session) × (session_of_text input ≡ Ok s) × Writes c s text)
-  pub session : st ≡ status.Session → (length input ≤ session_limit) × ((n : ℕ) × (w : Word) × (session_of_text input ≡ Err (Bad n w)) × (bad_line n w ≡ text))
+  pub done : st ≡ status.Done → (length input ≤ session_limit) × ((s : Session) × (session_of_text false input ≡ Ok s) × Writes c s text)
+  pub session : st ≡ status.Session → (length input ≤ session_limit) × ((n : ℕ) × (w : Word) × (session_of_text false input ≡ Err (Bad n w)) × (bad_line n w ≡ text))
   pub large : st ≡ status.TooLarge → ((session_limit < length input) × (large_line ≡ text)) ⊎ ((length input ≤ session_limit) × (lines_limit < length (lines_of input)) × (many_line ≡ text))
   pub kinds : (st ≡ status.Done) ⊎ ((st ≡ status.Session) ⊎ (st ≡ status.TooLarge))
 
@@ -55,7 +55,7 @@ plain_written : (c : Task) (s : Session) (text : List ℕ) → written_for c s �
 plain_written (task.Replay workers) s text e = subst (IsReport s workers) e (plain_report s workers)
 plain_written task.Check s text e = sym e
 
-told_by : (c : Task) (input : List ℕ) (b : Bool) (r : Result Session DecodeFault) (st : Status) (text : List ℕ) → nat_lt session_limit (length input) ≡ b → session_of_text input ≡ r
+told_by : (c : Task) (input : List ℕ) (b : Bool) (r : Result Session DecodeFault) (st : Status) (text : List ℕ) → nat_lt session_limit (length input) ≡ b → session_of_text false input ≡ r
     → cond b (status.TooLarge, large_line) (response_with c r) ≡ (st, text) → Told c input st text
 told_by c input true r st text l d e =
     let f = first status.TooLarge st large_line text e in record {
@@ -75,7 +75,7 @@ told_by c input false (Err (Lines n)) st text l d e =
     let f = first status.TooLarge st many_line text e in record {
       done = λ k. differ status.TooLarge st status.Done f k (λ x. cc);
       session = λ k. differ status.TooLarge st status.Session f k (λ x. cc);
-      large = λ k. inr (ltb-false session_limit (length input) l, too_many input n d, second status.TooLarge st many_line text e);
+      large = λ k. inr (ltb-false session_limit (length input) l, too_many false input n d, second status.TooLarge st many_line text e);
       kinds = inr (inr (sym f));
     }
 told_by c input false (Err (Bad n w)) st text l d e =
@@ -85,11 +85,11 @@ told_by c input false (Err (Bad n w)) st text l d e =
       large = λ k. differ status.Session st status.TooLarge f k (λ x. cc);
       kinds = inr (inl (sym f));
     }
-told_by c input false (Err OutOfMemory) st text l d e = absurd (never_memory input d)
+told_by c input false (Err OutOfMemory) st text l d e = absurd (never_memory false input d)
 
 plainly_told : (c : Task) (input : List ℕ) (st : Status) (text : List ℕ) → response_of c input ≡ (st, text) → Told c input st text
 unfolding response_of
-plainly_told c input st text e = told_by c input (nat_lt session_limit (length input)) (session_of_text input) st text refl refl e
+plainly_told c input st text e = told_by c input (nat_lt session_limit (length input)) (session_of_text false input) st text refl refl e
 
 pub told : (c : Task) (input : List ℕ) (st : Status) (text : List ℕ) → IsResponse c input st text → Told c input st text
 told c input st text (inl w) = record {

@@ -1,5 +1,5 @@
 -- What an input comes to.
-use Rattle.std.specs.Prelude.{⊤, ◌≡◌, ℕ, ◌<◌, ◌≤◌, ◌⊎◌, List, length, map, nat_lt, codes, Option, Result, Ok, Err, if◌then◌else◌}
+use Rattle.std.specs.Prelude.{⊤, ◌≡◌, ℕ, ◌<◌, ◌≤◌, ◌⊎◌, List, length, map, nat_lt, codes, Option, Result, Ok, Err, if◌then◌else◌, false}
 use Rattle.session_lines.specs.Report.{session_counts, line_text, report_text}
 use Rattle.session_lines.specs.Session.{IsSession, session_of_text}
 use Rattle.session_lines.specs.Words.{bad_line, many_line}
@@ -20,13 +20,13 @@ use Rattle.session_replay.specs.declared.top.Prepared.TheVariants as prepared
 
 -- the input is a session, and the output is its report with some replies to its queries that this number of workers may give
 abbrev pub Replays : List ℕ → List ℕ → ℕ → Type 0
-Replays input output workers = (s : Session) × (session_of_text input ≡ Ok s)
+Replays input output workers = (s : Session) × (session_of_text false input ≡ Ok s)
     × ((ps : List Reply) × AreReplies s workers ps
     × (output ≡ report_text (report_with s (map (reply_line (end_of s)) ps))))
 
 -- the input is a session, and the output is the line with what is counted of it
 abbrev pub Checks : List ℕ → List ℕ → Type 0
-Checks input output = (s : Session) × (session_of_text input ≡ Ok s) × (output ≡ line_text (session_counts s))
+Checks input output = (s : Session) × (session_of_text false input ≡ Ok s) × (output ≡ line_text (session_counts s))
 
 -- the output is what the task makes of the input
 abbrev pub Does : Task → List ℕ → List ℕ → Type 0
@@ -62,7 +62,7 @@ unfoldable pub response_of : Task → List ℕ → Status × List ℕ
 response_of c input =
     if nat_lt session_limit (length input)
     then (status.TooLarge, large_line)
-    else response_with c (session_of_text input)
+    else response_with c (session_of_text false input)
 
 -- ---- what may be written for an input
 
@@ -70,7 +70,7 @@ response_of c input =
 abbrev pub Refuses : List ℕ → List ℕ → Type 0
 Refuses input output =
     ((session_limit < length input) × (output ≡ large_line))
-    ⊎ ((length input ≤ session_limit) × ((e : DecodeFault) × (session_of_text input ≡ Err e)
+    ⊎ ((length input ≤ session_limit) × ((e : DecodeFault) × (session_of_text false input ≡ Err e)
     × (output ≡ (refusal e).1)))
 
 -- the output is one for the input: what the task makes of a session, or the line that refuses what is none
@@ -98,7 +98,7 @@ Writes task.Check s output = output ≡ line_text (session_counts s)
 abbrev pub IsWork : Task → List ℕ → Status → List ℕ → Type 0
 IsWork c input st text =
     (st ≡ status.Done) × (length input ≤ session_limit)
-    × ((s : Session) × (session_of_text input ≡ Ok s) × Writes c s text)
+    × ((s : Session) × (session_of_text false input ≡ Ok s) × Writes c s text)
 
 -- the status and the text respond to an input: the plain response, or what workers make of a session
 abbrev pub IsResponse : Task → List ℕ → Status → List ℕ → Type 0
@@ -117,7 +117,7 @@ abbrev pub IsPrepared : Task → List ℕ → Prepared → Type 0
 IsPrepared c input (prepared.Response st text) = IsResponse c input st text.items
 IsPrepared c input (prepared.Beside workers s) =
     (c ≡ task.Replay workers) × (1 ≤ workers) × (length input ≤ session_limit)
-    × (session_of_text input ≡ Ok s) × IsSession session_limit s
+    × (session_of_text false input ≡ Ok s) × IsSession session_limit s
 
 -- workers may answer what is left to them
 abbrev pub IsReady : Prepared → Type 0

@@ -109,7 +109,7 @@ fn respond_plainly(alloc: Global, task: Task, session: Session) -> Result<Prepar
     requires { IsSession session_limit session }
     ensures ready { IfOk result IsReady }
     ensures prepared { IfOk result (λ p. (input : List ℕ) → length input ≤ session_limit
-        → session_of_text input ≡ Ok session → IsPrepared task input p) }
+        → session_of_text false input ≡ Ok session → IsPrepared task input p) }
 {
     let text = plain_output(alloc, task, session)?;
     Ok(Prepared::Response {
@@ -123,7 +123,7 @@ fn prepare_session(alloc: Global, task: Task, session: Session) -> Result<Prepar
     requires { IsSession session_limit session }
     ensures ready { IfOk result IsReady }
     ensures prepared { IfOk result (λ p. (input : List ℕ) → length input ≤ session_limit
-        → session_of_text input ≡ Ok session → IsPrepared task input p) }
+        → session_of_text false input ≡ Ok session → IsPrepared task input p) }
 {
     match task {
         Task::Replay { workers } if workers > 0 => Ok(Prepared::Beside { workers, session }),
@@ -138,7 +138,7 @@ fn prepare(alloc: Global, task: Task, input: Vec<u8>) -> Result<Prepared, OutOfM
     ensures ready { IfOk result IsReady }
     ensures prepared { IfOk result (λ p. IsPrepared task input.items p) }
 {
-    let decoded = decode(alloc, input.as_slice());
+    let decoded = decode(alloc, input.as_slice(), false);
     drop(input);
     let (status, text) = match decoded {
         Ok(session) => return prepare_session(alloc, task, session),
@@ -243,7 +243,7 @@ fn work<R: Threads + Wait + Sync, I: Source, O: Sink, G: Gate>(
         × WasRead (I.left src.old) (I.left src.new) (I.given src.old) (I.given src.new)
         (I.ends src.old) (I.ends src.new) input
         × (length input ≤ session_limit)
-        × ((n : ℕ) × (w : Word) × (session_of_text input ≡ Err (DecodeFault.Bad n w))
+        × ((n : ℕ) × (w : Word) × (session_of_text false input ≡ Err (DecodeFault.Bad n w))
         × Appends (O.written out.old) (O.written out.new) (bad_line n w)) }
     ensures ended { (result ≡ Status.Done) ⊎ (result ≡ Status.Session)
         → Rose (I.ends src.old) (I.ends src.new) }
@@ -269,12 +269,12 @@ fn work<R: Threads + Wait + Sync, I: Source, O: Sink, G: Gate>(
     ensures completes { (Rose (I.faults src.old) (I.faults src.new) → ⊥)
         → (Rose (O.faults out.old) (O.faults out.new) → ⊥)
         → IfSome (I.left src.old) (λ input. length input ≤ session_limit
-        → (s : Session) → session_of_text input ≡ Ok s
+        → (s : Session) → session_of_text false input ≡ Ok s
         → (result ≡ Status.Done) ⊎ (result ≡ Status.Memory)) }
     ensures refuses { (Rose (I.faults src.old) (I.faults src.new) → ⊥)
         → (Rose (O.faults out.old) (O.faults out.new) → ⊥)
         → IfSome (I.left src.old) (λ input. (session_limit < length input)
-        ⊎ ((e : DecodeFault) × (session_of_text input ≡ Err e))
+        ⊎ ((e : DecodeFault) × (session_of_text false input ≡ Err e))
         → (result ≡ Status.Session) ⊎ ((result ≡ Status.TooLarge) ⊎ (result ≡ Status.Memory))) }
 {
     match respond_to_source(rt, alloc, gate, task, src) {
@@ -351,7 +351,7 @@ pub fn run<R: Threads + Wait + Sync, I: Source, O: Sink, G: Gate>(
         × WasRead (I.left src.old) (I.left src.new) (I.given src.old) (I.given src.new)
         (I.ends src.old) (I.ends src.new) input
         × (length input ≤ session_limit)
-        × ((n : ℕ) × (w : Word) × (session_of_text input ≡ Err (DecodeFault.Bad n w))
+        × ((n : ℕ) × (w : Word) × (session_of_text false input ≡ Err (DecodeFault.Bad n w))
         × Appends (O.written out.old) (O.written out.new) (bad_line n w)) }
     ensures ended { (result ≡ Status.Done) ⊎ (result ≡ Status.Session)
         → (task : Task) → command_of words.now ≡ Some (Command.Read task)
@@ -396,13 +396,13 @@ pub fn run<R: Threads + Wait + Sync, I: Source, O: Sink, G: Gate>(
         → (Rose (O.faults out.old) (O.faults out.new) → ⊥)
         → (task : Task) → command_of words.now ≡ Some (Command.Read task)
         → IfSome (I.left src.old) (λ input. length input ≤ session_limit
-        → (s : Session) → session_of_text input ≡ Ok s
+        → (s : Session) → session_of_text false input ≡ Ok s
         → (result ≡ Status.Done) ⊎ (result ≡ Status.Memory)) }
     ensures refuses { (Rose (I.faults src.old) (I.faults src.new) → ⊥)
         → (Rose (O.faults out.old) (O.faults out.new) → ⊥)
         → (task : Task) → command_of words.now ≡ Some (Command.Read task)
         → IfSome (I.left src.old) (λ input. (session_limit < length input)
-        ⊎ ((e : DecodeFault) × (session_of_text input ≡ Err e))
+        ⊎ ((e : DecodeFault) × (session_of_text false input ≡ Err e))
         → (result ≡ Status.Session) ⊎ ((result ≡ Status.TooLarge) ⊎ (result ≡ Status.Memory))) }
 {
     let command = match command_of(alloc, words) {
