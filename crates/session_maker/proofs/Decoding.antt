@@ -19,7 +19,8 @@ use Rattle.session_lines.specs.declared.session.SessionLine.{SessionLine}
 use Rattle.session_lines.proofs.Lines.{list_of-items}
 use Rattle.session_maker.specs.Laws.{MadeSessionsDecode}
 use Rattle.session_maker.specs.Made.{base_text, ids_to, made_lines, session_with}
-use Rattle.session_maker.specs.Written.{header_value, line_value, lines_text, number_value, session_text}
+use Rattle.session_maker.specs.Written.{line_value, session_text}
+use Rattle.session_writer.specs.Values.{header_value, lines_text, number_value}
 use Rattle.session_maker.proofs.MadeLines.{made_read, made_short}
 use Rattle.session_maker.proofs.Values.{AreLine, IsLine, is_plain, plain_line, value_back}
 use Rattle.session_maker.proofs.WrittenLines.{AreKnown, AreRead, known_from, rest_read, texts_of}
@@ -58,10 +59,10 @@ module _ (n : ℕ) (some : 1 ≤ n) (most : n ≤ 16) where
   known : AreKnown (ids_to n) (ids_to n)
   known = known_from n 1 n (omega arith) (omega arith) (omega arith)
 
-  head_short : IsLine (header_value base_text (ids_to n)) 2
+  head_short : IsLine (header_value 1 base_text (ids_to n)) 2
   head_short = (plain_head, (omega arith, (plain_base, (ids_short (ids_to n) (ids_to n) known, tt))))
 
-  head_form : header_of_value (header_value base_text (ids_to n)) ≡ Some (record { version = 1; base = base_text; replicas = ids_to n })
+  head_form : header_of_value (header_value 1 base_text (ids_to n)) ≡ Some (record { version = 1; base = base_text; replicas = ids_to n })
   unfolding header_of_value
   head_form =
       let ds : List Data = map number_value (ids_to n) in
@@ -71,9 +72,9 @@ module _ (n : ℕ) (some : 1 ≤ n) (most : n ≤ 16) where
       ∙ ap (λ o. header_with (Some 1) (Some base_text) (option_and_then (λ ids. cond (are_replicas ids) (Some ids) None) o)) (ids_from (ids_to n) (ids_to n) known)
       ∙ ap (λ (b : Bool). header_with (Some 1) (Some base_text) (cond b (Some (ids_to n)) None)) good
 
-  head_read : header_of false (compact_text (header_value base_text (ids_to n))) ≡ Ok (record { version = 1; base = base_text; replicas = ids_to n })
+  head_read : header_of false (compact_text (header_value 1 base_text (ids_to n))) ≡ Ok (record { version = 1; base = base_text; replicas = ids_to n })
   unfolding header_of
-  head_read = ap (header_or_word false) (value_back (header_value base_text (ids_to n)) 2 (omega arith) head_short) ∙ ap (value_or_word false) head_form
+  head_read = ap (header_or_word false) (value_back (header_value 1 base_text (ids_to n)) 2 (omega arith) head_short) ∙ ap (value_or_word false) head_form
 
 -- ---- the lines of the text
 
@@ -98,7 +99,7 @@ module _ (n : ℕ) (some : 1 ≤ n) (most : n ≤ 16) where
   session_read : (b : ℕ) (ls : List SessionLine) → AreRead (ids_to n) 0 ls b → length ls ≤ 1000000 → session_of_text false (session_text (session_with n ls)) ≡ Ok (session_with n ls)
   unfolding session_of_text
   session_read b ls h short =
-      let d : Data = header_value base_text (ids_to n) in
+      let d : Data = header_value 1 base_text (ids_to n) in
       let first : List ℕ = compact_text d in
       let header : Header = record { version = 1; base = base_text; replicas = ids_to n } in
       let lines : lines_of (session_text (session_with n ls)) ≡ first ∷ texts_of ls =

@@ -1,10 +1,10 @@
 -- What the report of a session is that is replayed without workers.
-use Rattle.std.specs.Prelude.{◌≡◌, ℕ, List, Ok, false}
+use Rattle.std.specs.Prelude.{◌≡◌, ℕ, List, Ok, ◌↔◌, false}
 use Rattle.session_lines.specs.Session.{session_of_text, query_count}
 use Rattle.session_lines.specs.Report.{report_text}
 use Rattle.session_lines.specs.declared.session.Session.{Session}
 use Rattle.session_replay.specs.Queries.{report_of}
-use Rattle.session_replay.specs.Replay.{Replays}
+use Rattle.session_replay.specs.Replay.{Migrates, Replays}
 
 -- without workers the output is the plain report, whatever the order in which operations came
 abbrev pub PlainWithoutWorkers : Type 0
@@ -21,3 +21,8 @@ PlainWithoutQueries = (input output : List ℕ) → (workers : ℕ) → Replays 
 abbrev pub PlainWithWorkers : Type 0
 PlainWithWorkers = (input : List ℕ) → (s : Session) → (workers : ℕ)
     → session_of_text false input ≡ Ok s → Replays input (report_text (report_of s)) workers
+
+-- what `migrate` writes has the report of its input, without workers
+abbrev pub MigratedReportsAlike : Type 0
+MigratedReportsAlike = (input output report : List ℕ) → Migrates input output
+    → Replays input report 0 ↔ Replays output report 0
