@@ -1,5 +1,5 @@
 -- A session without a CR, over buffers that keep texts as they are and over buffers in which each CR becomes an LF: both report the same.
-use Rattle.std.proofs.Common.{◌≡◌, ◌×◌, ℕ, zero, suc, ◌+◌, ◌-◌, ◌==◌, Bool, true, false, cond, List, [], ◌∷◌, ◌++◌, length, map, get_or, Option, None, Some, Result, Ok, Err, inl, inr, refl, sym, ap, ap₂, ◌∙◌, subst, arith}
+use Rattle.std.proofs.Common.{◌≡◌, ℕ, zero, suc, ◌+◌, ◌-◌, ◌==◌, Bool, true, false, cond, List, [], ◌∷◌, ◌++◌, length, map, get_or, Option, None, Some, Result, Ok, Err, inl, inr, refl, sym, ap, ap₂, ◌∙◌, subst, arith}
 use Rattle.std.specs.Prelude.{⊤, option_and_then, option_map}
 use Rattle.std.specs.List.{AllByRecursion, AllZip, flat_map, list_any, position}
 use Rattle.std.specs.Result.{result_ok}

@@ -1,5 +1,5 @@
 -- The compact text of a value that was read is one line.
-use Rattle.std.proofs.Common.{◌≡◌, ℕ, zero, suc, ◌<◌, ◌≤◌, ◌^◌, ◌==◌, Bool, true, false, cond, not, ◌&&◌, nat_lt, List, [], ◌∷◌, ◌++◌, Option, None, Some, decimal, inl, inr, refl, sym, ap, ◌∙◌, ◌×◌, subst, arith}
+use Rattle.std.proofs.Common.{◌≡◌, ℕ, zero, suc, ◌<◌, ◌≤◌, ◌^◌, ◌==◌, Bool, true, false, cond, not, ◌&&◌, nat_lt, List, [], ◌∷◌, ◌++◌, Option, None, Some, decimal, drop, inl, inr, refl, sym, ap, ◌∙◌, subst, arith}
 use Rattle.std.specs.Prelude.{⊤, option_and_then, option_map}
 use Rattle.std.specs.Char.{digit_value}
 use Rattle.std.specs.Float.{float_is_finite, binary64}
@@ -66,7 +66,7 @@ from_small true p = negative_small p _
 
 number_small : (s : List ℕ) → OfNumber (number_of s)
 unfolding number_of
-number_small s = elim (slice_index s 0 == minus) as (λ b. OfNumber (cond b (number_from true _) (number_from false _))) [ true ↦ from_small true _ | false ↦ from_small false _ ]
+number_small s = elim (slice_index s 0 == minus) as (λ b. OfNumber (cond b (number_from true (scan (drop 1 s))) (number_from false (scan s)))) [ true ↦ from_small true (scan (drop 1 s)) | false ↦ from_small false (scan s) ]
 
 of_number : (o : Option Num) → OfNumber o → OfData (option_map number o)
 of_number None h = tt

@@ -1,5 +1,5 @@
 -- The text that is written for a session decodes to it, with version 2.
-use Rattle.std.proofs.Common.{◌≡◌, ◌×◌, ℕ, ◌+◌, ◌<◌, ◌≤◌, Bool, true, false, cond, ◌&&◌, nat_lt, List, [], ◌∷◌, ◌++◌, length, map, Option, Some, None, Result, Ok, Err, IsUtf8, refl, sym, ap, ap₂, ◌∙◌, subst, arith, append_assoc}
+use Rattle.std.proofs.Common.{◌≡◌, ℕ, ◌+◌, ◌<◌, ◌≤◌, Bool, true, false, cond, ◌&&◌, nat_lt, List, [], ◌∷◌, ◌++◌, length, map, Option, Some, None, Result, Ok, Err, IsUtf8, refl, sym, ap, ap₂, ◌∙◌, subst, arith, append_assoc}
 use Rattle.std.specs.Prelude.{⊤}
 use Rattle.std.specs.List.{All, AllByRecursion, flat_map, list_any}
 use Rattle.std.specs.Option.{option_map_or}
@@ -94,7 +94,7 @@ all_readable input l rest s cut e =
 
 -- ---- a session that is read to be migrated is one that is read
 
-header_barred : (x h : Header) (b : Bool) → unless x (when b word.Cr) ≡ Ok h → Ok x ≡ Ok h
+header_barred : (x h : Header) (b : Bool) → unless x (when b word.Cr) ≡ Ok h → ◌≡◌ {A = Result Header Word} (Ok x) (Ok h)
 header_barred x h true e = cc
 header_barred x h false e = e
 
@@ -136,7 +136,7 @@ read_plainly input s e =
 
 -- ---- the lines that are written
 
-texts_of : (ls : List (List ℕ)) → AreWritten ls → List (List ℕ)
+abbrev pub texts_of : (ls : List (List ℕ)) → AreWritten ls → List (List ℕ)
 texts_of [] w = []
 texts_of (l ∷ ls) w = compact_text w.0.0 ∷ texts_of ls w.1
 
@@ -164,10 +164,10 @@ small_ids [] h = tt
 small_ids (r ∷ rs) h = (omega (arith, (All-head IsReplica r rs h).1), small_ids rs (All-tail IsReplica r rs h))
 
 module _ (input l rest : List ℕ) (s : Session) (cut : lines_of input ≡ l ∷ lines_of rest) (e : session_of_text true input ≡ Ok s) where
-  head : List ℕ
+  abbrev pub head : List ℕ
   head = compact_text (header_value 2 s.base s.replicas)
 
-  decodes : (w : AreWritten (lines_of rest)) → IsUtf8 head → session_of_text false (head ++ 10 ∷ [] ++ flat_map written_line (lines_of rest)) ≡ Ok (second s)
+  decodes : (w : AreWritten (lines_of rest)) → IsUtf8 head → session_of_text false ((head ++ 10 ∷ []) ++ flat_map written_line (lines_of rest)) ≡ Ok (second s)
   unfolding session_of_text
   decodes w utf8 =
       let ls : List (List ℕ) = lines_of rest in
@@ -176,8 +176,8 @@ module _ (input l rest : List ℕ) (s : Session) (cut : lines_of input ≡ l ∷
       let i : IsSession (length input) s = session_read true input s e in
       let k : Header = record { version = 2; base = s.base; replicas = s.replicas } in
       let ids : AreSmallIds s.replicas = small_ids s.replicas i.ids in
-      let lines : lines_of (head ++ 10 ∷ [] ++ flat_map written_line ls) ≡ head ∷ texts_of ls w =
-      ap lines_of (sym (append_assoc head (10 ∷ []) (flat_map written_line ls))) ∙ (cut_text head (flat_map written_line ls) (head_one ids) ∙ ap (λ (ts : List (List ℕ)). head ∷ ts) (lines_cut ls w)) in
+      let lines : lines_of ((head ++ 10 ∷ []) ++ flat_map written_line ls) ≡ head ∷ texts_of ls w =
+      cut_text head (flat_map written_line ls) (head_one ids) ∙ ap (λ (ts : List (List ℕ)). head ∷ ts) (lines_cut ls w) in
       let few : nat_lt lines_limit (length (head ∷ texts_of ls w)) ≡ false =
       le-ltb lines_limit (length (head ∷ texts_of ls w)) (omega (arith, length-texts ls w, was.0, ap length cut)) in
       ap (λ ts. cond (nat_lt lines_limit (length ts)) (Err (Lines (length ts))) (session_of false ts)) lines
@@ -192,5 +192,4 @@ module _ (input l rest : List ℕ) (s : Session) (cut : lines_of input ≡ l ∷
   pub migrated : (w : AreWritten (lines_of rest)) → IsUtf8 head → (out : List ℕ) → out ≡ (head ++ 10 ∷ []) ++ flat_map written_line (lines_of rest) → IsMigrated s input out
   migrated w utf8 out is =
       let text : out ≡ migrated_text s (lines_of input) = is ∙ ap (migrated_text s) (sym cut) in
-      let same : out ≡ head ++ 10 ∷ [] ++ flat_map written_line (lines_of rest) = is ∙ append_assoc head (10 ∷ []) (flat_map written_line (lines_of rest)) in
-      record { text = text; session = ap (session_of_text false) same ∙ decodes w utf8 }
+      record { text = text; session = ap (session_of_text false) is ∙ decodes w utf8 }

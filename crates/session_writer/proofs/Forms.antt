@@ -1,5 +1,5 @@
 -- A value that has a form of a line is one of arrays, strings and whole numbers.
-use Rattle.std.proofs.Common.{◌≡◌, ◌×◌, ℕ, ◌==◌, Bool, true, false, cond, ◌&&◌, List, [], ◌∷◌, Option, None, Some, subst}
+use Rattle.std.proofs.Common.{◌≡◌, ℕ, ◌==◌, Bool, true, false, cond, ◌&&◌, List, [], ◌∷◌, Option, None, Some, subst}
 use Rattle.std.specs.Prelude.{⊤, codes, nat_eq, option_and_then, option_map}
 use Rattle.std.specs.List.{AllByRecursion}
 use Rattle.std.specs.Cmp.Lexicographic.{pointwise}

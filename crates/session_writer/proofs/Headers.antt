@@ -1,8 +1,9 @@
 -- The header that is written for a session is one of version 2.
-use Rattle.std.proofs.Common.{◌≡◌, ◌×◌, ℕ, ◌<◌, ◌≤◌, ◌^◌, Bool, true, false, cond, List, [], ◌∷◌, ◌++◌, append_assoc, map, Some, None, Ok, Err, IsUtf8, refl, sym, ap, ap₂, ◌∙◌, subst, arith}
+use Rattle.std.proofs.Common.{◌≡◌, ℕ, ◌<◌, ◌≤◌, ◌^◌, Bool, true, false, cond, List, [], ◌∷◌, ◌++◌, append_assoc, append-nil, drop, length, map, Some, None, Ok, Err, IsUtf8, refl, sym, ap, ap₂, ◌∙◌, subst, arith}
 use Rattle.std.specs.Prelude.{⊤, codes, decimal, option_and_then, option_map}
 use Rattle.std.specs.List.{AllByRecursion}
 use Rattle.std.proofs.lemmas.Bool.{le-leb}
+use Rattle.std.proofs.lemmas.List.{drop_all}
 use Rattle.json.specs.Token as token
 use Rattle.json.specs.Token.{Token}
 use Rattle.json.specs.Print.{print}
@@ -87,3 +88,14 @@ head_written base ids before out ts none e o = o ∙ (ap (λ (b : List ℕ). b +
 
 pub head_utf8 : (base ids : List ℕ) (ts : List Token) → ts ≡ front_tokens base ++ (map (λ (id : ℕ). token.number (decimal id)) ids ++ token.end_array ∷ token.end_array ∷ []) → IsUtf8 (print ts) → IsUtf8 (compact_text (header_value 2 base ids))
 head_utf8 base ids ts e u = subst IsUtf8 (all_tokens base ids ts e) u
+
+-- the ids are written, and both brackets
+pub ended_tokens : (base ids : List ℕ) (i : ℕ) (w e f : List Token) → length ids ≤ i → w ++ map (λ (id : ℕ). token.number (decimal id)) (drop i ids) ≡ front_tokens base ++ map (λ (id : ℕ). token.number (decimal id)) ids
+    → e ≡ w ++ token.end_array ∷ [] → f ≡ e ++ token.end_array ∷ [] → f ≡ front_tokens base ++ (map (λ (id : ℕ). token.number (decimal id)) ids ++ token.end_array ∷ token.end_array ∷ [])
+ended_tokens base ids i w e f all is one two =
+    let ns : List Token = map (λ (id : ℕ). token.number (decimal id)) ids in
+    let none : drop i ids ≡ [] = drop_all i ids all in
+    let whole : w ≡ front_tokens base ++ ns = sym (append-nil w) ∙ (ap (λ (ks : List ℕ). w ++ map (λ (id : ℕ). token.number (decimal id)) ks) (sym none) ∙ is) in
+    two ∙ (ap (λ (ts : List Token). ts ++ token.end_array ∷ []) (one ∙ ap (λ (ts : List Token). ts ++ token.end_array ∷ []) whole)
+    ∙ (ap (λ (ts : List Token). ts ++ token.end_array ∷ []) (append_assoc (front_tokens base) ns (token.end_array ∷ []))
+    ∙ (append_assoc (front_tokens base) (ns ++ token.end_array ∷ []) (token.end_array ∷ []) ∙ ap (λ (ts : List Token). front_tokens base ++ ts) (append_assoc ns (token.end_array ∷ []) (token.end_array ∷ [])))))

@@ -1,5 +1,5 @@
 -- A line that is written as the compact text of its value.
-use Rattle.std.proofs.Common.{◌≡◌, ◌×◌, ℕ, ◌<◌, ◌≤◌, Bool, true, false, ◌||◌, List, [], ◌∷◌, ◌++◌, length, None, Some, Ok, Err, IsUtf8, refl, sym, ap, ◌∙◌, subst, arith}
+use Rattle.std.proofs.Common.{◌≡◌, ℕ, ◌<◌, ◌≤◌, Bool, true, false, ◌||◌, List, [], ◌∷◌, ◌++◌, length, None, Some, Result, Ok, Err, IfOk, IsUtf8, refl, sym, ap, ◌∙◌, subst, arith}
 use Rattle.std.specs.Prelude.{codes}
 use Rattle.std.specs.Option.{option_map_or}
 use Rattle.serde_json.specs.Data.{Data, Items, array, boolean, depth, float, item, negative, no_items, null, number, object, string, unsigned}
@@ -61,3 +61,8 @@ is_read line r n = let same : Some r.0 ≡ None = sym r.1 ∙ value_none line n 
 pub some_bytes : (input : List ℕ) (s : Session) → session_of_text true input ≡ Ok s → 0 < length input
 some_bytes [] s e = let n = (session_of_nothing true [] refl).0 in cc
 some_bytes (x ∷ xs) s e = omega arith
+
+-- two facts of what is made, if it is
+pub if_both : {A E : Type 0} (x : Result A E) (P Q R : A → Type 0) → ((a : A) → P a → Q a → R a) → IfOk x P → IfOk x Q → IfOk x R
+if_both (Ok a) P Q R f p q = f a p q
+if_both (Err e) P Q R f p q = tt

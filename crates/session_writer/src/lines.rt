@@ -1,5 +1,5 @@
 //! The lines after a header, each as the compact text of its value.
-ghost use Rattle.std.specs.Prelude.{◌≡◌, ◌++◌, codes, string_bytes, IfOk, OnOk};
+ghost use Rattle.std.specs.Prelude.{◌≡◌, ◌++◌, codes, string_bytes, IfOk, IsUtf8, OnOk};
 ghost use Rattle.std.specs.List.{flat_map};
 ghost use Rattle.session_lines.specs.Cut.{lines_of};
 ghost use Rattle.session_writer.specs.Migrated.{written_line};
@@ -18,7 +18,8 @@ fn push_line(alloc: Global, out: &mut Vec<u8>, line: &[u8]) -> Result<(), OutOfM
 {
     let text = compact_text(alloc, line)?;
     out.extend_from_slice(text.as_bytes())?;
-    out.push(b'\n')
+    out.push(b'\n')?;
+    Ok(())
 }
 
 /// Writes the lines of a text, each as the compact text of its value. Linear in the text, and each line is read for itself.
@@ -45,7 +46,7 @@ pub fn push_lines(alloc: Global, out: &mut Vec<u8>, text: &[u8]) -> Result<(), O
 fn compact_text(alloc: Global, line: &[u8]) -> Result<String, OutOfMemory>
     requires { IsReadable line.now }
     ensures text { IfOk result (λ s. string_bytes s ++ codes "\n" ≡ written_line line.now) }
-    ensures written { OnOk result (IsWritten line.now) }
+    ensures written { IfOk result (λ s. IsUtf8 (string_bytes s) → IsWritten line.now) }
 {
     match Value::from_slice(alloc, line) {
         Ok(value) => value.to_string(alloc),

@@ -1,5 +1,5 @@
 //! Sessions that are written as sessions of version 2.
-ghost use Rattle.std.specs.Prelude.{◌≡◌, ◌<◌, ◌≤◌, ◌×◌, ◌⊎◌, length, true, Err, IfErr, IfOk, Ok};
+ghost use Rattle.std.specs.Prelude.{◌≡◌, ◌<◌, ◌≤◌, ◌⊎◌, length, true, Err, IfErr, IfOk, Ok};
 ghost use Rattle.session_lines.specs.Cut.{lines_of};
 ghost use Rattle.session_lines.specs.Session.{lines_limit, session_of_text};
 ghost use Rattle.session_lines.specs.declared.session.Session.{Session};
@@ -42,5 +42,8 @@ pub fn migrate(alloc: Global, input: &[u8]) -> Result<Vec<u8>, DecodeFault>
         × (e ≡ DecodeFault.OutOfMemory))) }
 {
     let session = decode(alloc, input, true)?;
-    Ok(migrated(alloc, input, session)?)
+    match migrated(alloc, input, session) {
+        Ok(text) => Ok(text),
+        Err(OutOfMemory) => Err(DecodeFault::OutOfMemory),
+    }
 }
